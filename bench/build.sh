@@ -1,0 +1,13 @@
+#!/bin/bash
+# Builds the programs over libtirpc that ours are measured beside, into the folder given.
+# Needs Debian's libtirpc-dev, rpcsvc-proto, gcc and valgrind: installs what is missing.
+set -eu
+here=$(cd "$(dirname "$0")" && pwd); to=$1; mkdir -p "$to/gen" "$to/c"
+if ! [ -e /usr/include/tirpc/rpc/rpc.h ] || ! command -v rpcgen valgrind >/dev/null; then
+    apt-get update -qq && apt-get install -y -qq libtirpc-dev rpcsvc-proto gcc valgrind >/dev/null
+fi
+cp "$here"/c/*.c "$to/c/"; cp "$here/x/bench.x" "$to/gen/"
+(cd "$to/gen" && rm -f bench.h bench_xdr.c && rpcgen -h bench.x >bench.h && rpcgen -c bench.x >bench_xdr.c)
+cd "$to"
+for p in stdio_check loop_xdr; do gcc -O2 -w -I/usr/include/tirpc c/$p.c gen/bench_xdr.c -o $p -ltirpc; done
+gcc -O2 -w -I/usr/include/tirpc c/records.c -o records -ltirpc

@@ -1,0 +1,11 @@
+//! `oncrpc` checks XDR values and marks ONC RPC records.
+#![tactic(auto)]
+
+mod run;
+mod words;
+
+use std::process::ExitCode;
+
+fn main(rt: HostRuntime) -> ExitCode {
+    ExitCode::from(run::run(&rt))
+}

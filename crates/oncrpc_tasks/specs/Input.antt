@@ -1,0 +1,27 @@
+-- What the input of a task gives it.
+use Rattle.std.specs.Prelude.{◌≡◌, ℕ, ◌<◌, ◌≤◌, Bool, true, false, List, [], ◌++◌, length, Option, Some, None, Ok, ⊤}
+use Rattle.hex.specs.Hex.{decode_of}
+use Rattle.oncrpc_tasks.specs.declared.given.Given.{Given}
+use Rattle.oncrpc_tasks.specs.declared.given.Given.TheVariants as given
+use Rattle.oncrpc_tasks.specs.Hexadecimal.{digits, IsBadHex}
+
+-- The bytes begin the input, and are all of it where they are no more than enough.
+abbrev pub BeginsInput : ℕ → List ℕ → List ℕ → Type 0
+BeginsInput enough input bytes = (rest : List ℕ) × (input ≡ bytes ++ rest) × (length bytes ≤ enough → rest ≡ [])
+
+-- what a text of hexadecimal gives; too long is decided first
+abbrev pub TextGives : List ℕ → Given → Type 0
+TextGives text given.HexTooLong = 1048576 < length text
+TextGives text given.BadHex = (length text ≤ 1048576) × IsBadHex text
+TextGives text (given.Bytes v) = (length text ≤ 1048576) × (decode_of (digits text) ≡ Ok v.items)
+
+-- what an input that is read as it is gives
+abbrev pub PlainGives : ℕ → List ℕ → Given → Type 0
+PlainGives enough input (given.Bytes v) = BeginsInput enough input v.items
+PlainGives enough input _ = ⊥
+
+-- what the input gives, where its bytes are told
+abbrev pub Gives : Bool → ℕ → Option (List ℕ) → Given → Type 0
+Gives hex enough None g = ⊤
+Gives true enough (Some input) g = TextGives input g
+Gives false enough (Some input) g = PlainGives enough input g

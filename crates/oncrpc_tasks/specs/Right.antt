@@ -1,0 +1,54 @@
+-- Which answer is right for an input (RFC 4506: the bytes of a value, and what follows them).
+use Rattle.std.specs.Prelude.{◌≡◌, ℕ, ◌<◌, ◌≤◌, Bool, true, false, List, [], ◌++◌, length, Option, None, Some, Ok, ⊤}
+use Rattle.hex.specs.Hex.{decode_of}
+use Rattle.xdr_types.specs.Form.{Form}
+use Rattle.xdr_types.specs.Tree.{Tree}
+use Rattle.xdr_types.specs.Spelling.{bytes_of}
+use Rattle.xdr_types.specs.Within.{Bounds, FitsWithin}
+use Rattle.xdr_codec.specs.declared.fault.Reason.{Reason}
+use Rattle.xdr_codec.specs.declared.fault.Reason.TheVariants as reason
+use Rattle.oncrpc_tasks.specs.declared.answer.Answer.{Answer}
+use Rattle.oncrpc_tasks.specs.declared.answer.Answer.TheVariants as answer
+use Rattle.oncrpc_tasks.specs.Hexadecimal.{digits, IsBadHex}
+
+-- what is asked: the kinds, the place of the value's kind, and the limits
+pub record Question : Type 0 where
+  pub kinds : List Form
+  pub place : ℕ
+  pub limits : Bounds
+
+-- The bytes begin with a value within the limits, and then these follow.
+pub record BeginsWithValue (q : Question) (bytes : List ℕ) (used : ℕ) (more : List ℕ) : Type 0 where
+  pub value : Tree
+  pub fits : FitsWithin q.kinds q.place q.limits value
+  pub joined : bytes ≡ bytes_of q.kinds q.place value ++ more
+  pub counted : used ≡ length (bytes_of q.kinds q.place value)
+
+-- The bytes begin with no value within the limits.
+abbrev pub HasNoValue : Question → List ℕ → Type 0
+HasNoValue q bytes = (used : ℕ) (more : List ℕ) → BeginsWithValue q bytes used more → ⊥
+
+-- A value that the end of the input cuts is refused at that end. Every other refusal stands whatever bytes follow.
+abbrev pub IsRefusal : Question → List ℕ → Reason → ℕ → Type 0
+IsRefusal q bytes reason.NoMemory at = ⊥
+IsRefusal q bytes reason.Truncated at = HasNoValue q bytes × (length bytes ≤ q.limits.bytes → at ≡ length bytes)
+IsRefusal q bytes _ at = (more : List ℕ) → HasNoValue q (bytes ++ more)
+
+-- the answer is right for these bytes
+abbrev pub IsRight : Question → List ℕ → Answer → Type 0
+IsRight q bytes (answer.Whole used) = BeginsWithValue q bytes used []
+IsRight q bytes (answer.MoreFollows used) = (more : List ℕ) × (0 < length more) × BeginsWithValue q bytes used more
+IsRight q bytes (answer.Refused f) = IsRefusal q bytes f.why f.at
+IsRight q bytes _ = ⊥
+
+-- The answer is right for a text of hexadecimal. Too long is decided first, white space counted.
+abbrev pub IsRightForText : Question → List ℕ → Answer → Type 0
+IsRightForText q text answer.HexTooLong = 1048576 < length text
+IsRightForText q text answer.BadHex = (length text ≤ 1048576) × IsBadHex text
+IsRightForText q text a = (length text ≤ 1048576) × ((bytes : List ℕ) × (decode_of (digits text) ≡ Ok bytes) × IsRight q bytes a)
+
+-- the answer is right for an input, read as hexadecimal or as it is, where its bytes are told
+abbrev pub IsRightFor : Question → Bool → Option (List ℕ) → Answer → Type 0
+IsRightFor q hex None a = ⊤
+IsRightFor q true (Some text) a = IsRightForText q text a
+IsRightFor q false (Some bytes) a = IsRight q bytes a

@@ -1,0 +1,116 @@
+//! Checks one value, and prints what the input holds.
+ghost use Rattle.std.specs.Prelude.{◌≡◌, ◌≢◌, ◌⊎◌, ℕ, ◌<◌, ◌≤◌, Bool, Option, List, length, IfOk, IfErr, OnOk, IsErrOf};
+ghost use Rattle.std.specs.Io.KnownBytes.{Appends, Keeps};
+ghost use Rattle.xdr_io.specs.Told.{Counts};
+ghost use Rattle.oncrpc_tasks.specs.Checked.{Answers, AnswersInPart};
+ghost use Rattle.oncrpc_tasks.specs.Input.{BeginsInput, Gives};
+ghost use Rattle.oncrpc_tasks.specs.Lines.{line};
+ghost use Rattle.oncrpc_tasks.specs.Right.{IsRight, IsRightFor};
+
+use super::answer::{Answer, line_of, status_of};
+use super::failure::{Failure, report};
+use super::given::{Given, given_over};
+use std::alloc::Global;
+use xdr_codec::{Reason, decode};
+use xdr_io::{Sink, Source, write_whole};
+use xdr_types::{KindId, Limits, Schema};
+
+/// Checks that the input begins with a value of the kind, and prints one line: `ok N`, or `ok N, more follows` where
+/// at least one more byte can be read, status 0; `refused WHY at N`, status 1. With `hex` the input is a text of
+/// hexadecimal, and `refused bad hex` or `refused hex too long` may come, status 1. A device that fails or too many
+/// reads are status 3, want of memory is status 4, and then `faults` gets the line.
+pub fn check_over<I: Source, O: Sink, F: Sink>(
+    alloc: Global,
+    input: &mut I,
+    output: &mut O,
+    faults: &mut F,
+    schema: &Schema,
+    kind: KindId,
+    limits: Limits,
+    hex: bool,
+) -> u8
+    requires { kind.place < length schema.now.kinds }
+    ensures answers { result ≤ 1 → Answers (record { kinds = schema.now.kinds; place = kind.place; limits = limits })
+        hex (I.left input.old) (O.taken output.old) (O.taken output.new) result }
+    ensures none_failed { result ≤ 1 → Counts 0 (I.failures input.old) (I.failures input.new) × Counts 0 (O.failures output.old) (O.failures output.new) }
+    ensures silent { result ≤ 1 → faults.new ≡ faults.old }
+    ensures status { (result ≤ 1) ⊎ ((result ≡ 3) ⊎ (result ≡ 4)) }
+    ensures device { result ≡ 3 → Counts 1 (I.failures input.old) (I.failures input.new)
+        ⊎ (Counts 1 (O.failures output.old) (O.failures output.new) ⊎ Counts 1048576 (I.reads input.old) (I.reads input.new)) }
+    // What was printed before a device failed is nothing, or the beginning of the right line.
+    ensures in_part { result ≡ 3 → (output.new ≡ output.old) ⊎ AnswersInPart (record { kinds = schema.now.kinds; place = kind.place; limits = limits })
+        hex (I.left input.old) (O.taken output.old) (O.taken output.new) }
+    ensures nothing { result ≡ 4 → output.new ≡ output.old }
+{
+    match print_answer(alloc, input, output, schema, kind, limits, hex) {
+        Ok(answer) => status_of(answer),
+        Err(failure) => report(failure, faults),
+    }
+}
+
+fn print_answer<I: Source, O: Sink>(
+    alloc: Global,
+    input: &mut I,
+    output: &mut O,
+    schema: &Schema,
+    kind: KindId,
+    limits: Limits,
+    hex: bool,
+) -> Result<Answer, Failure>
+    requires { kind.place < length schema.now.kinds }
+    ensures right { IfOk result (λ a. IsRightFor (record { kinds = schema.now.kinds; place = kind.place; limits = limits }) hex (I.left input.old) a) }
+    ensures written { IfOk result (λ a. Appends (O.taken output.old) (O.taken output.new) (line a)) }
+    ensures none_failed { OnOk result (Counts 0 (I.failures input.old) (I.failures input.new) × Counts 0 (O.failures output.old) (O.failures output.new)) }
+    ensures read { IsErrOf result Failure.Read → Counts 1 (I.failures input.old) (I.failures input.new) }
+    ensures many { IsErrOf result Failure.TooManyReads → Counts 1048576 (I.reads input.old) (I.reads input.new) }
+    ensures write { IsErrOf result Failure.Write → Counts 1 (O.failures output.old) (O.failures output.new) }
+    ensures in_part { IsErrOf result Failure.Write → AnswersInPart (record { kinds = schema.now.kinds; place = kind.place; limits = limits })
+        hex (I.left input.old) (O.taken output.old) (O.taken output.new) }
+    ensures nothing { IfErr result (λ f. f ≢ Failure.Write → output.new ≡ output.old) }
+{
+    let given = given_over(alloc, input, limits.bytes() as usize, hex)?;
+    let answer = answer_given(alloc, schema, kind, limits, &given)?;
+    let line = line_of(alloc, answer)?;
+    write_whole(output, line.as_bytes())?;
+    Ok(answer)
+}
+
+fn answer_given(
+    alloc: Global,
+    schema: &Schema,
+    kind: KindId,
+    limits: Limits,
+    given: &Given,
+) -> Result<Answer, Failure>
+    requires { kind.place < length schema.now.kinds }
+    ensures right { IfOk result (λ a. (hex : Bool) (told : Option (List ℕ)) → Gives hex limits.bytes told given.now
+        → IsRightFor (record { kinds = schema.now.kinds; place = kind.place; limits = limits }) hex told a) }
+    ensures memory { IfErr result (λ f. f ≡ Failure.NoMemory) }
+{
+    match given {
+        Given::Bytes(bytes) => answer_of(alloc, schema, kind, limits, bytes),
+        Given::BadHex => Ok(Answer::BadHex),
+        Given::HexTooLong => Ok(Answer::HexTooLong),
+    }
+}
+
+/// What the beginning of an input says of the whole of it.
+fn answer_of(
+    alloc: Global,
+    schema: &Schema,
+    kind: KindId,
+    limits: Limits,
+    bytes: &[u8],
+) -> Result<Answer, Failure>
+    requires { kind.place < length schema.now.kinds }
+    ensures right { IfOk result (λ a. (whole : List ℕ) → BeginsInput limits.bytes whole bytes.now
+        → IsRight (record { kinds = schema.now.kinds; place = kind.place; limits = limits }) whole a) }
+    ensures memory { IfErr result (λ f. f ≡ Failure.NoMemory) }
+{
+    match decode(alloc, schema, kind, limits, bytes) {
+        Ok((_, used)) if used < bytes.len() => Ok(Answer::MoreFollows { used }),
+        Ok((_, used)) => Ok(Answer::Whole { used }),
+        Err(fault) if fault.why == Reason::NoMemory => Err(Failure::NoMemory),
+        Err(fault) => Ok(Answer::Refused(fault)),
+    }
+}

@@ -1,0 +1,68 @@
+//! What ends a task before its answer is there.
+ghost use Rattle.std.specs.Prelude.{◌≡◌};
+ghost use Rattle.oncrpc_tasks.specs.Status.{failure_status, failure_of_input};
+ghost use Rattle.oncrpc_tasks.specs.declared.failure.Failure.TheVariants.{Write, NoMemory};
+
+use std::alloc::{AllocError, AllocFailed};
+use thiserror::Error;
+use xdr_io::{Cut, InputFault, ReadFault, Sink, write_whole};
+
+/// A device failed, or memory was refused.
+#[derive(Clone, Copy, Debug, PartialEq, Eq, Error)]
+pub enum Failure {
+    /// A read failed.
+    #[error("read fault")]
+    Read,
+    /// A write failed, or took nothing.
+    #[error("write fault")]
+    Write,
+    /// More than 1048576 reads would be needed.
+    #[error("too many reads")]
+    TooManyReads,
+    /// Memory was refused.
+    #[error("out of memory")]
+    NoMemory,
+}
+
+impl From<InputFault> for Failure {
+    ghost from_gives = { λ e f. f ≡ failure_of_input e };
+
+    fn from(fault: InputFault) -> Failure {
+        match fault {
+            InputFault::Read => Failure::Read,
+            InputFault::TooManyReads => Failure::TooManyReads,
+            InputFault::NoMemory => Failure::NoMemory,
+        }
+    }
+}
+
+impl From<Cut> for Failure {
+    ghost from_gives = { λ _ f. f ≡ Write };
+
+    fn from(_: Cut) -> Failure {
+        Failure::Write
+    }
+}
+
+impl From<AllocError> for Failure {
+    ghost from_gives = { λ _ f. f ≡ NoMemory };
+
+    fn from(_: AllocError) -> Failure {
+        Failure::NoMemory
+    }
+}
+
+/// Writes the failure's line to `faults`, where that can be done, and gives the exit status: 3 for a device, 4 for
+/// want of memory.
+pub fn report<F: Sink>(failure: Failure, faults: &mut F) -> u8
+    ensures { result ≡ failure_status failure }
+{
+    let (line, status) = match failure {
+        Failure::Read => ("read fault\n", 3),
+        Failure::Write => ("write fault\n", 3),
+        Failure::TooManyReads => ("too many reads\n", 3),
+        Failure::NoMemory => ("out of memory\n", 4),
+    };
+    let _ = write_whole(faults, line.as_bytes());
+    status
+}

@@ -1,0 +1,19 @@
+//! The engines of the program `oncrpc`, over readers and writers: what is printed, and the exit status.
+#![tactic(auto)]
+
+mod answer;
+mod check;
+mod failure;
+mod gathered;
+mod given;
+mod hexadecimal;
+mod records;
+mod task;
+#[cfg(test)]
+mod tests;
+
+pub use answer::Answer;
+pub use check::check_over;
+pub use failure::{Failure, report};
+pub use records::{MOST_LIMIT, Marking, records_over};
+pub use task::{RecordsTask, Task, ValueTask, task_over};

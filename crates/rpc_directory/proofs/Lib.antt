@@ -1,0 +1,3 @@
+pub mod Transports
+pub mod Own
+pub mod Bytes

@@ -1,0 +1,22 @@
+use Rattle.std.proofs.Common.{◌≡◌, ◌≤◌, ℕ, List, [], length, subst, sym, ◌∙◌}
+use Rattle.rpc_rows.specs.Rows.{AreBytes, row_of}
+use Rattle.rpc_rows.proofs.Added.{addable}
+use Rattle.rpc_directory.proofs.Bytes.{bytes_by_type}
+use Rattle.rpc_directory.proofs.directory.Directory.set.Goals as goal
+
+pub append-requires-clause-row : goal.append-requires-clause-row
+append-requires-clause-row g c =
+    let may = addable _ (row_of c.args.prog c.args.vers c.args.netid.now c.args.address.now []) (sym c.may_add.ensures ∙ c.if-not-may_add.false) in
+    let netid : c.in_ok-from_slice.field-0.items ≡ c.args.netid.now = c.in_ok-from_slice.ensures.items in
+    let address : c.in_ok-from_slice-2.field-0.items ≡ c.args.address.now = c.in_ok-from_slice-2.ensures.items in
+    let owner : c.in_ok-from_slice-3.field-0.items ≡ c.args.owner.now = c.in_ok-from_slice-3.ensures.items in
+    record {
+      prog = c.ranges.prog.fits;
+      vers = c.ranges.vers.fits;
+      netid = subst (λ (t : List ℕ). length t ≤ 64) (sym netid) may.netid;
+      address = subst (λ (t : List ℕ). length t ≤ 256) (sym address) may.address;
+      owner = subst (λ (t : List ℕ). length t ≤ 10) (sym owner) c.requires;
+      netid_bytes = subst AreBytes (sym netid) (bytes_by_type c.args.netid.now c.type_inv.netid);
+      address_bytes = subst AreBytes (sym address) (bytes_by_type c.args.address.now c.type_inv.address);
+      owner_bytes = subst AreBytes (sym owner) (bytes_by_type c.args.owner.now c.type_inv.owner);
+    }

@@ -1,0 +1,158 @@
+// The rows of the registry, and the calls of versions 3 and 4.
+ghost use Rattle.std.specs.Prelude.{◌≡◌, ◌≤◌, [], length, OnErr, IfOk, option_map, slice_get};
+ghost use Rattle.std.specs.List.{list_any};
+ghost use Rattle.rpc_rows.specs.Steps as step;
+ghost use Rattle.rpc_rows.specs.Ports as ports;
+ghost use Rattle.rpc_rows.specs.Rows.{row_of, is_at, IsRegistry};
+ghost use Rattle.rpc_rows.specs.Views.{plain_row};
+
+use crate::ports::any_host;
+use indexmap::IndexMap;
+use rpc_rows::{Key, Row, append, find, remove_all, remove_one};
+use rpc_uaddr::NoMemory;
+use std::alloc::Global;
+use std::hash::BuildHasher;
+use std::marker::Model;
+
+/// The rows of a registry in order of insertion, at most 1024, no program, version and netid twice.
+#[derive(Drop)]
+pub struct Directory<S: BuildHasher> {
+    rows: IndexMap<Key, Row, S>,
+}
+
+impl<S: BuildHasher> Model for Directory<S> {
+    ghost use Rattle.std.specs.Prelude.{List};
+    ghost use Rattle.rpc_rows.specs.Rows.{Row as PlainRow};
+    ghost use Rattle.rpc_rows.specs.Views.{plain_rows, AreEntries};
+
+    ghost Value = { List PlainRow };
+
+    ghost view = { λ d. plain_rows d.rows.entries };
+
+    ghost invariant = { λ d. AreEntries d.rows.entries };
+}
+
+impl<S: BuildHasher> Directory<S> {
+    /// No rows. It takes no memory.
+    pub fn new(alloc: Global, hasher: S) -> Self
+        ensures { result ≡ [] }
+    {
+        Directory {
+            rows: IndexMap::with_hasher(alloc, hasher),
+        }
+    }
+
+    /// The registry's own rows: program 100000 in versions 2, 3 and 4 over `tcp`, at every host and this port, owned by
+    /// `superuser` (RFC 1833 sections 2 and 3). Its only error is `NoMemory`.
+    pub fn start(alloc: Global, hasher: S, port: u16) -> Result<Self, NoMemory>
+    where
+        S: Drop,
+        ensures { IfOk result (λ d. d ≡ ports.own_rows port) }
+    {
+        let mut directory = Directory::new(alloc, hasher);
+        let address = any_host(alloc, port)?;
+        directory.set(alloc, 100000, 2, b"tcp", &address, b"superuser")?;
+        directory.set(alloc, 100000, 3, b"tcp", &address, b"superuser")?;
+        directory.set(alloc, 100000, 4, b"tcp", &address, b"superuser")?;
+        Ok(directory)
+    }
+
+    /// How many rows there are: at most 1024. It takes no memory.
+    pub fn rows(&self) -> u32
+        ensures value { result ≡ length self.now }
+        ensures registry { IsRegistry self.now }
+    {
+        self.rows.len() as u32
+    }
+
+    /// The row at an index, in order of insertion from 0; `None` at `rows()` and past it. It takes no memory.
+    pub fn row(&self, index: u32) -> Option<&Row>
+        ensures { option_map (λ r. plain_row r.now) result ≡ slice_get self.now index }
+    {
+        match self.rows.get_index(index as usize) {
+            Some((_key, row)) => Some(row),
+            None => None,
+        }
+    }
+
+    // The row of a program, a version and a netid.
+    pub(crate) fn find(&self, prog: u32, vers: u32, netid: &[u8]) -> Option<&Row>
+        ensures { option_map (λ r. plain_row r.now) result ≡ step.row_at self.now prog vers netid.now }
+    {
+        let rows = &self.rows;
+        find(rows, prog, vers, netid)
+    }
+
+    // Whether there is a row of a program, a version and a netid.
+    fn has(&self, prog: u32, vers: u32, netid: &[u8]) -> bool
+        ensures { result ≡ list_any (is_at prog vers netid.now) self.now }
+    {
+        self.find(prog, vers, netid).is_some()
+    }
+
+    /// The registered universal address of a version of a program over a transport, empty where there is none (RFC 1833
+    /// section 2.2.1, RPCBPROC_GETADDR): one hash and one comparison. It takes no memory.
+    pub fn getaddr(&self, prog: u32, vers: u32, netid: &[u8]) -> &[u8]
+        ensures { result.now ≡ step.getaddr self.now prog vers netid.now }
+    {
+        match self.find(prog, vers, netid) {
+            Some(row) => &row.address,
+            None => &[],
+        }
+    }
+
+    /// Adds a row at the end (RFC 1833 section 2.2.1, RPCBPROC_SET). False, with nothing changed: an empty netid or address, a
+    /// netid over 64 bytes, an address over 256, the row's key is there, or 1024 rows are. `NoMemory` changes nothing either.
+    pub fn set(
+        &mut self,
+        alloc: Global,
+        prog: u32,
+        vers: u32,
+        netid: &[u8],
+        address: &[u8],
+        owner: &[u8],
+    ) -> Result<bool, NoMemory>
+        requires { length owner.now ≤ 10 }
+        ensures ok { IfOk result (λ done. (self.new, done) ≡ step.set self.old (row_of prog vers netid.now address.now owner.now)) }
+        ensures err { OnErr result (self.new ≡ self.old) }
+    {
+        if !self.may_add(prog, vers, netid, address) {
+            return Ok(false);
+        }
+        let row = Row {
+            prog,
+            vers,
+            netid: Vec::from_slice(alloc, netid)?,
+            address: Vec::from_slice(alloc, address)?,
+            owner: Vec::from_slice(alloc, owner)?,
+        };
+        append(&mut self.rows, row)?;
+        Ok(true)
+    }
+
+    // Whether a row may be added.
+    fn may_add(&self, prog: u32, vers: u32, netid: &[u8], address: &[u8]) -> bool
+        ensures { result ≡ step.may_add self.now (row_of prog vers netid.now address.now []) }
+    {
+        !netid.is_empty()
+            && !address.is_empty()
+            && netid.len() <= 64
+            && address.len() <= 256
+            && self.rows() < 1024
+            && !self.has(prog, vers, netid)
+    }
+
+    /// Removes the row of a program, a version and a netid, or with an empty netid every row of the program and version,
+    /// where the row's owner is `owner` or `owner` is `superuser` (RFC 1833 section 2.2.1, RPCBPROC_UNSET). True exactly where
+    /// at least one was removed; the rest keep their order. With a netid it is one removal, without one pass. It takes no
+    /// memory.
+    pub fn unset(&mut self, prog: u32, vers: u32, netid: &[u8], owner: &[u8]) -> bool
+        ensures { (self.new, result) ≡ step.unset self.old prog vers netid.now owner.now }
+    {
+        if netid.is_empty() {
+            remove_all(&mut self.rows, prog, vers, netid, owner)
+        } else {
+            remove_one(&mut self.rows, prog, vers, netid, owner)
+        }
+    }
+}

@@ -1,0 +1,97 @@
+// The calls of version 2, which name a transport by its number.
+ghost use Rattle.std.specs.Prelude.{◌≡◌, ◌≤◌, length, OnErr, IfOk, option_map};
+ghost use Rattle.rpc_rows.specs.Ports as ports;
+
+use crate::directory::Directory;
+use rpc_uaddr::{NoMemory, Uaddr, read_uaddr, write_uaddr};
+use std::alloc::Global;
+use std::hash::BuildHasher;
+
+impl<S: BuildHasher> Directory<S> {
+    /// `set` at every host and this port, with netid `tcp` for `prot` 6 and `udp` for 17 (RFC 1833 section 3.2, PMAPPROC_SET).
+    /// False, with nothing changed, where `set` answers false, for another `prot`, and for a port above 65535. `NoMemory`
+    /// changes nothing.
+    pub fn set_port(
+        &mut self,
+        alloc: Global,
+        prog: u32,
+        vers: u32,
+        prot: u32,
+        port: u32,
+        owner: &[u8],
+    ) -> Result<bool, NoMemory>
+        requires { length owner.now ≤ 10 }
+        ensures ok { IfOk result (λ done. (self.new, done) ≡ ports.set_port self.old prog vers prot port owner.now) }
+        ensures err { OnErr result (self.new ≡ self.old) }
+    {
+        let netid = match netid_of(prot) {
+            Some(netid) => netid,
+            None => return Ok(false),
+        };
+        if port > 65535 {
+            return Ok(false);
+        }
+        let address = any_host(alloc, port as u16)?;
+        self.set(alloc, prog, vers, netid, &address, owner)
+    }
+
+    /// `unset` of the rows over `tcp` and over `udp` (RFC 1833 section 3.2, PMAPPROC_UNSET). True exactly where at least one
+    /// was removed. It takes no memory.
+    pub fn unset_port(&mut self, prog: u32, vers: u32, owner: &[u8]) -> bool
+        ensures { (self.new, result) ≡ ports.unset_port self.old prog vers owner.now }
+    {
+        let first = self.unset(prog, vers, b"tcp", owner);
+        let second = self.unset(prog, vers, b"udp", owner);
+        first || second
+    }
+
+    /// The port of a version of a program over the transport of this number (RFC 1833 section 3.2, PMAPPROC_GETPORT): 0 for a
+    /// `prot` other than 6 and 17, where there is no row, and where its address is no universal address over IPv4. It takes no
+    /// memory.
+    pub fn get_port(&self, prog: u32, vers: u32, prot: u32) -> u32
+        ensures { result ≡ ports.get_port self.now prog vers prot }
+    {
+        match netid_of(prot) {
+            Some(netid) => self.port_over(prog, vers, netid),
+            None => 0,
+        }
+    }
+
+    // The port of a version of a program over a transport.
+    fn port_over(&self, prog: u32, vers: u32, netid: &[u8]) -> u32
+        ensures { result ≡ ports.port_over self.now prog vers netid.now }
+    {
+        match self.find(prog, vers, netid) {
+            Some(row) => port_in(&row.address),
+            None => 0,
+        }
+    }
+}
+
+// The port of an address, 0 where it is no universal address over IPv4.
+fn port_in(text: &[u8]) -> u32
+    ensures { result ≡ ports.port_in text.now }
+{
+    match read_uaddr(text) {
+        Some(address) => u32::from(address.port),
+        None => 0,
+    }
+}
+
+// The netid of a transport's number.
+fn netid_of(prot: u32) -> Option<&'static [u8]>
+    ensures { option_map (λ b. b.now) result ≡ ports.netid_of prot }
+{
+    match prot {
+        6 => Some(b"tcp"),
+        17 => Some(b"udp"),
+        _ => None,
+    }
+}
+
+// The address of a port at every host.
+pub(crate) fn any_host(alloc: Global, port: u16) -> Result<Vec<u8>, NoMemory>
+    ensures { IfOk result (λ v. v.items ≡ ports.at_port port) }
+{
+    write_uaddr(alloc, Uaddr { host: [0; 4], port })
+}

@@ -1,0 +1,16 @@
+use Rattle.std.proofs.lemmas.Result.{err_from_is_err_and}
+use Rattle.rpc_message.specs.Reading.{words_at}
+use Rattle.rpc_message.proofs.Loop.{goes_on, ends, is_done}
+use Rattle.rpc_message.proofs.credentials.words_of.Goals as goal
+
+pub returns-in_err-word : goal.returns-in_err-word
+returns-in_err-word c =
+    let p = err_from_is_err_and c.from_residual.result c.from_residual.ensures.1 in
+    rw (p.1, p.2) (ends c.in_err-word.field-0.0 c.loop.words.items c.args.count c.loop.counter c.loop.rest.now (words_at c.args.count c.args.bytes.now) c.loop-test.true c.in_err-word.ensures c.loop.invariant)
+
+pub loop-preserved : goal.loop-preserved
+loop-preserved c =
+    rw c.in_ok-push.ensures.items (goes_on c.loop.words.items c.args.count c.loop.counter c.loop.rest.now c.in_ok-word.word c.in_ok-word.after.now (words_at c.args.count c.args.bytes.now) c.loop-test.true c.in_ok-word.ensures c.loop.invariant)
+
+pub returns : goal.returns
+returns c = is_done c.loop.words.items c.args.count c.loop.counter c.loop.rest.now (words_at c.args.count c.args.bytes.now) c.loop-test.false c.loop.invariant

@@ -1,0 +1,103 @@
+//! Calls as bytes (RFC 5531 section 9).
+
+ghost use Rattle.std.specs.Prelude.{◌≡◌, ◌≤◌, ◌<◌, length, IfOk, OnErr};
+ghost use Rattle.rpc_message.specs.Message.{CallView, CaseView, Whole, OtherVersion, NotACall};
+ghost use Rattle.rpc_message.specs.Spelling.{call, CallBytes};
+ghost use Rattle.rpc_message.specs.View.{call_view, case_view};
+ghost use Rattle.rpc_message.specs.Cases.{IsCase};
+ghost use Rattle.rpc_message.specs.Reading.{Reads, call_head_at, target_at, case_of};
+
+use crate::fault::{NoMemory, ReplyFault};
+use crate::fields::{auth_at, put_auth, put_word, word_at};
+use crate::message::{Call, CallRead};
+use std::alloc::Global;
+
+/// The xid and the version of a call.
+#[tactic(auto, unfolding(crate::specs::Reading::call_head_at))]
+fn call_head(bytes: &[u8]) -> Result<(u32, u32, &[u8]), ReplyFault>
+    ensures { Reads (λ x. (x.0, x.1, x.2.now)) result (call_head_at bytes.now) }
+{
+    let (xid, rest) = word_at(bytes)?;
+    let (kind, rest) = word_at(rest)?;
+    let (version, rest) = word_at(rest)?;
+    if kind != 0 {
+        return Err(ReplyFault::NotAReply);
+    }
+    Ok((xid, version, rest))
+}
+
+/// Program, version and procedure.
+#[tactic(auto, unfolding(crate::specs::Reading::target_at))]
+fn target(bytes: &[u8]) -> Result<(u32, u32, u32, &[u8]), ReplyFault>
+    ensures { Reads (λ x. (x.0, x.1, x.2, x.3.now)) result (target_at bytes.now) }
+{
+    let (prog, rest) = word_at(bytes)?;
+    let (vers, rest) = word_at(rest)?;
+    let (proc, rest) = word_at(rest)?;
+    Ok((prog, vers, proc, rest))
+}
+
+/// The case of the bytes. The parts of a call are copied only when all of them are there.
+#[tactic(auto, unfolding(crate::specs::Reading::case_of))]
+fn case_of(alloc: Global, bytes: &[u8]) -> Result<CallRead, NoMemory>
+    ensures found { IfOk result (λ r. case_of bytes.now ≡ case_view r) }
+    ensures memory { OnErr result ((c : CallView) × (case_of bytes.now ≡ Whole c)) }
+{
+    let Ok((xid, version, rest)) = call_head(bytes) else {
+        return Ok(CallRead::NotACall);
+    };
+    if version != 2 {
+        return Ok(CallRead::OtherVersion { xid, version });
+    }
+    let Ok((prog, vers, proc, rest)) = target(rest) else {
+        return Ok(CallRead::NotACall);
+    };
+    let Ok((cred, rest)) = auth_at(rest) else {
+        return Ok(CallRead::BadCred { xid });
+    };
+    let Ok((verf, args)) = auth_at(rest) else {
+        return Ok(CallRead::BadVerf { xid });
+    };
+    Ok(CallRead::Whole(Call {
+        xid,
+        prog,
+        vers,
+        proc,
+        cred: cred.copied(alloc)?,
+        verf: verf.copied(alloc)?,
+        args: Vec::from_slice(alloc, args)?,
+    }))
+}
+
+/// What the bytes are, as a call: the one of the five cases that applies. `NoMemory` comes only for a whole call, as
+/// the other cases take no memory (RFC 5531 sections 8.2 and 9).
+pub fn read_call(alloc: Global, bytes: &[u8]) -> Result<CallRead, NoMemory>
+    // The case that is answered applies,
+    ensures found { IfOk result (λ r. IsCase bytes.now (case_view r)) }
+    // and the case that applies is answered.
+    ensures only { (k : CaseView) → IsCase bytes.now k → IfOk result (λ r. case_view r ≡ k) }
+    // Memory runs out only for a whole call.
+    ensures memory { OnErr result ((c : CallView) × CallBytes c bytes.now) }
+{
+    case_of(alloc, bytes)
+}
+
+/// The bytes of the call: xid, 0, 2, program, version, procedure, credential, verifier, and the arguments. Credential and
+/// verifier have at most 400 bytes each. `NoMemory` comes where memory is refused (RFC 5531 section 9).
+pub fn write_call(alloc: Global, c: &Call) -> Result<Vec<u8>, NoMemory>
+    requires cred { length c.now.cred.body.items ≤ 400 }
+    requires verf { length c.now.verf.body.items ≤ 400 }
+    ensures { IfOk result (λ v. CallBytes (call_view c.now) v.items) }
+{
+    let mut out = Vec::new(alloc);
+    put_word(&mut out, c.xid)?;
+    put_word(&mut out, 0)?;
+    put_word(&mut out, 2)?;
+    put_word(&mut out, c.prog)?;
+    put_word(&mut out, c.vers)?;
+    put_word(&mut out, c.proc)?;
+    put_auth(&mut out, &c.cred)?;
+    put_auth(&mut out, &c.verf)?;
+    out.extend_from_slice(&c.args)?;
+    Ok(out)
+}

@@ -1,0 +1,205 @@
+//! Replies as bytes (RFC 5531 section 9).
+
+ghost use Rattle.std.specs.Prelude.{◌≡◌, ◌≤◌, ◌<◌, ◌++◌, length, IfOk, IfErr, OnOk, MatchResult};
+ghost use Rattle.rpc_message.specs.declared.fault.ReplyFault.TheVariants as faults;
+ghost use Rattle.rpc_message.specs.Message.{ReplyView};
+ghost use Rattle.rpc_message.specs.Spelling.{reply, status, why, IsStatus, IsWhy, IsReply, ReplyBytes};
+ghost use Rattle.rpc_message.specs.View.{reply_view, status_view, why_view, HasShortVerf};
+ghost use Rattle.rpc_message.specs.Faults.{StandsIn};
+ghost use Rattle.rpc_message.specs.Reading.{Reads, Gives, bounds_at, status_at, why_at, accepted_at, denied_at, reply_stat_at, reply_at};
+
+use crate::fault::{NoMemory, ReplyFault};
+use crate::fields::{auth_at, put_auth, put_word, word_at};
+use crate::message::{Reply, Status, Why};
+use std::alloc::{AllocError, Global};
+
+/// The two numbers that end a reply.
+#[tactic(auto, unfolding(crate::specs::Reading::bounds_at))]
+fn bounds(bytes: &[u8]) -> Result<(u32, u32), ReplyFault>
+    ensures { Reads (λ x. (x.0, x.1)) result (bounds_at bytes.now) }
+{
+    let (low, rest) = word_at(bytes)?;
+    let (high, rest) = word_at(rest)?;
+    if !rest.is_empty() {
+        return Err(ReplyFault::Rest);
+    }
+    Ok((low, high))
+}
+
+/// What follows the number `stat` of an accepted reply.
+#[tactic(auto, unfolding(crate::specs::Reading::status_at))]
+fn status_of(alloc: Global, stat: u32, bytes: &[u8]) -> Result<Status, ReplyFault>
+    ensures { Gives status_view result (status_at stat bytes.now) }
+{
+    match stat {
+        0 => Ok(Status::Success(Vec::from_slice(alloc, bytes)?)),
+        2 => {
+            let (low, high) = bounds(bytes)?;
+            Ok(Status::ProgMismatch { low, high })
+        }
+        1 | 3 | 4 | 5 if !bytes.is_empty() => Err(ReplyFault::Rest),
+        1 => Ok(Status::ProgUnavail),
+        3 => Ok(Status::ProcUnavail),
+        4 => Ok(Status::GarbageArgs),
+        5 => Ok(Status::SystemErr),
+        _ => Err(ReplyFault::BadStatus),
+    }
+}
+
+/// What follows the number `stat` of a denied reply.
+#[tactic(auto, unfolding(crate::specs::Reading::why_at))]
+fn why_of(stat: u32, bytes: &[u8]) -> Result<Why, ReplyFault>
+    ensures { Reads why_view result (why_at stat bytes.now) }
+{
+    match stat {
+        0 => {
+            let (low, high) = bounds(bytes)?;
+            Ok(Why::RpcMismatch { low, high })
+        }
+        1 => {
+            let (stat, rest) = word_at(bytes)?;
+            if !rest.is_empty() {
+                return Err(ReplyFault::Rest);
+            }
+            Ok(Why::AuthError(stat))
+        }
+        _ => Err(ReplyFault::BadStatus),
+    }
+}
+
+/// The rest of an accepted reply.
+#[tactic(auto, unfolding(crate::specs::Reading::accepted_at))]
+fn accepted(alloc: Global, xid: u32, bytes: &[u8]) -> Result<Reply, ReplyFault>
+    ensures { Gives reply_view result (accepted_at xid bytes.now) }
+{
+    let (verf, rest) = auth_at(bytes)?;
+    let (stat, rest) = word_at(rest)?;
+    let status = status_of(alloc, stat, rest)?;
+    let verf = verf.copied(alloc)?;
+    Ok(Reply::Accepted { xid, verf, status })
+}
+
+/// The rest of a denied reply.
+#[tactic(auto, unfolding(crate::specs::Reading::denied_at))]
+fn denied(xid: u32, bytes: &[u8]) -> Result<Reply, ReplyFault>
+    ensures { Reads reply_view result (denied_at xid bytes.now) }
+{
+    let (stat, rest) = word_at(bytes)?;
+    let why = why_of(stat, rest)?;
+    Ok(Reply::Denied { xid, why })
+}
+
+/// What follows the number `stat` of a reply.
+#[tactic(auto, unfolding(crate::specs::Reading::reply_stat_at))]
+fn reply_stat(alloc: Global, xid: u32, stat: u32, bytes: &[u8]) -> Result<Reply, ReplyFault>
+    ensures { Gives reply_view result (reply_stat_at xid stat bytes.now) }
+{
+    match stat {
+        0 => accepted(alloc, xid, bytes),
+        1 => denied(xid, bytes),
+        _ => Err(ReplyFault::BadStatus),
+    }
+}
+
+/// The whole reply.
+#[tactic(auto, unfolding(crate::specs::Reading::reply_at))]
+fn reply_at(alloc: Global, bytes: &[u8]) -> Result<Reply, ReplyFault>
+    ensures { Gives reply_view result (reply_at bytes.now) }
+{
+    let (xid, rest) = word_at(bytes)?;
+    let (kind, rest) = word_at(rest)?;
+    if kind != 1 {
+        return Err(ReplyFault::NotAReply);
+    }
+    let (stat, rest) = word_at(rest)?;
+    reply_stat(alloc, xid, stat, rest)
+}
+
+/// The reply that the bytes are, all of them. Where they are none, the fault is the first in the order of the bytes:
+/// `Truncated`, `NotAReply`, `BadStatus`, `BadAuth` or `Rest`, and it names what stands in them. A number counts once
+/// it is whole, and padding byte by byte. `NoMemory` comes only where memory is refused (RFC 5531 sections 8.2 and 9).
+pub fn read_reply(alloc: Global, bytes: &[u8]) -> Result<Reply, ReplyFault>
+    // What is read is spelled so.
+    ensures found { IfOk result (λ r. ReplyBytes (reply_view r) bytes.now) }
+    // What is spelled so is read, unless memory runs out.
+    ensures only { (r : ReplyView) → ReplyBytes r bytes.now → MatchResult result (λ q. reply_view q ≡ r) (λ e. e ≡ faults.NoMemory) }
+    // A fault names what stands in the bytes.
+    ensures fault { IfErr result (λ f. StandsIn f bytes.now) }
+{
+    reply_at(alloc, bytes)
+}
+
+/// Writes a status with its number.
+fn put_status(out: &mut Vec<u8>, s: &Status) -> Result<(), AllocError>
+    ensures ok { OnOk result (out.new.items ≡ out.old.items ++ status (status_view s.now)) }
+    ensures fits { OnOk result (IsStatus (status_view s.now)) }
+{
+    match s {
+        Status::Success(results) => {
+            put_word(out, 0)?;
+            out.extend_from_slice(results)
+        }
+        Status::ProgUnavail => put_word(out, 1),
+        Status::ProgMismatch { low, high } => {
+            put_word(out, 2)?;
+            put_word(out, *low)?;
+            put_word(out, *high)
+        }
+        Status::ProcUnavail => put_word(out, 3),
+        Status::GarbageArgs => put_word(out, 4),
+        Status::SystemErr => put_word(out, 5),
+    }
+}
+
+/// Writes a reason with its number.
+fn put_why(out: &mut Vec<u8>, w: Why) -> Result<(), AllocError>
+    ensures ok { OnOk result (out.new.items ≡ out.old.items ++ why (why_view w)) }
+    ensures fits { OnOk result (IsWhy (why_view w)) }
+{
+    match w {
+        Why::RpcMismatch { low, high } => {
+            put_word(out, 0)?;
+            put_word(out, low)?;
+            put_word(out, high)
+        }
+        Why::AuthError(stat) => {
+            put_word(out, 1)?;
+            put_word(out, stat)
+        }
+    }
+}
+
+/// Writes a reply.
+fn put_reply(out: &mut Vec<u8>, r: &Reply) -> Result<(), AllocError>
+    requires { HasShortVerf r.now }
+    ensures ok { OnOk result (out.new.items ≡ out.old.items ++ reply (reply_view r.now)) }
+    ensures fits { OnOk result (IsReply (reply_view r.now)) }
+{
+    match r {
+        Reply::Accepted { xid, verf, status } => {
+            put_word(out, *xid)?;
+            put_word(out, 1)?;
+            put_word(out, 0)?;
+            put_auth(out, verf)?;
+            put_status(out, status)?;
+            Ok(())
+        }
+        Reply::Denied { xid, why } => {
+            put_word(out, *xid)?;
+            put_word(out, 1)?;
+            put_word(out, 1)?;
+            put_why(out, *why)
+        }
+    }
+}
+
+/// The bytes of the reply: xid, 1, and 0, verifier, status or 1, reason. The verifier has at most 400 bytes. `NoMemory`
+/// comes where memory is refused (RFC 5531 section 9).
+pub fn write_reply(alloc: Global, r: &Reply) -> Result<Vec<u8>, NoMemory>
+    requires { HasShortVerf r.now }
+    ensures { IfOk result (λ v. ReplyBytes (reply_view r.now) v.items) }
+{
+    let mut out = Vec::new(alloc);
+    put_reply(&mut out, r)?;
+    Ok(out)
+}

@@ -1,0 +1,13 @@
+pub mod Headers
+pub mod Streams
+pub mod Longest
+pub mod Partial
+pub mod Twice
+pub mod Places
+pub mod Readers
+pub mod Counting
+pub mod Sending
+pub mod Passing
+pub mod Gathering
+pub mod Progress
+pub mod Exact

@@ -1,0 +1,68 @@
+-- The byte lists, and the records handed out, that a record reader stands for.
+use Rattle.std.specs.Prelude.{◌≡◌, ℕ, ◌≤◌, ◌<◌, List, [], ◌++◌, length, take, Ok, Err, Result, Some, None, Option, ◌∷◌, ◌⊎◌}
+use Rattle.std.specs.declared.vec.Vec.{Vec}
+use Rattle.std.specs.declared.alloc.Global.{Global}
+use Rattle.rpc_record.specs.declared.fault.RecordFault.TheVariants as fault
+use Rattle.rpc_record.specs.declared.reader.RecordReader.{RecordReader}
+use Rattle.rpc_record.specs.declared.place.Place.TheVariants as place
+use Rattle.rpc_record.specs.declared.fault.RecordFault.{RecordFault}
+use Rattle.rpc_record.specs.declared.fault.RecordStep.{RecordStep}
+use Rattle.rpc_record.specs.declared.fault.RecordStep.TheVariants as step
+use Rattle.rpc_record.specs.Reading.{capped, IsInside, StandsAt, IsTakingAt, IsBrokenAt, IsFedAt, IsFeedFault}
+
+-- The reader has taken these bytes and has handed out these records.
+abbrev pub Stands : RecordReader → List ℕ → List (List ℕ) → Type 0
+Stands reader bytes rs = StandsAt reader.limit reader.place reader.content.items reader.taken bytes rs
+
+abbrev pub limit_of : RecordReader → ℕ
+limit_of reader = reader.limit
+
+-- it is between two records or inside one
+abbrev pub IsTaking : RecordReader → Type 0
+IsTaking reader = IsTakingAt reader.place
+
+-- a whole record waits
+abbrev pub IsWaiting : RecordReader → Type 0
+IsWaiting reader = reader.place ≡ place.Whole
+
+-- this fault was answered
+abbrev pub IsBroken : RecordReader → RecordFault → Type 0
+IsBroken reader f = IsBrokenAt reader.place f
+
+-- Whatever the old reader stood for, the new one stands for with these bytes taken.
+abbrev pub Takes : RecordReader → RecordReader → List ℕ → Type 0
+Takes old new more = (bytes : List ℕ) (rs : List (List ℕ)) → Stands old bytes rs → Stands new (bytes ++ more) rs
+
+-- what feeding a piece does
+abbrev pub Feeds : RecordReader → RecordReader → List ℕ → Result RecordStep RecordFault → Type 0
+Feeds old new piece (Ok step.More) = IsTaking new × Takes old new piece
+Feeds old new piece (Ok (step.Whole used)) = IsWaiting new × (used ≤ length piece) × Takes old new (take used piece) × (IsTaking old → 0 < used)
+Feeds old new piece (Err f) = IsBroken new f × Takes old new piece × (IsTaking old → IsFeedFault f)
+
+-- A broken reader answers its fault, and one where a record waits takes nothing.
+pub record Stays (old : RecordReader) (result : Result RecordStep RecordFault) : Type 0 where
+  pub broken : (f : RecordFault) → IsBroken old f → result ≡ Err f
+  pub waiting : IsWaiting old → result ≡ Ok (step.Whole 0)
+
+-- it isn't broken, or is so by a fault that feeding bytes can bring
+abbrev pub IsFed : RecordReader → Type 0
+IsFed reader = IsFedAt reader.place
+
+-- what handing out does
+abbrev pub Hands : RecordReader → RecordReader → Option (Vec ℕ Global) → Type 0
+Hands old new (Some v) = IsWaiting old × IsTaking new × ((bytes : List ℕ) (rs : List (List ℕ)) → Stands old bytes rs → Stands new bytes (rs ++ v.items ∷ []))
+Hands old new None = (IsWaiting old → ⊥) × (new ≡ old)
+
+-- it is between two records
+abbrev pub IsBetween : RecordReader → Type 0
+IsBetween reader = reader.place ≡ place.Between
+
+-- the answer is this place, inside a record
+abbrev pub TruncatedAt : RecordReader → RecordFault → Type 0
+TruncatedAt old (fault.Truncated at) = (bytes : List ℕ) (rs : List (List ℕ)) → Stands old bytes rs → (at ≡ capped (length bytes)) × IsInside (limit_of old) rs bytes
+TruncatedAt old _ = ⊥
+
+-- what ending does
+abbrev pub Ends : RecordReader → RecordReader → Result (Unit {0}) RecordFault → Type 0
+Ends old new (Ok u) = (IsBetween old ⊎ IsWaiting old) × (new ≡ old)
+Ends old new (Err f) = IsBroken new f × Takes old new [] × (IsBroken old f ⊎ (IsTaking old × TruncatedAt old f))

@@ -1,0 +1,88 @@
+//! Output that is gathered, so that small records go out together.
+ghost use Rattle.std.specs.Prelude.{◌≡◌, ◌≤◌, [], IfErr, OnOk, OnErr};
+ghost use Rattle.xdr_io.specs.Told.{Counts};
+
+use super::fault::{Count, RecordFault};
+use xdr_io::{Sink, write_whole};
+
+/// How many bytes wait at most. What one read of 4096 bytes makes of records of up to 4092 bytes has room.
+const ROOM: usize = 8192;
+
+/// Bytes that wait to go out together, and the count of what went out before.
+#[derive(Drop)]
+pub struct Outbox {
+    pub count: Count,
+    room: [u8; 8192],
+    used: usize,
+    ghost fits: { used ≤ 8192 },
+}
+
+impl Outbox {
+    ghost use Rattle.rpc_record.specs.Sending.{Sends, SendingCut};
+
+    /// An outbox that nothing was handed to.
+    pub fn new() -> Self
+        ensures empty { result.used ≡ 0 }
+        ensures records { result.count.records ≡ 0 }
+        ensures bytes { result.count.bytes ≡ 0 }
+    {
+        Outbox {
+            count: Count {
+                records: 0,
+                bytes: 0,
+            },
+            room: [0; ROOM],
+            used: 0,
+        }
+    }
+
+    /// Writes what waits.
+    pub fn flush<W: Sink>(&mut self, writer: &mut W) -> Result<(), RecordFault>
+        ensures ok { OnOk result (Sends self.old self.new (W.taken writer.old) (W.taken writer.new) []) }
+        ensures empty { OnOk result (self.new.used ≡ 0) }
+        ensures records { self.new.count.records ≡ self.old.count.records }
+        ensures cut { IfErr result (λ f. SendingCut self.old (W.taken writer.old) (W.taken writer.new) [] f) }
+        ensures none_failed { OnOk result (Counts 0 (W.failures writer.old) (W.failures writer.new)) }
+        ensures one_failed { OnErr result (Counts 1 (W.failures writer.old) (W.failures writer.new)) }
+    {
+        match write_whole(writer, &self.room[..self.used]) {
+            Ok(()) => {
+                self.count.bytes = self.count.bytes.saturating_add(self.used as u64);
+                self.used = 0;
+                Ok(())
+            }
+            Err(cut) => Err(RecordFault::Write {
+                written: self.count.bytes.saturating_add(cut.written as u64),
+            }),
+        }
+    }
+
+    /// Hands over bytes, which go out after those that wait: together with them where there is room.
+    pub fn put<W: Sink>(&mut self, writer: &mut W, bytes: &[u8]) -> Result<(), RecordFault>
+        ensures ok { OnOk result (Sends self.old self.new (W.taken writer.old) (W.taken writer.new) bytes.now) }
+        ensures records { self.new.count.records ≡ self.old.count.records }
+        ensures cut { IfErr result (λ f. SendingCut self.old (W.taken writer.old) (W.taken writer.new) bytes.now f) }
+        ensures none_failed { OnOk result (Counts 0 (W.failures writer.old) (W.failures writer.new)) }
+        ensures one_failed { OnErr result (Counts 1 (W.failures writer.old) (W.failures writer.new)) }
+    {
+        let used = self.used;
+        if bytes.len() <= ROOM - used {
+            self.room[used..used + bytes.len()].copy_from_slice(bytes);
+            self.used = used + bytes.len();
+            return Ok(());
+        }
+        match self.flush(writer) {
+            Ok(()) => {}
+            Err(fault) => return Err(fault),
+        }
+        match write_whole(writer, bytes) {
+            Ok(()) => {
+                self.count.bytes = self.count.bytes.saturating_add(bytes.len() as u64);
+                Ok(())
+            }
+            Err(cut) => Err(RecordFault::Write {
+                written: self.count.bytes.saturating_add(cut.written as u64),
+            }),
+        }
+    }
+}

@@ -1,0 +1,181 @@
+//! A reader of records, in any pieces.
+ghost use Rattle.std.specs.Prelude.{◌+◌, ◌≤◌, vec_len};
+ghost use Rattle.rpc_record.specs.Reading.{left_of};
+
+use super::fault::{RecordFault, RecordStep};
+use super::place::{Begun, Fragment, Place};
+use super::steps::{after_content, after_header};
+use std::alloc::Global;
+use std::mem;
+
+/// Takes a stream of records in any pieces, and hands the records out.
+#[derive(Drop)]
+pub struct RecordReader {
+    limit: u32,
+    place: Place,
+    /// The content of the record so far.
+    content: Vec<u8>,
+    alloc: Global,
+    /// How many bytes were taken, u64::MAX for more.
+    taken: u64,
+    ghost fits: { vec_len content + left_of place ≤ limit },
+}
+
+impl RecordReader {
+    ghost use Rattle.std.specs.Prelude.{◌≡◌, ◌<◌, ◌++◌, ◌↔◌, ℕ, List, [], ◌∷◌, length, take, IsTrue, IfSome, IfNone};
+    ghost use Rattle.rpc_record.specs.Stands.{Stands, IsTaking, IsWaiting, IsBroken, Takes, Feeds, Stays, IsFed, Hands, Ends, limit_of};
+    ghost use Rattle.rpc_record.specs.Marked.{Longest};
+    ghost use Rattle.rpc_record.specs.Reading.{InHeader, TooLongAt, IsInsideAt, begun_bytes, capped};
+    ghost use Rattle.rpc_record.specs.declared.place.Place.TheVariants as place;
+
+    /// A reader of records of at most `limit` bytes, before the first byte.
+    pub fn start(alloc: Global, limit: u32) -> Self
+        requires { limit ≤ 2147483647 }
+        ensures limit { limit_of result ≡ limit }
+        ensures taking { IsTaking result }
+        ensures stands { Stands result [] [] }
+    {
+        RecordReader {
+            limit,
+            place: Place::Between,
+            content: Vec::new(alloc),
+            alloc,
+            taken: 0,
+        }
+    }
+
+    /// Takes the bytes of a piece, which may be empty, up to the end of a record (RFC 5531, section 11). `More`: all
+    /// were taken. `Whole`: a record waits, and the first `used` bytes were taken, which end with its last byte; while
+    /// it waits nothing more is. `TooLong`, at a header that brings its record above the limit, and `NoMemory` take
+    /// the whole piece and are answered for ever after.
+    pub fn feed(&mut self, piece: &[u8]) -> Result<RecordStep, RecordFault>
+        ensures limit { limit_of self.new ≡ limit_of self.old }
+        ensures feeds { Feeds self.old self.new piece.now result }
+        ensures stays { Stays self.old result }
+    {
+        let mut used = 0;
+        while used < piece.len() && self.is_taking() {
+            used += self.advance(&piece[used..]);
+        }
+        match self.place {
+            Place::Whole => Ok(RecordStep::Whole { used }),
+            Place::Broken(fault) => Err(fault),
+            _ => Ok(RecordStep::More),
+        }
+    }
+
+    fn is_taking(&self) -> bool
+        ensures { IsTrue result ↔ IsTaking self.now }
+    {
+        match self.place {
+            Place::Between | Place::Header { .. } | Place::Content(_) => true,
+            Place::Whole | Place::Broken(_) => false,
+        }
+    }
+
+    /// Takes some of the bytes, within a header or a fragment, and says how many.
+    fn advance(&mut self, piece: &[u8]) -> usize
+        requires { 0 < length piece.now }
+        ensures some { IsTaking self.old → 0 < result }
+        ensures fed { IsTaking self.old → IsFed self.new }
+        ensures within { result ≤ length piece.now }
+        ensures limit { limit_of self.new ≡ limit_of self.old }
+        ensures takes { Takes self.old self.new (take result piece.now) }
+    {
+        match self.place {
+            Place::Between => self.take_header(self.taken, Begun::Nothing, piece[0]),
+            Place::Header { at, begun } => self.take_header(at, begun, piece[0]),
+            Place::Content(fragment) => self.take_content(fragment, piece),
+            Place::Whole | Place::Broken(_) => 0,
+        }
+    }
+
+    /// Takes the next byte of a header.
+    fn take_header(&mut self, at: u64, begun: Begun, byte: u8) -> usize
+        ensures one { result ≡ 1 }
+        ensures fed { IsFed self.new }
+        ensures limit { limit_of self.new ≡ limit_of self.old }
+        ensures stands { (bytes : List ℕ) (rs : List (List ℕ))
+            → InHeader (limit_of self.old) rs self.old.content.items at (begun_bytes begun) bytes
+            → self.old.taken ≡ capped (length bytes)
+            → Stands self.new (bytes ++ byte ∷ []) rs }
+    {
+        let room = (self.limit as usize).saturating_sub(self.content.len()) as u32;
+        self.taken = self.taken.saturating_add(1);
+        self.place = after_header(at, begun, byte, self.taken, room);
+        1
+    }
+
+    /// Takes bytes of a fragment. Where memory is refused it takes them all, and is broken.
+    fn take_content(&mut self, fragment: Fragment, piece: &[u8]) -> usize
+        requires some { 0 < length piece.now }
+        requires here { self.old.place ≡ place.Content fragment }
+        ensures some { 0 < result }
+        ensures fed { IsFed self.new }
+        ensures within { result ≤ length piece.now }
+        ensures limit { limit_of self.new ≡ limit_of self.old }
+        ensures takes { Takes self.old self.new (take result piece.now) }
+    {
+        let n = piece.len().min(fragment.left as usize);
+        match self.content.extend_from_slice(&piece[..n]) {
+            Ok(()) => {
+                self.taken = self.taken.saturating_add(n as u64);
+                self.place = after_content(fragment, n as u32, self.taken);
+                n
+            }
+            Err(_) => {
+                self.place = Place::Broken(RecordFault::NoMemory);
+                piece.len()
+            }
+        }
+    }
+
+    /// How many bytes of a record are kept: never more than the limit.
+    pub fn kept(&self) -> usize
+        ensures count { result ≡ vec_len self.now.content }
+        ensures within { result ≤ limit_of self.now }
+    {
+        self.content.len()
+    }
+
+    /// Hands out the record that waits, and the next begins. None where none waits, which changes nothing.
+    pub fn take(&mut self) -> Option<Vec<u8>>
+        ensures limit { limit_of self.new ≡ limit_of self.old }
+        ensures hands { Hands self.old self.new result }
+    {
+        if let Place::Whole = self.place {
+            self.place = Place::Between;
+            let record = mem::replace(&mut self.content, Vec::new(self.alloc));
+            Some(record)
+        } else {
+            None
+        }
+    }
+
+    /// Ends the input: well between two records and while one waits, which changes nothing. Inside a record it is
+    /// `Truncated` after the bytes taken, for ever after, and an earlier fault is answered again.
+    pub fn end(&mut self) -> Result<(), RecordFault>
+        ensures limit { limit_of self.new ≡ limit_of self.old }
+        ensures ends { Ends self.old self.new result }
+    {
+        match self.place {
+            Place::Between | Place::Whole => Ok(()),
+            Place::Broken(fault) => Err(fault),
+            Place::Header { .. } | Place::Content(_) => {
+                let fault = RecordFault::Truncated { at: self.taken };
+                self.place = Place::Broken(fault);
+                Err(fault)
+            }
+        }
+    }
+
+    /// The records handed out are those of the longest front of the bytes that is a stream of records within the
+    /// limit, and so are they with the one that waits. While bytes are taken no header has passed the limit.
+    pub fn records_are_longest(&self)
+        ensures not_long { IsTaking self.now → (bytes : List ℕ) (rs others : List (List ℕ)) (at : ℕ) → Stands self.now bytes rs
+            → TooLongAt (limit_of self.now) others at bytes → ⊥ }
+        ensures taking { IsTaking self.now → (bytes : List ℕ) (rs : List (List ℕ)) → Stands self.now bytes rs → Longest (limit_of self.now) rs bytes }
+        ensures waiting { IsWaiting self.now → (bytes : List ℕ) (rs : List (List ℕ)) → Stands self.now bytes rs
+            → (r : List ℕ) × Longest (limit_of self.now) (rs ++ r ∷ []) bytes }
+    {}
+}

@@ -1,0 +1,5 @@
+pub mod Keyed
+pub mod Filtered
+pub mod Added
+pub mod Twice
+pub mod Removed

@@ -1,0 +1,5 @@
+pub mod Rows
+pub mod Steps
+pub mod Keys
+pub mod Views
+pub mod Ports

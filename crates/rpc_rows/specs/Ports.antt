@@ -1,0 +1,56 @@
+-- The calls of version 2, which name a transport by its number (RFC 1833 section 3).
+use Rattle.std.specs.Prelude.{ℕ, ◌/◌, ◌%◌, Bool, false, ◌||◌, List, [], ◌∷◌, nat_eq, nat_le, Option, Some, None, if◌then◌else◌, codes}
+use Rattle.std.specs.Option.{option_map_or}
+use Rattle.rpc_rows.specs.Rows.{Row, row_of}
+use Rattle.rpc_rows.specs.Steps.{Step, set, without, is_unset, row_at, superuser}
+use Rattle.rpc_uaddr.specs.Uaddrs.{dotted, uaddr_of}
+
+-- the transport with number 6 (RFC 5665 section 5.1)
+abbrev pub tcp : List ℕ
+tcp = codes "tcp"
+
+-- the transport with number 17
+abbrev pub udp : List ℕ
+udp = codes "udp"
+
+-- the netid of a transport's number (RFC 1833 section 3.1: IPPROTO_TCP, IPPROTO_UDP)
+abbrev pub netid_of : ℕ → Option (List ℕ)
+netid_of prot = if nat_eq prot 6 then Some tcp else if nat_eq prot 17 then Some udp else None
+
+-- the address of a port at every host
+abbrev pub at_port : ℕ → List ℕ
+at_port port = dotted (0 ∷ 0 ∷ 0 ∷ 0 ∷ port / 256 ∷ port % 256 ∷ [])
+
+-- a row at a port, where the transport has a netid and the port two octets
+abbrev pub set_at : List Row → ℕ → ℕ → ℕ → List ℕ → Option (List ℕ) → Step
+set_at rows prog vers port owner None = (rows, false)
+set_at rows prog vers port owner (Some netid) = if nat_le port 65535 then set rows (row_of prog vers netid (at_port port) owner) else (rows, false)
+
+-- registers a port (RFC 1833 section 3.2, PMAPPROC_SET)
+abbrev pub set_port : List Row → ℕ → ℕ → ℕ → ℕ → List ℕ → Step
+set_port rows prog vers prot port owner = set_at rows prog vers port owner (netid_of prot)
+
+-- what `unset` names at the two transports that have numbers
+abbrev pub is_unset_port : ℕ → ℕ → List ℕ → Row → Bool
+is_unset_port prog vers owner r = is_unset prog vers tcp owner r || is_unset prog vers udp owner r
+
+-- removes the rows over both (RFC 1833 section 3.2, PMAPPROC_UNSET)
+abbrev pub unset_port : List Row → ℕ → ℕ → List ℕ → Step
+unset_port rows prog vers owner = without (is_unset_port prog vers owner) rows
+
+-- the registry's own rows: program 100000 in versions 2, 3 and 4 (RFC 1833 sections 2 and 3)
+abbrev pub own_rows : ℕ → List Row
+own_rows port =
+    row_of 100000 2 tcp (at_port port) superuser ∷ row_of 100000 3 tcp (at_port port) superuser ∷ row_of 100000 4 tcp (at_port port) superuser ∷ []
+
+-- the port of an address, 0 where it is no IPv4 universal address
+abbrev pub port_in : List ℕ → ℕ
+port_in text = option_map_or (λ a. a.port) (uaddr_of text) 0
+
+-- the port of a version of a program over a transport, 0 where there is no row
+abbrev pub port_over : List Row → ℕ → ℕ → List ℕ → ℕ
+port_over rows prog vers netid = option_map_or (λ r. port_in r.address) (row_at rows prog vers netid) 0
+
+-- and with a transport's number, 0 where it has none (RFC 1833 section 3.2, PMAPPROC_GETPORT)
+abbrev pub get_port : List Row → ℕ → ℕ → ℕ → ℕ
+get_port rows prog vers prot = option_map_or (port_over rows prog vers) (netid_of prot) 0

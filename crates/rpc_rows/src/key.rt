@@ -1,0 +1,37 @@
+// The key under which a row stands.
+ghost use Rattle.std.specs.Prelude.{◌≡◌, ◌≤◌, ◌-◌, ◌++◌, replicate, length};
+ghost use Rattle.rpc_rows.specs.Keys.{key_of};
+
+/// A program, a version and a netid of at most 64 bytes, which stands in 64 bytes beside its length: so a key takes no memory.
+#[derive(Debug, Clone, Copy, PartialEq, Eq, Hash)]
+pub struct Key {
+    prog: u32,
+    vers: u32,
+    name: [u8; 64],
+    len: u8,
+}
+
+impl Key {
+    /// The key of a program, a version and a netid of at most 64 bytes.
+    pub fn new(prog: u32, vers: u32, netid: &[u8]) -> Key
+        requires { length netid.now ≤ 64 }
+        ensures { result ≡ key_of prog vers netid.now }
+    {
+        Key {
+            prog,
+            vers,
+            name: padded(netid),
+            len: netid.len() as u8,
+        }
+    }
+}
+
+// The netid, followed by zeros.
+fn padded(netid: &[u8]) -> [u8; 64]
+    requires { length netid.now ≤ 64 }
+    ensures { result ≡ netid.now ++ replicate (64 - length netid.now) 0 }
+{
+    let mut name = [0; 64];
+    name[..netid.len()].copy_from_slice(netid);
+    name
+}

@@ -1,0 +1,10 @@
+//! The rows of the registry of RFC 1833 section 2, and the entries of a map that hold them.
+#![tactic(auto)]
+
+mod entries;
+mod key;
+mod row;
+
+pub use entries::{append, find, remove_all, remove_one};
+pub use key::Key;
+pub use row::Row;

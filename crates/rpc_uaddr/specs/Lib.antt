@@ -1,0 +1,2 @@
+pub mod Uaddrs
+pub mod Laws

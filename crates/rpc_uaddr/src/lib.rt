@@ -1,0 +1,15 @@
+//! Universal addresses over IPv4 (RFC 5665 sections 5.2.3.1 to 5.2.3.3): read, written, and their laws.
+#![tactic(auto)]
+
+mod address;
+mod laws;
+mod memory;
+mod reading;
+
+pub use address::{Uaddr, write_uaddr};
+pub use laws::uaddr_reads_back;
+pub use memory::NoMemory;
+pub use reading::read_uaddr;
+
+#[cfg(test)]
+mod tests;

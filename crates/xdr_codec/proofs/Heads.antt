@@ -1,0 +1,111 @@
+-- Heads of one kind before anything are one head.
+use Rattle.std.proofs.Common.{◌≡◌, ℕ, ℤ, pos, negsuc, List, [], ◌∷◌, ◌++◌, length, Bool, true, false, ◌&&◌, refl, ap, sym, ◌∙◌, arith, append_assoc, eqb-true, leb-true, le-leb, nat_le}
+use Rattle.std.proofs.lemmas.Bool.{false≢true}
+use Rattle.xdr_types.specs.Form as form
+use Rattle.xdr_types.specs.Form.{Form, Part, Branch, Constant, kind_at}
+use Rattle.xdr_types.specs.Tree as value
+use Rattle.xdr_types.specs.Tree.{Head, Values, Tree}
+use Rattle.xdr_types.specs.Numbers.{num4, number_of, pad}
+use Rattle.xdr_types.specs.Fits.{is_legal, is_tag_of}
+use Rattle.xdr_types.specs.Spelling.{own}
+use Rattle.xdr_types.proofs.Numbers.{num4-front, num8-front, signed4, signed8, unsigned4, unsigned8, flags}
+
+pub both : (a b : Bool) → a && b ≡ true → (a ≡ true) × (b ≡ true)
+both true b h = (refl, h)
+both false b h = absurd (false≢true h)
+
+-- lists of one length before anything
+pub split : (a b x y : List ℕ) → length a ≡ length b → a ++ x ≡ b ++ y → (a ≡ b) × (x ≡ y)
+split [] [] x y n e = (refl, e)
+split [] (k ∷ b) x y n e = absurd (omega (arith, n))
+split (j ∷ a) [] x y n e = absurd (omega (arith, n))
+split (j ∷ a) (k ∷ b) x y n e =
+    let heads : j ≡ k = cc in
+    let tails : a ++ x ≡ b ++ y = cc in
+    let rest = split a b x y (omega (arith, n)) tails in
+    (rw (heads, rest.0) refl, rest.1)
+
+-- bytes and their padding before anything
+pub content : (a b x y : List ℕ) → length a ≡ length b → (a ++ pad (length a)) ++ x ≡ (b ++ pad (length b)) ++ y → (a ≡ b) × (x ≡ y)
+content a b x y n e =
+    let first = split a b (pad (length a) ++ x) (pad (length b) ++ y) n (sym (append_assoc a (pad (length a)) x) ∙ e ∙ append_assoc b (pad (length b)) y) in
+    let second = split (pad (length a)) (pad (length b)) x y (ap (λ k. length (pad k)) n) first.1 in
+    (first.0, second.1)
+
+pub lengths : (m n max : ℕ) → nat_le m max && nat_le m 4294967295 ≡ true → nat_le n max && nat_le n 4294967295 ≡ true → num4 (pos m) ≡ num4 (pos n) → m ≡ n
+lengths m n max h k e = unsigned4 m n (both _ _ h).1 (both _ _ k).1 e
+
+-- a length, bytes and their padding before anything
+counted : (max : ℕ) (a b x y : List ℕ) → nat_le (length a) max && nat_le (length a) 4294967295 ≡ true → nat_le (length b) max && nat_le (length b) 4294967295 ≡ true
+    → (num4 (pos (length a)) ++ (a ++ pad (length a))) ++ x ≡ (num4 (pos (length b)) ++ (b ++ pad (length b))) ++ y → (a ≡ b) × (x ≡ y)
+counted max a b x y h k e =
+    let front = num4-front (pos (length a)) (pos (length b)) ((a ++ pad (length a)) ++ x) ((b ++ pad (length b)) ++ y) e in
+    content a b x y (lengths (length a) (length b) max h k front.0) front.1
+
+pub legal_tag : (f : Form) (a b : ℤ) → is_tag_of f a ≡ true → is_tag_of f b ≡ true → num4 a ≡ num4 b → a ≡ b
+legal_tag form.int a b h k e = signed4 a b h k e
+legal_tag form.unsigned (pos m) (pos n) h k e = ap pos (unsigned4 m n h k e)
+legal_tag form.unsigned (negsuc m) b h k e = absurd (false≢true h)
+legal_tag form.unsigned a (negsuc n) h k e = absurd (false≢true k)
+legal_tag form.boolean (pos m) (pos n) h k e =
+    let below = leb-true m 1 h in
+    let below2 = leb-true n 1 k in
+    ap pos (unsigned4 m n (le-leb m 4294967295 (omega arith)) (le-leb n 4294967295 (omega arith)) e)
+legal_tag form.boolean (negsuc m) b h k e = absurd (false≢true h)
+legal_tag form.boolean a (negsuc n) h k e = absurd (false≢true k)
+legal_tag (form.numbered cs) a b h k e = signed4 a b (both _ _ h).0 (both _ _ k).0 e
+legal_tag _ a b h k e = absurd (false≢true h)
+
+module _ (kinds : List Form) where
+  -- heads of one kind before anything
+  pub one_head : (f : Form) (g i : Head) (x y : List ℕ) → is_legal kinds f g ≡ true → is_legal kinds f i ≡ true → own f g ++ x ≡ own f i ++ y → (g ≡ i) × (x ≡ y)
+  one_head form.int (value.int a) (value.int b) x y h k e = let front = num4-front a b x y e in (ap value.int (signed4 a b h k front.0), front.1)
+  one_head form.int (value.int a) _ x y h k e = absurd (false≢true k)
+  one_head form.int _ _ x y h k e = absurd (false≢true h)
+  one_head form.unsigned (value.unsigned a) (value.unsigned b) x y h k e = let front = num4-front (pos a) (pos b) x y e in (ap value.unsigned (unsigned4 a b h k front.0), front.1)
+  one_head form.unsigned (value.unsigned a) _ x y h k e = absurd (false≢true k)
+  one_head form.unsigned _ _ x y h k e = absurd (false≢true h)
+  one_head form.hyper (value.hyper a) (value.hyper b) x y h k e = let front = num8-front a b x y e in (ap value.hyper (signed8 a b h k front.0), front.1)
+  one_head form.hyper (value.hyper a) _ x y h k e = absurd (false≢true k)
+  one_head form.hyper _ _ x y h k e = absurd (false≢true h)
+  one_head form.unsigned_hyper (value.unsigned_hyper a) (value.unsigned_hyper b) x y h k e = let front = num8-front (pos a) (pos b) x y e in (ap value.unsigned_hyper (unsigned8 a b h k front.0), front.1)
+  one_head form.unsigned_hyper (value.unsigned_hyper a) _ x y h k e = absurd (false≢true k)
+  one_head form.unsigned_hyper _ _ x y h k e = absurd (false≢true h)
+  one_head form.boolean (value.boolean a) (value.boolean b) x y h k e = let front = num4-front (number_of a) (number_of b) x y e in (ap value.boolean (flags a b front.0), front.1)
+  one_head form.boolean (value.boolean a) _ x y h k e = absurd (false≢true k)
+  one_head form.boolean _ _ x y h k e = absurd (false≢true h)
+  one_head (form.numbered cs) (value.numbered a) (value.numbered b) x y h k e = let front = num4-front a b x y e in (ap value.numbered (signed4 a b (both _ _ h).0 (both _ _ k).0 front.0), front.1)
+  one_head (form.numbered cs) (value.numbered a) _ x y h k e = absurd (false≢true k)
+  one_head (form.numbered cs) _ _ x y h k e = absurd (false≢true h)
+  one_head (form.opaque size) (value.bytes a) (value.bytes b) x y h k e = let rest = content a b x y (eqb-true (length a) size (both _ _ h).0 ∙ sym (eqb-true (length b) size (both _ _ k).0)) e in (ap value.bytes rest.0, rest.1)
+  one_head (form.opaque size) (value.bytes a) _ x y h k e = absurd (false≢true k)
+  one_head (form.opaque size) _ _ x y h k e = absurd (false≢true h)
+  one_head (form.opaque_up_to max) (value.bytes a) (value.bytes b) x y h k e = let rest = counted max a b x y (both _ _ h).0 (both _ _ k).0 e in (ap value.bytes rest.0, rest.1)
+  one_head (form.opaque_up_to max) (value.bytes a) _ x y h k e = absurd (false≢true k)
+  one_head (form.opaque_up_to max) _ _ x y h k e = absurd (false≢true h)
+  one_head (form.text max) (value.bytes a) (value.bytes b) x y h k e = let rest = counted max a b x y (both _ _ h).0 (both _ _ k).0 e in (ap value.bytes rest.0, rest.1)
+  one_head (form.text max) (value.bytes a) _ x y h k e = absurd (false≢true k)
+  one_head (form.text max) _ _ x y h k e = absurd (false≢true h)
+  one_head (form.fixed item size) (value.items a) (value.items b) x y h k e = (ap value.items (eqb-true a size h ∙ sym (eqb-true b size k)), e)
+  one_head (form.fixed item size) (value.items a) _ x y h k e = absurd (false≢true k)
+  one_head (form.fixed item size) _ _ x y h k e = absurd (false≢true h)
+  one_head (form.up_to item max) (value.items a) (value.items b) x y h k e = let front = num4-front (pos a) (pos b) x y e in (ap value.items (lengths a b max h k front.0), front.1)
+  one_head (form.up_to item max) (value.items a) _ x y h k e = absurd (false≢true k)
+  one_head (form.up_to item max) _ _ x y h k e = absurd (false≢true h)
+  one_head (form.choice tag arms other) (value.tag a) (value.tag b) x y h k e = let front = num4-front a b x y e in (ap value.tag (legal_tag (kind_at kinds tag) a b (both _ _ h).0 (both _ _ k).0 front.0), front.1)
+  one_head (form.choice tag arms other) (value.tag a) _ x y h k e = absurd (false≢true k)
+  one_head (form.choice tag arms other) _ _ x y h k e = absurd (false≢true h)
+  one_head (form.structure ps) value.fields value.fields x y h k e = (refl, e)
+  one_head (form.structure ps) value.fields _ x y h k e = absurd (false≢true k)
+  one_head (form.structure ps) _ _ x y h k e = absurd (false≢true h)
+  one_head (form.maybe item) value.present value.present x y h k e = (refl, (num4-front (pos 1) (pos 1) x y e).1)
+  one_head (form.maybe item) value.absent value.absent x y h k e = (refl, (num4-front (pos 0) (pos 0) x y e).1)
+  one_head (form.maybe item) value.present value.absent x y h k e = absurd (false≢true (sym (flags true false (num4-front (pos 1) (pos 0) x y e).0)))
+  one_head (form.maybe item) value.absent value.present x y h k e = absurd (false≢true (flags false true (num4-front (pos 0) (pos 1) x y e).0))
+  one_head (form.maybe item) value.present _ x y h k e = absurd (false≢true k)
+  one_head (form.maybe item) value.absent _ x y h k e = absurd (false≢true k)
+  one_head (form.maybe item) _ _ x y h k e = absurd (false≢true h)
+  one_head form.nothing value.nothing value.nothing x y h k e = (refl, e)
+  one_head form.nothing value.nothing _ x y h k e = absurd (false≢true k)
+  one_head form.nothing _ _ x y h k e = absurd (false≢true h)
+  one_head form.unknown _ _ x y h k e = absurd (false≢true h)

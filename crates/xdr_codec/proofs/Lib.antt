@@ -1,0 +1,8 @@
+pub mod Heads
+pub mod Arms
+pub mod Composed
+pub mod Fed
+pub mod Fronts
+pub mod Gathering
+pub mod Limited
+pub mod Putting

@@ -1,0 +1,42 @@
+-- What a refusal of bytes says.
+use Rattle.std.specs.Prelude.{◌≡◌, ℕ, List, [], ◌++◌, ⊤, Bool, true, false}
+use Rattle.xdr_types.specs.Form.{Form}
+use Rattle.xdr_types.specs.Tree.{Tree}
+use Rattle.xdr_types.specs.Spelling.{bytes_of}
+use Rattle.xdr_types.specs.Within.{Bounds, FitsWithin}
+use Rattle.xdr_codec.specs.declared.fault.Reason.{Reason}
+use Rattle.xdr_codec.specs.declared.fault.Reason.TheVariants as reason
+
+-- What may still follow refused bytes: nothing where they are cut, anything where they are broken.
+-- Where memory was refused nothing is ruled out.
+abbrev pub MayFollow : Reason → List ℕ → Type 0
+MayFollow reason.BadBool y = ⊤
+MayFollow reason.BadNumbered y = ⊤
+MayFollow reason.BadCase y = ⊤
+MayFollow reason.TooLong y = ⊤
+MayFollow reason.BadPadding y = ⊤
+MayFollow reason.TooDeep y = ⊤
+MayFollow reason.TooLarge y = ⊤
+MayFollow reason.Truncated y = y ≡ []
+MayFollow reason.NoMemory y = ⊥
+
+-- no value of the kind within the limits begins the bytes
+abbrev pub HasNoneWithin : List Form → ℕ → Bounds → List ℕ → Type 0
+HasNoneWithin kinds place limits b = (t : Tree) (x : List ℕ) → FitsWithin kinds place limits t → bytes_of kinds place t ++ x ≡ b → ⊥
+
+-- the claim holds of the bytes, whatever may follow them
+abbrev pub IsRefused : (List ℕ → Type 0) → Reason → List ℕ → Type 0
+IsRefused Claim why b = (y : List ℕ) → MayFollow why y → Claim (b ++ y)
+
+-- what is wrong with the bytes up to the limit, where they are as many as the limit allows or not
+abbrev pub why_at : Reason → Bool → Reason
+why_at reason.Truncated true = reason.TooLarge
+why_at reason.Truncated false = reason.Truncated
+why_at reason.BadBool full = reason.BadBool
+why_at reason.BadNumbered full = reason.BadNumbered
+why_at reason.BadCase full = reason.BadCase
+why_at reason.TooLong full = reason.TooLong
+why_at reason.BadPadding full = reason.BadPadding
+why_at reason.TooDeep full = reason.TooDeep
+why_at reason.TooLarge full = reason.TooLarge
+why_at reason.NoMemory full = reason.NoMemory

@@ -1,0 +1,86 @@
+-- Which bytes a decoder has been given, and what its answers say of them.
+use Rattle.std.specs.Prelude.{◌≡◌, ℕ, ◌≤◌, List, [], ◌++◌, length, take, Result, Ok, Err, ⊤}
+use Rattle.xdr_types.specs.Form.{Form, Lists}
+use Rattle.xdr_types.specs.Tree.{Tree}
+use Rattle.xdr_types.specs.Spelling.{bytes_of}
+use Rattle.xdr_types.specs.View.{tree}
+use Rattle.xdr_types.specs.Within.{Bounds, FitsWithin}
+use Rattle.xdr_types.specs.declared.kind.KindId.{KindId}
+use Rattle.xdr_types.specs.declared.value.Value.{Value}
+use Rattle.xdr_codec.specs.Refused.{HasNoneWithin, IsRefused}
+use Rattle.xdr_codec.specs.declared.fault.Reason.TheVariants as reason
+use Rattle.xdr_codec.specs.declared.fault.DecodeFault.{DecodeFault}
+use Rattle.xdr_codec.specs.declared.state.State.{State}
+use Rattle.xdr_codec.specs.declared.state.State.TheVariants.{Fresh, Waiting, Finished, Failed}
+use Rattle.xdr_codec.specs.declared.state.Progress.{Progress}
+use Rattle.xdr_codec.specs.declared.state.Progress.TheVariants.{More, Done}
+use Rattle.xdr_codec.specs.declared.state.Decoder.{Decoder}
+
+-- a value of the kind within the limits, whose encoding the bytes are
+abbrev pub IsWhole : List Form → ℕ → Bounds → Tree → List ℕ → Type 0
+IsWhole kinds place limits t b = FitsWithin kinds place limits t × (bytes_of kinds place t ≡ b)
+
+-- unless memory was refused, no value begins the bytes, however they go on
+abbrev pub Fails : List Form → ℕ → Bounds → DecodeFault → List ℕ → Type 0
+Fails kinds place limits f b = (f.why ≡ reason.Truncated → ⊥) × ((f.why ≡ reason.NoMemory → ⊥) → (y : List ℕ) → HasNoneWithin kinds place limits (b ++ y)) × (f.at ≤ length b)
+
+abbrev pub StandsAs : List Form → ℕ → Bounds → List ℕ → State → List ℕ → Type 0
+StandsAs kinds place limits bytes Fresh b = (bytes ≡ b) × (b ≡ [])
+StandsAs kinds place limits bytes Waiting b = (bytes ≡ b) × HasNoneWithin kinds place limits b
+StandsAs kinds place limits bytes (Finished v) b = IsWhole kinds place limits (tree v) b
+StandsAs kinds place limits bytes (Failed f) b = Fails kinds place limits f b
+
+-- the decoder's fields stand for these bytes, all that it was given up to the value's end
+abbrev pub Stands : Decoder → List ℕ → Type 0
+Stands d b = StandsAs d.schema.now.kinds d.kind.place d.limits d.bytes.items d.state b
+
+-- what a call takes of its piece: all of it, or the bytes up to the value's end
+abbrev pub taken : List ℕ → Result Progress DecodeFault → List ℕ
+taken piece (Ok More) = piece
+taken piece (Ok (Done used)) = take used piece
+taken piece (Err f) = piece
+
+abbrev pub used_of : Progress → ℕ
+used_of More = 0
+used_of (Done used) = used
+
+-- what an answer says of the bytes so far: they begin with no value; they encode a value; none begins them however they go on
+abbrev pub AnswersAs : List Form → ℕ → Bounds → List ℕ → Result Progress DecodeFault → Type 0
+AnswersAs kinds place limits b (Ok More) = HasNoneWithin kinds place limits b
+AnswersAs kinds place limits b (Ok (Done used)) = (t : Tree) × IsWhole kinds place limits t b
+AnswersAs kinds place limits b (Err f) = Fails kinds place limits f b
+
+abbrev pub Answers : Decoder → List ℕ → Result Progress DecodeFault → Type 0
+Answers d b r = AnswersAs d.schema.now.kinds d.kind.place d.limits b r
+
+-- what the end says of the bytes: they encode the value; or none begins them, and they end inside one or are broken
+abbrev pub FinishesAs : List Form → ℕ → Bounds → List ℕ → Result Value DecodeFault → Type 0
+FinishesAs kinds place limits b (Ok v) = IsWhole kinds place limits (tree v) b
+FinishesAs kinds place limits b (Err f) = IsRefused (HasNoneWithin kinds place limits) f.why b × (f.at ≤ length b) × (f.why ≡ reason.Truncated → f.at ≡ length b)
+
+abbrev pub Finishes : Decoder → List ℕ → Result Value DecodeFault → Type 0
+Finishes d b r = FinishesAs d.schema.now.kinds d.kind.place d.limits b r
+
+-- the settings of a new decoder
+pub record IsStarted (d : Decoder) (schema : Lists) (kind : KindId) (limits : Bounds) : Type 0 where
+  pub schema_is : d.schema.now ≡ schema
+  pub kind_is : d.kind ≡ kind
+  pub limits_are : d.limits ≡ limits
+
+-- the settings stay
+pub record IsSame (a b : Decoder) : Type 0 where
+  pub schema_is : b.schema.now ≡ a.schema.now
+  pub kind_is : b.kind ≡ a.kind
+  pub limits_are : b.limits ≡ a.limits
+
+abbrev pub IsDoneAs : State → Type 0
+IsDoneAs (Finished v) = ⊤
+IsDoneAs _ = ⊥
+
+-- the value is whole
+abbrev pub IsDone : Decoder → Type 0
+IsDone d = IsDoneAs d.state
+
+-- this fault was answered
+abbrev pub HasFailed : Decoder → DecodeFault → Type 0
+HasFailed d f = d.state ≡ Failed f

@@ -1,0 +1,35 @@
+// A value as bytes.
+ghost use Rattle.std.specs.Prelude.{◌≡◌, ◌++◌, ◌<◌, ◌^◌, length, map, pos, negsuc, ◌≤ℤ◌, replicate, IsTrue, IfOk, OnOk, true};
+ghost use Rattle.xdr_types.specs.Form.{kind_at};
+ghost use Rattle.xdr_types.specs.Forms.{form_of, part_of_member};
+ghost use Rattle.xdr_types.specs.Fits.{Fits, fits, fit, is_legal, item_part, parts};
+ghost use Rattle.xdr_types.specs.Numbers.{num4, num8, number_of, pad};
+ghost use Rattle.xdr_types.specs.Spelling.{spelling, own, padded, bytes_of};
+ghost use Rattle.xdr_types.specs.Tree.{Tree};
+ghost use Rattle.xdr_types.specs.View.{tree, values};
+ghost use Rattle.xdr_types.specs.Within.{FitsWithin};
+
+use crate::pushing::push_value;
+use std::alloc::{AllocError, Global};
+use xdr_types::{KindId, Limits, Schema, Value, size};
+
+/// The encoding of a value (RFC 4506): exactly its bytes, and no other value of the kind within the
+/// limits has them. The value fits the kind within the limits, as `fits` tells. An error comes only
+/// where memory was refused.
+pub fn encode(
+    alloc: Global,
+    schema: &Schema,
+    kind: KindId,
+    value: &Value,
+    limits: Limits,
+) -> Result<Vec<u8>, AllocError>
+    requires { FitsWithin schema.now.kinds kind.place limits (tree value.now) }
+    ensures bytes { IfOk result (λ b. b.items ≡ bytes_of schema.now.kinds kind.place (tree value.now)) }
+    ensures only { IfOk result (λ b. (t : Tree) → Fits schema.now.kinds kind.place t → bytes_of schema.now.kinds kind.place t ≡ b.items → t ≡ tree value.now) }
+{
+    let mut out = Vec::with_capacity(alloc, size(schema, kind, value, limits) as usize)?;
+    match push_value(&mut out, schema, kind, value) {
+        Ok(()) => Ok(out),
+        Err(_) => Err(AllocError),
+    }
+}

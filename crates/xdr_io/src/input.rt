@@ -1,0 +1,77 @@
+//! All of a source, in a bounded number of reads.
+ghost use Rattle.std.specs.Prelude.{◌≡◌, ◌≢◌, ◌+◌, ◌≤◌, vec_len, IfOk, IfErr, OnOk, IsErrOf};
+ghost use Rattle.std.specs.Io.KnownBytes.{Consumes, IsAtEnd};
+ghost use Rattle.xdr_io.specs.Told.{Counts, CountsAtMost, MovesAtMost};
+ghost use Rattle.xdr_io.specs.declared.input.InputFault.TheVariants.{Read, NoMemory};
+
+use super::traits::{ReadFault, Source};
+use std::alloc::{AllocError, Global};
+use thiserror::Error;
+
+/// How many reads a loop over a source makes at most.
+pub const MOST_READS: u32 = 1048576;
+
+/// Why an input could not be had.
+#[derive(Clone, Copy, Debug, PartialEq, Eq, Error)]
+pub enum InputFault {
+    /// A read failed.
+    #[error("a read failed")]
+    Read,
+    /// One more than the most reads would be needed.
+    #[error("too many reads")]
+    TooManyReads,
+    /// Memory was refused.
+    #[error("out of memory")]
+    NoMemory,
+}
+
+impl From<ReadFault> for InputFault {
+    ghost from_gives = { λ _ e. e ≡ Read };
+
+    fn from(_: ReadFault) -> Self {
+        InputFault::Read
+    }
+}
+
+impl From<AllocError> for InputFault {
+    ghost from_gives = { λ _ e. e ≡ NoMemory };
+
+    fn from(_: AllocError) -> Self {
+        InputFault::NoMemory
+    }
+}
+
+/// Reads until the source ends or more than `enough` bytes are there, in at most 1048576 reads. So an answer of at
+/// most `enough` bytes is all that the source had left, and one of more is its front. After a fault some of the
+/// source's bytes were read, and are dropped. `TooManyReads` comes only where the source has not ended by the last
+/// read, with 1048576 bytes or more, and `Read` only where the last read failed.
+pub fn read_past<R: Source>(
+    alloc: Global,
+    source: &mut R,
+    enough: usize,
+) -> Result<Vec<u8>, InputFault>
+    ensures bytes { IfOk result (λ v. Consumes (R.left source.old) (R.left source.new) v.items) }
+    ensures end { IfOk result (λ v. vec_len v ≤ enough → IsAtEnd (R.left source.new)) }
+    ensures most { IfOk result (λ v. vec_len v ≤ enough + 4096) }
+    ensures moved { MovesAtMost (enough + 4096) (R.left source.old) (R.left source.new) }
+    ensures none_failed { OnOk result (Counts 0 (R.failures source.old) (R.failures source.new)) }
+    ensures failed { IsErrOf result InputFault.Read → Counts 1 (R.failures source.old) (R.failures source.new) }
+    ensures unfailed { IfErr result (λ f. f ≢ InputFault.Read → Counts 0 (R.failures source.old) (R.failures source.new)) }
+    ensures reads { CountsAtMost 1048576 (R.reads source.old) (R.reads source.new) }
+    ensures many { IsErrOf result InputFault.TooManyReads → Counts 1048576 (R.reads source.old) (R.reads source.new) }
+    ensures plenty { IsErrOf result InputFault.TooManyReads → 1048576 ≤ enough }
+{
+    let mut bytes = Vec::new(alloc);
+    let mut array = [0u8; 4096];
+    for _turn in 0..MOST_READS {
+        let n = source.read(&mut array)?;
+        if n == 0 {
+            return Ok(bytes);
+        }
+        bytes.extend_from_slice(&array[..n])?;
+        if bytes.len() > enough {
+            return Ok(bytes);
+        }
+    }
+    Err(InputFault::TooManyReads)
+}

@@ -1,0 +1,95 @@
+-- Numbers and their units.
+use Rattle.std.proofs.Common.{◌≡◌, ℕ, ◌-◌, ◌^◌, ◌<◌, ◌≤◌, ℤ, pos, negsuc, true, false, cond, nat_lt, List, ◌++◌, length, take, drop, refl, ap, ◌∙◌, arith}
+use Rattle.std.specs.Int.{w32, w64, to_be_bytes, from_be_bytes, cast_unsigned}
+use Rattle.std.proofs.lemmas.Nat.{from_be_bytes-to_be_bytes_4, from_be_bytes-to_be_bytes_8}
+use Rattle.xdr_types.specs.Form as form
+use Rattle.xdr_types.specs.Form.{Form, Constant}
+use Rattle.xdr_types.specs.Fits.{is_tag_of}
+use Rattle.xdr_types.specs.Outcome.{signed, number_in}
+use Rattle.std.proofs.lemmas.Bool.{false≢true}
+use Rattle.xdr_laws.proofs.Legal.{IsSigned, signed_is, numbered_signed, most_is}
+
+-- the four bytes of a unit, the eight of two
+abbrev pub unit4 : ℕ → List ℕ
+unit4 n = to_be_bytes w32 n
+
+abbrev pub unit8 : ℕ → List ℕ
+unit8 n = to_be_bytes w64 n
+
+abbrev pub unit_of : ℤ → ℕ
+unit_of z = cast_unsigned w32 z
+
+abbrev pub units_of : ℤ → ℕ
+units_of z = cast_unsigned w64 z
+
+-- the number of the first four bytes
+abbrev pub from4 : List ℕ → ℕ
+from4 b = from_be_bytes w32 (take 4 b)
+
+abbrev pub from8 : List ℕ → ℕ
+from8 b = from_be_bytes w64 (take 8 b)
+
+pub unit4-length : (n : ℕ) → length (unit4 n) ≡ 4
+unit4-length n = refl
+
+pub unit8-length : (n : ℕ) → length (unit8 n) ≡ 8
+unit8-length n = refl
+
+pub from4-unit4 : (n : ℕ) (x : List ℕ) → n < 2 ^ 32 → from4 (unit4 n ++ x) ≡ n
+from4-unit4 n x h = from_be_bytes-to_be_bytes_4 n h
+
+pub from8-unit8 : (n : ℕ) (x : List ℕ) → n < 2 ^ 64 → from8 (unit8 n ++ x) ≡ n
+from8-unit8 n x h = from_be_bytes-to_be_bytes_8 n h
+
+pub drop4-unit4 : (n : ℕ) (x : List ℕ) → drop 4 (unit4 n ++ x) ≡ x
+drop4-unit4 n x = refl
+
+pub drop8-unit8 : (n : ℕ) (x : List ℕ) → drop 8 (unit8 n ++ x) ≡ x
+drop8-unit8 n x = refl
+
+-- ---- signed numbers
+
+nat_lt-true : (m n : ℕ) → m < n → nat_lt m n ≡ true
+nat_lt-true m n h = grind arith
+
+nat_lt-false : (m n : ℕ) → n ≤ m → nat_lt m n ≡ false
+nat_lt-false m n h = grind arith
+
+pub signed_low : (x : ℕ) → x < 2147483648 → signed x ≡ pos x
+signed_low x h = rw (nat_lt-true x 2147483648 h) refl
+
+pub signed_high : (x : ℕ) → 2147483648 ≤ x → signed x ≡ negsuc (4294967295 - x)
+signed_high x h = rw (nat_lt-false x 2147483648 h) refl
+
+pub signed_back : (z : ℤ) → IsSigned 2147483648 z → (unit_of z < 2 ^ 32) × (signed (unit_of z) ≡ z)
+signed_back (pos n) h = (omega arith, signed_low n h)
+signed_back (negsuc n) h =
+    let e : unit_of (negsuc n) ≡ 4294967295 - n = omega arith in
+    let back : 4294967295 - (4294967295 - n) ≡ n = omega arith in
+    (omega arith, ap signed e ∙ signed_high (4294967295 - n) (omega arith) ∙ ap negsuc back)
+
+-- the number in two units, as a signed one
+abbrev pub signed8 : ℕ → ℤ
+signed8 x = cond (nat_lt x 9223372036854775808) (pos x) (negsuc (18446744073709551615 - x))
+
+pub signed8_low : (x : ℕ) → x < 9223372036854775808 → signed8 x ≡ pos x
+signed8_low x h = rw (nat_lt-true x 9223372036854775808 h) refl
+
+pub signed8_high : (x : ℕ) → 9223372036854775808 ≤ x → signed8 x ≡ negsuc (18446744073709551615 - x)
+signed8_high x h = rw (nat_lt-false x 9223372036854775808 h) refl
+
+pub signed8_back : (z : ℤ) → IsSigned 9223372036854775808 z → (units_of z < 2 ^ 64) × (signed8 (units_of z) ≡ z)
+signed8_back (pos n) h = (omega arith, signed8_low n h)
+signed8_back (negsuc n) h =
+    let e : units_of (negsuc n) ≡ 18446744073709551615 - n = omega arith in
+    let back : 18446744073709551615 - (18446744073709551615 - n) ≡ n = omega arith in
+    (omega arith, ap signed8 e ∙ signed8_high (18446744073709551615 - n) (omega arith) ∙ ap negsuc back)
+
+pub number_back : (k : Form) (z : ℤ) → is_tag_of k z ≡ true → (unit_of z < 2 ^ 32) × (number_in k (unit_of z) ≡ z)
+number_back form.int z h = signed_back z (signed_is 2147483648 z h)
+number_back form.unsigned (pos n) h = let low = most_is n 4294967295 h in (omega arith, refl)
+number_back form.boolean (pos n) h = let low = most_is n 1 h in (omega arith, refl)
+number_back (form.numbered constants) z h = signed_back z (numbered_signed constants z h)
+number_back form.unsigned (negsuc n) h = absurd (false≢true h)
+number_back form.boolean (negsuc n) h = absurd (false≢true h)
+number_back _ z h = absurd (false≢true h)

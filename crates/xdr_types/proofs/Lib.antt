@@ -1,0 +1,15 @@
+pub mod Content
+pub mod Fitting
+pub mod Flawless
+pub mod Grown
+pub mod Heighting
+pub mod Known
+pub mod Marks
+pub mod Numbers
+pub mod Unique
+pub mod Views
+pub mod Higher
+pub mod Inhabited
+pub mod Joining
+pub mod Worked
+pub mod Refusing

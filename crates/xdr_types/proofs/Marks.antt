@@ -1,0 +1,152 @@
+-- What the tests of marks say.
+use Rattle.std.proofs.Common.{◌≡◌, ℕ, zero, suc, ◌+◌, ◌<◌, List, [], ◌∷◌, length, get_or, Option, Some, None, Bool, true, false, ◌&&◌, ◌||◌, not, IsTrue, ◌↔◌, ℤ, refl, ap, sym, ◌∙◌, subst, arith, add-one, ◌⊎◌, inl, inr, replicate, map, is_some}
+use Rattle.std.specs.List.{AllByRecursion, Contains}
+use Rattle.std.specs.Ordering.{int_eq}
+use Rattle.std.proofs.lemmas.Bool.{false≢true}
+use Rattle.std.proofs.lemmas.Bool.Decides.{Decides-int_eq}
+use Rattle.std.proofs.lemmas.List.{get_or-map, get_or_read, length-replicate}
+use Rattle.xdr_types.specs.Forms.{form_of}
+use Rattle.xdr_types.specs.declared.kind.Kind.{Kind}
+use Rattle.xdr_types.specs.Form as form
+use Rattle.xdr_types.specs.Form.{Form, Part, Branch, Constant, kind_at}
+use Rattle.xdr_types.specs.Fits.{is_signed, is_constant}
+use Rattle.xdr_types.specs.Sound.{Asks, has_arm, HasFreeTag}
+use Rattle.xdr_types.specs.Rounds.{given, missing, AreHeights, is_marked, IsMarked, are_marked, some_marked, some_free}
+
+is_none_of : (o : Option ℕ) → is_some o ≡ false → o ≡ None
+is_none_of None h = refl
+is_none_of (Some n) h = absurd (false≢true (sym h))
+
+both : (a b : Bool) → a && b ≡ true → (a ≡ true) × (b ≡ true)
+both true b h = (refl, h)
+both false b h = absurd (false≢true h)
+
+both_of : (a b : Bool) → a ≡ true → b ≡ true → a && b ≡ true
+both_of a b h k = rw h k
+
+one_of : (a b : Bool) → a || b ≡ true → (a ≡ true) ⊎ (b ≡ true)
+one_of true b h = inl refl
+one_of false b h = inr h
+
+not_true : (a : Bool) → not a ≡ true → a ≡ false
+not_true true h = absurd (false≢true h)
+not_true false h = refl
+
+or_later : (a b : Bool) → b ≡ true → a || b ≡ true
+or_later true b h = refl
+or_later false b h = h
+
+or_first : (a b : Bool) → a ≡ true → a || b ≡ true
+or_first a b h = rw h refl
+
+all-marked : (hs : List (Option ℕ)) (ps : List Part) → are_marked hs ps ≡ true → AllByRecursion (λ p. IsMarked hs p.kind) ps
+all-marked hs [] h = tt
+all-marked hs (p ∷ ps) h = let b = both (is_marked hs p.kind) (are_marked hs ps) h in (b.0, all-marked hs ps b.1)
+
+marked-all : (hs : List (Option ℕ)) (ps : List Part) → AllByRecursion (λ p. IsMarked hs p.kind) ps → are_marked hs ps ≡ true
+marked-all hs [] h = refl
+marked-all hs (p ∷ ps) h = both_of (is_marked hs p.kind) (are_marked hs ps) h.0 (marked-all hs ps h.1)
+
+pub structure-met : (kinds : List Form) (hs : List (Option ℕ)) (f : Form) (parts : List Part) (r : Bool) → f ≡ form.structure parts → r ≡ are_marked hs parts
+    → IsTrue r ↔ Asks kinds (IsMarked hs) f
+structure-met kinds hs f parts r is e = (
+  λ h. subst (Asks kinds (IsMarked hs)) (sym is) (all-marked hs parts (sym e ∙ h)),
+  λ a. e ∙ marked-all hs parts (subst (Asks kinds (IsMarked hs)) is a),
+)
+
+rest : (b : Branch) (arms : List Branch) (a : Branch) (k : ℕ) → get_or arms k a ≡ a → get_or (b ∷ arms) (k + 1) a ≡ a
+rest b arms a k e = rw add-one e
+
+some-arm : (hs : List (Option ℕ)) (arms : List Branch) → some_marked hs arms ≡ true → (a : Branch) × Contains arms a × IsMarked hs a.part.kind
+some-arm hs [] h = absurd (false≢true h)
+some-arm hs (b ∷ arms) h =
+    elim (one_of (is_marked hs b.part.kind) (some_marked hs arms) h) [
+      | inl here ↦ (b, (0, omega arith, refl), here)
+      | inr there ↦ let found = some-arm hs arms there in (found.0, (found.1.0 + 1, omega (arith, found.1.1), rest b arms found.0 found.1.0 found.1.2), found.2)
+    ]
+
+arm-some : (hs : List (Option ℕ)) (arms : List Branch) (a : Branch) (k : ℕ) → k < length arms → get_or arms k a ≡ a → IsMarked hs a.part.kind → some_marked hs arms ≡ true
+arm-some hs [] a k h is m = absurd (omega arith)
+arm-some hs (b ∷ arms) a zero h is m = let marked : is_marked hs b.part.kind ≡ true = ap (λ (z : Branch). is_marked hs z.part.kind) is ∙ m in rw marked refl
+arm-some hs (b ∷ arms) a (suc k) h is m = let later : some_marked hs arms ≡ true = arm-some hs arms a k (omega arith) is m in or_later (is_marked hs b.part.kind) (some_marked hs arms) later
+
+pub arm-met : (kinds : List Form) (hs : List (Option ℕ)) (f : Form) (tag : ℕ) (arms : List Branch) (other : Option Part) → f ≡ form.choice tag arms other
+    → some_marked hs arms ≡ true → Asks kinds (IsMarked hs) f
+arm-met kinds hs f tag arms other is h =
+    let found = some-arm hs arms h in
+    subst (Asks kinds (IsMarked hs)) (sym is) (found.0.part, inl (found.0, found.1, refl), found.2)
+
+abbrev pub OtherMet : List Form → List (Option ℕ) → ℕ → List Branch → Option Part → Type 0
+OtherMet kinds hs tag arms other = (part : Part) × (other ≡ Some part) × HasFreeTag (kind_at kinds tag) arms × IsMarked hs part.kind
+
+other-from : (kinds : List Form) (hs : List (Option ℕ)) (tag : ℕ) (arms : List Branch) (other : Option Part) (r : Bool)
+    → some_marked hs arms ≡ false → (IsTrue r ↔ OtherMet kinds hs tag arms other) → Asks kinds (IsMarked hs) (form.choice tag arms other) → IsTrue r
+other-from kinds hs tag arms other r none by (part, reachable, marked) =
+    elim reachable [
+      | inl arm ↦ absurd (false≢true (sym none ∙ arm-some hs arms arm.0 arm.1.0 arm.1.1 arm.1.2 (subst (λ (z : Part). IsMarked hs z.kind) (sym arm.2) marked)))
+      | inr o ↦ by.1 (part, o.0, o.1, marked)
+    ]
+
+pub other-met : (kinds : List Form) (hs : List (Option ℕ)) (f : Form) (tag : ℕ) (arms : List Branch) (other : Option Part) (r : Bool) → f ≡ form.choice tag arms other
+    → some_marked hs arms ≡ false → (IsTrue r ↔ OtherMet kinds hs tag arms other) → IsTrue r ↔ Asks kinds (IsMarked hs) f
+other-met kinds hs f tag arms other r is none by = (
+  λ h. let m = by.0 h in subst (Asks kinds (IsMarked hs)) (sym is) (m.0, inr (m.1, m.2), m.3),
+  λ a. other-from kinds hs tag arms other r none by (subst (Asks kinds (IsMarked hs)) is a),
+)
+
+some-free : (arms : List Branch) (cs : List Constant) → some_free arms cs ≡ true → (z : ℤ) × (is_signed 2147483648 z ≡ true) × (is_constant cs z ≡ true) × (has_arm arms z ≡ false)
+some-free arms [] h = absurd (false≢true h)
+some-free arms (c ∷ cs) h =
+    elim (one_of (is_signed 2147483648 c.number && not (has_arm arms c.number)) (some_free arms cs) h) [
+      | inl here ↦ let b = both (is_signed 2147483648 c.number) (not (has_arm arms c.number)) here in
+          let itself : int_eq c.number c.number ≡ true = (Decides-int_eq c.number c.number).1 refl in
+          (c.number, b.0, or_first (int_eq c.number c.number) (is_constant cs c.number) itself, not_true (has_arm arms c.number) b.1)
+      | inr there ↦ let found = some-free arms cs there in (found.0, found.1, or_later (int_eq c.number found.0) (is_constant cs found.0) found.2, found.3)
+    ]
+
+free-some : (arms : List Branch) (cs : List Constant) (z : ℤ) → is_signed 2147483648 z ≡ true → is_constant cs z ≡ true → has_arm arms z ≡ false → some_free arms cs ≡ true
+free-some arms [] z s h n = absurd (false≢true h)
+free-some arms (c ∷ cs) z s h n =
+    elim (one_of (int_eq c.number z) (is_constant cs z) h) [
+      | inl here ↦
+          let same : c.number ≡ z = (Decides-int_eq c.number z).0 here in
+          or_first (is_signed 2147483648 c.number && not (has_arm arms c.number)) (some_free arms cs)
+          (subst (λ (w : ℤ). is_signed 2147483648 w && not (has_arm arms w) ≡ true) (sym same) (both_of (is_signed 2147483648 z) (not (has_arm arms z)) s (ap not n)))
+      | inr there ↦ or_later (is_signed 2147483648 c.number && not (has_arm arms c.number)) (some_free arms cs) (free-some arms cs z s there n)
+    ]
+
+pub numbered-free : (f : Form) (arms : List Branch) (cs : List Constant) (r : Bool) → f ≡ form.numbered cs → r ≡ some_free arms cs → IsTrue r ↔ HasFreeTag f arms
+numbered-free f arms cs r is e = (
+  λ h. let found = some-free arms cs (sym e ∙ h) in subst (λ (g : Form). HasFreeTag g arms) (sym is) (found.0, both_of _ _ found.1 found.2, found.3),
+  λ a. let found = subst (λ (g : Form). HasFreeTag g arms) is a in let b = both _ _ found.1 in e ∙ free-some arms cs found.0 b.0 b.1 found.2,
+)
+
+pub kind-read : (ks : List Kind) (i : ℕ) (k : Kind) → i < length ks → k ≡ get_or ks i k → kind_at (map form_of ks) i ≡ form_of k
+kind-read ks i k h e = get_or-map form_of ks i k form.unknown h ∙ ap form_of (sym e)
+
+pub none-read : (hs : List (Option ℕ)) (i : ℕ) (o : Option ℕ) → i < length hs → o ≡ get_or hs i o → is_some o ≡ false → given hs i ≡ None
+none-read hs i o h e n = sym (get_or_read hs i o h e None) ∙ is_none_of o n
+
+pub some-read : (hs : List (Option ℕ)) (i : ℕ) (o : Option ℕ) → i < length hs → o ≡ get_or hs i o → is_some o ≡ true → IsMarked hs i
+some-read hs i o h e n = ap is_some (sym (get_or_read hs i o h e None)) ∙ n
+
+no-given : (n place : ℕ) → given (replicate n None) place ≡ None
+no-given zero place = refl
+no-given (suc n) zero = refl
+no-given (suc n) (suc place) = no-given n place
+
+none≢some : (m : ℕ) → None ≡ Some m → ⊥
+none≢some m e = cc
+
+all-missing : (n : ℕ) → missing (replicate n None) ≡ n
+all-missing zero = refl
+all-missing (suc n) = rw (all-missing n) (omega arith)
+
+-- the beginning: no place has a number
+pub fresh : (kinds : List Form) (hs : List (Option ℕ)) → hs ≡ replicate (length kinds) None → AreHeights kinds hs 0
+fresh kinds hs e = subst (λ (z : List (Option ℕ)). AreHeights kinds z 0) (sym e) record {
+  lengths = length-replicate (length kinds) None;
+  proper = λ place n is. absurd (none≢some n (sym (no-given (length kinds) place) ∙ is));
+  below = λ place n is. absurd (none≢some n (sym (no-given (length kinds) place) ∙ is));
+  left = rw (all-missing (length kinds)) (omega arith);
+}

@@ -1,0 +1,59 @@
+-- What is kept while heights are found: the numbers given so far.
+use Rattle.std.specs.Prelude.{◌≡◌, ℕ, ◌+◌, ◌<◌, List, [], ◌∷◌, length, Option, Some, None, slice_index_or, Bool, true, false, not, ◌&&◌, ◌||◌, is_some, IsTrue}
+use Rattle.xdr_types.specs.Form.{Form, Part, Branch, Constant, kind_at}
+use Rattle.xdr_types.specs.Fits.{is_signed}
+use Rattle.xdr_types.specs.Sound.{has_arm, Heighting, Asks, IsProper, HasHeight}
+
+-- the numbers that a list gives
+abbrev pub given : List (Option ℕ) → Heighting
+given hs place = slice_index_or hs place None
+
+-- the place has got a number
+abbrev pub is_marked : List (Option ℕ) → ℕ → Bool
+is_marked hs place = is_some (given hs place)
+
+-- the place has got a number, as a fact
+abbrev pub IsMarked : List (Option ℕ) → ℕ → Type 0
+IsMarked hs place = IsTrue (is_marked hs place)
+
+-- all the parts have numbers
+abbrev pub are_marked : List (Option ℕ) → List Part → Bool
+are_marked hs [] = true
+are_marked hs (p ∷ ps) = is_marked hs p.kind && are_marked hs ps
+
+-- the part of some arm has a number
+abbrev pub some_marked : List (Option ℕ) → List Branch → Bool
+some_marked hs [] = false
+some_marked hs (a ∷ arms) = is_marked hs a.part.kind || some_marked hs arms
+
+-- some member's number has no arm
+abbrev pub some_free : List Branch → List Constant → Bool
+some_free arms [] = false
+some_free arms (c ∷ cs) = (is_signed 2147483648 c.number && not (has_arm arms c.number)) || some_free arms cs
+
+-- every number is below next
+abbrev pub AreBelow : List (Option ℕ) → ℕ → Type 0
+AreBelow hs next = (place n : ℕ) → given hs place ≡ Some n → n < next
+
+-- no place without a number has what it asks
+abbrev pub IsClosed : List Form → List (Option ℕ) → Type 0
+IsClosed kinds hs = (place : ℕ) → place < length kinds → given hs place ≡ None → Asks kinds (IsMarked hs) (kind_at kinds place) → ⊥
+
+-- how many places have no number
+abbrev pub missing : List (Option ℕ) → ℕ
+missing [] = 0
+missing (None ∷ hs) = missing hs + 1
+missing (Some n ∷ hs) = missing hs
+
+-- the numbers given so far are a proper heighting, all below the next one
+pub record AreHeights (kinds : List Form) (hs : List (Option ℕ)) (next : ℕ) : Type 0 where
+  pub lengths : length hs ≡ length kinds
+  pub proper : IsProper kinds (given hs)
+  pub below : AreBelow hs next
+  pub left : next + missing hs ≡ length kinds
+
+-- the lowest place without a height
+pub record IsLowestWithout (kinds : List Form) (place : ℕ) : Type 0 where
+  pub within : place < length kinds
+  pub none : HasHeight kinds place → ⊥
+  pub lower : (q : ℕ) → q < place → HasHeight kinds q

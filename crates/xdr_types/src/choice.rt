@@ -1,0 +1,81 @@
+// The tags and parts of a choice.
+ghost use Rattle.std.specs.Prelude.{◌≡◌, map, option_map};
+ghost use Rattle.xdr_types.specs.Form.{kind_at};
+ghost use Rattle.xdr_types.specs.Forms.{form_of, constant_of, part_of_member, branch_of};
+ghost use Rattle.xdr_types.specs.Fits.{is_numbered, is_listed, is_tag_of, part_of};
+
+use crate::kind::{Arm, Kind, KindId, Member};
+use crate::schema::Schema;
+use std::string::String;
+
+/// Whether a discriminant of the kind may have the number: an int's from -2^31 to 2^31 - 1, an unsigned int's from 0 to
+/// 2^32 - 1, 0 and 1 of a bool, the members' of an enumeration, none of another kind (RFC 4506 section 4.15).
+pub fn is_legal_tag(schema: &Schema, id: KindId, number: i64) -> bool
+    ensures { result ≡ is_tag_of (kind_at schema.now.kinds id.place) number }
+{
+    is_tag_number(schema.kinds(), id, number)
+}
+
+/// The same, over the list of kinds.
+pub fn is_tag_number(kinds: &Vec<Kind>, id: KindId, number: i64) -> bool
+    ensures { result ≡ is_tag_of (kind_at (map form_of kinds.now.items) id.place) number }
+{
+    let place = id.place as usize;
+    if place >= kinds.len() {
+        return false;
+    }
+    match &kinds[place] {
+        Kind::Int => number >= -2147483648 && number <= 2147483647,
+        Kind::Unsigned => number >= 0 && number <= 4294967295,
+        Kind::Bool => number == 0 || number == 1,
+        Kind::Numbered { members } => is_number_of(members, number),
+        _ => false,
+    }
+}
+
+// Whether a member has the number.
+fn is_number_of(members: &Vec<(String, i32)>, number: i64) -> bool
+    ensures { result ≡ is_numbered (map constant_of members.now.items) number }
+{
+    if number < -2147483648 || number > 2147483647 {
+        return false;
+    }
+    for member in members {
+        if i64::from(member.1) == number {
+            return true;
+        }
+    }
+    false
+}
+
+/// Whether the cases have the number.
+pub fn lists(cases: &[i64], number: i64) -> bool
+    ensures { result ≡ is_listed cases.now number }
+{
+    for case in cases {
+        if *case == number {
+            return true;
+        }
+    }
+    false
+}
+
+/// The part of a union under a discriminant: that of the arm which lists the number, else the default, where there is
+/// one (RFC 4506 section 4.15).
+pub fn part_under<'a>(
+    arms: &'a Vec<Arm>,
+    other: &'a Option<Member>,
+    number: i64,
+) -> Option<&'a Member>
+    ensures { option_map (λ m. part_of_member m.now) result ≡ part_of (map branch_of arms.now.items) (option_map part_of_member other.now) number }
+{
+    for arm in arms {
+        if lists(&arm.cases, number) {
+            return Some(&arm.member);
+        }
+    }
+    match other {
+        Some(member) => Some(member),
+        None => None,
+    }
+}

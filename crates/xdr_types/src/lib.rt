@@ -1,0 +1,30 @@
+//! The kinds and the values of XDR (RFC 4506): which lists of kinds make a schema, which values are of a kind and
+//! within limits, how many bytes they have, and when they are the same.
+//!
+//! The definitions that all crates stand on are in `specs/`: numbers and padding as bytes, schemas, values as trees,
+//! which of them fit, their encodings, and the outcome of decoding.
+#![tactic(auto)]
+
+mod check;
+mod choice;
+mod depth;
+mod equal;
+mod fault;
+mod faults;
+mod heights;
+mod kind;
+mod laws;
+mod limits;
+mod room;
+mod schema;
+mod value;
+
+pub use choice::{is_legal_tag, part_under};
+pub use equal::is_equal;
+pub use fault::{Flaw, SchemaFault};
+pub use kind::{Arm, Kind, KindId, Member};
+pub use laws::{each_kind_has_a_value, each_spelling_is_one_value, no_schema_has_a_fault};
+pub use limits::Limits;
+pub use room::{fits, size};
+pub use schema::{Schema, is_same_schema};
+pub use value::Value;

@@ -1,0 +1,198 @@
+// A schema: kinds that name one another by place, and names for some.
+ghost use Rattle.std.specs.Prelude.{◌≡◌, ◌<◌, ◌≤◌, ◌↔◌, IsTrue, length, map, option_map, IfOk, MatchResult};
+ghost use Rattle.xdr_types.specs.Form.{kind_at};
+ghost use Rattle.xdr_types.specs.Forms.{form_of, name_of, lists_of};
+ghost use Rattle.xdr_types.specs.Faults.{IsWellFormed};
+ghost use Rattle.xdr_types.specs.Refused.{IsRefused};
+ghost use Rattle.xdr_types.specs.Sound.{IsSound};
+ghost use Rattle.xdr_types.specs.Height.{AreHigher};
+ghost use Rattle.xdr_types.specs.Laws.{EachKindHasAValue, EachPartIsKnown};
+ghost use Rattle.std.specs.Cmp.{partial_equiv_from_equiv};
+ghost use Rattle.xdr_types.specs.Alike.{same_lists, lists_equivalence};
+ghost use Rattle.xdr_types.specs.Named.{basic, named, place_named};
+
+use crate::fault::{Flaw, SchemaFault};
+use crate::faults::{first_in_kinds, first_in_names};
+use crate::heights::lowest_without_height;
+use crate::kind::{Kind, KindId};
+use std::alloc::{AllocError, Global};
+use std::marker::Model;
+use std::string::String;
+
+/// Kinds that name one another by place, and names for some of them: well formed and sound.
+#[derive(Debug, Drop)]
+pub struct Schema {
+    kinds: Vec<Kind>,
+    names: Vec<(String, KindId)>,
+}
+
+impl Model for Schema {
+    ghost use Rattle.xdr_types.specs.Form.{Lists};
+
+    ghost Value = { Lists };
+
+    ghost use Rattle.std.specs.Prelude.{map};
+    ghost use Rattle.xdr_types.specs.Forms.{form_of, lists_of};
+    ghost use Rattle.xdr_types.specs.Sound.{IsSound};
+    ghost use Rattle.xdr_types.specs.Faults.{IsWellFormed};
+    ghost use Rattle.xdr_types.specs.Height.{AreHigher};
+
+    ghost view = { λ s. lists_of s.kinds.items s.names.items };
+
+    ghost invariant = { λ s. record { well_formed : IsWellFormed (lists_of s.kinds.items s.names.items); sound : IsSound (map form_of s.kinds.items); higher : AreHigher (map form_of s.kinds.items) } };
+}
+
+impl PartialEq for Schema {
+    ghost eq = { same_lists };
+
+    ghost laws = { partial_equiv_from_equiv lists_equivalence };
+
+    fn eq(&self, other: &Schema) -> bool {
+        self.kinds == other.kinds && self.names == other.names
+    }
+}
+
+impl Eq for Schema {
+    ghost laws = { lists_equivalence };
+}
+
+/// Whether two schemas are the same, `a == b`: they are, exactly where their lists are.
+pub fn is_same_schema(a: &Schema, b: &Schema) -> bool
+    ensures { IsTrue result ↔ (a.now ≡ b.now) }
+{
+    a == b
+}
+
+impl Schema {
+    /// The schema of the two lists, where they are well formed and sound: each kind is a legal one, and has a finite
+    /// value (RFC 4506 sections 4.3 to 4.19).
+    ///
+    /// Else the first fault in this order: more than 1024 kinds; each kind by its place, the first of `UnknownKind`,
+    /// `ZeroSize`, `VoidMember`, `BadDiscriminant`, `CaseTwice`, `CaseNotLegal`, `EmptyList`, `NameTwice`; each name in
+    /// turn, the first of `UnknownKind`, `VoidMember`, `NameTwice`; `NoFiniteValue` at the lowest place that has none.
+    /// `NoMemory` comes where a growth was refused.
+    pub fn build(
+        alloc: Global,
+        kinds: Vec<Kind>,
+        names: Vec<(String, KindId)>,
+    ) -> Result<Schema, SchemaFault>
+        ensures { MatchResult result
+            (λ s. (s ≡ lists_of kinds.items names.items) × IsWellFormed s × IsSound s.kinds)
+            (λ e. IsRefused (lists_of kinds.items names.items) e) }
+    {
+        if kinds.len() > 1024 {
+            return Err(SchemaFault {
+                why: Flaw::TooManyKinds,
+                place: 0,
+            });
+        }
+        if let Some(fault) = first_in_kinds(&kinds) {
+            return Err(fault);
+        }
+        if let Some(fault) = first_in_names(&kinds, &names) {
+            return Err(fault);
+        }
+        match lowest_without_height(alloc, &kinds) {
+            Ok(None) => Ok(Schema { kinds, names }),
+            Ok(Some(place)) => Err(SchemaFault {
+                why: Flaw::NoFiniteValue,
+                place,
+            }),
+            Err(_) => Err(SchemaFault {
+                why: Flaw::NoMemory,
+                place: 0,
+            }),
+        }
+    }
+
+    /// How many kinds there are, 1024 at most. Its contract has what is known of every schema.
+    pub fn len(&self) -> usize
+        ensures value { result ≡ length self.now.kinds }
+        ensures well_formed { IsWellFormed self.now }
+        ensures sound { IsSound self.now.kinds }
+        ensures higher { AreHigher self.now.kinds }
+        ensures known { EachPartIsKnown self.now.kinds }
+        ensures valued { EachKindHasAValue self.now.kinds }
+    {
+        self.kinds.len()
+    }
+
+    /// The basic schema, of the kinds without declarations (RFC 4506 sections 4.1, 4.2, 4.4, 4.5, 4.10, 4.11, 4.16): `int`,
+    /// `unsigned`, `hyper`, `unsigned-hyper`, `bool`, a void kind without a name, `opaque` and `string`, at places 0 to
+    /// 7. An error is want of memory.
+    pub fn basic(alloc: Global) -> Result<Schema, AllocError>
+        ensures { IfOk result (λ s. s ≡ basic) }
+    {
+        let kinds = basic_kinds(alloc)?;
+        let names = basic_names(alloc)?;
+        Schema::build(alloc, kinds, names).map_err(|_| AllocError)
+    }
+
+    /// The kind that a name names; none where the schema does not have the name.
+    pub fn named(&self, name: &str) -> Option<KindId>
+        ensures { option_map (λ k. k.place) result ≡ place_named self.now.names name.now }
+    {
+        for entry in &self.names {
+            if entry.0.as_str() == name {
+                return Some(entry.1);
+            }
+        }
+        None
+    }
+
+    /// Whether the schema has the kind: its place is below `len`.
+    pub fn has(&self, id: KindId) -> bool
+        ensures { IsTrue result ↔ id.place < length self.now.kinds }
+    {
+        (id.place as usize) < self.kinds.len()
+    }
+
+    /// The kinds.
+    pub(crate) fn kinds(&self) -> &Vec<Kind>
+        ensures { map form_of result.now.items ≡ self.now.kinds }
+    {
+        &self.kinds
+    }
+
+    /// The kind at a place that the schema has.
+    pub fn kind(&self, id: KindId) -> &Kind
+        requires has { id.place < length self.now.kinds }
+        ensures { form_of result.now ≡ kind_at self.now.kinds id.place }
+    {
+        &self.kinds[id.place as usize]
+    }
+}
+
+// The kinds at places 0 to 7.
+fn basic_kinds(alloc: Global) -> Result<Vec<Kind>, AllocError>
+    ensures { IfOk result (λ v. map form_of v.items ≡ basic.kinds) }
+{
+    Ok(vec![in alloc;
+        Kind::Int,
+        Kind::Unsigned,
+        Kind::Hyper,
+        Kind::UnsignedHyper,
+        Kind::Bool,
+        Kind::Nothing,
+        Kind::OpaqueUpTo { max: 4294967295 },
+        Kind::Text { max: 4294967295 },
+    ]?)
+}
+
+// The names of all but the void kind.
+fn basic_names(alloc: Global) -> Result<Vec<(String, KindId)>, AllocError>
+    ensures { IfOk result (λ v. map name_of v.items ≡ basic.names) }
+{
+    let mut names = Vec::new(alloc);
+    names.push((String::from_str(alloc, "int")?, KindId { place: 0 }))?;
+    names.push((String::from_str(alloc, "unsigned")?, KindId { place: 1 }))?;
+    names.push((String::from_str(alloc, "hyper")?, KindId { place: 2 }))?;
+    names.push((
+        String::from_str(alloc, "unsigned-hyper")?,
+        KindId { place: 3 },
+    ))?;
+    names.push((String::from_str(alloc, "bool")?, KindId { place: 4 }))?;
+    names.push((String::from_str(alloc, "opaque")?, KindId { place: 6 }))?;
+    names.push((String::from_str(alloc, "string")?, KindId { place: 7 }))?;
+    Ok(names)
+}
