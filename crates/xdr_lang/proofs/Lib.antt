@@ -1,0 +1,2 @@
+pub mod Distinctly
+pub mod Refusing
