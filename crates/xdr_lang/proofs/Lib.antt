@@ -1,2 +1,0 @@
-pub mod Distinctly
-pub mod Refusing

@@ -1,7 +1,0 @@
-use Rattle.std.proofs.Common.{◌≡◌, drop, []}
-use Rattle.xdr_lang.specs.Views.{texts}
-use Rattle.xdr_lang.specs.Distinct.{repeats}
-use Rattle.xdr_lang.proofs.distinct.repeats.Given as goal
-
-abbrev pub invariant-loop-name : goal.invariant-loop-name
-invariant-loop-name l = repeats (texts l.before.items) (texts (drop l.name-index l.names)) ≡ repeats [] (texts l.names)

@@ -1,4 +1,0 @@
-pub mod Ascii
-pub mod Numbers
-pub mod Pieces
-pub mod Whole

@@ -1,6 +1,0 @@
-pub mod Tokens
-pub mod Fails
-pub mod Bytes
-pub mod Keywords
-pub mod Text
-pub mod Pieces
