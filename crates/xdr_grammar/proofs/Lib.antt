@@ -1,0 +1,7 @@
+pub mod Loop
+pub mod Leaves
+pub mod Found
+pub mod Again
+pub mod FoundAll
+pub mod AgainAll
+pub mod Outlining

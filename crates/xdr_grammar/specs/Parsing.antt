@@ -1,0 +1,41 @@
+-- What a step of the parser does.
+use Rattle.std.specs.Prelude.{ℕ, List, [], ◌∷◌, Option, Result}
+use Rattle.xdr_tokens.specs.declared.fault.Fault.{Fault}
+use Rattle.xdr_tokens.specs.declared.token.Token.{Token}
+use Rattle.xdr_tokens.specs.declared.token.Token.TheVariants as code
+use Rattle.xdr_grammar.specs.declared.reading.Parser.{Parser}
+use Rattle.xdr_tokens.specs.Fails.{Gives}
+use Rattle.xdr_tokens.specs.Tokens.{Lexeme, lexemes}
+use Rattle.xdr_grammar.specs.Outline.{Outline}
+use Rattle.xdr_grammar.specs.View.{outline_of}
+use Rattle.xdr_grammar.specs.Reading.{Reader, Definer}
+
+-- the tokens that are left
+abbrev pub left : Parser → List Lexeme
+left p = lexemes p.rest.now
+
+-- what was declared so far
+abbrev pub so_far : Parser → Outline
+so_far p = outline_of p.outline
+
+-- A step that reads tokens and declares nothing.
+abbrev pub Takes : {X Y : Type 0} → (X → Y) → Result X Fault → (List Lexeme → Option (Y × List Lexeme)) → Parser → Parser → Type 0
+Takes view result reader old new = Gives (λ x. (view x, left new)) result (reader (left old))
+
+-- A step that reads tokens and may declare something.
+abbrev pub Reads : {X Y : Type 0} → (X → Y) → Result X Fault → Reader Y → Parser → Parser → Type 0
+Reads view result reader old new = Gives (λ x. (view x, so_far new, left new)) result (reader (so_far old) (left old))
+
+abbrev pub Defines : {X : Type 0} → Result X Fault → Definer → Parser → Parser → Type 0
+Defines result reader old new = Gives (λ _. (so_far new, left new)) result (reader (so_far old) (left old))
+
+abbrev pub place_of : Token → ℕ
+place_of (code.Word w left) = left
+place_of (code.Name n left) = left
+place_of (code.Number n left) = left
+place_of (code.Sign m left) = left
+
+-- the place of the token in front
+abbrev pub place_in : List Token → ℕ
+place_in [] = 0
+place_in (t ∷ ts) = place_of t

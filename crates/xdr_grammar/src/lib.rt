@@ -1,0 +1,12 @@
+//! The grammar of the XDR language: what definitions spell, and what they declare
+//! (RFC 4506 section 6.3, RFC 5531 section 12.2).
+#![tactic(auto)]
+
+mod outline;
+mod reading;
+
+pub use outline::{
+    Arm, Basic, Draft, Entry, Field, Late, Member, Name, Number, Outline, Part, Procedure, Program,
+    Shape, Version,
+};
+pub use reading::read_outline;

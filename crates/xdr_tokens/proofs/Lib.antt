@@ -1,0 +1,4 @@
+pub mod Ascii
+pub mod Numbers
+pub mod Pieces
+pub mod Whole

@@ -1,0 +1,6 @@
+pub mod Tokens
+pub mod Fails
+pub mod Bytes
+pub mod Keywords
+pub mod Text
+pub mod Pieces
