@@ -15,7 +15,7 @@ use Rattle.xdr_codec.specs.declared.fault.Reason.TheVariants as reason
 use Rattle.xdr_codec.specs.Refused.{MayFollow, IsRefused}
 use Rattle.xdr_codec.specs.Reading.{HasNoHead}
 use Rattle.xdr_codec.specs.Fronts.{HasNoNumber, HasNoContent, is_count, is_case, are_zeros}
-use Rattle.xdr_codec.proofs.Heads.{split, lengths}
+use Rattle.xdr_types.proofs.Unique.{split, lengths}
 
 both : (a b : Bool) → a && b ≡ true → (a ≡ true) × (b ≡ true)
 both true b h = (refl, h)

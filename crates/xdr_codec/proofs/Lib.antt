@@ -1,4 +1,3 @@
-pub mod Heads
 pub mod Arms
 pub mod Composed
 pub mod Fed

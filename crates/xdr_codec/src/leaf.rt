@@ -6,12 +6,11 @@ ghost use Rattle.xdr_types.specs.View.{tree};
 ghost use Rattle.xdr_codec.specs.Reading.{IsLeaf, HasNoHead};
 ghost use Rattle.xdr_codec.specs.Refused.{IsRefused};
 
-use crate::choice::is_number_of;
 use crate::fault::Reason;
 use crate::units::{Stop, content, count, flag, two_units, unit};
 use std::alloc::Global;
 use std::string::String;
-use xdr_types::Value;
+use xdr_types::{Value, is_number_of};
 
 /// An integer: one unit (RFC 4506 section 4.1).
 pub fn read_int<'a>(bytes: &'a [u8]) -> Result<(Value, &'a [u8]), Stop>

@@ -1,7 +1,6 @@
 // The encoding of XDR values, and their decoding.
 #![tactic(auto)]
 
-mod choice;
 mod decoder;
 mod decoding;
 mod encoding;

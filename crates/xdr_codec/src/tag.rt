@@ -7,10 +7,9 @@ ghost use Rattle.xdr_types.specs.Numbers.{num4};
 ghost use Rattle.xdr_codec.specs.Fronts.{HasNoNumber, is_case};
 ghost use Rattle.xdr_codec.specs.Refused.{IsRefused};
 
-use crate::choice::is_number_of;
 use crate::fault::Reason;
 use crate::units::{Stop, unit};
-use xdr_types::{Arm, Kind, KindId, Member, Schema, part_under};
+use xdr_types::{Arm, Kind, KindId, Member, Schema, is_number_of, part_under};
 
 /// A discriminant and the member that it picks.
 pub fn read_tag<'s, 'a>(

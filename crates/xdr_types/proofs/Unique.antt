@@ -58,7 +58,7 @@ legal_tag _ a b h k e = absurd (false≢true h)
 
 module _ (kinds : List Form) where
   -- heads of one kind before anything
-  one_head : (f : Form) (g i : Head) (x y : List ℕ) → is_legal kinds f g ≡ true → is_legal kinds f i ≡ true → own f g ++ x ≡ own f i ++ y → (g ≡ i) × (x ≡ y)
+  pub one_head : (f : Form) (g i : Head) (x y : List ℕ) → is_legal kinds f g ≡ true → is_legal kinds f i ≡ true → own f g ++ x ≡ own f i ++ y → (g ≡ i) × (x ≡ y)
   one_head form.int (value.int a) (value.int b) x y h k e = let front = num4-front a b x y e in (ap value.int (signed4 a b h k front.0), front.1)
   one_head form.int (value.int a) _ x y h k e = absurd (false≢true k)
   one_head form.int _ _ x y h k e = absurd (false≢true h)

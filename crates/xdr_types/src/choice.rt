@@ -33,8 +33,8 @@ pub fn is_tag_number(kinds: &Vec<Kind>, id: KindId, number: i64) -> bool
     }
 }
 
-// Whether a member has the number.
-fn is_number_of(members: &Vec<(String, i32)>, number: i64) -> bool
+/// Whether a member of an enumeration has the number (RFC 4506 section 4.3).
+pub fn is_number_of(members: &Vec<(String, i32)>, number: i64) -> bool
     ensures { result ≡ is_numbered (map constant_of members.now.items) number }
 {
     if number < -2147483648 || number > 2147483647 {

@@ -19,7 +19,7 @@ mod room;
 mod schema;
 mod value;
 
-pub use choice::{is_legal_tag, part_under};
+pub use choice::{is_legal_tag, is_number_of, part_under};
 pub use equal::is_equal;
 pub use fault::{Flaw, SchemaFault};
 pub use kind::{Arm, Kind, KindId, Member};

@@ -1,0 +1,5 @@
+pub mod Laws
+pub mod Line
+pub mod Lines
+pub mod Seen
+pub mod Shown

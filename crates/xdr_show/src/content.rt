@@ -1,0 +1,73 @@
+// Content as text.
+ghost use Rattle.std.specs.Prelude.{◌≡◌, ◌++◌, [], ◌∷◌, OnOk, codes, flat_map};
+ghost use Rattle.hex.specs.Hex.{encode_lower};
+ghost use Rattle.xdr_show.specs.Line.{escaped, is_plain, quoted};
+
+use std::alloc::AllocError;
+
+// The digits of hexadecimal.
+const DIGITS: &[u8; 16] = b"0123456789abcdef";
+
+/// The bytes of a text between quotation marks.
+pub fn push_quoted(out: &mut Vec<u8>, bytes: &[u8]) -> Result<(), AllocError>
+    ensures { OnOk result (out.new.items ≡ out.old.items ++ quoted bytes.now) }
+{
+    out.extend_from_slice(b"\"")?;
+    push_escaped_bytes(out, bytes)?;
+    out.extend_from_slice(b"\"")
+}
+
+fn push_escaped_bytes(out: &mut Vec<u8>, bytes: &[u8]) -> Result<(), AllocError>
+    ensures { OnOk result (out.new.items ≡ out.old.items ++ flat_map escaped bytes.now) }
+{
+    for byte in bytes {
+        push_escaped(out, *byte)?;
+    }
+    Ok(())
+}
+
+// A byte of a text.
+fn push_escaped(out: &mut Vec<u8>, byte: u8) -> Result<(), AllocError>
+    ensures { OnOk result (out.new.items ≡ out.old.items ++ escaped byte) }
+{
+    if is_plain(byte) {
+        out.extend_from_slice(&[byte])
+    } else {
+        out.extend_from_slice(b"\\x")?;
+        push_pair(out, byte)
+    }
+}
+
+// Whether a byte of a text stands for itself.
+fn is_plain(byte: u8) -> bool
+    ensures { result ≡ is_plain byte }
+{
+    byte >= 0x20 && byte <= 0x7e && byte != b'"' && byte != b'\\'
+}
+
+/// Bytes as hexadecimal.
+pub fn push_hexadecimal(out: &mut Vec<u8>, bytes: &[u8]) -> Result<(), AllocError>
+    ensures { OnOk result (out.new.items ≡ out.old.items ++ (codes "0x" ++ encode_lower bytes.now)) }
+{
+    out.extend_from_slice(b"0x")?;
+    push_pairs(out, bytes)
+}
+
+fn push_pairs(out: &mut Vec<u8>, bytes: &[u8]) -> Result<(), AllocError>
+    ensures { OnOk result (out.new.items ≡ out.old.items ++ encode_lower bytes.now) }
+{
+    for byte in bytes {
+        push_pair(out, *byte)?;
+    }
+    Ok(())
+}
+
+// A byte as two digits of hexadecimal.
+#[tactic(auto, unfolding(hex::specs::Hex::encode_with))]
+fn push_pair(out: &mut Vec<u8>, byte: u8) -> Result<(), AllocError>
+    ensures { OnOk result (out.new.items ≡ out.old.items ++ encode_lower (byte ∷ [])) }
+{
+    let high = DIGITS[(byte / 16) as usize];
+    let low = DIGITS[(byte % 16) as usize];
+    out.extend_from_slice(&[high, low])
+}

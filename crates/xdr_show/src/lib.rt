@@ -1,0 +1,11 @@
+//! A value of XDR (RFC 4506) as lines of text: one for each part of its layout, in the order of its bytes.
+#![tactic(auto)]
+
+mod content;
+mod laws;
+mod line;
+mod number;
+mod shown;
+
+pub use laws::lines_are_of_the_layout;
+pub use shown::show;
