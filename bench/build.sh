@@ -10,4 +10,4 @@ cp "$here"/c/*.c "$to/c/"; cp "$here/x/bench.x" "$to/gen/"
 (cd "$to/gen" && rm -f bench.h bench_xdr.c && rpcgen -h bench.x >bench.h && rpcgen -c bench.x >bench_xdr.c)
 cd "$to"
 for p in stdio_check loop_xdr; do gcc -O2 -w -I/usr/include/tirpc c/$p.c gen/bench_xdr.c -o $p -ltirpc; done
-gcc -O2 -w -I/usr/include/tirpc c/records.c -o records -ltirpc
+for p in records loop_registry; do gcc -O2 -w -I/usr/include/tirpc c/$p.c -o $p -ltirpc; done

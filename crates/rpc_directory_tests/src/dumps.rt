@@ -1,12 +1,12 @@
 // The rows as values.
-use crate::made::{add, started};
+use crate::made::{EVERY_HOST, add, before, started};
 use rpc_directory::directory_schema;
 use std::alloc::{AllocError, Global};
 use std::test::Fail;
 use xdr_types::{KindId, Limits, Schema, Value, fits};
 
 // The numbers that stand at a place in each row of a dump.
-pub fn numbers(alloc: Global, list: &Value, place: usize) -> Result<Vec<u32>, AllocError> {
+fn numbers(alloc: Global, list: &Value, place: usize) -> Result<Vec<u32>, AllocError> {
     let mut found = Vec::new(alloc);
     let mut rest = list;
     for _ in 0..1025 {
@@ -49,17 +49,62 @@ fn fits_at(schema: &Schema, place: u32, value: &Value) -> bool {
     }
 }
 
+fn bytes(alloc: Global, text: &[u8]) -> Result<Value, AllocError> {
+    Ok(Value::Bytes(text.to_vec(alloc)?))
+}
+
+// A row of the registry's own as an `rpcb`.
+fn own_row(alloc: Global, vers: u32) -> Result<Vec<Value>, AllocError> {
+    Ok(vec![in alloc;
+        Value::Unsigned(100000),
+        Value::Unsigned(vers),
+        bytes(alloc, b"tcp")?,
+        bytes(alloc, EVERY_HOST)?,
+        bytes(alloc, b"superuser")?,
+    ]?)
+}
+
+// A row over `tcp` as a `mapping`.
+fn port_row(alloc: Global, prog: u32, vers: u32, port: u32) -> Result<Vec<Value>, AllocError> {
+    Ok(vec![in alloc;
+        Value::Unsigned(prog),
+        Value::Unsigned(vers),
+        Value::Unsigned(6),
+        Value::Unsigned(port),
+    ]?)
+}
+
 #[test]
 fn dumps_what_is_left(rt: HostRuntime) -> Result<(), Fail> {
     let alloc = rt.alloc();
     let mut directory = started(alloc)?;
     assert!(rt; directory.unset(100000, 3, b"", b"superuser"));
     let dump = directory.dump(alloc)?;
-    let versions = numbers(alloc, &dump, 1)?;
-    assert!(rt; versions.as_slice() == [2, 4].as_slice());
+    let last = before(alloc, own_row(alloc, 4)?, Value::Maybe(None))?;
+    let left = before(alloc, own_row(alloc, 2)?, last)?;
+    assert!(rt; dump == left);
     let schema = directory_schema(alloc)?;
     assert!(rt; schema.named("rpcblist") == Some(KindId { place: 14 }));
     assert!(rt; fits_at(&schema, 14, &dump));
+    Ok(())
+}
+
+#[test]
+fn dumps_each_port(rt: HostRuntime) -> Result<(), Fail> {
+    let alloc = rt.alloc();
+    let mut directory = started(alloc)?;
+    let done = directory.set_port(alloc, 536870912, 1, 6, 2049, b"unknown")?;
+    assert!(rt; done);
+    let dump = directory.dump_ports(alloc)?;
+    let mut list = before(
+        alloc,
+        port_row(alloc, 536870912, 1, 2049)?,
+        Value::Maybe(None),
+    )?;
+    for vers in [4, 3, 2] {
+        list = before(alloc, port_row(alloc, 100000, vers, 111)?, list)?;
+    }
+    assert!(rt; dump == list);
     Ok(())
 }
 
@@ -73,8 +118,6 @@ fn dumps_ports_over_ipv4(rt: HostRuntime) -> Result<(), Fail> {
     let ports = directory.dump_ports(alloc)?;
     let programs = numbers(alloc, &ports, 0)?;
     assert!(rt; programs.as_slice() == [100000, 100000, 100000].as_slice());
-    let ends = numbers(alloc, &ports, 3)?;
-    assert!(rt; ends.as_slice() == [111, 111, 111].as_slice());
     let schema = directory_schema(alloc)?;
     assert!(rt; schema.named("pmaplist") == Some(KindId { place: 18 }));
     assert!(rt; fits_at(&schema, 18, &ports));

@@ -4,12 +4,14 @@
 #[cfg(test)]
 mod dumps;
 #[cfg(test)]
-mod entries;
-#[cfg(test)]
 mod made;
 #[cfg(test)]
 mod memory;
 #[cfg(test)]
 mod random;
 #[cfg(test)]
+mod refused;
+#[cfg(test)]
 mod rows;
+#[cfg(test)]
+mod schema;

@@ -1,19 +1,26 @@
 // The registry that the tests begin with, and what they ask of a row.
 use rpc_directory::{Directory, NoMemory, Row};
-use std::alloc::Global;
+use std::alloc::{AllocError, Global};
 use std::hash::{BuildHasherDefault, DefaultHasher};
+use xdr_types::Value;
 
+/// A registry with the standard hasher.
 pub type Registry = Directory<BuildHasherDefault<DefaultHasher>>;
 
-// The address of port 111 at every host.
+/// The address of port 111 at every host.
 pub const EVERY_HOST: &[u8] = b"0.0.0.0.0.111";
 
-// The registry's own rows, at port 111.
+/// The registry's own rows, at port 111.
 pub fn started(alloc: Global) -> Result<Registry, NoMemory> {
     Directory::start(alloc, BuildHasherDefault::new(), 111)
 }
 
-// Adds a row at port 111 of every host.
+/// A registry without rows.
+pub fn empty(alloc: Global) -> Registry {
+    Directory::new(alloc, BuildHasherDefault::new())
+}
+
+/// Adds a row at port 111 of every host.
 pub fn add(
     alloc: Global,
     directory: &mut Registry,
@@ -23,12 +30,32 @@ pub fn add(
     directory.set(alloc, prog, 1, netid, EVERY_HOST, b"unknown")
 }
 
-// Whether a row has this key.
+/// Whether a row has this key.
 pub fn is_at(row: Option<&Row>, prog: u32, vers: u32, netid: &[u8]) -> bool {
     row.is_some_and(|row| row.prog == prog && row.vers == vers && row.netid.as_slice() == netid)
 }
 
-// Whether a row has this address and owner.
+/// Whether a row has this address and owner.
 pub fn has(row: Option<&Row>, address: &[u8], owner: &[u8]) -> bool {
     row.is_some_and(|row| row.address.as_slice() == address && row.owner.as_slice() == owner)
+}
+
+fn is_own(directory: &Registry, index: u32, vers: u32) -> bool {
+    is_at(directory.row(index), 100000, vers, b"tcp")
+        && has(directory.row(index), EVERY_HOST, b"superuser")
+}
+
+/// Whether the registry has its own three rows and no others: versions 2, 3 and 4 in this order.
+pub fn has_own_rows(directory: &Registry) -> bool {
+    is_own(directory, 0, 2)
+        && is_own(directory, 1, 3)
+        && is_own(directory, 2, 4)
+        && directory.rows() == 3
+        && directory.row(3).is_none()
+}
+
+/// One more row before a list.
+pub fn before(alloc: Global, row: Vec<Value>, rest: Value) -> Result<Value, AllocError> {
+    let node = Value::Group(vec![in alloc; Value::Group(row), rest]?);
+    Ok(Value::Maybe(Some(Box::new(alloc, node)?)))
 }

@@ -1,22 +1,15 @@
 // What each call answers on named rows.
-use crate::made::{EVERY_HOST, Registry, add, has, is_at, started};
-use rpc_directory::{Directory, NoMemory, Uaddr, read_uaddr, write_uaddr};
+use crate::made::{EVERY_HOST, Registry, add, empty, has, has_own_rows, is_at, started};
+use rpc_directory::{NoMemory, Row, Uaddr, read_uaddr, write_uaddr};
 use std::alloc::Global;
-use std::hash::BuildHasherDefault;
 use std::test::Fail;
-
-fn is_own(directory: &Registry, index: u32, vers: u32) -> bool {
-    is_at(directory.row(index), 100000, vers, b"tcp")
-        && has(directory.row(index), EVERY_HOST, b"superuser")
-}
 
 #[test]
 fn starts_with_its_own_rows(rt: HostRuntime) -> Result<(), Fail> {
     let directory = started(rt.alloc())?;
-    assert!(rt; is_own(&directory, 0, 2) && is_own(&directory, 1, 3) && is_own(&directory, 2, 4));
-    assert!(rt; directory.rows() == 3 && directory.row(3).is_none());
-    let empty: Registry = Directory::new(rt.alloc(), BuildHasherDefault::new());
-    assert!(rt; empty.rows() == 0);
+    assert!(rt; has_own_rows(&directory));
+    let nothing = empty(rt.alloc());
+    assert!(rt; nothing.rows() == 0 && nothing.row(0).is_none());
     Ok(())
 }
 
@@ -32,6 +25,11 @@ fn set_long(
     directory.set(alloc, 7, 1, &netid, &address, b"unknown")
 }
 
+// Whether a row has a netid and an address of these lengths.
+fn has_length(row: Option<&Row>, netid: usize, address: usize) -> bool {
+    row.is_some_and(|row| row.netid.len() == netid && row.address.len() == address)
+}
+
 #[test]
 fn refuses_long_texts(rt: HostRuntime) -> Result<(), Fail> {
     let alloc = rt.alloc();
@@ -42,6 +40,7 @@ fn refuses_long_texts(rt: HostRuntime) -> Result<(), Fail> {
     }
     let done = set_long(alloc, &mut directory, 64, 256)?;
     assert!(rt; done && directory.rows() == 4);
+    assert!(rt; has_length(directory.row(3), 64, 256));
     let again = set_long(alloc, &mut directory, 64, 1)?;
     assert!(rt; !again && directory.rows() == 4);
     Ok(())
@@ -94,31 +93,37 @@ fn holds_1024_rows(rt: HostRuntime) -> Result<(), Fail> {
         assert!(rt; done);
     }
     let more = add(alloc, &mut directory, 1021, b"tcp")?;
-    assert!(rt; !more && directory.rows() == 1024);
+    assert!(rt; !more && directory.rows() == 1024 && directory.row(1024).is_none());
+    assert!(rt; is_at(directory.row(1023), 1020, 1, b"tcp"));
+    assert!(rt; directory.getaddr(1021, 1, b"tcp").is_empty());
     Ok(())
-}
-
-fn port_of(text: &[u8]) -> Option<u16> {
-    match read_uaddr(text) {
-        Some(address) => Some(address.port),
-        None => None,
-    }
 }
 
 #[test]
 fn reads_and_writes_addresses(rt: HostRuntime) -> Result<(), Fail> {
-    assert!(rt; port_of(b"255.255.255.255.255.255") == Some(65535));
-    assert!(rt; port_of(EVERY_HOST) == Some(111));
+    let highest = Uaddr {
+        host: [255; 4],
+        port: 65535,
+    };
+    let every = Uaddr {
+        host: [0; 4],
+        port: 111,
+    };
+    for (address, text) in [
+        (highest, b"255.255.255.255.255.255".as_slice()),
+        (every, EVERY_HOST),
+    ] {
+        assert!(rt; read_uaddr(text) == Some(address));
+        let written = write_uaddr(rt.alloc(), address)?;
+        assert!(rt; written.as_slice() == text);
+    }
     for text in [
         b"1.2.3.4.0.256".as_slice(),
         b"01.2.3.4.0.1",
         b"1.2.3.4.5",
         b"",
     ] {
-        assert!(rt; port_of(text).is_none());
+        assert!(rt; read_uaddr(text).is_none());
     }
-    let (host, port) = ([255; 4], 65535);
-    let highest = write_uaddr(rt.alloc(), Uaddr { host, port })?;
-    assert!(rt; highest.as_slice() == b"255.255.255.255.255.255".as_slice());
     Ok(())
 }

@@ -1,26 +1,44 @@
 // The kinds and names of the registry's types.
-ghost use Rattle.std.specs.Prelude.{◌≡◌, ◌++◌, ◌∷◌, [], IfOk, map, string_bytes, OnOk};
+ghost use Rattle.std.specs.Prelude.{◌≡◌, ◌++◌, ◌∷◌, [], IfOk, MatchResult, map, string_bytes, OnOk};
 ghost use Rattle.xdr_types.specs.Form as form;
-ghost use Rattle.xdr_types.specs.Forms.{form_of, part_of_member, name_of};
+ghost use Rattle.xdr_types.specs.Forms.{form_of, part_of_member, name_of, lists_of};
+ghost use Rattle.xdr_types.specs.Faults.{IsWellFormed, fault};
+ghost use Rattle.xdr_types.specs.Sound.{IsSound};
+ghost use Rattle.xdr_types.specs.declared.fault.Flaw.TheVariants as flaw;
 ghost use Rattle.xdr_types.specs.Named.{basic, named};
 ghost use Rattle.rpc_dumps.specs.Dir.{dir_kinds, dir_lists, rpcb, mapping};
 
 use std::alloc::{AllocError, Global};
 use std::string::String;
-use xdr_types::{Kind, KindId, Member, Schema};
+use xdr_types::{Kind, KindId, Member, Schema, SchemaFault};
 
 /// The schema of the registry's types (RFC 1833 sections 2.1 and 3.1), after the basic kinds: places 8 to 10 the strings of
 /// `rpcb`, 11 `rpcb`, 12 an optional node, 13 `rp__list`, 14 `rpcblist`, 15 `mapping`, 16 an optional node, 17 `pm__list`,
-/// 18 `pmaplist`. Its only error is want of memory.
+/// 18 `pmaplist`. The lists are well formed and sound, so that the only error is want of memory.
+#[tactic(auto, using(crate::proofs::Legal::well_formed, crate::proofs::Legal::sound))]
 pub fn directory_schema(alloc: Global) -> Result<Schema, AllocError>
-    ensures { IfOk result (λ s. s ≡ dir_lists) }
+    ensures schema { IfOk result (λ s. s ≡ dir_lists) }
+    ensures well_formed { IsWellFormed dir_lists }
+    ensures sound { IsSound dir_kinds }
 {
     let kinds = dir_kinds(alloc)?;
     let names = dir_names(alloc)?;
-    match Schema::build(alloc, kinds, names) {
+    match build_lists(alloc, kinds, names) {
         Ok(schema) => Ok(schema),
         Err(_) => Err(AllocError),
     }
+}
+
+// The schema of the registry's lists, in which no fault is found: a refusal is want of memory.
+fn build_lists(
+    alloc: Global,
+    kinds: Vec<Kind>,
+    names: Vec<(String, KindId)>,
+) -> Result<Schema, SchemaFault>
+    requires { lists_of kinds.items names.items ≡ dir_lists }
+    ensures { MatchResult result (λ s. s ≡ dir_lists) (λ e. e ≡ fault flaw.NoMemory 0) }
+{
+    Schema::build(alloc, kinds, names)
 }
 
 // The names of the basic kinds.

@@ -1,14 +1,33 @@
 // The key under which a row stands.
-ghost use Rattle.std.specs.Prelude.{◌≡◌, ◌≤◌, ◌-◌, ◌++◌, replicate, length};
+ghost use Rattle.std.specs.Prelude.{◌≡◌, ◌≤◌, ◌-◌, ◌++◌, ◌∷◌, replicate, length};
+ghost use Rattle.std.specs.Hash as fed;
+ghost use Rattle.std.specs.Cmp.Rules.{hashing};
+ghost use Rattle.std.proofs.Common.{rules};
 ghost use Rattle.rpc_rows.specs.Keys.{key_of};
 
+use std::hash::{Hash, Hasher};
+
 /// A program, a version and a netid of at most 64 bytes, which stands in 64 bytes beside its length: so a key takes no memory.
-#[derive(Debug, Clone, Copy, PartialEq, Eq, Hash)]
+#[derive(Debug, Clone, Copy, PartialEq, Eq)]
 pub struct Key {
     prog: u32,
     vers: u32,
     name: [u8; 64],
     len: u8,
+}
+
+impl Hash for Key {
+    ghost hash_input = { λ k. fed.u32 k.prog ++ (fed.u32 k.vers ++ (k.name ∷ fed.u8 k.len)) };
+
+    ghost respects_eq = { Prim.search (hashing, rules) };
+
+    // The whole name in one write, which costs far less than a write for each of its bytes.
+    fn hash<H: Hasher>(&self, state: &mut H) {
+        state.write_u32(self.prog);
+        state.write_u32(self.vers);
+        state.write(&self.name);
+        state.write_u8(self.len);
+    }
 }
 
 impl Key {

@@ -2,8 +2,16 @@
 //! (RFC 4506 section 6.3, RFC 5531 section 12.2).
 #![tactic(auto)]
 
+mod adding;
+mod bodies;
+mod declarators;
+mod definitions;
+mod enums;
+mod nesting;
 mod outline;
+mod programs;
 mod reading;
+mod values;
 
 pub use outline::{
     Arm, Basic, Draft, Entry, Field, Late, Member, Name, Number, Outline, Part, Procedure, Program,

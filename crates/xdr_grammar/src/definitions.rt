@@ -1,0 +1,81 @@
+// Definitions, one after the other.
+ghost use Rattle.std.specs.Prelude.{length};
+ghost use Rattle.xdr_tokens.specs.Fails.{Gives};
+ghost use Rattle.xdr_grammar.specs.Reading.{declaration_with, specifier_at, const_at, typedef_with, defined_with, definition_at, definitions_at};
+ghost use Rattle.xdr_grammar.specs.Parsing.{left, so_far, Defines};
+
+use crate::outline::{Field, Late};
+use crate::reading::{MAX_DEPTH, Parser};
+use xdr_tokens::{Fault, Keyword, Mark};
+
+impl<'t, 'a> Parser<'t, 'a> {
+    /// What follows `const`.
+    #[tactic(auto, unfolding(crate::specs::Reading::const_at))]
+    fn constant(&mut self) -> Result<(), Fault>
+        ensures { Defines result const_at self.old self.new }
+    {
+        let name = self.name()?;
+        let number = self.numbered()?;
+        self.declare(name, Late::Given(number), true)
+    }
+
+    /// What follows `typedef`.
+    #[tactic(auto, unfolding(crate::specs::Reading::typedef_with))]
+    fn typedef(&mut self) -> Result<(), Fault>
+        ensures { Defines result (typedef_with (declaration_with (specifier_at 32))) self.old self.new }
+    {
+        let field = self.declaration(MAX_DEPTH)?;
+        self.expect(Mark::Semicolon)?;
+        self.add_type(field)
+    }
+
+    /// An enum, a struct or a union with its name.
+    #[tactic(auto, unfolding(crate::specs::Reading::defined_with))]
+    fn defined(&mut self) -> Result<(), Fault>
+        ensures { Defines result (defined_with (declaration_with (specifier_at 31))) self.old self.new }
+    {
+        let Some(kind) = self.body_word() else {
+            return Err(self.unexpected());
+        };
+        let name = self.name()?;
+        let part = self.body(kind, self.start, MAX_DEPTH - 1)?;
+        self.expect(Mark::Semicolon)?;
+        self.add_type(Field { name, part })
+    }
+
+    /// A definition.
+    #[tactic(auto, unfolding(crate::specs::Reading::definition_at))]
+    fn definition(&mut self) -> Result<(), Fault>
+        ensures { Defines result definition_at self.old self.new }
+    {
+        self.start = self.here();
+        if self.word(Keyword::Const) {
+            return self.constant();
+        }
+        if self.word(Keyword::Typedef) {
+            return self.typedef();
+        }
+        if self.word(Keyword::Program) {
+            return self.program();
+        }
+        self.defined()
+    }
+
+    /// The definitions, to the end of the tokens.
+    #[tactic(auto, unfolding(crate::specs::Reading::definitions_at))]
+    pub(crate) fn definitions(&mut self) -> Result<(), Fault>
+        ensures { Gives (λ _. so_far self.new) result (definitions_at (length (left self.old)) (so_far self.old) (left self.old)) }
+    {
+        for _ in 0..self.rest.len() {
+            if self.rest.is_empty() {
+                return Ok(());
+            }
+            self.definition()?;
+        }
+        if self.rest.is_empty() {
+            Ok(())
+        } else {
+            Err(self.unexpected())
+        }
+    }
+}

@@ -1,0 +1,76 @@
+// Where bodies of structs, unions and enums begin, and which one is one too many.
+ghost use Rattle.std.specs.Prelude.{◌≡◌, Some, None, IfSome};
+ghost use Rattle.xdr_grammar.specs.Reading.{body_word_at};
+ghost use Rattle.xdr_grammar.specs.Parsing.{left, so_far};
+
+use crate::outline::BodyKind;
+use crate::reading::Parser;
+use xdr_tokens::{Fault, Keyword, Mark, Token};
+
+impl<'t, 'a> Parser<'t, 'a> {
+    /// The word that begins a body.
+    #[tactic(auto, unfolding(crate::specs::Reading::body_word_at))]
+    pub(crate) fn body_word(&mut self) -> Option<BodyKind>
+        ensures some { IfSome result (λ k. body_word_at (left self.old) ≡ Some (k, left self.new)) }
+        ensures none { result ≡ None → body_word_at (left self.old) ≡ None }
+        ensures same { result ≡ None → left self.new ≡ left self.old }
+        ensures made { so_far self.new ≡ so_far self.old }
+    {
+        if self.word(Keyword::Enum) {
+            return Some(BodyKind::Enum);
+        }
+        if self.word(Keyword::Struct) {
+            return Some(BodyKind::Struct);
+        }
+        if self.word(Keyword::Union) {
+            return Some(BodyKind::Union);
+        }
+        None
+    }
+
+    /// The switch declaration of a union whose body is one too many, where no body stands in it.
+    fn flat_declaration(&mut self) -> Result<(), Fault> {
+        let start = self.here();
+        if self.word(Keyword::Opaque) {
+            self.opaque(start)?;
+            return Ok(());
+        }
+        if self.word(Keyword::String) {
+            self.text(start)?;
+            return Ok(());
+        }
+        let part = self.basic()?;
+        self.declared(part, start)?;
+        Ok(())
+    }
+
+    /// The mark in front has to be a `{`, which stays.
+    fn brace(&self) -> Result<(), Fault> {
+        match self.rest {
+            [Token::Sign(Mark::OpenBrace, _), ..] => Ok(()),
+            _ => Err(self.unexpected()),
+        }
+    }
+
+    /// Goes on to the first `{` of a body that is one too many. A body in the switch declaration of a
+    /// union is inside the union's, and its `{` comes first.
+    pub(crate) fn to_the_brace(&mut self, kind: BodyKind) -> Result<(), Fault> {
+        let mut kind = kind;
+        for _ in 0..self.rest.len() {
+            if kind != BodyKind::Union {
+                break;
+            }
+            self.expect_word(Keyword::Switch)?;
+            self.expect(Mark::OpenRound)?;
+            match self.body_word() {
+                Some(inner) => kind = inner,
+                None => {
+                    self.flat_declaration()?;
+                    self.expect(Mark::CloseRound)?;
+                    break;
+                }
+            }
+        }
+        self.brace()
+    }
+}
