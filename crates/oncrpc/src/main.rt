@@ -1,6 +1,7 @@
-//! `oncrpc` checks XDR values and marks ONC RPC records.
+//! `oncrpc` checks and shows XDR values and marks ONC RPC records.
 #![tactic(auto)]
 
+mod files;
 mod run;
 mod words;
 

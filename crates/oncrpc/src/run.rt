@@ -1,6 +1,7 @@
-//! The program over the system: words and standard streams.
+//! The program over the system: words, files and standard streams.
 ghost use Rattle.std.specs.Prelude.{◌≤◌};
 
+use crate::files::FileOpener;
 use crate::words::{WordsFault, no_memory, read_words};
 use oncrpc_tasks::{Failure, Task, report, task_over};
 use std::alloc::Global;
@@ -15,6 +16,7 @@ pub fn run(rt: &HostRuntime) -> u8
         Ok(task) => task_over(
             rt.alloc(),
             &task,
+            &mut FileOpener::new(rt),
             &mut FromRead::new(rt.stdin()),
             &mut IntoWrite::new(rt.stdout()),
             &mut IntoWrite::new(rt.stderr()),

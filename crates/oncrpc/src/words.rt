@@ -42,6 +42,7 @@ fn first_task(alloc: Global) -> Result<Task, AllocError>
 {
     Ok(Task::Check(ValueTask {
         name: String::from_str(alloc, "opaque")?,
+        types: None,
         hex: true,
         depth: DEPTH,
         bytes: BYTES,
@@ -77,6 +78,7 @@ fn task_of(alloc: Global, words: &[String]) -> Result<Task, Error> {
     let matches = command(alloc)?.try_get_matches_from(words)?;
     match matches.subcommand() {
         Some(("check", options)) => Ok(Task::Check(value_task(alloc, options)?)),
+        Some(("show", options)) => Ok(Task::Show(value_task(alloc, options)?)),
         Some((_, options)) => Ok(Task::Records(records_task(options))),
         None => Ok(first_task(alloc)?),
     }
@@ -85,6 +87,10 @@ fn task_of(alloc: Global, words: &[String]) -> Result<Task, Error> {
 fn value_task(alloc: Global, options: &ArgMatches<'_>) -> Result<ValueTask, AllocError> {
     Ok(ValueTask {
         name: String::from_str(alloc, options.get_str("name").unwrap_or("opaque"))?,
+        types: match options.get_str("types") {
+            Some(file) => Some(String::from_str(alloc, file)?),
+            None => None,
+        },
         hex: options.get_flag("hex"),
         depth: options.get_one::<u32>("depth").unwrap_or(DEPTH),
         bytes: options.get_one::<u32>("bytes").unwrap_or(BYTES),
@@ -100,21 +106,38 @@ fn records_task(options: &ArgMatches<'_>) -> RecordsTask {
 
 fn command<'a>(alloc: Global) -> Result<Command<'a>, AllocError> {
     Command::new(alloc, "oncrpc")
-        .about("Checks XDR values and marks ONC RPC records")
+        .about("Checks and shows XDR values and marks ONC RPC records")
         .no_binary_name(true)
         .bin_name("oncrpc")?
         .subcommand_required(true)
         .subcommand(check_command(alloc)?)?
+        .subcommand(show_command(alloc)?)?
         .subcommand(records_command(alloc)?)
 }
 
 fn check_command<'a>(alloc: Global) -> Result<Command<'a>, AllocError> {
+    let check = Command::new(alloc, "check").about(
+        "Reads one value from standard input and prints the outcome",
+    );
+    with_value_options(alloc, check)
+}
+
+fn show_command<'a>(alloc: Global) -> Result<Command<'a>, AllocError> {
+    let show = Command::new(alloc, "show").about(
+        "Reads one value from standard input and prints its lines and the outcome",
+    );
+    with_value_options(alloc, show)
+}
+
+// The options of a value that is read.
+fn with_value_options<'a>(alloc: Global, command: Command<'a>) -> Result<Command<'a>, AllocError> {
     let name = option(alloc, "name", "NAME", "The name of the value's kind").required(true);
+    let types = option(alloc, "types", "FILE", "The file that declares it");
     let depth = number(alloc, "depth", "The greatest depth of a value").default_value("4096");
     let bytes = number(alloc, "bytes", "The most bytes of a value").default_value("16777216");
-    Command::new(alloc, "check")
-        .about("Reads one value from standard input and prints the outcome")
+    command
         .arg(name)?
+        .arg(types)?
         .arg(hex_flag(alloc))?
         .arg(depth)?
         .arg(bytes)
@@ -160,6 +183,22 @@ mod tests {
         Ok(read_words(alloc, all))
     }
 
+    fn value(
+        alloc: Global,
+        name: &str,
+        hex: bool,
+        depth: u32,
+        bytes: u32,
+    ) -> Result<ValueTask, AllocError> {
+        Ok(ValueTask {
+            name: String::from_str(alloc, name)?,
+            types: None,
+            hex,
+            depth,
+            bytes,
+        })
+    }
+
     fn check(
         alloc: Global,
         name: &str,
@@ -167,12 +206,13 @@ mod tests {
         depth: u32,
         bytes: u32,
     ) -> Result<Task, AllocError> {
-        Ok(Task::Check(ValueTask {
-            name: String::from_str(alloc, name)?,
-            hex,
-            depth,
-            bytes,
-        }))
+        Ok(Task::Check(value(alloc, name, hex, depth, bytes)?))
+    }
+
+    fn typed(alloc: Global, name: &str, file: &str, hex: bool) -> Result<ValueTask, AllocError> {
+        let mut task = value(alloc, name, hex, 4096, 16777216)?;
+        task.types = Some(String::from_str(alloc, file)?);
+        Ok(task)
     }
 
     #[test]
@@ -205,15 +245,37 @@ mod tests {
     }
 
     #[test]
+    fn reads_files_and_show(rt: HostRuntime) -> Result<(), Fail> {
+        let alloc = rt.alloc();
+        let given = ["check", "--types", "a.x", "--name", "int"];
+        assert!(rt; read(alloc, &given)? == Ok(Task::Check(typed(alloc, "int", "a.x", false)?)));
+        let given = ["show", "--types=b/c.x", "--name", "1.2.3.result", "--hex"];
+        assert!(rt;
+            read(alloc, &given)? == Ok(Task::Show(typed(alloc, "1.2.3.result", "b/c.x", true)?))
+        );
+        let given = ["show", "--name", "list", "--types", ""];
+        assert!(rt; read(alloc, &given)? == Ok(Task::Show(typed(alloc, "list", "", false)?)));
+        let given = ["show", "--name", "int", "--depth", "1", "--bytes", "4"];
+        assert!(rt; read(alloc, &given)? == Ok(Task::Show(value(alloc, "int", false, 1, 4)?)));
+        Ok(())
+    }
+
+    #[test]
     fn refuses_words(rt: HostRuntime) -> Result<(), Fail> {
         let alloc = rt.alloc();
         let rows = [
             (["check"].as_slice(), 2),
             (["nope"].as_slice(), 2),
-            (["show", "--name", "int"].as_slice(), 2),
+            (["show"].as_slice(), 2),
+            (["show", "--types", "a.x"].as_slice(), 2),
+            (["records", "--types", "a.x"].as_slice(), 2),
             (["info", "localhost", "111"].as_slice(), 2),
             (["serve", "--port", "1", "--count", "1"].as_slice(), 2),
-            (["check", "--name", "int", "--types", "a.x"].as_slice(), 2),
+            (["check", "--name", "int", "--types"].as_slice(), 2),
+            (
+                ["show", "--name", "int", "--types", "a", "--types", "b"].as_slice(),
+                2,
+            ),
             (
                 ["check", "--name", "int", "--depth", "4294967296"].as_slice(),
                 2,
@@ -224,6 +286,7 @@ mod tests {
             (["records", "--limit"].as_slice(), 2),
             (["--help"].as_slice(), 0),
             (["check", "--help"].as_slice(), 0),
+            (["show", "--help"].as_slice(), 0),
             (["help", "records"].as_slice(), 0),
         ];
         for (words, status) in rows {

@@ -1,1 +1,4 @@
 pub mod Begins
+pub mod Procedures
+pub mod Questions
+pub mod Texts

@@ -2,7 +2,9 @@ pub mod Checked
 pub mod Hexadecimal
 pub mod Input
 pub mod Lines
+pub mod Naming
 pub mod Records
 pub mod Right
+pub mod Sources
 pub mod Status
 pub mod Tasks

@@ -1,32 +1,39 @@
 -- Which answer is right for an input (RFC 4506: the bytes of a value, and what follows them).
-use Rattle.std.specs.Prelude.{◌≡◌, ℕ, ◌<◌, ◌≤◌, Bool, true, false, List, [], ◌++◌, length, Option, None, Some, Ok, ⊤}
+use Rattle.std.specs.Prelude.{◌≡◌, ℕ, ◌<◌, ◌≤◌, Bool, true, false, List, [], ◌++◌, length, Option, None, Some, Ok, ⊤, if◌then◌else◌}
 use Rattle.hex.specs.Hex.{decode_of}
 use Rattle.xdr_types.specs.Form.{Form}
 use Rattle.xdr_types.specs.Tree.{Tree}
 use Rattle.xdr_types.specs.Spelling.{bytes_of}
 use Rattle.xdr_types.specs.Within.{Bounds, FitsWithin}
+use Rattle.xdr_show.specs.Shown.{show_text}
 use Rattle.xdr_codec.specs.declared.fault.Reason.{Reason}
 use Rattle.xdr_codec.specs.declared.fault.Reason.TheVariants as reason
 use Rattle.oncrpc_tasks.specs.declared.answer.Answer.{Answer}
 use Rattle.oncrpc_tasks.specs.declared.answer.Answer.TheVariants as answer
 use Rattle.oncrpc_tasks.specs.Hexadecimal.{digits, IsBadHex}
 
--- what is asked: the kinds, the place of the value's kind, and the limits
+-- what is asked: the kinds, the place of the value's kind, the limits, and whether the value's lines are to be shown
 pub record Question : Type 0 where
   pub kinds : List Form
   pub place : ℕ
   pub limits : Bounds
+  pub shows : Bool
 
--- The bytes begin with a value within the limits, and then these follow.
-pub record BeginsWithValue (q : Question) (bytes : List ℕ) (used : ℕ) (more : List ℕ) : Type 0 where
+-- what is printed of a value before the line of its outcome
+abbrev pub lines_of : Question → Tree → List ℕ
+lines_of q v = if q.shows then show_text q.kinds q.place v else []
+
+-- The bytes begin with a value within the limits, of which this is shown, and then these follow.
+pub record BeginsWithValue (q : Question) (bytes : List ℕ) (used : ℕ) (more shown : List ℕ) : Type 0 where
   pub value : Tree
   pub fits : FitsWithin q.kinds q.place q.limits value
   pub joined : bytes ≡ bytes_of q.kinds q.place value ++ more
   pub counted : used ≡ length (bytes_of q.kinds q.place value)
+  pub lines : shown ≡ lines_of q value
 
 -- The bytes begin with no value within the limits.
 abbrev pub HasNoValue : Question → List ℕ → Type 0
-HasNoValue q bytes = (used : ℕ) (more : List ℕ) → BeginsWithValue q bytes used more → ⊥
+HasNoValue q bytes = (used : ℕ) (more shown : List ℕ) → BeginsWithValue q bytes used more shown → ⊥
 
 -- A value that the end of the input cuts is refused at that end. Every other refusal stands whatever bytes follow.
 abbrev pub IsRefusal : Question → List ℕ → Reason → ℕ → Type 0
@@ -34,21 +41,21 @@ IsRefusal q bytes reason.NoMemory at = ⊥
 IsRefusal q bytes reason.Truncated at = HasNoValue q bytes × (length bytes ≤ q.limits.bytes → at ≡ length bytes)
 IsRefusal q bytes _ at = (more : List ℕ) → HasNoValue q (bytes ++ more)
 
--- the answer is right for these bytes
-abbrev pub IsRight : Question → List ℕ → Answer → Type 0
-IsRight q bytes (answer.Whole used) = BeginsWithValue q bytes used []
-IsRight q bytes (answer.MoreFollows used) = (more : List ℕ) × (0 < length more) × BeginsWithValue q bytes used more
-IsRight q bytes (answer.Refused f) = IsRefusal q bytes f.why f.at
-IsRight q bytes _ = ⊥
+-- The answer is right for these bytes, and so is what is shown before it: of a refusal nothing.
+abbrev pub IsRight : Question → List ℕ → Answer → (shown : List ℕ) → Type 0
+IsRight q bytes (answer.Whole used) shown = BeginsWithValue q bytes used [] shown
+IsRight q bytes (answer.MoreFollows used) shown = (more : List ℕ) × (0 < length more) × BeginsWithValue q bytes used more shown
+IsRight q bytes (answer.Refused f) shown = IsRefusal q bytes f.why f.at × (shown ≡ [])
+IsRight q bytes _ shown = ⊥
 
 -- The answer is right for a text of hexadecimal. Too long is decided first, white space counted.
-abbrev pub IsRightForText : Question → List ℕ → Answer → Type 0
-IsRightForText q text answer.HexTooLong = 1048576 < length text
-IsRightForText q text answer.BadHex = (length text ≤ 1048576) × IsBadHex text
-IsRightForText q text a = (length text ≤ 1048576) × ((bytes : List ℕ) × (decode_of (digits text) ≡ Ok bytes) × IsRight q bytes a)
+abbrev pub IsRightForText : Question → List ℕ → Answer → (shown : List ℕ) → Type 0
+IsRightForText q text answer.HexTooLong shown = (1048576 < length text) × (shown ≡ [])
+IsRightForText q text answer.BadHex shown = (length text ≤ 1048576) × IsBadHex text × (shown ≡ [])
+IsRightForText q text a shown = (length text ≤ 1048576) × ((bytes : List ℕ) × (decode_of (digits text) ≡ Ok bytes) × IsRight q bytes a shown)
 
 -- the answer is right for an input, read as hexadecimal or as it is, where its bytes are told
-abbrev pub IsRightFor : Question → Bool → Option (List ℕ) → Answer → Type 0
-IsRightFor q hex None a = ⊤
-IsRightFor q true (Some text) a = IsRightForText q text a
-IsRightFor q false (Some bytes) a = IsRight q bytes a
+abbrev pub IsRightFor : Question → Bool → Option (List ℕ) → Answer → (shown : List ℕ) → Type 0
+IsRightFor q hex None a shown = ⊤
+IsRightFor q true (Some text) a shown = IsRightForText q text a shown
+IsRightFor q false (Some bytes) a shown = IsRight q bytes a shown

@@ -1,29 +1,72 @@
 -- What the words of a task ask for, and what doing it has done.
-use Rattle.std.specs.Prelude.{◌≡◌, ℕ, ◌<◌, List, length, Option, Some, string_bytes}
-use Rattle.xdr_types.specs.Named.{basic, place_named}
+use Rattle.std.specs.Prelude.{◌≡◌, ◌⊎◌, ℕ, ◌<◌, Bool, true, false, List, length, Option, None, String, string_bytes}
+use Rattle.std.specs.declared.alloc.Global.{Global}
 use Rattle.xdr_types.specs.Within.{AreBounds}
+use Rattle.xdr_lang.specs.Declarations.{Declared}
 use Rattle.oncrpc_tasks.specs.declared.task.Task.{Task}
 use Rattle.oncrpc_tasks.specs.declared.task.Task.TheVariants as task
 use Rattle.oncrpc_tasks.specs.declared.task.ValueTask.{ValueTask}
+use Rattle.oncrpc_tasks.specs.declared.failure.Failure.TheVariants as failure
+use Rattle.oncrpc_tasks.specs.declared.question.Question as declared
+use Rattle.oncrpc_tasks.specs.declared.unusable.Unusable.{Unusable}
+use Rattle.oncrpc_tasks.specs.declared.unusable.Unusable.TheVariants as unusable
 use Rattle.oncrpc_tasks.specs.Checked.{Answers}
+use Rattle.oncrpc_tasks.specs.Naming.{Names}
 use Rattle.oncrpc_tasks.specs.Records.{Done, RefusedBytes}
 use Rattle.oncrpc_tasks.specs.Right.{Question}
+use Rattle.oncrpc_tasks.specs.Sources.{IsDeclared, IsTold, told_text}
 
--- The name is one of the basic schema, the question is of its kind, and the limits are in their ranges.
-pub record Asks (what : ValueTask) (q : Question) : Type 0 where
-  pub kinds : q.kinds ≡ basic.kinds
-  pub named : place_named basic.names (string_bytes what.name) ≡ Some q.place
+-- With this text of declarations the name has a kind, the question is of that kind, and the limits are in their ranges.
+pub record Asks (text : List ℕ) (what : ValueTask) (shows : Bool) (q : Question) : Type 0 where
+  pub declared : Declared
+  pub source : IsDeclared what.types text declared
+  pub kinds : q.kinds ≡ declared.schema.kinds
+  pub named : Names (string_bytes what.name) declared q.place
   pub known : q.place < length q.kinds
   pub in_range : AreBounds what.depth what.bytes
   pub limits : q.limits ≡ record { depth = what.depth; bytes = what.bytes }
+  pub lines : q.shows ≡ shows
+
+-- A question is asked, by a text that is told, and was answered.
+pub record IsAnswered (told : List ℕ → Option (List ℕ)) (what : ValueTask) (shows : Bool) (left taken taken' : Option (List ℕ)) (status : ℕ) : Type 0 where
+  pub text : List ℕ
+  pub is_told : IsTold (told_text told what.types) text
+  pub question : Question
+  pub asked : Asks text what shows question
+  pub answered : Answers question what.hex left taken taken' status
+
+-- No question is asked, by a text that is told.
+pub record AsksNothing (told : List ℕ → Option (List ℕ)) (what : ValueTask) : Type 0 where
+  pub text : List ℕ
+  pub is_told : IsTold (told_text told what.types) text
+  pub none : (shows : Bool) (q : Question) → Asks text what shows q → ⊥
 
 -- The task was done, with this status: 0 or 1.
-abbrev pub Does : Task → (left left' taken taken' : Option (List ℕ)) → ℕ → Type 0
-Does (task.Check what) left left' taken taken' status = (q : Question) × Asks what q × Answers q what.hex left taken taken' status
-Does (task.Records what) left left' taken taken' status =
+abbrev pub Does : (List ℕ → Option (List ℕ)) → Task → (left left' taken taken' : Option (List ℕ)) → ℕ → Type 0
+Does told (task.Check what) left left' taken taken' status = IsAnswered told what false left taken taken' status
+Does told (task.Show what) left left' taken taken' status = IsAnswered told what true left taken taken' status
+Does told (task.Records what) left left' taken taken' status =
     (status ≡ 0 → Done what.limit what.hex left left' taken taken') × (status ≡ 1 → RefusedBytes what.limit what.hex left left' taken taken')
 
--- The name is not there or the limits are out of range; the limit on records is.
-abbrev pub IsUnusable : Task → Type 0
-IsUnusable (task.Check what) = (q : Question) → Asks what q → ⊥
-IsUnusable (task.Records what) = 2147483647 < what.limit
+-- The declarations, the name or the limits are refused; the limit on records is out of range.
+abbrev pub IsUnusable : (List ℕ → Option (List ℕ)) → Task → Type 0
+IsUnusable told (task.Check what) = AsksNothing told what
+IsUnusable told (task.Show what) = AsksNothing told what
+IsUnusable told (task.Records what) = 2147483647 < what.limit
+
+-- The question is asked, by a text that is told.
+pub record AsksFor (told : List ℕ → Option (List ℕ)) (what : ValueTask) (question : declared.Question) : Type 0 where
+  pub text : List ℕ
+  pub is_told : IsTold (told_text told what.types) text
+  pub asked : (shows : Bool) → Asks text what shows (record { kinds = question.schema.kinds; place = question.kind.place; limits = question.limits; shows = shows })
+
+-- why there is no question: what the words say, a file that could not be read, or want of memory
+abbrev pub HasNoQuestion : (List ℕ → Option (List ℕ)) → ValueTask → Unusable → Type 0
+HasNoQuestion told what (unusable.Failed f) = (f ≡ failure.Read) ⊎ (f ≡ failure.NoMemory)
+HasNoQuestion told what _ = AsksNothing told what
+
+-- the file that the words name
+abbrev pub file_of : Task → Option (String Global)
+file_of (task.Check what) = what.types
+file_of (task.Show what) = what.types
+file_of (task.Records what) = None

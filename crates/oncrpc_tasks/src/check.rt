@@ -1,19 +1,22 @@
-//! Checks one value, and prints what the input holds.
-ghost use Rattle.std.specs.Prelude.{◌≡◌, ◌≢◌, ◌⊎◌, ℕ, ◌<◌, ◌≤◌, Bool, Option, List, length, IfOk, IfErr, OnOk, IsErrOf};
-ghost use Rattle.std.specs.Io.KnownBytes.{Appends, Keeps};
+//! Reads one value, and prints what the input holds, and the value's lines where they are asked for.
+ghost use Rattle.std.specs.Prelude.{◌≡◌, ◌≢◌, ◌⊎◌, ℕ, ◌++◌, ◌<◌, ◌≤◌, [], true, false, Bool, Option, List, length, IfOk, IfErr, OnOk, IsErrOf};
+ghost use Rattle.std.specs.Io.KnownBytes.{Appends};
+ghost use Rattle.xdr_types.specs.View.{tree};
+ghost use Rattle.xdr_types.specs.Within.{FitsWithin};
 ghost use Rattle.xdr_io.specs.Told.{Counts};
 ghost use Rattle.oncrpc_tasks.specs.Checked.{Answers, AnswersInPart};
 ghost use Rattle.oncrpc_tasks.specs.Input.{BeginsInput, Gives};
 ghost use Rattle.oncrpc_tasks.specs.Lines.{line};
-ghost use Rattle.oncrpc_tasks.specs.Right.{IsRight, IsRightFor};
+ghost use Rattle.oncrpc_tasks.specs.Right.{IsRight, IsRightFor, lines_of};
 
 use super::answer::{Answer, line_of, status_of};
 use super::failure::{Failure, report};
 use super::given::{Given, given_over};
-use std::alloc::Global;
+use std::alloc::{AllocError, Global};
 use xdr_codec::{Reason, decode};
 use xdr_io::{Sink, Source, write_whole};
-use xdr_types::{KindId, Limits, Schema};
+use xdr_show::show;
+use xdr_types::{KindId, Limits, Schema, Value};
 
 /// Checks that the input begins with a value of the kind, and prints one line: `ok N`, or `ok N, more follows` where
 /// at least one more byte can be read, status 0; `refused WHY at N`, status 1. With `hex` the input is a text of
@@ -30,7 +33,7 @@ pub fn check_over<I: Source, O: Sink, F: Sink>(
     hex: bool,
 ) -> u8
     requires { kind.place < length schema.now.kinds }
-    ensures answers { result ≤ 1 → Answers (record { kinds = schema.now.kinds; place = kind.place; limits = limits })
+    ensures answers { result ≤ 1 → Answers (record { kinds = schema.now.kinds; place = kind.place; limits = limits; shows = false })
         hex (I.left input.old) (O.taken output.old) (O.taken output.new) result }
     ensures none_failed { result ≤ 1 → Counts 0 (I.failures input.old) (I.failures input.new) × Counts 0 (O.failures output.old) (O.failures output.new) }
     ensures silent { result ≤ 1 → faults.new ≡ faults.old }
@@ -38,16 +41,75 @@ pub fn check_over<I: Source, O: Sink, F: Sink>(
     ensures device { result ≡ 3 → Counts 1 (I.failures input.old) (I.failures input.new)
         ⊎ (Counts 1 (O.failures output.old) (O.failures output.new) ⊎ Counts 1048576 (I.reads input.old) (I.reads input.new)) }
     // What was printed before a device failed is nothing, or the beginning of the right line.
-    ensures in_part { result ≡ 3 → (output.new ≡ output.old) ⊎ AnswersInPart (record { kinds = schema.now.kinds; place = kind.place; limits = limits })
+    ensures in_part { result ≡ 3 → (output.new ≡ output.old) ⊎ AnswersInPart (record { kinds = schema.now.kinds; place = kind.place; limits = limits; shows = false })
         hex (I.left input.old) (O.taken output.old) (O.taken output.new) }
     ensures nothing { result ≡ 4 → output.new ≡ output.old }
 {
-    match print_answer(alloc, input, output, schema, kind, limits, hex) {
+    answer_over(
+        alloc, input, output, faults, schema, kind, limits, hex, false,
+    )
+}
+
+/// The same, and where the input begins with a value of the kind, the value's lines are printed before the line of
+/// its outcome. Nothing is printed before the outcome is known.
+pub fn show_over<I: Source, O: Sink, F: Sink>(
+    alloc: Global,
+    input: &mut I,
+    output: &mut O,
+    faults: &mut F,
+    schema: &Schema,
+    kind: KindId,
+    limits: Limits,
+    hex: bool,
+) -> u8
+    requires { kind.place < length schema.now.kinds }
+    ensures answers { result ≤ 1 → Answers (record { kinds = schema.now.kinds; place = kind.place; limits = limits; shows = true })
+        hex (I.left input.old) (O.taken output.old) (O.taken output.new) result }
+    ensures none_failed { result ≤ 1 → Counts 0 (I.failures input.old) (I.failures input.new) × Counts 0 (O.failures output.old) (O.failures output.new) }
+    ensures silent { result ≤ 1 → faults.new ≡ faults.old }
+    ensures status { (result ≤ 1) ⊎ ((result ≡ 3) ⊎ (result ≡ 4)) }
+    ensures device { result ≡ 3 → Counts 1 (I.failures input.old) (I.failures input.new)
+        ⊎ (Counts 1 (O.failures output.old) (O.failures output.new) ⊎ Counts 1048576 (I.reads input.old) (I.reads input.new)) }
+    // What was printed before a device failed is nothing, or the beginning of the right lines.
+    ensures in_part { result ≡ 3 → (output.new ≡ output.old) ⊎ AnswersInPart (record { kinds = schema.now.kinds; place = kind.place; limits = limits; shows = true })
+        hex (I.left input.old) (O.taken output.old) (O.taken output.new) }
+    ensures nothing { result ≡ 4 → output.new ≡ output.old }
+{
+    answer_over(
+        alloc, input, output, faults, schema, kind, limits, hex, true,
+    )
+}
+
+fn answer_over<I: Source, O: Sink, F: Sink>(
+    alloc: Global,
+    input: &mut I,
+    output: &mut O,
+    faults: &mut F,
+    schema: &Schema,
+    kind: KindId,
+    limits: Limits,
+    hex: bool,
+    shows: bool,
+) -> u8
+    requires { kind.place < length schema.now.kinds }
+    ensures answers { result ≤ 1 → Answers (record { kinds = schema.now.kinds; place = kind.place; limits = limits; shows = shows })
+        hex (I.left input.old) (O.taken output.old) (O.taken output.new) result }
+    ensures none_failed { result ≤ 1 → Counts 0 (I.failures input.old) (I.failures input.new) × Counts 0 (O.failures output.old) (O.failures output.new) }
+    ensures silent { result ≤ 1 → faults.new ≡ faults.old }
+    ensures status { (result ≤ 1) ⊎ ((result ≡ 3) ⊎ (result ≡ 4)) }
+    ensures device { result ≡ 3 → Counts 1 (I.failures input.old) (I.failures input.new)
+        ⊎ (Counts 1 (O.failures output.old) (O.failures output.new) ⊎ Counts 1048576 (I.reads input.old) (I.reads input.new)) }
+    ensures in_part { result ≡ 3 → (output.new ≡ output.old) ⊎ AnswersInPart (record { kinds = schema.now.kinds; place = kind.place; limits = limits; shows = shows })
+        hex (I.left input.old) (O.taken output.old) (O.taken output.new) }
+    ensures nothing { result ≡ 4 → output.new ≡ output.old }
+{
+    match print_answer(alloc, input, output, schema, kind, limits, hex, shows) {
         Ok(answer) => status_of(answer),
         Err(failure) => report(failure, faults),
     }
 }
 
+// What is shown and the line of the answer go out as one piece.
 fn print_answer<I: Source, O: Sink>(
     alloc: Global,
     input: &mut I,
@@ -56,41 +118,45 @@ fn print_answer<I: Source, O: Sink>(
     kind: KindId,
     limits: Limits,
     hex: bool,
+    shows: bool,
 ) -> Result<Answer, Failure>
     requires { kind.place < length schema.now.kinds }
-    ensures right { IfOk result (λ a. IsRightFor (record { kinds = schema.now.kinds; place = kind.place; limits = limits }) hex (I.left input.old) a) }
-    ensures written { IfOk result (λ a. Appends (O.taken output.old) (O.taken output.new) (line a)) }
+    ensures right { IfOk result (λ a. (shown : List ℕ) × IsRightFor (record { kinds = schema.now.kinds; place = kind.place; limits = limits; shows = shows }) hex (I.left input.old) a shown
+        × Appends (O.taken output.old) (O.taken output.new) (shown ++ line a)) }
     ensures none_failed { OnOk result (Counts 0 (I.failures input.old) (I.failures input.new) × Counts 0 (O.failures output.old) (O.failures output.new)) }
     ensures read { IsErrOf result Failure.Read → Counts 1 (I.failures input.old) (I.failures input.new) }
     ensures many { IsErrOf result Failure.TooManyReads → Counts 1048576 (I.reads input.old) (I.reads input.new) }
     ensures write { IsErrOf result Failure.Write → Counts 1 (O.failures output.old) (O.failures output.new) }
-    ensures in_part { IsErrOf result Failure.Write → AnswersInPart (record { kinds = schema.now.kinds; place = kind.place; limits = limits })
+    ensures in_part { IsErrOf result Failure.Write → AnswersInPart (record { kinds = schema.now.kinds; place = kind.place; limits = limits; shows = shows })
         hex (I.left input.old) (O.taken output.old) (O.taken output.new) }
     ensures nothing { IfErr result (λ f. f ≢ Failure.Write → output.new ≡ output.old) }
 {
     let given = given_over(alloc, input, limits.bytes() as usize, hex)?;
-    let answer = answer_given(alloc, schema, kind, limits, &given)?;
+    let (answer, mut text) = answer_given(alloc, schema, kind, limits, shows, &given)?;
     let line = line_of(alloc, answer)?;
-    write_whole(output, line.as_bytes())?;
+    text.extend_from_slice(line.as_bytes())?;
+    write_whole(output, &text)?;
     Ok(answer)
 }
 
+// The answer, and what is shown before its line.
 fn answer_given(
     alloc: Global,
     schema: &Schema,
     kind: KindId,
     limits: Limits,
+    shows: bool,
     given: &Given,
-) -> Result<Answer, Failure>
+) -> Result<(Answer, Vec<u8>), Failure>
     requires { kind.place < length schema.now.kinds }
-    ensures right { IfOk result (λ a. (hex : Bool) (told : Option (List ℕ)) → Gives hex limits.bytes told given.now
-        → IsRightFor (record { kinds = schema.now.kinds; place = kind.place; limits = limits }) hex told a) }
+    ensures right { IfOk result (λ r. (hex : Bool) (told : Option (List ℕ)) → Gives hex limits.bytes told given.now
+        → IsRightFor (record { kinds = schema.now.kinds; place = kind.place; limits = limits; shows = shows }) hex told r.0 r.1.items) }
     ensures memory { IfErr result (λ f. f ≡ Failure.NoMemory) }
 {
     match given {
-        Given::Bytes(bytes) => answer_of(alloc, schema, kind, limits, bytes),
-        Given::BadHex => Ok(Answer::BadHex),
-        Given::HexTooLong => Ok(Answer::HexTooLong),
+        Given::Bytes(bytes) => answer_of(alloc, schema, kind, limits, shows, bytes),
+        Given::BadHex => Ok((Answer::BadHex, Vec::new(alloc))),
+        Given::HexTooLong => Ok((Answer::HexTooLong, Vec::new(alloc))),
     }
 }
 
@@ -100,17 +166,43 @@ fn answer_of(
     schema: &Schema,
     kind: KindId,
     limits: Limits,
+    shows: bool,
     bytes: &[u8],
-) -> Result<Answer, Failure>
+) -> Result<(Answer, Vec<u8>), Failure>
     requires { kind.place < length schema.now.kinds }
-    ensures right { IfOk result (λ a. (whole : List ℕ) → BeginsInput limits.bytes whole bytes.now
-        → IsRight (record { kinds = schema.now.kinds; place = kind.place; limits = limits }) whole a) }
+    ensures right { IfOk result (λ r. (whole : List ℕ) → BeginsInput limits.bytes whole bytes.now
+        → IsRight (record { kinds = schema.now.kinds; place = kind.place; limits = limits; shows = shows }) whole r.0 r.1.items) }
     ensures memory { IfErr result (λ f. f ≡ Failure.NoMemory) }
 {
     match decode(alloc, schema, kind, limits, bytes) {
-        Ok((_, used)) if used < bytes.len() => Ok(Answer::MoreFollows { used }),
-        Ok((_, used)) => Ok(Answer::Whole { used }),
+        Ok((value, used)) => {
+            let shown = shown_of(alloc, schema, kind, limits, shows, &value)?;
+            if used < bytes.len() {
+                Ok((Answer::MoreFollows { used }, shown))
+            } else {
+                Ok((Answer::Whole { used }, shown))
+            }
+        }
         Err(fault) if fault.why == Reason::NoMemory => Err(Failure::NoMemory),
-        Err(fault) => Ok(Answer::Refused(fault)),
+        Err(fault) => Ok((Answer::Refused(fault), Vec::new(alloc))),
+    }
+}
+
+// The value's lines, where they are asked for.
+fn shown_of(
+    alloc: Global,
+    schema: &Schema,
+    kind: KindId,
+    limits: Limits,
+    shows: bool,
+    value: &Value,
+) -> Result<Vec<u8>, AllocError>
+    requires { FitsWithin schema.now.kinds kind.place limits (tree value.now) }
+    ensures { IfOk result (λ v. v.items ≡ lines_of (record { kinds = schema.now.kinds; place = kind.place; limits = limits; shows = shows }) (tree value.now)) }
+{
+    if shows {
+        show(alloc, schema, kind, value, limits)
+    } else {
+        Ok(Vec::new(alloc))
     }
 }

@@ -3,17 +3,21 @@
 
 mod answer;
 mod check;
+mod declared;
 mod failure;
 mod gathered;
 mod given;
 mod hexadecimal;
+mod named;
+mod open;
+mod question;
 mod records;
 mod task;
-#[cfg(test)]
-mod tests;
+mod unusable;
 
 pub use answer::Answer;
-pub use check::check_over;
+pub use check::{check_over, show_over};
 pub use failure::{Failure, report};
+pub use open::{MemoryOpener, Opener};
 pub use records::{MOST_LIMIT, Marking, records_over};
 pub use task::{RecordsTask, Task, ValueTask, task_over};

@@ -1,22 +1,24 @@
 //! A task that needs no network: what the words ask for, and how it is done.
 ghost use Rattle.std.specs.Prelude.{◌≡◌, ◌⊎◌, ◌≤◌};
 ghost use Rattle.xdr_io.specs.Told.{Counts};
-ghost use Rattle.oncrpc_tasks.specs.Checked.{Answers};
-ghost use Rattle.oncrpc_tasks.specs.Right.{Question};
-ghost use Rattle.oncrpc_tasks.specs.Tasks.{Asks, Does, IsUnusable};
+ghost use Rattle.oncrpc_tasks.specs.Sources.{FileFails};
+ghost use Rattle.oncrpc_tasks.specs.Tasks.{AsksNothing, Does, IsAnswered, IsUnusable, file_of};
 
-use super::check::check_over;
-use super::failure::{Failure, report};
+use super::check::{check_over, show_over};
+use super::open::Opener;
+use super::question::question_of;
 use super::records::records_over;
+use super::unusable::refuse;
 use std::alloc::Global;
-use xdr_io::{Sink, Source, write_whole};
-use xdr_types::{Limits, Schema};
+use xdr_io::{Sink, Source};
 
 /// What the words ask for.
 #[derive(Debug, PartialEq, Eq, Drop)]
 pub enum Task {
     /// Read one value, and print what the input holds.
     Check(ValueTask),
+    /// Read one value, and print its lines and what the input holds.
+    Show(ValueTask),
     /// Write a stream of records in its normal form.
     Records(RecordsTask),
 }
@@ -26,6 +28,8 @@ pub enum Task {
 pub struct ValueTask {
     /// The name of its kind.
     pub name: String,
+    /// The name of the text that declares it; none for the basic kinds alone.
+    pub types: Option<String>,
     /// Whether the input is a text of hexadecimal.
     pub hex: bool,
     /// The limit on depth.
@@ -43,67 +47,57 @@ pub struct RecordsTask {
     pub hex: bool,
 }
 
-/// Does the task, and gives the exit status. 2 is a name or limits that are refused, before anything is read: the
-/// name first. The others are those of `check_over` and `records_over`.
-pub fn task_over<I: Source, O: Sink, F: Sink>(
+/// Does the task, and gives the exit status. 2 is a text of declarations, a name or limits that are refused, in this
+/// order, before any input is read. A text that cannot be opened or read is 3. The others are those of `check_over`,
+/// `show_over` and `records_over`.
+pub fn task_over<P: Opener, I: Source, O: Sink, F: Sink>(
     alloc: Global,
     task: &Task,
+    opener: &mut P,
     input: &mut I,
     output: &mut O,
     faults: &mut F,
 ) -> u8
     ensures status { result ≤ 4 }
-    ensures done { result ≤ 1 → Does task.now (I.left input.old) (I.left input.new) (O.taken output.old) (O.taken output.new) result }
-    ensures unusable { result ≡ 2 → IsUnusable task.now }
+    ensures done { result ≤ 1 → Does (P.told opener.old) task.now (I.left input.old) (I.left input.new) (O.taken output.old) (O.taken output.new) result }
+    ensures unusable { result ≡ 2 → IsUnusable (P.told opener.old) task.now }
     ensures unread { result ≡ 2 → (input.new ≡ input.old) × (output.new ≡ output.old) }
-    ensures device { result ≡ 3 → Counts 1 (I.failures input.old) (I.failures input.new)
-        ⊎ (Counts 1 (O.failures output.old) (O.failures output.new) ⊎ Counts 1048576 (I.reads input.old) (I.reads input.new)) }
+    ensures device { result ≡ 3 → FileFails P.Text.left P.Text.failures (P.told opener.old) (file_of task.now) (P.failures opener.old) (P.failures opener.new)
+        ⊎ (Counts 1 (I.failures input.old) (I.failures input.new)
+        ⊎ (Counts 1 (O.failures output.old) (O.failures output.new) ⊎ Counts 1048576 (I.reads input.old) (I.reads input.new))) }
 {
     match task {
-        Task::Check(what) => check(alloc, what, input, output, faults),
+        Task::Check(what) => value_over(alloc, what, false, opener, input, output, faults),
+        Task::Show(what) => value_over(alloc, what, true, opener, input, output, faults),
         Task::Records(what) => records_over(alloc, input, output, faults, what.limit, what.hex),
     }
 }
 
-fn check<I: Source, O: Sink, F: Sink>(
+fn value_over<P: Opener, I: Source, O: Sink, F: Sink>(
     alloc: Global,
     what: &ValueTask,
+    shows: bool,
+    opener: &mut P,
     input: &mut I,
     output: &mut O,
     faults: &mut F,
 ) -> u8
     ensures status { result ≤ 4 }
-    ensures done { result ≤ 1 → (q : Question) × Asks what.now q
-        × Answers q what.now.hex (I.left input.old) (O.taken output.old) (O.taken output.new) result }
-    ensures unusable { result ≡ 2 → (q : Question) → Asks what.now q → ⊥ }
+    ensures done { result ≤ 1 → IsAnswered (P.told opener.old) what.now shows (I.left input.old) (O.taken output.old) (O.taken output.new) result }
+    ensures unusable { result ≡ 2 → AsksNothing (P.told opener.old) what.now }
     ensures unread { result ≡ 2 → (input.new ≡ input.old) × (output.new ≡ output.old) }
-    ensures device { result ≡ 3 → Counts 1 (I.failures input.old) (I.failures input.new)
-        ⊎ (Counts 1 (O.failures output.old) (O.failures output.new) ⊎ Counts 1048576 (I.reads input.old) (I.reads input.new)) }
+    ensures device { result ≡ 3 → FileFails P.Text.left P.Text.failures (P.told opener.old) what.now.types (P.failures opener.old) (P.failures opener.new)
+        ⊎ (Counts 1 (I.failures input.old) (I.failures input.new)
+        ⊎ (Counts 1 (O.failures output.old) (O.failures output.new) ⊎ Counts 1048576 (I.reads input.old) (I.reads input.new))) }
 {
-    let Ok(schema) = Schema::basic(alloc) else {
-        return report(Failure::NoMemory, faults);
+    let question = match question_of(alloc, what, opener) {
+        Ok(question) => question,
+        Err(why) => return refuse(alloc, why, &what.name, faults),
     };
-    let kind = match schema.named(&what.name) {
-        Some(kind) if schema.has(kind) => kind,
-        _ => return refuse_name(alloc, &what.name, faults),
-    };
-    let Some(limits) = Limits::new(what.depth, what.bytes) else {
-        let _ = write_whole(faults, b"limits refused\n");
-        return 2;
-    };
-    check_over(
-        alloc, input, output, faults, &schema, kind, limits, what.hex,
-    )
-}
-
-fn refuse_name<F: Sink>(alloc: Global, name: &str, faults: &mut F) -> u8
-    ensures status { (result ≡ 2) ⊎ (result ≡ 4) }
-{
-    match format!(in alloc; "no such name: {name}\n") {
-        Ok(line) => {
-            let _ = write_whole(faults, line.as_bytes());
-            2
-        }
-        Err(_) => report(Failure::NoMemory, faults),
+    let (schema, kind, limits) = (&question.schema, question.kind, question.limits);
+    if shows {
+        show_over(alloc, input, output, faults, schema, kind, limits, what.hex)
+    } else {
+        check_over(alloc, input, output, faults, schema, kind, limits, what.hex)
     }
 }

@@ -13,3 +13,4 @@ pub mod Inhabited
 pub mod Joining
 pub mod Worked
 pub mod Refusing
+pub mod Apart

@@ -13,6 +13,8 @@ use crate::choice::{is_tag_number, lists};
 use crate::fault::{Flaw, SchemaFault};
 use crate::heights::has_no_arm;
 use crate::kind::{Arm, Kind, KindId, Member};
+use crate::twice::constant_repeats;
+use std::alloc::Global;
 use std::string::String;
 
 // ---- places
@@ -293,7 +295,7 @@ fn names_constant(members: &[(String, i32)], name: &String) -> bool
     false
 }
 
-fn constant_twice(members: &Vec<(String, i32)>) -> bool
+fn constant_in_pairs(members: &Vec<(String, i32)>) -> bool
     ensures { result ≡ constant_twice (map constant_of members.now.items) }
 {
     for (i, member) in members.iter().enumerate() {
@@ -302,6 +304,16 @@ fn constant_twice(members: &Vec<(String, i32)>) -> bool
         }
     }
     false
+}
+
+// Where memory for a set is refused, all pairs are looked at, which is slow and needs none.
+fn constant_twice(alloc: Global, members: &Vec<(String, i32)>) -> bool
+    ensures { result ≡ constant_twice (map constant_of members.now.items) }
+{
+    match constant_repeats(alloc, members) {
+        Ok(twice) => twice,
+        Err(_) => constant_in_pairs(members),
+    }
 }
 
 fn names_field(fields: &[Member], name: &String) -> bool
@@ -375,11 +387,11 @@ fn arm_twice(arms: &Vec<Arm>, other: &Option<Member>) -> bool
     false
 }
 
-fn has_name_twice(kind: &Kind) -> bool
+fn has_name_twice(alloc: Global, kind: &Kind) -> bool
     ensures { result ≡ has_name_twice (form_of kind.now) }
 {
     match kind {
-        Kind::Numbered { members } => constant_twice(members),
+        Kind::Numbered { members } => constant_twice(alloc, members),
         Kind::Structure { fields } => field_twice(fields),
         Kind::Choice {
             tag: _,
@@ -392,7 +404,7 @@ fn has_name_twice(kind: &Kind) -> bool
 
 // ---- what is found first
 
-fn kind_flaw(kinds: &Vec<Kind>, kind: &Kind) -> Option<Flaw>
+fn kind_flaw(alloc: Global, kinds: &Vec<Kind>, kind: &Kind) -> Option<Flaw>
     ensures { result ≡ kind_flaw (map form_of kinds.now.items) (form_of kind.now) }
 {
     if has_unknown(kinds, kind) {
@@ -416,7 +428,7 @@ fn kind_flaw(kinds: &Vec<Kind>, kind: &Kind) -> Option<Flaw>
     if has_empty_list(kind) {
         return Some(Flaw::EmptyList);
     }
-    if has_name_twice(kind) {
+    if has_name_twice(alloc, kind) {
         return Some(Flaw::NameTwice);
     }
     None
@@ -453,13 +465,13 @@ fn name_flaw(
 }
 
 /// The first flaw of a kind, at its place; none where no kind has one.
-pub fn first_in_kinds(kinds: &Vec<Kind>) -> Option<SchemaFault>
+pub fn first_in_kinds(alloc: Global, kinds: &Vec<Kind>) -> Option<SchemaFault>
     ensures { MatchOption result
         (AreFlawless (kind_flaw_at (map form_of kinds.now.items)) (length kinds.now.items))
         (IsFirstFlaw (kind_flaw_at (map form_of kinds.now.items)) (length kinds.now.items)) }
 {
     for (place, kind) in kinds.iter().enumerate() {
-        if let Some(why) = kind_flaw(kinds, kind) {
+        if let Some(why) = kind_flaw(alloc, kinds, kind) {
             return Some(SchemaFault { why, place });
         }
     }

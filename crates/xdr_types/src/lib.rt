@@ -17,6 +17,7 @@ mod laws;
 mod limits;
 mod room;
 mod schema;
+mod twice;
 mod value;
 
 pub use choice::{is_legal_tag, is_number_of, part_under};

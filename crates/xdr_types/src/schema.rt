@@ -86,7 +86,7 @@ impl Schema {
                 place: 0,
             });
         }
-        if let Some(fault) = first_in_kinds(&kinds) {
+        if let Some(fault) = first_in_kinds(alloc, &kinds) {
             return Err(fault);
         }
         if let Some(fault) = first_in_names(&kinds, &names) {

@@ -1,0 +1,3 @@
+pub mod Parsed
+pub mod Cutting
+pub mod Unique

@@ -1,0 +1,71 @@
+//! Where texts of declarations come from.
+ghost use Rattle.std.specs.Prelude.{◌≡◌, ◌<◌, ℕ, List, Option, None, Some, IfOk, OnOk, OnErr, if◌then◌else◌};
+ghost use Rattle.std.specs.Str.{bytes_eq};
+ghost use Rattle.std.specs.Io.KnownBytes.{Keeps};
+ghost use Rattle.xdr_io.specs.Told.{Counts, told_count};
+
+use xdr_io::{MemorySource, ReadFault, Source};
+
+/// Opens texts by their names.
+pub trait Opener {
+    /// A text that was opened.
+    type Text: Source + Drop;
+
+    /// The bytes that stand under a name, where they are told.
+    ghost told: { Self → List ℕ → Option (List ℕ) } = { λ _ _. None };
+
+    /// How many texts could not be opened, where that is told.
+    ghost failures: { Self → Option ℕ } = { λ _. None };
+
+    /// Opens the text with this name, at its beginning. A fault opens none.
+    fn open(&mut self, name: &str) -> Result<Self::Text, ReadFault>
+        ensures text { IfOk result (λ text. Keeps (told self.old name.now) (Self.Text.left text)) }
+        ensures none_failed { OnOk result (Counts 0 (failures self.old) (failures self.new)) }
+        ensures failed { OnErr result (Counts 1 (failures self.old) (failures self.new)) };
+}
+
+/// Opens one text, which is lent, by its name; no text has another name. It gives at most `piece` bytes a read, and
+/// the read of number `failing`, from 1, fails.
+#[derive(Drop)]
+pub struct MemoryOpener<'a> {
+    name: &'a str,
+    text: &'a [u8],
+    piece: usize,
+    failing: Option<u64>,
+    failures: u64,
+    ghost some: { 0 < piece },
+}
+
+impl<'a> MemoryOpener<'a> {
+    /// An opener that has opened nothing yet.
+    pub fn new(name: &'a str, text: &'a [u8], piece: usize, failing: Option<u64>) -> Self
+        requires { 0 < piece }
+        ensures told { ⟦<MemoryOpener<'a> as Opener>⟧.told result name.now ≡ Some text.now }
+        ensures failures { ⟦<MemoryOpener<'a> as Opener>⟧.failures result ≡ Some 0 }
+    {
+        MemoryOpener {
+            name,
+            text,
+            piece,
+            failing,
+            failures: 0,
+        }
+    }
+}
+
+impl<'a> Opener for MemoryOpener<'a> {
+    type Text = MemorySource<'a>;
+
+    ghost told = { λ s name. if bytes_eq name s.name.now then Some s.text.now else None };
+
+    ghost failures = { λ s. told_count s.failures };
+
+    fn open(&mut self, name: &str) -> Result<MemorySource<'a>, ReadFault> {
+        if name == self.name {
+            Ok(MemorySource::new(self.text, self.piece, self.failing))
+        } else {
+            self.failures = self.failures.saturating_add(1);
+            Err(ReadFault)
+        }
+    }
+}

@@ -1,0 +1,82 @@
+//! Why a task asks nothing of its input.
+ghost use Rattle.std.specs.Prelude.{◌≡◌};
+ghost use Rattle.oncrpc_tasks.specs.Status.{Ends, failure_of_input};
+ghost use Rattle.oncrpc_tasks.specs.declared.failure.Failure.TheVariants.{Read, NoMemory};
+ghost use Rattle.oncrpc_tasks.specs.declared.unusable.Unusable.TheVariants.{Failed};
+
+use super::failure::{Failure, report};
+use std::alloc::{AllocError, Global};
+use xdr_io::{InputFault, ReadFault, Sink, write_whole};
+use xdr_lang::LangFault;
+
+/// Why there is no question.
+#[derive(Clone, Copy, Debug, PartialEq, Eq)]
+pub enum Unusable {
+    /// The text of declarations is refused.
+    Declaration(LangFault),
+    /// The name names no kind.
+    Name,
+    /// A limit is out of its range.
+    Limits,
+    /// The text could not be read, or memory was refused.
+    Failed(Failure),
+}
+
+impl From<ReadFault> for Unusable {
+    ghost from_gives = { λ _ u. u ≡ Failed Read };
+
+    fn from(_: ReadFault) -> Unusable {
+        Unusable::Failed(Failure::Read)
+    }
+}
+
+impl From<InputFault> for Unusable {
+    ghost from_gives = { λ e u. u ≡ Failed (failure_of_input e) };
+
+    fn from(fault: InputFault) -> Unusable {
+        Unusable::Failed(Failure::from(fault))
+    }
+}
+
+impl From<AllocError> for Unusable {
+    ghost from_gives = { λ _ u. u ≡ Failed NoMemory };
+
+    fn from(_: AllocError) -> Unusable {
+        Unusable::Failed(Failure::NoMemory)
+    }
+}
+
+/// Writes the line to `faults`, where that can be done, and gives the exit status: 2, or that of the failure. Want of
+/// memory for the line is status 4.
+pub fn refuse<F: Sink>(alloc: Global, why: Unusable, name: &str, faults: &mut F) -> u8
+    ensures { Ends why result }
+{
+    let line = match why {
+        Unusable::Declaration(fault) => declaration_line(alloc, fault),
+        Unusable::Name => format!(in alloc; "no such name: {name}\n"),
+        Unusable::Limits => String::from_str(alloc, "limits refused\n"),
+        Unusable::Failed(failure) => return report(failure, faults),
+    };
+    match line {
+        Ok(line) => {
+            let _ = write_whole(faults, line.as_bytes());
+            2
+        }
+        Err(_) => report(Failure::NoMemory, faults),
+    }
+}
+
+// A fault of the schema has its own number after the fault's.
+fn declaration_line(alloc: Global, fault: LangFault) -> Result<String, AllocError> {
+    let LangFault {
+        number,
+        inner,
+        line,
+        column,
+    } = fault;
+    if inner == 0 {
+        format!(in alloc; "declaration refused: {number} at {line}:{column}\n")
+    } else {
+        format!(in alloc; "declaration refused: {number} ({inner}) at {line}:{column}\n")
+    }
+}

@@ -1,0 +1,4 @@
+pub mod Distinctly
+pub mod Refusing
+pub mod Sets
+pub mod Tables

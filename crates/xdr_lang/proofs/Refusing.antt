@@ -1,0 +1,34 @@
+-- What is not refused, and what nothing is due for.
+use Rattle.std.proofs.Common.{◌≡◌, inl, inr, ℕ, Option, Some, None, refl, ap, arith, sym, ◌∙◌}
+use Rattle.xdr_tokens.specs.declared.fault.Fault.{Fault}
+use Rattle.xdr_tokens.specs.declared.fault.Fault.TheVariants as fault
+use Rattle.xdr_tokens.specs.Fails.{Fails}
+use Rattle.xdr_types.specs.Form.{Lists}
+use Rattle.xdr_types.specs.Faults.{AreFlawless, IsWellFormed, kind_flaw_at, name_flaw_at}
+use Rattle.xdr_types.specs.Sound.{IsSound}
+use Rattle.xdr_types.specs.Refused.{IsFirstFlaw, IsFirstFault, IsRefused}
+use Rattle.xdr_types.specs.declared.fault.Flaw.{Flaw}
+use Rattle.xdr_types.specs.declared.fault.Flaw.TheVariants as flaw
+use Rattle.xdr_types.specs.declared.fault.SchemaFault.{SchemaFault}
+
+-- where no place has a flaw, none is the first
+no_flaw : (flaw_at : ℕ → Option Flaw) (n : ℕ) (e : SchemaFault) → AreFlawless flaw_at n → IsFirstFlaw flaw_at n e → ⊥
+no_flaw flaw_at n e h first =
+    let differs : None ≡ Some e.why = sym (h e.place first.within) ∙ first.here in
+    cc
+
+no_first : (s : Lists) (e : SchemaFault) → IsFirstFault s e → IsWellFormed s → IsSound s.kinds → ⊥
+no_first s e (inl many) well sound = absurd (omega (arith, many.0, well.few))
+no_first s e (inr (inl kind)) well sound = no_flaw (kind_flaw_at s.kinds) _ e well.kinds kind.1
+no_first s e (inr (inr (inl name))) well sound = no_flaw (name_flaw_at s.kinds s.names) _ e well.names name.2
+no_first s e (inr (inr (inr low))) well sound = low.2.none (sound e.place low.2.within)
+
+-- lists that are well formed and sound are refused for want of memory alone
+pub only_memory : (s : Lists) (e : SchemaFault) → IsWellFormed s → IsSound s.kinds → IsRefused s e → e.why ≡ flaw.NoMemory
+only_memory s e ok sound (inl m) = ap (λ (x : SchemaFault). x.why) m
+only_memory s e ok sound (inr first) = absurd (no_first s e first ok sound)
+
+-- what is refused, but not for want of memory, is not due
+pub refused_is_not_due : {A : Type 0} (e : Fault) (n : ℕ) (a : A) → (e ≡ fault.NoMemory → n ≡ 13) → (n ≡ 13 → ⊥) → Fails e (Some a) → ⊥
+refused_is_not_due fault.NoMemory n a told not h = not (told refl)
+refused_is_not_due (fault.Refused wrong left) n a told not h = absurd cc

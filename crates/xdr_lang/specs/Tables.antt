@@ -1,0 +1,40 @@
+-- What the tables of names hold, for look-ups (the names of RFC 4506 section 6.4).
+use Rattle.std.specs.Prelude.{◌≡◌, ◌≤◌, ℕ, suc, ℤ, Bool, List, [], ◌∷◌, map, Option, Some, None, option_map, if◌then◌else◌}
+use Rattle.std.specs.BTreeMap.{BTreeMap, get_by}
+use Rattle.std.specs.Ordering.{nat_cmp}
+use Rattle.std.specs.Cmp.Lexicographic.{slice_cmp}
+use Rattle.std.specs.Str.{bytes_eq}
+use denote.Ref.{Bor}
+use Rattle.xdr_grammar.specs.declared.outline.Part.{Part}
+use Rattle.xdr_grammar.specs.View.{part_of}
+use Rattle.xdr_grammar.specs.Outline.{Field}
+use Rattle.xdr_lang.specs.LookUp.{Known, type_named, named_place}
+
+-- the keys, without where they lie in memory
+abbrev pub key_texts : List (Bor (List ℕ)) → List (List ℕ)
+key_texts ks = map (λ (k : Bor (List ℕ)). k.now) ks
+
+-- what the map has at the name
+abbrev pub at_name : {X : Type 0} → List ℕ → BTreeMap (Bor (List ℕ)) X → Option X
+at_name n m = get_by (λ k. slice_cmp nat_cmp n k.now) m
+
+-- the first constant with that name: its place, counted from i on, its number, and whether const declares it
+unfoldable pub first_named : List ℕ → ℕ → List Known → Option (ℕ × ℤ × Bool)
+first_named n i [] = None
+first_named n i (k ∷ ks) = if bytes_eq k.name n then Some (i, k.value, k.by_const) else first_named n (suc i) ks
+
+-- The map has the first constant with each name.
+pub record HasFirst (m : BTreeMap (Bor (List ℕ)) (ℕ × ℤ × Bool)) (ks : List Known) : Type 0 where
+  pub finds : (n : List ℕ) → at_name n m ≡ first_named n 0 ks
+
+-- The map has what each type is declared as.
+pub record HasParts (m : BTreeMap (Bor (List ℕ)) Part) (types : List Field) : Type 0 where
+  pub finds : (n : List ℕ) → option_map part_of (at_name n m) ≡ type_named n types
+
+-- The name denotes the place, through so many names or more.
+pub record IsPlacedAt (types : List Field) (n : List ℕ) (place steps : ℕ) : Type 0 where
+  pub reached : (most : ℕ) → steps ≤ most → named_place most types n ≡ Some place
+
+-- Each name in the map denotes its place.
+pub record HasPlaces (m : BTreeMap (Bor (List ℕ)) (ℕ × ℕ)) (types : List Field) : Type 0 where
+  pub right : (n : List ℕ) (place steps : ℕ) → at_name n m ≡ Some (place, steps) → IsPlacedAt types n place steps

@@ -1,0 +1,75 @@
+// The constants so far, and the first with each name.
+ghost use Rattle.std.specs.Prelude.{◌≡◌, OnOk, OnErr, List, [], ◌∷◌, ◌++◌, length, take};
+ghost use Rattle.xdr_lang.specs.Views.{known_of, knowns};
+ghost use Rattle.xdr_lang.specs.LookUp.{known};
+ghost use Rattle.xdr_lang.specs.LookUp.{Known as KnownSpec};
+ghost use Rattle.xdr_lang.specs.Tables.{HasFirst};
+
+use crate::constants::Known;
+use std::alloc::{AllocError, Global};
+use std::collections::BTreeMap;
+
+/// The constants so far, and for each name the first: its place, its number, and whether `const`
+/// declares it.
+#[derive(Drop)]
+pub struct ConstantTable<'a> {
+    /// The constants, in text order.
+    pub list: Vec<Known<'a>>,
+    first: BTreeMap<&'a str, (usize, i128, bool)>,
+    ghost is_first: { HasFirst first (knowns list.items) },
+}
+
+/// Keeps the constant after `place` others, where it is the first with its name.
+fn keep_first<'a>(
+    first: &mut BTreeMap<&'a str, (usize, i128, bool)>,
+    place: usize,
+    known: Known<'a>,
+) -> Result<(), AllocError>
+    ensures kept { (ks : List KnownSpec) → HasFirst first.old ks → length ks ≡ place → OnOk result (HasFirst first.new (ks ++ known_of known.entry ∷ [])) }
+    ensures unchanged { OnErr result (first.new.entries ≡ first.old.entries) }
+{
+    if first.contains_key(known.name.text) {
+        return Ok(());
+    }
+    first.insert(known.name.text, (place, known.value, known.by_const))?;
+    Ok(())
+}
+
+impl<'a> ConstantTable<'a> {
+    /// No constants.
+    pub fn new(alloc: Global) -> ConstantTable<'a>
+        ensures { knowns result.list.items ≡ [] }
+    {
+        ConstantTable {
+            list: Vec::new(alloc),
+            first: BTreeMap::new(alloc),
+        }
+    }
+
+    /// One more constant. Where memory runs out, no constant is left.
+    pub fn push(&mut self, known: Known<'a>) -> Result<(), AllocError>
+        ensures { OnOk result (knowns self.new.list.items ≡ knowns self.old.list.items ++ known_of known.entry ∷ []) }
+    {
+        let place = self.list.len();
+        keep_first(&mut self.first, place, known)?;
+        match self.list.push(known) {
+            Ok(()) => Ok(()),
+            Err(_) => {
+                self.list.clear();
+                self.first.clear();
+                Err(AllocError)
+            }
+        }
+    }
+
+    /// The number of the constant with that name among the first `before`, and whether `const`
+    /// declares it.
+    pub fn named(&self, name: &str, before: usize) -> Option<(i128, bool)>
+        ensures { result ≡ known name.now (take before (knowns self.now.list.items)) }
+    {
+        match self.first.get(name) {
+            Some((place, value, by_const)) if *place < before => Some((*value, *by_const)),
+            _ => None,
+        }
+    }
+}

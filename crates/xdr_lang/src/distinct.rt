@@ -1,0 +1,277 @@
+// Whether a name or a number is there twice.
+ghost use Rattle.std.specs.Prelude.{◌≡◌, true, false, OnOk, IfOk, List, [], map, option_map, ◌++◌};
+ghost use Rattle.xdr_grammar.specs.Outline as out;
+ghost use Rattle.xdr_grammar.specs.View.{entry_of, field_of, arm_of, draft_of, procedure_of, version_of, program_of, outline_of};
+ghost use Rattle.xdr_lang.specs.Views.{texts};
+ghost use Rattle.xdr_lang.specs.Distinct.{repeats, repeats_number, repeats_pair, declared_names, other_name, kind_repeats, kinds_repeat, version_repeats, versions_repeat, program_repeats, programs_repeat, pairs_of, pairs, has_twice};
+
+use std::alloc::{AllocError, Global};
+use std::collections::BTreeSet;
+use xdr_grammar::{Arm, Draft, Entry, Field, Name, Outline, Procedure, Program, Shape, Version};
+
+/// Some name is among those before it. The empty name, that of void, is none.
+#[tactic(auto, unfolding(crate::specs::Distinct::repeats))]
+fn repeats(alloc: Global, names: &[Name<'_>]) -> Result<bool, AllocError>
+    ensures { IfOk result (λ b. b ≡ repeats [] (texts names.now)) }
+{
+    let mut before = BTreeSet::new(alloc);
+    for name in names {
+        if name.text == "" {
+            continue;
+        }
+        if !before.insert(name.text)? {
+            return Ok(true);
+        }
+    }
+    Ok(false)
+}
+
+/// Some procedure has the number of one before it.
+#[tactic(auto, unfolding(crate::specs::Distinct::repeats_number))]
+fn numbers_repeat(alloc: Global, procedures: &[Procedure<'_>]) -> Result<bool, AllocError>
+    ensures { IfOk result (λ b. b ≡ repeats_number [] (map (λ (p : out.Procedure). p.number) (map procedure_of procedures.now))) }
+{
+    let mut before = BTreeSet::new(alloc);
+    for procedure in procedures {
+        if !before.insert(procedure.number.value)? {
+            return Ok(true);
+        }
+    }
+    Ok(false)
+}
+
+/// Some pair is among those before it.
+#[tactic(auto, unfolding(crate::specs::Distinct::repeats_pair))]
+fn pairs_repeat(alloc: Global, pairs: &[(i128, i128)]) -> Result<bool, AllocError>
+    ensures { IfOk result (λ b. b ≡ repeats_pair [] pairs.now) }
+{
+    let mut before = BTreeSet::new(alloc);
+    for pair in pairs {
+        if !before.insert(*pair)? {
+            return Ok(true);
+        }
+    }
+    Ok(false)
+}
+
+/// The number of a program with each of its versions'.
+#[tactic(auto, unfolding(crate::specs::Distinct::pairs_of))]
+fn pairs_of(
+    found: &mut Vec<(i128, i128)>,
+    prog: i128,
+    versions: &[Version<'_>],
+) -> Result<(), AllocError>
+    ensures { OnOk result (found.new.items ≡ pairs_of found.old.items prog (map version_of versions.now)) }
+{
+    for version in versions {
+        found.push((prog, version.number.value))?;
+    }
+    Ok(())
+}
+
+/// The same of all programs.
+#[tactic(auto, unfolding(crate::specs::Distinct::pairs))]
+fn all_pairs(alloc: Global, programs: &[Program<'_>]) -> Result<Vec<(i128, i128)>, AllocError>
+    ensures { IfOk result (λ v. v.items ≡ pairs [] (map program_of programs.now)) }
+{
+    let mut found = Vec::new(alloc);
+    for program in programs {
+        pairs_of(&mut found, program.number.value, &program.versions)?;
+    }
+    Ok(found)
+}
+
+/// The names of constants.
+fn constant_names<'a>(found: &mut Vec<Name<'a>>, items: &[Entry<'a>]) -> Result<(), AllocError>
+    ensures { OnOk result (texts found.new.items ≡ texts found.old.items ++ map (λ (e : out.Entry). e.name) (map entry_of items.now)) }
+{
+    for entry in items {
+        found.push(entry.name)?;
+    }
+    Ok(())
+}
+
+/// The names of types or of fields.
+fn type_names<'a>(found: &mut Vec<Name<'a>>, items: &[Field<'a>]) -> Result<(), AllocError>
+    ensures { OnOk result (texts found.new.items ≡ texts found.old.items ++ map (λ (f : out.Field). f.name) (map field_of items.now)) }
+{
+    for field in items {
+        found.push(field.name)?;
+    }
+    Ok(())
+}
+
+/// The names of programs.
+fn program_names<'a>(found: &mut Vec<Name<'a>>, items: &[Program<'a>]) -> Result<(), AllocError>
+    ensures { OnOk result (texts found.new.items ≡ texts found.old.items ++ map (λ (p : out.Program). p.name) (map program_of items.now)) }
+{
+    for program in items {
+        found.push(program.name)?;
+    }
+    Ok(())
+}
+
+/// The names of the arms of a union.
+fn arm_names<'a>(found: &mut Vec<Name<'a>>, items: &[Arm<'a>]) -> Result<(), AllocError>
+    ensures { OnOk result (texts found.new.items ≡ texts found.old.items ++ map (λ (a : out.Arm). a.member.name) (map arm_of items.now)) }
+{
+    for arm in items {
+        found.push(arm.member.name)?;
+    }
+    Ok(())
+}
+
+/// The names of versions.
+fn version_names<'a>(found: &mut Vec<Name<'a>>, items: &[Version<'a>]) -> Result<(), AllocError>
+    ensures { OnOk result (texts found.new.items ≡ texts found.old.items ++ map (λ (v : out.Version). v.name) (map version_of items.now)) }
+{
+    for version in items {
+        found.push(version.name)?;
+    }
+    Ok(())
+}
+
+/// The names of procedures.
+fn procedure_names<'a>(found: &mut Vec<Name<'a>>, items: &[Procedure<'a>]) -> Result<(), AllocError>
+    ensures { OnOk result (texts found.new.items ≡ texts found.old.items ++ map (λ (p : out.Procedure). p.name) (map procedure_of items.now)) }
+{
+    for procedure in items {
+        found.push(procedure.name)?;
+    }
+    Ok(())
+}
+
+/// The name of a union's default, where there is one.
+fn other_name<'a>(alloc: Global, other: &Option<Field<'a>>) -> Result<Vec<Name<'a>>, AllocError>
+    ensures { IfOk result (λ v. texts v.items ≡ other_name (option_map field_of other.now)) }
+{
+    let mut names = Vec::new(alloc);
+    let Some(field) = other else {
+        return Ok(names);
+    };
+    names.push(field.name)?;
+    Ok(names)
+}
+
+/// A name of a kind is there twice in its scope.
+#[tactic(auto, unfolding(crate::specs::Distinct::kind_repeats))]
+fn kind_repeats(alloc: Global, draft: &Draft<'_>) -> Result<bool, AllocError>
+    ensures { IfOk result (λ b. b ≡ kind_repeats (draft_of draft.now)) }
+{
+    match &draft.shape {
+        Shape::Structure(fields) => {
+            let mut names = Vec::new(alloc);
+            type_names(&mut names, fields)?;
+            repeats(alloc, &names)
+        }
+        Shape::Choice(_, arms, other) => {
+            let mut names = other_name(alloc, other)?;
+            arm_names(&mut names, arms)?;
+            repeats(alloc, &names)
+        }
+        _ => Ok(false),
+    }
+}
+
+/// The same in some kind.
+#[tactic(auto, unfolding(crate::specs::Distinct::kinds_repeat))]
+fn kinds_repeat(alloc: Global, drafts: &[Draft<'_>]) -> Result<bool, AllocError>
+    ensures { IfOk result (λ b. b ≡ kinds_repeat (map draft_of drafts.now)) }
+{
+    for draft in drafts {
+        if kind_repeats(alloc, draft)? {
+            return Ok(true);
+        }
+    }
+    Ok(false)
+}
+
+/// A name or a number of the procedures of a version is there twice.
+#[tactic(auto, unfolding(crate::specs::Distinct::version_repeats))]
+fn version_repeats(alloc: Global, version: &Version<'_>) -> Result<bool, AllocError>
+    ensures { IfOk result (λ b. b ≡ version_repeats (version_of version.now)) }
+{
+    let mut names = Vec::new(alloc);
+    procedure_names(&mut names, &version.procedures)?;
+    if repeats(alloc, &names)? {
+        return Ok(true);
+    }
+    numbers_repeat(alloc, &version.procedures)
+}
+
+/// The same in some version.
+#[tactic(auto, unfolding(crate::specs::Distinct::versions_repeat))]
+fn versions_repeat(alloc: Global, versions: &[Version<'_>]) -> Result<bool, AllocError>
+    ensures { IfOk result (λ b. b ≡ versions_repeat (map version_of versions.now)) }
+{
+    for version in versions {
+        if version_repeats(alloc, version)? {
+            return Ok(true);
+        }
+    }
+    Ok(false)
+}
+
+/// A name of the versions of a program is there twice, or one inside them.
+#[tactic(auto, unfolding(crate::specs::Distinct::program_repeats))]
+fn program_repeats(alloc: Global, program: &Program<'_>) -> Result<bool, AllocError>
+    ensures { IfOk result (λ b. b ≡ program_repeats (program_of program.now)) }
+{
+    let mut names = Vec::new(alloc);
+    version_names(&mut names, &program.versions)?;
+    if repeats(alloc, &names)? {
+        return Ok(true);
+    }
+    versions_repeat(alloc, &program.versions)
+}
+
+/// The same in some program.
+#[tactic(auto, unfolding(crate::specs::Distinct::programs_repeat))]
+fn programs_repeat(alloc: Global, programs: &[Program<'_>]) -> Result<bool, AllocError>
+    ensures { IfOk result (λ b. b ≡ programs_repeat (map program_of programs.now)) }
+{
+    for program in programs {
+        if program_repeats(alloc, program)? {
+            return Ok(true);
+        }
+    }
+    Ok(false)
+}
+
+/// The names of constants, types and programs, after TRUE and FALSE.
+fn declared_names<'a>(alloc: Global, outline: &Outline<'a>) -> Result<Vec<Name<'a>>, AllocError>
+    ensures { IfOk result (λ v. texts v.items ≡ declared_names (outline_of outline.now)) }
+{
+    let mut names = Vec::new(alloc);
+    names.push(Name {
+        text: "TRUE",
+        left: 0,
+    })?;
+    names.push(Name {
+        text: "FALSE",
+        left: 0,
+    })?;
+    constant_names(&mut names, &outline.constants)?;
+    type_names(&mut names, &outline.types)?;
+    program_names(&mut names, &outline.programs)?;
+    Ok(names)
+}
+
+/// Some name, number of a procedure, or pair of a program's and a version's number is there twice.
+#[tactic(auto, unfolding(crate::specs::Distinct::has_twice))]
+pub fn has_twice(alloc: Global, outline: &Outline<'_>) -> Result<bool, AllocError>
+    ensures { IfOk result (λ b. b ≡ has_twice (outline_of outline.now)) }
+{
+    let names = declared_names(alloc, outline)?;
+    if repeats(alloc, &names)? {
+        return Ok(true);
+    }
+    if kinds_repeat(alloc, &outline.drafts)? {
+        return Ok(true);
+    }
+    if programs_repeat(alloc, &outline.programs)? {
+        return Ok(true);
+    }
+    let pairs = all_pairs(alloc, &outline.programs)?;
+    pairs_repeat(alloc, &pairs)
+}

@@ -1,0 +1,106 @@
+// The basic kinds and names, and the types and constants of a text after them.
+ghost use Rattle.std.specs.Prelude.{◌≡◌, IfOk, List, map, ◌++◌};
+ghost use Rattle.xdr_tokens.specs.Fails.{Gives};
+ghost use Rattle.xdr_grammar.specs.View.{field_of};
+ghost use Rattle.xdr_types.specs.Forms.{form_of, name_of};
+ghost use Rattle.xdr_types.specs.Named.{basic};
+ghost use Rattle.xdr_lang.specs.Views.{known_of, knowns, types_of, constant_of};
+ghost use Rattle.xdr_lang.specs.Kinds.{each_onto, one_field};
+ghost use Rattle.xdr_lang.specs.Meaning.{given_constants};
+ghost use Rattle.xdr_lang.specs.Meaning as said;
+
+use crate::constants::Known;
+use crate::places::kind_of;
+use crate::type_table::TypeTable;
+use std::alloc::{AllocError, Global};
+use std::string::String;
+use xdr_grammar::Field;
+use xdr_tokens::Fault;
+use xdr_types::{Kind, KindId};
+
+/// The basic kinds.
+pub fn basic_kinds(alloc: Global) -> Result<Vec<Kind>, AllocError>
+    ensures { IfOk result (λ v. map form_of v.items ≡ basic.kinds) }
+{
+    let kinds = vec![in alloc;
+        Kind::Int,
+        Kind::Unsigned,
+        Kind::Hyper,
+        Kind::UnsignedHyper,
+        Kind::Bool,
+        Kind::Nothing,
+        Kind::OpaqueUpTo { max: 4294967295 },
+        Kind::Text { max: 4294967295 },
+    ]?;
+    Ok(kinds)
+}
+
+/// The names of the basic kinds.
+fn basic_names(alloc: Global) -> Result<Vec<(String, KindId)>, AllocError>
+    ensures { IfOk result (λ v. map name_of v.items ≡ basic.names) }
+{
+    let mut names = Vec::new(alloc);
+    names.push((String::from_str(alloc, "int")?, KindId { place: 0 }))?;
+    names.push((String::from_str(alloc, "unsigned")?, KindId { place: 1 }))?;
+    names.push((String::from_str(alloc, "hyper")?, KindId { place: 2 }))?;
+    names.push((
+        String::from_str(alloc, "unsigned-hyper")?,
+        KindId { place: 3 },
+    ))?;
+    names.push((String::from_str(alloc, "bool")?, KindId { place: 4 }))?;
+    names.push((String::from_str(alloc, "opaque")?, KindId { place: 6 }))?;
+    names.push((String::from_str(alloc, "string")?, KindId { place: 7 }))?;
+    Ok(names)
+}
+
+/// A type with its kind.
+#[tactic(auto, unfolding(crate::specs::Kinds::one_field))]
+fn one_type(
+    alloc: Global,
+    types: &TypeTable<'_>,
+    field: &Field<'_>,
+) -> Result<(String, KindId), Fault>
+    ensures { Gives name_of result (one_field (types_of types.now.list.items) (field_of field.now)) }
+{
+    let kind = kind_of(types, field.part)?;
+    let name = String::from_str(alloc, field.name.text)?;
+    Ok((name, kind))
+}
+
+/// The types with their kinds, after the basic ones.
+#[tactic(auto, unfolding(crate::specs::Kinds::each_onto))]
+pub fn all_types(alloc: Global, types: &TypeTable<'_>) -> Result<Vec<(String, KindId)>, Fault>
+    ensures { Gives (λ x. map name_of x.items) result (each_onto (one_field (types_of types.now.list.items)) (types_of types.now.list.items) basic.names) }
+{
+    let mut found = basic_names(alloc)?;
+    for field in &types.list {
+        let one = one_type(alloc, types, field)?;
+        found.push(one)?;
+    }
+    Ok(found)
+}
+
+/// TRUE and FALSE.
+fn given_constants(alloc: Global) -> Result<Vec<(String, i128)>, AllocError>
+    ensures { IfOk result (λ v. map constant_of v.items ≡ given_constants) }
+{
+    let mut found = Vec::new(alloc);
+    found.push((String::from_str(alloc, "TRUE")?, 1))?;
+    found.push((String::from_str(alloc, "FALSE")?, 0))?;
+    Ok(found)
+}
+
+/// The constants, after TRUE and FALSE.
+pub fn all_constants(
+    alloc: Global,
+    constants: &[Known<'_>],
+) -> Result<Vec<(String, i128)>, AllocError>
+    ensures { IfOk result (λ v. map constant_of v.items ≡ given_constants ++ map said.constant_of (knowns constants.now)) }
+{
+    let mut found = given_constants(alloc)?;
+    for constant in constants {
+        let name = String::from_str(alloc, constant.name.text)?;
+        found.push((name, constant.value))?;
+    }
+    Ok(found)
+}

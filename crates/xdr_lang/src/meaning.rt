@@ -1,0 +1,102 @@
+// What an outline means: names looked up, and the schema built.
+ghost use Rattle.std.specs.Prelude.{◌≡◌, Some, None, IfOk, true, false};
+ghost use Rattle.xdr_tokens.specs.Fails.{Gives};
+ghost use Rattle.xdr_grammar.specs.View.{outline_of};
+ghost use Rattle.xdr_types.specs.Faults.{IsWellFormed};
+ghost use Rattle.xdr_types.specs.Sound.{IsSound};
+ghost use Rattle.xdr_types.specs.declared.fault.Flaw.TheVariants as flaw;
+ghost use Rattle.xdr_lang.specs.Declarations.{Declared as DeclaredSpec};
+ghost use Rattle.xdr_lang.specs.Meaning.{meaning, distinct_meaning};
+ghost use Rattle.xdr_lang.specs.Means.{IsMeant};
+ghost use Rattle.xdr_lang.specs.Views.{declared_of, listed_of};
+
+use crate::constants::numbers;
+use crate::declarations::{Declared, Program};
+use crate::distinct::has_twice;
+use crate::faults::schema_fault;
+use crate::first::first_fault;
+use crate::kinds::all_kinds;
+use crate::lists::{all_constants, all_types};
+use crate::programs::all_programs;
+use crate::type_table::type_table;
+use std::alloc::Global;
+use std::string::String;
+use xdr_grammar::Outline;
+use xdr_tokens::{Fault, Wrong};
+use xdr_types::{Kind, KindId, Schema};
+
+/// What an outline declares, before its kinds are a schema.
+#[derive(Drop)]
+struct Listed {
+    kinds: Vec<Kind>,
+    names: Vec<(String, KindId)>,
+    constants: Vec<(String, i128)>,
+    programs: Vec<Program>,
+}
+
+/// What the names of an outline stand for.
+#[tactic(auto, unfolding(crate::specs::Meaning::meaning))]
+fn meaning(alloc: Global, outline: &Outline<'_>) -> Result<Listed, Fault>
+    ensures { Gives listed_of result (meaning (outline_of outline.now)) }
+{
+    let known = numbers(alloc, &outline.constants)?;
+    let types = type_table(alloc, &outline.types)?;
+    let kinds = all_kinds(alloc, &known, &types, &outline.drafts)?;
+    let names = all_types(alloc, &types)?;
+    let programs = all_programs(alloc, &types, &outline.programs)?;
+    let constants = all_constants(alloc, &known.list)?;
+    Ok(Listed {
+        kinds,
+        names,
+        constants,
+        programs,
+    })
+}
+
+/// The same, where no name is there twice.
+#[tactic(auto, unfolding(crate::specs::Meaning::distinct_meaning))]
+fn distinct_meaning(alloc: Global, outline: &Outline<'_>) -> Result<Listed, Fault>
+    ensures { Gives listed_of result (distinct_meaning (outline_of outline.now)) }
+{
+    if has_twice(alloc, outline)? {
+        return Err(Fault::Refused {
+            wrong: Wrong::NameTwice,
+            left: 0,
+        });
+    }
+    meaning(alloc, outline)
+}
+
+/// Builds the schema.
+fn built(alloc: Global, outline: &Outline<'_>, listed: Listed) -> Result<Declared, Fault>
+    ensures same { IfOk result (λ v. declared_of v ≡ listed_of listed) }
+    ensures well_formed { IfOk result (λ v. IsWellFormed (declared_of v).schema) }
+    ensures sound { IfOk result (λ v. IsSound (declared_of v).schema.kinds) }
+    ensures only { IsWellFormed (listed_of listed).schema → IsSound (listed_of listed).schema.kinds → Gives declared_of result (Some (listed_of listed)) }
+{
+    let Listed {
+        kinds,
+        names,
+        constants,
+        programs,
+    } = listed;
+    match Schema::build(alloc, kinds, names) {
+        Ok(schema) => Ok(Declared {
+            schema,
+            constants,
+            programs,
+        }),
+        Err(fault) => Err(schema_fault(outline, fault)),
+    }
+}
+
+/// What an outline means.
+pub fn resolved(alloc: Global, outline: &Outline<'_>) -> Result<Declared, Fault>
+    ensures found { IfOk result (λ v. IsMeant (outline_of outline.now) (declared_of v)) }
+    ensures only { (d : DeclaredSpec) → IsMeant (outline_of outline.now) d → Gives declared_of result (Some d) }
+{
+    match distinct_meaning(alloc, outline) {
+        Ok(listed) => built(alloc, outline, listed),
+        Err(fault) => Err(first_fault(alloc, outline, fault)),
+    }
+}

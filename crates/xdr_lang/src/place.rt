@@ -1,0 +1,82 @@
+// The places of faults in a text.
+ghost use Rattle.std.specs.Prelude.{◌≡◌};
+
+use thiserror::Error;
+use xdr_tokens::{Fault, Wrong};
+
+/// Why a text is refused, from 1: BadCharacter, BadNumber, Unexpected, FloatingKind, NameTwice,
+/// NameUnknown, NotASize, OutOfRange, TypedefLoop, a fault of the schema with its number in `inner`
+/// (else 0), TextTooLong, NestedTooDeep, NoMemory. Lines and columns count from 1, columns in bytes.
+#[derive(Clone, Copy, Debug, PartialEq, Eq, Error)]
+#[error("fault {number} ({inner}) at {line}:{column}")]
+pub struct LangFault {
+    /// Which fault, from 1 to 13.
+    pub number: u8,
+    /// The number of the schema's fault, or 0.
+    pub inner: u8,
+    /// The line, from 1.
+    pub line: usize,
+    /// The column, from 1, in bytes.
+    pub column: usize,
+}
+
+/// The line and the column where `left` bytes are left to the end. Only a line feed begins a line.
+fn position_of(text: &[u8], left: usize) -> (usize, usize) {
+    let at = text.len().saturating_sub(left);
+    let mut line: usize = 1;
+    let mut column: usize = 1;
+    for (index, byte) in text.iter().enumerate() {
+        if index == at {
+            break;
+        }
+        if *byte == b'\n' {
+            line = line.saturating_add(1);
+            column = 1;
+        } else {
+            column = column.saturating_add(1);
+        }
+    }
+    (line, column)
+}
+
+/// The number of a fault, and of the schema's.
+fn numbers_of(wrong: Wrong) -> (u8, u8) {
+    match wrong {
+        Wrong::BadCharacter => (1, 0),
+        Wrong::BadNumber => (2, 0),
+        Wrong::Unexpected => (3, 0),
+        Wrong::FloatingKind => (4, 0),
+        Wrong::NameTwice => (5, 0),
+        Wrong::NameUnknown => (6, 0),
+        Wrong::NotASize => (7, 0),
+        Wrong::OutOfRange => (8, 0),
+        Wrong::TypedefLoop => (9, 0),
+        Wrong::BadSchema(inner) => (10, inner),
+        Wrong::TextTooLong => (11, 0),
+        Wrong::NestedTooDeep => (12, 0),
+    }
+}
+
+/// The fault of a text, as its caller sees it. Want of memory stands at the beginning.
+pub fn lang_fault(text: &[u8], fault: Fault) -> LangFault
+    ensures { fault ≡ Fault.NoMemory → result.number ≡ 13 }
+{
+    match fault {
+        Fault::Refused { wrong, left } => {
+            let (number, inner) = numbers_of(wrong);
+            let (line, column) = position_of(text, left);
+            LangFault {
+                number,
+                inner,
+                line,
+                column,
+            }
+        }
+        Fault::NoMemory => LangFault {
+            number: 13,
+            inner: 0,
+            line: 1,
+            column: 1,
+        },
+    }
+}
