@@ -26,18 +26,33 @@ fn wants_growth(alloc: Global, rt: &impl Env, text: &[u8], number: u64) -> bool 
     refuses == Ok(refused)
 }
 
-/// The text is read with ample memory, and refused with each of its growths refused in turn.
+/// Where the growth with that number is refused, the text is refused for want of memory, or is read all the same.
+fn bears_growth(alloc: Global, rt: &impl Env, text: &[u8], number: u64) -> bool {
+    let refuses = refuse(alloc, rt, number);
+    let is_well = match read(alloc, text) {
+        Ok(_) => true,
+        Err(fault) => fault.number == 13
+            && fault.inner == 0
+            && fault.line == 1
+            && fault.column == 1,
+    };
+    allow(rt);
+    is_well && refuses.is_ok()
+}
+
+/// The text is read with ample memory; with each of its growths refused in turn it is refused for want of memory or read
+/// all the same, and with the first it is refused.
 fn wants_each_growth(alloc: Global, rt: &impl Env, text: &[u8]) -> bool {
     let growths = match growths_of(alloc, rt, text) {
         Some(growths) => growths,
         None => return false,
     };
     for number in 0..growths {
-        if !wants_growth(alloc, rt, text, number.saturating_add(1)) {
+        if !bears_growth(alloc, rt, text, number.saturating_add(1)) {
             return false;
         }
     }
-    read(alloc, text).is_ok()
+    wants_growth(alloc, rt, text, 1) && read(alloc, text).is_ok()
 }
 
 #[test]
