@@ -1,6 +1,8 @@
-//! Tests of `rpc_directory` by its public calls.
+//! Tests of `rpc_directory`, and of `rpc_uaddr`, by their public calls.
 #![tactic(auto)]
 
+#[cfg(test)]
+mod addresses;
 #[cfg(test)]
 mod dumps;
 #[cfg(test)]

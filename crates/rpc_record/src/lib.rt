@@ -9,8 +9,6 @@ mod outbox;
 mod place;
 mod reader;
 mod steps;
-#[cfg(test)]
-mod tests;
 
 pub use fault::{Count, NoMemory, RecordFault, RecordStep};
 pub use marks::{mark, write_marked};

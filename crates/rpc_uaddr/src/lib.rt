@@ -10,6 +10,3 @@ pub use address::{Uaddr, write_uaddr};
 pub use laws::uaddr_reads_back;
 pub use memory::NoMemory;
 pub use reading::read_uaddr;
-
-#[cfg(test)]
-mod tests;

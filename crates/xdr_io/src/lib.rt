@@ -8,8 +8,6 @@
 mod input;
 mod memory;
 mod over_std;
-#[cfg(test)]
-mod tests;
 mod traits;
 mod whole;
 

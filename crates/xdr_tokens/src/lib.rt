@@ -11,6 +11,3 @@ mod token;
 pub use cutting::tokens;
 pub use fault::{Fault, Wrong};
 pub use token::{Keyword, Mark, Token};
-
-#[cfg(test)]
-mod tests;

@@ -1,0 +1,68 @@
+// Texts of RFC 5665's form, and what they name.
+use growths::take_all;
+use rpc_directory::{NoMemory, Uaddr, read_uaddr, write_uaddr};
+use std::alloc::Global;
+use std::test::Fail;
+
+/// A text and its address.
+type Row = (&'static [u8], Uaddr);
+
+static ROWS: [Row; 2] = [
+    (
+        b"255.255.255.255.255.255",
+        Uaddr {
+            host: [255; 4],
+            port: 65535,
+        },
+    ),
+    (
+        b"0.0.0.0.0.111",
+        Uaddr {
+            host: [0; 4],
+            port: 111,
+        },
+    ),
+];
+
+#[test]
+fn reads_texts(rt: HostRuntime) {
+    for (row, (text, address)) in ROWS.iter().enumerate() {
+        assert!(rt; read_uaddr(text) == Some(*address), "the row {row}");
+    }
+}
+
+static NO_ADDRESSES: [&[u8]; 4] = [b"1.2.3.4.0.256", b"01.2.3.4.0.1", b"1.2.3.4.5", b""];
+
+#[test]
+fn reads_no_other_texts(rt: HostRuntime) {
+    for (row, text) in NO_ADDRESSES.iter().enumerate() {
+        assert!(rt; read_uaddr(text).is_none(), "the row {row}");
+    }
+}
+
+fn is_written(alloc: Global, address: Uaddr, wanted: &[u8]) -> bool {
+    match write_uaddr(alloc, address) {
+        Ok(text) => text.as_slice() == wanted,
+        Err(NoMemory) => false,
+    }
+}
+
+#[test]
+fn writes_texts(rt: HostRuntime) {
+    for (row, (text, address)) in ROWS.iter().enumerate() {
+        assert!(rt; is_written(rt.alloc(), *address, text), "the row {row}");
+    }
+}
+
+// Reading needs no memory, and writing says when it has none.
+#[test]
+fn addresses_meet_want_of_memory(rt: HostRuntime) -> Result<(), Fail> {
+    let (text, address) = ROWS[1];
+    let (read, written) = {
+        let _kept = take_all(rt.alloc())?;
+        (read_uaddr(text), write_uaddr(rt.alloc(), address))
+    };
+    assert!(rt; read == Some(address));
+    assert!(rt; matches!(written, Err(NoMemory)));
+    Ok(())
+}
