@@ -3,6 +3,8 @@
 
 mod files;
 mod run;
+#[cfg(test)]
+mod tests;
 mod words;
 
 use std::process::ExitCode;

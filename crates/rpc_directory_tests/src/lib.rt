@@ -4,6 +4,8 @@
 #[cfg(test)]
 mod addresses;
 #[cfg(test)]
+mod calls;
+#[cfg(test)]
 mod dumps;
 #[cfg(test)]
 mod made;

@@ -1,8 +1,7 @@
 // The registry that the tests begin with, and what they ask of a row.
 use rpc_directory::{Directory, NoMemory, Row};
-use std::alloc::{AllocError, Global};
+use std::alloc::Global;
 use std::hash::{BuildHasherDefault, DefaultHasher};
-use xdr_types::Value;
 
 /// A registry with the standard hasher.
 pub type Registry = Directory<BuildHasherDefault<DefaultHasher>>;
@@ -32,14 +31,21 @@ pub fn add(
 
 /// Whether a row has this key.
 pub fn is_at(row: Option<&Row>, prog: u32, vers: u32, netid: &[u8]) -> bool {
-    row.is_some_and(|row| row.prog == prog && row.vers == vers && row.netid.as_slice() == netid)
+    match row {
+        Some(row) => row.prog == prog && row.vers == vers && row.netid.as_slice() == netid,
+        None => false,
+    }
 }
 
 /// Whether a row has this address and owner.
 pub fn has(row: Option<&Row>, address: &[u8], owner: &[u8]) -> bool {
-    row.is_some_and(|row| row.address.as_slice() == address && row.owner.as_slice() == owner)
+    match row {
+        Some(row) => row.address.as_slice() == address && row.owner.as_slice() == owner,
+        None => false,
+    }
 }
 
+/// Whether the row at an index is the registry's own of this version.
 fn is_own(directory: &Registry, index: u32, vers: u32) -> bool {
     is_at(directory.row(index), 100000, vers, b"tcp")
         && has(directory.row(index), EVERY_HOST, b"superuser")
@@ -52,10 +58,4 @@ pub fn has_own_rows(directory: &Registry) -> bool {
         && is_own(directory, 2, 4)
         && directory.rows() == 3
         && directory.row(3).is_none()
-}
-
-/// One more row before a list.
-pub fn before(alloc: Global, row: Vec<Value>, rest: Value) -> Result<Value, AllocError> {
-    let node = Value::Group(vec![in alloc; Value::Group(row), rest]?);
-    Ok(Value::Maybe(Some(Box::new(alloc, node)?)))
 }

@@ -57,6 +57,7 @@ fn owner(number: u32) -> &'static [u8]
     }
 }
 
+/// Whether the row has this key.
 fn is_key(entry: &Entry, prog: u32, vers: u32, netid: u32) -> bool {
     entry.prog == prog && entry.vers == vers && entry.netid == netid
 }
@@ -118,6 +119,7 @@ impl Numbers {
         (self.state / 65536) % count
     }
 
+    /// A row of few programs, versions and texts.
     fn entry(&mut self) -> Entry {
         Entry {
             prog: self.below(4),
@@ -136,12 +138,14 @@ struct Run {
     list: Vec<Entry>,
 }
 
+/// Whether the row at an index of the registry is this one.
 fn is_entry(directory: &Registry, index: u32, entry: &Entry) -> bool {
     let row = directory.row(index);
     is_at(row, entry.prog, entry.vers, netid(entry.netid))
         && has(row, address(entry.address), owner(entry.owner))
 }
 
+/// Whether the registry has the rows of the list, in the same order, and no others.
 fn is_list(run: &Run) -> bool {
     let mut index = 0u32;
     for entry in &run.list {
@@ -160,6 +164,7 @@ fn sets(alloc: Global, run: &mut Run, e: Entry) -> Result<bool, NoMemory> {
     Ok(done == set(&mut run.list, e)?)
 }
 
+/// The number of a transport, one that there is not for netids other than `tcp` and `udp`.
 fn number_of(netid: u32) -> u32 {
     match netid {
         1 => 6,
@@ -181,6 +186,7 @@ fn sets_port(alloc: Global, run: &mut Run, e: Entry) -> Result<bool, NoMemory> {
     Ok(done == set(&mut run.list, Entry { address: 1, ..e })?)
 }
 
+/// Removes rows from both.
 fn unsets(alloc: Global, run: &mut Run, e: Entry) -> Result<bool, NoMemory> {
     let done = run
         .directory
@@ -188,6 +194,7 @@ fn unsets(alloc: Global, run: &mut Run, e: Entry) -> Result<bool, NoMemory> {
     Ok(done == unset(alloc, &mut run.list, e)?)
 }
 
+/// Removes the rows over `tcp` and `udp` from both.
 fn unsets_port(alloc: Global, run: &mut Run, e: Entry) -> Result<bool, NoMemory> {
     let done = run.directory.unset_port(e.prog, e.vers, owner(e.owner));
     let over_tcp = unset(alloc, &mut run.list, Entry { netid: 1, ..e })?;
@@ -195,11 +202,13 @@ fn unsets_port(alloc: Global, run: &mut Run, e: Entry) -> Result<bool, NoMemory>
     Ok(done == (over_tcp || over_udp))
 }
 
+/// Whether both have the same address.
 fn gets(run: &Run, e: Entry) -> bool {
     let number = address_of(&run.list, e.prog, e.vers, e.netid);
     run.directory.getaddr(e.prog, e.vers, netid(e.netid)) == address(number)
 }
 
+/// Whether both have the same port.
 fn gets_port(run: &Run, e: Entry) -> bool {
     let prot = number_of(e.netid);
     let number = address_of(&run.list, e.prog, e.vers, e.netid);
@@ -207,6 +216,7 @@ fn gets_port(run: &Run, e: Entry) -> bool {
     run.directory.get_port(e.prog, e.vers, prot) == port
 }
 
+/// Does a random call on both, and says whether they answer alike.
 fn step(alloc: Global, run: &mut Run, numbers: &mut Numbers) -> Result<bool, NoMemory> {
     let entry = numbers.entry();
     match numbers.below(7) {

@@ -8,6 +8,8 @@ mod calls;
 #[cfg(test)]
 mod credentials;
 #[cfg(test)]
+mod plain;
+#[cfg(test)]
 mod refused;
 #[cfg(test)]
 mod replies;

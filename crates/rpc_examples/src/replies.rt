@@ -1,21 +1,32 @@
 //! Replies worked by hand.
 
 use crate::bytes::bytes_of;
-use rpc_message::{OpaqueAuth, Reply, ReplyFault, Status, Why, read_reply, write_reply};
+use crate::plain::reply_in;
+use rpc_message::{OpaqueAuth, Reply, ReplyFault, Status, Why, write_reply};
 use std::test::*;
 
-/// The bytes are read as this reply, and it is written to them.
-fn goes_both_ways(rt: HostRuntime, text: &str, reply: Reply) -> Result<bool, Fail> {
-    let bytes = bytes_of(rt, text)?;
-    if let Reply::Accepted { verf, .. } = &reply {
+/// Whether the bytes are read as this reply.
+fn is_read(rt: HostRuntime, bytes: &[u8], reply: Reply) -> Result<bool, Fail> {
+    Ok(reply_in(rt.alloc(), bytes)? == reply)
+}
+
+/// Whether the reply is written to the bytes.
+fn is_written(rt: HostRuntime, bytes: &[u8], reply: &Reply) -> Result<bool, Fail> {
+    if let Reply::Accepted { verf, .. } = reply {
         if 400 < verf.body.len() {
             return Err(Fail::from("a verifier that is too long"));
         }
     }
-    let written = write_reply(rt.alloc(), &reply)?;
-    Ok(written.as_slice() == bytes.as_slice() && read_reply(rt.alloc(), &bytes)? == reply)
+    Ok(write_reply(rt.alloc(), reply)?.as_slice() == bytes)
 }
 
+/// The bytes are read as this reply, and it is written to them.
+fn goes_both_ways(rt: HostRuntime, text: &str, reply: Reply) -> Result<bool, Fail> {
+    let bytes = bytes_of(rt, text)?;
+    Ok(is_written(rt, &bytes, &reply)? && is_read(rt, &bytes, reply)?)
+}
+
+/// The accepted reply of this status, with an empty verifier.
 fn accepted(rt: HostRuntime, status: Status) -> Reply {
     let verf = OpaqueAuth {
         flavor: 0,
@@ -98,15 +109,20 @@ fn writes_and_reads_denied_replies(rt: HostRuntime) -> Result<(), Fail> {
     Ok(())
 }
 
-/// Whether each of the texts is refused with this fault.
-fn all_give(rt: HostRuntime, texts: &[&str], fault: ReplyFault) -> Result<bool, Fail> {
+/// Whether the text is refused with this fault.
+fn gives(rt: HostRuntime, text: &str, fault: ReplyFault) -> Result<bool, Fail> {
+    let bytes = bytes_of(rt, text)?;
+    Ok(reply_in(rt.alloc(), &bytes) == Err(fault))
+}
+
+/// Each of the texts is refused with this fault; the test fails with the first that is not.
+fn all_give(rt: HostRuntime, texts: &[&'static str], fault: ReplyFault) -> Result<(), Fail> {
     for text in texts {
-        let bytes = bytes_of(rt, text)?;
-        if read_reply(rt.alloc(), &bytes) != Err(fault) {
-            return Ok(false);
+        if !gives(rt, *text, fault)? {
+            return Err(Fail::from(*text));
         }
     }
-    Ok(true)
+    Ok(())
 }
 
 // The bytes end before any other fault stands in them. A number that is cut says nothing yet.
@@ -126,7 +142,7 @@ fn names_cuts(rt: HostRuntime) -> Result<(), Fail> {
         "00000001000000010000000100000001",
         "0000000100000001000000010000000000000002",
     ];
-    assert!(rt; all_give(rt, &texts, ReplyFault::Truncated)?);
+    all_give(rt, &texts, ReplyFault::Truncated)?;
     Ok(())
 }
 
@@ -134,14 +150,14 @@ fn names_cuts(rt: HostRuntime) -> Result<(), Fail> {
 #[test]
 fn names_other_messages_and_statuses(rt: HostRuntime) -> Result<(), Fail> {
     let messages = ["0000000100000000", "000000010000000000000002"];
-    assert!(rt; all_give(rt, &messages, ReplyFault::NotAReply)?);
+    all_give(rt, &messages, ReplyFault::NotAReply)?;
     let statuses = [
         "000000010000000100000002",
         "000000010000000100000000000000000000000000000006",
         "00000001000000010000000000000000000000000000000600",
         "00000001000000010000000100000002",
     ];
-    assert!(rt; all_give(rt, &statuses, ReplyFault::BadStatus)?);
+    all_give(rt, &statuses, ReplyFault::BadStatus)?;
     Ok(())
 }
 
@@ -154,7 +170,7 @@ fn names_bad_verifiers(rt: HostRuntime) -> Result<(), Fail> {
         "0000000100000001000000000000000000000001610001",
         "00000001000000010000000000000000000000016100000100000006",
     ];
-    assert!(rt; all_give(rt, &texts, ReplyFault::BadAuth)?);
+    all_give(rt, &texts, ReplyFault::BadAuth)?;
     Ok(())
 }
 
@@ -170,6 +186,6 @@ fn names_bytes_that_follow(rt: HostRuntime) -> Result<(), Fail> {
         "00000001000000010000000100000000000000020000000200",
         "000000010000000100000001000000010000006300",
     ];
-    assert!(rt; all_give(rt, &texts, ReplyFault::Rest)?);
+    all_give(rt, &texts, ReplyFault::Rest)?;
     Ok(())
 }
