@@ -45,14 +45,17 @@ pub struct Ended {
 }
 
 impl Ended {
+    /// What it wrote to the output.
     pub fn output(&self) -> &[u8] {
         self.output.get(..self.printed).unwrap_or(&self.output)
     }
 
+    /// What it wrote about faults.
     pub fn faults(&self) -> &[u8] {
         self.faults.get(..self.told).unwrap_or(&self.faults)
     }
 
+    /// Whether it ended with this status, this output and these faults.
     pub fn is(&self, status: u8, output: &[u8], faults: &[u8]) -> bool {
         self.status == status && self.output() == output && self.faults() == faults
     }
@@ -67,6 +70,7 @@ pub struct Devices {
     pub text: Option<u64>,
 }
 
+/// Devices that never fail, a page a call.
 pub const SOUND: Devices = Devices {
     piece: 4096,
     read: None,
@@ -100,8 +104,28 @@ pub fn run_with(alloc: Global, task: &Task, text: &[u8], input: &[u8], devices: 
     }
 }
 
+/// Runs a task where the file `a.x` is empty.
 pub fn run(alloc: Global, task: &Task, input: &[u8], devices: Devices) -> Ended {
     run_with(alloc, task, b"", input, devices)
+}
+
+/// Whether such a run ends with a status, an output and faults: nothing is known of the answer, so a test of many runs
+/// is proved fast.
+pub fn ends(
+    alloc: Global,
+    task: &Task,
+    text: &[u8],
+    input: &[u8],
+    devices: Devices,
+    ending: (u8, &[u8], &[u8]),
+) -> bool {
+    let (status, output, faults) = ending;
+    run_with(alloc, task, text, input, devices).is(status, output, faults)
+}
+
+/// Devices that move so many bytes a call.
+pub fn by(piece: usize) -> Devices {
+    Devices { piece, ..SOUND }
 }
 
 fn value(alloc: Global, name: &str, types: Option<&str>) -> Result<ValueTask, AllocError> {
@@ -118,10 +142,12 @@ fn value(alloc: Global, name: &str, types: Option<&str>) -> Result<ValueTask, Al
     })
 }
 
+/// A check of hexadecimal, within the widest limits.
 pub fn check(alloc: Global, name: &str, types: Option<&str>) -> Result<Task, AllocError> {
     Ok(Task::Check(value(alloc, name, types)?))
 }
 
+/// The lines of hexadecimal, within the widest limits.
 pub fn show(alloc: Global, name: &str, types: Option<&str>) -> Result<Task, AllocError> {
     Ok(Task::Show(value(alloc, name, types)?))
 }

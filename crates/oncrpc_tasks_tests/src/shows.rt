@@ -1,7 +1,8 @@
 //! The lines of values.
-use crate::harness::{Devices, FILE, LIST, PING, SILLYPROG, SOUND, run, run_with, show};
+use crate::harness::{Devices, FILE, LIST, PING, SILLYPROG, SOUND, by, ends, show};
 use oncrpc_tasks::show_over;
-use std::test::Fail;
+use std::alloc::{AllocError, Global};
+use std::process::Abort;
 use xdr_io::{MemorySink, MemorySource};
 use xdr_types::{KindId, Limits, Schema};
 
@@ -14,96 +15,116 @@ const SILLYPROG_LINES: &[u8] = b"struct
 ok 48
 ";
 
+// Declarations, the name of a kind, the input and the output.
+type Row = (&'static [u8], &'static str, &'static [u8], &'static [u8]);
+
+const VALUES: [Row; 5] = [
+    (FILE, "file", SILLYPROG, SILLYPROG_LINES),
+    (LIST, "list", b"00000000", b"absent\nok 4\n"),
+    (
+        PING,
+        "536870912.1.1.1",
+        b"00000002 68690000",
+        b"\"hi\"\nok 8\n",
+    ),
+    (
+        PING,
+        "string",
+        b"00000003 22095c00",
+        b"\"\\x22\\x09\\x5c\"\nok 8\n",
+    ),
+    (PING, "int", b"ffffffff 00", b"-1\nok 4, more follows\n"),
+];
+
+fn is_shown(alloc: Global, row: Row) -> Result<bool, AllocError> {
+    let (text, name, input, output) = row;
+    let task = show(alloc, name, Some("a.x"))?;
+    let ending = (0, output, b"".as_slice());
+    Ok(
+        ends(alloc, &task, text, input, by(1), ending)
+            && ends(alloc, &task, text, input, by(4096), ending),
+    )
+}
+
 #[test]
-fn shows_values(rt: HostRuntime) -> Result<(), Fail> {
-    let alloc = rt.alloc();
-    let rows = [
-        (FILE, "file", SILLYPROG, SILLYPROG_LINES),
-        (LIST, "list", b"00000000", b"absent\nok 4\n"),
-        (
-            PING,
-            "536870912.1.1.1",
-            b"00000002 68690000",
-            b"\"hi\"\nok 8\n",
-        ),
-        (
-            PING,
-            "string",
-            b"00000003 22095c00",
-            b"\"\\x22\\x09\\x5c\"\nok 8\n",
-        ),
-        (PING, "int", b"ffffffff 00", b"-1\nok 4, more follows\n"),
-    ];
-    for (text, name, input, output) in rows {
-        let task = show(alloc, name, Some("a.x"))?;
-        for piece in [1, 4096] {
-            let devices = Devices { piece, ..SOUND };
-            assert!(rt;
-                run_with(alloc, &task, text, input, devices).is(0, output, b""),
-                "{name}"
-            );
-        }
+fn shows_values(rt: HostRuntime) -> Result<(), AllocError> {
+    for row in &VALUES {
+        assert!(rt; is_shown(rt.alloc(), *row)?, "{}", row.1);
     }
-    let task = show(alloc, "string", None)?;
-    let output = b"\"\\x22\\x09\\x5c\"\nok 8\n";
-    assert!(rt; run(alloc, &task, b"00000003 22095c00", SOUND).is(0, output, b""));
+    Ok(())
+}
+
+#[test]
+fn shows_without_declarations(rt: HostRuntime) -> Result<(), AllocError> {
+    let task = show(rt.alloc(), "string", None)?;
+    let lines = (0, b"\"\\x22\\x09\\x5c\"\nok 8\n".as_slice(), b"".as_slice());
+    assert!(rt; ends(rt.alloc(), &task, b"", b"00000003 22095c00", SOUND, lines));
     Ok(())
 }
 
 // Of a value that is refused nothing is shown.
-#[test]
-fn shows_no_refused_value(rt: HostRuntime) -> Result<(), Fail> {
-    let alloc = rt.alloc();
-    let rows = [
-        (
-            b"00000003 22095c01".as_slice(),
-            b"refused BadPadding at 4\n".as_slice(),
-        ),
-        (b"00000003", b"refused Truncated at 4\n"),
-        (b"0000000", b"refused bad hex\n"),
-    ];
+const REFUSED: [(&[u8], &[u8]); 3] = [
+    (b"00000003 22095c01", b"refused BadPadding at 4\n"),
+    (b"00000003", b"refused Truncated at 4\n"),
+    (b"0000000", b"refused bad hex\n"),
+];
+
+fn is_refused(alloc: Global, input: &[u8], output: &[u8]) -> Result<bool, AllocError> {
     let task = show(alloc, "string", None)?;
-    for (input, output) in rows {
-        assert!(rt; run(alloc, &task, input, SOUND).is(1, output, b""));
+    Ok(ends(alloc, &task, b"", input, SOUND, (1, output, b"")))
+}
+
+#[test]
+fn shows_no_refused_value(rt: HostRuntime) -> Result<(), AllocError> {
+    for (input, output) in &REFUSED {
+        assert!(rt; is_refused(rt.alloc(), input, output)?, "{input:?}");
     }
-    let long = vec![in alloc; b' '; 1048577]?;
-    assert!(rt; run(alloc, &task, &long, SOUND).is(1, b"refused hex too long\n", b""));
-    let task = show(alloc, "file", Some("a.x"))?;
-    let cut = SILLYPROG.strip_suffix(b"74290000".as_slice());
-    let output = b"refused Truncated at 44\n";
-    assert!(rt; run_with(alloc, &task, FILE, cut.unwrap_or(b""), SOUND).is(1, output, b""));
+    Ok(())
+}
+
+#[test]
+fn shows_no_long_value(rt: HostRuntime) -> Result<(), AllocError> {
+    let long = vec![in rt.alloc(); b' '; 1048577]?;
+    assert!(rt; is_refused(rt.alloc(), &long, b"refused hex too long\n")?);
+    Ok(())
+}
+
+#[test]
+fn shows_no_cut_file(rt: HostRuntime) -> Result<(), AllocError> {
+    let task = show(rt.alloc(), "file", Some("a.x"))?;
+    let cut = SILLYPROG
+        .strip_suffix(b"74290000".as_slice())
+        .unwrap_or(b"");
+    let ending = (1, b"refused Truncated at 44\n".as_slice(), b"".as_slice());
+    assert!(rt; ends(rt.alloc(), &task, FILE, cut, SOUND, ending));
     Ok(())
 }
 
 // What went out before a write failed is the beginning of the right lines.
 #[test]
-fn stops_where_a_write_fails(rt: HostRuntime) -> Result<(), Fail> {
-    let alloc = rt.alloc();
-    let task = show(alloc, "file", Some("a.x"))?;
+fn stops_where_a_write_fails(rt: HostRuntime) -> Result<(), AllocError> {
+    let task = show(rt.alloc(), "file", Some("a.x"))?;
     for call in 1..SILLYPROG_LINES.len() + 1 {
         let devices = Devices {
             piece: 1,
             write: Some(call as u64),
             ..SOUND
         };
-        let ended = run_with(alloc, &task, FILE, SILLYPROG, devices);
         let before = SILLYPROG_LINES.get(..call.saturating_sub(1)).unwrap_or(b"");
-        assert!(rt; ended.is(3, before, b"write fault\n"), "at {call}");
+        let ending = (3, before, b"write fault\n".as_slice());
+        assert!(rt;
+            ends(rt.alloc(), &task, FILE, SILLYPROG, devices, ending),
+            "at {call}"
+        );
     }
     Ok(())
 }
 
-#[test]
-fn shows_a_basic_kind(rt: HostRuntime) -> Result<(), Fail> {
-    let alloc = rt.alloc();
-    let schema = Schema::basic(alloc)?;
+// Whether a boolean by its place in the basic schema is shown so.
+fn is_bool_shown(rt: &impl Abort, alloc: Global, schema: &Schema, lines: &[u8]) -> bool {
     let kind = KindId { place: 4 };
-    let Some(limits) = Limits::new(1, 4) else {
-        return Err(Fail::new("limits"));
-    };
-    if !schema.has(kind) {
-        return Err(Fail::new("bool"));
-    }
+    let limits = Limits::new(1, 4).expect(rt, "limits");
+    assert!(*rt; schema.has(kind));
     let (mut out, mut err) = ([0u8; 64], [0u8; 64]);
     let mut output = MemorySink::new(&mut out, 3, None);
     let mut faults = MemorySink::new(&mut err, 3, None);
@@ -113,12 +134,17 @@ fn shows_a_basic_kind(rt: HostRuntime) -> Result<(), Fail> {
         &mut source,
         &mut output,
         &mut faults,
-        &schema,
+        schema,
         kind,
         limits,
         false,
     );
-    assert!(rt; status == 0 && output.written() == b"TRUE\nok 4, more follows\n".as_slice());
-    assert!(rt; faults.written().is_empty());
+    status == 0 && output.written() == lines && faults.written().is_empty()
+}
+
+#[test]
+fn shows_a_basic_kind(rt: HostRuntime) -> Result<(), AllocError> {
+    let schema = Schema::basic(rt.alloc())?;
+    assert!(rt; is_bool_shown(&rt, rt.alloc(), &schema, b"TRUE\nok 4, more follows\n"));
     Ok(())
 }

@@ -1,187 +1,174 @@
-// Values and their bytes, in both directions.
+//! Values and their bytes, in both directions.
+use crate::calls::{decoded, encoded, fed, finished, refusal, started, widest, written};
+use crate::made::{Made, chain, value_of};
 use crate::schema::{
     ALIKE, FILE, FIVE, HYPER, LIST, NOTHING, PAIR, SIX_BYTES, UNSIGNED_HYPER, VOID_CHOICE,
-    all_kinds, bytes, limits,
+    all_kinds,
 };
 use std::alloc::{AllocError, Global};
-use std::test::Fail;
-use xdr_codec::{Decoder, Progress, decode, encode, encode_to};
+use std::process::Abort;
+use xdr_codec::{DecodeFault, Progress, Reason};
 use xdr_io::MemorySink;
-use xdr_types::{KindId, Limits, Schema, Value, fits};
+use xdr_types::{Schema, Value};
+
+// The place of a kind, a value of it, and its bytes.
+type Row = (u32, Made, &'static str);
+
+const FLAT: [Row; 6] = [
+    (FIVE, Made::Content("abc"), "0000000361626300"),
+    (SIX_BYTES, Made::Content("abcdef"), "6162636465660000"),
+    (HYPER, Made::Hyper(-9223372036854775808), "8000000000000000"),
+    (
+        UNSIGNED_HYPER,
+        Made::UnsignedHyper(18446744073709551615),
+        "ffffffffffffffff",
+    ),
+    (ALIKE, Made::Numbered(5), "00000005"),
+    (NOTHING, Made::Nothing, ""),
+];
+
+const COMPOSITE: [Row; 4] = [
+    (
+        LIST,
+        Made::Strings,
+        "00000001000000016100000000000001000000026263000000000000",
+    ),
+    (
+        FILE,
+        Made::File,
+        "0000000973696c6c7970726f6700000000000002000000046c697370000000046a6f686e000000062871756974290000",
+    ),
+    (PAIR, Made::Pair(-1, 2147483647), "ffffffff7fffffff"),
+    (VOID_CHOICE, Made::Under(1), "00000001"),
+];
+
+#[test]
+fn flat(rt: HostRuntime) {
+    check_each(&rt, rt.alloc(), &FLAT);
+}
+
+#[test]
+fn composite(rt: HostRuntime) {
+    check_each(&rt, rt.alloc(), &COMPOSITE);
+}
+
+fn check_each(rt: &impl Abort, alloc: Global, rows: &[Row]) {
+    let schema = all_kinds(rt, alloc);
+    for (place, value, text) in rows {
+        check(rt, alloc, &schema, *place, *value, text);
+    }
+}
 
 // The value has these bytes by each of the calls, and they are the value, whole and byte by byte.
-fn check(alloc: Global, place: u32, value: &Value, text: &str) -> Result<(), Fail> {
-    let schema = all_kinds(alloc)?;
-    let kind = KindId { place };
-    let limits = limits(4096, 16777216)?;
-    let input = match hex::decode(alloc, text) {
-        Ok(input) => input,
-        Err(_) => return Err(Fail::new("no bytes")),
-    };
-    if !schema.has(kind) || !fits(&schema, kind, value, limits) {
-        return Err(Fail::new("does not fit"));
+fn check(rt: &impl Abort, alloc: Global, schema: &Schema, place: u32, value: Made, text: &str) {
+    let value = value_of(alloc, value).expect(rt, text);
+    let input = hex::decode(alloc, text).expect(rt, text);
+    let right = is_encoded(rt, alloc, schema, place, &value, &input)
+        && is_written(rt, schema, place, &value, &input)
+        && is_decoded(rt, alloc, schema, place, &value, &input)
+        && is_fed(rt, alloc, schema, place, &value, &input);
+    if !right {
+        panic!(*rt; "kind {place}: {text}");
     }
-    if encode(alloc, &schema, kind, value, limits)? != input {
-        return Err(Fail::new("encoded"));
-    }
-    let mut room = [0u8; 256];
-    let mut sink = MemorySink::new(&mut room, 3, None);
-    if encode_to(&mut sink, &schema, kind, value, limits) != Ok(input.len() as u32) {
-        return Err(Fail::new("written"));
-    }
-    if &room[..input.len().min(256)] != &input[..] {
-        return Err(Fail::new("wrote"));
-    }
-    match decode(alloc, &schema, kind, limits, &input) {
-        Ok((again, used)) => {
-            if used != input.len() || again != *value {
-                return Err(Fail::new("decoded"));
-            }
-        }
-        Err(_) => return Err(Fail::new("refused")),
-    }
-    in_bytes(alloc, &schema, kind, limits, value, &input)
 }
 
-fn in_bytes(
+fn is_encoded(
+    rt: &impl Abort,
     alloc: Global,
     schema: &Schema,
-    kind: KindId,
-    limits: Limits,
+    place: u32,
     value: &Value,
     input: &[u8],
-) -> Result<(), Fail> {
-    if !schema.has(kind) {
-        return Err(Fail::new("no kind"));
+) -> bool {
+    match encoded(rt, alloc, schema, place, value) {
+        Ok(bytes) => bytes.as_slice() == input,
+        Err(_) => false,
     }
-    let mut decoder = Decoder::start(alloc, schema, kind, limits);
-    let mut last = decoder.feed(&[]);
+}
+
+// In pieces of three bytes.
+fn is_written(rt: &impl Abort, schema: &Schema, place: u32, value: &Value, input: &[u8]) -> bool {
+    let mut room = [0u8; 256];
+    let mut sink = MemorySink::new(&mut room, 3, None);
+    match written(rt, &mut sink, schema, place, value) {
+        Ok(count) => count as usize == input.len() && sink.written() == input,
+        Err(_) => false,
+    }
+}
+
+fn is_decoded(
+    rt: &impl Abort,
+    alloc: Global,
+    schema: &Schema,
+    place: u32,
+    value: &Value,
+    input: &[u8],
+) -> bool {
+    match decoded(rt, alloc, schema, place, widest(rt), input) {
+        Ok((again, used)) => used == input.len() && again == *value,
+        Err(_) => false,
+    }
+}
+
+// The last byte ends the value, and none before it does.
+fn is_fed(
+    rt: &impl Abort,
+    alloc: Global,
+    schema: &Schema,
+    place: u32,
+    value: &Value,
+    input: &[u8],
+) -> bool {
+    let mut decoder = started(rt, alloc, schema, place, widest(rt));
+    let mut last = fed(&mut decoder, &[]);
     for byte in input {
         if last != Ok(Progress::More) {
-            return Err(Fail::new("early"));
+            return false;
         }
-        last = decoder.feed(&[*byte]);
+        last = fed(&mut decoder, &[*byte]);
     }
     let used = if input.is_empty() { 0 } else { 1 };
-    if last != Ok(Progress::Done { used }) || decoder.feed(&[7]) != Ok(Progress::Done { used: 0 }) {
-        return Err(Fail::new("late"));
-    }
-    match decoder.finish() {
-        Ok(again) => {
-            if again == *value {
-                return Ok(());
-            }
-            Err(Fail::new("fed"))
-        }
-        Err(_) => Err(Fail::new("not finished")),
-    }
+    let late = fed(&mut decoder, &[7]);
+    last == Ok(Progress::Done { used })
+        && late == Ok(Progress::Done { used: 0 })
+        && is_value(finished(decoder), value)
 }
 
-fn entry(alloc: Global, text: &str, next: Value) -> Result<Value, Fail> {
-    let mut parts = Vec::new(alloc);
-    parts.push(bytes(alloc, text)?)?;
-    parts.push(next)?;
-    Ok(Value::Maybe(Some(Box::new(alloc, Value::Group(parts))?)))
-}
-
-fn file(alloc: Global) -> Result<Value, Fail> {
-    let mut parts = Vec::new(alloc);
-    parts.push(bytes(alloc, "sillyprog")?)?;
-    let part = Box::new(alloc, bytes(alloc, "lisp")?)?;
-    parts.push(Value::Choice { tag: 2, part })?;
-    parts.push(bytes(alloc, "john")?)?;
-    parts.push(bytes(alloc, "(quit)")?)?;
-    Ok(Value::Group(parts))
+fn is_value(answer: Result<Value, DecodeFault>, value: &Value) -> bool {
+    match answer {
+        Ok(again) => again == *value,
+        Err(_) => false,
+    }
 }
 
 #[test]
-fn flat(rt: HostRuntime) -> Result<(), Fail> {
+fn the_deepest_list(rt: HostRuntime) {
     let alloc = rt.alloc();
-    check(alloc, FIVE, &bytes(alloc, "abc")?, "0000000361626300")?;
-    check(
-        alloc,
-        SIX_BYTES,
-        &bytes(alloc, "abcdef")?,
-        "6162636465660000",
-    )?;
-    check(
-        alloc,
-        HYPER,
-        &Value::Hyper(-9223372036854775808),
-        "8000000000000000",
-    )?;
-    check(
-        alloc,
-        UNSIGNED_HYPER,
-        &Value::UnsignedHyper(18446744073709551615),
-        "ffffffffffffffff",
-    )?;
-    check(alloc, ALIKE, &Value::Numbered(5), "00000005")?;
-    check(alloc, NOTHING, &Value::Nothing, "")
+    let schema = all_kinds(&rt, alloc);
+    let list = chain(alloc, 2047).expect(&rt, "list");
+    let bytes = encoded(&rt, alloc, &schema, LIST, &list).expect(&rt, "encoded");
+    assert!(rt; bytes.len() == 16380);
+    assert!(rt; is_decoded(&rt, alloc, &schema, LIST, &list, &bytes));
 }
 
-#[test]
-fn composite(rt: HostRuntime) -> Result<(), Fail> {
-    let alloc = rt.alloc();
-    let list = entry(alloc, "a", entry(alloc, "bc", Value::Maybe(None))?)?;
-    check(
-        alloc,
-        LIST,
-        &list,
-        "00000001000000016100000000000001000000026263000000000000",
-    )?;
-    check(
-        alloc,
-        FILE,
-        &file(alloc)?,
-        "0000000973696c6c7970726f6700000000000002000000046c697370000000046a6f686e000000062871756974290000",
-    )?;
-    let mut items = Vec::new(alloc);
-    items.push(Value::Int(-1))?;
-    items.push(Value::Int(2147483647))?;
-    check(alloc, PAIR, &Value::List(items), "ffffffff7fffffff")?;
-    let part = Box::new(alloc, Value::Nothing)?;
-    check(
-        alloc,
-        VOID_CHOICE,
-        &Value::Choice { tag: 1, part },
-        "00000001",
-    )
-}
-
-// A list of so many empty strings.
-fn chain(alloc: Global, count: u32) -> Result<Value, AllocError> {
-    let mut list = Value::Maybe(None);
+// The bytes of a list of so many empty strings.
+fn chain_bytes(alloc: Global, count: u32) -> Result<Vec<u8>, AllocError> {
+    let mut bytes = Vec::new(alloc);
     for _turn in 0..count {
-        let mut parts = Vec::new(alloc);
-        parts.push(Value::Bytes(Vec::new(alloc)))?;
-        parts.push(list)?;
-        list = Value::Maybe(Some(Box::new(alloc, Value::Group(parts))?));
+        bytes.extend_from_slice(&[0, 0, 0, 1, 0, 0, 0, 0])?;
     }
-    Ok(list)
+    bytes.extend_from_slice(&[0, 0, 0, 0])?;
+    Ok(bytes)
 }
 
 #[test]
-fn the_deepest_list(rt: HostRuntime) -> Result<(), Fail> {
+fn a_list_too_deep(rt: HostRuntime) {
     let alloc = rt.alloc();
-    let schema = all_kinds(alloc)?;
-    let kind = KindId { place: LIST };
-    let limits = limits(4096, 16777216)?;
-    let list = chain(alloc, 2047)?;
-    if !schema.has(kind) || !fits(&schema, kind, &list, limits) {
-        return Err(Fail::new("does not fit"));
-    }
-    let mut encoded = encode(alloc, &schema, kind, &list, limits)?;
-    assert!(rt; encoded.len() == 16380);
-    match decode(alloc, &schema, kind, limits, &encoded) {
-        Ok((again, used)) => assert!(rt; used == 16380 && again == list),
-        Err(_) => assert!(rt; false),
-    }
-    encoded.truncate(16376);
-    encoded.extend_from_slice(&[0, 0, 0, 1, 0, 0, 0, 0, 0, 0, 0, 0])?;
-    match decode(alloc, &schema, kind, limits, &encoded) {
-        Ok(_) => assert!(rt; false),
-        Err(fault) => assert!(rt; fault.why == xdr_codec::Reason::TooDeep && fault.at == 16380),
-    }
-    Ok(())
+    let schema = all_kinds(&rt, alloc);
+    let fault = DecodeFault {
+        why: Reason::TooDeep,
+        at: 16380,
+    };
+    let bytes = chain_bytes(alloc, 2048).expect(&rt, "bytes");
+    assert!(rt; refusal(&rt, alloc, &schema, LIST, widest(&rt), &bytes) == Some(fault));
 }

@@ -4,8 +4,14 @@
 #[cfg(test)]
 mod accepted;
 #[cfg(test)]
+mod calls;
+#[cfg(test)]
+mod failures;
+#[cfg(test)]
+mod made;
+#[cfg(test)]
+mod pieces;
+#[cfg(test)]
 mod refused;
 #[cfg(test)]
 mod schema;
-#[cfg(test)]
-mod steps;

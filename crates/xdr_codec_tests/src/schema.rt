@@ -1,9 +1,8 @@
-// A schema with each kind, and values of it.
-
-use std::alloc::Global;
+//! A schema with each kind.
+use std::alloc::{AllocError, Global};
+use std::process::Abort;
 use std::string::String;
-use std::test::Fail;
-use xdr_types::{Arm, Kind, KindId, Limits, Member, Schema, Value};
+use xdr_types::{Arm, Kind, KindId, Member, Schema};
 
 pub const INT: u32 = 0;
 
@@ -47,135 +46,143 @@ pub const BOOL_CHOICE: u32 = 24;
 
 pub const KIND_CHOICE: u32 = 25;
 
-pub fn member(alloc: Global, name: &str, place: u32) -> Result<Member, Fail> {
+// A kind whose lists are literals: other kinds are named by their places, and arms by their cases.
+#[derive(Clone, Copy)]
+enum Shape {
+    Int,
+    Unsigned,
+    Hyper,
+    UnsignedHyper,
+    Bool,
+    Nothing,
+    Opaque(u32),
+    OpaqueUpTo(u32),
+    Text(u32),
+    Fixed(u32, u32),
+    UpTo(u32, u32),
+    Maybe(u32),
+    Numbered(&'static [(&'static str, i32)]),
+    Structure(&'static [(&'static str, u32)]),
+    Choice(u32, &'static [(i64, &'static str, u32)]),
+}
+
+// The kinds in the order of their places.
+const SHAPES: [Shape; 26] = [
+    Shape::Int,
+    Shape::Unsigned,
+    Shape::Hyper,
+    Shape::UnsignedHyper,
+    Shape::Bool,
+    Shape::Nothing,
+    Shape::OpaqueUpTo(4294967295),
+    Shape::Text(4294967295),
+    Shape::OpaqueUpTo(5),
+    Shape::Maybe(10),
+    Shape::Structure(&[("item", STRING), ("next", LIST)]),
+    // The file of RFC 4506 section 7.
+    Shape::Numbered(&[("TEXT", 0), ("DATA", 1), ("EXEC", 2)]),
+    Shape::Text(255),
+    Shape::Choice(
+        FILEKIND,
+        &[(0, "", NOTHING), (1, "creator", 12), (2, "interpretor", 12)],
+    ),
+    Shape::Text(32),
+    Shape::OpaqueUpTo(65535),
+    Shape::Structure(&[
+        ("filename", 12),
+        ("type", 13),
+        ("owner", OWNER),
+        ("data", 15),
+    ]),
+    // The others.
+    Shape::Choice(INT, &[(1, "x", INT)]),
+    Shape::Choice(INT, &[(1, "", NOTHING)]),
+    Shape::Structure(&[("x", INT)]),
+    Shape::UpTo(INT, 2),
+    Shape::Numbered(&[("a", 5), ("b", 5)]),
+    Shape::Opaque(6),
+    Shape::Fixed(INT, 2),
+    Shape::Choice(BOOL, &[(0, "x", INT)]),
+    Shape::Choice(FILEKIND, &[(0, "x", INT)]),
+];
+
+fn id(place: u32) -> KindId {
+    KindId { place }
+}
+
+fn member(alloc: Global, name: &str, place: u32) -> Result<Member, AllocError> {
     Ok(Member {
         name: String::from_str(alloc, name)?,
-        kind: KindId { place },
+        kind: id(place),
     })
 }
 
-pub fn arm(alloc: Global, case: i64, name: &str, place: u32) -> Result<Arm, Fail> {
-    let mut cases = Vec::new(alloc);
-    cases.push(case)?;
-    let member = member(alloc, name, place)?;
-    Ok(Arm { cases, member })
-}
-
-// What the basic names stand for.
-fn push_basic(alloc: Global, kinds: &mut Vec<Kind>) -> Result<(), Fail> {
-    kinds.push(Kind::Int)?;
-    kinds.push(Kind::Unsigned)?;
-    kinds.push(Kind::Hyper)?;
-    kinds.push(Kind::UnsignedHyper)?;
-    kinds.push(Kind::Bool)?;
-    kinds.push(Kind::Nothing)?;
-    kinds.push(Kind::OpaqueUpTo { max: 4294967295 })?;
-    kinds.push(Kind::Text { max: 4294967295 })?;
-    kinds.push(Kind::OpaqueUpTo { max: 5 })?;
-    kinds.push(Kind::Maybe {
-        item: KindId { place: 10 },
-    })?;
-    let fields = vec![in alloc;
-        member(alloc, "item", STRING)?,
-        member(alloc, "next", LIST)?,
-    ]?;
-    kinds.push(Kind::Structure { fields })?;
-    Ok(())
-}
-
-// The file of RFC 4506 section 7.
-fn push_file(alloc: Global, kinds: &mut Vec<Kind>) -> Result<(), Fail> {
+fn numbered(alloc: Global, names: &[(&'static str, i32)]) -> Result<Kind, AllocError> {
     let mut members = Vec::new(alloc);
-    members.push((String::from_str(alloc, "TEXT")?, 0))?;
-    members.push((String::from_str(alloc, "DATA")?, 1))?;
-    members.push((String::from_str(alloc, "EXEC")?, 2))?;
-    kinds.push(Kind::Numbered { members })?;
-    kinds.push(Kind::Text { max: 255 })?;
-    let arms = vec![in alloc;
-        arm(alloc, 0, "", NOTHING)?,
-        arm(alloc, 1, "creator", 12)?,
-        arm(alloc, 2, "interpretor", 12)?,
-    ]?;
-    kinds.push(Kind::Choice {
-        tag: KindId { place: FILEKIND },
-        arms,
-        other: None,
-    })?;
-    kinds.push(Kind::Text { max: 32 })?;
-    kinds.push(Kind::OpaqueUpTo { max: 65535 })?;
-    let fields = vec![in alloc;
-        member(alloc, "filename", 12)?,
-        member(alloc, "type", 13)?,
-        member(alloc, "owner", OWNER)?,
-        member(alloc, "data", 15)?,
-    ]?;
-    kinds.push(Kind::Structure { fields })?;
-    Ok(())
+    for (name, number) in names {
+        members.push((String::from_str(alloc, name)?, *number))?;
+    }
+    Ok(Kind::Numbered { members })
 }
 
-fn push_others(alloc: Global, kinds: &mut Vec<Kind>) -> Result<(), Fail> {
-    let arms = vec![in alloc; arm(alloc, 1, "x", INT)?]?;
-    kinds.push(Kind::Choice {
-        tag: KindId { place: INT },
-        arms,
-        other: None,
-    })?;
-    let arms = vec![in alloc; arm(alloc, 1, "", NOTHING)?]?;
-    kinds.push(Kind::Choice {
-        tag: KindId { place: INT },
-        arms,
-        other: None,
-    })?;
-    let fields = vec![in alloc; member(alloc, "x", INT)?]?;
-    kinds.push(Kind::Structure { fields })?;
-    kinds.push(Kind::UpTo {
-        item: KindId { place: INT },
-        max: 2,
-    })?;
-    let mut members = Vec::new(alloc);
-    members.push((String::from_str(alloc, "a")?, 5))?;
-    members.push((String::from_str(alloc, "b")?, 5))?;
-    kinds.push(Kind::Numbered { members })?;
-    kinds.push(Kind::Opaque { size: 6 })?;
-    kinds.push(Kind::Fixed {
-        item: KindId { place: INT },
-        size: 2,
-    })?;
-    let arms = vec![in alloc; arm(alloc, 0, "x", INT)?]?;
-    kinds.push(Kind::Choice {
-        tag: KindId { place: BOOL },
-        arms,
-        other: None,
-    })?;
-    let arms = vec![in alloc; arm(alloc, 0, "x", INT)?]?;
-    kinds.push(Kind::Choice {
-        tag: KindId { place: FILEKIND },
-        arms,
-        other: None,
-    })?;
-    Ok(())
+fn structure(alloc: Global, parts: &[(&'static str, u32)]) -> Result<Kind, AllocError> {
+    let mut fields = Vec::new(alloc);
+    for (name, place) in parts {
+        fields.push(member(alloc, name, *place)?)?;
+    }
+    Ok(Kind::Structure { fields })
 }
 
-pub fn all_kinds(alloc: Global) -> Result<Schema, Fail> {
+fn choice(alloc: Global, tag: u32, parts: &[(i64, &'static str, u32)]) -> Result<Kind, AllocError> {
+    let mut arms = Vec::new(alloc);
+    for (case, name, place) in parts {
+        let cases = vec![in alloc; *case]?;
+        let member = member(alloc, name, *place)?;
+        arms.push(Arm { cases, member })?;
+    }
+    Ok(Kind::Choice {
+        tag: id(tag),
+        arms,
+        other: None,
+    })
+}
+
+fn kind_of(alloc: Global, shape: Shape) -> Result<Kind, AllocError> {
+    match shape {
+        Shape::Int => Ok(Kind::Int),
+        Shape::Unsigned => Ok(Kind::Unsigned),
+        Shape::Hyper => Ok(Kind::Hyper),
+        Shape::UnsignedHyper => Ok(Kind::UnsignedHyper),
+        Shape::Bool => Ok(Kind::Bool),
+        Shape::Nothing => Ok(Kind::Nothing),
+        Shape::Opaque(size) => Ok(Kind::Opaque { size }),
+        Shape::OpaqueUpTo(max) => Ok(Kind::OpaqueUpTo { max }),
+        Shape::Text(max) => Ok(Kind::Text { max }),
+        Shape::Fixed(place, size) => Ok(Kind::Fixed {
+            item: id(place),
+            size,
+        }),
+        Shape::UpTo(place, max) => Ok(Kind::UpTo {
+            item: id(place),
+            max,
+        }),
+        Shape::Maybe(place) => Ok(Kind::Maybe { item: id(place) }),
+        Shape::Numbered(names) => numbered(alloc, names),
+        Shape::Structure(parts) => structure(alloc, parts),
+        Shape::Choice(tag, parts) => choice(alloc, tag, parts),
+    }
+}
+
+fn kinds(alloc: Global) -> Result<Vec<Kind>, AllocError> {
     let mut kinds = Vec::new(alloc);
-    push_basic(alloc, &mut kinds)?;
-    push_file(alloc, &mut kinds)?;
-    push_others(alloc, &mut kinds)?;
-    match Schema::build(alloc, kinds, Vec::new(alloc)) {
-        Ok(schema) => Ok(schema),
-        Err(_) => Err(Fail::new("no schema")),
+    for shape in &SHAPES {
+        kinds.push(kind_of(alloc, *shape)?)?;
     }
+    Ok(kinds)
 }
 
-pub fn limits(depth: u32, bytes: u32) -> Result<Limits, Fail> {
-    match Limits::new(depth, bytes) {
-        Some(limits) => Ok(limits),
-        None => Err(Fail::new("no limits")),
-    }
-}
-
-pub fn bytes(alloc: Global, text: &str) -> Result<Value, Fail> {
-    let mut content = Vec::new(alloc);
-    content.extend_from_slice(text.as_bytes())?;
-    Ok(Value::Bytes(content))
+/// A schema of all these kinds.
+pub fn all_kinds(rt: &impl Abort, alloc: Global) -> Schema {
+    let kinds = kinds(alloc).expect(rt, "kinds");
+    Schema::build(alloc, kinds, Vec::new(alloc)).expect(rt, "schema")
 }

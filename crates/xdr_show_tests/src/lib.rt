@@ -2,8 +2,10 @@
 #![tactic(auto)]
 
 #[cfg(test)]
+mod calls;
+#[cfg(test)]
 mod lines;
 #[cfg(test)]
-mod made;
-#[cfg(test)]
 mod memory;
+#[cfg(test)]
+mod schema;

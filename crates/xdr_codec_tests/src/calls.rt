@@ -1,0 +1,98 @@
+//! The calls of `xdr_codec`, each where its arguments are right. Nothing is said here of their answers, so that the
+//! tests are proved fast.
+use std::alloc::{AllocError, Global};
+use std::process::Abort;
+use xdr_codec::{DecodeFault, Decoder, Progress, WriteFault, decode, encode, encode_to};
+use xdr_io::MemorySink;
+use xdr_types::{KindId, Limits, Schema, Value, fits};
+
+/// Limits that are in range.
+pub fn limits(rt: &impl Abort, depth: u32, bytes: u32) -> Limits {
+    Limits::new(depth, bytes).expect(rt, "limits")
+}
+
+/// The widest limits.
+pub fn widest(rt: &impl Abort) -> Limits {
+    limits(rt, 4096, 16777216)
+}
+
+/// Whether the schema has a kind at the place, and the value fits it within the widest limits.
+pub fn is_fit(rt: &impl Abort, schema: &Schema, place: u32, value: &Value) -> bool {
+    let kind = KindId { place };
+    schema.has(kind) && fits(schema, kind, value, widest(rt))
+}
+
+/// What `encode` answers for a value that fits within the widest limits.
+pub fn encoded(
+    rt: &impl Abort,
+    alloc: Global,
+    schema: &Schema,
+    place: u32,
+    value: &Value,
+) -> Result<Vec<u8>, AllocError> {
+    let (kind, limits) = (KindId { place }, widest(rt));
+    assert!(*rt; schema.has(kind) && fits(schema, kind, value, limits));
+    encode(alloc, schema, kind, value, limits)
+}
+
+/// What `encode_to` answers for a value that fits within the widest limits.
+pub fn written(
+    rt: &impl Abort,
+    sink: &mut MemorySink<'_>,
+    schema: &Schema,
+    place: u32,
+    value: &Value,
+) -> Result<u32, WriteFault> {
+    let (kind, limits) = (KindId { place }, widest(rt));
+    assert!(*rt; schema.has(kind) && fits(schema, kind, value, limits));
+    encode_to(sink, schema, kind, value, limits)
+}
+
+/// What `decode` answers for a kind that the schema has.
+pub fn decoded(
+    rt: &impl Abort,
+    alloc: Global,
+    schema: &Schema,
+    place: u32,
+    limits: Limits,
+    input: &[u8],
+) -> Result<(Value, usize), DecodeFault> {
+    let kind = KindId { place };
+    assert!(*rt; schema.has(kind));
+    decode(alloc, schema, kind, limits, input)
+}
+
+/// What `decode` refuses the bytes with, or `None` where they begin with a value.
+pub fn refusal(
+    rt: &impl Abort,
+    alloc: Global,
+    schema: &Schema,
+    place: u32,
+    limits: Limits,
+    input: &[u8],
+) -> Option<DecodeFault> {
+    decoded(rt, alloc, schema, place, limits, input).err()
+}
+
+/// A decoder for a kind that the schema has.
+pub fn started<'s>(
+    rt: &impl Abort,
+    alloc: Global,
+    schema: &'s Schema,
+    place: u32,
+    limits: Limits,
+) -> Decoder<'s> {
+    let kind = KindId { place };
+    assert!(*rt; schema.has(kind));
+    Decoder::start(alloc, schema, kind, limits)
+}
+
+/// What `feed` answers.
+pub fn fed(decoder: &mut Decoder<'_>, piece: &[u8]) -> Result<Progress, DecodeFault> {
+    decoder.feed(piece)
+}
+
+/// What `finish` answers.
+pub fn finished(decoder: Decoder<'_>) -> Result<Value, DecodeFault> {
+    decoder.finish()
+}
