@@ -1,5 +1,5 @@
 //! The program over the system: words, files and standard streams.
-ghost use Rattle.std.specs.Prelude.{◌≤◌};
+ghost use Rattle.std.specs.Prelude.{◌≡◌, ◌≤◌, ◌⊎◌};
 
 use crate::files::FileOpener;
 use crate::words::{WordsFault, no_memory, read_words};
@@ -48,7 +48,10 @@ fn unread_words(alloc: Global, error: &io::Error) -> WordsFault {
 
 // Help goes to standard output; what is wrong with the words, and want of memory, to standard error.
 fn print_words_fault(rt: &HostRuntime, fault: &WordsFault) -> u8
-    ensures { result ≤ 4 }
+    ensures some_status { result ≤ 4 }
+    ensures helped { fault.now.status ≡ 0 → (result ≡ 0) ⊎ (result ≡ 3) }
+    ensures refused { fault.now.status ≡ 2 → result ≡ 2 }
+    ensures wanting { fault.now.status ≡ 4 → result ≡ 4 }
 {
     let mut faults = IntoWrite::new(rt.stderr());
     match fault.status {

@@ -14,3 +14,5 @@ pub mod Joining
 pub mod Worked
 pub mod Refusing
 pub mod Apart
+pub mod Cases
+pub mod Earlier

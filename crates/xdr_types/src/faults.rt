@@ -1,5 +1,5 @@
 // What is found first that is wrong with the lists of a schema.
-ghost use Rattle.std.specs.Prelude.{◌≡◌, ◌&&◌, ◌||◌, ℤ, [], map, option_map, drop, not, string_bytes, length, MatchOption, List, ℕ};
+ghost use Rattle.std.specs.Prelude.{◌≡◌, ℤ, [], map, option_map, drop, not, string_bytes, length, if◌then◌else◌, IfOk, MatchOption, List, ℕ};
 ghost use Rattle.std.specs.Str.{bytes_eq};
 ghost use Rattle.xdr_types.specs.Form.{Form, Part, Branch, Constant, kind_at};
 ghost use Rattle.xdr_types.specs.Forms.{form_of, constant_of, part_of_member, branch_of, name_of};
@@ -13,8 +13,10 @@ use crate::choice::{is_tag_number, lists};
 use crate::fault::{Flaw, SchemaFault};
 use crate::heights::has_no_arm;
 use crate::kind::{Arm, Kind, KindId, Member};
-use crate::twice::constant_repeats;
-use std::alloc::Global;
+use crate::pairs::{arm_in_pairs, constant_in_pairs, field_in_pairs, is_same_name};
+use crate::twice::{arm_repeats, case_repeats, constant_repeats, field_repeats};
+use std::alloc::{AllocError, Global};
+use std::collections::BTreeSet;
 use std::string::String;
 
 // ---- places
@@ -172,7 +174,7 @@ fn some_has_arm(arms: &[Arm], cases: &Vec<i64>) -> bool
     false
 }
 
-fn arms_case_twice(arms: &Vec<Arm>) -> bool
+fn case_in_pairs(arms: &Vec<Arm>) -> bool
     ensures { result ≡ arms_case_twice (map branch_of arms.now.items) }
 {
     for (i, arm) in arms.iter().enumerate() {
@@ -183,7 +185,17 @@ fn arms_case_twice(arms: &Vec<Arm>) -> bool
     false
 }
 
-fn has_case_twice(kind: &Kind) -> bool
+// Where memory for a set is refused, all pairs are looked at, which is slow and needs none.
+fn arms_case_twice(alloc: Global, arms: &Vec<Arm>) -> bool
+    ensures { result ≡ arms_case_twice (map branch_of arms.now.items) }
+{
+    match case_repeats(alloc, arms) {
+        Ok(twice) => twice,
+        Err(_) => case_in_pairs(arms),
+    }
+}
+
+fn has_case_twice(alloc: Global, kind: &Kind) -> bool
     ensures { result ≡ has_case_twice (form_of kind.now) }
 {
     match kind {
@@ -191,7 +203,7 @@ fn has_case_twice(kind: &Kind) -> bool
             tag: _,
             arms,
             other: _,
-        } => arms_case_twice(arms),
+        } => arms_case_twice(alloc, arms),
         _ => false,
     }
 }
@@ -278,34 +290,6 @@ fn has_empty_list(kind: &Kind) -> bool
 
 // ---- names
 
-fn is_same_name(a: &String, b: &String) -> bool
-    ensures { result ≡ bytes_eq (string_bytes a.now) (string_bytes b.now) }
-{
-    a == b
-}
-
-fn names_constant(members: &[(String, i32)], name: &String) -> bool
-    ensures { result ≡ some_of (λ (d : Constant). bytes_eq (string_bytes name.now) d.name) (map constant_of members.now) }
-{
-    for member in members {
-        if is_same_name(name, &member.0) {
-            return true;
-        }
-    }
-    false
-}
-
-fn constant_in_pairs(members: &Vec<(String, i32)>) -> bool
-    ensures { result ≡ constant_twice (map constant_of members.now.items) }
-{
-    for (i, member) in members.iter().enumerate() {
-        if names_constant(&members[i + 1..], &member.0) {
-            return true;
-        }
-    }
-    false
-}
-
 // Where memory for a set is refused, all pairs are looked at, which is slow and needs none.
 fn constant_twice(alloc: Global, members: &Vec<(String, i32)>) -> bool
     ensures { result ≡ constant_twice (map constant_of members.now.items) }
@@ -316,75 +300,22 @@ fn constant_twice(alloc: Global, members: &Vec<(String, i32)>) -> bool
     }
 }
 
-fn names_field(fields: &[Member], name: &String) -> bool
-    ensures { result ≡ some_of (λ (q : Part). bytes_eq (string_bytes name.now) q.name) (map part_of_member fields.now) }
-{
-    for field in fields {
-        if is_same_name(name, &field.name) {
-            return true;
-        }
-    }
-    false
-}
-
-fn field_twice(fields: &Vec<Member>) -> bool
+fn field_twice(alloc: Global, fields: &Vec<Member>) -> bool
     ensures { result ≡ part_twice (map part_of_member fields.now.items) }
 {
-    for (i, field) in fields.iter().enumerate() {
-        if names_field(&fields[i + 1..], &field.name) {
-            return true;
-        }
-    }
-    false
-}
-
-fn names_arm(arms: &[Arm], name: &String) -> bool
-    ensures { result ≡ some_of (λ (b : Branch). bytes_eq (string_bytes name.now) b.part.name) (map branch_of arms.now) }
-{
-    for arm in arms {
-        if is_same_name(name, &arm.member.name) {
-            return true;
-        }
-    }
-    false
-}
-
-fn names_other(other: &Option<Member>, name: &String) -> bool
-    ensures { result ≡ some_optional (λ (q : Part). bytes_eq (string_bytes name.now) q.name) (option_map part_of_member other.now) }
-{
-    match other {
-        Some(member) => is_same_name(name, &member.name),
-        None => false,
+    match field_repeats(alloc, fields) {
+        Ok(twice) => twice,
+        Err(_) => field_in_pairs(fields),
     }
 }
 
-// Whether a name that is not empty is one of later arms or of the other part.
-fn is_name_again(arms: &[Arm], other: &Option<Member>, name: &String) -> bool
-    ensures { result ≡ not (is_none (string_bytes name.now))
-        && (some_of (λ (b : Branch). bytes_eq (string_bytes name.now) b.part.name) (map branch_of arms.now)
-        || some_optional (λ (q : Part). bytes_eq (string_bytes name.now) q.name) (option_map part_of_member other.now)) }
-{
-    if is_no_name(name) {
-        return false;
-    }
-    names_arm(arms, name) || names_other(other, name)
-}
-
-fn is_no_name(name: &String) -> bool
-    ensures { result ≡ is_none (string_bytes name.now) }
-{
-    name.is_empty()
-}
-
-fn arm_twice(arms: &Vec<Arm>, other: &Option<Member>) -> bool
+fn arm_twice(alloc: Global, arms: &Vec<Arm>, other: &Option<Member>) -> bool
     ensures { result ≡ arm_twice (map branch_of arms.now.items) (option_map part_of_member other.now) }
 {
-    for (i, arm) in arms.iter().enumerate() {
-        if is_name_again(&arms[i + 1..], other, &arm.member.name) {
-            return true;
-        }
+    match arm_repeats(alloc, arms, other) {
+        Ok(twice) => twice,
+        Err(_) => arm_in_pairs(arms, other),
     }
-    false
 }
 
 fn has_name_twice(alloc: Global, kind: &Kind) -> bool
@@ -392,12 +323,12 @@ fn has_name_twice(alloc: Global, kind: &Kind) -> bool
 {
     match kind {
         Kind::Numbered { members } => constant_twice(alloc, members),
-        Kind::Structure { fields } => field_twice(fields),
+        Kind::Structure { fields } => field_twice(alloc, fields),
         Kind::Choice {
             tag: _,
             arms,
             other,
-        } => arm_twice(arms, other),
+        } => arm_twice(alloc, arms, other),
         _ => false,
     }
 }
@@ -419,7 +350,7 @@ fn kind_flaw(alloc: Global, kinds: &Vec<Kind>, kind: &Kind) -> Option<Flaw>
     if has_bad_tag(kinds, kind) {
         return Some(Flaw::BadDiscriminant);
     }
-    if has_case_twice(kind) {
+    if has_case_twice(alloc, kind) {
         return Some(Flaw::CaseTwice);
     }
     if has_illegal_case(kinds, kind) {
@@ -478,8 +409,8 @@ pub fn first_in_kinds(alloc: Global, kinds: &Vec<Kind>) -> Option<SchemaFault>
     None
 }
 
-/// The first flaw of a name, at its place; none where no name has one.
-pub fn first_in_names(kinds: &Vec<Kind>, names: &Vec<(String, KindId)>) -> Option<SchemaFault>
+// The first flaw of a name, at its place, by a comparison with all names before it, which needs no memory.
+fn first_in_turn(kinds: &Vec<Kind>, names: &Vec<(String, KindId)>) -> Option<SchemaFault>
     ensures { MatchOption result
         (AreFlawless (name_flaw_at (map form_of kinds.now.items) (map name_of names.now.items)) (length names.now.items))
         (IsFirstFlaw (name_flaw_at (map form_of kinds.now.items) (map name_of names.now.items)) (length names.now.items)) }
@@ -490,4 +421,48 @@ pub fn first_in_names(kinds: &Vec<Kind>, names: &Vec<(String, KindId)>) -> Optio
         }
     }
     None
+}
+
+// How many of the names before a place are looked at: none for a new name.
+fn looked_at(is_new: bool, place: usize) -> usize
+    ensures { result ≡ (if is_new then 0 else place) }
+{
+    if is_new { 0 } else { place }
+}
+
+// The first flaw of a name, by a set of the names before one. They are looked at in turn only where it is one of them.
+fn first_by_set(
+    alloc: Global,
+    kinds: &Vec<Kind>,
+    names: &Vec<(String, KindId)>,
+) -> Result<Option<SchemaFault>, AllocError>
+    ensures { IfOk result (λ fault. MatchOption fault
+        (AreFlawless (name_flaw_at (map form_of kinds.now.items) (map name_of names.now.items)) (length names.now.items))
+        (IsFirstFlaw (name_flaw_at (map form_of kinds.now.items) (map name_of names.now.items)) (length names.now.items))) }
+{
+    let mut earlier = BTreeSet::new(alloc);
+    for (place, name) in names.iter().enumerate() {
+        let is_new = earlier.insert(name.0.as_str())?;
+        let before = looked_at(is_new, place);
+        if let Some(why) = name_flaw(kinds, &names[..before], name) {
+            return Ok(Some(SchemaFault { why, place }));
+        }
+    }
+    Ok(None)
+}
+
+/// The first flaw of a name, at its place; none where no name has one.
+pub fn first_in_names(
+    alloc: Global,
+    kinds: &Vec<Kind>,
+    names: &Vec<(String, KindId)>,
+) -> Option<SchemaFault>
+    ensures { MatchOption result
+        (AreFlawless (name_flaw_at (map form_of kinds.now.items) (map name_of names.now.items)) (length names.now.items))
+        (IsFirstFlaw (name_flaw_at (map form_of kinds.now.items) (map name_of names.now.items)) (length names.now.items)) }
+{
+    match first_by_set(alloc, kinds, names) {
+        Ok(fault) => fault,
+        Err(_) => first_in_turn(kinds, names),
+    }
 }

@@ -15,6 +15,7 @@ mod heights;
 mod kind;
 mod laws;
 mod limits;
+mod pairs;
 mod room;
 mod schema;
 mod twice;

@@ -89,7 +89,7 @@ impl Schema {
         if let Some(fault) = first_in_kinds(alloc, &kinds) {
             return Err(fault);
         }
-        if let Some(fault) = first_in_names(&kinds, &names) {
+        if let Some(fault) = first_in_names(alloc, &kinds, &names) {
             return Err(fault);
         }
         match lowest_without_height(alloc, &kinds) {

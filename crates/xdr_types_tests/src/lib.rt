@@ -4,6 +4,8 @@
 #[cfg(test)]
 mod made;
 #[cfg(test)]
+mod many;
+#[cfg(test)]
 mod memory;
 #[cfg(test)]
 mod schemas;

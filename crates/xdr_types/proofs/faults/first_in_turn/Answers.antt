@@ -4,7 +4,7 @@ use Rattle.xdr_types.specs.Forms.{form_of, name_of}
 use Rattle.xdr_types.specs.Faults.{name_flaw, name_flaw_at}
 use Rattle.xdr_types.specs.declared.kind.KindId.{KindId}
 use Rattle.xdr_types.proofs.Flawless.{one-more, flaw-here}
-use Rattle.xdr_types.proofs.faults.first_in_names.Goals as goal
+use Rattle.xdr_types.proofs.faults.first_in_turn.Goals as goal
 
 pub loop-place-preserved : goal.loop-place-preserved
 loop-place-preserved c =
