@@ -1,5 +1,5 @@
 //! Where texts of declarations come from.
-ghost use Rattle.std.specs.Prelude.{◌≡◌, ◌<◌, ℕ, List, Option, None, Some, IfOk, OnOk, OnErr, if◌then◌else◌};
+ghost use Rattle.std.specs.Prelude.{◌≡◌, ◌<◌, ℕ, List, Option, None, Some, IfOk, IfErr, OnOk, OnErr, true, false, if◌then◌else◌};
 ghost use Rattle.std.specs.Str.{bytes_eq};
 ghost use Rattle.std.specs.Io.KnownBytes.{Keeps};
 ghost use Rattle.xdr_io.specs.Told.{Counts, told_count};
@@ -42,6 +42,8 @@ impl<'a> MemoryOpener<'a> {
         requires { 0 < piece }
         ensures told { ⟦<MemoryOpener<'a> as Opener>⟧.told result name.now ≡ Some text.now }
         ensures failures { ⟦<MemoryOpener<'a> as Opener>⟧.failures result ≡ Some 0 }
+        ensures piece { result.piece ≡ piece }
+        ensures failing { result.failing ≡ failing }
     {
         MemoryOpener {
             name,
@@ -60,7 +62,15 @@ impl<'a> Opener for MemoryOpener<'a> {
 
     ghost failures = { λ s. told_count s.failures };
 
-    fn open(&mut self, name: &str) -> Result<MemorySource<'a>, ReadFault> {
+    fn open(&mut self, name: &str) -> Result<MemorySource<'a>, ReadFault>
+        ensures text { IfOk result (λ text. Keeps (if bytes_eq name.now self.old.name.now then Some self.old.text.now else None) (⟦<MemorySource<'a> as Source>⟧.left text)) }
+        ensures own { IfOk result (λ _. bytes_eq name.now self.old.name.now ≡ true) }
+        ensures other { IfErr result (λ _. bytes_eq name.now self.old.name.now ≡ false) }
+        ensures none_failed { OnOk result (Counts 0 (told_count self.old.failures) (told_count self.new.failures)) }
+        ensures failed { OnErr result (Counts 1 (told_count self.old.failures) (told_count self.new.failures)) }
+        ensures gives { IfOk result (λ text. (text.piece ≡ self.old.piece) × (text.failing ≡ self.old.failing)) }
+        ensures same { (self.new.name ≡ self.old.name) × (self.new.text ≡ self.old.text) × (self.new.piece ≡ self.old.piece) × (self.new.failing ≡ self.old.failing) }
+    {
         if name == self.name {
             Ok(MemorySource::new(self.text, self.piece, self.failing))
         } else {
