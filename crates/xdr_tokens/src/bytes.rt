@@ -9,12 +9,14 @@ pub fn space(byte: u8) -> bool
     byte == b' ' || (9 <= byte && byte <= 13)
 }
 
+/// A letter of ASCII, of either case.
 pub fn letter(byte: u8) -> bool
     ensures { result ≡ is_letter byte }
 {
     (b'A' <= byte && byte <= b'Z') || (b'a' <= byte && byte <= b'z')
 }
 
+/// A decimal digit.
 pub fn digit(byte: u8) -> bool
     ensures { result ≡ is_digit byte }
 {
