@@ -6,8 +6,8 @@ use Rattle.std.proofs.lemmas.List.{length-append, length-replicate, length-map}
 use Rattle.std.proofs.lemmas.Bool.Decides.{Decides-ltb}
 use Rattle.xdr_types.specs.Tree.{Tree, depth}
 use Rattle.xdr_types.specs.Fits.{fits, is_length, are_bytes}
-use Rattle.xdr_types.specs.Numbers.{num4, pad}
-use Rattle.xdr_types.specs.Spelling.{bytes_of, padded}
+use Rattle.xdr_units.specs.Numbers.{num4, pad, padded}
+use Rattle.xdr_types.specs.Spelling.{bytes_of}
 use Rattle.xdr_types.specs.Within.{FitsWithin}
 use Rattle.rpc_uaddr.specs.declared.address.Uaddr.{Uaddr}
 use Rattle.rpc_uaddr.specs.Uaddrs.{uaddr_of}

@@ -7,7 +7,7 @@ use Rattle.xdr_types.specs.Forms.{part_of_member}
 use Rattle.xdr_types.specs.Tree as value
 use Rattle.xdr_types.specs.Tree.{Head, Values, Tree, from_list}
 use Rattle.xdr_types.specs.Fits.{is_tag_of, parts, optional_part, part_of}
-use Rattle.xdr_types.specs.Numbers.{num4}
+use Rattle.xdr_units.specs.Numbers.{num4}
 use Rattle.xdr_types.specs.Laws.{EachPartIsKnown}
 use Rattle.xdr_types.specs.declared.value.Value.{Value}
 use Rattle.xdr_types.specs.declared.kind.Member.{Member}

@@ -6,9 +6,8 @@ use Rattle.xdr_types.specs.Form as form
 use Rattle.xdr_types.specs.Form.{Form, Part, Branch, Constant, kind_at}
 use Rattle.xdr_types.specs.Tree as value
 use Rattle.xdr_types.specs.Tree.{Head, Values, Tree}
-use Rattle.xdr_types.specs.Numbers.{num4, num8, number_of, pad}
+use Rattle.xdr_units.specs.Numbers.{num4, num8, number_of, pad, padded}
 use Rattle.xdr_types.specs.Fits.{is_signed, is_unsigned, is_numbered, is_length, are_bytes}
-use Rattle.xdr_types.specs.Spelling.{padded}
 use Rattle.xdr_types.proofs.Numbers.{num4-front, signed4, unsigned4}
 use Rattle.xdr_codec.specs.declared.fault.Reason.{Reason}
 use Rattle.xdr_codec.specs.declared.fault.Reason.TheVariants as reason

@@ -1,9 +1,8 @@
 -- Numbers and content at the front of bytes.
 use Rattle.std.specs.Prelude.{◌≡◌, ℕ, ℤ, pos, negsuc, List, [], ◌∷◌, ◌++◌, length, Bool, true, false, ◌&&◌, ◌==◌, is_some, Option}
 use Rattle.xdr_types.specs.Form.{Form, Part, Branch, kind_at}
-use Rattle.xdr_types.specs.Numbers.{num4}
+use Rattle.xdr_units.specs.Numbers.{num4, padded}
 use Rattle.xdr_types.specs.Fits.{is_length, is_tag_of, part_of}
-use Rattle.xdr_types.specs.Spelling.{padded}
 
 -- no number that passes the test has its four bytes at the front
 abbrev pub HasNoNumber : (ℤ → Bool) → List ℕ → Type 0

@@ -3,8 +3,8 @@ ghost use Rattle.std.specs.Prelude.{◌≡◌, ◌++◌, ◌<◌, ◌^◌, lengt
 ghost use Rattle.xdr_types.specs.Form.{kind_at};
 ghost use Rattle.xdr_types.specs.Forms.{form_of, part_of_member};
 ghost use Rattle.xdr_types.specs.Fits.{Fits, fits, fit, is_legal, item_part, parts};
-ghost use Rattle.xdr_types.specs.Numbers.{num4, num8, number_of, pad};
-ghost use Rattle.xdr_types.specs.Spelling.{spelling, own, padded, bytes_of};
+ghost use Rattle.xdr_units.specs.Numbers.{num4, num8, number_of, pad, padded};
+ghost use Rattle.xdr_types.specs.Spelling.{spelling, own, bytes_of};
 ghost use Rattle.xdr_types.specs.Tree.{Tree};
 ghost use Rattle.xdr_types.specs.View.{tree, values};
 ghost use Rattle.xdr_types.specs.Within.{FitsWithin};

@@ -3,7 +3,7 @@ ghost use Rattle.std.specs.Prelude.{◌≡◌, ◌++◌, ℤ, pos, map, option_m
 ghost use Rattle.xdr_types.specs.Form.{kind_at};
 ghost use Rattle.xdr_types.specs.Forms.{branch_of, part_of_member};
 ghost use Rattle.xdr_types.specs.Fits.{is_tag_of, part_of};
-ghost use Rattle.xdr_types.specs.Numbers.{num4};
+ghost use Rattle.xdr_units.specs.Numbers.{num4};
 ghost use Rattle.xdr_codec.specs.Fronts.{HasNoNumber, is_case};
 ghost use Rattle.xdr_codec.specs.Refused.{IsRefused};
 

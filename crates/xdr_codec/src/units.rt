@@ -1,8 +1,7 @@
 // Numbers and content at the front of bytes.
 ghost use Rattle.std.specs.Prelude.{◌≡◌, ◌++◌, ◌<◌, pos, length, MatchResult, true};
 ghost use Rattle.xdr_types.specs.Fits.{is_unsigned, are_bytes};
-ghost use Rattle.xdr_types.specs.Numbers.{num4, num8, number_of};
-ghost use Rattle.xdr_types.specs.Spelling.{padded};
+ghost use Rattle.xdr_units.specs.Numbers.{num4, num8, number_of, padded};
 ghost use Rattle.xdr_codec.specs.Refused.{IsRefused};
 ghost use Rattle.xdr_codec.specs.Fronts.{HasNoNumber, HasNoContent, is_count, are_zeros};
 ghost use Rattle.xdr_codec.specs.declared.fault.Reason.TheVariants.{Truncated, NoMemory};

@@ -7,7 +7,7 @@ use Rattle.xdr_types.specs.Form as form
 use Rattle.xdr_types.specs.Form.{Form, Part, Constant, kind_at}
 use Rattle.xdr_types.specs.Tree as value
 use Rattle.xdr_types.specs.Tree.{Head, Values, Tree, from_list}
-use Rattle.xdr_types.specs.Numbers.{pad}
+use Rattle.xdr_units.specs.Numbers.{pad}
 use Rattle.xdr_types.specs.Fits.{parts}
 use Rattle.xdr_types.specs.Spelling.{own}
 use Rattle.xdr_types.specs.Layout.{Entry, entry, shown, content, of_number, of_length}

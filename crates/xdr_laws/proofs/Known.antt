@@ -7,9 +7,9 @@ use Rattle.xdr_types.specs.Form as form
 use Rattle.xdr_types.specs.Form.{Form, Part, Constant, kind_at}
 use Rattle.xdr_types.specs.Tree as value
 use Rattle.xdr_types.specs.Tree.{Head, Values, Tree, from_list}
-use Rattle.xdr_types.specs.Numbers.{pad}
+use Rattle.xdr_units.specs.Numbers.{pad, padded}
 use Rattle.xdr_types.specs.Fits.{Fits, fits, parts, item_part}
-use Rattle.xdr_types.specs.Spelling.{own, spelling, bytes_of, padded}
+use Rattle.xdr_types.specs.Spelling.{own, spelling, bytes_of}
 use Rattle.xdr_types.specs.Layout.{Entry, layout, entries, shown, content}
 use Rattle.xdr_types.specs.Front.{Front}
 use Rattle.xdr_types.specs.Outcome.{Stands}

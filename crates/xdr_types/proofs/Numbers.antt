@@ -2,7 +2,7 @@
 use Rattle.std.proofs.Common.{◌≡◌, ℕ, ◌<◌, ◌^◌, ℤ, pos, negsuc, List, ◌++◌, take, drop, Bool, true, false, refl, ap, sym, ◌∙◌, arith, nat_le, ltb-true, leb-true}
 use Rattle.std.specs.Int.{w32, w64, from_be_bytes, cast_unsigned}
 use Rattle.std.proofs.lemmas.Nat.{from_be_bytes-to_be_bytes_4, from_be_bytes-to_be_bytes_8}
-use Rattle.xdr_types.specs.Numbers.{num4, num8, number_of}
+use Rattle.xdr_units.specs.Numbers.{num4, num8, number_of}
 use Rattle.xdr_types.specs.Fits.{is_signed}
 
 pub num4-front : (a b : ℤ) (x y : List ℕ) → num4 a ++ x ≡ num4 b ++ y → (num4 a ≡ num4 b) × (x ≡ y)

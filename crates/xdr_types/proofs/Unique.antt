@@ -5,7 +5,7 @@ use Rattle.xdr_types.specs.Form as form
 use Rattle.xdr_types.specs.Form.{Form, Part, Branch, Constant, kind_at}
 use Rattle.xdr_types.specs.Tree as value
 use Rattle.xdr_types.specs.Tree.{Head, Values, Tree}
-use Rattle.xdr_types.specs.Numbers.{num4, number_of, pad}
+use Rattle.xdr_units.specs.Numbers.{num4, number_of, pad}
 use Rattle.xdr_types.specs.Fits.{fit, fits, is_legal, is_tag_of, parts}
 use Rattle.xdr_types.specs.Spelling.{spelling, own, bytes_of}
 use Rattle.xdr_types.proofs.Numbers.{num4-front, num8-front, signed4, signed8, unsigned4, unsigned8, flags}

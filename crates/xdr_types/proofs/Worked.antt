@@ -5,7 +5,7 @@ use Rattle.xdr_types.specs.Form as form
 use Rattle.xdr_types.specs.Form.{Form}
 use Rattle.xdr_types.specs.Tree as value
 use Rattle.xdr_types.specs.Tree.{Head, Values, Tree}
-use Rattle.xdr_types.specs.Numbers.{pad}
+use Rattle.xdr_units.specs.Numbers.{pad}
 use Rattle.xdr_types.specs.Fits.{fits, is_legal}
 use Rattle.xdr_types.specs.Spelling.{own, bytes_of}
 use Rattle.xdr_types.specs.Within.{FitsWithin}

@@ -4,7 +4,7 @@ use Rattle.xdr_types.specs.Form as form
 use Rattle.xdr_types.specs.Form.{Form, Part, kind_at}
 use Rattle.xdr_types.specs.Tree as value
 use Rattle.xdr_types.specs.Tree.{Head, Values, Tree, from_list}
-use Rattle.xdr_types.specs.Numbers.{pad}
+use Rattle.xdr_units.specs.Numbers.{pad}
 use Rattle.xdr_types.specs.Fits.{parts, item_part}
 use Rattle.xdr_types.specs.Spelling.{own, spelling}
 

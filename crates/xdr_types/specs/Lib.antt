@@ -7,7 +7,7 @@ pub mod Height
 pub mod Laws
 pub mod Layout
 pub mod Named
-pub mod Numbers
+pub use Rattle.xdr_units.specs.Numbers
 pub mod Rounds
 pub mod Rows
 pub mod Same

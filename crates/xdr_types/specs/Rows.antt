@@ -5,7 +5,7 @@ use Rattle.xdr_types.specs.Form.{Form, Part, Branch, Constant, Lists}
 use Rattle.xdr_types.specs.Tree as value
 use Rattle.xdr_types.specs.Tree.{Tree, from_list}
 use Rattle.xdr_types.specs.Fits.{fits, Fits}
-use Rattle.xdr_types.specs.Numbers.{num8}
+use Rattle.xdr_units.specs.Numbers.{num8}
 use Rattle.xdr_types.specs.Spelling.{bytes_of}
 use Rattle.xdr_types.specs.Layout.{entry, entries, of_number, of_flag, of_length, of_content, of_group}
 use Rattle.xdr_types.specs.Outcome.{reason, bad_bool, bad_numbered, bad_case}

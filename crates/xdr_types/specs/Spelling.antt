@@ -4,12 +4,8 @@ use Rattle.xdr_types.specs.Form as form
 use Rattle.xdr_types.specs.Form.{Form, Part, kind_at}
 use Rattle.xdr_types.specs.Tree as value
 use Rattle.xdr_types.specs.Tree.{Head, Values, Tree}
-use Rattle.xdr_types.specs.Numbers.{num4, num8, number_of, pad}
+use Rattle.xdr_units.specs.Numbers.{num4, num8, number_of, padded}
 use Rattle.xdr_types.specs.Fits.{parts}
-
--- bytes, and the zeros that fill their last unit (RFC 4506 section 3)
-abbrev pub padded : List ℕ → List ℕ
-padded bs = bs ++ pad (length bs)
 
 -- the bytes that a node of a kind has before those of its parts: a number, a length, a flag, content (RFC 4506 sections 4.1 to 4.19)
 abbrev pub own : Form → Head → List ℕ

@@ -3,8 +3,8 @@ ghost use Rattle.std.specs.Prelude.{◌≡◌, ◌+◌, ◌<◌, ◌≤◌, ◌�
 ghost use Rattle.xdr_types.specs.Form.{kind_at};
 ghost use Rattle.xdr_types.specs.Forms.{form_of, part_of_member};
 ghost use Rattle.xdr_types.specs.Fits.{Fits, fits, fit, item_part, parts};
-ghost use Rattle.xdr_types.specs.Numbers.{pad};
-ghost use Rattle.xdr_types.specs.Spelling.{spelling, own, padded, bytes_of};
+ghost use Rattle.xdr_units.specs.Numbers.{pad, padded};
+ghost use Rattle.xdr_types.specs.Spelling.{spelling, own, bytes_of};
 ghost use Rattle.xdr_types.specs.View.{tree, values};
 ghost use Rattle.xdr_types.specs.Within.{IsLeft, FitsWithin};
 

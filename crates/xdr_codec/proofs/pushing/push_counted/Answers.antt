@@ -1,6 +1,5 @@
 use Rattle.std.proofs.Common.{rules, ◌≡◌, ◌++◌, ℕ, pos, length, subst}
-use Rattle.xdr_types.specs.Numbers.{num4}
-use Rattle.xdr_types.specs.Spelling.{padded}
+use Rattle.xdr_units.specs.Numbers.{num4, padded}
 use Rattle.xdr_codec.proofs.Putting.{put_then}
 use Rattle.xdr_codec.proofs.pushing.push_counted.Goals as goal
 

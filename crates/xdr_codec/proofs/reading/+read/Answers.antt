@@ -6,7 +6,7 @@ use Rattle.xdr_types.specs.Forms.{form_of, part_of_member, branch_of, constant_o
 use Rattle.xdr_types.specs.Tree as value
 use Rattle.xdr_types.specs.Tree.{Tree, Head, from_list}
 use Rattle.xdr_types.specs.Fits.{item_part, optional_part}
-use Rattle.xdr_types.specs.Numbers.{num4, number_of}
+use Rattle.xdr_units.specs.Numbers.{num4, number_of}
 use Rattle.xdr_types.specs.View.{tree, values}
 use Rattle.xdr_types.specs.declared.value.Value.{Value}
 use Rattle.xdr_types.specs.declared.kind.Member.{Member}

@@ -1,8 +1,8 @@
 use Rattle.std.proofs.Common.{rules, ◌≡◌, ◌++◌, ◌<◌, ℕ, List, length, take, arith, sym, ap, ◌∙◌, subst, true}
 use Rattle.std.proofs.lemmas.List.{get_or-take}
 use Rattle.xdr_types.proofs.Content.{bytes-by-index}
+use Rattle.xdr_units.specs.Numbers.{padded}
 use Rattle.xdr_types.specs.Fits.{are_bytes}
-use Rattle.xdr_types.specs.Spelling.{padded}
 use Rattle.xdr_codec.specs.declared.fault.Reason.TheVariants as reason
 use Rattle.xdr_codec.proofs.Fronts.{content_padded, content_whole}
 use Rattle.xdr_codec.proofs.units.content.Goals as goal

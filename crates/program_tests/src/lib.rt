@@ -1,0 +1,5 @@
+//! Tests of what the program does, over readers and writers in memory.
+#![tactic(auto)]
+
+#[cfg(test)]
+mod tasks;

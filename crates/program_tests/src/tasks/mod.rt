@@ -1,0 +1,9 @@
+//! Tests of `oncrpc_tasks` by its public calls.
+mod declarations;
+mod devices;
+mod harness;
+mod memory;
+mod names;
+mod records;
+mod shows;
+mod values;

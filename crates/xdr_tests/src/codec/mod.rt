@@ -1,0 +1,8 @@
+//! Tests of the encoding and the decoding of XDR values.
+mod accepted;
+mod calls;
+mod failures;
+mod made;
+mod pieces;
+mod refused;
+mod schema;

@@ -1,0 +1,4 @@
+//! Tests of `xdr_io` by its public calls: that a call succeeds, what reaches std's readers and writers, and refused memory.
+mod input;
+mod memory;
+mod output;

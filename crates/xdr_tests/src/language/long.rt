@@ -1,0 +1,113 @@
+// Texts that are too long, nested too deep, or declare too much, and the greatest that are not.
+use crate::language::refusals::is_refused;
+use std::alloc::{AllocError, Global};
+use xdr_lang::{MAX_TEXT, read};
+
+/// The text is read, where the wanted fault is 0, or refused with that fault.
+fn is_answered(alloc: Global, text: &[u8], wanted: [usize; 4]) -> bool {
+    match wanted {
+        [0, ..] => read(alloc, text).is_ok(),
+        _ => is_refused(alloc, text, wanted),
+    }
+}
+
+/// So many copies of a piece.
+fn repeat(text: &mut Vec<u8>, piece: &[u8], count: usize) -> Result<(), AllocError> {
+    for _ in 0..count {
+        text.extend_from_slice(piece)?;
+    }
+    Ok(())
+}
+
+/// A text of one byte so many times is answered so.
+fn fills(alloc: Global, byte: &[u8], count: usize, wanted: [usize; 4]) -> Result<bool, AllocError> {
+    let mut text = Vec::new(alloc);
+    repeat(&mut text, byte, count)?;
+    Ok(is_answered(alloc, &text, wanted))
+}
+
+#[test]
+fn long_texts_are_refused(rt: HostRuntime) {
+    let alloc = rt.alloc();
+    assert!(rt; MAX_TEXT == 262144);
+    assert!(rt; fills(alloc, b" ", 262144, [0, 0, 0, 0]) == Ok(true));
+    assert!(rt; fills(alloc, b" ", 262145, [11, 0, 1, 1]) == Ok(true));
+    assert!(rt; fills(alloc, b"@", 262145, [11, 0, 1, 1]) == Ok(true));
+}
+
+/// What stands inside bodies of structs, how many of them there are, and the fault, or 0.
+type Nested = (&'static [u8], usize, [usize; 4]);
+
+/// Bodies inside others. A body in the switch declaration of a union is inside the union's.
+static NESTED: [Nested; 8] = [
+    (b"int a;", 32, [0, 0, 0, 0]),
+    (b"int a;", 33, [12, 0, 1, 304]),
+    (b"\nenum { A = 1 } e;", 32, [12, 0, 2, 6]),
+    (
+        b"\nunion switch (int d) { case 1: void; } u;",
+        31,
+        [0, 0, 0, 0],
+    ),
+    (
+        b"\nunion switch (int d) { case 1: void; } u;",
+        32,
+        [12, 0, 2, 22],
+    ),
+    (
+        b"\nunion switch (enum { A = 1 } d) { case 1: void; } u;",
+        30,
+        [0, 0, 0, 0],
+    ),
+    (
+        b"\nunion switch (enum { A = 1 } d) { case 1: void; } u;",
+        31,
+        [12, 0, 2, 20],
+    ),
+    (
+        b"\nunion switch (enum { A = 1 } d) { case 1: void; } u;",
+        32,
+        [12, 0, 2, 20],
+    ),
+];
+
+/// `typedef`, then so many bodies of structs inside one another around `inside`.
+fn nested(alloc: Global, inside: &[u8], count: usize) -> Result<Vec<u8>, AllocError> {
+    let mut text = Vec::new(alloc);
+    text.extend_from_slice(b"typedef ")?;
+    repeat(&mut text, b"struct { ", count)?;
+    text.extend_from_slice(inside)?;
+    repeat(&mut text, b" } x;", count)?;
+    Ok(text)
+}
+
+/// The first row that is not answered so.
+fn first_other(alloc: Global, rows: &[Nested]) -> Result<Option<usize>, AllocError> {
+    for (row, (inside, count, wanted)) in rows.iter().enumerate() {
+        let text = nested(alloc, inside, *count)?;
+        if !is_answered(alloc, &text, *wanted) {
+            return Ok(Some(row));
+        }
+    }
+    Ok(None)
+}
+
+#[test]
+fn deep_texts_are_refused(rt: HostRuntime) {
+    assert!(rt; first_other(rt.alloc(), &NESTED) == Ok(None));
+}
+
+/// Different typedefs, each of a kind of its own, are answered so.
+fn declare(alloc: Global, count: usize, wanted: [usize; 4]) -> Result<bool, AllocError> {
+    let mut text = Vec::new(alloc);
+    for number in 0..count {
+        let line = format!(in alloc; "typedef opaque a{number}[1];\n")?;
+        text.extend_from_slice(line.as_bytes())?;
+    }
+    Ok(is_answered(alloc, &text, wanted))
+}
+
+#[test]
+fn too_many_kinds_are_refused(rt: HostRuntime) {
+    assert!(rt; declare(rt.alloc(), 1016, [0, 0, 0, 0]) == Ok(true));
+    assert!(rt; declare(rt.alloc(), 1017, [10, 8, 1, 1]) == Ok(true));
+}

@@ -1,0 +1,17 @@
+//! Tests of `xdr_lang` by its public calls: texts that are refused, each with its fault's place, and texts that
+//! are read, each with what it declares.
+mod characters;
+mod declared;
+mod directory;
+mod grammar;
+mod kinds;
+mod long;
+mod memory;
+mod names;
+mod numbers;
+mod order;
+mod programs;
+mod refusals;
+mod shapes;
+mod texts;
+mod unknown;
