@@ -1,0 +1,2 @@
+//! Worked examples of the program over readers and writers, each proved from the contracts alone.
+#![tactic(auto)]

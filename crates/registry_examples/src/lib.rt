@@ -1,0 +1,2 @@
+//! Worked examples of the registry for users of the libraries, each proved from the contracts alone.
+#![tactic(auto)]
