@@ -4,13 +4,16 @@ use Rattle.std.proofs.lemmas.List.{append-nil, length_push}
 use Rattle.std.specs.Io.KnownBytes.{Appends}
 use Rattle.std.proofs.lemmas.List.Concat.{flat_map-append}
 use Rattle.rpc_record.specs.declared.fault.Count.{Count}
-use Rattle.rpc_record.specs.Marked.{header, fragment, normal}
+use Rattle.rpc_record.specs.Marked.{header, fragment, normal, FragmentLength}
 use Rattle.rpc_record.specs.Reading.{capped}
 use Rattle.rpc_record.specs.Normalised.{IsCount}
 use Rattle.rpc_record.proofs.Headers.{length-header}
 
+pub length-fragment_of : FragmentLength
+length-fragment_of last r = length-append (header last (length r)) r ∙ ap (λ n. n + length r) (length-header last (length r))
+
 pub length-fragment : (r : List ℕ) → length (fragment true r) ≡ 4 + length r
-length-fragment r = length-append (header true (length r)) r ∙ ap (λ n. n + length r) (length-header true (length r))
+length-fragment r = length-fragment_of true r
 
 pub normal-append : (rs more : List (List ℕ)) → normal (rs ++ more) ≡ normal rs ++ normal more
 normal-append rs more = flat_map-append (fragment true) rs more

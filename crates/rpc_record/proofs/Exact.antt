@@ -2,16 +2,16 @@
 use Rattle.std.proofs.Common.{◌≡◌, ℕ, ◌+◌, ◌^◌, ◌<◌, ◌≤◌, suc, Bool, false, List, [], ◌∷◌, ◌++◌, length, All, refl, sym, ap, ◌∙◌, subst, append_assoc, length-append, arith}
 use Rattle.std.specs.List.{flat_map, concat}
 use Rattle.std.proofs.lemmas.List.{append-nil, nil_from_length}
-use Rattle.rpc_record.specs.Marked.{header, fragment, IsContent, Stream, Longest}
+use Rattle.rpc_record.specs.Marked.{header, fragment, IsContent, Stream, Longest, OneLongest}
 use Rattle.rpc_record.specs.declared.place.Place.{Place}
 use Rattle.rpc_record.specs.declared.place.Place.TheVariants as place
 use Rattle.rpc_record.specs.declared.reader.RecordReader.{RecordReader}
-use Rattle.rpc_record.specs.Reading.{Upto, TooLongAt, StandsAt, IsTakingAt, begun_bytes}
+use Rattle.rpc_record.specs.Reading.{Upto, TooLongAt, HasNoLong, WholeHasNoLong, StandsAt, IsTakingAt, begun_bytes, capped}
 use Rattle.rpc_record.specs.Stands.{Stands, IsTaking, limit_of}
 use Rattle.rpc_record.proofs.Headers.{length-header}
 use Rattle.rpc_record.proofs.Longest.{Marked-same, header-same, fragment-same}
 use Rattle.rpc_record.proofs.Partial.{HasNoFragment, HasNoFragment-short, HasNoFragment-part}
-use Rattle.rpc_record.proofs.Places.{Longest-at, Longest-long, begun_short}
+use Rattle.rpc_record.proofs.Places.{Longest-at, Longest-long, Longest-whole, begun_short}
 
 -- a header that begins the tail has room behind so many bytes
 abbrev HasRoom : ℕ → ℕ → List ℕ → Type 0
@@ -44,7 +44,7 @@ Stream-rest (r ∷ rs) w v p q s t e =
     let m = Marked-same r r s.0 t.0 (s.1.0 ++ p) (t.1.0 ++ q) s.1.1.0 t.1.1.0 (sym (ap (λ k. k ++ p) s.1.1.2 ∙ append_assoc s.0 s.1.0 p) ∙ e ∙ ap (λ k. k ++ q) t.1.1.2 ∙ append_assoc t.0 t.1.0 q) in
     Stream-rest rs s.1.0 t.1.0 p q s.1.1.1 t.1.1.1 m.1
 
-Longest-same : (limit : ℕ) (rs others : List (List ℕ)) (bytes : List ℕ) → Longest limit rs bytes → Longest limit others bytes → rs ≡ others
+pub Longest-same : OneLongest
 Longest-same limit rs others bytes h k =
     let more = h.only others k.whole k.part k.within k.stream k.spelled in
     let back = k.only rs h.whole h.part h.within h.stream h.spelled in
@@ -84,3 +84,8 @@ pub not_long : (reader : RecordReader) (at : ℕ) (bytes : List ℕ) (rs others 
 not_long reader at bytes rs others i h t =
     not_long_at reader.limit at reader.taken reader.place reader.content.items bytes rs others i h
     (Longest-same reader.limit rs others bytes (Longest-at reader.limit reader.taken reader.place reader.content.items bytes rs i h) (Longest-long reader.limit at others bytes t)) t
+
+pub whole_not_long : WholeHasNoLong
+whole_not_long limit rs bytes w others at t =
+    not_long_at limit at (capped (length bytes)) place.Between [] bytes rs others tt (refl, w, refl)
+    (Longest-same limit rs others bytes (Longest-whole limit rs bytes w) (Longest-long limit at others bytes t)) t

@@ -8,13 +8,12 @@ use Rattle.rpc_record.specs.declared.fault.RecordFault.TheVariants as fault
 use Rattle.rpc_record.specs.declared.outbox.Outbox.{Outbox}
 use Rattle.rpc_record.specs.declared.reader.RecordReader.{RecordReader}
 use Rattle.rpc_record.specs.Marked.{header, fragment, normal}
-use Rattle.rpc_record.specs.Reading.{Begins, Faulty, IsFeedFault, TooLongAt, capped}
+use Rattle.rpc_record.specs.Reading.{Begins, capped}
 use Rattle.rpc_record.specs.Stands.{Stands, IsTaking, IsBroken, Takes, limit_of}
 use Rattle.rpc_record.specs.Sending.{Sends, SendingCut}
 use Rattle.rpc_record.specs.Passing.{Cuts, Passed, CutBy, Gathers, Lost}
-use Rattle.rpc_record.proofs.Readers.{Faulty-more, Begins-taking, Stands-same}
+use Rattle.rpc_record.proofs.Readers.{Begins-more, Begins-taking, Stands-same, Stands-faulty, faults_begin}
 use Rattle.rpc_record.proofs.Counting.{normal-append}
-use Rattle.rpc_record.proofs.Passing.{Stands-faulty}
 use Rattle.rpc_record.proofs.Sending.{Sends-none, Sends-trans, SendingCut-after, SendingCut-more, waiting-none}
 
 pub Gathers-none : (a : RecordReader) (x : Outbox) (t : Option (List ℕ)) → IsTaking a → Gathers a a x x [] t t
@@ -88,24 +87,10 @@ Lost-record a w x piece rest t u f e k q = record {
   more = q.more;
   cut = q.cut;
   begins = λ bytes rs s. subst (λ m. Begins (limit_of a) (rs ++ q.more) m) (append_assoc bytes piece rest)
-      (Faulty-more (limit_of a) (rs ++ q.more) fault.NoMemory (bytes ++ piece) rest
+      (Begins-more (limit_of a) (rs ++ q.more) (bytes ++ piece) rest
       (subst (λ m. Begins m (rs ++ q.more) (bytes ++ piece)) e
       (subst (λ m. Begins (limit_of w) (rs ++ q.more) m) (append-nil (bytes ++ piece)) (q.begins (bytes ++ piece) rs (k bytes rs s)))));
 }
-
-long_begins : (limit at : ℕ) (rs : List (List ℕ)) (bytes : List ℕ) → TooLongAt limit rs at bytes → Begins limit rs bytes
-long_begins limit at rs bytes h =
-    let tail = header h.last h.count ++ h.more in
-    let firsts = flat_map (fragment false) h.upto.firsts in
-    record { whole = h.upto.whole; more = firsts ++ tail; stream = h.upto.stream; within = h.upto.within; spelled = h.spelled ∙ ap (λ k. k ++ tail) h.upto.spelled ∙ append_assoc h.upto.whole firsts tail }
-
-feed_begins : (limit : ℕ) (rs : List (List ℕ)) (f : RecordFault) (bytes : List ℕ) → IsFeedFault f → Faulty limit rs f bytes → Begins limit rs bytes
-feed_begins limit rs (fault.TooLong at) bytes i h = long_begins limit at rs bytes h
-feed_begins limit rs fault.NoMemory bytes i h = h
-feed_begins limit rs (fault.Truncated at) bytes i h = absurd i
-feed_begins limit rs fault.Read bytes i h = absurd i
-feed_begins limit rs (fault.Write written) bytes i h = absurd i
-feed_begins limit rs fault.TooManyReads bytes i h = absurd i
 
 lost_none : (a b : RecordReader) (x : Outbox) (piece : List ℕ) (t u : Option (List ℕ)) (f : RecordFault) → limit_of b ≡ limit_of a → Takes a b piece → ((bytes : List ℕ) (rs : List (List ℕ)) → Stands b bytes rs → Begins (limit_of b) rs bytes) → SendingCut x t u [] f → Lost a x piece t u f
 lost_none a b x piece t u f e k h q = record {
@@ -119,8 +104,8 @@ pub Lost-taking : (a b : RecordReader) (x : Outbox) (piece : List ℕ) (t u : Op
 Lost-taking a b x piece t u f e i k q = lost_none a b x piece t u f e k (λ bytes rs s. subst (λ m. Begins (limit_of b) rs m) (append-nil bytes) (Begins-taking (limit_of b) b bytes rs refl i s)) q
 
 -- the write of what waited failed, when the piece had brought a fault
-pub Lost-broken : (a b : RecordReader) (x : Outbox) (piece : List ℕ) (t u : Option (List ℕ)) (f g : RecordFault) → limit_of b ≡ limit_of a → IsBroken b g → Takes a b piece → IsFeedFault g → SendingCut x t u [] f → Lost a x piece t u f
-Lost-broken a b x piece t u f g e i k w q = lost_none a b x piece t u f e k (λ bytes rs s. feed_begins (limit_of b) rs g bytes w (Stands-faulty b g bytes rs i s)) q
+pub Lost-broken : (a b : RecordReader) (x : Outbox) (piece : List ℕ) (t u : Option (List ℕ)) (f g : RecordFault) → limit_of b ≡ limit_of a → IsBroken b g → Takes a b piece → SendingCut x t u [] f → Lost a x piece t u f
+Lost-broken a b x piece t u f g e i k q = lost_none a b x piece t u f e k (λ bytes rs s. faults_begin (limit_of b) rs g bytes (Stands-faulty b g bytes rs i s)) q
 
 -- nothing waited before
 cut_by : (a : RecordReader) (x : Outbox) (piece : List ℕ) (t u : Option (List ℕ)) (f : RecordFault) → x.used ≡ 0 → (q : Lost a x piece t u f) → Cuts a x.count q.more piece t u f

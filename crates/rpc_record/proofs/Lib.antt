@@ -11,3 +11,4 @@ pub mod Passing
 pub mod Gathering
 pub mod Progress
 pub mod Exact
+pub mod Told

@@ -1,30 +1,19 @@
 -- Pieces passed on, one after another.
-use Rattle.std.proofs.Common.{◌≡◌, ℕ, ◌+◌, ◌<◌, List, [], ◌++◌, length, take, Option, refl, sym, ap, ◌∙◌, subst, append_assoc, length-append, arith}
+use Rattle.std.proofs.Common.{◌≡◌, ℕ, ◌+◌, ◌<◌, ◌≤◌, List, [], ◌++◌, length, take, Option, Err, refl, sym, ap, ◌∙◌, subst, append_assoc, length-append, arith}
 use Rattle.std.proofs.lemmas.List.{append-nil}
 use Rattle.std.specs.Io.KnownBytes.{Appends}
 use Rattle.xdr_io.proofs.Chained.{Appends-trans, Appends-none, take_past}
 use Rattle.rpc_record.specs.declared.fault.RecordFault.{RecordFault}
 use Rattle.rpc_record.specs.declared.fault.RecordFault.TheVariants as fault
 use Rattle.rpc_record.specs.declared.fault.Count.{Count}
-use Rattle.rpc_record.specs.declared.place.Place.{Place}
-use Rattle.rpc_record.specs.declared.place.Place.TheVariants as place
 use Rattle.rpc_record.specs.declared.reader.RecordReader.{RecordReader}
 use Rattle.rpc_record.specs.Marked.{normal}
-use Rattle.rpc_record.specs.Reading.{Faulty, IsBrokenAt, IsFeedFault, StandsAt, capped}
-use Rattle.rpc_record.specs.Stands.{Stands, IsTaking, IsBroken, Takes, limit_of}
+use Rattle.rpc_record.specs.Reading.{Faulty, FaultyIn, IsFeedFault, capped}
+use Rattle.rpc_record.specs.Stands.{Stands, IsTaking, Takes, Tells, limit_of}
 use Rattle.rpc_record.specs.Normalised.{IsCount}
 use Rattle.rpc_record.specs.Passing.{Cuts, Passed, CutBy}
+use Rattle.rpc_record.proofs.Readers.{FaultyIn-room}
 use Rattle.rpc_record.proofs.Counting.{normal-append}
-
-Faulty-at : (limit taken : ℕ) (p : Place) (f : RecordFault) (content bytes : List ℕ) (rs : List (List ℕ)) → IsBrokenAt p f → StandsAt limit p content taken bytes rs → Faulty limit rs f bytes
-Faulty-at limit taken (place.Broken g) f content bytes rs e h = subst (λ k. Faulty limit rs k bytes) e h
-Faulty-at limit taken place.Between f content bytes rs e h = absurd e
-Faulty-at limit taken (place.Header at part) f content bytes rs e h = absurd e
-Faulty-at limit taken (place.Content w) f content bytes rs e h = absurd e
-Faulty-at limit taken place.Whole f content bytes rs e h = absurd e
-
-pub Stands-faulty : (reader : RecordReader) (f : RecordFault) (bytes : List ℕ) (rs : List (List ℕ)) → IsBroken reader f → Stands reader bytes rs → Faulty (limit_of reader) rs f bytes
-Stands-faulty reader f bytes rs e h = Faulty-at reader.limit reader.taken reader.place f reader.content.items bytes rs e h
 
 pub Passed-trans : (a b c : RecordReader) (l m n : Count) (first second piece : List ℕ) (t u v : Option (List ℕ)) → first ++ second ≡ piece → Passed a b l m first t u → Passed b c m n second u v → Passed a c l n piece t v
 Passed-trans a b c l m n first second piece t u v e p q = record {
@@ -59,27 +48,38 @@ Passed-fed a b m piece t i e k = record {
 }
 
 -- a fault of feeding cuts
-FedBy : (limit : ℕ) (a : RecordReader) (m : Count) (piece : List ℕ) (t : Option (List ℕ)) (f : RecordFault) → IsFeedFault f → ((bytes : List ℕ) (rs : List (List ℕ)) → Stands a bytes rs → Faulty (limit_of a) (rs ++ []) f (bytes ++ piece)) → Cuts a m [] piece t t f
-FedBy limit a m piece t (fault.TooLong at) i h = (i, Appends-none t, h)
-FedBy limit a m piece t fault.NoMemory i h = (i, Appends-none t, h)
-FedBy limit a m piece t (fault.Truncated at) i h = absurd i
-FedBy limit a m piece t fault.Read i h = absurd i
-FedBy limit a m piece t (fault.Write written) i h = absurd i
-FedBy limit a m piece t fault.TooManyReads i h = absurd i
+FedBy : (a : RecordReader) (m : Count) (piece : List ℕ) (t : Option (List ℕ)) (f : RecordFault) → IsFeedFault f
+    → ((bytes : List ℕ) (rs : List (List ℕ)) → Stands a bytes rs → FaultyIn (limit_of a) (rs ++ []) f (length piece) (bytes ++ piece)) → Cuts a m [] piece t t f
+FedBy a m piece t (fault.TooLong at) i h = (i, Appends-none t, h)
+FedBy a m piece t fault.NoMemory i h = (i, Appends-none t, h)
+FedBy a m piece t (fault.Truncated at) i h = absurd i
+FedBy a m piece t fault.Read i h = absurd i
+FedBy a m piece t (fault.Write written) i h = absurd i
+FedBy a m piece t fault.TooManyReads i h = absurd i
 
-pub CutBy-fed : (a b : RecordReader) (m : Count) (piece : List ℕ) (t : Option (List ℕ)) (f : RecordFault) → limit_of b ≡ limit_of a → IsBroken b f → Takes a b piece → IsFeedFault f → CutBy a m piece t t f
-CutBy-fed a b m piece t f e i k w = record {
+pub CutBy-fed : (a : RecordReader) (m : Count) (piece : List ℕ) (t : Option (List ℕ)) (f : RecordFault) → IsTaking a → Tells a piece (Err f) → IsFeedFault f → CutBy a m piece t t f
+CutBy-fed a m piece t f i k w = record {
   more = [];
-  cuts = FedBy (limit_of a) a m piece t f w
-      (λ bytes rs h. subst (λ r. Faulty (limit_of a) r f (bytes ++ piece)) (sym (append-nil rs)) (subst (λ l. Faulty l rs f (bytes ++ piece)) e (Stands-faulty b f (bytes ++ piece) rs i (k bytes rs h))));
+  cuts = FedBy a m piece t f w
+      (λ bytes rs h. subst (λ r. FaultyIn (limit_of a) r f (length piece) (bytes ++ piece)) (sym (append-nil rs)) ((k bytes rs h).1 i));
 }
 
 module _ (a b : RecordReader) (l m : Count) (first second piece : List ℕ) (t u v : Option (List ℕ)) (e : first ++ second ≡ piece) (p : Passed a b l m first t u) (more : List (List ℕ)) where
+  moved : (P : ℕ → List (List ℕ) → List ℕ → Type 0) → ((bytes : List ℕ) (rs : List (List ℕ)) → Stands b bytes rs → P (limit_of b) (rs ++ more) (bytes ++ second))
+      → (bytes : List ℕ) (rs : List (List ℕ)) → Stands a bytes rs → P (limit_of a) (rs ++ (p.more ++ more)) (bytes ++ piece)
+  moved P h bytes rs s =
+      subst (λ k. P k (rs ++ (p.more ++ more)) (bytes ++ piece)) p.limit
+      (subst (λ x. P (limit_of b) (rs ++ (p.more ++ more)) x) (append_assoc bytes first second ∙ ap (λ x. bytes ++ x) e)
+      (subst (λ x. P (limit_of b) x ((bytes ++ first) ++ second)) (append_assoc rs p.more more) (h (bytes ++ first) (rs ++ p.more) (p.moves bytes rs s))))
+
   later : (f : RecordFault) → ((bytes : List ℕ) (rs : List (List ℕ)) → Stands b bytes rs → Faulty (limit_of b) (rs ++ more) f (bytes ++ second)) → (bytes : List ℕ) (rs : List (List ℕ)) → Stands a bytes rs → Faulty (limit_of a) (rs ++ (p.more ++ more)) f (bytes ++ piece)
-  later f h bytes rs s =
-      subst (λ k. Faulty k (rs ++ (p.more ++ more)) f (bytes ++ piece)) p.limit
-      (subst (λ x. Faulty (limit_of b) (rs ++ (p.more ++ more)) f x) (append_assoc bytes first second ∙ ap (λ x. bytes ++ x) e)
-      (subst (λ x. Faulty (limit_of b) x f ((bytes ++ first) ++ second)) (append_assoc rs p.more more) (h (bytes ++ first) (rs ++ p.more) (p.moves bytes rs s))))
+  later f h = moved (λ l rs bytes. Faulty l rs f bytes) h
+
+  later_in : (f : RecordFault) → ((bytes : List ℕ) (rs : List (List ℕ)) → Stands b bytes rs → FaultyIn (limit_of b) (rs ++ more) f (length second) (bytes ++ second))
+      → (bytes : List ℕ) (rs : List (List ℕ)) → Stands a bytes rs → FaultyIn (limit_of a) (rs ++ (p.more ++ more)) f (length piece) (bytes ++ piece)
+  later_in f h =
+      let room : length second ≤ length piece = omega (arith, ap length e, length-append first second) in
+      moved (λ l rs bytes. FaultyIn l rs f (length piece) bytes) (λ bytes rs s. FaultyIn-room (limit_of b) (length second) (length piece) (rs ++ more) f (bytes ++ second) room (h bytes rs s))
 
   wrote_more : Appends u v (normal more) → Appends t v (normal (p.more ++ more))
   wrote_more h = Appends-trans t u v (normal p.more) (normal more) (normal (p.more ++ more)) (sym (normal-append p.more more)) p.wrote h
@@ -97,8 +97,8 @@ module _ (a b : RecordReader) (l m : Count) (first second piece : List ℕ) (t u
 
   Cuts-after : (f : RecordFault) → Cuts b m more second u v f → Cuts a l (p.more ++ more) piece t v f
   Cuts-after (fault.Write written) (w, (lt, counts, wrote, faulty)) = (length (normal p.more) + w, (length_more w lt, place_more w written counts, wrote_part w wrote, later (fault.Write written) faulty))
-  Cuts-after (fault.TooLong at) (i, wrote, faulty) = (i, wrote_more wrote, later (fault.TooLong at) faulty)
-  Cuts-after fault.NoMemory (i, wrote, faulty) = (i, wrote_more wrote, later fault.NoMemory faulty)
+  Cuts-after (fault.TooLong at) (i, wrote, faulty) = (i, wrote_more wrote, later_in (fault.TooLong at) faulty)
+  Cuts-after fault.NoMemory (i, wrote, faulty) = (i, wrote_more wrote, later_in fault.NoMemory faulty)
   Cuts-after (fault.Truncated at) (i, wrote, faulty) = absurd i
   Cuts-after fault.Read (i, wrote, faulty) = absurd i
   Cuts-after fault.TooManyReads (i, wrote, faulty) = absurd i

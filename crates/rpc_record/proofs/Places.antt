@@ -99,7 +99,7 @@ IsInside-at limit taken place.Between content bytes rs i h = absurd i
 IsInside-at limit taken place.Whole content bytes rs i h = absurd i
 IsInside-at limit taken (place.Broken f) content bytes rs i h = absurd i
 
-Longest-inside : (limit : ℕ) (rs : List (List ℕ)) (bytes : List ℕ) → IsInside limit rs bytes → Longest limit rs bytes
+pub Longest-inside : (limit : ℕ) (rs : List (List ℕ)) (bytes : List ℕ) → IsInside limit rs bytes → Longest limit rs bytes
 Longest-inside limit rs bytes h = Longest-from limit rs bytes h.whole h.part h.stream h.within h.unfinished h.spelled
 
 pub Longest-whole : (limit : ℕ) (rs : List (List ℕ)) (bytes : List ℕ) → IsWhole limit rs bytes → Longest limit rs bytes

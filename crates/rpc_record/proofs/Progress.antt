@@ -1,7 +1,7 @@
 -- Normalising, one read further, and its ends.
-use Rattle.std.proofs.Common.{◌≡◌, ℕ, ◌+◌, ◌⊎◌, inl, inr, List, [], ◌++◌, length, take, Option, refl, sym, ap, ◌∙◌, subst, length-append, arith}
+use Rattle.std.proofs.Common.{◌≡◌, ℕ, ◌+◌, ◌≤◌, ◌⊎◌, inl, inr, List, [], ◌++◌, length, take, Option, refl, sym, ap, ◌∙◌, subst, length-append, arith}
 use Rattle.std.proofs.lemmas.List.{append-nil}
-use Rattle.std.specs.Io.KnownBytes.{Keeps, Consumes, IsAtEnd}
+use Rattle.std.specs.Io.KnownBytes.{Keeps, Appends, Consumes, IsAtEnd}
 use Rattle.xdr_io.proofs.Chained.{Appends-trans, Appends-none, Consumes-trans, Consumes-none, Consumes-kept, Consumes-at_end, take_past}
 use Rattle.rpc_record.specs.declared.fault.RecordFault.{RecordFault}
 use Rattle.rpc_record.specs.declared.fault.RecordFault.TheVariants as fault
@@ -10,13 +10,24 @@ use Rattle.rpc_record.specs.declared.place.Place.{Place}
 use Rattle.rpc_record.specs.declared.place.Place.TheVariants as place
 use Rattle.rpc_record.specs.declared.reader.RecordReader.{RecordReader}
 use Rattle.rpc_record.specs.Marked.{normal}
-use Rattle.rpc_record.specs.Reading.{IsWhole, IsInside, Begins, Faulty, IsBrokenAt, IsTakingAt, StandsAt}
+use Rattle.rpc_record.specs.Reading.{IsWhole, IsInside, Begins, Faulty, FaultyIn, IsBrokenAt, IsTakingAt, StandsAt}
 use Rattle.rpc_record.specs.Stands.{Stands, IsTaking, IsBroken, IsBetween, IsWaiting, TruncatedAt, limit_of}
-use Rattle.rpc_record.specs.Normalised.{Normalised, StopsBy, Stops}
-use Rattle.rpc_record.specs.Passing.{Cuts, Passed, CutBy, Progress}
-use Rattle.rpc_record.proofs.Readers.{Longest-taking}
+use Rattle.rpc_record.specs.Normalised.{IsCount, Normalised, StopsBy, Stops}
+use Rattle.rpc_record.specs.Passing.{Cuts, Passed, CutBy}
+use Rattle.rpc_record.proofs.Readers.{Longest-taking, FaultyIn-room, RefusedIn-all, faults_begin}
 use Rattle.rpc_record.proofs.Places.{Longest-long}
 use Rattle.rpc_record.proofs.Counting.{normal-append}
+
+-- what normalising has done so far: it takes bytes, and has written every whole record
+pub record Progress (limit : ℕ) (records : RecordReader) (count : Count) (left left' taken taken' : Option (List ℕ)) : Type 0 where
+  pub input : List ℕ
+  pub rs : List (List ℕ)
+  pub read : Consumes left left' input
+  pub same : limit_of records ≡ limit
+  pub taking : IsTaking records
+  pub stands : Stands records input rs
+  pub counted : IsCount count rs
+  pub wrote : Appends taken taken' (normal rs)
 
 pub Progress-start : (limit : ℕ) (records : RecordReader) (count : Count) (l t : Option (List ℕ)) → limit_of records ≡ limit → IsTaking records → Stands records [] [] → count.records ≡ 0 → count.bytes ≡ 0 → Progress limit records count l l t t
 Progress-start limit records count l t e i s a b = record { input = []; rs = []; read = Consumes-none l; same = e; taking = i; stands = s; counted = record { records = a; bytes = b }; wrote = Appends-none t }
@@ -34,8 +45,8 @@ module _ (limit : ℕ) (r : RecordReader) (c : Count) (l l' m t t' : Option (Lis
     wrote = Appends-trans t t' u (normal p.rs) (normal q.more) (normal (p.rs ++ q.more)) (sym (normal-append p.rs q.more)) p.wrote q.wrote;
   }
 
-  Stops-cut : (f : RecordFault) (more : List (List ℕ)) (x : List ℕ) (u : Option (List ℕ)) → Cuts r c more x t' u f → StopsBy limit (p.rs ++ more) (p.input ++ x) m t u f
-  Stops-cut (fault.Write written) more x u (w, (lt, counts, wrote, faulty)) = (
+  Stops-cut : (f : RecordFault) (more : List (List ℕ)) (x : List ℕ) (u : Option (List ℕ)) → length x ≤ 4096 → Cuts r c more x t' u f → StopsBy limit (p.rs ++ more) (p.input ++ x) m t u f
+  Stops-cut (fault.Write written) more x u few (w, (lt, counts, wrote, faulty)) = (
     subst (λ k. Begins k (p.rs ++ more) (p.input ++ x)) p.same (faulty p.input p.rs p.stands),
     (
       length (normal p.rs) + w,
@@ -46,22 +57,25 @@ module _ (limit : ℕ) (r : RecordReader) (c : Count) (l l' m t t' : Option (Lis
       ),
     ),
   )
-  Stops-cut (fault.TooLong at) more x u (i, wrote, faulty) =
+  Stops-cut (fault.TooLong at) more x u few (i, wrote, faulty) =
       let long = subst (λ k. Faulty k (p.rs ++ more) (fault.TooLong at) (p.input ++ x)) p.same (faulty p.input p.rs p.stands) in (
         long,
         Longest-long limit at (p.rs ++ more) (p.input ++ x) long,
         Appends-trans t t' u (normal p.rs) (normal more) _ (sym (normal-append p.rs more)) p.wrote wrote,
       )
-  Stops-cut fault.NoMemory more x u (i, wrote, faulty) = (
-    subst (λ k. Begins k (p.rs ++ more) (p.input ++ x)) p.same (faulty p.input p.rs p.stands),
-    Appends-trans t t' u (normal p.rs) (normal more) _ (sym (normal-append p.rs more)) p.wrote wrote,
-  )
-  Stops-cut (fault.Truncated at) more x u (i, wrote, faulty) = absurd i
-  Stops-cut fault.Read more x u (i, wrote, faulty) = absurd i
-  Stops-cut fault.TooManyReads more x u (i, wrote, faulty) = absurd i
+  Stops-cut fault.NoMemory more x u few (i, wrote, faulty) =
+      let refused = FaultyIn-room limit (length x) 4096 (p.rs ++ more) fault.NoMemory (p.input ++ x) few
+      (subst (λ k. FaultyIn k (p.rs ++ more) fault.NoMemory (length x) (p.input ++ x)) p.same (faulty p.input p.rs p.stands)) in (
+        faults_begin limit (p.rs ++ more) fault.NoMemory (p.input ++ x) (RefusedIn-all limit 4096 (p.rs ++ more) (p.input ++ x) refused),
+        refused,
+        Appends-trans t t' u (normal p.rs) (normal more) _ (sym (normal-append p.rs more)) p.wrote wrote,
+      )
+  Stops-cut (fault.Truncated at) more x u few (i, wrote, faulty) = absurd i
+  Stops-cut fault.Read more x u few (i, wrote, faulty) = absurd i
+  Stops-cut fault.TooManyReads more x u few (i, wrote, faulty) = absurd i
 
-  pub Progress-cut : (f : RecordFault) (x : List ℕ) (u : Option (List ℕ)) → Consumes l' m x → CutBy r c x t' u f → Stops limit l m t u f
-  Progress-cut f x u k q = record { input = p.input ++ x; rs = p.rs ++ q.more; read = Consumes-trans l l' m p.input x (p.input ++ x) refl p.read k; stopped = Stops-cut f q.more x u q.cuts }
+  pub Progress-cut : (f : RecordFault) (x : List ℕ) (u : Option (List ℕ)) → length x ≤ 4096 → Consumes l' m x → CutBy r c x t' u f → Stops limit l m t u f
+  Progress-cut f x u few k q = record { input = p.input ++ x; rs = p.rs ++ q.more; read = Consumes-trans l l' m p.input x (p.input ++ x) refl p.read k; stopped = Stops-cut f q.more x u few q.cuts }
 
   pub Progress-read : Keeps l' m → Stops limit l m t t' fault.Read
   Progress-read k = record {

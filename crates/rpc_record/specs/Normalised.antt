@@ -5,7 +5,8 @@ use Rattle.rpc_record.specs.declared.fault.RecordFault.{RecordFault}
 use Rattle.rpc_record.specs.declared.fault.RecordFault.TheVariants as fault
 use Rattle.rpc_record.specs.declared.fault.Count.{Count}
 use Rattle.rpc_record.specs.Marked.{normal, Longest}
-use Rattle.rpc_record.specs.Reading.{IsWhole, IsInside, Begins, TooLongAt, capped}
+use Rattle.rpc_record.specs.Reading.{IsWhole, IsInside, Begins, TooLongAt, RefusedIn, capped}
+use Rattle.xdr_io.specs.Told.{Counts}
 
 -- the count of these records, and of the bytes of their normal form
 pub record IsCount (count : Count) (rs : List (List ℕ)) : Type 0 where
@@ -22,12 +23,12 @@ pub record Normalised (limit : ℕ) (left left' taken taken' : Option (List ℕ)
   pub written : Appends taken taken' (normal rs)
   pub counted : IsCount count rs
 
--- what a fault says of what was read, and what was written
+-- What a fault says of what was read, and what was written. Where memory was refused it was in what the last read gave.
 abbrev pub StopsBy : ℕ → List (List ℕ) → List ℕ → Option (List ℕ) → Option (List ℕ) → Option (List ℕ) → RecordFault → Type 0
 StopsBy limit rs input left' taken taken' (fault.TooLong at) = TooLongAt limit rs at input × Longest limit rs input × Appends taken taken' (normal rs)
 StopsBy limit rs input left' taken taken' (fault.Truncated at) = (at ≡ capped (length input)) × IsInside limit rs input × Longest limit rs input × IsAtEnd left' × Appends taken taken' (normal rs)
 StopsBy limit rs input left' taken taken' (fault.Write written) = Begins limit rs input × ((w : ℕ) × ((w < length (normal rs)) × (written ≡ capped w) × Appends taken taken' (take w (normal rs))))
-StopsBy limit rs input left' taken taken' fault.NoMemory = Begins limit rs input × Appends taken taken' (normal rs)
+StopsBy limit rs input left' taken taken' fault.NoMemory = Begins limit rs input × RefusedIn limit rs 4096 input × Appends taken taken' (normal rs)
 StopsBy limit rs input left' taken taken' _ = Longest limit rs input × Appends taken taken' (normal rs)
 
 pub record Stops (limit : ℕ) (left left' taken taken' : Option (List ℕ)) (f : RecordFault) : Type 0 where
@@ -35,3 +36,8 @@ pub record Stops (limit : ℕ) (left left' taken taken' : Option (List ℕ)) (f 
   pub rs : List (List ℕ)
   pub read : Consumes left left' input
   pub stopped : StopsBy limit rs input left' taken taken' f
+
+-- a write's fault is one failed write, and the others are none
+abbrev pub WriteFails : RecordFault → Option ℕ → Option ℕ → Type 0
+WriteFails (fault.Write written) old new = Counts 1 old new
+WriteFails _ old new = Counts 0 old new

@@ -8,7 +8,7 @@ use Rattle.rpc_record.specs.declared.fault.Count.{Count}
 use Rattle.rpc_record.specs.declared.reader.RecordReader.{RecordReader}
 use Rattle.rpc_record.specs.Marked.{normal}
 use Rattle.rpc_record.specs.declared.outbox.Outbox.{Outbox}
-use Rattle.rpc_record.specs.Reading.{Begins, Faulty, IsFeedFault, capped}
+use Rattle.rpc_record.specs.Reading.{Begins, Faulty, FaultyIn, IsFeedFault, capped}
 use Rattle.rpc_record.specs.Sending.{Sends, SendingCut}
 use Rattle.rpc_record.specs.Stands.{Stands, IsTaking, limit_of}
 use Rattle.rpc_record.specs.Normalised.{IsCount}
@@ -28,7 +28,7 @@ Cuts old count more piece taken taken' (fault.Write written) =
     × ((bytes : List ℕ) (rs : List (List ℕ)) → Stands old bytes rs → Faulty (limit_of old) (rs ++ more) (fault.Write written) (bytes ++ piece)))
 Cuts old count more piece taken taken' f =
     IsFeedFault f × Appends taken taken' (normal more)
-    × ((bytes : List ℕ) (rs : List (List ℕ)) → Stands old bytes rs → Faulty (limit_of old) (rs ++ more) f (bytes ++ piece))
+    × ((bytes : List ℕ) (rs : List (List ℕ)) → Stands old bytes rs → FaultyIn (limit_of old) (rs ++ more) f (length piece) (bytes ++ piece))
 
 -- The piece was taken, and the records that were whole in it were handed to the outbox.
 pub record Gathers (old new : RecordReader) (box box' : Outbox) (piece : List ℕ) (taken taken' : Option (List ℕ)) : Type 0 where
@@ -58,19 +58,3 @@ pub record Passed (old new : RecordReader) (count count' : Count) (piece : List 
 pub record CutBy (old : RecordReader) (count : Count) (piece : List ℕ) (taken taken' : Option (List ℕ)) (f : RecordFault) : Type 0 where
   pub more : List (List ℕ)
   pub cuts : Cuts old count more piece taken taken' f
-
--- a write's fault is one failed write, and the others are none
-abbrev pub WriteFails : RecordFault → Option ℕ → Option ℕ → Type 0
-WriteFails (fault.Write written) old new = Counts 1 old new
-WriteFails _ old new = Counts 0 old new
-
--- what normalising has done so far: it takes bytes, and has written every whole record
-pub record Progress (limit : ℕ) (records : RecordReader) (count : Count) (left left' taken taken' : Option (List ℕ)) : Type 0 where
-  pub input : List ℕ
-  pub rs : List (List ℕ)
-  pub read : Consumes left left' input
-  pub same : limit_of records ≡ limit
-  pub taking : IsTaking records
-  pub stands : Stands records input rs
-  pub counted : IsCount count rs
-  pub wrote : Appends taken taken' (normal rs)

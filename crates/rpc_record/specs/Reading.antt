@@ -1,7 +1,7 @@
 -- Which bytes a record reader's fields stand for.
 use Rattle.std.specs.Prelude.{◌≡◌, ℕ, ◌+◌, ◌-◌, ◌^◌, ◌<◌, ◌≤◌, min, Bool, false, List, [], ◌∷◌, ◌++◌, length, All}
 use Rattle.std.specs.List.{flat_map, concat}
-use Rattle.rpc_record.specs.Marked.{header, fragment, IsContent, Stream, Within, IsUnfinished}
+use Rattle.rpc_record.specs.Marked.{header, fragment, IsContent, Stream, Within, IsUnfinished, Longest}
 use Rattle.rpc_record.specs.declared.place.Begun.{Begun}
 use Rattle.rpc_record.specs.declared.place.Begun.TheVariants as begun
 use Rattle.rpc_record.specs.declared.place.Place.{Place}
@@ -76,10 +76,63 @@ pub record Begins (limit : ℕ) (rs : List (List ℕ)) (bytes : List ℕ) : Type
   pub within : Within limit rs
   pub spelled : bytes ≡ whole ++ more
 
+-- The bytes are whole records, and then some of the next, which isn't whole.
+pub record IsInside (limit : ℕ) (rs : List (List ℕ)) (bytes : List ℕ) : Type 0 where
+  pub whole : List ℕ
+  pub part : List ℕ
+  pub stream : Stream rs whole
+  pub within : Within limit rs
+  pub some : 0 < length part
+  pub unfinished : IsUnfinished limit part
+  pub spelled : bytes ≡ whole ++ part
+
+-- no header in the bytes brings its record above the limit
+abbrev pub HasNoLong : ℕ → List ℕ → Type 0
+HasNoLong limit bytes = (rs : List (List ℕ)) (at : ℕ) → TooLongAt limit rs at bytes → ⊥
+
+-- At this place, inside the record after these, the input was told to end.
+pub record CutAt (limit : ℕ) (rs : List (List ℕ)) (at : ℕ) (bytes : List ℕ) : Type 0 where
+  pub here : List ℕ
+  pub more : List ℕ
+  pub inside : IsInside limit rs here
+  pub place : at ≡ capped (length here)
+  pub spelled : bytes ≡ here ++ more
+
+-- In the last n bytes memory was refused for the record after these, which had begun before:
+-- these are all the whole records of the bytes before those that no room was found for.
+pub record RefusedIn (limit : ℕ) (rs : List (List ℕ)) (n : ℕ) (bytes : List ℕ) : Type 0 where
+  pub here : List ℕ
+  pub rest : List ℕ
+  pub inside : IsInside limit rs here
+  pub longest : Longest limit rs here
+  pub some : 0 < length rest
+  pub few : length rest ≤ n
+  pub spelled : bytes ≡ here ++ rest
+
+-- what a fault says of the bytes, where it came in the last n of them
+abbrev pub FaultyIn : ℕ → List (List ℕ) → RecordFault → ℕ → List ℕ → Type 0
+FaultyIn limit rs (fault.TooLong at) n bytes = TooLongAt limit rs at bytes
+FaultyIn limit rs (fault.Truncated at) n bytes = CutAt limit rs at bytes
+FaultyIn limit rs fault.NoMemory n bytes = RefusedIn limit rs n bytes
+FaultyIn limit rs _ n bytes = Begins limit rs bytes
+
 -- what a fault says of the bytes
 abbrev pub Faulty : ℕ → List (List ℕ) → RecordFault → List ℕ → Type 0
-Faulty limit rs (fault.TooLong at) bytes = TooLongAt limit rs at bytes
-Faulty limit rs _ bytes = Begins limit rs bytes
+Faulty limit rs f bytes = FaultyIn limit rs f (length bytes) bytes
+
+-- However the bytes go on behind a header that passes the limit, it stands where it stands, and the records before it
+-- are those of the longest front.
+abbrev pub TooLongEnds : Type 0
+TooLongEnds = (limit at : ℕ) (rs : List (List ℕ)) (bytes more : List ℕ) → TooLongAt limit rs at bytes
+    → TooLongAt limit rs at (bytes ++ more) × Longest limit rs (bytes ++ more)
+
+-- Whole records have no header that passes the limit.
+abbrev pub WholeHasNoLong : Type 0
+WholeHasNoLong = (limit : ℕ) (rs : List (List ℕ)) (bytes : List ℕ) → IsWhole limit rs bytes → HasNoLong limit bytes
+
+-- Where a fault came, the bytes begin with the records before it.
+abbrev pub FaultsBegin : Type 0
+FaultsBegin = (limit : ℕ) (rs : List (List ℕ)) (f : RecordFault) (bytes : List ℕ) → Faulty limit rs f bytes → Begins limit rs bytes
 
 -- what the fields stand for at each place
 abbrev pub StandsAt : ℕ → Place → List ℕ → ℕ → List ℕ → List (List ℕ) → Type 0
@@ -116,18 +169,14 @@ abbrev pub IsFedAt : Place → Type 0
 IsFedAt (place.Broken f) = IsFeedFault f
 IsFedAt _ = Unit {0}
 
+-- a place that a header's or a fragment's bytes lead to, where memory is not refused
+abbrev pub IsSteppedAt : Place → Type 0
+IsSteppedAt (place.Broken (fault.TooLong at)) = Unit {0}
+IsSteppedAt (place.Broken f) = ⊥
+IsSteppedAt _ = Unit {0}
+
 -- some of a record has come
 abbrev pub IsInsideAt : Place → Type 0
 IsInsideAt (place.Header at part) = Unit {0}
 IsInsideAt (place.Content f) = Unit {0}
 IsInsideAt _ = ⊥
-
--- The bytes are whole records, and then some of the next, which isn't whole.
-pub record IsInside (limit : ℕ) (rs : List (List ℕ)) (bytes : List ℕ) : Type 0 where
-  pub whole : List ℕ
-  pub part : List ℕ
-  pub stream : Stream rs whole
-  pub within : Within limit rs
-  pub some : 0 < length part
-  pub unfinished : IsUnfinished limit part
-  pub spelled : bytes ≡ whole ++ part

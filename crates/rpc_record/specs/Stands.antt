@@ -8,7 +8,8 @@ use Rattle.rpc_record.specs.declared.place.Place.TheVariants as place
 use Rattle.rpc_record.specs.declared.fault.RecordFault.{RecordFault}
 use Rattle.rpc_record.specs.declared.fault.RecordStep.{RecordStep}
 use Rattle.rpc_record.specs.declared.fault.RecordStep.TheVariants as step
-use Rattle.rpc_record.specs.Reading.{capped, IsInside, StandsAt, IsTakingAt, IsBrokenAt, IsFedAt, IsFeedFault}
+use Rattle.rpc_record.specs.Marked.{Longest}
+use Rattle.rpc_record.specs.Reading.{capped, IsWhole, IsInside, HasNoLong, Faulty, FaultyIn, StandsAt, IsTakingAt, IsBrokenAt, IsFedAt, IsFeedFault, IsSteppedAt}
 
 -- The reader has taken these bytes and has handed out these records.
 abbrev pub Stands : RecordReader → List ℕ → List (List ℕ) → Type 0
@@ -39,6 +40,24 @@ Feeds old new piece (Ok step.More) = IsTaking new × Takes old new piece
 Feeds old new piece (Ok (step.Whole used)) = IsWaiting new × (used ≤ length piece) × Takes old new (take used piece) × (IsTaking old → 0 < used)
 Feeds old new piece (Err f) = IsBroken new f × Takes old new piece × (IsTaking old → IsFeedFault f)
 
+-- Whatever bytes the reader had taken and whatever records it had handed out, this holds of these records and of the bytes
+-- with these behind.
+abbrev pub After : RecordReader → List ℕ → (List (List ℕ) → List ℕ → Type 0) → Type 0
+After old more P = (bytes : List ℕ) (rs : List (List ℕ)) → Stands old bytes rs → P rs (bytes ++ more)
+
+-- What the answer to a piece says of the bytes taken. `More`: the records handed out are all that are whole, and no header
+-- passes the limit. `Whole`: the bytes are the records handed out and one more. A fault: what it says of them, and that it
+-- came in this piece where none had come before.
+abbrev pub Tells : RecordReader → List ℕ → Result RecordStep RecordFault → Type 0
+Tells old piece (Ok step.More) = After old piece (λ rs bytes. Longest old.limit rs bytes × HasNoLong old.limit bytes)
+Tells old piece (Ok (step.Whole used)) = After old (take used piece) (λ rs bytes. (r : List ℕ) × IsWhole old.limit (rs ++ r ∷ []) bytes)
+Tells old piece (Err f) = After old piece (λ rs bytes. Faulty old.limit rs f bytes × (IsTaking old → FaultyIn old.limit rs f (length piece) bytes))
+
+-- Where memory was refused now, it was for the record after those handed out, in these bytes.
+abbrev pub Refuses : RecordReader → RecordReader → List ℕ → Type 0
+Refuses old new more = IsBroken new fault.NoMemory → IsTaking old
+    → (bytes : List ℕ) (rs : List (List ℕ)) → Stands old bytes rs → FaultyIn old.limit rs fault.NoMemory (length more) (bytes ++ more)
+
 -- A broken reader answers its fault, and one where a record waits takes nothing.
 pub record Stays (old : RecordReader) (result : Result RecordStep RecordFault) : Type 0 where
   pub broken : (f : RecordFault) → IsBroken old f → result ≡ Err f
@@ -47,6 +66,10 @@ pub record Stays (old : RecordReader) (result : Result RecordStep RecordFault) :
 -- it isn't broken, or is so by a fault that feeding bytes can bring
 abbrev pub IsFed : RecordReader → Type 0
 IsFed reader = IsFedAt reader.place
+
+-- a header's or a fragment's bytes led there, and memory was not refused
+abbrev pub IsStepped : RecordReader → Type 0
+IsStepped reader = IsSteppedAt reader.place
 
 -- what handing out does
 abbrev pub Hands : RecordReader → RecordReader → Option (Vec ℕ Global) → Type 0
@@ -66,3 +89,11 @@ TruncatedAt old _ = ⊥
 abbrev pub Ends : RecordReader → RecordReader → Result (Unit {0}) RecordFault → Type 0
 Ends old new (Ok u) = (IsBetween old ⊎ IsWaiting old) × (new ≡ old)
 Ends old new (Err f) = IsBroken new f × Takes old new [] × (IsBroken old f ⊎ (IsTaking old × TruncatedAt old f))
+
+-- What the answer to the input's end says of the bytes taken. Ok: they are the records handed out and at most one more.
+-- A fault: what it says of them, and where none had come before that it is `Truncated` at their count, inside a record.
+abbrev pub Concludes : RecordReader → Result (Unit {0}) RecordFault → Type 0
+Concludes old (Ok u) = (bytes : List ℕ) (rs : List (List ℕ)) → Stands old bytes rs
+    → (waits : List (List ℕ)) × ((length waits ≤ 1) × IsWhole old.limit (rs ++ waits) bytes)
+Concludes old (Err f) = (bytes : List ℕ) (rs : List (List ℕ)) → Stands old bytes rs
+    → Faulty old.limit rs f bytes × (IsTaking old → (f ≡ fault.Truncated (capped (length bytes))) × IsInside old.limit rs bytes)

@@ -1,5 +1,4 @@
 //! What goes wrong with records, and what is counted.
-use std::alloc::AllocError;
 use thiserror::Error;
 
 /// Why records could not be read or written. Places and counts are of bytes, and `u64::MAX` stands for every greater one.
@@ -32,17 +31,6 @@ pub enum RecordStep {
     More,
     /// A whole record waits. It ends with the last of the first `used` bytes of the piece, and these alone were taken.
     Whole { used: usize },
-}
-
-/// Memory was refused.
-#[derive(Clone, Copy, Debug, PartialEq, Eq, Error)]
-#[error("out of memory")]
-pub struct NoMemory;
-
-impl From<AllocError> for NoMemory {
-    fn from(_: AllocError) -> Self {
-        NoMemory
-    }
 }
 
 /// How many records were written, and how many bytes of output. `u64::MAX` stands for every greater number.

@@ -3,6 +3,7 @@
 
 mod fault;
 mod header;
+mod laws;
 mod marks;
 mod normal;
 mod outbox;
@@ -10,7 +11,12 @@ mod place;
 mod reader;
 mod steps;
 
-pub use fault::{Count, NoMemory, RecordFault, RecordStep};
+pub use fault::{Count, RecordFault, RecordStep};
+pub use header::last_header;
+pub use laws::{
+    no_record_begins_another, normal_forms_join, too_long_ends_the_stream, twice_as_once,
+};
 pub use marks::{mark, write_marked};
-pub use normal::{normalise, twice_as_once};
+pub use normal::normalise;
 pub use reader::RecordReader;
+pub use xdr_units::NoMemory;

@@ -4,10 +4,10 @@ ghost use Rattle.std.specs.Io.KnownBytes.{Appends};
 ghost use Rattle.xdr_io.specs.Told.{Counts};
 ghost use Rattle.rpc_record.specs.Marked.{fragment};
 
-use super::fault::NoMemory;
 use super::header::last_header;
 use std::alloc::Global;
 use xdr_io::{Cut, Sink, write_whole};
+use xdr_units::NoMemory;
 
 /// The record as one last fragment: a header of four bytes, and the content (RFC 5531, section 11).
 pub fn mark(alloc: Global, content: &[u8]) -> Result<Vec<u8>, NoMemory>

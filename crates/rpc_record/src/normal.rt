@@ -2,11 +2,11 @@
 ghost use Rattle.std.specs.Prelude.{◌≡◌, ◌+◌, ◌<◌, ◌≤◌, ◌++◌, ℕ, List, [], ◌∷◌, length, take, IfOk, IfErr, OnOk, OnErr, IsErrOf};
 ghost use Rattle.std.specs.Io.KnownBytes.{Appends, Consumes, IsAtEnd};
 ghost use Rattle.xdr_io.specs.Told.{Counts, CountsAtMost};
-ghost use Rattle.rpc_record.specs.Marked.{fragment, normal, TwiceAsOnce, OneReading};
+ghost use Rattle.rpc_record.specs.Marked.{fragment, normal};
 ghost use Rattle.rpc_record.specs.Reading.{capped};
 ghost use Rattle.rpc_record.specs.Stands.{Stands, IsTaking, IsWaiting, limit_of};
-ghost use Rattle.rpc_record.specs.Normalised.{IsCount, Normalised, Stops};
-ghost use Rattle.rpc_record.specs.Passing.{Gathers, Lost, Passed, CutBy, WriteFails};
+ghost use Rattle.rpc_record.specs.Normalised.{IsCount, Normalised, Stops, WriteFails};
+ghost use Rattle.rpc_record.specs.Passing.{Gathers, Lost, Passed, CutBy};
 
 use super::fault::{Count, RecordFault, RecordStep};
 use super::header::last_header;
@@ -89,8 +89,9 @@ fn pass_on<W: Sink>(
 
 /// Writes each record of the reader as one last fragment, and counts them, once the reader has ended between two
 /// records. `TooLong`, `Truncated`, `Read` and `NoMemory` come after the records before were written, and so does
-/// `TooManyReads`, where 1048576 reads did not reach the end. After `Write` the first `written` bytes of that output
-/// went out. The records that come whole in one read go out together.
+/// `TooManyReads`, where 1048576 reads did not reach the end: of `NoMemory` these are the whole records before the one
+/// that memory was refused for. After `Write` the first `written` bytes of that output went out, though more records
+/// may have been whole. The records that come whole in one read go out together.
 pub fn normalise<R: Source, W: Sink>(
     alloc: Global,
     reader: &mut R,
@@ -127,9 +128,3 @@ pub fn normalise<R: Source, W: Sink>(
     }
     Err(RecordFault::TooManyReads)
 }
-
-/// Normalising twice gives what normalising once does, and bytes have one reading as records.
-pub fn twice_as_once()
-    ensures twice { TwiceAsOnce }
-    ensures reading { OneReading }
-{}

@@ -22,10 +22,11 @@ pub struct RecordReader {
 }
 
 impl RecordReader {
-    ghost use Rattle.std.specs.Prelude.{◌≡◌, ◌<◌, ◌++◌, ◌↔◌, ℕ, List, [], ◌∷◌, length, take, IsTrue, IfSome, IfNone};
-    ghost use Rattle.rpc_record.specs.Stands.{Stands, IsTaking, IsWaiting, IsBroken, Takes, Feeds, Stays, IsFed, Hands, Ends, limit_of};
+    ghost use Rattle.std.specs.Prelude.{◌≡◌, ◌<◌, ◌++◌, ◌↔◌, ℕ, List, [], ◌∷◌, length, take, IsTrue};
+    ghost use Rattle.rpc_record.specs.Stands.{Stands, IsTaking, IsWaiting, IsBroken, limit_of};
+    ghost use Rattle.rpc_record.specs.Stands.{Takes, Feeds, Tells, Stays, Hands, Ends, Concludes, Refuses, IsFed, IsStepped};
     ghost use Rattle.rpc_record.specs.Marked.{Longest};
-    ghost use Rattle.rpc_record.specs.Reading.{InHeader, TooLongAt, IsInsideAt, begun_bytes, capped};
+    ghost use Rattle.rpc_record.specs.Reading.{InHeader, TooLongAt, IsWhole, Begins, Faulty, HasNoLong, begun_bytes, capped};
     ghost use Rattle.rpc_record.specs.declared.place.Place.TheVariants as place;
 
     /// A reader of records of at most `limit` bytes, before the first byte.
@@ -51,6 +52,7 @@ impl RecordReader {
     pub fn feed(&mut self, piece: &[u8]) -> Result<RecordStep, RecordFault>
         ensures limit { limit_of self.new ≡ limit_of self.old }
         ensures feeds { Feeds self.old self.new piece.now result }
+        ensures tells { Tells self.old piece.now result }
         ensures stays { Stays self.old result }
     {
         let mut used = 0;
@@ -81,6 +83,7 @@ impl RecordReader {
         ensures within { result ≤ length piece.now }
         ensures limit { limit_of self.new ≡ limit_of self.old }
         ensures takes { Takes self.old self.new (take result piece.now) }
+        ensures refuses { Refuses self.old self.new (take result piece.now) }
     {
         match self.place {
             Place::Between => self.take_header(self.taken, Begun::Nothing, piece[0]),
@@ -93,7 +96,7 @@ impl RecordReader {
     /// Takes the next byte of a header.
     fn take_header(&mut self, at: u64, begun: Begun, byte: u8) -> usize
         ensures one { result ≡ 1 }
-        ensures fed { IsFed self.new }
+        ensures stepped { IsStepped self.new }
         ensures limit { limit_of self.new ≡ limit_of self.old }
         ensures stands { (bytes : List ℕ) (rs : List (List ℕ))
             → InHeader (limit_of self.old) rs self.old.content.items at (begun_bytes begun) bytes
@@ -115,6 +118,7 @@ impl RecordReader {
         ensures within { result ≤ length piece.now }
         ensures limit { limit_of self.new ≡ limit_of self.old }
         ensures takes { Takes self.old self.new (take result piece.now) }
+        ensures refuses { Refuses self.old self.new (take result piece.now) }
     {
         let n = piece.len().min(fragment.left as usize);
         match self.content.extend_from_slice(&piece[..n]) {
@@ -157,6 +161,7 @@ impl RecordReader {
     pub fn end(&mut self) -> Result<(), RecordFault>
         ensures limit { limit_of self.new ≡ limit_of self.old }
         ensures ends { Ends self.old self.new result }
+        ensures concludes { Concludes self.old result }
     {
         match self.place {
             Place::Between | Place::Whole => Ok(()),
@@ -170,12 +175,20 @@ impl RecordReader {
     }
 
     /// The records handed out are those of the longest front of the bytes that is a stream of records within the
-    /// limit, and so are they with the one that waits. While bytes are taken no header has passed the limit.
+    /// limit, and so are they with the one that waits. While bytes are taken no header has passed the limit. After
+    /// `TooLong` a header did, at that place, where the longest such front ends.
     pub fn records_are_longest(&self)
         ensures not_long { IsTaking self.now → (bytes : List ℕ) (rs others : List (List ℕ)) (at : ℕ) → Stands self.now bytes rs
             → TooLongAt (limit_of self.now) others at bytes → ⊥ }
         ensures taking { IsTaking self.now → (bytes : List ℕ) (rs : List (List ℕ)) → Stands self.now bytes rs → Longest (limit_of self.now) rs bytes }
         ensures waiting { IsWaiting self.now → (bytes : List ℕ) (rs : List (List ℕ)) → Stands self.now bytes rs
             → (r : List ℕ) × Longest (limit_of self.now) (rs ++ r ∷ []) bytes }
+        ensures begins { IsTaking self.now → (bytes : List ℕ) (rs : List (List ℕ)) → Stands self.now bytes rs → Begins (limit_of self.now) rs bytes }
+        ensures whole { IsWaiting self.now → (bytes : List ℕ) (rs : List (List ℕ)) → Stands self.now bytes rs
+            → (r : List ℕ) × (IsWhole (limit_of self.now) (rs ++ r ∷ []) bytes × HasNoLong (limit_of self.now) bytes) }
+        ensures faulty { (f : RecordFault) → IsBroken self.now f → (bytes : List ℕ) (rs : List (List ℕ)) → Stands self.now bytes rs
+            → Faulty (limit_of self.now) rs f bytes }
+        ensures long { (at : ℕ) → IsBroken self.now (RecordFault.TooLong at) → (bytes : List ℕ) (rs : List (List ℕ)) → Stands self.now bytes rs
+            → TooLongAt (limit_of self.now) rs at bytes × Longest (limit_of self.now) rs bytes }
     {}
 }

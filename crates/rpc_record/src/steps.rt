@@ -1,7 +1,7 @@
 //! From one place to the next.
 ghost use Rattle.std.specs.Prelude.{◌≡◌, ◌+◌, ◌^◌, ◌<◌, ◌≤◌, List, ℕ, [], ◌∷◌, ◌++◌, length};
 ghost use Rattle.rpc_record.specs.Marked.{header, fragment};
-ghost use Rattle.rpc_record.specs.Reading.{Upto, InHeader, InContent, StandsAt, IsFedAt, begun_bytes, capped, left_of};
+ghost use Rattle.rpc_record.specs.Reading.{Upto, InHeader, InContent, StandsAt, IsSteppedAt, begun_bytes, capped, left_of};
 
 use super::fault::RecordFault;
 use super::header::{Heading, heading_of};
@@ -9,7 +9,7 @@ use super::place::{Begun, Fragment, Place};
 
 /// The place after the next byte of a header. There is room for so many bytes in the record.
 pub fn after_header(at: u64, begun: Begun, byte: u8, taken: u64, room: u32) -> Place
-    ensures fed { IsFedAt result }
+    ensures stepped { IsSteppedAt result }
     ensures left { left_of result ≤ room }
     ensures stands { (limit : ℕ) (rs : List (List ℕ)) (content bytes : List ℕ)
         → length content + room ≡ limit
@@ -37,7 +37,7 @@ pub fn after_header(at: u64, begun: Begun, byte: u8, taken: u64, room: u32) -> P
 /// The place after a whole header.
 fn after_heading(at: u64, heading: Heading, taken: u64, room: u32) -> Place
     requires { heading.count < 2 ^ 31 }
-    ensures fed { IsFedAt result }
+    ensures stepped { IsSteppedAt result }
     ensures left { left_of result ≤ room }
     ensures stands { (limit : ℕ) (rs : List (List ℕ)) (content before : List ℕ)
         → length content + room ≡ limit
@@ -60,7 +60,7 @@ fn after_heading(at: u64, heading: Heading, taken: u64, room: u32) -> Place
 
 /// The place after a whole fragment.
 fn after_fragment(last: bool, taken: u64) -> Place
-    ensures fed { IsFedAt result }
+    ensures stepped { IsSteppedAt result }
     ensures left { left_of result ≡ 0 }
     ensures stands { (limit : ℕ) (rs : List (List ℕ)) (first part before : List ℕ)
         → Upto limit rs first before
@@ -82,7 +82,7 @@ fn after_fragment(last: bool, taken: u64) -> Place
 /// The place after n more bytes of a fragment.
 pub fn after_content(at_work: Fragment, n: u32, taken: u64) -> Place
     requires { n ≤ at_work.left }
-    ensures fed { IsFedAt result }
+    ensures stepped { IsSteppedAt result }
     ensures left { left_of result + n ≤ at_work.left }
     ensures stands { (limit : ℕ) (rs : List (List ℕ)) (content bytes more : List ℕ)
         → length more ≡ n

@@ -1,4 +1,5 @@
 use Rattle.std.proofs.Common.{◌+◌, refl, arith}
+use Rattle.std.proofs.lemmas.List.{length-take-le}
 use Rattle.xdr_io.proofs.Chained.{Counts-trans}
 use Rattle.rpc_record.proofs.Progress.{Progress-more, Progress-cut, Progress-read, Progress-many, Progress-truncated}
 use Rattle.rpc_record.proofs.normal.normalise.Goals as goal
@@ -16,7 +17,8 @@ returns-then-n-eq0-clause-fault g c =
     ]
 
 pub returns-in-Err-pass_on-clause-fault : goal.returns-in-Err-pass_on-clause-fault
-returns-in-Err-pass_on-clause-fault g c = Progress-cut c.args.limit c.loop-turn.records c.loop-turn.outbox.count _ _ _ _ _ c.loop-turn.invariant.progress c.in-Err-pass_on.fault _ _ c.in-Ok.ensures.bytes.0 c.in-Err-pass_on.ensures.cut
+returns-in-Err-pass_on-clause-fault g c = Progress-cut c.args.limit c.loop-turn.records c.loop-turn.outbox.count _ _ _ _ _ c.loop-turn.invariant.progress c.in-Err-pass_on.fault _ _
+    (omega (arith, c.in-Ok.ensures.bound, length-take-le c.in-Ok.n c.read.new.array (omega (arith, c.in-Ok.ensures.bound)))) c.in-Ok.ensures.bytes.0 c.in-Err-pass_on.ensures.cut
 
 pub loop-turn-preserved : goal.loop-turn-preserved
 loop-turn-preserved g c = record {

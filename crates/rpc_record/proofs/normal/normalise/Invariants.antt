@@ -1,6 +1,6 @@
 use Rattle.std.proofs.Common.{◌≡◌}
 use Rattle.xdr_io.specs.Told.{Counts}
-use Rattle.rpc_record.specs.Passing.{Progress}
+use Rattle.rpc_record.proofs.Progress.{Progress}
 use Rattle.rpc_record.proofs.normal.normalise.Given as goal
 
 abbrev pub invariant-loop-turn : goal.invariant-loop-turn

@@ -37,7 +37,7 @@ returns-in-Ok-flush-clause-cut g c =
     let feeds = c.in-Err.ensures.feeds in
     CutBy-after c.args.records.now c.records.records _ _ (take at piece) _ piece _ _ _ c.in-Err.fault e
     (Passed-flushed c.args.records.now c.records.records c.args.outbox.now c.records.outbox (take at piece) _ _ c.records.invariant.gathers _ _ c.requires.empty c.in-Ok-flush.ensures.empty c.in-Ok-flush.ensures.records c.in-Ok-flush.ensures.ok)
-    (CutBy-fed c.records.records c.feed.new.self _ _ _ c.in-Err.fault c.feed.ensures.limit feeds.0 feeds.1 (feeds.2 c.records.invariant.gathers.taking))
+    (CutBy-fed c.records.records _ _ _ c.in-Err.fault c.records.invariant.gathers.taking c.in-Err.ensures.tells (feeds.2 c.records.invariant.gathers.taking))
 
 pub returns-in-Err-flush-2-clause-cut : goal.returns-in-Err-flush-2-clause-cut
 returns-in-Err-flush-2-clause-cut g c =
@@ -48,7 +48,7 @@ returns-in-Err-flush-2-clause-cut g c =
     let lost = c.in-Err-flush-2.lost in
     CutBy-lost c.args.records.now c.args.outbox.now piece _ _ lost c.requires.empty
     (Lost-after c.args.records.now c.records.records c.args.outbox.now c.records.outbox (take at piece) _ _ c.records.invariant.gathers _ piece _ lost e
-    (Lost-broken c.records.records c.feed.new.self c.records.outbox _ _ _ lost c.in-Err.fault c.feed.ensures.limit feeds.0 feeds.1 (feeds.2 c.records.invariant.gathers.taking) c.in-Err-flush-2.ensures.cut))
+    (Lost-broken c.records.records c.feed.new.self c.records.outbox _ _ _ lost c.in-Err.fault c.feed.ensures.limit feeds.0 feeds.1 c.in-Err-flush-2.ensures.cut))
 
 pub records-smaller : goal.records-smaller
 records-smaller g c =

@@ -1,0 +1,29 @@
+//! Laws of record marking: what the definitions of a record, of a stream and of its normal form come to.
+ghost use Rattle.rpc_record.specs.Marked.{NoneBeginsAnother, OneLongest, OneReading, TwiceAsOnce, NormalJoins, FragmentLength};
+ghost use Rattle.rpc_record.specs.Reading.{TooLongEnds, WholeHasNoLong, FaultsBegin};
+
+/// Normalising twice gives what normalising once does, and bytes have one reading as records.
+pub fn twice_as_once()
+    ensures twice { TwiceAsOnce }
+    ensures reading { OneReading }
+{}
+
+/// A marked record ends by its own bytes: none begins another, so bytes have one longest front of whole records.
+pub fn no_record_begins_another()
+    ensures apart { NoneBeginsAnother }
+    ensures longest { OneLongest }
+{}
+
+/// A header that brings its record above the limit ends every longer stream of records within the limit, and whole
+/// records have none. Before whatever fault the bytes begin with whole records.
+pub fn too_long_ends_the_stream()
+    ensures ends { TooLongEnds }
+    ensures none { WholeHasNoLong }
+    ensures begins { FaultsBegin }
+{}
+
+/// The normal form of a stream is made record by record.
+pub fn normal_forms_join()
+    ensures joins { NormalJoins }
+    ensures length { FragmentLength }
+{}
