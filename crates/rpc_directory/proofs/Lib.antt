@@ -1,3 +1,4 @@
 pub mod Transports
 pub mod Own
 pub mod Bytes
+pub mod Listed

@@ -1,10 +1,13 @@
-// The rows of the registry, and the calls of versions 3 and 4.
-ghost use Rattle.std.specs.Prelude.{◌≡◌, ◌≤◌, [], length, OnErr, IfOk, option_map, slice_get};
+//! The rows of the registry, and the calls of versions 3 and 4.
+ghost use Rattle.std.specs.Prelude.{◌≡◌, ◌≤◌, [], length, false, OnErr, IfOk, IfSome, None, ◌↔◌, option_map, slice_get};
 ghost use Rattle.std.specs.List.{list_any};
 ghost use Rattle.rpc_rows.specs.Steps as step;
 ghost use Rattle.rpc_rows.specs.Ports as ports;
-ghost use Rattle.rpc_rows.specs.Rows.{row_of, is_at, IsRegistry};
+ghost use Rattle.rpc_rows.specs.Rows.{row_of, is_at, IsRow, IsRegistry};
 ghost use Rattle.rpc_rows.specs.Views.{plain_row};
+ghost use Rattle.xdr_types.specs.Within.{FitsWithin};
+ghost use Rattle.rpc_dumps.specs.Dir.{dir_kinds};
+ghost use Rattle.rpc_dumps.specs.Dumps.{rpcb_list, mapping_list, dump_limits};
 
 use crate::ports::any_host;
 use indexmap::IndexMap;
@@ -57,17 +60,24 @@ impl<S: BuildHasher> Directory<S> {
         Ok(directory)
     }
 
-    /// How many rows there are: at most 1024. It takes no memory.
+    /// How many rows there are: at most 1024. It takes no memory. Its clauses are what always holds of the rows: each
+    /// keeps to its bounds, no program, version and netid is there twice, and as a dump they fit the kinds at places 14
+    /// and 18 of `directory_schema` within depth 4096 and 16777216 bytes.
     pub fn rows(&self) -> u32
         ensures value { result ≡ length self.now }
+        ensures few { result ≤ 1024 }
         ensures registry { IsRegistry self.now }
+        ensures dump { FitsWithin dir_kinds 14 dump_limits (rpcb_list self.now) }
+        ensures dump_ports { FitsWithin dir_kinds 18 dump_limits (mapping_list self.now) }
     {
         self.rows.len() as u32
     }
 
-    /// The row at an index, in order of insertion from 0; `None` at `rows()` and past it. It takes no memory.
+    /// The row at an index, in order of insertion from 0; `None` at `rows()` and past it. Its netid has 1 to 64 bytes,
+    /// its address 1 to 256 and its owner at most 10. It takes no memory.
     pub fn row(&self, index: u32) -> Option<&Row>
-        ensures { option_map (λ r. plain_row r.now) result ≡ slice_get self.now index }
+        ensures value { option_map (λ r. plain_row r.now) result ≡ slice_get self.now index }
+        ensures row { IfSome result (λ r. IsRow (plain_row r.now)) }
     {
         match self.rows.get_index(index as usize) {
             Some((_key, row)) => Some(row),
@@ -77,7 +87,8 @@ impl<S: BuildHasher> Directory<S> {
 
     // The row of a program, a version and a netid.
     pub(crate) fn find(&self, prog: u32, vers: u32, netid: &[u8]) -> Option<&Row>
-        ensures { option_map (λ r. plain_row r.now) result ≡ step.row_at self.now prog vers netid.now }
+        ensures value { option_map (λ r. plain_row r.now) result ≡ step.row_at self.now prog vers netid.now }
+        ensures row { IfSome result (λ r. IsRow (plain_row r.now)) }
     {
         let rows = &self.rows;
         find(rows, prog, vers, netid)
@@ -90,10 +101,13 @@ impl<S: BuildHasher> Directory<S> {
         self.find(prog, vers, netid).is_some()
     }
 
-    /// The registered universal address of a version of a program over a transport, empty where there is none (RFC 1833
-    /// section 2.2.1, RPCBPROC_GETADDR): one hash and one comparison. It takes no memory.
+    /// The registered universal address of a version of a program over a transport, at most 256 bytes, and empty exactly
+    /// where there is none (RFC 1833 section 2.2.1, RPCBPROC_GETADDR). It is one look-up by the key's hash, so what it costs
+    /// does not grow with the rows, unless the hasher puts many keys together. It takes no memory.
     pub fn getaddr(&self, prog: u32, vers: u32, netid: &[u8]) -> &[u8]
-        ensures { result.now ≡ step.getaddr self.now prog vers netid.now }
+        ensures value { result.now ≡ step.getaddr self.now prog vers netid.now }
+        ensures short { length result.now ≤ 256 }
+        ensures empty { (result.now ≡ []) ↔ (step.row_at self.now prog vers netid.now ≡ None) }
     {
         match self.find(prog, vers, netid) {
             Some(row) => &row.address,
@@ -101,8 +115,9 @@ impl<S: BuildHasher> Directory<S> {
         }
     }
 
-    /// Adds a row at the end (RFC 1833 section 2.2.1, RPCBPROC_SET). False, with nothing changed: an empty netid or address, a
-    /// netid over 64 bytes, an address over 256, the row's key is there, or 1024 rows are. `NoMemory` changes nothing either.
+    /// Adds a row at the end (RFC 1833 section 2.2.1, RPCBPROC_SET). False, with nothing changed: an empty netid or
+    /// address, a netid over 64 bytes, an address over 256, the row's key is there, or 1024 rows are. `NoMemory` changes
+    /// nothing either: all memory is taken before the rows change.
     pub fn set(
         &mut self,
         alloc: Global,
@@ -113,7 +128,9 @@ impl<S: BuildHasher> Directory<S> {
         owner: &[u8],
     ) -> Result<bool, NoMemory>
         requires { length owner.now ≤ 10 }
-        ensures ok { IfOk result (λ done. (self.new, done) ≡ step.set self.old (row_of prog vers netid.now address.now owner.now)) }
+        ensures ok { let row = row_of prog vers netid.now address.now owner.now in
+            IfOk result (λ done. (self.new, done) ≡ step.set self.old row) }
+        ensures refused { IfOk result (λ done. done ≡ false → self.new ≡ self.old) }
         ensures err { OnErr result (self.new ≡ self.old) }
     {
         if !self.may_add(prog, vers, netid, address) {
@@ -143,11 +160,13 @@ impl<S: BuildHasher> Directory<S> {
     }
 
     /// Removes the row of a program, a version and a netid, or with an empty netid every row of the program and version,
-    /// where the row's owner is `owner` or `owner` is `superuser` (RFC 1833 section 2.2.1, RPCBPROC_UNSET). True exactly where
-    /// at least one was removed; the rest keep their order. With a netid it is one removal, without one pass. It takes no
+    /// where the row's owner is `owner` or `owner` is `superuser` (RFC 1833 section 2.2.1, RPCBPROC_UNSET). True exactly
+    /// where at least one was removed; the rest keep their order, and false changes nothing. With a netid it is one look-up
+    /// and one removal, which moves the rows behind it up by one; without one it is a pass over all rows. It takes no
     /// memory.
     pub fn unset(&mut self, prog: u32, vers: u32, netid: &[u8], owner: &[u8]) -> bool
-        ensures { (self.new, result) ≡ step.unset self.old prog vers netid.now owner.now }
+        ensures value { (self.new, result) ≡ step.unset self.old prog vers netid.now owner.now }
+        ensures refused { result ≡ false → self.new ≡ self.old }
     {
         if netid.is_empty() {
             remove_all(&mut self.rows, prog, vers, netid, owner)

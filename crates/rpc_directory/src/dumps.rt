@@ -1,16 +1,37 @@
-// The rows as values.
-ghost use Rattle.std.specs.Prelude.{◌≡◌, IfOk};
+//! The rows as values.
+ghost use Rattle.std.specs.Prelude.{◌≡◌, IfOk, option_map};
 ghost use Rattle.xdr_types.specs.View.{tree};
 ghost use Rattle.xdr_types.specs.Within.{FitsWithin};
+ghost use Rattle.rpc_rows.specs.Rows.{IsRegistry};
+ghost use Rattle.rpc_rows.specs.Views.{plain_row};
 ghost use Rattle.rpc_dumps.specs.Dir.{dir_kinds};
 ghost use Rattle.rpc_dumps.specs.Dumps.{rpcb_list, mapping_list, dump_limits};
+ghost use Rattle.rpc_directory.specs.Listings.{item_of, list_of};
 
 use crate::directory::Directory;
 use rpc_dumps::{linked, mapping, rpcb};
+use rpc_rows::Row;
 use rpc_uaddr::NoMemory;
 use std::alloc::Global;
 use std::hash::BuildHasher;
 use xdr_types::Value;
+
+// The two lists that are dumped.
+#[derive(Clone, Copy)]
+enum Listing {
+    Rpcbs,
+    Mappings,
+}
+
+// What a row adds to a list, if it adds anything.
+fn item(alloc: Global, listing: Listing, row: &Row) -> Result<Option<Value>, NoMemory>
+    ensures { IfOk result (λ v. option_map tree v ≡ item_of listing (plain_row row.now)) }
+{
+    match listing {
+        Listing::Rpcbs => Ok(Some(rpcb(alloc, row)?)),
+        Listing::Mappings => Ok(mapping(alloc, row)?),
+    }
+}
 
 impl<S: BuildHasher> Directory<S> {
     /// All rows in order as an `rpcblist` (RFC 1833 section 2.2.1, RPCBPROC_DUMP): a value of the kind at place 14 of
@@ -19,15 +40,7 @@ impl<S: BuildHasher> Directory<S> {
         ensures all { IfOk result (λ v. tree v ≡ rpcb_list self.now) }
         ensures fits { IfOk result (λ v. FitsWithin dir_kinds 14 dump_limits (tree v)) }
     {
-        let mut list = Value::Maybe(None);
-        let mut left = self.rows();
-        while left > 0 {
-            left -= 1;
-            match self.row(left) {
-                Some(row) => list = linked(alloc, rpcb(alloc, row)?, list)?,
-                None => {}
-            }
-        }
+        let list = self.list(alloc, Listing::Rpcbs)?;
         Ok(list)
     }
 
@@ -38,12 +51,21 @@ impl<S: BuildHasher> Directory<S> {
         ensures all { IfOk result (λ v. tree v ≡ mapping_list self.now) }
         ensures fits { IfOk result (λ v. FitsWithin dir_kinds 18 dump_limits (tree v)) }
     {
+        let list = self.list(alloc, Listing::Mappings)?;
+        Ok(list)
+    }
+
+    // The list of what the rows add to it, which is made from the last row on.
+    fn list(&self, alloc: Global, listing: Listing) -> Result<Value, NoMemory>
+        ensures all { IfOk result (λ v. tree v ≡ list_of listing self.now) }
+        ensures registry { IsRegistry self.now }
+    {
         let mut list = Value::Maybe(None);
         let mut left = self.rows();
         while left > 0 {
             left -= 1;
             match self.row(left) {
-                Some(row) => match mapping(alloc, row)? {
+                Some(row) => match item(alloc, listing, row)? {
                     Some(first) => list = linked(alloc, first, list)?,
                     None => {}
                 },

@@ -1,5 +1,5 @@
-// The calls of version 2, which name a transport by its number.
-ghost use Rattle.std.specs.Prelude.{◌≡◌, ◌≤◌, length, OnErr, IfOk, option_map};
+//! The calls of version 2, which name a transport by its number.
+ghost use Rattle.std.specs.Prelude.{◌≡◌, ◌≤◌, ◌<◌, length, false, OnErr, IfOk, option_map};
 ghost use Rattle.rpc_rows.specs.Ports as ports;
 
 use crate::directory::Directory;
@@ -8,9 +8,9 @@ use std::alloc::Global;
 use std::hash::BuildHasher;
 
 impl<S: BuildHasher> Directory<S> {
-    /// `set` at every host and this port, with netid `tcp` for `prot` 6 and `udp` for 17 (RFC 1833 section 3.2, PMAPPROC_SET).
-    /// False, with nothing changed, where `set` answers false, for another `prot`, and for a port above 65535. `NoMemory`
-    /// changes nothing.
+    /// `set` at every host and this port, with netid `tcp` for `prot` 6 and `udp` for 17 (RFC 1833 section 3.2,
+    /// PMAPPROC_SET). False, with nothing changed, where `set` answers false, for another `prot`, and for a port above
+    /// 65535. `NoMemory` changes nothing.
     pub fn set_port(
         &mut self,
         alloc: Global,
@@ -22,6 +22,7 @@ impl<S: BuildHasher> Directory<S> {
     ) -> Result<bool, NoMemory>
         requires { length owner.now ≤ 10 }
         ensures ok { IfOk result (λ done. (self.new, done) ≡ ports.set_port self.old prog vers prot port owner.now) }
+        ensures refused { IfOk result (λ done. done ≡ false → self.new ≡ self.old) }
         ensures err { OnErr result (self.new ≡ self.old) }
     {
         let netid = match netid_of(prot) {
@@ -35,21 +36,23 @@ impl<S: BuildHasher> Directory<S> {
         self.set(alloc, prog, vers, netid, &address, owner)
     }
 
-    /// `unset` of the rows over `tcp` and over `udp` (RFC 1833 section 3.2, PMAPPROC_UNSET). True exactly where at least one
-    /// was removed. It takes no memory.
+    /// `unset` of the rows over `tcp` and over `udp` (RFC 1833 section 3.2, PMAPPROC_UNSET). True exactly where at least
+    /// one was removed; the rest keep their order, and false changes nothing. It takes no memory.
     pub fn unset_port(&mut self, prog: u32, vers: u32, owner: &[u8]) -> bool
-        ensures { (self.new, result) ≡ ports.unset_port self.old prog vers owner.now }
+        ensures value { (self.new, result) ≡ ports.unset_port self.old prog vers owner.now }
+        ensures refused { result ≡ false → self.new ≡ self.old }
     {
         let first = self.unset(prog, vers, b"tcp", owner);
         let second = self.unset(prog, vers, b"udp", owner);
         first || second
     }
 
-    /// The port of a version of a program over the transport of this number (RFC 1833 section 3.2, PMAPPROC_GETPORT): 0 for a
-    /// `prot` other than 6 and 17, where there is no row, and where its address is no universal address over IPv4. It takes no
-    /// memory.
+    /// The port of a version of a program over the transport of this number (RFC 1833 section 3.2, PMAPPROC_GETPORT): 0
+    /// for a `prot` other than 6 and 17, where there is no row, and where its address is no universal address over IPv4.
+    /// It takes no memory.
     pub fn get_port(&self, prog: u32, vers: u32, prot: u32) -> u32
-        ensures { result ≡ ports.get_port self.now prog vers prot }
+        ensures value { result ≡ ports.get_port self.now prog vers prot }
+        ensures port { result < 65536 }
     {
         match netid_of(prot) {
             Some(netid) => self.port_over(prog, vers, netid),
@@ -59,7 +62,8 @@ impl<S: BuildHasher> Directory<S> {
 
     // The port of a version of a program over a transport.
     fn port_over(&self, prog: u32, vers: u32, netid: &[u8]) -> u32
-        ensures { result ≡ ports.port_over self.now prog vers netid.now }
+        ensures value { result ≡ ports.port_over self.now prog vers netid.now }
+        ensures port { result < 65536 }
     {
         match self.find(prog, vers, netid) {
             Some(row) => port_in(&row.address),
@@ -70,7 +74,8 @@ impl<S: BuildHasher> Directory<S> {
 
 // The port of an address, 0 where it is no universal address over IPv4.
 fn port_in(text: &[u8]) -> u32
-    ensures { result ≡ ports.port_in text.now }
+    ensures value { result ≡ ports.port_in text.now }
+    ensures port { result < 65536 }
 {
     match read_uaddr(text) {
         Some(address) => u32::from(address.port),

@@ -8,7 +8,7 @@ use Rattle.rpc_rows.specs.declared.row.Row.{Row}
 use Rattle.rpc_rows.specs.Rows as plain
 use Rattle.rpc_rows.specs.Rows.{is_at}
 use Rattle.rpc_rows.specs.Keys.{key_of}
-use Rattle.rpc_rows.specs.Steps.{may_add}
+use Rattle.rpc_rows.specs.Steps.{may_add, is_empty}
 use Rattle.rpc_rows.specs.Views.{plain_row, plain_rows, AreKeyed, IsKeyed}
 use Rattle.rpc_rows.proofs.Keyed.{key_eq, find_by_key, find_is_any}
 
@@ -23,7 +23,14 @@ not_true true e = absurd (true≢false (sym e))
 le_true : (a b : ℕ) → nat_le a b ≡ true → a ≤ b
 le_true a b e = grind (arith, e)
 
+-- A text that is not empty has a byte.
+some_byte : (bs : List ℕ) → not (is_empty bs) ≡ true → 0 < length bs
+some_byte [] e = absurd (true≢false (sym e))
+some_byte (b ∷ bs) e = omega arith
+
 pub record Addable (rows : List plain.Row) (r : plain.Row) : Type 0 where
+  pub some_netid : 0 < length r.netid
+  pub some_address : 0 < length r.address
   pub netid : length r.netid ≤ 64
   pub address : length r.address ≤ 256
   pub room : length rows < 1024
@@ -35,7 +42,15 @@ addable rows r e =
     let o = both _ _ f.0 in
     let a = both _ _ o.0 in
     let n = both _ _ a.0 in
-    record { netid = le_true _ _ n.1; address = le_true _ _ a.1; room = (Decides-ltb _ _).0 o.1; absent = not_true _ f.1 }
+    let t = both _ _ n.0 in
+    record {
+      some_netid = some_byte r.netid t.0;
+      some_address = some_byte r.address t.1;
+      netid = le_true _ _ n.1;
+      address = le_true _ _ a.1;
+      room = (Decides-ltb _ _).0 o.1;
+      absent = not_true _ f.1;
+    }
 
 none_from : {X Y : Type 0} (f : X → Y) (x : Option X) → is_some (option_map f x) ≡ false → x ≡ None
 none_from f None e = refl

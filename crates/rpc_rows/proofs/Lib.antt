@@ -3,3 +3,4 @@ pub mod Filtered
 pub mod Added
 pub mod Twice
 pub mod Removed
+pub mod Bounds

@@ -1,5 +1,7 @@
 -- What the removal of one key does to the plain rows.
-use Rattle.std.proofs.Common.{◌≡◌, ℕ, ◌≤◌, ◌<◌, Bool, true, false, not, ◌&&◌, ◌||◌, cond, List, [], ◌∷◌, length, nat_eq, nat_le, refl, ap, sym, ◌∙◌, subst, arith, filter, find, Option, Some, None, is_some, true≢false}
+use Rattle.std.proofs.Common.{◌≡◌, ℕ, ◌≤◌, ◌<◌, Bool, true, false, not, ◌&&◌, ◌||◌, cond, List, [], ◌∷◌, length}
+use Rattle.std.proofs.Common.{nat_eq, nat_le, refl, ap, sym, ◌∙◌, subst, arith, find, Option, Some, None}
+use Rattle.std.proofs.Common.{is_some, true≢false}
 use Rattle.std.specs.List.{list_any}
 use Rattle.std.specs.Map.{remove_entry}
 use Rattle.std.specs.Option.{option_map_or}
@@ -14,6 +16,7 @@ use Rattle.rpc_rows.specs.Rows.{is_of, is_at, NoneTwice}
 use Rattle.rpc_rows.specs.Steps.{is_unset, is_empty, may_remove, unset}
 use Rattle.rpc_rows.specs.Views.{plain_row, plain_rows, AreKeyed, AreEntries}
 use Rattle.rpc_rows.proofs.Added.{both}
+use Rattle.rpc_rows.proofs.Filtered.{left, all_left, or_false}
 use Rattle.rpc_rows.proofs.Twice.{NoneTwice-filter}
 use Rattle.rpc_rows.proofs.Keyed.{key_eq, key_test, none_longer}
 
@@ -23,7 +26,8 @@ Alone test [] = Unit {0}
 Alone test (x ∷ xs) = (test x ≡ true → list_any test xs ≡ false) × Alone test xs
 
 -- No two rows have the key.
-pub alone_at : (prog vers : ℕ) (netid : List ℕ) (rows : List plain.Row) → NoneTwice rows → Alone (is_at prog vers netid) rows
+pub alone_at : (prog vers : ℕ) (netid : List ℕ) (rows : List plain.Row) → NoneTwice rows
+    → Alone (is_at prog vers netid) rows
 alone_at prog vers netid [] h = tt
 alone_at prog vers netid (x ∷ xs) h = (λ at. one at, alone_at prog vers netid xs h.1)
   where
@@ -36,127 +40,127 @@ alone_at prog vers netid (x ∷ xs) h = (λ at. one at, alone_at prog vers netid
         let n : netid ≡ x.netid = (bytes_eq-Decides netid x.netid).0 w.1 in
         (λ j. list_any (is_at (p j) (q j) (n j)) xs) ∙ h.0
 
-or_none : (a b : Bool) → (a || b) ≡ false → (a ≡ false) × (b ≡ false)
-or_none true b e = absurd (true≢false e)
-or_none false b e = (refl, e)
+-- a test that names none of the rows, and leaves all
+abbrev pub Spares : (plain.Row → Bool) → List plain.Row → Type 0
+Spares gone xs = (left gone xs ≡ xs) × (list_any gone xs ≡ false)
+
+abbrev the : plain.Row → Option plain.Row → plain.Row
+the d None = d
+the d (Some r) = r
 
 module _ (at may gone : plain.Row → Bool) (says : (x : plain.Row) → gone x ≡ (at x && may x)) where
-  kept_at : (xs : List plain.Row) → list_any at xs ≡ false → filter (λ r. not (at r)) xs ≡ xs
-  kept_at [] e = refl
-  kept_at (x ∷ xs) e =
-      let w = or_none _ _ e in
-      (λ j. cond (not (w.0 j)) (x ∷ filter (λ r. not (at r)) xs) (filter (λ r. not (at r)) xs)) ∙ ap (λ rs. x ∷ rs) (kept_at xs w.1)
-
   not_gone : (x : plain.Row) → at x ≡ false → gone x ≡ false
   not_gone x e = says x ∙ ap (λ b. b && may x) e
 
-  none_gone : (xs : List plain.Row) → list_any at xs ≡ false → (filter (λ r. not (gone r)) xs ≡ xs) × (list_any gone xs ≡ false)
-  none_gone [] e = (refl, refl)
-  none_gone (x ∷ xs) e =
-      let w = or_none _ _ e in
-      let g = not_gone x w.0 in
-      let r = none_gone xs w.1 in
-      ((λ j. cond (not (g j)) (x ∷ filter (λ r. not (gone r)) xs) (filter (λ r. not (gone r)) xs)) ∙ ap (λ rs. x ∷ rs) r.0, λ j. g j || r.1 j)
+  -- a row that is found goes exactly where it may
+  as_may : (x r : plain.Row) (b : Bool) → at x ≡ true → Some x ≡ Some r → may r ≡ b → gone x ≡ b
+  as_may x r b a f m = says x ∙ (λ j. a j && may x) ∙ ap may (ap (the x) f) ∙ m
 
-  pub refused : (xs : List plain.Row) → Alone at xs → find at xs ≡ None → (filter (λ r. not (gone r)) xs ≡ xs) × (list_any gone xs ≡ false)
+  spared : (x : plain.Row) (xs : List plain.Row) → gone x ≡ false → Spares gone xs → Spares gone (x ∷ xs)
+  spared x xs g r =
+      ((λ j. cond (not (g j)) (x ∷ left gone xs) (left gone xs)) ∙ ap (λ rs. x ∷ rs) r.0, λ j. g j || r.1 j)
+
+  none_gone : (xs : List plain.Row) → list_any at xs ≡ false → Spares gone xs
+  none_gone [] e = (refl, refl)
+  none_gone (x ∷ xs) e = let w = or_false _ _ e in spared x xs (not_gone x w.0) (none_gone xs w.1)
+
+  pub refused : (xs : List plain.Row) → Alone at xs → find at xs ≡ None → Spares gone xs
   refused [] h e = (refl, refl)
   refused (x ∷ xs) h e = by (at x) refl e (refused xs h.1)
     where
-      by : (b : Bool) → at x ≡ b → cond b (Some x) (find at xs) ≡ None → (find at xs ≡ None → (filter (λ r. not (gone r)) xs ≡ xs) × (list_any gone xs ≡ false))
-          → (filter (λ r. not (gone r)) (x ∷ xs) ≡ x ∷ xs) × (list_any gone (x ∷ xs) ≡ false)
+      by : (b : Bool) → at x ≡ b → cond b (Some x) (find at xs) ≡ None → (find at xs ≡ None → Spares gone xs)
+          → Spares gone (x ∷ xs)
       by true a f rest = absurd (true≢false (ap is_some f))
-      by false a f rest =
-          let g = not_gone x a in
-          let r = rest f in
-          ((λ j. cond (not (g j)) (x ∷ filter (λ r. not (gone r)) xs) (filter (λ r. not (gone r)) xs)) ∙ ap (λ rs. x ∷ rs) r.0, λ j. g j || r.1 j)
+      by false a f rest = spared x xs (not_gone x a) (rest f)
 
-  abbrev the : plain.Row → Option plain.Row → plain.Row
-  the d None = d
-  the d (Some r) = r
-
-  pub forbidden : (xs : List plain.Row) (r : plain.Row) → Alone at xs → find at xs ≡ Some r → may r ≡ false → (filter (λ r. not (gone r)) xs ≡ xs) × (list_any gone xs ≡ false)
+  pub forbidden : (xs : List plain.Row) (r : plain.Row) → Alone at xs → find at xs ≡ Some r → may r ≡ false
+      → Spares gone xs
   forbidden [] r h e m = (refl, refl)
   forbidden (x ∷ xs) r h e m = by (at x) refl e (λ f. forbidden xs r h.1 f m)
     where
-      kept : gone x ≡ false → (filter (λ r. not (gone r)) xs ≡ xs) × (list_any gone xs ≡ false) → (filter (λ r. not (gone r)) (x ∷ xs) ≡ x ∷ xs) × (list_any gone (x ∷ xs) ≡ false)
-      kept g r = ((λ j. cond (not (g j)) (x ∷ filter (λ r. not (gone r)) xs) (filter (λ r. not (gone r)) xs)) ∙ ap (λ rs. x ∷ rs) r.0, λ j. g j || r.1 j)
+      by : (b : Bool) → at x ≡ b → cond b (Some x) (find at xs) ≡ Some r → (find at xs ≡ Some r → Spares gone xs)
+          → Spares gone (x ∷ xs)
+      by true a f rest = spared x xs (as_may x r false a f m) (none_gone xs (h.0 a))
+      by false a f rest = spared x xs (not_gone x a) (rest f)
 
-      by : (b : Bool) → at x ≡ b → cond b (Some x) (find at xs) ≡ Some r → (find at xs ≡ Some r → (filter (λ r. not (gone r)) xs ≡ xs) × (list_any gone xs ≡ false))
-          → (filter (λ r. not (gone r)) (x ∷ xs) ≡ x ∷ xs) × (list_any gone (x ∷ xs) ≡ false)
-      by true a f rest = kept (says x ∙ (λ j. a j && may x) ∙ ap may (ap (the x) f) ∙ m) (none_gone xs (h.0 a))
-      by false a f rest = kept (not_gone x a) (rest f)
+  -- What goes is the one row.
+  abbrev pub Takes : List plain.Row → Type 0
+  Takes xs = (left gone xs ≡ left at xs) × (list_any gone xs ≡ true)
 
-  pub allowed : (xs : List plain.Row) (r : plain.Row) → Alone at xs → find at xs ≡ Some r → may r ≡ true
-      → (filter (λ r. not (gone r)) xs ≡ filter (λ r. not (at r)) xs) × (list_any gone xs ≡ true)
+  pub allowed : (xs : List plain.Row) (r : plain.Row) → Alone at xs → find at xs ≡ Some r → may r ≡ true → Takes xs
   allowed [] r h e m = absurd (true≢false (sym (ap is_some e)))
   allowed (x ∷ xs) r h e m = by (at x) refl e (λ f. allowed xs r h.1 f m)
     where
-      by : (b : Bool) → at x ≡ b → cond b (Some x) (find at xs) ≡ Some r
-          → (find at xs ≡ Some r → (filter (λ r. not (gone r)) xs ≡ filter (λ r. not (at r)) xs) × (list_any gone xs ≡ true))
-          → (filter (λ r. not (gone r)) (x ∷ xs) ≡ filter (λ r. not (at r)) (x ∷ xs)) × (list_any gone (x ∷ xs) ≡ true)
+      by : (b : Bool) → at x ≡ b → cond b (Some x) (find at xs) ≡ Some r → (find at xs ≡ Some r → Takes xs) → Takes (x ∷ xs)
       by true a f rest =
-          let g : gone x ≡ true = says x ∙ (λ j. a j && may x) ∙ ap may (ap (the x) f) ∙ m in
-          let s = (none_gone xs (h.0 a)).0 ∙ sym (kept_at xs (h.0 a)) in (
-            (λ j. cond (not (g j)) (x ∷ filter (λ r. not (gone r)) xs) (filter (λ r. not (gone r)) xs)) ∙ s
-                ∙ sym (λ j. cond (not (a j)) (x ∷ filter (λ r. not (at r)) xs) (filter (λ r. not (at r)) xs)),
+          let g : gone x ≡ true = as_may x r true a f m in
+          let s = (none_gone xs (h.0 a)).0 ∙ sym (all_left at xs (h.0 a)) in (
+            (λ j. cond (not (g j)) (x ∷ left gone xs) (left gone xs)) ∙ s
+                ∙ sym (λ j. cond (not (a j)) (x ∷ left at xs) (left at xs)),
             λ j. g j || list_any gone xs,
           )
       by false a f rest =
           let g = not_gone x a in
           let r = rest f in (
-            (λ j. cond (not (g j)) (x ∷ filter (λ r. not (gone r)) xs) (filter (λ r. not (gone r)) xs)) ∙ ap (λ rs. x ∷ rs) r.0
-                ∙ sym (λ j. cond (not (a j)) (x ∷ filter (λ r. not (at r)) xs) (filter (λ r. not (at r)) xs)),
+            (λ j. cond (not (g j)) (x ∷ left gone xs) (left gone xs)) ∙ ap (λ rs. x ∷ rs) r.0
+                ∙ sym (λ j. cond (not (a j)) (x ∷ left at xs) (left at xs)),
             (λ j. g j || r.1 j),
           )
 
 -- With a netid, an `unset` names the row of the key, where the owner may remove it.
-unset_says : (prog vers : ℕ) (netid owner : List ℕ) → is_empty netid ≡ false → (x : plain.Row) → is_unset prog vers netid owner x ≡ (is_at prog vers netid x && may_remove owner x)
-unset_says prog vers netid owner some x = ap (λ b. (is_of prog vers x && (b || bytes_eq netid x.netid)) && may_remove owner x) some
+unset_says : (prog vers : ℕ) (netid owner : List ℕ) → is_empty netid ≡ false → (x : plain.Row)
+    → is_unset prog vers netid owner x ≡ (is_at prog vers netid x && may_remove owner x)
+unset_says prog vers netid owner some x =
+    ap (λ b. (is_of prog vers x && (b || bytes_eq netid x.netid)) && may_remove owner x) some
 
-module _ (prog vers : ℕ) (netid owner : List ℕ) (some : is_empty netid ≡ false) (rows : List plain.Row) (h : NoneTwice rows) where
-  pub unset_absent : find (is_at prog vers netid) rows ≡ None → (rows, false) ≡ unset rows prog vers netid owner
-  unset_absent e =
-      let w = refused (is_at prog vers netid) (may_remove owner) (is_unset prog vers netid owner) (unset_says prog vers netid owner some) rows (alone_at prog vers netid rows h) e in
-      λ j. (sym w.0 j, sym w.1 j)
+abbrev may_one : List ℕ → Option plain.Row → Bool
+may_one owner o = option_map_or (may_remove owner) o false
 
-  pub unset_forbidden : (r : plain.Row) → find (is_at prog vers netid) rows ≡ Some r → may_remove owner r ≡ false → (rows, false) ≡ unset rows prog vers netid owner
-  unset_forbidden r e m =
-      let w = forbidden (is_at prog vers netid) (may_remove owner) (is_unset prog vers netid owner) (unset_says prog vers netid owner some) rows r (alone_at prog vers netid rows h) e m in
-      λ j. (sym w.0 j, sym w.1 j)
+module _ (prog vers : ℕ) (netid owner : List ℕ) (some : is_empty netid ≡ false) (rows : List plain.Row)
+    (h : NoneTwice rows) where
+  abbrev at : plain.Row → Bool
+  at = is_at prog vers netid
 
-  pub unset_allowed : (r : plain.Row) → find (is_at prog vers netid) rows ≡ Some r → may_remove owner r ≡ true
-      → (filter (λ r. not (is_at prog vers netid r)) rows, true) ≡ unset rows prog vers netid owner
-  unset_allowed r e m =
-      let w = allowed (is_at prog vers netid) (may_remove owner) (is_unset prog vers netid owner) (unset_says prog vers netid owner some) rows r (alone_at prog vers netid rows h) e m in
-      λ j. (sym w.0 j, sym w.1 j)
+  abbrev gone : plain.Row → Bool
+  gone = is_unset prog vers netid owner
 
-  abbrev may_one : Option plain.Row → Bool
-  may_one o = option_map_or (may_remove owner) o false
+  one_at : Alone at rows
+  one_at = alone_at prog vers netid rows h
 
-  pub unset_refused : may_one (find (is_at prog vers netid) rows) ≡ false → (rows, false) ≡ unset rows prog vers netid owner
-  unset_refused m = by (find (is_at prog vers netid) rows) refl m
+  says : (x : plain.Row) → gone x ≡ (at x && may_remove owner x)
+  says = unset_says prog vers netid owner some
+
+  nothing : Spares gone rows → (rows, false) ≡ unset rows prog vers netid owner
+  nothing w = λ j. (sym w.0 j, sym w.1 j)
+
+  pub unset_refused : may_one owner (find at rows) ≡ false → (rows, false) ≡ unset rows prog vers netid owner
+  unset_refused m = by (find at rows) refl m
     where
-      by : (o : Option plain.Row) → find (is_at prog vers netid) rows ≡ o → may_one o ≡ false → (rows, false) ≡ unset rows prog vers netid owner
-      by None e m = unset_absent e
-      by (Some r) e m = unset_forbidden r e m
+      by : (o : Option plain.Row) → find at rows ≡ o → may_one owner o ≡ false
+          → (rows, false) ≡ unset rows prog vers netid owner
+      by None e m = nothing (refused at (may_remove owner) gone says rows one_at e)
+      by (Some r) e m = nothing (forbidden at (may_remove owner) gone says rows r one_at e m)
 
-  pub unset_done : may_one (find (is_at prog vers netid) rows) ≡ true → (filter (λ r. not (is_at prog vers netid r)) rows, true) ≡ unset rows prog vers netid owner
-  unset_done m = by (find (is_at prog vers netid) rows) refl m
+  pub unset_done : may_one owner (find at rows) ≡ true → (left at rows, true) ≡ unset rows prog vers netid owner
+  unset_done m = by (find at rows) refl m
     where
-      by : (o : Option plain.Row) → find (is_at prog vers netid) rows ≡ o → may_one o ≡ true → (filter (λ r. not (is_at prog vers netid r)) rows, true) ≡ unset rows prog vers netid owner
+      by : (o : Option plain.Row) → find at rows ≡ o → may_one owner o ≡ true
+          → (left at rows, true) ≡ unset rows prog vers netid owner
       by None e m = absurd (true≢false (sym m))
-      by (Some r) e m = unset_allowed r e m
+      by (Some r) e m =
+          let w = allowed at (may_remove owner) gone says rows r one_at e m in
+          λ j. (sym w.0 j, sym w.1 j)
 
 -- A netid that names a row has at most 64 bytes.
 pub found_short : (prog vers : ℕ) (netid owner : List ℕ) (es : List (Key × Row)) → AreKeyed es
-    → option_map_or (may_remove owner) (find (is_at prog vers netid) (plain_rows es)) false ≡ true → length netid ≤ 64
+    → may_one owner (find (is_at prog vers netid) (plain_rows es)) ≡ true → length netid ≤ 64
 found_short prog vers netid owner es h e = by (nat_le (length netid) 64) refl
   where
     by : (b : Bool) → nat_le (length netid) 64 ≡ b → length netid ≤ 64
     by true q = grind (arith, q)
     by false q =
         let long : 64 < length netid = grind (arith, q) in
-        absurd (true≢false (sym (sym (ap (λ o. option_map_or (may_remove owner) o false) (none_longer prog vers netid es h long)) ∙ e)))
+        absurd (true≢false (sym (sym (ap (may_one owner) (none_longer prog vers netid es h long)) ∙ e)))
 
 AreKeyed-removed : (test : Key → Bool) (es : List (Key × Row)) → AreKeyed es → AreKeyed (remove_entry test es)
 AreKeyed-removed test [] h = h
@@ -170,39 +174,48 @@ length-removed : (test : Key → Bool) (es : List (Key × Row)) → length (remo
 length-removed test [] = omega arith
 length-removed test (e ∷ es) = by (test e.0) (length-removed test es)
   where
-    by : (b : Bool) → length (remove_entry test es) ≤ length es → length (cond b es (e ∷ remove_entry test es)) ≤ length (e ∷ es)
+    by : (b : Bool) → length (remove_entry test es) ≤ length es
+        → length (cond b es (e ∷ remove_entry test es)) ≤ length (e ∷ es)
     by true h = omega arith
     by false h = omega (arith, h)
 
-removed_rows : (prog vers : ℕ) (netid : List ℕ) (es : List (Key × Row)) → AreKeyed es → Alone (is_at prog vers netid) (plain_rows es)
-    → plain_rows (remove_entry (key_eq (key_of prog vers netid)) es) ≡ filter (λ r. not (is_at prog vers netid r)) (plain_rows es)
-removed_rows prog vers netid [] h a = refl
-removed_rows prog vers netid (e ∷ es) h a =
-    (λ j. plain_rows (cond (test j) es (e ∷ remove_entry (key_eq (key_of prog vers netid)) es))) ∙ by (is_at prog vers netid (plain_row e.1)) refl (removed_rows prog vers netid es h.1 a.1)
-  where
-    test : key_eq (key_of prog vers netid) e.0 ≡ is_at prog vers netid (plain_row e.1)
-    test = ap (key_eq (key_of prog vers netid)) h.0.key ∙ key_test prog vers netid e.1
+module _ (prog vers : ℕ) (netid : List ℕ) where
+  -- the entries but that of the key
+  abbrev removed : List (Key × Row) → List (Key × Row)
+  removed es = remove_entry (key_eq (key_of prog vers netid)) es
 
-    by : (b : Bool) → is_at prog vers netid (plain_row e.1) ≡ b
-        → plain_rows (remove_entry (key_eq (key_of prog vers netid)) es) ≡ filter (λ r. not (is_at prog vers netid r)) (plain_rows es)
-        → plain_rows (cond b es (e ∷ remove_entry (key_eq (key_of prog vers netid)) es))
-        ≡ cond (not b) (plain_row e.1 ∷ filter (λ r. not (is_at prog vers netid r)) (plain_rows es)) (filter (λ r. not (is_at prog vers netid r)) (plain_rows es))
-    by true at rest = sym (kept_at (is_at prog vers netid) (λ x. true) (λ x. is_at prog vers netid x && true) (λ x. refl) (plain_rows es) (a.0 at))
-    by false at rest = ap (λ rs. plain_row e.1 ∷ rs) rest
+  removed_rows : (es : List (Key × Row)) → AreKeyed es → Alone (is_at prog vers netid) (plain_rows es)
+      → plain_rows (removed es) ≡ left (is_at prog vers netid) (plain_rows es)
+  removed_rows [] h a = refl
+  removed_rows (e ∷ es) h a =
+      (λ j. plain_rows (cond (test j) es (e ∷ removed es)))
+      ∙ by (is_at prog vers netid (plain_row e.1)) refl (removed_rows es h.1 a.1)
+    where
+      test : key_eq (key_of prog vers netid) e.0 ≡ is_at prog vers netid (plain_row e.1)
+      test = ap (key_eq (key_of prog vers netid)) h.0.key ∙ key_test prog vers netid e.1
 
--- The removal of one key leaves the other rows, in their order.
-pub taken_out : (prog vers : ℕ) (netid : List ℕ) (es : List (Key × Row)) → AreEntries es
-    → plain_rows (remove_entry (key_eq (key_of prog vers netid)) es) ≡ filter (λ r. not (is_at prog vers netid r)) (plain_rows es)
-taken_out prog vers netid es h = removed_rows prog vers netid es h.keyed (alone_at prog vers netid (plain_rows es) h.none_twice)
+      by : (b : Bool) → is_at prog vers netid (plain_row e.1) ≡ b
+          → plain_rows (removed es) ≡ left (is_at prog vers netid) (plain_rows es)
+          → plain_rows (cond b es (e ∷ removed es))
+          ≡ cond (not b) (plain_row e.1 ∷ left (is_at prog vers netid) (plain_rows es))
+          (left (is_at prog vers netid) (plain_rows es))
+      by true at rest = sym (all_left (is_at prog vers netid) (plain_rows es) (a.0 at))
+      by false at rest = ap (λ rs. plain_row e.1 ∷ rs) rest
 
-pub entries_left : (prog vers : ℕ) (netid : List ℕ) (es : List (Key × Row)) → AreEntries es → AreEntries (remove_entry (key_eq (key_of prog vers netid)) es)
-entries_left prog vers netid es h =
-    let n : length (remove_entry (key_eq (key_of prog vers netid)) es) ≤ length es = length-removed (key_eq (key_of prog vers netid)) es in
-    record {
-      keyed = AreKeyed-removed (key_eq (key_of prog vers netid)) es h.keyed;
-      none_twice = subst NoneTwice (sym (taken_out prog vers netid es h)) (NoneTwice-filter (λ r. not (is_at prog vers netid r)) (plain_rows es) h.none_twice);
-      few = omega (arith, n, h.few);
-    }
+  -- The removal of one key leaves the other rows, in their order.
+  pub taken_out : (es : List (Key × Row)) → AreEntries es
+      → plain_rows (removed es) ≡ left (is_at prog vers netid) (plain_rows es)
+  taken_out es h = removed_rows es h.keyed (alone_at prog vers netid (plain_rows es) h.none_twice)
+
+  pub entries_left : (es : List (Key × Row)) → AreEntries es → AreEntries (removed es)
+  entries_left es h =
+      let n : length (removed es) ≤ length es = length-removed (key_eq (key_of prog vers netid)) es in
+      let other : plain.Row → Bool = λ r. not (is_at prog vers netid r) in
+      record {
+        keyed = AreKeyed-removed (key_eq (key_of prog vers netid)) es h.keyed;
+        none_twice = subst NoneTwice (sym (taken_out es h)) (NoneTwice-filter other (plain_rows es) h.none_twice);
+        few = omega (arith, n, h.few);
+      }
 
 pub not_empty : (xs : List ℕ) → 0 < length xs → is_empty xs ≡ false
 not_empty xs h = by (nat_eq (length xs) 0) refl

@@ -1,5 +1,5 @@
 -- No key comes twice.
-use Rattle.std.proofs.Common.{◌≡◌, ℕ, Bool, true, false, ◌&&◌, ◌||◌, cond, List, [], ◌∷◌, ◌++◌, length, nat_eq, refl, sym, ◌∙◌, filter, true≢false, arith}
+use Rattle.std.proofs.Common.{◌≡◌, ℕ, Bool, true, false, ◌&&◌, ◌||◌, cond, List, [], ◌∷◌, ◌++◌, length, nat_eq, refl, sym, ◌∙◌, filter, arith}
 use Rattle.std.specs.List.{list_any, AllByRecursion}
 use Rattle.std.specs.Str.{bytes_eq}
 use Rattle.std.proofs.lemmas.Slice.Eq.{bytes_eq-Decides}
@@ -10,7 +10,7 @@ use Rattle.rpc_rows.specs.declared.row.Row.{Row}
 use Rattle.rpc_rows.specs.Rows as plain
 use Rattle.rpc_rows.specs.Rows.{is_at, NoneTwice, IsRow, IsRegistry}
 use Rattle.rpc_rows.specs.Views.{plain_rows, AreKeyed, AreEntries}
-use Rattle.rpc_rows.proofs.Filtered.{length-plain_rows}
+use Rattle.rpc_rows.proofs.Filtered.{length-plain_rows, or_false}
 
 nat_eq-sym : (a b : ℕ) → nat_eq a b ≡ nat_eq b a
 nat_eq-sym a b = same_from_decides (nat_eq a b) (nat_eq b a) (Decides-eqb a b) (λ e. sym ((Decides-eqb b a).0 e), λ e. (Decides-eqb b a).1 (sym e))
@@ -20,10 +20,6 @@ bytes_eq-sym a b = same_from_decides (bytes_eq a b) (bytes_eq b a) (bytes_eq-Dec
 
 is_at-sym : (a b : plain.Row) → is_at a.prog a.vers a.netid b ≡ is_at b.prog b.vers b.netid a
 is_at-sym a b = λ j. (nat_eq-sym a.prog b.prog j && nat_eq-sym a.vers b.vers j) && bytes_eq-sym a.netid b.netid j
-
-or_false : (a b : Bool) → (a || b) ≡ false → (a ≡ false) × (b ≡ false)
-or_false true b e = absurd (true≢false e)
-or_false false b e = (refl, e)
 
 pub NoneTwice-push : (rs : List plain.Row) (r : plain.Row) → NoneTwice rs → list_any (is_at r.prog r.vers r.netid) rs ≡ false → NoneTwice (rs ++ r ∷ [])
 NoneTwice-push [] r h e = (refl, tt)

@@ -13,7 +13,13 @@ pub record Row : Type 0 where
 
 -- a row of these
 abbrev pub row_of : ℕ → ℕ → List ℕ → List ℕ → List ℕ → Row
-row_of prog vers netid address owner = record { prog = prog; vers = vers; netid = netid; address = address; owner = owner }
+row_of prog vers netid address owner = record {
+  prog = prog;
+  vers = vers;
+  netid = netid;
+  address = address;
+  owner = owner;
+}
 
 -- the row is of this version of the program
 abbrev pub is_of : ℕ → ℕ → Row → Bool
@@ -27,10 +33,13 @@ is_at prog vers netid r = is_of prog vers r && bytes_eq netid r.netid
 abbrev pub AreBytes : List ℕ → Type 0
 AreBytes bs = AllByRecursion (λ b. b < 256) bs
 
--- what a row keeps to: numbers of 32 bits, and short texts of bytes (the lengths are this project's own)
+-- what a row keeps to: numbers of 32 bits, a netid and an address that are not empty, and short texts of bytes (the
+-- lengths are this project's own)
 pub record IsRow (r : Row) : Type 0 where
   pub prog : r.prog < 2 ^ 32
   pub vers : r.vers < 2 ^ 32
+  pub some_netid : 0 < length r.netid
+  pub some_address : 0 < length r.address
   pub netid : length r.netid ≤ 64
   pub address : length r.address ≤ 256
   pub owner : length r.owner ≤ 10

@@ -1,8 +1,8 @@
-// The entries of a map that hold the rows.
-ghost use Rattle.std.specs.Prelude.{◌≡◌, ◌<◌, ◌++◌, ◌∷◌, [], length, OnOk, OnErr, not, false, option_map, filter, ◌≤◌};
+//! The entries of a map that hold the rows: one is found, added at the end, or removed with the rest in order.
+ghost use Rattle.std.specs.Prelude.{◌≡◌, ◌<◌, ◌++◌, ◌∷◌, [], length, OnOk, OnErr, not, false, option_map, ◌≤◌, IfSome};
 ghost use Rattle.std.specs.List.{list_any};
 ghost use Rattle.std.specs.Option.{option_map_or};
-ghost use Rattle.rpc_rows.specs.Steps as step;
+ghost use Rattle.rpc_rows.specs.Steps.{row_at, may_remove, is_unset, unset, without};
 ghost use Rattle.rpc_rows.specs.Rows.{is_at, IsRow};
 ghost use Rattle.rpc_rows.specs.Views.{plain_row, plain_rows, AreEntries};
 
@@ -12,7 +12,8 @@ use indexmap::IndexMap;
 use rpc_uaddr::NoMemory;
 use std::hash::BuildHasher;
 
-/// The row of a program, a version and a netid, which costs one hash and one comparison. It takes no memory.
+/// The row of a program, a version and a netid: one look-up by the key's hash, so what it costs does not grow with the
+/// rows, unless the hasher puts many keys together. It takes no memory.
 pub fn find<'a, S: BuildHasher>(
     rows: &'a IndexMap<Key, Row, S>,
     prog: u32,
@@ -20,7 +21,8 @@ pub fn find<'a, S: BuildHasher>(
     netid: &[u8],
 ) -> Option<&'a Row>
     requires { AreEntries rows.now.entries }
-    ensures { option_map (λ r. plain_row r.now) result ≡ step.row_at (plain_rows rows.now.entries) prog vers netid.now }
+    ensures value { option_map (λ r. plain_row r.now) result ≡ row_at (plain_rows rows.now.entries) prog vers netid.now }
+    ensures row { IfSome result (λ r. IsRow (plain_row r.now)) }
 {
     if netid.len() > 64 {
         return None;
@@ -46,7 +48,7 @@ pub fn append<S: BuildHasher>(rows: &mut IndexMap<Key, Row, S>, row: Row) -> Res
 }
 
 /// Removes the row of a program, a version and a netid that is not empty, where the owner may remove it: one look-up, and
-/// one removal that keeps the order of the rest. It takes no memory.
+/// one removal, which moves the rows behind it up by one. It takes no memory.
 pub fn remove_one<S: BuildHasher>(
     rows: &mut IndexMap<Key, Row, S>,
     prog: u32,
@@ -57,7 +59,8 @@ pub fn remove_one<S: BuildHasher>(
     requires entries { AreEntries rows.old.entries }
     requires named { 0 < length netid.now }
     ensures entries { AreEntries rows.new.entries }
-    ensures step { (plain_rows rows.new.entries, result) ≡ step.unset (plain_rows rows.old.entries) prog vers netid.now owner.now }
+    ensures step { let after = unset (plain_rows rows.old.entries) prog vers netid.now owner.now in
+        (plain_rows rows.new.entries, result) ≡ after }
 {
     if !may_take_out(rows, prog, vers, netid, owner) {
         return false;
@@ -75,7 +78,8 @@ fn may_take_out<S: BuildHasher>(
     owner: &[u8],
 ) -> bool
     requires { AreEntries rows.now.entries }
-    ensures { result ≡ option_map_or (step.may_remove owner.now) (step.row_at (plain_rows rows.now.entries) prog vers netid.now) false }
+    ensures { let row = row_at (plain_rows rows.now.entries) prog vers netid.now in
+        result ≡ option_map_or (may_remove owner.now) row false }
 {
     match find(rows, prog, vers, netid) {
         Some(row) => row.may_remove(owner),
@@ -88,12 +92,14 @@ fn take_out<S: BuildHasher>(rows: &mut IndexMap<Key, Row, S>, prog: u32, vers: u
     requires entries { AreEntries rows.old.entries }
     requires short { length netid.now ≤ 64 }
     ensures entries { AreEntries rows.new.entries }
-    ensures rows { plain_rows rows.new.entries ≡ filter (λ r. not (is_at prog vers netid.now r)) (plain_rows rows.old.entries) }
+    ensures rows { let rest = without (is_at prog vers netid.now) (plain_rows rows.old.entries) in
+        plain_rows rows.new.entries ≡ rest.0 }
 {
     rows.shift_remove(&Key::new(prog, vers, netid));
 }
 
-/// Removes the rows that an `unset` by this owner names, in one pass that keeps the order of the rest. It takes no memory.
+/// Removes the rows that an `unset` by this owner names, in one pass that keeps the order of the rest. It takes no
+/// memory.
 pub fn remove_all<S: BuildHasher>(
     rows: &mut IndexMap<Key, Row, S>,
     prog: u32,
@@ -103,12 +109,14 @@ pub fn remove_all<S: BuildHasher>(
 ) -> bool
     requires entries { AreEntries rows.old.entries }
     ensures entries { AreEntries rows.new.entries }
-    ensures step { (plain_rows rows.new.entries, result) ≡ step.unset (plain_rows rows.old.entries) prog vers netid.now owner.now }
+    ensures step { let after = unset (plain_rows rows.old.entries) prog vers netid.now owner.now in
+        (plain_rows rows.new.entries, result) ≡ after }
 {
     let before = rows.len();
     rows.retain(
         |_key: &Key, row: &mut Row| -> bool
-            ensures { (result ≡ not (step.is_unset prog vers netid.entry.now owner.entry.now (plain_row row.old))) × (row.new ≡ row.old) }
+            ensures { (result ≡ not (is_unset prog vers netid.entry.now owner.entry.now (plain_row row.old)))
+                × (row.new ≡ row.old) }
         { !row.is_unset(prog, vers, netid, owner) },
     );
     rows.len() < before

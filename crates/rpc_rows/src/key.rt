@@ -1,4 +1,4 @@
-// The key under which a row stands.
+//! The key under which a row stands.
 ghost use Rattle.std.specs.Prelude.{◌≡◌, ◌≤◌, ◌-◌, ◌++◌, ◌∷◌, replicate, length};
 ghost use Rattle.std.specs.Hash as fed;
 ghost use Rattle.std.specs.Cmp.Rules.{hashing};
@@ -7,7 +7,8 @@ ghost use Rattle.rpc_rows.specs.Keys.{key_of};
 
 use std::hash::{Hash, Hasher};
 
-/// A program, a version and a netid of at most 64 bytes, which stands in 64 bytes beside its length: so a key takes no memory.
+/// A program, a version and a netid of at most 64 bytes, which stands in 64 bytes beside its length: so a key takes no
+/// memory.
 #[derive(Debug, Clone, Copy, PartialEq, Eq)]
 pub struct Key {
     prog: u32,

@@ -1,4 +1,4 @@
-// A row of the registry.
+//! A row of the registry, and who may remove it.
 ghost use Rattle.std.specs.Prelude.{◌≡◌};
 ghost use Rattle.std.specs.Str.{bytes_eq};
 ghost use Rattle.rpc_rows.specs.Steps.{is_unset, superuser, may_remove};
@@ -20,8 +20,8 @@ pub struct Row {
 }
 
 impl Row {
-    /// Whether an `unset` of these by this owner removes the row (RFC 1833 section 2.2.1, RPCBPROC_UNSET): its program and
-    /// version are these, so is its netid, or the one given is empty, and the owner may remove it.
+    /// Whether an `unset` of these by this owner removes the row (RFC 1833 section 2.2.1, RPCBPROC_UNSET): its program
+    /// and version are these, so is its netid, or the one given is empty, and the owner may remove it.
     pub fn is_unset(&self, prog: u32, vers: u32, netid: &[u8], owner: &[u8]) -> bool
         ensures { result ≡ is_unset prog vers netid.now owner.now (plain_row self.now) }
     {

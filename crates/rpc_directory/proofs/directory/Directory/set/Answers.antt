@@ -1,4 +1,4 @@
-use Rattle.std.proofs.Common.{◌≡◌, ◌≤◌, ℕ, List, [], length, subst, sym, ◌∙◌}
+use Rattle.std.proofs.Common.{◌≡◌, ◌≤◌, ◌<◌, ℕ, List, [], length, subst, sym, ◌∙◌}
 use Rattle.rpc_rows.specs.Rows.{AreBytes, row_of}
 use Rattle.rpc_rows.proofs.Added.{addable}
 use Rattle.rpc_directory.proofs.Bytes.{bytes_by_type}
@@ -13,6 +13,8 @@ append-requires-clause-row g c =
     record {
       prog = c.ranges.prog.fits;
       vers = c.ranges.vers.fits;
+      some_netid = subst (λ (t : List ℕ). 0 < length t) (sym netid) may.some_netid;
+      some_address = subst (λ (t : List ℕ). 0 < length t) (sym address) may.some_address;
       netid = subst (λ (t : List ℕ). length t ≤ 64) (sym netid) may.netid;
       address = subst (λ (t : List ℕ). length t ≤ 256) (sym address) may.address;
       owner = subst (λ (t : List ℕ). length t ≤ 10) (sym owner) c.requires;
