@@ -15,4 +15,5 @@ pub mod Worked
 pub mod Refusing
 pub mod Apart
 pub mod Cases
+pub mod InSets
 pub mod Earlier

@@ -1,17 +1,16 @@
 -- What the tests of marks say.
-use Rattle.std.proofs.Common.{◌≡◌, ℕ, zero, suc, ◌+◌, ◌<◌, List, [], ◌∷◌, length, get_or, Option, Some, None, Bool, true, false, ◌&&◌, ◌||◌, not, IsTrue, ◌↔◌, ℤ, refl, ap, sym, ◌∙◌, subst, arith, add-one, ◌⊎◌, inl, inr, replicate, map, is_some}
+use Rattle.std.proofs.Common.{◌≡◌, ℕ, zero, suc, ◌+◌, ◌<◌, List, [], ◌∷◌, length, get_or, Option, Some, None, Bool, true, false, ◌&&◌, ◌||◌, not, IsTrue, ◌↔◌, refl, ap, sym, ◌∙◌, subst, arith, add-one, ◌⊎◌, inl, inr, replicate, map, is_some}
 use Rattle.std.specs.List.{AllByRecursion, Contains}
-use Rattle.std.specs.Ordering.{int_eq}
 use Rattle.std.proofs.lemmas.Bool.{false≢true}
-use Rattle.std.proofs.lemmas.Bool.Decides.{Decides-int_eq}
 use Rattle.std.proofs.lemmas.List.{get_or-map, get_or_read, length-replicate}
 use Rattle.xdr_types.specs.Forms.{form_of}
 use Rattle.xdr_types.specs.declared.kind.Kind.{Kind}
 use Rattle.xdr_types.specs.Form as form
-use Rattle.xdr_types.specs.Form.{Form, Part, Branch, Constant, kind_at}
-use Rattle.xdr_types.specs.Fits.{is_signed, is_constant}
-use Rattle.xdr_types.specs.Sound.{Asks, has_arm, HasFreeTag}
-use Rattle.xdr_types.specs.Rounds.{given, missing, AreHeights, is_marked, IsMarked, are_marked, some_marked, some_free}
+use Rattle.xdr_types.specs.Form.{Form, Part, Branch, kind_at}
+use Rattle.xdr_types.specs.Faults.{some_optional}
+use Rattle.xdr_types.specs.Sound.{Asks, HasFreeTag}
+use Rattle.xdr_types.specs.Rounds.{given, missing, AreHeights, is_marked, IsMarked, are_marked, some_marked}
+use Rattle.xdr_types.specs.Sets.{IsReached}
 
 is_none_of : (o : Option ℕ) → is_some o ≡ false → o ≡ None
 is_none_of None h = refl
@@ -94,32 +93,32 @@ other-met kinds hs f tag arms other r is none by = (
   λ a. other-from kinds hs tag arms other r none by (subst (Asks kinds (IsMarked hs)) is a),
 )
 
-some-free : (arms : List Branch) (cs : List Constant) → some_free arms cs ≡ true → (z : ℤ) × (is_signed 2147483648 z ≡ true) × (is_constant cs z ≡ true) × (has_arm arms z ≡ false)
-some-free arms [] h = absurd (false≢true h)
-some-free arms (c ∷ cs) h =
-    elim (one_of (is_signed 2147483648 c.number && not (has_arm arms c.number)) (some_free arms cs) h) [
-      | inl here ↦ let b = both (is_signed 2147483648 c.number) (not (has_arm arms c.number)) here in
-          let itself : int_eq c.number c.number ≡ true = (Decides-int_eq c.number c.number).1 refl in
-          (c.number, b.0, or_first (int_eq c.number c.number) (is_constant cs c.number) itself, not_true (has_arm arms c.number) b.1)
-      | inr there ↦ let found = some-free arms cs there in (found.0, found.1, or_later (int_eq c.number found.0) (is_constant cs found.0) found.2, found.3)
-    ]
+none≢some_part : (p : Part) → None ≡ Some p → ⊥
+none≢some_part p e = cc
 
-free-some : (arms : List Branch) (cs : List Constant) (z : ℤ) → is_signed 2147483648 z ≡ true → is_constant cs z ≡ true → has_arm arms z ≡ false → some_free arms cs ≡ true
-free-some arms [] z s h n = absurd (false≢true h)
-free-some arms (c ∷ cs) z s h n =
-    elim (one_of (int_eq c.number z) (is_constant cs z) h) [
-      | inl here ↦
-          let same : c.number ≡ z = (Decides-int_eq c.number z).0 here in
-          or_first (is_signed 2147483648 c.number && not (has_arm arms c.number)) (some_free arms cs)
-          (subst (λ (w : ℤ). is_signed 2147483648 w && not (has_arm arms w) ≡ true) (sym same) (both_of (is_signed 2147483648 z) (not (has_arm arms z)) s (ap not n)))
-      | inr there ↦ or_later (is_signed 2147483648 c.number && not (has_arm arms c.number)) (some_free arms cs) (free-some arms cs z s there n)
-    ]
+some-part-is : (p q : Part) → Some p ≡ Some q → p ≡ q
+some-part-is p q e = cc
 
-pub numbered-free : (f : Form) (arms : List Branch) (cs : List Constant) (r : Bool) → f ≡ form.numbered cs → r ≡ some_free arms cs → IsTrue r ↔ HasFreeTag f arms
-numbered-free f arms cs r is e = (
-  λ h. let found = some-free arms cs (sym e ∙ h) in subst (λ (g : Form). HasFreeTag g arms) (sym is) (found.0, both_of _ _ found.1 found.2, found.3),
-  λ a. let found = subst (λ (g : Form). HasFreeTag g arms) is a in let b = both _ _ found.1 in e ∙ free-some arms cs found.0 b.0 b.1 found.2,
+-- a default is met where it can be reached and its part has a number
+reached-met : (kinds : List Form) (hs : List (Option ℕ)) (tag : ℕ) (arms : List Branch) (other : Option Part) (reached : Bool)
+    → (IsTrue reached ↔ HasFreeTag (kind_at kinds tag) arms)
+    → IsTrue (reached && some_optional (λ (p : Part). is_marked hs p.kind) other) ↔ OtherMet kinds hs tag arms other
+reached-met kinds hs tag arms None reached by = (
+  λ h. absurd (false≢true (both reached false h).1),
+  λ m. absurd (none≢some_part m.0 m.1),
 )
+reached-met kinds hs tag arms (Some p) reached by = (
+  λ h. let b = both reached (is_marked hs p.kind) h in (p, refl, by.0 b.0, b.1),
+  λ m. both_of reached (is_marked hs p.kind) (by.1 m.2) (ap (λ (q : Part). is_marked hs q.kind) (some-part-is p m.0 m.1) ∙ m.3),
+)
+
+pub default-met : (kinds : List Form) (hs : List (Option ℕ)) (f : Form) (tag : ℕ) (arms : List Branch) (other : Option Part) (reached r : Bool)
+    → f ≡ form.choice tag arms other → some_marked hs arms ≡ false → IsReached kinds f reached
+    → r ≡ reached && some_optional (λ (p : Part). is_marked hs p.kind) other → IsTrue r ↔ Asks kinds (IsMarked hs) f
+default-met kinds hs f tag arms other reached r is none by e =
+    let free = subst (λ (g : Form). IsReached kinds g reached) is by in
+    let met = reached-met kinds hs tag arms other reached free in
+    other-met kinds hs f tag arms other r is none (λ h. met.0 (sym e ∙ h), λ m. e ∙ met.1 m)
 
 pub kind-read : (ks : List Kind) (i : ℕ) (k : Kind) → i < length ks → k ≡ get_or ks i k → kind_at (map form_of ks) i ≡ form_of k
 kind-read ks i k h e = get_or-map form_of ks i k form.unknown h ∙ ap form_of (sym e)

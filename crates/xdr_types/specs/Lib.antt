@@ -11,6 +11,7 @@ pub use Rattle.xdr_units.specs.Numbers
 pub mod Rounds
 pub mod Rows
 pub mod Same
+pub mod Sets
 pub mod Sound
 pub mod Spelling
 pub mod Tree

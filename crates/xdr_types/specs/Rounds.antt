@@ -1,8 +1,7 @@
 -- What is kept while heights are found: the numbers given so far.
-use Rattle.std.specs.Prelude.{◌≡◌, ℕ, ◌+◌, ◌<◌, List, [], ◌∷◌, length, Option, Some, None, slice_index_or, Bool, true, false, not, ◌&&◌, ◌||◌, is_some, IsTrue}
-use Rattle.xdr_types.specs.Form.{Form, Part, Branch, Constant, kind_at}
-use Rattle.xdr_types.specs.Fits.{is_signed}
-use Rattle.xdr_types.specs.Sound.{has_arm, Heighting, Asks, IsProper, HasHeight}
+use Rattle.std.specs.Prelude.{◌≡◌, ℕ, ◌+◌, ◌<◌, List, [], ◌∷◌, length, Option, Some, None, slice_index_or, Bool, true, false, ◌&&◌, ◌||◌, is_some, IsTrue}
+use Rattle.xdr_types.specs.Form.{Form, Part, Branch, kind_at}
+use Rattle.xdr_types.specs.Sound.{Heighting, Asks, IsProper, HasHeight}
 
 -- the numbers that a list gives
 abbrev pub given : List (Option ℕ) → Heighting
@@ -25,11 +24,6 @@ are_marked hs (p ∷ ps) = is_marked hs p.kind && are_marked hs ps
 abbrev pub some_marked : List (Option ℕ) → List Branch → Bool
 some_marked hs [] = false
 some_marked hs (a ∷ arms) = is_marked hs a.part.kind || some_marked hs arms
-
--- some member's number has no arm
-abbrev pub some_free : List Branch → List Constant → Bool
-some_free arms [] = false
-some_free arms (c ∷ cs) = (is_signed 2147483648 c.number && not (has_arm arms c.number)) || some_free arms cs
 
 -- every number is below next
 abbrev pub AreBelow : List (Option ℕ) → ℕ → Type 0

@@ -7,13 +7,15 @@ ghost use Rattle.xdr_types.specs.Fits.{is_tag_of, is_listed, is_signed};
 ghost use Rattle.xdr_types.specs.Sound.{has_arm};
 ghost use Rattle.xdr_types.specs.Faults.{some_of, some_optional, is_none, some_part, is_outside, has_unknown, is_zero_size, is_void, has_void, is_tag, has_bad_tag, case_twice, arms_case_twice, has_case_twice, has_illegal_case, has_empty_list, constant_twice, part_twice, arm_twice, has_name_twice, kind_flaw, name_flaw, kind_flaw_at, name_flaw_at, AreFlawless};
 ghost use Rattle.xdr_types.specs.Refused.{IsFirstFlaw};
+ghost use Rattle.xdr_types.specs.Sets.{AreNumbers};
 
 use crate::check::is_int;
-use crate::choice::{is_tag_number, lists};
+use crate::choice::lists;
 use crate::fault::{Flaw, SchemaFault};
 use crate::heights::has_no_arm;
 use crate::kind::{Arm, Kind, KindId, Member};
 use crate::pairs::{arm_in_pairs, constant_in_pairs, field_in_pairs, is_same_name};
+use crate::sets::{is_legal_case, numbers_or_none};
 use crate::twice::{arm_repeats, case_repeats, constant_repeats, field_repeats};
 use std::alloc::{AllocError, Global};
 use std::collections::BTreeSet;
@@ -208,29 +210,37 @@ fn has_case_twice(alloc: Global, kind: &Kind) -> bool
     }
 }
 
-fn some_illegal(kinds: &Vec<Kind>, tag: KindId, cases: &Vec<i64>) -> bool
+fn some_illegal(kinds: &Vec<Kind>, numbers: &[BTreeSet<i64>], tag: KindId, cases: &Vec<i64>) -> bool
+    requires { AreNumbers (map form_of kinds.now.items) numbers.now }
     ensures { result ≡ some_of (λ (z : ℤ). not (is_tag_of (kind_at (map form_of kinds.now.items) tag.place) z)) cases.now.items }
 {
     for case in cases {
-        if !is_tag_number(kinds, tag, *case) {
+        if !is_legal_case(kinds, numbers, tag, *case) {
             return true;
         }
     }
     false
 }
 
-fn some_arm_illegal(kinds: &Vec<Kind>, tag: KindId, arms: &Vec<Arm>) -> bool
+fn some_arm_illegal(
+    kinds: &Vec<Kind>,
+    numbers: &[BTreeSet<i64>],
+    tag: KindId,
+    arms: &Vec<Arm>,
+) -> bool
+    requires { AreNumbers (map form_of kinds.now.items) numbers.now }
     ensures { result ≡ some_of (λ (a : Branch). some_of (λ (z : ℤ). not (is_tag_of (kind_at (map form_of kinds.now.items) tag.place) z)) a.cases) (map branch_of arms.now.items) }
 {
     for arm in arms {
-        if some_illegal(kinds, tag, &arm.cases) {
+        if some_illegal(kinds, numbers, tag, &arm.cases) {
             return true;
         }
     }
     false
 }
 
-fn has_illegal_case(kinds: &Vec<Kind>, kind: &Kind) -> bool
+fn has_illegal_case(kinds: &Vec<Kind>, numbers: &[BTreeSet<i64>], kind: &Kind) -> bool
+    requires { AreNumbers (map form_of kinds.now.items) numbers.now }
     ensures { result ≡ has_illegal_case (map form_of kinds.now.items) (form_of kind.now) }
 {
     match kind {
@@ -238,7 +248,7 @@ fn has_illegal_case(kinds: &Vec<Kind>, kind: &Kind) -> bool
             tag,
             arms,
             other: _,
-        } => some_arm_illegal(kinds, *tag, arms),
+        } => some_arm_illegal(kinds, numbers, *tag, arms),
         _ => false,
     }
 }
@@ -335,7 +345,13 @@ fn has_name_twice(alloc: Global, kind: &Kind) -> bool
 
 // ---- what is found first
 
-fn kind_flaw(alloc: Global, kinds: &Vec<Kind>, kind: &Kind) -> Option<Flaw>
+fn kind_flaw(
+    alloc: Global,
+    kinds: &Vec<Kind>,
+    numbers: &[BTreeSet<i64>],
+    kind: &Kind,
+) -> Option<Flaw>
+    requires { AreNumbers (map form_of kinds.now.items) numbers.now }
     ensures { result ≡ kind_flaw (map form_of kinds.now.items) (form_of kind.now) }
 {
     if has_unknown(kinds, kind) {
@@ -353,7 +369,7 @@ fn kind_flaw(alloc: Global, kinds: &Vec<Kind>, kind: &Kind) -> Option<Flaw>
     if has_case_twice(alloc, kind) {
         return Some(Flaw::CaseTwice);
     }
-    if has_illegal_case(kinds, kind) {
+    if has_illegal_case(kinds, numbers, kind) {
         return Some(Flaw::CaseNotLegal);
     }
     if has_empty_list(kind) {
@@ -401,8 +417,9 @@ pub fn first_in_kinds(alloc: Global, kinds: &Vec<Kind>) -> Option<SchemaFault>
         (AreFlawless (kind_flaw_at (map form_of kinds.now.items)) (length kinds.now.items))
         (IsFirstFlaw (kind_flaw_at (map form_of kinds.now.items)) (length kinds.now.items)) }
 {
+    let numbers = numbers_or_none(alloc, kinds);
     for (place, kind) in kinds.iter().enumerate() {
-        if let Some(why) = kind_flaw(alloc, kinds, kind) {
+        if let Some(why) = kind_flaw(alloc, kinds, &numbers, kind) {
             return Some(SchemaFault { why, place });
         }
     }

@@ -16,8 +16,10 @@ mod kind;
 mod laws;
 mod limits;
 mod pairs;
+mod reach;
 mod room;
 mod schema;
+mod sets;
 mod twice;
 mod value;
 

@@ -14,4 +14,4 @@ returns-clause-heights c =
     let hs = c.args.heights.now.items in
     step (map form_of ks) hs c.args.next.now c.args.place c.requires.heights (omega (arith, c.requires.within, length-map ks form_of))
     (none-read hs c.args.place c.index.result.now (omega (arith, c.requires.within, c.requires.heights.lengths, length-map ks form_of)) c.index.ensures (sym c.is_some.ensures ∙ c.if-is_some.false))
-    (subst (λ (f : Form). Asks (map form_of ks) (IsMarked hs) f) (sym (kind-read ks c.args.place c.index-else-is_some.result.now c.requires.within c.index-else-is_some.ensures)) (c.is_met.ensures.0 c.if-not-is_met.false))
+    (subst (λ (f : Form). Asks (map form_of ks) (IsMarked hs) f) (sym (kind-read ks c.args.place c.index-else-is_some-2.result.now c.requires.within c.index-else-is_some-2.ensures)) (c.is_met.ensures.0 c.if-not-is_met.false))

@@ -1,0 +1,95 @@
+-- What a set of numbers says of the enumeration that it was made of.
+use Rattle.std.proofs.Common.{◌≡◌, ℕ, ◌+◌, ◌<◌, ◌≤◌, ◌++◌, length, get_or, ltb, ltb-true, ltb-false, arith, rules, ℤ, Bool, true, false, ◌||◌, List, [], ◌∷◌, int_cmp, refl, sym, ap, ◌∙◌, subst, ◌⊎◌, inl, inr, IsTrue, not, ◌↔◌}
+use Rattle.std.specs.BTreeSet.{BTreeSet, contains, IsSubset}
+use Rattle.std.specs.BTreeMap.{is_at}
+use Rattle.std.specs.List.{list_any}
+use Rattle.std.proofs.lemmas.Bool.{false≢true}
+use Rattle.std.proofs.lemmas.List.{length-append}
+use Rattle.std.proofs.Math.ListN.{get_or-append}
+use Rattle.std.proofs.Math.Seq.{get_or-append_seam}
+use Rattle.xdr_types.specs.Form as form
+use Rattle.xdr_types.specs.Form.{Form, Constant, Branch}
+use Rattle.xdr_types.specs.Fits.{is_tag_of, is_numbered}
+use Rattle.xdr_types.specs.Sets.{HasNumbers, HasNumberOutside}
+
+-- the tags of an enumeration are those of the set of its numbers
+pub numbered-tag : (f : Form) (members : List Constant) (s : BTreeSet ℤ) (z : ℤ) (r : Bool) → f ≡ form.numbered members → HasNumbers f s
+    → r ≡ contains int_cmp s z → r ≡ is_tag_of f z
+numbered-tag f members s z r is has e =
+    let numbers : (y : ℤ) → contains int_cmp s y ≡ is_numbered members y = subst (λ (g : Form). HasNumbers g s) is has in
+    subst (λ (g : Form). r ≡ is_tag_of g z) (sym is) (e ∙ numbers z)
+
+-- the number is among the keys
+abbrev has : List ℤ → ℤ → Bool
+has ks z = list_any (is_at (int_cmp z)) ks
+
+or_later : (a b : Bool) → b ≡ true → a || b ≡ true
+or_later true b h = refl
+or_later false b h = h
+
+or_first : (a b : Bool) → a ≡ true → a || b ≡ true
+or_first a b h = rw h refl
+
+one_of : (a b : Bool) → a || b ≡ true → (a ≡ true) ⊎ (b ≡ true)
+one_of true b h = inl refl
+one_of false b h = inr h
+
+tested : (b : Bool) → (b ≡ true) ⊎ (b ≡ false)
+tested true = inl refl
+tested false = inr refl
+
+itself : (z : ℤ) → is_at (int_cmp z) z ≡ true
+itself z = search rules
+
+same : (z k : ℤ) → is_at (int_cmp z) k ≡ true → z ≡ k
+same z k h = search rules
+
+-- either a key is not in the set, or all are
+scan : (t : BTreeSet ℤ) (ks : List ℤ) → ((z : ℤ) × (has ks z ≡ true) × (contains int_cmp t z ≡ false)) ⊎ ((z : ℤ) → has ks z ≡ true → contains int_cmp t z ≡ true)
+scan t [] = inr (λ z h. absurd (false≢true h))
+scan t (k ∷ ks) =
+    elim (tested (contains int_cmp t k)) [
+      | inl there ↦ elim (scan t ks) [
+        | inl found ↦ inl (found.0, or_later (is_at (int_cmp found.0) k) (has ks found.0) found.1, found.2)
+        | inr all ↦ inr (λ z h. elim (one_of (is_at (int_cmp z) k) (has ks z) h) [
+          | inl here ↦ subst (λ (y : ℤ). contains int_cmp t y ≡ true) (sym (same z k here)) there
+          | inr later ↦ all z later
+        ])
+      ]
+      | inr absent ↦ inl (k, or_first (is_at (int_cmp k) k) (has ks k) (itself k), absent)
+    ]
+
+not_true : (r : Bool) → not r ≡ true → r ≡ false
+not_true true h = absurd (false≢true h)
+not_true false h = refl
+
+of_not : (r : Bool) → (r ≡ true → ⊥) → not r ≡ true
+of_not true h = absurd (h refl)
+of_not false h = refl
+
+-- a set is no subset where a number of it is outside
+pub outside : (s t : BTreeSet ℤ) (r : Bool) → (IsTrue r ↔ IsSubset int_cmp s t) → IsTrue (not r) ↔ HasNumberOutside s t
+outside s t r by = (
+  λ h. elim (scan t s.keys) [
+    | inl found ↦ found
+    | inr all ↦ absurd (false≢true (sym (not_true r h) ∙ by.1 all))
+  ],
+  λ found. of_not r (λ h. absurd (false≢true (sym found.2 ∙ by.0 h found.0 found.1))),
+)
+
+before_or_last : (i n : ℕ) → i < n + 1 → (i < n) ⊎ (i ≡ n)
+before_or_last i n h = by_test (ltb i n) refl
+  where
+    by_test : (r : Bool) → ltb i n ≡ r → (i < n) ⊎ (i ≡ n)
+    by_test true e = inl (ltb-true i n e)
+    by_test false e = let past : n ≤ i = ltb-false i n e in inr (omega arith)
+
+-- one more element that has what the others have at their places
+pub pushed : {A : Type 0} (P : ℕ → A → Type 0) (xs ys : List A) (y : A) → ys ≡ xs ++ y ∷ [] → ((i : ℕ) (x : A) → i < length xs → x ≡ get_or xs i x → P i x)
+    → P (length xs) y → (i : ℕ) (x : A) → i < length ys → x ≡ get_or ys i x → P i x
+pushed {A} P xs ys y e each new i x lt is =
+    elim (before_or_last i (length xs) (omega (arith, ap length e, length-append xs (y ∷ [])))) [
+      | inl before ↦ each i x before (is ∙ ap (λ (zs : List A). get_or zs i x) e ∙ get_or-append xs (y ∷ []) x i before)
+      | inr last ↦ subst (λ (j : ℕ). P j x) (sym last)
+          (subst (λ (z : A). P (length xs) z) (sym (is ∙ ap (λ (zs : List A). get_or zs i x) e ∙ ap (λ (j : ℕ). get_or (xs ++ y ∷ []) j x) last ∙ get_or-append_seam xs y [] x)) new)
+    ]

@@ -1,0 +1,118 @@
+//! The numbers of enumerations and the cases of unions as sets, in which a number is found in few steps.
+ghost use Rattle.std.specs.Prelude.{◌≡◌, ◌||◌, ℤ, length, map, true, IfOk, OnOk};
+ghost use Rattle.std.specs.BTreeSet.{contains};
+ghost use Rattle.std.specs.Ordering.{int_cmp, int_eq};
+ghost use Rattle.xdr_types.specs.Form.{kind_at};
+ghost use Rattle.xdr_types.specs.Forms.{form_of, constant_of, branch_of};
+ghost use Rattle.xdr_types.specs.Fits.{is_numbered, is_listed, is_signed, is_tag_of};
+ghost use Rattle.xdr_types.specs.Sound.{has_arm};
+ghost use Rattle.xdr_types.specs.Sets.{AreNumbers, HasNumbers};
+
+use crate::choice::is_tag_number;
+use crate::kind::{Arm, Kind, KindId};
+use std::alloc::{AllocError, Global};
+use std::collections::BTreeSet;
+use std::string::String;
+
+// A member's number as a case.
+fn as_case(number: i32) -> i64
+    ensures value { result ≡ number }
+    ensures int { is_signed 2147483648 result ≡ true }
+{
+    i64::from(number)
+}
+
+// Puts a case into a set.
+fn add_case(cases: &mut BTreeSet<i64>, case: i64) -> Result<(), AllocError>
+    ensures { OnOk result ((z : ℤ) → contains int_cmp cases.new z ≡ (int_eq case z || contains int_cmp cases.old z)) }
+{
+    cases.insert(case)?;
+    Ok(())
+}
+
+/// Whether a set has a case.
+pub fn has_case(cases: &BTreeSet<i64>, case: i64) -> bool
+    ensures { result ≡ contains int_cmp cases.now case }
+{
+    cases.contains(&case)
+}
+
+// The numbers of an enumeration's members.
+fn numbers_of_members(alloc: Global, members: &[(String, i32)]) -> Result<BTreeSet<i64>, AllocError>
+    ensures { IfOk result (λ s. (z : ℤ) → contains int_cmp s z ≡ is_numbered (map constant_of members.now) z) }
+{
+    let mut numbers = BTreeSet::new(alloc);
+    for member in members {
+        add_case(&mut numbers, as_case(member.1))?;
+    }
+    Ok(numbers)
+}
+
+// The numbers of an enumeration, and none of another kind.
+fn numbers_of(alloc: Global, kind: &Kind) -> Result<BTreeSet<i64>, AllocError>
+    ensures { IfOk result (HasNumbers (form_of kind.now)) }
+{
+    match kind {
+        Kind::Numbered { members } => numbers_of_members(alloc, members),
+        _ => Ok(BTreeSet::new(alloc)),
+    }
+}
+
+/// The numbers of each enumeration, at its place. An error is want of memory.
+pub fn numbers_of_kinds(alloc: Global, kinds: &Vec<Kind>) -> Result<Vec<BTreeSet<i64>>, AllocError>
+    ensures numbers { IfOk result (λ v. AreNumbers (map form_of kinds.now.items) v.items) }
+    ensures all { IfOk result (λ v. length v.items ≡ length kinds.now.items) }
+{
+    let mut numbers = Vec::with_capacity(alloc, kinds.len())?;
+    for kind in kinds {
+        numbers.push(numbers_of(alloc, kind)?)?;
+    }
+    Ok(numbers)
+}
+
+/// The numbers of each enumeration, at its place, or no list where memory for them was refused.
+pub fn numbers_or_none(alloc: Global, kinds: &Vec<Kind>) -> Vec<BTreeSet<i64>>
+    ensures { AreNumbers (map form_of kinds.now.items) result.items }
+{
+    match numbers_of_kinds(alloc, kinds) {
+        Ok(numbers) => numbers,
+        Err(_) => Vec::new(alloc),
+    }
+}
+
+/// Whether a discriminant of the kind may have the number. Members are looked at one by one only where there is no set
+/// of their numbers.
+pub fn is_legal_case(kinds: &Vec<Kind>, numbers: &[BTreeSet<i64>], tag: KindId, number: i64) -> bool
+    requires { AreNumbers (map form_of kinds.now.items) numbers.now }
+    ensures { result ≡ is_tag_of (kind_at (map form_of kinds.now.items) tag.place) number }
+{
+    let place = tag.place as usize;
+    if place >= kinds.len() || place >= numbers.len() {
+        return is_tag_number(kinds, tag, number);
+    }
+    match &kinds[place] {
+        Kind::Numbered { members: _ } => has_case(&numbers[place], number),
+        _ => is_tag_number(kinds, tag, number),
+    }
+}
+
+// Puts cases into a set.
+fn add_cases(cases: &mut BTreeSet<i64>, more: &[i64]) -> Result<(), AllocError>
+    ensures { OnOk result ((z : ℤ) → contains int_cmp cases.new z ≡ (is_listed more.now z || contains int_cmp cases.old z)) }
+{
+    for case in more {
+        add_case(cases, *case)?;
+    }
+    Ok(())
+}
+
+/// The cases of all the arms. An error is want of memory.
+pub fn cases_of(alloc: Global, arms: &[Arm]) -> Result<BTreeSet<i64>, AllocError>
+    ensures { IfOk result (λ s. (z : ℤ) → contains int_cmp s z ≡ has_arm (map branch_of arms.now) z) }
+{
+    let mut cases = BTreeSet::new(alloc);
+    for arm in arms {
+        add_cases(&mut cases, &arm.cases)?;
+    }
+    Ok(cases)
+}
