@@ -1,12 +1,15 @@
 -- A reader that still takes bytes has met no header that passes the limit.
-use Rattle.std.proofs.Common.{◌≡◌, ℕ, ◌+◌, ◌^◌, ◌<◌, ◌≤◌, suc, Bool, false, List, [], ◌∷◌, ◌++◌, length, All, refl, sym, ap, ◌∙◌, subst, append_assoc, length-append, arith}
+use Rattle.std.proofs.Common.{◌≡◌, ℕ, ◌+◌, ◌^◌, ◌<◌, ◌≤◌, suc, Bool, false, List, [], ◌∷◌, ◌++◌, length, All, refl, sym}
+use Rattle.std.proofs.Common.{ap, ◌∙◌, subst, append_assoc, length-append, arith}
 use Rattle.std.specs.List.{flat_map, concat}
 use Rattle.std.proofs.lemmas.List.{append-nil, nil_from_length}
 use Rattle.rpc_record.specs.Marked.{header, fragment, IsContent, Stream, Longest, OneLongest}
 use Rattle.rpc_record.specs.declared.place.Place.{Place}
 use Rattle.rpc_record.specs.declared.place.Place.TheVariants as place
 use Rattle.rpc_record.specs.declared.reader.RecordReader.{RecordReader}
-use Rattle.rpc_record.specs.Reading.{Upto, TooLongAt, HasNoLong, WholeHasNoLong, StandsAt, IsTakingAt, begun_bytes, capped}
+use Rattle.rpc_record.specs.Reading.{Upto, TooLongAt, HasNoLong, WholeHasNoLong}
+use Rattle.rpc_record.specs.Fields.{StandsAt, IsTakingAt, begun_bytes}
+use Rattle.rpc_record.specs.Reading.{capped}
 use Rattle.rpc_record.specs.Stands.{Stands, IsTaking, limit_of}
 use Rattle.rpc_record.proofs.Headers.{length-header}
 use Rattle.rpc_record.proofs.Longest.{Marked-same, header-same, fragment-same}
@@ -17,73 +20,112 @@ use Rattle.rpc_record.proofs.Places.{Longest-at, Longest-long, Longest-whole, be
 abbrev HasRoom : ℕ → ℕ → List ℕ → Type 0
 HasRoom limit used tail = (l : Bool) (n : ℕ) (more : List ℕ) → n < 2 ^ 31 → tail ≡ header l n ++ more → used + n ≤ limit
 
-no_long : (limit used : ℕ) (firsts gs : List (List ℕ)) (tail more : List ℕ) (l : Bool) (n : ℕ) → All IsContent firsts → All IsContent gs → n < 2 ^ 31
+no_long : (limit used : ℕ) (firsts gs : List (List ℕ)) (tail more : List ℕ) (l : Bool) (n : ℕ) → All IsContent firsts
+    → All IsContent gs → n < 2 ^ 31
     → HasNoFragment limit (used + length (concat firsts)) tail → HasRoom limit (used + length (concat firsts)) tail
     → used + length (concat firsts) ≤ limit → used + length (concat gs) ≤ limit → limit < used + length (concat gs) + n
     → flat_map (fragment false) firsts ++ tail ≡ flat_map (fragment false) gs ++ (header l n ++ more) → ⊥
 no_long limit used [] [] tail more l n p q i none room a b passes e = let fits = room l n more i e in omega arith
 no_long limit used [] (g ∷ gs) tail more l n p q i none room a b passes e =
-    none false g _ (q 0 [] (omega arith)) (omega (arith, b, length-append g (concat gs))) (e ∙ append_assoc (fragment false g) _ _)
+    none false g _ (q 0 [] (omega arith)) (omega (arith, b, length-append g (concat gs)))
+    (e ∙ append_assoc (fragment false g) _ _)
 no_long limit used (f ∷ fs) [] tail more l n p q i none room a b passes e =
     let s = header-same false l (length f) n (f ++ (flat_map (fragment false) fs ++ tail)) more (p 0 [] (omega arith)) i
-    (sym (append_assoc (fragment false f) (flat_map (fragment false) fs) tail ∙ append_assoc (header false (length f)) f _) ∙ e) in
+    (sym (append_assoc (fragment false f) (flat_map (fragment false) fs) tail
+    ∙ append_assoc (header false (length f)) f _) ∙ e) in
     omega (arith, s.1, a, passes, length-append f (concat fs))
 no_long limit used (f ∷ fs) (g ∷ gs) tail more l n p q i none room a b passes e =
-    let s = fragment-same false false f g _ _ (p 0 [] (omega arith)) (q 0 [] (omega arith)) (sym (append_assoc (fragment false f) _ _) ∙ e ∙ append_assoc (fragment false g) _ _) in
+    let s = fragment-same false false f g _ _ (p 0 [] (omega arith)) (q 0 [] (omega arith))
+    (sym (append_assoc (fragment false f) _ _) ∙ e ∙ append_assoc (fragment false g) _ _) in
     let same : length f ≡ length g = ap length s.1 in
     let lf = length-append f (concat fs) in
     let lg = length-append g (concat gs) in
-    let none' : HasNoFragment limit (used + length f + length (concat fs)) tail = λ k c z j h t. none k c z j (omega (arith, h, lf)) t in
-    let room' : HasRoom limit (used + length f + length (concat fs)) tail = λ k m z j t. omega (arith, room k m z j t, lf) in
-    no_long limit (used + length f) fs gs tail more l n (λ k d lt. p (suc k) d (omega arith)) (λ k d lt. q (suc k) d (omega arith)) i none' room'
+    let none' : HasNoFragment limit (used + length f + length (concat fs)) tail = λ k c z j h t. none k c z j
+    (omega (arith, h, lf)) t in
+    let room' : HasRoom limit (used + length f + length (concat fs)) tail = λ k m z j t. omega
+    (arith, room k m z j t, lf) in
+    no_long limit (used + length f) fs gs tail more l n (λ k d lt. p (suc k) d (omega arith))
+    (λ k d lt. q (suc k) d (omega arith)) i none' room'
     (omega (arith, a, lf)) (omega (arith, b, lg, same)) (omega (arith, passes, lg, same)) s.2
 
 Stream-rest : (rs : List (List ℕ)) (w v p q : List ℕ) → Stream rs w → Stream rs v → w ++ p ≡ v ++ q → p ≡ q
 Stream-rest [] w v p q s t e = sym (ap (λ k. k ++ p) s) ∙ e ∙ ap (λ k. k ++ q) t
 Stream-rest (r ∷ rs) w v p q s t e =
-    let m = Marked-same r r s.0 t.0 (s.1.0 ++ p) (t.1.0 ++ q) s.1.1.0 t.1.1.0 (sym (ap (λ k. k ++ p) s.1.1.2 ∙ append_assoc s.0 s.1.0 p) ∙ e ∙ ap (λ k. k ++ q) t.1.1.2 ∙ append_assoc t.0 t.1.0 q) in
+    let m = Marked-same r r s.0 t.0 (s.1.0 ++ p) (t.1.0 ++ q) s.1.1.0 t.1.1.0
+    (sym (ap (λ k. k ++ p) s.1.1.2 ∙ append_assoc s.0 s.1.0 p) ∙ e ∙ ap (λ k. k ++ q) t.1.1.2
+    ∙ append_assoc t.0 t.1.0 q) in
     Stream-rest rs s.1.0 t.1.0 p q s.1.1.1 t.1.1.1 m.1
 
 pub Longest-same : OneLongest
 Longest-same limit rs others bytes h k =
     let more = h.only others k.whole k.part k.within k.stream k.spelled in
     let back = k.only rs h.whole h.part h.within h.stream h.spelled in
-    let short : length more.0 ≡ 0 = omega (arith, ap length more.1, ap length back.1, length-append others more.0, length-append rs back.0) in
+    let short : length more.0 ≡ 0 = omega (
+      arith,
+      ap length more.1,
+      ap length back.1,
+      length-append others more.0,
+      length-append rs back.0,
+    ) in
     more.1 ∙ ap (λ x. others ++ x) (nil_from_length more.0 short) ∙ append-nil others
 
 -- the same stream up to a header that passes the limit, and up to a tail that has none
-apart : (limit at : ℕ) (rs others : List (List ℕ)) (content bytes before tail : List ℕ) (u : Upto limit rs content before) → HasNoFragment limit (length (concat u.firsts)) tail → HasRoom limit (length (concat u.firsts)) tail
+apart : (limit at : ℕ) (rs others : List (List ℕ)) (content bytes before tail : List ℕ)
+    (u : Upto limit rs content before) → HasNoFragment limit (length (concat u.firsts)) tail
+    → HasRoom limit (length (concat u.firsts)) tail
     → bytes ≡ before ++ tail → rs ≡ others → TooLongAt limit others at bytes → ⊥
 apart limit at rs others content bytes before tail u none room e same h =
-    let rest = Stream-rest others u.whole h.upto.whole (flat_map (fragment false) u.firsts ++ tail) (flat_map (fragment false) h.upto.firsts ++ (header h.last h.count ++ h.more))
+    let rest = Stream-rest others u.whole h.upto.whole (flat_map (fragment false) u.firsts ++ tail)
+    (flat_map (fragment false) h.upto.firsts ++ (header h.last h.count ++ h.more))
     (subst (λ x. Stream x u.whole) same u.stream) h.upto.stream
-    (sym (e ∙ ap (λ b. b ++ tail) u.spelled ∙ append_assoc u.whole _ tail) ∙ h.spelled ∙ ap (λ b. b ++ (header h.last h.count ++ h.more)) h.upto.spelled ∙ append_assoc h.upto.whole _ _) in
+    (sym (e ∙ ap (λ b. b ++ tail) u.spelled ∙ append_assoc u.whole _ tail) ∙ h.spelled
+    ∙ ap (λ b. b ++ (header h.last h.count ++ h.more)) h.upto.spelled ∙ append_assoc h.upto.whole _ _) in
     let none' : HasNoFragment limit (0 + length (concat u.firsts)) tail = λ k c z j b t. none k c z j (omega arith) t in
     let room' : HasRoom limit (0 + length (concat u.firsts)) tail = λ k m z j t. omega (arith, room k m z j t) in
     no_long limit 0 u.firsts h.upto.firsts tail h.more h.last h.count u.each h.upto.each h.counted none' room'
-    (omega (arith, u.fits, ap length u.joined)) (omega (arith, h.upto.fits, ap length h.upto.joined)) (omega (arith, h.passes, ap length h.upto.joined)) rest
+    (omega (arith, u.fits, ap length u.joined)) (omega (arith, h.upto.fits, ap length h.upto.joined))
+    (omega (arith, h.passes, ap length h.upto.joined)) rest
 
 HasRoom-short : (limit used : ℕ) (tail : List ℕ) → length tail < 4 → HasRoom limit used tail
-HasRoom-short limit used tail h l n more i e = absurd (omega (arith, h, ap length e, length-append (header l n) more, length-header l n))
+HasRoom-short limit used tail h l n more i e = absurd
+    (omega (arith, h, ap length e, length-append (header l n) more, length-header l n))
 
-not_long_at : (limit at taken : ℕ) (p : Place) (content bytes : List ℕ) (rs others : List (List ℕ)) → IsTakingAt p → StandsAt limit p content taken bytes rs → rs ≡ others → TooLongAt limit others at bytes → ⊥
+not_long_at : (limit at taken : ℕ) (p : Place) (content bytes : List ℕ) (rs others : List (List ℕ)) → IsTakingAt p
+    → StandsAt limit p content taken bytes rs → rs ≡ others → TooLongAt limit others at bytes → ⊥
 not_long_at limit at taken place.Between content bytes rs others i h same t =
-    let u : Upto limit rs [] bytes = record { whole = bytes; firsts = []; stream = h.1.stream; within = h.1.within; each = λ k d lt. absurd (omega arith); fits = omega arith; joined = refl; spelled = sym (append-nil bytes) } in
-    apart limit at rs others [] bytes bytes [] u (HasNoFragment-short limit _ [] (omega arith)) (HasRoom-short limit _ [] (omega arith)) (sym (append-nil bytes)) same t
+    let u : Upto limit rs [] bytes = record {
+      whole = bytes;
+      firsts = [];
+      stream = h.1.stream;
+      within = h.1.within;
+      each = λ k d lt. absurd (omega arith);
+      fits = omega arith;
+      joined = refl;
+      spelled = sym (append-nil bytes);
+    } in
+    apart limit at rs others [] bytes bytes [] u (HasNoFragment-short limit _ [] (omega arith))
+    (HasRoom-short limit _ [] (omega arith)) (sym (append-nil bytes)) same t
 not_long_at limit at taken (place.Header start part) content bytes rs others i h same t =
-    apart limit at rs others content bytes h.0.0.before (begun_bytes part) h.0.0.upto (HasNoFragment-short limit _ _ (begun_short part)) (HasRoom-short limit _ _ (begun_short part)) h.0.0.spelled same t
+    apart limit at rs others content bytes h.0.0.before (begun_bytes part) h.0.0.upto
+    (HasNoFragment-short limit _ _ (begun_short part))
+    (HasRoom-short limit _ _ (begun_short part)) h.0.0.spelled same t
 not_long_at limit at taken (place.Content f) content bytes rs others i (h, k) same t =
-    let room : HasRoom limit (length (concat h.upto.firsts)) (header f.last (length h.part + f.left) ++ h.part) = λ l n more j e.
+    let room : HasRoom limit (length (concat h.upto.firsts)) (header f.last (length h.part + f.left) ++ h.part) =
+    λ l n more j e.
     let s = header-same f.last l (length h.part + f.left) n h.part more h.counted j e in
     omega (arith, s.1, h.fits, ap length h.joined, length-append h.first h.part, ap length h.upto.joined) in
-    apart limit at rs others h.first bytes h.before _ h.upto (HasNoFragment-part limit _ f.left f.last h.part f.some h.counted) room h.spelled same t
+    apart limit at rs others h.first bytes h.before _ h.upto
+    (HasNoFragment-part limit _ f.left f.last h.part f.some h.counted) room h.spelled same t
 not_long_at limit at taken place.Whole content bytes rs others i h same t = absurd i
 not_long_at limit at taken (place.Broken f) content bytes rs others i h same t = absurd i
 
-pub not_long : (reader : RecordReader) (at : ℕ) (bytes : List ℕ) (rs others : List (List ℕ)) → IsTaking reader → Stands reader bytes rs → TooLongAt (limit_of reader) others at bytes → ⊥
+pub not_long : (reader : RecordReader) (at : ℕ) (bytes : List ℕ) (rs others : List (List ℕ)) → IsTaking reader
+    → Stands reader bytes rs → TooLongAt (limit_of reader) others at bytes → ⊥
 not_long reader at bytes rs others i h t =
     not_long_at reader.limit at reader.taken reader.place reader.content.items bytes rs others i h
-    (Longest-same reader.limit rs others bytes (Longest-at reader.limit reader.taken reader.place reader.content.items bytes rs i h) (Longest-long reader.limit at others bytes t)) t
+    (Longest-same reader.limit rs others bytes
+    (Longest-at reader.limit reader.taken reader.place reader.content.items bytes rs i h)
+    (Longest-long reader.limit at others bytes t)) t
 
 pub whole_not_long : WholeHasNoLong
 whole_not_long limit rs bytes w others at t =

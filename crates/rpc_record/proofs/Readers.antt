@@ -1,5 +1,6 @@
 -- What a reader stands for, with more bytes.
-use Rattle.std.proofs.Common.{◌≡◌, ℕ, ◌+◌, ◌-◌, ◌<◌, ◌≤◌, false, List, [], ◌∷◌, ◌++◌, length, take, drop, refl, sym, ap, ◌∙◌, subst, append_assoc, length-append, arith}
+use Rattle.std.proofs.Common.{◌≡◌, ℕ, ◌+◌, ◌-◌, ◌<◌, ◌≤◌, false, List, [], ◌∷◌, ◌++◌, length, take, drop, refl, sym, ap}
+use Rattle.std.proofs.Common.{◌∙◌, subst, append_assoc, length-append, arith}
 use Rattle.std.proofs.lemmas.List.{append-nil, take_rest, take-append-drop}
 use Rattle.xdr_io.proofs.Chained.{take-add}
 use Rattle.std.specs.List.{flat_map}
@@ -9,11 +10,15 @@ use Rattle.rpc_record.specs.declared.place.Place.TheVariants as place
 use Rattle.rpc_record.specs.declared.fault.RecordFault.{RecordFault}
 use Rattle.rpc_record.specs.declared.fault.RecordFault.TheVariants as fault
 use Rattle.rpc_record.specs.declared.reader.RecordReader.{RecordReader}
-use Rattle.rpc_record.specs.Reading.{Begins, IsWhole, IsInside, IsTakingAt, capped, TooLongAt, CutAt, RefusedIn, Faulty, FaultyIn, FaultsBegin, IsBrokenAt, StandsAt}
+use Rattle.rpc_record.specs.Reading.{Begins, IsWhole, IsInside, capped, TooLongAt, CutAt, RefusedIn, Faulty}
+use Rattle.rpc_record.specs.Fields.{IsTakingAt}
+use Rattle.rpc_record.specs.Reading.{FaultyIn, FaultsBegin}
+use Rattle.rpc_record.specs.Fields.{IsBrokenAt, StandsAt}
 use Rattle.rpc_record.specs.Stands.{Stands, IsTaking, IsWaiting, IsBroken, Takes, limit_of}
 use Rattle.rpc_record.proofs.Places.{IsInside-at, Longest-at, Longest-inside}
 
-pub Begins-more : (limit : ℕ) (rs : List (List ℕ)) (bytes more : List ℕ) → Begins limit rs bytes → Begins limit rs (bytes ++ more)
+pub Begins-more : (limit : ℕ) (rs : List (List ℕ)) (bytes more : List ℕ) → Begins limit rs bytes
+    → Begins limit rs (bytes ++ more)
 Begins-more limit rs bytes more h = record {
   whole = h.whole;
   more = h.more ++ more;
@@ -22,7 +27,8 @@ Begins-more limit rs bytes more h = record {
   spelled = ap (λ b. b ++ more) h.spelled ∙ append_assoc h.whole h.more more;
 }
 
-pub TooLongAt-more : (limit at : ℕ) (rs : List (List ℕ)) (bytes more : List ℕ) → TooLongAt limit rs at bytes → TooLongAt limit rs at (bytes ++ more)
+pub TooLongAt-more : (limit at : ℕ) (rs : List (List ℕ)) (bytes more : List ℕ) → TooLongAt limit rs at bytes
+    → TooLongAt limit rs at (bytes ++ more)
 TooLongAt-more limit at rs bytes more h = record {
   before = h.before;
   content = h.content;
@@ -33,10 +39,12 @@ TooLongAt-more limit at rs bytes more h = record {
   place = h.place;
   counted = h.counted;
   passes = h.passes;
-  spelled = ap (λ b. b ++ more) h.spelled ∙ append_assoc h.before _ more ∙ ap (λ b. h.before ++ b) (append_assoc (header h.last h.count) h.more more);
+  spelled = ap (λ b. b ++ more) h.spelled ∙ append_assoc h.before _ more
+      ∙ ap (λ b. h.before ++ b) (append_assoc (header h.last h.count) h.more more);
 }
 
-CutAt-more : (limit at : ℕ) (rs : List (List ℕ)) (bytes more : List ℕ) → CutAt limit rs at bytes → CutAt limit rs at (bytes ++ more)
+CutAt-more : (limit at : ℕ) (rs : List (List ℕ)) (bytes more : List ℕ) → CutAt limit rs at bytes
+    → CutAt limit rs at (bytes ++ more)
 CutAt-more limit at rs bytes more h = record {
   here = h.here;
   more = h.more ++ more;
@@ -68,11 +76,14 @@ FaultyIn-more limit n m rs (fault.Write written) bytes more e h = Begins-more li
 FaultyIn-more limit n m rs fault.TooManyReads bytes more e h = Begins-more limit rs bytes more h
 FaultyIn-more limit n m rs fault.NoMemory bytes more e h = RefusedIn-more limit n m rs bytes more e h
 
-pub Faulty-more : (limit : ℕ) (rs : List (List ℕ)) (f : RecordFault) (bytes more : List ℕ) → Faulty limit rs f bytes → Faulty limit rs f (bytes ++ more)
-Faulty-more limit rs f bytes more h = FaultyIn-more limit (length bytes) (length (bytes ++ more)) rs f bytes more (omega (arith, length-append bytes more)) h
+pub Faulty-more : (limit : ℕ) (rs : List (List ℕ)) (f : RecordFault) (bytes more : List ℕ) → Faulty limit rs f bytes
+    → Faulty limit rs f (bytes ++ more)
+Faulty-more limit rs f bytes more h = FaultyIn-more limit (length bytes) (length (bytes ++ more)) rs f bytes more
+    (omega (arith, length-append bytes more)) h
 
 -- where it came matters for want of memory alone
-pub FaultyIn-other : (limit n m : ℕ) (rs : List (List ℕ)) (f : RecordFault) (bytes : List ℕ) → (f ≡ fault.NoMemory → RefusedIn limit rs m bytes)
+pub FaultyIn-other : (limit n m : ℕ) (rs : List (List ℕ)) (f : RecordFault) (bytes : List ℕ)
+    → (f ≡ fault.NoMemory → RefusedIn limit rs m bytes)
     → FaultyIn limit rs f n bytes → FaultyIn limit rs f m bytes
 FaultyIn-other limit n m rs (fault.TooLong at) bytes k h = h
 FaultyIn-other limit n m rs (fault.Truncated at) bytes k h = h
@@ -81,7 +92,8 @@ FaultyIn-other limit n m rs (fault.Write written) bytes k h = h
 FaultyIn-other limit n m rs fault.TooManyReads bytes k h = h
 FaultyIn-other limit n m rs fault.NoMemory bytes k h = k refl
 
-RefusedIn-room : (limit n m : ℕ) (rs : List (List ℕ)) (bytes : List ℕ) → n ≤ m → RefusedIn limit rs n bytes → RefusedIn limit rs m bytes
+RefusedIn-room : (limit n m : ℕ) (rs : List (List ℕ)) (bytes : List ℕ) → n ≤ m → RefusedIn limit rs n bytes
+    → RefusedIn limit rs m bytes
 RefusedIn-room limit n m rs bytes e h = record {
   here = h.here;
   rest = h.rest;
@@ -93,7 +105,8 @@ RefusedIn-room limit n m rs bytes e h = record {
 }
 
 -- it was refused somewhere in all of the bytes
-pub RefusedIn-all : (limit n : ℕ) (rs : List (List ℕ)) (bytes : List ℕ) → RefusedIn limit rs n bytes → RefusedIn limit rs (length bytes) bytes
+pub RefusedIn-all : (limit n : ℕ) (rs : List (List ℕ)) (bytes : List ℕ) → RefusedIn limit rs n bytes
+    → RefusedIn limit rs (length bytes) bytes
 RefusedIn-all limit n rs bytes h = record {
   here = h.here;
   rest = h.rest;
@@ -104,7 +117,8 @@ RefusedIn-all limit n rs bytes h = record {
   spelled = h.spelled;
 }
 
-pub FaultyIn-room : (limit n m : ℕ) (rs : List (List ℕ)) (f : RecordFault) (bytes : List ℕ) → n ≤ m → FaultyIn limit rs f n bytes → FaultyIn limit rs f m bytes
+pub FaultyIn-room : (limit n m : ℕ) (rs : List (List ℕ)) (f : RecordFault) (bytes : List ℕ) → n ≤ m
+    → FaultyIn limit rs f n bytes → FaultyIn limit rs f m bytes
 FaultyIn-room limit n m rs (fault.TooLong at) bytes e h = h
 FaultyIn-room limit n m rs (fault.Truncated at) bytes e h = h
 FaultyIn-room limit n m rs fault.Read bytes e h = h
@@ -112,40 +126,66 @@ FaultyIn-room limit n m rs (fault.Write written) bytes e h = h
 FaultyIn-room limit n m rs fault.TooManyReads bytes e h = h
 FaultyIn-room limit n m rs fault.NoMemory bytes e h = RefusedIn-room limit n m rs bytes e h
 
-pub Stands-broken : (reader : RecordReader) (f : RecordFault) (bytes more : List ℕ) (rs : List (List ℕ)) → reader.place ≡ place.Broken f → Stands reader bytes rs → Stands reader (bytes ++ more) rs
+pub Stands-broken : (reader : RecordReader) (f : RecordFault) (bytes more : List ℕ) (rs : List (List ℕ))
+    → reader.place ≡ place.Broken f → Stands reader bytes rs → Stands reader (bytes ++ more) rs
 Stands-broken reader f bytes more rs e h =
     subst (λ p. StandsAt reader.limit p reader.content.items reader.taken (bytes ++ more) rs) (sym e)
-    (Faulty-more reader.limit rs f bytes more (subst (λ p. StandsAt reader.limit p reader.content.items reader.taken bytes rs) e h))
+    (Faulty-more reader.limit rs f bytes more
+    (subst (λ p. StandsAt reader.limit p reader.content.items reader.taken bytes rs) e h))
 
 -- a broken reader takes the rest too
-pub Takes-broken : (old new : RecordReader) (f : RecordFault) (n : ℕ) (piece : List ℕ) → new.place ≡ place.Broken f → Takes old new (take n piece) → Takes old new piece
+pub Takes-broken : (old new : RecordReader) (f : RecordFault) (n : ℕ) (piece : List ℕ) → new.place ≡ place.Broken f
+    → Takes old new (take n piece) → Takes old new piece
 Takes-broken old new f n piece e t bytes rs h =
-    subst (λ b. Stands new b rs) (append_assoc bytes (take n piece) (drop n piece) ∙ ap (λ p. bytes ++ p) (take-append-drop n piece))
+    subst (λ b. Stands new b rs) (append_assoc bytes (take n piece) (drop n piece)
+    ∙ ap (λ p. bytes ++ p) (take-append-drop n piece))
     (Stands-broken new f (bytes ++ take n piece) (drop n piece) rs e (t bytes rs h))
 
 -- a piece from n on, as a call is given it
-pub Takes-piece : (a b c : RecordReader) (n m : ℕ) (piece : List ℕ) → Takes a b (take n piece) → Takes b c (take m (take (length piece - n) (drop n piece))) → Takes a c (take (n + m) piece)
+pub Takes-piece : (a b c : RecordReader) (n m : ℕ) (piece : List ℕ) → Takes a b (take n piece)
+    → Takes b c (take m (take (length piece - n) (drop n piece))) → Takes a c (take (n + m) piece)
 Takes-piece a b c n m piece p q bytes rs h =
-    subst (λ b. Stands c b rs) (append_assoc bytes (take n piece) _ ∙ ap (λ k. bytes ++ (take n piece ++ take m k)) (take_rest piece n) ∙ ap (λ k. bytes ++ k) (take-add n m piece))
+    subst (λ b. Stands c b rs) (append_assoc bytes (take n piece) _
+    ∙ ap (λ k. bytes ++ (take n piece ++ take m k)) (take_rest piece n) ∙ ap (λ k. bytes ++ k) (take-add n m piece))
     (q (bytes ++ take n piece) rs (p bytes rs h))
 
-pub Stands-waiting : (reader : RecordReader) (bytes : List ℕ) (rs : List (List ℕ)) → IsWaiting reader → Stands reader bytes rs → IsWhole reader.limit (rs ++ reader.content.items ∷ []) bytes × (reader.taken ≡ capped (length bytes))
+pub Stands-waiting : (reader : RecordReader) (bytes : List ℕ) (rs : List (List ℕ)) → IsWaiting reader
+    → Stands reader bytes rs → IsWhole reader.limit (rs ++ reader.content.items ∷ []) bytes
+    × (reader.taken ≡ capped (length bytes))
 Stands-waiting reader bytes rs e h = subst (λ p. StandsAt reader.limit p reader.content.items reader.taken bytes rs) e h
 
-pub Begins-inside : (limit : ℕ) (rs : List (List ℕ)) (bytes : List ℕ) → IsInside limit rs bytes → Begins limit rs (bytes ++ [])
-Begins-inside limit rs bytes h = record { whole = h.whole; more = h.part; stream = h.stream; within = h.within; spelled = append-nil bytes ∙ h.spelled }
+pub Begins-inside : (limit : ℕ) (rs : List (List ℕ)) (bytes : List ℕ) → IsInside limit rs bytes
+    → Begins limit rs (bytes ++ [])
+Begins-inside limit rs bytes h = record {
+  whole = h.whole;
+  more = h.part;
+  stream = h.stream;
+  within = h.within;
+  spelled = append-nil bytes ∙ h.spelled;
+}
 
 -- the input was told to end inside a record
-pub CutAt-end : (limit at : ℕ) (rs : List (List ℕ)) (bytes : List ℕ) → at ≡ capped (length bytes) → IsInside limit rs bytes → CutAt limit rs at (bytes ++ [])
+pub CutAt-end : (limit at : ℕ) (rs : List (List ℕ)) (bytes : List ℕ) → at ≡ capped (length bytes)
+    → IsInside limit rs bytes → CutAt limit rs at (bytes ++ [])
 CutAt-end limit at rs bytes e h = record { here = bytes; more = []; inside = h; place = e; spelled = refl }
 
 -- memory was refused for these bytes, inside a record
-pub RefusedIn-now : (limit n : ℕ) (rs : List (List ℕ)) (bytes more : List ℕ) → 0 < length more → length more ≤ n → IsInside limit rs bytes
+pub RefusedIn-now : (limit n : ℕ) (rs : List (List ℕ)) (bytes more : List ℕ) → 0 < length more → length more ≤ n
+    → IsInside limit rs bytes
     → RefusedIn limit rs n (bytes ++ more)
 RefusedIn-now limit n rs bytes more some few h =
-    record { here = bytes; rest = more; inside = h; longest = Longest-inside limit rs bytes h; some = some; few = few; spelled = refl }
+    record {
+      here = bytes;
+      rest = more;
+      inside = h;
+      longest = Longest-inside limit rs bytes h;
+      some = some;
+      few = few;
+      spelled = refl;
+    }
 
-begins_before : (limit : ℕ) (rs : List (List ℕ)) (here more bytes : List ℕ) → bytes ≡ here ++ more → IsInside limit rs here → Begins limit rs bytes
+begins_before : (limit : ℕ) (rs : List (List ℕ)) (here more bytes : List ℕ) → bytes ≡ here ++ more
+    → IsInside limit rs here → Begins limit rs bytes
 begins_before limit rs here more bytes e h = record {
   whole = h.whole;
   more = h.part ++ more;
@@ -158,7 +198,13 @@ long_begins : (limit at : ℕ) (rs : List (List ℕ)) (bytes : List ℕ) → Too
 long_begins limit at rs bytes h =
     let tail = header h.last h.count ++ h.more in
     let firsts = flat_map (fragment false) h.upto.firsts in
-    record { whole = h.upto.whole; more = firsts ++ tail; stream = h.upto.stream; within = h.upto.within; spelled = h.spelled ∙ ap (λ k. k ++ tail) h.upto.spelled ∙ append_assoc h.upto.whole firsts tail }
+    record {
+      whole = h.upto.whole;
+      more = firsts ++ tail;
+      stream = h.upto.stream;
+      within = h.upto.within;
+      spelled = h.spelled ∙ ap (λ k. k ++ tail) h.upto.spelled ∙ append_assoc h.upto.whole firsts tail;
+    }
 
 pub faults_begin : FaultsBegin
 faults_begin limit rs (fault.TooLong at) bytes h = long_begins limit at rs bytes h
@@ -168,30 +214,47 @@ faults_begin limit rs (fault.Write written) bytes h = h
 faults_begin limit rs fault.TooManyReads bytes h = h
 faults_begin limit rs fault.NoMemory bytes h = begins_before limit rs h.here h.rest bytes h.spelled h.inside
 
-Begins-at : (limit taken : ℕ) (p : Place) (content bytes : List ℕ) (rs : List (List ℕ)) → IsTakingAt p → StandsAt limit p content taken bytes rs → Begins limit rs (bytes ++ [])
-Begins-at limit taken place.Between content bytes rs i h = record { whole = bytes; more = []; stream = h.1.stream; within = h.1.within; spelled = refl }
-Begins-at limit taken (place.Header at part) content bytes rs i h = Begins-inside limit rs bytes (IsInside-at limit taken (place.Header at part) content bytes rs tt h).1
-Begins-at limit taken (place.Content f) content bytes rs i h = Begins-inside limit rs bytes (IsInside-at limit taken (place.Content f) content bytes rs tt h).1
+Begins-at : (limit taken : ℕ) (p : Place) (content bytes : List ℕ) (rs : List (List ℕ)) → IsTakingAt p
+    → StandsAt limit p content taken bytes rs → Begins limit rs (bytes ++ [])
+Begins-at limit taken place.Between content bytes rs i h = record {
+  whole = bytes;
+  more = [];
+  stream = h.1.stream;
+  within = h.1.within;
+  spelled = refl;
+}
+Begins-at limit taken (place.Header at part) content bytes rs i h = Begins-inside limit rs bytes
+    (IsInside-at limit taken (place.Header at part) content bytes rs tt h).1
+Begins-at limit taken (place.Content f) content bytes rs i h = Begins-inside limit rs bytes
+    (IsInside-at limit taken (place.Content f) content bytes rs tt h).1
 Begins-at limit taken place.Whole content bytes rs i h = absurd i
 Begins-at limit taken (place.Broken f) content bytes rs i h = absurd i
 
 -- a reader that takes bytes has met whole records
-pub Begins-taking : (limit : ℕ) (reader : RecordReader) (bytes : List ℕ) (rs : List (List ℕ)) → limit_of reader ≡ limit → IsTaking reader → Stands reader bytes rs → Begins limit rs (bytes ++ [])
-Begins-taking limit reader bytes rs e i h = subst (λ l. Begins l rs (bytes ++ [])) e (Begins-at reader.limit reader.taken reader.place reader.content.items bytes rs i h)
+pub Begins-taking : (limit : ℕ) (reader : RecordReader) (bytes : List ℕ) (rs : List (List ℕ)) → limit_of reader ≡ limit
+    → IsTaking reader → Stands reader bytes rs → Begins limit rs (bytes ++ [])
+Begins-taking limit reader bytes rs e i h = subst (λ l. Begins l rs (bytes ++ [])) e
+    (Begins-at reader.limit reader.taken reader.place reader.content.items bytes rs i h)
 
-pub Stands-same : (reader : RecordReader) (bytes : List ℕ) (rs : List (List ℕ)) → Stands reader bytes rs → Stands reader (bytes ++ []) rs
+pub Stands-same : (reader : RecordReader) (bytes : List ℕ) (rs : List (List ℕ)) → Stands reader bytes rs
+    → Stands reader (bytes ++ []) rs
 Stands-same reader bytes rs h = subst (λ b. Stands reader b rs) (sym (append-nil bytes)) h
 
 -- the records of a reader that takes bytes are those of the longest front
-pub Longest-taking : (limit : ℕ) (reader : RecordReader) (bytes : List ℕ) (rs : List (List ℕ)) → limit_of reader ≡ limit → IsTaking reader → Stands reader bytes rs → Longest limit rs bytes
-Longest-taking limit reader bytes rs e i h = subst (λ l. Longest l rs bytes) e (Longest-at reader.limit reader.taken reader.place reader.content.items bytes rs i h)
+pub Longest-taking : (limit : ℕ) (reader : RecordReader) (bytes : List ℕ) (rs : List (List ℕ)) → limit_of reader ≡ limit
+    → IsTaking reader → Stands reader bytes rs → Longest limit rs bytes
+Longest-taking limit reader bytes rs e i h = subst (λ l. Longest l rs bytes) e
+    (Longest-at reader.limit reader.taken reader.place reader.content.items bytes rs i h)
 
-Faulty-at : (limit taken : ℕ) (p : Place) (f : RecordFault) (content bytes : List ℕ) (rs : List (List ℕ)) → IsBrokenAt p f → StandsAt limit p content taken bytes rs → Faulty limit rs f bytes
+Faulty-at : (limit taken : ℕ) (p : Place) (f : RecordFault) (content bytes : List ℕ) (rs : List (List ℕ))
+    → IsBrokenAt p f → StandsAt limit p content taken bytes rs → Faulty limit rs f bytes
 Faulty-at limit taken (place.Broken g) f content bytes rs e h = subst (λ k. Faulty limit rs k bytes) e h
 Faulty-at limit taken place.Between f content bytes rs e h = absurd e
 Faulty-at limit taken (place.Header at part) f content bytes rs e h = absurd e
 Faulty-at limit taken (place.Content w) f content bytes rs e h = absurd e
 Faulty-at limit taken place.Whole f content bytes rs e h = absurd e
 
-pub Stands-faulty : (reader : RecordReader) (f : RecordFault) (bytes : List ℕ) (rs : List (List ℕ)) → IsBroken reader f → Stands reader bytes rs → Faulty (limit_of reader) rs f bytes
-Stands-faulty reader f bytes rs e h = Faulty-at reader.limit reader.taken reader.place f reader.content.items bytes rs e h
+pub Stands-faulty : (reader : RecordReader) (f : RecordFault) (bytes : List ℕ) (rs : List (List ℕ)) → IsBroken reader f
+    → Stands reader bytes rs → Faulty (limit_of reader) rs f bytes
+Stands-faulty reader f bytes rs e h =
+    Faulty-at reader.limit reader.taken reader.place f reader.content.items bytes rs e h

@@ -1,5 +1,6 @@
 -- Streams of records, one fragment further.
-use Rattle.std.proofs.Common.{◌≡◌, ℕ, ◌+◌, ◌<◌, ◌≤◌, true, false, List, [], ◌∷◌, ◌++◌, length, refl, sym, ap, ◌∙◌, subst, append_assoc, arith}
+use Rattle.std.proofs.Common.{◌≡◌, ℕ, ◌+◌, ◌<◌, ◌≤◌, true, false, List, [], ◌∷◌, ◌++◌, length, refl, sym, ap, ◌∙◌}
+use Rattle.std.proofs.Common.{subst, append_assoc, arith}
 use Rattle.std.specs.List.{flat_map, concat}
 use Rattle.std.proofs.lemmas.List.{append-nil, length_push}
 use Rattle.std.proofs.lemmas.List.Concat.{flat_map-append}
@@ -11,16 +12,32 @@ pub concat-append : (xs ys : List (List ℕ)) → concat (xs ++ ys) ≡ concat x
 concat-append [] ys = refl
 concat-append (x ∷ xs) ys = ap (λ rest. x ++ rest) (concat-append xs ys) ∙ sym (append_assoc x (concat xs) (concat ys))
 
-pub Stream-push : (rs : List (List ℕ)) (whole front r : List ℕ) → Stream rs whole → Marked r front → Stream (rs ++ r ∷ []) (whole ++ front)
+pub Stream-push : (rs : List (List ℕ)) (whole front r : List ℕ) → Stream rs whole → Marked r front
+    → Stream (rs ++ r ∷ []) (whole ++ front)
 Stream-push [] whole front r s m = (front, ([], (m, refl, ap (λ w. w ++ front) s ∙ sym (append-nil front))))
-Stream-push (x ∷ rs) whole front r (first, (rest, (marked, stream, e))) m =
-    (first, (rest ++ front, (marked, Stream-push rs rest front r stream m, ap (λ w. w ++ front) e ∙ append_assoc first rest front)))
+Stream-push (x ∷ rs) whole front r (first, (rest, (marked, stream, e))) m = (
+  first,
+  (
+    rest ++ front,
+    (marked, Stream-push rs rest front r stream m, ap (λ w. w ++ front) e ∙ append_assoc first rest front),
+  ),
+)
 
 pub Upto-none : (limit : ℕ) → Upto limit [] [] []
-Upto-none limit = record { whole = []; firsts = []; stream = refl; within = λ k d h. absurd (omega arith); each = λ k d h. absurd (omega arith); fits = omega arith; joined = refl; spelled = refl }
+Upto-none limit = record {
+  whole = [];
+  firsts = [];
+  stream = refl;
+  within = λ k d h. absurd (omega arith);
+  each = λ k d h. absurd (omega arith);
+  fits = omega arith;
+  joined = refl;
+  spelled = refl;
+}
 
 -- one more fragment, which isn't the last
-pub Upto-first : (limit : ℕ) (rs : List (List ℕ)) (content bytes part : List ℕ) → Upto limit rs content bytes → IsContent part → length (content ++ part) ≤ limit → Upto limit rs (content ++ part) (bytes ++ fragment false part)
+pub Upto-first : (limit : ℕ) (rs : List (List ℕ)) (content bytes part : List ℕ) → Upto limit rs content bytes
+    → IsContent part → length (content ++ part) ≤ limit → Upto limit rs (content ++ part) (bytes ++ fragment false part)
 Upto-first limit rs content bytes part u h fits = record {
   whole = u.whole;
   firsts = u.firsts ++ part ∷ [];
@@ -28,16 +45,24 @@ Upto-first limit rs content bytes part u h fits = record {
   within = u.within;
   each = All-push IsContent u.firsts part u.each h;
   fits = fits;
-  joined = ap (λ k. k ++ part) u.joined ∙ ap (λ k. concat u.firsts ++ k) (sym (append-nil part)) ∙ sym (concat-append u.firsts (part ∷ []));
-  spelled = ap (λ b. b ++ fragment false part) u.spelled ∙ append_assoc u.whole _ _ ∙ ap (λ b. u.whole ++ b) (ap (λ k. flat_map (fragment false) u.firsts ++ k) (sym (append-nil (fragment false part))) ∙ sym (flat_map-append (fragment false) u.firsts (part ∷ [])));
+  joined = ap (λ k. k ++ part) u.joined ∙ ap (λ k. concat u.firsts ++ k) (sym (append-nil part))
+      ∙ sym (concat-append u.firsts (part ∷ []));
+  spelled = ap (λ b. b ++ fragment false part) u.spelled ∙ append_assoc u.whole _ _
+      ∙ ap (λ b. u.whole ++ b)
+      (ap (λ k. flat_map (fragment false) u.firsts ++ k) (sym (append-nil (fragment false part)))
+      ∙ sym (flat_map-append (fragment false) u.firsts (part ∷ [])));
 }
 
-pub Upto-first_some : (limit : ℕ) (rs : List (List ℕ)) (content bytes part : List ℕ) (u : Upto limit rs content bytes) (h : IsContent part) (fits : length (content ++ part) ≤ limit) → 0 < length (Upto-first limit rs content bytes part u h fits).firsts + 0
+pub Upto-first_some : (limit : ℕ) (rs : List (List ℕ)) (content bytes part : List ℕ) (u : Upto limit rs content bytes)
+    (h : IsContent part) (fits : length (content ++ part) ≤ limit)
+    → 0 < length (Upto-first limit rs content bytes part u h fits).firsts + 0
 unfolding Upto-first
 Upto-first_some limit rs content bytes part u h fits = omega (arith, length_push u.firsts part)
 
 -- the last fragment makes the record whole
-pub Upto-last : (limit : ℕ) (rs : List (List ℕ)) (content bytes part : List ℕ) → Upto limit rs content bytes → IsContent part → length (content ++ part) ≤ limit → IsWhole limit (rs ++ (content ++ part) ∷ []) (bytes ++ fragment true part)
+pub Upto-last : (limit : ℕ) (rs : List (List ℕ)) (content bytes part : List ℕ) → Upto limit rs content bytes
+    → IsContent part → length (content ++ part) ≤ limit
+    → IsWhole limit (rs ++ (content ++ part) ∷ []) (bytes ++ fragment true part)
 Upto-last limit rs content bytes part u h fits =
     let marked : Marked (content ++ part) (flat_map (fragment false) u.firsts ++ fragment true part) = record {
       firsts = u.firsts;
@@ -48,6 +73,8 @@ Upto-last limit rs content bytes part u h fits =
       spelled = refl;
     } in
     record {
-      stream = subst (Stream (rs ++ (content ++ part) ∷ [])) (sym (ap (λ b. b ++ fragment true part) u.spelled ∙ append_assoc u.whole _ _)) (Stream-push rs u.whole _ (content ++ part) u.stream marked);
+      stream = subst (Stream (rs ++ (content ++ part) ∷ []))
+          (sym (ap (λ b. b ++ fragment true part) u.spelled ∙ append_assoc u.whole _ _))
+          (Stream-push rs u.whole _ (content ++ part) u.stream marked);
       within = All-push (λ r. length r ≤ limit) rs (content ++ part) u.within fits;
     }

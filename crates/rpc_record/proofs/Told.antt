@@ -1,5 +1,6 @@
 -- What a reader's answers tell of the bytes taken.
-use Rattle.std.proofs.Common.{◌≡◌, ℕ, ◌+◌, ◌-◌, ◌≤◌, List, [], ◌∷◌, ◌++◌, length, take, drop, Ok, Err, refl, sym, ap, ◌∙◌, subst, append_assoc, length-append, arith}
+use Rattle.std.proofs.Common.{◌≡◌, ℕ, ◌+◌, ◌-◌, ◌≤◌, List, [], ◌∷◌, ◌++◌, length, take, drop, Ok, Err, refl, sym, ap}
+use Rattle.std.proofs.Common.{◌∙◌, subst, append_assoc, length-append, arith}
 use Rattle.std.proofs.lemmas.List.{append-nil, take_rest, take-append-drop}
 use Rattle.xdr_io.proofs.Chained.{take-add}
 use Rattle.rpc_record.specs.Marked.{Longest}
@@ -9,9 +10,15 @@ use Rattle.rpc_record.specs.declared.fault.RecordFault.{RecordFault}
 use Rattle.rpc_record.specs.declared.fault.RecordFault.TheVariants as fault
 use Rattle.rpc_record.specs.declared.fault.RecordStep.TheVariants as step
 use Rattle.rpc_record.specs.declared.reader.RecordReader.{RecordReader}
-use Rattle.rpc_record.specs.Reading.{IsWhole, IsInside, Begins, HasNoLong, TooLongAt, RefusedIn, Faulty, FaultyIn, IsBrokenAt, IsSteppedAt, IsTakingAt, IsFedAt, IsFeedFault, StandsAt, capped}
-use Rattle.rpc_record.specs.Stands.{Stands, IsTaking, IsWaiting, IsBroken, IsStepped, IsFed, Takes, Tells, Refuses, Concludes, limit_of}
-use Rattle.rpc_record.proofs.Readers.{FaultyIn-more, FaultyIn-other, FaultyIn-room, CutAt-end, Longest-taking, Stands-waiting, Stands-faulty}
+use Rattle.rpc_record.specs.Reading.{IsWhole, IsInside, Begins, HasNoLong, TooLongAt, RefusedIn, Faulty, FaultyIn}
+use Rattle.rpc_record.specs.Fields.{IsBrokenAt, IsTakingAt, StandsAt}
+use Rattle.rpc_record.specs.Private.Steps.{IsSteppedAt, IsFedAt}
+use Rattle.rpc_record.specs.Reading.{IsFeedFault, capped}
+use Rattle.rpc_record.specs.Stands.{Stands, IsTaking, IsWaiting, IsBroken, Takes, Tells}
+use Rattle.rpc_record.specs.Private.Steps.{IsStepped, IsFed, Refuses}
+use Rattle.rpc_record.specs.Stands.{Concludes, limit_of}
+use Rattle.rpc_record.proofs.Readers.{FaultyIn-more, FaultyIn-other, FaultyIn-room, CutAt-end, Longest-taking}
+use Rattle.rpc_record.proofs.Readers.{Stands-waiting, Stands-faulty}
 use Rattle.rpc_record.proofs.Exact.{not_long}
 
 stepped_kept : (p : Place) → IsSteppedAt p → IsBrokenAt p fault.NoMemory → ⊥
@@ -45,40 +52,53 @@ pub Refuses-none : (old new : RecordReader) (more : List ℕ) → IsStepped new 
 Refuses-none old new more s broken taking bytes rs h = absurd (stepped_kept new.place s broken)
 
 -- a piece from n on, as a call is given it
-pub Refuses-piece : (a b c : RecordReader) (n m : ℕ) (piece : List ℕ) → limit_of b ≡ limit_of a → IsTaking b → Takes a b (take n piece)
+pub Refuses-piece : (a b c : RecordReader) (n m : ℕ) (piece : List ℕ) → limit_of b ≡ limit_of a → IsTaking b
+    → Takes a b (take n piece)
     → Refuses b c (take m (take (length piece - n) (drop n piece))) → Refuses a c (take (n + m) piece)
 Refuses-piece a b c n m piece e i p q broken taking bytes rs h =
     let rest = take m (take (length piece - n) (drop n piece)) in
-    let all : take n piece ++ rest ≡ take (n + m) piece = ap (λ k. take n piece ++ take m k) (take_rest piece n) ∙ take-add n m piece in
-    let room : length rest ≤ length (take (n + m) piece) = omega (arith, ap length all, length-append (take n piece) rest) in
-    FaultyIn-room a.limit (length rest) (length (take (n + m) piece)) rs fault.NoMemory (bytes ++ take (n + m) piece) room
+    let all : take n piece ++ rest ≡ take (n + m) piece = ap (λ k. take n piece ++ take m k) (take_rest piece n)
+    ∙ take-add n m piece in
+    let room : length rest ≤ length (take (n + m) piece) = omega
+    (arith, ap length all, length-append (take n piece) rest) in
+    FaultyIn-room a.limit (length rest) (length (take (n + m) piece)) rs fault.NoMemory
+    (bytes ++ take (n + m) piece) room
     (subst (λ k. FaultyIn k rs fault.NoMemory (length rest) (bytes ++ take (n + m) piece)) e
-    (subst (λ k. FaultyIn b.limit rs fault.NoMemory (length rest) k) (append_assoc bytes (take n piece) rest ∙ ap (λ k. bytes ++ k) all)
+    (subst (λ k. FaultyIn b.limit rs fault.NoMemory (length rest) k) (append_assoc bytes (take n piece) rest
+    ∙ ap (λ k. bytes ++ k) all)
     (q broken i (bytes ++ take n piece) rs (p bytes rs h))))
 
-pub Tells-more : (old new : RecordReader) (piece : List ℕ) → limit_of new ≡ limit_of old → IsTaking new → Takes old new piece → Tells old piece (Ok step.More)
+pub Tells-more : (old new : RecordReader) (piece : List ℕ) → limit_of new ≡ limit_of old → IsTaking new
+    → Takes old new piece → Tells old piece (Ok step.More)
 Tells-more old new piece e i k bytes rs h =
     let s = k bytes rs h in (
       Longest-taking old.limit new (bytes ++ piece) rs e i s,
-      λ others at t. not_long new at (bytes ++ piece) rs others i s (subst (λ l. TooLongAt l others at (bytes ++ piece)) (sym e) t),
+      λ others at t. not_long new at (bytes ++ piece) rs others i s
+          (subst (λ l. TooLongAt l others at (bytes ++ piece)) (sym e) t),
     )
 
-pub Tells-whole : (old new : RecordReader) (used : ℕ) (piece : List ℕ) → limit_of new ≡ limit_of old → IsWaiting new → Takes old new (take used piece)
+pub Tells-whole : (old new : RecordReader) (used : ℕ) (piece : List ℕ) → limit_of new ≡ limit_of old → IsWaiting new
+    → Takes old new (take used piece)
     → Tells old piece (Ok (step.Whole used))
 Tells-whole old new used piece e w k bytes rs h =
     let s = Stands-waiting new (bytes ++ take used piece) rs w (k bytes rs h) in
     (new.content.items, subst (λ l. IsWhole l (rs ++ new.content.items ∷ []) (bytes ++ take used piece)) e s.0)
 
-pub Tells-broken : (old new : RecordReader) (f : RecordFault) (n : ℕ) (piece : List ℕ) → limit_of new ≡ limit_of old → IsBroken new f
+pub Tells-broken : (old new : RecordReader) (f : RecordFault) (n : ℕ) (piece : List ℕ) → limit_of new ≡ limit_of old
+    → IsBroken new f
     → Takes old new piece → Refuses old new (take n piece) → Tells old piece (Err f)
 Tells-broken old new f n piece e b k r bytes rs h =
-    let faulty = subst (λ l. Faulty l rs f (bytes ++ piece)) e (Stands-faulty new f (bytes ++ piece) rs b (k bytes rs h)) in
+    let faulty = subst (λ l. Faulty l rs f (bytes ++ piece)) e
+    (Stands-faulty new f (bytes ++ piece) rs b (k bytes rs h)) in
     let all = take-append-drop n piece in
-    let room : length (take n piece) + length (drop n piece) ≤ length piece = omega (arith, ap length all, length-append (take n piece) (drop n piece)) in (
+    let room : length (take n piece) + length (drop n piece) ≤ length piece = omega
+    (arith, ap length all, length-append (take n piece) (drop n piece)) in (
       faulty,
       λ taking. FaultyIn-other old.limit (length (bytes ++ piece)) (length piece) rs f (bytes ++ piece)
-          (λ (same : f ≡ fault.NoMemory). subst (λ x. RefusedIn old.limit rs (length piece) x) (append_assoc bytes (take n piece) (drop n piece) ∙ ap (λ x. bytes ++ x) all)
-          (FaultyIn-more old.limit (length (take n piece)) (length piece) rs fault.NoMemory (bytes ++ take n piece) (drop n piece) room
+          (λ (same : f ≡ fault.NoMemory). subst (λ x. RefusedIn old.limit rs (length piece) x)
+          (append_assoc bytes (take n piece) (drop n piece) ∙ ap (λ x. bytes ++ x) all)
+          (FaultyIn-more old.limit (length (take n piece)) (length piece) rs fault.NoMemory (bytes ++ take n piece)
+          (drop n piece) room
           (r (subst (λ x. IsBroken new x) same b) taking bytes rs h))) faulty,
     )
 
@@ -89,7 +109,10 @@ Concludes-between reader u e bytes rs h =
     ([], (omega arith, subst (λ x. IsWhole reader.limit x bytes) (sym (append-nil rs)) s.1))
 
 pub Concludes-waiting : (reader : RecordReader) (u : Unit {0}) → IsWaiting reader → Concludes reader (Ok u)
-Concludes-waiting reader u w bytes rs h = (reader.content.items ∷ [], (omega arith, (Stands-waiting reader bytes rs w h).0))
+Concludes-waiting reader u w bytes rs h = (
+  reader.content.items ∷ [],
+  (omega arith, (Stands-waiting reader bytes rs w h).0),
+)
 
 not_broken : (p : Place) (f : RecordFault) → IsTakingAt p → IsBrokenAt p f → ⊥
 not_broken (place.Broken g) f i e = i
@@ -99,12 +122,18 @@ not_broken (place.Content w) f i e = e
 not_broken place.Whole f i e = e
 
 pub Concludes-broken : (reader : RecordReader) (f : RecordFault) → IsBroken reader f → Concludes reader (Err f)
-Concludes-broken reader f b bytes rs h = (Stands-faulty reader f bytes rs b h, λ taking. absurd (not_broken reader.place f taking b))
+Concludes-broken reader f b bytes rs h = (
+  Stands-faulty reader f bytes rs b h,
+  λ taking. absurd (not_broken reader.place f taking b),
+)
 
-pub Concludes-inside : (reader : RecordReader) → ((bytes : List ℕ) (rs : List (List ℕ)) → Stands reader bytes rs → (reader.taken ≡ capped (length bytes)) × IsInside reader.limit rs bytes)
+pub Concludes-inside : (reader : RecordReader)
+    → ((bytes : List ℕ) (rs : List (List ℕ)) → Stands reader bytes rs
+    → (reader.taken ≡ capped (length bytes)) × IsInside reader.limit rs bytes)
     → Concludes reader (Err (fault.Truncated reader.taken))
 Concludes-inside reader inside bytes rs h =
     let i = inside bytes rs h in (
-      subst (λ b. Faulty reader.limit rs (fault.Truncated reader.taken) b) (append-nil bytes) (CutAt-end reader.limit reader.taken rs bytes i.0 i.1),
+      subst (λ b. Faulty reader.limit rs (fault.Truncated reader.taken) b) (append-nil bytes)
+          (CutAt-end reader.limit reader.taken rs bytes i.0 i.1),
       λ taking. (ap (λ n. fault.Truncated n) i.0, i.1),
     )

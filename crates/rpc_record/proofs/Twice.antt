@@ -1,5 +1,6 @@
 -- The normal form is a stream of the same records, and of no others.
-use Rattle.std.proofs.Common.{◌≡◌, ℕ, ◌^◌, ◌<◌, ◌≤◌, suc, true, List, [], ◌∷◌, ◌++◌, length, refl, ap, ◌∙◌, length-append, arith}
+use Rattle.std.proofs.Common.{◌≡◌, ℕ, ◌^◌, ◌<◌, ◌≤◌, suc, true, List, [], ◌∷◌, ◌++◌, length, refl, ap, ◌∙◌}
+use Rattle.std.proofs.Common.{length-append, arith}
 use Rattle.std.proofs.lemmas.List.{append-nil, nil_from_length}
 use Rattle.rpc_record.specs.Marked.{fragment, Marked, Stream, Within, normal, TwiceAsOnce}
 use Rattle.rpc_record.proofs.Longest.{one_reading}
@@ -9,16 +10,34 @@ pub Stream-normal : (limit : ℕ) (rs : List (List ℕ)) → limit < 2 ^ 31 → 
 Stream-normal limit [] h w = refl
 Stream-normal limit (r ∷ rs) h w =
     let room : length r ≤ limit = w 0 [] (omega arith) in
-    let marked : Marked r (fragment true r) = record { firsts = []; last = r; each = λ k d lt. absurd (omega arith); each_last = omega arith; content = refl; spelled = refl } in
+    let marked : Marked r (fragment true r) = record {
+      firsts = [];
+      last = r;
+      each = λ k d lt. absurd (omega arith);
+      each_last = omega arith;
+      content = refl;
+      spelled = refl;
+    } in
     (fragment true r, (normal rs, (marked, Stream-normal limit rs h (λ k d lt. w (suc k) d (omega arith)), refl)))
 
-pub same_records : (limit : ℕ) (rs others : List (List ℕ)) (bytes : List ℕ) → Within limit rs → Within limit others → Stream rs bytes → Stream others bytes → rs ≡ others
+pub same_records : (limit : ℕ) (rs others : List (List ℕ)) (bytes : List ℕ) → Within limit rs → Within limit others
+    → Stream rs bytes → Stream others bytes → rs ≡ others
 same_records limit rs others bytes w v s t =
-    let none = IsUnfinished-fragments limit [] [] (λ k d lt. absurd (omega arith)) (HasNoFragment-short limit 0 [] (omega arith)) in
+    let none = IsUnfinished-fragments limit [] [] (λ k d lt. absurd (omega arith))
+    (HasNoFragment-short limit 0 [] (omega arith)) in
     let more = one_reading limit rs bytes [] s none others bytes [] v t refl in
     let back = one_reading limit others bytes [] t none rs bytes [] w s refl in
-    let short : length more.0 ≡ 0 = omega (arith, ap length more.1, ap length back.1, length-append others more.0, length-append rs back.0) in
+    let short : length more.0 ≡ 0 = omega (
+      arith,
+      ap length more.1,
+      ap length back.1,
+      length-append others more.0,
+      length-append rs back.0,
+    ) in
     more.1 ∙ ap (λ k. others ++ k) (nil_from_length more.0 short) ∙ append-nil others
 
 pub twice_as_once : TwiceAsOnce
-twice_as_once limit rs h w = (Stream-normal limit rs h w, λ others v s. ap normal (same_records limit others rs (normal rs) v w s (Stream-normal limit rs h w)))
+twice_as_once limit rs h w = (
+  Stream-normal limit rs h w,
+  λ others v s. ap normal (same_records limit others rs (normal rs) v w s (Stream-normal limit rs h w)),
+)

@@ -1,6 +1,6 @@
 pub mod Marked
 pub mod Reading
+pub mod Fields
 pub mod Stands
 pub mod Normalised
-pub mod Sending
-pub mod Passing
+pub mod Private

@@ -24,11 +24,18 @@ pub record Normalised (limit : ℕ) (left left' taken taken' : Option (List ℕ)
   pub counted : IsCount count rs
 
 -- What a fault says of what was read, and what was written. Where memory was refused it was in what the last read gave.
-abbrev pub StopsBy : ℕ → List (List ℕ) → List ℕ → Option (List ℕ) → Option (List ℕ) → Option (List ℕ) → RecordFault → Type 0
-StopsBy limit rs input left' taken taken' (fault.TooLong at) = TooLongAt limit rs at input × Longest limit rs input × Appends taken taken' (normal rs)
-StopsBy limit rs input left' taken taken' (fault.Truncated at) = (at ≡ capped (length input)) × IsInside limit rs input × Longest limit rs input × IsAtEnd left' × Appends taken taken' (normal rs)
-StopsBy limit rs input left' taken taken' (fault.Write written) = Begins limit rs input × ((w : ℕ) × ((w < length (normal rs)) × (written ≡ capped w) × Appends taken taken' (take w (normal rs))))
-StopsBy limit rs input left' taken taken' fault.NoMemory = Begins limit rs input × RefusedIn limit rs 4096 input × Appends taken taken' (normal rs)
+abbrev pub StopsBy : ℕ → List (List ℕ) → List ℕ → Option (List ℕ) → Option (List ℕ) → Option (List ℕ) → RecordFault
+    → Type 0
+StopsBy limit rs input left' taken taken' (fault.TooLong at) =
+    TooLongAt limit rs at input × Longest limit rs input × Appends taken taken' (normal rs)
+StopsBy limit rs input left' taken taken' (fault.Truncated at) =
+    (at ≡ capped (length input)) × IsInside limit rs input × Longest limit rs input × IsAtEnd left'
+    × Appends taken taken' (normal rs)
+StopsBy limit rs input left' taken taken' (fault.Write written) =
+    Begins limit rs input
+    × ((w : ℕ) × ((w < length (normal rs)) × (written ≡ capped w) × Appends taken taken' (take w (normal rs))))
+StopsBy limit rs input left' taken taken' fault.NoMemory =
+    Begins limit rs input × RefusedIn limit rs 4096 input × Appends taken taken' (normal rs)
 StopsBy limit rs input left' taken taken' _ = Longest limit rs input × Appends taken taken' (normal rs)
 
 pub record Stops (limit : ℕ) (left left' taken taken' : Option (List ℕ)) (f : RecordFault) : Type 0 where

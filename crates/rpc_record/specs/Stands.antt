@@ -1,5 +1,6 @@
 -- The byte lists, and the records handed out, that a record reader stands for.
-use Rattle.std.specs.Prelude.{◌≡◌, ℕ, ◌≤◌, ◌<◌, List, [], ◌++◌, length, take, Ok, Err, Result, Some, None, Option, ◌∷◌, ◌⊎◌}
+use Rattle.std.specs.Prelude.{◌≡◌, ℕ, ◌≤◌, ◌<◌, List, [], ◌++◌, length, take, Ok, Err, Result, Some, None, Option, ◌∷◌}
+use Rattle.std.specs.Prelude.{◌⊎◌}
 use Rattle.std.specs.declared.vec.Vec.{Vec}
 use Rattle.std.specs.declared.alloc.Global.{Global}
 use Rattle.rpc_record.specs.declared.fault.RecordFault.TheVariants as fault
@@ -9,7 +10,8 @@ use Rattle.rpc_record.specs.declared.fault.RecordFault.{RecordFault}
 use Rattle.rpc_record.specs.declared.fault.RecordStep.{RecordStep}
 use Rattle.rpc_record.specs.declared.fault.RecordStep.TheVariants as step
 use Rattle.rpc_record.specs.Marked.{Longest}
-use Rattle.rpc_record.specs.Reading.{capped, IsWhole, IsInside, HasNoLong, Faulty, FaultyIn, StandsAt, IsTakingAt, IsBrokenAt, IsFedAt, IsFeedFault, IsSteppedAt}
+use Rattle.rpc_record.specs.Reading.{capped, IsWhole, IsInside, HasNoLong, Faulty, FaultyIn, IsFeedFault}
+use Rattle.rpc_record.specs.Fields.{StandsAt, IsTakingAt, IsBrokenAt}
 
 -- The reader has taken these bytes and has handed out these records.
 abbrev pub Stands : RecordReader → List ℕ → List (List ℕ) → Type 0
@@ -34,46 +36,47 @@ IsBroken reader f = IsBrokenAt reader.place f
 abbrev pub Takes : RecordReader → RecordReader → List ℕ → Type 0
 Takes old new more = (bytes : List ℕ) (rs : List (List ℕ)) → Stands old bytes rs → Stands new (bytes ++ more) rs
 
+-- The reader has handed these records out too, and has taken these bytes.
+abbrev pub Moves : RecordReader → RecordReader → List ℕ → List (List ℕ) → Type 0
+Moves old new piece more = (bytes : List ℕ) (rs : List (List ℕ)) → Stands old bytes rs
+    → Stands new (bytes ++ piece) (rs ++ more)
+
 -- what feeding a piece does
 abbrev pub Feeds : RecordReader → RecordReader → List ℕ → Result RecordStep RecordFault → Type 0
 Feeds old new piece (Ok step.More) = IsTaking new × Takes old new piece
-Feeds old new piece (Ok (step.Whole used)) = IsWaiting new × (used ≤ length piece) × Takes old new (take used piece) × (IsTaking old → 0 < used)
+Feeds old new piece (Ok (step.Whole used)) =
+    IsWaiting new × (used ≤ length piece) × Takes old new (take used piece) × (IsTaking old → 0 < used)
 Feeds old new piece (Err f) = IsBroken new f × Takes old new piece × (IsTaking old → IsFeedFault f)
 
--- Whatever bytes the reader had taken and whatever records it had handed out, this holds of these records and of the bytes
--- with these behind.
+-- whatever bytes the reader has taken and whatever records it has handed out, this holds of them
+abbrev pub Always : RecordReader → (List (List ℕ) → List ℕ → Type 0) → Type 0
+Always reader P = (bytes : List ℕ) (rs : List (List ℕ)) → Stands reader bytes rs → P rs bytes
+
+-- Whatever bytes the reader had taken and whatever records it had handed out, this holds of those records and of those
+-- bytes with these behind.
 abbrev pub After : RecordReader → List ℕ → (List (List ℕ) → List ℕ → Type 0) → Type 0
 After old more P = (bytes : List ℕ) (rs : List (List ℕ)) → Stands old bytes rs → P rs (bytes ++ more)
 
--- What the answer to a piece says of the bytes taken. `More`: the records handed out are all that are whole, and no header
--- passes the limit. `Whole`: the bytes are the records handed out and one more. A fault: what it says of them, and that it
--- came in this piece where none had come before.
+-- What the answer to a piece says of the bytes taken. `More`: the records handed out are all that are whole, and no
+-- header passes the limit. `Whole`: the bytes are the records handed out and one more. A fault: what it says of them,
+-- and that it came in this piece where none had come before.
 abbrev pub Tells : RecordReader → List ℕ → Result RecordStep RecordFault → Type 0
 Tells old piece (Ok step.More) = After old piece (λ rs bytes. Longest old.limit rs bytes × HasNoLong old.limit bytes)
-Tells old piece (Ok (step.Whole used)) = After old (take used piece) (λ rs bytes. (r : List ℕ) × IsWhole old.limit (rs ++ r ∷ []) bytes)
-Tells old piece (Err f) = After old piece (λ rs bytes. Faulty old.limit rs f bytes × (IsTaking old → FaultyIn old.limit rs f (length piece) bytes))
-
--- Where memory was refused now, it was for the record after those handed out, in these bytes.
-abbrev pub Refuses : RecordReader → RecordReader → List ℕ → Type 0
-Refuses old new more = IsBroken new fault.NoMemory → IsTaking old
-    → (bytes : List ℕ) (rs : List (List ℕ)) → Stands old bytes rs → FaultyIn old.limit rs fault.NoMemory (length more) (bytes ++ more)
+Tells old piece (Ok (step.Whole used)) =
+    After old (take used piece) (λ rs bytes. (r : List ℕ) × IsWhole old.limit (rs ++ r ∷ []) bytes)
+Tells old piece (Err f) =
+    After old piece (λ rs bytes. Faulty old.limit rs f bytes × (IsTaking old → FaultyIn old.limit rs f (length piece) bytes))
 
 -- A broken reader answers its fault, and one where a record waits takes nothing.
 pub record Stays (old : RecordReader) (result : Result RecordStep RecordFault) : Type 0 where
   pub broken : (f : RecordFault) → IsBroken old f → result ≡ Err f
   pub waiting : IsWaiting old → result ≡ Ok (step.Whole 0)
 
--- it isn't broken, or is so by a fault that feeding bytes can bring
-abbrev pub IsFed : RecordReader → Type 0
-IsFed reader = IsFedAt reader.place
-
--- a header's or a fragment's bytes led there, and memory was not refused
-abbrev pub IsStepped : RecordReader → Type 0
-IsStepped reader = IsSteppedAt reader.place
-
 -- what handing out does
 abbrev pub Hands : RecordReader → RecordReader → Option (Vec ℕ Global) → Type 0
-Hands old new (Some v) = IsWaiting old × IsTaking new × ((bytes : List ℕ) (rs : List (List ℕ)) → Stands old bytes rs → Stands new bytes (rs ++ v.items ∷ []))
+Hands old new (Some v) =
+    IsWaiting old × IsTaking new
+    × ((bytes : List ℕ) (rs : List (List ℕ)) → Stands old bytes rs → Stands new bytes (rs ++ v.items ∷ []))
 Hands old new None = (IsWaiting old → ⊥) × (new ≡ old)
 
 -- it is between two records
@@ -82,7 +85,8 @@ IsBetween reader = reader.place ≡ place.Between
 
 -- the answer is this place, inside a record
 abbrev pub TruncatedAt : RecordReader → RecordFault → Type 0
-TruncatedAt old (fault.Truncated at) = (bytes : List ℕ) (rs : List (List ℕ)) → Stands old bytes rs → (at ≡ capped (length bytes)) × IsInside (limit_of old) rs bytes
+TruncatedAt old (fault.Truncated at) = (bytes : List ℕ) (rs : List (List ℕ)) → Stands old bytes rs
+    → (at ≡ capped (length bytes)) × IsInside (limit_of old) rs bytes
 TruncatedAt old _ = ⊥
 
 -- what ending does
@@ -93,7 +97,8 @@ Ends old new (Err f) = IsBroken new f × Takes old new [] × (IsBroken old f ⊎
 -- What the answer to the input's end says of the bytes taken. Ok: they are the records handed out and at most one more.
 -- A fault: what it says of them, and where none had come before that it is `Truncated` at their count, inside a record.
 abbrev pub Concludes : RecordReader → Result (Unit {0}) RecordFault → Type 0
-Concludes old (Ok u) = (bytes : List ℕ) (rs : List (List ℕ)) → Stands old bytes rs
-    → (waits : List (List ℕ)) × ((length waits ≤ 1) × IsWhole old.limit (rs ++ waits) bytes)
-Concludes old (Err f) = (bytes : List ℕ) (rs : List (List ℕ)) → Stands old bytes rs
-    → Faulty old.limit rs f bytes × (IsTaking old → (f ≡ fault.Truncated (capped (length bytes))) × IsInside old.limit rs bytes)
+Concludes old (Ok u) =
+    Always old (λ rs bytes. (waits : List (List ℕ)) × ((length waits ≤ 1) × IsWhole old.limit (rs ++ waits) bytes))
+Concludes old (Err f) =
+    Always old (λ rs bytes. Faulty old.limit rs f bytes
+    × (IsTaking old → (f ≡ fault.Truncated (capped (length bytes))) × IsInside old.limit rs bytes))

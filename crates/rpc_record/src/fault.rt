@@ -1,7 +1,8 @@
 //! What goes wrong with records, and what is counted.
 use thiserror::Error;
 
-/// Why records could not be read or written. Places and counts are of bytes, and `u64::MAX` stands for every greater one.
+/// Why records could not be read or written. Places and counts are of bytes, and `u64::MAX` stands for every greater
+/// one.
 #[derive(Clone, Copy, Debug, PartialEq, Eq, Error)]
 pub enum RecordFault {
     /// The fragment whose header stands at this place in the stream would bring its record above the limit.

@@ -1,5 +1,6 @@
 //! Laws of record marking: what the definitions of a record, of a stream and of its normal form come to.
-ghost use Rattle.rpc_record.specs.Marked.{NoneBeginsAnother, OneLongest, OneReading, TwiceAsOnce, NormalJoins, FragmentLength};
+ghost use Rattle.rpc_record.specs.Marked.{NoneBeginsAnother, OneLongest, OneReading};
+ghost use Rattle.rpc_record.specs.Marked.{TwiceAsOnce, NormalJoins, FragmentLength};
 ghost use Rattle.rpc_record.specs.Reading.{TooLongEnds, WholeHasNoLong, FaultsBegin};
 
 /// Normalising twice gives what normalising once does, and bytes have one reading as records.

@@ -1,12 +1,9 @@
 //! The normal form of a stream of records.
-ghost use Rattle.std.specs.Prelude.{◌≡◌, ◌+◌, ◌<◌, ◌≤◌, ◌++◌, ℕ, List, [], ◌∷◌, length, take, IfOk, IfErr, OnOk, OnErr, IsErrOf};
-ghost use Rattle.std.specs.Io.KnownBytes.{Appends, Consumes, IsAtEnd};
+ghost use Rattle.std.specs.Prelude.{◌≡◌, ◌≤◌, ℕ, List, [], IfOk, IfErr, OnOk, OnErr, IsErrOf};
 ghost use Rattle.xdr_io.specs.Told.{Counts, CountsAtMost};
-ghost use Rattle.rpc_record.specs.Marked.{fragment, normal};
-ghost use Rattle.rpc_record.specs.Reading.{capped};
 ghost use Rattle.rpc_record.specs.Stands.{Stands, IsTaking, IsWaiting, limit_of};
-ghost use Rattle.rpc_record.specs.Normalised.{IsCount, Normalised, Stops, WriteFails};
-ghost use Rattle.rpc_record.specs.Passing.{Gathers, Lost, Passed, CutBy};
+ghost use Rattle.rpc_record.specs.Normalised.{Normalised, Stops, WriteFails};
+ghost use Rattle.rpc_record.specs.Private.Passing.{Gathers, Lost, Passed, CutBy};
 
 use super::fault::{Count, RecordFault, RecordStep};
 use super::header::last_header;
@@ -24,7 +21,8 @@ fn write_next<W: Sink>(
     requires waiting { IsWaiting records.old }
     requires limit { limit_of records.old ≤ 2147483647 }
     requires stands { (bytes : List ℕ) × ((rs : List (List ℕ)) × Stands records.old bytes rs) }
-    ensures ok { OnOk result (Gathers records.old records.new outbox.old outbox.new [] (W.taken writer.old) (W.taken writer.new)) }
+    ensures ok { OnOk result
+        (Gathers records.old records.new outbox.old outbox.new [] (W.taken writer.old) (W.taken writer.new)) }
     ensures cut { IfErr result (λ f. Lost records.old outbox.old [] (W.taken writer.old) (W.taken writer.new) f) }
     ensures none_failed { OnOk result (Counts 0 (W.failures writer.old) (W.failures writer.new)) }
     ensures one_failed { OnErr result (Counts 1 (W.failures writer.old) (W.failures writer.new)) }
@@ -57,9 +55,11 @@ fn pass_on<W: Sink>(
     requires limit { limit_of records.old ≤ 2147483647 }
     requires stands { (bytes : List ℕ) × ((rs : List (List ℕ)) × Stands records.old bytes rs) }
     requires empty { outbox.old.used ≡ 0 }
-    ensures ok { OnOk result (Passed records.old records.new outbox.old.count outbox.new.count piece.now (W.taken writer.old) (W.taken writer.new)) }
+    ensures ok { OnOk result (Passed records.old records.new outbox.old.count outbox.new.count piece.now
+        (W.taken writer.old) (W.taken writer.new)) }
     ensures empty { OnOk result (outbox.new.used ≡ 0) }
-    ensures cut { IfErr result (λ f. CutBy records.old outbox.old.count piece.now (W.taken writer.old) (W.taken writer.new) f) }
+    ensures cut { IfErr result
+        (λ f. CutBy records.old outbox.old.count piece.now (W.taken writer.old) (W.taken writer.new) f) }
     ensures none_failed { OnOk result (Counts 0 (W.failures writer.old) (W.failures writer.new)) }
     ensures failed { IfErr result (λ f. WriteFails f (W.failures writer.old) (W.failures writer.new)) }
 {
@@ -99,13 +99,16 @@ pub fn normalise<R: Source, W: Sink>(
     limit: u32,
 ) -> Result<Count, RecordFault>
     requires { limit ≤ 2147483647 }
-    ensures ok { IfOk result (λ count. Normalised limit (R.left reader.old) (R.left reader.new) (W.taken writer.old) (W.taken writer.new) count) }
-    ensures fault { IfErr result (λ f. Stops limit (R.left reader.old) (R.left reader.new) (W.taken writer.old) (W.taken writer.new) f) }
+    ensures ok { IfOk result (λ count.
+        Normalised limit (R.left reader.old) (R.left reader.new) (W.taken writer.old) (W.taken writer.new) count) }
+    ensures fault { IfErr result (λ f.
+        Stops limit (R.left reader.old) (R.left reader.new) (W.taken writer.old) (W.taken writer.new) f) }
     ensures read { IsErrOf result RecordFault.Read → Counts 1 (R.failures reader.old) (R.failures reader.new) }
     ensures reads { CountsAtMost 1048576 (R.reads reader.old) (R.reads reader.new) }
     ensures many { IsErrOf result RecordFault.TooManyReads → Counts 1048576 (R.reads reader.old) (R.reads reader.new) }
     ensures write { IfErr result (λ f. WriteFails f (W.failures writer.old) (W.failures writer.new)) }
-    ensures none_failed { OnOk result (Counts 0 (R.failures reader.old) (R.failures reader.new) × Counts 0 (W.failures writer.old) (W.failures writer.new)) }
+    ensures none_failed { OnOk result (Counts 0 (R.failures reader.old) (R.failures reader.new)
+        × Counts 0 (W.failures writer.old) (W.failures writer.new)) }
 {
     let mut records = RecordReader::start(alloc, limit);
     let mut outbox = Outbox::new();

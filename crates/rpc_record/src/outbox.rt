@@ -18,7 +18,7 @@ pub struct Outbox {
 }
 
 impl Outbox {
-    ghost use Rattle.rpc_record.specs.Sending.{Sends, SendingCut};
+    ghost use Rattle.rpc_record.specs.Private.Sending.{Sends, SendingCut};
 
     /// An outbox that nothing was handed to.
     pub fn new() -> Self

@@ -1,6 +1,6 @@
 //! A reader of records, in any pieces.
 ghost use Rattle.std.specs.Prelude.{◌+◌, ◌≤◌, vec_len};
-ghost use Rattle.rpc_record.specs.Reading.{left_of};
+ghost use Rattle.rpc_record.specs.Fields.{left_of};
 
 use super::fault::{RecordFault, RecordStep};
 use super::place::{Begun, Fragment, Place};
@@ -23,10 +23,12 @@ pub struct RecordReader {
 
 impl RecordReader {
     ghost use Rattle.std.specs.Prelude.{◌≡◌, ◌<◌, ◌++◌, ◌↔◌, ℕ, List, [], ◌∷◌, length, take, IsTrue};
-    ghost use Rattle.rpc_record.specs.Stands.{Stands, IsTaking, IsWaiting, IsBroken, limit_of};
-    ghost use Rattle.rpc_record.specs.Stands.{Takes, Feeds, Tells, Stays, Hands, Ends, Concludes, Refuses, IsFed, IsStepped};
+    ghost use Rattle.rpc_record.specs.Stands.{Stands, Always, IsTaking, IsWaiting, IsBroken, limit_of};
+    ghost use Rattle.rpc_record.specs.Stands.{Takes, Feeds, Tells, Stays, Hands, Ends, Concludes};
+    ghost use Rattle.rpc_record.specs.Private.Steps.{Refuses, IsFed, IsStepped};
     ghost use Rattle.rpc_record.specs.Marked.{Longest};
-    ghost use Rattle.rpc_record.specs.Reading.{InHeader, TooLongAt, IsWhole, Begins, Faulty, HasNoLong, begun_bytes, capped};
+    ghost use Rattle.rpc_record.specs.Fields.{InHeader, begun_bytes};
+    ghost use Rattle.rpc_record.specs.Reading.{TooLongAt, IsWhole, Begins, Faulty, HasNoLong, capped};
     ghost use Rattle.rpc_record.specs.declared.place.Place.TheVariants as place;
 
     /// A reader of records of at most `limit` bytes, before the first byte.
@@ -178,17 +180,16 @@ impl RecordReader {
     /// limit, and so are they with the one that waits. While bytes are taken no header has passed the limit. After
     /// `TooLong` a header did, at that place, where the longest such front ends.
     pub fn records_are_longest(&self)
-        ensures not_long { IsTaking self.now → (bytes : List ℕ) (rs others : List (List ℕ)) (at : ℕ) → Stands self.now bytes rs
-            → TooLongAt (limit_of self.now) others at bytes → ⊥ }
-        ensures taking { IsTaking self.now → (bytes : List ℕ) (rs : List (List ℕ)) → Stands self.now bytes rs → Longest (limit_of self.now) rs bytes }
-        ensures waiting { IsWaiting self.now → (bytes : List ℕ) (rs : List (List ℕ)) → Stands self.now bytes rs
-            → (r : List ℕ) × Longest (limit_of self.now) (rs ++ r ∷ []) bytes }
-        ensures begins { IsTaking self.now → (bytes : List ℕ) (rs : List (List ℕ)) → Stands self.now bytes rs → Begins (limit_of self.now) rs bytes }
-        ensures whole { IsWaiting self.now → (bytes : List ℕ) (rs : List (List ℕ)) → Stands self.now bytes rs
-            → (r : List ℕ) × (IsWhole (limit_of self.now) (rs ++ r ∷ []) bytes × HasNoLong (limit_of self.now) bytes) }
-        ensures faulty { (f : RecordFault) → IsBroken self.now f → (bytes : List ℕ) (rs : List (List ℕ)) → Stands self.now bytes rs
-            → Faulty (limit_of self.now) rs f bytes }
-        ensures long { (at : ℕ) → IsBroken self.now (RecordFault.TooLong at) → (bytes : List ℕ) (rs : List (List ℕ)) → Stands self.now bytes rs
-            → TooLongAt (limit_of self.now) rs at bytes × Longest (limit_of self.now) rs bytes }
+        ensures not_long { IsTaking self.now → Always self.now (λ rs bytes. HasNoLong (limit_of self.now) bytes) }
+        ensures taking { IsTaking self.now → Always self.now (λ rs bytes. Longest (limit_of self.now) rs bytes) }
+        ensures begins { IsTaking self.now → Always self.now (λ rs bytes. Begins (limit_of self.now) rs bytes) }
+        ensures waiting { IsWaiting self.now
+            → Always self.now (λ rs bytes. (r : List ℕ) × Longest (limit_of self.now) (rs ++ r ∷ []) bytes) }
+        ensures whole { IsWaiting self.now → Always self.now (λ rs bytes.
+            (r : List ℕ) × (IsWhole (limit_of self.now) (rs ++ r ∷ []) bytes × HasNoLong (limit_of self.now) bytes)) }
+        ensures faulty { (f : RecordFault) → IsBroken self.now f
+            → Always self.now (λ rs bytes. Faulty (limit_of self.now) rs f bytes) }
+        ensures long { (at : ℕ) → IsBroken self.now (RecordFault.TooLong at)
+            → Always self.now (λ rs bytes. TooLongAt (limit_of self.now) rs at bytes × Longest (limit_of self.now) rs bytes) }
     {}
 }

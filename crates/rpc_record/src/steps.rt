@@ -1,7 +1,9 @@
 //! From one place to the next.
 ghost use Rattle.std.specs.Prelude.{◌≡◌, ◌+◌, ◌^◌, ◌<◌, ◌≤◌, List, ℕ, [], ◌∷◌, ◌++◌, length};
 ghost use Rattle.rpc_record.specs.Marked.{header, fragment};
-ghost use Rattle.rpc_record.specs.Reading.{Upto, InHeader, InContent, StandsAt, IsSteppedAt, begun_bytes, capped, left_of};
+ghost use Rattle.rpc_record.specs.Reading.{Upto, capped};
+ghost use Rattle.rpc_record.specs.Fields.{InHeader, InContent, StandsAt, begun_bytes, left_of};
+ghost use Rattle.rpc_record.specs.Private.Steps.{IsSteppedAt};
 
 use super::fault::RecordFault;
 use super::header::{Heading, heading_of};

@@ -20,9 +20,11 @@ SameSource old new = (new.piece ≡ old.piece) × (new.failing ≡ old.failing)
 abbrev pub IsFull : MemorySink → Type 0
 IsFull sink = sink.used ≡ length sink.room.now
 
--- A write fails exactly where it is the one that fails or the slice is full, and else takes a whole piece while it has room.
+-- A write fails exactly where it is the one that fails or the slice is full, and else takes a whole piece while it has
+-- room.
 abbrev pub Takes : {E : Type 0} → MemorySink → Result ℕ E → List ℕ → Type 0
-Takes old (Ok n) piece = (IsDue old.failing old.writes → ⊥) × (IsFull old → ⊥) × (n ≡ min (min (length piece) old.piece) (length old.room.now - old.used))
+Takes old (Ok n) piece = (IsDue old.failing old.writes → ⊥) × (IsFull old → ⊥)
+    × (n ≡ min (min (length piece) old.piece) (length old.room.now - old.used))
 Takes old (Err e) piece = IsDue old.failing old.writes ⊎ IsFull old
 
 -- the room, the pieces and the call that fails stay

@@ -1,5 +1,6 @@
 -- What reads and writes do to the bytes and the counts that a source or a sink tells.
-use Rattle.std.specs.Prelude.{◌≡◌, ℕ, ◌+◌, ◌-◌, ◌^◌, ◌≤◌, ◌==◌, ◌&&◌, nat_lt, List, length, take, ⊤, None, Some, Ok, Err, Option, Result, MatchResult, if◌then◌else◌}
+use Rattle.std.specs.Prelude.{◌≡◌, ℕ, ◌+◌, ◌-◌, ◌^◌, ◌≤◌, ◌==◌, ◌&&◌, nat_lt, List, length, take, ⊤, None, Some, Ok}
+use Rattle.std.specs.Prelude.{Err, Option, Result, MatchResult, if◌then◌else◌}
 use Rattle.std.specs.Io.KnownBytes.{Keeps, Appends, Consumes, IsAtEnd}
 
 -- a count, which is told up to 2^64 - 2
@@ -27,7 +28,8 @@ pub record MovesAtMost (most : ℕ) (old new : Option (List ℕ)) : Type 0 where
 
 -- Ok(n) moves the next n bytes to the front of the array, 0 only where none is left. An Err moves none.
 abbrev pub ReadMoves : {E : Type 0} → Option (List ℕ) → Option (List ℕ) → Result ℕ E → List ℕ → Type 0
-ReadMoves old new r array = MatchResult r (λ n. Consumes old new (take n array) × (n ≡ 0 → IsAtEnd new)) (λ _. Keeps old new)
+ReadMoves old new r array = MatchResult r (λ n. Consumes old new (take n array) × (n ≡ 0 → IsAtEnd new))
+    (λ _. Keeps old new)
 
 -- an Err is a failed read
 abbrev pub read_failures : {E : Type 0} → Result ℕ E → ℕ

@@ -1,5 +1,5 @@
 //! All of a source, in a bounded number of reads.
-ghost use Rattle.std.specs.Prelude.{◌≡◌, ◌≢◌, ◌+◌, ◌≤◌, vec_len, IfOk, IfErr, OnOk, IsErrOf};
+ghost use Rattle.std.specs.Prelude.{◌≡◌, ◌≢◌, ◌+◌, ◌≤◌, ◌++◌, take, vec_len, IfOk, IfErr, OnOk, IsErrOf};
 ghost use Rattle.std.specs.Io.KnownBytes.{Consumes, IsAtEnd};
 ghost use Rattle.xdr_io.specs.Told.{Counts, CountsAtMost, MovesAtMost};
 ghost use Rattle.xdr_io.specs.declared.input.InputFault.TheVariants.{Read, NoMemory};
@@ -41,10 +41,34 @@ impl From<AllocError> for InputFault {
     }
 }
 
+/// Reads once more, behind the bytes that are there, and says how many bytes came.
+fn read_more<R: Source>(
+    source: &mut R,
+    bytes: &mut Vec<u8>,
+    array: &mut [u8; 4096],
+) -> Result<usize, InputFault>
+    ensures bound { IfOk result (λ n. n ≤ 4096) }
+    ensures read { IfOk result (λ n. Consumes (R.left source.old) (R.left source.new) (take n array.new)) }
+    ensures end { IfOk result (λ n. n ≡ 0 → IsAtEnd (R.left source.new)) }
+    ensures added { IfOk result (λ n. bytes.new.items ≡ bytes.old.items ++ take n array.new) }
+    ensures moved { MovesAtMost 4096 (R.left source.old) (R.left source.new) }
+    ensures count { Counts 1 (R.reads source.old) (R.reads source.new) }
+    ensures none_failed { OnOk result (Counts 0 (R.failures source.old) (R.failures source.new)) }
+    ensures failed { IfErr result (λ f.
+        f ≡ InputFault.Read → Counts 1 (R.failures source.old) (R.failures source.new)) }
+    ensures unfailed { IfErr result (λ f.
+        f ≢ InputFault.Read → Counts 0 (R.failures source.old) (R.failures source.new)) }
+    ensures few { IfErr result (λ f. f ≢ InputFault.TooManyReads) }
+{
+    let n = source.read(array)?;
+    bytes.extend_from_slice(&array[..n])?;
+    Ok(n)
+}
+
 /// Reads until the source ends or more than `enough` bytes are there, in at most 1048576 reads. So an answer of at
 /// most `enough` bytes is all that the source had left, and one of more is its front. After a fault some of the
 /// source's bytes were read, and are dropped. `TooManyReads` comes only where the source has not ended by the last
-/// read, with 1048576 bytes or more, and `Read` only where the last read failed.
+/// read, with 1048576 bytes or more, and `Read` only where the last read failed: after any other answer none did.
 pub fn read_past<R: Source>(
     alloc: Global,
     source: &mut R,
@@ -56,7 +80,8 @@ pub fn read_past<R: Source>(
     ensures moved { MovesAtMost (enough + 4096) (R.left source.old) (R.left source.new) }
     ensures none_failed { OnOk result (Counts 0 (R.failures source.old) (R.failures source.new)) }
     ensures failed { IsErrOf result InputFault.Read → Counts 1 (R.failures source.old) (R.failures source.new) }
-    ensures unfailed { IfErr result (λ f. f ≢ InputFault.Read → Counts 0 (R.failures source.old) (R.failures source.new)) }
+    ensures unfailed { IfErr result (λ f.
+        f ≢ InputFault.Read → Counts 0 (R.failures source.old) (R.failures source.new)) }
     ensures reads { CountsAtMost 1048576 (R.reads source.old) (R.reads source.new) }
     ensures many { IsErrOf result InputFault.TooManyReads → Counts 1048576 (R.reads source.old) (R.reads source.new) }
     ensures plenty { IsErrOf result InputFault.TooManyReads → 1048576 ≤ enough }
@@ -64,11 +89,13 @@ pub fn read_past<R: Source>(
     let mut bytes = Vec::new(alloc);
     let mut array = [0u8; 4096];
     for _turn in 0..MOST_READS {
-        let n = source.read(&mut array)?;
+        let n = match read_more(source, &mut bytes, &mut array) {
+            Ok(n) => n,
+            Err(fault) => return Err(fault),
+        };
         if n == 0 {
             return Ok(bytes);
         }
-        bytes.extend_from_slice(&array[..n])?;
         if bytes.len() > enough {
             return Ok(bytes);
         }

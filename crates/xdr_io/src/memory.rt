@@ -126,9 +126,11 @@ impl<'a> Sink for MemorySink<'a> {
 
     fn write(&mut self, piece: &[u8]) -> Result<usize, SinkFault>
         ensures bound { IfOk result (λ n. n ≤ length piece.now) }
-        ensures bytes { WriteMoves (Some (take self.old.used self.old.room.now)) (Some (take self.new.used self.new.room.now)) result piece.now }
+        ensures bytes { WriteMoves (Some (take self.old.used self.old.room.now))
+            (Some (take self.new.used self.new.room.now)) result piece.now }
         ensures count { Counts 1 (told_count self.old.writes) (told_count self.new.writes) }
-        ensures failed { Counts (write_failures result piece.now) (told_count self.old.failures) (told_count self.new.failures) }
+        ensures failed { Counts (write_failures result piece.now)
+            (told_count self.old.failures) (told_count self.new.failures) }
         ensures takes { Takes self.old result piece.now }
         ensures same { SameSink self.old self.new }
     {

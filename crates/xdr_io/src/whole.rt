@@ -17,7 +17,8 @@ pub struct Cut {
 /// failed, the last that was made.
 pub fn write_whole<W: Sink>(sink: &mut W, bytes: &[u8]) -> Result<(), Cut>
     ensures ok { OnOk result (Appends (W.taken sink.old) (W.taken sink.new) bytes.now) }
-    ensures cut { IfErr result (λ e. (e.written < length bytes.now) × Appends (W.taken sink.old) (W.taken sink.new) (take e.written bytes.now)) }
+    ensures cut { IfErr result (λ e. (e.written < length bytes.now)
+        × Appends (W.taken sink.old) (W.taken sink.new) (take e.written bytes.now)) }
     ensures none_failed { OnOk result (Counts 0 (W.failures sink.old) (W.failures sink.new)) }
     ensures one_failed { OnErr result (Counts 1 (W.failures sink.old) (W.failures sink.new)) }
 {

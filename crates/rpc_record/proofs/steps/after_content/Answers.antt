@@ -4,7 +4,8 @@ use Rattle.rpc_record.proofs.Places.{StandsAt-same, content_whole, InContent-mor
 use Rattle.rpc_record.proofs.steps.after_content.Goals as goal
 
 pub returns-then-left-gt0-clause-stands : goal.returns-then-left-gt0-clause-stands
-returns-then-left-gt0-clause-stands c limit rs content bytes more e i t = (InContent-more _ _ _ _ _ _ _ _ e c.requires i, t)
+returns-then-left-gt0-clause-stands c limit rs content bytes more e i t =
+    (InContent-more _ _ _ _ _ _ _ _ e c.requires i, t)
 
 pub returns-else-left-gt0-clause-stands : goal.returns-else-left-gt0-clause-stands
 returns-else-left-gt0-clause-stands c limit rs content bytes more e i t =
@@ -14,5 +15,13 @@ returns-else-left-gt0-clause-stands c limit rs content bytes more e i t =
     let len = length-append i.part more in
     let len_content = length-append content more in
     let counted : length (i.part ++ more) < 2 ^ 31 = omega (arith, len, whole, i.counted) in
-    let fits : length (i.first ++ (i.part ++ more)) ≤ limit = omega (arith, ap length joined, len_content, whole, i.fits) in
-    StandsAt-same limit c.args.taken _ rs _ _ _ _ joined same (c.after_fragment.ensures.stands limit rs i.first (i.part ++ more) i.before i.upto counted fits (t ∙ ap (λ b. capped (length b)) (sym same)))
+    let fits : length (i.first ++ (i.part ++ more)) ≤ limit = omega (
+      arith,
+      ap length joined,
+      len_content,
+      whole,
+      i.fits,
+    ) in
+    StandsAt-same limit c.args.taken _ rs _ _ _ _ joined same
+    (c.after_fragment.ensures.stands limit rs i.first (i.part ++ more) i.before i.upto counted fits
+    (t ∙ ap (λ b. capped (length b)) (sym same)))

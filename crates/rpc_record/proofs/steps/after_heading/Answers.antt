@@ -22,6 +22,9 @@ returns-then-heading-room-clause-stands c limit rs content before room u at t = 
 pub returns-else-heading-gt0-clause-stands : goal.returns-else-heading-gt0-clause-stands
 returns-else-heading-gt0-clause-stands c limit rs content before room u at t =
     let none : 0 ≡ c.args.heading.count = omega arith in
-    let same = ap (λ b. before ++ b) (append-nil (header c.args.heading.last 0) ∙ ap (header c.args.heading.last) none) in
+    let same = ap (λ b. before ++ b) (append-nil (header c.args.heading.last 0)
+    ∙ ap (header c.args.heading.last) none) in
     let fits : length (content ++ []) ≤ limit = omega (arith, ap length (append-nil content), u.fits) in
-    StandsAt-same limit c.args.taken _ rs _ _ _ _ (append-nil content) same (c.after_fragment.ensures.stands limit rs content [] before u (omega arith) fits (t ∙ ap (λ b. capped (length b)) (sym same)))
+    StandsAt-same limit c.args.taken _ rs _ _ _ _ (append-nil content) same
+    (c.after_fragment.ensures.stands limit rs content [] before u (omega arith) fits
+    (t ∙ ap (λ b. capped (length b)) (sym same)))

@@ -1,5 +1,5 @@
 use Rattle.std.proofs.Common.{refl, inr, rules}
-use Rattle.rpc_record.specs.Reading.{IsInsideAt}
+use Rattle.rpc_record.proofs.Places.{IsInsideAt}
 use Rattle.rpc_record.specs.Stands.{IsTaking}
 use Rattle.rpc_record.proofs.Places.{IsInside-at}
 use Rattle.rpc_record.proofs.Readers.{CutAt-end}
@@ -12,7 +12,8 @@ returns-in-Header-clause-ends c =
     let inside : IsInsideAt self.place = search rules in
     let taking : IsTaking self = search rules in (
       refl,
-      λ bytes rs h. let i = IsInside-at self.limit self.taken self.place self.content.items bytes rs inside h in CutAt-end self.limit self.taken rs bytes i.0 i.1,
+      λ bytes rs h. let i = IsInside-at self.limit self.taken self.place self.content.items bytes rs inside h in
+          CutAt-end self.limit self.taken rs bytes i.0 i.1,
       inr (taking, λ bytes rs h. IsInside-at self.limit self.taken self.place self.content.items bytes rs inside h),
     )
 
@@ -20,4 +21,5 @@ pub returns-in-Header-clause-concludes : goal.returns-in-Header-clause-concludes
 returns-in-Header-clause-concludes c =
     let self = c.args.self.now in
     let inside : IsInsideAt self.place = search rules in
-    Concludes-inside self (λ bytes rs h. IsInside-at self.limit self.taken self.place self.content.items bytes rs inside h)
+    Concludes-inside self
+    (λ bytes rs h. IsInside-at self.limit self.taken self.place self.content.items bytes rs inside h)

@@ -13,8 +13,11 @@ loop-used-preserved c =
     record {
       within = omega (arith, c.advance-used.ensures.within, length_rest c.loop-used.used c.args.piece.now);
       limit = c.advance-used.ensures.limit ∙ c.loop-used.invariant.limit;
-      takes = Takes-piece c.args.self.now c.loop-used.self c.advance-used.new.self c.loop-used.used c.advance-used.result c.args.piece.now c.loop-used.invariant.takes c.advance-used.ensures.takes;
-      refuses = Refuses-piece c.args.self.now c.loop-used.self c.advance-used.new.self c.loop-used.used c.advance-used.result c.args.piece.now c.loop-used.invariant.limit taking c.loop-used.invariant.takes c.advance-used.ensures.refuses;
+      takes = Takes-piece c.args.self.now c.loop-used.self c.advance-used.new.self c.loop-used.used
+          c.advance-used.result c.args.piece.now c.loop-used.invariant.takes c.advance-used.ensures.takes;
+      refuses = Refuses-piece c.args.self.now c.loop-used.self c.advance-used.new.self c.loop-used.used
+          c.advance-used.result c.args.piece.now c.loop-used.invariant.limit taking c.loop-used.invariant.takes
+          c.advance-used.ensures.refuses;
       fed = λ _. c.advance-used.ensures.fed taking;
       idle = λ n. absurd (n (subst IsTaking (c.loop-used.invariant.begun (c.loop-used.invariant.idle n)) taking));
       begun = λ e. absurd (omega arith);
@@ -23,16 +26,21 @@ loop-used-preserved c =
 pub returns-in-Broken-clause-feeds : goal.returns-in-Broken-clause-feeds
 returns-in-Broken-clause-feeds c = (
   rw c.in-Broken.is refl,
-  Takes-broken c.args.self.now c.loop-used.self c.in-Broken.fault c.loop-used.used c.args.piece.now c.in-Broken.is c.loop-used.invariant.takes,
+  Takes-broken c.args.self.now c.loop-used.self c.in-Broken.fault c.loop-used.used c.args.piece.now c.in-Broken.is
+      c.loop-used.invariant.takes,
   λ taking. rw c.in-Broken.is at (c.loop-used.invariant.fed taking),
 )
 
 pub returns-in-Broken-clause-tells : goal.returns-in-Broken-clause-tells
-returns-in-Broken-clause-tells c = Tells-broken c.args.self.now c.loop-used.self c.in-Broken.fault c.loop-used.used c.args.piece.now c.loop-used.invariant.limit (rw c.in-Broken.is refl)
-    (Takes-broken c.args.self.now c.loop-used.self c.in-Broken.fault c.loop-used.used c.args.piece.now c.in-Broken.is c.loop-used.invariant.takes) c.loop-used.invariant.refuses
+returns-in-Broken-clause-tells c =
+    Tells-broken c.args.self.now c.loop-used.self c.in-Broken.fault c.loop-used.used c.args.piece.now
+    c.loop-used.invariant.limit (rw c.in-Broken.is refl)
+    (Takes-broken c.args.self.now c.loop-used.self c.in-Broken.fault c.loop-used.used c.args.piece.now c.in-Broken.is
+    c.loop-used.invariant.takes) c.loop-used.invariant.refuses
 
 pub returns-in_default-clause-tells : goal.returns-in_default-clause-tells
 returns-in_default-clause-tells c =
     let taking : IsTaking c.loop-used.self = search rules in
-    let takes : Takes c.args.self.now c.loop-used.self c.args.piece.now = first_of (search rules, grind (arith, common_steps)) in
+    let takes : Takes c.args.self.now c.loop-used.self c.args.piece.now = first_of
+    (search rules, grind (arith, common_steps)) in
     Tells-more c.args.self.now c.loop-used.self c.args.piece.now c.loop-used.invariant.limit taking takes

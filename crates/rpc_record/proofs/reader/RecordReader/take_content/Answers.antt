@@ -1,6 +1,6 @@
 use Rattle.std.proofs.Common.{◌≡◌, ◌++◌, length, take, arith, rules, length-append}
 use Rattle.std.proofs.lemmas.List.{length-take-le}
-use Rattle.rpc_record.specs.Reading.{IsInsideAt}
+use Rattle.rpc_record.proofs.Places.{IsInsideAt}
 use Rattle.rpc_record.proofs.Places.{IsInside-at}
 use Rattle.rpc_record.proofs.Readers.{RefusedIn-now}
 use Rattle.rpc_record.proofs.reader.RecordReader.take_content.Goals as goal
@@ -13,7 +13,8 @@ returns-in-Err-clause-takes c bytes rs h =
     let inside : IsInsideAt self.place = search rules in
     let all : length (take (length piece) piece) ≡ length piece = length-take-le (length piece) piece (omega arith) in
     let more = take (length piece) piece in
-    RefusedIn-now self.limit (length (bytes ++ more)) rs bytes more (omega (arith, all, c.requires.some)) (omega (arith, length-append bytes more))
+    RefusedIn-now self.limit (length (bytes ++ more)) rs bytes more (omega (arith, all, c.requires.some))
+    (omega (arith, length-append bytes more))
     (IsInside-at self.limit self.taken self.place self.content.items bytes rs inside h).1
 
 pub returns-in-Err-clause-refuses : goal.returns-in-Err-clause-refuses

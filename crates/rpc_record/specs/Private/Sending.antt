@@ -10,15 +10,18 @@ use Rattle.rpc_record.specs.Reading.{capped}
 abbrev pub waiting : Outbox → List ℕ
 waiting box = take box.used box.room
 
--- These bytes were handed over, after those that waited. Some of all these went out in order and were counted, and the rest waits.
+-- These bytes were handed over, after those that waited. Some of all these went out in order and were counted, and the
+-- rest waits.
 pub record Sends (old new : Outbox) (taken taken' : Option (List ℕ)) (bytes : List ℕ) : Type 0 where
   pub out : List ℕ
   pub joined : waiting old ++ bytes ≡ out ++ waiting new
   pub wrote : Appends taken taken' out
   pub counted : (n : ℕ) → old.count.bytes ≡ capped n → new.count.bytes ≡ capped (n + length out)
 
--- A write failed while these bytes were handed over: only a front of what waited and of these bytes went out, and the fault says where it ends.
+-- A write failed while these bytes were handed over: only a front of what waited and of these bytes went out, and the
+-- fault says where it ends.
 abbrev pub SendingCut : Outbox → Option (List ℕ) → Option (List ℕ) → List ℕ → RecordFault → Type 0
 SendingCut old taken taken' bytes (fault.Write written) =
-    (w : ℕ) × ((w < length (waiting old ++ bytes)) × ((n : ℕ) → old.count.bytes ≡ capped n → written ≡ capped (n + w)) × Appends taken taken' (take w (waiting old ++ bytes)))
+    (w : ℕ) × ((w < length (waiting old ++ bytes)) × ((n : ℕ) → old.count.bytes ≡ capped n → written ≡ capped (n + w))
+    × Appends taken taken' (take w (waiting old ++ bytes)))
 SendingCut old taken taken' bytes _ = ⊥
