@@ -4,7 +4,7 @@ use Rattle.std.specs.Str.Parse.{AllDigits}
 use Rattle.std.proofs.lemmas.Bool.Decides.{Decides-eqb}
 use Rattle.std.proofs.lemmas.Fmt.{decimal_is_IsNumeral}
 use Rattle.std.proofs.lemmas.Str.Parse.{digit_from_value}
-use Rattle.oncrpc_names.specs.Names.{HasNoDot}
+use Rattle.xdr_units.specs.Texts.{HasNoDot}
 
 is_no_dot : (c : ℕ) → 48 ≤ c → nat_eq c 46 ≡ false
 is_no_dot c h = by (nat_eq c 46) refl

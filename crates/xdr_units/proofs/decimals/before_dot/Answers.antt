@@ -1,8 +1,8 @@
 use Rattle.std.proofs.Common.{◌≡◌, ◌+◌, ap, sym, ◌∙◌, arith, subst, take, ℕ, length, ◌∷◌, ◌++◌}
 use Rattle.std.proofs.lemmas.List.{take_rest}
-use Rattle.oncrpc_names.specs.Names.{HasNoDot}
-use Rattle.oncrpc_names.proofs.Cutting.{cut_at, no_dot_all}
-use Rattle.oncrpc_names.proofs.numbers.cut.Goals as goal
+use Rattle.xdr_units.specs.Texts.{HasNoDot}
+use Rattle.xdr_units.proofs.Cutting.{cut_at, no_dot_all}
+use Rattle.xdr_units.proofs.decimals.before_dot.Goals as goal
 
 pub returns-then-text-at-eq46 : goal.returns-then-text-at-eq46
 returns-then-text-at-eq46 c = (

@@ -1,12 +1,11 @@
 -- What is parsed as a number is it, where its decimal text is the text that was parsed.
-use Rattle.std.proofs.Common.{◌≡◌, ◌≢◌, ℕ, ◌<◌, ◌^◌, Bool, true, List, ap, sym, ◌∙◌, subst, arith, Option, Some, None, Result, Ok, Err, decimal, MatchResult, is_some, true≢false, codes}
+use Rattle.std.proofs.Common.{◌≡◌, ℕ, ◌<◌, ◌^◌, Bool, true, List, ap, sym, ◌∙◌, subst, arith, Option, Some, None, Result, Ok, Err, decimal, MatchResult, is_some, true≢false}
 use Rattle.std.specs.Result.{result_ok}
 use Rattle.std.specs.Bool.{then_some}
 use Rattle.std.specs.Str.{IsUtf8, bytes_eq}
-use Rattle.std.specs.Str.Parse.{ParsesUnsigned, AllDigits}
+use Rattle.std.specs.Str.Parse.{ParsesUnsigned}
 use Rattle.std.proofs.lemmas.Str.{IsUtf8-from_ascii}
-use Rattle.std.proofs.lemmas.Str.Parse.{digit_from_value}
-use Rattle.std.proofs.lemmas.Fmt.{IsAscii-decimal, parse-decimal, decimal_is_IsNumeral}
+use Rattle.std.proofs.lemmas.Fmt.{IsAscii-decimal, parse-decimal}
 use Rattle.std.proofs.lemmas.Slice.Eq.{bytes_eq-Decides}
 
 pub wide : (n : ℕ) → n < 2 ^ 32 → n < 2 ^ 64
@@ -46,7 +45,3 @@ number_parsed r digits text m b s p e d n small same =
     let k : m ≡ n = ap (the 0) (sym e ∙ ap result_ok (parse-decimal 32 n digits r small (wide n small) (s ∙ same) p)) in
     let t : b ≡ true = d ∙ (bytes_eq-Decides (decimal m) text).1 (ap decimal k ∙ sym same) in
     ap (λ c. then_some c m) t ∙ ap Some k
-
--- The word result is no number.
-pub result_is_no_number : (n : ℕ) → n < 2 ^ 32 → decimal n ≢ codes "result"
-result_is_no_number n h e = let k = digit_from_value 114 (subst (AllDigits 10) e (decimal_is_IsNumeral n (wide n h)).0.1).0 in omega (arith, k)

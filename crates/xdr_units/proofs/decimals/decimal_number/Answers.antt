@@ -1,7 +1,7 @@
 use Rattle.std.proofs.Common.{ap, sym, ◌∙◌}
 use Rattle.std.specs.Str.{bytes_eq}
-use Rattle.oncrpc_names.proofs.Parsed.{no_number_utf8, utf8_same, no_number_parsed, number_parsed}
-use Rattle.oncrpc_names.proofs.numbers.number.Goals as goal
+use Rattle.xdr_units.proofs.Parsed.{no_number_utf8, utf8_same, no_number_parsed, number_parsed}
+use Rattle.xdr_units.proofs.decimals.decimal_number.Goals as goal
 
 pub returns-in_err-ok-clause-only : goal.returns-in_err-ok-clause-only
 returns-in_err-ok-clause-only c = λ n small same.
