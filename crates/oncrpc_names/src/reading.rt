@@ -1,10 +1,11 @@
-// Names of parts of procedures, read from texts.
+//! Names of parts of procedures, read from texts.
 ghost use Rattle.std.specs.Prelude.{◌≡◌, Some, IfSome};
 ghost use Rattle.oncrpc_names.specs.declared.reading.Part.{Part as PlainPart};
 ghost use Rattle.oncrpc_names.specs.declared.reading.PartName.{PartName as PlainName};
 ghost use Rattle.oncrpc_names.specs.Names.{IsPart, IsPartName, part_text, name_text};
 
-use crate::numbers::{first_number, number};
+use crate::numbers::first_number;
+use xdr_units::decimal_number;
 
 /// A part of a procedure that has a kind.
 #[derive(Clone, Copy, Debug, PartialEq, Eq)]
@@ -50,7 +51,7 @@ fn part_of(text: &[u8]) -> Option<Part>
     ensures found { IfSome result (λ part. IsPart part × (text.now ≡ part_text part)) }
     ensures only { (part : PlainPart) → IsPart part → text.now ≡ part_text part → result ≡ Some part }
 {
-    match number(text) {
+    match decimal_number(text) {
         Some(place) => Some(Part::Argument(place)),
         None if text == b"result".as_slice() => Some(Part::Result),
         None => None,

@@ -5,35 +5,32 @@ use Rattle.std.proofs.lemmas.Bool.{eqb-true, eqb-false, ne_eqb, cond_both}
 use Rattle.std.proofs.lemmas.List.{length-append, drop_at}
 use Rattle.rpc_message.specs.declared.fault.ReplyFault.{ReplyFault}
 use Rattle.rpc_message.specs.declared.fault.ReplyFault.TheVariants.{NotAReply}
-use Rattle.rpc_message.specs.declared.fault.NoMemory.{NoMemory}
+use Rattle.xdr_units.specs.declared.memory.NoMemory.{NoMemory}
 use Rattle.rpc_message.specs.declared.message.CallRead.{CallRead}
+use Rattle.xdr_units.proofs.Bytes.{AreBytes-after, same_word}
 use Rattle.rpc_message.specs.View.{case_view}
 use Rattle.rpc_message.specs.Message.{AuthView, CallView, CaseView, Whole, OtherVersion, BadCred, BadVerf, NotACall}
-use Rattle.rpc_message.specs.Spelling.{AreBytes, num4, auth, IsWord, CallBytes}
+use Rattle.xdr_units.specs.Numbers.{AreBytes, word, IsWord}
+use Rattle.rpc_message.specs.Spelling.{auth, CallBytes}
 use Rattle.rpc_message.specs.Cases.{NoAuth, IsOtherVersion, IsBadCred, IsBadVerf, IsNoCall, IsCase}
 use Rattle.rpc_message.specs.Reading.{◌>>=◌, read_or, Head, Target, whole_case, verf_case, cred_case, version_case, word_at, auth_at, call_head_at, target_at, case_of}
-use Rattle.rpc_message.proofs.FieldLaws.{bind_ok, bind_err, guard_then, guard_fails, ok_is, ok_no_err, AreBytes-drop, word_takes, word_again, word_fails, auth_takes, auth_again}
+use Rattle.rpc_message.proofs.FieldLaws.{bind_ok, bind_err, guard_then, guard_fails, ok_is, ok_no_err, word_takes, word_again, word_fails, auth_takes, auth_again}
 
 read_or_cases : {A B : Type 0} (r : Result A ReplyFault) (other : B) (next : A → B) (P : B → Type 0) → ((e : ReplyFault) → r ≡ Err e → P other) → ((x : A) → r ≡ Ok x → P (next x)) → P (read_or r other next)
 read_or_cases (Ok x) other next P bad good = good x refl
 read_or_cases (Err e) other next P bad good = bad e refl
 
-AreBytes-after : (a b : List ℕ) → AreBytes (a ++ b) → AreBytes b
-AreBytes-after a b fits = subst AreBytes (drop_at a b (length a) refl) (AreBytes-drop (length a) (a ++ b) fits)
-
-second_is : (x y m n : ℕ) (a b : List ℕ) → IsWord x → IsWord y → IsWord m → IsWord n → num4 x ++ num4 m ++ a ≡ num4 y ++ num4 n ++ b → m ≡ n
+second_is : (x y m n : ℕ) (a b : List ℕ) → IsWord x → IsWord y → IsWord m → IsWord n → word x ++ word m ++ a ≡ word y ++ word n ++ b → m ≡ n
 second_is x y m n a b fx fy fm fn e =
-    let first : (x, num4 m ++ a) ≡ (y, num4 n ++ b) = ok_is (x, num4 m ++ a) (y, num4 n ++ b) (sym (word_again x (num4 m ++ a) fx) ∙ ap word_at e ∙ word_again y (num4 n ++ b) fy) in
-    let rest : num4 m ++ a ≡ num4 n ++ b = ap (λ (p : ℕ × List ℕ). p.1) first in
-    let second : (m, a) ≡ (n, b) = ok_is (m, a) (n, b) (sym (word_again m a fm) ∙ ap word_at rest ∙ word_again n b fn) in
-    ap (λ (p : ℕ × List ℕ). p.0) second
+    let behind = (same_word x y (word m ++ a) (word n ++ b) fx fy e).1 in
+    (same_word m n a b fm fn behind).0
 
 -- ---- the head
 
 record HasHead (bytes : List ℕ) (h : Head) : Type 0 where
   xid : IsWord h.0
   version : IsWord h.1
-  parts : bytes ≡ num4 h.0 ++ num4 0 ++ num4 h.1 ++ h.2
+  parts : bytes ≡ word h.0 ++ word 0 ++ word h.1 ++ h.2
   rest_fits : AreBytes h.2
 
 abbrev head_made : ℕ × List ℕ → ℕ × List ℕ → ℕ × List ℕ → Result Head ReplyFault
@@ -50,13 +47,13 @@ head_takes bytes h fits e =
     let t0 = word_takes bytes a.0 fits a.1 in
     let t1 = word_takes a.0.1 b.0 t0.0.rest_fits b.1 in
     let t2 = word_takes b.0.1 c.0 t1.0.rest_fits c.1 in
-    let parts : bytes ≡ num4 a.0.0 ++ (num4 0 ++ (num4 c.0.0 ++ c.0.1)) = t0.0.parts ∙ ap (λ (t : List ℕ). num4 a.0.0 ++ t) (t1.0.parts ∙ ap (λ (k : ℕ). num4 k ++ b.0.1) zero_is ∙ ap (λ (t : List ℕ). num4 0 ++ t) t2.0.parts) in
+    let parts : bytes ≡ word a.0.0 ++ (word 0 ++ (word c.0.0 ++ c.0.1)) = t0.0.parts ∙ ap (λ (t : List ℕ). word a.0.0 ++ t) (t1.0.parts ∙ ap (λ (k : ℕ). word k ++ b.0.1) zero_is ∙ ap (λ (t : List ℕ). word 0 ++ t) t2.0.parts) in
     let made : Head = (a.0.0, c.0.0, c.0.1) in
     subst (HasHead bytes) (ok_is made h g.1) (record { xid = t0.1; version = t2.1; parts = parts; rest_fits = t2.0.rest_fits })
 
-head_again : (xid version : ℕ) (rest : List ℕ) → IsWord xid → IsWord version → call_head_at (num4 xid ++ num4 0 ++ num4 version ++ rest) ≡ Ok (xid, version, rest)
+head_again : (xid version : ℕ) (rest : List ℕ) → IsWord xid → IsWord version → call_head_at (word xid ++ word 0 ++ word version ++ rest) ≡ Ok (xid, version, rest)
 unfolding call_head_at
-head_again xid version rest x v = rw (word_again xid (num4 0 ++ (num4 version ++ rest)) x, word_again 0 (num4 version ++ rest) (omega arith), word_again version rest v) refl
+head_again xid version rest x v = rw (word_again xid (word 0 ++ (word version ++ rest)) x, word_again 0 (word version ++ rest) (omega arith), word_again version rest v) refl
 
 head_fails : (bytes : List ℕ) (d : ReplyFault) → AreBytes bytes → call_head_at bytes ≡ Err d → IsNoCall bytes
 unfolding call_head_at
@@ -65,12 +62,12 @@ head_fails bytes d fits e =
       | inl h ↦ inl (omega (arith, (word_fails bytes d h).0))
       | inr a ↦
           let t0 = word_takes bytes a.0 fits a.1 in
-          let len0 : length bytes ≡ 4 + length a.0.1 = ap length t0.0.parts ∙ length-append (num4 a.0.0) a.0.1 in
+          let len0 : length bytes ≡ 4 + length a.0.1 = ap length t0.0.parts ∙ length-append (word a.0.0) a.0.1 in
           elim (bind_err (word_at a.0.1) (λ kind. word_at kind.1 >>= λ version. head_made a.0 kind version) d a.2) [
             | inl h ↦ inl (omega (arith, len0, (word_fails a.0.1 d h).0))
             | inr b ↦
                 let t1 = word_takes a.0.1 b.0 t0.0.rest_fits b.1 in
-                let len1 : length a.0.1 ≡ 4 + length b.0.1 = ap length t1.0.parts ∙ length-append (num4 b.0.0) b.0.1 in
+                let len1 : length a.0.1 ≡ 4 + length b.0.1 = ap length t1.0.parts ∙ length-append (word b.0.0) b.0.1 in
                 elim (bind_err (word_at b.0.1) (λ version. head_made a.0 b.0 version) d b.2) [
                   | inl h ↦ inl (omega (arith, len0, len1, (word_fails b.0.1 d h).0))
                   | inr c ↦ inr (inl (record {
@@ -79,7 +76,7 @@ head_fails bytes d fits e =
                     rest = b.0.1;
                     fits = (t0.1, t1.1);
                     other = eqb-false _ _ (guard_fails (eqb b.0.0 0) NotAReply (a.0.0, c.0.0, c.0.1) d c.2);
-                    parts = t0.0.parts ∙ ap (λ (t : List ℕ). num4 a.0.0 ++ t) t1.0.parts;
+                    parts = t0.0.parts ∙ ap (λ (t : List ℕ). word a.0.0 ++ t) t1.0.parts;
                   }))
                 ]
           ]
@@ -89,7 +86,7 @@ head_fails bytes d fits e =
 
 record HasTarget (bytes : List ℕ) (t : Target) : Type 0 where
   fits : IsWord t.0 × IsWord t.1 × IsWord t.2
-  parts : bytes ≡ num4 t.0 ++ num4 t.1 ++ num4 t.2 ++ t.3
+  parts : bytes ≡ word t.0 ++ word t.1 ++ word t.2 ++ t.3
   rest_fits : AreBytes t.3
 
 target_takes : (bytes : List ℕ) (t : Target) → AreBytes bytes → target_at bytes ≡ Ok t → HasTarget bytes t
@@ -101,13 +98,13 @@ target_takes bytes t fits e =
     let t0 = word_takes bytes a.0 fits a.1 in
     let t1 = word_takes a.0.1 b.0 t0.0.rest_fits b.1 in
     let t2 = word_takes b.0.1 c.0 t1.0.rest_fits c.1 in
-    let parts : bytes ≡ num4 a.0.0 ++ (num4 b.0.0 ++ (num4 c.0.0 ++ c.0.1)) = t0.0.parts ∙ ap (λ (t : List ℕ). num4 a.0.0 ++ t) (t1.0.parts ∙ ap (λ (t : List ℕ). num4 b.0.0 ++ t) t2.0.parts) in
+    let parts : bytes ≡ word a.0.0 ++ (word b.0.0 ++ (word c.0.0 ++ c.0.1)) = t0.0.parts ∙ ap (λ (t : List ℕ). word a.0.0 ++ t) (t1.0.parts ∙ ap (λ (t : List ℕ). word b.0.0 ++ t) t2.0.parts) in
     let made : Target = (a.0.0, b.0.0, c.0.0, c.0.1) in
     subst (HasTarget bytes) (ok_is made t c.2) (record { fits = (t0.1, t1.1, t2.1); parts = parts; rest_fits = t2.0.rest_fits })
 
-target_again : (prog vers proc : ℕ) (rest : List ℕ) → IsWord prog → IsWord vers → IsWord proc → target_at (num4 prog ++ num4 vers ++ num4 proc ++ rest) ≡ Ok (prog, vers, proc, rest)
+target_again : (prog vers proc : ℕ) (rest : List ℕ) → IsWord prog → IsWord vers → IsWord proc → target_at (word prog ++ word vers ++ word proc ++ rest) ≡ Ok (prog, vers, proc, rest)
 unfolding target_at
-target_again prog vers proc rest x y z = rw (word_again prog (num4 vers ++ (num4 proc ++ rest)) x, word_again vers (num4 proc ++ rest) y, word_again proc rest z) refl
+target_again prog vers proc rest x y z = rw (word_again prog (word vers ++ (word proc ++ rest)) x, word_again vers (word proc ++ rest) y, word_again proc rest z) refl
 
 target_fails : (bytes : List ℕ) (d : ReplyFault) → AreBytes bytes → target_at bytes ≡ Err d → length bytes < 12
 unfolding target_at
@@ -116,12 +113,12 @@ target_fails bytes d fits e =
       | inl h ↦ omega (arith, (word_fails bytes d h).0)
       | inr a ↦
           let t0 = word_takes bytes a.0 fits a.1 in
-          let len0 : length bytes ≡ 4 + length a.0.1 = ap length t0.0.parts ∙ length-append (num4 a.0.0) a.0.1 in
+          let len0 : length bytes ≡ 4 + length a.0.1 = ap length t0.0.parts ∙ length-append (word a.0.0) a.0.1 in
           elim (bind_err (word_at a.0.1) (λ vers. word_at vers.1 >>= λ proc. Ok (a.0.0, vers.0, proc.0, proc.1)) d a.2) [
             | inl h ↦ omega (arith, len0, (word_fails a.0.1 d h).0)
             | inr b ↦
                 let t1 = word_takes a.0.1 b.0 t0.0.rest_fits b.1 in
-                let len1 : length a.0.1 ≡ 4 + length b.0.1 = ap length t1.0.parts ∙ length-append (num4 b.0.0) b.0.1 in
+                let len1 : length a.0.1 ≡ 4 + length b.0.1 = ap length t1.0.parts ∙ length-append (word b.0.0) b.0.1 in
                 elim (bind_err (word_at b.0.1) (λ proc. Ok (a.0.0, b.0.0, proc.0, proc.1)) d b.2) [
                   | inl h ↦ omega (arith, len0, len1, (word_fails b.0.1 d h).0)
                   | inr c ↦ absurd (ok_no_err (a.0.0, b.0.0, c.0.0, c.0.1) d c.2)
@@ -134,21 +131,21 @@ target_fails bytes d fits e =
 no_auth : (bytes : List ℕ) (d : ReplyFault) → auth_at bytes ≡ Err d → NoAuth bytes
 no_auth bytes d e = λ a rest fits parts. ok_no_err (a, rest) d (sym (ap auth_at parts ∙ auth_again a rest fits) ∙ e)
 
-front_is : (bytes : List ℕ) (h : Head) (t : Target) → h.1 ≡ 2 → HasHead bytes h → HasTarget h.2 t → bytes ≡ num4 h.0 ++ num4 0 ++ num4 2 ++ num4 t.0 ++ num4 t.1 ++ num4 t.2 ++ t.3
-front_is bytes h t two head target = head.parts ∙ ap (λ (v : ℕ). num4 h.0 ++ (num4 0 ++ (num4 v ++ h.2))) two ∙ ap (λ (x : List ℕ). num4 h.0 ++ (num4 0 ++ (num4 2 ++ x))) target.parts
+front_is : (bytes : List ℕ) (h : Head) (t : Target) → h.1 ≡ 2 → HasHead bytes h → HasTarget h.2 t → bytes ≡ word h.0 ++ word 0 ++ word 2 ++ word t.0 ++ word t.1 ++ word t.2 ++ t.3
+front_is bytes h t two head target = head.parts ∙ ap (λ (v : ℕ). word h.0 ++ (word 0 ++ (word v ++ h.2))) two ∙ ap (λ (x : List ℕ). word h.0 ++ (word 0 ++ (word 2 ++ x))) target.parts
 
 verf_found : (bytes : List ℕ) (h : Head) (t : Target) (cred : AuthView × List ℕ) → h.1 ≡ 2 → HasHead bytes h → HasTarget h.2 t → auth_at t.3 ≡ Ok cred → IsCase bytes (verf_case h t cred)
 verf_found bytes h t cred two head target e =
     let front = front_is bytes h t two head target in
     let a = auth_takes t.3 cred target.rest_fits e in
-    let parts = front ∙ ap (λ (x : List ℕ). num4 h.0 ++ (num4 0 ++ (num4 2 ++ (num4 t.0 ++ (num4 t.1 ++ (num4 t.2 ++ x)))))) a.0.parts in
+    let parts = front ∙ ap (λ (x : List ℕ). word h.0 ++ (word 0 ++ (word 2 ++ (word t.0 ++ (word t.1 ++ (word t.2 ++ x)))))) a.0.parts in
     read_or_cases (auth_at cred.1) (BadVerf h.0) (whole_case h t cred) (IsCase bytes)
     (λ d bad. record { prog = t.0; vers = t.1; proc = t.2; cred = cred.0; rest = cred.1; fits = (head.xid, target.fits.0, target.fits.1, target.fits.2); cred_fits = a.1; parts = parts; bad = no_auth cred.1 d bad })
     (λ verf good.
     let v = auth_takes cred.1 verf a.0.rest_fits good in
     record {
       fits = record { xid = head.xid; prog = target.fits.0; vers = target.fits.1; proc = target.fits.2; cred = a.1; verf = v.1 };
-      parts = parts ∙ ap (λ (x : List ℕ). num4 h.0 ++ (num4 0 ++ (num4 2 ++ (num4 t.0 ++ (num4 t.1 ++ (num4 t.2 ++ (auth cred.0 ++ x))))))) v.0.parts;
+      parts = parts ∙ ap (λ (x : List ℕ). word h.0 ++ (word 0 ++ (word 2 ++ (word t.0 ++ (word t.1 ++ (word t.2 ++ (auth cred.0 ++ x))))))) v.0.parts;
     })
 
 version_found : (bytes : List ℕ) (h : Head) → HasHead bytes h → IsCase bytes (version_case h)
@@ -158,8 +155,8 @@ version_found bytes h head =
     let two = eqb-true _ _ yes in
     read_or_cases (target_at h.2) NotACall (cred_case h) (IsCase bytes)
     (λ d bad.
-    let parts : bytes ≡ num4 h.0 ++ (num4 0 ++ (num4 2 ++ h.2)) = head.parts ∙ ap (λ (v : ℕ). num4 h.0 ++ (num4 0 ++ (num4 v ++ h.2))) two in
-    let len : length bytes ≡ 12 + length h.2 = ap length parts ∙ length-append (num4 h.0 ++ (num4 0 ++ num4 2)) h.2 in
+    let parts : bytes ≡ word h.0 ++ (word 0 ++ (word 2 ++ h.2)) = head.parts ∙ ap (λ (v : ℕ). word h.0 ++ (word 0 ++ (word v ++ h.2))) two in
+    let len : length bytes ≡ 12 + length h.2 = ap length parts ∙ length-append (word h.0 ++ (word 0 ++ word 2)) h.2 in
     inr (inr (record { xid = h.0; rest = h.2; fits = head.xid; parts = parts; short = omega (arith, len, target_fails h.2 d head.rest_fits bad) })))
     (λ t good.
     let target = target_takes h.2 t head.rest_fits good in
@@ -181,7 +178,7 @@ whole_again c bytes e =
     let f = e.fits in
     let after_cred = auth c.verf ++ c.args in
     let after_target = auth c.cred ++ after_cred in
-    let after_head = num4 c.prog ++ (num4 c.vers ++ (num4 c.proc ++ after_target)) in
+    let after_head = word c.prog ++ (word c.vers ++ (word c.proc ++ after_target)) in
     ap case_of e.parts ∙ rw (head_again c.xid 2 after_head f.xid (omega arith), target_again c.prog c.vers c.proc after_target f.prog f.vers f.proc, auth_again c.cred after_cred f.cred, auth_again c.verf c.args f.verf) refl
 
 other_again : (xid version : ℕ) (bytes : List ℕ) → IsOtherVersion xid version bytes → case_of bytes ≡ OtherVersion xid version
@@ -198,8 +195,8 @@ none_read bytes other next fits none =
 cred_again : (xid : ℕ) (bytes : List ℕ) → AreBytes bytes → IsBadCred xid bytes → case_of bytes ≡ BadCred xid
 unfolding case_of
 cred_again xid bytes fits e =
-    let front = num4 xid ++ (num4 0 ++ (num4 2 ++ (num4 e.prog ++ (num4 e.vers ++ num4 e.proc)))) in
-    let after_head = num4 e.prog ++ (num4 e.vers ++ (num4 e.proc ++ e.rest)) in
+    let front = word xid ++ (word 0 ++ (word 2 ++ (word e.prog ++ (word e.vers ++ word e.proc)))) in
+    let after_head = word e.prog ++ (word e.vers ++ (word e.proc ++ e.rest)) in
     let rest_fits = AreBytes-after front e.rest (subst AreBytes e.parts fits) in
     let h : Head = (xid, 2, after_head) in
     let t : Target = (e.prog, e.vers, e.proc, e.rest) in
@@ -208,9 +205,9 @@ cred_again xid bytes fits e =
 verf_again : (xid : ℕ) (bytes : List ℕ) → AreBytes bytes → IsBadVerf xid bytes → case_of bytes ≡ BadVerf xid
 unfolding case_of
 verf_again xid bytes fits e =
-    let front = num4 xid ++ (num4 0 ++ (num4 2 ++ (num4 e.prog ++ (num4 e.vers ++ num4 e.proc)))) in
+    let front = word xid ++ (word 0 ++ (word 2 ++ (word e.prog ++ (word e.vers ++ word e.proc)))) in
     let after_target = auth e.cred ++ e.rest in
-    let after_head = num4 e.prog ++ (num4 e.vers ++ (num4 e.proc ++ after_target)) in
+    let after_head = word e.prog ++ (word e.vers ++ (word e.proc ++ after_target)) in
     let rest_fits = AreBytes-after (auth e.cred) e.rest (AreBytes-after front after_target (subst AreBytes e.parts fits)) in
     let h : Head = (xid, 2, after_head) in
     let t : Target = (e.prog, e.vers, e.proc, after_target) in
@@ -222,21 +219,21 @@ none_again bytes fits (inl short) =
     read_or_cases (call_head_at bytes) NotACall version_case (λ k. k ≡ NotACall) (λ d bad. refl)
     (λ h good.
     let head = head_takes bytes h fits good in
-    let len : length bytes ≡ 12 + length h.2 = ap length head.parts ∙ length-append (num4 h.0 ++ (num4 0 ++ num4 h.1)) h.2 in
+    let len : length bytes ≡ 12 + length h.2 = ap length head.parts ∙ length-append (word h.0 ++ (word 0 ++ word h.1)) h.2 in
     absurd (omega (arith, short, len)))
 none_again bytes fits (inr (inl e)) =
     read_or_cases (call_head_at bytes) NotACall version_case (λ k. k ≡ NotACall) (λ d bad. refl)
     (λ h good.
     let head = head_takes bytes h fits good in
-    absurd (e.other (second_is e.xid h.0 e.kind 0 e.rest (num4 h.1 ++ h.2) e.fits.0 head.xid e.fits.1 (omega arith) (sym e.parts ∙ head.parts))))
+    absurd (e.other (second_is e.xid h.0 e.kind 0 e.rest (word h.1 ++ h.2) e.fits.0 head.xid e.fits.1 (omega arith) (sym e.parts ∙ head.parts))))
 none_again bytes fits (inr (inr e)) =
     ap case_of e.parts ∙ rw (head_again e.xid 2 e.rest e.fits (omega arith))
     (read_or_cases (target_at e.rest) NotACall (cred_case (e.xid, 2, e.rest)) (λ k. k ≡ NotACall) (λ d bad. refl)
     (λ t good.
-    let len : length bytes ≡ 12 + length e.rest = ap length e.parts ∙ length-append (num4 e.xid ++ (num4 0 ++ num4 2)) e.rest in
-    let rest_fits = AreBytes-after (num4 e.xid ++ (num4 0 ++ num4 2)) e.rest (subst AreBytes e.parts fits) in
+    let len : length bytes ≡ 12 + length e.rest = ap length e.parts ∙ length-append (word e.xid ++ (word 0 ++ word 2)) e.rest in
+    let rest_fits = AreBytes-after (word e.xid ++ (word 0 ++ word 2)) e.rest (subst AreBytes e.parts fits) in
     let target = target_takes e.rest t rest_fits good in
-    let len2 : length e.rest ≡ 12 + length t.3 = ap length target.parts ∙ length-append (num4 t.0 ++ (num4 t.1 ++ num4 t.2)) t.3 in
+    let len2 : length e.rest ≡ 12 + length t.3 = ap length target.parts ∙ length-append (word t.0 ++ (word t.1 ++ word t.2)) t.3 in
     absurd (omega (arith, len, len2, e.short))))
 
 pub case_again : (bytes : List ℕ) (k : CaseView) → AreBytes bytes → IsCase bytes k → case_of bytes ≡ k

@@ -7,7 +7,8 @@ use Rattle.rpc_message.specs.declared.fault.ReplyFault.{ReplyFault}
 use Rattle.rpc_message.specs.declared.fault.ReplyFault.TheVariants as faults
 use Rattle.rpc_message.specs.declared.message.Reply.{Reply}
 use Rattle.rpc_message.specs.Message.{AuthView, StatusView, Success, ProgUnavail, ProgMismatch, ProcUnavail, GarbageArgs, SystemErr, WhyView, RpcMismatch, AuthError, ReplyView, Accepted, Denied}
-use Rattle.rpc_message.specs.Spelling.{AreBytes, num4, gap, auth, status, why, IsWord, IsAuth, IsStatus, IsWhy}
+use Rattle.xdr_units.specs.Numbers.{AreBytes, word, gap, IsWord}
+use Rattle.rpc_message.specs.Spelling.{auth, status, why, IsAuth, IsStatus, IsWhy}
 use Rattle.rpc_message.specs.View.{reply_view}
 use Rattle.rpc_message.specs.Faults.{Place, Xid, MessageType, ReplyStat, AcceptStat, AcceptLow, AcceptHigh, RejectStat, RejectLow, RejectHigh, AuthStat, before, IsPlace, EndsInNumber, IsCutAuth, IsTooLong, IsPaddedWrong, HasNoResults, StandsIn}
 use Rattle.rpc_message.specs.Reading.{◌>>=◌, Gives, ended, are_zeros, word_at, padding_at, opaque_at, auth_at, bounds_at, status_at, why_at, accepted_at, denied_at, reply_stat_at, reply_at}
@@ -79,21 +80,21 @@ record CutBody (most : ℕ) (bytes : List ℕ) : Type 0 where
   body : List ℕ
   few : count ≤ most
   short : length body < count
-  parts : bytes ≡ num4 count ++ body
+  parts : bytes ≡ word count ++ body
 
 record CutFilling (most : ℕ) (bytes : List ℕ) : Type 0 where
   body : List ℕ
   zeros : ℕ
   few : length body ≤ most
   short : zeros < gap (length body)
-  parts : bytes ≡ num4 (length body) ++ (body ++ replicate zeros 0)
+  parts : bytes ≡ word (length body) ++ (body ++ replicate zeros 0)
 
 record LongBody (most : ℕ) (bytes : List ℕ) : Type 0 where
   count : ℕ
   rest : List ℕ
   fits : IsWord count
   long : most < count
-  parts : bytes ≡ num4 count ++ rest
+  parts : bytes ≡ word count ++ rest
 
 record WrongFilling (most : ℕ) (bytes : List ℕ) : Type 0 where
   body : List ℕ
@@ -102,7 +103,7 @@ record WrongFilling (most : ℕ) (bytes : List ℕ) : Type 0 where
   few : length body ≤ most
   size : length filling ≤ gap (length body)
   wrong : filling ≢ replicate (length filling) 0
-  parts : bytes ≡ num4 (length body) ++ (body ++ (filling ++ rest))
+  parts : bytes ≡ word (length body) ++ (body ++ (filling ++ rest))
 
 abbrev CutOpaque : ℕ → List ℕ → Type 0
 CutOpaque most bytes = (length bytes < 4) ⊎ (CutBody most bytes ⊎ CutFilling most bytes)
@@ -111,12 +112,12 @@ abbrev BadOpaque : ℕ → List ℕ → Type 0
 BadOpaque most bytes = LongBody most bytes ⊎ WrongFilling most bytes
 
 -- a length, so many bytes, and what follows them
-body_parts : (bytes rest after : List ℕ) (n : ℕ) → bytes ≡ num4 n ++ rest → n ≤ length rest → drop n rest ≡ after → (length (take n rest) ≡ n) × (bytes ≡ num4 (length (take n rest)) ++ (take n rest ++ after))
+body_parts : (bytes rest after : List ℕ) (n : ℕ) → bytes ≡ word n ++ rest → n ≤ length rest → drop n rest ≡ after → (length (take n rest) ≡ n) × (bytes ≡ word (length (take n rest)) ++ (take n rest ++ after))
 body_parts bytes rest after n e long tail =
     let size : length (take n rest) ≡ n = omega (arith, length-take n rest) in
-    (size, e ∙ ap (λ (k : ℕ). num4 k ++ rest) (sym size) ∙ ap (λ (t : List ℕ). num4 (length (take n rest)) ++ t) (sym (take-append-drop n rest) ∙ ap (λ (t : List ℕ). take n rest ++ t) tail))
+    (size, e ∙ ap (λ (k : ℕ). word k ++ rest) (sym size) ∙ ap (λ (t : List ℕ). word (length (take n rest)) ++ t) (sym (take-append-drop n rest) ∙ ap (λ (t : List ℕ). take n rest ++ t) tail))
 
-filling_fails : (most n : ℕ) (bytes rest : List ℕ) (d : ReplyFault) → n ≤ most → n ≤ length rest → bytes ≡ num4 n ++ rest → padding_at n (drop n rest) ≡ Err d → CutOr d (CutOpaque most bytes) (BadOpaque most bytes)
+filling_fails : (most n : ℕ) (bytes rest : List ℕ) (d : ReplyFault) → n ≤ most → n ≤ length rest → bytes ≡ word n ++ rest → padding_at n (drop n rest) ≡ Err d → CutOr d (CutOpaque most bytes) (BadOpaque most bytes)
 filling_fails most n bytes rest d few long e h =
     elim (padding_fails n (drop n rest) d h) [
       | inl q ↦
@@ -151,14 +152,14 @@ opaque_fails most bytes d fits e =
 
 -- ---- opaque_auth
 
-cut_auth : (flavor : ℕ) (bytes rest : List ℕ) → IsWord flavor → bytes ≡ num4 flavor ++ rest → CutOpaque 400 rest → IsCutAuth bytes
+cut_auth : (flavor : ℕ) (bytes rest : List ℕ) → IsWord flavor → bytes ≡ word flavor ++ rest → CutOpaque 400 rest → IsCutAuth bytes
 cut_auth flavor bytes rest w e (inl h) = inr (inl (record { flavor = flavor; last = rest; fits = w; short = h; parts = e }))
-cut_auth flavor bytes rest w e (inr (inl c)) = inr (inr (inl (record { flavor = flavor; count = c.count; body = c.body; fits = w; few = c.few; short = c.short; parts = e ∙ ap (λ (t : List ℕ). num4 flavor ++ t) c.parts })))
-cut_auth flavor bytes rest w e (inr (inr c)) = inr (inr (inr (record { a = record { flavor = flavor; body = c.body }; zeros = c.zeros; fits = record { flavor = w; short = c.few }; short = c.short; parts = e ∙ ap (λ (t : List ℕ). num4 flavor ++ t) c.parts })))
+cut_auth flavor bytes rest w e (inr (inl c)) = inr (inr (inl (record { flavor = flavor; count = c.count; body = c.body; fits = w; few = c.few; short = c.short; parts = e ∙ ap (λ (t : List ℕ). word flavor ++ t) c.parts })))
+cut_auth flavor bytes rest w e (inr (inr c)) = inr (inr (inr (record { a = record { flavor = flavor; body = c.body }; zeros = c.zeros; fits = record { flavor = w; short = c.few }; short = c.short; parts = e ∙ ap (λ (t : List ℕ). word flavor ++ t) c.parts })))
 
-bad_auth : (flavor : ℕ) (bytes rest : List ℕ) → IsWord flavor → bytes ≡ num4 flavor ++ rest → BadOpaque 400 rest → IsTooLong bytes ⊎ IsPaddedWrong bytes
-bad_auth flavor bytes rest w e (inl c) = inl (record { flavor = flavor; count = c.count; rest = c.rest; fits = (w, c.fits); long = c.long; parts = e ∙ ap (λ (t : List ℕ). num4 flavor ++ t) c.parts })
-bad_auth flavor bytes rest w e (inr c) = inr (record { a = record { flavor = flavor; body = c.body }; filling = c.filling; rest = c.rest; fits = record { flavor = w; short = c.few }; size = c.size; wrong = c.wrong; parts = e ∙ ap (λ (t : List ℕ). num4 flavor ++ t) c.parts })
+bad_auth : (flavor : ℕ) (bytes rest : List ℕ) → IsWord flavor → bytes ≡ word flavor ++ rest → BadOpaque 400 rest → IsTooLong bytes ⊎ IsPaddedWrong bytes
+bad_auth flavor bytes rest w e (inl c) = inl (record { flavor = flavor; count = c.count; rest = c.rest; fits = (w, c.fits); long = c.long; parts = e ∙ ap (λ (t : List ℕ). word flavor ++ t) c.parts })
+bad_auth flavor bytes rest w e (inr c) = inr (record { a = record { flavor = flavor; body = c.body }; filling = c.filling; rest = c.rest; fits = record { flavor = w; short = c.few }; size = c.size; wrong = c.wrong; parts = e ∙ ap (λ (t : List ℕ). word flavor ++ t) c.parts })
 
 abbrev AuthFails : ReplyFault → List ℕ → Type 0
 AuthFails d bytes = CutOr d (IsCutAuth bytes) (IsTooLong bytes ⊎ IsPaddedWrong bytes)
@@ -186,7 +187,7 @@ record CutHigh (bytes : List ℕ) : Type 0 where
   last : List ℕ
   fits : IsWord low
   short : length last < 4
-  parts : bytes ≡ num4 low ++ last
+  parts : bytes ≡ word low ++ last
 
 abbrev CutBounds : List ℕ → Type 0
 CutBounds bytes = (length bytes < 4) ⊎ CutHigh bytes
@@ -197,7 +198,7 @@ record BoundsRest (bytes : List ℕ) : Type 0 where
   byte : ℕ
   more : List ℕ
   fits : IsWord low × IsWord high
-  parts : bytes ≡ num4 low ++ num4 high ++ byte ∷ more
+  parts : bytes ≡ word low ++ word high ++ byte ∷ more
 
 bounds_fails : (bytes : List ℕ) (d : ReplyFault) → AreBytes bytes → bounds_at bytes ≡ Err d → ((d ≡ faults.Truncated) × CutBounds bytes) ⊎ ((d ≡ faults.Rest) × BoundsRest bytes)
 unfolding bounds_at
@@ -219,7 +220,7 @@ bounds_fails bytes d fits e =
                     byte = l.1;
                     more = l.2;
                     fits = (t0.1, t1.1);
-                    parts = t0.0.parts ∙ ap (λ (t : List ℕ). num4 a.0.0 ++ t) (t1.0.parts ∙ ap (λ (t : List ℕ). num4 b.0.0 ++ t) l.3);
+                    parts = t0.0.parts ∙ ap (λ (t : List ℕ). word a.0.0 ++ t) (t1.0.parts ∙ ap (λ (t : List ℕ). word b.0.0 ++ t) l.3);
                   },
                 )
           ]
@@ -233,7 +234,7 @@ record StatusRest (stat : ℕ) (bytes : List ℕ) : Type 0 where
   more : List ℕ
   fits : IsStatus s
   plain : (xid : ℕ) (verf : AuthView) → HasNoResults (Accepted xid verf s)
-  parts : num4 stat ++ bytes ≡ status s ++ byte ∷ more
+  parts : word stat ++ bytes ≡ status s ++ byte ∷ more
 
 abbrev StatusFails : ℕ → List ℕ → ReplyFault → Type 0
 StatusFails stat bytes d = ((d ≡ faults.Truncated) × (stat ≡ 2) × CutBounds bytes) ⊎ (((d ≡ faults.Rest) × StatusRest stat bytes) ⊎ ((d ≡ faults.BadStatus) × (5 < stat)))
@@ -241,18 +242,18 @@ StatusFails stat bytes d = ((d ≡ faults.Truncated) × (stat ≡ 2) × CutBound
 status_fails : (stat : ℕ) (bytes : List ℕ) (d : ReplyFault) → AreBytes bytes → status_at stat bytes ≡ Err d → StatusFails stat bytes d
 unfolding status_at
 status_fails zero bytes d fits e = absurd (ok_no_err (Success bytes) d e)
-status_fails (suc zero) bytes d fits e = let l = ended_fails bytes ProgUnavail d e in inr (inl (l.0, record { s = ProgUnavail; byte = l.1; more = l.2; fits = tt; plain = λ x v. tt; parts = ap (λ (t : List ℕ). num4 1 ++ t) l.3 }))
+status_fails (suc zero) bytes d fits e = let l = ended_fails bytes ProgUnavail d e in inr (inl (l.0, record { s = ProgUnavail; byte = l.1; more = l.2; fits = tt; plain = λ x v. tt; parts = ap (λ (t : List ℕ). word 1 ++ t) l.3 }))
 status_fails (suc (suc zero)) bytes d fits e =
     elim (bind_err (bounds_at bytes) (λ b. Ok (ProgMismatch b.0 b.1)) d e) [
       | inl h ↦ elim (bounds_fails bytes d fits h) [
         | inl f ↦ inl (f.0, refl, f.1)
-        | inr r ↦ inr (inl (r.0, record { s = ProgMismatch r.1.low r.1.high; byte = r.1.byte; more = r.1.more; fits = r.1.fits; plain = λ x v. tt; parts = ap (λ (t : List ℕ). num4 2 ++ t) r.1.parts }))
+        | inr r ↦ inr (inl (r.0, record { s = ProgMismatch r.1.low r.1.high; byte = r.1.byte; more = r.1.more; fits = r.1.fits; plain = λ x v. tt; parts = ap (λ (t : List ℕ). word 2 ++ t) r.1.parts }))
       ]
       | inr a ↦ absurd (ok_no_err (ProgMismatch a.0.0 a.0.1) d a.2)
     ]
-status_fails (suc (suc (suc zero))) bytes d fits e = let l = ended_fails bytes ProcUnavail d e in inr (inl (l.0, record { s = ProcUnavail; byte = l.1; more = l.2; fits = tt; plain = λ x v. tt; parts = ap (λ (t : List ℕ). num4 3 ++ t) l.3 }))
-status_fails (suc (suc (suc (suc zero)))) bytes d fits e = let l = ended_fails bytes GarbageArgs d e in inr (inl (l.0, record { s = GarbageArgs; byte = l.1; more = l.2; fits = tt; plain = λ x v. tt; parts = ap (λ (t : List ℕ). num4 4 ++ t) l.3 }))
-status_fails (suc (suc (suc (suc (suc zero))))) bytes d fits e = let l = ended_fails bytes SystemErr d e in inr (inl (l.0, record { s = SystemErr; byte = l.1; more = l.2; fits = tt; plain = λ x v. tt; parts = ap (λ (t : List ℕ). num4 5 ++ t) l.3 }))
+status_fails (suc (suc (suc zero))) bytes d fits e = let l = ended_fails bytes ProcUnavail d e in inr (inl (l.0, record { s = ProcUnavail; byte = l.1; more = l.2; fits = tt; plain = λ x v. tt; parts = ap (λ (t : List ℕ). word 3 ++ t) l.3 }))
+status_fails (suc (suc (suc (suc zero)))) bytes d fits e = let l = ended_fails bytes GarbageArgs d e in inr (inl (l.0, record { s = GarbageArgs; byte = l.1; more = l.2; fits = tt; plain = λ x v. tt; parts = ap (λ (t : List ℕ). word 4 ++ t) l.3 }))
+status_fails (suc (suc (suc (suc (suc zero))))) bytes d fits e = let l = ended_fails bytes SystemErr d e in inr (inl (l.0, record { s = SystemErr; byte = l.1; more = l.2; fits = tt; plain = λ x v. tt; parts = ap (λ (t : List ℕ). word 5 ++ t) l.3 }))
 status_fails (suc (suc (suc (suc (suc (suc n)))))) bytes d fits e = inr (inr (sym (err_is {A = StatusView} faults.BadStatus d e), omega arith))
 
 record WhyRest (stat : ℕ) (bytes : List ℕ) : Type 0 where
@@ -260,7 +261,7 @@ record WhyRest (stat : ℕ) (bytes : List ℕ) : Type 0 where
   byte : ℕ
   more : List ℕ
   fits : IsWhy w
-  parts : num4 stat ++ bytes ≡ why w ++ byte ∷ more
+  parts : word stat ++ bytes ≡ why w ++ byte ∷ more
 
 abbrev CutWhy : ℕ → List ℕ → Type 0
 CutWhy stat bytes = ((stat ≡ 0) × CutBounds bytes) ⊎ ((stat ≡ 1) × (length bytes < 4))
@@ -274,7 +275,7 @@ why_fails zero bytes d fits e =
     elim (bind_err (bounds_at bytes) (λ b. Ok (RpcMismatch b.0 b.1)) d e) [
       | inl h ↦ elim (bounds_fails bytes d fits h) [
         | inl f ↦ inl (f.0, inl (refl, f.1))
-        | inr r ↦ inr (inl (r.0, record { w = RpcMismatch r.1.low r.1.high; byte = r.1.byte; more = r.1.more; fits = r.1.fits; parts = ap (λ (t : List ℕ). num4 0 ++ t) r.1.parts }))
+        | inr r ↦ inr (inl (r.0, record { w = RpcMismatch r.1.low r.1.high; byte = r.1.byte; more = r.1.more; fits = r.1.fits; parts = ap (λ (t : List ℕ). word 0 ++ t) r.1.parts }))
       ]
       | inr a ↦ absurd (ok_no_err (RpcMismatch a.0.0 a.0.1) d a.2)
     ]
@@ -284,14 +285,14 @@ why_fails (suc zero) bytes d fits e =
       | inr a ↦
           let t = word_takes bytes a.0 fits a.1 in
           let l = ended_fails a.0.1 (AuthError a.0.0) d a.2 in
-          inr (inl (l.0, record { w = AuthError a.0.0; byte = l.1; more = l.2; fits = t.1; parts = ap (λ (t : List ℕ). num4 1 ++ t) (t.0.parts ∙ ap (λ (t : List ℕ). num4 a.0.0 ++ t) l.3) }))
+          inr (inl (l.0, record { w = AuthError a.0.0; byte = l.1; more = l.2; fits = t.1; parts = ap (λ (t : List ℕ). word 1 ++ t) (t.0.parts ∙ ap (λ (t : List ℕ). word a.0.0 ++ t) l.3) }))
     ]
 why_fails (suc (suc n)) bytes d fits e = inr (inr (sym (err_is {A = WhyView} faults.BadStatus d e), omega arith))
 
 -- ---- replies
 
 abbrev front : ℕ → ℕ → List ℕ → List ℕ
-front xid stat bytes = num4 xid ++ (num4 1 ++ (num4 stat ++ bytes))
+front xid stat bytes = word xid ++ (word 1 ++ (word stat ++ bytes))
 
 -- the fault d is this one
 named : (f d : ReplyFault) (bytes : List ℕ) → d ≡ f → StandsIn f bytes → StandsIn d bytes
@@ -304,15 +305,15 @@ in_verifier : (xid : ℕ) (bytes : List ℕ) (d : ReplyFault) → IsWord xid →
 in_verifier xid bytes d x (inl c) = named faults.Truncated d (front xid 0 bytes) c.0 (inr (record { xid = xid; rest = bytes; fits = x; parts = refl; cut = c.1 }))
 in_verifier xid bytes d x (inr c) = named faults.BadAuth d (front xid 0 bytes) c.0 (record { xid = xid; rest = bytes; fits = x; parts = refl; bad = c.1 })
 
-accept_bounds : (xid : ℕ) (verf : AuthView) (rest : List ℕ) → IsWord xid → IsAuth verf → CutBounds rest → EndsInNumber (front xid 0 (auth verf ++ (num4 2 ++ rest)))
-accept_bounds xid verf rest x v (inl h) = record { place = AcceptLow xid verf; last = rest; fits = (x, v); short = h; parts = ap (front xid 0) (sym (append_assoc (auth verf) (num4 2) rest)) }
+accept_bounds : (xid : ℕ) (verf : AuthView) (rest : List ℕ) → IsWord xid → IsAuth verf → CutBounds rest → EndsInNumber (front xid 0 (auth verf ++ (word 2 ++ rest)))
+accept_bounds xid verf rest x v (inl h) = record { place = AcceptLow xid verf; last = rest; fits = (x, v); short = h; parts = ap (front xid 0) (sym (append_assoc (auth verf) (word 2) rest)) }
 accept_bounds xid verf rest x v (inr h) = record {
   place = AcceptHigh xid verf h.low;
   last = h.last;
   fits = (x, v, h.fits);
   short = h.short;
-  parts = ap (λ (t : List ℕ). front xid 0 (auth verf ++ (num4 2 ++ t))) h.parts
-      ∙ ap (front xid 0) (sym (append_assoc (auth verf) (num4 2) (num4 h.low ++ h.last)) ∙ sym (append_assoc (auth verf ++ num4 2) (num4 h.low) h.last));
+  parts = ap (λ (t : List ℕ). front xid 0 (auth verf ++ (word 2 ++ t))) h.parts
+      ∙ ap (front xid 0) (sym (append_assoc (auth verf) (word 2) (word h.low ++ h.last)) ∙ sym (append_assoc (auth verf ++ word 2) (word h.low) h.last));
 }
 
 accepted_fails : (xid : ℕ) (bytes : List ℕ) (d : ReplyFault) → IsWord xid → AreBytes bytes → accepted_at xid bytes ≡ Err d → StandsIn d (front xid 0 bytes)
@@ -326,11 +327,11 @@ accepted_fails xid bytes d x fits e =
             | inl h ↦ cut_number (AcceptStat xid a.0.0) a.0.1 (front xid 0 bytes) d (x, t0.1) (word_fails a.0.1 d h) (ap (front xid 0) t0.0.parts)
             | inr b ↦
                 let t1 = word_takes a.0.1 b.0 t0.0.rest_fits b.1 in
-                let parts : front xid 0 bytes ≡ front xid 0 (auth a.0.0 ++ (num4 b.0.0 ++ b.0.1)) = ap (front xid 0) (t0.0.parts ∙ ap (λ (t : List ℕ). auth a.0.0 ++ t) t1.0.parts) in
+                let parts : front xid 0 bytes ≡ front xid 0 (auth a.0.0 ++ (word b.0.0 ++ b.0.1)) = ap (front xid 0) (t0.0.parts ∙ ap (λ (t : List ℕ). auth a.0.0 ++ t) t1.0.parts) in
                 elim (bind_err (status_at b.0.0 b.0.1) (λ s. Ok (Accepted xid a.0.0 s)) d b.2) [
                   | inr s ↦ absurd (ok_no_err (Accepted xid a.0.0 s.0) d s.2)
                   | inl h ↦ elim (status_fails b.0.0 b.0.1 d t1.0.rest_fits h) [
-                    | inl f ↦ named faults.Truncated d (front xid 0 bytes) f.0 (inl (subst EndsInNumber (sym (parts ∙ ap (λ (k : ℕ). front xid 0 (auth a.0.0 ++ (num4 k ++ b.0.1))) f.1)) (accept_bounds xid a.0.0 b.0.1 x t0.1 f.2)))
+                    | inl f ↦ named faults.Truncated d (front xid 0 bytes) f.0 (inl (subst EndsInNumber (sym (parts ∙ ap (λ (k : ℕ). front xid 0 (auth a.0.0 ++ (word k ++ b.0.1))) f.1)) (accept_bounds xid a.0.0 b.0.1 x t0.1 f.2)))
                     | inr (inl r) ↦ named faults.Rest d (front xid 0 bytes) r.0 (record {
                       r = Accepted xid a.0.0 r.1.s;
                       byte = r.1.byte;
@@ -346,10 +347,10 @@ accepted_fails xid bytes d x fits e =
     ]
 
 -- what ends too soon after the number that says why a call was denied
-deny_cut : (xid stat : ℕ) (rest : List ℕ) → IsWord xid → CutWhy stat rest → EndsInNumber (front xid 1 (num4 stat ++ rest))
-deny_cut xid stat rest x (inl (e, inl h)) = record { place = RejectLow xid; last = rest; fits = x; short = h; parts = ap (λ (k : ℕ). front xid 1 (num4 k ++ rest)) e }
-deny_cut xid stat rest x (inl (e, inr h)) = record { place = RejectHigh xid h.low; last = h.last; fits = (x, h.fits); short = h.short; parts = ap (λ (k : ℕ). front xid 1 (num4 k ++ rest)) e ∙ ap (λ (t : List ℕ). front xid 1 (num4 0 ++ t)) h.parts }
-deny_cut xid stat rest x (inr (e, h)) = record { place = AuthStat xid; last = rest; fits = x; short = h; parts = ap (λ (k : ℕ). front xid 1 (num4 k ++ rest)) e }
+deny_cut : (xid stat : ℕ) (rest : List ℕ) → IsWord xid → CutWhy stat rest → EndsInNumber (front xid 1 (word stat ++ rest))
+deny_cut xid stat rest x (inl (e, inl h)) = record { place = RejectLow xid; last = rest; fits = x; short = h; parts = ap (λ (k : ℕ). front xid 1 (word k ++ rest)) e }
+deny_cut xid stat rest x (inl (e, inr h)) = record { place = RejectHigh xid h.low; last = h.last; fits = (x, h.fits); short = h.short; parts = ap (λ (k : ℕ). front xid 1 (word k ++ rest)) e ∙ ap (λ (t : List ℕ). front xid 1 (word 0 ++ t)) h.parts }
+deny_cut xid stat rest x (inr (e, h)) = record { place = AuthStat xid; last = rest; fits = x; short = h; parts = ap (λ (k : ℕ). front xid 1 (word k ++ rest)) e }
 
 denied_fails : (xid : ℕ) (bytes : List ℕ) (d : ReplyFault) → IsWord xid → AreBytes bytes → denied_at xid bytes ≡ Err d → StandsIn d (front xid 1 bytes)
 unfolding denied_at
@@ -358,7 +359,7 @@ denied_fails xid bytes d x fits e =
       | inl h ↦ cut_number (RejectStat xid) bytes (front xid 1 bytes) d x (word_fails bytes d h) refl
       | inr b ↦
           let t1 = word_takes bytes b.0 fits b.1 in
-          let parts : front xid 1 bytes ≡ front xid 1 (num4 b.0.0 ++ b.0.1) = ap (front xid 1) t1.0.parts in
+          let parts : front xid 1 bytes ≡ front xid 1 (word b.0.0 ++ b.0.1) = ap (front xid 1) t1.0.parts in
           elim (bind_err (why_at b.0.0 b.0.1) (λ w. Ok (Denied xid w)) d b.2) [
             | inr w ↦ absurd (ok_no_err (Denied xid w.0) d w.2)
             | inl h ↦ elim (why_fails b.0.0 b.0.1 d t1.0.rest_fits h) [
@@ -389,16 +390,16 @@ reply_fails bytes d fits e =
             | inl h ↦ cut_number (MessageType a.0.0) a.0.1 bytes d t0.1 (word_fails a.0.1 d h) t0.0.parts
             | inr b ↦
                 let t1 = word_takes a.0.1 b.0 t0.0.rest_fits b.1 in
-                let two : bytes ≡ num4 a.0.0 ++ (num4 b.0.0 ++ b.0.1) = t0.0.parts ∙ ap (λ (t : List ℕ). num4 a.0.0 ++ t) t1.0.parts in
+                let two : bytes ≡ word a.0.0 ++ (word b.0.0 ++ b.0.1) = t0.0.parts ∙ ap (λ (t : List ℕ). word a.0.0 ++ t) t1.0.parts in
                 elim (cond_either (eqb b.0.0 1) (word_at b.0.1 >>= (λ stat. reply_stat_at a.0.0 stat.0 stat.1)) (failed faults.NotAReply) d b.2) [
                   | inr n ↦ named faults.NotAReply d bytes (sym (err_is {A = ReplyView} faults.NotAReply d n.1)) (record { xid = a.0.0; kind = b.0.0; rest = b.0.1; fits = (t0.1, t1.1); other = eqb-false _ _ n.0; parts = two })
                   | inl y ↦
-                      let three : bytes ≡ num4 a.0.0 ++ (num4 1 ++ b.0.1) = two ∙ ap (λ (k : ℕ). num4 a.0.0 ++ (num4 k ++ b.0.1)) (eqb-true _ _ y.0) in
+                      let three : bytes ≡ word a.0.0 ++ (word 1 ++ b.0.1) = two ∙ ap (λ (k : ℕ). word a.0.0 ++ (word k ++ b.0.1)) (eqb-true _ _ y.0) in
                       elim (bind_err (word_at b.0.1) (λ stat. reply_stat_at a.0.0 stat.0 stat.1) d y.1) [
                         | inl h ↦ cut_number (ReplyStat a.0.0) b.0.1 bytes d t0.1 (word_fails b.0.1 d h) three
                         | inr c ↦
                             let t2 = word_takes b.0.1 c.0 t1.0.rest_fits c.1 in
-                            let parts : bytes ≡ front a.0.0 c.0.0 c.0.1 = three ∙ ap (λ (t : List ℕ). num4 a.0.0 ++ (num4 1 ++ t)) t2.0.parts in
+                            let parts : bytes ≡ front a.0.0 c.0.0 c.0.1 = three ∙ ap (λ (t : List ℕ). word a.0.0 ++ (word 1 ++ t)) t2.0.parts in
                             subst (StandsIn d) (sym parts) (stat_fails a.0.0 c.0.0 c.0.1 d t0.1 t2.1 t2.0.rest_fits c.2)
                       ]
                 ]

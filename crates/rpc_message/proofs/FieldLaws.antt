@@ -1,24 +1,17 @@
 -- A field that is read is the field that was written, and what was written is read again.
-use Rattle.std.proofs.Common.{◌≡◌, ℕ, zero, suc, ◌+◌, ◌^◌, ◌<◌, ◌≤◌, Bool, true, false, cond, ltb, List, [], ◌∷◌, ◌++◌, length, take, drop, replicate, Result, Ok, Err, refl, sym, ap, subst, ◌∙◌, append_assoc, arith, inl, inr, ◌⊎◌}
+use Rattle.std.proofs.Common.{◌≡◌, ◌≢◌, ℕ, zero, suc, ◌+◌, ◌^◌, ◌<◌, ◌≤◌, Bool, true, false, cond, ltb, List, [], ◌∷◌, ◌++◌, length, take, drop, replicate, Result, Ok, Err, refl, sym, ap, subst, ◌∙◌, append_assoc, arith, inl, inr, ◌⊎◌}
 use Rattle.std.specs.Int.{w32, from_be_bytes}
-use Rattle.std.proofs.lemmas.Bool.{cases_lt, ltb-false, ltb-true, le-ltb}
-use Rattle.std.proofs.lemmas.List.{take_at, drop_at, take-append-drop, length-append, length-take, length-replicate, get_or-drop, get_or-take, get_or_past}
+use Rattle.std.proofs.lemmas.Bool.{cases_lt, ltb-false, ltb-true, le-ltb, lt-ltb}
+use Rattle.std.proofs.lemmas.List.{take_at, drop_at, take-append-drop, length-append, length-drop, nil_from_length, length-take, length-replicate, get_or-drop, get_or-take, get_or_past}
 use Rattle.std.proofs.lemmas.Nat.{be_bytes_4, from_be_bytes-to_be_bytes_4}
 use Rattle.rpc_message.specs.declared.fault.ReplyFault.{ReplyFault}
 use Rattle.rpc_message.specs.declared.fault.ReplyFault.TheVariants.{Truncated, BadAuth}
 use Rattle.rpc_message.specs.Message.{AuthView}
-use Rattle.rpc_message.specs.Spelling.{AreBytes, num4, gap, pad, opaque, auth, IsWord, IsAuth}
+use Rattle.xdr_units.specs.Fronts.{HasBadPadding}
+use Rattle.xdr_units.proofs.Bytes.{AreBytes-drop, AreBytes-take}
+use Rattle.xdr_units.specs.Numbers.{AreBytes, word, gap, pad, padded, IsWord}
+use Rattle.rpc_message.specs.Spelling.{opaque, auth, IsAuth}
 use Rattle.rpc_message.specs.Reading.{◌>>=◌, are_zeros, word_at, padding_at, opaque_at, auth_at}
-
-pub AreBytes-drop : (n : ℕ) (bytes : List ℕ) → AreBytes bytes → AreBytes (drop n bytes)
-AreBytes-drop n bytes h i = rw get_or-drop (h (n + i))
-
-AreBytes-take : (n : ℕ) (bytes : List ℕ) → AreBytes bytes → AreBytes (take n bytes)
-AreBytes-take n bytes h i =
-    elim (cases_lt i n) [
-      | inl lt ↦ rw (get_or-take n bytes i 0 lt) (h i)
-      | inr le ↦ rw (get_or_past (take n bytes) i 0 (omega (arith, length-take n bytes))) (omega arith)
-    ]
 
 -- the value of a step that did not fail
 pub bind_ok : {A B : Type 0} (r : Result A ReplyFault) (f : A → Result B ReplyFault) (y : B) → (r >>= f) ≡ Ok y → (x : A) × (r ≡ Ok x) × (f x ≡ Ok y)
@@ -75,17 +68,17 @@ Takes-then a x b y c p q = record { parts = p.parts ∙ ap (λ (t : List ℕ). x
 
 -- ---- words
 
-pub word_takes : (bytes : List ℕ) (x : ℕ × List ℕ) → AreBytes bytes → word_at bytes ≡ Ok x → Takes bytes (num4 x.0) x.1 × IsWord x.0
+pub word_takes : (bytes : List ℕ) (x : ℕ × List ℕ) → AreBytes bytes → word_at bytes ≡ Ok x → Takes bytes (word x.0) x.1 × IsWord x.0
 unfolding word_at
 word_takes bytes x fits e =
     let n = from_be_bytes w32 (take 4 bytes) in
     let g = guard_ok (ltb (length bytes) 4) Truncated (Ok (n, drop 4 bytes)) x e in
     let long : 4 ≤ length bytes = ltb-false _ _ g.0 in
     let front_fits = AreBytes-take 4 bytes fits in
-    let front : num4 n ≡ take 4 bytes = be_bytes_4 (take 4 bytes) n (omega (arith, length-take 4 bytes)) front_fits refl in
-    let taken : Takes bytes (num4 n) (drop 4 bytes) = record { parts = sym (take-append-drop 4 bytes) ∙ ap (λ (t : List ℕ). t ++ drop 4 bytes) (sym front); rest_fits = AreBytes-drop 4 bytes fits } in
+    let front : word n ≡ take 4 bytes = be_bytes_4 (take 4 bytes) n (omega (arith, length-take 4 bytes)) front_fits refl in
+    let taken : Takes bytes (word n) (drop 4 bytes) = record { parts = sym (take-append-drop 4 bytes) ∙ ap (λ (t : List ℕ). t ++ drop 4 bytes) (sym front); rest_fits = AreBytes-drop 4 bytes fits } in
     let small : IsWord n = omega (arith, front_fits 0, front_fits 1, front_fits 2, front_fits 3) in
-    subst (λ (y : ℕ × List ℕ). Takes bytes (num4 y.0) y.1 × IsWord y.0) (ok_is (n, drop 4 bytes) x g.1) (taken, small)
+    subst (λ (y : ℕ × List ℕ). Takes bytes (word y.0) y.1 × IsWord y.0) (ok_is (n, drop 4 bytes) x g.1) (taken, small)
 
 word_from : (text rest : List ℕ) → length text ≡ 4 → word_at (text ++ rest) ≡ Ok (from_be_bytes w32 text, rest)
 unfolding word_at
@@ -93,8 +86,8 @@ word_from text rest len =
     let long : ltb (length (text ++ rest)) 4 ≡ false = le-ltb _ _ (omega (arith, length-append text rest)) in
     rw (long, take_at text rest 4 len, drop_at text rest 4 len) refl
 
-pub word_again : (n : ℕ) (rest : List ℕ) → IsWord n → word_at (num4 n ++ rest) ≡ Ok (n, rest)
-word_again n rest lt = word_from (num4 n) rest refl ∙ ap (λ (k : ℕ). Ok (k, rest)) (from_be_bytes-to_be_bytes_4 n lt)
+pub word_again : (n : ℕ) (rest : List ℕ) → IsWord n → word_at (word n ++ rest) ≡ Ok (n, rest)
+word_again n rest lt = word_from (word n) rest refl ∙ ap (λ (k : ℕ). Ok (k, rest)) (from_be_bytes-to_be_bytes_4 n lt)
 
 pub word_fails : (bytes : List ℕ) (d : ReplyFault) → word_at bytes ≡ Err d → (length bytes < 4) × (d ≡ Truncated)
 unfolding word_at
@@ -166,18 +159,100 @@ opaque_takes most bytes x fits e =
     let rest1 = AreBytes-drop n rest t.0.rest_fits in
     let body : Takes rest (take n rest) (drop n rest) = record { parts = sym (take-append-drop n rest); rest_fits = rest1 } in
     let fill = padding_takes n (drop n rest) p.0 rest1 p.1 in
-    let both = Takes-then bytes (num4 n) rest (take n rest ++ pad n) p.0 t.0 (Takes-then rest (take n rest) (drop n rest) (pad n) p.0 body fill) in
-    let whole : Takes bytes (opaque (take n rest)) p.0 = subst (λ (k : ℕ). Takes bytes (num4 k ++ (take n rest ++ pad k)) p.0) (sym body_len) both in
+    let both = Takes-then bytes (word n) rest (take n rest ++ pad n) p.0 t.0 (Takes-then rest (take n rest) (drop n rest) (pad n) p.0 body fill) in
+    let whole : Takes bytes (opaque (take n rest)) p.0 = subst (λ (k : ℕ). Takes bytes (word k ++ (take n rest ++ pad k)) p.0) (sym body_len) both in
     subst (λ (y : List ℕ × List ℕ). Takes bytes (opaque y.0) y.1 × (length y.0 ≤ most)) (ok_is (take n rest, p.0) x p.2) (whole, omega arith)
 
 pub opaque_again : (most : ℕ) (body rest : List ℕ) → length body ≤ most → most < 2 ^ 32 → opaque_at most (opaque body ++ rest) ≡ Ok (body, rest)
 unfolding opaque_at
 opaque_again most body rest short small =
     let n = length body in
-    let regrouped : opaque body ++ rest ≡ num4 n ++ (body ++ (pad n ++ rest)) = append_assoc (num4 n) (body ++ pad n) rest ∙ ap (λ (x : List ℕ). num4 n ++ x) (append_assoc body (pad n) rest) in
+    let regrouped : opaque body ++ rest ≡ word n ++ (body ++ (pad n ++ rest)) = append_assoc (word n) (body ++ pad n) rest ∙ ap (λ (x : List ℕ). word n ++ x) (append_assoc body (pad n) rest) in
     let fits : ltb most n ≡ false = le-ltb _ _ short in
     let long : ltb (length (body ++ (pad n ++ rest))) n ≡ false = le-ltb _ _ (omega (arith, length-append body (pad n ++ rest))) in
     ap (opaque_at most) regrouped ∙ rw (word_again n (body ++ (pad n ++ rest)) (omega arith), fits, long, take_at body (pad n ++ rest) n refl, drop_at body (pad n ++ rest) n refl, padding_again n rest) refl
+
+-- ---- a word and content that the readers of units found
+
+pub word_found : (bytes rest : List ℕ) (n : ℕ) → IsWord n → bytes ≡ word n ++ rest → word_at bytes ≡ Ok (n, rest)
+word_found bytes rest n fits parts = ap word_at parts ∙ word_again n rest fits
+
+pub no_word : (bytes : List ℕ) → length bytes < 4 → word_at bytes ≡ Err Truncated
+unfolding word_at
+no_word bytes short = rw (lt-ltb (length bytes) 4 short) refl
+
+front_found : (most : ℕ) (bytes body rest : List ℕ) → word_at bytes ≡ Ok (length body, body ++ (pad (length body) ++ rest))
+    → length body ≤ most → opaque_at most bytes ≡ Ok (body, rest)
+unfolding opaque_at
+front_found most bytes body rest w few =
+    let n = length body in
+    let behind = pad n ++ rest in
+    let fits : ltb most n ≡ false = le-ltb _ _ few in
+    let long : ltb (length (body ++ behind)) n ≡ false = le-ltb _ _ (omega (arith, length-append body behind)) in
+    rw (w, fits, long, take_at body behind n refl, drop_at body behind n refl, padding_again n rest) refl
+
+pub content_found : (most count : ℕ) (bytes rest body after : List ℕ) → word_at bytes ≡ Ok (count, rest) → count ≤ most
+    → length body ≡ count → rest ≡ padded body ++ after → opaque_at most bytes ≡ Ok (body, after)
+content_found most count bytes rest body after w few size parts =
+    let regrouped : rest ≡ body ++ (pad (length body) ++ after) = parts ∙ append_assoc body (pad (length body)) after in
+    front_found most bytes body after (w ∙ (λ j. Ok (sym size j, regrouped j))) (omega (arith, size, few))
+
+not_zero : (bytes : List ℕ) → bytes ≢ replicate (length bytes) 0 → are_zeros bytes ≡ false
+not_zero bytes other = by (are_zeros bytes) refl
+  where
+    by : (b : Bool) → are_zeros bytes ≡ b → b ≡ false
+    by false e = refl
+    by true e = absurd (other (zeros_are bytes e))
+
+pub padding_wrong : (most count : ℕ) (bytes rest : List ℕ) → word_at bytes ≡ Ok (count, rest) → count ≤ most
+    → HasBadPadding count rest → opaque_at most bytes ≡ Err BadAuth
+unfolding opaque_at padding_at
+padding_wrong most count bytes rest w few h =
+    let behind = h.filling ++ h.rest in
+    let size : length rest ≡ count + length behind = ap length h.parts ∙ length-append h.content behind ∙ ap (λ (k : ℕ). k + length behind) h.sized in
+    let dropped : drop count rest ≡ behind = ap (drop count) h.parts ∙ drop_at h.content behind count h.sized in
+    let fits : ltb most count ≡ false = le-ltb _ _ few in
+    let long : ltb (length rest) count ≡ false = le-ltb _ _ (omega (arith, size)) in
+    let filled : ltb (length behind) (gap count) ≡ false = le-ltb _ _ (omega (arith, length-append h.filling h.rest, h.filled)) in
+    let other : h.filling ≢ replicate (length h.filling) 0 = λ e. h.other (e ∙ ap (λ (k : ℕ). replicate k 0) h.filled) in
+    rw (w, fits, long, dropped, filled, take_at h.filling h.rest (gap count) h.filled, not_zero h.filling other) refl
+
+-- what is there of the padding
+abbrev behind_of : ℕ → List ℕ → List ℕ
+behind_of count bytes = drop count bytes
+
+none_behind : (count : ℕ) (bytes : List ℕ) → length bytes ≤ count → drop count bytes ≡ []
+none_behind count bytes short = nil_from_length (drop count bytes) (omega (arith, length-drop count bytes))
+
+pub zero_behind : (count : ℕ) (bytes : List ℕ) → length bytes ≤ count → drop count bytes ≡ replicate (length (drop count bytes)) 0
+zero_behind count bytes short = let e = none_behind count bytes short in e ∙ ap (λ (t : List ℕ). replicate (length t) 0) (sym e)
+
+pub content_cut : (most count : ℕ) (bytes rest : List ℕ) → word_at bytes ≡ Ok (count, rest) → count ≤ most
+    → length rest < count + gap count → behind_of count rest ≡ replicate (length (behind_of count rest)) 0
+    → opaque_at most bytes ≡ Err Truncated
+unfolding opaque_at padding_at
+content_cut most count bytes rest w few short zeros =
+    let fits : ltb most count ≡ false = le-ltb _ _ few in
+    elim (cases_lt (length rest) count) [
+      | inl lt ↦ rw (w, fits, lt-ltb (length rest) count lt) refl
+      | inr le ↦
+          let cut : ltb (length (drop count rest)) (gap count) ≡ true = lt-ltb _ _ (omega (arith, length-drop count rest)) in
+          let all : are_zeros (drop count rest) ≡ true = ap are_zeros zeros ∙ are_zeros-replicate (length (drop count rest)) in
+          rw (w, fits, le-ltb (length rest) count le, cut, all) refl
+    ]
+
+pub padding_cut_wrong : (most count : ℕ) (bytes rest : List ℕ) → word_at bytes ≡ Ok (count, rest) → count ≤ most
+    → length rest < count + gap count → behind_of count rest ≢ replicate (length (behind_of count rest)) 0
+    → opaque_at most bytes ≡ Err BadAuth
+unfolding opaque_at padding_at
+padding_cut_wrong most count bytes rest w few short other =
+    let fits : ltb most count ≡ false = le-ltb _ _ few in
+    elim (cases_lt (length rest) count) [
+      | inl lt ↦ absurd (other (zero_behind count rest (omega (arith, lt))))
+      | inr le ↦
+          let cut : ltb (length (drop count rest)) (gap count) ≡ true = lt-ltb _ _ (omega (arith, length-drop count rest)) in
+          rw (w, fits, le-ltb (length rest) count le, cut, not_zero (drop count rest) other) refl
+    ]
 
 -- ---- opaque_auth
 
@@ -188,12 +263,12 @@ auth_takes bytes x fits e =
     let b = bind_ok (opaque_at 400 a.0.1) (λ body. Ok (record { flavor = a.0.0; body = body.0 }, body.1)) x a.2 in
     let t0 = word_takes bytes a.0 fits a.1 in
     let t1 = opaque_takes 400 a.0.1 b.0 t0.0.rest_fits b.1 in
-    let both = Takes-then bytes (num4 a.0.0) a.0.1 (opaque b.0.0) b.0.1 t0.0 t1.0 in
+    let both = Takes-then bytes (word a.0.0) a.0.1 (opaque b.0.0) b.0.1 t0.0 t1.0 in
     let made : AuthView × List ℕ = (record { flavor = a.0.0; body = b.0.0 }, b.0.1) in
     subst (λ (y : AuthView × List ℕ). Takes bytes (auth y.0) y.1 × IsAuth y.0) (ok_is made x b.2) (both, record { flavor = t0.1; short = t1.1 })
 
 pub auth_again : (a : AuthView) (rest : List ℕ) → IsAuth a → auth_at (auth a ++ rest) ≡ Ok (a, rest)
 unfolding auth_at
 auth_again a rest fits =
-    let regrouped : auth a ++ rest ≡ num4 a.flavor ++ (opaque a.body ++ rest) = append_assoc (num4 a.flavor) (opaque a.body) rest in
+    let regrouped : auth a ++ rest ≡ word a.flavor ++ (opaque a.body ++ rest) = append_assoc (word a.flavor) (opaque a.body) rest in
     ap auth_at regrouped ∙ rw (word_again a.flavor (opaque a.body ++ rest) fits.flavor, opaque_again 400 a.body rest fits.short (omega arith)) refl

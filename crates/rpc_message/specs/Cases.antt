@@ -1,7 +1,8 @@
 -- The five cases of a message that is read as a call (RFC 5531 section 9).
 use Rattle.std.specs.Prelude.{◌≡◌, ◌⊎◌, ◌≢◌, ℕ, ◌<◌, List, ◌++◌, length}
 use Rattle.rpc_message.specs.Message.{AuthView, CaseView, Whole, OtherVersion, BadCred, BadVerf, NotACall}
-use Rattle.rpc_message.specs.Spelling.{num4, auth, IsWord, IsAuth, CallBytes}
+use Rattle.xdr_units.specs.Numbers.{word, IsWord}
+use Rattle.rpc_message.specs.Spelling.{auth, IsAuth, CallBytes}
 
 -- No opaque_auth stands in front: it is cut, too long or has other padding (section 8.2).
 abbrev pub NoAuth : List ℕ → Type 0
@@ -13,7 +14,7 @@ pub record IsOtherVersion (xid version : ℕ) (bytes : List ℕ) : Type 0 where
   pub version_fits : IsWord version
   pub other : version ≢ 2
   pub rest : List ℕ
-  pub parts : bytes ≡ num4 xid ++ num4 0 ++ num4 version ++ rest
+  pub parts : bytes ≡ word xid ++ word 0 ++ word version ++ rest
 
 -- A call of version 2 up to its procedure, and then no credential.
 pub record IsBadCred (xid : ℕ) (bytes : List ℕ) : Type 0 where
@@ -22,7 +23,7 @@ pub record IsBadCred (xid : ℕ) (bytes : List ℕ) : Type 0 where
   pub proc : ℕ
   pub rest : List ℕ
   pub fits : IsWord xid × IsWord prog × IsWord vers × IsWord proc
-  pub parts : bytes ≡ num4 xid ++ num4 0 ++ num4 2 ++ num4 prog ++ num4 vers ++ num4 proc ++ rest
+  pub parts : bytes ≡ word xid ++ word 0 ++ word 2 ++ word prog ++ word vers ++ word proc ++ rest
   pub bad : NoAuth rest
 
 -- The same up to its credential, and then no verifier.
@@ -34,7 +35,7 @@ pub record IsBadVerf (xid : ℕ) (bytes : List ℕ) : Type 0 where
   pub rest : List ℕ
   pub fits : IsWord xid × IsWord prog × IsWord vers × IsWord proc
   pub cred_fits : IsAuth cred
-  pub parts : bytes ≡ num4 xid ++ num4 0 ++ num4 2 ++ num4 prog ++ num4 vers ++ num4 proc ++ (auth cred ++ rest)
+  pub parts : bytes ≡ word xid ++ word 0 ++ word 2 ++ word prog ++ word vers ++ word proc ++ (auth cred ++ rest)
   pub bad : NoAuth rest
 
 -- A second word that is not 0, CALL.
@@ -44,14 +45,14 @@ pub record IsOfOtherKind (bytes : List ℕ) : Type 0 where
   pub rest : List ℕ
   pub fits : IsWord xid × IsWord kind
   pub other : kind ≢ 0
-  pub parts : bytes ≡ num4 xid ++ num4 kind ++ rest
+  pub parts : bytes ≡ word xid ++ word kind ++ rest
 
 -- A call of version 2 with fewer than 24 bytes.
 pub record IsShort (bytes : List ℕ) : Type 0 where
   pub xid : ℕ
   pub rest : List ℕ
   pub fits : IsWord xid
-  pub parts : bytes ≡ num4 xid ++ num4 0 ++ num4 2 ++ rest
+  pub parts : bytes ≡ word xid ++ word 0 ++ word 2 ++ rest
   pub short : length bytes < 24
 
 -- fewer than 12 bytes, or one of these two

@@ -3,7 +3,8 @@ use Rattle.std.specs.Prelude.{◌≡◌, ◌⊎◌, ◌≢◌, ℕ, ◌<◌, ◌
 use Rattle.rpc_message.specs.declared.fault.ReplyFault.{ReplyFault}
 use Rattle.rpc_message.specs.declared.fault.ReplyFault.TheVariants as faults
 use Rattle.rpc_message.specs.Message.{AuthView, Success, ReplyView, Accepted}
-use Rattle.rpc_message.specs.Spelling.{num4, auth, gap, reply, IsWord, IsAuth, IsReply}
+use Rattle.xdr_units.specs.Numbers.{word, gap, IsWord}
+use Rattle.rpc_message.specs.Spelling.{auth, reply, IsAuth, IsReply}
 
 -- ---- the places of numbers (section 9, rpc_msg and reply_body)
 
@@ -23,15 +24,15 @@ pub data Place : Type 0 where
 -- the bytes before that number
 abbrev pub before : Place → List ℕ
 before Xid = []
-before (MessageType xid) = num4 xid
-before (ReplyStat xid) = num4 xid ++ num4 1
-before (AcceptStat xid verf) = num4 xid ++ num4 1 ++ num4 0 ++ auth verf
-before (AcceptLow xid verf) = num4 xid ++ num4 1 ++ num4 0 ++ auth verf ++ num4 2
-before (AcceptHigh xid verf low) = num4 xid ++ num4 1 ++ num4 0 ++ auth verf ++ num4 2 ++ num4 low
-before (RejectStat xid) = num4 xid ++ num4 1 ++ num4 1
-before (RejectLow xid) = num4 xid ++ num4 1 ++ num4 1 ++ num4 0
-before (RejectHigh xid low) = num4 xid ++ num4 1 ++ num4 1 ++ num4 0 ++ num4 low
-before (AuthStat xid) = num4 xid ++ num4 1 ++ num4 1 ++ num4 1
+before (MessageType xid) = word xid
+before (ReplyStat xid) = word xid ++ word 1
+before (AcceptStat xid verf) = word xid ++ word 1 ++ word 0 ++ auth verf
+before (AcceptLow xid verf) = word xid ++ word 1 ++ word 0 ++ auth verf ++ word 2
+before (AcceptHigh xid verf low) = word xid ++ word 1 ++ word 0 ++ auth verf ++ word 2 ++ word low
+before (RejectStat xid) = word xid ++ word 1 ++ word 1
+before (RejectLow xid) = word xid ++ word 1 ++ word 1 ++ word 0
+before (RejectHigh xid low) = word xid ++ word 1 ++ word 1 ++ word 0 ++ word low
+before (AuthStat xid) = word xid ++ word 1 ++ word 1 ++ word 1
 
 -- the values before it have their ranges
 abbrev pub IsPlace : Place → Type 0
@@ -62,7 +63,7 @@ pub record EndsInLength (bytes : List ℕ) : Type 0 where
   pub last : List ℕ
   pub fits : IsWord flavor
   pub short : length last < 4
-  pub parts : bytes ≡ num4 flavor ++ last
+  pub parts : bytes ≡ word flavor ++ last
 
 -- inside of its body,
 pub record EndsInBody (bytes : List ℕ) : Type 0 where
@@ -72,7 +73,7 @@ pub record EndsInBody (bytes : List ℕ) : Type 0 where
   pub fits : IsWord flavor
   pub few : count ≤ 400
   pub short : length body < count
-  pub parts : bytes ≡ num4 flavor ++ num4 count ++ body
+  pub parts : bytes ≡ word flavor ++ word count ++ body
 
 -- or inside of its padding, of which only zeros are there.
 pub record EndsInPadding (bytes : List ℕ) : Type 0 where
@@ -80,7 +81,7 @@ pub record EndsInPadding (bytes : List ℕ) : Type 0 where
   pub zeros : ℕ
   pub fits : IsAuth a
   pub short : zeros < gap (length a.body)
-  pub parts : bytes ≡ num4 a.flavor ++ num4 (length a.body) ++ (a.body ++ replicate zeros 0)
+  pub parts : bytes ≡ word a.flavor ++ word (length a.body) ++ (a.body ++ replicate zeros 0)
 
 -- an opaque_auth that ends too soon; the first case is that of its flavor
 abbrev pub IsCutAuth : List ℕ → Type 0
@@ -91,7 +92,7 @@ pub record EndsInVerifier (bytes : List ℕ) : Type 0 where
   pub xid : ℕ
   pub rest : List ℕ
   pub fits : IsWord xid
-  pub parts : bytes ≡ num4 xid ++ num4 1 ++ num4 0 ++ rest
+  pub parts : bytes ≡ word xid ++ word 1 ++ word 0 ++ rest
   pub cut : IsCutAuth rest
 
 abbrev pub IsCut : List ℕ → Type 0
@@ -106,7 +107,7 @@ pub record IsOtherKind (bytes : List ℕ) : Type 0 where
   pub rest : List ℕ
   pub fits : IsWord xid × IsWord kind
   pub other : kind ≢ 1
-  pub parts : bytes ≡ num4 xid ++ num4 kind ++ rest
+  pub parts : bytes ≡ word xid ++ word kind ++ rest
 
 -- ---- BadStatus
 
@@ -124,7 +125,7 @@ pub record HasBadStatus (bytes : List ℕ) : Type 0 where
   pub rest : List ℕ
   pub fits : IsPlace place × IsWord stat
   pub none : IsNoStatus place stat
-  pub parts : bytes ≡ before place ++ (num4 stat ++ rest)
+  pub parts : bytes ≡ before place ++ (word stat ++ rest)
 
 -- ---- BadAuth
 
@@ -135,7 +136,7 @@ pub record IsTooLong (bytes : List ℕ) : Type 0 where
   pub rest : List ℕ
   pub fits : IsWord flavor × IsWord count
   pub long : 400 < count
-  pub parts : bytes ≡ num4 flavor ++ num4 count ++ rest
+  pub parts : bytes ≡ word flavor ++ word count ++ rest
 
 -- or where its padding stands there are bytes that are not all zero.
 pub record IsPaddedWrong (bytes : List ℕ) : Type 0 where
@@ -145,14 +146,14 @@ pub record IsPaddedWrong (bytes : List ℕ) : Type 0 where
   pub fits : IsAuth a
   pub size : length filling ≤ gap (length a.body)
   pub wrong : filling ≢ replicate (length filling) 0
-  pub parts : bytes ≡ num4 a.flavor ++ num4 (length a.body) ++ (a.body ++ (filling ++ rest))
+  pub parts : bytes ≡ word a.flavor ++ word (length a.body) ++ (a.body ++ (filling ++ rest))
 
 -- The verifier of an accepted reply is so.
 pub record HasBadAuth (bytes : List ℕ) : Type 0 where
   pub xid : ℕ
   pub rest : List ℕ
   pub fits : IsWord xid
-  pub parts : bytes ≡ num4 xid ++ num4 1 ++ num4 0 ++ rest
+  pub parts : bytes ≡ word xid ++ word 1 ++ word 0 ++ rest
   pub bad : IsTooLong rest ⊎ IsPaddedWrong rest
 
 -- ---- Rest

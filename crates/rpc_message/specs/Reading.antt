@@ -5,7 +5,7 @@ use Rattle.std.specs.Int.{w32, from_be_bytes}
 use Rattle.rpc_message.specs.declared.fault.ReplyFault.{ReplyFault}
 use Rattle.rpc_message.specs.declared.fault.ReplyFault.TheVariants as faults
 use Rattle.rpc_message.specs.Message.{AuthView, AuthSysView, CaseView, Whole, OtherVersion, BadCred, BadVerf, NotACall, StatusView, Success, ProgUnavail, ProgMismatch, ProcUnavail, GarbageArgs, SystemErr, WhyView, RpcMismatch, AuthError, ReplyView, Accepted, Denied}
-use Rattle.rpc_message.specs.Spelling.{gap}
+use Rattle.xdr_units.specs.Numbers.{gap}
 
 infixl 10 ◌>>=◌
 abbrev pub ◌>>=◌ : {A B : Type 0} → Result A ReplyFault → (A → Result B ReplyFault) → Result B ReplyFault

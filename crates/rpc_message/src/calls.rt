@@ -7,10 +7,11 @@ ghost use Rattle.rpc_message.specs.View.{call_view, case_view};
 ghost use Rattle.rpc_message.specs.Cases.{IsCase};
 ghost use Rattle.rpc_message.specs.Reading.{Reads, call_head_at, target_at, case_of};
 
-use crate::fault::{NoMemory, ReplyFault};
-use crate::fields::{auth_at, put_auth, put_word, word_at};
+use crate::fault::ReplyFault;
+use crate::fields::{auth_at, push_auth, word_at};
 use crate::message::{Call, CallRead};
 use std::alloc::Global;
+use xdr_units::{NoMemory, push_word};
 
 /// The xid and the version of a call.
 #[tactic(auto, unfolding(crate::specs::Reading::call_head_at))]
@@ -90,14 +91,14 @@ pub fn write_call(alloc: Global, c: &Call) -> Result<Vec<u8>, NoMemory>
     ensures { IfOk result (λ v. CallBytes (call_view c.now) v.items) }
 {
     let mut out = Vec::new(alloc);
-    put_word(&mut out, c.xid)?;
-    put_word(&mut out, 0)?;
-    put_word(&mut out, 2)?;
-    put_word(&mut out, c.prog)?;
-    put_word(&mut out, c.vers)?;
-    put_word(&mut out, c.proc)?;
-    put_auth(&mut out, &c.cred)?;
-    put_auth(&mut out, &c.verf)?;
+    push_word(&mut out, c.xid)?;
+    push_word(&mut out, 0)?;
+    push_word(&mut out, 2)?;
+    push_word(&mut out, c.prog)?;
+    push_word(&mut out, c.vers)?;
+    push_word(&mut out, c.proc)?;
+    push_auth(&mut out, &c.cred)?;
+    push_auth(&mut out, &c.verf)?;
     out.extend_from_slice(&c.args)?;
     Ok(out)
 }

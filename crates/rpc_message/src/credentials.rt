@@ -3,14 +3,16 @@
 ghost use Rattle.std.specs.Prelude.{◌≡◌, ◌≤◌, ◌<◌, ◌++◌, length, Some, IfOk, IfSome, OnOk, All, option_map};
 ghost use Rattle.std.specs.List.{flat_map};
 ghost use Rattle.rpc_message.specs.Message.{AuthSysView};
-ghost use Rattle.rpc_message.specs.Spelling.{num4, auth_sys, IsWord, AuthSysBytes};
+ghost use Rattle.xdr_units.specs.Numbers.{word, IsWord};
+ghost use Rattle.rpc_message.specs.Spelling.{auth_sys, AuthSysBytes};
 ghost use Rattle.rpc_message.specs.View.{auth_sys_view};
 ghost use Rattle.rpc_message.specs.Reading.{Gives, is_memory, words_at, gids_at, auth_sys_at};
 
-use crate::fault::{NoMemory, ReplyFault};
-use crate::fields::{opaque_at, put_opaque, put_word, word_at};
+use crate::fault::ReplyFault;
+use crate::fields::{opaque_at, push_opaque, word_at};
 use crate::message::AuthSys;
 use std::alloc::{AllocError, Global};
+use xdr_units::{NoMemory, push_word};
 
 /// So many words from the front.
 fn words_of(alloc: Global, count: u32, bytes: &[u8]) -> Result<(Vec<u32>, &[u8]), ReplyFault>
@@ -19,8 +21,8 @@ fn words_of(alloc: Global, count: u32, bytes: &[u8]) -> Result<(Vec<u32>, &[u8])
     let mut words = Vec::new(alloc);
     let mut rest = bytes;
     for _ in 0..count {
-        let (word, after) = word_at(rest)?;
-        words.push(word)?;
+        let (number, after) = word_at(rest)?;
+        words.push(number)?;
         rest = after;
     }
     Ok((words, rest))
@@ -91,12 +93,12 @@ pub fn read_auth_sys(alloc: Global, bytes: &[u8]) -> Result<Option<AuthSys>, NoM
 
 /// Writes each word.
 #[tactic(auto, using(crate::proofs::Loop::words_more))]
-fn put_words(out: &mut Vec<u8>, words: &[u32]) -> Result<(), AllocError>
-    ensures ok { OnOk result (out.new.items ≡ out.old.items ++ flat_map num4 words.now) }
+fn push_words(out: &mut Vec<u8>, words: &[u32]) -> Result<(), AllocError>
+    ensures ok { OnOk result (out.new.items ≡ out.old.items ++ flat_map word words.now) }
     ensures fits { OnOk result (All IsWord words.now) }
 {
-    for word in words {
-        put_word(out, *word)?;
+    for number in words {
+        push_word(out, *number)?;
     }
     Ok(())
 }
@@ -109,11 +111,11 @@ pub fn write_auth_sys(alloc: Global, a: &AuthSys) -> Result<Vec<u8>, NoMemory>
     ensures { IfOk result (λ v. AuthSysBytes (auth_sys_view a.now) v.items) }
 {
     let mut out = Vec::new(alloc);
-    put_word(&mut out, a.stamp)?;
-    put_opaque(&mut out, &a.machine)?;
-    put_word(&mut out, a.uid)?;
-    put_word(&mut out, a.gid)?;
-    put_word(&mut out, a.gids.len() as u32)?;
-    put_words(&mut out, &a.gids)?;
+    push_word(&mut out, a.stamp)?;
+    push_opaque(&mut out, &a.machine)?;
+    push_word(&mut out, a.uid)?;
+    push_word(&mut out, a.gid)?;
+    push_word(&mut out, a.gids.len() as u32)?;
+    push_words(&mut out, &a.gids)?;
     Ok(out)
 }

@@ -1,27 +1,10 @@
-//! Why bytes are no reply, and that memory was refused.
+//! Why bytes are no reply.
 
 ghost use Rattle.std.specs.Prelude.{◌≡◌};
 ghost use Rattle.rpc_message.specs.declared.fault.ReplyFault.TheVariants as faults;
 
 use std::alloc::{AllocError, AllocFailed};
 use thiserror::Error;
-
-/// Memory was refused.
-#[derive(Clone, Copy, Debug, PartialEq, Eq, Error)]
-#[error("out of memory")]
-pub struct NoMemory;
-
-impl From<AllocError> for NoMemory {
-    fn from(_e: AllocError) -> NoMemory {
-        NoMemory
-    }
-}
-
-impl<T: Drop> From<AllocFailed<T>> for NoMemory {
-    fn from(_e: AllocFailed<T>) -> NoMemory {
-        NoMemory
-    }
-}
 
 /// Why bytes are no reply: the first fault in the order of the bytes (RFC 5531 sections 8.2 and 9).
 #[derive(Clone, Copy, Debug, PartialEq, Eq, Error)]

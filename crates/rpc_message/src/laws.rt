@@ -2,7 +2,8 @@
 
 ghost use Rattle.std.specs.Prelude.{◌≡◌, ◌↔◌, List, ℕ};
 ghost use Rattle.rpc_message.specs.Message.{AuthSysView, CallView, CaseView, ReplyView};
-ghost use Rattle.rpc_message.specs.Spelling.{AuthSysBytes, CallBytes, ReplyBytes, AreBytes};
+ghost use Rattle.xdr_units.specs.Numbers.{AreBytes};
+ghost use Rattle.rpc_message.specs.Spelling.{AuthSysBytes, CallBytes, ReplyBytes};
 ghost use Rattle.rpc_message.specs.Cases.{IsCase};
 
 /// Two calls are equal exactly if their bytes are (RFC 5531 section 9).

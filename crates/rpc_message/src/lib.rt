@@ -12,7 +12,8 @@ mod replies;
 
 pub use calls::{read_call, write_call};
 pub use credentials::{read_auth_sys, write_auth_sys};
-pub use fault::{NoMemory, ReplyFault};
+pub use fault::ReplyFault;
 pub use laws::{auth_sys_bytes_are_exact, call_bytes_are_exact, five_cases, reply_bytes_are_exact};
 pub use message::{AuthSys, Call, CallRead, OpaqueAuth, Reply, Status, Why};
 pub use replies::{read_reply, write_reply};
+pub use xdr_units::NoMemory;

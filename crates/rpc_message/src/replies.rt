@@ -8,10 +8,11 @@ ghost use Rattle.rpc_message.specs.View.{reply_view, status_view, why_view, HasS
 ghost use Rattle.rpc_message.specs.Faults.{StandsIn};
 ghost use Rattle.rpc_message.specs.Reading.{Reads, Gives, bounds_at, status_at, why_at, accepted_at, denied_at, reply_stat_at, reply_at};
 
-use crate::fault::{NoMemory, ReplyFault};
-use crate::fields::{auth_at, put_auth, put_word, word_at};
+use crate::fault::ReplyFault;
+use crate::fields::{auth_at, push_auth, word_at};
 use crate::message::{Reply, Status, Why};
 use std::alloc::{AllocError, Global};
+use xdr_units::{NoMemory, push_word};
 
 /// The two numbers that end a reply.
 #[tactic(auto, unfolding(crate::specs::Reading::bounds_at))]
@@ -130,65 +131,65 @@ pub fn read_reply(alloc: Global, bytes: &[u8]) -> Result<Reply, ReplyFault>
 }
 
 /// Writes a status with its number.
-fn put_status(out: &mut Vec<u8>, s: &Status) -> Result<(), AllocError>
+fn push_status(out: &mut Vec<u8>, s: &Status) -> Result<(), AllocError>
     ensures ok { OnOk result (out.new.items ≡ out.old.items ++ status (status_view s.now)) }
     ensures fits { OnOk result (IsStatus (status_view s.now)) }
 {
     match s {
         Status::Success(results) => {
-            put_word(out, 0)?;
+            push_word(out, 0)?;
             out.extend_from_slice(results)
         }
-        Status::ProgUnavail => put_word(out, 1),
+        Status::ProgUnavail => push_word(out, 1),
         Status::ProgMismatch { low, high } => {
-            put_word(out, 2)?;
-            put_word(out, *low)?;
-            put_word(out, *high)
+            push_word(out, 2)?;
+            push_word(out, *low)?;
+            push_word(out, *high)
         }
-        Status::ProcUnavail => put_word(out, 3),
-        Status::GarbageArgs => put_word(out, 4),
-        Status::SystemErr => put_word(out, 5),
+        Status::ProcUnavail => push_word(out, 3),
+        Status::GarbageArgs => push_word(out, 4),
+        Status::SystemErr => push_word(out, 5),
     }
 }
 
 /// Writes a reason with its number.
-fn put_why(out: &mut Vec<u8>, w: Why) -> Result<(), AllocError>
+fn push_why(out: &mut Vec<u8>, w: Why) -> Result<(), AllocError>
     ensures ok { OnOk result (out.new.items ≡ out.old.items ++ why (why_view w)) }
     ensures fits { OnOk result (IsWhy (why_view w)) }
 {
     match w {
         Why::RpcMismatch { low, high } => {
-            put_word(out, 0)?;
-            put_word(out, low)?;
-            put_word(out, high)
+            push_word(out, 0)?;
+            push_word(out, low)?;
+            push_word(out, high)
         }
         Why::AuthError(stat) => {
-            put_word(out, 1)?;
-            put_word(out, stat)
+            push_word(out, 1)?;
+            push_word(out, stat)
         }
     }
 }
 
 /// Writes a reply.
-fn put_reply(out: &mut Vec<u8>, r: &Reply) -> Result<(), AllocError>
+fn push_reply(out: &mut Vec<u8>, r: &Reply) -> Result<(), AllocError>
     requires { HasShortVerf r.now }
     ensures ok { OnOk result (out.new.items ≡ out.old.items ++ reply (reply_view r.now)) }
     ensures fits { OnOk result (IsReply (reply_view r.now)) }
 {
     match r {
         Reply::Accepted { xid, verf, status } => {
-            put_word(out, *xid)?;
-            put_word(out, 1)?;
-            put_word(out, 0)?;
-            put_auth(out, verf)?;
-            put_status(out, status)?;
+            push_word(out, *xid)?;
+            push_word(out, 1)?;
+            push_word(out, 0)?;
+            push_auth(out, verf)?;
+            push_status(out, status)?;
             Ok(())
         }
         Reply::Denied { xid, why } => {
-            put_word(out, *xid)?;
-            put_word(out, 1)?;
-            put_word(out, 1)?;
-            put_why(out, *why)
+            push_word(out, *xid)?;
+            push_word(out, 1)?;
+            push_word(out, 1)?;
+            push_why(out, *why)
         }
     }
 }
@@ -200,6 +201,6 @@ pub fn write_reply(alloc: Global, r: &Reply) -> Result<Vec<u8>, NoMemory>
     ensures { IfOk result (λ v. ReplyBytes (reply_view r.now) v.items) }
 {
     let mut out = Vec::new(alloc);
-    put_reply(&mut out, r)?;
+    push_reply(&mut out, r)?;
     Ok(out)
 }

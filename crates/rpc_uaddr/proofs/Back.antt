@@ -1,37 +1,22 @@
 -- The text of an address is read as it.
-use Rattle.std.proofs.Common.{◌≡◌, ℕ, ◌+◌, ◌*◌, ◌/◌, ◌%◌, ◌<◌, ◌^◌, Bool, true, false, ◌&&◌, cond, List, [], ◌∷◌, ◌++◌, refl, ap, ◌∙◌, Some, None, map, nat_eq, nat_lt, decimal, arith, length, if◌then◌else◌, mod-lt}
-use Rattle.std.specs.List.{AllByRecursion, All}
+use Rattle.std.proofs.Common.{◌≡◌, ℕ, ◌+◌, ◌*◌, ◌/◌, ◌%◌, ◌<◌, ◌^◌, true, ◌&&◌, cond, List, [], ◌∷◌, ◌++◌, refl, ap, ◌∙◌, Some, None, map, nat_lt, decimal, arith, length, if◌then◌else◌, mod-lt}
+use Rattle.std.specs.List.{All}
 use Rattle.std.specs.Str.{bytes_eq}
 use Rattle.std.specs.Str.Parse.{digits_value}
 use Rattle.std.proofs.Math.Nat.{div-add-mod}
 use Rattle.std.proofs.lemmas.Slice.Eq.{bytes_eq-Decides}
-use Rattle.std.proofs.lemmas.Bool.Decides.{Decides-eqb, Decides-ltb}
-use Rattle.std.proofs.lemmas.Fmt.{decimal_by_steps, decimal_is_IsNumeral}
+use Rattle.std.proofs.lemmas.Bool.Decides.{Decides-ltb}
+use Rattle.std.proofs.lemmas.Fmt.{decimal_is_IsNumeral}
+use Rattle.xdr_units.specs.Texts.{HasNoDot}
+use Rattle.xdr_units.proofs.Cutting.{no_dot_decimal}
 use Rattle.rpc_uaddr.specs.declared.address.Uaddr.{Uaddr}
 use Rattle.rpc_uaddr.specs.Uaddrs.{uaddr_of, uaddr_text, uaddr_from, parts, onto_first, octet, dotted, IsUaddr}
 
-abbrev pub NoDot : List ℕ → Type 0
-NoDot p = AllByRecursion (λ b. nat_eq b 46 ≡ false) p
-
-digit_is_no_dot : (d : ℕ) → nat_eq (48 + d) 46 ≡ false
-digit_is_no_dot d = by (nat_eq (48 + d) 46) refl
-  where
-    by : (b : Bool) → nat_eq (48 + d) 46 ≡ b → b ≡ false
-    by false e = refl
-    by true e = let z : 48 + d ≡ 46 = (Decides-eqb (48 + d) 46).0 e in absurd (omega (arith, z))
-
-NoDot-push : (ds : List ℕ) (d : ℕ) → NoDot ds → NoDot (ds ++ (48 + d) ∷ [])
-NoDot-push [] d h = (digit_is_no_dot d, h)
-NoDot-push (x ∷ xs) d h = (h.0, NoDot-push xs d h.1)
-
-pub NoDot-decimal : (n : ℕ) → n < 2 ^ 64 → NoDot (decimal n)
-NoDot-decimal n h = decimal_by_steps (λ n ds. NoDot ds) (λ n lt. (digit_is_no_dot n, tt)) (λ n ds le p. NoDot-push ds (n % 10) p) n h
-
-pub parts_one : (p : List ℕ) → NoDot p → parts p ≡ p ∷ []
+pub parts_one : (p : List ℕ) → HasNoDot p → parts p ≡ p ∷ []
 parts_one [] h = refl
 parts_one (b ∷ bs) h = (λ j. cond (h.0 j) ([] ∷ parts bs) (onto_first b (parts bs))) ∙ ap (onto_first b) (parts_one bs h.1)
 
-pub parts_more : (p r : List ℕ) → NoDot p → parts ((p ++ 46 ∷ []) ++ r) ≡ p ∷ parts r
+pub parts_more : (p r : List ℕ) → HasNoDot p → parts ((p ++ 46 ∷ []) ++ r) ≡ p ∷ parts r
 parts_more [] r h = refl
 parts_more (b ∷ bs) r h =
     (λ j. cond (h.0 j) ([] ∷ parts ((bs ++ 46 ∷ []) ++ r)) (onto_first b (parts ((bs ++ 46 ∷ []) ++ r)))) ∙ ap (onto_first b) (parts_more bs r h.1)
@@ -50,8 +35,8 @@ read_six a b c d x y ha hb hc hd hx hy =
     ap (λ ps. uaddr_from (map octet ps)) split
     ∙ (λ j. uaddr_from (octet_decimal a ha j ∷ octet_decimal b hb j ∷ octet_decimal c hc j ∷ octet_decimal d hd j ∷ octet_decimal x hx j ∷ octet_decimal y hy j ∷ []))
   where
-    no : (n : ℕ) → n < 256 → NoDot (decimal n)
-    no n h = NoDot-decimal n (omega (arith, h))
+    no : (n : ℕ) → n < 256 → HasNoDot (decimal n)
+    no n h = no_dot_decimal n (omega (arith, h))
 
     split : parts (dotted (a ∷ b ∷ c ∷ d ∷ x ∷ y ∷ [])) ≡ decimal a ∷ decimal b ∷ decimal c ∷ decimal d ∷ decimal x ∷ decimal y ∷ []
     split =

@@ -1,61 +1,84 @@
 -- Six numbers are taken one after another.
-use Rattle.std.proofs.Common.{◌≡◌, ℕ, ◌+◌, ◌*◌, List, [], ◌∷◌, Option, Some, None, option_and_then, refl, ap, sym, ◌∙◌, map, true, is_some, true≢false, IfSome, IfNone}
+use Rattle.std.proofs.Common.{◌≡◌, ℕ, List, [], ◌∷◌, ◌++◌, Option, Some, None, refl, ap, sym, ◌∙◌, append_assoc, map, true, is_some, true≢false, IfSome, IfNone}
+use Rattle.xdr_units.specs.Texts.{HasNoDot}
 use Rattle.rpc_uaddr.specs.declared.address.Uaddr.{Uaddr}
-use Rattle.rpc_uaddr.specs.Uaddrs.{uaddr_from, uaddr_of, uaddr_text, IsUaddr, first_of, only, octet, octets, parts}
+use Rattle.rpc_uaddr.specs.Uaddrs.{uaddr_from, uaddr_of, uaddr_text, IsUaddr, octet, octets, parts}
 use Rattle.rpc_uaddr.proofs.Inverse.{first, some_part, reads_only_texts}
-use Rattle.rpc_uaddr.proofs.Back.{reads_all_texts}
+use Rattle.rpc_uaddr.proofs.Back.{parts_one, parts_more, reads_all_texts}
 
-abbrev pub from_sixth : ℕ → ℕ → ℕ → ℕ → ℕ → List (Option ℕ) → Option Uaddr
-from_sixth a b c d high os = option_and_then (λ low. Some (record { host = a ∷ b ∷ c ∷ d ∷ []; port = high * 256 + low })) (only os)
+-- ---- one number
 
-abbrev pub from_fifth : ℕ → ℕ → ℕ → ℕ → List (Option ℕ) → Option Uaddr
-from_fifth a b c d os = option_and_then (λ p. from_sixth a b c d p.0 p.1) (first_of os)
+-- the numbers of a text begin with that before its first dot
+octets_more : (text p rest : List ℕ) → HasNoDot p → text ≡ p ++ 46 ∷ rest → octets text ≡ octet p ∷ octets rest
+octets_more text p rest h e =
+    ap octets (e ∙ sym (append_assoc p (46 ∷ []) rest)) ∙ ap (map octet) (parts_more p rest h)
 
-abbrev pub from_fourth : ℕ → ℕ → ℕ → List (Option ℕ) → Option Uaddr
-from_fourth a b c os = option_and_then (λ p. from_fifth a b c p.0 p.1) (first_of os)
+-- a text without a dot has one number
+octets_one : (text : List ℕ) → HasNoDot text → octets text ≡ octet text ∷ []
+octets_one text h = ap (map octet) (parts_one text h)
 
-abbrev pub from_third : ℕ → ℕ → List (Option ℕ) → Option Uaddr
-from_third a b os = option_and_then (λ p. from_fourth a b p.0 p.1) (first_of os)
+abbrev front : List (Option ℕ) → Option ℕ
+front [] = None
+front (o ∷ os) = o
 
-abbrev pub from_second : ℕ → List (Option ℕ) → Option Uaddr
-from_second a os = option_and_then (λ p. from_third a p.0 p.1) (first_of os)
+abbrev behind : List (Option ℕ) → List (Option ℕ)
+behind [] = []
+behind (o ∷ os) = os
 
-abbrev pub from_first : List (Option ℕ) → Option Uaddr
-from_first os = option_and_then (λ p. from_second p.0 p.1) (first_of os)
+none_some : (n : ℕ) → None ≡ Some n → ⊥
+none_some n e = true≢false (sym (ap is_some e))
 
-pub chained : (os : List (Option ℕ)) → uaddr_from os ≡ from_first os
-chained [] = refl
-chained (None ∷ os) = refl
-chained (Some a ∷ []) = refl
-chained (Some a ∷ None ∷ os) = refl
-chained (Some a ∷ Some b ∷ []) = refl
-chained (Some a ∷ Some b ∷ None ∷ os) = refl
-chained (Some a ∷ Some b ∷ Some c ∷ []) = refl
-chained (Some a ∷ Some b ∷ Some c ∷ None ∷ os) = refl
-chained (Some a ∷ Some b ∷ Some c ∷ Some d ∷ []) = refl
-chained (Some a ∷ Some b ∷ Some c ∷ Some d ∷ None ∷ os) = refl
-chained (Some a ∷ Some b ∷ Some c ∷ Some d ∷ Some h ∷ []) = refl
-chained (Some a ∷ Some b ∷ Some c ∷ Some d ∷ Some h ∷ None ∷ os) = refl
-chained (Some a ∷ Some b ∷ Some c ∷ Some d ∷ Some h ∷ Some l ∷ []) = refl
-chained (Some a ∷ Some b ∷ Some c ∷ Some d ∷ Some h ∷ Some l ∷ o ∷ os) = refl
+nil_cons : (o : Option ℕ) (os : List (Option ℕ)) → [] ≡ o ∷ os → ⊥
+nil_cons o os e = cc
 
--- The first number and those of the text after its dot.
-pub first_some : (text p rest : List ℕ) (n : ℕ) → parts text ≡ p ∷ parts rest → octet p ≡ Some n → Some (n, octets rest) ≡ first_of (octets text)
-first_some text p rest n e o =
-    by (parts rest) (some_part rest) ∙ (λ j. first_of (sym o j ∷ octets rest)) ∙ sym (ap (λ ps. first_of (map octet ps)) e)
+pub first_is : (text p rest : List ℕ) (n : ℕ) → HasNoDot p → text ≡ p ++ 46 ∷ rest → Some n ≡ octet p
+    → octets text ≡ Some n ∷ octets rest
+first_is text p rest n h e o = octets_more text p rest h e ∙ ap (λ (x : Option ℕ). x ∷ octets rest) (sym o)
+
+pub first_is_none : (text p rest : List ℕ) → HasNoDot p → text ≡ p ++ 46 ∷ rest → None ≡ octet p
+    → (n : ℕ) (os : List (Option ℕ)) → octets text ≡ Some n ∷ os → ⊥
+first_is_none text p rest h e o n os same = none_some n (o ∙ ap front (sym (octets_more text p rest h e) ∙ same))
+
+pub no_second : (text : List ℕ) → HasNoDot text → (o m : Option ℕ) (os : List (Option ℕ)) → octets text ≡ o ∷ m ∷ os → ⊥
+no_second text h o m os same = nil_cons m os (ap behind (sym (octets_one text h) ∙ same))
+
+pub only_is : (text : List ℕ) (n : ℕ) → HasNoDot text → Some n ≡ octet text → octets text ≡ Some n ∷ []
+only_is text n h o = octets_one text h ∙ ap (λ (x : Option ℕ). x ∷ []) (sym o)
+
+pub only_is_none : (text : List ℕ) → HasNoDot text → None ≡ octet text → (n : ℕ) → octets text ≡ Some n ∷ [] → ⊥
+only_is_none text h o n same = none_some n (o ∙ ap front (sym (octets_one text h) ∙ same))
+
+-- a text with a dot has two numbers or more
+pub not_only : (text p rest : List ℕ) → HasNoDot p → text ≡ p ++ 46 ∷ rest → (n : ℕ) → octets text ≡ Some n ∷ [] → ⊥
+not_only text p rest h e n same =
+    by (parts rest) (some_part rest) (ap behind (sym (octets_more text p rest h e) ∙ same))
   where
-    by : (ps : List (List ℕ)) → is_some (first ps) ≡ true → Some (n, map octet ps) ≡ first_of (Some n ∷ map octet ps)
-    by [] s = absurd (true≢false (sym s))
-    by (q ∷ qs) s = refl
+    by : (ps : List (List ℕ)) → is_some (first ps) ≡ true → map octet ps ≡ [] → ⊥
+    by [] s none = true≢false (sym s)
+    by (q ∷ qs) s none = nil_cons (octet q) (map octet qs) (sym none)
 
--- No number stands alone in a text with a dot.
-pub only_none : (text p rest : List ℕ) → parts text ≡ p ∷ parts rest → None ≡ only (octets text)
-only_none text p rest e = by (octet p) (parts rest) (some_part rest) ∙ sym (ap (λ ps. only (map octet ps)) e)
-  where
-    by : (o : Option ℕ) (ps : List (List ℕ)) → is_some (first ps) ≡ true → None ≡ only (o ∷ map octet ps)
-    by o [] s = absurd (true≢false (sym s))
-    by None (q ∷ qs) s = refl
-    by (Some n) (q ∷ qs) s = refl
+-- ---- the last of six
+
+-- no number stands alone
+abbrev HasNoOnly : List (Option ℕ) → Type 0
+HasNoOnly os = (n : ℕ) → os ≡ Some n ∷ [] → ⊥
+
+no_sixth : (a b c d e : ℕ) (os : List (Option ℕ)) → HasNoOnly os
+    → None ≡ uaddr_from (Some a ∷ Some b ∷ Some c ∷ Some d ∷ Some e ∷ os)
+no_sixth a b c d e [] never = refl
+no_sixth a b c d e (None ∷ os) never = refl
+no_sixth a b c d e (Some n ∷ []) never = absurd (never n refl)
+no_sixth a b c d e (Some n ∷ m ∷ os) never = refl
+
+-- the same of texts, each the rest of the one before
+pub no_last : (t t1 t2 t3 t4 t5 : List ℕ) (a b c d high : ℕ) → octets t ≡ Some a ∷ octets t1 → octets t1 ≡ Some b ∷ octets t2
+    → octets t2 ≡ Some c ∷ octets t3 → octets t3 ≡ Some d ∷ octets t4 → octets t4 ≡ Some high ∷ octets t5
+    → HasNoOnly (octets t5) → None ≡ uaddr_of t
+no_last t t1 t2 t3 t4 t5 a b c d high e e1 e2 e3 e4 never =
+    let six : octets t ≡ Some a ∷ Some b ∷ Some c ∷ Some d ∷ Some high ∷ octets t5 = rw (e, e1, e2, e3, e4) refl in
+    no_sixth a b c d high (octets t5) never ∙ sym (ap uaddr_from six)
+
+-- ---- what is read
 
 -- What is read is the text of its address.
 pub some_read : (r : Option Uaddr) (text : List ℕ) → r ≡ uaddr_of text → IfSome r (λ a. text ≡ uaddr_text a)
@@ -63,6 +86,7 @@ some_read None text e = tt
 some_read (Some a) text e = reads_only_texts text a (sym e)
 
 -- What is not read is no address's text.
-pub none_read : (r : Option Uaddr) (text : List ℕ) → r ≡ uaddr_of text → IfNone r ((a : Uaddr) → IsUaddr a → text ≡ uaddr_text a → ⊥)
+pub none_read : (r : Option Uaddr) (text : List ℕ) → r ≡ uaddr_of text
+    → IfNone r ((a : Uaddr) → IsUaddr a → text ≡ uaddr_text a → ⊥)
 none_read None text e = λ a own same. true≢false (sym (ap is_some (e ∙ ap uaddr_of same ∙ reads_all_texts a own)))
 none_read (Some a) text e = tt

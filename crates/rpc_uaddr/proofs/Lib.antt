@@ -1,5 +1,4 @@
 pub mod Inverse
 pub mod Back
-pub mod Cutting
 pub mod Chain
-pub mod Parsed
+pub mod Octets

@@ -51,13 +51,3 @@ uaddr_from _ = None
 -- the address that a text spells
 abbrev pub uaddr_of : List ℕ → Option Uaddr
 uaddr_of text = uaddr_from (octets text)
-
--- the first of two or more numbers, and those after it
-abbrev pub first_of : List (Option ℕ) → Option (ℕ × List (Option ℕ))
-first_of (Some n ∷ m ∷ ns) = Some (n, m ∷ ns)
-first_of _ = None
-
--- the number that stands alone
-abbrev pub only : List (Option ℕ) → Option ℕ
-only (Some n ∷ []) = Some n
-only _ = None

@@ -1,10 +1,9 @@
-// Universal addresses as texts.
+//! Universal addresses as texts.
 ghost use Rattle.std.specs.Prelude.{◌≡◌, ◌++◌, ◌∷◌, decimal, IfOk, OnOk};
 ghost use Rattle.rpc_uaddr.specs.Uaddrs.{uaddr_text};
 
-use crate::memory::NoMemory;
-use itoa::Buffer;
 use std::alloc::{AllocError, Global};
+use xdr_units::{NoMemory, push_decimal};
 
 /// A host and a port over IPv4 (RFC 5665 section 5.2.3.3).
 #[derive(Clone, Copy, Debug, PartialEq, Eq)]
@@ -21,27 +20,19 @@ pub fn write_uaddr(alloc: Global, address: Uaddr) -> Result<Vec<u8>, NoMemory>
     ensures { IfOk result (λ v. v.items ≡ uaddr_text address) }
 {
     let mut text = Vec::new(alloc);
-    push_number(&mut text, u16::from(address.host[0]))?;
-    push_dotted(&mut text, u16::from(address.host[1]))?;
-    push_dotted(&mut text, u16::from(address.host[2]))?;
-    push_dotted(&mut text, u16::from(address.host[3]))?;
-    push_dotted(&mut text, address.port / 256)?;
-    push_dotted(&mut text, address.port % 256)?;
+    push_decimal(&mut text, u32::from(address.host[0]))?;
+    push_dotted(&mut text, u32::from(address.host[1]))?;
+    push_dotted(&mut text, u32::from(address.host[2]))?;
+    push_dotted(&mut text, u32::from(address.host[3]))?;
+    push_dotted(&mut text, u32::from(address.port / 256))?;
+    push_dotted(&mut text, u32::from(address.port % 256))?;
     Ok(text)
 }
 
-// Adds a dot and a number.
-fn push_dotted(text: &mut Vec<u8>, number: u16) -> Result<(), AllocError>
+/// Adds a dot and a number.
+fn push_dotted(text: &mut Vec<u8>, number: u32) -> Result<(), AllocError>
     ensures { OnOk result (text.new.items ≡ text.old.items ++ (46 ∷ decimal number)) }
 {
     text.push(b'.')?;
-    push_number(text, number)
-}
-
-// Adds a number in decimal.
-fn push_number(text: &mut Vec<u8>, number: u16) -> Result<(), AllocError>
-    ensures { OnOk result (text.new.items ≡ text.old.items ++ decimal number) }
-{
-    let mut buffer = Buffer::new();
-    text.extend_from_slice(buffer.format(number).as_bytes())
+    push_decimal(text, number)
 }

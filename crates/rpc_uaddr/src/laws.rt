@@ -1,4 +1,4 @@
-// The laws of universal addresses.
+//! The laws of universal addresses.
 ghost use Rattle.rpc_uaddr.specs.Laws.{ReadsOnlyTexts, ReadsAllTexts, EachTextIsOneAddress};
 
 /// A text that is read is the text of its address, the text of an address is read as it, and two addresses with the same

@@ -3,10 +3,9 @@
 
 mod address;
 mod laws;
-mod memory;
 mod reading;
 
 pub use address::{Uaddr, write_uaddr};
 pub use laws::uaddr_reads_back;
-pub use memory::NoMemory;
 pub use reading::read_uaddr;
+pub use xdr_units::NoMemory;

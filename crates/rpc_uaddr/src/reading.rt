@@ -1,11 +1,10 @@
-// Universal addresses out of texts. Nothing here takes memory.
-ghost use Rattle.std.specs.Prelude.{◌≡◌, ◌∷◌, [], ◌≤◌, length, option_map, IfSome, IfNone, MatchOption};
+//! Universal addresses out of texts. Nothing here takes memory.
+ghost use Rattle.std.specs.Prelude.{◌≡◌, ◌∷◌, [], ℕ, List, Option, Some, IfSome, IfNone};
 ghost use Rattle.rpc_uaddr.specs.declared.address.Uaddr.{Uaddr as PlainUaddr};
-ghost use Rattle.rpc_uaddr.specs.Uaddrs.{uaddr_of, uaddr_text, IsUaddr, octet, octets, first_of, only, parts};
+ghost use Rattle.rpc_uaddr.specs.Uaddrs.{uaddr_of, uaddr_text, IsUaddr, octet, octets};
 
 use crate::address::Uaddr;
-use itoa::Buffer;
-use std::str::from_utf8;
+use xdr_units::{before_dot, decimal_number};
 
 /// The address whose universal address this text is: six decimal numbers 0 to 255 without leading zeros and with dots
 /// between them, the last two the port's high and low octet (RFC 5665 section 5.2.3.3). `None` for every other text.
@@ -18,7 +17,7 @@ pub fn read_uaddr(text: &[u8]) -> Option<Uaddr>
     read_numbers(text)
 }
 
-// The six numbers, one after another.
+/// The six numbers, one after another.
 fn read_numbers(text: &[u8]) -> Option<Uaddr>
     ensures { result ≡ uaddr_of text.now }
 {
@@ -34,41 +33,29 @@ fn read_numbers(text: &[u8]) -> Option<Uaddr>
     })
 }
 
-// The number before the first dot, and the text after that dot.
+/// The number before the first dot, and the text after that dot.
 fn first_octet(text: &[u8]) -> Option<(u8, &[u8])>
-    ensures { option_map (λ r. (r.0, octets r.1.now)) result ≡ first_of (octets text.now) }
+    ensures found { IfSome result (λ r. octets text.now ≡ Some r.0 ∷ octets r.1.now) }
+    ensures none { IfNone result ((n : ℕ) (m : Option ℕ) (ns : List (Option ℕ)) → octets text.now ≡ Some n ∷ m ∷ ns → ⊥) }
 {
-    let (part, rest) = cut(text)?;
+    let (part, rest) = before_dot(text)?;
     Some((octet(part)?, rest))
 }
 
-// The number that is the whole text.
+/// The number that is the whole text.
 fn only_octet(text: &[u8]) -> Option<u8>
-    ensures { result ≡ only (octets text.now) }
+    ensures found { IfSome result (λ n. octets text.now ≡ Some n ∷ []) }
+    ensures none { IfNone result ((n : ℕ) → octets text.now ≡ Some n ∷ [] → ⊥) }
 {
-    match cut(text) {
+    match before_dot(text) {
         Some(_) => None,
         None => octet(text),
     }
 }
 
-// The text before the first dot, and the text after it.
-fn cut(text: &[u8]) -> Option<(&[u8], &[u8])>
-    ensures { MatchOption result (parts text.now ≡ text.now ∷ []) (λ r. parts text.now ≡ r.0.now ∷ parts r.1.now) }
-{
-    for at in 0..text.len() {
-        if text[at] == b'.' {
-            return Some((&text[..at], &text[at + 1..]));
-        }
-    }
-    None
-}
-
-// The number below 256 whose decimal text this is.
+/// The number below 256 whose decimal text this is.
 fn octet(text: &[u8]) -> Option<u8>
     ensures { result ≡ octet text.now }
 {
-    let number: u8 = from_utf8(text).ok()?.parse().ok()?;
-    let mut buffer = Buffer::new();
-    (buffer.format(number).as_bytes() == text).then_some(number)
+    u8::try_from(decimal_number(text)?).ok()
 }

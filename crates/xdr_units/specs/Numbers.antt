@@ -1,10 +1,15 @@
--- Numbers, padding and padded content as bytes, most significant byte first; signed numbers are two's complement (RFC 4506 sections 3 and 4).
-use Rattle.std.specs.Prelude.{ℕ, ◌-◌, ◌%◌, ℤ, pos, List, Bool, true, false, ◌++◌, length, replicate}
+-- Numbers, padding and padded content as bytes, most significant byte first; signed numbers are two's complement
+-- (RFC 4506 sections 3 and 4).
+use Rattle.std.specs.Prelude.{ℕ, ◌-◌, ◌%◌, ◌<◌, ◌^◌, ℤ, pos, List, Bool, true, false, ◌++◌, length, replicate, get_or}
 use Rattle.std.specs.Int.{w32, w64, to_be_bytes, cast_unsigned}
 
 -- the four bytes of an unsigned number below 2^32 (RFC 4506 section 4.2)
 abbrev pub word : ℕ → List ℕ
 word n = to_be_bytes w32 n
+
+-- the eight bytes of an unsigned number below 2^64 (RFC 4506 section 4.5)
+abbrev pub long_word : ℕ → List ℕ
+long_word n = to_be_bytes w64 n
 
 -- the four bytes of a number from -2^31 to 2^32 - 1, as it is modulo 2^32 (RFC 4506 sections 4.1, 4.2)
 abbrev pub num4 : ℤ → List ℕ
@@ -12,7 +17,7 @@ num4 z = word (cast_unsigned w32 z)
 
 -- the eight bytes of a number from -2^63 to 2^64 - 1, as it is modulo 2^64 (RFC 4506 section 4.5)
 abbrev pub num8 : ℤ → List ℕ
-num8 z = to_be_bytes w64 (cast_unsigned w64 z)
+num8 z = long_word (cast_unsigned w64 z)
 
 -- FALSE is 0 and TRUE is 1 (RFC 4506 section 4.4)
 abbrev pub number_of : Bool → ℤ
@@ -30,3 +35,13 @@ pad n = replicate (gap n) 0
 -- bytes, and the zeros that fill their last unit (RFC 4506 section 3)
 abbrev pub padded : List ℕ → List ℕ
 padded bytes = bytes ++ pad (length bytes)
+
+-- ---- ranges
+
+-- a number that has four bytes (RFC 4506 section 4.2)
+abbrev pub IsWord : ℕ → Type 0
+IsWord n = n < 2 ^ 32
+
+-- each number is a byte
+abbrev pub AreBytes : List ℕ → Type 0
+AreBytes bytes = (i : ℕ) → get_or bytes i 0 < 256

@@ -1,6 +1,12 @@
 use Rattle.std.proofs.Common.{rules}
-use Rattle.rpc_uaddr.proofs.Chain.{first_some}
+use Rattle.rpc_uaddr.proofs.Chain.{first_is, first_is_none, no_second}
 use Rattle.rpc_uaddr.proofs.reading.first_octet.Goals as goal
 
-pub returns : goal.returns
-returns c = first_some c.args.text.now c.in_ok-part.part.now c.in_ok-part.rest.now c.in_ok-octet.field-0 (search rules) (search rules)
+pub returns-in_err-part-clause-none : goal.returns-in_err-part-clause-none
+returns-in_err-part-clause-none c = search (rules, no_second)
+
+pub returns-in_err-octet-clause-none : goal.returns-in_err-octet-clause-none
+returns-in_err-octet-clause-none c = search (rules, first_is_none)
+
+pub returns-clause-found : goal.returns-clause-found
+returns-clause-found c = search (rules, first_is)

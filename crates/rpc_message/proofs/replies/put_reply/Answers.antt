@@ -1,8 +1,0 @@
-use Rattle.rpc_message.specs.View.{auth_view, status_view}
-use Rattle.rpc_message.proofs.ReplyLaws.{accepted_written}
-use Rattle.rpc_message.proofs.replies.put_reply.Goals as goal
-
-pub returns-in_ok-put_status-in-Accepted-clause-ok : goal.returns-in_ok-put_status-in-Accepted-clause-ok
-returns-in_ok-put_status-in-Accepted-clause-ok c =
-    rw c.in-Accepted.is (accepted_written c.args.out.now.items c.put_word.new.out.items c.put_word-in-Accepted.new.out.items c.put_word-in-Accepted-2.new.out.items c.put_auth.new.out.items c.put_status.new.out.items c.in-Accepted.xid (auth_view c.in-Accepted.verf) (status_view c.in-Accepted.status)
-    c.in_ok-put_word-in-Accepted.ensures.ok c.in_ok-put_word-in-Accepted-2.ensures.ok c.in_ok-put_word-in-Accepted-3.ensures.ok c.in_ok-put_auth-in-Accepted.ensures.ok c.in_ok-put_status-in-Accepted.ensures.ok)
