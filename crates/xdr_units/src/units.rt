@@ -3,6 +3,7 @@ ghost use Rattle.std.specs.Prelude.{◌≡◌, ◌<◌, ◌^◌, ◌++◌, ℕ, 
 ghost use Rattle.xdr_units.specs.Numbers.{word, long_word, gap, padded, IsWord};
 ghost use Rattle.xdr_units.specs.Fronts.{IsNoContent};
 
+use byteorder::{BigEndian, ByteOrder};
 use std::alloc::AllocError;
 
 /// Why padded content does not stand at the front of bytes.
@@ -56,11 +57,7 @@ fn gap(count: usize) -> usize
 pub fn are_zeros(bytes: &[u8]) -> bool
     ensures { IsTrue result ↔ (bytes.now ≡ replicate (length bytes.now) 0) }
 {
-    match bytes {
-        [] => true,
-        [0, others @ ..] => are_zeros(others),
-        [_, ..] => false,
-    }
+    bytes.iter().all(|byte| *byte == 0)
 }
 
 /// So many bytes at the front, and what follows their padding. Where both are wrong, a cut is named before the padding
@@ -89,7 +86,9 @@ pub fn push_word(out: &mut Vec<u8>, number: u32) -> Result<(), AllocError>
     ensures ok { OnOk result (out.new.items ≡ out.old.items ++ word number) }
     ensures fits { IsWord number }
 {
-    out.extend_from_slice(&number.to_be_bytes())
+    let mut bytes = [0; 4];
+    BigEndian::write_u32(&mut bytes, number);
+    out.extend_from_slice(&bytes)
 }
 
 /// Writes the bytes and their padding.
