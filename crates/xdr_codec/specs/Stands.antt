@@ -31,8 +31,8 @@ StandsAs kinds place limits bytes (Finished v) b = IsWhole kinds place limits (t
 StandsAs kinds place limits bytes (Failed f) b = Fails kinds place limits f b
 
 -- the decoder's fields stand for these bytes, all that it was given up to the value's end
-abbrev pub Stands : Decoder → List ℕ → Type 0
-Stands d b = StandsAs d.schema.now.kinds d.kind.place d.limits d.bytes.items d.state b
+abbrev pub StandsFor : Decoder → List ℕ → Type 0
+StandsFor d b = StandsAs d.schema.now.kinds d.kind.place d.limits d.bytes.items d.state b
 
 -- what a call takes of its piece: all of it, or the bytes up to the value's end
 abbrev pub taken : List ℕ → Result Progress DecodeFault → List ℕ

@@ -1,6 +1,6 @@
-// Bytes in pieces as a value.
+//! Bytes in pieces as a value.
 ghost use Rattle.std.specs.Prelude.{◌≡◌, ◌≤◌, ◌<◌, ℕ, List, [], ◌++◌, length, IfOk, IfErr, Ok, Err};
-ghost use Rattle.xdr_codec.specs.Stands.{Stands, Answers, Finishes, taken, used_of, IsSame, IsStarted, IsDone, HasFailed};
+ghost use Rattle.xdr_codec.specs.Stands.{StandsFor, Answers, Finishes, taken, used_of, IsSame, IsStarted, IsDone, HasFailed};
 ghost use Rattle.xdr_codec.specs.declared.state.Progress.TheVariants.{Done};
 
 use crate::decoding::decode;
@@ -13,7 +13,7 @@ impl<'s> Decoder<'s> {
     /// A decoder that has been given no byte.
     pub fn start(alloc: Global, schema: &'s Schema, kind: KindId, limits: Limits) -> Decoder<'s>
         requires { kind.place < length schema.now.kinds }
-        ensures stands { Stands result [] }
+        ensures stands { StandsFor result [] }
         ensures settings { IsStarted result schema.now kind limits }
     {
         Decoder {
@@ -31,8 +31,8 @@ impl<'s> Decoder<'s> {
     /// looked at. A fault comes where no continuation is accepted, or where memory was refused; it has
     /// taken the whole piece, and comes again at each later call.
     pub fn feed(&mut self, piece: &[u8]) -> Result<Progress, DecodeFault>
-        ensures stands { (b : List ℕ) → Stands self.old b → Stands self.new (b ++ taken piece.now result) }
-        ensures answer { (b : List ℕ) → Stands self.old b → Answers self.old (b ++ taken piece.now result) result }
+        ensures stands { (b : List ℕ) → StandsFor self.old b → StandsFor self.new (b ++ taken piece.now result) }
+        ensures answer { (b : List ℕ) → StandsFor self.old b → Answers self.old (b ++ taken piece.now result) result }
         ensures used { IfOk result (λ p. used_of p ≤ length piece.now) }
         ensures done { IfOk result (λ p. (used : ℕ) → p ≡ Done used → IsDone self.new) }
         ensures again { IsDone self.old → result ≡ Ok (Done 0) }
@@ -76,7 +76,7 @@ impl<'s> Decoder<'s> {
     /// The value that the bytes encode. A fault of an earlier call comes again; where the value is not
     /// whole, it is `Truncated` at the count of bytes given.
     pub fn finish(self) -> Result<Value, DecodeFault>
-        ensures answer { (b : List ℕ) → Stands self.entry b → Finishes self.entry b result }
+        ensures answer { (b : List ℕ) → StandsFor self.entry b → Finishes self.entry b result }
         ensures for_ever { (f : DecodeFault) → HasFailed self.entry f → result ≡ Err f }
     {
         let bytes = self.bytes;

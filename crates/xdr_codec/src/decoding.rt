@@ -1,4 +1,4 @@
-// Bytes as a value.
+//! Bytes as a value.
 ghost use Rattle.std.specs.Prelude.{◌≡◌, ℕ, ◌≤◌, ◌<◌, length, take, nat_le, IfOk, IfErr};
 ghost use Rattle.xdr_types.specs.Spelling.{bytes_of};
 ghost use Rattle.xdr_types.specs.Tree.{Tree};
@@ -13,10 +13,13 @@ use crate::units::Stop;
 use std::alloc::Global;
 use xdr_types::{KindId, Limits, Schema, Value};
 
-/// The value whose encoding begins the input, and the count of its bytes (RFC 4506). There is at most
-/// one such pair. A fault says that there is none; unless the input was cut short or memory was
-/// refused, there is none in any longer input either. `at` counts the bytes before the node or the unit
-/// that is refused; of an input that is cut short it is the count of all its bytes.
+/// The value whose encoding begins the input, and the count of its bytes (RFC 4506). There is at most one such pair.
+///
+/// A fault other than `NoMemory` says that there is none; unless it is `Truncated`, there is none in any longer input
+/// either. `at` is the count of bytes before the unit that is refused; for `TooDeep` of those before the node that lies
+/// too deep, for `TooLarge` the limit on bytes, for `Truncated` the count of all bytes. For `NoMemory` it is at most
+/// that count and says no more. It is proved that `at` is at most the count of all bytes, and that count for
+/// `Truncated`; which reason is named first, and its place, tests show.
 pub fn decode(
     alloc: Global,
     schema: &Schema,

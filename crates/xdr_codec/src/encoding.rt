@@ -1,4 +1,4 @@
-// A value as bytes.
+//! A value as bytes.
 ghost use Rattle.std.specs.Prelude.{◌≡◌, ◌++◌, ◌<◌, ◌^◌, length, map, pos, negsuc, ◌≤ℤ◌, replicate, IsTrue, IfOk, OnOk, true};
 ghost use Rattle.xdr_types.specs.Form.{kind_at};
 ghost use Rattle.xdr_types.specs.Forms.{form_of, part_of_member};
@@ -13,9 +13,9 @@ use crate::pushing::push_value;
 use std::alloc::{AllocError, Global};
 use xdr_types::{KindId, Limits, Schema, Value, size};
 
-/// The encoding of a value (RFC 4506): exactly its bytes, and no other value of the kind within the
-/// limits has them. The value fits the kind within the limits, as `fits` tells. An error comes only
-/// where memory was refused.
+/// The encoding of a value (RFC 4506): exactly its bytes, and no other value of the kind has them. The value fits the
+/// kind within the limits, as `fits` tells. An error is want of memory; that none comes while memory is granted is no
+/// clause, tests show it. The bytes are asked for in one growth of their count.
 pub fn encode(
     alloc: Global,
     schema: &Schema,

@@ -1,4 +1,4 @@
-// Bytes gathered in an array on their way to a sink.
+//! Bytes gathered in an array on their way to a sink.
 ghost use Rattle.std.specs.Prelude.{◌≡◌, ◌+◌, ◌≤◌, ◌<◌, ◌^◌, ◌++◌, [], ⊤, length, take, MatchResult};
 ghost use Rattle.xdr_codec.specs.Gathered.{Gathers, Breaks, gathering};
 

@@ -1,4 +1,4 @@
-// Values without parts, from the front of bytes.
+//! Values without parts, from the front of bytes.
 ghost use Rattle.std.specs.Prelude.{◌≡◌, List, map, MatchResult};
 ghost use Rattle.xdr_types.specs.Form.{Form, int, unsigned, hyper, unsigned_hyper, boolean, numbered, opaque, opaque_up_to, text};
 ghost use Rattle.xdr_types.specs.Forms.{constant_of};

@@ -1,4 +1,4 @@
-// The encoding of XDR values, and their decoding.
+//! The encoding of XDR values, and their decoding.
 #![tactic(auto)]
 
 mod decoder;

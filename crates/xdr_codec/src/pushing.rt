@@ -1,4 +1,4 @@
-// A value as bytes.
+//! A value as bytes.
 ghost use Rattle.std.specs.Prelude.{◌≡◌, ◌++◌, ◌<◌, ◌^◌, length, map, pos, negsuc, ◌≤ℤ◌, replicate, IsTrue, IfOk, true};
 ghost use Rattle.xdr_types.specs.Form.{kind_at};
 ghost use Rattle.xdr_types.specs.Forms.{form_of, part_of_member};

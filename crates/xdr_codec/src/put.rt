@@ -1,4 +1,4 @@
-// Where an encoding goes, a few bytes at a time.
+//! Where an encoding goes, a few bytes at a time.
 ghost use Rattle.std.specs.Prelude.{◌≡◌, ◌++◌, List, ℕ, [], MatchResult};
 
 /// The bytes were not put.

@@ -1,4 +1,4 @@
-// A value from the front of bytes.
+//! A value from the front of bytes.
 ghost use Rattle.std.specs.Prelude.{◌≡◌, ◌<◌, length, map, option_map, replicate, MatchResult};
 ghost use Rattle.std.specs.List.{AllByRecursion};
 ghost use Rattle.xdr_types.specs.Form.{Part, kind_at, fixed, up_to, structure, choice, maybe};

@@ -1,4 +1,4 @@
-// A decoder of bytes that come in pieces.
+//! A decoder of bytes that come in pieces.
 ghost use Rattle.std.specs.Prelude.{◌<◌, length};
 
 use crate::fault::DecodeFault;

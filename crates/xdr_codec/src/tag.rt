@@ -1,4 +1,4 @@
-// The discriminant of a union, from the front of bytes.
+//! The discriminant of a union, from the front of bytes.
 ghost use Rattle.std.specs.Prelude.{◌≡◌, ◌++◌, ℤ, pos, map, option_map, MatchResult, Some, true};
 ghost use Rattle.xdr_types.specs.Form.{kind_at};
 ghost use Rattle.xdr_types.specs.Forms.{branch_of, part_of_member};

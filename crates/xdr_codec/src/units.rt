@@ -1,4 +1,4 @@
-// Numbers and content at the front of bytes.
+//! Numbers and content at the front of bytes.
 ghost use Rattle.std.specs.Prelude.{◌≡◌, ◌++◌, ◌<◌, pos, length, MatchResult, true};
 ghost use Rattle.xdr_types.specs.Fits.{is_unsigned, are_bytes};
 ghost use Rattle.xdr_units.specs.Numbers.{num4, num8, number_of, padded};

@@ -1,4 +1,4 @@
-// A value into a sink.
+//! A value into a sink.
 ghost use Rattle.std.specs.Prelude.{◌≡◌, ◌<◌, length, take, IfOk, IfErr, OnOk, OnErr};
 ghost use Rattle.std.specs.Io.KnownBytes.{Appends};
 ghost use Rattle.xdr_io.specs.Told.{Counts};

@@ -24,22 +24,28 @@ IsLeaf s k h place d t b ps = IsLegal s k h × (own k h ≡ b) × (parts k h ≡
 nothing_more : (place : ℕ) → place + 0 ≡ place
 nothing_more place = omega arith
 
-leaf_back : (s : List Form) (place d : ℕ) (t : Part) (ts : List Part) (ds : List Due) (h : Head) (b : List ℕ) (qs : List Entry) (y : List ℕ) (ps : List Entry)
-    → IsLeaf s (kind_at s t.kind) h place d t b qs → Completes s (place + length b) (Frame d ts ∷ ds) y ps → Completes s place (Frame d (t ∷ ts) ∷ ds) (b ++ y) (qs ++ ps)
+leaf_back : (s : List Form) (place d : ℕ) (t : Part) (ts : List Part) (ds : List Due) (h : Head) (b : List ℕ)
+    (qs : List Entry) (y : List ℕ) (ps : List Entry)
+    → IsLeaf s (kind_at s t.kind) h place d t b qs → Completes s (place + length b) (Frame d ts ∷ ds) y ps
+    → Completes s place (Frame d (t ∷ ts) ∷ ds) (b ++ y) (qs ++ ps)
 leaf_back s place d t ts ds h b qs y ps leaf r =
     let k : Form = kind_at s t.kind in
-    let at : Completes s (place + length (own k h) + 0) (Frame d ts ∷ ds) y ps = subst (λ (n : ℕ). Completes s n (Frame d ts ∷ ds) y ps)
+    let at : Completes s (place + length (own k h) + 0) (Frame d ts ∷ ds) y ps = subst
+    (λ (n : ℕ). Completes s n (Frame d ts ∷ ds) y ps)
     (ap (λ (o : List ℕ). place + length o) (sym leaf.1) ∙ sym (nothing_more (place + length (own k h)))) r in
     let inner = (reads_end s (place + length (own k h)) (d + 1) (Frame d ts ∷ ds)).back y ps at in
     let whole = begin_back s place d t ts ds h y ps leaf.0
-    (subst (λ (l : List Part). Completes s (place + length (own k h)) (Frame (d + 1) l ∷ Frame d ts ∷ ds) y ps) (sym leaf.2) inner) in
+    (subst (λ (l : List Part). Completes s (place + length (own k h)) (Frame (d + 1) l ∷ Frame d ts ∷ ds) y ps)
+    (sym leaf.2) inner) in
     subst (λ (o : List ℕ). Completes s place (Frame d (t ∷ ts) ∷ ds) (o ++ y) (qs ++ ps)) leaf.1
     (subst (λ (o : List Entry). Completes s place (Frame d (t ∷ ts) ∷ ds) (own k h ++ y) (o ++ ps)) leaf.3 whole)
 
 leaf_into : (s : List Form) (place d : ℕ) (ts kinds : List Part) (ds : List Due) (y : List ℕ) (ps : List Entry)
-    → kinds ≡ [] → Completes s place (Frame (d + 1) kinds ∷ Frame d ts ∷ ds) y ps → Completes s place (Frame d ts ∷ ds) y ps
+    → kinds ≡ [] → Completes s place (Frame (d + 1) kinds ∷ Frame d ts ∷ ds) y ps
+    → Completes s place (Frame d ts ∷ ds) y ps
 leaf_into s place d ts kinds ds y ps none r =
-    let ended = (reads_end s place (d + 1) (Frame d ts ∷ ds)).into y ps (subst (λ (l : List Part). Completes s place (Frame (d + 1) l ∷ Frame d ts ∷ ds) y ps) none r) in
+    let ended = (reads_end s place (d + 1) (Frame d ts ∷ ds)).into y ps
+    (subst (λ (l : List Part). Completes s place (Frame (d + 1) l ∷ Frame d ts ∷ ds) y ps) none r) in
     subst (λ (n : ℕ). Completes s n (Frame d ts ∷ ds) y ps) (nothing_more place)
     (subst (λ (l : List Entry). Completes s (place + 0) (Frame d ts ∷ ds) y l) (sym ended.1) ended.2)
 
@@ -50,17 +56,21 @@ counted place d t n = entry place 4 d t of_length ∷ content (place + 4) d t n
 
 abbrev IsCountedBy : List Form → Form → Head → (place d : ℕ) (t : Part) → List ℕ → Type 0
 IsCountedBy s k g place d t bs =
-    AreBytes bs × Accepts s k (length bs) × IsLeaf s k g place d t (unit4 (length bs) ++ (bs ++ pad (length bs))) (counted place d t (length bs))
+    AreBytes bs × Accepts s k (length bs) × IsLeaf s k g place d t (unit4 (length bs) ++ (bs ++ pad (length bs)))
+    (counted place d t (length bs))
 
-counted_is : (s : List Form) (k : Form) (g : Head) (place d : ℕ) (t : Part) → IsLengthFirst (lead_of k) → IsLegal s k g → (bs : List ℕ) × IsCountedBy s k g place d t bs
+counted_is : (s : List Form) (k : Form) (g : Head) (place d : ℕ) (t : Part) → IsLengthFirst (lead_of k) → IsLegal s k g
+    → (bs : List ℕ) × IsCountedBy s k g place d t bs
 counted_is s (form.opaque_up_to max) (value.bytes bs) place d t u l = (bs, (l.2, (l.0, l.1), (l, refl, refl, refl)))
 counted_is s (form.text max) (value.bytes bs) place d t u l = (bs, (l.2, (l.0, l.1), (l, refl, refl, refl)))
 counted_is s (form.opaque_up_to max) _ place d t u l = absurd l
 counted_is s (form.text max) _ place d t u l = absurd l
 counted_is s _ g place d t u l = absurd u
 
-counted_legal : (s : List Form) (k : Form) (place d : ℕ) (t : Part) (bs : List ℕ) → IsLengthFirst (lead_of k) → Accepts s k (length bs) → AreBytes bs
-    → IsLeaf s k (value.bytes bs) place d t (unit4 (length bs) ++ (bs ++ pad (length bs))) (counted place d t (length bs))
+counted_legal : (s : List Form) (k : Form) (place d : ℕ) (t : Part) (bs : List ℕ) → IsLengthFirst (lead_of k)
+    → Accepts s k (length bs) → AreBytes bs
+    → IsLeaf s k (value.bytes bs) place d t (unit4 (length bs) ++ (bs ++ pad (length bs)))
+    (counted place d t (length bs))
 counted_legal s (form.opaque_up_to max) place d t bs u a b = ((a.0, a.1, b), refl, refl, refl)
 counted_legal s (form.text max) place d t bs u a b = ((a.0, a.1, b), refl, refl, refl)
 counted_legal s _ place d t bs u a b = absurd u
@@ -70,10 +80,13 @@ length_small s (form.opaque_up_to max) x u a = a.1
 length_small s (form.text max) x u a = a.1
 length_small s _ x u a = absurd u
 
-module _ (s : List Form) (place d : ℕ) (t : Part) (ts : List Part) (ds : List Due) (x : ℕ) (u : IsLengthFirst (lead_of (kind_at s t.kind))) where
+module _ (s : List Form) (place d : ℕ) (t : Part) (ts : List Part) (ds : List Due) (x : ℕ)
+    (u : IsLengthFirst (lead_of (kind_at s t.kind))) where
   -- what a value that begins with the length x is
-  length_into : (less : x < 2 ^ 32) (c : List ℕ) (all : List Entry) → Completes s place (Frame d (t ∷ ts) ∷ ds) (unit4 x ++ c) all
-      → Accepts s (kind_at s t.kind) x × (qs : List Entry) × (all ≡ counted place d t x ++ qs) × Completes s (place + length (unit4 x)) (Rest x ∷ Frame d ts ∷ ds) c qs
+  length_into : (less : x < 2 ^ 32) (c : List ℕ) (all : List Entry)
+      → Completes s place (Frame d (t ∷ ts) ∷ ds) (unit4 x ++ c) all
+      → Accepts s (kind_at s t.kind) x × (qs : List Entry) × (all ≡ counted place d t x ++ qs)
+      × Completes s (place + length (unit4 x)) (Rest x ∷ Frame d ts ∷ ds) c qs
   length_into less c all r =
       let k : Form = kind_at s t.kind in
       let i = begin_into s place d t ts ds (unit4 x ++ c) all r in
@@ -83,42 +96,75 @@ module _ (s : List Form) (place d : ℕ) (t : Part) (ts : List Part) (ds : List 
       let bs : List ℕ = l.0 in
       let n : ℕ = length bs in
       let leaf = l.1.2 in
-      let e1 : unit4 x ++ c ≡ unit4 n ++ ((bs ++ pad n) ++ y) = i.4 ∙ ap (λ (o : List ℕ). o ++ y) leaf.1 ∙ append_assoc (unit4 n) (bs ++ pad n) y in
+      let e1 : unit4 x ++ c ≡ unit4 n ++ ((bs ++ pad n) ++ y) = i.4 ∙ ap (λ (o : List ℕ). o ++ y) leaf.1
+      ∙ append_assoc (unit4 n) (bs ++ pad n) y in
       let small : n < 2 ^ 32 = length_small s k n u l.1.1 in
       let same : n ≡ x = sym (from4-unit4 n ((bs ++ pad n) ++ y) small) ∙ ap from4 (sym e1) ∙ from4-unit4 x c less in
-      let rest : c ≡ bs ++ (pad n ++ y) = sym (drop4-unit4 x c) ∙ ap (λ (b : List ℕ). drop 4 b) e1 ∙ drop4-unit4 n ((bs ++ pad n) ++ y) ∙ append_assoc bs (pad n) y in
+      let rest : c ≡ bs ++ (pad n ++ y) = sym (drop4-unit4 x c) ∙ ap (λ (b : List ℕ). drop 4 b) e1
+      ∙ drop4-unit4 n ((bs ++ pad n) ++ y) ∙ append_assoc bs (pad n) y in
       let ended = leaf_into s (place + length (own k g)) d ts (parts k g) ds y i.2 leaf.2 i.6 in
       let far : place + length (own k g) ≡ place + length (unit4 x) + (x + length (pad x)) =
-      omega (arith, unit4-length x, unit4-length n, ap length leaf.1, length-append (unit4 n) (bs ++ pad n), length-append bs (pad n), same, ap (λ (m : ℕ). length (pad m)) same) in (
+      omega (
+        arith,
+        unit4-length x,
+        unit4-length n,
+        ap length leaf.1,
+        length-append (unit4 n) (bs ++ pad n),
+        length-append bs (pad n),
+        same,
+        ap (λ (m : ℕ). length (pad m)) same,
+      ) in (
         subst (λ (m : ℕ). Accepts s k m) same l.1.1,
         i.2,
         i.5 ∙ ap (λ (o : List Entry). o ++ i.2) (leaf.3 ∙ ap (λ (m : ℕ). counted place d t m) same),
-        (bs, y, same, l.1.0, rest ∙ ap (λ (m : ℕ). bs ++ (pad m ++ y)) same, subst (λ (m : ℕ). Completes s m (Frame d ts ∷ ds) y i.2) far ended),
+        (
+          bs,
+          y,
+          same,
+          l.1.0,
+          rest ∙ ap (λ (m : ℕ). bs ++ (pad m ++ y)) same,
+          subst
+              (λ (m : ℕ). Completes s m (Frame d ts ∷ ds) y i.2) far ended,
+        ),
       )
 
-  pub reads_length : Accepts s (kind_at s t.kind) x → Reads s place (Frame d (t ∷ ts) ∷ ds) (unit4 x) (counted place d t x) (Rest x ∷ Frame d ts ∷ ds)
+  pub reads_length : Accepts s (kind_at s t.kind) x
+      → Reads s place (Frame d (t ∷ ts) ∷ ds) (unit4 x) (counted place d t x) (Rest x ∷ Frame d ts ∷ ds)
   reads_length a = record {
     into = λ c all r. let i = length_into (length_small s (kind_at s t.kind) x u a) c all r in (i.1, i.2, i.3);
     back = λ c ps r. length_back c ps r.0 r.1 r.2 r.3 r.4 r.5;
   }
     where
-      length_back : (c : List ℕ) (ps : List Entry) (bs y : List ℕ) → length bs ≡ x → AreBytes bs → c ≡ bs ++ (pad x ++ y)
-          → Completes s (place + length (unit4 x) + (x + length (pad x))) (Frame d ts ∷ ds) y ps → Completes s place (Frame d (t ∷ ts) ∷ ds) (unit4 x ++ c) (counted place d t x ++ ps)
+      length_back : (c : List ℕ) (ps : List Entry) (bs y : List ℕ) → length bs ≡ x → AreBytes bs
+          → c ≡ bs ++ (pad x ++ y)
+          → Completes s (place + length (unit4 x) + (x + length (pad x))) (Frame d ts ∷ ds) y ps
+          → Completes s place (Frame d (t ∷ ts) ∷ ds) (unit4 x ++ c) (counted place d t x ++ ps)
       length_back c ps bs y len are e r =
           let k : Form = kind_at s t.kind in
           let n : ℕ = length bs in
           let leaf = counted_legal s k place d t bs u (subst (λ (m : ℕ). Accepts s k m) (sym len) a) are in
           let far : place + length (unit4 x) + (x + length (pad x)) ≡ place + length (unit4 n ++ (bs ++ pad n)) =
-          omega (arith, unit4-length x, unit4-length n, length-append (unit4 n) (bs ++ pad n), length-append bs (pad n), len, ap (λ (m : ℕ). length (pad m)) len) in
-          let whole = leaf_back s place d t ts ds (value.bytes bs) (unit4 n ++ (bs ++ pad n)) (counted place d t n) y ps leaf (subst (λ (m : ℕ). Completes s m (Frame d ts ∷ ds) y ps) far r) in
+          omega (
+            arith,
+            unit4-length x,
+            unit4-length n,
+            length-append (unit4 n) (bs ++ pad n),
+            length-append bs (pad n),
+            len,
+            ap (λ (m : ℕ). length (pad m)) len,
+          ) in
+          let whole = leaf_back s place d t ts ds (value.bytes bs) (unit4 n ++ (bs ++ pad n)) (counted place d t n) y ps
+          leaf (subst (λ (m : ℕ). Completes s m (Frame d ts ∷ ds) y ps) far r) in
           let spelled : (unit4 n ++ (bs ++ pad n)) ++ y ≡ unit4 x ++ c =
           append_assoc (unit4 n) (bs ++ pad n) y ∙ ap (λ (b : List ℕ). unit4 n ++ b) (append_assoc bs (pad n) y)
           ∙ ap (λ (m : ℕ). unit4 m ++ (bs ++ (pad m ++ y))) len ∙ ap (λ (b : List ℕ). unit4 x ++ b) (sym e) in
           subst (λ (b : List ℕ). Completes s place (Frame d (t ∷ ts) ∷ ds) b (counted place d t x ++ ps)) spelled
-          (subst (λ (m : ℕ). Completes s place (Frame d (t ∷ ts) ∷ ds) ((unit4 n ++ (bs ++ pad n)) ++ y) (counted place d t m ++ ps)) len whole)
+          (subst (λ (m : ℕ). Completes s place (Frame d (t ∷ ts) ∷ ds) ((unit4 n ++ (bs ++ pad n)) ++ y)
+          (counted place d t m ++ ps)) len whole)
 
 -- no other length begins what is owed
-pub refuses_length : (s : List Form) (place d : ℕ) (t : Part) (ts : List Part) (ds : List Due) (x : ℕ) (c : List ℕ) (ps : List Entry) → IsLengthFirst (lead_of (kind_at s t.kind)) → x < 2 ^ 32
+pub refuses_length : (s : List Form) (place d : ℕ) (t : Part) (ts : List Part) (ds : List Due) (x : ℕ) (c : List ℕ)
+    (ps : List Entry) → IsLengthFirst (lead_of (kind_at s t.kind)) → x < 2 ^ 32
     → Completes s place (Frame d (t ∷ ts) ∷ ds) (unit4 x ++ c) ps → Accepts s (kind_at s t.kind) x
 refuses_length s place d t ts ds x c ps u less r = (length_into s place d t ts ds x u less c ps r).0
 
@@ -129,7 +175,16 @@ free_parts place d t (form.opaque size) = content place d t size
 free_parts place d t _ = entry place 8 d t of_number ∷ []
 
 pub bytes8 : (n : ℕ) → AreBytes (unit8 n)
-bytes8 n = (omega arith, (omega arith, (omega arith, (omega arith, (omega arith, (omega arith, (omega arith, (omega arith, tt))))))))
+bytes8 n = (
+  omega arith,
+  (
+    omega arith,
+    (
+      omega arith,
+      (omega arith, (omega arith, (omega arith, (omega arith, (omega arith, tt))))),
+    ),
+  ),
+)
 
 get_byte : (bs : List ℕ) → AreBytes bs → (i : ℕ) → get_or bs i 0 < 256
 get_byte [] a i = omega arith
@@ -161,43 +216,65 @@ signed8_unit x h = by_half x h (nat_lt x 9223372036854775808) refl
     low : (x : ℕ) → x < 9223372036854775808 → IsSigned 9223372036854775808 (pos x) × (units_of (pos x) ≡ x)
     low x h = (h, refl)
 
-    high : (x : ℕ) → 9223372036854775808 ≤ x → x < 2 ^ 64 → IsSigned 9223372036854775808 (negsuc (18446744073709551615 - x)) × (units_of (negsuc (18446744073709551615 - x)) ≡ x)
+    high : (x : ℕ) → 9223372036854775808 ≤ x → x < 2 ^ 64
+        → IsSigned 9223372036854775808 (negsuc (18446744073709551615 - x))
+        × (units_of (negsuc (18446744073709551615 - x)) ≡ x)
     high x h less = (omega arith, omega arith)
 
-    by_half : (x : ℕ) → x < 2 ^ 64 → (b : Bool) → nat_lt x 9223372036854775808 ≡ b → IsSigned 9223372036854775808 (signed8 x) × (units_of (signed8 x) ≡ x)
+    by_half : (x : ℕ) → x < 2 ^ 64 → (b : Bool) → nat_lt x 9223372036854775808 ≡ b
+        → IsSigned 9223372036854775808 (signed8 x) × (units_of (signed8 x) ≡ x)
     by_half x h true e =
         let below = ltb-true x 9223372036854775808 e in
         subst (λ (z : ℤ). IsSigned 9223372036854775808 z × (units_of z ≡ x)) (sym (signed8_low x below)) (low x below)
     by_half x h false e =
         let above : 9223372036854775808 ≤ x = grind arith in
-        subst (λ (z : ℤ). IsSigned 9223372036854775808 z × (units_of z ≡ x)) (sym (signed8_high x above)) (high x above h)
+        subst (λ (z : ℤ). IsSigned 9223372036854775808 z × (units_of z ≡ x)) (sym (signed8_high x above))
+        (high x above h)
 
 abbrev IsFreeBy : List Form → Form → Head → (place d : ℕ) (t : Part) → List ℕ → Type 0
-IsFreeBy s k g place d t bs = (length bs ≡ free_size k) × AreBytes bs × IsLeaf s k g place d t (bs ++ pad (free_size k)) (free_parts place d t k)
+IsFreeBy s k g place d t bs = (length bs ≡ free_size k) × AreBytes bs
+    × IsLeaf s k g place d t (bs ++ pad (free_size k)) (free_parts place d t k)
 
-free_is : (s : List Form) (k : Form) (g : Head) (place d : ℕ) (t : Part) → IsFreeBytes (lead_of k) → IsLegal s k g → (bs : List ℕ) × IsFreeBy s k g place d t bs
-free_is s form.hyper (value.hyper z) place d t u l = (unit8 (units_of z), (unit8-length (units_of z), bytes8 (units_of z), (l, sym (append-nil (unit8 (units_of z))), refl, refl)))
-free_is s form.unsigned_hyper (value.unsigned_hyper n) place d t u l = (unit8 n, (unit8-length n, bytes8 n, (l, sym (append-nil (unit8 n)), refl, refl)))
-free_is s (form.opaque size) (value.bytes bs) place d t u l = (bs, (l.0, l.1, (l, ap (λ (n : ℕ). bs ++ pad n) l.0, refl, ap (λ (n : ℕ). content place d t n) l.0)))
+free_is : (s : List Form) (k : Form) (g : Head) (place d : ℕ) (t : Part) → IsFreeBytes (lead_of k) → IsLegal s k g
+    → (bs : List ℕ) × IsFreeBy s k g place d t bs
+free_is s form.hyper (value.hyper z) place d t u l = (
+  unit8 (units_of z),
+  (
+    unit8-length (units_of z),
+    bytes8 (units_of z),
+    (l, sym (append-nil (unit8 (units_of z))), refl, refl),
+  ),
+)
+free_is s form.unsigned_hyper (value.unsigned_hyper n) place d t u l =
+    (unit8 n, (unit8-length n, bytes8 n, (l, sym (append-nil (unit8 n)), refl, refl)))
+free_is s (form.opaque size) (value.bytes bs) place d t u l =
+    (bs, (l.0, l.1, (l, ap (λ (n : ℕ). bs ++ pad n) l.0, refl, ap (λ (n : ℕ). content place d t n) l.0)))
 free_is s form.hyper _ place d t u l = absurd l
 free_is s form.unsigned_hyper _ place d t u l = absurd l
 free_is s (form.opaque size) _ place d t u l = absurd l
 free_is s _ g place d t u l = absurd u
 
-free_legal : (s : List Form) (k : Form) (place d : ℕ) (t : Part) (bs : List ℕ) → IsFreeBytes (lead_of k) → length bs ≡ free_size k → AreBytes bs
+free_legal : (s : List Form) (k : Form) (place d : ℕ) (t : Part) (bs : List ℕ) → IsFreeBytes (lead_of k)
+    → length bs ≡ free_size k → AreBytes bs
     → (g : Head) × IsLeaf s k g place d t (bs ++ pad (free_size k)) (free_parts place d t k)
 free_legal s form.hyper place d t bs u len are =
-    let b = signed8_unit (from_be_bytes w64 bs) (unit8_less bs len are) in
-    (value.hyper (signed8 (from_be_bytes w64 bs)), (b.0, ap unit8 b.1 ∙ unit8_back bs len are ∙ sym (append-nil bs), refl, refl))
-free_legal s form.unsigned_hyper place d t bs u len are =
-    (value.unsigned_hyper (from_be_bytes w64 bs), (unit8_less bs len are, unit8_back bs len are ∙ sym (append-nil bs), refl, refl))
+    let b = signed8_unit (from_be_bytes w64 bs) (unit8_less bs len are) in (
+      value.hyper (signed8 (from_be_bytes w64 bs)),
+      (b.0, ap unit8 b.1 ∙ unit8_back bs len are ∙ sym (append-nil bs), refl, refl),
+    )
+free_legal s form.unsigned_hyper place d t bs u len are = (
+  value.unsigned_hyper (from_be_bytes w64 bs),
+  (unit8_less bs len are, unit8_back bs len are ∙ sym (append-nil bs), refl, refl),
+)
 free_legal s (form.opaque size) place d t bs u len are =
     (value.bytes bs, ((len, are), ap (λ (n : ℕ). bs ++ pad n) len, refl, ap (λ (n : ℕ). content place d t n) len))
 free_legal s _ place d t bs u len are = absurd u
 
 -- a value of free bytes begins
-pub reads_free : (s : List Form) (place d : ℕ) (t : Part) (ts : List Part) (ds : List Due) → IsFreeBytes (lead_of (kind_at s t.kind))
-    → Reads s place (Frame d (t ∷ ts) ∷ ds) [] (free_parts place d t (kind_at s t.kind)) (Rest (free_size (kind_at s t.kind)) ∷ Frame d ts ∷ ds)
+pub reads_free : (s : List Form) (place d : ℕ) (t : Part) (ts : List Part) (ds : List Due)
+    → IsFreeBytes (lead_of (kind_at s t.kind))
+    → Reads s place (Frame d (t ∷ ts) ∷ ds) [] (free_parts place d t (kind_at s t.kind))
+    (Rest (free_size (kind_at s t.kind)) ∷ Frame d ts ∷ ds)
 reads_free s place d t ts ds u = record {
   into = λ c all r.
       let k : Form = kind_at s t.kind in
@@ -207,19 +284,31 @@ reads_free s place d t ts ds u = record {
       let bs : List ℕ = l.0 in
       let leaf = l.1.2 in
       let ended = leaf_into s (place + length (own k i.0)) d ts (parts k i.0) ds i.1 i.2 leaf.2 i.6 in
-      let far : place + length (own k i.0) ≡ place + 0 + (n + length (pad n)) = omega (arith, ap length leaf.1, length-append bs (pad n), l.1.0) in (
+      let far : place + length (own k i.0)
+      ≡ place + 0 + (n + length (pad n)) = omega (arith, ap length leaf.1, length-append bs (pad n), l.1.0) in (
         i.2,
         i.5 ∙ ap (λ (o : List Entry). o ++ i.2) leaf.3,
-        (bs, i.1, l.1.0, l.1.1, i.4 ∙ ap (λ (o : List ℕ). o ++ i.1) leaf.1 ∙ append_assoc bs (pad n) i.1, subst (λ (m : ℕ). Completes s m (Frame d ts ∷ ds) i.1 i.2) far ended),
+        (
+          bs,
+          i.1,
+          l.1.0,
+          l.1.1,
+          i.4 ∙ ap (λ (o : List ℕ). o ++ i.1) leaf.1
+              ∙ append_assoc bs (pad n) i.1,
+          subst (λ (m : ℕ). Completes s m (Frame d ts ∷ ds) i.1 i.2) far ended,
+        ),
       );
   back = λ c ps r.
       let k : Form = kind_at s t.kind in
       let n : ℕ = free_size k in
       let bs : List ℕ = r.0 in
       let l = free_legal s k place d t bs u r.2 r.3 in
-      let far : place + 0 + (n + length (pad n)) ≡ place + length (bs ++ pad n) = omega (arith, length-append bs (pad n), r.2) in
-      subst (λ (b : List ℕ). Completes s place (Frame d (t ∷ ts) ∷ ds) b (free_parts place d t k ++ ps)) (append_assoc bs (pad n) r.1 ∙ sym r.4)
-      (leaf_back s place d t ts ds l.0 (bs ++ pad n) (free_parts place d t k) r.1 ps l.1 (subst (λ (m : ℕ). Completes s m (Frame d ts ∷ ds) r.1 ps) far r.5));
+      let far : place + 0 + (n + length (pad n))
+      ≡ place + length (bs ++ pad n) = omega (arith, length-append bs (pad n), r.2) in
+      subst (λ (b : List ℕ). Completes s place (Frame d (t ∷ ts) ∷ ds) b (free_parts place d t k ++ ps))
+      (append_assoc bs (pad n) r.1 ∙ sym r.4)
+      (leaf_back s place d t ts ds l.0 (bs ++ pad n) (free_parts place d t k) r.1 ps l.1
+      (subst (λ (m : ℕ). Completes s m (Frame d ts ∷ ds) r.1 ps) far r.5));
 }
 
 -- ---- four bytes of content that aren't the last
@@ -236,13 +325,18 @@ bytes_rest (suc n) (x ∷ v) a = bytes_rest n v a.1
 pad_less : (n : ℕ) → 4 ≤ n → pad (n - 4) ≡ pad n
 pad_less n h = let same : (n - 4) % 4 ≡ n % 4 = omega arith in ap (λ (m : ℕ). replicate ((4 - m) % 4) 0) same
 
-pub reads_rest : (s : List Form) (place n : ℕ) (ds : List Due) (u : List ℕ) → 4 ≤ n → length u ≡ 4 → AreBytes u → Reads s place (Rest n ∷ ds) u [] (Rest (n - 4) ∷ ds)
+pub reads_rest : (s : List Form) (place n : ℕ) (ds : List Due) (u : List ℕ) → 4 ≤ n → length u ≡ 4 → AreBytes u
+    → Reads s place (Rest n ∷ ds) u [] (Rest (n - 4) ∷ ds)
 reads_rest s place n ds u long len are = record {
   into = λ c all r.
       let bs : List ℕ = r.0 in
-      let front : u ≡ take 4 bs = sym (take_at u c 4 len) ∙ ap (λ (b : List ℕ). take 4 b) r.4 ∙ take-append-le 4 bs (pad n ++ r.1) (omega (arith, r.2)) in
-      let after : c ≡ drop 4 bs ++ (pad n ++ r.1) = sym (drop_at u c 4 len) ∙ ap (λ (b : List ℕ). drop 4 b) r.4 ∙ drop-append-le 4 bs (pad n ++ r.1) (omega (arith, r.2)) in
-      let far : place + (n + length (pad n)) ≡ place + length u + (n - 4 + length (pad (n - 4))) = omega (arith, len, ap (λ (p : List ℕ). length p) (pad_less n long)) in (
+      let front : u ≡ take 4 bs = sym (take_at u c 4 len) ∙ ap (λ (b : List ℕ). take 4 b) r.4
+      ∙ take-append-le 4 bs (pad n ++ r.1) (omega (arith, r.2)) in
+      let after : c ≡ drop 4 bs ++ (pad n ++ r.1) = sym (drop_at u c 4 len) ∙ ap (λ (b : List ℕ). drop 4 b) r.4
+      ∙ drop-append-le 4 bs (pad n ++ r.1) (omega (arith, r.2)) in
+      let far : place + (n + length (pad n))
+      ≡ place + length u + (n - 4 + length (pad (n - 4))) = omega
+      (arith, len, ap (λ (p : List ℕ). length p) (pad_less n long)) in (
         all,
         refl,
         (
@@ -256,29 +350,47 @@ reads_rest s place n ds u long len are = record {
       );
   back = λ c ps r.
       let bs : List ℕ = r.0 in
-      let far : place + length u + (n - 4 + length (pad (n - 4))) ≡ place + (n + length (pad n)) = omega (arith, len, ap (λ (p : List ℕ). length p) (pad_less n long)) in (
+      let far : place + length u + (n - 4 + length (pad (n - 4)))
+      ≡ place + (n + length (pad n)) = omega (arith, len, ap (λ (p : List ℕ). length p) (pad_less n long)) in (
         u ++ bs,
         r.1,
         omega (arith, length-append u bs, r.2, len),
         bytes_front u bs are r.3,
-        ap (λ (b : List ℕ). u ++ b) (r.4 ∙ ap (λ (p : List ℕ). bs ++ (p ++ r.1)) (pad_less n long)) ∙ sym (append_assoc u bs (pad n ++ r.1)),
+        ap (λ (b : List ℕ). u ++ b) (r.4 ∙ ap (λ (p : List ℕ). bs ++ (p ++ r.1)) (pad_less n long))
+            ∙ sym (append_assoc u bs (pad n ++ r.1)),
         subst (λ (m : ℕ). Completes s m ds r.1 ps) far r.5,
       );
 }
 
 -- ---- the last bytes of content, with their zeros
 
-pub reads_last : (s : List Form) (place n : ℕ) (ds : List Due) (bs : List ℕ) → length bs ≡ n → AreBytes bs → Reads s place (Rest n ∷ ds) (bs ++ pad n) [] ds
+pub reads_last : (s : List Form) (place n : ℕ) (ds : List Due) (bs : List ℕ) → length bs ≡ n → AreBytes bs
+    → Reads s place (Rest n ∷ ds) (bs ++ pad n) [] ds
 reads_last s place n ds bs len are =
-    let far : place + (n + length (pad n)) ≡ place + length (bs ++ pad n) = omega (arith, length-append bs (pad n), len) in
+    let far : place + (n + length (pad n))
+    ≡ place + length (bs ++ pad n) = omega (arith, length-append bs (pad n), len) in
     record {
       into = λ c all r.
           let e : bs ++ (pad n ++ c) ≡ r.0 ++ (pad n ++ r.1) = sym (append_assoc bs (pad n) c) ∙ r.4 in
-          let same : bs ≡ r.0 = sym (take_at bs (pad n ++ c) n len) ∙ ap (λ (b : List ℕ). take n b) e ∙ take_at r.0 (pad n ++ r.1) n r.2 in
-          let after : pad n ++ c ≡ pad n ++ r.1 = append_cancel_left bs (pad n ++ c) (pad n ++ r.1) (e ∙ ap (λ (b : List ℕ). b ++ (pad n ++ r.1)) (sym same)) in
-          let rest : r.1 ≡ c = sym (append_cancel_left (pad n) c r.1 after) in
-          (all, refl, subst (λ (b : List ℕ). Completes s (place + length (bs ++ pad n)) ds b all) rest (subst (λ (m : ℕ). Completes s m ds r.1 all) far r.5));
-      back = λ c ps r. (bs, c, len, are, append_assoc bs (pad n) c, subst (λ (m : ℕ). Completes s m ds c ps) (sym far) r);
+          let same : bs ≡ r.0 = sym (take_at bs (pad n ++ c) n len) ∙ ap (λ (b : List ℕ). take n b) e
+          ∙ take_at r.0 (pad n ++ r.1) n r.2 in
+          let after : pad n ++ c ≡ pad n ++ r.1 = append_cancel_left bs (pad n ++ c) (pad n ++ r.1)
+          (e ∙ ap (λ (b : List ℕ). b ++ (pad n ++ r.1)) (sym same)) in
+          let rest : r.1 ≡ c = sym (append_cancel_left (pad n) c r.1 after) in (
+            all,
+            refl,
+            subst (λ (b : List ℕ). Completes s (place + length (bs ++ pad n)) ds b all) rest
+                (subst (λ (m : ℕ). Completes s m ds r.1 all) far r.5),
+          );
+      back = λ c ps r. (
+        bs,
+        c,
+        len,
+        are,
+        append_assoc bs (pad n) c,
+        subst (λ (m : ℕ). Completes s m ds c ps) (sym far)
+            r,
+      );
     }
 
 pub pad_few : (n : ℕ) → 0 < n → n < 4 → length (pad n) ≡ 4 - n
@@ -289,11 +401,14 @@ pad_few (suc (suc (suc zero))) a b = refl
 pad_few (suc (suc (suc (suc n)))) a b = absurd (omega arith)
 
 -- no other padding begins what is owed
-pub refuses_padding : (s : List Form) (place n : ℕ) (ds : List Due) (u c : List ℕ) (ps : List Entry) → 0 < n → n < 4 → length u ≡ 4 → Completes s place (Rest n ∷ ds) (u ++ c) ps → drop n u ≡ pad n
+pub refuses_padding : (s : List Form) (place n : ℕ) (ds : List Due) (u c : List ℕ) (ps : List Entry) → 0 < n → n < 4
+    → length u ≡ 4 → Completes s place (Rest n ∷ ds) (u ++ c) ps → drop n u ≡ pad n
 refuses_padding s place n ds u c ps some few len r =
     let short : length (pad n) ≡ 4 - n = pad_few n some few in
-    let e : drop n u ++ c ≡ pad n ++ r.1 = sym (drop-append-le n u c (omega arith)) ∙ ap (λ (b : List ℕ). drop n b) r.4 ∙ drop_at r.0 (pad n ++ r.1) n r.2 in
-    sym (take_at (drop n u) c (4 - n) (omega (arith, length-drop n u))) ∙ ap (λ (b : List ℕ). take (4 - n) b) e ∙ take_at (pad n) r.1 (4 - n) short
+    let e : drop n u ++ c ≡ pad n ++ r.1 = sym (drop-append-le n u c (omega arith)) ∙ ap (λ (b : List ℕ). drop n b) r.4
+    ∙ drop_at r.0 (pad n ++ r.1) n r.2 in
+    sym (take_at (drop n u) c (4 - n) (omega (arith, length-drop n u))) ∙ ap (λ (b : List ℕ). take (4 - n) b) e
+    ∙ take_at (pad n) r.1 (4 - n) short
 
 -- a content of no bytes is over
 pub reads_over : (s : List Form) (place : ℕ) (ds : List Due) → Reads s place (Rest 0 ∷ ds) [] [] ds

@@ -37,29 +37,38 @@ legal_known s t h l = elim (cases_lt t (length s)) [
   | inr past ↦ absurd (subst (λ (f : Form). IsLegal s f h) (get_or_past s t form.unknown past) l)
 ]
 
-fit_known : (s : List Form) (ts : List Part) (v : Values) → FitAll s ts v → AllByRecursion (λ (p : Part). p.kind < length s) ts
+fit_known : (s : List Form) (ts : List Part) (v : Values) → FitAll s ts v
+    → AllByRecursion (λ (p : Part). p.kind < length s) ts
 fit_known s [] v f = tt
 fit_known s (t ∷ ts) value.none f = absurd (false≢true f)
-fit_known s (t ∷ ts) (value.node h v w) f = let g = fit_node s t ts h v w f in (legal_known s t.kind h g.0, fit_known s ts w g.2)
+fit_known s (t ∷ ts) (value.node h v w) f = let g = fit_node s t ts h v w f in
+    (legal_known s t.kind h g.0, fit_known s ts w g.2)
 
-pub completes_known : (s : List Form) (place : ℕ) (ds : List Due) (c : List ℕ) (es : List Entry) → Completes s place ds c es → AreOfList s ds
+pub completes_known : (s : List Form) (place : ℕ) (ds : List Due) (c : List ℕ) (es : List Entry)
+    → Completes s place ds c es → AreOfList s ds
 completes_known s place [] c es r = tt
-completes_known s place (Frame d ts ∷ ds) c es r = (fit_known s ts r.0 r.3, completes_known s (place + length (spelling s ts r.0)) ds r.1 r.2 r.6)
+completes_known s place (Frame d ts ∷ ds) c es r =
+    (fit_known s ts r.0 r.3, completes_known s (place + length (spelling s ts r.0)) ds r.1 r.2 r.6)
 completes_known s place (Rest n ∷ ds) c es r = completes_known s (place + (n + length (pad n))) ds r.1 es r.5
 
-pub values_of : (s : List Form) → EachKindHasAValue s → (ts : List Part) → AllByRecursion (λ (p : Part). p.kind < length s) ts → (v : Values) × FitAll s ts v
+pub values_of : (s : List Form) → EachKindHasAValue s → (ts : List Part)
+    → AllByRecursion (λ (p : Part). p.kind < length s) ts → (v : Values) × FitAll s ts v
 values_of s has [] of = (value.none, refl)
 values_of s has (t ∷ ts) of =
     let first_value = has t.kind of.0 in
-    let more = values_of s has ts of.1 in
-    (value.node first_value.0.0 first_value.0.1 more.0, and (fits s t.kind first_value.0) (fit s ts more.0) first_value.1 more.1)
+    let more = values_of s has ts of.1 in (
+      value.node first_value.0.0 first_value.0.1 more.0,
+      and (fits s t.kind first_value.0) (fit s ts more.0)
+          first_value.1 more.1,
+    )
 
 zeros : (n : ℕ) → (bs : List ℕ) × (length bs ≡ n) × AreBytes bs
 zeros zero = ([], refl, tt)
 zeros (suc n) = let more = zeros n in (0 ∷ more.0, ap suc more.1, (omega arith, more.2))
 
 -- something completes what is owed
-pub alive : (s : List Form) → EachKindHasAValue s → (place : ℕ) (ds : List Due) → AreOfList s ds → (c : List ℕ) × (es : List Entry) × Completes s place ds c es
+pub alive : (s : List Form) → EachKindHasAValue s → (place : ℕ) (ds : List Due) → AreOfList s ds
+    → (c : List ℕ) × (es : List Entry) × Completes s place ds c es
 alive s has place [] of = ([], [], (refl, refl))
 alive s has place (Frame d ts ∷ ds) of =
     let v = values_of s has ts of.0 in
@@ -73,7 +82,8 @@ alive s has place (Rest n ∷ ds) of =
 -- ---- what is accepted is what no reason stands against
 
 -- the number in the unit u that begins a value
-admits_accepted : (s : List Form) (k : Form) (after : ℕ) (u : List ℕ) → HasUnit (lead_of k) → Accepts s k (from_be_bytes w32 u) → Admits s k (role_of k) after u
+admits_accepted : (s : List Form) (k : Form) (after : ℕ) (u : List ℕ) → HasUnit (lead_of k)
+    → Accepts s k (from_be_bytes w32 u) → Admits s k (role_of k) after u
 admits_accepted s form.int after u h a = tt
 admits_accepted s form.unsigned after u h a = tt
 admits_accepted s form.boolean after u h a = a
@@ -86,7 +96,8 @@ admits_accepted s (form.maybe item) after u h a = a
 admits_accepted s form.unknown after u h a = absurd a
 admits_accepted s _ after u h a = absurd h
 
-accepted_admits : (s : List Form) (k : Form) (g : Head) → IsLegal s k g → (after : ℕ) (u : List ℕ) → HasUnit (lead_of k) → from_be_bytes w32 u < 2 ^ 32 → Admits s k (role_of k) after u → Accepts s k (from_be_bytes w32 u)
+accepted_admits : (s : List Form) (k : Form) (g : Head) → IsLegal s k g → (after : ℕ) (u : List ℕ) → HasUnit (lead_of k)
+    → from_be_bytes w32 u < 2 ^ 32 → Admits s k (role_of k) after u → Accepts s k (from_be_bytes w32 u)
 accepted_admits s form.int g l after u h less a = less
 accepted_admits s form.unsigned g l after u h less a = less
 accepted_admits s form.boolean g l after u h less a = a
@@ -138,8 +149,10 @@ fill_zeros n u some len a few =
     all_zeros (drop n u) a ∙ ap (λ (m : ℕ). replicate m 0) short
 
 -- the part whose content goes on, and the unit that it admits
-rest_case : (s : List Form) (e : Entry) (p n : ℕ) (u : List ℕ) → length u ≡ 4 → (role : Role) → e.at ≤ p → 0 < n → p % 4 ≡ 0 → e.at % 4 ≡ 0 → EndsAt s (p + n) e role
-    → (p < e.at + e.size) × (Fills n u → Admits s (kind_at s e.kind) role (p - e.at) u) × (Admits s (kind_at s e.kind) role (p - e.at) u → Fills n u)
+rest_case : (s : List Form) (e : Entry) (p n : ℕ) (u : List ℕ) → length u ≡ 4 → (role : Role) → e.at ≤ p → 0 < n
+    → p % 4 ≡ 0 → e.at % 4 ≡ 0 → EndsAt s (p + n) e role
+    → (p < e.at + e.size) × (Fills n u → Admits s (kind_at s e.kind) role (p - e.at) u)
+    × (Admits s (kind_at s e.kind) role (p - e.at) u → Fills n u)
 rest_case s e p n u len (of_content m) low some units at ends =
     let left : m - (p - e.at) ≡ n = omega (arith, ends.0) in (
       omega (arith, ends.0, ends.1),
@@ -158,10 +171,13 @@ rest_case s e p n u len of_group low some units at ends = absurd ends
 -- ---- the law where q is read
 
 abbrev Continues : List Form → ℕ → List ℕ → List ℕ → Type 0
-Continues s t q u = (e : Entry) × Stands s t q e × (Front s t (q ++ u) ↔ Admits s (kind_at s e.kind) e.role (length q - e.at) u)
+Continues s t q u = (e : Entry) × Stands s t q e
+    × (Front s t (q ++ u) ↔ Admits s (kind_at s e.kind) e.role (length q - e.at) u)
 
 -- a unit that is read continues the front
-front_by : (s : List Form) → EachKindHasAValue s → EachPartIsKnown s → (t : ℕ) (q u : List ℕ) (begun : List Entry) (ds : List Due) → Reads s 0 (root t) q begun ds → AreOfList s ds → Steps s (length q) begun ds u
+front_by : (s : List Form) → EachKindHasAValue s → EachPartIsKnown s
+    → (t : ℕ) (q u : List ℕ) (begun : List Entry) (ds : List Due) → Reads s 0 (root t) q begun ds → AreOfList s ds
+    → Steps s (length q) begun ds u
     → Front s t (q ++ u)
 front_by s has known t q u begun ds reads of step =
     let a = alive s has (length q + length u) step.1 (step.5 known of) in
@@ -170,15 +186,18 @@ front_by s has known t q u begun ds reads of step =
     (v.0, (v.1, a.0, v.2 ∙ sym (append_assoc q u a.0)))
 
 -- a front that goes on by the unit completes what is owed
-front_into : (s : List Form) (t : ℕ) (q u : List ℕ) (begun : List Entry) (ds : List Due) → Reads s 0 (root t) q begun ds → Front s t (q ++ u)
+front_into : (s : List Form) (t : ℕ) (q u : List ℕ) (begun : List Entry) (ds : List Due) → Reads s 0 (root t) q begun ds
+    → Front s t (q ++ u)
     → (c : List ℕ) × (ps : List Entry) × Completes s (length q) ds (u ++ c) ps
 front_into s t q u begun ds reads f =
     let i = begins_into s t q begun ds reads f.0 (u ++ f.1.1) f.1.0 (f.1.2 ∙ append_assoc q u f.1.1) in
     (f.1.1, i.0, i.2)
 
-module _ (s : List Form) (has : EachKindHasAValue s) (known : EachPartIsKnown s) (t : ℕ) (q u : List ℕ) (units : length q % 4 ≡ 0) (front : Front s t q) (len : length u ≡ 4) (are : AreBytes u) where
+module _ (s : List Form) (has : EachKindHasAValue s) (known : EachPartIsKnown s) (t : ℕ) (q u : List ℕ)
+    (units : length q % 4 ≡ 0) (front : Front s t q) (len : length u ≡ 4) (are : AreBytes u) where
   -- where a value is due
-  goes_on_due : (begun : List Entry) (d : ℕ) (t' : Part) (ts : List Part) (ds : List Due) → Reaches s 0 [] (root t) q begun (Frame d (t' ∷ ts) ∷ ds) → Continues s t q u
+  goes_on_due : (begun : List Entry) (d : ℕ) (t' : Part) (ts : List Part) (ds : List Due)
+      → Reaches s 0 [] (root t) q begun (Frame d (t' ∷ ts) ∷ ds) → Continues s t q u
   goes_on_due begun d t' ts ds r =
       let k : Form = kind_at s t'.kind in
       let owed : List Due = Frame d (t' ∷ ts) ∷ ds in
@@ -188,31 +207,40 @@ module _ (s : List Form) (has : EachKindHasAValue s) (known : EachPartIsKnown s)
       let less : x < 2 ^ 32 = unit4_less u len are in
       let i = (known_at s t q begun owed r).all front.0 front.1.1 front.1.0 front.1.2 in
       let inside : Contains (entries s t front.0) e =
-      subst (λ (l : List Entry). Contains l e) (sym i.1) (Contains-append_left (begun ++ e ∷ []) i.0 e (Contains-append_right begun (e ∷ []) e (0, omega arith, refl))) in
+      subst (λ (l : List Entry). Contains l e) (sym i.1)
+      (Contains-append_left (begun ++ e ∷ []) i.0 e (Contains-append_right begun (e ∷ []) e (0, omega arith, refl)))
+      in
       let stands : Stands s t q e = (front.0, front.1, inside, omega arith, omega arith) in
       let to : Front s t (q ++ u) → Admits s k (role_of k) (length q - e.at) u = λ f.
       (let c = front_into s t q u begun owed r.reads f in
       admits_accepted s k (length q - e.at) u r.settled
-      (accepted s (length q) d t' ts ds x c.0 c.1 r.settled less (subst (λ (b : List ℕ). Completes s (length q) owed (b ++ c.0) c.1) (sym is) c.2))) in
+      (accepted s (length q) d t' ts ds x c.0 c.1 r.settled less
+      (subst (λ (b : List ℕ). Completes s (length q) owed (b ++ c.0) c.1) (sym is) c.2))) in
       let j = begins_into s t q begun owed r.reads front.0 front.1.1 front.1.0 front.1.2 in
       let g = begin_into s (length q) d t' ts ds front.1.1 j.0 j.2 in
       let from : Admits s k (role_of k) (length q - e.at) u → Front s t (q ++ u) = λ a.
       front_by s has known t q u begun owed r.reads (completes_known s (length q) owed front.1.1 j.0 j.2)
       (subst (λ (b : List ℕ). Steps s (length q) begun owed b) is
-      (step_unit s (length q) begun d t' ts ds x r.track r.settled (accepted_admits s k g.0 g.3 (length q - e.at) u r.settled less a))) in
+      (step_unit s (length q) begun d t' ts ds x r.track r.settled
+      (accepted_admits s k g.0 g.3 (length q - e.at) u r.settled less a))) in
       (e, stands, (to, from))
 
   -- where content goes on
-  goes_on_rest : (begun : List Entry) (n : ℕ) (ds : List Due) → Reaches s 0 [] (root t) q begun (Rest n ∷ ds) → Continues s t q u
+  goes_on_rest : (begun : List Entry) (n : ℕ) (ds : List Due) → Reaches s 0 [] (root t) q begun (Rest n ∷ ds)
+      → Continues s t q u
   goes_on_rest begun n ds r =
       let owed : List Due = Rest n ∷ ds in
-      let track : IsOnTrack s begun (length q) owed = subst (λ (m : ℕ). IsOnTrack s begun m owed) (zero-add (length q)) r.track in
+      let track : IsOnTrack s begun (length q) owed = subst (λ (m : ℕ). IsOnTrack s begun m owed) (zero-add (length q))
+      r.track in
       let e : Entry = track.1 in
       let i = (known_at s t q begun owed r).all front.0 front.1.1 front.1.0 front.1.2 in
       let inside : Contains (entries s t front.0) e =
-      subst (λ (l : List Entry). Contains l e) (sym i.1) (Contains-append_left (begun ++ []) i.0 e (subst (λ (l : List Entry). Contains l e) (sym (append-nil begun)) track.2)) in
+      subst (λ (l : List Entry). Contains l e) (sym i.1)
+      (Contains-append_left (begun ++ []) i.0 e
+      (subst (λ (l : List Entry). Contains l e) (sym (append-nil begun)) track.2)) in
       let at : e.at % 4 ≡ 0 = All-contains (λ (x : Entry). x.at % 4 ≡ 0) (entries s t front.0) e
-      (All-from_recursion (λ (x : Entry). x.at % 4 ≡ 0) (entries s t front.0) (parts_units s 0 1 (item_part t ∷ []) (from_list (front.0 ∷ [])) refl)) inside in
+      (All-from_recursion (λ (x : Entry). x.at % 4 ≡ 0) (entries s t front.0)
+      (parts_units s 0 1 (item_part t ∷ []) (from_list (front.0 ∷ [])) refl)) inside in
       let c = rest_case s e (length q) n u len e.role track.3 r.settled units at track.4 in
       let stands : Stands s t q e = (front.0, front.1, inside, track.3, c.0) in
       let to : Front s t (q ++ u) → Admits s (kind_at s e.kind) e.role (length q - e.at) u = λ f.
@@ -220,10 +248,12 @@ module _ (s : List Form) (has : EachKindHasAValue s) (known : EachPartIsKnown s)
       c.1 (λ few. refuses_padding s (length q) n ds u g.0 g.1 r.settled few len g.2)) in
       let j = begins_into s t q begun owed r.reads front.0 front.1.1 front.1.0 front.1.2 in
       let from : Admits s (kind_at s e.kind) e.role (length q - e.at) u → Front s t (q ++ u) = λ a.
-      front_by s has known t q u begun owed r.reads (completes_known s (length q) owed front.1.1 j.0 j.2) (step_rest s (length q) begun n ds u r.settled track len are (c.2 a)) in
+      front_by s has known t q u begun owed r.reads (completes_known s (length q) owed front.1.1 j.0 j.2)
+      (step_rest s (length q) begun n ds u r.settled track len are (c.2 a)) in
       (e, stands, (to, from))
 
-  goes_on_at : (begun : List Entry) (ds : List Due) → Reaches s 0 [] (root t) q begun ds → IsUnfinished s t q → Continues s t q u
+  goes_on_at : (begun : List Entry) (ds : List Due) → Reaches s 0 [] (root t) q begun ds → IsUnfinished s t q
+      → Continues s t q u
   goes_on_at begun [] r unfinished =
       let i = begins_into s t q begun [] r.reads front.0 front.1.1 front.1.0 front.1.2 in
       absurd (unfinished front.0 front.1.0 (front.1.2 ∙ ap (λ (c : List ℕ). q ++ c) i.2.0 ∙ append-nil q))

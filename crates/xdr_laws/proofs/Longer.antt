@@ -8,7 +8,8 @@ use Rattle.xdr_types.specs.Within.{Bounds}
 use Rattle.xdr_types.specs.Front.{Front}
 use Rattle.xdr_types.specs.Outcome.{Why, Ending, Pending, Whole, TooDeep, TooLarge, Broken, IsEvent, IsDeep, IsQuiet, IsReached, IsFull, IsBad, IsReason, Outcome}
 
-pub quiet_longer : (s : List Form) (t : ℕ) (l : Bounds) (q x : List ℕ) (r : ℕ) → r + 4 ≤ length q → IsQuiet s t l q r → IsQuiet s t l (q ++ x) r
+pub quiet_longer : (s : List Form) (t : ℕ) (l : Bounds) (q x : List ℕ) (r : ℕ) → r + 4 ≤ length q → IsQuiet s t l q r
+    → IsQuiet s t l (q ++ x) r
 quiet_longer s t l q x r short h =
     let same : take r (q ++ x) ≡ take r q = take-append-le r q x (omega arith) in
     let same4 : take (r + 4) (q ++ x) ≡ take (r + 4) q = take-append-le (r + 4) q x short in
@@ -49,20 +50,40 @@ bad_longer : (s : List Form) (t : ℕ) (b x : List ℕ) (p : ℕ) (why : Why) �
 bad_longer s t b x p why bad =
     let short : p ≤ length b = omega (arith, bad.enough) in
     let unit : take 4 (drop p (b ++ x)) ≡ take 4 (drop p b) =
-    ap (λ (y : List ℕ). take 4 y) (drop_longer p b x short) ∙ take-append-le 4 (drop p b) x (omega (arith, bad.enough, length-drop p b)) in
+    ap (λ (y : List ℕ). take 4 y) (drop_longer p b x short)
+    ∙ take-append-le 4 (drop p b) x (omega (arith, bad.enough, length-drop p b)) in
     record {
       enough = omega (arith, bad.enough, length-append b x);
       no_front = λ f. bad.no_front (subst (λ (q : List ℕ). Front s t q) (take-append-le (p + 4) b x bad.enough) f);
-      reason = subst (λ (q : List ℕ). IsReason s t q (from_be_bytes w32 (take 4 (drop p (b ++ x)))) why) (sym (take-append-le p b x short))
+      reason = subst (λ (q : List ℕ). IsReason s t q (from_be_bytes w32 (take 4 (drop p (b ++ x)))) why)
+          (sym (take-append-le p b x short))
           (subst (λ (u : List ℕ). IsReason s t (take p b) (from_be_bytes w32 u) why) (sym unit) bad.reason);
     }
 
-pub stays : (s : List Form) (t : ℕ) (l : Bounds) (b x : List ℕ) (e : Ending) → IsEvent e → Outcome s t l b e → Outcome s t l (b ++ x) e
+pub stays : (s : List Form) (t : ℕ) (l : Bounds) (b x : List ℕ) (e : Ending) → IsEvent e → Outcome s t l b e
+    → Outcome s t l (b ++ x) e
 stays s t l b x Pending i o = absurd i
-stays s t l b x (Whole v p) i o = (reached_longer s t l b x p o.0, not_deep_longer s t l b x p o.0.within o.1, full_longer s t l b x p v o.0.within o.2)
-stays s t l b x (TooDeep p) i o = (reached_longer s t l b x p o.0, subst (λ (q : List ℕ). IsDeep s t l q) (sym (same_front s t l b x p o.0.within)) o.1)
-stays s t l b x (TooLarge p) i o =
-    (reached_longer s t l b x p o.0, not_deep_longer s t l b x p o.0.within o.1, (λ v f. o.2 v (full_shorter s t l b x p v o.0.within f)), o.3)
+stays s t l b x (Whole v p) i o = (
+  reached_longer s t l b x p o.0,
+  not_deep_longer s t l b x p o.0.within o.1,
+  full_longer s t l b x p v o.0.within o.2,
+)
+stays s t l b x (TooDeep p) i o = (
+  reached_longer s t l b x p o.0,
+  subst (λ (q : List ℕ). IsDeep s t l q)
+      (sym (same_front s t l b x p o.0.within)) o.1,
+)
+stays s t l b x (TooLarge p) i o = (
+  reached_longer s t l b x p o.0,
+  not_deep_longer s t l b x p o.0.within o.1,
+  (λ v f. o.2 v (full_shorter s t l b x p v o.0.within f)),
+  o.3,
+)
 stays s t l b x (Broken why p) i o =
-    let h : p ≤ length b = o.0.within in
-    (reached_longer s t l b x p o.0, not_deep_longer s t l b x p h o.1, (λ v f. o.2 v (full_shorter s t l b x p v h f)), o.3, bad_longer s t b x p why o.4)
+    let h : p ≤ length b = o.0.within in (
+      reached_longer s t l b x p o.0,
+      not_deep_longer s t l b x p h o.1,
+      (λ v f. o.2 v (full_shorter s t l b x p v h f)),
+      o.3,
+      bad_longer s t b x p why o.4,
+    )

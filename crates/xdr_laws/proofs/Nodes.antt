@@ -34,7 +34,8 @@ use Rattle.xdr_laws.proofs.SameParts.{parts_units}
 use Rattle.xdr_laws.proofs.Holding.{nodes_bound, content_bound}
 use Rattle.xdr_laws.proofs.Higher.{higher_at}
 
--- ---- what a well formed schema has: nothing void stands as a field or an item, nothing fixed is of size 0, and a structure has fields
+-- ---- what a well formed schema has: nothing void stands as a field or an item, nothing fixed is of size 0, and a
+-- structure has fields
 
 abbrev IsSolid : Form → Type 0
 IsSolid form.nothing = ⊥
@@ -68,7 +69,8 @@ AreOver s height = (t : ℕ) → Over (λ part. height part < height t) (kind_at
 abbrev IsClosed : List Form → Type 0
 IsClosed s = (t : ℕ) → Over (λ part. part < length s) (kind_at s t)
 
-nodes_append : (s : List Form) (p : ℕ) (xs ys : List Entry) → nodes_at s p (xs ++ ys) ≡ nodes_at s p xs + nodes_at s p ys
+nodes_append : (s : List Form) (p : ℕ) (xs ys : List Entry)
+    → nodes_at s p (xs ++ ys) ≡ nodes_at s p xs + nodes_at s p ys
 nodes_append s p [] ys = omega arith
 nodes_append s p (x ∷ xs) ys = let more = nodes_append s p xs ys in omega arith
 
@@ -119,13 +121,18 @@ counts_none place p b e = subst (λ (c : Bool). cond (place == p) (one_if c) 0 +
     by_test true = refl
     by_test false = refl
 
-counts_length : (s : List Form) (place : ℕ) (t : Part) (n p : ℕ) → is_opaque (kind_at s t.kind) ≡ false → nodes_at s p (entry place 4 0 t of_length ∷ content (place + 4) 0 t n) ≡ here place p
+counts_length : (s : List Form) (place : ℕ) (t : Part) (n p : ℕ) → is_opaque (kind_at s t.kind) ≡ false
+    → nodes_at s p (entry place 4 0 t of_length ∷ content (place + 4) 0 t n) ≡ here place p
 counts_length s place t n p e = let none = counts_none (place + 4) p (is_opaque (kind_at s t.kind)) e in omega arith
 
-shown_nodes : (s : List Form) (place d : ℕ) (t : Part) (k : Form) (h : Head) → kind_at s t.kind ≡ k → IsLegal s k h → (p : ℕ) → nodes_at s p (shown place d t k h) ≡ here place p
-shown_nodes s place d t (form.opaque size) (value.bytes bs) is l p = counts_one place p (is_opaque (kind_at s t.kind)) (ap is_opaque is)
-shown_nodes s place d t (form.opaque_up_to max) (value.bytes bs) is l p = counts_length s place t (length bs) p (ap is_opaque is)
-shown_nodes s place d t (form.text max) (value.bytes bs) is l p = counts_length s place t (length bs) p (ap is_opaque is)
+shown_nodes : (s : List Form) (place d : ℕ) (t : Part) (k : Form) (h : Head) → kind_at s t.kind ≡ k → IsLegal s k h
+    → (p : ℕ) → nodes_at s p (shown place d t k h) ≡ here place p
+shown_nodes s place d t (form.opaque size) (value.bytes bs) is l p = counts_one place p (is_opaque (kind_at s t.kind))
+    (ap is_opaque is)
+shown_nodes s place d t (form.opaque_up_to max) (value.bytes bs) is l p = counts_length s place t (length bs) p
+    (ap is_opaque is)
+shown_nodes s place d t (form.text max) (value.bytes bs) is l p = counts_length s place t (length bs) p
+    (ap is_opaque is)
 shown_nodes s place d t (form.fixed item size) (value.items n) is l p = omega arith
 shown_nodes s place d t (form.up_to item max) (value.items n) is l p = omega arith
 shown_nodes s place d t form.int (value.int z) is l p = omega arith
@@ -151,9 +158,12 @@ count s p place d ts v = nodes_at s p (layout s place d ts v)
 abbrev first_size : List Form → Part → Head → Values → ℕ
 first_size s t h ps = length (own (kind_at s t.kind) h) + length (spelling s (parts (kind_at s t.kind) h) ps)
 
-count_node : (s : List Form) (p place d : ℕ) (t : Part) (ts : List Part) (h : Head) (ps rest : Values) → IsLegal s (kind_at s t.kind) h
-    → count s p place d (t ∷ ts) (value.node h ps rest) ≡ here place p + (count s p (place + length (own (kind_at s t.kind) h)) (d + 1) (parts (kind_at s t.kind) h) ps
-    + count s p (place + length (own (kind_at s t.kind) h) + length (spelling s (parts (kind_at s t.kind) h) ps)) d ts rest)
+count_node : (s : List Form) (p place d : ℕ) (t : Part) (ts : List Part) (h : Head) (ps rest : Values)
+    → IsLegal s (kind_at s t.kind) h
+    → count s p place d (t ∷ ts) (value.node h ps rest)
+    ≡ here place p + (count s p (place + length (own (kind_at s t.kind) h)) (d + 1) (parts (kind_at s t.kind) h) ps
+    + count s p (place + length (own (kind_at s t.kind) h) + length (spelling s (parts (kind_at s t.kind) h) ps)) d ts
+    rest)
 count_node s p place d t ts h ps rest l =
     let k : Form = kind_at s t.kind in
     let inside : List Entry = layout s (place + length (own k h)) (d + 1) (parts k h) ps in
@@ -162,11 +172,15 @@ count_node s p place d t ts h ps rest l =
     ∙ ap (λ (n : ℕ). n + nodes_at s p (inside ++ after)) (shown_nodes s place d t k h refl l p)
     ∙ ap (λ (n : ℕ). here place p + n) (nodes_append s p inside after)
 
-count_before : (s : List Form) (p place d : ℕ) (ts : List Part) (v : Values) → FitAll s ts v → p < place → count s p place d ts v ≡ 0
-count_before s p place d ts v f h = nodes_before s p place (layout s place d ts v) (join_from place _ (layout s place d ts v) (parts_join s place d ts v f)) h
+count_before : (s : List Form) (p place d : ℕ) (ts : List Part) (v : Values) → FitAll s ts v → p < place
+    → count s p place d ts v ≡ 0
+count_before s p place d ts v f h = nodes_before s p place (layout s place d ts v)
+    (join_from place _ (layout s place d ts v) (parts_join s place d ts v f)) h
 
-count_after : (s : List Form) (p place d : ℕ) (ts : List Part) (v : Values) → FitAll s ts v → place + length (spelling s ts v) < p → count s p place d ts v ≡ 0
-count_after s p place d ts v f h = nodes_after s p place (place + length (spelling s ts v)) (layout s place d ts v) (parts_join s place d ts v f) h
+count_after : (s : List Form) (p place d : ℕ) (ts : List Part) (v : Values) → FitAll s ts v
+    → place + length (spelling s ts v) < p → count s p place d ts v ≡ 0
+count_after s p place d ts v f h = nodes_after s p place (place + length (spelling s ts v)) (layout s place d ts v)
+    (parts_join s place d ts v f) h
 
 -- ---- fields and items have bytes
 
@@ -181,7 +195,8 @@ IsOpen s k h = AreMembers s (parts k h) × (0 < length (parts k h))
 abbrev IsLong : Form → Head → Type 0
 IsLong k h = 0 < length (own k h)
 
-long_or_open : (s : List Form) (k : Form) (h : Head) → IsFormedKind s k → IsSolid k → IsLegal s k h → IsLong k h ⊎ ((own k h ≡ []) × IsOpen s k h)
+long_or_open : (s : List Form) (k : Form) (h : Head) → IsFormedKind s k → IsSolid k → IsLegal s k h
+    → IsLong k h ⊎ ((own k h ≡ []) × IsOpen s k h)
 long_or_open s form.int (value.int z) w m l = inl (omega (arith, unit4-length (unit_of z)))
 long_or_open s form.unsigned (value.unsigned n) w m l = inl (omega (arith, unit4-length n))
 long_or_open s form.hyper (value.hyper z) w m l = inl (omega (arith, unit8-length (units_of z)))
@@ -190,9 +205,12 @@ long_or_open s form.boolean (value.boolean true) w m l = inl (omega (arith, unit
 long_or_open s form.boolean (value.boolean false) w m l = inl (omega (arith, unit4-length 0))
 long_or_open s (form.numbered constants) (value.numbered z) w m l = inl (omega (arith, unit4-length (unit_of z)))
 long_or_open s (form.opaque size) (value.bytes bs) w m l = inl (omega (arith, l.0, length-append bs (pad (length bs))))
-long_or_open s (form.opaque_up_to max) (value.bytes bs) w m l = inl (omega (arith, unit4-length (length bs), length-append (unit4 (length bs)) (bs ++ pad (length bs))))
-long_or_open s (form.text max) (value.bytes bs) w m l = inl (omega (arith, unit4-length (length bs), length-append (unit4 (length bs)) (bs ++ pad (length bs))))
-long_or_open s (form.fixed item size) (value.items n) w m l = inr (refl, (members_copies s n (item_part item) w.1, omega (arith, length-replicate n (item_part item), w.0, l)))
+long_or_open s (form.opaque_up_to max) (value.bytes bs) w m l = inl
+    (omega (arith, unit4-length (length bs), length-append (unit4 (length bs)) (bs ++ pad (length bs))))
+long_or_open s (form.text max) (value.bytes bs) w m l = inl
+    (omega (arith, unit4-length (length bs), length-append (unit4 (length bs)) (bs ++ pad (length bs))))
+long_or_open s (form.fixed item size) (value.items n) w m l = inr
+    (refl, (members_copies s n (item_part item) w.1, omega (arith, length-replicate n (item_part item), w.0, l)))
 long_or_open s (form.up_to item max) (value.items n) w m l = inl (omega (arith, unit4-length n))
 long_or_open s (form.structure fields) value.fields w m l = inr (refl, (w.1, w.0))
 long_or_open s (form.choice tag arms other) (value.tag z) w m l = inl (omega (arith, unit4-length (unit_of z)))
@@ -216,7 +234,8 @@ listed_members : (s : List Form) (o : Option Part) → AreMembers s (optional_pa
 listed_members s None = inl tt
 listed_members s (Some t) = elim (solid_or_void s t) [ inl m ↦ inl (m, tt) | inr e ↦ inr (t, refl, e) ]
 
-parts_members : (s : List Form) (k : Form) (h : Head) → IsFormedKind s k → AreMembers s (parts k h) ⊎ IsVoid s (parts k h)
+parts_members : (s : List Form) (k : Form) (h : Head) → IsFormedKind s k
+    → AreMembers s (parts k h) ⊎ IsVoid s (parts k h)
 parts_members s (form.fixed item size) (value.items n) w = inl (members_copies s n (item_part item) w.1)
 parts_members s (form.up_to item max) (value.items n) w = inl (members_copies s n (item_part item) w)
 parts_members s (form.structure fields) value.fields w = inl w.1
@@ -225,7 +244,8 @@ parts_members s (form.maybe item) value.present w = inl (w, tt)
 parts_members s _ _ w = inl tt
 
 module _ (s : List Form) (formed : IsFormed s) where
-  spelled : (ts : List Part) (v : Values) → AreMembers s ts → 0 < length ts → FitAll s ts v → 0 < length (spelling s ts v)
+  spelled : (ts : List Part) (v : Values) → AreMembers s ts → 0 < length ts → FitAll s ts v
+      → 0 < length (spelling s ts v)
   spelled [] v m some f = absurd (omega arith)
   spelled (t ∷ ts) value.none m some f = absurd (false≢true f)
   spelled (t ∷ ts) (value.node h ps rest) m some fits =
@@ -233,14 +253,17 @@ module _ (s : List Form) (formed : IsFormed s) where
       let k : Form = kind_at s t.kind in
       let sv : List ℕ = spelling s (parts k h) ps in
       let sw : List ℕ = spelling s ts rest in
-      let inner : AreMembers s (parts k h) → 0 < length (parts k h) → 0 < length sv = λ a b. spelled (parts k h) ps a b f.1 in
+      let inner : AreMembers s (parts k h) → 0 < length (parts k h)
+      → 0 < length sv = λ a b. spelled (parts k h) ps a b f.1 in
       elim (long_or_open s k h (formed t.kind) m.0 f.0) [
         | inl long ↦ omega (arith, length-append (own k h ++ sv) sw, length-append (own k h) sv)
-        | inr o ↦ (let i = inner o.1.0 o.1.1 in omega (arith, length-append (own k h ++ sv) sw, length-append (own k h) sv))
+        | inr o ↦ (let i = inner o.1.0 o.1.1 in omega
+            (arith, length-append (own k h ++ sv) sw, length-append (own k h) sv))
       ]
 
   -- the first value has bytes
-  first_long : (t : Part) (h : Head) (ps : Values) → IsSolid (kind_at s t.kind) → IsLegal s (kind_at s t.kind) h → FitAll s (parts (kind_at s t.kind) h) ps → 0 < first_size s t h ps
+  first_long : (t : Part) (h : Head) (ps : Values) → IsSolid (kind_at s t.kind) → IsLegal s (kind_at s t.kind) h
+      → FitAll s (parts (kind_at s t.kind) h) ps → 0 < first_size s t h ps
   first_long t h ps m l f = elim (long_or_open s (kind_at s t.kind) h (formed t.kind) m l) [
     | inl long ↦ omega arith
     | inr o ↦ (let i = spelled (parts (kind_at s t.kind) h) ps o.1.0 o.1.1 f in omega arith)
@@ -249,16 +272,21 @@ module _ (s : List Form) (formed : IsFormed s) where
   -- one void part
   void_one : (p place d : ℕ) (ts : List Part) (v : Values) → IsVoid s ts → FitAll s ts v → count s p place d ts v ≤ 1
   void_one p place d ts v void f =
-      subst (λ (l : List Part). FitAll s l v → count s p place d l v ≤ 1) (sym void.1) (void_at p place d void.0 void.2 v) f
+      subst (λ (l : List Part). FitAll s l v → count s p place d l v ≤ 1) (sym void.1)
+      (void_at p place d void.0 void.2 v) f
     where
-      void_node : (p place d : ℕ) (t : Part) (h : Head) (ps rest : Values) → kind_at s t.kind ≡ form.nothing → FitAll s (t ∷ []) (value.node h ps rest) → count s p place d (t ∷ []) (value.node h ps rest) ≤ 1
+      void_node : (p place d : ℕ) (t : Part) (h : Head) (ps rest : Values) → kind_at s t.kind ≡ form.nothing
+          → FitAll s (t ∷ []) (value.node h ps rest) → count s p place d (t ∷ []) (value.node h ps rest) ≤ 1
       void_node p place d t h ps rest is f =
           let no_parts : parts (kind_at s t.kind) h ≡ [] = ap (λ (k : Form). parts k h) is in
-          let inside : count s p (place + length (own (kind_at s t.kind) h)) (d + 1) (parts (kind_at s t.kind) h) ps ≡ 0 =
-          subst (λ (l : List Part). count s p (place + length (own (kind_at s t.kind) h)) (d + 1) l ps ≡ 0) (sym no_parts) refl in
+          let inside : count s p (place + length (own (kind_at s t.kind) h)) (d + 1) (parts (kind_at s t.kind) h) ps
+          ≡ 0 =
+          subst (λ (l : List Part). count s p (place + length (own (kind_at s t.kind) h)) (d + 1) l ps ≡ 0)
+          (sym no_parts) refl in
           omega (arith, count_node s p place d t [] h ps rest (fit_node s t [] h ps rest f).0, here_one place p)
 
-      void_at : (p place d : ℕ) (t : Part) → kind_at s t.kind ≡ form.nothing → (v : Values) → FitAll s (t ∷ []) v → count s p place d (t ∷ []) v ≤ 1
+      void_at : (p place d : ℕ) (t : Part) → kind_at s t.kind ≡ form.nothing → (v : Values) → FitAll s (t ∷ []) v
+          → count s p place d (t ∷ []) v ≤ 1
       void_at p place d t is value.none f = absurd (false≢true f)
       void_at p place d t is (value.node h ps rest) f = void_node p place d t h ps rest is f
 
@@ -273,11 +301,13 @@ below_copies height m zero t h = tt
 below_copies height m (suc n) t h = (h, below_copies height m n t h)
 
 -- the parts of a head without bytes are lower than it
-lower_parts : (s : List Form) (height : ℕ → ℕ) (m : ℕ) (k : Form) (h : Head) → Over (λ part. height part < m) k → IsLegal s k h → own k h ≡ [] → AreBelow height m (parts k h)
+lower_parts : (s : List Form) (height : ℕ → ℕ) (m : ℕ) (k : Form) (h : Head) → Over (λ part. height part < m) k
+    → IsLegal s k h → own k h ≡ [] → AreBelow height m (parts k h)
 lower_parts s height m (form.fixed item size) (value.items n) a l e = below_copies height m n (item_part item) a
 lower_parts s height m (form.structure fields) value.fields a l e = a
 lower_parts s height m (form.up_to item max) (value.items n) a l e = absurd (omega (arith, unit4-length n, ap length e))
-lower_parts s height m (form.choice tag arms other) (value.tag z) a l e = absurd (omega (arith, unit4-length (unit_of z), ap length e))
+lower_parts s height m (form.choice tag arms other) (value.tag z) a l e = absurd
+    (omega (arith, unit4-length (unit_of z), ap length e))
 lower_parts s height m (form.maybe item) value.present a l e = absurd (omega (arith, unit4-length 1, ap length e))
 lower_parts s height m _ _ a l e = tt
 
@@ -287,7 +317,8 @@ all_below height n h (t ∷ ts) = (h t.kind, all_below height n h ts)
 
 module _ (s : List Form) (formed : IsFormed s) (height : ℕ → ℕ) (proper : AreOver s height) where
   -- at the place where values begin
-  starts : (n place d : ℕ) (ts : List Part) (v : Values) → AreMembers s ts → AreBelow height n ts → FitAll s ts v → count s place place d ts v ≤ n
+  starts : (n place d : ℕ) (ts : List Part) (v : Values) → AreMembers s ts → AreBelow height n ts → FitAll s ts v
+      → count s place place d ts v ≤ n
   starts n place d [] v m b f = omega arith
   starts n place d (t ∷ ts) value.none m b f = absurd (false≢true f)
   starts n place d (t ∷ ts) (value.node h ps rest) m b fits =
@@ -299,19 +330,23 @@ module _ (s : List Form) (formed : IsFormed s) (height : ℕ → ℕ) (proper : 
       let past : count s place after d ts rest ≡ 0 = count_before s place after d ts rest f.2 (omega arith) in
       let whole = count_node s place place d t ts h ps rest f.0 in
       let one = here_one place place in
-      let inner : AreMembers s (parts k h) → AreBelow height (height t.kind) (parts k h) → count s inside inside (d + 1) (parts k h) ps ≤ height t.kind =
+      let inner : AreMembers s (parts k h) → AreBelow height (height t.kind) (parts k h)
+      → count s inside inside (d + 1) (parts k h) ps ≤ height t.kind =
       λ a c. starts (height t.kind) inside (d + 1) (parts k h) ps a c f.1 in
       elim (long_or_open s k h (formed t.kind) m.0 f.0) [
-        | inl own_long ↦ (let none : count s place inside (d + 1) (parts k h) ps ≡ 0 = count_before s place inside (d + 1) (parts k h) ps f.1 (omega arith) in omega (arith, b.0))
+        | inl own_long ↦ (let none : count s place inside (d + 1) (parts k h) ps
+            ≡ 0 = count_before s place inside (d + 1) (parts k h) ps f.1 (omega arith) in omega (arith, b.0))
         | inr o ↦
             (let same : inside ≡ place = omega (arith, ap length o.0) in
             let low : count s place inside (d + 1) (parts k h) ps ≤ height t.kind =
-            subst (λ (p : ℕ). count s p inside (d + 1) (parts k h) ps ≤ height t.kind) same (inner o.1.0 (lower_parts s height (height t.kind) k h (proper t.kind) f.0 o.0)) in
+            subst (λ (p : ℕ). count s p inside (d + 1) (parts k h) ps ≤ height t.kind) same
+            (inner o.1.0 (lower_parts s height (height t.kind) k h (proper t.kind) f.0 o.0)) in
             omega (arith, b.0))
       ]
 
   -- at the place where values end
-  ends : (place d : ℕ) (ts : List Part) (v : Values) → AreMembers s ts → FitAll s ts v → count s (place + length (spelling s ts v)) place d ts v ≤ 1
+  ends : (place d : ℕ) (ts : List Part) (v : Values) → AreMembers s ts → FitAll s ts v
+      → count s (place + length (spelling s ts v)) place d ts v ≤ 1
   ends place d [] v m f = omega arith
   ends place d (t ∷ ts) value.none m f = absurd (false≢true f)
   ends place d (t ∷ ts) (value.node h ps rest) m fits =
@@ -326,7 +361,8 @@ module _ (s : List Form) (formed : IsFormed s) (height : ℕ → ℕ) (proper : 
       let long = first_long s formed t h ps m.0 f.0 f.1 in
       let not_first : here place p ≡ 0 = here_not place p (λ same. absurd (omega arith)) in
       let whole = count_node s p place d t ts h ps rest f.0 in
-      let inner : (AreMembers s (parts k h) ⊎ IsVoid s (parts k h)) → count s after inside (d + 1) (parts k h) ps ≤ 1 = λ e. elim e [
+      let inner : (AreMembers s (parts k h) ⊎ IsVoid s (parts k h))
+      → count s after inside (d + 1) (parts k h) ps ≤ 1 = λ e. elim e [
         | inl a ↦ ends inside (d + 1) (parts k h) ps a f.1
         | inr o ↦ void_one s formed after inside (d + 1) (parts k h) ps o f.1
       ] in
@@ -335,12 +371,15 @@ module _ (s : List Form) (formed : IsFormed s) (height : ℕ → ℕ) (proper : 
       elim (cases_lt 0 (length ts)) [
         | inl more ↦
             (let rest_long : 0 < length sw = spelled s formed ts rest m.1 more f.2 in
-            let none : count s p inside (d + 1) (parts k h) ps ≡ 0 = count_after s p inside (d + 1) (parts k h) ps f.1 (omega arith) in
+            let none : count s p inside (d + 1) (parts k h) ps
+            ≡ 0 = count_after s p inside (d + 1) (parts k h) ps f.1 (omega arith) in
             omega arith)
         | inr no_more ↦
             (let no_rest : count s p after d ts rest ≡ 0 = none_of p after d ts rest (omega arith) in
             let at_end : p ≡ after = omega (arith, far, empty_of ts rest (omega arith)) in
-            let one : count s p inside (d + 1) (parts k h) ps ≤ 1 = subst (λ (n : ℕ). count s n inside (d + 1) (parts k h) ps ≤ 1) (sym at_end) (inner (parts_members s k h (formed t.kind))) in
+            let one : count s p inside (d + 1) (parts k h) ps ≤ 1 = subst
+            (λ (n : ℕ). count s n inside (d + 1) (parts k h) ps ≤ 1) (sym at_end)
+            (inner (parts_members s k h (formed t.kind))) in
             omega arith)
       ]
     where
@@ -352,9 +391,11 @@ module _ (s : List Form) (formed : IsFormed s) (height : ℕ → ℕ) (proper : 
       empty_of [] v e = refl
       empty_of (t ∷ ts) v e = absurd (omega arith)
 
-module _ (s : List Form) (formed : IsFormed s) (height : ℕ → ℕ) (proper : AreOver s height) (kinds : ℕ) (bound : (t : ℕ) → height t < kinds) where
+module _ (s : List Form) (formed : IsFormed s) (height : ℕ → ℕ) (proper : AreOver s height) (kinds : ℕ)
+    (bound : (t : ℕ) → height t < kinds) where
   -- at any place
-  anywhere : (p place d : ℕ) (ts : List Part) (v : Values) → AreMembers s ts → FitAll s ts v → count s p place d ts v ≤ kinds + 1
+  anywhere : (p place d : ℕ) (ts : List Part) (v : Values) → AreMembers s ts → FitAll s ts v
+      → count s p place d ts v ≤ kinds + 1
   anywhere p place d [] v m f = omega arith
   anywhere p place d (t ∷ ts) value.none m f = absurd (false≢true f)
   anywhere p place d (t ∷ ts) (value.node h ps rest) m fits =
@@ -365,11 +406,13 @@ module _ (s : List Form) (formed : IsFormed s) (height : ℕ → ℕ) (proper : 
       let after : ℕ = place + length (own k h) + length sv in
       let long = first_long s formed t h ps m.0 f.0 f.1 in
       let whole = count_node s p place d t ts h ps rest f.0 in
-      let inner : (AreMembers s (parts k h) ⊎ IsVoid s (parts k h)) → count s p inside (d + 1) (parts k h) ps ≤ kinds + 1 = λ e. elim e [
+      let inner : (AreMembers s (parts k h) ⊎ IsVoid s (parts k h))
+      → count s p inside (d + 1) (parts k h) ps ≤ kinds + 1 = λ e. elim e [
         | inl a ↦ anywhere p inside (d + 1) (parts k h) ps a f.1
         | inr o ↦ (let one = void_one s formed p inside (d + 1) (parts k h) ps o f.1 in omega arith)
       ] in
-      let inner_end : (AreMembers s (parts k h) ⊎ IsVoid s (parts k h)) → count s after inside (d + 1) (parts k h) ps ≤ 1 = λ e. elim e [
+      let inner_end : (AreMembers s (parts k h) ⊎ IsVoid s (parts k h))
+      → count s after inside (d + 1) (parts k h) ps ≤ 1 = λ e. elim e [
         | inl a ↦ ends s formed height proper inside (d + 1) (parts k h) ps a f.1
         | inr o ↦ void_one s formed after inside (d + 1) (parts k h) ps o f.1
       ] in
@@ -379,24 +422,31 @@ module _ (s : List Form) (formed : IsFormed s) (height : ℕ → ℕ) (proper : 
         | inl early ↦
             (let no_rest : count s p after d ts rest ≡ 0 = count_before s p after d ts rest f.2 early in
             elim (cases_lt place p) [
-              | inl later ↦ (let not_first : here place p ≡ 0 = here_not place p (λ same. absurd (omega arith)) in let low = inner members in omega arith)
+              | inl later ↦ (let not_first : here place p
+                  ≡ 0 = here_not place p (λ same. absurd (omega arith)) in let low = inner members in omega arith)
               | inr sooner ↦ elim (cases_lt p place) [
-                | inl before ↦ (let zero_all : count s p place d (t ∷ ts) (value.node h ps rest) ≡ 0 = count_before s p place d (t ∷ ts) (value.node h ps rest) fits before in omega arith)
+                | inl before ↦ (let zero_all : count s p place d (t ∷ ts) (value.node h ps rest)
+                    ≡ 0 = count_before s p place d (t ∷ ts) (value.node h ps rest) fits before in omega arith)
                 | inr not_before ↦
                     (let same : place ≡ p = omega arith in
-                    let start = starts s formed height proper kinds place d (t ∷ ts) (value.node h ps rest) m (all_below height kinds bound (t ∷ ts)) fits in
-                    let here_it : count s p place d (t ∷ ts) (value.node h ps rest) ≤ kinds = subst (λ (n : ℕ). count s n place d (t ∷ ts) (value.node h ps rest) ≤ kinds) same start in
+                    let start = starts s formed height proper kinds place d (t ∷ ts) (value.node h ps rest) m
+                    (all_below height kinds bound (t ∷ ts)) fits in
+                    let here_it : count s p place d (t ∷ ts) (value.node h ps rest) ≤ kinds = subst
+                    (λ (n : ℕ). count s n place d (t ∷ ts) (value.node h ps rest) ≤ kinds) same start in
                     omega arith)
               ]
             ])
         | inr late ↦
             (let not_first : here place p ≡ 0 = here_not place p (λ same. absurd (omega arith)) in
             elim (cases_lt after p) [
-              | inl beyond ↦ (let none : count s p inside (d + 1) (parts k h) ps ≡ 0 = count_after s p inside (d + 1) (parts k h) ps f.1 beyond in omega arith)
+              | inl beyond ↦ (let none : count s p inside (d + 1) (parts k h) ps
+                  ≡ 0 = count_after s p inside (d + 1) (parts k h) ps f.1 beyond in omega arith)
               | inr not_beyond ↦
                   (let same : after ≡ p = omega arith in
-                  let one : count s p inside (d + 1) (parts k h) ps ≤ 1 = subst (λ (n : ℕ). count s n inside (d + 1) (parts k h) ps ≤ 1) same (inner_end members) in
-                  let start : count s p after d ts rest ≤ kinds = subst (λ (n : ℕ). count s n after d ts rest ≤ kinds) same
+                  let one : count s p inside (d + 1) (parts k h) ps ≤ 1 = subst
+                  (λ (n : ℕ). count s n inside (d + 1) (parts k h) ps ≤ 1) same (inner_end members) in
+                  let start : count s p after d ts rest ≤ kinds = subst (λ (n : ℕ). count s n after d ts rest ≤ kinds)
+                  same
                   (starts s formed height proper kinds after d ts rest m.1 (all_below height kinds bound ts) f.2) in
                   omega arith)
             ])
@@ -408,7 +458,8 @@ few_below s height kinds proper bound formed t v p f =
     let all : FitAll s (item_part t ∷ []) (from_list (v ∷ [])) = root_fits s t v f in
     elim (solid_or_void s (item_part t)) [
       | inl m ↦ anywhere s formed height proper kinds bound p 0 1 (item_part t ∷ []) (from_list (v ∷ [])) (m, tt) all
-      | inr e ↦ (let one = void_one s formed p 0 1 (item_part t ∷ []) (from_list (v ∷ [])) (item_part t, refl, e) all in omega arith)
+      | inr e ↦ (let one = void_one s formed p 0 1 (item_part t ∷ []) (from_list (v ∷ [])) (item_part t, refl, e) all in
+          omega arith)
     ]
 
 -- ---- heights squeezed below the number of kinds: how many places stand lower
@@ -459,7 +510,12 @@ lower_own height t (suc i) h =
 
 lower_mono : (height : ℕ → ℕ) (p t n : ℕ) → height p ≤ height t → lower height p n ≤ lower height t n
 lower_mono height p t zero h = omega arith
-lower_mono height p t (suc i) h = omega (arith, one_less_mono (height i) (height p) (height t) h, lower_mono height p t i h)
+lower_mono height p t (suc i) h = omega (
+  arith,
+  one_less_mono (height i) (height p) (height t) h,
+  lower_mono height p t
+      i h,
+)
 
 lower_less : (height : ℕ → ℕ) (p t n : ℕ) → height p < height t → p < n → lower height p n < lower height t n
 lower_less height p t zero h l = absurd (omega arith)
@@ -495,15 +551,24 @@ rank_bound s height some t = elim (cases_lt t (length s)) [
   | inr unknown ↦ omega (arith, rank_out s height t unknown)
 ]
 
-rank_less : (s : List Form) (height : ℕ → ℕ) (p t : ℕ) → p < length s → t < length s → height p < height t → rank s height p < rank s height t
-rank_less s height p t k l h = omega (arith, rank_in s height p k, rank_in s height t l, lower_less height p t (length s) h k)
+rank_less : (s : List Form) (height : ℕ → ℕ) (p t : ℕ) → p < length s → t < length s → height p < height t
+    → rank s height p < rank s height t
+rank_less s height p t k l h = omega (
+  arith,
+  rank_in s height p k,
+  rank_in s height t l,
+  lower_less height p t
+      (length s) h k,
+)
 
-rank_all : (s : List Form) (height : ℕ → ℕ) (t : ℕ) → t < length s → (ts : List Part) → AllByRecursion (λ (p : Part). height p.kind < height t) ts → AllByRecursion (λ (p : Part). p.kind < length s) ts
+rank_all : (s : List Form) (height : ℕ → ℕ) (t : ℕ) → t < length s → (ts : List Part)
+    → AllByRecursion (λ (p : Part). height p.kind < height t) ts → AllByRecursion (λ (p : Part). p.kind < length s) ts
     → AllByRecursion (λ (p : Part). rank s height p.kind < rank s height t) ts
 rank_all s height t l [] a c = tt
 rank_all s height t l (p ∷ ts) a c = (rank_less s height p.kind t c.0 l a.0, rank_all s height t l ts a.1 c.1)
 
-rank_over : (s : List Form) (height : ℕ → ℕ) (t : ℕ) → t < length s → (k : Form) → Over (λ part. height part < height t) k → Over (λ part. part < length s) k
+rank_over : (s : List Form) (height : ℕ → ℕ) (t : ℕ) → t < length s → (k : Form)
+    → Over (λ part. height part < height t) k → Over (λ part. part < length s) k
     → Over (λ part. rank s height part < rank s height t) k
 rank_over s height t l (form.fixed item size) a c = rank_less s height item t c l a
 rank_over s height t l (form.structure fields) a c = rank_all s height t l fields a c
@@ -512,13 +577,17 @@ rank_over s height t l _ a c = tt
 ranks_higher : (s : List Form) (height : ℕ → ℕ) → AreOver s height → IsClosed s → AreOver s (rank s height)
 ranks_higher s height higher closed t = elim (cases_lt t (length s)) [
   | inl known ↦ rank_over s height t known (kind_at s t) (higher t) (closed t)
-  | inr past ↦ subst (λ (k : Form). Over (λ part. rank s height part < rank s height t) k) (sym (get_or_past s t form.unknown past)) tt
+  | inr past ↦ subst (λ (k : Form). Over (λ part. rank s height part < rank s height t) k)
+      (sym (get_or_past s t form.unknown past)) tt
 ]
 
 few_of : (s : List Form) (height : ℕ → ℕ) → AreOver s height → IsClosed s → IsFormed s → FewAtOnePlace s
 few_of s height higher closed formed t v p f =
-    let known : t < length s = legal_known s t v.0 (legal_is s (kind_at s t) v.0 (both (is_legal s (kind_at s t) v.0) (fit s (parts (kind_at s t) v.0) v.1) f).0) in
-    few_below s (rank s height) (length s) (ranks_higher s height higher closed) (rank_bound s height (omega arith)) formed t v p f
+    let known : t < length s = legal_known s t v.0
+    (legal_is s (kind_at s t) v.0 (both (is_legal s (kind_at s t) v.0) (fit s (parts (kind_at s t) v.0) v.1) f).0)
+    in
+    few_below s (rank s height) (length s) (ranks_higher s height higher closed) (rank_bound s height (omega arith))
+    formed t v p f
 
 -- ---- a well formed and sound schema is formed, closed and higher
 
@@ -543,7 +612,8 @@ some_fields : (ps : List Part) → is_none ps ≡ false → 0 < length ps
 some_fields [] e = absurd (false≢true (sym e))
 some_fields (p ∷ ps) e = omega arith
 
-formed_kind : (s : List Form) (f : Form) → is_zero_size f ≡ false → has_void s f ≡ false → has_empty_list f ≡ false → IsFormedKind s f
+formed_kind : (s : List Form) (f : Form) → is_zero_size f ≡ false → has_void s f ≡ false → has_empty_list f ≡ false
+    → IsFormedKind s f
 formed_kind s (form.opaque size) a b c = not_zero size a
 formed_kind s (form.fixed item size) a b c = (not_zero size a, is_solid (kind_at s item) b)
 formed_kind s (form.up_to item max) a b c = is_solid (kind_at s item) b
@@ -568,7 +638,8 @@ formed_of s well t = elim (cases_lt t (length s.kinds)) [
   | inr past ↦ subst (λ (f : Form). IsFormedKind s.kinds f) (sym (get_or_past s.kinds t form.unknown past)) tt
 ]
 
-closed_kind : (s : List Form) (f : Form) → ((h : Head) → AllByRecursion (λ (p : Part). p.kind < length s) (parts f h)) → Over (λ part. part < length s) f
+closed_kind : (s : List Form) (f : Form) → ((h : Head) → AllByRecursion (λ (p : Part). p.kind < length s) (parts f h))
+    → Over (λ part. part < length s) f
 closed_kind s (form.fixed item size) all = (all (value.items 1)).0
 closed_kind s (form.structure ps) all = all value.fields
 closed_kind s _ all = tt
@@ -587,7 +658,8 @@ record IsNumbered (s : List Form) (place top : ℕ) : Type 0 where
   pub given : heights place ≡ Some number
   pub low : number < top
 
-tops : (s : List Form) → IsSound s → (n : ℕ) → n ≤ length s → (top : ℕ) × ((place : ℕ) → place < n → IsNumbered s place top)
+tops : (s : List Form) → IsSound s → (n : ℕ) → n ≤ length s
+    → (top : ℕ) × ((place : ℕ) → place < n → IsNumbered s place top)
 tops s sound zero within = (0, λ place h. absurd (omega arith))
 tops s sound (suc n) within =
     let more = tops s sound n (omega arith) in
@@ -595,10 +667,18 @@ tops s sound (suc n) within =
     let top : ℕ = more.0 + (own_height.1 + 1) in (
       top,
       λ place h. elim (cases_lt place n) [
-        | inl less ↦ (let m = more.1 place less in record { heights = m.heights; number = m.number; proper = m.proper; given = m.given; low = omega (arith, m.low) })
+        | inl less ↦ (let m = more.1 place less in record
+            { heights = m.heights; number = m.number; proper = m.proper; given = m.given; low = omega (arith, m.low) })
         | inr last ↦
             (let same : n ≡ place = omega arith in
-            record { heights = own_height.0; number = own_height.1; proper = own_height.2; given = subst (λ (x : ℕ). own_height.0 x ≡ Some own_height.1) same own_height.3; low = omega arith })
+            record {
+              heights = own_height.0;
+              number = own_height.1;
+              proper = own_height.2;
+              given = subst
+                  (λ (x : ℕ). own_height.0 x ≡ Some own_height.1) same own_height.3;
+              low = omega arith;
+            })
       ],
     )
 
@@ -613,8 +693,10 @@ over_all s sound =
     let height : ℕ → ℕ = height_within s t.0 in (
       height,
       λ place. elim (cases_lt place (length s)) [
-        | inl known ↦ (let m = t.1 place known in over_of height (kind_at s place) (height place) (higher_at s m.heights m.proper t.0 place m.number m.given m.low))
-        | inr past ↦ subst (λ (f : Form). Over (λ part. height part < height place) f) (sym (get_or_past s place form.unknown past)) tt
+        | inl known ↦ (let m = t.1 place known in over_of height (kind_at s place) (height place)
+            (higher_at s m.heights m.proper t.0 place m.number m.given m.low))
+        | inr past ↦ subst (λ (f : Form). Over (λ part. height part < height place) f)
+            (sym (get_or_past s place form.unknown past)) tt
       ],
     )
 
@@ -630,9 +712,14 @@ held_bounds s well sound t q u count bytes len h =
     let kinds : List Form = s.kinds in
     let v : Tree = h.value in
     let f : Fits kinds t v = h.begins.0 in
-    let few : (p : ℕ) → nodes_at kinds p (entries kinds t v) ≤ length kinds + 1 = λ p. few_at_one_place s well sound t v p f in
-    let most = nodes_bound kinds (length kinds + 1) (entries kinds t v) (parts_units kinds 0 1 (item_part t ∷ []) (from_list (v ∷ [])) refl) few u in
+    let few : (p : ℕ) → nodes_at kinds p (entries kinds t v) ≤ length kinds + 1 = λ p. few_at_one_place s well sound t v
+    p f in
+    let most = nodes_bound kinds (length kinds + 1) (entries kinds t v)
+    (parts_units kinds 0 1 (item_part t ∷ []) (from_list (v ∷ [])) refl) few u in
     let here_all : nodes kinds (up_to (length q) (entries kinds t v)) ≤ (length kinds + 1) * (u + 1) =
     subst (λ (n : ℕ). nodes kinds (up_to n (entries kinds t v)) ≤ (length kinds + 1) * (u + 1)) (sym len) most in
-    let content = content_bound kinds t (length q) v f in
-    (subst (λ (n : ℕ). n ≤ (length kinds + 1) * (u + 1)) (sym h.nodes) here_all, subst (λ (n : ℕ). n ≤ length q) (sym h.content) content)
+    let content = content_bound kinds t (length q) v f in (
+      subst (λ (n : ℕ). n ≤ (length kinds + 1) * (u + 1)) (sym h.nodes) here_all,
+      subst (λ (n : ℕ). n ≤ length q)
+          (sym h.content) content,
+    )

@@ -23,9 +23,12 @@ regroup_left {A = A} a b c x = append_assoc (a ++ b) c x ∙ append_assoc a b (c
 
 -- ---- a head begins
 
-pub begin_back : (s : List Form) (place d : ℕ) (t : Part) (ts : List Part) (ds : List Due) (h : Head) (c : List ℕ) (ps : List Entry) → IsLegal s (kind_at s t.kind) h
-    → Completes s (place + length (own (kind_at s t.kind) h)) (Frame (d + 1) (parts (kind_at s t.kind) h) ∷ Frame d ts ∷ ds) c ps
-    → Completes s place (Frame d (t ∷ ts) ∷ ds) (own (kind_at s t.kind) h ++ c) (shown place d t (kind_at s t.kind) h ++ ps)
+pub begin_back : (s : List Form) (place d : ℕ) (t : Part) (ts : List Part) (ds : List Due) (h : Head) (c : List ℕ)
+    (ps : List Entry) → IsLegal s (kind_at s t.kind) h
+    → Completes s (place + length (own (kind_at s t.kind) h))
+    (Frame (d + 1) (parts (kind_at s t.kind) h) ∷ Frame d ts ∷ ds) c ps
+    → Completes s place (Frame d (t ∷ ts) ∷ ds) (own (kind_at s t.kind) h ++ c)
+    (shown place d t (kind_at s t.kind) h ++ ps)
 begin_back s place d t ts ds h c ps l r =
     let k : Form = kind_at s t.kind in
     let v : Values = r.0 in
@@ -34,22 +37,37 @@ begin_back s place d t ts ds h c ps l r =
     let sv : List ℕ = spelling s (parts k h) v in
     let sw : List ℕ = spelling s ts w in
     let spelled : own k h ++ c ≡ ((own k h ++ sv) ++ sw) ++ inner.1 =
-    ap (λ (b : List ℕ). own k h ++ b) (r.4 ∙ ap (λ (b : List ℕ). sv ++ b) inner.4) ∙ sym (regroup_left (own k h) sv sw inner.1) in
+    ap (λ (b : List ℕ). own k h ++ b) (r.4 ∙ ap (λ (b : List ℕ). sv ++ b) inner.4)
+    ∙ sym (regroup_left (own k h) sv sw inner.1) in
     let parted : shown place d t k h ++ ps ≡ layout s place d (t ∷ ts) (value.node h v w) ++ inner.2 =
-    ap (λ (b : List Entry). shown place d t k h ++ b) (r.5 ∙ ap (λ (b : List Entry). layout s (place + length (own k h)) (d + 1) (parts k h) v ++ b) inner.5)
-    ∙ sym (regroup (shown place d t k h) (layout s (place + length (own k h)) (d + 1) (parts k h) v) (layout s (place + length (own k h) + length sv) d ts w) inner.2) in
+    ap (λ (b : List Entry). shown place d t k h ++ b)
+    (r.5 ∙ ap (λ (b : List Entry). layout s (place + length (own k h)) (d + 1) (parts k h) v ++ b) inner.5)
+    ∙ sym (regroup (shown place d t k h) (layout s (place + length (own k h)) (d + 1) (parts k h) v)
+    (layout s (place + length (own k h) + length sv) d ts w) inner.2) in
     let far : place + length (own k h) + length sv + length sw ≡ place + length ((own k h ++ sv) ++ sw) =
-    omega (arith, length-append (own k h ++ sv) sw, length-append (own k h) sv) in
-    (value.node h v w, inner.1, inner.2, node_fits s t ts h v w l r.3 inner.3, spelled, parted, subst (λ (n : ℕ). Completes s n ds inner.1 inner.2) far inner.6)
+    omega (arith, length-append (own k h ++ sv) sw, length-append (own k h) sv) in (
+      value.node h v w,
+      inner.1,
+      inner.2,
+      node_fits s t ts h v w l r.3 inner.3,
+      spelled,
+      parted,
+      subst
+          (λ (n : ℕ). Completes s n ds inner.1 inner.2) far inner.6,
+    )
 
 -- what begins where a value is due
 abbrev pub Begins : List Form → (place d : ℕ) (t : Part) → List Part → List Due → List ℕ → List Entry → Type 0
 Begins s place d t ts ds c all =
-    (h : Head) × (x : List ℕ) × (ps : List Entry) × IsLegal s (kind_at s t.kind) h × (c ≡ own (kind_at s t.kind) h ++ x) × (all ≡ shown place d t (kind_at s t.kind) h ++ ps)
-    × Completes s (place + length (own (kind_at s t.kind) h)) (Frame (d + 1) (parts (kind_at s t.kind) h) ∷ Frame d ts ∷ ds) x ps
+    (h : Head) × (x : List ℕ) × (ps : List Entry) × IsLegal s (kind_at s t.kind) h × (c ≡ own (kind_at s t.kind) h ++ x)
+    × (all ≡ shown place d t (kind_at s t.kind) h ++ ps)
+    × Completes s (place + length (own (kind_at s t.kind) h))
+    (Frame (d + 1) (parts (kind_at s t.kind) h) ∷ Frame d ts ∷ ds) x ps
 
-begin_into_at : (s : List Form) (place d : ℕ) (t : Part) (ts : List Part) (ds : List Due) (v : Values) (x : List ℕ) (qs : List Entry) (c : List ℕ) (all : List Entry)
-    → FitAll s (t ∷ ts) v → c ≡ spelling s (t ∷ ts) v ++ x → all ≡ layout s place d (t ∷ ts) v ++ qs → Completes s (place + length (spelling s (t ∷ ts) v)) ds x qs
+begin_into_at : (s : List Form) (place d : ℕ) (t : Part) (ts : List Part) (ds : List Due) (v : Values) (x : List ℕ)
+    (qs : List Entry) (c : List ℕ) (all : List Entry)
+    → FitAll s (t ∷ ts) v → c ≡ spelling s (t ∷ ts) v ++ x → all ≡ layout s place d (t ∷ ts) v ++ qs
+    → Completes s (place + length (spelling s (t ∷ ts) v)) ds x qs
     → Begins s place d t ts ds c all
 begin_into_at s place d t ts ds value.none x qs c all fits e p r = absurd (false≢true fits)
 begin_into_at s place d t ts ds (value.node h v w) x qs c all fits e p r =
@@ -59,7 +77,8 @@ begin_into_at s place d t ts ds (value.node h v w) x qs c all fits e p r =
     let sw : List ℕ = spelling s ts w in
     let far : place + length ((own k h ++ sv) ++ sw) ≡ place + length (own k h) + length sv + length sw =
     omega (arith, length-append (own k h ++ sv) sw, length-append (own k h) sv) in
-    let rest : Completes s (place + length (own k h) + length sv + length sw) ds x qs = subst (λ (n : ℕ). Completes s n ds x qs) far r in
+    let rest : Completes s (place + length (own k h) + length sv + length sw) ds x qs = subst
+    (λ (n : ℕ). Completes s n ds x qs) far r in
     let inside = layout s (place + length (own k h)) (d + 1) (parts k h) v in
     let after = layout s (place + length (own k h) + length sv) d ts w in (
       h,
@@ -71,7 +90,8 @@ begin_into_at s place d t ts ds (value.node h v w) x qs c all fits e p r =
       (v, sw ++ x, after ++ qs, f.1, refl, refl, (w, x, qs, f.2, refl, refl, rest)),
     )
 
-pub begin_into : (s : List Form) (place d : ℕ) (t : Part) (ts : List Part) (ds : List Due) (c : List ℕ) (all : List Entry) → Completes s place (Frame d (t ∷ ts) ∷ ds) c all → Begins s place d t ts ds c all
+pub begin_into : (s : List Form) (place d : ℕ) (t : Part) (ts : List Part) (ds : List Due) (c : List ℕ)
+    (all : List Entry) → Completes s place (Frame d (t ∷ ts) ∷ ds) c all → Begins s place d t ts ds c all
 begin_into s place d t ts ds c all r = begin_into_at s place d t ts ds r.0 r.1 r.2 c all r.3 r.4 r.5 r.6
 
 -- ---- reading, step after step
@@ -91,13 +111,19 @@ reads_then s place a b d q u ps qs first second =
     let far : place + length q + length u ≡ place + length (q ++ u) = omega (arith, length-append q u) in
     record {
       into = λ c all r.
-          let one = first.into (u ++ c) all (subst (λ (l : List ℕ). Completes s place a l all) (append_assoc q u c) r) in
-          let two = second.into c one.0 one.2 in
-          (two.0, one.1 ∙ ap (λ (l : List Entry). ps ++ l) two.1 ∙ sym (append_assoc ps qs two.0), subst (λ (n : ℕ). Completes s n d c two.0) far two.2);
+          let one = first.into (u ++ c) all (subst (λ (l : List ℕ). Completes s place a l all) (append_assoc q u c) r)
+          in
+          let two = second.into c one.0 one.2 in (
+            two.0,
+            one.1 ∙ ap (λ (l : List Entry). ps ++ l) two.1
+                ∙ sym (append_assoc ps qs two.0),
+            subst (λ (n : ℕ). Completes s n d c two.0) far two.2,
+          );
       back = λ c rs r.
           let two = second.back c rs (subst (λ (n : ℕ). Completes s n d c rs) (sym far) r) in
           let one = first.back (u ++ c) (qs ++ rs) two in
-          let regrouped : Completes s place a ((q ++ u) ++ c) (ps ++ (qs ++ rs)) = subst (λ (l : List ℕ). Completes s place a l (ps ++ (qs ++ rs))) (sym (append_assoc q u c)) one in
+          let regrouped : Completes s place a ((q ++ u) ++ c) (ps ++ (qs ++ rs)) = subst
+          (λ (l : List ℕ). Completes s place a l (ps ++ (qs ++ rs))) (sym (append_assoc q u c)) one in
           subst (λ (l : List Entry). Completes s place a ((q ++ u) ++ c) l) (sym (append_assoc ps qs rs)) regrouped;
     }
 
@@ -114,16 +140,22 @@ reads_end s place d ds = record {
   back = λ c ps r. (value.none, c, ps, refl, refl, refl, r);
 }
   where
-    ended : (s : List Form) (place d : ℕ) (ds : List Due) (v : Values) (x : List ℕ) (qs : List Entry) (c : List ℕ) (all : List Entry)
-        → FitAll s [] v → c ≡ spelling s [] v ++ x → all ≡ layout s place d [] v ++ qs → Completes s (place + length (spelling s [] v)) ds x qs
+    ended : (s : List Form) (place d : ℕ) (ds : List Due) (v : Values) (x : List ℕ) (qs : List Entry) (c : List ℕ)
+        (all : List Entry)
+        → FitAll s [] v → c ≡ spelling s [] v ++ x → all ≡ layout s place d [] v ++ qs
+        → Completes s (place + length (spelling s [] v)) ds x qs
         → (ps : List Entry) × (all ≡ ps) × Completes s (place + 0) ds c ps
-    ended s place d ds value.none x qs c all fits e p r = (qs, p, subst (λ (l : List ℕ). Completes s (place + 0) ds l qs) (sym e) r)
+    ended s place d ds value.none x qs c all fits e p r =
+        (qs, p, subst (λ (l : List ℕ). Completes s (place + 0) ds l qs) (sym e) r)
     ended s place d ds (value.node h v w) x qs c all fits e p r = absurd (false≢true fits)
 
 -- a head whose bytes are known, the only one that can begin so
-pub reads_head : (s : List Form) (place d : ℕ) (t : Part) (ts : List Part) (ds : List Due) (h : Head) → IsLegal s (kind_at s t.kind) h
-    → ((g : Head) (c x : List ℕ) → IsLegal s (kind_at s t.kind) g → own (kind_at s t.kind) h ++ c ≡ own (kind_at s t.kind) g ++ x → h ≡ g)
-    → Reads s place (Frame d (t ∷ ts) ∷ ds) (own (kind_at s t.kind) h) (shown place d t (kind_at s t.kind) h) (Frame (d + 1) (parts (kind_at s t.kind) h) ∷ Frame d ts ∷ ds)
+pub reads_head : (s : List Form) (place d : ℕ) (t : Part) (ts : List Part) (ds : List Due) (h : Head)
+    → IsLegal s (kind_at s t.kind) h
+    → ((g : Head) (c x : List ℕ) → IsLegal s (kind_at s t.kind) g
+    → own (kind_at s t.kind) h ++ c ≡ own (kind_at s t.kind) g ++ x → h ≡ g)
+    → Reads s place (Frame d (t ∷ ts) ∷ ds) (own (kind_at s t.kind) h) (shown place d t (kind_at s t.kind) h)
+    (Frame (d + 1) (parts (kind_at s t.kind) h) ∷ Frame d ts ∷ ds)
 reads_head s place d t ts ds h legal only =
     let k : Form = kind_at s t.kind in
     record {
@@ -134,8 +166,10 @@ reads_head s place d t ts ds h legal only =
           let same : b.1 ≡ c = sym (append_cancel_left (own k h) c b.1 spelled) in (
             b.2,
             b.5 ∙ ap (λ (g : Head). shown place d t k g ++ b.2) (sym alike),
-            subst (λ (l : List ℕ). Completes s (place + length (own k h)) (Frame (d + 1) (parts k h) ∷ Frame d ts ∷ ds) l b.2) same
-                (subst (λ (g : Head). Completes s (place + length (own k g)) (Frame (d + 1) (parts k g) ∷ Frame d ts ∷ ds) b.1 b.2) (sym alike) b.6),
+            subst (λ (l : List ℕ). Completes s (place + length (own k h)) (Frame (d + 1) (parts k h) ∷ Frame d ts ∷ ds)
+                l b.2) same
+                (subst (λ (g : Head). Completes s (place + length (own k g))
+                (Frame (d + 1) (parts k g) ∷ Frame d ts ∷ ds) b.1 b.2) (sym alike) b.6),
           );
       back = λ c ps r. begin_back s place d t ts ds h c ps legal r;
     }
@@ -153,7 +187,8 @@ silent_is s (form.fixed item size) u = (refl, refl, λ g l. only_items s item si
     only_items s item size _ l = absurd l
 silent_is s (form.structure fields) u = (tt, refl, λ g l. only_fields s fields g l)
   where
-    only_fields : (s : List Form) (fields : List Part) (g : Head) → IsLegal s (form.structure fields) g → value.fields ≡ g
+    only_fields : (s : List Form) (fields : List Part) (g : Head) → IsLegal s (form.structure fields) g
+        → value.fields ≡ g
     only_fields s fields value.fields l = refl
     only_fields s fields _ l = absurd l
 silent_is s form.nothing u = (tt, refl, λ g l. only_void s g l)
@@ -169,13 +204,16 @@ silent_legal s k u = (silent_is s k u).0
 pub silent_only : (s : List Form) (k : Form) → IsSilent (lead_of k) → (g : Head) → IsLegal s k g → silent_head k ≡ g
 silent_only s k u = (silent_is s k u).2
 
-pub reads_silent : (s : List Form) (place d : ℕ) (t : Part) (ts : List Part) (ds : List Due) → IsSilent (lead_of (kind_at s t.kind))
-    → Reads s place (Frame d (t ∷ ts) ∷ ds) [] (shown place d t (kind_at s t.kind) (silent_head (kind_at s t.kind))) (Frame (d + 1) (parts (kind_at s t.kind) (silent_head (kind_at s t.kind))) ∷ Frame d ts ∷ ds)
+pub reads_silent : (s : List Form) (place d : ℕ) (t : Part) (ts : List Part) (ds : List Due)
+    → IsSilent (lead_of (kind_at s t.kind))
+    → Reads s place (Frame d (t ∷ ts) ∷ ds) [] (shown place d t (kind_at s t.kind) (silent_head (kind_at s t.kind)))
+    (Frame (d + 1) (parts (kind_at s t.kind) (silent_head (kind_at s t.kind))) ∷ Frame d ts ∷ ds)
 reads_silent s place d t ts ds u =
     let k : Form = kind_at s t.kind in
     let h : Head = silent_head k in
     let i = silent_is s k u in
-    subst (λ (q : List ℕ). Reads s place (Frame d (t ∷ ts) ∷ ds) q (shown place d t k h) (Frame (d + 1) (parts k h) ∷ Frame d ts ∷ ds)) i.1
+    subst (λ (q : List ℕ). Reads s place (Frame d (t ∷ ts) ∷ ds) q (shown place d t k h)
+    (Frame (d + 1) (parts k h) ∷ Frame d ts ∷ ds)) i.1
     (reads_head s place d t ts ds h i.0 (λ g c x l e. i.2 g l))
 
 -- ---- the first unit of a head
@@ -184,10 +222,12 @@ only_unit : (n x : ℕ) (c y : List ℕ) → n < 2 ^ 32 → x < 2 ^ 32 → unit4
 only_unit n x c y small less e = sym (from4-unit4 n c small) ∙ ap from4 e ∙ from4-unit4 x y less
 
 -- a legal head whose bytes begin with the unit x is the head that x makes, and x is accepted
-pub head_is : (s : List Form) (k : Form) (g : Head) (x : ℕ) (c y : List ℕ) → IsUnitFirst (lead_of k) → x < 2 ^ 32 → IsLegal s k g → unit4 x ++ c ≡ own k g ++ y → Accepts s k x × (head_of s k x ≡ g)
+pub head_is : (s : List Form) (k : Form) (g : Head) (x : ℕ) (c y : List ℕ) → IsUnitFirst (lead_of k) → x < 2 ^ 32
+    → IsLegal s k g → unit4 x ++ c ≡ own k g ++ y → Accepts s k x × (head_of s k x ≡ g)
 head_is s form.int (value.int z) x c y u less l e =
     let b = signed_back z l in
-    let same : x ≡ unit_of z = only_unit x (unit_of z) c y less b.0 e in (less, ap (λ (n : ℕ). value.int (signed n)) same ∙ ap value.int b.1)
+    let same : x ≡ unit_of z = only_unit x (unit_of z) c y less b.0 e in
+    (less, ap (λ (n : ℕ). value.int (signed n)) same ∙ ap value.int b.1)
 head_is s form.unsigned (value.unsigned n) x c y u less l e =
     let same : x ≡ n = only_unit x n c y less l e in (less, ap value.unsigned same)
 head_is s form.boolean (value.boolean true) x c y u less l e =
@@ -205,8 +245,15 @@ head_is s (form.choice tag arms other) (value.tag z) x c y u less l e =
     let k : Form = kind_at s tag in
     let b = number_back k z l.0 in
     let same : x ≡ unit_of z = only_unit x (unit_of z) c y less b.0 e in
-    let number : number_in k x ≡ z = ap (number_in k) same ∙ b.1 in
-    ((less, subst (λ (n : ℤ). is_tag_of k n ≡ true) (sym number) l.0, subst (λ (n : ℤ). is_some (part_of arms other n) ≡ true) (sym number) l.1), ap value.tag number)
+    let number : number_in k x ≡ z = ap (number_in k) same ∙ b.1 in (
+      (
+        less,
+        subst (λ (n : ℤ). is_tag_of k n ≡ true) (sym number) l.0,
+        subst
+            (λ (n : ℤ). is_some (part_of arms other n) ≡ true) (sym number) l.1,
+      ),
+      ap value.tag number,
+    )
 head_is s (form.maybe item) value.present x c y u less l e =
     let same : x ≡ 1 = only_unit x 1 c y less (lit< tt) e in (omega arith, ap flag same)
 head_is s (form.maybe item) value.absent x c y u less l e =
@@ -228,10 +275,12 @@ signed_unit x h = by_half x h (nat_lt x 2147483648) refl
     low : (x : ℕ) → x < 2147483648 → IsSigned 2147483648 (pos x) × (unit_of (pos x) ≡ x)
     low x h = (h, refl)
 
-    high : (x : ℕ) → 2147483648 ≤ x → x < 2 ^ 32 → IsSigned 2147483648 (negsuc (4294967295 - x)) × (unit_of (negsuc (4294967295 - x)) ≡ x)
+    high : (x : ℕ) → 2147483648 ≤ x → x < 2 ^ 32
+        → IsSigned 2147483648 (negsuc (4294967295 - x)) × (unit_of (negsuc (4294967295 - x)) ≡ x)
     high x h less = (omega arith, omega arith)
 
-    by_half : (x : ℕ) → x < 2 ^ 32 → (b : Bool) → nat_lt x 2147483648 ≡ b → IsSigned 2147483648 (signed x) × (unit_of (signed x) ≡ x)
+    by_half : (x : ℕ) → x < 2 ^ 32 → (b : Bool) → nat_lt x 2147483648 ≡ b
+        → IsSigned 2147483648 (signed x) × (unit_of (signed x) ≡ x)
     by_half x h true e =
         let below = ltb-true x 2147483648 e in
         subst (λ (z : ℤ). IsSigned 2147483648 z × (unit_of z ≡ x)) (sym (signed_low x below)) (low x below)
@@ -264,17 +313,23 @@ head_legal s form.unknown x u a = absurd a
 head_legal s _ x u a = absurd u
 
 -- an accepted unit is read
-pub reads_unit : (s : List Form) (place d : ℕ) (t : Part) (ts : List Part) (ds : List Due) (x : ℕ) → IsUnitFirst (lead_of (kind_at s t.kind)) → Accepts s (kind_at s t.kind) x
-    → Reads s place (Frame d (t ∷ ts) ∷ ds) (unit4 x) (shown place d t (kind_at s t.kind) (head_of s (kind_at s t.kind) x)) (Frame (d + 1) (parts (kind_at s t.kind) (head_of s (kind_at s t.kind) x)) ∷ Frame d ts ∷ ds)
+pub reads_unit : (s : List Form) (place d : ℕ) (t : Part) (ts : List Part) (ds : List Due) (x : ℕ)
+    → IsUnitFirst (lead_of (kind_at s t.kind)) → Accepts s (kind_at s t.kind) x
+    → Reads s place (Frame d (t ∷ ts) ∷ ds) (unit4 x)
+    (shown place d t (kind_at s t.kind) (head_of s (kind_at s t.kind) x))
+    (Frame (d + 1) (parts (kind_at s t.kind) (head_of s (kind_at s t.kind) x)) ∷ Frame d ts ∷ ds)
 reads_unit s place d t ts ds x u a =
     let k : Form = kind_at s t.kind in
     let l = head_legal s k x u a in
     let h : Head = head_of s k x in
-    subst (λ (q : List ℕ). Reads s place (Frame d (t ∷ ts) ∷ ds) q (shown place d t k h) (Frame (d + 1) (parts k h) ∷ Frame d ts ∷ ds)) l.1
-    (reads_head s place d t ts ds h l.0 (λ g c y legal e. (head_is s k g x c y u l.2 legal (ap (λ (b : List ℕ). b ++ c) (sym l.1) ∙ e)).1))
+    subst (λ (q : List ℕ). Reads s place (Frame d (t ∷ ts) ∷ ds) q (shown place d t k h)
+    (Frame (d + 1) (parts k h) ∷ Frame d ts ∷ ds)) l.1
+    (reads_head s place d t ts ds h l.0 (λ g c y legal e.
+    (head_is s k g x c y u l.2 legal (ap (λ (b : List ℕ). b ++ c) (sym l.1) ∙ e)).1))
 
 -- and no other unit begins what is owed
-pub refuses_unit : (s : List Form) (place d : ℕ) (t : Part) (ts : List Part) (ds : List Due) (x : ℕ) (c : List ℕ) (ps : List Entry) → IsUnitFirst (lead_of (kind_at s t.kind)) → x < 2 ^ 32
+pub refuses_unit : (s : List Form) (place d : ℕ) (t : Part) (ts : List Part) (ds : List Due) (x : ℕ) (c : List ℕ)
+    (ps : List Entry) → IsUnitFirst (lead_of (kind_at s t.kind)) → x < 2 ^ 32
     → Completes s place (Frame d (t ∷ ts) ∷ ds) (unit4 x ++ c) ps → Accepts s (kind_at s t.kind) x
 refuses_unit s place d t ts ds x c ps u less r =
     let b = begin_into s place d t ts ds (unit4 x ++ c) ps r in

@@ -37,7 +37,8 @@ unit_case LengthFirst u = inr tt
 unit_case FreeBytes u = absurd u
 unit_case Silent u = absurd u
 
-frames_on_track : (s : List Form) (before : List Entry) (place : ℕ) (ds : List Due) → AreFrames ds → IsOnTrack s before place ds
+frames_on_track : (s : List Form) (before : List Entry) (place : ℕ) (ds : List Due) → AreFrames ds
+    → IsOnTrack s before place ds
 frames_on_track s before place [] a = tt
 frames_on_track s before place (Frame d ts ∷ ds) a = a
 frames_on_track s before place (Rest n ∷ ds) a = absurd a
@@ -47,16 +48,24 @@ frames_on_track s before place (Rest n ∷ ds) a = absurd a
 -- a unit is needed, or just these frames are left
 abbrev Enters : List Form → (place : ℕ) (before : List Entry) → List Due → List Due → Type 0
 Enters s place before a ds =
-    (begun : List Entry) × (ds' : List Due) × Reads s place a [] begun ds' × ((IsSettled s ds' × IsOnTrack s (before ++ begun) place ds') ⊎ (ds' ≡ ds)) × AllUpTo place begun
+    (begun : List Entry) × (ds' : List Due) × Reads s place a [] begun ds'
+    × ((IsSettled s ds' × IsOnTrack s (before ++ begun) place ds') ⊎ (ds' ≡ ds)) × AllUpTo place begun
 
-then_enters : (s : List Form) (place : ℕ) (before : List Entry) (a b ds : List Due) (begun : List Entry) → Reads s place a [] begun b → AllUpTo place begun
+then_enters : (s : List Form) (place : ℕ) (before : List Entry) (a b ds : List Due) (begun : List Entry)
+    → Reads s place a [] begun b → AllUpTo place begun
     → Enters s place (before ++ begun) b ds → Enters s place before a ds
 then_enters s place before a b ds begun first low e =
     let c : (IsSettled s e.1 × IsOnTrack s (before ++ (begun ++ e.0)) place e.1) ⊎ (e.1 ≡ ds) = elim e.3 [
       | inl n ↦ inl (n.0, subst (λ (l : List Entry). IsOnTrack s l place e.1) (append_assoc before begun e.0) n.1)
       | inr same ↦ inr same
-    ] in
-    (begun ++ e.0, e.1, silent_then s place a b e.1 [] begun e.0 first e.2, c, all_append (λ (x : Entry). x.at ≤ place) begun e.0 low e.4)
+    ] in (
+      begun ++ e.0,
+      e.1,
+      silent_then s place a b e.1 [] begun e.0 first e.2,
+      c,
+      all_append (λ (x : Entry). x.at ≤ place)
+          begun e.0 low e.4,
+    )
 
 low_less : (m n : ℕ) (ps : List Entry) → m ≤ n → AllUpTo m ps → AllUpTo n ps
 low_less m n [] h a = tt
@@ -66,7 +75,8 @@ free_low : (s : List Form) (place d : ℕ) (t : Part) (k : Form) → AllUpTo pla
 free_low s place d t (form.opaque size) = (omega arith, tt)
 free_low s place d t _ = (omega arith, tt)
 
-silent_low : (s : List Form) (place d : ℕ) (t : Part) (k : Form) → IsSilent (lead_of k) → AllUpTo place (shown place d t k (silent_head k))
+silent_low : (s : List Form) (place d : ℕ) (t : Part) (k : Form) → IsSilent (lead_of k)
+    → AllUpTo place (shown place d t k (silent_head k))
 silent_low s place d t (form.fixed item size) u = (omega arith, tt)
 silent_low s place d t (form.structure fields) u = (omega arith, tt)
 silent_low s place d t form.nothing u = (omega arith, tt)
@@ -87,51 +97,97 @@ shown_low place d t k _ = (omega arith, tt)
 
 -- the part of free bytes
 free_part : (s : List Form) (place d : ℕ) (t : Part) (k : Form) → kind_at s t.kind ≡ k → IsFreeBytes (lead_of k)
-    → (e : Entry) × Contains (free_parts place d t k) e × (e.at ≤ place) × EndsAt s (place + free_size k) e e.role × (e.depth ≡ d)
-free_part s place d t form.hyper is u = (entry place 8 d t of_number, (0, omega arith, refl), omega arith, (refl, refl, subst (λ (k : Form). IsFreeBytes (lead_of k)) (sym is) tt), refl)
-free_part s place d t form.unsigned_hyper is u = (entry place 8 d t of_number, (0, omega arith, refl), omega arith, (refl, refl, subst (λ (k : Form). IsFreeBytes (lead_of k)) (sym is) tt), refl)
-free_part s place d t (form.opaque size) is u = (entry place (size + length (pad size)) d t (of_content size), (0, omega arith, refl), omega arith, (refl, refl), refl)
+    → (e : Entry) × Contains (free_parts place d t k) e × (e.at ≤ place) × EndsAt s (place + free_size k) e e.role
+    × (e.depth ≡ d)
+free_part s place d t form.hyper is u = (
+  entry place 8 d t of_number,
+  (0, omega arith, refl),
+  omega arith,
+  (refl, refl, subst (λ (k : Form). IsFreeBytes (lead_of k)) (sym is) tt),
+  refl,
+)
+free_part s place d t form.unsigned_hyper is u = (
+  entry place 8 d t of_number,
+  (0, omega arith, refl),
+  omega arith,
+  (refl, refl, subst (λ (k : Form). IsFreeBytes (lead_of k)) (sym is) tt),
+  refl,
+)
+free_part s place d t (form.opaque size) is u = (
+  entry place (size + length (pad size)) d t (of_content size),
+  (0, omega arith, refl),
+  omega arith,
+  (refl, refl),
+  refl,
+)
 free_part s place d t _ is u = absurd u
 
 -- what is entered from frames of these kinds, whatever stands around them
 abbrev EntersAll : List Form → (place : ℕ) → List Part → Type 0
-EntersAll s place ts = (before : List Entry) (d : ℕ) (ds : List Due) → d ≡ length ds + 1 → AreFrames ds → Enters s place before (Frame d ts ∷ ds) ds
+EntersAll s place ts = (before : List Entry) (d : ℕ) (ds : List Due) → d ≡ length ds + 1 → AreFrames ds
+    → Enters s place before (Frame d ts ∷ ds) ds
 
 module _ (s : List Form) (place : ℕ) where
   -- a value of free bytes begins
-  enter_free : (before : List Entry) (d : ℕ) (t : Part) (ts : List Part) (ds : List Due) → d ≡ length ds + 1 → AreFrames ds → IsFreeBytes (lead_of (kind_at s t.kind))
+  enter_free : (before : List Entry) (d : ℕ) (t : Part) (ts : List Part) (ds : List Due) → d ≡ length ds + 1
+      → AreFrames ds → IsFreeBytes (lead_of (kind_at s t.kind))
       → EntersAll s place ts → Enters s place before (Frame d (t ∷ ts) ∷ ds) ds
   enter_free before d t ts ds at a u after =
-      by_size (free_size (kind_at s t.kind)) (reads_free s place d t ts ds u) (free_part s place d t (kind_at s t.kind) refl u)
+      by_size (free_size (kind_at s t.kind)) (reads_free s place d t ts ds u)
+      (free_part s place d t (kind_at s t.kind) refl u)
     where
-      by_size : (n : ℕ) → Reads s place (Frame d (t ∷ ts) ∷ ds) [] (free_parts place d t (kind_at s t.kind)) (Rest n ∷ Frame d ts ∷ ds)
-          → (e : Entry) × Contains (free_parts place d t (kind_at s t.kind)) e × (e.at ≤ place) × EndsAt s (place + n) e e.role × (e.depth ≡ d) → Enters s place before (Frame d (t ∷ ts) ∷ ds) ds
+      by_size : (n : ℕ) → Reads s place (Frame d (t ∷ ts) ∷ ds) [] (free_parts place d t (kind_at s t.kind))
+          (Rest n ∷ Frame d ts ∷ ds)
+          → (e : Entry) × Contains (free_parts place d t (kind_at s t.kind)) e × (e.at ≤ place)
+          × EndsAt s (place + n) e e.role × (e.depth ≡ d) → Enters s place before (Frame d (t ∷ ts) ∷ ds) ds
       by_size zero r e =
           let begun : List Entry = free_parts place d t (kind_at s t.kind) in
           let low : AllUpTo place begun = free_low s place d t (kind_at s t.kind) in
           then_enters s place before (Frame d (t ∷ ts) ∷ ds) (Rest 0 ∷ Frame d ts ∷ ds) ds begun r low
-          (then_enters s place (before ++ begun) (Rest 0 ∷ Frame d ts ∷ ds) (Frame d ts ∷ ds) ds [] (reads_over s place (Frame d ts ∷ ds)) tt
+          (then_enters s place (before ++ begun) (Rest 0 ∷ Frame d ts ∷ ds) (Frame d ts ∷ ds) ds []
+          (reads_over s place (Frame d ts ∷ ds)) tt
           (after ((before ++ begun) ++ []) d ds at a))
       by_size (suc n) r e =
           let begun : List Entry = free_parts place d t (kind_at s t.kind) in
-          let low : AllUpTo place begun = free_low s place d t (kind_at s t.kind) in
-          (begun, Rest (suc n) ∷ Frame d ts ∷ ds, r, inl (omega arith, ((at, a), e.0, Contains-append_right before begun e.0 e.1, e.2, e.3, omega (arith, e.4, at))), low)
+          let low : AllUpTo place begun = free_low s place d t (kind_at s t.kind) in (
+            begun,
+            Rest (suc n) ∷ Frame d ts ∷ ds,
+            r,
+            inl (
+              omega arith,
+              (
+                (at, a),
+                e.0,
+                Contains-append_right before begun e.0 e.1,
+                e.2,
+                e.3,
+                omega
+                    (arith, e.4, at),
+              ),
+            ),
+            low,
+          )
 
   -- a value of no bytes of its own begins
-  enter_silent : (before : List Entry) (d : ℕ) (t : Part) (ts : List Part) (ds : List Due) → d ≡ length ds + 1 → AreFrames ds → IsSilent (lead_of (kind_at s t.kind))
-      → EntersAll s place (parts (kind_at s t.kind) (silent_head (kind_at s t.kind))) → EntersAll s place ts → Enters s place before (Frame d (t ∷ ts) ∷ ds) ds
+  enter_silent : (before : List Entry) (d : ℕ) (t : Part) (ts : List Part) (ds : List Due) → d ≡ length ds + 1
+      → AreFrames ds → IsSilent (lead_of (kind_at s t.kind))
+      → EntersAll s place (parts (kind_at s t.kind) (silent_head (kind_at s t.kind))) → EntersAll s place ts
+      → Enters s place before (Frame d (t ∷ ts) ∷ ds) ds
   enter_silent before d t ts ds at a u inner after =
       let k : Form = kind_at s t.kind in
       let begun : List Entry = shown place d t k (silent_head k) in
       let open_ : List Due = Frame (d + 1) (parts k (silent_head k)) ∷ Frame d ts ∷ ds in
-      then_enters s place before (Frame d (t ∷ ts) ∷ ds) open_ ds begun (reads_silent s place d t ts ds u) (silent_low s place d t k u)
+      then_enters s place before (Frame d (t ∷ ts) ∷ ds) open_ ds begun (reads_silent s place d t ts ds u)
+      (silent_low s place d t k u)
       (go_on (before ++ begun) open_ (inner (before ++ begun) (d + 1) (Frame d ts ∷ ds) (omega arith) (at, a)))
     where
-      go_on : (before : List Entry) (b : List Due) → Enters s place before b (Frame d ts ∷ ds) → Enters s place before b ds
+      go_on : (before : List Entry) (b : List Due) → Enters s place before b (Frame d ts ∷ ds)
+          → Enters s place before b ds
       go_on before b e = elim e.3 [
         | inl n ↦ (e.0, e.1, e.2, inl n, e.4)
         | inr same ↦
-            then_enters s place before b (Frame d ts ∷ ds) ds e.0 (subst (λ (l : List Due). Reads s place b [] e.0 l) same e.2) e.4 (after (before ++ e.0) d ds at a)
+            then_enters s place before b (Frame d ts ∷ ds) ds e.0
+            (subst (λ (l : List Due). Reads s place b [] e.0 l) same e.2) e.4 (after (before ++ e.0) d ds at a)
       ]
 
   enter : (v : Values) (ts : List Part) → FitAll s ts v → EntersAll s place ts
@@ -147,14 +203,16 @@ module _ (s : List Form) (place : ℕ) where
         | inr (inl u) ↦ enter_free before d t ts ds at a u after
         | inr (inr u) ↦
             enter_silent before d t ts ds at a u
-            (subst (λ (g : Head). EntersAll s place (parts (kind_at s t.kind) g)) (sym (silent_only s (kind_at s t.kind) u h f.0)) inner) after
+            (subst (λ (g : Head). EntersAll s place (parts (kind_at s t.kind) g))
+            (sym (silent_only s (kind_at s t.kind) u h f.0)) inner) after
       ]
 
 -- what is owed, settled
 abbrev pub Settles : List Form → (place : ℕ) (before : List Entry) → List Due → Type 0
 Settles s place before ds = (begun : List Entry) × (ds' : List Due) × Reaches s place before ds [] begun ds'
 
-settles_then : (s : List Form) (place : ℕ) (before : List Entry) (a b : List Due) (begun : List Entry) → Reads s place a [] begun b → AllUpTo place begun → Settles s place (before ++ begun) b → Settles s place before a
+settles_then : (s : List Form) (place : ℕ) (before : List Entry) (a b : List Due) (begun : List Entry)
+    → Reads s place a [] begun b → AllUpTo place begun → Settles s place (before ++ begun) b → Settles s place before a
 settles_then s place before a b begun first low e = (
   begun ++ e.0,
   e.1,
@@ -162,24 +220,44 @@ settles_then s place before a b begun first low e = (
     reads = silent_then s place a b e.1 [] begun e.0 first e.2.reads;
     settled = e.2.settled;
     track = subst (λ (l : List Entry). IsOnTrack s l (place + 0) e.1) (append_assoc before begun e.0) e.2.track;
-    low = all_append (λ (x : Entry). x.at ≤ place + 0) begun e.0 (subst (λ (m : ℕ). AllUpTo m begun) (sym (nothing_more place)) low) e.2.low;
+    low = all_append (λ (x : Entry). x.at ≤ place + 0) begun e.0
+        (subst (λ (m : ℕ). AllUpTo m begun) (sym (nothing_more place)) low) e.2.low;
   },
 )
 
 pub settle : (s : List Form) (place : ℕ) (before : List Entry) (ds : List Due) (p : ℕ) (c : List ℕ) (ps : List Entry)
     → IsOnTrack s before place ds → Completes s p ds c ps → Settles s place before ds
-settle s place before [] p c ps a r = ([], [], record { reads = reads_none s place []; settled = tt; track = tt; low = tt })
+settle s place before [] p c ps a r = (
+  [],
+  [],
+  record
+      { reads = reads_none s place []; settled = tt; track = tt; low = tt },
+)
 settle s place before (Frame d ts ∷ ds) p c ps a r =
     let e = enter s place r.0 ts r.3 before d ds a.0 a.1 in
     elim e.3 [
-      | inl n ↦ (e.0, e.1, record { reads = e.2; settled = n.0; track = subst (λ (m : ℕ). IsOnTrack s (before ++ e.0) m e.1) (sym (nothing_more place)) n.1; low = subst (λ (m : ℕ). AllUpTo m e.0) (sym (nothing_more place)) e.4 })
+      | inl n ↦ (
+        e.0,
+        e.1,
+        record {
+          reads = e.2;
+          settled = n.0;
+          track = subst
+              (λ (m : ℕ). IsOnTrack s (before ++ e.0) m e.1) (sym (nothing_more place)) n.1;
+          low = subst
+              (λ (m : ℕ). AllUpTo m e.0) (sym (nothing_more place)) e.4;
+        },
+      )
       | inr same ↦
-          settles_then s place before (Frame d ts ∷ ds) ds e.0 (subst (λ (l : List Due). Reads s place (Frame d ts ∷ ds) [] e.0 l) same e.2) e.4
-          (settle s place (before ++ e.0) ds (p + length (spelling s ts r.0)) r.1 r.2 (frames_on_track s (before ++ e.0) place ds a.1) r.6)
+          settles_then s place before (Frame d ts ∷ ds) ds e.0
+          (subst (λ (l : List Due). Reads s place (Frame d ts ∷ ds) [] e.0 l) same e.2) e.4
+          (settle s place (before ++ e.0) ds (p + length (spelling s ts r.0)) r.1 r.2
+          (frames_on_track s (before ++ e.0) place ds a.1) r.6)
     ]
 settle s place before (Rest zero ∷ ds) p c ps a r =
     settles_then s place before (Rest zero ∷ ds) ds [] (reads_over s place ds) tt
-    (settle s place (before ++ []) ds (p + (0 + length (pad 0))) r.1 ps (frames_on_track s (before ++ []) place ds a.0) r.5)
+    (settle s place (before ++ []) ds (p + (0 + length (pad 0))) r.1 ps (frames_on_track s (before ++ []) place ds a.0)
+    r.5)
 settle s place before (Rest (suc n) ∷ ds) p c ps a r = (
   [],
   Rest (suc n) ∷ ds,
@@ -196,23 +274,49 @@ settle s place before (Rest (suc n) ∷ ds) p c ps a r = (
 
 -- a unit is read
 abbrev pub Steps : List Form → (place : ℕ) (before : List Entry) → List Due → List ℕ → Type 0
-Steps s place before ds u = (begun : List Entry) × (ds' : List Due) × Reads s place ds u begun ds' × IsOnTrack s (before ++ begun) (place + 4) ds' × AllUpTo (place + 4) begun
+Steps s place before ds u = (begun : List Entry) × (ds' : List Due) × Reads s place ds u begun ds'
+    × IsOnTrack s (before ++ begun) (place + 4) ds' × AllUpTo (place + 4) begun
     × (EachPartIsKnown s → AreOfList s ds → AreOfList s ds')
 
-pub step_unit : (s : List Form) (place : ℕ) (before : List Entry) (d : ℕ) (t : Part) (ts : List Part) (ds : List Due) (x : ℕ) → (d ≡ length ds + 1) × AreFrames ds
-    → HasUnit (lead_of (kind_at s t.kind)) → Accepts s (kind_at s t.kind) x → Steps s place before (Frame d (t ∷ ts) ∷ ds) (unit4 x)
+pub step_unit : (s : List Form) (place : ℕ) (before : List Entry) (d : ℕ) (t : Part) (ts : List Part) (ds : List Due)
+    (x : ℕ) → (d ≡ length ds + 1) × AreFrames ds
+    → HasUnit (lead_of (kind_at s t.kind)) → Accepts s (kind_at s t.kind) x
+    → Steps s place before (Frame d (t ∷ ts) ∷ ds) (unit4 x)
 step_unit s place before d t ts ds x a u accepts =
     elim (unit_case (lead_of (kind_at s t.kind)) u) [
       | inl first ↦
-          (let k : Form = kind_at s t.kind in
-          (shown place d t k (head_of s k x), Frame (d + 1) (parts k (head_of s k x)) ∷ Frame d ts ∷ ds, reads_unit s place d t ts ds x first accepts, (omega (arith, a.0), a), shown_low place d t k (head_of s k x), (λ (known : EachPartIsKnown s) (of : AreOfList s (Frame d (t ∷ ts) ∷ ds)). (known t.kind (head_of s k x) of.0.0, (of.0.1, of.1)))))
+          (let k : Form = kind_at s t.kind in (
+            shown place d t k (head_of s k x),
+            Frame (d + 1) (parts k (head_of s k x)) ∷ Frame d ts ∷ ds,
+            reads_unit s
+                place d t ts ds x first accepts,
+            (omega (arith, a.0), a),
+            shown_low place d t k (head_of s k x),
+            (λ (known : EachPartIsKnown s) (of : AreOfList s (Frame d (t ∷ ts) ∷ ds)).
+                (known t.kind (head_of s k x) of.0.0, (of.0.1, of.1))),
+          ))
       | inr first ↦
           (let e : Entry = entry (place + 4) (x + length (pad x)) d t (of_content x) in
-          let there : Contains (counted place d t x) e = (1, omega arith, refl) in
-          (counted place d t x, Rest x ∷ Frame d ts ∷ ds, reads_length s place d t ts ds x first accepts, (a, e, Contains-append_right before (counted place d t x) e there, omega arith, (refl, refl), omega (arith, a.0)), (omega arith, (omega arith, tt)), (λ (known : EachPartIsKnown s) (of : AreOfList s (Frame d (t ∷ ts) ∷ ds)). (of.0.1, of.1))))
+          let there : Contains (counted place d t x) e = (1, omega arith, refl) in (
+            counted place d t x,
+            Rest x ∷ Frame d ts ∷ ds,
+            reads_length s place d t ts ds x first accepts,
+            (
+              a,
+              e,
+              Contains-append_right before (counted place d t x) e there,
+              omega arith,
+              (refl, refl),
+              omega
+                  (arith, a.0),
+            ),
+            (omega arith, (omega arith, tt)),
+            (λ (known : EachPartIsKnown s) (of : AreOfList s (Frame d (t ∷ ts) ∷ ds)). (of.0.1, of.1)),
+          ))
     ]
 
-pub accepted : (s : List Form) (place d : ℕ) (t : Part) (ts : List Part) (ds : List Due) (x : ℕ) (c : List ℕ) (ps : List Entry) → HasUnit (lead_of (kind_at s t.kind)) → x < 2 ^ 32
+pub accepted : (s : List Form) (place d : ℕ) (t : Part) (ts : List Part) (ds : List Due) (x : ℕ) (c : List ℕ)
+    (ps : List Entry) → HasUnit (lead_of (kind_at s t.kind)) → x < 2 ^ 32
     → Completes s place (Frame d (t ∷ ts) ∷ ds) (unit4 x ++ c) ps → Accepts s (kind_at s t.kind) x
 accepted s place d t ts ds x c ps u less r = elim (unit_case (lead_of (kind_at s t.kind)) u) [
   | inl first ↦ refuses_unit s place d t ts ds x c ps first less r
@@ -220,45 +324,69 @@ accepted s place d t ts ds x c ps u less r = elim (unit_case (lead_of (kind_at s
 ]
 
 -- the part goes on
-still_ends : (s : List Form) (place n : ℕ) (before : List Entry) → 4 ≤ n → (e : Entry) × Contains before e × (e.at ≤ place) × EndsAt s (place + n) e e.role
+still_ends : (s : List Form) (place n : ℕ) (before : List Entry) → 4 ≤ n
+    → (e : Entry) × Contains before e × (e.at ≤ place) × EndsAt s (place + n) e e.role
     → (e : Entry) × Contains (before ++ []) e × (e.at ≤ place + 4) × EndsAt s (place + 4 + (n - 4)) e e.role
 still_ends s place n before h e =
-    let same : place + n ≡ place + 4 + (n - 4) = omega arith in
-    (e.0, subst (λ (l : List Entry). Contains l e.0) (sym (append-nil before)) e.1, omega (arith, e.2), subst (λ (m : ℕ). EndsAt s m e.0 e.0.role) same e.3)
+    let same : place + n ≡ place + 4 + (n - 4) = omega arith in (
+      e.0,
+      subst (λ (l : List Entry). Contains l e.0) (sym (append-nil before)) e.1,
+      omega (arith, e.2),
+      subst
+          (λ (m : ℕ). EndsAt s m e.0 e.0.role) same e.3,
+    )
 
 bytes_take : (n : ℕ) (v : List ℕ) → AreBytes v → AreBytes (take n v)
 bytes_take zero v a = tt
 bytes_take (suc n) [] a = tt
 bytes_take (suc n) (x ∷ v) a = (a.0, bytes_take n v a.1)
 
-pub step_rest : (s : List Form) (place : ℕ) (before : List Entry) (n : ℕ) (ds : List Due) (u : List ℕ) → 0 < n → IsOnTrack s before place (Rest n ∷ ds)
+pub step_rest : (s : List Form) (place : ℕ) (before : List Entry) (n : ℕ) (ds : List Due) (u : List ℕ) → 0 < n
+    → IsOnTrack s before place (Rest n ∷ ds)
     → length u ≡ 4 → AreBytes u → (n < 4 → drop n u ≡ pad n) → Steps s place before (Rest n ∷ ds) u
 unfolding still_ends
 step_rest s place before n ds u some a len are zeros = elim (cases_lt n 4) [
   | inl few ↦
       (let same : take n u ++ pad n ≡ u = ap (λ (z : List ℕ). take n u ++ z) (sym (zeros few)) ∙ take-append-drop n u in
-      let read = reads_last s place n ds (take n u) (omega (arith, length-take n u)) (bytes_take n u are) in
-      ([], ds, subst (λ (q : List ℕ). Reads s place (Rest n ∷ ds) q [] ds) same read, frames_on_track s (before ++ []) (place + 4) ds a.0, tt, (λ (known : EachPartIsKnown s) (of : AreOfList s ds). of)))
+      let read = reads_last s place n ds (take n u) (omega (arith, length-take n u)) (bytes_take n u are) in (
+        [],
+        ds,
+        subst (λ (q : List ℕ). Reads s place (Rest n ∷ ds) q [] ds) same read,
+        frames_on_track s (before ++ [])
+            (place + 4) ds a.0,
+        tt,
+        (λ (known : EachPartIsKnown s) (of : AreOfList s ds). of),
+      ))
   | inr many ↦
-      (let e = still_ends s place n before many (a.1, a.2, a.3, a.4) in
-      ([], Rest (n - 4) ∷ ds, reads_rest s place n ds u many len are, (a.0, e.0, e.1, e.2, e.3, a.5), tt, (λ (known : EachPartIsKnown s) (of : AreOfList s ds). of)))
+      (let e = still_ends s place n before many (a.1, a.2, a.3, a.4) in (
+        [],
+        Rest (n - 4) ∷ ds,
+        reads_rest s place n ds u many len are,
+        (a.0, e.0, e.1, e.2, e.3, a.5),
+        tt,
+        (λ (known : EachPartIsKnown s) (of : AreOfList s ds). of),
+      ))
 ]
 
-pub step : (s : List Form) (place : ℕ) (before : List Entry) (ds : List Due) (u c : List ℕ) (ps : List Entry) → IsSettled s ds → IsOnTrack s before place ds
+pub step : (s : List Form) (place : ℕ) (before : List Entry) (ds : List Due) (u c : List ℕ) (ps : List Entry)
+    → IsSettled s ds → IsOnTrack s before place ds
     → length u ≡ 4 → AreBytes u → Completes s place ds (u ++ c) ps → Steps s place before ds u
 step s place before [] u c ps n a len are r = absurd (omega (arith, ap length r.0, length-append u c))
 step s place before (Frame d [] ∷ ds) u c ps n a len are r = absurd n
 step s place before (Frame d (t ∷ ts) ∷ ds) u c ps n a len are r =
     let x : ℕ = from_be_bytes w32 u in
     let is : unit4 x ≡ u = unit4_back u len are in
-    let accepts = accepted s place d t ts ds x c ps n (unit4_less u len are) (subst (λ (b : List ℕ). Completes s place (Frame d (t ∷ ts) ∷ ds) (b ++ c) ps) (sym is) r) in
-    subst (λ (b : List ℕ). Steps s place before (Frame d (t ∷ ts) ∷ ds) b) is (step_unit s place before d t ts ds x a n accepts)
+    let accepts = accepted s place d t ts ds x c ps n (unit4_less u len are)
+    (subst (λ (b : List ℕ). Completes s place (Frame d (t ∷ ts) ∷ ds) (b ++ c) ps) (sym is) r) in
+    subst (λ (b : List ℕ). Steps s place before (Frame d (t ∷ ts) ∷ ds) b) is
+    (step_unit s place before d t ts ds x a n accepts)
 step s place before (Rest n ∷ ds) u c ps some a len are r =
     step_rest s place before n ds u some a len are (λ few. refuses_padding s place n ds u c ps some few len r)
 
 -- ---- a front of whole units
 
-pub reach : (s : List Form) (q : List ℕ) (place : ℕ) (before : List Entry) (ds : List Due) (c : List ℕ) (ps : List Entry)
+pub reach : (s : List Form) (q : List ℕ) (place : ℕ) (before : List Entry) (ds : List Due) (c : List ℕ)
+    (ps : List Entry)
     → IsOnTrack s before place ds → AreBytes q → length q % 4 ≡ 0 → Completes s place ds (q ++ c) ps
     → (begun : List Entry) × (ds' : List Due) × Reaches s place before ds q begun ds'
 reach s [] place before ds c ps a are units r = settle s place before ds place c ps a r
@@ -269,9 +397,12 @@ reach s (x ∷ y ∷ z ∷ w ∷ q) place before ds c ps a are units r =
     let u : List ℕ = x ∷ y ∷ z ∷ w ∷ [] in
     let one = settle s place before ds place (u ++ (q ++ c)) ps a r in
     let r1 = one.2.reads.into (u ++ (q ++ c)) ps r in
-    let at1 : Completes s place one.1 (u ++ (q ++ c)) r1.0 = subst (λ (m : ℕ). Completes s m one.1 (u ++ (q ++ c)) r1.0) (nothing_more place) r1.2 in
-    let track1 : IsOnTrack s (before ++ one.0) place one.1 = subst (λ (m : ℕ). IsOnTrack s (before ++ one.0) m one.1) (nothing_more place) one.2.track in
-    let two = step s place (before ++ one.0) one.1 u (q ++ c) r1.0 one.2.settled track1 refl (are.0, (are.1.0, (are.1.1.0, (are.1.1.1.0, tt)))) at1 in
+    let at1 : Completes s place one.1 (u ++ (q ++ c)) r1.0 = subst (λ (m : ℕ). Completes s m one.1 (u ++ (q ++ c)) r1.0)
+    (nothing_more place) r1.2 in
+    let track1 : IsOnTrack s (before ++ one.0) place one.1 = subst (λ (m : ℕ). IsOnTrack s (before ++ one.0) m one.1)
+    (nothing_more place) one.2.track in
+    let two = step s place (before ++ one.0) one.1 u (q ++ c) r1.0 one.2.settled track1 refl
+    (are.0, (are.1.0, (are.1.1.0, (are.1.1.1.0, tt)))) at1 in
     let r2 = two.2.into (q ++ c) r1.0 at1 in
     let three = reach s q (place + 4) ((before ++ one.0) ++ two.0) two.1 c r2.0 two.3 are.1.1.1.1 (omega arith) r2.2 in
     let end : ℕ = place + length (x ∷ y ∷ z ∷ w ∷ q) in
@@ -283,9 +414,12 @@ reach s (x ∷ y ∷ z ∷ w ∷ q) place before ds c ps a are units r =
             (reads_then s place one.1 two.1 three.1 u q two.0 three.0 two.2 three.2.reads);
         settled = three.2.settled;
         track = subst (λ (m : ℕ). IsOnTrack s (before ++ (one.0 ++ (two.0 ++ three.0))) m three.1) far
-            (subst (λ (l : List Entry). IsOnTrack s l (place + 4 + length q) three.1) (grouped before one.0 two.0 three.0) three.2.track);
-        low = all_append (λ (e : Entry). e.at ≤ end) one.0 (two.0 ++ three.0) (low_less (place + 0) end one.0 (omega arith) one.2.low)
-            (all_append (λ (e : Entry). e.at ≤ end) two.0 three.0 (low_less (place + 4) end two.0 (omega arith) two.4) (low_less (place + 4 + length q) end three.0 (omega arith) three.2.low));
+            (subst (λ (l : List Entry). IsOnTrack s l (place + 4 + length q) three.1)
+            (grouped before one.0 two.0 three.0) three.2.track);
+        low = all_append (λ (e : Entry). e.at ≤ end) one.0 (two.0 ++ three.0)
+            (low_less (place + 0) end one.0 (omega arith) one.2.low)
+            (all_append (λ (e : Entry). e.at ≤ end) two.0 three.0 (low_less (place + 4) end two.0 (omega arith) two.4)
+            (low_less (place + 4 + length q) end three.0 (omega arith) three.2.low));
       },
     )
   where

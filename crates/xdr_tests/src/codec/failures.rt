@@ -1,11 +1,11 @@
 //! Want of memory, and a write that fails.
-use crate::codec::calls::{encoded, is_fit, refusal, widest, written};
+use crate::codec::calls::{encoded, fed, finished, is_fit, refusal, started, widest, written};
 use crate::codec::made::{Made, value_of};
-use crate::codec::schema::{FILE, FIVE, INT, OPAQUE, all_kinds};
+use crate::codec::schema::{FILE, FIVE, INT, MANY, OPAQUE, STRING, all_kinds};
 use growths::take_all;
 use std::alloc::{AllocError, Global};
 use std::process::Abort;
-use xdr_codec::{DecodeFault, Reason, WriteFault};
+use xdr_codec::{DecodeFault, Progress, Reason, WriteFault};
 use xdr_io::MemorySink;
 use xdr_types::{Schema, Value};
 
@@ -28,7 +28,7 @@ fn decoding_meets_no_memory(rt: HostRuntime) -> Result<(), AllocError> {
     Ok(())
 }
 
-// A declared length meets no growth of its own, and neither do kinds of one unit.
+// A declared length or count meets no growth of its own, and neither do kinds of one unit.
 #[test]
 fn lengths_take_no_memory(rt: HostRuntime) -> Result<(), AllocError> {
     let cut = DecodeFault {
@@ -36,7 +36,43 @@ fn lengths_take_no_memory(rt: HostRuntime) -> Result<(), AllocError> {
         at: 4,
     };
     assert!(rt; poor_refusal(&rt, rt.alloc(), FIVE, &[0, 0, 0, 5])? == Some(cut));
+    assert!(rt; poor_refusal(&rt, rt.alloc(), OPAQUE, &[255, 255, 255, 255])? == Some(cut));
+    assert!(rt; poor_refusal(&rt, rt.alloc(), MANY, &[255, 255, 255, 255])? == Some(cut));
     assert!(rt; poor_refusal(&rt, rt.alloc(), INT, &[0, 0, 0, 3, 97, 98, 99, 0])?.is_none());
+    Ok(())
+}
+
+// What is answered to the rest of a length or a count, and to one byte more, where no growth is granted any more. The
+// byte that came before it has brought the memory for both.
+fn poor_answers(rt: &impl Abort, alloc: Global, place: u32) -> Result<bool, AllocError> {
+    let schema = all_kinds(rt, alloc);
+    let mut decoder = started(rt, alloc, &schema, place, widest(rt));
+    let none = fed(&mut decoder, &[]);
+    let first = fed(&mut decoder, &[255]);
+    let _kept = take_all(alloc)?;
+    let rest = fed(&mut decoder, &[255, 255, 255]);
+    let more = fed(&mut decoder, &[97]);
+    Ok([none, first, rest, more] == [Ok(Progress::More); 4])
+}
+
+#[test]
+fn declared_counts_reserve_nothing(rt: HostRuntime) -> Result<(), AllocError> {
+    assert!(rt; poor_answers(&rt, rt.alloc(), OPAQUE)?);
+    assert!(rt; poor_answers(&rt, rt.alloc(), STRING)?);
+    assert!(rt; poor_answers(&rt, rt.alloc(), MANY)?);
+    Ok(())
+}
+
+// The value that came whole is handed out, and not copied.
+#[test]
+fn finishing_takes_no_memory(rt: HostRuntime) -> Result<(), AllocError> {
+    let schema = all_kinds(&rt, rt.alloc());
+    let value = value_of(rt.alloc(), Made::Content("abc"))?;
+    let mut decoder = started(&rt, rt.alloc(), &schema, FIVE, widest(&rt));
+    let last = fed(&mut decoder, &[0, 0, 0, 3, 97, 98, 99, 0]);
+    assert!(rt; last == Ok(Progress::Done { used: 8 }));
+    let _kept = take_all(rt.alloc())?;
+    assert!(rt; finished(decoder).is_ok_and(|again| again == value));
     Ok(())
 }
 

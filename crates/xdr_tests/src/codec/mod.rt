@@ -2,6 +2,7 @@
 mod accepted;
 mod calls;
 mod failures;
+mod large;
 mod made;
 mod pieces;
 mod refused;

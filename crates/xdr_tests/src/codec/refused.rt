@@ -1,8 +1,8 @@
 //! Places and reasons of refusals.
 use crate::codec::calls::{decoded, fed, finished, limits, refusal, started, widest};
 use crate::codec::schema::{
-    ALIKE, BOOL, BOOL_CHOICE, FILE, FILEKIND, FIVE, HOLDER, HYPER, INT, INT_CHOICE, KIND_CHOICE,
-    LIST, OPAQUE, OWNER, PAIR, SIX_BYTES, STRING, TWO, VOID_CHOICE, all_kinds,
+    ALIKE, BOOL, BOOL_CHOICE, CHOICES, FILE, FILEKIND, FIVE, HOLDER, HYPER, INT, INT_CHOICE,
+    KIND_CHOICE, LIST, OPAQUE, OWNER, PAIR, SIX_BYTES, STRING, TWO, VOID_CHOICE, all_kinds,
 };
 use std::alloc::Global;
 use std::process::Abort;
@@ -50,7 +50,7 @@ fn check_each(rt: &impl Abort, alloc: Global, rows: &[Row]) {
     }
 }
 
-const NUMBERS: [Row; 12] = [
+const NUMBERS: [Row; 13] = [
     (BOOL, "00000002", Reason::BadBool, 0),
     (LIST, "00000002", Reason::BadBool, 0),
     (
@@ -68,15 +68,26 @@ const NUMBERS: [Row; 12] = [
     (INT_CHOICE, "00000002", Reason::BadCase, 0),
     (BOOL_CHOICE, "00000001", Reason::BadCase, 0),
     (KIND_CHOICE, "00000001", Reason::BadCase, 0),
+    (CHOICES, "000000010000000700000002", Reason::BadCase, 8),
 ];
 
-const CONTENT: [Row; 10] = [
+const CONTENT: [Row; 13] = [
     (FIVE, "00000006", Reason::TooLong, 0),
     (OWNER, "00000021", Reason::TooLong, 0),
     (TWO, "00000003", Reason::TooLong, 0),
+    // The owner's name has 33 characters.
+    (
+        FILE,
+        "00000001610000000000000000000021",
+        Reason::TooLong,
+        12,
+    ),
     (FIVE, "0000000361626301", Reason::BadPadding, 4),
     (SIX_BYTES, "6162636465660001", Reason::BadPadding, 4),
     (STRING, "000000056162636465000100", Reason::BadPadding, 8),
+    // The unit of the padding is not whole.
+    (FIVE, "00000002616101", Reason::Truncated, 7),
+    (SIX_BYTES, "61626364656601", Reason::Truncated, 7),
     (STRING, "0000000973696c6c79", Reason::Truncated, 9),
     (BOOL, "", Reason::Truncated, 0),
     (HYPER, "000000000000", Reason::Truncated, 6),

@@ -46,6 +46,10 @@ pub const BOOL_CHOICE: u32 = 24;
 
 pub const KIND_CHOICE: u32 = 25;
 
+pub const MANY: u32 = 26;
+
+pub const CHOICES: u32 = 27;
+
 // A kind whose lists are literals: other kinds are named by their places, and arms by their cases.
 #[derive(Clone, Copy)]
 enum Shape {
@@ -67,7 +71,7 @@ enum Shape {
 }
 
 // The kinds in the order of their places.
-const SHAPES: [Shape; 26] = [
+const SHAPES: [Shape; 28] = [
     Shape::Int,
     Shape::Unsigned,
     Shape::Hyper,
@@ -104,6 +108,8 @@ const SHAPES: [Shape; 26] = [
     Shape::Fixed(INT, 2),
     Shape::Choice(BOOL, &[(0, "x", INT)]),
     Shape::Choice(FILEKIND, &[(0, "x", INT)]),
+    Shape::UpTo(INT, 4294967295),
+    Shape::Fixed(INT_CHOICE, 2),
 ];
 
 fn id(place: u32) -> KindId {
