@@ -97,6 +97,10 @@ abbrev pub TooLongEnds : Type 0
 TooLongEnds = (limit at : ℕ) (rs : List (List ℕ)) (bytes more : List ℕ) → TooLongAt limit rs at bytes
     → TooLongAt limit rs at (bytes ++ more) × Longest limit rs (bytes ++ more)
 
+-- Whole records are themselves the longest front.
+abbrev pub WholeIsLongest : Type 0
+WholeIsLongest = (limit : ℕ) (rs : List (List ℕ)) (bytes : List ℕ) → IsWhole limit rs bytes → Longest limit rs bytes
+
 -- Whole records have no header that passes the limit.
 abbrev pub WholeHasNoLong : Type 0
 WholeHasNoLong = (limit : ℕ) (rs : List (List ℕ)) (bytes : List ℕ) → IsWhole limit rs bytes → HasNoLong limit bytes

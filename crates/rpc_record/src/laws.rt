@@ -1,7 +1,7 @@
 //! Laws of record marking: what the definitions of a record, of a stream and of its normal form come to.
 ghost use Rattle.rpc_record.specs.Marked.{NoneBeginsAnother, OneLongest, OneReading};
 ghost use Rattle.rpc_record.specs.Marked.{TwiceAsOnce, NormalJoins, FragmentLength};
-ghost use Rattle.rpc_record.specs.Reading.{TooLongEnds, WholeHasNoLong, FaultsBegin};
+ghost use Rattle.rpc_record.specs.Reading.{TooLongEnds, WholeIsLongest, WholeHasNoLong, FaultsBegin};
 
 /// Normalising twice gives what normalising once does, and bytes have one reading as records.
 pub fn twice_as_once()
@@ -13,6 +13,7 @@ pub fn twice_as_once()
 pub fn no_record_begins_another()
     ensures apart { NoneBeginsAnother }
     ensures longest { OneLongest }
+    ensures whole { WholeIsLongest }
 {}
 
 /// A header that brings its record above the limit ends every longer stream of records within the limit, and whole
