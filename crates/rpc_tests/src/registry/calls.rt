@@ -1,119 +1,169 @@
-// The calls of the registry as the tests make them. None of these says what it answers, so that a test of many calls is
-// proved fast.
+//! The calls of the registry as rows of a table: what is asked, and what is to be answered. What runs them says nothing of
+//! its answer, so that a test of many calls is proved fast.
 ghost use Rattle.std.specs.Prelude.{◌≤◌, length};
 
-use crate::registry::made::Registry;
-use rpc_directory::{NoMemory, directory_schema};
+use crate::registry::dumps::{Field, is_list};
+use rpc_directory::{Directory, NoMemory, Row};
 use std::alloc::Global;
-use xdr_types::{Schema, Value};
+use std::hash::{BuildHasherDefault, DefaultHasher};
+use xdr_types::Value;
 
-/// The key of a row, with a transport by its netid.
-#[derive(Clone, Copy)]
-pub struct Place<'a> {
-    prog: u32,
-    vers: u32,
-    netid: &'a [u8],
-}
+/// A registry with the standard hasher.
+pub type Registry = Directory<BuildHasherDefault<DefaultHasher>>;
 
-/// The key of this program, version and netid.
-pub fn over(prog: u32, vers: u32, netid: &[u8]) -> Place<'_> {
-    Place { prog, vers, netid }
-}
+/// The address of port 111 at every host.
+pub const EVERY_HOST: &[u8] = b"0.0.0.0.0.111";
 
-/// The same with a transport by its number.
-#[derive(Clone, Copy)]
-pub struct PortPlace {
-    prog: u32,
-    vers: u32,
-    prot: u32,
-}
+/// A program, a version and a netid.
+pub type Key = (u32, u32, &'static [u8]);
 
-/// The key of this program, version and number.
-pub fn by_number(prog: u32, vers: u32, prot: u32) -> PortPlace {
-    PortPlace { prog, vers, prot }
-}
+/// A program, a version and a transport by its number.
+pub type PortKey = (u32, u32, u32);
 
 /// Who owns a row, or asks for its removal.
 #[derive(Clone, Copy)]
 pub enum Owner {
     Superuser,
+    Unknown,
+    User100,
     User1000,
     User1001,
-    Unknown,
+    GreatestUser,
 }
 
 impl Owner {
     /// The text in a row.
-    fn text(self) -> &'static [u8]
+    pub fn text(self) -> &'static [u8]
         ensures { length result.now ≤ 10 }
     {
         match self {
             Owner::Superuser => b"superuser",
+            Owner::Unknown => b"unknown",
+            Owner::User100 => b"100",
             Owner::User1000 => b"1000",
             Owner::User1001 => b"1001",
-            Owner::Unknown => b"unknown",
+            Owner::GreatestUser => b"4294967295",
         }
     }
 }
 
-/// Adds a row.
-pub fn set(
-    alloc: Global,
-    directory: &mut Registry,
-    at: Place<'_>,
-    address: &[u8],
-    owner: Owner,
-) -> Result<bool, NoMemory> {
-    directory.set(alloc, at.prog, at.vers, at.netid, address, owner.text())
+/// A call and its answer.
+#[derive(Clone, Copy)]
+pub enum Call {
+    /// `set` of an address by an owner: whether it is done.
+    Set(Key, &'static [u8], Owner, bool),
+    /// `set_port` of a port by an owner: whether it is done.
+    SetPort(PortKey, u32, Owner, bool),
+    /// `unset` by an owner: whether it is done.
+    Unset(Key, Owner, bool),
+    /// `unset_port` of a program and a version by an owner: whether it is done.
+    UnsetPort(u32, u32, Owner, bool),
+    /// `getaddr`: the address, empty for none.
+    Address(Key, &'static [u8]),
+    /// `get_port`: the port, 0 for none.
+    Port(PortKey, u32),
+    /// `rows`: how many there are.
+    Rows(u32),
+    /// `row` at an index: its key, address and owner.
+    Row(u32, Key, &'static [u8], Owner),
+    /// `row` at an index where there is none.
+    NoRow(u32),
+    /// `dump`: the fields of each row.
+    Dump(&'static [&'static [Field]]),
+    /// `dump_ports`: the fields of each row.
+    DumpPorts(&'static [&'static [Field]]),
 }
 
-/// Adds a row at a port of every host.
-pub fn set_port(
-    alloc: Global,
-    directory: &mut Registry,
-    at: PortPlace,
-    port: u32,
-    owner: Owner,
-) -> Result<bool, NoMemory> {
-    directory.set_port(alloc, at.prog, at.vers, at.prot, port, owner.text())
+/// The registry's own rows, at port 111.
+pub fn started(alloc: Global) -> Result<Registry, NoMemory> {
+    Directory::start(alloc, BuildHasherDefault::new(), 111)
 }
 
-/// Removes the rows of a key for an owner, and says whether there was one.
-pub fn unset(directory: &mut Registry, at: Place<'_>, owner: Owner) -> bool {
-    directory.unset(at.prog, at.vers, at.netid, owner.text())
+/// A registry without rows.
+pub fn empty(alloc: Global) -> Registry {
+    Directory::new(alloc, BuildHasherDefault::new())
 }
 
-/// Removes the rows over `tcp` and `udp` for an owner, and says whether there was one.
-pub fn unset_port(directory: &mut Registry, prog: u32, vers: u32, owner: Owner) -> bool {
-    directory.unset_port(prog, vers, owner.text())
+/// Makes a call, and says whether its answer is the wanted one, or `None` for want of memory.
+pub fn answer(alloc: Global, directory: &mut Registry, call: &Call) -> Option<bool> {
+    match call {
+        Call::Set((prog, vers, netid), address, owner, done) => {
+            is_done(
+                directory.set(alloc, *prog, *vers, netid, address, owner.text()),
+                *done,
+            )
+        }
+        Call::SetPort((prog, vers, prot), port, owner, done) => {
+            is_done(
+                directory.set_port(alloc, *prog, *vers, *prot, *port, owner.text()),
+                *done,
+            )
+        }
+        Call::Unset((prog, vers, netid), owner, done) => {
+            Some(directory.unset(*prog, *vers, netid, owner.text()) == *done)
+        }
+        Call::UnsetPort(prog, vers, owner, done) => {
+            Some(directory.unset_port(*prog, *vers, owner.text()) == *done)
+        }
+        Call::Dump(rows) => is_dumped(directory.dump(alloc), rows),
+        Call::DumpPorts(rows) => is_dumped(directory.dump_ports(alloc), rows),
+        _ => Some(finds(directory, call)),
+    }
 }
 
-/// Whether the address of a key is this, empty for none.
-pub fn has_address(directory: &Registry, at: Place<'_>, address: &[u8]) -> bool {
-    directory.getaddr(at.prog, at.vers, at.netid) == address
+// Whether a call that looks up finds what is wanted.
+fn finds(directory: &Registry, call: &Call) -> bool {
+    match call {
+        Call::Address((prog, vers, netid), address) => {
+            directory.getaddr(*prog, *vers, netid) == *address
+        }
+        Call::Port((prog, vers, prot), port) => directory.get_port(*prog, *vers, *prot) == *port,
+        Call::Rows(count) => directory.rows() == *count,
+        Call::Row(index, key, address, owner) => {
+            is_row(directory.row(*index), key, address, owner.text())
+        }
+        Call::NoRow(index) => directory.row(*index).is_none(),
+        _ => false,
+    }
 }
 
-/// Whether the port of a key is this, 0 for none.
-pub fn has_port(directory: &Registry, at: PortPlace, port: u32) -> bool {
-    directory.get_port(at.prog, at.vers, at.prot) == port
+// Whether this is the answer of a call that adds a row.
+fn is_done(answer: Result<bool, NoMemory>, wanted: bool) -> Option<bool> {
+    match answer {
+        Ok(done) => Some(done == wanted),
+        Err(NoMemory) => None,
+    }
 }
 
-/// Whether there are so many rows.
-pub fn has_count(directory: &Registry, count: u32) -> bool {
-    directory.rows() == count
+// Whether the list has these rows.
+fn is_dumped(answer: Result<Value, NoMemory>, rows: &[&[Field]]) -> Option<bool> {
+    match answer {
+        Ok(list) => Some(is_list(&list, rows)),
+        Err(NoMemory) => None,
+    }
 }
 
-/// All rows as a list.
-pub fn dump(alloc: Global, directory: &Registry) -> Result<Value, NoMemory> {
-    directory.dump(alloc)
+/// Whether a row has this key, address and owner.
+pub fn is_row(row: Option<&Row>, key: &Key, address: &[u8], owner: &[u8]) -> bool {
+    let (prog, vers, netid) = key;
+    match row {
+        Some(row) => {
+            row.prog == *prog
+                && row.vers == *vers
+                && row.netid.as_slice() == *netid
+                && row.address.as_slice() == address
+                && row.owner.as_slice() == owner
+        }
+        None => false,
+    }
 }
 
-/// The rows of ports as a list.
-pub fn dump_ports(alloc: Global, directory: &Registry) -> Result<Value, NoMemory> {
-    directory.dump_ports(alloc)
-}
-
-/// The schema of the registry's types.
-pub fn schema(alloc: Global) -> Result<Schema, NoMemory> {
-    Ok(directory_schema(alloc)?)
+/// How many of the calls are answered as wanted, up to the first that is not.
+pub fn right_calls(alloc: Global, directory: &mut Registry, calls: &[Call]) -> usize {
+    for (number, call) in calls.iter().enumerate() {
+        if answer(alloc, directory, call) != Some(true) {
+            return number;
+        }
+    }
+    calls.len()
 }

@@ -1,72 +1,52 @@
-// What is answered without any memory.
-use crate::registry::calls::{
-    Owner, by_number, has_address, has_count, has_port, over, set, set_port, unset, unset_port,
-};
-use crate::registry::made::{EVERY_HOST, Registry, empty, has_own_rows, started};
+//! What is answered without any memory.
+use crate::registry::calls::{Call, EVERY_HOST, Owner, Registry, answer, right_calls, started};
 use growths::take_all;
-use rpc_directory::{Uaddr, directory_schema, read_uaddr, write_uaddr};
+use rpc_directory::directory_schema;
 use std::alloc::Global;
 use std::test::Fail;
 
-/// Whether both calls that add a row want memory, and leave the registry's own rows as they were.
-fn sets_want_memory(alloc: Global, directory: &mut Registry) -> bool {
-    let added = set(
-        alloc,
-        directory,
-        over(7, 1, b"tcp"),
-        EVERY_HOST,
-        Owner::Unknown,
-    );
-    let port_added = set_port(alloc, directory, by_number(7, 1, 6), 111, Owner::Unknown);
-    added.is_err() && port_added.is_err() && has_own_rows(directory)
-}
+// The calls that take memory.
+const TAKING: [Call; 4] = [
+    Call::Set((7, 1, b"tcp"), EVERY_HOST, Owner::Unknown, true),
+    Call::SetPort((7, 1, 6), 111, Owner::Unknown, true),
+    Call::Dump(&[]),
+    Call::DumpPorts(&[]),
+];
 
-/// Whether both dumps want memory.
-fn dumps_want_memory(alloc: Global, directory: &Registry) -> bool {
-    directory.dump(alloc).is_err() && directory.dump_ports(alloc).is_err()
-}
+// The calls that take none: the registry's own rows are there, and are removed.
+const TAKING_NONE: [Call; 9] = [
+    Call::Rows(3),
+    Call::Row(0, (100000, 2, b"tcp"), EVERY_HOST, Owner::Superuser),
+    Call::Row(2, (100000, 4, b"tcp"), EVERY_HOST, Owner::Superuser),
+    Call::Address((100000, 4, b"tcp"), EVERY_HOST),
+    Call::Port((100000, 4, 6), 111),
+    Call::Unset((100000, 3, b"tcp"), Owner::Superuser, true),
+    Call::Unset((100000, 4, b""), Owner::Superuser, true),
+    Call::UnsetPort(100000, 2, Owner::Superuser, true),
+    Call::Rows(0),
+];
 
-/// Whether an address wants memory to be written.
-fn address_wants_memory(alloc: Global) -> bool {
-    let (host, port) = ([0; 4], 111);
-    write_uaddr(alloc, Uaddr { host, port }).is_err()
-}
-
-/// Whether all calls that take memory want it, and leave the registry's own rows as they were.
-fn wants_memory(alloc: Global, directory: &mut Registry) -> bool {
-    sets_want_memory(alloc, directory)
-        && dumps_want_memory(alloc, directory)
-        && directory_schema(alloc).is_err()
-        && started(alloc).is_err()
-        && address_wants_memory(alloc)
-}
-
-/// Whether the registry's own rows are found.
-fn looks_up(alloc: Global, directory: &Registry) -> bool {
-    has_address(directory, over(100000, 4, b"tcp"), EVERY_HOST)
-        && has_port(directory, by_number(100000, 4, 6), 111)
-        && read_uaddr(EVERY_HOST).is_some()
-        && has_count(&empty(alloc), 0)
-}
-
-/// Removes the registry's own rows, and says whether they were there.
-fn removes(directory: &mut Registry) -> bool {
-    unset(directory, over(100000, 3, b"tcp"), Owner::Superuser)
-        && unset(directory, over(100000, 4, b""), Owner::Superuser)
-        && unset_port(directory, 100000, 2, Owner::Superuser)
-        && has_count(directory, 0)
+/// Whether all calls that take memory want it.
+fn want_memory(alloc: Global, directory: &mut Registry) -> bool {
+    for call in &TAKING {
+        if answer(alloc, directory, call).is_some() {
+            return false;
+        }
+    }
+    directory_schema(alloc).is_err() && started(alloc).is_err()
 }
 
 #[test]
 fn needs_no_memory_to_look_up_and_remove(rt: HostRuntime) -> Result<(), Fail> {
-    let alloc = rt.alloc();
-    let mut directory = started(alloc)?;
-    let answered = {
-        let _kept = take_all(alloc)?;
-        wants_memory(alloc, &mut directory)
-            && looks_up(alloc, &directory)
-            && removes(&mut directory)
+    let mut directory = started(rt.alloc())?;
+    let (wanted, right) = {
+        let _kept = take_all(rt.alloc())?;
+        let wanted = want_memory(rt.alloc(), &mut directory);
+        (
+            wanted,
+            right_calls(rt.alloc(), &mut directory, &TAKING_NONE),
+        )
     };
-    assert!(rt; answered);
+    assert!(rt; wanted && right == TAKING_NONE.len());
     Ok(())
 }

@@ -2,7 +2,6 @@
 mod addresses;
 mod calls;
 mod dumps;
-mod made;
 mod memory;
 mod random;
 mod refused;

@@ -1,13 +1,10 @@
-// Calls in a random order against a plain list of rows.
-ghost use Rattle.std.specs.Prelude.{◌<◌, ◌≤◌, length};
+//! Calls in a random order against a plain list of rows.
+ghost use Rattle.std.specs.Prelude.{◌<◌};
 
-use crate::registry::made::{Registry, has, is_at};
-use rpc_directory::{Directory, NoMemory};
+use crate::registry::calls::{Call, Owner, Registry, answer, empty, is_row};
 use std::alloc::{AllocError, Global};
-use std::hash::BuildHasherDefault;
-use std::test::Fail;
 
-// A row of the plain list, its texts by their numbers.
+/// A row of the plain list, its texts by their numbers.
 #[derive(Clone, Copy)]
 struct Entry {
     prog: u32,
@@ -17,7 +14,7 @@ struct Entry {
     owner: u32,
 }
 
-// Netid 0 is empty.
+/// Netid 0 is empty.
 fn netid(number: u32) -> &'static [u8] {
     match number {
         0 => b"",
@@ -27,7 +24,7 @@ fn netid(number: u32) -> &'static [u8] {
     }
 }
 
-// Address 0 is empty, and 3 is not over IPv4.
+/// Address 0 is empty, and 3 is not over IPv4.
 fn address(number: u32) -> &'static [u8] {
     match number {
         0 => b"",
@@ -37,7 +34,7 @@ fn address(number: u32) -> &'static [u8] {
     }
 }
 
-// The port of an address, 0 where it is not over IPv4.
+/// The port of an address, 0 where it is not over IPv4.
 fn port_at(number: u32) -> u32 {
     match number {
         1 => 111,
@@ -46,33 +43,44 @@ fn port_at(number: u32) -> u32 {
     }
 }
 
-// Owner 0 may remove every row.
-fn owner(number: u32) -> &'static [u8]
-    ensures { length result.now ≤ 10 }
-{
+/// Owner 0 may remove every row.
+fn owner(number: u32) -> Owner {
     match number {
-        0 => b"superuser",
-        1 => b"1000",
-        _ => b"unknown",
+        0 => Owner::Superuser,
+        1 => Owner::User1000,
+        _ => Owner::Unknown,
     }
 }
 
-/// Whether the row has this key.
-fn is_key(entry: &Entry, prog: u32, vers: u32, netid: u32) -> bool {
-    entry.prog == prog && entry.vers == vers && entry.netid == netid
+/// The number of a transport, one that there is not for netids other than `tcp` and `udp`.
+fn prot(netid: u32) -> u32 {
+    match netid {
+        1 => 6,
+        2 => 17,
+        _ => 5,
+    }
 }
 
-// Adds a row to the list, where it may be added.
+/// The number of the address of an entry's key, 0 where there is no row.
+fn address_of(list: &[Entry], entry: &Entry) -> u32 {
+    for row in list {
+        if row.prog == entry.prog && row.vers == entry.vers && row.netid == entry.netid {
+            return row.address;
+        }
+    }
+    0
+}
+
+/// Adds a row to the list, where it may be added.
 fn set(list: &mut Vec<Entry>, entry: Entry) -> Result<bool, AllocError> {
-    let there = address_of(list, entry.prog, entry.vers, entry.netid) != 0;
-    if there || entry.netid == 0 || entry.address == 0 {
+    if address_of(list, &entry) != 0 || entry.netid == 0 || entry.address == 0 {
         return Ok(false);
     }
     list.push(entry)?;
     Ok(true)
 }
 
-// Whether an `unset` of the entry removes the row.
+/// Whether an `unset` of the entry removes the row.
 fn goes(row: &Entry, entry: &Entry) -> bool {
     row.prog == entry.prog
         && row.vers == entry.vers
@@ -80,29 +88,11 @@ fn goes(row: &Entry, entry: &Entry) -> bool {
         && (entry.owner == 0 || row.owner == entry.owner)
 }
 
-// Removes the rows that an `unset` of the entry removes.
-fn unset(alloc: Global, list: &mut Vec<Entry>, entry: Entry) -> Result<bool, AllocError> {
-    let mut rest = Vec::new(alloc);
-    let mut removed = false;
-    for row in list.iter() {
-        if goes(row, &entry) {
-            removed = true;
-        } else {
-            rest.push(*row)?;
-        }
-    }
-    *list = rest;
-    Ok(removed)
-}
-
-// The number of a row's address, 0 where there is no row.
-fn address_of(list: &Vec<Entry>, prog: u32, vers: u32, netid: u32) -> u32 {
-    for row in list {
-        if is_key(row, prog, vers, netid) {
-            return row.address;
-        }
-    }
-    0
+/// Removes the rows that an `unset` of the entry removes.
+fn unset(list: &mut Vec<Entry>, entry: Entry) -> bool {
+    let before = list.len();
+    list.retain(|row| !goes(row, &entry));
+    list.len() < before
 }
 
 #[derive(Drop)]
@@ -111,7 +101,7 @@ struct Numbers {
 }
 
 impl Numbers {
-    // A number below `count`.
+    /// A number below `count`.
     fn below(&mut self, count: u32) -> u32
         requires { 0 < count }
     {
@@ -131,115 +121,68 @@ impl Numbers {
     }
 }
 
-// A registry, the rows that it is to have, and where the next call comes from.
-#[derive(Drop)]
-struct Run {
-    directory: Registry,
-    list: Vec<Entry>,
-}
-
-/// Whether the row at an index of the registry is this one.
-fn is_entry(directory: &Registry, index: u32, entry: &Entry) -> bool {
-    let row = directory.row(index);
-    is_at(row, entry.prog, entry.vers, netid(entry.netid))
-        && has(row, address(entry.address), owner(entry.owner))
+/// A call of the entry, done on the list, and what the registry is to answer. Address 0 stands for a port that is too high.
+fn call(list: &mut Vec<Entry>, which: u32, e: Entry) -> Result<Call, AllocError> {
+    let key = (e.prog, e.vers, netid(e.netid));
+    let port_key = (e.prog, e.vers, prot(e.netid));
+    let by = owner(e.owner);
+    Ok(match which {
+        0 | 1 => Call::Set(key, address(e.address), by, set(list, e)?),
+        2 if e.address == 0 || e.netid == 0 || e.netid == 3 => {
+            Call::SetPort(
+                port_key,
+                if e.address == 0 { 65536 } else { 111 },
+                by,
+                false,
+            )
+        }
+        2 => Call::SetPort(port_key, 111, by, set(list, Entry { address: 1, ..e })?),
+        3 => Call::Unset(key, by, unset(list, e)),
+        4 => {
+            let over_tcp = unset(list, Entry { netid: 1, ..e });
+            let over_udp = unset(list, Entry { netid: 2, ..e });
+            Call::UnsetPort(e.prog, e.vers, by, over_tcp || over_udp)
+        }
+        5 => Call::Address(key, address(address_of(list, &e))),
+        _ if e.netid == 0 || e.netid == 3 => Call::Port(port_key, 0),
+        _ => Call::Port(port_key, port_at(address_of(list, &e))),
+    })
 }
 
 /// Whether the registry has the rows of the list, in the same order, and no others.
-fn is_list(run: &Run) -> bool {
+fn is_list(directory: &Registry, list: &[Entry]) -> bool {
     let mut index = 0u32;
-    for entry in &run.list {
-        if !is_entry(&run.directory, index, entry) {
+    for e in list {
+        let key = (e.prog, e.vers, netid(e.netid));
+        if !is_row(
+            directory.row(index),
+            &key,
+            address(e.address),
+            owner(e.owner).text(),
+        ) {
             return false;
         }
         index = index.wrapping_add(1);
     }
-    run.directory.rows() == index
+    directory.rows() == index
 }
 
-// Each of these does a call on both, and says whether they answer alike.
-fn sets(alloc: Global, run: &mut Run, e: Entry) -> Result<bool, NoMemory> {
-    let (name, at, by) = (netid(e.netid), address(e.address), owner(e.owner));
-    let done = run.directory.set(alloc, e.prog, e.vers, name, at, by)?;
-    Ok(done == set(&mut run.list, e)?)
-}
-
-/// The number of a transport, one that there is not for netids other than `tcp` and `udp`.
-fn number_of(netid: u32) -> u32 {
-    match netid {
-        1 => 6,
-        2 => 17,
-        _ => 5,
+/// How many random calls the registry answers as the list does, of so many.
+fn alike(alloc: Global, count: u32) -> Result<u32, AllocError> {
+    let mut numbers = Numbers { state: 20100401 };
+    let mut directory = empty(alloc);
+    let mut list = Vec::new(alloc);
+    for number in 0..count {
+        let entry = numbers.entry();
+        let call = call(&mut list, numbers.below(7), entry)?;
+        if answer(alloc, &mut directory, &call) != Some(true) || !is_list(&directory, &list) {
+            return Ok(number);
+        }
     }
-}
-
-// Address 0 stands for a port that is too high, and any other for 111.
-fn sets_port(alloc: Global, run: &mut Run, e: Entry) -> Result<bool, NoMemory> {
-    let port = if e.address == 0 { 65536 } else { 111 };
-    let (prot, by) = (number_of(e.netid), owner(e.owner));
-    let done = run
-        .directory
-        .set_port(alloc, e.prog, e.vers, prot, port, by)?;
-    if prot == 5 || e.address == 0 {
-        return Ok(!done);
-    }
-    Ok(done == set(&mut run.list, Entry { address: 1, ..e })?)
-}
-
-/// Removes rows from both.
-fn unsets(alloc: Global, run: &mut Run, e: Entry) -> Result<bool, NoMemory> {
-    let done = run
-        .directory
-        .unset(e.prog, e.vers, netid(e.netid), owner(e.owner));
-    Ok(done == unset(alloc, &mut run.list, e)?)
-}
-
-/// Removes the rows over `tcp` and `udp` from both.
-fn unsets_port(alloc: Global, run: &mut Run, e: Entry) -> Result<bool, NoMemory> {
-    let done = run.directory.unset_port(e.prog, e.vers, owner(e.owner));
-    let over_tcp = unset(alloc, &mut run.list, Entry { netid: 1, ..e })?;
-    let over_udp = unset(alloc, &mut run.list, Entry { netid: 2, ..e })?;
-    Ok(done == (over_tcp || over_udp))
-}
-
-/// Whether both have the same address.
-fn gets(run: &Run, e: Entry) -> bool {
-    let number = address_of(&run.list, e.prog, e.vers, e.netid);
-    run.directory.getaddr(e.prog, e.vers, netid(e.netid)) == address(number)
-}
-
-/// Whether both have the same port.
-fn gets_port(run: &Run, e: Entry) -> bool {
-    let prot = number_of(e.netid);
-    let number = address_of(&run.list, e.prog, e.vers, e.netid);
-    let port = if prot == 5 { 0 } else { port_at(number) };
-    run.directory.get_port(e.prog, e.vers, prot) == port
-}
-
-/// Does a random call on both, and says whether they answer alike.
-fn step(alloc: Global, run: &mut Run, numbers: &mut Numbers) -> Result<bool, NoMemory> {
-    let entry = numbers.entry();
-    match numbers.below(7) {
-        0 | 1 => sets(alloc, run, entry),
-        2 => sets_port(alloc, run, entry),
-        3 => unsets(alloc, run, entry),
-        4 => unsets_port(alloc, run, entry),
-        5 => Ok(gets(run, entry)),
-        _ => Ok(gets_port(run, entry)),
-    }
+    Ok(count)
 }
 
 #[test]
-fn agrees_with_a_plain_list(rt: HostRuntime) -> Result<(), Fail> {
-    let alloc = rt.alloc();
-    let mut numbers = Numbers { state: 20100401 };
-    let mut run = Run {
-        directory: Directory::new(alloc, BuildHasherDefault::new()),
-        list: Vec::new(alloc),
-    };
-    for _ in 0..10000 {
-        let alike = step(alloc, &mut run, &mut numbers)?;
-        assert!(rt; alike && is_list(&run));
-    }
-    Ok(())
+fn agrees_with_a_plain_list(rt: HostRuntime) {
+    assert!(rt; alike(rt.alloc(), 10000) == Ok(10000));
 }

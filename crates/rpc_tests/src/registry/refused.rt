@@ -1,19 +1,28 @@
-// What each call that takes memory answers where one of its growths is refused, each growth in turn: want of memory with
-// the rows as they were, or the whole answer.
-use crate::registry::calls::{
-    Owner, by_number, dump, dump_ports, has_address, has_count, has_port, over, schema, set,
-    set_port,
-};
-use crate::registry::made::{EVERY_HOST, Registry, has_own_rows, started};
+//! What each call that takes memory answers where one of its growths is refused, each growth in turn: want of memory with
+//! the rows as they were, or the whole answer.
+use crate::registry::calls::{Call, EVERY_HOST, Owner, Registry, answer, right_calls, started};
+use crate::registry::rows::{OWN_DUMP, OWN_PORTS, OWN_ROWS};
 use growths::{allow, refuse};
-use rpc_directory::{NoMemory, Uaddr, write_uaddr};
+use rpc_directory::{Uaddr, directory_schema, write_uaddr};
 use std::alloc::Global;
 use std::env::Env;
-use std::test::Fail;
-use xdr_types::Value;
 
 /// Past the growths of each of the calls here.
 const PAST_ALL: u64 = 100;
+
+// Calls that take memory, and what is found after each where it had it.
+const TAKING: [(Call, Call); 4] = [
+    (
+        Call::Set((7, 1, b"tcp"), EVERY_HOST, Owner::Unknown, true),
+        Call::Row(3, (7, 1, b"tcp"), EVERY_HOST, Owner::Unknown),
+    ),
+    (
+        Call::SetPort((7, 1, 17), 2049, Owner::Unknown, true),
+        Call::Port((7, 1, 17), 2049),
+    ),
+    (OWN_DUMP, Call::Rows(3)),
+    (OWN_PORTS, Call::Rows(3)),
+];
 
 /// Whether an answer is right where this growth was refused: none stands for want of memory, and else it says whether the
 /// answer is the whole one. Each call takes memory, so it misses the first growth, and it misses none past all of its own.
@@ -24,157 +33,80 @@ fn is_right(refuses: bool, number: u64, whole: Option<bool>) -> bool {
     }
 }
 
-/// Whether a registry starts right where this growth was refused.
-fn starts(alloc: Global, rt: &impl Env, number: u64) -> Result<bool, NoMemory> {
-    let refuses = refuse(alloc, rt, number)?;
-    let answer = started(alloc);
-    allow(rt);
-    let whole = match answer {
-        Err(NoMemory) => None,
-        Ok(directory) => Some(has_own_rows(&directory)),
-    };
-    Ok(is_right(refuses, number, whole))
+/// Whether the registry has its own rows and no others.
+fn has_own_rows(alloc: Global, directory: &mut Registry) -> bool {
+    right_calls(alloc, directory, &OWN_ROWS) == OWN_ROWS.len()
 }
 
-/// Whether the answer of a call that adds a row is right where this growth was refused: for want of memory the registry has
-/// its own rows alone, and else it has one more, and this is whether the one is found.
-fn is_added(
-    directory: &Registry,
-    refuses: bool,
+/// Whether a call answers right where this growth was refused, and what it leaves.
+fn calls_right(
+    alloc: Global,
+    rt: &impl Env,
     number: u64,
-    answer: Result<bool, NoMemory>,
-    found: bool,
-) -> bool {
-    match answer {
-        Err(NoMemory) => is_right(refuses, number, None) && has_own_rows(directory),
-        Ok(done) => {
-            let added = has_count(directory, 4) && found;
-            is_right(refuses, number, Some(done && added))
+    call: &Call,
+    after: &Call,
+) -> Option<bool> {
+    let mut directory = started(alloc).ok()?;
+    let refuses = refuse(alloc, rt, number).ok()?;
+    let whole = answer(alloc, &mut directory, call);
+    allow(rt);
+    let left = match whole {
+        None => has_own_rows(alloc, &mut directory),
+        Some(_) => answer(alloc, &mut directory, after)?,
+    };
+    Some(left && is_right(refuses, number, whole))
+}
+
+/// What is made without a registry.
+#[derive(Clone, Copy)]
+enum Made {
+    Registry,
+    Schema,
+    Address,
+}
+
+const MADE: [Made; 3] = [Made::Registry, Made::Schema, Made::Address];
+
+/// Makes it, and says whether it is whole, or `None` for want of memory.
+fn make(alloc: Global, what: Made) -> Option<bool> {
+    match what {
+        Made::Registry => {
+            let mut directory = started(alloc).ok()?;
+            Some(directory.rows() == 3 && directory.get_port(100000, 4, 6) == 111)
+        }
+        Made::Schema => Some(directory_schema(alloc).ok()?.len() == 19),
+        Made::Address => {
+            let (host, port) = ([255; 4], 65535);
+            let text = write_uaddr(alloc, Uaddr { host, port }).ok()?;
+            Some(text.as_slice() == b"255.255.255.255.255.255".as_slice())
         }
     }
 }
 
-/// The same of adding a row.
-fn sets(alloc: Global, rt: &impl Env, number: u64) -> Result<bool, NoMemory> {
-    let mut directory = started(alloc)?;
-    let at = over(7, 1, b"tcp");
-    let refuses = refuse(alloc, rt, number)?;
-    let answer = set(alloc, &mut directory, at, EVERY_HOST, Owner::Unknown);
+/// Whether it is made right where this growth was refused.
+fn makes_right(alloc: Global, rt: &impl Env, number: u64, what: Made) -> Option<bool> {
+    let refuses = refuse(alloc, rt, number).ok()?;
+    let whole = make(alloc, what);
     allow(rt);
-    let found = has_address(&directory, at, EVERY_HOST);
-    Ok(is_added(&directory, refuses, number, answer, found))
-}
-
-/// The same of adding a row by its port.
-fn sets_port(alloc: Global, rt: &impl Env, number: u64) -> Result<bool, NoMemory> {
-    let mut directory = started(alloc)?;
-    let at = by_number(7, 1, 17);
-    let refuses = refuse(alloc, rt, number)?;
-    let answer = set_port(alloc, &mut directory, at, 2049, Owner::Unknown);
-    allow(rt);
-    let found = has_port(&directory, at, 2049);
-    Ok(is_added(&directory, refuses, number, answer, found))
-}
-
-/// Whether a list that was answered is this one; none stands for want of memory.
-fn is_same(answer: Result<Value, NoMemory>, list: &Value) -> Option<bool> {
-    match answer {
-        Err(NoMemory) => None,
-        Ok(given) => Some(given == *list),
-    }
-}
-
-/// Whether this is dumped again where a growth was refused.
-fn dumps_list(
-    alloc: Global,
-    rt: &impl Env,
-    directory: &Registry,
-    list: &Value,
-    number: u64,
-) -> Result<bool, NoMemory> {
-    let refuses = refuse(alloc, rt, number)?;
-    let answer = dump(alloc, directory);
-    allow(rt);
-    let whole = is_same(answer, list);
-    Ok(is_right(refuses, number, whole) && has_own_rows(directory))
-}
-
-/// The same of all rows as a list.
-fn dumps(alloc: Global, rt: &impl Env, number: u64) -> Result<bool, NoMemory> {
-    let directory = started(alloc)?;
-    let list = dump(alloc, &directory)?;
-    dumps_list(alloc, rt, &directory, &list, number)
-}
-
-/// Whether this is dumped again as ports where a growth was refused.
-fn dumps_port_list(
-    alloc: Global,
-    rt: &impl Env,
-    directory: &Registry,
-    list: &Value,
-    number: u64,
-) -> Result<bool, NoMemory> {
-    let refuses = refuse(alloc, rt, number)?;
-    let answer = dump_ports(alloc, directory);
-    allow(rt);
-    let whole = is_same(answer, list);
-    Ok(is_right(refuses, number, whole) && has_own_rows(directory))
-}
-
-/// The same of the rows of ports as a list.
-fn dumps_ports(alloc: Global, rt: &impl Env, number: u64) -> Result<bool, NoMemory> {
-    let directory = started(alloc)?;
-    let list = dump_ports(alloc, &directory)?;
-    dumps_port_list(alloc, rt, &directory, &list, number)
-}
-
-/// The same of the schema.
-fn gives_schema(alloc: Global, rt: &impl Env, number: u64) -> Result<bool, NoMemory> {
-    let whole_schema = schema(alloc)?;
-    let refuses = refuse(alloc, rt, number)?;
-    let answer = schema(alloc);
-    allow(rt);
-    let whole = match answer {
-        Err(_) => None,
-        Ok(given) => Some(given == whole_schema),
-    };
-    Ok(is_right(refuses, number, whole))
-}
-
-/// The same of writing an address.
-fn writes(alloc: Global, rt: &impl Env, number: u64) -> Result<bool, NoMemory> {
-    let (host, port) = ([255; 4], 65535);
-    let refuses = refuse(alloc, rt, number)?;
-    let answer = write_uaddr(alloc, Uaddr { host, port });
-    allow(rt);
-    let whole = match answer {
-        Err(NoMemory) => None,
-        Ok(text) => Some(text.as_slice() == b"255.255.255.255.255.255".as_slice()),
-    };
-    Ok(is_right(refuses, number, whole))
+    Some(is_right(refuses, number, whole))
 }
 
 #[test]
-fn keeps_its_rows_at_each_refused_growth(rt: HostRuntime) -> Result<(), Fail> {
-    let alloc = rt.alloc();
+fn keeps_its_rows_at_each_refused_growth(rt: HostRuntime) {
     for number in 1..=PAST_ALL {
-        let started = starts(alloc, &rt, number)?;
-        let set = sets(alloc, &rt, number)?;
-        let set_port = sets_port(alloc, &rt, number)?;
-        assert!(rt; started && set && set_port);
+        for (call, after) in &TAKING {
+            let right = calls_right(rt.alloc(), &rt, number, call, after);
+            assert!(rt; right == Some(true), "the growth {number}");
+        }
     }
-    Ok(())
 }
 
 #[test]
-fn answers_whole_at_each_refused_growth(rt: HostRuntime) -> Result<(), Fail> {
-    let alloc = rt.alloc();
+fn makes_whole_at_each_refused_growth(rt: HostRuntime) {
     for number in 1..=PAST_ALL {
-        let dumped = dumps(alloc, &rt, number)?;
-        let ports_dumped = dumps_ports(alloc, &rt, number)?;
-        let given = gives_schema(alloc, &rt, number)?;
-        let written = writes(alloc, &rt, number)?;
-        assert!(rt; dumped && ports_dumped && given && written);
+        for what in &MADE {
+            let right = makes_right(rt.alloc(), &rt, number, *what);
+            assert!(rt; right == Some(true), "the growth {number}");
+        }
     }
-    Ok(())
 }

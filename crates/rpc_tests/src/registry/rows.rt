@@ -1,158 +1,217 @@
-// What each call answers on named rows.
-use crate::registry::calls::{
-    Owner, by_number, has_address, has_count, has_port, over, set, set_port, unset, unset_port,
+//! What each call answers on named rows.
+use crate::registry::calls::Call::{
+    Address, Dump, DumpPorts, NoRow, Port, Row, Rows, Set, SetPort, Unset, UnsetPort,
 };
-use crate::registry::made::{EVERY_HOST, Registry, add, empty, has_own_rows, is_at, started};
-use rpc_directory::{NoMemory, Row};
+use crate::registry::calls::Owner::{
+    GreatestUser, Superuser, Unknown, User100, User1000, User1001,
+};
+use crate::registry::calls::{Call, EVERY_HOST, empty, right_calls, started};
+use crate::registry::dumps::Field;
+use crate::registry::dumps::Field::{Number, Text};
 use std::alloc::Global;
-use std::test::Fail;
 
-#[test]
-fn starts_with_its_own_rows(rt: HostRuntime) -> Result<(), Fail> {
-    let directory = started(rt.alloc())?;
-    assert!(rt; has_own_rows(&directory));
-    let nothing = empty(rt.alloc());
-    assert!(rt; has_count(&nothing, 0) && has_none(&nothing, 0));
-    Ok(())
-}
+const TCP: &[u8] = b"tcp";
 
-/// So many copies of a byte.
-fn copies(alloc: Global, byte: u8, count: usize) -> Result<Vec<u8>, NoMemory> {
-    Ok(vec![in alloc; byte; count]?)
-}
+const UDP: &[u8] = b"udp";
 
-/// Sets a row whose netid and address have these lengths.
-fn set_long(
-    alloc: Global,
-    directory: &mut Registry,
-    netid: usize,
-    address: usize,
-) -> Result<bool, NoMemory> {
-    let netid = copies(alloc, b'n', netid)?;
-    let address = copies(alloc, b'a', address)?;
-    set(
-        alloc,
-        directory,
-        over(7, 1, &netid),
-        &address,
-        Owner::Unknown,
-    )
-}
+// The registry's own rows as `rpcb`s.
+const RPCB_2: &[Field] = &[
+    Number(100000),
+    Number(2),
+    Text(TCP),
+    Text(EVERY_HOST),
+    Text(b"superuser"),
+];
 
-/// Whether a row has a netid and an address of these lengths.
-fn has_length(row: Option<&Row>, netid: usize, address: usize) -> bool {
-    match row {
-        Some(row) => row.netid.len() == netid && row.address.len() == address,
-        None => false,
+const RPCB_3: &[Field] = &[
+    Number(100000),
+    Number(3),
+    Text(TCP),
+    Text(EVERY_HOST),
+    Text(b"superuser"),
+];
+
+const RPCB_4: &[Field] = &[
+    Number(100000),
+    Number(4),
+    Text(TCP),
+    Text(EVERY_HOST),
+    Text(b"superuser"),
+];
+
+// And as `mapping`s.
+const MAPPING_2: &[Field] = &[Number(100000), Number(2), Number(6), Number(111)];
+
+const MAPPING_3: &[Field] = &[Number(100000), Number(3), Number(6), Number(111)];
+
+const MAPPING_4: &[Field] = &[Number(100000), Number(4), Number(6), Number(111)];
+
+/// The registry's own rows as an `rpcblist`.
+pub const OWN_DUMP: Call = Dump(&[RPCB_2, RPCB_3, RPCB_4]);
+
+/// And as a `pmaplist`.
+pub const OWN_PORTS: Call = DumpPorts(&[MAPPING_2, MAPPING_3, MAPPING_4]);
+
+/// What a started registry answers of its own rows.
+pub const OWN_ROWS: [Call; 9] = [
+    Rows(3),
+    Row(0, (100000, 2, TCP), EVERY_HOST, Superuser),
+    Row(1, (100000, 3, TCP), EVERY_HOST, Superuser),
+    Row(2, (100000, 4, TCP), EVERY_HOST, Superuser),
+    NoRow(3),
+    Address((100000, 4, TCP), EVERY_HOST),
+    Port((100000, 4, 6), 111),
+    OWN_DUMP,
+    OWN_PORTS,
+];
+
+// A registry without rows.
+const NO_ROWS: [Call; 8] = [
+    Rows(0),
+    NoRow(0),
+    Address((100000, 2, TCP), b""),
+    Port((100000, 2, 6), 0),
+    Unset((100000, 2, b""), Superuser, false),
+    UnsetPort(100000, 2, Superuser, false),
+    Dump(&[]),
+    DumpPorts(&[]),
+];
+
+const NETID_64: &[u8] = &[b'n'; 64];
+
+const NETID_65: &[u8] = &[b'n'; 65];
+
+const ADDRESS_256: &[u8] = &[b'a'; 256];
+
+const ADDRESS_257: &[u8] = &[b'a'; 257];
+
+// A netid has 1 to 64 bytes and an address 1 to 256.
+const LENGTHS: [Call; 9] = [
+    Set((7, 1, NETID_65), ADDRESS_256, Unknown, false),
+    Set((7, 1, NETID_64), ADDRESS_257, Unknown, false),
+    Set((7, 1, b""), ADDRESS_256, Unknown, false),
+    Set((7, 1, NETID_64), b"", Unknown, false),
+    Rows(3),
+    Set((7, 1, NETID_64), ADDRESS_256, Unknown, true),
+    Row(3, (7, 1, NETID_64), ADDRESS_256, Unknown),
+    Set((7, 1, NETID_64), b"a", Unknown, false),
+    Rows(4),
+];
+
+// RFC 1833 section 3.1: the transports of version 2 are 6 for `tcp` and 17 for `udp`.
+const PORTS: [Call; 11] = [
+    SetPort((7, 1, 6), 65535, Unknown, true),
+    Address((7, 1, TCP), b"0.0.0.0.255.255"),
+    Port((7, 1, 6), 65535),
+    Port((7, 1, 17), 0),
+    SetPort((7, 1, 17), 65536, Unknown, false),
+    SetPort((7, 1, 5), 111, Unknown, false),
+    Rows(4),
+    SetPort((7, 1, 17), 0, Unknown, true),
+    Address((7, 1, UDP), b"0.0.0.0.0.0"),
+    Port((7, 1, 17), 0),
+    Rows(5),
+];
+
+// A second set of a key changes nothing, and a dump gives the rows in the order in which they were set.
+const SET_TWICE: [Call; 7] = [
+    SetPort((536870912, 1, 6), 2049, Unknown, true),
+    Address((536870912, 1, TCP), b"0.0.0.0.8.1"),
+    Port((536870912, 1, 6), 2049),
+    SetPort((536870912, 1, 6), 2050, Unknown, false),
+    Port((536870912, 1, 6), 2049),
+    Rows(4),
+    DumpPorts(&[
+        MAPPING_2,
+        MAPPING_3,
+        MAPPING_4,
+        &[Number(536870912), Number(1), Number(6), Number(2049)],
+    ]),
+];
+
+// `unset_port` removes what its owner owns, over both transports.
+const UNSET_PORTS: [Call; 7] = [
+    Set((8, 1, TCP), EVERY_HOST, User1001, true),
+    Set((8, 1, UDP), EVERY_HOST, User1000, true),
+    UnsetPort(8, 1, User1000, true),
+    Port((8, 1, 6), 111),
+    Port((8, 1, 17), 0),
+    UnsetPort(8, 1, User1000, false),
+    Rows(4),
+];
+
+// Only its owner and the superuser remove a row. An owner that begins another's name is another.
+const OWNERS: [Call; 15] = [
+    Set((536870912, 1, TCP), b"127.0.0.1.8.1", User1001, true),
+    Unset((536870912, 1, TCP), User1000, false),
+    Unset((536870912, 1, TCP), Superuser, true),
+    Unset((536870912, 1, TCP), Superuser, false),
+    Set((10, 1, TCP), EVERY_HOST, User1000, true),
+    Set((10, 2, TCP), EVERY_HOST, User100, true),
+    Unset((10, 1, TCP), User100, false),
+    Unset((10, 1, b""), User100, false),
+    Unset((10, 2, TCP), User1000, false),
+    Unset((10, 2, b""), User1000, false),
+    Rows(5),
+    Set((10, 3, TCP), EVERY_HOST, GreatestUser, true),
+    Row(5, (10, 3, TCP), EVERY_HOST, GreatestUser),
+    Unset((10, 3, TCP), GreatestUser, true),
+    Rows(5),
+];
+
+// With an empty netid all rows of a version go, and the rest keep their order.
+const VERSIONS: [Call; 3] = [
+    Unset((100000, 3, b""), Superuser, true),
+    Dump(&[RPCB_2, RPCB_4]),
+    DumpPorts(&[MAPPING_2, MAPPING_4]),
+];
+
+// Of the rows over `tcp` and `udp`, `dump_ports` gives those at an IPv4 address.
+const ADDRESSES: [Call; 12] = [
+    Set((9, 1, b"tcp6"), b"::1.8.1", Unknown, true),
+    Set((9, 1, TCP), b"localhost", Unknown, true),
+    Set((9, 2, b"tcp6"), b"1.2.3.4.5.6", Unknown, true),
+    Port((9, 1, 6), 0),
+    Port((9, 2, 6), 0),
+    OWN_PORTS,
+    Unset((100000, 2, b""), Superuser, true),
+    Unset((100000, 3, b""), Superuser, true),
+    Unset((100000, 4, b""), Superuser, true),
+    Set((9, 2, UDP), b"1.2.3.4.5.6", Unknown, true),
+    Port((9, 2, 17), 1286),
+    DumpPorts(&[&[Number(9), Number(2), Number(17), Number(1286)]]),
+];
+
+const TABLES: [&[Call]; 8] = [
+    &OWN_ROWS,
+    &LENGTHS,
+    &PORTS,
+    &SET_TWICE,
+    &UNSET_PORTS,
+    &OWNERS,
+    &VERSIONS,
+    &ADDRESSES,
+];
+
+/// How many calls of a table a started registry answers as wanted, up to the first that it does not.
+fn right_from_start(alloc: Global, calls: &[Call]) -> usize {
+    match started(alloc) {
+        Ok(mut directory) => right_calls(alloc, &mut directory, calls),
+        Err(_) => 0,
     }
 }
 
 #[test]
-fn refuses_long_texts(rt: HostRuntime) -> Result<(), Fail> {
-    let alloc = rt.alloc();
-    let mut directory = started(alloc)?;
-    for (netid, address) in [(65, 256), (64, 257), (0, 256), (64, 0)] {
-        let done = set_long(alloc, &mut directory, netid, address)?;
-        assert!(rt;
-            !done && has_count(&directory, 3),
-            "{netid} and {address} bytes"
-        );
+fn answers_as_its_tables_say(rt: HostRuntime) {
+    for (table, calls) in TABLES.iter().enumerate() {
+        let right = right_from_start(rt.alloc(), calls);
+        assert!(rt; right == calls.len(), "the call {right} of table {table}");
     }
-    let done = set_long(alloc, &mut directory, 64, 256)?;
-    assert!(rt; done && has_count(&directory, 4));
-    assert!(rt; has_length(directory.row(3), 64, 256));
-    let again = set_long(alloc, &mut directory, 64, 1)?;
-    assert!(rt; !again && has_count(&directory, 4));
-    Ok(())
 }
 
 #[test]
-fn sets_ports(rt: HostRuntime) -> Result<(), Fail> {
-    let alloc = rt.alloc();
-    let mut directory = started(alloc)?;
-    let (tcp, udp) = (by_number(7, 1, 6), by_number(7, 1, 17));
-    let highest = set_port(alloc, &mut directory, tcp, 65535, Owner::Unknown)?;
-    assert!(rt; highest && has_address(&directory, over(7, 1, b"tcp"), b"0.0.0.0.255.255"));
-    assert!(rt; has_port(&directory, tcp, 65535) && has_port(&directory, udp, 0));
-    let too_high = set_port(alloc, &mut directory, udp, 65536, Owner::Unknown)?;
-    let neither = set_port(
-        alloc,
-        &mut directory,
-        by_number(7, 1, 5),
-        111,
-        Owner::Unknown,
-    )?;
-    assert!(rt; !too_high && !neither && has_count(&directory, 4));
-    Ok(())
-}
-
-#[test]
-fn unsets_ports(rt: HostRuntime) -> Result<(), Fail> {
-    let alloc = rt.alloc();
-    let mut directory = started(alloc)?;
-    let over_tcp = set(
-        alloc,
-        &mut directory,
-        over(8, 1, b"tcp"),
-        EVERY_HOST,
-        Owner::User1001,
-    )?;
-    let over_udp = set(
-        alloc,
-        &mut directory,
-        over(8, 1, b"udp"),
-        EVERY_HOST,
-        Owner::User1000,
-    )?;
-    assert!(rt; over_tcp && over_udp);
-    assert!(rt; unset_port(&mut directory, 8, 1, Owner::User1000));
-    assert!(rt; has_port(&directory, by_number(8, 1, 6), 111));
-    assert!(rt; has_port(&directory, by_number(8, 1, 17), 0));
-    assert!(rt; !unset_port(&mut directory, 8, 1, Owner::User1000));
-    Ok(())
-}
-
-#[test]
-fn unsets_for_owners_alone(rt: HostRuntime) -> Result<(), Fail> {
-    let alloc = rt.alloc();
-    let mut directory = started(alloc)?;
-    let at = over(536870912, 1, b"tcp");
-    let done = set(alloc, &mut directory, at, b"127.0.0.1.8.1", Owner::User1001)?;
-    assert!(rt; done);
-    assert!(rt; !unset(&mut directory, at, Owner::User1000));
-    assert!(rt; unset(&mut directory, at, Owner::Superuser));
-    assert!(rt; !unset(&mut directory, at, Owner::Superuser));
-    Ok(())
-}
-
-/// Adds rows up to the 1024th, and says whether each was added.
-fn fill(alloc: Global, directory: &mut Registry) -> Result<bool, NoMemory> {
-    for prog in 0..1021 {
-        if !add(alloc, directory, prog, b"tcp")? {
-            return Ok(false);
-        }
-    }
-    Ok(true)
-}
-
-/// Whether the row at an index is the first version of this program over `tcp`.
-fn has_program(directory: &Registry, index: u32, prog: u32) -> bool {
-    is_at(directory.row(index), prog, 1, b"tcp")
-}
-
-/// Whether there is no row at an index.
-fn has_none(directory: &Registry, index: u32) -> bool {
-    directory.row(index).is_none()
-}
-
-#[test]
-fn holds_1024_rows(rt: HostRuntime) -> Result<(), Fail> {
-    let alloc = rt.alloc();
-    let mut directory = started(alloc)?;
-    assert!(rt; fill(alloc, &mut directory)?);
-    let more = add(alloc, &mut directory, 1021, b"tcp")?;
-    assert!(rt; !more && has_count(&directory, 1024) && has_none(&directory, 1024));
-    assert!(rt; has_program(&directory, 1023, 1020));
-    assert!(rt; has_address(&directory, over(1021, 1, b"tcp"), b""));
-    Ok(())
+fn begins_without_rows(rt: HostRuntime) {
+    let mut directory = empty(rt.alloc());
+    let right = right_calls(rt.alloc(), &mut directory, &NO_ROWS);
+    assert!(rt; right == NO_ROWS.len(), "the call {right}");
 }

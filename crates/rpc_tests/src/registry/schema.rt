@@ -1,121 +1,109 @@
-// The kinds and names of the registry's types.
-use crate::registry::calls::schema;
+//! The kinds and names of the registry's types.
+use rpc_directory::directory_schema;
 use std::test::Fail;
 use xdr_types::{Kind, KindId, Member, Schema};
 
-/// Whether the fields have these names and the kinds at these places, and there are no others.
-fn are_members(fields: &[Member], parts: &[(&str, u32)]) -> bool {
-    let mut rest = parts;
-    for field in fields {
-        match rest {
-            [(name, place), others @ ..]
-                if field.name.as_str() == *name && field.kind.place == *place => {
-                rest = others;
-            }
-            _ => return false,
-        }
-    }
-    rest.is_empty()
+/// A kind: a structure of named parts with the places of their kinds, a string of any length, or an optional value of the
+/// kind at a place.
+enum Shape {
+    Structure(&'static [(&'static str, u32)]),
+    Text,
+    Maybe(u32),
 }
 
-/// Whether the kind at a place is a structure of these parts.
-fn is_structure(schema: &Schema, place: u32, parts: &[(&str, u32)]) -> bool {
-    let id = KindId { place };
-    if !schema.has(id) {
-        return false;
-    }
-    match schema.kind(id) {
-        Kind::Structure { fields } => are_members(fields, parts),
-        _ => false,
-    }
-}
-
-/// Whether the kind at a place is this.
-fn has_kind(schema: &Schema, place: u32, kind: &Kind) -> bool {
-    schema.has(KindId { place }) && schema.kind(KindId { place }) == kind
-}
-
-/// The kind of an optional value of the kind at a place.
-fn maybe(place: u32) -> Kind {
-    Kind::Maybe {
-        item: KindId { place },
-    }
-}
-
-/// A place in the schema, and the names of the parts of the structure that stands there with the places of their kinds.
-type Structure = (u32, &'static [(&'static str, u32)]);
-
-// RFC 1833 section 2.1: rpcb and rp__list; section 3.1: mapping and pm__list.
-const STRUCTURES: [Structure; 4] = [
+// The kinds after the basic ones, which end at place 7: RFC 1833 section 2.1 has the strings of `rpcb`, `rpcb` and
+// `rp__list`, section 3.1 `mapping` and `pm__list`.
+const KINDS: [(u32, Shape); 11] = [
+    (8, Shape::Text),
+    (9, Shape::Text),
+    (10, Shape::Text),
     (
         11,
-        &[
+        Shape::Structure(&[
             ("r_prog", 1),
             ("r_vers", 1),
             ("r_netid", 8),
             ("r_addr", 9),
             ("r_owner", 10),
-        ],
+        ]),
     ),
-    (13, &[("rpcb_map", 11), ("rpcb_next", 12)]),
-    (15, &[("prog", 1), ("vers", 1), ("prot", 1), ("port", 1)]),
-    (17, &[("map", 15), ("next", 16)]),
+    (12, Shape::Maybe(13)),
+    (13, Shape::Structure(&[("rpcb_map", 11), ("rpcb_next", 12)])),
+    (14, Shape::Maybe(13)),
+    (
+        15,
+        Shape::Structure(&[("prog", 1), ("vers", 1), ("prot", 1), ("port", 1)]),
+    ),
+    (16, Shape::Maybe(17)),
+    (17, Shape::Structure(&[("map", 15), ("next", 16)])),
+    (18, Shape::Maybe(17)),
 ];
 
-#[test]
-fn has_the_structures_of_the_registry(rt: HostRuntime) -> Result<(), Fail> {
-    let schema = schema(rt.alloc())?;
-    for (place, parts) in STRUCTURES {
-        assert!(rt; is_structure(&schema, place, parts), "place {place}");
+const NAMES: [(&str, u32); 8] = [
+    ("int", 0),
+    ("string", 7),
+    ("rpcb", 11),
+    ("rp__list", 13),
+    ("rpcblist", 14),
+    ("mapping", 15),
+    ("pm__list", 17),
+    ("pmaplist", 18),
+];
+
+/// Whether the fields have these names and the kinds at these places, and there are no others.
+fn are_members(fields: &[Member], parts: &[(&str, u32)]) -> bool {
+    for (index, (name, place)) in parts.iter().enumerate() {
+        match fields.get(index) {
+            Some(field) if field.name.as_str() == *name && field.kind.place == *place => {}
+            _ => return false,
+        }
     }
-    Ok(())
+    fields.len() == parts.len()
 }
 
-// The other types of RFC 1833 sections 2.1 and 3.1 after the basic kinds: three texts without a bound.
-#[test]
-fn has_the_texts_of_the_registry(rt: HostRuntime) -> Result<(), Fail> {
-    let schema = schema(rt.alloc())?;
-    assert!(rt; schema.len() == 19);
-    let kind = Kind::Text { max: 4294967295 };
-    for place in [8, 9, 10] {
-        assert!(rt; has_kind(&schema, place, &kind), "place {place}");
+/// Whether the kind is this.
+fn is_shape(kind: &Kind, shape: &Shape) -> bool {
+    match (kind, shape) {
+        (Kind::Structure { fields }, Shape::Structure(parts)) => are_members(fields, parts),
+        (Kind::Text { max }, Shape::Text) => *max == 4294967295,
+        (Kind::Maybe { item }, Shape::Maybe(place)) => item.place == *place,
+        _ => false,
     }
-    Ok(())
 }
 
-// The nodes that may follow, and the lists.
-#[test]
-fn has_the_optional_nodes_of_the_registry(rt: HostRuntime) -> Result<(), Fail> {
-    let schema = schema(rt.alloc())?;
-    for (place, node) in [(12, 13), (14, 13), (16, 17), (18, 17)] {
-        assert!(rt; has_kind(&schema, place, &maybe(node)), "place {place}");
+/// Whether the kinds of the schema after the basic ones are these.
+fn has_kinds(schema: &Schema) -> bool {
+    for (place, shape) in &KINDS {
+        let id = KindId { place: *place };
+        if !schema.has(id) || !is_shape(schema.kind(id), shape) {
+            return false;
+        }
     }
-    Ok(())
+    schema.len() == 19
 }
 
 /// Whether a type has this name and stands at the place.
-pub(crate) fn is_named(schema: &Schema, name: &str, place: u32) -> bool {
+pub fn is_named(schema: &Schema, name: &str, place: u32) -> bool {
     match schema.named(name) {
         Some(id) => id.place == place,
         None => false,
     }
 }
 
-#[test]
-fn names_the_types_of_the_registry(rt: HostRuntime) -> Result<(), Fail> {
-    let schema = schema(rt.alloc())?;
-    for (name, place) in [
-        ("int", 0),
-        ("string", 7),
-        ("rpcb", 11),
-        ("rp__list", 13),
-        ("rpcblist", 14),
-        ("mapping", 15),
-        ("pm__list", 17),
-        ("pmaplist", 18),
-    ] {
-        assert!(rt; is_named(&schema, name, place), "{name}");
+/// Whether the types have these names, and none has another's.
+fn has_names(schema: &Schema) -> bool {
+    for (name, place) in &NAMES {
+        if !is_named(schema, name, *place) {
+            return false;
+        }
     }
-    assert!(rt; schema.named("pmap").is_none());
+    schema.named("pmap").is_none()
+}
+
+#[test]
+fn has_the_types_of_the_registry(rt: HostRuntime) -> Result<(), Fail> {
+    let schema = directory_schema(rt.alloc())?;
+    let (kinds, names) = (has_kinds(&schema), has_names(&schema));
+    assert!(rt; kinds && names);
     Ok(())
 }
