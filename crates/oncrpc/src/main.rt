@@ -3,9 +3,6 @@
 
 mod files;
 mod run;
-#[cfg(test)]
-mod tests;
-mod words;
 
 use std::process::ExitCode;
 

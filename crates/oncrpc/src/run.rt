@@ -1,27 +1,29 @@
 //! The program over the system: words, files and standard streams.
-ghost use Rattle.std.specs.Prelude.{◌≡◌, ◌≤◌, ◌⊎◌};
+ghost use Rattle.std.specs.Prelude.{◌≤◌};
 
 use crate::files::FileOpener;
-use crate::words::{WordsFault, no_memory, read_words};
-use oncrpc_tasks::{Failure, Task, report, task_over};
+use oncrpc_tasks::{Task, task_over};
+use oncrpc_words::{WordsFault, no_memory, print_words_fault, read_words};
 use std::alloc::Global;
 use std::{env, io};
-use xdr_io::{FromRead, IntoWrite, write_whole};
+use xdr_io::{FromRead, IntoWrite};
 
 /// Does what the words ask, and gives the exit status.
 pub fn run(rt: &HostRuntime) -> u8
     ensures { result ≤ 4 }
 {
+    let mut output = IntoWrite::new(rt.stdout());
+    let mut faults = IntoWrite::new(rt.stderr());
     match read_task(rt) {
         Ok(task) => task_over(
             rt.alloc(),
             &task,
             &mut FileOpener::new(rt),
             &mut FromRead::new(rt.stdin()),
-            &mut IntoWrite::new(rt.stdout()),
-            &mut IntoWrite::new(rt.stderr()),
+            &mut output,
+            &mut faults,
         ),
-        Err(fault) => print_words_fault(rt, &fault),
+        Err(fault) => print_words_fault(&fault, &mut output, &mut faults),
     }
 }
 
@@ -43,26 +45,5 @@ fn unread_words(alloc: Global, error: &io::Error) -> WordsFault {
     match String::from_str(alloc, "error: a word is not text\n") {
         Ok(text) if refused => WordsFault { text, status: 2 },
         _ => no_memory(alloc),
-    }
-}
-
-// Help goes to standard output; what is wrong with the words, and want of memory, to standard error.
-fn print_words_fault(rt: &HostRuntime, fault: &WordsFault) -> u8
-    ensures some_status { result ≤ 4 }
-    ensures helped { fault.now.status ≡ 0 → (result ≡ 0) ⊎ (result ≡ 3) }
-    ensures refused { fault.now.status ≡ 2 → result ≡ 2 }
-    ensures wanting { fault.now.status ≡ 4 → result ≡ 4 }
-{
-    let mut faults = IntoWrite::new(rt.stderr());
-    match fault.status {
-        0 => match write_whole(&mut IntoWrite::new(rt.stdout()), fault.text.as_bytes()) {
-            Ok(()) => 0,
-            Err(_) => report(Failure::Write, &mut faults),
-        },
-        2 => {
-            let _ = write_whole(&mut faults, fault.text.as_bytes());
-            2
-        }
-        _ => report(Failure::NoMemory, &mut faults),
     }
 }

@@ -1,0 +1,82 @@
+//! The commands and their options, as `clap` reads them.
+use super::help;
+use clap::{Arg, ArgAction, Command, value_parser};
+use std::alloc::{AllocError, Global};
+
+/// The limit on depth where none is given.
+pub const DEPTH: u32 = 4096;
+
+/// The limit on bytes where none is given, of a value or of a record.
+pub const BYTES: u32 = 16777216;
+
+/// The program with its subcommands.
+pub fn command<'a>(alloc: Global) -> Result<Command<'a>, AllocError> {
+    Command::new(alloc, "oncrpc")
+        .about(help::ABOUT)
+        .long_about(help::LONG_ABOUT)
+        .after_help(help::STATUSES)
+        .version(help::VERSION)
+        .long_version(help::LONG_VERSION)
+        .no_binary_name(true)
+        .bin_name("oncrpc")?
+        .subcommand_required(true)
+        .subcommand(check_command(alloc)?)?
+        .subcommand(show_command(alloc)?)?
+        .subcommand(records_command(alloc)?)
+}
+
+fn check_command<'a>(alloc: Global) -> Result<Command<'a>, AllocError> {
+    let check = Command::new(alloc, "check")
+        .about(help::CHECK)
+        .after_help(help::AFTER_CHECK);
+    with_value_options(alloc, check)
+}
+
+fn show_command<'a>(alloc: Global) -> Result<Command<'a>, AllocError> {
+    let show = Command::new(alloc, "show")
+        .about(help::SHOW)
+        .after_help(help::AFTER_SHOW);
+    with_value_options(alloc, show)
+}
+
+// The options of a value that is read.
+fn with_value_options<'a>(alloc: Global, command: Command<'a>) -> Result<Command<'a>, AllocError> {
+    let name = option(alloc, "name", "NAME", help::NAME).required(true);
+    let types = option(alloc, "types", "FILE", help::TYPES);
+    let depth = number(alloc, "depth", help::DEPTH).default_value("4096");
+    let bytes = number(alloc, "bytes", help::BYTES).default_value("16777216");
+    command
+        .arg(name)?
+        .arg(types)?
+        .arg(hex_flag(alloc))?
+        .arg(depth)?
+        .arg(bytes)
+}
+
+fn records_command<'a>(alloc: Global) -> Result<Command<'a>, AllocError> {
+    let limit = number(alloc, "limit", help::LIMIT).default_value("16777216");
+    Command::new(alloc, "records")
+        .about(help::RECORDS)
+        .after_help(help::AFTER_RECORDS)
+        .arg(limit)?
+        .arg(hex_flag(alloc))
+}
+
+fn option<'a>(alloc: Global, id: &'a str, value: &'a str, help: &'a str) -> Arg<'a> {
+    Arg::new(alloc, id)
+        .long(id)
+        .help(help)
+        .action(ArgAction::Set)
+        .value_name(value)
+}
+
+fn number<'a>(alloc: Global, id: &'a str, help: &'a str) -> Arg<'a> {
+    option(alloc, id, "N", help).value_parser(value_parser!(u32))
+}
+
+fn hex_flag<'a>(alloc: Global) -> Arg<'a> {
+    Arg::new(alloc, "hex")
+        .long("hex")
+        .help(help::HEX)
+        .action(ArgAction::SetTrue)
+}

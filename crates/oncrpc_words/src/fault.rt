@@ -1,0 +1,68 @@
+//! Words that ask for no task: refused ones, and those that ask for help.
+ghost use Rattle.std.specs.Prelude.{◌≡◌, ◌≢◌, ◌≤◌, ◌⊎◌, [], string_bytes};
+ghost use Rattle.std.specs.Io.KnownBytes.{Appends};
+ghost use Rattle.xdr_io.specs.Told.{Counts};
+
+use clap::Error;
+use clap::error::ErrorKind;
+use oncrpc_tasks::{Failure, report};
+use std::alloc::Global;
+use xdr_io::{Sink, write_whole};
+
+/// Why there is no task: clap's text with status 2, or 0 for help; an empty text with status 4 where memory was
+/// refused.
+#[derive(Debug, PartialEq, Eq, Drop)]
+pub struct WordsFault {
+    pub text: String,
+    pub status: u8,
+}
+
+/// Memory was refused.
+pub fn no_memory(alloc: Global) -> WordsFault
+    ensures status { result.status ≡ 4 }
+    ensures text { string_bytes result.text ≡ [] }
+{
+    WordsFault {
+        text: String::new(alloc),
+        status: 4,
+    }
+}
+
+/// What clap's error says, and the status that it ends with.
+pub fn fault_of(alloc: Global, error: &Error) -> WordsFault
+    ensures status { (result.status ≡ 0) ⊎ (result.status ≡ 2) ⊎ (result.status ≡ 4) }
+    ensures memory { result.status ≡ 4 → string_bytes result.text ≡ [] }
+{
+    if matches!(error.kind(), ErrorKind::OutOfMemory) {
+        return no_memory(alloc);
+    }
+    let status = if error.use_stderr() { 2 } else { 0 };
+    match format!(in alloc; "{error}") {
+        Ok(text) => WordsFault { text, status },
+        Err(_) => no_memory(alloc),
+    }
+}
+
+/// Prints why there is no task, and gives the exit status. Help goes to the output, and where that cannot be written
+/// the status is 3; what is wrong with the words, and want of memory, go to `faults`, where that can be done.
+pub fn print_words_fault<O: Sink, F: Sink>(fault: &WordsFault, output: &mut O, faults: &mut F) -> u8
+    ensures some_status { result ≤ 4 }
+    ensures helped { fault.now.status ≡ 0 → (result ≡ 0) ⊎ (result ≡ 3) }
+    ensures refused { fault.now.status ≡ 2 → result ≡ 2 }
+    ensures wanting { fault.now.status ≡ 4 → result ≡ 4 }
+    ensures printed { result ≡ 0 → Appends (O.taken output.old) (O.taken output.new) (string_bytes fault.now.text) }
+    ensures device { result ≡ 3 → Counts 1 (O.failures output.old) (O.failures output.new) }
+    ensures unprinted { fault.now.status ≢ 0 → output.new ≡ output.old }
+{
+    match fault.status {
+        0 => match write_whole(output, fault.text.as_bytes()) {
+            Ok(()) => 0,
+            Err(_) => report(Failure::Write, faults),
+        },
+        2 => {
+            let _ = write_whole(faults, fault.text.as_bytes());
+            2
+        }
+        _ => report(Failure::NoMemory, faults),
+    }
+}

@@ -1,0 +1,101 @@
+//! What the program says of itself.
+
+/// The program in a line.
+pub const ABOUT: &str = "Checks and shows XDR values and marks ONC RPC records";
+
+/// The program in a paragraph.
+pub const LONG_ABOUT: &str =
+    "Checks and shows XDR values (RFC 4506) and marks ONC RPC records (RFC 5531).
+
+Called without any word it does 'check --name opaque --hex'. 'oncrpc help COMMAND' has the words of a command, with
+examples.";
+
+/// The product's version.
+pub const VERSION: &str = "0.1.0";
+
+/// The product's version, and the line of the prover that accepts it.
+pub const LONG_VERSION: &str = "0.1.0\nproved with rattle-kit-13b logic dac8208d650f15bf";
+
+/// The statuses of each command.
+pub const STATUSES: &str = "Exit status:
+  0  done
+  1  the bytes are refused
+  2  words, declarations, name or limits are refused
+  3  a read or a write failed, or more than 1048576 reads would be needed
+  4  memory was refused";
+
+/// What `check` does.
+pub const CHECK: &str = "Reads one value from standard input and prints the outcome";
+
+/// What `show` does.
+pub const SHOW: &str = "Reads one value from standard input and prints its lines and the outcome";
+
+/// What `records` does.
+pub const RECORDS: &str = "Writes each record of standard input as one fragment";
+
+/// The option for a name.
+pub const NAME: &str = "The name of the value's kind:
+int, unsigned, hyper, unsigned-hyper, bool, opaque or string;
+a type that FILE declares;
+P.V.N.K, the K-th argument, from 1, of procedure N in version V of program P of FILE;
+or P.V.N.result, its result";
+
+/// The option for a file of declarations.
+pub const TYPES: &str = "A file of declarations in the XDR language, of at most 262144 bytes";
+
+/// The option for the limit on depth.
+pub const DEPTH: &str = "The greatest depth of a value, 1 to 4096";
+
+/// The option for the limit on bytes.
+pub const BYTES: &str = "The most bytes of a value, 4 to 16777216, a multiple of 4";
+
+/// The option for the limit on a record.
+pub const LIMIT: &str = "The most bytes of a record, 0 to 2147483647";
+
+/// The option for hexadecimal.
+pub const HEX: &str = "The input is hexadecimal text of at most 1048576 bytes, white space counted";
+
+/// What `check` prints, its statuses and examples of it.
+pub const AFTER_CHECK: &str =
+    "It prints 'ok N', or 'ok N, more follows', with status 0, or 'refused WHY at N' with status 1.
+
+Exit status:
+  0  the input begins with a value
+  1  the bytes are refused
+  2  words, declarations, name or limits are refused
+  3  a read or a write failed, or more than 1048576 reads would be needed
+  4  memory was refused
+
+Examples:
+  printf '00000003 61626300' | oncrpc check --name opaque --hex
+  oncrpc check --types ping.x --name 536870912.1.1.1 < argument";
+
+/// What `show` prints, its statuses and examples of it.
+pub const AFTER_SHOW: &str =
+    "It prints a line for each part of the value and then the line of 'check'; of what is refused that line alone.
+
+Exit status:
+  0  the input begins with a value
+  1  the bytes are refused
+  2  words, declarations, name or limits are refused
+  3  a read or a write failed, or more than 1048576 reads would be needed
+  4  memory was refused
+
+Examples:
+  printf 'ffffffff' | oncrpc show --name int --hex
+  oncrpc show --types file.x --name file < value";
+
+/// What `records` prints, its statuses and examples of it.
+pub const AFTER_RECORDS: &str =
+    "With --hex the output is one line of lower-case hexadecimal. 'refused WHY at N' goes to standard error.
+
+Exit status:
+  0  the input is a stream of records
+  1  the bytes are refused, after the whole records before them were written
+  2  words or limits are refused
+  3  a read or a write failed, or more than 1048576 reads would be needed
+  4  memory was refused
+
+Examples:
+  printf '00000002 6162 80000001 63' | oncrpc records --hex
+  oncrpc records --limit 65536 < stream > normal";
