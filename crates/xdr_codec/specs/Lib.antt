@@ -1,7 +1,3 @@
-pub mod Gathered
-pub mod GatheredLaws
-pub mod PutAll
-pub mod Reading
 pub mod Refused
 pub mod Stands
-pub mod Fronts
+pub mod Steps

@@ -1,5 +1,5 @@
 -- What a refusal of bytes says.
-use Rattle.std.specs.Prelude.{◌≡◌, ℕ, List, [], ◌++◌, ⊤, Bool, true, false}
+use Rattle.std.specs.Prelude.{◌≡◌, ℕ, List, [], ◌++◌, ⊤}
 use Rattle.xdr_types.specs.Form.{Form}
 use Rattle.xdr_types.specs.Tree.{Tree}
 use Rattle.xdr_types.specs.Spelling.{bytes_of}
@@ -35,21 +35,9 @@ MayFollow reason.NoMemory y = ⊥
 
 -- no value of the kind within the limits begins the bytes
 abbrev pub HasNoneWithin : List Form → ℕ → Bounds → List ℕ → Type 0
-HasNoneWithin kinds place limits b = (t : Tree) (x : List ℕ) → FitsWithin kinds place limits t → bytes_of kinds place t ++ x ≡ b → ⊥
+HasNoneWithin kinds place limits b = (t : Tree) (x : List ℕ) → FitsWithin kinds place limits t
+    → bytes_of kinds place t ++ x ≡ b → ⊥
 
 -- the claim holds of the bytes, whatever may follow them
 abbrev pub IsRefused : (List ℕ → Type 0) → Reason → List ℕ → Type 0
 IsRefused Claim why b = (y : List ℕ) → MayFollow why y → Claim (b ++ y)
-
--- what is wrong with the bytes up to the limit, where they are as many as the limit allows or not
-abbrev pub why_at : Reason → Bool → Reason
-why_at reason.Truncated true = reason.TooLarge
-why_at reason.Truncated false = reason.Truncated
-why_at reason.BadBool full = reason.BadBool
-why_at reason.BadNumbered full = reason.BadNumbered
-why_at reason.BadCase full = reason.BadCase
-why_at reason.TooLong full = reason.TooLong
-why_at reason.BadPadding full = reason.BadPadding
-why_at reason.TooDeep full = reason.TooDeep
-why_at reason.TooLarge full = reason.TooLarge
-why_at reason.NoMemory full = reason.NoMemory

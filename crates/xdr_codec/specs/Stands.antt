@@ -22,7 +22,8 @@ IsWhole kinds place limits t b = FitsWithin kinds place limits t × (bytes_of ki
 
 -- unless memory was refused, no value begins the bytes, however they go on
 abbrev pub Fails : List Form → ℕ → Bounds → DecodeFault → List ℕ → Type 0
-Fails kinds place limits f b = (f.why ≡ reason.Truncated → ⊥) × ((f.why ≡ reason.NoMemory → ⊥) → (y : List ℕ) → HasNoneWithin kinds place limits (b ++ y)) × (f.at ≤ length b)
+Fails kinds place limits f b = (f.why ≡ reason.Truncated → ⊥)
+    × ((f.why ≡ reason.NoMemory → ⊥) → (y : List ℕ) → HasNoneWithin kinds place limits (b ++ y)) × (f.at ≤ length b)
 
 abbrev pub StandsAs : List Form → ℕ → Bounds → List ℕ → State → List ℕ → Type 0
 StandsAs kinds place limits bytes Fresh b = (bytes ≡ b) × (b ≡ [])
@@ -44,7 +45,8 @@ abbrev pub used_of : Progress → ℕ
 used_of More = 0
 used_of (Done used) = used
 
--- what an answer says of the bytes so far: they begin with no value; they encode a value; none begins them however they go on
+-- what an answer says of the bytes so far: they begin with no value; they encode a value; none begins them however they
+-- go on
 abbrev pub AnswersAs : List Form → ℕ → Bounds → List ℕ → Result Progress DecodeFault → Type 0
 AnswersAs kinds place limits b (Ok More) = HasNoneWithin kinds place limits b
 AnswersAs kinds place limits b (Ok (Done used)) = (t : Tree) × IsWhole kinds place limits t b
@@ -56,7 +58,8 @@ Answers d b r = AnswersAs d.schema.now.kinds d.kind.place d.limits b r
 -- what the end says of the bytes: they encode the value; or none begins them, and they end inside one or are broken
 abbrev pub FinishesAs : List Form → ℕ → Bounds → List ℕ → Result Value DecodeFault → Type 0
 FinishesAs kinds place limits b (Ok v) = IsWhole kinds place limits (tree v) b
-FinishesAs kinds place limits b (Err f) = IsRefused (HasNoneWithin kinds place limits) f.why b × (f.at ≤ length b) × (f.why ≡ reason.Truncated → f.at ≡ length b)
+FinishesAs kinds place limits b (Err f) = IsRefused (HasNoneWithin kinds place limits) f.why b × (f.at ≤ length b)
+    × (f.why ≡ reason.Truncated → f.at ≡ length b)
 
 abbrev pub Finishes : Decoder → List ℕ → Result Value DecodeFault → Type 0
 Finishes d b r = FinishesAs d.schema.now.kinds d.kind.place d.limits b r

@@ -30,6 +30,8 @@ impl<'s> Decoder<'s> {
     /// came encode a value within the limits; `used` counts those of this piece, and later pieces are not
     /// looked at. A fault comes where no continuation is accepted, or where memory was refused; it has
     /// taken the whole piece, and comes again at each later call.
+    ///
+    /// Each level of the value takes stack, as in `decode`.
     pub fn feed(&mut self, piece: &[u8]) -> Result<Progress, DecodeFault>
         ensures stands { (b : List ℕ) → StandsFor self.old b → StandsFor self.new (b ++ taken piece.now result) }
         ensures answer { (b : List ℕ) → StandsFor self.old b → Answers self.old (b ++ taken piece.now result) result }

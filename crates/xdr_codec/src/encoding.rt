@@ -16,6 +16,8 @@ use xdr_types::{KindId, Limits, Schema, Value, size};
 /// The encoding of a value (RFC 4506): exactly its bytes, and no other value of the kind has them. The value fits the
 /// kind within the limits, as `fits` tells. An error is want of memory; that none comes while memory is granted is no
 /// clause, tests show it. The bytes are asked for in one growth of their count.
+///
+/// Each level of the value takes stack: up to 0.5 MiB at depth 4096 on x86-64.
 pub fn encode(
     alloc: Global,
     schema: &Schema,
@@ -25,7 +27,8 @@ pub fn encode(
 ) -> Result<Vec<u8>, AllocError>
     requires { FitsWithin schema.now.kinds kind.place limits (tree value.now) }
     ensures bytes { IfOk result (λ b. b.items ≡ bytes_of schema.now.kinds kind.place (tree value.now)) }
-    ensures only { IfOk result (λ b. (t : Tree) → Fits schema.now.kinds kind.place t → bytes_of schema.now.kinds kind.place t ≡ b.items → t ≡ tree value.now) }
+    ensures only { IfOk result (λ b. (t : Tree) → Fits schema.now.kinds kind.place t
+        → bytes_of schema.now.kinds kind.place t ≡ b.items → t ≡ tree value.now) }
 {
     let mut out = Vec::with_capacity(alloc, size(schema, kind, value, limits) as usize)?;
     match push_value(&mut out, schema, kind, value) {

@@ -1,6 +1,6 @@
 //! Bytes gathered in an array on their way to a sink.
 ghost use Rattle.std.specs.Prelude.{◌≡◌, ◌+◌, ◌≤◌, ◌<◌, ◌^◌, ◌++◌, [], ⊤, length, take, MatchResult};
-ghost use Rattle.xdr_codec.specs.Gathered.{Gathers, Breaks, gathering};
+ghost use Rattle.xdr_codec.specs.Steps.Gathered.{Gathers, Breaks, gathering};
 
 use crate::put::{NotPut, Put};
 use xdr_io::{Sink, write_whole};
@@ -21,10 +21,14 @@ impl<'w, W: Sink> Gather<'w, W> {
         ensures same_reference { self.new.sink.ghost_name ≡ self.old.sink.ghost_name }
         ensures empty { MatchResult result (λ _. self.new.filled ≡ 0) (λ _. ⊤) }
         ensures put { MatchResult result
-            (λ _. Gathers (gathering (W.taken self.old.sink.now) (W.failures self.old.sink.now) self.old.array self.old.filled self.old.written)
-            (gathering (W.taken self.new.sink.now) (W.failures self.new.sink.now) self.new.array self.new.filled self.new.written) [])
-            (λ _. Breaks (gathering (W.taken self.old.sink.now) (W.failures self.old.sink.now) self.old.array self.old.filled self.old.written)
-            (gathering (W.taken self.new.sink.now) (W.failures self.new.sink.now) self.new.array self.new.filled self.new.written) []) }
+            (λ _. Gathers (gathering (W.taken self.old.sink.now) (W.failures self.old.sink.now) self.old.array
+            self.old.filled self.old.written)
+            (gathering (W.taken self.new.sink.now) (W.failures self.new.sink.now) self.new.array self.new.filled
+            self.new.written) [])
+            (λ _. Breaks (gathering (W.taken self.old.sink.now) (W.failures self.old.sink.now) self.old.array
+            self.old.filled self.old.written)
+            (gathering (W.taken self.new.sink.now) (W.failures self.new.sink.now) self.new.array self.new.filled
+            self.new.written) []) }
     {
         let filled = self.filled;
         let array = self.array;
@@ -60,10 +64,14 @@ impl<'w, W: Sink> Gather<'w, W> {
         requires { self.old.filled ≡ 0 }
         ensures same_reference { self.new.sink.ghost_name ≡ self.old.sink.ghost_name }
         ensures put { MatchResult result
-            (λ _. Gathers (gathering (W.taken self.old.sink.now) (W.failures self.old.sink.now) self.old.array self.old.filled self.old.written)
-            (gathering (W.taken self.new.sink.now) (W.failures self.new.sink.now) self.new.array self.new.filled self.new.written) bytes.now)
-            (λ _. Breaks (gathering (W.taken self.old.sink.now) (W.failures self.old.sink.now) self.old.array self.old.filled self.old.written)
-            (gathering (W.taken self.new.sink.now) (W.failures self.new.sink.now) self.new.array self.new.filled self.new.written) bytes.now) }
+            (λ _. Gathers (gathering (W.taken self.old.sink.now) (W.failures self.old.sink.now) self.old.array
+            self.old.filled self.old.written)
+            (gathering (W.taken self.new.sink.now) (W.failures self.new.sink.now) self.new.array self.new.filled
+            self.new.written) bytes.now)
+            (λ _. Breaks (gathering (W.taken self.old.sink.now) (W.failures self.old.sink.now) self.old.array
+            self.old.filled self.old.written)
+            (gathering (W.taken self.new.sink.now) (W.failures self.new.sink.now) self.new.array self.new.filled
+            self.new.written) bytes.now) }
     {
         match write_whole(self.sink, bytes) {
             Ok(()) => {

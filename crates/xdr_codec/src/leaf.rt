@@ -3,7 +3,7 @@ ghost use Rattle.std.specs.Prelude.{◌≡◌, List, map, MatchResult};
 ghost use Rattle.xdr_types.specs.Form.{Form, int, unsigned, hyper, unsigned_hyper, boolean, numbered, opaque, opaque_up_to, text};
 ghost use Rattle.xdr_types.specs.Forms.{constant_of};
 ghost use Rattle.xdr_types.specs.View.{tree};
-ghost use Rattle.xdr_codec.specs.Reading.{IsLeaf, HasNoHead};
+ghost use Rattle.xdr_codec.specs.Steps.Reading.{IsLeaf, HasNoHead};
 ghost use Rattle.xdr_codec.specs.Refused.{IsRefused};
 
 use crate::fault::Reason;
@@ -14,7 +14,8 @@ use xdr_types::{Value, is_number_of};
 
 /// An integer: one unit (RFC 4506 section 4.1).
 pub fn read_int<'a>(bytes: &'a [u8]) -> Result<(Value, &'a [u8]), Stop>
-    ensures { (kinds : List Form) → MatchResult result (λ r. IsLeaf kinds int bytes.now (tree r.0) r.1.now) (λ e. IsRefused (HasNoHead kinds int) e.why bytes.now) }
+    ensures { (kinds : List Form) → MatchResult result (λ r. IsLeaf kinds int bytes.now (tree r.0) r.1.now)
+        (λ e. IsRefused (HasNoHead kinds int) e.why bytes.now) }
 {
     let (number, rest) = unit(bytes)?;
     Ok((Value::Int(number.cast_signed()), rest))
@@ -22,7 +23,8 @@ pub fn read_int<'a>(bytes: &'a [u8]) -> Result<(Value, &'a [u8]), Stop>
 
 /// An unsigned integer: one unit (RFC 4506 section 4.2).
 pub fn read_unsigned<'a>(bytes: &'a [u8]) -> Result<(Value, &'a [u8]), Stop>
-    ensures { (kinds : List Form) → MatchResult result (λ r. IsLeaf kinds unsigned bytes.now (tree r.0) r.1.now) (λ e. IsRefused (HasNoHead kinds unsigned) e.why bytes.now) }
+    ensures { (kinds : List Form) → MatchResult result (λ r. IsLeaf kinds unsigned bytes.now (tree r.0) r.1.now)
+        (λ e. IsRefused (HasNoHead kinds unsigned) e.why bytes.now) }
 {
     let (number, rest) = unit(bytes)?;
     Ok((Value::Unsigned(number), rest))
@@ -30,7 +32,8 @@ pub fn read_unsigned<'a>(bytes: &'a [u8]) -> Result<(Value, &'a [u8]), Stop>
 
 /// A hyper integer: two units (RFC 4506 section 4.5).
 pub fn read_hyper<'a>(bytes: &'a [u8]) -> Result<(Value, &'a [u8]), Stop>
-    ensures { (kinds : List Form) → MatchResult result (λ r. IsLeaf kinds hyper bytes.now (tree r.0) r.1.now) (λ e. IsRefused (HasNoHead kinds hyper) e.why bytes.now) }
+    ensures { (kinds : List Form) → MatchResult result (λ r. IsLeaf kinds hyper bytes.now (tree r.0) r.1.now)
+        (λ e. IsRefused (HasNoHead kinds hyper) e.why bytes.now) }
 {
     let (number, rest) = two_units(bytes)?;
     Ok((Value::Hyper(number.cast_signed()), rest))
@@ -38,7 +41,8 @@ pub fn read_hyper<'a>(bytes: &'a [u8]) -> Result<(Value, &'a [u8]), Stop>
 
 /// An unsigned hyper integer: two units (RFC 4506 section 4.5).
 pub fn read_unsigned_hyper<'a>(bytes: &'a [u8]) -> Result<(Value, &'a [u8]), Stop>
-    ensures { (kinds : List Form) → MatchResult result (λ r. IsLeaf kinds unsigned_hyper bytes.now (tree r.0) r.1.now) (λ e. IsRefused (HasNoHead kinds unsigned_hyper) e.why bytes.now) }
+    ensures { (kinds : List Form) → MatchResult result (λ r. IsLeaf kinds unsigned_hyper bytes.now (tree r.0) r.1.now)
+        (λ e. IsRefused (HasNoHead kinds unsigned_hyper) e.why bytes.now) }
 {
     let (number, rest) = two_units(bytes)?;
     Ok((Value::UnsignedHyper(number), rest))
@@ -46,7 +50,8 @@ pub fn read_unsigned_hyper<'a>(bytes: &'a [u8]) -> Result<(Value, &'a [u8]), Sto
 
 /// A boolean: a unit that is 0 or 1, else `BadBool` (RFC 4506 section 4.4).
 pub fn read_bool<'a>(bytes: &'a [u8]) -> Result<(Value, &'a [u8]), Stop>
-    ensures { (kinds : List Form) → MatchResult result (λ r. IsLeaf kinds boolean bytes.now (tree r.0) r.1.now) (λ e. IsRefused (HasNoHead kinds boolean) e.why bytes.now) }
+    ensures { (kinds : List Form) → MatchResult result (λ r. IsLeaf kinds boolean bytes.now (tree r.0) r.1.now)
+        (λ e. IsRefused (HasNoHead kinds boolean) e.why bytes.now) }
 {
     let (is_true, rest) = flag(bytes)?;
     Ok((Value::Bool(is_true), rest))
@@ -74,7 +79,8 @@ pub fn read_numbered<'a>(
 
 /// So many bytes, and zeros to the end of their unit, else `BadPadding` (RFC 4506 section 4.9).
 pub fn read_opaque<'a>(alloc: Global, bytes: &'a [u8], size: u32) -> Result<(Value, &'a [u8]), Stop>
-    ensures { (kinds : List Form) → MatchResult result (λ r. IsLeaf kinds (opaque size) bytes.now (tree r.0) r.1.now) (λ e. IsRefused (HasNoHead kinds (opaque size)) e.why bytes.now) }
+    ensures { (kinds : List Form) → MatchResult result (λ r. IsLeaf kinds (opaque size) bytes.now (tree r.0) r.1.now)
+        (λ e. IsRefused (HasNoHead kinds (opaque size)) e.why bytes.now) }
 {
     let (kept, rest) = content(alloc, bytes, size)?;
     Ok((Value::Bytes(kept), rest))
@@ -82,8 +88,11 @@ pub fn read_opaque<'a>(alloc: Global, bytes: &'a [u8], size: u32) -> Result<(Val
 
 /// A length of at most `max`, else `TooLong`, and so many bytes and zeros (RFC 4506 sections 4.10, 4.11).
 pub fn read_counted<'a>(alloc: Global, bytes: &'a [u8], max: u32) -> Result<(Value, &'a [u8]), Stop>
-    ensures opaque { (kinds : List Form) → MatchResult result (λ r. IsLeaf kinds (opaque_up_to max) bytes.now (tree r.0) r.1.now) (λ e. IsRefused (HasNoHead kinds (opaque_up_to max)) e.why bytes.now) }
-    ensures text { (kinds : List Form) → MatchResult result (λ r. IsLeaf kinds (text max) bytes.now (tree r.0) r.1.now) (λ e. IsRefused (HasNoHead kinds (text max)) e.why bytes.now) }
+    ensures opaque { (kinds : List Form) → MatchResult result
+        (λ r. IsLeaf kinds (opaque_up_to max) bytes.now (tree r.0) r.1.now)
+        (λ e. IsRefused (HasNoHead kinds (opaque_up_to max)) e.why bytes.now) }
+    ensures text { (kinds : List Form) → MatchResult result (λ r. IsLeaf kinds (text max) bytes.now (tree r.0) r.1.now)
+        (λ e. IsRefused (HasNoHead kinds (text max)) e.why bytes.now) }
 {
     let (size, behind) = count(bytes, max)?;
     let (kept, rest) = content(alloc, behind, size)?;

@@ -6,7 +6,7 @@ ghost use Rattle.xdr_types.specs.Fits.{Fits, fits, fit, is_legal, item_part, par
 ghost use Rattle.xdr_units.specs.Numbers.{num4, num8, number_of, pad, padded};
 ghost use Rattle.xdr_types.specs.Spelling.{spelling, own, bytes_of};
 ghost use Rattle.xdr_types.specs.View.{tree, values};
-ghost use Rattle.xdr_codec.specs.PutAll.{PutAll};
+ghost use Rattle.xdr_codec.specs.Steps.PutAll.{PutAll};
 
 use crate::put::{NotPut, Put, put_nothing};
 use byteorder::{BigEndian, ByteOrder};
@@ -65,7 +65,8 @@ fn push_inner<P: Put>(
     value: &Value,
 ) -> Result<(), NotPut>
     requires { fit schema.now.kinds (parts (form_of kind.now) (tree value.now).0) (tree value.now).1 ≡ true }
-    ensures { PutAll P.sends P.cuts out.old out.new (spelling schema.now.kinds (parts (form_of kind.now) (tree value.now).0) (tree value.now).1) result }
+    ensures { PutAll P.sends P.cuts out.old out.new
+        (spelling schema.now.kinds (parts (form_of kind.now) (tree value.now).0) (tree value.now).1) result }
 {
     match (kind, value) {
         (Kind::Fixed { item, size: _ }, Value::List(items)) => push_items(
@@ -98,8 +99,11 @@ fn push_items<P: Put>(
     id: KindId,
     items: &Vec<Value>,
 ) -> Result<(), NotPut>
-    requires { fit schema.now.kinds (replicate (length items.now.items) (item_part id.place)) (values items.now.items) ≡ true }
-    ensures { PutAll P.sends P.cuts out.old out.new (spelling schema.now.kinds (replicate (length items.now.items) (item_part id.place)) (values items.now.items)) result }
+    requires { fit schema.now.kinds (replicate (length items.now.items) (item_part id.place)) (values items.now.items)
+        ≡ true }
+    ensures { PutAll P.sends P.cuts out.old out.new
+        (spelling schema.now.kinds (replicate (length items.now.items) (item_part id.place)) (values items.now.items))
+        result }
 {
     for value in items {
         push_value(out, schema, id, value)?;
@@ -115,7 +119,8 @@ fn push_parts<P: Put>(
     parts: &Vec<Value>,
 ) -> Result<(), NotPut>
     requires { fit schema.now.kinds (map part_of_member fields.now.items) (values parts.now.items) ≡ true }
-    ensures { PutAll P.sends P.cuts out.old out.new (spelling schema.now.kinds (map part_of_member fields.now.items) (values parts.now.items)) result }
+    ensures { PutAll P.sends P.cuts out.old out.new
+        (spelling schema.now.kinds (map part_of_member fields.now.items) (values parts.now.items)) result }
 {
     for (i, value) in parts.iter().enumerate() {
         push_value(out, schema, fields[i].kind, value)?;
@@ -193,7 +198,8 @@ fn padding(len: usize) -> &'static [u8]
 
 fn push_counted<P: Put>(out: &mut P, bytes: &Vec<u8>) -> Result<(), NotPut>
     requires { length bytes.now.items < 2 ^ 32 }
-    ensures { PutAll P.sends P.cuts out.old out.new ((num4 (pos (length bytes.now.items)) ++ padded bytes.now.items)) result }
+    ensures { PutAll P.sends P.cuts out.old out.new ((num4 (pos (length bytes.now.items)) ++ padded bytes.now.items))
+        result }
 {
     push_length(out, bytes.len())?;
     push_padded(out, bytes)

@@ -5,7 +5,7 @@ ghost use Rattle.xdr_types.specs.Form.{Part, kind_at, fixed, up_to, structure, c
 ghost use Rattle.xdr_types.specs.Forms.{branch_of, part_of_member};
 ghost use Rattle.xdr_types.specs.Fits.{item_part};
 ghost use Rattle.xdr_types.specs.View.{tree, values};
-ghost use Rattle.xdr_codec.specs.Reading.{IsRead, HasNoValue, AreRead, HasNoValues};
+ghost use Rattle.xdr_codec.specs.Steps.Reading.{IsRead, HasNoValue, AreRead, HasNoValues};
 ghost use Rattle.xdr_codec.specs.Refused.{IsRefused};
 
 use crate::fault::Reason;
@@ -113,7 +113,8 @@ fn read_structure<'a>(
     bytes: &'a [u8],
 ) -> Result<(Value, &'a [u8]), Stop>
     requires form { structure (map part_of_member fields.now.items) ≡ kind_at schema.now.kinds id.place }
-    requires known { AllByRecursion (λ (p : Part). p.kind < length schema.now.kinds) (map part_of_member fields.now.items) }
+    requires known { AllByRecursion (λ (p : Part). p.kind < length schema.now.kinds)
+        (map part_of_member fields.now.items) }
     requires deep { 0 < depth }
     ensures { MatchResult result
         (λ r. IsRead schema.now.kinds id.place depth bytes.now (tree r.0) r.1.now)
@@ -134,7 +135,8 @@ fn read_choice<'a>(
     depth: u32,
     bytes: &'a [u8],
 ) -> Result<(Value, &'a [u8]), Stop>
-    requires form { choice tag.place (map branch_of arms.now.items) (option_map part_of_member other.now) ≡ kind_at schema.now.kinds id.place }
+    requires form { choice tag.place (map branch_of arms.now.items) (option_map part_of_member other.now)
+        ≡ kind_at schema.now.kinds id.place }
     requires known { id.place < length schema.now.kinds }
     requires deep { 0 < depth }
     ensures { MatchResult result
@@ -185,7 +187,8 @@ fn read_items<'a>(
 ) -> Result<(Vec<Value>, &'a [u8]), Stop>
     requires { item.place < length schema.now.kinds }
     ensures { MatchResult result
-        (λ r. (length r.0.items ≡ size) × AreRead schema.now.kinds (replicate size (item_part item.place)) depth bytes.now (values r.0.items) r.1.now)
+        (λ r. (length r.0.items ≡ size) × AreRead schema.now.kinds (replicate size (item_part item.place)) depth
+        bytes.now (values r.0.items) r.1.now)
         (λ e. IsRefused (HasNoValues schema.now.kinds (replicate size (item_part item.place)) depth) e.why bytes.now) }
 {
     let mut items = Vec::new(alloc);

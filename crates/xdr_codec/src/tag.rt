@@ -4,7 +4,7 @@ ghost use Rattle.xdr_types.specs.Form.{kind_at};
 ghost use Rattle.xdr_types.specs.Forms.{branch_of, part_of_member};
 ghost use Rattle.xdr_types.specs.Fits.{is_tag_of, part_of};
 ghost use Rattle.xdr_units.specs.Numbers.{num4};
-ghost use Rattle.xdr_codec.specs.Fronts.{HasNoNumber, is_case};
+ghost use Rattle.xdr_codec.specs.Steps.Units.{HasNoNumber, is_case};
 ghost use Rattle.xdr_codec.specs.Refused.{IsRefused};
 
 use crate::fault::Reason;
@@ -21,9 +21,11 @@ pub fn read_tag<'s, 'a>(
 ) -> Result<(i64, &'s Member, &'a [u8]), Stop>
     ensures { MatchResult result
         (λ r. (is_tag_of (kind_at schema.now.kinds tag.place) r.0 ≡ true)
-        × (part_of (map branch_of arms.now.items) (option_map part_of_member other.now) r.0 ≡ Some (part_of_member r.1.now))
+        × (part_of (map branch_of arms.now.items) (option_map part_of_member other.now) r.0
+        ≡ Some (part_of_member r.1.now))
         × (bytes.now ≡ num4 r.0 ++ r.2.now))
-        (λ e. IsRefused (HasNoNumber (is_case schema.now.kinds tag.place (map branch_of arms.now.items) (option_map part_of_member other.now))) e.why bytes.now) }
+        (λ e. IsRefused (HasNoNumber (is_case schema.now.kinds tag.place (map branch_of arms.now.items)
+        (option_map part_of_member other.now))) e.why bytes.now) }
 {
     let (number, rest) = unit(bytes)?;
     match tag_number(schema, tag, number) {

@@ -3,7 +3,7 @@ ghost use Rattle.std.specs.Prelude.{◌≡◌, ◌++◌, ◌<◌, pos, length, M
 ghost use Rattle.xdr_types.specs.Fits.{is_unsigned, are_bytes};
 ghost use Rattle.xdr_units.specs.Numbers.{num4, num8, number_of, padded};
 ghost use Rattle.xdr_codec.specs.Refused.{IsRefused};
-ghost use Rattle.xdr_codec.specs.Fronts.{HasNoNumber, HasNoContent, is_count, are_zeros};
+ghost use Rattle.xdr_codec.specs.Steps.Units.{HasNoNumber, HasNoContent, is_count, are_zeros};
 ghost use Rattle.xdr_codec.specs.declared.fault.Reason.TheVariants.{Truncated, NoMemory};
 
 use crate::fault::Reason;
@@ -40,7 +40,8 @@ impl<T: Drop> From<AllocFailed<T>> for Stop {
 
 /// The unit at the front, as an unsigned number.
 pub fn unit<'a>(bytes: &'a [u8]) -> Result<(u32, &'a [u8]), Stop>
-    ensures { MatchResult result (λ r. bytes.now ≡ num4 (pos r.0) ++ r.1.now) (λ e. (e.why ≡ Truncated) × (length bytes.now < 4)) }
+    ensures { MatchResult result (λ r. bytes.now ≡ num4 (pos r.0) ++ r.1.now)
+        (λ e. (e.why ≡ Truncated) × (length bytes.now < 4)) }
 {
     if bytes.len() < 4 {
         return Err(Stop {
@@ -55,7 +56,8 @@ pub fn unit<'a>(bytes: &'a [u8]) -> Result<(u32, &'a [u8]), Stop>
 
 /// The two units at the front, as an unsigned number.
 pub fn two_units<'a>(bytes: &'a [u8]) -> Result<(u64, &'a [u8]), Stop>
-    ensures { MatchResult result (λ r. bytes.now ≡ num8 (pos r.0) ++ r.1.now) (λ e. (e.why ≡ Truncated) × (length bytes.now < 8)) }
+    ensures { MatchResult result (λ r. bytes.now ≡ num8 (pos r.0) ++ r.1.now)
+        (λ e. (e.why ≡ Truncated) × (length bytes.now < 8)) }
 {
     if bytes.len() < 8 {
         return Err(Stop {
@@ -72,7 +74,8 @@ pub fn two_units<'a>(bytes: &'a [u8]) -> Result<(u64, &'a [u8]), Stop>
 
 /// A unit that is 0 or 1.
 pub fn flag<'a>(bytes: &'a [u8]) -> Result<(bool, &'a [u8]), Stop>
-    ensures { MatchResult result (λ r. bytes.now ≡ num4 (number_of r.0) ++ r.1.now) (λ e. IsRefused (HasNoNumber (is_unsigned 1)) e.why bytes.now) }
+    ensures { MatchResult result (λ r. bytes.now ≡ num4 (number_of r.0) ++ r.1.now)
+        (λ e. IsRefused (HasNoNumber (is_unsigned 1)) e.why bytes.now) }
 {
     let (number, rest) = unit(bytes)?;
     match number {
@@ -87,7 +90,8 @@ pub fn flag<'a>(bytes: &'a [u8]) -> Result<(bool, &'a [u8]), Stop>
 
 /// A length or a count of at most max.
 pub fn count<'a>(bytes: &'a [u8], max: u32) -> Result<(u32, &'a [u8]), Stop>
-    ensures { MatchResult result (λ r. (is_count max (pos r.0) ≡ true) × (bytes.now ≡ num4 (pos r.0) ++ r.1.now)) (λ e. IsRefused (HasNoNumber (is_count max)) e.why bytes.now) }
+    ensures { MatchResult result (λ r. (is_count max (pos r.0) ≡ true) × (bytes.now ≡ num4 (pos r.0) ++ r.1.now))
+        (λ e. IsRefused (HasNoNumber (is_count max)) e.why bytes.now) }
 {
     let (number, rest) = unit(bytes)?;
     if number > max {

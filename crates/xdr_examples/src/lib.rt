@@ -7,3 +7,7 @@ pub mod limits;
 mod made;
 pub mod schemas;
 pub mod values;
+pub mod decoding;
+pub mod encoding;
+pub mod lines;
+pub mod pieces;

@@ -20,21 +20,26 @@ entries_of_node : (h : Head) (es : List Entry) → map (λ (s : Seen). s.entry) 
 entries_of_node h [] = refl
 entries_of_node h (e ∷ es) = ap (λ (z : List Entry). e ∷ z) (entries_of_node h es)
 
-entries_of_layout : (kinds : List Form) (place depth : ℕ) (ps : List Part) (vs : Values) → map (λ (s : Seen). s.entry) (seen_layout kinds place depth ps vs) ≡ layout kinds place depth ps vs
+entries_of_layout : (kinds : List Form) (place depth : ℕ) (ps : List Part) (vs : Values)
+    → map (λ (s : Seen). s.entry) (seen_layout kinds place depth ps vs) ≡ layout kinds place depth ps vs
 entries_of_layout kinds place depth [] vs = refl
 entries_of_layout kinds place depth (p ∷ ps) value.none = refl
 entries_of_layout kinds place depth (p ∷ ps) (value.node h inner rest) =
     let f = kind_at kinds p.kind in
     let here = of_node h (shown place depth p f h) in
     let under = seen_layout kinds (place + length (own f h)) (depth + 1) (parts f h) inner in
-    let after = seen_layout kinds (place + length (own f h) + length (spelling kinds (parts f h) inner)) depth ps rest in
+    let after = seen_layout kinds (place + length (own f h) + length (spelling kinds (parts f h) inner)) depth ps rest
+    in
     let first = entries_of_node h (shown place depth p f h) in
     let second = entries_of_layout kinds (place + length (own f h)) (depth + 1) (parts f h) inner in
-    let third = entries_of_layout kinds (place + length (own f h) + length (spelling kinds (parts f h) inner)) depth ps rest in
+    let third = entries_of_layout kinds (place + length (own f h) + length (spelling kinds (parts f h) inner)) depth ps
+    rest in
     let entry : Seen → Entry = λ s. s.entry in
-    map-append entry here (under ++ after) ∙ ap (λ (z : List Entry). map entry here ++ z) (map-append entry under after) ∙ cc (first, second, third)
+    map-append entry here (under ++ after) ∙ ap (λ (z : List Entry). map entry here ++ z) (map-append entry under after)
+    ∙ cc (first, second, third)
 
-pub entries_of_seen : (kinds : List Form) (kind : ℕ) (v : Tree) → map (λ (s : Seen). s.entry) (seen kinds kind v) ≡ entries kinds kind v
+pub entries_of_seen : (kinds : List Form) (kind : ℕ) (v : Tree)
+    → map (λ (s : Seen). s.entry) (seen kinds kind v) ≡ entries kinds kind v
 entries_of_seen kinds kind v = entries_of_layout kinds 0 1 (item_part kind ∷ []) (from_list (v ∷ []))
 
 module _ (kinds : List Form) (place depth : ℕ) (p : Part) where
@@ -46,11 +51,13 @@ module _ (kinds : List Form) (place depth : ℕ) (p : Part) where
   abbrev saying : List ℕ → List ℕ
   saying text = line_text depth p.name text
 
-  content_line : (f : Form) (bs : List ℕ) → of_parts (value.bytes bs) (shown_bytes place depth p f (length bs)) ≡ saying (content_text (kind_at kinds p.kind) (value.bytes bs))
+  content_line : (f : Form) (bs : List ℕ) → of_parts (value.bytes bs) (shown_bytes place depth p f (length bs))
+      ≡ saying (content_text (kind_at kinds p.kind) (value.bytes bs))
   content_line (form.opaque size) bs = append-nil _
   content_line _ bs = append-nil _
 
-  items_line : (f : Form) (n : ℕ) → f ≡ kind_at kinds p.kind → of_parts (value.items n) (shown_items place depth p f) ≡ saying (node_text kinds f (value.items n))
+  items_line : (f : Form) (n : ℕ) → f ≡ kind_at kinds p.kind
+      → of_parts (value.items n) (shown_items place depth p f) ≡ saying (node_text kinds f (value.items n))
   items_line (form.fixed item size) n e = rw (← e) (append-nil _)
   items_line _ n e = append-nil _
 
@@ -70,21 +77,28 @@ module _ (kinds : List Form) (place depth : ℕ) (p : Part) where
   one_line value.absent = append-nil _
   one_line value.nothing = append-nil _
 
-lines_of_layout : (kinds : List Form) (place depth : ℕ) (ps : List Part) (vs : Values) → flat_map (line kinds) (seen_layout kinds place depth ps vs) ≡ lines kinds depth ps vs
+lines_of_layout : (kinds : List Form) (place depth : ℕ) (ps : List Part) (vs : Values)
+    → flat_map (line kinds) (seen_layout kinds place depth ps vs) ≡ lines kinds depth ps vs
 lines_of_layout kinds place depth [] vs = refl
 lines_of_layout kinds place depth (p ∷ ps) value.none = refl
 lines_of_layout kinds place depth (p ∷ ps) (value.node h inner rest) =
     let f = kind_at kinds p.kind in
     let here = of_node h (shown place depth p f h) in
     let under = seen_layout kinds (place + length (own f h)) (depth + 1) (parts f h) inner in
-    let after = seen_layout kinds (place + length (own f h) + length (spelling kinds (parts f h) inner)) depth ps rest in
+    let after = seen_layout kinds (place + length (own f h) + length (spelling kinds (parts f h) inner)) depth ps rest
+    in
     let first = one_line kinds place depth p h in
     let second = lines_of_layout kinds (place + length (own f h)) (depth + 1) (parts f h) inner in
-    let third = lines_of_layout kinds (place + length (own f h) + length (spelling kinds (parts f h) inner)) depth ps rest in
-    let joined : flat_map (line kinds) (here ++ (under ++ after)) ≡ flat_map (line kinds) here ++ (flat_map (line kinds) under ++ flat_map (line kinds) after) =
-    flat_map-append (line kinds) here (under ++ after) ∙ ap (λ (z : List ℕ). flat_map (line kinds) here ++ z) (flat_map-append (line kinds) under after) in
-    joined ∙ sym (append_assoc (flat_map (line kinds) here) (flat_map (line kinds) under) (flat_map (line kinds) after)) ∙ cc (first, second, third)
+    let third = lines_of_layout kinds (place + length (own f h) + length (spelling kinds (parts f h) inner)) depth ps
+    rest in
+    let joined : flat_map (line kinds) (here ++ (under ++ after))
+    ≡ flat_map (line kinds) here ++ (flat_map (line kinds) under ++ flat_map (line kinds) after) =
+    flat_map-append (line kinds) here (under ++ after)
+    ∙ ap (λ (z : List ℕ). flat_map (line kinds) here ++ z) (flat_map-append (line kinds) under after) in
+    joined ∙ sym (append_assoc (flat_map (line kinds) here) (flat_map (line kinds) under) (flat_map (line kinds) after))
+    ∙ cc (first, second, third)
 
 -- what is printed for a value is its lines
-pub show_is_lines : (kinds : List Form) (kind : ℕ) (v : Tree) → show_text kinds kind v ≡ value_lines kinds 1 (item_part kind) v
+pub show_is_lines : (kinds : List Form) (kind : ℕ) (v : Tree)
+    → show_text kinds kind v ≡ value_lines kinds 1 (item_part kind) v
 show_is_lines kinds kind v = lines_of_layout kinds 0 1 (item_part kind ∷ []) (from_list (v ∷ [])) ∙ append-nil _

@@ -7,4 +7,5 @@ use Rattle.xdr_show.specs.Seen.{Seen, seen}
 
 -- without the heads they are the layout of the value (RFC 4506 section 4)
 abbrev pub AreTheLayout : Type 0
-AreTheLayout = (kinds : List Form) (kind : ℕ) (v : Tree) → map (λ (s : Seen). s.entry) (seen kinds kind v) ≡ entries kinds kind v
+AreTheLayout = (kinds : List Form) (kind : ℕ) (v : Tree)
+    → map (λ (s : Seen). s.entry) (seen kinds kind v) ≡ entries kinds kind v

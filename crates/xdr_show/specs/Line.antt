@@ -92,7 +92,8 @@ part_text kinds f of_length h = count_text h
 part_text kinds f (of_content n) h = content_text f h
 part_text kinds f of_group h = group_text f
 
--- every part has a line but the length of an opaque or a string, whose content follows it (RFC 4506 sections 4.10, 4.11)
+-- every part has a line but the length of an opaque or a string, whose content follows it (RFC 4506 sections 4.10,
+-- 4.11)
 abbrev pub has_line : Role → Head → Bool
 has_line of_length (value.bytes bs) = false
 has_line role h = true
@@ -104,4 +105,5 @@ line_text depth name text = indent depth ++ label name ++ text ++ codes "\n"
 -- the line of a part, where it has one
 abbrev pub line : List Form → Seen → List ℕ
 line kinds s =
-    if has_line s.entry.role s.head then line_text s.entry.depth s.entry.name (part_text kinds (kind_at kinds s.entry.kind) s.entry.role s.head) else []
+    if has_line s.entry.role s.head then line_text s.entry.depth s.entry.name
+    (part_text kinds (kind_at kinds s.entry.kind) s.entry.role s.head) else []

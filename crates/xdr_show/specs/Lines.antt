@@ -30,9 +30,11 @@ node_line kinds depth p h = line_text depth p.name (node_text kinds (kind_at kin
 -- the lines of one value for each named part: a node's own, those inside it, those after it
 abbrev pub lines : List Form → (depth : ℕ) → List Part → Values → List ℕ
 lines kinds depth (p ∷ ps) (value.node h inner rest) =
-    (node_line kinds depth p h ++ lines kinds (depth + 1) (parts (kind_at kinds p.kind) h) inner) ++ lines kinds depth ps rest
+    (node_line kinds depth p h ++ lines kinds (depth + 1) (parts (kind_at kinds p.kind) h) inner)
+    ++ lines kinds depth ps rest
 lines kinds depth _ _ = []
 
 -- the lines of a value that stands for a named part
 abbrev pub value_lines : List Form → (depth : ℕ) → Part → Tree → List ℕ
-value_lines kinds depth p t = node_line kinds depth p t.0 ++ lines kinds (depth + 1) (parts (kind_at kinds p.kind) t.0) t.1
+value_lines kinds depth p t = node_line kinds depth p t.0
+    ++ lines kinds (depth + 1) (parts (kind_at kinds p.kind) t.0) t.1

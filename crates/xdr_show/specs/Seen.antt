@@ -16,12 +16,15 @@ pub record Seen : Type 0 where
 abbrev pub of_node : Head → List Entry → List Seen
 of_node h es = map (λ (e : Entry). let s : Seen = record { entry = e; head = h } in s) es
 
--- the parts of one value for each named part, in the layout's order: a node's own, those inside it, those after it (RFC 4506 section 4)
+-- the parts of one value for each named part, in the layout's order: a node's own, those inside it, those after it (RFC
+-- 4506 section 4)
 abbrev pub seen_layout : List Form → (place depth : ℕ) → List Part → Values → List Seen
 seen_layout kinds place depth (p ∷ ps) (value.node h inner rest) =
     of_node h (shown place depth p (kind_at kinds p.kind) h)
-    ++ (seen_layout kinds (place + length (own (kind_at kinds p.kind) h)) (depth + 1) (parts (kind_at kinds p.kind) h) inner
-    ++ seen_layout kinds (place + length (own (kind_at kinds p.kind) h) + length (spelling kinds (parts (kind_at kinds p.kind) h) inner)) depth ps rest)
+    ++ (seen_layout kinds (place + length (own (kind_at kinds p.kind) h)) (depth + 1) (parts (kind_at kinds p.kind) h)
+    inner
+    ++ seen_layout kinds (place + length (own (kind_at kinds p.kind) h) + length
+    (spelling kinds (parts (kind_at kinds p.kind) h) inner)) depth ps rest)
 seen_layout kinds place depth _ _ = []
 
 -- the parts of a value of the kind, which itself has depth 1 and no name

@@ -1,5 +1,5 @@
-// Content as text.
-ghost use Rattle.std.specs.Prelude.{◌≡◌, ◌++◌, [], ◌∷◌, OnOk, codes, flat_map};
+//! Content as text.
+ghost use Rattle.std.specs.Prelude.{◌≡◌, ◌≤◌, ◌++◌, [], ◌∷◌, OnOk, codes, flat_map, length, take};
 ghost use Rattle.hex.specs.Hex.{encode_lower};
 ghost use Rattle.xdr_show.specs.Line.{escaped, is_plain, quoted};
 
@@ -17,13 +17,35 @@ pub fn push_quoted(out: &mut Vec<u8>, bytes: &[u8]) -> Result<(), AllocError>
     out.extend_from_slice(b"\"")
 }
 
+// Plain bytes that follow one another go in at once.
 fn push_escaped_bytes(out: &mut Vec<u8>, bytes: &[u8]) -> Result<(), AllocError>
     ensures { OnOk result (out.new.items ≡ out.old.items ++ flat_map escaped bytes.now) }
 {
-    for byte in bytes {
-        push_escaped(out, *byte)?;
+    let mut rest = bytes;
+    loop {
+        let (plain, others) = rest.split_at(plain_count(rest));
+        out.extend_from_slice(plain)?;
+        match others {
+            [] => return Ok(()),
+            [byte, behind @ ..] => {
+                push_escaped(out, *byte)?;
+                rest = behind;
+            }
+        }
     }
-    Ok(())
+}
+
+// How many bytes at the front stand for themselves.
+fn plain_count(bytes: &[u8]) -> usize
+    ensures within { result ≤ length bytes.now }
+    ensures plain { flat_map escaped (take result bytes.now) ≡ take result bytes.now }
+{
+    for (i, byte) in bytes.iter().enumerate() {
+        if !is_plain(*byte) {
+            return i;
+        }
+    }
+    bytes.len()
 }
 
 // A byte of a text.

@@ -1,4 +1,4 @@
-// Laws of the definitions, each the contract of a function that does nothing.
+//! Laws of the definitions, each the contract of a function that does nothing.
 ghost use Rattle.xdr_show.specs.Laws.{AreTheLayout};
 
 /// The parts that `show` prints lines for are those of the value's layout, in its order, each once.

@@ -1,4 +1,4 @@
-// What stands in a line before and around what its part says.
+//! What stands in a line before and around what its part says.
 ghost use Rattle.std.specs.Prelude.{◌≡◌, ◌≤◌, ◌++◌, OnOk, true};
 ghost use Rattle.xdr_types.specs.Forms.{form_of};
 ghost use Rattle.xdr_types.specs.Fits.{is_legal};
@@ -21,7 +21,8 @@ pub fn push_line(
     value: &Value,
 ) -> Result<(), AllocError>
     requires { is_legal schema.now.kinds (form_of kind.now) (tree value.now).0 ≡ true }
-    ensures { OnOk result (out.new.items ≡ out.old.items ++ line_text depth name.now (node_text schema.now.kinds (form_of kind.now) (tree value.now).0)) }
+    ensures { OnOk result (out.new.items ≡ out.old.items
+        ++ line_text depth name.now (node_text schema.now.kinds (form_of kind.now) (tree value.now).0)) }
 {
     push_indent(out, depth)?;
     push_label(out, name)?;
@@ -58,7 +59,8 @@ fn push_text(
     value: &Value,
 ) -> Result<(), AllocError>
     requires { is_legal schema.now.kinds (form_of kind.now) (tree value.now).0 ≡ true }
-    ensures { OnOk result (out.new.items ≡ out.old.items ++ node_text schema.now.kinds (form_of kind.now) (tree value.now).0) }
+    ensures { OnOk result (out.new.items ≡ out.old.items
+        ++ node_text schema.now.kinds (form_of kind.now) (tree value.now).0) }
 {
     match (kind, value) {
         (_, Value::Int(n)) => push_signed(out, i64::from(*n)),

@@ -1,4 +1,4 @@
-// Numbers as texts.
+//! Numbers as texts.
 ghost use Rattle.std.specs.Prelude.{◌≡◌, ◌++◌, IsTrue, OnOk, codes, decimal, map, true};
 ghost use Rattle.std.specs.Fmt.{signed_decimal};
 ghost use Rattle.xdr_types.specs.Form.{kind_at};
@@ -79,7 +79,8 @@ pub fn push_case(
     number: i64,
 ) -> Result<(), AllocError>
     requires { is_tag_of (kind_at schema.now.kinds tag.place) number ≡ true }
-    ensures { OnOk result (out.new.items ≡ out.old.items ++ (codes "case " ++ tag_text (kind_at schema.now.kinds tag.place) number)) }
+    ensures { OnOk result (out.new.items ≡ out.old.items
+        ++ (codes "case " ++ tag_text (kind_at schema.now.kinds tag.place) number)) }
 {
     out.extend_from_slice(b"case ")?;
     push_tag(out, schema.kind(tag), number)

@@ -1,4 +1,4 @@
-// A value as lines.
+//! A value as lines.
 ghost use Rattle.std.specs.Prelude.{◌≡◌, ◌≤◌, ◌+◌, ◌++◌, [], length, map, replicate, IfOk, OnOk, true};
 ghost use Rattle.xdr_types.specs.Forms.{form_of, part_of_member};
 ghost use Rattle.xdr_types.specs.Fits.{fits, fit, item_part, parts};
@@ -13,12 +13,13 @@ use std::alloc::{AllocError, Global};
 use xdr_types::{Kind, KindId, Limits, Member, Schema, Value, part_under};
 
 /// The lines of a value (RFC 4506 section 4): one for each part of its layout in order, a node before those inside it,
-/// two spaces further in. The value fits the kind within the limits, as `fits` tells. An error comes only where memory
-/// was refused.
+/// two spaces further in. The value fits the kind within the limits, as `fits` tells. An error is want of memory.
 ///
 /// A line has the part's name, where it has one, and then: `struct`, `array of` and `list of` with a count, `void`,
-/// `present` or `absent`; a number in decimal, `TRUE` or `FALSE`, the name of an enumeration's member before its number,
-/// a union's discriminant after `case`; a string in quotation marks, an opaque in hexadecimal after `0x`.
+/// `present` or `absent`; a number in decimal, `TRUE` or `FALSE`, the name of an enumeration's member before its
+/// number, a union's discriminant after `case`; a string in quotation marks, an opaque in hexadecimal after `0x`.
+///
+/// Each level of the value takes stack: up to 0.5 MiB at depth 4096 on x86-64.
 pub fn show(
     alloc: Global,
     schema: &Schema,
@@ -48,7 +49,8 @@ fn push_value(
 ) -> Result<(), AllocError>
     requires fits { fits schema.now.kinds id.place (tree value.now) ≡ true }
     requires deep { depth + depth_of (tree value.now).1 ≤ 4096 }
-    ensures { OnOk result (out.new.items ≡ out.old.items ++ value_lines schema.now.kinds depth (record { name = name.now; kind = id.place }) (tree value.now)) }
+    ensures { OnOk result (out.new.items ≡ out.old.items
+        ++ value_lines schema.now.kinds depth (record { name = name.now; kind = id.place }) (tree value.now)) }
 {
     let kind = schema.kind(id);
     push_line(out, schema, name, kind, depth, value)?;
@@ -66,7 +68,8 @@ fn push_inner(
 ) -> Result<(), AllocError>
     requires fits { fit schema.now.kinds (parts (form_of kind.now) (tree value.now).0) (tree value.now).1 ≡ true }
     requires deep { depth + depth_of (tree value.now).1 ≤ 4097 }
-    ensures { OnOk result (out.new.items ≡ out.old.items ++ lines schema.now.kinds depth (parts (form_of kind.now) (tree value.now).0) (tree value.now).1) }
+    ensures { OnOk result (out.new.items ≡ out.old.items
+        ++ lines schema.now.kinds depth (parts (form_of kind.now) (tree value.now).0) (tree value.now).1) }
 {
     match (kind, value) {
         (Kind::Fixed { item, size: _ }, Value::List(items)) => push_items(
@@ -119,9 +122,12 @@ fn push_items(
     depth: u32,
     items: &Vec<Value>,
 ) -> Result<(), AllocError>
-    requires fits { fit schema.now.kinds (replicate (length items.now.items) (item_part id.place)) (values items.now.items) ≡ true }
+    requires fits { fit schema.now.kinds (replicate (length items.now.items) (item_part id.place))
+        (values items.now.items) ≡ true }
     requires deep { depth + depth_of (values items.now.items) ≤ 4097 }
-    ensures { OnOk result (out.new.items ≡ out.old.items ++ lines schema.now.kinds depth (replicate (length items.now.items) (item_part id.place)) (values items.now.items)) }
+    ensures { OnOk result (out.new.items ≡ out.old.items
+        ++ lines schema.now.kinds depth (replicate (length items.now.items) (item_part id.place))
+        (values items.now.items)) }
 {
     for value in items {
         push_value(out, schema, &[], id, depth, value)?;
@@ -140,7 +146,8 @@ fn push_fields(
 ) -> Result<(), AllocError>
     requires fits { fit schema.now.kinds (map part_of_member fields.now.items) (values parts.now.items) ≡ true }
     requires deep { depth + depth_of (values parts.now.items) ≤ 4097 }
-    ensures { OnOk result (out.new.items ≡ out.old.items ++ lines schema.now.kinds depth (map part_of_member fields.now.items) (values parts.now.items)) }
+    ensures { OnOk result (out.new.items ≡ out.old.items
+        ++ lines schema.now.kinds depth (map part_of_member fields.now.items) (values parts.now.items)) }
 {
     for (i, value) in parts.iter().enumerate() {
         let field = &fields[i];

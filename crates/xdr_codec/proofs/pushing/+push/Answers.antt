@@ -16,19 +16,27 @@ pub push_items-push_value-requires : goal.push_items-push_value-requires
 push_items-push_value-requires g t c κs within =
     let vs : List Value = c.deref-value-items.result.now in
     let fit : fits c.args.schema.now.kinds c.args.id.place (tree c.value-item.result) ≡ true =
-    (first-fits c.args.schema.now.kinds (item_part c.args.id.place) _ _ (tree c.value-item.result) _ _ (items-at (item_part c.args.id.place) vs c.loop-value.value-index c.value-item.result c.loop-value-test.true) (values-at vs c.loop-value.value-index c.value-item.result c.loop-value-test.true c.value-item.is) c.loop-value.invariant.fit).0 in
+    (first-fits c.args.schema.now.kinds (item_part c.args.id.place) _ _ (tree c.value-item.result) _ _
+    (items-at (item_part c.args.id.place) vs c.loop-value.value-index c.value-item.result c.loop-value-test.true)
+    (values-at vs c.loop-value.value-index c.value-item.result c.loop-value-test.true c.value-item.is)
+    c.loop-value.invariant.fit).0 in
     search (rules, the_lemmas)
 
 pub push_items-loop-value-preserved : goal.push_items-loop-value-preserved
 push_items-loop-value-preserved g t c =
     let vs : List Value = c.deref-value-items.result.now in
-    let more = items-at (item_part c.args.id.place) vs c.loop-value.value-index c.value-item.result c.loop-value-test.true in
+    let more = items-at (item_part c.args.id.place) vs c.loop-value.value-index c.value-item.result
+    c.loop-value-test.true in
     let next = values-at vs c.loop-value.value-index c.value-item.result c.loop-value-test.true c.value-item.is in
     record {
-      fit = (first-fits c.args.schema.now.kinds (item_part c.args.id.place) _ _ (tree c.value-item.result) _ _ more next c.loop-value.invariant.fit).1;
+      fit = (first-fits c.args.schema.now.kinds (item_part c.args.id.place) _ _ (tree c.value-item.result) _ _ more next
+          c.loop-value.invariant.fit).1;
       put = c.loop-value.invariant.put ++ bytes_of c.args.schema.now.kinds c.args.id.place (tree c.value-item.result);
-      sent = g.met.P.Put.trans c.args.out.now c.loop-value.out c.push_value.new.out c.loop-value.invariant.put (bytes_of c.args.schema.now.kinds c.args.id.place (tree c.value-item.result)) c.loop-value.invariant.sent c.in_ok-push_value.ensures;
-      told = told-step c.args.schema.now.kinds (item_part c.args.id.place) _ _ (tree c.value-item.result) _ _ c.loop-value.invariant.put _ _ more next c.loop-value.invariant.told refl;
+      sent = g.met.P.Put.trans c.args.out.now c.loop-value.out c.push_value.new.out c.loop-value.invariant.put
+          (bytes_of c.args.schema.now.kinds c.args.id.place (tree c.value-item.result)) c.loop-value.invariant.sent
+          c.in_ok-push_value.ensures;
+      told = told-step c.args.schema.now.kinds (item_part c.args.id.place) _ _ (tree c.value-item.result) _ _
+          c.loop-value.invariant.put _ _ more next c.loop-value.invariant.told refl;
     }
 
 pub push_parts-push_value-requires : goal.push_parts-push_value-requires
@@ -36,11 +44,17 @@ push_parts-push_value-requires g t c κs within =
     let fields = c.args.fields.now in
     let inner = c.args.parts.now in
     let m = c.index.result.now in
-    let same : length fields.items ≡ length inner.items = fit-count c.args.schema.now.kinds fields.items inner.items c.requires in
-    let more = fields-at fields.items c.loop-i.i m (omega (arith, same, c.loop-i-test.true, inner.ok.0, c.deref-value-items.ensures.len)) c.index.ensures in
-    let next = values-at inner.items c.loop-i.i c.value-item.result (omega (arith, same, c.loop-i-test.true, inner.ok.0, c.deref-value-items.ensures.len)) (c.value-item.is ∙ ap (λ (z : List Value). get_or z c.loop-i.i c.value-item.result) c.deref-value-items.ensures.value) in
+    let same : length fields.items ≡ length inner.items = fit-count c.args.schema.now.kinds fields.items inner.items
+    c.requires in
+    let more = fields-at fields.items c.loop-i.i m
+    (omega (arith, same, c.loop-i-test.true, inner.ok.0, c.deref-value-items.ensures.len)) c.index.ensures in
+    let next = values-at inner.items c.loop-i.i c.value-item.result
+    (omega (arith, same, c.loop-i-test.true, inner.ok.0, c.deref-value-items.ensures.len))
+    (c.value-item.is ∙ ap (λ (z : List Value). get_or z c.loop-i.i c.value-item.result)
+    c.deref-value-items.ensures.value) in
     let fit : fits c.args.schema.now.kinds m.kind.place (tree c.value-item.result) ≡ true =
-    (first-fits c.args.schema.now.kinds (part_of_member m) _ _ (tree c.value-item.result) _ _ more next c.loop-i.invariant.fit).0 in
+    (first-fits c.args.schema.now.kinds (part_of_member m) _ _ (tree c.value-item.result) _ _ more next
+    c.loop-i.invariant.fit).0 in
     search (rules, the_lemmas)
 
 pub push_parts-loop-i-preserved : goal.push_parts-loop-i-preserved
@@ -48,14 +62,23 @@ push_parts-loop-i-preserved g t c =
     let fields = c.args.fields.now in
     let inner = c.args.parts.now in
     let m = c.index.result.now in
-    let same : length fields.items ≡ length inner.items = fit-count c.args.schema.now.kinds fields.items inner.items c.requires in
-    let more = fields-at fields.items c.loop-i.i m (omega (arith, same, c.loop-i-test.true, inner.ok.0, c.deref-value-items.ensures.len)) c.index.ensures in
-    let next = values-at inner.items c.loop-i.i c.value-item.result (omega (arith, same, c.loop-i-test.true, inner.ok.0, c.deref-value-items.ensures.len)) (c.value-item.is ∙ ap (λ (z : List Value). get_or z c.loop-i.i c.value-item.result) c.deref-value-items.ensures.value) in
+    let same : length fields.items ≡ length inner.items = fit-count c.args.schema.now.kinds fields.items inner.items
+    c.requires in
+    let more = fields-at fields.items c.loop-i.i m
+    (omega (arith, same, c.loop-i-test.true, inner.ok.0, c.deref-value-items.ensures.len)) c.index.ensures in
+    let next = values-at inner.items c.loop-i.i c.value-item.result
+    (omega (arith, same, c.loop-i-test.true, inner.ok.0, c.deref-value-items.ensures.len))
+    (c.value-item.is ∙ ap (λ (z : List Value). get_or z c.loop-i.i c.value-item.result)
+    c.deref-value-items.ensures.value) in
     record {
-      fit = (first-fits c.args.schema.now.kinds (part_of_member m) _ _ (tree c.value-item.result) _ _ more next c.loop-i.invariant.fit).1;
+      fit = (first-fits c.args.schema.now.kinds (part_of_member m) _ _ (tree c.value-item.result) _ _ more next
+          c.loop-i.invariant.fit).1;
       put = c.loop-i.invariant.put ++ bytes_of c.args.schema.now.kinds m.kind.place (tree c.value-item.result);
-      sent = g.met.P.Put.trans c.args.out.now c.loop-i.out c.push_value.new.out c.loop-i.invariant.put (bytes_of c.args.schema.now.kinds m.kind.place (tree c.value-item.result)) c.loop-i.invariant.sent c.in_ok-push_value.ensures;
-      told = told-step c.args.schema.now.kinds (part_of_member m) _ _ (tree c.value-item.result) _ _ c.loop-i.invariant.put _ _ more next c.loop-i.invariant.told refl;
+      sent = g.met.P.Put.trans c.args.out.now c.loop-i.out c.push_value.new.out c.loop-i.invariant.put
+          (bytes_of c.args.schema.now.kinds m.kind.place (tree c.value-item.result)) c.loop-i.invariant.sent
+          c.in_ok-push_value.ensures;
+      told = told-step c.args.schema.now.kinds (part_of_member m) _ _ (tree c.value-item.result) _ _
+          c.loop-i.invariant.put _ _ more next c.loop-i.invariant.told refl;
     }
 
 pub push_inner-returns-in-Fixed-List : goal.push_inner-returns-in-Fixed-List
@@ -70,8 +93,13 @@ push_inner-push_value-requires g t c κs within =
     let part = c.in-Choice-Choice.part in
     let f = form_of c.args.kind.now in
     let at_tree : fit S (parts f (tree c.args.value.now).0) (tree c.args.value.now).1 ≡ true = c.requires in
-    let whole = subst (λ (u : Tree). fit S (parts f u.0) u.1 ≡ true) (ap tree c.in-Choice-Choice.is-1 ∙ tree-Choice c.in-Choice-Choice.tag part) at_tree in
-    let chosen = subst (λ (g : Form). fit S (parts g (tag c.in-Choice-Choice.tag)) (from_list (tree part.value ∷ [])) ≡ true) (ap form_of c.in-Choice-Choice.is-0) whole in
-    let ours : part_of (map branch_of c.in-Choice-Choice.arms.items) (option_map part_of_member c.in-Choice-Choice.other) c.in-Choice-Choice.tag ≡ Some (part_of_member c.in-Some.member.now) = grind (arith, to_z-of_z, c.in-Some.ensures) in
-    let fit : fits S c.in-Some.member.now.kind.place (tree part.value) ≡ true = chosen-fits S _ (part_of_member c.in-Some.member.now) (tree part.value) ours chosen in
+    let whole = subst (λ (u : Tree). fit S (parts f u.0) u.1 ≡ true)
+    (ap tree c.in-Choice-Choice.is-1 ∙ tree-Choice c.in-Choice-Choice.tag part) at_tree in
+    let chosen = subst (λ (g : Form). fit S (parts g (tag c.in-Choice-Choice.tag)) (from_list (tree part.value ∷ []))
+    ≡ true) (ap form_of c.in-Choice-Choice.is-0) whole in
+    let ours : part_of (map branch_of c.in-Choice-Choice.arms.items)
+    (option_map part_of_member c.in-Choice-Choice.other) c.in-Choice-Choice.tag
+    ≡ Some (part_of_member c.in-Some.member.now) = grind (arith, to_z-of_z, c.in-Some.ensures) in
+    let fit : fits S c.in-Some.member.now.kind.place (tree part.value)
+    ≡ true = chosen-fits S _ (part_of_member c.in-Some.member.now) (tree part.value) ours chosen in
     search (rules, the_lemmas)

@@ -2,7 +2,7 @@ use Rattle.std.proofs.Common.{◌≡◌, ◌+◌, ◌*◌, length, map, replicat
 use Rattle.xdr_types.specs.Forms.{part_of_member}
 use Rattle.xdr_types.specs.Fits.{item_part}
 use Rattle.xdr_types.specs.View.{values}
-use Rattle.xdr_codec.specs.Reading.{AreRead}
+use Rattle.xdr_codec.specs.Steps.Reading.{AreRead}
 use Rattle.xdr_codec.proofs.reading.+read.Given as goal
 
 abbrev pub decreases-read_value : goal.decreases-read_value
@@ -32,11 +32,13 @@ decreases-read_fields l = 3 * l.depth + 3
 abbrev pub invariant-read_items-loop-turn : goal.invariant-read_items-loop-turn
 invariant-read_items-loop-turn l = record {
   many : length l.items.items ≡ l._turn;
-  read : AreRead l.schema.kinds (replicate (length l.items.items) (item_part l.item.place)) l.depth l.bytes (values l.items.items) l.rest;
+  read : AreRead l.schema.kinds (replicate (length l.items.items) (item_part l.item.place)) l.depth l.bytes
+      (values l.items.items) l.rest;
 }
 
 abbrev pub invariant-read_fields-loop-field : goal.invariant-read_fields-loop-field
 invariant-read_fields-loop-field l = record {
   many : length l.parts.items ≡ l.field-index;
-  read : AreRead l.schema.kinds (map part_of_member (take l.field-index l.field-items)) l.depth l.bytes (values l.parts.items) l.rest;
+  read : AreRead l.schema.kinds (map part_of_member (take l.field-index l.field-items)) l.depth l.bytes
+      (values l.parts.items) l.rest;
 }

@@ -3,4 +3,5 @@ use Rattle.hex.specs.Hex.{encode_lower}
 use Rattle.xdr_show.proofs.content.push_pairs.Given as goal
 
 abbrev pub invariant-loop-byte : goal.invariant-loop-byte
-invariant-loop-byte l = l.out.items ++ encode_lower (drop l.byte-index l.bytes) ≡ l.initial.out.items ++ encode_lower l.bytes
+invariant-loop-byte l = l.out.items ++ encode_lower (drop l.byte-index l.bytes)
+    ≡ l.initial.out.items ++ encode_lower l.bytes

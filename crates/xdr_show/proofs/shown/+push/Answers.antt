@@ -19,8 +19,10 @@ push_items-push_value-requires t c =
     let vs : List Value = c.deref-value-items.result.now in
     let more = items-at item vs c.loop-value.value-index c.value-item.result c.loop-value-test.true in
     let next = values-at vs c.loop-value.value-index c.value-item.result c.loop-value-test.true c.value-item.is in
-    let fit : fits S c.args.id.place (tree c.value-item.result) ≡ true = (first-fits S item _ _ (tree c.value-item.result) _ _ more next c.loop-value.invariant.fit).0 in
-    let deep : c.args.depth + depth_of (tree c.value-item.result).1 ≤ 4096 = (deep-step 4096 c.args.depth (tree c.value-item.result) _ _ next c.loop-value.invariant.deep).0 in
+    let fit : fits S c.args.id.place (tree c.value-item.result)
+    ≡ true = (first-fits S item _ _ (tree c.value-item.result) _ _ more next c.loop-value.invariant.fit).0 in
+    let deep : c.args.depth + depth_of (tree c.value-item.result).1 ≤ 4096 =
+    (deep-step 4096 c.args.depth (tree c.value-item.result) _ _ next c.loop-value.invariant.deep).0 in
     search (rules, the_lemmas)
 
 pub push_items-loop-value-preserved : goal.push_items-loop-value-preserved
@@ -33,7 +35,8 @@ push_items-loop-value-preserved t c =
     record {
       fit = (first-fits S item _ _ (tree c.value-item.result) _ _ more next c.loop-value.invariant.fit).1;
       deep = (deep-step 4096 c.args.depth (tree c.value-item.result) _ _ next c.loop-value.invariant.deep).1;
-      told = lines-step S c.args.depth item _ _ (tree c.value-item.result) _ _ c.loop-value.out.items c.push_value.new.out.items _ more next c.loop-value.invariant.told c.in_ok-push_value.ensures;
+      told = lines-step S c.args.depth item _ _ (tree c.value-item.result) _ _ c.loop-value.out.items
+          c.push_value.new.out.items _ more next c.loop-value.invariant.told c.in_ok-push_value.ensures;
     }
 
 pub push_fields-push_value-requires : goal.push_fields-push_value-requires
@@ -43,10 +46,17 @@ push_fields-push_value-requires t c =
     let inner = c.args.parts.now in
     let m = c.index-field.result.now in
     let same : length fields.items ≡ length inner.items = fit-count S fields.items inner.items c.requires.fits in
-    let more = fields-at fields.items c.loop-i.i m (omega (arith, same, c.loop-i-test.true, inner.ok.0, c.deref-value-items.ensures.len)) c.index-field.ensures in
-    let next = values-at inner.items c.loop-i.i c.value-item.result (omega (arith, same, c.loop-i-test.true, inner.ok.0, c.deref-value-items.ensures.len)) (c.value-item.is ∙ ap (λ (z : List Value). get_or z c.loop-i.i c.value-item.result) c.deref-value-items.ensures.value) in
-    let fit : fits S m.kind.place (tree c.value-item.result) ≡ true = (first-fits S (part_of_member m) _ _ (tree c.value-item.result) _ _ more next c.loop-i.invariant.fit).0 in
-    let deep : c.args.depth + depth_of (tree c.value-item.result).1 ≤ 4096 = (deep-step 4096 c.args.depth (tree c.value-item.result) _ _ next c.loop-i.invariant.deep).0 in
+    let more = fields-at fields.items c.loop-i.i m
+    (omega (arith, same, c.loop-i-test.true, inner.ok.0, c.deref-value-items.ensures.len)) c.index-field.ensures in
+    let next = values-at inner.items c.loop-i.i c.value-item.result
+    (omega (arith, same, c.loop-i-test.true, inner.ok.0, c.deref-value-items.ensures.len))
+    (c.value-item.is ∙ ap (λ (z : List Value). get_or z c.loop-i.i c.value-item.result)
+    c.deref-value-items.ensures.value) in
+    let fit : fits S m.kind.place (tree c.value-item.result)
+    ≡ true = (first-fits S (part_of_member m) _ _ (tree c.value-item.result) _ _ more next c.loop-i.invariant.fit).0
+    in
+    let deep : c.args.depth + depth_of (tree c.value-item.result).1 ≤ 4096 =
+    (deep-step 4096 c.args.depth (tree c.value-item.result) _ _ next c.loop-i.invariant.deep).0 in
     search (rules, the_lemmas)
 
 pub push_fields-loop-i-preserved : goal.push_fields-loop-i-preserved
@@ -56,13 +66,18 @@ push_fields-loop-i-preserved t c =
     let inner = c.args.parts.now in
     let m = c.index-field.result.now in
     let same : length fields.items ≡ length inner.items = fit-count S fields.items inner.items c.requires.fits in
-    let more = fields-at fields.items c.loop-i.i m (omega (arith, same, c.loop-i-test.true, inner.ok.0, c.deref-value-items.ensures.len)) c.index-field.ensures in
-    let next = values-at inner.items c.loop-i.i c.value-item.result (omega (arith, same, c.loop-i-test.true, inner.ok.0, c.deref-value-items.ensures.len)) (c.value-item.is ∙ ap (λ (z : List Value). get_or z c.loop-i.i c.value-item.result) c.deref-value-items.ensures.value) in
+    let more = fields-at fields.items c.loop-i.i m
+    (omega (arith, same, c.loop-i-test.true, inner.ok.0, c.deref-value-items.ensures.len)) c.index-field.ensures in
+    let next = values-at inner.items c.loop-i.i c.value-item.result
+    (omega (arith, same, c.loop-i-test.true, inner.ok.0, c.deref-value-items.ensures.len))
+    (c.value-item.is ∙ ap (λ (z : List Value). get_or z c.loop-i.i c.value-item.result)
+    c.deref-value-items.ensures.value) in
     let named = c.as_bytes.ensures.value in
     record {
       fit = (first-fits S (part_of_member m) _ _ (tree c.value-item.result) _ _ more next c.loop-i.invariant.fit).1;
       deep = (deep-step 4096 c.args.depth (tree c.value-item.result) _ _ next c.loop-i.invariant.deep).1;
-      told = lines-step S c.args.depth (part_of_member m) _ _ (tree c.value-item.result) _ _ c.loop-i.out.items c.push_value.new.out.items _ more next c.loop-i.invariant.told (rw (← named) c.in_ok-push_value.ensures);
+      told = lines-step S c.args.depth (part_of_member m) _ _ (tree c.value-item.result) _ _ c.loop-i.out.items
+          c.push_value.new.out.items _ more next c.loop-i.invariant.told (rw (← named) c.in_ok-push_value.ensures);
     }
 
 pub push_inner-returns-in-Fixed-List : goal.push_inner-returns-in-Fixed-List
@@ -78,9 +93,14 @@ push_inner-push_value-requires t c =
     let f = form_of c.args.kind.now in
     let view = ap tree c.in-Choice-Choice.is-1 ∙ tree-Choice c.in-Choice-Choice.tag part in
     let whole = subst (λ (u : Tree). fit S (parts f u.0) u.1 ≡ true) view c.requires.fits in
-    let chosen = subst (λ (g : Form). fit S (parts g (tag c.in-Choice-Choice.tag)) (from_list (tree part.value ∷ [])) ≡ true) (ap form_of c.in-Choice-Choice.is-0) whole in
-    let ours : part_of (map branch_of c.in-Choice-Choice.arms.items) (option_map part_of_member c.in-Choice-Choice.other) c.in-Choice-Choice.tag ≡ Some (part_of_member c.in-Some.member.now) = grind (arith, to_z-of_z, c.in-Some.ensures) in
-    let fit : fits S c.in-Some.member.now.kind.place (tree part.value) ≡ true = chosen-fits S _ (part_of_member c.in-Some.member.now) (tree part.value) ours chosen in
+    let chosen = subst (λ (g : Form). fit S (parts g (tag c.in-Choice-Choice.tag)) (from_list (tree part.value ∷ []))
+    ≡ true) (ap form_of c.in-Choice-Choice.is-0) whole in
+    let ours : part_of (map branch_of c.in-Choice-Choice.arms.items)
+    (option_map part_of_member c.in-Choice-Choice.other) c.in-Choice-Choice.tag
+    ≡ Some (part_of_member c.in-Some.member.now) = grind (arith, to_z-of_z, c.in-Some.ensures) in
+    let fit : fits S c.in-Some.member.now.kind.place (tree part.value)
+    ≡ true = chosen-fits S _ (part_of_member c.in-Some.member.now) (tree part.value) ours chosen in
     let below = subst (λ (u : Tree). c.args.depth + depth_of u.1 ≤ 4097) view c.requires.deep in
-    let deep : c.args.depth + depth_of (tree part.value).1 ≤ 4096 = (deep-step 4096 c.args.depth (tree part.value) none _ refl below).0 in
+    let deep : c.args.depth + depth_of (tree part.value).1 ≤ 4096 =
+    (deep-step 4096 c.args.depth (tree part.value) none _ refl below).0 in
     search (rules, the_lemmas)

@@ -1,5 +1,5 @@
 use Rattle.std.proofs.Common.{arith}
-use Rattle.xdr_codec.specs.Gathered.{gathering}
+use Rattle.xdr_codec.specs.Steps.Gathered.{gathering}
 use Rattle.xdr_codec.proofs.Gathering.{pass_cut}
 use Rattle.xdr_codec.proofs.gather.Gather.pass.Goals as goal
 
@@ -7,6 +7,8 @@ pub returns-in-Err-clause-put : goal.returns-in-Err-clause-put
 returns-in-Err-clause-put g c =
     let d = c.args.self.now in
     let a = gathering (g.W.Sink.taken d.sink.now) (g.W.Sink.failures d.sink.now) d.array d.filled d.written in
-    let b = gathering (g.W.Sink.taken c.write_whole.new.sink) (g.W.Sink.failures c.write_whole.new.sink) d.array d.filled c.saturating_add-self-in-Err.result in
-    pass_cut a b c.args.bytes.now c.in-Err.cut.written c.requires c.in-Err.ensures.cut.0 c.in-Err.ensures.cut.1 c.in-Err.ensures.one_failed
+    let b = gathering (g.W.Sink.taken c.write_whole.new.sink) (g.W.Sink.failures c.write_whole.new.sink) d.array
+    d.filled c.saturating_add-self-in-Err.result in
+    pass_cut a b c.args.bytes.now c.in-Err.cut.written c.requires c.in-Err.ensures.cut.0 c.in-Err.ensures.cut.1
+    c.in-Err.ensures.one_failed
     (λ small. omega (arith, small, c.count-in-Err.ensures (omega (arith, small)), c.saturating_add-self-in-Err.ensures))

@@ -3,7 +3,8 @@ use Rattle.std.specs.Prelude.{◌≡◌, ℕ, ◌+◌, ◌<◌, ◌^◌, List, �
 use Rattle.std.specs.Io.KnownBytes.{Appends}
 use Rattle.xdr_io.specs.Told.{Counts}
 
--- where a gathering is: what its sink tells of bytes and of failures, the array and how many bytes of it wait, and how many went out
+-- where a gathering is: what its sink tells of bytes and of failures, the array and how many bytes of it wait, and how
+-- many went out
 pub record Gathering : Type 0 where
   pub taken : Option (List ℕ)
   pub failures : Option ℕ
@@ -24,7 +25,8 @@ pub record IsCut (t : Option (List ℕ)) (g : Gathering) (done : List ℕ) : Typ
 
 -- the gathering goes on by these bytes, and no write failed
 pub record Gathers (a b : Gathering) (x : List ℕ) : Type 0 where
-  pub holds : (t : Option (List ℕ)) (done : List ℕ) → length (done ++ x) < 2 ^ 32 → Holds t a done → Holds t b (done ++ x)
+  pub holds : (t : Option (List ℕ)) (done : List ℕ) → length (done ++ x) < 2 ^ 32 → Holds t a done
+      → Holds t b (done ++ x)
   pub none_failed : Counts 0 a.failures b.failures
 
 -- a write failed before these bytes were out
@@ -33,4 +35,5 @@ pub record Breaks (a b : Gathering) (x : List ℕ) : Type 0 where
   pub one_failed : Counts 1 a.failures b.failures
 
 abbrev pub gathering : Option (List ℕ) → Option ℕ → List ℕ → (filled written : ℕ) → Gathering
-gathering taken failures array filled written = record { taken = taken; failures = failures; array = array; filled = filled; written = written }
+gathering taken failures array filled written = record
+    { taken = taken; failures = failures; array = array; filled = filled; written = written }

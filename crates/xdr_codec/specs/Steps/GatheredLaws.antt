@@ -3,10 +3,13 @@ use Rattle.std.proofs.Common.{ℕ, List, [], ◌++◌, length, refl, sym, ap, su
 use Rattle.std.proofs.lemmas.List.{append-nil, length-append, take-append-le}
 use Rattle.std.specs.Io.KnownBytes.{Appends}
 use Rattle.xdr_io.proofs.Chained.{Counts-trans, Counts-none}
-use Rattle.xdr_codec.specs.Gathered.{Gathering, Holds, IsCut, Gathers, Breaks}
+use Rattle.xdr_codec.specs.Steps.Gathered.{Gathering, Holds, IsCut, Gathers, Breaks}
 
 pub gathers-none : (a : Gathering) → Gathers a a []
-gathers-none a = record { holds = λ t done small h. subst (λ (z : List ℕ). Holds t a z) (sym (append-nil done)) h; none_failed = Counts-none a.failures }
+gathers-none a = record {
+  holds = λ t done small h. subst (λ (z : List ℕ). Holds t a z) (sym (append-nil done)) h;
+  none_failed = Counts-none a.failures;
+}
 
 pub gathers-trans : (a b c : Gathering) (x y : List ℕ) → Gathers a b x → Gathers b c y → Gathers a c (x ++ y)
 gathers-trans a b c x y p q = record {
@@ -28,7 +31,8 @@ breaks-after a b c x y p q = record {
 
 cut-longer : (t : Option (List ℕ)) (g : Gathering) (done more : List ℕ) → IsCut t g done → IsCut t g (done ++ more)
 cut-longer t g done more h = record {
-  sent = subst (λ (z : List ℕ). Appends t g.taken z) (sym (take-append-le g.written done more (omega (arith, h.short)))) h.sent;
+  sent = subst (λ (z : List ℕ). Appends t g.taken z) (sym (take-append-le g.written done more (omega (arith, h.short))))
+      h.sent;
   short = omega (arith, h.short, length-append done more);
 }
 
@@ -36,6 +40,8 @@ pub breaks-longer : (a b : Gathering) (x y : List ℕ) → Breaks a b x → Brea
 breaks-longer a b x y p = record {
   cut = λ t done small h.
       let same = append_assoc done x y in
-      subst (λ (z : List ℕ). IsCut t b z) same (cut-longer t b (done ++ x) y (p.cut t done (omega (arith, small, ap length same, length-append (done ++ x) y)) h));
+      subst (λ (z : List ℕ). IsCut t b z) same
+      (cut-longer t b (done ++ x) y (p.cut t done
+      (omega (arith, small, ap length same, length-append (done ++ x) y)) h));
   one_failed = p.one_failed;
 }

@@ -20,11 +20,13 @@ IsLeaf kinds f b t rest = (t.1 ≡ value.none) × IsHead kinds f b t.0 rest
 
 -- the bytes are those of a value of the kind, at most so deep, and the rest
 abbrev pub IsRead : List Form → ℕ → ℕ → List ℕ → Tree → List ℕ → Type 0
-IsRead kinds place depth b t rest = (fits kinds place t ≡ true) × (value.depth t ≤ depth) × (b ≡ bytes_of kinds place t ++ rest)
+IsRead kinds place depth b t rest = (fits kinds place t ≡ true) × (value.depth t ≤ depth)
+    × (b ≡ bytes_of kinds place t ++ rest)
 
 -- no value of the kind, at most so deep, begins the bytes
 abbrev pub HasNoValue : List Form → ℕ → ℕ → List ℕ → Type 0
-HasNoValue kinds place depth b = (t : Tree) (x : List ℕ) → fits kinds place t ≡ true → value.depth t ≤ depth → bytes_of kinds place t ++ x ≡ b → ⊥
+HasNoValue kinds place depth b = (t : Tree) (x : List ℕ) → fits kinds place t ≡ true → value.depth t ≤ depth
+    → bytes_of kinds place t ++ x ≡ b → ⊥
 
 -- the bytes are those of one value for each part, at most so deep, and the rest
 abbrev pub AreRead : List Form → List Part → ℕ → List ℕ → Values → List ℕ → Type 0
@@ -32,4 +34,5 @@ AreRead kinds ps depth b vs rest = (fit kinds ps vs ≡ true) × (depth_of vs �
 
 -- values of the parts, at most so deep, do not begin the bytes
 abbrev pub HasNoValues : List Form → List Part → ℕ → List ℕ → Type 0
-HasNoValues kinds ps depth b = (vs : Values) (x : List ℕ) → fit kinds ps vs ≡ true → depth_of vs ≤ depth → spelling kinds ps vs ++ x ≡ b → ⊥
+HasNoValues kinds ps depth b = (vs : Values) (x : List ℕ) → fit kinds ps vs ≡ true → depth_of vs ≤ depth
+    → spelling kinds ps vs ++ x ≡ b → ⊥

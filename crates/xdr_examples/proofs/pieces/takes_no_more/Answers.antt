@@ -1,0 +1,25 @@
+use Rattle.std.proofs.Common.{◌≡◌, ◌≤◌, ◌++◌, [], ◌∷◌, List, ℕ, length, IfOk, subst, sym, ap, ◌∙◌, refl}
+use Rattle.xdr_types.specs.Form.{Lists, kind_at, opaque_up_to}
+use Rattle.xdr_types.specs.Spelling.{bytes_of}
+use Rattle.xdr_types.specs.Within.{Bounds, FitsWithin}
+use Rattle.xdr_codec.specs.declared.state.Progress.{Progress}
+use Rattle.xdr_codec.specs.declared.state.Progress.TheVariants.{Done}
+use Rattle.xdr_examples.specs.Rfc.{content}
+use Rattle.xdr_examples.proofs.Accepted.{done_at}
+use Rattle.xdr_examples.proofs.pieces.takes_no_more.Goals as goal
+
+pub returns : goal.returns
+returns c =
+    let d = c.start-decoder.result in
+    let set = c.start-decoder.ensures.settings in
+    let S = d.schema.now.kinds in
+    let kind : kind_at S d.kind.place ≡ opaque_up_to 4294967295 = rw (set.schema_is, set.kind_is) c.requires.kind in
+    let limit : 4 ≤ d.limits.bytes = subst (λ (l : Bounds). 4 ≤ l.bytes) (sym set.limits_are) c.requires.limit in
+    let depth : 1 ≤ d.limits.depth = subst (λ (l : Bounds). 1 ≤ l.depth) (sym set.limits_are) c.requires.depth in
+    let fit : FitsWithin S d.kind.place d.limits (content []) = rw kind (refl, (depth, limit)) in
+    let bytes : bytes_of S d.kind.place (content []) ++ (0 ∷ 0 ∷ 0 ∷ 42 ∷ [])
+    ≡ 0 ∷ 0 ∷ 0 ∷ 0 ∷ 0 ∷ 0 ∷ 0 ∷ 42 ∷ [] = rw kind refl in
+    let four : bytes_of S d.kind.place (content []) ≡ 0 ∷ 0 ∷ 0 ∷ 0 ∷ [] = rw kind refl in
+    subst (λ (n : ℕ). IfOk c.feed.result (λ (p : Progress). p ≡ Done n)) (ap length four)
+    (done_at S d.kind.place d.limits (0 ∷ 0 ∷ 0 ∷ 0 ∷ 0 ∷ 0 ∷ 0 ∷ 42 ∷ []) (content []) (0 ∷ 0 ∷ 0 ∷ 42 ∷ []) fit bytes
+    c.feed.result (c.feed.ensures.answer [] c.start-decoder.ensures.stands) c.feed.ensures.used)

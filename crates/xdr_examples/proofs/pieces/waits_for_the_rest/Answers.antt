@@ -1,0 +1,26 @@
+use Rattle.std.proofs.Common.{◌≡◌, ◌≤◌, ◌++◌, [], ◌∷◌, List, ℕ, pos, subst, sym, ap, ◌∙◌, refl}
+use Rattle.xdr_types.specs.Form as form
+use Rattle.xdr_types.specs.Form.{kind_at}
+use Rattle.xdr_types.specs.Spelling.{bytes_of}
+use Rattle.xdr_types.specs.Tree as value
+use Rattle.xdr_types.specs.Tree.{Tree}
+use Rattle.xdr_types.specs.Within.{Bounds, FitsWithin}
+use Rattle.xdr_examples.proofs.Accepted.{waits}
+use Rattle.xdr_examples.proofs.pieces.waits_for_the_rest.Goals as goal
+
+-- the hyper integer 2^32 begins with these bytes
+abbrev number : Tree
+number = (value.hyper (pos 4294967296), value.none)
+
+pub returns-clause-fault : goal.returns-clause-fault
+returns-clause-fault c =
+    let d = c.start-decoder.result in
+    let set = c.start-decoder.ensures.settings in
+    let S = d.schema.now.kinds in
+    let kind : kind_at S d.kind.place ≡ form.hyper = rw (set.schema_is, set.kind_is) c.requires.kind in
+    let limit : 8 ≤ d.limits.bytes = subst (λ (l : Bounds). 8 ≤ l.bytes) (sym set.limits_are) c.requires.limit in
+    let depth : 1 ≤ d.limits.depth = subst (λ (l : Bounds). 1 ≤ l.depth) (sym set.limits_are) c.requires.depth in
+    let fit : FitsWithin S d.kind.place d.limits number = rw kind (refl, (depth, limit)) in
+    let bytes : bytes_of S d.kind.place number ++ [] ≡ (0 ∷ 0 ∷ 0 ∷ 1 ∷ []) ++ (0 ∷ 0 ∷ 0 ∷ 0 ∷ []) = rw kind refl in
+    waits S d.kind.place d.limits (0 ∷ 0 ∷ 0 ∷ 1 ∷ []) (0 ∷ 0 ∷ 0 ∷ 0 ∷ []) number fit bytes
+    c.feed.result (c.feed.ensures.answer [] c.start-decoder.ensures.stands)
