@@ -11,3 +11,4 @@ pub mod decoding;
 pub mod encoding;
 pub mod lines;
 pub mod pieces;
+pub mod devices;

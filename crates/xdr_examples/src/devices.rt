@@ -1,0 +1,141 @@
+//! Readers and writers: where bytes come from and where they go, a piece at a time.
+ghost use Rattle.std.specs.Prelude.{◌≡◌, ◌<◌, ◌≤◌, [], ◌∷◌, true, false, IfOk, IfErr, IsErr, vec_len};
+ghost use Rattle.xdr_io.specs.Told.{Counts};
+
+use std::alloc::Global;
+use xdr_io::{
+    Cut, FromRead, InputFault, MemorySink, MemorySource, ReadFault, Sink, SinkFault, Source,
+    read_past, write_whole,
+};
+
+/// A read gives a piece: of three bytes in pieces of two, the first two.
+pub fn reads_a_piece() -> Result<usize, ReadFault>
+    ensures { result ≡ Ok 2 }
+{
+    let mut array = [0; 4096];
+    MemorySource::new(b"abc", 2, None).read(&mut array)
+}
+
+/// A read of a source without bytes gives none: that is its end.
+pub fn reads_nothing_at_the_end() -> Result<usize, ReadFault>
+    ensures { result ≡ Ok 0 }
+{
+    let mut array = [0; 4096];
+    MemorySource::new(b"", 4096, None).read(&mut array)
+}
+
+/// The read that is to fail fails.
+pub fn fails_when_told() -> Result<usize, ReadFault>
+    ensures { IsErr result }
+{
+    let mut array = [0; 4096];
+    MemorySource::new(b"abc", 4096, Some(1)).read(&mut array)
+}
+
+/// A source over std's reader gives the reader's bytes.
+pub fn reads_a_reader_of_std() -> Result<usize, ReadFault>
+    ensures { IfOk result (λ count. count ≤ 3) }
+{
+    let mut array = [0; 4096];
+    FromRead::new(b"abc".as_slice()).read(&mut array)
+}
+
+/// An answer of at most `enough` bytes is all that the source had.
+pub fn reads_all(alloc: Global) -> Result<Vec<u8>, InputFault>
+    ensures { IfOk result (λ bytes. bytes.items ≡ 97 ∷ 98 ∷ 99 ∷ []) }
+{
+    let mut source = MemorySource::new(b"abc", 2, None);
+    read_past(alloc, &mut source, 3)
+}
+
+/// An answer of more than `enough` bytes tells that a text is too long, and need not be all of it.
+pub fn reads_past_enough(alloc: Global) -> Result<Vec<u8>, InputFault>
+    ensures { IfOk result (λ bytes. 2 < vec_len bytes) }
+{
+    let mut source = MemorySource::new(b"abc", 2, None);
+    read_past(alloc, &mut source, 2)
+}
+
+/// Only the fault `Read` says that a read failed: after any other answer none did.
+pub fn says_whether_a_read_failed<R: Source>(alloc: Global, source: &mut R) -> bool
+    ensures failed { result ≡ true → Counts 1 (R.failures source.old) (R.failures source.new) }
+    ensures none { result ≡ false → Counts 0 (R.failures source.old) (R.failures source.new) }
+{
+    match read_past(alloc, source, 100) {
+        Ok(_) => false,
+        Err(InputFault::Read) => true,
+        Err(InputFault::TooManyReads) => false,
+        Err(InputFault::NoMemory) => false,
+    }
+}
+
+/// A source of no more than a million bytes is never too many reads away from its end.
+pub fn needs_no_more_reads<R: Source>(alloc: Global, source: &mut R) -> bool
+    ensures { result ≡ false }
+{
+    matches!(
+        read_past(alloc, source, 1000000),
+        Err(InputFault::TooManyReads)
+    )
+}
+
+/// A whole slice goes out in as many writes as it takes.
+pub fn writes_a_byte_a_time(room: &mut [u8]) -> Result<usize, Cut>
+    ensures all { IfOk result (λ used. used ≡ 3) }
+    ensures cut { IfErr result (λ cut. cut.written < 3) }
+{
+    let mut sink = MemorySink::new(room, 1, None);
+    write_whole(&mut sink, b"abc")?;
+    Ok(sink.used())
+}
+
+/// A cut says exactly how many bytes went out.
+pub fn counts_what_went_out(room: &mut [u8], bytes: &[u8]) -> bool
+    ensures { result ≡ true }
+{
+    let mut sink = MemorySink::new(room, 4096, None);
+    match write_whole(&mut sink, bytes) {
+        Ok(()) => sink.used() == bytes.len(),
+        Err(cut) => sink.used() == cut.written,
+    }
+}
+
+/// Nothing is written by no write, so that fails into no sink.
+pub fn writes_nothing<W: Sink>(sink: &mut W) -> Result<(), Cut>
+    ensures { result ≡ Ok tt }
+{
+    write_whole(sink, &[])
+}
+
+/// A sink without room fails.
+pub fn fails_when_full() -> Result<usize, SinkFault>
+    ensures { IsErr result }
+{
+    let mut room = [];
+    MemorySink::new(&mut room, 4096, None).write(b"a")
+}
+
+/// A sink takes what it has room for, and says how much: of three bytes into two, two.
+pub fn takes_what_has_room() -> Result<usize, SinkFault>
+    ensures { result ≡ Ok 2 }
+{
+    let mut room = [0; 2];
+    MemorySink::new(&mut room, 4096, None).write(b"abc")
+}
+
+/// A failed read moves nothing: what is left is read by the next.
+pub fn reads_on_after_a_failed_read() -> Result<usize, ReadFault>
+    ensures { result ≡ Ok 3 }
+{
+    let mut array = [0; 4096];
+    let mut source = MemorySource::new(b"abc", 4096, Some(1));
+    let _failed = source.read(&mut array);
+    source.read(&mut array)
+}
+
+/// A sink before its first write shows nothing, however much room it has.
+pub fn shows_nothing_at_first(room: &mut [u8]) -> usize
+    ensures { result ≡ 0 }
+{
+    MemorySink::new(room, 4096, None).written().len()
+}
