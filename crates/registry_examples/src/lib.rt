@@ -1,2 +1,4 @@
 //! Worked examples of the registry for users of the libraries, each proved from the contracts alone.
 #![tactic(auto)]
+
+pub mod addresses;

@@ -1,14 +1,10 @@
 -- Calls: the five cases, and what a call's bytes are.
 use Rattle.std.proofs.Common.{◌≡◌, ℕ, ◌+◌, ◌<◌, cond, eqb, List, ◌++◌, length, Result, Ok, Err, refl, sym, ap, subst, ◌∙◌, arith, inl, inr}
-use Rattle.std.specs.Prelude.{IfOk, OnErr}
 use Rattle.std.proofs.lemmas.Bool.{eqb-true, eqb-false, ne_eqb, cond_both}
 use Rattle.std.proofs.lemmas.List.{length-append, drop_at}
 use Rattle.rpc_message.specs.declared.fault.ReplyFault.{ReplyFault}
 use Rattle.rpc_message.specs.declared.fault.ReplyFault.TheVariants.{NotAReply}
-use Rattle.xdr_units.specs.declared.memory.NoMemory.{NoMemory}
-use Rattle.rpc_message.specs.declared.message.CallRead.{CallRead}
 use Rattle.xdr_units.proofs.Bytes.{AreBytes-after, same_word}
-use Rattle.rpc_message.specs.View.{case_view}
 use Rattle.rpc_message.specs.Message.{AuthView, CallView, CaseView, Whole, OtherVersion, BadCred, BadVerf, NotACall}
 use Rattle.xdr_units.specs.Numbers.{AreBytes, word, IsWord}
 use Rattle.rpc_message.specs.Spelling.{auth, CallBytes}
@@ -248,22 +244,3 @@ same_whole c d e = cc
 
 pub one_call : (c d : CallView) (bytes : List ℕ) → CallBytes c bytes → CallBytes d bytes → c ≡ d
 one_call c d bytes p q = same_whole c d (sym (whole_again c bytes p) ∙ whole_again d bytes q)
-
--- ---- what `read_call` answers
-
-pub is_found : (bytes : List ℕ) (r : Result CallRead NoMemory) → AreBytes bytes → IfOk r (λ x. case_of bytes ≡ case_view x) → IfOk r (λ x. IsCase bytes (case_view x))
-is_found bytes (Ok x) fits e = subst (IsCase bytes) e (case_found bytes fits)
-is_found bytes (Err d) fits e = tt
-
-pub is_only : (bytes : List ℕ) (r : Result CallRead NoMemory) (k : CaseView) → AreBytes bytes → IfOk r (λ x. case_of bytes ≡ case_view x) → IsCase bytes k → IfOk r (λ x. case_view x ≡ k)
-is_only bytes (Ok x) k fits e h = sym e ∙ case_again bytes k fits h
-is_only bytes (Err d) k fits e h = tt
-
-pub is_memory : (bytes : List ℕ) (r : Result CallRead NoMemory) → AreBytes bytes → OnErr r ((c : CallView) × (case_of bytes ≡ Whole c)) → OnErr r ((c : CallView) × CallBytes c bytes)
-is_memory bytes (Ok x) fits e = tt
-is_memory bytes (Err d) fits e = (e.0, subst (IsCase bytes) e.1 (case_found bytes fits))
-
-pub whole_read : (bytes : List ℕ) (r : Result CallRead NoMemory) (h : Head) (t : Target) (cred verf : AuthView × List ℕ) → call_head_at bytes ≡ Ok h → h.1 ≡ 2 → target_at h.2 ≡ Ok t → auth_at t.3 ≡ Ok cred → auth_at cred.1 ≡ Ok verf → OnErr r ((c : CallView) × (case_of bytes ≡ Whole c))
-unfolding case_of
-whole_read bytes (Ok x) h t cred verf e0 two e1 e2 e3 = tt
-whole_read bytes (Err d) h t cred verf e0 two e1 e2 e3 = (record { xid = h.0; prog = t.0; vers = t.1; proc = t.2; cred = cred.0; verf = verf.0; args = verf.1 }, rw (e0, two, e1, e2, e3) refl)

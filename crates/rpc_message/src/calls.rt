@@ -3,13 +3,13 @@
 ghost use Rattle.std.specs.Prelude.{◌≡◌, ◌≤◌, ◌<◌, length, IfOk, OnErr};
 ghost use Rattle.rpc_message.specs.Message.{CallView, CaseView, Whole, OtherVersion, NotACall};
 ghost use Rattle.rpc_message.specs.Spelling.{call, CallBytes};
-ghost use Rattle.rpc_message.specs.View.{call_view, case_view};
+ghost use Rattle.rpc_message.specs.View.{call_view, case_view, lent_case_view};
 ghost use Rattle.rpc_message.specs.Cases.{IsCase};
 ghost use Rattle.rpc_message.specs.Reading.{Reads, call_head_at, target_at, case_of};
 
 use crate::fault::ReplyFault;
 use crate::fields::{auth_at, push_auth, word_at};
-use crate::message::{Call, CallRead};
+use crate::message::{Call, CallRead, LentCall, LentRead};
 use std::alloc::Global;
 use xdr_units::{NoMemory, push_word};
 
@@ -38,36 +38,46 @@ fn target(bytes: &[u8]) -> Result<(u32, u32, u32, &[u8]), ReplyFault>
     Ok((prog, vers, proc, rest))
 }
 
-/// The case of the bytes. The parts of a call are copied only when all of them are there.
+/// The case of the bytes.
 #[tactic(auto, unfolding(crate::specs::Reading::case_of))]
-fn case_of(alloc: Global, bytes: &[u8]) -> Result<CallRead, NoMemory>
-    ensures found { IfOk result (λ r. case_of bytes.now ≡ case_view r) }
-    ensures memory { OnErr result ((c : CallView) × (case_of bytes.now ≡ Whole c)) }
+fn case_of(bytes: &[u8]) -> LentRead<'_>
+    ensures { case_of bytes.now ≡ lent_case_view result }
 {
     let Ok((xid, version, rest)) = call_head(bytes) else {
-        return Ok(CallRead::NotACall);
+        return LentRead::NotACall;
     };
     if version != 2 {
-        return Ok(CallRead::OtherVersion { xid, version });
+        return LentRead::OtherVersion { xid, version };
     }
     let Ok((prog, vers, proc, rest)) = target(rest) else {
-        return Ok(CallRead::NotACall);
+        return LentRead::NotACall;
     };
     let Ok((cred, rest)) = auth_at(rest) else {
-        return Ok(CallRead::BadCred { xid });
+        return LentRead::BadCred { xid };
     };
     let Ok((verf, args)) = auth_at(rest) else {
-        return Ok(CallRead::BadVerf { xid });
+        return LentRead::BadVerf { xid };
     };
-    Ok(CallRead::Whole(Call {
+    LentRead::Whole(LentCall {
         xid,
         prog,
         vers,
         proc,
-        cred: cred.copied(alloc)?,
-        verf: verf.copied(alloc)?,
-        args: Vec::from_slice(alloc, args)?,
-    }))
+        cred,
+        verf,
+        args,
+    })
+}
+
+/// What the bytes are, as a call that lies in them: the one of the five cases that applies. It takes no memory (RFC 5531
+/// sections 8.2 and 9).
+pub fn read_lent_call(bytes: &[u8]) -> LentRead<'_>
+    // The case that is answered applies,
+    ensures found { IsCase bytes.now (lent_case_view result) }
+    // and the case that applies is answered.
+    ensures only { (k : CaseView) → IsCase bytes.now k → lent_case_view result ≡ k }
+{
+    case_of(bytes)
 }
 
 /// What the bytes are, as a call: the one of the five cases that applies. `NoMemory` comes only for a whole call, as
@@ -80,7 +90,13 @@ pub fn read_call(alloc: Global, bytes: &[u8]) -> Result<CallRead, NoMemory>
     // Memory runs out only for a whole call.
     ensures memory { OnErr result ((c : CallView) × CallBytes c bytes.now) }
 {
-    case_of(alloc, bytes)
+    match read_lent_call(bytes) {
+        LentRead::Whole(call) => Ok(CallRead::Whole(call.copied(alloc)?)),
+        LentRead::OtherVersion { xid, version } => Ok(CallRead::OtherVersion { xid, version }),
+        LentRead::BadCred { xid } => Ok(CallRead::BadCred { xid }),
+        LentRead::BadVerf { xid } => Ok(CallRead::BadVerf { xid }),
+        LentRead::NotACall => Ok(CallRead::NotACall),
+    }
 }
 
 /// The bytes of the call: xid, 0, 2, program, version, procedure, credential, verifier, and the arguments. Credential and

@@ -8,28 +8,9 @@ ghost use Rattle.rpc_message.specs.View.{auth_view, lent_view};
 ghost use Rattle.rpc_message.specs.Reading.{Reads, word_at, opaque_at, auth_at};
 
 use crate::fault::ReplyFault;
-use crate::message::OpaqueAuth;
-use std::alloc::{AllocError, Global};
+use crate::message::{LentAuth, OpaqueAuth};
+use std::alloc::AllocError;
 use xdr_units::{NoContent, are_zeros, first_content, first_word, push_padded, push_word};
-
-/// An authentication that lies in the bytes of a message.
-#[derive(Clone, Copy, Debug)]
-pub struct LentAuth<'a> {
-    pub flavor: u32,
-    pub body: &'a [u8],
-}
-
-impl LentAuth<'_> {
-    /// The same with a body of its own.
-    pub fn copied(self, alloc: Global) -> Result<OpaqueAuth, AllocError>
-        ensures { IfOk result (λ a. auth_view a ≡ lent_view self.entry) }
-    {
-        Ok(OpaqueAuth {
-            flavor: self.flavor,
-            body: Vec::from_slice(alloc, self.body)?,
-        })
-    }
-}
 
 /// The word in front, its highest byte first, and what follows it.
 pub fn word_at(bytes: &[u8]) -> Result<(u32, &[u8]), ReplyFault>

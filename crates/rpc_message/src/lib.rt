@@ -10,10 +10,12 @@ mod laws;
 mod message;
 mod replies;
 
-pub use calls::{read_call, write_call};
+pub use calls::{read_call, read_lent_call, write_call};
 pub use credentials::{read_auth_sys, write_auth_sys};
 pub use fault::ReplyFault;
 pub use laws::{auth_sys_bytes_are_exact, call_bytes_are_exact, five_cases, reply_bytes_are_exact};
-pub use message::{AuthSys, Call, CallRead, OpaqueAuth, Reply, Status, Why};
-pub use replies::{read_reply, write_reply};
+pub use message::{
+    AuthSys, Call, CallRead, LentAuth, LentCall, LentRead, OpaqueAuth, Reply, Status, Why,
+};
+pub use replies::{append_reply, read_reply, write_reply};
 pub use xdr_units::NoMemory;

@@ -1,5 +1,10 @@
 //! The messages as values (RFC 5531 section 9). Each word of a message is a `u32`, in the order of its bytes.
 
+ghost use Rattle.std.specs.Prelude.{◌≡◌, IfOk};
+ghost use Rattle.rpc_message.specs.View.{auth_view, lent_view, call_view, lent_call_view};
+
+use std::alloc::{AllocError, Global};
+
 /// A flavor of authentication and its body, `opaque_auth` (section 8.2). In a message the body has at most 400
 /// bytes. Flavors that RFC 5531 does not name are kept as they are.
 #[derive(Debug, PartialEq, Eq, Drop)]
@@ -28,6 +33,69 @@ pub struct Call {
     pub cred: OpaqueAuth,
     pub verf: OpaqueAuth,
     pub args: Vec<u8>,
+}
+
+/// A flavor of authentication whose body lies in the bytes of a message.
+#[derive(Clone, Copy, Debug)]
+pub struct LentAuth<'a> {
+    pub flavor: u32,
+    pub body: &'a [u8],
+}
+
+impl LentAuth<'_> {
+    /// The same with a body of its own.
+    pub fn copied(self, alloc: Global) -> Result<OpaqueAuth, AllocError>
+        ensures { IfOk result (λ a. auth_view a ≡ lent_view self.entry) }
+    {
+        Ok(OpaqueAuth {
+            flavor: self.flavor,
+            body: Vec::from_slice(alloc, self.body)?,
+        })
+    }
+}
+
+/// A call that lies in the bytes of its message: nothing of it is copied.
+#[derive(Clone, Copy, Debug)]
+pub struct LentCall<'a> {
+    pub xid: u32,
+    pub prog: u32,
+    pub vers: u32,
+    pub proc: u32,
+    pub cred: LentAuth<'a>,
+    pub verf: LentAuth<'a>,
+    pub args: &'a [u8],
+}
+
+impl LentCall<'_> {
+    /// The same with parts of its own.
+    pub fn copied(self, alloc: Global) -> Result<Call, AllocError>
+        ensures { IfOk result (λ c. call_view c ≡ lent_call_view self.entry) }
+    {
+        Ok(Call {
+            xid: self.xid,
+            prog: self.prog,
+            vers: self.vers,
+            proc: self.proc,
+            cred: self.cred.copied(alloc)?,
+            verf: self.verf.copied(alloc)?,
+            args: Vec::from_slice(alloc, self.args)?,
+        })
+    }
+}
+
+/// What the bytes of a message are, as a call that lies in them: the cases of `CallRead`.
+#[derive(Clone, Copy, Debug)]
+pub enum LentRead<'a> {
+    /// A call, with all its parts.
+    Whole(LentCall<'a>),
+    /// A call of another version of RPC than 2.
+    OtherVersion { xid: u32, version: u32 },
+    /// No credential can be read.
+    BadCred { xid: u32 },
+    /// No verifier can be read.
+    BadVerf { xid: u32 },
+    /// No call, or less than its front.
+    NotACall,
 }
 
 /// What the bytes of a message are, as a call. One of the five applies to all bytes.

@@ -194,6 +194,17 @@ fn push_reply(out: &mut Vec<u8>, r: &Reply) -> Result<(), AllocError>
     }
 }
 
+/// Writes the reply behind what stands in `out`. The verifier has at most 400 bytes. `NoMemory` comes where memory is
+/// refused; `out` may then end in a part of the reply (RFC 5531 section 9).
+pub fn append_reply(out: &mut Vec<u8>, r: &Reply) -> Result<(), NoMemory>
+    requires { HasShortVerf r.now }
+    ensures ok { OnOk result (out.new.items ≡ out.old.items ++ reply (reply_view r.now)) }
+    ensures fits { OnOk result (IsReply (reply_view r.now)) }
+{
+    push_reply(out, r)?;
+    Ok(())
+}
+
 /// The bytes of the reply: xid, 1, and 0, verifier, status or 1, reason. The verifier has at most 400 bytes. `NoMemory`
 /// comes where memory is refused (RFC 5531 section 9).
 pub fn write_reply(alloc: Global, r: &Reply) -> Result<Vec<u8>, NoMemory>
