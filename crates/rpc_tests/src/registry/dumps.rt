@@ -1,5 +1,5 @@
 //! The rows as values.
-use crate::registry::calls::{Call, EVERY_HOST, Owner, answer, started};
+use crate::registry::calls::{Call, EVERY_HOST, Owner, answer, right_calls, started};
 use crate::registry::schema::is_named;
 use rpc_directory::directory_schema;
 use std::alloc::Global;
@@ -93,7 +93,16 @@ fn dumps_fit_their_kinds(rt: HostRuntime) -> Result<(), Fail> {
     Ok(())
 }
 
-/// Adds 1021 rows to the registry's own, and says whether each was added and none more.
+// What a registry of 1024 rows answers, the last of them of program 1020.
+const FULL: [Call; 5] = [
+    Call::Set((1021, 1, b"tcp"), EVERY_HOST, Owner::Unknown, false),
+    Call::Rows(1024),
+    Call::Row(1023, (1020, 1, b"tcp"), EVERY_HOST, Owner::Unknown),
+    Call::NoRow(1024),
+    Call::Address((1021, 1, b"tcp"), b""),
+];
+
+/// Adds 1021 rows to the registry's own, and says whether each was added and none more, and all are dumped.
 fn fills(alloc: Global) -> Option<bool> {
     let mut directory = started(alloc).ok()?;
     for prog in 0..1021 {
@@ -103,11 +112,8 @@ fn fills(alloc: Global) -> Option<bool> {
         }
     }
     let list = directory.dump(alloc).ok()?;
-    let more = Call::Set((1021, 1, b"tcp"), EVERY_HOST, Owner::Unknown, false);
-    let refused = answer(alloc, &mut directory, &more)?;
-    let last = Call::Row(1023, (1020, 1, b"tcp"), EVERY_HOST, Owner::Unknown);
-    let found = answer(alloc, &mut directory, &last)?;
-    Some(length(&list) == 1024 && refused && found && directory.row(1024).is_none())
+    let right = right_calls(alloc, &mut directory, &FULL);
+    Some(length(&list) == 1024 && right == FULL.len())
 }
 
 #[test]

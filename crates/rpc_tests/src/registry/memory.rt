@@ -1,5 +1,7 @@
 //! What is answered without any memory.
-use crate::registry::calls::{Call, EVERY_HOST, Owner, Registry, answer, right_calls, started};
+use crate::registry::calls::{
+    Call, EVERY_HOST, Owner, Registry, answer, empty, right_calls, started,
+};
 use growths::take_all;
 use rpc_directory::directory_schema;
 use std::alloc::Global;
@@ -26,14 +28,14 @@ const TAKING_NONE: [Call; 9] = [
     Call::Rows(0),
 ];
 
-/// Whether all calls that take memory want it.
+/// Whether all calls that take memory want it, and a registry without rows takes none.
 fn want_memory(alloc: Global, directory: &mut Registry) -> bool {
     for call in &TAKING {
         if answer(alloc, directory, call).is_some() {
             return false;
         }
     }
-    directory_schema(alloc).is_err() && started(alloc).is_err()
+    directory_schema(alloc).is_err() && started(alloc).is_err() && empty(alloc).rows() == 0
 }
 
 #[test]

@@ -1,7 +1,8 @@
 //! What each call that takes memory answers where one of its growths is refused, each growth in turn: want of memory with
 //! the rows as they were, or the whole answer.
 use crate::registry::calls::{Call, EVERY_HOST, Owner, Registry, answer, right_calls, started};
-use crate::registry::rows::{OWN_DUMP, OWN_PORTS, OWN_ROWS};
+use crate::registry::rows::{OWN_DUMP, OWN_FOUND, OWN_PORTS};
+use crate::registry::schema::{has_kinds, has_names};
 use growths::{allow, refuse};
 use rpc_directory::{Uaddr, directory_schema, write_uaddr};
 use std::alloc::Global;
@@ -35,7 +36,7 @@ fn is_right(refuses: bool, number: u64, whole: Option<bool>) -> bool {
 
 /// Whether the registry has its own rows and no others.
 fn has_own_rows(alloc: Global, directory: &mut Registry) -> bool {
-    right_calls(alloc, directory, &OWN_ROWS) == OWN_ROWS.len()
+    right_calls(alloc, directory, &OWN_FOUND) == OWN_FOUND.len()
 }
 
 /// Whether a call answers right where this growth was refused, and what it leaves.
@@ -72,9 +73,12 @@ fn make(alloc: Global, what: Made) -> Option<bool> {
     match what {
         Made::Registry => {
             let mut directory = started(alloc).ok()?;
-            Some(directory.rows() == 3 && directory.get_port(100000, 4, 6) == 111)
+            Some(right_calls(alloc, &mut directory, &OWN_FOUND) == OWN_FOUND.len())
         }
-        Made::Schema => Some(directory_schema(alloc).ok()?.len() == 19),
+        Made::Schema => {
+            let schema = directory_schema(alloc).ok()?;
+            Some(has_kinds(&schema) && has_names(&schema))
+        }
         Made::Address => {
             let (host, port) = ([255; 4], 65535);
             let text = write_uaddr(alloc, Uaddr { host, port }).ok()?;

@@ -52,8 +52,8 @@ pub const OWN_DUMP: Call = Dump(&[RPCB_2, RPCB_3, RPCB_4]);
 /// And as a `pmaplist`.
 pub const OWN_PORTS: Call = DumpPorts(&[MAPPING_2, MAPPING_3, MAPPING_4]);
 
-/// What a started registry answers of its own rows.
-pub const OWN_ROWS: [Call; 9] = [
+/// What a started registry finds of its own rows, without memory.
+pub const OWN_FOUND: [Call; 7] = [
     Rows(3),
     Row(0, (100000, 2, TCP), EVERY_HOST, Superuser),
     Row(1, (100000, 3, TCP), EVERY_HOST, Superuser),
@@ -61,9 +61,10 @@ pub const OWN_ROWS: [Call; 9] = [
     NoRow(3),
     Address((100000, 4, TCP), EVERY_HOST),
     Port((100000, 4, 6), 111),
-    OWN_DUMP,
-    OWN_PORTS,
 ];
+
+// And how it dumps them.
+const OWN_DUMPS: [Call; 2] = [OWN_DUMP, OWN_PORTS];
 
 // A registry without rows.
 const NO_ROWS: [Call; 8] = [
@@ -182,8 +183,9 @@ const ADDRESSES: [Call; 12] = [
     DumpPorts(&[&[Number(9), Number(2), Number(17), Number(1286)]]),
 ];
 
-const TABLES: [&[Call]; 8] = [
-    &OWN_ROWS,
+const TABLES: [&[Call]; 9] = [
+    &OWN_FOUND,
+    &OWN_DUMPS,
     &LENGTHS,
     &PORTS,
     &SET_TWICE,

@@ -72,7 +72,7 @@ fn is_shape(kind: &Kind, shape: &Shape) -> bool {
 }
 
 /// Whether the kinds of the schema after the basic ones are these.
-fn has_kinds(schema: &Schema) -> bool {
+pub fn has_kinds(schema: &Schema) -> bool {
     for (place, shape) in &KINDS {
         let id = KindId { place: *place };
         if !schema.has(id) || !is_shape(schema.kind(id), shape) {
@@ -91,7 +91,7 @@ pub fn is_named(schema: &Schema, name: &str, place: u32) -> bool {
 }
 
 /// Whether the types have these names, and none has another's.
-fn has_names(schema: &Schema) -> bool {
+pub fn has_names(schema: &Schema) -> bool {
     for (name, place) in &NAMES {
         if !is_named(schema, name, *place) {
             return false;
