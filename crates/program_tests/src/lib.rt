@@ -3,3 +3,5 @@
 
 #[cfg(test)]
 mod tasks;
+#[cfg(test)]
+mod words;

@@ -1,0 +1,157 @@
+//! The tasks that words ask for, and words that ask for none.
+use crate::words::reading::{Words, read};
+use oncrpc_tasks::{RecordsTask, Task, ValueTask};
+use oncrpc_words::WordsFault;
+use std::alloc::{AllocError, Global};
+
+// What is asked of a value: its kind's name, the file of declarations, whether bytes are hexadecimal, depth and bytes.
+type Asked = (&'static str, Option<&'static str>, bool, u32, u32);
+
+// Words, whether they ask for the value's lines, and what they ask.
+const VALUES: [(Words, bool, Asked); 7] = [
+    (&[], false, ("opaque", None, true, 4096, 16777216)),
+    (
+        &["check", "--name", "int"],
+        false,
+        ("int", None, false, 4096, 16777216),
+    ),
+    (
+        &[
+            "check",
+            "--bytes=007",
+            "--hex",
+            "--depth",
+            "+5",
+            "--name",
+            "",
+        ],
+        false,
+        ("", None, true, 5, 7),
+    ),
+    (
+        &["check", "--types", "a.x", "--name", "int"],
+        false,
+        ("int", Some("a.x"), false, 4096, 16777216),
+    ),
+    (
+        &["show", "--types=b/c.x", "--name", "1.2.3.result", "--hex"],
+        true,
+        ("1.2.3.result", Some("b/c.x"), true, 4096, 16777216),
+    ),
+    (
+        &["show", "--name", "list", "--types", ""],
+        true,
+        ("list", Some(""), false, 4096, 16777216),
+    ),
+    (
+        &["show", "--name", "int", "--depth", "1", "--bytes", "4"],
+        true,
+        ("int", None, false, 1, 4),
+    ),
+];
+
+fn is_file(file: &Option<String>, wanted: Option<&str>) -> bool {
+    match (file, wanted) {
+        (None, None) => true,
+        (Some(file), Some(wanted)) => file.as_str() == wanted,
+        _ => false,
+    }
+}
+
+fn is_value(task: &ValueTask, asked: &Asked) -> bool {
+    let (name, types, hex, depth, bytes) = *asked;
+    task.name.as_str() == name
+        && is_file(&task.types, types)
+        && task.hex == hex
+        && task.depth == depth
+        && task.bytes == bytes
+}
+
+fn asks_value(alloc: Global, words: Words, shows: bool, asked: &Asked) -> Result<bool, AllocError> {
+    match read(alloc, words)? {
+        Ok(Task::Check(task)) => Ok(!shows && is_value(&task, asked)),
+        Ok(Task::Show(task)) => Ok(shows && is_value(&task, asked)),
+        _ => Ok(false),
+    }
+}
+
+#[test]
+fn values_are_asked(rt: HostRuntime) -> Result<(), AllocError> {
+    for (words, shows, asked) in &VALUES {
+        assert!(rt; asks_value(rt.alloc(), words, *shows, asked)?, "{words:?}");
+    }
+    Ok(())
+}
+
+// Words, the limit on a record that they ask for, and whether bytes are hexadecimal.
+const RECORDS: [(Words, u32, bool); 2] = [
+    (&["records"], 16777216, false),
+    (
+        &["records", "--limit", "4294967295", "--hex"],
+        4294967295,
+        true,
+    ),
+];
+
+fn asks_records(alloc: Global, words: Words, limit: u32, hex: bool) -> Result<bool, AllocError> {
+    match read(alloc, words)? {
+        Ok(Task::Records(task)) => Ok(task == RecordsTask { limit, hex }),
+        _ => Ok(false),
+    }
+}
+
+#[test]
+fn records_are_asked(rt: HostRuntime) -> Result<(), AllocError> {
+    for (words, limit, hex) in &RECORDS {
+        assert!(rt; asks_records(rt.alloc(), words, *limit, *hex)?, "{words:?}");
+    }
+    Ok(())
+}
+
+// Words that give no task, and the status.
+const REFUSED: [(Words, u8); 21] = [
+    (&["check"], 2),
+    (&["nope"], 2),
+    (&["show"], 2),
+    (&["show", "--types", "a.x"], 2),
+    (&["records", "--types", "a.x"], 2),
+    (&["info", "localhost", "111"], 2),
+    (&["serve", "--port", "1", "--count", "1"], 2),
+    (&["check", "--name", "int", "--types"], 2),
+    (
+        &["show", "--name", "int", "--types", "a", "--types", "b"],
+        2,
+    ),
+    (&["check", "--name", "int", "--depth", "4294967296"], 2),
+    (&["check", "--name", "int", "--depth", "-1"], 2),
+    (&["check", "--name", "int", "--bytes", "0x8"], 2),
+    (&["records", "--name", "int"], 2),
+    (&["records", "--limit"], 2),
+    (&["--hex"], 2),
+    (&["--help"], 0),
+    (&["check", "--help"], 0),
+    (&["show", "--help"], 0),
+    (&["help", "records"], 0),
+    (&["--version"], 0),
+    (&["-V"], 0),
+];
+
+fn is_refused(alloc: Global, words: Words, status: u8) -> Result<bool, AllocError> {
+    match read(alloc, words)? {
+        Ok(_) => Ok(false),
+        Err(
+            WordsFault {
+                text,
+                status: given,
+            },
+        ) => Ok(given == status && !text.is_empty()),
+    }
+}
+
+#[test]
+fn words_are_refused(rt: HostRuntime) -> Result<(), AllocError> {
+    for (words, status) in &REFUSED {
+        assert!(rt; is_refused(rt.alloc(), words, *status)?, "{words:?}");
+    }
+    Ok(())
+}

@@ -1,0 +1,82 @@
+//! What help says.
+use crate::words::reading::{Words, read};
+use std::alloc::{AllocError, Global};
+
+// The built-in kinds, the forms of a name, the ranges and defaults of the options, the statuses, and the first words of
+// two examples.
+const OF_A_VALUE: [&str; 16] = [
+    "int, unsigned, hyper, unsigned-hyper, bool, opaque or string",
+    "P.V.N.K",
+    "P.V.N.result",
+    "262144",
+    "1 to 4096 [default: 4096]",
+    "4 to 16777216",
+    "multiple of 4",
+    "[default: 16777216]",
+    "1048576",
+    "\n  0  ",
+    "\n  1  ",
+    "\n  2  ",
+    "\n  3  ",
+    "\n  4  ",
+    "\n  printf '",
+    " --types ",
+];
+
+const OF_RECORDS: [&str; 9] = [
+    "0 to 2147483647",
+    "[default: 16777216]",
+    "\n  0  ",
+    "\n  1  ",
+    "\n  2  ",
+    "\n  3  ",
+    "\n  4  ",
+    "\n  printf '",
+    "\n  oncrpc records --limit ",
+];
+
+const OF_ALL: [&str; 9] = [
+    "check",
+    "show",
+    "records",
+    "check --name opaque --hex",
+    "\n  0  ",
+    "\n  1  ",
+    "\n  2  ",
+    "\n  3  ",
+    "\n  4  ",
+];
+
+// The product's line and the prover's.
+const OF_VERSION: [&str; 2] = ["oncrpc 0.1.0\n", "rattle-kit-13b logic dac8208d650f15bf\n"];
+
+// Words, and what their answer says.
+const SAID: [(Words, &[&str]); 7] = [
+    (&["check", "--help"], &OF_A_VALUE),
+    (&["show", "--help"], &OF_A_VALUE),
+    (&["help", "show"], &OF_A_VALUE),
+    (&["records", "--help"], &OF_RECORDS),
+    (&["--help"], &OF_ALL),
+    (&["help"], &OF_ALL),
+    (&["--version"], &OF_VERSION),
+];
+
+fn says(alloc: Global, words: Words, said: &[&str]) -> Result<bool, AllocError> {
+    let Err(fault) = read(alloc, words)? else {
+        return Ok(false);
+    };
+    for part in said {
+        if !fault.text.contains(*part) {
+            return Ok(false);
+        }
+    }
+    Ok(true)
+}
+
+#[test]
+fn help_says_what_a_user_needs(rt: HostRuntime) -> Result<(), AllocError> {
+    for (words, said) in &SAID {
+        assert!(rt; says(rt.alloc(), words, said)?, "{words:?}");
+    }
+    Ok(())
+}
