@@ -1,7 +1,9 @@
 //! Records, messages and the registry.
 use crate::Told;
 use rpc_directory::Directory;
-use rpc_message::{Call, CallRead, OpaqueAuth, Reply, Status, read_call, read_reply, write_call, write_reply};
+use rpc_message::{
+    Call, CallRead, OpaqueAuth, Reply, Status, read_call, read_reply, write_call, write_reply,
+};
 use rpc_record::{RecordReader, RecordStep, mark};
 use std::alloc::Global;
 use std::hash::{BuildHasherDefault, DefaultHasher};
@@ -19,7 +21,12 @@ pub fn unmark(alloc: Global) -> Told {
         return None;
     }
     let marked = mark(alloc, &record).ok()?;
-    format!(in alloc; "a record of {} bytes in {used}, marked as {}", record.len(), marked.len()).ok()
+    format!(in alloc;
+        "a record of {} bytes in {used}, marked as {}",
+        record.len(),
+        marked.len()
+    )
+    .ok()
 }
 
 // AUTH_NONE.
@@ -52,14 +59,26 @@ pub fn reply_to_a_call(alloc: Global) -> Told {
     };
     let answer = write_reply(alloc, &reply).ok()?;
     let same = read_reply(alloc, &answer).ok()?;
-    format!(in alloc; "a call of {} bytes, a reply of {}: {}", sent.len(), answer.len(), same == reply).ok()
+    format!(in alloc;
+        "a call of {} bytes, a reply of {}: {}",
+        sent.len(),
+        answer.len(),
+        same == reply
+    )
+    .ok()
 }
 
 /// A registry at port 111, a program that registers its port, and a client that asks for it.
 pub fn ask_for_a_port(alloc: Global) -> Told {
     let hasher = BuildHasherDefault::<DefaultHasher>::new();
     let mut directory = Directory::start(alloc, hasher, 111).ok()?;
-    let is_set = directory.set_port(alloc, 536870912, 1, 6, 2049, b"1001").ok()?;
+    let is_set = directory
+        .set_port(alloc, 536870912, 1, 6, 2049, b"1001")
+        .ok()?;
     let port = directory.get_port(536870912, 1, 6);
-    format!(in alloc; "registered: {is_set}, at port {port}, {} rows", directory.rows()).ok()
+    format!(in alloc;
+        "registered: {is_set}, at port {port}, {} rows",
+        directory.rows()
+    )
+    .ok()
 }

@@ -10,11 +10,22 @@ use xdr_types::{Kind, KindId, Limits, Member, Schema, Value, fits};
 // `struct { int x; string name<8>; }` at place 2, with the kinds of its fields before it.
 fn pair_schema(alloc: Global) -> Option<Schema> {
     let fields = vec![in alloc;
-        Member { name: "x".to_string(alloc).ok()?, kind: KindId { place: 0 } },
-        Member { name: "name".to_string(alloc).ok()?, kind: KindId { place: 1 } },
+        Member {
+            name: "x".to_string(alloc).ok()?,
+            kind: KindId { place: 0 }
+        },
+        Member {
+            name: "name".to_string(alloc).ok()?,
+            kind: KindId { place: 1 }
+        },
     ]
     .ok()?;
-    let kinds = vec![in alloc; Kind::Int, Kind::Text { max: 8 }, Kind::Structure { fields }].ok()?;
+    let kinds = vec![in alloc;
+        Kind::Int,
+        Kind::Text { max: 8 },
+        Kind::Structure { fields },
+    ]
+    .ok()?;
     let names = vec![in alloc; ("pair".to_string(alloc).ok()?, KindId { place: 2 })].ok()?;
     Schema::build(alloc, kinds, names).ok()
 }
@@ -34,7 +45,11 @@ pub fn structure_by_hand(alloc: Global) -> Told {
         return None;
     }
     let (same, used) = decode(alloc, &schema, pair, limits, &bytes).ok()?;
-    format!(in alloc; "a structure of {used} bytes, the same again: {}", same == value).ok()
+    format!(in alloc;
+        "a structure of {used} bytes, the same again: {}",
+        same == value
+    )
+    .ok()
 }
 
 const FILE: &str = "enum kind { TEXT = 0, DATA = 1 };
@@ -80,5 +95,9 @@ pub fn fed_in_pieces(alloc: Global) -> Told {
     let Value::Bytes(content) = value else {
         return None;
     };
-    format!(in alloc; "a string of {} bytes, after {used} of the second piece", content.len()).ok()
+    format!(in alloc;
+        "a string of {} bytes, after {used} of the second piece",
+        content.len()
+    )
+    .ok()
 }

@@ -3,12 +3,12 @@
 #![tactic(auto)]
 
 pub mod answers;
+pub mod decoding;
+pub mod devices;
+pub mod encoding;
 pub mod limits;
+pub mod lines;
 mod made;
+pub mod pieces;
 pub mod schemas;
 pub mod values;
-pub mod decoding;
-pub mod encoding;
-pub mod lines;
-pub mod pieces;
-pub mod devices;
