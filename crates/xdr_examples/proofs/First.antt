@@ -1,6 +1,6 @@
 -- The first fault of lists is the one that their refusal says.
 use Rattle.std.proofs.Common.{◌≡◌, ◌⊎◌, inl, inr, ℕ, zero, suc, ◌+◌, ◌<◌, ◌≤◌, Bool, true, false, eqb, eqb-true, length}
-use Rattle.std.proofs.Common.{Option, Some, None, Result, Ok, Err, MatchResult, refl, ap, sym, ◌∙◌, arith}
+use Rattle.std.proofs.Common.{Option, Some, None, Result, Ok, Err, MatchResult, refl, ap, sym, subst, ◌∙◌, arith}
 use Rattle.std.proofs.lemmas.Bool.{eqb-false}
 use Rattle.xdr_types.specs.Form.{Lists}
 use Rattle.xdr_types.specs.Faults.{fault, kind_flaw_at, name_flaw_at, IsWellFormed}
@@ -9,7 +9,7 @@ use Rattle.xdr_types.specs.Sound.{IsSound}
 use Rattle.xdr_types.specs.declared.fault.Flaw.{Flaw}
 use Rattle.xdr_types.specs.declared.fault.Flaw.TheVariants as flaw
 use Rattle.xdr_types.specs.declared.fault.SchemaFault.{SchemaFault}
-use Rattle.xdr_examples.specs.Refusal.{first_from, first_flaw, IsRefusedFor}
+use Rattle.xdr_examples.specs.Refusal.{first_from, first_flaw, IsRefusedFor, IsNoFlaw}
 
 same_or_not : (a b : ℕ) (r : Bool) → eqb a b ≡ r → (a ≡ b) ⊎ (a ≡ b → ⊥)
 same_or_not a b true e = inl (eqb-true a b e)
@@ -77,6 +77,27 @@ pub refused : (s : Lists) (e f : SchemaFault) → length s.kinds ≤ 1024 → fi
 refused s e f few is (inl memory) = inr (ap Some memory)
 refused s e f few is (inr found) = inl (ap Some (faulty s e f few is found))
 
+-- a refusal of lists without a flaw is want of memory, or says that a kind has no finite value
+otherwise : (s : Lists) (f : SchemaFault) → length s.kinds ≤ 1024 → first_flaw s ≡ None → IsRefused s f
+    → (f.why ≡ flaw.NoFiniteValue) ⊎ (f.why ≡ flaw.NoMemory)
+otherwise s f few is (inl memory) = inr (ap (λ (e : SchemaFault). e.why) memory)
+otherwise s f few is (inr (inl many)) = absurd (omega (arith, many.0))
+otherwise s f few is (inr (inr (inl kind))) =
+    let found : first_from (kind_flaw_at s.kinds) (length s.kinds) 0 ≡ Some f =
+    first (kind_flaw_at s.kinds) (length s.kinds) 0 f (omega arith) (omega (arith, kind.1.within))
+    (λ q low high. kind.1.before q high) kind.1.here in
+    let all : first_flaw s ≡ Some f = rw found refl in
+    absurd (none≢some f (sym is ∙ all))
+otherwise s f few is (inr (inr (inr (inl name)))) =
+    let kinds : first_from (kind_flaw_at s.kinds) (length s.kinds) 0 ≡ None =
+    none (kind_flaw_at s.kinds) (length s.kinds) 0 (λ q low high. name.1 q (omega arith)) in
+    let found : first_from (name_flaw_at s.kinds s.names) (length s.names) 0 ≡ Some f =
+    first (name_flaw_at s.kinds s.names) (length s.names) 0 f (omega arith) (omega (arith, name.2.within))
+    (λ q low high. name.2.before q high) name.2.here in
+    let all : first_flaw s ≡ Some f = rw (kinds, found) refl in
+    absurd (none≢some f (sym is ∙ all))
+otherwise s f few is (inr (inr (inr (inr endless)))) = inl endless.1
+
 -- the fault of a refusal
 abbrev pub err_of : Result Lists SchemaFault → Option SchemaFault
 err_of (Ok s) = None
@@ -107,3 +128,10 @@ crowded s (Ok t) o h many e =
     absurd (omega (arith, many, same, h.1.few))
 crowded s (Err f) o h many e =
     elim (crowd s f many h) [ inl first ↦ inl (e ∙ ap Some first) | inr memory ↦ inr (e ∙ ap Some memory) ]
+
+-- what `Schema::build` answers for lists without a flaw
+pub flawless : (s : Lists) (r : Result Lists SchemaFault) (o : Option SchemaFault)
+    → MatchResult r (λ t. (t ≡ s) × IsWellFormed t × IsSound t.kinds) (λ e. IsRefused s e) → length s.kinds ≤ 1024
+    → first_flaw s ≡ None → o ≡ err_of r → IsNoFlaw o
+flawless s (Ok t) o h few is e = subst IsNoFlaw (sym e) tt
+flawless s (Err f) o h few is e = subst IsNoFlaw (sym e) (otherwise s f few is h)

@@ -1,5 +1,5 @@
 -- What an example says of lists of kinds and names that make no schema.
-use Rattle.std.specs.Prelude.{◌≡◌, ◌⊎◌, ℕ, zero, suc, ◌+◌, length, Option, Some, None}
+use Rattle.std.specs.Prelude.{◌≡◌, ◌⊎◌, ℕ, zero, suc, ◌+◌, length, Option, Some, None, ⊤}
 use Rattle.xdr_types.specs.Form.{Lists}
 use Rattle.xdr_types.specs.Faults.{fault, kind_flaw_at, name_flaw_at}
 use Rattle.xdr_types.specs.declared.fault.Flaw.{Flaw}
@@ -30,3 +30,8 @@ first_flaw s =
 -- no schema was made: for this fault, or for want of memory
 abbrev pub IsRefusedFor : Option SchemaFault → Flaw → ℕ → Type 0
 IsRefusedFor r why place = (r ≡ Some (fault why place)) ⊎ (r ≡ Some (fault flaw.NoMemory 0))
+
+-- a schema was made, or a kind has no finite value, or memory was refused
+abbrev pub IsNoFlaw : Option SchemaFault → Type 0
+IsNoFlaw None = ⊤
+IsNoFlaw (Some e) = (e.why ≡ flaw.NoFiniteValue) ⊎ (e.why ≡ flaw.NoMemory)

@@ -1,10 +1,10 @@
 //! Which lists of kinds and names make a schema, and what a schema answers (RFC 4506 section 4).
 //!
 //! Each function calls the library, and its `ensures` is what the library's contract makes certain about the answer.
-ghost use Rattle.std.specs.Prelude.{◌≡◌, ◌<◌, ◌≤◌, ℕ, length, Some, IfOk};
+ghost use Rattle.std.specs.Prelude.{◌≡◌, ◌<◌, ◌≤◌, ℕ, length, Some, None, IfOk};
 ghost use Rattle.xdr_types.specs.Forms.{lists_of};
 ghost use Rattle.xdr_types.specs.Faults.{fault};
-ghost use Rattle.xdr_examples.specs.Refusal.{first_flaw, IsRefusedFor};
+ghost use Rattle.xdr_examples.specs.Refusal.{first_flaw, IsRefusedFor, IsNoFlaw};
 
 use crate::made::{arm, member};
 use std::alloc::{AllocError, Global};
@@ -14,8 +14,9 @@ use xdr_types::{Flaw, Kind, KindId, Schema, SchemaFault};
 /// Why lists make no schema; none where they do. It is the first flaw that they have, or want of memory.
 pub fn refusal(alloc: Global, kinds: Vec<Kind>, names: Vec<(String, KindId)>) -> Option<SchemaFault>
     requires { length kinds.items ≤ 1024 }
-    ensures { (why : Flaw) (place : ℕ) → first_flaw (lists_of kinds.items names.items) ≡ Some (fault why place)
+    ensures first { (why : Flaw) (place : ℕ) → first_flaw (lists_of kinds.items names.items) ≡ Some (fault why place)
         → IsRefusedFor result why place }
+    ensures none { first_flaw (lists_of kinds.items names.items) ≡ None → IsNoFlaw result }
 {
     match Schema::build(alloc, kinds, names) {
         Ok(_) => None,
@@ -108,6 +109,21 @@ pub fn case_in_two_arms(alloc: Global) -> Result<Option<SchemaFault>, AllocError
 {
     let first = arm(alloc, 0, 1, member(alloc, "x", 0)?)?;
     let second = arm(alloc, 2, 0, member(alloc, "y", 0)?)?;
+    let choice = Kind::Choice {
+        tag: KindId { place: 0 },
+        arms: vec![in alloc; first, second]?,
+        other: None,
+    };
+    let kinds = vec![in alloc; Kind::Int, choice]?;
+    Ok(refusal(alloc, kinds, Vec::new(alloc)))
+}
+
+/// Arms without a name do not share one: these two are no flaw.
+pub fn arms_without_names(alloc: Global) -> Result<Option<SchemaFault>, AllocError>
+    ensures { IfOk result (λ r. IsNoFlaw r) }
+{
+    let first = arm(alloc, 0, 1, member(alloc, "", 0)?)?;
+    let second = arm(alloc, 2, 3, member(alloc, "", 0)?)?;
     let choice = Kind::Choice {
         tag: KindId { place: 0 },
         arms: vec![in alloc; first, second]?,

@@ -3,8 +3,9 @@ use Rattle.std.proofs.Common.{◌≡◌, ℕ, zero, suc, ◌+◌, ◌<◌, List,
 use Rattle.std.specs.List.{AllByRecursion, Contains}
 use Rattle.std.proofs.lemmas.Bool.{false≢true}
 use Rattle.std.proofs.lemmas.List.{get_or-map, get_or_read, length-replicate}
-use Rattle.xdr_types.specs.Forms.{form_of}
+use Rattle.xdr_types.specs.Forms.{form_of, part_of_member}
 use Rattle.xdr_types.specs.declared.kind.Kind.{Kind}
+use Rattle.xdr_types.specs.declared.kind.Member.{Member}
 use Rattle.xdr_types.specs.Form as form
 use Rattle.xdr_types.specs.Form.{Form, Part, Branch, kind_at}
 use Rattle.xdr_types.specs.Faults.{some_optional}
@@ -45,6 +46,21 @@ all-marked hs (p ∷ ps) h = let b = both (is_marked hs p.kind) (are_marked hs p
 marked-all : (hs : List (Option ℕ)) (ps : List Part) → AllByRecursion (λ p. IsMarked hs p.kind) ps → are_marked hs ps ≡ true
 marked-all hs [] h = refl
 marked-all hs (p ∷ ps) h = both_of (is_marked hs p.kind) (are_marked hs ps) h.0 (marked-all hs ps h.1)
+
+-- where a part has no number, not all have
+pub unmarked : (hs : List (Option ℕ)) (ms : List Member) (i : ℕ) (m : Member) → i < length ms → m ≡ get_or ms i m → is_marked hs m.kind.place ≡ false
+    → are_marked hs (map part_of_member ms) ≡ false
+unmarked hs [] i m h is absent = absurd (omega arith)
+unmarked hs (n ∷ ms) zero m h is absent =
+    let first : is_marked hs n.kind.place ≡ false = ap (λ (k : Member). is_marked hs k.kind.place) (sym is) ∙ absent in
+    rw first refl
+unmarked hs (n ∷ ms) (suc i) m h is absent =
+    let later : are_marked hs (map part_of_member ms) ≡ false = unmarked hs ms i m (omega arith) is absent in
+    rw later (and-false (is_marked hs n.kind.place))
+  where
+    and-false : (b : Bool) → b && false ≡ false
+    and-false true = refl
+    and-false false = refl
 
 pub structure-met : (kinds : List Form) (hs : List (Option ℕ)) (f : Form) (parts : List Part) (r : Bool) → f ≡ form.structure parts → r ≡ are_marked hs parts
     → IsTrue r ↔ Asks kinds (IsMarked hs) f

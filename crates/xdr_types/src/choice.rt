@@ -1,7 +1,8 @@
-// The tags and parts of a choice.
-ghost use Rattle.std.specs.Prelude.{◌≡◌, map, option_map};
+//! The tags and parts of a choice.
+ghost use Rattle.std.specs.Prelude.{◌≡◌, map, option_map, not};
 ghost use Rattle.xdr_types.specs.Form.{kind_at};
 ghost use Rattle.xdr_types.specs.Forms.{form_of, constant_of, part_of_member, branch_of};
+ghost use Rattle.xdr_types.specs.Sound.{has_arm};
 ghost use Rattle.xdr_types.specs.Fits.{is_numbered, is_listed, is_tag_of, part_of};
 
 use crate::kind::{Arm, Kind, KindId, Member};
@@ -60,6 +61,18 @@ pub fn lists(cases: &[i64], number: i64) -> bool
     false
 }
 
+/// Whether no arm lists the number.
+pub fn has_no_arm(arms: &[Arm], number: i64) -> bool
+    ensures { result ≡ not (has_arm (map branch_of arms.now) number) }
+{
+    for arm in arms {
+        if lists(&arm.cases, number) {
+            return false;
+        }
+    }
+    true
+}
+
 /// The part of a union under a discriminant: that of the arm which lists the number, else the default, where there is
 /// one (RFC 4506 section 4.15).
 pub fn part_under<'a>(
@@ -67,7 +80,8 @@ pub fn part_under<'a>(
     other: &'a Option<Member>,
     number: i64,
 ) -> Option<&'a Member>
-    ensures { option_map (λ m. part_of_member m.now) result ≡ part_of (map branch_of arms.now.items) (option_map part_of_member other.now) number }
+    ensures { option_map (λ m. part_of_member m.now) result
+        ≡ part_of (map branch_of arms.now.items) (option_map part_of_member other.now) number }
 {
     for arm in arms {
         if lists(&arm.cases, number) {

@@ -1,4 +1,4 @@
-// Equality of values is equality of trees.
+//! Equality of values is equality of trees.
 ghost use Rattle.std.specs.Prelude.{◌≡◌, ◌↔◌, IsTrue};
 ghost use Rattle.std.specs.Cmp.{on_equiv, on_per, partial_equiv_from_equiv};
 ghost use Rattle.std.specs.Ordering.{on};

@@ -1,4 +1,4 @@
-// Why lists of kinds and names make no schema.
+//! Why lists of kinds and names make no schema.
 ghost use Rattle.std.specs.Prelude.{◌≡◌};
 ghost use Rattle.xdr_types.specs.Faults.{fault_number};
 

@@ -1,14 +1,15 @@
-// Heights of kinds, found in rounds.
-ghost use Rattle.std.specs.Prelude.{◌≡◌, ◌+◌, ◌<◌, ◌≤◌, ◌↔◌, length, map, option_map, None, IsTrue, IfOk, MatchOption, true, false, not, replicate};
+//! Heights of kinds, found in rounds.
+ghost use Rattle.std.specs.Prelude.{◌≡◌, ◌+◌, ◌<◌, ◌≤◌, ◌↔◌, length, map, option_map, None, IsTrue, IfOk, MatchOption};
+ghost use Rattle.std.specs.Prelude.{true, false, replicate};
 ghost use Rattle.xdr_types.specs.Form.{Part, kind_at};
 ghost use Rattle.xdr_types.specs.Forms.{form_of, part_of_member, branch_of};
 ghost use Rattle.xdr_types.specs.Faults.{some_optional};
-ghost use Rattle.xdr_types.specs.Sound.{IsSound, Asks, has_arm};
+ghost use Rattle.xdr_types.specs.Sound.{IsSound, Asks};
 ghost use Rattle.xdr_types.specs.Height.{AreHigher};
-ghost use Rattle.xdr_types.specs.Rounds.{given, are_marked, some_marked, is_marked, IsMarked, IsClosed, AreHeights, IsLowestWithout};
+ghost use Rattle.xdr_types.specs.Rounds.{given, are_marked, some_marked, is_marked, IsMarked, IsClosed, AreHeights};
+ghost use Rattle.xdr_types.specs.Rounds.{IsLowestWithout};
 ghost use Rattle.xdr_types.specs.Sets.{IsReached, AreReached};
 
-use crate::choice::lists;
 use crate::kind::{Arm, Kind, KindId, Member};
 use crate::reach::reached_defaults;
 use std::alloc::{AllocError, Global};
@@ -33,10 +34,37 @@ fn all_marked(heights: &Vec<Option<u32>>, members: &Vec<Member>) -> bool
     true
 }
 
+// The first of the members from an index on that has no number, or else their count.
+fn next_unmarked(heights: &Vec<Option<u32>>, members: &Vec<Member>, from: usize) -> usize
+    ensures { result < length members.now.items
+        → are_marked heights.now.items (map part_of_member members.now.items) ≡ false }
+{
+    for i in from..members.len() {
+        if !is_marked(heights, members[i].kind) {
+            return i;
+        }
+    }
+    members.len()
+}
+
+// The same as `all_marked`, where `wait` is the index of a member that had no number when it was last asked: while that
+// one has none, no other is looked at.
+fn are_settled(heights: &Vec<Option<u32>>, wait: &mut usize, members: &Vec<Member>) -> bool
+    ensures { result ≡ are_marked heights.now.items (map part_of_member members.now.items) }
+{
+    let next = next_unmarked(heights, members, *wait);
+    if next < members.len() {
+        *wait = next;
+        return false;
+    }
+    all_marked(heights, members)
+}
+
 // Whether a place that has no number has what it asks; it then gets the next number.
 fn settle(
     kinds: &Vec<Kind>,
     reached: &Vec<bool>,
+    waits: &mut Vec<usize>,
     heights: &mut Vec<Option<u32>>,
     next: &mut u32,
     place: usize,
@@ -44,13 +72,25 @@ fn settle(
     requires few { length kinds.now.items ≤ 1024 }
     requires within { place < length kinds.now.items }
     requires reached { AreReached (map form_of kinds.now.items) reached.now.items }
+    requires waits { length waits.old.items ≡ length kinds.now.items }
     requires heights { AreHeights (map form_of kinds.now.items) heights.old.items next.old }
+    ensures waits { length waits.new.items ≡ length kinds.now.items }
     ensures heights { AreHeights (map form_of kinds.now.items) heights.new.items next.new }
     ensures settled { IsTrue result → next.new ≡ next.old + 1 }
     ensures same { result ≡ false → (heights.new.items ≡ heights.old.items) × (next.new ≡ next.old) }
-    ensures open { result ≡ false → given heights.new.items place ≡ None → Asks (map form_of kinds.now.items) (IsMarked heights.new.items) (kind_at (map form_of kinds.now.items) place) → ⊥ }
+    ensures open { result ≡ false → given heights.new.items place ≡ None
+        → Asks (map form_of kinds.now.items) (IsMarked heights.new.items) (kind_at (map form_of kinds.now.items) place)
+        → ⊥ }
 {
-    if heights[place].is_some() || !is_met(kinds, reached[place], heights, &kinds[place]) {
+    if heights[place].is_some()
+        || !is_met(
+            kinds,
+            reached[place],
+            heights,
+            &mut waits[place],
+            &kinds[place],
+        )
+    {
         return false;
     }
     heights[place] = Some(*next);
@@ -62,19 +102,22 @@ fn settle(
 fn round(
     kinds: &Vec<Kind>,
     reached: &Vec<bool>,
+    waits: &mut Vec<usize>,
     heights: &mut Vec<Option<u32>>,
     next: &mut u32,
 ) -> bool
     requires few { length kinds.now.items ≤ 1024 }
     requires reached { AreReached (map form_of kinds.now.items) reached.now.items }
+    requires waits { length waits.old.items ≡ length kinds.now.items }
     requires heights { AreHeights (map form_of kinds.now.items) heights.old.items next.old }
+    ensures waits { length waits.new.items ≡ length kinds.now.items }
     ensures heights { AreHeights (map form_of kinds.now.items) heights.new.items next.new }
     ensures grows { IsTrue result → next.old < next.new }
     ensures closed { result ≡ false → IsClosed (map form_of kinds.now.items) heights.new.items }
 {
     let mut changed = false;
     for place in 0..kinds.len() {
-        if settle(kinds, reached, heights, next, place) {
+        if settle(kinds, reached, waits, heights, next, place) {
             changed = true;
         }
     }
@@ -84,18 +127,28 @@ fn round(
 /// The lowest place without a height, where there is one.
 pub fn lowest_without_height(alloc: Global, kinds: &Vec<Kind>) -> Result<Option<usize>, AllocError>
     requires { length kinds.now.items ≤ 1024 }
-    ensures { IfOk result (λ r. MatchOption r (IsSound (map form_of kinds.now.items) × AreHigher (map form_of kinds.now.items)) (IsLowestWithout (map form_of kinds.now.items))) }
+    ensures { IfOk result
+        (λ r. MatchOption r (IsSound (map form_of kinds.now.items) × AreHigher (map form_of kinds.now.items))
+        (IsLowestWithout (map form_of kinds.now.items))) }
 {
     let reached = reached_defaults(alloc, kinds)?;
+    let mut waits = no_waits(alloc, kinds.len())?;
     let mut heights = no_heights(alloc, kinds.len())?;
     let mut next = 0;
-    while round(kinds, &reached, &mut heights, &mut next) {}
+    while round(kinds, &reached, &mut waits, &mut heights, &mut next) {}
     for place in 0..kinds.len() {
         if heights[place].is_none() {
             return Ok(Some(place));
         }
     }
     Ok(None)
+}
+
+// For so many places, that their first member is to be asked first.
+fn no_waits(alloc: Global, count: usize) -> Result<Vec<usize>, AllocError>
+    ensures { IfOk result (λ v. length v.items ≡ count) }
+{
+    vec![in alloc; 0usize; count]
 }
 
 // So many places without numbers.
@@ -110,13 +163,19 @@ fn no_heights(alloc: Global, count: usize) -> Result<Vec<Option<u32>>, AllocErro
 }
 
 // Whether the kind has what it asks among the places with numbers.
-fn is_met(kinds: &Vec<Kind>, is_reached: bool, heights: &Vec<Option<u32>>, kind: &Kind) -> bool
+fn is_met(
+    kinds: &Vec<Kind>,
+    is_reached: bool,
+    heights: &Vec<Option<u32>>,
+    wait: &mut usize,
+    kind: &Kind,
+) -> bool
     requires { IsReached (map form_of kinds.now.items) (form_of kind.now) is_reached }
     ensures { IsTrue result ↔ Asks (map form_of kinds.now.items) (IsMarked heights.now.items) (form_of kind.now) }
 {
     match kind {
         Kind::Fixed { item, size: _ } => is_marked(heights, *item),
-        Kind::Structure { fields } => all_marked(heights, fields),
+        Kind::Structure { fields } => are_settled(heights, wait, fields),
         Kind::Choice {
             tag: _,
             arms,
@@ -140,22 +199,11 @@ fn any_marked(heights: &Vec<Option<u32>>, arms: &Vec<Arm>) -> bool
 
 // Whether there is a default, and its part has a number.
 fn is_other_marked(heights: &Vec<Option<u32>>, other: &Option<Member>) -> bool
-    ensures { result ≡ some_optional (λ (part : Part). is_marked heights.now.items part.kind) (option_map part_of_member other.now) }
+    ensures { result
+        ≡ some_optional (λ (part : Part). is_marked heights.now.items part.kind) (option_map part_of_member other.now) }
 {
     match other {
         Some(member) => is_marked(heights, member.kind),
         None => false,
     }
-}
-
-/// Whether no arm lists the number.
-pub fn has_no_arm(arms: &[Arm], number: i64) -> bool
-    ensures { result ≡ not (has_arm (map branch_of arms.now) number) }
-{
-    for arm in arms {
-        if lists(&arm.cases, number) {
-            return false;
-        }
-    }
-    true
 }

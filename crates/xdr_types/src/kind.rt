@@ -1,8 +1,9 @@
-// The kinds of XDR.
+//! The kinds of XDR.
 ghost use Rattle.std.specs.Cmp.{on_equiv, on_per, partial_equiv_from_equiv};
 ghost use Rattle.std.specs.Ordering.{on};
 ghost use Rattle.xdr_types.specs.Forms.{part_of_member, branch_of, form_of};
-ghost use Rattle.xdr_types.specs.Alike.{same_part, same_branch, same_form, part_equivalence, branch_equivalence, form_equivalence};
+ghost use Rattle.xdr_types.specs.Alike.{same_part, same_branch, same_form, part_equivalence, branch_equivalence};
+ghost use Rattle.xdr_types.specs.Alike.{form_equivalence};
 
 use std::string::String;
 

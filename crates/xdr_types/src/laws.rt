@@ -1,7 +1,8 @@
-// Laws of the definitions, each the contract of a function that does nothing.
+//! Laws of the definitions, each the contract of a function that does nothing.
 ghost use Rattle.std.specs.Prelude.{List};
 ghost use Rattle.xdr_types.specs.Form.{Form};
-ghost use Rattle.xdr_types.specs.Laws.{EachSpellingIsOneValue, EqualExactlyIfSpelledAlike, NoSpellingBeginsAnother, EachKindOfASchemaHasAValue};
+ghost use Rattle.xdr_types.specs.Laws.{EachSpellingIsOneValue, EqualExactlyIfSpelledAlike, NoSpellingBeginsAnother};
+ghost use Rattle.xdr_types.specs.Laws.{EachKindOfASchemaHasAValue};
 ghost use Rattle.xdr_types.specs.Refused.{NoSchemaHasAFault};
 
 /// Two values of a kind are equal exactly if their encodings are, and no encoding of a kind begins another. So one

@@ -5,30 +5,34 @@
 //! which of them fit, their encodings, and the outcome of decoding.
 #![tactic(auto)]
 
-mod check;
 mod choice;
 mod depth;
+mod empty;
 mod equal;
 mod fault;
 mod faults;
+mod fit;
 mod heights;
 mod kind;
 mod laws;
 mod limits;
-mod pairs;
+mod names;
+mod places;
 mod reach;
-mod room;
 mod schema;
 mod sets;
+mod sizes;
+mod tags;
 mod twice;
 mod value;
 
 pub use choice::{is_legal_tag, is_number_of, part_under};
 pub use equal::is_equal;
 pub use fault::{Flaw, SchemaFault};
+pub use fit::fits;
 pub use kind::{Arm, Kind, KindId, Member};
 pub use laws::{each_kind_has_a_value, each_spelling_is_one_value, no_schema_has_a_fault};
 pub use limits::Limits;
-pub use room::{fits, size};
 pub use schema::{Schema, is_same_schema};
+pub use sizes::size;
 pub use value::Value;

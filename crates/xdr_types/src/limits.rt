@@ -1,4 +1,4 @@
-// Limits on the depth and the bytes of a value.
+//! Limits on the depth and the bytes of a value.
 ghost use Rattle.std.specs.Prelude.{◌≡◌, ◌≤◌, MatchOption};
 ghost use Rattle.xdr_types.specs.Within.{AreBounds};
 
@@ -26,7 +26,8 @@ impl Model for Limits {
 impl Limits {
     /// The limits, where both numbers are in range; else none.
     pub fn new(depth: u32, bytes: u32) -> Option<Limits>
-        ensures { MatchOption result (AreBounds depth bytes → ⊥) (λ l. AreBounds depth bytes × (l ≡ record { depth = depth; bytes = bytes })) }
+        ensures { MatchOption result (AreBounds depth bytes → ⊥)
+            (λ l. AreBounds depth bytes × (l ≡ record { depth = depth; bytes = bytes })) }
     {
         if depth == 0 || depth > 4096 || bytes < 4 || bytes > 16777216 || bytes % 4 != 0 {
             return None;

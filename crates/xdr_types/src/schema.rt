@@ -1,4 +1,4 @@
-// A schema: kinds that name one another by place, and names for some.
+//! A schema: kinds that name one another by place, and names for some.
 ghost use Rattle.std.specs.Prelude.{◌≡◌, ◌<◌, ◌≤◌, ◌↔◌, IsTrue, length, map, option_map, IfOk, MatchResult};
 ghost use Rattle.xdr_types.specs.Form.{kind_at};
 ghost use Rattle.xdr_types.specs.Forms.{form_of, name_of, lists_of};
@@ -12,9 +12,10 @@ ghost use Rattle.xdr_types.specs.Alike.{same_lists, lists_equivalence};
 ghost use Rattle.xdr_types.specs.Named.{basic, named, place_named};
 
 use crate::fault::{Flaw, SchemaFault};
-use crate::faults::{first_in_kinds, first_in_names};
+use crate::faults::first_in_kinds;
 use crate::heights::lowest_without_height;
 use crate::kind::{Kind, KindId};
+use crate::names::first_in_names;
 use std::alloc::{AllocError, Global};
 use std::marker::Model;
 use std::string::String;
@@ -39,7 +40,12 @@ impl Model for Schema {
 
     ghost view = { λ s. lists_of s.kinds.items s.names.items };
 
-    ghost invariant = { λ s. record { well_formed : IsWellFormed (lists_of s.kinds.items s.names.items); sound : IsSound (map form_of s.kinds.items); higher : AreHigher (map form_of s.kinds.items) } };
+    ghost invariant = { λ s. record {
+      well_formed : IsWellFormed (lists_of s.kinds.items s.names.items);
+      sound : IsSound
+          (map form_of s.kinds.items);
+      higher : AreHigher (map form_of s.kinds.items);
+    } };
 }
 
 impl PartialEq for Schema {
@@ -117,9 +123,9 @@ impl Schema {
         self.kinds.len()
     }
 
-    /// The basic schema, of the kinds without declarations (RFC 4506 sections 4.1, 4.2, 4.4, 4.5, 4.10, 4.11, 4.16): `int`,
-    /// `unsigned`, `hyper`, `unsigned-hyper`, `bool`, a void kind without a name, `opaque` and `string`, at places 0 to
-    /// 7. An error is want of memory.
+    /// The basic schema, of the kinds without declarations (RFC 4506 sections 4.1, 4.2, 4.4, 4.5, 4.10, 4.11, 4.16):
+    /// `int`, `unsigned`, `hyper`, `unsigned-hyper`, `bool`, a void kind without a name, `opaque` and `string`, at
+    /// places 0 to 7. An error is want of memory.
     pub fn basic(alloc: Global) -> Result<Schema, AllocError>
         ensures { IfOk result (λ s. s ≡ basic) }
     {

@@ -98,7 +98,8 @@ pub fn is_legal_case(kinds: &Vec<Kind>, numbers: &[BTreeSet<i64>], tag: KindId, 
 
 // Puts cases into a set.
 fn add_cases(cases: &mut BTreeSet<i64>, more: &[i64]) -> Result<(), AllocError>
-    ensures { OnOk result ((z : ℤ) → contains int_cmp cases.new z ≡ (is_listed more.now z || contains int_cmp cases.old z)) }
+    ensures { OnOk result
+        ((z : ℤ) → contains int_cmp cases.new z ≡ (is_listed more.now z || contains int_cmp cases.old z)) }
 {
     for case in more {
         add_case(cases, *case)?;

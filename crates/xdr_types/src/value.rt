@@ -1,4 +1,4 @@
-// A value, and its copy.
+//! A value, and its copy.
 ghost use Rattle.std.specs.Prelude.{◌≡◌, IfOk, map};
 ghost use Rattle.xdr_types.specs.View.{tree};
 

@@ -1,5 +1,5 @@
 // Long lists, with nothing twice and with a name or a case twice far apart.
-use crate::types::made::{arm, id, member, refusal};
+use crate::types::made::{arm, id, member, refusal, structure};
 use std::alloc::{AllocError, Global};
 use std::string::String;
 use std::test::Fail;
@@ -139,5 +139,23 @@ fn refuses_the_first_name_again_at_the_end(rt: HostRuntime) -> Result<(), Fail> 
     let mut many = names(alloc, 1999)?;
     many.push((numbered(alloc, 0)?, id(0)))?;
     assert!(rt; of_names(alloc, many)? == Some((Flaw::NameTwice, 1999)));
+    Ok(())
+}
+
+// What is wrong with a chain of so many kinds: structures that each hold the next, and an int at the end.
+fn of_kinds(alloc: Global, count: u32) -> Result<Option<(Flaw, usize)>, AllocError> {
+    let mut kinds = Vec::new(alloc);
+    for place in 1..count {
+        kinds.push(structure(alloc, "x", place)?)?;
+    }
+    kinds.push(Kind::Int)?;
+    Ok(refusal(alloc, kinds))
+}
+
+#[test]
+fn accepts_1024_kinds(rt: HostRuntime) -> Result<(), Fail> {
+    let alloc = rt.alloc();
+    assert!(rt; of_kinds(alloc, 1024)?.is_none());
+    assert!(rt; of_kinds(alloc, 1025)? == Some((Flaw::TooManyKinds, 0)));
     Ok(())
 }

@@ -2,5 +2,6 @@
 mod made;
 mod many;
 mod memory;
+mod rows;
 mod schemas;
 mod values;

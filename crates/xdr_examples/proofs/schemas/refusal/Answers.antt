@@ -1,14 +1,26 @@
 use Rattle.std.proofs.Common.{◌≤◌, ap, sym, ◌∙◌, arith, length, map}
 use Rattle.std.proofs.lemmas.List.{length-map}
 use Rattle.xdr_types.specs.Forms.{form_of, lists_of}
-use Rattle.xdr_examples.proofs.First.{answered, err_of}
+use Rattle.xdr_examples.proofs.First.{answered, flawless, err_of}
 use Rattle.xdr_examples.proofs.schemas.refusal.Goals as goal
 use Rattle.xdr_examples.proofs.schemas.refusal.Goals.{in-Ok, in-Err}
 
-pub returns : goal.returns
-returns c = λ why place is.
+pub returns-clause-first : goal.returns-clause-first
+returns-clause-first c = λ why place is.
     let ks = c.args.kinds.items in
     let few : length (map form_of ks) ≤ 1024 = omega (arith, length-map ks form_of, c.requires) in
     answered (lists_of ks c.args.names.items) c.build.result c.match-build.result why place c.build.ensures few is
-    (elim c.match-build.branch
-    [ in-Ok w ↦ w.result-is ∙ sym (ap err_of w.in-Ok.is) | in-Err w ↦ w.result-is ∙ sym (ap err_of w.in-Err.is) ])
+    (elim c.match-build.branch [
+      | in-Ok w ↦ w.result-is ∙ sym (ap err_of w.in-Ok.is)
+      | in-Err w ↦ w.result-is ∙ sym (ap err_of w.in-Err.is)
+    ])
+
+pub returns-clause-none : goal.returns-clause-none
+returns-clause-none c = λ is.
+    let ks = c.args.kinds.items in
+    let few : length (map form_of ks) ≤ 1024 = omega (arith, length-map ks form_of, c.requires) in
+    flawless (lists_of ks c.args.names.items) c.build.result c.match-build.result c.build.ensures few is
+    (elim c.match-build.branch [
+      | in-Ok w ↦ w.result-is ∙ sym (ap err_of w.in-Ok.is)
+      | in-Err w ↦ w.result-is ∙ sym (ap err_of w.in-Err.is)
+    ])

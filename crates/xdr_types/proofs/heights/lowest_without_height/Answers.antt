@@ -9,9 +9,12 @@ use Rattle.xdr_types.proofs.heights.lowest_without_height.Goals as goal
 
 pub loop-init : goal.loop-init
 loop-init c =
-    let ks = c.args.kinds.now in
-    fresh (map form_of ks.items) c.in_ok-heights.heights.items
-    (c.in_ok-heights.ensures ∙ ap (λ (n : ℕ). replicate n None) (c.len.ensures ∙ ks.ok.0 ∙ sym (length-map ks.items form_of)))
+    let ks = c.args.kinds.now in (
+      fresh (map form_of ks.items) c.in_ok-heights.heights.items
+          (c.in_ok-heights.ensures
+          ∙ ap (λ (n : ℕ). replicate n None) (c.len-2.ensures ∙ ks.ok.0 ∙ sym (length-map ks.items form_of))),
+      c.in_ok-waits.ensures ∙ c.len.ensures ∙ ks.ok.0,
+    )
 
 pub returns-then-is_none : goal.returns-then-is_none
 returns-then-is_none c =

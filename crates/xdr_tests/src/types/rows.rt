@@ -1,0 +1,205 @@
+//! Lists that make a schema or none, as rows: the kinds, the names, and the first fault with its place.
+use crate::types::made::{arm, id, structure};
+use std::alloc::{AllocError, Global};
+use std::string::String;
+use std::test::Fail;
+use xdr_types::{Flaw, Kind, KindId, Schema};
+
+// A kind of at most one part.
+enum Small {
+    Int,
+    Hyper,
+    Bool,
+    Void,
+    // A fixed opaque of this size.
+    Opaque(u32),
+    // An array of the kind at the first place, of the second number of items.
+    Array(u32, u32),
+    Optional(u32),
+    // A structure of one field.
+    Structure(u32),
+    // A structure without a field.
+    Empty,
+    // A union over the first place, with two cases for the part at the last.
+    Union(u32, [i64; 2], u32),
+}
+
+// The kinds, the names with their places, and the fault, if there is one.
+type Row = (
+    &'static [Small],
+    &'static [(&'static str, u32)],
+    Option<(Flaw, usize)>,
+);
+
+const ROWS: [Row; 27] = [
+    // One fault each.
+    (&[Small::Opaque(0)], &[], Some((Flaw::ZeroSize, 0))),
+    (&[Small::Void], &[("n", 0)], Some((Flaw::VoidMember, 0))),
+    (&[Small::Array(0, 2)], &[], Some((Flaw::NoFiniteValue, 0))),
+    (&[Small::Structure(1), Small::Optional(0)], &[], None),
+    (
+        &[Small::Bool, Small::Union(0, [1, 1], 0)],
+        &[],
+        Some((Flaw::CaseTwice, 1)),
+    ),
+    (
+        &[Small::Bool, Small::Union(0, [1, 2], 0)],
+        &[],
+        Some((Flaw::CaseNotLegal, 1)),
+    ),
+    (&[Small::Bool, Small::Union(0, [0, 1], 0)], &[], None),
+    (
+        &[Small::Hyper, Small::Union(0, [0, 1], 0)],
+        &[],
+        Some((Flaw::BadDiscriminant, 1)),
+    ),
+    (&[Small::Empty], &[], Some((Flaw::EmptyList, 0))),
+    (
+        &[Small::Int, Small::Optional(2)],
+        &[],
+        Some((Flaw::UnknownKind, 1)),
+    ),
+    (
+        &[Small::Int],
+        &[("a", 0), ("b", 0), ("a", 0)],
+        Some((Flaw::NameTwice, 2)),
+    ),
+    // Two faults in one kind: the one that is listed first.
+    (
+        &[Small::Int, Small::Array(7, 0)],
+        &[],
+        Some((Flaw::UnknownKind, 1)),
+    ),
+    (
+        &[Small::Void, Small::Array(0, 0)],
+        &[],
+        Some((Flaw::ZeroSize, 1)),
+    ),
+    (
+        &[Small::Hyper, Small::Union(0, [1, 1], 0)],
+        &[],
+        Some((Flaw::BadDiscriminant, 1)),
+    ),
+    (
+        &[Small::Bool, Small::Union(0, [2, 2], 0)],
+        &[],
+        Some((Flaw::CaseTwice, 1)),
+    ),
+    (
+        &[Small::Bool, Small::Union(0, [1, 2], 1)],
+        &[],
+        Some((Flaw::CaseNotLegal, 1)),
+    ),
+    // Two kinds with a fault: the lower place.
+    (
+        &[Small::Opaque(0), Small::Structure(9)],
+        &[],
+        Some((Flaw::ZeroSize, 0)),
+    ),
+    (
+        &[Small::Structure(9), Small::Opaque(0)],
+        &[],
+        Some((Flaw::UnknownKind, 0)),
+    ),
+    (
+        &[Small::Int, Small::Empty, Small::Optional(9)],
+        &[],
+        Some((Flaw::EmptyList, 1)),
+    ),
+    // Kinds before names, and names before heights.
+    (
+        &[Small::Int, Small::Opaque(0)],
+        &[("n", 5)],
+        Some((Flaw::ZeroSize, 1)),
+    ),
+    (
+        &[Small::Structure(0)],
+        &[("n", 5)],
+        Some((Flaw::UnknownKind, 0)),
+    ),
+    (
+        &[Small::Structure(0), Small::Opaque(0)],
+        &[],
+        Some((Flaw::ZeroSize, 1)),
+    ),
+    // Two names with a fault, and two faults of one name.
+    (
+        &[Small::Int],
+        &[("a", 0), ("b", 7), ("a", 0)],
+        Some((Flaw::UnknownKind, 1)),
+    ),
+    (
+        &[Small::Int],
+        &[("a", 0), ("a", 7)],
+        Some((Flaw::UnknownKind, 1)),
+    ),
+    (
+        &[Small::Int, Small::Void],
+        &[("a", 0), ("a", 1)],
+        Some((Flaw::VoidMember, 1)),
+    ),
+    // Two kinds without a height: the lower place.
+    (
+        &[Small::Int, Small::Structure(2), Small::Structure(1)],
+        &[],
+        Some((Flaw::NoFiniteValue, 1)),
+    ),
+    (
+        &[Small::Structure(1), Small::Array(2, 3), Small::Structure(2)],
+        &[],
+        Some((Flaw::NoFiniteValue, 0)),
+    ),
+];
+
+// A kind of a row.
+fn kind(alloc: Global, small: &Small) -> Result<Kind, AllocError> {
+    match small {
+        Small::Int => Ok(Kind::Int),
+        Small::Hyper => Ok(Kind::Hyper),
+        Small::Bool => Ok(Kind::Bool),
+        Small::Void => Ok(Kind::Nothing),
+        Small::Opaque(size) => Ok(Kind::Opaque { size: *size }),
+        Small::Array(item, size) => Ok(Kind::Fixed {
+            item: id(*item),
+            size: *size,
+        }),
+        Small::Optional(item) => Ok(Kind::Maybe { item: id(*item) }),
+        Small::Structure(field) => structure(alloc, "x", *field),
+        Small::Empty => Ok(Kind::Structure {
+            fields: Vec::new(alloc),
+        }),
+        Small::Union(tag, cases, part) => Ok(Kind::Choice {
+            tag: id(*tag),
+            arms: vec![in alloc; arm(alloc, *cases, "x", *part)?]?,
+            other: None,
+        }),
+    }
+}
+
+// What is wrong with a row's lists.
+fn fault(
+    alloc: Global,
+    smalls: &[Small],
+    entries: &[(&str, u32)],
+) -> Result<Option<(Flaw, usize)>, AllocError> {
+    let mut kinds = Vec::new(alloc);
+    for small in smalls {
+        kinds.push(kind(alloc, small)?)?;
+    }
+    let mut names: Vec<(String, KindId)> = Vec::new(alloc);
+    for entry in entries {
+        names.push((String::from_str(alloc, entry.0)?, id(entry.1)))?;
+    }
+    match Schema::build(alloc, kinds, names) {
+        Ok(_) => Ok(None),
+        Err(fault) => Ok(Some((fault.why, fault.place))),
+    }
+}
+
+#[test]
+fn finds_the_first_fault(rt: HostRuntime) -> Result<(), Fail> {
+    for row in &ROWS {
+        assert!(rt; fault(rt.alloc(), row.0, row.1)? == row.2);
+    }
+    Ok(())
+}

@@ -1,0 +1,151 @@
+//! Whether a value is one of a kind and within limits.
+ghost use Rattle.std.specs.Prelude.{◌≡◌, ◌↔◌, IsTrue, ◌<◌, ℕ, length, map, option_map, nat_le, replicate};
+ghost use Rattle.xdr_types.specs.Form.{kind_at, Part};
+ghost use Rattle.xdr_types.specs.Forms.{form_of, constant_of, part_of_member, branch_of};
+ghost use Rattle.xdr_types.specs.Fits.{fits, fit, item_part, is_numbered, is_length, is_signed, are_bytes};
+ghost use Rattle.xdr_types.specs.View.{tree, values};
+ghost use Rattle.xdr_types.specs.Within.{FitsWithin};
+
+use crate::choice::{is_legal_tag, part_under};
+use crate::depth::is_within;
+use crate::kind::{Kind, KindId, Member};
+use crate::limits::Limits;
+use crate::schema::Schema;
+use crate::sizes::has_room;
+use crate::value::Value;
+use std::string::String;
+
+/// Whether the schema has the kind, the value is one of it, and its depth and its bytes are within the limits (RFC 4506
+/// sections 4.1 to 4.19).
+pub fn fits(schema: &Schema, kind: KindId, value: &Value, limits: Limits) -> bool
+    ensures { IsTrue result ↔ FitsWithin schema.now.kinds kind.place limits (tree value.now) }
+{
+    is_within(value, limits.depth())
+        && is_value(schema, kind, value)
+        && has_room(schema, kind, value, limits.bytes())
+}
+
+// Whether the value is one of the schema's kind.
+#[cycle(fits)]
+fn is_value(schema: &Schema, id: KindId, value: &Value) -> bool
+    ensures { result ≡ fits schema.now.kinds id.place (tree value.now) }
+{
+    if !schema.has(id) {
+        return false;
+    }
+    match (schema.kind(id), value) {
+        (Kind::Int, Value::Int(n)) => every_i32_is_int(*n),
+        (Kind::Unsigned, Value::Unsigned(n)) => every_u32_is_unsigned(*n),
+        (Kind::Hyper, Value::Hyper(n)) => every_i64_is_hyper(*n),
+        (Kind::UnsignedHyper, Value::UnsignedHyper(n)) => every_u64_is_unsigned_hyper(*n),
+        (Kind::Bool, Value::Bool(_)) => true,
+        (Kind::Numbered { members }, Value::Numbered(n)) => has_number(members, *n),
+        (Kind::Opaque { size }, Value::Bytes(bytes)) => bytes.len() == *size as usize
+            && every_u8_is_a_byte(bytes),
+        (Kind::OpaqueUpTo { max }, Value::Bytes(bytes)) => is_length(bytes.len(), *max)
+            && every_u8_is_a_byte(bytes),
+        (Kind::Text { max }, Value::Bytes(bytes)) => is_length(bytes.len(), *max)
+            && every_u8_is_a_byte(bytes),
+        (Kind::Fixed { item, size }, Value::List(items)) => {
+            items.len() == *size as usize && are_values(schema, *item, items)
+        }
+        (Kind::UpTo { item, max }, Value::List(items)) => {
+            is_length(items.len(), *max) && are_values(schema, *item, items)
+        }
+        (Kind::Structure { fields }, Value::Group(parts)) => each_is_value(schema, fields, parts),
+        (Kind::Choice { tag, arms, other }, Value::Choice { tag: number, part }) => {
+            if !is_legal_tag(schema, *tag, *number) {
+                return false;
+            }
+            match part_under(arms, other, *number) {
+                Some(member) => is_value(schema, member.kind, part),
+                None => false,
+            }
+        }
+        (Kind::Maybe { item: _ }, Value::Maybe(None)) => true,
+        (Kind::Maybe { item }, Value::Maybe(Some(part))) => is_value(schema, *item, part),
+        (Kind::Nothing, Value::Nothing) => true,
+        _ => false,
+    }
+}
+
+// Whether each of the values is one of the kind.
+#[cycle(fits)]
+fn are_values(schema: &Schema, id: KindId, items: &Vec<Value>) -> bool
+    ensures { result
+        ≡ fit schema.now.kinds (replicate (length items.now.items) (item_part id.place)) (values items.now.items) }
+{
+    for value in items {
+        if !is_value(schema, id, value) {
+            return false;
+        }
+    }
+    true
+}
+
+// Whether there is one value for each field.
+#[cycle(fits)]
+fn each_is_value(schema: &Schema, fields: &Vec<Member>, parts: &Vec<Value>) -> bool
+    ensures { result ≡ fit schema.now.kinds (map part_of_member fields.now.items) (values parts.now.items) }
+{
+    if fields.len() != parts.len() {
+        return false;
+    }
+    for (i, value) in parts.iter().enumerate() {
+        if !is_value(schema, fields[i].kind, value) {
+            return false;
+        }
+    }
+    true
+}
+
+/// Whether the number is one of an int.
+pub fn every_i32_is_int(n: i32) -> bool
+    ensures { result ≡ is_signed 2147483648 n }
+{
+    true
+}
+
+fn every_i64_is_hyper(n: i64) -> bool
+    ensures { result ≡ is_signed 9223372036854775808 n }
+{
+    true
+}
+
+fn every_u32_is_unsigned(n: u32) -> bool
+    ensures { result ≡ nat_le n 4294967295 }
+{
+    true
+}
+
+fn every_u64_is_unsigned_hyper(n: u64) -> bool
+    ensures { result ≡ nat_le n 18446744073709551615 }
+{
+    true
+}
+
+// Whether content is bytes, as each `u8` is.
+fn every_u8_is_a_byte(bytes: &Vec<u8>) -> bool
+    ensures { result ≡ are_bytes bytes.now.items }
+{
+    true
+}
+
+// Whether a length is at most max.
+fn is_length(len: usize, max: u32) -> bool
+    ensures { result ≡ is_length max len }
+{
+    len <= max as usize
+}
+
+// Whether a member has the number.
+fn has_number(members: &Vec<(String, i32)>, number: i32) -> bool
+    ensures { result ≡ is_numbered (map constant_of members.now.items) number }
+{
+    for member in members {
+        if member.1 == number {
+            return true;
+        }
+    }
+    false
+}

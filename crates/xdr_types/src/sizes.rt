@@ -1,0 +1,175 @@
+//! How many bytes a value has, and whether they are within a limit.
+ghost use Rattle.std.specs.Prelude.{◌≡◌, ◌+◌, ◌<◌, ◌≤◌, ◌↔◌, length, map, replicate, IsTrue, true};
+ghost use Rattle.xdr_types.specs.Form.{kind_at};
+ghost use Rattle.xdr_types.specs.Forms.{form_of, part_of_member};
+ghost use Rattle.xdr_types.specs.Fits.{Fits, fits, fit, item_part, parts};
+ghost use Rattle.xdr_units.specs.Numbers.{pad, padded};
+ghost use Rattle.xdr_types.specs.Spelling.{spelling, own, bytes_of};
+ghost use Rattle.xdr_types.specs.View.{tree, values};
+ghost use Rattle.xdr_types.specs.Within.{IsLeft, FitsWithin};
+
+use crate::choice::part_under;
+use crate::kind::{Kind, KindId, Member};
+use crate::limits::Limits;
+use crate::schema::Schema;
+use crate::value::Value;
+
+/// The count of the bytes of a value that fits.
+pub fn size(schema: &Schema, kind: KindId, value: &Value, limits: Limits) -> u32
+    requires { FitsWithin schema.now.kinds kind.place limits (tree value.now) }
+    ensures { result ≡ length (bytes_of schema.now.kinds kind.place (tree value.now)) }
+{
+    match left_after(schema, kind, value, limits.bytes()) {
+        Some(left) => limits.bytes() - left,
+        None => 0,
+    }
+}
+
+/// Whether there is room for the bytes of a value of the kind.
+pub fn has_room(schema: &Schema, id: KindId, value: &Value, room: u32) -> bool
+    requires { fits schema.now.kinds id.place (tree value.now) ≡ true }
+    ensures { IsTrue result ↔ length (bytes_of schema.now.kinds id.place (tree value.now)) ≤ room }
+{
+    match left_after(schema, id, value, room) {
+        Some(_) => true,
+        None => false,
+    }
+}
+
+#[cycle(left)]
+fn left_after(schema: &Schema, id: KindId, value: &Value, room: u32) -> Option<u32>
+    requires { fits schema.now.kinds id.place (tree value.now) ≡ true }
+    ensures { IsLeft room (length (bytes_of schema.now.kinds id.place (tree value.now))) result }
+{
+    let kind = schema.kind(id);
+    let room = left_after_own(kind, value, room)?;
+    left_after_inner(schema, kind, value, room)
+}
+
+fn left_after_own(kind: &Kind, value: &Value, room: u32) -> Option<u32>
+    ensures { IsLeft room (length (own (form_of kind.now) (tree value.now).0)) result }
+{
+    match value {
+        Value::Int(_) => take(room, 4),
+        Value::Unsigned(_) => take(room, 4),
+        Value::Hyper(_) => take(room, 8),
+        Value::UnsignedHyper(_) => take(room, 8),
+        Value::Bool(_) => take(room, 4),
+        Value::Numbered(_) => take(room, 4),
+        Value::Bytes(bytes) => match kind {
+            Kind::Opaque { size: _ } => take_padded(room, bytes),
+            _ => take_counted(room, bytes),
+        },
+        Value::List(_) => match kind {
+            Kind::Fixed { item: _, size: _ } => take(room, 0),
+            _ => take(room, 4),
+        },
+        Value::Group(_) => take(room, 0),
+        Value::Choice { tag: _, part: _ } => take(room, 4),
+        Value::Maybe(None) => take(room, 4),
+        Value::Maybe(Some(_)) => take(room, 4),
+        Value::Nothing => take(room, 0),
+    }
+}
+
+#[cycle(left)]
+fn left_after_inner(schema: &Schema, kind: &Kind, value: &Value, room: u32) -> Option<u32>
+    requires { fit schema.now.kinds (parts (form_of kind.now) (tree value.now).0) (tree value.now).1 ≡ true }
+    ensures { IsLeft room
+        (length (spelling schema.now.kinds (parts (form_of kind.now) (tree value.now).0) (tree value.now).1)) result }
+{
+    match (kind, value) {
+        (Kind::Fixed { item, size: _ }, Value::List(items)) => left_after_items(
+            schema, *item, items, room,
+        ),
+        (Kind::UpTo { item, max: _ }, Value::List(items)) => left_after_items(
+            schema, *item, items, room,
+        ),
+        (Kind::Structure { fields }, Value::Group(parts)) => left_after_parts(
+            schema, fields, parts, room,
+        ),
+        (
+            Kind::Choice {
+                tag: _,
+                arms,
+                other,
+            },
+            Value::Choice { tag, part },
+        ) => {
+            match part_under(arms, other, *tag) {
+                Some(member) => left_after(schema, member.kind, part, room),
+                None => take(room, 0),
+            }
+        }
+        (Kind::Maybe { item }, Value::Maybe(Some(part))) => left_after(schema, *item, part, room),
+        _ => take(room, 0),
+    }
+}
+
+#[cycle(left)]
+fn left_after_items(schema: &Schema, id: KindId, items: &Vec<Value>, room: u32) -> Option<u32>
+    requires { fit schema.now.kinds (replicate (length items.now.items) (item_part id.place)) (values items.now.items)
+        ≡ true }
+    ensures { IsLeft room
+        (length (spelling schema.now.kinds (replicate (length items.now.items) (item_part id.place))
+        (values items.now.items))) result }
+{
+    let mut left = room;
+    for value in items {
+        left = left_after(schema, id, value, left)?;
+    }
+    Some(left)
+}
+
+#[cycle(left)]
+fn left_after_parts(
+    schema: &Schema,
+    fields: &Vec<Member>,
+    parts: &Vec<Value>,
+    room: u32,
+) -> Option<u32>
+    requires { fit schema.now.kinds (map part_of_member fields.now.items) (values parts.now.items) ≡ true }
+    ensures { IsLeft room
+        (length (spelling schema.now.kinds (map part_of_member fields.now.items) (values parts.now.items))) result }
+{
+    let mut left = room;
+    for (i, value) in parts.iter().enumerate() {
+        left = left_after(schema, fields[i].kind, value, left)?;
+    }
+    Some(left)
+}
+
+fn take(room: u32, count: u32) -> Option<u32>
+    ensures { IsLeft room count result }
+{
+    if count <= room {
+        Some(room - count)
+    } else {
+        None
+    }
+}
+
+fn take_padded(room: u32, bytes: &Vec<u8>) -> Option<u32>
+    ensures { IsLeft room (length (padded bytes.now.items)) result }
+{
+    if bytes.len() > room as usize {
+        return None;
+    }
+    take(room - bytes.len() as u32, zeros(bytes.len()))
+}
+
+fn take_counted(room: u32, bytes: &Vec<u8>) -> Option<u32>
+    ensures { IsLeft room (4 + length (padded bytes.now.items)) result }
+{
+    if room < 4 {
+        return None;
+    }
+    take_padded(room - 4, bytes)
+}
+
+// How many zeros follow so many bytes.
+fn zeros(len: usize) -> u32
+    ensures { result ≡ length (pad len) }
+{
+    ((4 - len % 4) % 4) as u32
+}
