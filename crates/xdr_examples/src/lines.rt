@@ -1,7 +1,8 @@
 //! What is shown of a value.
-ghost use Rattle.std.specs.Prelude.{◌≡◌, ◌≤◌, [], ◌∷◌, codes, IfOk, IfSome};
+ghost use Rattle.std.specs.Prelude.{◌≡◌, ◌≤◌, [], ◌∷◌, codes, negsuc, IfOk, IfSome};
+ghost use Rattle.xdr_types.specs.Form as form;
 ghost use Rattle.xdr_types.specs.Form.{kind_at, maybe, up_to};
-ghost use Rattle.xdr_types.specs.Tree.{absent, items, none};
+ghost use Rattle.xdr_types.specs.Tree.{absent, int, items, none};
 ghost use Rattle.xdr_types.specs.View.{tree};
 ghost use Rattle.xdr_types.specs.Within.{FitsWithin};
 ghost use Rattle.xdr_examples.specs.Rfc.{content, file_kinds, sillyprog, sillyprog_lines};
@@ -24,6 +25,22 @@ pub fn shows_the_file(
     ensures { IfOk result (λ b. b.items ≡ sillyprog_lines) }
 {
     show(alloc, schema, KindId { place: 6 }, value, limits)
+}
+
+/// A number is shown in decimal, after a minus sign where it is negative.
+pub fn shows_a_number(
+    alloc: Global,
+    schema: &Schema,
+    kind: KindId,
+    value: &Value,
+    limits: Limits,
+) -> Result<Vec<u8>, AllocError>
+    requires fits { FitsWithin schema.now.kinds kind.place limits (tree value.now) }
+    requires kind { kind_at schema.now.kinds kind.place ≡ form.int }
+    requires value { tree value.now ≡ (int (negsuc 4), none) }
+    ensures { IfOk result (λ b. b.items ≡ codes "-5\n") }
+{
+    show(alloc, schema, kind, value, limits)
 }
 
 /// A boolean is shown by its name.

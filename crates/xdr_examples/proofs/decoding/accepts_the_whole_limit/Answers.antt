@@ -1,7 +1,5 @@
-use Rattle.std.proofs.Common.{◌≡◌, ◌≤◌, ◌++◌, [], ◌∷◌, List, ℕ, length, take, subst, sym, arith, refl, ap, ◌∙◌, rules}
-use Rattle.xdr_types.specs.Form.{Form, opaque_up_to}
-use Rattle.xdr_types.specs.Spelling.{bytes_of, own, spelling}
-use Rattle.xdr_types.specs.Fits.{parts}
+use Rattle.std.proofs.Common.{◌≡◌, ◌++◌, [], ◌∷◌, length, take, sym, arith, refl, ap, ◌∙◌}
+use Rattle.xdr_types.specs.Spelling.{bytes_of}
 use Rattle.xdr_types.specs.Within.{FitsWithin}
 use Rattle.xdr_examples.specs.Rfc.{content}
 use Rattle.xdr_examples.proofs.Accepted.{alone, only_memory}

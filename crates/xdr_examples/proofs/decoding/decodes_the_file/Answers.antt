@@ -1,8 +1,8 @@
-use Rattle.std.proofs.Common.{◌≡◌, ◌≤◌, ◌++◌, [], List, ℕ, length, take, subst, sym, arith, refl, ap, ◌∙◌}
+use Rattle.std.proofs.Common.{◌≡◌, ◌++◌, [], List, length, take, subst, sym, arith, refl, ap, ◌∙◌}
 use Rattle.xdr_types.specs.Form.{Form}
 use Rattle.xdr_types.specs.Spelling.{bytes_of}
 use Rattle.xdr_types.specs.Within.{FitsWithin}
-use Rattle.xdr_examples.specs.Rfc.{file_kinds, sillyprog, sillyprog_bytes}
+use Rattle.xdr_examples.specs.Rfc.{sillyprog, sillyprog_bytes}
 use Rattle.xdr_examples.proofs.Accepted.{alone, only_memory}
 use Rattle.xdr_examples.proofs.decoding.decodes_the_file.Goals as goal
 

@@ -1,4 +1,4 @@
-use Rattle.std.proofs.Common.{◌≡◌, ◌≤◌, ◌++◌, [], ◌∷◌, List, ℕ, pos, subst, sym, ap, ◌∙◌, refl}
+use Rattle.std.proofs.Common.{◌≡◌, ◌≤◌, ◌++◌, [], ◌∷◌, pos, subst, sym, refl}
 use Rattle.xdr_types.specs.Form as form
 use Rattle.xdr_types.specs.Form.{kind_at}
 use Rattle.xdr_types.specs.Spelling.{bytes_of}
