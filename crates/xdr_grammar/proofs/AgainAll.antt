@@ -1,15 +1,26 @@
 -- Completeness for programs and whole texts.
-use Rattle.std.proofs.Common.{◌≡◌, ℕ, zero, suc, ◌≤◌, ◌+◌, ◌<◌, max, true, false, ℤ, List, [], ◌∷◌, length, Option, Some, None, refl, ◌∙◌, arith}
+use Rattle.std.proofs.Common.{◌≡◌, ℕ, zero, suc, ◌≤◌, ◌+◌, ◌<◌, max, true, false, ℤ, List, [], ◌∷◌, length, Option}
+use Rattle.std.proofs.Common.{Some, None, refl, ◌∙◌, arith}
 use Rattle.xdr_tokens.specs.declared.token.Keyword.TheVariants as word
 use Rattle.xdr_tokens.specs.declared.token.Mark.TheVariants as mark
 use Rattle.xdr_tokens.specs.Tokens.{Lexeme, Name, Number, Sign}
 use Rattle.xdr_grammar.specs.Tree as tree
-use Rattle.xdr_grammar.specs.Tree.{Specifier, Body, Declaration, Passed, AnyText, OfType, Definition, ConstantOf, Typedef, Defined, ProgramOf, depth_of_specifier, depth_of_body, depth_of_declaration, depth_of_passed, depth_of_arguments, depth_of_result, depth_of_procedures, depth_of_versions, depth_of_definition, depth, EnumBody, StructBody, UnionBody}
-use Rattle.xdr_grammar.specs.Grammar.{body_word, body, declaration, passed, result, more_arguments, arguments, procedure, procedures, version, versions, definition, specification}
-use Rattle.xdr_grammar.specs.Outline.{Part, Outline, passed_in, arguments_in, result_in, procedure_in, procedures_in, version_in, versions_in, definition_in, outlined}
-use Rattle.xdr_grammar.specs.Reading.{◌>>=◌, taken, Reader, repeat, after_word, after_sign, name_at, either_sign, declaration_with, specifier_at, passed_with, argument_with, arguments_with, result_with, procedure_with, version_with, program_with, const_at, typedef_with, defined_with, definition_at, definitions_at}
+use Rattle.xdr_grammar.specs.Tree.{Specifier, Body, Declaration, Passed, AnyText, OfType, Definition, ConstantOf}
+use Rattle.xdr_grammar.specs.Tree.{Typedef, Defined, ProgramOf, depth_of_specifier, depth_of_body, depth_of_declaration}
+use Rattle.xdr_grammar.specs.Tree.{depth_of_passed, depth_of_arguments, depth_of_result, depth_of_procedures}
+use Rattle.xdr_grammar.specs.Tree.{depth_of_versions, depth_of_definition, depth, EnumBody, StructBody, UnionBody}
+use Rattle.xdr_grammar.specs.Grammar.{body_word, body, declaration, passed, result, more_arguments, arguments}
+use Rattle.xdr_grammar.specs.Grammar.{procedure, procedures, version, versions, definition, specification}
+use Rattle.xdr_grammar.specs.Outline.{Part, Outline, passed_in, arguments_in, result_in, procedure_in, procedures_in}
+use Rattle.xdr_grammar.specs.Outline.{version_in, versions_in, definition_in, outlined}
+use Rattle.xdr_grammar.specs.steps.Reading.{◌>>=◌, taken, Reader, repeat, after_word, after_sign, name_at, either_sign}
+use Rattle.xdr_grammar.specs.steps.Reading.{declaration_with, specifier_at, passed_with, argument_with, arguments_with}
+use Rattle.xdr_grammar.specs.steps.Reading.{result_with, procedure_with, version_with, program_with, const_at}
+use Rattle.xdr_grammar.specs.steps.Reading.{typedef_with, defined_with, definition_at, definitions_at}
 use Rattle.xdr_grammar.proofs.Leaves.{numbered_again}
-use Rattle.xdr_grammar.proofs.Again.{RereadsSpecifiers, RereadsDeclarations, specifier_begins, specifier_long, body_long, declaration_long, declaration_again, specifier_again, body_again, body_word_again, ends_semicolon, semicolon_again, close_again}
+use Rattle.xdr_grammar.proofs.Again.{RereadsSpecifiers, RereadsDeclarations, specifier_begins, specifier_long}
+use Rattle.xdr_grammar.proofs.Again.{body_long, declaration_long, declaration_again, specifier_again, body_again}
+use Rattle.xdr_grammar.proofs.Again.{body_word_again, ends_semicolon, semicolon_again, close_again}
 
 -- ---- how a type doesn't begin, and that it has a token
 
@@ -45,7 +56,11 @@ ended n ts = Sign mark.Equal ∷ Number n ∷ Sign mark.Semicolon ∷ ts
 procedure_long : (p : tree.Procedure) (ts : List Lexeme) → suc (length ts) ≤ length (procedure p ts)
 procedure_long p ts =
     let inner = arguments p.arguments (Sign mark.CloseRound ∷ ended p.number ts) in
-    omega (arith, result_long p.result (Name p.name ∷ Sign mark.OpenRound ∷ inner), arguments_long p.arguments (Sign mark.CloseRound ∷ ended p.number ts))
+    omega (
+      arith,
+      result_long p.result (Name p.name ∷ Sign mark.OpenRound ∷ inner),
+      arguments_long p.arguments (Sign mark.CloseRound ∷ ended p.number ts),
+    )
 
 procedures_long : (ps : List tree.Procedure) (ts : List Lexeme) → length ps + length ts ≤ length (procedures ps ts)
 procedures_long [] ts = omega arith
@@ -64,27 +79,42 @@ result_not_close None ts = refl
 result_not_close (Some p) ts = passed_not_close p ts
 
 procedure_not_close : (p : tree.Procedure) (ts : List Lexeme) → after_sign mark.CloseBrace (procedure p ts) ≡ None
-procedure_not_close p ts = result_not_close p.result (Name p.name ∷ Sign mark.OpenRound ∷ arguments p.arguments (Sign mark.CloseRound ∷ ended p.number ts))
+procedure_not_close p ts = result_not_close p.result
+    (Name p.name ∷ Sign mark.OpenRound ∷ arguments p.arguments (Sign mark.CloseRound ∷ ended p.number ts))
 
 -- ---- programs
 
 module _ (d : ℕ) (reader : Reader Part) (rereads : RereadsSpecifiers d reader) where
-  passed_again : (p : Passed) (o : Outline) (ts : List Lexeme) → depth_of_passed p ≤ d → passed_with reader o (passed p ts) ≡ Some ((passed_in p o).0, (passed_in p o).1, ts)
+  passed_again : (p : Passed) (o : Outline) (ts : List Lexeme) → depth_of_passed p ≤ d
+      → passed_with reader o (passed p ts) ≡ Some ((passed_in p o).0, (passed_in p o).1, ts)
   unfolding passed_with after_word
   passed_again AnyText o ts fits = refl
   passed_again (OfType s) o ts fits =
       let no_text = (specifier_begins s ts).not_string in
       rw no_text (rereads s o ts fits)
 
-  argument_more : (p : Passed) (o : Outline) (ts : List Lexeme) → depth_of_passed p ≤ d → argument_with reader o (passed p (Sign mark.Comma ∷ ts)) ≡ Some (((passed_in p o).0, true), (passed_in p o).1, ts)
+  argument_more : (p : Passed) (o : Outline) (ts : List Lexeme) → depth_of_passed p ≤ d
+      → argument_with reader o (passed p (Sign mark.Comma ∷ ts)) ≡ Some (
+        ((passed_in p o).0, true),
+        (passed_in p o).1,
+        ts,
+      )
   unfolding argument_with either_sign after_sign
   argument_more p o ts fits = rw (passed_again p o (Sign mark.Comma ∷ ts) fits) refl
 
-  argument_last : (p : Passed) (o : Outline) (ts : List Lexeme) → depth_of_passed p ≤ d → argument_with reader o (passed p (Sign mark.CloseRound ∷ ts)) ≡ Some (((passed_in p o).0, false), (passed_in p o).1, ts)
+  argument_last : (p : Passed) (o : Outline) (ts : List Lexeme) → depth_of_passed p ≤ d
+      → argument_with reader o (passed p (Sign mark.CloseRound ∷ ts)) ≡ Some (
+        ((passed_in p o).0, false),
+        (passed_in p o).1,
+        ts,
+      )
   unfolding argument_with either_sign after_sign
   argument_last p o ts fits = rw (passed_again p o (Sign mark.CloseRound ∷ ts) fits) refl
 
-  some_arguments_again : (n : ℕ) (p : Passed) (ps : List Passed) (o : Outline) (ts : List Lexeme) → length ps < n → depth_of_arguments (p ∷ ps) ≤ d → repeat (argument_with reader) n o (passed p (more_arguments ps (Sign mark.CloseRound ∷ ts))) ≡ Some ((arguments_in (p ∷ ps) o).0, (arguments_in (p ∷ ps) o).1, ts)
+  some_arguments_again : (n : ℕ) (p : Passed) (ps : List Passed) (o : Outline) (ts : List Lexeme) → length ps < n
+      → depth_of_arguments (p ∷ ps) ≤ d
+      → repeat (argument_with reader) n o (passed p (more_arguments ps (Sign mark.CloseRound ∷ ts))) ≡ Some
+      ((arguments_in (p ∷ ps) o).0, (arguments_in (p ∷ ps) o).1, ts)
   unfolding repeat
   some_arguments_again zero p ps o ts few fits = absurd (omega arith)
   some_arguments_again (suc n) p [] o ts few fits = rw (argument_last p o ts (omega arith)) refl
@@ -93,16 +123,20 @@ module _ (d : ℕ) (reader : Reader Part) (rereads : RereadsSpecifiers d reader)
       let rest = some_arguments_again n q ps (passed_in p o).1 ts (omega arith) (omega arith) in
       rw (first, rest) refl
 
-  arguments_again : (ps : List Passed) (o : Outline) (ts : List Lexeme) → depth_of_arguments ps ≤ d → arguments_with reader o (arguments ps (Sign mark.CloseRound ∷ ts)) ≡ Some ((arguments_in ps o).0, (arguments_in ps o).1, ts)
+  arguments_again : (ps : List Passed) (o : Outline) (ts : List Lexeme) → depth_of_arguments ps ≤ d
+      → arguments_with reader o (arguments ps (Sign mark.CloseRound ∷ ts)) ≡ Some
+      ((arguments_in ps o).0, (arguments_in ps o).1, ts)
   unfolding arguments_with after_word after_sign
   arguments_again [] o ts fits = refl
   arguments_again (p ∷ ps) o ts fits =
       let inner = more_arguments ps (Sign mark.CloseRound ∷ ts) in
-      let all = some_arguments_again (length (passed p inner)) p ps o ts (omega (arith, passed_long p inner, more_arguments_long ps (Sign mark.CloseRound ∷ ts))) fits in
+      let all = some_arguments_again (length (passed p inner)) p ps o ts
+      (omega (arith, passed_long p inner, more_arguments_long ps (Sign mark.CloseRound ∷ ts))) fits in
       let no_void = passed_not_void p inner in
       rw no_void all
 
-  result_again : (r : Option Passed) (o : Outline) (ts : List Lexeme) → depth_of_result r ≤ d → result_with reader o (result r ts) ≡ Some ((result_in r o).0, (result_in r o).1, ts)
+  result_again : (r : Option Passed) (o : Outline) (ts : List Lexeme) → depth_of_result r ≤ d
+      → result_with reader o (result r ts) ≡ Some ((result_in r o).0, (result_in r o).1, ts)
   unfolding result_with after_word
   result_again None o ts fits = refl
   result_again (Some p) o ts fits =
@@ -110,18 +144,29 @@ module _ (d : ℕ) (reader : Reader Part) (rereads : RereadsSpecifiers d reader)
       rw (no_void, passed_again p o ts fits) refl
 
   -- as far as what follows the procedure
-  procedure_begun : (p : tree.Procedure) (o : Outline) (ts : List Lexeme) → max (depth_of_result p.result) (depth_of_arguments p.arguments) ≤ d
-      → procedure_with reader o (procedure p ts) ≡ taken (after_sign mark.CloseBrace ts) (λ rest. Some (((procedure_in p o).0, false), (procedure_in p o).1, rest)) (Some (((procedure_in p o).0, true), (procedure_in p o).1, ts))
+  procedure_begun : (p : tree.Procedure) (o : Outline) (ts : List Lexeme)
+      → max (depth_of_result p.result) (depth_of_arguments p.arguments) ≤ d
+      → procedure_with reader o (procedure p ts) ≡ taken (after_sign mark.CloseBrace ts)
+      (λ rest. Some (((procedure_in p o).0, false), (procedure_in p o).1, rest))
+      (Some (((procedure_in p o).0, true), (procedure_in p o).1, ts))
   unfolding procedure_with name_at after_sign
   procedure_begun p o ts fits =
-      let r = result_again p.result o (Name p.name ∷ Sign mark.OpenRound ∷ arguments p.arguments (Sign mark.CloseRound ∷ ended p.number ts)) (omega arith) in
+      let r = result_again p.result o
+      (Name p.name ∷ Sign mark.OpenRound ∷ arguments p.arguments (Sign mark.CloseRound ∷ ended p.number ts))
+      (omega arith) in
       let a = arguments_again p.arguments (result_in p.result o).1 (ended p.number ts) (omega arith) in
       rw (r, a, numbered_again p.number ts) refl
 
-  procedures_again : (n : ℕ) (p : tree.Procedure) (ps : List tree.Procedure) (o : Outline) (ts : List Lexeme) → length ps < n → depth_of_procedures (p ∷ ps) ≤ d → repeat (procedure_with reader) n o (procedures (p ∷ ps) (Sign mark.CloseBrace ∷ ts)) ≡ Some ((procedures_in (p ∷ ps) o).0, (procedures_in (p ∷ ps) o).1, ts)
+  procedures_again : (n : ℕ) (p : tree.Procedure) (ps : List tree.Procedure) (o : Outline) (ts : List Lexeme)
+      → length ps < n → depth_of_procedures (p ∷ ps) ≤ d
+      → repeat (procedure_with reader) n o (procedures (p ∷ ps) (Sign mark.CloseBrace ∷ ts)) ≡ Some
+      ((procedures_in (p ∷ ps) o).0, (procedures_in (p ∷ ps) o).1, ts)
   unfolding repeat
   procedures_again zero p ps o ts few fits = absurd (omega arith)
-  procedures_again (suc n) p [] o ts few fits = rw (procedure_begun p o (Sign mark.CloseBrace ∷ ts) (omega arith), close_again ts) refl
+  procedures_again (suc n) p [] o ts few fits = rw (
+    procedure_begun p o (Sign mark.CloseBrace ∷ ts) (omega arith),
+    close_again ts,
+  ) refl
   procedures_again (suc n) p (q ∷ ps) o ts few fits =
       let next = procedures (q ∷ ps) (Sign mark.CloseBrace ∷ ts) in
       let first = procedure_begun p o next (omega arith) in
@@ -129,21 +174,30 @@ module _ (d : ℕ) (reader : Reader Part) (rereads : RereadsSpecifiers d reader)
       rw (first, procedure_not_close q (procedures ps (Sign mark.CloseBrace ∷ ts)), rest) refl
 
   version_begun : (v : tree.Version) (o : Outline) (ts : List Lexeme) → depth_of_procedures (v.first ∷ v.others) ≤ d
-      → version_with reader o (version v ts) ≡ taken (after_sign mark.CloseBrace ts) (λ rest. Some (((version_in v o).0, false), (version_in v o).1, rest)) (Some (((version_in v o).0, true), (version_in v o).1, ts))
+      → version_with reader o (version v ts) ≡ taken (after_sign mark.CloseBrace ts)
+      (λ rest. Some (((version_in v o).0, false), (version_in v o).1, rest))
+      (Some (((version_in v o).0, true), (version_in v o).1, ts))
   unfolding version_with name_at after_sign after_word
   version_begun v o ts fits =
       let inner = procedures (v.first ∷ v.others) (Sign mark.CloseBrace ∷ ended v.number ts) in
-      let all = procedures_again (length inner) v.first v.others o (ended v.number ts) (omega (arith, procedures_long (v.first ∷ v.others) (Sign mark.CloseBrace ∷ ended v.number ts))) fits in
+      let all = procedures_again (length inner) v.first v.others o (ended v.number ts)
+      (omega (arith, procedures_long (v.first ∷ v.others) (Sign mark.CloseBrace ∷ ended v.number ts))) fits in
       rw (all, numbered_again v.number ts) refl
 
   version_not_close : (v : tree.Version) (ts : List Lexeme) → after_sign mark.CloseBrace (version v ts) ≡ None
   unfolding after_sign
   version_not_close v ts = refl
 
-  versions_again : (n : ℕ) (v : tree.Version) (vs : List tree.Version) (o : Outline) (ts : List Lexeme) → length vs < n → depth_of_versions (v ∷ vs) ≤ d → repeat (version_with reader) n o (versions (v ∷ vs) (Sign mark.CloseBrace ∷ ts)) ≡ Some ((versions_in (v ∷ vs) o).0, (versions_in (v ∷ vs) o).1, ts)
+  versions_again : (n : ℕ) (v : tree.Version) (vs : List tree.Version) (o : Outline) (ts : List Lexeme) → length vs < n
+      → depth_of_versions (v ∷ vs) ≤ d
+      → repeat (version_with reader) n o (versions (v ∷ vs) (Sign mark.CloseBrace ∷ ts)) ≡ Some
+      ((versions_in (v ∷ vs) o).0, (versions_in (v ∷ vs) o).1, ts)
   unfolding repeat
   versions_again zero v vs o ts few fits = absurd (omega arith)
-  versions_again (suc n) v [] o ts few fits = rw (version_begun v o (Sign mark.CloseBrace ∷ ts) (omega arith), close_again ts) refl
+  versions_again (suc n) v [] o ts few fits = rw (
+    version_begun v o (Sign mark.CloseBrace ∷ ts) (omega arith),
+    close_again ts,
+  ) refl
   versions_again (suc n) v (w ∷ vs) o ts few fits =
       let next = versions (w ∷ vs) (Sign mark.CloseBrace ∷ ts) in
       let first = version_begun v o next (omega arith) in
@@ -155,33 +209,48 @@ module _ (d : ℕ) (reader : Reader Part) (rereads : RereadsSpecifiers d reader)
 declarations_again : (d : ℕ) → RereadsDeclarations d (declaration_with (specifier_at d))
 declarations_again d = declaration_again d (specifier_at d) (specifier_again d)
 
-typedef_again : (t : Declaration) (o : Outline) (ts : List Lexeme) → depth_of_declaration t ≤ 32 → typedef_with (declaration_with (specifier_at 32)) o (declaration t (Sign mark.Semicolon ∷ ts)) ≡ Some (definition_in (Typedef t) o, ts)
+typedef_again : (t : Declaration) (o : Outline) (ts : List Lexeme) → depth_of_declaration t ≤ 32
+    → typedef_with (declaration_with (specifier_at 32)) o (declaration t (Sign mark.Semicolon ∷ ts)) ≡ Some
+    (definition_in (Typedef t) o, ts)
 unfolding typedef_with
-typedef_again t o ts fits = rw (declarations_again 32 t o (Sign mark.Semicolon ∷ ts) fits (ends_semicolon ts), semicolon_again ts) refl
+typedef_again t o ts fits = rw (
+  declarations_again 32 t o (Sign mark.Semicolon ∷ ts) fits (ends_semicolon ts),
+  semicolon_again ts,
+) refl
 
 named_again : (n : List ℕ) (ts : List Lexeme) → name_at (Name n ∷ ts) ≡ Some (n, ts)
 unfolding name_at
 named_again n ts = refl
 
-defined_again : (n : List ℕ) (b : Body) (o : Outline) (ts : List Lexeme) → depth_of_body b ≤ 32 → defined_with (declaration_with (specifier_at 31)) o (body_word b ∷ Name n ∷ body b (Sign mark.Semicolon ∷ ts)) ≡ Some (definition_in (Defined n b) o, ts)
+defined_again : (n : List ℕ) (b : Body) (o : Outline) (ts : List Lexeme) → depth_of_body b ≤ 32
+    → defined_with (declaration_with (specifier_at 31)) o
+    (body_word b ∷ Name n ∷ body b (Sign mark.Semicolon ∷ ts)) ≡ Some (definition_in (Defined n b) o, ts)
 unfolding defined_with
 defined_again n b o ts fits =
     let inner = body b (Sign mark.Semicolon ∷ ts) in
-    let all = body_again 31 (declaration_with (specifier_at 31)) (declarations_again 31) b o (Sign mark.Semicolon ∷ ts) fits in
+    let all = body_again 31 (declaration_with (specifier_at 31)) (declarations_again 31) b o
+    (Sign mark.Semicolon ∷ ts) fits in
     rw (body_word_again b (Name n ∷ inner), named_again n inner, all, semicolon_again ts) refl
 
-program_again : (p : tree.Program) (o : Outline) (ts : List Lexeme) → depth_of_versions (p.first ∷ p.others) ≤ 32 → program_with (specifier_at 32) o (Name p.name ∷ Sign mark.OpenBrace ∷ versions (p.first ∷ p.others) (Sign mark.CloseBrace ∷ ended p.number ts)) ≡ Some (definition_in (ProgramOf p) o, ts)
+program_again : (p : tree.Program) (o : Outline) (ts : List Lexeme) → depth_of_versions (p.first ∷ p.others) ≤ 32
+    → program_with (specifier_at 32) o
+    (Name p.name ∷ Sign mark.OpenBrace ∷ versions (p.first ∷ p.others) (Sign mark.CloseBrace ∷ ended p.number ts)) ≡
+    Some (definition_in (ProgramOf p) o, ts)
 unfolding program_with name_at after_sign
 program_again p o ts fits =
     let inner = versions (p.first ∷ p.others) (Sign mark.CloseBrace ∷ ended p.number ts) in
-    let all = versions_again 32 (specifier_at 32) (specifier_again 32) (length inner) p.first p.others o (ended p.number ts) (omega (arith, versions_long (p.first ∷ p.others) (Sign mark.CloseBrace ∷ ended p.number ts))) fits in
+    let all = versions_again 32 (specifier_at 32) (specifier_again 32) (length inner) p.first p.others o
+    (ended p.number ts) (omega
+    (arith, versions_long (p.first ∷ p.others) (Sign mark.CloseBrace ∷ ended p.number ts))) fits in
     rw (all, numbered_again p.number ts) refl
 
-const_again : (n : List ℕ) (v : ℤ) (o : Outline) (ts : List Lexeme) → const_at o (Name n ∷ ended v ts) ≡ Some (definition_in (ConstantOf n v) o, ts)
+const_again : (n : List ℕ) (v : ℤ) (o : Outline) (ts : List Lexeme)
+    → const_at o (Name n ∷ ended v ts) ≡ Some (definition_in (ConstantOf n v) o, ts)
 unfolding const_at name_at
 const_again n v o ts = rw (numbered_again v ts) refl
 
-definition_again : (t : Definition) (o : Outline) (ts : List Lexeme) → depth_of_definition t ≤ 32 → definition_at o (definition t ts) ≡ Some (definition_in t o, ts)
+definition_again : (t : Definition) (o : Outline) (ts : List Lexeme) → depth_of_definition t ≤ 32
+    → definition_at o (definition t ts) ≡ Some (definition_in t o, ts)
 unfolding definition_at after_word
 definition_again (ConstantOf n v) o ts fits = const_again n v o ts
 definition_again (Typedef t) o ts fits = typedef_again t o ts fits
@@ -194,14 +263,17 @@ definition_long : (t : Definition) (ts : List Lexeme) → suc (length ts) ≤ le
 definition_long (ConstantOf n v) ts = omega arith
 definition_long (Typedef t) ts = omega (arith, declaration_long t (Sign mark.Semicolon ∷ ts))
 definition_long (Defined n b) ts = omega (arith, body_long b (Sign mark.Semicolon ∷ ts))
-definition_long (ProgramOf p) ts = omega (arith, versions_long (p.first ∷ p.others) (Sign mark.CloseBrace ∷ ended p.number ts))
+definition_long (ProgramOf p) ts = omega
+    (arith, versions_long (p.first ∷ p.others) (Sign mark.CloseBrace ∷ ended p.number ts))
 
-step_of : (n : ℕ) (o : Outline) (ts : List Lexeme) → 0 < length ts → definitions_at (suc n) o ts ≡ (definition_at o ts >>= λ x. definitions_at n x.0 x.1)
+step_of : (n : ℕ) (o : Outline) (ts : List Lexeme) → 0 < length ts
+    → definitions_at (suc n) o ts ≡ (definition_at o ts >>= λ x. definitions_at n x.0 x.1)
 unfolding definitions_at
 step_of n o [] some = absurd (omega arith)
 step_of n o (t ∷ ts) some = refl
 
-pub definitions_again : (n : ℕ) (ds : List Definition) (o : Outline) → length (specification ds) ≤ n → depth ds ≤ 32 → definitions_at n o (specification ds) ≡ Some (outlined ds o)
+pub definitions_again : (n : ℕ) (ds : List Definition) (o : Outline) → length (specification ds) ≤ n → depth ds ≤ 32
+    → definitions_at n o (specification ds) ≡ Some (outlined ds o)
 unfolding definitions_at
 definitions_again zero [] o few fits = refl
 definitions_again (suc n) [] o few fits = refl

@@ -1,19 +1,35 @@
 -- Soundness: what is read is the spelling of a tree.
-use Rattle.std.proofs.Common.{◌≡◌, ℕ, zero, suc, ◌≤◌, Bool, true, false, cond, List, [], ◌∷◌, length, map, Option, Some, None, inl, inr, refl, sym, ap, subst, ◌∙◌, arith}
+use Rattle.std.proofs.Common.{◌≡◌, ℕ, zero, suc, ◌≤◌, Bool, true, false, cond, List, [], ◌∷◌, length, map, Option, Some}
+use Rattle.std.proofs.Common.{None, inl, inr, refl, sym, ap, subst, ◌∙◌, arith}
 use Rattle.xdr_tokens.specs.declared.token.Keyword.TheVariants as word
 use Rattle.xdr_tokens.specs.declared.token.Mark.TheVariants as mark
 use Rattle.xdr_grammar.specs.declared.outline.Basic.TheVariants as basic
 use Rattle.xdr_grammar.specs.declared.outline.BodyKind.{BodyKind}
 use Rattle.xdr_grammar.specs.declared.outline.BodyKind.TheVariants as kind
 use Rattle.xdr_tokens.specs.Tokens.{Lexeme, Word, Name, Sign}
-use Rattle.xdr_grammar.specs.Tree.{Value, Member, Specifier, Plain, Named, Inline, Body, EnumBody, StructBody, UnionBody, Declaration, One, Array, ArrayUpTo, Pointer, Opaque, OpaqueUpTo, Text, Content, Void, Of, Fields, Last, More, Cases, LastCase, MoreCases, NoDefault, Otherwise, depth_of_specifier, depth_of_body, depth_of_declaration, depth_of_content, depth_of_fields, depth_of_cases, depth_of_default}
-use Rattle.xdr_grammar.specs.Grammar.{value, limit, member, members, cases, body_word, specifier, body, declaration, content, fields, arms, otherwise}
-use Rattle.xdr_grammar.specs.Outline.{Late, Part, IsVoid, Field, Arm, DNumbered, DOpaque, DOpaqueUpTo, DText, DFixed, DUpTo, DStructure, DChoice, Outline, late, declare, place, add, members_in, specifier_in, body_in, declaration_in, content_in, fields_in, arms_in, default_in}
-use Rattle.xdr_grammar.specs.Reading.{◌>>=◌, taken, Reader, repeat, after_word, after_sign, name_at, value_at, size_at, limit_at, either_sign, opaque_at, text_at, declared_at, declaration_with, content_with, basic_at, member_at, enum_at, field_with, struct_with, case_at, arm_with, default_with, switch_with, union_with, body_word_at, body_with, specifier_at}
-use Rattle.xdr_grammar.proofs.Leaves.{bind_some, some_is, taken_some, chosen, word_found, sign_found, name_found, either_found, value_found, size_found, limit_found}
+use Rattle.xdr_grammar.specs.Tree.{Value, Member, Specifier, Plain, Named, Inline, Body, EnumBody, StructBody}
+use Rattle.xdr_grammar.specs.Tree.{UnionBody, Declaration, One, Array, ArrayUpTo, Pointer, Opaque, OpaqueUpTo, Text}
+use Rattle.xdr_grammar.specs.Tree.{Content, Void, Of, Fields, Last, More, Cases, LastCase, MoreCases, NoDefault}
+use Rattle.xdr_grammar.specs.Tree.{Otherwise, depth_of_specifier, depth_of_body, depth_of_declaration, depth_of_content}
+use Rattle.xdr_grammar.specs.Tree.{depth_of_fields, depth_of_cases, depth_of_default}
+use Rattle.xdr_grammar.specs.Grammar.{value, limit, member, members, cases, body_word, specifier, body, declaration}
+use Rattle.xdr_grammar.specs.Grammar.{content, fields, arms, otherwise}
+use Rattle.xdr_grammar.specs.Outline.{Late, Part, IsVoid, Field, Arm, DNumbered, DOpaque, DOpaqueUpTo, DText, DFixed}
+use Rattle.xdr_grammar.specs.Outline.{DUpTo, DStructure, DChoice, Outline, late, declare, place, add, members_in}
+use Rattle.xdr_grammar.specs.Outline.{specifier_in, body_in, declaration_in, content_in, fields_in, arms_in, default_in}
+use Rattle.xdr_grammar.specs.steps.Reading.{◌>>=◌, taken, Reader, repeat, after_word, after_sign, name_at, value_at}
+use Rattle.xdr_grammar.specs.steps.Reading.{size_at, limit_at, either_sign, opaque_at, text_at, declared_at}
+use Rattle.xdr_grammar.specs.steps.Reading.{declaration_with, content_with, basic_at, member_at, enum_at, field_with}
+use Rattle.xdr_grammar.specs.steps.Reading.{struct_with, case_at, arm_with, default_with, switch_with, union_with}
+use Rattle.xdr_grammar.specs.steps.Reading.{body_word_at, body_with, specifier_at}
+use Rattle.xdr_tokens.proofs.Options.{bind_some, some_is, chosen}
+use Rattle.xdr_grammar.proofs.Leaves.{taken_some, word_found, sign_found, name_found, either_found, value_found}
+use Rattle.xdr_grammar.proofs.Leaves.{size_found, limit_found}
 
 -- A tree stands in front, and gives what was read.
-pub record Found {A T : Type 0} (spelling : T → List Lexeme → List Lexeme) (outlined : T → Outline → A × Outline) (depth : T → ℕ) (d : ℕ) (o : Outline) (ts : List Lexeme) (y : A × Outline × List Lexeme) : Type 0 where
+pub record Found {A T : Type 0} (spelling : T → List Lexeme → List Lexeme) (outlined : T → Outline
+    → A × Outline) (depth : T → ℕ) (d : ℕ) (o : Outline) (ts : List Lexeme)
+    (y : A × Outline × List Lexeme) : Type 0 where
   pub tree : T
   pub spelled : ts ≡ spelling tree y.2
   pub value : y.0 ≡ (outlined tree o).0
@@ -21,8 +37,10 @@ pub record Found {A T : Type 0} (spelling : T → List Lexeme → List Lexeme) (
   pub nested : depth tree ≤ d
 
 -- All that the reader finds are trees.
-abbrev pub Finds : {A T : Type 0} → (T → List Lexeme → List Lexeme) → (T → Outline → A × Outline) → (T → ℕ) → ℕ → Reader A → Type 0
-Finds {A = A} spelling outlined depth d reader = (o : Outline) (ts : List Lexeme) (y : A × Outline × List Lexeme) → reader o ts ≡ Some y → Found spelling outlined depth d o ts y
+abbrev pub Finds : {A T : Type 0} → (T → List Lexeme → List Lexeme) → (T → Outline → A × Outline) → (T → ℕ) → ℕ
+    → Reader A → Type 0
+Finds {A = A} spelling outlined depth d reader = (o : Outline) (ts : List Lexeme) (y : A × Outline × List Lexeme)
+    → reader o ts ≡ Some y → Found spelling outlined depth d o ts y
 
 abbrev pub IsDeclaration : ℕ → Outline → List Lexeme → Field × Outline × List Lexeme → Type 0
 IsDeclaration d o ts y = Found declaration declaration_in depth_of_declaration d o ts y
@@ -34,10 +52,12 @@ abbrev pub IsContent : ℕ → Outline → List Lexeme → Field × Outline × L
 IsContent d o ts y = Found content content_in depth_of_content d o ts y
 
 -- a tree that is read is one for whatever equals what was read
-with_field : (d : ℕ) (o : Outline) (ts : List Lexeme) (x y : Field × Outline × List Lexeme) → IsDeclaration d o ts x → Some x ≡ Some y → IsDeclaration d o ts y
+with_field : (d : ℕ) (o : Outline) (ts : List Lexeme) (x y : Field × Outline × List Lexeme) → IsDeclaration d o ts x
+    → Some x ≡ Some y → IsDeclaration d o ts y
 with_field d o ts x y h e = subst (λ (z : Field × Outline × List Lexeme). IsDeclaration d o ts z) (some_is x y e) h
 
-opaque_found : (d : ℕ) (o : Outline) (ts : List Lexeme) (y : Field × Outline × List Lexeme) → opaque_at o ts ≡ Some y → IsDeclaration d o (Word word.Opaque ∷ ts) y
+opaque_found : (d : ℕ) (o : Outline) (ts : List Lexeme) (y : Field × Outline × List Lexeme) → opaque_at o ts ≡ Some y
+    → IsDeclaration d o (Word word.Opaque ∷ ts) y
 unfolding opaque_at
 opaque_found d o ts y e =
     let n = bind_some (name_at ts) _ y e in
@@ -46,17 +66,37 @@ opaque_found d o ts y e =
       | inl a ↦
           let v = bind_some (size_at o a.0) _ y a.2 in
           let s = size_found o a.0 v.0 v.1 in
-          let sized : n.0.1 ≡ Sign mark.OpenBracket ∷ value s.tree ∷ Sign mark.CloseBracket ∷ v.0.1 = sign_found mark.OpenBracket n.0.1 a.0 a.1 ∙ ap (λ (x : List Lexeme). Sign mark.OpenBracket ∷ x) s.spelled in
-          with_field d o (Word word.Opaque ∷ ts) _ y (record { tree = Opaque n.0.0 s.tree; spelled = ap (λ (x : List Lexeme). Word word.Opaque ∷ x) (named ∙ ap (λ (x : List Lexeme). Name n.0.0 ∷ x) sized); value = refl; made = ap (λ (x : Late). add (DOpaque x) o) s.late; nested = omega arith }) v.2
+          let sized : n.0.1 ≡ Sign mark.OpenBracket ∷ value s.tree ∷ Sign mark.CloseBracket ∷ v.0.1 =
+          sign_found mark.OpenBracket n.0.1 a.0 a.1
+          ∙ ap (λ (x : List Lexeme). Sign mark.OpenBracket ∷ x) s.spelled in
+          with_field d o (Word word.Opaque ∷ ts) _ y
+          (record {
+            tree = Opaque n.0.0 s.tree;
+            spelled = ap (λ (x : List Lexeme). Word word.Opaque ∷ x)
+                (named ∙ ap (λ (x : List Lexeme). Name n.0.0 ∷ x) sized);
+            value = refl;
+            made = ap (λ (x : Late). add (DOpaque x) o) s.late;
+            nested = omega arith;
+          }) v.2
       | inr b ↦
           let l = bind_some (after_sign mark.Less n.0.1) _ y b.1 in
           let v = bind_some (limit_at o l.0) _ y l.2 in
           let s = limit_found o l.0 v.0 v.1 in
-          let sized : n.0.1 ≡ Sign mark.Less ∷ limit s.tree (Sign mark.Greater ∷ v.0.1) = sign_found mark.Less n.0.1 l.0 l.1 ∙ ap (λ (x : List Lexeme). Sign mark.Less ∷ x) s.spelled in
-          with_field d o (Word word.Opaque ∷ ts) _ y (record { tree = OpaqueUpTo n.0.0 s.tree; spelled = ap (λ (x : List Lexeme). Word word.Opaque ∷ x) (named ∙ ap (λ (x : List Lexeme). Name n.0.0 ∷ x) sized); value = refl; made = ap (λ (x : Option Late). add (DOpaqueUpTo x) o) s.late; nested = omega arith }) v.2
+          let sized : n.0.1 ≡ Sign mark.Less ∷ limit s.tree (Sign mark.Greater ∷ v.0.1) =
+          sign_found mark.Less n.0.1 l.0 l.1 ∙ ap (λ (x : List Lexeme). Sign mark.Less ∷ x) s.spelled in
+          with_field d o (Word word.Opaque ∷ ts) _ y
+          (record {
+            tree = OpaqueUpTo n.0.0 s.tree;
+            spelled = ap (λ (x : List Lexeme). Word word.Opaque ∷ x)
+                (named ∙ ap (λ (x : List Lexeme). Name n.0.0 ∷ x) sized);
+            value = refl;
+            made = ap (λ (x : Option Late). add (DOpaqueUpTo x) o) s.late;
+            nested = omega arith;
+          }) v.2
     ]
 
-text_found : (d : ℕ) (o : Outline) (ts : List Lexeme) (y : Field × Outline × List Lexeme) → text_at o ts ≡ Some y → IsDeclaration d o (Word word.String ∷ ts) y
+text_found : (d : ℕ) (o : Outline) (ts : List Lexeme) (y : Field × Outline × List Lexeme) → text_at o ts ≡ Some y
+    → IsDeclaration d o (Word word.String ∷ ts) y
 unfolding text_at
 text_found d o ts y e =
     let n = bind_some (name_at ts) _ y e in
@@ -64,18 +104,37 @@ text_found d o ts y e =
     let v = bind_some (limit_at o l.0) _ y l.2 in
     let s = limit_found o l.0 v.0 v.1 in
     let named : ts ≡ Name n.0.0 ∷ n.0.1 = name_found ts n.0 n.1 in
-    let sized : n.0.1 ≡ Sign mark.Less ∷ limit s.tree (Sign mark.Greater ∷ v.0.1) = sign_found mark.Less n.0.1 l.0 l.1 ∙ ap (λ (x : List Lexeme). Sign mark.Less ∷ x) s.spelled in
-    with_field d o (Word word.String ∷ ts) _ y (record { tree = Text n.0.0 s.tree; spelled = ap (λ (x : List Lexeme). Word word.String ∷ x) (named ∙ ap (λ (x : List Lexeme). Name n.0.0 ∷ x) sized); value = refl; made = ap (λ (x : Option Late). add (DText x) o) s.late; nested = omega arith }) v.2
+    let sized : n.0.1 ≡ Sign mark.Less ∷ limit s.tree (Sign mark.Greater ∷ v.0.1) = sign_found mark.Less n.0.1 l.0 l.1
+    ∙ ap (λ (x : List Lexeme). Sign mark.Less ∷ x) s.spelled in
+    with_field d o (Word word.String ∷ ts) _ y
+    (record {
+      tree = Text n.0.0 s.tree;
+      spelled = ap (λ (x : List Lexeme). Word word.String ∷ x)
+          (named ∙ ap (λ (x : List Lexeme). Name n.0.0 ∷ x) sized);
+      value = refl;
+      made = ap (λ (x : Option Late). add (DText x) o) s.late;
+      nested = omega arith;
+    }) v.2
 
 -- what follows the specifier s
-declared_found : (d : ℕ) (s : Specifier) (o : Outline) (ts : List Lexeme) (y : Field × Outline × List Lexeme) → depth_of_specifier s ≤ d → declared_at (specifier_in s o).0 (specifier_in s o).1 ts ≡ Some y → IsDeclaration d o (specifier s ts) y
+declared_found : (d : ℕ) (s : Specifier) (o : Outline) (ts : List Lexeme) (y : Field × Outline × List Lexeme)
+    → depth_of_specifier s ≤ d → declared_at (specifier_in s o).0 (specifier_in s o).1 ts ≡ Some y
+    → IsDeclaration d o (specifier s ts) y
 unfolding declared_at
 declared_found d s o ts y fits e =
     elim (taken_some (after_sign mark.Star ts) _ _ _ e) [
       | inl a ↦
           let n = bind_some (name_at a.0) _ y a.2 in
-          let all : ts ≡ Sign mark.Star ∷ Name n.0.0 ∷ n.0.1 = sign_found mark.Star ts a.0 a.1 ∙ ap (λ (x : List Lexeme). Sign mark.Star ∷ x) (name_found a.0 n.0 n.1) in
-          with_field d o (specifier s ts) _ y (record { tree = Pointer s n.0.0; spelled = ap (specifier s) all; value = refl; made = refl; nested = fits }) n.2
+          let all : ts ≡ Sign mark.Star ∷ Name n.0.0 ∷ n.0.1 = sign_found mark.Star ts a.0 a.1
+          ∙ ap (λ (x : List Lexeme). Sign mark.Star ∷ x) (name_found a.0 n.0 n.1) in
+          with_field d o (specifier s ts) _ y
+          (record {
+            tree = Pointer s n.0.0;
+            spelled = ap (specifier s) all;
+            value = refl;
+            made = refl;
+            nested = fits;
+          }) n.2
       | inr b ↦
           let n = bind_some (name_at ts) _ y b.1 in
           let named : ts ≡ Name n.0.0 ∷ n.0.1 = name_found ts n.0 n.1 in
@@ -83,15 +142,40 @@ declared_found d s o ts y fits e =
             | inl a ↦
                 let v = bind_some (size_at (specifier_in s o).1 a.0) _ y a.2 in
                 let z = size_found (specifier_in s o).1 a.0 v.0 v.1 in
-                let all : ts ≡ Name n.0.0 ∷ Sign mark.OpenBracket ∷ value z.tree ∷ Sign mark.CloseBracket ∷ v.0.1 = named ∙ ap (λ (x : List Lexeme). Name n.0.0 ∷ x) (sign_found mark.OpenBracket n.0.1 a.0 a.1 ∙ ap (λ (x : List Lexeme). Sign mark.OpenBracket ∷ x) z.spelled) in
-                with_field d o (specifier s ts) _ y (record { tree = Array s n.0.0 z.tree; spelled = ap (specifier s) all; value = refl; made = ap (λ (x : Late). add (DFixed (specifier_in s o).0 x) (specifier_in s o).1) z.late; nested = fits }) v.2
+                let all : ts ≡ Name n.0.0 ∷ Sign mark.OpenBracket ∷ value z.tree ∷ Sign mark.CloseBracket ∷ v.0.1 =
+                named ∙ ap (λ (x : List Lexeme). Name n.0.0 ∷ x) (sign_found mark.OpenBracket n.0.1 a.0 a.1
+                ∙ ap (λ (x : List Lexeme). Sign mark.OpenBracket ∷ x) z.spelled) in
+                with_field d o (specifier s ts) _ y
+                (record {
+                  tree = Array s n.0.0 z.tree;
+                  spelled = ap (specifier s) all;
+                  value = refl;
+                  made = ap (λ (x : Late). add (DFixed (specifier_in s o).0 x) (specifier_in s o).1) z.late;
+                  nested = fits;
+                }) v.2
             | inr c ↦ elim (taken_some (after_sign mark.Less n.0.1) _ _ _ c.1) [
               | inl a ↦
                   let v = bind_some (limit_at (specifier_in s o).1 a.0) _ y a.2 in
                   let z = limit_found (specifier_in s o).1 a.0 v.0 v.1 in
-                  let all : ts ≡ Name n.0.0 ∷ Sign mark.Less ∷ limit z.tree (Sign mark.Greater ∷ v.0.1) = named ∙ ap (λ (x : List Lexeme). Name n.0.0 ∷ x) (sign_found mark.Less n.0.1 a.0 a.1 ∙ ap (λ (x : List Lexeme). Sign mark.Less ∷ x) z.spelled) in
-                  with_field d o (specifier s ts) _ y (record { tree = ArrayUpTo s n.0.0 z.tree; spelled = ap (specifier s) all; value = refl; made = ap (λ (x : Option Late). add (DUpTo (specifier_in s o).0 x) (specifier_in s o).1) z.late; nested = fits }) v.2
-              | inr f ↦ with_field d o (specifier s ts) _ y (record { tree = One s n.0.0; spelled = ap (specifier s) named; value = refl; made = refl; nested = fits }) f.1
+                  let all : ts ≡ Name n.0.0 ∷ Sign mark.Less ∷ limit z.tree (Sign mark.Greater ∷ v.0.1) = named
+                  ∙ ap (λ (x : List Lexeme). Name n.0.0 ∷ x) (sign_found mark.Less n.0.1 a.0 a.1
+                  ∙ ap (λ (x : List Lexeme). Sign mark.Less ∷ x) z.spelled) in
+                  with_field d o (specifier s ts) _ y
+                  (record {
+                    tree = ArrayUpTo s n.0.0 z.tree;
+                    spelled = ap (specifier s) all;
+                    value = refl;
+                    made = ap (λ (x : Option Late). add (DUpTo (specifier_in s o).0 x) (specifier_in s o).1) z.late;
+                    nested = fits;
+                  }) v.2
+              | inr f ↦ with_field d o (specifier s ts) _ y
+                  (record {
+                    tree = One s n.0.0;
+                    spelled = ap (specifier s) named;
+                    value = refl;
+                    made = refl;
+                    nested = fits;
+                  }) f.1
             ]
           ]
     ]
@@ -105,42 +189,64 @@ FindsDeclarations d reader = Finds declaration declaration_in depth_of_declarati
 abbrev pub FindsContents : ℕ → Reader Field → Type 0
 FindsContents d reader = Finds content content_in depth_of_content d reader
 
-pub declaration_found : (d : ℕ) (reader : Reader Part) → FindsSpecifiers d reader → FindsDeclarations d (declaration_with reader)
+pub declaration_found : (d : ℕ) (reader : Reader Part) → FindsSpecifiers d reader
+    → FindsDeclarations d (declaration_with reader)
 unfolding declaration_with
 declaration_found d reader finds o ts y e =
     elim (taken_some (after_word word.Opaque ts) _ _ _ e) [
-      | inl a ↦ subst (λ (x : List Lexeme). IsDeclaration d o x y) (sym (word_found word.Opaque ts a.0 a.1)) (opaque_found d o a.0 y a.2)
+      | inl a ↦ subst (λ (x : List Lexeme). IsDeclaration d o x y) (sym (word_found word.Opaque ts a.0 a.1))
+          (opaque_found d o a.0 y a.2)
       | inr m ↦ elim (taken_some (after_word word.String ts) _ _ _ m.1) [
-        | inl a ↦ subst (λ (x : List Lexeme). IsDeclaration d o x y) (sym (word_found word.String ts a.0 a.1)) (text_found d o a.0 y a.2)
+        | inl a ↦ subst (λ (x : List Lexeme). IsDeclaration d o x y) (sym (word_found word.String ts a.0 a.1))
+            (text_found d o a.0 y a.2)
         | inr k ↦
             let s = bind_some (reader o ts) _ y k.1 in
             let found = finds o ts s.0 s.1 in
-            let e2 : declared_at (specifier_in found.tree o).0 (specifier_in found.tree o).1 s.0.2 ≡ Some y = rw (← found.value, ← found.made) s.2 in
-            subst (λ (x : List Lexeme). IsDeclaration d o x y) (sym found.spelled) (declared_found d found.tree o s.0.2 y found.nested e2)
+            let e2 : declared_at (specifier_in found.tree o).0 (specifier_in found.tree o).1 s.0.2 ≡ Some y = rw
+            (← found.value, ← found.made) s.2 in
+            subst (λ (x : List Lexeme). IsDeclaration d o x y) (sym found.spelled)
+            (declared_found d found.tree o s.0.2 y found.nested e2)
       ]
     ]
 
-pub content_found : (d : ℕ) (declaration : Reader Field) → FindsDeclarations d declaration → FindsContents d (content_with declaration)
+pub content_found : (d : ℕ) (declaration : Reader Field) → FindsDeclarations d declaration
+    → FindsContents d (content_with declaration)
 unfolding content_with
 content_found d reader finds o ts y e =
     elim (taken_some (after_word word.Void ts) _ _ _ e) [
-      | inl a ↦ subst (λ (z : Field × Outline × List Lexeme). IsContent d o ts z) (some_is (record { name = []; part = IsVoid }, o, a.0) y a.2) (record { tree = Void; spelled = word_found word.Void ts a.0 a.1; value = refl; made = refl; nested = omega arith })
-      | inr n ↦ let f = finds o ts y n.1 in record { tree = Of f.tree; spelled = f.spelled; value = f.value; made = f.made; nested = f.nested }
+      | inl a ↦ subst (λ (z : Field × Outline × List Lexeme). IsContent d o ts z)
+          (some_is (record { name = []; part = IsVoid }, o, a.0) y a.2)
+          (record {
+            tree = Void;
+            spelled = word_found word.Void ts a.0 a.1;
+            value = refl;
+            made = refl;
+            nested = omega arith;
+          })
+      | inr n ↦ let f = finds o ts y n.1 in
+          record { tree = Of f.tree; spelled = f.spelled; value = f.value; made = f.made; nested = f.nested }
     ]
 
-basic_found : (d : ℕ) (o : Outline) (ts : List Lexeme) (y : Part × List Lexeme) → basic_at ts ≡ Some y → IsSpecifier d o ts (y.0, o, y.1)
+basic_found : (d : ℕ) (o : Outline) (ts : List Lexeme) (y : Part × List Lexeme) → basic_at ts ≡ Some y
+    → IsSpecifier d o ts (y.0, o, y.1)
 unfolding basic_at
 basic_found d o ts y e =
-    let of : (s : Specifier) (x : Part × List Lexeme) → ts ≡ specifier s x.1 → x.0 ≡ (specifier_in s o).0 → o ≡ (specifier_in s o).1 → depth_of_specifier s ≤ d → Some x ≡ Some y → IsSpecifier d o ts (y.0, o, y.1) =
-    λ s x spelled part none fits same. subst (λ (z : Part × List Lexeme). IsSpecifier d o ts (z.0, o, z.1)) (some_is x y same) (record { tree = s; spelled = spelled; value = part; made = none; nested = fits }) in
+    let of : (s : Specifier) (x : Part × List Lexeme) → ts ≡ specifier s x.1 → x.0 ≡ (specifier_in s o).0
+    → o ≡ (specifier_in s o).1 → depth_of_specifier s ≤ d → Some x ≡ Some y → IsSpecifier d o ts (y.0, o, y.1) =
+    λ s x spelled part none fits same. subst (λ (z : Part × List Lexeme). IsSpecifier d o ts (z.0, o, z.1))
+    (some_is x y same) (record { tree = s; spelled = spelled; value = part; made = none; nested = fits }) in
     elim (taken_some (after_word word.Unsigned ts) _ _ _ e) [
       | inl a ↦
           let first = word_found word.Unsigned ts a.0 a.1 in
           elim (taken_some (after_word word.Int a.0) _ _ _ a.2) [
-            | inl b ↦ of (Plain basic.Unsigned) _ (first ∙ ap (λ (x : List Lexeme). Word word.Unsigned ∷ x) (word_found word.Int a.0 b.0 b.1)) refl refl (omega arith) b.2
+            | inl b ↦ of (Plain basic.Unsigned) _
+                (first ∙ ap (λ (x : List Lexeme). Word word.Unsigned ∷ x) (word_found word.Int a.0 b.0 b.1)) refl refl
+                (omega arith) b.2
             | inr n ↦
                 let b = bind_some (after_word word.Hyper a.0) _ y n.1 in
-                of (Plain basic.UnsignedHyper) _ (first ∙ ap (λ (x : List Lexeme). Word word.Unsigned ∷ x) (word_found word.Hyper a.0 b.0 b.1)) refl refl (omega arith) b.2
+                of (Plain basic.UnsignedHyper) _
+                (first ∙ ap (λ (x : List Lexeme). Word word.Unsigned ∷ x) (word_found word.Hyper a.0 b.0 b.1)) refl
+                refl (omega arith) b.2
           ]
       | inr n ↦ elim (taken_some (after_word word.Int ts) _ _ _ n.1) [
         | inl a ↦ of (Plain basic.Int) _ (word_found word.Int ts a.0 a.1) refl refl (omega arith) a.2
@@ -164,7 +270,8 @@ record IsMember (o : Outline) (ts : List Lexeme) (y : ((List ℕ × Late) × Boo
   value : y.0.0 ≡ (tree.name, late o tree.value)
   made : y.1 ≡ declare tree.name (late o tree.value) false o
 
-member_found : (o : Outline) (ts : List Lexeme) (y : ((List ℕ × Late) × Bool) × Outline × List Lexeme) → member_at o ts ≡ Some y → IsMember o ts y
+member_found : (o : Outline) (ts : List Lexeme) (y : ((List ℕ × Late) × Bool) × Outline × List Lexeme)
+    → member_at o ts ≡ Some y → IsMember o ts y
 unfolding member_at
 member_found o ts y e =
     let n = bind_some (name_at ts) _ y e in
@@ -173,9 +280,17 @@ member_found o ts y e =
     let m = bind_some (either_sign mark.Comma mark.CloseBrace v.0.1) _ y v.2 in
     let w = value_found o a.0 v.0 v.1 in
     let ends = either_found mark.Comma mark.CloseBrace v.0.1 m.0 m.1 in
-    let all = name_found ts n.0 n.1 ∙ ap (λ (x : List Lexeme). Name n.0.0 ∷ x) (sign_found mark.Equal n.0.1 a.0 a.1 ∙ ap (λ (x : List Lexeme). Sign mark.Equal ∷ x) (w.spelled ∙ ap (λ (x : List Lexeme). value w.tree ∷ x) ends)) in
-    subst (λ (z : ((List ℕ × Late) × Bool) × Outline × List Lexeme). IsMember o ts z) (some_is (((n.0.0, v.0.0), m.0.0), declare n.0.0 v.0.0 false o, m.0.1) y m.2)
-    (record { tree = record { name = n.0.0; value = w.tree }; spelled = all; value = ap (λ (x : Late). (n.0.0, x)) w.late; made = ap (λ (x : Late). declare n.0.0 x false o) w.late })
+    let all = name_found ts n.0 n.1 ∙ ap (λ (x : List Lexeme). Name n.0.0 ∷ x) (sign_found mark.Equal n.0.1 a.0 a.1
+    ∙ ap (λ (x : List Lexeme). Sign mark.Equal ∷ x) (w.spelled ∙ ap (λ (x : List Lexeme). value w.tree ∷ x) ends))
+    in
+    subst (λ (z : ((List ℕ × Late) × Bool) × Outline × List Lexeme). IsMember o ts z)
+    (some_is (((n.0.0, v.0.0), m.0.0), declare n.0.0 v.0.0 false o, m.0.1) y m.2)
+    (record {
+      tree = record { name = n.0.0; value = w.tree };
+      spelled = all;
+      value = ap (λ (x : Late). (n.0.0, x)) w.late;
+      made = ap (λ (x : Late). declare n.0.0 x false o) w.late;
+    })
 
 -- a first member, and more of them
 record AreMembers (o : Outline) (ts : List Lexeme) (y : List (List ℕ × Late) × Outline × List Lexeme) : Type 0 where
@@ -185,7 +300,8 @@ record AreMembers (o : Outline) (ts : List Lexeme) (y : List (List ℕ × Late) 
   value : y.0 ≡ (members_in (first ∷ others) o).0
   made : y.1 ≡ (members_in (first ∷ others) o).1
 
-members_found : (n : ℕ) (o : Outline) (ts : List Lexeme) (y : List (List ℕ × Late) × Outline × List Lexeme) → repeat member_at n o ts ≡ Some y → AreMembers o ts y
+members_found : (n : ℕ) (o : Outline) (ts : List Lexeme) (y : List (List ℕ × Late) × Outline × List Lexeme)
+    → repeat member_at n o ts ≡ Some y → AreMembers o ts y
 unfolding repeat
 members_found zero o ts y e = absurd cc
 members_found (suc n) o ts y e =
@@ -195,17 +311,23 @@ members_found (suc n) o ts y e =
       | inl on ↦
           let r = bind_some (repeat member_at n m.0.1 m.0.2) _ y on.1 in
           let rest = members_found n m.0.1 m.0.2 r.0 r.1 in
-          let here : ts ≡ member first.tree (Sign mark.Comma ∷ m.0.2) = first.spelled ∙ ap (λ (b : Bool). member first.tree (Sign (cond b mark.Comma mark.CloseBrace) ∷ m.0.2)) on.0 in
-          subst (λ (z : List (List ℕ × Late) × Outline × List Lexeme). AreMembers o ts z) (some_is (m.0.0.0 ∷ r.0.0, r.0.1, r.0.2) y r.2) (record {
+          let here : ts ≡ member first.tree (Sign mark.Comma ∷ m.0.2) = first.spelled
+          ∙ ap (λ (b : Bool). member first.tree (Sign (cond b mark.Comma mark.CloseBrace) ∷ m.0.2)) on.0 in
+          subst (λ (z : List (List ℕ × Late) × Outline × List Lexeme). AreMembers o ts z)
+          (some_is (m.0.0.0 ∷ r.0.0, r.0.1, r.0.2) y r.2) (record {
             first = first.tree;
             others = rest.first ∷ rest.others;
             spelled = here ∙ ap (λ (x : List Lexeme). member first.tree (Sign mark.Comma ∷ x)) rest.spelled;
-            value = ap (λ (x : List ℕ × Late). x ∷ r.0.0) first.value ∙ ap (λ (xs : List (List ℕ × Late)). (first.tree.name, late o first.tree.value) ∷ xs) (rest.value ∙ ap (λ (x : Outline). (members_in (rest.first ∷ rest.others) x).0) first.made);
+            value = ap (λ (x : List ℕ × Late). x ∷ r.0.0) first.value
+                ∙ ap (λ (xs : List (List ℕ × Late)). (first.tree.name, late o first.tree.value) ∷ xs)
+                (rest.value ∙ ap (λ (x : Outline). (members_in (rest.first ∷ rest.others) x).0) first.made);
             made = rest.made ∙ ap (λ (x : Outline). (members_in (rest.first ∷ rest.others) x).1) first.made;
           })
       | inr off ↦
-          let here : ts ≡ member first.tree (Sign mark.CloseBrace ∷ m.0.2) = first.spelled ∙ ap (λ (b : Bool). member first.tree (Sign (cond b mark.Comma mark.CloseBrace) ∷ m.0.2)) off.0 in
-          subst (λ (z : List (List ℕ × Late) × Outline × List Lexeme). AreMembers o ts z) (some_is (m.0.0.0 ∷ [], m.0.1, m.0.2) y off.1) (record {
+          let here : ts ≡ member first.tree (Sign mark.CloseBrace ∷ m.0.2) = first.spelled
+          ∙ ap (λ (b : Bool). member first.tree (Sign (cond b mark.Comma mark.CloseBrace) ∷ m.0.2)) off.0 in
+          subst (λ (z : List (List ℕ × Late) × Outline × List Lexeme). AreMembers o ts z)
+          (some_is (m.0.0.0 ∷ [], m.0.1, m.0.2) y off.1) (record {
             first = first.tree;
             others = [];
             spelled = here;
@@ -221,7 +343,8 @@ word_of kind.Struct = Word word.Struct
 word_of kind.Union = Word word.Union
 
 -- a body after its word
-pub record IsBody (d : ℕ) (k : BodyKind) (o : Outline) (ts : List Lexeme) (y : Part × Outline × List Lexeme) : Type 0 where
+pub record IsBody (d : ℕ) (k : BodyKind) (o : Outline) (ts : List Lexeme)
+    (y : Part × Outline × List Lexeme) : Type 0 where
   pub tree : Body
   pub word : word_of k ≡ body_word tree
   pub spelled : ts ≡ body tree y.2
@@ -229,19 +352,22 @@ pub record IsBody (d : ℕ) (k : BodyKind) (o : Outline) (ts : List Lexeme) (y :
   pub made : y.1 ≡ (body_in tree o).1
   pub nested : depth_of_body tree ≤ suc d
 
-enum_found : (d : ℕ) (o : Outline) (ts : List Lexeme) (y : Part × Outline × List Lexeme) → enum_at o ts ≡ Some y → IsBody d kind.Enum o ts y
+enum_found : (d : ℕ) (o : Outline) (ts : List Lexeme) (y : Part × Outline × List Lexeme) → enum_at o ts ≡ Some y
+    → IsBody d kind.Enum o ts y
 unfolding enum_at
 enum_found d o ts y e =
     let i = bind_some (after_sign mark.OpenBrace ts) _ y e in
     let m = bind_some (repeat member_at (length i.0) o i.0) _ y i.2 in
     let found = members_found (length i.0) o i.0 m.0 m.1 in
     let all : List (List ℕ × Late) × Outline = members_in (found.first ∷ found.others) o in
-    subst (λ (z : Part × Outline × List Lexeme). IsBody d kind.Enum o ts z) (some_is (place m.0.1, add (DNumbered m.0.0) m.0.1, m.0.2) y m.2) (record {
+    subst (λ (z : Part × Outline × List Lexeme). IsBody d kind.Enum o ts z)
+    (some_is (place m.0.1, add (DNumbered m.0.0) m.0.1, m.0.2) y m.2) (record {
       tree = EnumBody found.first found.others;
       word = refl;
       spelled = sign_found mark.OpenBrace ts i.0 i.1 ∙ ap (λ (x : List Lexeme). Sign mark.OpenBrace ∷ x) found.spelled;
       value = ap place found.made;
-      made = ap (λ (x : List (List ℕ × Late)). add (DNumbered x) m.0.1) found.value ∙ ap (λ (x : Outline). add (DNumbered (members_in (found.first ∷ found.others) o).0) x) found.made;
+      made = ap (λ (x : List (List ℕ × Late)). add (DNumbered x) m.0.1) found.value
+          ∙ ap (λ (x : Outline). add (DNumbered (members_in (found.first ∷ found.others) o).0) x) found.made;
       nested = omega arith;
     })
 
@@ -252,11 +378,15 @@ abbrev pub closing : Bool → List Lexeme → List Lexeme
 closing true ts = ts
 closing false ts = Sign mark.CloseBrace ∷ ts
 
-pub closing_found : {A : Type 0} (a : A) (o : Outline) (ts : List Lexeme) (y : (A × Bool) × Outline × List Lexeme) → taken (after_sign mark.CloseBrace ts) (λ rest. Some ((a, false), o, rest)) (Some ((a, true), o, ts)) ≡ Some y → (y.0.0 ≡ a) × (y.1 ≡ o) × (ts ≡ closing y.0.1 y.2)
+pub closing_found : {A : Type 0} (a : A) (o : Outline) (ts : List Lexeme) (y : (A × Bool) × Outline × List Lexeme)
+    → taken (after_sign mark.CloseBrace ts) (λ rest. Some ((a, false), o, rest)) (Some ((a, true), o, ts)) ≡ Some y
+    → (y.0.0 ≡ a) × (y.1 ≡ o) × (ts ≡ closing y.0.1 y.2)
 closing_found {A = A} a o ts y e =
     elim (taken_some (after_sign mark.CloseBrace ts) _ _ _ e) [
-      | inl h ↦ subst (λ (z : (A × Bool) × Outline × List Lexeme). (z.0.0 ≡ a) × (z.1 ≡ o) × (ts ≡ closing z.0.1 z.2)) (some_is ((a, false), o, h.0) y h.2) (refl, refl, sign_found mark.CloseBrace ts h.0 h.1)
-      | inr h ↦ subst (λ (z : (A × Bool) × Outline × List Lexeme). (z.0.0 ≡ a) × (z.1 ≡ o) × (ts ≡ closing z.0.1 z.2)) (some_is ((a, true), o, ts) y h.1) (refl, refl, refl)
+      | inl h ↦ subst (λ (z : (A × Bool) × Outline × List Lexeme). (z.0.0 ≡ a) × (z.1 ≡ o) × (ts ≡ closing z.0.1 z.2))
+          (some_is ((a, false), o, h.0) y h.2) (refl, refl, sign_found mark.CloseBrace ts h.0 h.1)
+      | inr h ↦ subst (λ (z : (A × Bool) × Outline × List Lexeme). (z.0.0 ≡ a) × (z.1 ≡ o) × (ts ≡ closing z.0.1 z.2))
+          (some_is ((a, true), o, ts) y h.1) (refl, refl, refl)
     ]
 
 -- after an item: another case, or what follows
@@ -264,11 +394,15 @@ abbrev pub casing : Bool → List Lexeme → List Lexeme
 casing true ts = Word word.Case ∷ ts
 casing false ts = ts
 
-casing_found : {A : Type 0} (a : A) (o : Outline) (ts : List Lexeme) (y : (A × Bool) × Outline × List Lexeme) → taken (after_word word.Case ts) (λ rest. Some ((a, true), o, rest)) (Some ((a, false), o, ts)) ≡ Some y → (y.0.0 ≡ a) × (y.1 ≡ o) × (ts ≡ casing y.0.1 y.2)
+casing_found : {A : Type 0} (a : A) (o : Outline) (ts : List Lexeme) (y : (A × Bool) × Outline × List Lexeme)
+    → taken (after_word word.Case ts) (λ rest. Some ((a, true), o, rest)) (Some ((a, false), o, ts)) ≡ Some y
+    → (y.0.0 ≡ a) × (y.1 ≡ o) × (ts ≡ casing y.0.1 y.2)
 casing_found {A = A} a o ts y e =
     elim (taken_some (after_word word.Case ts) _ _ _ e) [
-      | inl h ↦ subst (λ (z : (A × Bool) × Outline × List Lexeme). (z.0.0 ≡ a) × (z.1 ≡ o) × (ts ≡ casing z.0.1 z.2)) (some_is ((a, true), o, h.0) y h.2) (refl, refl, word_found word.Case ts h.0 h.1)
-      | inr h ↦ subst (λ (z : (A × Bool) × Outline × List Lexeme). (z.0.0 ≡ a) × (z.1 ≡ o) × (ts ≡ casing z.0.1 z.2)) (some_is ((a, false), o, ts) y h.1) (refl, refl, refl)
+      | inl h ↦ subst (λ (z : (A × Bool) × Outline × List Lexeme). (z.0.0 ≡ a) × (z.1 ≡ o) × (ts ≡ casing z.0.1 z.2))
+          (some_is ((a, true), o, h.0) y h.2) (refl, refl, word_found word.Case ts h.0 h.1)
+      | inr h ↦ subst (λ (z : (A × Bool) × Outline × List Lexeme). (z.0.0 ≡ a) × (z.1 ≡ o) × (ts ≡ casing z.0.1 z.2))
+          (some_is ((a, false), o, ts) y h.1) (refl, refl, refl)
     ]
 
 record IsField (d : ℕ) (o : Outline) (ts : List Lexeme) (y : (Field × Bool) × Outline × List Lexeme) : Type 0 where
@@ -278,7 +412,9 @@ record IsField (d : ℕ) (o : Outline) (ts : List Lexeme) (y : (Field × Bool) �
   made : y.1 ≡ (content_in tree o).1
   nested : depth_of_content tree ≤ d
 
-field_found : (d : ℕ) (reader : Reader Field) → FindsContents d reader → (o : Outline) (ts : List Lexeme) (y : (Field × Bool) × Outline × List Lexeme) → field_with reader o ts ≡ Some y → IsField d o ts y
+field_found : (d : ℕ) (reader : Reader Field) → FindsContents d reader
+    → (o : Outline) (ts : List Lexeme) (y : (Field × Bool) × Outline × List Lexeme) → field_with reader o ts ≡ Some y
+    → IsField d o ts y
 unfolding field_with
 field_found d reader finds o ts y e =
     let f = bind_some (reader o ts) _ y e in
@@ -287,7 +423,9 @@ field_found d reader finds o ts y e =
     let c = closing_found f.0.0 f.0.1 s.0 y s.2 in
     record {
       tree = found.tree;
-      spelled = found.spelled ∙ ap (content found.tree) (sign_found mark.Semicolon f.0.2 s.0 s.1 ∙ ap (λ (x : List Lexeme). Sign mark.Semicolon ∷ x) c.2);
+      spelled = found.spelled
+          ∙ ap (content found.tree) (sign_found mark.Semicolon f.0.2 s.0 s.1
+          ∙ ap (λ (x : List Lexeme). Sign mark.Semicolon ∷ x) c.2);
       value = c.0 ∙ found.value;
       made = c.1 ∙ found.made;
       nested = found.nested;
@@ -296,7 +434,8 @@ field_found d reader finds o ts y e =
 abbrev closed_fields : Fields → List Lexeme → List Lexeme
 closed_fields fs ts = fields fs (Sign mark.CloseBrace ∷ ts)
 
-fields_found : (d : ℕ) (reader : Reader Field) → FindsContents d reader → (n : ℕ) → Finds closed_fields fields_in depth_of_fields d (repeat (field_with reader) n)
+fields_found : (d : ℕ) (reader : Reader Field) → FindsContents d reader → (n : ℕ)
+    → Finds closed_fields fields_in depth_of_fields d (repeat (field_with reader) n)
 unfolding repeat
 fields_found d reader finds zero o ts y e = absurd cc
 fields_found d reader finds (suc n) o ts y e =
@@ -306,17 +445,23 @@ fields_found d reader finds (suc n) o ts y e =
       | inl on ↦
           let r = bind_some (repeat (field_with reader) n f.0.1 f.0.2) _ y on.1 in
           let rest = fields_found d reader finds n f.0.1 f.0.2 r.0 r.1 in
-          let here : ts ≡ content first.tree (Sign mark.Semicolon ∷ f.0.2) = first.spelled ∙ ap (λ (b : Bool). content first.tree (Sign mark.Semicolon ∷ closing b f.0.2)) on.0 in
-          subst (λ (z : List Field × Outline × List Lexeme). Found closed_fields fields_in depth_of_fields d o ts z) (some_is (f.0.0.0 ∷ r.0.0, r.0.1, r.0.2) y r.2) (record {
+          let here : ts ≡ content first.tree (Sign mark.Semicolon ∷ f.0.2) = first.spelled
+          ∙ ap (λ (b : Bool). content first.tree (Sign mark.Semicolon ∷ closing b f.0.2)) on.0 in
+          subst (λ (z : List Field × Outline × List Lexeme). Found closed_fields fields_in depth_of_fields d o ts z)
+          (some_is (f.0.0.0 ∷ r.0.0, r.0.1, r.0.2) y r.2) (record {
             tree = More first.tree rest.tree;
             spelled = here ∙ ap (λ (x : List Lexeme). content first.tree (Sign mark.Semicolon ∷ x)) rest.spelled;
-            value = ap (λ (x : Field). x ∷ r.0.0) first.value ∙ ap (λ (xs : List Field). (content_in first.tree o).0 ∷ xs) (rest.value ∙ ap (λ (x : Outline). (fields_in rest.tree x).0) first.made);
+            value = ap (λ (x : Field). x ∷ r.0.0) first.value
+                ∙ ap (λ (xs : List Field). (content_in first.tree o).0 ∷ xs)
+                (rest.value ∙ ap (λ (x : Outline). (fields_in rest.tree x).0) first.made);
             made = rest.made ∙ ap (λ (x : Outline). (fields_in rest.tree x).1) first.made;
             nested = omega (arith, first.nested, rest.nested);
           })
       | inr off ↦
-          let here : ts ≡ content first.tree (Sign mark.Semicolon ∷ Sign mark.CloseBrace ∷ f.0.2) = first.spelled ∙ ap (λ (b : Bool). content first.tree (Sign mark.Semicolon ∷ closing b f.0.2)) off.0 in
-          subst (λ (z : List Field × Outline × List Lexeme). Found closed_fields fields_in depth_of_fields d o ts z) (some_is (f.0.0.0 ∷ [], f.0.1, f.0.2) y off.1) (record {
+          let here : ts ≡ content first.tree (Sign mark.Semicolon ∷ Sign mark.CloseBrace ∷ f.0.2) = first.spelled
+          ∙ ap (λ (b : Bool). content first.tree (Sign mark.Semicolon ∷ closing b f.0.2)) off.0 in
+          subst (λ (z : List Field × Outline × List Lexeme). Found closed_fields fields_in depth_of_fields d o ts z)
+          (some_is (f.0.0.0 ∷ [], f.0.1, f.0.2) y off.1) (record {
             tree = Last first.tree;
             spelled = here;
             value = ap (λ (x : Field). x ∷ []) first.value;
@@ -325,18 +470,22 @@ fields_found d reader finds (suc n) o ts y e =
           })
     ]
 
-struct_found : (d : ℕ) (reader : Reader Field) → FindsContents d reader → (o : Outline) (ts : List Lexeme) (y : Part × Outline × List Lexeme) → struct_with reader o ts ≡ Some y → IsBody d kind.Struct o ts y
+struct_found : (d : ℕ) (reader : Reader Field) → FindsContents d reader
+    → (o : Outline) (ts : List Lexeme) (y : Part × Outline × List Lexeme) → struct_with reader o ts ≡ Some y
+    → IsBody d kind.Struct o ts y
 unfolding struct_with
 struct_found d reader finds o ts y e =
     let i = bind_some (after_sign mark.OpenBrace ts) _ y e in
     let f = bind_some (repeat (field_with reader) (length i.0) o i.0) _ y i.2 in
     let found = fields_found d reader finds (length i.0) o i.0 f.0 f.1 in
-    subst (λ (z : Part × Outline × List Lexeme). IsBody d kind.Struct o ts z) (some_is (place f.0.1, add (DStructure f.0.0) f.0.1, f.0.2) y f.2) (record {
+    subst (λ (z : Part × Outline × List Lexeme). IsBody d kind.Struct o ts z)
+    (some_is (place f.0.1, add (DStructure f.0.0) f.0.1, f.0.2) y f.2) (record {
       tree = StructBody found.tree;
       word = refl;
       spelled = sign_found mark.OpenBrace ts i.0 i.1 ∙ ap (λ (x : List Lexeme). Sign mark.OpenBrace ∷ x) found.spelled;
       value = ap place found.made;
-      made = ap (λ (x : List Field). add (DStructure x) f.0.1) found.value ∙ ap (λ (x : Outline). add (DStructure (fields_in found.tree o).0) x) found.made;
+      made = ap (λ (x : List Field). add (DStructure x) f.0.1) found.value
+          ∙ ap (λ (x : Outline). add (DStructure (fields_in found.tree o).0) x) found.made;
       nested = omega (arith, found.nested);
     })
 
@@ -348,14 +497,22 @@ record IsCase (o : Outline) (ts : List Lexeme) (y : (Late × Bool) × Outline ×
   value : y.0.0 ≡ late o tree
   made : y.1 ≡ o
 
-case_found : (o : Outline) (ts : List Lexeme) (y : (Late × Bool) × Outline × List Lexeme) → case_at o ts ≡ Some y → IsCase o ts y
+case_found : (o : Outline) (ts : List Lexeme) (y : (Late × Bool) × Outline × List Lexeme) → case_at o ts ≡ Some y
+    → IsCase o ts y
 unfolding case_at
 case_found o ts y e =
     let v = bind_some (value_at o ts) _ y e in
     let s = bind_some (after_sign mark.Colon v.0.1) _ y v.2 in
     let w = value_found o ts v.0 v.1 in
     let c = casing_found v.0.0 o s.0 y s.2 in
-    record { tree = w.tree; spelled = w.spelled ∙ ap (λ (x : List Lexeme). value w.tree ∷ x) (sign_found mark.Colon v.0.1 s.0 s.1 ∙ ap (λ (x : List Lexeme). Sign mark.Colon ∷ x) c.2); value = c.0 ∙ w.late; made = c.1 }
+    record {
+      tree = w.tree;
+      spelled = w.spelled
+          ∙ ap (λ (x : List Lexeme). value w.tree ∷ x) (sign_found mark.Colon v.0.1 s.0 s.1
+          ∙ ap (λ (x : List Lexeme). Sign mark.Colon ∷ x) c.2);
+      value = c.0 ∙ w.late;
+      made = c.1;
+    }
 
 record AreCases (o : Outline) (ts : List Lexeme) (y : List Late × Outline × List Lexeme) : Type 0 where
   first : Value
@@ -364,7 +521,8 @@ record AreCases (o : Outline) (ts : List Lexeme) (y : List Late × Outline × Li
   value : y.0 ≡ map (late o) (first ∷ others)
   made : y.1 ≡ o
 
-cases_found : (n : ℕ) (o : Outline) (ts : List Lexeme) (y : List Late × Outline × List Lexeme) → repeat case_at n o ts ≡ Some y → AreCases o ts y
+cases_found : (n : ℕ) (o : Outline) (ts : List Lexeme) (y : List Late × Outline × List Lexeme)
+    → repeat case_at n o ts ≡ Some y → AreCases o ts y
 unfolding repeat
 cases_found zero o ts y e = absurd cc
 cases_found (suc n) o ts y e =
@@ -374,17 +532,24 @@ cases_found (suc n) o ts y e =
       | inl on ↦
           let r = bind_some (repeat case_at n f.0.1 f.0.2) _ y on.1 in
           let rest = cases_found n f.0.1 f.0.2 r.0 r.1 in
-          let here : ts ≡ value first.tree ∷ Sign mark.Colon ∷ Word word.Case ∷ f.0.2 = first.spelled ∙ ap (λ (b : Bool). value first.tree ∷ Sign mark.Colon ∷ casing b f.0.2) on.0 in
-          subst (λ (z : List Late × Outline × List Lexeme). AreCases o ts z) (some_is (f.0.0.0 ∷ r.0.0, r.0.1, r.0.2) y r.2) (record {
+          let here : ts ≡ value first.tree ∷ Sign mark.Colon ∷ Word word.Case ∷ f.0.2 = first.spelled
+          ∙ ap (λ (b : Bool). value first.tree ∷ Sign mark.Colon ∷ casing b f.0.2) on.0 in
+          subst (λ (z : List Late × Outline × List Lexeme). AreCases o ts z)
+          (some_is (f.0.0.0 ∷ r.0.0, r.0.1, r.0.2) y r.2) (record {
             first = first.tree;
             others = rest.first ∷ rest.others;
-            spelled = here ∙ ap (λ (x : List Lexeme). value first.tree ∷ Sign mark.Colon ∷ Word word.Case ∷ x) rest.spelled;
-            value = ap (λ (x : Late). x ∷ r.0.0) first.value ∙ ap (λ (xs : List Late). late o first.tree ∷ xs) (rest.value ∙ ap (λ (x : Outline). map (late x) (rest.first ∷ rest.others)) first.made);
+            spelled = here ∙ ap (λ (x : List Lexeme). value first.tree ∷ Sign mark.Colon ∷ Word word.Case ∷ x)
+                rest.spelled;
+            value = ap (λ (x : Late). x ∷ r.0.0) first.value
+                ∙ ap (λ (xs : List Late). late o first.tree ∷ xs)
+                (rest.value ∙ ap (λ (x : Outline). map (late x) (rest.first ∷ rest.others)) first.made);
             made = rest.made ∙ first.made;
           })
       | inr off ↦
-          let here : ts ≡ value first.tree ∷ Sign mark.Colon ∷ f.0.2 = first.spelled ∙ ap (λ (b : Bool). value first.tree ∷ Sign mark.Colon ∷ casing b f.0.2) off.0 in
-          subst (λ (z : List Late × Outline × List Lexeme). AreCases o ts z) (some_is (f.0.0.0 ∷ [], f.0.1, f.0.2) y off.1) (record {
+          let here : ts ≡ value first.tree ∷ Sign mark.Colon ∷ f.0.2 = first.spelled
+          ∙ ap (λ (b : Bool). value first.tree ∷ Sign mark.Colon ∷ casing b f.0.2) off.0 in
+          subst (λ (z : List Late × Outline × List Lexeme). AreCases o ts z)
+          (some_is (f.0.0.0 ∷ [], f.0.1, f.0.2) y off.1) (record {
             first = first.tree;
             others = [];
             spelled = here;
@@ -405,7 +570,9 @@ record IsArm (d : ℕ) (o : Outline) (ts : List Lexeme) (y : (Arm × Bool) × Ou
   made : y.1 ≡ (content_in tree o).1
   nested : depth_of_content tree ≤ d
 
-arm_found : (d : ℕ) (reader : Reader Field) → FindsContents d reader → (o : Outline) (ts : List Lexeme) (y : (Arm × Bool) × Outline × List Lexeme) → arm_with reader o ts ≡ Some y → IsArm d o ts y
+arm_found : (d : ℕ) (reader : Reader Field) → FindsContents d reader
+    → (o : Outline) (ts : List Lexeme) (y : (Arm × Bool) × Outline × List Lexeme) → arm_with reader o ts ≡ Some y
+    → IsArm d o ts y
 unfolding arm_with
 arm_found d reader finds o ts y e =
     let v = bind_some (repeat case_at (length ts) o ts) _ y e in
@@ -415,13 +582,17 @@ arm_found d reader finds o ts y e =
     let found = finds v.0.1 v.0.2 m.0 m.1 in
     let arm : Arm = record { cases = v.0.0; member = m.0.0 } in
     let c = casing_found arm m.0.1 s.0 y s.2 in
-    let member : m.0.0 ≡ (content_in found.tree o).0 = found.value ∙ ap (λ (x : Outline). (content_in found.tree x).0) vs.made in
+    let member : m.0.0 ≡ (content_in found.tree o).0 = found.value
+    ∙ ap (λ (x : Outline). (content_in found.tree x).0) vs.made in
     record {
       first = vs.first;
       others = vs.others;
       tree = found.tree;
-      spelled = vs.spelled ∙ ap (λ (x : List Lexeme). value vs.first ∷ Sign mark.Colon ∷ cases vs.others x) (found.spelled ∙ ap (content found.tree) (sign_found mark.Semicolon m.0.2 s.0 s.1 ∙ ap (λ (x : List Lexeme). Sign mark.Semicolon ∷ x) c.2));
-      value = c.0 ∙ ap (λ (x : List Late). an_arm x m.0.0) vs.value ∙ ap (λ (x : Field). an_arm (map (late o) (vs.first ∷ vs.others)) x) member;
+      spelled = vs.spelled ∙ ap (λ (x : List Lexeme). value vs.first ∷ Sign mark.Colon ∷ cases vs.others x)
+          (found.spelled ∙ ap (content found.tree) (sign_found mark.Semicolon m.0.2 s.0 s.1
+          ∙ ap (λ (x : List Lexeme). Sign mark.Semicolon ∷ x) c.2));
+      value = c.0 ∙ ap (λ (x : List Late). an_arm x m.0.0) vs.value
+          ∙ ap (λ (x : Field). an_arm (map (late o) (vs.first ∷ vs.others)) x) member;
       made = c.1 ∙ found.made ∙ ap (λ (x : Outline). (content_in found.tree x).1) vs.made;
       nested = found.nested;
     }
@@ -429,35 +600,48 @@ arm_found d reader finds o ts y e =
 -- after the first case
 abbrev pub after_case : Cases → List Lexeme → List Lexeme
 after_case (LastCase v vs m) ts = value v ∷ Sign mark.Colon ∷ cases vs (content m (Sign mark.Semicolon ∷ ts))
-after_case (MoreCases v vs m cs) ts = value v ∷ Sign mark.Colon ∷ cases vs (content m (Sign mark.Semicolon ∷ arms cs ts))
+after_case (MoreCases v vs m cs) ts = value v ∷ Sign mark.Colon ∷ cases vs
+    (content m (Sign mark.Semicolon ∷ arms cs ts))
 
 pub begins_case : (cs : Cases) (ts : List Lexeme) → arms cs ts ≡ Word word.Case ∷ after_case cs ts
 begins_case (LastCase v vs m) ts = refl
 begins_case (MoreCases v vs m cs) ts = refl
 
-arms_found : (d : ℕ) (reader : Reader Field) → FindsContents d reader → (n : ℕ) → Finds after_case arms_in depth_of_cases d (repeat (arm_with reader) n)
+arms_found : (d : ℕ) (reader : Reader Field) → FindsContents d reader → (n : ℕ)
+    → Finds after_case arms_in depth_of_cases d (repeat (arm_with reader) n)
 unfolding repeat
 arms_found d reader finds zero o ts y e = absurd cc
 arms_found d reader finds (suc n) o ts y e =
     let f = bind_some (arm_with reader o ts) _ y e in
     let first = arm_found d reader finds o ts f.0 f.1 in
-    let begun : List Lexeme → List Lexeme = λ x. value first.first ∷ Sign mark.Colon ∷ cases first.others (content first.tree (Sign mark.Semicolon ∷ x)) in
-    let arm : Arm = record { cases = map (late o) (first.first ∷ first.others); member = (content_in first.tree o).0 } in
+    let begun : List Lexeme
+    → List Lexeme = λ x. value first.first ∷ Sign mark.Colon ∷ cases first.others
+    (content first.tree (Sign mark.Semicolon ∷ x)) in
+    let arm : Arm = record {
+      cases = map (late o) (first.first ∷ first.others);
+      member = (content_in first.tree o).0;
+    } in
     elim (chosen f.0.0.1 _ _ _ f.2) [
       | inl on ↦
           let r = bind_some (repeat (arm_with reader) n f.0.1 f.0.2) _ y on.1 in
           let rest = arms_found d reader finds n f.0.1 f.0.2 r.0 r.1 in
-          let here : ts ≡ begun (Word word.Case ∷ f.0.2) = first.spelled ∙ ap (λ (b : Bool). begun (casing b f.0.2)) on.0 in
-          subst (λ (z : List Arm × Outline × List Lexeme). Found after_case arms_in depth_of_cases d o ts z) (some_is (f.0.0.0 ∷ r.0.0, r.0.1, r.0.2) y r.2) (record {
+          let here : ts ≡ begun (Word word.Case ∷ f.0.2) = first.spelled
+          ∙ ap (λ (b : Bool). begun (casing b f.0.2)) on.0 in
+          subst (λ (z : List Arm × Outline × List Lexeme). Found after_case arms_in depth_of_cases d o ts z)
+          (some_is (f.0.0.0 ∷ r.0.0, r.0.1, r.0.2) y r.2) (record {
             tree = MoreCases first.first first.others first.tree rest.tree;
-            spelled = here ∙ ap begun (ap (λ (x : List Lexeme). Word word.Case ∷ x) rest.spelled ∙ sym (begins_case rest.tree r.0.2));
-            value = ap (λ (x : Arm). x ∷ r.0.0) first.value ∙ ap (λ (xs : List Arm). arm ∷ xs) (rest.value ∙ ap (λ (x : Outline). (arms_in rest.tree x).0) first.made);
+            spelled = here ∙ ap begun (ap (λ (x : List Lexeme). Word word.Case ∷ x) rest.spelled
+                ∙ sym (begins_case rest.tree r.0.2));
+            value = ap (λ (x : Arm). x ∷ r.0.0) first.value
+                ∙ ap (λ (xs : List Arm). arm ∷ xs)
+                (rest.value ∙ ap (λ (x : Outline). (arms_in rest.tree x).0) first.made);
             made = rest.made ∙ ap (λ (x : Outline). (arms_in rest.tree x).1) first.made;
             nested = omega (arith, first.nested, rest.nested);
           })
       | inr off ↦
           let here : ts ≡ begun f.0.2 = first.spelled ∙ ap (λ (b : Bool). begun (casing b f.0.2)) off.0 in
-          subst (λ (z : List Arm × Outline × List Lexeme). Found after_case arms_in depth_of_cases d o ts z) (some_is (f.0.0.0 ∷ [], f.0.1, f.0.2) y off.1) (record {
+          subst (λ (z : List Arm × Outline × List Lexeme). Found after_case arms_in depth_of_cases d o ts z)
+          (some_is (f.0.0.0 ∷ [], f.0.1, f.0.2) y off.1) (record {
             tree = LastCase first.first first.others first.tree;
             spelled = here;
             value = ap (λ (x : Arm). x ∷ []) first.value;
@@ -466,7 +650,8 @@ arms_found d reader finds (suc n) o ts y e =
           })
     ]
 
-default_found : (d : ℕ) (reader : Reader Field) → FindsContents d reader → Finds otherwise default_in depth_of_default d (default_with reader)
+default_found : (d : ℕ) (reader : Reader Field) → FindsContents d reader
+    → Finds otherwise default_in depth_of_default d (default_with reader)
 unfolding default_with
 default_found d reader finds o ts y e =
     elim (taken_some (after_word word.Default ts) _ _ _ e) [
@@ -475,20 +660,28 @@ default_found d reader finds o ts y e =
           let m = bind_some (reader o c.0) _ y c.2 in
           let s = bind_some (after_sign mark.Semicolon m.0.2) _ y m.2 in
           let found = finds o c.0 m.0 m.1 in
-          subst (λ (z : Option Field × Outline × List Lexeme). Found otherwise default_in depth_of_default d o ts z) (some_is (Some m.0.0, m.0.1, s.0) y s.2) (record {
+          subst (λ (z : Option Field × Outline × List Lexeme). Found otherwise default_in depth_of_default d o ts z)
+          (some_is (Some m.0.0, m.0.1, s.0) y s.2) (record {
             tree = Otherwise found.tree;
-            spelled = word_found word.Default ts a.0 a.1 ∙ ap (λ (x : List Lexeme). Word word.Default ∷ x) (sign_found mark.Colon a.0 c.0 c.1 ∙ ap (λ (x : List Lexeme). Sign mark.Colon ∷ x) (found.spelled ∙ ap (content found.tree) (sign_found mark.Semicolon m.0.2 s.0 s.1)));
+            spelled = word_found word.Default ts a.0 a.1
+                ∙ ap (λ (x : List Lexeme). Word word.Default ∷ x) (sign_found mark.Colon a.0 c.0 c.1
+                ∙ ap (λ (x : List Lexeme). Sign mark.Colon ∷ x)
+                (found.spelled ∙ ap (content found.tree) (sign_found mark.Semicolon m.0.2 s.0 s.1)));
             value = ap (λ (x : Field). Some x) found.value;
             made = found.made;
             nested = found.nested;
           })
-      | inr b ↦ subst (λ (z : Option Field × Outline × List Lexeme). Found otherwise default_in depth_of_default d o ts z) (some_is (None, o, ts) y b.1) (record { tree = NoDefault; spelled = refl; value = refl; made = refl; nested = omega arith })
+      | inr b ↦ subst (λ (z : Option Field × Outline
+          × List Lexeme). Found otherwise default_in depth_of_default d o ts z) (some_is (None, o, ts) y b.1)
+          (record { tree = NoDefault; spelled = refl; value = refl; made = refl; nested = omega arith })
     ]
 
 abbrev switched : Declaration → List Lexeme → List Lexeme
-switched t ts = Word word.Switch ∷ Sign mark.OpenRound ∷ declaration t (Sign mark.CloseRound ∷ Sign mark.OpenBrace ∷ Word word.Case ∷ ts)
+switched t ts = Word word.Switch ∷ Sign mark.OpenRound ∷ declaration t
+    (Sign mark.CloseRound ∷ Sign mark.OpenBrace ∷ Word word.Case ∷ ts)
 
-switch_found : (d : ℕ) (reader : Reader Field) → FindsDeclarations d reader → Finds switched declaration_in depth_of_declaration d (switch_with reader)
+switch_found : (d : ℕ) (reader : Reader Field) → FindsDeclarations d reader
+    → Finds switched declaration_in depth_of_declaration d (switch_with reader)
 unfolding switch_with
 switch_found d reader finds o ts y e =
     let a = bind_some (after_word word.Switch ts) _ y e in
@@ -498,16 +691,24 @@ switch_found d reader finds o ts y e =
     let g = bind_some (after_sign mark.OpenBrace c.0) _ y c.2 in
     let f = bind_some (after_word word.Case g.0) _ y g.2 in
     let found = finds o b.0 t.0 t.1 in
-    let rest : t.0.2 ≡ Sign mark.CloseRound ∷ Sign mark.OpenBrace ∷ Word word.Case ∷ f.0 = sign_found mark.CloseRound t.0.2 c.0 c.1 ∙ ap (λ (x : List Lexeme). Sign mark.CloseRound ∷ x) (sign_found mark.OpenBrace c.0 g.0 g.1 ∙ ap (λ (x : List Lexeme). Sign mark.OpenBrace ∷ x) (word_found word.Case g.0 f.0 f.1)) in
-    subst (λ (z : Field × Outline × List Lexeme). Found switched declaration_in depth_of_declaration d o ts z) (some_is (t.0.0, t.0.1, f.0) y f.2) (record {
+    let rest : t.0.2 ≡ Sign mark.CloseRound ∷ Sign mark.OpenBrace ∷ Word word.Case ∷ f.0 =
+    sign_found mark.CloseRound t.0.2 c.0 c.1 ∙ ap (λ (x : List Lexeme). Sign mark.CloseRound ∷ x)
+    (sign_found mark.OpenBrace c.0 g.0 g.1 ∙ ap (λ (x : List Lexeme). Sign mark.OpenBrace ∷ x)
+    (word_found word.Case g.0 f.0 f.1)) in
+    subst (λ (z : Field × Outline × List Lexeme). Found switched declaration_in depth_of_declaration d o ts z)
+    (some_is (t.0.0, t.0.1, f.0) y f.2) (record {
       tree = found.tree;
-      spelled = word_found word.Switch ts a.0 a.1 ∙ ap (λ (x : List Lexeme). Word word.Switch ∷ x) (sign_found mark.OpenRound a.0 b.0 b.1 ∙ ap (λ (x : List Lexeme). Sign mark.OpenRound ∷ x) (found.spelled ∙ ap (declaration found.tree) rest));
+      spelled = word_found word.Switch ts a.0 a.1
+          ∙ ap (λ (x : List Lexeme). Word word.Switch ∷ x) (sign_found mark.OpenRound a.0 b.0 b.1
+          ∙ ap (λ (x : List Lexeme). Sign mark.OpenRound ∷ x) (found.spelled ∙ ap (declaration found.tree) rest));
       value = found.value;
       made = found.made;
       nested = found.nested;
     })
 
-union_found : (d : ℕ) (reader : Reader Field) → FindsDeclarations d reader → (o : Outline) (ts : List Lexeme) (y : Part × Outline × List Lexeme) → union_with reader o ts ≡ Some y → IsBody d kind.Union o ts y
+union_found : (d : ℕ) (reader : Reader Field) → FindsDeclarations d reader
+    → (o : Outline) (ts : List Lexeme) (y : Part × Outline × List Lexeme) → union_with reader o ts ≡ Some y
+    → IsBody d kind.Union o ts y
 unfolding union_with
 union_found d reader finds o ts y e =
     let contents = content_found d reader finds in
@@ -521,45 +722,66 @@ union_found d reader finds o ts y e =
     let o1 : Outline = (declaration_in tag.tree o).1 in
     let made1 : a.0.1 ≡ (arms_in all.tree o1).1 = all.made ∙ ap (λ (x : Outline). (arms_in all.tree x).1) tag.made in
     let o2 : Outline = (arms_in all.tree o1).1 in
-    let made2 : b.0.1 ≡ (default_in other.tree o2).1 = other.made ∙ ap (λ (x : Outline). (default_in other.tree x).1) made1 in
+    let made2 : b.0.1 ≡ (default_in other.tree o2).1 = other.made
+    ∙ ap (λ (x : Outline). (default_in other.tree x).1) made1 in
     let value1 : a.0.0 ≡ (arms_in all.tree o1).0 = all.value ∙ ap (λ (x : Outline). (arms_in all.tree x).0) tag.made in
-    let value2 : b.0.0 ≡ (default_in other.tree o2).0 = other.value ∙ ap (λ (x : Outline). (default_in other.tree x).0) made1 in
-    let rest : a.0.2 ≡ otherwise other.tree (Sign mark.CloseBrace ∷ c.0) = other.spelled ∙ ap (otherwise other.tree) (sign_found mark.CloseBrace b.0.2 c.0 c.1) in
-    let inner : Word word.Case ∷ t.0.2 ≡ arms all.tree (otherwise other.tree (Sign mark.CloseBrace ∷ c.0)) = ap (λ (x : List Lexeme). Word word.Case ∷ x) (all.spelled ∙ ap (after_case all.tree) rest) ∙ sym (begins_case all.tree (otherwise other.tree (Sign mark.CloseBrace ∷ c.0))) in
-    subst (λ (z : Part × Outline × List Lexeme). IsBody d kind.Union o ts z) (some_is (place b.0.1, add (DChoice t.0.0.part a.0.0 b.0.0) b.0.1, c.0) y c.2) (record {
+    let value2 : b.0.0 ≡ (default_in other.tree o2).0 = other.value
+    ∙ ap (λ (x : Outline). (default_in other.tree x).0) made1 in
+    let rest : a.0.2 ≡ otherwise other.tree (Sign mark.CloseBrace ∷ c.0) = other.spelled
+    ∙ ap (otherwise other.tree) (sign_found mark.CloseBrace b.0.2 c.0 c.1) in
+    let inner : Word word.Case ∷ t.0.2 ≡ arms all.tree (otherwise other.tree (Sign mark.CloseBrace ∷ c.0)) = ap
+    (λ (x : List Lexeme). Word word.Case ∷ x) (all.spelled ∙ ap (after_case all.tree) rest)
+    ∙ sym (begins_case all.tree (otherwise other.tree (Sign mark.CloseBrace ∷ c.0))) in
+    subst (λ (z : Part × Outline × List Lexeme). IsBody d kind.Union o ts z)
+    (some_is (place b.0.1, add (DChoice t.0.0.part a.0.0 b.0.0) b.0.1, c.0) y c.2) (record {
       tree = UnionBody tag.tree all.tree other.tree;
       word = refl;
-      spelled = tag.spelled ∙ ap (λ (x : List Lexeme). Word word.Switch ∷ Sign mark.OpenRound ∷ declaration tag.tree (Sign mark.CloseRound ∷ Sign mark.OpenBrace ∷ x)) inner;
+      spelled = tag.spelled
+          ∙ ap (λ (x : List Lexeme). Word word.Switch ∷ Sign mark.OpenRound ∷ declaration tag.tree
+          (Sign mark.CloseRound ∷ Sign mark.OpenBrace ∷ x)) inner;
       value = ap place made2;
-      made = ap (λ (x : Field). add (DChoice x.part a.0.0 b.0.0) b.0.1) tag.value ∙ ap (λ (x : List Arm). add (DChoice (declaration_in tag.tree o).0.part x b.0.0) b.0.1) value1 ∙ ap (λ (x : Option Field). add (DChoice (declaration_in tag.tree o).0.part (arms_in all.tree o1).0 x) b.0.1) value2 ∙ ap (λ (x : Outline). add (DChoice (declaration_in tag.tree o).0.part (arms_in all.tree o1).0 (default_in other.tree o2).0) x) made2;
+      made = ap (λ (x : Field). add (DChoice x.part a.0.0 b.0.0) b.0.1) tag.value
+          ∙ ap (λ (x : List Arm). add (DChoice (declaration_in tag.tree o).0.part x b.0.0) b.0.1) value1
+          ∙ ap (λ (x : Option Field). add (DChoice (declaration_in tag.tree o).0.part (arms_in all.tree o1).0 x) b.0.1)
+          value2 ∙ ap (λ (x : Outline). add
+          (DChoice (declaration_in tag.tree o).0.part (arms_in all.tree o1).0 (default_in other.tree o2).0) x) made2;
       nested = omega (arith, tag.nested, all.nested, other.nested);
     })
 
 -- ---- type specifiers
 
-pub body_word_found : (ts : List Lexeme) (y : BodyKind × List Lexeme) → body_word_at ts ≡ Some y → ts ≡ word_of y.0 ∷ y.1
+pub body_word_found : (ts : List Lexeme) (y : BodyKind × List Lexeme) → body_word_at ts ≡ Some y
+    → ts ≡ word_of y.0 ∷ y.1
 unfolding body_word_at
 body_word_found ts y e =
     elim (taken_some (after_word word.Enum ts) _ _ _ e) [
-      | inl a ↦ subst (λ (z : BodyKind × List Lexeme). ts ≡ word_of z.0 ∷ z.1) (some_is (kind.Enum, a.0) y a.2) (word_found word.Enum ts a.0 a.1)
+      | inl a ↦ subst (λ (z : BodyKind × List Lexeme). ts ≡ word_of z.0 ∷ z.1) (some_is (kind.Enum, a.0) y a.2)
+          (word_found word.Enum ts a.0 a.1)
       | inr n ↦ elim (taken_some (after_word word.Struct ts) _ _ _ n.1) [
-        | inl a ↦ subst (λ (z : BodyKind × List Lexeme). ts ≡ word_of z.0 ∷ z.1) (some_is (kind.Struct, a.0) y a.2) (word_found word.Struct ts a.0 a.1)
+        | inl a ↦ subst (λ (z : BodyKind × List Lexeme). ts ≡ word_of z.0 ∷ z.1) (some_is (kind.Struct, a.0) y a.2)
+            (word_found word.Struct ts a.0 a.1)
         | inr m ↦
             let a = bind_some (after_word word.Union ts) _ y m.1 in
-            subst (λ (z : BodyKind × List Lexeme). ts ≡ word_of z.0 ∷ z.1) (some_is (kind.Union, a.0) y a.2) (word_found word.Union ts a.0 a.1)
+            subst (λ (z : BodyKind × List Lexeme). ts ≡ word_of z.0 ∷ z.1) (some_is (kind.Union, a.0) y a.2)
+            (word_found word.Union ts a.0 a.1)
       ]
     ]
 
-pub body_found : (d : ℕ) (reader : Reader Field) → FindsDeclarations d reader → (k : BodyKind) (o : Outline) (ts : List Lexeme) (y : Part × Outline × List Lexeme) → body_with reader k o ts ≡ Some y → IsBody d k o ts y
+pub body_found : (d : ℕ) (reader : Reader Field) → FindsDeclarations d reader
+    → (k : BodyKind) (o : Outline) (ts : List Lexeme) (y : Part × Outline × List Lexeme)
+    → body_with reader k o ts ≡ Some y → IsBody d k o ts y
 unfolding body_with
 body_found d reader finds kind.Enum o ts y e = enum_found d o ts y e
-body_found d reader finds kind.Struct o ts y e = struct_found d (content_with reader) (content_found d reader finds) o ts y e
+body_found d reader finds kind.Struct o ts y e = struct_found d (content_with reader)
+    (content_found d reader finds) o ts y e
 body_found d reader finds kind.Union o ts y e = union_found d reader finds o ts y e
 
-basic_part : (d : ℕ) (o : Outline) (ts : List Lexeme) (y : Part × Outline × List Lexeme) → (basic_at ts >>= λ b. Some (b.0, o, b.1)) ≡ Some y → IsSpecifier d o ts y
+basic_part : (d : ℕ) (o : Outline) (ts : List Lexeme) (y : Part × Outline × List Lexeme)
+    → (basic_at ts >>= λ b. Some (b.0, o, b.1)) ≡ Some y → IsSpecifier d o ts y
 basic_part d o ts y e =
     let b = bind_some (basic_at ts) _ y e in
-    subst (λ (z : Part × Outline × List Lexeme). IsSpecifier d o ts z) (some_is (b.0.0, o, b.0.1) y b.2) (basic_found d o ts b.0 b.1)
+    subst (λ (z : Part × Outline × List Lexeme). IsSpecifier d o ts z) (some_is (b.0.0, o, b.0.1) y b.2)
+    (basic_found d o ts b.0 b.1)
 
 pub specifier_found : (d : ℕ) → FindsSpecifiers d (specifier_at d)
 unfolding specifier_at
@@ -571,7 +793,15 @@ specifier_found zero o ts y e =
 specifier_found (suc d) o ts y e =
     elim (taken_some (body_word_at ts) _ _ _ e) [
       | inl a ↦
-          let b = body_found d (declaration_with (specifier_at d)) (declaration_found d (specifier_at d) (specifier_found d)) a.0.0 o a.0.1 y a.2 in
-          record { tree = Inline b.tree; spelled = body_word_found ts a.0 a.1 ∙ ap (λ (x : Lexeme). x ∷ a.0.1) b.word ∙ ap (λ (x : List Lexeme). body_word b.tree ∷ x) b.spelled; value = b.value; made = b.made; nested = b.nested }
+          let b = body_found d (declaration_with (specifier_at d))
+          (declaration_found d (specifier_at d) (specifier_found d)) a.0.0 o a.0.1 y a.2 in
+          record {
+            tree = Inline b.tree;
+            spelled = body_word_found ts a.0 a.1 ∙ ap (λ (x : Lexeme). x ∷ a.0.1) b.word
+                ∙ ap (λ (x : List Lexeme). body_word b.tree ∷ x) b.spelled;
+            value = b.value;
+            made = b.made;
+            nested = b.nested;
+          }
       | inr m ↦ basic_part (suc d) o ts y m.1
     ]

@@ -1,22 +1,45 @@
 -- Soundness for programs and whole texts.
-use Rattle.std.proofs.Common.{◌≡◌, ℕ, zero, suc, ◌≤◌, max, Bool, cond, ℤ, List, [], ◌∷◌, length, Option, Some, None, inl, inr, refl, sym, ap, subst, ◌∙◌, arith}
+use Rattle.std.proofs.Common.{◌≡◌, ℕ, zero, suc, ◌≤◌, max, Bool, cond, ℤ, List, [], ◌∷◌, length, Option, Some, None}
+use Rattle.std.proofs.Common.{inl, inr, refl, sym, ap, subst, ◌∙◌, arith}
 use Rattle.xdr_tokens.specs.declared.token.Keyword.TheVariants as word
 use Rattle.xdr_tokens.specs.declared.token.Mark.TheVariants as mark
 use Rattle.xdr_tokens.specs.Tokens.{Lexeme, Word, Name, Number, Sign}
 use Rattle.xdr_grammar.specs.Tree as tree
-use Rattle.xdr_grammar.specs.Tree.{Specifier, Body, Declaration, Passed, AnyText, OfType, Definition, ConstantOf, Typedef, Defined, ProgramOf, depth_of_specifier, depth_of_body, depth_of_declaration, depth_of_passed, depth_of_arguments, depth_of_result, depth_of_procedures, depth_of_versions, depth_of_definition, depth}
-use Rattle.xdr_grammar.specs.Grammar.{body_word, body, declaration, passed, result, more_arguments, arguments, procedure, procedures, version, versions, definition, specification}
-use Rattle.xdr_grammar.specs.Outline.{Part, IsText, Field, Procedure, Version, Program, Outline, add_type, add_program, body_in, declaration_in, passed_in, arguments_in, result_in, procedure_in, procedures_in, version_in, versions_in, definition_in, outlined}
-use Rattle.xdr_grammar.specs.Reading.{Reader, repeat, after_word, after_sign, name_at, numbered_at, either_sign, declaration_with, body_word_at, body_with, specifier_at, passed_with, argument_with, arguments_with, result_with, procedure_with, version_with, program_with, const_at, typedef_with, defined_with, definition_at, definitions_at}
-use Rattle.xdr_grammar.proofs.Leaves.{bind_some, some_is, taken_some, chosen, word_found, sign_found, name_found, numbered_found, either_found}
-use Rattle.xdr_grammar.proofs.Found.{Found, Finds, FindsSpecifiers, declaration_found, specifier_found, body_found, body_word_found, closing, closing_found}
+use Rattle.xdr_grammar.specs.Tree.{Specifier, Body, Declaration, Passed, AnyText, OfType, Definition, ConstantOf}
+use Rattle.xdr_grammar.specs.Tree.{Typedef, Defined, ProgramOf, depth_of_specifier, depth_of_body, depth_of_declaration}
+use Rattle.xdr_grammar.specs.Tree.{depth_of_passed, depth_of_arguments, depth_of_result, depth_of_procedures}
+use Rattle.xdr_grammar.specs.Tree.{depth_of_versions, depth_of_definition, depth}
+use Rattle.xdr_grammar.specs.Grammar.{body_word, body, declaration, passed, result, more_arguments, arguments}
+use Rattle.xdr_grammar.specs.Grammar.{procedure, procedures, version, versions, definition, specification}
+use Rattle.xdr_grammar.specs.Outline.{Part, IsText, Field, Procedure, Version, Program, Outline, add_type, add_program}
+use Rattle.xdr_grammar.specs.Outline.{body_in, declaration_in, passed_in, arguments_in, result_in, procedure_in}
+use Rattle.xdr_grammar.specs.Outline.{procedures_in, version_in, versions_in, definition_in, outlined}
+use Rattle.xdr_grammar.specs.steps.Reading.{Reader, repeat, after_word, after_sign, name_at, numbered_at, either_sign}
+use Rattle.xdr_grammar.specs.steps.Reading.{declaration_with, body_word_at, body_with, specifier_at, passed_with}
+use Rattle.xdr_grammar.specs.steps.Reading.{argument_with, arguments_with, result_with, procedure_with, version_with}
+use Rattle.xdr_grammar.specs.steps.Reading.{program_with, const_at, typedef_with, defined_with, definition_at}
+use Rattle.xdr_grammar.specs.steps.Reading.{definitions_at}
+use Rattle.xdr_tokens.proofs.Options.{bind_some, some_is, chosen}
+use Rattle.xdr_grammar.proofs.Leaves.{taken_some, word_found, sign_found, name_found, numbered_found, either_found}
+use Rattle.xdr_grammar.proofs.Found.{Found, Finds, FindsSpecifiers, declaration_found, specifier_found, body_found}
+use Rattle.xdr_grammar.proofs.Found.{body_word_found, closing, closing_found}
 
-passed_found : (d : ℕ) (reader : Reader Part) → FindsSpecifiers d reader → Finds passed passed_in depth_of_passed d (passed_with reader)
+passed_found : (d : ℕ) (reader : Reader Part) → FindsSpecifiers d reader
+    → Finds passed passed_in depth_of_passed d (passed_with reader)
 unfolding passed_with
 passed_found d reader finds o ts y e =
     elim (taken_some (after_word word.String ts) _ _ _ e) [
-      | inl a ↦ subst (λ (z : Part × Outline × List Lexeme). Found passed passed_in depth_of_passed d o ts z) (some_is (IsText, o, a.0) y a.2) (record { tree = AnyText; spelled = word_found word.String ts a.0 a.1; value = refl; made = refl; nested = omega arith })
-      | inr n ↦ let s = finds o ts y n.1 in record { tree = OfType s.tree; spelled = s.spelled; value = s.value; made = s.made; nested = s.nested }
+      | inl a ↦ subst (λ (z : Part × Outline × List Lexeme). Found passed passed_in depth_of_passed d o ts z)
+          (some_is (IsText, o, a.0) y a.2)
+          (record {
+            tree = AnyText;
+            spelled = word_found word.String ts a.0 a.1;
+            value = refl;
+            made = refl;
+            nested = omega arith;
+          })
+      | inr n ↦ let s = finds o ts y n.1 in
+          record { tree = OfType s.tree; spelled = s.spelled; value = s.value; made = s.made; nested = s.nested }
     ]
 
 record IsArgument (d : ℕ) (o : Outline) (ts : List Lexeme) (y : (Part × Bool) × Outline × List Lexeme) : Type 0 where
@@ -26,14 +49,24 @@ record IsArgument (d : ℕ) (o : Outline) (ts : List Lexeme) (y : (Part × Bool)
   made : y.1 ≡ (passed_in tree o).1
   nested : depth_of_passed tree ≤ d
 
-argument_found : (d : ℕ) (reader : Reader Part) → FindsSpecifiers d reader → (o : Outline) (ts : List Lexeme) (y : (Part × Bool) × Outline × List Lexeme) → argument_with reader o ts ≡ Some y → IsArgument d o ts y
+argument_found : (d : ℕ) (reader : Reader Part) → FindsSpecifiers d reader
+    → (o : Outline) (ts : List Lexeme) (y : (Part × Bool) × Outline × List Lexeme) → argument_with reader o ts ≡ Some y
+    → IsArgument d o ts y
 unfolding argument_with
 argument_found d reader finds o ts y e =
     let p = bind_some (passed_with reader o ts) _ y e in
     let m = bind_some (either_sign mark.Comma mark.CloseRound p.0.2) _ y p.2 in
     let found = passed_found d reader finds o ts p.0 p.1 in
-    subst (λ (z : (Part × Bool) × Outline × List Lexeme). IsArgument d o ts z) (some_is ((p.0.0, m.0.0), p.0.1, m.0.1) y m.2)
-    (record { tree = found.tree; spelled = found.spelled ∙ ap (passed found.tree) (either_found mark.Comma mark.CloseRound p.0.2 m.0 m.1); value = found.value; made = found.made; nested = found.nested })
+    subst (λ (z : (Part × Bool) × Outline × List Lexeme). IsArgument d o ts z)
+    (some_is ((p.0.0, m.0.0), p.0.1, m.0.1) y m.2)
+    (record {
+      tree = found.tree;
+      spelled = found.spelled
+          ∙ ap (passed found.tree) (either_found mark.Comma mark.CloseRound p.0.2 m.0 m.1);
+      value = found.value;
+      made = found.made;
+      nested = found.nested;
+    })
 
 record AreArguments (d : ℕ) (o : Outline) (ts : List Lexeme) (y : List Part × Outline × List Lexeme) : Type 0 where
   first : Passed
@@ -43,7 +76,9 @@ record AreArguments (d : ℕ) (o : Outline) (ts : List Lexeme) (y : List Part ×
   made : y.1 ≡ (arguments_in (first ∷ others) o).1
   nested : depth_of_arguments (first ∷ others) ≤ d
 
-some_arguments_found : (d : ℕ) (reader : Reader Part) → FindsSpecifiers d reader → (n : ℕ) (o : Outline) (ts : List Lexeme) (y : List Part × Outline × List Lexeme) → repeat (argument_with reader) n o ts ≡ Some y → AreArguments d o ts y
+some_arguments_found : (d : ℕ) (reader : Reader Part) → FindsSpecifiers d reader
+    → (n : ℕ) (o : Outline) (ts : List Lexeme) (y : List Part × Outline × List Lexeme)
+    → repeat (argument_with reader) n o ts ≡ Some y → AreArguments d o ts y
 unfolding repeat
 some_arguments_found d reader finds zero o ts y e = absurd cc
 some_arguments_found d reader finds (suc n) o ts y e =
@@ -53,18 +88,23 @@ some_arguments_found d reader finds (suc n) o ts y e =
       | inl on ↦
           let r = bind_some (repeat (argument_with reader) n f.0.1 f.0.2) _ y on.1 in
           let rest = some_arguments_found d reader finds n f.0.1 f.0.2 r.0 r.1 in
-          let here : ts ≡ passed first.tree (Sign mark.Comma ∷ f.0.2) = first.spelled ∙ ap (λ (b : Bool). passed first.tree (Sign (cond b mark.Comma mark.CloseRound) ∷ f.0.2)) on.0 in
-          subst (λ (z : List Part × Outline × List Lexeme). AreArguments d o ts z) (some_is (f.0.0.0 ∷ r.0.0, r.0.1, r.0.2) y r.2) (record {
+          let here : ts ≡ passed first.tree (Sign mark.Comma ∷ f.0.2) = first.spelled
+          ∙ ap (λ (b : Bool). passed first.tree (Sign (cond b mark.Comma mark.CloseRound) ∷ f.0.2)) on.0 in
+          subst (λ (z : List Part × Outline × List Lexeme). AreArguments d o ts z)
+          (some_is (f.0.0.0 ∷ r.0.0, r.0.1, r.0.2) y r.2) (record {
             first = first.tree;
             others = rest.first ∷ rest.others;
             spelled = here ∙ ap (λ (x : List Lexeme). passed first.tree (Sign mark.Comma ∷ x)) rest.spelled;
-            value = ap (λ (x : Part). x ∷ r.0.0) first.value ∙ ap (λ (xs : List Part). (passed_in first.tree o).0 ∷ xs) (rest.value ∙ ap (λ (x : Outline). (arguments_in (rest.first ∷ rest.others) x).0) first.made);
+            value = ap (λ (x : Part). x ∷ r.0.0) first.value ∙ ap (λ (xs : List Part). (passed_in first.tree o).0 ∷ xs)
+                (rest.value ∙ ap (λ (x : Outline). (arguments_in (rest.first ∷ rest.others) x).0) first.made);
             made = rest.made ∙ ap (λ (x : Outline). (arguments_in (rest.first ∷ rest.others) x).1) first.made;
             nested = omega (arith, first.nested, rest.nested);
           })
       | inr off ↦
-          let here : ts ≡ passed first.tree (Sign mark.CloseRound ∷ f.0.2) = first.spelled ∙ ap (λ (b : Bool). passed first.tree (Sign (cond b mark.Comma mark.CloseRound) ∷ f.0.2)) off.0 in
-          subst (λ (z : List Part × Outline × List Lexeme). AreArguments d o ts z) (some_is (f.0.0.0 ∷ [], f.0.1, f.0.2) y off.1) (record {
+          let here : ts ≡ passed first.tree (Sign mark.CloseRound ∷ f.0.2) = first.spelled
+          ∙ ap (λ (b : Bool). passed first.tree (Sign (cond b mark.Comma mark.CloseRound) ∷ f.0.2)) off.0 in
+          subst (λ (z : List Part × Outline × List Lexeme). AreArguments d o ts z)
+          (some_is (f.0.0.0 ∷ [], f.0.1, f.0.2) y off.1) (record {
             first = first.tree;
             others = [];
             spelled = here;
@@ -77,26 +117,54 @@ some_arguments_found d reader finds (suc n) o ts y e =
 abbrev closed_arguments : List Passed → List Lexeme → List Lexeme
 closed_arguments ps ts = arguments ps (Sign mark.CloseRound ∷ ts)
 
-arguments_found : (d : ℕ) (reader : Reader Part) → FindsSpecifiers d reader → Finds closed_arguments arguments_in depth_of_arguments d (arguments_with reader)
+arguments_found : (d : ℕ) (reader : Reader Part) → FindsSpecifiers d reader
+    → Finds closed_arguments arguments_in depth_of_arguments d (arguments_with reader)
 unfolding arguments_with
 arguments_found d reader finds o ts y e =
     elim (taken_some (after_word word.Void ts) _ _ _ e) [
       | inl a ↦
           let c = bind_some (after_sign mark.CloseRound a.0) _ y a.2 in
-          subst (λ (z : List Part × Outline × List Lexeme). Found closed_arguments arguments_in depth_of_arguments d o ts z) (some_is ([], o, c.0) y c.2)
-          (record { tree = []; spelled = word_found word.Void ts a.0 a.1 ∙ ap (λ (x : List Lexeme). Word word.Void ∷ x) (sign_found mark.CloseRound a.0 c.0 c.1); value = refl; made = refl; nested = omega arith })
-      | inr n ↦ let p = some_arguments_found d reader finds (length ts) o ts y n.1 in record { tree = p.first ∷ p.others; spelled = p.spelled; value = p.value; made = p.made; nested = p.nested }
+          subst (λ (z : List Part × Outline
+          × List Lexeme). Found closed_arguments arguments_in depth_of_arguments d o ts z)
+          (some_is ([], o, c.0) y c.2)
+          (record {
+            tree = [];
+            spelled = word_found word.Void ts a.0 a.1
+                ∙ ap (λ (x : List Lexeme). Word word.Void ∷ x) (sign_found mark.CloseRound a.0 c.0 c.1);
+            value = refl;
+            made = refl;
+            nested = omega arith;
+          })
+      | inr n ↦ let p = some_arguments_found d reader finds (length ts) o ts y n.1 in
+          record { tree = p.first ∷ p.others; spelled = p.spelled; value = p.value; made = p.made; nested = p.nested }
     ]
 
-result_found : (d : ℕ) (reader : Reader Part) → FindsSpecifiers d reader → Finds result result_in depth_of_result d (result_with reader)
+result_found : (d : ℕ) (reader : Reader Part) → FindsSpecifiers d reader
+    → Finds result result_in depth_of_result d (result_with reader)
 unfolding result_with
 result_found d reader finds o ts y e =
     elim (taken_some (after_word word.Void ts) _ _ _ e) [
-      | inl a ↦ subst (λ (z : Option Part × Outline × List Lexeme). Found result result_in depth_of_result d o ts z) (some_is (None, o, a.0) y a.2) (record { tree = None; spelled = word_found word.Void ts a.0 a.1; value = refl; made = refl; nested = omega arith })
+      | inl a ↦ subst (λ (z : Option Part × Outline × List Lexeme). Found result result_in depth_of_result d o ts z)
+          (some_is (None, o, a.0) y a.2)
+          (record {
+            tree = None;
+            spelled = word_found word.Void ts a.0 a.1;
+            value = refl;
+            made = refl;
+            nested = omega arith;
+          })
       | inr n ↦
           let p = bind_some (passed_with reader o ts) _ y n.1 in
           let found = passed_found d reader finds o ts p.0 p.1 in
-          subst (λ (z : Option Part × Outline × List Lexeme). Found result result_in depth_of_result d o ts z) (some_is (Some p.0.0, p.0.1, p.0.2) y p.2) (record { tree = Some found.tree; spelled = found.spelled; value = ap (λ (x : Part). Some x) found.value; made = found.made; nested = found.nested })
+          subst (λ (z : Option Part × Outline × List Lexeme). Found result result_in depth_of_result d o ts z)
+          (some_is (Some p.0.0, p.0.1, p.0.2) y p.2)
+          (record {
+            tree = Some found.tree;
+            spelled = found.spelled;
+            value = ap (λ (x : Part). Some x) found.value;
+            made = found.made;
+            nested = found.nested;
+          })
     ]
 
 -- ---- procedures
@@ -107,14 +175,17 @@ a_procedure n v ps r = record { name = n; number = v; arguments = ps; result = r
 abbrev depth_of_procedure : tree.Procedure → ℕ
 depth_of_procedure p = max (depth_of_result p.result) (depth_of_arguments p.arguments)
 
-record IsProcedure (d : ℕ) (o : Outline) (ts : List Lexeme) (y : (Procedure × Bool) × Outline × List Lexeme) : Type 0 where
+record IsProcedure (d : ℕ) (o : Outline) (ts : List Lexeme) (y : (Procedure × Bool) × Outline
+    × List Lexeme) : Type 0 where
   tree : tree.Procedure
   spelled : ts ≡ procedure tree (closing y.0.1 y.2)
   value : y.0.0 ≡ (procedure_in tree o).0
   made : y.1 ≡ (procedure_in tree o).1
   nested : depth_of_procedure tree ≤ d
 
-procedure_found : (d : ℕ) (reader : Reader Part) → FindsSpecifiers d reader → (o : Outline) (ts : List Lexeme) (y : (Procedure × Bool) × Outline × List Lexeme) → procedure_with reader o ts ≡ Some y → IsProcedure d o ts y
+procedure_found : (d : ℕ) (reader : Reader Part) → FindsSpecifiers d reader
+    → (o : Outline) (ts : List Lexeme) (y : (Procedure × Bool) × Outline × List Lexeme)
+    → procedure_with reader o ts ≡ Some y → IsProcedure d o ts y
 unfolding procedure_with
 procedure_found d reader finds o ts y e =
     let r = bind_some (result_with reader o ts) _ y e in
@@ -127,17 +198,24 @@ procedure_found d reader finds o ts y e =
     let arg = arguments_found d reader finds r.0.1 i.0 a.0 a.1 in
     let number = numbered_found a.0.2 v.0 v.1 in
     let o1 : Outline = (result_in res.tree o).1 in
-    let after : r.0.2 ≡ Name n.0.0 ∷ Sign mark.OpenRound ∷ arguments arg.tree (Sign mark.CloseRound ∷ Sign mark.Equal ∷ Number v.0.0 ∷ Sign mark.Semicolon ∷ closing y.0.1 y.2) =
-    name_found r.0.2 n.0 n.1 ∙ ap (λ (x : List Lexeme). Name n.0.0 ∷ x) (sign_found mark.OpenRound n.0.1 i.0 i.1 ∙ ap (λ (x : List Lexeme). Sign mark.OpenRound ∷ x) (arg.spelled ∙ ap (λ (x : List Lexeme). arguments arg.tree (Sign mark.CloseRound ∷ x)) (number ∙ ap (λ (x : List Lexeme). Sign mark.Equal ∷ Number v.0.0 ∷ Sign mark.Semicolon ∷ x) c.2))) in
+    let after : r.0.2 ≡ Name n.0.0 ∷ Sign mark.OpenRound ∷ arguments arg.tree
+    (Sign mark.CloseRound ∷ Sign mark.Equal ∷ Number v.0.0 ∷ Sign mark.Semicolon ∷ closing y.0.1 y.2) =
+    name_found r.0.2 n.0 n.1 ∙ ap (λ (x : List Lexeme). Name n.0.0 ∷ x) (sign_found mark.OpenRound n.0.1 i.0 i.1
+    ∙ ap (λ (x : List Lexeme). Sign mark.OpenRound ∷ x)
+    (arg.spelled ∙ ap (λ (x : List Lexeme). arguments arg.tree (Sign mark.CloseRound ∷ x))
+    (number ∙ ap (λ (x : List Lexeme). Sign mark.Equal ∷ Number v.0.0 ∷ Sign mark.Semicolon ∷ x) c.2))) in
     record {
       tree = record { result = res.tree; name = n.0.0; arguments = arg.tree; number = v.0.0 };
       spelled = res.spelled ∙ ap (result res.tree) after;
-      value = c.0 ∙ ap (λ (x : Option Part). a_procedure n.0.0 v.0.0 a.0.0 x) res.value ∙ ap (λ (x : List Part). a_procedure n.0.0 v.0.0 x (result_in res.tree o).0) (arg.value ∙ ap (λ (x : Outline). (arguments_in arg.tree x).0) res.made);
+      value = c.0 ∙ ap (λ (x : Option Part). a_procedure n.0.0 v.0.0 a.0.0 x) res.value
+          ∙ ap (λ (x : List Part). a_procedure n.0.0 v.0.0 x (result_in res.tree o).0)
+          (arg.value ∙ ap (λ (x : Outline). (arguments_in arg.tree x).0) res.made);
       made = c.1 ∙ arg.made ∙ ap (λ (x : Outline). (arguments_in arg.tree x).1) res.made;
       nested = omega (arith, res.nested, arg.nested);
     }
 
-record AreProcedures (d : ℕ) (o : Outline) (ts : List Lexeme) (y : List Procedure × Outline × List Lexeme) : Type 0 where
+record AreProcedures (d : ℕ) (o : Outline) (ts : List Lexeme) (y : List Procedure × Outline
+    × List Lexeme) : Type 0 where
   first : tree.Procedure
   others : List tree.Procedure
   spelled : ts ≡ procedures (first ∷ others) (Sign mark.CloseBrace ∷ y.2)
@@ -145,7 +223,9 @@ record AreProcedures (d : ℕ) (o : Outline) (ts : List Lexeme) (y : List Proced
   made : y.1 ≡ (procedures_in (first ∷ others) o).1
   nested : depth_of_procedures (first ∷ others) ≤ d
 
-procedures_found : (d : ℕ) (reader : Reader Part) → FindsSpecifiers d reader → (n : ℕ) (o : Outline) (ts : List Lexeme) (y : List Procedure × Outline × List Lexeme) → repeat (procedure_with reader) n o ts ≡ Some y → AreProcedures d o ts y
+procedures_found : (d : ℕ) (reader : Reader Part) → FindsSpecifiers d reader
+    → (n : ℕ) (o : Outline) (ts : List Lexeme) (y : List Procedure × Outline × List Lexeme)
+    → repeat (procedure_with reader) n o ts ≡ Some y → AreProcedures d o ts y
 unfolding repeat
 procedures_found d reader finds zero o ts y e = absurd cc
 procedures_found d reader finds (suc n) o ts y e =
@@ -155,18 +235,24 @@ procedures_found d reader finds (suc n) o ts y e =
       | inl on ↦
           let r = bind_some (repeat (procedure_with reader) n f.0.1 f.0.2) _ y on.1 in
           let rest = procedures_found d reader finds n f.0.1 f.0.2 r.0 r.1 in
-          let here : ts ≡ procedure first.tree f.0.2 = first.spelled ∙ ap (λ (b : Bool). procedure first.tree (closing b f.0.2)) on.0 in
-          subst (λ (z : List Procedure × Outline × List Lexeme). AreProcedures d o ts z) (some_is (f.0.0.0 ∷ r.0.0, r.0.1, r.0.2) y r.2) (record {
+          let here : ts ≡ procedure first.tree f.0.2 = first.spelled
+          ∙ ap (λ (b : Bool). procedure first.tree (closing b f.0.2)) on.0 in
+          subst (λ (z : List Procedure × Outline × List Lexeme). AreProcedures d o ts z)
+          (some_is (f.0.0.0 ∷ r.0.0, r.0.1, r.0.2) y r.2) (record {
             first = first.tree;
             others = rest.first ∷ rest.others;
             spelled = here ∙ ap (procedure first.tree) rest.spelled;
-            value = ap (λ (x : Procedure). x ∷ r.0.0) first.value ∙ ap (λ (xs : List Procedure). (procedure_in first.tree o).0 ∷ xs) (rest.value ∙ ap (λ (x : Outline). (procedures_in (rest.first ∷ rest.others) x).0) first.made);
+            value = ap (λ (x : Procedure). x ∷ r.0.0) first.value
+                ∙ ap (λ (xs : List Procedure). (procedure_in first.tree o).0 ∷ xs)
+                (rest.value ∙ ap (λ (x : Outline). (procedures_in (rest.first ∷ rest.others) x).0) first.made);
             made = rest.made ∙ ap (λ (x : Outline). (procedures_in (rest.first ∷ rest.others) x).1) first.made;
             nested = omega (arith, first.nested, rest.nested);
           })
       | inr off ↦
-          let here : ts ≡ procedure first.tree (Sign mark.CloseBrace ∷ f.0.2) = first.spelled ∙ ap (λ (b : Bool). procedure first.tree (closing b f.0.2)) off.0 in
-          subst (λ (z : List Procedure × Outline × List Lexeme). AreProcedures d o ts z) (some_is (f.0.0.0 ∷ [], f.0.1, f.0.2) y off.1) (record {
+          let here : ts ≡ procedure first.tree (Sign mark.CloseBrace ∷ f.0.2) = first.spelled
+          ∙ ap (λ (b : Bool). procedure first.tree (closing b f.0.2)) off.0 in
+          subst (λ (z : List Procedure × Outline × List Lexeme). AreProcedures d o ts z)
+          (some_is (f.0.0.0 ∷ [], f.0.1, f.0.2) y off.1) (record {
             first = first.tree;
             others = [];
             spelled = here;
@@ -188,7 +274,9 @@ record IsVersion (d : ℕ) (o : Outline) (ts : List Lexeme) (y : (Version × Boo
   made : y.1 ≡ (version_in tree o).1
   nested : depth_of_procedures (tree.first ∷ tree.others) ≤ d
 
-version_found : (d : ℕ) (reader : Reader Part) → FindsSpecifiers d reader → (o : Outline) (ts : List Lexeme) (y : (Version × Bool) × Outline × List Lexeme) → version_with reader o ts ≡ Some y → IsVersion d o ts y
+version_found : (d : ℕ) (reader : Reader Part) → FindsSpecifiers d reader
+    → (o : Outline) (ts : List Lexeme) (y : (Version × Bool) × Outline × List Lexeme)
+    → version_with reader o ts ≡ Some y → IsVersion d o ts y
 unfolding version_with
 version_found d reader finds o ts y e =
     let w = bind_some (after_word word.Version ts) _ y e in
@@ -201,7 +289,12 @@ version_found d reader finds o ts y e =
     let number = numbered_found p.0.2 v.0 v.1 in
     record {
       tree = record { name = n.0.0; first = ps.first; others = ps.others; number = v.0.0 };
-      spelled = word_found word.Version ts w.0 w.1 ∙ ap (λ (x : List Lexeme). Word word.Version ∷ x) (name_found w.0 n.0 n.1 ∙ ap (λ (x : List Lexeme). Name n.0.0 ∷ x) (sign_found mark.OpenBrace n.0.1 i.0 i.1 ∙ ap (λ (x : List Lexeme). Sign mark.OpenBrace ∷ x) (ps.spelled ∙ ap (λ (x : List Lexeme). procedures (ps.first ∷ ps.others) (Sign mark.CloseBrace ∷ x)) (number ∙ ap (λ (x : List Lexeme). Sign mark.Equal ∷ Number v.0.0 ∷ Sign mark.Semicolon ∷ x) c.2))));
+      spelled = word_found word.Version ts w.0 w.1
+          ∙ ap (λ (x : List Lexeme). Word word.Version ∷ x)
+          (name_found w.0 n.0 n.1 ∙ ap (λ (x : List Lexeme). Name n.0.0 ∷ x) (sign_found mark.OpenBrace n.0.1 i.0 i.1
+          ∙ ap (λ (x : List Lexeme). Sign mark.OpenBrace ∷ x)
+          (ps.spelled ∙ ap (λ (x : List Lexeme). procedures (ps.first ∷ ps.others) (Sign mark.CloseBrace ∷ x))
+          (number ∙ ap (λ (x : List Lexeme). Sign mark.Equal ∷ Number v.0.0 ∷ Sign mark.Semicolon ∷ x) c.2))));
       value = c.0 ∙ ap (λ (x : List Procedure). a_version n.0.0 v.0.0 x) ps.value;
       made = c.1 ∙ ps.made;
       nested = ps.nested;
@@ -215,7 +308,9 @@ record AreVersions (d : ℕ) (o : Outline) (ts : List Lexeme) (y : List Version 
   made : y.1 ≡ (versions_in (first ∷ others) o).1
   nested : depth_of_versions (first ∷ others) ≤ d
 
-versions_found : (d : ℕ) (reader : Reader Part) → FindsSpecifiers d reader → (n : ℕ) (o : Outline) (ts : List Lexeme) (y : List Version × Outline × List Lexeme) → repeat (version_with reader) n o ts ≡ Some y → AreVersions d o ts y
+versions_found : (d : ℕ) (reader : Reader Part) → FindsSpecifiers d reader
+    → (n : ℕ) (o : Outline) (ts : List Lexeme) (y : List Version × Outline × List Lexeme)
+    → repeat (version_with reader) n o ts ≡ Some y → AreVersions d o ts y
 unfolding repeat
 versions_found d reader finds zero o ts y e = absurd cc
 versions_found d reader finds (suc n) o ts y e =
@@ -225,18 +320,24 @@ versions_found d reader finds (suc n) o ts y e =
       | inl on ↦
           let r = bind_some (repeat (version_with reader) n f.0.1 f.0.2) _ y on.1 in
           let rest = versions_found d reader finds n f.0.1 f.0.2 r.0 r.1 in
-          let here : ts ≡ version first.tree f.0.2 = first.spelled ∙ ap (λ (b : Bool). version first.tree (closing b f.0.2)) on.0 in
-          subst (λ (z : List Version × Outline × List Lexeme). AreVersions d o ts z) (some_is (f.0.0.0 ∷ r.0.0, r.0.1, r.0.2) y r.2) (record {
+          let here : ts ≡ version first.tree f.0.2 = first.spelled
+          ∙ ap (λ (b : Bool). version first.tree (closing b f.0.2)) on.0 in
+          subst (λ (z : List Version × Outline × List Lexeme). AreVersions d o ts z)
+          (some_is (f.0.0.0 ∷ r.0.0, r.0.1, r.0.2) y r.2) (record {
             first = first.tree;
             others = rest.first ∷ rest.others;
             spelled = here ∙ ap (version first.tree) rest.spelled;
-            value = ap (λ (x : Version). x ∷ r.0.0) first.value ∙ ap (λ (xs : List Version). (version_in first.tree o).0 ∷ xs) (rest.value ∙ ap (λ (x : Outline). (versions_in (rest.first ∷ rest.others) x).0) first.made);
+            value = ap (λ (x : Version). x ∷ r.0.0) first.value
+                ∙ ap (λ (xs : List Version). (version_in first.tree o).0 ∷ xs)
+                (rest.value ∙ ap (λ (x : Outline). (versions_in (rest.first ∷ rest.others) x).0) first.made);
             made = rest.made ∙ ap (λ (x : Outline). (versions_in (rest.first ∷ rest.others) x).1) first.made;
             nested = omega (arith, first.nested, rest.nested);
           })
       | inr off ↦
-          let here : ts ≡ version first.tree (Sign mark.CloseBrace ∷ f.0.2) = first.spelled ∙ ap (λ (b : Bool). version first.tree (closing b f.0.2)) off.0 in
-          subst (λ (z : List Version × Outline × List Lexeme). AreVersions d o ts z) (some_is (f.0.0.0 ∷ [], f.0.1, f.0.2) y off.1) (record {
+          let here : ts ≡ version first.tree (Sign mark.CloseBrace ∷ f.0.2) = first.spelled
+          ∙ ap (λ (b : Bool). version first.tree (closing b f.0.2)) off.0 in
+          subst (λ (z : List Version × Outline × List Lexeme). AreVersions d o ts z)
+          (some_is (f.0.0.0 ∷ [], f.0.1, f.0.2) y off.1) (record {
             first = first.tree;
             others = [];
             spelled = here;
@@ -254,17 +355,27 @@ record IsDefinition (o : Outline) (ts : List Lexeme) (y : Outline × List Lexeme
   made : y.0 ≡ definition_in tree o
   nested : depth_of_definition tree ≤ 32
 
-with_definition : (o : Outline) (ts : List Lexeme) (x y : Outline × List Lexeme) → IsDefinition o ts x → Some x ≡ Some y → IsDefinition o ts y
+with_definition : (o : Outline) (ts : List Lexeme) (x y : Outline × List Lexeme) → IsDefinition o ts x → Some x ≡ Some y
+    → IsDefinition o ts y
 with_definition o ts x y h e = subst (λ (z : Outline × List Lexeme). IsDefinition o ts z) (some_is x y e) h
 
-const_found : (o : Outline) (ts : List Lexeme) (y : Outline × List Lexeme) → const_at o ts ≡ Some y → IsDefinition o (Word word.Const ∷ ts) y
+const_found : (o : Outline) (ts : List Lexeme) (y : Outline × List Lexeme) → const_at o ts ≡ Some y
+    → IsDefinition o (Word word.Const ∷ ts) y
 unfolding const_at
 const_found o ts y e =
     let n = bind_some (name_at ts) _ y e in
     let v = bind_some (numbered_at n.0.1) _ y n.2 in
-    with_definition o (Word word.Const ∷ ts) _ y (record { tree = ConstantOf n.0.0 v.0.0; spelled = ap (λ (x : List Lexeme). Word word.Const ∷ x) (name_found ts n.0 n.1 ∙ ap (λ (x : List Lexeme). Name n.0.0 ∷ x) (numbered_found n.0.1 v.0 v.1)); made = refl; nested = omega arith }) v.2
+    with_definition o (Word word.Const ∷ ts) _ y
+    (record {
+      tree = ConstantOf n.0.0 v.0.0;
+      spelled = ap (λ (x : List Lexeme). Word word.Const ∷ x)
+          (name_found ts n.0 n.1 ∙ ap (λ (x : List Lexeme). Name n.0.0 ∷ x) (numbered_found n.0.1 v.0 v.1));
+      made = refl;
+      nested = omega arith;
+    }) v.2
 
-typedef_found : (o : Outline) (ts : List Lexeme) (y : Outline × List Lexeme) → typedef_with (declaration_with (specifier_at 32)) o ts ≡ Some y → IsDefinition o (Word word.Typedef ∷ ts) y
+typedef_found : (o : Outline) (ts : List Lexeme) (y : Outline × List Lexeme)
+    → typedef_with (declaration_with (specifier_at 32)) o ts ≡ Some y → IsDefinition o (Word word.Typedef ∷ ts) y
 unfolding typedef_with
 typedef_found o ts y e =
     let f = bind_some (declaration_with (specifier_at 32) o ts) _ y e in
@@ -272,34 +383,43 @@ typedef_found o ts y e =
     let found = declaration_found 32 (specifier_at 32) (specifier_found 32) o ts f.0 f.1 in
     with_definition o (Word word.Typedef ∷ ts) _ y (record {
       tree = Typedef found.tree;
-      spelled = ap (λ (x : List Lexeme). Word word.Typedef ∷ x) (found.spelled ∙ ap (declaration found.tree) (sign_found mark.Semicolon f.0.2 s.0 s.1));
-      made = ap (λ (x : Field). add_type x f.0.1) found.value ∙ ap (λ (x : Outline). add_type (declaration_in found.tree o).0 x) found.made;
+      spelled = ap (λ (x : List Lexeme). Word word.Typedef ∷ x)
+          (found.spelled ∙ ap (declaration found.tree) (sign_found mark.Semicolon f.0.2 s.0 s.1));
+      made = ap (λ (x : Field). add_type x f.0.1) found.value
+          ∙ ap (λ (x : Outline). add_type (declaration_in found.tree o).0 x) found.made;
       nested = found.nested;
     }) s.2
 
 abbrev a_type : List ℕ → Part → Field
 a_type n p = record { name = n; part = p }
 
-defined_found : (o : Outline) (ts : List Lexeme) (y : Outline × List Lexeme) → defined_with (declaration_with (specifier_at 31)) o ts ≡ Some y → IsDefinition o ts y
+defined_found : (o : Outline) (ts : List Lexeme) (y : Outline × List Lexeme)
+    → defined_with (declaration_with (specifier_at 31)) o ts ≡ Some y → IsDefinition o ts y
 unfolding defined_with
 defined_found o ts y e =
     let k = bind_some (body_word_at ts) _ y e in
     let n = bind_some (name_at k.0.1) _ y k.2 in
     let p = bind_some (body_with (declaration_with (specifier_at 31)) k.0.0 o n.0.1) _ y n.2 in
     let s = bind_some (after_sign mark.Semicolon p.0.2) _ y p.2 in
-    let found = body_found 31 (declaration_with (specifier_at 31)) (declaration_found 31 (specifier_at 31) (specifier_found 31)) k.0.0 o n.0.1 p.0 p.1 in
-    let rest : k.0.1 ≡ Name n.0.0 ∷ body found.tree (Sign mark.Semicolon ∷ s.0) = name_found k.0.1 n.0 n.1 ∙ ap (λ (x : List Lexeme). Name n.0.0 ∷ x) (found.spelled ∙ ap (body found.tree) (sign_found mark.Semicolon p.0.2 s.0 s.1)) in
+    let found = body_found 31 (declaration_with (specifier_at 31))
+    (declaration_found 31 (specifier_at 31) (specifier_found 31)) k.0.0 o n.0.1 p.0 p.1 in
+    let rest : k.0.1 ≡ Name n.0.0 ∷ body found.tree (Sign mark.Semicolon ∷ s.0) = name_found k.0.1 n.0 n.1
+    ∙ ap (λ (x : List Lexeme). Name n.0.0 ∷ x)
+    (found.spelled ∙ ap (body found.tree) (sign_found mark.Semicolon p.0.2 s.0 s.1)) in
     with_definition o ts _ y (record {
       tree = Defined n.0.0 found.tree;
-      spelled = body_word_found ts k.0 k.1 ∙ ap (λ (x : Lexeme). x ∷ k.0.1) found.word ∙ ap (λ (x : List Lexeme). body_word found.tree ∷ x) rest;
-      made = ap (λ (x : Part). add_type (a_type n.0.0 x) p.0.1) found.value ∙ ap (λ (x : Outline). add_type (a_type n.0.0 (body_in found.tree o).0) x) found.made;
+      spelled = body_word_found ts k.0 k.1 ∙ ap (λ (x : Lexeme). x ∷ k.0.1) found.word
+          ∙ ap (λ (x : List Lexeme). body_word found.tree ∷ x) rest;
+      made = ap (λ (x : Part). add_type (a_type n.0.0 x) p.0.1) found.value
+          ∙ ap (λ (x : Outline). add_type (a_type n.0.0 (body_in found.tree o).0) x) found.made;
       nested = found.nested;
     }) s.2
 
 abbrev a_program : List ℕ → ℤ → List Version → Program
 a_program n v vs = record { name = n; number = v; versions = vs }
 
-program_found : (o : Outline) (ts : List Lexeme) (y : Outline × List Lexeme) → program_with (specifier_at 32) o ts ≡ Some y → IsDefinition o (Word word.Program ∷ ts) y
+program_found : (o : Outline) (ts : List Lexeme) (y : Outline × List Lexeme)
+    → program_with (specifier_at 32) o ts ≡ Some y → IsDefinition o (Word word.Program ∷ ts) y
 unfolding program_with
 program_found o ts y e =
     let n = bind_some (name_at ts) _ y e in
@@ -309,20 +429,30 @@ program_found o ts y e =
     let vs = versions_found 32 (specifier_at 32) (specifier_found 32) (length i.0) o i.0 w.0 w.1 in
     with_definition o (Word word.Program ∷ ts) _ y (record {
       tree = ProgramOf (record { name = n.0.0; first = vs.first; others = vs.others; number = v.0.0 });
-      spelled = ap (λ (x : List Lexeme). Word word.Program ∷ x) (name_found ts n.0 n.1 ∙ ap (λ (x : List Lexeme). Name n.0.0 ∷ x) (sign_found mark.OpenBrace n.0.1 i.0 i.1 ∙ ap (λ (x : List Lexeme). Sign mark.OpenBrace ∷ x) (vs.spelled ∙ ap (λ (x : List Lexeme). versions (vs.first ∷ vs.others) (Sign mark.CloseBrace ∷ x)) (numbered_found w.0.2 v.0 v.1))));
-      made = ap (λ (x : List Version). add_program (a_program n.0.0 v.0.0 x) w.0.1) vs.value ∙ ap (λ (x : Outline). add_program (a_program n.0.0 v.0.0 (versions_in (vs.first ∷ vs.others) o).0) x) vs.made;
+      spelled = ap (λ (x : List Lexeme). Word word.Program ∷ x)
+          (name_found ts n.0 n.1 ∙ ap (λ (x : List Lexeme). Name n.0.0 ∷ x) (sign_found mark.OpenBrace n.0.1 i.0 i.1
+          ∙ ap (λ (x : List Lexeme). Sign mark.OpenBrace ∷ x)
+          (vs.spelled ∙ ap (λ (x : List Lexeme). versions (vs.first ∷ vs.others) (Sign mark.CloseBrace ∷ x))
+          (numbered_found w.0.2 v.0 v.1))));
+      made = ap (λ (x : List Version). add_program (a_program n.0.0 v.0.0 x) w.0.1) vs.value
+          ∙ ap (λ (x : Outline). add_program (a_program n.0.0 v.0.0 (versions_in (vs.first ∷ vs.others) o).0) x)
+          vs.made;
       nested = vs.nested;
     }) v.2
 
-definition_found : (o : Outline) (ts : List Lexeme) (y : Outline × List Lexeme) → definition_at o ts ≡ Some y → IsDefinition o ts y
+definition_found : (o : Outline) (ts : List Lexeme) (y : Outline × List Lexeme) → definition_at o ts ≡ Some y
+    → IsDefinition o ts y
 unfolding definition_at
 definition_found o ts y e =
     elim (taken_some (after_word word.Const ts) _ _ _ e) [
-      | inl a ↦ subst (λ (x : List Lexeme). IsDefinition o x y) (sym (word_found word.Const ts a.0 a.1)) (const_found o a.0 y a.2)
+      | inl a ↦ subst (λ (x : List Lexeme). IsDefinition o x y) (sym (word_found word.Const ts a.0 a.1))
+          (const_found o a.0 y a.2)
       | inr n ↦ elim (taken_some (after_word word.Typedef ts) _ _ _ n.1) [
-        | inl a ↦ subst (λ (x : List Lexeme). IsDefinition o x y) (sym (word_found word.Typedef ts a.0 a.1)) (typedef_found o a.0 y a.2)
+        | inl a ↦ subst (λ (x : List Lexeme). IsDefinition o x y) (sym (word_found word.Typedef ts a.0 a.1))
+            (typedef_found o a.0 y a.2)
         | inr m ↦ elim (taken_some (after_word word.Program ts) _ _ _ m.1) [
-          | inl a ↦ subst (λ (x : List Lexeme). IsDefinition o x y) (sym (word_found word.Program ts a.0 a.1)) (program_found o a.0 y a.2)
+          | inl a ↦ subst (λ (x : List Lexeme). IsDefinition o x y) (sym (word_found word.Program ts a.0 a.1))
+              (program_found o a.0 y a.2)
           | inr k ↦ defined_found o ts y k.1
         ]
       ]
@@ -334,9 +464,11 @@ pub record AreDefinitions (o : Outline) (ts : List Lexeme) (v : Outline) : Type 
   pub nested : depth tree ≤ 32
   pub made : v ≡ outlined tree o
 
-pub definitions_found : (n : ℕ) (o : Outline) (ts : List Lexeme) (v : Outline) → definitions_at n o ts ≡ Some v → AreDefinitions o ts v
+pub definitions_found : (n : ℕ) (o : Outline) (ts : List Lexeme) (v : Outline) → definitions_at n o ts ≡ Some v
+    → AreDefinitions o ts v
 unfolding definitions_at
-definitions_found n o [] v e = let same : Some o ≡ Some v = e in record { tree = []; spelled = refl; nested = omega arith; made = sym (some_is o v same) }
+definitions_found n o [] v e = let same : Some o ≡ Some v = e in
+    record { tree = []; spelled = refl; nested = omega arith; made = sym (some_is o v same) }
 definitions_found zero o (t ∷ ts) v e = absurd cc
 definitions_found (suc n) o (t ∷ ts) v e =
     let x = bind_some (definition_at o (t ∷ ts)) _ v e in

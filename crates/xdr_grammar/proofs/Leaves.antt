@@ -1,35 +1,29 @@
 -- What is taken from the front stands there, and what stands there is taken.
-use Rattle.std.proofs.Common.{◌≡◌, ℕ, ℤ, Bool, true, false, cond, eqb, List, [], ◌∷◌, get_or, Option, Some, None, option_map, ◌⊎◌, inl, inr, refl, sym, ap, subst, ◌∙◌}
+use Rattle.std.proofs.Common.{◌≡◌, ℕ, ℤ, Bool, true, false, cond, eqb, List, [], ◌∷◌, get_or, Option, Some, None}
+use Rattle.std.proofs.Common.{option_map, ◌⊎◌, inl, inr, refl, sym, ap, subst, ◌∙◌}
 use Rattle.std.proofs.lemmas.Bool.{eqb-true}
 use Rattle.xdr_tokens.specs.declared.token.Keyword.{Keyword}
 use Rattle.xdr_tokens.specs.declared.token.Keyword.TheVariants as word
 use Rattle.xdr_tokens.specs.declared.token.Mark.{Mark}
 use Rattle.xdr_tokens.specs.declared.token.Mark.TheVariants as mark
 use Rattle.xdr_tokens.specs.Tokens.{Lexeme, Word, Name, Number, Sign}
+use Rattle.xdr_tokens.proofs.Options.{some_is, bind_some, chosen}
 use Rattle.xdr_grammar.specs.Tree.{Value, Literal, Constant}
 use Rattle.xdr_grammar.specs.Grammar.{value, limit}
 use Rattle.xdr_grammar.specs.Outline.{Outline, Late, late}
-use Rattle.xdr_grammar.specs.Reading.{◌>>=◌, taken, word_number, mark_number, after_word, after_sign, name_at, number_at, value_at, size_at, limit_at, either_sign, numbered_at}
-
--- the value of a step that did not fail
-pub bind_some : {A B : Type 0} (o : Option A) (f : A → Option B) (y : B) → (o >>= f) ≡ Some y → (a : A) × (o ≡ Some a) × (f a ≡ Some y)
-bind_some (Some a) f y e = (a, refl, e)
-bind_some None f y e = absurd cc
-
-pub some_is : {A : Type 0} (x y : A) → Some x ≡ Some y → x ≡ y
-some_is x y e = cc
+use Rattle.xdr_grammar.specs.steps.Reading.{◌>>=◌, taken, word_number, mark_number, after_word, after_sign, name_at}
+use Rattle.xdr_grammar.specs.steps.Reading.{number_at, value_at, size_at, limit_at, either_sign, numbered_at}
 
 -- which way it went
-pub taken_some : {A B : Type 0} (o : Option A) (f : A → B) (b y : B) → taken o f b ≡ y → ((a : A) × (o ≡ Some a) × (f a ≡ y)) ⊎ ((o ≡ None) × (b ≡ y))
+pub taken_some : {A B : Type 0} (o : Option A) (f : A → B) (b y : B) → taken o f b ≡ y
+    → ((a : A) × (o ≡ Some a) × (f a ≡ y)) ⊎ ((o ≡ None) × (b ≡ y))
 taken_some (Some a) f b y e = inl (a, refl, e)
 taken_some None f b y e = inr (refl, e)
 
-pub chosen : {A : Type 0} (b : Bool) (x y z : A) → cond b x y ≡ z → ((b ≡ true) × (x ≡ z)) ⊎ ((b ≡ false) × (y ≡ z))
-chosen true x y z e = inl (refl, e)
-chosen false x y z e = inr (refl, e)
-
 abbrev words : List Keyword
-words = word.Bool ∷ word.Case ∷ word.Const ∷ word.Default ∷ word.Double ∷ word.Enum ∷ word.Float ∷ word.Hyper ∷ word.Int ∷ word.Opaque ∷ word.Program ∷ word.Quadruple ∷ word.String ∷ word.Struct ∷ word.Switch ∷ word.Typedef ∷ word.Union ∷ word.Unsigned ∷ word.Version ∷ word.Void ∷ []
+words = word.Bool ∷ word.Case ∷ word.Const ∷ word.Default ∷ word.Double ∷ word.Enum ∷ word.Float ∷ word.Hyper ∷ word.Int
+    ∷ word.Opaque ∷ word.Program ∷ word.Quadruple ∷ word.String ∷ word.Struct ∷ word.Switch ∷ word.Typedef ∷ word.Union
+    ∷ word.Unsigned ∷ word.Version ∷ word.Void ∷ []
 
 word_back : (w : Keyword) → get_or words (word_number w) word.Bool ≡ w
 word_back word.Bool = refl
@@ -54,7 +48,8 @@ word_back word.Version = refl
 word_back word.Void = refl
 
 abbrev marks : List Mark
-marks = mark.OpenBrace ∷ mark.CloseBrace ∷ mark.OpenRound ∷ mark.CloseRound ∷ mark.OpenBracket ∷ mark.CloseBracket ∷ mark.Less ∷ mark.Greater ∷ mark.Equal ∷ mark.Comma ∷ mark.Semicolon ∷ mark.Colon ∷ mark.Star ∷ []
+marks = mark.OpenBrace ∷ mark.CloseBrace ∷ mark.OpenRound ∷ mark.CloseRound ∷ mark.OpenBracket ∷ mark.CloseBracket ∷
+    mark.Less ∷ mark.Greater ∷ mark.Equal ∷ mark.Comma ∷ mark.Semicolon ∷ mark.Colon ∷ mark.Star ∷ []
 
 mark_back : (m : Mark) → get_or marks (mark_number m) mark.OpenBrace ≡ m
 mark_back mark.OpenBrace = refl
@@ -115,27 +110,35 @@ number_found (Name m ∷ ts) y e = absurd cc
 number_found (Number m ∷ ts) y e = ap (λ (x : ℤ × List Lexeme). Number x.0 ∷ x.1) (some_is (m, ts) y e)
 number_found (Sign m ∷ ts) y e = absurd cc
 
-pub numbered_found : (ts : List Lexeme) (y : ℤ × List Lexeme) → numbered_at ts ≡ Some y → ts ≡ Sign mark.Equal ∷ Number y.0 ∷ Sign mark.Semicolon ∷ y.1
+pub numbered_found : (ts : List Lexeme) (y : ℤ × List Lexeme) → numbered_at ts ≡ Some y
+    → ts ≡ Sign mark.Equal ∷ Number y.0 ∷ Sign mark.Semicolon ∷ y.1
 unfolding numbered_at
 numbered_found ts y e =
     let a = bind_some (after_sign mark.Equal ts) _ y e in
     let n = bind_some (number_at a.0) _ y a.2 in
     let s = bind_some (after_sign mark.Semicolon n.0.1) _ y n.2 in
-    sign_found mark.Equal ts a.0 a.1 ∙ ap (λ (x : List Lexeme). Sign mark.Equal ∷ x) (number_found a.0 n.0 n.1 ∙ ap (λ (x : List Lexeme). Number n.0.0 ∷ x) (sign_found mark.Semicolon n.0.1 s.0 s.1))
-    ∙ ap (λ (x : ℤ × List Lexeme). Sign mark.Equal ∷ Number x.0 ∷ Sign mark.Semicolon ∷ x.1) (some_is (n.0.0, s.0) y s.2)
+    sign_found mark.Equal ts a.0 a.1
+    ∙ ap (λ (x : List Lexeme). Sign mark.Equal ∷ x) (number_found a.0 n.0 n.1
+    ∙ ap (λ (x : List Lexeme). Number n.0.0 ∷ x) (sign_found mark.Semicolon n.0.1 s.0 s.1))
+    ∙ ap (λ (x : ℤ × List Lexeme). Sign mark.Equal ∷ Number x.0 ∷ Sign mark.Semicolon ∷ x.1)
+    (some_is (n.0.0, s.0) y s.2)
 
-pub numbered_again : (n : ℤ) (ts : List Lexeme) → numbered_at (Sign mark.Equal ∷ Number n ∷ Sign mark.Semicolon ∷ ts) ≡ Some (n, ts)
+pub numbered_again : (n : ℤ) (ts : List Lexeme)
+    → numbered_at (Sign mark.Equal ∷ Number n ∷ Sign mark.Semicolon ∷ ts) ≡ Some (n, ts)
 unfolding numbered_at after_sign number_at
 numbered_again n ts = refl
 
-pub either_found : (a b : Mark) (ts : List Lexeme) (y : Bool × List Lexeme) → either_sign a b ts ≡ Some y → ts ≡ Sign (cond y.0 a b) ∷ y.1
+pub either_found : (a b : Mark) (ts : List Lexeme) (y : Bool × List Lexeme) → either_sign a b ts ≡ Some y
+    → ts ≡ Sign (cond y.0 a b) ∷ y.1
 unfolding either_sign
 either_found a b ts y e =
     elim (taken_some (after_sign a ts) _ _ _ e) [
-      | inl h ↦ subst (λ (z : Bool × List Lexeme). ts ≡ Sign (cond z.0 a b) ∷ z.1) (some_is (true, h.0) y h.2) (sign_found a ts h.0 h.1)
+      | inl h ↦ subst (λ (z : Bool × List Lexeme). ts ≡ Sign (cond z.0 a b) ∷ z.1) (some_is (true, h.0) y h.2)
+          (sign_found a ts h.0 h.1)
       | inr n ↦
           let h = bind_some (after_sign b ts) _ y n.1 in
-          subst (λ (z : Bool × List Lexeme). ts ≡ Sign (cond z.0 a b) ∷ z.1) (some_is (false, h.0) y h.2) (sign_found b ts h.0 h.1)
+          subst (λ (z : Bool × List Lexeme). ts ≡ Sign (cond z.0 a b) ∷ z.1) (some_is (false, h.0) y h.2)
+          (sign_found b ts h.0 h.1)
     ]
 
 -- a value in front, followed by more
@@ -144,15 +147,18 @@ pub record IsValue (o : Outline) (ts : List Lexeme) (y : Late × List Lexeme) : 
   pub spelled : ts ≡ value tree ∷ y.1
   pub late : y.0 ≡ late o tree
 
-with_value : (o : Outline) (ts : List Lexeme) (x y : Late × List Lexeme) → IsValue o ts x → Some x ≡ Some y → IsValue o ts y
+with_value : (o : Outline) (ts : List Lexeme) (x y : Late × List Lexeme) → IsValue o ts x → Some x ≡ Some y
+    → IsValue o ts y
 with_value o ts x y h e = subst (λ (z : Late × List Lexeme). IsValue o ts z) (some_is x y e) h
 
 pub value_found : (o : Outline) (ts : List Lexeme) (y : Late × List Lexeme) → value_at o ts ≡ Some y → IsValue o ts y
 unfolding value_at
 value_found o [] y e = absurd cc
 value_found o (Word w ∷ ts) y e = absurd cc
-value_found o (Name m ∷ ts) y e = with_value o (Name m ∷ ts) (late o (Constant m), ts) y (record { tree = Constant m; spelled = refl; late = refl }) e
-value_found o (Number m ∷ ts) y e = with_value o (Number m ∷ ts) (late o (Literal m), ts) y (record { tree = Literal m; spelled = refl; late = refl }) e
+value_found o (Name m ∷ ts) y e = with_value o (Name m ∷ ts) (late o (Constant m), ts) y
+    (record { tree = Constant m; spelled = refl; late = refl }) e
+value_found o (Number m ∷ ts) y e = with_value o (Number m ∷ ts) (late o (Literal m), ts) y
+    (record { tree = Literal m; spelled = refl; late = refl }) e
 value_found o (Sign m ∷ ts) y e = absurd cc
 
 pub value_again : (o : Outline) (v : Value) (ts : List Lexeme) → value_at o (value v ∷ ts) ≡ Some (late o v, ts)
@@ -172,9 +178,15 @@ size_found o ts y e =
     let b = bind_some (after_sign mark.CloseBracket a.0.1) _ y a.2 in
     let v = value_found o ts a.0 a.1 in
     subst (λ (z : Late × List Lexeme). IsSize o ts z) (some_is (a.0.0, b.0) y b.2)
-    (record { tree = v.tree; spelled = v.spelled ∙ ap (λ (x : List Lexeme). value v.tree ∷ x) (sign_found mark.CloseBracket a.0.1 b.0 b.1); late = v.late })
+    (record {
+      tree = v.tree;
+      spelled = v.spelled
+          ∙ ap (λ (x : List Lexeme). value v.tree ∷ x) (sign_found mark.CloseBracket a.0.1 b.0 b.1);
+      late = v.late;
+    })
 
-pub size_again : (o : Outline) (v : Value) (ts : List Lexeme) → size_at o (value v ∷ Sign mark.CloseBracket ∷ ts) ≡ Some (late o v, ts)
+pub size_again : (o : Outline) (v : Value) (ts : List Lexeme)
+    → size_at o (value v ∷ Sign mark.CloseBracket ∷ ts) ≡ Some (late o v, ts)
 unfolding size_at after_sign
 size_again o v ts = rw (value_again o v (Sign mark.CloseBracket ∷ ts)) refl
 
@@ -188,20 +200,28 @@ pub record IsLimit (o : Outline) (ts : List Lexeme) (y : Option Late × List Lex
   pub spelled : ts ≡ limit tree (Sign mark.Greater ∷ y.1)
   pub late : y.0 ≡ option_map (late o) tree
 
-pub limit_found : (o : Outline) (ts : List Lexeme) (y : Option Late × List Lexeme) → limit_at o ts ≡ Some y → IsLimit o ts y
+pub limit_found : (o : Outline) (ts : List Lexeme) (y : Option Late × List Lexeme) → limit_at o ts ≡ Some y
+    → IsLimit o ts y
 unfolding limit_at
 limit_found o ts y e =
     elim (taken_some (after_sign mark.Greater ts) _ _ _ e) [
-      | inl a ↦ subst (λ (z : Option Late × List Lexeme). IsLimit o ts z) (some_is (None, a.0) y a.2) (record { tree = None; spelled = sign_found mark.Greater ts a.0 a.1; late = refl })
+      | inl a ↦ subst (λ (z : Option Late × List Lexeme). IsLimit o ts z) (some_is (None, a.0) y a.2)
+          (record { tree = None; spelled = sign_found mark.Greater ts a.0 a.1; late = refl })
       | inr n ↦
           let a = bind_some (value_at o ts) _ y n.1 in
           let b = bind_some (after_sign mark.Greater a.0.1) _ y a.2 in
           let v = value_found o ts a.0 a.1 in
           subst (λ (z : Option Late × List Lexeme). IsLimit o ts z) (some_is (Some a.0.0, b.0) y b.2)
-          (record { tree = Some v.tree; spelled = v.spelled ∙ ap (λ (x : List Lexeme). value v.tree ∷ x) (sign_found mark.Greater a.0.1 b.0 b.1); late = ap (λ (x : Late). Some x) v.late })
+          (record {
+            tree = Some v.tree;
+            spelled = v.spelled
+                ∙ ap (λ (x : List Lexeme). value v.tree ∷ x) (sign_found mark.Greater a.0.1 b.0 b.1);
+            late = ap (λ (x : Late). Some x) v.late;
+          })
     ]
 
-pub limit_again : (o : Outline) (v : Option Value) (ts : List Lexeme) → limit_at o (limit v (Sign mark.Greater ∷ ts)) ≡ Some (option_map (late o) v, ts)
+pub limit_again : (o : Outline) (v : Option Value) (ts : List Lexeme)
+    → limit_at o (limit v (Sign mark.Greater ∷ ts)) ≡ Some (option_map (late o) v, ts)
 unfolding limit_at after_sign
 limit_again o None ts = refl
 limit_again o (Some v) ts = rw (no_greater v (Sign mark.Greater ∷ ts), value_again o v (Sign mark.Greater ∷ ts)) refl

@@ -1,10 +1,18 @@
 -- What is read from all the tokens.
-use Rattle.std.proofs.Common.{◌≡◌, ◌≤◌, List, length, Some, sym, ap, ◌∙◌, arith}
+use Rattle.std.proofs.Common.{◌≡◌, ◌≤◌, List, length, Some, inl, inr, refl, sym, ap, ◌∙◌, arith}
 use Rattle.xdr_tokens.specs.Tokens.{Lexeme}
+use Rattle.xdr_tokens.specs.Fails.{Fails}
+use Rattle.xdr_tokens.proofs.Options.{some_is}
+use Rattle.xdr_grammar.specs.declared.misread.Misplaced.TheVariants as misplaced
+use Rattle.xdr_grammar.specs.declared.misread.Misread.{Misread}
+use Rattle.xdr_grammar.specs.declared.misread.Misread.TheVariants as misread
+use Rattle.xdr_grammar.specs.Misreadings.{IsGrammarFault}
+use Rattle.xdr_grammar.specs.steps.Parsing as steps
+use Rattle.xdr_grammar.specs.steps.Parsing.{told}
 use Rattle.xdr_grammar.specs.Grammar.{specification}
 use Rattle.xdr_grammar.specs.Outline.{Outline, nothing}
 use Rattle.xdr_grammar.specs.Spelled.{IsOutline}
-use Rattle.xdr_grammar.specs.Reading.{definitions_at}
+use Rattle.xdr_grammar.specs.steps.Reading.{definitions_at}
 use Rattle.xdr_grammar.proofs.FoundAll.{definitions_found}
 use Rattle.xdr_grammar.proofs.AgainAll.{definitions_again}
 
@@ -16,4 +24,20 @@ outline_found ts v e =
 pub outline_again : (ts : List Lexeme) (v : Outline) → IsOutline ts v → definitions_at (length ts) nothing ts ≡ Some v
 outline_again ts v is =
     let few : length (specification is.tree) ≤ length ts = omega (arith, ap length is.spelled) in
-    ap (λ (x : List Lexeme). definitions_at (length ts) nothing x) is.spelled ∙ definitions_again (length ts) is.tree nothing few is.nested ∙ ap (λ (x : Outline). Some x) (sym is.outlined)
+    ap (λ (x : List Lexeme). definitions_at (length ts) nothing x) is.spelled
+    ∙ definitions_again (length ts) is.tree nothing few is.nested ∙ ap (λ (x : Outline). Some x) (sym is.outlined)
+
+-- tokens spell one outline
+pub one_outline : (ts : List Lexeme) (v w : Outline) → IsOutline ts v → IsOutline ts w → v ≡ w
+one_outline ts v w is iw = some_is v w (sym (outline_again ts v is) ∙ outline_again ts w iw)
+
+-- where something is due, memory ran out, and that is told
+pub told_fails : (e : Misread) (v : Outline) → steps.Fails e (Some v) → Fails (told e) (Some v)
+told_fails misread.NoMemory v h = tt
+told_fails (misread.Token why left) v h = absurd cc
+
+pub told_is : (e : Misread) → IsGrammarFault (told e)
+told_is misread.NoMemory = tt
+told_is (misread.Token misplaced.Unexpected left) = inl refl
+told_is (misread.Token misplaced.FloatingKind left) = inr (inl refl)
+told_is (misread.Token misplaced.NestedTooDeep left) = inr (inr refl)

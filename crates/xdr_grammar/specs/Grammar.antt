@@ -5,7 +5,11 @@ use Rattle.xdr_tokens.specs.declared.token.Mark.TheVariants as mark
 use Rattle.xdr_grammar.specs.declared.outline.Basic.{Basic}
 use Rattle.xdr_grammar.specs.declared.outline.Basic.TheVariants as basic
 use Rattle.xdr_tokens.specs.Tokens.{Lexeme, Word, Name, Number, Sign}
-use Rattle.xdr_grammar.specs.Tree.{Value, Literal, Constant, Member, Specifier, Plain, Named, Inline, Body, EnumBody, StructBody, UnionBody, Declaration, One, Array, ArrayUpTo, Pointer, Opaque, OpaqueUpTo, Text, Content, Void, Of, Fields, Last, More, Cases, LastCase, MoreCases, Default, NoDefault, Otherwise, Passed, AnyText, OfType, Procedure, Version, Definition, ConstantOf, Typedef, Defined, ProgramOf}
+use Rattle.xdr_grammar.specs.Tree.{Value, Literal, Constant, Member, Specifier, Plain, Named, Inline, Body, EnumBody}
+use Rattle.xdr_grammar.specs.Tree.{StructBody, UnionBody, Declaration, One, Array, ArrayUpTo, Pointer, Opaque}
+use Rattle.xdr_grammar.specs.Tree.{OpaqueUpTo, Text, Content, Void, Of, Fields, Last, More, Cases, LastCase, MoreCases}
+use Rattle.xdr_grammar.specs.Tree.{Default, NoDefault, Otherwise, Passed, AnyText, OfType, Procedure, Version}
+use Rattle.xdr_grammar.specs.Tree.{Definition, ConstantOf, Typedef, Defined, ProgramOf}
 
 -- constant | identifier
 abbrev pub value : Value → Lexeme
@@ -56,7 +60,8 @@ abbrev mutual
   pub body : Body → List Lexeme → List Lexeme
   body (EnumBody m ms) ts = Sign mark.OpenBrace ∷ member m (members ms (Sign mark.CloseBrace ∷ ts))
   body (StructBody fs) ts = Sign mark.OpenBrace ∷ fields fs (Sign mark.CloseBrace ∷ ts)
-  body (UnionBody t cs d) ts = Word word.Switch ∷ Sign mark.OpenRound ∷ declaration t (Sign mark.CloseRound ∷ Sign mark.OpenBrace ∷ arms cs (otherwise d (Sign mark.CloseBrace ∷ ts)))
+  body (UnionBody t cs d) ts = Word word.Switch ∷ Sign mark.OpenRound ∷ declaration t
+      (Sign mark.CloseRound ∷ Sign mark.OpenBrace ∷ arms cs (otherwise d (Sign mark.CloseBrace ∷ ts)))
 
   -- declaration, but not "void"
   pub declaration : Declaration → List Lexeme → List Lexeme
@@ -64,7 +69,8 @@ abbrev mutual
   declaration (Array s n v) ts = specifier s (Name n ∷ Sign mark.OpenBracket ∷ value v ∷ Sign mark.CloseBracket ∷ ts)
   declaration (ArrayUpTo s n v) ts = specifier s (Name n ∷ Sign mark.Less ∷ limit v (Sign mark.Greater ∷ ts))
   declaration (Pointer s n) ts = specifier s (Sign mark.Star ∷ Name n ∷ ts)
-  declaration (Opaque n v) ts = Word word.Opaque ∷ Name n ∷ Sign mark.OpenBracket ∷ value v ∷ Sign mark.CloseBracket ∷ ts
+  declaration (Opaque n v) ts =
+      Word word.Opaque ∷ Name n ∷ Sign mark.OpenBracket ∷ value v ∷ Sign mark.CloseBracket ∷ ts
   declaration (OpaqueUpTo n v) ts = Word word.Opaque ∷ Name n ∷ Sign mark.Less ∷ limit v (Sign mark.Greater ∷ ts)
   declaration (Text n v) ts = Word word.String ∷ Name n ∷ Sign mark.Less ∷ limit v (Sign mark.Greater ∷ ts)
 
@@ -110,7 +116,9 @@ arguments (p ∷ ps) ts = passed p (more_arguments ps ts)
 
 -- procedure-def (RFC 5531 section 12.2)
 abbrev pub procedure : Procedure → List Lexeme → List Lexeme
-procedure p ts = result p.result (Name p.name ∷ Sign mark.OpenRound ∷ arguments p.arguments (Sign mark.CloseRound ∷ Sign mark.Equal ∷ Number p.number ∷ Sign mark.Semicolon ∷ ts))
+procedure p ts = result p.result
+    (Name p.name ∷ Sign mark.OpenRound ∷ arguments p.arguments
+    (Sign mark.CloseRound ∷ Sign mark.Equal ∷ Number p.number ∷ Sign mark.Semicolon ∷ ts))
 
 -- procedure-def*
 abbrev pub procedures : List Procedure → List Lexeme → List Lexeme
@@ -119,7 +127,8 @@ procedures (p ∷ ps) ts = procedure p (procedures ps ts)
 
 -- version-def (RFC 5531 section 12.2)
 abbrev pub version : Version → List Lexeme → List Lexeme
-version v ts = Word word.Version ∷ Name v.name ∷ Sign mark.OpenBrace ∷ procedures (v.first ∷ v.others) (Sign mark.CloseBrace ∷ Sign mark.Equal ∷ Number v.number ∷ Sign mark.Semicolon ∷ ts)
+version v ts = Word word.Version ∷ Name v.name ∷ Sign mark.OpenBrace ∷ procedures (v.first ∷ v.others)
+    (Sign mark.CloseBrace ∷ Sign mark.Equal ∷ Number v.number ∷ Sign mark.Semicolon ∷ ts)
 
 -- version-def*
 abbrev pub versions : List Version → List Lexeme → List Lexeme
@@ -131,7 +140,8 @@ abbrev pub definition : Definition → List Lexeme → List Lexeme
 definition (ConstantOf n v) ts = Word word.Const ∷ Name n ∷ Sign mark.Equal ∷ Number v ∷ Sign mark.Semicolon ∷ ts
 definition (Typedef d) ts = Word word.Typedef ∷ declaration d (Sign mark.Semicolon ∷ ts)
 definition (Defined n b) ts = body_word b ∷ Name n ∷ body b (Sign mark.Semicolon ∷ ts)
-definition (ProgramOf p) ts = Word word.Program ∷ Name p.name ∷ Sign mark.OpenBrace ∷ versions (p.first ∷ p.others) (Sign mark.CloseBrace ∷ Sign mark.Equal ∷ Number p.number ∷ Sign mark.Semicolon ∷ ts)
+definition (ProgramOf p) ts = Word word.Program ∷ Name p.name ∷ Sign mark.OpenBrace ∷ versions (p.first ∷ p.others)
+    (Sign mark.CloseBrace ∷ Sign mark.Equal ∷ Number p.number ∷ Sign mark.Semicolon ∷ ts)
 
 -- definition*
 abbrev pub specification : List Definition → List Lexeme

@@ -1,12 +1,13 @@
 pub use Rattle.xdr_tokens.specs.Bytes
 pub use Rattle.xdr_tokens.specs.Fails
 pub use Rattle.xdr_tokens.specs.Keywords
+pub use Rattle.xdr_tokens.specs.Refusals
 pub use Rattle.xdr_tokens.specs.Text
 pub use Rattle.xdr_tokens.specs.Tokens
 pub mod Tree
 pub mod Grammar
 pub mod Outline
 pub mod View
-pub mod Reading
-pub mod Parsing
 pub mod Spelled
+pub mod Misreadings
+pub mod steps

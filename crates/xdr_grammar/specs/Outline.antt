@@ -1,8 +1,13 @@
--- What a tree declares (RFC 4506 section 6.4), in the order in which its parts end, with names in place of what they stand for.
+-- What a tree declares (RFC 4506 section 6.4), in the order in which its parts end, with names in place of what they
+-- stand for.
 use Rattle.std.specs.Prelude.{ℕ, ℤ, Bool, true, false, List, [], ◌∷◌, ◌++◌, length, map, Option, Some, None, option_map}
 use Rattle.xdr_grammar.specs.declared.outline.Basic.{Basic}
 use Rattle.xdr_grammar.specs.Tree as tree
-use Rattle.xdr_grammar.specs.Tree.{Value, Literal, Constant, Member, Specifier, Plain, Named, Inline, Body, EnumBody, StructBody, UnionBody, Declaration, One, Array, ArrayUpTo, Pointer, Opaque, OpaqueUpTo, Text, Content, Void, Of, Fields, Last, More, Cases, LastCase, MoreCases, Default, NoDefault, Otherwise, Passed, AnyText, OfType, Definition, ConstantOf, Typedef, Defined, ProgramOf}
+use Rattle.xdr_grammar.specs.Tree.{Value, Literal, Constant, Member, Specifier, Plain, Named, Inline, Body, EnumBody}
+use Rattle.xdr_grammar.specs.Tree.{StructBody, UnionBody, Declaration, One, Array, ArrayUpTo, Pointer, Opaque}
+use Rattle.xdr_grammar.specs.Tree.{OpaqueUpTo, Text, Content, Void, Of, Fields, Last, More, Cases, LastCase, MoreCases}
+use Rattle.xdr_grammar.specs.Tree.{Default, NoDefault, Otherwise, Passed, AnyText, OfType, Definition, ConstantOf}
+use Rattle.xdr_grammar.specs.Tree.{Typedef, Defined, ProgramOf}
 
 -- a number, or a name among so many constants that are declared before it
 pub data Late : Type 0 where
@@ -78,7 +83,8 @@ late o (Constant n) = Earlier n (length o.constants)
 
 -- one more constant
 abbrev pub declare : List ℕ → Late → Bool → Outline → Outline
-declare n v by_const o = record o { constants = o.constants ++ (record { name = n; value = v; by_const = by_const }) ∷ [] }
+declare n v by_const o =
+    record o { constants = o.constants ++ (record { name = n; value = v; by_const = by_const }) ∷ [] }
 
 -- the next kind
 abbrev pub place : Outline → Part
@@ -129,7 +135,8 @@ abbrev mutual
   pub declaration_in : Declaration → Outline → Field × Outline
   declaration_in (One s n) o = let item = specifier_in s o in (record { name = n; part = item.0 }, item.1)
   declaration_in (Array s n v) o = let item = specifier_in s o in made n (DFixed item.0 (late item.1 v)) item.1
-  declaration_in (ArrayUpTo s n v) o = let item = specifier_in s o in made n (DUpTo item.0 (option_map (late item.1) v)) item.1
+  declaration_in (ArrayUpTo s n v) o = let item = specifier_in s o in
+      made n (DUpTo item.0 (option_map (late item.1) v)) item.1
   declaration_in (Pointer s n) o = let item = specifier_in s o in made n (DMaybe item.0) item.1
   declaration_in (Opaque n v) o = made n (DOpaque (late o v)) o
   declaration_in (OpaqueUpTo n v) o = made n (DOpaqueUpTo (option_map (late o) v)) o
@@ -150,7 +157,8 @@ abbrev mutual
 
   -- The values of an arm come before what it is.
   pub arms_in : Cases → Outline → List Arm × Outline
-  arms_in (LastCase v vs d) o = let m = content_in d o in ((record { cases = map (late o) (v ∷ vs); member = m.0 }) ∷ [], m.1)
+  arms_in (LastCase v vs d) o = let m = content_in d o in
+      ((record { cases = map (late o) (v ∷ vs); member = m.0 }) ∷ [], m.1)
   arms_in (MoreCases v vs d cs) o =
       let m = content_in d o in
       let rest = arms_in cs m.1 in

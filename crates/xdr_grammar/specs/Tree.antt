@@ -143,7 +143,8 @@ depth_of_result (Some p) = depth_of_passed p
 -- in procedures
 abbrev pub depth_of_procedures : List Procedure → ℕ
 depth_of_procedures [] = 0
-depth_of_procedures (p ∷ ps) = max (max (depth_of_result p.result) (depth_of_arguments p.arguments)) (depth_of_procedures ps)
+depth_of_procedures (p ∷ ps) = max (max (depth_of_result p.result) (depth_of_arguments p.arguments))
+    (depth_of_procedures ps)
 
 -- in versions
 abbrev pub depth_of_versions : List Version → ℕ

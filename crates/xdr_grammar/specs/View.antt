@@ -55,13 +55,27 @@ abbrev pub draft_of : Draft → out.Draft
 draft_of d = shape_of d.shape
 
 abbrev pub procedure_of : Procedure → out.Procedure
-procedure_of p = record { name = p.name.text.now; number = p.number.value; arguments = map part_of p.arguments.items; result = option_map part_of p.result }
+procedure_of p = record {
+  name = p.name.text.now;
+  number = p.number.value;
+  arguments = map part_of p.arguments.items;
+  result = option_map part_of p.result;
+}
 
 abbrev pub version_of : Version → out.Version
-version_of v = record { name = v.name.text.now; number = v.number.value; procedures = map procedure_of v.procedures.items }
+version_of v = record {
+  name = v.name.text.now;
+  number = v.number.value;
+  procedures = map procedure_of v.procedures.items;
+}
 
 abbrev pub program_of : Program → out.Program
 program_of p = record { name = p.name.text.now; number = p.number.value; versions = map version_of p.versions.items }
 
 abbrev pub outline_of : Outline → out.Outline
-outline_of o = record { constants = map entry_of o.constants.items; drafts = map draft_of o.drafts.items; types = map field_of o.types.items; programs = map program_of o.programs.items }
+outline_of o = record {
+  constants = map entry_of o.constants.items;
+  drafts = map draft_of o.drafts.items;
+  types = map field_of o.types.items;
+  programs = map program_of o.programs.items;
+}

@@ -1,18 +1,21 @@
-// Declarations, and the bodies of structs and unions, which stand inside one another.
+//! Declarations, and the bodies of structs and unions, which stand inside one another.
 ghost use Rattle.std.specs.Prelude.{length, map, option_map};
 ghost use Rattle.xdr_grammar.specs.View.{late_of, part_of, field_of, arm_of};
-ghost use Rattle.xdr_grammar.specs.Reading.{repeat, declaration_with, content_with, field_with, struct_with, case_at, arm_with, default_with, switch_with, union_with, body_with, specifier_at};
-ghost use Rattle.xdr_grammar.specs.Parsing.{left, Reads};
+ghost use Rattle.xdr_grammar.specs.steps.Reading.{repeat, declaration_with, content_with, field_with, struct_with};
+ghost use Rattle.xdr_grammar.specs.steps.Reading.{case_at, arm_with, default_with, switch_with, union_with, body_with};
+ghost use Rattle.xdr_grammar.specs.steps.Reading.{specifier_at};
+ghost use Rattle.xdr_grammar.specs.steps.Parsing.{left, Reads};
 
+use crate::misread::{Misplaced, Misread};
 use crate::outline::{Arm, BodyKind, Field, Late, Name, Part, Shape};
 use crate::reading::Parser;
-use xdr_tokens::{Fault, Keyword, Mark, Wrong};
+use xdr_tokens::{Keyword, Mark};
 
 impl<'t, 'a> Parser<'t, 'a> {
     /// A declaration, but not void.
     #[cycle(declarations)]
-    #[tactic(auto, unfolding(crate::specs::Reading::declaration_with))]
-    pub(crate) fn declaration(&mut self, depth: u32) -> Result<Field<'a>, Fault>
+    #[tactic(auto, unfolding(crate::specs::steps::Reading::declaration_with))]
+    pub(crate) fn declaration(&mut self, depth: u32) -> Result<Field<'a>, Misread>
         ensures { Reads field_of result (declaration_with (specifier_at depth)) self.old self.new }
     {
         let start = self.here();
@@ -28,8 +31,8 @@ impl<'t, 'a> Parser<'t, 'a> {
 
     /// A declaration or void.
     #[cycle(declarations)]
-    #[tactic(auto, unfolding(crate::specs::Reading::content_with))]
-    fn content(&mut self, depth: u32) -> Result<Field<'a>, Fault>
+    #[tactic(auto, unfolding(crate::specs::steps::Reading::content_with))]
+    fn content(&mut self, depth: u32) -> Result<Field<'a>, Misread>
         ensures { Reads field_of result (content_with (declaration_with (specifier_at depth))) self.old self.new }
     {
         let left = self.here();
@@ -44,9 +47,10 @@ impl<'t, 'a> Parser<'t, 'a> {
 
     /// A field of a struct, and whether another one follows.
     #[cycle(declarations)]
-    #[tactic(auto, unfolding(crate::specs::Reading::field_with))]
-    fn field(&mut self, depth: u32) -> Result<(Field<'a>, bool), Fault>
-        ensures { Reads (λ x. (field_of x.0, x.1)) result (field_with (content_with (declaration_with (specifier_at depth)))) self.old self.new }
+    #[tactic(auto, unfolding(crate::specs::steps::Reading::field_with))]
+    fn field(&mut self, depth: u32) -> Result<(Field<'a>, bool), Misread>
+        ensures { Reads (λ x. (field_of x.0, x.1)) result
+            (field_with (content_with (declaration_with (specifier_at depth)))) self.old self.new }
     {
         let field = self.content(depth)?;
         self.expect(Mark::Semicolon)?;
@@ -56,9 +60,11 @@ impl<'t, 'a> Parser<'t, 'a> {
 
     /// The fields of a struct and its `}`.
     #[cycle(declarations)]
-    #[tactic(auto, unfolding(crate::specs::Reading::repeat))]
-    fn fields(&mut self, depth: u32) -> Result<Vec<Field<'a>>, Fault>
-        ensures { Reads (λ x. map field_of x.items) result (repeat (field_with (content_with (declaration_with (specifier_at depth)))) (length (left self.old))) self.old self.new }
+    #[tactic(auto, unfolding(crate::specs::steps::Reading::repeat))]
+    fn fields(&mut self, depth: u32) -> Result<Vec<Field<'a>>, Misread>
+        ensures { Reads (λ x. map field_of x.items) result
+            (repeat (field_with (content_with (declaration_with (specifier_at depth)))) (length (left self.old)))
+            self.old self.new }
     {
         let mut fields = Vec::new(self.alloc);
         for _ in 0..self.rest.len() {
@@ -73,9 +79,10 @@ impl<'t, 'a> Parser<'t, 'a> {
 
     /// What follows `struct`.
     #[cycle(declarations)]
-    #[tactic(auto, unfolding(crate::specs::Reading::struct_with))]
-    fn struct_body(&mut self, start: usize, depth: u32) -> Result<Part<'a>, Fault>
-        ensures { Reads part_of result (struct_with (content_with (declaration_with (specifier_at depth)))) self.old self.new }
+    #[tactic(auto, unfolding(crate::specs::steps::Reading::struct_with))]
+    fn struct_body(&mut self, start: usize, depth: u32) -> Result<Part<'a>, Misread>
+        ensures { Reads part_of result
+            (struct_with (content_with (declaration_with (specifier_at depth)))) self.old self.new }
     {
         self.expect(Mark::OpenBrace)?;
         let fields = self.fields(depth)?;
@@ -83,8 +90,8 @@ impl<'t, 'a> Parser<'t, 'a> {
     }
 
     /// A value and `:` after `case`, and whether another `case` follows.
-    #[tactic(auto, unfolding(crate::specs::Reading::case_at))]
-    fn case(&mut self) -> Result<(Late<'a>, bool), Fault>
+    #[tactic(auto, unfolding(crate::specs::steps::Reading::case_at))]
+    fn case(&mut self) -> Result<(Late<'a>, bool), Misread>
         ensures { Reads (λ x. (late_of x.0, x.1)) result case_at self.old self.new }
     {
         let value = self.value()?;
@@ -94,8 +101,8 @@ impl<'t, 'a> Parser<'t, 'a> {
     }
 
     /// The values of an arm.
-    #[tactic(auto, unfolding(crate::specs::Reading::repeat))]
-    fn cases(&mut self) -> Result<Vec<Late<'a>>, Fault>
+    #[tactic(auto, unfolding(crate::specs::steps::Reading::repeat))]
+    fn cases(&mut self) -> Result<Vec<Late<'a>>, Misread>
         ensures { Reads (λ x. map late_of x.items) result (repeat case_at (length (left self.old))) self.old self.new }
     {
         let mut cases = Vec::new(self.alloc);
@@ -111,9 +118,10 @@ impl<'t, 'a> Parser<'t, 'a> {
 
     /// An arm of a union after its first `case`, and whether another `case` follows.
     #[cycle(declarations)]
-    #[tactic(auto, unfolding(crate::specs::Reading::arm_with))]
-    fn arm(&mut self, depth: u32) -> Result<(Arm<'a>, bool), Fault>
-        ensures { Reads (λ x. (arm_of x.0, x.1)) result (arm_with (content_with (declaration_with (specifier_at depth)))) self.old self.new }
+    #[tactic(auto, unfolding(crate::specs::steps::Reading::arm_with))]
+    fn arm(&mut self, depth: u32) -> Result<(Arm<'a>, bool), Misread>
+        ensures { Reads (λ x. (arm_of x.0, x.1)) result
+            (arm_with (content_with (declaration_with (specifier_at depth)))) self.old self.new }
     {
         let cases = self.cases()?;
         let member = self.content(depth)?;
@@ -124,9 +132,11 @@ impl<'t, 'a> Parser<'t, 'a> {
 
     /// The arms of a union after the first `case`.
     #[cycle(declarations)]
-    #[tactic(auto, unfolding(crate::specs::Reading::repeat))]
-    fn arms(&mut self, depth: u32) -> Result<Vec<Arm<'a>>, Fault>
-        ensures { Reads (λ x. map arm_of x.items) result (repeat (arm_with (content_with (declaration_with (specifier_at depth)))) (length (left self.old))) self.old self.new }
+    #[tactic(auto, unfolding(crate::specs::steps::Reading::repeat))]
+    fn arms(&mut self, depth: u32) -> Result<Vec<Arm<'a>>, Misread>
+        ensures { Reads (λ x. map arm_of x.items) result
+            (repeat (arm_with (content_with (declaration_with (specifier_at depth)))) (length (left self.old))) self.old
+            self.new }
     {
         let mut arms = Vec::new(self.alloc);
         for _ in 0..self.rest.len() {
@@ -141,9 +151,10 @@ impl<'t, 'a> Parser<'t, 'a> {
 
     /// The default of a union, where it has one.
     #[cycle(declarations)]
-    #[tactic(auto, unfolding(crate::specs::Reading::default_with))]
-    fn default(&mut self, depth: u32) -> Result<Option<Field<'a>>, Fault>
-        ensures { Reads (λ x. option_map field_of x) result (default_with (content_with (declaration_with (specifier_at depth)))) self.old self.new }
+    #[tactic(auto, unfolding(crate::specs::steps::Reading::default_with))]
+    fn default(&mut self, depth: u32) -> Result<Option<Field<'a>>, Misread>
+        ensures { Reads (λ x. option_map field_of x) result
+            (default_with (content_with (declaration_with (specifier_at depth)))) self.old self.new }
     {
         if !self.word(Keyword::Default) {
             return Ok(None);
@@ -156,8 +167,8 @@ impl<'t, 'a> Parser<'t, 'a> {
 
     /// What follows `union`, as far as the first `case`.
     #[cycle(declarations)]
-    #[tactic(auto, unfolding(crate::specs::Reading::switch_with))]
-    fn switch(&mut self, depth: u32) -> Result<Field<'a>, Fault>
+    #[tactic(auto, unfolding(crate::specs::steps::Reading::switch_with))]
+    fn switch(&mut self, depth: u32) -> Result<Field<'a>, Misread>
         ensures { Reads field_of result (switch_with (declaration_with (specifier_at depth))) self.old self.new }
     {
         self.expect_word(Keyword::Switch)?;
@@ -171,8 +182,8 @@ impl<'t, 'a> Parser<'t, 'a> {
 
     /// What follows `union`.
     #[cycle(declarations)]
-    #[tactic(auto, unfolding(crate::specs::Reading::union_with))]
-    fn union_body(&mut self, start: usize, depth: u32) -> Result<Part<'a>, Fault>
+    #[tactic(auto, unfolding(crate::specs::steps::Reading::union_with))]
+    fn union_body(&mut self, start: usize, depth: u32) -> Result<Part<'a>, Misread>
         ensures { Reads part_of result (union_with (declaration_with (specifier_at depth))) self.old self.new }
     {
         let tag = self.switch(depth)?;
@@ -184,13 +195,13 @@ impl<'t, 'a> Parser<'t, 'a> {
 
     /// A body, with at most so many bodies inside it.
     #[cycle(declarations)]
-    #[tactic(auto, unfolding(crate::specs::Reading::body_with))]
+    #[tactic(auto, unfolding(crate::specs::steps::Reading::body_with))]
     pub(crate) fn body(
         &mut self,
         kind: BodyKind,
         start: usize,
         depth: u32,
-    ) -> Result<Part<'a>, Fault>
+    ) -> Result<Part<'a>, Misread>
         ensures { Reads part_of result (body_with (declaration_with (specifier_at depth)) kind) self.old self.new }
     {
         match kind {
@@ -203,14 +214,14 @@ impl<'t, 'a> Parser<'t, 'a> {
     /// A type specifier, spelled by what begins at `start`, with at most so many bodies inside one
     /// another.
     #[cycle(declarations)]
-    #[tactic(auto, unfolding(crate::specs::Reading::specifier_at))]
-    pub(crate) fn specifier(&mut self, start: usize, depth: u32) -> Result<Part<'a>, Fault>
+    #[tactic(auto, unfolding(crate::specs::steps::Reading::specifier_at))]
+    pub(crate) fn specifier(&mut self, start: usize, depth: u32) -> Result<Part<'a>, Misread>
         ensures { Reads part_of result (specifier_at depth) self.old self.new }
     {
         match self.body_word() {
             Some(kind) if depth == 0 => {
                 self.to_the_brace(kind)?;
-                Err(self.refused(Wrong::NestedTooDeep))
+                Err(self.refused(Misplaced::NestedTooDeep))
             }
             Some(kind) => self.body(kind, start, depth - 1),
             None => self.basic(),

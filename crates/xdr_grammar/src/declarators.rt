@@ -1,16 +1,17 @@
-// What follows the type in a declaration: its name, and brackets or a star.
+//! What follows the type in a declaration: its name, and brackets or a star.
 ghost use Rattle.xdr_grammar.specs.View.{part_of, field_of};
-ghost use Rattle.xdr_grammar.specs.Reading.{opaque_at, text_at, declared_at};
-ghost use Rattle.xdr_grammar.specs.Parsing.{Reads};
+ghost use Rattle.xdr_grammar.specs.steps.Reading.{opaque_at, text_at, declared_at};
+ghost use Rattle.xdr_grammar.specs.steps.Parsing.{Reads};
 
+use crate::misread::Misread;
 use crate::outline::{Field, Part, Shape};
 use crate::reading::Parser;
-use xdr_tokens::{Fault, Mark};
+use xdr_tokens::Mark;
 
 impl<'t, 'a> Parser<'t, 'a> {
     /// What follows `opaque`, which stands at `start`.
-    #[tactic(auto, unfolding(crate::specs::Reading::opaque_at))]
-    pub(crate) fn opaque(&mut self, start: usize) -> Result<Field<'a>, Fault>
+    #[tactic(auto, unfolding(crate::specs::steps::Reading::opaque_at))]
+    pub(crate) fn opaque(&mut self, start: usize) -> Result<Field<'a>, Misread>
         ensures { Reads field_of result opaque_at self.old self.new }
     {
         let name = self.name()?;
@@ -26,8 +27,8 @@ impl<'t, 'a> Parser<'t, 'a> {
     }
 
     /// What follows `string`, which stands at `start`.
-    #[tactic(auto, unfolding(crate::specs::Reading::text_at))]
-    pub(crate) fn text(&mut self, start: usize) -> Result<Field<'a>, Fault>
+    #[tactic(auto, unfolding(crate::specs::steps::Reading::text_at))]
+    pub(crate) fn text(&mut self, start: usize) -> Result<Field<'a>, Misread>
         ensures { Reads field_of result text_at self.old self.new }
     {
         let name = self.name()?;
@@ -38,8 +39,8 @@ impl<'t, 'a> Parser<'t, 'a> {
     }
 
     /// What follows a type specifier, which begins at `start`.
-    #[tactic(auto, unfolding(crate::specs::Reading::declared_at))]
-    pub(crate) fn declared(&mut self, part: Part<'a>, start: usize) -> Result<Field<'a>, Fault>
+    #[tactic(auto, unfolding(crate::specs::steps::Reading::declared_at))]
+    pub(crate) fn declared(&mut self, part: Part<'a>, start: usize) -> Result<Field<'a>, Misread>
         ensures { Reads field_of result (declared_at (part_of part.entry)) self.old self.new }
     {
         if self.sign(Mark::Star) {

@@ -1,17 +1,18 @@
-// Definitions, one after the other.
+//! Definitions, one after the other.
 ghost use Rattle.std.specs.Prelude.{length};
-ghost use Rattle.xdr_tokens.specs.Fails.{Gives};
-ghost use Rattle.xdr_grammar.specs.Reading.{declaration_with, specifier_at, const_at, typedef_with, defined_with, definition_at, definitions_at};
-ghost use Rattle.xdr_grammar.specs.Parsing.{left, so_far, Defines};
+ghost use Rattle.xdr_grammar.specs.steps.Reading.{declaration_with, specifier_at, const_at, typedef_with, defined_with};
+ghost use Rattle.xdr_grammar.specs.steps.Reading.{definition_at, definitions_at};
+ghost use Rattle.xdr_grammar.specs.steps.Parsing.{left, so_far, Gives, Defines};
 
+use crate::misread::Misread;
 use crate::outline::{Field, Late};
 use crate::reading::{MAX_DEPTH, Parser};
-use xdr_tokens::{Fault, Keyword, Mark};
+use xdr_tokens::{Keyword, Mark};
 
 impl<'t, 'a> Parser<'t, 'a> {
     /// What follows `const`.
-    #[tactic(auto, unfolding(crate::specs::Reading::const_at))]
-    fn constant(&mut self) -> Result<(), Fault>
+    #[tactic(auto, unfolding(crate::specs::steps::Reading::const_at))]
+    fn constant(&mut self) -> Result<(), Misread>
         ensures { Defines result const_at self.old self.new }
     {
         let name = self.name()?;
@@ -20,8 +21,8 @@ impl<'t, 'a> Parser<'t, 'a> {
     }
 
     /// What follows `typedef`.
-    #[tactic(auto, unfolding(crate::specs::Reading::typedef_with))]
-    fn typedef(&mut self) -> Result<(), Fault>
+    #[tactic(auto, unfolding(crate::specs::steps::Reading::typedef_with))]
+    fn typedef(&mut self) -> Result<(), Misread>
         ensures { Defines result (typedef_with (declaration_with (specifier_at 32))) self.old self.new }
     {
         let field = self.declaration(MAX_DEPTH)?;
@@ -30,8 +31,8 @@ impl<'t, 'a> Parser<'t, 'a> {
     }
 
     /// An enum, a struct or a union with its name.
-    #[tactic(auto, unfolding(crate::specs::Reading::defined_with))]
-    fn defined(&mut self) -> Result<(), Fault>
+    #[tactic(auto, unfolding(crate::specs::steps::Reading::defined_with))]
+    fn defined(&mut self) -> Result<(), Misread>
         ensures { Defines result (defined_with (declaration_with (specifier_at 31))) self.old self.new }
     {
         let Some(kind) = self.body_word() else {
@@ -44,8 +45,8 @@ impl<'t, 'a> Parser<'t, 'a> {
     }
 
     /// A definition.
-    #[tactic(auto, unfolding(crate::specs::Reading::definition_at))]
-    fn definition(&mut self) -> Result<(), Fault>
+    #[tactic(auto, unfolding(crate::specs::steps::Reading::definition_at))]
+    fn definition(&mut self) -> Result<(), Misread>
         ensures { Defines result definition_at self.old self.new }
     {
         self.start = self.here();
@@ -62,9 +63,10 @@ impl<'t, 'a> Parser<'t, 'a> {
     }
 
     /// The definitions, to the end of the tokens.
-    #[tactic(auto, unfolding(crate::specs::Reading::definitions_at))]
-    pub(crate) fn definitions(&mut self) -> Result<(), Fault>
-        ensures { Gives (λ _. so_far self.new) result (definitions_at (length (left self.old)) (so_far self.old) (left self.old)) }
+    #[tactic(auto, unfolding(crate::specs::steps::Reading::definitions_at))]
+    pub(crate) fn definitions(&mut self) -> Result<(), Misread>
+        ensures { Gives (λ _. so_far self.new) result
+            (definitions_at (length (left self.old)) (so_far self.old) (left self.old)) }
     {
         for _ in 0..self.rest.len() {
             if self.rest.is_empty() {

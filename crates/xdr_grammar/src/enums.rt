@@ -1,17 +1,18 @@
-// The bodies of enums.
+//! The bodies of enums.
 ghost use Rattle.std.specs.Prelude.{length, map};
 ghost use Rattle.xdr_grammar.specs.View.{part_of, member_of};
-ghost use Rattle.xdr_grammar.specs.Reading.{repeat, member_at, enum_at};
-ghost use Rattle.xdr_grammar.specs.Parsing.{left, Reads};
+ghost use Rattle.xdr_grammar.specs.steps.Reading.{repeat, member_at, enum_at};
+ghost use Rattle.xdr_grammar.specs.steps.Parsing.{left, Reads};
 
+use crate::misread::Misread;
 use crate::outline::{Member, Part, Shape};
 use crate::reading::Parser;
-use xdr_tokens::{Fault, Mark};
+use xdr_tokens::Mark;
 
 impl<'t, 'a> Parser<'t, 'a> {
     /// A member of an enum, and whether another one follows.
-    #[tactic(auto, unfolding(crate::specs::Reading::member_at))]
-    fn member(&mut self) -> Result<(Member<'a>, bool), Fault>
+    #[tactic(auto, unfolding(crate::specs::steps::Reading::member_at))]
+    fn member(&mut self) -> Result<(Member<'a>, bool), Misread>
         ensures { Reads (λ x. (member_of x.0, x.1)) result member_at self.old self.new }
     {
         let name = self.name()?;
@@ -23,9 +24,10 @@ impl<'t, 'a> Parser<'t, 'a> {
     }
 
     /// The members of an enum and its `}`.
-    #[tactic(auto, unfolding(crate::specs::Reading::repeat))]
-    fn members(&mut self) -> Result<Vec<Member<'a>>, Fault>
-        ensures { Reads (λ x. map member_of x.items) result (repeat member_at (length (left self.old))) self.old self.new }
+    #[tactic(auto, unfolding(crate::specs::steps::Reading::repeat))]
+    fn members(&mut self) -> Result<Vec<Member<'a>>, Misread>
+        ensures { Reads (λ x. map member_of x.items) result
+            (repeat member_at (length (left self.old))) self.old self.new }
     {
         let mut members = Vec::new(self.alloc);
         for _ in 0..self.rest.len() {
@@ -39,8 +41,8 @@ impl<'t, 'a> Parser<'t, 'a> {
     }
 
     /// What follows `enum`.
-    #[tactic(auto, unfolding(crate::specs::Reading::enum_at))]
-    pub(crate) fn enum_body(&mut self, start: usize) -> Result<Part<'a>, Fault>
+    #[tactic(auto, unfolding(crate::specs::steps::Reading::enum_at))]
+    pub(crate) fn enum_body(&mut self, start: usize) -> Result<Part<'a>, Misread>
         ensures { Reads part_of result enum_at self.old self.new }
     {
         self.expect(Mark::OpenBrace)?;

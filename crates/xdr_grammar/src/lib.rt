@@ -7,6 +7,7 @@ mod bodies;
 mod declarators;
 mod definitions;
 mod enums;
+mod misread;
 mod nesting;
 mod outline;
 mod programs;

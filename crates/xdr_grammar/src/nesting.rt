@@ -1,15 +1,16 @@
-// Where bodies of structs, unions and enums begin, and which one is one too many.
+//! Where bodies of structs, unions and enums begin, and which one is one too many.
 ghost use Rattle.std.specs.Prelude.{◌≡◌, Some, None, IfSome};
-ghost use Rattle.xdr_grammar.specs.Reading.{body_word_at};
-ghost use Rattle.xdr_grammar.specs.Parsing.{left, so_far};
+ghost use Rattle.xdr_grammar.specs.steps.Reading.{body_word_at};
+ghost use Rattle.xdr_grammar.specs.steps.Parsing.{left, so_far};
 
+use crate::misread::Misread;
 use crate::outline::BodyKind;
 use crate::reading::Parser;
-use xdr_tokens::{Fault, Keyword, Mark, Token};
+use xdr_tokens::{Keyword, Mark, Token};
 
 impl<'t, 'a> Parser<'t, 'a> {
     /// The word that begins a body.
-    #[tactic(auto, unfolding(crate::specs::Reading::body_word_at))]
+    #[tactic(auto, unfolding(crate::specs::steps::Reading::body_word_at))]
     pub(crate) fn body_word(&mut self) -> Option<BodyKind>
         ensures some { IfSome result (λ k. body_word_at (left self.old) ≡ Some (k, left self.new)) }
         ensures none { result ≡ None → body_word_at (left self.old) ≡ None }
@@ -29,7 +30,7 @@ impl<'t, 'a> Parser<'t, 'a> {
     }
 
     /// The switch declaration of a union whose body is one too many, where no body stands in it.
-    fn flat_declaration(&mut self) -> Result<(), Fault> {
+    fn flat_declaration(&mut self) -> Result<(), Misread> {
         let start = self.here();
         if self.word(Keyword::Opaque) {
             self.opaque(start)?;
@@ -45,7 +46,7 @@ impl<'t, 'a> Parser<'t, 'a> {
     }
 
     /// The mark in front has to be a `{`, which stays.
-    fn brace(&self) -> Result<(), Fault> {
+    fn brace(&self) -> Result<(), Misread> {
         match self.rest {
             [Token::Sign(Mark::OpenBrace, _), ..] => Ok(()),
             _ => Err(self.unexpected()),
@@ -54,7 +55,7 @@ impl<'t, 'a> Parser<'t, 'a> {
 
     /// Goes on to the first `{` of a body that is one too many. A body in the switch declaration of a
     /// union is inside the union's, and its `{` comes first.
-    pub(crate) fn to_the_brace(&mut self, kind: BodyKind) -> Result<(), Fault> {
+    pub(crate) fn to_the_brace(&mut self, kind: BodyKind) -> Result<(), Misread> {
         let mut kind = kind;
         for _ in 0..self.rest.len() {
             if kind != BodyKind::Union {

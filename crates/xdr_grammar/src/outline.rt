@@ -1,4 +1,5 @@
-// What definitions declare, with names in place of what they stand for.
+//! What definitions declare, with names in place of what they stand for.
+
 /// A type that is there without a definition.
 #[derive(Clone, Copy, Debug, PartialEq, Eq)]
 pub enum Basic {

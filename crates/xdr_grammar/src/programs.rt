@@ -1,17 +1,19 @@
-// Programs, their versions and their procedures.
+//! Programs, their versions and their procedures.
 ghost use Rattle.std.specs.Prelude.{length, map, option_map};
 ghost use Rattle.xdr_grammar.specs.View.{part_of, procedure_of, version_of};
-ghost use Rattle.xdr_grammar.specs.Reading.{repeat, specifier_at, passed_with, argument_with, arguments_with, result_with, procedure_with, version_with, program_with};
-ghost use Rattle.xdr_grammar.specs.Parsing.{left, Reads, Defines};
+ghost use Rattle.xdr_grammar.specs.steps.Reading.{repeat, specifier_at, passed_with, argument_with, arguments_with};
+ghost use Rattle.xdr_grammar.specs.steps.Reading.{result_with, procedure_with, version_with, program_with};
+ghost use Rattle.xdr_grammar.specs.steps.Parsing.{left, Reads, Defines};
 
+use crate::misread::Misread;
 use crate::outline::{Part, Procedure, Program, Version};
 use crate::reading::{MAX_DEPTH, Parser};
-use xdr_tokens::{Fault, Keyword, Mark};
+use xdr_tokens::{Keyword, Mark};
 
 impl<'t, 'a> Parser<'t, 'a> {
     /// The type of an argument or a result.
-    #[tactic(auto, unfolding(crate::specs::Reading::passed_with))]
-    fn passed(&mut self) -> Result<Part<'a>, Fault>
+    #[tactic(auto, unfolding(crate::specs::steps::Reading::passed_with))]
+    fn passed(&mut self) -> Result<Part<'a>, Misread>
         ensures { Reads part_of result (passed_with (specifier_at 32)) self.old self.new }
     {
         if self.word(Keyword::String) {
@@ -21,8 +23,8 @@ impl<'t, 'a> Parser<'t, 'a> {
     }
 
     /// An argument, and whether another one follows.
-    #[tactic(auto, unfolding(crate::specs::Reading::argument_with))]
-    fn argument(&mut self) -> Result<(Part<'a>, bool), Fault>
+    #[tactic(auto, unfolding(crate::specs::steps::Reading::argument_with))]
+    fn argument(&mut self) -> Result<(Part<'a>, bool), Misread>
         ensures { Reads (λ x. (part_of x.0, x.1)) result (argument_with (specifier_at 32)) self.old self.new }
     {
         let part = self.passed()?;
@@ -31,9 +33,10 @@ impl<'t, 'a> Parser<'t, 'a> {
     }
 
     /// The arguments of a procedure that has some, and their `)`.
-    #[tactic(auto, unfolding(crate::specs::Reading::repeat))]
-    fn some_arguments(&mut self) -> Result<Vec<Part<'a>>, Fault>
-        ensures { Reads (λ x. map part_of x.items) result (repeat (argument_with (specifier_at 32)) (length (left self.old))) self.old self.new }
+    #[tactic(auto, unfolding(crate::specs::steps::Reading::repeat))]
+    fn some_arguments(&mut self) -> Result<Vec<Part<'a>>, Misread>
+        ensures { Reads (λ x. map part_of x.items) result
+            (repeat (argument_with (specifier_at 32)) (length (left self.old))) self.old self.new }
     {
         let mut arguments = Vec::new(self.alloc);
         for _ in 0..self.rest.len() {
@@ -47,8 +50,8 @@ impl<'t, 'a> Parser<'t, 'a> {
     }
 
     /// The arguments of a procedure and their `)`.
-    #[tactic(auto, unfolding(crate::specs::Reading::arguments_with))]
-    fn arguments(&mut self) -> Result<Vec<Part<'a>>, Fault>
+    #[tactic(auto, unfolding(crate::specs::steps::Reading::arguments_with))]
+    fn arguments(&mut self) -> Result<Vec<Part<'a>>, Misread>
         ensures { Reads (λ x. map part_of x.items) result (arguments_with (specifier_at 32)) self.old self.new }
     {
         if self.word(Keyword::Void) {
@@ -59,8 +62,8 @@ impl<'t, 'a> Parser<'t, 'a> {
     }
 
     /// The result of a procedure.
-    #[tactic(auto, unfolding(crate::specs::Reading::result_with))]
-    fn result(&mut self) -> Result<Option<Part<'a>>, Fault>
+    #[tactic(auto, unfolding(crate::specs::steps::Reading::result_with))]
+    fn result(&mut self) -> Result<Option<Part<'a>>, Misread>
         ensures { Reads (λ x. option_map part_of x) result (result_with (specifier_at 32)) self.old self.new }
     {
         if self.word(Keyword::Void) {
@@ -71,8 +74,8 @@ impl<'t, 'a> Parser<'t, 'a> {
     }
 
     /// A procedure, and whether another one follows.
-    #[tactic(auto, unfolding(crate::specs::Reading::procedure_with))]
-    fn procedure(&mut self) -> Result<(Procedure<'a>, bool), Fault>
+    #[tactic(auto, unfolding(crate::specs::steps::Reading::procedure_with))]
+    fn procedure(&mut self) -> Result<(Procedure<'a>, bool), Misread>
         ensures { Reads (λ x. (procedure_of x.0, x.1)) result (procedure_with (specifier_at 32)) self.old self.new }
     {
         let result = self.result()?;
@@ -91,9 +94,10 @@ impl<'t, 'a> Parser<'t, 'a> {
     }
 
     /// The procedures of a version and their `}`.
-    #[tactic(auto, unfolding(crate::specs::Reading::repeat))]
-    fn procedures(&mut self) -> Result<Vec<Procedure<'a>>, Fault>
-        ensures { Reads (λ x. map procedure_of x.items) result (repeat (procedure_with (specifier_at 32)) (length (left self.old))) self.old self.new }
+    #[tactic(auto, unfolding(crate::specs::steps::Reading::repeat))]
+    fn procedures(&mut self) -> Result<Vec<Procedure<'a>>, Misread>
+        ensures { Reads (λ x. map procedure_of x.items) result
+            (repeat (procedure_with (specifier_at 32)) (length (left self.old))) self.old self.new }
     {
         let mut procedures = Vec::new(self.alloc);
         for _ in 0..self.rest.len() {
@@ -107,8 +111,8 @@ impl<'t, 'a> Parser<'t, 'a> {
     }
 
     /// A version, and whether another one follows.
-    #[tactic(auto, unfolding(crate::specs::Reading::version_with))]
-    fn version(&mut self) -> Result<(Version<'a>, bool), Fault>
+    #[tactic(auto, unfolding(crate::specs::steps::Reading::version_with))]
+    fn version(&mut self) -> Result<(Version<'a>, bool), Misread>
         ensures { Reads (λ x. (version_of x.0, x.1)) result (version_with (specifier_at 32)) self.old self.new }
     {
         self.expect_word(Keyword::Version)?;
@@ -126,9 +130,10 @@ impl<'t, 'a> Parser<'t, 'a> {
     }
 
     /// The versions of a program and their `}`.
-    #[tactic(auto, unfolding(crate::specs::Reading::repeat))]
-    fn versions(&mut self) -> Result<Vec<Version<'a>>, Fault>
-        ensures { Reads (λ x. map version_of x.items) result (repeat (version_with (specifier_at 32)) (length (left self.old))) self.old self.new }
+    #[tactic(auto, unfolding(crate::specs::steps::Reading::repeat))]
+    fn versions(&mut self) -> Result<Vec<Version<'a>>, Misread>
+        ensures { Reads (λ x. map version_of x.items) result
+            (repeat (version_with (specifier_at 32)) (length (left self.old))) self.old self.new }
     {
         let mut versions = Vec::new(self.alloc);
         for _ in 0..self.rest.len() {
@@ -142,8 +147,8 @@ impl<'t, 'a> Parser<'t, 'a> {
     }
 
     /// What follows `program`.
-    #[tactic(auto, unfolding(crate::specs::Reading::program_with))]
-    pub(crate) fn program(&mut self) -> Result<(), Fault>
+    #[tactic(auto, unfolding(crate::specs::steps::Reading::program_with))]
+    pub(crate) fn program(&mut self) -> Result<(), Misread>
         ensures { Defines result (program_with (specifier_at 32)) self.old self.new }
     {
         let name = self.name()?;

@@ -1,16 +1,18 @@
-// Reading definitions from their tokens, from left to right.
-ghost use Rattle.std.specs.Prelude.{◌≡◌, true, false, Some, None, IfOk};
+//! Reading definitions from their tokens, from left to right.
+ghost use Rattle.std.specs.Prelude.{◌≡◌, true, false, Some, None, IfOk, IfErr};
 ghost use Rattle.xdr_tokens.specs.Tokens.{lexemes};
 ghost use Rattle.xdr_grammar.specs.Outline.{Outline as OutlineSpec};
 ghost use Rattle.xdr_grammar.specs.View.{outline_of};
-ghost use Rattle.xdr_tokens.specs.Fails.{Gives};
-ghost use Rattle.xdr_grammar.specs.Reading.{after_word, after_sign, either_sign};
+ghost use Rattle.xdr_tokens.specs.Fails as fails;
+ghost use Rattle.xdr_grammar.specs.steps.Reading.{after_word, after_sign, either_sign};
 ghost use Rattle.xdr_grammar.specs.Spelled.{IsOutline};
-ghost use Rattle.xdr_grammar.specs.Parsing.{left, so_far, Takes, place_in};
+ghost use Rattle.xdr_grammar.specs.Misreadings.{IsGrammarFault};
+ghost use Rattle.xdr_grammar.specs.steps.Parsing.{left, so_far, Gives, Takes, place_in};
 
+use crate::misread::{Misplaced, Misread, fault_of};
 use crate::outline::Outline;
 use std::alloc::Global;
-use xdr_tokens::{Fault, Keyword, Mark, Token, Wrong};
+use xdr_tokens::{Fault, Keyword, Mark, Token};
 
 /// How many bodies of structs, unions and enums may stand inside one another.
 pub(crate) const MAX_DEPTH: u32 = 32;
@@ -39,24 +41,24 @@ impl<'t, 'a> Parser<'t, 'a> {
     }
 
     /// The token in front is wrong.
-    pub(crate) fn refused(&self, wrong: Wrong) -> Fault
-        ensures { result ≡ Fault.Refused wrong (place_in self.now.rest.now) }
+    pub(crate) fn refused(&self, why: Misplaced) -> Misread
+        ensures { result ≡ Misread.Token why (place_in self.now.rest.now) }
     {
-        Fault::Refused {
-            wrong,
+        Misread::Token {
+            why,
             left: self.here(),
         }
     }
 
     /// The token in front can't continue the grammar.
-    pub(crate) fn unexpected(&self) -> Fault
-        ensures { result ≡ Fault.Refused Wrong.Unexpected (place_in self.now.rest.now) }
+    pub(crate) fn unexpected(&self) -> Misread
+        ensures { result ≡ Misread.Token Misplaced.Unexpected (place_in self.now.rest.now) }
     {
-        self.refused(Wrong::Unexpected)
+        self.refused(Misplaced::Unexpected)
     }
 
     /// Takes the keyword, where it is in front.
-    #[tactic(auto, unfolding(crate::specs::Reading::after_word))]
+    #[tactic(auto, unfolding(crate::specs::steps::Reading::after_word))]
     pub(crate) fn word(&mut self, wanted: Keyword) -> bool
         ensures yes { result ≡ true → after_word wanted (left self.old) ≡ Some (left self.new) }
         ensures no { result ≡ false → after_word wanted (left self.old) ≡ None }
@@ -73,7 +75,7 @@ impl<'t, 'a> Parser<'t, 'a> {
     }
 
     /// Takes the mark, where it is in front.
-    #[tactic(auto, unfolding(crate::specs::Reading::after_sign))]
+    #[tactic(auto, unfolding(crate::specs::steps::Reading::after_sign))]
     pub(crate) fn sign(&mut self, wanted: Mark) -> bool
         ensures yes { result ≡ true → after_sign wanted (left self.old) ≡ Some (left self.new) }
         ensures no { result ≡ false → after_sign wanted (left self.old) ≡ None }
@@ -90,7 +92,7 @@ impl<'t, 'a> Parser<'t, 'a> {
     }
 
     /// Takes the mark, which has to be in front.
-    pub(crate) fn expect(&mut self, wanted: Mark) -> Result<(), Fault>
+    pub(crate) fn expect(&mut self, wanted: Mark) -> Result<(), Misread>
         ensures read { Gives (λ _. left self.new) result (after_sign wanted (left self.old)) }
         ensures made { so_far self.new ≡ so_far self.old }
     {
@@ -102,7 +104,7 @@ impl<'t, 'a> Parser<'t, 'a> {
     }
 
     /// Takes the keyword, which has to be in front.
-    pub(crate) fn expect_word(&mut self, wanted: Keyword) -> Result<(), Fault>
+    pub(crate) fn expect_word(&mut self, wanted: Keyword) -> Result<(), Misread>
         ensures read { Gives (λ _. left self.new) result (after_word wanted (left self.old)) }
         ensures made { so_far self.new ≡ so_far self.old }
     {
@@ -114,8 +116,8 @@ impl<'t, 'a> Parser<'t, 'a> {
     }
 
     /// Takes one of two marks, and says whether it is the first.
-    #[tactic(auto, unfolding(crate::specs::Reading::either_sign))]
-    pub(crate) fn either(&mut self, on: Mark, end: Mark) -> Result<bool, Fault>
+    #[tactic(auto, unfolding(crate::specs::steps::Reading::either_sign))]
+    pub(crate) fn either(&mut self, on: Mark, end: Mark) -> Result<bool, Misread>
         ensures read { Takes (λ x. x) result (either_sign on end) self.old self.new }
         ensures made { so_far self.new ≡ so_far self.old }
     {
@@ -137,7 +139,9 @@ pub fn read_outline<'a>(alloc: Global, tokens: &[Token<'a>]) -> Result<Outline<'
     // What is read are the tokens of definitions.
     ensures found { IfOk result (λ v. IsOutline (lexemes tokens.now) (outline_of v)) }
     // The tokens of all definitions are read, unless memory runs out.
-    ensures only { (v : OutlineSpec) → IsOutline (lexemes tokens.now) v → Gives outline_of result (Some v) }
+    ensures only { (v : OutlineSpec) → IsOutline (lexemes tokens.now) v → fails.Gives outline_of result (Some v) }
+    // A refusal is want of memory, or number 3, 4 or 12.
+    ensures refused { IfErr result (λ e. IsGrammarFault e) }
 {
     let mut parser = Parser {
         alloc,
@@ -150,7 +154,11 @@ pub fn read_outline<'a>(alloc: Global, tokens: &[Token<'a>]) -> Result<Outline<'
             programs: Vec::new(alloc),
         },
     };
-    parser.definitions()?;
-    let Parser { outline, .. } = parser;
-    Ok(outline)
+    match parser.definitions() {
+        Ok(()) => {
+            let Parser { outline, .. } = parser;
+            Ok(outline)
+        }
+        Err(misread) => Err(fault_of(misread)),
+    }
 }

@@ -1,17 +1,19 @@
-// Names, constants, sizes and the types that are there without a definition.
+//! Names, constants, sizes and the types that are there without a definition.
 ghost use Rattle.std.specs.Prelude.{◌≡◌, true, None, option_map};
 ghost use Rattle.xdr_grammar.specs.View.{late_of, part_of};
-ghost use Rattle.xdr_grammar.specs.Reading.{name_at, number_at, value_at, size_at, limit_at, numbered_at, basic_at};
-ghost use Rattle.xdr_grammar.specs.Parsing.{left, so_far, Takes};
+ghost use Rattle.xdr_grammar.specs.steps.Reading.{name_at, number_at, value_at, size_at, limit_at, numbered_at};
+ghost use Rattle.xdr_grammar.specs.steps.Reading.{basic_at};
+ghost use Rattle.xdr_grammar.specs.steps.Parsing.{left, so_far, Takes};
 
+use crate::misread::{Misplaced, Misread};
 use crate::outline::{Basic, Late, Name, Number, Part};
 use crate::reading::Parser;
-use xdr_tokens::{Fault, Keyword, Mark, Token, Wrong};
+use xdr_tokens::{Keyword, Mark, Token};
 
 impl<'t, 'a> Parser<'t, 'a> {
     /// The name in front.
-    #[tactic(auto, unfolding(crate::specs::Reading::name_at))]
-    pub(crate) fn name(&mut self) -> Result<Name<'a>, Fault>
+    #[tactic(auto, unfolding(crate::specs::steps::Reading::name_at))]
+    pub(crate) fn name(&mut self) -> Result<Name<'a>, Misread>
         ensures read { Takes (λ x. x.text.now) result name_at self.old self.new }
         ensures made { so_far self.new ≡ so_far self.old }
     {
@@ -25,8 +27,8 @@ impl<'t, 'a> Parser<'t, 'a> {
     }
 
     /// The constant in front.
-    #[tactic(auto, unfolding(crate::specs::Reading::number_at))]
-    fn number(&mut self) -> Result<Number, Fault>
+    #[tactic(auto, unfolding(crate::specs::steps::Reading::number_at))]
+    fn number(&mut self) -> Result<Number, Misread>
         ensures read { Takes (λ x. x.value) result number_at self.old self.new }
         ensures made { so_far self.new ≡ so_far self.old }
     {
@@ -43,8 +45,8 @@ impl<'t, 'a> Parser<'t, 'a> {
     }
 
     /// The value in front.
-    #[tactic(auto, unfolding(crate::specs::Reading::value_at))]
-    pub(crate) fn value(&mut self) -> Result<Late<'a>, Fault>
+    #[tactic(auto, unfolding(crate::specs::steps::Reading::value_at))]
+    pub(crate) fn value(&mut self) -> Result<Late<'a>, Misread>
         ensures read { Takes late_of result (value_at (so_far self.old)) self.old self.new }
         ensures made { so_far self.new ≡ so_far self.old }
     {
@@ -67,8 +69,8 @@ impl<'t, 'a> Parser<'t, 'a> {
     }
 
     /// A size and its closing bracket.
-    #[tactic(auto, unfolding(crate::specs::Reading::size_at))]
-    pub(crate) fn size(&mut self) -> Result<Late<'a>, Fault>
+    #[tactic(auto, unfolding(crate::specs::steps::Reading::size_at))]
+    pub(crate) fn size(&mut self) -> Result<Late<'a>, Misread>
         ensures read { Takes late_of result (size_at (so_far self.old)) self.old self.new }
         ensures made { so_far self.new ≡ so_far self.old }
     {
@@ -78,8 +80,8 @@ impl<'t, 'a> Parser<'t, 'a> {
     }
 
     /// What stands between `<` and `>`, and the `>`.
-    #[tactic(auto, unfolding(crate::specs::Reading::limit_at))]
-    pub(crate) fn limit(&mut self) -> Result<Option<Late<'a>>, Fault>
+    #[tactic(auto, unfolding(crate::specs::steps::Reading::limit_at))]
+    pub(crate) fn limit(&mut self) -> Result<Option<Late<'a>>, Misread>
         ensures read { Takes (λ x. option_map late_of x) result (limit_at (so_far self.old)) self.old self.new }
         ensures made { so_far self.new ≡ so_far self.old }
     {
@@ -92,8 +94,8 @@ impl<'t, 'a> Parser<'t, 'a> {
     }
 
     /// What stands between `=` and `;`, and both.
-    #[tactic(auto, unfolding(crate::specs::Reading::numbered_at))]
-    pub(crate) fn numbered(&mut self) -> Result<Number, Fault>
+    #[tactic(auto, unfolding(crate::specs::steps::Reading::numbered_at))]
+    pub(crate) fn numbered(&mut self) -> Result<Number, Misread>
         ensures read { Takes (λ x. x.value) result numbered_at self.old self.new }
         ensures made { so_far self.new ≡ so_far self.old }
     {
@@ -104,7 +106,7 @@ impl<'t, 'a> Parser<'t, 'a> {
     }
 
     /// The token in front is the word of a floating kind.
-    #[tactic(auto, unfolding(crate::specs::Reading::name_at))]
+    #[tactic(auto, unfolding(crate::specs::steps::Reading::name_at))]
     fn is_floating(&self) -> bool
         ensures { result ≡ true → name_at (left self.now) ≡ None }
     {
@@ -117,8 +119,8 @@ impl<'t, 'a> Parser<'t, 'a> {
     }
 
     /// A basic type or the name of a type.
-    #[tactic(auto, unfolding(crate::specs::Reading::basic_at))]
-    pub(crate) fn basic(&mut self) -> Result<Part<'a>, Fault>
+    #[tactic(auto, unfolding(crate::specs::steps::Reading::basic_at))]
+    pub(crate) fn basic(&mut self) -> Result<Part<'a>, Misread>
         ensures read { Takes part_of result basic_at self.old self.new }
         ensures made { so_far self.new ≡ so_far self.old }
     {
@@ -139,7 +141,7 @@ impl<'t, 'a> Parser<'t, 'a> {
             return Ok(Part::Basic(Basic::Bool));
         }
         if self.is_floating() {
-            return Err(self.refused(Wrong::FloatingKind));
+            return Err(self.refused(Misplaced::FloatingKind));
         }
         let name = self.name()?;
         Ok(Part::Named(name))

@@ -1,8 +1,10 @@
 -- A meaning with distinct names, in its parts.
-use Rattle.std.proofs.Common.{◌≡◌, ◌⊎◌, inl, inr, Bool, true, false, cond, Option, Some, None, refl, sym, ap, ◌∙◌, Result, Ok, Err, IfOk}
+use Rattle.std.proofs.Common.{◌≡◌, ◌⊎◌, inl, inr, Bool, true, false, cond, Option, Some, None, refl, sym, ap, ◌∙◌}
+use Rattle.std.proofs.Common.{Result, Ok, Err, IfOk}
 use Rattle.xdr_tokens.specs.declared.fault.Fault.{Fault}
 use Rattle.xdr_tokens.specs.declared.fault.Fault.TheVariants as fault
 use Rattle.xdr_tokens.specs.Fails.{Fails}
+use Rattle.xdr_tokens.proofs.Options.{chosen}
 use Rattle.xdr_types.specs.Faults.{IsWellFormed}
 use Rattle.xdr_types.specs.Sound.{IsSound}
 use Rattle.xdr_grammar.specs.Outline.{Outline}
@@ -11,11 +13,8 @@ use Rattle.xdr_lang.specs.Distinct.{has_twice}
 use Rattle.xdr_lang.specs.Means.{IsMeant}
 use Rattle.xdr_lang.specs.Views.{declared_of}
 use Rattle.xdr_lang.specs.declared.declarations.Declared.{Declared as Made}
-use Rattle.xdr_lang.specs.Meaning.{meaning, distinct_meaning}
-
-chosen : {A : Type 0} (b : Bool) (x y z : A) → cond b x y ≡ z → ((b ≡ true) × (x ≡ z)) ⊎ ((b ≡ false) × (y ≡ z))
-chosen true x y z e = inl (refl, e)
-chosen false x y z e = inr (refl, e)
+use Rattle.xdr_lang.specs.Meaning.{meaning}
+use Rattle.xdr_lang.specs.steps.Meaning.{distinct_meaning}
 
 none_is_not : {A : Type 0} (x : A) → None ≡ Some x → ⊥
 none_is_not x e = absurd cc
@@ -32,13 +31,16 @@ pub joined : (o : Outline) (d : Declared) → has_twice o ≡ false → meaning 
 unfolding distinct_meaning
 joined o d once e = rw once e
 
-pub found_meant : (o : Outline) (l : Declared) (r : Result Made Fault) → distinct_meaning o ≡ Some l → IfOk r (λ v. declared_of v ≡ l) → IfOk r (λ v. IsWellFormed (declared_of v).schema) → IfOk r (λ v. IsSound (declared_of v).schema.kinds) → IfOk r (λ v. IsMeant o (declared_of v))
+pub found_meant : (o : Outline) (l : Declared) (r : Result Made Fault) → distinct_meaning o ≡ Some l
+    → IfOk r (λ v. declared_of v ≡ l) → IfOk r (λ v. IsWellFormed (declared_of v).schema)
+    → IfOk r (λ v. IsSound (declared_of v).schema.kinds) → IfOk r (λ v. IsMeant o (declared_of v))
 found_meant o l (Ok v) e same wf so =
     let p = parted o l e in
     record { distinct = p.0; meant = p.1 ∙ ap (λ (x : Declared). Some x) (sym same); well_formed = wf; sound = so }
 found_meant o l (Err f) e same wf so = tt
 
 -- where something is due, it is refused for want of memory alone, and that is told
-pub fails_on : {A : Type 0} (e f : Fault) (due : Option A) (d : A) → due ≡ Some d → Fails e due → (e ≡ fault.NoMemory → f ≡ fault.NoMemory) → Fails f (Some d)
+pub fails_on : {A : Type 0} (e f : Fault) (due : Option A) (d : A) → due ≡ Some d → Fails e due
+    → (e ≡ fault.NoMemory → f ≡ fault.NoMemory) → Fails f (Some d)
 fails_on fault.NoMemory f due d is h told = rw (told refl) tt
 fails_on (fault.Refused wrong left) f due d is h told = absurd (none_is_not d (sym h ∙ is))

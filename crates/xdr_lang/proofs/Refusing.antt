@@ -1,10 +1,10 @@
 -- What is not refused, and what nothing is due for.
-use Rattle.std.proofs.Common.{◌≡◌, inl, inr, ℕ, Option, Some, None, refl, ap, arith, sym, ◌∙◌}
+use Rattle.std.proofs.Common.{◌≤◌, lit≤, ◌≡◌, inl, inr, ℕ, Option, Some, None, refl, ap, arith, sym, ◌∙◌}
 use Rattle.xdr_tokens.specs.declared.fault.Fault.{Fault}
 use Rattle.xdr_tokens.specs.declared.fault.Fault.TheVariants as fault
 use Rattle.xdr_tokens.specs.Fails.{Fails}
 use Rattle.xdr_types.specs.Form.{Lists}
-use Rattle.xdr_types.specs.Faults.{AreFlawless, IsWellFormed, kind_flaw_at, name_flaw_at}
+use Rattle.xdr_types.specs.Faults.{fault_number, AreFlawless, IsWellFormed, kind_flaw_at, name_flaw_at}
 use Rattle.xdr_types.specs.Sound.{IsSound}
 use Rattle.xdr_types.specs.Refused.{IsFirstFlaw, IsFirstFault, IsRefused}
 use Rattle.xdr_types.specs.declared.fault.Flaw.{Flaw}
@@ -24,11 +24,32 @@ no_first s e (inr (inr (inl name))) well sound = no_flaw (name_flaw_at s.kinds s
 no_first s e (inr (inr (inr low))) well sound = low.2.none (sound e.place low.2.within)
 
 -- lists that are well formed and sound are refused for want of memory alone
-pub only_memory : (s : Lists) (e : SchemaFault) → IsWellFormed s → IsSound s.kinds → IsRefused s e → e.why ≡ flaw.NoMemory
+pub only_memory : (s : Lists) (e : SchemaFault) → IsWellFormed s → IsSound s.kinds → IsRefused s e
+    → e.why ≡ flaw.NoMemory
 only_memory s e ok sound (inl m) = ap (λ (x : SchemaFault). x.why) m
 only_memory s e ok sound (inr first) = absurd (no_first s e first ok sound)
 
 -- what is refused, but not for want of memory, is not due
-pub refused_is_not_due : {A : Type 0} (e : Fault) (n : ℕ) (a : A) → (e ≡ fault.NoMemory → n ≡ 13) → (n ≡ 13 → ⊥) → Fails e (Some a) → ⊥
+pub refused_is_not_due : {A : Type 0} (e : Fault) (n : ℕ) (a : A) → (e ≡ fault.NoMemory → n ≡ 13) → (n ≡ 13 → ⊥)
+    → Fails e (Some a) → ⊥
 refused_is_not_due fault.NoMemory n a told not h = not (told refl)
 refused_is_not_due (fault.Refused wrong left) n a told not h = absurd cc
+
+-- what is refused in place of one thing is refused in place of another
+pub fails_same : {A B : Type 0} (e : Fault) (a : A) (b : B) → Fails e (Some a) → Fails e (Some b)
+fails_same fault.NoMemory a b h = tt
+fails_same (fault.Refused wrong left) a b h = absurd cc
+
+-- the faults of schemas are numbered from 1 to 11
+pub flaw_within : (f : Flaw) → (1 ≤ fault_number f) × (fault_number f ≤ 11)
+flaw_within flaw.UnknownKind = (lit≤ tt, lit≤ tt)
+flaw_within flaw.ZeroSize = (lit≤ tt, lit≤ tt)
+flaw_within flaw.VoidMember = (lit≤ tt, lit≤ tt)
+flaw_within flaw.BadDiscriminant = (lit≤ tt, lit≤ tt)
+flaw_within flaw.CaseTwice = (lit≤ tt, lit≤ tt)
+flaw_within flaw.CaseNotLegal = (lit≤ tt, lit≤ tt)
+flaw_within flaw.NoFiniteValue = (lit≤ tt, lit≤ tt)
+flaw_within flaw.TooManyKinds = (lit≤ tt, lit≤ tt)
+flaw_within flaw.EmptyList = (lit≤ tt, lit≤ tt)
+flaw_within flaw.NameTwice = (lit≤ tt, lit≤ tt)
+flaw_within flaw.NoMemory = (lit≤ tt, lit≤ tt)

@@ -1,7 +1,10 @@
 -- What the tables of names hold, as they grow and as they are asked.
-use Rattle.std.proofs.Common.{◌≡◌, ◌≤◌, ◌<◌, ◌+◌, ◌-◌, ℕ, zero, suc, ℤ, Bool, true, false, cond, nat_lt, List, [], ◌∷◌, ◌++◌, length, take, Option, Some, None, option_map, is_some, refl, sym, ap, subst, ◌∙◌, arith}
+use Rattle.std.proofs.Common.{◌≡◌, ◌≤◌, ◌<◌, ◌+◌, ◌-◌, ℕ, zero, suc, ℤ, Bool, true, false, cond, nat_lt, List, [], ◌∷◌}
+use Rattle.std.proofs.Common.{◌++◌, length, take, Option, Some, None, option_map, is_some, refl, sym, ap, subst, ◌∙◌}
+use Rattle.std.proofs.Common.{arith}
 use Rattle.std.proofs.lemmas.Bool.{lt-ltb, le-ltb}
 use Rattle.std.specs.BTreeMap.{BTreeMap, Updates, IsUnchanged, IsEmpty, is_at}
+use Rattle.std.specs.BTreeSet.{BTreeSet}
 use Rattle.std.specs.Map.{lookup}
 use Rattle.std.specs.Ordering.{nat_cmp, is_eq}
 use Rattle.std.specs.Cmp.Lexicographic.{slice_cmp}
@@ -12,42 +15,52 @@ use denote.Ref.{Bor}
 use Rattle.xdr_grammar.specs.declared.outline.Part.{Part}
 use Rattle.xdr_grammar.specs.View.{part_of}
 use Rattle.xdr_grammar.specs.Outline as out
-use Rattle.xdr_grammar.proofs.Leaves.{some_is}
+use Rattle.xdr_tokens.proofs.Options.{some_is}
 use Rattle.xdr_lang.specs.Declarations.{or_else}
 use Rattle.xdr_lang.specs.LookUp.{◌>>=◌, Known, known, type_named, place_with, named_place}
-use Rattle.xdr_lang.specs.Tables.{at_name, first_named, HasFirst, HasParts, IsPlacedAt, HasPlaces}
+use Rattle.xdr_lang.specs.steps.Tables.{at_name, first_named, HasFirst, HasParts, IsPlacedAt, HasPlaces, HasNoPlaces}
+use Rattle.xdr_lang.specs.steps.Tables.{IsIn, key_texts, leads_into, stays_in, all_stay}
+use Rattle.xdr_lang.specs.Distinct.{has_name}
 use Rattle.xdr_lang.proofs.Sets.{names_cmp}
 
 -- ---- one more name in a map
 
 -- what a map has at each name after an insertion
-pub at_more : {X : Type 0} (m n : BTreeMap (Bor (List ℕ)) X) (k : Bor (List ℕ)) (v : X) → Updates names_cmp m n k (Some v) → (q : List ℕ) → at_name q n ≡ cond (bytes_eq k.now q) (Some v) (at_name q m)
+pub at_more : {X : Type 0} (m n : BTreeMap (Bor (List ℕ)) X) (k : Bor (List ℕ)) (v : X)
+    → Updates names_cmp m n k (Some v) → (q : List ℕ) → at_name q n ≡ cond (bytes_eq k.now q) (Some v) (at_name q m)
 at_more {X = X} m n k v u q =
-    let here : at_name q n ≡ cond (is_eq (slice_cmp nat_cmp k.now q)) (Some v) (at_name q m) = u.0 (record { ref_ptr = (0, 0); now = q }) in
+    let here : at_name q n ≡ cond (is_eq (slice_cmp nat_cmp k.now q)) (Some v) (at_name q m) = u.0
+    (record { ref_ptr = (0, 0); now = q }) in
     here ∙ ap (λ (b : Bool). cond b (Some v) (at_name q m)) (is_eq-slice_cmp k.now q)
 
-pub at_same : {X : Type 0} (m n : BTreeMap (Bor (List ℕ)) X) → IsUnchanged m n → (q : List ℕ) → at_name q n ≡ at_name q m
-at_same {X = X} m n e q = ap (λ (es : List (Bor (List ℕ) × X)). lookup (is_at (λ (k : Bor (List ℕ)). slice_cmp nat_cmp q k.now)) es) e
+pub at_same : {X : Type 0} (m n : BTreeMap (Bor (List ℕ)) X) → IsUnchanged m n → (q : List ℕ)
+    → at_name q n ≡ at_name q m
+at_same {X = X} m n e q = ap
+    (λ (es : List (Bor (List ℕ) × X)). lookup (is_at (λ (k : Bor (List ℕ)). slice_cmp nat_cmp q k.now)) es) e
 
 pub at_empty : {X : Type 0} (m : BTreeMap (Bor (List ℕ)) X) → IsEmpty m → (q : List ℕ) → at_name q m ≡ None
-at_empty {X = X} m e q = ap (λ (es : List (Bor (List ℕ) × X)). lookup (is_at (λ (k : Bor (List ℕ)). slice_cmp nat_cmp q k.now)) es) e
+at_empty {X = X} m e q = ap
+    (λ (es : List (Bor (List ℕ) × X)). lookup (is_at (λ (k : Bor (List ℕ)). slice_cmp nat_cmp q k.now)) es) e
 
 none_from : {A : Type 0} (o : Option A) → is_some o ≡ false → o ≡ None
 none_from None e = refl
 none_from (Some a) e = absurd cc
 
 -- a new entry comes after all that are there
-picked : {A : Type 0} (b : Bool) (f : Option A) (v : A) → (b ≡ true → f ≡ None) → cond b (Some v) f ≡ or_else f (cond b (Some v) None)
+picked : {A : Type 0} (b : Bool) (f : Option A) (v : A) → (b ≡ true → f ≡ None)
+    → cond b (Some v) f ≡ or_else f (cond b (Some v) None)
 picked true f v h = rw (h refl) refl
 picked false None v h = refl
 picked false (Some a) v h = refl
 
-kept : {A : Type 0} (b : Bool) (f : Option A) (v : A) → (b ≡ true → is_some f ≡ true) → f ≡ or_else f (cond b (Some v) None)
+kept : {A : Type 0} (b : Bool) (f : Option A) (v : A) → (b ≡ true → is_some f ≡ true)
+    → f ≡ or_else f (cond b (Some v) None)
 kept b (Some a) v h = refl
 kept false None v h = refl
 kept true None v h = let no : false ≡ true = h refl in absurd cc
 
-or_else_cond : {A : Type 0} (b : Bool) (s x y : Option A) (v : A) → x ≡ or_else s y → cond b (Some v) x ≡ or_else (cond b (Some v) s) y
+or_else_cond : {A : Type 0} (b : Bool) (s x y : Option A) (v : A) → x ≡ or_else s y
+    → cond b (Some v) x ≡ or_else (cond b (Some v) s) y
 or_else_cond true s x y v e = refl
 or_else_cond false s x y v e = e
 
@@ -56,37 +69,49 @@ same_text a b e = (bytes_eq-Decides a b).0 e
 
 -- ---- constants
 
-first_more : (q : List ℕ) (ks : List Known) (i : ℕ) (k : Known) → first_named q i (ks ++ k ∷ []) ≡ or_else (first_named q i ks) (cond (bytes_eq k.name q) (Some (i + length ks, k.value, k.by_const)) None)
+first_more : (q : List ℕ) (ks : List Known) (i : ℕ) (k : Known)
+    → first_named q i (ks ++ k ∷ []) ≡ or_else (first_named q i ks)
+    (cond (bytes_eq k.name q) (Some (i + length ks, k.value, k.by_const)) None)
 unfolding first_named
 first_more q [] i k =
     let z : i ≡ i + 0 = omega arith in
     ap (λ (p : ℕ). cond (bytes_eq k.name q) (Some (p, k.value, k.by_const)) None) z
 first_more q (x ∷ ks) i k =
     let z : suc i + length ks ≡ i + suc (length ks) = omega arith in
-    or_else_cond (bytes_eq x.name q) (first_named q (suc i) ks) (first_named q (suc i) (ks ++ k ∷ [])) (cond (bytes_eq k.name q) (Some (i + suc (length ks), k.value, k.by_const)) None) (i, x.value, x.by_const)
-    (first_more q ks (suc i) k ∙ ap (λ (p : ℕ). or_else (first_named q (suc i) ks) (cond (bytes_eq k.name q) (Some (p, k.value, k.by_const)) None)) z)
+    or_else_cond (bytes_eq x.name q) (first_named q (suc i) ks) (first_named q (suc i) (ks ++ k ∷ []))
+    (cond (bytes_eq k.name q) (Some (i + suc (length ks), k.value, k.by_const)) None) (i, x.value, x.by_const)
+    (first_more q ks (suc i) k
+    ∙ ap (λ (p : ℕ). or_else (first_named q (suc i) ks)
+    (cond (bytes_eq k.name q) (Some (p, k.value, k.by_const)) None)) z)
 
-first_pushed : (q : List ℕ) (ks : List Known) (k : Known) → first_named q 0 (ks ++ k ∷ []) ≡ or_else (first_named q 0 ks) (cond (bytes_eq k.name q) (Some (length ks, k.value, k.by_const)) None)
+first_pushed : (q : List ℕ) (ks : List Known) (k : Known)
+    → first_named q 0 (ks ++ k ∷ []) ≡ or_else (first_named q 0 ks)
+    (cond (bytes_eq k.name q) (Some (length ks, k.value, k.by_const)) None)
 first_pushed q ks k =
     let z : 0 + length ks ≡ length ks = omega arith in
-    first_more q ks 0 k ∙ ap (λ (p : ℕ). or_else (first_named q 0 ks) (cond (bytes_eq k.name q) (Some (p, k.value, k.by_const)) None)) z
+    first_more q ks 0 k ∙ ap
+    (λ (p : ℕ). or_else (first_named q 0 ks) (cond (bytes_eq k.name q) (Some (p, k.value, k.by_const)) None)) z
 
 pub no_constants : (m : BTreeMap (Bor (List ℕ)) (ℕ × ℤ × Bool)) → IsEmpty m → HasFirst m []
 unfolding first_named
 no_constants m e = record { finds = λ q. at_empty m e q }
 
-pub new_constant : (m n : BTreeMap (Bor (List ℕ)) (ℕ × ℤ × Bool)) (ks : List Known) (k : Known) (key : Bor (List ℕ)) → HasFirst m ks → key.now ≡ k.name → is_some (at_name key.now m) ≡ false → Updates names_cmp m n key (Some (length ks, k.value, k.by_const)) → HasFirst n (ks ++ k ∷ [])
+pub new_constant : (m n : BTreeMap (Bor (List ℕ)) (ℕ × ℤ × Bool)) (ks : List Known) (k : Known) (key : Bor (List ℕ))
+    → HasFirst m ks → key.now ≡ k.name → is_some (at_name key.now m) ≡ false
+    → Updates names_cmp m n key (Some (length ks, k.value, k.by_const)) → HasFirst n (ks ++ k ∷ [])
 new_constant m n ks k key has same not u = record {
   finds = λ q.
       let absent : bytes_eq k.name q ≡ true → first_named q 0 ks ≡ None = λ e.
       let there : key.now ≡ q = same ∙ same_text k.name q e in
       sym (has.finds q) ∙ (rw (← there) (none_from (at_name key.now m) not)) in
       at_more m n key (length ks, k.value, k.by_const) u q
-      ∙ (rw (same, has.finds q) (picked (bytes_eq k.name q) (first_named q 0 ks) (length ks, k.value, k.by_const) absent))
+      ∙ (rw (same, has.finds q)
+      (picked (bytes_eq k.name q) (first_named q 0 ks) (length ks, k.value, k.by_const) absent))
       ∙ sym (first_pushed q ks k);
 }
 
-pub old_constant : (m : BTreeMap (Bor (List ℕ)) (ℕ × ℤ × Bool)) (ks : List Known) (k : Known) (key : Bor (List ℕ)) → HasFirst m ks → key.now ≡ k.name → is_some (at_name key.now m) ≡ true → HasFirst m (ks ++ k ∷ [])
+pub old_constant : (m : BTreeMap (Bor (List ℕ)) (ℕ × ℤ × Bool)) (ks : List Known) (k : Known) (key : Bor (List ℕ))
+    → HasFirst m ks → key.now ≡ k.name → is_some (at_name key.now m) ≡ true → HasFirst m (ks ++ k ∷ [])
 old_constant m ks k key has same there = record {
   finds = λ q.
       let present : bytes_eq k.name q ≡ true → is_some (first_named q 0 ks) ≡ true = λ e.
@@ -98,7 +123,8 @@ old_constant m ks k key has same there = record {
       ∙ sym (first_pushed q ks k);
 }
 
-pub same_constants : (m n : BTreeMap (Bor (List ℕ)) (ℕ × ℤ × Bool)) (ks : List Known) → HasFirst m ks → IsUnchanged m n → HasFirst n ks
+pub same_constants : (m n : BTreeMap (Bor (List ℕ)) (ℕ × ℤ × Bool)) (ks : List Known) → HasFirst m ks → IsUnchanged m n
+    → HasFirst n ks
 same_constants m n ks has e = record { finds = λ q. at_same m n e q ∙ has.finds q }
 
 -- the constant, where it is among so many
@@ -111,16 +137,20 @@ not_below i b h = le-ltb i b h
 pub is_below : (i b : ℕ) → i < b → nat_lt i b ≡ true
 is_below i b h = lt-ltb i b h
 
-none_cons : (t : Bool) (f : Option (ℕ × ℤ × Bool)) (i : ℕ) (x : Known) (b : ℕ) → b ≤ i → (f >>= within b) ≡ None → (cond t (Some (i, x.value, x.by_const)) f >>= within b) ≡ None
+none_cons : (t : Bool) (f : Option (ℕ × ℤ × Bool)) (i : ℕ) (x : Known) (b : ℕ) → b ≤ i → (f >>= within b) ≡ None
+    → (cond t (Some (i, x.value, x.by_const)) f >>= within b) ≡ None
 none_cons true f i x b h e = rw (not_below i b h) refl
 none_cons false f i x b h e = e
 
 none_within : (q : List ℕ) (ks : List Known) (i b : ℕ) → b ≤ i → (first_named q i ks >>= within b) ≡ None
 unfolding first_named
 none_within q [] i b h = refl
-none_within q (x ∷ ks) i b h = none_cons (bytes_eq x.name q) (first_named q (suc i) ks) i x b h (none_within q ks (suc i) b (omega arith))
+none_within q (x ∷ ks) i b h = none_cons (bytes_eq x.name q) (first_named q (suc i) ks) i x b h
+    (none_within q ks (suc i) b (omega arith))
 
-known_cons : (t : Bool) (k : Option (ℤ × Bool)) (f : Option (ℕ × ℤ × Bool)) (i : ℕ) (x : Known) (b : ℕ) → i < b → k ≡ (f >>= within b) → cond t (Some (x.value, x.by_const)) k ≡ (cond t (Some (i, x.value, x.by_const)) f >>= within b)
+known_cons : (t : Bool) (k : Option (ℤ × Bool)) (f : Option (ℕ × ℤ × Bool)) (i : ℕ) (x : Known) (b : ℕ) → i < b
+    → k ≡ (f >>= within b)
+    → cond t (Some (x.value, x.by_const)) k ≡ (cond t (Some (i, x.value, x.by_const)) f >>= within b)
 known_cons true k f i x b h e = rw (is_below i b h) refl
 known_cons false k f i x b h e = e
 
@@ -131,21 +161,27 @@ known_within q [] i (suc b) = refl
 known_within q (x ∷ ks) i zero = sym (none_within q (x ∷ ks) i (i + 0) (omega arith))
 known_within q (x ∷ ks) i (suc b) =
     let z : suc i + b ≡ i + suc b = omega arith in
-    known_cons (bytes_eq x.name q) (known q (take b ks)) (first_named q (suc i) ks) i x (i + suc b) (omega arith) (known_within q ks (suc i) b ∙ ap (λ (p : ℕ). first_named q (suc i) ks >>= within p) z)
+    known_cons (bytes_eq x.name q) (known q (take b ks)) (first_named q (suc i) ks) i x (i + suc b) (omega arith)
+    (known_within q ks (suc i) b ∙ ap (λ (p : ℕ). first_named q (suc i) ks >>= within p) z)
 
-pub known_before : (m : BTreeMap (Bor (List ℕ)) (ℕ × ℤ × Bool)) (ks : List Known) (q : List ℕ) (before : ℕ) → HasFirst m ks → (at_name q m >>= within before) ≡ known q (take before ks)
+pub known_before : (m : BTreeMap (Bor (List ℕ)) (ℕ × ℤ × Bool)) (ks : List Known) (q : List ℕ) (before : ℕ)
+    → HasFirst m ks → (at_name q m >>= within before) ≡ known q (take before ks)
 known_before m ks q before has =
     let z : before ≡ 0 + before = omega arith in
-    ap (λ (o : Option (ℕ × ℤ × Bool)). o >>= within before) (has.finds q) ∙ ap (λ (p : ℕ). first_named q 0 ks >>= within p) z ∙ sym (known_within q ks 0 before)
+    ap (λ (o : Option (ℕ × ℤ × Bool)). o >>= within before) (has.finds q)
+    ∙ ap (λ (p : ℕ). first_named q 0 ks >>= within p) z ∙ sym (known_within q ks 0 before)
 
 -- ---- types
 
-named_more : (q : List ℕ) (ts : List out.Field) (t : out.Field) → type_named q (ts ++ t ∷ []) ≡ or_else (type_named q ts) (cond (bytes_eq t.name q) (Some t.part) None)
+named_more : (q : List ℕ) (ts : List out.Field) (t : out.Field)
+    → type_named q (ts ++ t ∷ []) ≡ or_else (type_named q ts) (cond (bytes_eq t.name q) (Some t.part) None)
 unfolding type_named
 named_more q [] t = refl
-named_more q (x ∷ ts) t = or_else_cond (bytes_eq x.name q) (type_named q ts) (type_named q (ts ++ t ∷ [])) (cond (bytes_eq t.name q) (Some t.part) None) x.part (named_more q ts t)
+named_more q (x ∷ ts) t = or_else_cond (bytes_eq x.name q) (type_named q ts) (type_named q (ts ++ t ∷ []))
+    (cond (bytes_eq t.name q) (Some t.part) None) x.part (named_more q ts t)
 
-map_cond : {A B : Type 0} (f : A → B) (b : Bool) (v : A) (o : Option A) → option_map f (cond b (Some v) o) ≡ cond b (Some (f v)) (option_map f o)
+map_cond : {A B : Type 0} (f : A → B) (b : Bool) (v : A) (o : Option A)
+    → option_map f (cond b (Some v) o) ≡ cond b (Some (f v)) (option_map f o)
 map_cond f true v o = refl
 map_cond f false v o = refl
 
@@ -157,7 +193,9 @@ pub no_parts : (m : BTreeMap (Bor (List ℕ)) Part) → IsEmpty m → HasParts m
 unfolding type_named
 no_parts m e = record { finds = λ q. ap (λ (o : Option Part). option_map part_of o) (at_empty m e q) }
 
-pub new_part : (m n : BTreeMap (Bor (List ℕ)) Part) (ts : List out.Field) (t : out.Field) (key : Bor (List ℕ)) (p : Part) → HasParts m ts → key.now ≡ t.name → part_of p ≡ t.part → is_some (at_name key.now m) ≡ false → Updates names_cmp m n key (Some p) → HasParts n (ts ++ t ∷ [])
+pub new_part : (m n : BTreeMap (Bor (List ℕ)) Part) (ts : List out.Field) (t : out.Field) (key : Bor (List ℕ))
+    (p : Part) → HasParts m ts → key.now ≡ t.name → part_of p ≡ t.part → is_some (at_name key.now m) ≡ false
+    → Updates names_cmp m n key (Some p) → HasParts n (ts ++ t ∷ [])
 new_part m n ts t key p has same is not u = record {
   finds = λ q.
       let absent : bytes_eq t.name q ≡ true → type_named q ts ≡ None = λ e.
@@ -170,7 +208,8 @@ new_part m n ts t key p has same is not u = record {
       ∙ sym (named_more q ts t);
 }
 
-pub old_part : (m : BTreeMap (Bor (List ℕ)) Part) (ts : List out.Field) (t : out.Field) (key : Bor (List ℕ)) → HasParts m ts → key.now ≡ t.name → is_some (at_name key.now m) ≡ true → HasParts m (ts ++ t ∷ [])
+pub old_part : (m : BTreeMap (Bor (List ℕ)) Part) (ts : List out.Field) (t : out.Field) (key : Bor (List ℕ))
+    → HasParts m ts → key.now ≡ t.name → is_some (at_name key.now m) ≡ true → HasParts m (ts ++ t ∷ [])
 old_part m ts t key has same there = record {
   finds = λ q.
       let present : bytes_eq t.name q ≡ true → is_some (type_named q ts) ≡ true = λ e.
@@ -184,50 +223,141 @@ old_part m ts t key has same there = record {
 
 -- ---- places
 
-reach : (types : List out.Field) (n : List ℕ) (part : out.Part) (place steps : ℕ) → type_named n types ≡ Some part → ((m : ℕ) → steps ≤ m → place_with (named_place m types) part ≡ Some place) → (most : ℕ) → steps + 1 ≤ most → named_place most types n ≡ Some place
+reach : (types : List out.Field) (n : List ℕ) (part : out.Part) (place steps : ℕ) → type_named n types ≡ Some part
+    → ((m : ℕ) → steps ≤ m → place_with (named_place m types) part ≡ Some place) → (most : ℕ) → steps + 1 ≤ most
+    → named_place most types n ≡ Some place
 unfolding named_place
 reach types n part place steps is f zero h = absurd (omega (arith, h))
 reach types n part place steps is f (suc m) h = rw is (f m (omega (arith, h)))
 
 -- a name is one step further than its part
-pub one_further : (types : List out.Field) (n : List ℕ) (part : out.Part) (place steps : ℕ) → type_named n types ≡ Some part → ((m : ℕ) → steps ≤ m → place_with (named_place m types) part ≡ Some place) → IsPlacedAt types n place (steps + 1)
+pub one_further : (types : List out.Field) (n : List ℕ) (part : out.Part) (place steps : ℕ)
+    → type_named n types ≡ Some part → ((m : ℕ) → steps ≤ m → place_with (named_place m types) part ≡ Some place)
+    → IsPlacedAt types n place (steps + 1)
 one_further types n part place steps is f = record { reached = reach types n part place steps is f }
 
 -- a name whose part has its place at once
-pub placed_at_once : (m : BTreeMap (Bor (List ℕ)) Part) (types : List out.Field) (n : List ℕ) (p : Part) (part : out.Part) (place : ℕ) → HasParts m types → at_name n m ≡ Some p → part_of p ≡ part → ((named : List ℕ → Option ℕ) → place_with named part ≡ Some place) → IsPlacedAt types n place 1
+pub placed_at_once : (m : BTreeMap (Bor (List ℕ)) Part) (types : List out.Field) (n : List ℕ) (p : Part)
+    (part : out.Part) (place : ℕ) → HasParts m types → at_name n m ≡ Some p → part_of p ≡ part
+    → ((named : List ℕ → Option ℕ) → place_with named part ≡ Some place) → IsPlacedAt types n place 1
 placed_at_once m types n p part place has at is f =
     let named : type_named n types ≡ Some part = sym (has.finds n) ∙ (rw (at, is) refl) in
     one_further types n part place 0 named (λ k h. f (named_place k types))
 
 -- a name whose part is another name
-pub placed_further : (m : BTreeMap (Bor (List ℕ)) Part) (known : BTreeMap (Bor (List ℕ)) (ℕ × ℕ)) (types : List out.Field) (n : List ℕ) (p : Part) (next : List ℕ) (place steps : ℕ) → HasParts m types → HasPlaces known types → at_name n m ≡ Some p → part_of p ≡ out.IsNamed next → at_name next known ≡ Some (place, steps) → IsPlacedAt types n place (steps + 1)
+pub placed_further : (m : BTreeMap (Bor (List ℕ)) Part) (known : BTreeMap (Bor (List ℕ)) (ℕ × ℕ))
+    (types : List out.Field) (n : List ℕ) (p : Part) (next : List ℕ) (place steps : ℕ) → HasParts m types
+    → HasPlaces known types → at_name n m ≡ Some p → part_of p ≡ out.IsNamed next
+    → at_name next known ≡ Some (place, steps) → IsPlacedAt types n place (steps + 1)
 placed_further m known types n p next place steps has places at is there =
     let named : type_named n types ≡ Some (out.IsNamed next) = sym (has.finds n) ∙ (rw (at, is) refl) in
     let right : IsPlacedAt types next place steps = places.right next place steps there in
     one_further types n (out.IsNamed next) place steps named (λ k h. right.reached k h)
 
 pub no_places : (m : BTreeMap (Bor (List ℕ)) (ℕ × ℕ)) (types : List out.Field) → IsEmpty m → HasPlaces m types
-no_places m types e = record { right = λ n place steps at. let no : None ≡ Some (place, steps) = sym (at_empty m e n) ∙ at in absurd cc }
+no_places m types e = record {
+  right = λ n place steps at. let no : None ≡ Some (place, steps) = sym (at_empty m e n)
+      ∙ at in absurd cc;
+}
 
-pub same_places : (m n : BTreeMap (Bor (List ℕ)) (ℕ × ℕ)) (types : List out.Field) → HasPlaces m types → IsUnchanged m n → HasPlaces n types
-same_places m n types has e = record { right = λ q place steps at. has.right q place steps (sym (at_same m n e q) ∙ at) }
+pub same_places : (m n : BTreeMap (Bor (List ℕ)) (ℕ × ℕ)) (types : List out.Field) → HasPlaces m types → IsUnchanged m n
+    → HasPlaces n types
+same_places m n types has e =
+    record { right = λ q place steps at. has.right q place steps (sym (at_same m n e q) ∙ at) }
 
-split_place : (m : BTreeMap (Bor (List ℕ)) (ℕ × ℕ)) (types : List out.Field) (key : Bor (List ℕ)) (v : ℕ × ℕ) → HasPlaces m types → IsPlacedAt types key.now v.0 v.1 → (b : Bool) (q : List ℕ) (place steps : ℕ) → bytes_eq key.now q ≡ b → cond b (Some v) (at_name q m) ≡ Some (place, steps) → IsPlacedAt types q place steps
+split_place : (m : BTreeMap (Bor (List ℕ)) (ℕ × ℕ)) (types : List out.Field) (key : Bor (List ℕ)) (v : ℕ × ℕ)
+    → HasPlaces m types → IsPlacedAt types key.now v.0 v.1 → (b : Bool) (q : List ℕ) (place steps : ℕ)
+    → bytes_eq key.now q ≡ b → cond b (Some v) (at_name q m) ≡ Some (place, steps) → IsPlacedAt types q place steps
 split_place m types key v has is true q place steps t e =
     let same : v ≡ (place, steps) = some_is v (place, steps) e in
     let there : key.now ≡ q = same_text key.now q t in
     subst (λ (w : ℕ × ℕ). IsPlacedAt types q w.0 w.1) same (subst (λ (x : List ℕ). IsPlacedAt types x v.0 v.1) there is)
 split_place m types key v has is false q place steps t e = has.right q place steps e
 
-pub new_place : (m n : BTreeMap (Bor (List ℕ)) (ℕ × ℕ)) (types : List out.Field) (key : Bor (List ℕ)) (v : ℕ × ℕ) → HasPlaces m types → IsPlacedAt types key.now v.0 v.1 → Updates names_cmp m n key (Some v) → HasPlaces n types
-new_place m n types key v has is u = record { right = λ q place steps at. split_place m types key v has is (bytes_eq key.now q) q place steps refl (sym (at_more m n key v u q) ∙ at) }
+pub new_place : (m n : BTreeMap (Bor (List ℕ)) (ℕ × ℕ)) (types : List out.Field) (key : Bor (List ℕ)) (v : ℕ × ℕ)
+    → HasPlaces m types → IsPlacedAt types key.now v.0 v.1 → Updates names_cmp m n key (Some v) → HasPlaces n types
+new_place m n types key v has is u =
+    record {
+      right = λ q place steps at. split_place m types key v has is (bytes_eq key.now q) q place steps refl
+          (sym (at_more m n key v u q) ∙ at);
+    }
+
+-- ---- names that lead to one another alone
+
+-- the part is another name, of the set
+abbrev pub LeadsOn : BTreeSet (Bor (List ℕ)) → out.Part → Type 0
+LeadsOn s p = (next : List ℕ) × (p ≡ out.IsNamed next) × IsIn next s
+
+leads : (s : BTreeSet (Bor (List ℕ))) (p : out.Part) → leads_into s p ≡ true → LeadsOn s p
+leads s (out.IsBasic b) e = absurd cc
+leads s (out.IsNamed n) e = (n, refl, e)
+leads s (out.IsMade k) e = absurd cc
+leads s out.IsText e = absurd cc
+leads s out.IsVoid e = absurd cc
+
+both : (b x : Bool) → cond b x false ≡ true → (b ≡ true) × (x ≡ true)
+both true x e = (refl, e)
+both false x e = absurd cc
+
+pick_stay : (s : BTreeSet (Bor (List ℕ))) (ts : List out.Field) (t : out.Field) (n : List ℕ) (p : out.Part) (b : Bool)
+    → bytes_eq t.name n ≡ b → stays_in s t ≡ true → IsIn n s → (type_named n ts ≡ Some p → LeadsOn s p)
+    → cond b (Some t.part) (type_named n ts) ≡ Some p → LeadsOn s p
+unfolding stays_in
+pick_stay s ts t n p true same stays is later e =
+    let there : IsIn t.name s = subst (λ (x : List ℕ). IsIn x s) (sym (same_text t.name n same)) is in
+    let l = leads s t.part (rw there at stays) in
+    (l.0, sym (some_is t.part p e) ∙ l.1, l.2)
+pick_stay s ts t n p false other stays is later e = later e
+
+-- what a name in the set was declared as first
+stays_as : (s : BTreeSet (Bor (List ℕ))) (ts : List out.Field) (n : List ℕ) (p : out.Part) → all_stay s ts ≡ true
+    → IsIn n s → type_named n ts ≡ Some p → LeadsOn s p
+unfolding type_named all_stay
+stays_as s [] n p all is e = absurd cc
+stays_as s (t ∷ ts) n p all is e =
+    let b = both (stays_in s t) (all_stay s ts) all in
+    pick_stay s ts t n p (bytes_eq t.name n) refl b.0 is (λ later. stays_as s ts n p b.1 is later) e
+
+no_place_with : (s : BTreeSet (Bor (List ℕ))) (types : List out.Field) (n : List ℕ) (named : List ℕ → Option ℕ)
+    (o : Option out.Part) → type_named n types ≡ o → all_stay s types ≡ true → IsIn n s
+    → ((m : List ℕ) → IsIn m s → named m ≡ None) → (o >>= place_with named) ≡ None
+no_place_with s types n named None e all is f = refl
+no_place_with s types n named (Some p) e all is f =
+    let on = stays_as s types n p all is e in
+    ap (place_with named) on.1 ∙ f on.0 on.2
+
+stay_nowhere : (s : BTreeSet (Bor (List ℕ))) (types : List out.Field) → all_stay s types ≡ true → (most : ℕ)
+    (n : List ℕ) → IsIn n s → named_place most types n ≡ None
+unfolding named_place
+stay_nowhere s types all zero n is = refl
+stay_nowhere s types all (suc m) n is =
+    no_place_with s types n (named_place m types) (type_named n types) refl all is (stay_nowhere s types all m)
+
+-- what is found to stay among them denotes no place
+pub found_endless : (s : BTreeSet (Bor (List ℕ))) (found types : List out.Field) (r : Bool) → r ≡ all_stay s found
+    → found ≡ types → r ≡ true → HasNoPlaces s types
+found_endless s found types r e same h = record {
+  none = λ n is most.
+      stay_nowhere s types (ap (λ (ts : List out.Field). all_stay s ts) (sym same) ∙ sym e ∙ h) most n is;
+}
+
+pub no_names : (s : BTreeSet (Bor (List ℕ))) (types : List out.Field) → s.keys ≡ [] → HasNoPlaces s types
+unfolding has_name
+no_names s types e = record {
+  none = λ n is most.
+      let no : false ≡ true = sym (ap (λ (ks : List (Bor (List ℕ))). has_name n (key_texts ks)) e) ∙ is in
+      absurd cc;
+}
 
 -- ---- a walk along names
 
 -- one step of a walk along names
-pub follows : (types : List out.Field) (n : List ℕ) (p : out.Part) (i steps : ℕ) (total : Option ℕ) → i < steps → Some p ≡ type_named n types → named_place (steps - i) types n ≡ total → place_with (named_place (steps - (i + 1)) types) p ≡ total
+pub follows : (types : List out.Field) (n : List ℕ) (p : out.Part) (i steps : ℕ) (total : Option ℕ) → i < steps
+    → Some p ≡ type_named n types → named_place (steps - i) types n ≡ total
+    → place_with (named_place (steps - (i + 1)) types) p ≡ total
 unfolding named_place
 follows types n p i steps total lt is so_far =
     let k : steps - i ≡ suc (steps - (i + 1)) = omega arith in
-    let one : named_place (steps - i) types n ≡ place_with (named_place (steps - (i + 1)) types) p = rw (k, ← is) refl in
+    let one : named_place (steps - i) types n ≡ place_with (named_place (steps - (i + 1)) types) p = rw
+    (k, ← is) refl in
     sym one ∙ so_far

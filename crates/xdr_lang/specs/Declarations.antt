@@ -45,9 +45,11 @@ procedure_numbered n (p ∷ ps) = if p.number == n then Some p else procedure_nu
 -- the procedure with that number in a version with that number
 unfoldable pub procedure_of_version : ℕ → ℕ → List Version → Option Procedure
 procedure_of_version v n [] = None
-procedure_of_version v n (x ∷ xs) = if x.number == v then or_else (procedure_numbered n x.procedures) (procedure_of_version v n xs) else procedure_of_version v n xs
+procedure_of_version v n (x ∷ xs) = if x.number == v then or_else (procedure_numbered n x.procedures)
+    (procedure_of_version v n xs) else procedure_of_version v n xs
 
 -- the same in a program with that number
 unfoldable pub procedure_of_program : ℕ → ℕ → ℕ → List Program → Option Procedure
 procedure_of_program p v n [] = None
-procedure_of_program p v n (x ∷ xs) = if x.number == p then or_else (procedure_of_version v n x.versions) (procedure_of_program p v n xs) else procedure_of_program p v n xs
+procedure_of_program p v n (x ∷ xs) = if x.number == p then or_else (procedure_of_version v n x.versions)
+    (procedure_of_program p v n xs) else procedure_of_program p v n xs

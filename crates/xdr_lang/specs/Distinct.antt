@@ -1,8 +1,10 @@
 -- Which names and numbers must differ (RFC 4506 section 6.4, RFC 5531 section 12.3).
-use Rattle.std.specs.Prelude.{ℕ, ℤ, Bool, true, false, ◌&&◌, List, [], ◌∷◌, ◌++◌, map, Option, Some, None, if◌then◌else◌, codes}
+use Rattle.std.specs.Prelude.{ℕ, ℤ, Bool, true, false, ◌&&◌, List, [], ◌∷◌, ◌++◌, map, Option, Some, None}
+use Rattle.std.specs.Prelude.{if◌then◌else◌, codes}
 use Rattle.std.specs.Ordering.{int_eq}
 use Rattle.std.specs.Str.{bytes_eq}
-use Rattle.xdr_grammar.specs.Outline.{Field, Entry, Arm, Draft, DNumbered, DOpaque, DOpaqueUpTo, DText, DFixed, DUpTo, DStructure, DChoice, DMaybe, Procedure, Version, Program, Outline}
+use Rattle.xdr_grammar.specs.Outline.{Field, Entry, Arm, Draft, DNumbered, DOpaque, DOpaqueUpTo, DText, DFixed, DUpTo}
+use Rattle.xdr_grammar.specs.Outline.{DStructure, DChoice, DMaybe, Procedure, Version, Program, Outline}
 
 -- the name is in the list
 unfoldable pub has_name : List ℕ → List (List ℕ) → Bool
@@ -16,7 +18,8 @@ is_void n = bytes_eq n []
 -- Some name is among those before it.
 unfoldable pub repeats : List (List ℕ) → List (List ℕ) → Bool
 repeats before [] = false
-repeats before (n ∷ ns) = if is_void n then repeats before ns else (if has_name n before then true else repeats (before ++ n ∷ []) ns)
+repeats before (n ∷ ns) = if is_void n then repeats before ns else
+    (if has_name n before then true else repeats (before ++ n ∷ []) ns)
 
 -- the number is in the list
 unfoldable pub has_number : ℤ → List ℤ → Bool
@@ -40,7 +43,8 @@ repeats_pair before (x ∷ xs) = if has_pair x.0 x.1 before then true else repea
 
 -- TRUE, FALSE, constants, types and programs have one name space.
 abbrev pub declared_names : Outline → List (List ℕ)
-declared_names o = ((codes "TRUE" ∷ codes "FALSE" ∷ map (λ (e : Entry). e.name) o.constants) ++ map (λ (t : Field). t.name) o.types) ++ map (λ (p : Program). p.name) o.programs
+declared_names o = ((codes "TRUE" ∷ codes "FALSE" ∷ map (λ (e : Entry). e.name) o.constants) ++ map
+    (λ (t : Field). t.name) o.types) ++ map (λ (p : Program). p.name) o.programs
 
 -- the default's name, where there is one
 abbrev pub other_name : Option Field → List (List ℕ)
@@ -66,7 +70,8 @@ kinds_repeat (d ∷ ds) = if kind_repeats d then true else kinds_repeat ds
 
 -- Procedures of a version differ in name and number.
 unfoldable pub version_repeats : Version → Bool
-version_repeats v = if repeats [] (map (λ (p : Procedure). p.name) v.procedures) then true else repeats_number [] (map (λ (p : Procedure). p.number) v.procedures)
+version_repeats v = if repeats [] (map (λ (p : Procedure). p.name) v.procedures) then true else repeats_number []
+    (map (λ (p : Procedure). p.number) v.procedures)
 
 -- in some version
 unfoldable pub versions_repeat : List Version → Bool
@@ -94,4 +99,6 @@ pairs before (p ∷ ps) = pairs (pairs_of before p.number p.versions) ps
 
 -- Some name, number of a procedure, or pair of a program's and a version's number is there twice.
 unfoldable pub has_twice : Outline → Bool
-has_twice o = if repeats [] (declared_names o) then true else (if kinds_repeat o.drafts then true else (if programs_repeat o.programs then true else repeats_pair [] (pairs [] o.programs)))
+has_twice o = if repeats [] (declared_names o) then true else
+    (if kinds_repeat o.drafts then true else
+    (if programs_repeat o.programs then true else repeats_pair [] (pairs [] o.programs)))

@@ -1,6 +1,7 @@
 -- The kinds that an outline declares (RFC 4506 sections 4 and 6.4).
 use Rattle.std.specs.Prelude.{ℕ, ℤ, List, [], ◌∷◌, ◌++◌, Option, Some, None}
-use Rattle.xdr_grammar.specs.Outline.{Late, Field, Arm, Draft, DNumbered, DOpaque, DOpaqueUpTo, DText, DFixed, DUpTo, DStructure, DChoice, DMaybe}
+use Rattle.xdr_grammar.specs.Outline.{Late, Field, Arm, Draft, DNumbered, DOpaque, DOpaqueUpTo, DText, DFixed, DUpTo}
+use Rattle.xdr_grammar.specs.Outline.{DStructure, DChoice, DMaybe}
 use Rattle.xdr_types.specs.Form as form
 use Rattle.xdr_lang.specs.LookUp.{◌>>=◌, Known, looked_up, size, limit, member_number, case_number, place_of}
 
@@ -46,5 +47,6 @@ one_kind ks types (DText v) = limit ks v >>= λ n. Some (form.text n)
 one_kind ks types (DFixed p v) = place_of types p >>= λ k. size ks v >>= λ n. Some (form.fixed k n)
 one_kind ks types (DUpTo p v) = place_of types p >>= λ k. limit ks v >>= λ n. Some (form.up_to k n)
 one_kind ks types (DStructure fs) = each (one_field types) fs >>= λ all. Some (form.structure all)
-one_kind ks types (DChoice t cs d) = place_of types t >>= λ k. each (one_arm ks types) cs >>= λ all. where_given (one_field types) d >>= λ other. Some (form.choice k all other)
+one_kind ks types (DChoice t cs d) = place_of types t >>= λ k. each (one_arm ks types) cs >>= λ all. where_given
+    (one_field types) d >>= λ other. Some (form.choice k all other)
 one_kind ks types (DMaybe p) = place_of types p >>= λ k. Some (form.maybe k)

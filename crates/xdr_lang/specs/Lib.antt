@@ -12,10 +12,11 @@ pub use Rattle.xdr_types.specs.Named
 pub use Rattle.xdr_types.specs.Sound
 pub mod Declarations
 pub mod LookUp
-pub mod Tables
+pub mod Refusals
 pub mod Kinds
 pub mod Programs
 pub mod Distinct
 pub mod Meaning
 pub mod Means
 pub mod Views
+pub mod steps

@@ -1,9 +1,11 @@
 -- What the names of an outline stand for (RFC 4506 section 6.4).
-use Rattle.std.specs.Prelude.{ℕ, zero, suc, ℤ, pos, negsuc, ◌+◌, ◌^◌, Bool, false, nat_lt, if◌then◌else◌, List, [], ◌∷◌, ◌++◌, length, take, Option, Some, None, option_and_then, codes}
+use Rattle.std.specs.Prelude.{ℕ, zero, suc, ℤ, pos, negsuc, ◌+◌, ◌^◌, Bool, false, nat_lt, if◌then◌else◌, List, [], ◌∷◌}
+use Rattle.std.specs.Prelude.{◌++◌, length, take, Option, Some, None, option_and_then, codes}
 use Rattle.std.specs.Str.{bytes_eq}
 use Rattle.xdr_grammar.specs.declared.outline.Basic.{Basic}
 use Rattle.xdr_grammar.specs.declared.outline.Basic.TheVariants as basic
-use Rattle.xdr_grammar.specs.Outline.{Late, Given, Earlier, Part, IsBasic, IsNamed, IsMade, IsText, IsVoid, Field, Entry}
+use Rattle.xdr_grammar.specs.Outline.{Late, Given, Earlier, Part, IsBasic, IsNamed, IsMade, IsText, IsVoid, Field}
+use Rattle.xdr_grammar.specs.Outline.{Entry}
 
 infixl 10 ◌>>=◌
 -- the next step, where there is something to go on with
@@ -42,7 +44,8 @@ known n (k ∷ ks) = if bytes_eq k.name n then Some (k.value, k.by_const) else k
 
 -- TRUE and FALSE are declared before the text.
 unfoldable pub earlier : List ℕ → List Known → Option (ℤ × Bool)
-earlier n ks = if bytes_eq n (codes "TRUE") then Some (pos 1, false) else (if bytes_eq n (codes "FALSE") then Some (pos 0, false) else known n ks)
+earlier n ks = if bytes_eq n (codes "TRUE") then Some (pos 1, false) else
+    (if bytes_eq n (codes "FALSE") then Some (pos 0, false) else known n ks)
 
 -- A value is a number, or the name of a constant that is declared before it.
 unfoldable pub looked_up : List Known → Late → Option ℤ
@@ -66,7 +69,8 @@ entry_number ks e = looked_up ks e.value >>= λ n. if e.by_const then Some n els
 -- the constants in order, after those before them
 unfoldable pub numbers : List Entry → List Known → Option (List Known)
 numbers [] ks = Some ks
-numbers (e ∷ es) ks = entry_number ks e >>= λ v. numbers es (ks ++ (record { name = e.name; value = v; by_const = e.by_const }) ∷ [])
+numbers (e ∷ es) ks = entry_number ks e >>= λ v. numbers es
+    (ks ++ (record { name = e.name; value = v; by_const = e.by_const }) ∷ [])
 
 -- ---- types
 

@@ -26,3 +26,7 @@ pub record Means (text : List ℕ) (d : Declared) : Type 0 where
   pub outline : Outline
   pub spelled : IsOutline tokens outline
   pub meant : IsMeant outline d
+
+-- A text means one thing at most.
+abbrev pub HasOneMeaning : Type 0
+HasOneMeaning = (text : List ℕ) (d e : Declared) → Means text d → Means text e → d ≡ e

@@ -7,7 +7,8 @@ use Rattle.xdr_lang.specs.Kinds.{each, where_given}
 
 -- the places of the kinds of a procedure's arguments, and of its result's where there is one
 unfoldable pub signature : List out.Field → out.Procedure → Option (List ℕ × Option ℕ)
-signature types p = each (place_of types) p.arguments >>= λ arguments. where_given (place_of types) p.result >>= λ result. Some (arguments, result)
+signature types p = each (place_of types) p.arguments >>= λ arguments. where_given (place_of types) p.result >>=
+    λ result. Some (arguments, result)
 
 -- a procedure; its number is unsigned
 unfoldable pub one_procedure : List out.Field → out.Procedure → Option Procedure

@@ -41,11 +41,20 @@ places ks = map (λ (k : KindId). k.place) ks
 
 -- a procedure
 abbrev pub procedure_of : Procedure → said.Procedure
-procedure_of p = record { name = string_bytes p.name; number = p.number; arguments = places p.arguments.items; result = option_map (λ (k : KindId). k.place) p.result }
+procedure_of p = record {
+  name = string_bytes p.name;
+  number = p.number;
+  arguments = places p.arguments.items;
+  result = option_map (λ (k : KindId). k.place) p.result;
+}
 
 -- a version
 abbrev pub version_of : Version → said.Version
-version_of v = record { name = string_bytes v.name; number = v.number; procedures = map procedure_of v.procedures.items }
+version_of v = record {
+  name = string_bytes v.name;
+  number = v.number;
+  procedures = map procedure_of v.procedures.items;
+}
 
 -- a program
 abbrev pub program_of : Program → said.Program
@@ -53,8 +62,16 @@ program_of p = record { name = string_bytes p.name; number = p.number; versions 
 
 -- what a text declares
 abbrev pub declared_of : Declared → said.Declared
-declared_of d = record { schema = d.schema; constants = map constant_of d.constants.items; programs = map program_of d.programs.items }
+declared_of d = record {
+  schema = d.schema;
+  constants = map constant_of d.constants.items;
+  programs = map program_of d.programs.items;
+}
 
 -- the same, before its kinds are a schema
 abbrev pub listed_of : Listed → said.Declared
-listed_of l = record { schema = lists_of l.kinds.items l.names.items; constants = map constant_of l.constants.items; programs = map program_of l.programs.items }
+listed_of l = record {
+  schema = lists_of l.kinds.items l.names.items;
+  constants = map constant_of l.constants.items;
+  programs = map program_of l.programs.items;
+}

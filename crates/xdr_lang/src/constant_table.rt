@@ -1,9 +1,9 @@
-// The constants so far, and the first with each name.
+//! The constants so far, and the first with each name.
 ghost use Rattle.std.specs.Prelude.{◌≡◌, OnOk, OnErr, List, [], ◌∷◌, ◌++◌, length, take};
 ghost use Rattle.xdr_lang.specs.Views.{known_of, knowns};
 ghost use Rattle.xdr_lang.specs.LookUp.{known};
 ghost use Rattle.xdr_lang.specs.LookUp.{Known as KnownSpec};
-ghost use Rattle.xdr_lang.specs.Tables.{HasFirst};
+ghost use Rattle.xdr_lang.specs.steps.Tables.{HasFirst};
 
 use crate::constants::Known;
 use std::alloc::{AllocError, Global};
@@ -25,7 +25,8 @@ fn keep_first<'a>(
     place: usize,
     known: Known<'a>,
 ) -> Result<(), AllocError>
-    ensures kept { (ks : List KnownSpec) → HasFirst first.old ks → length ks ≡ place → OnOk result (HasFirst first.new (ks ++ known_of known.entry ∷ [])) }
+    ensures kept { (ks : List KnownSpec) → HasFirst first.old ks → length ks ≡ place
+        → OnOk result (HasFirst first.new (ks ++ known_of known.entry ∷ [])) }
     ensures unchanged { OnErr result (first.new.entries ≡ first.old.entries) }
 {
     if first.contains_key(known.name.text) {

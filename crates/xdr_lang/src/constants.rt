@@ -1,9 +1,11 @@
-// The numbers of constants, and what values stand for.
-ghost use Rattle.std.specs.Prelude.{◌≡◌, true, false, Some, None, IfOk, length, List, [], ◌∷◌, map, option_map, ◌≤◌, ◌<◌, take};
+//! The numbers of constants, and what values stand for.
+ghost use Rattle.std.specs.Prelude.{◌≡◌, true, false, Some, None, IfOk, length, List, [], ◌∷◌, map, option_map, ◌≤◌};
+ghost use Rattle.std.specs.Prelude.{◌<◌, take};
 ghost use Rattle.xdr_tokens.specs.Fails.{Gives};
 ghost use Rattle.xdr_grammar.specs.View.{late_of, entry_of};
 ghost use Rattle.xdr_lang.specs.Views.{known_of, knowns};
-ghost use Rattle.xdr_lang.specs.LookUp.{unsigned, member_number, case_number, known, earlier, looked_up, size, limit, entry_number, numbers};
+ghost use Rattle.xdr_lang.specs.LookUp.{unsigned, member_number, case_number, known, earlier, looked_up, size, limit};
+ghost use Rattle.xdr_lang.specs.LookUp.{entry_number, numbers};
 
 use crate::constant_table::ConstantTable;
 use std::alloc::Global;

@@ -1,4 +1,4 @@
-// What a text declares, and look-ups in it.
+//! What a text declares, and look-ups in it.
 ghost use Rattle.std.specs.Prelude.{◌≡◌, Some, None, map, option_map};
 ghost use Rattle.xdr_types.specs.Named.{place_named};
 ghost use Rattle.xdr_lang.specs.Declarations.{or_else, procedure_numbered, procedure_of_version, procedure_of_program};
@@ -57,7 +57,8 @@ pub struct Declared {
 /// The procedure with that number.
 #[tactic(auto, unfolding(crate::specs::Declarations::procedure_numbered))]
 fn procedure_numbered(procedures: &[Procedure], number: u32) -> Option<&Procedure>
-    ensures { option_map (λ p. procedure_of p.now) result ≡ procedure_numbered number (map procedure_of procedures.now) }
+    ensures { option_map (λ p. procedure_of p.now) result ≡ procedure_numbered number
+        (map procedure_of procedures.now) }
 {
     for procedure in procedures {
         if procedure.number == number {
@@ -70,7 +71,8 @@ fn procedure_numbered(procedures: &[Procedure], number: u32) -> Option<&Procedur
 /// The procedure with that number in a version with that number.
 #[tactic(auto, unfolding(crate::specs::Declarations::procedure_of_version))]
 fn procedure_of_version(versions: &[Version], vers: u32, proc: u32) -> Option<&Procedure>
-    ensures { option_map (λ p. procedure_of p.now) result ≡ procedure_of_version vers proc (map version_of versions.now) }
+    ensures { option_map (λ p. procedure_of p.now) result ≡ procedure_of_version vers proc
+        (map version_of versions.now) }
 {
     for version in versions {
         if version.number == vers {
@@ -85,7 +87,8 @@ fn procedure_of_version(versions: &[Version], vers: u32, proc: u32) -> Option<&P
 /// The same in a program with that number.
 #[tactic(auto, unfolding(crate::specs::Declarations::procedure_of_program))]
 fn procedure_of_program(programs: &[Program], prog: u32, vers: u32, proc: u32) -> Option<&Procedure>
-    ensures { option_map (λ p. procedure_of p.now) result ≡ procedure_of_program prog vers proc (map program_of programs.now) }
+    ensures { option_map (λ p. procedure_of p.now) result ≡ procedure_of_program prog vers proc
+        (map program_of programs.now) }
 {
     for program in programs {
         if program.number == prog {
@@ -108,7 +111,8 @@ impl Declared {
     /// The procedure with that number in a version of a program with those numbers (RFC 5531 section
     /// 12.3). Takes no memory.
     pub fn procedure(&self, prog: u32, vers: u32, proc: u32) -> Option<&Procedure>
-        ensures { option_map (λ p. procedure_of p.now) result ≡ procedure_of_program prog vers proc (declared_of self.now).programs }
+        ensures { option_map (λ p. procedure_of p.now) result ≡ procedure_of_program prog vers proc
+            (declared_of self.now).programs }
     {
         procedure_of_program(&self.programs, prog, vers, proc)
     }

@@ -1,9 +1,12 @@
-// Whether a name or a number is there twice.
+//! Whether a name or a number is there twice.
 ghost use Rattle.std.specs.Prelude.{◌≡◌, true, false, OnOk, IfOk, List, [], map, option_map, ◌++◌};
 ghost use Rattle.xdr_grammar.specs.Outline as out;
-ghost use Rattle.xdr_grammar.specs.View.{entry_of, field_of, arm_of, draft_of, procedure_of, version_of, program_of, outline_of};
+ghost use Rattle.xdr_grammar.specs.View.{entry_of, field_of, arm_of, draft_of, procedure_of, version_of, program_of};
+ghost use Rattle.xdr_grammar.specs.View.{outline_of};
 ghost use Rattle.xdr_lang.specs.Views.{texts};
-ghost use Rattle.xdr_lang.specs.Distinct.{repeats, repeats_number, repeats_pair, declared_names, other_name, kind_repeats, kinds_repeat, version_repeats, versions_repeat, program_repeats, programs_repeat, pairs_of, pairs, has_twice};
+ghost use Rattle.xdr_lang.specs.Distinct.{repeats, repeats_number, repeats_pair, declared_names, other_name};
+ghost use Rattle.xdr_lang.specs.Distinct.{kind_repeats, kinds_repeat, version_repeats, versions_repeat};
+ghost use Rattle.xdr_lang.specs.Distinct.{program_repeats, programs_repeat, pairs_of, pairs, has_twice};
 
 use std::alloc::{AllocError, Global};
 use std::collections::BTreeSet;
@@ -29,7 +32,8 @@ fn repeats(alloc: Global, names: &[Name<'_>]) -> Result<bool, AllocError>
 /// Some procedure has the number of one before it.
 #[tactic(auto, unfolding(crate::specs::Distinct::repeats_number))]
 fn numbers_repeat(alloc: Global, procedures: &[Procedure<'_>]) -> Result<bool, AllocError>
-    ensures { IfOk result (λ b. b ≡ repeats_number [] (map (λ (p : out.Procedure). p.number) (map procedure_of procedures.now))) }
+    ensures { IfOk result
+        (λ b. b ≡ repeats_number [] (map (λ (p : out.Procedure). p.number) (map procedure_of procedures.now))) }
 {
     let mut before = BTreeSet::new(alloc);
     for procedure in procedures {
@@ -83,7 +87,8 @@ fn all_pairs(alloc: Global, programs: &[Program<'_>]) -> Result<Vec<(i128, i128)
 
 /// The names of constants.
 fn constant_names<'a>(found: &mut Vec<Name<'a>>, items: &[Entry<'a>]) -> Result<(), AllocError>
-    ensures { OnOk result (texts found.new.items ≡ texts found.old.items ++ map (λ (e : out.Entry). e.name) (map entry_of items.now)) }
+    ensures { OnOk result (texts found.new.items ≡ texts found.old.items ++ map (λ (e : out.Entry). e.name)
+        (map entry_of items.now)) }
 {
     for entry in items {
         found.push(entry.name)?;
@@ -93,7 +98,8 @@ fn constant_names<'a>(found: &mut Vec<Name<'a>>, items: &[Entry<'a>]) -> Result<
 
 /// The names of types or of fields.
 fn type_names<'a>(found: &mut Vec<Name<'a>>, items: &[Field<'a>]) -> Result<(), AllocError>
-    ensures { OnOk result (texts found.new.items ≡ texts found.old.items ++ map (λ (f : out.Field). f.name) (map field_of items.now)) }
+    ensures { OnOk result (texts found.new.items ≡ texts found.old.items ++ map (λ (f : out.Field). f.name)
+        (map field_of items.now)) }
 {
     for field in items {
         found.push(field.name)?;
@@ -103,7 +109,8 @@ fn type_names<'a>(found: &mut Vec<Name<'a>>, items: &[Field<'a>]) -> Result<(), 
 
 /// The names of programs.
 fn program_names<'a>(found: &mut Vec<Name<'a>>, items: &[Program<'a>]) -> Result<(), AllocError>
-    ensures { OnOk result (texts found.new.items ≡ texts found.old.items ++ map (λ (p : out.Program). p.name) (map program_of items.now)) }
+    ensures { OnOk result (texts found.new.items ≡ texts found.old.items ++ map (λ (p : out.Program). p.name)
+        (map program_of items.now)) }
 {
     for program in items {
         found.push(program.name)?;
@@ -113,7 +120,8 @@ fn program_names<'a>(found: &mut Vec<Name<'a>>, items: &[Program<'a>]) -> Result
 
 /// The names of the arms of a union.
 fn arm_names<'a>(found: &mut Vec<Name<'a>>, items: &[Arm<'a>]) -> Result<(), AllocError>
-    ensures { OnOk result (texts found.new.items ≡ texts found.old.items ++ map (λ (a : out.Arm). a.member.name) (map arm_of items.now)) }
+    ensures { OnOk result (texts found.new.items ≡ texts found.old.items ++ map (λ (a : out.Arm). a.member.name)
+        (map arm_of items.now)) }
 {
     for arm in items {
         found.push(arm.member.name)?;
@@ -123,7 +131,8 @@ fn arm_names<'a>(found: &mut Vec<Name<'a>>, items: &[Arm<'a>]) -> Result<(), All
 
 /// The names of versions.
 fn version_names<'a>(found: &mut Vec<Name<'a>>, items: &[Version<'a>]) -> Result<(), AllocError>
-    ensures { OnOk result (texts found.new.items ≡ texts found.old.items ++ map (λ (v : out.Version). v.name) (map version_of items.now)) }
+    ensures { OnOk result (texts found.new.items ≡ texts found.old.items ++ map (λ (v : out.Version). v.name)
+        (map version_of items.now)) }
 {
     for version in items {
         found.push(version.name)?;
@@ -133,7 +142,8 @@ fn version_names<'a>(found: &mut Vec<Name<'a>>, items: &[Version<'a>]) -> Result
 
 /// The names of procedures.
 fn procedure_names<'a>(found: &mut Vec<Name<'a>>, items: &[Procedure<'a>]) -> Result<(), AllocError>
-    ensures { OnOk result (texts found.new.items ≡ texts found.old.items ++ map (λ (p : out.Procedure). p.name) (map procedure_of items.now)) }
+    ensures { OnOk result (texts found.new.items ≡ texts found.old.items ++ map (λ (p : out.Procedure). p.name)
+        (map procedure_of items.now)) }
 {
     for procedure in items {
         found.push(procedure.name)?;

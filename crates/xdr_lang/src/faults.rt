@@ -1,10 +1,17 @@
-// Where a fault of a schema stands.
+//! Where a fault of a schema stands.
 ghost use Rattle.std.specs.Prelude.{◌≡◌};
 ghost use Rattle.xdr_types.specs.declared.fault.Flaw.TheVariants as flaw;
 
 use xdr_grammar::Outline;
-use xdr_tokens::{Fault, Wrong};
+use xdr_tokens::{Fault, FlawNumber, Wrong};
 use xdr_types::{Flaw, SchemaFault};
+
+/// The number of what is wrong with a schema.
+fn flaw_number(why: Flaw) -> FlawNumber {
+    FlawNumber {
+        value: why.number(),
+    }
+}
 
 /// The fault of a schema, where the definition or declaration that spells the kind begins. The eight
 /// basic kinds come first. Too many kinds are no kind's fault, and stand at the beginning.
@@ -19,7 +26,7 @@ pub fn schema_fault(outline: &Outline<'_>, fault: SchemaFault) -> Fault
         _ => usize::MAX,
     };
     Fault::Refused {
-        wrong: Wrong::BadSchema(fault.why.number()),
+        wrong: Wrong::BadSchema(flaw_number(fault.why)),
         left,
     }
 }

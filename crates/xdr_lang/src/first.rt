@@ -1,5 +1,5 @@
-// Which fault of names and numbers comes first in the text. What is refused, and that something is, is
-// decided elsewhere; this finds the place.
+//! Which fault of names and numbers comes first in the text. What is refused, and that something is, is
+//! decided elsewhere; this finds the place.
 ghost use Rattle.std.specs.Prelude.{◌≡◌};
 
 use crate::constant_table::ConstantTable;
@@ -303,17 +303,19 @@ impl First {
     }
 }
 
+/// A name that is declared before the text.
+fn given(text: &'static str) -> Name<'static> {
+    Name {
+        text,
+        left: usize::MAX,
+    }
+}
+
 /// The names of constants, types and programs, TRUE and FALSE before all.
 fn all_names<'a>(alloc: Global, outline: &Outline<'a>) -> Result<Vec<Name<'a>>, AllocError> {
     let mut names = Vec::new(alloc);
-    names.push(Name {
-        text: "TRUE",
-        left: usize::MAX,
-    })?;
-    names.push(Name {
-        text: "FALSE",
-        left: usize::MAX,
-    })?;
+    names.push(given("TRUE"))?;
+    names.push(given("FALSE"))?;
     for entry in &outline.constants {
         names.push(entry.name)?;
     }
@@ -361,11 +363,13 @@ impl<'a> TypeNames<'a> {
     }
 }
 
-/// The names of constants, types and programs, and which are types.
+/// The names of constants, types and programs, TRUE and FALSE before all, and which are types.
 fn type_names<'a>(alloc: Global, outline: &Outline<'a>) -> Result<TypeNames<'a>, AllocError> {
     let mut names = TypeNames {
         first: BTreeMap::new(alloc),
     };
+    names.add(given("TRUE"), false)?;
+    names.add(given("FALSE"), false)?;
     for entry in &outline.constants {
         names.add(entry.name, false)?;
     }

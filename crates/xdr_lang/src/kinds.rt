@@ -1,11 +1,12 @@
-// The kinds that an outline declares.
+//! The kinds that an outline declares.
 ghost use Rattle.std.specs.Prelude.{◌≡◌, Some, None, IfOk, List, [], map, option_map};
 ghost use Rattle.xdr_tokens.specs.Fails.{Gives};
 ghost use Rattle.xdr_grammar.specs.View.{late_of, field_of, member_of, arm_of, draft_of};
 ghost use Rattle.xdr_types.specs.Forms.{constant_of, part_of_member, branch_of, form_of};
 ghost use Rattle.xdr_types.specs.Named.{basic};
 ghost use Rattle.xdr_lang.specs.Views.{knowns, types_of};
-ghost use Rattle.xdr_lang.specs.Kinds.{each, each_onto, where_given, one_member, one_case, one_field, one_arm, one_kind};
+ghost use Rattle.xdr_lang.specs.Kinds.{each, each_onto, where_given, one_member, one_case, one_field, one_arm};
+ghost use Rattle.xdr_lang.specs.Kinds.{one_kind};
 
 use crate::constant_table::ConstantTable;
 use crate::constants::{case_number, limit, looked_up, member_number, place_of_value, size};
@@ -59,7 +60,8 @@ fn given_field(
     types: &TypeTable<'_>,
     field: &Option<Field<'_>>,
 ) -> Result<Option<Member>, Fault>
-    ensures { Gives (λ x. option_map part_of_member x) result (where_given (one_field (types_of types.now.list.items)) (option_map field_of field.now)) }
+    ensures { Gives (λ x. option_map part_of_member x) result
+        (where_given (one_field (types_of types.now.list.items)) (option_map field_of field.now)) }
 {
     let Some(field) = field else {
         return Ok(None);
@@ -76,7 +78,8 @@ fn one_arm(
     types: &TypeTable<'_>,
     arm: &Arm<'_>,
 ) -> Result<Branch, Fault>
-    ensures { Gives branch_of result (one_arm (knowns constants.now.list.items) (types_of types.now.list.items) (arm_of arm.now)) }
+    ensures { Gives branch_of result
+        (one_arm (knowns constants.now.list.items) (types_of types.now.list.items) (arm_of arm.now)) }
 {
     let cases = all_cases(alloc, constants, &arm.cases)?;
     let member = one_field(alloc, types, &arm.member)?;
@@ -91,7 +94,8 @@ fn one_kind(
     types: &TypeTable<'_>,
     draft: &Draft<'_>,
 ) -> Result<Kind, Fault>
-    ensures { Gives form_of result (one_kind (knowns constants.now.list.items) (types_of types.now.list.items) (draft_of draft.now)) }
+    ensures { Gives form_of result (one_kind (knowns constants.now.list.items) (types_of types.now.list.items)
+        (draft_of draft.now)) }
 {
     match &draft.shape {
         Shape::Numbered(members) => Ok(Kind::Numbered {
@@ -142,7 +146,8 @@ fn all_members(
     constants: &ConstantTable<'_>,
     items: &[EnumMember<'_>],
 ) -> Result<Vec<(String, i32)>, Fault>
-    ensures { Gives (λ x. map constant_of x.items) result (each (one_member (knowns constants.now.list.items)) (map member_of items.now)) }
+    ensures { Gives (λ x. map constant_of x.items) result
+        (each (one_member (knowns constants.now.list.items)) (map member_of items.now)) }
 {
     let mut found = Vec::new(alloc);
     for member in items {
@@ -176,7 +181,8 @@ fn all_fields(
     types: &TypeTable<'_>,
     items: &[Field<'_>],
 ) -> Result<Vec<Member>, Fault>
-    ensures { Gives (λ x. map part_of_member x.items) result (each (one_field (types_of types.now.list.items)) (map field_of items.now)) }
+    ensures { Gives (λ x. map part_of_member x.items) result
+        (each (one_field (types_of types.now.list.items)) (map field_of items.now)) }
 {
     let mut found = Vec::new(alloc);
     for field in items {
@@ -194,7 +200,8 @@ fn all_arms(
     types: &TypeTable<'_>,
     items: &[Arm<'_>],
 ) -> Result<Vec<Branch>, Fault>
-    ensures { Gives (λ x. map branch_of x.items) result (each (one_arm (knowns constants.now.list.items) (types_of types.now.list.items)) (map arm_of items.now)) }
+    ensures { Gives (λ x. map branch_of x.items) result
+        (each (one_arm (knowns constants.now.list.items) (types_of types.now.list.items)) (map arm_of items.now)) }
 {
     let mut found = Vec::new(alloc);
     for arm in items {
@@ -212,7 +219,9 @@ pub fn all_kinds(
     types: &TypeTable<'_>,
     items: &[Draft<'_>],
 ) -> Result<Vec<Kind>, Fault>
-    ensures { Gives (λ x. map form_of x.items) result (each_onto (one_kind (knowns constants.now.list.items) (types_of types.now.list.items)) (map draft_of items.now) basic.kinds) }
+    ensures { Gives (λ x. map form_of x.items) result
+        (each_onto (one_kind (knowns constants.now.list.items) (types_of types.now.list.items))
+        (map draft_of items.now) basic.kinds) }
 {
     let mut found = basic_kinds(alloc)?;
     for draft in items {

@@ -8,6 +8,7 @@ mod distinct;
 mod faults;
 mod first;
 mod kinds;
+mod laws;
 mod lists;
 mod meaning;
 mod place;
@@ -17,5 +18,6 @@ mod reading;
 mod type_table;
 
 pub use declarations::{Declared, Procedure, Program, Version};
+pub use laws::one_meaning;
 pub use place::LangFault;
 pub use reading::{MAX_TEXT, read};

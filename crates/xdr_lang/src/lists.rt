@@ -1,4 +1,4 @@
-// The basic kinds and names, and the types and constants of a text after them.
+//! The basic kinds and names, and the types and constants of a text after them.
 ghost use Rattle.std.specs.Prelude.{◌≡◌, IfOk, List, map, ◌++◌};
 ghost use Rattle.xdr_tokens.specs.Fails.{Gives};
 ghost use Rattle.xdr_grammar.specs.View.{field_of};
@@ -70,7 +70,8 @@ fn one_type(
 /// The types with their kinds, after the basic ones.
 #[tactic(auto, unfolding(crate::specs::Kinds::each_onto))]
 pub fn all_types(alloc: Global, types: &TypeTable<'_>) -> Result<Vec<(String, KindId)>, Fault>
-    ensures { Gives (λ x. map name_of x.items) result (each_onto (one_field (types_of types.now.list.items)) (types_of types.now.list.items) basic.names) }
+    ensures { Gives (λ x. map name_of x.items) result
+        (each_onto (one_field (types_of types.now.list.items)) (types_of types.now.list.items) basic.names) }
 {
     let mut found = basic_names(alloc)?;
     for field in &types.list {
@@ -95,7 +96,8 @@ pub fn all_constants(
     alloc: Global,
     constants: &[Known<'_>],
 ) -> Result<Vec<(String, i128)>, AllocError>
-    ensures { IfOk result (λ v. map constant_of v.items ≡ given_constants ++ map said.constant_of (knowns constants.now)) }
+    ensures { IfOk result
+        (λ v. map constant_of v.items ≡ given_constants ++ map said.constant_of (knowns constants.now)) }
 {
     let mut found = given_constants(alloc)?;
     for constant in constants {

@@ -1,4 +1,4 @@
-// What an outline means: names looked up, and the schema built.
+//! What an outline means: names looked up, and the schema built.
 ghost use Rattle.std.specs.Prelude.{◌≡◌, Some, None, IfOk, true, false};
 ghost use Rattle.xdr_tokens.specs.Fails.{Gives};
 ghost use Rattle.xdr_grammar.specs.View.{outline_of};
@@ -6,7 +6,8 @@ ghost use Rattle.xdr_types.specs.Faults.{IsWellFormed};
 ghost use Rattle.xdr_types.specs.Sound.{IsSound};
 ghost use Rattle.xdr_types.specs.declared.fault.Flaw.TheVariants as flaw;
 ghost use Rattle.xdr_lang.specs.Declarations.{Declared as DeclaredSpec};
-ghost use Rattle.xdr_lang.specs.Meaning.{meaning, distinct_meaning};
+ghost use Rattle.xdr_lang.specs.Meaning.{meaning};
+ghost use Rattle.xdr_lang.specs.steps.Meaning.{distinct_meaning};
 ghost use Rattle.xdr_lang.specs.Means.{IsMeant};
 ghost use Rattle.xdr_lang.specs.Views.{declared_of, listed_of};
 
@@ -54,7 +55,7 @@ fn meaning(alloc: Global, outline: &Outline<'_>) -> Result<Listed, Fault>
 }
 
 /// The same, where no name is there twice.
-#[tactic(auto, unfolding(crate::specs::Meaning::distinct_meaning))]
+#[tactic(auto, unfolding(crate::specs::steps::Meaning::distinct_meaning))]
 fn distinct_meaning(alloc: Global, outline: &Outline<'_>) -> Result<Listed, Fault>
     ensures { Gives listed_of result (distinct_meaning (outline_of outline.now)) }
 {
@@ -72,7 +73,8 @@ fn built(alloc: Global, outline: &Outline<'_>, listed: Listed) -> Result<Declare
     ensures same { IfOk result (λ v. declared_of v ≡ listed_of listed) }
     ensures well_formed { IfOk result (λ v. IsWellFormed (declared_of v).schema) }
     ensures sound { IfOk result (λ v. IsSound (declared_of v).schema.kinds) }
-    ensures only { IsWellFormed (listed_of listed).schema → IsSound (listed_of listed).schema.kinds → Gives declared_of result (Some (listed_of listed)) }
+    ensures only { IsWellFormed (listed_of listed).schema → IsSound (listed_of listed).schema.kinds
+        → Gives declared_of result (Some (listed_of listed)) }
 {
     let Listed {
         kinds,

@@ -1,5 +1,7 @@
-// The places of faults in a text.
-ghost use Rattle.std.specs.Prelude.{◌≡◌};
+//! The places of faults in a text.
+ghost use Rattle.std.specs.Prelude.{◌≡◌, ◌≤◌};
+ghost use Rattle.xdr_tokens.specs.Refusals.{wrong_number};
+ghost use Rattle.xdr_lang.specs.Refusals.{IsInner};
 
 use thiserror::Error;
 use xdr_tokens::{Fault, Wrong};
@@ -21,7 +23,10 @@ pub struct LangFault {
 }
 
 /// The line and the column where `left` bytes are left to the end. Only a line feed begins a line.
-fn position_of(text: &[u8], left: usize) -> (usize, usize) {
+fn position_of(text: &[u8], left: usize) -> (usize, usize)
+    ensures line { 1 ≤ result.0 }
+    ensures column { 1 ≤ result.1 }
+{
     let at = text.len().saturating_sub(left);
     let mut line: usize = 1;
     let mut column: usize = 1;
@@ -39,35 +44,31 @@ fn position_of(text: &[u8], left: usize) -> (usize, usize) {
     (line, column)
 }
 
-/// The number of a fault, and of the schema's.
-fn numbers_of(wrong: Wrong) -> (u8, u8) {
+/// The number of the schema's fault, or 0.
+fn inner_of(wrong: Wrong) -> u8
+    ensures { IsInner (wrong_number wrong) result }
+{
     match wrong {
-        Wrong::BadCharacter => (1, 0),
-        Wrong::BadNumber => (2, 0),
-        Wrong::Unexpected => (3, 0),
-        Wrong::FloatingKind => (4, 0),
-        Wrong::NameTwice => (5, 0),
-        Wrong::NameUnknown => (6, 0),
-        Wrong::NotASize => (7, 0),
-        Wrong::OutOfRange => (8, 0),
-        Wrong::TypedefLoop => (9, 0),
-        Wrong::BadSchema(inner) => (10, inner),
-        Wrong::TextTooLong => (11, 0),
-        Wrong::NestedTooDeep => (12, 0),
+        Wrong::BadSchema(flaw) => flaw.value,
+        _ => 0,
     }
 }
 
 /// The fault of a text, as its caller sees it. Want of memory stands at the beginning.
 pub fn lang_fault(text: &[u8], fault: Fault) -> LangFault
-    ensures { fault ≡ Fault.NoMemory → result.number ≡ 13 }
+    ensures memory { fault ≡ Fault.NoMemory → result.number ≡ 13 }
+    ensures from_1 { 1 ≤ result.number }
+    ensures to_13 { result.number ≤ 13 }
+    ensures inner { IsInner result.number result.inner }
+    ensures line { 1 ≤ result.line }
+    ensures column { 1 ≤ result.column }
 {
     match fault {
         Fault::Refused { wrong, left } => {
-            let (number, inner) = numbers_of(wrong);
             let (line, column) = position_of(text, left);
             LangFault {
-                number,
-                inner,
+                number: wrong.number(),
+                inner: inner_of(wrong),
                 line,
                 column,
             }

@@ -1,4 +1,4 @@
-// The places of kinds that parts stand for.
+//! The places of kinds that parts stand for.
 ghost use Rattle.std.specs.Prelude.{◌≡◌, Some, None, length, map, ◌+◌};
 ghost use Rattle.xdr_tokens.specs.Fails.{Gives};
 ghost use Rattle.xdr_grammar.specs.View.{part_of};
@@ -64,7 +64,8 @@ fn named_within<'a>(types: &TypeTable<'a>, steps: usize, first: Name<'a>) -> Res
 
 /// The place of the kind that a part of a type stands for, through at most so many names.
 fn place_within<'a>(types: &TypeTable<'a>, steps: usize, part: Part<'a>) -> Result<u32, Fault>
-    ensures { Gives (λ x. x) result (place_with (named_place steps (types_of types.now.list.items)) (part_of part.entry)) }
+    ensures { Gives (λ x. x) result
+        (place_with (named_place steps (types_of types.now.list.items)) (part_of part.entry)) }
 {
     match part {
         Part::Basic(basic) => Ok(basic_place(basic)),
@@ -78,10 +79,17 @@ fn place_within<'a>(types: &TypeTable<'a>, steps: usize, part: Part<'a>) -> Resu
 /// The place of the kind that a name stands for.
 #[tactic(auto, unfolding(crate::specs::LookUp::named_place))]
 fn named_place(types: &TypeTable<'_>, name: Name<'_>) -> Result<u32, Fault>
-    ensures { Gives (λ x. x) result (named_place (length (types_of types.now.list.items)) (types_of types.now.list.items) name.entry.text.now) }
+    ensures { Gives (λ x. x) result
+        (named_place (length (types_of types.now.list.items)) (types_of types.now.list.items) name.entry.text.now) }
 {
     if let Some(place) = types.place(name.text) {
         return Ok(place);
+    }
+    if types.is_endless(name.text) {
+        return Err(Fault::Refused {
+            wrong: Wrong::TypedefLoop,
+            left: name.left,
+        });
     }
     let steps = types.list.len();
     match types.named(name.text) {

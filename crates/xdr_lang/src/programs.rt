@@ -1,4 +1,4 @@
-// The programs that an outline declares.
+//! The programs that an outline declares.
 ghost use Rattle.std.specs.Prelude.{◌≡◌, Some, None, IfOk, List, [], map, option_map};
 ghost use Rattle.xdr_tokens.specs.Fails.{Gives};
 ghost use Rattle.xdr_grammar.specs.View as out;
@@ -26,7 +26,8 @@ fn all_places(
     types: &TypeTable<'_>,
     items: &[Part<'_>],
 ) -> Result<Vec<KindId>, Fault>
-    ensures { Gives (λ x. places x.items) result (each (place_of (types_of types.now.list.items)) (map out.part_of items.now)) }
+    ensures { Gives (λ x. places x.items) result
+        (each (place_of (types_of types.now.list.items)) (map out.part_of items.now)) }
 {
     let mut found = Vec::new(alloc);
     for part in items {
@@ -39,7 +40,8 @@ fn all_places(
 /// The kind of a result, where there is one.
 #[tactic(auto, unfolding(crate::specs::Kinds::where_given))]
 fn given_place(types: &TypeTable<'_>, part: &Option<Part<'_>>) -> Result<Option<KindId>, Fault>
-    ensures { Gives (λ x. option_map (λ (k : KindId). k.place) x) result (where_given (place_of (types_of types.now.list.items)) (option_map out.part_of part.now)) }
+    ensures { Gives (λ x. option_map (λ (k : KindId). k.place) x) result
+        (where_given (place_of (types_of types.now.list.items)) (option_map out.part_of part.now)) }
 {
     let Some(part) = part else {
         return Ok(None);
@@ -55,7 +57,8 @@ fn signature(
     types: &TypeTable<'_>,
     procedure: &Spelled<'_>,
 ) -> Result<(Vec<KindId>, Option<KindId>), Fault>
-    ensures { Gives (λ x. (places x.0.items, option_map (λ (k : KindId). k.place) x.1)) result (signature (types_of types.now.list.items) (out.procedure_of procedure.now)) }
+    ensures { Gives (λ x. (places x.0.items, option_map (λ (k : KindId). k.place) x.1)) result
+        (signature (types_of types.now.list.items) (out.procedure_of procedure.now)) }
 {
     let arguments = all_places(alloc, types, &procedure.arguments)?;
     let result = given_place(types, &procedure.result)?;
@@ -69,7 +72,8 @@ fn one_procedure(
     types: &TypeTable<'_>,
     procedure: &Spelled<'_>,
 ) -> Result<Procedure, Fault>
-    ensures { Gives procedure_of result (one_procedure (types_of types.now.list.items) (out.procedure_of procedure.now)) }
+    ensures { Gives procedure_of result
+        (one_procedure (types_of types.now.list.items) (out.procedure_of procedure.now)) }
 {
     let number = unsigned(procedure.number.value, procedure.number.left)?;
     let (arguments, result) = signature(alloc, types, procedure)?;
@@ -89,7 +93,8 @@ fn all_procedures(
     types: &TypeTable<'_>,
     items: &[Spelled<'_>],
 ) -> Result<Vec<Procedure>, Fault>
-    ensures { Gives (λ x. map procedure_of x.items) result (each (one_procedure (types_of types.now.list.items)) (map out.procedure_of items.now)) }
+    ensures { Gives (λ x. map procedure_of x.items) result
+        (each (one_procedure (types_of types.now.list.items)) (map out.procedure_of items.now)) }
 {
     let mut found = Vec::new(alloc);
     for procedure in items {
@@ -125,7 +130,8 @@ fn all_versions(
     types: &TypeTable<'_>,
     items: &[SpelledVersion<'_>],
 ) -> Result<Vec<Version>, Fault>
-    ensures { Gives (λ x. map version_of x.items) result (each (one_version (types_of types.now.list.items)) (map out.version_of items.now)) }
+    ensures { Gives (λ x. map version_of x.items) result
+        (each (one_version (types_of types.now.list.items)) (map out.version_of items.now)) }
 {
     let mut found = Vec::new(alloc);
     for version in items {
@@ -161,7 +167,8 @@ pub fn all_programs(
     types: &TypeTable<'_>,
     items: &[SpelledProgram<'_>],
 ) -> Result<Vec<Program>, Fault>
-    ensures { Gives (λ x. map program_of x.items) result (each (one_program (types_of types.now.list.items)) (map out.program_of items.now)) }
+    ensures { Gives (λ x. map program_of x.items) result
+        (each (one_program (types_of types.now.list.items)) (map out.program_of items.now)) }
 {
     let mut found = Vec::new(alloc);
     for program in items {

@@ -1,8 +1,9 @@
-// Reading a text.
-ghost use Rattle.std.specs.Prelude.{◌≡◌, ◌≢◌, Some, None, IfOk, IfErr};
+//! Reading a text.
+ghost use Rattle.std.specs.Prelude.{◌≡◌, ◌≢◌, ◌≤◌, Some, None, IfOk, IfErr};
 ghost use Rattle.xdr_tokens.specs.Fails.{Gives};
 ghost use Rattle.xdr_lang.specs.Declarations.{Declared as DeclaredSpec};
 ghost use Rattle.xdr_lang.specs.Means.{Means};
+ghost use Rattle.xdr_lang.specs.Refusals.{IsInner};
 ghost use Rattle.xdr_lang.specs.Views.{declared_of};
 
 use crate::declarations::Declared;
@@ -44,6 +45,12 @@ pub fn read(alloc: Global, text: &[u8]) -> Result<Declared, LangFault>
     ensures only { (d : DeclaredSpec) → Means text.now d → IfOk result (λ v. declared_of v ≡ d) }
     // A text that is refused for another reason means nothing.
     ensures refused { IfErr result (λ e. e.number ≢ 13 → (d : DeclaredSpec) → Means text.now d → ⊥) }
+    // The number of a refusal is 1 to 13.
+    ensures number { IfErr result (λ e. (1 ≤ e.number) × (e.number ≤ 13)) }
+    // With number 10 the schema's is 1 to 11, else 0.
+    ensures inner { IfErr result (λ e. IsInner e.number e.inner) }
+    // Lines and columns count from 1.
+    ensures place { IfErr result (λ e. (1 ≤ e.line) × (1 ≤ e.column)) }
 {
     match declared(alloc, text) {
         Ok(declared) => Ok(declared),

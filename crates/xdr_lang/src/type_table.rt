@@ -1,26 +1,31 @@
-// The types, what each name is declared as, and the places of kinds that are known.
-ghost use Rattle.std.specs.Prelude.{◌≡◌, Some, List, [], ◌∷◌, ◌++◌, option_map, IfOk, IfSome, OnOk};
+//! The types, what each name is declared as, and the places of kinds that are known.
+ghost use Rattle.std.specs.Prelude.{◌≡◌, true, Some, None, List, [], ◌∷◌, ◌++◌, option_map, IfOk, IfSome, OnOk};
 ghost use Rattle.xdr_grammar.specs.Outline as out;
 ghost use Rattle.xdr_grammar.specs.View.{part_of, field_of};
 ghost use Rattle.xdr_lang.specs.LookUp.{type_named, place_of};
 ghost use Rattle.xdr_lang.specs.Views.{types_of};
-ghost use Rattle.xdr_lang.specs.Tables.{HasParts, HasPlaces, IsPlacedAt};
+ghost use Rattle.xdr_lang.specs.Distinct.{has_name};
+ghost use Rattle.xdr_lang.specs.steps.Tables.{HasParts, HasPlaces, HasNoPlaces, IsPlacedAt, key_texts, stays_in};
+ghost use Rattle.xdr_lang.specs.steps.Tables.{all_stay};
 
 use crate::places::{basic_place, own_place};
 use std::alloc::{AllocError, Global};
-use std::collections::BTreeMap;
+use std::collections::{BTreeMap, BTreeSet};
 use xdr_grammar::{Field, Part};
 
 /// The types, and for each name what the first type with that name is declared as. `places` has the
-/// places of kinds that names stand for, as far as they are known, and through how many names.
+/// places of kinds that names stand for, as far as they are known, and through how many names. The names
+/// of `endless` lead to one another alone, and so to no place.
 #[derive(Drop)]
 pub struct TypeTable<'a> {
     /// The types, in text order.
     pub list: Vec<Field<'a>>,
     parts: BTreeMap<&'a str, Part<'a>>,
     places: BTreeMap<&'a str, (u32, usize)>,
+    endless: BTreeSet<&'a str>,
     ghost has_parts: { HasParts parts (types_of list.items) },
     ghost has_places: { HasPlaces places (types_of list.items) },
+    ghost has_none: { HasNoPlaces endless (types_of list.items) },
 }
 
 /// Keeps what the type is declared as, where it is the first with its name.
@@ -28,7 +33,8 @@ fn keep_part<'a>(
     parts: &mut BTreeMap<&'a str, Part<'a>>,
     field: &Field<'a>,
 ) -> Result<(), AllocError>
-    ensures { (ts : List out.Field) → HasParts parts.old ts → OnOk result (HasParts parts.new (ts ++ field_of field.now ∷ [])) }
+    ensures { (ts : List out.Field) → HasParts parts.old ts
+        → OnOk result (HasParts parts.new (ts ++ field_of field.now ∷ [])) }
 {
     if parts.contains_key(field.name.text) {
         return Ok(());
@@ -68,7 +74,8 @@ fn keep_place<'a>(
     name: &'a str,
     found: (u32, usize),
 ) -> Result<(), AllocError>
-    ensures { (types : List out.Field) → HasPlaces places.old types → IsPlacedAt types name.now found.0 found.1 → HasPlaces places.new types }
+    ensures { (types : List out.Field) → HasPlaces places.old types → IsPlacedAt types name.now found.0 found.1
+        → HasPlaces places.new types }
 {
     places.insert(name, found)?;
     Ok(())
@@ -105,12 +112,17 @@ impl<'a> TypeTable<'a> {
         Ok(())
     }
 
-    /// The names that lead from one to a place, as far as it is not known.
-    fn path(&self, alloc: Global, name: &'a str) -> Result<Vec<&'a str>, AllocError> {
+    /// The names that lead from one to a place, as far as none of them was met before.
+    fn path(
+        &self,
+        alloc: Global,
+        name: &'a str,
+        met: &mut BTreeSet<&'a str>,
+    ) -> Result<Vec<&'a str>, AllocError> {
         let mut path = Vec::new(alloc);
         let mut name = name;
-        for _ in 0..self.list.len() {
-            if self.places.contains_key(name) {
+        for _ in 0..self.list.len().saturating_add(1) {
+            if !met.insert(name)? {
                 break;
             }
             path.push(name)?;
@@ -132,18 +144,38 @@ impl<'a> TypeTable<'a> {
         Ok(())
     }
 
-    /// Keeps the place of each type up to the first that has none.
-    fn learn_all(&mut self, alloc: Global, types: &[Field<'a>]) -> Result<(), AllocError>
-        ensures { types_of self.new.list.items ≡ types_of self.old.list.items }
-    {
-        for field in types {
-            let path = self.path(alloc, field.name.text)?;
-            self.learn_path(&path)?;
-            if !self.places.contains_key(field.name.text) {
-                break;
+    /// Adds the names whose places are not known.
+    fn add_lost(&self, lost: &mut BTreeSet<&'a str>, path: &[&'a str]) -> Result<(), AllocError> {
+        for name in path {
+            if !self.places.contains_key(*name) {
+                lost.insert(*name)?;
             }
         }
         Ok(())
+    }
+
+    /// Keeps the place of each type that has one, and the names that have none.
+    fn learn_all(&mut self, alloc: Global, types: &[Field<'a>]) -> Result<(), AllocError>
+        ensures { types_of self.new.list.items ≡ types_of self.old.list.items }
+    {
+        let mut met = BTreeSet::new(alloc);
+        let mut lost = BTreeSet::new(alloc);
+        for field in types {
+            let path = self.path(alloc, field.name.text, &mut met)?;
+            self.learn_path(&path)?;
+            self.add_lost(&mut lost, &path)?;
+        }
+        self.keep_endless(lost);
+        Ok(())
+    }
+
+    /// Keeps names that lead to one another alone.
+    fn keep_endless(&mut self, names: BTreeSet<&'a str>)
+        ensures { types_of self.new.list.items ≡ types_of self.old.list.items }
+    {
+        if all_stay(&self.list, &names) {
+            self.endless = names;
+        }
     }
 
     /// What the type with that name was declared as.
@@ -165,16 +197,59 @@ impl<'a> TypeTable<'a> {
             _ => None,
         }
     }
+
+    /// The name leads to other names alone, as far as it is known.
+    pub fn is_endless(&self, name: &str) -> bool
+        ensures { result ≡ true → place_of (types_of self.now.list.items) (out.IsNamed name.now) ≡ None }
+    {
+        is_in(&self.endless, name)
+    }
+}
+
+/// The name is among these.
+fn is_in(names: &BTreeSet<&str>, name: &str) -> bool
+    ensures { result ≡ has_name name.now (key_texts names.now.keys) }
+{
+    names.contains(name)
+}
+
+/// A type whose name is among these is another name for one of them.
+#[tactic(auto, unfolding(crate::specs::steps::Tables::stays_in))]
+fn stays(field: &Field<'_>, names: &BTreeSet<&str>) -> bool
+    ensures { result ≡ stays_in names.now (field_of field.now) }
+{
+    if !is_in(names, field.name.text) {
+        return true;
+    }
+    match &field.part {
+        Part::Named(next) => is_in(names, next.text),
+        _ => false,
+    }
+}
+
+/// The same of all types.
+#[tactic(auto, unfolding(crate::specs::steps::Tables::all_stay))]
+fn all_stay(types: &[Field<'_>], names: &BTreeSet<&str>) -> bool
+    ensures { result ≡ all_stay names.now (types_of types.now) }
+{
+    for field in types {
+        if !stays(field, names) {
+            return false;
+        }
+    }
+    true
 }
 
 /// The types with what is known of them.
 pub fn type_table<'a>(alloc: Global, types: &[Field<'a>]) -> Result<TypeTable<'a>, AllocError>
     ensures { IfOk result (λ t. types_of t.list.items ≡ types_of types.now) }
 {
+    let endless = BTreeSet::new(alloc);
     let mut table = TypeTable {
         list: copied(alloc, types)?,
         parts: parts_of(alloc, types)?,
         places: BTreeMap::new(alloc),
+        endless,
     };
     table.learn_all(alloc, types)?;
     Ok(table)

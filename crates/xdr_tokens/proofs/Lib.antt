@@ -1,4 +1,5 @@
 pub mod Ascii
 pub mod Numbers
+pub mod Options
 pub mod Pieces
 pub mod Whole

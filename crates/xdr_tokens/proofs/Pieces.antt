@@ -1,21 +1,31 @@
 -- What is read from the front is a piece, and a piece in front is read.
-use Rattle.std.proofs.Common.{◌≡◌, ℕ, suc, ◌+◌, ◌≤◌, Bool, true, false, cond, eqb, List, [], ◌∷◌, ◌++◌, length, take, drop, Option, Some, None, refl, sym, ap, subst, ◌∙◌, arith, ◌⊎◌, inl, inr}
+use Rattle.std.proofs.Common.{◌≡◌, ℕ, suc, ◌+◌, ◌≤◌, Bool, true, false, cond, eqb, List, [], ◌∷◌, ◌++◌, length, take}
+use Rattle.std.proofs.Common.{drop, Option, Some, None, refl, sym, ap, subst, ◌∙◌, arith, ◌⊎◌, inl, inr}
 use Rattle.std.specs.Prelude.{option_and_then, ◌&&◌}
 use Rattle.std.proofs.lemmas.Bool.{eqb-true}
 use Rattle.std.proofs.lemmas.List.{take_at, drop_at, take-append-drop}
 use Rattle.xdr_tokens.specs.declared.token.Mark.{Mark}
 use Rattle.xdr_tokens.specs.declared.token.Mark.TheVariants as mark
-use Rattle.xdr_tokens.specs.Bytes.{within, is_space, is_letter, is_digit, is_word, run_length, after_comment, number_of, decimal}
+use Rattle.xdr_tokens.specs.Bytes.{within, is_space, is_letter, is_digit, is_word, run_length, after_comment, number_of}
+use Rattle.xdr_tokens.specs.Bytes.{decimal}
 use Rattle.xdr_tokens.specs.Tokens.{Lexeme, Number, Sign}
-use Rattle.xdr_tokens.specs.Pieces.{comment_at, numeral_at, piece_at}
-use Rattle.xdr_tokens.specs.Text.{Piece, Blank, Comment, Run, Constant, Single, spelling, IsRun, HasNoEnd, EndsRun, BeginsWord, BeginsDigit, IsNumeral, Stands, token_of, marks, mark_among, mark_of, mark_code}
+use Rattle.xdr_tokens.specs.steps.Front.{comment_at, numeral_at, piece_at}
+use Rattle.xdr_tokens.proofs.Options.{some_is, bind_some, chosen}
+use Rattle.xdr_tokens.specs.Text.{Piece, Blank, Comment, Run, Constant, Single, spelling, IsRun, HasNoEnd, EndsRun}
+use Rattle.xdr_tokens.specs.Text.{BeginsWord, BeginsDigit, IsNumeral, Stands, token_of, marks, mark_among, mark_of}
+use Rattle.xdr_tokens.specs.Text.{mark_code}
 
 -- ---- runs
 
 run_length-within : (bs : List ℕ) → run_length bs ≤ length bs
 unfolding run_length
 run_length-within [] = omega arith
-run_length-within (b ∷ bs) = elim (is_word b) as (λ w. cond w (suc (run_length bs)) 0 ≤ suc (length bs)) [ true ↦ omega (arith, run_length-within bs) | false ↦ omega arith ]
+run_length-within (b ∷ bs) = elim (is_word b) as
+    (λ w. cond w (suc (run_length bs)) 0 ≤ suc (length bs)) [
+      | true ↦ omega (arith, run_length-within bs)
+      | false ↦
+          omega arith
+    ]
 
 test : (b : Bool) → (b ≡ true) ⊎ (b ≡ false)
 test true = inl refl
@@ -51,7 +61,8 @@ record IsComment (bs rest : List ℕ) : Type 0 where
   all : bs ≡ inside ++ 42 ∷ 47 ∷ rest
   no_end : HasNoEnd inside
 
-longer : (a b : ℕ) (bs rest : List ℕ) → (eqb a 42 && eqb b 47) ≡ false → IsComment (b ∷ bs) rest → IsComment (a ∷ b ∷ bs) rest
+longer : (a b : ℕ) (bs rest : List ℕ) → (eqb a 42 && eqb b 47) ≡ false → IsComment (b ∷ bs) rest
+    → IsComment (a ∷ b ∷ bs) rest
 longer a b bs rest off c = go c.inside c.all c.no_end
   where
     go : (inside : List ℕ) → (b ∷ bs) ≡ inside ++ 42 ∷ 47 ∷ rest → HasNoEnd inside → IsComment (a ∷ b ∷ bs) rest
@@ -84,17 +95,6 @@ comment_again (a ∷ b ∷ inside) rest h = rw h.0 (comment_again (b ∷ inside)
 
 -- ---- pieces
 
-chosen : {A : Type 0} (b : Bool) (x y z : A) → cond b x y ≡ z → ((b ≡ true) × (x ≡ z)) ⊎ ((b ≡ false) × (y ≡ z))
-chosen true x y z e = inl (refl, e)
-chosen false x y z e = inr (refl, e)
-
-some_is : {A : Type 0} (x y : A) → Some x ≡ Some y → x ≡ y
-some_is x y e = cc
-
-bind_some : {A B : Type 0} (o : Option A) (f : A → Option B) (y : B) → option_and_then f o ≡ Some y → (a : A) × (o ≡ Some a) × (f a ≡ Some y)
-bind_some (Some a) f y e = (a, refl, e)
-bind_some None f y e = absurd cc
-
 pub record IsPiece (text : List ℕ) (y : Option Lexeme × List ℕ) : Type 0 where
   pub piece : Piece
   pub spelled : text ≡ spelling piece y.1
@@ -126,7 +126,8 @@ single_again mark.Semicolon rest = refl
 single_again mark.Colon rest = refl
 single_again mark.Star rest = refl
 
-numeral_again : (run rest : List ℕ) (v : _) → number_of run ≡ Some v → numeral_at (length run) (run ++ rest) ≡ Some (Some (Number v), rest)
+numeral_again : (run rest : List ℕ) (v : _) → number_of run ≡ Some v
+    → numeral_at (length run) (run ++ rest) ≡ Some (Some (Number v), rest)
 numeral_again run rest v h = rw (take_at run rest (length run) refl, drop_at run rest (length run) refl, h) refl
 
 pub piece_again : (p : Piece) (rest : List ℕ) → Stands p rest → piece_at (spelling p rest) ≡ Some (token_of p, rest)
@@ -137,7 +138,14 @@ piece_again (Run []) rest h = absurd h.0
 piece_again (Run (b ∷ run)) rest h =
     let apart = letter_apart b h.0 in
     let len = run_again (b ∷ run) rest h.1 h.2 in
-    rw (apart.0, apart.1, h.0, len, take_at (b ∷ run) rest (length (b ∷ run)) refl, drop_at (b ∷ run) rest (length (b ∷ run)) refl) refl
+    rw (
+      apart.0,
+      apart.1,
+      h.0,
+      len,
+      take_at (b ∷ run) rest (length (b ∷ run)) refl,
+      drop_at (b ∷ run) rest (length (b ∷ run)) refl,
+    ) refl
 piece_again (Constant [] v) rest h = absurd h.0
 piece_again (Constant (b ∷ run) v) rest h =
     elim h.0 [
@@ -164,7 +172,12 @@ inside_found (b ∷ bs) rest e =
     elim (chosen (eqb b 42) _ _ _ e) [
       | inl s ↦
           let c = comment_found bs rest s.1 in
-          record { inside = c.inside; all = ap (λ (x : ℕ). x ∷ bs) (eqb-true b 42 s.0) ∙ ap (λ (x : List ℕ). 42 ∷ x) c.all; no_end = c.no_end }
+          record {
+            inside = c.inside;
+            all = ap (λ (x : ℕ). x ∷ bs) (eqb-true b 42 s.0)
+                ∙ ap (λ (x : List ℕ). 42 ∷ x) c.all;
+            no_end = c.no_end;
+          }
       | inr s ↦ absurd (let e = s.1 in cc)
     ]
 
@@ -190,19 +203,29 @@ decimal_begins (b ∷ bs) n e =
       | inr s ↦ absurd (let e = s.1 in cc)
     ]
 
-numeral_found : (n : ℕ) (bs : List ℕ) (y : Option Lexeme × List ℕ) → numeral_at n bs ≡ Some y → IsNumeral (take n bs) → EndsRun (drop n bs) → IsPiece bs y
+numeral_found : (n : ℕ) (bs : List ℕ) (y : Option Lexeme × List ℕ) → numeral_at n bs ≡ Some y → IsNumeral (take n bs)
+    → EndsRun (drop n bs) → IsPiece bs y
 numeral_found n bs y e is ends =
     let v = bind_some (number_of (take n bs)) _ y e in
-    with_piece bs _ y (record { piece = Constant (take n bs) v.0; spelled = sym (take-append-drop n bs); stands = (is, v.1, ends); token = refl }) v.2
+    with_piece bs _ y (record {
+      piece = Constant (take n bs) v.0;
+      spelled = sym (take-append-drop n bs);
+      stands = (is, v.1, ends);
+      token = refl;
+    }) v.2
 
-minus_found : (b : ℕ) (bs : List ℕ) (y : Option Lexeme × List ℕ) → b ≡ 45 → numeral_at (1 + run_length bs) (b ∷ bs) ≡ Some y → IsPiece (b ∷ bs) y
+minus_found : (b : ℕ) (bs : List ℕ) (y : Option Lexeme × List ℕ) → b ≡ 45
+    → numeral_at (1 + run_length bs) (b ∷ bs) ≡ Some y → IsPiece (b ∷ bs) y
 unfolding number_of
 minus_found b bs y minus e =
     let n : 1 + run_length bs ≡ suc (run_length bs) = omega arith in
-    let e2 : numeral_at (suc (run_length bs)) (45 ∷ bs) ≡ Some y = subst (λ (k : ℕ). numeral_at k (45 ∷ bs) ≡ Some y) n (subst (λ (x : ℕ). numeral_at (1 + run_length bs) (x ∷ bs) ≡ Some y) minus e) in
+    let e2 : numeral_at (suc (run_length bs)) (45 ∷ bs) ≡ Some y = subst (λ (k : ℕ). numeral_at k (45 ∷ bs) ≡ Some y) n
+    (subst (λ (x : ℕ). numeral_at (1 + run_length bs) (x ∷ bs) ≡ Some y) minus e) in
     let v = bind_some (number_of (45 ∷ take (run_length bs) bs)) _ y e2 in
     let d = bind_some (decimal (take (run_length bs) bs)) _ v.0 v.1 in
-    subst (λ (x : ℕ). IsPiece (x ∷ bs) y) (sym minus) (numeral_found (suc (run_length bs)) (45 ∷ bs) y e2 (inr (refl, decimal_begins (take (run_length bs) bs) d.0 d.1, run_is bs)) (run_ends bs))
+    subst (λ (x : ℕ). IsPiece (x ∷ bs) y) (sym minus)
+    (numeral_found (suc (run_length bs)) (45 ∷ bs) y e2
+    (inr (refl, decimal_begins (take (run_length bs) bs) d.0 d.1, run_is bs)) (run_ends bs))
 
 mark_found : (ms : List Mark) (b : ℕ) (m : Mark) → mark_among ms b ≡ Some m → b ≡ mark_code m
 mark_found [] b m e = absurd cc
@@ -223,18 +246,37 @@ piece_found (b ∷ bs) y e =
             let r = bind_some (comment_at bs) _ y s.1 in
             let c = inside_found bs r.0 r.1 in
             let slash : b ≡ 47 = eqb-true b 47 s.0 in
-            with_piece (b ∷ bs) _ y (record { piece = Comment c.inside; spelled = ap (λ (x : ℕ). x ∷ bs) slash ∙ ap (λ (x : List ℕ). 47 ∷ x) c.all; stands = c.no_end; token = refl }) r.2
+            with_piece (b ∷ bs) _ y
+            (record {
+              piece = Comment c.inside;
+              spelled = ap (λ (x : ℕ). x ∷ bs) slash
+                  ∙ ap (λ (x : List ℕ). 47 ∷ x) c.all;
+              stands = c.no_end;
+              token = refl;
+            }) r.2
         | inr e2 ↦ elim (chosen (is_letter b) _ _ _ e2.1) [
           | inl s ↦
               let n = run_length (b ∷ bs) in
-              with_piece (b ∷ bs) _ y (record { piece = Run (take n (b ∷ bs)); spelled = sym (take-append-drop n (b ∷ bs)); stands = (word_begins b bs s.0, run_is (b ∷ bs), run_ends (b ∷ bs)); token = refl }) s.1
+              with_piece (b ∷ bs) _ y
+              (record {
+                piece = Run (take n (b ∷ bs));
+                spelled = sym (take-append-drop n (b ∷ bs));
+                stands = (word_begins b bs s.0, run_is (b ∷ bs), run_ends (b ∷ bs));
+                token = refl;
+              }) s.1
           | inr e3 ↦ elim (chosen (is_digit b) _ _ _ e3.1) [
             | inl s ↦ numeral_found (run_length (b ∷ bs)) (b ∷ bs) y s.1 (digits_begin b bs s.0) (run_ends (b ∷ bs))
             | inr e4 ↦ elim (chosen (eqb b 45) _ _ _ e4.1) [
               | inl s ↦ minus_found b bs y (eqb-true b 45 s.0) s.1
               | inr e5 ↦
                   let m = bind_some (mark_of b) _ y e5.1 in
-                  with_piece (b ∷ bs) _ y (record { piece = Single m.0; spelled = ap (λ (x : ℕ). x ∷ bs) (mark_found marks b m.0 m.1); stands = tt; token = refl }) m.2
+                  with_piece (b ∷ bs) _ y
+                  (record {
+                    piece = Single m.0;
+                    spelled = ap (λ (x : ℕ). x ∷ bs) (mark_found marks b m.0 m.1);
+                    stands = tt;
+                    token = refl;
+                  }) m.2
             ]
           ]
         ]

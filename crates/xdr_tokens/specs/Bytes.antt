@@ -1,5 +1,6 @@
 -- White space, letters, digits, and what constants stand for (RFC 4506 section 6.2).
-use Rattle.std.specs.Prelude.{ℕ, suc, ◌+◌, ◌-◌, ◌*◌, ◌^◌, Bool, ◌||◌, ◌&&◌, ◌==◌, nat_lt, List, [], ◌∷◌, Option, Some, None, if◌then◌else◌, option_and_then, ℤ, pos, ◌-ℤ◌}
+use Rattle.std.specs.Prelude.{ℕ, suc, ◌+◌, ◌-◌, ◌*◌, ◌^◌, Bool, ◌||◌, ◌&&◌, ◌==◌, nat_lt, List, [], ◌∷◌, Option, Some}
+use Rattle.std.specs.Prelude.{None, if◌then◌else◌, option_and_then, ℤ, pos, ◌-ℤ◌}
 
 -- low to high
 abbrev pub within : ℕ → ℕ → ℕ → Bool
@@ -35,7 +36,8 @@ after_comment (a ∷ b ∷ bs) = if (a == 42) && (b == 47) then Some bs else aft
 -- the value of a digit in a base
 abbrev pub digit_of : ℕ → ℕ → Option ℕ
 digit_of base b =
-    let value = (if within 48 57 b then b - 48 else (if within 97 102 b then b - 87 else (if within 65 70 b then b - 55 else 16))) in
+    let value = (if within 48 57 b then b - 48 else
+    (if within 97 102 b then b - 87 else (if within 65 70 b then b - 55 else 16))) in
     if nat_lt value base then Some value else None
 
 -- the number that digits spell, after those that spell n
@@ -63,7 +65,8 @@ abbrev pub unsigned_number : List ℕ → Option ℕ
 unsigned_number [] = None
 unsigned_number (b ∷ bs) = if b == 48 then after_zero bs else decimal (b ∷ bs)
 
--- What a constant stands for (RFC 4506 section 6.2): decimal, with - or not, hexadecimal after 0x, octal after 0; from -(2 ^ 63) to 2 ^ 64 - 1.
+-- What a constant stands for (RFC 4506 section 6.2): decimal, with - or not, hexadecimal after 0x, octal after 0; from
+-- -(2 ^ 63) to 2 ^ 64 - 1.
 unfoldable pub number_of : List ℕ → Option ℤ
 number_of [] = None
 number_of (b ∷ bs) =

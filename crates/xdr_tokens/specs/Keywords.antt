@@ -30,7 +30,9 @@ keyword word.Void = codes "void"
 
 -- all keywords
 abbrev pub keywords : List Keyword
-keywords = word.Bool ∷ word.Case ∷ word.Const ∷ word.Default ∷ word.Double ∷ word.Enum ∷ word.Float ∷ word.Hyper ∷ word.Int ∷ word.Opaque ∷ word.Program ∷ word.Quadruple ∷ word.String ∷ word.Struct ∷ word.Switch ∷ word.Typedef ∷ word.Union ∷ word.Unsigned ∷ word.Version ∷ word.Void ∷ []
+keywords = word.Bool ∷ word.Case ∷ word.Const ∷ word.Default ∷ word.Double ∷ word.Enum ∷ word.Float ∷ word.Hyper ∷
+    word.Int ∷ word.Opaque ∷ word.Program ∷ word.Quadruple ∷ word.String ∷ word.Struct ∷ word.Switch ∷ word.Typedef ∷
+    word.Union ∷ word.Unsigned ∷ word.Version ∷ word.Void ∷ []
 
 -- a keyword of the list, or a name
 unfoldable pub word_among : List Keyword → List ℕ → Lexeme

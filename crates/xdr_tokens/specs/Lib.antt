@@ -3,4 +3,5 @@ pub mod Fails
 pub mod Bytes
 pub mod Keywords
 pub mod Text
-pub mod Pieces
+pub mod Refusals
+pub mod steps

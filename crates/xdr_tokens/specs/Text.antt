@@ -1,5 +1,7 @@
--- The tokens of a text (RFC 4506 section 6.2): it is cut into pieces, each as long as it can be, and comments and white space are dropped.
-use Rattle.std.specs.Prelude.{◌≡◌, ◌⊎◌, ℕ, ℤ, true, false, ◌&&◌, ◌==◌, if◌then◌else◌, List, [], ◌∷◌, ◌++◌, Option, Some, None}
+-- The tokens of a text (RFC 4506 section 6.2): it is cut into pieces, each as long as it can be, and comments and white
+-- space are dropped.
+use Rattle.std.specs.Prelude.{◌≡◌, ◌⊎◌, ℕ, ℤ, true, false, ◌&&◌, ◌==◌, if◌then◌else◌, List, [], ◌∷◌, ◌++◌, Option, Some}
+use Rattle.std.specs.Prelude.{None}
 use Rattle.xdr_tokens.specs.declared.token.Mark.{Mark}
 use Rattle.xdr_tokens.specs.declared.token.Mark.TheVariants as mark
 use Rattle.xdr_tokens.specs.Tokens.{Lexeme, Number, Sign}
@@ -92,7 +94,8 @@ with_token (Some t) ts = t ∷ ts
 -- The bytes are cut into these tokens.
 abbrev pub Cuts : List Piece → List ℕ → List Lexeme → Type 0
 Cuts [] bs ts = (bs ≡ []) × (ts ≡ [])
-Cuts (p ∷ ps) bs ts = (rest : List ℕ) × (others : List Lexeme) × (bs ≡ spelling p rest) × Stands p rest × (ts ≡ with_token (token_of p) others) × Cuts ps rest others
+Cuts (p ∷ ps) bs ts = (rest : List ℕ) × (others : List Lexeme) × (bs ≡ spelling p rest) × Stands p rest
+    × (ts ≡ with_token (token_of p) others) × Cuts ps rest others
 
 -- The text is cut into these tokens, in one way or another.
 abbrev pub Tokens : List ℕ → List Lexeme → Type 0
@@ -100,7 +103,8 @@ Tokens text ts = (ps : List Piece) × Cuts ps text ts
 
 -- all marks
 abbrev pub marks : List Mark
-marks = mark.OpenBrace ∷ mark.CloseBrace ∷ mark.OpenRound ∷ mark.CloseRound ∷ mark.OpenBracket ∷ mark.CloseBracket ∷ mark.Less ∷ mark.Greater ∷ mark.Equal ∷ mark.Comma ∷ mark.Semicolon ∷ mark.Colon ∷ mark.Star ∷ []
+marks = mark.OpenBrace ∷ mark.CloseBrace ∷ mark.OpenRound ∷ mark.CloseRound ∷ mark.OpenBracket ∷ mark.CloseBracket ∷
+    mark.Less ∷ mark.Greater ∷ mark.Equal ∷ mark.Comma ∷ mark.Semicolon ∷ mark.Colon ∷ mark.Star ∷ []
 
 -- the mark of the list with that byte
 abbrev pub mark_among : List Mark → ℕ → Option Mark

@@ -1,4 +1,4 @@
-// Which bytes are white space, letters and digits, and how far runs and comments go.
+//! Which bytes are white space, letters and digits, and how far runs and comments go.
 ghost use Rattle.std.specs.Prelude.{◌≡◌, MatchOption, None, Some, length, take, drop, ◌≤◌};
 ghost use Rattle.xdr_tokens.specs.Bytes.{is_space, is_letter, is_digit, is_word, run_length, after_comment};
 

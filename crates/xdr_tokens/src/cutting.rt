@@ -1,10 +1,11 @@
-// The tokens of a text.
+//! The tokens of a text, cut from its front one by one.
 ghost use Rattle.std.specs.Prelude.{◌≡◌, MatchOption, None, Some, ◌<◌, ◌≤◌, length, IfOk, OnOk, IfErr, List, [], ◌++◌};
 ghost use Rattle.std.specs.Prelude.{option_map};
 ghost use Rattle.xdr_tokens.specs.Tokens.{Lexeme, lexeme, lexemes};
 ghost use Rattle.xdr_tokens.specs.Fails.{Gives};
+ghost use Rattle.xdr_tokens.specs.Refusals.{IsTokenFault, wrong_number};
 ghost use Rattle.xdr_tokens.specs.Text.{Tokens, with_token, mark_of};
-ghost use Rattle.xdr_tokens.specs.Pieces.{comment_at, numeral_at, piece_at};
+ghost use Rattle.xdr_tokens.specs.steps.Front.{comment_at, numeral_at, piece_at};
 
 use crate::bytes::{digit, letter, run_length, skip_comment, space};
 use crate::fault::{Fault, Wrong};
@@ -45,7 +46,7 @@ fn mark_at(byte: u8) -> Option<Mark>
 }
 
 /// What follows a comment, after its `/`.
-#[tactic(auto, unfolding(crate::specs::Pieces::comment_at))]
+#[tactic(auto, unfolding(crate::specs::steps::Front::comment_at))]
 fn comment(text: &[u8]) -> Option<&[u8]>
     ensures { MatchOption result (comment_at text.now ≡ None) (λ rest. comment_at text.now ≡ Some rest.now) }
 {
@@ -56,7 +57,10 @@ fn comment(text: &[u8]) -> Option<&[u8]>
 }
 
 /// What is wrong with a constant that is no number. A `-` that no digit follows begins no token.
-fn wrong_numeral(text: &[u8]) -> Wrong {
+fn wrong_numeral(text: &[u8]) -> Wrong
+    ensures from_1 { 1 ≤ wrong_number result }
+    ensures to_2 { wrong_number result ≤ 2 }
+{
     match text {
         [b'-'] => Wrong::BadCharacter,
         [b'-', next, ..] if !digit(*next) => Wrong::BadCharacter,
@@ -66,8 +70,10 @@ fn wrong_numeral(text: &[u8]) -> Wrong {
 
 /// The number of the first `len` bytes, and what follows them.
 fn numeral(text: &[u8], len: usize) -> Result<(Option<Token<'_>>, &[u8]), Fault>
-    requires { len ≤ length text.now }
-    ensures { Gives (λ x. (option_map lexeme x.0, x.1.now)) result (numeral_at len text.now) }
+    requires within { len ≤ length text.now }
+    requires filled { 1 ≤ length text.now }
+    ensures read { Gives (λ x. (option_map lexeme x.0, x.1.now)) result (numeral_at len text.now) }
+    ensures refused { IfErr result (λ e. IsTokenFault text.now e) }
 {
     let (run, rest) = text.split_at(len);
     match number(run) {
@@ -77,12 +83,14 @@ fn numeral(text: &[u8], len: usize) -> Result<(Option<Token<'_>>, &[u8]), Fault>
 }
 
 /// The token in front, or none at white space and comments, and what follows.
-#[tactic(auto, unfolding(crate::specs::Pieces::piece_at))]
+#[tactic(auto, unfolding(crate::specs::steps::Front::piece_at))]
 fn piece(text: &[u8]) -> Result<(Option<Token<'_>>, &[u8]), Fault>
-    ensures { Gives (λ x. (option_map lexeme x.0, x.1.now)) result (piece_at text.now) }
+    requires { 1 ≤ length text.now }
+    ensures read { Gives (λ x. (option_map lexeme x.0, x.1.now)) result (piece_at text.now) }
+    ensures refused { IfErr result (λ e. IsTokenFault text.now e) }
 {
     let [first, others @ ..] = text else {
-        return Err(refused(Wrong::BadCharacter, text));
+        unreachable!();
     };
     if space(*first) {
         return Ok((None, others));
@@ -111,7 +119,8 @@ fn piece(text: &[u8]) -> Result<(Option<Token<'_>>, &[u8]), Fault>
 
 /// Keeps the token, where there is one.
 fn keep<'a>(found: &mut Vec<Token<'a>>, token: Option<Token<'a>>) -> Result<(), Fault>
-    ensures ok { OnOk result (lexemes found.new.items ≡ lexemes found.old.items ++ with_token (option_map lexeme token.entry) []) }
+    ensures ok { OnOk result
+        (lexemes found.new.items ≡ lexemes found.old.items ++ with_token (option_map lexeme token.entry) []) }
     ensures memory { IfErr result (λ e. e ≡ Fault.NoMemory) }
 {
     if let Some(token) = token {
@@ -130,6 +139,8 @@ pub fn tokens(alloc: Global, text: &[u8]) -> Result<Vec<Token<'_>>, Fault>
     ensures found { IfOk result (λ v. Tokens text.now (lexemes v.items)) }
     // No others are, and a text that has tokens is read, unless memory runs out.
     ensures only { (ts : List Lexeme) → Tokens text.now ts → Gives (λ v. lexemes v.items) result (Some ts) }
+    // A refusal is want of memory, or number 1 or 2 at a byte of the text.
+    ensures refused { IfErr result (λ e. IsTokenFault text.now e) }
 {
     let mut found = Vec::new(alloc);
     let mut rest = text;

@@ -1,7 +1,8 @@
-// Why a text has no meaning.
+//! Why a text has no meaning, and the numbers of the reasons.
 ghost use Rattle.std.specs.Prelude.{◌≡◌};
 ghost use Rattle.xdr_tokens.specs.declared.fault.Fault.TheVariants.{NoMemory};
 
+use crate::flaw_number::FlawNumber;
 use std::alloc::{AllocError, AllocFailed};
 use thiserror::Error;
 
@@ -36,8 +37,8 @@ pub enum Wrong {
     #[error("a typedef that leads back to itself")]
     TypedefLoop,
     /// Kinds that are no schema, with the number of the schema's fault.
-    #[error("no schema, by its fault {0}")]
-    BadSchema(u8),
+    #[error("kinds that are no schema")]
+    BadSchema(FlawNumber),
     /// A text of more than 262144 bytes.
     #[error("a text that is too long")]
     TextTooLong,

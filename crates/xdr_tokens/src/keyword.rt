@@ -1,4 +1,4 @@
-// Keywords.
+//! Keywords: the runs of letters that are no names.
 ghost use Rattle.std.specs.Prelude.{◌≡◌};
 ghost use Rattle.xdr_tokens.specs.Tokens.{lexeme};
 ghost use Rattle.xdr_tokens.specs.Text.{IsRun};

@@ -4,10 +4,13 @@
 mod bytes;
 mod cutting;
 mod fault;
+mod flaw_number;
 mod keyword;
 mod number;
 mod token;
+mod wrong_number;
 
 pub use cutting::tokens;
 pub use fault::{Fault, Wrong};
+pub use flaw_number::FlawNumber;
 pub use token::{Keyword, Mark, Token};

@@ -1,6 +1,7 @@
-// What a constant stands for.
+//! What a constant stands for.
 ghost use Rattle.std.specs.Prelude.{◌≡◌, ◌≤◌, ◌<◌, ◌^◌};
-ghost use Rattle.xdr_tokens.specs.Bytes.{digit_of, value_from, magnitude, decimal, after_zero, unsigned_number, number_of};
+ghost use Rattle.xdr_tokens.specs.Bytes.{digit_of, value_from, magnitude, decimal, after_zero, unsigned_number};
+ghost use Rattle.xdr_tokens.specs.Bytes.{number_of};
 
 /// The value of a digit in the base.
 fn digit_value(base: u8, byte: u8) -> Option<u8>

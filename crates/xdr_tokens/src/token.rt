@@ -1,4 +1,5 @@
-// A token of the language.
+//! A token of the language.
+
 /// A keyword (RFC 4506 section 6.4, RFC 5531 section 12.3).
 #[derive(Clone, Copy, Debug, PartialEq, Eq)]
 pub enum Keyword {

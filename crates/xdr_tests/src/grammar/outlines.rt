@@ -1,9 +1,9 @@
-// Texts and what they declare, and texts that the grammar refuses.
+//! Texts and what they declare, and texts that the grammar refuses.
 use crate::grammar::rows::{DECLARING, Declares, FLOATING, INSIDE, Inside, Refused, UNEXPECTED};
 use std::alloc::{AllocError, Global};
 use std::test::Fail;
 use xdr_grammar::read_outline;
-use xdr_tokens::{Fault, Wrong, tokens};
+use xdr_tokens::{Fault, tokens};
 
 /// How many constants, kinds, types and programs the text declares.
 fn counted(alloc: Global, text: &[u8]) -> Result<[usize; 4], Fault> {
@@ -34,15 +34,15 @@ fn texts_declare_what_they_spell(rt: HostRuntime) {
 }
 
 /// The text is refused where so many bytes are left.
-fn is_refused(alloc: Global, text: &[u8], wanted: Wrong, rest: usize) -> bool {
+fn is_refused(alloc: Global, text: &[u8], wanted: u8, rest: usize) -> bool {
     match counted(alloc, text) {
-        Err(Fault::Refused { wrong, left }) => wrong == wanted && left == rest,
+        Err(Fault::Refused { wrong, left }) => wrong.number() == wanted && left == rest,
         _ => false,
     }
 }
 
 /// The first row whose text is not refused for that where its rest begins.
-fn first_other(alloc: Global, wanted: Wrong, rows: &[Refused]) -> Option<usize> {
+fn first_other(alloc: Global, wanted: u8, rows: &[Refused]) -> Option<usize> {
     for (row, (text, rest)) in rows.iter().enumerate() {
         if !is_refused(alloc, text, wanted, rest.len()) {
             return Some(row);
@@ -53,18 +53,12 @@ fn first_other(alloc: Global, wanted: Wrong, rows: &[Refused]) -> Option<usize> 
 
 #[test]
 fn the_first_token_that_cannot_stand_is_refused(rt: HostRuntime) {
-    assert_eq!(rt;
-        first_other(rt.alloc(), Wrong::Unexpected, &UNEXPECTED),
-        None
-    );
+    assert_eq!(rt; first_other(rt.alloc(), 3, &UNEXPECTED), None);
 }
 
 #[test]
 fn floating_kinds_are_refused(rt: HostRuntime) {
-    assert_eq!(rt;
-        first_other(rt.alloc(), Wrong::FloatingKind, &FLOATING),
-        None
-    );
+    assert_eq!(rt; first_other(rt.alloc(), 4, &FLOATING), None);
 }
 
 /// So many copies of a piece.

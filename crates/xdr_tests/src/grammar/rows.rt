@@ -1,5 +1,4 @@
-// Texts, and what they declare or where they are refused.
-use xdr_tokens::Wrong;
+//! Texts, and what they declare or where they are refused.
 
 /// A text, and how many constants, kinds, types and programs it declares.
 pub type Declares = (&'static [u8], [usize; 4]);
@@ -7,8 +6,8 @@ pub type Declares = (&'static [u8], [usize; 4]);
 /// A text, and the rest of it where it is refused.
 pub type Refused = (&'static [u8], &'static [u8]);
 
-/// A declaration, the byte of it that is refused inside 32 bodies, and why.
-pub type Inside = (&'static [u8], usize, Wrong);
+/// A declaration, the byte of it that is refused inside 32 bodies, and the number of the refusal.
+pub type Inside = (&'static [u8], usize, u8);
 
 /// Each form of definition and of declaration.
 pub static DECLARING: [Declares; 7] = [
@@ -91,19 +90,15 @@ pub static FLOATING: [Refused; 3] = [
 
 /// Bodies inside 32 others, and what looks like one.
 pub static INSIDE: [Inside; 7] = [
-    (b"struct { int a; } b;", 7, Wrong::NestedTooDeep),
-    (b"enum { A = 1 } b;", 5, Wrong::NestedTooDeep),
-    (b"struct s { int a; } b;", 7, Wrong::Unexpected),
-    (
-        b"union switch (int d) { case 1: void; } b;",
-        21,
-        Wrong::NestedTooDeep,
-    ),
-    (b"union switch (opaque d<4>) x", 27, Wrong::Unexpected),
+    (b"struct { int a; } b;", 7, 12),
+    (b"enum { A = 1 } b;", 5, 12),
+    (b"struct s { int a; } b;", 7, 3),
+    (b"union switch (int d) { case 1: void; } b;", 21, 12),
+    (b"union switch (opaque d<4>) x", 27, 3),
     (
         b"union switch (struct { int a; } d) { case 1: void; } b;",
         21,
-        Wrong::NestedTooDeep,
+        12,
     ),
-    (b"union { case 1: void; } b;", 6, Wrong::Unexpected),
+    (b"union { case 1: void; } b;", 6, 3),
 ];

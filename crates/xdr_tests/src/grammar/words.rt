@@ -1,4 +1,4 @@
-// Texts and their tokens, and texts that have none.
+//! Texts and their tokens, and texts that have none.
 use std::alloc::Global;
 use xdr_tokens::{Fault, Keyword, Mark, Token, Wrong, tokens};
 

@@ -1,8 +1,8 @@
-// Bytes that begin no token, comments without an end, and constants that are none (RFC 4506 section 6.2).
+//! Bytes that begin no token, comments without an end, and constants that are none (RFC 4506 section 6.2).
 use crate::language::refusals::{Refused, first_other};
 
 /// Bytes that begin no token, and comments that do not end.
-static STRAY: [Refused; 10] = [
+static STRAY: [Refused; 11] = [
     (b"/* x", [1, 0, 1, 1]),
     (b"/*/ const a = 1;", [1, 0, 1, 1]),
     (b"const a = 1; /* x *\n/ const b = 2;", [1, 0, 1, 14]),
@@ -10,6 +10,7 @@ static STRAY: [Refused; 10] = [
     (b"const a \x00= 1;", [1, 0, 1, 9]),
     (b"const a = - 1;", [1, 0, 1, 11]),
     (b"const a = -x;", [1, 0, 1, 11]),
+    (b"const A = 1 -", [1, 0, 1, 13]),
     (b"const a = 1 / 2;", [1, 0, 1, 13]),
     (b"struct s { int _a; };", [1, 0, 1, 16]),
     (b"const a = 1;\r\x80", [1, 0, 1, 14]),

@@ -1,4 +1,4 @@
-// What texts declare.
+//! What texts declare.
 use crate::language::shapes::{has_arms, has_fields, has_members, is_maybe, is_opaque, is_text};
 use crate::language::texts::{EXAMPLE, FILE, LIST, VALUES};
 use std::alloc::Global;

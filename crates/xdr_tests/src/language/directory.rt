@@ -1,4 +1,4 @@
-// The schema of the registry's types, and the text that declares them (RFC 1833 sections 2.1 and 3.1).
+//! The schema of the registry's types, and the text that declares them (RFC 1833 sections 2.1 and 3.1).
 use crate::language::texts::DIRECTORY;
 use rpc_directory::directory_schema;
 use std::alloc::Global;

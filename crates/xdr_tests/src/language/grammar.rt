@@ -1,4 +1,4 @@
-// Tokens that no definition goes on with (RFC 4506 section 6.3, RFC 5531 section 12.2).
+//! Tokens that no definition goes on with (RFC 4506 section 6.3, RFC 5531 section 12.2).
 use crate::language::refusals::{Refused, first_other};
 
 /// Tokens of definitions and declarations.

@@ -1,4 +1,4 @@
-// Typedefs that name one another, and kinds that make no schema (RFC 4506 sections 4.3 to 4.19).
+//! Typedefs that name one another, and kinds that make no schema (RFC 4506 sections 4.3 to 4.19).
 use crate::language::refusals::{Refused, first_other};
 
 /// Chains of typedefs that do not end, at the first typedef that leads into one.

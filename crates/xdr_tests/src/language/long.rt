@@ -1,4 +1,4 @@
-// Texts that are too long, nested too deep, or declare too much, and the greatest that are not.
+//! Texts that are too long, nested too deep, or declare too much, and the greatest that are not.
 use crate::language::refusals::is_refused;
 use std::alloc::{AllocError, Global};
 use xdr_lang::{MAX_TEXT, read};
@@ -39,7 +39,7 @@ fn long_texts_are_refused(rt: HostRuntime) {
 type Nested = (&'static [u8], usize, [usize; 4]);
 
 /// Bodies inside others. A body in the switch declaration of a union is inside the union's.
-static NESTED: [Nested; 8] = [
+static NESTED: [Nested; 13] = [
     (b"int a;", 32, [0, 0, 0, 0]),
     (b"int a;", 33, [12, 0, 1, 304]),
     (b"\nenum { A = 1 } e;", 32, [12, 0, 2, 6]),
@@ -67,6 +67,27 @@ static NESTED: [Nested; 8] = [
         b"\nunion switch (enum { A = 1 } d) { case 1: void; } u;",
         32,
         [12, 0, 2, 20],
+    ),
+    (
+        b"union switch (string d<4>) { case 1: void; } b;",
+        32,
+        [12, 0, 1, 324],
+    ),
+    (
+        b"union switch (int d { case 1: void; } b;",
+        32,
+        [3, 0, 1, 317],
+    ),
+    (
+        b"union switch (union switch (int d) { case 1: void; } e) { case 1: void; } u;",
+        32,
+        [12, 0, 1, 332],
+    ),
+    (b"union (int d) { case 1: void; } b;", 32, [3, 0, 1, 303]),
+    (
+        b"union switch (int *d) { case 1: void; } b;",
+        32,
+        [12, 0, 1, 319],
     ),
 ];
 

@@ -1,4 +1,4 @@
-// What is answered where a growth is refused, and where each is.
+//! What is answered where a growth is refused, and where each is.
 use crate::language::refusals::is_refused;
 use crate::language::texts::{DIRECTORY, FILE, PING};
 use growths::{allow, count, refuse, take_all};

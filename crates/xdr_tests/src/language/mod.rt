@@ -11,6 +11,7 @@ mod names;
 mod numbers;
 mod order;
 mod programs;
+mod protocols;
 mod refusals;
 mod shapes;
 mod texts;

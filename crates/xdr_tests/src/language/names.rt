@@ -1,4 +1,4 @@
-// Names and numbers that are there twice (RFC 4506 section 6.4, RFC 5531 section 12.3).
+//! Names and numbers that are there twice (RFC 4506 section 6.4, RFC 5531 section 12.3).
 use crate::language::refusals::{Refused, first_other};
 
 /// Constants, members of enums, types and programs.

@@ -1,4 +1,4 @@
-// Sizes that are none, and numbers out of range (RFC 4506 sections 4 and 6.4).
+//! Sizes that are none, and numbers out of range (RFC 4506 sections 4 and 6.4).
 use crate::language::refusals::{Refused, first_other};
 
 /// Sizes that are negative, or no constant of `const`.

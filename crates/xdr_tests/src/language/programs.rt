@@ -1,4 +1,5 @@
-// Types and procedures that are looked up in what a text declares.
+//! Types and procedures that are looked up in what a text declares.
+use crate::language::protocols::{MOUNT, NFS};
 use crate::language::texts::{PING, PINGBACK, PROGRAMS};
 use std::alloc::Global;
 use xdr_lang::{Declared, read};
@@ -123,11 +124,45 @@ static ECHO: [Called; 3] = [
 /// The procedures of two programs.
 static SHARED: [Called; 2] = [([7, 1, 0], [0, 99, 99]), ([7, 2, 0], [2, 8, 4])];
 
+/// The procedures of NFS, and one more than there are.
+static FILES: [Called; 17] = [
+    ([100003, 2, 0], [0, 99, 99]),
+    ([100003, 2, 1], [1, 10, 16]),
+    ([100003, 2, 2], [1, 17, 16]),
+    ([100003, 2, 4], [1, 18, 20]),
+    ([100003, 2, 5], [1, 10, 21]),
+    ([100003, 2, 6], [1, 22, 25]),
+    ([100003, 2, 8], [1, 26, 16]),
+    ([100003, 2, 9], [1, 27, 20]),
+    ([100003, 2, 10], [1, 18, 8]),
+    ([100003, 2, 11], [1, 28, 8]),
+    ([100003, 2, 12], [1, 29, 8]),
+    ([100003, 2, 13], [1, 30, 8]),
+    ([100003, 2, 14], [1, 27, 20]),
+    ([100003, 2, 15], [1, 18, 8]),
+    ([100003, 2, 16], [1, 32, 37]),
+    ([100003, 2, 17], [1, 10, 39]),
+    ([100003, 2, 18], [0, 0, 0]),
+];
+
+/// The procedures of the mount protocol, and one more than there are.
+static MOUNTS: [Called; 7] = [
+    ([100005, 1, 0], [0, 99, 99]),
+    ([100005, 1, 1], [1, 10, 9]),
+    ([100005, 1, 2], [0, 99, 12]),
+    ([100005, 1, 3], [1, 10, 99]),
+    ([100005, 1, 4], [0, 99, 99]),
+    ([100005, 1, 5], [0, 99, 16]),
+    ([100005, 1, 6], [0, 0, 0]),
+];
+
 #[test]
 fn procedures_have_their_numbers(rt: HostRuntime) {
     assert!(rt; declares(rt.alloc(), PINGBACK, &VERSIONS));
     assert!(rt; declares(rt.alloc(), PING, &ECHO));
     assert!(rt; declares(rt.alloc(), PROGRAMS, &SHARED));
+    assert!(rt; declares(rt.alloc(), NFS, &FILES));
+    assert!(rt; declares(rt.alloc(), MOUNT, &MOUNTS));
 }
 
 /// The names of the first program, its first version and that one's second procedure.

@@ -1,4 +1,4 @@
-// How a text is refused.
+//! How a text is refused.
 use std::alloc::Global;
 use xdr_lang::read;
 

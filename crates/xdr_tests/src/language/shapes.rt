@@ -1,4 +1,4 @@
-// The kinds of a schema, one by one.
+//! The kinds of a schema, one by one.
 use xdr_types::{Arm, Kind, KindId, Member, Schema};
 
 /// The kind at a place, where there is one.

@@ -1,4 +1,4 @@
-// Texts that are read.
+//! Texts that are read.
 
 /// A list of strings.
 pub static LIST: &[u8] = b"struct entry { string item<>; entry *next; };

@@ -1,4 +1,4 @@
-// Names that are not declared, not yet, or as something else (RFC 4506 section 6.4).
+//! Names that are not declared, not yet, or as something else (RFC 4506 section 6.4).
 use crate::language::refusals::{Refused, first_other};
 
 /// Names of constants.

@@ -8,12 +8,18 @@ use Rattle.xdr_lang.proofs.Tables.{new_constant, old_constant}
 use Rattle.xdr_lang.proofs.constant_table.keep_first.Goals as goal
 
 pub returns-then-contains_key-clause-kept : goal.returns-then-contains_key-clause-kept
-returns-then-contains_key-clause-kept c = λ ks has len. old_constant c.args.first.now ks (known_of c.args.known) c.args.known.name.text has refl (sym c.contains_key.ensures ∙ c.if-contains_key.true)
+returns-then-contains_key-clause-kept c = λ ks has len. old_constant c.args.first.now ks
+    (known_of c.args.known) c.args.known.name.text has refl (sym c.contains_key.ensures ∙ c.if-contains_key.true)
 
 pub returns-clause-kept : goal.returns-clause-kept
 returns-clause-kept c = λ ks has len.
     let value : to_z w128 (of_z w128 c.args.known.value) ≡ c.args.known.value = search rules in
     let place : c.args.place ≡ length ks = sym len in
-    let same : (c.args.place, to_z w128 (of_z w128 c.args.known.value), c.args.known.by_const) ≡ (length ks, c.args.known.value, c.args.known.by_const) = rw (value, place) refl in
-    let updates : Updates names_cmp c.args.first.now c.insert.new.self c.args.known.name.text (Some (length ks, c.args.known.value, c.args.known.by_const)) = subst (λ (w : ℕ × ℤ × Bool). Updates names_cmp c.args.first.now c.insert.new.self c.args.known.name.text (Some w)) same c.in_ok-insert.ensures.updates in
-    new_constant c.args.first.now c.insert.new.self ks (known_of c.args.known) c.args.known.name.text has refl (sym c.contains_key.ensures ∙ c.if-contains_key.false) updates
+    let same : (c.args.place, to_z w128 (of_z w128 c.args.known.value), c.args.known.by_const) ≡
+    (length ks, c.args.known.value, c.args.known.by_const) = rw (value, place) refl in
+    let updates : Updates names_cmp c.args.first.now c.insert.new.self c.args.known.name.text
+    (Some (length ks, c.args.known.value, c.args.known.by_const)) = subst
+    (λ (w : ℕ × ℤ × Bool). Updates names_cmp c.args.first.now c.insert.new.self c.args.known.name.text
+    (Some w)) same c.in_ok-insert.ensures.updates in
+    new_constant c.args.first.now c.insert.new.self ks (known_of c.args.known) c.args.known.name.text has refl
+    (sym c.contains_key.ensures ∙ c.if-contains_key.false) updates

@@ -2,4 +2,14 @@ use Rattle.std.proofs.Common.{refl}
 use Rattle.xdr_lang.proofs.distinct.declared_names.Goals as goal
 
 pub returns : goal.returns
-returns c = rw (c.in_ok-program_names.ensures, c.in_ok-type_names.ensures, c.in_ok-constant_names.ensures, c.in_ok-push-2.ensures.items, c.in_ok-push.ensures.items, c.new-names.ensures.items, c.deref.ensures.value, c.deref-2.ensures.value, c.deref-3.ensures.value) refl
+returns c = rw (
+  c.in_ok-program_names.ensures,
+  c.in_ok-type_names.ensures,
+  c.in_ok-constant_names.ensures,
+  c.in_ok-push-2.ensures.items,
+  c.in_ok-push.ensures.items,
+  c.new-names.ensures.items,
+  c.deref.ensures.value,
+  c.deref-2.ensures.value,
+  c.deref-3.ensures.value,
+) refl

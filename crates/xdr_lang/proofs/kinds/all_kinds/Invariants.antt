@@ -7,4 +7,6 @@ use Rattle.xdr_types.specs.Named.{basic}
 use Rattle.xdr_lang.proofs.kinds.all_kinds.Given as goal
 
 abbrev pub invariant-loop-draft : goal.invariant-loop-draft
-invariant-loop-draft l = each_onto (one_kind (knowns l.constants.list.items) (types_of l.types.list.items)) (map view.draft_of (drop l.draft-index l.items)) (map form.form_of l.found.items) ≡ each_onto (one_kind (knowns l.constants.list.items) (types_of l.types.list.items)) (map view.draft_of l.items) basic.kinds
+invariant-loop-draft l = each_onto (one_kind (knowns l.constants.list.items) (types_of l.types.list.items))
+    (map view.draft_of (drop l.draft-index l.items)) (map form.form_of l.found.items) ≡ each_onto
+    (one_kind (knowns l.constants.list.items) (types_of l.types.list.items)) (map view.draft_of l.items) basic.kinds

@@ -6,4 +6,6 @@ use Rattle.xdr_types.specs.Forms as form
 use Rattle.xdr_lang.proofs.kinds.all_members.Given as goal
 
 abbrev pub invariant-loop-member : goal.invariant-loop-member
-invariant-loop-member l = each_onto (one_member (knowns l.constants.list.items)) (map view.member_of (drop l.member-index l.items)) (map form.constant_of l.found.items) ≡ each_onto (one_member (knowns l.constants.list.items)) (map view.member_of l.items) []
+invariant-loop-member l = each_onto (one_member (knowns l.constants.list.items))
+    (map view.member_of (drop l.member-index l.items)) (map form.constant_of l.found.items) ≡ each_onto
+    (one_member (knowns l.constants.list.items)) (map view.member_of l.items) []

@@ -7,4 +7,6 @@ use Rattle.xdr_types.specs.Named.{basic}
 use Rattle.xdr_lang.proofs.lists.all_types.Given as goal
 
 abbrev pub invariant-loop-field : goal.invariant-loop-field
-invariant-loop-field l = each_onto (one_field (types_of l.types.list.items)) (map view.field_of (drop l.field-index l.types.list.items)) (map form.name_of l.found.items) ≡ each_onto (one_field (types_of l.types.list.items)) (map view.field_of l.types.list.items) basic.names
+invariant-loop-field l = each_onto (one_field (types_of l.types.list.items))
+    (map view.field_of (drop l.field-index l.types.list.items)) (map form.name_of l.found.items) ≡ each_onto
+    (one_field (types_of l.types.list.items)) (map view.field_of l.types.list.items) basic.names

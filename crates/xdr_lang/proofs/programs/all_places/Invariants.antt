@@ -6,4 +6,6 @@ use Rattle.xdr_lang.specs.LookUp.{place_of}
 use Rattle.xdr_lang.proofs.programs.all_places.Given as goal
 
 abbrev pub invariant-loop-part : goal.invariant-loop-part
-invariant-loop-part l = each_onto (place_of (types_of l.types.list.items)) (map view.part_of (drop l.part-index l.items)) (places l.found.items) ≡ each_onto (place_of (types_of l.types.list.items)) (map view.part_of l.items) []
+invariant-loop-part l = each_onto (place_of (types_of l.types.list.items))
+    (map view.part_of (drop l.part-index l.items)) (places l.found.items) ≡ each_onto
+    (place_of (types_of l.types.list.items)) (map view.part_of l.items) []

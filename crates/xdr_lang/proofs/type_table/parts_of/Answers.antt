@@ -13,7 +13,13 @@ loop-field-init c = no_parts c.new-parts.result c.new-parts.ensures.empty
 
 pub loop-field-preserved : goal.loop-field-preserved
 loop-field-preserved c =
-    let d : Field = record { name = record { text = record { ref_ptr = (0, 0); now = [] }; left = 0 }; part = Basic Int } in
+    let d : Field = record {
+      name = record { text = record { ref_ptr = (0, 0); now = [] }; left = 0 };
+      part = Basic Int;
+    } in
     let lt : c.loop-field.field-index < length c.args.types.now = omega arith in
-    let next : take (c.loop-field.field-index + 1) c.args.types.now ≡ take c.loop-field.field-index c.args.types.now ++ get_or c.args.types.now c.loop-field.field-index d ∷ [] = rw add-one (take-suc c.args.types.now c.loop-field.field-index d lt) in
-    rw (next, map-append) (c.in_ok-keep_part.ensures (types_of (take c.loop-field.field-index c.args.types.now)) c.loop-field.invariant)
+    let next : take (c.loop-field.field-index + 1) c.args.types.now ≡ take c.loop-field.field-index c.args.types.now ++
+    get_or c.args.types.now c.loop-field.field-index d ∷ [] = rw add-one
+    (take-suc c.args.types.now c.loop-field.field-index d lt) in
+    rw (next, map-append)
+    (c.in_ok-keep_part.ensures (types_of (take c.loop-field.field-index c.args.types.now)) c.loop-field.invariant)

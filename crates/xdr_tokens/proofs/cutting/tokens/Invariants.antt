@@ -6,7 +6,8 @@ use Rattle.xdr_tokens.proofs.cutting.tokens.Given as goal
 abbrev pub invariant-loop-rest : goal.invariant-loop-rest
 invariant-loop-rest l = record {
   sound : (ts : List Lexeme) → Tokens l.rest ts → Tokens l.text (lexemes l.found.items ++ ts);
-  complete : (ts : List Lexeme) → Tokens l.text ts → (others : List Lexeme) × Tokens l.rest others × (ts ≡ lexemes l.found.items ++ others);
+  complete : (ts : List Lexeme) → Tokens l.text ts
+      → (others : List Lexeme) × Tokens l.rest others × (ts ≡ lexemes l.found.items ++ others);
   within : length l.rest ≤ length l.text;
 }
 

@@ -7,4 +7,6 @@ returns-then-next c =
     let text = c.args.text.now in
     let i = c.loop-byte.byte-index in
     let lt : i < length text = c.loop-byte-test.true in
-    too_large c.args.base c.loop-byte.value c.in_ok-digit.digit (get_or text i 0) (drop (suc i) text) text c.requires.low c.in_ok-digit.ensures c.if-next.true (rw (drop-cons text i 0) at c.loop-byte.invariant)
+    too_large c.args.base c.loop-byte.value c.in_ok-digit.digit (get_or text i 0)
+    (drop (suc i) text) text c.requires.low c.in_ok-digit.ensures c.if-next.true
+    (rw (drop-cons text i 0) at c.loop-byte.invariant)

@@ -1,7 +1,7 @@
 use Rattle.std.proofs.Common.{◌≡◌, ◌-◌, ◌+◌, ◌*◌, length, map}
 use Rattle.xdr_grammar.specs.View.{arm_of, field_of}
-use Rattle.xdr_grammar.specs.Reading.{repeat, arm_with, content_with, declaration_with, field_with, specifier_at}
-use Rattle.xdr_grammar.specs.Parsing.{left, so_far}
+use Rattle.xdr_grammar.specs.steps.Reading.{repeat, arm_with, content_with, declaration_with, field_with, specifier_at}
+use Rattle.xdr_grammar.specs.steps.Parsing.{left, so_far}
 use Rattle.xdr_grammar.proofs.Loop.{with_front}
 use Rattle.xdr_grammar.proofs.reading.Parser.+declarations.Given as goal
 
@@ -42,7 +42,14 @@ abbrev pub decreases-body : goal.decreases-body
 decreases-body l = 8 * l.depth + 6
 
 abbrev pub invariant-fields-loop : goal.invariant-fields-loop
-invariant-fields-loop l = with_front (map field_of l.fields.items) (repeat (field_with (content_with (declaration_with (specifier_at l.depth)))) (length l.fn.self.rest.now - l.counter) (so_far l.self) (left l.self)) ≡ repeat (field_with (content_with (declaration_with (specifier_at l.depth)))) (length (left l.fn.self)) (so_far l.fn.self) (left l.fn.self)
+invariant-fields-loop l = with_front (map field_of l.fields.items)
+    (repeat (field_with (content_with (declaration_with (specifier_at l.depth))))
+    (length l.fn.self.rest.now - l.counter) (so_far l.self) (left l.self)) ≡ repeat
+    (field_with (content_with (declaration_with (specifier_at l.depth)))) (length (left l.fn.self)) (so_far l.fn.self)
+    (left l.fn.self)
 
 abbrev pub invariant-arms-loop : goal.invariant-arms-loop
-invariant-arms-loop l = with_front (map arm_of l.arms.items) (repeat (arm_with (content_with (declaration_with (specifier_at l.depth)))) (length l.fn.self.rest.now - l.counter) (so_far l.self) (left l.self)) ≡ repeat (arm_with (content_with (declaration_with (specifier_at l.depth)))) (length (left l.fn.self)) (so_far l.fn.self) (left l.fn.self)
+invariant-arms-loop l = with_front (map arm_of l.arms.items)
+    (repeat (arm_with (content_with (declaration_with (specifier_at l.depth)))) (length l.fn.self.rest.now - l.counter)
+    (so_far l.self) (left l.self)) ≡ repeat (arm_with (content_with (declaration_with (specifier_at l.depth))))
+    (length (left l.fn.self)) (so_far l.fn.self) (left l.fn.self)

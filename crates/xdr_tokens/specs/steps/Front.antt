@@ -1,5 +1,6 @@
 -- Reading one piece from the front of a text.
-use Rattle.std.specs.Prelude.{◌+◌, ℕ, ◌==◌, if◌then◌else◌, List, [], ◌∷◌, take, drop, Option, Some, None, option_and_then}
+use Rattle.std.specs.Prelude.{◌+◌, ℕ, ◌==◌, if◌then◌else◌, List, [], ◌∷◌, take, drop, Option, Some, None}
+use Rattle.std.specs.Prelude.{option_and_then}
 use Rattle.xdr_tokens.specs.Tokens.{Lexeme, Number, Sign}
 use Rattle.xdr_tokens.specs.Keywords.{word_or_name}
 use Rattle.xdr_tokens.specs.Bytes.{is_space, is_letter, is_digit, run_length, after_comment, number_of}
@@ -20,7 +21,10 @@ piece_at [] = None
 piece_at (b ∷ bs) =
     if is_space b then Some (None, bs) else
     (if b == 47 then option_and_then (λ rest. Some (None, rest)) (comment_at bs) else
-    (if is_letter b then Some (Some (word_or_name (take (run_length (b ∷ bs)) (b ∷ bs))), drop (run_length (b ∷ bs)) (b ∷ bs)) else
+    (if is_letter b then Some (
+      Some (word_or_name (take (run_length (b ∷ bs)) (b ∷ bs))),
+      drop (run_length (b ∷ bs)) (b ∷ bs),
+    ) else
     (if is_digit b then numeral_at (run_length (b ∷ bs)) (b ∷ bs) else
     (if b == 45 then numeral_at (1 + run_length bs) (b ∷ bs) else
     option_and_then (λ m. Some (Some (Sign m), bs)) (mark_of b)))))

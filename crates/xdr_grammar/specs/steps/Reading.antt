@@ -1,5 +1,6 @@
 -- Reading the tokens from left to right: what each function of the parser gives.
-use Rattle.std.specs.Prelude.{ℕ, zero, suc, ℤ, List, [], ◌∷◌, length, Option, Some, None, ◌==◌, if◌then◌else◌, option_and_then, Bool, true, false}
+use Rattle.std.specs.Prelude.{ℕ, zero, suc, ℤ, List, [], ◌∷◌, length, Option, Some, None, ◌==◌, if◌then◌else◌}
+use Rattle.std.specs.Prelude.{option_and_then, Bool, true, false}
 use Rattle.xdr_tokens.specs.declared.token.Keyword.{Keyword}
 use Rattle.xdr_tokens.specs.declared.token.Keyword.TheVariants as word
 use Rattle.xdr_tokens.specs.declared.token.Mark.{Mark}
@@ -8,7 +9,9 @@ use Rattle.xdr_grammar.specs.declared.outline.Basic.TheVariants as basic
 use Rattle.xdr_grammar.specs.declared.outline.BodyKind.{BodyKind}
 use Rattle.xdr_grammar.specs.declared.outline.BodyKind.TheVariants as kind
 use Rattle.xdr_tokens.specs.Tokens.{Lexeme, Word, Name, Number, Sign}
-use Rattle.xdr_grammar.specs.Outline.{Late, Given, Earlier, Part, IsBasic, IsNamed, IsText, IsVoid, Field, Arm, Draft, DNumbered, DOpaque, DOpaqueUpTo, DText, DFixed, DUpTo, DStructure, DChoice, DMaybe, Procedure, Version, Outline, declare, place, add, add_type, add_program}
+use Rattle.xdr_grammar.specs.Outline.{Late, Given, Earlier, Part, IsBasic, IsNamed, IsText, IsVoid, Field, Arm, Draft}
+use Rattle.xdr_grammar.specs.Outline.{DNumbered, DOpaque, DOpaqueUpTo, DText, DFixed, DUpTo, DStructure, DChoice}
+use Rattle.xdr_grammar.specs.Outline.{DMaybe, Procedure, Version, Outline, declare, place, add, add_type, add_program}
 
 infixl 10 ◌>>=◌
 abbrev pub ◌>>=◌ : {A B : Type 0} → Option A → (A → Option B) → Option B
@@ -101,11 +104,13 @@ size_at o ts = do
 
 -- after <
 unfoldable pub limit_at : Outline → List Lexeme → Option (Option Late × List Lexeme)
-limit_at o ts = taken (after_sign mark.Greater ts) (λ rest. Some (None, rest)) (value_at o ts >>= λ v. after_sign mark.Greater v.1 >>= λ rest. Some (Some v.0, rest))
+limit_at o ts = taken (after_sign mark.Greater ts) (λ rest. Some (None, rest))
+    (value_at o ts >>= λ v. after_sign mark.Greater v.1 >>= λ rest. Some (Some v.0, rest))
 
 -- one of two marks: whether it is the first
 unfoldable pub either_sign : Mark → Mark → List Lexeme → Option (Bool × List Lexeme)
-either_sign on end ts = taken (after_sign on ts) (λ rest. Some (true, rest)) (after_sign end ts >>= λ rest. Some (false, rest))
+either_sign on end ts = taken (after_sign on ts) (λ rest. Some (true, rest))
+    (after_sign end ts >>= λ rest. Some (false, rest))
 
 -- = NUMBER ;
 unfoldable pub numbered_at : List Lexeme → Option (ℤ × List Lexeme)
@@ -121,7 +126,8 @@ Reader A = Outline → List Lexeme → Option (A × Outline × List Lexeme)
 -- At most n items: step reads an item, and whether more follow.
 unfoldable pub repeat : {A : Type 0} → Reader (A × Bool) → ℕ → Reader (List A)
 repeat step zero o ts = None
-repeat step (suc n) o ts = step o ts >>= λ x. if x.0.1 then (repeat step n x.1 x.2 >>= λ xs. Some (x.0.0 ∷ xs.0, xs.1, xs.2)) else Some (x.0.0 ∷ [], x.1, x.2)
+repeat step (suc n) o ts = step o ts >>= λ x. if x.0.1 then
+    (repeat step n x.1 x.2 >>= λ xs. Some (x.0.0 ∷ xs.0, xs.1, xs.2)) else Some (x.0.0 ∷ [], x.1, x.2)
 
 -- ---- declarations
 
@@ -130,7 +136,9 @@ makes name d o ts = Some (record { name = name; part = place o }, add d o, ts)
 
 -- after opaque
 unfoldable pub opaque_at : Reader Field
-opaque_at o ts = name_at ts >>= λ n. taken (after_sign mark.OpenBracket n.1) (λ sized. size_at o sized >>= λ v. makes n.0 (DOpaque v.0) o v.1) (after_sign mark.Less n.1 >>= λ limited. limit_at o limited >>= λ v. makes n.0 (DOpaqueUpTo v.0) o v.1)
+opaque_at o ts = name_at ts >>= λ n. taken (after_sign mark.OpenBracket n.1)
+    (λ sized. size_at o sized >>= λ v. makes n.0 (DOpaque v.0) o v.1)
+    (after_sign mark.Less n.1 >>= λ limited. limit_at o limited >>= λ v. makes n.0 (DOpaqueUpTo v.0) o v.1)
 
 -- after string
 unfoldable pub text_at : Reader Field
@@ -142,16 +150,29 @@ text_at o ts = do
 
 -- after a type specifier
 unfoldable pub declared_at : Part → Reader Field
-declared_at part o ts = taken (after_sign mark.Star ts) (λ starred. name_at starred >>= λ n. makes n.0 (DMaybe part) o n.1) (name_at ts >>= λ n. taken (after_sign mark.OpenBracket n.1) (λ sized. size_at o sized >>= λ v. makes n.0 (DFixed part v.0) o v.1) (taken (after_sign mark.Less n.1) (λ limited. limit_at o limited >>= λ v. makes n.0 (DUpTo part v.0) o v.1) (Some (record { name = n.0; part = part }, o, n.1))))
+declared_at part o ts = taken (after_sign mark.Star ts)
+    (λ starred. name_at starred >>= λ n. makes n.0 (DMaybe part) o n.1)
+    (name_at ts >>= λ n. taken (after_sign mark.OpenBracket n.1)
+    (λ sized. size_at o sized >>= λ v. makes n.0 (DFixed part v.0) o v.1)
+    (taken (after_sign mark.Less n.1) (λ limited. limit_at o limited >>= λ v. makes n.0 (DUpTo part v.0) o v.1)
+    (Some (record { name = n.0; part = part }, o, n.1))))
 
 unfoldable pub declaration_with : Reader Part → Reader Field
-declaration_with specifier o ts = taken (after_word word.Opaque ts) (λ rest. opaque_at o rest) (taken (after_word word.String ts) (λ rest. text_at o rest) (specifier o ts >>= λ s. declared_at s.0 s.1 s.2))
+declaration_with specifier o ts = taken (after_word word.Opaque ts) (λ rest. opaque_at o rest)
+    (taken (after_word word.String ts) (λ rest. text_at o rest) (specifier o ts >>= λ s. declared_at s.0 s.1 s.2))
 
 unfoldable pub content_with : Reader Field → Reader Field
-content_with declaration o ts = taken (after_word word.Void ts) (λ rest. Some (record { name = []; part = IsVoid }, o, rest)) (declaration o ts)
+content_with declaration o ts = taken (after_word word.Void ts)
+    (λ rest. Some (record { name = []; part = IsVoid }, o, rest)) (declaration o ts)
 
 unfoldable pub basic_at : List Lexeme → Option (Part × List Lexeme)
-basic_at ts = taken (after_word word.Unsigned ts) (λ rest. taken (after_word word.Int rest) (λ more. Some (IsBasic basic.Unsigned, more)) (after_word word.Hyper rest >>= λ more. Some (IsBasic basic.UnsignedHyper, more))) (taken (after_word word.Int ts) (λ rest. Some (IsBasic basic.Int, rest)) (taken (after_word word.Hyper ts) (λ rest. Some (IsBasic basic.Hyper, rest)) (taken (after_word word.Bool ts) (λ rest. Some (IsBasic basic.Bool, rest)) (name_at ts >>= λ n. Some (IsNamed n.0, n.1)))))
+basic_at ts = taken (after_word word.Unsigned ts)
+    (λ rest. taken (after_word word.Int rest) (λ more. Some (IsBasic basic.Unsigned, more))
+    (after_word word.Hyper rest >>= λ more. Some (IsBasic basic.UnsignedHyper, more)))
+    (taken (after_word word.Int ts) (λ rest. Some (IsBasic basic.Int, rest))
+    (taken (after_word word.Hyper ts) (λ rest. Some (IsBasic basic.Hyper, rest))
+    (taken (after_word word.Bool ts) (λ rest. Some (IsBasic basic.Bool, rest))
+    (name_at ts >>= λ n. Some (IsNamed n.0, n.1)))))
 
 -- ---- bodies
 
@@ -171,7 +192,8 @@ enum_at o ts = do
   Some (place ms.1, add (DNumbered ms.0) ms.1, ms.2)
 
 unfoldable pub field_with : Reader Field → Reader (Field × Bool)
-field_with content o ts = content o ts >>= λ f. after_sign mark.Semicolon f.2 >>= λ next. taken (after_sign mark.CloseBrace next) (λ rest. Some ((f.0, false), f.1, rest)) (Some ((f.0, true), f.1, next))
+field_with content o ts = content o ts >>= λ f. after_sign mark.Semicolon f.2 >>= λ next. taken
+    (after_sign mark.CloseBrace next) (λ rest. Some ((f.0, false), f.1, rest)) (Some ((f.0, true), f.1, next))
 
 unfoldable pub struct_with : Reader Field → Reader Part
 struct_with content o ts = do
@@ -181,14 +203,20 @@ struct_with content o ts = do
 
 -- after case
 unfoldable pub case_at : Reader (Late × Bool)
-case_at o ts = value_at o ts >>= λ v. after_sign mark.Colon v.1 >>= λ next. taken (after_word word.Case next) (λ rest. Some ((v.0, true), o, rest)) (Some ((v.0, false), o, next))
+case_at o ts = value_at o ts >>= λ v. after_sign mark.Colon v.1 >>= λ next. taken (after_word word.Case next)
+    (λ rest. Some ((v.0, true), o, rest)) (Some ((v.0, false), o, next))
 
 -- after the first case of an arm
 unfoldable pub arm_with : Reader Field → Reader (Arm × Bool)
-arm_with content o ts = repeat case_at (length ts) o ts >>= λ vs. content vs.1 vs.2 >>= λ m. after_sign mark.Semicolon m.2 >>= λ next. taken (after_word word.Case next) (λ rest. Some ((record { cases = vs.0; member = m.0 }, true), m.1, rest)) (Some ((record { cases = vs.0; member = m.0 }, false), m.1, next))
+arm_with content o ts = repeat case_at (length ts) o ts >>= λ vs. content vs.1 vs.2 >>=
+    λ m. after_sign mark.Semicolon m.2 >>= λ next. taken (after_word word.Case next)
+    (λ rest. Some ((record { cases = vs.0; member = m.0 }, true), m.1, rest))
+    (Some ((record { cases = vs.0; member = m.0 }, false), m.1, next))
 
 unfoldable pub default_with : Reader Field → Reader (Option Field)
-default_with content o ts = taken (after_word word.Default ts) (λ rest. after_sign mark.Colon rest >>= λ inner. content o inner >>= λ m. after_sign mark.Semicolon m.2 >>= λ next. Some (Some m.0, m.1, next)) (Some (None, o, ts))
+default_with content o ts = taken (after_word word.Default ts)
+    (λ rest. after_sign mark.Colon rest >>= λ inner. content o inner >>= λ m. after_sign mark.Semicolon m.2 >>=
+    λ next. Some (Some m.0, m.1, next)) (Some (None, o, ts))
 
 -- switch ( DECLARATION ) { case
 unfoldable pub switch_with : Reader Field → Reader Field
@@ -210,7 +238,9 @@ union_with declaration o ts = do
   Some (place other.1, add (DChoice tag.0.part arms.0 other.0) other.1, rest)
 
 unfoldable pub body_word_at : List Lexeme → Option (BodyKind × List Lexeme)
-body_word_at ts = taken (after_word word.Enum ts) (λ rest. Some (kind.Enum, rest)) (taken (after_word word.Struct ts) (λ rest. Some (kind.Struct, rest)) (after_word word.Union ts >>= λ rest. Some (kind.Union, rest)))
+body_word_at ts = taken (after_word word.Enum ts) (λ rest. Some (kind.Enum, rest))
+    (taken (after_word word.Struct ts) (λ rest. Some (kind.Struct, rest))
+    (after_word word.Union ts >>= λ rest. Some (kind.Union, rest)))
 
 unfoldable pub body_with : Reader Field → BodyKind → Reader Part
 body_with declaration kind.Enum o ts = enum_at o ts
@@ -220,7 +250,8 @@ body_with declaration kind.Union o ts = union_with declaration o ts
 -- a type specifier with at most so many bodies inside one another
 unfoldable pub specifier_at : ℕ → Reader Part
 specifier_at zero o ts = taken (body_word_at ts) (λ k. None) (basic_at ts >>= λ b. Some (b.0, o, b.1))
-specifier_at (suc d) o ts = taken (body_word_at ts) (λ k. body_with (declaration_with (specifier_at d)) k.0 o k.1) (basic_at ts >>= λ b. Some (b.0, o, b.1))
+specifier_at (suc d) o ts = taken (body_word_at ts) (λ k. body_with (declaration_with (specifier_at d)) k.0 o k.1)
+    (basic_at ts >>= λ b. Some (b.0, o, b.1))
 
 -- ---- programs
 
@@ -236,18 +267,28 @@ argument_with specifier o ts = do
 
 -- after (
 unfoldable pub arguments_with : Reader Part → Reader (List Part)
-arguments_with specifier o ts = taken (after_word word.Void ts) (λ rest. after_sign mark.CloseRound rest >>= λ next. Some ([], o, next)) (repeat (argument_with specifier) (length ts) o ts)
+arguments_with specifier o ts = taken (after_word word.Void ts)
+    (λ rest. after_sign mark.CloseRound rest >>= λ next. Some ([], o, next))
+    (repeat (argument_with specifier) (length ts) o ts)
 
 unfoldable pub result_with : Reader Part → Reader (Option Part)
-result_with specifier o ts = taken (after_word word.Void ts) (λ rest. Some (None, o, rest)) (passed_with specifier o ts >>= λ p. Some (Some p.0, p.1, p.2))
+result_with specifier o ts = taken (after_word word.Void ts) (λ rest. Some (None, o, rest))
+    (passed_with specifier o ts >>= λ p. Some (Some p.0, p.1, p.2))
 
 unfoldable pub procedure_with : Reader Part → Reader (Procedure × Bool)
-procedure_with specifier o ts = result_with specifier o ts >>= λ r. name_at r.2 >>= λ n. after_sign mark.OpenRound n.1 >>= λ inner. arguments_with specifier r.1 inner >>= λ a. numbered_at a.2 >>= λ v.
-    taken (after_sign mark.CloseBrace v.1) (λ rest. Some ((record { name = n.0; number = v.0; arguments = a.0; result = r.0 }, false), a.1, rest)) (Some ((record { name = n.0; number = v.0; arguments = a.0; result = r.0 }, true), a.1, v.1))
+procedure_with specifier o ts = result_with specifier o ts >>= λ r. name_at r.2 >>=
+    λ n. after_sign mark.OpenRound n.1 >>= λ inner. arguments_with specifier r.1 inner >>= λ a. numbered_at a.2 >>= λ v.
+    taken (after_sign mark.CloseBrace v.1)
+    (λ rest. Some ((record { name = n.0; number = v.0; arguments = a.0; result = r.0 }, false), a.1, rest))
+    (Some ((record { name = n.0; number = v.0; arguments = a.0; result = r.0 }, true), a.1, v.1))
 
 unfoldable pub version_with : Reader Part → Reader (Version × Bool)
-version_with specifier o ts = after_word word.Version ts >>= λ begun. name_at begun >>= λ n. after_sign mark.OpenBrace n.1 >>= λ inner. repeat (procedure_with specifier) (length inner) o inner >>= λ ps. numbered_at ps.2 >>= λ v.
-    taken (after_sign mark.CloseBrace v.1) (λ rest. Some ((record { name = n.0; number = v.0; procedures = ps.0 }, false), ps.1, rest)) (Some ((record { name = n.0; number = v.0; procedures = ps.0 }, true), ps.1, v.1))
+version_with specifier o ts = after_word word.Version ts >>= λ begun. name_at begun >>=
+    λ n. after_sign mark.OpenBrace n.1 >>= λ inner. repeat (procedure_with specifier) (length inner) o inner >>=
+    λ ps. numbered_at ps.2 >>= λ v.
+    taken (after_sign mark.CloseBrace v.1)
+    (λ rest. Some ((record { name = n.0; number = v.0; procedures = ps.0 }, false), ps.1, rest))
+    (Some ((record { name = n.0; number = v.0; procedures = ps.0 }, true), ps.1, v.1))
 
 -- ---- definitions
 
@@ -287,7 +328,10 @@ defined_with declaration o ts = do
   Some (add_type (record { name = n.0; part = p.0 }) p.1, rest)
 
 unfoldable pub definition_at : Definer
-definition_at o ts = taken (after_word word.Const ts) (λ rest. const_at o rest) (taken (after_word word.Typedef ts) (λ rest. typedef_with (declaration_with (specifier_at 32)) o rest) (taken (after_word word.Program ts) (λ rest. program_with (specifier_at 32) o rest) (defined_with (declaration_with (specifier_at 31)) o ts)))
+definition_at o ts = taken (after_word word.Const ts) (λ rest. const_at o rest)
+    (taken (after_word word.Typedef ts) (λ rest. typedef_with (declaration_with (specifier_at 32)) o rest)
+    (taken (after_word word.Program ts) (λ rest. program_with (specifier_at 32) o rest)
+    (defined_with (declaration_with (specifier_at 31)) o ts)))
 
 -- at most so many definitions, to the end
 unfoldable pub definitions_at : ℕ → Outline → List Lexeme → Option Outline

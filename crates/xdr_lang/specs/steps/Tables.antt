@@ -1,14 +1,18 @@
 -- What the tables of names hold, for look-ups (the names of RFC 4506 section 6.4).
-use Rattle.std.specs.Prelude.{◌≡◌, ◌≤◌, ℕ, suc, ℤ, Bool, List, [], ◌∷◌, map, Option, Some, None, option_map, if◌then◌else◌}
+use Rattle.std.specs.Prelude.{◌≡◌, ◌≤◌, ℕ, suc, ℤ, Bool, true, false, List, [], ◌∷◌, map, Option, Some, None}
+use Rattle.std.specs.Prelude.{option_map}
+use Rattle.std.specs.Prelude.{if◌then◌else◌}
 use Rattle.std.specs.BTreeMap.{BTreeMap, get_by}
+use Rattle.std.specs.BTreeSet.{BTreeSet}
 use Rattle.std.specs.Ordering.{nat_cmp}
 use Rattle.std.specs.Cmp.Lexicographic.{slice_cmp}
 use Rattle.std.specs.Str.{bytes_eq}
 use denote.Ref.{Bor}
 use Rattle.xdr_grammar.specs.declared.outline.Part.{Part}
 use Rattle.xdr_grammar.specs.View.{part_of}
-use Rattle.xdr_grammar.specs.Outline.{Field}
+use Rattle.xdr_grammar.specs.Outline.{Field, Part as Shown, IsBasic, IsNamed, IsMade, IsText, IsVoid}
 use Rattle.xdr_lang.specs.LookUp.{Known, type_named, named_place}
+use Rattle.xdr_lang.specs.Distinct.{has_name}
 
 -- the keys, without where they lie in memory
 abbrev pub key_texts : List (Bor (List ℕ)) → List (List ℕ)
@@ -38,3 +42,28 @@ pub record IsPlacedAt (types : List Field) (n : List ℕ) (place steps : ℕ) : 
 -- Each name in the map denotes its place.
 pub record HasPlaces (m : BTreeMap (Bor (List ℕ)) (ℕ × ℕ)) (types : List Field) : Type 0 where
   pub right : (n : List ℕ) (place steps : ℕ) → at_name n m ≡ Some (place, steps) → IsPlacedAt types n place steps
+
+-- The name is in the set.
+abbrev pub IsIn : List ℕ → BTreeSet (Bor (List ℕ)) → Type 0
+IsIn n s = has_name n (key_texts s.keys) ≡ true
+
+-- another name, of the set
+abbrev pub leads_into : BTreeSet (Bor (List ℕ)) → Shown → Bool
+leads_into s (IsBasic b) = false
+leads_into s (IsNamed n) = has_name n (key_texts s.keys)
+leads_into s (IsMade k) = false
+leads_into s IsText = false
+leads_into s IsVoid = false
+
+-- A type whose name is in the set is another name, of the set.
+unfoldable pub stays_in : BTreeSet (Bor (List ℕ)) → Field → Bool
+stays_in s f = if has_name f.name (key_texts s.keys) then leads_into s f.part else true
+
+-- the same of all types
+unfoldable pub all_stay : BTreeSet (Bor (List ℕ)) → List Field → Bool
+all_stay s [] = true
+all_stay s (f ∷ fs) = if stays_in s f then all_stay s fs else false
+
+-- No name in the set denotes a place, through however many names.
+pub record HasNoPlaces (s : BTreeSet (Bor (List ℕ))) (types : List Field) : Type 0 where
+  pub none : (n : List ℕ) → IsIn n s → (most : ℕ) → named_place most types n ≡ None

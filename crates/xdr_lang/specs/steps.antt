@@ -1,0 +1,3 @@
+-- What the functions of this crate compute, step by step. The public contracts name nothing of it.
+pub mod Tables
+pub mod Meaning

@@ -1,0 +1,11 @@
+//! The number of a fault of a schema.
+ghost use Rattle.std.specs.Prelude.{◌≤◌};
+
+/// The number of a fault of a schema.
+#[derive(Clone, Copy, Debug, PartialEq, Eq)]
+pub struct FlawNumber {
+    /// The number, from 1 to 11.
+    pub value: u8,
+    pub ghost from_1: { 1 ≤ value },
+    pub ghost to_11: { value ≤ 11 },
+}
