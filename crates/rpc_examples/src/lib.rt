@@ -1,2 +1,4 @@
 //! Worked examples of records and messages for users of the libraries, each proved from the contracts alone.
 #![tactic(auto)]
+
+pub mod records;
