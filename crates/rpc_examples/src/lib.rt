@@ -2,3 +2,4 @@
 #![tactic(auto)]
 
 pub mod messages;
+pub mod records;

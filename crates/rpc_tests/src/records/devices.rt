@@ -1,4 +1,4 @@
-// Each read and each write fails in turn.
+//! Each read and each write fails in turn.
 use crate::records::made::{BOTH, Device, PLAIN, TWO, normalised};
 use rpc_record::RecordFault;
 use std::alloc::Global;

@@ -1,4 +1,4 @@
-// One run of `normalise` over memory.
+//! One run of `normalise` over memory.
 use rpc_record::{Count, RecordFault, normalise};
 use std::alloc::Global;
 use xdr_io::{MemorySink, MemorySource};

@@ -1,4 +1,4 @@
-// A reader of records call by call, and records that are marked.
+//! A reader of records call by call, and records that are marked.
 use crate::records::made::TWO;
 use rpc_record::{RecordFault, RecordReader, RecordStep, mark, write_marked};
 use std::test::Fail;
@@ -23,7 +23,8 @@ static CALLS: [Call; 8] = [
     Call::Feed(&[], Err(RecordFault::Truncated { at: 6 })),
 ];
 
-fn is_taken(taken: Option<Vec<u8>>, wanted: Option<&[u8]>) -> bool {
+/// Whether this was handed out.
+pub fn is_taken(taken: Option<Vec<u8>>, wanted: Option<&[u8]>) -> bool {
     match (taken, wanted) {
         (None, None) => true,
         (Some(taken), Some(wanted)) => taken.as_slice() == wanted,

@@ -1,4 +1,4 @@
-// Streams and their normal forms, byte for byte.
+//! Streams and their normal forms, byte for byte.
 use crate::records::made::{Device, PLAIN, normalised};
 use rpc_record::{Count, RecordFault, twice_as_once};
 use std::alloc::Global;

@@ -1,4 +1,4 @@
-// Readers to their end, or past enough.
+//! Readers to their end, or past enough.
 use std::alloc::Global;
 use std::test::Fail;
 use xdr_io::{FromRead, InputFault, MOST_READS, MemorySource, Source, read_past};

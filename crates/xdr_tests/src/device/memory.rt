@@ -1,4 +1,4 @@
-// Growths that are refused.
+//! Growths that are refused.
 use std::alloc::Global;
 use std::test::Fail;
 use xdr_io::{InputFault, MemorySource, read_past};

@@ -1,4 +1,4 @@
-// Whole slices through writers.
+//! Whole slices through writers.
 use xdr_io::{Cut, IntoWrite, MemorySink, Sink, write_whole};
 
 fn write_abc(sink: &mut impl Sink) -> Result<(), Cut> {

@@ -1,0 +1,9 @@
+use Rattle.std.proofs.Common.{refl}
+use Rattle.rpc_examples.proofs.records.Refused.{is_refused}
+use Rattle.rpc_examples.proofs.records.refuses_a_header_above_the_limit.Goals as goal
+
+pub returns : goal.returns
+returns c =
+    let start = c.start.ensures in
+    is_refused c.too_long_ends_the_stream.ensures.none c.start.result _ c.feed.result start.limit refl start.stands
+    c.feed.ensures.tells

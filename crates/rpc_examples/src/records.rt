@@ -1,0 +1,159 @@
+//! Records of a stream (RFC 5531 section 11): marked, read in any pieces, and brought to their normal form.
+ghost use Rattle.std.specs.Prelude.{◌≡◌, ◌≤◌, [], ◌∷◌, true, IfOk, IsErr};
+ghost use Rattle.rpc_record.specs.Stands.{IsWaiting, IsBroken};
+
+use rpc_record::{
+    Count, NoMemory, RecordFault, RecordReader, RecordStep, last_header, mark,
+    no_record_begins_another, normalise, too_long_ends_the_stream, write_marked,
+};
+use std::alloc::Global;
+use xdr_io::{Cut, MemorySink, MemorySource, Sink};
+
+/// A record of no bytes is a header alone: `80000000`.
+#[tactic(auto, unfolding(rpc_record::specs::Marked::header))]
+pub fn marks_nothing(alloc: Global) -> Result<Vec<u8>, NoMemory>
+    ensures { IfOk result (λ marked. marked.items ≡ 128 ∷ 0 ∷ 0 ∷ 0 ∷ []) }
+{
+    mark(alloc, &[])
+}
+
+/// The header's highest bit says that the fragment is the last, and the others count its bytes: `80000003 616263`.
+#[tactic(auto, unfolding(rpc_record::specs::Marked::header))]
+pub fn marks_three_bytes(alloc: Global) -> Result<Vec<u8>, NoMemory>
+    ensures { IfOk result (λ marked. marked.items ≡ 128 ∷ 0 ∷ 0 ∷ 3 ∷ 97 ∷ 98 ∷ 99 ∷ []) }
+{
+    mark(alloc, b"abc")
+}
+
+/// The header of a last fragment of 65536 bytes.
+#[tactic(auto, unfolding(rpc_record::specs::Marked::header))]
+pub fn heads_65536_bytes() -> [u8; 4]
+    ensures { result ≡ 128 ∷ 1 ∷ 0 ∷ 0 ∷ [] }
+{
+    last_header(65536)
+}
+
+/// A marked record has four bytes more than its content, however the sink takes them.
+#[tactic(auto, unfolding(rpc_record::specs::Marked::header))]
+pub fn writes_three_bytes(room: &mut [u8]) -> Result<usize, Cut>
+    ensures { IfOk result (λ used. used ≡ 7) }
+{
+    let mut sink = MemorySink::new(room, 1, None);
+    write_marked(&mut sink, b"abc")?;
+    Ok(sink.used())
+}
+
+/// Nothing waits before the first byte.
+pub fn has_none_at_first(alloc: Global) -> bool
+    ensures { result ≡ true }
+{
+    RecordReader::start(alloc, 100).take().is_none()
+}
+
+/// A record is handed out once: what `take` leaves has none.
+pub fn hands_out_once(reader: &mut RecordReader) -> bool
+    ensures { result ≡ true }
+{
+    let _first = reader.take();
+    reader.take().is_none()
+}
+
+/// While a record waits, a reader takes no more bytes.
+pub fn waits_to_be_taken(reader: &mut RecordReader, piece: &[u8]) -> Result<RecordStep, RecordFault>
+    requires { IsWaiting reader.old }
+    ensures { IfOk result (λ step. step ≡ RecordStep.Whole 0) }
+{
+    reader.feed(piece)
+}
+
+/// What a piece brought is there to be taken: `Whole` comes exactly where a record waits.
+pub fn hands_out_what_is_whole(reader: &mut RecordReader, piece: &[u8]) -> bool
+    ensures { result ≡ true }
+{
+    match reader.feed(piece) {
+        Ok(RecordStep::Whole { .. }) => reader.take().is_some(),
+        Ok(RecordStep::More) => reader.take().is_none(),
+        Err(_) => reader.take().is_none(),
+    }
+}
+
+/// A fault is answered for ever after, whatever comes.
+pub fn stays_broken(
+    reader: &mut RecordReader,
+    fault: RecordFault,
+    piece: &[u8],
+) -> Result<RecordStep, RecordFault>
+    requires { IsBroken reader.old fault }
+    ensures { result ≡ Err fault }
+{
+    let _same = reader.end();
+    reader.feed(piece)
+}
+
+/// Never more than the limit is kept, whatever lengths the headers say.
+pub fn keeps_at_most_the_limit(alloc: Global, piece: &[u8]) -> usize
+    ensures { result ≤ 100 }
+{
+    let mut reader = RecordReader::start(alloc, 100);
+    let _fed = reader.feed(piece);
+    reader.kept()
+}
+
+/// A header that brings its record above the limit is refused at once, before any content: `80000001` where the limit
+/// is 0.
+pub fn refuses_a_header_above_the_limit(alloc: Global) -> Result<RecordStep, RecordFault>
+    ensures { IsErr result }
+{
+    too_long_ends_the_stream();
+    RecordReader::start(alloc, 0).feed(&[0x80, 0, 0, 1])
+}
+
+/// A fresh reader ends well: no bytes are a stream of no records.
+pub fn ends_well_at_once(alloc: Global) -> Result<(), RecordFault>
+    ensures { result ≡ Ok tt }
+{
+    RecordReader::start(alloc, 100).end()
+}
+
+/// No bytes have a normal form of no bytes.
+pub fn normalises_nothing<W: Sink>(alloc: Global, writer: &mut W) -> Result<Count, RecordFault>
+    ensures { IfOk result (λ count. (count.records ≡ 0) × (count.bytes ≡ 0)) }
+{
+    no_record_begins_another();
+    let mut source = MemorySource::new(&[], 4096, None);
+    let count = normalise(alloc, &mut source, writer, 100)?;
+    Ok(count)
+}
+
+/// An empty fragment ends no record: `00000000 00000000 80000000` is one empty record, whose normal form is `80000000`.
+pub fn joins_empty_fragments<W: Sink>(alloc: Global, writer: &mut W) -> Result<Count, RecordFault>
+    ensures { IfOk result (λ count. (count.records ≡ 1) × (count.bytes ≡ 4)) }
+{
+    no_record_begins_another();
+    let stream = [0, 0, 0, 0, 0, 0, 0, 0, 0x80, 0, 0, 0];
+    let mut source = MemorySource::new(&stream, 4096, None);
+    let count = normalise(alloc, &mut source, writer, 0)?;
+    Ok(count)
+}
+
+/// Two fragments are joined: `00000002 6162 80000001 63` has the normal form `80000003 616263`.
+pub fn joins_two_fragments<W: Sink>(alloc: Global, writer: &mut W) -> Result<Count, RecordFault>
+    ensures { IfOk result (λ count. (count.records ≡ 1) × (count.bytes ≡ 7)) }
+{
+    no_record_begins_another();
+    let stream = [0, 0, 0, 2, 0x61, 0x62, 0x80, 0, 0, 1, 0x63];
+    let mut source = MemorySource::new(&stream, 4096, None);
+    let count = normalise(alloc, &mut source, writer, 100)?;
+    Ok(count)
+}
+
+/// Two records stay two, an empty one too: `80000001 61 80000000`.
+pub fn keeps_two_records_apart<W: Sink>(alloc: Global, writer: &mut W) -> Result<Count, RecordFault>
+    ensures { IfOk result (λ count. (count.records ≡ 2) × (count.bytes ≡ 9)) }
+{
+    no_record_begins_another();
+    let stream = [0x80, 0, 0, 1, 0x61, 0x80, 0, 0, 0];
+    let mut source = MemorySource::new(&stream, 4096, None);
+    let count = normalise(alloc, &mut source, writer, 100)?;
+    Ok(count)
+}
