@@ -50,7 +50,8 @@ pub fn reads_what_was_written(alloc: Global, call: &Call) -> Result<CallRead, No
     read_call(alloc, &bytes)
 }
 
-/// A call that was read is written to the bytes that it was read from: no other padding is accepted, and no byte is lost.
+/// A call that was read is written to the bytes that it was read from: no other padding is accepted, and no byte is
+/// lost.
 pub fn writes_what_was_read(alloc: Global, bytes: &[u8]) -> Result<Option<Vec<u8>>, NoMemory>
     ensures { IfOk result (λ o. IfSome o (λ v. v.items ≡ bytes.now)) }
 {
@@ -217,8 +218,8 @@ pub fn reads_the_reply_again(alloc: Global, reply: &Reply) -> Result<Reply, Repl
     }
 }
 
-/// A reply that was read is written to the bytes that it was read from: another message is no reply, no other padding is
-/// accepted, and no bytes follow a reply without results.
+/// A reply that was read is written to the bytes that it was read from: another message is no reply, no other padding
+/// is accepted, and no bytes follow a reply without results.
 pub fn writes_the_reply_again(alloc: Global, bytes: &[u8]) -> Option<Vec<u8>>
     ensures { IfSome result (λ v. v.items ≡ bytes.now) }
 {
