@@ -1,9 +1,12 @@
 -- What stands in the bytes of the examples.
 use Rattle.std.proofs.Common.{◌≡◌, ◌≢◌, ℕ, ◌<◌, ◌^◌, List, [], ◌∷◌, ◌++◌, length, get_or, Bool, true, false, Result, Ok, Err, refl, sym, ap, subst, ◌∙◌, arith, inl, inr}
-use Rattle.std.specs.Prelude.{OnErr, IsOk}
+use Rattle.std.specs.Prelude.{OnErr, IfOk, IsOk, IsErr}
 use Rattle.xdr_units.specs.Numbers.{word, padded}
 use Rattle.xdr_units.proofs.Bytes.{same_word}
 use Rattle.rpc_message.specs.Message.{AuthView, CallView, ReplyView, Accepted, Denied}
+use Rattle.rpc_message.specs.declared.fault.ReplyFault.{ReplyFault}
+use Rattle.rpc_message.specs.declared.message.Reply.{Reply}
+use Rattle.rpc_message.specs.View.{reply_view}
 use Rattle.rpc_message.specs.Spelling.{auth, call, reply, IsAuth, CallBytes, ReplyBytes}
 use Rattle.rpc_message.specs.Cases.{NoAuth, IsOtherVersion, IsBadCred, IsBadVerf, IsNoCall}
 
@@ -71,7 +74,9 @@ type_is_one : (r : ReplyView) (bytes : List ℕ) → ReplyBytes r bytes → get_
 type_is_one (Accepted xid verf s) bytes h = ap (λ (t : List ℕ). get_or t 7 0) h.parts
 type_is_one (Denied xid w) bytes h = ap (λ (t : List ℕ). get_or t 7 0) h.parts
 
-pub no_reply : (r : ReplyView) (bytes : List ℕ) → bytes ≡ 0 ∷ 0 ∷ 0 ∷ 1 ∷ 0 ∷ 0 ∷ 0 ∷ 0 ∷ [] → ReplyBytes r bytes → ⊥
-no_reply r bytes e h =
+pub no_reply : (r : Result Reply ReplyFault) (bytes : List ℕ) → bytes ≡ 0 ∷ 0 ∷ 0 ∷ 1 ∷ 0 ∷ 0 ∷ 0 ∷ 0 ∷ []
+    → IfOk r (λ x. ReplyBytes (reply_view x) bytes) → IsErr r
+no_reply (Err f) bytes e h = refl
+no_reply (Ok x) bytes e h =
     let zero_is : get_or bytes 7 0 ≡ 0 = ap (λ (t : List ℕ). get_or t 7 0) e in
-    omega (arith, zero_is, type_is_one r bytes h)
+    absurd (omega (arith, zero_is, type_is_one (reply_view x) bytes h))

@@ -1,6 +1,6 @@
 //! Calls, replies and AUTH_SYS bodies: what bytes are read as which message, and what is written.
-ghost use Rattle.std.specs.Prelude.{◌≡◌, ◌≤◌, [], ◌∷◌, ◌++◌, Some, length, option_map};
-ghost use Rattle.std.specs.Prelude.{IfOk, OnOk, IfErr, IfSome, IsOk};
+ghost use Rattle.std.specs.Prelude.{◌≡◌, ◌≢◌, ◌≤◌, [], ◌∷◌, ◌++◌, Some, length, option_map};
+ghost use Rattle.std.specs.Prelude.{IfOk, OnOk, IfErr, IfSome, IsOk, IsErr};
 ghost use Rattle.rpc_message.specs.Message.{CaseView, Whole, OtherVersion, BadCred, BadVerf, NotACall};
 ghost use Rattle.rpc_message.specs.Cases.{IsCase};
 ghost use Rattle.rpc_message.specs.View.{call_view, case_view, lent_case_view, reply_view, auth_sys_view, HasShortVerf};
@@ -8,8 +8,9 @@ ghost use Rattle.rpc_message.specs.declared.fault.ReplyFault.TheVariants as faul
 
 use rpc_message::{
     AuthSys, Call, CallRead, LentRead, NoMemory, OpaqueAuth, Reply, ReplyFault, Status, Why,
-    append_reply, five_cases, read_auth_sys, read_call, read_lent_call, read_reply, write_auth_sys,
-    write_call, write_reply,
+    append_reply, auth_sys_bytes_are_exact, call_bytes_are_exact, five_cases, read_auth_sys,
+    read_call, read_lent_call, read_reply, reply_bytes_are_exact, write_auth_sys, write_call,
+    write_reply,
 };
 use std::alloc::Global;
 
@@ -49,7 +50,8 @@ pub fn reads_what_was_written(alloc: Global, call: &Call) -> Result<CallRead, No
     read_call(alloc, &bytes)
 }
 
-/// A call that was read is written to the bytes that it was read from: no other padding is accepted, and no byte is lost.
+/// A call that was read is written to the bytes that it was read from: no other padding is accepted, and no byte is
+/// lost.
 pub fn writes_what_was_read(alloc: Global, bytes: &[u8]) -> Result<Option<Vec<u8>>, NoMemory>
     ensures { IfOk result (λ o. IfSome o (λ v. v.items ≡ bytes.now)) }
 {
@@ -143,6 +145,25 @@ pub fn are_in_one_case(bytes: &[u8])
     five_cases();
 }
 
+/// Two calls that differ are written to bytes that differ.
+pub fn tells_two_calls_apart(
+    alloc: Global,
+    first: &Call,
+    second: &Call,
+) -> Result<(Vec<u8>, Vec<u8>), NoMemory>
+    requires first_cred { length first.now.cred.body.items ≤ 400 }
+    requires first_verf { length first.now.verf.body.items ≤ 400 }
+    requires second_cred { length second.now.cred.body.items ≤ 400 }
+    requires second_verf { length second.now.verf.body.items ≤ 400 }
+    requires differ { call_view first.now ≢ call_view second.now }
+    ensures { IfOk result (λ both. both.0.items ≢ both.1.items) }
+{
+    call_bytes_are_exact();
+    let one = write_call(alloc, first)?;
+    let other = write_call(alloc, second)?;
+    Ok((one, other))
+}
+
 // ---- replies
 
 /// The reply that a call failed for want of memory has these 24 bytes: its status is 5, SYSTEM_ERR.
@@ -197,8 +218,8 @@ pub fn reads_the_reply_again(alloc: Global, reply: &Reply) -> Result<Reply, Repl
     }
 }
 
-/// A reply that was read is written to the bytes that it was read from: another message is no reply, no other padding is
-/// accepted, and no bytes follow a reply without results.
+/// A reply that was read is written to the bytes that it was read from: another message is no reply, no other padding
+/// is accepted, and no bytes follow a reply without results.
 pub fn writes_the_reply_again(alloc: Global, bytes: &[u8]) -> Option<Vec<u8>>
     ensures { IfSome result (λ v. v.items ≡ bytes.now) }
 {
@@ -209,6 +230,31 @@ pub fn writes_the_reply_again(alloc: Global, bytes: &[u8]) -> Option<Vec<u8>>
         }
     }
     write_reply(alloc, &reply).ok()
+}
+
+/// A call is no reply: its bytes have a fault.
+pub fn takes_no_call_for_a_reply(alloc: Global, bytes: &[u8]) -> Result<Reply, ReplyFault>
+    requires { bytes.now ≡ 0 ∷ 0 ∷ 0 ∷ 1 ∷ 0 ∷ 0 ∷ 0 ∷ 0 ∷ [] }
+    ensures { IsErr result }
+{
+    read_reply(alloc, bytes)
+}
+
+/// Two replies that differ are written to bytes that differ.
+pub fn tells_two_replies_apart(
+    alloc: Global,
+    first: &Reply,
+    second: &Reply,
+) -> Result<(Vec<u8>, Vec<u8>), NoMemory>
+    requires first { HasShortVerf first.now }
+    requires second { HasShortVerf second.now }
+    requires differ { reply_view first.now ≢ reply_view second.now }
+    ensures { IfOk result (λ both. both.0.items ≢ both.1.items) }
+{
+    reply_bytes_are_exact();
+    let one = write_reply(alloc, first)?;
+    let other = write_reply(alloc, second)?;
+    Ok((one, other))
 }
 
 // ---- AUTH_SYS
@@ -257,4 +303,23 @@ pub fn count_of_gids(alloc: Global, bytes: &[u8]) -> Result<usize, NoMemory>
         Some(body) => Ok(body.gids.len()),
         None => Ok(0),
     }
+}
+
+/// Two bodies that differ are written to bytes that differ.
+pub fn tells_two_bodies_apart(
+    alloc: Global,
+    first: &AuthSys,
+    second: &AuthSys,
+) -> Result<(Vec<u8>, Vec<u8>), NoMemory>
+    requires first_machine { length first.now.machine.items ≤ 255 }
+    requires first_gids { length first.now.gids.items ≤ 16 }
+    requires second_machine { length second.now.machine.items ≤ 255 }
+    requires second_gids { length second.now.gids.items ≤ 16 }
+    requires differ { auth_sys_view first.now ≢ auth_sys_view second.now }
+    ensures { IfOk result (λ both. both.0.items ≢ both.1.items) }
+{
+    auth_sys_bytes_are_exact();
+    let one = write_auth_sys(alloc, first)?;
+    let other = write_auth_sys(alloc, second)?;
+    Ok((one, other))
 }

@@ -1,5 +1,6 @@
 -- Calls: the five cases, and what a call's bytes are.
-use Rattle.std.proofs.Common.{◌≡◌, ℕ, ◌+◌, ◌<◌, cond, eqb, List, ◌++◌, length, Result, Ok, Err, refl, sym, ap, subst, ◌∙◌, arith, inl, inr}
+use Rattle.std.proofs.Common.{◌≡◌, ℕ, ◌+◌, ◌<◌, cond, eqb, List, ◌++◌, length, Result, Ok, Err, refl, sym, ap, subst}
+use Rattle.std.proofs.Common.{◌∙◌, arith, inl, inr}
 use Rattle.std.proofs.lemmas.Bool.{eqb-true, eqb-false, ne_eqb, cond_both}
 use Rattle.std.proofs.lemmas.List.{length-append, drop_at}
 use Rattle.rpc_message.specs.declared.fault.ReplyFault.{ReplyFault}
@@ -9,8 +10,10 @@ use Rattle.rpc_message.specs.Message.{AuthView, CallView, CaseView, Whole, Other
 use Rattle.xdr_units.specs.Numbers.{AreBytes, word, IsWord}
 use Rattle.rpc_message.specs.Spelling.{auth, CallBytes}
 use Rattle.rpc_message.specs.Cases.{NoAuth, IsOtherVersion, IsBadCred, IsBadVerf, IsNoCall, IsCase}
-use Rattle.rpc_message.specs.Reading.{◌>>=◌, read_or, Head, Target, whole_case, verf_case, cred_case, version_case, word_at, auth_at, call_head_at, target_at, case_of}
-use Rattle.rpc_message.proofs.FieldLaws.{bind_ok, bind_err, guard_then, guard_fails, ok_is, ok_no_err, word_takes, word_again, word_fails, auth_takes, auth_again}
+use Rattle.rpc_message.specs.Reading.{◌>>=◌, read_or, Head, Target, whole_case, verf_case, cred_case, version_case}
+use Rattle.rpc_message.specs.Reading.{word_at, auth_at, call_head_at, target_at, case_of}
+use Rattle.rpc_message.proofs.FieldLaws.{bind_ok, bind_err, guard_then, guard_fails, ok_is, ok_no_err, word_takes}
+use Rattle.rpc_message.proofs.FieldLaws.{word_again, word_fails, auth_takes, auth_again}
 
 read_or_cases : {A B : Type 0} (r : Result A ReplyFault) (other : B) (next : A → B) (P : B → Type 0) → ((e : ReplyFault) → r ≡ Err e → P other) → ((x : A) → r ≡ Ok x → P (next x)) → P (read_or r other next)
 read_or_cases (Ok x) other next P bad good = good x refl

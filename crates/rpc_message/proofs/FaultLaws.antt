@@ -1,18 +1,26 @@
 -- A fault names what stands in the bytes.
-use Rattle.std.proofs.Common.{◌≡◌, ◌≢◌, ℕ, zero, suc, ◌<◌, ◌≤◌, Bool, true, false, cond, eqb, ltb, List, [], ◌∷◌, ◌++◌, length, take, drop, replicate, Result, Ok, Err, refl, sym, ap, subst, ◌∙◌, append_assoc, arith, inl, inr, ◌⊎◌}
+use Rattle.std.proofs.Common.{◌≡◌, ◌≢◌, ℕ, zero, suc, ◌<◌, ◌≤◌, Bool, true, false, cond, eqb, ltb, List, [], ◌∷◌, ◌++◌}
+use Rattle.std.proofs.Common.{length, take, drop, replicate, Result, Ok, Err, refl, sym, ap, subst, ◌∙◌, append_assoc}
+use Rattle.std.proofs.Common.{arith, inl, inr, ◌⊎◌}
 use Rattle.std.specs.Prelude.{IfErr}
 use Rattle.std.proofs.lemmas.Bool.{eqb-true, eqb-false, ltb-true, ltb-false}
 use Rattle.std.proofs.lemmas.List.{append-nil, take-append-drop, length-take}
 use Rattle.rpc_message.specs.declared.fault.ReplyFault.{ReplyFault}
 use Rattle.rpc_message.specs.declared.fault.ReplyFault.TheVariants as faults
 use Rattle.rpc_message.specs.declared.message.Reply.{Reply}
-use Rattle.rpc_message.specs.Message.{AuthView, StatusView, Success, ProgUnavail, ProgMismatch, ProcUnavail, GarbageArgs, SystemErr, WhyView, RpcMismatch, AuthError, ReplyView, Accepted, Denied}
+use Rattle.rpc_message.specs.Message.{AuthView, StatusView, Success, ProgUnavail, ProgMismatch, ProcUnavail}
+use Rattle.rpc_message.specs.Message.{GarbageArgs, SystemErr, WhyView, RpcMismatch, AuthError, ReplyView, Accepted}
+use Rattle.rpc_message.specs.Message.{Denied}
 use Rattle.xdr_units.specs.Numbers.{AreBytes, word, gap, IsWord}
 use Rattle.rpc_message.specs.Spelling.{auth, status, why, IsAuth, IsStatus, IsWhy}
 use Rattle.rpc_message.specs.View.{reply_view}
-use Rattle.rpc_message.specs.Faults.{Place, Xid, MessageType, ReplyStat, AcceptStat, AcceptLow, AcceptHigh, RejectStat, RejectLow, RejectHigh, AuthStat, before, IsPlace, EndsInNumber, IsCutAuth, IsTooLong, IsPaddedWrong, HasNoResults, StandsIn}
-use Rattle.rpc_message.specs.Reading.{◌>>=◌, Gives, ended, are_zeros, word_at, padding_at, opaque_at, auth_at, bounds_at, status_at, why_at, accepted_at, denied_at, reply_stat_at, reply_at}
-use Rattle.rpc_message.proofs.FieldLaws.{bind_err, ok_no_err, err_is, failed, guard_fails, word_takes, word_fails, zeros_are, are_zeros-replicate, body_at, auth_takes}
+use Rattle.rpc_message.specs.Faults.{Place, Xid, MessageType, ReplyStat, AcceptStat, AcceptLow, AcceptHigh, RejectStat}
+use Rattle.rpc_message.specs.Faults.{RejectLow, RejectHigh, AuthStat, before, IsPlace, EndsInNumber, IsCutAuth}
+use Rattle.rpc_message.specs.Faults.{IsTooLong, IsPaddedWrong, HasNoResults, StandsIn}
+use Rattle.rpc_message.specs.Reading.{◌>>=◌, Gives, ended, are_zeros, word_at, padding_at, opaque_at, auth_at}
+use Rattle.rpc_message.specs.Reading.{bounds_at, status_at, why_at, accepted_at, denied_at, reply_stat_at, reply_at}
+use Rattle.rpc_message.proofs.FieldLaws.{bind_err, ok_no_err, err_is, failed, guard_fails, word_takes, word_fails}
+use Rattle.rpc_message.proofs.FieldLaws.{zeros_are, are_zeros-replicate, body_at, auth_takes}
 
 -- ---- steps that fail
 

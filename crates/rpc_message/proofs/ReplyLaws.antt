@@ -1,17 +1,22 @@
 -- Replies: what is read is spelled so, and what is spelled so is read.
-use Rattle.std.proofs.Common.{◌≡◌, ℕ, zero, suc, cond, eqb, List, [], ◌++◌, length, Result, Ok, Err, refl, sym, ap, subst, ◌∙◌, append_assoc, arith}
+use Rattle.std.proofs.Common.{◌≡◌, ℕ, zero, suc, cond, eqb, List, [], ◌++◌, length, Result, Ok, Err, refl, sym, ap}
+use Rattle.std.proofs.Common.{subst, ◌∙◌, append_assoc, arith}
 use Rattle.std.specs.Prelude.{IfOk, MatchResult}
 use Rattle.std.proofs.lemmas.Bool.{eqb-true}
 use Rattle.std.proofs.lemmas.List.{nil_from_length}
 use Rattle.rpc_message.specs.declared.fault.ReplyFault.{ReplyFault}
 use Rattle.rpc_message.specs.declared.fault.ReplyFault.TheVariants as faults
 use Rattle.rpc_message.specs.declared.message.Reply.{Reply}
-use Rattle.rpc_message.specs.Message.{AuthView, StatusView, Success, ProgUnavail, ProgMismatch, ProcUnavail, GarbageArgs, SystemErr, WhyView, RpcMismatch, AuthError, ReplyView, Accepted, Denied}
+use Rattle.rpc_message.specs.Message.{AuthView, StatusView, Success, ProgUnavail, ProgMismatch, ProcUnavail}
+use Rattle.rpc_message.specs.Message.{GarbageArgs, SystemErr, WhyView, RpcMismatch, AuthError, ReplyView, Accepted}
+use Rattle.rpc_message.specs.Message.{Denied}
 use Rattle.xdr_units.specs.Numbers.{AreBytes, word, IsWord}
 use Rattle.rpc_message.specs.Spelling.{auth, status, why, reply, IsAuth, IsStatus, IsWhy, ReplyBytes}
 use Rattle.rpc_message.specs.View.{reply_view}
-use Rattle.rpc_message.specs.Reading.{◌>>=◌, Gives, ended, word_at, auth_at, bounds_at, status_at, why_at, accepted_at, denied_at, reply_stat_at, reply_at}
-use Rattle.rpc_message.proofs.FieldLaws.{bind_ok, guard_then, ok_is, ok_no_err, word_takes, word_again, auth_takes, auth_again}
+use Rattle.rpc_message.specs.Reading.{◌>>=◌, Gives, ended, word_at, auth_at, bounds_at, status_at, why_at, accepted_at}
+use Rattle.rpc_message.specs.Reading.{denied_at, reply_stat_at, reply_at}
+use Rattle.rpc_message.proofs.FieldLaws.{bind_ok, guard_then, ok_is, ok_no_err, word_takes, word_again, auth_takes}
+use Rattle.rpc_message.proofs.FieldLaws.{auth_again}
 
 pub ended_ok : {A : Type 0} (rest : List ℕ) (x y : A) → ended rest x ≡ Ok y → (rest ≡ []) × (x ≡ y)
 ended_ok rest x y e =

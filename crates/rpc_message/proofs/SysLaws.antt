@@ -1,5 +1,6 @@
 -- The body of AUTH_SYS: what is read is spelled so, and what is spelled so is read.
-use Rattle.std.proofs.Common.{◌≡◌, ℕ, zero, suc, ◌≤◌, false, cond, ltb, List, [], ◌∷◌, ◌++◌, length, Ok, Err, refl, sym, ap, subst, ◌∙◌, append_assoc, arith}
+use Rattle.std.proofs.Common.{◌≡◌, ℕ, zero, suc, ◌≤◌, false, cond, ltb, List, [], ◌∷◌, ◌++◌, length, Ok, Err, refl, sym}
+use Rattle.std.proofs.Common.{ap, subst, ◌∙◌, append_assoc, arith}
 use Rattle.std.specs.List.{flat_map, AllByRecursion}
 use Rattle.std.proofs.lemmas.Bool.{ltb-false, le-ltb}
 use Rattle.std.proofs.lemmas.List.{append-nil}
@@ -10,8 +11,10 @@ use Rattle.rpc_message.specs.declared.fault.ReplyFault.TheVariants as faults
 use Rattle.rpc_message.specs.Message.{AuthSysView}
 use Rattle.xdr_units.specs.Numbers.{AreBytes, word, IsWord}
 use Rattle.rpc_message.specs.Spelling.{opaque, auth_sys, IsAuthSys, AuthSysBytes}
-use Rattle.rpc_message.specs.Reading.{◌>>=◌, Fails, is_memory, ended, word_at, opaque_at, words_at, gids_at, auth_sys_at}
-use Rattle.rpc_message.proofs.FieldLaws.{Takes, Takes-then, bind_ok, guard_ok, ok_is, ok_no_err, word_takes, word_again, opaque_takes, opaque_again}
+use Rattle.rpc_message.specs.Reading.{◌>>=◌, Fails, is_memory, ended, word_at, opaque_at, words_at, gids_at}
+use Rattle.rpc_message.specs.Reading.{auth_sys_at}
+use Rattle.rpc_message.proofs.FieldLaws.{Takes, Takes-then, bind_ok, guard_ok, ok_is, ok_no_err, word_takes, word_again}
+use Rattle.rpc_message.proofs.FieldLaws.{opaque_takes, opaque_again}
 use Rattle.rpc_message.proofs.ReplyLaws.{ended_ok}
 
 words_take : (n : ℕ) (bytes : List ℕ) (x : List ℕ × List ℕ) → AreBytes bytes → words_at n bytes ≡ Ok x → Takes bytes (flat_map word x.0) x.1 × (length x.0 ≡ n) × AllByRecursion IsWord x.0

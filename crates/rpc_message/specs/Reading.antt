@@ -1,10 +1,13 @@
 -- Reading from left to right, with the first fault that is met: a step between the code and what the public contracts
 -- say, and none of them names it.
-use Rattle.std.specs.Prelude.{◌≡◌, ℕ, zero, suc, List, [], ◌∷◌, length, take, drop, Bool, true, false, Result, Ok, Err, nat_lt, ◌==◌, if◌then◌else◌}
+use Rattle.std.specs.Prelude.{◌≡◌, ℕ, zero, suc, List, [], ◌∷◌, length, take, drop, Bool, true, false, Result, Ok, Err}
+use Rattle.std.specs.Prelude.{nat_lt, ◌==◌, if◌then◌else◌}
 use Rattle.std.specs.Int.{w32, from_be_bytes}
 use Rattle.rpc_message.specs.declared.fault.ReplyFault.{ReplyFault}
 use Rattle.rpc_message.specs.declared.fault.ReplyFault.TheVariants as faults
-use Rattle.rpc_message.specs.Message.{AuthView, AuthSysView, CaseView, Whole, OtherVersion, BadCred, BadVerf, NotACall, StatusView, Success, ProgUnavail, ProgMismatch, ProcUnavail, GarbageArgs, SystemErr, WhyView, RpcMismatch, AuthError, ReplyView, Accepted, Denied}
+use Rattle.rpc_message.specs.Message.{AuthView, AuthSysView, CaseView, Whole, OtherVersion, BadCred, BadVerf, NotACall}
+use Rattle.rpc_message.specs.Message.{StatusView, Success, ProgUnavail, ProgMismatch, ProcUnavail, GarbageArgs}
+use Rattle.rpc_message.specs.Message.{SystemErr, WhyView, RpcMismatch, AuthError, ReplyView, Accepted, Denied}
 use Rattle.xdr_units.specs.Numbers.{gap}
 
 infixl 10 ◌>>=◌
@@ -37,7 +40,10 @@ Gives view (Err e) read = Fails e read
 
 -- A field is a value and the bytes after it.
 unfoldable pub word_at : List ℕ → Result (ℕ × List ℕ) ReplyFault
-word_at bytes = if nat_lt (length bytes) 4 then Err faults.Truncated else Ok (from_be_bytes w32 (take 4 bytes), drop 4 bytes)
+word_at bytes =
+    if nat_lt (length bytes) 4
+    then Err faults.Truncated
+    else Ok (from_be_bytes w32 (take 4 bytes), drop 4 bytes)
 
 abbrev pub are_zeros : List ℕ → Bool
 are_zeros [] = true
@@ -87,7 +93,8 @@ abbrev pub Target : Type 0
 Target = ℕ × ℕ × ℕ × List ℕ
 
 abbrev pub whole_case : Head → Target → AuthView × List ℕ → AuthView × List ℕ → CaseView
-whole_case h t cred verf = Whole (record { xid = h.0; prog = t.0; vers = t.1; proc = t.2; cred = cred.0; verf = verf.0; args = verf.1 })
+whole_case h t cred verf =
+    Whole (record { xid = h.0; prog = t.0; vers = t.1; proc = t.2; cred = cred.0; verf = verf.0; args = verf.1 })
 
 abbrev pub verf_case : Head → Target → AuthView × List ℕ → CaseView
 verf_case h t cred = read_or (auth_at cred.1) (BadVerf h.0) (whole_case h t cred)

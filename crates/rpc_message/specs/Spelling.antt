@@ -2,7 +2,9 @@
 use Rattle.std.specs.Prelude.{◌≡◌, ℕ, ◌≤◌, List, ◌++◌, length, All}
 use Rattle.std.specs.List.{flat_map}
 use Rattle.xdr_units.specs.Numbers.{word, padded, IsWord}
-use Rattle.rpc_message.specs.Message.{AuthView, AuthSysView, CallView, StatusView, Success, ProgUnavail, ProgMismatch, ProcUnavail, GarbageArgs, SystemErr, WhyView, RpcMismatch, AuthError, ReplyView, Accepted, Denied}
+use Rattle.rpc_message.specs.Message.{AuthView, AuthSysView, CallView, StatusView, Success, ProgUnavail, ProgMismatch}
+use Rattle.rpc_message.specs.Message.{ProcUnavail, GarbageArgs, SystemErr, WhyView, RpcMismatch, AuthError, ReplyView}
+use Rattle.rpc_message.specs.Message.{Accepted, Denied}
 
 -- a length, so many bytes, and zeros (RFC 4506 section 4.10)
 abbrev pub opaque : List ℕ → List ℕ
@@ -12,7 +14,8 @@ opaque bytes = word (length bytes) ++ padded bytes
 abbrev pub auth : AuthView → List ℕ
 auth a = word a.flavor ++ opaque a.body
 
--- xid, 0 for CALL, version 2 of RPC, program, version, procedure, credential, verifier, arguments (section 9, call_body)
+-- xid, 0 for CALL, version 2 of RPC, program, version, procedure, credential, verifier, arguments
+-- (section 9, call_body)
 abbrev pub call : CallView → List ℕ
 call c =
     word c.xid ++ word 0 ++ word 2 ++ word c.prog ++ word c.vers ++ word c.proc
@@ -39,7 +42,9 @@ reply (Denied xid w) = word xid ++ word 1 ++ word 1 ++ why w
 
 -- stamp, machine name, uid, gid, and the gids after their number (appendix A)
 abbrev pub auth_sys : AuthSysView → List ℕ
-auth_sys a = word a.stamp ++ (opaque a.machine ++ (word a.uid ++ word a.gid ++ word (length a.gids) ++ flat_map word a.gids))
+auth_sys a =
+    word a.stamp
+    ++ (opaque a.machine ++ (word a.uid ++ word a.gid ++ word (length a.gids) ++ flat_map word a.gids))
 
 -- ---- what has bytes
 

@@ -69,8 +69,8 @@ fn case_of(bytes: &[u8]) -> LentRead<'_>
     })
 }
 
-/// What the bytes are, as a call that lies in them: the one of the five cases that applies. It takes no memory (RFC 5531
-/// sections 8.2 and 9).
+/// What the bytes are, as a call that lies in them: the one of the five cases that applies. It takes no memory
+/// (RFC 5531 sections 8.2 and 9).
 pub fn read_lent_call(bytes: &[u8]) -> LentRead<'_>
     // The case that is answered applies,
     ensures found { IsCase bytes.now (lent_case_view result) }
@@ -99,8 +99,8 @@ pub fn read_call(alloc: Global, bytes: &[u8]) -> Result<CallRead, NoMemory>
     }
 }
 
-/// The bytes of the call: xid, 0, 2, program, version, procedure, credential, verifier, and the arguments. Credential and
-/// verifier have at most 400 bytes each. `NoMemory` comes where memory is refused (RFC 5531 section 9).
+/// The bytes of the call: xid, 0, 2, program, version, procedure, credential, verifier, and the arguments. Credential
+/// and verifier have at most 400 bytes each. `NoMemory` comes where memory is refused (RFC 5531 section 9).
 pub fn write_call(alloc: Global, c: &Call) -> Result<Vec<u8>, NoMemory>
     requires cred { length c.now.cred.body.items ≤ 400 }
     requires verf { length c.now.verf.body.items ≤ 400 }

@@ -78,7 +78,8 @@ pub fn read_auth_sys(alloc: Global, bytes: &[u8]) -> Result<Option<AuthSys>, NoM
     // What is read is spelled so.
     ensures found { IfOk result (λ o. IfSome o (λ a. AuthSysBytes (auth_sys_view a) bytes.now)) }
     // What is spelled so is read, unless memory runs out.
-    ensures only { (a : AuthSysView) → AuthSysBytes a bytes.now → IfOk result (λ o. option_map auth_sys_view o ≡ Some a) }
+    ensures only { (a : AuthSysView) → AuthSysBytes a bytes.now
+        → IfOk result (λ o. option_map auth_sys_view o ≡ Some a) }
 {
     match auth_sys_of(alloc, bytes) {
         Ok(a) => Ok(Some(a)),

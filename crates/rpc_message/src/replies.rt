@@ -6,7 +6,8 @@ ghost use Rattle.rpc_message.specs.Message.{ReplyView};
 ghost use Rattle.rpc_message.specs.Spelling.{reply, status, why, IsStatus, IsWhy, IsReply, ReplyBytes};
 ghost use Rattle.rpc_message.specs.View.{reply_view, status_view, why_view, HasShortVerf};
 ghost use Rattle.rpc_message.specs.Faults.{StandsIn};
-ghost use Rattle.rpc_message.specs.Reading.{Reads, Gives, bounds_at, status_at, why_at, accepted_at, denied_at, reply_stat_at, reply_at};
+ghost use Rattle.rpc_message.specs.Reading.{Reads, Gives, bounds_at, status_at, why_at, accepted_at, denied_at};
+ghost use Rattle.rpc_message.specs.Reading.{reply_stat_at, reply_at};
 
 use crate::fault::ReplyFault;
 use crate::fields::{auth_at, push_auth, word_at};
@@ -123,7 +124,8 @@ pub fn read_reply(alloc: Global, bytes: &[u8]) -> Result<Reply, ReplyFault>
     // What is read is spelled so.
     ensures found { IfOk result (λ r. ReplyBytes (reply_view r) bytes.now) }
     // What is spelled so is read, unless memory runs out.
-    ensures only { (r : ReplyView) → ReplyBytes r bytes.now → MatchResult result (λ q. reply_view q ≡ r) (λ e. e ≡ faults.NoMemory) }
+    ensures only { (r : ReplyView) → ReplyBytes r bytes.now
+        → MatchResult result (λ q. reply_view q ≡ r) (λ e. e ≡ faults.NoMemory) }
     // A fault names what stands in the bytes.
     ensures fault { IfErr result (λ f. StandsIn f bytes.now) }
 {
@@ -212,6 +214,6 @@ pub fn write_reply(alloc: Global, r: &Reply) -> Result<Vec<u8>, NoMemory>
     ensures { IfOk result (λ v. ReplyBytes (reply_view r.now) v.items) }
 {
     let mut out = Vec::new(alloc);
-    push_reply(&mut out, r)?;
+    append_reply(&mut out, r)?;
     Ok(out)
 }

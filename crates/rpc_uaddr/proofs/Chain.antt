@@ -1,5 +1,6 @@
 -- Six numbers are taken one after another.
-use Rattle.std.proofs.Common.{◌≡◌, ℕ, List, [], ◌∷◌, ◌++◌, Option, Some, None, refl, ap, sym, ◌∙◌, append_assoc, map, true, is_some, true≢false, IfSome, IfNone}
+use Rattle.std.proofs.Common.{◌≡◌, ℕ, List, [], ◌∷◌, ◌++◌, Option, Some, None, refl, ap, sym, ◌∙◌, append_assoc, map}
+use Rattle.std.proofs.Common.{true, is_some, true≢false, IfSome, IfNone}
 use Rattle.xdr_units.specs.Texts.{HasNoDot}
 use Rattle.rpc_uaddr.specs.declared.address.Uaddr.{Uaddr}
 use Rattle.rpc_uaddr.specs.Uaddrs.{uaddr_from, uaddr_of, uaddr_text, IsUaddr, octet, octets, parts}

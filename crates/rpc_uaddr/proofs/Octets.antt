@@ -1,5 +1,6 @@
 -- The number below 256 whose decimal text a text is.
-use Rattle.std.proofs.Common.{◌≡◌, ℕ, ◌<◌, ◌^◌, List, refl, ap, sym, ◌∙◌, arith, Option, Some, None, Result, Ok, Err, decimal, is_some, true≢false}
+use Rattle.std.proofs.Common.{◌≡◌, ℕ, ◌<◌, ◌^◌, List, refl, ap, sym, ◌∙◌, arith, Option, Some, None, Result, Ok, Err}
+use Rattle.std.proofs.Common.{decimal, is_some, true≢false}
 use Rattle.std.specs.Result.{OkIff, result_ok}
 use Rattle.rpc_uaddr.specs.Uaddrs.{octet}
 use Rattle.rpc_uaddr.proofs.Back.{octet_decimal}

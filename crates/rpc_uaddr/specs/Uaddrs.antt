@@ -1,5 +1,6 @@
 -- Universal addresses over IPv4 (RFC 5665 section 5.2.3.3).
-use Rattle.std.specs.Prelude.{◌≡◌, ℕ, ◌<◌, ◌/◌, ◌%◌, ◌*◌, ◌+◌, List, [], ◌∷◌, ◌++◌, length, decimal, codes, slice_index, Option, Some, None, map, nat_eq, nat_lt, ◌&&◌, if◌then◌else◌}
+use Rattle.std.specs.Prelude.{◌≡◌, ℕ, ◌<◌, ◌/◌, ◌%◌, ◌*◌, ◌+◌, List, [], ◌∷◌, ◌++◌, length, decimal, codes, slice_index}
+use Rattle.std.specs.Prelude.{Option, Some, None, map, nat_eq, nat_lt, ◌&&◌, if◌then◌else◌}
 use Rattle.std.specs.Str.{bytes_eq}
 use Rattle.std.specs.Str.Parse.{digits_value}
 use Rattle.std.specs.List.{All}
@@ -13,7 +14,9 @@ dotted (n ∷ m ∷ ns) = decimal n ++ codes "." ++ dotted (m ∷ ns)
 
 -- the host's four octets, the port's high octet and its low one
 abbrev pub numbers_of : Uaddr → List ℕ
-numbers_of a = slice_index a.host 0 ∷ slice_index a.host 1 ∷ slice_index a.host 2 ∷ slice_index a.host 3 ∷ a.port / 256 ∷ a.port % 256 ∷ []
+numbers_of a =
+    slice_index a.host 0 ∷ slice_index a.host 1 ∷ slice_index a.host 2 ∷ slice_index a.host 3
+    ∷ a.port / 256 ∷ a.port % 256 ∷ []
 
 -- the universal address of a host and a port, as a text (RFC 5665 section 5.2.3.3)
 abbrev pub uaddr_text : Uaddr → List ℕ
@@ -37,7 +40,10 @@ parts (b ∷ bs) = if nat_eq b 46 then [] ∷ parts bs else onto_first b (parts 
 
 -- the number below 256 whose decimal text this is, which has no leading zero
 abbrev pub octet : List ℕ → Option ℕ
-octet ds = if bytes_eq ds (decimal (digits_value 10 ds)) && nat_lt (digits_value 10 ds) 256 then Some (digits_value 10 ds) else None
+octet ds =
+    if bytes_eq ds (decimal (digits_value 10 ds)) && nat_lt (digits_value 10 ds) 256
+    then Some (digits_value 10 ds)
+    else None
 
 -- the numbers between the dots of a text, None for a part that is none
 abbrev pub octets : List ℕ → List (Option ℕ)
@@ -45,7 +51,8 @@ octets text = map octet (parts text)
 
 -- six numbers are an address: four of the host, then the port's high and low octet
 abbrev pub uaddr_from : List (Option ℕ) → Option Uaddr
-uaddr_from (Some a ∷ Some b ∷ Some c ∷ Some d ∷ Some high ∷ Some low ∷ []) = Some (record { host = a ∷ b ∷ c ∷ d ∷ []; port = high * 256 + low })
+uaddr_from (Some a ∷ Some b ∷ Some c ∷ Some d ∷ Some high ∷ Some low ∷ []) =
+    Some (record { host = a ∷ b ∷ c ∷ d ∷ []; port = high * 256 + low })
 uaddr_from _ = None
 
 -- the address that a text spells

@@ -14,8 +14,8 @@ pub struct Uaddr {
     pub port: u16,
 }
 
-/// The universal address as a text: the host's four octets, then the port's high and low octet, in decimal and with dots
-/// between them (RFC 5665 section 5.2.3.3). Its only error is `NoMemory`.
+/// The universal address as a text: the host's four octets, then the port's high and low octet, in decimal and with
+/// dots between them (RFC 5665 section 5.2.3.3). Its only error is `NoMemory`.
 pub fn write_uaddr(alloc: Global, address: Uaddr) -> Result<Vec<u8>, NoMemory>
     ensures { IfOk result (λ v. v.items ≡ uaddr_text address) }
 {

@@ -36,7 +36,8 @@ fn read_numbers(text: &[u8]) -> Option<Uaddr>
 /// The number before the first dot, and the text after that dot.
 fn first_octet(text: &[u8]) -> Option<(u8, &[u8])>
     ensures found { IfSome result (λ r. octets text.now ≡ Some r.0 ∷ octets r.1.now) }
-    ensures none { IfNone result ((n : ℕ) (m : Option ℕ) (ns : List (Option ℕ)) → octets text.now ≡ Some n ∷ m ∷ ns → ⊥) }
+    ensures none { IfNone result
+        ((n : ℕ) (m : Option ℕ) (ns : List (Option ℕ)) → octets text.now ≡ Some n ∷ m ∷ ns → ⊥) }
 {
     let (part, rest) = before_dot(text)?;
     Some((octet(part)?, rest))

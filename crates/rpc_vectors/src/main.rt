@@ -1,5 +1,5 @@
-//! Reads messages that real clients and rpcbind sent, as lines `call HEX` and `reply HEX`, and prints what each says. It
-//! says so only of a message that is written to the same bytes again. Other lines are printed as they are.
+//! Reads messages that real clients and rpcbind sent, as lines `call HEX` and `reply HEX`, and prints what each says.
+//! It says so only of a message that is written to the same bytes again. Other lines are printed as they are.
 #![tactic(auto)]
 
 mod text;

@@ -1,5 +1,6 @@
 -- What is parsed as a number is it, where its decimal text is the text that was parsed.
-use Rattle.std.proofs.Common.{◌≡◌, ℕ, ◌<◌, ◌^◌, Bool, true, List, ap, sym, ◌∙◌, subst, arith, Option, Some, None, Result, Ok, Err, decimal, MatchResult, is_some, true≢false}
+use Rattle.std.proofs.Common.{◌≡◌, ℕ, ◌<◌, ◌^◌, Bool, true, List, ap, sym, ◌∙◌, subst, arith, Option, Some, None}
+use Rattle.std.proofs.Common.{Result, Ok, Err, decimal, MatchResult, is_some, true≢false}
 use Rattle.std.specs.Result.{result_ok}
 use Rattle.std.specs.Bool.{then_some}
 use Rattle.std.specs.Str.{IsUtf8, bytes_eq}

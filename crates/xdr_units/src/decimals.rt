@@ -6,8 +6,8 @@ use itoa::Buffer;
 use std::alloc::AllocError;
 use std::str::from_utf8;
 
-/// The number below 2^32 whose decimal text this is, which has no leading zero. `None` for every other text. It takes no
-/// memory.
+/// The number below 2^32 whose decimal text this is, which has no leading zero. `None` for every other text. It takes
+/// no memory.
 pub fn decimal_number(text: &[u8]) -> Option<u32>
     ensures found { IfSome result (λ n. text.now ≡ decimal n) }
     ensures only { (n : ℕ) → n < 2 ^ 32 → text.now ≡ decimal n → result ≡ Some n }

@@ -1,5 +1,6 @@
 //! Words and padded content at the front of bytes, and written behind bytes (RFC 4506 sections 3 and 4).
-ghost use Rattle.std.specs.Prelude.{◌≡◌, ◌<◌, ◌^◌, ◌++◌, ℕ, List, length, replicate, IsTrue, ◌↔◌, MatchOption, MatchResult, OnOk};
+ghost use Rattle.std.specs.Prelude.{◌≡◌, ◌<◌, ◌^◌, ◌++◌, ℕ, List, length, replicate, IsTrue, ◌↔◌, MatchOption};
+ghost use Rattle.std.specs.Prelude.{MatchResult, OnOk};
 ghost use Rattle.xdr_units.specs.Numbers.{word, long_word, gap, padded, IsWord};
 ghost use Rattle.xdr_units.specs.Fronts.{IsNoContent};
 

@@ -28,7 +28,7 @@ pub(crate) fn whole_call(rt: HostRuntime, digits: &str) -> Result<Call, Fail> {
 }
 
 /// The bytes that the call is written to.
-fn written(rt: HostRuntime, call: &Call) -> Result<Vec<u8>, Fail> {
+pub(crate) fn written(rt: HostRuntime, call: &Call) -> Result<Vec<u8>, Fail> {
     if 400 < call.cred.body.len() || 400 < call.verf.body.len() {
         return Err(Fail::from("too long a body"));
     }
@@ -81,37 +81,42 @@ fn reads_a_cut_call(rt: HostRuntime) -> Result<(), Fail> {
     Ok(())
 }
 
-// Where more than one case seems to apply, the first in the order of the bytes does: version 2 cut before its procedure, a
-// version of which a byte is missing, and a reply, whose third word would be another version.
+/// Version 2 cut before its procedure, a version of which a byte is missing, and a reply, whose third word would be another
+/// version or version 2.
+const NO_CALLS: [&str; 4] = [
+    "000000010000000000000002000186a000000002",
+    "0000000100000000000003",
+    "000000010000000100000003",
+    "000000010000000100000002000186a00000000200000000",
+];
+
+// Where more than one case seems to apply, the first in the order of the bytes does.
 #[test]
 fn tells_what_is_no_call(rt: HostRuntime) -> Result<(), Fail> {
-    let texts = [
-        "000000010000000000000002000186a000000002",
-        "0000000100000000000003",
-        "000000010000000100000003",
-        "000000010000000100000002000186a00000000200000000",
-    ];
-    for text in texts {
-        assert!(rt; is_told(rt, text, CallRead::NotACall)?, "{text}");
+    for text in &NO_CALLS {
+        assert!(rt; is_told(rt, *text, CallRead::NotACall)?, "{text}");
     }
     let other = CallRead::OtherVersion { xid: 2, version: 3 };
     assert!(rt; is_told(rt, "000000020000000000000003", other)?);
     Ok(())
 }
 
-// A credential of 401 bytes, and padding that is not zero, of the credential and of the verifier.
+/// A credential of 401 bytes, and one with padding that is not zero.
+const NO_CREDENTIALS: [&str; 2] = [
+    "000000010000000000000002000186a0000000020000000000000000000001910000",
+    "000000010000000000000002000186a00000000200000000000000000000000161000001",
+];
+
+/// A verifier with padding that is not zero.
+const NO_VERIFIER: &str =
+    "000000010000000000000002000186a00000000200000000000000000000000000000000000000016100ff00";
+
 #[test]
 fn tells_what_has_no_credential(rt: HostRuntime) -> Result<(), Fail> {
-    let texts = [
-        "000000010000000000000002000186a0000000020000000000000000000001910000",
-        "000000010000000000000002000186a00000000200000000000000000000000161000001",
-    ];
-    for text in texts {
-        assert!(rt; is_told(rt, text, CallRead::BadCred { xid: 1 })?, "{text}");
+    for text in &NO_CREDENTIALS {
+        assert!(rt; is_told(rt, *text, CallRead::BadCred { xid: 1 })?, "{text}");
     }
-    let text =
-        "000000010000000000000002000186a00000000200000000000000000000000000000000000000016100ff00";
-    assert!(rt; is_told(rt, text, CallRead::BadVerf { xid: 1 })?);
+    assert!(rt; is_told(rt, NO_VERIFIER, CallRead::BadVerf { xid: 1 })?);
     Ok(())
 }
 

@@ -96,16 +96,17 @@ fn is_none_with_zeros(rt: HostRuntime, digits: &str, count: u32) -> Result<bool,
     is_none(rt, &bytes)
 }
 
-// 17 gids, 256 bytes of machine name, and padding that is not zero.
+/// 17 gids, 256 bytes of machine name, and padding that is not zero, each with so many zeros after it.
+const NO_BODIES: [(&str, u32); 3] = [
+    ("0000000000000000000000000000000000000011", 68),
+    ("0000000000000100", 268),
+    ("0000000000000003626f7801000003e80000006400000000", 0),
+];
+
 #[test]
 fn reads_no_other_bodies(rt: HostRuntime) -> Result<(), Fail> {
-    let rows = [
-        ("0000000000000000000000000000000000000011", 68),
-        ("0000000000000100", 268),
-        ("0000000000000003626f7801000003e80000006400000000", 0),
-    ];
-    for (text, zeros) in rows {
-        assert!(rt; is_none_with_zeros(rt, text, zeros)?, "{text}");
+    for (text, zeros) in &NO_BODIES {
+        assert!(rt; is_none_with_zeros(rt, *text, *zeros)?, "{text}");
     }
     Ok(())
 }

@@ -2,6 +2,7 @@
 mod bytes;
 mod calls;
 mod credentials;
+mod long;
 mod plain;
 mod refused;
 mod replies;

@@ -11,7 +11,7 @@ fn is_read(rt: HostRuntime, bytes: &[u8], reply: Reply) -> Result<bool, Fail> {
 }
 
 /// Whether the reply is written to the bytes.
-fn is_written(rt: HostRuntime, bytes: &[u8], reply: &Reply) -> Result<bool, Fail> {
+pub(crate) fn is_written(rt: HostRuntime, bytes: &[u8], reply: &Reply) -> Result<bool, Fail> {
     if let Reply::Accepted { verf, .. } = reply {
         if 400 < verf.body.len() {
             return Err(Fail::from("a verifier that is too long"));
@@ -75,36 +75,38 @@ fn writes_and_reads_accepted_replies(rt: HostRuntime) -> Result<(), Fail> {
     Ok(())
 }
 
+/// A denied reply, its xid and its reason; the last has a number that RFC 5531 does not name.
+const DENIALS: [(&str, u32, Why); 4] = [
+    (
+        "000000020000000100000001000000000000000200000002",
+        2,
+        Why::RpcMismatch { low: 2, high: 2 },
+    ),
+    (
+        "0000000100000001000000010000000100000001",
+        1,
+        Why::AuthError(1),
+    ),
+    (
+        "0000000100000001000000010000000100000002",
+        1,
+        Why::AuthError(2),
+    ),
+    (
+        "0000000100000001000000010000000100000063",
+        1,
+        Why::AuthError(99),
+    ),
+];
+
 #[test]
 fn writes_and_reads_denied_replies(rt: HostRuntime) -> Result<(), Fail> {
-    let mismatch = Why::RpcMismatch { low: 2, high: 2 };
-    let rows = [
-        (
-            "000000020000000100000001000000000000000200000002",
-            2,
-            mismatch,
-        ),
-        (
-            "0000000100000001000000010000000100000001",
-            1,
-            Why::AuthError(1),
-        ),
-        (
-            "0000000100000001000000010000000100000002",
-            1,
-            Why::AuthError(2),
-        ),
-        (
-            "0000000100000001000000010000000100000063",
-            1,
-            Why::AuthError(99),
-        ),
-    ];
-    for (text, xid, why) in rows {
-        assert!(rt;
-            goes_both_ways(rt, text, Reply::Denied { xid, why })?,
-            "{text}"
-        );
+    for (text, xid, why) in &DENIALS {
+        let denied = Reply::Denied {
+            xid: *xid,
+            why: *why,
+        };
+        assert!(rt; goes_both_ways(rt, *text, denied)?, "{text}");
     }
     Ok(())
 }

@@ -1,4 +1,4 @@
-// Texts of RFC 5665's form, and what they name.
+//! Texts of RFC 5665's form, and what they name.
 use growths::take_all;
 use rpc_directory::{NoMemory, Uaddr, read_uaddr, write_uaddr};
 use std::alloc::Global;
