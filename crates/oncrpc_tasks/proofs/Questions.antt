@@ -10,11 +10,13 @@ use Rattle.oncrpc_tasks.specs.Naming.{Names}
 use Rattle.oncrpc_tasks.specs.Sources.{Declares, told_text}
 use Rattle.oncrpc_tasks.specs.Tasks.{AsksNothing}
 
-not_there : (o : Option KindId) (p n : ℕ) → MatchOption o ⊥ (λ (k : KindId). k.place ≡ p) → MatchOption o ⊤ (λ (k : KindId). k.place < n → ⊥) → p < n → ⊥
+not_there : (o : Option KindId) (p n : ℕ) → MatchOption o ⊥ (λ (k : KindId). k.place ≡ p) → MatchOption o ⊤
+    (λ (k : KindId). k.place < n → ⊥) → p < n → ⊥
 not_there None p n h missing known = h
 not_there (Some k) p n h missing known = missing (subst (λ (m : ℕ). m < n) (sym h) known)
 
-pub nothing_asked : (told : List ℕ → Option (List ℕ)) (what : ValueTask) (d : Declared) (o : Option KindId) → Declares (told_text told what.types) what.types d
+pub nothing_asked : (told : List ℕ → Option (List ℕ)) (what : ValueTask) (d : Declared) (o : Option KindId) → Declares
+    (told_text told what.types) what.types d
     → ((p : ℕ) → Names (string_bytes what.name) d p → MatchOption o ⊥ (λ (k : KindId). k.place ≡ p))
     → MatchOption o ⊤ (λ (k : KindId). k.place < length d.schema.kinds → ⊥) → AsksNothing told what
 nothing_asked told what d o declares only missing =
@@ -23,16 +25,20 @@ nothing_asked told what d o declares only missing =
       is_told = declares.is_told;
       none = λ shows q asks.
           let same : asks.declared ≡ d = declares.only asks.declared asks.source in
-          let named : Names (string_bytes what.name) d q.place = subst (λ (e : Declared). Names (string_bytes what.name) e q.place) same asks.named in
+          let named : Names (string_bytes what.name) d q.place = subst
+          (λ (e : Declared). Names (string_bytes what.name) e q.place) same asks.named in
           let kinds : q.kinds ≡ d.schema.kinds = asks.kinds ∙ ap (λ (e : Declared). e.schema.kinds) same in
-          not_there o q.place (length d.schema.kinds) (only q.place named) missing (subst (λ (ks : List Form). q.place < length ks) kinds asks.known);
+          not_there o q.place (length d.schema.kinds) (only q.place named) missing
+          (subst (λ (ks : List Form). q.place < length ks) kinds asks.known);
     }
 
 pub none_known : (o : Option KindId) (n : ℕ) → o ≡ None → MatchOption o ⊤ (λ (k : KindId). k.place < n → ⊥)
 none_known o n is = subst (λ (p : Option KindId). MatchOption p ⊤ (λ (k : KindId). k.place < n → ⊥)) (sym is) tt
 
-pub not_known : (o : Option KindId) (k : KindId) (n : ℕ) → o ≡ Some k → (k.place < n → ⊥) → MatchOption o ⊤ (λ (j : KindId). j.place < n → ⊥)
-not_known o k n is unknown = subst (λ (p : Option KindId). MatchOption p ⊤ (λ (j : KindId). j.place < n → ⊥)) (sym is) unknown
+pub not_known : (o : Option KindId) (k : KindId) (n : ℕ) → o ≡ Some k → (k.place < n → ⊥) → MatchOption o ⊤
+    (λ (j : KindId). j.place < n → ⊥)
+not_known o k n is unknown = subst (λ (p : Option KindId). MatchOption p ⊤ (λ (j : KindId). j.place < n → ⊥))
+    (sym is) unknown
 
 pub false_is : (b : Bool) → b ≡ false → IsTrue b → ⊥
 false_is b is holds = false≢true (sym is ∙ holds)

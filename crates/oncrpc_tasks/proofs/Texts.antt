@@ -9,12 +9,14 @@ use Rattle.oncrpc_tasks.specs.Input.{BeginsInput}
 use Rattle.oncrpc_tasks.specs.Sources.{IsTold, Declares, DeclaresNothing}
 
 -- The bytes that were read begin the text that is told, and are all of it where they are no more than enough.
-pub begins_told : (told left left' : Option (List ℕ)) (enough : ℕ) (bytes : List ℕ) → Keeps told left → Consumes left left' bytes → (length bytes ≤ enough → IsAtEnd left')
+pub begins_told : (told left left' : Option (List ℕ)) (enough : ℕ) (bytes : List ℕ) → Keeps told left
+    → Consumes left left' bytes → (length bytes ≤ enough → IsAtEnd left')
     → (text : List ℕ) × IsTold told text × BeginsInput enough text bytes
 begins_told None left left' enough bytes kept read end = (bytes, tt, ([], sym (append-nil bytes), λ _. refl))
 begins_told (Some told) None left' enough bytes kept read end = absurd kept
 begins_told (Some told) (Some left) None enough bytes kept read end = absurd read
-begins_told (Some told) (Some left) (Some left') enough bytes kept read end = (told, refl, (left', sym kept ∙ read, end))
+begins_told (Some told) (Some left) (Some left') enough bytes kept read end =
+    (told, refl, (left', sym kept ∙ read, end))
 
 -- A text that is not too long was read to its end.
 all_read : (text bytes : List ℕ) → BeginsInput 262144 text bytes → length bytes ≤ 262144 → text ≡ bytes
@@ -27,7 +29,8 @@ no_shorter text bytes begins short =
 
 -- What the bytes that were read mean is what the text declares.
 pub declares_text : (told : Option (List ℕ)) (file : String Global) (bytes : List ℕ) (d : Declared)
-    → (text : List ℕ) × IsTold told text × BeginsInput 262144 text bytes → Means bytes d → ((e : Declared) → Means bytes e → d ≡ e) → Declares told (Some file) d
+    → (text : List ℕ) × IsTold told text × BeginsInput 262144 text bytes → Means bytes d →
+    ((e : Declared) → Means bytes e → d ≡ e) → Declares told (Some file) d
 declares_text told file bytes d begun means one =
     let same : begun.0 ≡ bytes = all_read begun.0 bytes begun.2 means.short in
     record {
@@ -39,7 +42,8 @@ declares_text told file bytes d begun means one =
 
 -- Where the bytes that were read mean nothing, neither does the text.
 pub declares_nothing : (told : Option (List ℕ)) (file : String Global) (bytes : List ℕ)
-    → (text : List ℕ) × IsTold told text × BeginsInput 262144 text bytes → ((d : Declared) → Means bytes d → ⊥) → DeclaresNothing told (Some file)
+    → (text : List ℕ) × IsTold told text × BeginsInput 262144 text bytes → ((d : Declared) → Means bytes d → ⊥)
+    → DeclaresNothing told (Some file)
 declares_nothing told file bytes begun none =
     record {
       text = begun.0;

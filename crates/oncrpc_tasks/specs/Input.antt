@@ -1,5 +1,5 @@
 -- What the input of a task gives it.
-use Rattle.std.specs.Prelude.{◌≡◌, ℕ, ◌<◌, ◌≤◌, Bool, true, false, List, [], ◌++◌, length, Option, Some, None, Ok, ⊤}
+use Rattle.std.specs.Prelude.{◌≡◌, ℕ, ◌<◌, ◌≤◌, Bool, true, false, List, [], ◌++◌, length, Option, Some, None, Ok, ⊤, ◌+◌, if◌then◌else◌}
 use Rattle.hex.specs.Hex.{decode_of}
 use Rattle.oncrpc_tasks.specs.declared.given.Given.{Given}
 use Rattle.oncrpc_tasks.specs.declared.given.Given.TheVariants as given
@@ -25,3 +25,7 @@ abbrev pub Gives : Bool → ℕ → Option (List ℕ) → Given → Type 0
 Gives hex enough None g = ⊤
 Gives true enough (Some input) g = TextGives input g
 Gives false enough (Some input) g = PlainGives enough input g
+
+-- how many bytes are read at most: a page of 4096 past the limit, which for a text of hexadecimal is 1048576
+abbrev pub most_read : Bool → ℕ → ℕ
+most_read hex enough = (if hex then 1048576 else enough) + 4096

@@ -1,4 +1,5 @@
 pub mod Checked
+pub mod Ends
 pub mod Hexadecimal
 pub mod Input
 pub mod Lines

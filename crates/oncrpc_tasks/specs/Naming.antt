@@ -15,7 +15,8 @@ place_of_part p part.Result = p.result
 
 -- the same in the procedure with the numbers of the name (RFC 5531 section 12.3)
 abbrev pub part_named : Declared → PartName → Option ℕ
-part_named d n = option_and_then (λ p. place_of_part p n.part) (procedure_of_program n.program n.version n.procedure d.programs)
+part_named d n = option_and_then (λ p. place_of_part p n.part)
+    (procedure_of_program n.program n.version n.procedure d.programs)
 
 -- The text is the name of an argument or a result that is there, whose kind has this place.
 pub record NamesPart (text : List ℕ) (d : Declared) (place : ℕ) : Type 0 where
@@ -26,4 +27,6 @@ pub record NamesPart (text : List ℕ) (d : Declared) (place : ℕ) : Type 0 whe
 
 -- The text is a name of the schema, or else of an argument or a result.
 abbrev pub Names : List ℕ → Declared → ℕ → Type 0
-Names text d place = (place_named d.schema.names text ≡ Some place) ⊎ ((place_named d.schema.names text ≡ None) × NamesPart text d place)
+Names text d place =
+    (place_named d.schema.names text ≡ Some place)
+    ⊎ ((place_named d.schema.names text ≡ None) × NamesPart text d place)

@@ -5,6 +5,8 @@ use Rattle.hex.specs.Hex.{decode_of, encode_lower}
 use Rattle.rpc_record.specs.declared.fault.Count.{Count}
 use Rattle.rpc_record.specs.declared.fault.RecordFault.TheVariants as fault
 use Rattle.rpc_record.specs.Normalised.{Normalised, Stops}
+use Rattle.oncrpc_tasks.specs.declared.failure.Failure.{Failure}
+use Rattle.oncrpc_tasks.specs.declared.failure.Failure.TheVariants as failure
 use Rattle.oncrpc_tasks.specs.declared.records.Marking.{Marking}
 use Rattle.oncrpc_tasks.specs.declared.records.Marking.TheVariants as marking
 use Rattle.oncrpc_tasks.specs.Hexadecimal.{digits, IsBadHex}
@@ -24,7 +26,15 @@ Marks limit left left' taken taken' (marking.TooLong at) = Stops limit left left
 Marks limit left left' taken taken' (marking.Truncated at) = Stops limit left left' taken taken' (fault.Truncated at)
 Marks limit left left' taken taken' _ = ⊥
 
--- The bytes that a text spells were normalised, and what that gave was written as lower-case hexadecimal and a line feed.
+-- The input, read as it is, was normalised up to where a device failed or memory was refused.
+abbrev pub StopsFor : Failure → ℕ → (left left' taken taken' : Option (List ℕ)) → Type 0
+StopsFor failure.Read limit left left' taken taken' = Stops limit left left' taken taken' fault.Read
+StopsFor failure.Write limit left left' taken taken' =
+    (written : ℕ) × Stops limit left left' taken taken' (fault.Write written)
+StopsFor failure.TooManyReads limit left left' taken taken' = Stops limit left left' taken taken' fault.TooManyReads
+StopsFor failure.NoMemory limit left left' taken taken' = Stops limit left left' taken taken' fault.NoMemory
+
+-- The bytes that a text spells were normalised, and that was written as lower-case hexadecimal and a line feed.
 pub record MarksSpelled (limit : ℕ) (text : List ℕ) (taken taken' : Option (List ℕ)) (m : Marking) : Type 0 where
   pub bytes : List ℕ
   pub rest : Option (List ℕ)
@@ -59,4 +69,5 @@ IsRefused _ = ⊤
 
 -- The input was normalised up to what is refused, or is no hexadecimal.
 abbrev pub RefusedBytes : ℕ → Bool → (left left' taken taken' : Option (List ℕ)) → Type 0
-RefusedBytes limit hex left left' taken taken' = (m : Marking) × IsRefused m × IsMarking limit hex left left' taken taken' m
+RefusedBytes limit hex left left' taken taken' =
+    (m : Marking) × IsRefused m × IsMarking limit hex left left' taken taken' m

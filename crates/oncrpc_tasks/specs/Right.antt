@@ -44,7 +44,8 @@ IsRefusal q bytes _ at = (more : List ℕ) → HasNoValue q (bytes ++ more)
 -- The answer is right for these bytes, and so is what is shown before it: of a refusal nothing.
 abbrev pub IsRight : Question → List ℕ → Answer → (shown : List ℕ) → Type 0
 IsRight q bytes (answer.Whole used) shown = BeginsWithValue q bytes used [] shown
-IsRight q bytes (answer.MoreFollows used) shown = (more : List ℕ) × (0 < length more) × BeginsWithValue q bytes used more shown
+IsRight q bytes (answer.MoreFollows used) shown =
+    (more : List ℕ) × (0 < length more) × BeginsWithValue q bytes used more shown
 IsRight q bytes (answer.Refused f) shown = IsRefusal q bytes f.why f.at × (shown ≡ [])
 IsRight q bytes _ shown = ⊥
 
@@ -52,7 +53,8 @@ IsRight q bytes _ shown = ⊥
 abbrev pub IsRightForText : Question → List ℕ → Answer → (shown : List ℕ) → Type 0
 IsRightForText q text answer.HexTooLong shown = (1048576 < length text) × (shown ≡ [])
 IsRightForText q text answer.BadHex shown = (length text ≤ 1048576) × IsBadHex text × (shown ≡ [])
-IsRightForText q text a shown = (length text ≤ 1048576) × ((bytes : List ℕ) × (decode_of (digits text) ≡ Ok bytes) × IsRight q bytes a shown)
+IsRightForText q text a shown =
+    (length text ≤ 1048576) × ((bytes : List ℕ) × (decode_of (digits text) ≡ Ok bytes) × IsRight q bytes a shown)
 
 -- the answer is right for an input, read as hexadecimal or as it is, where its bytes are told
 abbrev pub IsRightFor : Question → Bool → Option (List ℕ) → Answer → (shown : List ℕ) → Type 0

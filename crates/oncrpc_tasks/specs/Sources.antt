@@ -49,7 +49,10 @@ HasNone told types (unusable.Failed f) = (f ≡ failure.Read) ⊎ (f ≡ failure
 HasNone told types _ = ⊥
 
 -- A file is named, and its text could not be opened, or one that was opened had a read that failed.
-abbrev pub FileFails : {T : Type 0} → (T → Option (List ℕ)) → (T → Option ℕ) → (List ℕ → Option (List ℕ)) → Option (String Global) → Option ℕ → Option ℕ → Type 0
+abbrev pub FileFails : {T : Type 0} → (T → Option (List ℕ)) → (T → Option ℕ) → (List ℕ → Option (List ℕ))
+    → Option (String Global) → Option ℕ → Option ℕ → Type 0
 FileFails {T} left text_failures told None failures failures' = ⊥
 FileFails {T} left text_failures told (Some file) failures failures' =
-    Counts 1 failures failures' ⊎ ((text text' : T) × Keeps (told (string_bytes file)) (left text) × Counts 1 (text_failures text) (text_failures text'))
+    Counts 1 failures failures'
+    ⊎ ((text text' : T) × Keeps (told (string_bytes file)) (left text)
+    × Counts 1 (text_failures text) (text_failures text'))

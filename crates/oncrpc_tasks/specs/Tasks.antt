@@ -1,5 +1,5 @@
 -- What the words of a task ask for, and what doing it has done.
-use Rattle.std.specs.Prelude.{◌≡◌, ◌⊎◌, ℕ, ◌<◌, Bool, true, false, List, length, Option, None, String, string_bytes}
+use Rattle.std.specs.Prelude.{◌≡◌, ◌⊎◌, ℕ, ◌<◌, Bool, List, length, Option, None, String, string_bytes}
 use Rattle.std.specs.declared.alloc.Global.{Global}
 use Rattle.xdr_types.specs.Within.{AreBounds}
 use Rattle.xdr_lang.specs.Declarations.{Declared}
@@ -12,7 +12,6 @@ use Rattle.oncrpc_tasks.specs.declared.unusable.Unusable.{Unusable}
 use Rattle.oncrpc_tasks.specs.declared.unusable.Unusable.TheVariants as unusable
 use Rattle.oncrpc_tasks.specs.Checked.{Answers}
 use Rattle.oncrpc_tasks.specs.Naming.{Names}
-use Rattle.oncrpc_tasks.specs.Records.{Done, RefusedBytes}
 use Rattle.oncrpc_tasks.specs.Right.{Question}
 use Rattle.oncrpc_tasks.specs.Sources.{IsDeclared, IsTold, told_text}
 
@@ -28,7 +27,8 @@ pub record Asks (text : List ℕ) (what : ValueTask) (shows : Bool) (q : Questio
   pub lines : q.shows ≡ shows
 
 -- A question is asked, by a text that is told, and was answered.
-pub record IsAnswered (told : List ℕ → Option (List ℕ)) (what : ValueTask) (shows : Bool) (left taken taken' : Option (List ℕ)) (status : ℕ) : Type 0 where
+pub record IsAnswered (told : List ℕ → Option (List ℕ)) (what : ValueTask) (shows : Bool)
+    (left taken taken' : Option (List ℕ)) (status : ℕ) : Type 0 where
   pub text : List ℕ
   pub is_told : IsTold (told_text told what.types) text
   pub question : Question
@@ -41,24 +41,12 @@ pub record AsksNothing (told : List ℕ → Option (List ℕ)) (what : ValueTask
   pub is_told : IsTold (told_text told what.types) text
   pub none : (shows : Bool) (q : Question) → Asks text what shows q → ⊥
 
--- The task was done, with this status: 0 or 1.
-abbrev pub Does : (List ℕ → Option (List ℕ)) → Task → (left left' taken taken' : Option (List ℕ)) → ℕ → Type 0
-Does told (task.Check what) left left' taken taken' status = IsAnswered told what false left taken taken' status
-Does told (task.Show what) left left' taken taken' status = IsAnswered told what true left taken taken' status
-Does told (task.Records what) left left' taken taken' status =
-    (status ≡ 0 → Done what.limit what.hex left left' taken taken') × (status ≡ 1 → RefusedBytes what.limit what.hex left left' taken taken')
-
--- The declarations, the name or the limits are refused; the limit on records is out of range.
-abbrev pub IsUnusable : (List ℕ → Option (List ℕ)) → Task → Type 0
-IsUnusable told (task.Check what) = AsksNothing told what
-IsUnusable told (task.Show what) = AsksNothing told what
-IsUnusable told (task.Records what) = 2147483647 < what.limit
-
 -- The question is asked, by a text that is told.
 pub record AsksFor (told : List ℕ → Option (List ℕ)) (what : ValueTask) (question : declared.Question) : Type 0 where
   pub text : List ℕ
   pub is_told : IsTold (told_text told what.types) text
-  pub asked : (shows : Bool) → Asks text what shows (record { kinds = question.schema.kinds; place = question.kind.place; limits = question.limits; shows = shows })
+  pub asked : (shows : Bool) → Asks text what shows
+      (record { kinds = question.schema.kinds; place = question.kind.place; limits = question.limits; shows = shows })
 
 -- why there is no question: what the words say, a file that could not be read, or want of memory
 abbrev pub HasNoQuestion : (List ℕ → Option (List ℕ)) → ValueTask → Unusable → Type 0

@@ -1,11 +1,12 @@
 //! Reads one value, and prints what the input holds, and the value's lines where they are asked for.
-ghost use Rattle.std.specs.Prelude.{◌≡◌, ◌≢◌, ◌⊎◌, ℕ, ◌++◌, ◌<◌, ◌≤◌, [], true, false, Bool, Option, List, length, IfOk, IfErr, OnOk, IsErrOf};
+ghost use Rattle.std.specs.Prelude.{◌≡◌, ◌≢◌, ℕ, ◌++◌, ◌<◌, [], true, false, Bool, Option, List, length, IfOk, IfErr, OnOk, IsErrOf};
 ghost use Rattle.std.specs.Io.KnownBytes.{Appends};
 ghost use Rattle.xdr_types.specs.View.{tree};
 ghost use Rattle.xdr_types.specs.Within.{FitsWithin};
-ghost use Rattle.xdr_io.specs.Told.{Counts};
-ghost use Rattle.oncrpc_tasks.specs.Checked.{Answers, AnswersInPart};
-ghost use Rattle.oncrpc_tasks.specs.Input.{BeginsInput, Gives};
+ghost use Rattle.xdr_io.specs.Told.{Counts, CountsAtMost, MovesAtMost};
+ghost use Rattle.oncrpc_tasks.specs.Checked.{AnswersInPart};
+ghost use Rattle.oncrpc_tasks.specs.Ends.{OfValue, TaskEnds};
+ghost use Rattle.oncrpc_tasks.specs.Input.{BeginsInput, Gives, most_read};
 ghost use Rattle.oncrpc_tasks.specs.Lines.{line};
 ghost use Rattle.oncrpc_tasks.specs.Right.{IsRight, IsRightFor, lines_of};
 
@@ -33,17 +34,10 @@ pub fn check_over<I: Source, O: Sink, F: Sink>(
     hex: bool,
 ) -> u8
     requires { kind.place < length schema.now.kinds }
-    ensures answers { result ≤ 1 → Answers (record { kinds = schema.now.kinds; place = kind.place; limits = limits; shows = false })
-        hex (I.left input.old) (O.taken output.old) (O.taken output.new) result }
-    ensures none_failed { result ≤ 1 → Counts 0 (I.failures input.old) (I.failures input.new) × Counts 0 (O.failures output.old) (O.failures output.new) }
-    ensures silent { result ≤ 1 → faults.new ≡ faults.old }
-    ensures status { (result ≤ 1) ⊎ ((result ≡ 3) ⊎ (result ≡ 4)) }
-    ensures device { result ≡ 3 → Counts 1 (I.failures input.old) (I.failures input.new)
-        ⊎ (Counts 1 (O.failures output.old) (O.failures output.new) ⊎ Counts 1048576 (I.reads input.old) (I.reads input.new)) }
-    // What was printed before a device failed is nothing, or the beginning of the right line.
-    ensures in_part { result ≡ 3 → (output.new ≡ output.old) ⊎ AnswersInPart (record { kinds = schema.now.kinds; place = kind.place; limits = limits; shows = false })
-        hex (I.left input.old) (O.taken output.old) (O.taken output.new) }
-    ensures nothing { result ≡ 4 → output.new ≡ output.old }
+    ensures { TaskEnds
+        (OfValue (record { kinds = schema.now.kinds; place = kind.place; limits = limits; shows = false }) hex) ⊥
+        (record { left = I.left; reads = I.reads; failures = I.failures; taken = O.taken; lost = O.failures })
+        input.old input.new output.old output.new faults.old faults.new result }
 {
     answer_over(
         alloc, input, output, faults, schema, kind, limits, hex, false,
@@ -63,17 +57,10 @@ pub fn show_over<I: Source, O: Sink, F: Sink>(
     hex: bool,
 ) -> u8
     requires { kind.place < length schema.now.kinds }
-    ensures answers { result ≤ 1 → Answers (record { kinds = schema.now.kinds; place = kind.place; limits = limits; shows = true })
-        hex (I.left input.old) (O.taken output.old) (O.taken output.new) result }
-    ensures none_failed { result ≤ 1 → Counts 0 (I.failures input.old) (I.failures input.new) × Counts 0 (O.failures output.old) (O.failures output.new) }
-    ensures silent { result ≤ 1 → faults.new ≡ faults.old }
-    ensures status { (result ≤ 1) ⊎ ((result ≡ 3) ⊎ (result ≡ 4)) }
-    ensures device { result ≡ 3 → Counts 1 (I.failures input.old) (I.failures input.new)
-        ⊎ (Counts 1 (O.failures output.old) (O.failures output.new) ⊎ Counts 1048576 (I.reads input.old) (I.reads input.new)) }
-    // What was printed before a device failed is nothing, or the beginning of the right lines.
-    ensures in_part { result ≡ 3 → (output.new ≡ output.old) ⊎ AnswersInPart (record { kinds = schema.now.kinds; place = kind.place; limits = limits; shows = true })
-        hex (I.left input.old) (O.taken output.old) (O.taken output.new) }
-    ensures nothing { result ≡ 4 → output.new ≡ output.old }
+    ensures { TaskEnds
+        (OfValue (record { kinds = schema.now.kinds; place = kind.place; limits = limits; shows = true }) hex) ⊥
+        (record { left = I.left; reads = I.reads; failures = I.failures; taken = O.taken; lost = O.failures })
+        input.old input.new output.old output.new faults.old faults.new result }
 {
     answer_over(
         alloc, input, output, faults, schema, kind, limits, hex, true,
@@ -92,16 +79,10 @@ fn answer_over<I: Source, O: Sink, F: Sink>(
     shows: bool,
 ) -> u8
     requires { kind.place < length schema.now.kinds }
-    ensures answers { result ≤ 1 → Answers (record { kinds = schema.now.kinds; place = kind.place; limits = limits; shows = shows })
-        hex (I.left input.old) (O.taken output.old) (O.taken output.new) result }
-    ensures none_failed { result ≤ 1 → Counts 0 (I.failures input.old) (I.failures input.new) × Counts 0 (O.failures output.old) (O.failures output.new) }
-    ensures silent { result ≤ 1 → faults.new ≡ faults.old }
-    ensures status { (result ≤ 1) ⊎ ((result ≡ 3) ⊎ (result ≡ 4)) }
-    ensures device { result ≡ 3 → Counts 1 (I.failures input.old) (I.failures input.new)
-        ⊎ (Counts 1 (O.failures output.old) (O.failures output.new) ⊎ Counts 1048576 (I.reads input.old) (I.reads input.new)) }
-    ensures in_part { result ≡ 3 → (output.new ≡ output.old) ⊎ AnswersInPart (record { kinds = schema.now.kinds; place = kind.place; limits = limits; shows = shows })
-        hex (I.left input.old) (O.taken output.old) (O.taken output.new) }
-    ensures nothing { result ≡ 4 → output.new ≡ output.old }
+    ensures { TaskEnds
+        (OfValue (record { kinds = schema.now.kinds; place = kind.place; limits = limits; shows = shows }) hex) ⊥
+        (record { left = I.left; reads = I.reads; failures = I.failures; taken = O.taken; lost = O.failures })
+        input.old input.new output.old output.new faults.old faults.new result }
 {
     match print_answer(alloc, input, output, schema, kind, limits, hex, shows) {
         Ok(answer) => status_of(answer),
@@ -121,15 +102,21 @@ fn print_answer<I: Source, O: Sink>(
     shows: bool,
 ) -> Result<Answer, Failure>
     requires { kind.place < length schema.now.kinds }
-    ensures right { IfOk result (λ a. (shown : List ℕ) × IsRightFor (record { kinds = schema.now.kinds; place = kind.place; limits = limits; shows = shows }) hex (I.left input.old) a shown
+    ensures right { IfOk result (λ a. (shown : List ℕ)
+        × IsRightFor (record { kinds = schema.now.kinds; place = kind.place; limits = limits; shows = shows })
+        hex (I.left input.old) a shown
         × Appends (O.taken output.old) (O.taken output.new) (shown ++ line a)) }
-    ensures none_failed { OnOk result (Counts 0 (I.failures input.old) (I.failures input.new) × Counts 0 (O.failures output.old) (O.failures output.new)) }
+    ensures none_failed { OnOk result (Counts 0 (I.failures input.old) (I.failures input.new)
+        × Counts 0 (O.failures output.old) (O.failures output.new)) }
     ensures read { IsErrOf result Failure.Read → Counts 1 (I.failures input.old) (I.failures input.new) }
     ensures many { IsErrOf result Failure.TooManyReads → Counts 1048576 (I.reads input.old) (I.reads input.new) }
     ensures write { IsErrOf result Failure.Write → Counts 1 (O.failures output.old) (O.failures output.new) }
-    ensures in_part { IsErrOf result Failure.Write → AnswersInPart (record { kinds = schema.now.kinds; place = kind.place; limits = limits; shows = shows })
+    ensures in_part { IsErrOf result Failure.Write
+        → AnswersInPart (record { kinds = schema.now.kinds; place = kind.place; limits = limits; shows = shows })
         hex (I.left input.old) (O.taken output.old) (O.taken output.new) }
     ensures nothing { IfErr result (λ f. f ≢ Failure.Write → output.new ≡ output.old) }
+    ensures reads { CountsAtMost 1048576 (I.reads input.old) (I.reads input.new) }
+    ensures moved { MovesAtMost (most_read hex limits.bytes) (I.left input.old) (I.left input.new) }
 {
     let given = given_over(alloc, input, limits.bytes() as usize, hex)?;
     let (answer, mut text) = answer_given(alloc, schema, kind, limits, shows, &given)?;
@@ -150,7 +137,8 @@ fn answer_given(
 ) -> Result<(Answer, Vec<u8>), Failure>
     requires { kind.place < length schema.now.kinds }
     ensures right { IfOk result (λ r. (hex : Bool) (told : Option (List ℕ)) → Gives hex limits.bytes told given.now
-        → IsRightFor (record { kinds = schema.now.kinds; place = kind.place; limits = limits; shows = shows }) hex told r.0 r.1.items) }
+        → IsRightFor (record { kinds = schema.now.kinds; place = kind.place; limits = limits; shows = shows })
+        hex told r.0 r.1.items) }
     ensures memory { IfErr result (λ f. f ≡ Failure.NoMemory) }
 {
     match given {
@@ -171,7 +159,8 @@ fn answer_of(
 ) -> Result<(Answer, Vec<u8>), Failure>
     requires { kind.place < length schema.now.kinds }
     ensures right { IfOk result (λ r. (whole : List ℕ) → BeginsInput limits.bytes whole bytes.now
-        → IsRight (record { kinds = schema.now.kinds; place = kind.place; limits = limits; shows = shows }) whole r.0 r.1.items) }
+        → IsRight (record { kinds = schema.now.kinds; place = kind.place; limits = limits; shows = shows })
+        whole r.0 r.1.items) }
     ensures memory { IfErr result (λ f. f ≡ Failure.NoMemory) }
 {
     match decode(alloc, schema, kind, limits, bytes) {
@@ -198,7 +187,9 @@ fn shown_of(
     value: &Value,
 ) -> Result<Vec<u8>, AllocError>
     requires { FitsWithin schema.now.kinds kind.place limits (tree value.now) }
-    ensures { IfOk result (λ v. v.items ≡ lines_of (record { kinds = schema.now.kinds; place = kind.place; limits = limits; shows = shows }) (tree value.now)) }
+    ensures { IfOk result (λ v. v.items
+        ≡ lines_of (record { kinds = schema.now.kinds; place = kind.place; limits = limits; shows = shows })
+        (tree value.now)) }
 {
     if shows {
         show(alloc, schema, kind, value, limits)

@@ -21,7 +21,8 @@ pub fn declared<P: Opener>(
     ensures declares { IfOk result (λ d. Declares (told_text (P.told opener.old) types.now) types.now (declared_of d)) }
     ensures refused { IfErr result (λ why. HasNone (told_text (P.told opener.old) types.now) types.now why) }
     ensures failed { IsErrOf result (Unusable.Failed Failure.Read)
-        → FileFails P.Text.left P.Text.failures (P.told opener.old) types.now (P.failures opener.old) (P.failures opener.new) }
+        → FileFails P.Text.left P.Text.failures (P.told opener.old) types.now
+        (P.failures opener.old) (P.failures opener.new) }
 {
     match types {
         Some(file) => declared_in(alloc, file, opener),
@@ -34,10 +35,12 @@ fn declared_in<P: Opener>(
     file: &String,
     opener: &mut P,
 ) -> Result<Declared, Unusable>
-    ensures declares { IfOk result (λ d. Declares (P.told opener.old (string_bytes file.now)) (Some file.now) (declared_of d)) }
+    ensures declares { IfOk result (λ d.
+        Declares (P.told opener.old (string_bytes file.now)) (Some file.now) (declared_of d)) }
     ensures refused { IfErr result (λ why. HasNone (P.told opener.old (string_bytes file.now)) (Some file.now) why) }
     ensures failed { IsErrOf result (Unusable.Failed Failure.Read)
-        → FileFails P.Text.left P.Text.failures (P.told opener.old) (Some file.now) (P.failures opener.old) (P.failures opener.new) }
+        → FileFails P.Text.left P.Text.failures (P.told opener.old) (Some file.now)
+        (P.failures opener.old) (P.failures opener.new) }
 {
     let mut source = opener.open(file)?;
     let text = read_past(alloc, &mut source, MAX_TEXT)?;

@@ -1,7 +1,7 @@
 //! The bytes that a task is given.
 ghost use Rattle.std.specs.Prelude.{◌≡◌, IfOk, OnOk, IsErrOf};
-ghost use Rattle.xdr_io.specs.Told.{Counts};
-ghost use Rattle.oncrpc_tasks.specs.Input.{Gives};
+ghost use Rattle.xdr_io.specs.Told.{Counts, CountsAtMost, MovesAtMost};
+ghost use Rattle.oncrpc_tasks.specs.Input.{Gives, most_read};
 
 use super::failure::Failure;
 use super::hexadecimal::{MOST_TEXT, bytes_of_text};
@@ -31,6 +31,8 @@ pub fn given_over<I: Source>(
     ensures failed { IsErrOf result Failure.Read → Counts 1 (I.failures input.old) (I.failures input.new) }
     ensures many { IsErrOf result Failure.TooManyReads → Counts 1048576 (I.reads input.old) (I.reads input.new) }
     ensures no_write { IsErrOf result Failure.Write → ⊥ }
+    ensures reads { CountsAtMost 1048576 (I.reads input.old) (I.reads input.new) }
+    ensures moved { MovesAtMost (most_read hex enough) (I.left input.old) (I.left input.new) }
 {
     if !hex {
         return Ok(Given::Bytes(read_past(alloc, input, enough)?));

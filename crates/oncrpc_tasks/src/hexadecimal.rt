@@ -27,7 +27,8 @@ fn digits_of(alloc: Global, text: &[u8]) -> Result<Vec<u8>, AllocError>
 
 /// The bytes that a text of hexadecimal spells, its white space dropped; None where it spells none.
 pub fn bytes_of_text(alloc: Global, text: &[u8]) -> Result<Option<Vec<u8>>, AllocError>
-    ensures { IfOk result (λ spelled. MatchOption spelled (IsBadHex text.now) (λ v. decode_of (digits text.now) ≡ Ok v.items)) }
+    ensures { IfOk result (λ spelled.
+        MatchOption spelled (IsBadHex text.now) (λ v. decode_of (digits text.now) ≡ Ok v.items)) }
 {
     let digits = digits_of(alloc, text)?;
     match hex::decode(alloc, digits.as_slice()) {

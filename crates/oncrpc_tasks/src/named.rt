@@ -11,7 +11,8 @@ use xdr_types::KindId;
 /// result. It takes no memory.
 pub fn kind_named(declared: &Declared, name: &str) -> Option<KindId>
     ensures found { IfSome result (λ kind. Names name.now (declared_of declared.now) kind.place) }
-    ensures only { (place : ℕ) → Names name.now (declared_of declared.now) place → MatchOption result ⊥ (λ kind. kind.place ≡ place) }
+    ensures only { (place : ℕ) → Names name.now (declared_of declared.now) place
+        → MatchOption result ⊥ (λ kind. kind.place ≡ place) }
 {
     match declared.kind(name) {
         Some(kind) => Some(kind),

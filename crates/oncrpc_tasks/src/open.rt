@@ -63,13 +63,16 @@ impl<'a> Opener for MemoryOpener<'a> {
     ghost failures = { λ s. told_count s.failures };
 
     fn open(&mut self, name: &str) -> Result<MemorySource<'a>, ReadFault>
-        ensures text { IfOk result (λ text. Keeps (if bytes_eq name.now self.old.name.now then Some self.old.text.now else None) (⟦<MemorySource<'a> as Source>⟧.left text)) }
+        ensures text { IfOk result (λ text.
+            Keeps (if bytes_eq name.now self.old.name.now then Some self.old.text.now else None)
+            (⟦<MemorySource<'a> as Source>⟧.left text)) }
         ensures own { IfOk result (λ _. bytes_eq name.now self.old.name.now ≡ true) }
         ensures other { IfErr result (λ _. bytes_eq name.now self.old.name.now ≡ false) }
         ensures none_failed { OnOk result (Counts 0 (told_count self.old.failures) (told_count self.new.failures)) }
         ensures failed { OnErr result (Counts 1 (told_count self.old.failures) (told_count self.new.failures)) }
         ensures gives { IfOk result (λ text. (text.piece ≡ self.old.piece) × (text.failing ≡ self.old.failing)) }
-        ensures same { (self.new.name ≡ self.old.name) × (self.new.text ≡ self.old.text) × (self.new.piece ≡ self.old.piece) × (self.new.failing ≡ self.old.failing) }
+        ensures same { (self.new.name ≡ self.old.name) × (self.new.text ≡ self.old.text)
+            × (self.new.piece ≡ self.old.piece) × (self.new.failing ≡ self.old.failing) }
     {
         if name == self.name {
             Ok(MemorySource::new(self.text, self.piece, self.failing))

@@ -30,7 +30,8 @@ pub fn question_of<P: Opener>(
     ensures known { IfOk result (λ q. q.kind.place < length q.schema.kinds) }
     ensures none { IfErr result (λ why. HasNoQuestion (P.told opener.old) what.now why) }
     ensures failed { IsErrOf result (Unusable.Failed Failure.Read)
-        → FileFails P.Text.left P.Text.failures (P.told opener.old) what.now.types (P.failures opener.old) (P.failures opener.new) }
+        → FileFails P.Text.left P.Text.failures (P.told opener.old) what.now.types
+        (P.failures opener.old) (P.failures opener.new) }
 {
     let declared = declared(alloc, &what.types, opener)?;
     let kind = match kind_named(&declared, &what.name) {

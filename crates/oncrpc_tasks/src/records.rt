@@ -1,7 +1,9 @@
 //! Writes a stream of records in its normal form.
-ghost use Rattle.std.specs.Prelude.{◌≡◌, ◌⊎◌, ◌↔◌, ◌<◌, ◌≤◌, [], Option, List, ℕ, Some, IfOk, IfErr, IsErrOf, string_bytes};
-ghost use Rattle.xdr_io.specs.Told.{Counts};
-ghost use Rattle.oncrpc_tasks.specs.Records.{Done, Marks, MarksAsText, RefusedBytes, refusal_line};
+ghost use Rattle.std.specs.Prelude.{◌≡◌, ◌≢◌, ◌⊎◌, ◌↔◌, ◌<◌, ◌≤◌, [], true, false, Option, List, ℕ, Some, IfOk, IfErr, OnOk, IsErrOf, string_bytes};
+ghost use Rattle.xdr_io.specs.Told.{Counts, CountsAtMost, MovesAtMost};
+ghost use Rattle.oncrpc_tasks.specs.Ends.{OfRecords, TaskEnds, IsFormInPart};
+ghost use Rattle.oncrpc_tasks.specs.Input.{most_read};
+ghost use Rattle.oncrpc_tasks.specs.Records.{Marks, MarksAsText, StopsFor, refusal_line};
 
 use super::failure::{Failure, report};
 use super::gathered::Gathered;
@@ -40,24 +42,58 @@ pub fn records_over<I: Source, O: Sink, F: Sink>(
     limit: u32,
     hex: bool,
 ) -> u8
-    ensures status { result ≤ 4 }
+    ensures ends { TaskEnds (OfRecords limit hex) ⊥
+        (record { left = I.left; reads = I.reads; failures = I.failures; taken = O.taken; lost = O.failures })
+        input.old input.new output.old output.new faults.old faults.new result }
     ensures limits { (result ≡ 2) ↔ (2147483647 < limit) }
-    ensures unread { result ≡ 2 → (input.new ≡ input.old) × (output.new ≡ output.old) }
-    ensures done { result ≡ 0 → Done limit hex (I.left input.old) (I.left input.new) (O.taken output.old) (O.taken output.new) }
-    ensures refused { result ≡ 1 → RefusedBytes limit hex (I.left input.old) (I.left input.new) (O.taken output.old) (O.taken output.new) }
-    ensures device { result ≡ 3 → Counts 1 (I.failures input.old) (I.failures input.new)
-        ⊎ (Counts 1 (O.failures output.old) (O.failures output.new) ⊎ Counts 1048576 (I.reads input.old) (I.reads input.new)) }
 {
     if limit > MOST_LIMIT {
         let _ = write_whole(faults, b"limits refused\n");
         return 2;
     }
-    let marked = if hex {
-        mark_text(alloc, input, output, limit)
+    if hex {
+        text_over(alloc, input, output, faults, limit)
     } else {
-        mark_bytes(alloc, input, output, limit)
-    };
-    match marked {
+        bytes_over(alloc, input, output, faults, limit)
+    }
+}
+
+// The records of an input that is read as it is.
+fn bytes_over<I: Source, O: Sink, F: Sink>(
+    alloc: Global,
+    input: &mut I,
+    output: &mut O,
+    faults: &mut F,
+    limit: u32,
+) -> u8
+    requires { limit ≤ 2147483647 }
+    ensures ends { TaskEnds (OfRecords limit false) ⊥
+        (record { left = I.left; reads = I.reads; failures = I.failures; taken = O.taken; lost = O.failures })
+        input.old input.new output.old output.new faults.old faults.new result }
+    ensures limits { result ≢ 2 }
+{
+    match mark_bytes(alloc, input, output, limit) {
+        Ok(Marking::Whole) => 0,
+        Ok(refused) => report_refusal(alloc, refused, faults),
+        Err(failure) => report(failure, faults),
+    }
+}
+
+// The records of an input that is a text of hexadecimal.
+fn text_over<I: Source, O: Sink, F: Sink>(
+    alloc: Global,
+    input: &mut I,
+    output: &mut O,
+    faults: &mut F,
+    limit: u32,
+) -> u8
+    requires { limit ≤ 2147483647 }
+    ensures ends { TaskEnds (OfRecords limit true) ⊥
+        (record { left = I.left; reads = I.reads; failures = I.failures; taken = O.taken; lost = O.failures })
+        input.old input.new output.old output.new faults.old faults.new result }
+    ensures limits { result ≢ 2 }
+{
+    match mark_text(alloc, input, output, limit) {
         Ok(Marking::Whole) => 0,
         Ok(refused) => report_refusal(alloc, refused, faults),
         Err(failure) => report(failure, faults),
@@ -71,10 +107,16 @@ fn mark_bytes<I: Source, O: Sink>(
     limit: u32,
 ) -> Result<Marking, Failure>
     requires { limit ≤ 2147483647 }
-    ensures marks { IfOk result (λ m. Marks limit (I.left input.old) (I.left input.new) (O.taken output.old) (O.taken output.new) m) }
+    ensures marks { IfOk result (λ m.
+        Marks limit (I.left input.old) (I.left input.new) (O.taken output.old) (O.taken output.new) m) }
+    ensures unfailed { IfOk result (λ m. m ≡ Marking.Whole → Counts 0 (I.failures input.old) (I.failures input.new)) }
+    ensures unlost { OnOk result (Counts 0 (O.failures output.old) (O.failures output.new)) }
+    ensures stopped { IfErr result (λ f.
+        StopsFor f limit (I.left input.old) (I.left input.new) (O.taken output.old) (O.taken output.new)) }
     ensures read { IsErrOf result Failure.Read → Counts 1 (I.failures input.old) (I.failures input.new) }
     ensures many { IsErrOf result Failure.TooManyReads → Counts 1048576 (I.reads input.old) (I.reads input.new) }
     ensures write { IsErrOf result Failure.Write → Counts 1 (O.failures output.old) (O.failures output.new) }
+    ensures reads { CountsAtMost 1048576 (I.reads input.old) (I.reads input.new) }
 {
     match normalise(alloc, input, output, limit) {
         Ok(_) => Ok(Marking::Whole),
@@ -91,7 +133,8 @@ fn mark_bytes<I: Source, O: Sink>(
 /// is want of memory.
 fn mark_gathered(alloc: Global, bytes: &[u8], limit: u32) -> Result<(Marking, Vec<u8>), Failure>
     requires { limit ≤ 2147483647 }
-    ensures marks { IfOk result (λ r. (rest : Option (List ℕ)) × Marks limit (Some bytes.now) rest (Some []) (Some r.1.items) r.0) }
+    ensures marks { IfOk result (λ r. (rest : Option (List ℕ))
+        × Marks limit (Some bytes.now) rest (Some []) (Some r.1.items) r.0) }
     ensures memory { IfErr result (λ f. f ≡ Failure.NoMemory) }
 {
     let mut source = MemorySource::new(bytes, 4096, None);
@@ -109,10 +152,18 @@ fn mark_text<I: Source, O: Sink>(
     limit: u32,
 ) -> Result<Marking, Failure>
     requires { limit ≤ 2147483647 }
-    ensures marks { IfOk result (λ m. MarksAsText limit (I.left input.old) (O.taken output.old) (O.taken output.new) m) }
+    ensures marks { IfOk result (λ m.
+        MarksAsText limit (I.left input.old) (O.taken output.old) (O.taken output.new) m) }
+    ensures none_failed { OnOk result (Counts 0 (I.failures input.old) (I.failures input.new)
+        × Counts 0 (O.failures output.old) (O.failures output.new)) }
+    ensures in_part { IsErrOf result Failure.Write
+        → IsFormInPart limit (I.left input.old) (O.taken output.old) (O.taken output.new) }
+    ensures nothing { IfErr result (λ f. f ≢ Failure.Write → output.new ≡ output.old) }
     ensures read { IsErrOf result Failure.Read → Counts 1 (I.failures input.old) (I.failures input.new) }
     ensures many { IsErrOf result Failure.TooManyReads → Counts 1048576 (I.reads input.old) (I.reads input.new) }
     ensures write { IsErrOf result Failure.Write → Counts 1 (O.failures output.old) (O.failures output.new) }
+    ensures reads { CountsAtMost 1048576 (I.reads input.old) (I.reads input.new) }
+    ensures moved { MovesAtMost (most_read true 0) (I.left input.old) (I.left input.new) }
 {
     let bytes = match given_over(alloc, input, 0, true)? {
         Given::Bytes(bytes) => bytes,

@@ -1,8 +1,7 @@
 //! A task that needs no network: what the words ask for, and how it is done.
-ghost use Rattle.std.specs.Prelude.{◌≡◌, ◌⊎◌, ◌≤◌};
-ghost use Rattle.xdr_io.specs.Told.{Counts};
+ghost use Rattle.oncrpc_tasks.specs.Ends.{OfWords, TaskEnds, asked_by};
 ghost use Rattle.oncrpc_tasks.specs.Sources.{FileFails};
-ghost use Rattle.oncrpc_tasks.specs.Tasks.{AsksNothing, Does, IsAnswered, IsUnusable, file_of};
+ghost use Rattle.oncrpc_tasks.specs.Tasks.{file_of};
 
 use super::check::{check_over, show_over};
 use super::open::Opener;
@@ -58,13 +57,11 @@ pub fn task_over<P: Opener, I: Source, O: Sink, F: Sink>(
     output: &mut O,
     faults: &mut F,
 ) -> u8
-    ensures status { result ≤ 4 }
-    ensures done { result ≤ 1 → Does (P.told opener.old) task.now (I.left input.old) (I.left input.new) (O.taken output.old) (O.taken output.new) result }
-    ensures unusable { result ≡ 2 → IsUnusable (P.told opener.old) task.now }
-    ensures unread { result ≡ 2 → (input.new ≡ input.old) × (output.new ≡ output.old) }
-    ensures device { result ≡ 3 → FileFails P.Text.left P.Text.failures (P.told opener.old) (file_of task.now) (P.failures opener.old) (P.failures opener.new)
-        ⊎ (Counts 1 (I.failures input.old) (I.failures input.new)
-        ⊎ (Counts 1 (O.failures output.old) (O.failures output.new) ⊎ Counts 1048576 (I.reads input.old) (I.reads input.new))) }
+    ensures { TaskEnds (asked_by (P.told opener.old) task.now)
+        (FileFails P.Text.left P.Text.failures (P.told opener.old) (file_of task.now)
+        (P.failures opener.old) (P.failures opener.new))
+        (record { left = I.left; reads = I.reads; failures = I.failures; taken = O.taken; lost = O.failures })
+        input.old input.new output.old output.new faults.old faults.new result }
 {
     match task {
         Task::Check(what) => value_over(alloc, what, false, opener, input, output, faults),
@@ -82,13 +79,11 @@ fn value_over<P: Opener, I: Source, O: Sink, F: Sink>(
     output: &mut O,
     faults: &mut F,
 ) -> u8
-    ensures status { result ≤ 4 }
-    ensures done { result ≤ 1 → IsAnswered (P.told opener.old) what.now shows (I.left input.old) (O.taken output.old) (O.taken output.new) result }
-    ensures unusable { result ≡ 2 → AsksNothing (P.told opener.old) what.now }
-    ensures unread { result ≡ 2 → (input.new ≡ input.old) × (output.new ≡ output.old) }
-    ensures device { result ≡ 3 → FileFails P.Text.left P.Text.failures (P.told opener.old) what.now.types (P.failures opener.old) (P.failures opener.new)
-        ⊎ (Counts 1 (I.failures input.old) (I.failures input.new)
-        ⊎ (Counts 1 (O.failures output.old) (O.failures output.new) ⊎ Counts 1048576 (I.reads input.old) (I.reads input.new))) }
+    ensures { TaskEnds (OfWords (P.told opener.old) what.now shows)
+        (FileFails P.Text.left P.Text.failures (P.told opener.old) what.now.types
+        (P.failures opener.old) (P.failures opener.new))
+        (record { left = I.left; reads = I.reads; failures = I.failures; taken = O.taken; lost = O.failures })
+        input.old input.new output.old output.new faults.old faults.new result }
 {
     let question = match question_of(alloc, what, opener) {
         Ok(question) => question,

@@ -8,8 +8,10 @@ use Rattle.oncrpc_tasks.proofs.named.kind_of_part.Goals as goal
 pub returns-in_ok-before-in-Argument : goal.returns-in_ok-before-in-Argument
 returns-in_ok-before-in-Argument c =
     let before = c.in_ok-before-in-Argument.before in
-    argument_named (declared_of c.args.declared.now) c.args.name (procedure_of c.in_ok-procedure.procedure.now) c.in-Argument.number before
+    argument_named (declared_of c.args.declared.now) c.args.name
+    (procedure_of c.in_ok-procedure.procedure.now) c.in-Argument.number before
     (search rules) c.in-Argument.is (search (rules, arith)) _
     (ap (option_map (λ (k : KindId). k.place))
-    (c.copied.ensures ∙ item_copied c.deref.result.now before c.get.result c.get.ensures.lookup ∙ ap (λ xs. slice_get xs before) c.deref.ensures.value)
+    (c.copied.ensures ∙ item_copied c.deref.result.now before c.get.result c.get.ensures.lookup ∙ ap
+    (λ xs. slice_get xs before) c.deref.ensures.value)
     ∙ sym (slice_get-map (λ (k : KindId). k.place) c.in_ok-procedure.procedure.now.arguments.items before))

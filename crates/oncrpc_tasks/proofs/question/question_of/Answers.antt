@@ -8,7 +8,11 @@ pub returns-in_default-clause-none : goal.returns-in_default-clause-none
 returns-in_default-clause-none g c =
     let only = rw c.deref.ensures at c.kind_named.ensures.only in
     elim c.in_default.branch [
-      | in_default-via-in-Some+else-has w ↦ nothing_asked _ c.args.what.now (declared_of c.in_ok-declared.declared) c.kind_named.result c.in_ok-declared.ensures.declares only
-          (not_known c.kind_named.result w.in-Some.kind _ w.in-Some.is (λ known. false_is w.has.result w.if-has.false (w.has.ensures.1 known)))
-      | in_default-via-in_default w ↦ nothing_asked _ c.args.what.now (declared_of c.in_ok-declared.declared) c.kind_named.result c.in_ok-declared.ensures.declares only (none_known c.kind_named.result _ w.in_default.is)
+      | in_default-via-in-Some+else-has w ↦ nothing_asked _ c.args.what.now
+          (declared_of c.in_ok-declared.declared) c.kind_named.result c.in_ok-declared.ensures.declares only
+          (not_known c.kind_named.result w.in-Some.kind _ w.in-Some.is
+          (λ known. false_is w.has.result w.if-has.false (w.has.ensures.1 known)))
+      | in_default-via-in_default w ↦ nothing_asked _ c.args.what.now
+          (declared_of c.in_ok-declared.declared) c.kind_named.result c.in_ok-declared.ensures.declares only
+          (none_known c.kind_named.result _ w.in_default.is)
     ]
