@@ -32,7 +32,7 @@ use Rattle.xdr_laws.proofs.Known.{root_fits}
 use Rattle.xdr_laws.proofs.GoesOn.{legal_known}
 use Rattle.xdr_laws.proofs.SameParts.{parts_units}
 use Rattle.xdr_laws.proofs.Holding.{nodes_bound, content_bound}
-use Rattle.xdr_laws.proofs.Higher.{higher_at}
+use Rattle.xdr_types.proofs.Higher.{higher-at}
 
 -- ---- what a well formed schema has: nothing void stands as a field or an item, nothing fixed is of size 0, and a
 -- structure has fields
@@ -694,7 +694,7 @@ over_all s sound =
       height,
       λ place. elim (cases_lt place (length s)) [
         | inl known ↦ (let m = t.1 place known in over_of height (kind_at s place) (height place)
-            (higher_at s m.heights m.proper t.0 place m.number m.given m.low))
+            (higher-at s m.heights m.proper t.0 place m.number m.given m.low))
         | inr past ↦ subst (λ (f : Form). Over (λ part. height part < height place) f)
             (sym (get_or_past s place form.unknown past)) tt
       ],

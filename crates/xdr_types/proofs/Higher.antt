@@ -9,7 +9,8 @@ use Rattle.xdr_types.specs.Rounds.{given, IsMarked, AreHeights}
 use Rattle.xdr_types.specs.Height.{highest, over, height_within, IsHigher, AreHigher}
 use Rattle.xdr_types.proofs.Heighting.{asks-mono, number}
 
-highest-same : (f g : ℕ → ℕ) (ps : List Part) → AllByRecursion (λ (p : Part). f p.kind ≡ g p.kind) ps → highest f ps ≡ highest g ps
+highest-same : (f g : ℕ → ℕ) (ps : List Part) → AllByRecursion (λ (p : Part). f p.kind ≡ g p.kind) ps
+    → highest f ps ≡ highest g ps
 highest-same f g [] h = refl
 highest-same f g (p ∷ ps) h = rw (h.0, highest-same f g ps h.1) refl
 
@@ -18,7 +19,8 @@ over-same kinds f g (form.structure ps) h = ap (λ n. n + 1) (highest-same f g p
 over-same kinds f g (form.fixed item size) h = ap (λ n. n + 1) h
 over-same kinds f g _ h = refl
 
-all-below : (f g : ℕ → ℕ) (ps : List Part) (top : ℕ) → AllByRecursion (λ (p : Part). f p.kind ≡ g p.kind) ps → highest f ps < top → AllByRecursion (λ (p : Part). g p.kind < top) ps
+all-below : (f g : ℕ → ℕ) (ps : List Part) (top : ℕ) → AllByRecursion (λ (p : Part). f p.kind ≡ g p.kind) ps
+    → highest f ps < top → AllByRecursion (λ (p : Part). g p.kind < top) ps
 all-below f g [] top h b = tt
 all-below f g (p ∷ ps) top h b =
     let here : f p.kind ≡ g p.kind = h.0 in
@@ -26,33 +28,40 @@ all-below f g (p ∷ ps) top h b =
     let right : highest f ps ≤ max (f p.kind) (highest f ps) = le-max_right (f p.kind) (highest f ps) in
     (omega arith, all-below f g ps top h.1 (omega arith))
 
-higher-over : (kinds : List Form) (f g : ℕ → ℕ) (k : Form) (top : ℕ) → Asks kinds (λ q. f q ≡ g q) k → over f k ≡ top → IsHigher g k top
+higher-over : (kinds : List Form) (f g : ℕ → ℕ) (k : Form) (top : ℕ) → Asks kinds (λ q. f q ≡ g q) k → over f k ≡ top
+    → IsHigher g k top
 higher-over kinds f g (form.structure ps) top h e = all-below f g ps top h (omega arith)
 higher-over kinds f g (form.fixed item size) top h e = let same : f item ≡ g item = h in omega arith
 higher-over kinds f g _ top h e = tt
 
 module _ (kinds : List Form) (h : Heighting) (proper : IsProper kinds h) where
   -- more levels than a place's number show no more
-  stable : (bound place m n k : ℕ) → m < bound → h place ≡ Some m → m < n → m < k → height_within kinds n place ≡ height_within kinds k place
+  stable : (bound place m n k : ℕ) → m < bound → h place ≡ Some m → m < n → m < k
+      → height_within kinds n place ≡ height_within kinds k place
   stable zero place m n k b e mn mk = absurd (omega arith)
   stable (suc bound) place m zero k b e mn mk = absurd (omega arith)
   stable (suc bound) place m (suc n) zero b e mn mk = absurd (omega arith)
   stable (suc bound) place m (suc n) (suc k) b e mn mk =
       over-same kinds (height_within kinds n) (height_within kinds k) (kind_at kinds place)
       (asks-mono kinds (IsBelow h m) (λ q. height_within kinds n q ≡ height_within kinds k q)
-      (λ q below. stable bound q below.0 n k (omega (arith, below.2)) below.1 (omega (arith, below.2)) (omega (arith, below.2)))
+      (λ q below. stable bound q below.0 n k (omega (arith, below.2)) below.1 (omega (arith, below.2))
+      (omega (arith, below.2)))
       (kind_at kinds place) (proper place m e))
 
-  higher-at : (n place m : ℕ) → h place ≡ Some m → m < n → IsHigher (height_within kinds n) (kind_at kinds place) (height_within kinds n place)
+  pub higher-at : (n place m : ℕ) → h place ≡ Some m → m < n
+      → IsHigher (height_within kinds n) (kind_at kinds place) (height_within kinds n place)
   higher-at zero place m e mn = absurd (omega arith)
   higher-at (suc n) place m e mn =
-      higher-over kinds (height_within kinds n) (height_within kinds (suc n)) (kind_at kinds place) (height_within kinds (suc n) place)
+      higher-over kinds (height_within kinds n) (height_within kinds (suc n)) (kind_at kinds place)
+      (height_within kinds (suc n) place)
       (asks-mono kinds (IsBelow h m) (λ q. height_within kinds n q ≡ height_within kinds (suc n) q)
-      (λ q below. stable (below.0 + 1) q below.0 n (suc n) (omega arith) below.1 (omega (arith, below.2)) (omega (arith, below.2)))
+      (λ q below. stable (below.0 + 1) q below.0 n (suc n) (omega arith) below.1 (omega (arith, below.2))
+      (omega (arith, below.2)))
       (kind_at kinds place) (proper place m e))
       refl
 
-pub are-higher : (kinds : List Form) (hs : List (Option ℕ)) (next : ℕ) → AreHeights kinds hs next → ((place : ℕ) → place < length kinds → IsMarked hs place) → AreHigher kinds
+pub are-higher : (kinds : List Form) (hs : List (Option ℕ)) (next : ℕ) → AreHeights kinds hs next
+    → ((place : ℕ) → place < length kinds → IsMarked hs place) → AreHigher kinds
 are-higher kinds hs next are all place within =
     let found = number hs place (all place within) in
     let below : found.0 < next = are.below place found.0 found.1 in
