@@ -1,9 +1,10 @@
 -- What tokens declare, computed.
 use Rattle.std.proofs.Common.{◌≡◌, List, length, Option, Some, option_map, refl, sym, ap, subst, ◌∙◌}
-use Rattle.std.proofs.Common.{Result, Ok, Err, IfOk}
+use Rattle.std.proofs.Common.{Result, Ok, Err, IfOk, None}
+use Rattle.std.specs.Prelude.{is_ok, false}
 use Rattle.xdr_tokens.specs.declared.fault.Fault.{Fault}
 use Rattle.xdr_tokens.specs.Tokens.{Lexeme}
-use Rattle.xdr_tokens.proofs.Options.{some_is}
+use Rattle.xdr_tokens.proofs.Options.{some_is, some_is_not}
 use Rattle.xdr_grammar.specs.declared.outline.Outline.{Outline as Made}
 use Rattle.xdr_grammar.specs.Outline.{Outline, nothing}
 use Rattle.xdr_grammar.specs.View.{outline_of}
@@ -18,3 +19,10 @@ tells_outline ts us f y (Ok v) same is found =
     let read = outline_again ts (outline_of v) (subst (λ (x : List Lexeme). IsOutline x (outline_of v)) same found) in
     some_is (f (outline_of v)) y (sym (ap (λ (o : Option Outline). option_map f o) read) ∙ is)
 tells_outline ts us f y (Err e) same is found = tt
+
+pub no_outline : (ts us : List Lexeme) (r : Result Made Fault) → us ≡ ts
+    → definitions_at (length ts) nothing ts ≡ None → IfOk r (λ v. IsOutline us (outline_of v)) → is_ok r ≡ false
+no_outline ts us (Ok v) same none found =
+    let is = subst (λ (x : List Lexeme). IsOutline x (outline_of v)) same found in
+    absurd (some_is_not (outline_of v) (sym (outline_again ts (outline_of v) is) ∙ none))
+no_outline ts us (Err e) same none found = refl

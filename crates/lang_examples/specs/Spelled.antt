@@ -1,5 +1,5 @@
 -- Tokens of the examples, and what they declare.
-use Rattle.std.specs.Prelude.{ℕ, pos, List, [], ◌∷◌, codes}
+use Rattle.std.specs.Prelude.{ℕ, zero, suc, pos, List, [], ◌∷◌, codes}
 use Rattle.xdr_tokens.specs.declared.token.Keyword.TheVariants as word
 use Rattle.xdr_tokens.specs.declared.token.Mark.TheVariants as mark
 use Rattle.xdr_tokens.specs.Tokens.{Lexeme, Word, Name, Number, Sign}
@@ -41,3 +41,14 @@ union_arms =
       member = named (codes "a") (out.IsBasic basic.Int);
     })
     ∷ (record { cases = out.Given (pos 3) ∷ []; member = named [] out.IsVoid }) ∷ []
+
+-- int inside so many bodies of structs, each a field a of the next
+abbrev pub bodies : ℕ → List Lexeme → List Lexeme
+bodies zero ts = Word word.Int ∷ ts
+bodies (suc n) ts =
+    Word word.Struct ∷ Sign mark.OpenBrace
+    ∷ bodies n (Name (codes "a") ∷ Sign mark.Semicolon ∷ Sign mark.CloseBrace ∷ ts)
+
+-- typedef, that, and a name
+abbrev pub typedef_of_bodies : ℕ → List Lexeme
+typedef_of_bodies n = Word word.Typedef ∷ bodies n (Name (codes "t") ∷ Sign mark.Semicolon ∷ [])

@@ -7,6 +7,7 @@ ghost use Rattle.xdr_grammar.specs.View.{outline_of};
 ghost use Rattle.xdr_grammar.specs.Outline as out;
 ghost use Rattle.xdr_grammar.specs.declared.outline.Basic.TheVariants as basic;
 ghost use Rattle.lang_examples.specs.Spelled.{two_typedefs, enumeration, union_tokens, union_arms, named};
+ghost use Rattle.lang_examples.specs.Spelled.{typedef_of_bodies};
 
 use std::alloc::Global;
 use xdr_grammar::{Outline, read_outline};
@@ -38,4 +39,12 @@ pub fn union_with_a_default<'a>(alloc: Global, tokens: &[Token<'a>]) -> Result<O
         (Some (named (codes "b") (out.IsBasic basic.Bool))) ∷ []) }
 {
     read_outline(alloc, tokens)
+}
+
+/// A 33rd body inside others is one too many.
+pub fn one_body_too_many(alloc: Global, tokens: &[Token<'_>]) -> bool
+    requires { lexemes tokens.now ≡ typedef_of_bodies 33 }
+    ensures { result ≡ false }
+{
+    read_outline(alloc, tokens).is_ok()
 }
