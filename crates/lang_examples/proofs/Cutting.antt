@@ -1,0 +1,53 @@
+-- The tokens of a text, computed.
+use Rattle.std.proofs.Common.{◌≡◌, ◌≤◌, ℕ, zero, suc, List, [], ◌∷◌, length, Option, Some, None, refl, sym, ap, ◌∙◌}
+use Rattle.std.proofs.Common.{arith}
+use Rattle.std.proofs.Common.{Result, Ok, Err, IfOk, Vec, Global}
+use Rattle.std.specs.Prelude.{option_and_then, is_ok, false}
+use Rattle.xdr_tokens.specs.declared.token.Token.{Token}
+use Rattle.xdr_tokens.specs.declared.fault.Fault.{Fault}
+use Rattle.xdr_tokens.specs.Tokens.{Lexeme, lexemes}
+use Rattle.xdr_tokens.specs.Text.{Piece, spelling, Cuts, Tokens, token_of, with_token}
+use Rattle.xdr_tokens.specs.steps.Front.{piece_at}
+use Rattle.xdr_tokens.proofs.Options.{some_is, some_is_not}
+use Rattle.xdr_tokens.proofs.Pieces.{piece_again}
+use Rattle.xdr_tokens.proofs.Whole.{shorter}
+
+-- the tokens of a text of at most so many bytes
+unfoldable pub cut : ℕ → List ℕ → Option (List Lexeme)
+cut zero [] = Some []
+cut zero (b ∷ bs) = None
+cut (suc n) [] = Some []
+cut (suc n) (b ∷ bs) =
+    option_and_then (λ x. option_and_then (λ ts. Some (with_token x.0 ts)) (cut n x.1)) (piece_at (b ∷ bs))
+
+cut_again : (n : ℕ) (ps : List Piece) (bs : List ℕ) (ts : List Lexeme) → length bs ≤ n → Cuts ps bs ts
+    → cut n bs ≡ Some ts
+unfolding cut
+cut_again zero [] bs ts le c = rw (c.0, c.1) refl
+cut_again (suc n) [] bs ts le c = rw (c.0, c.1) refl
+cut_again zero (p ∷ ps) bs ts le c =
+    let at : piece_at bs ≡ Some (token_of p, c.0) = ap piece_at c.2 ∙ piece_again p c.0 c.3 in
+    absurd (omega (arith, le, shorter bs (token_of p, c.0) at))
+cut_again (suc n) (p ∷ ps) [] ts le c =
+    let at : piece_at [] ≡ Some (token_of p, c.0) = ap piece_at c.2 ∙ piece_again p c.0 c.3 in
+    absurd (omega (arith, shorter [] (token_of p, c.0) at))
+cut_again (suc n) (p ∷ ps) (b ∷ bs) ts le c =
+    let at : piece_at (b ∷ bs) ≡ Some (token_of p, c.0) = ap piece_at c.2 ∙ piece_again p c.0 c.3 in
+    let rest : cut n c.0 ≡ Some c.1 = cut_again n ps c.0 c.1
+    (omega (arith, le, shorter (b ∷ bs) (token_of p, c.0) at)) c.5 in
+    rw (at, rest, c.4) refl
+
+pub cut_is : (text : List ℕ) (ts : List Lexeme) → Tokens text ts → cut (length text) text ≡ Some ts
+cut_is text ts t = cut_again (length text) t.0 text ts (omega arith) t.1
+
+pub tells_tokens : (text : List ℕ) (ts : List Lexeme) (r : Result (Vec Token Global) Fault)
+    → cut (length text) text ≡ Some ts → IfOk r (λ v. Tokens text (lexemes v.items))
+    → IfOk r (λ v. lexemes v.items ≡ ts)
+tells_tokens text ts (Ok v) is found = some_is (lexemes v.items) ts (sym (cut_is text (lexemes v.items) found) ∙ is)
+tells_tokens text ts (Err e) is found = tt
+
+pub no_tokens : (text : List ℕ) (r : Result (Vec Token Global) Fault) → cut (length text) text ≡ None
+    → IfOk r (λ v. Tokens text (lexemes v.items)) → is_ok r ≡ false
+no_tokens text (Ok v) none found = absurd
+    (some_is_not (lexemes v.items) (sym (cut_is text (lexemes v.items) found) ∙ none))
+no_tokens text (Err e) none found = refl

@@ -1,0 +1,90 @@
+//! Texts that `read` gives nothing for (RFC 4506 sections 6.2 and 6.4).
+ghost use Rattle.std.specs.Prelude.{◌≡◌, ◌<◌, ◌≤◌, length, false, IfSome};
+
+use std::alloc::Global;
+use xdr_lang::read;
+
+/// A text of more than 262144 bytes is refused, whatever it says.
+pub fn long_text(alloc: Global, text: &[u8]) -> bool
+    requires { 262144 < length text.now }
+    ensures { result ≡ false }
+{
+    read(alloc, text).is_ok()
+}
+
+/// A constant is declared before it is used.
+pub fn const_used_before_it_is_declared(alloc: Global) -> bool
+    ensures { result ≡ false }
+{
+    read(alloc, b"typedef int t<N>; const N = 3;").is_ok()
+}
+
+/// A digit of an octal number is below 8.
+pub fn eight_is_no_octal_digit(alloc: Global) -> bool
+    ensures { result ≡ false }
+{
+    read(alloc, b"const N = 08;").is_ok()
+}
+
+/// TRUE is a constant, but no size.
+pub fn true_as_a_size(alloc: Global) -> bool
+    ensures { result ≡ false }
+{
+    read(alloc, b"typedef int t<TRUE>;").is_ok()
+}
+
+/// A member of an enumeration is no size.
+pub fn member_as_a_size(alloc: Global) -> bool
+    ensures { result ≡ false }
+{
+    read(alloc, b"enum e { A = 1 }; typedef int t[A];").is_ok()
+}
+
+/// The fields of a structure have different names.
+pub fn field_name_there_twice(alloc: Global) -> bool
+    ensures { result ≡ false }
+{
+    read(alloc, b"struct s { int a; bool a; };").is_ok()
+}
+
+/// No two versions have one pair of program and version number.
+pub fn pair_of_numbers_there_twice(alloc: Global) -> bool
+    ensures { result ≡ false }
+{
+    read(
+        alloc,
+        b"program P{version V{void N(void)=0;}=2;version W{void N(void)=0;}=2;}=1;",
+    )
+    .is_ok()
+}
+
+/// A refusal has a number from 1 to 13.
+pub fn number_of_a_refusal(alloc: Global, text: &[u8]) -> Option<u8>
+    ensures from_1 { IfSome result (λ n. 1 ≤ n) }
+    ensures to_13 { IfSome result (λ n. n ≤ 13) }
+{
+    match read(alloc, text) {
+        Ok(_) => None,
+        Err(fault) => Some(fault.number),
+    }
+}
+
+/// The number of a schema's fault stands with number 10 alone.
+pub fn no_schema_number(alloc: Global, text: &[u8]) -> u8
+    ensures { result ≡ 0 }
+{
+    match read(alloc, text) {
+        Err(fault) if fault.number != 10 => fault.inner,
+        _ => 0,
+    }
+}
+
+/// Lines count from 1.
+pub fn line_of_a_refusal(alloc: Global, text: &[u8]) -> usize
+    ensures { 1 ≤ result }
+{
+    match read(alloc, text) {
+        Ok(_) => 1,
+        Err(fault) => fault.line,
+    }
+}
