@@ -65,7 +65,8 @@ Tells old piece (Ok step.More) = After old piece (λ rs bytes. Longest old.limit
 Tells old piece (Ok (step.Whole used)) =
     After old (take used piece) (λ rs bytes. (r : List ℕ) × IsWhole old.limit (rs ++ r ∷ []) bytes)
 Tells old piece (Err f) =
-    After old piece (λ rs bytes. Faulty old.limit rs f bytes × (IsTaking old → FaultyIn old.limit rs f (length piece) bytes))
+    After old piece (λ rs bytes.
+    Faulty old.limit rs f bytes × (IsTaking old → FaultyIn old.limit rs f (length piece) bytes))
 
 -- A broken reader answers its fault, and one where a record waits takes nothing.
 pub record Stays (old : RecordReader) (result : Result RecordStep RecordFault) : Type 0 where

@@ -190,6 +190,7 @@ impl RecordReader {
         ensures faulty { (f : RecordFault) → IsBroken self.now f
             → Always self.now (λ rs bytes. Faulty (limit_of self.now) rs f bytes) }
         ensures long { (at : ℕ) → IsBroken self.now (RecordFault.TooLong at)
-            → Always self.now (λ rs bytes. TooLongAt (limit_of self.now) rs at bytes × Longest (limit_of self.now) rs bytes) }
+            → Always self.now (λ rs bytes.
+            TooLongAt (limit_of self.now) rs at bytes × Longest (limit_of self.now) rs bytes) }
     {}
 }
