@@ -1,2 +1,5 @@
 //! Worked examples of the registry for users of the libraries, each proved from the contracts alone.
 #![tactic(auto)]
+
+mod directory;
+mod dumps;
