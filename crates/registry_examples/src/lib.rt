@@ -2,3 +2,5 @@
 #![tactic(auto)]
 
 pub mod addresses;
+mod directory;
+mod dumps;

@@ -1,5 +1,6 @@
 -- The two lists that are dumped, made from the last row on.
-use Rattle.std.proofs.Common.{◌≡◌, ℕ, suc, List, [], ◌∷◌, drop, slice_get, ap, sym, ◌∙◌, Option, Some, None, is_some, true≢false}
+use Rattle.std.proofs.Common.{◌≡◌, ℕ, suc, List, [], ◌∷◌, drop, slice_get, ap, sym, ◌∙◌, Option, Some, None, is_some}
+use Rattle.std.proofs.Common.{true≢false}
 use Rattle.xdr_types.specs.Tree.{Tree}
 use Rattle.rpc_rows.specs.Rows.{Row}
 use Rattle.rpc_dumps.specs.Dumps.{given, group, rpcb_tree}

@@ -101,9 +101,9 @@ impl<S: BuildHasher> Directory<S> {
         self.find(prog, vers, netid).is_some()
     }
 
-    /// The registered universal address of a version of a program over a transport, at most 256 bytes, and empty exactly
-    /// where there is none (RFC 1833 section 2.2.1, RPCBPROC_GETADDR). It is one look-up by the key's hash, so what it costs
-    /// does not grow with the rows, unless the hasher puts many keys together. It takes no memory.
+    /// The registered universal address of a version of a program over a transport, at most 256 bytes, and empty
+    /// exactly where there is none (RFC 1833 section 2.2.1, RPCBPROC_GETADDR). It is one look-up by the key's hash, so
+    /// what it costs does not grow with the rows, unless the hasher puts many keys together. It takes no memory.
     pub fn getaddr(&self, prog: u32, vers: u32, netid: &[u8]) -> &[u8]
         ensures value { result.now ≡ step.getaddr self.now prog vers netid.now }
         ensures short { length result.now ≤ 256 }
@@ -116,8 +116,8 @@ impl<S: BuildHasher> Directory<S> {
     }
 
     /// Adds a row at the end (RFC 1833 section 2.2.1, RPCBPROC_SET). False, with nothing changed: an empty netid or
-    /// address, a netid over 64 bytes, an address over 256, the row's key is there, or 1024 rows are. `NoMemory` changes
-    /// nothing either: all memory is taken before the rows change.
+    /// address, a netid over 64 bytes, an address over 256, the row's key is there, or 1024 rows are. `NoMemory`
+    /// changes nothing either: all memory is taken before the rows change.
     pub fn set(
         &mut self,
         alloc: Global,
@@ -159,11 +159,11 @@ impl<S: BuildHasher> Directory<S> {
             && !self.has(prog, vers, netid)
     }
 
-    /// Removes the row of a program, a version and a netid, or with an empty netid every row of the program and version,
-    /// where the row's owner is `owner` or `owner` is `superuser` (RFC 1833 section 2.2.1, RPCBPROC_UNSET). True exactly
-    /// where at least one was removed; the rest keep their order, and false changes nothing. With a netid it is one look-up
-    /// and one removal, which moves the rows behind it up by one; without one it is a pass over all rows. It takes no
-    /// memory.
+    /// Removes the row of a program, a version and a netid, or with an empty netid every row of the program and
+    /// version, where the row's owner is `owner` or `owner` is `superuser` (RFC 1833 section 2.2.1, RPCBPROC_UNSET).
+    /// True exactly where at least one was removed; the rest keep their order, and false changes nothing. With a netid
+    /// it is one look-up and one removal, which moves the rows behind it up by one; without one it is a pass over all
+    /// rows. It takes no memory.
     pub fn unset(&mut self, prog: u32, vers: u32, netid: &[u8], owner: &[u8]) -> bool
         ensures value { (self.new, result) ≡ step.unset self.old prog vers netid.now owner.now }
         ensures refused { result ≡ false → self.new ≡ self.old }

@@ -44,9 +44,9 @@ impl<S: BuildHasher> Directory<S> {
         Ok(list)
     }
 
-    /// The rows over `tcp` and `udp` whose address is a universal address over IPv4, in order, as a `pmaplist` (RFC 1833
-    /// section 3.2, PMAPPROC_DUMP): a value of the kind at place 18 of `directory_schema`, within depth 4096 and 16777216
-    /// bytes. Its only error is `NoMemory`.
+    /// The rows over `tcp` and `udp` whose address is a universal address over IPv4, in order, as a `pmaplist` (RFC
+    /// 1833 section 3.2, PMAPPROC_DUMP): a value of the kind at place 18 of `directory_schema`, within depth 4096 and
+    /// 16777216 bytes. Its only error is `NoMemory`.
     pub fn dump_ports(&self, alloc: Global) -> Result<Value, NoMemory>
         ensures all { IfOk result (λ v. tree v ≡ mapping_list self.now) }
         ensures fits { IfOk result (λ v. FitsWithin dir_kinds 18 dump_limits (tree v)) }

@@ -36,8 +36,8 @@ impl<S: BuildHasher> Directory<S> {
         self.set(alloc, prog, vers, netid, &address, owner)
     }
 
-    /// `unset` of the rows over `tcp` and over `udp` (RFC 1833 section 3.2, PMAPPROC_UNSET). True exactly where at least
-    /// one was removed; the rest keep their order, and false changes nothing. It takes no memory.
+    /// `unset` of the rows over `tcp` and over `udp` (RFC 1833 section 3.2, PMAPPROC_UNSET). True exactly where at
+    /// least one was removed; the rest keep their order, and false changes nothing. It takes no memory.
     pub fn unset_port(&mut self, prog: u32, vers: u32, owner: &[u8]) -> bool
         ensures value { (self.new, result) ≡ ports.unset_port self.old prog vers owner.now }
         ensures refused { result ≡ false → self.new ≡ self.old }
@@ -48,8 +48,8 @@ impl<S: BuildHasher> Directory<S> {
     }
 
     /// The port of a version of a program over the transport of this number (RFC 1833 section 3.2, PMAPPROC_GETPORT): 0
-    /// for a `prot` other than 6 and 17, where there is no row, and where its address is no universal address over IPv4.
-    /// It takes no memory.
+    /// for a `prot` other than 6 and 17, where there is no row, and where its address is no universal address over
+    /// IPv4. It takes no memory.
     pub fn get_port(&self, prog: u32, vers: u32, prot: u32) -> u32
         ensures value { result ≡ ports.get_port self.now prog vers prot }
         ensures port { result < 65536 }

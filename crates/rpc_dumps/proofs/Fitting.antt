@@ -1,5 +1,7 @@
 -- The dumps of a registry fit their kinds within the limits.
-use Rattle.std.proofs.Common.{◌≡◌, ℕ, ◌+◌, ◌-◌, ◌*◌, ◌%◌, ◌≤◌, ◌<◌, Bool, true, false, ◌&&◌, cond, List, [], ◌∷◌, ◌++◌, length, map, filter_map, nat_le, nat_lt, refl, ap, sym, ◌∙◌, subst, arith, rules, pos, mod-lt, Option, Some, None, option_map, option_and_then, is_some, true≢false}
+use Rattle.std.proofs.Common.{◌≡◌, ℕ, ◌+◌, ◌-◌, ◌*◌, ◌%◌, ◌≤◌, ◌<◌, Bool, true, false, ◌&&◌, cond, List, [], ◌∷◌, ◌++◌}
+use Rattle.std.proofs.Common.{length, map, filter_map, nat_le, nat_lt, refl, ap, sym, ◌∙◌, subst, arith, rules, pos}
+use Rattle.std.proofs.Common.{mod-lt, Option, Some, None, option_map, option_and_then, is_some, true≢false}
 use Rattle.std.specs.List.{AllByRecursion, cons_option}
 use Rattle.std.specs.Str.{bytes_eq}
 use Rattle.std.proofs.lemmas.List.{length-append, length-replicate, length-map}
@@ -15,16 +17,19 @@ use Rattle.rpc_uaddr.proofs.Inverse.{port_small}
 use Rattle.rpc_rows.specs.Rows.{Row, AreBytes, IsRow, IsRegistry}
 use Rattle.rpc_rows.specs.Ports.{tcp, udp}
 use Rattle.rpc_dumps.specs.Dir.{dir_kinds}
-use Rattle.rpc_dumps.specs.Dumps.{linked, rpcb_tree, rpcb_list, mapping_tree, mapping_row, mapping_list, prot_of, dump_limits}
+use Rattle.rpc_dumps.specs.Dumps.{linked, rpcb_tree, rpcb_list, mapping_tree, mapping_row, mapping_list, prot_of}
+use Rattle.rpc_dumps.specs.Dumps.{dump_limits}
 
 le_true : (a b : ℕ) → a ≤ b → nat_le a b ≡ true
 le_true a b h = grind (arith, h)
 
 bytes_true : (bs : List ℕ) → AreBytes bs → are_bytes bs ≡ true
 bytes_true [] h = refl
-bytes_true (b ∷ bs) h = let small : nat_lt b 256 ≡ true = (Decides-ltb b 256).1 h.0 in λ j. small j && bytes_true bs h.1 j
+bytes_true (b ∷ bs) h = let small : nat_lt b 256 ≡ true =
+    (Decides-ltb b 256).1 h.0 in λ j. small j && bytes_true bs h.1 j
 
-text_fits : (bs : List ℕ) (most : ℕ) → length bs ≤ most → most ≤ 4294967295 → AreBytes bs → (is_length 4294967295 (length bs) && are_bytes bs) ≡ true
+text_fits : (bs : List ℕ) (most : ℕ) → length bs ≤ most → most ≤ 4294967295 → AreBytes bs
+    → (is_length 4294967295 (length bs) && are_bytes bs) ≡ true
 text_fits bs most h m b =
     let e : nat_le (length bs) 4294967295 ≡ true = le_true (length bs) 4294967295 (omega (arith, h, m)) in
     let f = bytes_true bs b in
@@ -59,12 +64,20 @@ length-text bs = by (num4 (pos (length bs))) refl
         let g : length (padded bs) ≡ length bs + length (pad (length bs)) = length-append bs (pad (length bs)) in
         let p : length (pad (length bs)) ≤ 3 = pad_short (length bs) in omega (arith, four, e, g, p)
 
-five : (p v n a o : List ℕ) → length ((p ++ []) ++ ((v ++ []) ++ ((n ++ []) ++ ((a ++ []) ++ ((o ++ []) ++ []))))) ≡ length p + (length v + (length n + (length a + (length o + 0))))
+five : (p v n a o : List ℕ)
+    → length ((p ++ []) ++ ((v ++ []) ++ ((n ++ []) ++ ((a ++ []) ++ ((o ++ []) ++ [])))))
+    ≡ length p + (length v + (length n + (length a + (length o + 0))))
 five p v n a o =
-    joined p _ ∙ ap (λ (k : ℕ). length p + k) (joined v _ ∙ ap (λ (k : ℕ). length v + k) (joined n _ ∙ ap (λ (k : ℕ). length n + k) (joined a _ ∙ ap (λ (k : ℕ). length a + k) (joined o []))))
+    joined p _ ∙ ap (λ (k : ℕ). length p + k)
+    (joined v _ ∙ ap (λ (k : ℕ). length v + k)
+    (joined n _ ∙ ap (λ (k : ℕ). length n + k) (joined a _ ∙ ap (λ (k : ℕ). length a + k) (joined o []))))
 
-four : (p v n a : List ℕ) → length ((p ++ []) ++ ((v ++ []) ++ ((n ++ []) ++ ((a ++ []) ++ [])))) ≡ length p + (length v + (length n + (length a + 0)))
-four p v n a = joined p _ ∙ ap (λ (k : ℕ). length p + k) (joined v _ ∙ ap (λ (k : ℕ). length v + k) (joined n _ ∙ ap (λ (k : ℕ). length n + k) (joined a [])))
+four : (p v n a : List ℕ)
+    → length ((p ++ []) ++ ((v ++ []) ++ ((n ++ []) ++ ((a ++ []) ++ []))))
+    ≡ length p + (length v + (length n + (length a + 0)))
+four p v n a = joined p _
+    ∙ ap (λ (k : ℕ). length p + k)
+    (joined v _ ∙ ap (λ (k : ℕ). length v + k) (joined n _ ∙ ap (λ (k : ℕ). length n + k) (joined a [])))
 
 row_fits : (r : Row) → IsRow r → fits dir_kinds 11 (rpcb_tree r) ≡ true
 row_fits r h =
@@ -73,13 +86,16 @@ row_fits r h =
     let netid = text_fits r.netid 64 h.netid (omega arith) h.netid_bytes in
     let address = text_fits r.address 256 h.address (omega arith) h.address_bytes in
     let owner = text_fits r.owner 10 h.owner (omega arith) h.owner_bytes in
-    λ j. (prog j && true) && ((vers j && true) && ((netid j && true) && ((address j && true) && ((owner j && true) && true))))
+    λ j. (prog j && true) &&
+    ((vers j && true) && ((netid j && true) && ((address j && true) && ((owner j && true) && true))))
 
 row_short : (r : Row) → IsRow r → length (bytes_of dir_kinds 11 (rpcb_tree r)) ≤ 359
 row_short r h = by (num4 (pos r.prog)) (num4 (pos r.vers)) refl refl
   where
     by : (p v : List ℕ) → length p ≡ 4 → length v ≡ 4
-        → length ((p ++ []) ++ ((v ++ []) ++ ((text_bytes r.netid ++ []) ++ ((text_bytes r.address ++ []) ++ ((text_bytes r.owner ++ []) ++ []))))) ≤ 359
+        → length ((p ++ []) ++
+        ((v ++ []) ++ ((text_bytes r.netid ++ []) ++
+        ((text_bytes r.address ++ []) ++ ((text_bytes r.owner ++ []) ++ []))))) ≤ 359
     by p v x y =
         let e = five p v (text_bytes r.netid) (text_bytes r.address) (text_bytes r.owner) in
         let n : length (text_bytes r.netid) ≤ length r.netid + 7 = length-text r.netid in
@@ -91,9 +107,11 @@ good_row : (r : Row) → IsRow r → Good 11 (rpcb_tree r)
 good_row r h = record { legal = row_fits r h; shallow = omega arith; short = row_short r h }
 
 mapping_short : (r : Row) (prot : ℕ) (a : Uaddr) → length (bytes_of dir_kinds 15 (mapping_tree r prot a)) ≤ 359
-mapping_short r prot a = by (num4 (pos r.prog)) (num4 (pos r.vers)) (num4 (pos prot)) (num4 (pos a.port)) refl refl refl refl
+mapping_short r prot a =
+    by (num4 (pos r.prog)) (num4 (pos r.vers)) (num4 (pos prot)) (num4 (pos a.port)) refl refl refl refl
   where
-    by : (p v n o : List ℕ) → length p ≡ 4 → length v ≡ 4 → length n ≡ 4 → length o ≡ 4 → length ((p ++ []) ++ ((v ++ []) ++ ((n ++ []) ++ ((o ++ []) ++ [])))) ≤ 359
+    by : (p v n o : List ℕ) → length p ≡ 4 → length v ≡ 4 → length n ≡ 4 → length o ≡ 4
+        → length ((p ++ []) ++ ((v ++ []) ++ ((n ++ []) ++ ((o ++ []) ++ [])))) ≤ 359
     by p v n o x y z w = let e = four p v n o in omega (arith, e, x, y, z, w)
 
 good_mapping : (r : Row) (prot : ℕ) (a : Uaddr) → IsRow r → prot ≤ 17 → a.port < 65536 → Good 15 (mapping_tree r prot a)
@@ -102,7 +120,13 @@ good_mapping r n a h small port =
     let vers : nat_le r.vers 4294967295 ≡ true = le_true _ _ (omega (arith, h.vers)) in
     let prot : nat_le n 4294967295 ≡ true = le_true _ _ (omega (arith, small)) in
     let end : nat_le a.port 4294967295 ≡ true = le_true _ _ (omega (arith, port)) in
-    record { legal = λ j. (prog j && true) && ((vers j && true) && ((prot j && true) && ((end j && true) && true))); shallow = omega arith; short = mapping_short r n a }
+    record {
+      legal = λ j. (prog j && true) &&
+          ((vers j && true) && ((prot j && true) && ((end j && true) && true)));
+      shallow = omega arith;
+      short =
+          mapping_short r n a;
+    }
 
 number_small : (netid : List ℕ) (n : ℕ) → prot_of netid ≡ Some n → n ≤ 17
 number_small netid n = by (bytes_eq netid tcp) (bytes_eq netid udp)
@@ -126,21 +150,26 @@ good_mapping_row r t h = by (prot_of r.netid) refl (uaddr_of r.address) refl
     the None = t
     the (Some u) = u
 
-    by : (n : Option ℕ) → prot_of r.netid ≡ n → (u : Option Uaddr) → uaddr_of r.address ≡ u → option_and_then (λ prot. option_map (mapping_tree r prot) u) n ≡ Some t → Good 15 t
+    by : (n : Option ℕ) → prot_of r.netid ≡ n → (u : Option Uaddr) → uaddr_of r.address ≡ u
+        → option_and_then (λ prot. option_map (mapping_tree r prot) u) n ≡ Some t → Good 15 t
     by None p u q e = absurd (true≢false (sym (ap is_some e)))
     by (Some n) p None q e = absurd (true≢false (sym (ap is_some e)))
-    by (Some n) p (Some a) q e = subst (Good 15) (ap the e) (good_mapping r n a h (number_small r.netid n p) (port_small r.address a q))
+    by (Some n) p (Some a) q e =
+        subst (Good 15) (ap the e) (good_mapping r n a h (number_small r.netid n p) (port_small r.address a q))
 
 good_rows : (rows : List Row) → AllByRecursion IsRow rows → AllByRecursion (Good 11) (map rpcb_tree rows)
 good_rows [] h = tt
 good_rows (r ∷ rows) h = (good_row r h.0, good_rows rows h.1)
 
-good_mappings : (rows : List Row) → AllByRecursion IsRow rows → AllByRecursion (Good 15) (filter_map mapping_row rows) × (length (filter_map mapping_row rows) ≤ length rows)
+good_mappings : (rows : List Row) → AllByRecursion IsRow rows
+    → AllByRecursion (Good 15) (filter_map mapping_row rows) × (length (filter_map mapping_row rows) ≤ length rows)
 good_mappings [] h = (tt, omega arith)
 good_mappings (r ∷ rows) h = by (mapping_row r) refl (good_mappings rows h.1)
   where
-    by : (o : Option Tree) → mapping_row r ≡ o → AllByRecursion (Good 15) (filter_map mapping_row rows) × (length (filter_map mapping_row rows) ≤ length rows)
-        → AllByRecursion (Good 15) (cons_option o (filter_map mapping_row rows)) × (length (cons_option o (filter_map mapping_row rows)) ≤ length (r ∷ rows))
+    by : (o : Option Tree) → mapping_row r ≡ o
+        → AllByRecursion (Good 15) (filter_map mapping_row rows) × (length (filter_map mapping_row rows) ≤ length rows)
+        → AllByRecursion (Good 15) (cons_option o (filter_map mapping_row rows))
+        × (length (cons_option o (filter_map mapping_row rows)) ≤ length (r ∷ rows))
     by None e rest = (rest.0, omega (arith, rest.1))
     by (Some t) e rest = ((good_mapping_row r t h.0 e, rest.0), omega (arith, rest.1))
 
@@ -163,12 +192,14 @@ rpcb_fits : (ts : List Tree) → AllByRecursion (Good 11) ts → fits dir_kinds 
 rpcb_fits [] h = refl
 rpcb_fits (t ∷ ts) h = λ j. (h.0.legal j && (rpcb_fits ts h.1 j && true)) && true
 
-rpcb_short : (ts : List Tree) → AllByRecursion (Good 11) ts → length (bytes_of dir_kinds 14 (linked ts)) ≤ 363 * length ts + 4
+rpcb_short : (ts : List Tree) → AllByRecursion (Good 11) ts
+    → length (bytes_of dir_kinds 14 (linked ts)) ≤ 363 * length ts + 4
 rpcb_short [] h = omega arith
 rpcb_short (t ∷ ts) h =
     let ih : length (bytes_of dir_kinds 14 (linked ts)) ≤ 363 * length ts + 4 = rpcb_short ts h.1 in
     let own : length (bytes_of dir_kinds 11 t) ≤ 359 = h.0.short in
-    let e : length (bytes_of dir_kinds 14 (linked (t ∷ ts))) ≡ 4 + (length (bytes_of dir_kinds 11 t) + length (bytes_of dir_kinds 14 (linked ts))) =
+    let e : length (bytes_of dir_kinds 14 (linked (t ∷ ts)))
+    ≡ 4 + (length (bytes_of dir_kinds 11 t) + length (bytes_of dir_kinds 14 (linked ts))) =
     node (num4 (pos 1)) (bytes_of dir_kinds 11 t) (bytes_of dir_kinds 14 (linked ts)) refl in
     omega (arith, ih, own, e)
 
@@ -176,12 +207,14 @@ pmap_fits : (ts : List Tree) → AllByRecursion (Good 15) ts → fits dir_kinds 
 pmap_fits [] h = refl
 pmap_fits (t ∷ ts) h = λ j. (h.0.legal j && (pmap_fits ts h.1 j && true)) && true
 
-pmap_short : (ts : List Tree) → AllByRecursion (Good 15) ts → length (bytes_of dir_kinds 18 (linked ts)) ≤ 363 * length ts + 4
+pmap_short : (ts : List Tree) → AllByRecursion (Good 15) ts
+    → length (bytes_of dir_kinds 18 (linked ts)) ≤ 363 * length ts + 4
 pmap_short [] h = omega arith
 pmap_short (t ∷ ts) h =
     let ih : length (bytes_of dir_kinds 18 (linked ts)) ≤ 363 * length ts + 4 = pmap_short ts h.1 in
     let own : length (bytes_of dir_kinds 15 t) ≤ 359 = h.0.short in
-    let e : length (bytes_of dir_kinds 18 (linked (t ∷ ts))) ≡ 4 + (length (bytes_of dir_kinds 15 t) + length (bytes_of dir_kinds 18 (linked ts))) =
+    let e : length (bytes_of dir_kinds 18 (linked (t ∷ ts)))
+    ≡ 4 + (length (bytes_of dir_kinds 15 t) + length (bytes_of dir_kinds 18 (linked ts))) =
     node (num4 (pos 1)) (bytes_of dir_kinds 15 t) (bytes_of dir_kinds 18 (linked ts)) refl in
     omega (arith, ih, own, e)
 

@@ -1,5 +1,7 @@
 -- The lists of the registry's types are well formed and sound, so only want of memory refuses them.
-use Rattle.std.proofs.Common.{◌≡◌, ℕ, zero, suc, ◌<◌, List, [], ◌∷◌, length, Option, Some, None, is_some, is_none, Bool, true, false, ◌&&◌, nat_lt, refl, sym, ◌∙◌, arith, ltb-true, subst, inl, inr, Result, Ok, Err, MatchResult}
+use Rattle.std.proofs.Common.{◌≡◌, ℕ, zero, suc, ◌<◌, List, [], ◌∷◌, length, Option, Some, None, is_some, is_none, Bool}
+use Rattle.std.proofs.Common.{true, false, ◌&&◌, nat_lt, refl, sym, ◌∙◌, arith, ltb-true, subst, inl, inr, Result, Ok}
+use Rattle.std.proofs.Common.{Err, MatchResult}
 use Rattle.std.specs.List.{AllByRecursion}
 use Rattle.std.proofs.lemmas.Bool.{false≢true}
 use Rattle.xdr_types.specs.Form as form
@@ -79,7 +81,8 @@ below-is : (o : Option ℕ) (n : ℕ) → is_below o n ≡ true → (m : ℕ) ×
 below-is None n h = absurd (false≢true h)
 below-is (Some m) n h = (m, refl, ltb-true m n h)
 
-are-below : (n : ℕ) (ps : List Part) → are_below n ps ≡ true → AllByRecursion (λ (p : Part). IsBelow (given heights) n p.kind) ps
+are-below : (n : ℕ) (ps : List Part) → are_below n ps ≡ true
+    → AllByRecursion (λ (p : Part). IsBelow (given heights) n p.kind) ps
 are-below n [] h = tt
 are-below n (p ∷ ps) h =
     let tests = both (is_below (given heights p.kind) n) (are_below n ps) h in
@@ -109,7 +112,8 @@ some-is m n e = cc
 none≢some : (m : ℕ) → None ≡ Some m → ⊥
 none≢some m e = cc
 
-proper : (kinds fs : List Form) (ns : List (Option ℕ)) → all_below fs ns ≡ true → (place n : ℕ) → given ns place ≡ Some n
+proper : (kinds fs : List Form) (ns : List (Option ℕ)) → all_below fs ns ≡ true → (place n : ℕ)
+    → given ns place ≡ Some n
     → Asks kinds (IsBelow (given heights) n) (kind_at fs place)
 proper kinds [] [] h place n e = absurd (none≢some n e)
 proper kinds [] (o ∷ ns) h place n e = absurd (false≢true h)
@@ -118,26 +122,33 @@ proper kinds (f ∷ fs) (None ∷ ns) h place n e = absurd (false≢true h)
 proper kinds (f ∷ fs) (Some m ∷ ns) h zero n e =
     let tests = both (has_below m f) (all_below fs ns) h in
     subst (λ (k : ℕ). Asks kinds (IsBelow (given heights) k) f) (some-is m n e) (asks kinds m f tests.0)
-proper kinds (f ∷ fs) (Some m ∷ ns) h (suc place) n e = proper kinds fs ns (both (has_below m f) (all_below fs ns) h).1 place n e
+proper kinds (f ∷ fs) (Some m ∷ ns) h (suc place) n e =
+    proper kinds fs ns (both (has_below m f) (all_below fs ns) h).1 place n e
 
-marked : (ns : List (Option ℕ)) (fs : List Form) (place : ℕ) → all_below fs ns ≡ true → place < length fs → is_some (given ns place) ≡ true
+marked : (ns : List (Option ℕ)) (fs : List Form) (place : ℕ) → all_below fs ns ≡ true → place < length fs
+    → is_some (given ns place) ≡ true
 marked [] [] place h within = absurd (omega (arith, within))
 marked (o ∷ ns) [] place h within = absurd (omega (arith, within))
 marked [] (f ∷ fs) place h within = absurd (false≢true h)
 marked (None ∷ ns) (f ∷ fs) place h within = absurd (false≢true h)
 marked (Some m ∷ ns) (f ∷ fs) zero h within = refl
-marked (Some m ∷ ns) (f ∷ fs) (suc place) h within = marked ns fs place (both (has_below m f) (all_below fs ns) h).1 (omega (arith, within))
+marked (Some m ∷ ns) (f ∷ fs) (suc place) h within =
+    marked ns fs place (both (has_below m f) (all_below fs ns) h).1 (omega (arith, within))
 
 pub sound : IsSound dir_kinds
-sound place within = has-height dir_kinds heights (proper dir_kinds dir_kinds heights refl) place (marked heights dir_kinds place refl within)
+sound place within =
+    has-height dir_kinds heights (proper dir_kinds dir_kinds heights refl) place
+    (marked heights dir_kinds place refl within)
 
 for_memory : (s : Lists) (e : SchemaFault) → s ≡ dir_lists → IsRefused s e → e ≡ fault flaw.NoMemory 0
 for_memory s e same (inl memory) = memory
 for_memory s e same (inr first) =
-    absurd (refused s e first (subst IsWellFormed (sym same) well_formed) (subst (λ (x : Lists). IsSound x.kinds) (sym same) sound))
+    absurd (refused s e first (subst IsWellFormed (sym same) well_formed)
+    (subst (λ (x : Lists). IsSound x.kinds) (sym same) sound))
 
 -- What `Schema::build` answers of these lists.
-pub built : (r : Result Lists SchemaFault) (s : Lists) → s ≡ dir_lists → MatchResult r (λ t. (t ≡ s) × IsWellFormed t × IsSound t.kinds) (λ e. IsRefused s e)
+pub built : (r : Result Lists SchemaFault) (s : Lists) → s ≡ dir_lists
+    → MatchResult r (λ t. (t ≡ s) × IsWellFormed t × IsSound t.kinds) (λ e. IsRefused s e)
     → MatchResult r (λ t. t ≡ dir_lists) (λ e. e ≡ fault flaw.NoMemory 0)
 built (Ok t) s same h = h.0 ∙ same
 built (Err e) s same h = for_memory s e same h

@@ -1,4 +1,4 @@
-// Rows as values.
+//! Rows as values.
 ghost use Rattle.std.specs.Prelude.{◌≡◌, ◌∷◌, [], IfOk, option_map};
 ghost use Rattle.xdr_types.specs.View.{tree};
 ghost use Rattle.rpc_rows.specs.Views.{plain_row};
@@ -23,8 +23,8 @@ pub fn rpcb(alloc: Global, row: &Row) -> Result<Value, AllocError>
     Ok(Value::Group(parts))
 }
 
-/// The row as a `mapping` (RFC 1833 section 3.1), where it is over `tcp` or `udp` and its address is a universal address
-/// over IPv4.
+/// The row as a `mapping` (RFC 1833 section 3.1), where it is over `tcp` or `udp` and its address is a universal
+/// address over IPv4.
 pub fn mapping(alloc: Global, row: &Row) -> Result<Option<Value>, AllocError>
     ensures { IfOk result (λ v. option_map tree v ≡ mapping_row (plain_row row.now)) }
 {

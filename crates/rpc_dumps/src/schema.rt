@@ -1,4 +1,4 @@
-// The kinds and names of the registry's types.
+//! The kinds and names of the registry's types.
 ghost use Rattle.std.specs.Prelude.{◌≡◌, ◌++◌, ◌∷◌, [], IfOk, MatchResult, map, string_bytes, OnOk};
 ghost use Rattle.xdr_types.specs.Form as form;
 ghost use Rattle.xdr_types.specs.Forms.{form_of, part_of_member, name_of, lists_of};
@@ -12,9 +12,9 @@ use std::alloc::{AllocError, Global};
 use std::string::String;
 use xdr_types::{Kind, KindId, Member, Schema, SchemaFault};
 
-/// The schema of the registry's types (RFC 1833 sections 2.1 and 3.1), after the basic kinds: places 8 to 10 the strings of
-/// `rpcb`, 11 `rpcb`, 12 an optional node, 13 `rp__list`, 14 `rpcblist`, 15 `mapping`, 16 an optional node, 17 `pm__list`,
-/// 18 `pmaplist`. The lists are well formed and sound, so that the only error is want of memory.
+/// The schema of the registry's types (RFC 1833 sections 2.1 and 3.1), after the basic kinds: places 8 to 10 the
+/// strings of `rpcb`, 11 `rpcb`, 12 an optional node, 13 `rp__list`, 14 `rpcblist`, 15 `mapping`, 16 an optional node,
+/// 17 `pm__list`, 18 `pmaplist`. The lists are well formed and sound, so that the only error is want of memory.
 #[tactic(auto, using(crate::proofs::Legal::well_formed, crate::proofs::Legal::sound))]
 pub fn directory_schema(alloc: Global) -> Result<Schema, AllocError>
     ensures schema { IfOk result (λ s. s ≡ dir_lists) }
@@ -103,7 +103,8 @@ fn push_field(
     name: &str,
     place: u32,
 ) -> Result<(), AllocError>
-    ensures { OnOk result (map part_of_member fields.new.items ≡ map part_of_member fields.old.items ++ named name.now place ∷ []) }
+    ensures { let part = named name.now place in
+        OnOk result (map part_of_member fields.new.items ≡ map part_of_member fields.old.items ++ part ∷ []) }
 {
     fields.push(Member {
         name: String::from_str(alloc, name)?,

@@ -1,5 +1,6 @@
 -- A row that may be added goes last.
-use Rattle.std.proofs.Common.{◌≡◌, ℕ, ◌≤◌, ◌<◌, Bool, true, false, not, ◌&&◌, List, [], ◌∷◌, ◌++◌, length, nat_le, refl, ap, sym, ◌∙◌, arith, Option, None, Some, is_some, option_map, true≢false}
+use Rattle.std.proofs.Common.{◌≡◌, ℕ, ◌≤◌, ◌<◌, Bool, true, false, not, ◌&&◌, List, [], ◌∷◌, ◌++◌, length, nat_le, refl}
+use Rattle.std.proofs.Common.{ap, sym, ◌∙◌, arith, Option, None, Some, is_some, option_map, true≢false}
 use Rattle.std.specs.List.{list_any}
 use Rattle.std.specs.Map.{lookup}
 use Rattle.std.proofs.lemmas.Bool.Decides.{Decides-ltb}
@@ -60,13 +61,15 @@ none_from f (Some x) e = absurd (true≢false e)
 pub lookup_none : (prog vers : ℕ) (netid : List ℕ) (es : List (Key × Row)) → AreKeyed es
     → list_any (is_at prog vers netid) (plain_rows es) ≡ false → lookup (key_eq (key_of prog vers netid)) es ≡ None
 lookup_none prog vers netid es h e =
-    none_from plain_row _ (ap is_some (find_by_key prog vers netid es h) ∙ find_is_any (is_at prog vers netid) (plain_rows es) ∙ e)
+    none_from plain_row _
+    (ap is_some (find_by_key prog vers netid es h) ∙ find_is_any (is_at prog vers netid) (plain_rows es) ∙ e)
 
 pub AreKeyed-push : (es : List (Key × Row)) (e : Key × Row) → AreKeyed es → IsKeyed e → AreKeyed (es ++ e ∷ [])
 AreKeyed-push [] e h k = (k, h)
 AreKeyed-push (x ∷ xs) e h k = (h.0, AreKeyed-push xs e h.1 k)
 
-pub plain_rows-push : (es : List (Key × Row)) (e : Key × Row) → plain_rows (es ++ e ∷ []) ≡ plain_rows es ++ plain_row e.1 ∷ []
+pub plain_rows-push : (es : List (Key × Row)) (e : Key × Row)
+    → plain_rows (es ++ e ∷ []) ≡ plain_rows es ++ plain_row e.1 ∷ []
 plain_rows-push [] e = refl
 plain_rows-push (x ∷ xs) e = ap (λ rs. plain_row x.1 ∷ rs) (plain_rows-push xs e)
 

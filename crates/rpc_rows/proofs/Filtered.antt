@@ -80,7 +80,8 @@ module _ (test : plain.Row → Bool) where
           (Decides-ltb (suc a) (suc b)).1 (omega (arith, h)) in
           same_from_decides (nat_lt (suc a) (suc b)) (nat_lt a b) (up, down) (Decides-ltb a b)
 
-      by : (t : Bool) → length (left test xs) ≤ length xs → nat_lt (length (left test xs)) (length xs) ≡ list_any test xs
+      by : (t : Bool) → length (left test xs) ≤ length xs
+          → nat_lt (length (left test xs)) (length xs) ≡ list_any test xs
           → nat_lt (length (cond (not t) (x ∷ left test xs) (left test xs))) (length (x ∷ xs)) ≡ (t || list_any test xs)
       by true le p = less _ _ le
       by false le p = same _ _ ∙ p

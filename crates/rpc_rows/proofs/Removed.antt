@@ -91,7 +91,8 @@ module _ (at may gone : plain.Row → Bool) (says : (x : plain.Row) → gone x �
   allowed [] r h e m = absurd (true≢false (sym (ap is_some e)))
   allowed (x ∷ xs) r h e m = by (at x) refl e (λ f. allowed xs r h.1 f m)
     where
-      by : (b : Bool) → at x ≡ b → cond b (Some x) (find at xs) ≡ Some r → (find at xs ≡ Some r → Takes xs) → Takes (x ∷ xs)
+      by : (b : Bool) → at x ≡ b → cond b (Some x) (find at xs) ≡ Some r → (find at xs ≡ Some r → Takes xs)
+          → Takes (x ∷ xs)
       by true a f rest =
           let g : gone x ≡ true = as_may x r true a f m in
           let s = (none_gone xs (h.0 a)).0 ∙ sym (all_left at xs (h.0 a)) in (

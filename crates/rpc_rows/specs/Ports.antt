@@ -1,5 +1,6 @@
 -- The calls of version 2, which name a transport by its number (RFC 1833 section 3).
-use Rattle.std.specs.Prelude.{ℕ, ◌/◌, ◌%◌, Bool, false, ◌||◌, List, [], ◌∷◌, nat_eq, nat_le, Option, Some, None, if◌then◌else◌, codes}
+use Rattle.std.specs.Prelude.{ℕ, ◌/◌, ◌%◌, Bool, false, ◌||◌, List, [], ◌∷◌, nat_eq, nat_le, Option, Some, None}
+use Rattle.std.specs.Prelude.{if◌then◌else◌, codes}
 use Rattle.std.specs.Option.{option_map_or}
 use Rattle.rpc_rows.specs.Rows.{Row, row_of}
 use Rattle.rpc_rows.specs.Steps.{Step, set, without, is_unset, row_at, superuser}
@@ -24,7 +25,8 @@ at_port port = dotted (0 ∷ 0 ∷ 0 ∷ 0 ∷ port / 256 ∷ port % 256 ∷ [])
 -- a row at a port, where the transport has a netid and the port two octets
 abbrev pub set_at : List Row → ℕ → ℕ → ℕ → List ℕ → Option (List ℕ) → Step
 set_at rows prog vers port owner None = (rows, false)
-set_at rows prog vers port owner (Some netid) = if nat_le port 65535 then set rows (row_of prog vers netid (at_port port) owner) else (rows, false)
+set_at rows prog vers port owner (Some netid) =
+    if nat_le port 65535 then set rows (row_of prog vers netid (at_port port) owner) else (rows, false)
 
 -- registers a port (RFC 1833 section 3.2, PMAPPROC_SET)
 abbrev pub set_port : List Row → ℕ → ℕ → ℕ → ℕ → List ℕ → Step
@@ -41,7 +43,8 @@ unset_port rows prog vers owner = without (is_unset_port prog vers owner) rows
 -- the registry's own rows: program 100000 in versions 2, 3 and 4 (RFC 1833 sections 2 and 3)
 abbrev pub own_rows : ℕ → List Row
 own_rows port =
-    row_of 100000 2 tcp (at_port port) superuser ∷ row_of 100000 3 tcp (at_port port) superuser ∷ row_of 100000 4 tcp (at_port port) superuser ∷ []
+    row_of 100000 2 tcp (at_port port) superuser ∷ row_of 100000 3 tcp (at_port port) superuser ∷ row_of 100000 4 tcp
+    (at_port port) superuser ∷ []
 
 -- the port of an address, 0 where it is no IPv4 universal address
 abbrev pub port_in : List ℕ → ℕ

@@ -1,5 +1,6 @@
 -- What each call does to the list of rows (RFC 1833 section 2.2.1).
-use Rattle.std.specs.Prelude.{ℕ, Bool, true, false, not, ◌&&◌, ◌||◌, List, [], ◌∷◌, ◌++◌, codes, nat_eq, nat_le, nat_lt, Option, if◌then◌else◌, length, filter, find}
+use Rattle.std.specs.Prelude.{ℕ, Bool, true, false, not, ◌&&◌, ◌||◌, List, [], ◌∷◌, ◌++◌, codes, nat_eq, nat_le, nat_lt}
+use Rattle.std.specs.Prelude.{Option, if◌then◌else◌, length, filter, find}
 use Rattle.std.specs.Option.{option_map_or}
 use Rattle.std.specs.List.{list_any}
 use Rattle.std.specs.Str.{bytes_eq}
@@ -17,7 +18,8 @@ is_empty bs = nat_eq (length bs) 0
 abbrev pub superuser : List ℕ
 superuser = codes "superuser"
 
--- whether the row may be added: with a netid and an address, none too long, room for it, and no row of its key (RFC 1833 section 2.2.1, RPCBPROC_SET)
+-- whether the row may be added: with a netid and an address, none too long, room for it, and no row of its key (RFC
+-- 1833 section 2.2.1, RPCBPROC_SET)
 abbrev pub may_add : List Row → Row → Bool
 may_add rows r =
     not (is_empty r.netid) && not (is_empty r.address) && nat_le (length r.netid) 64 && nat_le (length r.address) 256
@@ -35,7 +37,8 @@ may_remove owner r = bytes_eq owner r.owner || bytes_eq owner superuser
 abbrev pub without : (Row → Bool) → List Row → Step
 without test rows = (filter (λ r. not (test r)) rows, list_any test rows)
 
--- whether an `unset` names the row: with an empty netid every row of the version (RFC 1833 section 2.2.1, RPCBPROC_UNSET)
+-- whether an `unset` names the row: with an empty netid every row of the version (RFC 1833 section 2.2.1,
+-- RPCBPROC_UNSET)
 abbrev pub is_unset : ℕ → ℕ → List ℕ → List ℕ → Row → Bool
 is_unset prog vers netid owner r = is_of prog vers r && (is_empty netid || bytes_eq netid r.netid) && may_remove owner r
 

@@ -7,7 +7,14 @@ use Rattle.rpc_rows.specs.Rows as plain
 use Rattle.rpc_rows.specs.Keys.{key_of}
 
 abbrev pub plain_row : Row → plain.Row
-plain_row r = record { prog = r.prog; vers = r.vers; netid = r.netid.items; address = r.address.items; owner = r.owner.items }
+plain_row r = record {
+  prog = r.prog;
+  vers = r.vers;
+  netid = r.netid.items;
+  address = r.address.items;
+  owner =
+      r.owner.items;
+}
 
 abbrev pub plain_rows : List (Key × Row) → List plain.Row
 plain_rows es = map (λ e. plain_row e.1) es

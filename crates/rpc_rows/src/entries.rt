@@ -21,7 +21,8 @@ pub fn find<'a, S: BuildHasher>(
     netid: &[u8],
 ) -> Option<&'a Row>
     requires { AreEntries rows.now.entries }
-    ensures value { option_map (λ r. plain_row r.now) result ≡ row_at (plain_rows rows.now.entries) prog vers netid.now }
+    ensures value { let row = row_at (plain_rows rows.now.entries) prog vers netid.now in
+        option_map (λ r. plain_row r.now) result ≡ row }
     ensures row { IfSome result (λ r. IsRow (plain_row r.now)) }
 {
     if netid.len() > 64 {
@@ -47,8 +48,8 @@ pub fn append<S: BuildHasher>(rows: &mut IndexMap<Key, Row, S>, row: Row) -> Res
     }
 }
 
-/// Removes the row of a program, a version and a netid that is not empty, where the owner may remove it: one look-up, and
-/// one removal, which moves the rows behind it up by one. It takes no memory.
+/// Removes the row of a program, a version and a netid that is not empty, where the owner may remove it: one look-up,
+/// and one removal, which moves the rows behind it up by one. It takes no memory.
 pub fn remove_one<S: BuildHasher>(
     rows: &mut IndexMap<Key, Row, S>,
     prog: u32,

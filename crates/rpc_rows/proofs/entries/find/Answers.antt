@@ -9,7 +9,8 @@ use Rattle.rpc_rows.proofs.entries.find.Goals as goal
 
 pub returns-then-netid-gt64-clause-value : goal.returns-then-netid-gt64-clause-value
 returns-then-netid-gt64-clause-value g c =
-    sym (none_longer c.args.prog c.args.vers c.args.netid.now c.args.rows.now.entries c.requires.keyed c.if-netid-gt64.true)
+    sym (none_longer c.args.prog c.args.vers c.args.netid.now c.args.rows.now.entries c.requires.keyed
+    c.if-netid-gt64.true)
 
 pub returns-clause-value : goal.returns-clause-value
 returns-clause-value g c =

@@ -13,7 +13,8 @@ loop-left-preserved-in-Some-2 g c =
     record {
       within = omega (arith, c.loop-left.invariant.within);
       listed = c.in_ok-list-in-Some-2.ensures
-          ∙ list_more c.args.listing c.args.self.now (c.loop-left.left - 1) c.loop-left.left (plain_row c.in-Some.row.now)
+          ∙ list_more c.args.listing c.args.self.now (c.loop-left.left - 1) c.loop-left.left
+          (plain_row c.in-Some.row.now)
           (tree c.in-Some-2.first) (tree c.loop-left.list) (omega (arith, c.loop-left-test.true)) at has
           c.loop-left.invariant.listed;
     }

@@ -6,7 +6,8 @@ use Rattle.rpc_directory.proofs.directory.Directory.set.Goals as goal
 
 pub append-requires-clause-row : goal.append-requires-clause-row
 append-requires-clause-row g c =
-    let may = addable _ (row_of c.args.prog c.args.vers c.args.netid.now c.args.address.now []) (sym c.may_add.ensures ∙ c.if-not-may_add.false) in
+    let may = addable _ (row_of c.args.prog c.args.vers c.args.netid.now c.args.address.now [])
+    (sym c.may_add.ensures ∙ c.if-not-may_add.false) in
     let netid : c.in_ok-from_slice.field-0.items ≡ c.args.netid.now = c.in_ok-from_slice.ensures.items in
     let address : c.in_ok-from_slice-2.field-0.items ≡ c.args.address.now = c.in_ok-from_slice-2.ensures.items in
     let owner : c.in_ok-from_slice-3.field-0.items ≡ c.args.owner.now = c.in_ok-from_slice-3.ensures.items in
