@@ -1,5 +1,7 @@
 //! Want of memory.
-use crate::tasks::harness::{Ended, FILE, PING, SILLYPROG, SOUND, check, ends, run_with, show, within};
+use crate::tasks::harness::{
+    Ended, FILE, PING, SILLYPROG, SOUND, check, ends, run_with, show, within,
+};
 use oncrpc_tasks::{RecordsTask, Task};
 use std::alloc::{AllocError, Global};
 
