@@ -166,3 +166,11 @@ pub fn typed_within(alloc: Global, name: &str, bytes: u32) -> Result<Task, Alloc
     what.bytes = bytes;
     Ok(Task::Check(what))
 }
+
+/// A check of bytes with the declarations of `a.x`, to so great a depth.
+pub fn typed_to(alloc: Global, name: &str, depth: u32) -> Result<Task, AllocError> {
+    let mut what = value(alloc, name, Some("a.x"))?;
+    what.hex = false;
+    what.depth = depth;
+    Ok(Task::Check(what))
+}

@@ -88,7 +88,7 @@ fn is_unknown(alloc: Global, name: &str) -> Result<bool, AllocError> {
 
 #[test]
 fn refuses_names(rt: HostRuntime) -> Result<(), AllocError> {
-    for name in UNKNOWN {
+    for name in &UNKNOWN {
         assert!(rt; is_unknown(rt.alloc(), name)?, "{name}");
     }
     Ok(())

@@ -49,11 +49,21 @@ fn ends_by_pieces(alloc: Global, task: &Task, input: &[u8], ending: (u8, &[u8], 
         && ends(alloc, task, b"", input, by(4096), ending)
 }
 
+fn is_marked(
+    alloc: Global,
+    limit: u32,
+    hex: bool,
+    input: &[u8],
+    ending: (u8, &[u8], &[u8]),
+) -> bool {
+    let task = Task::Records(RecordsTask { limit, hex });
+    ends_by_pieces(alloc, &task, input, ending)
+}
+
 #[test]
 fn marks_records(rt: HostRuntime) {
-    for (limit, input, status, output, faults) in MARKED {
-        let task = Task::Records(RecordsTask { limit, hex: true });
-        let right = ends_by_pieces(rt.alloc(), &task, input, (status, output, faults));
+    for (limit, input, status, output, faults) in &MARKED {
+        let right = is_marked(rt.alloc(), *limit, true, input, (*status, *output, *faults));
         assert!(rt; right, "{limit} {input:?}");
     }
 }
@@ -72,12 +82,8 @@ const PLAIN: [(&[u8], u8, &[u8], &[u8]); 3] = [
 
 #[test]
 fn marks_bytes_as_they_are(rt: HostRuntime) {
-    let task = Task::Records(RecordsTask {
-        limit: 4,
-        hex: false,
-    });
-    for (input, status, output, faults) in PLAIN {
-        let right = ends_by_pieces(rt.alloc(), &task, input, (status, output, faults));
+    for (input, status, output, faults) in &PLAIN {
+        let right = is_marked(rt.alloc(), 4, false, input, (*status, *output, *faults));
         assert!(rt; right, "{input:?}");
     }
 }
@@ -92,7 +98,7 @@ fn reads_none_where_reads_fail(rt: HostRuntime) {
         read: Some(1),
         ..SOUND
     };
-    for (input, _status, _output, _faults) in PLAIN {
+    for (input, _status, _output, _faults) in &PLAIN {
         let unread = (3, b"".as_slice(), b"read fault\n".as_slice());
         assert!(rt;
             ends(rt.alloc(), &task, b"", input, devices, unread),
