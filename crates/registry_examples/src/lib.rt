@@ -2,5 +2,5 @@
 #![tactic(auto)]
 
 pub mod addresses;
-mod directory;
-mod dumps;
+pub mod directory;
+pub mod dumps;
