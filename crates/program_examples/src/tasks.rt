@@ -1,0 +1,72 @@
+//! Tasks as the words ask for them, with the texts of declarations that they name.
+ghost use Rattle.std.specs.Prelude.{◌≡◌, ◌≤◌, ℕ, None, Some, IfSome, string_bytes};
+ghost use Rattle.xdr_types.specs.Within.{AreBounds};
+ghost use Rattle.oncrpc_tasks.specs.Naming.{Names};
+ghost use Rattle.oncrpc_tasks.specs.Sources.{bare};
+ghost use Rattle.xdr_lang.specs.Declarations.{Declared};
+ghost use Rattle.xdr_lang.specs.Means.{Means};
+
+use oncrpc_tasks::{Opener, Task, ValueTask, task_over};
+use std::alloc::Global;
+use xdr_io::{Sink, Source};
+
+/// A task that is done has limits in their ranges: others are refused, and the greatest do not stand for them.
+pub fn limits_are_looked_at<P: Opener, I: Source, O: Sink, F: Sink>(
+    alloc: Global,
+    what: ValueTask,
+    opener: &mut P,
+    input: &mut I,
+    output: &mut O,
+    faults: &mut F,
+) -> u8
+    ensures { result ≤ 1 → AreBounds what.depth what.bytes }
+{
+    task_over(alloc, &Task::Check(what), opener, input, output, faults)
+}
+
+/// Where no file is named, a task that is done has a name of a basic kind.
+pub fn the_name_is_looked_up<P: Opener, I: Source, O: Sink, F: Sink>(
+    alloc: Global,
+    what: ValueTask,
+    opener: &mut P,
+    input: &mut I,
+    output: &mut O,
+    faults: &mut F,
+) -> u8
+    requires { what.types ≡ None }
+    ensures { result ≤ 1 → (place : ℕ) × Names (string_bytes what.name) bare place }
+{
+    task_over(alloc, &Task::Check(what), opener, input, output, faults)
+}
+
+/// Where a file is named, a task that is done has a text that means something; the basic kinds alone do not serve.
+pub fn a_named_file_declares<P: Opener, I: Source, O: Sink, F: Sink>(
+    alloc: Global,
+    what: ValueTask,
+    file: &String,
+    opener: &mut P,
+    input: &mut I,
+    output: &mut O,
+    faults: &mut F,
+) -> u8
+    requires { what.types ≡ Some file.now }
+    ensures { result ≤ 1
+        → IfSome (P.told opener.old (string_bytes file.now)) (λ text. (d : Declared) × Means text d) }
+{
+    task_over(alloc, &Task::Show(what), opener, input, output, faults)
+}
+
+/// Where the declarations, the name or the limits are refused, the input is not read and nothing is printed.
+pub fn refused_before_it_is_read<P: Opener, I: Source, O: Sink, F: Sink>(
+    alloc: Global,
+    task: &Task,
+    opener: &mut P,
+    input: &mut I,
+    output: &mut O,
+    faults: &mut F,
+) -> u8
+    ensures unread { result ≡ 2 → input.new ≡ input.old }
+    ensures unprinted { result ≡ 2 → output.new ≡ output.old }
+{
+    task_over(alloc, task, opener, input, output, faults)
+}

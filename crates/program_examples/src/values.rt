@@ -1,0 +1,164 @@
+//! One value: when something is printed, what stands before the line of its outcome, and how much is read.
+ghost use Rattle.std.specs.Prelude.{◌≡◌, ◌≢◌, ◌<◌, ◌≤◌, ◌+◌, ◌++◌, ℕ, List, length};
+ghost use Rattle.std.specs.Io.KnownBytes.{Appends};
+ghost use Rattle.xdr_io.specs.Told.{Counts, MovesAtMost};
+ghost use Rattle.oncrpc_tasks.specs.declared.answer.Answer.{Answer};
+ghost use Rattle.oncrpc_tasks.specs.declared.answer.Answer.TheVariants.{BadHex, Whole};
+ghost use Rattle.oncrpc_tasks.specs.Lines.{line, line_status};
+
+use oncrpc_tasks::{Failure, check_over, report, show_over};
+use std::alloc::Global;
+use xdr_io::{MemorySource, Sink, Source};
+use xdr_types::{KindId, Limits, Schema};
+
+/// Want of memory ends with 4, so that a caller can tell it from a device that failed.
+pub fn want_of_memory_is_4<F: Sink>(faults: &mut F) -> u8
+    ensures { result ≡ 4 }
+{
+    report(Failure::NoMemory, faults)
+}
+
+/// Nothing is printed before the answer is known, so where memory was refused nothing was.
+pub fn nothing_is_printed_at_4<I: Source, O: Sink, F: Sink>(
+    alloc: Global,
+    input: &mut I,
+    output: &mut O,
+    faults: &mut F,
+    schema: &Schema,
+    kind: KindId,
+    limits: Limits,
+    hex: bool,
+) -> u8
+    requires { kind.place < length schema.now.kinds }
+    ensures { result ≡ 4 → output.new ≡ output.old }
+{
+    check_over(alloc, input, output, faults, schema, kind, limits, hex)
+}
+
+/// Where there is an answer, a refusal too, nothing is said of faults, and no read or write failed.
+pub fn silent_where_it_answers<I: Source, O: Sink, F: Sink>(
+    alloc: Global,
+    input: &mut I,
+    output: &mut O,
+    faults: &mut F,
+    schema: &Schema,
+    kind: KindId,
+    limits: Limits,
+    hex: bool,
+) -> u8
+    requires { kind.place < length schema.now.kinds }
+    ensures silent { result ≤ 1 → faults.new ≡ faults.old }
+    ensures read { result ≤ 1 → Counts 0 (I.failures input.old) (I.failures input.new) }
+    ensures written { result ≤ 1 → Counts 0 (O.failures output.old) (O.failures output.new) }
+{
+    check_over(alloc, input, output, faults, schema, kind, limits, hex)
+}
+
+/// The input is read until more than the limit on bytes is there, by pages of 4096.
+pub fn no_more_is_read<I: Source, O: Sink, F: Sink>(
+    alloc: Global,
+    input: &mut I,
+    output: &mut O,
+    faults: &mut F,
+    schema: &Schema,
+    kind: KindId,
+    limits: Limits,
+) -> u8
+    requires { kind.place < length schema.now.kinds }
+    ensures { MovesAtMost (limits.bytes + 4096) (I.left input.old) (I.left input.new) }
+{
+    show_over(alloc, input, output, faults, schema, kind, limits, false)
+}
+
+/// The line of the outcome comes after what is shown of a value.
+pub fn a_line_after_the_value<I: Source, O: Sink, F: Sink>(
+    alloc: Global,
+    input: &mut I,
+    output: &mut O,
+    faults: &mut F,
+    schema: &Schema,
+    kind: KindId,
+    limits: Limits,
+    hex: bool,
+) -> u8
+    requires { kind.place < length schema.now.kinds }
+    ensures { result ≡ 0 → (answer : Answer) × (shown : List ℕ)
+        × Appends (O.taken output.old) (O.taken output.new) (shown ++ line answer) × (line_status answer ≡ 0) }
+{
+    show_over(alloc, input, output, faults, schema, kind, limits, hex)
+}
+
+/// Of a value that is refused nothing is shown but the line of its refusal.
+pub fn nothing_of_a_refused_value<O: Sink, F: Sink>(
+    alloc: Global,
+    bytes: &[u8],
+    output: &mut O,
+    faults: &mut F,
+    schema: &Schema,
+    kind: KindId,
+    limits: Limits,
+    hex: bool,
+) -> u8
+    requires { kind.place < length schema.now.kinds }
+    ensures { result ≡ 1 → (answer : Answer) × Appends (O.taken output.old) (O.taken output.new) (line answer) }
+{
+    let mut input = MemorySource::new(bytes, 4096, None);
+    show_over(alloc, &mut input, output, faults, schema, kind, limits, hex)
+}
+
+/// One hexadecimal digit spells no byte, so no value is found in it.
+pub fn odd_digits_are_refused<O: Sink, F: Sink>(
+    alloc: Global,
+    output: &mut O,
+    faults: &mut F,
+    schema: &Schema,
+    kind: KindId,
+    limits: Limits,
+) -> u8
+    requires { kind.place < length schema.now.kinds }
+    ensures { result ≢ 0 }
+{
+    let mut input = MemorySource::new(b"0", 1, None);
+    check_over(
+        alloc, &mut input, output, faults, schema, kind, limits, true,
+    )
+}
+
+/// White space in a text of hexadecimal is no fault: these two digits spell a byte, though a space stands before them.
+#[tactic(auto, using(crate::proofs::Spelled::not_bad))]
+pub fn white_space_is_dropped<O: Sink, F: Sink>(
+    alloc: Global,
+    output: &mut O,
+    faults: &mut F,
+    schema: &Schema,
+    kind: KindId,
+    limits: Limits,
+) -> u8
+    requires { kind.place < length schema.now.kinds }
+    ensures { result ≤ 1 → (answer : Answer) × (shown : List ℕ)
+        × Appends (O.taken output.old) (O.taken output.new) (shown ++ line answer) × (answer ≢ BadHex) }
+{
+    let mut input = MemorySource::new(b" 00", 1, None);
+    check_over(
+        alloc, &mut input, output, faults, schema, kind, limits, true,
+    )
+}
+
+/// Nothing follows a value of no bytes in an empty input: its line is `ok N` without more.
+pub fn nothing_follows_an_empty_input<O: Sink, F: Sink>(
+    alloc: Global,
+    output: &mut O,
+    faults: &mut F,
+    schema: &Schema,
+    kind: KindId,
+    limits: Limits,
+) -> u8
+    requires { kind.place < length schema.now.kinds }
+    ensures { result ≡ 0 → (shown : List ℕ) × (used : ℕ)
+        × Appends (O.taken output.old) (O.taken output.new) (shown ++ line (Whole used)) }
+{
+    let mut input = MemorySource::new(b"", 1, None);
+    show_over(
+        alloc, &mut input, output, faults, schema, kind, limits, false,
+    )
+}
