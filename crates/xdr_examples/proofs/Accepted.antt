@@ -91,22 +91,58 @@ module _ (kinds : List Form) (place : ℕ) (limits : Bounds) where
   done_at piece t x fit e (Err f) none low = tt
 
   -- while some value begins with the bytes so far, no fault but want of memory stands against them
-  no_reason : (why : Reason) (b y : List ℕ) (t : Tree)
+  no_reason : (why : Reason) (b y : List ℕ) (t : Tree) (x : List ℕ)
       → ((why ≡ reason.NoMemory → ⊥) → (z : List ℕ) → HasNoneWithin kinds place limits (b ++ z))
-      → FitsWithin kinds place limits t → bytes_of kinds place t ++ [] ≡ b ++ y → why ≡ reason.NoMemory
-  no_reason reason.BadBool b y t none fit e = absurd (none (λ i. cc) y t [] fit e)
-  no_reason reason.BadNumbered b y t none fit e = absurd (none (λ i. cc) y t [] fit e)
-  no_reason reason.BadCase b y t none fit e = absurd (none (λ i. cc) y t [] fit e)
-  no_reason reason.TooLong b y t none fit e = absurd (none (λ i. cc) y t [] fit e)
-  no_reason reason.BadPadding b y t none fit e = absurd (none (λ i. cc) y t [] fit e)
-  no_reason reason.TooDeep b y t none fit e = absurd (none (λ i. cc) y t [] fit e)
-  no_reason reason.TooLarge b y t none fit e = absurd (none (λ i. cc) y t [] fit e)
-  no_reason reason.Truncated b y t none fit e = absurd (none (λ i. cc) y t [] fit e)
-  no_reason reason.NoMemory b y t none fit e = refl
+      → FitsWithin kinds place limits t → bytes_of kinds place t ++ x ≡ b ++ y → why ≡ reason.NoMemory
+  no_reason reason.BadBool b y t x none fit e = absurd (none (λ i. cc) y t x fit e)
+  no_reason reason.BadNumbered b y t x none fit e = absurd (none (λ i. cc) y t x fit e)
+  no_reason reason.BadCase b y t x none fit e = absurd (none (λ i. cc) y t x fit e)
+  no_reason reason.TooLong b y t x none fit e = absurd (none (λ i. cc) y t x fit e)
+  no_reason reason.BadPadding b y t x none fit e = absurd (none (λ i. cc) y t x fit e)
+  no_reason reason.TooDeep b y t x none fit e = absurd (none (λ i. cc) y t x fit e)
+  no_reason reason.TooLarge b y t x none fit e = absurd (none (λ i. cc) y t x fit e)
+  no_reason reason.Truncated b y t x none fit e = absurd (none (λ i. cc) y t x fit e)
+  no_reason reason.NoMemory b y t x none fit e = refl
 
   pub waits : (piece y : List ℕ) (t : Tree) → FitsWithin kinds place limits t
       → bytes_of kinds place t ++ [] ≡ piece ++ y
       → (r : Result Progress DecodeFault) → AnswersAs kinds place limits ([] ++ taken piece r) r
       → IfErr r (λ f. f.why ≡ reason.NoMemory)
   waits piece y t fit e (Ok p) h = tt
-  waits piece y t fit e (Err f) h = no_reason f.why piece y t h.1 fit e
+  waits piece y t fit e (Err f) h = no_reason f.why piece y t [] h.1 fit e
+
+  -- so a second piece that ends such a value is not refused but for want of memory
+  pub waits_second : (first second : List ℕ) (t : Tree) (p : Progress) (r : Result Progress DecodeFault)
+      → ((used : ℕ) → p ≡ Done used → r ≡ Ok (Done 0)) → FitsWithin kinds place limits t
+      → bytes_of kinds place t ≡ first ++ second
+      → AnswersAs kinds place limits (([] ++ taken first (Ok p)) ++ taken second r) r
+      → IfErr r (λ f. f.why ≡ reason.NoMemory)
+  waits_second first second t More (Ok q) again fit whole h = tt
+  waits_second first second t More (Err f) again fit whole h =
+      no_reason f.why (first ++ second) [] t [] h.1 fit (ap (λ (z : List ℕ). z ++ []) whole)
+  waits_second first second t (Done used) r again fit whole h =
+      subst (λ (x : Result Progress DecodeFault). IfErr x (λ f. f.why ≡ reason.NoMemory)) (sym (again used refl)) tt
+
+  -- nor is its end
+  pub ended_whole : (t : Tree) (first second : List ℕ) (p q : Progress) → ((used : ℕ) → p ≡ Done used → q ≡ Done 0)
+      → FitsWithin kinds place limits t → bytes_of kinds place t ≡ first ++ second
+      → AnswersAs kinds place limits (([] ++ taken first (Ok p)) ++ taken second (Ok q)) (Ok q)
+      → (r : Result Value DecodeFault)
+      → FinishesAs kinds place limits (([] ++ taken first (Ok p)) ++ taken second (Ok q)) r
+      → IfErr r (λ f. f.why ≡ reason.NoMemory)
+  ended_whole t first second p q again fit whole answer (Ok v) end = tt
+  ended_whole t first second p (Done used) again fit whole answer (Err f) end =
+      memory f.why (([] ++ taken first (Ok p)) ++ taken second (Ok (Done used))) answer.0 [] end.0 answer.1.0
+      (append-nil (bytes_of kinds place answer.0) ∙ answer.1.1)
+  ended_whole t first second More More again fit whole answer (Err f) end =
+      memory f.why (first ++ second) t [] end.0 fit (append-nil (bytes_of kinds place t) ∙ whole)
+  ended_whole t first second (Done used) More again fit whole answer (Err f) end =
+      let other : More ≡ Done 0 = again used refl in absurd cc
+
+  -- and a first piece that begins with a value is not refused but for want of memory
+  pub begun : (piece : List ℕ) (t : Tree) (x : List ℕ) → FitsWithin kinds place limits t
+      → bytes_of kinds place t ++ x ≡ piece
+      → (r : Result Progress DecodeFault) → AnswersAs kinds place limits ([] ++ taken piece r) r
+      → IfErr r (λ f. f.why ≡ reason.NoMemory)
+  begun piece t x fit e (Ok p) h = tt
+  begun piece t x fit e (Err f) h = no_reason f.why piece [] t x h.1 fit (e ∙ sym (append-nil piece))

@@ -5,12 +5,13 @@
 ghost use Rattle.std.specs.Prelude.{◌≡◌, ◌≢◌, ◌<◌, ◌∷◌, [], pos, length, map, codes, true, false, Some, IsSome, IfOk};
 ghost use Rattle.xdr_types.specs.Form as form;
 ghost use Rattle.xdr_types.specs.Form.{kind_at};
-ghost use Rattle.xdr_types.specs.Forms.{branch_of, part_of_member};
+ghost use Rattle.xdr_types.specs.Forms.{branch_of, constant_of, part_of_member};
 ghost use Rattle.xdr_types.specs.Named.{named};
 ghost use Rattle.xdr_types.specs.Refused.{IsFirstFault};
 ghost use Rattle.xdr_types.specs.Tree.{Tree};
 ghost use Rattle.xdr_types.specs.declared.fault.SchemaFault.{SchemaFault};
 ghost use Rattle.xdr_types.specs.Fits.{Fits};
+ghost use Rattle.xdr_examples.specs.Rfc.{constant};
 
 use std::alloc::{AllocError, Global};
 use std::string::String;
@@ -100,12 +101,12 @@ pub fn hyper_is_no_discriminant(schema: &Schema, id: KindId) -> bool
     is_legal_tag(schema, id, 0)
 }
 
-/// No number is one of an enumeration without members.
-pub fn number_of_no_members(members: &Vec<(String, i32)>, number: i64) -> bool
-    requires { members.now.items ≡ [] }
+/// A number is one of an enumeration where a member has that very number, and neither one more nor one less.
+pub fn number_of_no_member(members: &Vec<(String, i32)>) -> bool
+    requires { map constant_of members.now.items ≡ constant (codes "ONE") 1 ∷ [] }
     ensures { result ≡ false }
 {
-    is_number_of(members, number)
+    is_number_of(members, 2) || is_number_of(members, 0)
 }
 
 /// A union without an arm and without a default has no part.

@@ -23,7 +23,8 @@ pub fn joins_two_pieces(
     requires deep { 3 ≤ limits.depth }
     requires room { 48 ≤ limits.bytes }
     requires input { first.now ++ second.now ≡ sillyprog_bytes }
-    ensures { IfOk result (λ v. tree v ≡ sillyprog) }
+    ensures value { IfOk result (λ v. tree v ≡ sillyprog) }
+    ensures taken { IfErr result (λ f. f.why ≡ NoMemory) }
 {
     let mut decoder = Decoder::start(alloc, schema, KindId { place: 6 }, limits);
     let _ = decoder.feed(first)?;
@@ -40,7 +41,8 @@ pub fn waits_at_the_start(
 ) -> Result<Progress, DecodeFault>
     requires has { kind.place < length schema.now.kinds }
     requires kind { kind_at schema.now.kinds kind.place ≡ int }
-    ensures { IfOk result (λ p. p ≡ More) }
+    ensures answer { IfOk result (λ p. p ≡ More) }
+    ensures fault { 4 ≤ limits.bytes → 1 ≤ limits.depth → IfErr result (λ f. f.why ≡ NoMemory) }
 {
     let mut decoder = Decoder::start(alloc, schema, kind, limits);
     decoder.feed(&[])
@@ -80,6 +82,20 @@ pub fn ends_too_soon(
     decoder.finish()
 }
 
+/// Nor where no byte came.
+pub fn ends_without_a_byte(
+    alloc: Global,
+    schema: &Schema,
+    kind: KindId,
+    limits: Limits,
+) -> Result<Value, DecodeFault>
+    requires has { kind.place < length schema.now.kinds }
+    requires kind { kind_at schema.now.kinds kind.place ≡ hyper }
+    ensures { IsErr result }
+{
+    Decoder::start(alloc, schema, kind, limits).finish()
+}
+
 /// The value ends inside its last piece: `used` counts its bytes, and the rest of the piece is not taken.
 pub fn takes_no_more(
     alloc: Global,
@@ -91,7 +107,8 @@ pub fn takes_no_more(
     requires kind { kind_at schema.now.kinds kind.place ≡ opaque_up_to 4294967295 }
     requires limit { 4 ≤ limits.bytes }
     requires depth { 1 ≤ limits.depth }
-    ensures { IfOk result (λ p. p ≡ Done 4) }
+    ensures answer { IfOk result (λ p. p ≡ Done 4) }
+    ensures fault { IfErr result (λ f. f.why ≡ NoMemory) }
 {
     let mut decoder = Decoder::start(alloc, schema, kind, limits);
     decoder.feed(&[0, 0, 0, 0, 0, 0, 0, 42])

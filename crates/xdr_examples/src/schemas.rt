@@ -1,15 +1,16 @@
 //! Which lists of kinds and names make a schema, and what a schema answers (RFC 4506 section 4).
 //!
 //! Each function calls the library, and its `ensures` is what the library's contract makes certain about the answer.
-ghost use Rattle.std.specs.Prelude.{◌≡◌, ◌<◌, ◌≤◌, ℕ, length, Some, None, IfOk};
-ghost use Rattle.xdr_types.specs.Forms.{lists_of};
-ghost use Rattle.xdr_types.specs.Faults.{fault};
+ghost use Rattle.std.specs.Prelude.{◌≡◌, ◌<◌, ◌≤◌, ℕ, length, map, Some, None, IfOk, IfSome};
+ghost use Rattle.xdr_types.specs.Forms.{form_of, lists_of};
+ghost use Rattle.xdr_types.specs.Faults.{fault, IsWellFormed};
+ghost use Rattle.xdr_types.specs.Sound.{IsSound};
 ghost use Rattle.xdr_examples.specs.Refusal.{first_flaw, IsRefusedFor, IsNoFlaw};
 
 use crate::made::{arm, member};
 use std::alloc::{AllocError, Global};
 use std::string::String;
-use xdr_types::{Flaw, Kind, KindId, Schema, SchemaFault};
+use xdr_types::{Flaw, Kind, KindId, Schema, SchemaFault, no_schema_has_a_fault};
 
 /// Why lists make no schema; none where they do. It is the first flaw that they have, or want of memory.
 pub fn refusal(alloc: Global, kinds: Vec<Kind>, names: Vec<(String, KindId)>) -> Option<SchemaFault>
@@ -22,6 +23,30 @@ pub fn refusal(alloc: Global, kinds: Vec<Kind>, names: Vec<(String, KindId)>) ->
         Ok(_) => None,
         Err(fault) => Some(fault),
     }
+}
+
+/// Why lists that make a schema are refused: want of memory alone.
+pub fn only_memory(
+    alloc: Global,
+    kinds: Vec<Kind>,
+    names: Vec<(String, KindId)>,
+) -> Option<SchemaFault>
+    requires well { IsWellFormed (lists_of kinds.items names.items) }
+    requires sound { IsSound (map form_of kinds.items) }
+    ensures { IfSome result (λ e. e.why ≡ Flaw.NoMemory) }
+{
+    no_schema_has_a_fault();
+    Schema::build(alloc, kinds, names).err()
+}
+
+/// An int and a structure of one are a schema: want of memory alone refuses them (RFC 4506 section 4.14).
+pub fn structure_of_an_int(alloc: Global) -> Result<Option<SchemaFault>, AllocError>
+    ensures { IfOk result (λ r. IfSome r (λ e. e.why ≡ Flaw.NoMemory)) }
+{
+    let field = member(alloc, "x", 0)?;
+    let fields = vec![in alloc; field]?;
+    let kinds = vec![in alloc; Kind::Int, Kind::Structure { fields }]?;
+    Ok(only_memory(alloc, kinds, Vec::new(alloc)))
 }
 
 /// An opaque of size 0 is no kind (RFC 4506 section 4.9).

@@ -2,13 +2,14 @@
 //!
 //! Each function calls the library, and its `ensures` is what the library's contract makes certain about the answer. A
 //! kind is named by its place in a schema; `requires` says what stands there.
-ghost use Rattle.std.specs.Prelude.{◌≡◌, ◌≢◌, ◌<◌, ◌≤◌, [], length, codes, true, false, None, IfOk};
+ghost use Rattle.std.specs.Prelude.{◌≡◌, ◌≢◌, ◌<◌, ◌≤◌, length, codes, true, false, IfOk};
 ghost use Rattle.xdr_types.specs.Form as form;
 ghost use Rattle.xdr_types.specs.Form.{kind_at};
 ghost use Rattle.xdr_types.specs.Fits.{Fits};
 ghost use Rattle.xdr_types.specs.Spelling.{bytes_of};
 ghost use Rattle.xdr_types.specs.Tree.{depth};
 ghost use Rattle.xdr_types.specs.View.{tree};
+ghost use Rattle.xdr_examples.specs.Rfc.{file_kinds};
 
 use std::alloc::{AllocError, Global};
 use xdr_types::{KindId, Limits, Schema, Value, each_spelling_is_one_value, fits, is_equal, size};
@@ -87,12 +88,12 @@ pub fn void_fits(schema: &Schema, id: KindId) -> bool
     fits(schema, id, &Value::Nothing, limits)
 }
 
-/// An enumeration has no value without a name (RFC 4506 section 4.3).
-pub fn number_without_a_name(schema: &Schema, id: KindId, number: i32, limits: Limits) -> bool
-    requires { kind_at schema.now.kinds id.place ≡ form.numbered [] }
+/// An enumeration has no value without a name, as 3 among the file's kinds (RFC 4506 sections 4.3 and 7).
+pub fn number_without_a_name(schema: &Schema, limits: Limits) -> bool
+    requires { schema.now.kinds ≡ file_kinds }
     ensures { result ≡ false }
 {
-    fits(schema, id, &Value::Numbered(number), limits)
+    fits(schema, KindId { place: 0 }, &Value::Numbered(3), limits)
 }
 
 /// A copy is the same value.
@@ -143,17 +144,14 @@ pub fn same_bytes_are_one_value(schema: &Schema, id: KindId, a: &Value, b: &Valu
     is_equal(a, b)
 }
 
-/// A union has no value under a discriminant that has no part, legal as it may be (RFC 4506 section 4.15).
-pub fn discriminant_without_a_part(
-    schema: &Schema,
-    id: KindId,
-    value: &Value,
-    limits: Limits,
-) -> bool
-    requires { kind_at schema.now.kinds id.place ≡ form.choice 0 [] None }
+/// A union without a default has no value under a discriminant without an arm, whatever its part: the type of a file has
+/// none for 3 (RFC 4506 sections 4.15 and 7).
+pub fn discriminant_without_a_part(schema: &Schema, part: Box<Value>, limits: Limits) -> bool
+    requires { schema.now.kinds ≡ file_kinds }
     ensures { result ≡ false }
 {
-    fits(schema, id, value, limits)
+    let value = Value::Choice { tag: 3, part };
+    fits(schema, KindId { place: 4 }, &value, limits)
 }
 
 /// The content of a string may be as long as its maximum: "abc" has a length, its bytes and a zero (RFC 4506 section
