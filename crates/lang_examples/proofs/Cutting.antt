@@ -1,16 +1,18 @@
 -- The tokens of a text, computed.
 use Rattle.std.proofs.Common.{◌≡◌, ◌≤◌, ℕ, zero, suc, List, [], ◌∷◌, length, Option, Some, None, refl, sym, ap, ◌∙◌}
-use Rattle.std.proofs.Common.{arith}
-use Rattle.std.proofs.Common.{Result, Ok, Err, IfOk, Vec, Global}
-use Rattle.std.specs.Prelude.{option_and_then, is_ok, false}
+use Rattle.std.proofs.Common.{arith, subst}
+use Rattle.std.proofs.Common.{Result, Ok, Err, IfOk, IfErr, Vec, Global}
+use Rattle.std.specs.Prelude.{option_and_then, is_ok, is_some, true, false}
 use Rattle.xdr_tokens.specs.declared.token.Token.{Token}
 use Rattle.xdr_tokens.specs.declared.fault.Fault.{Fault}
+use Rattle.xdr_tokens.specs.declared.fault.Fault.TheVariants as fault
+use Rattle.xdr_tokens.specs.Fails.{Fails, Gives}
 use Rattle.xdr_tokens.specs.Tokens.{Lexeme, lexemes}
 use Rattle.xdr_tokens.specs.Text.{Piece, spelling, Cuts, Tokens, token_of, with_token}
 use Rattle.xdr_tokens.specs.steps.Front.{piece_at}
-use Rattle.xdr_tokens.proofs.Options.{some_is, some_is_not}
+use Rattle.xdr_tokens.proofs.Options.{some_is, some_is_not, bind_some}
 use Rattle.xdr_tokens.proofs.Pieces.{piece_again}
-use Rattle.xdr_tokens.proofs.Whole.{shorter}
+use Rattle.xdr_tokens.proofs.Whole.{shorter, more_tokens, all_done}
 
 -- the tokens of a text of at most so many bytes
 unfoldable pub cut : ℕ → List ℕ → Option (List Lexeme)
@@ -51,3 +53,34 @@ pub no_tokens : (text : List ℕ) (r : Result (Vec Token Global) Fault) → cut 
 no_tokens text (Ok v) none found = absurd
     (some_is_not (lexemes v.items) (sym (cut_is text (lexemes v.items) found) ∙ none))
 no_tokens text (Err e) none found = refl
+
+-- and they are its tokens
+pub cut_found : (n : ℕ) (bs : List ℕ) (ts : List Lexeme) → cut n bs ≡ Some ts → Tokens bs ts
+unfolding cut
+cut_found zero [] ts e = subst (λ (x : List Lexeme). Tokens [] x) (some_is [] ts e) (all_done [] refl)
+cut_found zero (b ∷ bs) ts e = absurd cc
+cut_found (suc n) [] ts e = subst (λ (x : List Lexeme). Tokens [] x) (some_is [] ts e) (all_done [] refl)
+cut_found (suc n) (b ∷ bs) ts e =
+    let p = bind_some (piece_at (b ∷ bs)) _ ts e in
+    let r = bind_some (cut n p.0.1) _ ts p.2 in
+    subst (λ (z : List Lexeme). Tokens (b ∷ bs) z) (some_is _ ts r.2)
+    (more_tokens (b ∷ bs) p.0 p.1 r.0 (cut_found n p.0.1 r.0 r.1))
+
+-- what is there
+pub present : {A : Type 0} (o : Option A) → is_some o ≡ true → (x : A) × (o ≡ Some x)
+present (Some x) e = (x, refl)
+present None e = absurd cc
+
+-- where something is due, want of memory alone refuses it
+pub no_refusal : {A : Type 0} (e : Fault) (d : A) → Fails e (Some d) → e ≡ fault.NoMemory
+no_refusal fault.NoMemory d h = refl
+no_refusal (fault.Refused wrong left) d h = absurd (some_is_not d h)
+
+pub memory_of_tokens : (text : List ℕ) (r : Result (Vec Token Global) Fault)
+    → is_some (cut (length text) text) ≡ true
+    → ((ts : List Lexeme) → Tokens text ts → Gives (λ (v : Vec Token Global). lexemes v.items) r (Some ts))
+    → IfErr r (λ e. e ≡ fault.NoMemory)
+memory_of_tokens text (Ok v) is only = tt
+memory_of_tokens text (Err e) is only =
+    let p = present (cut (length text) text) is in
+    no_refusal e p.0 (only p.0 (cut_found (length text) text p.0 p.1))

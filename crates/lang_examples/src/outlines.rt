@@ -1,5 +1,5 @@
 //! What `read_outline` makes of tokens (RFC 4506 sections 6.3 and 6.4): kinds whose names are not looked up yet.
-ghost use Rattle.std.specs.Prelude.{◌≡◌, pos, true, false, Some, None, IfOk, [], ◌∷◌, codes};
+ghost use Rattle.std.specs.Prelude.{◌≡◌, pos, true, false, Some, None, IfOk, IfErr, [], ◌∷◌, codes};
 ghost use Rattle.xdr_tokens.specs.Tokens.{lexemes, Word, Name, Number, Sign};
 ghost use Rattle.xdr_tokens.specs.declared.token.Keyword.TheVariants as word;
 ghost use Rattle.xdr_tokens.specs.declared.token.Mark.TheVariants as mark;
@@ -16,8 +16,9 @@ use xdr_tokens::{Fault, Token};
 /// `typedef int a; typedef bool b;` declares two types.
 pub fn two_definitions<'a>(alloc: Global, tokens: &[Token<'a>]) -> Result<Outline<'a>, Fault>
     requires { lexemes tokens.now ≡ two_typedefs }
-    ensures { IfOk result (λ v. (outline_of v).types ≡
+    ensures found { IfOk result (λ v. (outline_of v).types ≡
         named (codes "a") (out.IsBasic basic.Int) ∷ named (codes "b") (out.IsBasic basic.Bool) ∷ []) }
+    ensures taken { IfErr result (λ e. e ≡ Fault.NoMemory) }
 {
     read_outline(alloc, tokens)
 }
@@ -25,8 +26,9 @@ pub fn two_definitions<'a>(alloc: Global, tokens: &[Token<'a>]) -> Result<Outlin
 /// `enum e { A = 1 };` declares a constant, but not as `const` does.
 pub fn member_is_no_const<'a>(alloc: Global, tokens: &[Token<'a>]) -> Result<Outline<'a>, Fault>
     requires { lexemes tokens.now ≡ enumeration }
-    ensures { IfOk result (λ v. (outline_of v).constants ≡
+    ensures found { IfOk result (λ v. (outline_of v).constants ≡
         (record { name = codes "A"; value = out.Given (pos 1); by_const = false }) ∷ []) }
+    ensures taken { IfErr result (λ e. e ≡ Fault.NoMemory) }
 {
     read_outline(alloc, tokens)
 }
@@ -35,8 +37,9 @@ pub fn member_is_no_const<'a>(alloc: Global, tokens: &[Token<'a>]) -> Result<Out
 /// cases, a void arm, and a default.
 pub fn union_with_a_default<'a>(alloc: Global, tokens: &[Token<'a>]) -> Result<Outline<'a>, Fault>
     requires { lexemes tokens.now ≡ union_tokens }
-    ensures { IfOk result (λ v. (outline_of v).drafts ≡ out.DChoice (out.IsBasic basic.Int) union_arms
+    ensures found { IfOk result (λ v. (outline_of v).drafts ≡ out.DChoice (out.IsBasic basic.Int) union_arms
         (Some (named (codes "b") (out.IsBasic basic.Bool))) ∷ []) }
+    ensures taken { IfErr result (λ e. e ≡ Fault.NoMemory) }
 {
     read_outline(alloc, tokens)
 }
