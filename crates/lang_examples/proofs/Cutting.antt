@@ -8,7 +8,7 @@ use Rattle.xdr_tokens.specs.declared.fault.Fault.{Fault}
 use Rattle.xdr_tokens.specs.declared.fault.Fault.TheVariants as fault
 use Rattle.xdr_tokens.specs.Fails.{Fails, Gives}
 use Rattle.xdr_tokens.specs.Tokens.{Lexeme, lexemes}
-use Rattle.xdr_tokens.specs.Text.{Piece, spelling, Cuts, Tokens, token_of, with_token}
+use Rattle.xdr_tokens.specs.Text.{Piece, Cuts, Tokens, token_of, with_token}
 use Rattle.xdr_tokens.specs.steps.Front.{piece_at}
 use Rattle.xdr_tokens.proofs.Options.{some_is, some_is_not, bind_some}
 use Rattle.xdr_tokens.proofs.Pieces.{piece_again}

@@ -1,3 +1,4 @@
 pub mod Cutting
 pub mod Outlining
 pub mod Telling
+pub mod Schemas

@@ -1,8 +1,8 @@
 -- What a text means, computed.
-use Rattle.std.proofs.Common.{◌≡◌, ◌<◌, arith, ℕ, List, length, Option, Some, None, option_map, refl, sym, ap, ◌∙◌}
-use Rattle.std.proofs.Common.{Result, Ok, Err, IfOk}
+use Rattle.std.proofs.Common.{◌≡◌, ◌≢◌, ◌≤◌, ◌<◌, arith, ℕ, inl, inr, eqb, subst, List, length, Option, Some, None, option_map, refl, sym, ap, ◌∙◌}
+use Rattle.std.proofs.Common.{Result, Ok, Err, IfOk, IfErr}
 use Rattle.std.specs.Prelude.{option_and_then, is_ok, false}
-use Rattle.xdr_tokens.proofs.Options.{some_is, some_is_not}
+use Rattle.xdr_tokens.proofs.Options.{some_is, some_is_not, bind_some}
 use Rattle.xdr_grammar.specs.Outline.{nothing}
 use Rattle.xdr_grammar.specs.steps.Reading.{definitions_at}
 use Rattle.xdr_grammar.proofs.Outlining.{outline_again}
@@ -12,8 +12,13 @@ use Rattle.xdr_lang.specs.Declarations.{Declared}
 use Rattle.xdr_lang.specs.Means.{Means}
 use Rattle.xdr_lang.specs.Views.{declared_of}
 use Rattle.xdr_lang.specs.steps.Meaning.{distinct_meaning}
-use Rattle.xdr_lang.proofs.Distinctly.{joined}
-use Rattle.lang_examples.proofs.Cutting.{cut, cut_is}
+use Rattle.xdr_lang.proofs.Distinctly.{joined, parted}
+use Rattle.xdr_types.specs.Form.{Lists}
+use Rattle.xdr_types.specs.Faults.{IsWellFormed}
+use Rattle.xdr_types.specs.Sound.{IsSound}
+use Rattle.lang_examples.proofs.Cutting.{cut, cut_is, cut_found}
+use Rattle.lang_examples.proofs.Outlining.{outline_found}
+use Rattle.lang_examples.proofs.Schemas.{same_or_not}
 
 -- what a text means, as far as its kinds are a schema
 unfoldable pub told : List ℕ → Option Declared
@@ -44,3 +49,39 @@ pub too_long : (text : List ℕ) (r : Result Made LangFault) → 262144 < length
     → IfOk r (λ v. Means text (declared_of v)) → is_ok r ≡ false
 too_long text (Ok v) lt found = absurd (omega (arith, lt, found.short))
 too_long text (Err e) lt found = refl
+
+mapped : {A B : Type 0} (f : A → B) (o : Option A) (y : B) → option_map f o ≡ Some y
+    → (x : A) × (o ≡ Some x) × (f x ≡ y)
+mapped f (Some x) y e = (x, refl, some_is (f x) y e)
+mapped f None y e = absurd cc
+
+-- a text that is told means it, where its kinds are a schema
+told_means : (text : List ℕ) (d : Declared) → told text ≡ Some d → length text ≤ 262144 → IsWellFormed d.schema
+    → IsSound d.schema.kinds → Means text d
+unfolding told
+told_means text d e short ok sound =
+    let ts = bind_some (cut (length text) text) _ d e in
+    let o = bind_some (definitions_at (length ts.0) nothing ts.0) _ d ts.2 in
+    let p = parted o.0 d o.2 in
+    record {
+      short = short;
+      tokens = ts.0;
+      cut = cut_found (length text) text ts.0 ts.1;
+      outline = o.0;
+      spelled = outline_found ts.0 o.0 o.1;
+      meant = record { distinct = p.0; meant = p.1; well_formed = ok; sound = sound };
+    }
+
+pub memory_of_text : (text : List ℕ) (s : Lists) (r : Result Made LangFault)
+    → option_map (λ (d : Declared). d.schema) (told text) ≡ Some s → length text ≤ 262144 → IsWellFormed s
+    → IsSound s.kinds → IfErr r (λ e. e.number ≢ 13 → (d : Declared) → Means text d → ⊥)
+    → IfErr r (λ e. e.number ≡ 13)
+memory_of_text text s (Ok v) is short ok sound refused = tt
+memory_of_text text s (Err e) is short ok sound refused =
+    let m = mapped (λ (d : Declared). d.schema) (told text) s is in
+    let means = told_means text m.0 m.1 short (subst IsWellFormed (sym m.2) ok)
+    (subst (λ (x : Lists). IsSound x.kinds) (sym m.2) sound) in
+    elim (same_or_not e.number 13 (eqb e.number 13) refl) [
+      | inl same ↦ same
+      | inr other ↦ absurd (refused other m.0 means)
+    ]

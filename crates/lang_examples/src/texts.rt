@@ -1,6 +1,6 @@
 //! What `read` gives for texts that mean something (RFC 4506 section 6.4, RFC 5531 section 12): the kinds of a text
 //! come after the eight basic ones.
-ghost use Rattle.std.specs.Prelude.{◌≡◌, Some, None, IfOk, [], ◌∷◌, codes, drop, map};
+ghost use Rattle.std.specs.Prelude.{◌≡◌, Some, None, IfOk, IfErr, [], ◌∷◌, codes, drop, map};
 ghost use Rattle.xdr_types.specs.Form as form;
 ghost use Rattle.xdr_types.specs.Named.{named};
 ghost use Rattle.xdr_lang.specs.Declarations as said;
@@ -12,35 +12,39 @@ use xdr_lang::{Declared, LangFault, one_meaning, read};
 
 /// A fixed array and a variable one.
 pub fn arrays(alloc: Global) -> Result<Declared, LangFault>
-    ensures { IfOk result (λ v. drop 8 (declared_of v).schema.kinds ≡ form.fixed 0 2 ∷ form.up_to 0 2 ∷ []) }
+    ensures found { IfOk result (λ v. drop 8 (declared_of v).schema.kinds ≡ form.fixed 0 2 ∷ form.up_to 0 2 ∷ []) }
+    ensures taken { IfErr result (λ e. e.number ≡ 13) }
 {
     read(alloc, b"typedef int a[2]; typedef int b<2>;")
 }
 
 /// A size that is left out is the greatest.
 pub fn missing_size(alloc: Global) -> Result<Declared, LangFault>
-    ensures { IfOk result (λ v. drop 8 (declared_of v).schema.kinds ≡ form.text 4294967295 ∷ []) }
+    ensures found { IfOk result (λ v. drop 8 (declared_of v).schema.kinds ≡ form.text 4294967295 ∷ []) }
+    ensures taken { IfErr result (λ e. e.number ≡ 13) }
 {
     read(alloc, b"typedef string a<>;")
 }
 
 /// A list: an entry holds the place of the next one, which may name the entry before that is declared.
 pub fn linked_list(alloc: Global) -> Result<Declared, LangFault>
-    ensures { IfOk result (λ v. drop 8 (declared_of v).schema.kinds ≡
+    ensures found { IfOk result (λ v. drop 8 (declared_of v).schema.kinds ≡
         form.maybe 9 ∷ form.structure (named (codes "n") 0 ∷ named (codes "next") 8 ∷ []) ∷ []) }
+    ensures taken { IfErr result (λ e. e.number ≡ 13) }
 {
     read(alloc, b"struct e{int n;e*next;};")
 }
 
 /// A string as an argument is place 7, the string of any length.
 pub fn string_argument(alloc: Global) -> Result<Declared, LangFault>
-    ensures { IfOk result (λ v. map (λ (p : said.Program). p.versions) (declared_of v).programs ≡
+    ensures found { IfOk result (λ v. map (λ (p : said.Program). p.versions) (declared_of v).programs ≡
         ((record {
           name = codes "V";
           number = 2;
           procedures =
               (record { name = codes "N"; number = 0; arguments = 7 ∷ []; result = None }) ∷ [];
         }) ∷ []) ∷ []) }
+    ensures taken { IfErr result (λ e. e.number ≡ 13) }
 {
     read(alloc, b"program P{version V{void N(string)=0;}=2;}=1;")
 }

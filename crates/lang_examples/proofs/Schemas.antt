@@ -1,0 +1,175 @@
+-- Which lists make a schema, computed.
+use Rattle.std.proofs.Common.{◌≡◌, ◌⊎◌, inl, inr, ◌≤◌, ℕ, zero, suc, List, [], ◌∷◌, ◌++◌, length, Bool, true, false}
+use Rattle.std.proofs.Common.{eqb, eqb-true, Option, Some, None, refl, ap, ◌∙◌, arith, subst}
+use Rattle.std.proofs.lemmas.Bool.{eqb-false}
+use Rattle.std.specs.Prelude.{not, ◌&&◌, is_some}
+use Rattle.xdr_types.specs.Form.{Form, Lists}
+use Rattle.xdr_types.specs.Named.{basic}
+use Rattle.xdr_types.specs.Faults.{kind_flaw_at, name_flaw_at, AreFlawless, IsWellFormed}
+use Rattle.xdr_types.specs.Sound.{Heighting, IsBelow, Asks, IsProper, IsSound}
+use Rattle.xdr_types.specs.declared.fault.Flaw.{Flaw}
+
+pub same_or_not : (a b : ℕ) (r : Bool) → eqb a b ≡ r → (a ≡ b) ⊎ (a ≡ b → ⊥)
+same_or_not a b true e = inl (eqb-true a b e)
+same_or_not a b false e = inr (λ h. eqb-false a b e h)
+
+left_of : (a b : Bool) → (a && b) ≡ true → a ≡ true
+left_of true b e = refl
+left_of false b e = absurd cc
+
+right_of : (a b : Bool) → (a && b) ≡ true → b ≡ true
+right_of true b e = e
+right_of false b e = absurd cc
+
+none_there : (o : Option Flaw) → not (is_some o) ≡ true → o ≡ None
+none_there None e = refl
+none_there (Some x) e = absurd cc
+
+-- no place below n has a flaw
+abbrev pub flawless : (ℕ → Option Flaw) → ℕ → Bool
+flawless at zero = true
+flawless at (suc n) = not (is_some (at n)) && flawless at n
+
+are_flawless : (at : ℕ → Option Flaw) (n : ℕ) → flawless at n ≡ true → AreFlawless at n
+are_flawless at zero e = λ place low. absurd (omega (arith, low))
+are_flawless at (suc n) e = λ place low.
+    elim (same_or_not place n (eqb place n) refl) [
+      | inl same ↦ ap at same ∙ none_there (at n) (left_of (not (is_some (at n))) (flawless at n) e)
+      | inr other ↦
+          are_flawless at n (right_of (not (is_some (at n))) (flawless at n) e) place (omega (arith, low, other))
+    ]
+
+pub well : (s : Lists) → length s.kinds ≤ 1024 → flawless (kind_flaw_at s.kinds) (length s.kinds) ≡ true
+    → flawless (name_flaw_at s.kinds s.names) (length s.names) ≡ true → IsWellFormed s
+well s few kinds names = record {
+  few = few;
+  kinds = are_flawless (kind_flaw_at s.kinds) (length s.kinds) kinds;
+  names = are_flawless (name_flaw_at s.kinds s.names) (length s.names) names;
+}
+
+-- the basic kinds
+abbrev pub eight : List Form
+eight = basic.kinds
+
+abbrev pub height_eight : Heighting
+height_eight zero = Some 0
+height_eight (suc zero) = Some 0
+height_eight (suc (suc zero)) = Some 0
+height_eight (suc (suc (suc zero))) = Some 0
+height_eight (suc (suc (suc (suc zero)))) = Some 0
+height_eight (suc (suc (suc (suc (suc zero))))) = Some 0
+height_eight (suc (suc (suc (suc (suc (suc zero)))))) = Some 0
+height_eight (suc (suc (suc (suc (suc (suc (suc zero))))))) = Some 0
+height_eight (suc (suc (suc (suc (suc (suc (suc (suc m)))))))) = None
+
+proper_eight : IsProper (eight) height_eight
+proper_eight zero n is = tt
+proper_eight (suc zero) n is = tt
+proper_eight (suc (suc zero)) n is = tt
+proper_eight (suc (suc (suc zero))) n is = tt
+proper_eight (suc (suc (suc (suc zero)))) n is = tt
+proper_eight (suc (suc (suc (suc (suc zero))))) n is = tt
+proper_eight (suc (suc (suc (suc (suc (suc zero)))))) n is = tt
+proper_eight (suc (suc (suc (suc (suc (suc (suc zero))))))) n is = tt
+proper_eight (suc (suc (suc (suc (suc (suc (suc (suc m)))))))) n is = absurd cc
+
+pub sound_eight : IsSound (eight)
+sound_eight zero low = (height_eight, 0, proper_eight, refl)
+sound_eight (suc zero) low = (height_eight, 0, proper_eight, refl)
+sound_eight (suc (suc zero)) low = (height_eight, 0, proper_eight, refl)
+sound_eight (suc (suc (suc zero))) low = (height_eight, 0, proper_eight, refl)
+sound_eight (suc (suc (suc (suc zero)))) low = (height_eight, 0, proper_eight, refl)
+sound_eight (suc (suc (suc (suc (suc zero))))) low = (height_eight, 0, proper_eight, refl)
+sound_eight (suc (suc (suc (suc (suc (suc zero)))))) low = (height_eight, 0, proper_eight, refl)
+sound_eight (suc (suc (suc (suc (suc (suc (suc zero))))))) low = (height_eight, 0, proper_eight, refl)
+sound_eight (suc (suc (suc (suc (suc (suc (suc (suc m)))))))) low = absurd (omega (arith, low))
+
+-- the basic kinds and 1 more
+abbrev pub nine : (a : Form) → List Form
+nine a = basic.kinds ++ a ∷ []
+
+abbrev pub height_nine : Heighting
+height_nine zero = Some 0
+height_nine (suc zero) = Some 0
+height_nine (suc (suc zero)) = Some 0
+height_nine (suc (suc (suc zero))) = Some 0
+height_nine (suc (suc (suc (suc zero)))) = Some 0
+height_nine (suc (suc (suc (suc (suc zero))))) = Some 0
+height_nine (suc (suc (suc (suc (suc (suc zero)))))) = Some 0
+height_nine (suc (suc (suc (suc (suc (suc (suc zero))))))) = Some 0
+height_nine (suc (suc (suc (suc (suc (suc (suc (suc zero)))))))) = Some 1
+height_nine (suc (suc (suc (suc (suc (suc (suc (suc (suc m))))))))) = None
+
+proper_nine : (a : Form) → Asks (nine a) (IsBelow height_nine 1) a → IsProper (nine a) height_nine
+proper_nine a ha zero n is = tt
+proper_nine a ha (suc zero) n is = tt
+proper_nine a ha (suc (suc zero)) n is = tt
+proper_nine a ha (suc (suc (suc zero))) n is = tt
+proper_nine a ha (suc (suc (suc (suc zero)))) n is = tt
+proper_nine a ha (suc (suc (suc (suc (suc zero))))) n is = tt
+proper_nine a ha (suc (suc (suc (suc (suc (suc zero)))))) n is = tt
+proper_nine a ha (suc (suc (suc (suc (suc (suc (suc zero))))))) n is = tt
+proper_nine a ha (suc (suc (suc (suc (suc (suc (suc (suc zero)))))))) n is =
+    let same : 1 ≡ n = cc in subst (λ (k : ℕ). Asks (nine a) (IsBelow height_nine k) a) same ha
+proper_nine a ha (suc (suc (suc (suc (suc (suc (suc (suc (suc m))))))))) n is = absurd cc
+
+pub sound_nine : (a : Form) → Asks (nine a) (IsBelow height_nine 1) a → IsSound (nine a)
+sound_nine a ha zero low = (height_nine, 0, proper_nine a ha, refl)
+sound_nine a ha (suc zero) low = (height_nine, 0, proper_nine a ha, refl)
+sound_nine a ha (suc (suc zero)) low = (height_nine, 0, proper_nine a ha, refl)
+sound_nine a ha (suc (suc (suc zero))) low = (height_nine, 0, proper_nine a ha, refl)
+sound_nine a ha (suc (suc (suc (suc zero)))) low = (height_nine, 0, proper_nine a ha, refl)
+sound_nine a ha (suc (suc (suc (suc (suc zero))))) low = (height_nine, 0, proper_nine a ha, refl)
+sound_nine a ha (suc (suc (suc (suc (suc (suc zero)))))) low = (height_nine, 0, proper_nine a ha, refl)
+sound_nine a ha (suc (suc (suc (suc (suc (suc (suc zero))))))) low = (height_nine, 0, proper_nine a ha, refl)
+sound_nine a ha (suc (suc (suc (suc (suc (suc (suc (suc zero)))))))) low = (height_nine, 1, proper_nine a ha, refl)
+sound_nine a ha (suc (suc (suc (suc (suc (suc (suc (suc (suc m))))))))) low = absurd (omega (arith, low))
+
+-- the basic kinds and 2 more
+abbrev pub ten : (a b : Form) → List Form
+ten a b = basic.kinds ++ a ∷ b ∷ []
+
+abbrev pub height_ten : Heighting
+height_ten zero = Some 0
+height_ten (suc zero) = Some 0
+height_ten (suc (suc zero)) = Some 0
+height_ten (suc (suc (suc zero))) = Some 0
+height_ten (suc (suc (suc (suc zero)))) = Some 0
+height_ten (suc (suc (suc (suc (suc zero))))) = Some 0
+height_ten (suc (suc (suc (suc (suc (suc zero)))))) = Some 0
+height_ten (suc (suc (suc (suc (suc (suc (suc zero))))))) = Some 0
+height_ten (suc (suc (suc (suc (suc (suc (suc (suc zero)))))))) = Some 1
+height_ten (suc (suc (suc (suc (suc (suc (suc (suc (suc zero))))))))) = Some 2
+height_ten (suc (suc (suc (suc (suc (suc (suc (suc (suc (suc m)))))))))) = None
+
+proper_ten : (a b : Form) → Asks (ten a b) (IsBelow height_ten 1) a → Asks (ten a b) (IsBelow height_ten 2) b
+    → IsProper (ten a b) height_ten
+proper_ten a b ha hb zero n is = tt
+proper_ten a b ha hb (suc zero) n is = tt
+proper_ten a b ha hb (suc (suc zero)) n is = tt
+proper_ten a b ha hb (suc (suc (suc zero))) n is = tt
+proper_ten a b ha hb (suc (suc (suc (suc zero)))) n is = tt
+proper_ten a b ha hb (suc (suc (suc (suc (suc zero))))) n is = tt
+proper_ten a b ha hb (suc (suc (suc (suc (suc (suc zero)))))) n is = tt
+proper_ten a b ha hb (suc (suc (suc (suc (suc (suc (suc zero))))))) n is = tt
+proper_ten a b ha hb (suc (suc (suc (suc (suc (suc (suc (suc zero)))))))) n is =
+    let same : 1 ≡ n = cc in subst (λ (k : ℕ). Asks (ten a b) (IsBelow height_ten k) a) same ha
+proper_ten a b ha hb (suc (suc (suc (suc (suc (suc (suc (suc (suc zero))))))))) n is =
+    let same : 2 ≡ n = cc in subst (λ (k : ℕ). Asks (ten a b) (IsBelow height_ten k) b) same hb
+proper_ten a b ha hb (suc (suc (suc (suc (suc (suc (suc (suc (suc (suc m)))))))))) n is = absurd cc
+
+pub sound_ten : (a b : Form) → Asks (ten a b) (IsBelow height_ten 1) a → Asks (ten a b) (IsBelow height_ten 2) b
+    → IsSound (ten a b)
+sound_ten a b ha hb zero low = (height_ten, 0, proper_ten a b ha hb, refl)
+sound_ten a b ha hb (suc zero) low = (height_ten, 0, proper_ten a b ha hb, refl)
+sound_ten a b ha hb (suc (suc zero)) low = (height_ten, 0, proper_ten a b ha hb, refl)
+sound_ten a b ha hb (suc (suc (suc zero))) low = (height_ten, 0, proper_ten a b ha hb, refl)
+sound_ten a b ha hb (suc (suc (suc (suc zero)))) low = (height_ten, 0, proper_ten a b ha hb, refl)
+sound_ten a b ha hb (suc (suc (suc (suc (suc zero))))) low = (height_ten, 0, proper_ten a b ha hb, refl)
+sound_ten a b ha hb (suc (suc (suc (suc (suc (suc zero)))))) low = (height_ten, 0, proper_ten a b ha hb, refl)
+sound_ten a b ha hb (suc (suc (suc (suc (suc (suc (suc zero))))))) low = (height_ten, 0, proper_ten a b ha hb, refl)
+sound_ten a b ha hb (suc (suc (suc (suc (suc (suc (suc (suc zero)))))))) low =
+    (height_ten, 1, proper_ten a b ha hb, refl)
+sound_ten a b ha hb (suc (suc (suc (suc (suc (suc (suc (suc (suc zero))))))))) low =
+    (height_ten, 2, proper_ten a b ha hb, refl)
+sound_ten a b ha hb (suc (suc (suc (suc (suc (suc (suc (suc (suc (suc m)))))))))) low = absurd (omega (arith, low))
