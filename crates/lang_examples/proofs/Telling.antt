@@ -1,5 +1,6 @@
 -- What a text means, computed.
-use Rattle.std.proofs.Common.{◌≡◌, ◌≢◌, ◌≤◌, ◌<◌, arith, ℕ, inl, inr, eqb, subst, List, length, Option, Some, None, option_map, refl, sym, ap, ◌∙◌}
+use Rattle.std.proofs.Common.{◌≡◌, ◌≢◌, ◌≤◌, ◌<◌, arith, ℕ, inl, inr, eqb, subst}
+use Rattle.std.proofs.Common.{List, length, Option, Some, None, option_map, refl, sym, ap, ◌∙◌}
 use Rattle.std.proofs.Common.{Result, Ok, Err, IfOk, IfErr}
 use Rattle.std.specs.Prelude.{option_and_then, is_ok, false}
 use Rattle.xdr_tokens.proofs.Options.{some_is, some_is_not, bind_some}
