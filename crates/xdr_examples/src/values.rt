@@ -144,8 +144,8 @@ pub fn same_bytes_are_one_value(schema: &Schema, id: KindId, a: &Value, b: &Valu
     is_equal(a, b)
 }
 
-/// A union without a default has no value under a discriminant without an arm, whatever its part: the type of a file has
-/// none for 3 (RFC 4506 sections 4.15 and 7).
+/// A union without a default has no value under a discriminant without an arm, whatever its part: the type of a file
+/// has none for 3 (RFC 4506 sections 4.15 and 7).
 pub fn discriminant_without_a_part(schema: &Schema, part: Box<Value>, limits: Limits) -> bool
     requires { schema.now.kinds ≡ file_kinds }
     ensures { result ≡ false }
