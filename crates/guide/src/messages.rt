@@ -1,4 +1,6 @@
 //! Records, messages and the registry.
+ghost use Rattle.std.specs.Prelude.{◌≡◌, []};
+
 use crate::Told;
 use rpc_directory::Directory;
 use rpc_message::{
@@ -30,7 +32,9 @@ pub fn unmark(alloc: Global) -> Told {
 }
 
 // AUTH_NONE.
-fn no_auth(alloc: Global) -> OpaqueAuth {
+fn no_auth(alloc: Global) -> OpaqueAuth
+    ensures { result.body.items ≡ [] }
+{
     OpaqueAuth {
         flavor: 0,
         body: Vec::new(alloc),
