@@ -4,7 +4,7 @@ use Rattle.std.proofs.Common.{List, [], ◌∷◌, ◌++◌, length, Bool, true,
 use Rattle.std.proofs.Common.{eqb, eqb-true, Option, Some, None, refl, ap, ◌∙◌, arith, subst}
 use Rattle.std.proofs.lemmas.Bool.{eqb-false}
 use Rattle.std.specs.Prelude.{not, ◌&&◌, is_some}
-use Rattle.xdr_types.specs.Form.{Form, Lists}
+use Rattle.xdr_types.specs.Kinds.{KindView, Lists}
 use Rattle.xdr_types.specs.Named.{basic}
 use Rattle.xdr_types.specs.Faults.{kind_flaw_at, name_flaw_at, AreFlawless, IsWellFormed}
 use Rattle.xdr_types.specs.Sound.{Heighting, IsBelow, Asks, IsProper, IsSound}
@@ -49,7 +49,7 @@ well s few kinds names = record {
 }
 
 -- the basic kinds
-abbrev pub eight : List Form
+abbrev pub eight : List KindView
 eight = basic.kinds
 
 abbrev pub height_eight : Heighting
@@ -86,7 +86,7 @@ sound_eight (suc (suc (suc (suc (suc (suc (suc zero))))))) low = (height_eight, 
 sound_eight (suc (suc (suc (suc (suc (suc (suc (suc m)))))))) low = absurd (omega (arith, low))
 
 -- the basic kinds and 1 more
-abbrev pub nine : (a : Form) → List Form
+abbrev pub nine : (a : KindView) → List KindView
 nine a = basic.kinds ++ a ∷ []
 
 abbrev pub height_nine : Heighting
@@ -101,7 +101,7 @@ height_nine (suc (suc (suc (suc (suc (suc (suc zero))))))) = Some 0
 height_nine (suc (suc (suc (suc (suc (suc (suc (suc zero)))))))) = Some 1
 height_nine (suc (suc (suc (suc (suc (suc (suc (suc (suc m))))))))) = None
 
-proper_nine : (a : Form) → Asks (nine a) (IsBelow height_nine 1) a → IsProper (nine a) height_nine
+proper_nine : (a : KindView) → Asks (nine a) (IsBelow height_nine 1) a → IsProper (nine a) height_nine
 proper_nine a ha zero n is = tt
 proper_nine a ha (suc zero) n is = tt
 proper_nine a ha (suc (suc zero)) n is = tt
@@ -114,7 +114,7 @@ proper_nine a ha (suc (suc (suc (suc (suc (suc (suc (suc zero)))))))) n is =
     let same : 1 ≡ n = cc in subst (λ (k : ℕ). Asks (nine a) (IsBelow height_nine k) a) same ha
 proper_nine a ha (suc (suc (suc (suc (suc (suc (suc (suc (suc m))))))))) n is = absurd cc
 
-pub sound_nine : (a : Form) → Asks (nine a) (IsBelow height_nine 1) a → IsSound (nine a)
+pub sound_nine : (a : KindView) → Asks (nine a) (IsBelow height_nine 1) a → IsSound (nine a)
 sound_nine a ha zero low = (height_nine, 0, proper_nine a ha, refl)
 sound_nine a ha (suc zero) low = (height_nine, 0, proper_nine a ha, refl)
 sound_nine a ha (suc (suc zero)) low = (height_nine, 0, proper_nine a ha, refl)
@@ -127,7 +127,7 @@ sound_nine a ha (suc (suc (suc (suc (suc (suc (suc (suc zero)))))))) low = (heig
 sound_nine a ha (suc (suc (suc (suc (suc (suc (suc (suc (suc m))))))))) low = absurd (omega (arith, low))
 
 -- the basic kinds and 2 more
-abbrev pub ten : (a b : Form) → List Form
+abbrev pub ten : (a b : KindView) → List KindView
 ten a b = basic.kinds ++ a ∷ b ∷ []
 
 abbrev pub height_ten : Heighting
@@ -143,7 +143,7 @@ height_ten (suc (suc (suc (suc (suc (suc (suc (suc zero)))))))) = Some 1
 height_ten (suc (suc (suc (suc (suc (suc (suc (suc (suc zero))))))))) = Some 2
 height_ten (suc (suc (suc (suc (suc (suc (suc (suc (suc (suc m)))))))))) = None
 
-proper_ten : (a b : Form) → Asks (ten a b) (IsBelow height_ten 1) a → Asks (ten a b) (IsBelow height_ten 2) b
+proper_ten : (a b : KindView) → Asks (ten a b) (IsBelow height_ten 1) a → Asks (ten a b) (IsBelow height_ten 2) b
     → IsProper (ten a b) height_ten
 proper_ten a b ha hb zero n is = tt
 proper_ten a b ha hb (suc zero) n is = tt
@@ -159,7 +159,7 @@ proper_ten a b ha hb (suc (suc (suc (suc (suc (suc (suc (suc (suc zero))))))))) 
     let same : 2 ≡ n = cc in subst (λ (k : ℕ). Asks (ten a b) (IsBelow height_ten k) b) same hb
 proper_ten a b ha hb (suc (suc (suc (suc (suc (suc (suc (suc (suc (suc m)))))))))) n is = absurd cc
 
-pub sound_ten : (a b : Form) → Asks (ten a b) (IsBelow height_ten 1) a → Asks (ten a b) (IsBelow height_ten 2) b
+pub sound_ten : (a b : KindView) → Asks (ten a b) (IsBelow height_ten 1) a → Asks (ten a b) (IsBelow height_ten 2) b
     → IsSound (ten a b)
 sound_ten a b ha hb zero low = (height_ten, 0, proper_ten a b ha hb, refl)
 sound_ten a b ha hb (suc zero) low = (height_ten, 0, proper_ten a b ha hb, refl)

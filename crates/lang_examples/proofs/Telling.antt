@@ -14,7 +14,7 @@ use Rattle.xdr_lang.specs.Means.{Means}
 use Rattle.xdr_lang.specs.Views.{declared_of}
 use Rattle.xdr_lang.specs.steps.Meaning.{distinct_meaning}
 use Rattle.xdr_lang.proofs.Distinctly.{joined, parted}
-use Rattle.xdr_types.specs.Form.{Lists}
+use Rattle.xdr_types.specs.Kinds.{Lists}
 use Rattle.xdr_types.specs.Faults.{IsWellFormed}
 use Rattle.xdr_types.specs.Sound.{IsSound}
 use Rattle.lang_examples.proofs.Cutting.{cut, cut_is, cut_found}

@@ -1,7 +1,7 @@
 //! What `read` gives for texts that mean something (RFC 4506 section 6.4, RFC 5531 section 12): the kinds of a text
 //! come after the eight basic ones.
 ghost use Rattle.std.specs.Prelude.{◌≡◌, Some, None, IfOk, IfErr, [], ◌∷◌, codes, drop, map};
-ghost use Rattle.xdr_types.specs.Form as form;
+ghost use Rattle.xdr_types.specs.Kinds as xdr;
 ghost use Rattle.xdr_types.specs.Named.{named};
 ghost use Rattle.xdr_lang.specs.Declarations as said;
 ghost use Rattle.xdr_lang.specs.Means.{Means};
@@ -12,7 +12,7 @@ use xdr_lang::{Declared, LangFault, one_meaning, read};
 
 /// A fixed array and a variable one.
 pub fn arrays(alloc: Global) -> Result<Declared, LangFault>
-    ensures found { IfOk result (λ v. drop 8 (declared_of v).schema.kinds ≡ form.fixed 0 2 ∷ form.up_to 0 2 ∷ []) }
+    ensures found { IfOk result (λ v. drop 8 (declared_of v).schema.kinds ≡ xdr.fixed 0 2 ∷ xdr.up_to 0 2 ∷ []) }
     ensures taken { IfErr result (λ e. e.number ≡ 13) }
 {
     read(alloc, b"typedef int a[2]; typedef int b<2>;")
@@ -20,7 +20,7 @@ pub fn arrays(alloc: Global) -> Result<Declared, LangFault>
 
 /// A size that is left out is the greatest.
 pub fn missing_size(alloc: Global) -> Result<Declared, LangFault>
-    ensures found { IfOk result (λ v. drop 8 (declared_of v).schema.kinds ≡ form.text 4294967295 ∷ []) }
+    ensures found { IfOk result (λ v. drop 8 (declared_of v).schema.kinds ≡ xdr.text 4294967295 ∷ []) }
     ensures taken { IfErr result (λ e. e.number ≡ 13) }
 {
     read(alloc, b"typedef string a<>;")
@@ -29,7 +29,7 @@ pub fn missing_size(alloc: Global) -> Result<Declared, LangFault>
 /// A list: an entry holds the place of the next one, which may name the entry before that is declared.
 pub fn linked_list(alloc: Global) -> Result<Declared, LangFault>
     ensures found { IfOk result (λ v. drop 8 (declared_of v).schema.kinds ≡
-        form.maybe 9 ∷ form.structure (named (codes "n") 0 ∷ named (codes "next") 8 ∷ []) ∷ []) }
+        xdr.maybe 9 ∷ xdr.structure (named (codes "n") 0 ∷ named (codes "next") 8 ∷ []) ∷ []) }
     ensures taken { IfErr result (λ e. e.number ≡ 13) }
 {
     read(alloc, b"struct e{int n;e*next;};")

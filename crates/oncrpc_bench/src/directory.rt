@@ -1,5 +1,5 @@
-//! Calls of a registry again and again: WORK is `getaddr`, `refused` (a `set` of a row that is there), `last` or `first`
-//! (an `unset` of that row by its key, and a `set` of it again), and ROWS is 1 to 1024.
+//! Calls of a registry again and again: WORK is `getaddr`, `refused` (a `set` of a row that is there), `last` or
+//! `first` (an `unset` of that row by its key, and a `set` of it again), and ROWS is 1 to 1024.
 ghost use Rattle.std.specs.Prelude.{◌<◌};
 
 use rpc_directory::{Directory, NoMemory};
@@ -101,7 +101,8 @@ fn does(alloc: Global, what: &str, rows: u32, count: u32) -> Result<bool, NoMemo
     }
 }
 
-/// Does the work over so many rows so many times, by the words WORK, ROWS and COUNT, and says whether each call went well.
+/// Does the work over so many rows so many times, by the words WORK, ROWS and COUNT, and says whether each call went
+/// well.
 pub fn work(alloc: Global, words: &[String]) -> bool {
     let [what, rows, count] = words else {
         return false;

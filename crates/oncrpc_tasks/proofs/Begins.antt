@@ -1,5 +1,7 @@
 -- From what the decoder says of the bytes that were read to what stands for the whole input.
-use Rattle.std.proofs.Common.{◌≡◌, ℕ, ◌+◌, ◌<◌, ◌≤◌, ◌++◌, Bool, true, false, Option, None, Some, Result, Ok, Err, IfOk, Vec, Global, List, [], length, take, drop, sym, ap, ◌∙◌, refl, arith, append_assoc, length-append, length-drop}
+use Rattle.std.proofs.Common.{◌≡◌, ℕ, ◌+◌, ◌<◌, ◌≤◌, ◌++◌, Bool, true, false, Option, None, Some, Result, Ok, Err, IfOk}
+use Rattle.std.proofs.Common.{Vec, Global, List, [], length, take, drop, sym, ap, ◌∙◌, refl, arith, append_assoc}
+use Rattle.std.proofs.Common.{length-append, length-drop}
 use Rattle.std.proofs.lemmas.List.{take_all, take-append-le, take-append-drop, append-nil}
 use Rattle.std.proofs.Math.Seq.{take-append_seam}
 use Rattle.xdr_types.specs.Tree.{Tree}
@@ -14,7 +16,8 @@ use Rattle.oncrpc_tasks.specs.declared.given.Given.{Given}
 use Rattle.oncrpc_tasks.specs.declared.given.Given.TheVariants as given
 use Rattle.xdr_codec.specs.Refused.{IsRefused, HasNoneWithin}
 use Rattle.oncrpc_tasks.specs.Input.{BeginsInput, Gives, TextGives}
-use Rattle.oncrpc_tasks.specs.Right.{Question, BeginsWithValue, HasNoValue, IsRefusal, IsRight, IsRightFor, IsRightForText, lines_of}
+use Rattle.oncrpc_tasks.specs.Right.{Question, BeginsWithValue, HasNoValue, IsRefusal, IsRight, IsRightFor}
+use Rattle.oncrpc_tasks.specs.Right.{IsRightForText, lines_of}
 
 -- A value that takes all the bytes that were read takes the whole input.
 pub begins_whole : (q : Question) (whole bytes shown : List ℕ) (t : Tree) (n : ℕ)

@@ -1,8 +1,9 @@
 -- Where a name names no kind, nothing is asked.
-use Rattle.std.proofs.Common.{◌≡◌, ℕ, ◌<◌, List, length, Bool, false, Option, None, Some, MatchOption, sym, ◌∙◌, ap, subst, string_bytes}
+use Rattle.std.proofs.Common.{◌≡◌, ℕ, ◌<◌, List, length, Bool, false, Option, None, Some, MatchOption, sym, ◌∙◌, ap}
+use Rattle.std.proofs.Common.{subst, string_bytes}
 use Rattle.std.specs.Bool.{⊤, IsTrue}
 use Rattle.std.proofs.lemmas.Bool.{false≢true}
-use Rattle.xdr_types.specs.Form.{Form}
+use Rattle.xdr_types.specs.Kinds.{KindView}
 use Rattle.xdr_types.specs.declared.kind.KindId.{KindId}
 use Rattle.xdr_lang.specs.Declarations.{Declared}
 use Rattle.oncrpc_tasks.specs.declared.task.ValueTask.{ValueTask}
@@ -29,7 +30,7 @@ nothing_asked told what d o declares only missing =
           (λ (e : Declared). Names (string_bytes what.name) e q.place) same asks.named in
           let kinds : q.kinds ≡ d.schema.kinds = asks.kinds ∙ ap (λ (e : Declared). e.schema.kinds) same in
           not_there o q.place (length d.schema.kinds) (only q.place named) missing
-          (subst (λ (ks : List Form). q.place < length ks) kinds asks.known);
+          (subst (λ (ks : List KindView). q.place < length ks) kinds asks.known);
     }
 
 pub none_known : (o : Option KindId) (n : ℕ) → o ≡ None → MatchOption o ⊤ (λ (k : KindId). k.place < n → ⊥)

@@ -1,5 +1,6 @@
 -- How a task ends: what its exit status says of what it read and printed.
-use Rattle.std.specs.Prelude.{◌≡◌, ◌⊎◌, ℕ, ◌+◌, ◌≤◌, ◌<◌, Bool, true, false, List, ◌++◌, ◌∷◌, [], length, take, Option, None, Some, Ok, ⊤}
+use Rattle.std.specs.Prelude.{◌≡◌, ◌⊎◌, ℕ, ◌+◌, ◌≤◌, ◌<◌, Bool, true, false, List, ◌++◌, ◌∷◌, [], length, take, Option}
+use Rattle.std.specs.Prelude.{None, Some, Ok, ⊤}
 use Rattle.std.specs.Io.KnownBytes.{Appends}
 use Rattle.hex.specs.Hex.{decode_of, encode_lower}
 use Rattle.xdr_io.specs.Told.{Counts, CountsAtMost, MovesAtMost}

@@ -1,7 +1,8 @@
 -- Which answer is right for an input (RFC 4506: the bytes of a value, and what follows them).
-use Rattle.std.specs.Prelude.{◌≡◌, ℕ, ◌<◌, ◌≤◌, Bool, true, false, List, [], ◌++◌, length, Option, None, Some, Ok, ⊤, if◌then◌else◌}
+use Rattle.std.specs.Prelude.{◌≡◌, ℕ, ◌<◌, ◌≤◌, Bool, true, false, List, [], ◌++◌, length, Option, None, Some, Ok, ⊤}
+use Rattle.std.specs.Prelude.{if◌then◌else◌}
 use Rattle.hex.specs.Hex.{decode_of}
-use Rattle.xdr_types.specs.Form.{Form}
+use Rattle.xdr_types.specs.Kinds.{KindView}
 use Rattle.xdr_types.specs.Tree.{Tree}
 use Rattle.xdr_types.specs.Spelling.{bytes_of}
 use Rattle.xdr_types.specs.Within.{Bounds, FitsWithin}
@@ -14,7 +15,7 @@ use Rattle.oncrpc_tasks.specs.Hexadecimal.{digits, IsBadHex}
 
 -- what is asked: the kinds, the place of the value's kind, the limits, and whether the value's lines are to be shown
 pub record Question : Type 0 where
-  pub kinds : List Form
+  pub kinds : List KindView
   pub place : ℕ
   pub limits : Bounds
   pub shows : Bool

@@ -1,5 +1,6 @@
 //! Writes a stream of records in its normal form.
-ghost use Rattle.std.specs.Prelude.{◌≡◌, ◌≢◌, ◌⊎◌, ◌↔◌, ◌<◌, ◌≤◌, [], true, false, Option, List, ℕ, Some, IfOk, IfErr, OnOk, IsErrOf, string_bytes};
+ghost use Rattle.std.specs.Prelude.{◌≡◌, ◌≢◌, ◌⊎◌, ◌↔◌, ◌<◌, ◌≤◌, [], true, false, Option, List, ℕ, Some, IfOk, IfErr};
+ghost use Rattle.std.specs.Prelude.{OnOk, IsErrOf, string_bytes};
 ghost use Rattle.xdr_io.specs.Told.{Counts, CountsAtMost, MovesAtMost};
 ghost use Rattle.oncrpc_tasks.specs.Ends.{OfRecords, TaskEnds, IsFormInPart};
 ghost use Rattle.oncrpc_tasks.specs.Input.{most_read};

@@ -4,8 +4,8 @@ use Rattle.std.proofs.Common.{true, false, ◌&&◌, nat_lt, refl, sym, ◌∙�
 use Rattle.std.proofs.Common.{Err, MatchResult}
 use Rattle.std.specs.List.{AllByRecursion}
 use Rattle.std.proofs.lemmas.Bool.{false≢true}
-use Rattle.xdr_types.specs.Form as form
-use Rattle.xdr_types.specs.Form.{Form, Part, Lists, kind_at}
+use Rattle.xdr_types.specs.Kinds as xdr
+use Rattle.xdr_types.specs.Kinds.{KindView, Part, Lists, kind_at}
 use Rattle.xdr_types.specs.Faults.{AreFlawless, IsWellFormed, kind_flaw_at, name_flaw_at, fault}
 use Rattle.xdr_types.specs.Refused.{IsRefused}
 use Rattle.xdr_types.specs.Rounds.{given}
@@ -59,20 +59,20 @@ are_below n [] = true
 are_below n (p ∷ ps) = is_below (given heights p.kind) n && are_below n ps
 
 -- what a kind asks stands below n, as a test of the kinds that are there
-abbrev has_below : ℕ → Form → Bool
-has_below n (form.structure ps) = are_below n ps
-has_below n (form.maybe item) = true
-has_below n form.int = true
-has_below n form.unsigned = true
-has_below n form.hyper = true
-has_below n form.unsigned_hyper = true
-has_below n form.boolean = true
-has_below n form.nothing = true
-has_below n (form.opaque_up_to max) = true
-has_below n (form.text max) = true
+abbrev has_below : ℕ → KindView → Bool
+has_below n (xdr.structure ps) = are_below n ps
+has_below n (xdr.maybe item) = true
+has_below n xdr.int = true
+has_below n xdr.unsigned = true
+has_below n xdr.hyper = true
+has_below n xdr.unsigned_hyper = true
+has_below n xdr.boolean = true
+has_below n xdr.nothing = true
+has_below n (xdr.opaque_up_to max) = true
+has_below n (xdr.text max) = true
 has_below n _ = false
 
-abbrev all_below : List Form → List (Option ℕ) → Bool
+abbrev all_below : List KindView → List (Option ℕ) → Bool
 all_below [] [] = true
 all_below (f ∷ fs) (Some n ∷ ns) = has_below n f && all_below fs ns
 all_below _ _ = false
@@ -88,23 +88,23 @@ are-below n (p ∷ ps) h =
     let tests = both (is_below (given heights p.kind) n) (are_below n ps) h in
     (below-is (given heights p.kind) n tests.0, are-below n ps tests.1)
 
-asks : (kinds : List Form) (n : ℕ) (f : Form) → has_below n f ≡ true → Asks kinds (IsBelow (given heights) n) f
-asks kinds n (form.structure ps) h = are-below n ps h
-asks kinds n (form.maybe item) h = tt
-asks kinds n form.int h = tt
-asks kinds n form.unsigned h = tt
-asks kinds n form.hyper h = tt
-asks kinds n form.unsigned_hyper h = tt
-asks kinds n form.boolean h = tt
-asks kinds n form.nothing h = tt
-asks kinds n (form.opaque_up_to max) h = tt
-asks kinds n (form.text max) h = tt
-asks kinds n (form.numbered cs) h = absurd (false≢true h)
-asks kinds n (form.opaque size) h = absurd (false≢true h)
-asks kinds n (form.fixed item size) h = absurd (false≢true h)
-asks kinds n (form.up_to item max) h = absurd (false≢true h)
-asks kinds n (form.choice tag arms other) h = absurd (false≢true h)
-asks kinds n form.unknown h = absurd (false≢true h)
+asks : (kinds : List KindView) (n : ℕ) (f : KindView) → has_below n f ≡ true → Asks kinds (IsBelow (given heights) n) f
+asks kinds n (xdr.structure ps) h = are-below n ps h
+asks kinds n (xdr.maybe item) h = tt
+asks kinds n xdr.int h = tt
+asks kinds n xdr.unsigned h = tt
+asks kinds n xdr.hyper h = tt
+asks kinds n xdr.unsigned_hyper h = tt
+asks kinds n xdr.boolean h = tt
+asks kinds n xdr.nothing h = tt
+asks kinds n (xdr.opaque_up_to max) h = tt
+asks kinds n (xdr.text max) h = tt
+asks kinds n (xdr.numbered cs) h = absurd (false≢true h)
+asks kinds n (xdr.opaque size) h = absurd (false≢true h)
+asks kinds n (xdr.fixed item size) h = absurd (false≢true h)
+asks kinds n (xdr.up_to item max) h = absurd (false≢true h)
+asks kinds n (xdr.choice tag arms other) h = absurd (false≢true h)
+asks kinds n xdr.unknown h = absurd (false≢true h)
 
 some-is : (m n : ℕ) → Some m ≡ Some n → m ≡ n
 some-is m n e = cc
@@ -112,7 +112,7 @@ some-is m n e = cc
 none≢some : (m : ℕ) → None ≡ Some m → ⊥
 none≢some m e = cc
 
-proper : (kinds fs : List Form) (ns : List (Option ℕ)) → all_below fs ns ≡ true → (place n : ℕ)
+proper : (kinds fs : List KindView) (ns : List (Option ℕ)) → all_below fs ns ≡ true → (place n : ℕ)
     → given ns place ≡ Some n
     → Asks kinds (IsBelow (given heights) n) (kind_at fs place)
 proper kinds [] [] h place n e = absurd (none≢some n e)
@@ -125,7 +125,7 @@ proper kinds (f ∷ fs) (Some m ∷ ns) h zero n e =
 proper kinds (f ∷ fs) (Some m ∷ ns) h (suc place) n e =
     proper kinds fs ns (both (has_below m f) (all_below fs ns) h).1 place n e
 
-marked : (ns : List (Option ℕ)) (fs : List Form) (place : ℕ) → all_below fs ns ≡ true → place < length fs
+marked : (ns : List (Option ℕ)) (fs : List KindView) (place : ℕ) → all_below fs ns ≡ true → place < length fs
     → is_some (given ns place) ≡ true
 marked [] [] place h within = absurd (omega (arith, within))
 marked (o ∷ ns) [] place h within = absurd (omega (arith, within))

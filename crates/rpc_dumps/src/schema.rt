@@ -1,7 +1,7 @@
 //! The kinds and names of the registry's types.
 ghost use Rattle.std.specs.Prelude.{◌≡◌, ◌++◌, ◌∷◌, [], IfOk, MatchResult, map, string_bytes, OnOk};
-ghost use Rattle.xdr_types.specs.Form as form;
-ghost use Rattle.xdr_types.specs.Forms.{form_of, part_of_member, name_of, lists_of};
+ghost use Rattle.xdr_types.specs.Kinds as xdr;
+ghost use Rattle.xdr_types.specs.KindViews.{kind_view, part_of_member, name_of, lists_of};
 ghost use Rattle.xdr_types.specs.Faults.{IsWellFormed, fault};
 ghost use Rattle.xdr_types.specs.Sound.{IsSound};
 ghost use Rattle.xdr_types.specs.declared.fault.Flaw.TheVariants as flaw;
@@ -85,7 +85,7 @@ fn push_name(
 
 // A row of versions 3 and 4.
 fn rpcb_kind(alloc: Global) -> Result<Kind, AllocError>
-    ensures { IfOk result (λ k. form_of k ≡ rpcb) }
+    ensures { IfOk result (λ k. kind_view k ≡ rpcb) }
 {
     let mut fields = Vec::with_capacity(alloc, 5)?;
     push_field(&mut fields, alloc, "r_prog", 1)?;
@@ -115,7 +115,7 @@ fn push_field(
 
 // The kinds, the basic ones first.
 fn dir_kinds(alloc: Global) -> Result<Vec<Kind>, AllocError>
-    ensures { IfOk result (λ v. map form_of v.items ≡ dir_kinds) }
+    ensures { IfOk result (λ v. map kind_view v.items ≡ dir_kinds) }
 {
     let mut kinds = basic_kinds(alloc)?;
     push_kind(&mut kinds, Kind::Text { max: 4294967295 })?;
@@ -137,7 +137,7 @@ fn dir_kinds(alloc: Global) -> Result<Vec<Kind>, AllocError>
 
 // An optional value.
 fn maybe(place: u32) -> Kind
-    ensures { form_of result ≡ form.maybe place }
+    ensures { kind_view result ≡ xdr.maybe place }
 {
     Kind::Maybe {
         item: KindId { place },
@@ -146,7 +146,7 @@ fn maybe(place: u32) -> Kind
 
 // The basic kinds.
 fn basic_kinds(alloc: Global) -> Result<Vec<Kind>, AllocError>
-    ensures { IfOk result (λ v. map form_of v.items ≡ basic.kinds) }
+    ensures { IfOk result (λ v. map kind_view v.items ≡ basic.kinds) }
 {
     let mut kinds = Vec::with_capacity(alloc, 19)?;
     push_kind(&mut kinds, Kind::Int)?;
@@ -162,7 +162,7 @@ fn basic_kinds(alloc: Global) -> Result<Vec<Kind>, AllocError>
 
 // Adds a kind.
 fn push_kind(kinds: &mut Vec<Kind>, kind: Kind) -> Result<(), AllocError>
-    ensures { OnOk result (map form_of kinds.new.items ≡ map form_of kinds.old.items ++ form_of kind ∷ []) }
+    ensures { OnOk result (map kind_view kinds.new.items ≡ map kind_view kinds.old.items ++ kind_view kind ∷ []) }
 {
     kinds.push(kind)?;
     Ok(())
@@ -176,7 +176,7 @@ fn node_kind(
     next: &str,
     after: u32,
 ) -> Result<Kind, AllocError>
-    ensures { IfOk result (λ k. form_of k ≡ form.structure (named item.now place ∷ named next.now after ∷ [])) }
+    ensures { IfOk result (λ k. kind_view k ≡ xdr.structure (named item.now place ∷ named next.now after ∷ [])) }
 {
     let mut fields = Vec::with_capacity(alloc, 2)?;
     push_field(&mut fields, alloc, item, place)?;
@@ -186,7 +186,7 @@ fn node_kind(
 
 // A row of version 2.
 fn mapping_kind(alloc: Global) -> Result<Kind, AllocError>
-    ensures { IfOk result (λ k. form_of k ≡ mapping) }
+    ensures { IfOk result (λ k. kind_view k ≡ mapping) }
 {
     let mut fields = Vec::with_capacity(alloc, 4)?;
     push_field(&mut fields, alloc, "prog", 1)?;

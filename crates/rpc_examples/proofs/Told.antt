@@ -1,5 +1,6 @@
 -- What stands in the bytes of the examples.
-use Rattle.std.proofs.Common.{◌≡◌, ◌≢◌, ℕ, ◌<◌, ◌^◌, List, [], ◌∷◌, ◌++◌, length, get_or, Bool, true, false, Result, Ok, Err, refl, sym, ap, subst, ◌∙◌, arith, inl, inr}
+use Rattle.std.proofs.Common.{◌≡◌, ◌≢◌, ℕ, ◌<◌, ◌^◌, List, [], ◌∷◌, ◌++◌, length, get_or, Bool, true, false, Result, Ok}
+use Rattle.std.proofs.Common.{Err, refl, sym, ap, subst, ◌∙◌, arith, inl, inr}
 use Rattle.std.specs.Prelude.{OnErr, IfOk, IsOk, IsErr}
 use Rattle.xdr_units.specs.Numbers.{word, padded}
 use Rattle.xdr_units.proofs.Bytes.{same_word}
@@ -22,20 +23,42 @@ takes_none (Err e) bytes three h =
     let two : get_or bytes 11 0 ≡ 2 = version_is_two h.0 bytes h.1 in
     absurd (omega (arith, two, three))
 
-pub version_three : (bytes : List ℕ) → bytes ≡ 0 ∷ 0 ∷ 0 ∷ 2 ∷ 0 ∷ 0 ∷ 0 ∷ 0 ∷ 0 ∷ 0 ∷ 0 ∷ 3 ∷ [] → IsOtherVersion 2 3 bytes
-version_three bytes e = record { xid_fits = omega arith; version_fits = omega arith; other = λ (same : 3 ≡ 2). omega (arith, same); rest = []; parts = e }
+pub version_three : (bytes : List ℕ) → bytes ≡ 0 ∷ 0 ∷ 0 ∷ 2 ∷ 0 ∷ 0 ∷ 0 ∷ 0 ∷ 0 ∷ 0 ∷ 0 ∷ 3 ∷ []
+    → IsOtherVersion 2 3 bytes
+version_three bytes e = record {
+  xid_fits = omega arith;
+  version_fits = omega arith;
+  other = λ (same : 3 ≡ 2). omega (arith, same);
+  rest = [];
+  parts = e;
+}
 
 pub another_type : (bytes : List ℕ) → bytes ≡ 0 ∷ 0 ∷ 0 ∷ 1 ∷ 0 ∷ 0 ∷ 0 ∷ 1 ∷ 0 ∷ 0 ∷ 0 ∷ 3 ∷ [] → IsNoCall bytes
-another_type bytes e = inr (inl (record { xid = 1; kind = 1; rest = 0 ∷ 0 ∷ 0 ∷ 3 ∷ []; fits = (omega arith, omega arith); other = λ (same : 1 ≡ 0). omega (arith, same); parts = e }))
+another_type bytes e = inr (inl (record {
+  xid = 1;
+  kind = 1;
+  rest = 0 ∷ 0 ∷ 0 ∷ 3 ∷ [];
+  fits = (omega arith, omega arith);
+  other = λ (same : 1 ≡ 0). omega (arith, same);
+  parts = e;
+}))
 
-pub no_procedure : (bytes : List ℕ) → bytes ≡ 0 ∷ 0 ∷ 0 ∷ 1 ∷ 0 ∷ 0 ∷ 0 ∷ 0 ∷ 0 ∷ 0 ∷ 0 ∷ 2 ∷ 0 ∷ 1 ∷ 134 ∷ 160 ∷ 0 ∷ 0 ∷ 0 ∷ 2 ∷ [] → IsNoCall bytes
+pub no_procedure : (bytes : List ℕ) → bytes ≡ 0 ∷ 0 ∷ 0 ∷ 1 ∷ 0 ∷ 0 ∷ 0 ∷ 0 ∷ 0 ∷ 0 ∷ 0 ∷ 2 ∷ 0 ∷ 1 ∷ 134 ∷ 160 ∷ 0 ∷ 0
+    ∷ 0 ∷ 2 ∷ [] → IsNoCall bytes
 no_procedure bytes e =
     let size : length bytes ≡ 20 = ap length e in
-    inr (inr (record { xid = 1; rest = 0 ∷ 1 ∷ 134 ∷ 160 ∷ 0 ∷ 0 ∷ 0 ∷ 2 ∷ []; fits = omega arith; parts = e; short = omega (arith, size) }))
+    inr (inr (record {
+      xid = 1;
+      rest = 0 ∷ 1 ∷ 134 ∷ 160 ∷ 0 ∷ 0 ∷ 0 ∷ 2 ∷ [];
+      fits = omega arith;
+      parts = e;
+      short = omega (arith, size);
+    }))
 
 -- the null call up to its credential, and what follows
 abbrev pub null_front : List ℕ → List ℕ
-null_front rest = 0 ∷ 0 ∷ 0 ∷ 1 ∷ 0 ∷ 0 ∷ 0 ∷ 0 ∷ 0 ∷ 0 ∷ 0 ∷ 2 ∷ 0 ∷ 1 ∷ 134 ∷ 160 ∷ 0 ∷ 0 ∷ 0 ∷ 2 ∷ 0 ∷ 0 ∷ 0 ∷ 0 ∷ rest
+null_front rest = 0 ∷ 0 ∷ 0 ∷ 1 ∷ 0 ∷ 0 ∷ 0 ∷ 0 ∷ 0 ∷ 0 ∷ 0 ∷ 2 ∷ 0 ∷ 1 ∷ 134 ∷ 160 ∷ 0 ∷ 0 ∷ 0 ∷ 2 ∷ 0 ∷ 0 ∷ 0 ∷ 0
+    ∷ rest
 
 nothing_is_no_auth : NoAuth []
 nothing_is_no_auth = λ a rest fits e. let size : 0 ≡ length (auth a ++ rest) = ap length e in absurd cc
@@ -43,12 +66,22 @@ nothing_is_no_auth = λ a rest fits e. let size : 0 ≡ length (auth a ++ rest) 
 long_is_no_auth : NoAuth (word 0 ++ word 401)
 long_is_no_auth = λ a rest fits e.
     let parts : word 0 ++ (word 401 ++ []) ≡ word a.flavor ++ (word (length a.body) ++ (padded a.body ++ rest)) = e in
-    let behind = (same_word 0 a.flavor (word 401 ++ []) (word (length a.body) ++ (padded a.body ++ rest)) (omega arith) fits.flavor parts).1 in
-    let size : 401 ≡ length a.body = (same_word 401 (length a.body) [] (padded a.body ++ rest) (omega arith) (omega (arith, fits.short)) behind).0 in
+    let behind = (same_word 0 a.flavor (word 401 ++ []) (word (length a.body) ++ (padded a.body ++ rest))
+    (omega arith) fits.flavor parts).1 in
+    let size : 401 ≡ length a.body = (same_word 401 (length a.body) [] (padded a.body ++ rest) (omega arith)
+    (omega (arith, fits.short)) behind).0 in
     omega (arith, size, fits.short)
 
 no_credential : (bytes rest : List ℕ) → bytes ≡ null_front rest → NoAuth rest → IsBadCred 1 bytes
-no_credential bytes rest e bad = record { prog = 100000; vers = 2; proc = 0; rest = rest; fits = (omega arith, omega arith, omega arith, omega arith); parts = e; bad = bad }
+no_credential bytes rest e bad = record {
+  prog = 100000;
+  vers = 2;
+  proc = 0;
+  rest = rest;
+  fits = (omega arith, omega arith, omega arith, omega arith);
+  parts = e;
+  bad = bad;
+}
 
 pub missing_credential : (bytes : List ℕ) → bytes ≡ null_front [] → IsBadCred 1 bytes
 missing_credential bytes e = no_credential bytes [] e nothing_is_no_auth

@@ -15,11 +15,13 @@ use Rattle.rpc_message.specs.Reading.{word_at, auth_at, call_head_at, target_at,
 use Rattle.rpc_message.proofs.FieldLaws.{bind_ok, bind_err, guard_then, guard_fails, ok_is, ok_no_err, word_takes}
 use Rattle.rpc_message.proofs.FieldLaws.{word_again, word_fails, auth_takes, auth_again}
 
-read_or_cases : {A B : Type 0} (r : Result A ReplyFault) (other : B) (next : A → B) (P : B → Type 0) → ((e : ReplyFault) → r ≡ Err e → P other) → ((x : A) → r ≡ Ok x → P (next x)) → P (read_or r other next)
+read_or_cases : {A B : Type 0} (r : Result A ReplyFault) (other : B) (next : A → B) (P : B → Type 0)
+    → ((e : ReplyFault) → r ≡ Err e → P other) → ((x : A) → r ≡ Ok x → P (next x)) → P (read_or r other next)
 read_or_cases (Ok x) other next P bad good = good x refl
 read_or_cases (Err e) other next P bad good = bad e refl
 
-second_is : (x y m n : ℕ) (a b : List ℕ) → IsWord x → IsWord y → IsWord m → IsWord n → word x ++ word m ++ a ≡ word y ++ word n ++ b → m ≡ n
+second_is : (x y m n : ℕ) (a b : List ℕ) → IsWord x → IsWord y → IsWord m → IsWord n
+    → word x ++ word m ++ a ≡ word y ++ word n ++ b → m ≡ n
 second_is x y m n a b fx fy fm fn e =
     let behind = (same_word x y (word m ++ a) (word n ++ b) fx fy e).1 in
     (same_word m n a b fm fn behind).0
@@ -38,7 +40,8 @@ head_made xid kind version = cond (eqb kind.0 0) (Ok (xid.0, version.0, version.
 head_takes : (bytes : List ℕ) (h : Head) → AreBytes bytes → call_head_at bytes ≡ Ok h → HasHead bytes h
 unfolding call_head_at
 head_takes bytes h fits e =
-    let a = bind_ok (word_at bytes) (λ xid. word_at xid.1 >>= λ kind. word_at kind.1 >>= λ version. head_made xid kind version) h e in
+    let a = bind_ok (word_at bytes) (λ xid. word_at xid.1 >>= λ kind. word_at kind.1 >>= λ version. head_made xid kind
+    version) h e in
     let b = bind_ok (word_at a.0.1) (λ kind. word_at kind.1 >>= λ version. head_made a.0 kind version) h a.2 in
     let c = bind_ok (word_at b.0.1) (λ version. head_made a.0 b.0 version) h b.2 in
     let g = guard_then (eqb b.0.0 0) NotAReply (Ok (a.0.0, c.0.0, c.0.1)) h c.2 in
@@ -46,18 +49,28 @@ head_takes bytes h fits e =
     let t0 = word_takes bytes a.0 fits a.1 in
     let t1 = word_takes a.0.1 b.0 t0.0.rest_fits b.1 in
     let t2 = word_takes b.0.1 c.0 t1.0.rest_fits c.1 in
-    let parts : bytes ≡ word a.0.0 ++ (word 0 ++ (word c.0.0 ++ c.0.1)) = t0.0.parts ∙ ap (λ (t : List ℕ). word a.0.0 ++ t) (t1.0.parts ∙ ap (λ (k : ℕ). word k ++ b.0.1) zero_is ∙ ap (λ (t : List ℕ). word 0 ++ t) t2.0.parts) in
+    let parts : bytes ≡ word a.0.0 ++ (word 0 ++ (word c.0.0 ++ c.0.1)) = t0.0.parts
+    ∙ ap (λ (t : List ℕ). word a.0.0 ++ t)
+    (t1.0.parts ∙ ap (λ (k : ℕ). word k ++ b.0.1) zero_is ∙ ap (λ (t : List ℕ). word 0 ++ t) t2.0.parts) in
     let made : Head = (a.0.0, c.0.0, c.0.1) in
-    subst (HasHead bytes) (ok_is made h g.1) (record { xid = t0.1; version = t2.1; parts = parts; rest_fits = t2.0.rest_fits })
+    subst (HasHead bytes) (ok_is made h g.1)
+    (record { xid = t0.1; version = t2.1; parts = parts; rest_fits = t2.0.rest_fits })
 
-head_again : (xid version : ℕ) (rest : List ℕ) → IsWord xid → IsWord version → call_head_at (word xid ++ word 0 ++ word version ++ rest) ≡ Ok (xid, version, rest)
+head_again : (xid version : ℕ) (rest : List ℕ) → IsWord xid → IsWord version
+    → call_head_at (word xid ++ word 0 ++ word version ++ rest) ≡ Ok (xid, version, rest)
 unfolding call_head_at
-head_again xid version rest x v = rw (word_again xid (word 0 ++ (word version ++ rest)) x, word_again 0 (word version ++ rest) (omega arith), word_again version rest v) refl
+head_again xid version rest x v = rw (
+  word_again xid (word 0 ++ (word version ++ rest)) x,
+  word_again 0
+      (word version ++ rest) (omega arith),
+  word_again version rest v,
+) refl
 
 head_fails : (bytes : List ℕ) (d : ReplyFault) → AreBytes bytes → call_head_at bytes ≡ Err d → IsNoCall bytes
 unfolding call_head_at
 head_fails bytes d fits e =
-    elim (bind_err (word_at bytes) (λ xid. word_at xid.1 >>= λ kind. word_at kind.1 >>= λ version. head_made xid kind version) d e) [
+    elim (bind_err (word_at bytes) (λ xid. word_at xid.1 >>= λ kind. word_at kind.1 >>= λ version. head_made xid kind
+    version) d e) [
       | inl h ↦ inl (omega (arith, (word_fails bytes d h).0))
       | inr a ↦
           let t0 = word_takes bytes a.0 fits a.1 in
@@ -91,29 +104,41 @@ record HasTarget (bytes : List ℕ) (t : Target) : Type 0 where
 target_takes : (bytes : List ℕ) (t : Target) → AreBytes bytes → target_at bytes ≡ Ok t → HasTarget bytes t
 unfolding target_at
 target_takes bytes t fits e =
-    let a = bind_ok (word_at bytes) (λ prog. word_at prog.1 >>= λ vers. word_at vers.1 >>= λ proc. Ok (prog.0, vers.0, proc.0, proc.1)) t e in
+    let a = bind_ok (word_at bytes) (λ prog. word_at prog.1 >>= λ vers. word_at vers.1 >>= λ proc. Ok
+    (prog.0, vers.0, proc.0, proc.1)) t e in
     let b = bind_ok (word_at a.0.1) (λ vers. word_at vers.1 >>= λ proc. Ok (a.0.0, vers.0, proc.0, proc.1)) t a.2 in
     let c = bind_ok (word_at b.0.1) (λ proc. Ok (a.0.0, b.0.0, proc.0, proc.1)) t b.2 in
     let t0 = word_takes bytes a.0 fits a.1 in
     let t1 = word_takes a.0.1 b.0 t0.0.rest_fits b.1 in
     let t2 = word_takes b.0.1 c.0 t1.0.rest_fits c.1 in
-    let parts : bytes ≡ word a.0.0 ++ (word b.0.0 ++ (word c.0.0 ++ c.0.1)) = t0.0.parts ∙ ap (λ (t : List ℕ). word a.0.0 ++ t) (t1.0.parts ∙ ap (λ (t : List ℕ). word b.0.0 ++ t) t2.0.parts) in
+    let parts : bytes ≡ word a.0.0 ++ (word b.0.0 ++ (word c.0.0 ++ c.0.1)) = t0.0.parts
+    ∙ ap (λ (t : List ℕ). word a.0.0 ++ t) (t1.0.parts ∙ ap (λ (t : List ℕ). word b.0.0 ++ t) t2.0.parts) in
     let made : Target = (a.0.0, b.0.0, c.0.0, c.0.1) in
-    subst (HasTarget bytes) (ok_is made t c.2) (record { fits = (t0.1, t1.1, t2.1); parts = parts; rest_fits = t2.0.rest_fits })
+    subst (HasTarget bytes) (ok_is made t c.2)
+    (record { fits = (t0.1, t1.1, t2.1); parts = parts; rest_fits = t2.0.rest_fits })
 
-target_again : (prog vers proc : ℕ) (rest : List ℕ) → IsWord prog → IsWord vers → IsWord proc → target_at (word prog ++ word vers ++ word proc ++ rest) ≡ Ok (prog, vers, proc, rest)
+target_again : (prog vers proc : ℕ) (rest : List ℕ) → IsWord prog → IsWord vers → IsWord proc
+    → target_at (word prog ++ word vers ++ word proc ++ rest) ≡ Ok (prog, vers, proc, rest)
 unfolding target_at
-target_again prog vers proc rest x y z = rw (word_again prog (word vers ++ (word proc ++ rest)) x, word_again vers (word proc ++ rest) y, word_again proc rest z) refl
+target_again prog vers proc rest x y z =
+    rw (
+      word_again prog (word vers ++ (word proc ++ rest)) x,
+      word_again vers
+          (word proc ++ rest) y,
+      word_again proc rest z,
+    ) refl
 
 target_fails : (bytes : List ℕ) (d : ReplyFault) → AreBytes bytes → target_at bytes ≡ Err d → length bytes < 12
 unfolding target_at
 target_fails bytes d fits e =
-    elim (bind_err (word_at bytes) (λ prog. word_at prog.1 >>= λ vers. word_at vers.1 >>= λ proc. Ok (prog.0, vers.0, proc.0, proc.1)) d e) [
+    elim (bind_err (word_at bytes) (λ prog. word_at prog.1 >>= λ vers. word_at vers.1 >>= λ proc. Ok
+    (prog.0, vers.0, proc.0, proc.1)) d e) [
       | inl h ↦ omega (arith, (word_fails bytes d h).0)
       | inr a ↦
           let t0 = word_takes bytes a.0 fits a.1 in
           let len0 : length bytes ≡ 4 + length a.0.1 = ap length t0.0.parts ∙ length-append (word a.0.0) a.0.1 in
-          elim (bind_err (word_at a.0.1) (λ vers. word_at vers.1 >>= λ proc. Ok (a.0.0, vers.0, proc.0, proc.1)) d a.2) [
+          elim (bind_err (word_at a.0.1)
+          (λ vers. word_at vers.1 >>= λ proc. Ok (a.0.0, vers.0, proc.0, proc.1)) d a.2) [
             | inl h ↦ omega (arith, len0, (word_fails a.0.1 d h).0)
             | inr b ↦
                 let t1 = word_takes a.0.1 b.0 t0.0.rest_fits b.1 in
@@ -130,21 +155,44 @@ target_fails bytes d fits e =
 no_auth : (bytes : List ℕ) (d : ReplyFault) → auth_at bytes ≡ Err d → NoAuth bytes
 no_auth bytes d e = λ a rest fits parts. ok_no_err (a, rest) d (sym (ap auth_at parts ∙ auth_again a rest fits) ∙ e)
 
-front_is : (bytes : List ℕ) (h : Head) (t : Target) → h.1 ≡ 2 → HasHead bytes h → HasTarget h.2 t → bytes ≡ word h.0 ++ word 0 ++ word 2 ++ word t.0 ++ word t.1 ++ word t.2 ++ t.3
-front_is bytes h t two head target = head.parts ∙ ap (λ (v : ℕ). word h.0 ++ (word 0 ++ (word v ++ h.2))) two ∙ ap (λ (x : List ℕ). word h.0 ++ (word 0 ++ (word 2 ++ x))) target.parts
+front_is : (bytes : List ℕ) (h : Head) (t : Target) → h.1 ≡ 2 → HasHead bytes h → HasTarget h.2 t
+    → bytes ≡ word h.0 ++ word 0 ++ word 2 ++ word t.0 ++ word t.1 ++ word t.2 ++ t.3
+front_is bytes h t two head target = head.parts ∙ ap (λ (v : ℕ). word h.0 ++ (word 0 ++ (word v ++ h.2))) two
+    ∙ ap (λ (x : List ℕ). word h.0 ++ (word 0 ++ (word 2 ++ x))) target.parts
 
-verf_found : (bytes : List ℕ) (h : Head) (t : Target) (cred : AuthView × List ℕ) → h.1 ≡ 2 → HasHead bytes h → HasTarget h.2 t → auth_at t.3 ≡ Ok cred → IsCase bytes (verf_case h t cred)
+verf_found : (bytes : List ℕ) (h : Head) (t : Target) (cred : AuthView × List ℕ) → h.1 ≡ 2 → HasHead bytes h
+    → HasTarget h.2 t → auth_at t.3 ≡ Ok cred → IsCase bytes (verf_case h t cred)
 verf_found bytes h t cred two head target e =
     let front = front_is bytes h t two head target in
     let a = auth_takes t.3 cred target.rest_fits e in
-    let parts = front ∙ ap (λ (x : List ℕ). word h.0 ++ (word 0 ++ (word 2 ++ (word t.0 ++ (word t.1 ++ (word t.2 ++ x)))))) a.0.parts in
+    let parts = front ∙ ap (λ (x : List ℕ). word h.0
+    ++ (word 0 ++ (word 2 ++ (word t.0 ++ (word t.1 ++ (word t.2 ++ x)))))) a.0.parts in
     read_or_cases (auth_at cred.1) (BadVerf h.0) (whole_case h t cred) (IsCase bytes)
-    (λ d bad. record { prog = t.0; vers = t.1; proc = t.2; cred = cred.0; rest = cred.1; fits = (head.xid, target.fits.0, target.fits.1, target.fits.2); cred_fits = a.1; parts = parts; bad = no_auth cred.1 d bad })
+    (λ d bad. record {
+      prog = t.0;
+      vers = t.1;
+      proc = t.2;
+      cred = cred.0;
+      rest = cred.1;
+      fits = (head.xid, target.fits.0, target.fits.1, target.fits.2);
+      cred_fits = a.1;
+      parts = parts;
+      bad =
+          no_auth cred.1 d bad;
+    })
     (λ verf good.
     let v = auth_takes cred.1 verf a.0.rest_fits good in
     record {
-      fits = record { xid = head.xid; prog = target.fits.0; vers = target.fits.1; proc = target.fits.2; cred = a.1; verf = v.1 };
-      parts = parts ∙ ap (λ (x : List ℕ). word h.0 ++ (word 0 ++ (word 2 ++ (word t.0 ++ (word t.1 ++ (word t.2 ++ (auth cred.0 ++ x))))))) v.0.parts;
+      fits = record {
+        xid = head.xid;
+        prog = target.fits.0;
+        vers = target.fits.1;
+        proc = target.fits.2;
+        cred = a.1;
+        verf = v.1;
+      };
+      parts = parts ∙ ap (λ (x : List ℕ). word h.0
+          ++ (word 0 ++ (word 2 ++ (word t.0 ++ (word t.1 ++ (word t.2 ++ (auth cred.0 ++ x))))))) v.0.parts;
     })
 
 version_found : (bytes : List ℕ) (h : Head) → HasHead bytes h → IsCase bytes (version_case h)
@@ -154,15 +202,36 @@ version_found bytes h head =
     let two = eqb-true _ _ yes in
     read_or_cases (target_at h.2) NotACall (cred_case h) (IsCase bytes)
     (λ d bad.
-    let parts : bytes ≡ word h.0 ++ (word 0 ++ (word 2 ++ h.2)) = head.parts ∙ ap (λ (v : ℕ). word h.0 ++ (word 0 ++ (word v ++ h.2))) two in
+    let parts : bytes ≡ word h.0 ++ (word 0 ++ (word 2 ++ h.2)) = head.parts
+    ∙ ap (λ (v : ℕ). word h.0 ++ (word 0 ++ (word v ++ h.2))) two in
     let len : length bytes ≡ 12 + length h.2 = ap length parts ∙ length-append (word h.0 ++ (word 0 ++ word 2)) h.2 in
-    inr (inr (record { xid = h.0; rest = h.2; fits = head.xid; parts = parts; short = omega (arith, len, target_fails h.2 d head.rest_fits bad) })))
+    inr (inr (record {
+      xid = h.0;
+      rest = h.2;
+      fits = head.xid;
+      parts = parts;
+      short = omega (arith, len, target_fails h.2 d head.rest_fits bad);
+    })))
     (λ t good.
     let target = target_takes h.2 t head.rest_fits good in
     read_or_cases (auth_at t.3) (BadCred h.0) (verf_case h t) (IsCase bytes)
-    (λ d bad. record { prog = t.0; vers = t.1; proc = t.2; rest = t.3; fits = (head.xid, target.fits.0, target.fits.1, target.fits.2); parts = front_is bytes h t two head target; bad = no_auth t.3 d bad })
+    (λ d bad. record {
+      prog = t.0;
+      vers = t.1;
+      proc = t.2;
+      rest = t.3;
+      fits = (head.xid, target.fits.0, target.fits.1, target.fits.2);
+      parts = front_is bytes h t two head target;
+      bad = no_auth t.3 d bad;
+    })
     (λ cred e. verf_found bytes h t cred two head target e)))
-    (λ no. record { xid_fits = head.xid; version_fits = head.version; other = eqb-false _ _ no; rest = h.2; parts = head.parts })
+    (λ no. record {
+      xid_fits = head.xid;
+      version_fits = head.version;
+      other = eqb-false _ _ no;
+      rest = h.2;
+      parts = head.parts;
+    })
 
 pub case_found : (bytes : List ℕ) → AreBytes bytes → IsCase bytes (case_of bytes)
 unfolding case_of
@@ -178,15 +247,24 @@ whole_again c bytes e =
     let after_cred = auth c.verf ++ c.args in
     let after_target = auth c.cred ++ after_cred in
     let after_head = word c.prog ++ (word c.vers ++ (word c.proc ++ after_target)) in
-    ap case_of e.parts ∙ rw (head_again c.xid 2 after_head f.xid (omega arith), target_again c.prog c.vers c.proc after_target f.prog f.vers f.proc, auth_again c.cred after_cred f.cred, auth_again c.verf c.args f.verf) refl
+    ap case_of e.parts ∙ rw (
+      head_again c.xid 2 after_head f.xid
+          (omega arith),
+      target_again c.prog c.vers c.proc after_target f.prog f.vers f.proc,
+      auth_again c.cred after_cred
+          f.cred,
+      auth_again c.verf c.args f.verf,
+    ) refl
 
-other_again : (xid version : ℕ) (bytes : List ℕ) → IsOtherVersion xid version bytes → case_of bytes ≡ OtherVersion xid version
+other_again : (xid version : ℕ) (bytes : List ℕ) → IsOtherVersion xid version bytes
+    → case_of bytes ≡ OtherVersion xid version
 unfolding case_of
 other_again xid version bytes e =
     ap case_of e.parts ∙ rw (head_again xid version e.rest e.xid_fits e.version_fits, ne_eqb version 2 e.other) refl
 
 -- where no opaque_auth stands, none is read
-none_read : {B : Type 0} (bytes : List ℕ) (other : B) (next : AuthView × List ℕ → B) → AreBytes bytes → NoAuth bytes → read_or (auth_at bytes) other next ≡ other
+none_read : {B : Type 0} (bytes : List ℕ) (other : B) (next : AuthView × List ℕ → B) → AreBytes bytes → NoAuth bytes
+    → read_or (auth_at bytes) other next ≡ other
 none_read bytes other next fits none =
     read_or_cases (auth_at bytes) other next (λ k. k ≡ other) (λ d bad. refl)
     (λ x good. let t = auth_takes bytes x fits good in absurd (none x.0 x.1 t.1 t.0.parts))
@@ -199,7 +277,12 @@ cred_again xid bytes fits e =
     let rest_fits = AreBytes-after front e.rest (subst AreBytes e.parts fits) in
     let h : Head = (xid, 2, after_head) in
     let t : Target = (e.prog, e.vers, e.proc, e.rest) in
-    ap case_of e.parts ∙ rw (head_again xid 2 after_head e.fits.0 (omega arith), target_again e.prog e.vers e.proc e.rest e.fits.1 e.fits.2 e.fits.3) (none_read e.rest (BadCred xid) (verf_case h t) rest_fits e.bad)
+    ap case_of e.parts ∙ rw (
+      head_again xid 2 after_head e.fits.0
+          (omega arith),
+      target_again e.prog e.vers e.proc e.rest e.fits.1 e.fits.2 e.fits.3,
+    )
+    (none_read e.rest (BadCred xid) (verf_case h t) rest_fits e.bad)
 
 verf_again : (xid : ℕ) (bytes : List ℕ) → AreBytes bytes → IsBadVerf xid bytes → case_of bytes ≡ BadVerf xid
 unfolding case_of
@@ -207,10 +290,17 @@ verf_again xid bytes fits e =
     let front = word xid ++ (word 0 ++ (word 2 ++ (word e.prog ++ (word e.vers ++ word e.proc)))) in
     let after_target = auth e.cred ++ e.rest in
     let after_head = word e.prog ++ (word e.vers ++ (word e.proc ++ after_target)) in
-    let rest_fits = AreBytes-after (auth e.cred) e.rest (AreBytes-after front after_target (subst AreBytes e.parts fits)) in
+    let rest_fits = AreBytes-after (auth e.cred) e.rest
+    (AreBytes-after front after_target (subst AreBytes e.parts fits)) in
     let h : Head = (xid, 2, after_head) in
     let t : Target = (e.prog, e.vers, e.proc, after_target) in
-    ap case_of e.parts ∙ rw (head_again xid 2 after_head e.fits.0 (omega arith), target_again e.prog e.vers e.proc after_target e.fits.1 e.fits.2 e.fits.3, auth_again e.cred e.rest e.cred_fits) (none_read e.rest (BadVerf xid) (whole_case h t (e.cred, e.rest)) rest_fits e.bad)
+    ap case_of e.parts ∙ rw (
+      head_again xid 2 after_head e.fits.0
+          (omega arith),
+      target_again e.prog e.vers e.proc after_target e.fits.1 e.fits.2 e.fits.3,
+      auth_again e.cred
+          e.rest e.cred_fits,
+    ) (none_read e.rest (BadVerf xid) (whole_case h t (e.cred, e.rest)) rest_fits e.bad)
 
 none_again : (bytes : List ℕ) → AreBytes bytes → IsNoCall bytes → case_of bytes ≡ NotACall
 unfolding case_of
@@ -218,21 +308,25 @@ none_again bytes fits (inl short) =
     read_or_cases (call_head_at bytes) NotACall version_case (λ k. k ≡ NotACall) (λ d bad. refl)
     (λ h good.
     let head = head_takes bytes h fits good in
-    let len : length bytes ≡ 12 + length h.2 = ap length head.parts ∙ length-append (word h.0 ++ (word 0 ++ word h.1)) h.2 in
+    let len : length bytes ≡ 12 + length h.2 = ap length head.parts
+    ∙ length-append (word h.0 ++ (word 0 ++ word h.1)) h.2 in
     absurd (omega (arith, short, len)))
 none_again bytes fits (inr (inl e)) =
     read_or_cases (call_head_at bytes) NotACall version_case (λ k. k ≡ NotACall) (λ d bad. refl)
     (λ h good.
     let head = head_takes bytes h fits good in
-    absurd (e.other (second_is e.xid h.0 e.kind 0 e.rest (word h.1 ++ h.2) e.fits.0 head.xid e.fits.1 (omega arith) (sym e.parts ∙ head.parts))))
+    absurd (e.other (second_is e.xid h.0 e.kind 0 e.rest (word h.1 ++ h.2) e.fits.0 head.xid e.fits.1 (omega arith)
+    (sym e.parts ∙ head.parts))))
 none_again bytes fits (inr (inr e)) =
     ap case_of e.parts ∙ rw (head_again e.xid 2 e.rest e.fits (omega arith))
     (read_or_cases (target_at e.rest) NotACall (cred_case (e.xid, 2, e.rest)) (λ k. k ≡ NotACall) (λ d bad. refl)
     (λ t good.
-    let len : length bytes ≡ 12 + length e.rest = ap length e.parts ∙ length-append (word e.xid ++ (word 0 ++ word 2)) e.rest in
+    let len : length bytes ≡ 12 + length e.rest = ap length e.parts
+    ∙ length-append (word e.xid ++ (word 0 ++ word 2)) e.rest in
     let rest_fits = AreBytes-after (word e.xid ++ (word 0 ++ word 2)) e.rest (subst AreBytes e.parts fits) in
     let target = target_takes e.rest t rest_fits good in
-    let len2 : length e.rest ≡ 12 + length t.3 = ap length target.parts ∙ length-append (word t.0 ++ (word t.1 ++ word t.2)) t.3 in
+    let len2 : length e.rest ≡ 12 + length t.3 = ap length target.parts
+    ∙ length-append (word t.0 ++ (word t.1 ++ word t.2)) t.3 in
     absurd (omega (arith, len, len2, e.short))))
 
 pub case_again : (bytes : List ℕ) (k : CaseView) → AreBytes bytes → IsCase bytes k → case_of bytes ≡ k

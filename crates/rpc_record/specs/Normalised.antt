@@ -23,7 +23,8 @@ pub record Normalised (limit : ℕ) (left left' taken taken' : Option (List ℕ)
   pub written : Appends taken taken' (normal rs)
   pub counted : IsCount count rs
 
--- What a fault says of what was read, and what was written. Where memory was refused it was in the last 4096 bytes, the most
+-- What a fault says of what was read, and what was written. Where memory was refused it was in the last 4096 bytes, the
+-- most
 -- that a read gives.
 abbrev pub StopsBy : ℕ → List (List ℕ) → List ℕ → Option (List ℕ) → Option (List ℕ) → Option (List ℕ) → RecordFault
     → Type 0

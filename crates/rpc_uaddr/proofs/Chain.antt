@@ -72,7 +72,8 @@ no_sixth a b c d e (Some n ∷ []) never = absurd (never n refl)
 no_sixth a b c d e (Some n ∷ m ∷ os) never = refl
 
 -- the same of texts, each the rest of the one before
-pub no_last : (t t1 t2 t3 t4 t5 : List ℕ) (a b c d high : ℕ) → octets t ≡ Some a ∷ octets t1 → octets t1 ≡ Some b ∷ octets t2
+pub no_last : (t t1 t2 t3 t4 t5 : List ℕ) (a b c d high : ℕ) → octets t ≡ Some a ∷ octets t1
+    → octets t1 ≡ Some b ∷ octets t2
     → octets t2 ≡ Some c ∷ octets t3 → octets t3 ≡ Some d ∷ octets t4 → octets t4 ≡ Some high ∷ octets t5
     → HasNoOnly (octets t5) → None ≡ uaddr_of t
 no_last t t1 t2 t3 t4 t5 a b c d high e e1 e2 e3 e4 never =

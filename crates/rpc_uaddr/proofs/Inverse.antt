@@ -30,7 +30,8 @@ pub some_part : (t : List ℕ) → is_some (first (parts t)) ≡ true
 some_part [] = refl
 some_part (b ∷ bs) = by (nat_eq b 46) (parts bs) (some_part bs)
   where
-    by : (c : Bool) (ps : List (List ℕ)) → is_some (first ps) ≡ true → is_some (first (cond c ([] ∷ ps) (onto_first b ps))) ≡ true
+    by : (c : Bool) (ps : List (List ℕ)) → is_some (first ps) ≡ true
+        → is_some (first (cond c ([] ∷ ps) (onto_first b ps))) ≡ true
     by true ps e = refl
     by false [] e = e
     by false (p ∷ ps) e = refl
@@ -39,7 +40,8 @@ dots-parts : (t : List ℕ) → dots (parts t) ≡ t
 dots-parts [] = refl
 dots-parts (b ∷ bs) = by (nat_eq b 46) refl (parts bs) (some_part bs) (dots-parts bs)
   where
-    by : (c : Bool) → nat_eq b 46 ≡ c → (ps : List (List ℕ)) → is_some (first ps) ≡ true → dots ps ≡ bs → dots (cond c ([] ∷ ps) (onto_first b ps)) ≡ b ∷ bs
+    by : (c : Bool) → nat_eq b 46 ≡ c → (ps : List (List ℕ)) → is_some (first ps) ≡ true → dots ps ≡ bs
+        → dots (cond c ([] ∷ ps) (onto_first b ps)) ≡ b ∷ bs
     by true e [] s d = absurd (true≢false (sym s))
     by true e (p ∷ ps) s d = (λ j. sym ((Decides-eqb b 46).0 e) j ∷ d j)
     by false e ps s d = dots-onto b ps s ∙ ap (λ r. b ∷ r) d
@@ -55,7 +57,8 @@ value_of d (Some n) = n
 pub octet_is : (p : List ℕ) (n : ℕ) → octet p ≡ Some n → (p ≡ decimal n) × (n < 256)
 octet_is p n = by (bytes_eq p (decimal (digits_value 10 p)) && nat_lt (digits_value 10 p) 256) refl
   where
-    by : (c : Bool) → (bytes_eq p (decimal (digits_value 10 p)) && nat_lt (digits_value 10 p) 256) ≡ c → cond c (Some (digits_value 10 p)) None ≡ Some n → (p ≡ decimal n) × (n < 256)
+    by : (c : Bool) → (bytes_eq p (decimal (digits_value 10 p)) && nat_lt (digits_value 10 p) 256) ≡ c
+        → cond c (Some (digits_value 10 p)) None ≡ Some n → (p ≡ decimal n) × (n < 256)
     by false e f = absurd (true≢false (sym (ap is_some f)))
     by true e f =
         let w = and_both _ _ e in
@@ -65,7 +68,8 @@ octet_is p n = by (bytes_eq p (decimal (digits_value 10 p)) && nat_lt (digits_va
 
 port_halves : (high low : ℕ) → low < 256 → ((high * 256 + low) / 256 ≡ high) × ((high * 256 + low) % 256 ≡ low)
 port_halves high low h =
-    let n : 256 * ((high * 256 + low) / 256) + (high * 256 + low) % 256 ≡ high * 256 + low = div-add-mod (high * 256 + low) 256 in
+    let n : 256 * ((high * 256 + low) / 256) + (high * 256 + low) % 256 ≡ high * 256 + low =
+    div-add-mod (high * 256 + low) 256 in
     let m : (high * 256 + low) % 256 < 256 = mod-lt (high * 256 + low) (omega arith) in
     (omega (arith, n, m, h), omega (arith, n, m, h))
 
@@ -115,7 +119,8 @@ abbrev some : List (Option ℕ) → Bool
 some [] = false
 some (o ∷ os) = true
 
-decimals : (ps : List (List ℕ)) (ns : List ℕ) → map octet ps ≡ map Some ns → (ps ≡ map decimal ns) × AllByRecursion (λ n. n < 256) ns
+decimals : (ps : List (List ℕ)) (ns : List ℕ) → map octet ps ≡ map Some ns
+    → (ps ≡ map decimal ns) × AllByRecursion (λ n. n < 256) ns
 decimals [] [] e = (refl, tt)
 decimals [] (n ∷ ns) e = absurd (true≢false (sym (ap some e)))
 decimals (p ∷ ps) [] e = absurd (true≢false (ap some e))

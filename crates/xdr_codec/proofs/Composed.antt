@@ -1,8 +1,9 @@
 -- From heads and parts to values, and what is ruled out with them.
-use Rattle.std.proofs.Common.{◌≡◌, ℕ, ◌+◌, ◌<◌, ◌≤◌, List, [], ◌∷◌, ◌++◌, length, Bool, true, false, ◌&&◌, refl, ap, sym, ◌∙◌, subst, arith, append_assoc}
+use Rattle.std.proofs.Common.{◌≡◌, ℕ, ◌+◌, ◌<◌, ◌≤◌, List, [], ◌∷◌, ◌++◌, length, Bool, true, false, ◌&&◌, refl, ap}
+use Rattle.std.proofs.Common.{sym, ◌∙◌, subst, arith, append_assoc}
 use Rattle.std.proofs.lemmas.Bool.{false≢true}
 use Rattle.std.proofs.lemmas.List.{append-nil}
-use Rattle.xdr_types.specs.Form.{Form, Part, kind_at}
+use Rattle.xdr_types.specs.Kinds.{KindView, Part, kind_at}
 use Rattle.xdr_types.specs.Tree as value
 use Rattle.xdr_types.specs.Tree.{Head, Values, Tree, none, node, from_list, depth_of}
 use Rattle.xdr_types.specs.Fits.{fit, fits, is_legal, parts}
@@ -23,7 +24,7 @@ both false b h = absurd (false≢true h)
 all-true : (a b : Bool) → a ≡ true → b ≡ true → a && b ≡ true
 all-true a b h k = rw h k
 
-module _ (kinds : List Form) where
+module _ (kinds : List KindView) where
   -- a head and its parts are a value
   pub joined : (place d depth : ℕ) (b c rest : List ℕ) (h : Head) (vs : Values) → d + 1 ≡ depth
       → IsHead kinds (kind_at kinds place) b h c
@@ -135,11 +136,11 @@ module _ (kinds : List Form) where
   )
 
   -- a value without parts
-  pub leaf : (place depth : ℕ) (b rest : List ℕ) (t : Tree) (f : Form) → f ≡ kind_at kinds place → 0 < depth
+  pub leaf : (place depth : ℕ) (b rest : List ℕ) (t : Tree) (f : KindView) → f ≡ kind_at kinds place → 0 < depth
       → parts f t.0 ≡ [] → IsLeaf kinds f b t rest → IsRead kinds place depth b t rest
   leaf place depth b rest t f e deep bare l =
-      let empty : parts (kind_at kinds place) t.0 ≡ [] = ap (λ (g : Form). parts g t.0) (sym e) ∙ bare in
-      let legal : is_legal kinds (kind_at kinds place) t.0 ≡ true = ap (λ (g : Form). is_legal kinds g t.0) (sym e)
+      let empty : parts (kind_at kinds place) t.0 ≡ [] = ap (λ (g : KindView). parts g t.0) (sym e) ∙ bare in
+      let legal : is_legal kinds (kind_at kinds place) t.0 ≡ true = ap (λ (g : KindView). is_legal kinds g t.0) (sym e)
       ∙ l.1.0 in
       let inside : fit kinds (parts (kind_at kinds place) t.0) t.1
       ≡ true = ap (λ (ps : List Part). fit kinds ps t.1) empty ∙ ap (fit kinds []) l.0 in
@@ -150,6 +151,6 @@ module _ (kinds : List Form) where
       let shallow : depth_of t.1 ≡ 0 = ap depth_of l.0 in (
         all-true _ _ legal inside,
         omega (arith, shallow, deep),
-        l.1.1 ∙ ap (λ (g : Form). own g t.0 ++ rest) e
+        l.1.1 ∙ ap (λ (g : KindView). own g t.0 ++ rest) e
             ∙ ap (λ (z : List ℕ). z ++ rest) (sym bytes),
       )

@@ -1,9 +1,10 @@
 -- What one more piece brings.
-use Rattle.std.proofs.Common.{◌≡◌, ℕ, ◌+◌, ◌-◌, ◌≤◌, List, [], ◌++◌, length, take, drop, refl, ap, sym, ◌∙◌, subst, arith, inl, inr}
+use Rattle.std.proofs.Common.{◌≡◌, ℕ, ◌+◌, ◌-◌, ◌≤◌, List, [], ◌++◌, length, take, drop, refl, ap, sym, ◌∙◌, subst}
+use Rattle.std.proofs.Common.{arith, inl, inr}
 use Rattle.std.proofs.lemmas.Bool.{cases_lt}
 use Rattle.std.proofs.lemmas.List.{append-nil, take-append-le, take-append-drop}
 use Rattle.std.proofs.Math.Seq.{take-append-add}
-use Rattle.xdr_types.specs.Form.{Form}
+use Rattle.xdr_types.specs.Kinds.{KindView}
 use Rattle.xdr_types.specs.Tree.{Tree}
 use Rattle.xdr_types.specs.Spelling.{bytes_of}
 use Rattle.xdr_types.specs.Within.{Bounds, FitsWithin}
@@ -15,7 +16,7 @@ use Rattle.xdr_codec.specs.declared.state.State.TheVariants.{Fresh, Waiting}
 use Rattle.xdr_codec.specs.Refused.{MayFollow, IsRefused, HasNoneWithin}
 use Rattle.xdr_codec.specs.Stands.{StandsAs, IsWhole, Fails}
 
-module _ (kinds : List Form) (place : ℕ) (limits : Bounds) where
+module _ (kinds : List KindView) (place : ℕ) (limits : Bounds) where
   -- the bytes are kept, and no value ends before their end
   pub record IsOpen (bytes b : List ℕ) : Type 0 where
     pub same : bytes ≡ b

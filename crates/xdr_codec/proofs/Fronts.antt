@@ -1,9 +1,11 @@
 -- Numbers and content at the front of bytes, and what rules them out.
-use Rattle.std.proofs.Common.{◌≡◌, ℕ, suc, ◌+◌, ◌-◌, ◌%◌, ◌<◌, ◌≤◌, ◌^◌, ℤ, pos, negsuc, zero, List, [], ◌∷◌, ◌++◌, ◌==◌, length, replicate, Bool, true, false, ◌&&◌, refl, ap, sym, ◌∙◌, subst, arith, append_assoc, eqb-true, leb-true, le-leb}
+use Rattle.std.proofs.Common.{◌≡◌, ℕ, suc, ◌+◌, ◌-◌, ◌%◌, ◌<◌, ◌≤◌, ◌^◌, ℤ, pos, negsuc, zero, List, [], ◌∷◌, ◌++◌}
+use Rattle.std.proofs.Common.{◌==◌, length, replicate, Bool, true, false, ◌&&◌, refl, ap, sym, ◌∙◌, subst, arith}
+use Rattle.std.proofs.Common.{append_assoc, eqb-true, leb-true, le-leb}
 use Rattle.std.proofs.lemmas.Bool.{false≢true}
 use Rattle.std.proofs.lemmas.List.{length-append, length-replicate}
-use Rattle.xdr_types.specs.Form as form
-use Rattle.xdr_types.specs.Form.{Form, Part, Branch, Constant, kind_at}
+use Rattle.xdr_types.specs.Kinds as xdr
+use Rattle.xdr_types.specs.Kinds.{KindView, Part, Branch, Constant, kind_at}
 use Rattle.xdr_types.specs.Tree as value
 use Rattle.xdr_types.specs.Tree.{Head, Values, Tree}
 use Rattle.xdr_units.specs.Numbers.{num4, num8, number_of, pad, padded}
@@ -54,63 +56,63 @@ same_signed : (k : ℤ) → is_signed 2147483648 k ≡ true → (z : ℤ) → is
 same_signed k fits z ok e = signed4 z k ok fits e
 
 -- the number that the first unit of a kind must be
-abbrev pub first_number : List Form → Form → ℤ → Bool
-first_number kinds form.int z = is_signed 2147483648 z
-first_number kinds form.unsigned z = is_unsigned 4294967295 z
-first_number kinds form.boolean z = is_unsigned 1 z
-first_number kinds (form.numbered constants) z = is_numbered constants z
-first_number kinds (form.opaque_up_to max) z = is_count max z
-first_number kinds (form.text max) z = is_count max z
-first_number kinds (form.up_to item max) z = is_count max z
-first_number kinds (form.choice tag arms other) z = is_case kinds tag arms other z
-first_number kinds (form.maybe item) z = is_unsigned 1 z
+abbrev pub first_number : List KindView → KindView → ℤ → Bool
+first_number kinds xdr.int z = is_signed 2147483648 z
+first_number kinds xdr.unsigned z = is_unsigned 4294967295 z
+first_number kinds xdr.boolean z = is_unsigned 1 z
+first_number kinds (xdr.numbered constants) z = is_numbered constants z
+first_number kinds (xdr.opaque_up_to max) z = is_count max z
+first_number kinds (xdr.text max) z = is_count max z
+first_number kinds (xdr.up_to item max) z = is_count max z
+first_number kinds (xdr.choice tag arms other) z = is_case kinds tag arms other z
+first_number kinds (xdr.maybe item) z = is_unsigned 1 z
 first_number kinds _ z = true
 
-abbrev pub HasFirst : Form → Type 0
-HasFirst form.int = Unit {0}
-HasFirst form.unsigned = Unit {0}
-HasFirst form.boolean = Unit {0}
-HasFirst (form.numbered constants) = Unit {0}
-HasFirst (form.opaque_up_to max) = Unit {0}
-HasFirst (form.text max) = Unit {0}
-HasFirst (form.up_to item max) = Unit {0}
-HasFirst (form.choice tag arms other) = Unit {0}
-HasFirst (form.maybe item) = Unit {0}
+abbrev pub HasFirst : KindView → Type 0
+HasFirst xdr.int = Unit {0}
+HasFirst xdr.unsigned = Unit {0}
+HasFirst xdr.boolean = Unit {0}
+HasFirst (xdr.numbered constants) = Unit {0}
+HasFirst (xdr.opaque_up_to max) = Unit {0}
+HasFirst (xdr.text max) = Unit {0}
+HasFirst (xdr.up_to item max) = Unit {0}
+HasFirst (xdr.choice tag arms other) = Unit {0}
+HasFirst (xdr.maybe item) = Unit {0}
 HasFirst _ = ⊥
 
 flag_fits : (b : Bool) → is_unsigned 1 (number_of b) ≡ true
 flag_fits true = refl
 flag_fits false = refl
 
-module _ (kinds : List Form) where
+module _ (kinds : List KindView) where
   -- no number, no head
-  no_first : (f : Form) (b : List ℕ) → HasFirst f → HasNoNumber (first_number kinds f) b → HasNoHead kinds f b
-  no_first form.int b has none (value.int z) x ok e = none z x ok e
-  no_first form.int b has none _ x ok e = absurd (false≢true ok)
-  no_first form.unsigned b has none (value.unsigned n) x ok e = none (pos n) x ok e
-  no_first form.unsigned b has none _ x ok e = absurd (false≢true ok)
-  no_first form.boolean b has none (value.boolean flag) x ok e = none (number_of flag) x (flag_fits flag) e
-  no_first form.boolean b has none _ x ok e = absurd (false≢true ok)
-  no_first (form.numbered cs) b has none (value.numbered z) x ok e = none z x ok e
-  no_first (form.numbered cs) b has none _ x ok e = absurd (false≢true ok)
-  no_first (form.opaque_up_to max) b has none (value.bytes bs) x ok e =
+  no_first : (f : KindView) (b : List ℕ) → HasFirst f → HasNoNumber (first_number kinds f) b → HasNoHead kinds f b
+  no_first xdr.int b has none (value.int z) x ok e = none z x ok e
+  no_first xdr.int b has none _ x ok e = absurd (false≢true ok)
+  no_first xdr.unsigned b has none (value.unsigned n) x ok e = none (pos n) x ok e
+  no_first xdr.unsigned b has none _ x ok e = absurd (false≢true ok)
+  no_first xdr.boolean b has none (value.boolean flag) x ok e = none (number_of flag) x (flag_fits flag) e
+  no_first xdr.boolean b has none _ x ok e = absurd (false≢true ok)
+  no_first (xdr.numbered cs) b has none (value.numbered z) x ok e = none z x ok e
+  no_first (xdr.numbered cs) b has none _ x ok e = absurd (false≢true ok)
+  no_first (xdr.opaque_up_to max) b has none (value.bytes bs) x ok e =
       none (pos (length bs)) (padded bs ++ x) (both _ _ ok).0
       (sym (append_assoc (num4 (pos (length bs))) (padded bs) x) ∙ e)
-  no_first (form.opaque_up_to max) b has none _ x ok e = absurd (false≢true ok)
-  no_first (form.text max) b has none (value.bytes bs) x ok e =
+  no_first (xdr.opaque_up_to max) b has none _ x ok e = absurd (false≢true ok)
+  no_first (xdr.text max) b has none (value.bytes bs) x ok e =
       none (pos (length bs)) (padded bs ++ x) (both _ _ ok).0
       (sym (append_assoc (num4 (pos (length bs))) (padded bs) x) ∙ e)
-  no_first (form.text max) b has none _ x ok e = absurd (false≢true ok)
-  no_first (form.up_to item max) b has none (value.items n) x ok e = none (pos n) x ok e
-  no_first (form.up_to item max) b has none _ x ok e = absurd (false≢true ok)
-  no_first (form.choice tag arms other) b has none (value.tag z) x ok e = none z x ok e
-  no_first (form.choice tag arms other) b has none _ x ok e = absurd (false≢true ok)
-  no_first (form.maybe item) b has none value.present x ok e = none (pos 1) x refl e
-  no_first (form.maybe item) b has none value.absent x ok e = none (pos 0) x refl e
-  no_first (form.maybe item) b has none _ x ok e = absurd (false≢true ok)
+  no_first (xdr.text max) b has none _ x ok e = absurd (false≢true ok)
+  no_first (xdr.up_to item max) b has none (value.items n) x ok e = none (pos n) x ok e
+  no_first (xdr.up_to item max) b has none _ x ok e = absurd (false≢true ok)
+  no_first (xdr.choice tag arms other) b has none (value.tag z) x ok e = none z x ok e
+  no_first (xdr.choice tag arms other) b has none _ x ok e = absurd (false≢true ok)
+  no_first (xdr.maybe item) b has none value.present x ok e = none (pos 1) x refl e
+  no_first (xdr.maybe item) b has none value.absent x ok e = none (pos 0) x refl e
+  no_first (xdr.maybe item) b has none _ x ok e = absurd (false≢true ok)
   no_first _ b has none _ x ok e = absurd has
 
-  pub refused_first : (f : Form) (why : Reason) (b : List ℕ) → HasFirst f
+  pub refused_first : (f : KindView) (why : Reason) (b : List ℕ) → HasFirst f
       → IsRefused (HasNoNumber (first_number kinds f)) why b → IsRefused (HasNoHead kinds f) why b
   refused_first f why b has none y follows = no_first f (b ++ y) has (none y follows)
 
@@ -127,19 +129,19 @@ module _ (kinds : List Form) where
 
   pub refused_opaque_up_to : (max n : ℕ) (why : Reason) (b c : List ℕ) → is_count max (pos n) ≡ true
       → b ≡ num4 (pos n) ++ c → IsRefused (HasNoContent n) why c
-      → IsRefused (HasNoHead kinds (form.opaque_up_to max)) why b
+      → IsRefused (HasNoHead kinds (xdr.opaque_up_to max)) why b
   refused_opaque_up_to max n why b c fits is none y follows (value.bytes bs) x ok e = refused_counted max n why b c fits
       is none y follows bs x ok e
   refused_opaque_up_to max n why b c fits is none y follows _ x ok e = absurd (false≢true ok)
 
   pub refused_text : (max n : ℕ) (why : Reason) (b c : List ℕ) → is_count max (pos n) ≡ true → b ≡ num4 (pos n) ++ c
-      → IsRefused (HasNoContent n) why c → IsRefused (HasNoHead kinds (form.text max)) why b
+      → IsRefused (HasNoContent n) why c → IsRefused (HasNoHead kinds (xdr.text max)) why b
   refused_text max n why b c fits is none y follows (value.bytes bs) x ok e = refused_counted max n why b c fits is none
       y follows bs x ok e
   refused_text max n why b c fits is none y follows _ x ok e = absurd (false≢true ok)
 
   pub refused_opaque : (size : ℕ) (why : Reason) (b : List ℕ) → IsRefused (HasNoContent size) why b
-      → IsRefused (HasNoHead kinds (form.opaque size)) why b
+      → IsRefused (HasNoHead kinds (xdr.opaque size)) why b
   refused_opaque size why b none y follows (value.bytes bs) x ok e = none y follows bs x
       (eqb-true (length bs) size (both _ _ ok).0) e
   refused_opaque size why b none y follows _ x ok e = absurd (false≢true ok)
@@ -154,12 +156,12 @@ module _ (kinds : List Form) where
       omega (arith, counts, long, none, short)
 
   pub refused_hyper : (why : Reason) (b : List ℕ) → why ≡ reason.Truncated → length b < 8
-      → IsRefused (HasNoHead kinds form.hyper) why b
+      → IsRefused (HasNoHead kinds xdr.hyper) why b
   refused_hyper why b e short y follows (value.hyper z) x ok is = absurd (too_few z why b x y e short follows is)
   refused_hyper why b e short y follows _ x ok is = absurd (false≢true ok)
 
   pub refused_unsigned_hyper : (why : Reason) (b : List ℕ) → why ≡ reason.Truncated → length b < 8
-      → IsRefused (HasNoHead kinds form.unsigned_hyper) why b
+      → IsRefused (HasNoHead kinds xdr.unsigned_hyper) why b
   refused_unsigned_hyper why b e short y follows (value.unsigned_hyper n) x ok is = absurd
       (too_few (pos n) why b x y e short follows is)
   refused_unsigned_hyper why b e short y follows _ x ok is = absurd (false≢true ok)

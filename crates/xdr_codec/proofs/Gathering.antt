@@ -1,5 +1,6 @@
 -- The steps of a gathering.
-use Rattle.std.proofs.Common.{◌≡◌, ℕ, zero, suc, ◌+◌, ◌-◌, ◌<◌, ◌≤◌, ◌^◌, List, [], ◌∷◌, ◌++◌, length, take, drop, refl, sym, ap, subst, ◌∙◌, arith, Option}
+use Rattle.std.proofs.Common.{◌≡◌, ℕ, zero, suc, ◌+◌, ◌-◌, ◌<◌, ◌≤◌, ◌^◌, List, [], ◌∷◌, ◌++◌, length, take, drop, refl}
+use Rattle.std.proofs.Common.{sym, ap, subst, ◌∙◌, arith, Option}
 use Rattle.std.proofs.lemmas.List.{append-nil, length-append, take_all, take-append-drop, take-append-le, length-drop}
 use Rattle.std.specs.Io.KnownBytes.{Appends}
 use Rattle.xdr_io.specs.Told.{Counts}

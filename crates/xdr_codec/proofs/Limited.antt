@@ -1,9 +1,10 @@
 -- From the bytes up to the limit to all bytes.
-use Rattle.std.proofs.Common.{◌≡◌, ℕ, ◌+◌, ◌-◌, ◌≤◌, List, [], ◌++◌, length, take, drop, Bool, true, false, refl, ap, sym, ◌∙◌, subst, arith, append_assoc, nat_le, leb-true, leb-false, min, inl, inr}
+use Rattle.std.proofs.Common.{◌≡◌, ℕ, ◌+◌, ◌-◌, ◌≤◌, List, [], ◌++◌, length, take, drop, Bool, true, false, refl, ap}
+use Rattle.std.proofs.Common.{sym, ◌∙◌, subst, arith, append_assoc, nat_le, leb-true, leb-false, min, inl, inr}
 use Rattle.std.proofs.lemmas.Bool.{cases_lt}
 use Rattle.std.proofs.lemmas.List.{append-nil, length-append, length-take, take_all, take-append-drop, take-take}
 use Rattle.std.proofs.Math.Seq.{take-append-add}
-use Rattle.xdr_types.specs.Form.{Form}
+use Rattle.xdr_types.specs.Kinds.{KindView}
 use Rattle.xdr_types.specs.Tree.{Tree}
 use Rattle.xdr_types.specs.Fits.{fits}
 use Rattle.xdr_types.specs.Spelling.{bytes_of}
@@ -28,7 +29,7 @@ front_is xs n k e = elim (cases_lt n (length xs)) [
       ∙ sym (take_all n xs ge))
 ]
 
-module _ (kinds : List Form) (place : ℕ) (limits : Bounds) where
+module _ (kinds : List KindView) (place : ℕ) (limits : Bounds) where
   -- not full: the front is the whole input
   small : (input y : List ℕ) → HasNoValue kinds place limits.depth (input ++ y)
       → HasNoneWithin kinds place limits (input ++ y)

@@ -1,6 +1,6 @@
 -- What a refusal of bytes says.
 use Rattle.std.specs.Prelude.{◌≡◌, ℕ, List, [], ◌++◌, ⊤}
-use Rattle.xdr_types.specs.Form.{Form}
+use Rattle.xdr_types.specs.Kinds.{KindView}
 use Rattle.xdr_types.specs.Tree.{Tree}
 use Rattle.xdr_types.specs.Spelling.{bytes_of}
 use Rattle.xdr_types.specs.Within.{Bounds, FitsWithin}
@@ -34,7 +34,7 @@ MayFollow reason.Truncated y = y ≡ []
 MayFollow reason.NoMemory y = ⊥
 
 -- no value of the kind within the limits begins the bytes
-abbrev pub HasNoneWithin : List Form → ℕ → Bounds → List ℕ → Type 0
+abbrev pub HasNoneWithin : List KindView → ℕ → Bounds → List ℕ → Type 0
 HasNoneWithin kinds place limits b = (t : Tree) (x : List ℕ) → FitsWithin kinds place limits t
     → bytes_of kinds place t ++ x ≡ b → ⊥
 

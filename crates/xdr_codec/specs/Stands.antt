@@ -1,6 +1,6 @@
 -- Which bytes a decoder has been given, and what its answers say of them.
 use Rattle.std.specs.Prelude.{◌≡◌, ℕ, ◌≤◌, List, [], ◌++◌, length, take, Result, Ok, Err, ⊤}
-use Rattle.xdr_types.specs.Form.{Form, Lists}
+use Rattle.xdr_types.specs.Kinds.{KindView, Lists}
 use Rattle.xdr_types.specs.Tree.{Tree}
 use Rattle.xdr_types.specs.Spelling.{bytes_of}
 use Rattle.xdr_types.specs.View.{tree}
@@ -17,15 +17,15 @@ use Rattle.xdr_codec.specs.declared.state.Progress.TheVariants.{More, Done}
 use Rattle.xdr_codec.specs.declared.state.Decoder.{Decoder}
 
 -- a value of the kind within the limits, whose encoding the bytes are
-abbrev pub IsWhole : List Form → ℕ → Bounds → Tree → List ℕ → Type 0
+abbrev pub IsWhole : List KindView → ℕ → Bounds → Tree → List ℕ → Type 0
 IsWhole kinds place limits t b = FitsWithin kinds place limits t × (bytes_of kinds place t ≡ b)
 
 -- unless memory was refused, no value begins the bytes, however they go on
-abbrev pub Fails : List Form → ℕ → Bounds → DecodeFault → List ℕ → Type 0
+abbrev pub Fails : List KindView → ℕ → Bounds → DecodeFault → List ℕ → Type 0
 Fails kinds place limits f b = (f.why ≡ reason.Truncated → ⊥)
     × ((f.why ≡ reason.NoMemory → ⊥) → (y : List ℕ) → HasNoneWithin kinds place limits (b ++ y)) × (f.at ≤ length b)
 
-abbrev pub StandsAs : List Form → ℕ → Bounds → List ℕ → State → List ℕ → Type 0
+abbrev pub StandsAs : List KindView → ℕ → Bounds → List ℕ → State → List ℕ → Type 0
 StandsAs kinds place limits bytes Fresh b = (bytes ≡ b) × (b ≡ [])
 StandsAs kinds place limits bytes Waiting b = (bytes ≡ b) × HasNoneWithin kinds place limits b
 StandsAs kinds place limits bytes (Finished v) b = IsWhole kinds place limits (tree v) b
@@ -47,7 +47,7 @@ used_of (Done used) = used
 
 -- what an answer says of the bytes so far: they begin with no value; they encode a value; none begins them however they
 -- go on
-abbrev pub AnswersAs : List Form → ℕ → Bounds → List ℕ → Result Progress DecodeFault → Type 0
+abbrev pub AnswersAs : List KindView → ℕ → Bounds → List ℕ → Result Progress DecodeFault → Type 0
 AnswersAs kinds place limits b (Ok More) = HasNoneWithin kinds place limits b
 AnswersAs kinds place limits b (Ok (Done used)) = (t : Tree) × IsWhole kinds place limits t b
 AnswersAs kinds place limits b (Err f) = Fails kinds place limits f b
@@ -56,7 +56,7 @@ abbrev pub Answers : Decoder → List ℕ → Result Progress DecodeFault → Ty
 Answers d b r = AnswersAs d.schema.now.kinds d.kind.place d.limits b r
 
 -- what the end says of the bytes: they encode the value; or none begins them, and they end inside one or are broken
-abbrev pub FinishesAs : List Form → ℕ → Bounds → List ℕ → Result Value DecodeFault → Type 0
+abbrev pub FinishesAs : List KindView → ℕ → Bounds → List ℕ → Result Value DecodeFault → Type 0
 FinishesAs kinds place limits b (Ok v) = IsWhole kinds place limits (tree v) b
 FinishesAs kinds place limits b (Err f) = IsRefused (HasNoneWithin kinds place limits) f.why b × (f.at ≤ length b)
     × (f.why ≡ reason.Truncated → f.at ≡ length b)

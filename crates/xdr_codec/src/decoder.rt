@@ -1,6 +1,7 @@
 //! Bytes in pieces as a value.
 ghost use Rattle.std.specs.Prelude.{◌≡◌, ◌≤◌, ◌<◌, ℕ, List, [], ◌++◌, length, IfOk, IfErr, Ok, Err};
-ghost use Rattle.xdr_codec.specs.Stands.{StandsFor, Answers, Finishes, taken, used_of, IsSame, IsStarted, IsDone, HasFailed};
+ghost use Rattle.xdr_codec.specs.Stands.{StandsFor, Answers, Finishes, taken, used_of, IsSame, IsStarted, IsDone};
+ghost use Rattle.xdr_codec.specs.Stands.{HasFailed};
 ghost use Rattle.xdr_codec.specs.declared.state.Progress.TheVariants.{Done};
 
 use crate::decoding::decode;

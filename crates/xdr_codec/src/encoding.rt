@@ -1,7 +1,8 @@
 //! A value as bytes.
-ghost use Rattle.std.specs.Prelude.{◌≡◌, ◌++◌, ◌<◌, ◌^◌, length, map, pos, negsuc, ◌≤ℤ◌, replicate, IsTrue, IfOk, OnOk, true};
-ghost use Rattle.xdr_types.specs.Form.{kind_at};
-ghost use Rattle.xdr_types.specs.Forms.{form_of, part_of_member};
+ghost use Rattle.std.specs.Prelude.{◌≡◌, ◌++◌, ◌<◌, ◌^◌, length, map, pos, negsuc, ◌≤ℤ◌, replicate, IsTrue, IfOk, OnOk};
+ghost use Rattle.std.specs.Prelude.{true};
+ghost use Rattle.xdr_types.specs.Kinds.{kind_at};
+ghost use Rattle.xdr_types.specs.KindViews.{kind_view, part_of_member};
 ghost use Rattle.xdr_types.specs.Fits.{Fits, fits, fit, is_legal, item_part, parts};
 ghost use Rattle.xdr_units.specs.Numbers.{num4, num8, number_of, pad, padded};
 ghost use Rattle.xdr_types.specs.Spelling.{spelling, own, bytes_of};

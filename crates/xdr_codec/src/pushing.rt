@@ -1,7 +1,7 @@
 //! A value as bytes.
 ghost use Rattle.std.specs.Prelude.{◌≡◌, ◌++◌, ◌<◌, ◌^◌, length, map, pos, negsuc, ◌≤ℤ◌, replicate, IsTrue, IfOk, true};
-ghost use Rattle.xdr_types.specs.Form.{kind_at};
-ghost use Rattle.xdr_types.specs.Forms.{form_of, part_of_member};
+ghost use Rattle.xdr_types.specs.Kinds.{kind_at};
+ghost use Rattle.xdr_types.specs.KindViews.{kind_view, part_of_member};
 ghost use Rattle.xdr_types.specs.Fits.{Fits, fits, fit, is_legal, item_part, parts};
 ghost use Rattle.xdr_units.specs.Numbers.{num4, num8, number_of, pad, padded};
 ghost use Rattle.xdr_types.specs.Spelling.{spelling, own, bytes_of};
@@ -30,8 +30,8 @@ pub fn push_value<P: Put>(
 
 // The bytes before those of the parts.
 fn push_own<P: Put>(out: &mut P, _schema: &Schema, kind: &Kind, value: &Value) -> Result<(), NotPut>
-    requires { is_legal _schema.now.kinds (form_of kind.now) (tree value.now).0 ≡ true }
-    ensures { PutAll P.sends P.cuts out.old out.new (own (form_of kind.now) (tree value.now).0) result }
+    requires { is_legal _schema.now.kinds (kind_view kind.now) (tree value.now).0 ≡ true }
+    ensures { PutAll P.sends P.cuts out.old out.new (own (kind_view kind.now) (tree value.now).0) result }
 {
     match value {
         Value::Int(n) => push_int(out, *n),
@@ -64,9 +64,9 @@ fn push_inner<P: Put>(
     kind: &Kind,
     value: &Value,
 ) -> Result<(), NotPut>
-    requires { fit schema.now.kinds (parts (form_of kind.now) (tree value.now).0) (tree value.now).1 ≡ true }
+    requires { fit schema.now.kinds (parts (kind_view kind.now) (tree value.now).0) (tree value.now).1 ≡ true }
     ensures { PutAll P.sends P.cuts out.old out.new
-        (spelling schema.now.kinds (parts (form_of kind.now) (tree value.now).0) (tree value.now).1) result }
+        (spelling schema.now.kinds (parts (kind_view kind.now) (tree value.now).0) (tree value.now).1) result }
 {
     match (kind, value) {
         (Kind::Fixed { item, size: _ }, Value::List(items)) => push_items(

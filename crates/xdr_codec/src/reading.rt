@@ -1,8 +1,8 @@
 //! A value from the front of bytes.
 ghost use Rattle.std.specs.Prelude.{◌≡◌, ◌<◌, length, map, option_map, replicate, MatchResult};
 ghost use Rattle.std.specs.List.{AllByRecursion};
-ghost use Rattle.xdr_types.specs.Form.{Part, kind_at, fixed, up_to, structure, choice, maybe};
-ghost use Rattle.xdr_types.specs.Forms.{branch_of, part_of_member};
+ghost use Rattle.xdr_types.specs.Kinds.{Part, kind_at, fixed, up_to, structure, choice, maybe};
+ghost use Rattle.xdr_types.specs.KindViews.{branch_of, part_of_member};
 ghost use Rattle.xdr_types.specs.Fits.{item_part};
 ghost use Rattle.xdr_types.specs.View.{tree, values};
 ghost use Rattle.xdr_codec.specs.Steps.Reading.{IsRead, HasNoValue, AreRead, HasNoValues};
@@ -70,7 +70,7 @@ fn read_fixed<'a>(
     depth: u32,
     bytes: &'a [u8],
 ) -> Result<(Value, &'a [u8]), Stop>
-    requires form { fixed item.place size ≡ kind_at schema.now.kinds id.place }
+    requires kind_is { fixed item.place size ≡ kind_at schema.now.kinds id.place }
     requires known { item.place < length schema.now.kinds }
     requires deep { 0 < depth }
     ensures { MatchResult result
@@ -91,7 +91,7 @@ fn read_up_to<'a>(
     depth: u32,
     bytes: &'a [u8],
 ) -> Result<(Value, &'a [u8]), Stop>
-    requires form { up_to item.place max ≡ kind_at schema.now.kinds id.place }
+    requires kind_is { up_to item.place max ≡ kind_at schema.now.kinds id.place }
     requires known { item.place < length schema.now.kinds }
     requires deep { 0 < depth }
     ensures { MatchResult result
@@ -112,7 +112,7 @@ fn read_structure<'a>(
     depth: u32,
     bytes: &'a [u8],
 ) -> Result<(Value, &'a [u8]), Stop>
-    requires form { structure (map part_of_member fields.now.items) ≡ kind_at schema.now.kinds id.place }
+    requires kind_is { structure (map part_of_member fields.now.items) ≡ kind_at schema.now.kinds id.place }
     requires known { AllByRecursion (λ (p : Part). p.kind < length schema.now.kinds)
         (map part_of_member fields.now.items) }
     requires deep { 0 < depth }
@@ -135,7 +135,7 @@ fn read_choice<'a>(
     depth: u32,
     bytes: &'a [u8],
 ) -> Result<(Value, &'a [u8]), Stop>
-    requires form { choice tag.place (map branch_of arms.now.items) (option_map part_of_member other.now)
+    requires kind_is { choice tag.place (map branch_of arms.now.items) (option_map part_of_member other.now)
         ≡ kind_at schema.now.kinds id.place }
     requires known { id.place < length schema.now.kinds }
     requires deep { 0 < depth }
@@ -159,7 +159,7 @@ fn read_maybe<'a>(
     depth: u32,
     bytes: &'a [u8],
 ) -> Result<(Value, &'a [u8]), Stop>
-    requires form { maybe item.place ≡ kind_at schema.now.kinds id.place }
+    requires kind_is { maybe item.place ≡ kind_at schema.now.kinds id.place }
     requires known { item.place < length schema.now.kinds }
     requires deep { 0 < depth }
     ensures { MatchResult result

@@ -1,7 +1,7 @@
 //! The discriminant of a union, from the front of bytes.
 ghost use Rattle.std.specs.Prelude.{◌≡◌, ◌++◌, ℤ, pos, map, option_map, MatchResult, Some, true};
-ghost use Rattle.xdr_types.specs.Form.{kind_at};
-ghost use Rattle.xdr_types.specs.Forms.{branch_of, part_of_member};
+ghost use Rattle.xdr_types.specs.Kinds.{kind_at};
+ghost use Rattle.xdr_types.specs.KindViews.{branch_of, part_of_member};
 ghost use Rattle.xdr_types.specs.Fits.{is_tag_of, part_of};
 ghost use Rattle.xdr_units.specs.Numbers.{num4};
 ghost use Rattle.xdr_codec.specs.Steps.Units.{HasNoNumber, is_case};

@@ -1,7 +1,8 @@
 -- Bytes that begin with a value: what `decode` and a decoder say of them.
-use Rattle.std.proofs.Common.{◌≡◌, ℕ, ◌≤◌, List, [], ◌++◌, length, take, drop, refl, ap, sym, ◌∙◌, append_assoc, arith, subst, Result, Ok, Err, IfOk, IfErr}
+use Rattle.std.proofs.Common.{◌≡◌, ℕ, ◌≤◌, List, [], ◌++◌, length, take, drop, refl, ap, sym, ◌∙◌, append_assoc, arith}
+use Rattle.std.proofs.Common.{subst, Result, Ok, Err, IfOk, IfErr}
 use Rattle.std.proofs.lemmas.List.{append-nil, take-append-drop, length-take}
-use Rattle.xdr_types.specs.Form.{Form}
+use Rattle.xdr_types.specs.Kinds.{KindView}
 use Rattle.xdr_types.specs.Tree.{Tree}
 use Rattle.xdr_types.specs.Spelling.{bytes_of}
 use Rattle.xdr_types.specs.View.{tree}
@@ -16,7 +17,7 @@ use Rattle.xdr_codec.specs.declared.fault.DecodeFault.{DecodeFault}
 use Rattle.xdr_codec.specs.declared.state.Progress.{Progress}
 use Rattle.xdr_codec.specs.declared.state.Progress.TheVariants.{More, Done}
 
-module _ (kinds : List Form) (place : ℕ) (limits : Bounds) where
+module _ (kinds : List KindView) (place : ℕ) (limits : Bounds) where
   -- no refusal but want of memory stands against bytes that begin with a value
   pub memory : (why : Reason) (b : List ℕ) (t : Tree) (x : List ℕ) → IsRefused (HasNoneWithin kinds place limits) why b
       → FitsWithin kinds place limits t → bytes_of kinds place t ++ x ≡ b → why ≡ reason.NoMemory

@@ -1,13 +1,13 @@
 -- An int and a structure of it are a schema.
 use Rattle.std.proofs.Common.{◌≡◌, ℕ, zero, suc, List, [], ◌∷◌, Option, Some, None, refl, arith}
-use Rattle.xdr_types.specs.Form as form
-use Rattle.xdr_types.specs.Form.{Form}
+use Rattle.xdr_types.specs.Kinds as xdr
+use Rattle.xdr_types.specs.Kinds.{KindView}
 use Rattle.xdr_types.specs.Sound.{Heighting, IsProper, IsSound}
 use Rattle.xdr_examples.specs.Rfc.{part}
 
 -- the two kinds
-abbrev pub two : List ℕ → List Form
-two name = form.int ∷ form.structure (part name 0 ∷ []) ∷ []
+abbrev pub two : List ℕ → List KindView
+two name = xdr.int ∷ xdr.structure (part name 0 ∷ []) ∷ []
 
 abbrev height : Heighting
 height zero = Some 0

@@ -1,7 +1,7 @@
 -- The file of RFC 4506 section 7 with its bytes and lines, and a list of strings like that of section 4.19.
 use Rattle.std.specs.Prelude.{ℕ, pos, List, [], ◌∷◌, ◌++◌, None, codes}
-use Rattle.xdr_types.specs.Form as form
-use Rattle.xdr_types.specs.Form.{Form, Part, Branch, Constant}
+use Rattle.xdr_types.specs.Kinds as xdr
+use Rattle.xdr_types.specs.Kinds.{KindView, Part, Branch, Constant}
 use Rattle.xdr_types.specs.Tree as value
 use Rattle.xdr_types.specs.Tree.{Tree, from_list}
 
@@ -27,15 +27,15 @@ file_fields =
     part (codes "filename") 2 ∷ part (codes "type") 4 ∷ part (codes "owner") 3 ∷ part (codes "data") 5 ∷ []
 
 -- filekind at place 0, filetype at place 4, file at place 6
-abbrev pub file_kinds : List Form
+abbrev pub file_kinds : List KindView
 file_kinds =
-    form.numbered (constant (codes "TEXT") 0 ∷ constant (codes "DATA") 1 ∷ constant (codes "EXEC") 2 ∷ [])
-    ∷ form.nothing
-    ∷ form.text 255
-    ∷ form.text 32
-    ∷ form.choice 0 file_arms None
-    ∷ form.opaque_up_to 65535
-    ∷ form.structure file_fields
+    xdr.numbered (constant (codes "TEXT") 0 ∷ constant (codes "DATA") 1 ∷ constant (codes "EXEC") 2 ∷ [])
+    ∷ xdr.nothing
+    ∷ xdr.text 255
+    ∷ xdr.text 32
+    ∷ xdr.choice 0 file_arms None
+    ∷ xdr.opaque_up_to 65535
+    ∷ xdr.structure file_fields
     ∷ []
 
 -- content without parts
@@ -68,11 +68,11 @@ sillyprog_lines =
     ++ codes "  owner: \"john\"\n  data: 0x287175697429\n"
 
 -- strings at place 0, a list of them at place 1, an entry of the list at place 2
-abbrev pub list_kinds : List Form
+abbrev pub list_kinds : List KindView
 list_kinds =
-    form.text 4294967295
-    ∷ form.maybe 2
-    ∷ form.structure (part (codes "item") 0 ∷ part (codes "next") 1 ∷ [])
+    xdr.text 4294967295
+    ∷ xdr.maybe 2
+    ∷ xdr.structure (part (codes "item") 0 ∷ part (codes "next") 1 ∷ [])
     ∷ []
 
 -- a list that begins with this string

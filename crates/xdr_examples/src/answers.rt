@@ -3,9 +3,9 @@
 //!
 //! Each function calls the library, and its `ensures` is what the library's contract makes certain about the answer.
 ghost use Rattle.std.specs.Prelude.{◌≡◌, ◌≢◌, ◌<◌, ◌∷◌, [], pos, length, map, codes, true, false, Some, IsSome, IfOk};
-ghost use Rattle.xdr_types.specs.Form as form;
-ghost use Rattle.xdr_types.specs.Form.{kind_at};
-ghost use Rattle.xdr_types.specs.Forms.{branch_of, constant_of, part_of_member};
+ghost use Rattle.xdr_types.specs.Kinds as xdr;
+ghost use Rattle.xdr_types.specs.Kinds.{kind_at};
+ghost use Rattle.xdr_types.specs.KindViews.{branch_of, constant_of, part_of_member};
 ghost use Rattle.xdr_types.specs.Named.{named};
 ghost use Rattle.xdr_types.specs.Refused.{IsFirstFault};
 ghost use Rattle.xdr_types.specs.Tree.{Tree};
@@ -63,7 +63,7 @@ pub fn no_kind_at_the_length(schema: &Schema, id: KindId) -> bool
 /// The kind that is answered is the one at the place.
 pub fn kind_at_its_place(schema: &Schema, id: KindId) -> bool
     requires has { id.place < length schema.now.kinds }
-    requires hyper { kind_at schema.now.kinds id.place ≡ form.hyper }
+    requires hyper { kind_at schema.now.kinds id.place ≡ xdr.hyper }
     ensures { result ≡ true }
 {
     matches!(schema.kind(id), Kind::Hyper)
@@ -71,7 +71,7 @@ pub fn kind_at_its_place(schema: &Schema, id: KindId) -> bool
 
 /// Two is no value of a bool (RFC 4506 section 4.4).
 pub fn two_is_no_bool(schema: &Schema, id: KindId) -> bool
-    requires { kind_at schema.now.kinds id.place ≡ form.boolean }
+    requires { kind_at schema.now.kinds id.place ≡ xdr.boolean }
     ensures { result ≡ false }
 {
     is_legal_tag(schema, id, 2)
@@ -79,7 +79,7 @@ pub fn two_is_no_bool(schema: &Schema, id: KindId) -> bool
 
 /// The greatest unsigned int is a legal discriminant (RFC 4506 section 4.15).
 pub fn greatest_unsigned(schema: &Schema, id: KindId) -> bool
-    requires { kind_at schema.now.kinds id.place ≡ form.unsigned }
+    requires { kind_at schema.now.kinds id.place ≡ xdr.unsigned }
     ensures { result ≡ true }
 {
     is_legal_tag(schema, id, 4294967295)
@@ -87,7 +87,7 @@ pub fn greatest_unsigned(schema: &Schema, id: KindId) -> bool
 
 /// One more is none.
 pub fn more_than_an_unsigned(schema: &Schema, id: KindId) -> bool
-    requires { kind_at schema.now.kinds id.place ≡ form.unsigned }
+    requires { kind_at schema.now.kinds id.place ≡ xdr.unsigned }
     ensures { result ≡ false }
 {
     is_legal_tag(schema, id, 4294967296)
@@ -95,7 +95,7 @@ pub fn more_than_an_unsigned(schema: &Schema, id: KindId) -> bool
 
 /// A hyper is no discriminant, so not even 0 is a legal one.
 pub fn hyper_is_no_discriminant(schema: &Schema, id: KindId) -> bool
-    requires { kind_at schema.now.kinds id.place ≡ form.hyper }
+    requires { kind_at schema.now.kinds id.place ≡ xdr.hyper }
     ensures { result ≡ false }
 {
     is_legal_tag(schema, id, 0)

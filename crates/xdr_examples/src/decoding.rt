@@ -1,6 +1,7 @@
 //! What bytes are values, and what a refusal rules out.
-ghost use Rattle.std.specs.Prelude.{◌≡◌, ◌≤◌, ◌<◌, ℕ, List, [], ◌∷◌, ◌++◌, None, length, IfOk, IfErr, IfSome, IsErr, IsTrue};
-ghost use Rattle.xdr_types.specs.Form.{kind_at, boolean, int, fixed, opaque_up_to, text, up_to, choice};
+ghost use Rattle.std.specs.Prelude.{◌≡◌, ◌≤◌, ◌<◌, ℕ, List, [], ◌∷◌, ◌++◌, None, length, IfOk, IfErr, IfSome, IsErr};
+ghost use Rattle.std.specs.Prelude.{IsTrue};
+ghost use Rattle.xdr_types.specs.Kinds.{kind_at, boolean, int, fixed, opaque_up_to, text, up_to, choice};
 ghost use Rattle.xdr_types.specs.View.{tree};
 ghost use Rattle.xdr_codec.specs.declared.fault.Reason.TheVariants.{NoMemory, Truncated};
 ghost use Rattle.xdr_examples.specs.Rfc.{content, file_kinds, sillyprog, sillyprog_bytes, arm, part};

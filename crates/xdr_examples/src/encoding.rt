@@ -3,7 +3,8 @@ ghost use Rattle.std.specs.Prelude.{◌≡◌, ◌↔◌, ◌<◌, ◌≤◌, []
 ghost use Rattle.xdr_types.specs.Tree.{numbered};
 ghost use Rattle.xdr_types.specs.View.{tree};
 ghost use Rattle.xdr_types.specs.Within.{FitsWithin};
-ghost use Rattle.xdr_examples.specs.Rfc.{content, file_kinds, sillyprog, sillyprog_bytes, list_kinds, strings, strings_bytes};
+ghost use Rattle.xdr_examples.specs.Rfc.{content, file_kinds, sillyprog, sillyprog_bytes, list_kinds, strings};
+ghost use Rattle.xdr_examples.specs.Rfc.{strings_bytes};
 
 use std::alloc::{AllocError, Global};
 use xdr_codec::{encode, encode_to};

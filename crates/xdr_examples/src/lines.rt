@@ -1,7 +1,7 @@
 //! What is shown of a value.
 ghost use Rattle.std.specs.Prelude.{◌≡◌, ◌≤◌, [], ◌∷◌, codes, negsuc, IfOk, IfSome};
-ghost use Rattle.xdr_types.specs.Form as form;
-ghost use Rattle.xdr_types.specs.Form.{kind_at, maybe, up_to};
+ghost use Rattle.xdr_types.specs.Kinds as xdr;
+ghost use Rattle.xdr_types.specs.Kinds.{kind_at, maybe, up_to};
 ghost use Rattle.xdr_types.specs.Tree.{absent, int, items, none};
 ghost use Rattle.xdr_types.specs.View.{tree};
 ghost use Rattle.xdr_types.specs.Within.{FitsWithin};
@@ -36,7 +36,7 @@ pub fn shows_a_number(
     limits: Limits,
 ) -> Result<Vec<u8>, AllocError>
     requires fits { FitsWithin schema.now.kinds kind.place limits (tree value.now) }
-    requires kind { kind_at schema.now.kinds kind.place ≡ form.int }
+    requires kind { kind_at schema.now.kinds kind.place ≡ xdr.int }
     requires value { tree value.now ≡ (int (negsuc 4), none) }
     ensures { IfOk result (λ b. b.items ≡ codes "-5\n") }
 {

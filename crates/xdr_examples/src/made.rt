@@ -1,6 +1,6 @@
 //! What the examples of schemas are made of.
 ghost use Rattle.std.specs.Prelude.{◌≡◌, ◌∷◌, [], IfOk};
-ghost use Rattle.xdr_types.specs.Forms.{part_of_member, branch_of};
+ghost use Rattle.xdr_types.specs.KindViews.{part_of_member, branch_of};
 
 use std::alloc::{AllocError, Global};
 use std::string::String;

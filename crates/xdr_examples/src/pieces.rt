@@ -1,6 +1,6 @@
 //! A value whose bytes come in pieces.
 ghost use Rattle.std.specs.Prelude.{◌≡◌, ◌≤◌, ◌<◌, ◌++◌, length, IfOk, IfErr, IfSome, IsErr, IsTrue, Ok};
-ghost use Rattle.xdr_types.specs.Form.{kind_at, hyper, int, opaque_up_to};
+ghost use Rattle.xdr_types.specs.Kinds.{kind_at, hyper, int, opaque_up_to};
 ghost use Rattle.xdr_types.specs.View.{tree};
 ghost use Rattle.xdr_codec.specs.Stands.{IsDone};
 ghost use Rattle.xdr_codec.specs.declared.fault.Reason.TheVariants.{NoMemory};

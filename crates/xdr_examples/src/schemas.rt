@@ -2,7 +2,7 @@
 //!
 //! Each function calls the library, and its `ensures` is what the library's contract makes certain about the answer.
 ghost use Rattle.std.specs.Prelude.{◌≡◌, ◌<◌, ◌≤◌, ℕ, length, map, Some, None, IfOk, IfSome};
-ghost use Rattle.xdr_types.specs.Forms.{form_of, lists_of};
+ghost use Rattle.xdr_types.specs.KindViews.{kind_view, lists_of};
 ghost use Rattle.xdr_types.specs.Faults.{fault, IsWellFormed};
 ghost use Rattle.xdr_types.specs.Sound.{IsSound};
 ghost use Rattle.xdr_examples.specs.Refusal.{first_flaw, IsRefusedFor, IsNoFlaw};
@@ -32,7 +32,7 @@ pub fn only_memory(
     names: Vec<(String, KindId)>,
 ) -> Option<SchemaFault>
     requires well { IsWellFormed (lists_of kinds.items names.items) }
-    requires sound { IsSound (map form_of kinds.items) }
+    requires sound { IsSound (map kind_view kinds.items) }
     ensures { IfSome result (λ e. e.why ≡ Flaw.NoMemory) }
 {
     no_schema_has_a_fault();

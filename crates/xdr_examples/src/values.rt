@@ -3,8 +3,8 @@
 //! Each function calls the library, and its `ensures` is what the library's contract makes certain about the answer. A
 //! kind is named by its place in a schema; `requires` says what stands there.
 ghost use Rattle.std.specs.Prelude.{◌≡◌, ◌≢◌, ◌<◌, ◌≤◌, length, codes, true, false, IfOk};
-ghost use Rattle.xdr_types.specs.Form as form;
-ghost use Rattle.xdr_types.specs.Form.{kind_at};
+ghost use Rattle.xdr_types.specs.Kinds as xdr;
+ghost use Rattle.xdr_types.specs.Kinds.{kind_at};
 ghost use Rattle.xdr_types.specs.Fits.{Fits};
 ghost use Rattle.xdr_types.specs.Spelling.{bytes_of};
 ghost use Rattle.xdr_types.specs.Tree.{depth};
@@ -17,7 +17,7 @@ use xdr_types::{KindId, Limits, Schema, Value, each_spelling_is_one_value, fits,
 /// A number is one of an int (RFC 4506 section 4.1).
 pub fn int_fits_in_one_unit(schema: &Schema, id: KindId, number: i32) -> bool
     requires has { id.place < length schema.now.kinds }
-    requires int { kind_at schema.now.kinds id.place ≡ form.int }
+    requires int { kind_at schema.now.kinds id.place ≡ xdr.int }
     ensures { result ≡ true }
 {
     let Some(limits) = Limits::new(1, 4) else {
@@ -28,7 +28,7 @@ pub fn int_fits_in_one_unit(schema: &Schema, id: KindId, number: i32) -> bool
 
 /// It is none of an unsigned int, also where the number would be one.
 pub fn int_is_no_unsigned(schema: &Schema, id: KindId, limits: Limits) -> bool
-    requires { kind_at schema.now.kinds id.place ≡ form.unsigned }
+    requires { kind_at schema.now.kinds id.place ≡ xdr.unsigned }
     ensures { result ≡ false }
 {
     fits(schema, id, &Value::Int(7), limits)
@@ -44,7 +44,7 @@ pub fn no_value_of_no_kind(schema: &Schema, id: KindId, value: &Value, limits: L
 
 /// A hyper has eight bytes, so it is too large by one unit where four are allowed (RFC 4506 section 4.5).
 pub fn hyper_is_one_unit_too_large(schema: &Schema, id: KindId, number: i64) -> bool
-    requires { kind_at schema.now.kinds id.place ≡ form.hyper }
+    requires { kind_at schema.now.kinds id.place ≡ xdr.hyper }
     ensures { result ≡ false }
 {
     let Some(limits) = Limits::new(1, 4) else {
@@ -56,7 +56,7 @@ pub fn hyper_is_one_unit_too_large(schema: &Schema, id: KindId, number: i64) -> 
 /// It fits where exactly eight are.
 pub fn hyper_fits_exactly(schema: &Schema, id: KindId, number: i64) -> bool
     requires has { id.place < length schema.now.kinds }
-    requires hyper { kind_at schema.now.kinds id.place ≡ form.hyper }
+    requires hyper { kind_at schema.now.kinds id.place ≡ xdr.hyper }
     ensures { result ≡ true }
 {
     let Some(limits) = Limits::new(1, 8) else {
@@ -79,7 +79,7 @@ pub fn deeper_than_the_limit(schema: &Schema, id: KindId, value: &Value) -> bool
 /// A void has depth 1 and no bytes (RFC 4506 section 4.16).
 pub fn void_fits(schema: &Schema, id: KindId) -> bool
     requires has { id.place < length schema.now.kinds }
-    requires void { kind_at schema.now.kinds id.place ≡ form.nothing }
+    requires void { kind_at schema.now.kinds id.place ≡ xdr.nothing }
     ensures { result ≡ true }
 {
     let Some(limits) = Limits::new(1, 4) else {
@@ -121,7 +121,7 @@ pub fn differing_values(a: &Value, b: &Value) -> bool
 
 /// What `size` says is how many bytes the value's encoding has: four of an int.
 pub fn int_has_four_bytes(schema: &Schema, id: KindId, number: i32, limits: Limits) -> u32
-    requires int { kind_at schema.now.kinds id.place ≡ form.int }
+    requires int { kind_at schema.now.kinds id.place ≡ xdr.int }
     requires has { id.place < length schema.now.kinds }
     ensures { result ≡ 4 }
 {
@@ -158,7 +158,7 @@ pub fn discriminant_without_a_part(schema: &Schema, part: Box<Value>, limits: Li
 /// 4.11).
 pub fn string_of_exactly_the_maximum(schema: &Schema, id: KindId, text: Vec<u8>) -> bool
     requires has { id.place < length schema.now.kinds }
-    requires string { kind_at schema.now.kinds id.place ≡ form.text 3 }
+    requires string { kind_at schema.now.kinds id.place ≡ xdr.text 3 }
     requires abc { text.items ≡ codes "abc" }
     ensures { result ≡ true }
 {
@@ -175,7 +175,7 @@ pub fn string_longer_than_the_maximum(
     text: Vec<u8>,
     limits: Limits,
 ) -> bool
-    requires string { kind_at schema.now.kinds id.place ≡ form.text 3 }
+    requires string { kind_at schema.now.kinds id.place ≡ xdr.text 3 }
     requires bytes { length text.items ≡ 4 }
     ensures { result ≡ false }
 {

@@ -3,7 +3,7 @@ use Rattle.std.proofs.Common.{◌≤◌, lit≤, ◌≡◌, inl, inr, ℕ, Optio
 use Rattle.xdr_tokens.specs.declared.fault.Fault.{Fault}
 use Rattle.xdr_tokens.specs.declared.fault.Fault.TheVariants as fault
 use Rattle.xdr_tokens.specs.Fails.{Fails}
-use Rattle.xdr_types.specs.Form.{Lists}
+use Rattle.xdr_types.specs.Kinds.{Lists}
 use Rattle.xdr_types.specs.Faults.{fault_number, AreFlawless, IsWellFormed, kind_flaw_at, name_flaw_at}
 use Rattle.xdr_types.specs.Sound.{IsSound}
 use Rattle.xdr_types.specs.Refused.{IsFirstFlaw, IsFirstFault, IsRefused}

@@ -1,6 +1,6 @@
 -- What a text declares (RFC 4506 section 6.4, RFC 5531 section 12.3).
 use Rattle.std.specs.Prelude.{ℕ, ℤ, List, [], ◌∷◌, Option, Some, None, ◌==◌, if◌then◌else◌}
-use Rattle.xdr_types.specs.Form.{Lists}
+use Rattle.xdr_types.specs.Kinds.{Lists}
 
 -- a constant: declared by const, or a member of an enum
 pub record Constant : Type 0 where

@@ -2,7 +2,7 @@
 use Rattle.std.specs.Prelude.{ℕ, ℤ, List, [], ◌∷◌, ◌++◌, Option, Some, None}
 use Rattle.xdr_grammar.specs.Outline.{Late, Field, Arm, Draft, DNumbered, DOpaque, DOpaqueUpTo, DText, DFixed, DUpTo}
 use Rattle.xdr_grammar.specs.Outline.{DStructure, DChoice, DMaybe}
-use Rattle.xdr_types.specs.Form as form
+use Rattle.xdr_types.specs.Kinds as xdr
 use Rattle.xdr_lang.specs.LookUp.{◌>>=◌, Known, looked_up, size, limit, member_number, case_number, place_of}
 
 -- f of each in order, after those before; where each has one
@@ -39,14 +39,14 @@ one_arm ks types a = do
   Some (record { cases = cs; part = m })
 
 -- a kind
-unfoldable pub one_kind : List Known → List Field → Draft → Option form.Form
-one_kind ks types (DNumbered ms) = each (one_member ks) ms >>= λ all. Some (form.numbered all)
-one_kind ks types (DOpaque v) = size ks v >>= λ n. Some (form.opaque n)
-one_kind ks types (DOpaqueUpTo v) = limit ks v >>= λ n. Some (form.opaque_up_to n)
-one_kind ks types (DText v) = limit ks v >>= λ n. Some (form.text n)
-one_kind ks types (DFixed p v) = place_of types p >>= λ k. size ks v >>= λ n. Some (form.fixed k n)
-one_kind ks types (DUpTo p v) = place_of types p >>= λ k. limit ks v >>= λ n. Some (form.up_to k n)
-one_kind ks types (DStructure fs) = each (one_field types) fs >>= λ all. Some (form.structure all)
+unfoldable pub one_kind : List Known → List Field → Draft → Option form.KindView
+one_kind ks types (DNumbered ms) = each (one_member ks) ms >>= λ all. Some (xdr.numbered all)
+one_kind ks types (DOpaque v) = size ks v >>= λ n. Some (xdr.opaque n)
+one_kind ks types (DOpaqueUpTo v) = limit ks v >>= λ n. Some (xdr.opaque_up_to n)
+one_kind ks types (DText v) = limit ks v >>= λ n. Some (xdr.text n)
+one_kind ks types (DFixed p v) = place_of types p >>= λ k. size ks v >>= λ n. Some (xdr.fixed k n)
+one_kind ks types (DUpTo p v) = place_of types p >>= λ k. limit ks v >>= λ n. Some (xdr.up_to k n)
+one_kind ks types (DStructure fs) = each (one_field types) fs >>= λ all. Some (xdr.structure all)
 one_kind ks types (DChoice t cs d) = place_of types t >>= λ k. each (one_arm ks types) cs >>= λ all. where_given
-    (one_field types) d >>= λ other. Some (form.choice k all other)
-one_kind ks types (DMaybe p) = place_of types p >>= λ k. Some (form.maybe k)
+    (one_field types) d >>= λ other. Some (xdr.choice k all other)
+one_kind ks types (DMaybe p) = place_of types p >>= λ k. Some (xdr.maybe k)

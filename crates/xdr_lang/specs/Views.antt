@@ -12,7 +12,7 @@ use Rattle.xdr_lang.specs.declared.declarations.Version.{Version}
 use Rattle.xdr_lang.specs.declared.declarations.Program.{Program}
 use Rattle.xdr_lang.specs.declared.declarations.Declared.{Declared}
 use Rattle.xdr_lang.specs.declared.meaning.Listed.{Listed}
-use Rattle.xdr_types.specs.Forms.{lists_of}
+use Rattle.xdr_types.specs.KindViews.{lists_of}
 use Rattle.xdr_lang.specs.LookUp as look
 use Rattle.xdr_lang.specs.Declarations as said
 

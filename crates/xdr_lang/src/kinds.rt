@@ -2,7 +2,7 @@
 ghost use Rattle.std.specs.Prelude.{◌≡◌, Some, None, IfOk, List, [], map, option_map};
 ghost use Rattle.xdr_tokens.specs.Fails.{Gives};
 ghost use Rattle.xdr_grammar.specs.View.{late_of, field_of, member_of, arm_of, draft_of};
-ghost use Rattle.xdr_types.specs.Forms.{constant_of, part_of_member, branch_of, form_of};
+ghost use Rattle.xdr_types.specs.KindViews.{constant_of, part_of_member, branch_of, kind_view};
 ghost use Rattle.xdr_types.specs.Named.{basic};
 ghost use Rattle.xdr_lang.specs.Views.{knowns, types_of};
 ghost use Rattle.xdr_lang.specs.Kinds.{each, each_onto, where_given, one_member, one_case, one_field, one_arm};
@@ -94,7 +94,7 @@ fn one_kind(
     types: &TypeTable<'_>,
     draft: &Draft<'_>,
 ) -> Result<Kind, Fault>
-    ensures { Gives form_of result (one_kind (knowns constants.now.list.items) (types_of types.now.list.items)
+    ensures { Gives kind_view result (one_kind (knowns constants.now.list.items) (types_of types.now.list.items)
         (draft_of draft.now)) }
 {
     match &draft.shape {
@@ -219,7 +219,7 @@ pub fn all_kinds(
     types: &TypeTable<'_>,
     items: &[Draft<'_>],
 ) -> Result<Vec<Kind>, Fault>
-    ensures { Gives (λ x. map form_of x.items) result
+    ensures { Gives (λ x. map kind_view x.items) result
         (each_onto (one_kind (knowns constants.now.list.items) (types_of types.now.list.items))
         (map draft_of items.now) basic.kinds) }
 {

@@ -2,7 +2,7 @@
 ghost use Rattle.std.specs.Prelude.{◌≡◌, IfOk, List, map, ◌++◌};
 ghost use Rattle.xdr_tokens.specs.Fails.{Gives};
 ghost use Rattle.xdr_grammar.specs.View.{field_of};
-ghost use Rattle.xdr_types.specs.Forms.{form_of, name_of};
+ghost use Rattle.xdr_types.specs.KindViews.{kind_view, name_of};
 ghost use Rattle.xdr_types.specs.Named.{basic};
 ghost use Rattle.xdr_lang.specs.Views.{known_of, knowns, types_of, constant_of};
 ghost use Rattle.xdr_lang.specs.Kinds.{each_onto, one_field};
@@ -20,7 +20,7 @@ use xdr_types::{Kind, KindId};
 
 /// The basic kinds.
 pub fn basic_kinds(alloc: Global) -> Result<Vec<Kind>, AllocError>
-    ensures { IfOk result (λ v. map form_of v.items ≡ basic.kinds) }
+    ensures { IfOk result (λ v. map kind_view v.items ≡ basic.kinds) }
 {
     let kinds = vec![in alloc;
         Kind::Int,

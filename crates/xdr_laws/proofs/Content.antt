@@ -1,35 +1,40 @@
 -- A length and its content, and content of a fixed size, unit after unit.
-use Rattle.std.proofs.Common.{◌≡◌, ℕ, zero, suc, ◌+◌, ◌-◌, ◌%◌, ◌^◌, ◌<◌, ◌≤◌, ℤ, pos, negsuc, Bool, true, false, nat_lt, ltb-true, List, [], ◌∷◌, ◌++◌, length, take, drop, refl, sym, ap, subst, ◌∙◌, append_assoc, append-nil, arith, replicate, get_or}
+use Rattle.std.proofs.Common.{◌≡◌, ℕ, zero, suc, ◌+◌, ◌-◌, ◌%◌, ◌^◌, ◌<◌, ◌≤◌, ℤ, pos, negsuc, Bool, true, false}
+use Rattle.std.proofs.Common.{nat_lt, ltb-true, List, [], ◌∷◌, ◌++◌, length, take, drop, refl, sym, ap, subst, ◌∙◌}
+use Rattle.std.proofs.Common.{append_assoc, append-nil, arith, replicate, get_or}
 use Rattle.std.specs.Int.{w32, w64, from_be_bytes}
 use Rattle.std.proofs.lemmas.Nat.{be_bytes_4, be_bytes_8}
-use Rattle.std.proofs.lemmas.List.{take_at, drop_at, length-append, length-drop, take-append-le, drop-append-le, append_cancel_left}
-use Rattle.xdr_types.specs.Form as form
-use Rattle.xdr_types.specs.Form.{Form, Part, Constant, kind_at}
+use Rattle.std.proofs.lemmas.List.{take_at, drop_at, length-append, length-drop, take-append-le, drop-append-le}
+use Rattle.std.proofs.lemmas.List.{append_cancel_left}
+use Rattle.xdr_types.specs.Kinds as xdr
+use Rattle.xdr_types.specs.Kinds.{KindView, Part, Constant, kind_at}
 use Rattle.xdr_types.specs.Tree as value
 use Rattle.xdr_types.specs.Tree.{Head, Values, Tree, from_list}
 use Rattle.xdr_units.specs.Numbers.{pad}
 use Rattle.xdr_types.specs.Fits.{parts}
 use Rattle.xdr_types.specs.Spelling.{own}
 use Rattle.xdr_types.specs.Layout.{Entry, entry, shown, content, of_number, of_length}
-use Rattle.xdr_laws.specs.Owed.{AreBytes, Due, Frame, Rest, Completes, Reads, lead_of, IsLengthFirst, IsFreeBytes, free_size, Accepts}
+use Rattle.xdr_laws.specs.Owed.{AreBytes, Due, Frame, Rest, Completes, Reads, lead_of, IsLengthFirst, IsFreeBytes}
+use Rattle.xdr_laws.specs.Owed.{free_size, Accepts}
 use Rattle.xdr_laws.proofs.Legal.{IsSigned, IsLegal}
-use Rattle.xdr_laws.proofs.Numbers.{unit4, unit8, units_of, unit4-length, unit8-length, from4, from4-unit4, drop4-unit4, signed8, signed8_low, signed8_high}
+use Rattle.xdr_laws.proofs.Numbers.{unit4, unit8, units_of, unit4-length, unit8-length, from4, from4-unit4, drop4-unit4}
+use Rattle.xdr_laws.proofs.Numbers.{signed8, signed8_low, signed8_high}
 use Rattle.xdr_laws.proofs.Owed.{begin_into, begin_back, reads_end}
 
 -- ---- heads without parts
 
-abbrev IsLeaf : List Form → Form → Head → (place d : ℕ) (t : Part) → List ℕ → List Entry → Type 0
+abbrev IsLeaf : List KindView → KindView → Head → (place d : ℕ) (t : Part) → List ℕ → List Entry → Type 0
 IsLeaf s k h place d t b ps = IsLegal s k h × (own k h ≡ b) × (parts k h ≡ []) × (shown place d t k h ≡ ps)
 
 nothing_more : (place : ℕ) → place + 0 ≡ place
 nothing_more place = omega arith
 
-leaf_back : (s : List Form) (place d : ℕ) (t : Part) (ts : List Part) (ds : List Due) (h : Head) (b : List ℕ)
+leaf_back : (s : List KindView) (place d : ℕ) (t : Part) (ts : List Part) (ds : List Due) (h : Head) (b : List ℕ)
     (qs : List Entry) (y : List ℕ) (ps : List Entry)
     → IsLeaf s (kind_at s t.kind) h place d t b qs → Completes s (place + length b) (Frame d ts ∷ ds) y ps
     → Completes s place (Frame d (t ∷ ts) ∷ ds) (b ++ y) (qs ++ ps)
 leaf_back s place d t ts ds h b qs y ps leaf r =
-    let k : Form = kind_at s t.kind in
+    let k : KindView = kind_at s t.kind in
     let at : Completes s (place + length (own k h) + 0) (Frame d ts ∷ ds) y ps = subst
     (λ (n : ℕ). Completes s n (Frame d ts ∷ ds) y ps)
     (ap (λ (o : List ℕ). place + length o) (sym leaf.1) ∙ sym (nothing_more (place + length (own k h)))) r in
@@ -40,7 +45,7 @@ leaf_back s place d t ts ds h b qs y ps leaf r =
     subst (λ (o : List ℕ). Completes s place (Frame d (t ∷ ts) ∷ ds) (o ++ y) (qs ++ ps)) leaf.1
     (subst (λ (o : List Entry). Completes s place (Frame d (t ∷ ts) ∷ ds) (own k h ++ y) (o ++ ps)) leaf.3 whole)
 
-leaf_into : (s : List Form) (place d : ℕ) (ts kinds : List Part) (ds : List Due) (y : List ℕ) (ps : List Entry)
+leaf_into : (s : List KindView) (place d : ℕ) (ts kinds : List Part) (ds : List Due) (y : List ℕ) (ps : List Entry)
     → kinds ≡ [] → Completes s place (Frame (d + 1) kinds ∷ Frame d ts ∷ ds) y ps
     → Completes s place (Frame d ts ∷ ds) y ps
 leaf_into s place d ts kinds ds y ps none r =
@@ -54,33 +59,34 @@ leaf_into s place d ts kinds ds y ps none r =
 abbrev pub counted : (place d : ℕ) (t : Part) (n : ℕ) → List Entry
 counted place d t n = entry place 4 d t of_length ∷ content (place + 4) d t n
 
-abbrev IsCountedBy : List Form → Form → Head → (place d : ℕ) (t : Part) → List ℕ → Type 0
+abbrev IsCountedBy : List KindView → KindView → Head → (place d : ℕ) (t : Part) → List ℕ → Type 0
 IsCountedBy s k g place d t bs =
     AreBytes bs × Accepts s k (length bs) × IsLeaf s k g place d t (unit4 (length bs) ++ (bs ++ pad (length bs)))
     (counted place d t (length bs))
 
-counted_is : (s : List Form) (k : Form) (g : Head) (place d : ℕ) (t : Part) → IsLengthFirst (lead_of k) → IsLegal s k g
+counted_is : (s : List KindView) (k : KindView) (g : Head) (place d : ℕ) (t : Part) → IsLengthFirst (lead_of k)
+    → IsLegal s k g
     → (bs : List ℕ) × IsCountedBy s k g place d t bs
-counted_is s (form.opaque_up_to max) (value.bytes bs) place d t u l = (bs, (l.2, (l.0, l.1), (l, refl, refl, refl)))
-counted_is s (form.text max) (value.bytes bs) place d t u l = (bs, (l.2, (l.0, l.1), (l, refl, refl, refl)))
-counted_is s (form.opaque_up_to max) _ place d t u l = absurd l
-counted_is s (form.text max) _ place d t u l = absurd l
+counted_is s (xdr.opaque_up_to max) (value.bytes bs) place d t u l = (bs, (l.2, (l.0, l.1), (l, refl, refl, refl)))
+counted_is s (xdr.text max) (value.bytes bs) place d t u l = (bs, (l.2, (l.0, l.1), (l, refl, refl, refl)))
+counted_is s (xdr.opaque_up_to max) _ place d t u l = absurd l
+counted_is s (xdr.text max) _ place d t u l = absurd l
 counted_is s _ g place d t u l = absurd u
 
-counted_legal : (s : List Form) (k : Form) (place d : ℕ) (t : Part) (bs : List ℕ) → IsLengthFirst (lead_of k)
+counted_legal : (s : List KindView) (k : KindView) (place d : ℕ) (t : Part) (bs : List ℕ) → IsLengthFirst (lead_of k)
     → Accepts s k (length bs) → AreBytes bs
     → IsLeaf s k (value.bytes bs) place d t (unit4 (length bs) ++ (bs ++ pad (length bs)))
     (counted place d t (length bs))
-counted_legal s (form.opaque_up_to max) place d t bs u a b = ((a.0, a.1, b), refl, refl, refl)
-counted_legal s (form.text max) place d t bs u a b = ((a.0, a.1, b), refl, refl, refl)
+counted_legal s (xdr.opaque_up_to max) place d t bs u a b = ((a.0, a.1, b), refl, refl, refl)
+counted_legal s (xdr.text max) place d t bs u a b = ((a.0, a.1, b), refl, refl, refl)
 counted_legal s _ place d t bs u a b = absurd u
 
-length_small : (s : List Form) (k : Form) (x : ℕ) → IsLengthFirst (lead_of k) → Accepts s k x → x < 2 ^ 32
-length_small s (form.opaque_up_to max) x u a = a.1
-length_small s (form.text max) x u a = a.1
+length_small : (s : List KindView) (k : KindView) (x : ℕ) → IsLengthFirst (lead_of k) → Accepts s k x → x < 2 ^ 32
+length_small s (xdr.opaque_up_to max) x u a = a.1
+length_small s (xdr.text max) x u a = a.1
 length_small s _ x u a = absurd u
 
-module _ (s : List Form) (place d : ℕ) (t : Part) (ts : List Part) (ds : List Due) (x : ℕ)
+module _ (s : List KindView) (place d : ℕ) (t : Part) (ts : List Part) (ds : List Due) (x : ℕ)
     (u : IsLengthFirst (lead_of (kind_at s t.kind))) where
   -- what a value that begins with the length x is
   length_into : (less : x < 2 ^ 32) (c : List ℕ) (all : List Entry)
@@ -88,7 +94,7 @@ module _ (s : List Form) (place d : ℕ) (t : Part) (ts : List Part) (ds : List 
       → Accepts s (kind_at s t.kind) x × (qs : List Entry) × (all ≡ counted place d t x ++ qs)
       × Completes s (place + length (unit4 x)) (Rest x ∷ Frame d ts ∷ ds) c qs
   length_into less c all r =
-      let k : Form = kind_at s t.kind in
+      let k : KindView = kind_at s t.kind in
       let i = begin_into s place d t ts ds (unit4 x ++ c) all r in
       let g : Head = i.0 in
       let y : List ℕ = i.1 in
@@ -140,7 +146,7 @@ module _ (s : List Form) (place d : ℕ) (t : Part) (ts : List Part) (ds : List 
           → Completes s (place + length (unit4 x) + (x + length (pad x))) (Frame d ts ∷ ds) y ps
           → Completes s place (Frame d (t ∷ ts) ∷ ds) (unit4 x ++ c) (counted place d t x ++ ps)
       length_back c ps bs y len are e r =
-          let k : Form = kind_at s t.kind in
+          let k : KindView = kind_at s t.kind in
           let n : ℕ = length bs in
           let leaf = counted_legal s k place d t bs u (subst (λ (m : ℕ). Accepts s k m) (sym len) a) are in
           let far : place + length (unit4 x) + (x + length (pad x)) ≡ place + length (unit4 n ++ (bs ++ pad n)) =
@@ -163,15 +169,15 @@ module _ (s : List Form) (place d : ℕ) (t : Part) (ts : List Part) (ds : List 
           (counted place d t m ++ ps)) len whole)
 
 -- no other length begins what is owed
-pub refuses_length : (s : List Form) (place d : ℕ) (t : Part) (ts : List Part) (ds : List Due) (x : ℕ) (c : List ℕ)
+pub refuses_length : (s : List KindView) (place d : ℕ) (t : Part) (ts : List Part) (ds : List Due) (x : ℕ) (c : List ℕ)
     (ps : List Entry) → IsLengthFirst (lead_of (kind_at s t.kind)) → x < 2 ^ 32
     → Completes s place (Frame d (t ∷ ts) ∷ ds) (unit4 x ++ c) ps → Accepts s (kind_at s t.kind) x
 refuses_length s place d t ts ds x c ps u less r = (length_into s place d t ts ds x u less c ps r).0
 
 -- ---- free bytes
 
-abbrev pub free_parts : (place d : ℕ) (t : Part) → Form → List Entry
-free_parts place d t (form.opaque size) = content place d t size
+abbrev pub free_parts : (place d : ℕ) (t : Part) → KindView → List Entry
+free_parts place d t (xdr.opaque size) = content place d t size
 free_parts place d t _ = entry place 8 d t of_number ∷ []
 
 pub bytes8 : (n : ℕ) → AreBytes (unit8 n)
@@ -231,13 +237,14 @@ signed8_unit x h = by_half x h (nat_lt x 9223372036854775808) refl
         subst (λ (z : ℤ). IsSigned 9223372036854775808 z × (units_of z ≡ x)) (sym (signed8_high x above))
         (high x above h)
 
-abbrev IsFreeBy : List Form → Form → Head → (place d : ℕ) (t : Part) → List ℕ → Type 0
+abbrev IsFreeBy : List KindView → KindView → Head → (place d : ℕ) (t : Part) → List ℕ → Type 0
 IsFreeBy s k g place d t bs = (length bs ≡ free_size k) × AreBytes bs
     × IsLeaf s k g place d t (bs ++ pad (free_size k)) (free_parts place d t k)
 
-free_is : (s : List Form) (k : Form) (g : Head) (place d : ℕ) (t : Part) → IsFreeBytes (lead_of k) → IsLegal s k g
+free_is : (s : List KindView) (k : KindView) (g : Head) (place d : ℕ) (t : Part) → IsFreeBytes (lead_of k)
+    → IsLegal s k g
     → (bs : List ℕ) × IsFreeBy s k g place d t bs
-free_is s form.hyper (value.hyper z) place d t u l = (
+free_is s xdr.hyper (value.hyper z) place d t u l = (
   unit8 (units_of z),
   (
     unit8-length (units_of z),
@@ -245,39 +252,39 @@ free_is s form.hyper (value.hyper z) place d t u l = (
     (l, sym (append-nil (unit8 (units_of z))), refl, refl),
   ),
 )
-free_is s form.unsigned_hyper (value.unsigned_hyper n) place d t u l =
+free_is s xdr.unsigned_hyper (value.unsigned_hyper n) place d t u l =
     (unit8 n, (unit8-length n, bytes8 n, (l, sym (append-nil (unit8 n)), refl, refl)))
-free_is s (form.opaque size) (value.bytes bs) place d t u l =
+free_is s (xdr.opaque size) (value.bytes bs) place d t u l =
     (bs, (l.0, l.1, (l, ap (λ (n : ℕ). bs ++ pad n) l.0, refl, ap (λ (n : ℕ). content place d t n) l.0)))
-free_is s form.hyper _ place d t u l = absurd l
-free_is s form.unsigned_hyper _ place d t u l = absurd l
-free_is s (form.opaque size) _ place d t u l = absurd l
+free_is s xdr.hyper _ place d t u l = absurd l
+free_is s xdr.unsigned_hyper _ place d t u l = absurd l
+free_is s (xdr.opaque size) _ place d t u l = absurd l
 free_is s _ g place d t u l = absurd u
 
-free_legal : (s : List Form) (k : Form) (place d : ℕ) (t : Part) (bs : List ℕ) → IsFreeBytes (lead_of k)
+free_legal : (s : List KindView) (k : KindView) (place d : ℕ) (t : Part) (bs : List ℕ) → IsFreeBytes (lead_of k)
     → length bs ≡ free_size k → AreBytes bs
     → (g : Head) × IsLeaf s k g place d t (bs ++ pad (free_size k)) (free_parts place d t k)
-free_legal s form.hyper place d t bs u len are =
+free_legal s xdr.hyper place d t bs u len are =
     let b = signed8_unit (from_be_bytes w64 bs) (unit8_less bs len are) in (
       value.hyper (signed8 (from_be_bytes w64 bs)),
       (b.0, ap unit8 b.1 ∙ unit8_back bs len are ∙ sym (append-nil bs), refl, refl),
     )
-free_legal s form.unsigned_hyper place d t bs u len are = (
+free_legal s xdr.unsigned_hyper place d t bs u len are = (
   value.unsigned_hyper (from_be_bytes w64 bs),
   (unit8_less bs len are, unit8_back bs len are ∙ sym (append-nil bs), refl, refl),
 )
-free_legal s (form.opaque size) place d t bs u len are =
+free_legal s (xdr.opaque size) place d t bs u len are =
     (value.bytes bs, ((len, are), ap (λ (n : ℕ). bs ++ pad n) len, refl, ap (λ (n : ℕ). content place d t n) len))
 free_legal s _ place d t bs u len are = absurd u
 
 -- a value of free bytes begins
-pub reads_free : (s : List Form) (place d : ℕ) (t : Part) (ts : List Part) (ds : List Due)
+pub reads_free : (s : List KindView) (place d : ℕ) (t : Part) (ts : List Part) (ds : List Due)
     → IsFreeBytes (lead_of (kind_at s t.kind))
     → Reads s place (Frame d (t ∷ ts) ∷ ds) [] (free_parts place d t (kind_at s t.kind))
     (Rest (free_size (kind_at s t.kind)) ∷ Frame d ts ∷ ds)
 reads_free s place d t ts ds u = record {
   into = λ c all r.
-      let k : Form = kind_at s t.kind in
+      let k : KindView = kind_at s t.kind in
       let n : ℕ = free_size k in
       let i = begin_into s place d t ts ds c all r in
       let l = free_is s k i.0 place d t u i.3 in
@@ -299,7 +306,7 @@ reads_free s place d t ts ds u = record {
         ),
       );
   back = λ c ps r.
-      let k : Form = kind_at s t.kind in
+      let k : KindView = kind_at s t.kind in
       let n : ℕ = free_size k in
       let bs : List ℕ = r.0 in
       let l = free_legal s k place d t bs u r.2 r.3 in
@@ -325,7 +332,7 @@ bytes_rest (suc n) (x ∷ v) a = bytes_rest n v a.1
 pad_less : (n : ℕ) → 4 ≤ n → pad (n - 4) ≡ pad n
 pad_less n h = let same : (n - 4) % 4 ≡ n % 4 = omega arith in ap (λ (m : ℕ). replicate ((4 - m) % 4) 0) same
 
-pub reads_rest : (s : List Form) (place n : ℕ) (ds : List Due) (u : List ℕ) → 4 ≤ n → length u ≡ 4 → AreBytes u
+pub reads_rest : (s : List KindView) (place n : ℕ) (ds : List Due) (u : List ℕ) → 4 ≤ n → length u ≡ 4 → AreBytes u
     → Reads s place (Rest n ∷ ds) u [] (Rest (n - 4) ∷ ds)
 reads_rest s place n ds u long len are = record {
   into = λ c all r.
@@ -364,7 +371,7 @@ reads_rest s place n ds u long len are = record {
 
 -- ---- the last bytes of content, with their zeros
 
-pub reads_last : (s : List Form) (place n : ℕ) (ds : List Due) (bs : List ℕ) → length bs ≡ n → AreBytes bs
+pub reads_last : (s : List KindView) (place n : ℕ) (ds : List Due) (bs : List ℕ) → length bs ≡ n → AreBytes bs
     → Reads s place (Rest n ∷ ds) (bs ++ pad n) [] ds
 reads_last s place n ds bs len are =
     let far : place + (n + length (pad n))
@@ -401,7 +408,7 @@ pad_few (suc (suc (suc zero))) a b = refl
 pad_few (suc (suc (suc (suc n)))) a b = absurd (omega arith)
 
 -- no other padding begins what is owed
-pub refuses_padding : (s : List Form) (place n : ℕ) (ds : List Due) (u c : List ℕ) (ps : List Entry) → 0 < n → n < 4
+pub refuses_padding : (s : List KindView) (place n : ℕ) (ds : List Due) (u c : List ℕ) (ps : List Entry) → 0 < n → n < 4
     → length u ≡ 4 → Completes s place (Rest n ∷ ds) (u ++ c) ps → drop n u ≡ pad n
 refuses_padding s place n ds u c ps some few len r =
     let short : length (pad n) ≡ 4 - n = pad_few n some few in
@@ -411,5 +418,5 @@ refuses_padding s place n ds u c ps some few len r =
     ∙ take_at (pad n) r.1 (4 - n) short
 
 -- a content of no bytes is over
-pub reads_over : (s : List Form) (place : ℕ) (ds : List Due) → Reads s place (Rest 0 ∷ ds) [] [] ds
+pub reads_over : (s : List KindView) (place : ℕ) (ds : List Due) → Reads s place (Rest 0 ∷ ds) [] [] ds
 reads_over s place ds = reads_last s place 0 ds [] refl tt

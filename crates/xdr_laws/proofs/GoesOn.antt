@@ -1,13 +1,15 @@
 -- Which units continue a front.
-use Rattle.std.proofs.Common.{◌≡◌, ℕ, zero, suc, ◌+◌, ◌-◌, ◌%◌, ◌^◌, ◌<◌, ◌≤◌, List, [], ◌∷◌, ◌++◌, length, drop, refl, sym, ap, subst, ◌∙◌, append_assoc, append-nil, zero-add, arith, inl, inr, replicate}
+use Rattle.std.proofs.Common.{◌≡◌, ℕ, zero, suc, ◌+◌, ◌-◌, ◌%◌, ◌^◌, ◌<◌, ◌≤◌, List, [], ◌∷◌, ◌++◌, length, drop, refl}
+use Rattle.std.proofs.Common.{sym, ap, subst, ◌∙◌, append_assoc, append-nil, zero-add, arith, inl, inr, replicate}
 use Rattle.std.specs.Prelude.{Contains, ◌↔◌}
 use Rattle.std.specs.Int.{w32, from_be_bytes}
 use Rattle.std.specs.List.{AllByRecursion}
 use Rattle.std.proofs.lemmas.Bool.{cases_lt}
 use Rattle.std.proofs.lemmas.List.{length-drop, get_or_past}
-use Rattle.std.proofs.lemmas.List.Elements.{All-contains, All-from_recursion, Contains-append_left, Contains-append_right}
-use Rattle.xdr_types.specs.Form as form
-use Rattle.xdr_types.specs.Form.{Form, Part, Constant, kind_at}
+use Rattle.std.proofs.lemmas.List.Elements.{All-contains, All-from_recursion, Contains-append_left}
+use Rattle.std.proofs.lemmas.List.Elements.{Contains-append_right}
+use Rattle.xdr_types.specs.Kinds as xdr
+use Rattle.xdr_types.specs.Kinds.{KindView, Part, Constant, kind_at}
 use Rattle.xdr_types.specs.Tree as value
 use Rattle.xdr_types.specs.Tree.{Head, Values, Tree, from_list}
 use Rattle.xdr_units.specs.Numbers.{pad}
@@ -16,7 +18,8 @@ use Rattle.xdr_types.specs.Spelling.{spelling}
 use Rattle.xdr_types.specs.Layout.{Entry, layout, entries, Role, of_number, of_flag, of_length, of_content, of_group}
 use Rattle.xdr_types.specs.Front.{Front}
 use Rattle.xdr_types.specs.Outcome.{Stands, Admits, AdmitsNumber}
-use Rattle.xdr_laws.specs.Owed.{AreBytes, Due, Frame, Rest, Completes, Reads, lead_of, IsFreeBytes, HasUnit, Accepts, role_of, EndsAt, IsOnTrack, Reaches, AreOfList}
+use Rattle.xdr_laws.specs.Owed.{AreBytes, Due, Frame, Rest, Completes, Reads, lead_of, IsFreeBytes, HasUnit, Accepts}
+use Rattle.xdr_laws.specs.Owed.{role_of, EndsAt, IsOnTrack, Reaches, AreOfList}
 use Rattle.xdr_types.specs.Laws.{EachKindHasAValue, EachPartIsKnown}
 use Rattle.xdr_laws.proofs.Owed.{begin_into}
 use Rattle.xdr_laws.proofs.Legal.{IsLegal, FitAll, fit_node, and, bytes_are}
@@ -31,27 +34,27 @@ use Rattle.xdr_laws.proofs.Known.{reached_front, known_at, begins_into, begins_b
 
 -- ---- what is owed is of kinds of the list, and can then be completed
 
-pub legal_known : (s : List Form) (t : ℕ) (h : Head) → IsLegal s (kind_at s t) h → t < length s
+pub legal_known : (s : List KindView) (t : ℕ) (h : Head) → IsLegal s (kind_at s t) h → t < length s
 legal_known s t h l = elim (cases_lt t (length s)) [
   | inl within ↦ within
-  | inr past ↦ absurd (subst (λ (f : Form). IsLegal s f h) (get_or_past s t form.unknown past) l)
+  | inr past ↦ absurd (subst (λ (f : KindView). IsLegal s f h) (get_or_past s t xdr.unknown past) l)
 ]
 
-fit_known : (s : List Form) (ts : List Part) (v : Values) → FitAll s ts v
+fit_known : (s : List KindView) (ts : List Part) (v : Values) → FitAll s ts v
     → AllByRecursion (λ (p : Part). p.kind < length s) ts
 fit_known s [] v f = tt
 fit_known s (t ∷ ts) value.none f = absurd (false≢true f)
 fit_known s (t ∷ ts) (value.node h v w) f = let g = fit_node s t ts h v w f in
     (legal_known s t.kind h g.0, fit_known s ts w g.2)
 
-pub completes_known : (s : List Form) (place : ℕ) (ds : List Due) (c : List ℕ) (es : List Entry)
+pub completes_known : (s : List KindView) (place : ℕ) (ds : List Due) (c : List ℕ) (es : List Entry)
     → Completes s place ds c es → AreOfList s ds
 completes_known s place [] c es r = tt
 completes_known s place (Frame d ts ∷ ds) c es r =
     (fit_known s ts r.0 r.3, completes_known s (place + length (spelling s ts r.0)) ds r.1 r.2 r.6)
 completes_known s place (Rest n ∷ ds) c es r = completes_known s (place + (n + length (pad n))) ds r.1 es r.5
 
-pub values_of : (s : List Form) → EachKindHasAValue s → (ts : List Part)
+pub values_of : (s : List KindView) → EachKindHasAValue s → (ts : List Part)
     → AllByRecursion (λ (p : Part). p.kind < length s) ts → (v : Values) × FitAll s ts v
 values_of s has [] of = (value.none, refl)
 values_of s has (t ∷ ts) of =
@@ -67,7 +70,7 @@ zeros zero = ([], refl, tt)
 zeros (suc n) = let more = zeros n in (0 ∷ more.0, ap suc more.1, (omega arith, more.2))
 
 -- something completes what is owed
-pub alive : (s : List Form) → EachKindHasAValue s → (place : ℕ) (ds : List Due) → AreOfList s ds
+pub alive : (s : List KindView) → EachKindHasAValue s → (place : ℕ) (ds : List Due) → AreOfList s ds
     → (c : List ℕ) × (es : List Entry) × Completes s place ds c es
 alive s has place [] of = ([], [], (refl, refl))
 alive s has place (Frame d ts ∷ ds) of =
@@ -82,38 +85,39 @@ alive s has place (Rest n ∷ ds) of =
 -- ---- what is accepted is what no reason stands against
 
 -- the number in the unit u that begins a value
-admits_accepted : (s : List Form) (k : Form) (after : ℕ) (u : List ℕ) → HasUnit (lead_of k)
+admits_accepted : (s : List KindView) (k : KindView) (after : ℕ) (u : List ℕ) → HasUnit (lead_of k)
     → Accepts s k (from_be_bytes w32 u) → Admits s k (role_of k) after u
-admits_accepted s form.int after u h a = tt
-admits_accepted s form.unsigned after u h a = tt
-admits_accepted s form.boolean after u h a = a
-admits_accepted s (form.numbered constants) after u h a = a.1
-admits_accepted s (form.opaque_up_to max) after u h a = a.0
-admits_accepted s (form.text max) after u h a = a.0
-admits_accepted s (form.up_to item max) after u h a = a.0
-admits_accepted s (form.choice tag arms other) after u h a = (a.1, a.2)
-admits_accepted s (form.maybe item) after u h a = a
-admits_accepted s form.unknown after u h a = absurd a
+admits_accepted s xdr.int after u h a = tt
+admits_accepted s xdr.unsigned after u h a = tt
+admits_accepted s xdr.boolean after u h a = a
+admits_accepted s (xdr.numbered constants) after u h a = a.1
+admits_accepted s (xdr.opaque_up_to max) after u h a = a.0
+admits_accepted s (xdr.text max) after u h a = a.0
+admits_accepted s (xdr.up_to item max) after u h a = a.0
+admits_accepted s (xdr.choice tag arms other) after u h a = (a.1, a.2)
+admits_accepted s (xdr.maybe item) after u h a = a
+admits_accepted s xdr.unknown after u h a = absurd a
 admits_accepted s _ after u h a = absurd h
 
-accepted_admits : (s : List Form) (k : Form) (g : Head) → IsLegal s k g → (after : ℕ) (u : List ℕ) → HasUnit (lead_of k)
+accepted_admits : (s : List KindView) (k : KindView) (g : Head) → IsLegal s k g → (after : ℕ) (u : List ℕ)
+    → HasUnit (lead_of k)
     → from_be_bytes w32 u < 2 ^ 32 → Admits s k (role_of k) after u → Accepts s k (from_be_bytes w32 u)
-accepted_admits s form.int g l after u h less a = less
-accepted_admits s form.unsigned g l after u h less a = less
-accepted_admits s form.boolean g l after u h less a = a
-accepted_admits s (form.numbered constants) g l after u h less a = (less, a)
-accepted_admits s (form.opaque_up_to max) g l after u h less a = (a, less)
-accepted_admits s (form.text max) g l after u h less a = (a, less)
-accepted_admits s (form.up_to item max) g l after u h less a = (a, less)
-accepted_admits s (form.choice tag arms other) g l after u h less a = (less, a.0, a.1)
-accepted_admits s (form.maybe item) g l after u h less a = a
-accepted_admits s form.unknown g l after u h less a = absurd l
+accepted_admits s xdr.int g l after u h less a = less
+accepted_admits s xdr.unsigned g l after u h less a = less
+accepted_admits s xdr.boolean g l after u h less a = a
+accepted_admits s (xdr.numbered constants) g l after u h less a = (less, a)
+accepted_admits s (xdr.opaque_up_to max) g l after u h less a = (a, less)
+accepted_admits s (xdr.text max) g l after u h less a = (a, less)
+accepted_admits s (xdr.up_to item max) g l after u h less a = (a, less)
+accepted_admits s (xdr.choice tag arms other) g l after u h less a = (less, a.0, a.1)
+accepted_admits s (xdr.maybe item) g l after u h less a = a
+accepted_admits s xdr.unknown g l after u h less a = absurd l
 accepted_admits s _ g l after u h less a = absurd h
 
-admits_free : (s : List Form) (k : Form) (x : ℕ) → IsFreeBytes (lead_of k) → AdmitsNumber s k x
-admits_free s form.hyper x u = tt
-admits_free s form.unsigned_hyper x u = tt
-admits_free s (form.opaque size) x u = tt
+admits_free : (s : List KindView) (k : KindView) (x : ℕ) → IsFreeBytes (lead_of k) → AdmitsNumber s k x
+admits_free s xdr.hyper x u = tt
+admits_free s xdr.unsigned_hyper x u = tt
+admits_free s (xdr.opaque size) x u = tt
 admits_free s _ x u = absurd u
 
 -- ---- zeros
@@ -149,7 +153,7 @@ fill_zeros n u some len a few =
     all_zeros (drop n u) a ∙ ap (λ (m : ℕ). replicate m 0) short
 
 -- the part whose content goes on, and the unit that it admits
-rest_case : (s : List Form) (e : Entry) (p n : ℕ) (u : List ℕ) → length u ≡ 4 → (role : Role) → e.at ≤ p → 0 < n
+rest_case : (s : List KindView) (e : Entry) (p n : ℕ) (u : List ℕ) → length u ≡ 4 → (role : Role) → e.at ≤ p → 0 < n
     → p % 4 ≡ 0 → e.at % 4 ≡ 0 → EndsAt s (p + n) e role
     → (p < e.at + e.size) × (Fills n u → Admits s (kind_at s e.kind) role (p - e.at) u)
     × (Admits s (kind_at s e.kind) role (p - e.at) u → Fills n u)
@@ -170,12 +174,12 @@ rest_case s e p n u len of_group low some units at ends = absurd ends
 
 -- ---- the law where q is read
 
-abbrev Continues : List Form → ℕ → List ℕ → List ℕ → Type 0
+abbrev Continues : List KindView → ℕ → List ℕ → List ℕ → Type 0
 Continues s t q u = (e : Entry) × Stands s t q e
     × (Front s t (q ++ u) ↔ Admits s (kind_at s e.kind) e.role (length q - e.at) u)
 
 -- a unit that is read continues the front
-front_by : (s : List Form) → EachKindHasAValue s → EachPartIsKnown s
+front_by : (s : List KindView) → EachKindHasAValue s → EachPartIsKnown s
     → (t : ℕ) (q u : List ℕ) (begun : List Entry) (ds : List Due) → Reads s 0 (root t) q begun ds → AreOfList s ds
     → Steps s (length q) begun ds u
     → Front s t (q ++ u)
@@ -186,20 +190,21 @@ front_by s has known t q u begun ds reads of step =
     (v.0, (v.1, a.0, v.2 ∙ sym (append_assoc q u a.0)))
 
 -- a front that goes on by the unit completes what is owed
-front_into : (s : List Form) (t : ℕ) (q u : List ℕ) (begun : List Entry) (ds : List Due) → Reads s 0 (root t) q begun ds
+front_into : (s : List KindView) (t : ℕ) (q u : List ℕ) (begun : List Entry) (ds : List Due)
+    → Reads s 0 (root t) q begun ds
     → Front s t (q ++ u)
     → (c : List ℕ) × (ps : List Entry) × Completes s (length q) ds (u ++ c) ps
 front_into s t q u begun ds reads f =
     let i = begins_into s t q begun ds reads f.0 (u ++ f.1.1) f.1.0 (f.1.2 ∙ append_assoc q u f.1.1) in
     (f.1.1, i.0, i.2)
 
-module _ (s : List Form) (has : EachKindHasAValue s) (known : EachPartIsKnown s) (t : ℕ) (q u : List ℕ)
+module _ (s : List KindView) (has : EachKindHasAValue s) (known : EachPartIsKnown s) (t : ℕ) (q u : List ℕ)
     (units : length q % 4 ≡ 0) (front : Front s t q) (len : length u ≡ 4) (are : AreBytes u) where
   -- where a value is due
   goes_on_due : (begun : List Entry) (d : ℕ) (t' : Part) (ts : List Part) (ds : List Due)
       → Reaches s 0 [] (root t) q begun (Frame d (t' ∷ ts) ∷ ds) → Continues s t q u
   goes_on_due begun d t' ts ds r =
-      let k : Form = kind_at s t'.kind in
+      let k : KindView = kind_at s t'.kind in
       let owed : List Due = Frame d (t' ∷ ts) ∷ ds in
       let e : Entry = first (length q) d t' k in
       let x : ℕ = from_be_bytes w32 u in
@@ -261,7 +266,7 @@ module _ (s : List Form) (has : EachKindHasAValue s) (known : EachPartIsKnown s)
   goes_on_at begun (Frame d (t' ∷ ts) ∷ ds) r unfinished = goes_on_due begun d t' ts ds r
   goes_on_at begun (Rest n ∷ ds) r unfinished = goes_on_rest begun n ds r
 
-pub goes_on : (s : List Form) → EachKindHasAValue s → EachPartIsKnown s → GoesOn s
+pub goes_on : (s : List KindView) → EachKindHasAValue s → EachPartIsKnown s → GoesOn s
 goes_on s has known t q u units front unfinished len are =
     let r = reached_front s t q units front in
     let c = goes_on_at s has known t q u units front len (bytes_are u are) r.0 r.1 r.2 unfinished in

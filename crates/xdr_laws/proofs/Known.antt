@@ -1,10 +1,13 @@
 -- What is known of all values that begin with one front of whole units.
-use Rattle.std.proofs.Common.{◌≡◌, ℕ, zero, suc, ◌+◌, ◌-◌, ◌%◌, ◌≤◌, Bool, true, false, cond, nat_le, leb-true, List, [], ◌∷◌, ◌++◌, length, refl, sym, ap, subst, ◌∙◌, append_assoc, append-nil, zero-add, arith, inl, inr, replicate}
+use Rattle.std.proofs.Common.{◌≡◌, ℕ, zero, suc, ◌+◌, ◌-◌, ◌%◌, ◌≤◌, Bool, true, false, cond, nat_le, leb-true, List}
+use Rattle.std.proofs.Common.{[], ◌∷◌, ◌++◌, length, refl, sym, ap, subst, ◌∙◌, append_assoc, append-nil, zero-add}
+use Rattle.std.proofs.Common.{arith, inl, inr, replicate}
 use Rattle.std.specs.Prelude.{Contains}
 use Rattle.std.proofs.lemmas.List.{length-append, length-replicate}
-use Rattle.std.proofs.lemmas.List.Elements.{All-contains, All-from_recursion, Contains-append_cases, Contains-append_left}
-use Rattle.xdr_types.specs.Form as form
-use Rattle.xdr_types.specs.Form.{Form, Part, Constant, kind_at}
+use Rattle.std.proofs.lemmas.List.Elements.{All-contains, All-from_recursion, Contains-append_cases}
+use Rattle.std.proofs.lemmas.List.Elements.{Contains-append_left}
+use Rattle.xdr_types.specs.Kinds as xdr
+use Rattle.xdr_types.specs.Kinds.{KindView, Part, Constant, kind_at}
 use Rattle.xdr_types.specs.Tree as value
 use Rattle.xdr_types.specs.Tree.{Head, Values, Tree, from_list}
 use Rattle.xdr_units.specs.Numbers.{pad, padded}
@@ -33,24 +36,24 @@ zero_bytes : (n : ℕ) → AreBytes (replicate n 0)
 zero_bytes zero = tt
 zero_bytes (suc n) = (omega arith, zero_bytes n)
 
-content_bytes : (s : List Form) (k : Form) (bs : List ℕ) → IsLegal s k (value.bytes bs) → AreBytes bs
-content_bytes s (form.opaque size) bs l = l.1
-content_bytes s (form.opaque_up_to max) bs l = l.2
-content_bytes s (form.text max) bs l = l.2
+content_bytes : (s : List KindView) (k : KindView) (bs : List ℕ) → IsLegal s k (value.bytes bs) → AreBytes bs
+content_bytes s (xdr.opaque size) bs l = l.1
+content_bytes s (xdr.opaque_up_to max) bs l = l.2
+content_bytes s (xdr.text max) bs l = l.2
 content_bytes s _ bs l = absurd l
 
 padded_bytes : (bs : List ℕ) → AreBytes bs → AreBytes (padded bs)
 padded_bytes bs a = bytes_front bs (pad (length bs)) a (zero_bytes ((4 - length bs % 4) % 4))
 
-own_content : (k : Form) (bs : List ℕ) → AreBytes bs → AreBytes (own k (value.bytes bs))
-own_content (form.opaque size) bs a = padded_bytes bs a
+own_content : (k : KindView) (bs : List ℕ) → AreBytes bs → AreBytes (own k (value.bytes bs))
+own_content (xdr.opaque size) bs a = padded_bytes bs a
 own_content _ bs a = bytes_front (unit4 (length bs)) (padded bs) (bytes4 (length bs)) (padded_bytes bs a)
 
-own_items : (k : Form) (n : ℕ) → AreBytes (own k (value.items n))
-own_items (form.fixed item size) n = tt
+own_items : (k : KindView) (n : ℕ) → AreBytes (own k (value.items n))
+own_items (xdr.fixed item size) n = tt
 own_items _ n = bytes4 n
 
-own_bytes : (s : List Form) (k : Form) (h : Head) → IsLegal s k h → AreBytes (own k h)
+own_bytes : (s : List KindView) (k : KindView) (h : Head) → IsLegal s k h → AreBytes (own k h)
 own_bytes s k (value.int z) l = bytes4 (unit_of z)
 own_bytes s k (value.unsigned n) l = bytes4 n
 own_bytes s k (value.hyper z) l = bytes8 (units_of z)
@@ -66,25 +69,25 @@ own_bytes s k value.present l = bytes4 1
 own_bytes s k value.absent l = bytes4 0
 own_bytes s k value.nothing l = tt
 
-pub spelling_bytes : (s : List Form) (ts : List Part) (v : Values) → FitAll s ts v → AreBytes (spelling s ts v)
+pub spelling_bytes : (s : List KindView) (ts : List Part) (v : Values) → FitAll s ts v → AreBytes (spelling s ts v)
 spelling_bytes s [] v f = tt
 spelling_bytes s (t ∷ ts) value.none f = absurd (false≢true f)
 spelling_bytes s (t ∷ ts) (value.node h ps rest) fits =
-    let k : Form = kind_at s t.kind in
+    let k : KindView = kind_at s t.kind in
     let f = fit_node s t ts h ps rest fits in
     bytes_front (own k h ++ spelling s (parts k h) ps) (spelling s ts rest)
     (bytes_front (own k h) (spelling s (parts k h) ps) (own_bytes s k h f.0) (spelling_bytes s (parts k h) ps f.1))
     (spelling_bytes s ts rest f.2)
 
 -- a value as the only one of a list
-pub root_fits : (s : List Form) (t : ℕ) (v : Tree) → Fits s t v → FitAll s (item_part t ∷ []) (from_list (v ∷ []))
+pub root_fits : (s : List KindView) (t : ℕ) (v : Tree) → Fits s t v → FitAll s (item_part t ∷ []) (from_list (v ∷ []))
 root_fits s t v f = and (fits s t v) true f refl
 
-pub root_spelling : (s : List Form) (t : ℕ) (v : Tree)
+pub root_spelling : (s : List KindView) (t : ℕ) (v : Tree)
     → spelling s (item_part t ∷ []) (from_list (v ∷ [])) ≡ bytes_of s t v
 root_spelling s t v = append-nil (bytes_of s t v)
 
-pub value_bytes : (s : List Form) (t : ℕ) (v : Tree) → Fits s t v → AreBytes (bytes_of s t v)
+pub value_bytes : (s : List KindView) (t : ℕ) (v : Tree) → Fits s t v → AreBytes (bytes_of s t v)
 value_bytes s t v f = subst (λ (b : List ℕ). AreBytes b) (root_spelling s t v)
     (spelling_bytes s (item_part t ∷ []) (from_list (v ∷ [])) (root_fits s t v f))
 
@@ -95,8 +98,8 @@ front_bytes (x ∷ q) c a = (a.0, front_bytes q c a.1)
 pad_units : (n : ℕ) → (n + length (pad n)) % 4 ≡ 0
 pad_units n = omega (arith, length-replicate {A = ℕ} ((4 - n % 4) % 4) 0)
 
-content_units : (k : Form) (bs : List ℕ) → length (own k (value.bytes bs)) % 4 ≡ 0
-content_units (form.opaque size) bs = omega (arith, pad_units (length bs), length-append bs (pad (length bs)))
+content_units : (k : KindView) (bs : List ℕ) → length (own k (value.bytes bs)) % 4 ≡ 0
+content_units (xdr.opaque size) bs = omega (arith, pad_units (length bs), length-append bs (pad (length bs)))
 content_units _ bs = omega (
   arith,
   unit4-length (length bs),
@@ -106,11 +109,11 @@ content_units _ bs = omega (
   length-append bs (pad (length bs)),
 )
 
-items_units : (k : Form) (n : ℕ) → length (own k (value.items n)) % 4 ≡ 0
-items_units (form.fixed item size) n = refl
+items_units : (k : KindView) (n : ℕ) → length (own k (value.items n)) % 4 ≡ 0
+items_units (xdr.fixed item size) n = refl
 items_units _ n = omega (arith, unit4-length n)
 
-pub own_units : (k : Form) (h : Head) → length (own k h) % 4 ≡ 0
+pub own_units : (k : KindView) (h : Head) → length (own k h) % 4 ≡ 0
 own_units k (value.int z) = omega (arith, unit4-length (unit_of z))
 own_units k (value.unsigned n) = omega (arith, unit4-length n)
 own_units k (value.hyper z) = omega (arith, unit8-length (units_of z))
@@ -126,11 +129,11 @@ own_units k value.present = omega (arith, unit4-length 1)
 own_units k value.absent = omega (arith, unit4-length 0)
 own_units k value.nothing = refl
 
-pub spelling_units : (s : List Form) (ts : List Part) (v : Values) → length (spelling s ts v) % 4 ≡ 0
+pub spelling_units : (s : List KindView) (ts : List Part) (v : Values) → length (spelling s ts v) % 4 ≡ 0
 spelling_units s [] v = refl
 spelling_units s (t ∷ ts) value.none = refl
 spelling_units s (t ∷ ts) (value.node h ps rest) =
-    let k : Form = kind_at s t.kind in
+    let k : KindView = kind_at s t.kind in
     let sv : List ℕ = spelling s (parts k h) ps in
     let sw : List ℕ = spelling s ts rest in
     omega (
@@ -143,12 +146,12 @@ spelling_units s (t ∷ ts) (value.node h ps rest) =
       length-append (own k h) sv,
     )
 
-pub value_units : (s : List Form) (t : ℕ) (v : Tree) → length (bytes_of s t v) % 4 ≡ 0
+pub value_units : (s : List KindView) (t : ℕ) (v : Tree) → length (bytes_of s t v) % 4 ≡ 0
 value_units s t v = subst (λ (b : List ℕ). length b % 4 ≡ 0) (root_spelling s t v)
     (spelling_units s (item_part t ∷ []) (from_list (v ∷ [])))
 
 -- the stretches of a value's parts join to its bytes
-pub value_join : (s : List Form) (t : ℕ) (v : Tree) → Fits s t v → Join 0 (entries s t v) (length (bytes_of s t v))
+pub value_join : (s : List KindView) (t : ℕ) (v : Tree) → Fits s t v → Join 0 (entries s t v) (length (bytes_of s t v))
 value_join s t v f =
     let all : List ℕ = spelling s (item_part t ∷ []) (from_list (v ∷ [])) in
     subst (λ (n : ℕ). Join 0 (entries s t v) n)
@@ -158,52 +161,53 @@ value_join s t v f =
 -- ---- the part with which a unit begins
 
 -- what a head shows first, and then
-abbrev ShowsFirst : (place d : ℕ) (t : Part) → Form → Head → Type 0
+abbrev ShowsFirst : (place d : ℕ) (t : Part) → KindView → Head → Type 0
 ShowsFirst place d t k h = (more : List Entry) × (shown place d t k h ≡ first place d t k ∷ more)
     × AllFrom (place + 1) more × (4 ≤ length (own k h))
 
-pub shows_first : (s : List Form) (place d : ℕ) (t : Part) (k : Form) (h : Head) → HasUnit (lead_of k) → IsLegal s k h
+pub shows_first : (s : List KindView) (place d : ℕ) (t : Part) (k : KindView) (h : Head) → HasUnit (lead_of k)
+    → IsLegal s k h
     → ShowsFirst place d t k h
-shows_first s place d t form.int (value.int z) u l = ([], refl, tt, omega (arith, unit4-length (unit_of z)))
-shows_first s place d t form.unsigned (value.unsigned n) u l = ([], refl, tt, omega (arith, unit4-length n))
-shows_first s place d t form.boolean (value.boolean true) u l = ([], refl, tt, omega (arith, unit4-length 1))
-shows_first s place d t form.boolean (value.boolean false) u l = ([], refl, tt, omega (arith, unit4-length 0))
-shows_first s place d t (form.numbered constants) (value.numbered z) u l =
+shows_first s place d t xdr.int (value.int z) u l = ([], refl, tt, omega (arith, unit4-length (unit_of z)))
+shows_first s place d t xdr.unsigned (value.unsigned n) u l = ([], refl, tt, omega (arith, unit4-length n))
+shows_first s place d t xdr.boolean (value.boolean true) u l = ([], refl, tt, omega (arith, unit4-length 1))
+shows_first s place d t xdr.boolean (value.boolean false) u l = ([], refl, tt, omega (arith, unit4-length 0))
+shows_first s place d t (xdr.numbered constants) (value.numbered z) u l =
     ([], refl, tt, omega (arith, unit4-length (unit_of z)))
-shows_first s place d t (form.opaque_up_to max) (value.bytes bs) u l = (
+shows_first s place d t (xdr.opaque_up_to max) (value.bytes bs) u l = (
   content (place + 4) d t (length bs),
   refl,
   (omega arith, tt),
   omega
       (arith, unit4-length (length bs), length-append (unit4 (length bs)) (bs ++ pad (length bs))),
 )
-shows_first s place d t (form.text max) (value.bytes bs) u l = (
+shows_first s place d t (xdr.text max) (value.bytes bs) u l = (
   content (place + 4) d t (length bs),
   refl,
   (omega arith, tt),
   omega
       (arith, unit4-length (length bs), length-append (unit4 (length bs)) (bs ++ pad (length bs))),
 )
-shows_first s place d t (form.up_to item max) (value.items n) u l = ([], refl, tt, omega (arith, unit4-length n))
-shows_first s place d t (form.choice tag arms other) (value.tag z) u l =
+shows_first s place d t (xdr.up_to item max) (value.items n) u l = ([], refl, tt, omega (arith, unit4-length n))
+shows_first s place d t (xdr.choice tag arms other) (value.tag z) u l =
     ([], refl, tt, omega (arith, unit4-length (unit_of z)))
-shows_first s place d t (form.maybe item) value.present u l = ([], refl, tt, omega (arith, unit4-length 1))
-shows_first s place d t (form.maybe item) value.absent u l = ([], refl, tt, omega (arith, unit4-length 0))
-shows_first s place d t form.hyper h u l = absurd u
-shows_first s place d t form.unsigned_hyper h u l = absurd u
-shows_first s place d t (form.opaque size) h u l = absurd u
-shows_first s place d t (form.fixed item size) h u l = absurd u
-shows_first s place d t (form.structure fields) h u l = absurd u
-shows_first s place d t form.nothing h u l = absurd u
+shows_first s place d t (xdr.maybe item) value.present u l = ([], refl, tt, omega (arith, unit4-length 1))
+shows_first s place d t (xdr.maybe item) value.absent u l = ([], refl, tt, omega (arith, unit4-length 0))
+shows_first s place d t xdr.hyper h u l = absurd u
+shows_first s place d t xdr.unsigned_hyper h u l = absurd u
+shows_first s place d t (xdr.opaque size) h u l = absurd u
+shows_first s place d t (xdr.fixed item size) h u l = absurd u
+shows_first s place d t (xdr.structure fields) h u l = absurd u
+shows_first s place d t xdr.nothing h u l = absurd u
 shows_first s place d t _ _ u l = absurd l
 
-pub begins_settled : (s : List Form) (place : ℕ) (ds : List Due) (c : List ℕ) (ps : List Entry) → IsSettled s ds
+pub begins_settled : (s : List KindView) (place : ℕ) (ds : List Due) (c : List ℕ) (ps : List Entry) → IsSettled s ds
     → Completes s place ds c ps
     → (later : List Entry) × (ps ≡ begins_here s place ds ++ later) × AllFrom (place + 1) later
 begins_settled s place [] c ps n r = ([], r.1, tt)
 begins_settled s place (Frame d [] ∷ ds) c ps n r = absurd n
 begins_settled s place (Frame d (t ∷ ts) ∷ ds) c ps n r =
-    let k : Form = kind_at s t.kind in
+    let k : KindView = kind_at s t.kind in
     let i = begin_into s place d t ts ds c ps r in
     let f = shows_first s place d t k i.0 n i.3 in
     let far : AllFrom (place + 1) i.2 = from_less (place + 1) (place + length (own k i.0)) i.2 (omega (arith, f.3))
@@ -226,7 +230,7 @@ abbrev pub root : ℕ → List Due
 root t = Frame 1 (item_part t ∷ []) ∷ []
 
 -- a value as a completion of the root
-pub completion_of : (s : List Form) (t : ℕ) (v : Tree) → Fits s t v
+pub completion_of : (s : List KindView) (t : ℕ) (v : Tree) → Fits s t v
     → Completes s 0 (root t) (bytes_of s t v) (entries s t v)
 completion_of s t v f =
     let b : List ℕ = bytes_of s t v in (
@@ -241,7 +245,7 @@ completion_of s t v f =
     )
 
 -- and a completion of the root as a value
-value_at : (s : List Form) (t : ℕ) (v : Values) (x : List ℕ) (qs : List Entry) (c : List ℕ) (ps : List Entry)
+value_at : (s : List KindView) (t : ℕ) (v : Values) (x : List ℕ) (qs : List Entry) (c : List ℕ) (ps : List Entry)
     → FitAll s (item_part t ∷ []) v
     → c ≡ spelling s (item_part t ∷ []) v ++ x → ps ≡ layout s 0 1 (item_part t ∷ []) v ++ qs → x ≡ [] → qs ≡ []
     → (w : Tree) × Fits s t w × (bytes_of s t w ≡ c) × (entries s t w ≡ ps)
@@ -259,11 +263,11 @@ value_at s t (value.node h inner (value.node g a r)) x qs c ps f e p n m =
     let w : Tree = (h, inner) in
     absurd (false≢true (both (fits s t w) false f).1)
 
-pub value_of : (s : List Form) (t : ℕ) (c : List ℕ) (ps : List Entry) → Completes s 0 (root t) c ps
+pub value_of : (s : List KindView) (t : ℕ) (c : List ℕ) (ps : List Entry) → Completes s 0 (root t) c ps
     → (v : Tree) × Fits s t v × (bytes_of s t v ≡ c) × (entries s t v ≡ ps)
 value_of s t c ps r = value_at s t r.0 r.1 r.2 c ps r.3 r.4 r.5 r.6.0 r.6.1
 
-pub reached_front : (s : List Form) (t : ℕ) (q : List ℕ) → length q % 4 ≡ 0 → Front s t q
+pub reached_front : (s : List KindView) (t : ℕ) (q : List ℕ) → length q % 4 ≡ 0 → Front s t q
     → (begun : List Entry) × (ds : List Due) × Reaches s 0 [] (root t) q begun ds
 reached_front s t q units f =
     let whole : Completes s 0 (root t) (q ++ f.1.1) (entries s t f.0) = subst
@@ -272,7 +276,7 @@ reached_front s t q units f =
     (front_bytes q f.1.1 (subst (λ (b : List ℕ). AreBytes b) f.1.2 (value_bytes s t f.0 f.1.0))) units whole
 
 -- a value that begins with q, from where q is read
-pub begins_into : (s : List Form) (t : ℕ) (q : List ℕ) (begun : List Entry) (ds : List Due)
+pub begins_into : (s : List KindView) (t : ℕ) (q : List ℕ) (begun : List Entry) (ds : List Due)
     → Reads s 0 (root t) q begun ds → (v : Tree) (c : List ℕ) → Fits s t v → bytes_of s t v ≡ q ++ c
     → (ps : List Entry) × (entries s t v ≡ begun ++ ps) × Completes s (length q) ds c ps
 begins_into s t q begun ds reads v c f e =
@@ -280,7 +284,7 @@ begins_into s t q begun ds reads v c f e =
     (completion_of s t v f)) in
     (i.0, i.1, subst (λ (n : ℕ). Completes s n ds c i.0) (zero-add (length q)) i.2)
 
-pub begins_back : (s : List Form) (t : ℕ) (q : List ℕ) (begun : List Entry) (ds : List Due)
+pub begins_back : (s : List KindView) (t : ℕ) (q : List ℕ) (begun : List Entry) (ds : List Due)
     → Reads s 0 (root t) q begun ds → (c : List ℕ) (ps : List Entry) → Completes s (length q) ds c ps
     → (v : Tree) × Fits s t v × (bytes_of s t v ≡ q ++ c) × (entries s t v ≡ begun ++ ps)
 begins_back s t q begun ds reads c ps r = value_of s t (q ++ c) (begun ++ ps)
@@ -288,7 +292,7 @@ begins_back s t q begun ds reads c ps r = value_of s t (q ++ c) (begun ++ ps)
 
 -- ---- what is known after a front
 
-pub known_at : (s : List Form) (t : ℕ) (q : List ℕ) (begun : List Entry) (ds : List Due)
+pub known_at : (s : List KindView) (t : ℕ) (q : List ℕ) (begun : List Entry) (ds : List Due)
     → Reaches s 0 [] (root t) q begun ds → AreKnown s t q (begun ++ begins_here s (length q) ds)
 known_at s t q begun ds r = record {
   all = λ v c f e.
@@ -301,7 +305,7 @@ known_at s t q begun ds r = record {
       );
 }
 
-pub known : (s : List Form) (t : ℕ) (q : List ℕ) → length q % 4 ≡ 0 → Front s t q
+pub known : (s : List KindView) (t : ℕ) (q : List ℕ) → length q % 4 ≡ 0 → Front s t q
     → (ps : List Entry) × AreKnown s t q ps
 known s t q units f = let r = reached_front s t q units f in
     (r.0 ++ begins_here s (length q) r.1, known_at s t q r.0 r.1 r.2)
@@ -323,7 +327,8 @@ up_to_late p (e ∷ ps) a = by_test (up_to_late p ps a.1) (nat_le e.at p) refl
     by_test more true h = let low = leb-true e.at p h in absurd (omega (arith, a.0))
     by_test more false h = more
 
-pub up_to_known : (s : List Form) (t : ℕ) (q : List ℕ) (ps : List Entry) → AreKnown s t q ps → (v : Tree) (c : List ℕ)
+pub up_to_known : (s : List KindView) (t : ℕ) (q : List ℕ) (ps : List Entry) → AreKnown s t q ps
+    → (v : Tree) (c : List ℕ)
     → Fits s t v → bytes_of s t v ≡ q ++ c
     → up_to (length q) (entries s t v) ≡ up_to (length q) ps
 up_to_known s t q ps k v c f e =
@@ -335,7 +340,8 @@ up_to_known s t q ps k v c f e =
 -- ---- the part in which the unit after q stands
 
 -- it is one of the known
-known_holds : (s : List Form) (t : ℕ) (q : List ℕ) (ps : List Entry) → AreKnown s t q ps → (e : Entry) → Stands s t q e
+known_holds : (s : List KindView) (t : ℕ) (q : List ℕ) (ps : List Entry) → AreKnown s t q ps → (e : Entry)
+    → Stands s t q e
     → Contains ps e
 known_holds s t q ps k e h =
     let i = k.all h.0 h.1.1 h.1.0 h.1.2 in
@@ -350,7 +356,7 @@ known_holds s t q ps k e h =
       ))
     ]
 
-pub one_stands : (s : List Form) (t : ℕ) (q : List ℕ) → length q % 4 ≡ 0 → (e f : Entry) → Stands s t q e
+pub one_stands : (s : List KindView) (t : ℕ) (q : List ℕ) → length q % 4 ≡ 0 → (e f : Entry) → Stands s t q e
     → Stands s t q f → e ≡ f
 one_stands s t q units e f h g =
     let k = known s t q units (h.0, h.1) in

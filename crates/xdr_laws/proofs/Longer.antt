@@ -2,13 +2,15 @@
 use Rattle.std.proofs.Common.{◌≡◌, ℕ, ◌+◌, ◌%◌, ◌<◌, ◌≤◌, List, ◌++◌, length, take, drop, sym, ap, subst, ◌∙◌, arith}
 use Rattle.std.specs.Int.{w32, from_be_bytes}
 use Rattle.std.proofs.lemmas.List.{take-append-le, drop-append-le, length-append, length-drop}
-use Rattle.xdr_types.specs.Form.{Form}
+use Rattle.xdr_types.specs.Kinds.{KindView}
 use Rattle.xdr_types.specs.Tree.{Tree}
 use Rattle.xdr_types.specs.Within.{Bounds}
 use Rattle.xdr_types.specs.Front.{Front}
-use Rattle.xdr_types.specs.Outcome.{Why, Ending, Pending, Whole, TooDeep, TooLarge, Broken, IsEvent, IsDeep, IsQuiet, IsReached, IsFull, IsBad, IsReason, Outcome}
+use Rattle.xdr_types.specs.Outcome.{Why, Ending, Pending, Whole, TooDeep, TooLarge, Broken, IsEvent, IsDeep, IsQuiet}
+use Rattle.xdr_types.specs.Outcome.{IsReached, IsFull, IsBad, IsReason, Outcome}
 
-pub quiet_longer : (s : List Form) (t : ℕ) (l : Bounds) (q x : List ℕ) (r : ℕ) → r + 4 ≤ length q → IsQuiet s t l q r
+pub quiet_longer : (s : List KindView) (t : ℕ) (l : Bounds) (q x : List ℕ) (r : ℕ) → r + 4 ≤ length q
+    → IsQuiet s t l q r
     → IsQuiet s t l (q ++ x) r
 quiet_longer s t l q x r short h =
     let same : take r (q ++ x) ≡ take r q = take-append-le r q x (omega arith) in
@@ -23,7 +25,7 @@ quiet_longer s t l q x r short h =
 pub unit_apart : (r n : ℕ) → r % 4 ≡ 0 → n % 4 ≡ 0 → r < n → r + 4 ≤ n
 unit_apart r n a b h = omega arith
 
-module _ (s : List Form) (t : ℕ) (l : Bounds) (b x : List ℕ) (p : ℕ) where
+module _ (s : List KindView) (t : ℕ) (l : Bounds) (b x : List ℕ) (p : ℕ) where
   reached_longer : IsReached s t l b p → IsReached s t l (b ++ x) p
   reached_longer r = record {
     units = r.units;
@@ -46,7 +48,8 @@ module _ (s : List Form) (t : ℕ) (l : Bounds) (b x : List ℕ) (p : ℕ) where
 drop_longer : (p : ℕ) (b x : List ℕ) → p ≤ length b → drop p (b ++ x) ≡ drop p b ++ x
 drop_longer p b x h = drop-append-le p b x h
 
-bad_longer : (s : List Form) (t : ℕ) (b x : List ℕ) (p : ℕ) (why : Why) → IsBad s t b p why → IsBad s t (b ++ x) p why
+bad_longer : (s : List KindView) (t : ℕ) (b x : List ℕ) (p : ℕ) (why : Why) → IsBad s t b p why
+    → IsBad s t (b ++ x) p why
 bad_longer s t b x p why bad =
     let short : p ≤ length b = omega (arith, bad.enough) in
     let unit : take 4 (drop p (b ++ x)) ≡ take 4 (drop p b) =
@@ -60,7 +63,7 @@ bad_longer s t b x p why bad =
           (subst (λ (u : List ℕ). IsReason s t (take p b) (from_be_bytes w32 u) why) (sym unit) bad.reason);
     }
 
-pub stays : (s : List Form) (t : ℕ) (l : Bounds) (b x : List ℕ) (e : Ending) → IsEvent e → Outcome s t l b e
+pub stays : (s : List KindView) (t : ℕ) (l : Bounds) (b x : List ℕ) (e : Ending) → IsEvent e → Outcome s t l b e
     → Outcome s t l (b ++ x) e
 stays s t l b x Pending i o = absurd i
 stays s t l b x (Whole v p) i o = (

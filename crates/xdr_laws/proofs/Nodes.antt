@@ -1,22 +1,25 @@
 -- How many nodes begin at one place.
-use Rattle.std.proofs.Common.{◌≡◌, ℕ, zero, suc, ◌+◌, ◌<◌, ◌≤◌, ◌==◌, Bool, true, false, cond, nat_lt, List, [], ◌∷◌, ◌++◌, length, Option, Some, None, refl, sym, ap, subst, ◌∙◌, arith, inl, inr, replicate}
+use Rattle.std.proofs.Common.{◌≡◌, ℕ, zero, suc, ◌+◌, ◌<◌, ◌≤◌, ◌==◌, Bool, true, false, cond, nat_lt, List, [], ◌∷◌}
+use Rattle.std.proofs.Common.{◌++◌, length, Option, Some, None, refl, sym, ap, subst, ◌∙◌, arith, inl, inr, replicate}
 use Rattle.std.specs.Prelude.{◌⊎◌, ⊤, ◌*◌, if◌then◌else◌}
 use Rattle.std.specs.List.{AllByRecursion}
 use Rattle.std.proofs.lemmas.Bool.{cases_lt}
 use Rattle.std.proofs.lemmas.List.{length-append, length-replicate, get_or_past}
-use Rattle.xdr_types.specs.Form as form
-use Rattle.xdr_types.specs.Form.{Form, Part, Constant, kind_at}
+use Rattle.xdr_types.specs.Kinds as xdr
+use Rattle.xdr_types.specs.Kinds.{KindView, Part, Constant, kind_at}
 use Rattle.xdr_types.specs.Tree as value
 use Rattle.xdr_types.specs.Tree.{Head, Values, Tree, from_list}
 use Rattle.xdr_units.specs.Numbers.{pad}
 use Rattle.xdr_types.specs.Fits.{Fits, fits, fit, parts, item_part, part_of}
 use Rattle.xdr_types.specs.Spelling.{own, spelling}
 use Rattle.xdr_types.specs.Layout.{Entry, entry, layout, entries, shown, content, of_length}
-use Rattle.xdr_types.specs.Form.{Lists}
+use Rattle.xdr_types.specs.Kinds.{Lists}
 use Rattle.xdr_types.specs.Fits.{is_legal, optional_part}
 use Rattle.xdr_types.specs.Sound.{Heighting, IsProper, IsSound}
 use Rattle.xdr_types.specs.Height.{height_within, IsHigher}
-use Rattle.xdr_types.specs.Faults.{some_of, is_none, is_void, is_nothing, has_unknown, is_zero_size, has_void, has_bad_tag, has_case_twice, has_illegal_case, has_empty_list, kind_flaw, IsWellFormed}
+use Rattle.xdr_types.specs.Faults.{some_of, is_none, is_void, is_nothing, has_unknown, is_zero_size, has_void}
+use Rattle.xdr_types.specs.Faults.{has_bad_tag, has_case_twice, has_illegal_case, has_empty_list, kind_flaw}
+use Rattle.xdr_types.specs.Faults.{IsWellFormed}
 use Rattle.xdr_types.specs.Laws.{EachPartIsKnown}
 use Rattle.xdr_types.specs.declared.fault.Flaw.{Flaw}
 use Rattle.xdr_types.specs.declared.fault.Flaw.TheVariants as flaw
@@ -37,39 +40,39 @@ use Rattle.xdr_types.proofs.Higher.{higher-at}
 -- ---- what a well formed schema has: nothing void stands as a field or an item, nothing fixed is of size 0, and a
 -- structure has fields
 
-abbrev IsSolid : Form → Type 0
-IsSolid form.nothing = ⊥
+abbrev IsSolid : KindView → Type 0
+IsSolid xdr.nothing = ⊥
 IsSolid _ = ⊤
 
-abbrev AreMembers : List Form → List Part → Type 0
+abbrev AreMembers : List KindView → List Part → Type 0
 AreMembers s ts = AllByRecursion (λ (t : Part). IsSolid (kind_at s t.kind)) ts
 
-abbrev IsFormedKind : List Form → Form → Type 0
-IsFormedKind s (form.opaque size) = 0 < size
-IsFormedKind s (form.fixed item size) = (0 < size) × IsSolid (kind_at s item)
-IsFormedKind s (form.up_to item max) = IsSolid (kind_at s item)
-IsFormedKind s (form.structure fields) = (0 < length fields) × AreMembers s fields
-IsFormedKind s (form.maybe item) = IsSolid (kind_at s item)
+abbrev IsFormedKind : List KindView → KindView → Type 0
+IsFormedKind s (xdr.opaque size) = 0 < size
+IsFormedKind s (xdr.fixed item size) = (0 < size) × IsSolid (kind_at s item)
+IsFormedKind s (xdr.up_to item max) = IsSolid (kind_at s item)
+IsFormedKind s (xdr.structure fields) = (0 < length fields) × AreMembers s fields
+IsFormedKind s (xdr.maybe item) = IsSolid (kind_at s item)
 IsFormedKind s _ = ⊤
 
-abbrev IsFormed : List Form → Type 0
+abbrev IsFormed : List KindView → Type 0
 IsFormed s = (t : ℕ) → IsFormedKind s (kind_at s t)
 
 -- what a kind has without reading a byte: the parts of a structure and of a fixed list
-abbrev Over : (ℕ → Type 0) → Form → Type 0
-Over P (form.fixed item size) = P item
-Over P (form.structure fields) = AllByRecursion (λ (p : Part). P p.kind) fields
+abbrev Over : (ℕ → Type 0) → KindView → Type 0
+Over P (xdr.fixed item size) = P item
+Over P (xdr.structure fields) = AllByRecursion (λ (p : Part). P p.kind) fields
 Over P _ = ⊤
 
 -- each structure and each fixed list is higher than all its parts
-abbrev AreOver : List Form → (ℕ → ℕ) → Type 0
+abbrev AreOver : List KindView → (ℕ → ℕ) → Type 0
 AreOver s height = (t : ℕ) → Over (λ part. height part < height t) (kind_at s t)
 
 -- and they point to places of the list
-abbrev IsClosed : List Form → Type 0
+abbrev IsClosed : List KindView → Type 0
 IsClosed s = (t : ℕ) → Over (λ part. part < length s) (kind_at s t)
 
-nodes_append : (s : List Form) (p : ℕ) (xs ys : List Entry)
+nodes_append : (s : List KindView) (p : ℕ) (xs ys : List Entry)
     → nodes_at s p (xs ++ ys) ≡ nodes_at s p xs + nodes_at s p ys
 nodes_append s p [] ys = omega arith
 nodes_append s p (x ∷ xs) ys = let more = nodes_append s p xs ys in omega arith
@@ -78,13 +81,13 @@ not_here : (a p n : ℕ) → (a ≡ p → ⊥) → cond (a == p) n 0 ≡ 0
 not_here a p n h = grind arith
 
 -- none begins before the parts, nor after them
-nodes_before : (s : List Form) (p a : ℕ) (ps : List Entry) → AllFrom a ps → p < a → nodes_at s p ps ≡ 0
+nodes_before : (s : List KindView) (p a : ℕ) (ps : List Entry) → AllFrom a ps → p < a → nodes_at s p ps ≡ 0
 nodes_before s p a [] f h = refl
 nodes_before s p a (e ∷ ps) f h =
     let here = not_here e.at p (one_if (is_first (kind_at s e.kind) e.role)) (λ same. absurd (omega (arith, f.0))) in
     let more = nodes_before s p a ps f.1 h in omega arith
 
-nodes_after : (s : List Form) (p a b : ℕ) (ps : List Entry) → Join a ps b → b < p → nodes_at s p ps ≡ 0
+nodes_after : (s : List KindView) (p a b : ℕ) (ps : List Entry) → Join a ps b → b < p → nodes_at s p ps ≡ 0
 nodes_after s p a b [] j h = refl
 nodes_after s p a b (e ∷ ps) j h =
     let low = join_low (a + e.size) b ps j.1 in
@@ -121,136 +124,137 @@ counts_none place p b e = subst (λ (c : Bool). cond (place == p) (one_if c) 0 +
     by_test true = refl
     by_test false = refl
 
-counts_length : (s : List Form) (place : ℕ) (t : Part) (n p : ℕ) → is_opaque (kind_at s t.kind) ≡ false
+counts_length : (s : List KindView) (place : ℕ) (t : Part) (n p : ℕ) → is_opaque (kind_at s t.kind) ≡ false
     → nodes_at s p (entry place 4 0 t of_length ∷ content (place + 4) 0 t n) ≡ here place p
 counts_length s place t n p e = let none = counts_none (place + 4) p (is_opaque (kind_at s t.kind)) e in omega arith
 
-shown_nodes : (s : List Form) (place d : ℕ) (t : Part) (k : Form) (h : Head) → kind_at s t.kind ≡ k → IsLegal s k h
+shown_nodes : (s : List KindView) (place d : ℕ) (t : Part) (k : KindView) (h : Head) → kind_at s t.kind ≡ k
+    → IsLegal s k h
     → (p : ℕ) → nodes_at s p (shown place d t k h) ≡ here place p
-shown_nodes s place d t (form.opaque size) (value.bytes bs) is l p = counts_one place p (is_opaque (kind_at s t.kind))
+shown_nodes s place d t (xdr.opaque size) (value.bytes bs) is l p = counts_one place p (is_opaque (kind_at s t.kind))
     (ap is_opaque is)
-shown_nodes s place d t (form.opaque_up_to max) (value.bytes bs) is l p = counts_length s place t (length bs) p
+shown_nodes s place d t (xdr.opaque_up_to max) (value.bytes bs) is l p = counts_length s place t (length bs) p
     (ap is_opaque is)
-shown_nodes s place d t (form.text max) (value.bytes bs) is l p = counts_length s place t (length bs) p
+shown_nodes s place d t (xdr.text max) (value.bytes bs) is l p = counts_length s place t (length bs) p
     (ap is_opaque is)
-shown_nodes s place d t (form.fixed item size) (value.items n) is l p = omega arith
-shown_nodes s place d t (form.up_to item max) (value.items n) is l p = omega arith
-shown_nodes s place d t form.int (value.int z) is l p = omega arith
-shown_nodes s place d t form.unsigned (value.unsigned n) is l p = omega arith
-shown_nodes s place d t form.hyper (value.hyper z) is l p = omega arith
-shown_nodes s place d t form.unsigned_hyper (value.unsigned_hyper n) is l p = omega arith
-shown_nodes s place d t form.boolean (value.boolean b) is l p = omega arith
-shown_nodes s place d t (form.numbered constants) (value.numbered z) is l p = omega arith
-shown_nodes s place d t (form.structure fields) value.fields is l p = omega arith
-shown_nodes s place d t (form.choice tag arms other) (value.tag z) is l p = omega arith
-shown_nodes s place d t (form.maybe item) value.present is l p = omega arith
-shown_nodes s place d t (form.maybe item) value.absent is l p = omega arith
-shown_nodes s place d t form.nothing value.nothing is l p = omega arith
+shown_nodes s place d t (xdr.fixed item size) (value.items n) is l p = omega arith
+shown_nodes s place d t (xdr.up_to item max) (value.items n) is l p = omega arith
+shown_nodes s place d t xdr.int (value.int z) is l p = omega arith
+shown_nodes s place d t xdr.unsigned (value.unsigned n) is l p = omega arith
+shown_nodes s place d t xdr.hyper (value.hyper z) is l p = omega arith
+shown_nodes s place d t xdr.unsigned_hyper (value.unsigned_hyper n) is l p = omega arith
+shown_nodes s place d t xdr.boolean (value.boolean b) is l p = omega arith
+shown_nodes s place d t (xdr.numbered constants) (value.numbered z) is l p = omega arith
+shown_nodes s place d t (xdr.structure fields) value.fields is l p = omega arith
+shown_nodes s place d t (xdr.choice tag arms other) (value.tag z) is l p = omega arith
+shown_nodes s place d t (xdr.maybe item) value.present is l p = omega arith
+shown_nodes s place d t (xdr.maybe item) value.absent is l p = omega arith
+shown_nodes s place d t xdr.nothing value.nothing is l p = omega arith
 shown_nodes s place d t _ _ is l p = absurd l
 
 -- ---- the values of some kinds
 
 -- how many nodes of them begin at p
-abbrev count : List Form → (p place d : ℕ) → List Part → Values → ℕ
+abbrev count : List KindView → (p place d : ℕ) → List Part → Values → ℕ
 count s p place d ts v = nodes_at s p (layout s place d ts v)
 
 -- the bytes of the first value
-abbrev first_size : List Form → Part → Head → Values → ℕ
+abbrev first_size : List KindView → Part → Head → Values → ℕ
 first_size s t h ps = length (own (kind_at s t.kind) h) + length (spelling s (parts (kind_at s t.kind) h) ps)
 
-count_node : (s : List Form) (p place d : ℕ) (t : Part) (ts : List Part) (h : Head) (ps rest : Values)
+count_node : (s : List KindView) (p place d : ℕ) (t : Part) (ts : List Part) (h : Head) (ps rest : Values)
     → IsLegal s (kind_at s t.kind) h
     → count s p place d (t ∷ ts) (value.node h ps rest)
     ≡ here place p + (count s p (place + length (own (kind_at s t.kind) h)) (d + 1) (parts (kind_at s t.kind) h) ps
     + count s p (place + length (own (kind_at s t.kind) h) + length (spelling s (parts (kind_at s t.kind) h) ps)) d ts
     rest)
 count_node s p place d t ts h ps rest l =
-    let k : Form = kind_at s t.kind in
+    let k : KindView = kind_at s t.kind in
     let inside : List Entry = layout s (place + length (own k h)) (d + 1) (parts k h) ps in
     let after : List Entry = layout s (place + length (own k h) + length (spelling s (parts k h) ps)) d ts rest in
     nodes_append s p (shown place d t k h) (inside ++ after)
     ∙ ap (λ (n : ℕ). n + nodes_at s p (inside ++ after)) (shown_nodes s place d t k h refl l p)
     ∙ ap (λ (n : ℕ). here place p + n) (nodes_append s p inside after)
 
-count_before : (s : List Form) (p place d : ℕ) (ts : List Part) (v : Values) → FitAll s ts v → p < place
+count_before : (s : List KindView) (p place d : ℕ) (ts : List Part) (v : Values) → FitAll s ts v → p < place
     → count s p place d ts v ≡ 0
 count_before s p place d ts v f h = nodes_before s p place (layout s place d ts v)
     (join_from place _ (layout s place d ts v) (parts_join s place d ts v f)) h
 
-count_after : (s : List Form) (p place d : ℕ) (ts : List Part) (v : Values) → FitAll s ts v
+count_after : (s : List KindView) (p place d : ℕ) (ts : List Part) (v : Values) → FitAll s ts v
     → place + length (spelling s ts v) < p → count s p place d ts v ≡ 0
 count_after s p place d ts v f h = nodes_after s p place (place + length (spelling s ts v)) (layout s place d ts v)
     (parts_join s place d ts v f) h
 
 -- ---- fields and items have bytes
 
-members_copies : (s : List Form) (n : ℕ) (t : Part) → IsSolid (kind_at s t.kind) → AreMembers s (replicate n t)
+members_copies : (s : List KindView) (n : ℕ) (t : Part) → IsSolid (kind_at s t.kind) → AreMembers s (replicate n t)
 members_copies s zero t h = tt
 members_copies s (suc n) t h = (h, members_copies s n t h)
 
 -- what a head without bytes has
-abbrev IsOpen : List Form → Form → Head → Type 0
+abbrev IsOpen : List KindView → KindView → Head → Type 0
 IsOpen s k h = AreMembers s (parts k h) × (0 < length (parts k h))
 
-abbrev IsLong : Form → Head → Type 0
+abbrev IsLong : KindView → Head → Type 0
 IsLong k h = 0 < length (own k h)
 
-long_or_open : (s : List Form) (k : Form) (h : Head) → IsFormedKind s k → IsSolid k → IsLegal s k h
+long_or_open : (s : List KindView) (k : KindView) (h : Head) → IsFormedKind s k → IsSolid k → IsLegal s k h
     → IsLong k h ⊎ ((own k h ≡ []) × IsOpen s k h)
-long_or_open s form.int (value.int z) w m l = inl (omega (arith, unit4-length (unit_of z)))
-long_or_open s form.unsigned (value.unsigned n) w m l = inl (omega (arith, unit4-length n))
-long_or_open s form.hyper (value.hyper z) w m l = inl (omega (arith, unit8-length (units_of z)))
-long_or_open s form.unsigned_hyper (value.unsigned_hyper n) w m l = inl (omega (arith, unit8-length n))
-long_or_open s form.boolean (value.boolean true) w m l = inl (omega (arith, unit4-length 1))
-long_or_open s form.boolean (value.boolean false) w m l = inl (omega (arith, unit4-length 0))
-long_or_open s (form.numbered constants) (value.numbered z) w m l = inl (omega (arith, unit4-length (unit_of z)))
-long_or_open s (form.opaque size) (value.bytes bs) w m l = inl (omega (arith, l.0, length-append bs (pad (length bs))))
-long_or_open s (form.opaque_up_to max) (value.bytes bs) w m l = inl
+long_or_open s xdr.int (value.int z) w m l = inl (omega (arith, unit4-length (unit_of z)))
+long_or_open s xdr.unsigned (value.unsigned n) w m l = inl (omega (arith, unit4-length n))
+long_or_open s xdr.hyper (value.hyper z) w m l = inl (omega (arith, unit8-length (units_of z)))
+long_or_open s xdr.unsigned_hyper (value.unsigned_hyper n) w m l = inl (omega (arith, unit8-length n))
+long_or_open s xdr.boolean (value.boolean true) w m l = inl (omega (arith, unit4-length 1))
+long_or_open s xdr.boolean (value.boolean false) w m l = inl (omega (arith, unit4-length 0))
+long_or_open s (xdr.numbered constants) (value.numbered z) w m l = inl (omega (arith, unit4-length (unit_of z)))
+long_or_open s (xdr.opaque size) (value.bytes bs) w m l = inl (omega (arith, l.0, length-append bs (pad (length bs))))
+long_or_open s (xdr.opaque_up_to max) (value.bytes bs) w m l = inl
     (omega (arith, unit4-length (length bs), length-append (unit4 (length bs)) (bs ++ pad (length bs))))
-long_or_open s (form.text max) (value.bytes bs) w m l = inl
+long_or_open s (xdr.text max) (value.bytes bs) w m l = inl
     (omega (arith, unit4-length (length bs), length-append (unit4 (length bs)) (bs ++ pad (length bs))))
-long_or_open s (form.fixed item size) (value.items n) w m l = inr
+long_or_open s (xdr.fixed item size) (value.items n) w m l = inr
     (refl, (members_copies s n (item_part item) w.1, omega (arith, length-replicate n (item_part item), w.0, l)))
-long_or_open s (form.up_to item max) (value.items n) w m l = inl (omega (arith, unit4-length n))
-long_or_open s (form.structure fields) value.fields w m l = inr (refl, (w.1, w.0))
-long_or_open s (form.choice tag arms other) (value.tag z) w m l = inl (omega (arith, unit4-length (unit_of z)))
-long_or_open s (form.maybe item) value.present w m l = inl (omega (arith, unit4-length 1))
-long_or_open s (form.maybe item) value.absent w m l = inl (omega (arith, unit4-length 0))
-long_or_open s form.nothing h w m l = absurd m
+long_or_open s (xdr.up_to item max) (value.items n) w m l = inl (omega (arith, unit4-length n))
+long_or_open s (xdr.structure fields) value.fields w m l = inr (refl, (w.1, w.0))
+long_or_open s (xdr.choice tag arms other) (value.tag z) w m l = inl (omega (arith, unit4-length (unit_of z)))
+long_or_open s (xdr.maybe item) value.present w m l = inl (omega (arith, unit4-length 1))
+long_or_open s (xdr.maybe item) value.absent w m l = inl (omega (arith, unit4-length 0))
+long_or_open s xdr.nothing h w m l = absurd m
 long_or_open s _ _ w m l = absurd l
 
 -- fields and items, or one void part of a choice
-abbrev IsVoid : List Form → List Part → Type 0
-IsVoid s ts = (t : Part) × (ts ≡ t ∷ []) × (kind_at s t.kind ≡ form.nothing)
+abbrev IsVoid : List KindView → List Part → Type 0
+IsVoid s ts = (t : Part) × (ts ≡ t ∷ []) × (kind_at s t.kind ≡ xdr.nothing)
 
-solid_or_void : (s : List Form) (t : Part) → IsSolid (kind_at s t.kind) ⊎ (kind_at s t.kind ≡ form.nothing)
+solid_or_void : (s : List KindView) (t : Part) → IsSolid (kind_at s t.kind) ⊎ (kind_at s t.kind ≡ xdr.nothing)
 solid_or_void s t = by_kind (kind_at s t.kind)
   where
-    by_kind : (k : Form) → IsSolid k ⊎ (k ≡ form.nothing)
-    by_kind form.nothing = inr refl
+    by_kind : (k : KindView) → IsSolid k ⊎ (k ≡ xdr.nothing)
+    by_kind xdr.nothing = inr refl
     by_kind _ = inl tt
 
-listed_members : (s : List Form) (o : Option Part) → AreMembers s (optional_part o) ⊎ IsVoid s (optional_part o)
+listed_members : (s : List KindView) (o : Option Part) → AreMembers s (optional_part o) ⊎ IsVoid s (optional_part o)
 listed_members s None = inl tt
 listed_members s (Some t) = elim (solid_or_void s t) [ inl m ↦ inl (m, tt) | inr e ↦ inr (t, refl, e) ]
 
-parts_members : (s : List Form) (k : Form) (h : Head) → IsFormedKind s k
+parts_members : (s : List KindView) (k : KindView) (h : Head) → IsFormedKind s k
     → AreMembers s (parts k h) ⊎ IsVoid s (parts k h)
-parts_members s (form.fixed item size) (value.items n) w = inl (members_copies s n (item_part item) w.1)
-parts_members s (form.up_to item max) (value.items n) w = inl (members_copies s n (item_part item) w)
-parts_members s (form.structure fields) value.fields w = inl w.1
-parts_members s (form.choice tag arms other) (value.tag z) w = listed_members s (part_of arms other z)
-parts_members s (form.maybe item) value.present w = inl (w, tt)
+parts_members s (xdr.fixed item size) (value.items n) w = inl (members_copies s n (item_part item) w.1)
+parts_members s (xdr.up_to item max) (value.items n) w = inl (members_copies s n (item_part item) w)
+parts_members s (xdr.structure fields) value.fields w = inl w.1
+parts_members s (xdr.choice tag arms other) (value.tag z) w = listed_members s (part_of arms other z)
+parts_members s (xdr.maybe item) value.present w = inl (w, tt)
 parts_members s _ _ w = inl tt
 
-module _ (s : List Form) (formed : IsFormed s) where
+module _ (s : List KindView) (formed : IsFormed s) where
   spelled : (ts : List Part) (v : Values) → AreMembers s ts → 0 < length ts → FitAll s ts v
       → 0 < length (spelling s ts v)
   spelled [] v m some f = absurd (omega arith)
   spelled (t ∷ ts) value.none m some f = absurd (false≢true f)
   spelled (t ∷ ts) (value.node h ps rest) m some fits =
       let f = fit_node s t ts h ps rest fits in
-      let k : Form = kind_at s t.kind in
+      let k : KindView = kind_at s t.kind in
       let sv : List ℕ = spelling s (parts k h) ps in
       let sw : List ℕ = spelling s ts rest in
       let inner : AreMembers s (parts k h) → 0 < length (parts k h)
@@ -275,17 +279,17 @@ module _ (s : List Form) (formed : IsFormed s) where
       subst (λ (l : List Part). FitAll s l v → count s p place d l v ≤ 1) (sym void.1)
       (void_at p place d void.0 void.2 v) f
     where
-      void_node : (p place d : ℕ) (t : Part) (h : Head) (ps rest : Values) → kind_at s t.kind ≡ form.nothing
+      void_node : (p place d : ℕ) (t : Part) (h : Head) (ps rest : Values) → kind_at s t.kind ≡ xdr.nothing
           → FitAll s (t ∷ []) (value.node h ps rest) → count s p place d (t ∷ []) (value.node h ps rest) ≤ 1
       void_node p place d t h ps rest is f =
-          let no_parts : parts (kind_at s t.kind) h ≡ [] = ap (λ (k : Form). parts k h) is in
+          let no_parts : parts (kind_at s t.kind) h ≡ [] = ap (λ (k : KindView). parts k h) is in
           let inside : count s p (place + length (own (kind_at s t.kind) h)) (d + 1) (parts (kind_at s t.kind) h) ps
           ≡ 0 =
           subst (λ (l : List Part). count s p (place + length (own (kind_at s t.kind) h)) (d + 1) l ps ≡ 0)
           (sym no_parts) refl in
           omega (arith, count_node s p place d t [] h ps rest (fit_node s t [] h ps rest f).0, here_one place p)
 
-      void_at : (p place d : ℕ) (t : Part) → kind_at s t.kind ≡ form.nothing → (v : Values) → FitAll s (t ∷ []) v
+      void_at : (p place d : ℕ) (t : Part) → kind_at s t.kind ≡ xdr.nothing → (v : Values) → FitAll s (t ∷ []) v
           → count s p place d (t ∷ []) v ≤ 1
       void_at p place d t is value.none f = absurd (false≢true f)
       void_at p place d t is (value.node h ps rest) f = void_node p place d t h ps rest is f
@@ -301,21 +305,21 @@ below_copies height m zero t h = tt
 below_copies height m (suc n) t h = (h, below_copies height m n t h)
 
 -- the parts of a head without bytes are lower than it
-lower_parts : (s : List Form) (height : ℕ → ℕ) (m : ℕ) (k : Form) (h : Head) → Over (λ part. height part < m) k
+lower_parts : (s : List KindView) (height : ℕ → ℕ) (m : ℕ) (k : KindView) (h : Head) → Over (λ part. height part < m) k
     → IsLegal s k h → own k h ≡ [] → AreBelow height m (parts k h)
-lower_parts s height m (form.fixed item size) (value.items n) a l e = below_copies height m n (item_part item) a
-lower_parts s height m (form.structure fields) value.fields a l e = a
-lower_parts s height m (form.up_to item max) (value.items n) a l e = absurd (omega (arith, unit4-length n, ap length e))
-lower_parts s height m (form.choice tag arms other) (value.tag z) a l e = absurd
+lower_parts s height m (xdr.fixed item size) (value.items n) a l e = below_copies height m n (item_part item) a
+lower_parts s height m (xdr.structure fields) value.fields a l e = a
+lower_parts s height m (xdr.up_to item max) (value.items n) a l e = absurd (omega (arith, unit4-length n, ap length e))
+lower_parts s height m (xdr.choice tag arms other) (value.tag z) a l e = absurd
     (omega (arith, unit4-length (unit_of z), ap length e))
-lower_parts s height m (form.maybe item) value.present a l e = absurd (omega (arith, unit4-length 1, ap length e))
+lower_parts s height m (xdr.maybe item) value.present a l e = absurd (omega (arith, unit4-length 1, ap length e))
 lower_parts s height m _ _ a l e = tt
 
 all_below : (height : ℕ → ℕ) (n : ℕ) → ((t : ℕ) → height t < n) → (ts : List Part) → AreBelow height n ts
 all_below height n h [] = tt
 all_below height n h (t ∷ ts) = (h t.kind, all_below height n h ts)
 
-module _ (s : List Form) (formed : IsFormed s) (height : ℕ → ℕ) (proper : AreOver s height) where
+module _ (s : List KindView) (formed : IsFormed s) (height : ℕ → ℕ) (proper : AreOver s height) where
   -- at the place where values begin
   starts : (n place d : ℕ) (ts : List Part) (v : Values) → AreMembers s ts → AreBelow height n ts → FitAll s ts v
       → count s place place d ts v ≤ n
@@ -323,7 +327,7 @@ module _ (s : List Form) (formed : IsFormed s) (height : ℕ → ℕ) (proper : 
   starts n place d (t ∷ ts) value.none m b f = absurd (false≢true f)
   starts n place d (t ∷ ts) (value.node h ps rest) m b fits =
       let f = fit_node s t ts h ps rest fits in
-      let k : Form = kind_at s t.kind in
+      let k : KindView = kind_at s t.kind in
       let inside : ℕ = place + length (own k h) in
       let after : ℕ = place + length (own k h) + length (spelling s (parts k h) ps) in
       let long = first_long s formed t h ps m.0 f.0 f.1 in
@@ -351,7 +355,7 @@ module _ (s : List Form) (formed : IsFormed s) (height : ℕ → ℕ) (proper : 
   ends place d (t ∷ ts) value.none m f = absurd (false≢true f)
   ends place d (t ∷ ts) (value.node h ps rest) m fits =
       let f = fit_node s t ts h ps rest fits in
-      let k : Form = kind_at s t.kind in
+      let k : KindView = kind_at s t.kind in
       let sv : List ℕ = spelling s (parts k h) ps in
       let sw : List ℕ = spelling s ts rest in
       let inside : ℕ = place + length (own k h) in
@@ -391,7 +395,7 @@ module _ (s : List Form) (formed : IsFormed s) (height : ℕ → ℕ) (proper : 
       empty_of [] v e = refl
       empty_of (t ∷ ts) v e = absurd (omega arith)
 
-module _ (s : List Form) (formed : IsFormed s) (height : ℕ → ℕ) (proper : AreOver s height) (kinds : ℕ)
+module _ (s : List KindView) (formed : IsFormed s) (height : ℕ → ℕ) (proper : AreOver s height) (kinds : ℕ)
     (bound : (t : ℕ) → height t < kinds) where
   -- at any place
   anywhere : (p place d : ℕ) (ts : List Part) (v : Values) → AreMembers s ts → FitAll s ts v
@@ -400,7 +404,7 @@ module _ (s : List Form) (formed : IsFormed s) (height : ℕ → ℕ) (proper : 
   anywhere p place d (t ∷ ts) value.none m f = absurd (false≢true f)
   anywhere p place d (t ∷ ts) (value.node h ps rest) m fits =
       let f = fit_node s t ts h ps rest fits in
-      let k : Form = kind_at s t.kind in
+      let k : KindView = kind_at s t.kind in
       let sv : List ℕ = spelling s (parts k h) ps in
       let inside : ℕ = place + length (own k h) in
       let after : ℕ = place + length (own k h) + length sv in
@@ -452,7 +456,8 @@ module _ (s : List Form) (formed : IsFormed s) (height : ℕ → ℕ) (proper : 
             ])
       ]
 
-few_below : (s : List Form) (height : ℕ → ℕ) (kinds : ℕ) → AreOver s height → ((t : ℕ) → height t < kinds) → IsFormed s
+few_below : (s : List KindView) (height : ℕ → ℕ) (kinds : ℕ) → AreOver s height → ((t : ℕ) → height t < kinds)
+    → IsFormed s
     → (t : ℕ) (v : Tree) (p : ℕ) → Fits s t v → nodes_at s p (entries s t v) ≤ kinds + 1
 few_below s height kinds proper bound formed t v p f =
     let all : FitAll s (item_part t ∷ []) (from_list (v ∷ [])) = root_fits s t v f in
@@ -534,24 +539,24 @@ lower_less height p t (suc i) h l =
     ]
 
 -- the number of lower places
-rank : List Form → (ℕ → ℕ) → ℕ → ℕ
+rank : List KindView → (ℕ → ℕ) → ℕ → ℕ
 rank s height t = cond (nat_lt t (length s)) (lower height t (length s)) 0
 
-rank_in : (s : List Form) (height : ℕ → ℕ) (t : ℕ) → t < length s → rank s height t ≡ lower height t (length s)
+rank_in : (s : List KindView) (height : ℕ → ℕ) (t : ℕ) → t < length s → rank s height t ≡ lower height t (length s)
 unfolding rank
 rank_in s height t h = grind arith
 
-rank_out : (s : List Form) (height : ℕ → ℕ) (t : ℕ) → length s ≤ t → rank s height t ≡ 0
+rank_out : (s : List KindView) (height : ℕ → ℕ) (t : ℕ) → length s ≤ t → rank s height t ≡ 0
 unfolding rank
 rank_out s height t h = grind arith
 
-rank_bound : (s : List Form) (height : ℕ → ℕ) → 0 < length s → (t : ℕ) → rank s height t < length s
+rank_bound : (s : List KindView) (height : ℕ → ℕ) → 0 < length s → (t : ℕ) → rank s height t < length s
 rank_bound s height some t = elim (cases_lt t (length s)) [
   | inl known ↦ omega (arith, rank_in s height t known, lower_own height t (length s) known)
   | inr unknown ↦ omega (arith, rank_out s height t unknown)
 ]
 
-rank_less : (s : List Form) (height : ℕ → ℕ) (p t : ℕ) → p < length s → t < length s → height p < height t
+rank_less : (s : List KindView) (height : ℕ → ℕ) (p t : ℕ) → p < length s → t < length s → height p < height t
     → rank s height p < rank s height t
 rank_less s height p t k l h = omega (
   arith,
@@ -561,27 +566,27 @@ rank_less s height p t k l h = omega (
       (length s) h k,
 )
 
-rank_all : (s : List Form) (height : ℕ → ℕ) (t : ℕ) → t < length s → (ts : List Part)
+rank_all : (s : List KindView) (height : ℕ → ℕ) (t : ℕ) → t < length s → (ts : List Part)
     → AllByRecursion (λ (p : Part). height p.kind < height t) ts → AllByRecursion (λ (p : Part). p.kind < length s) ts
     → AllByRecursion (λ (p : Part). rank s height p.kind < rank s height t) ts
 rank_all s height t l [] a c = tt
 rank_all s height t l (p ∷ ts) a c = (rank_less s height p.kind t c.0 l a.0, rank_all s height t l ts a.1 c.1)
 
-rank_over : (s : List Form) (height : ℕ → ℕ) (t : ℕ) → t < length s → (k : Form)
+rank_over : (s : List KindView) (height : ℕ → ℕ) (t : ℕ) → t < length s → (k : KindView)
     → Over (λ part. height part < height t) k → Over (λ part. part < length s) k
     → Over (λ part. rank s height part < rank s height t) k
-rank_over s height t l (form.fixed item size) a c = rank_less s height item t c l a
-rank_over s height t l (form.structure fields) a c = rank_all s height t l fields a c
+rank_over s height t l (xdr.fixed item size) a c = rank_less s height item t c l a
+rank_over s height t l (xdr.structure fields) a c = rank_all s height t l fields a c
 rank_over s height t l _ a c = tt
 
-ranks_higher : (s : List Form) (height : ℕ → ℕ) → AreOver s height → IsClosed s → AreOver s (rank s height)
+ranks_higher : (s : List KindView) (height : ℕ → ℕ) → AreOver s height → IsClosed s → AreOver s (rank s height)
 ranks_higher s height higher closed t = elim (cases_lt t (length s)) [
   | inl known ↦ rank_over s height t known (kind_at s t) (higher t) (closed t)
-  | inr past ↦ subst (λ (k : Form). Over (λ part. rank s height part < rank s height t) k)
-      (sym (get_or_past s t form.unknown past)) tt
+  | inr past ↦ subst (λ (k : KindView). Over (λ part. rank s height part < rank s height t) k)
+      (sym (get_or_past s t xdr.unknown past)) tt
 ]
 
-few_of : (s : List Form) (height : ℕ → ℕ) → AreOver s height → IsClosed s → IsFormed s → FewAtOnePlace s
+few_of : (s : List KindView) (height : ℕ → ℕ) → AreOver s height → IsClosed s → IsFormed s → FewAtOnePlace s
 few_of s height higher closed formed t v p f =
     let known : t < length s = legal_known s t v.0
     (legal_is s (kind_at s t) v.0 (both (is_legal s (kind_at s t) v.0) (fit s (parts (kind_at s t) v.0) v.1) f).0)
@@ -598,11 +603,12 @@ if-none false w rest e = (refl, e)
 not_zero : (n : ℕ) → (n == 0) ≡ false → 0 < n
 not_zero n h = grind arith
 
-is_solid : (f : Form) → is_nothing f ≡ false → IsSolid f
-is_solid form.nothing e = absurd (false≢true (sym e))
+is_solid : (f : KindView) → is_nothing f ≡ false → IsSolid f
+is_solid xdr.nothing e = absurd (false≢true (sym e))
 is_solid _ e = tt
 
-solid_fields : (s : List Form) (ps : List Part) → some_of (λ (p : Part). is_void s p.kind) ps ≡ false → AreMembers s ps
+solid_fields : (s : List KindView) (ps : List Part) → some_of (λ (p : Part). is_void s p.kind) ps ≡ false
+    → AreMembers s ps
 solid_fields s [] e = tt
 solid_fields s (p ∷ ps) e =
     let c = or-false (is_void s p.kind) (some_of (λ (p : Part). is_void s p.kind) ps) e in
@@ -612,16 +618,17 @@ some_fields : (ps : List Part) → is_none ps ≡ false → 0 < length ps
 some_fields [] e = absurd (false≢true (sym e))
 some_fields (p ∷ ps) e = omega arith
 
-formed_kind : (s : List Form) (f : Form) → is_zero_size f ≡ false → has_void s f ≡ false → has_empty_list f ≡ false
+formed_kind : (s : List KindView) (f : KindView) → is_zero_size f ≡ false → has_void s f ≡ false
+    → has_empty_list f ≡ false
     → IsFormedKind s f
-formed_kind s (form.opaque size) a b c = not_zero size a
-formed_kind s (form.fixed item size) a b c = (not_zero size a, is_solid (kind_at s item) b)
-formed_kind s (form.up_to item max) a b c = is_solid (kind_at s item) b
-formed_kind s (form.structure ps) a b c = (some_fields ps c, solid_fields s ps b)
-formed_kind s (form.maybe item) a b c = is_solid (kind_at s item) b
+formed_kind s (xdr.opaque size) a b c = not_zero size a
+formed_kind s (xdr.fixed item size) a b c = (not_zero size a, is_solid (kind_at s item) b)
+formed_kind s (xdr.up_to item max) a b c = is_solid (kind_at s item) b
+formed_kind s (xdr.structure ps) a b c = (some_fields ps c, solid_fields s ps b)
+formed_kind s (xdr.maybe item) a b c = is_solid (kind_at s item) b
 formed_kind s _ a b c = tt
 
-no_flaw : (s : List Form) (f : Form) → kind_flaw s f ≡ None → IsFormedKind s f
+no_flaw : (s : List KindView) (f : KindView) → kind_flaw s f ≡ None → IsFormedKind s f
 no_flaw s f e =
     let e1 = (if-none (has_unknown s f) flaw.UnknownKind _ e).1 in
     let e2 = if-none (is_zero_size f) flaw.ZeroSize _ e1 in
@@ -635,30 +642,31 @@ no_flaw s f e =
 formed_of : (s : Lists) → IsWellFormed s → IsFormed s.kinds
 formed_of s well t = elim (cases_lt t (length s.kinds)) [
   | inl known ↦ no_flaw s.kinds (kind_at s.kinds t) (well.kinds t known)
-  | inr past ↦ subst (λ (f : Form). IsFormedKind s.kinds f) (sym (get_or_past s.kinds t form.unknown past)) tt
+  | inr past ↦ subst (λ (f : KindView). IsFormedKind s.kinds f) (sym (get_or_past s.kinds t xdr.unknown past)) tt
 ]
 
-closed_kind : (s : List Form) (f : Form) → ((h : Head) → AllByRecursion (λ (p : Part). p.kind < length s) (parts f h))
+closed_kind : (s : List KindView) (f : KindView)
+    → ((h : Head) → AllByRecursion (λ (p : Part). p.kind < length s) (parts f h))
     → Over (λ part. part < length s) f
-closed_kind s (form.fixed item size) all = (all (value.items 1)).0
-closed_kind s (form.structure ps) all = all value.fields
+closed_kind s (xdr.fixed item size) all = (all (value.items 1)).0
+closed_kind s (xdr.structure ps) all = all value.fields
 closed_kind s _ all = tt
 
-closed_of : (s : List Form) → EachPartIsKnown s → IsClosed s
+closed_of : (s : List KindView) → EachPartIsKnown s → IsClosed s
 closed_of s each t = elim (cases_lt t (length s)) [
   | inl known ↦ closed_kind s (kind_at s t) (λ h. each t h known)
-  | inr past ↦ subst (λ (f : Form). Over (λ part. part < length s) f) (sym (get_or_past s t form.unknown past)) tt
+  | inr past ↦ subst (λ (f : KindView). Over (λ part. part < length s) f) (sym (get_or_past s t xdr.unknown past)) tt
 ]
 
 -- numbers of some proper heighting, all below one
-record IsNumbered (s : List Form) (place top : ℕ) : Type 0 where
+record IsNumbered (s : List KindView) (place top : ℕ) : Type 0 where
   pub heights : Heighting
   pub number : ℕ
   pub proper : IsProper s heights
   pub given : heights place ≡ Some number
   pub low : number < top
 
-tops : (s : List Form) → IsSound s → (n : ℕ) → n ≤ length s
+tops : (s : List KindView) → IsSound s → (n : ℕ) → n ≤ length s
     → (top : ℕ) × ((place : ℕ) → place < n → IsNumbered s place top)
 tops s sound zero within = (0, λ place h. absurd (omega arith))
 tops s sound (suc n) within =
@@ -682,12 +690,12 @@ tops s sound (suc n) within =
       ],
     )
 
-over_of : (height : ℕ → ℕ) (f : Form) (top : ℕ) → IsHigher height f top → Over (λ part. height part < top) f
-over_of height (form.structure ps) top h = h
-over_of height (form.fixed item size) top h = h
+over_of : (height : ℕ → ℕ) (f : KindView) (top : ℕ) → IsHigher height f top → Over (λ part. height part < top) f
+over_of height (xdr.structure ps) top h = h
+over_of height (xdr.fixed item size) top h = h
 over_of height _ top h = tt
 
-over_all : (s : List Form) → IsSound s → (height : ℕ → ℕ) × AreOver s height
+over_all : (s : List KindView) → IsSound s → (height : ℕ → ℕ) × AreOver s height
 over_all s sound =
     let t = tops s sound (length s) (omega arith) in
     let height : ℕ → ℕ = height_within s t.0 in (
@@ -695,8 +703,8 @@ over_all s sound =
       λ place. elim (cases_lt place (length s)) [
         | inl known ↦ (let m = t.1 place known in over_of height (kind_at s place) (height place)
             (higher-at s m.heights m.proper t.0 place m.number m.given m.low))
-        | inr past ↦ subst (λ (f : Form). Over (λ part. height part < height place) f)
-            (sym (get_or_past s place form.unknown past)) tt
+        | inr past ↦ subst (λ (f : KindView). Over (λ part. height part < height place) f)
+            (sym (get_or_past s place xdr.unknown past)) tt
       ],
     )
 
@@ -709,7 +717,7 @@ few_at_one_place s well sound =
 
 pub held_bounds : (s : Lists) → IsWellFormed s → IsSound s.kinds → HeldBounds s.kinds
 held_bounds s well sound t q u count bytes len h =
-    let kinds : List Form = s.kinds in
+    let kinds : List KindView = s.kinds in
     let v : Tree = h.value in
     let f : Fits kinds t v = h.begins.0 in
     let few : (p : ℕ) → nodes_at kinds p (entries kinds t v) ≤ length kinds + 1 = λ p. few_at_one_place s well sound t v

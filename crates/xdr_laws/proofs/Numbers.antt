@@ -1,9 +1,10 @@
 -- Numbers and their units.
-use Rattle.std.proofs.Common.{◌≡◌, ℕ, ◌-◌, ◌^◌, ◌<◌, ◌≤◌, ℤ, pos, negsuc, true, false, cond, nat_lt, List, ◌++◌, length, take, drop, refl, ap, ◌∙◌, arith}
+use Rattle.std.proofs.Common.{◌≡◌, ℕ, ◌-◌, ◌^◌, ◌<◌, ◌≤◌, ℤ, pos, negsuc, true, false, cond, nat_lt, List, ◌++◌, length}
+use Rattle.std.proofs.Common.{take, drop, refl, ap, ◌∙◌, arith}
 use Rattle.std.specs.Int.{w32, w64, to_be_bytes, from_be_bytes, cast_unsigned}
 use Rattle.std.proofs.lemmas.Nat.{from_be_bytes-to_be_bytes_4, from_be_bytes-to_be_bytes_8}
-use Rattle.xdr_types.specs.Form as form
-use Rattle.xdr_types.specs.Form.{Form, Constant}
+use Rattle.xdr_types.specs.Kinds as xdr
+use Rattle.xdr_types.specs.Kinds.{KindView, Constant}
 use Rattle.xdr_types.specs.Fits.{is_tag_of}
 use Rattle.xdr_types.specs.Outcome.{signed, number_in}
 use Rattle.std.proofs.lemmas.Bool.{false≢true}
@@ -85,11 +86,11 @@ signed8_back (negsuc n) h =
     let back : 18446744073709551615 - (18446744073709551615 - n) ≡ n = omega arith in
     (omega arith, ap signed8 e ∙ signed8_high (18446744073709551615 - n) (omega arith) ∙ ap negsuc back)
 
-pub number_back : (k : Form) (z : ℤ) → is_tag_of k z ≡ true → (unit_of z < 2 ^ 32) × (number_in k (unit_of z) ≡ z)
-number_back form.int z h = signed_back z (signed_is 2147483648 z h)
-number_back form.unsigned (pos n) h = let low = most_is n 4294967295 h in (omega arith, refl)
-number_back form.boolean (pos n) h = let low = most_is n 1 h in (omega arith, refl)
-number_back (form.numbered constants) z h = signed_back z (numbered_signed constants z h)
-number_back form.unsigned (negsuc n) h = absurd (false≢true h)
-number_back form.boolean (negsuc n) h = absurd (false≢true h)
+pub number_back : (k : KindView) (z : ℤ) → is_tag_of k z ≡ true → (unit_of z < 2 ^ 32) × (number_in k (unit_of z) ≡ z)
+number_back xdr.int z h = signed_back z (signed_is 2147483648 z h)
+number_back xdr.unsigned (pos n) h = let low = most_is n 4294967295 h in (omega arith, refl)
+number_back xdr.boolean (pos n) h = let low = most_is n 1 h in (omega arith, refl)
+number_back (xdr.numbered constants) z h = signed_back z (numbered_signed constants z h)
+number_back xdr.unsigned (negsuc n) h = absurd (false≢true h)
+number_back xdr.boolean (negsuc n) h = absurd (false≢true h)
 number_back _ z h = absurd (false≢true h)

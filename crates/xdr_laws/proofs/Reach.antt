@@ -1,26 +1,32 @@
 -- Every front of whole units is read, and then nothing is owed or a unit is needed.
-use Rattle.std.proofs.Common.{◌≡◌, ℕ, zero, suc, ◌+◌, ◌-◌, ◌%◌, ◌^◌, ◌<◌, ◌≤◌, List, [], ◌∷◌, ◌++◌, length, take, drop, refl, sym, ap, subst, ◌∙◌, append_assoc, append-nil, arith, inl, inr}
+use Rattle.std.proofs.Common.{◌≡◌, ℕ, zero, suc, ◌+◌, ◌-◌, ◌%◌, ◌^◌, ◌<◌, ◌≤◌, List, [], ◌∷◌, ◌++◌, length, take, drop}
+use Rattle.std.proofs.Common.{refl, sym, ap, subst, ◌∙◌, append_assoc, append-nil, arith, inl, inr}
 use Rattle.std.specs.Prelude.{Contains, ◌⊎◌}
 use Rattle.std.specs.Int.{w32, from_be_bytes}
 use Rattle.std.proofs.lemmas.List.{length-append, length-take, take-append-drop}
 use Rattle.std.proofs.lemmas.List.Elements.{Contains-append_right}
 use Rattle.std.proofs.lemmas.Bool.{cases_lt}
-use Rattle.xdr_types.specs.Form as form
-use Rattle.xdr_types.specs.Form.{Form, Part, Constant, kind_at}
+use Rattle.xdr_types.specs.Kinds as xdr
+use Rattle.xdr_types.specs.Kinds.{KindView, Part, Constant, kind_at}
 use Rattle.xdr_types.specs.Tree as value
 use Rattle.xdr_types.specs.Tree.{Head, Values, Tree, from_list}
 use Rattle.xdr_units.specs.Numbers.{pad}
 use Rattle.xdr_types.specs.Fits.{fits, parts}
 use Rattle.xdr_types.specs.Spelling.{spelling}
 use Rattle.xdr_types.specs.Layout.{Entry, entry, shown, shown_bytes, shown_items, of_number, of_content}
-use Rattle.xdr_laws.specs.Owed.{AreBytes, Due, Frame, Rest, Completes, Reads, Lead, UnitFirst, LengthFirst, FreeBytes, Silent, lead_of, IsUnitFirst, IsLengthFirst, IsFreeBytes, IsSilent, HasUnit, free_size, silent_head, Accepts, head_of, IsSettled, AreFrames, EndsAt, IsOnTrack, AllUpTo, Reaches, AreOfList}
+use Rattle.xdr_laws.specs.Owed.{AreBytes, Due, Frame, Rest, Completes, Reads, Lead, UnitFirst, LengthFirst, FreeBytes}
+use Rattle.xdr_laws.specs.Owed.{Silent, lead_of, IsUnitFirst, IsLengthFirst, IsFreeBytes, IsSilent, HasUnit, free_size}
+use Rattle.xdr_laws.specs.Owed.{silent_head, Accepts, head_of, IsSettled, AreFrames, EndsAt, IsOnTrack, AllUpTo}
+use Rattle.xdr_laws.specs.Owed.{Reaches, AreOfList}
 use Rattle.xdr_types.specs.Laws.{EachPartIsKnown}
 use Rattle.xdr_laws.proofs.Legal.{FitAll, fit_node}
 use Rattle.std.proofs.lemmas.Bool.{false≢true}
 use Rattle.xdr_laws.proofs.Numbers.{unit4}
-use Rattle.xdr_laws.proofs.Owed.{reads_none, reads_end, reads_then, silent_then, reads_silent, silent_only, reads_unit, refuses_unit}
+use Rattle.xdr_laws.proofs.Owed.{reads_none, reads_end, reads_then, silent_then, reads_silent, silent_only, reads_unit}
+use Rattle.xdr_laws.proofs.Owed.{refuses_unit}
 use Rattle.xdr_laws.proofs.Parts.{all_append}
-use Rattle.xdr_laws.proofs.Content.{counted, free_parts, reads_length, refuses_length, reads_free, reads_rest, reads_last, reads_over, refuses_padding, unit4_back, unit4_less}
+use Rattle.xdr_laws.proofs.Content.{counted, free_parts, reads_length, refuses_length, reads_free, reads_rest}
+use Rattle.xdr_laws.proofs.Content.{reads_last, reads_over, refuses_padding, unit4_back, unit4_less}
 
 nothing_more : (place : ℕ) → place + 0 ≡ place
 nothing_more place = omega arith
@@ -37,7 +43,7 @@ unit_case LengthFirst u = inr tt
 unit_case FreeBytes u = absurd u
 unit_case Silent u = absurd u
 
-frames_on_track : (s : List Form) (before : List Entry) (place : ℕ) (ds : List Due) → AreFrames ds
+frames_on_track : (s : List KindView) (before : List Entry) (place : ℕ) (ds : List Due) → AreFrames ds
     → IsOnTrack s before place ds
 frames_on_track s before place [] a = tt
 frames_on_track s before place (Frame d ts ∷ ds) a = a
@@ -46,12 +52,12 @@ frames_on_track s before place (Rest n ∷ ds) a = absurd a
 -- ---- nothing is read until a unit is needed
 
 -- a unit is needed, or just these frames are left
-abbrev Enters : List Form → (place : ℕ) (before : List Entry) → List Due → List Due → Type 0
+abbrev Enters : List KindView → (place : ℕ) (before : List Entry) → List Due → List Due → Type 0
 Enters s place before a ds =
     (begun : List Entry) × (ds' : List Due) × Reads s place a [] begun ds'
     × ((IsSettled s ds' × IsOnTrack s (before ++ begun) place ds') ⊎ (ds' ≡ ds)) × AllUpTo place begun
 
-then_enters : (s : List Form) (place : ℕ) (before : List Entry) (a b ds : List Due) (begun : List Entry)
+then_enters : (s : List KindView) (place : ℕ) (before : List Entry) (a b ds : List Due) (begun : List Entry)
     → Reads s place a [] begun b → AllUpTo place begun
     → Enters s place (before ++ begun) b ds → Enters s place before a ds
 then_enters s place before a b ds begun first low e =
@@ -71,49 +77,49 @@ low_less : (m n : ℕ) (ps : List Entry) → m ≤ n → AllUpTo m ps → AllUpT
 low_less m n [] h a = tt
 low_less m n (e ∷ ps) h a = (omega arith, low_less m n ps h a.1)
 
-free_low : (s : List Form) (place d : ℕ) (t : Part) (k : Form) → AllUpTo place (free_parts place d t k)
-free_low s place d t (form.opaque size) = (omega arith, tt)
+free_low : (s : List KindView) (place d : ℕ) (t : Part) (k : KindView) → AllUpTo place (free_parts place d t k)
+free_low s place d t (xdr.opaque size) = (omega arith, tt)
 free_low s place d t _ = (omega arith, tt)
 
-silent_low : (s : List Form) (place d : ℕ) (t : Part) (k : Form) → IsSilent (lead_of k)
+silent_low : (s : List KindView) (place d : ℕ) (t : Part) (k : KindView) → IsSilent (lead_of k)
     → AllUpTo place (shown place d t k (silent_head k))
-silent_low s place d t (form.fixed item size) u = (omega arith, tt)
-silent_low s place d t (form.structure fields) u = (omega arith, tt)
-silent_low s place d t form.nothing u = (omega arith, tt)
+silent_low s place d t (xdr.fixed item size) u = (omega arith, tt)
+silent_low s place d t (xdr.structure fields) u = (omega arith, tt)
+silent_low s place d t xdr.nothing u = (omega arith, tt)
 silent_low s place d t _ u = absurd u
 
-content_low : (place d : ℕ) (t : Part) (k : Form) (n : ℕ) → AllUpTo (place + 4) (shown_bytes place d t k n)
-content_low place d t (form.opaque size) n = (omega arith, tt)
+content_low : (place d : ℕ) (t : Part) (k : KindView) (n : ℕ) → AllUpTo (place + 4) (shown_bytes place d t k n)
+content_low place d t (xdr.opaque size) n = (omega arith, tt)
 content_low place d t _ n = (omega arith, (omega arith, tt))
 
-items_low : (place d : ℕ) (t : Part) (k : Form) → AllUpTo (place + 4) (shown_items place d t k)
-items_low place d t (form.fixed item size) = (omega arith, tt)
+items_low : (place d : ℕ) (t : Part) (k : KindView) → AllUpTo (place + 4) (shown_items place d t k)
+items_low place d t (xdr.fixed item size) = (omega arith, tt)
 items_low place d t _ = (omega arith, tt)
 
-shown_low : (place d : ℕ) (t : Part) (k : Form) (h : Head) → AllUpTo (place + 4) (shown place d t k h)
+shown_low : (place d : ℕ) (t : Part) (k : KindView) (h : Head) → AllUpTo (place + 4) (shown place d t k h)
 shown_low place d t k (value.bytes bs) = content_low place d t k (length bs)
 shown_low place d t k (value.items n) = items_low place d t k
 shown_low place d t k _ = (omega arith, tt)
 
 -- the part of free bytes
-free_part : (s : List Form) (place d : ℕ) (t : Part) (k : Form) → kind_at s t.kind ≡ k → IsFreeBytes (lead_of k)
+free_part : (s : List KindView) (place d : ℕ) (t : Part) (k : KindView) → kind_at s t.kind ≡ k → IsFreeBytes (lead_of k)
     → (e : Entry) × Contains (free_parts place d t k) e × (e.at ≤ place) × EndsAt s (place + free_size k) e e.role
     × (e.depth ≡ d)
-free_part s place d t form.hyper is u = (
+free_part s place d t xdr.hyper is u = (
   entry place 8 d t of_number,
   (0, omega arith, refl),
   omega arith,
-  (refl, refl, subst (λ (k : Form). IsFreeBytes (lead_of k)) (sym is) tt),
+  (refl, refl, subst (λ (k : KindView). IsFreeBytes (lead_of k)) (sym is) tt),
   refl,
 )
-free_part s place d t form.unsigned_hyper is u = (
+free_part s place d t xdr.unsigned_hyper is u = (
   entry place 8 d t of_number,
   (0, omega arith, refl),
   omega arith,
-  (refl, refl, subst (λ (k : Form). IsFreeBytes (lead_of k)) (sym is) tt),
+  (refl, refl, subst (λ (k : KindView). IsFreeBytes (lead_of k)) (sym is) tt),
   refl,
 )
-free_part s place d t (form.opaque size) is u = (
+free_part s place d t (xdr.opaque size) is u = (
   entry place (size + length (pad size)) d t (of_content size),
   (0, omega arith, refl),
   omega arith,
@@ -123,11 +129,11 @@ free_part s place d t (form.opaque size) is u = (
 free_part s place d t _ is u = absurd u
 
 -- what is entered from frames of these kinds, whatever stands around them
-abbrev EntersAll : List Form → (place : ℕ) → List Part → Type 0
+abbrev EntersAll : List KindView → (place : ℕ) → List Part → Type 0
 EntersAll s place ts = (before : List Entry) (d : ℕ) (ds : List Due) → d ≡ length ds + 1 → AreFrames ds
     → Enters s place before (Frame d ts ∷ ds) ds
 
-module _ (s : List Form) (place : ℕ) where
+module _ (s : List KindView) (place : ℕ) where
   -- a value of free bytes begins
   enter_free : (before : List Entry) (d : ℕ) (t : Part) (ts : List Part) (ds : List Due) → d ≡ length ds + 1
       → AreFrames ds → IsFreeBytes (lead_of (kind_at s t.kind))
@@ -174,7 +180,7 @@ module _ (s : List Form) (place : ℕ) where
       → EntersAll s place (parts (kind_at s t.kind) (silent_head (kind_at s t.kind))) → EntersAll s place ts
       → Enters s place before (Frame d (t ∷ ts) ∷ ds) ds
   enter_silent before d t ts ds at a u inner after =
-      let k : Form = kind_at s t.kind in
+      let k : KindView = kind_at s t.kind in
       let begun : List Entry = shown place d t k (silent_head k) in
       let open_ : List Due = Frame (d + 1) (parts k (silent_head k)) ∷ Frame d ts ∷ ds in
       then_enters s place before (Frame d (t ∷ ts) ∷ ds) open_ ds begun (reads_silent s place d t ts ds u)
@@ -208,10 +214,10 @@ module _ (s : List Form) (place : ℕ) where
       ]
 
 -- what is owed, settled
-abbrev pub Settles : List Form → (place : ℕ) (before : List Entry) → List Due → Type 0
+abbrev pub Settles : List KindView → (place : ℕ) (before : List Entry) → List Due → Type 0
 Settles s place before ds = (begun : List Entry) × (ds' : List Due) × Reaches s place before ds [] begun ds'
 
-settles_then : (s : List Form) (place : ℕ) (before : List Entry) (a b : List Due) (begun : List Entry)
+settles_then : (s : List KindView) (place : ℕ) (before : List Entry) (a b : List Due) (begun : List Entry)
     → Reads s place a [] begun b → AllUpTo place begun → Settles s place (before ++ begun) b → Settles s place before a
 settles_then s place before a b begun first low e = (
   begun ++ e.0,
@@ -225,7 +231,8 @@ settles_then s place before a b begun first low e = (
   },
 )
 
-pub settle : (s : List Form) (place : ℕ) (before : List Entry) (ds : List Due) (p : ℕ) (c : List ℕ) (ps : List Entry)
+pub settle : (s : List KindView) (place : ℕ) (before : List Entry) (ds : List Due) (p : ℕ) (c : List ℕ)
+    (ps : List Entry)
     → IsOnTrack s before place ds → Completes s p ds c ps → Settles s place before ds
 settle s place before [] p c ps a r = (
   [],
@@ -273,19 +280,20 @@ settle s place before (Rest (suc n) ∷ ds) p c ps a r = (
 -- ---- one unit
 
 -- a unit is read
-abbrev pub Steps : List Form → (place : ℕ) (before : List Entry) → List Due → List ℕ → Type 0
+abbrev pub Steps : List KindView → (place : ℕ) (before : List Entry) → List Due → List ℕ → Type 0
 Steps s place before ds u = (begun : List Entry) × (ds' : List Due) × Reads s place ds u begun ds'
     × IsOnTrack s (before ++ begun) (place + 4) ds' × AllUpTo (place + 4) begun
     × (EachPartIsKnown s → AreOfList s ds → AreOfList s ds')
 
-pub step_unit : (s : List Form) (place : ℕ) (before : List Entry) (d : ℕ) (t : Part) (ts : List Part) (ds : List Due)
+pub step_unit : (s : List KindView) (place : ℕ) (before : List Entry) (d : ℕ) (t : Part) (ts : List Part)
+    (ds : List Due)
     (x : ℕ) → (d ≡ length ds + 1) × AreFrames ds
     → HasUnit (lead_of (kind_at s t.kind)) → Accepts s (kind_at s t.kind) x
     → Steps s place before (Frame d (t ∷ ts) ∷ ds) (unit4 x)
 step_unit s place before d t ts ds x a u accepts =
     elim (unit_case (lead_of (kind_at s t.kind)) u) [
       | inl first ↦
-          (let k : Form = kind_at s t.kind in (
+          (let k : KindView = kind_at s t.kind in (
             shown place d t k (head_of s k x),
             Frame (d + 1) (parts k (head_of s k x)) ∷ Frame d ts ∷ ds,
             reads_unit s
@@ -315,7 +323,7 @@ step_unit s place before d t ts ds x a u accepts =
           ))
     ]
 
-pub accepted : (s : List Form) (place d : ℕ) (t : Part) (ts : List Part) (ds : List Due) (x : ℕ) (c : List ℕ)
+pub accepted : (s : List KindView) (place d : ℕ) (t : Part) (ts : List Part) (ds : List Due) (x : ℕ) (c : List ℕ)
     (ps : List Entry) → HasUnit (lead_of (kind_at s t.kind)) → x < 2 ^ 32
     → Completes s place (Frame d (t ∷ ts) ∷ ds) (unit4 x ++ c) ps → Accepts s (kind_at s t.kind) x
 accepted s place d t ts ds x c ps u less r = elim (unit_case (lead_of (kind_at s t.kind)) u) [
@@ -324,7 +332,7 @@ accepted s place d t ts ds x c ps u less r = elim (unit_case (lead_of (kind_at s
 ]
 
 -- the part goes on
-still_ends : (s : List Form) (place n : ℕ) (before : List Entry) → 4 ≤ n
+still_ends : (s : List KindView) (place n : ℕ) (before : List Entry) → 4 ≤ n
     → (e : Entry) × Contains before e × (e.at ≤ place) × EndsAt s (place + n) e e.role
     → (e : Entry) × Contains (before ++ []) e × (e.at ≤ place + 4) × EndsAt s (place + 4 + (n - 4)) e e.role
 still_ends s place n before h e =
@@ -341,7 +349,7 @@ bytes_take zero v a = tt
 bytes_take (suc n) [] a = tt
 bytes_take (suc n) (x ∷ v) a = (a.0, bytes_take n v a.1)
 
-pub step_rest : (s : List Form) (place : ℕ) (before : List Entry) (n : ℕ) (ds : List Due) (u : List ℕ) → 0 < n
+pub step_rest : (s : List KindView) (place : ℕ) (before : List Entry) (n : ℕ) (ds : List Due) (u : List ℕ) → 0 < n
     → IsOnTrack s before place (Rest n ∷ ds)
     → length u ≡ 4 → AreBytes u → (n < 4 → drop n u ≡ pad n) → Steps s place before (Rest n ∷ ds) u
 unfolding still_ends
@@ -368,7 +376,7 @@ step_rest s place before n ds u some a len are zeros = elim (cases_lt n 4) [
       ))
 ]
 
-pub step : (s : List Form) (place : ℕ) (before : List Entry) (ds : List Due) (u c : List ℕ) (ps : List Entry)
+pub step : (s : List KindView) (place : ℕ) (before : List Entry) (ds : List Due) (u c : List ℕ) (ps : List Entry)
     → IsSettled s ds → IsOnTrack s before place ds
     → length u ≡ 4 → AreBytes u → Completes s place ds (u ++ c) ps → Steps s place before ds u
 step s place before [] u c ps n a len are r = absurd (omega (arith, ap length r.0, length-append u c))
@@ -385,7 +393,7 @@ step s place before (Rest n ∷ ds) u c ps some a len are r =
 
 -- ---- a front of whole units
 
-pub reach : (s : List Form) (q : List ℕ) (place : ℕ) (before : List Entry) (ds : List Due) (c : List ℕ)
+pub reach : (s : List KindView) (q : List ℕ) (place : ℕ) (before : List Entry) (ds : List Due) (c : List ℕ)
     (ps : List Entry)
     → IsOnTrack s before place ds → AreBytes q → length q % 4 ≡ 0 → Completes s place ds (q ++ c) ps
     → (begun : List Entry) × (ds' : List Due) × Reaches s place before ds q begun ds'

@@ -3,8 +3,8 @@ use Rattle.std.proofs.Common.{◌≡◌, ℕ, ◌+◌, List, [], ◌∷◌, ◌+
 use Rattle.std.proofs.lemmas.List.{append-nil, map-append}
 use Rattle.std.proofs.lemmas.List.Concat.{flat_map-append}
 use Rattle.std.specs.List.{flat_map}
-use Rattle.xdr_types.specs.Form as form
-use Rattle.xdr_types.specs.Form.{Form, Part, kind_at}
+use Rattle.xdr_types.specs.Kinds as xdr
+use Rattle.xdr_types.specs.Kinds.{KindView, Part, kind_at}
 use Rattle.xdr_types.specs.Tree as value
 use Rattle.xdr_types.specs.Tree.{Head, Values, Tree, from_list}
 use Rattle.xdr_types.specs.Fits.{parts, item_part}
@@ -20,7 +20,7 @@ entries_of_node : (h : Head) (es : List Entry) → map (λ (s : Seen). s.entry) 
 entries_of_node h [] = refl
 entries_of_node h (e ∷ es) = ap (λ (z : List Entry). e ∷ z) (entries_of_node h es)
 
-entries_of_layout : (kinds : List Form) (place depth : ℕ) (ps : List Part) (vs : Values)
+entries_of_layout : (kinds : List KindView) (place depth : ℕ) (ps : List Part) (vs : Values)
     → map (λ (s : Seen). s.entry) (seen_layout kinds place depth ps vs) ≡ layout kinds place depth ps vs
 entries_of_layout kinds place depth [] vs = refl
 entries_of_layout kinds place depth (p ∷ ps) value.none = refl
@@ -38,11 +38,11 @@ entries_of_layout kinds place depth (p ∷ ps) (value.node h inner rest) =
     map-append entry here (under ++ after) ∙ ap (λ (z : List Entry). map entry here ++ z) (map-append entry under after)
     ∙ cc (first, second, third)
 
-pub entries_of_seen : (kinds : List Form) (kind : ℕ) (v : Tree)
+pub entries_of_seen : (kinds : List KindView) (kind : ℕ) (v : Tree)
     → map (λ (s : Seen). s.entry) (seen kinds kind v) ≡ entries kinds kind v
 entries_of_seen kinds kind v = entries_of_layout kinds 0 1 (item_part kind ∷ []) (from_list (v ∷ []))
 
-module _ (kinds : List Form) (place depth : ℕ) (p : Part) where
+module _ (kinds : List KindView) (place depth : ℕ) (p : Part) where
   -- the lines of parts of one node
   abbrev of_parts : Head → List Entry → List ℕ
   of_parts h es = flat_map (line kinds) (of_node h es)
@@ -51,14 +51,14 @@ module _ (kinds : List Form) (place depth : ℕ) (p : Part) where
   abbrev saying : List ℕ → List ℕ
   saying text = line_text depth p.name text
 
-  content_line : (f : Form) (bs : List ℕ) → of_parts (value.bytes bs) (shown_bytes place depth p f (length bs))
+  content_line : (f : KindView) (bs : List ℕ) → of_parts (value.bytes bs) (shown_bytes place depth p f (length bs))
       ≡ saying (content_text (kind_at kinds p.kind) (value.bytes bs))
-  content_line (form.opaque size) bs = append-nil _
+  content_line (xdr.opaque size) bs = append-nil _
   content_line _ bs = append-nil _
 
-  items_line : (f : Form) (n : ℕ) → f ≡ kind_at kinds p.kind
+  items_line : (f : KindView) (n : ℕ) → f ≡ kind_at kinds p.kind
       → of_parts (value.items n) (shown_items place depth p f) ≡ saying (node_text kinds f (value.items n))
-  items_line (form.fixed item size) n e = rw (← e) (append-nil _)
+  items_line (xdr.fixed item size) n e = rw (← e) (append-nil _)
   items_line _ n e = append-nil _
 
   -- a node has one line
@@ -77,7 +77,7 @@ module _ (kinds : List Form) (place depth : ℕ) (p : Part) where
   one_line value.absent = append-nil _
   one_line value.nothing = append-nil _
 
-lines_of_layout : (kinds : List Form) (place depth : ℕ) (ps : List Part) (vs : Values)
+lines_of_layout : (kinds : List KindView) (place depth : ℕ) (ps : List Part) (vs : Values)
     → flat_map (line kinds) (seen_layout kinds place depth ps vs) ≡ lines kinds depth ps vs
 lines_of_layout kinds place depth [] vs = refl
 lines_of_layout kinds place depth (p ∷ ps) value.none = refl
@@ -99,6 +99,6 @@ lines_of_layout kinds place depth (p ∷ ps) (value.node h inner rest) =
     ∙ cc (first, second, third)
 
 -- what is printed for a value is its lines
-pub show_is_lines : (kinds : List Form) (kind : ℕ) (v : Tree)
+pub show_is_lines : (kinds : List KindView) (kind : ℕ) (v : Tree)
     → show_text kinds kind v ≡ value_lines kinds 1 (item_part kind) v
 show_is_lines kinds kind v = lines_of_layout kinds 0 1 (item_part kind ∷ []) (from_list (v ∷ [])) ∙ append-nil _

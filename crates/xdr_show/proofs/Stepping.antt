@@ -1,8 +1,9 @@
 -- One more level, digit, item or part.
-use Rattle.std.proofs.Common.{◌≡◌, ℕ, ◌+◌, ◌*◌, ◌≤◌, ◌<◌, List, [], ◌∷◌, ◌++◌, length, drop, get_or, replicate, refl, ap, sym, ◌∙◌, arith, append_assoc}
+use Rattle.std.proofs.Common.{◌≡◌, ℕ, ◌+◌, ◌*◌, ◌≤◌, ◌<◌, List, [], ◌∷◌, ◌++◌, length, drop, get_or, replicate, refl}
+use Rattle.std.proofs.Common.{ap, sym, ◌∙◌, arith, append_assoc}
 use Rattle.std.proofs.lemmas.List.{at_drop_more, replicate-append-replicate}
 use Rattle.hex.specs.Hex.{encode_lower, encode_with}
-use Rattle.xdr_types.specs.Form.{Form, Part}
+use Rattle.xdr_types.specs.Kinds.{KindView, Part}
 use Rattle.xdr_types.specs.Tree.{Tree, Values, node, depth_of}
 use Rattle.xdr_show.specs.Lines.{lines, value_lines}
 
@@ -21,7 +22,7 @@ pub encode-at : (bs : List ℕ) (i d : ℕ) → i < length bs
 encode-at bs i d h = at_drop_more encode_lower bs i d h ∙ encode-cons (get_or bs i d) (drop (i + 1) bs)
 
 -- one more of the values is written
-pub lines-step : (kinds : List Form) (depth : ℕ) (p : Part) (ps qs : List Part) (t : Tree) (vs ws : Values)
+pub lines-step : (kinds : List KindView) (depth : ℕ) (p : Part) (ps qs : List Part) (t : Tree) (vs ws : Values)
     (out new all : List ℕ) → qs ≡ p ∷ ps → ws ≡ node t.0 t.1 vs
     → out ++ lines kinds depth qs ws ≡ all → new ≡ out ++ value_lines kinds depth p t
     → new ++ lines kinds depth ps vs ≡ all

@@ -1,6 +1,6 @@
 -- The parts of a value as its layout has them, each with what its node shows by itself.
 use Rattle.std.specs.Prelude.{ℕ, ◌+◌, List, [], ◌∷◌, ◌++◌, length, map}
-use Rattle.xdr_types.specs.Form.{Form, Part, kind_at}
+use Rattle.xdr_types.specs.Kinds.{KindView, Part, kind_at}
 use Rattle.xdr_types.specs.Tree as value
 use Rattle.xdr_types.specs.Tree.{Head, Values, Tree, from_list}
 use Rattle.xdr_types.specs.Fits.{parts, item_part}
@@ -18,7 +18,7 @@ of_node h es = map (λ (e : Entry). let s : Seen = record { entry = e; head = h 
 
 -- the parts of one value for each named part, in the layout's order: a node's own, those inside it, those after it (RFC
 -- 4506 section 4)
-abbrev pub seen_layout : List Form → (place depth : ℕ) → List Part → Values → List Seen
+abbrev pub seen_layout : List KindView → (place depth : ℕ) → List Part → Values → List Seen
 seen_layout kinds place depth (p ∷ ps) (value.node h inner rest) =
     of_node h (shown place depth p (kind_at kinds p.kind) h)
     ++ (seen_layout kinds (place + length (own (kind_at kinds p.kind) h)) (depth + 1) (parts (kind_at kinds p.kind) h)
@@ -28,5 +28,5 @@ seen_layout kinds place depth (p ∷ ps) (value.node h inner rest) =
 seen_layout kinds place depth _ _ = []
 
 -- the parts of a value of the kind, which itself has depth 1 and no name
-abbrev pub seen : List Form → (kind : ℕ) → Tree → List Seen
+abbrev pub seen : List KindView → (kind : ℕ) → Tree → List Seen
 seen kinds kind v = seen_layout kinds 0 1 (item_part kind ∷ []) (from_list (v ∷ []))

@@ -1,6 +1,6 @@
 //! What stands in a line before and around what its part says.
 ghost use Rattle.std.specs.Prelude.{◌≡◌, ◌≤◌, ◌++◌, OnOk, true};
-ghost use Rattle.xdr_types.specs.Forms.{form_of};
+ghost use Rattle.xdr_types.specs.KindViews.{kind_view};
 ghost use Rattle.xdr_types.specs.Fits.{is_legal};
 ghost use Rattle.xdr_types.specs.View.{tree};
 ghost use Rattle.xdr_show.specs.Line.{indent, label, line_text};
@@ -20,9 +20,9 @@ pub fn push_line(
     depth: u32,
     value: &Value,
 ) -> Result<(), AllocError>
-    requires { is_legal schema.now.kinds (form_of kind.now) (tree value.now).0 ≡ true }
+    requires { is_legal schema.now.kinds (kind_view kind.now) (tree value.now).0 ≡ true }
     ensures { OnOk result (out.new.items ≡ out.old.items
-        ++ line_text depth name.now (node_text schema.now.kinds (form_of kind.now) (tree value.now).0)) }
+        ++ line_text depth name.now (node_text schema.now.kinds (kind_view kind.now) (tree value.now).0)) }
 {
     push_indent(out, depth)?;
     push_label(out, name)?;
@@ -58,9 +58,9 @@ fn push_text(
     kind: &Kind,
     value: &Value,
 ) -> Result<(), AllocError>
-    requires { is_legal schema.now.kinds (form_of kind.now) (tree value.now).0 ≡ true }
+    requires { is_legal schema.now.kinds (kind_view kind.now) (tree value.now).0 ≡ true }
     ensures { OnOk result (out.new.items ≡ out.old.items
-        ++ node_text schema.now.kinds (form_of kind.now) (tree value.now).0) }
+        ++ node_text schema.now.kinds (kind_view kind.now) (tree value.now).0) }
 {
     match (kind, value) {
         (_, Value::Int(n)) => push_signed(out, i64::from(*n)),

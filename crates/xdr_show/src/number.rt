@@ -1,8 +1,8 @@
 //! Numbers as texts.
 ghost use Rattle.std.specs.Prelude.{◌≡◌, ◌++◌, IsTrue, OnOk, codes, decimal, map, true};
 ghost use Rattle.std.specs.Fmt.{signed_decimal};
-ghost use Rattle.xdr_types.specs.Form.{kind_at};
-ghost use Rattle.xdr_types.specs.Forms.{constant_of, form_of};
+ghost use Rattle.xdr_types.specs.Kinds.{kind_at};
+ghost use Rattle.xdr_types.specs.KindViews.{constant_of, kind_view};
 ghost use Rattle.xdr_types.specs.Fits.{is_tag_of};
 ghost use Rattle.xdr_show.specs.Line.{flag_text, name_of_number, numbered_text, tag_text};
 
@@ -88,7 +88,7 @@ pub fn push_case(
 
 // The number of a discriminant of the kind.
 fn push_tag(out: &mut Vec<u8>, kind: &Kind, number: i64) -> Result<(), AllocError>
-    ensures { OnOk result (out.new.items ≡ out.old.items ++ tag_text (form_of kind.now) number) }
+    ensures { OnOk result (out.new.items ≡ out.old.items ++ tag_text (kind_view kind.now) number) }
 {
     match kind {
         Kind::Bool => push_flag(out, number == 1),

@@ -1,6 +1,6 @@
 //! A value as lines.
 ghost use Rattle.std.specs.Prelude.{◌≡◌, ◌≤◌, ◌+◌, ◌++◌, [], length, map, replicate, IfOk, OnOk, true};
-ghost use Rattle.xdr_types.specs.Forms.{form_of, part_of_member};
+ghost use Rattle.xdr_types.specs.KindViews.{kind_view, part_of_member};
 ghost use Rattle.xdr_types.specs.Fits.{fits, fit, item_part, parts};
 ghost use Rattle.xdr_types.specs.Tree.{depth_of};
 ghost use Rattle.xdr_types.specs.View.{tree, values};
@@ -66,10 +66,10 @@ fn push_inner(
     depth: u32,
     value: &Value,
 ) -> Result<(), AllocError>
-    requires fits { fit schema.now.kinds (parts (form_of kind.now) (tree value.now).0) (tree value.now).1 ≡ true }
+    requires fits { fit schema.now.kinds (parts (kind_view kind.now) (tree value.now).0) (tree value.now).1 ≡ true }
     requires deep { depth + depth_of (tree value.now).1 ≤ 4097 }
     ensures { OnOk result (out.new.items ≡ out.old.items
-        ++ lines schema.now.kinds depth (parts (form_of kind.now) (tree value.now).0) (tree value.now).1) }
+        ++ lines schema.now.kinds depth (parts (kind_view kind.now) (tree value.now).0) (tree value.now).1) }
 {
     match (kind, value) {
         (Kind::Fixed { item, size: _ }, Value::List(items)) => push_items(

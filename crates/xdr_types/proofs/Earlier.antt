@@ -1,11 +1,12 @@
 -- A set of the names of a schema before one tells whether it is one of them.
-use Rattle.std.proofs.Common.{◌≡◌, ◌<◌, ◌+◌, String, ℕ, zero, suc, Bool, true, false, not, if◌then◌else◌, ◌||◌, List, [], ◌∷◌, length, map, take, get_or, string_bytes, refl, sym, ap, ◌∙◌, arith}
+use Rattle.std.proofs.Common.{◌≡◌, ◌<◌, ◌+◌, String, ℕ, zero, suc, Bool, true, false, not, if◌then◌else◌, ◌||◌, List}
+use Rattle.std.proofs.Common.{[], ◌∷◌, length, map, take, get_or, string_bytes, refl, sym, ap, ◌∙◌, arith}
 use Rattle.std.specs.declared.alloc.Global.{Global}
 use Rattle.std.specs.BTreeSet.{BTreeSet, Updates}
 use Rattle.std.specs.Str.{bytes_eq}
 use denote.Ref.{Bor}
-use Rattle.xdr_types.specs.Form.{Form, Part}
-use Rattle.xdr_types.specs.Forms.{name_of}
+use Rattle.xdr_types.specs.Kinds.{KindView, Part}
+use Rattle.xdr_types.specs.KindViews.{name_of}
 use Rattle.xdr_types.specs.Faults.{some_of, name_flaw, name_flaw_at}
 use Rattle.xdr_types.specs.declared.kind.KindId.{KindId}
 use Rattle.xdr_types.proofs.Flawless.{flaw-here}
@@ -13,7 +14,8 @@ use Rattle.xdr_types.proofs.Apart.{texts_cmp, has_text, added_text, no_text, or_
 
 -- the set has the names before a place
 abbrev pub HasNames : List (String Global × KindId) → ℕ → BTreeSet (Bor (List ℕ)) → Type 0
-HasNames names i s = (q : List ℕ) → some_of (λ (p : Part). bytes_eq p.name q) (map name_of (take i names)) ≡ has_text s q
+HasNames names i s = (q : List ℕ) → some_of (λ (p : Part). bytes_eq p.name q)
+    (map name_of (take i names)) ≡ has_text s q
 
 or_swap : (a b : Bool) → a || b ≡ b || a
 or_swap true true = refl
@@ -21,17 +23,21 @@ or_swap true false = refl
 or_swap false true = refl
 or_swap false false = refl
 
-some_taken : (test : Part → Bool) (names : List (String Global × KindId)) (i : ℕ) (n : String Global × KindId) → i < length names → n ≡ get_or names i n
+some_taken : (test : Part → Bool) (names : List (String Global × KindId)) (i : ℕ) (n : String Global × KindId)
+    → i < length names → n ≡ get_or names i n
     → some_of test (map name_of (take (suc i) names)) ≡ some_of test (map name_of (take i names)) || test (name_of n)
 some_taken test [] i n lt is = absurd (omega arith)
 some_taken test (m ∷ names) zero n lt is = or_false (test (name_of m)) ∙ ap (λ k. test (name_of k)) (sym is)
 some_taken test (m ∷ names) (suc i) n lt is =
-    ap (λ b. test (name_of m) || b) (some_taken test names i n (omega arith) is) ∙ sym (or_group (test (name_of m)) (some_of test (map name_of (take i names))) (test (name_of n)))
+    ap (λ b. test (name_of m) || b) (some_taken test names i n (omega arith) is)
+    ∙ sym (or_group (test (name_of m)) (some_of test (map name_of (take i names))) (test (name_of n)))
 
 pub no_names : (names : List (String Global × KindId)) (s : BTreeSet (Bor (List ℕ))) → s.keys ≡ [] → HasNames names 0 s
 no_names names s e = no_text s e
 
-pub next_name : (names : List (String Global × KindId)) (i : ℕ) (n : String Global × KindId) (s t : BTreeSet (Bor (List ℕ))) (k : Bor (List ℕ)) → i < length names → n ≡ get_or names i n → k.now ≡ string_bytes n.0
+pub next_name : (names : List (String Global × KindId)) (i : ℕ) (n : String Global × KindId)
+    (s t : BTreeSet (Bor (List ℕ))) (k : Bor (List ℕ)) → i < length names → n ≡ get_or names i n
+    → k.now ≡ string_bytes n.0
     → Updates texts_cmp s t k true → HasNames names i s → HasNames names (i + 1) t
 next_name names i n s t k lt is e u h q =
     let more : i + 1 ≡ suc i = omega arith in
@@ -42,16 +48,22 @@ next_name names i n s t k lt is e u h q =
     ∙ sym (added_text s t k (string_bytes n.0) e u q))
 
 -- where a name is new, none of those before it need be looked at
-looked : (forms : List Form) (names : List (String Global × KindId)) (i : ℕ) (n : String Global × KindId) (s : BTreeSet (Bor (List ℕ))) (is_new : Bool) → is_new ≡ not (has_text s (string_bytes n.0)) → HasNames names i s
-    → name_flaw forms (map name_of (take (if is_new then 0 else i) names)) (name_of n) ≡ name_flaw forms (map name_of (take i names)) (name_of n)
+looked : (forms : List KindView) (names : List (String Global × KindId)) (i : ℕ) (n : String Global × KindId)
+    (s : BTreeSet (Bor (List ℕ))) (is_new : Bool) → is_new ≡ not (has_text s (string_bytes n.0)) → HasNames names i s
+    → name_flaw forms (map name_of (take (if is_new then 0 else i) names)) (name_of n) ≡ name_flaw forms
+    (map name_of (take i names)) (name_of n)
 looked forms names i n s false e h = refl
 looked forms names i n s true e h =
-    let absent : some_of (λ (p : Part). bytes_eq p.name (string_bytes n.0)) (map name_of (take i names)) ≡ false = h (string_bytes n.0) ∙ was_absent true (has_text s (string_bytes n.0)) e refl in
+    let absent : some_of (λ (p : Part). bytes_eq p.name (string_bytes n.0)) (map name_of (take i names)) ≡ false =
+    h (string_bytes n.0) ∙ was_absent true (has_text s (string_bytes n.0)) e refl in
     rw absent refl
 
 -- the flaw of the name at a place, where as many names are looked at as it needs
-pub flaw_by_set : (forms : List Form) (names zs : List (String Global × KindId)) (i before : ℕ) (n : String Global × KindId) (s : BTreeSet (Bor (List ℕ))) (k : List ℕ) (is_new : Bool) → i < length names → n ≡ get_or names i n → k ≡ string_bytes n.0
-    → is_new ≡ not (has_text s k) → before ≡ (if is_new then 0 else i) → zs ≡ names → HasNames names i s → name_flaw_at forms (map name_of names) i ≡ name_flaw forms (map name_of (take before zs)) (name_of n)
+pub flaw_by_set : (forms : List KindView) (names zs : List (String Global × KindId)) (i before : ℕ)
+    (n : String Global × KindId) (s : BTreeSet (Bor (List ℕ))) (k : List ℕ) (is_new : Bool) → i < length names
+    → n ≡ get_or names i n → k ≡ string_bytes n.0
+    → is_new ≡ not (has_text s k) → before ≡ (if is_new then 0 else i) → zs ≡ names → HasNames names i s
+    → name_flaw_at forms (map name_of names) i ≡ name_flaw forms (map name_of (take before zs)) (name_of n)
 flaw_by_set forms names zs i before n s k is_new lt is key new e same h =
     flaw-here forms names i n lt is
     ∙ sym (looked forms names i n s is_new (new ∙ ap (λ t. not (has_text s t)) key) h)

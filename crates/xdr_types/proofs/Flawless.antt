@@ -1,14 +1,17 @@
 -- One more place without a flaw.
-use Rattle.std.proofs.Common.{◌≡◌, ℕ, zero, suc, ◌+◌, ◌<◌, ◌≤◌, List, [], ◌∷◌, length, map, take, get_or, Bool, true, false, Option, None, String, slice_index_or, refl, ap, sym, ◌∙◌, subst, arith, nat_lt, ltb-true, ltb-false}
+use Rattle.std.proofs.Common.{◌≡◌, ℕ, zero, suc, ◌+◌, ◌<◌, ◌≤◌, List, [], ◌∷◌, length, map, take, get_or, Bool, true}
+use Rattle.std.proofs.Common.{false, Option, None, String, slice_index_or, refl, ap, sym, ◌∙◌, subst, arith, nat_lt}
+use Rattle.std.proofs.Common.{ltb-true, ltb-false}
 use Rattle.std.specs.declared.alloc.Global.{Global}
-use Rattle.xdr_types.specs.Form.{Form, Part, kind_at}
-use Rattle.xdr_types.specs.Forms.{form_of, name_of}
+use Rattle.xdr_types.specs.Kinds.{KindView, Part, kind_at}
+use Rattle.xdr_types.specs.KindViews.{kind_view, name_of}
 use Rattle.xdr_types.specs.Faults.{AreFlawless, name_flaw, name_flaw_at}
 use Rattle.xdr_types.specs.declared.fault.Flaw.{Flaw}
 use Rattle.xdr_types.specs.declared.kind.Kind.{Kind}
 use Rattle.xdr_types.specs.declared.kind.KindId.{KindId}
 
-pub one-more : (flaw_at : ℕ → Option Flaw) (n : ℕ) → AreFlawless flaw_at n → flaw_at n ≡ None → AreFlawless flaw_at (n + 1)
+pub one-more : (flaw_at : ℕ → Option Flaw) (n : ℕ) → AreFlawless flaw_at n → flaw_at n ≡ None
+    → AreFlawless flaw_at (n + 1)
 one-more flaw_at n h e place within = by_case (nat_lt place n) refl
   where
     by_case : (b : Bool) → nat_lt place n ≡ b → flaw_at place ≡ None
@@ -19,13 +22,15 @@ one-more flaw_at n h e place within = by_case (nat_lt place n) refl
         subst (λ (q : ℕ). flaw_at q ≡ None) same e
 
 -- the kind at a place, of the list of kinds
-pub kind-here : (ks : List Kind) (i : ℕ) (k : Kind) → i < length ks → k ≡ get_or ks i k → kind_at (map form_of ks) i ≡ form_of k
+pub kind-here : (ks : List Kind) (i : ℕ) (k : Kind) → i < length ks → k ≡ get_or ks i k
+    → kind_at (map kind_view ks) i ≡ kind_view k
 kind-here [] i k h is = absurd (omega arith)
-kind-here (j ∷ ks) zero k h is = ap form_of (sym is)
+kind-here (j ∷ ks) zero k h is = ap kind_view (sym is)
 kind-here (j ∷ ks) (suc i) k h is = kind-here ks i k (omega arith) is
 
 -- the name at a place, of the list of names
-pub name-here : (ns : List (String Global × KindId)) (i : ℕ) (n : String Global × KindId) → i < length ns → n ≡ get_or ns i n → slice_index_or (map name_of ns) i (record { name = []; kind = 0 }) ≡ name_of n
+pub name-here : (ns : List (String Global × KindId)) (i : ℕ) (n : String Global × KindId) → i < length ns
+    → n ≡ get_or ns i n → slice_index_or (map name_of ns) i (record { name = []; kind = 0 }) ≡ name_of n
 name-here [] i n h is = absurd (omega arith)
 name-here (j ∷ ns) zero n h is = ap name_of (sym is)
 name-here (j ∷ ns) (suc i) n h is = name-here ns i n (omega arith) is
@@ -37,6 +42,8 @@ names-before (n ∷ ns) zero = refl
 names-before (n ∷ ns) (suc i) = ap (λ (z : List Part). name_of n ∷ z) (names-before ns i)
 
 -- the flaw of the name at a place
-pub flaw-here : (kinds : List Form) (ns : List (String Global × KindId)) (i : ℕ) (n : String Global × KindId) → i < length ns → n ≡ get_or ns i n
+pub flaw-here : (kinds : List KindView) (ns : List (String Global × KindId)) (i : ℕ) (n : String Global × KindId)
+    → i < length ns → n ≡ get_or ns i n
     → name_flaw_at kinds (map name_of ns) i ≡ name_flaw kinds (map name_of (take i ns)) (name_of n)
-flaw-here kinds ns i n h is = ap (name_flaw kinds (take i (map name_of ns))) (name-here ns i n h is) ∙ ap (λ (z : List Part). name_flaw kinds z (name_of n)) (sym (names-before ns i))
+flaw-here kinds ns i n h is = ap (name_flaw kinds (take i (map name_of ns))) (name-here ns i n h is)
+    ∙ ap (λ (z : List Part). name_flaw kinds z (name_of n)) (sym (names-before ns i))

@@ -1,9 +1,10 @@
 -- The function `height` agrees with what the rounds found.
-use Rattle.std.proofs.Common.{◌≡◌, ℕ, zero, suc, ◌+◌, ◌<◌, ◌≤◌, max, List, [], ◌∷◌, length, Option, Some, refl, ap, arith}
+use Rattle.std.proofs.Common.{◌≡◌, ℕ, zero, suc, ◌+◌, ◌<◌, ◌≤◌, max, List, [], ◌∷◌, length, Option, Some, refl, ap}
+use Rattle.std.proofs.Common.{arith}
 use Rattle.std.proofs.Math.Nat.{le-max_left, le-max_right}
 use Rattle.std.specs.List.{AllByRecursion}
-use Rattle.xdr_types.specs.Form as form
-use Rattle.xdr_types.specs.Form.{Form, Part, kind_at}
+use Rattle.xdr_types.specs.Kinds as xdr
+use Rattle.xdr_types.specs.Kinds.{KindView, Part, kind_at}
 use Rattle.xdr_types.specs.Sound.{Heighting, IsBelow, Asks, IsProper}
 use Rattle.xdr_types.specs.Rounds.{given, IsMarked, AreHeights}
 use Rattle.xdr_types.specs.Height.{highest, over, height_within, IsHigher, AreHigher}
@@ -14,9 +15,9 @@ highest-same : (f g : ℕ → ℕ) (ps : List Part) → AllByRecursion (λ (p : 
 highest-same f g [] h = refl
 highest-same f g (p ∷ ps) h = rw (h.0, highest-same f g ps h.1) refl
 
-over-same : (kinds : List Form) (f g : ℕ → ℕ) (k : Form) → Asks kinds (λ q. f q ≡ g q) k → over f k ≡ over g k
-over-same kinds f g (form.structure ps) h = ap (λ n. n + 1) (highest-same f g ps h)
-over-same kinds f g (form.fixed item size) h = ap (λ n. n + 1) h
+over-same : (kinds : List KindView) (f g : ℕ → ℕ) (k : KindView) → Asks kinds (λ q. f q ≡ g q) k → over f k ≡ over g k
+over-same kinds f g (xdr.structure ps) h = ap (λ n. n + 1) (highest-same f g ps h)
+over-same kinds f g (xdr.fixed item size) h = ap (λ n. n + 1) h
 over-same kinds f g _ h = refl
 
 all-below : (f g : ℕ → ℕ) (ps : List Part) (top : ℕ) → AllByRecursion (λ (p : Part). f p.kind ≡ g p.kind) ps
@@ -28,13 +29,14 @@ all-below f g (p ∷ ps) top h b =
     let right : highest f ps ≤ max (f p.kind) (highest f ps) = le-max_right (f p.kind) (highest f ps) in
     (omega arith, all-below f g ps top h.1 (omega arith))
 
-higher-over : (kinds : List Form) (f g : ℕ → ℕ) (k : Form) (top : ℕ) → Asks kinds (λ q. f q ≡ g q) k → over f k ≡ top
+higher-over : (kinds : List KindView) (f g : ℕ → ℕ) (k : KindView) (top : ℕ) → Asks kinds (λ q. f q ≡ g q) k
+    → over f k ≡ top
     → IsHigher g k top
-higher-over kinds f g (form.structure ps) top h e = all-below f g ps top h (omega arith)
-higher-over kinds f g (form.fixed item size) top h e = let same : f item ≡ g item = h in omega arith
+higher-over kinds f g (xdr.structure ps) top h e = all-below f g ps top h (omega arith)
+higher-over kinds f g (xdr.fixed item size) top h e = let same : f item ≡ g item = h in omega arith
 higher-over kinds f g _ top h e = tt
 
-module _ (kinds : List Form) (h : Heighting) (proper : IsProper kinds h) where
+module _ (kinds : List KindView) (h : Heighting) (proper : IsProper kinds h) where
   -- more levels than a place's number show no more
   stable : (bound place m n k : ℕ) → m < bound → h place ≡ Some m → m < n → m < k
       → height_within kinds n place ≡ height_within kinds k place
@@ -60,7 +62,7 @@ module _ (kinds : List Form) (h : Heighting) (proper : IsProper kinds h) where
       (kind_at kinds place) (proper place m e))
       refl
 
-pub are-higher : (kinds : List Form) (hs : List (Option ℕ)) (next : ℕ) → AreHeights kinds hs next
+pub are-higher : (kinds : List KindView) (hs : List (Option ℕ)) (next : ℕ) → AreHeights kinds hs next
     → ((place : ℕ) → place < length kinds → IsMarked hs place) → AreHigher kinds
 are-higher kinds hs next are all place within =
     let found = number hs place (all place within) in

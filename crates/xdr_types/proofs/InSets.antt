@@ -1,5 +1,7 @@
 -- What a set of numbers says of the enumeration that it was made of.
-use Rattle.std.proofs.Common.{◌≡◌, ℕ, ◌+◌, ◌<◌, ◌≤◌, ◌++◌, length, get_or, ltb, ltb-true, ltb-false, arith, rules, ℤ, Bool, true, false, ◌||◌, List, [], ◌∷◌, int_cmp, refl, sym, ap, ◌∙◌, subst, ◌⊎◌, inl, inr, IsTrue, not, ◌↔◌}
+use Rattle.std.proofs.Common.{◌≡◌, ℕ, ◌+◌, ◌<◌, ◌≤◌, ◌++◌, length, get_or, ltb, ltb-true, ltb-false, arith, rules, ℤ}
+use Rattle.std.proofs.Common.{Bool, true, false, ◌||◌, List, [], ◌∷◌, int_cmp, refl, sym, ap, ◌∙◌, subst, ◌⊎◌, inl, inr}
+use Rattle.std.proofs.Common.{IsTrue, not, ◌↔◌}
 use Rattle.std.specs.BTreeSet.{BTreeSet, contains, IsSubset}
 use Rattle.std.specs.BTreeMap.{is_at}
 use Rattle.std.specs.List.{list_any}
@@ -7,17 +9,19 @@ use Rattle.std.proofs.lemmas.Bool.{false≢true}
 use Rattle.std.proofs.lemmas.List.{length-append}
 use Rattle.std.proofs.Math.ListN.{get_or-append}
 use Rattle.std.proofs.Math.Seq.{get_or-append_seam}
-use Rattle.xdr_types.specs.Form as form
-use Rattle.xdr_types.specs.Form.{Form, Constant, Branch}
+use Rattle.xdr_types.specs.Kinds as xdr
+use Rattle.xdr_types.specs.Kinds.{KindView, Constant, Branch}
 use Rattle.xdr_types.specs.Fits.{is_tag_of, is_numbered}
 use Rattle.xdr_types.specs.Sets.{HasNumbers, HasNumberOutside}
 
 -- the tags of an enumeration are those of the set of its numbers
-pub numbered-tag : (f : Form) (members : List Constant) (s : BTreeSet ℤ) (z : ℤ) (r : Bool) → f ≡ form.numbered members → HasNumbers f s
+pub numbered-tag : (f : KindView) (members : List Constant) (s : BTreeSet ℤ) (z : ℤ) (r : Bool)
+    → f ≡ xdr.numbered members → HasNumbers f s
     → r ≡ contains int_cmp s z → r ≡ is_tag_of f z
 numbered-tag f members s z r is has e =
-    let numbers : (y : ℤ) → contains int_cmp s y ≡ is_numbered members y = subst (λ (g : Form). HasNumbers g s) is has in
-    subst (λ (g : Form). r ≡ is_tag_of g z) (sym is) (e ∙ numbers z)
+    let numbers : (y : ℤ) → contains int_cmp s y ≡ is_numbered members y =
+    subst (λ (g : KindView). HasNumbers g s) is has in
+    subst (λ (g : KindView). r ≡ is_tag_of g z) (sym is) (e ∙ numbers z)
 
 -- the number is among the keys
 abbrev has : List ℤ → ℤ → Bool
@@ -45,7 +49,8 @@ same : (z k : ℤ) → is_at (int_cmp z) k ≡ true → z ≡ k
 same z k h = search rules
 
 -- either a key is not in the set, or all are
-scan : (t : BTreeSet ℤ) (ks : List ℤ) → ((z : ℤ) × (has ks z ≡ true) × (contains int_cmp t z ≡ false)) ⊎ ((z : ℤ) → has ks z ≡ true → contains int_cmp t z ≡ true)
+scan : (t : BTreeSet ℤ) (ks : List ℤ) → ((z : ℤ) × (has ks z ≡ true) × (contains int_cmp t z ≡ false))
+    ⊎ ((z : ℤ) → has ks z ≡ true → contains int_cmp t z ≡ true)
 scan t [] = inr (λ z h. absurd (false≢true h))
 scan t (k ∷ ks) =
     elim (tested (contains int_cmp t k)) [
@@ -85,11 +90,14 @@ before_or_last i n h = by_test (ltb i n) refl
     by_test false e = let past : n ≤ i = ltb-false i n e in inr (omega arith)
 
 -- one more element that has what the others have at their places
-pub pushed : {A : Type 0} (P : ℕ → A → Type 0) (xs ys : List A) (y : A) → ys ≡ xs ++ y ∷ [] → ((i : ℕ) (x : A) → i < length xs → x ≡ get_or xs i x → P i x)
+pub pushed : {A : Type 0} (P : ℕ → A → Type 0) (xs ys : List A) (y : A) → ys ≡ xs ++ y ∷ []
+    → ((i : ℕ) (x : A) → i < length xs → x ≡ get_or xs i x → P i x)
     → P (length xs) y → (i : ℕ) (x : A) → i < length ys → x ≡ get_or ys i x → P i x
 pushed {A} P xs ys y e each new i x lt is =
     elim (before_or_last i (length xs) (omega (arith, ap length e, length-append xs (y ∷ [])))) [
       | inl before ↦ each i x before (is ∙ ap (λ (zs : List A). get_or zs i x) e ∙ get_or-append xs (y ∷ []) x i before)
       | inr last ↦ subst (λ (j : ℕ). P j x) (sym last)
-          (subst (λ (z : A). P (length xs) z) (sym (is ∙ ap (λ (zs : List A). get_or zs i x) e ∙ ap (λ (j : ℕ). get_or (xs ++ y ∷ []) j x) last ∙ get_or-append_seam xs y [] x)) new)
+          (subst (λ (z : A). P (length xs) z)
+          (sym (is ∙ ap (λ (zs : List A). get_or zs i x) e ∙ ap (λ (j : ℕ). get_or (xs ++ y ∷ []) j x) last
+          ∙ get_or-append_seam xs y [] x)) new)
     ]

@@ -1,5 +1,6 @@
 -- What follows from the bytes of a number.
-use Rattle.std.proofs.Common.{◌≡◌, ℕ, ◌<◌, ◌^◌, ℤ, pos, negsuc, List, ◌++◌, take, drop, Bool, true, false, refl, ap, sym, ◌∙◌, arith, nat_le, ltb-true, leb-true}
+use Rattle.std.proofs.Common.{◌≡◌, ℕ, ◌<◌, ◌^◌, ℤ, pos, negsuc, List, ◌++◌, take, drop, Bool, true, false, refl, ap}
+use Rattle.std.proofs.Common.{sym, ◌∙◌, arith, nat_le, ltb-true, leb-true}
 use Rattle.std.specs.Int.{w32, w64, from_be_bytes, cast_unsigned}
 use Rattle.std.proofs.lemmas.Nat.{from_be_bytes-to_be_bytes_4, from_be_bytes-to_be_bytes_8}
 use Rattle.xdr_units.specs.Numbers.{num4, num8, number_of}
@@ -11,11 +12,15 @@ num4-front a b x y e = (ap (take 4) e, ap (drop 4) e)
 pub num8-front : (a b : ℤ) (x y : List ℕ) → num8 a ++ x ≡ num8 b ++ y → (num8 a ≡ num8 b) × (x ≡ y)
 num8-front a b x y e = (ap (take 8) e, ap (drop 8) e)
 
-same4 : (a b : ℤ) → cast_unsigned w32 a < 2 ^ 32 → cast_unsigned w32 b < 2 ^ 32 → num4 a ≡ num4 b → cast_unsigned w32 a ≡ cast_unsigned w32 b
-same4 a b h k e = sym (from_be_bytes-to_be_bytes_4 (cast_unsigned w32 a) h) ∙ ap (from_be_bytes w32) e ∙ from_be_bytes-to_be_bytes_4 (cast_unsigned w32 b) k
+same4 : (a b : ℤ) → cast_unsigned w32 a < 2 ^ 32 → cast_unsigned w32 b < 2 ^ 32 → num4 a ≡ num4 b
+    → cast_unsigned w32 a ≡ cast_unsigned w32 b
+same4 a b h k e = sym (from_be_bytes-to_be_bytes_4 (cast_unsigned w32 a) h) ∙ ap (from_be_bytes w32) e
+    ∙ from_be_bytes-to_be_bytes_4 (cast_unsigned w32 b) k
 
-same8 : (a b : ℤ) → cast_unsigned w64 a < 2 ^ 64 → cast_unsigned w64 b < 2 ^ 64 → num8 a ≡ num8 b → cast_unsigned w64 a ≡ cast_unsigned w64 b
-same8 a b h k e = sym (from_be_bytes-to_be_bytes_8 (cast_unsigned w64 a) h) ∙ ap (from_be_bytes w64) e ∙ from_be_bytes-to_be_bytes_8 (cast_unsigned w64 b) k
+same8 : (a b : ℤ) → cast_unsigned w64 a < 2 ^ 64 → cast_unsigned w64 b < 2 ^ 64 → num8 a ≡ num8 b
+    → cast_unsigned w64 a ≡ cast_unsigned w64 b
+same8 a b h k e = sym (from_be_bytes-to_be_bytes_8 (cast_unsigned w64 a) h) ∙ ap (from_be_bytes w64) e
+    ∙ from_be_bytes-to_be_bytes_8 (cast_unsigned w64 b) k
 
 -- signed numbers of one form are one
 pub signed4 : (a b : ℤ) → is_signed 2147483648 a ≡ true → is_signed 2147483648 b ≡ true → num4 a ≡ num4 b → a ≡ b
@@ -39,7 +44,8 @@ signed4 (negsuc m) (negsuc n) h k e =
     let s = same4 (negsuc m) (negsuc n) (omega arith) (omega arith) e in
     ap negsuc (omega arith)
 
-pub signed8 : (a b : ℤ) → is_signed 9223372036854775808 a ≡ true → is_signed 9223372036854775808 b ≡ true → num8 a ≡ num8 b → a ≡ b
+pub signed8 : (a b : ℤ) → is_signed 9223372036854775808 a ≡ true → is_signed 9223372036854775808 b ≡ true
+    → num8 a ≡ num8 b → a ≡ b
 signed8 (pos m) (pos n) h k e =
     let below = ltb-true m 9223372036854775808 h in
     let below2 = ltb-true n 9223372036854775808 k in
@@ -60,13 +66,15 @@ signed8 (negsuc m) (negsuc n) h k e =
     let s = same8 (negsuc m) (negsuc n) (omega arith) (omega arith) e in
     ap negsuc (omega arith)
 
-pub unsigned4 : (m n : ℕ) → nat_le m 4294967295 ≡ true → nat_le n 4294967295 ≡ true → num4 (pos m) ≡ num4 (pos n) → m ≡ n
+pub unsigned4 : (m n : ℕ) → nat_le m 4294967295 ≡ true → nat_le n 4294967295 ≡ true → num4 (pos m) ≡ num4 (pos n)
+    → m ≡ n
 unsigned4 m n h k e =
     let below = leb-true m 4294967295 h in
     let below2 = leb-true n 4294967295 k in
     same4 (pos m) (pos n) (omega arith) (omega arith) e
 
-pub unsigned8 : (m n : ℕ) → nat_le m 18446744073709551615 ≡ true → nat_le n 18446744073709551615 ≡ true → num8 (pos m) ≡ num8 (pos n) → m ≡ n
+pub unsigned8 : (m n : ℕ) → nat_le m 18446744073709551615 ≡ true → nat_le n 18446744073709551615 ≡ true
+    → num8 (pos m) ≡ num8 (pos n) → m ≡ n
 unsigned8 m n h k e =
     let below = leb-true m 18446744073709551615 h in
     let below2 = leb-true n 18446744073709551615 k in

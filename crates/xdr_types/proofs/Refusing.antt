@@ -1,6 +1,6 @@
 -- Lists in which a fault is found make no schema.
 use Rattle.std.proofs.Common.{◌≡◌, inl, inr, ℕ, Option, Some, None, arith, sym, ◌∙◌}
-use Rattle.xdr_types.specs.Form.{Lists}
+use Rattle.xdr_types.specs.Kinds.{Lists}
 use Rattle.xdr_types.specs.Faults.{AreFlawless, IsWellFormed, kind_flaw_at, name_flaw_at}
 use Rattle.xdr_types.specs.Refused.{IsFirstFlaw, IsFirstFault}
 use Rattle.xdr_types.specs.Sound.{IsSound}

@@ -12,10 +12,12 @@ tree-List v = search (rules, the_lemmas, length-map)
 pub tree-Group : (v : Vec Value Global) → tree (Value'.Group v) ≡ (fields, values v.items)
 tree-Group v = search (rules, the_lemmas)
 
-pub tree-Choice : (z : ℤ) (part : Box Value Global) → tree (Value'.Choice z part) ≡ (tag z, from_list (tree part.value ∷ []))
+pub tree-Choice : (z : ℤ) (part : Box Value Global)
+    → tree (Value'.Choice z part) ≡ (tag z, from_list (tree part.value ∷ []))
 tree-Choice z part = search (rules, the_lemmas)
 
-pub tree-Some : (item : Box Value Global) → tree (Value'.Maybe (Some item)) ≡ (present, from_list (tree item.value ∷ []))
+pub tree-Some : (item : Box Value Global)
+    → tree (Value'.Maybe (Some item)) ≡ (present, from_list (tree item.value ∷ []))
 tree-Some item = search (rules, the_lemmas)
 
 pub tree-None : tree (Value'.Maybe None) ≡ (absent, none)

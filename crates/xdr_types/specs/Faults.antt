@@ -1,8 +1,9 @@
 -- What is wrong with the lists of a schema, and which of it is found first (RFC 4506 sections 4.3 to 4.19).
-use Rattle.std.specs.Prelude.{◌<◌, ◌≤◌, take, slice_index_or, ◌≡◌, ℕ, ℤ, List, [], ◌∷◌, length, Bool, true, false, not, ◌&&◌, ◌||◌, ◌==◌, nat_le, Option, Some, None, if◌then◌else◌}
+use Rattle.std.specs.Prelude.{◌<◌, ◌≤◌, take, slice_index_or, ◌≡◌, ℕ, ℤ, List, [], ◌∷◌, length, Bool, true, false, not}
+use Rattle.std.specs.Prelude.{◌&&◌, ◌||◌, ◌==◌, nat_le, Option, Some, None, if◌then◌else◌}
 use Rattle.std.specs.Str.{bytes_eq}
-use Rattle.xdr_types.specs.Form as form
-use Rattle.xdr_types.specs.Form.{Form, Part, Branch, Constant, Lists, kind_at}
+use Rattle.xdr_types.specs.Kinds as xdr
+use Rattle.xdr_types.specs.Kinds.{KindView, Part, Branch, Constant, Lists, kind_at}
 use Rattle.xdr_types.specs.Fits.{is_tag_of, is_listed, is_signed}
 use Rattle.xdr_types.specs.Sound.{has_arm}
 use Rattle.xdr_types.specs.declared.fault.Flaw.{Flaw}
@@ -25,54 +26,56 @@ is_none [] = true
 is_none (x ∷ xs) = false
 
 -- some place that the kind names passes the test, its tag's left out
-abbrev pub some_part : (ℕ → Bool) → Form → Bool
-some_part test (form.fixed item size) = test item
-some_part test (form.up_to item max) = test item
-some_part test (form.structure ps) = some_of (λ (p : Part). test p.kind) ps
-some_part test (form.choice tag arms other) = some_of (λ (a : Branch). test a.part.kind) arms || some_optional (λ (p : Part). test p.kind) other
-some_part test (form.maybe item) = test item
+abbrev pub some_part : (ℕ → Bool) → KindView → Bool
+some_part test (xdr.fixed item size) = test item
+some_part test (xdr.up_to item max) = test item
+some_part test (xdr.structure ps) = some_of (λ (p : Part). test p.kind) ps
+some_part test (xdr.choice tag arms other) =
+    some_of (λ (a : Branch). test a.part.kind) arms || some_optional (λ (p : Part). test p.kind) other
+some_part test (xdr.maybe item) = test item
 some_part test _ = false
 
 -- a place outside the list of kinds
-abbrev pub is_outside : List Form → ℕ → Bool
+abbrev pub is_outside : List KindView → ℕ → Bool
 is_outside kinds place = nat_le (length kinds) place
 
 -- a kind that names a place outside the list, its discriminant included (fault 1)
-abbrev pub has_unknown : List Form → Form → Bool
-has_unknown kinds (form.choice tag arms other) = is_outside kinds tag || some_part (is_outside kinds) (form.choice tag arms other)
+abbrev pub has_unknown : List KindView → KindView → Bool
+has_unknown kinds (xdr.choice tag arms other) =
+    is_outside kinds tag || some_part (is_outside kinds) (xdr.choice tag arms other)
 has_unknown kinds f = some_part (is_outside kinds) f
 
 -- a fixed opaque or a fixed array of size 0 (fault 2; RFC 4506 sections 4.9, 4.12)
-abbrev pub is_zero_size : Form → Bool
-is_zero_size (form.opaque size) = size == 0
-is_zero_size (form.fixed item size) = size == 0
+abbrev pub is_zero_size : KindView → Bool
+is_zero_size (xdr.opaque size) = size == 0
+is_zero_size (xdr.fixed item size) = size == 0
 is_zero_size _ = false
 
 -- the void kind (RFC 4506 section 4.16)
-abbrev pub is_nothing : Form → Bool
-is_nothing form.nothing = true
+abbrev pub is_nothing : KindView → Bool
+is_nothing xdr.nothing = true
 is_nothing _ = false
 
 -- a place at which the void kind stands
-abbrev pub is_void : List Form → ℕ → Bool
+abbrev pub is_void : List KindView → ℕ → Bool
 is_void kinds place = is_nothing (kind_at kinds place)
 
 -- a kind with a void field or item; a union may have void parts (fault 3; RFC 4506 sections 4.14 to 4.16)
-abbrev pub has_void : List Form → Form → Bool
-has_void kinds (form.choice tag arms other) = false
+abbrev pub has_void : List KindView → KindView → Bool
+has_void kinds (xdr.choice tag arms other) = false
 has_void kinds f = some_part (is_void kinds) f
 
 -- the kinds of a discriminant: int, unsigned int, bool, enumeration (RFC 4506 section 4.15)
-abbrev pub is_tag : Form → Bool
-is_tag form.int = true
-is_tag form.unsigned = true
-is_tag form.boolean = true
-is_tag (form.numbered constants) = true
+abbrev pub is_tag : KindView → Bool
+is_tag xdr.int = true
+is_tag xdr.unsigned = true
+is_tag xdr.boolean = true
+is_tag (xdr.numbered constants) = true
 is_tag _ = false
 
 -- a union whose discriminant is of another kind (fault 4; RFC 4506 section 4.15)
-abbrev pub has_bad_tag : List Form → Form → Bool
-has_bad_tag kinds (form.choice tag arms other) = not (is_tag (kind_at kinds tag))
+abbrev pub has_bad_tag : List KindView → KindView → Bool
+has_bad_tag kinds (xdr.choice tag arms other) = not (is_tag (kind_at kinds tag))
 has_bad_tag kinds _ = false
 
 -- a case stands twice in one list
@@ -86,20 +89,22 @@ arms_case_twice [] = false
 arms_case_twice (a ∷ arms) = (case_twice a.cases || some_of (has_arm arms) a.cases) || arms_case_twice arms
 
 -- a union with a case that stands twice (fault 5; RFC 4506 section 4.15)
-abbrev pub has_case_twice : Form → Bool
-has_case_twice (form.choice tag arms other) = arms_case_twice arms
+abbrev pub has_case_twice : KindView → Bool
+has_case_twice (xdr.choice tag arms other) = arms_case_twice arms
 has_case_twice _ = false
 
 -- a union with a case that is no number of its discriminant (fault 6; RFC 4506 section 4.15)
-abbrev pub has_illegal_case : List Form → Form → Bool
-has_illegal_case kinds (form.choice tag arms other) = some_of (λ (a : Branch). some_of (λ (z : ℤ). not (is_tag_of (kind_at kinds tag) z)) a.cases) arms
+abbrev pub has_illegal_case : List KindView → KindView → Bool
+has_illegal_case kinds (xdr.choice tag arms other) =
+    some_of (λ (a : Branch). some_of (λ (z : ℤ). not (is_tag_of (kind_at kinds tag) z)) a.cases) arms
 has_illegal_case kinds _ = false
 
--- a kind or an arm without entries (fault 9; RFC 4506 sections 4.3, 4.14, 4.15); an entry of an enumeration is a member whose number is an int
-abbrev pub has_empty_list : Form → Bool
-has_empty_list (form.numbered constants) = not (some_of (λ (c : Constant). is_signed 2147483648 c.number) constants)
-has_empty_list (form.structure ps) = is_none ps
-has_empty_list (form.choice tag arms other) = is_none arms || some_of (λ (a : Branch). is_none a.cases) arms
+-- a kind or an arm without entries (fault 9; RFC 4506 sections 4.3, 4.14, 4.15); an entry of an enumeration is a member
+-- whose number is an int
+abbrev pub has_empty_list : KindView → Bool
+has_empty_list (xdr.numbered constants) = not (some_of (λ (c : Constant). is_signed 2147483648 c.number) constants)
+has_empty_list (xdr.structure ps) = is_none ps
+has_empty_list (xdr.choice tag arms other) = is_none arms || some_of (λ (a : Branch). is_none a.cases) arms
 has_empty_list _ = false
 
 -- two members with one name
@@ -117,14 +122,15 @@ abbrev pub arm_twice : List Branch → Option Part → Bool
 arm_twice [] other = false
 arm_twice (a ∷ arms) other =
     (not (is_none a.part.name)
-    && (some_of (λ (b : Branch). bytes_eq a.part.name b.part.name) arms || some_optional (λ (q : Part). bytes_eq a.part.name q.name) other))
+    && (some_of (λ (b : Branch). bytes_eq a.part.name b.part.name) arms
+    || some_optional (λ (q : Part). bytes_eq a.part.name q.name) other))
     || arm_twice arms other
 
 -- one name twice within a kind (fault 10; RFC 4506 sections 4.3, 4.14, 4.15)
-abbrev pub has_name_twice : Form → Bool
-has_name_twice (form.numbered constants) = constant_twice constants
-has_name_twice (form.structure ps) = part_twice ps
-has_name_twice (form.choice tag arms other) = arm_twice arms other
+abbrev pub has_name_twice : KindView → Bool
+has_name_twice (xdr.numbered constants) = constant_twice constants
+has_name_twice (xdr.structure ps) = part_twice ps
+has_name_twice (xdr.choice tag arms other) = arm_twice arms other
 has_name_twice _ = false
 
 -- the number of a fault
@@ -142,7 +148,7 @@ fault_number flaw.NameTwice = 10
 fault_number flaw.NoMemory = 11
 
 -- the first flaw of a kind, in the order of their numbers
-abbrev pub kind_flaw : List Form → Form → Option Flaw
+abbrev pub kind_flaw : List KindView → KindView → Option Flaw
 kind_flaw kinds f =
     if has_unknown kinds f then Some flaw.UnknownKind else
     if is_zero_size f then Some flaw.ZeroSize else
@@ -154,7 +160,7 @@ kind_flaw kinds f =
     if has_name_twice f then Some flaw.NameTwice else None
 
 -- the first flaw of a name: it names no kind, a void one, or stands among those before it
-abbrev pub name_flaw : List Form → List Part → Part → Option Flaw
+abbrev pub name_flaw : List KindView → List Part → Part → Option Flaw
 name_flaw kinds before name =
     if is_outside kinds name.kind then Some flaw.UnknownKind else
     if is_void kinds name.kind then Some flaw.VoidMember else
@@ -165,18 +171,20 @@ abbrev pub fault : Flaw → ℕ → SchemaFault
 fault why place = record { why = why; place = place }
 
 -- the first flaw of the kind at a place
-abbrev pub kind_flaw_at : List Form → ℕ → Option Flaw
+abbrev pub kind_flaw_at : List KindView → ℕ → Option Flaw
 kind_flaw_at kinds place = kind_flaw kinds (kind_at kinds place)
 
 -- the first flaw of the name at a place, by the names before it
-abbrev pub name_flaw_at : List Form → List Part → ℕ → Option Flaw
-name_flaw_at kinds names place = name_flaw kinds (take place names) (slice_index_or names place (record { name = []; kind = 0 }))
+abbrev pub name_flaw_at : List KindView → List Part → ℕ → Option Flaw
+name_flaw_at kinds names place = name_flaw kinds (take place names)
+    (slice_index_or names place (record { name = []; kind = 0 }))
 
 -- no place below n has a flaw
 abbrev pub AreFlawless : (ℕ → Option Flaw) → ℕ → Type 0
 AreFlawless flaw n = (place : ℕ) → place < n → flaw place ≡ None
 
--- a schema is well formed where no fault applies anywhere: there are at most 1024 kinds, and no kind and no name has a flaw
+-- a schema is well formed where no fault applies anywhere: there are at most 1024 kinds, and no kind and no name has a
+-- flaw
 pub record IsWellFormed (s : Lists) : Type 0 where
   pub few : length s.kinds ≤ 1024
   pub kinds : AreFlawless (kind_flaw_at s.kinds) (length s.kinds)

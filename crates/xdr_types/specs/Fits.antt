@@ -1,8 +1,9 @@
 -- Which trees are values of a kind (RFC 4506 sections 4.1 to 4.19).
-use Rattle.std.specs.Prelude.{ℕ, ℤ, pos, negsuc, List, [], ◌∷◌, length, replicate, Bool, true, false, ◌&&◌, ◌||◌, ◌==◌, nat_lt, nat_le, Option, Some, None, is_some, if◌then◌else◌, IsTrue}
+use Rattle.std.specs.Prelude.{ℕ, ℤ, pos, negsuc, List, [], ◌∷◌, length, replicate, Bool, true, false, ◌&&◌, ◌||◌, ◌==◌}
+use Rattle.std.specs.Prelude.{nat_lt, nat_le, Option, Some, None, is_some, if◌then◌else◌, IsTrue}
 use Rattle.std.specs.Ordering.{int_eq}
-use Rattle.xdr_types.specs.Form as form
-use Rattle.xdr_types.specs.Form.{Form, Part, Branch, Constant, kind_at}
+use Rattle.xdr_types.specs.Kinds as xdr
+use Rattle.xdr_types.specs.Kinds.{KindView, Part, Branch, Constant, kind_at}
 use Rattle.xdr_types.specs.Tree as value
 use Rattle.xdr_types.specs.Tree.{Head, Values, Tree}
 
@@ -40,11 +41,11 @@ abbrev pub is_numbered : List Constant → ℤ → Bool
 is_numbered constants z = is_signed 2147483648 z && is_constant constants z
 
 -- the numbers that a discriminant of a kind may have (RFC 4506 section 4.15)
-abbrev pub is_tag_of : Form → ℤ → Bool
-is_tag_of form.int z = is_signed 2147483648 z
-is_tag_of form.unsigned z = is_unsigned 4294967295 z
-is_tag_of form.boolean z = is_unsigned 1 z
-is_tag_of (form.numbered constants) z = is_numbered constants z
+abbrev pub is_tag_of : KindView → ℤ → Bool
+is_tag_of xdr.int z = is_signed 2147483648 z
+is_tag_of xdr.unsigned z = is_unsigned 4294967295 z
+is_tag_of xdr.boolean z = is_unsigned 1 z
+is_tag_of (xdr.numbered constants) z = is_numbered constants z
 is_tag_of _ z = false
 
 -- the part of a union under a discriminant: that of the arm which lists it, else the default (RFC 4506 section 4.15)
@@ -61,46 +62,49 @@ optional_part (Some p) = p ∷ []
 abbrev pub item_part : ℕ → Part
 item_part kind = record { name = []; kind = kind }
 
--- what a value of a kind may show at its head: the right form, numbers in range, lengths exact or at most max (RFC 4506 sections 4.1 to 4.19)
-abbrev pub is_legal : List Form → Form → Head → Bool
-is_legal kinds form.int (value.int z) = is_signed 2147483648 z
-is_legal kinds form.unsigned (value.unsigned n) = nat_le n 4294967295
-is_legal kinds form.hyper (value.hyper z) = is_signed 9223372036854775808 z
-is_legal kinds form.unsigned_hyper (value.unsigned_hyper n) = nat_le n 18446744073709551615
-is_legal kinds form.boolean (value.boolean b) = true
-is_legal kinds (form.numbered constants) (value.numbered z) = is_numbered constants z
-is_legal kinds (form.opaque size) (value.bytes bs) = length bs == size && are_bytes bs
-is_legal kinds (form.opaque_up_to max) (value.bytes bs) = is_length max (length bs) && are_bytes bs
-is_legal kinds (form.text max) (value.bytes bs) = is_length max (length bs) && are_bytes bs
-is_legal kinds (form.fixed item size) (value.items n) = n == size
-is_legal kinds (form.up_to item max) (value.items n) = is_length max n
-is_legal kinds (form.structure parts) value.fields = true
-is_legal kinds (form.choice tag arms other) (value.tag z) = is_tag_of (kind_at kinds tag) z && is_some (part_of arms other z)
-is_legal kinds (form.maybe item) value.present = true
-is_legal kinds (form.maybe item) value.absent = true
-is_legal kinds form.nothing value.nothing = true
+-- what a value of a kind may show at its head: the right form, numbers in range, lengths exact or at most max (RFC 4506
+-- sections 4.1 to 4.19)
+abbrev pub is_legal : List KindView → KindView → Head → Bool
+is_legal kinds xdr.int (value.int z) = is_signed 2147483648 z
+is_legal kinds xdr.unsigned (value.unsigned n) = nat_le n 4294967295
+is_legal kinds xdr.hyper (value.hyper z) = is_signed 9223372036854775808 z
+is_legal kinds xdr.unsigned_hyper (value.unsigned_hyper n) = nat_le n 18446744073709551615
+is_legal kinds xdr.boolean (value.boolean b) = true
+is_legal kinds (xdr.numbered constants) (value.numbered z) = is_numbered constants z
+is_legal kinds (xdr.opaque size) (value.bytes bs) = length bs == size && are_bytes bs
+is_legal kinds (xdr.opaque_up_to max) (value.bytes bs) = is_length max (length bs) && are_bytes bs
+is_legal kinds (xdr.text max) (value.bytes bs) = is_length max (length bs) && are_bytes bs
+is_legal kinds (xdr.fixed item size) (value.items n) = n == size
+is_legal kinds (xdr.up_to item max) (value.items n) = is_length max n
+is_legal kinds (xdr.structure parts) value.fields = true
+is_legal kinds (xdr.choice tag arms other) (value.tag z) =
+    is_tag_of (kind_at kinds tag) z && is_some (part_of arms other z)
+is_legal kinds (xdr.maybe item) value.present = true
+is_legal kinds (xdr.maybe item) value.absent = true
+is_legal kinds xdr.nothing value.nothing = true
 is_legal kinds _ _ = false
 
--- the parts that a node of a kind has under its head: items, fields, the part of an arm, an optional item (RFC 4506 sections 4.12 to 4.15, 4.19)
-abbrev pub parts : Form → Head → List Part
-parts (form.fixed item size) (value.items n) = replicate n (item_part item)
-parts (form.up_to item max) (value.items n) = replicate n (item_part item)
-parts (form.structure ps) value.fields = ps
-parts (form.choice tag arms other) (value.tag z) = optional_part (part_of arms other z)
-parts (form.maybe item) value.present = item_part item ∷ []
+-- the parts that a node of a kind has under its head: items, fields, the part of an arm, an optional item (RFC 4506
+-- sections 4.12 to 4.15, 4.19)
+abbrev pub parts : KindView → Head → List Part
+parts (xdr.fixed item size) (value.items n) = replicate n (item_part item)
+parts (xdr.up_to item max) (value.items n) = replicate n (item_part item)
+parts (xdr.structure ps) value.fields = ps
+parts (xdr.choice tag arms other) (value.tag z) = optional_part (part_of arms other z)
+parts (xdr.maybe item) value.present = item_part item ∷ []
 parts _ _ = []
 
 -- one value for each part: its head is legal, and there is one value for each of its own parts
-abbrev pub fit : List Form → List Part → Values → Bool
+abbrev pub fit : List KindView → List Part → Values → Bool
 fit kinds [] value.none = true
 fit kinds (p ∷ ps) (value.node h inner rest) =
     (is_legal kinds (kind_at kinds p.kind) h && fit kinds (parts (kind_at kinds p.kind) h) inner) && fit kinds ps rest
 fit kinds _ _ = false
 
 -- a tree is a value of the kind at the place
-abbrev pub fits : List Form → ℕ → Tree → Bool
+abbrev pub fits : List KindView → ℕ → Tree → Bool
 fits kinds place t = is_legal kinds (kind_at kinds place) t.0 && fit kinds (parts (kind_at kinds place) t.0) t.1
 
 -- a tree is a value of the kind at the place, as a fact
-abbrev pub Fits : List Form → ℕ → Tree → Type 0
+abbrev pub Fits : List KindView → ℕ → Tree → Type 0
 Fits kinds place t = IsTrue (fits kinds place t)

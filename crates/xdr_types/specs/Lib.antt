@@ -1,8 +1,8 @@
 pub mod Alike
 pub mod Faults
 pub mod Fits
-pub mod Form
-pub mod Forms
+pub mod Kinds
+pub mod KindViews
 pub mod Height
 pub mod Laws
 pub mod Layout

@@ -1,8 +1,8 @@
 -- Look-ups of names, and the basic schema.
 use Rattle.std.specs.Prelude.{ℕ, List, [], ◌∷◌, Option, Some, None, if◌then◌else◌, codes}
 use Rattle.std.specs.Str.{bytes_eq}
-use Rattle.xdr_types.specs.Form as form
-use Rattle.xdr_types.specs.Form.{Form, Part, Lists}
+use Rattle.xdr_types.specs.Kinds as xdr
+use Rattle.xdr_types.specs.Kinds.{KindView, Part, Lists}
 
 -- the place that a name names: that of the first entry with the name
 abbrev pub place_named : List Part → List ℕ → Option ℕ
@@ -16,6 +16,8 @@ named name place = record { name = name; kind = place }
 -- the basic schema: eight kinds, seven of them named (RFC 4506 sections 4.1, 4.2, 4.4, 4.5, 4.10, 4.11, 4.16)
 abbrev pub basic : Lists
 basic = record {
-  kinds = form.int ∷ form.unsigned ∷ form.hyper ∷ form.unsigned_hyper ∷ form.boolean ∷ form.nothing ∷ form.opaque_up_to 4294967295 ∷ form.text 4294967295 ∷ [];
-  names = named (codes "int") 0 ∷ named (codes "unsigned") 1 ∷ named (codes "hyper") 2 ∷ named (codes "unsigned-hyper") 3 ∷ named (codes "bool") 4 ∷ named (codes "opaque") 6 ∷ named (codes "string") 7 ∷ [];
+  kinds = xdr.int ∷ xdr.unsigned ∷ xdr.hyper ∷ xdr.unsigned_hyper ∷ xdr.boolean ∷ xdr.nothing
+      ∷ xdr.opaque_up_to 4294967295 ∷ xdr.text 4294967295 ∷ [];
+  names = named (codes "int") 0 ∷ named (codes "unsigned") 1 ∷ named (codes "hyper") 2 ∷ named
+      (codes "unsigned-hyper") 3 ∷ named (codes "bool") 4 ∷ named (codes "opaque") 6 ∷ named (codes "string") 7 ∷ [];
 }

@@ -1,6 +1,6 @@
 -- What a refusal of lists says: which fault is the first, and where.
 use Rattle.std.specs.Prelude.{◌≡◌, ◌⊎◌, ◌<◌, ◌≤◌, ℕ, length, Option, Some}
-use Rattle.xdr_types.specs.Form.{Lists}
+use Rattle.xdr_types.specs.Kinds.{Lists}
 use Rattle.xdr_types.specs.Faults.{fault, kind_flaw_at, name_flaw_at, AreFlawless, IsWellFormed}
 use Rattle.xdr_types.specs.Rounds.{IsLowestWithout}
 use Rattle.xdr_types.specs.Sound.{IsSound}
@@ -25,7 +25,8 @@ HasKindFlaw s e = (length s.kinds ≤ 1024) × IsFirstFlaw (kind_flaw_at s.kinds
 -- else, where no kind has a flaw, it is the first flaw of a name
 abbrev pub HasNameFlaw : Lists → SchemaFault → Type 0
 HasNameFlaw s e =
-    (length s.kinds ≤ 1024) × AreFlawless (kind_flaw_at s.kinds) (length s.kinds) × IsFirstFlaw (name_flaw_at s.kinds s.names) (length s.names) e
+    (length s.kinds ≤ 1024) × AreFlawless (kind_flaw_at s.kinds) (length s.kinds)
+    × IsFirstFlaw (name_flaw_at s.kinds s.names) (length s.names) e
 
 -- else, where no name has one either, the place is the lowest without a height
 abbrev pub HasNoFiniteValue : Lists → SchemaFault → Type 0

@@ -1,6 +1,7 @@
 -- What is kept while heights are found: the numbers given so far.
-use Rattle.std.specs.Prelude.{◌≡◌, ℕ, ◌+◌, ◌<◌, List, [], ◌∷◌, length, Option, Some, None, slice_index_or, Bool, true, false, ◌&&◌, ◌||◌, is_some, IsTrue}
-use Rattle.xdr_types.specs.Form.{Form, Part, Branch, kind_at}
+use Rattle.std.specs.Prelude.{◌≡◌, ℕ, ◌+◌, ◌<◌, List, [], ◌∷◌, length, Option, Some, None, slice_index_or, Bool, true}
+use Rattle.std.specs.Prelude.{false, ◌&&◌, ◌||◌, is_some, IsTrue}
+use Rattle.xdr_types.specs.Kinds.{KindView, Part, Branch, kind_at}
 use Rattle.xdr_types.specs.Sound.{Heighting, Asks, IsProper, HasHeight}
 
 -- the numbers that a list gives
@@ -30,8 +31,9 @@ abbrev pub AreBelow : List (Option ℕ) → ℕ → Type 0
 AreBelow hs next = (place n : ℕ) → given hs place ≡ Some n → n < next
 
 -- no place without a number has what it asks
-abbrev pub IsClosed : List Form → List (Option ℕ) → Type 0
-IsClosed kinds hs = (place : ℕ) → place < length kinds → given hs place ≡ None → Asks kinds (IsMarked hs) (kind_at kinds place) → ⊥
+abbrev pub IsClosed : List KindView → List (Option ℕ) → Type 0
+IsClosed kinds hs = (place : ℕ) → place < length kinds → given hs place ≡ None
+    → Asks kinds (IsMarked hs) (kind_at kinds place) → ⊥
 
 -- how many places have no number
 abbrev pub missing : List (Option ℕ) → ℕ
@@ -40,14 +42,14 @@ missing (None ∷ hs) = missing hs + 1
 missing (Some n ∷ hs) = missing hs
 
 -- the numbers given so far are a proper heighting, all below the next one
-pub record AreHeights (kinds : List Form) (hs : List (Option ℕ)) (next : ℕ) : Type 0 where
+pub record AreHeights (kinds : List KindView) (hs : List (Option ℕ)) (next : ℕ) : Type 0 where
   pub lengths : length hs ≡ length kinds
   pub proper : IsProper kinds (given hs)
   pub below : AreBelow hs next
   pub left : next + missing hs ≡ length kinds
 
 -- the lowest place without a height
-pub record IsLowestWithout (kinds : List Form) (place : ℕ) : Type 0 where
+pub record IsLowestWithout (kinds : List KindView) (place : ℕ) : Type 0 where
   pub within : place < length kinds
   pub none : HasHeight kinds place → ⊥
   pub lower : (q : ℕ) → q < place → HasHeight kinds q

@@ -1,7 +1,7 @@
 -- Worked rows.
 use Rattle.std.specs.Prelude.{◌≡◌, ℕ, pos, negsuc, List, [], ◌∷◌, false, None, Some, refl}
-use Rattle.xdr_types.specs.Form as form
-use Rattle.xdr_types.specs.Form.{Form, Part, Branch, Constant, Lists}
+use Rattle.xdr_types.specs.Kinds as xdr
+use Rattle.xdr_types.specs.Kinds.{KindView, Part, Branch, Constant, Lists}
 use Rattle.xdr_types.specs.Tree as value
 use Rattle.xdr_types.specs.Tree.{Tree, from_list}
 use Rattle.xdr_types.specs.Fits.{fits, Fits}
@@ -19,35 +19,44 @@ abbrev unnamed : ℕ → Part
 unnamed kind = record { name = []; kind = kind }
 
 -- five of "abc"
-five : bytes_of (form.opaque_up_to 5 ∷ []) 0 (value.bytes (97 ∷ 98 ∷ 99 ∷ []), value.none) ≡ 0 ∷ 0 ∷ 0 ∷ 3 ∷ 97 ∷ 98 ∷ 99 ∷ 0 ∷ []
+five : bytes_of (xdr.opaque_up_to 5 ∷ []) 0
+    (value.bytes (97 ∷ 98 ∷ 99 ∷ []), value.none) ≡ 0 ∷ 0 ∷ 0 ∷ 3 ∷ 97 ∷ 98 ∷ 99 ∷ 0 ∷ []
 five = refl
 
 -- "a", "bc" in a list
-abbrev list_kinds : List Form
-list_kinds = form.text 4294967295 ∷ form.maybe 2 ∷ form.structure (part 105 0 ∷ part 110 1 ∷ []) ∷ []
+abbrev list_kinds : List KindView
+list_kinds = xdr.text 4294967295 ∷ xdr.maybe 2 ∷ xdr.structure (part 105 0 ∷ part 110 1 ∷ []) ∷ []
 
 abbrev entry_of : List ℕ → Tree → Tree
-entry_of text next = (value.present, from_list ((value.fields, from_list ((value.bytes text, value.none) ∷ next ∷ [])) ∷ []))
+entry_of text next = (
+  value.present,
+  from_list
+      ((value.fields, from_list ((value.bytes text, value.none) ∷ next ∷ [])) ∷ []),
+)
 
 abbrev no_entry : Tree
 no_entry = (value.absent, value.none)
 
 two_strings : bytes_of list_kinds 1 (entry_of (97 ∷ []) (entry_of (98 ∷ 99 ∷ []) no_entry))
-    ≡ 0 ∷ 0 ∷ 0 ∷ 1 ∷ 0 ∷ 0 ∷ 0 ∷ 1 ∷ 97 ∷ 0 ∷ 0 ∷ 0 ∷ 0 ∷ 0 ∷ 0 ∷ 1 ∷ 0 ∷ 0 ∷ 0 ∷ 2 ∷ 98 ∷ 99 ∷ 0 ∷ 0 ∷ 0 ∷ 0 ∷ 0 ∷ 0 ∷ []
+    ≡ 0 ∷ 0 ∷ 0 ∷ 1 ∷ 0 ∷ 0 ∷ 0 ∷ 1 ∷ 97 ∷ 0 ∷ 0 ∷ 0 ∷ 0 ∷ 0 ∷ 0 ∷ 1 ∷ 0 ∷ 0 ∷ 0 ∷ 2 ∷ 98 ∷ 99 ∷ 0 ∷ 0 ∷ 0 ∷ 0 ∷ 0 ∷ 0
+    ∷ []
 two_strings = refl
 
 two_strings_fit : Fits list_kinds 1 (entry_of (97 ∷ []) (entry_of (98 ∷ 99 ∷ []) no_entry))
 two_strings_fit = refl
 
 -- an enumeration of 0, 1, 2 has no 3, and a choice without an arm for 2 has no value there
-abbrev filekind : Form
-filekind = form.numbered (record { name = 84 ∷ []; number = pos 0 } ∷ record { name = 68 ∷ []; number = pos 1 } ∷ record { name = 69 ∷ []; number = pos 2 } ∷ [])
+abbrev filekind : KindView
+filekind = xdr.numbered (record { name = 84 ∷ []; number = pos 0 } ∷ record {
+  name = 68 ∷ [];
+  number = pos 1;
+} ∷ record { name = 69 ∷ []; number = pos 2 } ∷ [])
 
 no_three : fits (filekind ∷ []) 0 (value.numbered (pos 3), value.none) ≡ false
 no_three = refl
 
-abbrev one_arm : List Form
-one_arm = form.int ∷ form.choice 0 (record { cases = pos 1 ∷ []; part = part 120 0 } ∷ []) None ∷ []
+abbrev one_arm : List KindView
+one_arm = xdr.int ∷ xdr.choice 0 (record { cases = pos 1 ∷ []; part = part 120 0 } ∷ []) None ∷ []
 
 no_case : fits one_arm 1 (value.tag (pos 2), from_list ((value.int (pos 7), value.none) ∷ [])) ≡ false
 no_case = refl
@@ -58,10 +67,10 @@ least_hyper = refl
 most_hyper : num8 (pos 18446744073709551615) ≡ 255 ∷ 255 ∷ 255 ∷ 255 ∷ 255 ∷ 255 ∷ 255 ∷ 255 ∷ []
 most_hyper = refl
 
-zero_opaque : kind_flaw_at (form.opaque 0 ∷ []) 0 ≡ Some flaw.ZeroSize
+zero_opaque : kind_flaw_at (xdr.opaque 0 ∷ []) 0 ≡ Some flaw.ZeroSize
 zero_opaque = refl
 
-void_member : kind_flaw_at (form.nothing ∷ form.structure (part 120 0 ∷ []) ∷ []) 1 ≡ Some flaw.VoidMember
+void_member : kind_flaw_at (xdr.nothing ∷ xdr.structure (part 120 0 ∷ []) ∷ []) 1 ≡ Some flaw.VoidMember
 void_member = refl
 
 flawless : kind_flaw_at list_kinds 2 ≡ None
@@ -97,17 +106,21 @@ abbrev data_part : Part
 data_part = record { name = 100 ∷ 97 ∷ 116 ∷ 97 ∷ []; kind = 14 }
 
 -- the basic kinds at places 0 to 7, and then those of the file's declaration
-abbrev file_kinds : List Form
+abbrev file_kinds : List KindView
 file_kinds =
-    form.int ∷ form.unsigned ∷ form.hyper ∷ form.unsigned_hyper ∷ form.boolean ∷ form.nothing ∷ form.opaque_up_to 4294967295 ∷ form.text 4294967295
+    xdr.int ∷ xdr.unsigned ∷ xdr.hyper ∷ xdr.unsigned_hyper ∷ xdr.boolean ∷ xdr.nothing ∷ xdr.opaque_up_to 4294967295
+    ∷ xdr.text 4294967295
     ∷ filekind
-    ∷ form.text 255
-    ∷ form.text 255
-    ∷ form.choice 8 (record { cases = pos 0 ∷ []; part = unnamed 5 } ∷ record { cases = pos 1 ∷ []; part = creator } ∷ record { cases = pos 2 ∷ []; part = interpretor } ∷ []) None
-    ∷ form.text 255
-    ∷ form.text 32
-    ∷ form.opaque_up_to 65535
-    ∷ form.structure (filename ∷ type ∷ owner ∷ data_part ∷ [])
+    ∷ xdr.text 255
+    ∷ xdr.text 255
+    ∷ xdr.choice 8 (record { cases = pos 0 ∷ []; part = unnamed 5 } ∷ record {
+      cases = pos 1 ∷ [];
+      part = creator;
+    } ∷ record { cases = pos 2 ∷ []; part = interpretor } ∷ []) None
+    ∷ xdr.text 255
+    ∷ xdr.text 32
+    ∷ xdr.opaque_up_to 65535
+    ∷ xdr.structure (filename ∷ type ∷ owner ∷ data_part ∷ [])
     ∷ []
 
 abbrev bytes : List ℕ → Tree
@@ -141,20 +154,22 @@ ten_parts : entries file_kinds 15 sillyprog
 ten_parts = refl
 
 -- content is a part also where it has no bytes
-no_content : entries (form.opaque_up_to 4294967295 ∷ []) 0 (bytes []) ≡ entry 0 4 1 (unnamed 0) of_length ∷ entry 4 0 1 (unnamed 0) (of_content 0) ∷ []
+no_content : entries (xdr.opaque_up_to 4294967295 ∷ []) 0 (bytes []) ≡ entry 0 4 1 (unnamed 0) of_length ∷ entry 4 0 1
+    (unnamed 0) (of_content 0) ∷ []
 no_content = refl
 
 -- content of a fixed length has no length before it
-fixed_content : entries (form.opaque 3 ∷ []) 0 (bytes (1 ∷ 2 ∷ 3 ∷ [])) ≡ entry 0 4 1 (unnamed 0) (of_content 3) ∷ []
+fixed_content : entries (xdr.opaque 3 ∷ []) 0 (bytes (1 ∷ 2 ∷ 3 ∷ [])) ≡ entry 0 4 1 (unnamed 0) (of_content 3) ∷ []
 fixed_content = refl
 
 -- a void part is a part of no bytes
-void_part : entries file_kinds 11 (value.tag (pos 0), from_list ((value.nothing, value.none) ∷ [])) ≡ entry 0 4 1 (unnamed 11) of_number ∷ entry 4 0 2 (unnamed 5) of_group ∷ []
+void_part : entries file_kinds 11 (value.tag (pos 0), from_list ((value.nothing, value.none) ∷ [])) ≡ entry 0 4 1
+    (unnamed 11) of_number ∷ entry 4 0 2 (unnamed 5) of_group ∷ []
 void_part = refl
 
 -- the reasons against a discriminant: neither 0 nor 1, no arm, no member's number
-abbrev choice_of : ℕ → Form
-choice_of tag = form.choice tag [] None
+abbrev choice_of : ℕ → KindView
+choice_of tag = xdr.choice tag [] None
 
 bool_tag : reason file_kinds (choice_of 4) of_number 2 ≡ bad_bool
 bool_tag = refl

@@ -8,7 +8,8 @@ use Rattle.std.proofs.Common.{ap, ◌∙◌, subst, eqb-true, eq-eqb}
 use Rattle.std.proofs.lemmas.Bool.{false≢true}
 use Rattle.std.proofs.lemmas.Bool.Decides.{Decides-int_eq}
 use Rattle.std.proofs.lemmas.Slice.Eq.{bytes_eq-Decides}
-use Rattle.xdr_types.specs.Tree.{Head, int, unsigned, hyper, unsigned_hyper, boolean, numbered, bytes, items, fields, tag, present, absent, nothing, Values, none, node, Tree}
+use Rattle.xdr_types.specs.Tree.{Head, int, unsigned, hyper, unsigned_hyper, boolean, numbered, bytes, items, fields}
+use Rattle.xdr_types.specs.Tree.{tag, present, absent, nothing, Values, none, node, Tree}
 
 -- both true or both false
 abbrev pub same_flag : Bool → Bool → Bool

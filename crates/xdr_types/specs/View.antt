@@ -2,7 +2,8 @@
 use Rattle.std.specs.Prelude.{List, [], ◌∷◌, map, length, Option, Some, None}
 use Rattle.std.specs.declared.boxed.Box.{Box}
 use Rattle.std.specs.declared.alloc.Global.{Global}
-use Rattle.xdr_types.specs.Tree.{Tree, Values, none, from_list, int, unsigned, hyper, unsigned_hyper, boolean, numbered, bytes, items, fields, tag, present, absent, nothing}
+use Rattle.xdr_types.specs.Tree.{Tree, Values, none, from_list, int, unsigned, hyper, unsigned_hyper, boolean, numbered}
+use Rattle.xdr_types.specs.Tree.{bytes, items, fields, tag, present, absent, nothing}
 use Rattle.xdr_types.specs.declared.value.Value.{Value, fold-Value}
 use Rattle.xdr_types.specs.declared.value.Value.TheOpen.{Value-F}
 

@@ -1,6 +1,6 @@
 -- Limits on depth and bytes.
 use Rattle.std.specs.Prelude.{◌≡◌, ℕ, ◌+◌, ◌≤◌, ◌<◌, ◌%◌, List, length, Option, MatchOption}
-use Rattle.xdr_types.specs.Form.{Form}
+use Rattle.xdr_types.specs.Kinds.{KindView}
 use Rattle.xdr_types.specs.Tree.{Tree, depth}
 use Rattle.xdr_types.specs.Fits.{Fits}
 use Rattle.xdr_types.specs.Spelling.{bytes_of}
@@ -23,7 +23,7 @@ abbrev pub IsWithin : Bounds → Tree → List ℕ → Type 0
 IsWithin limits t bs = (depth t ≤ limits.depth) × (length bs ≤ limits.bytes)
 
 -- a value of the kind at the place, within limits
-abbrev pub FitsWithin : List Form → ℕ → Bounds → Tree → Type 0
+abbrev pub FitsWithin : List KindView → ℕ → Bounds → Tree → Type 0
 FitsWithin kinds place limits t = Fits kinds place t × IsWithin limits t (bytes_of kinds place t)
 
 -- what is left of room for bytes after n of them, where they have room

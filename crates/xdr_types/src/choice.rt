@@ -1,7 +1,7 @@
 //! The tags and parts of a choice.
 ghost use Rattle.std.specs.Prelude.{◌≡◌, map, option_map, not};
-ghost use Rattle.xdr_types.specs.Form.{kind_at};
-ghost use Rattle.xdr_types.specs.Forms.{form_of, constant_of, part_of_member, branch_of};
+ghost use Rattle.xdr_types.specs.Kinds.{kind_at};
+ghost use Rattle.xdr_types.specs.KindViews.{kind_view, constant_of, part_of_member, branch_of};
 ghost use Rattle.xdr_types.specs.Sound.{has_arm};
 ghost use Rattle.xdr_types.specs.Fits.{is_numbered, is_listed, is_tag_of, part_of};
 
@@ -19,7 +19,7 @@ pub fn is_legal_tag(schema: &Schema, id: KindId, number: i64) -> bool
 
 /// The same, over the list of kinds.
 pub fn is_tag_number(kinds: &Vec<Kind>, id: KindId, number: i64) -> bool
-    ensures { result ≡ is_tag_of (kind_at (map form_of kinds.now.items) id.place) number }
+    ensures { result ≡ is_tag_of (kind_at (map kind_view kinds.now.items) id.place) number }
 {
     let place = id.place as usize;
     if place >= kinds.len() {

@@ -1,7 +1,7 @@
 //! Enumerations, structures, unions and arms without entries (RFC 4506 sections 4.3, 4.14, 4.15).
 ghost use Rattle.std.specs.Prelude.{◌≡◌, map};
-ghost use Rattle.xdr_types.specs.Form.{Branch, Constant};
-ghost use Rattle.xdr_types.specs.Forms.{form_of, constant_of, branch_of};
+ghost use Rattle.xdr_types.specs.Kinds.{Branch, Constant};
+ghost use Rattle.xdr_types.specs.KindViews.{kind_view, constant_of, branch_of};
 ghost use Rattle.xdr_types.specs.Fits.{is_signed};
 ghost use Rattle.xdr_types.specs.Faults.{some_of, is_none, has_empty_list};
 
@@ -39,7 +39,7 @@ fn some_arm_empty(arms: &Vec<Arm>) -> bool
 
 /// Whether the kind or an arm of it has no entries.
 pub fn has_empty_list(kind: &Kind) -> bool
-    ensures { result ≡ has_empty_list (form_of kind.now) }
+    ensures { result ≡ has_empty_list (kind_view kind.now) }
 {
     match kind {
         Kind::Numbered { members } => !has_member(members),

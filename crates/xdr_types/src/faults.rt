@@ -1,6 +1,6 @@
 //! The first flaw of a kind, in the order in which flaws are listed.
 ghost use Rattle.std.specs.Prelude.{◌≡◌, map, length, MatchOption};
-ghost use Rattle.xdr_types.specs.Forms.{form_of};
+ghost use Rattle.xdr_types.specs.KindViews.{kind_view};
 ghost use Rattle.xdr_types.specs.Faults.{kind_flaw, kind_flaw_at, AreFlawless};
 ghost use Rattle.xdr_types.specs.Refused.{IsFirstFlaw};
 ghost use Rattle.xdr_types.specs.Sets.{AreNumbers};
@@ -21,8 +21,8 @@ fn kind_flaw(
     numbers: &[BTreeSet<i64>],
     kind: &Kind,
 ) -> Option<Flaw>
-    requires { AreNumbers (map form_of kinds.now.items) numbers.now }
-    ensures { result ≡ kind_flaw (map form_of kinds.now.items) (form_of kind.now) }
+    requires { AreNumbers (map kind_view kinds.now.items) numbers.now }
+    ensures { result ≡ kind_flaw (map kind_view kinds.now.items) (kind_view kind.now) }
 {
     if has_unknown(kinds, kind) {
         return Some(Flaw::UnknownKind);
@@ -54,8 +54,8 @@ fn kind_flaw(
 /// The first flaw of a kind, at its place; none where no kind has one.
 pub fn first_in_kinds(alloc: Global, kinds: &Vec<Kind>) -> Option<SchemaFault>
     ensures { MatchOption result
-        (AreFlawless (kind_flaw_at (map form_of kinds.now.items)) (length kinds.now.items))
-        (IsFirstFlaw (kind_flaw_at (map form_of kinds.now.items)) (length kinds.now.items)) }
+        (AreFlawless (kind_flaw_at (map kind_view kinds.now.items)) (length kinds.now.items))
+        (IsFirstFlaw (kind_flaw_at (map kind_view kinds.now.items)) (length kinds.now.items)) }
 {
     let numbers = numbers_or_none(alloc, kinds);
     for (place, kind) in kinds.iter().enumerate() {

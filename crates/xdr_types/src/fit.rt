@@ -1,7 +1,7 @@
 //! Whether a value is one of a kind and within limits.
 ghost use Rattle.std.specs.Prelude.{◌≡◌, ◌↔◌, IsTrue, ◌<◌, ℕ, length, map, option_map, nat_le, replicate};
-ghost use Rattle.xdr_types.specs.Form.{kind_at, Part};
-ghost use Rattle.xdr_types.specs.Forms.{form_of, constant_of, part_of_member, branch_of};
+ghost use Rattle.xdr_types.specs.Kinds.{kind_at, Part};
+ghost use Rattle.xdr_types.specs.KindViews.{kind_view, constant_of, part_of_member, branch_of};
 ghost use Rattle.xdr_types.specs.Fits.{fits, fit, item_part, is_numbered, is_length, is_signed, are_bytes};
 ghost use Rattle.xdr_types.specs.View.{tree, values};
 ghost use Rattle.xdr_types.specs.Within.{FitsWithin};

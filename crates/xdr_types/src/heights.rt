@@ -1,8 +1,8 @@
 //! Heights of kinds, found in rounds.
 ghost use Rattle.std.specs.Prelude.{◌≡◌, ◌+◌, ◌<◌, ◌≤◌, ◌↔◌, length, map, option_map, None, IsTrue, IfOk, MatchOption};
 ghost use Rattle.std.specs.Prelude.{true, false, replicate};
-ghost use Rattle.xdr_types.specs.Form.{Part, kind_at};
-ghost use Rattle.xdr_types.specs.Forms.{form_of, part_of_member, branch_of};
+ghost use Rattle.xdr_types.specs.Kinds.{Part, kind_at};
+ghost use Rattle.xdr_types.specs.KindViews.{kind_view, part_of_member, branch_of};
 ghost use Rattle.xdr_types.specs.Faults.{some_optional};
 ghost use Rattle.xdr_types.specs.Sound.{IsSound, Asks};
 ghost use Rattle.xdr_types.specs.Height.{AreHigher};
@@ -71,15 +71,16 @@ fn settle(
 ) -> bool
     requires few { length kinds.now.items ≤ 1024 }
     requires within { place < length kinds.now.items }
-    requires reached { AreReached (map form_of kinds.now.items) reached.now.items }
+    requires reached { AreReached (map kind_view kinds.now.items) reached.now.items }
     requires waits { length waits.old.items ≡ length kinds.now.items }
-    requires heights { AreHeights (map form_of kinds.now.items) heights.old.items next.old }
+    requires heights { AreHeights (map kind_view kinds.now.items) heights.old.items next.old }
     ensures waits { length waits.new.items ≡ length kinds.now.items }
-    ensures heights { AreHeights (map form_of kinds.now.items) heights.new.items next.new }
+    ensures heights { AreHeights (map kind_view kinds.now.items) heights.new.items next.new }
     ensures settled { IsTrue result → next.new ≡ next.old + 1 }
     ensures same { result ≡ false → (heights.new.items ≡ heights.old.items) × (next.new ≡ next.old) }
     ensures open { result ≡ false → given heights.new.items place ≡ None
-        → Asks (map form_of kinds.now.items) (IsMarked heights.new.items) (kind_at (map form_of kinds.now.items) place)
+        → Asks (map kind_view kinds.now.items) (IsMarked heights.new.items)
+        (kind_at (map kind_view kinds.now.items) place)
         → ⊥ }
 {
     if heights[place].is_some()
@@ -107,13 +108,13 @@ fn round(
     next: &mut u32,
 ) -> bool
     requires few { length kinds.now.items ≤ 1024 }
-    requires reached { AreReached (map form_of kinds.now.items) reached.now.items }
+    requires reached { AreReached (map kind_view kinds.now.items) reached.now.items }
     requires waits { length waits.old.items ≡ length kinds.now.items }
-    requires heights { AreHeights (map form_of kinds.now.items) heights.old.items next.old }
+    requires heights { AreHeights (map kind_view kinds.now.items) heights.old.items next.old }
     ensures waits { length waits.new.items ≡ length kinds.now.items }
-    ensures heights { AreHeights (map form_of kinds.now.items) heights.new.items next.new }
+    ensures heights { AreHeights (map kind_view kinds.now.items) heights.new.items next.new }
     ensures grows { IsTrue result → next.old < next.new }
-    ensures closed { result ≡ false → IsClosed (map form_of kinds.now.items) heights.new.items }
+    ensures closed { result ≡ false → IsClosed (map kind_view kinds.now.items) heights.new.items }
 {
     let mut changed = false;
     for place in 0..kinds.len() {
@@ -128,8 +129,8 @@ fn round(
 pub fn lowest_without_height(alloc: Global, kinds: &Vec<Kind>) -> Result<Option<usize>, AllocError>
     requires { length kinds.now.items ≤ 1024 }
     ensures { IfOk result
-        (λ r. MatchOption r (IsSound (map form_of kinds.now.items) × AreHigher (map form_of kinds.now.items))
-        (IsLowestWithout (map form_of kinds.now.items))) }
+        (λ r. MatchOption r (IsSound (map kind_view kinds.now.items) × AreHigher (map kind_view kinds.now.items))
+        (IsLowestWithout (map kind_view kinds.now.items))) }
 {
     let reached = reached_defaults(alloc, kinds)?;
     let mut waits = no_waits(alloc, kinds.len())?;
@@ -170,8 +171,8 @@ fn is_met(
     wait: &mut usize,
     kind: &Kind,
 ) -> bool
-    requires { IsReached (map form_of kinds.now.items) (form_of kind.now) is_reached }
-    ensures { IsTrue result ↔ Asks (map form_of kinds.now.items) (IsMarked heights.now.items) (form_of kind.now) }
+    requires { IsReached (map kind_view kinds.now.items) (kind_view kind.now) is_reached }
+    ensures { IsTrue result ↔ Asks (map kind_view kinds.now.items) (IsMarked heights.now.items) (kind_view kind.now) }
 {
     match kind {
         Kind::Fixed { item, size: _ } => is_marked(heights, *item),

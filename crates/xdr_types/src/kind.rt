@@ -1,9 +1,9 @@
 //! The kinds of XDR.
 ghost use Rattle.std.specs.Cmp.{on_equiv, on_per, partial_equiv_from_equiv};
 ghost use Rattle.std.specs.Ordering.{on};
-ghost use Rattle.xdr_types.specs.Forms.{part_of_member, branch_of, form_of};
-ghost use Rattle.xdr_types.specs.Alike.{same_part, same_branch, same_form, part_equivalence, branch_equivalence};
-ghost use Rattle.xdr_types.specs.Alike.{form_equivalence};
+ghost use Rattle.xdr_types.specs.KindViews.{part_of_member, branch_of, kind_view};
+ghost use Rattle.xdr_types.specs.Alike.{same_part, same_branch, same_kind, part_equivalence, branch_equivalence};
+ghost use Rattle.xdr_types.specs.Alike.{kind_equivalence};
 
 use std::string::String;
 
@@ -99,9 +99,9 @@ impl Eq for Arm {
 }
 
 impl PartialEq for Kind {
-    ghost eq = { on form_of same_form };
+    ghost eq = { on kind_view same_kind };
 
-    ghost laws = { on_per form_of (partial_equiv_from_equiv form_equivalence) };
+    ghost laws = { on_per kind_view (partial_equiv_from_equiv kind_equivalence) };
 
     fn eq(&self, other: &Kind) -> bool {
         match (self, other) {
@@ -138,5 +138,5 @@ impl PartialEq for Kind {
 }
 
 impl Eq for Kind {
-    ghost laws = { on_equiv form_of form_equivalence };
+    ghost laws = { on_equiv kind_view kind_equivalence };
 }

@@ -1,6 +1,6 @@
 //! Laws of the definitions, each the contract of a function that does nothing.
 ghost use Rattle.std.specs.Prelude.{List};
-ghost use Rattle.xdr_types.specs.Form.{Form};
+ghost use Rattle.xdr_types.specs.Kinds.{KindView};
 ghost use Rattle.xdr_types.specs.Laws.{EachSpellingIsOneValue, EqualExactlyIfSpelledAlike, NoSpellingBeginsAnother};
 ghost use Rattle.xdr_types.specs.Laws.{EachKindOfASchemaHasAValue};
 ghost use Rattle.xdr_types.specs.Refused.{NoSchemaHasAFault};
@@ -8,9 +8,9 @@ ghost use Rattle.xdr_types.specs.Refused.{NoSchemaHasAFault};
 /// Two values of a kind are equal exactly if their encodings are, and no encoding of a kind begins another. So one
 /// value at most begins a list of bytes (RFC 4506 sections 3 and 4).
 pub fn each_spelling_is_one_value()
-    ensures one { (kinds : List Form) → EachSpellingIsOneValue kinds }
-    ensures equal { (kinds : List Form) → EqualExactlyIfSpelledAlike kinds }
-    ensures apart { (kinds : List Form) → NoSpellingBeginsAnother kinds }
+    ensures one { (kinds : List KindView) → EachSpellingIsOneValue kinds }
+    ensures equal { (kinds : List KindView) → EqualExactlyIfSpelledAlike kinds }
+    ensures apart { (kinds : List KindView) → NoSpellingBeginsAnother kinds }
 {}
 
 /// Every kind of a schema that is well formed and sound has a value.

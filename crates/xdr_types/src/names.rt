@@ -1,8 +1,8 @@
 //! The first flaw of a name of a schema: it names no kind or a void one, or stands there twice.
 ghost use Rattle.std.specs.Prelude.{◌≡◌, map, string_bytes, length, if◌then◌else◌, IfOk, MatchOption};
 ghost use Rattle.std.specs.Str.{bytes_eq};
-ghost use Rattle.xdr_types.specs.Form.{Part};
-ghost use Rattle.xdr_types.specs.Forms.{form_of, name_of};
+ghost use Rattle.xdr_types.specs.Kinds.{Part};
+ghost use Rattle.xdr_types.specs.KindViews.{kind_view, name_of};
 ghost use Rattle.xdr_types.specs.Faults.{some_of, name_flaw, name_flaw_at, AreFlawless};
 ghost use Rattle.xdr_types.specs.Refused.{IsFirstFlaw};
 
@@ -30,7 +30,7 @@ fn name_flaw(
     before: &[(String, KindId)],
     name: &(String, KindId),
 ) -> Option<Flaw>
-    ensures { result ≡ name_flaw (map form_of kinds.now.items) (map name_of before.now) (name_of name.now) }
+    ensures { result ≡ name_flaw (map kind_view kinds.now.items) (map name_of before.now) (name_of name.now) }
 {
     if is_outside(kinds, name.1) {
         return Some(Flaw::UnknownKind);
@@ -47,9 +47,9 @@ fn name_flaw(
 // The first flaw of a name, at its place, by a comparison with all names before it, which needs no memory.
 fn first_in_turn(kinds: &Vec<Kind>, names: &Vec<(String, KindId)>) -> Option<SchemaFault>
     ensures { MatchOption result
-        (AreFlawless (name_flaw_at (map form_of kinds.now.items) (map name_of names.now.items))
+        (AreFlawless (name_flaw_at (map kind_view kinds.now.items) (map name_of names.now.items))
         (length names.now.items))
-        (IsFirstFlaw (name_flaw_at (map form_of kinds.now.items) (map name_of names.now.items))
+        (IsFirstFlaw (name_flaw_at (map kind_view kinds.now.items) (map name_of names.now.items))
         (length names.now.items)) }
 {
     for (place, name) in names.iter().enumerate() {
@@ -74,9 +74,9 @@ fn first_by_set(
     names: &Vec<(String, KindId)>,
 ) -> Result<Option<SchemaFault>, AllocError>
     ensures { IfOk result (λ fault. MatchOption fault
-        (AreFlawless (name_flaw_at (map form_of kinds.now.items) (map name_of names.now.items))
+        (AreFlawless (name_flaw_at (map kind_view kinds.now.items) (map name_of names.now.items))
         (length names.now.items))
-        (IsFirstFlaw (name_flaw_at (map form_of kinds.now.items) (map name_of names.now.items))
+        (IsFirstFlaw (name_flaw_at (map kind_view kinds.now.items) (map name_of names.now.items))
         (length names.now.items))) }
 {
     let mut earlier = BTreeSet::new(alloc);
@@ -97,9 +97,9 @@ pub fn first_in_names(
     names: &Vec<(String, KindId)>,
 ) -> Option<SchemaFault>
     ensures { MatchOption result
-        (AreFlawless (name_flaw_at (map form_of kinds.now.items) (map name_of names.now.items))
+        (AreFlawless (name_flaw_at (map kind_view kinds.now.items) (map name_of names.now.items))
         (length names.now.items))
-        (IsFirstFlaw (name_flaw_at (map form_of kinds.now.items) (map name_of names.now.items))
+        (IsFirstFlaw (name_flaw_at (map kind_view kinds.now.items) (map name_of names.now.items))
         (length names.now.items)) }
 {
     match first_by_set(alloc, kinds, names) {

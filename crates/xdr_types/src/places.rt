@@ -1,7 +1,7 @@
 //! Places that a kind names: outside the list, of a void kind, and an opaque or an array of size 0.
 ghost use Rattle.std.specs.Prelude.{◌≡◌, map, option_map};
-ghost use Rattle.xdr_types.specs.Form.{Part, Branch};
-ghost use Rattle.xdr_types.specs.Forms.{form_of, part_of_member, branch_of};
+ghost use Rattle.xdr_types.specs.Kinds.{Part, Branch};
+ghost use Rattle.xdr_types.specs.KindViews.{kind_view, part_of_member, branch_of};
 ghost use Rattle.xdr_types.specs.Faults.{some_of, some_optional, is_outside, has_unknown, is_zero_size, is_void};
 ghost use Rattle.xdr_types.specs.Faults.{has_void};
 
@@ -9,14 +9,14 @@ use crate::kind::{Arm, Kind, KindId, Member};
 
 /// Whether the list does not have the place.
 pub fn is_outside(kinds: &Vec<Kind>, id: KindId) -> bool
-    ensures { result ≡ is_outside (map form_of kinds.now.items) id.place }
+    ensures { result ≡ is_outside (map kind_view kinds.now.items) id.place }
 {
     id.place as usize >= kinds.len()
 }
 
 /// Whether the void kind stands at the place.
 pub fn is_void(kinds: &Vec<Kind>, id: KindId) -> bool
-    ensures { result ≡ is_void (map form_of kinds.now.items) id.place }
+    ensures { result ≡ is_void (map kind_view kinds.now.items) id.place }
 {
     let place = id.place as usize;
     if place >= kinds.len() {
@@ -30,7 +30,7 @@ pub fn is_void(kinds: &Vec<Kind>, id: KindId) -> bool
 
 fn some_field_outside(kinds: &Vec<Kind>, fields: &Vec<Member>) -> bool
     ensures { result
-        ≡ some_of (λ (p : Part). is_outside (map form_of kinds.now.items) p.kind)
+        ≡ some_of (λ (p : Part). is_outside (map kind_view kinds.now.items) p.kind)
         (map part_of_member fields.now.items) }
 {
     for field in fields {
@@ -43,7 +43,7 @@ fn some_field_outside(kinds: &Vec<Kind>, fields: &Vec<Member>) -> bool
 
 fn some_field_void(kinds: &Vec<Kind>, fields: &Vec<Member>) -> bool
     ensures { result
-        ≡ some_of (λ (p : Part). is_void (map form_of kinds.now.items) p.kind) (map part_of_member fields.now.items) }
+        ≡ some_of (λ (p : Part). is_void (map kind_view kinds.now.items) p.kind) (map part_of_member fields.now.items) }
 {
     for field in fields {
         if is_void(kinds, field.kind) {
@@ -55,7 +55,7 @@ fn some_field_void(kinds: &Vec<Kind>, fields: &Vec<Member>) -> bool
 
 fn some_arm_outside(kinds: &Vec<Kind>, arms: &Vec<Arm>) -> bool
     ensures { result
-        ≡ some_of (λ (a : Branch). is_outside (map form_of kinds.now.items) a.part.kind)
+        ≡ some_of (λ (a : Branch). is_outside (map kind_view kinds.now.items) a.part.kind)
         (map branch_of arms.now.items) }
 {
     for arm in arms {
@@ -68,7 +68,7 @@ fn some_arm_outside(kinds: &Vec<Kind>, arms: &Vec<Arm>) -> bool
 
 fn is_other_outside(kinds: &Vec<Kind>, other: &Option<Member>) -> bool
     ensures { result
-        ≡ some_optional (λ (p : Part). is_outside (map form_of kinds.now.items) p.kind)
+        ≡ some_optional (λ (p : Part). is_outside (map kind_view kinds.now.items) p.kind)
         (option_map part_of_member other.now) }
 {
     match other {
@@ -79,7 +79,7 @@ fn is_other_outside(kinds: &Vec<Kind>, other: &Option<Member>) -> bool
 
 /// Whether the kind names a place outside the list.
 pub fn has_unknown(kinds: &Vec<Kind>, kind: &Kind) -> bool
-    ensures { result ≡ has_unknown (map form_of kinds.now.items) (form_of kind.now) }
+    ensures { result ≡ has_unknown (map kind_view kinds.now.items) (kind_view kind.now) }
 {
     match kind {
         Kind::Fixed { item, size: _ } => is_outside(kinds, *item),
@@ -96,7 +96,7 @@ pub fn has_unknown(kinds: &Vec<Kind>, kind: &Kind) -> bool
 
 /// Whether a field or an item of the kind is void.
 pub fn has_void(kinds: &Vec<Kind>, kind: &Kind) -> bool
-    ensures { result ≡ has_void (map form_of kinds.now.items) (form_of kind.now) }
+    ensures { result ≡ has_void (map kind_view kinds.now.items) (kind_view kind.now) }
 {
     match kind {
         Kind::Fixed { item, size: _ } => is_void(kinds, *item),
@@ -109,7 +109,7 @@ pub fn has_void(kinds: &Vec<Kind>, kind: &Kind) -> bool
 
 /// Whether the kind is a fixed opaque or a fixed array of size 0.
 pub fn is_zero_size(kind: &Kind) -> bool
-    ensures { result ≡ is_zero_size (form_of kind.now) }
+    ensures { result ≡ is_zero_size (kind_view kind.now) }
 {
     match kind {
         Kind::Opaque { size } => *size == 0,

@@ -3,8 +3,8 @@
 ghost use Rattle.std.specs.Prelude.{◌≡◌, ◌≤ℤ◌, ◌<ℤ◌, ℤ, ◌↔◌, length, map, IsTrue, IfOk, false};
 ghost use Rattle.std.specs.BTreeSet.{contains};
 ghost use Rattle.std.specs.Ordering.{int_cmp};
-ghost use Rattle.xdr_types.specs.Form.{kind_at};
-ghost use Rattle.xdr_types.specs.Forms.{form_of};
+ghost use Rattle.xdr_types.specs.Kinds.{kind_at};
+ghost use Rattle.xdr_types.specs.KindViews.{kind_view};
 ghost use Rattle.xdr_types.specs.Sets.{AreNumbers, HasNumberOutside, HasFreeNumber, IsReached, AreReached};
 
 use crate::kind::{Kind, KindId};
@@ -38,9 +38,9 @@ fn has_free_number(
     tag: KindId,
     cases: &BTreeSet<i64>,
 ) -> bool
-    requires numbers { AreNumbers (map form_of kinds.now.items) numbers.now.items }
+    requires numbers { AreNumbers (map kind_view kinds.now.items) numbers.now.items }
     requires all { length numbers.now.items ≡ length kinds.now.items }
-    ensures { IsTrue result ↔ HasFreeNumber (kind_at (map form_of kinds.now.items) tag.place) cases.now }
+    ensures { IsTrue result ↔ HasFreeNumber (kind_at (map kind_view kinds.now.items) tag.place) cases.now }
 {
     let place = tag.place as usize;
     if place >= kinds.len() {
@@ -62,9 +62,9 @@ fn is_default_reached(
     numbers: &Vec<BTreeSet<i64>>,
     kind: &Kind,
 ) -> Result<bool, AllocError>
-    requires numbers { AreNumbers (map form_of kinds.now.items) numbers.now.items }
+    requires numbers { AreNumbers (map kind_view kinds.now.items) numbers.now.items }
     requires all { length numbers.now.items ≡ length kinds.now.items }
-    ensures { IfOk result (IsReached (map form_of kinds.now.items) (form_of kind.now)) }
+    ensures { IfOk result (IsReached (map kind_view kinds.now.items) (kind_view kind.now)) }
 {
     match kind {
         Kind::Choice {
@@ -81,7 +81,7 @@ fn is_default_reached(
 
 /// For each kind, whether a default of it can be reached. An error is want of memory.
 pub fn reached_defaults(alloc: Global, kinds: &Vec<Kind>) -> Result<Vec<bool>, AllocError>
-    ensures { IfOk result (λ v. AreReached (map form_of kinds.now.items) v.items) }
+    ensures { IfOk result (λ v. AreReached (map kind_view kinds.now.items) v.items) }
 {
     let numbers = numbers_of_kinds(alloc, kinds)?;
     let mut reached = Vec::with_capacity(alloc, kinds.len())?;

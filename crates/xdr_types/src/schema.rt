@@ -1,7 +1,7 @@
 //! A schema: kinds that name one another by place, and names for some.
 ghost use Rattle.std.specs.Prelude.{◌≡◌, ◌<◌, ◌≤◌, ◌↔◌, IsTrue, length, map, option_map, IfOk, MatchResult};
-ghost use Rattle.xdr_types.specs.Form.{kind_at};
-ghost use Rattle.xdr_types.specs.Forms.{form_of, name_of, lists_of};
+ghost use Rattle.xdr_types.specs.Kinds.{kind_at};
+ghost use Rattle.xdr_types.specs.KindViews.{kind_view, name_of, lists_of};
 ghost use Rattle.xdr_types.specs.Faults.{IsWellFormed};
 ghost use Rattle.xdr_types.specs.Refused.{IsRefused};
 ghost use Rattle.xdr_types.specs.Sound.{IsSound};
@@ -28,12 +28,12 @@ pub struct Schema {
 }
 
 impl Model for Schema {
-    ghost use Rattle.xdr_types.specs.Form.{Lists};
+    ghost use Rattle.xdr_types.specs.Kinds.{Lists};
 
     ghost Value = { Lists };
 
     ghost use Rattle.std.specs.Prelude.{map};
-    ghost use Rattle.xdr_types.specs.Forms.{form_of, lists_of};
+    ghost use Rattle.xdr_types.specs.KindViews.{kind_view, lists_of};
     ghost use Rattle.xdr_types.specs.Sound.{IsSound};
     ghost use Rattle.xdr_types.specs.Faults.{IsWellFormed};
     ghost use Rattle.xdr_types.specs.Height.{AreHigher};
@@ -43,8 +43,8 @@ impl Model for Schema {
     ghost invariant = { λ s. record {
       well_formed : IsWellFormed (lists_of s.kinds.items s.names.items);
       sound : IsSound
-          (map form_of s.kinds.items);
-      higher : AreHigher (map form_of s.kinds.items);
+          (map kind_view s.kinds.items);
+      higher : AreHigher (map kind_view s.kinds.items);
     } };
 }
 
@@ -155,7 +155,7 @@ impl Schema {
 
     /// The kinds.
     pub(crate) fn kinds(&self) -> &Vec<Kind>
-        ensures { map form_of result.now.items ≡ self.now.kinds }
+        ensures { map kind_view result.now.items ≡ self.now.kinds }
     {
         &self.kinds
     }
@@ -163,7 +163,7 @@ impl Schema {
     /// The kind at a place that the schema has.
     pub fn kind(&self, id: KindId) -> &Kind
         requires has { id.place < length self.now.kinds }
-        ensures { form_of result.now ≡ kind_at self.now.kinds id.place }
+        ensures { kind_view result.now ≡ kind_at self.now.kinds id.place }
     {
         &self.kinds[id.place as usize]
     }
@@ -171,7 +171,7 @@ impl Schema {
 
 // The kinds at places 0 to 7.
 fn basic_kinds(alloc: Global) -> Result<Vec<Kind>, AllocError>
-    ensures { IfOk result (λ v. map form_of v.items ≡ basic.kinds) }
+    ensures { IfOk result (λ v. map kind_view v.items ≡ basic.kinds) }
 {
     Ok(vec![in alloc;
         Kind::Int,

@@ -2,8 +2,8 @@
 ghost use Rattle.std.specs.Prelude.{◌≡◌, ◌||◌, ℤ, length, map, true, IfOk, OnOk};
 ghost use Rattle.std.specs.BTreeSet.{contains};
 ghost use Rattle.std.specs.Ordering.{int_cmp, int_eq};
-ghost use Rattle.xdr_types.specs.Form.{kind_at};
-ghost use Rattle.xdr_types.specs.Forms.{form_of, constant_of, branch_of};
+ghost use Rattle.xdr_types.specs.Kinds.{kind_at};
+ghost use Rattle.xdr_types.specs.KindViews.{kind_view, constant_of, branch_of};
 ghost use Rattle.xdr_types.specs.Fits.{is_numbered, is_listed, is_signed, is_tag_of};
 ghost use Rattle.xdr_types.specs.Sound.{has_arm};
 ghost use Rattle.xdr_types.specs.Sets.{AreNumbers, HasNumbers};
@@ -50,7 +50,7 @@ fn numbers_of_members(alloc: Global, members: &[(String, i32)]) -> Result<BTreeS
 
 // The numbers of an enumeration, and none of another kind.
 fn numbers_of(alloc: Global, kind: &Kind) -> Result<BTreeSet<i64>, AllocError>
-    ensures { IfOk result (HasNumbers (form_of kind.now)) }
+    ensures { IfOk result (HasNumbers (kind_view kind.now)) }
 {
     match kind {
         Kind::Numbered { members } => numbers_of_members(alloc, members),
@@ -60,7 +60,7 @@ fn numbers_of(alloc: Global, kind: &Kind) -> Result<BTreeSet<i64>, AllocError>
 
 /// The numbers of each enumeration, at its place. An error is want of memory.
 pub fn numbers_of_kinds(alloc: Global, kinds: &Vec<Kind>) -> Result<Vec<BTreeSet<i64>>, AllocError>
-    ensures numbers { IfOk result (λ v. AreNumbers (map form_of kinds.now.items) v.items) }
+    ensures numbers { IfOk result (λ v. AreNumbers (map kind_view kinds.now.items) v.items) }
     ensures all { IfOk result (λ v. length v.items ≡ length kinds.now.items) }
 {
     let mut numbers = Vec::with_capacity(alloc, kinds.len())?;
@@ -72,7 +72,7 @@ pub fn numbers_of_kinds(alloc: Global, kinds: &Vec<Kind>) -> Result<Vec<BTreeSet
 
 /// The numbers of each enumeration, at its place, or no list where memory for them was refused.
 pub fn numbers_or_none(alloc: Global, kinds: &Vec<Kind>) -> Vec<BTreeSet<i64>>
-    ensures { AreNumbers (map form_of kinds.now.items) result.items }
+    ensures { AreNumbers (map kind_view kinds.now.items) result.items }
 {
     match numbers_of_kinds(alloc, kinds) {
         Ok(numbers) => numbers,
@@ -83,8 +83,8 @@ pub fn numbers_or_none(alloc: Global, kinds: &Vec<Kind>) -> Vec<BTreeSet<i64>>
 /// Whether a discriminant of the kind may have the number. Members are looked at one by one only where there is no set
 /// of their numbers.
 pub fn is_legal_case(kinds: &Vec<Kind>, numbers: &[BTreeSet<i64>], tag: KindId, number: i64) -> bool
-    requires { AreNumbers (map form_of kinds.now.items) numbers.now }
-    ensures { result ≡ is_tag_of (kind_at (map form_of kinds.now.items) tag.place) number }
+    requires { AreNumbers (map kind_view kinds.now.items) numbers.now }
+    ensures { result ≡ is_tag_of (kind_at (map kind_view kinds.now.items) tag.place) number }
 {
     let place = tag.place as usize;
     if place >= kinds.len() || place >= numbers.len() {

@@ -1,7 +1,7 @@
 //! How many bytes a value has, and whether they are within a limit.
 ghost use Rattle.std.specs.Prelude.{◌≡◌, ◌+◌, ◌<◌, ◌≤◌, ◌↔◌, length, map, replicate, IsTrue, true};
-ghost use Rattle.xdr_types.specs.Form.{kind_at};
-ghost use Rattle.xdr_types.specs.Forms.{form_of, part_of_member};
+ghost use Rattle.xdr_types.specs.Kinds.{kind_at};
+ghost use Rattle.xdr_types.specs.KindViews.{kind_view, part_of_member};
 ghost use Rattle.xdr_types.specs.Fits.{Fits, fits, fit, item_part, parts};
 ghost use Rattle.xdr_units.specs.Numbers.{pad, padded};
 ghost use Rattle.xdr_types.specs.Spelling.{spelling, own, bytes_of};
@@ -47,7 +47,7 @@ fn left_after(schema: &Schema, id: KindId, value: &Value, room: u32) -> Option<u
 }
 
 fn left_after_own(kind: &Kind, value: &Value, room: u32) -> Option<u32>
-    ensures { IsLeft room (length (own (form_of kind.now) (tree value.now).0)) result }
+    ensures { IsLeft room (length (own (kind_view kind.now) (tree value.now).0)) result }
 {
     match value {
         Value::Int(_) => take(room, 4),
@@ -74,9 +74,9 @@ fn left_after_own(kind: &Kind, value: &Value, room: u32) -> Option<u32>
 
 #[cycle(left)]
 fn left_after_inner(schema: &Schema, kind: &Kind, value: &Value, room: u32) -> Option<u32>
-    requires { fit schema.now.kinds (parts (form_of kind.now) (tree value.now).0) (tree value.now).1 ≡ true }
+    requires { fit schema.now.kinds (parts (kind_view kind.now) (tree value.now).0) (tree value.now).1 ≡ true }
     ensures { IsLeft room
-        (length (spelling schema.now.kinds (parts (form_of kind.now) (tree value.now).0) (tree value.now).1)) result }
+        (length (spelling schema.now.kinds (parts (kind_view kind.now) (tree value.now).0) (tree value.now).1)) result }
 {
     match (kind, value) {
         (Kind::Fixed { item, size: _ }, Value::List(items)) => left_after_items(

@@ -1,8 +1,8 @@
 //! Discriminants of a kind that can be none, and cases that are no number of their discriminant (RFC 4506 section
 //! 4.15).
 ghost use Rattle.std.specs.Prelude.{◌≡◌, ℤ, map, not};
-ghost use Rattle.xdr_types.specs.Form.{Branch, kind_at};
-ghost use Rattle.xdr_types.specs.Forms.{form_of, branch_of};
+ghost use Rattle.xdr_types.specs.Kinds.{Branch, kind_at};
+ghost use Rattle.xdr_types.specs.KindViews.{kind_view, branch_of};
 ghost use Rattle.xdr_types.specs.Fits.{is_tag_of};
 ghost use Rattle.xdr_types.specs.Faults.{some_of, is_tag, has_bad_tag, has_illegal_case};
 ghost use Rattle.xdr_types.specs.Sets.{AreNumbers};
@@ -12,7 +12,7 @@ use crate::sets::is_legal_case;
 use std::collections::BTreeSet;
 
 fn is_tag(kinds: &Vec<Kind>, id: KindId) -> bool
-    ensures { result ≡ is_tag (kind_at (map form_of kinds.now.items) id.place) }
+    ensures { result ≡ is_tag (kind_at (map kind_view kinds.now.items) id.place) }
 {
     let place = id.place as usize;
     if place >= kinds.len() {
@@ -29,7 +29,7 @@ fn is_tag(kinds: &Vec<Kind>, id: KindId) -> bool
 
 /// Whether the kind is a union over a kind that can be no discriminant.
 pub fn has_bad_tag(kinds: &Vec<Kind>, kind: &Kind) -> bool
-    ensures { result ≡ has_bad_tag (map form_of kinds.now.items) (form_of kind.now) }
+    ensures { result ≡ has_bad_tag (map kind_view kinds.now.items) (kind_view kind.now) }
 {
     match kind {
         Kind::Choice {
@@ -42,9 +42,9 @@ pub fn has_bad_tag(kinds: &Vec<Kind>, kind: &Kind) -> bool
 }
 
 fn some_illegal(kinds: &Vec<Kind>, numbers: &[BTreeSet<i64>], tag: KindId, cases: &Vec<i64>) -> bool
-    requires { AreNumbers (map form_of kinds.now.items) numbers.now }
+    requires { AreNumbers (map kind_view kinds.now.items) numbers.now }
     ensures { result
-        ≡ some_of (λ (z : ℤ). not (is_tag_of (kind_at (map form_of kinds.now.items) tag.place) z)) cases.now.items }
+        ≡ some_of (λ (z : ℤ). not (is_tag_of (kind_at (map kind_view kinds.now.items) tag.place) z)) cases.now.items }
 {
     for case in cases {
         if !is_legal_case(kinds, numbers, tag, *case) {
@@ -60,10 +60,10 @@ fn some_arm_illegal(
     tag: KindId,
     arms: &Vec<Arm>,
 ) -> bool
-    requires { AreNumbers (map form_of kinds.now.items) numbers.now }
+    requires { AreNumbers (map kind_view kinds.now.items) numbers.now }
     ensures { result
         ≡ some_of (λ (a : Branch). some_of
-        (λ (z : ℤ). not (is_tag_of (kind_at (map form_of kinds.now.items) tag.place) z)) a.cases)
+        (λ (z : ℤ). not (is_tag_of (kind_at (map kind_view kinds.now.items) tag.place) z)) a.cases)
         (map branch_of arms.now.items) }
 {
     for arm in arms {
@@ -76,8 +76,8 @@ fn some_arm_illegal(
 
 /// Whether the kind is a union with a case that its discriminant may not have.
 pub fn has_illegal_case(kinds: &Vec<Kind>, numbers: &[BTreeSet<i64>], kind: &Kind) -> bool
-    requires { AreNumbers (map form_of kinds.now.items) numbers.now }
-    ensures { result ≡ has_illegal_case (map form_of kinds.now.items) (form_of kind.now) }
+    requires { AreNumbers (map kind_view kinds.now.items) numbers.now }
+    ensures { result ≡ has_illegal_case (map kind_view kinds.now.items) (kind_view kind.now) }
 {
     match kind {
         Kind::Choice {

@@ -4,8 +4,8 @@ ghost use Rattle.std.specs.Prelude.{◌≡◌, ◌&&◌, ◌||◌, ℤ, false, n
 ghost use Rattle.std.specs.BTreeSet.{contains};
 ghost use Rattle.std.specs.Ordering.{int_cmp};
 ghost use Rattle.std.specs.Str.{bytes_eq};
-ghost use Rattle.xdr_types.specs.Form.{Part, Branch, Constant};
-ghost use Rattle.xdr_types.specs.Forms.{form_of, constant_of, part_of_member, branch_of};
+ghost use Rattle.xdr_types.specs.Kinds.{Part, Branch, Constant};
+ghost use Rattle.xdr_types.specs.KindViews.{kind_view, constant_of, part_of_member, branch_of};
 ghost use Rattle.xdr_types.specs.Fits.{is_listed};
 ghost use Rattle.xdr_types.specs.Sound.{has_arm};
 ghost use Rattle.xdr_types.specs.Faults.{some_of, some_optional, is_none, case_twice, arms_case_twice, has_case_twice};
@@ -252,7 +252,7 @@ fn arms_case_twice(alloc: Global, arms: &Vec<Arm>) -> bool
 
 /// Whether the kind is a union with a case that stands twice.
 pub fn has_case_twice(alloc: Global, kind: &Kind) -> bool
-    ensures { result ≡ has_case_twice (form_of kind.now) }
+    ensures { result ≡ has_case_twice (kind_view kind.now) }
 {
     match kind {
         Kind::Choice {
@@ -293,7 +293,7 @@ fn arm_twice(alloc: Global, arms: &Vec<Arm>, other: &Option<Member>) -> bool
 
 /// Whether one name stands twice within the kind.
 pub fn has_name_twice(alloc: Global, kind: &Kind) -> bool
-    ensures { result ≡ has_name_twice (form_of kind.now) }
+    ensures { result ≡ has_name_twice (kind_view kind.now) }
 {
     match kind {
         Kind::Numbered { members } => constant_twice(alloc, members),

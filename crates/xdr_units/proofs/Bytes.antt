@@ -35,19 +35,27 @@ same_front a b x y len e = (
 -- a number is known by its four bytes,
 pub same_word : (m n : ℕ) (x y : List ℕ) → m < 2 ^ 32 → n < 2 ^ 32 → word m ++ x ≡ word n ++ y → (m ≡ n) × (x ≡ y)
 same_word m n x y hm hn e =
-    let front = same_front (word m) (word n) x y refl e in
-    (sym (from_be_bytes-to_be_bytes_4 m hm) ∙ ap (from_be_bytes w32) front.0 ∙ from_be_bytes-to_be_bytes_4 n hn, front.1)
+    let front = same_front (word m) (word n) x y refl e in (
+      sym (from_be_bytes-to_be_bytes_4 m hm) ∙ ap (from_be_bytes w32) front.0
+          ∙ from_be_bytes-to_be_bytes_4 n hn,
+      front.1,
+    )
 
 -- or eight
-pub same_long_word : (m n : ℕ) (x y : List ℕ) → m < 2 ^ 64 → n < 2 ^ 64 → long_word m ++ x ≡ long_word n ++ y → (m ≡ n) × (x ≡ y)
+pub same_long_word : (m n : ℕ) (x y : List ℕ) → m < 2 ^ 64 → n < 2 ^ 64 → long_word m ++ x ≡ long_word n ++ y
+    → (m ≡ n) × (x ≡ y)
 same_long_word m n x y hm hn e =
-    let front = same_front (long_word m) (long_word n) x y refl e in
-    (sym (from_be_bytes-to_be_bytes_8 m hm) ∙ ap (from_be_bytes w64) front.0 ∙ from_be_bytes-to_be_bytes_8 n hn, front.1)
+    let front = same_front (long_word m) (long_word n) x y refl e in (
+      sym (from_be_bytes-to_be_bytes_8 m hm) ∙ ap (from_be_bytes w64) front.0
+          ∙ from_be_bytes-to_be_bytes_8 n hn,
+      front.1,
+    )
 
 -- content of one size is one
 pub same_content : (a b x y : List ℕ) → length a ≡ length b → padded a ++ x ≡ padded b ++ y → (a ≡ b) × (x ≡ y)
 same_content a b x y len e =
-    let regrouped : a ++ (pad (length a) ++ x) ≡ b ++ (pad (length b) ++ y) = sym (append_assoc a (pad (length a)) x) ∙ e ∙ append_assoc b (pad (length b)) y in
+    let regrouped : a ++ (pad (length a) ++ x) ≡ b ++ (pad (length b) ++ y) = sym (append_assoc a (pad (length a)) x)
+    ∙ e ∙ append_assoc b (pad (length b)) y in
     let front = same_front a b (pad (length a) ++ x) (pad (length b) ++ y) len regrouped in
     let behind = same_front (pad (length a)) (pad (length b)) x y (ap (λ (n : ℕ). length (pad n)) len) front.1 in
     (front.0, behind.1)

@@ -49,7 +49,8 @@ same_cut (x ∷ a) (y ∷ b) r s h k e =
     ((λ j. front j ∷ w.0 j), w.1)
 
 -- One more byte that is no dot.
-pub no_dot_more : (xs : List ℕ) (i b : ℕ) → i < length xs → get_or xs i b ≡ b → nat_eq b 46 ≡ false → HasNoDot (take i xs) → HasNoDot (take (i + 1) xs)
+pub no_dot_more : (xs : List ℕ) (i b : ℕ) → i < length xs → get_or xs i b ≡ b → nat_eq b 46 ≡ false
+    → HasNoDot (take i xs) → HasNoDot (take (i + 1) xs)
 no_dot_more [] i b lt at nd h = absurd (omega (arith, lt))
 no_dot_more (x ∷ xs) zero b lt at nd h = (ap (λ y. nat_eq y 46) at ∙ nd, tt)
 no_dot_more (x ∷ xs) (suc i) b lt at nd h =

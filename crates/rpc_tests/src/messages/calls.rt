@@ -81,8 +81,8 @@ fn reads_a_cut_call(rt: HostRuntime) -> Result<(), Fail> {
     Ok(())
 }
 
-/// Version 2 cut before its procedure, a version of which a byte is missing, and a reply, whose third word would be another
-/// version or version 2.
+/// Version 2 cut before its procedure, a version of which a byte is missing, and a reply, whose third word would be
+/// another version or version 2.
 const NO_CALLS: [&str; 4] = [
     "000000010000000000000002000186a000000002",
     "0000000100000000000003",

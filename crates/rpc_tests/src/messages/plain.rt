@@ -1,5 +1,5 @@
-//! The calls that read, as the tests make them. None of these says what it answers, so that a test of many calls is proved
-//! fast.
+//! The calls that read, as the tests make them. None of these says what it answers, so that a test of many calls is
+//! proved fast.
 
 use rpc_message::{
     AuthSys, CallRead, NoMemory, Reply, ReplyFault, read_auth_sys, read_call, read_reply,

@@ -1,5 +1,5 @@
-//! The calls of the registry as rows of a table: what is asked, and what is to be answered. What runs them says nothing of
-//! its answer, so that a test of many calls is proved fast.
+//! The calls of the registry as rows of a table: what is asked, and what is to be answered. What runs them says nothing
+//! of its answer, so that a test of many calls is proved fast.
 ghost use Rattle.std.specs.Prelude.{◌≤◌, length};
 
 use crate::registry::dumps::{Field, is_list};

@@ -121,7 +121,8 @@ impl Numbers {
     }
 }
 
-/// A call of the entry, done on the list, and what the registry is to answer. Address 0 stands for a port that is too high.
+/// A call of the entry, done on the list, and what the registry is to answer. Address 0 stands for a port that is too
+/// high.
 fn call(list: &mut Vec<Entry>, which: u32, e: Entry) -> Result<Call, AllocError> {
     let key = (e.prog, e.vers, netid(e.netid));
     let port_key = (e.prog, e.vers, prot(e.netid));

@@ -1,5 +1,5 @@
-//! What each call that takes memory answers where one of its growths is refused, each growth in turn: want of memory with
-//! the rows as they were, or the whole answer.
+//! What each call that takes memory answers where one of its growths is refused, each growth in turn: want of memory
+//! with the rows as they were, or the whole answer.
 use crate::registry::calls::{Call, EVERY_HOST, Owner, Registry, answer, right_calls, started};
 use crate::registry::rows::{OWN_DUMP, OWN_FOUND, OWN_PORTS};
 use crate::registry::schema::{has_kinds, has_names};
@@ -25,8 +25,9 @@ const TAKING: [(Call, Call); 4] = [
     (OWN_PORTS, Call::Rows(3)),
 ];
 
-/// Whether an answer is right where this growth was refused: none stands for want of memory, and else it says whether the
-/// answer is the whole one. Each call takes memory, so it misses the first growth, and it misses none past all of its own.
+/// Whether an answer is right where this growth was refused: none stands for want of memory, and else it says whether
+/// the answer is the whole one. Each call takes memory, so it misses the first growth, and it misses none past all of
+/// its own.
 fn is_right(refuses: bool, number: u64, whole: Option<bool>) -> bool {
     match whole {
         None => refuses && number < PAST_ALL,

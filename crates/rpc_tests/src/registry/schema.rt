@@ -3,8 +3,8 @@ use rpc_directory::directory_schema;
 use std::test::Fail;
 use xdr_types::{Kind, KindId, Member, Schema};
 
-/// A kind: a structure of named parts with the places of their kinds, a string of any length, or an optional value of the
-/// kind at a place.
+/// A kind: a structure of named parts with the places of their kinds, a string of any length, or an optional value of
+/// the kind at a place.
 enum Shape {
     Structure(&'static [(&'static str, u32)]),
     Text,

@@ -1,6 +1,7 @@
 -- Numbers and content at the front of bytes.
-use Rattle.std.specs.Prelude.{◌≡◌, ℕ, ℤ, pos, negsuc, List, [], ◌∷◌, ◌++◌, length, Bool, true, false, ◌&&◌, ◌==◌, is_some, Option}
-use Rattle.xdr_types.specs.Form.{Form, Part, Branch, kind_at}
+use Rattle.std.specs.Prelude.{◌≡◌, ℕ, ℤ, pos, negsuc, List, [], ◌∷◌, ◌++◌, length, Bool, true, false, ◌&&◌, ◌==◌}
+use Rattle.std.specs.Prelude.{is_some, Option}
+use Rattle.xdr_types.specs.Kinds.{KindView, Part, Branch, kind_at}
 use Rattle.xdr_units.specs.Numbers.{num4, padded}
 use Rattle.xdr_types.specs.Fits.{is_length, is_tag_of, part_of}
 
@@ -18,7 +19,7 @@ is_count max (pos n) = is_length max n
 is_count max (negsuc n) = false
 
 -- a discriminant with a part
-abbrev pub is_case : List Form → ℕ → List Branch → Option Part → ℤ → Bool
+abbrev pub is_case : List KindView → ℕ → List Branch → Option Part → ℤ → Bool
 is_case kinds tag arms other z = is_tag_of (kind_at kinds tag) z && is_some (part_of arms other z)
 
 abbrev pub are_zeros : List ℕ → Bool

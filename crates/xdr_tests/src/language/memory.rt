@@ -40,8 +40,8 @@ fn bears_growth(alloc: Global, rt: &impl Env, text: &[u8], number: u64) -> bool 
     is_well && refuses.is_ok()
 }
 
-/// The text is read with ample memory; with each of its growths refused in turn it is refused for want of memory or read
-/// all the same, and with the first it is refused.
+/// The text is read with ample memory; with each of its growths refused in turn it is refused for want of memory or
+/// read all the same, and with the first it is refused.
 fn wants_each_growth(alloc: Global, rt: &impl Env, text: &[u8]) -> bool {
     let growths = match growths_of(alloc, rt, text) {
         Some(growths) => growths,

@@ -1,6 +1,6 @@
 use Rattle.std.proofs.Common.{[], codes, drop, lit≤, refl, ◌++◌, ◌∷◌}
-use Rattle.xdr_types.specs.Form as form
-use Rattle.xdr_types.specs.Form.{Lists}
+use Rattle.xdr_types.specs.Kinds as xdr
+use Rattle.xdr_types.specs.Kinds.{Lists}
 use Rattle.xdr_types.specs.Named.{basic, named}
 use Rattle.lang_examples.proofs.Schemas.{well, sound_ten}
 use Rattle.xdr_lang.specs.Declarations.{Declared}
@@ -29,7 +29,7 @@ use Rattle.lang_examples.proofs.texts.linked_list.Goals as goal
 
 abbrev schema : Lists
 schema = record {
-  kinds = basic.kinds ++ form.maybe 9 ∷ form.structure (named (codes "n") 0 ∷ named (codes "next") 8 ∷ []) ∷ [];
+  kinds = basic.kinds ++ xdr.maybe 9 ∷ xdr.structure (named (codes "n") 0 ∷ named (codes "next") 8 ∷ []) ∷ [];
   names = basic.names ++ named (codes "e") 9 ∷ [];
 }
 
@@ -56,5 +56,5 @@ unfolding told cut run_length after_comment value_from number_of word_among word
     repeats_number has_pair repeats_pair kind_repeats kinds_repeat version_repeats versions_repeat program_repeats
     programs_repeat pairs_of pairs has_twice meaning distinct_meaning
 returns-clause-taken c = memory_of_text _ schema c.read.result refl (lit≤ tt) (well schema (lit≤ tt) refl refl)
-    (sound_ten (form.maybe 9) (form.structure (named (codes "n") 0 ∷ named (codes "next") 8 ∷ [])) tt
+    (sound_ten (xdr.maybe 9) (xdr.structure (named (codes "n") 0 ∷ named (codes "next") 8 ∷ [])) tt
     ((0, refl, lit≤ tt), ((1, refl, lit≤ tt), tt))) c.read.ensures.refused

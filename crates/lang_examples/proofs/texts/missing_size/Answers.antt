@@ -1,6 +1,6 @@
 use Rattle.std.proofs.Common.{[], codes, drop, lit≤, refl, ◌++◌, ◌∷◌}
-use Rattle.xdr_types.specs.Form as form
-use Rattle.xdr_types.specs.Form.{Lists}
+use Rattle.xdr_types.specs.Kinds as xdr
+use Rattle.xdr_types.specs.Kinds.{Lists}
 use Rattle.xdr_types.specs.Named.{basic, named}
 use Rattle.lang_examples.proofs.Schemas.{well, sound_nine}
 use Rattle.xdr_lang.specs.Declarations.{Declared}
@@ -29,7 +29,7 @@ use Rattle.lang_examples.proofs.texts.missing_size.Goals as goal
 
 abbrev schema : Lists
 schema = record {
-  kinds = basic.kinds ++ form.text 4294967295 ∷ [];
+  kinds = basic.kinds ++ xdr.text 4294967295 ∷ [];
   names = basic.names ++ named (codes "a") 8 ∷ [];
 }
 
@@ -56,4 +56,4 @@ unfolding told cut run_length after_comment value_from number_of word_among word
     repeats_number has_pair repeats_pair kind_repeats kinds_repeat version_repeats versions_repeat program_repeats
     programs_repeat pairs_of pairs has_twice meaning distinct_meaning
 returns-clause-taken c = memory_of_text _ schema c.read.result refl (lit≤ tt) (well schema (lit≤ tt) refl refl)
-    (sound_nine (form.text 4294967295) tt) c.read.ensures.refused
+    (sound_nine (xdr.text 4294967295) tt) c.read.ensures.refused

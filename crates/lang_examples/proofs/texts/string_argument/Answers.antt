@@ -1,5 +1,5 @@
 use Rattle.std.proofs.Common.{lit≤, map, refl}
-use Rattle.xdr_types.specs.Form.{Lists}
+use Rattle.xdr_types.specs.Kinds.{Lists}
 use Rattle.xdr_types.specs.Named.{basic}
 use Rattle.lang_examples.proofs.Schemas.{well, sound_eight}
 use Rattle.xdr_lang.specs.Declarations.{Declared, Program}

@@ -10,13 +10,15 @@ returns-in_err-part-clause-only c = λ n rest small same.
 pub returns-in_err-decimal_number-clause-only : goal.returns-in_err-decimal_number-clause-only
 returns-in_err-decimal_number-clause-only c = λ n rest small same.
     let part = c.in_ok-part.part.now in
-    let w = before_dot c.args.text.now part c.in_ok-part.rest.now rest n c.in_ok-part.ensures.0 c.in_ok-part.ensures.1 small same in
+    let w = before_dot c.args.text.now part c.in_ok-part.rest.now rest n c.in_ok-part.ensures.0 c.in_ok-part.ensures.1
+    small same in
     absurd (true≢false (sym (ap is_some (c.in_err-decimal_number.ensures.only n small w.0))))
 
 pub returns-clause-only : goal.returns-clause-only
 returns-clause-only c = λ n rest small same.
     let part = c.in_ok-part.part.now in
-    let w = before_dot c.args.text.now part c.in_ok-part.rest.now rest n c.in_ok-part.ensures.0 c.in_ok-part.ensures.1 small same in
+    let w = before_dot c.args.text.now part c.in_ok-part.rest.now rest n c.in_ok-part.ensures.0 c.in_ok-part.ensures.1
+    small same in
     (ap the (c.in_ok-decimal_number.ensures.only n small w.0), w.1)
   where
     the : Option ℕ → ℕ

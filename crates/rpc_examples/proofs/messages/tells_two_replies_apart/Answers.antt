@@ -3,4 +3,5 @@ use Rattle.rpc_examples.proofs.messages.tells_two_replies_apart.Goals as goal
 
 pub returns : goal.returns
 returns c = λ same.
-    c.requires.differ ((c.reply_bytes_are_exact.ensures (reply_view c.args.first.now) (reply_view c.args.second.now) _ _ c.in_ok-one.ensures c.in_ok-other.ensures).1 same)
+    c.requires.differ ((c.reply_bytes_are_exact.ensures (reply_view c.args.first.now)
+    (reply_view c.args.second.now) _ _ c.in_ok-one.ensures c.in_ok-other.ensures).1 same)

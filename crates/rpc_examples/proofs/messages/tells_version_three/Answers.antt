@@ -8,4 +8,5 @@ returns-clause-told c = c.read_call.ensures.only (OtherVersion 2 3) (version_thr
 
 pub returns-clause-no_memory : goal.returns-clause-no_memory
 returns-clause-no_memory c =
-    takes_none c.read_call.result c.args.bytes.now (ap (λ (t : List ℕ). get_or t 11 0) c.requires) c.read_call.ensures.memory
+    takes_none c.read_call.result c.args.bytes.now
+    (ap (λ (t : List ℕ). get_or t 11 0) c.requires) c.read_call.ensures.memory

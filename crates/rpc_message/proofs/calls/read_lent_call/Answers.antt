@@ -5,7 +5,8 @@ use Rattle.rpc_message.proofs.calls.read_lent_call.Goals as goal
 
 pub returns-clause-found : goal.returns-clause-found
 returns-clause-found c =
-    subst (IsCase c.args.bytes.now) c.case_of.ensures (case_found c.args.bytes.now (λ i. omega (arith, c.type_inv.bytes i)))
+    subst (IsCase c.args.bytes.now) c.case_of.ensures
+    (case_found c.args.bytes.now (λ i. omega (arith, c.type_inv.bytes i)))
 
 pub returns-clause-only : goal.returns-clause-only
 returns-clause-only c = λ k h.

@@ -1,5 +1,5 @@
 use Rattle.std.proofs.Common.{◌≡◌, ◌+◌, ◌*◌, length, map, replicate, take}
-use Rattle.xdr_types.specs.Forms.{part_of_member}
+use Rattle.xdr_types.specs.KindViews.{part_of_member}
 use Rattle.xdr_types.specs.Fits.{item_part}
 use Rattle.xdr_types.specs.View.{values}
 use Rattle.xdr_codec.specs.Steps.Reading.{AreRead}

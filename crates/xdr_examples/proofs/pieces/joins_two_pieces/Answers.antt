@@ -1,7 +1,7 @@
 use Rattle.std.proofs.Common.{◌≡◌, ◌≤◌, ◌++◌, [], List, ℕ, subst, sym, ap, ◌∙◌, Result, Ok, IfErr, refl}
 use Rattle.std.proofs.lemmas.List.{append-nil}
 use Rattle.std.proofs.lemmas.Result.{err_from_is_err_and}
-use Rattle.xdr_types.specs.Form.{Form, Lists}
+use Rattle.xdr_types.specs.Kinds.{KindView, Lists}
 use Rattle.xdr_types.specs.Spelling.{bytes_of}
 use Rattle.xdr_types.specs.Within.{Bounds, FitsWithin}
 use Rattle.xdr_types.specs.declared.kind.KindId.{KindId}
@@ -14,18 +14,18 @@ use Rattle.xdr_examples.specs.Rfc.{file_kinds, sillyprog, sillyprog_bytes}
 use Rattle.xdr_examples.proofs.Accepted.{ended, ended_whole, joined, waits, waits_second}
 use Rattle.xdr_examples.proofs.pieces.joins_two_pieces.Goals as goal
 
-moved : (kinds : List Form) (place : ℕ) (limits : Bounds) → kinds ≡ file_kinds → place ≡ 6 → 3 ≤ limits.depth
+moved : (kinds : List KindView) (place : ℕ) (limits : Bounds) → kinds ≡ file_kinds → place ≡ 6 → 3 ≤ limits.depth
     → 48 ≤ limits.bytes → FitsWithin kinds place limits sillyprog
 moved kinds place limits e f deep room =
-    subst (λ (k : List Form). FitsWithin k place limits sillyprog) (sym e)
+    subst (λ (k : List KindView). FitsWithin k place limits sillyprog) (sym e)
     (subst (λ (p : ℕ). FitsWithin file_kinds p limits sillyprog) (sym f) (refl, (deep, room)))
 
 -- what is said of a decoder's settings is said of these
-settled : (Said : List Form → ℕ → Bounds → Type 0) (kinds : List Form) (place : ℕ) (limits l : Bounds)
+settled : (Said : List KindView → ℕ → Bounds → Type 0) (kinds : List KindView) (place : ℕ) (limits l : Bounds)
     → kinds ≡ file_kinds → place ≡ 6 → limits ≡ l → Said kinds place limits → Said file_kinds 6 l
 settled Said kinds place limits l e f g h =
     subst (λ (x : Bounds). Said file_kinds 6 x) g
-    (subst (λ (n : ℕ). Said file_kinds n limits) f (subst (λ (k : List Form). Said k place limits) e h))
+    (subst (λ (n : ℕ). Said file_kinds n limits) f (subst (λ (k : List KindView). Said k place limits) e h))
 
 pub returns-clause-value : goal.returns-clause-value
 returns-clause-value c =
@@ -45,7 +45,7 @@ returns-clause-value c =
     (subst (λ (l : Bounds). 3 ≤ l.depth) (sym limits) c.requires.deep)
     (subst (λ (l : Bounds). 48 ≤ l.bytes) (sym limits) c.requires.room) in
     let bytes : bytes_of d.schema.now.kinds d.kind.place sillyprog ≡ sillyprog_bytes =
-    ap (λ (k : List Form). bytes_of k d.kind.place sillyprog) kinds
+    ap (λ (k : List KindView). bytes_of k d.kind.place sillyprog) kinds
     ∙ ap (λ (n : ℕ). bytes_of file_kinds n sillyprog) place in
     let first = c.in_ok-feed.ensures.stands [] c.start-decoder.ensures.stands in
     let second = c.in_ok-feed-2.ensures.stands ([] ++ taken c.args.first.now (Ok p)) first in
@@ -68,7 +68,7 @@ returns-in_err-feed-clause-taken c =
     let fit : FitsWithin file_kinds 6 l sillyprog = (refl, (c.requires.deep, c.requires.room)) in
     let whole : bytes_of file_kinds 6 sillyprog ++ [] ≡ first ++ second =
     append-nil (bytes_of file_kinds 6 sillyprog) ∙ sym c.requires.input in
-    let answer = settled (λ (k : List Form) (n : ℕ) (b : Bounds).
+    let answer = settled (λ (k : List KindView) (n : ℕ) (b : Bounds).
     AnswersAs k n b ([] ++ taken first c.feed.result) c.feed.result)
     d.schema.now.kinds d.kind.place d.limits l
     (ap (λ (s : Lists). s.kinds) set.schema_is ∙ c.requires.kinds) (ap (λ (k : KindId). k.place) set.kind_is)
@@ -93,7 +93,7 @@ returns-in_err-feed-2-clause-taken c =
     let fit : FitsWithin file_kinds 6 l sillyprog = (refl, (c.requires.deep, c.requires.room)) in
     let whole : bytes_of file_kinds 6 sillyprog ≡ first ++ second = sym c.requires.input in
     let stands = c.in_ok-feed.ensures.stands [] c.start-decoder.ensures.stands in
-    let answer = settled (λ (k : List Form) (n : ℕ) (b : Bounds).
+    let answer = settled (λ (k : List KindView) (n : ℕ) (b : Bounds).
     AnswersAs k n b (([] ++ taken first (Ok p)) ++ taken second r) r)
     d.schema.now.kinds d.kind.place d.limits l
     (ap (λ (s : Lists). s.kinds) (one.schema_is ∙ set.schema_is) ∙ c.requires.kinds)
@@ -124,12 +124,12 @@ returns-clause-taken c =
     let stands = c.in_ok-feed.ensures.stands [] c.start-decoder.ensures.stands in
     let after = c.in_ok-feed-2.ensures.stands ([] ++ taken first (Ok p)) stands in
     let before = c.feed.new.self in
-    let answer = settled (λ (k : List Form) (n : ℕ) (b : Bounds). AnswersAs k n b both (Ok q))
+    let answer = settled (λ (k : List KindView) (n : ℕ) (b : Bounds). AnswersAs k n b both (Ok q))
     before.schema.now.kinds before.kind.place before.limits l
     (ap (λ (s : Lists). s.kinds) (one.schema_is ∙ set.schema_is) ∙ c.requires.kinds)
     (ap (λ (k : KindId). k.place) (one.kind_is ∙ set.kind_is))
     (one.limits_are ∙ set.limits_are) (c.in_ok-feed-2.ensures.answer ([] ++ taken first (Ok p)) stands) in
-    let end = settled (λ (k : List Form) (n : ℕ) (b : Bounds). FinishesAs k n b both c.finish.result)
+    let end = settled (λ (k : List KindView) (n : ℕ) (b : Bounds). FinishesAs k n b both c.finish.result)
     d.schema.now.kinds d.kind.place d.limits l
     (ap (λ (s : Lists). s.kinds) (two.schema_is ∙ one.schema_is ∙ set.schema_is) ∙ c.requires.kinds)
     (ap (λ (k : KindId). k.place) (two.kind_is ∙ one.kind_is ∙ set.kind_is))

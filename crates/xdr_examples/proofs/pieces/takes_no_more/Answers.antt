@@ -1,5 +1,5 @@
 use Rattle.std.proofs.Common.{◌≡◌, ◌≤◌, ◌++◌, [], ◌∷◌, ℕ, length, IfOk, subst, sym, ap, refl}
-use Rattle.xdr_types.specs.Form.{kind_at, opaque_up_to}
+use Rattle.xdr_types.specs.Kinds.{kind_at, opaque_up_to}
 use Rattle.xdr_types.specs.Spelling.{bytes_of}
 use Rattle.xdr_types.specs.Within.{Bounds, FitsWithin}
 use Rattle.xdr_codec.specs.declared.state.Progress.{Progress}

@@ -1,6 +1,6 @@
 use Rattle.std.proofs.Common.{◌≡◌, ◌≤◌, ◌++◌, [], ◌∷◌, pos, subst, sym, refl}
-use Rattle.xdr_types.specs.Form as form
-use Rattle.xdr_types.specs.Form.{kind_at}
+use Rattle.xdr_types.specs.Kinds as xdr
+use Rattle.xdr_types.specs.Kinds.{kind_at}
 use Rattle.xdr_types.specs.Spelling.{bytes_of}
 use Rattle.xdr_types.specs.Tree as value
 use Rattle.xdr_types.specs.Tree.{Tree}
@@ -17,7 +17,7 @@ returns-clause-fault c =
     let d = c.start-decoder.result in
     let set = c.start-decoder.ensures.settings in
     let S = d.schema.now.kinds in
-    let kind : kind_at S d.kind.place ≡ form.hyper = rw (set.schema_is, set.kind_is) c.requires.kind in
+    let kind : kind_at S d.kind.place ≡ xdr.hyper = rw (set.schema_is, set.kind_is) c.requires.kind in
     let limit : 8 ≤ d.limits.bytes = subst (λ (l : Bounds). 8 ≤ l.bytes) (sym set.limits_are) c.requires.limit in
     let depth : 1 ≤ d.limits.depth = subst (λ (l : Bounds). 1 ≤ l.depth) (sym set.limits_are) c.requires.depth in
     let fit : FitsWithin S d.kind.place d.limits number = rw kind (refl, (depth, limit)) in

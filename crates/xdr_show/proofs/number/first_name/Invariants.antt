@@ -1,5 +1,5 @@
 use Rattle.std.proofs.Common.{◌≡◌, drop, map}
-use Rattle.xdr_types.specs.Forms.{constant_of}
+use Rattle.xdr_types.specs.KindViews.{constant_of}
 use Rattle.xdr_show.specs.Line.{name_of_number}
 use Rattle.xdr_show.proofs.number.first_name.Given as goal
 

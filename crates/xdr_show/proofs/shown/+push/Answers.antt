@@ -1,7 +1,8 @@
-use Rattle.std.proofs.Common.{refl, ◌≡◌, ◌+◌, ◌≤◌, true, rules, length, map, arith, ap, ◌∙◌, List, option_map, get_or, subst, Some, [], ◌∷◌}
+use Rattle.std.proofs.Common.{refl, ◌≡◌, ◌+◌, ◌≤◌, true, rules, length, map, arith, ap, ◌∙◌, List, option_map, get_or}
+use Rattle.std.proofs.Common.{subst, Some, [], ◌∷◌}
 use Rattle.std.proofs.lemmas.Int.{to_z-of_z}
-use Rattle.xdr_types.specs.Form.{Form}
-use Rattle.xdr_types.specs.Forms.{part_of_member, form_of, branch_of}
+use Rattle.xdr_types.specs.Kinds.{KindView}
+use Rattle.xdr_types.specs.KindViews.{part_of_member, kind_view, branch_of}
 use Rattle.xdr_types.specs.Tree.{Tree, tag, none, from_list, depth_of}
 use Rattle.xdr_types.specs.Fits.{fits, fit, parts, item_part, part_of}
 use Rattle.xdr_types.specs.View.{tree}
@@ -90,11 +91,12 @@ pub push_inner-push_value-requires : goal.push_inner-push_value-requires
 push_inner-push_value-requires t c =
     let S = c.args.schema.now.kinds in
     let part = c.in-Choice-Choice.part in
-    let f = form_of c.args.kind.now in
+    let f = kind_view c.args.kind.now in
     let view = ap tree c.in-Choice-Choice.is-1 ∙ tree-Choice c.in-Choice-Choice.tag part in
     let whole = subst (λ (u : Tree). fit S (parts f u.0) u.1 ≡ true) view c.requires.fits in
-    let chosen = subst (λ (g : Form). fit S (parts g (tag c.in-Choice-Choice.tag)) (from_list (tree part.value ∷ []))
-    ≡ true) (ap form_of c.in-Choice-Choice.is-0) whole in
+    let chosen = subst (λ (g : KindView). fit S (parts g (tag c.in-Choice-Choice.tag))
+    (from_list (tree part.value ∷ []))
+    ≡ true) (ap kind_view c.in-Choice-Choice.is-0) whole in
     let ours : part_of (map branch_of c.in-Choice-Choice.arms.items)
     (option_map part_of_member c.in-Choice-Choice.other) c.in-Choice-Choice.tag
     ≡ Some (part_of_member c.in-Some.member.now) = grind (arith, to_z-of_z, c.in-Some.ensures) in

@@ -1,5 +1,5 @@
 use Rattle.std.proofs.Common.{◌≡◌, ◌+◌, ◌≤◌, ◌++◌, drop, map, true, length, replicate}
-use Rattle.xdr_types.specs.Forms.{part_of_member}
+use Rattle.xdr_types.specs.KindViews.{part_of_member}
 use Rattle.xdr_types.specs.Fits.{fit, item_part}
 use Rattle.xdr_types.specs.Tree.{depth_of}
 use Rattle.xdr_types.specs.View.{values}

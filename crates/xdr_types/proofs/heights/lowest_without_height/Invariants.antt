@@ -1,10 +1,11 @@
 use Rattle.std.proofs.Common.{◌≡◌, ℕ, ◌<◌, ◌-◌, length, map}
-use Rattle.xdr_types.specs.Forms.{form_of}
+use Rattle.xdr_types.specs.KindViews.{kind_view}
 use Rattle.xdr_types.specs.Rounds.{IsMarked, AreHeights}
 use Rattle.xdr_types.proofs.heights.lowest_without_height.Given as goal
 
 abbrev pub invariant-loop : goal.invariant-loop
-invariant-loop l = AreHeights (map form_of l.kinds.items) l.heights.items l.next × (length l.waits.items ≡ length l.kinds.items)
+invariant-loop l = AreHeights (map kind_view l.kinds.items) l.heights.items l.next
+    × (length l.waits.items ≡ length l.kinds.items)
 
 abbrev pub decreases-loop : goal.decreases-loop
 decreases-loop l = length l.kinds.items - l.next

@@ -1,7 +1,7 @@
 use Rattle.std.proofs.Common.{sym, ◌∙◌, subst, arith, map}
 use Rattle.std.proofs.lemmas.List.{length-map}
-use Rattle.xdr_types.specs.Form.{Form}
-use Rattle.xdr_types.specs.Forms.{form_of}
+use Rattle.xdr_types.specs.Kinds.{KindView}
+use Rattle.xdr_types.specs.KindViews.{kind_view}
 use Rattle.xdr_types.specs.Sound.{Asks}
 use Rattle.xdr_types.specs.Rounds.{IsMarked}
 use Rattle.xdr_types.proofs.Heighting.{step}
@@ -12,6 +12,11 @@ pub returns-clause-heights : goal.returns-clause-heights
 returns-clause-heights c =
     let ks = c.args.kinds.now.items in
     let hs = c.args.heights.now.items in
-    step (map form_of ks) hs c.args.next.now c.args.place c.requires.heights (omega (arith, c.requires.within, length-map ks form_of))
-    (none-read hs c.args.place c.index.result.now (omega (arith, c.requires.within, c.requires.heights.lengths, length-map ks form_of)) c.index.ensures (sym c.is_some.ensures ∙ c.if-is_some.false))
-    (subst (λ (f : Form). Asks (map form_of ks) (IsMarked hs) f) (sym (kind-read ks c.args.place c.index-else-is_some-2.result.now c.requires.within c.index-else-is_some-2.ensures)) (c.is_met.ensures.0 c.if-not-is_met.false))
+    step (map kind_view ks) hs c.args.next.now c.args.place c.requires.heights
+    (omega (arith, c.requires.within, length-map ks kind_view))
+    (none-read hs c.args.place c.index.result.now
+    (omega (arith, c.requires.within, c.requires.heights.lengths, length-map ks kind_view)) c.index.ensures
+    (sym c.is_some.ensures ∙ c.if-is_some.false))
+    (subst (λ (f : KindView). Asks (map kind_view ks) (IsMarked hs) f)
+    (sym (kind-read ks c.args.place c.index-else-is_some-2.result.now c.requires.within
+    c.index-else-is_some-2.ensures)) (c.is_met.ensures.0 c.if-not-is_met.false))

@@ -1,10 +1,10 @@
 use Rattle.std.proofs.Common.{◌≡◌, length, map}
-use Rattle.xdr_types.specs.Forms.{form_of}
+use Rattle.xdr_types.specs.KindViews.{kind_view}
 use Rattle.xdr_types.specs.Sets.{AreNumbers}
 use Rattle.xdr_types.proofs.sets.numbers_of_kinds.Given as goal
 
 abbrev pub invariant-loop-kind : goal.invariant-loop-kind
 invariant-loop-kind l = record {
   lengths : length l.numbers.items ≡ l.kind-index;
-  each : AreNumbers (map form_of l.kinds.items) l.numbers.items;
+  each : AreNumbers (map kind_view l.kinds.items) l.numbers.items;
 }

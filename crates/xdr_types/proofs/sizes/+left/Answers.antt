@@ -1,7 +1,8 @@
-use Rattle.std.proofs.Common.{◌≡◌, ◌<◌, true, rules, length, map, arith, ap, ◌∙◌, List, option_map, get_or, subst, Some, [], ◌∷◌}
+use Rattle.std.proofs.Common.{◌≡◌, ◌<◌, true, rules, length, map, arith, ap, ◌∙◌, List, option_map, get_or, subst, Some}
+use Rattle.std.proofs.Common.{[], ◌∷◌}
 use Rattle.std.proofs.lemmas.Int.{to_z-of_z}
-use Rattle.xdr_types.specs.Form.{Form}
-use Rattle.xdr_types.specs.Forms.{part_of_member, form_of, branch_of}
+use Rattle.xdr_types.specs.Kinds.{KindView}
+use Rattle.xdr_types.specs.KindViews.{part_of_member, kind_view, branch_of}
 use Rattle.xdr_types.specs.Tree.{Tree, tag, from_list}
 use Rattle.xdr_types.specs.Fits.{fits, fit, parts, item_part, part_of}
 use Rattle.xdr_types.specs.Spelling.{spelling}
@@ -16,17 +17,24 @@ pub left_after_items-left_after-requires : goal.left_after_items-left_after-requ
 left_after_items-left_after-requires t c =
     let vs : List Value = c.deref-value-items.result.now in
     let fit : fits c.args.schema.now.kinds c.args.id.place (tree c.value-item.result) ≡ true =
-    (first-fits c.args.schema.now.kinds (item_part c.args.id.place) _ _ (tree c.value-item.result) _ _ (items-at (item_part c.args.id.place) vs c.loop-value.value-index c.value-item.result c.loop-value-test.true) (values-at vs c.loop-value.value-index c.value-item.result c.loop-value-test.true c.value-item.is) c.loop-value.invariant.fit).0 in
+    (first-fits c.args.schema.now.kinds (item_part c.args.id.place) _ _ (tree c.value-item.result) _ _
+    (items-at (item_part c.args.id.place) vs c.loop-value.value-index c.value-item.result c.loop-value-test.true)
+    (values-at vs c.loop-value.value-index c.value-item.result c.loop-value-test.true c.value-item.is)
+    c.loop-value.invariant.fit).0 in
     search (rules, the_lemmas)
 
 pub left_after_items-loop-value-preserved : goal.left_after_items-loop-value-preserved
 left_after_items-loop-value-preserved t c =
     let vs : List Value = c.deref-value-items.result.now in
-    let more = items-at (item_part c.args.id.place) vs c.loop-value.value-index c.value-item.result c.loop-value-test.true in
+    let more = items-at (item_part c.args.id.place) vs c.loop-value.value-index c.value-item.result
+    c.loop-value-test.true in
     let next = values-at vs c.loop-value.value-index c.value-item.result c.loop-value-test.true c.value-item.is in
     record {
-      fit = (first-fits c.args.schema.now.kinds (item_part c.args.id.place) _ _ (tree c.value-item.result) _ _ more next c.loop-value.invariant.fit).1;
-      told = let step = length-step c.args.schema.now.kinds (item_part c.args.id.place) _ _ (tree c.value-item.result) _ _ more next in omega (arith, step, c.loop-value.invariant.told, c.in_ok-left.ensures);
+      fit = (first-fits c.args.schema.now.kinds (item_part c.args.id.place) _ _
+          (tree c.value-item.result) _ _ more next c.loop-value.invariant.fit).1;
+      told = let step = length-step c.args.schema.now.kinds (item_part c.args.id.place) _ _
+          (tree c.value-item.result) _ _ more next in omega
+          (arith, step, c.loop-value.invariant.told, c.in_ok-left.ensures);
     }
 
 pub left_after_parts-left_after-requires : goal.left_after_parts-left_after-requires
@@ -34,11 +42,17 @@ left_after_parts-left_after-requires t c =
     let fields = c.args.fields.now in
     let inner = c.args.parts.now in
     let m = c.index.result.now in
-    let same : length fields.items ≡ length inner.items = fit-count c.args.schema.now.kinds fields.items inner.items c.requires in
-    let more = fields-at fields.items c.loop-i.i m (omega (arith, same, c.loop-i-test.true, inner.ok.0, c.deref-value-items.ensures.len)) c.index.ensures in
-    let next = values-at inner.items c.loop-i.i c.value-item.result (omega (arith, same, c.loop-i-test.true, inner.ok.0, c.deref-value-items.ensures.len)) (c.value-item.is ∙ ap (λ (z : List Value). get_or z c.loop-i.i c.value-item.result) c.deref-value-items.ensures.value) in
+    let same : length fields.items ≡ length inner.items =
+    fit-count c.args.schema.now.kinds fields.items inner.items c.requires in
+    let more = fields-at fields.items c.loop-i.i m
+    (omega (arith, same, c.loop-i-test.true, inner.ok.0, c.deref-value-items.ensures.len)) c.index.ensures in
+    let next = values-at inner.items c.loop-i.i c.value-item.result
+    (omega (arith, same, c.loop-i-test.true, inner.ok.0, c.deref-value-items.ensures.len))
+    (c.value-item.is ∙ ap (λ (z : List Value). get_or z c.loop-i.i c.value-item.result)
+    c.deref-value-items.ensures.value) in
     let fit : fits c.args.schema.now.kinds m.kind.place (tree c.value-item.result) ≡ true =
-    (first-fits c.args.schema.now.kinds (part_of_member m) _ _ (tree c.value-item.result) _ _ more next c.loop-i.invariant.fit).0 in
+    (first-fits c.args.schema.now.kinds (part_of_member m) _ _
+    (tree c.value-item.result) _ _ more next c.loop-i.invariant.fit).0 in
     search (rules, the_lemmas)
 
 pub left_after_parts-loop-i-preserved : goal.left_after_parts-loop-i-preserved
@@ -46,12 +60,20 @@ left_after_parts-loop-i-preserved t c =
     let fields = c.args.fields.now in
     let inner = c.args.parts.now in
     let m = c.index.result.now in
-    let same : length fields.items ≡ length inner.items = fit-count c.args.schema.now.kinds fields.items inner.items c.requires in
-    let more = fields-at fields.items c.loop-i.i m (omega (arith, same, c.loop-i-test.true, inner.ok.0, c.deref-value-items.ensures.len)) c.index.ensures in
-    let next = values-at inner.items c.loop-i.i c.value-item.result (omega (arith, same, c.loop-i-test.true, inner.ok.0, c.deref-value-items.ensures.len)) (c.value-item.is ∙ ap (λ (z : List Value). get_or z c.loop-i.i c.value-item.result) c.deref-value-items.ensures.value) in
+    let same : length fields.items ≡ length inner.items =
+    fit-count c.args.schema.now.kinds fields.items inner.items c.requires in
+    let more = fields-at fields.items c.loop-i.i m
+    (omega (arith, same, c.loop-i-test.true, inner.ok.0, c.deref-value-items.ensures.len)) c.index.ensures in
+    let next = values-at inner.items c.loop-i.i c.value-item.result
+    (omega (arith, same, c.loop-i-test.true, inner.ok.0, c.deref-value-items.ensures.len))
+    (c.value-item.is ∙ ap (λ (z : List Value). get_or z c.loop-i.i c.value-item.result)
+    c.deref-value-items.ensures.value) in
     record {
-      fit = (first-fits c.args.schema.now.kinds (part_of_member m) _ _ (tree c.value-item.result) _ _ more next c.loop-i.invariant.fit).1;
-      told = let step = length-step c.args.schema.now.kinds (part_of_member m) _ _ (tree c.value-item.result) _ _ more next in omega (arith, step, c.loop-i.invariant.told, c.in_ok-left.ensures);
+      fit = (first-fits c.args.schema.now.kinds (part_of_member m) _ _
+          (tree c.value-item.result) _ _ more next c.loop-i.invariant.fit).1;
+      told = let step = length-step c.args.schema.now.kinds (part_of_member m) _ _
+          (tree c.value-item.result) _ _ more next in omega
+          (arith, step, c.loop-i.invariant.told, c.in_ok-left.ensures);
     }
 
 pub left_after_inner-returns-in-Fixed-List : goal.left_after_inner-returns-in-Fixed-List
@@ -64,12 +86,17 @@ pub left_after_inner-left_after-requires : goal.left_after_inner-left_after-requ
 left_after_inner-left_after-requires t c =
     let S = c.args.schema.now.kinds in
     let part = c.in-Choice-Choice.part in
-    let f = form_of c.args.kind.now in
+    let f = kind_view c.args.kind.now in
     let at_tree : fit S (parts f (tree c.args.value.now).0) (tree c.args.value.now).1 ≡ true = c.requires in
-    let whole = subst (λ (u : Tree). fit S (parts f u.0) u.1 ≡ true) (ap tree c.in-Choice-Choice.is-1 ∙ tree-Choice c.in-Choice-Choice.tag part) at_tree in
-    let chosen = subst (λ (g : Form). fit S (parts g (tag c.in-Choice-Choice.tag)) (from_list (tree part.value ∷ [])) ≡ true) (ap form_of c.in-Choice-Choice.is-0) whole in
-    let ours : part_of (map branch_of c.in-Choice-Choice.arms.items) (option_map part_of_member c.in-Choice-Choice.other) c.in-Choice-Choice.tag ≡ Some (part_of_member c.in-Some.member.now) = grind (arith, to_z-of_z, c.in-Some.ensures) in
-    let fit : fits S c.in-Some.member.now.kind.place (tree part.value) ≡ true = chosen-fits S _ (part_of_member c.in-Some.member.now) (tree part.value) ours chosen in
+    let whole = subst (λ (u : Tree). fit S (parts f u.0) u.1 ≡ true)
+    (ap tree c.in-Choice-Choice.is-1 ∙ tree-Choice c.in-Choice-Choice.tag part) at_tree in
+    let chosen = subst (λ (g : KindView). fit S (parts g (tag c.in-Choice-Choice.tag))
+    (from_list (tree part.value ∷ [])) ≡ true) (ap kind_view c.in-Choice-Choice.is-0) whole in
+    let ours : part_of (map branch_of c.in-Choice-Choice.arms.items)
+    (option_map part_of_member c.in-Choice-Choice.other) c.in-Choice-Choice.tag ≡ Some
+    (part_of_member c.in-Some.member.now) = grind (arith, to_z-of_z, c.in-Some.ensures) in
+    let fit : fits S c.in-Some.member.now.kind.place (tree part.value) ≡ true =
+    chosen-fits S _ (part_of_member c.in-Some.member.now) (tree part.value) ours chosen in
     search (rules, the_lemmas)
 
 pub left_after_parts-returns-in_err-left : goal.left_after_parts-returns-in_err-left
@@ -77,9 +104,15 @@ left_after_parts-returns-in_err-left t c =
     let fields = c.args.fields.now in
     let inner = c.args.parts.now in
     let m = c.index.result.now in
-    let same : length fields.items ≡ length inner.items = fit-count c.args.schema.now.kinds fields.items inner.items c.requires in
-    let more = fields-at fields.items c.loop-i.i m (omega (arith, same, c.loop-i-test.true, inner.ok.0, c.deref-value-items.ensures.len)) c.index.ensures in
-    let next = values-at inner.items c.loop-i.i c.value-item.result (omega (arith, same, c.loop-i-test.true, inner.ok.0, c.deref-value-items.ensures.len)) (c.value-item.is ∙ ap (λ (z : List Value). get_or z c.loop-i.i c.value-item.result) c.deref-value-items.ensures.value) in
+    let same : length fields.items ≡ length inner.items =
+    fit-count c.args.schema.now.kinds fields.items inner.items c.requires in
+    let more = fields-at fields.items c.loop-i.i m
+    (omega (arith, same, c.loop-i-test.true, inner.ok.0, c.deref-value-items.ensures.len)) c.index.ensures in
+    let next = values-at inner.items c.loop-i.i c.value-item.result
+    (omega (arith, same, c.loop-i-test.true, inner.ok.0, c.deref-value-items.ensures.len))
+    (c.value-item.is ∙ ap (λ (z : List Value). get_or z c.loop-i.i c.value-item.result)
+    c.deref-value-items.ensures.value) in
     let step = length-step c.args.schema.now.kinds (part_of_member m) _ _ (tree c.value-item.result) _ _ more next in
-    let short : c.args.room < length (spelling c.args.schema.now.kinds (map part_of_member fields.items) (values inner.items)) = omega (arith, step, c.loop-i.invariant.told, c.in_err-left.ensures) in
+    let short : c.args.room < length (spelling c.args.schema.now.kinds (map part_of_member fields.items)
+    (values inner.items)) = omega (arith, step, c.loop-i.invariant.told, c.in_err-left.ensures) in
     search (rules, short)

@@ -1,5 +1,5 @@
 use Rattle.std.proofs.Common.{◌≡◌, ◌+◌, drop, map, true, length, replicate}
-use Rattle.xdr_types.specs.Forms.{part_of_member}
+use Rattle.xdr_types.specs.KindViews.{part_of_member}
 use Rattle.xdr_types.specs.Fits.{fit, item_part}
 use Rattle.xdr_types.specs.Spelling.{spelling}
 use Rattle.xdr_types.specs.View.{values}
@@ -11,7 +11,9 @@ invariant-left_after_items-loop-value l =
     let item = item_part l.id.place in
     record {
       fit : fit l.schema.kinds (replicate (length rest) item) (values rest) ≡ true;
-      told : l.left + length (spelling l.schema.kinds (replicate (length l.value-items) item) (values l.value-items)) ≡ l.room + length (spelling l.schema.kinds (replicate (length rest) item) (values rest));
+      told : l.left + length (spelling l.schema.kinds (replicate (length l.value-items) item)
+          (values l.value-items)) ≡ l.room + length
+          (spelling l.schema.kinds (replicate (length rest) item) (values rest));
     }
 
 abbrev pub invariant-left_after_parts-loop-i : goal.invariant-left_after_parts-loop-i
@@ -20,5 +22,6 @@ invariant-left_after_parts-loop-i l =
     let rest = values (drop l.i l.parts.items) in
     record {
       fit : fit l.schema.kinds ps rest ≡ true;
-      told : l.left + length (spelling l.schema.kinds (map part_of_member l.fields.items) (values l.parts.items)) ≡ l.room + length (spelling l.schema.kinds ps rest);
+      told : l.left + length (spelling l.schema.kinds (map part_of_member l.fields.items)
+          (values l.parts.items)) ≡ l.room + length (spelling l.schema.kinds ps rest);
     }

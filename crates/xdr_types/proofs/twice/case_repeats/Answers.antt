@@ -13,7 +13,9 @@ returns-then-branch c =
     let a = c.index-arms-arms.result in
     let s = c.loop-i.later in
     found_arm c.args.arms.now c.loop-i.i a (contains int_cmp s) (omega arith) c.index-arms-arms.is
-    (sym c.if-branch.true ∙ c.in_ok-is_refilled.ensures.again ∙ ap (λ (cs : List ℤ). case_twice cs || some_of (contains int_cmp s) cs) c.deref.ensures.value) c.loop-i.invariant
+    (sym c.if-branch.true ∙ c.in_ok-is_refilled.ensures.again
+    ∙ ap (λ (cs : List ℤ). case_twice cs
+    || some_of (contains int_cmp s) cs) c.deref.ensures.value) c.loop-i.invariant
 
 pub loop-i-preserved : goal.loop-i-preserved
 loop-i-preserved c =
@@ -21,8 +23,10 @@ loop-i-preserved c =
     let s = c.loop-i.later in
     let n = c.is_refilled.new.later in
     next_arm c.args.arms.now c.loop-i.i a (contains int_cmp s) (contains int_cmp n) (omega arith) c.index-arms-arms.is
-    (sym c.if-branch.false ∙ c.in_ok-is_refilled.ensures.again ∙ ap (λ (cs : List ℤ). case_twice cs || some_of (contains int_cmp s) cs) c.deref.ensures.value)
-    (λ z. c.in_ok-is_refilled.ensures.added c.if-branch.false z ∙ ap (λ (cs : List ℤ). is_listed cs z || contains int_cmp s z) c.deref.ensures.value) c.loop-i.invariant
+    (sym c.if-branch.false ∙ c.in_ok-is_refilled.ensures.again
+    ∙ ap (λ (cs : List ℤ). case_twice cs || some_of (contains int_cmp s) cs) c.deref.ensures.value)
+    (λ z. c.in_ok-is_refilled.ensures.added c.if-branch.false z
+    ∙ ap (λ (cs : List ℤ). is_listed cs z || contains int_cmp s z) c.deref.ensures.value) c.loop-i.invariant
 
 pub returns : goal.returns
 returns c = end_arms c.args.arms.now c.loop-i.i (contains int_cmp c.loop-i.later) (omega arith) c.loop-i.invariant

@@ -1,6 +1,6 @@
 use Rattle.std.proofs.Common.{◌-◌, drop, length, map, int_cmp}
 use Rattle.std.specs.BTreeSet.{contains}
-use Rattle.xdr_types.specs.Forms.{branch_of}
+use Rattle.xdr_types.specs.KindViews.{branch_of}
 use Rattle.xdr_types.proofs.Cases.{AreOnce}
 use Rattle.xdr_types.proofs.twice.case_repeats.Given as goal
 

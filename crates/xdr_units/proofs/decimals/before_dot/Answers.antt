@@ -8,7 +8,8 @@ pub returns-then-text-at-eq46 : goal.returns-then-text-at-eq46
 returns-then-text-at-eq46 c = (
   c.loop-at.invariant,
   cut_at c.args.text.now c.loop-at.at c.loop-at-test.true c.if-text-at-eq46.true
-      ∙ ap (λ rest. take c.loop-at.at c.args.text.now ++ 46 ∷ rest) (sym (take_rest c.args.text.now (c.loop-at.at + 1))),
+      ∙ ap (λ rest. take c.loop-at.at c.args.text.now ++ 46 ∷ rest)
+      (sym (take_rest c.args.text.now (c.loop-at.at + 1))),
 )
 
 pub returns : goal.returns

@@ -17,30 +17,30 @@ pub record Constant : Type 0 where
   pub number : ℤ
 
 -- the kinds (RFC 4506 sections 4.1 to 4.19)
-pub data Form : Type 0 where
-  int : Form
-  unsigned : Form
-  hyper : Form
-  unsigned_hyper : Form
-  boolean : Form
-  numbered : (members : List Constant) → Form
-  opaque : (size : ℕ) → Form
-  opaque_up_to : (max : ℕ) → Form
-  text : (max : ℕ) → Form
-  fixed : (item size : ℕ) → Form
-  up_to : (item max : ℕ) → Form
-  structure : (fields : List Part) → Form
-  choice : (tag : ℕ) → (arms : List Branch) → (other : Option Part) → Form
-  maybe : (item : ℕ) → Form
-  nothing : Form
+pub data KindView : Type 0 where
+  int : KindView
+  unsigned : KindView
+  hyper : KindView
+  unsigned_hyper : KindView
+  boolean : KindView
+  numbered : (members : List Constant) → KindView
+  opaque : (size : ℕ) → KindView
+  opaque_up_to : (max : ℕ) → KindView
+  text : (max : ℕ) → KindView
+  fixed : (item size : ℕ) → KindView
+  up_to : (item max : ℕ) → KindView
+  structure : (fields : List Part) → KindView
+  choice : (tag : ℕ) → (arms : List Branch) → (other : Option Part) → KindView
+  maybe : (item : ℕ) → KindView
+  nothing : KindView
   -- no kind: what stands at a place outside the list
-  unknown : Form
+  unknown : KindView
 
 -- a schema: kinds that name one another by place, and names for some of them
 pub record Lists : Type 0 where
-  pub kinds : List Form
+  pub kinds : List KindView
   pub names : List Part
 
 -- the kind at a place
-abbrev pub kind_at : List Form → ℕ → Form
+abbrev pub kind_at : List KindView → ℕ → KindView
 kind_at kinds place = slice_index_or kinds place unknown

@@ -1,8 +1,8 @@
--- The form that a `Kind` stands for, and the lists of a schema.
+-- The kind that a `Kind` stands for, and the lists of a schema.
 use Rattle.std.specs.Prelude.{ℤ, List, map, option_map, String, string_bytes}
 use Rattle.std.specs.declared.alloc.Global.{Global}
-use Rattle.xdr_types.specs.Form as form
-use Rattle.xdr_types.specs.Form.{Form, Part, Branch, Constant, Lists}
+use Rattle.xdr_types.specs.Kinds as xdr
+use Rattle.xdr_types.specs.Kinds.{KindView, Part, Branch, Constant, Lists}
 use Rattle.xdr_types.specs.declared.kind.Kind.{Kind}
 use Rattle.xdr_types.specs.declared.kind.Kind.TheVariants as kinds
 use Rattle.xdr_types.specs.declared.kind.Member.{Member}
@@ -26,23 +26,24 @@ abbrev pub name_of : String Global × KindId → Part
 name_of entry = record { name = string_bytes entry.0; kind = entry.1.place }
 
 -- a kind, case by case
-abbrev pub form_of : Kind → Form
-form_of kinds.Int = form.int
-form_of kinds.Unsigned = form.unsigned
-form_of kinds.Hyper = form.hyper
-form_of kinds.UnsignedHyper = form.unsigned_hyper
-form_of kinds.Bool = form.boolean
-form_of (kinds.Numbered members) = form.numbered (map constant_of members.items)
-form_of (kinds.Opaque size) = form.opaque size
-form_of (kinds.OpaqueUpTo max) = form.opaque_up_to max
-form_of (kinds.Text max) = form.text max
-form_of (kinds.Fixed item size) = form.fixed item.place size
-form_of (kinds.UpTo item max) = form.up_to item.place max
-form_of (kinds.Structure fields) = form.structure (map part_of_member fields.items)
-form_of (kinds.Choice tag arms other) = form.choice tag.place (map branch_of arms.items) (option_map part_of_member other)
-form_of (kinds.Maybe item) = form.maybe item.place
-form_of kinds.Nothing = form.nothing
+abbrev pub kind_view : Kind → KindView
+kind_view kinds.Int = xdr.int
+kind_view kinds.Unsigned = xdr.unsigned
+kind_view kinds.Hyper = xdr.hyper
+kind_view kinds.UnsignedHyper = xdr.unsigned_hyper
+kind_view kinds.Bool = xdr.boolean
+kind_view (kinds.Numbered members) = xdr.numbered (map constant_of members.items)
+kind_view (kinds.Opaque size) = xdr.opaque size
+kind_view (kinds.OpaqueUpTo max) = xdr.opaque_up_to max
+kind_view (kinds.Text max) = xdr.text max
+kind_view (kinds.Fixed item size) = xdr.fixed item.place size
+kind_view (kinds.UpTo item max) = xdr.up_to item.place max
+kind_view (kinds.Structure fields) = xdr.structure (map part_of_member fields.items)
+kind_view (kinds.Choice tag arms other) =
+    xdr.choice tag.place (map branch_of arms.items) (option_map part_of_member other)
+kind_view (kinds.Maybe item) = xdr.maybe item.place
+kind_view kinds.Nothing = xdr.nothing
 
 -- the lists that a schema was made of
 abbrev pub lists_of : List Kind → List (String Global × KindId) → Lists
-lists_of ks names = record { kinds = map form_of ks; names = map name_of names }
+lists_of ks names = record { kinds = map kind_view ks; names = map name_of names }
