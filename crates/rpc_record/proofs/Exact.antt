@@ -3,11 +3,11 @@ use Rattle.std.proofs.Common.{◌≡◌, ℕ, ◌+◌, ◌^◌, ◌<◌, ◌≤�
 use Rattle.std.proofs.Common.{ap, ◌∙◌, subst, append_assoc, length-append, arith}
 use Rattle.std.specs.List.{flat_map, concat}
 use Rattle.std.proofs.lemmas.List.{append-nil, nil_from_length}
-use Rattle.rpc_record.specs.Marked.{header, fragment, IsContent, Stream, Longest, OneLongest}
+use Rattle.rpc_record.specs.Marked.{header, fragment, IsContent, Stream, OneLongest}
 use Rattle.rpc_record.specs.declared.place.Place.{Place}
 use Rattle.rpc_record.specs.declared.place.Place.TheVariants as place
 use Rattle.rpc_record.specs.declared.reader.RecordReader.{RecordReader}
-use Rattle.rpc_record.specs.Reading.{Upto, TooLongAt, HasNoLong, WholeHasNoLong}
+use Rattle.rpc_record.specs.Reading.{Upto, TooLongAt, WholeHasNoLong}
 use Rattle.rpc_record.specs.Fields.{StandsAt, IsTakingAt, begun_bytes}
 use Rattle.rpc_record.specs.Reading.{capped}
 use Rattle.rpc_record.specs.Stands.{Stands, IsTaking, limit_of}

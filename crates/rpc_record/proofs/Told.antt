@@ -3,17 +3,16 @@ use Rattle.std.proofs.Common.{◌≡◌, ℕ, ◌+◌, ◌-◌, ◌≤◌, List,
 use Rattle.std.proofs.Common.{◌∙◌, subst, append_assoc, length-append, arith}
 use Rattle.std.proofs.lemmas.List.{append-nil, take_rest, take-append-drop}
 use Rattle.xdr_io.proofs.Chained.{take-add}
-use Rattle.rpc_record.specs.Marked.{Longest}
 use Rattle.rpc_record.specs.declared.place.Place.{Place}
 use Rattle.rpc_record.specs.declared.place.Place.TheVariants as place
 use Rattle.rpc_record.specs.declared.fault.RecordFault.{RecordFault}
 use Rattle.rpc_record.specs.declared.fault.RecordFault.TheVariants as fault
 use Rattle.rpc_record.specs.declared.fault.RecordStep.TheVariants as step
 use Rattle.rpc_record.specs.declared.reader.RecordReader.{RecordReader}
-use Rattle.rpc_record.specs.Reading.{IsWhole, IsInside, Begins, HasNoLong, TooLongAt, RefusedIn, Faulty, FaultyIn}
+use Rattle.rpc_record.specs.Reading.{IsWhole, IsInside, TooLongAt, RefusedIn, Faulty, FaultyIn}
 use Rattle.rpc_record.specs.Fields.{IsBrokenAt, IsTakingAt, StandsAt}
 use Rattle.rpc_record.specs.Private.Steps.{IsSteppedAt, IsFedAt}
-use Rattle.rpc_record.specs.Reading.{IsFeedFault, capped}
+use Rattle.rpc_record.specs.Reading.{capped}
 use Rattle.rpc_record.specs.Stands.{Stands, IsTaking, IsWaiting, IsBroken, Takes, Tells}
 use Rattle.rpc_record.specs.Private.Steps.{IsStepped, IsFed, Refuses}
 use Rattle.rpc_record.specs.Stands.{Concludes, limit_of}
@@ -106,12 +105,12 @@ Tells-broken old new f n piece e b k r bytes rs h =
 pub Concludes-between : (reader : RecordReader) (u : Unit {0}) → reader.place ≡ place.Between → Concludes reader (Ok u)
 Concludes-between reader u e bytes rs h =
     let s = subst (λ p. StandsAt reader.limit p reader.content.items reader.taken bytes rs) e h in
-    ([], (omega arith, subst (λ x. IsWhole reader.limit x bytes) (sym (append-nil rs)) s.1))
+    ([], (omega arith, subst (λ x. IsWhole reader.limit x bytes) (sym (append-nil rs)) s.1, λ taking. refl))
 
 pub Concludes-waiting : (reader : RecordReader) (u : Unit {0}) → IsWaiting reader → Concludes reader (Ok u)
 Concludes-waiting reader u w bytes rs h = (
   reader.content.items ∷ [],
-  (omega arith, (Stands-waiting reader bytes rs w h).0),
+  (omega arith, (Stands-waiting reader bytes rs w h).0, λ taking. absurd (subst IsTakingAt w taking)),
 )
 
 not_broken : (p : Place) (f : RecordFault) → IsTakingAt p → IsBrokenAt p f → ⊥

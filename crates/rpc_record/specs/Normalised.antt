@@ -24,8 +24,7 @@ pub record Normalised (limit : ℕ) (left left' taken taken' : Option (List ℕ)
   pub counted : IsCount count rs
 
 -- What a fault says of what was read, and what was written. Where memory was refused it was in the last 4096 bytes, the
--- most
--- that a read gives.
+-- most that a read gives.
 abbrev pub StopsBy : ℕ → List (List ℕ) → List ℕ → Option (List ℕ) → Option (List ℕ) → Option (List ℕ) → RecordFault
     → Type 0
 StopsBy limit rs input left' taken taken' (fault.TooLong at) =

@@ -1,5 +1,5 @@
 -- What stands in bytes that are read as records: whole ones, some of the next, and where a fault comes.
-use Rattle.std.specs.Prelude.{◌≡◌, ℕ, ◌+◌, ◌-◌, ◌^◌, ◌<◌, ◌≤◌, min, Bool, false, List, [], ◌∷◌, ◌++◌, length, All}
+use Rattle.std.specs.Prelude.{◌≡◌, ℕ, ◌+◌, ◌-◌, ◌^◌, ◌<◌, ◌≤◌, min, Bool, false, List, ◌++◌, length, All}
 use Rattle.std.specs.List.{flat_map, concat}
 use Rattle.rpc_record.specs.Marked.{header, fragment, IsContent, Stream, Within, IsUnfinished, Longest}
 use Rattle.rpc_record.specs.declared.fault.RecordFault.{RecordFault}

@@ -95,11 +95,13 @@ abbrev pub Ends : RecordReader → RecordReader → Result (Unit {0}) RecordFaul
 Ends old new (Ok u) = (IsBetween old ⊎ IsWaiting old) × (new ≡ old)
 Ends old new (Err f) = IsBroken new f × Takes old new [] × (IsBroken old f ⊎ (IsTaking old × TruncatedAt old f))
 
--- What the answer to the input's end says of the bytes taken. Ok: they are the records handed out and at most one more.
+-- What the answer to the input's end says of the bytes taken. Ok: they are the records handed out and at most one more,
+-- which waits; so where bytes are taken, no more.
 -- A fault: what it says of them, and where none had come before that it is `Truncated` at their count, inside a record.
 abbrev pub Concludes : RecordReader → Result (Unit {0}) RecordFault → Type 0
 Concludes old (Ok u) =
-    Always old (λ rs bytes. (waits : List (List ℕ)) × ((length waits ≤ 1) × IsWhole old.limit (rs ++ waits) bytes))
+    Always old (λ rs bytes. (waits : List (List ℕ))
+    × ((length waits ≤ 1) × IsWhole old.limit (rs ++ waits) bytes × (IsTaking old → waits ≡ [])))
 Concludes old (Err f) =
     Always old (λ rs bytes. Faulty old.limit rs f bytes
     × (IsTaking old → (f ≡ fault.Truncated (capped (length bytes))) × IsInside old.limit rs bytes))

@@ -1,5 +1,5 @@
 //! The normal form of a stream of records.
-ghost use Rattle.std.specs.Prelude.{◌≡◌, ◌≤◌, ℕ, List, [], IfOk, IfErr, OnOk, OnErr, IsErrOf};
+ghost use Rattle.std.specs.Prelude.{◌≡◌, ◌≢◌, ◌≤◌, ℕ, List, [], IfOk, IfErr, OnOk, OnErr, IsErrOf};
 ghost use Rattle.xdr_io.specs.Told.{Counts, CountsAtMost};
 ghost use Rattle.rpc_record.specs.Stands.{Stands, IsTaking, IsWaiting, limit_of};
 ghost use Rattle.rpc_record.specs.Normalised.{Normalised, Stops, WriteFails};
@@ -91,7 +91,8 @@ fn pass_on<W: Sink>(
 /// records. `TooLong`, `Truncated`, `Read` and `NoMemory` come after the records before were written, and so does
 /// `TooManyReads`, where 1048576 reads did not reach the end: of `NoMemory` these are the whole records before the one
 /// that memory was refused for. After `Write` the first `written` bytes of that output went out, though more records
-/// may have been whole. The records that come whole in one read go out together.
+/// may have been whole. After any answer but `Read` no read failed. The records that come whole in one read go out
+/// together.
 pub fn normalise<R: Source, W: Sink>(
     alloc: Global,
     reader: &mut R,
@@ -104,6 +105,8 @@ pub fn normalise<R: Source, W: Sink>(
     ensures fault { IfErr result (λ f.
         Stops limit (R.left reader.old) (R.left reader.new) (W.taken writer.old) (W.taken writer.new) f) }
     ensures read { IsErrOf result RecordFault.Read → Counts 1 (R.failures reader.old) (R.failures reader.new) }
+    ensures unfailed { IfErr result (λ f.
+        f ≢ RecordFault.Read → Counts 0 (R.failures reader.old) (R.failures reader.new)) }
     ensures reads { CountsAtMost 1048576 (R.reads reader.old) (R.reads reader.new) }
     ensures many { IsErrOf result RecordFault.TooManyReads → Counts 1048576 (R.reads reader.old) (R.reads reader.new) }
     ensures write { IfErr result (λ f. WriteFails f (W.failures writer.old) (W.failures writer.new)) }

@@ -22,7 +22,7 @@ pub struct RecordReader {
 }
 
 impl RecordReader {
-    ghost use Rattle.std.specs.Prelude.{◌≡◌, ◌<◌, ◌++◌, ◌↔◌, ℕ, List, [], ◌∷◌, length, take, IsTrue};
+    ghost use Rattle.std.specs.Prelude.{◌≡◌, ◌<◌, ◌++◌, ◌↔◌, ℕ, List, [], ◌∷◌, length, take, IsTrue, IfSome};
     ghost use Rattle.rpc_record.specs.Stands.{Stands, Always, IsTaking, IsWaiting, IsBroken, limit_of};
     ghost use Rattle.rpc_record.specs.Stands.{Takes, Feeds, Tells, Stays, Hands, Ends, Concludes};
     ghost use Rattle.rpc_record.specs.Private.Steps.{Refuses, IsFed, IsStepped};
@@ -144,10 +144,13 @@ impl RecordReader {
         self.content.len()
     }
 
-    /// Hands out the record that waits, and the next begins. None where none waits, which changes nothing.
+    /// Hands out the record that waits, whose last byte is the last that was taken, and the next begins. None where
+    /// none waits, which changes nothing.
     pub fn take(&mut self) -> Option<Vec<u8>>
         ensures limit { limit_of self.new ≡ limit_of self.old }
         ensures hands { Hands self.old self.new result }
+        ensures content { IfSome result (λ v.
+            Always self.old (λ rs bytes. IsWhole (limit_of self.old) (rs ++ v.items ∷ []) bytes)) }
     {
         if let Place::Whole = self.place {
             self.place = Place::Between;
