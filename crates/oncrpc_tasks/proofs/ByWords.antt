@@ -2,7 +2,8 @@
 use Rattle.std.proofs.Common.{◌≡◌, ◌⊎◌, ℕ, Bool, List, Option, inl, inr, ap, subst}
 use Rattle.xdr_io.specs.Told.{MovesAtMost}
 use Rattle.oncrpc_tasks.specs.declared.task.ValueTask.{ValueTask}
-use Rattle.oncrpc_tasks.specs.Ends.{OfValue, OfWords, Tells, TaskEnds, PrintsInPart}
+use Rattle.oncrpc_tasks.specs.declared.failure.Failure.{Failure}
+use Rattle.oncrpc_tasks.specs.Ends.{OfValue, OfWords, Tells, TaskEnds, PrintsInPart, Fails}
 use Rattle.oncrpc_tasks.specs.Input.{most_read}
 use Rattle.oncrpc_tasks.specs.Right.{Question}
 use Rattle.oncrpc_tasks.specs.Sources.{IsTold, told_text}
@@ -10,11 +11,11 @@ use Rattle.oncrpc_tasks.specs.Tasks.{Asks}
 
 in_part_by_words : (told : List ℕ → Option (List ℕ)) (what : ValueTask) (shows : Bool) (q : Question) (text : List ℕ)
     → IsTold (told_text told what.types) text → Asks text what shows q → (u : Type 0)
-    (left left' taken taken' : Option (List ℕ))
-    → PrintsInPart (OfValue q what.hex) u left left' taken taken' → PrintsInPart
-    (OfWords told what shows) u left left' taken taken'
-in_part_by_words told what shows q text is_told asks u left left' taken taken' (inl h) = inl h
-in_part_by_words told what shows q text is_told asks u left left' taken taken' (inr h) =
+    (fails : Failure → Type 0) (left left' taken taken' : Option (List ℕ))
+    → PrintsInPart (OfValue q what.hex) u fails left left' taken taken' → PrintsInPart
+    (OfWords told what shows) u fails left left' taken taken'
+in_part_by_words told what shows q text is_told asks u fails left left' taken taken' (inl h) = inl h
+in_part_by_words told what shows q text is_told asks u fails left left' taken taken' (inr h) =
     inr (record { text = text; is_told = is_told; question = q; asked = asks; answered = h })
 
 device_by_words : (file x y d : Type 0) → (⊥ × x × y) ⊎ d → (file × x × y) ⊎ d
@@ -36,7 +37,7 @@ by_words told what shows q file tells i i' o o' fs fs' s text is_told asks e = r
   silent = e.silent;
   unasked = λ two. absurd (e.unasked two).0;
   device = λ three. device_by_words file (i' ≡ i) (o' ≡ o) _ (e.device three);
-  in_part = λ three. in_part_by_words told what shows q text is_told asks (o' ≡ o)
+  in_part = λ three. in_part_by_words told what shows q text is_told asks (o' ≡ o) (Fails tells i i' o o')
       (tells.left i) (tells.left i') (tells.taken o) (tells.taken o') (e.in_part three);
   wanting = e.wanting;
   few_reads = e.few_reads;

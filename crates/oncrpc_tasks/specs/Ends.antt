@@ -65,14 +65,17 @@ abbrev pub IsFormInPart : ℕ → (left taken taken' : Option (List ℕ)) → Ty
 IsFormInPart limit None taken taken' = ⊤
 IsFormInPart limit (Some text) taken taken' = FormInPart limit text taken taken'
 
--- what was printed where a device failed: nothing, or the beginning of what is right
-abbrev pub PrintsInPart : Asked → (unprinted : Type 0) → (left left' taken taken' : Option (List ℕ)) → Type 0
-PrintsInPart (OfValue q hex) unprinted left left' taken taken' = unprinted ⊎ AnswersInPart q hex left taken taken'
-PrintsInPart (OfWords told what shows) unprinted left left' taken taken' =
+-- What was printed where a device failed: nothing, or the beginning of what is right. Of records, what came whole before
+-- the failure, which is told.
+abbrev pub PrintsInPart : Asked → (unprinted : Type 0) → (fails : Failure → Type 0) → (left left' taken taken' : Option (List ℕ))
+    → Type 0
+PrintsInPart (OfValue q hex) unprinted fails left left' taken taken' = unprinted ⊎ AnswersInPart q hex left taken taken'
+PrintsInPart (OfWords told what shows) unprinted fails left left' taken taken' =
     unprinted ⊎ IsAnsweredInPart told what shows left taken taken'
-PrintsInPart (OfRecords limit true) unprinted left left' taken taken' = unprinted ⊎ IsFormInPart limit left taken taken'
-PrintsInPart (OfRecords limit false) unprinted left left' taken taken' =
-    (f : Failure) × StopsFor f limit left left' taken taken'
+PrintsInPart (OfRecords limit true) unprinted fails left left' taken taken' =
+    unprinted ⊎ IsFormInPart limit left taken taken'
+PrintsInPart (OfRecords limit false) unprinted fails left left' taken taken' =
+    (f : Failure) × fails f × StopsFor f limit left left' taken taken'
 
 -- What was printed where memory was refused: nothing of a value. Of records, what came whole before, or all that comes
 -- before the line of a refusal.
@@ -88,11 +91,6 @@ PrintsAtWant (OfRecords limit false) unprinted left left' taken taken' =
 abbrev pub IsSilent : Asked → ℕ → Type 0
 IsSilent (OfRecords limit hex) status = status ≡ 0
 IsSilent _ status = status ≤ 1
-
--- the statuses at which no read failed
-abbrev pub IsAllRead : Asked → ℕ → Type 0
-IsAllRead (OfRecords limit false) status = status ≡ 0
-IsAllRead _ status = status ≤ 1
 
 -- why nothing is asked
 abbrev pub AsksNone : Asked → Type 0
@@ -116,21 +114,29 @@ pub record Tells (I O : Type 0) : Type 0 where
   pub taken : O → Option (List ℕ)
   pub lost : O → Option ℕ
 
+-- how a device's failure is told: a read that failed, a write that failed, or as many reads as there may be
+abbrev pub Fails : {I O : Type 0} → Tells I O → (input input' : I) → (output output' : O) → Failure → Type 0
+Fails tells input input' output output' failure.Read = Counts 1 (tells.failures input) (tells.failures input')
+Fails tells input input' output output' failure.Write = Counts 1 (tells.lost output) (tells.lost output')
+Fails tells input input' output output' failure.TooManyReads =
+    Counts 1048576 (tells.reads input) (tells.reads input')
+Fails tells input input' output output' failure.NoMemory = ⊥
+
 -- What a status says of the input, the output and the writer for faults. `file` says that declarations were not read.
 pub record TaskEnds {I O F : Type 0} (asked : Asked) (file : Type 0) (tells : Tells I O) (input input' : I)
     (output output' : O) (faults faults' : F) (status : ℕ) : Type 0 where
   pub known : status ≤ 4
   pub printed : status ≤ 1 → Prints asked (tells.left input) (tells.left input') (tells.taken output)
       (tells.taken output') status
-  pub unfailed : IsAllRead asked status → Counts 0 (tells.failures input) (tells.failures input')
+  pub unfailed : status ≤ 1 → Counts 0 (tells.failures input) (tells.failures input')
   pub unlost : status ≤ 1 → Counts 0 (tells.lost output) (tells.lost output')
   pub silent : IsSilent asked status → faults' ≡ faults
   pub unasked : status ≡ 2 → AsksNone asked × (input' ≡ input) × (output' ≡ output)
   pub device : status ≡ 3 → (file × (input' ≡ input) × (output' ≡ output))
       ⊎ (Counts 1 (tells.failures input) (tells.failures input')
       ⊎ (Counts 1 (tells.lost output) (tells.lost output') ⊎ Counts 1048576 (tells.reads input) (tells.reads input')))
-  pub in_part : status ≡ 3 → PrintsInPart asked (output' ≡ output) (tells.left input) (tells.left input')
-      (tells.taken output) (tells.taken output')
+  pub in_part : status ≡ 3 → PrintsInPart asked (output' ≡ output) (Fails tells input input' output output')
+      (tells.left input) (tells.left input') (tells.taken output) (tells.taken output')
   pub wanting : status ≡ 4 → PrintsAtWant asked (output' ≡ output) (tells.left input) (tells.left input')
       (tells.taken output) (tells.taken output')
   pub few_reads : CountsAtMost 1048576 (tells.reads input) (tells.reads input')

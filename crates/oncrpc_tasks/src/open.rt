@@ -71,7 +71,8 @@ impl<'a> Opener for MemoryOpener<'a> {
         ensures other { IfErr result (λ _. bytes_eq name.now self.old.name.now ≡ false) }
         ensures none_failed { OnOk result (Counts 0 (told_count self.old.failures) (told_count self.new.failures)) }
         ensures failed { OnErr result (Counts 1 (told_count self.old.failures) (told_count self.new.failures)) }
-        ensures gives { IfOk result (λ text. (text.piece ≡ self.old.piece) × (text.failing ≡ self.old.failing)) }
+        ensures gives { IfOk result (λ text. (text.piece ≡ self.old.piece) × (text.failing ≡ self.old.failing)
+            × (⟦<MemorySource<'a> as Source>⟧.reads text ≡ Some 0)) }
         ensures same { (self.new.name ≡ self.old.name) × (self.new.text ≡ self.old.text)
             × (self.new.piece ≡ self.old.piece) × (self.new.failing ≡ self.old.failing) }
     {

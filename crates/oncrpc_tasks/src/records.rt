@@ -110,7 +110,7 @@ fn mark_bytes<I: Source, O: Sink>(
     requires { limit ≤ 2147483647 }
     ensures marks { IfOk result (λ m.
         Marks limit (I.left input.old) (I.left input.new) (O.taken output.old) (O.taken output.new) m) }
-    ensures unfailed { IfOk result (λ m. m ≡ Marking.Whole → Counts 0 (I.failures input.old) (I.failures input.new)) }
+    ensures unfailed { OnOk result (Counts 0 (I.failures input.old) (I.failures input.new)) }
     ensures unlost { OnOk result (Counts 0 (O.failures output.old) (O.failures output.new)) }
     ensures stopped { IfErr result (λ f.
         StopsFor f limit (I.left input.old) (I.left input.new) (O.taken output.old) (O.taken output.new)) }

@@ -1,5 +1,5 @@
 //! Words that ask for no task: refused ones, and those that ask for help.
-ghost use Rattle.std.specs.Prelude.{◌≡◌, ◌≢◌, ◌≤◌, ◌⊎◌, [], string_bytes};
+ghost use Rattle.std.specs.Prelude.{◌≡◌, ◌≢◌, ◌<◌, ◌≤◌, ◌⊎◌, ℕ, [], length, take, string_bytes};
 ghost use Rattle.std.specs.Io.KnownBytes.{Appends};
 ghost use Rattle.xdr_io.specs.Told.{Counts};
 
@@ -44,7 +44,7 @@ pub fn fault_of(alloc: Global, error: &Error) -> WordsFault
 }
 
 /// Prints why there is no task, and gives the exit status. Help goes to the output, and where that cannot be written
-/// the status is 3; what is wrong with the words, and want of memory, go to `faults`, where that can be done.
+/// the status is 3, after the first bytes of the text; what is wrong with the words, and want of memory, go to `faults`, where that can be done.
 pub fn print_words_fault<O: Sink, F: Sink>(fault: &WordsFault, output: &mut O, faults: &mut F) -> u8
     ensures some_status { result ≤ 4 }
     ensures helped { fault.now.status ≡ 0 → (result ≡ 0) ⊎ (result ≡ 3) }
@@ -52,6 +52,8 @@ pub fn print_words_fault<O: Sink, F: Sink>(fault: &WordsFault, output: &mut O, f
     ensures wanting { fault.now.status ≡ 4 → result ≡ 4 }
     ensures printed { result ≡ 0 → Appends (O.taken output.old) (O.taken output.new) (string_bytes fault.now.text) }
     ensures device { result ≡ 3 → Counts 1 (O.failures output.old) (O.failures output.new) }
+    ensures in_part { result ≡ 3 → (count : ℕ) × (count < length (string_bytes fault.now.text))
+        × Appends (O.taken output.old) (O.taken output.new) (take count (string_bytes fault.now.text)) }
     ensures unprinted { fault.now.status ≢ 0 → output.new ≡ output.old }
 {
     match fault.status {

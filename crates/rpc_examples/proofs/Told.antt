@@ -1,7 +1,7 @@
 -- What stands in the bytes of the examples.
 use Rattle.std.proofs.Common.{◌≡◌, ◌≢◌, ℕ, ◌<◌, ◌^◌, List, [], ◌∷◌, ◌++◌, length, get_or, Bool, true, false, Result, Ok}
 use Rattle.std.proofs.Common.{Err, refl, sym, ap, subst, ◌∙◌, arith, inl, inr}
-use Rattle.std.specs.Prelude.{OnErr, IfOk, IsOk, IsErr}
+use Rattle.std.specs.Prelude.{OnErr, IsOk}
 use Rattle.xdr_units.specs.Numbers.{word, padded}
 use Rattle.xdr_units.proofs.Bytes.{same_word}
 use Rattle.rpc_message.specs.Message.{AuthView, CallView, ReplyView, Accepted, Denied}
@@ -63,7 +63,7 @@ null_front rest = 0 ∷ 0 ∷ 0 ∷ 1 ∷ 0 ∷ 0 ∷ 0 ∷ 0 ∷ 0 ∷ 0 ∷ 0 
 nothing_is_no_auth : NoAuth []
 nothing_is_no_auth = λ a rest fits e. let size : 0 ≡ length (auth a ++ rest) = ap length e in absurd cc
 
-long_is_no_auth : NoAuth (word 0 ++ word 401)
+pub long_is_no_auth : NoAuth (word 0 ++ word 401)
 long_is_no_auth = λ a rest fits e.
     let parts : word 0 ++ (word 401 ++ []) ≡ word a.flavor ++ (word (length a.body) ++ (padded a.body ++ rest)) = e in
     let behind = (same_word 0 a.flavor (word 401 ++ []) (word (length a.body) ++ (padded a.body ++ rest))
@@ -89,27 +89,22 @@ missing_credential bytes e = no_credential bytes [] e nothing_is_no_auth
 pub long_credential : (bytes : List ℕ) → bytes ≡ null_front (word 0 ++ word 401) → IsBadCred 1 bytes
 long_credential bytes e = no_credential bytes (word 0 ++ word 401) e long_is_no_auth
 
-pub missing_verifier : (bytes : List ℕ) → bytes ≡ null_front (word 0 ++ word 0) → IsBadVerf 1 bytes
-missing_verifier bytes e = record {
+no_verifier : (bytes rest : List ℕ) → bytes ≡ null_front (word 0 ++ (word 0 ++ rest)) → NoAuth rest → IsBadVerf 1 bytes
+no_verifier bytes rest e bad = record {
   prog = 100000;
   vers = 2;
   proc = 0;
   cred = record { flavor = 0; body = [] };
-  rest = [];
+  rest = rest;
   fits = (omega arith, omega arith, omega arith, omega arith);
   cred_fits = record { flavor = omega arith; short = omega arith };
   parts = e;
-  bad = nothing_is_no_auth;
+  bad = bad;
 }
 
--- the second word of a reply is 1
-type_is_one : (r : ReplyView) (bytes : List ℕ) → ReplyBytes r bytes → get_or bytes 7 0 ≡ 1
-type_is_one (Accepted xid verf s) bytes h = ap (λ (t : List ℕ). get_or t 7 0) h.parts
-type_is_one (Denied xid w) bytes h = ap (λ (t : List ℕ). get_or t 7 0) h.parts
+pub missing_verifier : (bytes : List ℕ) → bytes ≡ null_front (word 0 ++ word 0) → IsBadVerf 1 bytes
+missing_verifier bytes e = no_verifier bytes [] e nothing_is_no_auth
 
-pub no_reply : (r : Result Reply ReplyFault) (bytes : List ℕ) → bytes ≡ 0 ∷ 0 ∷ 0 ∷ 1 ∷ 0 ∷ 0 ∷ 0 ∷ 0 ∷ []
-    → IfOk r (λ x. ReplyBytes (reply_view x) bytes) → IsErr r
-no_reply (Err f) bytes e h = refl
-no_reply (Ok x) bytes e h =
-    let zero_is : get_or bytes 7 0 ≡ 0 = ap (λ (t : List ℕ). get_or t 7 0) e in
-    absurd (omega (arith, zero_is, type_is_one (reply_view x) bytes h))
+pub long_verifier : (bytes : List ℕ) → bytes ≡ null_front (word 0 ++ (word 0 ++ (word 0 ++ word 401)))
+    → IsBadVerf 1 bytes
+long_verifier bytes e = no_verifier bytes (word 0 ++ word 401) e long_is_no_auth

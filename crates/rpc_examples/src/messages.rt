@@ -1,6 +1,6 @@
 //! Calls, replies and AUTH_SYS bodies: what bytes are read as which message, and what is written.
 ghost use Rattle.std.specs.Prelude.{◌≡◌, ◌≢◌, ◌≤◌, [], ◌∷◌, ◌++◌, Some, length, option_map};
-ghost use Rattle.std.specs.Prelude.{IfOk, OnOk, IfErr, IfSome, IsOk, IsErr};
+ghost use Rattle.std.specs.Prelude.{◌⊎◌, IfOk, OnOk, OnErr, IfErr, IfSome, IsOk, MatchResult};
 ghost use Rattle.rpc_message.specs.Message.{CaseView, Whole, OtherVersion, BadCred, BadVerf, NotACall};
 ghost use Rattle.rpc_message.specs.Cases.{IsCase};
 ghost use Rattle.rpc_message.specs.View.{call_view, case_view, lent_case_view, reply_view, auth_sys_view, HasShortVerf};
@@ -126,6 +126,16 @@ pub fn tells_the_missing_verifier(alloc: Global, bytes: &[u8]) -> Result<CallRea
     read_call(alloc, bytes)
 }
 
+/// A verifier of 401 bytes is told too.
+pub fn tells_the_long_verifier(alloc: Global, bytes: &[u8]) -> Result<CallRead, NoMemory>
+    requires { bytes.now ≡
+        0 ∷ 0 ∷ 0 ∷ 1 ∷ 0 ∷ 0 ∷ 0 ∷ 0 ∷ 0 ∷ 0 ∷ 0 ∷ 2 ∷ 0 ∷ 1 ∷ 134 ∷ 160 ∷ 0 ∷ 0 ∷ 0 ∷ 2 ∷ 0 ∷ 0 ∷ 0 ∷ 0 ∷
+        0 ∷ 0 ∷ 0 ∷ 0 ∷ 0 ∷ 0 ∷ 0 ∷ 0 ∷ 0 ∷ 0 ∷ 0 ∷ 0 ∷ 0 ∷ 0 ∷ 1 ∷ 145 ∷ [] }
+    ensures { IfOk result (λ read. case_view read ≡ BadVerf 1) }
+{
+    read_call(alloc, bytes)
+}
+
 /// Where a call lies in its bytes it is read as the same, and that takes no memory.
 pub fn reads_the_same_where_it_lies(
     alloc: Global,
@@ -185,23 +195,31 @@ pub fn writes_a_system_error(alloc: Global) -> Result<Vec<u8>, NoMemory>
 /// A reply is appended to what stands before it, as to the header of a record.
 pub fn appends_a_denial(out: &mut Vec<u8>) -> Result<(), NoMemory>
     ensures { OnOk result (out.new.items ≡ out.old.items ++
-        0 ∷ 0 ∷ 0 ∷ 1 ∷ 0 ∷ 0 ∷ 0 ∷ 1 ∷ 0 ∷ 0 ∷ 0 ∷ 1 ∷ 0 ∷ 0 ∷ 0 ∷ 1 ∷ 0 ∷ 0 ∷ 0 ∷ 99 ∷ []) }
+        0 ∷ 0 ∷ 0 ∷ 1 ∷ 0 ∷ 0 ∷ 0 ∷ 1 ∷ 0 ∷ 0 ∷ 0 ∷ 1 ∷ 0 ∷ 0 ∷ 0 ∷ 1 ∷ 0 ∷ 0 ∷ 0 ∷ 1 ∷ []) }
 {
     let reply = Reply::Denied {
         xid: 1,
-        why: Why::AuthError(99),
+        why: Why::AuthError(1),
     };
     append_reply(out, &reply)
 }
 
-/// A denied reply has these 20 bytes, with a number of its own for why (RFC 5531 section 9, auth_stat).
+/// Where memory is refused, what stood before the reply stands there alone.
+pub fn keeps_what_stood_there(out: &mut Vec<u8>, reply: &Reply) -> Result<(), NoMemory>
+    requires { HasShortVerf reply.now }
+    ensures { OnErr result (out.new.items ≡ out.old.items) }
+{
+    append_reply(out, reply)
+}
+
+/// A denied reply has these 20 bytes; the last number, 1 for AUTH_BADCRED, says why (RFC 5531 section 9, auth_stat).
 pub fn writes_a_denial(alloc: Global) -> Result<Vec<u8>, NoMemory>
     ensures { IfOk result (λ v. v.items ≡
-        0 ∷ 0 ∷ 0 ∷ 1 ∷ 0 ∷ 0 ∷ 0 ∷ 1 ∷ 0 ∷ 0 ∷ 0 ∷ 1 ∷ 0 ∷ 0 ∷ 0 ∷ 1 ∷ 0 ∷ 0 ∷ 0 ∷ 99 ∷ []) }
+        0 ∷ 0 ∷ 0 ∷ 1 ∷ 0 ∷ 0 ∷ 0 ∷ 1 ∷ 0 ∷ 0 ∷ 0 ∷ 1 ∷ 0 ∷ 0 ∷ 0 ∷ 1 ∷ 0 ∷ 0 ∷ 0 ∷ 1 ∷ []) }
 {
     let reply = Reply::Denied {
         xid: 1,
-        why: Why::AuthError(99),
+        why: Why::AuthError(1),
     };
     write_reply(alloc, &reply)
 }
@@ -232,10 +250,47 @@ pub fn writes_the_reply_again(alloc: Global, bytes: &[u8]) -> Option<Vec<u8>>
     write_reply(alloc, &reply).ok()
 }
 
-/// A call is no reply: its bytes have a fault.
+/// Four bytes are cut: the type of the message is missing.
+pub fn tells_the_cut_reply(alloc: Global, bytes: &[u8]) -> Result<Reply, ReplyFault>
+    requires { bytes.now ≡
+        0 ∷ 0 ∷ 0 ∷ 1 ∷ [] }
+    ensures { MatchResult result (λ _. ⊥) (λ f. (f ≡ faults.Truncated) ⊎ (f ≡ faults.NoMemory)) }
+{
+    read_reply(alloc, bytes)
+}
+
+/// A call is no reply.
 pub fn takes_no_call_for_a_reply(alloc: Global, bytes: &[u8]) -> Result<Reply, ReplyFault>
-    requires { bytes.now ≡ 0 ∷ 0 ∷ 0 ∷ 1 ∷ 0 ∷ 0 ∷ 0 ∷ 0 ∷ [] }
-    ensures { IsErr result }
+    requires { bytes.now ≡
+        0 ∷ 0 ∷ 0 ∷ 1 ∷ 0 ∷ 0 ∷ 0 ∷ 0 ∷ [] }
+    ensures { MatchResult result (λ _. ⊥) (λ f. (f ≡ faults.NotAReply) ⊎ (f ≡ faults.NoMemory)) }
+{
+    read_reply(alloc, bytes)
+}
+
+/// A reply is accepted, 0, or denied, 1; there is no status 2.
+pub fn tells_a_status_that_there_is_not(alloc: Global, bytes: &[u8]) -> Result<Reply, ReplyFault>
+    requires { bytes.now ≡
+        0 ∷ 0 ∷ 0 ∷ 1 ∷ 0 ∷ 0 ∷ 0 ∷ 1 ∷ 0 ∷ 0 ∷ 0 ∷ 2 ∷ [] }
+    ensures { MatchResult result (λ _. ⊥) (λ f. (f ≡ faults.BadStatus) ⊎ (f ≡ faults.NoMemory)) }
+{
+    read_reply(alloc, bytes)
+}
+
+/// A verifier of 401 bytes is told by its length, before any byte of it has come.
+pub fn tells_the_long_verifier_of_a_reply(alloc: Global, bytes: &[u8]) -> Result<Reply, ReplyFault>
+    requires { bytes.now ≡
+        0 ∷ 0 ∷ 0 ∷ 1 ∷ 0 ∷ 0 ∷ 0 ∷ 1 ∷ 0 ∷ 0 ∷ 0 ∷ 0 ∷ 0 ∷ 0 ∷ 0 ∷ 0 ∷ 0 ∷ 0 ∷ 1 ∷ 145 ∷ [] }
+    ensures { MatchResult result (λ _. ⊥) (λ f. (f ≡ faults.BadAuth) ⊎ (f ≡ faults.NoMemory)) }
+{
+    read_reply(alloc, bytes)
+}
+
+/// A byte after a denial belongs to no reply.
+pub fn tells_what_follows_a_denial(alloc: Global, bytes: &[u8]) -> Result<Reply, ReplyFault>
+    requires { bytes.now ≡
+        0 ∷ 0 ∷ 0 ∷ 1 ∷ 0 ∷ 0 ∷ 0 ∷ 1 ∷ 0 ∷ 0 ∷ 0 ∷ 1 ∷ 0 ∷ 0 ∷ 0 ∷ 1 ∷ 0 ∷ 0 ∷ 0 ∷ 1 ∷ 0 ∷ [] }
+    ensures { MatchResult result (λ _. ⊥) (λ f. (f ≡ faults.Rest) ⊎ (f ≡ faults.NoMemory)) }
 {
     read_reply(alloc, bytes)
 }

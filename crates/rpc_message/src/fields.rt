@@ -2,6 +2,7 @@
 //! section 8.2).
 
 ghost use Rattle.std.specs.Prelude.{◌≡◌, ◌≤◌, ◌<◌, ◌^◌, ◌++◌, ◌↔◌, length, drop, replicate, IsTrue, IfOk, OnOk};
+ghost use Rattle.std.specs.Io.{StartsWith};
 ghost use Rattle.xdr_units.specs.Numbers.{gap, word, IsWord};
 ghost use Rattle.rpc_message.specs.Spelling.{opaque, auth, IsAuth};
 ghost use Rattle.rpc_message.specs.View.{auth_view, lent_view};
@@ -63,19 +64,23 @@ pub fn auth_at(bytes: &[u8]) -> Result<(LentAuth<'_>, &[u8]), ReplyFault>
 }
 
 /// Writes the length, the bytes, and zeros up to a multiple of four.
+#[tactic(auto, using(crate::proofs::Begins::begins_then))]
 pub fn push_opaque(out: &mut Vec<u8>, bytes: &[u8]) -> Result<(), AllocError>
     requires { length bytes.now ≤ 400 }
-    ensures { OnOk result (out.new.items ≡ out.old.items ++ opaque bytes.now) }
+    ensures ok { OnOk result (out.new.items ≡ out.old.items ++ opaque bytes.now) }
+    ensures begins { StartsWith out.new.items out.old.items }
 {
     push_word(out, bytes.len() as u32)?;
     push_padded(out, bytes)
 }
 
 /// Writes the flavor and the body.
+#[tactic(auto, using(crate::proofs::Begins::begins_then))]
 pub fn push_auth(out: &mut Vec<u8>, a: &OpaqueAuth) -> Result<(), AllocError>
     requires { length a.now.body.items ≤ 400 }
     ensures ok { OnOk result (out.new.items ≡ out.old.items ++ auth (auth_view a.now)) }
     ensures fits { OnOk result (IsAuth (auth_view a.now)) }
+    ensures begins { StartsWith out.new.items out.old.items }
 {
     push_word(out, a.flavor)?;
     push_opaque(out, &a.body)

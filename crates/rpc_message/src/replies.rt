@@ -1,6 +1,7 @@
 //! Replies as bytes (RFC 5531 section 9).
 
-ghost use Rattle.std.specs.Prelude.{◌≡◌, ◌≤◌, ◌<◌, ◌++◌, length, IfOk, IfErr, OnOk, MatchResult};
+ghost use Rattle.std.specs.Prelude.{◌≡◌, ◌≤◌, ◌<◌, ◌++◌, length, IfOk, IfErr, OnOk, OnErr, MatchResult};
+ghost use Rattle.std.specs.Io.{StartsWith};
 ghost use Rattle.rpc_message.specs.declared.fault.ReplyFault.TheVariants as faults;
 ghost use Rattle.rpc_message.specs.Message.{ReplyView};
 ghost use Rattle.rpc_message.specs.Spelling.{reply, status, why, IsStatus, IsWhy, IsReply, ReplyBytes};
@@ -133,9 +134,11 @@ pub fn read_reply(alloc: Global, bytes: &[u8]) -> Result<Reply, ReplyFault>
 }
 
 /// Writes a status with its number.
+#[tactic(auto, using(crate::proofs::Begins::begins_then))]
 fn push_status(out: &mut Vec<u8>, s: &Status) -> Result<(), AllocError>
     ensures ok { OnOk result (out.new.items ≡ out.old.items ++ status (status_view s.now)) }
     ensures fits { OnOk result (IsStatus (status_view s.now)) }
+    ensures begins { StartsWith out.new.items out.old.items }
 {
     match s {
         Status::Success(results) => {
@@ -155,9 +158,11 @@ fn push_status(out: &mut Vec<u8>, s: &Status) -> Result<(), AllocError>
 }
 
 /// Writes a reason with its number.
+#[tactic(auto, using(crate::proofs::Begins::begins_then))]
 fn push_why(out: &mut Vec<u8>, w: Why) -> Result<(), AllocError>
     ensures ok { OnOk result (out.new.items ≡ out.old.items ++ why (why_view w)) }
     ensures fits { OnOk result (IsWhy (why_view w)) }
+    ensures begins { StartsWith out.new.items out.old.items }
 {
     match w {
         Why::RpcMismatch { low, high } => {
@@ -173,10 +178,12 @@ fn push_why(out: &mut Vec<u8>, w: Why) -> Result<(), AllocError>
 }
 
 /// Writes a reply.
+#[tactic(auto, using(crate::proofs::Begins::begins_then))]
 fn push_reply(out: &mut Vec<u8>, r: &Reply) -> Result<(), AllocError>
     requires { HasShortVerf r.now }
     ensures ok { OnOk result (out.new.items ≡ out.old.items ++ reply (reply_view r.now)) }
     ensures fits { OnOk result (IsReply (reply_view r.now)) }
+    ensures begins { StartsWith out.new.items out.old.items }
 {
     match r {
         Reply::Accepted { xid, verf, status } => {
@@ -197,14 +204,21 @@ fn push_reply(out: &mut Vec<u8>, r: &Reply) -> Result<(), AllocError>
 }
 
 /// Writes the reply behind what stands in `out`. The verifier has at most 400 bytes. `NoMemory` comes where memory is
-/// refused; `out` may then end in a part of the reply (RFC 5531 section 9).
+/// refused, and then `out` holds what it held (RFC 5531 section 9).
 pub fn append_reply(out: &mut Vec<u8>, r: &Reply) -> Result<(), NoMemory>
     requires { HasShortVerf r.now }
     ensures ok { OnOk result (out.new.items ≡ out.old.items ++ reply (reply_view r.now)) }
     ensures fits { OnOk result (IsReply (reply_view r.now)) }
+    ensures kept { OnErr result (out.new.items ≡ out.old.items) }
 {
-    push_reply(out, r)?;
-    Ok(())
+    let before = out.len();
+    match push_reply(out, r) {
+        Ok(()) => Ok(()),
+        Err(_) => {
+            out.truncate(before);
+            Err(NoMemory)
+        }
+    }
 }
 
 /// The bytes of the reply: xid, 1, and 0, verifier, status or 1, reason. The verifier has at most 400 bytes. `NoMemory`

@@ -1,6 +1,7 @@
 //! Words and padded content at the front of bytes, and written behind bytes (RFC 4506 sections 3 and 4).
 ghost use Rattle.std.specs.Prelude.{◌≡◌, ◌<◌, ◌^◌, ◌++◌, ℕ, List, length, replicate, IsTrue, ◌↔◌, MatchOption};
-ghost use Rattle.std.specs.Prelude.{MatchResult, OnOk};
+ghost use Rattle.std.specs.Prelude.{MatchResult, OnOk, OnErr, IfSome};
+ghost use Rattle.std.specs.Io.{StartsWith};
 ghost use Rattle.xdr_units.specs.Numbers.{word, long_word, gap, padded, IsWord};
 ghost use Rattle.xdr_units.specs.Fronts.{IsNoContent};
 
@@ -20,6 +21,7 @@ pub enum NoContent {
 /// section 4.2).
 pub fn first_word(bytes: &[u8]) -> Option<(u32, &[u8])>
     ensures found { MatchOption result (length bytes.now < 4) (λ r. bytes.now ≡ word r.0 ++ r.1.now) }
+    ensures fits { IfSome result (λ r. IsWord r.0) }
     ensures only { (n : ℕ) (rest : List ℕ) → n < 2 ^ 32 → bytes.now ≡ word n ++ rest
         → MatchOption result ⊥ (λ r. (r.0 ≡ n) × (r.1.now ≡ rest)) }
 {
@@ -82,19 +84,22 @@ pub fn first_content(bytes: &[u8], size: u32) -> Result<(&[u8], &[u8]), NoConten
     Ok((content, rest))
 }
 
-/// Writes the number's four bytes.
+/// Writes the number's four bytes. Where memory is refused it writes none.
 pub fn push_word(out: &mut Vec<u8>, number: u32) -> Result<(), AllocError>
     ensures ok { OnOk result (out.new.items ≡ out.old.items ++ word number) }
     ensures fits { IsWord number }
+    ensures kept { OnErr result (out.new.items ≡ out.old.items) }
+    ensures begins { StartsWith out.new.items out.old.items }
 {
     let mut bytes = [0; 4];
     BigEndian::write_u32(&mut bytes, number);
     out.extend_from_slice(&bytes)
 }
 
-/// Writes the bytes and their padding.
+/// Writes the bytes and their padding. Where memory is refused some of them may stand behind what stood there.
 pub fn push_padded(out: &mut Vec<u8>, bytes: &[u8]) -> Result<(), AllocError>
-    ensures { OnOk result (out.new.items ≡ out.old.items ++ padded bytes.now) }
+    ensures ok { OnOk result (out.new.items ≡ out.old.items ++ padded bytes.now) }
+    ensures begins { StartsWith out.new.items out.old.items }
 {
     out.extend_from_slice(bytes)?;
     for _ in 0..gap(bytes.len()) {

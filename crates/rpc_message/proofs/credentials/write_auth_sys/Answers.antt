@@ -20,7 +20,7 @@ returns c =
           subst (All IsWord) c.deref-2.ensures.value c.in_ok-push_words.ensures.fits;
     })
     (c.in_ok-push_word.ensures.ok ∙ ap (λ (t : List ℕ). t ++ word c.args.a.now.stamp) c.new-out.ensures.items)
-    (c.in_ok-push_opaque.ensures ∙ ap (λ (t : List ℕ). c.push_word.new.out.items ++ opaque t) c.deref.ensures.value)
+    (c.in_ok-push_opaque.ensures.ok ∙ ap (λ (t : List ℕ). c.push_word.new.out.items ++ opaque t) c.deref.ensures.value)
     c.in_ok-push_word-2.ensures.ok
     c.in_ok-push_word-3.ensures.ok
     (c.in_ok-push_word-4.ensures.ok ∙ ap (λ (k : ℕ). c.push_word-3.new.out.items ++ word k)
