@@ -3,3 +3,4 @@ pub mod ByWords
 pub mod Procedures
 pub mod Questions
 pub mod Texts
+pub mod Counts

@@ -63,6 +63,7 @@ impl<'a> Opener for MemoryOpener<'a> {
 
     ghost failures = { λ s. told_count s.failures };
 
+    #[tactic(auto, using(crate::proofs::Counts::no_reads))]
     fn open(&mut self, name: &str) -> Result<MemorySource<'a>, ReadFault>
         ensures text { IfOk result (λ text.
             Keeps (if bytes_eq name.now self.old.name.now then Some self.old.text.now else None)
@@ -72,7 +73,7 @@ impl<'a> Opener for MemoryOpener<'a> {
         ensures none_failed { OnOk result (Counts 0 (told_count self.old.failures) (told_count self.new.failures)) }
         ensures failed { OnErr result (Counts 1 (told_count self.old.failures) (told_count self.new.failures)) }
         ensures gives { IfOk result (λ text. (text.piece ≡ self.old.piece) × (text.failing ≡ self.old.failing)
-            × (⟦<MemorySource<'a> as Source>⟧.reads text ≡ Some 0)) }
+            × (text.reads ≡ 0)) }
         ensures same { (self.new.name ≡ self.old.name) × (self.new.text ≡ self.old.text)
             × (self.new.piece ≡ self.old.piece) × (self.new.failing ≡ self.old.failing) }
     {

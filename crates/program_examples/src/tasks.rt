@@ -1,12 +1,13 @@
 //! Tasks as the words ask for them, with the texts of declarations that they name.
-ghost use Rattle.std.specs.Prelude.{◌≡◌, ◌≤◌, ℕ, None, Some, IfSome, string_bytes};
+ghost use Rattle.std.specs.Prelude.{◌≡◌, ◌≤◌, ℕ, None, Some, IfSome, string_bytes, true};
+ghost use Rattle.xdr_io.specs.Told.{CountsAtMost};
 ghost use Rattle.xdr_types.specs.Within.{AreBounds};
 ghost use Rattle.oncrpc_tasks.specs.Naming.{Names};
 ghost use Rattle.oncrpc_tasks.specs.Sources.{bare};
 ghost use Rattle.xdr_lang.specs.Declarations.{Declared};
 ghost use Rattle.xdr_lang.specs.Means.{Means};
 
-use oncrpc_tasks::{Opener, Task, ValueTask, task_over};
+use oncrpc_tasks::{MemoryOpener, Opener, Task, ValueTask, task_over};
 use std::alloc::Global;
 use xdr_io::{Sink, Source};
 
@@ -69,4 +70,30 @@ pub fn refused_before_it_is_read<P: Opener, I: Source, O: Sink, F: Sink>(
     ensures unprinted { result ≡ 2 → output.new ≡ output.old }
 {
     task_over(alloc, task, opener, input, output, faults)
+}
+
+/// A task ends with one of five statuses, after at most 1048576 reads.
+pub fn statuses_of_tasks<P: Opener, I: Source, O: Sink, F: Sink>(
+    alloc: Global,
+    task: &Task,
+    opener: &mut P,
+    input: &mut I,
+    output: &mut O,
+    faults: &mut F,
+) -> u8
+    ensures status { result ≤ 4 }
+    ensures reads { CountsAtMost 1048576 (I.reads input.old) (I.reads input.new) }
+{
+    task_over(alloc, task, opener, input, output, faults)
+}
+
+/// A text in memory is opened at its beginning, before its first read, with the read that is to fail.
+pub fn the_first_read_fails(name: &str, text: &[u8]) -> bool
+    ensures { result ≡ true }
+{
+    let mut opener = MemoryOpener::new(name, text, 4096, Some(1));
+    match opener.open(name) {
+        Ok(mut source) => source.read(&mut [0u8; 4096]).is_err(),
+        Err(_) => true,
+    }
 }

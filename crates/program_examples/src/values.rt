@@ -1,5 +1,5 @@
 //! One value: when something is printed, what stands before the line of its outcome, and how much is read.
-ghost use Rattle.std.specs.Prelude.{◌≡◌, ◌≢◌, ◌<◌, ◌≤◌, ◌+◌, ◌++◌, ℕ, List, length};
+ghost use Rattle.std.specs.Prelude.{◌≡◌, ◌≢◌, ◌⊎◌, ◌<◌, ◌≤◌, ◌+◌, ◌++◌, ℕ, List, length, take};
 ghost use Rattle.std.specs.Io.KnownBytes.{Appends};
 ghost use Rattle.xdr_io.specs.Told.{Counts, MovesAtMost};
 ghost use Rattle.oncrpc_tasks.specs.declared.answer.Answer.{Answer};
@@ -52,6 +52,44 @@ pub fn silent_where_it_answers<I: Source, O: Sink, F: Sink>(
     ensures written { result ≤ 1 → Counts 0 (O.failures output.old) (O.failures output.new) }
 {
     check_over(alloc, input, output, faults, schema, kind, limits, hex)
+}
+
+/// Status 3 says that a read or a write failed, or that 1048576 reads were made.
+pub fn a_device_is_3<I: Source, O: Sink, F: Sink>(
+    alloc: Global,
+    input: &mut I,
+    output: &mut O,
+    faults: &mut F,
+    schema: &Schema,
+    kind: KindId,
+    limits: Limits,
+    hex: bool,
+) -> u8
+    requires { kind.place < length schema.now.kinds }
+    ensures { result ≡ 3 → Counts 1 (I.failures input.old) (I.failures input.new)
+        ⊎ (Counts 1 (O.failures output.old) (O.failures output.new)
+        ⊎ Counts 1048576 (I.reads input.old) (I.reads input.new)) }
+{
+    check_over(alloc, input, output, faults, schema, kind, limits, hex)
+}
+
+/// Of a value nothing is printed in part but the beginning of what is right.
+pub fn no_other_part_is_printed<I: Source, O: Sink, F: Sink>(
+    alloc: Global,
+    input: &mut I,
+    output: &mut O,
+    faults: &mut F,
+    schema: &Schema,
+    kind: KindId,
+    limits: Limits,
+    hex: bool,
+) -> u8
+    requires { kind.place < length schema.now.kinds }
+    ensures { result ≡ 3 → (output.new ≡ output.old) ⊎ ((answer : Answer) × (shown : List ℕ) × (count : ℕ)
+        × (count < length (shown ++ line answer))
+        × Appends (O.taken output.old) (O.taken output.new) (take count (shown ++ line answer))) }
+{
+    show_over(alloc, input, output, faults, schema, kind, limits, hex)
 }
 
 /// The input is read until more than the limit on bytes is there, by pages of 4096.

@@ -1,5 +1,5 @@
 //! The program's words: what they ask for, and how it ends where they ask for no task.
-ghost use Rattle.std.specs.Prelude.{◌≡◌, ◌≢◌, ◌⊎◌, IfOk, string_bytes};
+ghost use Rattle.std.specs.Prelude.{◌≡◌, ◌≢◌, ◌⊎◌, ℕ, IfOk, take, string_bytes};
 ghost use Rattle.std.specs.Io.KnownBytes.{Appends};
 ghost use Rattle.oncrpc_words.specs.Words.{IsFirst};
 
@@ -54,6 +54,18 @@ pub fn refused_words_end_with_2<O: Sink, F: Sink>(
 pub fn help_is_printed<O: Sink, F: Sink>(fault: &WordsFault, output: &mut O, faults: &mut F) -> u8
     requires { fault.now.status ≡ 0 }
     ensures { result ≢ 3 → Appends (O.taken output.old) (O.taken output.new) (string_bytes fault.now.text) }
+{
+    print_words_fault(fault, output, faults)
+}
+
+/// Help that ends with 3 was printed up to the write that failed.
+pub fn help_is_printed_in_part<O: Sink, F: Sink>(
+    fault: &WordsFault,
+    output: &mut O,
+    faults: &mut F,
+) -> u8
+    ensures { result ≡ 3 → (count : ℕ)
+        × Appends (O.taken output.old) (O.taken output.new) (take count (string_bytes fault.now.text)) }
 {
     print_words_fault(fault, output, faults)
 }

@@ -38,6 +38,25 @@ pub fn reads_no_empty_text(text: &[u8]) -> Option<Uaddr>
     read_uaddr(text)
 }
 
+/// Numbers of two and three digits are read: the port's high octet is 8 and its low one 1.
+pub fn reads_numbers_above_9(text: &[u8]) -> Option<Uaddr>
+    requires { text.now ≡ codes "192.0.2.17.8.1" }
+    ensures { result ≡ Some (record { host = 192 ∷ 0 ∷ 2 ∷ 17 ∷ []; port = 2049 }) }
+{
+    read_uaddr(text)
+}
+
+/// They are written too: 111 is the low octet of its port.
+pub fn writes_numbers_above_9(alloc: Global) -> Result<Vec<u8>, NoMemory>
+    ensures { IfOk result (λ text. text.items ≡ codes "192.0.2.17.0.111") }
+{
+    let address = Uaddr {
+        host: [192, 0, 2, 17],
+        port: 111,
+    };
+    write_uaddr(alloc, address)
+}
+
 /// An address that was written is read again.
 pub fn reads_what_was_written(alloc: Global, address: Uaddr) -> Result<Option<Uaddr>, NoMemory>
     requires { IsUaddr address }

@@ -14,6 +14,32 @@ pub fn new_has_no_rows<S: BuildHasher + Drop>(alloc: Global, hasher: S) -> u32
     directory.rows()
 }
 
+/// A directory starts with the registry's own three rows, at the port that it is given (RFC 1833 sections 2 and 3).
+pub fn starts_with_itself<S: BuildHasher + Drop>(
+    alloc: Global,
+    hasher: S,
+) -> Result<(u32, u32, u32), NoMemory>
+    ensures { IfOk result (λ found. found ≡ (3, 111, 111)) }
+{
+    let directory = Directory::start(alloc, hasher, 111)?;
+    let second = directory.get_port(100000, 2, 6);
+    let fourth = directory.get_port(100000, 4, 6);
+    Ok((directory.rows(), second, fourth))
+}
+
+/// What was registered is found: its address as it was given, and its port.
+pub fn finds_what_was_set<S: BuildHasher + Drop>(
+    alloc: Global,
+    hasher: S,
+) -> Result<(bool, u32), NoMemory>
+    ensures { IfOk result (λ found. found ≡ (true, 2049)) }
+{
+    let mut directory = Directory::new(alloc, hasher);
+    directory.set(alloc, 7, 1, b"tcp", b"127.0.0.1.8.1", b"unknown")?;
+    let address = directory.getaddr(7, 1, b"tcp") == b"127.0.0.1.8.1".as_slice();
+    Ok((address, directory.get_port(7, 1, 6)))
+}
+
 /// A second row of the same program, version and netid is refused, and the first stays.
 pub fn second_set_is_refused<S: BuildHasher + Drop>(
     alloc: Global,

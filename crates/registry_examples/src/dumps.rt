@@ -27,6 +27,16 @@ pub fn dump_of_a_row<S: BuildHasher + Drop>(alloc: Global, hasher: S) -> Result<
     directory.dump(alloc)
 }
 
+/// The port dump of one row over `tcp` is a list of one `mapping`, at port 2049 (RFC 1833 section 3.1).
+pub fn dump_of_a_port<S: BuildHasher + Drop>(alloc: Global, hasher: S) -> Result<Value, NoMemory>
+    ensures { let mapping = group (number 7 ∷ number 1 ∷ number 6 ∷ number 2049 ∷ []) in
+        IfOk result (λ list. tree list ≡ linked (mapping ∷ [])) }
+{
+    let mut directory = Directory::new(alloc, hasher);
+    directory.set(alloc, 7, 1, b"tcp", b"127.0.0.1.8.1", b"1000")?;
+    directory.dump_ports(alloc)
+}
+
 /// `dump_ports` leaves out rows over other transports than `tcp` and `udp`, also at an address over IPv4.
 pub fn dump_without_ports<S: BuildHasher + Drop>(
     alloc: Global,
@@ -47,7 +57,7 @@ pub fn dump_fits<S: BuildHasher>(alloc: Global, directory: &Directory<S>) -> Res
     let list = directory.dump(alloc)?;
     match Limits::new(4096, 16777216) {
         Some(limits) => Ok(fits(&schema, KindId { place: 14 }, &list, limits)),
-        None => Ok(true),
+        None => Ok(false),
     }
 }
 

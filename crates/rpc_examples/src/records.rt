@@ -1,13 +1,16 @@
 //! Records of a stream (RFC 5531 section 11): marked, read in any pieces, and brought to their normal form.
-ghost use Rattle.std.specs.Prelude.{◌≡◌, ◌≤◌, [], ◌∷◌, true, IfOk, IsErr};
-ghost use Rattle.rpc_record.specs.Stands.{IsWaiting, IsBroken};
+ghost use Rattle.std.specs.Prelude.{◌≡◌, ◌≤◌, ◌⊎◌, [], ◌∷◌, true, IfOk, IfSome, OnOk, MatchResult};
+ghost use Rattle.std.specs.Io.KnownBytes.{Appends};
+ghost use Rattle.xdr_io.specs.Told.{Counts};
+ghost use Rattle.rpc_record.specs.Reading.{IsWhole};
+ghost use Rattle.rpc_record.specs.Stands.{Always, IsTaking, IsWaiting, IsBroken, limit_of};
 
 use rpc_record::{
     Count, NoMemory, RecordFault, RecordReader, RecordStep, last_header, mark,
     no_record_begins_another, normalise, too_long_ends_the_stream, write_marked,
 };
 use std::alloc::Global;
-use xdr_io::{Cut, MemorySink, MemorySource, Sink};
+use xdr_io::{Cut, MemorySource, Sink, Source};
 
 /// A record of no bytes is a header alone: `80000000`.
 #[tactic(auto, unfolding(rpc_record::specs::Marked::header))]
@@ -33,14 +36,13 @@ pub fn heads_65536_bytes() -> [u8; 4]
     last_header(65536)
 }
 
-/// A marked record has four bytes more than its content, however the sink takes them.
+/// A record is written with its header before it, however the sink takes them: `80000003 616263`.
 #[tactic(auto, unfolding(rpc_record::specs::Marked::header))]
-pub fn writes_three_bytes(room: &mut [u8]) -> Result<usize, Cut>
-    ensures { IfOk result (λ used. used ≡ 7) }
+pub fn writes_three_bytes<W: Sink>(writer: &mut W) -> Result<(), Cut>
+    ensures { OnOk result (Appends (W.taken writer.old) (W.taken writer.new)
+        (128 ∷ 0 ∷ 0 ∷ 3 ∷ 97 ∷ 98 ∷ 99 ∷ [])) }
 {
-    let mut sink = MemorySink::new(room, 1, None);
-    write_marked(&mut sink, b"abc")?;
-    Ok(sink.used())
+    write_marked(writer, b"abc")
 }
 
 /// Nothing waits before the first byte.
@@ -61,7 +63,7 @@ pub fn hands_out_once(reader: &mut RecordReader) -> bool
 /// While a record waits, a reader takes no more bytes.
 pub fn waits_to_be_taken(reader: &mut RecordReader, piece: &[u8]) -> Result<RecordStep, RecordFault>
     requires { IsWaiting reader.old }
-    ensures { IfOk result (λ step. step ≡ RecordStep.Whole 0) }
+    ensures { result ≡ Ok (RecordStep.Whole 0) }
 {
     reader.feed(piece)
 }
@@ -75,6 +77,26 @@ pub fn hands_out_what_is_whole(reader: &mut RecordReader, piece: &[u8]) -> bool
         Ok(RecordStep::More) => reader.take().is_none(),
         Err(_) => reader.take().is_none(),
     }
+}
+
+/// The record that is handed out is the one that was marked: `80000001 61`.
+pub fn hands_out_the_content(alloc: Global) -> Option<Vec<u8>>
+    ensures { IfSome result (λ content. content.items ≡ 97 ∷ []) }
+{
+    no_record_begins_another();
+    let mut reader = RecordReader::start(alloc, 100);
+    match reader.feed(&[0x80, 0, 0, 1, 0x61]) {
+        Ok(RecordStep::Whole { .. }) => reader.take(),
+        _ => None,
+    }
+}
+
+/// Where the input ends well and no record waits, the bytes taken are the records handed out, and no more.
+pub fn ends_between_two_records(reader: &mut RecordReader) -> Result<(), RecordFault>
+    requires { IsTaking reader.old }
+    ensures { OnOk result (Always reader.old (λ rs bytes. IsWhole (limit_of reader.old) rs bytes)) }
+{
+    reader.end()
 }
 
 /// A fault is answered for ever after, whatever comes.
@@ -99,10 +121,10 @@ pub fn keeps_at_most_the_limit(alloc: Global, piece: &[u8]) -> usize
     reader.kept()
 }
 
-/// A header that brings its record above the limit is refused at once, before any content: `80000001` where the limit
-/// is 0.
+/// A header that brings its record above the limit is refused at once, before any content, and its place is told:
+/// `80000001` where the limit is 0.
 pub fn refuses_a_header_above_the_limit(alloc: Global) -> Result<RecordStep, RecordFault>
-    ensures { IsErr result }
+    ensures { MatchResult result (λ _. ⊥) (λ f. (f ≡ RecordFault.TooLong 0) ⊎ (f ≡ RecordFault.NoMemory)) }
 {
     too_long_ends_the_stream();
     RecordReader::start(alloc, 0).feed(&[0x80, 0, 0, 1])
@@ -117,7 +139,8 @@ pub fn ends_well_at_once(alloc: Global) -> Result<(), RecordFault>
 
 /// No bytes have a normal form of no bytes.
 pub fn normalises_nothing<W: Sink>(alloc: Global, writer: &mut W) -> Result<Count, RecordFault>
-    ensures { IfOk result (λ count. (count.records ≡ 0) × (count.bytes ≡ 0)) }
+    ensures counted { IfOk result (λ count. (count.records ≡ 0) × (count.bytes ≡ 0)) }
+    ensures written { OnOk result (Appends (W.taken writer.old) (W.taken writer.new) []) }
 {
     no_record_begins_another();
     let mut source = MemorySource::new(&[], 4096, None);
@@ -127,7 +150,9 @@ pub fn normalises_nothing<W: Sink>(alloc: Global, writer: &mut W) -> Result<Coun
 
 /// An empty fragment ends no record: `00000000 00000000 80000000` is one empty record, whose normal form is `80000000`.
 pub fn joins_empty_fragments<W: Sink>(alloc: Global, writer: &mut W) -> Result<Count, RecordFault>
-    ensures { IfOk result (λ count. (count.records ≡ 1) × (count.bytes ≡ 4)) }
+    ensures counted { IfOk result (λ count. (count.records ≡ 1) × (count.bytes ≡ 4)) }
+    ensures written { OnOk result (Appends (W.taken writer.old) (W.taken writer.new)
+        (128 ∷ 0 ∷ 0 ∷ 0 ∷ [])) }
 {
     no_record_begins_another();
     let stream = [0, 0, 0, 0, 0, 0, 0, 0, 0x80, 0, 0, 0];
@@ -138,7 +163,9 @@ pub fn joins_empty_fragments<W: Sink>(alloc: Global, writer: &mut W) -> Result<C
 
 /// Two fragments are joined: `00000002 6162 80000001 63` has the normal form `80000003 616263`.
 pub fn joins_two_fragments<W: Sink>(alloc: Global, writer: &mut W) -> Result<Count, RecordFault>
-    ensures { IfOk result (λ count. (count.records ≡ 1) × (count.bytes ≡ 7)) }
+    ensures counted { IfOk result (λ count. (count.records ≡ 1) × (count.bytes ≡ 7)) }
+    ensures written { OnOk result (Appends (W.taken writer.old) (W.taken writer.new)
+        (128 ∷ 0 ∷ 0 ∷ 3 ∷ 97 ∷ 98 ∷ 99 ∷ [])) }
 {
     no_record_begins_another();
     let stream = [0, 0, 0, 2, 0x61, 0x62, 0x80, 0, 0, 1, 0x63];
@@ -149,11 +176,27 @@ pub fn joins_two_fragments<W: Sink>(alloc: Global, writer: &mut W) -> Result<Cou
 
 /// Two records stay two, an empty one too: `80000001 61 80000000`.
 pub fn keeps_two_records_apart<W: Sink>(alloc: Global, writer: &mut W) -> Result<Count, RecordFault>
-    ensures { IfOk result (λ count. (count.records ≡ 2) × (count.bytes ≡ 9)) }
+    ensures counted { IfOk result (λ count. (count.records ≡ 2) × (count.bytes ≡ 9)) }
+    ensures written { OnOk result (Appends (W.taken writer.old) (W.taken writer.new)
+        (128 ∷ 0 ∷ 0 ∷ 1 ∷ 97 ∷ 128 ∷ 0 ∷ 0 ∷ 0 ∷ [])) }
 {
     no_record_begins_another();
     let stream = [0x80, 0, 0, 1, 0x61, 0x80, 0, 0, 0];
     let mut source = MemorySource::new(&stream, 4096, None);
     let count = normalise(alloc, &mut source, writer, 100)?;
     Ok(count)
+}
+
+/// Where a record is above the limit, no read and no write failed.
+pub fn fails_by_no_device<R: Source, W: Sink>(
+    alloc: Global,
+    reader: &mut R,
+    writer: &mut W,
+    place: u64,
+) -> Result<Count, RecordFault>
+    ensures read { result ≡ Err (RecordFault.TooLong place) → Counts 0 (R.failures reader.old) (R.failures reader.new) }
+    ensures write { result ≡ Err (RecordFault.TooLong place)
+        → Counts 0 (W.failures writer.old) (W.failures writer.new) }
+{
+    normalise(alloc, reader, writer, 100)
 }

@@ -68,6 +68,23 @@ fn reports_writes_of_records(rt: HostRuntime) {
 }
 
 #[test]
+fn reports_reads_of_records(rt: HostRuntime) {
+    let records = Task::Records(RecordsTask {
+        limit: 4,
+        hex: false,
+    });
+    // The first read brings the first record, and the second fails.
+    let devices = Devices {
+        piece: 5,
+        read: Some(2),
+        ..SOUND
+    };
+    let stream = b"\x80\0\0\x01a\x80\0\0\x01b";
+    let ending = (3, b"\x80\0\0\x01a".as_slice(), b"read fault\n".as_slice());
+    assert!(rt; ends(rt.alloc(), &records, b"", stream, devices, ending));
+}
+
+#[test]
 fn reports_too_many_reads(rt: HostRuntime) -> Result<(), AllocError> {
     let long = vec![in rt.alloc(); 0u8; 1048577]?;
     let bytes = within(rt.alloc(), "opaque", false, 16777216)?;

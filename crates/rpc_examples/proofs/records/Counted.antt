@@ -3,9 +3,9 @@ use Rattle.std.proofs.Common.{◌≡◌, ℕ, zero, suc, ◌+◌, ◌^◌, ◌<�
 use Rattle.std.proofs.Common.{None, refl, sym, ap}
 use Rattle.std.proofs.Common.{◌∙◌, subst, arith}
 use Rattle.std.proofs.lemmas.List.{append-nil}
-use Rattle.std.specs.Io.KnownBytes.{Consumes, IsAtEnd}
+use Rattle.std.specs.Io.KnownBytes.{Appends, Consumes, IsAtEnd}
 use Rattle.rpc_record.specs.declared.fault.Count.{Count}
-use Rattle.rpc_record.specs.Marked.{header, IsContent, Marked, Longest, OneLongest}
+use Rattle.rpc_record.specs.Marked.{header, normal, IsContent, Marked, Longest, OneLongest}
 use Rattle.rpc_record.specs.Reading.{IsWhole, WholeIsLongest}
 use Rattle.rpc_record.specs.Normalised.{Normalised, IsCount}
 
@@ -15,15 +15,15 @@ all_read : (bytes input : List ℕ) (left : Option (List ℕ)) → Consumes (Som
 all_read bytes input None c e = absurd c
 all_read bytes input (Some rest) c e = c ∙ ap (λ k. input ++ k) e ∙ append-nil input
 
--- what was normalised is counted by any reading of the bytes as records
+-- what was normalised is counted and written by any reading of the bytes as records
 pub counted : OneLongest → WholeIsLongest → (limit : ℕ) (rs : List (List ℕ)) (bytes : List ℕ) → IsWhole limit rs bytes
     → (left left' t u : Option (List ℕ)) (count : Count) → left ≡ Some bytes → Normalised limit left left' t u count
-    → IsCount count rs
+    → IsCount count rs × Appends t u (normal rs)
 counted one whole limit rs bytes w left left' t u count told n =
     let same = all_read bytes n.input left' (subst (λ k. Consumes k left' n.input) told n.read) n.end in
     let all = subst (λ b. IsWhole limit n.rs b) (sym same) n.whole in
     let others : n.rs ≡ rs = one limit n.rs rs bytes (whole limit n.rs bytes all) (whole limit rs bytes w) in
-    subst (λ k. IsCount count k) others n.counted
+    (subst (λ k. IsCount count k) others n.counted, subst (λ k. Appends t u (normal k)) others n.written)
 
 pub nothing_is_whole : IsWhole 100 [] []
 nothing_is_whole = record { stream = refl; within = λ k d h. absurd (omega arith) }

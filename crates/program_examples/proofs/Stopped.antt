@@ -1,0 +1,37 @@
+-- What was written of a stream of records before a read failed.
+use Rattle.std.proofs.Common.{◌≡◌, ℕ, ◌+◌, List, Option, Some, subst, ap, arith}
+use Rattle.std.specs.Io.KnownBytes.{Appends, Consumes}
+use Rattle.xdr_io.specs.Told.{Counts}
+use Rattle.rpc_record.specs.Marked.{Longest, normal}
+use Rattle.oncrpc_tasks.specs.Ends.{Tells, Fails, OfRecords, PrintsInPart}
+use Rattle.oncrpc_tasks.specs.Records.{StopsFor}
+use Rattle.oncrpc_tasks.specs.declared.failure.Failure.{Failure}
+use Rattle.oncrpc_tasks.specs.declared.failure.Failure.TheVariants as failure
+
+-- all whole records of what was read were written, whole
+abbrev pub WritesAll : ℕ → (left left' taken taken' : Option (List ℕ)) → Type 0
+WritesAll limit left left' taken taken' = (read : List ℕ) × (records : List (List ℕ))
+    × Consumes left left' read × Longest limit records read × Appends taken taken' (normal records)
+
+-- a count that stays failed no more
+no_more : (old new : Option ℕ) → old ≡ Some 0 → new ≡ Some 0 → Counts 1 old new → ⊥
+no_more old new p q h =
+    let one : 0 ≡ 0 + 1 = subst (λ x. Counts 1 (Some 0) x) q (subst (λ x. Counts 1 x new) p h) in
+    omega (arith, one)
+
+module _ {I O : Type 0} (tells : Tells I O) (i i' : I) (o o' : O) (limit : ℕ) where
+  of_failure : (f : Failure) → Fails tells i i' o o' f
+      → StopsFor f limit (tells.left i) (tells.left i') (tells.taken o) (tells.taken o') → tells.lost o ≡ Some 0
+      → tells.lost o' ≡ Some 0
+      → WritesAll limit (tells.left i) (tells.left i') (tells.taken o) (tells.taken o')
+  of_failure failure.Read h s p q = (s.input, s.rs, s.read, s.stopped.0, s.stopped.1)
+  of_failure failure.Write h s p q = absurd (no_more (tells.lost o) (tells.lost o') p q h)
+  of_failure failure.TooManyReads h s p q = (s.input, s.rs, s.read, s.stopped.0, s.stopped.1)
+  of_failure failure.NoMemory h s p q = absurd h
+
+  pub before_a_failure : (u : Type 0)
+      → PrintsInPart (OfRecords limit false) u (Fails tells i i' o o') (tells.left i) (tells.left i') (tells.taken o)
+      (tells.taken o')
+      → tells.lost o ≡ Some 0 → tells.lost o' ≡ Some 0
+      → WritesAll limit (tells.left i) (tells.left i') (tells.taken o) (tells.taken o')
+  before_a_failure u h p q = of_failure h.0 h.1 h.2 p q
