@@ -1,5 +1,5 @@
 //! Tasks as the words ask for them, with the texts of declarations that they name.
-ghost use Rattle.std.specs.Prelude.{◌≡◌, ◌≤◌, ℕ, None, Some, IfSome, string_bytes, true};
+ghost use Rattle.std.specs.Prelude.{◌≡◌, ◌<◌, ◌≤◌, ℕ, None, Some, IfSome, string_bytes, true};
 ghost use Rattle.xdr_io.specs.Told.{CountsAtMost};
 ghost use Rattle.xdr_types.specs.Within.{AreBounds};
 ghost use Rattle.oncrpc_tasks.specs.Naming.{Names};
@@ -87,13 +87,15 @@ pub fn statuses_of_tasks<P: Opener, I: Source, O: Sink, F: Sink>(
     task_over(alloc, task, opener, input, output, faults)
 }
 
-/// A text in memory is opened at its beginning, before its first read, with the read that is to fail.
-pub fn the_first_read_fails(name: &str, text: &[u8]) -> bool
+/// A text in memory is opened before its first read, and that read fails where it is the one that is to fail.
+#[tactic(auto, using(crate::proofs::Opened::own_name))]
+pub fn the_first_read_fails(name: &str, text: &[u8], piece: usize) -> bool
+    requires { 0 < piece }
     ensures { result ≡ true }
 {
-    let mut opener = MemoryOpener::new(name, text, 4096, Some(1));
+    let mut opener = MemoryOpener::new(name, text, piece, Some(1));
     match opener.open(name) {
         Ok(mut source) => source.read(&mut [0u8; 4096]).is_err(),
-        Err(_) => true,
+        Err(_) => false,
     }
 }

@@ -20,7 +20,7 @@ where_given f None = Some None
 where_given f (Some a) = f a >>= λ b. Some (Some b)
 
 -- a member of an enum with its number
-unfoldable pub one_member : List Known → List ℕ × Late → Option form.Constant
+unfoldable pub one_member : List Known → List ℕ × Late → Option xdr.Constant
 one_member ks m = looked_up ks m.1 >>= λ v. member_number v >>= λ n. Some (record { name = m.0; number = n })
 
 -- a case of a union
@@ -28,18 +28,18 @@ unfoldable pub one_case : List Known → Late → Option ℤ
 one_case ks v = looked_up ks v >>= case_number
 
 -- a field, an arm or a type
-unfoldable pub one_field : List Field → Field → Option form.Part
+unfoldable pub one_field : List Field → Field → Option xdr.Part
 one_field types f = place_of types f.part >>= λ k. Some (record { name = f.name; kind = k })
 
 -- an arm with its cases
-unfoldable pub one_arm : List Known → List Field → Arm → Option form.Branch
+unfoldable pub one_arm : List Known → List Field → Arm → Option xdr.Branch
 one_arm ks types a = do
   cs ← each (one_case ks) a.cases
   m ← one_field types a.member
   Some (record { cases = cs; part = m })
 
 -- a kind
-unfoldable pub one_kind : List Known → List Field → Draft → Option form.KindView
+unfoldable pub one_kind : List Known → List Field → Draft → Option xdr.KindView
 one_kind ks types (DNumbered ms) = each (one_member ks) ms >>= λ all. Some (xdr.numbered all)
 one_kind ks types (DOpaque v) = size ks v >>= λ n. Some (xdr.opaque n)
 one_kind ks types (DOpaqueUpTo v) = limit ks v >>= λ n. Some (xdr.opaque_up_to n)
