@@ -74,3 +74,25 @@ pub fn writes_what_was_read(alloc: Global, text: &[u8]) -> Option<Vec<u8>>
     let address = read_uaddr(text)?;
     write_uaddr(alloc, address).ok()
 }
+
+/// The last two numbers are the port's high octet and its low one.
+pub fn writes_the_port_by_octets(alloc: Global) -> Result<Vec<u8>, NoMemory>
+    ensures { IfOk result (λ text. text.items ≡ codes "127.0.0.1.8.1") }
+{
+    let address = Uaddr {
+        host: [127, 0, 0, 1],
+        port: 2049,
+    };
+    write_uaddr(alloc, address)
+}
+
+/// And so they are read.
+pub fn reads_the_port_by_octets(text: &[u8]) -> Option<u16>
+    requires { text.now ≡ codes "127.0.0.1.8.1" }
+    ensures { result ≡ Some 2049 }
+{
+    match read_uaddr(text) {
+        Some(address) => Some(address.port),
+        None => None,
+    }
+}

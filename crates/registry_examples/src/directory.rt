@@ -83,6 +83,30 @@ pub fn version_is_removed<S: BuildHasher + Drop>(
     }
 }
 
+/// Where `unset` with an empty netid finds no row of the version, it answers false.
+pub fn no_version_is_removed<S: BuildHasher + Drop>(
+    alloc: Global,
+    hasher: S,
+) -> Result<bool, NoMemory>
+    ensures { IfOk result (λ done. done ≡ false) }
+{
+    let mut directory = Directory::start(alloc, hasher, 111)?;
+    Ok(directory.unset(100000, 5, b"", b"superuser"))
+}
+
+/// An empty netid is refused, and so is an empty address; nothing changes.
+pub fn empty_texts<S: BuildHasher>(
+    alloc: Global,
+    directory: &mut Directory<S>,
+) -> Result<(bool, bool), NoMemory>
+    ensures refused { IfOk result (λ done. done ≡ (false, false)) }
+    ensures same { directory.new ≡ directory.old }
+{
+    let netid = directory.set(alloc, 7, 1, b"", b"0.0.0.0.0.111", b"unknown")?;
+    let address = directory.set(alloc, 7, 1, b"tcp", b"", b"unknown")?;
+    Ok((netid, address))
+}
+
 /// A netid of 65 bytes is refused, and nothing changes.
 pub fn netid_of_65_bytes<S: BuildHasher>(
     alloc: Global,
@@ -120,6 +144,22 @@ pub fn port_is_refused<S: BuildHasher>(
     let transport = directory.set_port(alloc, 7, 1, 5, 111, b"unknown")?;
     let port = directory.set_port(alloc, 7, 1, 17, 65536, b"unknown")?;
     Ok((transport, port))
+}
+
+/// A port that is set over transport 17 is found there, and not over 6.
+pub fn port_over_udp<S: BuildHasher + Drop>(
+    alloc: Global,
+    hasher: S,
+) -> Result<(bool, u32, u32), NoMemory>
+    ensures { IfOk result (λ found. found ≡ (true, 2049, 0)) }
+{
+    let mut directory = Directory::new(alloc, hasher);
+    let done = directory.set_port(alloc, 7, 1, 17, 2049, b"unknown")?;
+    Ok((
+        done,
+        directory.get_port(7, 1, 17),
+        directory.get_port(7, 1, 6),
+    ))
 }
 
 /// No row is found over a transport that version 2 does not know.

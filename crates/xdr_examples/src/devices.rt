@@ -1,8 +1,8 @@
 //! Readers and writers: where bytes come from and where they go, a piece at a time.
-ghost use Rattle.std.specs.Prelude.{◌≡◌, ◌<◌, ◌≤◌, [], ◌∷◌, true, false, IfOk, IfErr, IsErr, vec_len};
+ghost use Rattle.std.specs.Prelude.{◌≡◌, ◌<◌, [], ◌∷◌, true, false, length, IfOk, IfErr, IfSome, IsErr, Some, vec_len};
 ghost use Rattle.xdr_io.specs.Told.{Counts};
 
-use std::alloc::Global;
+use std::alloc::{AllocError, Global};
 use xdr_io::{
     Cut, FromRead, InputFault, MemorySink, MemorySource, ReadFault, Sink, SinkFault, Source,
     read_past, write_whole,
@@ -32,12 +32,36 @@ pub fn fails_when_told() -> Result<usize, ReadFault>
     MemorySource::new(b"abc", 4096, Some(1)).read(&mut array)
 }
 
-/// A source over std's reader gives the reader's bytes.
-pub fn reads_a_reader_of_std() -> Result<usize, ReadFault>
-    ensures { IfOk result (λ count. count ≤ 3) }
+/// Reads are counted, and so are those that failed.
+pub fn counts_reads<'a>(bytes: &'a [u8]) -> MemorySource<'a>
+    ensures reads { ⟦<MemorySource<'a> as Source>⟧.reads result ≡ Some 2 }
+    ensures failures { ⟦<MemorySource<'a> as Source>⟧.failures result ≡ Some 1 }
 {
     let mut array = [0; 4096];
-    FromRead::new(b"abc".as_slice()).read(&mut array)
+    let mut source = MemorySource::new(bytes, 4096, Some(1));
+    let _failed = source.read(&mut array);
+    let _read = source.read(&mut array);
+    source
+}
+
+/// A source over std's reader gives the reader's bytes, from the front of the array on.
+pub fn reads_a_reader_of_std() -> Option<u8>
+    ensures { IfSome result (λ first. first ≡ 97) }
+{
+    let mut array = [0; 4096];
+    match FromRead::new(b"abc".as_slice()).read(&mut array) {
+        Ok(count) if count > 0 => Some(array[0]),
+        _ => None,
+    }
+}
+
+/// A lent source has the bytes of the source.
+pub fn reads_all_of_a_lent_source(alloc: Global) -> Result<Vec<u8>, InputFault>
+    ensures { IfOk result (λ bytes. bytes.items ≡ 97 ∷ 98 ∷ 99 ∷ []) }
+{
+    let mut source = MemorySource::new(b"abc", 2, None);
+    let mut lent = &mut source;
+    read_past(alloc, &mut lent, 3)
 }
 
 /// An answer of at most `enough` bytes is all that the source had.
@@ -67,6 +91,23 @@ pub fn says_whether_a_read_failed<R: Source>(alloc: Global, source: &mut R) -> b
         Err(InputFault::TooManyReads) => false,
         Err(InputFault::NoMemory) => false,
     }
+}
+
+/// Each way to fail has a fault of its own.
+pub fn names_the_fault() -> (InputFault, InputFault)
+    ensures { result ≡ (InputFault.Read, InputFault.NoMemory) }
+{
+    (InputFault::from(ReadFault), InputFault::from(AllocError))
+}
+
+/// Too many reads are exactly the most that are made.
+pub fn makes_the_most_reads<R: Source>(alloc: Global, source: &mut R, enough: usize) -> bool
+    ensures { result ≡ true → Counts 1048576 (R.reads source.old) (R.reads source.new) }
+{
+    matches!(
+        read_past(alloc, source, enough),
+        Err(InputFault::TooManyReads)
+    )
 }
 
 /// A source of no more than a million bytes is never too many reads away from its end.
@@ -131,6 +172,18 @@ pub fn reads_on_after_a_failed_read() -> Result<usize, ReadFault>
     let mut source = MemorySource::new(b"abc", 4096, Some(1));
     let _failed = source.read(&mut array);
     source.read(&mut array)
+}
+
+/// Writes are counted, and so are those that failed.
+pub fn counts_writes<'a>(room: &'a mut [u8]) -> MemorySink<'a>
+    requires { 0 < length room.old }
+    ensures writes { ⟦<MemorySink<'a> as Sink>⟧.writes result ≡ Some 2 }
+    ensures failures { ⟦<MemorySink<'a> as Sink>⟧.failures result ≡ Some 1 }
+{
+    let mut sink = MemorySink::new(room, 4096, Some(1));
+    let _failed = sink.write(b"a");
+    let _written = sink.write(b"a");
+    sink
 }
 
 /// A sink before its first write shows nothing, however much room it has.

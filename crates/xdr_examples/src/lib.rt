@@ -11,4 +11,5 @@ pub mod lines;
 mod made;
 pub mod pieces;
 pub mod schemas;
+pub mod units;
 pub mod values;

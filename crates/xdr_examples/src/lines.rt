@@ -1,11 +1,11 @@
 //! What is shown of a value.
-ghost use Rattle.std.specs.Prelude.{◌≡◌, ◌≤◌, [], ◌∷◌, codes, negsuc, IfOk, IfSome};
+ghost use Rattle.std.specs.Prelude.{◌≡◌, ◌≤◌, [], ◌∷◌, codes, negsuc, pos, IfOk, IfSome};
 ghost use Rattle.xdr_types.specs.Kinds as xdr;
 ghost use Rattle.xdr_types.specs.Kinds.{kind_at, maybe, up_to};
-ghost use Rattle.xdr_types.specs.Tree.{absent, int, items, none};
+ghost use Rattle.xdr_types.specs.Tree.{absent, int, items, none, numbered};
 ghost use Rattle.xdr_types.specs.View.{tree};
 ghost use Rattle.xdr_types.specs.Within.{FitsWithin};
-ghost use Rattle.xdr_examples.specs.Rfc.{content, file_kinds, sillyprog, sillyprog_lines};
+ghost use Rattle.xdr_examples.specs.Rfc.{constant, content, file_kinds, sillyprog, sillyprog_lines};
 
 use std::alloc::{AllocError, Global};
 use xdr_show::show;
@@ -57,6 +57,23 @@ pub fn shows_a_boolean(alloc: Global) -> Option<Vec<u8>>
         limits,
     )
     .ok()
+}
+
+/// A number of an enumeration is shown with the name of the first member that has this very number.
+pub fn shows_a_member(
+    alloc: Global,
+    schema: &Schema,
+    kind: KindId,
+    value: &Value,
+    limits: Limits,
+) -> Result<Vec<u8>, AllocError>
+    requires fits { FitsWithin schema.now.kinds kind.place limits (tree value.now) }
+    requires kind { kind_at schema.now.kinds kind.place ≡
+        xdr.numbered (constant (codes "TWO") 2 ∷ constant (codes "ONE") 1 ∷ []) }
+    requires value { tree value.now ≡ (numbered (pos 1), none) }
+    ensures { IfOk result (λ b. b.items ≡ codes "ONE = 1\n") }
+{
+    show(alloc, schema, kind, value, limits)
 }
 
 /// A byte of a string that is no plain character is shown by its number, as are the quotation mark and the backslash.
