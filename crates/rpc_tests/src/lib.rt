@@ -1,6 +1,8 @@
-//! Tests of records, messages and the registry by public calls.
+//! Tests of records, messages, the registry and its answers by public calls.
 #![tactic(auto)]
 
+#[cfg(test)]
+mod answers;
 #[cfg(test)]
 mod messages;
 #[cfg(test)]

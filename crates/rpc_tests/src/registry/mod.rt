@@ -1,9 +1,9 @@
 //! Tests of `rpc_directory`, and of `rpc_uaddr`, by their public calls.
 mod addresses;
-mod calls;
+pub mod calls;
 mod dumps;
 mod memory;
 mod random;
 mod refused;
-mod rows;
+pub mod rows;
 mod schema;

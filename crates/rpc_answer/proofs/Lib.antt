@@ -1,0 +1,9 @@
+pub mod Chains
+pub mod Fields
+pub mod Decoded
+pub mod Begun
+pub mod Statuses
+pub mod Telling
+pub mod Calls
+pub mod Listing
+pub mod One

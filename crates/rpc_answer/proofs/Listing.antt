@@ -1,0 +1,114 @@
+-- The bytes of a dump, row by row.
+use Rattle.std.proofs.Common.{◌≡◌, ℕ, zero, suc, ◌≤◌, ◌<◌, List, [], ◌∷◌, ◌++◌, length, filter_map, take, Option, Some}
+use Rattle.std.proofs.Common.{None, option_map, option_and_then, is_some, refl, ap, sym, ◌∙◌, arith}
+use Rattle.std.proofs.Common.{append_assoc, append-nil, true≢false, slice_get}
+use Rattle.std.specs.List.{flat_map, cons_option}
+use Rattle.std.specs.Option.{option_map_or}
+use Rattle.std.proofs.lemmas.List.Concat.{flat_map-append}
+use Rattle.xdr_units.specs.Numbers.{word}
+use Rattle.xdr_types.specs.Spelling.{bytes_of}
+use Rattle.rpc_uaddr.specs.declared.address.Uaddr.{Uaddr}
+use Rattle.rpc_uaddr.specs.Uaddrs.{uaddr_of}
+use Rattle.rpc_rows.specs.Rows.{Row}
+use Rattle.rpc_dumps.specs.Dir.{dir_kinds}
+use Rattle.rpc_dumps.specs.Dumps.{linked, rpcb_tree, rpcb_list, mapping_tree, mapping_row, mapping_list, prot_of}
+use Rattle.rpc_answer.specs.Parsed.{text}
+use Rattle.rpc_answer.proofs.Chains.{then}
+use Rattle.rpc_answer.specs.Pushes.{row_bytes, mapping_bytes, mapping_at_bytes}
+
+node : (f p q : List ℕ) → f ++ ((p ++ (q ++ [])) ++ []) ≡ (f ++ p) ++ q
+node f p q = simp (append_assoc, append-nil)
+
+five : (f p v n a o q : List ℕ) → (f ++ ((p ++ []) ++ ((v ++ []) ++ ((n ++ []) ++ ((a ++ []) ++ ((o ++ []) ++ []))))))
+    ++ q ≡ (f ++ (p ++ (v ++ (n ++ (a ++ o))))) ++ q
+five f p v n a o q = simp (append_assoc, append-nil)
+
+-- the list of rows, one after another
+pub rows_spelled : (rows : List Row) → bytes_of dir_kinds 14 (rpcb_list rows) ≡ flat_map row_bytes rows ++ word 0
+rows_spelled [] = refl
+rows_spelled (r ∷ rows) =
+    let rest = bytes_of dir_kinds 14 (rpcb_list rows) in
+    node (word 1) (bytes_of dir_kinds 11 (rpcb_tree r)) rest
+    ∙ five (word 1) (word r.prog) (word r.vers) (text r.netid) (text r.address) (text r.owner) rest
+    ∙ ap (λ (x : List ℕ). row_bytes r ++ x) (rows_spelled rows)
+    ∙ sym (append_assoc (row_bytes r) (flat_map row_bytes rows) (word 0))
+
+-- the list of mappings, one after another
+pub mappings_spelled : (rows : List Row) → bytes_of dir_kinds 18 (mapping_list rows) ≡ flat_map mapping_bytes rows
+    ++ word 0
+mappings_spelled [] = refl
+mappings_spelled (r ∷ rows) = by (prot_of r.netid) (uaddr_of r.address) (mappings_spelled rows)
+  where
+    by : (n : Option ℕ) (u : Option Uaddr)
+        → bytes_of dir_kinds 18 (linked (filter_map mapping_row rows)) ≡ flat_map mapping_bytes rows ++ word 0
+        → bytes_of dir_kinds 18 (linked (cons_option (option_and_then (λ prot. option_map (mapping_tree r prot) u) n)
+        (filter_map mapping_row rows)))
+        ≡ (option_map_or (λ prot. option_map_or (mapping_at_bytes r prot) u []) n [] ++ flat_map mapping_bytes rows)
+        ++ word 0
+    by None u h = h
+    by (Some n) None h = h
+    by (Some n) (Some a) h =
+        node (word 1) (bytes_of dir_kinds 15 (mapping_tree r n a))
+        (bytes_of dir_kinds 18 (linked (filter_map mapping_row rows)))
+        ∙ ap (λ (x : List ℕ). mapping_at_bytes r n a ++ x) h
+        ∙ sym (append_assoc (mapping_at_bytes r n a) (flat_map mapping_bytes rows) (word 0))
+
+-- one more row of a list
+pub take_more : (rows : List Row) (i : ℕ) (r : Row) → slice_get rows i ≡ Some r → take (suc i) rows ≡ take i rows
+    ++ r ∷ []
+take_more [] i r e = absurd (true≢false (sym (ap is_some e)))
+take_more (x ∷ xs) zero r e = ap (λ (o : Option Row). from o ∷ []) e
+  where
+    from : Option Row → Row
+    from None = x
+    from (Some y) = y
+take_more (x ∷ xs) (suc i) r e = ap (λ (l : List Row). x ∷ l) (take_more xs i r e)
+
+pub spelled_more : (f : Row → List ℕ) (rows : List Row) (i j : ℕ) (r : Row) (old out new : List ℕ) → j ≡ suc i
+    → slice_get rows i ≡ Some r → out ≡ old ++ flat_map f (take i rows) → new ≡ out ++ f r
+    → new ≡ old ++ flat_map f (take j rows)
+spelled_more f rows i j r old out new next at e n =
+    n ∙ ap (λ (x : List ℕ). x ++ f r) e ∙ append_assoc old (flat_map f (take i rows)) (f r)
+    ∙ ap (λ (x : List ℕ). old ++ (flat_map f (take i rows) ++ x)) (sym (append-nil (f r)))
+    ∙ ap (λ (x : List ℕ). old ++ x) (sym (flat_map-append f (take i rows) (r ∷ [])))
+    ∙ ap (λ (l : List Row). old ++ flat_map f l) (sym (take_more rows i r at))
+    ∙ ap (λ (k : ℕ). old ++ flat_map f (take k rows)) (sym next)
+
+-- an index of a list has a row
+pub some_within : (rows : List Row) (i : ℕ) → i < length rows → slice_get rows i ≡ None → ⊥
+some_within [] i h e = omega (arith, h)
+some_within (x ∷ xs) zero h e = true≢false (ap is_some e)
+some_within (x ∷ xs) (suc i) h e = some_within xs i (omega (arith, h)) e
+
+take_whole : (rows : List Row) (i : ℕ) → length rows ≤ i → take i rows ≡ rows
+take_whole [] zero h = refl
+take_whole [] (suc i) h = refl
+take_whole (x ∷ xs) zero h = absurd (omega (arith, h))
+take_whole (x ∷ xs) (suc i) h = ap (λ (l : List Row). x ∷ l) (take_whole xs i (omega (arith, h)))
+
+-- all rows of a list, and its end
+pub spelled_all : (f : Row → List ℕ) (rows : List Row) (i : ℕ) (old out new tail all : List ℕ) → length rows ≤ i
+    → out ≡ old ++ flat_map f (take i rows) → new ≡ out ++ tail → all ≡ flat_map f rows ++ tail → new ≡ old ++ all
+spelled_all f rows i old out new tail all past e n is =
+    n ∙ ap (λ (x : List ℕ). x ++ tail) (e ∙ ap (λ (l : List Row). old ++ flat_map f l) (take_whole rows i past))
+    ∙ append_assoc old (flat_map f rows) tail ∙ ap (λ (x : List ℕ). old ++ x) (sym is)
+
+nested : (a b c d e f : List ℕ) → ((((a ++ b) ++ c) ++ d) ++ e) ++ f ≡ a ++ (b ++ (c ++ (d ++ (e ++ f))))
+nested a b c d e f = simp append_assoc
+
+-- the parts of a row, one after another
+pub row_added : (r : Row) (o x1 x2 x3 x4 x5 x6 n a w : List ℕ) → n ≡ r.netid → a ≡ r.address → w ≡ r.owner → x1 ≡ o
+    ++ word 1 → x2 ≡ x1 ++ word r.prog → x3 ≡ x2 ++ word r.vers → x4 ≡ x3 ++ text n → x5 ≡ x4 ++ text a → x6 ≡ x5
+    ++ text w
+    → x6 ≡ o ++ row_bytes r
+row_added r o x1 x2 x3 x4 x5 x6 n a w en ea ew e1 e2 e3 e4 e5 e6 =
+    let p = word 1 in
+    let q = word r.prog in
+    let v = word r.vers in
+    let t4 = e4 ∙ ap (λ (t : List ℕ). x3 ++ text t) en in
+    let t5 = e5 ∙ ap (λ (t : List ℕ). x4 ++ text t) ea in
+    let t6 = e6 ∙ ap (λ (t : List ℕ). x5 ++ text t) ew in
+    then o ((((p ++ q) ++ v) ++ text r.netid) ++ text r.address) (text r.owner) x5 x6
+    (then o (((p ++ q) ++ v) ++ text r.netid) (text r.address) x4 x5 (then o ((p ++ q) ++ v) (text r.netid) x3 x4
+    (then o (p ++ q) v x2 x3 (then o p q x1 x2 e1 e2) e3) t4) t5) t6
+    ∙ ap (λ (x : List ℕ). o ++ x) (nested p q v (text r.netid) (text r.address) (text r.owner))

@@ -1,0 +1,107 @@
+//! The rows of the registry as results.
+ghost use Rattle.std.specs.Prelude.{◌≡◌, ◌≤◌, ◌++◌, length, OnOk};
+ghost use Rattle.xdr_types.specs.Spelling.{bytes_of};
+ghost use Rattle.rpc_rows.specs.Rows.{IsRow};
+ghost use Rattle.rpc_rows.specs.Views.{plain_row};
+ghost use Rattle.rpc_dumps.specs.Dir.{dir_kinds};
+ghost use Rattle.rpc_dumps.specs.Dumps.{rpcb_list, mapping_list, prot_of};
+ghost use Rattle.rpc_answer.specs.Pushes.{row_bytes, mapping_bytes, mapping_at_bytes};
+
+use crate::replies::push_text;
+use rpc_directory::{Directory, Row, Uaddr, read_uaddr};
+use std::alloc::AllocError;
+use std::hash::BuildHasher;
+use xdr_units::push_word;
+
+/// Writes all rows in order as an `rpcblist` (RFC 1833 section 2.2.1, RPCBPROC_DUMP).
+pub fn push_rows<S: BuildHasher>(
+    directory: &Directory<S>,
+    out: &mut Vec<u8>,
+) -> Result<(), AllocError>
+    ensures ok { OnOk result (out.new.items ≡ out.old.items ++ bytes_of dir_kinds 14 (rpcb_list directory.now)) }
+    ensures few { length (bytes_of dir_kinds 14 (rpcb_list directory.now)) ≤ 16777216 }
+{
+    let rows = directory.rows();
+    for index in 0..rows {
+        match directory.row(index) {
+            Some(row) => push_row(row, out)?,
+            None => {}
+        }
+    }
+    push_word(out, 0)?;
+    Ok(())
+}
+
+/// Writes that a row follows, and the row.
+fn push_row(row: &Row, out: &mut Vec<u8>) -> Result<(), AllocError>
+    requires { IsRow (plain_row row.now) }
+    ensures { OnOk result (out.new.items ≡ out.old.items ++ row_bytes (plain_row row.now)) }
+{
+    push_word(out, 1)?;
+    push_word(out, row.prog)?;
+    push_word(out, row.vers)?;
+    push_text(out, &row.netid)?;
+    push_text(out, &row.address)?;
+    push_text(out, &row.owner)?;
+    Ok(())
+}
+
+/// Writes the rows over `tcp` and `udp` whose address is a universal address over IPv4, in order, as a `pmaplist` (RFC
+/// 1833 section 3.2, PMAPPROC_DUMP).
+pub fn push_mappings<S: BuildHasher>(
+    directory: &Directory<S>,
+    out: &mut Vec<u8>,
+) -> Result<(), AllocError>
+    ensures ok { OnOk result (out.new.items ≡ out.old.items ++ bytes_of dir_kinds 18 (mapping_list directory.now)) }
+    ensures few { length (bytes_of dir_kinds 18 (mapping_list directory.now)) ≤ 16777216 }
+{
+    let rows = directory.rows();
+    for index in 0..rows {
+        match directory.row(index) {
+            Some(row) => push_mapping(row, out)?,
+            None => {}
+        }
+    }
+    push_word(out, 0)?;
+    Ok(())
+}
+
+/// Writes that a mapping follows, and the mapping, where the row has one.
+fn push_mapping(row: &Row, out: &mut Vec<u8>) -> Result<(), AllocError>
+    ensures { OnOk result (out.new.items ≡ out.old.items ++ mapping_bytes (plain_row row.now)) }
+{
+    match (prot_of(&row.netid), read_uaddr(&row.address)) {
+        (Some(prot), Some(address)) => push_mapping_at(row, prot, address, out),
+        _ => Ok(()),
+    }
+}
+
+/// Writes that a mapping follows, and the mapping.
+fn push_mapping_at(
+    row: &Row,
+    prot: u32,
+    address: Uaddr,
+    out: &mut Vec<u8>,
+) -> Result<(), AllocError>
+    ensures { OnOk result (out.new.items ≡ out.old.items ++ mapping_at_bytes (plain_row row.now) prot address) }
+{
+    push_word(out, 1)?;
+    push_word(out, row.prog)?;
+    push_word(out, row.vers)?;
+    push_word(out, prot)?;
+    push_word(out, u32::from(address.port))?;
+    Ok(())
+}
+
+/// The number of a transport that version 2 knows.
+fn prot_of(netid: &[u8]) -> Option<u32>
+    ensures { result ≡ prot_of netid.now }
+{
+    if netid == b"tcp".as_slice() {
+        Some(6)
+    } else if netid == b"udp".as_slice() {
+        Some(17)
+    } else {
+        None
+    }
+}

@@ -1,0 +1,62 @@
+//! Texts and the heads of replies, written behind bytes.
+ghost use Rattle.std.specs.Prelude.{◌≡◌, ◌<◌, ◌^◌, ◌++◌, length, OnOk};
+ghost use Rattle.xdr_units.specs.Numbers.{IsWord};
+ghost use Rattle.rpc_message.specs.Message.{RpcMismatch, Denied};
+ghost use Rattle.rpc_message.specs.Spelling.{reply};
+ghost use Rattle.rpc_answer.specs.Answer.{auth_error};
+ghost use Rattle.rpc_answer.specs.Parsed.{text};
+ghost use Rattle.rpc_answer.specs.Pushes.{head};
+
+use std::alloc::AllocError;
+use xdr_units::{push_padded, push_word};
+
+/// Writes the length of a text, its bytes, and zeros up to a multiple of four (RFC 4506 section 4.11). The text is
+/// shorter than 2^32 bytes.
+pub fn push_text(out: &mut Vec<u8>, content: &[u8]) -> Result<(), AllocError>
+    requires { length content.now < 2 ^ 32 }
+    ensures { OnOk result (out.new.items ≡ out.old.items ++ text content.now) }
+{
+    push_word(out, content.len() as u32)?;
+    push_padded(out, content)
+}
+
+/// Writes the words of an accepted reply up to its number, `accept_stat`. Its verifier is AUTH_NONE with an empty body
+/// (RFC 5531 section 9).
+pub fn push_head(out: &mut Vec<u8>, xid: u32, stat: u32) -> Result<(), AllocError>
+    ensures ok { OnOk result (out.new.items ≡ out.old.items ++ head xid stat) }
+    ensures fits { IsWord xid }
+{
+    push_word(out, xid)?;
+    push_word(out, 1)?;
+    push_word(out, 0)?;
+    push_word(out, 0)?;
+    push_word(out, 0)?;
+    push_word(out, stat)?;
+    Ok(())
+}
+
+/// Writes a reply that denies a call for an `auth_stat` (RFC 5531 section 9).
+pub fn push_auth_error(out: &mut Vec<u8>, xid: u32, stat: u32) -> Result<(), AllocError>
+    ensures ok { OnOk result (out.new.items ≡ out.old.items ++ reply (auth_error xid stat)) }
+    ensures fits { IsWord xid }
+    ensures stat { IsWord stat }
+{
+    push_word(out, xid)?;
+    push_word(out, 1)?;
+    push_word(out, 1)?;
+    push_word(out, 1)?;
+    push_word(out, stat)
+}
+
+/// Writes the reply to a call of another version of RPC: version 2 alone is spoken here (RFC 5531 section 9).
+pub fn push_rpc_mismatch(out: &mut Vec<u8>, xid: u32) -> Result<(), AllocError>
+    ensures ok { OnOk result (out.new.items ≡ out.old.items ++ reply (Denied xid (RpcMismatch 2 2))) }
+    ensures fits { IsWord xid }
+{
+    push_word(out, xid)?;
+    push_word(out, 1)?;
+    push_word(out, 1)?;
+    push_word(out, 0)?;
+    push_word(out, 2)?;
+    push_word(out, 2)
+}

@@ -1,0 +1,5 @@
+//! Tests of `rpc_answer` by its public calls.
+mod asked;
+mod captured;
+mod refused;
+mod rows;
