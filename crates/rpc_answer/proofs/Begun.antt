@@ -1,6 +1,6 @@
 -- Which values a `mapping` and an `rpcb` are, and where the arguments begin with one.
-use Rattle.std.proofs.Common.{◌≡◌, ℕ, ◌+◌, ◌-◌, ◌<◌, ◌≤◌, ◌^◌, List, [], ◌∷◌, ◌++◌, length, true, ◌&&◌, refl, ap, sym}
-use Rattle.std.proofs.Common.{◌∙◌, subst, arith, append_assoc, append-nil, leb-true, le-leb, nat_le}
+use Rattle.std.proofs.Common.{◌≡◌, ℕ, ◌+◌, ◌-◌, ◌<◌, ◌≤◌, ◌^◌, List, [], ◌∷◌, ◌++◌, length, Bool, true, false, ◌&&◌}
+use Rattle.std.proofs.Common.{refl, ap, sym, ◌∙◌, subst, arith, append_assoc, append-nil, leb-true, le-leb, nat_le}
 use Rattle.std.proofs.lemmas.Bool.{false≢true}
 use Rattle.std.proofs.lemmas.List.{length-append}
 use Rattle.xdr_types.specs.Kinds as xdr
@@ -10,7 +10,6 @@ use Rattle.xdr_types.specs.Tree.{Head, Values, Tree, depth, from_list}
 use Rattle.xdr_units.specs.Numbers.{word, pad, padded}
 use Rattle.xdr_types.specs.Fits.{Fits, fits, fit, is_legal, parts, are_bytes}
 use Rattle.xdr_types.specs.Spelling.{bytes_of}
-use Rattle.xdr_types.proofs.Unique.{both}
 use Rattle.rpc_rows.specs.Rows.{row_of}
 use Rattle.rpc_dumps.specs.Dir.{dir_kinds}
 use Rattle.rpc_dumps.specs.Dumps.{number, group, rpcb_tree}
@@ -19,6 +18,10 @@ use Rattle.rpc_answer.specs.Parsed.{text, HasNoText}
 use Rattle.xdr_units.proofs.Bytes.{same_word}
 use Rattle.rpc_answer.proofs.Decoded.{begins, decoded}
 use Rattle.rpc_answer.proofs.Fields.{text_front, short_word}
+
+both : (a b : Bool) → a && b ≡ true → (a ≡ true) × (b ≡ true)
+both true b h = (refl, h)
+both false b h = absurd (false≢true h)
 
 -- ---- the fields of a value that fits
 

@@ -7,6 +7,8 @@ use Rattle.rpc_rows.specs.Steps.{Step, set, unset, getaddr}
 use Rattle.rpc_rows.specs.Ports.{set_port, unset_port, get_port}
 use Rattle.rpc_dumps.specs.Dumps.{number, content, rpcb_list, mapping_list}
 
+-- Places of kinds: 1 unsigned, 4 bool, 5 void, 7 string, 11 `rpcb`, 14 `rpcblist`, 15 `mapping`, 18 `pmaplist`.
+
 -- A procedure: the places of its arguments' kind and its results' kind among the registry's kinds, and its step, which
 -- makes of the rows, the transport's netid, the owner and the arguments the new rows and the results.
 pub record Procedure : Type 0 where
