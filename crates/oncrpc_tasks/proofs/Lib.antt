@@ -4,3 +4,4 @@ pub mod Procedures
 pub mod Questions
 pub mod Texts
 pub mod Counts
+pub mod Failed

@@ -60,6 +60,7 @@ pub fn records_over<I: Source, O: Sink, F: Sink>(
 }
 
 // The records of an input that is read as it is.
+#[tactic(auto, using(crate::proofs::Failed::failed_by))]
 fn bytes_over<I: Source, O: Sink, F: Sink>(
     alloc: Global,
     input: &mut I,

@@ -1,6 +1,6 @@
 //! Universal addresses over IPv4: which texts are read as which address, and what is written
 //! (RFC 5665 section 5.2.3.3).
-ghost use Rattle.std.specs.Prelude.{◌≡◌, [], codes, Some, None, IfOk, IfSome};
+ghost use Rattle.std.specs.Prelude.{◌≡◌, [], ◌∷◌, codes, Some, None, IfOk, IfSome};
 ghost use Rattle.rpc_uaddr.specs.Uaddrs.{IsUaddr};
 
 use rpc_uaddr::{NoMemory, Uaddr, read_uaddr, uaddr_reads_back, write_uaddr};

@@ -6,7 +6,6 @@ pub use Rattle.xdr_grammar.specs.Outline
 pub use Rattle.xdr_grammar.specs.Spelled
 pub use Rattle.xdr_grammar.specs.Tree
 pub use Rattle.xdr_types.specs.Faults
-pub use Rattle.xdr_types.specs.Kinds
 pub use Rattle.xdr_types.specs.KindViews
 pub use Rattle.xdr_types.specs.Named
 pub use Rattle.xdr_types.specs.Sound
