@@ -7,7 +7,7 @@ use Rattle.rpc_record.specs.Marked.{header, fragment, IsContent, Stream, OneLong
 use Rattle.rpc_record.specs.declared.place.Place.{Place}
 use Rattle.rpc_record.specs.declared.place.Place.TheVariants as place
 use Rattle.rpc_record.specs.declared.reader.RecordReader.{RecordReader}
-use Rattle.rpc_record.specs.Reading.{Upto, TooLongAt, WholeHasNoLong}
+use Rattle.rpc_record.specs.Reading.{Upto, TooLongAt, HasNoLong, WholeHasNoLong, OneTooLong}
 use Rattle.rpc_record.specs.Fields.{StandsAt, IsTakingAt, begun_bytes}
 use Rattle.rpc_record.specs.Reading.{capped}
 use Rattle.rpc_record.specs.Stands.{Stands, IsTaking, limit_of}
@@ -131,3 +131,60 @@ pub whole_not_long : WholeHasNoLong
 whole_not_long limit rs bytes w others at t =
     not_long_at limit at (capped (length bytes)) place.Between [] bytes rs others tt (refl, w, refl)
     (Longest-same limit rs others bytes (Longest-whole limit rs bytes w) (Longest-long limit at others bytes t)) t
+
+-- two headers that pass the limit, each behind fragments that do not
+one_header : (limit used : ℕ) (firsts gs : List (List ℕ)) (l k : Bool) (n m : ℕ) (x y : List ℕ) → All IsContent firsts
+    → All IsContent gs → n < 2 ^ 31 → m < 2 ^ 31 → used + length (concat firsts) ≤ limit
+    → used + length (concat gs) ≤ limit → limit < used + length (concat firsts) + n
+    → limit < used + length (concat gs) + m
+    → flat_map (fragment false) firsts ++ (header l n ++ x) ≡ flat_map (fragment false) gs ++ (header k m ++ y)
+    → firsts ≡ gs
+one_header limit used [] [] l k n m x y p q i j a b long other e = refl
+one_header limit used [] (g ∷ gs) l k n m x y p q i j a b long other e =
+    let s = header-same l false n (length g) x (g ++ (flat_map (fragment false) gs ++ (header k m ++ y))) i
+    (q 0 [] (omega arith))
+    (e ∙ append_assoc (fragment false g) (flat_map (fragment false) gs) (header k m ++ y)
+    ∙ append_assoc (header false (length g)) g _) in
+    absurd (omega (arith, s.1, b, long, length-append g (concat gs)))
+one_header limit used (f ∷ fs) [] l k n m x y p q i j a b long other e =
+    let s = header-same k false m (length f) y (f ++ (flat_map (fragment false) fs ++ (header l n ++ x))) j
+    (p 0 [] (omega arith))
+    (sym e ∙ append_assoc (fragment false f) (flat_map (fragment false) fs) (header l n ++ x)
+    ∙ append_assoc (header false (length f)) f _) in
+    absurd (omega (arith, s.1, a, other, length-append f (concat fs)))
+one_header limit used (f ∷ fs) (g ∷ gs) l k n m x y p q i j a b long other e =
+    let s = fragment-same false false f g _ _ (p 0 [] (omega arith)) (q 0 [] (omega arith))
+    (sym (append_assoc (fragment false f) _ _) ∙ e ∙ append_assoc (fragment false g) _ _) in
+    let same : length f ≡ length g = ap length s.1 in
+    let lf = length-append f (concat fs) in
+    let lg = length-append g (concat gs) in
+    let rest = one_header limit (used + length f) fs gs l k n m x y (λ h d lt. p (suc h) d (omega arith))
+    (λ h d lt. q (suc h) d (omega arith)) i j (omega (arith, a, lf)) (omega (arith, b, lg, same))
+    (omega (arith, long, lf)) (omega (arith, other, lg, same)) s.2 in
+    ap (λ z. z ∷ fs) s.1 ∙ ap (λ z. g ∷ z) rest
+
+pub one_too_long : OneTooLong
+one_too_long limit at other rs bytes h k =
+    let rest = Stream-rest rs h.upto.whole k.upto.whole
+    (flat_map (fragment false) h.upto.firsts ++ (header h.last h.count ++ h.more))
+    (flat_map (fragment false) k.upto.firsts ++ (header k.last k.count ++ k.more)) h.upto.stream k.upto.stream
+    (sym (h.spelled ∙ ap (λ b. b ++ (header h.last h.count ++ h.more)) h.upto.spelled
+    ∙ append_assoc h.upto.whole _ _) ∙ k.spelled
+    ∙ ap (λ b. b ++ (header k.last k.count ++ k.more)) k.upto.spelled ∙ append_assoc k.upto.whole _ _) in
+    let same = one_header limit 0 h.upto.firsts k.upto.firsts h.last k.last h.count k.count h.more k.more h.upto.each
+    k.upto.each h.counted k.counted (omega (arith, h.upto.fits, ap length h.upto.joined))
+    (omega (arith, k.upto.fits, ap length k.upto.joined)) (omega (arith, h.passes, ap length h.upto.joined))
+    (omega (arith, k.passes, ap length k.upto.joined)) rest in
+    let joined = flat_map (fragment false) h.upto.firsts in
+    let other_joined = flat_map (fragment false) k.upto.firsts in
+    h.place ∙ ap capped (omega (
+      arith,
+      ap length h.spelled,
+      ap length k.spelled,
+      ap length rest,
+      length-append h.before (header h.last h.count ++ h.more),
+      length-append k.before (header k.last k.count ++ k.more),
+      length-append joined (header h.last h.count ++ h.more),
+      length-append other_joined (header k.last k.count ++ k.more),
+      ap (λ z. length (flat_map (fragment false) z)) same,
+    )) ∙ sym k.place

@@ -97,6 +97,11 @@ abbrev pub TooLongEnds : Type 0
 TooLongEnds = (limit at : ℕ) (rs : List (List ℕ)) (bytes more : List ℕ) → TooLongAt limit rs at bytes
     → TooLongAt limit rs at (bytes ++ more) × Longest limit rs (bytes ++ more)
 
+-- Behind the same records one header passes the limit: its place is one.
+abbrev pub OneTooLong : Type 0
+OneTooLong = (limit at other : ℕ) (rs : List (List ℕ)) (bytes : List ℕ) → TooLongAt limit rs at bytes
+    → TooLongAt limit rs other bytes → at ≡ other
+
 -- Whole records are themselves the longest front.
 abbrev pub WholeIsLongest : Type 0
 WholeIsLongest = (limit : ℕ) (rs : List (List ℕ)) (bytes : List ℕ) → IsWhole limit rs bytes → Longest limit rs bytes

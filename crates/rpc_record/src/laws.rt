@@ -1,7 +1,7 @@
 //! Laws of record marking: what the definitions of a record, of a stream and of its normal form come to.
 ghost use Rattle.rpc_record.specs.Marked.{NoneBeginsAnother, OneLongest, OneReading};
 ghost use Rattle.rpc_record.specs.Marked.{TwiceAsOnce, NormalJoins, FragmentLength};
-ghost use Rattle.rpc_record.specs.Reading.{TooLongEnds, WholeIsLongest, WholeHasNoLong, FaultsBegin};
+ghost use Rattle.rpc_record.specs.Reading.{TooLongEnds, OneTooLong, WholeIsLongest, WholeHasNoLong, FaultsBegin};
 
 /// Normalising twice gives what normalising once does, and bytes have one reading as records.
 pub fn twice_as_once()
@@ -16,10 +16,11 @@ pub fn no_record_begins_another()
     ensures whole { WholeIsLongest }
 {}
 
-/// A header that brings its record above the limit ends every longer stream of records within the limit, and whole
-/// records have none. Before whatever fault the bytes begin with whole records.
+/// A header that brings its record above the limit ends every longer stream of records within the limit, and stands at
+/// one place. Whole records have none. Before whatever fault the bytes begin with whole records.
 pub fn too_long_ends_the_stream()
     ensures ends { TooLongEnds }
+    ensures one { OneTooLong }
     ensures none { WholeHasNoLong }
     ensures begins { FaultsBegin }
 {}

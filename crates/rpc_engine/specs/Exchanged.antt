@@ -1,0 +1,83 @@
+-- What an exchange has written and read (RFC 5531 sections 9 and 11).
+use Rattle.std.specs.Prelude.{◌≡◌, ◌≢◌, ◌⊎◌, ℕ, ◌<◌, true, List, [], ◌∷◌, length, take, Option, Result, Ok, Err}
+use Rattle.std.specs.Io.KnownBytes.{Appends, Consumes, IsAtEnd}
+use Rattle.rpc_record.specs.declared.fault.RecordFault.TheVariants as flaw
+use Rattle.rpc_record.specs.Marked.{fragment, Longest}
+use Rattle.rpc_record.specs.Reading.{Begins, TooLongAt, HasNoLong, capped}
+use Rattle.rpc_message.specs.declared.message.Reply.{Reply}
+use Rattle.rpc_message.specs.declared.fault.ReplyFault.TheVariants as why
+use Rattle.rpc_message.specs.Message.{ReplyView, Accepted, Denied}
+use Rattle.rpc_message.specs.Spelling.{ReplyBytes}
+use Rattle.rpc_message.specs.Faults.{StandsIn}
+use Rattle.rpc_message.specs.View.{reply_view}
+use Rattle.rpc_engine.specs.declared.fault.ClientFault.{ClientFault}
+use Rattle.rpc_engine.specs.declared.fault.ClientFault.TheVariants as fault
+
+-- the most bytes of a reply (this project's own)
+abbrev pub most_reply : ℕ
+most_reply = 16777216
+
+-- the xid of a reply
+abbrev pub xid_of : ReplyView → ℕ
+xid_of (Accepted xid verf status) = xid
+xid_of (Denied xid why) = xid
+
+-- no reply is spelled so
+abbrev pub IsNoReply : List ℕ → Type 0
+IsNoReply bytes = (r : ReplyView) → ReplyBytes r bytes → ⊥
+
+-- r is the first record of the input, within the limit
+abbrev pub IsFirst : List ℕ → List ℕ → Type 0
+IsFirst r input = Begins most_reply (r ∷ []) input
+
+-- What the first record of an input is to a call: its reply, a reply with another xid, no reply, or there is none, since
+-- its header passes the limit at a place or since the input ends before it is whole.
+pub data Outcome : Type 0 where
+  Replied : (reply : ReplyView) → Outcome
+  OtherXid : (got : ℕ) → Outcome
+  NoReply : Outcome
+  TooLong : (at : ℕ) → Outcome
+  Truncated : (at : ℕ) → Outcome
+
+-- the case of an input, for a call with this xid
+abbrev pub IsOutcome : (xid : ℕ) → (input : List ℕ) → Outcome → Type 0
+IsOutcome xid input (Replied v) = (r : List ℕ) × (IsFirst r input × ReplyBytes v r × (xid_of v ≡ xid))
+IsOutcome xid input (OtherXid got) =
+    (r : List ℕ) × (IsFirst r input × ((v : ReplyView) × (ReplyBytes v r × (xid_of v ≡ got))) × (got ≢ xid))
+IsOutcome xid input NoReply = (r : List ℕ) × (IsFirst r input × IsNoReply r)
+IsOutcome xid input (TooLong at) = TooLongAt most_reply [] at input
+IsOutcome xid input (Truncated at) =
+    (at ≡ capped (length input)) × Longest most_reply [] input × HasNoLong most_reply input
+
+-- What the answer says of the input that was read. A fault of the reply names something that stands in the first record,
+-- and an input is cut only where the reader has no more. Where a read fails or there are too many, no record is whole.
+abbrev pub Reads : (xid : ℕ) → (input : List ℕ) → Option (List ℕ) → Result Reply ClientFault → Type 0
+Reads xid input left' (Ok reply) = IsOutcome xid input (Replied (reply_view reply))
+Reads xid input left' (Err (fault.WrongXid got)) = IsOutcome xid input (OtherXid got)
+Reads xid input left' (Err (fault.Reply f)) =
+    IsOutcome xid input NoReply × ((r : List ℕ) × (IsFirst r input × StandsIn f r)) × (f ≢ why.NoMemory)
+Reads xid input left' (Err (fault.Record (flaw.TooLong at))) = IsOutcome xid input (TooLong at)
+Reads xid input left' (Err (fault.Record (flaw.Truncated at))) = IsOutcome xid input (Truncated at) × IsAtEnd left'
+Reads xid input left' (Err (fault.Record _)) = ⊥
+Reads xid input left' (Err (fault.Write written)) = input ≡ []
+Reads xid input left' (Err fault.NoMemory) = Unit {0}
+Reads xid input left' (Err _) = Longest most_reply [] input × HasNoLong most_reply input
+
+-- The answer to a call with this xid, by what was read.
+pub record Exchanged (xid : ℕ) (left left' : Option (List ℕ)) (result : Result Reply ClientFault) : Type 0 where
+  pub input : List ℕ
+  pub read : Consumes left left' input
+  pub reads : Reads xid input left' result
+
+-- What was written: the call as one last fragment; after a failed write a front of it; where memory was refused all of it
+-- or nothing.
+abbrev pub Wrote : (call : List ℕ) → Option (List ℕ) → Option (List ℕ) → Result Reply ClientFault → Type 0
+Wrote call taken taken' (Err (fault.Write written)) =
+    (written < length (fragment true call)) × Appends taken taken' (take written (fragment true call))
+Wrote call taken taken' (Err fault.NoMemory) = Appends taken taken' [] ⊎ Appends taken taken' (fragment true call)
+Wrote call taken taken' _ = Appends taken taken' (fragment true call)
+
+-- an exchange has one failed write where it answers that, and else none
+abbrev pub write_failures : Result Reply ClientFault → ℕ
+write_failures (Err (fault.Write written)) = 1
+write_failures _ = 0

@@ -1,0 +1,178 @@
+//! The exchange of a call for a reply.
+ghost use Rattle.std.specs.Prelude.{◌≡◌, ◌≤◌, true, [], ◌∷◌, length, IfOk, IfErr, OnOk, OnErr, IsErrOf, MatchResult};
+ghost use Rattle.xdr_io.specs.Told.{Counts, CountsAtMost};
+ghost use Rattle.rpc_record.specs.Marked.{fragment};
+ghost use Rattle.rpc_record.specs.Stands.{IsTaking, limit_of};
+ghost use Rattle.rpc_message.specs.Spelling.{call as call_bytes};
+ghost use Rattle.rpc_message.specs.View.{call_view, reply_view};
+ghost use Rattle.rpc_engine.specs.Exchanged.{Exchanged, Wrote, xid_of, write_failures};
+ghost use Rattle.rpc_engine.specs.Private.Looking.{EndsAt, NextRecord, FirstRead, Replies, client_fault_of};
+ghost use Rattle.rpc_engine.specs.declared.fault.ClientFault.TheVariants as faults;
+
+use crate::fault::ClientFault;
+use rpc_message::{Call, Reply, ReplyFault, read_reply, write_call};
+use rpc_record::{RecordFault, RecordReader, RecordStep, mark, no_record_begins_another};
+use std::alloc::{AllocError, Global};
+use xdr_io::{MOST_READS, ReadFault, Sink, Source, write_whole};
+
+/// The most bytes of a reply that is kept.
+const MOST_REPLY: u32 = 16777216;
+
+/// The call as one last fragment.
+fn marked_call(alloc: Global, call: &Call) -> Result<Vec<u8>, ClientFault>
+    requires cred { length call.now.cred.body.items ≤ 400 }
+    requires verf { length call.now.verf.body.items ≤ 400 }
+    requires short { length (call_bytes (call_view call.now)) ≤ 2147483647 }
+    ensures { MatchResult result (λ v. v.items ≡ fragment true (call_bytes (call_view call.now)))
+        (λ f. f ≡ faults.NoMemory) }
+{
+    let Ok(bytes) = write_call(alloc, call) else {
+        return Err(ClientFault::NoMemory);
+    };
+    match mark(alloc, &bytes) {
+        Ok(record) => Ok(record),
+        Err(_) => Err(ClientFault::NoMemory),
+    }
+}
+
+/// What a fault of the record reader is to the client.
+fn record_fault(fault: RecordFault) -> ClientFault
+    ensures { result ≡ client_fault_of fault }
+{
+    match fault {
+        RecordFault::NoMemory => ClientFault::NoMemory,
+        other => ClientFault::Record(other),
+    }
+}
+
+/// Feeds a piece, and hands out the record that is whole then.
+fn next_record(records: &mut RecordReader, piece: &[u8]) -> Result<Option<Vec<u8>>, RecordFault>
+    requires { IsTaking records.old }
+    ensures limit { limit_of records.new ≡ limit_of records.old }
+    ensures next { NextRecord records.old records.new piece.now result }
+{
+    match records.feed(piece) {
+        Ok(RecordStep::More) => Ok(None),
+        Ok(RecordStep::Whole { used: _used }) => {
+            let record = records.take();
+            records.records_are_longest();
+            Ok(record)
+        }
+        Err(fault) => Err(fault),
+    }
+}
+
+/// The first record of a reader.
+fn first_record<R: Source>(alloc: Global, reader: &mut R) -> Result<Vec<u8>, ClientFault>
+    ensures found { FirstRead (R.left reader.old) (R.left reader.new) result }
+    ensures read { IsErrOf result ClientFault.Read → Counts 1 (R.failures reader.old) (R.failures reader.new) }
+    ensures reads { CountsAtMost 1048576 (R.reads reader.old) (R.reads reader.new) }
+    ensures many { IsErrOf result ClientFault.TooManyReads → Counts 1048576 (R.reads reader.old) (R.reads reader.new) }
+    ensures none_failed { OnOk result (Counts 0 (R.failures reader.old) (R.failures reader.new)) }
+{
+    let mut records = RecordReader::start(alloc, MOST_REPLY);
+    let mut array = [0u8; 4096];
+    records.records_are_longest();
+    for _turn in 0..MOST_READS {
+        let n = match reader.read(&mut array) {
+            Ok(n) => n,
+            Err(ReadFault) => return Err(ClientFault::Read),
+        };
+        if n == 0 {
+            return Err(ClientFault::Record(ended(&mut records)));
+        }
+        match next_record(&mut records, &array[..n]) {
+            Ok(None) => {}
+            Ok(Some(record)) => return Ok(record),
+            Err(fault) => return Err(record_fault(fault)),
+        }
+    }
+    Err(ClientFault::TooManyReads)
+}
+
+/// What is wrong with an input that ends before its first record is whole.
+fn ended(records: &mut RecordReader) -> RecordFault
+    requires { IsTaking records.old }
+    ensures { EndsAt records.old result }
+{
+    no_record_begins_another();
+    match records.end() {
+        Ok(()) => RecordFault::Truncated { at: 0 },
+        Err(fault) => fault,
+    }
+}
+
+/// The reply that a record is, to the call with this xid.
+fn reply_to(alloc: Global, xid: u32, message: &[u8]) -> Result<Reply, ClientFault>
+    ensures { Replies xid message.now result }
+{
+    match read_reply(alloc, message) {
+        Ok(reply) => {
+            let got = xid_of(&reply);
+            if got == xid {
+                Ok(reply)
+            } else {
+                Err(ClientFault::WrongXid { got })
+            }
+        }
+        Err(ReplyFault::NoMemory) => Err(ClientFault::NoMemory),
+        Err(fault) => Err(ClientFault::Reply(fault)),
+    }
+}
+
+/// The xid of a reply.
+fn xid_of(reply: &Reply) -> u32
+    ensures { result ≡ xid_of (reply_view reply.now) }
+{
+    match reply {
+        Reply::Accepted { xid, .. } => *xid,
+        Reply::Denied { xid, .. } => *xid,
+    }
+}
+
+/// Reads the first record as the reply to a call with this xid.
+fn receive<R: Source>(alloc: Global, reader: &mut R, xid: u32) -> Result<Reply, ClientFault>
+    ensures answer { Exchanged xid (R.left reader.old) (R.left reader.new) result }
+    ensures unwritten { write_failures result ≡ 0 }
+    ensures read { IsErrOf result ClientFault.Read → Counts 1 (R.failures reader.old) (R.failures reader.new) }
+    ensures reads { CountsAtMost 1048576 (R.reads reader.old) (R.reads reader.new) }
+    ensures many { IsErrOf result ClientFault.TooManyReads → Counts 1048576 (R.reads reader.old) (R.reads reader.new) }
+{
+    match first_record(alloc, reader) {
+        Ok(record) => reply_to(alloc, xid, &record),
+        Err(fault) => Err(fault),
+    }
+}
+
+/// Writes the call as one last fragment, and reads the first record, of at most 16777216 bytes, as its reply (RFC 5531
+/// sections 9 and 11). The call's credential and verifier have bodies of at most 400 bytes, and the call has at most
+/// 2147483647. What follows the first record in the last read is dropped. After `Write` the first `written` bytes of the
+/// call's record went out, and after `NoMemory` all of it or nothing. An input that ends before its first byte is
+/// `Truncated` at 0.
+pub fn exchange<R: Source, W: Sink>(
+    alloc: Global,
+    reader: &mut R,
+    writer: &mut W,
+    call: &Call,
+) -> Result<Reply, ClientFault>
+    requires cred { length call.now.cred.body.items ≤ 400 }
+    requires verf { length call.now.verf.body.items ≤ 400 }
+    requires short { length (call_bytes (call_view call.now)) ≤ 2147483647 }
+    ensures wrote { Wrote (call_bytes (call_view call.now)) (W.taken writer.old) (W.taken writer.new) result }
+    ensures answer { Exchanged call.now.xid (R.left reader.old) (R.left reader.new) result }
+    ensures read { IsErrOf result ClientFault.Read → Counts 1 (R.failures reader.old) (R.failures reader.new) }
+    ensures reads { CountsAtMost 1048576 (R.reads reader.old) (R.reads reader.new) }
+    ensures many { IsErrOf result ClientFault.TooManyReads → Counts 1048576 (R.reads reader.old) (R.reads reader.new) }
+    ensures write { Counts (write_failures result) (W.failures writer.old) (W.failures writer.new) }
+{
+    let marked = match marked_call(alloc, call) {
+        Ok(marked) => marked,
+        Err(_) => return Err(ClientFault::NoMemory),
+    };
+    match write_whole(writer, &marked) {
+        Ok(()) => receive(alloc, reader, call.xid),
+        Err(cut) => Err(ClientFault::Write {
+            written: cut.written as u64,
+        }),
+    }
+}
