@@ -1,5 +1,5 @@
 -- Looking for the first record, one read further, and its ends.
-use Rattle.std.proofs.Common.{◌≡◌, ℕ, ◌≤◌, ◌⊎◌, inr, List, [], ◌∷◌, ◌++◌, length, take, drop, true, Option, Some, None}
+use Rattle.std.proofs.Common.{◌≡◌, ℕ, ◌≤◌, inr, List, [], ◌∷◌, ◌++◌, length, take, drop, true, Option, Some, None}
 use Rattle.std.proofs.Common.{Result, Ok, Err, refl, sym, ap, ◌∙◌, subst, append_assoc, arith}
 use Rattle.std.specs.declared.vec.Vec.{Vec}
 use Rattle.std.specs.declared.alloc.Global.{Global}
@@ -12,7 +12,7 @@ use Rattle.rpc_record.specs.declared.reader.RecordReader.{RecordReader}
 use Rattle.rpc_record.specs.Marked.{fragment, Longest, OneLongest}
 use Rattle.rpc_record.specs.Reading.{Begins, Faulty, FaultyIn, IsFeedFault, IsWhole, IsInside, WholeIsLongest}
 use Rattle.rpc_record.specs.Reading.{HasNoLong, capped}
-use Rattle.rpc_record.specs.Stands.{Stands, Always, After, IsTaking, IsWaiting, Takes, Hands, Concludes, limit_of}
+use Rattle.rpc_record.specs.Stands.{Stands, Always, After, IsTaking, IsWaiting, Takes, Hands, limit_of}
 use Rattle.rpc_message.specs.declared.message.Reply.{Reply}
 use Rattle.rpc_engine.specs.declared.fault.ClientFault.{ClientFault}
 use Rattle.rpc_engine.specs.declared.fault.ClientFault.TheVariants as fault

@@ -1,15 +1,15 @@
 -- The five cases of an exchange exclude one another, and no input has none of them.
-use Rattle.std.proofs.Common.{◌≡◌, ◌≢◌, ℕ, zero, suc, ◌<◌, ◌≤◌, ◌⊎◌, inl, inr, List, [], ◌∷◌, ◌++◌, length, take, drop}
+use Rattle.std.proofs.Common.{◌≡◌, ℕ, zero, suc, ◌<◌, ◌≤◌, ◌⊎◌, inl, inr, List, [], ◌∷◌, ◌++◌, length, take, drop}
 use Rattle.std.proofs.Common.{refl, sym, ap, ◌∙◌, ◌↔◌, subst, append_assoc, arith}
 use Rattle.std.proofs.lemmas.Bool.{cases_eq, cases_lt}
 use Rattle.std.proofs.lemmas.List.{append-nil, take-append-drop, take-append-le, take_at}
 use Rattle.rpc_record.specs.Marked.{header, Longest, Marked, Stream, Within, NoneBeginsAnother}
-use Rattle.rpc_record.specs.Reading.{Begins, TooLongAt, HasNoLong, TooLongEnds, OneTooLong, capped}
+use Rattle.rpc_record.specs.Reading.{TooLongAt, HasNoLong, TooLongEnds, OneTooLong, capped}
 use Rattle.rpc_message.specs.Message.{ReplyView}
 use Rattle.rpc_message.specs.Spelling.{ReplyBytes}
 use Rattle.rpc_engine.specs.Exchanged.{most_reply, xid_of, IsNoReply, IsFirst, IsOutcome}
 use Rattle.rpc_engine.specs.Exchanged.{Outcome, Replied, OtherXid, NoReply, TooLong, Truncated}
-use Rattle.rpc_engine.specs.Laws.{OneOutcome, SomeOutcome, OutcomesStay, HasEnded}
+use Rattle.rpc_engine.specs.Laws.{OneOutcome, SomeOutcome, OutcomesStay}
 use Rattle.rpc_engine.proofs.First.{begins_more}
 
 -- of two fronts the longer one begins with the shorter

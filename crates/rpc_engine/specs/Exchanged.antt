@@ -30,8 +30,8 @@ IsNoReply bytes = (r : ReplyView) → ReplyBytes r bytes → ⊥
 abbrev pub IsFirst : List ℕ → List ℕ → Type 0
 IsFirst r input = Begins most_reply (r ∷ []) input
 
--- What the first record of an input is to a call: its reply, a reply with another xid, no reply, or there is none, since
--- its header passes the limit at a place or since the input ends before it is whole.
+-- What the first record of an input is to a call: its reply, a reply with another xid, no reply, or there is none,
+-- since a header passes the limit at a place or since the input ends before it is whole.
 pub data Outcome : Type 0 where
   Replied : (reply : ReplyView) → Outcome
   OtherXid : (got : ℕ) → Outcome
@@ -49,8 +49,9 @@ IsOutcome xid input (TooLong at) = TooLongAt most_reply [] at input
 IsOutcome xid input (Truncated at) =
     (at ≡ capped (length input)) × Longest most_reply [] input × HasNoLong most_reply input
 
--- What the answer says of the input that was read. A fault of the reply names something that stands in the first record,
--- and an input is cut only where the reader has no more. Where a read fails or there are too many, no record is whole.
+-- What the answer says of the input that was read. A fault of the reply names something that stands in the first
+-- record, and an input is cut only where the reader has no more. Where a read fails or there are too many, no record is
+-- whole.
 abbrev pub Reads : (xid : ℕ) → (input : List ℕ) → Option (List ℕ) → Result Reply ClientFault → Type 0
 Reads xid input left' (Ok reply) = IsOutcome xid input (Replied (reply_view reply))
 Reads xid input left' (Err (fault.WrongXid got)) = IsOutcome xid input (OtherXid got)
@@ -69,8 +70,8 @@ pub record Exchanged (xid : ℕ) (left left' : Option (List ℕ)) (result : Resu
   pub read : Consumes left left' input
   pub reads : Reads xid input left' result
 
--- What was written: the call as one last fragment; after a failed write a front of it; where memory was refused all of it
--- or nothing.
+-- What was written: the call as one last fragment; after a failed write a front of it; where memory was refused all of
+-- it or nothing.
 abbrev pub Wrote : (call : List ℕ) → Option (List ℕ) → Option (List ℕ) → Result Reply ClientFault → Type 0
 Wrote call taken taken' (Err (fault.Write written)) =
     (written < length (fragment true call)) × Appends taken taken' (take written (fragment true call))

@@ -1,6 +1,14 @@
 -- Laws of the run and of an exchange.
-use Rattle.std.specs.Prelude.{◌≡◌, ℕ, List, ◌++◌}
+use Rattle.std.specs.Prelude.{◌≡◌, ℕ, List, ◌++◌, Bool}
+use Rattle.rpc_rows.specs.Rows.{Row}
+use Rattle.rpc_engine.specs.Run.{Run}
 use Rattle.rpc_engine.specs.Exchanged.{Outcome, Truncated, IsOutcome}
+
+-- Two runs, the second along the records that follow and from the rows that the first left, are one.
+abbrev pub RunsJoin : Type 0
+RunsJoin = (rows mid new : List Row) (netid : List ℕ) (rs more : List (List ℕ)) (ys zs : List Bool)
+    (replies others : List (List ℕ)) → Run rows netid rs ys mid replies → Run mid netid more zs new others
+    → Run rows netid (rs ++ more) (ys ++ zs) new (replies ++ others)
 
 -- No input has two of the cases.
 abbrev pub OneOutcome : Type 0

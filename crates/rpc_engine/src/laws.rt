@@ -1,11 +1,16 @@
 //! Laws of the definitions that the contracts name. No call of them does anything.
-ghost use Rattle.rpc_engine.specs.Laws.{OneOutcome, SomeOutcome, OutcomesStay};
+ghost use Rattle.rpc_engine.specs.Laws.{RunsJoin, OneOutcome, SomeOutcome, OutcomesStay};
 
 use rpc_message::reply_bytes_are_exact;
 use rpc_record::{no_record_begins_another, too_long_ends_the_stream};
 
+/// Two runs of the registry, one after the other, are one: how a stream is cut does not matter.
+pub fn runs_join()
+    ensures { RunsJoin }
+{}
+
 /// Each input has one of the five cases of an exchange, and keeps it however it goes on, where it has not ended.
-pub fn one_outcome()
+pub fn exchanges_have_one_outcome()
     ensures exclusive { OneOutcome }
     ensures covering { SomeOutcome }
     ensures stays { OutcomesStay }

@@ -5,7 +5,11 @@
 mod client;
 mod fault;
 mod laws;
+mod server;
+mod session;
 
 pub use client::exchange;
 pub use fault::{ClientFault, ServeFault, Served};
-pub use laws::one_outcome;
+pub use laws::{exchanges_have_one_outcome, runs_join};
+pub use rpc_answer::{Answered, Transport, answer};
+pub use server::serve;

@@ -1,4 +1,4 @@
-//! Tests of records, messages, the registry and its answers by public calls.
+//! Tests of records, messages, the registry, its answers and what serves it by public calls.
 #![tactic(auto)]
 
 #[cfg(test)]
@@ -9,3 +9,5 @@ mod messages;
 mod records;
 #[cfg(test)]
 mod registry;
+#[cfg(test)]
+mod served;

@@ -1,5 +1,5 @@
 use Rattle.rpc_engine.proofs.Outcomes.{one_outcome, some_outcome, outcomes_stay}
-use Rattle.rpc_engine.proofs.laws.one_outcome.Goals as goal
+use Rattle.rpc_engine.proofs.laws.exchanges_have_one_outcome.Goals as goal
 
 pub returns-clause-exclusive : goal.returns-clause-exclusive
 returns-clause-exclusive c =

@@ -1,0 +1,257 @@
+//! Calls exchanged for replies.
+use crate::served::made::{Device, PLAIN, bytes_of};
+use growths::{allow, refuse};
+use rpc_engine::{ClientFault, exchange};
+use rpc_message::{Call, OpaqueAuth, Reply, ReplyFault, Status, Why};
+use rpc_record::RecordFault;
+use std::alloc::Global;
+use std::test::Fail;
+use xdr_io::{MemorySink, MemorySource};
+
+/// The null call of version 2 with xid 1, as it is written.
+const CALL: &str =
+    "80000028000000010000000000000002000186a0000000020000000000000000000000000000000000000000";
+
+/// What an exchange answers, without what lies in memory.
+#[derive(Clone, Copy, PartialEq, Eq)]
+enum Told {
+    /// A success with so many bytes of results.
+    Success(usize),
+    /// Denied with this `auth_stat`.
+    AuthError(u32),
+    /// Another reply.
+    OtherReply,
+    Fault(ClientFault),
+}
+
+/// What the answer tells.
+fn view(answer: &Result<Reply, ClientFault>) -> Told {
+    match answer {
+        Ok(
+            Reply::Accepted {
+                xid: 1,
+                status: Status::Success(results),
+                ..
+            },
+        ) => Told::Success(results.len()),
+        Ok(
+            Reply::Denied {
+                xid: 1,
+                why: Why::AuthError(stat),
+            },
+        ) => Told::AuthError(*stat),
+        Ok(_) => Told::OtherReply,
+        Err(fault) => Told::Fault(*fault),
+    }
+}
+
+/// An opaque_auth of flavor 0 and no bytes.
+fn no_auth(alloc: Global) -> OpaqueAuth {
+    OpaqueAuth {
+        flavor: 0,
+        body: Vec::new(alloc),
+    }
+}
+
+/// What exchanging the null call answers where these bytes come, and how many bytes of the call were written. `None`
+/// where others were.
+fn exchanged(
+    alloc: Global,
+    input: &[u8],
+    call: &[u8],
+    from: Device,
+    into: Device,
+) -> Option<(Told, usize)> {
+    let mut room = [0u8; 256];
+    let asked = Call {
+        xid: 1,
+        prog: 100000,
+        vers: 2,
+        proc: 0,
+        cred: no_auth(alloc),
+        verf: no_auth(alloc),
+        args: Vec::new(alloc),
+    };
+    let mut source = MemorySource::new(input, usize::from(from.piece).max(1), from.failing);
+    let mut sink = MemorySink::new(&mut room, usize::from(into.piece).max(1), into.failing);
+    let answer = exchange(alloc, &mut source, &mut sink, &asked);
+    let used = sink.used();
+    if call.get(..used) == Some(sink.written()) {
+        Some((view(&answer), used))
+    } else {
+        None
+    }
+}
+
+/// What comes, in hexadecimal, and what is told.
+type Row = (&'static str, Told);
+
+// A reply with and without results, also in two fragments and with a record behind it, and one that denies; a reply
+// with another xid; no reply, by each of its faults; no record, and one that is cut and one that is too long at its
+// first and at its second fragment.
+const ROWS: [Row; 16] = [
+    (
+        "80000018000000010000000100000000000000000000000000000000",
+        Told::Success(0),
+    ),
+    (
+        "0000001800000001000000010000000000000000000000000000000080000004000008018000000100",
+        Told::Success(4),
+    ),
+    (
+        "800000140000000100000001000000010000000100000005",
+        Told::AuthError(5),
+    ),
+    (
+        "80000018000000020000000100000000000000000000000000000000",
+        Told::Fault(ClientFault::WrongXid { got: 2 }),
+    ),
+    (
+        "80000014000000000000000100000001000000010000000100",
+        Told::Fault(ClientFault::WrongXid { got: 0 }),
+    ),
+    (
+        "8000000400000001",
+        Told::Fault(ClientFault::Reply(ReplyFault::Truncated)),
+    ),
+    (
+        "80000000",
+        Told::Fault(ClientFault::Reply(ReplyFault::Truncated)),
+    ),
+    (
+        "80000028000000010000000000000002000186a0000000020000000000000000000000000000000000000000",
+        Told::Fault(ClientFault::Reply(ReplyFault::NotAReply)),
+    ),
+    (
+        "8000000c000000010000000100000002",
+        Told::Fault(ClientFault::Reply(ReplyFault::BadStatus)),
+    ),
+    (
+        "8000001800000001000000010000000000000000000001910000000000000000",
+        Told::Fault(ClientFault::Reply(ReplyFault::BadAuth)),
+    ),
+    (
+        "8000001900000001000000010000000000000000000000000000000300",
+        Told::Fault(ClientFault::Reply(ReplyFault::Rest)),
+    ),
+    (
+        "",
+        Told::Fault(ClientFault::Record(RecordFault::Truncated { at: 0 })),
+    ),
+    (
+        "8000",
+        Told::Fault(ClientFault::Record(RecordFault::Truncated { at: 2 })),
+    ),
+    (
+        "800000180000000100000001",
+        Told::Fault(ClientFault::Record(RecordFault::Truncated { at: 12 })),
+    ),
+    (
+        "81000001",
+        Told::Fault(ClientFault::Record(RecordFault::TooLong { at: 0 })),
+    ),
+    (
+        "000000020000ffffffff",
+        Told::Fault(ClientFault::Record(RecordFault::TooLong { at: 6 })),
+    ),
+];
+
+/// Whether this is told, in and out in pieces of this size, and the whole call was written.
+fn is_told(alloc: Global, row: &Row, piece: u16) -> Option<bool> {
+    let device = Device {
+        piece,
+        failing: None,
+    };
+    let input = bytes_of(alloc, &[row.0])?;
+    let call = bytes_of(alloc, &[CALL])?;
+    let (answer, used) = exchanged(alloc, &input, &call, device, device)?;
+    Some(answer == row.1 && used == call.len())
+}
+
+#[test]
+fn the_first_record_is_the_answer(rt: HostRuntime) {
+    for piece in [1, 7, 4096] {
+        for (number, row) in ROWS.iter().enumerate() {
+            assert!(rt;
+                is_told(rt.alloc(), row, piece) == Some(true),
+                "row {number} in pieces of {piece}"
+            );
+        }
+    }
+}
+
+/// What is told where a read or a write fails, and how many bytes of the call were written. A reply comes in pieces of
+/// ten bytes, and the call goes out so.
+fn told_with(alloc: Global, read: Option<u64>, write: Option<u64>) -> Option<(Told, usize)> {
+    let from = Device {
+        piece: 10,
+        failing: read,
+    };
+    let into = Device {
+        piece: 10,
+        failing: write,
+    };
+    let input = bytes_of(alloc, &[ROWS[0].0])?;
+    let call = bytes_of(alloc, &[CALL])?;
+    exchanged(alloc, &input, &call, from, into)
+}
+
+// Three reads give 28 bytes, and the third gives the last of them.
+#[test]
+fn reads_fail_in_turn(rt: HostRuntime) {
+    for failing in 1..6 {
+        let wanted = if failing < 4 {
+            Told::Fault(ClientFault::Read)
+        } else {
+            Told::Success(0)
+        };
+        assert!(rt;
+            told_with(rt.alloc(), Some(failing), None) == Some((wanted, 44)),
+            "the read {failing} fails"
+        );
+    }
+}
+
+// Five writes take 44 bytes.
+#[test]
+fn writes_fail_in_turn(rt: HostRuntime) {
+    for failing in 1..8u64 {
+        let written = failing.saturating_sub(1).saturating_mul(10).min(44);
+        let wanted = if failing < 6 {
+            Told::Fault(ClientFault::Write { written })
+        } else {
+            Told::Success(0)
+        };
+        assert!(rt;
+            told_with(rt.alloc(), None, Some(failing)) == Some((wanted, written as usize)),
+            "the write {failing} fails"
+        );
+    }
+}
+
+/// What is told where the growth of this number is refused, and how many bytes of the call were written.
+fn told_without(rt: &HostRuntime, number: u64) -> Option<(Told, usize)> {
+    let alloc = rt.alloc();
+    let input = bytes_of(alloc, &[ROWS[1].0])?;
+    let call = bytes_of(alloc, &[CALL])?;
+    let _refuses = refuse(alloc, rt, number).ok()?;
+    let told = exchanged(alloc, &input, &call, PLAIN, PLAIN);
+    allow(rt);
+    told
+}
+
+// The call is written whole or not at all.
+#[test]
+fn growths_are_refused_in_turn(rt: HostRuntime) -> Result<(), Fail> {
+    let refuses = refuse(rt.alloc(), &rt, 1)?;
+    allow(&rt);
+    for number in 1..24 {
+        let is_well = match told_without(&rt, number) {
+            Some((Told::Success(4), 44)) => !refuses || number > 1,
+            Some((Told::Fault(ClientFault::NoMemory), 0 | 44)) => refuses && number < 23,
+            _ => false,
+        };
+        assert!(rt; is_well, "the growth {number}");
+    }
+    Ok(())
+}

@@ -1,0 +1,7 @@
+//! The registry as a server over streams, and calls exchanged for replies.
+
+mod devices;
+mod exchanges;
+mod made;
+mod memory;
+mod rows;
