@@ -1,6 +1,6 @@
 //! Universal addresses over IPv4: which texts are read as which address, and what is written
 //! (RFC 5665 section 5.2.3.3).
-ghost use Rattle.std.specs.Prelude.{◌≡◌, [], ◌∷◌, codes, Some, None, IfOk, IfSome};
+ghost use Rattle.std.specs.Prelude.{◌≡◌, [], ◌∷◌, codes, Some, None, IfOk, IfSome, option_map};
 ghost use Rattle.rpc_uaddr.specs.Uaddrs.{IsUaddr};
 
 use rpc_uaddr::{NoMemory, Uaddr, read_uaddr, uaddr_reads_back, write_uaddr};
@@ -87,12 +87,9 @@ pub fn writes_the_port_by_octets(alloc: Global) -> Result<Vec<u8>, NoMemory>
 }
 
 /// And so they are read.
-pub fn reads_the_port_by_octets(text: &[u8]) -> Option<u16>
+pub fn reads_the_port_by_octets(text: &[u8]) -> Option<Uaddr>
     requires { text.now ≡ codes "127.0.0.1.8.1" }
-    ensures { result ≡ Some 2049 }
+    ensures { option_map (λ a. a.port) result ≡ Some 2049 }
 {
-    match read_uaddr(text) {
-        Some(address) => Some(address.port),
-        None => None,
-    }
+    read_uaddr(text)
 }

@@ -49,16 +49,6 @@ pub fn dump_of_two_rows<S: BuildHasher + Drop>(alloc: Global, hasher: S) -> Resu
     directory.dump(alloc)
 }
 
-/// A row over `udp` is a mapping with transport 17 and the port's number (RFC 1833 section 3.1).
-pub fn mapping_of_a_row<S: BuildHasher + Drop>(alloc: Global, hasher: S) -> Result<Value, NoMemory>
-    ensures { IfOk result (λ list. tree list ≡
-        linked (group (number 7 ∷ number 1 ∷ number 17 ∷ number 2049 ∷ []) ∷ [])) }
-{
-    let mut directory = Directory::new(alloc, hasher);
-    directory.set(alloc, 7, 1, b"udp", b"127.0.0.1.8.1", b"1000")?;
-    directory.dump_ports(alloc)
-}
-
 /// `dump_ports` leaves out rows over other transports than `tcp` and `udp`, also at an address over IPv4.
 pub fn dump_without_ports<S: BuildHasher + Drop>(
     alloc: Global,
