@@ -4,3 +4,4 @@
 pub mod addresses;
 pub mod directory;
 pub mod dumps;
+pub mod served;

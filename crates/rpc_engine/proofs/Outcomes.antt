@@ -1,15 +1,20 @@
 -- The five cases of an exchange exclude one another, and no input has none of them.
 use Rattle.std.proofs.Common.{◌≡◌, ℕ, zero, suc, ◌<◌, ◌≤◌, ◌⊎◌, inl, inr, List, [], ◌∷◌, ◌++◌, length, take, drop}
-use Rattle.std.proofs.Common.{refl, sym, ap, ◌∙◌, ◌↔◌, subst, append_assoc, arith}
+use Rattle.std.proofs.Common.{Option, Some, None, Result, Ok, Err, refl, sym, ap, ◌∙◌, ◌↔◌, subst, append_assoc, arith}
 use Rattle.std.proofs.lemmas.Bool.{cases_eq, cases_lt}
 use Rattle.std.proofs.lemmas.List.{append-nil, take-append-drop, take-append-le, take_at}
 use Rattle.rpc_record.specs.Marked.{header, Longest, Marked, Stream, Within, NoneBeginsAnother}
 use Rattle.rpc_record.specs.Reading.{TooLongAt, HasNoLong, TooLongEnds, OneTooLong, capped}
 use Rattle.rpc_message.specs.Message.{ReplyView}
 use Rattle.rpc_message.specs.Spelling.{ReplyBytes}
-use Rattle.rpc_engine.specs.Exchanged.{most_reply, xid_of, IsNoReply, IsFirst, IsOutcome}
+use Rattle.rpc_message.specs.declared.message.Reply.{Reply}
+use Rattle.rpc_message.specs.View.{reply_view}
+use Rattle.rpc_record.specs.declared.fault.RecordFault.TheVariants as flaw
+use Rattle.rpc_engine.specs.declared.fault.ClientFault.{ClientFault}
+use Rattle.rpc_engine.specs.declared.fault.ClientFault.TheVariants as fault
+use Rattle.rpc_engine.specs.Exchanged.{most_reply, xid_of, IsNoReply, IsFirst, IsOutcome, IsAnswer, IsExact, Exchanged}
 use Rattle.rpc_engine.specs.Exchanged.{Outcome, Replied, OtherXid, NoReply, TooLong, Truncated}
-use Rattle.rpc_engine.specs.Laws.{OneOutcome, SomeOutcome, OutcomesStay}
+use Rattle.rpc_engine.specs.Laws.{OneOutcome, SomeOutcome, OutcomesStay, HasEnded}
 use Rattle.rpc_engine.proofs.First.{begins_more}
 
 -- of two fronts the longer one begins with the shorter
@@ -102,14 +107,50 @@ module _ (exact : ReplyLaw) (none : NoneBeginsAnother) (ends : TooLongEnds) (one
   one_outcome xid input (OtherXid got) (Truncated at) k a = absurd (none_first k.0 input a.1 k.1.0)
   one_outcome xid input NoReply (Truncated at) k a = absurd (none_first k.0 input a.1 k.1.0)
 
-  pub outcomes_stay : OutcomesStay
-  outcomes_stay xid input more (Replied v) n (r, h) =
-      (r, (begins_more most_reply (r ∷ []) input more h.0, h.1, h.2))
-  outcomes_stay xid input more (OtherXid got) n (r, h) =
-      (r, (begins_more most_reply (r ∷ []) input more h.0, h.1, h.2))
-  outcomes_stay xid input more NoReply n (r, (h, q)) = (r, (begins_more most_reply (r ∷ []) input more h, q))
-  outcomes_stay xid input more (TooLong at) n h = (ends most_reply at [] input more h).0
-  outcomes_stay xid input more (Truncated at) n h = absurd (n tt)
+pub outcomes_stay : TooLongEnds → OutcomesStay
+outcomes_stay ends xid input more (Replied v) n (r, h) =
+    (r, (begins_more most_reply (r ∷ []) input more h.0, h.1, h.2))
+outcomes_stay ends xid input more (OtherXid got) n (r, h) =
+    (r, (begins_more most_reply (r ∷ []) input more h.0, h.1, h.2))
+outcomes_stay ends xid input more NoReply n (r, (h, q)) = (r, (begins_more most_reply (r ∷ []) input more h, q))
+outcomes_stay ends xid input more (TooLong at) n h = (ends most_reply at [] input more h).0
+outcomes_stay ends xid input more (Truncated at) n h = absurd (n tt)
+
+-- ---- the answer of an exchange
+
+module _ (ends : TooLongEnds) (xid : ℕ) (all rest : List ℕ) where
+  stays : (o : Outcome) → (HasEnded o → ⊥) → (input : List ℕ) → all ≡ input ++ rest → IsOutcome xid input o
+      → IsOutcome xid all o
+  stays o n input e h = subst (λ b. IsOutcome xid b o) (sym e) (outcomes_stay ends xid input rest o n h)
+
+  -- what was read has the case, and so has all that the reader holds
+  pub exact : (result : Result Reply ClientFault) (h : Exchanged xid (Some all) (Some rest) result)
+      → IsAnswer xid all result
+  exact (Ok reply) h = stays (Replied (reply_view reply)) (λ z. z) h.input h.read h.reads
+  exact (Err (fault.WrongXid got)) h = stays (OtherXid got) (λ z. z) h.input h.read h.reads
+  exact (Err (fault.Reply f)) h = stays NoReply (λ z. z) h.input h.read h.reads.0
+  exact (Err (fault.Record (flaw.TooLong at))) h = stays (TooLong at) (λ z. z) h.input h.read h.reads
+  exact (Err (fault.Record (flaw.Truncated at))) h =
+      subst (λ b. IsOutcome xid b (Truncated at))
+      (sym (h.read ∙ ap (λ k. h.input ++ k) h.reads.1 ∙ append-nil h.input)) h.reads.0
+  exact (Err (fault.Record flaw.Read)) h = tt
+  exact (Err (fault.Record (flaw.Write written))) h = tt
+  exact (Err (fault.Record flaw.TooManyReads)) h = tt
+  exact (Err (fault.Record flaw.NoMemory)) h = tt
+  exact (Err fault.Read) h = tt
+  exact (Err (fault.Write written)) h = tt
+  exact (Err fault.TooManyReads) h = tt
+  exact (Err fault.NoMemory) h = tt
+
+none_some : (input : List ℕ) → None ≡ Some input → ⊥
+none_some input e = cc
+
+pub exact_answer : TooLongEnds → (xid : ℕ) (l m : Option (List ℕ)) (result : Result Reply ClientFault)
+    → Exchanged xid l m result → IsExact xid l result
+exact_answer ends xid None m result h input e = absurd (none_some input e)
+exact_answer ends xid (Some all) None result h input e = absurd h.read
+exact_answer ends xid (Some all) (Some rest) result h input e =
+    exact ends xid input rest result (subst (λ b. Exchanged xid b (Some rest) result) e h)
 
 -- ---- an input without any case
 

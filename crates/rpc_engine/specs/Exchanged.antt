@@ -1,5 +1,6 @@
 -- What an exchange has written and read (RFC 5531 sections 9 and 11).
-use Rattle.std.specs.Prelude.{◌≡◌, ◌≢◌, ◌⊎◌, ℕ, ◌<◌, true, List, [], ◌∷◌, length, take, Option, Result, Ok, Err}
+use Rattle.std.specs.Prelude.{◌≡◌, ◌≢◌, ◌⊎◌, ℕ, ◌<◌, true, List, [], ◌∷◌, length, take, Option}
+use Rattle.std.specs.Prelude.{Some, Result, Ok, Err}
 use Rattle.std.specs.Io.KnownBytes.{Appends, Consumes, IsAtEnd}
 use Rattle.rpc_record.specs.declared.fault.RecordFault.TheVariants as flaw
 use Rattle.rpc_record.specs.Marked.{fragment, Longest}
@@ -69,6 +70,19 @@ pub record Exchanged (xid : ℕ) (left left' : Option (List ℕ)) (result : Resu
   pub input : List ℕ
   pub read : Consumes left left' input
   pub reads : Reads xid input left' result
+
+-- the case that the answer says an input has; want of memory and faults of reader and writer say none
+abbrev pub IsAnswer : (xid : ℕ) → (input : List ℕ) → Result Reply ClientFault → Type 0
+IsAnswer xid input (Ok reply) = IsOutcome xid input (Replied (reply_view reply))
+IsAnswer xid input (Err (fault.WrongXid got)) = IsOutcome xid input (OtherXid got)
+IsAnswer xid input (Err (fault.Reply f)) = IsOutcome xid input NoReply
+IsAnswer xid input (Err (fault.Record (flaw.TooLong at))) = IsOutcome xid input (TooLong at)
+IsAnswer xid input (Err (fault.Record (flaw.Truncated at))) = IsOutcome xid input (Truncated at)
+IsAnswer xid input (Err _) = Unit {0}
+
+-- where the reader tells all that it holds, that has this case
+abbrev pub IsExact : (xid : ℕ) → Option (List ℕ) → Result Reply ClientFault → Type 0
+IsExact xid left result = (input : List ℕ) → left ≡ Some input → IsAnswer xid input result
 
 -- What was written: the call as one last fragment; after a failed write a front of it; where memory was refused all of
 -- it or nothing.

@@ -5,13 +5,15 @@ ghost use Rattle.rpc_record.specs.Marked.{fragment};
 ghost use Rattle.rpc_record.specs.Stands.{IsTaking, limit_of};
 ghost use Rattle.rpc_message.specs.Spelling.{call as call_bytes};
 ghost use Rattle.rpc_message.specs.View.{call_view, reply_view};
-ghost use Rattle.rpc_engine.specs.Exchanged.{Exchanged, Wrote, xid_of, write_failures};
+ghost use Rattle.rpc_engine.specs.Exchanged.{Exchanged, IsExact, Wrote, xid_of, write_failures};
 ghost use Rattle.rpc_engine.specs.Private.Looking.{EndsAt, NextRecord, FirstRead, Replies, client_fault_of};
 ghost use Rattle.rpc_engine.specs.declared.fault.ClientFault.TheVariants as faults;
 
 use crate::fault::ClientFault;
 use rpc_message::{Call, Reply, ReplyFault, read_reply, write_call};
-use rpc_record::{RecordFault, RecordReader, RecordStep, mark, no_record_begins_another};
+use rpc_record::{
+    RecordFault, RecordReader, RecordStep, mark, no_record_begins_another, too_long_ends_the_stream,
+};
 use std::alloc::{AllocError, Global};
 use xdr_io::{MOST_READS, ReadFault, Sink, Source, write_whole};
 
@@ -133,11 +135,13 @@ fn xid_of(reply: &Reply) -> u32
 /// Reads the first record as the reply to a call with this xid.
 fn receive<R: Source>(alloc: Global, reader: &mut R, xid: u32) -> Result<Reply, ClientFault>
     ensures answer { Exchanged xid (R.left reader.old) (R.left reader.new) result }
+    ensures exact { IsExact xid (R.left reader.old) result }
     ensures unwritten { write_failures result ≡ 0 }
     ensures read { IsErrOf result ClientFault.Read → Counts 1 (R.failures reader.old) (R.failures reader.new) }
     ensures reads { CountsAtMost 1048576 (R.reads reader.old) (R.reads reader.new) }
     ensures many { IsErrOf result ClientFault.TooManyReads → Counts 1048576 (R.reads reader.old) (R.reads reader.new) }
 {
+    too_long_ends_the_stream();
     match first_record(alloc, reader) {
         Ok(record) => reply_to(alloc, xid, &record),
         Err(fault) => Err(fault),
@@ -160,6 +164,7 @@ pub fn exchange<R: Source, W: Sink>(
     requires short { length (call_bytes (call_view call.now)) ≤ 2147483647 }
     ensures wrote { Wrote (call_bytes (call_view call.now)) (W.taken writer.old) (W.taken writer.new) result }
     ensures answer { Exchanged call.now.xid (R.left reader.old) (R.left reader.new) result }
+    ensures exact { IsExact call.now.xid (R.left reader.old) result }
     ensures read { IsErrOf result ClientFault.Read → Counts 1 (R.failures reader.old) (R.failures reader.new) }
     ensures reads { CountsAtMost 1048576 (R.reads reader.old) (R.reads reader.new) }
     ensures many { IsErrOf result ClientFault.TooManyReads → Counts 1048576 (R.reads reader.old) (R.reads reader.new) }

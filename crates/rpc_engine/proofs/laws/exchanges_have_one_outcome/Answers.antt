@@ -10,6 +10,4 @@ pub returns-clause-covering : goal.returns-clause-covering
 returns-clause-covering c = some_outcome
 
 pub returns-clause-stays : goal.returns-clause-stays
-returns-clause-stays c =
-    outcomes_stay c.reply_bytes_are_exact.ensures c.no_record_begins_another.ensures.apart
-    c.too_long_ends_the_stream.ensures.ends c.too_long_ends_the_stream.ensures.one
+returns-clause-stays c = outcomes_stay c.too_long_ends_the_stream.ensures.ends

@@ -1,0 +1,79 @@
+-- What the streams of the examples come to.
+use Rattle.std.proofs.Common.{◌≡◌, ℕ, true, Bool, List, [], ◌∷◌, ◌++◌, length, Option, Some, None, Result, Ok, Err}
+use Rattle.std.proofs.Common.{refl, sym, ap, ◌∙◌, subst, arith, IfOk, IsErr}
+use Rattle.std.proofs.lemmas.List.{append-nil}
+use Rattle.std.specs.Io.KnownBytes.{Consumes, IsAtEnd}
+use Rattle.rpc_record.specs.Marked.{header, OneLongest}
+use Rattle.rpc_record.specs.Reading.{IsWhole, WholeIsLongest, WholeHasNoLong, TooLongAt}
+use Rattle.rpc_rows.specs.Rows.{Row}
+use Rattle.rpc_engine.specs.declared.fault.Served.{Served}
+use Rattle.rpc_engine.specs.Run.{Run}
+use Rattle.rpc_engine.specs.Served.{Serves, most_record}
+
+-- a source that told its bytes and has ended gave all of them
+all_read : (bytes input : List ℕ) (left : Option (List ℕ)) → Consumes (Some bytes) left input → IsAtEnd left
+    → bytes ≡ input
+all_read bytes input None c e = absurd c
+all_read bytes input (Some rest) c e = c ∙ ap (λ k. input ++ k) e ∙ append-nil input
+
+module _ (netid : List ℕ) (rows new : List Row) (l m t u : Option (List ℕ)) (served : Served)
+    (s : Serves netid rows new l m t u served) (bytes : List ℕ) (told : l ≡ Some bytes) where
+  whole_is : IsWhole most_record s.rs bytes
+  whole_is = subst (λ b. IsWhole most_record s.rs b)
+      (sym (all_read bytes s.input m (subst (λ k. Consumes k m s.input) told s.read) s.end)) s.whole
+
+  records_are : OneLongest → WholeIsLongest → (rs : List (List ℕ)) → IsWhole most_record rs bytes → s.rs ≡ rs
+  records_are one whole rs w =
+      one most_record s.rs rs bytes (whole most_record s.rs bytes whole_is) (whole most_record rs bytes w)
+
+-- ---- no bytes
+
+run_none : (rows new : List Row) (netid : List ℕ) (ys : List Bool) (replies : List (List ℕ))
+    → Run rows netid [] ys new replies → (new ≡ rows) × (replies ≡ [])
+run_none rows new netid [] replies h = h
+run_none rows new netid (y ∷ ys) replies h = absurd h
+
+none_whole : IsWhole most_record [] []
+none_whole = record { stream = refl; within = λ k d h. absurd (omega arith) }
+
+pub nothing : OneLongest → WholeIsLongest → (netid : List ℕ) (rows new : List Row) (l m t u : Option (List ℕ))
+    (served : Served) → Serves netid rows new l m t u served → l ≡ Some []
+    → ((served.records ≡ 0) × (served.replies ≡ 0)) × (new ≡ rows)
+nothing one whole netid rows new l m t u served s told =
+    let none = records_are netid rows new l m t u served s [] told one whole [] none_whole in
+    let run = run_none rows new netid s.refusals s.replies
+    (subst (λ k. Run rows netid k s.refusals new s.replies) none s.run) in
+    ((omega (arith, s.counted.records, ap length none), omega (arith, s.counted.answered, ap length run.1)), run.0)
+
+-- ---- 80010001
+
+long_header : TooLongAt most_record [] 0 (128 ∷ 1 ∷ 0 ∷ 1 ∷ [])
+unfolding header
+long_header = record {
+  before = [];
+  content = [];
+  last = true;
+  count = 65537;
+  more = [];
+  upto = record {
+    whole = [];
+    firsts = [];
+    stream = refl;
+    within = λ k d lt. absurd (omega arith);
+    each = λ k d lt. absurd (omega arith);
+    fits = omega arith;
+    joined = refl;
+    spelled = refl;
+  };
+  place = refl;
+  counted = omega arith;
+  passes = omega arith;
+  spelled = refl;
+}
+
+pub too_long : {E : Type 0} → WholeHasNoLong → (netid : List ℕ) (rows new : List Row) (l m t u : Option (List ℕ))
+    (result : Result Served E) → IfOk result (λ served. Serves netid rows new l m t u served)
+    → l ≡ Some (128 ∷ 1 ∷ 0 ∷ 1 ∷ []) → IsErr result
+too_long none netid rows new l m t u (Err e) s told = refl
+too_long none netid rows new l m t u (Ok served) s told =
+    absurd (none most_record s.rs _ (whole_is netid rows new l m t u served s _ told) [] 0 long_header)
