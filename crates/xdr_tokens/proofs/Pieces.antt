@@ -12,7 +12,7 @@ use Rattle.xdr_tokens.specs.Tokens.{Lexeme, Number, Sign}
 use Rattle.xdr_tokens.specs.steps.Front.{comment_at, numeral_at, piece_at}
 use Rattle.xdr_tokens.proofs.Options.{some_is, bind_some, chosen}
 use Rattle.xdr_tokens.specs.Text.{Piece, Blank, Comment, Run, Constant, Single, spelling, IsRun, HasNoEnd, EndsRun}
-use Rattle.xdr_tokens.specs.Text.{BeginsWord, BeginsDigit, IsNumeral, Stands, token_of, marks, mark_among, mark_of}
+use Rattle.xdr_tokens.specs.Text.{BeginsWord, BeginsDigit, IsNumeral, MayPrecede, token_of, marks, mark_among, mark_of}
 use Rattle.xdr_tokens.specs.Text.{mark_code}
 
 -- ---- runs
@@ -98,7 +98,7 @@ comment_again (a ∷ b ∷ inside) rest h = rw h.0 (comment_again (b ∷ inside)
 pub record IsPiece (text : List ℕ) (y : Option Lexeme × List ℕ) : Type 0 where
   pub piece : Piece
   pub spelled : text ≡ spelling piece y.1
-  pub stands : Stands piece y.1
+  pub stands : MayPrecede piece y.1
   pub token : y.0 ≡ token_of piece
 
 with_piece : (text : List ℕ) (x y : Option Lexeme × List ℕ) → IsPiece text x → Some x ≡ Some y → IsPiece text y
@@ -130,7 +130,7 @@ numeral_again : (run rest : List ℕ) (v : _) → number_of run ≡ Some v
     → numeral_at (length run) (run ++ rest) ≡ Some (Some (Number v), rest)
 numeral_again run rest v h = rw (take_at run rest (length run) refl, drop_at run rest (length run) refl, h) refl
 
-pub piece_again : (p : Piece) (rest : List ℕ) → Stands p rest → piece_at (spelling p rest) ≡ Some (token_of p, rest)
+pub piece_again : (p : Piece) (rest : List ℕ) → MayPrecede p rest → piece_at (spelling p rest) ≡ Some (token_of p, rest)
 unfolding piece_at comment_at
 piece_again (Blank b) rest h = rw h refl
 piece_again (Comment inside) rest h = rw (comment_again inside rest h) refl

@@ -5,15 +5,15 @@ use Rattle.std.proofs.lemmas.List.{length-append, nil_from_length}
 use Rattle.xdr_tokens.specs.declared.fault.Fault.{Fault}
 use Rattle.xdr_tokens.specs.declared.fault.Fault.TheVariants as fault
 use Rattle.xdr_tokens.specs.Tokens.{Lexeme}
-use Rattle.xdr_tokens.specs.Fails.{Fails}
+use Rattle.xdr_tokens.specs.Due.{RefusesRightly}
 use Rattle.xdr_tokens.specs.Refusals.{IsTokenFault}
 use Rattle.xdr_tokens.specs.steps.Front.{piece_at}
-use Rattle.xdr_tokens.specs.Text.{Piece, Blank, Comment, Run, Constant, Single, spelling, Stands, token_of, with_token}
+use Rattle.xdr_tokens.specs.Text.{Piece, Blank, Comment, Run, Constant, Single, spelling, MayPrecede, token_of, with_token}
 use Rattle.xdr_tokens.specs.Text.{Cuts, Tokens}
 use Rattle.xdr_tokens.proofs.Options.{some_is, some_is_not}
 use Rattle.xdr_tokens.proofs.Pieces.{piece_found, piece_again}
 
-longer : (p : Piece) (rest : List ℕ) → Stands p rest → length rest < length (spelling p rest)
+longer : (p : Piece) (rest : List ℕ) → MayPrecede p rest → length rest < length (spelling p rest)
 longer (Blank b) rest h = omega arith
 longer (Comment inside) rest h = omega (arith, length-append inside (42 ∷ 47 ∷ rest))
 longer (Run []) rest h = absurd h.0
@@ -63,8 +63,8 @@ no_more bs ts none t = go t.0 t.1
 pub all_done : (bs : List ℕ) → length bs ≡ 0 → Tokens bs []
 all_done bs none = ([], (nil_from_length bs none, refl))
 
-pub fails_too : (e : Fault) (bs : List ℕ) (others : List Lexeme) → 0 < length bs → Fails e (piece_at bs)
-    → Tokens bs others → (ts : List Lexeme) → Fails e (Some ts)
+pub fails_too : (e : Fault) (bs : List ℕ) (others : List Lexeme) → 0 < length bs → RefusesRightly e (piece_at bs)
+    → Tokens bs others → (ts : List Lexeme) → RefusesRightly e (Some ts)
 fails_too fault.NoMemory bs others lt h t ts = tt
 fails_too (fault.Refused w n) bs others lt h t ts = absurd (has_piece bs others lt t h)
 

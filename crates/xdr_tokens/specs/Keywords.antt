@@ -1,4 +1,4 @@
--- Which runs are keywords (RFC 4506 section 6.4, RFC 5531 section 12.3).
+-- Which runs are keywords (RFC 4506 section 6.4, RFC 5531 section 12.3; long is a word of RFC 1833's text).
 use Rattle.std.specs.Prelude.{ℕ, if◌then◌else◌, List, [], ◌∷◌, codes}
 use Rattle.std.specs.Str.{bytes_eq}
 use Rattle.xdr_tokens.specs.declared.token.Keyword.{Keyword}
@@ -16,6 +16,7 @@ keyword word.Enum = codes "enum"
 keyword word.Float = codes "float"
 keyword word.Hyper = codes "hyper"
 keyword word.Int = codes "int"
+keyword word.Long = codes "long"
 keyword word.Opaque = codes "opaque"
 keyword word.Program = codes "program"
 keyword word.Quadruple = codes "quadruple"
@@ -31,8 +32,8 @@ keyword word.Void = codes "void"
 -- all keywords
 abbrev pub keywords : List Keyword
 keywords = word.Bool ∷ word.Case ∷ word.Const ∷ word.Default ∷ word.Double ∷ word.Enum ∷ word.Float ∷ word.Hyper ∷
-    word.Int ∷ word.Opaque ∷ word.Program ∷ word.Quadruple ∷ word.String ∷ word.Struct ∷ word.Switch ∷ word.Typedef ∷
-    word.Union ∷ word.Unsigned ∷ word.Version ∷ word.Void ∷ []
+    word.Int ∷ word.Long ∷ word.Opaque ∷ word.Program ∷ word.Quadruple ∷ word.String ∷ word.Struct ∷ word.Switch ∷
+    word.Typedef ∷ word.Union ∷ word.Unsigned ∷ word.Version ∷ word.Void ∷ []
 
 -- a keyword of the list, or a name
 unfoldable pub word_among : List Keyword → List ℕ → Lexeme

@@ -1,5 +1,6 @@
 pub mod Tokens
-pub mod Fails
+pub mod Due
+pub mod Options
 pub mod Bytes
 pub mod Keywords
 pub mod Text

@@ -71,12 +71,12 @@ IsNumeral [] = ⊥
 IsNumeral (b ∷ bs) = (BeginsDigit (b ∷ bs) × IsRun (b ∷ bs)) ⊎ ((b ≡ 45) × BeginsDigit bs × IsRun bs)
 
 -- The piece may stand before these bytes.
-abbrev pub Stands : Piece → List ℕ → Type 0
-Stands (Blank b) bs = is_space b ≡ true
-Stands (Comment inside) bs = HasNoEnd inside
-Stands (Run run) bs = BeginsWord run × IsRun run × EndsRun bs
-Stands (Constant run v) bs = IsNumeral run × (number_of run ≡ Some v) × EndsRun bs
-Stands (Single m) bs = Unit {0}
+abbrev pub MayPrecede : Piece → List ℕ → Type 0
+MayPrecede (Blank b) bs = is_space b ≡ true
+MayPrecede (Comment inside) bs = HasNoEnd inside
+MayPrecede (Run run) bs = BeginsWord run × IsRun run × EndsRun bs
+MayPrecede (Constant run v) bs = IsNumeral run × (number_of run ≡ Some v) × EndsRun bs
+MayPrecede (Single m) bs = Unit {0}
 
 -- the token of a piece; white space and comments are none
 abbrev pub token_of : Piece → Option Lexeme
@@ -94,7 +94,7 @@ with_token (Some t) ts = t ∷ ts
 -- The bytes are cut into these tokens.
 abbrev pub Cuts : List Piece → List ℕ → List Lexeme → Type 0
 Cuts [] bs ts = (bs ≡ []) × (ts ≡ [])
-Cuts (p ∷ ps) bs ts = (rest : List ℕ) × (others : List Lexeme) × (bs ≡ spelling p rest) × Stands p rest
+Cuts (p ∷ ps) bs ts = (rest : List ℕ) × (others : List Lexeme) × (bs ≡ spelling p rest) × MayPrecede p rest
     × (ts ≡ with_token (token_of p) others) × Cuts ps rest others
 
 -- The text is cut into these tokens, in one way or another.

@@ -2,7 +2,7 @@
 ghost use Rattle.std.specs.Prelude.{◌≡◌, MatchOption, None, Some, ◌<◌, ◌≤◌, length, IfOk, OnOk, IfErr, List, [], ◌++◌};
 ghost use Rattle.std.specs.Prelude.{option_map};
 ghost use Rattle.xdr_tokens.specs.Tokens.{Lexeme, lexeme, lexemes};
-ghost use Rattle.xdr_tokens.specs.Fails.{Gives};
+ghost use Rattle.xdr_tokens.specs.Due.{Gives};
 ghost use Rattle.xdr_tokens.specs.Refusals.{IsTokenFault, wrong_number};
 ghost use Rattle.xdr_tokens.specs.Text.{Tokens, with_token, mark_of};
 ghost use Rattle.xdr_tokens.specs.steps.Front.{comment_at, numeral_at, piece_at};

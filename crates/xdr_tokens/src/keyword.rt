@@ -6,7 +6,7 @@ ghost use Rattle.xdr_tokens.specs.Keywords.{keyword, word_among, word_or_name};
 
 use crate::token::{Keyword, Token};
 
-const KEYWORDS: [Keyword; 20] = [
+const KEYWORDS: [Keyword; 21] = [
     Keyword::Bool,
     Keyword::Case,
     Keyword::Const,
@@ -16,6 +16,7 @@ const KEYWORDS: [Keyword; 20] = [
     Keyword::Float,
     Keyword::Hyper,
     Keyword::Int,
+    Keyword::Long,
     Keyword::Opaque,
     Keyword::Program,
     Keyword::Quadruple,
@@ -43,6 +44,7 @@ fn spelling(word: Keyword) -> &'static [u8]
         Keyword::Float => b"float",
         Keyword::Hyper => b"hyper",
         Keyword::Int => b"int",
+        Keyword::Long => b"long",
         Keyword::Opaque => b"opaque",
         Keyword::Program => b"program",
         Keyword::Quadruple => b"quadruple",

@@ -1,6 +1,6 @@
 //! A token of the language.
 
-/// A keyword (RFC 4506 section 6.4, RFC 5531 section 12.3).
+/// A keyword (RFC 4506 section 6.4, RFC 5531 section 12.3), or `long`, which the text of RFC 1833 has.
 #[derive(Clone, Copy, Debug, PartialEq, Eq)]
 pub enum Keyword {
     Bool,
@@ -12,6 +12,7 @@ pub enum Keyword {
     Float,
     Hyper,
     Int,
+    Long,
     Opaque,
     Program,
     Quadruple,

@@ -1,0 +1,7 @@
+-- One thing after another, where each may be missing.
+use Rattle.std.specs.Prelude.{Option, option_and_then}
+
+infixl 10 ◌>>=◌
+-- what f gives of what is there
+abbrev pub ◌>>=◌ : {A B : Type 0} → Option A → (A → Option B) → Option B
+o >>= f = option_and_then f o
