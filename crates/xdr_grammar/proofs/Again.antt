@@ -7,20 +7,21 @@ use Rattle.xdr_grammar.specs.declared.outline.Basic.TheVariants as basic
 use Rattle.xdr_grammar.specs.declared.outline.BodyKind.{BodyKind}
 use Rattle.xdr_grammar.specs.declared.outline.BodyKind.TheVariants as kind
 use Rattle.xdr_tokens.specs.Tokens.{Lexeme, Word, Name, Sign}
-use Rattle.xdr_grammar.specs.Tree.{Value, Member, Specifier, Plain, Named, Inline, Body, EnumBody, StructBody}
+use Rattle.xdr_grammar.specs.Tree.{Value, Member, Specifier, Plain, Long, UnsignedLong, Named, StructNamed, Inline}
+use Rattle.xdr_grammar.specs.Tree.{Body, EnumBody, StructBody}
 use Rattle.xdr_grammar.specs.Tree.{UnionBody, Declaration, One, Array, ArrayUpTo, Pointer, Opaque, OpaqueUpTo, Text}
 use Rattle.xdr_grammar.specs.Tree.{Content, Void, Of, Fields, Last, More, Cases, LastCase, MoreCases, Default}
 use Rattle.xdr_grammar.specs.Tree.{NoDefault, Otherwise, depth_of_specifier, depth_of_body, depth_of_declaration}
 use Rattle.xdr_grammar.specs.Tree.{depth_of_content, depth_of_fields, depth_of_cases, depth_of_default}
 use Rattle.xdr_grammar.specs.Grammar.{value, limit, member, members, cases, body_word, specifier, body, declaration}
 use Rattle.xdr_grammar.specs.Grammar.{content, fields, arms, otherwise}
-use Rattle.xdr_grammar.specs.Outline.{Part, Field, Outline, late, declare, members_in, specifier_in, body_in}
-use Rattle.xdr_grammar.specs.Outline.{declaration_in, content_in, fields_in, arms_in, default_in}
+use Rattle.xdr_grammar.specs.Outline.{Part, Field, Outline, late, declare, defined_as, members_in, specifier_in}
+use Rattle.xdr_grammar.specs.Outline.{body_in, declaration_in, content_in, fields_in, arms_in, default_in}
 use Rattle.xdr_grammar.specs.steps.Reading.{taken, Reader, repeat, after_word, after_sign, name_at, either_sign}
-use Rattle.xdr_grammar.specs.steps.Reading.{opaque_at, text_at, declared_at, declaration_with, content_with, basic_at}
-use Rattle.xdr_grammar.specs.steps.Reading.{member_at, enum_at, field_with, struct_with, case_at, arm_with}
-use Rattle.xdr_grammar.specs.steps.Reading.{default_with, switch_with, union_with, body_word_at, body_with}
-use Rattle.xdr_grammar.specs.steps.Reading.{specifier_at}
+use Rattle.xdr_grammar.specs.steps.Reading.{opaque_at, text_at, declared_at, declaration_with, content_with, int_at}
+use Rattle.xdr_grammar.specs.steps.Reading.{basic_at, member_at, enum_at, field_with, struct_with, case_at, arm_with}
+use Rattle.xdr_grammar.specs.steps.Reading.{default_with, switch_with, union_with, body_word_at, inner_word_at}
+use Rattle.xdr_grammar.specs.steps.Reading.{body_with, defined_part, specifier_at}
 use Rattle.xdr_grammar.proofs.Leaves.{value_again, size_again, limit_again}
 use Rattle.xdr_grammar.proofs.Found.{after_case, begins_case}
 
@@ -82,7 +83,28 @@ specifier_begins (Plain basic.Bool) ts = record {
   not_case = refl;
   not_close = refl;
 }
+specifier_begins Long ts = record {
+  not_void = refl;
+  not_opaque = refl;
+  not_string = refl;
+  not_case = refl;
+  not_close = refl;
+}
+specifier_begins UnsignedLong ts = record {
+  not_void = refl;
+  not_opaque = refl;
+  not_string = refl;
+  not_case = refl;
+  not_close = refl;
+}
 specifier_begins (Named n) ts = record {
+  not_void = refl;
+  not_opaque = refl;
+  not_string = refl;
+  not_case = refl;
+  not_close = refl;
+}
+specifier_begins (StructNamed n) ts = record {
   not_void = refl;
   not_opaque = refl;
   not_string = refl;
@@ -222,7 +244,10 @@ mutual
   specifier_long (Plain basic.Hyper) ts = omega arith
   specifier_long (Plain basic.UnsignedHyper) ts = omega arith
   specifier_long (Plain basic.Bool) ts = omega arith
+  specifier_long Long ts = omega arith
+  specifier_long UnsignedLong ts = omega arith
   specifier_long (Named n) ts = omega arith
+  specifier_long (StructNamed n) ts = omega arith
   specifier_long (Inline b) ts = omega (arith, body_long b ts)
 
   pub body_long : (b : Body) (ts : List Lexeme) → length ts ≤ length (body b ts)
@@ -509,6 +534,19 @@ body_word_again (EnumBody m ms) ts = refl
 body_word_again (StructBody fs) ts = refl
 body_word_again (UnionBody t cs e) ts = refl
 
+inner_word_again : (b : Body) (ts : List Lexeme)
+    → inner_word_at (body_word b ∷ body b ts) ≡ Some (kind_of b, body b ts)
+unfolding inner_word_at body_word_at after_word name_at kind_of
+inner_word_again (EnumBody m ms) ts = refl
+inner_word_again (StructBody fs) ts = refl
+inner_word_again (UnionBody t cs e) ts = refl
+
+pub part_again : (b : Body) (p : Part) → defined_part (kind_of b) p ≡ defined_as b p
+unfolding kind_of
+part_again (EnumBody m ms) p = refl
+part_again (StructBody fs) p = refl
+part_again (UnionBody t cs e) p = refl
+
 pub body_again : (d : ℕ) (reader : Reader Field) → RereadsDeclarations d reader
     → (b : Body) (o : Outline) (ts : List Lexeme) → depth_of_body b ≤ suc d
     → body_with reader (kind_of b) o (body b ts) ≡ Some ((body_in b o).0, (body_in b o).1, ts)
@@ -528,22 +566,28 @@ inline_again : (d : ℕ) → RereadsSpecifiers d (specifier_at d) → (b : Body)
     → specifier_at (suc d) o (body_word b ∷ body b ts) ≡ Some ((body_in b o).0, (body_in b o).1, ts)
 unfolding specifier_at
 inline_again d rereads b o ts fits =
-    rw (body_word_again b (body b ts))
+    rw (inner_word_again b ts)
     (body_again d (declaration_with (specifier_at d)) (declaration_again d (specifier_at d) rereads) b o ts fits)
 
 pub specifier_again : (d : ℕ) → RereadsSpecifiers d (specifier_at d)
-unfolding specifier_at basic_at body_word_at after_word name_at
+unfolding specifier_at basic_at int_at inner_word_at body_word_at after_word name_at
 specifier_again zero (Plain basic.Int) o ts fits = refl
 specifier_again zero (Plain basic.Unsigned) o ts fits = refl
 specifier_again zero (Plain basic.Hyper) o ts fits = refl
 specifier_again zero (Plain basic.UnsignedHyper) o ts fits = refl
 specifier_again zero (Plain basic.Bool) o ts fits = refl
+specifier_again zero Long o ts fits = refl
+specifier_again zero UnsignedLong o ts fits = refl
 specifier_again zero (Named n) o ts fits = refl
+specifier_again zero (StructNamed n) o ts fits = refl
 specifier_again zero (Inline b) o ts fits = absurd (no_body b fits)
 specifier_again (suc d) (Plain basic.Int) o ts fits = refl
 specifier_again (suc d) (Plain basic.Unsigned) o ts fits = refl
 specifier_again (suc d) (Plain basic.Hyper) o ts fits = refl
 specifier_again (suc d) (Plain basic.UnsignedHyper) o ts fits = refl
 specifier_again (suc d) (Plain basic.Bool) o ts fits = refl
+specifier_again (suc d) Long o ts fits = refl
+specifier_again (suc d) UnsignedLong o ts fits = refl
 specifier_again (suc d) (Named n) o ts fits = refl
+specifier_again (suc d) (StructNamed n) o ts fits = refl
 specifier_again (suc d) (Inline b) o ts fits = inline_again d (specifier_again d) b o ts fits

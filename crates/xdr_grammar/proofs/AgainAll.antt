@@ -11,16 +11,17 @@ use Rattle.xdr_grammar.specs.Tree.{depth_of_passed, depth_of_arguments, depth_of
 use Rattle.xdr_grammar.specs.Tree.{depth_of_versions, depth_of_definition, depth, EnumBody, StructBody, UnionBody}
 use Rattle.xdr_grammar.specs.Grammar.{body_word, body, declaration, passed, result, more_arguments, arguments}
 use Rattle.xdr_grammar.specs.Grammar.{procedure, procedures, version, versions, definition, specification}
-use Rattle.xdr_grammar.specs.Outline.{Part, Outline, passed_in, arguments_in, result_in, procedure_in, procedures_in}
-use Rattle.xdr_grammar.specs.Outline.{version_in, versions_in, definition_in, outlined}
-use Rattle.xdr_grammar.specs.steps.Reading.{◌>>=◌, taken, Reader, repeat, after_word, after_sign, name_at, either_sign}
+use Rattle.xdr_grammar.specs.Outline.{Part, Outline, body_in, passed_in, arguments_in, result_in, procedure_in}
+use Rattle.xdr_grammar.specs.Outline.{procedures_in, version_in, versions_in, definition_in, outlined}
+use Rattle.xdr_tokens.specs.Options.{◌>>=◌}
+use Rattle.xdr_grammar.specs.steps.Reading.{taken, Reader, repeat, after_word, after_sign, name_at, either_sign}
 use Rattle.xdr_grammar.specs.steps.Reading.{declaration_with, specifier_at, passed_with, argument_with, arguments_with}
 use Rattle.xdr_grammar.specs.steps.Reading.{result_with, procedure_with, version_with, program_with, const_at}
 use Rattle.xdr_grammar.specs.steps.Reading.{typedef_with, defined_with, definition_at, definitions_at}
 use Rattle.xdr_grammar.proofs.Leaves.{numbered_again}
 use Rattle.xdr_grammar.proofs.Again.{RereadsSpecifiers, RereadsDeclarations, specifier_begins, specifier_long}
 use Rattle.xdr_grammar.proofs.Again.{body_long, declaration_long, declaration_again, specifier_again, body_again}
-use Rattle.xdr_grammar.proofs.Again.{body_word_again, ends_semicolon, semicolon_again, close_again}
+use Rattle.xdr_grammar.proofs.Again.{body_word_again, part_again, ends_semicolon, semicolon_again, close_again}
 
 -- ---- how a type doesn't begin, and that it has a token
 
@@ -230,7 +231,13 @@ defined_again n b o ts fits =
     let inner = body b (Sign mark.Semicolon ∷ ts) in
     let all = body_again 31 (declaration_with (specifier_at 31)) (declarations_again 31) b o
     (Sign mark.Semicolon ∷ ts) fits in
-    rw (body_word_again b (Name n ∷ inner), named_again n inner, all, semicolon_again ts) refl
+    rw (
+      body_word_again b (Name n ∷ inner),
+      named_again n inner,
+      all,
+      semicolon_again ts,
+      part_again b (body_in b o).0,
+    ) refl
 
 program_again : (p : tree.Program) (o : Outline) (ts : List Lexeme) → depth_of_versions (p.first ∷ p.others) ≤ 32
     → program_with (specifier_at 32) o

@@ -1,13 +1,14 @@
 -- Soundness: what is read is the spelling of a tree.
 use Rattle.std.proofs.Common.{◌≡◌, ℕ, zero, suc, ◌≤◌, Bool, true, false, cond, List, [], ◌∷◌, length, map, Option, Some}
-use Rattle.std.proofs.Common.{None, inl, inr, refl, sym, ap, subst, ◌∙◌, arith}
+use Rattle.std.proofs.Common.{None, ◌⊎◌, inl, inr, refl, sym, ap, subst, ◌∙◌, arith}
 use Rattle.xdr_tokens.specs.declared.token.Keyword.TheVariants as word
 use Rattle.xdr_tokens.specs.declared.token.Mark.TheVariants as mark
 use Rattle.xdr_grammar.specs.declared.outline.Basic.TheVariants as basic
 use Rattle.xdr_grammar.specs.declared.outline.BodyKind.{BodyKind}
 use Rattle.xdr_grammar.specs.declared.outline.BodyKind.TheVariants as kind
 use Rattle.xdr_tokens.specs.Tokens.{Lexeme, Word, Name, Sign}
-use Rattle.xdr_grammar.specs.Tree.{Value, Member, Specifier, Plain, Named, Inline, Body, EnumBody, StructBody}
+use Rattle.xdr_grammar.specs.Tree.{Value, Member, Specifier, Plain, Long, UnsignedLong, Named, StructNamed, Inline}
+use Rattle.xdr_grammar.specs.Tree.{Body, EnumBody, StructBody}
 use Rattle.xdr_grammar.specs.Tree.{UnionBody, Declaration, One, Array, ArrayUpTo, Pointer, Opaque, OpaqueUpTo, Text}
 use Rattle.xdr_grammar.specs.Tree.{Content, Void, Of, Fields, Last, More, Cases, LastCase, MoreCases, NoDefault}
 use Rattle.xdr_grammar.specs.Tree.{Otherwise, depth_of_specifier, depth_of_body, depth_of_declaration, depth_of_content}
@@ -15,13 +16,16 @@ use Rattle.xdr_grammar.specs.Tree.{depth_of_fields, depth_of_cases, depth_of_def
 use Rattle.xdr_grammar.specs.Grammar.{value, limit, member, members, cases, body_word, specifier, body, declaration}
 use Rattle.xdr_grammar.specs.Grammar.{content, fields, arms, otherwise}
 use Rattle.xdr_grammar.specs.Outline.{Late, Part, IsVoid, Field, Arm, DNumbered, DOpaque, DOpaqueUpTo, DText, DFixed}
-use Rattle.xdr_grammar.specs.Outline.{DUpTo, DStructure, DChoice, Outline, late, declare, place, add, members_in}
-use Rattle.xdr_grammar.specs.Outline.{specifier_in, body_in, declaration_in, content_in, fields_in, arms_in, default_in}
-use Rattle.xdr_grammar.specs.steps.Reading.{◌>>=◌, taken, Reader, repeat, after_word, after_sign, name_at, value_at}
+use Rattle.xdr_grammar.specs.Outline.{DUpTo, DStructure, DChoice, Outline, late, declare, place, add, defined_as}
+use Rattle.xdr_grammar.specs.Outline.{members_in, specifier_in, body_in, declaration_in, content_in, fields_in, arms_in}
+use Rattle.xdr_grammar.specs.Outline.{default_in}
+use Rattle.xdr_tokens.specs.Options.{◌>>=◌}
+use Rattle.xdr_grammar.specs.steps.Reading.{taken, Reader, repeat, after_word, after_sign, name_at, value_at}
 use Rattle.xdr_grammar.specs.steps.Reading.{size_at, limit_at, either_sign, opaque_at, text_at, declared_at}
-use Rattle.xdr_grammar.specs.steps.Reading.{declaration_with, content_with, basic_at, member_at, enum_at, field_with}
-use Rattle.xdr_grammar.specs.steps.Reading.{struct_with, case_at, arm_with, default_with, switch_with, union_with}
-use Rattle.xdr_grammar.specs.steps.Reading.{body_word_at, body_with, specifier_at}
+use Rattle.xdr_grammar.specs.steps.Reading.{declaration_with, content_with, int_at, basic_at, member_at, enum_at}
+use Rattle.xdr_grammar.specs.steps.Reading.{field_with, struct_with, case_at, arm_with, default_with, switch_with}
+use Rattle.xdr_grammar.specs.steps.Reading.{union_with, body_word_at, inner_word_at, body_with, defined_part}
+use Rattle.xdr_grammar.specs.steps.Reading.{specifier_at}
 use Rattle.xdr_tokens.proofs.Options.{bind_some, some_is, chosen}
 use Rattle.xdr_grammar.proofs.Leaves.{taken_some, word_found, sign_found, name_found, either_found, value_found}
 use Rattle.xdr_grammar.proofs.Leaves.{size_found, limit_found}
@@ -227,6 +231,16 @@ content_found d reader finds o ts y e =
           record { tree = Of f.tree; spelled = f.spelled; value = f.value; made = f.made; nested = f.nested }
     ]
 
+int_found : (ts rest : List Lexeme) → int_at ts ≡ Some rest
+    → (ts ≡ Word word.Int ∷ rest) ⊎ (ts ≡ Word word.Long ∷ rest)
+unfolding int_at
+int_found ts rest e =
+    elim (taken_some (after_word word.Int ts) _ _ _ e) [
+      | inl a ↦ inl (subst (λ (x : List Lexeme). ts ≡ Word word.Int ∷ x) (some_is a.0 rest a.2)
+          (word_found word.Int ts a.0 a.1))
+      | inr n ↦ inr (word_found word.Long ts rest n.1)
+    ]
+
 basic_found : (d : ℕ) (o : Outline) (ts : List Lexeme) (y : Part × List Lexeme) → basic_at ts ≡ Some y
     → IsSpecifier d o ts (y.0, o, y.1)
 unfolding basic_at
@@ -238,25 +252,38 @@ basic_found d o ts y e =
     elim (taken_some (after_word word.Unsigned ts) _ _ _ e) [
       | inl a ↦
           let first = word_found word.Unsigned ts a.0 a.1 in
-          elim (taken_some (after_word word.Int a.0) _ _ _ a.2) [
-            | inl b ↦ of (Plain basic.Unsigned) _
-                (first ∙ ap (λ (x : List Lexeme). Word word.Unsigned ∷ x) (word_found word.Int a.0 b.0 b.1)) refl refl
-                (omega arith) b.2
+          elim (taken_some (int_at a.0) _ _ _ a.2) [
+            | inl b ↦ elim (int_found a.0 b.0 b.1) [
+              | inl int ↦ of (Plain basic.Unsigned) _
+                  (first ∙ ap (λ (x : List Lexeme). Word word.Unsigned ∷ x) int) refl refl (omega arith) b.2
+              | inr long ↦ of UnsignedLong _
+                  (first ∙ ap (λ (x : List Lexeme). Word word.Unsigned ∷ x) long) refl refl (omega arith) b.2
+            ]
             | inr n ↦
                 let b = bind_some (after_word word.Hyper a.0) _ y n.1 in
                 of (Plain basic.UnsignedHyper) _
                 (first ∙ ap (λ (x : List Lexeme). Word word.Unsigned ∷ x) (word_found word.Hyper a.0 b.0 b.1)) refl
                 refl (omega arith) b.2
           ]
-      | inr n ↦ elim (taken_some (after_word word.Int ts) _ _ _ n.1) [
-        | inl a ↦ of (Plain basic.Int) _ (word_found word.Int ts a.0 a.1) refl refl (omega arith) a.2
+      | inr n ↦ elim (taken_some (int_at ts) _ _ _ n.1) [
+        | inl a ↦ elim (int_found ts a.0 a.1) [
+          | inl int ↦ of (Plain basic.Int) _ int refl refl (omega arith) a.2
+          | inr long ↦ of Long _ long refl refl (omega arith) a.2
+        ]
         | inr m ↦ elim (taken_some (after_word word.Hyper ts) _ _ _ m.1) [
           | inl a ↦ of (Plain basic.Hyper) _ (word_found word.Hyper ts a.0 a.1) refl refl (omega arith) a.2
           | inr k ↦ elim (taken_some (after_word word.Bool ts) _ _ _ k.1) [
             | inl a ↦ of (Plain basic.Bool) _ (word_found word.Bool ts a.0 a.1) refl refl (omega arith) a.2
-            | inr j ↦
-                let b = bind_some (name_at ts) _ y j.1 in
-                of (Named b.0.0) _ (name_found ts b.0 b.1) refl refl (omega arith) b.2
+            | inr j ↦ elim (taken_some (after_word word.Struct ts) _ _ _ j.1) [
+              | inl a ↦
+                  let b = bind_some (name_at a.0) _ y a.2 in
+                  of (StructNamed b.0.0) _ (word_found word.Struct ts a.0 a.1
+                  ∙ ap (λ (x : List Lexeme). Word word.Struct ∷ x) (name_found a.0 b.0 b.1)) refl refl
+                  (omega arith) b.2
+              | inr i ↦
+                  let b = bind_some (name_at ts) _ y i.1 in
+                  of (Named b.0.0) _ (name_found ts b.0 b.1) refl refl (omega arith) b.2
+            ]
           ]
         ]
       ]
@@ -347,6 +374,7 @@ pub record IsBody (d : ℕ) (k : BodyKind) (o : Outline) (ts : List Lexeme)
     (y : Part × Outline × List Lexeme) : Type 0 where
   pub tree : Body
   pub word : word_of k ≡ body_word tree
+  pub defined : (p : Part) → defined_part k p ≡ defined_as tree p
   pub spelled : ts ≡ body tree y.2
   pub value : y.0 ≡ (body_in tree o).0
   pub made : y.1 ≡ (body_in tree o).1
@@ -364,6 +392,7 @@ enum_found d o ts y e =
     (some_is (place m.0.1, add (DNumbered m.0.0) m.0.1, m.0.2) y m.2) (record {
       tree = EnumBody found.first found.others;
       word = refl;
+      defined = λ p. refl;
       spelled = sign_found mark.OpenBrace ts i.0 i.1 ∙ ap (λ (x : List Lexeme). Sign mark.OpenBrace ∷ x) found.spelled;
       value = ap place found.made;
       made = ap (λ (x : List (List ℕ × Late)). add (DNumbered x) m.0.1) found.value
@@ -482,6 +511,7 @@ struct_found d reader finds o ts y e =
     (some_is (place f.0.1, add (DStructure f.0.0) f.0.1, f.0.2) y f.2) (record {
       tree = StructBody found.tree;
       word = refl;
+      defined = λ p. refl;
       spelled = sign_found mark.OpenBrace ts i.0 i.1 ∙ ap (λ (x : List Lexeme). Sign mark.OpenBrace ∷ x) found.spelled;
       value = ap place found.made;
       made = ap (λ (x : List Field). add (DStructure x) f.0.1) found.value
@@ -736,6 +766,7 @@ union_found d reader finds o ts y e =
     (some_is (place b.0.1, add (DChoice t.0.0.part a.0.0 b.0.0) b.0.1, c.0) y c.2) (record {
       tree = UnionBody tag.tree all.tree other.tree;
       word = refl;
+      defined = λ p. refl;
       spelled = tag.spelled
           ∙ ap (λ (x : List Lexeme). Word word.Switch ∷ Sign mark.OpenRound ∷ declaration tag.tree
           (Sign mark.CloseRound ∷ Sign mark.OpenBrace ∷ x)) inner;
@@ -767,6 +798,15 @@ body_word_found ts y e =
       ]
     ]
 
+inner_word_found : (ts : List Lexeme) (y : BodyKind × List Lexeme) → inner_word_at ts ≡ Some y
+    → ts ≡ word_of y.0 ∷ y.1
+unfolding inner_word_at
+inner_word_found ts y e =
+    elim (taken_some (after_word word.Struct ts >>= name_at) _ _ _ e) [
+      | inl a ↦ absurd (let e = a.2 in cc)
+      | inr n ↦ body_word_found ts y n.1
+    ]
+
 pub body_found : (d : ℕ) (reader : Reader Field) → FindsDeclarations d reader
     → (k : BodyKind) (o : Outline) (ts : List Lexeme) (y : Part × Outline × List Lexeme)
     → body_with reader k o ts ≡ Some y → IsBody d k o ts y
@@ -786,18 +826,18 @@ basic_part d o ts y e =
 pub specifier_found : (d : ℕ) → FindsSpecifiers d (specifier_at d)
 unfolding specifier_at
 specifier_found zero o ts y e =
-    elim (taken_some (body_word_at ts) _ _ _ e) [
+    elim (taken_some (inner_word_at ts) _ _ _ e) [
       | inl a ↦ absurd (let e = a.2 in cc)
       | inr m ↦ basic_part zero o ts y m.1
     ]
 specifier_found (suc d) o ts y e =
-    elim (taken_some (body_word_at ts) _ _ _ e) [
+    elim (taken_some (inner_word_at ts) _ _ _ e) [
       | inl a ↦
           let b = body_found d (declaration_with (specifier_at d))
           (declaration_found d (specifier_at d) (specifier_found d)) a.0.0 o a.0.1 y a.2 in
           record {
             tree = Inline b.tree;
-            spelled = body_word_found ts a.0 a.1 ∙ ap (λ (x : Lexeme). x ∷ a.0.1) b.word
+            spelled = inner_word_found ts a.0 a.1 ∙ ap (λ (x : Lexeme). x ∷ a.0.1) b.word
                 ∙ ap (λ (x : List Lexeme). body_word b.tree ∷ x) b.spelled;
             value = b.value;
             made = b.made;

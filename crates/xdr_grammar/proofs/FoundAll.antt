@@ -11,9 +11,9 @@ use Rattle.xdr_grammar.specs.Tree.{depth_of_passed, depth_of_arguments, depth_of
 use Rattle.xdr_grammar.specs.Tree.{depth_of_versions, depth_of_definition, depth}
 use Rattle.xdr_grammar.specs.Grammar.{body_word, body, declaration, passed, result, more_arguments, arguments}
 use Rattle.xdr_grammar.specs.Grammar.{procedure, procedures, version, versions, definition, specification}
-use Rattle.xdr_grammar.specs.Outline.{Part, IsText, Field, Procedure, Version, Program, Outline, add_type, add_program}
-use Rattle.xdr_grammar.specs.Outline.{body_in, declaration_in, passed_in, arguments_in, result_in, procedure_in}
-use Rattle.xdr_grammar.specs.Outline.{procedures_in, version_in, versions_in, definition_in, outlined}
+use Rattle.xdr_grammar.specs.Outline.{Part, IsText, Field, Procedure, Version, Program, Outline, defined_as, add_type}
+use Rattle.xdr_grammar.specs.Outline.{add_program, body_in, declaration_in, passed_in, arguments_in, result_in}
+use Rattle.xdr_grammar.specs.Outline.{procedure_in, procedures_in, version_in, versions_in, definition_in, outlined}
 use Rattle.xdr_grammar.specs.steps.Reading.{Reader, repeat, after_word, after_sign, name_at, numbered_at, either_sign}
 use Rattle.xdr_grammar.specs.steps.Reading.{declaration_with, body_word_at, body_with, specifier_at, passed_with}
 use Rattle.xdr_grammar.specs.steps.Reading.{argument_with, arguments_with, result_with, procedure_with, version_with}
@@ -410,8 +410,9 @@ defined_found o ts y e =
       tree = Defined n.0.0 found.tree;
       spelled = body_word_found ts k.0 k.1 ∙ ap (λ (x : Lexeme). x ∷ k.0.1) found.word
           ∙ ap (λ (x : List Lexeme). body_word found.tree ∷ x) rest;
-      made = ap (λ (x : Part). add_type (a_type n.0.0 x) p.0.1) found.value
-          ∙ ap (λ (x : Outline). add_type (a_type n.0.0 (body_in found.tree o).0) x) found.made;
+      made = ap (λ (x : Part). add_type (a_type n.0.0 x) p.0.1)
+          (found.defined p.0.0 ∙ ap (defined_as found.tree) found.value)
+          ∙ ap (λ (x : Outline). add_type (a_type n.0.0 (defined_as found.tree (body_in found.tree o).0)) x) found.made;
       nested = found.nested;
     }) s.2
 

@@ -11,7 +11,8 @@ use Rattle.xdr_tokens.proofs.Options.{some_is, bind_some, chosen}
 use Rattle.xdr_grammar.specs.Tree.{Value, Literal, Constant}
 use Rattle.xdr_grammar.specs.Grammar.{value, limit}
 use Rattle.xdr_grammar.specs.Outline.{Outline, Late, late}
-use Rattle.xdr_grammar.specs.steps.Reading.{◌>>=◌, taken, word_number, mark_number, after_word, after_sign, name_at}
+use Rattle.xdr_tokens.specs.Options.{◌>>=◌}
+use Rattle.xdr_grammar.specs.steps.Reading.{taken, word_number, mark_number, after_word, after_sign, name_at}
 use Rattle.xdr_grammar.specs.steps.Reading.{number_at, value_at, size_at, limit_at, either_sign, numbered_at}
 
 -- which way it went
@@ -22,8 +23,8 @@ taken_some None f b y e = inr (refl, e)
 
 abbrev words : List Keyword
 words = word.Bool ∷ word.Case ∷ word.Const ∷ word.Default ∷ word.Double ∷ word.Enum ∷ word.Float ∷ word.Hyper ∷ word.Int
-    ∷ word.Opaque ∷ word.Program ∷ word.Quadruple ∷ word.String ∷ word.Struct ∷ word.Switch ∷ word.Typedef ∷ word.Union
-    ∷ word.Unsigned ∷ word.Version ∷ word.Void ∷ []
+    ∷ word.Long ∷ word.Opaque ∷ word.Program ∷ word.Quadruple ∷ word.String ∷ word.Struct ∷ word.Switch ∷ word.Typedef
+    ∷ word.Union ∷ word.Unsigned ∷ word.Version ∷ word.Void ∷ []
 
 word_back : (w : Keyword) → get_or words (word_number w) word.Bool ≡ w
 word_back word.Bool = refl
@@ -35,6 +36,7 @@ word_back word.Enum = refl
 word_back word.Float = refl
 word_back word.Hyper = refl
 word_back word.Int = refl
+word_back word.Long = refl
 word_back word.Opaque = refl
 word_back word.Program = refl
 word_back word.Quadruple = refl

@@ -1,7 +1,7 @@
 -- What is read from all the tokens.
 use Rattle.std.proofs.Common.{◌≡◌, ◌≤◌, List, length, Some, inl, inr, refl, sym, ap, ◌∙◌, arith}
 use Rattle.xdr_tokens.specs.Tokens.{Lexeme}
-use Rattle.xdr_tokens.specs.Fails.{Fails}
+use Rattle.xdr_tokens.specs.Due.{RefusesRightly}
 use Rattle.xdr_tokens.proofs.Options.{some_is}
 use Rattle.xdr_grammar.specs.declared.misread.Misplaced.TheVariants as misplaced
 use Rattle.xdr_grammar.specs.declared.misread.Misread.{Misread}
@@ -32,7 +32,7 @@ pub one_outline : (ts : List Lexeme) (v w : Outline) → IsOutline ts v → IsOu
 one_outline ts v w is iw = some_is v w (sym (outline_again ts v is) ∙ outline_again ts w iw)
 
 -- where something is due, memory ran out, and that is told
-pub told_fails : (e : Misread) (v : Outline) → steps.Fails e (Some v) → Fails (told e) (Some v)
+pub told_fails : (e : Misread) (v : Outline) → steps.MisreadsRightly e (Some v) → RefusesRightly (told e) (Some v)
 told_fails misread.NoMemory v h = tt
 told_fails (misread.Token why left) v h = absurd cc
 

@@ -5,7 +5,8 @@ use Rattle.xdr_tokens.specs.declared.token.Mark.TheVariants as mark
 use Rattle.xdr_grammar.specs.declared.outline.Basic.{Basic}
 use Rattle.xdr_grammar.specs.declared.outline.Basic.TheVariants as basic
 use Rattle.xdr_tokens.specs.Tokens.{Lexeme, Word, Name, Number, Sign}
-use Rattle.xdr_grammar.specs.Tree.{Value, Literal, Constant, Member, Specifier, Plain, Named, Inline, Body, EnumBody}
+use Rattle.xdr_grammar.specs.Tree.{Value, Literal, Constant, Member, Specifier, Plain, Long, UnsignedLong, Named}
+use Rattle.xdr_grammar.specs.Tree.{StructNamed, Inline, Body, EnumBody}
 use Rattle.xdr_grammar.specs.Tree.{StructBody, UnionBody, Declaration, One, Array, ArrayUpTo, Pointer, Opaque}
 use Rattle.xdr_grammar.specs.Tree.{OpaqueUpTo, Text, Content, Void, Of, Fields, Last, More, Cases, LastCase, MoreCases}
 use Rattle.xdr_grammar.specs.Tree.{Default, NoDefault, Otherwise, Passed, AnyText, OfType, Procedure, Version}
@@ -50,10 +51,13 @@ body_word (StructBody fs) = Word word.Struct
 body_word (UnionBody t cs d) = Word word.Union
 
 abbrev mutual
-  -- type-specifier
+  -- type-specifier; [ "unsigned" ] "long" and "struct" identifier are of RFC 1833's text
   pub specifier : Specifier → List Lexeme → List Lexeme
   specifier (Plain b) ts = basic_words b ts
+  specifier Long ts = Word word.Long ∷ ts
+  specifier UnsignedLong ts = Word word.Unsigned ∷ Word word.Long ∷ ts
   specifier (Named n) ts = Name n ∷ ts
+  specifier (StructNamed n) ts = Word word.Struct ∷ Name n ∷ ts
   specifier (Inline b) ts = body_word b ∷ body b ts
 
   -- enum-body | struct-body | union-body

@@ -1,6 +1,7 @@
 pub use Rattle.xdr_tokens.specs.Bytes
-pub use Rattle.xdr_tokens.specs.Fails
+pub use Rattle.xdr_tokens.specs.Due
 pub use Rattle.xdr_tokens.specs.Keywords
+pub use Rattle.xdr_tokens.specs.Options
 pub use Rattle.xdr_tokens.specs.Refusals
 pub use Rattle.xdr_tokens.specs.Text
 pub use Rattle.xdr_tokens.specs.Tokens

@@ -2,8 +2,10 @@
 -- stand for.
 use Rattle.std.specs.Prelude.{ℕ, ℤ, Bool, true, false, List, [], ◌∷◌, ◌++◌, length, map, Option, Some, None, option_map}
 use Rattle.xdr_grammar.specs.declared.outline.Basic.{Basic}
+use Rattle.xdr_grammar.specs.declared.outline.Basic.TheVariants as basic
 use Rattle.xdr_grammar.specs.Tree as tree
-use Rattle.xdr_grammar.specs.Tree.{Value, Literal, Constant, Member, Specifier, Plain, Named, Inline, Body, EnumBody}
+use Rattle.xdr_grammar.specs.Tree.{Value, Literal, Constant, Member, Specifier, Plain, Long, UnsignedLong, Named}
+use Rattle.xdr_grammar.specs.Tree.{StructNamed, Inline, Body, EnumBody}
 use Rattle.xdr_grammar.specs.Tree.{StructBody, UnionBody, Declaration, One, Array, ArrayUpTo, Pointer, Opaque}
 use Rattle.xdr_grammar.specs.Tree.{OpaqueUpTo, Text, Content, Void, Of, Fields, Last, More, Cases, LastCase, MoreCases}
 use Rattle.xdr_grammar.specs.Tree.{Default, NoDefault, Otherwise, Passed, AnyText, OfType, Definition, ConstantOf}
@@ -18,7 +20,11 @@ pub data Late : Type 0 where
 pub data Part : Type 0 where
   IsBasic : Basic → Part
   IsNamed : List ℕ → Part
+  -- "struct" identifier
+  IsStruct : (name : List ℕ) → Part
   IsMade : (place : ℕ) → Part
+  -- made by a definition "struct" identifier struct-body
+  IsStructMade : (place : ℕ) → Part
   IsText : Part
   IsVoid : Part
 
@@ -90,6 +96,16 @@ declare n v by_const o =
 abbrev pub place : Outline → Part
 place o = IsMade (length o.drafts)
 
+-- what a definition with that body declares its name as: the kind of a struct's is told by "struct" too
+abbrev pub by_struct : Part → Part
+by_struct (IsMade k) = IsStructMade k
+by_struct p = p
+
+abbrev pub defined_as : Body → Part → Part
+defined_as (StructBody fs) p = by_struct p
+defined_as (EnumBody m ms) p = p
+defined_as (UnionBody t cs d) p = p
+
 -- one more kind
 abbrev pub add : Draft → Outline → Outline
 add d o = record o { drafts = o.drafts ++ d ∷ [] }
@@ -118,7 +134,10 @@ abbrev mutual
   -- what a type specifier stands for, and what it declares
   pub specifier_in : Specifier → Outline → Part × Outline
   specifier_in (Plain b) o = (IsBasic b, o)
+  specifier_in Long o = (IsBasic basic.Int, o)
+  specifier_in UnsignedLong o = (IsBasic basic.Unsigned, o)
   specifier_in (Named n) o = (IsNamed n, o)
+  specifier_in (StructNamed n) o = (IsStruct n, o)
   specifier_in (Inline b) o = body_in b o
 
   -- A body ends at its }, after all that is inside it.
@@ -222,7 +241,7 @@ versions_in (v ∷ vs) o =
 abbrev pub definition_in : Definition → Outline → Outline
 definition_in (ConstantOf n v) o = declare n (Given v) true o
 definition_in (Typedef d) o = let f = declaration_in d o in add_type f.0 f.1
-definition_in (Defined n b) o = let p = body_in b o in add_type (record { name = n; part = p.0 }) p.1
+definition_in (Defined n b) o = let p = body_in b o in add_type (record { name = n; part = defined_as b p.0 }) p.1
 definition_in (ProgramOf p) o =
     let all = versions_in (p.first ∷ p.others) o in
     add_program (record { name = p.name; number = p.number; versions = all.0 }) all.1

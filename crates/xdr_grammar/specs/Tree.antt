@@ -1,4 +1,5 @@
--- The trees of definitions, a form for each production of the grammar (RFC 4506 section 6.3, RFC 5531 section 12.2).
+-- The trees of definitions, a form for each production of the grammar (RFC 4506 section 6.3, RFC 5531 section 12.2;
+-- long and struct NAME are words of RFC 1833's text).
 use Rattle.std.specs.Prelude.{ℕ, ℤ, suc, max, List, [], ◌∷◌, Option, Some, None}
 use Rattle.xdr_grammar.specs.declared.outline.Basic.{Basic}
 
@@ -16,7 +17,10 @@ mutual
   -- type-specifier; the floating-point types are left out
   pub data Specifier : Type 0 where
     Plain : Basic → Specifier
+    Long : Specifier
+    UnsignedLong : Specifier
     Named : List ℕ → Specifier
+    StructNamed : List ℕ → Specifier
     Inline : Body → Specifier
 
   -- enum-body | struct-body | union-body
@@ -92,7 +96,10 @@ pub data Definition : Type 0 where
 abbrev mutual
   pub depth_of_specifier : Specifier → ℕ
   depth_of_specifier (Plain b) = 0
+  depth_of_specifier Long = 0
+  depth_of_specifier UnsignedLong = 0
   depth_of_specifier (Named n) = 0
+  depth_of_specifier (StructNamed n) = 0
   depth_of_specifier (Inline b) = depth_of_body b
 
   pub depth_of_body : Body → ℕ

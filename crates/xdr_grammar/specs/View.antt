@@ -24,7 +24,9 @@ late_of (late.Earlier n before) = out.Earlier n.text.now before
 abbrev pub part_of : Part → out.Part
 part_of (part.Basic b) = out.IsBasic b
 part_of (part.Named n) = out.IsNamed n.text.now
+part_of (part.Struct n) = out.IsStruct n.text.now
 part_of (part.Made n) = out.IsMade n
+part_of (part.StructMade n) = out.IsStructMade n
 part_of part.Text = out.IsText
 part_of part.Void = out.IsVoid
 

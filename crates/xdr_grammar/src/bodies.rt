@@ -218,7 +218,7 @@ impl<'t, 'a> Parser<'t, 'a> {
     pub(crate) fn specifier(&mut self, start: usize, depth: u32) -> Result<Part<'a>, Misread>
         ensures { Reads part_of result (specifier_at depth) self.old self.new }
     {
-        match self.body_word() {
+        match self.inner_word() {
             Some(kind) if depth == 0 => {
                 self.to_the_brace(kind)?;
                 Err(self.refused(Misplaced::NestedTooDeep))

@@ -1,13 +1,24 @@
 //! Definitions, one after the other.
-ghost use Rattle.std.specs.Prelude.{length};
-ghost use Rattle.xdr_grammar.specs.steps.Reading.{declaration_with, specifier_at, const_at, typedef_with, defined_with};
-ghost use Rattle.xdr_grammar.specs.steps.Reading.{definition_at, definitions_at};
-ghost use Rattle.xdr_grammar.specs.steps.Parsing.{left, so_far, Gives, Defines};
+ghost use Rattle.std.specs.Prelude.{◌≡◌, length};
+ghost use Rattle.xdr_grammar.specs.View.{part_of};
+ghost use Rattle.xdr_grammar.specs.steps.Reading.{declaration_with, specifier_at, const_at, typedef_with, defined_part};
+ghost use Rattle.xdr_grammar.specs.steps.Reading.{defined_with, definition_at, definitions_at};
+ghost use Rattle.xdr_grammar.specs.steps.Parsing.{left, so_far, Parses, Defines};
 
 use crate::misread::Misread;
-use crate::outline::{Field, Late};
+use crate::outline::{BodyKind, Field, Late, Part};
 use crate::reading::{MAX_DEPTH, Parser};
 use xdr_tokens::{Keyword, Mark};
+
+/// What a definition with that body declares its name as. The kind of a struct is told by `struct` too.
+fn defined_part(kind: BodyKind, part: Part<'_>) -> Part<'_>
+    ensures { part_of result ≡ defined_part kind (part_of part.entry) }
+{
+    match (kind, part) {
+        (BodyKind::Struct, Part::Made(place)) => Part::StructMade(place),
+        _ => part,
+    }
+}
 
 impl<'t, 'a> Parser<'t, 'a> {
     /// What follows `const`.
@@ -41,6 +52,7 @@ impl<'t, 'a> Parser<'t, 'a> {
         let name = self.name()?;
         let part = self.body(kind, self.start, MAX_DEPTH - 1)?;
         self.expect(Mark::Semicolon)?;
+        let part = defined_part(kind, part);
         self.add_type(Field { name, part })
     }
 
@@ -65,7 +77,7 @@ impl<'t, 'a> Parser<'t, 'a> {
     /// The definitions, to the end of the tokens.
     #[tactic(auto, unfolding(crate::specs::steps::Reading::definitions_at))]
     pub(crate) fn definitions(&mut self) -> Result<(), Misread>
-        ensures { Gives (λ _. so_far self.new) result
+        ensures { Parses (λ _. so_far self.new) result
             (definitions_at (length (left self.old)) (so_far self.old) (left self.old)) }
     {
         for _ in 0..self.rest.len() {

@@ -1,6 +1,6 @@
 //! Where bodies of structs, unions and enums begin, and which one is one too many.
 ghost use Rattle.std.specs.Prelude.{◌≡◌, Some, None, IfSome};
-ghost use Rattle.xdr_grammar.specs.steps.Reading.{body_word_at};
+ghost use Rattle.xdr_grammar.specs.steps.Reading.{body_word_at, inner_word_at};
 ghost use Rattle.xdr_grammar.specs.steps.Parsing.{left, so_far};
 
 use crate::misread::Misread;
@@ -27,6 +27,20 @@ impl<'t, 'a> Parser<'t, 'a> {
             return Some(BodyKind::Union);
         }
         None
+    }
+
+    /// The same where a type specifier is due: `struct` and a name begin no body.
+    #[tactic(auto, unfolding(crate::specs::steps::Reading::inner_word_at, crate::specs::steps::Reading::after_word, crate::specs::steps::Reading::name_at))]
+    pub(crate) fn inner_word(&mut self) -> Option<BodyKind>
+        ensures some { IfSome result (λ k. inner_word_at (left self.old) ≡ Some (k, left self.new)) }
+        ensures none { result ≡ None → inner_word_at (left self.old) ≡ None }
+        ensures same { result ≡ None → left self.new ≡ left self.old }
+        ensures made { so_far self.new ≡ so_far self.old }
+    {
+        match self.rest {
+            [Token::Word(Keyword::Struct, _), Token::Name(_, _), ..] => None,
+            _ => self.body_word(),
+        }
     }
 
     /// The switch declaration of a union whose body is one too many, where no body stands in it.
@@ -63,7 +77,7 @@ impl<'t, 'a> Parser<'t, 'a> {
             }
             self.expect_word(Keyword::Switch)?;
             self.expect(Mark::OpenRound)?;
-            match self.body_word() {
+            match self.inner_word() {
                 Some(inner) => kind = inner,
                 None => {
                     self.flat_declaration()?;

@@ -44,8 +44,12 @@ pub enum Late<'a> {
 pub enum Part<'a> {
     Basic(Basic),
     Named(Name<'a>),
+    /// `struct` and a name.
+    Struct(Name<'a>),
     /// The shape at this place of the list of shapes.
     Made(usize),
+    /// The same, of a definition `struct NAME {..}`.
+    StructMade(usize),
     Text,
     Void,
 }

@@ -3,11 +3,11 @@ ghost use Rattle.std.specs.Prelude.{◌≡◌, true, false, Some, None, IfOk, If
 ghost use Rattle.xdr_tokens.specs.Tokens.{lexemes};
 ghost use Rattle.xdr_grammar.specs.Outline.{Outline as OutlineSpec};
 ghost use Rattle.xdr_grammar.specs.View.{outline_of};
-ghost use Rattle.xdr_tokens.specs.Fails as fails;
+ghost use Rattle.xdr_tokens.specs.Due.{Gives};
 ghost use Rattle.xdr_grammar.specs.steps.Reading.{after_word, after_sign, either_sign};
 ghost use Rattle.xdr_grammar.specs.Spelled.{IsOutline};
 ghost use Rattle.xdr_grammar.specs.Misreadings.{IsGrammarFault};
-ghost use Rattle.xdr_grammar.specs.steps.Parsing.{left, so_far, Gives, Takes, place_in};
+ghost use Rattle.xdr_grammar.specs.steps.Parsing.{left, so_far, Parses, Takes, place_in};
 
 use crate::misread::{Misplaced, Misread, fault_of};
 use crate::outline::Outline;
@@ -93,7 +93,7 @@ impl<'t, 'a> Parser<'t, 'a> {
 
     /// Takes the mark, which has to be in front.
     pub(crate) fn expect(&mut self, wanted: Mark) -> Result<(), Misread>
-        ensures read { Gives (λ _. left self.new) result (after_sign wanted (left self.old)) }
+        ensures read { Parses (λ _. left self.new) result (after_sign wanted (left self.old)) }
         ensures made { so_far self.new ≡ so_far self.old }
     {
         if self.sign(wanted) {
@@ -105,7 +105,7 @@ impl<'t, 'a> Parser<'t, 'a> {
 
     /// Takes the keyword, which has to be in front.
     pub(crate) fn expect_word(&mut self, wanted: Keyword) -> Result<(), Misread>
-        ensures read { Gives (λ _. left self.new) result (after_word wanted (left self.old)) }
+        ensures read { Parses (λ _. left self.new) result (after_word wanted (left self.old)) }
         ensures made { so_far self.new ≡ so_far self.old }
     {
         if self.word(wanted) {
@@ -139,7 +139,7 @@ pub fn read_outline<'a>(alloc: Global, tokens: &[Token<'a>]) -> Result<Outline<'
     // What is read are the tokens of definitions.
     ensures found { IfOk result (λ v. IsOutline (lexemes tokens.now) (outline_of v)) }
     // The tokens of all definitions are read, unless memory runs out.
-    ensures only { (v : OutlineSpec) → IsOutline (lexemes tokens.now) v → fails.Gives outline_of result (Some v) }
+    ensures only { (v : OutlineSpec) → IsOutline (lexemes tokens.now) v → Gives outline_of result (Some v) }
     // A refusal is want of memory, or number 3, 4 or 12.
     ensures refused { IfErr result (λ e. IsGrammarFault e) }
 {

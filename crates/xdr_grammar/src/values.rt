@@ -1,7 +1,7 @@
 //! Names, constants, sizes and the types that are there without a definition.
-ghost use Rattle.std.specs.Prelude.{◌≡◌, true, None, option_map};
+ghost use Rattle.std.specs.Prelude.{◌≡◌, true, false, Some, None, option_map};
 ghost use Rattle.xdr_grammar.specs.View.{late_of, part_of};
-ghost use Rattle.xdr_grammar.specs.steps.Reading.{name_at, number_at, value_at, size_at, limit_at, numbered_at};
+ghost use Rattle.xdr_grammar.specs.steps.Reading.{name_at, number_at, value_at, size_at, limit_at, numbered_at, int_at};
 ghost use Rattle.xdr_grammar.specs.steps.Reading.{basic_at};
 ghost use Rattle.xdr_grammar.specs.steps.Parsing.{left, so_far, Takes};
 
@@ -118,20 +118,31 @@ impl<'t, 'a> Parser<'t, 'a> {
         }
     }
 
-    /// A basic type or the name of a type.
+    /// Takes `int`, or `long`, which stands for the same.
+    #[tactic(auto, unfolding(crate::specs::steps::Reading::int_at))]
+    fn int(&mut self) -> bool
+        ensures yes { result ≡ true → int_at (left self.old) ≡ Some (left self.new) }
+        ensures no { result ≡ false → int_at (left self.old) ≡ None }
+        ensures same { result ≡ false → left self.new ≡ left self.old }
+        ensures made { so_far self.new ≡ so_far self.old }
+    {
+        self.word(Keyword::Int) || self.word(Keyword::Long)
+    }
+
+    /// A basic type or the name of a type, with or without `struct`.
     #[tactic(auto, unfolding(crate::specs::steps::Reading::basic_at))]
     pub(crate) fn basic(&mut self) -> Result<Part<'a>, Misread>
         ensures read { Takes part_of result basic_at self.old self.new }
         ensures made { so_far self.new ≡ so_far self.old }
     {
         if self.word(Keyword::Unsigned) {
-            if self.word(Keyword::Int) {
+            if self.int() {
                 return Ok(Part::Basic(Basic::Unsigned));
             }
             self.expect_word(Keyword::Hyper)?;
             return Ok(Part::Basic(Basic::UnsignedHyper));
         }
-        if self.word(Keyword::Int) {
+        if self.int() {
             return Ok(Part::Basic(Basic::Int));
         }
         if self.word(Keyword::Hyper) {
@@ -139,6 +150,10 @@ impl<'t, 'a> Parser<'t, 'a> {
         }
         if self.word(Keyword::Bool) {
             return Ok(Part::Basic(Basic::Bool));
+        }
+        if self.word(Keyword::Struct) {
+            let name = self.name()?;
+            return Ok(Part::Struct(name));
         }
         if self.is_floating() {
             return Err(self.refused(Misplaced::FloatingKind));

@@ -27,14 +27,14 @@ told (misread.Token why left) = fault.Refused (wrong_of why) left
 told misread.NoMemory = fault.NoMemory
 
 -- Nothing is due, where a token was refused. Want of memory may come at any time.
-abbrev pub Fails : {Y : Type 0} → Misread → Option Y → Type 0
-Fails (misread.Token why left) due = due ≡ None
-Fails misread.NoMemory due = Unit {0}
+abbrev pub MisreadsRightly : {Y : Type 0} → Misread → Option Y → Type 0
+MisreadsRightly (misread.Token why left) due = due ≡ None
+MisreadsRightly misread.NoMemory due = Unit {0}
 
 -- What a step returned, seen by view, is what is due, unless memory ran out.
-abbrev pub Gives : {X Y : Type 0} → (X → Y) → Result X Misread → Option Y → Type 0
-Gives view (Ok x) due = due ≡ Some (view x)
-Gives view (Err e) due = Fails e due
+abbrev pub Parses : {X Y : Type 0} → (X → Y) → Result X Misread → Option Y → Type 0
+Parses view (Ok x) due = due ≡ Some (view x)
+Parses view (Err e) due = MisreadsRightly e due
 
 -- the tokens that are left
 abbrev pub left : Parser → List Lexeme
@@ -47,14 +47,14 @@ so_far p = outline_of p.outline
 -- A step that reads tokens and declares nothing.
 abbrev pub Takes : {X Y : Type 0} → (X → Y) → Result X Misread → (List Lexeme → Option (Y × List Lexeme)) → Parser
     → Parser → Type 0
-Takes view result reader old new = Gives (λ x. (view x, left new)) result (reader (left old))
+Takes view result reader old new = Parses (λ x. (view x, left new)) result (reader (left old))
 
 -- A step that reads tokens and may declare something.
 abbrev pub Reads : {X Y : Type 0} → (X → Y) → Result X Misread → Reader Y → Parser → Parser → Type 0
-Reads view result reader old new = Gives (λ x. (view x, so_far new, left new)) result (reader (so_far old) (left old))
+Reads view result reader old new = Parses (λ x. (view x, so_far new, left new)) result (reader (so_far old) (left old))
 
 abbrev pub Defines : {X : Type 0} → Result X Misread → Definer → Parser → Parser → Type 0
-Defines result reader old new = Gives (λ _. (so_far new, left new)) result (reader (so_far old) (left old))
+Defines result reader old new = Parses (λ _. (so_far new, left new)) result (reader (so_far old) (left old))
 
 abbrev pub place_of : Token → ℕ
 place_of (code.Word w left) = left

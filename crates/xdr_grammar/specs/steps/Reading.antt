@@ -1,6 +1,6 @@
 -- Reading the tokens from left to right: what each function of the parser gives.
 use Rattle.std.specs.Prelude.{ℕ, zero, suc, ℤ, List, [], ◌∷◌, length, Option, Some, None, ◌==◌, if◌then◌else◌}
-use Rattle.std.specs.Prelude.{option_and_then, Bool, true, false}
+use Rattle.std.specs.Prelude.{Bool, true, false}
 use Rattle.xdr_tokens.specs.declared.token.Keyword.{Keyword}
 use Rattle.xdr_tokens.specs.declared.token.Keyword.TheVariants as word
 use Rattle.xdr_tokens.specs.declared.token.Mark.{Mark}
@@ -8,14 +8,12 @@ use Rattle.xdr_tokens.specs.declared.token.Mark.TheVariants as mark
 use Rattle.xdr_grammar.specs.declared.outline.Basic.TheVariants as basic
 use Rattle.xdr_grammar.specs.declared.outline.BodyKind.{BodyKind}
 use Rattle.xdr_grammar.specs.declared.outline.BodyKind.TheVariants as kind
+use Rattle.xdr_tokens.specs.Options.{◌>>=◌}
 use Rattle.xdr_tokens.specs.Tokens.{Lexeme, Word, Name, Number, Sign}
-use Rattle.xdr_grammar.specs.Outline.{Late, Given, Earlier, Part, IsBasic, IsNamed, IsText, IsVoid, Field, Arm, Draft}
-use Rattle.xdr_grammar.specs.Outline.{DNumbered, DOpaque, DOpaqueUpTo, DText, DFixed, DUpTo, DStructure, DChoice}
-use Rattle.xdr_grammar.specs.Outline.{DMaybe, Procedure, Version, Outline, declare, place, add, add_type, add_program}
-
-infixl 10 ◌>>=◌
-abbrev pub ◌>>=◌ : {A B : Type 0} → Option A → (A → Option B) → Option B
-o >>= f = option_and_then f o
+use Rattle.xdr_grammar.specs.Outline.{Late, Given, Earlier, Part, IsBasic, IsNamed, IsStruct, IsText, IsVoid, Field}
+use Rattle.xdr_grammar.specs.Outline.{Arm, Draft, DNumbered, DOpaque, DOpaqueUpTo, DText, DFixed, DUpTo, DStructure}
+use Rattle.xdr_grammar.specs.Outline.{DChoice, DMaybe, Procedure, Version, Outline, declare, place, by_struct, add}
+use Rattle.xdr_grammar.specs.Outline.{add_type, add_program}
 
 -- what follows, where something was taken
 abbrev pub taken : {A B : Type 0} → Option A → (A → B) → B → B
@@ -32,17 +30,18 @@ word_number word.Enum = 5
 word_number word.Float = 6
 word_number word.Hyper = 7
 word_number word.Int = 8
-word_number word.Opaque = 9
-word_number word.Program = 10
-word_number word.Quadruple = 11
-word_number word.String = 12
-word_number word.Struct = 13
-word_number word.Switch = 14
-word_number word.Typedef = 15
-word_number word.Union = 16
-word_number word.Unsigned = 17
-word_number word.Version = 18
-word_number word.Void = 19
+word_number word.Long = 9
+word_number word.Opaque = 10
+word_number word.Program = 11
+word_number word.Quadruple = 12
+word_number word.String = 13
+word_number word.Struct = 14
+word_number word.Switch = 15
+word_number word.Typedef = 16
+word_number word.Union = 17
+word_number word.Unsigned = 18
+word_number word.Version = 19
+word_number word.Void = 20
 
 abbrev pub mark_number : Mark → ℕ
 mark_number mark.OpenBrace = 0
@@ -165,14 +164,19 @@ unfoldable pub content_with : Reader Field → Reader Field
 content_with declaration o ts = taken (after_word word.Void ts)
     (λ rest. Some (record { name = []; part = IsVoid }, o, rest)) (declaration o ts)
 
+-- after "int" or "long"
+unfoldable pub int_at : List Lexeme → Option (List Lexeme)
+int_at ts = taken (after_word word.Int ts) (λ rest. Some rest) (after_word word.Long ts)
+
 unfoldable pub basic_at : List Lexeme → Option (Part × List Lexeme)
 basic_at ts = taken (after_word word.Unsigned ts)
-    (λ rest. taken (after_word word.Int rest) (λ more. Some (IsBasic basic.Unsigned, more))
+    (λ rest. taken (int_at rest) (λ more. Some (IsBasic basic.Unsigned, more))
     (after_word word.Hyper rest >>= λ more. Some (IsBasic basic.UnsignedHyper, more)))
-    (taken (after_word word.Int ts) (λ rest. Some (IsBasic basic.Int, rest))
+    (taken (int_at ts) (λ rest. Some (IsBasic basic.Int, rest))
     (taken (after_word word.Hyper ts) (λ rest. Some (IsBasic basic.Hyper, rest))
     (taken (after_word word.Bool ts) (λ rest. Some (IsBasic basic.Bool, rest))
-    (name_at ts >>= λ n. Some (IsNamed n.0, n.1)))))
+    (taken (after_word word.Struct ts) (λ rest. name_at rest >>= λ n. Some (IsStruct n.0, n.1))
+    (name_at ts >>= λ n. Some (IsNamed n.0, n.1))))))
 
 -- ---- bodies
 
@@ -247,10 +251,14 @@ body_with declaration kind.Enum o ts = enum_at o ts
 body_with declaration kind.Struct o ts = struct_with (content_with declaration) o ts
 body_with declaration kind.Union o ts = union_with declaration o ts
 
+-- the same where a type specifier is due: "struct" and a name begin no body
+unfoldable pub inner_word_at : List Lexeme → Option (BodyKind × List Lexeme)
+inner_word_at ts = taken (after_word word.Struct ts >>= name_at) (λ n. None) (body_word_at ts)
+
 -- a type specifier with at most so many bodies inside one another
 unfoldable pub specifier_at : ℕ → Reader Part
-specifier_at zero o ts = taken (body_word_at ts) (λ k. None) (basic_at ts >>= λ b. Some (b.0, o, b.1))
-specifier_at (suc d) o ts = taken (body_word_at ts) (λ k. body_with (declaration_with (specifier_at d)) k.0 o k.1)
+specifier_at zero o ts = taken (inner_word_at ts) (λ k. None) (basic_at ts >>= λ b. Some (b.0, o, b.1))
+specifier_at (suc d) o ts = taken (inner_word_at ts) (λ k. body_with (declaration_with (specifier_at d)) k.0 o k.1)
     (basic_at ts >>= λ b. Some (b.0, o, b.1))
 
 -- ---- programs
@@ -318,6 +326,12 @@ typedef_with declaration o ts = do
   rest ← after_sign mark.Semicolon f.2
   Some (add_type f.0 f.1, rest)
 
+-- what the definition declares its name as
+abbrev pub defined_part : BodyKind → Part → Part
+defined_part kind.Struct p = by_struct p
+defined_part kind.Enum p = p
+defined_part kind.Union p = p
+
 -- an enum, a struct or a union with its name
 unfoldable pub defined_with : Reader Field → Definer
 defined_with declaration o ts = do
@@ -325,7 +339,7 @@ defined_with declaration o ts = do
   n ← name_at k.1
   p ← body_with declaration k.0 o n.1
   rest ← after_sign mark.Semicolon p.2
-  Some (add_type (record { name = n.0; part = p.0 }) p.1, rest)
+  Some (add_type (record { name = n.0; part = defined_part k.0 p.0 }) p.1, rest)
 
 unfoldable pub definition_at : Definer
 definition_at o ts = taken (after_word word.Const ts) (λ rest. const_at o rest)
