@@ -1,9 +1,9 @@
 -- A meaning with distinct names, in its parts.
-use Rattle.std.proofs.Common.{◌≡◌, ◌⊎◌, inl, inr, Bool, true, false, cond, Option, Some, None, refl, sym, ap, ◌∙◌}
+use Rattle.std.proofs.Common.{◌≡◌, inl, inr, false, Option, Some, None, refl, sym, ap, ◌∙◌}
 use Rattle.std.proofs.Common.{Result, Ok, Err, IfOk}
 use Rattle.xdr_tokens.specs.declared.fault.Fault.{Fault}
 use Rattle.xdr_tokens.specs.declared.fault.Fault.TheVariants as fault
-use Rattle.xdr_tokens.specs.Fails.{Fails}
+use Rattle.xdr_tokens.specs.Due.{RefusesRightly}
 use Rattle.xdr_tokens.proofs.Options.{chosen}
 use Rattle.xdr_types.specs.Faults.{IsWellFormed}
 use Rattle.xdr_types.specs.Sound.{IsSound}
@@ -40,7 +40,7 @@ found_meant o l (Ok v) e same wf so =
 found_meant o l (Err f) e same wf so = tt
 
 -- where something is due, it is refused for want of memory alone, and that is told
-pub fails_on : {A : Type 0} (e f : Fault) (due : Option A) (d : A) → due ≡ Some d → Fails e due
-    → (e ≡ fault.NoMemory → f ≡ fault.NoMemory) → Fails f (Some d)
+pub fails_on : {A : Type 0} (e f : Fault) (due : Option A) (d : A) → due ≡ Some d → RefusesRightly e due
+    → (e ≡ fault.NoMemory → f ≡ fault.NoMemory) → RefusesRightly f (Some d)
 fails_on fault.NoMemory f due d is h told = rw (told refl) tt
 fails_on (fault.Refused wrong left) f due d is h told = absurd (none_is_not d (sym h ∙ is))

@@ -2,7 +2,7 @@
 use Rattle.std.proofs.Common.{◌≤◌, lit≤, ◌≡◌, inl, inr, ℕ, Option, Some, None, refl, ap, arith, sym, ◌∙◌}
 use Rattle.xdr_tokens.specs.declared.fault.Fault.{Fault}
 use Rattle.xdr_tokens.specs.declared.fault.Fault.TheVariants as fault
-use Rattle.xdr_tokens.specs.Fails.{Fails}
+use Rattle.xdr_tokens.specs.Due.{RefusesRightly}
 use Rattle.xdr_types.specs.Kinds.{Lists}
 use Rattle.xdr_types.specs.Faults.{fault_number, AreFlawless, IsWellFormed, kind_flaw_at, name_flaw_at}
 use Rattle.xdr_types.specs.Sound.{IsSound}
@@ -31,12 +31,12 @@ only_memory s e ok sound (inr first) = absurd (no_first s e first ok sound)
 
 -- what is refused, but not for want of memory, is not due
 pub refused_is_not_due : {A : Type 0} (e : Fault) (n : ℕ) (a : A) → (e ≡ fault.NoMemory → n ≡ 13) → (n ≡ 13 → ⊥)
-    → Fails e (Some a) → ⊥
+    → RefusesRightly e (Some a) → ⊥
 refused_is_not_due fault.NoMemory n a told not h = not (told refl)
 refused_is_not_due (fault.Refused wrong left) n a told not h = absurd cc
 
 -- what is refused in place of one thing is refused in place of another
-pub fails_same : {A B : Type 0} (e : Fault) (a : A) (b : B) → Fails e (Some a) → Fails e (Some b)
+pub fails_same : {A B : Type 0} (e : Fault) (a : A) (b : B) → RefusesRightly e (Some a) → RefusesRightly e (Some b)
 fails_same fault.NoMemory a b h = tt
 fails_same (fault.Refused wrong left) a b h = absurd cc
 

@@ -17,7 +17,8 @@ use Rattle.xdr_grammar.specs.View.{part_of}
 use Rattle.xdr_grammar.specs.Outline as out
 use Rattle.xdr_tokens.proofs.Options.{some_is}
 use Rattle.xdr_lang.specs.Declarations.{or_else}
-use Rattle.xdr_lang.specs.LookUp.{◌>>=◌, Known, known, type_named, place_with, named_place}
+use Rattle.xdr_tokens.specs.Options.{◌>>=◌}
+use Rattle.xdr_lang.specs.LookUp.{Known, known, type_named, place_with, named_place}
 use Rattle.xdr_lang.specs.steps.Tables.{at_name, first_named, HasFirst, HasParts, IsPlacedAt, HasPlaces, HasNoPlaces}
 use Rattle.xdr_lang.specs.steps.Tables.{IsIn, key_texts, leads_into, stays_in, all_stay}
 use Rattle.xdr_lang.specs.Distinct.{has_name}
@@ -224,22 +225,22 @@ old_part m ts t key has same there = record {
 -- ---- places
 
 reach : (types : List out.Field) (n : List ℕ) (part : out.Part) (place steps : ℕ) → type_named n types ≡ Some part
-    → ((m : ℕ) → steps ≤ m → place_with (named_place m types) part ≡ Some place) → (most : ℕ) → steps + 1 ≤ most
-    → named_place most types n ≡ Some place
+    → ((m : ℕ) → steps ≤ m → place_with types (named_place m types) part ≡ Some place) → (most : ℕ)
+    → steps + 1 ≤ most → named_place most types n ≡ Some place
 unfolding named_place
 reach types n part place steps is f zero h = absurd (omega (arith, h))
 reach types n part place steps is f (suc m) h = rw is (f m (omega (arith, h)))
 
 -- a name is one step further than its part
 pub one_further : (types : List out.Field) (n : List ℕ) (part : out.Part) (place steps : ℕ)
-    → type_named n types ≡ Some part → ((m : ℕ) → steps ≤ m → place_with (named_place m types) part ≡ Some place)
-    → IsPlacedAt types n place (steps + 1)
+    → type_named n types ≡ Some part
+    → ((m : ℕ) → steps ≤ m → place_with types (named_place m types) part ≡ Some place) → IsPlacedAt types n place (steps + 1)
 one_further types n part place steps is f = record { reached = reach types n part place steps is f }
 
 -- a name whose part has its place at once
 pub placed_at_once : (m : BTreeMap (Bor (List ℕ)) Part) (types : List out.Field) (n : List ℕ) (p : Part)
     (part : out.Part) (place : ℕ) → HasParts m types → at_name n m ≡ Some p → part_of p ≡ part
-    → ((named : List ℕ → Option ℕ) → place_with named part ≡ Some place) → IsPlacedAt types n place 1
+    → ((named : List ℕ → Option ℕ) → place_with types named part ≡ Some place) → IsPlacedAt types n place 1
 placed_at_once m types n p part place has at is f =
     let named : type_named n types ≡ Some part = sym (has.finds n) ∙ (rw (at, is) refl) in
     one_further types n part place 0 named (λ k h. f (named_place k types))
@@ -291,7 +292,9 @@ LeadsOn s p = (next : List ℕ) × (p ≡ out.IsNamed next) × IsIn next s
 leads : (s : BTreeSet (Bor (List ℕ))) (p : out.Part) → leads_into s p ≡ true → LeadsOn s p
 leads s (out.IsBasic b) e = absurd cc
 leads s (out.IsNamed n) e = (n, refl, e)
+leads s (out.IsStruct n) e = absurd cc
 leads s (out.IsMade k) e = absurd cc
+leads s (out.IsStructMade k) e = absurd cc
 leads s out.IsText e = absurd cc
 leads s out.IsVoid e = absurd cc
 
@@ -320,11 +323,11 @@ stays_as s (t ∷ ts) n p all is e =
 
 no_place_with : (s : BTreeSet (Bor (List ℕ))) (types : List out.Field) (n : List ℕ) (named : List ℕ → Option ℕ)
     (o : Option out.Part) → type_named n types ≡ o → all_stay s types ≡ true → IsIn n s
-    → ((m : List ℕ) → IsIn m s → named m ≡ None) → (o >>= place_with named) ≡ None
+    → ((m : List ℕ) → IsIn m s → named m ≡ None) → (o >>= place_with types named) ≡ None
 no_place_with s types n named None e all is f = refl
 no_place_with s types n named (Some p) e all is f =
     let on = stays_as s types n p all is e in
-    ap (place_with named) on.1 ∙ f on.0 on.2
+    ap (place_with types named) on.1 ∙ f on.0 on.2
 
 stay_nowhere : (s : BTreeSet (Bor (List ℕ))) (types : List out.Field) → all_stay s types ≡ true → (most : ℕ)
     (n : List ℕ) → IsIn n s → named_place most types n ≡ None
@@ -354,10 +357,10 @@ no_names s types e = record {
 -- one step of a walk along names
 pub follows : (types : List out.Field) (n : List ℕ) (p : out.Part) (i steps : ℕ) (total : Option ℕ) → i < steps
     → Some p ≡ type_named n types → named_place (steps - i) types n ≡ total
-    → place_with (named_place (steps - (i + 1)) types) p ≡ total
+    → place_with types (named_place (steps - (i + 1)) types) p ≡ total
 unfolding named_place
 follows types n p i steps total lt is so_far =
     let k : steps - i ≡ suc (steps - (i + 1)) = omega arith in
-    let one : named_place (steps - i) types n ≡ place_with (named_place (steps - (i + 1)) types) p = rw
+    let one : named_place (steps - i) types n ≡ place_with types (named_place (steps - (i + 1)) types) p = rw
     (k, ← is) refl in
     sym one ∙ so_far

@@ -1,4 +1,5 @@
-pub use Rattle.xdr_tokens.specs.Fails
+pub use Rattle.xdr_tokens.specs.Due
+pub use Rattle.xdr_tokens.specs.Options
 pub use Rattle.xdr_tokens.specs.Text
 pub use Rattle.xdr_tokens.specs.Tokens
 pub use Rattle.xdr_grammar.specs.Grammar
@@ -17,5 +18,6 @@ pub mod Programs
 pub mod Distinct
 pub mod Meaning
 pub mod Means
+pub mod Before
 pub mod Views
 pub mod steps

@@ -1,10 +1,11 @@
 -- What an outline means, where all its names stand for something and all its numbers are in range (RFC 4506 section
 -- 6.4).
-use Rattle.std.specs.Prelude.{pos, List, [], ◌∷◌, ◌++◌, map, Option, Some, None, codes}
+use Rattle.std.specs.Prelude.{pos, List, [], ◌∷◌, ◌++◌, map, Option, Some, codes}
 use Rattle.xdr_types.specs.Named.{basic}
 use Rattle.xdr_grammar.specs.Outline.{Outline}
 use Rattle.xdr_lang.specs.Declarations.{Constant, Declared}
-use Rattle.xdr_lang.specs.LookUp.{◌>>=◌, Known, numbers}
+use Rattle.xdr_tokens.specs.Options.{◌>>=◌}
+use Rattle.xdr_lang.specs.LookUp.{Known, numbers}
 use Rattle.xdr_lang.specs.Kinds.{each, each_onto, one_kind, one_field}
 use Rattle.xdr_lang.specs.Programs.{one_program}
 

@@ -1,7 +1,7 @@
 //! The numbers of constants, and what values stand for.
 ghost use Rattle.std.specs.Prelude.{◌≡◌, true, false, Some, None, IfOk, length, List, [], ◌∷◌, map, option_map, ◌≤◌};
 ghost use Rattle.std.specs.Prelude.{◌<◌, take};
-ghost use Rattle.xdr_tokens.specs.Fails.{Gives};
+ghost use Rattle.xdr_tokens.specs.Due.{Gives};
 ghost use Rattle.xdr_grammar.specs.View.{late_of, entry_of};
 ghost use Rattle.xdr_lang.specs.Views.{known_of, knowns};
 ghost use Rattle.xdr_lang.specs.LookUp.{unsigned, member_number, case_number, known, earlier, looked_up, size, limit};

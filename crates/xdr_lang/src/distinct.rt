@@ -1,5 +1,5 @@
 //! Whether a name or a number is there twice.
-ghost use Rattle.std.specs.Prelude.{◌≡◌, true, false, OnOk, IfOk, List, [], map, option_map, ◌++◌};
+ghost use Rattle.std.specs.Prelude.{◌≡◌, ℕ, true, false, OnOk, IfOk, List, [], map, option_map, ◌++◌};
 ghost use Rattle.xdr_grammar.specs.Outline as out;
 ghost use Rattle.xdr_grammar.specs.View.{entry_of, field_of, arm_of, draft_of, procedure_of, version_of, program_of};
 ghost use Rattle.xdr_grammar.specs.View.{outline_of};
@@ -85,68 +85,100 @@ fn all_pairs(alloc: Global, programs: &[Program<'_>]) -> Result<Vec<(i128, i128)
     Ok(found)
 }
 
-/// The names of constants.
-fn constant_names<'a>(found: &mut Vec<Name<'a>>, items: &[Entry<'a>]) -> Result<(), AllocError>
-    ensures { OnOk result (texts found.new.items ≡ texts found.old.items ++ map (λ (e : out.Entry). e.name)
-        (map entry_of items.now)) }
-{
-    for entry in items {
-        found.push(entry.name)?;
-    }
-    Ok(())
+/// What an outline declares by a name.
+pub trait Declaration<'a> {
+    ghost View: { Type 0 };
+
+    ghost view: { Self → View };
+
+    ghost name_of: { View → List ℕ };
+
+    /// The name.
+    fn name(&self) -> Name<'a>
+        ensures { result.text.now ≡ name_of (view self.now) };
 }
 
-/// The names of types or of fields.
-fn type_names<'a>(found: &mut Vec<Name<'a>>, items: &[Field<'a>]) -> Result<(), AllocError>
-    ensures { OnOk result (texts found.new.items ≡ texts found.old.items ++ map (λ (f : out.Field). f.name)
-        (map field_of items.now)) }
-{
-    for field in items {
-        found.push(field.name)?;
+impl<'a> Declaration<'a> for Entry<'a> {
+    ghost View = { out.Entry };
+
+    ghost view = { entry_of };
+
+    ghost name_of = { λ e. e.name };
+
+    fn name(&self) -> Name<'a> {
+        self.name
     }
-    Ok(())
 }
 
-/// The names of programs.
-fn program_names<'a>(found: &mut Vec<Name<'a>>, items: &[Program<'a>]) -> Result<(), AllocError>
-    ensures { OnOk result (texts found.new.items ≡ texts found.old.items ++ map (λ (p : out.Program). p.name)
-        (map program_of items.now)) }
-{
-    for program in items {
-        found.push(program.name)?;
+impl<'a> Declaration<'a> for Field<'a> {
+    ghost View = { out.Field };
+
+    ghost view = { field_of };
+
+    ghost name_of = { λ f. f.name };
+
+    fn name(&self) -> Name<'a> {
+        self.name
     }
-    Ok(())
 }
 
-/// The names of the arms of a union.
-fn arm_names<'a>(found: &mut Vec<Name<'a>>, items: &[Arm<'a>]) -> Result<(), AllocError>
-    ensures { OnOk result (texts found.new.items ≡ texts found.old.items ++ map (λ (a : out.Arm). a.member.name)
-        (map arm_of items.now)) }
-{
-    for arm in items {
-        found.push(arm.member.name)?;
+impl<'a> Declaration<'a> for Arm<'a> {
+    ghost View = { out.Arm };
+
+    ghost view = { arm_of };
+
+    ghost name_of = { λ a. a.member.name };
+
+    fn name(&self) -> Name<'a> {
+        self.member.name
     }
-    Ok(())
 }
 
-/// The names of versions.
-fn version_names<'a>(found: &mut Vec<Name<'a>>, items: &[Version<'a>]) -> Result<(), AllocError>
-    ensures { OnOk result (texts found.new.items ≡ texts found.old.items ++ map (λ (v : out.Version). v.name)
-        (map version_of items.now)) }
-{
-    for version in items {
-        found.push(version.name)?;
+impl<'a> Declaration<'a> for Procedure<'a> {
+    ghost View = { out.Procedure };
+
+    ghost view = { procedure_of };
+
+    ghost name_of = { λ p. p.name };
+
+    fn name(&self) -> Name<'a> {
+        self.name
     }
-    Ok(())
 }
 
-/// The names of procedures.
-fn procedure_names<'a>(found: &mut Vec<Name<'a>>, items: &[Procedure<'a>]) -> Result<(), AllocError>
-    ensures { OnOk result (texts found.new.items ≡ texts found.old.items ++ map (λ (p : out.Procedure). p.name)
-        (map procedure_of items.now)) }
+impl<'a> Declaration<'a> for Version<'a> {
+    ghost View = { out.Version };
+
+    ghost view = { version_of };
+
+    ghost name_of = { λ v. v.name };
+
+    fn name(&self) -> Name<'a> {
+        self.name
+    }
+}
+
+impl<'a> Declaration<'a> for Program<'a> {
+    ghost View = { out.Program };
+
+    ghost view = { program_of };
+
+    ghost name_of = { λ p. p.name };
+
+    fn name(&self) -> Name<'a> {
+        self.name
+    }
+}
+
+/// Adds the names of all items.
+pub fn add_names<'a, T: Declaration<'a>>(
+    found: &mut Vec<Name<'a>>,
+    items: &[T],
+) -> Result<(), AllocError>
+    ensures { OnOk result (texts found.new.items ≡ texts found.old.items ++ map T.name_of (map T.view items.now)) }
 {
-    for procedure in items {
-        found.push(procedure.name)?;
+    for item in items {
+        found.push(item.name())?;
     }
     Ok(())
 }
@@ -171,12 +203,12 @@ fn kind_repeats(alloc: Global, draft: &Draft<'_>) -> Result<bool, AllocError>
     match &draft.shape {
         Shape::Structure(fields) => {
             let mut names = Vec::new(alloc);
-            type_names(&mut names, fields)?;
+            add_names(&mut names, fields)?;
             repeats(alloc, &names)
         }
         Shape::Choice(_, arms, other) => {
             let mut names = other_name(alloc, other)?;
-            arm_names(&mut names, arms)?;
+            add_names(&mut names, arms)?;
             repeats(alloc, &names)
         }
         _ => Ok(false),
@@ -202,7 +234,7 @@ fn version_repeats(alloc: Global, version: &Version<'_>) -> Result<bool, AllocEr
     ensures { IfOk result (λ b. b ≡ version_repeats (version_of version.now)) }
 {
     let mut names = Vec::new(alloc);
-    procedure_names(&mut names, &version.procedures)?;
+    add_names(&mut names, &version.procedures)?;
     if repeats(alloc, &names)? {
         return Ok(true);
     }
@@ -228,7 +260,7 @@ fn program_repeats(alloc: Global, program: &Program<'_>) -> Result<bool, AllocEr
     ensures { IfOk result (λ b. b ≡ program_repeats (program_of program.now)) }
 {
     let mut names = Vec::new(alloc);
-    version_names(&mut names, &program.versions)?;
+    add_names(&mut names, &program.versions)?;
     if repeats(alloc, &names)? {
         return Ok(true);
     }
@@ -261,9 +293,9 @@ fn declared_names<'a>(alloc: Global, outline: &Outline<'a>) -> Result<Vec<Name<'
         text: "FALSE",
         left: 0,
     })?;
-    constant_names(&mut names, &outline.constants)?;
-    type_names(&mut names, &outline.types)?;
-    program_names(&mut names, &outline.programs)?;
+    add_names(&mut names, &outline.constants)?;
+    add_names(&mut names, &outline.types)?;
+    add_names(&mut names, &outline.programs)?;
     Ok(names)
 }
 

@@ -6,6 +6,7 @@ use crate::constant_table::ConstantTable;
 use crate::constants::{
     Known, case_number, entry_number, looked_up, place_of_value, size, unsigned,
 };
+use crate::distinct::add_names;
 use crate::places::kind_of;
 use crate::type_table::{TypeTable, type_table};
 use std::alloc::{AllocError, Global};
@@ -118,12 +119,15 @@ impl First {
         }
     }
 
-    /// A name that is used as a type.
+    /// A name that is used as a type, or after `struct`.
     fn part(&mut self, types: &TypeNames<'_>, part: &Part<'_>) {
-        if let Part::Named(name) = part {
-            if !types.has(name.text) {
-                self.note(Wrong::NameUnknown, name.left);
-            }
+        let (name, is_known) = match part {
+            Part::Named(name) => (name, types.has(name.text)),
+            Part::Struct(name) => (name, types.has_struct(name.text)),
+            _ => return,
+        };
+        if !is_known {
+            self.note(Wrong::NameUnknown, name.left);
         }
     }
 
@@ -185,16 +189,14 @@ impl First {
     }
 
     /// The names of the arms of a union.
-    fn arm_names(
+    fn arm_names<'a>(
         &mut self,
         alloc: Global,
-        arms: &[Arm<'_>],
-        other: &Option<Field<'_>>,
+        arms: &[Arm<'a>],
+        other: &Option<Field<'a>>,
     ) -> Result<(), AllocError> {
         let mut names = Vec::new(alloc);
-        for arm in arms {
-            names.push(arm.member.name)?;
-        }
+        add_names(&mut names, arms)?;
         if let Some(field) = other {
             names.push(field.name)?;
         }
@@ -204,9 +206,7 @@ impl First {
     /// The names of the fields of a struct.
     fn field_names(&mut self, alloc: Global, fields: &[Field<'_>]) -> Result<(), AllocError> {
         let mut names = Vec::new(alloc);
-        for field in fields {
-            names.push(field.name)?;
-        }
+        add_names(&mut names, fields)?;
         self.names(alloc, &names)
     }
 
@@ -316,15 +316,9 @@ fn all_names<'a>(alloc: Global, outline: &Outline<'a>) -> Result<Vec<Name<'a>>, 
     let mut names = Vec::new(alloc);
     names.push(given("TRUE"))?;
     names.push(given("FALSE"))?;
-    for entry in &outline.constants {
-        names.push(entry.name)?;
-    }
-    for field in &outline.types {
-        names.push(field.name)?;
-    }
-    for program in &outline.programs {
-        names.push(program.name)?;
-    }
+    add_names(&mut names, &outline.constants)?;
+    add_names(&mut names, &outline.types)?;
+    add_names(&mut names, &outline.programs)?;
     Ok(names)
 }
 
@@ -341,25 +335,52 @@ fn earliest_places<'a>(
     Ok(earliest)
 }
 
-/// Where each name is declared first, and whether as a type.
+/// What a name is declared as.
+#[derive(Clone, Copy, PartialEq, Eq)]
+enum Declares {
+    /// A constant or a program.
+    Other,
+    Type,
+    /// A type, by a definition `struct NAME {..}`.
+    Struct,
+}
+
+/// Where each name is declared first, and as what.
 #[derive(Drop)]
 struct TypeNames<'a> {
-    first: BTreeMap<&'a str, (usize, bool)>,
+    first: BTreeMap<&'a str, (usize, Declares)>,
 }
 
 impl<'a> TypeNames<'a> {
     /// The first declaration of the name is a type's.
     fn has(&self, name: &str) -> bool {
-        self.first.get(name).is_some_and(|first| first.1)
+        self.first
+            .get(name)
+            .is_some_and(|first| first.1 != Declares::Other)
+    }
+
+    /// The first declaration of the name is a struct's definition.
+    fn has_struct(&self, name: &str) -> bool {
+        self.first
+            .get(name)
+            .is_some_and(|first| first.1 == Declares::Struct)
     }
 
     /// A declaration.
-    fn add(&mut self, name: Name<'a>, is_type: bool) -> Result<(), AllocError> {
+    fn add(&mut self, name: Name<'a>, declares: Declares) -> Result<(), AllocError> {
         let left = self.first.get(name.text).map_or(0, |first| first.0);
         if left < name.left {
-            self.first.insert(name.text, (name.left, is_type))?;
+            self.first.insert(name.text, (name.left, declares))?;
         }
         Ok(())
+    }
+}
+
+/// What a type is declared as.
+fn declared_as(part: Part<'_>) -> Declares {
+    match part {
+        Part::StructMade(_) => Declares::Struct,
+        _ => Declares::Type,
     }
 }
 
@@ -368,16 +389,16 @@ fn type_names<'a>(alloc: Global, outline: &Outline<'a>) -> Result<TypeNames<'a>,
     let mut names = TypeNames {
         first: BTreeMap::new(alloc),
     };
-    names.add(given("TRUE"), false)?;
-    names.add(given("FALSE"), false)?;
+    names.add(given("TRUE"), Declares::Other)?;
+    names.add(given("FALSE"), Declares::Other)?;
     for entry in &outline.constants {
-        names.add(entry.name, false)?;
+        names.add(entry.name, Declares::Other)?;
     }
     for field in &outline.types {
-        names.add(field.name, true)?;
+        names.add(field.name, declared_as(field.part))?;
     }
     for program in &outline.programs {
-        names.add(program.name, false)?;
+        names.add(program.name, Declares::Other)?;
     }
     Ok(names)
 }

@@ -1,6 +1,6 @@
 //! The kinds that an outline declares.
 ghost use Rattle.std.specs.Prelude.{◌≡◌, Some, None, IfOk, List, [], map, option_map};
-ghost use Rattle.xdr_tokens.specs.Fails.{Gives};
+ghost use Rattle.xdr_tokens.specs.Due.{Gives};
 ghost use Rattle.xdr_grammar.specs.View.{late_of, field_of, member_of, arm_of, draft_of};
 ghost use Rattle.xdr_types.specs.KindViews.{constant_of, part_of_member, branch_of, kind_view};
 ghost use Rattle.xdr_types.specs.Named.{basic};
@@ -112,17 +112,13 @@ fn one_kind(
         }),
         Shape::Fixed(part, value) => {
             let item = kind_of(types, *part)?;
-            Ok(Kind::Fixed {
-                item,
-                size: size(constants, value)?,
-            })
+            let size = size(constants, value)?;
+            Ok(Kind::Fixed { item, size })
         }
         Shape::UpTo(part, value) => {
             let item = kind_of(types, *part)?;
-            Ok(Kind::UpTo {
-                item,
-                max: limit(constants, value)?,
-            })
+            let max = limit(constants, value)?;
+            Ok(Kind::UpTo { item, max })
         }
         Shape::Structure(fields) => Ok(Kind::Structure {
             fields: all_fields(alloc, types, fields)?,

@@ -18,6 +18,6 @@ mod reading;
 mod type_table;
 
 pub use declarations::{Declared, Procedure, Program, Version};
-pub use laws::one_meaning;
+pub use laws::{older_texts_keep_their_meanings, one_meaning};
 pub use place::LangFault;
 pub use reading::{MAX_TEXT, read};

@@ -1,6 +1,6 @@
 //! The basic kinds and names, and the types and constants of a text after them.
 ghost use Rattle.std.specs.Prelude.{◌≡◌, IfOk, List, map, ◌++◌};
-ghost use Rattle.xdr_tokens.specs.Fails.{Gives};
+ghost use Rattle.xdr_tokens.specs.Due.{Gives};
 ghost use Rattle.xdr_grammar.specs.View.{field_of};
 ghost use Rattle.xdr_types.specs.KindViews.{kind_view, name_of};
 ghost use Rattle.xdr_types.specs.Named.{basic};

@@ -1,6 +1,6 @@
 //! What an outline means: names looked up, and the schema built.
 ghost use Rattle.std.specs.Prelude.{◌≡◌, Some, None, IfOk, true, false};
-ghost use Rattle.xdr_tokens.specs.Fails.{Gives};
+ghost use Rattle.xdr_tokens.specs.Due.{Gives};
 ghost use Rattle.xdr_grammar.specs.View.{outline_of};
 ghost use Rattle.xdr_types.specs.Faults.{IsWellFormed};
 ghost use Rattle.xdr_types.specs.Sound.{IsSound};

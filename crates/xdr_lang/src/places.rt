@@ -1,9 +1,9 @@
 //! The places of kinds that parts stand for.
 ghost use Rattle.std.specs.Prelude.{◌≡◌, Some, None, length, map, ◌+◌};
-ghost use Rattle.xdr_tokens.specs.Fails.{Gives};
+ghost use Rattle.xdr_tokens.specs.Due.{Gives};
 ghost use Rattle.xdr_grammar.specs.View.{part_of};
 ghost use Rattle.xdr_lang.specs.Views.{types_of};
-ghost use Rattle.xdr_lang.specs.LookUp.{basic_place, place_with, named_place, place_of};
+ghost use Rattle.xdr_lang.specs.LookUp.{basic_place, struct_place, place_with, named_place, place_of};
 
 use crate::type_table::TypeTable;
 use xdr_grammar::{Basic, Name, Part};
@@ -35,6 +35,19 @@ pub fn own_place(made: usize) -> Result<u32, Fault>
     }
 }
 
+/// The place that `struct` with a name denotes: that of the kind of the definition `struct NAME {..}`.
+pub fn struct_place(types: &TypeTable<'_>, name: Name<'_>) -> Result<u32, Fault>
+    ensures { Gives (λ x. x) result (struct_place (types_of types.now.list.items) name.entry.text.now) }
+{
+    match types.named(name.text) {
+        Some(Part::StructMade(made)) => own_place(made),
+        _ => Err(Fault::Refused {
+            wrong: Wrong::NameUnknown,
+            left: name.left,
+        }),
+    }
+}
+
 /// The place of the kind that a name stands for, through at most so many names.
 #[tactic(auto, unfolding(crate::specs::LookUp::named_place))]
 fn named_within<'a>(types: &TypeTable<'a>, steps: usize, first: Name<'a>) -> Result<u32, Fault>
@@ -44,7 +57,8 @@ fn named_within<'a>(types: &TypeTable<'a>, steps: usize, first: Name<'a>) -> Res
     for step in 0..steps {
         match types.named(name.text) {
             Some(Part::Basic(basic)) => return Ok(basic_place(basic)),
-            Some(Part::Made(made)) => return own_place(made),
+            Some(Part::Made(made) | Part::StructMade(made)) => return own_place(made),
+            Some(Part::Struct(named)) => return struct_place(types, named),
             Some(Part::Text) => return Ok(7),
             Some(Part::Void) => return Ok(5),
             Some(Part::Named(next)) => name = next,
@@ -64,12 +78,13 @@ fn named_within<'a>(types: &TypeTable<'a>, steps: usize, first: Name<'a>) -> Res
 
 /// The place of the kind that a part of a type stands for, through at most so many names.
 fn place_within<'a>(types: &TypeTable<'a>, steps: usize, part: Part<'a>) -> Result<u32, Fault>
-    ensures { Gives (λ x. x) result
-        (place_with (named_place steps (types_of types.now.list.items)) (part_of part.entry)) }
+    ensures { Gives (λ x. x) result (place_with (types_of types.now.list.items)
+        (named_place steps (types_of types.now.list.items)) (part_of part.entry)) }
 {
     match part {
         Part::Basic(basic) => Ok(basic_place(basic)),
-        Part::Made(made) => own_place(made),
+        Part::Made(made) | Part::StructMade(made) => own_place(made),
+        Part::Struct(name) => struct_place(types, name),
         Part::Text => Ok(7),
         Part::Void => Ok(5),
         Part::Named(name) => named_within(types, steps, name),
@@ -107,7 +122,8 @@ pub fn kind_of(types: &TypeTable<'_>, part: Part<'_>) -> Result<KindId, Fault>
 {
     let place = match part {
         Part::Basic(basic) => basic_place(basic),
-        Part::Made(made) => own_place(made)?,
+        Part::Made(made) | Part::StructMade(made) => own_place(made)?,
+        Part::Struct(name) => struct_place(types, name)?,
         Part::Text => 7,
         Part::Void => 5,
         Part::Named(name) => named_place(types, name)?,

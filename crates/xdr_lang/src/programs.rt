@@ -1,6 +1,6 @@
 //! The programs that an outline declares.
 ghost use Rattle.std.specs.Prelude.{◌≡◌, Some, None, IfOk, List, [], map, option_map};
-ghost use Rattle.xdr_tokens.specs.Fails.{Gives};
+ghost use Rattle.xdr_tokens.specs.Due.{Gives};
 ghost use Rattle.xdr_grammar.specs.View as out;
 ghost use Rattle.xdr_lang.specs.LookUp.{place_of};
 ghost use Rattle.xdr_lang.specs.Views.{types_of, places, procedure_of, version_of, program_of};

@@ -8,7 +8,7 @@ ghost use Rattle.xdr_lang.specs.Distinct.{has_name};
 ghost use Rattle.xdr_lang.specs.steps.Tables.{HasParts, HasPlaces, HasNoPlaces, IsPlacedAt, key_texts, stays_in};
 ghost use Rattle.xdr_lang.specs.steps.Tables.{all_stay};
 
-use crate::places::{basic_place, own_place};
+use crate::places::{basic_place, own_place, struct_place};
 use std::alloc::{AllocError, Global};
 use std::collections::{BTreeMap, BTreeSet};
 use xdr_grammar::{Field, Part};
@@ -92,6 +92,14 @@ impl<'a> TypeTable<'a> {
             Some(Part::Text) => Some((7, 1)),
             Some(Part::Void) => Some((5, 1)),
             Some(Part::Made(made)) => match own_place(*made) {
+                Ok(place) => Some((place, 1)),
+                Err(_) => None,
+            },
+            Some(Part::StructMade(made)) => match own_place(*made) {
+                Ok(place) => Some((place, 1)),
+                Err(_) => None,
+            },
+            Some(Part::Struct(named)) => match struct_place(self, *named) {
                 Ok(place) => Some((place, 1)),
                 Err(_) => None,
             },

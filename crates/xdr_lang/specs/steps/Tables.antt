@@ -10,7 +10,8 @@ use Rattle.std.specs.Str.{bytes_eq}
 use denote.Ref.{Bor}
 use Rattle.xdr_grammar.specs.declared.outline.Part.{Part}
 use Rattle.xdr_grammar.specs.View.{part_of}
-use Rattle.xdr_grammar.specs.Outline.{Field, Part as Shown, IsBasic, IsNamed, IsMade, IsText, IsVoid}
+use Rattle.xdr_grammar.specs.Outline.{Field, Part as Shown, IsBasic, IsNamed, IsStruct, IsMade, IsStructMade, IsText}
+use Rattle.xdr_grammar.specs.Outline.{IsVoid}
 use Rattle.xdr_lang.specs.LookUp.{Known, type_named, named_place}
 use Rattle.xdr_lang.specs.Distinct.{has_name}
 
@@ -51,7 +52,9 @@ IsIn n s = has_name n (key_texts s.keys) ≡ true
 abbrev pub leads_into : BTreeSet (Bor (List ℕ)) → Shown → Bool
 leads_into s (IsBasic b) = false
 leads_into s (IsNamed n) = has_name n (key_texts s.keys)
+leads_into s (IsStruct n) = false
 leads_into s (IsMade k) = false
+leads_into s (IsStructMade k) = false
 leads_into s IsText = false
 leads_into s IsVoid = false
 

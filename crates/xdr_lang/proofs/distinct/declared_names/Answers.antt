@@ -3,9 +3,9 @@ use Rattle.xdr_lang.proofs.distinct.declared_names.Goals as goal
 
 pub returns : goal.returns
 returns c = rw (
-  c.in_ok-program_names.ensures,
-  c.in_ok-type_names.ensures,
-  c.in_ok-constant_names.ensures,
+  c.in_ok-add_names-3.ensures,
+  c.in_ok-add_names-2.ensures,
+  c.in_ok-add_names.ensures,
   c.in_ok-push-2.ensures.items,
   c.in_ok-push.ensures.items,
   c.new-names.ensures.items,

@@ -1,5 +1,5 @@
 use Rattle.std.proofs.Common.{Some, sym, subst, ◌∙◌}
-use Rattle.xdr_tokens.specs.Fails.{Gives}
+use Rattle.xdr_tokens.specs.Due.{Gives}
 use Rattle.xdr_types.specs.Faults.{IsWellFormed}
 use Rattle.xdr_types.specs.Sound.{IsSound}
 use Rattle.xdr_grammar.specs.View.{outline_of}

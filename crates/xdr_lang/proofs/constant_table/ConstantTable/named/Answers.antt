@@ -1,5 +1,6 @@
 use Rattle.std.proofs.Common.{rules, ◌≡◌, Some, None, take, refl, sym, ◌∙◌}
-use Rattle.xdr_lang.specs.LookUp.{◌>>=◌, known}
+use Rattle.xdr_tokens.specs.Options.{◌>>=◌}
+use Rattle.xdr_lang.specs.LookUp.{known}
 use Rattle.xdr_lang.specs.steps.Tables.{at_name}
 use Rattle.xdr_lang.specs.Views.{knowns}
 use Rattle.xdr_lang.proofs.Tables.{within, known_before, is_below, not_below}

@@ -27,6 +27,18 @@ returns-in-Ok c = placed_at_once c.args.self.now.parts
     (out.IsMade c.in-Some-Made.made) c.in-Ok.place c.args.self.now.has_parts (sym c.in-Some-Made.ensures.value)
     (rw c.in-Some-Made.field-0-is refl) (λ f. c.in-Ok.ensures)
 
+pub returns-in-Ok-own_place : goal.returns-in-Ok-own_place
+returns-in-Ok-own_place c = placed_at_once c.args.self.now.parts (types_of c.args.self.now.list.items) c.args.name.now
+    c.in-Some-StructMade.field-0.now (out.IsStructMade c.in-Some-StructMade.made) c.in-Ok-own_place.place
+    c.args.self.now.has_parts (sym c.in-Some-StructMade.ensures.value) (rw c.in-Some-StructMade.field-0-is refl)
+    (λ f. c.in-Ok-own_place.ensures)
+
+pub returns-in-Ok-struct_place : goal.returns-in-Ok-struct_place
+returns-in-Ok-struct_place c = placed_at_once c.args.self.now.parts (types_of c.args.self.now.list.items)
+    c.args.name.now c.in-Some-Struct.field-0.now (out.IsStruct c.in-Some-Struct.named.text.now)
+    c.in-Ok-struct_place.place c.args.self.now.has_parts (sym c.in-Some-Struct.ensures.value)
+    (rw c.in-Some-Struct.field-0-is refl) (λ f. c.in-Ok-struct_place.ensures)
+
 pub returns-in-Some : goal.returns-in-Some
 returns-in-Some c = placed_further c.args.self.now.parts c.args.self.now.places
     (types_of c.args.self.now.list.items) c.args.name.now c.in-Some-Named.field-0.now c.in-Some-Named.next.text.now
