@@ -6,7 +6,7 @@ use Rattle.std.specs.Prelude.{option_and_then, is_ok, is_some, true, false}
 use Rattle.xdr_tokens.specs.declared.token.Token.{Token}
 use Rattle.xdr_tokens.specs.declared.fault.Fault.{Fault}
 use Rattle.xdr_tokens.specs.declared.fault.Fault.TheVariants as fault
-use Rattle.xdr_tokens.specs.Fails.{Fails, Gives}
+use Rattle.xdr_tokens.specs.Due.{RefusesRightly, Gives}
 use Rattle.xdr_tokens.specs.Tokens.{Lexeme, lexemes}
 use Rattle.xdr_tokens.specs.Text.{Piece, Cuts, Tokens, token_of, with_token}
 use Rattle.xdr_tokens.specs.steps.Front.{piece_at}
@@ -72,7 +72,7 @@ present (Some x) e = (x, refl)
 present None e = absurd cc
 
 -- where something is due, want of memory alone refuses it
-pub no_refusal : {A : Type 0} (e : Fault) (d : A) → Fails e (Some d) → e ≡ fault.NoMemory
+pub no_refusal : {A : Type 0} (e : Fault) (d : A) → RefusesRightly e (Some d) → e ≡ fault.NoMemory
 no_refusal fault.NoMemory d h = refl
 no_refusal (fault.Refused wrong left) d h = absurd (some_is_not d h)
 

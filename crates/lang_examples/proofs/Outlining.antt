@@ -4,7 +4,7 @@ use Rattle.std.proofs.Common.{Result, Ok, Err, IfOk, IfErr, None}
 use Rattle.std.specs.Prelude.{is_ok, is_some, true, false}
 use Rattle.xdr_tokens.specs.declared.fault.Fault.{Fault}
 use Rattle.xdr_tokens.specs.declared.fault.Fault.TheVariants as fault
-use Rattle.xdr_tokens.specs.Fails.{Gives}
+use Rattle.xdr_tokens.specs.Due.{Gives}
 use Rattle.xdr_tokens.specs.Tokens.{Lexeme}
 use Rattle.xdr_tokens.proofs.Options.{some_is, some_is_not}
 use Rattle.xdr_grammar.specs.declared.outline.Outline.{Outline as Made}

@@ -12,6 +12,11 @@ two_typedefs =
     Word word.Typedef ∷ Word word.Int ∷ Name (codes "a") ∷ Sign mark.Semicolon
     ∷ Word word.Typedef ∷ Word word.Bool ∷ Name (codes "b") ∷ Sign mark.Semicolon ∷ []
 
+-- typedef struct s t;
+abbrev pub typedef_of_a_struct : List Lexeme
+typedef_of_a_struct =
+    Word word.Typedef ∷ Word word.Struct ∷ Name (codes "s") ∷ Name (codes "t") ∷ Sign mark.Semicolon ∷ []
+
 -- enum e { A = 1 };
 abbrev pub enumeration : List Lexeme
 enumeration =

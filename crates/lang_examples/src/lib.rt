@@ -10,11 +10,20 @@ mod token_lists;
 pub use lookups::{
     kind_of_a_type, no_kind_of_a_constant, procedure_of_a_version, program_comes_first,
 };
-pub use outlines::{member_is_no_const, one_body_too_many, two_definitions, union_with_a_default};
-pub use refused::{
-    const_used_before_it_is_declared, eight_is_no_octal_digit, field_name_there_twice,
-    line_of_a_refusal, long_text, member_as_a_size, no_schema_number, number_of_a_refusal,
-    pair_of_numbers_there_twice, true_as_a_size,
+pub use outlines::{
+    member_is_no_const, number_of_a_misreading, one_body_too_many, struct_by_its_name,
+    two_definitions, union_with_a_default,
 };
-pub use texts::{arrays, linked_list, missing_size, string_argument, two_meanings};
-pub use token_lists::{comment_with_a_star, keyword_and_names, least_number, no_token_of_a_bar};
+pub use refused::{
+    column_of_a_refusal, const_used_before_it_is_declared, eight_is_no_octal_digit,
+    field_name_there_twice, line_of_a_refusal, long_as_a_name, long_text, member_as_a_size,
+    no_schema_number, number_of_a_refusal, pair_of_numbers_there_twice, struct_before_a_typedef,
+    struct_before_a_union, struct_before_an_enumeration, true_as_a_size,
+};
+pub use texts::{
+    arrays, linked_list, list_of_structs, long_numbers, missing_size, older_text, string_argument,
+    two_meanings,
+};
+pub use token_lists::{
+    comment_with_a_star, keyword_and_names, least_number, long_and_a_longer_name, no_token_of_a_bar,
+};

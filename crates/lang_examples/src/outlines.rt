@@ -1,5 +1,5 @@
 //! What `read_outline` makes of tokens (RFC 4506 sections 6.3 and 6.4): kinds whose names are not looked up yet.
-ghost use Rattle.std.specs.Prelude.{◌≡◌, pos, true, false, Some, None, IfOk, IfErr, [], ◌∷◌, codes};
+ghost use Rattle.std.specs.Prelude.{◌≡◌, ◌⊎◌, pos, true, false, Some, None, IfOk, IfErr, IfSome, [], ◌∷◌, codes};
 ghost use Rattle.xdr_tokens.specs.Tokens.{lexemes, Word, Name, Number, Sign};
 ghost use Rattle.xdr_tokens.specs.declared.token.Keyword.TheVariants as word;
 ghost use Rattle.xdr_tokens.specs.declared.token.Mark.TheVariants as mark;
@@ -7,7 +7,7 @@ ghost use Rattle.xdr_grammar.specs.View.{outline_of};
 ghost use Rattle.xdr_grammar.specs.Outline as out;
 ghost use Rattle.xdr_grammar.specs.declared.outline.Basic.TheVariants as basic;
 ghost use Rattle.lang_examples.specs.Spelled.{two_typedefs, enumeration, union_tokens, union_arms, named};
-ghost use Rattle.lang_examples.specs.Spelled.{typedef_of_bodies};
+ghost use Rattle.lang_examples.specs.Spelled.{typedef_of_bodies, typedef_of_a_struct};
 
 use std::alloc::Global;
 use xdr_grammar::{Outline, read_outline};
@@ -42,6 +42,25 @@ pub fn union_with_a_default<'a>(alloc: Global, tokens: &[Token<'a>]) -> Result<O
     ensures taken { IfErr result (λ e. e ≡ Fault.NoMemory) }
 {
     read_outline(alloc, tokens)
+}
+
+/// `typedef struct s t;` declares `t` as the struct with the name `s`, which is looked up later.
+pub fn struct_by_its_name<'a>(alloc: Global, tokens: &[Token<'a>]) -> Result<Outline<'a>, Fault>
+    requires { lexemes tokens.now ≡ typedef_of_a_struct }
+    ensures found { IfOk result (λ v. (outline_of v).types ≡ named (codes "t") (out.IsStruct (codes "s")) ∷ []) }
+    ensures taken { IfErr result (λ e. e ≡ Fault.NoMemory) }
+{
+    read_outline(alloc, tokens)
+}
+
+/// What the grammar refuses is a token that cannot stand there, 3, a floating-point type, 4, or one body too many, 12.
+pub fn number_of_a_misreading(alloc: Global, tokens: &[Token<'_>]) -> Option<u8>
+    ensures { IfSome result (λ n. (n ≡ 3) ⊎ ((n ≡ 4) ⊎ (n ≡ 12))) }
+{
+    match read_outline(alloc, tokens) {
+        Err(Fault::Refused { wrong, .. }) => Some(wrong.number()),
+        _ => None,
+    }
 }
 
 /// A 33rd body inside others is one too many.

@@ -26,6 +26,38 @@ pub fn eight_is_no_octal_digit(alloc: Global) -> bool
     read(alloc, b"const N = 08;").is_ok()
 }
 
+/// `long` is no name.
+pub fn long_as_a_name(alloc: Global) -> bool
+    ensures { result ≡ false }
+{
+    read(alloc, b"const long = 3;").is_ok()
+}
+
+/// `struct` before the name of a union denotes nothing.
+pub fn struct_before_a_union(alloc: Global) -> bool
+    ensures { result ≡ false }
+{
+    read(
+        alloc,
+        b"union u switch(int d){case 1:void;};typedef struct u t;",
+    )
+    .is_ok()
+}
+
+/// Nor does it before the name of an enumeration.
+pub fn struct_before_an_enumeration(alloc: Global) -> bool
+    ensures { result ≡ false }
+{
+    read(alloc, b"enum e{A=1};typedef struct e t;").is_ok()
+}
+
+/// Nor before the name of a typedef, whatever that names.
+pub fn struct_before_a_typedef(alloc: Global) -> bool
+    ensures { result ≡ false }
+{
+    read(alloc, b"typedef struct{int x;} s;typedef struct s t;").is_ok()
+}
+
 /// TRUE is a constant, but no size.
 pub fn true_as_a_size(alloc: Global) -> bool
     ensures { result ≡ false }
@@ -76,6 +108,16 @@ pub fn no_schema_number(alloc: Global, text: &[u8]) -> u8
     match read(alloc, text) {
         Err(fault) if fault.number != 10 => fault.inner,
         _ => 0,
+    }
+}
+
+/// Columns count from 1.
+pub fn column_of_a_refusal(alloc: Global, text: &[u8]) -> usize
+    ensures { 1 ≤ result }
+{
+    match read(alloc, text) {
+        Ok(_) => 1,
+        Err(fault) => fault.column,
     }
 }
 

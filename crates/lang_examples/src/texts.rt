@@ -5,10 +5,11 @@ ghost use Rattle.xdr_types.specs.Kinds as xdr;
 ghost use Rattle.xdr_types.specs.Named.{named};
 ghost use Rattle.xdr_lang.specs.Declarations as said;
 ghost use Rattle.xdr_lang.specs.Means.{Means};
+ghost use Rattle.xdr_lang.specs.Before.{HasNoLong, MeantBefore};
 ghost use Rattle.xdr_lang.specs.Views.{declared_of};
 
 use std::alloc::Global;
-use xdr_lang::{Declared, LangFault, one_meaning, read};
+use xdr_lang::{Declared, LangFault, older_texts_keep_their_meanings, one_meaning, read};
 
 /// A fixed array and a variable one.
 pub fn arrays(alloc: Global) -> Result<Declared, LangFault>
@@ -35,6 +36,23 @@ pub fn linked_list(alloc: Global) -> Result<Declared, LangFault>
     read(alloc, b"struct e{int n;e*next;};")
 }
 
+/// `long` is `int`: no kind of its own.
+pub fn long_numbers(alloc: Global) -> Result<Declared, LangFault>
+    ensures found { IfOk result (λ v. drop 8 (declared_of v).schema.kinds ≡ xdr.fixed 0 2 ∷ xdr.up_to 1 2 ∷ []) }
+    ensures taken { IfErr result (λ e. e.number ≡ 13) }
+{
+    read(alloc, b"typedef long a[2]; typedef unsigned long b<2>;")
+}
+
+/// The same list with `struct` before its name, as RFC 1833 spells one.
+pub fn list_of_structs(alloc: Global) -> Result<Declared, LangFault>
+    ensures found { IfOk result (λ v. drop 8 (declared_of v).schema.kinds ≡
+        xdr.maybe 9 ∷ xdr.structure (named (codes "n") 0 ∷ named (codes "next") 8 ∷ []) ∷ []) }
+    ensures taken { IfErr result (λ e. e.number ≡ 13) }
+{
+    read(alloc, b"struct e{long n;struct e*next;};")
+}
+
 /// A string as an argument is place 7, the string of any length.
 pub fn string_argument(alloc: Global) -> Result<Declared, LangFault>
     ensures found { IfOk result (λ v. map (λ (p : said.Program). p.versions) (declared_of v).programs ≡
@@ -47,6 +65,14 @@ pub fn string_argument(alloc: Global) -> Result<Declared, LangFault>
     ensures taken { IfErr result (λ e. e.number ≡ 13) }
 {
     read(alloc, b"program P{version V{void N(string)=0;}=2;}=1;")
+}
+
+/// A text without `long` means all that it meant before `long` and `struct NAME` were words of the language.
+pub fn older_text(text: &[u8])
+    requires { HasNoLong text.now }
+    ensures { (d : said.Declared) → MeantBefore text.now d → Means text.now d }
+{
+    older_texts_keep_their_meanings()
 }
 
 /// Two things that one text means are one.

@@ -16,6 +16,14 @@ pub fn keyword_and_names(alloc: Global) -> Result<Vec<Token<'static>>, Fault>
     tokens(alloc, b"int integer:")
 }
 
+/// `long` is a keyword; a longer run is a name.
+pub fn long_and_a_longer_name(alloc: Global) -> Result<Vec<Token<'static>>, Fault>
+    ensures found { IfOk result (λ v. lexemes v.items ≡ Word word.Long ∷ Name (codes "longer") ∷ []) }
+    ensures taken { IfErr result (λ e. e ≡ Fault.NoMemory) }
+{
+    tokens(alloc, b"long longer")
+}
+
 /// A comment goes to the first star that a slash follows; the star that begins it does not serve twice.
 pub fn comment_with_a_star(alloc: Global) -> Result<Vec<Token<'static>>, Fault>
     ensures found { IfOk result (λ v. lexemes v.items ≡ Name (codes "b") ∷ []) }

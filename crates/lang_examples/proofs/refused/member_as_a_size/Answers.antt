@@ -9,6 +9,7 @@ use Rattle.xdr_grammar.specs.steps.Reading.{struct_with, case_at, arm_with, defa
 use Rattle.xdr_grammar.specs.steps.Reading.{body_word_at, body_with, specifier_at, passed_with, argument_with}
 use Rattle.xdr_grammar.specs.steps.Reading.{arguments_with, result_with, procedure_with, version_with, program_with}
 use Rattle.xdr_grammar.specs.steps.Reading.{const_at, typedef_with, defined_with, definition_at, definitions_at}
+use Rattle.xdr_grammar.specs.steps.Reading.{int_at, inner_word_at}
 use Rattle.xdr_lang.specs.LookUp.{known, earlier, looked_up, size, limit, entry_number, numbers, type_named}
 use Rattle.xdr_lang.specs.LookUp.{named_place}
 use Rattle.xdr_lang.specs.Kinds.{each_onto, where_given, one_member, one_case, one_field, one_arm, one_kind}
@@ -23,13 +24,13 @@ use Rattle.lang_examples.proofs.Telling.{told, refuses}
 use Rattle.lang_examples.proofs.refused.member_as_a_size.Goals as goal
 
 pub returns : goal.returns
-unfolding told cut run_length after_comment value_from number_of word_among word_or_name comment_at piece_at after_word
-    after_sign name_at number_at value_at size_at limit_at either_sign numbered_at repeat opaque_at text_at declared_at
-    declaration_with content_with basic_at member_at enum_at field_with struct_with case_at arm_with default_with
-    switch_with union_with body_word_at body_with specifier_at passed_with argument_with arguments_with result_with
-    procedure_with version_with program_with const_at typedef_with defined_with definition_at definitions_at known
-    earlier looked_up size limit entry_number numbers type_named named_place each_onto where_given one_member one_case
-    one_field one_arm one_kind signature one_procedure one_version one_program has_name repeats has_number
-    repeats_number has_pair repeats_pair kind_repeats kinds_repeat version_repeats versions_repeat program_repeats
-    programs_repeat pairs_of pairs has_twice meaning distinct_meaning
+unfolding told cut run_length after_comment value_from number_of word_among word_or_name comment_at piece_at
+    after_word after_sign name_at number_at value_at size_at limit_at either_sign numbered_at repeat opaque_at text_at
+    declared_at declaration_with content_with int_at basic_at member_at enum_at field_with struct_with case_at
+    arm_with default_with switch_with union_with body_word_at inner_word_at body_with specifier_at passed_with
+    argument_with arguments_with result_with procedure_with version_with program_with const_at typedef_with
+    defined_with definition_at definitions_at known earlier looked_up size limit entry_number numbers type_named
+    named_place each_onto where_given one_member one_case one_field one_arm one_kind signature one_procedure
+    one_version one_program has_name repeats has_number repeats_number has_pair repeats_pair kind_repeats kinds_repeat
+    version_repeats versions_repeat program_repeats programs_repeat pairs_of pairs has_twice meaning distinct_meaning
 returns c = c.is_ok.ensures.value ∙ refuses _ c.read.result refl c.read.ensures.found
