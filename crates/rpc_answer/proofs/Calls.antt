@@ -9,7 +9,7 @@ use Rattle.rpc_message.specs.Cases.{IsCase}
 use Rattle.rpc_rows.specs.Rows.{Row}
 use Rattle.rpc_answer.specs.Callers.{Owner, Refused, IsCaller}
 use Rattle.rpc_answer.specs.Answer.{denies, accepts, accepted, auth_error, Answers, silence, no_memory, xid_in, Answer}
-use Rattle.rpc_answer.specs.Answering.{AppendsAnswer, Adds, appended_of}
+use Rattle.rpc_answer.specs.Answering.{PushesAnswer, Adds, appended_of}
 use Rattle.rpc_answer.specs.declared.answering.Appended.{Appended}
 use Rattle.rpc_answer.specs.Pushes.{PushesStatus, PushesCall, most}
 
@@ -81,10 +81,10 @@ pub pushes_by : {E : Type 0} (rows : List Row) (netid message old : List ℕ) (n
     (r : Result (Unit {0}) E) (p : Appended) (xid : ℕ) → p ≡ appended_of xid r
     → OnOk r ((bytes : List ℕ) × (Answer rows netid message false new (Some bytes) × Adds old out bytes))
     → OnErr r (Answer rows netid message true new (Some (reply (accepted xid SystemErr))))
-    → AppendsAnswer rows netid message old new out p
-pushes_by rows netid message old new out (Ok u) p xid e h k = subst (AppendsAnswer rows netid message old new out)
+    → PushesAnswer rows netid message old new out p
+pushes_by rows netid message old new out (Ok u) p xid e h k = subst (PushesAnswer rows netid message old new out)
     (sym e) h
-pushes_by rows netid message old new out (Err f) p xid e h k = subst (AppendsAnswer rows netid message old new out)
+pushes_by rows netid message old new out (Err f) p xid e h k = subst (PushesAnswer rows netid message old new out)
     (sym e) k
 
 pub any_err : {A E : Type 0} (r : Result A E) (P : Type 0) → P → OnErr r P

@@ -1,24 +1,10 @@
 -- Words and texts at the front of bytes, and what rules them out.
-use Rattle.std.proofs.Common.{◌≡◌, ℕ, ◌+◌, ◌/◌, ◌%◌, ◌<◌, ◌^◌, List, [], ◌∷◌, ◌++◌, length, ap, sym, ◌∙◌, arith}
-use Rattle.std.proofs.Common.{append_assoc, mod-lt}
+use Rattle.std.proofs.Common.{◌≡◌, ℕ, ◌+◌, ◌<◌, ◌^◌, List, ◌++◌, length, ap, sym, ◌∙◌, arith}
+use Rattle.std.proofs.Common.{append_assoc}
 use Rattle.std.proofs.lemmas.List.{length-append, length-replicate}
 use Rattle.xdr_units.specs.Numbers.{word, gap, pad, padded}
 use Rattle.xdr_units.proofs.Bytes.{same_word, same_content}
 use Rattle.rpc_answer.specs.Parsed.{text, HasNoText}
-
--- a number that is found as a word is one
-pub small_word : (b : List ℕ) (n : ℕ) (x : List ℕ) → b ≡ word n ++ x
-    → ((m : ℕ) (rest : List ℕ) → m < 2 ^ 32 → b ≡ word m ++ rest → (n ≡ m) × (x ≡ rest)) → n < 2 ^ 32
-small_word b n x e only =
-    let m = n % 4294967296 in
-    let small : m < 2 ^ 32 = mod-lt n (omega arith) in
-    let e1 : m / 16777216 % 256 ≡ n / 16777216 % 256 = omega arith in
-    let e2 : m / 65536 % 256 ≡ n / 65536 % 256 = omega arith in
-    let e3 : m / 256 % 256 ≡ n / 256 % 256 = omega arith in
-    let e4 : m % 256 ≡ n % 256 = omega arith in
-    let same : word m ≡ word n = λ j. e1 j ∷ e2 j ∷ e3 j ∷ e4 j ∷ [] in
-    let is = (only m x small (e ∙ ap (λ (w : List ℕ). w ++ x) (sym same))).0 in
-    omega (arith, is, small)
 
 -- too few bytes for a word
 pub short_word : (b : List ℕ) (n : ℕ) (rest : List ℕ) → length b < 4 → b ≡ word n ++ rest → ⊥

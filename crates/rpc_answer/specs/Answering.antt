@@ -19,10 +19,16 @@ pub record Adds (old out bytes : List ℕ) : Type 0 where
   pub short : length bytes ≤ most
 
 -- The record was answered: nothing was written, the reply was, or memory was refused and SYSTEM_ERR is to be sent.
-abbrev pub AppendsAnswer : List Row → (netid message old : List ℕ) → List Row → (out : List ℕ) → Appended → Type 0
-AppendsAnswer rows netid message old new out appended.Nothing =
+abbrev pub PushesAnswer : List Row → (netid message old : List ℕ) → List Row → (out : List ℕ) → Appended → Type 0
+PushesAnswer rows netid message old new out appended.Nothing =
     Answer rows netid message false new None × (out ≡ old)
-AppendsAnswer rows netid message old new out appended.Reply =
+PushesAnswer rows netid message old new out appended.Reply =
     (bytes : List ℕ) × (Answer rows netid message false new (Some bytes) × Adds old out bytes)
-AppendsAnswer rows netid message old new out (appended.OutOfMemory xid) =
+PushesAnswer rows netid message old new out (appended.OutOfMemory xid) =
     Answer rows netid message true new (Some (reply (accepted xid SystemErr)))
+
+-- The same, and where memory was refused the bytes are as they were.
+abbrev pub AppendsAnswer : List Row → (netid message old : List ℕ) → List Row → (out : List ℕ) → Appended → Type 0
+AppendsAnswer rows netid message old new out (appended.OutOfMemory xid) =
+    Answer rows netid message true new (Some (reply (accepted xid SystemErr))) × (out ≡ old)
+AppendsAnswer rows netid message old new out p = PushesAnswer rows netid message old new out p

@@ -1,9 +1,10 @@
 //! The answer to a record.
 ghost use Rattle.std.specs.Prelude.{◌≡◌, OnOk, OnErr};
+ghost use Rattle.std.specs.Io.{StartsWith};
 ghost use Rattle.xdr_units.specs.Numbers.{IsWord};
 ghost use Rattle.rpc_message.specs.View.{lent_call_view};
 ghost use Rattle.rpc_answer.specs.Answer.{Answer};
-ghost use Rattle.rpc_answer.specs.Answering.{AppendsAnswer, appended_of};
+ghost use Rattle.rpc_answer.specs.Answering.{AppendsAnswer, PushesAnswer, appended_of};
 ghost use Rattle.rpc_answer.specs.Pushes.{PushesCall};
 ghost use Rattle.rpc_answer.specs.Views.{netid_of, is_refused, sent_of};
 
@@ -34,8 +35,7 @@ pub enum Appended {
     Nothing,
     /// The bytes of a reply.
     Reply,
-    /// Memory was refused, and the rows are as they were. Some of a reply may have been written. It stands for the
-    /// reply SYSTEM_ERR to this xid.
+    /// Memory was refused; the rows and the bytes are as they were. It stands for the reply SYSTEM_ERR to this xid.
     OutOfMemory { xid: u32 },
 }
 
@@ -60,7 +60,8 @@ pub fn answer<S: BuildHasher>(
     }
 }
 
-/// Writes the reply of `answer` behind what stands in `out`. It has at most 16777240 bytes.
+/// Writes the reply of `answer` behind what stands in `out`. It has at most 16777240 bytes. Where nothing is sent, and
+/// where memory is refused, `out` holds what it held.
 pub fn append_answer<S: BuildHasher>(
     alloc: Global,
     directory: &mut Directory<S>,
@@ -70,6 +71,30 @@ pub fn append_answer<S: BuildHasher>(
 ) -> Appended
     ensures { let netid = netid_of transport in
         AppendsAnswer directory.old netid message.now out.old.items directory.new out.new.items result }
+{
+    let before = out.len();
+    match push_answer(alloc, directory, transport, message, out) {
+        Appended::Nothing => Appended::Nothing,
+        Appended::Reply => Appended::Reply,
+        Appended::OutOfMemory { xid } => {
+            out.truncate(before);
+            Appended::OutOfMemory { xid }
+        }
+    }
+}
+
+/// The same, but where memory is refused some of a reply may stand behind what stood in `out`.
+#[tactic(auto, using(crate::proofs::Chains::begins_then))]
+fn push_answer<S: BuildHasher>(
+    alloc: Global,
+    directory: &mut Directory<S>,
+    transport: Transport,
+    message: &[u8],
+    out: &mut Vec<u8>,
+) -> Appended
+    ensures answer { let netid = netid_of transport in
+        PushesAnswer directory.old netid message.now out.old.items directory.new out.new.items result }
+    ensures begins { StartsWith out.new.items out.old.items }
 {
     match read_lent_call(message) {
         LentRead::NotACall => Appended::Nothing,
@@ -97,6 +122,7 @@ fn written(xid: u32, added: Result<(), AllocError>) -> Appended
 }
 
 /// Writes the reply to a whole call.
+#[tactic(auto, using(crate::proofs::Chains::begins_then))]
 fn push_call<S: BuildHasher>(
     alloc: Global,
     directory: &mut Directory<S>,
@@ -108,6 +134,7 @@ fn push_call<S: BuildHasher>(
     ensures ok { let c = lent_call_view call.now in
         OnOk result (PushesCall directory.old (netid_of transport) c out.old.items directory.new out.new.items) }
     ensures err { OnErr result (directory.new ≡ directory.old) }
+    ensures begins { StartsWith out.new.items out.old.items }
 {
     match caller_of(alloc, &call.cred) {
         Ok(Caller::Owner(owner)) => push_accepted(alloc, directory, transport, owner, call, out),

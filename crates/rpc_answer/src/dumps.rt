@@ -1,5 +1,6 @@
 //! The rows of the registry as results.
 ghost use Rattle.std.specs.Prelude.{◌≡◌, ◌≤◌, ◌++◌, length, OnOk};
+ghost use Rattle.std.specs.Io.{StartsWith};
 ghost use Rattle.xdr_types.specs.Spelling.{bytes_of};
 ghost use Rattle.rpc_rows.specs.Rows.{IsRow};
 ghost use Rattle.rpc_rows.specs.Views.{plain_row};
@@ -14,12 +15,14 @@ use std::hash::BuildHasher;
 use xdr_units::push_word;
 
 /// Writes all rows in order as an `rpcblist` (RFC 1833 section 2.2.1, RPCBPROC_DUMP).
+#[tactic(auto, using(crate::proofs::Chains::begins_then))]
 pub fn push_rows<S: BuildHasher>(
     directory: &Directory<S>,
     out: &mut Vec<u8>,
 ) -> Result<(), AllocError>
     ensures ok { OnOk result (out.new.items ≡ out.old.items ++ bytes_of dir_kinds 14 (rpcb_list directory.now)) }
     ensures few { length (bytes_of dir_kinds 14 (rpcb_list directory.now)) ≤ 16777216 }
+    ensures begins { StartsWith out.new.items out.old.items }
 {
     let rows = directory.rows();
     for index in 0..rows {
@@ -33,9 +36,11 @@ pub fn push_rows<S: BuildHasher>(
 }
 
 /// Writes that a row follows, and the row.
+#[tactic(auto, using(crate::proofs::Chains::begins_then))]
 fn push_row(row: &Row, out: &mut Vec<u8>) -> Result<(), AllocError>
     requires { IsRow (plain_row row.now) }
-    ensures { OnOk result (out.new.items ≡ out.old.items ++ row_bytes (plain_row row.now)) }
+    ensures ok { OnOk result (out.new.items ≡ out.old.items ++ row_bytes (plain_row row.now)) }
+    ensures begins { StartsWith out.new.items out.old.items }
 {
     push_word(out, 1)?;
     push_word(out, row.prog)?;
@@ -48,12 +53,14 @@ fn push_row(row: &Row, out: &mut Vec<u8>) -> Result<(), AllocError>
 
 /// Writes the rows over `tcp` and `udp` whose address is a universal address over IPv4, in order, as a `pmaplist` (RFC
 /// 1833 section 3.2, PMAPPROC_DUMP).
+#[tactic(auto, using(crate::proofs::Chains::begins_then))]
 pub fn push_mappings<S: BuildHasher>(
     directory: &Directory<S>,
     out: &mut Vec<u8>,
 ) -> Result<(), AllocError>
     ensures ok { OnOk result (out.new.items ≡ out.old.items ++ bytes_of dir_kinds 18 (mapping_list directory.now)) }
     ensures few { length (bytes_of dir_kinds 18 (mapping_list directory.now)) ≤ 16777216 }
+    ensures begins { StartsWith out.new.items out.old.items }
 {
     let rows = directory.rows();
     for index in 0..rows {
@@ -67,8 +74,10 @@ pub fn push_mappings<S: BuildHasher>(
 }
 
 /// Writes that a mapping follows, and the mapping, where the row has one.
+#[tactic(auto, using(crate::proofs::Chains::begins_then))]
 fn push_mapping(row: &Row, out: &mut Vec<u8>) -> Result<(), AllocError>
-    ensures { OnOk result (out.new.items ≡ out.old.items ++ mapping_bytes (plain_row row.now)) }
+    ensures ok { OnOk result (out.new.items ≡ out.old.items ++ mapping_bytes (plain_row row.now)) }
+    ensures begins { StartsWith out.new.items out.old.items }
 {
     match (prot_of(&row.netid), read_uaddr(&row.address)) {
         (Some(prot), Some(address)) => push_mapping_at(row, prot, address, out),
@@ -77,13 +86,15 @@ fn push_mapping(row: &Row, out: &mut Vec<u8>) -> Result<(), AllocError>
 }
 
 /// Writes that a mapping follows, and the mapping.
+#[tactic(auto, using(crate::proofs::Chains::begins_then))]
 fn push_mapping_at(
     row: &Row,
     prot: u32,
     address: Uaddr,
     out: &mut Vec<u8>,
 ) -> Result<(), AllocError>
-    ensures { OnOk result (out.new.items ≡ out.old.items ++ mapping_at_bytes (plain_row row.now) prot address) }
+    ensures ok { OnOk result (out.new.items ≡ out.old.items ++ mapping_at_bytes (plain_row row.now) prot address) }
+    ensures begins { StartsWith out.new.items out.old.items }
 {
     push_word(out, 1)?;
     push_word(out, row.prog)?;

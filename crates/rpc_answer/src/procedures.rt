@@ -1,6 +1,7 @@
 //! The procedures that change rows or look them up, each with the reply that it makes. What is written is written
 //! before the rows change, so that refused memory leaves them as they were.
 ghost use Rattle.std.specs.Prelude.{◌≡◌, ◌<◌, ◌≤◌, length, ◌++◌, List, ℕ, OnOk, OnErr, vec_len, false};
+ghost use Rattle.std.specs.Io.{StartsWith};
 ghost use Rattle.xdr_units.specs.Numbers.{word, num4, number_of};
 ghost use Rattle.rpc_rows.specs.Rows.{row_of};
 ghost use Rattle.rpc_rows.specs.Steps.{set, unset, getaddr};
@@ -21,8 +22,10 @@ use std::hash::BuildHasher;
 use xdr_units::push_word;
 
 /// Writes a successful reply whose result is FALSE.
+#[tactic(auto, using(crate::proofs::Chains::begins_then))]
 fn push_false(out: &mut Vec<u8>, xid: u32) -> Result<(), AllocError>
-    ensures { OnOk result (out.new.items ≡ out.old.items ++ (head xid 0 ++ num4 (number_of false))) }
+    ensures ok { OnOk result (out.new.items ≡ out.old.items ++ (head xid 0 ++ num4 (number_of false))) }
+    ensures begins { StartsWith out.new.items out.old.items }
 {
     push_head(out, xid, 0)?;
     push_word(out, 0)?;
@@ -42,6 +45,7 @@ fn tell(out: &mut Vec<u8>, done: bool)
 }
 
 /// Sets a row at a port (RFC 1833 section 3.2, PMAPPROC_SET).
+#[tactic(auto, using(crate::proofs::Chains::begins_then))]
 pub fn push_set_port<S: BuildHasher>(
     alloc: Global,
     directory: &mut Directory<S>,
@@ -53,6 +57,7 @@ pub fn push_set_port<S: BuildHasher>(
     ensures ok { let step = set_port directory.old m.prog m.vers m.prot m.port (owner_text owner) in
         OnOk result (Tells step xid out.old.items directory.new out.new.items) }
     ensures err { OnErr result (directory.new ≡ directory.old) }
+    ensures begins { StartsWith out.new.items out.old.items }
 {
     push_false(out, xid)?;
     let mut buffer = Buffer::new();
@@ -67,6 +72,7 @@ pub fn push_set_port<S: BuildHasher>(
 }
 
 /// Removes rows over both transports that have a number (RFC 1833 section 3.2, PMAPPROC_UNSET).
+#[tactic(auto, using(crate::proofs::Chains::begins_then))]
 pub fn push_unset_port<S: BuildHasher>(
     directory: &mut Directory<S>,
     owner: Owner,
@@ -77,6 +83,7 @@ pub fn push_unset_port<S: BuildHasher>(
     ensures ok { let step = unset_port directory.old m.prog m.vers (owner_text owner) in
         OnOk result (Tells step xid out.old.items directory.new out.new.items) }
     ensures err { OnErr result (directory.new ≡ directory.old) }
+    ensures begins { StartsWith out.new.items out.old.items }
 {
     push_false(out, xid)?;
     let mut buffer = Buffer::new();
@@ -87,14 +94,16 @@ pub fn push_unset_port<S: BuildHasher>(
 }
 
 /// Looks a port up (RFC 1833 section 3.2, PMAPPROC_GETPORT).
+#[tactic(auto, using(crate::proofs::Chains::begins_then))]
 pub fn push_port<S: BuildHasher>(
     directory: &Directory<S>,
     xid: u32,
     m: Mapping,
     out: &mut Vec<u8>,
 ) -> Result<(), AllocError>
-    ensures { let port = get_port directory.now m.prog m.vers m.prot in
+    ensures ok { let port = get_port directory.now m.prog m.vers m.prot in
         OnOk result (out.new.items ≡ out.old.items ++ (head xid 0 ++ word port)) }
+    ensures begins { StartsWith out.new.items out.old.items }
 {
     push_head(out, xid, 0)?;
     push_word(out, directory.get_port(m.prog, m.vers, m.prot))?;
@@ -102,6 +111,7 @@ pub fn push_port<S: BuildHasher>(
 }
 
 /// Sets a row (RFC 1833 section 2.2.1, RPCBPROC_SET).
+#[tactic(auto, using(crate::proofs::Chains::begins_then))]
 pub fn push_set<S: BuildHasher>(
     alloc: Global,
     directory: &mut Directory<S>,
@@ -113,6 +123,7 @@ pub fn push_set<S: BuildHasher>(
     ensures ok { let row = row_of r.entry.prog r.entry.vers r.entry.netid.now r.entry.address.now (owner_text owner) in
         OnOk result (Tells (set directory.old row) xid out.old.items directory.new out.new.items) }
     ensures err { OnErr result (directory.new ≡ directory.old) }
+    ensures begins { StartsWith out.new.items out.old.items }
 {
     push_false(out, xid)?;
     let mut buffer = Buffer::new();
@@ -127,6 +138,7 @@ pub fn push_set<S: BuildHasher>(
 }
 
 /// Removes rows (RFC 1833 section 2.2.1, RPCBPROC_UNSET).
+#[tactic(auto, using(crate::proofs::Chains::begins_then))]
 pub fn push_unset<S: BuildHasher>(
     directory: &mut Directory<S>,
     owner: Owner,
@@ -137,6 +149,7 @@ pub fn push_unset<S: BuildHasher>(
     ensures ok { let step = unset directory.old r.entry.prog r.entry.vers r.entry.netid.now (owner_text owner) in
         OnOk result (Tells step xid out.old.items directory.new out.new.items) }
     ensures err { OnErr result (directory.new ≡ directory.old) }
+    ensures begins { StartsWith out.new.items out.old.items }
 {
     push_false(out, xid)?;
     let mut buffer = Buffer::new();
@@ -147,6 +160,7 @@ pub fn push_unset<S: BuildHasher>(
 }
 
 /// Looks an address up over the transport; it has at most 256 bytes (RFC 1833 section 2.2.1, RPCBPROC_GETADDR).
+#[tactic(auto, using(crate::proofs::Chains::begins_then))]
 pub fn push_address<S: BuildHasher>(
     directory: &Directory<S>,
     transport: Transport,
@@ -157,6 +171,7 @@ pub fn push_address<S: BuildHasher>(
     ensures ok { let address = getaddr directory.now r.entry.prog r.entry.vers (netid_of transport) in
         OnOk result (out.new.items ≡ out.old.items ++ (head xid 0 ++ text address)) }
     ensures few { length (getaddr directory.now r.entry.prog r.entry.vers (netid_of transport)) ≤ 256 }
+    ensures begins { StartsWith out.new.items out.old.items }
 {
     let address = directory.getaddr(r.prog, r.vers, transport.netid());
     push_head(out, xid, 0)?;

@@ -1,5 +1,6 @@
 //! The order of the checks of a call that is accepted, and the table of procedures.
 ghost use Rattle.std.specs.Prelude.{◌≡◌, ◌≤◌, ◌++◌, OnOk, OnErr};
+ghost use Rattle.std.specs.Io.{StartsWith};
 ghost use Rattle.rpc_message.specs.Message.{ProgMismatch};
 ghost use Rattle.rpc_message.specs.Spelling.{reply};
 ghost use Rattle.rpc_message.specs.View.{lent_call_view};
@@ -39,6 +40,7 @@ const GARBAGE_ARGS: u32 = 4;
 
 /// Writes the reply to a call of a caller who is believed: program, version, procedure and arguments are looked at in
 /// this order (RFC 5531 section 9). Where memory is refused the rows are as they were.
+#[tactic(auto, using(crate::proofs::Chains::begins_then))]
 pub fn push_accepted<S: BuildHasher>(
     alloc: Global,
     directory: &mut Directory<S>,
@@ -51,6 +53,7 @@ pub fn push_accepted<S: BuildHasher>(
         (PushesStatus directory.old (netid_of transport) (owner_text owner) c out.old.items directory.new
         out.new.items) }
     ensures err { OnErr result (directory.new ≡ directory.old) }
+    ensures begins { StartsWith out.new.items out.old.items }
 {
     if call.prog != PROGRAM {
         return push_head(out, call.xid, PROG_UNAVAIL);
@@ -64,8 +67,10 @@ pub fn push_accepted<S: BuildHasher>(
 }
 
 /// Writes the reply to a call of a version that is not here: 2 to 4 are.
+#[tactic(auto, using(crate::proofs::Chains::begins_then))]
 fn push_prog_mismatch(out: &mut Vec<u8>, xid: u32) -> Result<(), AllocError>
     ensures ok { OnOk result (out.new.items ≡ out.old.items ++ reply (accepted xid (ProgMismatch 2 4))) }
+    ensures begins { StartsWith out.new.items out.old.items }
 {
     push_head(out, xid, PROG_MISMATCH)?;
     push_word(out, 2)?;
@@ -74,6 +79,7 @@ fn push_prog_mismatch(out: &mut Vec<u8>, xid: u32) -> Result<(), AllocError>
 }
 
 /// Writes the reply to a call of version 2 (RFC 1833 section 3.2).
+#[tactic(auto, using(crate::proofs::Chains::begins_then))]
 fn push_version_2<S: BuildHasher>(
     alloc: Global,
     directory: &mut Directory<S>,
@@ -88,6 +94,7 @@ fn push_version_2<S: BuildHasher>(
         (PushesStatus directory.old (netid_of transport) (owner_text owner) c out.old.items directory.new
         out.new.items) }
     ensures err { OnErr result (directory.new ≡ directory.old) }
+    ensures begins { StartsWith out.new.items out.old.items }
 {
     match call.proc {
         0 => push_head(out, call.xid, SUCCESS),
@@ -104,6 +111,7 @@ fn push_version_2<S: BuildHasher>(
 }
 
 /// Writes the reply to SET, UNSET or GETPORT of version 2.
+#[tactic(auto, using(crate::proofs::Chains::begins_then))]
 fn push_on_mapping<S: BuildHasher>(
     alloc: Global,
     directory: &mut Directory<S>,
@@ -122,6 +130,7 @@ fn push_on_mapping<S: BuildHasher>(
         (PushesStatus directory.old (netid_of transport) (owner_text owner) c out.old.items directory.new
         out.new.items) }
     ensures err { OnErr result (directory.new ≡ directory.old) }
+    ensures begins { StartsWith out.new.items out.old.items }
 {
     let _netid = transport.netid();
     match call.proc {
@@ -132,6 +141,7 @@ fn push_on_mapping<S: BuildHasher>(
 }
 
 /// Writes the reply to a call of version 3 or 4 (RFC 1833 section 2.2.1).
+#[tactic(auto, using(crate::proofs::Chains::begins_then))]
 fn push_version_3<S: BuildHasher>(
     alloc: Global,
     directory: &mut Directory<S>,
@@ -147,6 +157,7 @@ fn push_version_3<S: BuildHasher>(
         (PushesStatus directory.old (netid_of transport) (owner_text owner) c out.old.items directory.new
         out.new.items) }
     ensures err { OnErr result (directory.new ≡ directory.old) }
+    ensures begins { StartsWith out.new.items out.old.items }
 {
     match call.proc {
         0 => push_head(out, call.xid, SUCCESS),
@@ -163,6 +174,7 @@ fn push_version_3<S: BuildHasher>(
 }
 
 /// Writes the reply to SET, UNSET or GETADDR of version 3 or 4.
+#[tactic(auto, using(crate::proofs::Chains::begins_then))]
 fn push_on_rpcb<S: BuildHasher>(
     alloc: Global,
     directory: &mut Directory<S>,
@@ -182,6 +194,7 @@ fn push_on_rpcb<S: BuildHasher>(
         (PushesStatus directory.old (netid_of transport) (owner_text owner) c out.old.items directory.new
         out.new.items) }
     ensures err { OnErr result (directory.new ≡ directory.old) }
+    ensures begins { StartsWith out.new.items out.old.items }
 {
     match call.proc {
         1 => push_set(alloc, directory, owner, call.xid, r, out),

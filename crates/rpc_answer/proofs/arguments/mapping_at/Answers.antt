@@ -1,5 +1,4 @@
 use Rattle.std.proofs.Common.{length, ap, arith}
-use Rattle.rpc_answer.proofs.Fields.{small_word}
 use Rattle.rpc_answer.proofs.Begun.{no_mapping, whole_mapping}
 use Rattle.rpc_answer.proofs.arguments.mapping_at.Goals as goal
 
@@ -40,8 +39,8 @@ returns c =
     let t = c.in_ok-prot in
     let o = c.in_ok-port in
     whole_mapping c.args.args.now p.prog v.vers t.prot o.port p.rest.now v.rest.now t.rest.now _
-    (small_word c.args.args.now p.prog p.rest.now p.ensures.found p.ensures.only)
-    (small_word p.rest.now v.vers v.rest.now v.ensures.found v.ensures.only)
-    (small_word v.rest.now t.prot t.rest.now t.ensures.found t.ensures.only)
-    (small_word t.rest.now o.port _ o.ensures.found o.ensures.only) p.ensures.found v.ensures.found t.ensures.found
+    p.ensures.fits
+    v.ensures.fits
+    t.ensures.fits
+    o.ensures.fits p.ensures.found v.ensures.found t.ensures.found
     o.ensures.found

@@ -1,6 +1,5 @@
 use Rattle.std.proofs.Common.{arith}
 use Rattle.xdr_types.proofs.Content.{bytes-by-index}
-use Rattle.rpc_answer.proofs.Fields.{small_word}
 use Rattle.rpc_answer.proofs.Begun.{no_prog, no_vers, no_netid, no_address, no_owner, too_large, whole_rpcb}
 use Rattle.rpc_answer.proofs.arguments.rpcb_at.Goals as goal
 
@@ -13,7 +12,7 @@ returns-in_err-vers c =
     let p = c.in_ok-prog in
     rw c.from_residual-in_err-vers.ensures
     (no_vers c.args.args.now p.prog p.rest.now
-    (small_word c.args.args.now p.prog p.rest.now p.ensures.found p.ensures.only) p.ensures.found
+    p.ensures.fits p.ensures.found
     c.in_err-vers.ensures.found)
 
 pub returns-in_err-netid : goal.returns-in_err-netid
@@ -22,8 +21,8 @@ returns-in_err-netid c =
     let v = c.in_ok-vers in
     rw c.from_residual-in_err-netid.ensures
     (no_netid c.args.args.now p.prog p.rest.now
-    (small_word c.args.args.now p.prog p.rest.now p.ensures.found p.ensures.only) p.ensures.found v.vers v.rest.now
-    (small_word p.rest.now v.vers v.rest.now v.ensures.found v.ensures.only) v.ensures.found c.in_err-netid.ensures)
+    p.ensures.fits p.ensures.found v.vers v.rest.now
+    v.ensures.fits v.ensures.found c.in_err-netid.ensures)
 
 pub returns-in_err-address : goal.returns-in_err-address
 returns-in_err-address c =
@@ -32,8 +31,8 @@ returns-in_err-address c =
     let n = c.in_ok-netid in
     rw c.from_residual-in_err-address.ensures
     (no_address c.args.args.now p.prog p.rest.now
-    (small_word c.args.args.now p.prog p.rest.now p.ensures.found p.ensures.only) p.ensures.found v.vers v.rest.now
-    (small_word p.rest.now v.vers v.rest.now v.ensures.found v.ensures.only) v.ensures.found n.netid.now n.rest.now
+    p.ensures.fits p.ensures.found v.vers v.rest.now
+    v.ensures.fits v.ensures.found n.netid.now n.rest.now
     n.ensures.0 n.ensures.1 c.in_err-address.ensures)
 
 pub returns-in_err-_owner : goal.returns-in_err-_owner
@@ -44,8 +43,8 @@ returns-in_err-_owner c =
     let a = c.in_ok-address in
     rw c.from_residual-in_err-_owner.ensures
     (no_owner c.args.args.now p.prog p.rest.now
-    (small_word c.args.args.now p.prog p.rest.now p.ensures.found p.ensures.only) p.ensures.found v.vers v.rest.now
-    (small_word p.rest.now v.vers v.rest.now v.ensures.found v.ensures.only) v.ensures.found n.netid.now n.rest.now
+    p.ensures.fits p.ensures.found v.vers v.rest.now
+    v.ensures.fits v.ensures.found n.netid.now n.rest.now
     n.ensures.0 n.ensures.1 a.address.now a.rest.now a.ensures.0 a.ensures.1 c.in_err-_owner.ensures)
 
 pub returns-then-saturating_sub-gt-MOST_BYTES : goal.returns-then-saturating_sub-gt-MOST_BYTES
@@ -56,8 +55,8 @@ returns-then-saturating_sub-gt-MOST_BYTES c =
     let a = c.in_ok-address in
     let o = c.in_ok-_owner in
     too_large c.args.args.now p.prog p.rest.now
-    (small_word c.args.args.now p.prog p.rest.now p.ensures.found p.ensures.only) p.ensures.found v.vers v.rest.now
-    (small_word p.rest.now v.vers v.rest.now v.ensures.found v.ensures.only) v.ensures.found n.netid.now n.rest.now
+    p.ensures.fits p.ensures.found v.vers v.rest.now
+    v.ensures.fits v.ensures.found n.netid.now n.rest.now
     n.ensures.0 n.ensures.1 a.address.now a.rest.now a.ensures.0 a.ensures.1 o._owner.now o.rest.now o.ensures.0
     o.ensures.1 (omega (arith, c.saturating_sub.ensures, c.if-saturating_sub-gt-MOST_BYTES.true))
 
@@ -71,8 +70,8 @@ returns c =
     record {
       owner = o._owner.now;
       are = whole_rpcb c.args.args.now p.prog p.rest.now
-          (small_word c.args.args.now p.prog p.rest.now p.ensures.found p.ensures.only) p.ensures.found v.vers
-          v.rest.now (small_word p.rest.now v.vers v.rest.now v.ensures.found v.ensures.only) v.ensures.found
+          p.ensures.fits p.ensures.found v.vers
+          v.rest.now v.ensures.fits v.ensures.found
           n.netid.now n.rest.now n.ensures.0 n.ensures.1 a.address.now a.rest.now a.ensures.0 a.ensures.1 o._owner.now
           o.rest.now o.ensures.0 o.ensures.1
           (bytes-by-index c.args.args.now (λ i within. omega (arith, c.type_inv.args i)))

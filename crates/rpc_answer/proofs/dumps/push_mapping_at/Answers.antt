@@ -3,8 +3,8 @@ use Rattle.xdr_units.specs.Numbers.{word}
 use Rattle.rpc_answer.proofs.Chains.{then}
 use Rattle.rpc_answer.proofs.dumps.push_mapping_at.Goals as goal
 
-pub returns : goal.returns
-returns c =
+pub returns-clause-ok : goal.returns-clause-ok
+returns-clause-ok c =
     let o = c.args.out.now.items in
     let row = c.args.row.now in
     then o _ (word c.from.result) _ _

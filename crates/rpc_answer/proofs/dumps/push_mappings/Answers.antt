@@ -3,6 +3,7 @@ use Rattle.rpc_rows.specs.Views.{plain_row}
 use Rattle.xdr_units.specs.Numbers.{word}
 use Rattle.rpc_answer.specs.Pushes.{mapping_bytes}
 use Rattle.rpc_answer.proofs.Listing.{spelled_more, spelled_all, some_within, mappings_spelled}
+use Rattle.rpc_answer.proofs.Chains.{begins_then, begins_added}
 use Rattle.rpc_answer.proofs.dumps.push_mappings.Goals as goal
 use Rattle.rpc_answer.proofs.dumps.push_mappings.Goals.{in-Some+in_ok-push_mapping-in-Some, in-None}
 
@@ -17,7 +18,7 @@ loop-index-preserved g c =
           (plain_row w.in-Some.row.now) c.args.out.now.items c.loop-index.out.items _ (omega arith)
           (sym c.row.ensures.value
           ∙ ap (option_map (λ r. plain_row r.now)) w.in-Some.is) c.loop-index.invariant
-          w.in_ok-push_mapping-in-Some.ensures)
+          w.in_ok-push_mapping-in-Some.ensures.ok)
       | in-None w ↦ absurd (some_within c.args.directory.now c.loop-index.index
           (omega (arith, c.loop-index-test.true, c.rows-rows.ensures.value)) (sym c.row.ensures.value
           ∙ ap (option_map (λ r. plain_row r.now)) w.in-None.is))
@@ -35,3 +36,8 @@ returns-clause-ok g c =
 
 pub returns-clause-few : goal.returns-clause-few
 returns-clause-few g c = c.rows-rows.ensures.dump_ports.1.1
+
+pub returns-in_err-push_mapping-in-Some-clause-begins : goal.returns-in_err-push_mapping-in-Some-clause-begins
+returns-in_err-push_mapping-in-Some-clause-begins g c =
+    begins_then c.args.out.now.items c.loop-index.out.items _
+    (begins_added c.args.out.now.items _ c.loop-index.out.items c.loop-index.invariant) c.push_mapping.ensures.begins

@@ -17,4 +17,4 @@ returns-clause-ok g c =
     let is : c.getaddr-address.result.now ≡ getaddr rows r.prog r.vers (netid_of c.args.transport) =
     c.getaddr-address.ensures.value ∙ ap (λ (n : List ℕ). getaddr rows r.prog r.vers n) c.netid.ensures in
     then old (head c.args.xid 0) (text c.getaddr-address.result.now) _ _ c.in_ok-push_head.ensures.ok
-    c.in_ok-push_text.ensures ∙ ap (λ (t : List ℕ). old ++ (head c.args.xid 0 ++ text t)) is
+    c.in_ok-push_text.ensures.ok ∙ ap (λ (t : List ℕ). old ++ (head c.args.xid 0 ++ text t)) is

@@ -1,6 +1,6 @@
 use Rattle.std.proofs.Common.{List, ℕ, ap, ◌∙◌}
 use Rattle.rpc_rows.specs.Steps.{unset}
-use Rattle.rpc_answer.proofs.Telling.{tells}
+use Rattle.rpc_answer.proofs.Telling.{tells, told_behind}
 use Rattle.rpc_answer.proofs.procedures.push_unset.Goals as goal
 
 pub returns-clause-ok : goal.returns-clause-ok
@@ -9,4 +9,8 @@ returns-clause-ok g c =
     (c.unset-done.ensures.value
     ∙ ap (λ (o : List ℕ). unset c.args.directory.now c.args.r.prog c.args.r.vers c.args.r.netid.now o)
     c.text-owner.ensures.text)
-    c.in_ok-push_false.ensures c.tell.ensures
+    c.in_ok-push_false.ensures.ok c.tell.ensures
+
+pub returns-clause-begins : goal.returns-clause-begins
+returns-clause-begins g c =
+    told_behind c.args.xid c.args.out.now.items _ _ c.unset-done.result c.in_ok-push_false.ensures.ok c.tell.ensures

@@ -36,4 +36,4 @@ returns-in_default-clause-ok g c =
     (owner_text c.args.owner) call _ _ m.prog m.vers m.prot m.port c.requires.arguments
     (called_2 call getport_2 c.requires.prog c.requires.vers (nth procedures_2 call.proc 3 getport_2
     (omega arith) refl)))
-    c.push_port.ensures
+    c.push_port.ensures.ok

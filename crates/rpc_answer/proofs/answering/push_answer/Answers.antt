@@ -6,15 +6,15 @@ use Rattle.rpc_answer.specs.Views.{netid_of}
 use Rattle.rpc_answer.proofs.Chains.{on_ok}
 use Rattle.rpc_answer.proofs.Calls.{answers_silence, answers_no_memory, adds, adds_short, pushes_by, any_err, on_err}
 use Rattle.rpc_answer.proofs.Calls.{unchanged}
-use Rattle.rpc_answer.proofs.answering.append_answer.Goals as goal
+use Rattle.rpc_answer.proofs.answering.push_answer.Goals as goal
 
-pub returns-in-NotACall : goal.returns-in-NotACall
-returns-in-NotACall g c =
+pub returns-in-NotACall-clause-answer : goal.returns-in-NotACall-clause-answer
+returns-in-NotACall-clause-answer g c =
     let is = rw c.in-NotACall.is at c.read_lent_call.ensures.found in
     (answers_silence c.args.directory.now (netid_of c.args.transport) c.args.message.now is, refl)
 
-pub returns-in-OtherVersion : goal.returns-in-OtherVersion
-returns-in-OtherVersion g c =
+pub returns-in-OtherVersion-clause-answer : goal.returns-in-OtherVersion-clause-answer
+returns-in-OtherVersion-clause-answer g c =
     let is = rw c.in-OtherVersion.is at c.read_lent_call.ensures.found in
     let xid = c.in-OtherVersion.xid in
     let version = c.in-OtherVersion._version in
@@ -28,8 +28,8 @@ returns-in-OtherVersion g c =
     (any_err c.push_rpc_mismatch.result _
     (answers_no_memory rows netid message (OtherVersion xid version) xid is refl is.xid_fits))
 
-pub returns-in-BadCred : goal.returns-in-BadCred
-returns-in-BadCred g c =
+pub returns-in-BadCred-clause-answer : goal.returns-in-BadCred-clause-answer
+returns-in-BadCred-clause-answer g c =
     let is = rw c.in-BadCred.is at c.read_lent_call.ensures.found in
     let xid = c.in-BadCred.xid in
     let rows = c.args.directory.now in
@@ -41,8 +41,8 @@ returns-in-BadCred g c =
     (bad_cred xid) (is.fits.0, omega arith) e (omega arith)) c.push_auth_error.ensures.ok)
     (any_err c.push_auth_error.result _ (answers_no_memory rows netid message (BadCred xid) xid is refl is.fits.0))
 
-pub returns-in-BadVerf : goal.returns-in-BadVerf
-returns-in-BadVerf g c =
+pub returns-in-BadVerf-clause-answer : goal.returns-in-BadVerf-clause-answer
+returns-in-BadVerf-clause-answer g c =
     let is = rw c.in-BadVerf.is at c.read_lent_call.ensures.found in
     let xid = c.in-BadVerf.xid in
     let rows = c.args.directory.now in
@@ -61,8 +61,8 @@ push_call-added-requires g c =
     let is = rw c.in-Whole.is at c.read_lent_call.ensures.found in
     is.fits.xid
 
-pub returns-in-Whole : goal.returns-in-Whole
-returns-in-Whole g c =
+pub returns-in-Whole-clause-answer : goal.returns-in-Whole-clause-answer
+returns-in-Whole-clause-answer g c =
     let is = rw c.in-Whole.is at c.read_lent_call.ensures.found in
     let v = lent_call_view c.in-Whole.call in
     let rows = c.args.directory.now in
