@@ -1,145 +1,233 @@
 //! Calls worked by hand.
 
-use crate::messages::bytes::{bytes_of, first};
-use crate::messages::plain::call_in;
-use rpc_message::{Call, CallRead, OpaqueAuth, write_call};
-use std::test::*;
+use crate::messages::parts::Part::{Again, Digits};
+use crate::messages::parts::{NONE, Part, bytes_of, joined};
+use rpc_message::{Call, CallRead, OpaqueAuth, read_call, write_call};
+use std::alloc::Global;
+
+/// A flavor and a body.
+pub type Auth = (u32, Part);
+
+/// Flavor 0 and no bytes.
+pub const NO_AUTH: Auth = (0, NONE);
 
 /// The call of procedure 0 of the port mapper, version 2, with two empty AUTH_NONE and no arguments.
 pub const NULL_CALL: &str = "000000010000000000000002000186a00000000200000000\
     00000000000000000000000000000000";
 
-/// Whether the bytes are read as this.
-fn is_read(rt: HostRuntime, bytes: &[u8], read: CallRead) -> Result<bool, Fail> {
-    Ok(call_in(rt.alloc(), bytes)? == read)
+// The same up to its credential, and up to its verifier.
+const FRONT: Part = Digits("000000010000000000000002000186a00000000200000000");
+
+const TO_VERIFIER: Part = Digits(
+    "000000010000000000000002000186a000000002000000000000000000000000",
+);
+
+/// Bytes, and the credential, the verifier and the arguments of the call that they are.
+type Row = (&'static [Part], Auth, Auth, Part);
+
+// A flavor that RFC 5531 does not name is kept, and so is a body of 400 bytes.
+static ROWS: [Row; 8] = [
+    (&[Digits(NULL_CALL)], NO_AUTH, NO_AUTH, NONE),
+    (
+        &[FRONT, Digits("00000006000000000000000000000000")],
+        (6, NONE),
+        NO_AUTH,
+        NONE,
+    ),
+    (
+        &[
+            FRONT,
+            Digits("0000000600000190"),
+            Again(7, 400),
+            Digits("0000000000000000"),
+        ],
+        (6, Again(7, 400)),
+        NO_AUTH,
+        NONE,
+    ),
+    (
+        &[
+            FRONT,
+            Digits("00000006000000016100000000000000000000000000002a"),
+        ],
+        (6, Digits("61")),
+        NO_AUTH,
+        Digits("0000002a"),
+    ),
+    (
+        &[TO_VERIFIER, Digits("00000006000000016100000000000000")],
+        NO_AUTH,
+        (6, Digits("61")),
+        Digits("00000000"),
+    ),
+    (
+        &[
+            TO_VERIFIER,
+            Digits("0000000200000190"),
+            Again(7, 400),
+            Digits("0000002a"),
+        ],
+        NO_AUTH,
+        (2, Again(7, 400)),
+        Digits("0000002a"),
+    ),
+    (
+        &[
+            FRONT,
+            Digits("0000000100000003616263000000000200000002646500000102"),
+        ],
+        (1, Digits("616263")),
+        (2, Digits("6465")),
+        Digits("0102"),
+    ),
+    (
+        &[Digits(NULL_CALL), Again(7, 65536)],
+        NO_AUTH,
+        NO_AUTH,
+        Again(7, 65536),
+    ),
+];
+
+/// The flavor and the body as a value.
+pub fn made_auth(alloc: Global, auth: &Auth) -> Option<OpaqueAuth> {
+    let (flavor, body) = auth;
+    Some(OpaqueAuth {
+        flavor: *flavor,
+        body: bytes_of(alloc, *body)?,
+    })
 }
 
-/// Whether the bytes that the digits spell are read as this.
-fn is_told(rt: HostRuntime, digits: &str, read: CallRead) -> Result<bool, Fail> {
-    is_read(rt, &bytes_of(rt, digits)?, read)
-}
-
-/// The whole call that the digits spell.
-pub(crate) fn whole_call(rt: HostRuntime, digits: &str) -> Result<Call, Fail> {
-    match call_in(rt.alloc(), &bytes_of(rt, digits)?)? {
-        CallRead::Whole(call) => Ok(call),
-        _ => Err(Fail::from("no whole call")),
-    }
-}
-
-/// The bytes that the call is written to.
-pub(crate) fn written(rt: HostRuntime, call: &Call) -> Result<Vec<u8>, Fail> {
-    if 400 < call.cred.body.len() || 400 < call.verf.body.len() {
-        return Err(Fail::from("too long a body"));
-    }
-    Ok(write_call(rt.alloc(), call)?)
-}
-
-/// An authentication of flavor 0 and no bytes.
-fn no_auth(rt: HostRuntime) -> OpaqueAuth {
-    OpaqueAuth {
-        flavor: 0,
-        body: Vec::new(rt.alloc()),
-    }
-}
-
-#[test]
-fn writes_and_reads_a_call(rt: HostRuntime) -> Result<(), Fail> {
-    let bytes = bytes_of(rt, NULL_CALL)?;
-    let call = Call {
+/// The call of a row: of xid 1, and of procedure 0 of version 2 of program 100000.
+fn made(alloc: Global, cred: &Auth, verf: &Auth, args: Part) -> Option<Call> {
+    Some(Call {
         xid: 1,
         prog: 100000,
         vers: 2,
         proc: 0,
-        cred: no_auth(rt),
-        verf: no_auth(rt),
-        args: Vec::new(rt.alloc()),
-    };
-    let text = written(rt, &call)?;
-    assert_eq!(rt; text.as_slice(), bytes.as_slice());
-    assert!(rt; is_read(rt, &bytes, CallRead::Whole(call))?);
-    Ok(())
+        cred: made_auth(alloc, cred)?,
+        verf: made_auth(alloc, verf)?,
+        args: bytes_of(alloc, args)?,
+    })
 }
 
-/// What the same 40 bytes are where they end after so many.
-fn cut_at(count: usize) -> CallRead {
+/// The bytes that the call is written to, where its bodies are short enough.
+pub fn written(alloc: Global, call: &Call) -> Option<Vec<u8>> {
+    if 400 < call.cred.body.len() || 400 < call.verf.body.len() {
+        return None;
+    }
+    write_call(alloc, call).ok()
+}
+
+/// The bytes are read as this call.
+fn is_read(alloc: Global, bytes: &[u8], call: &Call) -> bool {
+    match read_call(alloc, bytes) {
+        Ok(CallRead::Whole(read)) => read == *call,
+        _ => false,
+    }
+}
+
+/// Whether the bytes are read as the call of a row, and it is written to them.
+fn goes_both_ways(alloc: Global, row: &Row) -> Option<bool> {
+    let (parts, cred, verf, args) = row;
+    let bytes = joined(alloc, parts)?;
+    let call = made(alloc, cred, verf, *args)?;
+    let text = written(alloc, &call)?;
+    Some(text.as_slice() == bytes.as_slice() && is_read(alloc, &bytes, &call))
+}
+
+#[test]
+fn writes_and_reads_calls(rt: HostRuntime) {
+    for (number, row) in ROWS.iter().enumerate() {
+        assert!(rt;
+            goes_both_ways(rt.alloc(), row) == Some(true),
+            "the row {number}"
+        );
+    }
+}
+
+/// What bytes are that are no whole call of version 2.
+#[derive(Clone, Copy, PartialEq)]
+pub enum Other {
+    Version(u32, u32),
+    BadCred(u32),
+    BadVerf(u32),
+    NotACall,
+}
+
+/// What these bytes are, `None` where they are a whole call or memory is refused.
+pub fn other_in(alloc: Global, bytes: &[u8]) -> Option<Other> {
+    match read_call(alloc, bytes) {
+        Ok(CallRead::OtherVersion { xid, version }) => Some(Other::Version(xid, version)),
+        Ok(CallRead::BadCred { xid }) => Some(Other::BadCred(xid)),
+        Ok(CallRead::BadVerf { xid }) => Some(Other::BadVerf(xid)),
+        Ok(CallRead::NotACall) => Some(Other::NotACall),
+        _ => None,
+    }
+}
+
+// Version 2 cut before its procedure, a version of which a byte is missing, and a reply, whose third word would be
+// another version or version 2; another version; a credential of 401 bytes, and credentials and a verifier with padding
+// that is not zero. Where more than one case seems to apply, the first in the order of the bytes does.
+static OTHERS: [(&str, Other); 8] = [
+    ("000000010000000000000002000186a000000002", Other::NotACall),
+    ("0000000100000000000003", Other::NotACall),
+    ("000000010000000100000003", Other::NotACall),
+    (
+        "000000010000000100000002000186a00000000200000000",
+        Other::NotACall,
+    ),
+    ("000000020000000000000003", Other::Version(2, 3)),
+    (
+        "000000010000000000000002000186a0000000020000000000000000000001910000",
+        Other::BadCred(1),
+    ),
+    (
+        "000000010000000000000002000186a00000000200000000000000000000000161000001",
+        Other::BadCred(1),
+    ),
+    (
+        "000000010000000000000002000186a00000000200000000000000000000000000000000000000016100ff00",
+        Other::BadVerf(1),
+    ),
+];
+
+/// Whether the digits are this.
+fn is_other(alloc: Global, digits: &'static str, wanted: Other) -> Option<bool> {
+    let bytes = bytes_of(alloc, Digits(digits))?;
+    Some(other_in(alloc, &bytes) == Some(wanted))
+}
+
+#[test]
+fn tells_what_is_no_call(rt: HostRuntime) {
+    for (digits, wanted) in &OTHERS {
+        assert!(rt;
+            is_other(rt.alloc(), digits, *wanted) == Some(true),
+            "{digits}"
+        );
+    }
+}
+
+/// What the 40 bytes of the null call are where they end after so many.
+fn cut_at(count: usize) -> Other {
     match count {
-        0..=23 => CallRead::NotACall,
-        24..=31 => CallRead::BadCred { xid: 1 },
-        _ => CallRead::BadVerf { xid: 1 },
+        0..=23 => Other::NotACall,
+        24..=31 => Other::BadCred(1),
+        _ => Other::BadVerf(1),
     }
 }
 
-// The same 40 bytes, ended at each of them.
-#[test]
-fn reads_a_cut_call(rt: HostRuntime) -> Result<(), Fail> {
-    let bytes = bytes_of(rt, NULL_CALL)?;
-    assert_eq!(rt; bytes.len(), 40);
-    for cut in 0..40 {
-        assert!(rt; is_read(rt, first(&bytes, cut)?, cut_at(cut))?, "at {cut}");
+/// How many cuts of the null call are what they should be, up to the first that is not.
+fn right_cuts(alloc: Global) -> Option<usize> {
+    let bytes = bytes_of(alloc, Digits(NULL_CALL))?;
+    for count in 0..bytes.len() {
+        if other_in(alloc, &bytes[..count]) != Some(cut_at(count)) {
+            return Some(count);
+        }
     }
-    Ok(())
+    Some(bytes.len())
 }
-
-/// Version 2 cut before its procedure, a version of which a byte is missing, and a reply, whose third word would be
-/// another version or version 2.
-const NO_CALLS: [&str; 4] = [
-    "000000010000000000000002000186a000000002",
-    "0000000100000000000003",
-    "000000010000000100000003",
-    "000000010000000100000002000186a00000000200000000",
-];
-
-// Where more than one case seems to apply, the first in the order of the bytes does.
-#[test]
-fn tells_what_is_no_call(rt: HostRuntime) -> Result<(), Fail> {
-    for text in &NO_CALLS {
-        assert!(rt; is_told(rt, *text, CallRead::NotACall)?, "{text}");
-    }
-    let other = CallRead::OtherVersion { xid: 2, version: 3 };
-    assert!(rt; is_told(rt, "000000020000000000000003", other)?);
-    Ok(())
-}
-
-/// A credential of 401 bytes, and one with padding that is not zero.
-const NO_CREDENTIALS: [&str; 2] = [
-    "000000010000000000000002000186a0000000020000000000000000000001910000",
-    "000000010000000000000002000186a00000000200000000000000000000000161000001",
-];
-
-/// A verifier with padding that is not zero.
-const NO_VERIFIER: &str =
-    "000000010000000000000002000186a00000000200000000000000000000000000000000000000016100ff00";
 
 #[test]
-fn tells_what_has_no_credential(rt: HostRuntime) -> Result<(), Fail> {
-    for text in &NO_CREDENTIALS {
-        assert!(rt; is_told(rt, *text, CallRead::BadCred { xid: 1 })?, "{text}");
-    }
-    assert!(rt; is_told(rt, NO_VERIFIER, CallRead::BadVerf { xid: 1 })?);
-    Ok(())
-}
-
-/// Puts so many sevens at the end.
-fn lengthen(bytes: &mut Vec<u8>, count: u32) -> Result<(), Fail> {
-    for _ in 0..count {
-        bytes.push(7)?;
-    }
-    Ok(())
-}
-
-// A flavor that RFC 5531 does not name is kept, and so is a body of 400 bytes.
-#[test]
-fn keeps_other_flavors(rt: HostRuntime) -> Result<(), Fail> {
-    let mut call = whole_call(
-        rt,
-        "000000010000000000000002000186a0000000020000000000000006000000000000000000000000",
-    )?;
-    assert_eq!(rt; call.cred.flavor, 6);
-    lengthen(&mut call.cred.body, 400)?;
-    assert_eq!(rt; call.cred.body.len(), 400);
-    let long = written(rt, &call)?;
-    assert_eq!(rt; long.len(), 440);
-    assert!(rt; is_read(rt, &long, CallRead::Whole(call))?);
-    Ok(())
+fn reads_a_cut_call(rt: HostRuntime) {
+    assert_eq!(rt; right_cuts(rt.alloc()), Some(40));
 }

@@ -1,112 +1,124 @@
 //! Bodies of AUTH_SYS worked by hand.
 
-use crate::messages::bytes::{bytes_of, first};
-use crate::messages::plain::body_in;
-use rpc_message::{AuthSys, write_auth_sys};
-use std::test::*;
+use crate::messages::parts::Part::{Again, Digits};
+use crate::messages::parts::{NONE, Part, bytes_of, joined};
+use rpc_message::{AuthSys, read_auth_sys, write_auth_sys};
+use std::alloc::Global;
 
-/// Whether the bytes are read as this body.
-fn is_read(rt: HostRuntime, bytes: &[u8], sys: AuthSys) -> Result<bool, Fail> {
-    Ok(body_in(rt.alloc(), bytes)? == Some(sys))
-}
+/// Bytes, and the stamp, machine name, uid, gid and gids of the body that they are.
+type Row = (&'static [Part], u32, Part, u32, u32, &'static [u32]);
 
-/// Whether the bytes are read as no body.
-fn is_none(rt: HostRuntime, bytes: &[u8]) -> Result<bool, Fail> {
-    Ok(body_in(rt.alloc(), bytes)?.is_none())
-}
+const SIXTEEN: [u32; 16] = [0, 1, 2, 3, 4, 5, 6, 7, 8, 9, 10, 11, 12, 13, 14, 15];
 
-/// The bytes that the body is written to.
-fn written(rt: HostRuntime, sys: &AuthSys) -> Result<Vec<u8>, Fail> {
-    if 255 < sys.machine.len() || 16 < sys.gids.len() {
-        return Err(Fail::from("too long a body"));
-    }
-    Ok(write_auth_sys(rt.alloc(), sys)?)
-}
+// The last has 255 bytes of machine name and 16 gids, and 340 bytes in all.
+static ROWS: [Row; 3] = [
+    (
+        &[Digits("0000000000000003626f7800000003e8000000640000000100000064")],
+        0,
+        Digits("626f78"),
+        1000,
+        100,
+        &[100],
+    ),
+    (
+        &[Digits("ffffffff00000000000000000000000000000000")],
+        4294967295,
+        NONE,
+        0,
+        0,
+        &[],
+    ),
+    (
+        &[
+            Digits("00000001000000ff"),
+            Again(97, 255),
+            Digits("00000000020000000300000010"),
+            Digits(
+                "00000000000000010000000200000003000000040000000500000006000000070000000800000009",
+            ),
+            Digits("0000000a0000000b0000000c0000000d0000000e0000000f"),
+        ],
+        1,
+        Again(97, 255),
+        2,
+        3,
+        &SIXTEEN,
+    ),
+];
 
-/// Puts so many copies of the byte at the end.
-fn lengthen(bytes: &mut Vec<u8>, byte: u8, count: u32) -> Result<(), Fail> {
-    for _ in 0..count {
-        bytes.push(byte)?;
-    }
-    Ok(())
-}
-
-/// The gids from 0 to 15.
-fn sixteen_gids(rt: HostRuntime) -> Result<Vec<u32>, Fail> {
-    let mut gids = Vec::new(rt.alloc());
-    for gid in 0..16u32 {
-        gids.push(gid)?;
-    }
-    Ok(gids)
-}
-
-#[test]
-fn writes_and_reads_auth_sys(rt: HostRuntime) -> Result<(), Fail> {
-    let bytes = bytes_of(
-        rt,
-        "0000000000000003626f7800000003e8000000640000000100000064",
-    )?;
-    let sys = AuthSys {
-        stamp: 0,
-        machine: Vec::from_slice(rt.alloc(), b"box")?,
-        uid: 1000,
-        gid: 100,
-        gids: Vec::from_slice(rt.alloc(), &[100])?,
-    };
-    let text = written(rt, &sys)?;
-    assert_eq!(rt; text.as_slice(), bytes.as_slice());
-    assert!(rt; is_read(rt, &bytes, sys)?);
-    Ok(())
-}
-
-/// A body with 255 bytes of machine name and 16 gids.
-fn longest(rt: HostRuntime) -> Result<AuthSys, Fail> {
-    let mut machine = Vec::new(rt.alloc());
-    lengthen(&mut machine, 97, 255)?;
-    let gids = sixteen_gids(rt)?;
-    if machine.len() != 255 || gids.len() != 16 {
-        return Err(Fail::from("another length"));
-    }
-    Ok(AuthSys {
-        stamp: 1,
-        machine,
-        uid: 2,
-        gid: 3,
-        gids,
+/// The body of a row.
+fn made(alloc: Global, row: &Row) -> Option<AuthSys> {
+    let (_, stamp, machine, uid, gid, gids) = row;
+    Some(AuthSys {
+        stamp: *stamp,
+        machine: bytes_of(alloc, *machine)?,
+        uid: *uid,
+        gid: *gid,
+        gids: Vec::from_slice(alloc, gids).ok()?,
     })
 }
 
-// 255 bytes of machine name and 16 gids go both ways; a body with a byte more or less is none.
+/// The bytes that the body is written to, where it is short enough.
+pub fn written(alloc: Global, body: &AuthSys) -> Option<Vec<u8>> {
+    if 255 < body.machine.len() || 16 < body.gids.len() {
+        return None;
+    }
+    write_auth_sys(alloc, body).ok()
+}
+
+/// Whether the bytes are read as the body of a row, and it is written to them.
+fn goes_both_ways(alloc: Global, row: &Row) -> Option<bool> {
+    let bytes = joined(alloc, row.0)?;
+    let body = made(alloc, row)?;
+    let text = written(alloc, &body)?;
+    Some(text.as_slice() == bytes.as_slice() && read_auth_sys(alloc, &bytes) == Ok(Some(body)))
+}
+
 #[test]
-fn reads_up_to_the_bounds(rt: HostRuntime) -> Result<(), Fail> {
-    let sys = longest(rt)?;
-    let mut bytes = written(rt, &sys)?;
-    assert_eq!(rt; bytes.len(), 340);
-    assert!(rt; is_read(rt, &bytes, sys)?);
-    assert!(rt; is_none(rt, first(&bytes, 339)?)?);
-    lengthen(&mut bytes, 0, 1)?;
-    assert!(rt; is_none(rt, &bytes)?);
-    Ok(())
+fn writes_and_reads_bodies(rt: HostRuntime) {
+    for (number, row) in ROWS.iter().enumerate() {
+        assert!(rt;
+            goes_both_ways(rt.alloc(), row) == Some(true),
+            "the row {number}"
+        );
+    }
 }
 
-/// Whether the bytes that the digits spell, with so many zeros after them, are read as no body.
-fn is_none_with_zeros(rt: HostRuntime, digits: &str, count: u32) -> Result<bool, Fail> {
-    let mut bytes = bytes_of(rt, digits)?;
-    lengthen(&mut bytes, 0, count)?;
-    is_none(rt, &bytes)
-}
-
-/// 17 gids, 256 bytes of machine name, and padding that is not zero, each with so many zeros after it.
-const NO_BODIES: [(&str, u32); 3] = [
-    ("0000000000000000000000000000000000000011", 68),
-    ("0000000000000100", 268),
-    ("0000000000000003626f7801000003e80000006400000000", 0),
+// The longest body without its last byte and with one more, 17 gids, 256 bytes of machine name, and padding that is not
+// zero.
+static NO_BODIES: [&[Part]; 5] = [
+    &[
+        Digits("00000001000000ff"),
+        Again(97, 255),
+        Digits("00000000020000000300000010"),
+        Again(0, 63),
+    ],
+    &[
+        Digits("00000001000000ff"),
+        Again(97, 255),
+        Digits("00000000020000000300000010"),
+        Again(0, 65),
+    ],
+    &[
+        Digits("0000000000000000000000000000000000000011"),
+        Again(0, 68),
+    ],
+    &[Digits("0000000000000100"), Again(0, 268)],
+    &[Digits("0000000000000003626f7801000003e80000006400000000")],
 ];
 
+/// Whether the bytes are no body.
+fn is_none(alloc: Global, parts: &[Part]) -> Option<bool> {
+    let bytes = joined(alloc, parts)?;
+    Some(read_auth_sys(alloc, &bytes) == Ok(None))
+}
+
 #[test]
-fn reads_no_other_bodies(rt: HostRuntime) -> Result<(), Fail> {
-    for (text, zeros) in &NO_BODIES {
-        assert!(rt; is_none_with_zeros(rt, *text, *zeros)?, "{text}");
+fn reads_no_other_bodies(rt: HostRuntime) {
+    for (number, parts) in NO_BODIES.iter().enumerate() {
+        assert!(rt;
+            is_none(rt.alloc(), parts) == Some(true),
+            "the row {number}"
+        );
     }
-    Ok(())
 }

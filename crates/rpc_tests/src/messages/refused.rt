@@ -1,206 +1,192 @@
-//! What is answered where memory is refused: `NoMemory` or the whole answer, and never another.
+//! What is answered where memory is refused: want of memory or the whole answer, and never another.
 
-use crate::messages::bytes::{bytes_of, first};
-use crate::messages::calls::{NULL_CALL, whole_call};
-use crate::messages::plain::{body_in, call_in, reply_in};
+use crate::messages::calls::{self, Other, other_in};
+use crate::messages::parts::Part::Digits;
+use crate::messages::parts::bytes_of;
+use crate::messages::{credentials, replies};
+use growths::{allow, refuse, take_all};
 use rpc_message::{
-    AuthSys, Call, CallRead, NoMemory, Reply, ReplyFault, Why, write_auth_sys, write_call,
-    write_reply,
+    AuthSys, Call, CallRead, NoMemory, Reply, ReplyFault, read_auth_sys, read_call, read_reply,
 };
-use std::test::*;
+use std::alloc::Global;
+use std::env::Env;
 
-/// The call of the null procedure with an AUTH_SYS credential and four bytes of arguments.
-const CALL: &str = "000000010000000000000002000186a00000000200000000000000010000001c\
-    0000000000000003626f7800000003e800000064000000010000006400000000000000000000002a";
-
-const AUTH_SYS: &str = "0000000000000003626f7800000003e8000000640000000100000064";
-
-const REPLY: &str = "000000010000000100000000000000020000000161000000000000000000002a";
-
-const DENIED_REPLY: &str = "0000000100000001000000010000000100000063";
-
-/// The reason that `DENIED_REPLY` spells.
-const DENIED: Why = Why::AuthError(99);
-
-/// What the bytes are as a call, read without memory.
-fn call_in_none(rt: HostRuntime, bytes: &[u8]) -> Result<Result<CallRead, NoMemory>, Fail> {
-    let _kept = growths::take_all(rt.alloc())?;
-    Ok(call_in(rt.alloc(), bytes))
+/// What bytes are read as.
+#[derive(Clone, Copy)]
+enum Shape {
+    Call,
+    Reply,
+    Body,
 }
 
-/// What the bytes are as a reply, read without memory.
-fn reply_in_none(rt: HostRuntime, bytes: &[u8]) -> Result<Result<Reply, ReplyFault>, Fail> {
-    let _kept = growths::take_all(rt.alloc())?;
-    Ok(reply_in(rt.alloc(), bytes))
+/// What was read.
+#[derive(Drop)]
+enum Message {
+    Call(Call),
+    Reply(Reply),
+    Body(AuthSys),
 }
 
-/// Whether the bytes are read as this without memory.
-fn is_told(rt: HostRuntime, bytes: &[u8], read: CallRead) -> Result<bool, Fail> {
-    Ok(call_in_none(rt, bytes)? == Ok(read))
-}
+// Bytes, and whether reading them takes memory: the call of the null procedure with an AUTH_SYS credential and four
+// bytes of arguments, that credential's body, an accepted reply with a verifier and results, and a denied one.
+static ROWS: [(&str, Shape, bool); 4] = [
+    (
+        "000000010000000000000002000186a00000000200000000000000010000001c\
+        0000000000000003626f7800000003e800000064000000010000006400000000000000000000002a",
+        Shape::Call,
+        true,
+    ),
+    (
+        "0000000000000003626f7800000003e8000000640000000100000064",
+        Shape::Body,
+        true,
+    ),
+    (
+        "000000010000000100000000000000020000000161000000000000000000002a",
+        Shape::Reply,
+        true,
+    ),
+    (
+        "0000000100000001000000010000000100000063",
+        Shape::Reply,
+        false,
+    ),
+];
 
-// The cases that take no memory are answered with none at all, and a call that is cut too.
-#[test]
-fn tells_cases_without_memory(rt: HostRuntime) -> Result<(), Fail> {
-    let call = bytes_of(rt, NULL_CALL)?;
-    let later = bytes_of(rt, "000000020000000000000003")?;
-    let other = CallRead::OtherVersion { xid: 2, version: 3 };
-    assert!(rt; is_told(rt, first(&call, 11)?, CallRead::NotACall)?);
-    assert!(rt; is_told(rt, &later, other)?);
-    assert!(rt; is_told(rt, first(&call, 24)?, CallRead::BadCred { xid: 1 })?);
-    assert!(rt; is_told(rt, first(&call, 32)?, CallRead::BadVerf { xid: 1 })?);
-    Ok(())
-}
-
-#[test]
-fn reads_a_denied_reply_without_memory(rt: HostRuntime) -> Result<(), Fail> {
-    let bytes = bytes_of(rt, DENIED_REPLY)?;
-    let denied = Reply::Denied {
-        xid: 1,
-        why: DENIED,
-    };
-    assert!(rt; reply_in_none(rt, &bytes)? == Ok(denied));
-    Ok(())
-}
-
-/// The body of AUTH_SYS that the bytes are, read without memory.
-fn body_in_none(rt: HostRuntime, bytes: &[u8]) -> Result<Result<Option<AuthSys>, NoMemory>, Fail> {
-    let _kept = growths::take_all(rt.alloc())?;
-    Ok(body_in(rt.alloc(), bytes))
-}
-
-/// The bytes of the denied reply, written without memory.
-fn written_in_none(rt: HostRuntime) -> Result<Result<Vec<u8>, NoMemory>, Fail> {
-    let denied = Reply::Denied {
-        xid: 1,
-        why: DENIED,
-    };
-    let _kept = growths::take_all(rt.alloc())?;
-    Ok(write_reply(rt.alloc(), &denied))
-}
-
-// With no memory at all each call that needs some says so.
-#[test]
-fn wants_memory(rt: HostRuntime) -> Result<(), Fail> {
-    let call = bytes_of(rt, CALL)?;
-    let reply = bytes_of(rt, REPLY)?;
-    let body = bytes_of(rt, AUTH_SYS)?;
-    assert!(rt; call_in_none(rt, &call)? == Err(NoMemory));
-    assert!(rt; reply_in_none(rt, &reply)? == Err(ReplyFault::NoMemory));
-    assert!(rt; body_in_none(rt, &body)? == Err(NoMemory));
-    assert!(rt; written_in_none(rt)? == Err(NoMemory));
-    Ok(())
-}
-
-/// Whether the bytes are read as the same call where this growth is refused, or want memory where it can be.
-fn reads_call(rt: HostRuntime, bytes: &[u8], refused: u64) -> Result<bool, Fail> {
-    let can_refuse = growths::refuse(rt.alloc(), &rt, refused)?;
-    let call = call_in(rt.alloc(), bytes);
-    growths::allow(&rt);
-    Ok(call == call_in(rt.alloc(), bytes) || (can_refuse && call == Err(NoMemory)))
-}
-
-/// The same of a reply.
-fn reads_reply(rt: HostRuntime, bytes: &[u8], refused: u64) -> Result<bool, Fail> {
-    let can_refuse = growths::refuse(rt.alloc(), &rt, refused)?;
-    let reply = reply_in(rt.alloc(), bytes);
-    growths::allow(&rt);
-    Ok(reply == reply_in(rt.alloc(), bytes) || (can_refuse && reply == Err(ReplyFault::NoMemory)))
-}
-
-/// The same of a body of AUTH_SYS.
-fn reads_body(rt: HostRuntime, bytes: &[u8], refused: u64) -> Result<bool, Fail> {
-    let can_refuse = growths::refuse(rt.alloc(), &rt, refused)?;
-    let sys = body_in(rt.alloc(), bytes);
-    growths::allow(&rt);
-    Ok(sys == body_in(rt.alloc(), bytes) || (can_refuse && sys == Err(NoMemory)))
-}
-
-// Each growth of reading is refused in turn, where something refuses them.
-#[test]
-fn meets_refused_growths(rt: HostRuntime) -> Result<(), Fail> {
-    let call = bytes_of(rt, CALL)?;
-    let reply = bytes_of(rt, REPLY)?;
-    let body = bytes_of(rt, AUTH_SYS)?;
-    for refused in 1..24 {
-        assert!(rt; reads_call(rt, &call, refused)?, "growth {refused}");
-        assert!(rt; reads_reply(rt, &reply, refused)?, "growth {refused}");
-        assert!(rt; reads_body(rt, &body, refused)?, "growth {refused}");
-    }
-    Ok(())
-}
-
-/// These bytes, or `NoMemory` where a growth can be refused.
-fn is_or_wants_memory(written: Result<Vec<u8>, NoMemory>, bytes: &[u8], can_refuse: bool) -> bool {
-    match written {
-        Ok(text) => text.as_slice() == bytes,
-        Err(NoMemory) => can_refuse,
+/// What the bytes are, where memory is there.
+fn message_in(alloc: Global, shape: Shape, bytes: &[u8]) -> Option<Message> {
+    match shape {
+        Shape::Call => match read_call(alloc, bytes) {
+            Ok(CallRead::Whole(call)) => Some(Message::Call(call)),
+            _ => None,
+        },
+        Shape::Reply => match read_reply(alloc, bytes) {
+            Ok(reply) => Some(Message::Reply(reply)),
+            Err(_) => None,
+        },
+        Shape::Body => match read_auth_sys(alloc, bytes) {
+            Ok(Some(body)) => Some(Message::Body(body)),
+            _ => None,
+        },
     }
 }
 
-/// Whether the call is written to these bytes where this growth is refused, or wants memory where it can be.
-fn writes_call(rt: HostRuntime, call: &Call, bytes: &[u8], refused: u64) -> Result<bool, Fail> {
-    if 400 < call.cred.body.len() || 400 < call.verf.body.len() {
-        return Err(Fail::from("too long a body"));
-    }
-    let can_refuse = growths::refuse(rt.alloc(), &rt, refused)?;
-    let written = write_call(rt.alloc(), call);
-    growths::allow(&rt);
-    Ok(is_or_wants_memory(written, bytes, can_refuse))
-}
-
-/// The same of a body of AUTH_SYS.
-fn writes_body(rt: HostRuntime, sys: &AuthSys, bytes: &[u8], refused: u64) -> Result<bool, Fail> {
-    if 255 < sys.machine.len() || 16 < sys.gids.len() {
-        return Err(Fail::from("too long a body"));
-    }
-    let can_refuse = growths::refuse(rt.alloc(), &rt, refused)?;
-    let written = write_auth_sys(rt.alloc(), sys);
-    growths::allow(&rt);
-    Ok(is_or_wants_memory(written, bytes, can_refuse))
-}
-
-/// The same of the denied reply.
-fn writes_reply(rt: HostRuntime, bytes: &[u8], refused: u64) -> Result<bool, Fail> {
-    let denied = Reply::Denied {
-        xid: 1,
-        why: DENIED,
-    };
-    let can_refuse = growths::refuse(rt.alloc(), &rt, refused)?;
-    let written = write_reply(rt.alloc(), &denied);
-    growths::allow(&rt);
-    Ok(is_or_wants_memory(written, bytes, can_refuse))
-}
-
-/// The body of AUTH_SYS that the bytes are.
-fn whole_body(rt: HostRuntime, bytes: &[u8]) -> Result<AuthSys, Fail> {
-    match body_in(rt.alloc(), bytes)? {
-        Some(sys) => Ok(sys),
-        None => Err(Fail::from("no body of AUTH_SYS")),
+/// Whether the bytes are read as this message, or `None` for want of memory.
+fn reads(alloc: Global, message: &Message, bytes: &[u8]) -> Option<bool> {
+    match message {
+        Message::Call(call) => match read_call(alloc, bytes) {
+            Ok(CallRead::Whole(again)) => Some(again == *call),
+            Ok(_) => Some(false),
+            Err(NoMemory) => None,
+        },
+        Message::Reply(reply) => match read_reply(alloc, bytes) {
+            Ok(again) => Some(again == *reply),
+            Err(ReplyFault::NoMemory) => None,
+            Err(_) => Some(false),
+        },
+        Message::Body(body) => match read_auth_sys(alloc, bytes) {
+            Ok(Some(again)) => Some(again == *body),
+            Ok(None) => Some(false),
+            Err(NoMemory) => None,
+        },
     }
 }
 
-// The same of writing.
+/// The bytes that the message is written to, or `None` for want of memory; of a verifier that is too long, none.
+fn written(alloc: Global, message: &Message) -> Option<Vec<u8>> {
+    match message {
+        Message::Call(call) => calls::written(alloc, call),
+        Message::Reply(reply) => replies::written(alloc, reply),
+        Message::Body(body) => credentials::written(alloc, body),
+    }
+}
+
+/// Whether the message is written to these bytes, or `None` for want of memory.
+fn writes(alloc: Global, message: &Message, bytes: &[u8]) -> Option<bool> {
+    let text = written(alloc, message)?;
+    Some(text.as_slice() == bytes)
+}
+
+/// The greatest growth that is refused, past all that reading or writing a row takes.
+const PAST_ALL: u64 = 24;
+
+/// Whether a row is read and written right where this growth of each was refused.
+fn is_right(
+    alloc: Global,
+    rt: &impl Env,
+    row: &(&'static str, Shape, bool),
+    number: u64,
+) -> Option<bool> {
+    let (digits, shape, _) = row;
+    let bytes = bytes_of(alloc, Digits(digits))?;
+    let message = message_in(alloc, *shape, &bytes)?;
+    let refuses = refuse(alloc, rt, number).ok()? && number < PAST_ALL;
+    let read = reads(alloc, &message, &bytes);
+    allow(rt);
+    refuse(alloc, rt, number).ok()?;
+    let wrote = writes(alloc, &message, &bytes);
+    allow(rt);
+    Some(read.unwrap_or(refuses) && wrote.unwrap_or(refuses))
+}
+
 #[test]
-fn meets_refused_writes(rt: HostRuntime) -> Result<(), Fail> {
-    let call_bytes = bytes_of(rt, CALL)?;
-    let body_bytes = bytes_of(rt, AUTH_SYS)?;
-    let denied_bytes = bytes_of(rt, DENIED_REPLY)?;
-    let call = whole_call(rt, CALL)?;
-    let body = whole_body(rt, &body_bytes)?;
-    for refused in 1..24 {
+fn meets_refused_growths(rt: HostRuntime) {
+    for number in 1..=PAST_ALL {
+        for row in &ROWS {
+            let right = is_right(rt.alloc(), &rt, row, number);
+            assert!(rt; right == Some(true), "the growth {number}");
+        }
+    }
+}
+
+/// Whether a row is written for want of memory alone where there is none, and read where that takes none.
+fn wants_memory(alloc: Global, row: &(&'static str, Shape, bool)) -> Option<bool> {
+    let (digits, shape, takes) = row;
+    let bytes = bytes_of(alloc, Digits(digits))?;
+    let message = message_in(alloc, *shape, &bytes)?;
+    let _kept = take_all(alloc).ok()?;
+    let read = reads(alloc, &message, &bytes);
+    let wanted = if *takes { None } else { Some(true) };
+    Some(read == wanted && writes(alloc, &message, &bytes).is_none())
+}
+
+#[test]
+fn wants_memory_where_there_is_none(rt: HostRuntime) {
+    for (number, row) in ROWS.iter().enumerate() {
         assert!(rt;
-            writes_call(rt, &call, &call_bytes, refused)?,
-            "growth {refused}"
-        );
-        assert!(rt;
-            writes_body(rt, &body, &body_bytes, refused)?,
-            "growth {refused}"
-        );
-        assert!(rt;
-            writes_reply(rt, &denied_bytes, refused)?,
-            "growth {refused}"
+            wants_memory(rt.alloc(), row) == Some(true),
+            "the row {number}"
         );
     }
-    Ok(())
+}
+
+// Less than a version, another version, and the null call ended after 24 and after 32 bytes.
+static OTHERS: [(&str, Other); 4] = [
+    ("0000000100000000000000", Other::NotACall),
+    ("000000020000000000000003", Other::Version(2, 3)),
+    (
+        "000000010000000000000002000186a00000000200000000",
+        Other::BadCred(1),
+    ),
+    (
+        "000000010000000000000002000186a000000002000000000000000000000000",
+        Other::BadVerf(1),
+    ),
+];
+
+/// What the digits are, without memory.
+fn other_in_none(alloc: Global, digits: &'static str) -> Option<Other> {
+    let bytes = bytes_of(alloc, Digits(digits))?;
+    let _kept = take_all(alloc).ok()?;
+    other_in(alloc, &bytes)
+}
+
+#[test]
+fn tells_cases_without_memory(rt: HostRuntime) {
+    for (digits, wanted) in &OTHERS {
+        assert!(rt;
+            other_in_none(rt.alloc(), digits) == Some(*wanted),
+            "{digits}"
+        );
+    }
 }

@@ -2,12 +2,11 @@
 use growths::take_all;
 use rpc_directory::{NoMemory, Uaddr, read_uaddr, write_uaddr};
 use std::alloc::Global;
-use std::test::Fail;
 
 /// A text and its address.
 type Row = (&'static [u8], Uaddr);
 
-static ROWS: [Row; 2] = [
+static ROWS: [Row; 3] = [
     (
         b"255.255.255.255.255.255",
         Uaddr {
@@ -20,6 +19,13 @@ static ROWS: [Row; 2] = [
         Uaddr {
             host: [0; 4],
             port: 111,
+        },
+    ),
+    (
+        b"192.0.2.7.8.1",
+        Uaddr {
+            host: [192, 0, 2, 7],
+            port: 2049,
         },
     ),
 ];
@@ -54,15 +60,18 @@ fn writes_texts(rt: HostRuntime) {
     }
 }
 
-// Reading needs no memory, and writing says when it has none.
+/// Whether a text is read without memory, and writing it says that there is none.
+fn wants_memory(alloc: Global, text: &[u8], address: Uaddr) -> Option<bool> {
+    let _kept = take_all(alloc).ok()?;
+    Some(read_uaddr(text) == Some(address) && matches!(write_uaddr(alloc, address), Err(NoMemory)))
+}
+
 #[test]
-fn addresses_meet_want_of_memory(rt: HostRuntime) -> Result<(), Fail> {
-    let (text, address) = ROWS[1];
-    let (read, written) = {
-        let _kept = take_all(rt.alloc())?;
-        (read_uaddr(text), write_uaddr(rt.alloc(), address))
-    };
-    assert!(rt; read == Some(address));
-    assert!(rt; matches!(written, Err(NoMemory)));
-    Ok(())
+fn addresses_meet_want_of_memory(rt: HostRuntime) {
+    for (row, (text, address)) in ROWS.iter().enumerate() {
+        assert!(rt;
+            wants_memory(rt.alloc(), text, *address) == Some(true),
+            "the row {row}"
+        );
+    }
 }

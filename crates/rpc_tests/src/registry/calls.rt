@@ -76,7 +76,12 @@ pub enum Call {
 
 /// The registry's own rows, at port 111.
 pub fn started(alloc: Global) -> Result<Registry, NoMemory> {
-    Directory::start(alloc, BuildHasherDefault::new(), 111)
+    started_at(alloc, 111)
+}
+
+/// The registry's own rows, at this port.
+pub fn started_at(alloc: Global, port: u16) -> Result<Registry, NoMemory> {
+    Directory::start(alloc, BuildHasherDefault::new(), port)
 }
 
 /// A registry without rows.

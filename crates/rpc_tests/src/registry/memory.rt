@@ -5,7 +5,6 @@ use crate::registry::calls::{
 use growths::take_all;
 use rpc_directory::directory_schema;
 use std::alloc::Global;
-use std::test::Fail;
 
 // The calls that take memory.
 const TAKING: [Call; 4] = [
@@ -38,17 +37,18 @@ fn want_memory(alloc: Global, directory: &mut Registry) -> bool {
     directory_schema(alloc).is_err() && started(alloc).is_err() && empty(alloc).rows() == 0
 }
 
+/// How many of the calls that take none are answered right where there is none, and all others want some.
+fn right_in_none(alloc: Global) -> Option<usize> {
+    let mut directory = started(alloc).ok()?;
+    let _kept = take_all(alloc).ok()?;
+    if want_memory(alloc, &mut directory) {
+        Some(right_calls(alloc, &mut directory, &TAKING_NONE))
+    } else {
+        None
+    }
+}
+
 #[test]
-fn needs_no_memory_to_look_up_and_remove(rt: HostRuntime) -> Result<(), Fail> {
-    let mut directory = started(rt.alloc())?;
-    let (wanted, right) = {
-        let _kept = take_all(rt.alloc())?;
-        let wanted = want_memory(rt.alloc(), &mut directory);
-        (
-            wanted,
-            right_calls(rt.alloc(), &mut directory, &TAKING_NONE),
-        )
-    };
-    assert!(rt; wanted && right == TAKING_NONE.len());
-    Ok(())
+fn needs_no_memory_to_look_up_and_remove(rt: HostRuntime) {
+    assert_eq!(rt; right_in_none(rt.alloc()), Some(TAKING_NONE.len()));
 }

@@ -5,7 +5,7 @@ use crate::registry::calls::Call::{
 use crate::registry::calls::Owner::{
     GreatestUser, Superuser, Unknown, User100, User1000, User1001,
 };
-use crate::registry::calls::{Call, EVERY_HOST, empty, right_calls, started};
+use crate::registry::calls::{Call, EVERY_HOST, empty, right_calls, started_at};
 use crate::registry::dumps::Field;
 use crate::registry::dumps::Field::{Number, Text};
 use std::alloc::Global;
@@ -183,21 +183,54 @@ const ADDRESSES: [Call; 12] = [
     DumpPorts(&[&[Number(9), Number(2), Number(17), Number(1286)]]),
 ];
 
-const TABLES: [&[Call]; 9] = [
-    &OWN_FOUND,
-    &OWN_DUMPS,
-    &LENGTHS,
-    &PORTS,
-    &SET_TWICE,
-    &UNSET_PORTS,
-    &OWNERS,
-    &VERSIONS,
-    &ADDRESSES,
+// The registry's own rows at port 2049.
+const OTHER_PORT: [Call; 8] = [
+    Rows(3),
+    Row(0, (100000, 2, TCP), b"0.0.0.0.8.1", Superuser),
+    Row(1, (100000, 3, TCP), b"0.0.0.0.8.1", Superuser),
+    Row(2, (100000, 4, TCP), b"0.0.0.0.8.1", Superuser),
+    Port((100000, 2, 6), 2049),
+    Port((100000, 3, 6), 2049),
+    Port((100000, 4, 6), 2049),
+    DumpPorts(&[
+        &[Number(100000), Number(2), Number(6), Number(2049)],
+        &[Number(100000), Number(3), Number(6), Number(2049)],
+        &[Number(100000), Number(4), Number(6), Number(2049)],
+    ]),
 ];
 
-/// How many calls of a table a started registry answers as wanted, up to the first that it does not.
-fn right_from_start(alloc: Global, calls: &[Call]) -> usize {
-    match started(alloc) {
+// The registry's own rows at the greatest port and at port 0.
+const GREATEST_PORT: [Call; 3] = [
+    Row(2, (100000, 4, TCP), b"0.0.0.0.255.255", Superuser),
+    Port((100000, 4, 6), 65535),
+    Rows(3),
+];
+
+const PORT_0: [Call; 3] = [
+    Address((100000, 4, TCP), b"0.0.0.0.0.0"),
+    Port((100000, 4, 6), 0),
+    Rows(3),
+];
+
+// The port at which a registry is started, and the calls on it.
+const TABLES: [(u16, &[Call]); 12] = [
+    (111, &OWN_FOUND),
+    (111, &OWN_DUMPS),
+    (111, &LENGTHS),
+    (111, &PORTS),
+    (111, &SET_TWICE),
+    (111, &UNSET_PORTS),
+    (111, &OWNERS),
+    (111, &VERSIONS),
+    (111, &ADDRESSES),
+    (2049, &OTHER_PORT),
+    (65535, &GREATEST_PORT),
+    (0, &PORT_0),
+];
+
+/// How many calls of a table a registry started at the port answers as wanted, up to the first that it does not.
+fn right_from_start(alloc: Global, port: u16, calls: &[Call]) -> usize {
+    match started_at(alloc, port) {
         Ok(mut directory) => right_calls(alloc, &mut directory, calls),
         Err(_) => 0,
     }
@@ -205,8 +238,8 @@ fn right_from_start(alloc: Global, calls: &[Call]) -> usize {
 
 #[test]
 fn answers_as_its_tables_say(rt: HostRuntime) {
-    for (table, calls) in TABLES.iter().enumerate() {
-        let right = right_from_start(rt.alloc(), calls);
+    for (table, (port, calls)) in TABLES.iter().enumerate() {
+        let right = right_from_start(rt.alloc(), *port, calls);
         assert!(rt; right == calls.len(), "the call {right} of table {table}");
     }
 }
