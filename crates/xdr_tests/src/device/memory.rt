@@ -1,6 +1,6 @@
 //! Growths that are refused.
 use std::alloc::Global;
-use std::test::Fail;
+use std::env::Env;
 use xdr_io::{InputFault, MemorySource, read_past};
 
 const INPUT: [u8; 9000] = [7; 9000];
@@ -18,23 +18,29 @@ fn is_well(got: Result<Vec<u8>, InputFault>, can_refuse: bool) -> bool {
     }
 }
 
-#[test]
-fn growths_are_refused_in_turn(rt: HostRuntime) -> Result<(), Fail> {
-    for refused in 1..20 {
-        let can_refuse = growths::refuse(rt.alloc(), &rt, refused)?;
-        let got = read_all(rt.alloc());
-        growths::allow(&rt);
-        assert!(rt; is_well(got, can_refuse), "the growth {refused}");
-    }
-    Ok(())
+/// The same where this growth is refused.
+fn is_well_in_turn(alloc: Global, rt: &impl Env, refused: u64) -> Option<bool> {
+    let can_refuse = growths::refuse(alloc, rt, refused).ok()?;
+    let got = read_all(alloc);
+    growths::allow(rt);
+    Some(is_well(got, can_refuse))
 }
 
 #[test]
-fn reading_wants_memory(rt: HostRuntime) -> Result<(), Fail> {
-    let got = {
-        let _kept = growths::take_all(rt.alloc())?;
-        read_all(rt.alloc())
-    };
-    assert!(rt; got == Err(InputFault::NoMemory));
-    Ok(())
+fn growths_are_refused_in_turn(rt: HostRuntime) {
+    for refused in 1..20 {
+        let well = is_well_in_turn(rt.alloc(), &rt, refused);
+        assert!(rt; well == Some(true), "the growth {refused}");
+    }
+}
+
+/// Whether reading wants memory where there is none.
+fn wants_memory(alloc: Global) -> Option<bool> {
+    let _kept = growths::take_all(alloc).ok()?;
+    Some(read_all(alloc) == Err(InputFault::NoMemory))
+}
+
+#[test]
+fn reading_wants_memory(rt: HostRuntime) {
+    assert!(rt; wants_memory(rt.alloc()) == Some(true));
 }

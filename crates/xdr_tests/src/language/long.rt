@@ -1,7 +1,7 @@
 //! Texts that are too long, nested too deep, or declare too much, and the greatest that are not.
 use crate::language::refusals::is_refused;
 use std::alloc::{AllocError, Global};
-use xdr_lang::{MAX_TEXT, read};
+use xdr_lang::{Declared, MAX_TEXT, read};
 
 /// The text is read, where the wanted fault is 0, or refused with that fault.
 fn is_answered(alloc: Global, text: &[u8], wanted: [usize; 4]) -> bool {
@@ -131,4 +131,51 @@ fn declare(alloc: Global, count: usize, wanted: [usize; 4]) -> Result<bool, Allo
 fn too_many_kinds_are_refused(rt: HostRuntime) {
     assert!(rt; declare(rt.alloc(), 1016, [0, 0, 0, 0]) == Ok(true));
     assert!(rt; declare(rt.alloc(), 1017, [10, 8, 1, 1]) == Ok(true));
+}
+
+/// What stands before each number, twice, and what stands before and after all of them.
+type Long = [&'static str; 4];
+
+// An enumeration of 10,000 members, and 10,000 constants, each with a number of its own from 0.
+static LONG: [Long; 2] = [
+    [", n", " = ", "enum e { n = 0", " };"],
+    ["; const n", " = ", "const n = 0", ";"],
+];
+
+/// The text of a row.
+fn long(alloc: Global, row: &Long) -> Result<Vec<u8>, AllocError> {
+    let [name, number_of, before, after] = row;
+    let mut text = Vec::from_slice(alloc, before.as_bytes())?;
+    for number in 1..10000 {
+        let piece = format!(in alloc; "{name}{number}{number_of}{number}")?;
+        text.extend_from_slice(piece.as_bytes())?;
+    }
+    text.extend_from_slice(after.as_bytes())?;
+    Ok(text)
+}
+
+/// After TRUE and FALSE the constants are the numbers below 10,000.
+fn has_each_number(declared: &Declared) -> bool {
+    let mut wanted: i128 = -2;
+    for (_, number) in &declared.constants {
+        if 0 <= wanted && *number != wanted {
+            return false;
+        }
+        wanted = wanted.saturating_add(1);
+    }
+    wanted == 10000
+}
+
+/// The text of a row is read, and declares its numbers.
+fn declares_each(alloc: Global, row: &Long) -> Option<bool> {
+    let text = long(alloc, row).ok()?;
+    let declared = read(alloc, &text).ok()?;
+    Some(has_each_number(&declared))
+}
+
+#[test]
+fn ten_thousand_names_are_declared(rt: HostRuntime) {
+    for row in &LONG {
+        assert!(rt; declares_each(rt.alloc(), row) == Some(true));
+    }
 }

@@ -33,16 +33,6 @@ pub fn structure(alloc: Global, name: &str, place: u32) -> Result<Kind, AllocErr
     })
 }
 
-/// A union over the kind at place 0 with one arm.
-pub fn union(alloc: Global, cases: [i64; 2], place: u32) -> Result<Kind, AllocError> {
-    let only = arm(alloc, cases, "x", place)?;
-    Ok(Kind::Choice {
-        tag: id(0),
-        arms: vec![in alloc; only]?,
-        other: None,
-    })
-}
-
 /// What is wrong with kinds that have no names.
 pub fn refusal(alloc: Global, kinds: Vec<Kind>) -> Option<(Flaw, usize)> {
     match Schema::build(alloc, kinds, Vec::new(alloc)) {

@@ -1,23 +1,67 @@
-// Long lists, with nothing twice and with a name or a case twice far apart.
+// Long lists, with nothing twice and with a name or a case twice far apart, as rows.
 use crate::types::made::{arm, id, member, refusal, structure};
 use std::alloc::{AllocError, Global};
 use std::string::String;
-use std::test::Fail;
 use xdr_types::{Arm, Flaw, Kind, KindId, Member, Schema};
+
+// A long list. Its entries have the names n0, n1 and so on, and its last one has its own.
+enum Many {
+    // So many fields of a structure.
+    Fields(u32, &'static str),
+    // So many arms of a union with two cases of their own each, and with names or without; a last one with these cases.
+    Arms(u32, bool, [i64; 2], &'static str),
+    // So many arms with names, and a default.
+    Default(u32, &'static str),
+    // So many names for an int.
+    Names(u32, &'static str),
+    // So many structures that each hold the next, and an int at the end.
+    Chain(u32),
+}
+
+const ROWS: [(Many, Option<(Flaw, usize)>); 15] = [
+    (Many::Fields(1999, "x"), None),
+    (Many::Fields(1999, "n0"), Some((Flaw::NameTwice, 1))),
+    (Many::Arms(1999, true, [9000, 9001], "x"), None),
+    (Many::Arms(1999, false, [9000, 9001], ""), None),
+    (
+        Many::Arms(1999, false, [9000, 0], ""),
+        Some((Flaw::CaseTwice, 1)),
+    ),
+    (
+        Many::Arms(1999, false, [9000, 9000], ""),
+        Some((Flaw::CaseTwice, 1)),
+    ),
+    (
+        Many::Arms(1999, false, [5000, 9000], ""),
+        Some((Flaw::CaseTwice, 1)),
+    ),
+    (
+        Many::Arms(1999, true, [9000, 9001], "n0"),
+        Some((Flaw::NameTwice, 1)),
+    ),
+    (Many::Default(2000, ""), None),
+    (Many::Default(2000, "x"), None),
+    (Many::Default(2000, "n0"), Some((Flaw::NameTwice, 1))),
+    (Many::Names(1999, "x"), None),
+    (Many::Names(1999, "n0"), Some((Flaw::NameTwice, 1999))),
+    (Many::Chain(1023), None),
+    (Many::Chain(1024), Some((Flaw::TooManyKinds, 0))),
+];
 
 // A name for each number.
 fn numbered(alloc: Global, number: u32) -> Result<String, AllocError> {
     format!(in alloc; "n{number}")
 }
 
-// So many fields with names of their own.
-fn fields(alloc: Global, count: u32) -> Result<Vec<Member>, AllocError> {
+// So many fields with names of their own, and one of this name.
+fn fields(alloc: Global, count: u32, last: &str) -> Result<Kind, AllocError> {
     let mut fields = Vec::new(alloc);
     for number in 0..count {
         let name = numbered(alloc, number)?;
         fields.push(Member { name, kind: id(0) })?;
     }
-    Ok(fields)
+    fields.push(member(alloc, last, 0)?)?;
+    Ok(Kind::Structure { fields })
 }
 
 // So many arms with two cases of their own, and names of their own or none.
@@ -33,35 +77,28 @@ fn arms(alloc: Global, count: u32, has_names: bool) -> Result<Vec<Arm>, AllocErr
     Ok(arms)
 }
 
-// So many names of their own for an int.
-fn names(alloc: Global, count: u32) -> Result<Vec<(String, KindId)>, AllocError> {
+// A union over an int.
+fn choice(arms: Vec<Arm>, other: Option<Member>) -> Kind {
+    Kind::Choice {
+        tag: id(0),
+        arms,
+        other,
+    }
+}
+
+// So many names of their own for an int, and one more.
+fn names(alloc: Global, count: u32, last: &str) -> Result<Vec<(String, KindId)>, AllocError> {
     let mut names = Vec::new(alloc);
     for number in 0..count {
         names.push((numbered(alloc, number)?, id(0)))?;
     }
+    names.push((String::from_str(alloc, last)?, id(0)))?;
     Ok(names)
 }
 
-// What is wrong with an int and a structure.
-fn of_fields(alloc: Global, fields: Vec<Member>) -> Result<Option<(Flaw, usize)>, AllocError> {
-    Ok(refusal(
-        alloc,
-        vec![in alloc; Kind::Int, Kind::Structure { fields }]?,
-    ))
-}
-
-// What is wrong with an int and a union over it.
-fn of_arms(
-    alloc: Global,
-    arms: Vec<Arm>,
-    other: Option<Member>,
-) -> Result<Option<(Flaw, usize)>, AllocError> {
-    let choice = Kind::Choice {
-        tag: id(0),
-        arms,
-        other,
-    };
-    Ok(refusal(alloc, vec![in alloc; Kind::Int, choice]?))
+// What is wrong with an int and another kind.
+fn beside_an_int(alloc: Global, kind: Kind) -> Result<Option<(Flaw, usize)>, AllocError> {
+    Ok(refusal(alloc, vec![in alloc; Kind::Int, kind]?))
 }
 
 // What is wrong with names for an int.
@@ -75,87 +112,37 @@ fn of_names(
     }
 }
 
-#[test]
-fn accepts_many_fields(rt: HostRuntime) -> Result<(), Fail> {
-    let alloc = rt.alloc();
-    assert!(rt; of_fields(alloc, fields(alloc, 2000)?)?.is_none());
-    Ok(())
-}
-
-#[test]
-fn refuses_the_first_field_again_at_the_end(rt: HostRuntime) -> Result<(), Fail> {
-    let alloc = rt.alloc();
-    let mut many = fields(alloc, 1999)?;
-    many.push(member(alloc, "n0", 0)?)?;
-    assert!(rt; of_fields(alloc, many)? == Some((Flaw::NameTwice, 1)));
-    Ok(())
-}
-
-#[test]
-fn accepts_many_arms(rt: HostRuntime) -> Result<(), Fail> {
-    let alloc = rt.alloc();
-    for has_names in [true, false] {
-        let many = arms(alloc, 2000, has_names)?;
-        let other = member(alloc, "", 0)?;
-        assert!(rt; of_arms(alloc, many, Some(other))?.is_none());
-    }
-    Ok(())
-}
-
-#[test]
-fn refuses_the_first_case_again_at_the_end(rt: HostRuntime) -> Result<(), Fail> {
-    let alloc = rt.alloc();
-    for cases in [[9000, 0], [9000, 9000], [5000, 9000]] {
-        let mut many = arms(alloc, 1999, false)?;
-        many.push(arm(alloc, cases, "", 0)?)?;
-        assert!(rt; of_arms(alloc, many, None)? == Some((Flaw::CaseTwice, 1)));
-    }
-    Ok(())
-}
-
-#[test]
-fn refuses_the_first_arm_again_at_the_end(rt: HostRuntime) -> Result<(), Fail> {
-    let alloc = rt.alloc();
-    let mut many = arms(alloc, 1999, true)?;
-    many.push(arm(alloc, [9000, 9001], "n0", 0)?)?;
-    assert!(rt; of_arms(alloc, many, None)? == Some((Flaw::NameTwice, 1)));
-    let other = member(alloc, "n0", 0)?;
-    assert!(rt;
-        of_arms(alloc, arms(alloc, 2000, true)?, Some(other))? == Some((Flaw::NameTwice, 1))
-    );
-    Ok(())
-}
-
-#[test]
-fn accepts_many_names(rt: HostRuntime) -> Result<(), Fail> {
-    let alloc = rt.alloc();
-    assert!(rt; of_names(alloc, names(alloc, 2000)?)?.is_none());
-    Ok(())
-}
-
-#[test]
-fn refuses_the_first_name_again_at_the_end(rt: HostRuntime) -> Result<(), Fail> {
-    let alloc = rt.alloc();
-    let mut many = names(alloc, 1999)?;
-    many.push((numbered(alloc, 0)?, id(0)))?;
-    assert!(rt; of_names(alloc, many)? == Some((Flaw::NameTwice, 1999)));
-    Ok(())
-}
-
-// What is wrong with a chain of so many kinds: structures that each hold the next, and an int at the end.
-fn of_kinds(alloc: Global, count: u32) -> Result<Option<(Flaw, usize)>, AllocError> {
+// What is wrong with a chain of so many structures.
+fn of_chain(alloc: Global, count: u32) -> Result<Option<(Flaw, usize)>, AllocError> {
     let mut kinds = Vec::new(alloc);
-    for place in 1..count {
-        kinds.push(structure(alloc, "x", place)?)?;
+    for place in 0..count {
+        kinds.push(structure(alloc, "x", place.saturating_add(1))?)?;
     }
     kinds.push(Kind::Int)?;
     Ok(refusal(alloc, kinds))
 }
 
+// What is wrong with a long list.
+fn fault(alloc: Global, many: &Many) -> Result<Option<(Flaw, usize)>, AllocError> {
+    match many {
+        Many::Fields(count, last) => beside_an_int(alloc, fields(alloc, *count, last)?),
+        Many::Arms(count, has_names, cases, last) => {
+            let mut arms = arms(alloc, *count, *has_names)?;
+            arms.push(arm(alloc, *cases, last, 0)?)?;
+            beside_an_int(alloc, choice(arms, None))
+        }
+        Many::Default(count, name) => {
+            let other = member(alloc, name, 0)?;
+            beside_an_int(alloc, choice(arms(alloc, *count, true)?, Some(other)))
+        }
+        Many::Names(count, last) => of_names(alloc, names(alloc, *count, last)?),
+        Many::Chain(count) => of_chain(alloc, *count),
+    }
+}
+
 #[test]
-fn accepts_1024_kinds(rt: HostRuntime) -> Result<(), Fail> {
-    let alloc = rt.alloc();
-    assert!(rt; of_kinds(alloc, 1024)?.is_none());
-    assert!(rt; of_kinds(alloc, 1025)? == Some((Flaw::TooManyKinds, 0)));
-    Ok(())
+fn finds_what_is_twice_far_apart(rt: HostRuntime) {
+    for (row, (many, wanted)) in ROWS.iter().enumerate() {
+        assert!(rt; fault(rt.alloc(), many) == Ok(*wanted), "the row {row}");
+    }
 }

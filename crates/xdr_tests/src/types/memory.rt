@@ -3,8 +3,7 @@ use crate::types::made::{arm, has_kind, id, member, refusal, size_within};
 use growths::take_all;
 use std::alloc::{AllocError, Global};
 use std::string::String;
-use std::test::Fail;
-use xdr_types::{Flaw, Kind, Limits, Schema, Value};
+use xdr_types::{Flaw, Kind, Limits, Member, Schema, Value};
 
 // What the calls that take no memory say of three bytes as an opaque.
 fn answers(basic: &Schema, abc: &Value) -> bool {
@@ -15,85 +14,103 @@ fn answers(basic: &Schema, abc: &Value) -> bool {
         && abc == abc
 }
 
-#[test]
-fn answers_without_memory(rt: HostRuntime) -> Result<(), Fail> {
-    let alloc = rt.alloc();
-    let basic = Schema::basic(alloc)?;
-    let abc = Value::Bytes(vec![in alloc; 97u8, 98, 99]?);
-    let answered = {
-        let _kept = take_all(alloc)?;
-        answers(&basic, &abc) && abc.copy(alloc).is_err()
-    };
-    assert!(rt; answered);
-    Ok(())
+// Whether they say it without memory, and a copy wants some.
+fn answers_in_none(alloc: Global) -> Option<bool> {
+    let basic = Schema::basic(alloc).ok()?;
+    let abc = Value::Bytes(vec![in alloc; 97u8, 98, 99].ok()?);
+    let _kept = take_all(alloc).ok()?;
+    Some(answers(&basic, &abc) && abc.copy(alloc).is_err())
 }
 
 #[test]
-fn wants_memory(rt: HostRuntime) -> Result<(), Fail> {
-    let alloc = rt.alloc();
-    let kinds = vec![in alloc; Kind::Int]?;
-    let refused = {
-        let _kept = take_all(alloc)?;
-        refusal(alloc, kinds)
-    };
-    assert!(rt; refused == Some((Flaw::NoMemory, 0)));
-    Ok(())
+fn answers_without_memory(rt: HostRuntime) {
+    assert!(rt; answers_in_none(rt.alloc()) == Some(true));
 }
 
-// What is wrong with kinds, found while every growth is refused.
-fn refusal_without_memory(
-    alloc: Global,
-    kinds: Vec<Kind>,
-) -> Result<Option<(Flaw, usize)>, AllocError> {
+// Kinds that are refused.
+#[derive(Clone, Copy)]
+enum Refused {
+    // An int alone.
+    Int,
+    // A structure of two fields with one name.
+    Fields,
+    // A union of two arms, the second with these cases and this name; the first has 0, 1 and x.
+    Arms([i64; 2], &'static str),
+}
+
+// Of kinds that take memory to be read, and of those with a fault that takes none.
+const ROWS: [(Refused, Flaw, usize); 4] = [
+    (Refused::Int, Flaw::NoMemory, 0),
+    (Refused::Fields, Flaw::NameTwice, 1),
+    (Refused::Arms([2, 0], "y"), Flaw::CaseTwice, 1),
+    (Refused::Arms([2, 3], "x"), Flaw::NameTwice, 1),
+];
+
+// A structure of two fields with one name.
+fn two_fields(alloc: Global) -> Result<Kind, AllocError> {
+    let mut fields: Vec<Member> = Vec::new(alloc);
+    fields.push(member(alloc, "x", 0)?)?;
+    fields.push(member(alloc, "x", 0)?)?;
+    Ok(Kind::Structure { fields })
+}
+
+// A union over the kind at place 0 with two arms.
+fn two_arms(alloc: Global, cases: [i64; 2], name: &str) -> Result<Kind, AllocError> {
+    let mut arms = Vec::new(alloc);
+    arms.push(arm(alloc, [0, 1], "x", 0)?)?;
+    arms.push(arm(alloc, cases, name, 0)?)?;
+    Ok(Kind::Choice {
+        tag: id(0),
+        arms,
+        other: None,
+    })
+}
+
+// The kinds of a row.
+fn kinds(alloc: Global, refused: Refused) -> Result<Vec<Kind>, AllocError> {
+    let mut kinds = Vec::new(alloc);
+    kinds.push(Kind::Int)?;
+    match refused {
+        Refused::Int => {}
+        Refused::Fields => kinds.push(two_fields(alloc)?)?,
+        Refused::Arms(cases, name) => kinds.push(two_arms(alloc, cases, name)?)?,
+    }
+    Ok(kinds)
+}
+
+// What is wrong with a row's kinds, found while every growth is refused.
+fn fault_in_none(alloc: Global, refused: Refused) -> Result<Option<(Flaw, usize)>, AllocError> {
+    let kinds = kinds(alloc, refused)?;
     let _kept = take_all(alloc)?;
     Ok(refusal(alloc, kinds))
 }
 
-// An int, and a union over it with two arms.
-fn two_arms(alloc: Global, cases: [i64; 2], name: &str) -> Result<Vec<Kind>, AllocError> {
-    let first = arm(alloc, [0, 1], "x", 0)?;
-    let second = arm(alloc, cases, name, 0)?;
-    let arms = vec![in alloc; first, second]?;
-    let choice = Kind::Choice {
-        tag: id(0),
-        arms,
-        other: None,
-    };
-    Ok(vec![in alloc; Kind::Int, choice]?)
+#[test]
+fn finds_faults_without_memory(rt: HostRuntime) {
+    for (row, (refused, why, place)) in ROWS.iter().enumerate() {
+        let fault = fault_in_none(rt.alloc(), *refused);
+        assert!(rt; fault == Ok(Some((*why, *place))), "the row {row}");
+    }
+}
+
+// What is wrong with two names that are one, found while every growth is refused.
+fn name_twice_in_none(alloc: Global) -> Option<(Flaw, usize)> {
+    let mut names = Vec::new(alloc);
+    names
+        .push((String::from_str(alloc, "n").ok()?, id(0)))
+        .ok()?;
+    names
+        .push((String::from_str(alloc, "n").ok()?, id(0)))
+        .ok()?;
+    let kinds = vec![in alloc; Kind::Int].ok()?;
+    let _kept = take_all(alloc).ok()?;
+    match Schema::build(alloc, kinds, names) {
+        Ok(_) => None,
+        Err(fault) => Some((fault.why, fault.place)),
+    }
 }
 
 #[test]
-fn finds_a_field_twice_without_memory(rt: HostRuntime) -> Result<(), Fail> {
-    let alloc = rt.alloc();
-    let first = member(alloc, "x", 0)?;
-    let second = member(alloc, "x", 0)?;
-    let fields = vec![in alloc; first, second]?;
-    let kinds = vec![in alloc; Kind::Int, Kind::Structure { fields }]?;
-    assert!(rt; refusal_without_memory(alloc, kinds)? == Some((Flaw::NameTwice, 1)));
-    Ok(())
-}
-
-#[test]
-fn finds_a_case_or_an_arm_twice_without_memory(rt: HostRuntime) -> Result<(), Fail> {
-    let alloc = rt.alloc();
-    let cases = two_arms(alloc, [2, 0], "y")?;
-    assert!(rt; refusal_without_memory(alloc, cases)? == Some((Flaw::CaseTwice, 1)));
-    let names = two_arms(alloc, [2, 3], "x")?;
-    assert!(rt; refusal_without_memory(alloc, names)? == Some((Flaw::NameTwice, 1)));
-    Ok(())
-}
-
-#[test]
-fn finds_a_name_twice_without_memory(rt: HostRuntime) -> Result<(), Fail> {
-    let alloc = rt.alloc();
-    let first = (String::from_str(alloc, "n")?, id(0));
-    let second = (String::from_str(alloc, "n")?, id(0));
-    let names = vec![in alloc; first, second]?;
-    let kinds = vec![in alloc; Kind::Int]?;
-    let built = {
-        let _kept = take_all(alloc)?;
-        Schema::build(alloc, kinds, names)
-    };
-    assert!(rt; built.is_err_and(|fault| fault.why == Flaw::NameTwice && fault.place == 1));
-    Ok(())
+fn finds_a_name_twice_without_memory(rt: HostRuntime) {
+    assert!(rt; name_twice_in_none(rt.alloc()) == Some((Flaw::NameTwice, 1)));
 }

@@ -1,8 +1,7 @@
 //! Lists that make a schema or none, as rows: the kinds, the names, and the first fault with its place.
-use crate::types::made::{arm, id, structure};
+use crate::types::made::{arm, id, member, structure};
 use std::alloc::{AllocError, Global};
 use std::string::String;
-use std::test::Fail;
 use xdr_types::{Flaw, Kind, KindId, Schema};
 
 // A kind of at most one part.
@@ -22,6 +21,8 @@ enum Small {
     Empty,
     // A union over the first place, with two cases for the part at the last.
     Union(u32, [i64; 2], u32),
+    // The same with a default of the kind at the last place.
+    WithDefault(u32, [i64; 2], u32, u32),
 }
 
 // The kinds, the names with their places, and the fault, if there is one.
@@ -31,12 +32,28 @@ type Row = (
     Option<(Flaw, usize)>,
 );
 
-const ROWS: [Row; 27] = [
+const ROWS: [Row; 30] = [
     // One fault each.
     (&[Small::Opaque(0)], &[], Some((Flaw::ZeroSize, 0))),
     (&[Small::Void], &[("n", 0)], Some((Flaw::VoidMember, 0))),
     (&[Small::Array(0, 2)], &[], Some((Flaw::NoFiniteValue, 0))),
+    (&[Small::Structure(0)], &[], Some((Flaw::NoFiniteValue, 0))),
     (&[Small::Structure(1), Small::Optional(0)], &[], None),
+    (
+        &[Small::Void, Small::Structure(0)],
+        &[],
+        Some((Flaw::VoidMember, 1)),
+    ),
+    // A default that no number reaches has no value.
+    (
+        &[
+            Small::Bool,
+            Small::Void,
+            Small::WithDefault(0, [0, 1], 2, 1),
+        ],
+        &[],
+        Some((Flaw::NoFiniteValue, 2)),
+    ),
     (
         &[Small::Bool, Small::Union(0, [1, 1], 0)],
         &[],
@@ -173,6 +190,11 @@ fn kind(alloc: Global, small: &Small) -> Result<Kind, AllocError> {
             arms: vec![in alloc; arm(alloc, *cases, "x", *part)?]?,
             other: None,
         }),
+        Small::WithDefault(tag, cases, part, default) => Ok(Kind::Choice {
+            tag: id(*tag),
+            arms: vec![in alloc; arm(alloc, *cases, "x", *part)?]?,
+            other: Some(member(alloc, "", *default)?),
+        }),
     }
 }
 
@@ -197,9 +219,11 @@ fn fault(
 }
 
 #[test]
-fn finds_the_first_fault(rt: HostRuntime) -> Result<(), Fail> {
-    for row in &ROWS {
-        assert!(rt; fault(rt.alloc(), row.0, row.1)? == row.2);
+fn finds_the_first_fault(rt: HostRuntime) {
+    for (row, (kinds, names, wanted)) in ROWS.iter().enumerate() {
+        assert!(rt;
+            fault(rt.alloc(), kinds, names) == Ok(*wanted),
+            "the row {row}"
+        );
     }
-    Ok(())
 }

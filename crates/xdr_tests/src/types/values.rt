@@ -1,76 +1,98 @@
 // Which values fit, how many bytes they have, and their copies.
 use crate::types::made::{before, empty_strings, id, list_kinds, size_within};
-use std::test::Fail;
+use std::alloc::Global;
 use xdr_types::{Kind, Limits, Schema, Value, is_equal};
 
-#[test]
-fn fits_within_limits(rt: HostRuntime) -> Result<(), Fail> {
-    let alloc = rt.alloc();
-    let abc = Value::Bytes(vec![in alloc; 97u8, 98, 99]?);
-    let Ok(five) = Schema::build(
-        alloc,
-        vec![in alloc; Kind::OpaqueUpTo { max: 5 }]?,
-        Vec::new(alloc),
-    ) else {
-        assert!(rt; false);
-        return Ok(());
-    };
-    assert!(rt; size_within(&five, id(0), &abc, Limits::new(1, 8)) == Some(8));
-    assert!(rt; size_within(&five, id(0), &abc, Limits::new(1, 4)).is_none());
-    assert!(rt; size_within(&five, id(1), &abc, Limits::new(1, 8)).is_none());
-    Ok(())
+// A schema of these kinds, without names.
+fn unnamed(alloc: Global, kinds: Vec<Kind>) -> Option<Schema> {
+    Schema::build(alloc, kinds, Vec::new(alloc)).ok()
+}
+
+// How many bytes three bytes take as the kind at a place, of which there is one of at most five bytes.
+fn size_of_three(alloc: Global, place: u32, depth: u32, bytes: u32) -> Option<Option<u32>> {
+    let three = Value::Bytes(vec![in alloc; 97u8, 98, 99].ok()?);
+    let five = unnamed(alloc, vec![in alloc; Kind::OpaqueUpTo { max: 5 }].ok()?)?;
+    Some(size_within(&five, id(place), &three, Limits::new(depth, bytes)))
 }
 
 #[test]
-fn has_limits(rt: HostRuntime) -> Result<(), Fail> {
+fn fits_within_limits(rt: HostRuntime) {
+    assert!(rt; size_of_three(rt.alloc(), 0, 1, 8) == Some(Some(8)));
+    assert!(rt; size_of_three(rt.alloc(), 0, 1, 4) == Some(None));
+    assert!(rt; size_of_three(rt.alloc(), 1, 1, 8) == Some(None));
+}
+
+#[test]
+fn has_limits(rt: HostRuntime) {
     for (depth, bytes) in [(0, 8), (4097, 8), (1, 0), (1, 6), (1, 16777220)] {
         assert!(rt; Limits::new(depth, bytes).is_none());
     }
     assert!(rt; Limits::new(4096, 16777216).is_some_and(|limits| limits.depth() == 4096));
     assert!(rt; Limits::new(1, 4).is_some_and(|limits| limits.bytes() == 4));
-    Ok(())
+}
+
+// How many bytes a list of strings takes within the widest limits.
+fn size_of_list(alloc: Global, list: &Value) -> Option<Option<u32>> {
+    let schema = unnamed(alloc, list_kinds(alloc).ok()?)?;
+    Some(size_within(&schema, id(1), list, Limits::new(4096, 16777216)))
+}
+
+// The same of a string of one character and one of two.
+fn size_of_two_strings(alloc: Global) -> Option<Option<u32>> {
+    let last = before(alloc, &[98, 99], Value::Maybe(None)).ok()?;
+    let two = before(alloc, &[97], last).ok()?;
+    size_of_list(alloc, &two)
+}
+
+// The same of so many empty strings, which are two levels each.
+fn size_of_empty_strings(alloc: Global, count: u32) -> Option<Option<u32>> {
+    let list = empty_strings(alloc, count).ok()?;
+    size_of_list(alloc, &list)
 }
 
 #[test]
-fn fits_lists(rt: HostRuntime) -> Result<(), Fail> {
-    let alloc = rt.alloc();
-    let two = before(alloc, &[97], before(alloc, &[98, 99], Value::Maybe(None))?)?;
-    let most = empty_strings(alloc, 2047)?;
-    let more = empty_strings(alloc, 2048)?;
-    let limits = Limits::new(4096, 16777216);
-    let Ok(schema) = Schema::build(alloc, list_kinds(alloc)?, Vec::new(alloc)) else {
-        assert!(rt; false);
-        return Ok(());
-    };
-    assert!(rt; size_within(&schema, id(1), &two, limits) == Some(28));
-    assert!(rt; size_within(&schema, id(1), &most, limits) == Some(16380));
-    assert!(rt; size_within(&schema, id(1), &more, limits).is_none());
-    Ok(())
+fn fits_lists(rt: HostRuntime) {
+    assert!(rt; size_of_two_strings(rt.alloc()) == Some(Some(28)));
+    assert!(rt; size_of_empty_strings(rt.alloc(), 2047) == Some(Some(16380)));
+    assert!(rt; size_of_empty_strings(rt.alloc(), 2048) == Some(None));
 }
 
-#[test]
-fn copies_bytes(rt: HostRuntime) -> Result<(), Fail> {
-    let alloc = rt.alloc();
-    let value = Value::Bytes(vec![in alloc; 97u8, 98, 99]?);
-    let Value::Bytes(again) = value.copy(alloc)? else {
-        assert!(rt; false);
-        return Ok(());
-    };
-    assert!(rt; again == vec![in alloc; 97u8, 98, 99]?);
-    Ok(())
-}
-
-#[test]
-fn copies_deep_values(rt: HostRuntime) -> Result<(), Fail> {
-    let alloc = rt.alloc();
-    let mut list = Value::Nothing;
-    let mut chain = Value::Nothing;
-    for _ in 0..4095 {
-        list = Value::List(vec![in alloc; list]?);
-        chain = Value::Maybe(Some(Box::new(alloc, chain)?));
+// Whether the copy of three bytes has them.
+fn copies_three(alloc: Global) -> Option<bool> {
+    let value = Value::Bytes(vec![in alloc; 97u8, 98, 99].ok()?);
+    match value.copy(alloc).ok()? {
+        Value::Bytes(again) => Some(again.as_slice() == b"abc".as_slice()),
+        _ => Some(false),
     }
-    assert!(rt; is_equal(&list, &list.copy(alloc)?));
-    assert!(rt; chain == chain.copy(alloc)?);
-    assert!(rt; chain != list);
-    Ok(())
+}
+
+// So many arrays of one item inside one another.
+fn lists(alloc: Global, count: u32) -> Option<Value> {
+    let mut list = Value::Nothing;
+    for _ in 0..count {
+        list = Value::List(vec![in alloc; list].ok()?);
+    }
+    Some(list)
+}
+
+// So many optionals inside one another.
+fn optionals(alloc: Global, count: u32) -> Option<Value> {
+    let mut chain = Value::Nothing;
+    for _ in 0..count {
+        chain = Value::Maybe(Some(Box::new(alloc, chain).ok()?));
+    }
+    Some(chain)
+}
+
+// Whether deep values equal their copies and not one another.
+fn copies_deep(alloc: Global) -> Option<bool> {
+    let (list, chain) = (lists(alloc, 4095)?, optionals(alloc, 4095)?);
+    let (again, same) = (list.copy(alloc).ok()?, chain.copy(alloc).ok()?);
+    Some(is_equal(&list, &again) && chain == same && chain != list)
+}
+
+#[test]
+fn copies_values(rt: HostRuntime) {
+    assert!(rt; copies_three(rt.alloc()) == Some(true));
+    assert!(rt; copies_deep(rt.alloc()) == Some(true));
 }
