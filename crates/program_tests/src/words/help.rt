@@ -2,8 +2,8 @@
 use crate::words::reading::{Words, read};
 use std::alloc::{AllocError, Global};
 
-// The built-in kinds, the forms of a name, the ranges and defaults of the options, the statuses, and the first words of
-// two examples.
+// The built-in kinds, the forms of a name, the ranges and defaults of the options, the statuses with their words, and the
+// first words of two examples.
 const OF_A_VALUE: [&str; 16] = [
     "int, unsigned, hyper, unsigned-hyper, bool, opaque or string",
     "P.V.N.K",
@@ -14,11 +14,11 @@ const OF_A_VALUE: [&str; 16] = [
     "multiple of 4",
     "[default: 16777216]",
     "1048576",
-    "\n  0  ",
-    "\n  1  ",
-    "\n  2  ",
-    "\n  3  ",
-    "\n  4  ",
+    "\n  0  the input begins with a value\n",
+    "\n  1  the bytes are refused\n",
+    "\n  2  words, declarations, name or limits are refused\n",
+    "\n  3  a read or a write failed, or more than 1048576 reads would be needed\n",
+    "\n  4  memory was refused\n",
     "\n  printf '",
     " --types ",
 ];
@@ -26,11 +26,11 @@ const OF_A_VALUE: [&str; 16] = [
 const OF_RECORDS: [&str; 9] = [
     "0 to 2147483647",
     "[default: 16777216]",
-    "\n  0  ",
-    "\n  1  ",
-    "\n  2  ",
-    "\n  3  ",
-    "\n  4  ",
+    "\n  0  the input is a stream of records\n",
+    "\n  1  the bytes are refused, after the whole records before them were written\n",
+    "\n  2  words or limits are refused\n",
+    "\n  3  a read or a write failed, or more than 1048576 reads would be needed\n",
+    "\n  4  memory was refused\n",
     "\n  printf '",
     "\n  oncrpc records --limit ",
 ];
@@ -40,11 +40,11 @@ const OF_ALL: [&str; 9] = [
     "show",
     "records",
     "check --name opaque --hex",
-    "\n  0  ",
-    "\n  1  ",
-    "\n  2  ",
-    "\n  3  ",
-    "\n  4  ",
+    "\n  0  done\n",
+    "\n  1  the bytes are refused\n",
+    "\n  2  words, declarations, name or limits are refused\n",
+    "\n  3  a read",
+    "\n  4  memory was refused",
 ];
 
 // The product's line and the prover's.
