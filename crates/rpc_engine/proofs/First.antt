@@ -116,7 +116,8 @@ none_whole limit bytes rs one whole h w =
     (subst (λ x. IsWhole limit x bytes) (sym (one limit [] rs bytes h (whole limit rs bytes w))) w).stream
 
 pub ends_well : (r : RecordReader) → OneLongest → WholeIsLongest
-    → Always r (λ rs bytes. (waits : List (List ℕ)) × ((length waits ≤ 1) × IsWhole (limit_of r) (rs ++ waits) bytes))
+    → Always r (λ rs bytes. (waits : List (List ℕ))
+    × ((length waits ≤ 1) × IsWhole (limit_of r) (rs ++ waits) bytes × (IsTaking r → waits ≡ [])))
     → EndsAt r (flaw.Truncated 0)
 ends_well r one whole h bytes s longest =
     let w = h bytes [] s in

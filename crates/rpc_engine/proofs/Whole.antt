@@ -207,7 +207,8 @@ module _ (netid : List ℕ) (r : RecordReader) (rows mid : List Row) (s : Sessio
 
   -- the input ended, and the record reader has at most one more record, which the longest front does not have
   pub ends : OneLongest → WholeIsLongest → (array : List ℕ) (n : ℕ) → n ≡ 0 → Consumes l' m (take n array) → IsAtEnd m
-      → Always r (λ rs bytes. (waits : List (List ℕ)) × ((length waits ≤ 1) × IsWhole (limit_of r) (rs ++ waits) bytes))
+      → Always r (λ rs bytes. (waits : List (List ℕ))
+      × ((length waits ≤ 1) × IsWhole (limit_of r) (rs ++ waits) bytes × (IsTaking r → waits ≡ [])))
       → Serves netid rows mid l m t t' s.served
   ends one whole array n e k end h =
       let w = h p.input p.rs p.stands in
