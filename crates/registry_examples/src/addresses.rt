@@ -46,17 +46,6 @@ pub fn reads_numbers_above_9(text: &[u8]) -> Option<Uaddr>
     read_uaddr(text)
 }
 
-/// They are written too: 111 is the low octet of its port.
-pub fn writes_numbers_above_9(alloc: Global) -> Result<Vec<u8>, NoMemory>
-    ensures { IfOk result (λ text. text.items ≡ codes "192.0.2.17.0.111") }
-{
-    let address = Uaddr {
-        host: [192, 0, 2, 17],
-        port: 111,
-    };
-    write_uaddr(alloc, address)
-}
-
 /// An address that was written is read again.
 pub fn reads_what_was_written(alloc: Global, address: Uaddr) -> Result<Option<Uaddr>, NoMemory>
     requires { IsUaddr address }
