@@ -58,7 +58,7 @@ returns-in-OutOfMemory-clause-ok g c =
     let t = g.W.Sink.taken c.args.writer.now in
     let u = g.W.Sink.taken c.send_whole-sent.new.writer in
     does_reply (netid_of c.args.transport) c.args.directory.now c.append_answer.new.directory c.args.self.now mid
-    c.count-in-OutOfMemory.new.self c.args.message.now _ true t u c.in-OutOfMemory.ensures
+    c.count-in-OutOfMemory.new.self c.args.message.now _ true t u c.in-OutOfMemory.ensures.0
     c.begin.ensures.records c.begin.ensures.answered c.begin.ensures.bytes c.send_whole-sent.result
     c.count-in-OutOfMemory.result c.count-in-OutOfMemory.ensures
     (subst (λ x. IsSent x t u c.send_whole-sent.result) c.system_error.ensures c.send_whole-sent.ensures.sent)
@@ -73,7 +73,7 @@ returns-in-OutOfMemory-clause-cut g c =
     let t = g.W.Sink.taken c.args.writer.now in
     let u = g.W.Sink.taken c.send_whole-sent.new.writer in
     loses_reply (netid_of c.args.transport) c.args.directory.now c.append_answer.new.directory c.args.self.now mid
-    c.count-in-OutOfMemory.new.self c.args.message.now _ true t u c.in-OutOfMemory.ensures
+    c.count-in-OutOfMemory.new.self c.args.message.now _ true t u c.in-OutOfMemory.ensures.0
     c.begin.ensures.records c.begin.ensures.answered c.begin.ensures.bytes c.send_whole-sent.result
     c.count-in-OutOfMemory.result c.count-in-OutOfMemory.ensures
     (subst (λ x. IsSent x t u c.send_whole-sent.result) c.system_error.ensures c.send_whole-sent.ensures.sent)
