@@ -29,8 +29,8 @@ pub fn dump_of_a_row<S: BuildHasher + Drop>(alloc: Global, hasher: S) -> Result<
 
 /// The port dump of one row over `tcp` is a list of one `mapping`, at port 2049 (RFC 1833 section 3.1).
 pub fn dump_of_a_port<S: BuildHasher + Drop>(alloc: Global, hasher: S) -> Result<Value, NoMemory>
-    ensures { let mapping = group (number 7 ∷ number 1 ∷ number 6 ∷ number 2049 ∷ []) in
-        IfOk result (λ list. tree list ≡ linked (mapping ∷ [])) }
+    ensures { IfOk result (λ list. tree list ≡
+        linked (group (number 7 ∷ number 1 ∷ number 6 ∷ number 2049 ∷ []) ∷ [])) }
 {
     let mut directory = Directory::new(alloc, hasher);
     directory.set(alloc, 7, 1, b"tcp", b"127.0.0.1.8.1", b"1000")?;
