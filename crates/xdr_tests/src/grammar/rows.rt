@@ -10,7 +10,11 @@ pub type Refused = (&'static [u8], &'static [u8]);
 pub type Inside = (&'static [u8], usize, u8);
 
 /// Each form of definition and of declaration.
-pub static DECLARING: [Declares; 7] = [
+pub static DECLARING: [Declares; 8] = [
+    (
+        b"typedef struct s *t; struct s { unsigned long a; long b; };",
+        [0, 2, 2, 0],
+    ),
     (b"", [0, 0, 0, 0]),
     (b"const A = -5;", [1, 0, 0, 0]),
     (
@@ -36,7 +40,10 @@ pub static DECLARING: [Declares; 7] = [
 ];
 
 /// Texts of which no definition goes on.
-pub static UNEXPECTED: [Refused; 21] = [
+pub static UNEXPECTED: [Refused; 24] = [
+    (b"const long = 1;", b"long = 1;"),
+    (b"struct s t;", b"t;"),
+    (b"typedef enum e t;", b"e t;"),
     (b"const a = 1", b""),
     (b"const a = b;", b"b;"),
     (b"int a;", b"int a;"),
@@ -89,10 +96,12 @@ pub static FLOATING: [Refused; 3] = [
 ];
 
 /// Bodies inside 32 others, and what looks like one.
-pub static INSIDE: [Inside; 7] = [
+pub static INSIDE: [Inside; 9] = [
+    (b"union switch (struct s d) { case 1: void; } b;", 26, 12),
+    (b"struct s b, c;", 10, 3),
     (b"struct { int a; } b;", 7, 12),
     (b"enum { A = 1 } b;", 5, 12),
-    (b"struct s { int a; } b;", 7, 3),
+    (b"struct s { int a; } b;", 9, 3),
     (b"union switch (int d) { case 1: void; } b;", 21, 12),
     (b"union switch (opaque d<4>) x", 27, 3),
     (

@@ -6,7 +6,7 @@ use xdr_lang::{Declared, read};
 use xdr_types::is_same_schema;
 
 /// The kinds and the names of the registry, in 19 places, and no constants.
-fn is_directory(alloc: Global, declared: &Declared) -> bool {
+pub fn is_directory(alloc: Global, declared: &Declared) -> bool {
     let is_same = match directory_schema(alloc) {
         Ok(schema) => is_same_schema(&declared.schema, &schema),
         Err(_) => false,

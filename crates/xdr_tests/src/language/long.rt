@@ -2,6 +2,7 @@
 use crate::language::refusals::is_refused;
 use std::alloc::{AllocError, Global};
 use xdr_lang::{Declared, MAX_TEXT, read};
+use xdr_types::is_same_schema;
 
 /// The text is read, where the wanted fault is 0, or refused with that fault.
 fn is_answered(alloc: Global, text: &[u8], wanted: [usize; 4]) -> bool {
@@ -39,7 +40,7 @@ fn long_texts_are_refused(rt: HostRuntime) {
 type Nested = (&'static [u8], usize, [usize; 4]);
 
 /// Bodies inside others. A body in the switch declaration of a union is inside the union's.
-static NESTED: [Nested; 13] = [
+static NESTED: [Nested; 20] = [
     (b"int a;", 32, [0, 0, 0, 0]),
     (b"int a;", 33, [12, 0, 1, 304]),
     (b"\nenum { A = 1 } e;", 32, [12, 0, 2, 6]),
@@ -89,6 +90,37 @@ static NESTED: [Nested; 13] = [
         32,
         [12, 0, 1, 319],
     ),
+    (
+        b"union switch (struct NAME d) { case 1: void; } b;",
+        32,
+        [12, 0, 1, 326],
+    ),
+    (
+        b"union switch (struct s *d) { case 1: void; } b;",
+        32,
+        [12, 0, 1, 324],
+    ),
+    (
+        b"union switch (struct { int x; } d) { case 1: void; } b;",
+        32,
+        [12, 0, 1, 318],
+    ),
+    (
+        b"union switch (struct NAME d { case 1: void; } b;",
+        32,
+        [3, 0, 1, 325],
+    ),
+    (
+        b"union switch (struct d) { case 1: void; } b;",
+        32,
+        [3, 0, 1, 319],
+    ),
+    (
+        b"union switch (long d) { case 1: void; } b;",
+        32,
+        [12, 0, 1, 319],
+    ),
+    (b"struct NAME b;", 32, [6, 0, 1, 304]),
 ];
 
 /// `typedef`, then so many bodies of structs inside one another around `inside`.
@@ -115,6 +147,29 @@ fn first_other(alloc: Global, rows: &[Nested]) -> Result<Option<usize>, AllocErr
 #[test]
 fn deep_texts_are_refused(rt: HostRuntime) {
     assert!(rt; first_other(rt.alloc(), &NESTED) == Ok(None));
+}
+
+/// What 32 bodies around a field declare, where a struct `s` is declared after them.
+fn declared_around(alloc: Global, field: &[u8]) -> Result<Option<Declared>, AllocError> {
+    let mut text = nested(alloc, field, 32)?;
+    text.extend_from_slice(b" struct s { int x; };")?;
+    Ok(read(alloc, &text).ok())
+}
+
+/// Inside 32 bodies `struct s` is what `s` is, and no body.
+fn names_one_type(alloc: Global) -> Result<bool, AllocError> {
+    match (
+        declared_around(alloc, b"struct s y;")?,
+        declared_around(alloc, b"s y;")?,
+    ) {
+        (Some(one), Some(other)) => Ok(is_same_schema(&one.schema, &other.schema)),
+        _ => Ok(false),
+    }
+}
+
+#[test]
+fn a_struct_s_name_is_no_body(rt: HostRuntime) {
+    assert!(rt; names_one_type(rt.alloc()) == Ok(true));
 }
 
 /// Different typedefs, each of a kind of its own, are answered so.

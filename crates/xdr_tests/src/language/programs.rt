@@ -72,7 +72,7 @@ fn names_have_their_places(rt: HostRuntime) {
 
 /// The numbers of a program, a version and a procedure, how many arguments that has, and the places of
 /// the last one and of the result, or 99.
-type Called = ([u32; 3], [usize; 3]);
+pub type Called = ([u32; 3], [usize; 3]);
 
 /// How many arguments a procedure has, and the places of the last and of its result; else 0.
 fn procedure_of(declared: &Declared, at: [u32; 3]) -> [usize; 3] {
@@ -92,7 +92,7 @@ fn procedure_of(declared: &Declared, at: [u32; 3]) -> [usize; 3] {
 }
 
 /// The text declares these procedures, and none where the row has zeros.
-fn declares(alloc: Global, text: &[u8], rows: &[Called]) -> bool {
+pub fn declares(alloc: Global, text: &[u8], rows: &[Called]) -> bool {
     let declared = match read(alloc, text) {
         Ok(declared) => declared,
         Err(_) => return false,

@@ -1,5 +1,5 @@
 //! Tests of `xdr_show` by its public calls.
-mod calls;
+pub mod calls;
 mod lines;
 mod memory;
 mod schema;
