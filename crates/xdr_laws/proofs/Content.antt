@@ -208,15 +208,15 @@ unit4_less (a ∷ b ∷ []) len are = absurd (omega arith)
 unit4_less (a ∷ b ∷ c ∷ []) len are = absurd (omega arith)
 unit4_less (a ∷ b ∷ c ∷ d ∷ e ∷ u) len are = absurd (omega arith)
 
-unit8_back : (u : List ℕ) → length u ≡ 8 → AreBytes u → unit8 (from_be_bytes w64 u) ≡ u
+pub unit8_back : (u : List ℕ) → length u ≡ 8 → AreBytes u → unit8 (from_be_bytes w64 u) ≡ u
 unit8_back u len are = be_bytes_8 u (from_be_bytes w64 u) len (get_byte u are) refl
 
-unit8_less : (u : List ℕ) → length u ≡ 8 → AreBytes u → from_be_bytes w64 u < 2 ^ 64
+pub unit8_less : (u : List ℕ) → length u ≡ 8 → AreBytes u → from_be_bytes w64 u < 2 ^ 64
 unit8_less (a ∷ b ∷ c ∷ d ∷ e ∷ f ∷ g ∷ h ∷ []) len are = omega arith
 unit8_less (a ∷ b ∷ c ∷ d ∷ e ∷ f ∷ g ∷ h ∷ i ∷ u) len are = absurd (omega arith)
 unit8_less _ len are = absurd (omega arith)
 
-signed8_unit : (x : ℕ) → x < 2 ^ 64 → IsSigned 9223372036854775808 (signed8 x) × (units_of (signed8 x) ≡ x)
+pub signed8_unit : (x : ℕ) → x < 2 ^ 64 → IsSigned 9223372036854775808 (signed8 x) × (units_of (signed8 x) ≡ x)
 signed8_unit x h = by_half x h (nat_lt x 9223372036854775808) refl
   where
     low : (x : ℕ) → x < 9223372036854775808 → IsSigned 9223372036854775808 (pos x) × (units_of (pos x) ≡ x)

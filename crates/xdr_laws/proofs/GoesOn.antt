@@ -85,7 +85,7 @@ alive s has place (Rest n ∷ ds) of =
 -- ---- what is accepted is what no reason stands against
 
 -- the number in the unit u that begins a value
-admits_accepted : (s : List KindView) (k : KindView) (after : ℕ) (u : List ℕ) → HasUnit (lead_of k)
+pub admits_accepted : (s : List KindView) (k : KindView) (after : ℕ) (u : List ℕ) → HasUnit (lead_of k)
     → Accepts s k (from_be_bytes w32 u) → Admits s k (role_of k) after u
 admits_accepted s xdr.int after u h a = tt
 admits_accepted s xdr.unsigned after u h a = tt
@@ -99,7 +99,7 @@ admits_accepted s (xdr.maybe item) after u h a = a
 admits_accepted s xdr.unknown after u h a = absurd a
 admits_accepted s _ after u h a = absurd h
 
-accepted_admits : (s : List KindView) (k : KindView) (g : Head) → IsLegal s k g → (after : ℕ) (u : List ℕ)
+pub accepted_admits : (s : List KindView) (k : KindView) (g : Head) → IsLegal s k g → (after : ℕ) (u : List ℕ)
     → HasUnit (lead_of k)
     → from_be_bytes w32 u < 2 ^ 32 → Admits s k (role_of k) after u → Accepts s k (from_be_bytes w32 u)
 accepted_admits s xdr.int g l after u h less a = less
@@ -122,7 +122,7 @@ admits_free s _ x u = absurd u
 
 -- ---- zeros
 
-abbrev AreZeros : List ℕ → Type 0
+abbrev pub AreZeros : List ℕ → Type 0
 AreZeros bs = AllByRecursion (λ b. b ≡ 0) bs
 
 zeros_all : (n : ℕ) → AreZeros (replicate n 0)
@@ -138,22 +138,22 @@ no_zeros [] e = tt
 no_zeros (b ∷ bs) e = absurd (omega arith)
 
 -- n bytes of content, and then zeros
-abbrev Fills : ℕ → List ℕ → Type 0
+abbrev pub Fills : ℕ → List ℕ → Type 0
 Fills n u = n < 4 → drop n u ≡ pad n
 
-zeros_fill : (n : ℕ) (u : List ℕ) → length u ≡ 4 → Fills n u → AreZeros (drop n u)
+pub zeros_fill : (n : ℕ) (u : List ℕ) → length u ≡ 4 → Fills n u → AreZeros (drop n u)
 zeros_fill n u len fills = elim (cases_lt n 4) [
   | inl few ↦ subst (λ (l : List ℕ). AreZeros l) (sym (fills few)) (zeros_all ((4 - n % 4) % 4))
   | inr many ↦ no_zeros (drop n u) (omega (arith, length-drop n u))
 ]
 
-fill_zeros : (n : ℕ) (u : List ℕ) → 0 < n → length u ≡ 4 → AreZeros (drop n u) → Fills n u
+pub fill_zeros : (n : ℕ) (u : List ℕ) → 0 < n → length u ≡ 4 → AreZeros (drop n u) → Fills n u
 fill_zeros n u some len a few =
     let short : length (drop n u) ≡ (4 - n % 4) % 4 = omega (arith, length-drop n u) in
     all_zeros (drop n u) a ∙ ap (λ (m : ℕ). replicate m 0) short
 
 -- the part whose content goes on, and the unit that it admits
-rest_case : (s : List KindView) (e : Entry) (p n : ℕ) (u : List ℕ) → length u ≡ 4 → (role : Role) → e.at ≤ p → 0 < n
+pub rest_case : (s : List KindView) (e : Entry) (p n : ℕ) (u : List ℕ) → length u ≡ 4 → (role : Role) → e.at ≤ p → 0 < n
     → p % 4 ≡ 0 → e.at % 4 ≡ 0 → EndsAt s (p + n) e role
     → (p < e.at + e.size) × (Fills n u → Admits s (kind_at s e.kind) role (p - e.at) u)
     × (Admits s (kind_at s e.kind) role (p - e.at) u → Fills n u)

@@ -29,7 +29,7 @@ use Rattle.xdr_laws.proofs.Reach.{reach}
 
 -- ---- a spelling is whole units of bytes
 
-bytes4 : (n : ℕ) → AreBytes (unit4 n)
+pub bytes4 : (n : ℕ) → AreBytes (unit4 n)
 bytes4 n = (omega arith, (omega arith, (omega arith, (omega arith, tt))))
 
 zero_bytes : (n : ℕ) → AreBytes (replicate n 0)

@@ -73,15 +73,15 @@ then_enters s place before a b ds begun first low e =
           begun e.0 low e.4,
     )
 
-low_less : (m n : ℕ) (ps : List Entry) → m ≤ n → AllUpTo m ps → AllUpTo n ps
+pub low_less : (m n : ℕ) (ps : List Entry) → m ≤ n → AllUpTo m ps → AllUpTo n ps
 low_less m n [] h a = tt
 low_less m n (e ∷ ps) h a = (omega arith, low_less m n ps h a.1)
 
-free_low : (s : List KindView) (place d : ℕ) (t : Part) (k : KindView) → AllUpTo place (free_parts place d t k)
+pub free_low : (s : List KindView) (place d : ℕ) (t : Part) (k : KindView) → AllUpTo place (free_parts place d t k)
 free_low s place d t (xdr.opaque size) = (omega arith, tt)
 free_low s place d t _ = (omega arith, tt)
 
-silent_low : (s : List KindView) (place d : ℕ) (t : Part) (k : KindView) → IsSilent (lead_of k)
+pub silent_low : (s : List KindView) (place d : ℕ) (t : Part) (k : KindView) → IsSilent (lead_of k)
     → AllUpTo place (shown place d t k (silent_head k))
 silent_low s place d t (xdr.fixed item size) u = (omega arith, tt)
 silent_low s place d t (xdr.structure fields) u = (omega arith, tt)
@@ -96,13 +96,13 @@ items_low : (place d : ℕ) (t : Part) (k : KindView) → AllUpTo (place + 4) (s
 items_low place d t (xdr.fixed item size) = (omega arith, tt)
 items_low place d t _ = (omega arith, tt)
 
-shown_low : (place d : ℕ) (t : Part) (k : KindView) (h : Head) → AllUpTo (place + 4) (shown place d t k h)
+pub shown_low : (place d : ℕ) (t : Part) (k : KindView) (h : Head) → AllUpTo (place + 4) (shown place d t k h)
 shown_low place d t k (value.bytes bs) = content_low place d t k (length bs)
 shown_low place d t k (value.items n) = items_low place d t k
 shown_low place d t k _ = (omega arith, tt)
 
 -- the part of free bytes
-free_part : (s : List KindView) (place d : ℕ) (t : Part) (k : KindView) → kind_at s t.kind ≡ k → IsFreeBytes (lead_of k)
+pub free_part : (s : List KindView) (place d : ℕ) (t : Part) (k : KindView) → kind_at s t.kind ≡ k → IsFreeBytes (lead_of k)
     → (e : Entry) × Contains (free_parts place d t k) e × (e.at ≤ place) × EndsAt s (place + free_size k) e e.role
     × (e.depth ≡ d)
 free_part s place d t xdr.hyper is u = (
@@ -344,7 +344,7 @@ still_ends s place n before h e =
           (λ (m : ℕ). EndsAt s m e.0 e.0.role) same e.3,
     )
 
-bytes_take : (n : ℕ) (v : List ℕ) → AreBytes v → AreBytes (take n v)
+pub bytes_take : (n : ℕ) (v : List ℕ) → AreBytes v → AreBytes (take n v)
 bytes_take zero v a = tt
 bytes_take (suc n) [] a = tt
 bytes_take (suc n) (x ∷ v) a = (a.0, bytes_take n v a.1)

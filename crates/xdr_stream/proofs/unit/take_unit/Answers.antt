@@ -1,0 +1,135 @@
+use Rattle.std.proofs.Common.{◌≡◌, ◌<◌, ◌^◌, rules, drop, ℕ, List, length, true, false, pos, sym, ap, subst, ◌∙◌}
+use Rattle.std.proofs.Common.{arith}
+use Rattle.xdr_units.specs.Numbers.{num4}
+use Rattle.xdr_types.specs.Fits.{are_bytes}
+use Rattle.std.specs.Int.{w64, from_be_bytes}
+use Rattle.std.proofs.lemmas.List.{take_all, length-drop}
+use Rattle.std.proofs.Math.Facts.{of_z-to_z}
+use Rattle.std.proofs.Common.{to_z, of_z, Fits, ℤ, ◌+◌, ◌-◌, ◌*◌, ◌++◌, Bool, negsuc, cond, nat_lt}
+use Rattle.xdr_types.specs.Tree as value
+use Rattle.xdr_laws.proofs.Content.{bytes_front}
+use Rattle.xdr_laws.proofs.Legal.{are_bytes_of, bytes_are}
+use Rattle.xdr_laws.proofs.Known.{bytes4}
+use Rattle.xdr_stream.specs.Frames.{stack_of}
+use Rattle.xdr_stream.specs.Sees.{are_zeros, make_wide}
+use Rattle.xdr_stream.specs.declared.machine.Awaits.TheVariants.{Low}
+use Rattle.xdr_stream.proofs.Units.{first_of_two, second_of_two, two_units, to64, more_content, last_content}
+use Rattle.xdr_stream.proofs.Units.{bad_content}
+use Rattle.xdr_stream.proofs.unit.take_unit.Goals as goal
+
+pub returns-in-Wide-clause-taken : goal.returns-in-Wide-clause-taken
+returns-in-Wide-clause-taken g c = λ kind limits q ready small h.
+    let u : List ℕ = c.args.unit.now in
+    let is : num4 (pos c.number_of-number.result) ≡ u = c.number_of-number.ensures in
+    let len : length u ≡ 4 = ap (λ (b : List ℕ). length b) (sym is) in
+    let are : are_bytes u ≡ true = subst (λ (b : List ℕ). are_bytes b ≡ true) is
+    (are_bytes_of (num4 (pos c.number_of-number.result)) (bytes4 c.number_of-number.result)) in
+    first_of_two c.args.schema.now.kinds c.len-known.ensures.valued c.len-known.ensures.known kind limits
+    (g.B.Build.tells c.args.built.now) (g.B.Build.tells c.args.built.now)
+    (stack_of c.args.work.now c.args.parents.now.items) q u len are small
+    c.in-Wide.signed c.number_of-number.result is (rw c.in-Wide.is at h)
+
+pub returns-then-left-gt4-clause-taken : goal.returns-then-left-gt4-clause-taken
+returns-then-left-gt4-clause-taken g c = λ kind limits q ready small h.
+    let u : List ℕ = c.args.unit.now in
+    let is : num4 (pos c.number_of-number.result) ≡ u = c.number_of-number.ensures in
+    let len : length u ≡ 4 = ap (λ (b : List ℕ). length b) (sym is) in
+    let are : are_bytes u ≡ true = subst (λ (b : List ℕ). are_bytes b ≡ true) is
+    (are_bytes_of (num4 (pos c.number_of-number.result)) (bytes4 c.number_of-number.result)) in
+    more_content c.args.schema.now.kinds c.len-known.ensures.valued c.len-known.ensures.known kind limits
+    (g.B.Build.tells c.args.built.now) (g.B.Build.tells c.extend.new.self)
+    (stack_of c.args.work.now c.args.parents.now.items) q u len are small
+    c.in-Content.left (omega arith) c.in_ok-extend-in-Content.ensures (rw c.in-Content.is at h)
+
+pub returns-then-not-are_zeros-clause-refused : goal.returns-then-not-are_zeros-clause-refused
+returns-then-not-are_zeros-clause-refused g c = λ kind limits q rest ready small h.
+    let u : List ℕ = c.args.unit.now in
+    let is : num4 (pos c.number_of-number.result) ≡ u = c.number_of-number.ensures in
+    let len : length u ≡ 4 = ap (λ (b : List ℕ). length b) (sym is) in
+    let are : are_bytes u ≡ true = subst (λ (b : List ℕ). are_bytes b ≡ true) is
+    (are_bytes_of (num4 (pos c.number_of-number.result)) (bytes4 c.number_of-number.result)) in
+    let bad : are_zeros (drop c.in-Content.left u) ≡ false =
+    ap (λ (b : List ℕ). are_zeros b) (sym
+    (take_all (4 - c.in-Content.left) (drop c.in-Content.left u)
+    (omega (arith, length-drop c.in-Content.left u, len)))) ∙ sym c.if-not-are_zeros.ensures in
+    let some : 0 < c.in-Content.left = rw c.in-Content.is at ready in
+    bad_content c.args.schema.now.kinds c.len-known.ensures.valued c.len-known.ensures.known kind limits
+    (g.B.Build.tells c.args.built.now) (g.B.Build.tells c.args.built.now)
+    (stack_of c.args.work.now c.args.parents.now.items) q u len are small
+    c.in-Content.left some bad rest (rw c.in-Content.is at h)
+
+pub returns-in_ok-content-in-Content-clause-taken : goal.returns-in_ok-content-in-Content-clause-taken
+returns-in_ok-content-in-Content-clause-taken g c = λ kind limits q ready small h.
+    let u : List ℕ = c.args.unit.now in
+    let is : num4 (pos c.number_of-number.result) ≡ u = c.number_of-number.ensures in
+    let len : length u ≡ 4 = ap (λ (b : List ℕ). length b) (sym is) in
+    let are : are_bytes u ≡ true = subst (λ (b : List ℕ). are_bytes b ≡ true) is
+    (are_bytes_of (num4 (pos c.number_of-number.result)) (bytes4 c.number_of-number.result)) in
+    let zeros : are_zeros (drop c.in-Content.left u) ≡ true =
+    ap (λ (b : List ℕ). are_zeros b) (sym
+    (take_all (4 - c.in-Content.left) (drop c.in-Content.left u)
+    (omega (arith, length-drop c.in-Content.left u, len)))) ∙ sym c.if-not-are_zeros.ensures in
+    let some : 0 < c.in-Content.left = rw c.in-Content.is at ready in
+    last_content c.args.schema.now.kinds c.len-known.ensures.valued c.len-known.ensures.known kind limits
+    (g.B.Build.tells c.args.built.now) (g.B.Build.tells c.content.new.self)
+    (stack_of c.args.work.now c.args.parents.now.items) q u len are small
+    c.in-Content.left some (omega arith) zeros
+    (λ a told. c.in_ok-content-in-Content.ensures _ (c.in_ok-extend-in-Content-2.ensures a told))
+    (rw c.in-Content.is at h)
+
+pub returns-in_ok-leaf-in-Low-2-clause-taken : goal.returns-in_ok-leaf-in-Low-2-clause-taken
+returns-in_ok-leaf-in-Low-2-clause-taken g c = λ kind limits q ready small h.
+    let u : List ℕ = c.args.unit.now in
+    let x : ℕ = c.in-Low.high in
+    let y : ℕ = c.number_of-number.result in
+    let is : num4 (pos y) ≡ u = c.number_of-number.ensures in
+    let len : length u ≡ 4 = ap (λ (b : List ℕ). length b) (sym is) in
+    let are : are_bytes u ≡ true = subst (λ (b : List ℕ). are_bytes b ≡ true) is
+    (are_bytes_of (num4 (pos y)) (bytes4 y)) in
+    let all : are_bytes (num4 (pos x) ++ u) ≡ true =
+    are_bytes_of (num4 (pos x) ++ u) (bytes_front (num4 (pos x)) u (bytes4 x) (bytes_are u are)) in
+    let xx : x < 2 ^ 32 = omega arith in
+    let yy : y < 2 ^ 32 = omega arith in
+    let two : c.from.result * 4294967296 + c.from-in-Low.result ≡ from_be_bytes w64 (num4 (pos x) ++ u) =
+    ap (λ (n : ℕ). n * 4294967296 + c.from-in-Low.result) c.from.ensures
+    ∙ ap (λ (n : ℕ). x * 4294967296 + n) c.from-in-Low.ensures
+    ∙ sym (two_units x y xx yy) ∙ ap (λ (b : List ℕ). from_be_bytes w64 (num4 (pos x) ++ b)) is in
+    let what : c.args.awaits ≡ Low false x = c.in-Low.is ∙ ap (λ (b : Bool). Low b x) c.if-signed.false in
+    let head : value.unsigned_hyper (c.from.result * 4294967296 + c.from-in-Low.result) ≡ make_wide false
+    (num4 (pos x) ++ u) = ap value.unsigned_hyper two in
+    second_of_two c.args.schema.now.kinds c.len-known.ensures.valued c.len-known.ensures.known kind limits
+    (g.B.Build.tells c.args.built.now) (g.B.Build.tells c.leaf-else-signed.new.self)
+    (stack_of c.args.work.now c.args.parents.now.items) q u len are small
+    false x (value.unsigned_hyper (c.from.result * 4294967296 + c.from-in-Low.result)) head all
+    c.in_ok-leaf-in-Low-2.ensures (rw what at h)
+
+pub returns-in_ok-leaf-in-Low-clause-taken : goal.returns-in_ok-leaf-in-Low-clause-taken
+returns-in_ok-leaf-in-Low-clause-taken g c = λ kind limits q ready small h.
+    let u : List ℕ = c.args.unit.now in
+    let x : ℕ = c.in-Low.high in
+    let y : ℕ = c.number_of-number.result in
+    let is : num4 (pos y) ≡ u = c.number_of-number.ensures in
+    let len : length u ≡ 4 = ap (λ (b : List ℕ). length b) (sym is) in
+    let are : are_bytes u ≡ true = subst (λ (b : List ℕ). are_bytes b ≡ true) is
+    (are_bytes_of (num4 (pos y)) (bytes4 y)) in
+    let all : are_bytes (num4 (pos x) ++ u) ≡ true =
+    are_bytes_of (num4 (pos x) ++ u) (bytes_front (num4 (pos x)) u (bytes4 x) (bytes_are u are)) in
+    let xx : x < 2 ^ 32 = omega arith in
+    let yy : y < 2 ^ 32 = omega arith in
+    let two : c.from.result * 4294967296 + c.from-in-Low.result ≡ from_be_bytes w64 (num4 (pos x) ++ u) =
+    ap (λ (n : ℕ). n * 4294967296 + c.from-in-Low.result) c.from.ensures
+    ∙ ap (λ (n : ℕ). x * 4294967296 + n) c.from-in-Low.ensures
+    ∙ sym (two_units x y xx yy) ∙ ap (λ (b : List ℕ). from_be_bytes w64 (num4 (pos x) ++ b)) is in
+    let what : c.args.awaits ≡ Low true x = c.in-Low.is ∙ ap (λ (b : Bool). Low b x) c.if-signed.true in
+    let n : ℕ = c.from.result * 4294967296 + c.from-in-Low.result in
+    let below : n < 2 ^ 64 = omega (arith, c.from.ensures, c.from-in-Low.ensures) in
+    let fits : Fits w64 n = search (rules, below) in
+    let head : value.hyper (to_z w64 (of_z w64 c.cast_signed.result)) ≡ make_wide true (num4 (pos x) ++ u) =
+    ap (λ (z : ℤ). value.hyper (to_z w64 (of_z w64 z))) c.cast_signed.ensures
+    ∙ ap (λ (m : ℕ). value.hyper (to_z w64 m)) (of_z-to_z fits) ∙ ap value.hyper (to64 n)
+    ∙ ap (λ (n : ℕ). value.hyper (cond (nat_lt n 9223372036854775808) (pos n) (negsuc (18446744073709551615 - n))))
+    two in
+    second_of_two c.args.schema.now.kinds c.len-known.ensures.valued c.len-known.ensures.known kind limits
+    (g.B.Build.tells c.args.built.now) (g.B.Build.tells c.leaf.new.self)
+    (stack_of c.args.work.now c.args.parents.now.items) q u len are small
+    true x (value.hyper (to_z w64 (of_z w64 c.cast_signed.result))) head all c.in_ok-leaf-in-Low.ensures (rw what at h)

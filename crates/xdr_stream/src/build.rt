@@ -1,0 +1,55 @@
+//! What is made of the nodes that are read.
+ghost use Rattle.std.specs.Prelude.{List, ℕ, OnOk};
+ghost use Rattle.xdr_stream.specs.Trace.{Trace, leaf_in, open_in, close_in, extend_in, content_in, CanClose};
+ghost use Rattle.xdr_stream.specs.Nodes.{head_of_leaf, head_of_node};
+
+use std::alloc::AllocError;
+
+/// A node without parts.
+#[derive(Clone, Copy)]
+pub enum Leaf {
+    Int(i32),
+    Unsigned(u32),
+    Hyper(i64),
+    UnsignedHyper(u64),
+    Bool(bool),
+    Numbered(i32),
+    Empty,
+    Absent,
+    Nothing,
+}
+
+/// A node with parts.
+#[derive(Clone, Copy)]
+pub enum Node {
+    Items(u32),
+    Fields,
+    Tag(i64),
+    Present,
+}
+
+/// Takes the nodes as they are read, a parent before its parts.
+pub trait Build {
+    /// What it was told: the nodes at work with their finished parts, and the content so far.
+    ghost tells: { Self → Trace → Type 0 };
+
+    /// A node without parts.
+    fn leaf(&mut self, leaf: Leaf) -> Result<(), AllocError>
+        ensures { OnOk result ((t : Trace) → tells self.old t → tells self.new (leaf_in (head_of_leaf leaf) t)) };
+
+    /// A node whose parts come next.
+    fn open(&mut self, node: Node) -> Result<(), AllocError>
+        ensures { OnOk result ((t : Trace) → tells self.old t → tells self.new (open_in (head_of_node node) t)) };
+
+    /// The end of the node that was opened last.
+    fn close(&mut self) -> Result<(), AllocError>
+        ensures { OnOk result ((t : Trace) → tells self.old t → CanClose t → tells self.new (close_in t)) };
+
+    /// Bytes of content.
+    fn extend(&mut self, bytes: &[u8]) -> Result<(), AllocError>
+        ensures { OnOk result ((t : Trace) → tells self.old t → tells self.new (extend_in bytes.now t)) };
+
+    /// The end of the content, which makes a node without parts.
+    fn content(&mut self) -> Result<(), AllocError>
+        ensures { OnOk result ((t : Trace) → tells self.old t → tells self.new (content_in t)) };
+}

@@ -1,0 +1,61 @@
+//! Reading without a value.
+ghost use Rattle.std.specs.Prelude.{⊤};
+
+use crate::build::{Build, Leaf, Node};
+use crate::decoder::Reader;
+use crate::frame::Frame;
+use crate::machine::State;
+use std::alloc::{AllocError, Global};
+use xdr_types::{KindId, Limits, Schema};
+
+/// Makes nothing of the nodes.
+#[derive(Clone, Copy)]
+pub struct Nothing;
+
+impl Build for Nothing {
+    ghost tells = { λ _ _. ⊤ };
+
+    fn leaf(&mut self, _: Leaf) -> Result<(), AllocError> {
+        Ok(())
+    }
+
+    fn open(&mut self, _: Node) -> Result<(), AllocError> {
+        Ok(())
+    }
+
+    fn close(&mut self) -> Result<(), AllocError> {
+        Ok(())
+    }
+
+    fn extend(&mut self, _: &[u8]) -> Result<(), AllocError> {
+        Ok(())
+    }
+
+    fn content(&mut self) -> Result<(), AllocError> {
+        Ok(())
+    }
+}
+
+/// A checker that has been given no byte.
+pub fn check<'s>(
+    alloc: Global,
+    schema: &'s Schema,
+    kind: KindId,
+    limits: Limits,
+) -> Reader<'s, Nothing> {
+    Reader {
+        schema,
+        kind,
+        limits,
+        work: Frame::Items {
+            item: kind,
+            left: 1,
+        },
+        parents: Vec::new(alloc),
+        built: Nothing,
+        read: 0,
+        unit: [0; 4],
+        pending: 0,
+        state: State::Fresh,
+    }
+}

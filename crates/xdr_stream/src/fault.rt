@@ -1,0 +1,43 @@
+//! Why bytes are refused.
+
+use thiserror::Error;
+
+/// Why bytes are not the encoding of a value.
+#[derive(Clone, Copy, Debug, PartialEq, Eq, Error)]
+pub enum Reason {
+    /// A boolean, the flag of an optional or a boolean discriminant that is neither 0 nor 1.
+    #[error("neither 0 nor 1")]
+    BadBool,
+    /// An enumeration, or a discriminant of one, without a member of that number.
+    #[error("no member has this number")]
+    BadNumbered,
+    /// A legal discriminant without an arm or a default.
+    #[error("no arm for this discriminant")]
+    BadCase,
+    /// A length or a count above its maximum.
+    #[error("longer than the maximum")]
+    TooLong,
+    /// Padding that is not zero.
+    #[error("padding that is not zero")]
+    BadPadding,
+    /// A node lies deeper than the limit on depth.
+    #[error("deeper than the limit")]
+    TooDeep,
+    /// The value is not whole at the limit on bytes.
+    #[error("larger than the limit")]
+    TooLarge,
+    /// The bytes end inside the value.
+    #[error("cut short")]
+    Truncated,
+    /// Memory was refused.
+    #[error("out of memory")]
+    NoMemory,
+}
+
+/// A reason, and the count of bytes before the unit or the node that it is about.
+#[derive(Clone, Copy, Debug, PartialEq, Eq, Error)]
+#[error("{why} at {at}")]
+pub struct DecodeFault {
+    pub why: Reason,
+    pub at: usize,
+}

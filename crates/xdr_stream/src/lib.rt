@@ -1,0 +1,14 @@
+//! A decoder of XDR that reads unit by unit and keeps no input.
+#![tactic(auto)]
+
+pub mod build;
+pub mod checker;
+pub mod decoder;
+pub mod fault;
+pub mod frame;
+pub mod machine;
+pub mod number;
+pub mod unit;
+pub mod values;
+
+pub use fault::{DecodeFault, Reason};

@@ -1,0 +1,71 @@
+//! What comes next after a whole unit, and what is read of it.
+ghost use Rattle.std.specs.Prelude.{◌≡◌, pos, IfOk, IfErr};
+ghost use Rattle.xdr_units.specs.Numbers.{num4};
+ghost use Rattle.xdr_stream.specs.Frames.{stack_of};
+ghost use Rattle.xdr_stream.specs.Sees.{TakesUnit, RefusesUnit, are_zeros};
+
+use crate::build::{Build, Leaf};
+use crate::fault::Reason;
+use crate::frame::Frame;
+use crate::machine::{Awaits, take_number};
+use xdr_types::Schema;
+
+// The number of a unit.
+fn number_of(unit: &[u8; 4]) -> u32
+    ensures { num4 (pos result) ≡ unit.now }
+{
+    u32::from_be_bytes(*unit)
+}
+
+fn are_zeros(bytes: &[u8]) -> bool
+    ensures { result ≡ are_zeros bytes.now }
+{
+    match bytes {
+        [] => true,
+        [0, others @ ..] => are_zeros(others),
+        [_, ..] => false,
+    }
+}
+
+/// Takes a whole unit, and tells what comes next, before it is settled.
+pub fn take_unit<'s, B: Build>(
+    schema: &'s Schema,
+    awaits: Awaits,
+    work: &mut Frame<'s>,
+    parents: &mut Vec<Frame<'s>>,
+    built: &mut B,
+    unit: &[u8; 4],
+) -> Result<Awaits, Reason>
+    ensures taken { IfOk result (λ a. TakesUnit schema.now.kinds (B.tells built.old) awaits
+        (stack_of work.old parents.old.items) (B.tells built.new) a (stack_of work.new parents.new.items) unit.now) }
+    ensures refused { IfErr result (RefusesUnit schema.now.kinds (B.tells built.old) awaits
+        (stack_of work.old parents.old.items) unit.now) }
+{
+    let number = number_of(unit);
+    let _known = schema.len();
+    match awaits {
+        Awaits::Next => take_number(schema, work, parents, built, number),
+        Awaits::Wide(signed) => Ok(Awaits::Low(signed, number)),
+        Awaits::Low(signed, high) => {
+            let whole = u64::from(high) * 4294967296 + u64::from(number);
+            if signed {
+                built.leaf(Leaf::Hyper(whole.cast_signed()))?;
+            } else {
+                built.leaf(Leaf::UnsignedHyper(whole))?;
+            }
+            Ok(Awaits::Next)
+        }
+        Awaits::Content(left) => {
+            if left > 4 {
+                built.extend(unit)?;
+                return Ok(Awaits::Content(left - 4));
+            }
+            if !are_zeros(&unit[left as usize..]) {
+                return Err(Reason::BadPadding);
+            }
+            built.extend(&unit[..left as usize])?;
+            built.content()?;
+            Ok(Awaits::Next)
+        }
+    }
+}

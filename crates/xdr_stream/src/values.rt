@@ -1,0 +1,127 @@
+//! The value that the nodes make.
+ghost use Rattle.std.specs.Prelude.{◌≡◌};
+ghost use Rattle.std.specs.Prelude.{[], OnOk};
+ghost use Rattle.xdr_types.specs.View.{tree};
+ghost use Rattle.xdr_stream.specs.Nodes.{head_of_leaf, head_of_node};
+ghost use Rattle.xdr_stream.specs.Trace.{level as told, added, IsOpen, IsFilled};
+ghost use Rattle.xdr_stream.specs.Values.{trace_of, level_of, closed_tree, leaf_tree};
+
+use crate::build::{Build, Leaf, Node};
+use std::alloc::{AllocError, Global};
+use xdr_types::Value;
+
+/// A node at work with its finished parts.
+#[derive(Drop)]
+pub enum Level {
+    Root(Option<Value>),
+    Items { count: u32, items: Vec<Value> },
+    Fields(Vec<Value>),
+    Choice { tag: i64, part: Option<Box<Value>> },
+    Maybe(Option<Box<Value>>),
+}
+
+/// The nodes at work, the innermost apart from its parents, and the content so far.
+#[derive(Drop)]
+pub struct Values {
+    pub alloc: Global,
+    pub work: Level,
+    pub parents: Vec<Level>,
+    pub content: Vec<u8>,
+}
+
+// One more finished part.
+fn add(alloc: Global, level: &mut Level, value: Value) -> Result<(), AllocError>
+    ensures { OnOk result (level_of level.new ≡ told (level_of level.old).head
+        (added (level_of level.old).head (level_of level.old).done (tree value))) }
+{
+    match level {
+        Level::Root(part) => *part = Some(value),
+        Level::Items { items, .. } => items.push(value)?,
+        Level::Fields(items) => items.push(value)?,
+        Level::Choice { part, .. } => *part = Some(Box::new(alloc, value)?),
+        Level::Maybe(part) => *part = Some(Box::new(alloc, value)?),
+    }
+    Ok(())
+}
+
+// The value of a finished node.
+fn closed(level: Level) -> Value
+    ensures { IsOpen (level_of level).head → IsFilled (level_of level).head (level_of level).done
+        → tree result ≡ closed_tree (level_of level) }
+{
+    match level {
+        Level::Root(Some(value)) => value,
+        Level::Root(None) => Value::Nothing,
+        Level::Items { items, .. } => Value::List(items),
+        Level::Fields(items) => Value::Group(items),
+        Level::Choice {
+            tag,
+            part: Some(part),
+        } => Value::Choice { tag, part },
+        Level::Choice { part: None, .. } => Value::Nothing,
+        Level::Maybe(part) => Value::Maybe(part),
+    }
+}
+
+fn value_of(alloc: Global, leaf: Leaf) -> Value
+    ensures { tree result ≡ leaf_tree (head_of_leaf leaf) }
+{
+    match leaf {
+        Leaf::Int(n) => Value::Int(n),
+        Leaf::Unsigned(n) => Value::Unsigned(n),
+        Leaf::Hyper(n) => Value::Hyper(n),
+        Leaf::UnsignedHyper(n) => Value::UnsignedHyper(n),
+        Leaf::Bool(b) => Value::Bool(b),
+        Leaf::Numbered(n) => Value::Numbered(n),
+        Leaf::Empty => Value::Bytes(Vec::new(alloc)),
+        Leaf::Absent => Value::Maybe(None),
+        Leaf::Nothing => Value::Nothing,
+    }
+}
+
+fn begun(alloc: Global, node: Node) -> Level
+    ensures { level_of result ≡ told (head_of_node node) [] }
+{
+    match node {
+        Node::Items(count) => Level::Items {
+            count,
+            items: Vec::new(alloc),
+        },
+        Node::Fields => Level::Fields(Vec::new(alloc)),
+        Node::Tag(tag) => Level::Choice { tag, part: None },
+        Node::Present => Level::Maybe(None),
+    }
+}
+
+impl Build for Values {
+    ghost tells = { λ b t. trace_of b ≡ t };
+
+    fn leaf(&mut self, leaf: Leaf) -> Result<(), AllocError> {
+        add(self.alloc, &mut self.work, value_of(self.alloc, leaf))
+    }
+
+    fn open(&mut self, node: Node) -> Result<(), AllocError> {
+        self.parents.reserve(1)?;
+        let parent = std::mem::replace(&mut self.work, begun(self.alloc, node));
+        self.parents.push_reserved(parent);
+        Ok(())
+    }
+
+    fn close(&mut self) -> Result<(), AllocError> {
+        if let Some(parent) = self.parents.pop() {
+            let level = std::mem::replace(&mut self.work, parent);
+            add(self.alloc, &mut self.work, closed(level))?;
+        }
+        Ok(())
+    }
+
+    fn extend(&mut self, bytes: &[u8]) -> Result<(), AllocError> {
+        self.content.extend_from_slice(bytes)?;
+        Ok(())
+    }
+
+    fn content(&mut self) -> Result<(), AllocError> {
+        let content = std::mem::replace(&mut self.content, Vec::new(self.alloc));
+        add(self.alloc, &mut self.work, Value::Bytes(content))
+    }
+}
