@@ -40,14 +40,14 @@ use Rattle.xdr_types.proofs.Higher.{higher-at}
 -- ---- what a well formed schema has: nothing void stands as a field or an item, nothing fixed is of size 0, and a
 -- structure has fields
 
-abbrev IsSolid : KindView → Type 0
+abbrev pub IsSolid : KindView → Type 0
 IsSolid xdr.nothing = ⊥
 IsSolid _ = ⊤
 
-abbrev AreMembers : List KindView → List Part → Type 0
+abbrev pub AreMembers : List KindView → List Part → Type 0
 AreMembers s ts = AllByRecursion (λ (t : Part). IsSolid (kind_at s t.kind)) ts
 
-abbrev IsFormedKind : List KindView → KindView → Type 0
+abbrev pub IsFormedKind : List KindView → KindView → Type 0
 IsFormedKind s (xdr.opaque size) = 0 < size
 IsFormedKind s (xdr.fixed item size) = (0 < size) × IsSolid (kind_at s item)
 IsFormedKind s (xdr.up_to item max) = IsSolid (kind_at s item)
@@ -55,7 +55,7 @@ IsFormedKind s (xdr.structure fields) = (0 < length fields) × AreMembers s fiel
 IsFormedKind s (xdr.maybe item) = IsSolid (kind_at s item)
 IsFormedKind s _ = ⊤
 
-abbrev IsFormed : List KindView → Type 0
+abbrev pub IsFormed : List KindView → Type 0
 IsFormed s = (t : ℕ) → IsFormedKind s (kind_at s t)
 
 -- what a kind has without reading a byte: the parts of a structure and of a fixed list
@@ -639,7 +639,7 @@ no_flaw s f e =
     let e7 = if-none (has_empty_list f) flaw.EmptyList _ e6 in
     formed_kind s f e2.0 e3.0 e7.0
 
-formed_of : (s : Lists) → IsWellFormed s → IsFormed s.kinds
+pub formed_of : (s : Lists) → IsWellFormed s → IsFormed s.kinds
 formed_of s well t = elim (cases_lt t (length s.kinds)) [
   | inl known ↦ no_flaw s.kinds (kind_at s.kinds t) (well.kinds t known)
   | inr past ↦ subst (λ (f : KindView). IsFormedKind s.kinds f) (sym (get_or_past s.kinds t xdr.unknown past)) tt

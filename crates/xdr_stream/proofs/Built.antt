@@ -140,7 +140,8 @@ added_opens s t [] [] h ts left p r done v o n =
 added_opens s t (l ∷ ls) (f ∷ fs) h ts left p r done v o n =
     elim (many_or s (kind_at s o.1.kind) h (legal_is s (kind_at s o.1.kind) h o.6)) [
       | inl many ↦ added_many h done v many
-      | inr few ↦ added_few h done v (omega (arith, few, ap (λ (x : List Part). length x) o.7, length-append ts (p ∷ left)))
+      | inr few ↦ added_few h done v (omega
+          (arith, few, ap (λ (x : List Part). length x) o.7, length-append ts (p ∷ left)))
     ]
 added_opens s t [] (f ∷ fs) h ts left p r done v o n = absurd o
 added_opens s t (l ∷ ls) [] h ts left p r done v o n = absurd o

@@ -9,7 +9,12 @@ use Rattle.xdr_laws.specs.Laws.{IsUnfinished}
 use Rattle.xdr_laws.proofs.Events.{outcome_large, outcome_pending}
 use Rattle.xdr_stream.specs.Frames.{dues}
 use Rattle.xdr_stream.specs.Trace.{Trace, level}
-use Rattle.xdr_stream.specs.Sees.{Sees, Reading, Built, IsReady}
+use Rattle.xdr_laws.specs.Owed.{Due}
+use Rattle.xdr_stream.specs.Sees.{Sees, Reading, Built, IsReady, GoesDeep, Ends, reason_of}
+use Rattle.xdr_stream.specs.declared.machine.Trouble.{Trouble}
+use Rattle.xdr_stream.specs.declared.machine.Trouble.TheVariants.{TooDeep, NoMemory}
+use Rattle.std.proofs.Common.{◌%◌, ◌≤◌, inl, inr, refl}
+use Rattle.std.proofs.lemmas.Bool.{cases_lt}
 use Rattle.xdr_stream.specs.declared.machine.Awaits.{Awaits}
 use Rattle.xdr_stream.specs.declared.machine.Awaits.TheVariants.{Next, Content, Wide, Low}
 use Rattle.xdr_stream.proofs.Built.{built_whole}
@@ -49,3 +54,18 @@ module _ (s : List KindView) (t : ℕ) (l : Bounds) (H : Trace → Type 0) (q : 
       let read : Reading s t l (dues ([] ∷ [])) q =
       subst (λ (x : List (List Part)). Reading s t l (dues x) q) ended r.reading in
       (b.0, b.1, ends_whole s t l q rest b.0 b.2 b.3 (reading_close s t l [] q read))
+
+-- why nothing more begins, as a reason
+pub ends_trouble : (s : List KindView) (t : ℕ) (l : Bounds) (H : Trace → Type 0) (fs : List (List Part))
+    (q rest : List ℕ)
+    (e : Trouble) → GoesDeep s l H fs e → Sees s t l H Next fs q → Ends s t l (reason_of e) (q ++ rest) (length q)
+ends_trouble s t l H fs q rest TooDeep d h = d t q rest h
+ends_trouble s t l H fs q rest NoMemory d h = tt
+
+-- no more than the limit is read
+pub within_limit : (s : List KindView) (t : ℕ) (l : Bounds) (ds : List Due) (q : List ℕ) → l.bytes % 4 ≡ 0
+    → Reading s t l ds q → length q ≤ l.bytes
+within_limit s t l ds q units r = elim (cases_lt l.bytes (length q)) [
+  | inl more ↦ absurd (((r.reached []).before l.bytes more units).small refl)
+  | inr most ↦ most
+]

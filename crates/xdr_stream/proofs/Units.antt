@@ -3,7 +3,7 @@ use Rattle.std.proofs.Common.{◌≡◌, ℕ, ◌+◌, ◌-◌, ◌*◌, ◌%◌
 use Rattle.std.proofs.Common.{[], ◌∷◌, ◌++◌, length, take, drop, refl, sym, ap, subst, ◌∙◌, append_assoc, append-nil}
 use Rattle.std.proofs.Common.{arith, replicate}
 use Rattle.std.specs.Int.{w32, w64, from_be_bytes}
-use Rattle.std.proofs.Common.{rules, cond, nat_lt, negsuc, to_z}
+use Rattle.std.proofs.Common.{get_or, suc, rules, cond, nat_lt, negsuc, to_z}
 use Rattle.std.proofs.lemmas.Bool.{cases_lt, false≢true}
 use Rattle.std.proofs.lemmas.List.{length-append, length-take, take-append-drop}
 use Rattle.std.proofs.Common.{inl, inr}
@@ -223,3 +223,11 @@ module _ (s : List KindView) (has : EachKindHasAValue s) (known : EachPartIsKnow
     built = into_more s t r.trace.levels fs r.trace.content u value.bytes n (n - length u) q units are
         (omega arith) r.built;
   }
+
+-- bytes that are taken of bytes
+pub bytes_taken : (n : ℕ) (bs : List ℕ) → ((i : ℕ) → get_or bs i 0 < 256) → are_bytes (take n bs) ≡ true
+bytes_taken n bs h = are_bytes_of (take n bs) (bytes_take n bs (all bs h))
+  where
+    all : (bs : List ℕ) → ((i : ℕ) → get_or bs i 0 < 256) → AreBytes bs
+    all [] h = tt
+    all (b ∷ bs) h = (h 0, all bs (λ i. h (suc i)))

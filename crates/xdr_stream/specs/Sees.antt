@@ -127,6 +127,11 @@ GoesDeep kinds limits H fs TooDeep = (kind : ℕ) (q rest : List ℕ) → Sees k
     → Outcome kinds kind limits (q ++ rest) (outcome.TooDeep (length q))
 GoesDeep kinds limits H fs NoMemory = ⊤
 
+-- the reason that it is
+abbrev pub reason_of : Trouble → Reason
+reason_of TooDeep = reason.TooDeep
+reason_of NoMemory = reason.NoMemory
+
 -- the height of what comes next, and one more
 abbrev pub next_height : List KindView → List Part → ℕ
 next_height kinds [] = 0

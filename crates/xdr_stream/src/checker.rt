@@ -2,9 +2,8 @@
 ghost use Rattle.std.specs.Prelude.{⊤};
 
 use crate::build::{Build, Leaf, Node};
-use crate::decoder::Reader;
 use crate::frame::Frame;
-use crate::machine::State;
+use crate::reader::{Reader, State};
 use std::alloc::{AllocError, Global};
 use xdr_types::{KindId, Limits, Schema};
 

@@ -5,9 +5,11 @@ pub mod build;
 pub mod checker;
 pub mod decoder;
 pub mod fault;
+pub mod feeding;
 pub mod frame;
 pub mod machine;
 pub mod number;
+pub mod reader;
 pub mod unit;
 pub mod values;
 

@@ -9,10 +9,11 @@ ghost use Rattle.xdr_stream.specs.Frames.{left_of, rest_of, stack_of, onto};
 ghost use Rattle.xdr_stream.specs.Trace.{Trace, open_in};
 ghost use Rattle.xdr_stream.specs.Nodes.{head_of_node};
 ghost use Rattle.xdr_stream.specs.Sees.{Sees, Follows, EndsAs, IsReady, GoesDeep, TakesUnit, RefusesUnit, Settles};
+ghost use Rattle.xdr_stream.specs.Live.{IsLive};
 ghost use Rattle.xdr_stream.specs.declared.machine.Awaits.TheVariants.{Next};
 
 use crate::build::{Build, Leaf, Node};
-use crate::fault::{DecodeFault, Reason};
+use crate::fault::Reason;
 use crate::frame::{Frame, after, next};
 use crate::number::{Made, made_of};
 use std::alloc::{AllocError, Global};
@@ -29,19 +30,6 @@ pub enum Awaits {
     Wide(bool),
     /// The second one, after this first one.
     Low(bool, u32),
-}
-
-/// Where reading stands.
-#[derive(Clone, Copy)]
-pub enum State {
-    /// Nothing has begun.
-    Fresh,
-    /// A unit is needed.
-    Reading(Awaits),
-    /// The value is whole.
-    Finished,
-    /// The bytes were refused.
-    Failed(DecodeFault),
 }
 
 /// Why nothing more begins.
@@ -236,6 +224,7 @@ pub fn take_number<'s, B: Build>(
     built: &mut B,
     number: u32,
 ) -> Result<Awaits, Reason>
+    ensures live { IfOk result IsLive }
     ensures taken { IfOk result (λ a. TakesUnit schema.now.kinds (B.tells built.old) Next
         (stack_of work.old parents.old.items) (B.tells built.new) a (stack_of work.new parents.new.items)
         (num4 (pos number))) }

@@ -1,7 +1,8 @@
 //! What comes next after a whole unit, and what is read of it.
-ghost use Rattle.std.specs.Prelude.{◌≡◌, pos, IfOk, IfErr};
+ghost use Rattle.std.specs.Prelude.{◌≡◌, pos, length, IfOk, IfErr};
 ghost use Rattle.xdr_units.specs.Numbers.{num4};
 ghost use Rattle.xdr_stream.specs.Frames.{stack_of};
+ghost use Rattle.xdr_stream.specs.Live.{IsLive};
 ghost use Rattle.xdr_stream.specs.Sees.{TakesUnit, RefusesUnit, are_zeros};
 
 use crate::build::{Build, Leaf};
@@ -36,6 +37,8 @@ pub fn take_unit<'s, B: Build>(
     built: &mut B,
     unit: &[u8; 4],
 ) -> Result<Awaits, Reason>
+    ensures size { length unit.now ≡ 4 }
+    ensures live { IfOk result IsLive }
     ensures taken { IfOk result (λ a. TakesUnit schema.now.kinds (B.tells built.old) awaits
         (stack_of work.old parents.old.items) (B.tells built.new) a (stack_of work.new parents.new.items) unit.now) }
     ensures refused { IfErr result (RefusesUnit schema.now.kinds (B.tells built.old) awaits

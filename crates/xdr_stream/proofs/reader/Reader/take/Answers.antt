@@ -1,0 +1,26 @@
+use Rattle.std.proofs.Common.{◌≡◌, ◌≤◌, ℕ, List, ◌++◌, length, subst, sym, append_assoc, arith}
+use Rattle.std.proofs.lemmas.List.{length-append}
+use Rattle.xdr_stream.specs.Sees.{Ends}
+use Rattle.xdr_stream.proofs.Standing.{within_limit}
+use Rattle.xdr_stream.proofs.reader.Reader.take.Goals as goal
+
+pub returns-in-Ok-clause-stands : goal.returns-in-Ok-clause-stands
+returns-in-Ok-clause-stands g c = λ q len none h ready small.
+    let a = c.args.self.now in
+    let next = c.in-Ok.ensures.taken a.kind.place a.limits q ready small h in
+    let most : length q ≤ a.limits.bytes =
+    within_limit a.schema.now.kinds a.kind.place a.limits _ q c.depth-range.ensures.range.units h.reading in
+    let far : length (q ++ c.args.unit.now) ≡ c.saturating_add-self.result =
+    omega (arith, length-append q c.args.unit.now, c.take_unit.ensures.size, len, most, c.depth-range.ensures.range.most_bytes, c.saturating_add-self.ensures) in
+    c.settle.ensures.stands (q ++ c.args.unit.now) far none c.in-Ok.ensures.live next
+
+pub returns-in-Err-clause-stands : goal.returns-in-Err-clause-stands
+returns-in-Err-clause-stands g c = λ q len none h ready small.
+    let a = c.args.self.now in
+    c.fail.ensures.stands (q ++ c.args.unit.now)
+    (λ rest. subst (λ (n : ℕ). Ends a.schema.now.kinds a.kind.place a.limits c.in-Err.why
+    ((q ++ c.args.unit.now) ++ rest) n) len
+    (subst (λ (b : List ℕ). Ends a.schema.now.kinds a.kind.place a.limits c.in-Err.why b (length q))
+    (sym (append_assoc q c.args.unit.now rest))
+    (c.in-Err.ensures.refused a.kind.place a.limits q rest ready small h)))
+    (omega (arith, length-append q c.args.unit.now, len))

@@ -1,0 +1,271 @@
+//! Pieces of bytes, read unit by unit.
+ghost use Rattle.std.specs.Prelude.{◌≡◌, ◌+◌, ◌≤◌, ◌<◌, ◌%◌, ℕ, List, [], ◌∷◌, ◌++◌, length, take, drop, IfOk, IfErr};
+ghost use Rattle.std.specs.Prelude.{Ok, Err};
+ghost use Rattle.xdr_stream.specs.Frames.{stack_of};
+ghost use Rattle.xdr_stream.specs.Sees.{Sees, IsReady, Ends, reason_of};
+ghost use Rattle.xdr_stream.specs.Live.{IsLive};
+ghost use Rattle.xdr_stream.specs.Stands.{StandsFor, IsAwake, IsWaiting, IsSame, Answers, taken, used_of};
+ghost use Rattle.xdr_stream.specs.declared.machine.Awaits.TheVariants.{Content};
+ghost use Rattle.xdr_stream.specs.declared.reader.State.TheVariants.{Reading, Finished, Failed};
+ghost use Rattle.xdr_stream.specs.declared.reader.Progress.TheVariants.{Done};
+
+use crate::build::Build;
+use crate::fault::{DecodeFault, Reason};
+use crate::machine::{Awaits, Trouble, settle};
+use crate::reader::{Progress, Reader, State};
+use crate::unit::take_unit;
+
+/// What is left to read of content, and how many whole units of it are there: within what is left and the limit.
+pub fn units_there(left: u32, there: usize, room: usize) -> usize
+    ensures units { result % 4 ≡ 0 }
+    ensures left { result ≤ left }
+    ensures there { result ≤ there }
+    ensures room { result ≤ room }
+{
+    let most = (left as usize).min(there).min(room);
+    most - most % 4
+}
+
+// The unit at a place.
+fn unit_at(bytes: &[u8], at: usize) -> [u8; 4]
+    requires { at + 4 ≤ length bytes.now }
+    ensures { result ≡ take 4 (drop at bytes.now) }
+{
+    [bytes[at], bytes[at + 1], bytes[at + 2], bytes[at + 3]]
+}
+
+// A unit with this last byte.
+fn with_last(unit: [u8; 4], byte: u8) -> [u8; 4]
+    ensures { result ≡ take 3 unit ++ byte ∷ [] }
+{
+    [unit[0], unit[1], unit[2], byte]
+}
+
+impl<'s, B: Build + Drop> Reader<'s, B> {
+    // Ends and begins what takes no byte, where this comes next after whole units.
+    fn settle(&mut self, awaits: Awaits)
+        ensures stands { (q : List ℕ) → length q ≡ self.old.read → self.old.pending ≡ 0 → IsLive awaits
+            → Sees self.old.schema.now.kinds self.old.kind.place self.old.limits (B.tells self.old.built) awaits
+            (stack_of self.old.work self.old.parents.items) q
+            → StandsFor B.tells self.new q }
+        ensures awake { IsAwake self.new.state }
+        ensures pending { self.new.pending ≡ self.old.pending }
+        ensures same { IsSame self.old self.new }
+    {
+        match awaits {
+            Awaits::Next => match settle(
+                self.schema,
+                self.limits,
+                &mut self.work,
+                &mut self.parents,
+                &mut self.built,
+            ) {
+                Ok(Some(next)) => self.go_on(next),
+                Ok(None) => self.state = State::Finished,
+                Err(trouble) => self.fail(reason_of(trouble)),
+            },
+            Awaits::Content(_) => self.go_on(awaits),
+            Awaits::Wide(_) => self.go_on(awaits),
+            Awaits::Low(_, _) => self.go_on(awaits),
+        }
+    }
+
+    // A unit is needed: it is asked for, unless the limit on bytes is reached.
+    fn go_on(&mut self, awaits: Awaits)
+        ensures stands { (q : List ℕ) → length q ≡ self.old.read → self.old.pending ≡ 0
+            → Sees self.old.schema.now.kinds self.old.kind.place self.old.limits (B.tells self.old.built) awaits
+            (stack_of self.old.work self.old.parents.items) q
+            → IsReady self.old.schema.now.kinds self.old.limits awaits (stack_of self.old.work self.old.parents.items)
+            → StandsFor B.tells self.new q }
+        ensures awake { IsAwake self.new.state }
+        ensures pending { self.new.pending ≡ self.old.pending }
+        ensures same { IsSame self.old self.new }
+    {
+        if self.read == self.limits.bytes() as usize {
+            self.fail(Reason::TooLarge);
+        } else {
+            self.state = State::Reading(awaits);
+        }
+    }
+
+    // Refuses what comes after the units that are read.
+    fn fail(&mut self, why: Reason)
+        ensures stands { (b : List ℕ)
+            → ((rest : List ℕ) → Ends self.old.schema.now.kinds self.old.kind.place self.old.limits why
+            (b ++ rest) self.old.read)
+            → self.old.read ≤ length b → StandsFor B.tells self.new b }
+        ensures awake { IsAwake self.new.state }
+        ensures pending { self.new.pending ≡ self.old.pending }
+        ensures same { IsSame self.old self.new }
+    {
+        self.state = State::Failed(DecodeFault { why, at: self.read });
+    }
+
+    // Takes a whole unit.
+    fn take(&mut self, awaits: Awaits, unit: &[u8; 4])
+        ensures stands { (q : List ℕ) → length q ≡ self.old.read → self.old.pending ≡ 0
+            → Sees self.old.schema.now.kinds self.old.kind.place self.old.limits (B.tells self.old.built) awaits
+            (stack_of self.old.work self.old.parents.items) q
+            → IsReady self.old.schema.now.kinds self.old.limits awaits (stack_of self.old.work self.old.parents.items)
+            → (length q ≡ self.old.limits.bytes → ⊥)
+            → StandsFor B.tells self.new (q ++ unit.now) }
+        ensures awake { IsAwake self.new.state }
+        ensures pending { self.new.pending ≡ self.old.pending }
+        ensures same { IsSame self.old self.new }
+    {
+        let _range = self.limits.depth();
+        match take_unit(
+            self.schema,
+            awaits,
+            &mut self.work,
+            &mut self.parents,
+            &mut self.built,
+            unit,
+        ) {
+            Ok(awaits) => {
+                self.read = self.read.saturating_add(4);
+                self.settle(awaits);
+            }
+            Err(why) => self.fail(why),
+        }
+    }
+
+    // Takes a byte.
+    fn take_byte(&mut self, awaits: Awaits, byte: u8)
+        ensures stands { (b : List ℕ) → self.old.state ≡ Reading awaits → StandsFor B.tells self.old b
+            → StandsFor B.tells self.new (b ++ byte ∷ []) }
+        ensures awake { self.old.state ≡ Reading awaits → IsAwake self.new.state }
+        ensures same { IsSame self.old self.new }
+    {
+        if self.pending < 3 {
+            self.unit[self.pending] = byte;
+            self.pending += 1;
+        } else {
+            let unit = with_last(self.unit, byte);
+            self.pending = 0;
+            self.take(awaits, &unit);
+        }
+    }
+
+    // Takes whole units of a piece that has some, where no unit is unfinished, and tells how many bytes.
+    fn take_units(&mut self, awaits: Awaits, bytes: &[u8]) -> usize
+        requires { 4 ≤ length bytes.now }
+        ensures stands { (b : List ℕ) → self.old.state ≡ Reading awaits → self.old.pending ≡ 0
+            → StandsFor B.tells self.old b → StandsFor B.tells self.new (b ++ take result bytes.now) }
+        ensures some { 0 < result }
+        ensures within { result ≤ length bytes.now }
+        ensures awake { IsAwake self.new.state }
+        ensures same { IsSame self.old self.new }
+    {
+        if let Awaits::Content(left) = awaits {
+            let room = (self.limits.bytes() as usize).saturating_sub(self.read);
+            let n = units_there(left, bytes.len(), room);
+            if n > 4 {
+                self.take_content(left - (n as u32 - 4), n, bytes);
+                return n;
+            }
+        }
+        self.take(awaits, &unit_at(bytes, 0));
+        4
+    }
+
+    // Takes so many bytes of content, whole units of a piece that has them; so many are left at the last of them.
+    fn take_content(&mut self, last: u32, n: usize, bytes: &[u8])
+        requires units { n % 4 ≡ 0 }
+        requires some { 4 < n }
+        requires last { 4 ≤ last }
+        requires there { n ≤ length bytes.now }
+        ensures stands { (b : List ℕ) (left : ℕ) → left + 4 ≡ last + n → self.old.state ≡ Reading (Content left)
+            → self.old.pending ≡ 0 → n + self.old.read ≤ self.old.limits.bytes
+            → StandsFor B.tells self.old b → StandsFor B.tells self.new (b ++ take n bytes.now) }
+        ensures awake { IsAwake self.new.state }
+        ensures same { IsSame self.old self.new }
+    {
+        let _known = self.schema.len();
+        let _range = self.limits.depth();
+        match self.built.extend(&bytes[..n - 4]) {
+            Ok(()) => {
+                self.read = self.read.saturating_add(n - 4);
+                self.take(Awaits::Content(last), &unit_at(bytes, n - 4));
+            }
+            Err(_) => self.fail(Reason::NoMemory),
+        }
+    }
+
+    // Begins what takes no byte, where nothing has begun.
+    fn wake(&mut self)
+        ensures stands { (b : List ℕ) → StandsFor B.tells self.old b → StandsFor B.tells self.new b }
+        ensures awake { IsAwake self.new.state }
+        ensures same { IsSame self.old self.new }
+    {
+        if let State::Fresh = self.state {
+            self.settle(Awaits::Next);
+        }
+    }
+
+    // Takes a piece up to the value's end or a refusal, and tells how many bytes.
+    fn take_piece(&mut self, piece: &[u8]) -> usize
+        ensures stands { (b : List ℕ) → StandsFor B.tells self.old b
+            → StandsFor B.tells self.new (b ++ take result piece.now) }
+        ensures within { result ≤ length piece.now }
+        ensures whole { IsWaiting self.new.state → result ≡ length piece.now }
+        ensures awake { IsAwake self.new.state }
+        ensures same { IsSame self.old self.new }
+    {
+        self.wake();
+        let mut at = 0;
+        while at < piece.len() {
+            let State::Reading(awaits) = self.state else {
+                return at;
+            };
+            if self.pending == 0 && piece.len() - at >= 4 {
+                at += self.take_units(awaits, &piece[at..]);
+            } else {
+                self.take_byte(awaits, piece[at]);
+                at += 1;
+            }
+        }
+        at
+    }
+
+    /// Takes the next piece, which may be empty. `Done` comes exactly where the value is whole; `used` counts the bytes
+    /// of this piece up to its end, and later pieces are not looked at. A fault comes at the first unit after which no
+    /// value goes on, at the node that is too deep, at the limit on bytes, or where memory was refused; it has taken
+    /// the
+    /// whole piece, and comes again at each later call.
+    pub fn feed(&mut self, piece: &[u8]) -> Result<Progress, DecodeFault>
+        ensures stands { (b : List ℕ) → StandsFor B.tells self.old b
+            → StandsFor B.tells self.new (b ++ taken piece.now result) }
+        ensures answer { (b : List ℕ) → StandsFor B.tells self.old b
+            → Answers self.old.schema.now.kinds self.old.kind.place self.old.limits b piece.now result }
+        ensures used { IfOk result (λ p. used_of p ≤ length piece.now) }
+        ensures done { IfOk result (λ p. (used : ℕ) → p ≡ Done used → self.new.state ≡ Finished) }
+        ensures again { self.old.state ≡ Finished → result ≡ Ok (Done 0) }
+        ensures failed { IfErr result (λ f. self.new.state ≡ Failed f) }
+        ensures for_ever { (f : DecodeFault) → self.old.state ≡ Failed f → result ≡ Err f }
+        ensures same { IsSame self.old self.new }
+    {
+        match self.state {
+            State::Finished => return Ok(Progress::Done { used: 0 }),
+            State::Failed(fault) => return Err(fault),
+            _ => {}
+        }
+        let used = self.take_piece(piece);
+        match self.state {
+            State::Failed(fault) => Err(fault),
+            State::Finished => Ok(Progress::Done { used }),
+            State::Reading(_) => Ok(Progress::More),
+            State::Fresh => Ok(Progress::More),
+        }
+    }
+}
+
+// The reason that a trouble is.
+fn reason_of(trouble: Trouble) -> Reason
+    ensures { result ≡ reason_of trouble }
+{
+    match trouble {
+        Trouble::TooDeep => Reason::TooDeep,
+        Trouble::NoMemory => Reason::NoMemory,
+    }
+}
