@@ -31,7 +31,8 @@ fails_on s t l f b more e = (
 module _ (s : List KindView) (t : ℕ) (l : Bounds) (H : Trace → Type 0) (fs : List (List Part)) (read : ℕ)
     (room : List ℕ) (pending : ℕ) where
   -- a unit is needed
-  pending_on : (a : Awaits) (b : List ℕ) → StandsAs s t l H fs read room pending (Reading a) b → Outcome s t l b Pending
+  pub pending_on : (a : Awaits) (b : List ℕ) → StandsAs s t l H fs read room pending (Reading a) b
+      → Outcome s t l b Pending
   pending_on a b r =
       subst (λ (x : List ℕ). Outcome s t l x Pending) (sym r.1)
       (sees_pending s t l H r.0 a fs (take pending room) r.5 r.6 (omega (arith, length-take pending room, r.3)) r.4)

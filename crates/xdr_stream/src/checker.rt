@@ -1,5 +1,6 @@
 //! Reading without a value.
-ghost use Rattle.std.specs.Prelude.{⊤};
+ghost use Rattle.std.specs.Prelude.{⊤, ◌<◌, [], length};
+ghost use Rattle.xdr_stream.specs.Finish.{Checks, IsStarted};
 
 use crate::build::{Build, Leaf, Node};
 use crate::frame::Frame;
@@ -41,7 +42,12 @@ pub fn check<'s>(
     schema: &'s Schema,
     kind: KindId,
     limits: Limits,
-) -> Reader<'s, Nothing> {
+) -> Reader<'s, Nothing>
+    requires { kind.place < length schema.now.kinds }
+    ensures stands { Checks result [] }
+    ensures settings { IsStarted result schema.now kind limits }
+{
+    let _known = schema.len();
     Reader {
         schema,
         kind,

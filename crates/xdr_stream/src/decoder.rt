@@ -1,13 +1,16 @@
 //! Bytes in pieces as a value, with no input kept but an unfinished unit.
-ghost use Rattle.std.specs.Prelude.{◌≡◌, ◌<◌, [], length};
-ghost use Rattle.xdr_stream.specs.Stands.{StandsFor};
+ghost use Rattle.std.specs.Prelude.{◌≡◌, ◌<◌, ◌≤◌, ℕ, List, [], length, take, Err};
+ghost use Rattle.xdr_stream.specs.Finish.{Stands, Finishes, IsStarted};
+ghost use Rattle.xdr_stream.specs.declared.fault.Reason.TheVariants.{Truncated};
+ghost use Rattle.xdr_stream.specs.declared.reader.State.TheVariants.{Failed};
 
 use crate::fault::{DecodeFault, Reason};
+use crate::first::is_deep;
 use crate::frame::Frame;
 use crate::reader::{Reader, State};
-use crate::values::{Level, Values};
+use crate::values::{Level, Values, root_of};
 use std::alloc::Global;
-use xdr_types::{KindId, Limits, Schema, Value};
+use xdr_types::{Kind, KindId, Limits, Schema, Value};
 
 /// A decoder that has been given no byte.
 pub fn start<'s>(
@@ -15,7 +18,12 @@ pub fn start<'s>(
     schema: &'s Schema,
     kind: KindId,
     limits: Limits,
-) -> Reader<'s, Values> {
+) -> Reader<'s, Values>
+    requires { kind.place < length schema.now.kinds }
+    ensures stands { Stands result [] }
+    ensures settings { IsStarted result schema.now kind limits }
+{
+    let _known = schema.len();
     Reader {
         schema,
         kind,
@@ -38,24 +46,68 @@ pub fn start<'s>(
     }
 }
 
-/// The value, after a last look at what takes no byte.
-pub fn finish<'s>(reader: Reader<'s, Values>) -> Result<Value, DecodeFault> {
-    let at = reader.read.saturating_add(reader.pending);
+/// The value that the bytes encode. A fault of an earlier call comes again; where the value is not whole, it is
+/// `Truncated` at the count of bytes given. Before any `feed` it answers as after an empty piece. It takes no memory.
+pub fn finish<'s>(reader: Reader<'s, Values>) -> Result<Value, DecodeFault>
+    ensures answer { (b : List ℕ) → Stands reader.entry b
+        → Finishes reader.entry.schema.now.kinds reader.entry.kind.place reader.entry.limits b result }
+    ensures for_ever { (f : DecodeFault) → reader.entry.state ≡ Failed f → result ≡ Err f }
+{
+    let schema = reader.schema;
+    let kind = reader.kind;
+    let limits = reader.limits;
+    let _range = limits.depth();
+    let at = reader
+        .read
+        .saturating_add(unfinished(&reader.unit, reader.pending));
     let state = reader.state;
     let built = reader.built;
-    let work = built.work;
     match state {
         State::Failed(fault) => Err(fault),
-        State::Finished => match work {
-            Level::Root(Some(value)) => Ok(value),
-            _ => Err(DecodeFault {
-                why: Reason::NoMemory,
-                at,
-            }),
+        State::Finished => match root_of(built.work) {
+            Some(value) => Ok(value),
+            None => Err(truncated(at)),
         },
-        _ => Err(DecodeFault {
-            why: Reason::Truncated,
-            at,
-        }),
+        State::Reading(_) => Err(truncated(at)),
+        State::Fresh => finish_empty(schema, kind, limits),
     }
+}
+
+// How many bytes came after the whole units.
+fn unfinished(unit: &[u8; 4], pending: usize) -> usize
+    ensures count { result ≡ length (take pending unit.now) }
+    ensures few { result ≤ 4 }
+{
+    pending.min(4)
+}
+
+// The bytes end inside the value.
+fn truncated(at: usize) -> DecodeFault
+    ensures { result ≡ record { why = Truncated; at = at } }
+{
+    DecodeFault {
+        why: Reason::Truncated,
+        at,
+    }
+}
+
+// What no bytes are, of a kind that the schema has.
+fn finish_empty(schema: &Schema, kind: KindId, limits: Limits) -> Result<Value, DecodeFault>
+    ensures { kind.place < length schema.now.kinds → Finishes schema.now.kinds kind.place limits [] result }
+{
+    let _known = schema.len();
+    let _range = limits.depth();
+    if !schema.has(kind) {
+        return Err(truncated(0));
+    }
+    if let Kind::Nothing = schema.kind(kind) {
+        return Ok(Value::Nothing);
+    }
+    if is_deep(schema, kind, limits) {
+        return Err(DecodeFault {
+            why: Reason::TooDeep,
+            at: 0,
+        });
+    }
+    Err(truncated(0))
 }

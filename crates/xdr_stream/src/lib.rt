@@ -6,6 +6,7 @@ pub mod checker;
 pub mod decoder;
 pub mod fault;
 pub mod feeding;
+pub mod first;
 pub mod frame;
 pub mod machine;
 pub mod number;

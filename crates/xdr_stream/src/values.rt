@@ -1,6 +1,7 @@
 //! The value that the nodes make.
 ghost use Rattle.std.specs.Prelude.{◌≡◌};
-ghost use Rattle.std.specs.Prelude.{[], OnOk};
+ghost use Rattle.std.specs.Prelude.{[], ◌∷◌, OnOk, MatchOption};
+ghost use Rattle.xdr_types.specs.Tree.{Tree, nothing};
 ghost use Rattle.xdr_types.specs.View.{tree};
 ghost use Rattle.xdr_stream.specs.Nodes.{head_of_leaf, head_of_node};
 ghost use Rattle.xdr_stream.specs.Trace.{level as told, added, IsOpen, IsFilled};
@@ -60,6 +61,20 @@ fn closed(level: Level) -> Value
         } => Value::Choice { tag, part },
         Level::Choice { part: None, .. } => Value::Nothing,
         Level::Maybe(part) => Value::Maybe(part),
+    }
+}
+
+/// The value of the root, where it has one.
+pub fn root_of(work: Level) -> Option<Value>
+    ensures { MatchOption result ((v : Tree) → level_of work ≡ told nothing (v ∷ []) → ⊥)
+        (λ x. level_of work ≡ told nothing (tree x ∷ [])) }
+{
+    match work {
+        Level::Root(part) => part,
+        Level::Items { .. } => None,
+        Level::Fields(_) => None,
+        Level::Choice { .. } => None,
+        Level::Maybe(_) => None,
     }
 }
 

@@ -11,7 +11,15 @@ returns-in-Ok-clause-stands g c = λ q len none h ready small.
     let most : length q ≤ a.limits.bytes =
     within_limit a.schema.now.kinds a.kind.place a.limits _ q c.depth-range.ensures.range.units h.reading in
     let far : length (q ++ c.args.unit.now) ≡ c.saturating_add-self.result =
-    omega (arith, length-append q c.args.unit.now, c.take_unit.ensures.size, len, most, c.depth-range.ensures.range.most_bytes, c.saturating_add-self.ensures) in
+    omega (
+      arith,
+      length-append q c.args.unit.now,
+      c.take_unit.ensures.size,
+      len,
+      most,
+      c.depth-range.ensures.range.most_bytes,
+      c.saturating_add-self.ensures,
+    ) in
     c.settle.ensures.stands (q ++ c.args.unit.now) far none c.in-Ok.ensures.live next
 
 pub returns-in-Err-clause-stands : goal.returns-in-Err-clause-stands

@@ -1,0 +1,24 @@
+use Rattle.std.proofs.Common.{List, [], ◌∷◌, refl, sym, ap, subst}
+use Rattle.std.specs.Prelude.{⊤}
+use Rattle.xdr_types.specs.Kinds.{Part}
+use Rattle.xdr_types.specs.Fits.{item_part}
+use Rattle.xdr_stream.specs.Frames.{onto}
+use Rattle.xdr_stream.specs.Trace.{Trace}
+use Rattle.xdr_stream.specs.Sees.{Sees}
+use Rattle.xdr_stream.specs.declared.frame.Frame.{Frame}
+use Rattle.xdr_stream.specs.declared.machine.Awaits.TheVariants.{Next}
+use Rattle.xdr_stream.proofs.Finishing.{sees_start}
+use Rattle.xdr_stream.proofs.checker.check.Goals as goal
+
+pub returns-clause-stands : goal.returns-clause-stands
+returns-clause-stands c =
+    let tells : Trace → Type 0 = λ (t : Trace). ⊤ in (
+      refl,
+      refl,
+      refl,
+      subst (λ (fs : List (List Part)). Sees c.args.schema.now.kinds c.args.kind.place c.args.limits tells Next
+          ((item_part c.args.kind.place ∷ []) ∷ fs) [])
+          (ap (λ (fs : List Frame). onto [] fs) (sym c.new.ensures.items))
+          (sees_start c.args.schema.now.kinds c.args.kind.place c.args.limits tells c.len-known.ensures.valued
+          c.requires tt),
+    )

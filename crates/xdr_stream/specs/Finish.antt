@@ -1,0 +1,39 @@
+-- What the end of the bytes says of a value.
+use Rattle.std.specs.Prelude.{⊤, ◌≡◌, ℕ, List, length, Result, Ok, Err}
+use Rattle.xdr_types.specs.Kinds.{KindView, Lists}
+use Rattle.xdr_types.specs.Within.{Bounds}
+use Rattle.xdr_types.specs.View.{tree}
+use Rattle.xdr_types.specs.Outcome as outcome
+use Rattle.xdr_types.specs.Outcome.{Outcome}
+use Rattle.xdr_types.specs.declared.kind.KindId.{KindId}
+use Rattle.xdr_types.specs.declared.value.Value.{Value}
+use Rattle.xdr_stream.specs.Trace.{Trace}
+use Rattle.xdr_stream.specs.Values.{trace_of}
+use Rattle.xdr_stream.specs.Stands.{Fails, StandsFor}
+use Rattle.xdr_stream.specs.declared.fault.DecodeFault.{DecodeFault}
+use Rattle.xdr_stream.specs.declared.fault.Reason.TheVariants.{Truncated}
+use Rattle.xdr_stream.specs.declared.reader.Reader.{Reader}
+use Rattle.xdr_stream.specs.declared.checker.Nothing.{Nothing}
+use Rattle.xdr_stream.specs.declared.values.Values.{Values}
+
+-- a decoder's fields stand for these bytes, all that it was given up to the value's end
+abbrev pub Stands : Reader Values → (b : List ℕ) → Type 0
+Stands r b = StandsFor (λ (v : Values) (t : Trace). trace_of v ≡ t) r b
+
+-- a checker's fields stand for these bytes
+abbrev pub Checks : Reader Nothing → (b : List ℕ) → Type 0
+Checks r b = StandsFor (λ (n : Nothing) (t : Trace). ⊤) r b
+
+-- what the end says of the bytes b: the value that is whole in them; or they end inside one, at their count; or they
+-- are refused
+abbrev pub Finishes : List KindView → (kind : ℕ) → Bounds → (b : List ℕ) → Result Value DecodeFault → Type 0
+Finishes kinds kind limits b (Ok v) = Outcome kinds kind limits b (outcome.Whole (tree v) (length b))
+Finishes kinds kind limits b (Err f) =
+    (f.why ≡ Truncated → Outcome kinds kind limits b outcome.Pending × (f.at ≡ length b))
+    × ((f.why ≡ Truncated → ⊥) → Fails kinds kind limits f b)
+
+-- the settings of a new reader
+pub record IsStarted {B : Type 0} (r : Reader B) (schema : Lists) (kind : KindId) (limits : Bounds) : Type 0 where
+  pub schema_is : r.schema.now ≡ schema
+  pub kind_is : r.kind ≡ kind
+  pub limits_are : r.limits ≡ limits
