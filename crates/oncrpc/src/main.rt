@@ -1,7 +1,8 @@
-//! `oncrpc` checks and shows XDR values and marks ONC RPC records.
+//! `oncrpc` checks and shows XDR values, marks ONC RPC records, and asks and serves the registry of rpcbind.
 #![tactic(auto)]
 
 mod files;
+mod network;
 mod run;
 
 use std::process::ExitCode;

@@ -2,11 +2,12 @@
 ghost use Rattle.std.specs.Prelude.{◌≤◌};
 
 use crate::files::FileOpener;
+use crate::network::{info, serve};
 use oncrpc_tasks::{Task, task_over};
-use oncrpc_words::{WordsFault, no_memory, print_words_fault, read_words};
+use oncrpc_words::{Request, WordsFault, no_memory, print_words_fault, read_words};
 use std::alloc::Global;
 use std::{env, io};
-use xdr_io::{FromRead, IntoWrite};
+use xdr_io::{FromRead, IntoWrite, Sink};
 
 /// Does what the words ask, and gives the exit status.
 pub fn run(rt: &HostRuntime) -> u8
@@ -14,20 +15,24 @@ pub fn run(rt: &HostRuntime) -> u8
 {
     let mut output = IntoWrite::new(rt.stdout());
     let mut faults = IntoWrite::new(rt.stderr());
-    match read_task(rt) {
-        Ok(task) => task_over(
-            rt.alloc(),
-            &task,
-            &mut FileOpener::new(rt),
-            &mut FromRead::new(rt.stdin()),
-            &mut output,
-            &mut faults,
-        ),
+    match read_request(rt) {
+        Ok(Request::Offline(task)) => offline(rt, &task, &mut output, &mut faults),
+        Ok(Request::Info(what)) => info(rt, &what, &mut output, &mut faults),
+        Ok(Request::Serve(what)) => serve(rt, &what, &mut output, &mut faults),
         Err(fault) => print_words_fault(&fault, &mut output, &mut faults),
     }
 }
 
-fn read_task(rt: &HostRuntime) -> Result<Task, WordsFault> {
+// A task over standard input, standard output and the system's files.
+fn offline<O: Sink, F: Sink>(rt: &HostRuntime, task: &Task, output: &mut O, faults: &mut F) -> u8
+    ensures { result ≤ 4 }
+{
+    let mut opener = FileOpener::new(rt);
+    let mut input = FromRead::new(rt.stdin());
+    task_over(rt.alloc(), task, &mut opener, &mut input, output, faults)
+}
+
+fn read_request(rt: &HostRuntime) -> Result<Request, WordsFault> {
     let alloc = rt.alloc();
     let args = match env::args(rt) {
         Ok(args) => args,

@@ -15,7 +15,7 @@ mod records;
 mod task;
 mod unusable;
 
-pub use answer::Answer;
+pub use answer::{Answer, line_of};
 pub use check::{check_over, show_over};
 pub use failure::{Failure, report};
 pub use open::{MemoryOpener, Opener};

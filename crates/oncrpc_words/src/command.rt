@@ -9,6 +9,9 @@ pub const DEPTH: u32 = 4096;
 /// The limit on bytes where none is given, of a value or of a record.
 pub const BYTES: u32 = 16777216;
 
+/// The version of the registry's program where none is given.
+pub const VERS: u32 = 4;
+
 /// The program with its subcommands.
 pub fn command<'a>(alloc: Global) -> Result<Command<'a>, AllocError> {
     Command::new(alloc, "oncrpc")
@@ -22,7 +25,9 @@ pub fn command<'a>(alloc: Global) -> Result<Command<'a>, AllocError> {
         .subcommand_required(true)
         .subcommand(check_command(alloc)?)?
         .subcommand(show_command(alloc)?)?
-        .subcommand(records_command(alloc)?)
+        .subcommand(records_command(alloc)?)?
+        .subcommand(info_command(alloc)?)?
+        .subcommand(serve_command(alloc)?)
 }
 
 fn check_command<'a>(alloc: Global) -> Result<Command<'a>, AllocError> {
@@ -60,6 +65,43 @@ fn records_command<'a>(alloc: Global) -> Result<Command<'a>, AllocError> {
         .after_help(help::AFTER_RECORDS)
         .arg(limit)?
         .arg(hex_flag(alloc))
+}
+
+fn info_command<'a>(alloc: Global) -> Result<Command<'a>, AllocError> {
+    let host = word(alloc, "host", "HOST", help::HOST);
+    let port = word(alloc, "port", "PORT", help::REGISTRY_PORT).value_parser(value_parser!(u16));
+    let vers = option(alloc, "vers", "N", help::VERS)
+        .value_parser(value_parser!(u32).range(2..=4))
+        .default_value("4");
+    Command::new(alloc, "info")
+        .about(help::INFO)
+        .after_help(help::AFTER_INFO)
+        .arg(host)?
+        .arg(port)?
+        .arg(vers)
+}
+
+fn serve_command<'a>(alloc: Global) -> Result<Command<'a>, AllocError> {
+    let port = option(alloc, "port", "N", help::PORT)
+        .required(true)
+        .value_parser(value_parser!(u16));
+    let count = option(alloc, "count", "C", help::COUNT)
+        .required(true)
+        .value_parser(value_parser!(u32));
+    Command::new(alloc, "serve")
+        .about(help::SERVE)
+        .after_help(help::AFTER_SERVE)
+        .arg(port)?
+        .arg(count)
+}
+
+// A word that stands at its place, without an option before it.
+fn word<'a>(alloc: Global, id: &'a str, value: &'a str, help: &'a str) -> Arg<'a> {
+    Arg::new(alloc, id)
+        .help(help)
+        .action(ArgAction::Set)
+        .value_name(value)
+        .required(true)
 }
 
 fn option<'a>(alloc: Global, id: &'a str, value: &'a str, help: &'a str) -> Arg<'a> {

@@ -1,11 +1,12 @@
 //! What the program says of itself.
 
 /// The program in a line.
-pub const ABOUT: &str = "Checks and shows XDR values and marks ONC RPC records";
+pub const ABOUT: &str = "Checks and shows XDR values, marks ONC RPC records, asks and serves rpcbind";
 
 /// The program in a paragraph.
 pub const LONG_ABOUT: &str =
-    "Checks and shows XDR values (RFC 4506) and marks ONC RPC records (RFC 5531).
+    "Checks and shows XDR values (RFC 4506), marks ONC RPC records (RFC 5531), and asks and serves rpcbind, the registry
+of programs (RFC 1833).
 
 Called without any word it does 'check --name opaque --hex'. 'oncrpc help COMMAND' has the words of a command, with
 examples.";
@@ -21,7 +22,7 @@ pub const STATUSES: &str = "Exit status:
   0  done
   1  the bytes are refused
   2  words, declarations, name or limits are refused
-  3  a read or a write failed, or more than 1048576 reads would be needed
+  3  a read, a write or a socket failed, or more than 1048576 reads would be needed
   4  memory was refused";
 
 /// What `check` does.
@@ -32,6 +33,27 @@ pub const SHOW: &str = "Reads one value from standard input and prints its lines
 
 /// What `records` does.
 pub const RECORDS: &str = "Writes each record of standard input as one fragment";
+
+/// What `info` does.
+pub const INFO: &str = "Asks the registry of a host for its rows over TCP and prints them";
+
+/// What `serve` does.
+pub const SERVE: &str = "Serves a registry on 127.0.0.1 over TCP, one connection after another";
+
+/// The word for a host.
+pub const HOST: &str = "The name or address of the host, of which the first address is used";
+
+/// The word for the port of a registry.
+pub const REGISTRY_PORT: &str = "The port of its registry, 0 to 65535; rpcbind has 111";
+
+/// The option for a version of the registry's program.
+pub const VERS: &str = "The version of the registry's program, 2 to 4";
+
+/// The option for the port to listen at.
+pub const PORT: &str = "The port to listen at, 0 to 65535; 0 takes a free one";
+
+/// The option for how many connections are served.
+pub const COUNT: &str = "How many connections are served, 0 to 4294967295";
 
 /// The option for a name.
 pub const NAME: &str = "The name of the value's kind:
@@ -99,3 +121,35 @@ Exit status:
 Examples:
   printf '00000002 6162 80000001 63' | oncrpc records --hex
   oncrpc records --limit 65536 < stream > normal";
+
+/// What `info` prints, its statuses and examples of it.
+pub const AFTER_INFO: &str =
+    "It prints 'program vers netid address owner' (version 2: 'program vers prot port') and a line for each row. What is
+no list of rows is one line 'refused ..', with status 1.
+
+Exit status:
+  0  the rows are printed
+  1  the reply is refused, or brings no rows
+  2  words are refused
+  3  a socket, a read or a write failed, or more than 1048576 reads would be needed
+  4  memory was refused
+
+Examples:
+  oncrpc info localhost 111
+  oncrpc info 127.0.0.1 111 --vers 2";
+
+/// What `serve` prints, its statuses and examples of it.
+pub const AFTER_SERVE: &str =
+    "It prints 'listening on 127.0.0.1 PORT', and after each connection K, from 1, 'connection K: N records, M replies',
+or 'connection K: ' and what was wrong with it, which ends that connection alone. The registry begins with its own rows,
+versions 2, 3 and 4 of program 100000, and is gone when the program ends.
+
+Exit status:
+  0  all connections were served
+  2  words are refused
+  3  a socket or a write to standard output failed
+  4  memory was refused
+
+Examples:
+  oncrpc serve --port 0 --count 1
+  oncrpc serve --port 111 --count 1000";

@@ -4,7 +4,9 @@
 mod command;
 mod fault;
 mod help;
+mod request;
 mod words;
 
 pub use fault::{WordsFault, no_memory, print_words_fault};
+pub use request::{InfoTask, Request, ServeTask};
 pub use words::read_words;

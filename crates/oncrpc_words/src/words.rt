@@ -1,49 +1,60 @@
-//! Words that ask for a task.
+//! Words that ask for something.
 ghost use Rattle.std.specs.Prelude.{◌≡◌, ◌⊎◌, IfOk, IfErr, [], string_bytes};
 ghost use Rattle.oncrpc_words.specs.Words.{IsFirst};
 
-use super::command::{BYTES, DEPTH, command};
+use super::command::{BYTES, DEPTH, VERS, command};
 use super::fault::{WordsFault, fault_of, no_memory};
+use super::request::{InfoTask, Request, ServeTask};
 use clap::{ArgMatches, Error};
 use oncrpc_tasks::{RecordsTask, Task, ValueTask};
 use std::alloc::{AllocError, Global};
 
 /// Reads the words that stand after the program's own name. No words at all check an opaque in hexadecimal.
-pub fn read_words(alloc: Global, words: Vec<String>) -> Result<Task, WordsFault>
+pub fn read_words(alloc: Global, words: Vec<String>) -> Result<Request, WordsFault>
     ensures first { words.items ≡ [] → IfOk result IsFirst }
     ensures status { IfErr result (λ fault. (fault.status ≡ 0) ⊎ (fault.status ≡ 2) ⊎ (fault.status ≡ 4)) }
     ensures memory { IfErr result (λ fault. fault.status ≡ 4 → string_bytes fault.text ≡ []) }
     ensures only_memory { words.items ≡ [] → IfErr result (λ fault. fault.status ≡ 4) }
 {
     if words.is_empty() {
-        return first_task(alloc).map_err(|_| no_memory(alloc));
+        return first_request(alloc).map_err(|_| no_memory(alloc));
     }
-    match task_of(alloc, words.as_slice()) {
-        Ok(task) => Ok(task),
+    match request_of(alloc, words.as_slice()) {
+        Ok(request) => Ok(request),
         Err(error) => Err(fault_of(alloc, &error)),
     }
 }
 
 // What the program does when it is called with no word at all.
-fn first_task(alloc: Global) -> Result<Task, AllocError>
+fn first_request(alloc: Global) -> Result<Request, AllocError>
     ensures { IfOk result IsFirst }
 {
-    Ok(Task::Check(ValueTask {
-        name: String::from_str(alloc, "opaque")?,
-        types: None,
-        hex: true,
-        depth: DEPTH,
-        bytes: BYTES,
-    }))
+    Ok(Request::Offline(
+        Task::Check(ValueTask {
+            name: String::from_str(alloc, "opaque")?,
+            types: None,
+            hex: true,
+            depth: DEPTH,
+            bytes: BYTES,
+        }),
+    ))
 }
 
-fn task_of(alloc: Global, words: &[String]) -> Result<Task, Error> {
+fn request_of(alloc: Global, words: &[String]) -> Result<Request, Error> {
     let matches = command(alloc)?.try_get_matches_from(words)?;
     match matches.subcommand() {
-        Some(("check", options)) => Ok(Task::Check(value_task(alloc, options)?)),
-        Some(("show", options)) => Ok(Task::Show(value_task(alloc, options)?)),
-        Some((_, options)) => Ok(Task::Records(records_task(options))),
-        None => Ok(first_task(alloc)?),
+        Some(("info", options)) => Ok(Request::Info(info_task(alloc, options)?)),
+        Some(("serve", options)) => Ok(Request::Serve(serve_task(options))),
+        Some((name, options)) => Ok(Request::Offline(offline_task(alloc, name, options)?)),
+        None => Ok(first_request(alloc)?),
+    }
+}
+
+fn offline_task(alloc: Global, name: &str, options: &ArgMatches<'_>) -> Result<Task, AllocError> {
+    match name {
+        "check" => Ok(Task::Check(value_task(alloc, options)?)),
+        "show" => Ok(Task::Show(value_task(alloc, options)?)),
+        _ => Ok(Task::Records(records_task(options))),
     }
 }
 
@@ -64,5 +75,20 @@ fn records_task(options: &ArgMatches<'_>) -> RecordsTask {
     RecordsTask {
         limit: options.get_one::<u32>("limit").unwrap_or(BYTES),
         hex: options.get_flag("hex"),
+    }
+}
+
+fn info_task(alloc: Global, options: &ArgMatches<'_>) -> Result<InfoTask, AllocError> {
+    Ok(InfoTask {
+        host: String::from_str(alloc, options.get_str("host").unwrap_or(""))?,
+        port: options.get_one::<u16>("port").unwrap_or(0),
+        vers: options.get_one::<u32>("vers").unwrap_or(VERS),
+    })
+}
+
+fn serve_task(options: &ArgMatches<'_>) -> ServeTask {
+    ServeTask {
+        port: options.get_one::<u16>("port").unwrap_or(0),
+        count: options.get_one::<u32>("count").unwrap_or(0),
     }
 }

@@ -2,6 +2,8 @@
 #![tactic(auto)]
 
 #[cfg(test)]
+mod service;
+#[cfg(test)]
 mod tasks;
 #[cfg(test)]
 mod words;

@@ -7,5 +7,6 @@ mod line;
 mod number;
 mod shown;
 
+pub use content::push_escaped_bytes;
 pub use laws::lines_are_of_the_layout;
 pub use shown::show;

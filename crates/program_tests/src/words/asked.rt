@@ -1,7 +1,7 @@
 //! The tasks that words ask for, and words that ask for none.
 use crate::words::reading::{Words, read};
 use oncrpc_tasks::{RecordsTask, Task, ValueTask};
-use oncrpc_words::WordsFault;
+use oncrpc_words::{InfoTask, Request, ServeTask, WordsFault};
 use std::alloc::{AllocError, Global};
 
 // What is asked of a value: its kind's name, the file of declarations, whether bytes are hexadecimal, depth and bytes.
@@ -69,8 +69,8 @@ fn is_value(task: &ValueTask, asked: &Asked) -> bool {
 
 fn asks_value(alloc: Global, words: Words, shows: bool, asked: &Asked) -> Result<bool, AllocError> {
     match read(alloc, words)? {
-        Ok(Task::Check(task)) => Ok(!shows && is_value(&task, asked)),
-        Ok(Task::Show(task)) => Ok(shows && is_value(&task, asked)),
+        Ok(Request::Offline(Task::Check(task))) => Ok(!shows && is_value(&task, asked)),
+        Ok(Request::Offline(Task::Show(task))) => Ok(shows && is_value(&task, asked)),
         _ => Ok(false),
     }
 }
@@ -95,7 +95,7 @@ const RECORDS: [(Words, u32, bool); 2] = [
 
 fn asks_records(alloc: Global, words: Words, limit: u32, hex: bool) -> Result<bool, AllocError> {
     match read(alloc, words)? {
-        Ok(Task::Records(task)) => Ok(task == RecordsTask { limit, hex }),
+        Ok(Request::Offline(Task::Records(task))) => Ok(task == RecordsTask { limit, hex }),
         _ => Ok(false),
     }
 }
@@ -108,15 +108,72 @@ fn records_are_asked(rt: HostRuntime) -> Result<(), AllocError> {
     Ok(())
 }
 
+// Words, and the host, the port and the version that they ask for.
+const INFOS: [(Words, &str, u16, u32); 4] = [
+    (&["info", "localhost", "111"], "localhost", 111, 4),
+    (&["info", "127.0.0.1", "0", "--vers", "2"], "127.0.0.1", 0, 2),
+    (&["info", "--vers=3", "", "65535"], "", 65535, 3),
+    (&["info", "::1", "+007", "--vers", "04"], "::1", 7, 4),
+];
+
+fn asks_info(alloc: Global, words: Words, host: &str, port: u16, vers: u32) -> Result<bool, AllocError> {
+    let host = String::from_str(alloc, host)?;
+    match read(alloc, words)? {
+        Ok(Request::Info(task)) => Ok(task == InfoTask { host, port, vers }),
+        _ => Ok(false),
+    }
+}
+
+#[test]
+fn infos_are_asked(rt: HostRuntime) -> Result<(), AllocError> {
+    for (words, host, port, vers) in &INFOS {
+        assert!(rt; asks_info(rt.alloc(), words, host, *port, *vers)?, "{words:?}");
+    }
+    Ok(())
+}
+
+// Words, and the port and the count that they ask for.
+const SERVES: [(Words, u16, u32); 2] = [
+    (&["serve", "--port", "0", "--count", "1"], 0, 1),
+    (&["serve", "--count=4294967295", "--port=65535"], 65535, 4294967295),
+];
+
+fn asks_serve(alloc: Global, words: Words, port: u16, count: u32) -> Result<bool, AllocError> {
+    match read(alloc, words)? {
+        Ok(Request::Serve(task)) => Ok(task == ServeTask { port, count }),
+        _ => Ok(false),
+    }
+}
+
+#[test]
+fn serves_are_asked(rt: HostRuntime) -> Result<(), AllocError> {
+    for (words, port, count) in &SERVES {
+        assert!(rt; asks_serve(rt.alloc(), words, *port, *count)?, "{words:?}");
+    }
+    Ok(())
+}
+
 // Words that give no task, and the status.
-const REFUSED: [(Words, u8); 21] = [
+const REFUSED: [(Words, u8); 35] = [
     (&["check"], 2),
     (&["nope"], 2),
     (&["show"], 2),
     (&["show", "--types", "a.x"], 2),
     (&["records", "--types", "a.x"], 2),
-    (&["info", "localhost", "111"], 2),
-    (&["serve", "--port", "1", "--count", "1"], 2),
+    (&["info"], 2),
+    (&["info", "localhost"], 2),
+    (&["info", "localhost", "65536"], 2),
+    (&["info", "localhost", "rpcbind"], 2),
+    (&["info", "localhost", "111", "112"], 2),
+    (&["info", "localhost", "111", "--vers", "1"], 2),
+    (&["info", "localhost", "111", "--vers", "5"], 2),
+    (&["info", "localhost", "111", "--udp"], 2),
+    (&["serve"], 2),
+    (&["serve", "--port", "1"], 2),
+    (&["serve", "--count", "1"], 2),
+    (&["serve", "--port", "65536", "--count", "1"], 2),
+    (&["serve", "--port", "1", "--count", "4294967296"], 2),
+    (&["serve", "--port", "1", "--count", "1", "--datagrams", "1"], 2),
     (&["check", "--name", "int", "--types"], 2),
     (
         &["show", "--name", "int", "--types", "a", "--types", "b"],
@@ -132,6 +189,8 @@ const REFUSED: [(Words, u8); 21] = [
     (&["check", "--help"], 0),
     (&["show", "--help"], 0),
     (&["help", "records"], 0),
+    (&["info", "--help"], 0),
+    (&["help", "serve"], 0),
     (&["--version"], 0),
     (&["-V"], 0),
 ];

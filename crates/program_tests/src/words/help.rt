@@ -35,10 +35,34 @@ const OF_RECORDS: [&str; 9] = [
     "\n  oncrpc records --limit ",
 ];
 
-const OF_ALL: [&str; 9] = [
+const OF_INFO: [&str; 8] = [
+    "<HOST>",
+    "<PORT>",
+    "2 to 4 [default: 4]",
+    "program vers netid address owner",
+    "program vers prot port",
+    "\n  1  ",
+    "\n  4  ",
+    "\n  oncrpc info localhost 111",
+];
+
+const OF_SERVE: [&str; 8] = [
+    "--port <N>",
+    "0 takes a free one",
+    "--count <C>",
+    "listening on 127.0.0.1 PORT",
+    "connection K: N records, M replies",
+    "\n  3  ",
+    "\n  4  ",
+    "\n  oncrpc serve --port 111",
+];
+
+const OF_ALL: [&str; 11] = [
     "check",
     "show",
     "records",
+    "info",
+    "serve",
     "check --name opaque --hex",
     "\n  0  done\n",
     "\n  1  the bytes are refused\n",
@@ -51,11 +75,13 @@ const OF_ALL: [&str; 9] = [
 const OF_VERSION: [&str; 2] = ["oncrpc 0.1.0\n", "rattle-kit-13b logic dac8208d650f15bf\n"];
 
 // Words, and what their answer says.
-const SAID: [(Words, &[&str]); 7] = [
+const SAID: [(Words, &[&str]); 9] = [
     (&["check", "--help"], &OF_A_VALUE),
     (&["show", "--help"], &OF_A_VALUE),
     (&["help", "show"], &OF_A_VALUE),
     (&["records", "--help"], &OF_RECORDS),
+    (&["info", "--help"], &OF_INFO),
+    (&["help", "serve"], &OF_SERVE),
     (&["--help"], &OF_ALL),
     (&["help"], &OF_ALL),
     (&["--version"], &OF_VERSION),

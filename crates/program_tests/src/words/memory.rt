@@ -1,18 +1,20 @@
 //! Words for which memory is refused.
 use crate::words::reading::strings;
 use oncrpc_tasks::{RecordsTask, Task};
-use oncrpc_words::{WordsFault, no_memory, read_words};
+use oncrpc_words::{Request, WordsFault, no_memory, read_words};
 use std::alloc::{AllocError, Global};
 
 /// Whether the records are asked for, or memory is wanted where a growth can be refused.
-fn is_well(alloc: Global, answer: &Result<Task, WordsFault>, can_refuse: bool) -> bool {
+fn is_well(alloc: Global, answer: &Result<Request, WordsFault>, can_refuse: bool) -> bool {
     match answer {
         Ok(
-            Task::Records(
-                RecordsTask {
-                    limit: 16777216,
-                    hex: true,
-                },
+            Request::Offline(
+                Task::Records(
+                    RecordsTask {
+                        limit: 16777216,
+                        hex: true,
+                    },
+                ),
             ),
         ) => true,
         Ok(_) => false,

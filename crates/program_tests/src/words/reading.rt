@@ -1,6 +1,5 @@
 //! Words that are read.
-use oncrpc_tasks::Task;
-use oncrpc_words::{WordsFault, read_words};
+use oncrpc_words::{Request, WordsFault, read_words};
 use std::alloc::{AllocError, Global};
 
 /// Words that stand after the program's own name.
@@ -16,6 +15,6 @@ pub fn strings(alloc: Global, words: &[&str]) -> Result<Vec<String>, AllocError>
 }
 
 /// What the words ask for.
-pub fn read(alloc: Global, words: &[&str]) -> Result<Result<Task, WordsFault>, AllocError> {
+pub fn read(alloc: Global, words: &[&str]) -> Result<Result<Request, WordsFault>, AllocError> {
     Ok(read_words(alloc, strings(alloc, words)?))
 }

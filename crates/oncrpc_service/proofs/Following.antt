@@ -1,0 +1,212 @@
+-- Connections one after another, and their lines.
+use Rattle.std.proofs.Common.{◌≡◌, ℕ, suc, ◌+◌, ◌<◌, ◌≤◌, List, [], ◌∷◌, ◌++◌, length, take, drop, Option, Some, None}
+use Rattle.std.proofs.Common.{codes, decimal, Result, Ok, Err, IfOk, IfErr, OnOk, refl, ap, sym, ◌∙◌, subst, arith, append_assoc, length-append, inl, inr}
+use Rattle.std.proofs.lemmas.List.{append-nil}
+use Rattle.std.proofs.Math.Seq.{take-append-add}
+use Rattle.std.specs.Io.KnownBytes.{Appends}
+use Rattle.xdr_io.specs.Told.{Counts}
+use Rattle.xdr_io.proofs.Chained.{Appends-trans, Counts-trans, Counts-none}
+use Rattle.rpc_record.specs.declared.fault.RecordFault.TheVariants as flaw
+use Rattle.rpc_rows.specs.Rows.{Row}
+use Rattle.rpc_rows.specs.Ports.{tcp}
+use Rattle.rpc_engine.specs.declared.fault.ServeFault.TheVariants as fault
+use Rattle.rpc_engine.specs.Served.{Serves, Stops}
+use Rattle.oncrpc_service.specs.Listening.{Arrives}
+use Rattle.oncrpc_tasks.specs.declared.failure.Failure.TheVariants as failure
+use Rattle.oncrpc_service.specs.declared.serving.Stop.{Stop}
+use Rattle.oncrpc_service.specs.declared.serving.Stop.TheVariants as stop
+use Rattle.oncrpc_service.specs.Connections.{Outcome, ServesEach, ServesNext, connection_line, connection_lines}
+use Rattle.oncrpc_service.specs.Connections.{listening_line, printed}
+use Rattle.oncrpc_service.specs.ServeEnds.{Post, HasServed, HasStopped, HasServedOne, LinePrints, LosesLine, NoneCame}
+use Rattle.oncrpc_service.specs.ServeEnds.{ServeEnds, StopsOne}
+use Rattle.oncrpc_service.specs.Written.{InPart}
+
+-- ---- texts
+
+pub in_part_then : (a b c : Option (List ℕ)) (x y : List ℕ) → Appends a b x → InPart y b c → InPart (x ++ y) a c
+in_part_then a b c x y before part =
+    let long : length (x ++ y) ≡ length x + length y = length-append x y in
+    let cut = part.cut in
+    record {
+      count = length x + part.count;
+      cut = omega (arith, long, cut);
+      written = Appends-trans a b c x (take part.count y) (take (length x + part.count) (x ++ y))
+          (sym (take-append-add x y part.count)) before part.written;
+    }
+
+lines_then : (number : ℕ) (os : List Outcome) (o : Outcome)
+    → connection_lines number os ++ connection_line (number + length os) o ≡ connection_lines number (os ++ o ∷ [])
+lines_then number [] o =
+    let same : number + 0 ≡ number = omega arith in
+    ap (λ (n : ℕ). connection_line n o) same ∙ sym (append-nil (connection_line number o))
+lines_then number (p ∷ os) o =
+    let next : number + suc (length os) ≡ suc number + length os = omega arith in
+    append_assoc (connection_line number p) (connection_lines (suc number) os) _
+    ∙ ap (λ (n : ℕ). connection_line number p ++ (connection_lines (suc number) os ++ connection_line n o)) next
+    ∙ ap (λ (z : List ℕ). connection_line number p ++ z) (lines_then (suc number) os o)
+
+-- the lines of one more connection
+printed_then : (port n : ℕ) (os : List Outcome) (o : Outcome) → length os ≡ n
+    → printed port os ++ connection_line (n + 1) o ≡ printed port (os ++ o ∷ [])
+printed_then port n os o e =
+    let number : n + 1 ≡ 1 + length os = omega (arith, e) in
+    append_assoc (listening_line port) (connection_lines 1 os) _
+    ∙ ap (λ (k : ℕ). listening_line port ++ (connection_lines 1 os ++ connection_line k o)) number
+    ∙ ap (λ (z : List ℕ). listening_line port ++ z) (lines_then 1 os o)
+
+-- ---- connections
+
+each_then : (rows mid new : List Row) (a b c : Option (List (List ℕ))) (os : List Outcome) (o : Outcome)
+    → ServesEach rows a os mid b → ServesNext mid new b c o → ServesEach rows a (os ++ o ∷ []) new c
+each_then rows mid new a b c [] o each next =
+    let first = subst (λ (r : List Row). ServesNext r new b c o) each.0 next in
+    (new, (c, (subst (λ (w : Option (List (List ℕ))). ServesNext rows new w c o) each.1 first, (refl, refl))))
+each_then rows mid new a b c (p ∷ os) o each next =
+    (each.0, (each.1.0, (each.1.1.0, each_then each.0 mid new each.1.0 b c os o each.1.1.1 next)))
+
+pub begins : {L O : Type 0} (post : Post L O) (rows : List Row) (l : L) (o o' : O)
+    → Appends (post.taken o) (post.taken o') (listening_line (post.port l)) → Counts 0 (post.lost o) (post.lost o')
+    → HasServed 0 post rows rows l l o o'
+begins post rows l o o' line unlost = record {
+  outcomes = [];
+  served = (refl, refl);
+  counted = refl;
+  lines = subst (Appends (post.taken o) (post.taken o')) (sym (append-nil (listening_line (post.port l)))) line;
+  unlost = unlost;
+  unrefused = Counts-none (post.refused l);
+}
+
+pub begins_not : {L O : Type 0} (post : Post L O) (rows : List Row) (l : L) (o o' : O) (count : ℕ) (why : Stop)
+    → LinePrints (listening_line (post.port l)) (post.taken o) (post.taken o') (post.lost o) (post.lost o') (Err why)
+    → HasStopped count post rows rows l l o o' why
+begins_not post rows l o o' count stop.NoConnection p = absurd p
+begins_not post rows l o o' count (stop.Failed failure.Read) p = absurd p
+begins_not post rows l o o' count (stop.Failed failure.TooManyReads) p = absurd p
+begins_not post rows l o o' count (stop.Failed failure.Write) p = record {
+  outcomes = [];
+  served = (refl, refl);
+  few = omega arith;
+  stops = (subst (λ (z : List ℕ). InPart z (post.taken o) (post.taken o'))
+      (sym (append-nil (listening_line (post.port l)))) p.0, p.1);
+}
+begins_not post rows l o o' count (stop.Failed failure.NoMemory) p = record {
+  outcomes = [];
+  served = (refl, refl);
+  few = omega arith;
+  stops = subst (λ (z : List ℕ). InPart z (post.taken o) (post.taken o'))
+      (sym (append-nil (listening_line (post.port l)))) p;
+}
+
+pub goes_on : {L O : Type 0} (post : Post L O) (rows mid new : List Row) (l m k : L) (o p q : O) (n : ℕ)
+    → HasServed n post rows mid l m o p → HasServedOne (n + 1) post mid new m k p q
+    → HasServed (n + 1) post rows new l k o q
+goes_on post rows mid new l m k o p q n done one =
+    let counted = done.counted in
+    let longer : length (done.outcomes ++ one.outcome ∷ []) ≡ length done.outcomes + 1 =
+        length-append done.outcomes (one.outcome ∷ []) in
+    record {
+      outcomes = done.outcomes ++ one.outcome ∷ [];
+      served = each_then rows mid new _ _ _ done.outcomes one.outcome done.served one.served;
+      counted = omega (arith, longer, counted);
+      lines = Appends-trans _ _ _ _ _ _ (printed_then (post.port l) n done.outcomes one.outcome counted)
+          done.lines one.line;
+      unlost = Counts-trans _ _ _ 0 0 0 refl done.unlost one.unlost;
+      unrefused = Counts-trans _ _ _ 0 0 0 refl done.unrefused one.unrefused;
+    }
+
+pub stops_on : {L O : Type 0} (post : Post L O) (rows mid new : List Row) (l m k : L) (o p q : O) (n count : ℕ)
+    (why : Stop) → n < count → HasServed n post rows mid l m o p → StopsOne (n + 1) post mid new m k p q why
+    → HasStopped count post rows new l k o q why
+stops_on {O = O} post rows mid new l m k o p q n count stop.NoConnection few done one =
+    let counted = done.counted in
+    record {
+      outcomes = done.outcomes;
+      served = subst (λ (r : List Row). ServesEach rows (post.waiting l) done.outcomes r (post.waiting k)) (sym one.same)
+          (subst (λ (w : Option (List (List ℕ))). ServesEach rows (post.waiting l) done.outcomes mid w)
+          (sym one.waiting) done.served);
+      few = omega (arith, counted, few);
+      stops = (
+        omega (arith, counted, few),
+        Counts-trans _ _ _ 0 1 1 refl done.unrefused one.refused,
+        subst (λ (x : O). Appends (post.taken o) (post.taken x) (printed (post.port l) done.outcomes))
+            (sym one.unprinted) done.lines,
+      );
+    }
+stops_on post rows mid new l m k o p q n count (stop.Failed failure.Read) few done one = absurd one.stops
+stops_on post rows mid new l m k o p q n count (stop.Failed failure.TooManyReads) few done one = absurd one.stops
+stops_on post rows mid new l m k o p q n count (stop.Failed failure.Write) few done one =
+    let counted = done.counted in
+    let longer : length (done.outcomes ++ one.outcome ∷ []) ≡ length done.outcomes + 1 =
+        length-append done.outcomes (one.outcome ∷ []) in
+    record {
+      outcomes = done.outcomes ++ one.outcome ∷ [];
+      served = each_then rows mid new _ _ _ done.outcomes one.outcome done.served one.served;
+      few = omega (arith, longer, counted, few);
+      stops = (
+        subst (λ (z : List ℕ). InPart z (post.taken o) (post.taken q))
+            (printed_then (post.port l) n done.outcomes one.outcome counted)
+            (in_part_then _ _ _ _ _ done.lines one.stops.0),
+        Counts-trans _ _ _ 0 1 1 refl done.unlost one.stops.1,
+      );
+    }
+stops_on post rows mid new l m k o p q n count (stop.Failed failure.NoMemory) few done one =
+    let counted = done.counted in
+    let longer : length (done.outcomes ++ one.outcome ∷ []) ≡ length done.outcomes + 1 =
+        length-append done.outcomes (one.outcome ∷ []) in
+    record {
+      outcomes = done.outcomes ++ one.outcome ∷ [];
+      served = each_then rows mid new _ _ _ done.outcomes one.outcome done.served one.served;
+      few = omega (arith, longer, counted, few);
+      stops = subst (λ (z : List ℕ). InPart z (post.taken o) (post.taken q))
+          (printed_then (post.port l) n done.outcomes one.outcome counted)
+          (in_part_then _ _ _ _ _ done.lines one.stops);
+    }
+
+-- ---- one connection
+
+pub next_served : (rows new : List Row) (waiting waiting' : Option (List (List ℕ)))
+    (left left' taken taken' : Option (List ℕ)) (o : Outcome) → Arrives waiting waiting' left
+    → IfOk o (λ s. Serves tcp rows new left left' taken taken' s)
+    → IfErr o (λ f. Stops tcp rows new left left' taken taken' f) → ServesNext rows new waiting waiting' o
+next_served rows new waiting waiting' left left' taken taken' (Ok s) arrived served stopped =
+    record { left = left; left' = left'; taken = taken; taken' = taken'; arrived = arrived; answered = served }
+next_served rows new waiting waiting' left left' taken taken' (Err f) arrived served stopped =
+    record { left = left; left' = left'; taken = taken; taken' = taken'; arrived = arrived; answered = stopped }
+
+pub one_served : {L O : Type 0} (post : Post L O) (n : ℕ) (rows new : List Row) (l m : L) (o p : O) (x : Outcome)
+    (r : Result (Unit {0}) Stop) → ServesNext rows new (post.waiting l) (post.waiting m) x
+    → Counts 0 (post.refused l) (post.refused m)
+    → LinePrints (connection_line n x) (post.taken o) (post.taken p) (post.lost o) (post.lost p) r
+    → OnOk r (HasServedOne n post rows new l m o p)
+one_served post n rows new l m o p x (Ok u) next unrefused line =
+    record { outcome = x; served = next; line = line.0; unlost = line.1; unrefused = unrefused }
+one_served post n rows new l m o p x (Err why) next unrefused line = tt
+
+pub one_stopped : {L O : Type 0} (post : Post L O) (n : ℕ) (rows new : List Row) (l m : L) (o p : O) (x : Outcome)
+    (r : Result (Unit {0}) Stop) → ServesNext rows new (post.waiting l) (post.waiting m) x
+    → LinePrints (connection_line n x) (post.taken o) (post.taken p) (post.lost o) (post.lost p) r
+    → IfErr r (λ why. StopsOne n post rows new l m o p why)
+one_stopped post n rows new l m o p x (Ok u) next line = tt
+one_stopped post n rows new l m o p x (Err stop.NoConnection) next line = absurd line
+one_stopped post n rows new l m o p x (Err (stop.Failed f)) next line =
+    record { outcome = x; served = next; stops = line }
+
+begun : (xs ys : List ℕ) → 0 < length xs → 0 < length (xs ++ ys)
+begun xs ys some = let e : length (xs ++ ys) ≡ length xs + length ys = length-append xs ys in omega (arith, e, some)
+
+-- a line has some bytes
+pub line_is_some : (n : ℕ) (o : Outcome) → 0 < length (connection_line n o)
+line_is_some n (Ok s) = omega arith
+line_is_some n (Err (fault.Record (flaw.TooLong at))) = omega arith
+line_is_some n (Err (fault.Record (flaw.Truncated at))) = omega arith
+line_is_some n (Err (fault.Record flaw.Read)) = omega arith
+line_is_some n (Err (fault.Record (flaw.Write w))) = omega arith
+line_is_some n (Err (fault.Record flaw.TooManyReads)) = omega arith
+line_is_some n (Err (fault.Record flaw.NoMemory)) = omega arith
+line_is_some n (Err fault.Read) = omega arith
+line_is_some n (Err (fault.Write w)) = omega arith
+line_is_some n (Err fault.TooManyReads) = omega arith
+line_is_some n (Err fault.NoMemory) = omega arith
+
+pub listening_is_some : (port : ℕ) → 0 < length (listening_line port)
+listening_is_some port = begun (codes "listening on 127.0.0.1 ") (decimal port ++ codes "\n") (omega arith)

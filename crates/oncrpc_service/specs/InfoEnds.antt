@@ -1,0 +1,56 @@
+-- How asking a registry for its rows ends.
+use Rattle.std.specs.Prelude.{◌≡◌, ◌⊎◌, ℕ, ◌≤◌, List, Option, Some, Result, Err}
+use Rattle.std.specs.Io.KnownBytes.{Appends}
+use Rattle.xdr_io.specs.Told.{Counts, CountsAtMost}
+use Rattle.rpc_message.specs.declared.message.Reply.{Reply}
+use Rattle.rpc_message.specs.Spelling.{call}
+use Rattle.rpc_engine.specs.declared.fault.ClientFault.{ClientFault}
+use Rattle.rpc_engine.specs.declared.fault.ClientFault.TheVariants as fault
+use Rattle.rpc_engine.specs.Exchanged.{Exchanged, Wrote, write_failures}
+use Rattle.oncrpc_tasks.specs.declared.failure.Failure.{Failure}
+use Rattle.oncrpc_tasks.specs.declared.failure.Failure.TheVariants as failure
+use Rattle.oncrpc_service.specs.Infos.{Tells, dump_call, failure_of}
+use Rattle.oncrpc_service.specs.Written.{InPart}
+
+-- What a connection and a writer tell: what is left to be read and what was sent, the reads, and what failed.
+pub record Line (I W O : Type 0) : Type 0 where
+  pub left : I → Option (List ℕ)
+  pub reads : I → Option ℕ
+  pub unread : I → Option ℕ
+  pub sent : W → Option (List ℕ)
+  pub unsent : W → Option ℕ
+  pub taken : O → Option (List ℕ)
+  pub lost : O → Option ℕ
+
+-- The beginning of what an answer says was printed, and not all of it.
+pub record TellsInPart (vers : ℕ) (answer : Result Reply ClientFault) (taken taken' : Option (List ℕ)) : Type 0 where
+  pub ended : ℕ
+  pub text : List ℕ
+  pub tells : Tells vers answer ended text
+  pub begun : InPart text taken taken'
+
+-- What a device did: the exchange met it and nothing was printed, or the output failed under what the answer says.
+abbrev pub DeviceFails : (vers : ℕ) → Result Reply ClientFault → (unprinted : Type 0)
+    → (taken taken' : Option (List ℕ)) → (lost lost' : Option ℕ) → Type 0
+DeviceFails vers answer unprinted taken taken' lost lost' =
+    (((f : Failure) × (failure_of answer ≡ Some f)) × unprinted)
+    ⊎ (TellsInPart vers answer taken taken' × Counts 1 lost lost')
+
+-- The rows were asked for, and this is what the status says of the answer, of the output and of the writer for faults.
+pub record InfoEnds {I W O F : Type 0} (vers : ℕ) (line : Line I W O) (reader reader' : I) (writer writer' : W)
+    (output output' : O) (faults faults' : F) (status : ℕ) : Type 0 where
+  pub answer : Result Reply ClientFault
+  pub wrote : Wrote (call (dump_call vers)) (line.sent writer) (line.sent writer') answer
+  pub exchanged : Exchanged 1 (line.left reader) (line.left reader') answer
+  pub unread : answer ≡ Err fault.Read → Counts 1 (line.unread reader) (line.unread reader')
+  pub many : answer ≡ Err fault.TooManyReads → Counts 1048576 (line.reads reader) (line.reads reader')
+  pub few_reads : CountsAtMost 1048576 (line.reads reader) (line.reads reader')
+  pub unsent : Counts (write_failures answer) (line.unsent writer) (line.unsent writer')
+  pub known : (status ≤ 1) ⊎ ((status ≡ 3) ⊎ (status ≡ 4))
+  pub printed : status ≤ 1 → (text : List ℕ) × Tells vers answer status text
+      × Appends (line.taken output) (line.taken output') text
+  pub unlost : status ≤ 1 → Counts 0 (line.lost output) (line.lost output')
+  pub silent : status ≤ 1 → faults' ≡ faults
+  pub device : status ≡ 3 → DeviceFails vers answer (output' ≡ output) (line.taken output) (line.taken output')
+      (line.lost output) (line.lost output')
+  pub wanting : status ≡ 4 → output' ≡ output

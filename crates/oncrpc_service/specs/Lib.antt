@@ -1,0 +1,7 @@
+pub mod Connections
+pub mod InfoEnds
+pub mod Infos
+pub mod Listening
+pub mod Rows
+pub mod ServeEnds
+pub mod Written

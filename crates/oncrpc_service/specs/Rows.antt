@@ -1,0 +1,78 @@
+-- The lines of a registry's rows (RFC 1833 sections 2.1 and 3.1).
+use Rattle.std.specs.Prelude.{ℕ, List, [], ◌∷◌, ◌++◌, ◌==◌, map, flat_map, codes, decimal, if◌then◌else◌}
+use Rattle.xdr_types.specs.Tree as value
+use Rattle.xdr_types.specs.Tree.{Head, Values, Tree}
+use Rattle.xdr_show.specs.Line.{escaped}
+use Rattle.rpc_rows.specs.Rows.{Row}
+use Rattle.rpc_dumps.specs.Dumps.{number, group, linked}
+
+-- a row of version 2 (RFC 1833 section 3.1)
+pub record Mapping : Type 0 where
+  pub prog : ℕ
+  pub vers : ℕ
+  pub prot : ℕ
+  pub port : ℕ
+
+-- the same as a value
+abbrev pub mapping_tree : Mapping → Tree
+mapping_tree m = group (number m.prog ∷ number m.vers ∷ number m.prot ∷ number m.port ∷ [])
+
+-- all of them in order, as a `pmaplist` (RFC 1833 section 3.1)
+abbrev pub pmap_list : List Mapping → Tree
+pmap_list ms = linked (map mapping_tree ms)
+
+-- words on a line, a space between two of them
+abbrev pub words : List (List ℕ) → List ℕ
+words [] = codes "\n"
+words (w ∷ []) = w ++ codes "\n"
+words (w ∷ v ∷ vs) = w ++ 32 ∷ words (v ∷ vs)
+
+-- the bytes of a text, each that is not plain escaped
+abbrev pub escaped_text : List ℕ → List ℕ
+escaped_text bs = flat_map escaped bs
+
+-- the line of a row of versions 3 and 4
+abbrev pub row_line : Row → List ℕ
+row_line r =
+    words (decimal r.prog ∷ decimal r.vers ∷ escaped_text r.netid ∷ escaped_text r.address ∷ escaped_text r.owner ∷ [])
+
+-- the line of a row of version 2
+abbrev pub mapping_line : Mapping → List ℕ
+mapping_line m = words (decimal m.prog ∷ decimal m.vers ∷ decimal m.prot ∷ decimal m.port ∷ [])
+
+-- the line above the rows
+abbrev pub header : (vers : ℕ) → List ℕ
+header vers = if vers == 2 then codes "program vers prot port\n" else codes "program vers netid address owner\n"
+
+-- ---- the same lines node by node: what the code writes
+
+-- a number, or a text
+abbrev pub field_text : Head → List ℕ
+field_text (value.unsigned n) = decimal n
+field_text (value.bytes bs) = escaped_text bs
+field_text _ = []
+
+-- fields after the first, each after a space, and the end of the line
+abbrev pub more_fields : Values → List ℕ
+more_fields value.none = codes "\n"
+more_fields (value.node h inner rest) = 32 ∷ field_text h ++ more_fields rest
+
+-- the fields of a row
+abbrev pub fields_line : Values → List ℕ
+fields_line value.none = codes "\n"
+fields_line (value.node h inner rest) = field_text h ++ more_fields rest
+
+-- a row
+abbrev pub item_line : Head → Values → List ℕ
+item_line value.fields vs = fields_line vs
+item_line _ vs = codes "\n"
+
+-- the rows of a list, one inside the other
+abbrev pub list_lines : Head → Values → List ℕ
+list_lines value.present (value.node value.fields (value.node g item (value.node h rest value.none)) value.none) =
+    item_line g item ++ list_lines h rest
+list_lines _ vs = []
+
+-- a row and those that follow it
+abbrev pub node_lines : Tree → List ℕ
+node_lines t = list_lines value.present (value.node t.0 t.1 value.none)

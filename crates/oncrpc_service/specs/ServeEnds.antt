@@ -1,0 +1,115 @@
+-- How serving connections ends.
+use Rattle.std.specs.Prelude.{◌≡◌, ◌⊎◌, ℕ, ◌≤◌, ◌<◌, List, length, Option, Result, Ok, Err}
+use Rattle.std.specs.Io.KnownBytes.{Appends}
+use Rattle.xdr_io.specs.Told.{Counts}
+use Rattle.rpc_rows.specs.Rows.{Row}
+use Rattle.oncrpc_tasks.specs.declared.failure.Failure.TheVariants as failure
+use Rattle.oncrpc_service.specs.declared.serving.Stop.{Stop}
+use Rattle.oncrpc_service.specs.declared.serving.Stop.TheVariants as stop
+use Rattle.oncrpc_service.specs.Connections.{Outcome, ServesEach, ServesNext, connection_line, printed}
+use Rattle.oncrpc_service.specs.Written.{InPart}
+
+-- What a listener and a writer tell: the port, what the clients that wait send, and what failed.
+pub record Post (L O : Type 0) : Type 0 where
+  pub port : L → ℕ
+  pub waiting : L → Option (List (List ℕ))
+  pub refused : L → Option ℕ
+  pub taken : O → Option (List ℕ)
+  pub lost : O → Option ℕ
+
+-- What a device did: no connection came, after the lines of those before, or a write failed under these lines.
+abbrev pub Fails : (text : List ℕ) → (fewer : Type 0) → (refused refused' : Option ℕ)
+    → (taken taken' : Option (List ℕ)) → (lost lost' : Option ℕ) → Type 0
+Fails text fewer refused refused' taken taken' lost lost' =
+    (fewer × Counts 1 refused refused' × Appends taken taken' text) ⊎ (InPart text taken taken' × Counts 1 lost lost')
+
+-- Connections were served, at most so many, and this is what the status says of them, of the output and of the writer
+-- for faults. At 4 the last line could not be made.
+pub record ServeEnds {L O F : Type 0} (count : ℕ) (post : Post L O) (rows new : List Row) (listener listener' : L)
+    (output output' : O) (faults faults' : F) (status : ℕ) : Type 0 where
+  pub outcomes : List Outcome
+  pub served : ServesEach rows (post.waiting listener) outcomes new (post.waiting listener')
+  pub few : length outcomes ≤ count
+  pub known : (status ≡ 0) ⊎ ((status ≡ 3) ⊎ (status ≡ 4))
+  pub all : status ≡ 0 → length outcomes ≡ count
+  pub lines : status ≡ 0 → Appends (post.taken output) (post.taken output') (printed (post.port listener) outcomes)
+  pub unlost : status ≡ 0 → Counts 0 (post.lost output) (post.lost output')
+  pub silent : status ≡ 0 → faults' ≡ faults
+  pub device : status ≡ 3 → Fails (printed (post.port listener) outcomes) (length outcomes < count)
+      (post.refused listener) (post.refused listener') (post.taken output) (post.taken output')
+      (post.lost output) (post.lost output')
+  pub wanting : status ≡ 4 → InPart (printed (post.port listener) outcomes) (post.taken output) (post.taken output')
+
+-- ---- steps between the code and what its public contract says
+
+-- why serving stopped under these lines
+abbrev pub StopsUnder : (text : List ℕ) → (fewer : Type 0) → (refused refused' : Option ℕ)
+    → (taken taken' : Option (List ℕ)) → (lost lost' : Option ℕ) → Stop → Type 0
+StopsUnder text fewer refused refused' taken taken' lost lost' stop.NoConnection =
+    fewer × Counts 1 refused refused' × Appends taken taken' text
+StopsUnder text fewer refused refused' taken taken' lost lost' (stop.Failed failure.Write) =
+    InPart text taken taken' × Counts 1 lost lost'
+StopsUnder text fewer refused refused' taken taken' lost lost' (stop.Failed failure.NoMemory) = InPart text taken taken'
+StopsUnder text fewer refused refused' taken taken' lost lost' (stop.Failed _) = ⊥
+
+-- so many connections were served, and their lines written
+pub record HasServed {L O : Type 0} (count : ℕ) (post : Post L O) (rows new : List Row) (listener listener' : L)
+    (output output' : O) : Type 0 where
+  pub outcomes : List Outcome
+  pub served : ServesEach rows (post.waiting listener) outcomes new (post.waiting listener')
+  pub counted : length outcomes ≡ count
+  pub lines : Appends (post.taken output) (post.taken output') (printed (post.port listener) outcomes)
+  pub unlost : Counts 0 (post.lost output) (post.lost output')
+  pub unrefused : Counts 0 (post.refused listener) (post.refused listener')
+
+-- serving stopped before so many connections had their lines
+pub record HasStopped {L O : Type 0} (count : ℕ) (post : Post L O) (rows new : List Row) (listener listener' : L)
+    (output output' : O) (why : Stop) : Type 0 where
+  pub outcomes : List Outcome
+  pub served : ServesEach rows (post.waiting listener) outcomes new (post.waiting listener')
+  pub few : length outcomes ≤ count
+  pub stops : StopsUnder (printed (post.port listener) outcomes) (length outcomes < count)
+      (post.refused listener) (post.refused listener') (post.taken output) (post.taken output')
+      (post.lost output) (post.lost output') why
+
+-- one connection was served, and its line written
+pub record HasServedOne {L O : Type 0} (number : ℕ) (post : Post L O) (rows new : List Row) (listener listener' : L)
+    (output output' : O) : Type 0 where
+  pub outcome : Outcome
+  pub served : ServesNext rows new (post.waiting listener) (post.waiting listener') outcome
+  pub line : Appends (post.taken output) (post.taken output') (connection_line number outcome)
+  pub unlost : Counts 0 (post.lost output) (post.lost output')
+  pub unrefused : Counts 0 (post.refused listener) (post.refused listener')
+
+-- what printing one line did
+abbrev pub LinePrints : (line : List ℕ) → (taken taken' : Option (List ℕ)) → (lost lost' : Option ℕ)
+    → Result (Unit {0}) Stop → Type 0
+LinePrints line taken taken' lost lost' (Ok _) = Appends taken taken' line × Counts 0 lost lost'
+LinePrints line taken taken' lost lost' (Err stop.NoConnection) = ⊥
+LinePrints line taken taken' lost lost' (Err (stop.Failed failure.Write)) = InPart line taken taken' × Counts 1 lost lost'
+LinePrints line taken taken' lost lost' (Err (stop.Failed failure.NoMemory)) = InPart line taken taken'
+LinePrints line taken taken' lost lost' (Err (stop.Failed _)) = ⊥
+
+-- no connection came
+pub record NoneCame {L O : Type 0} (post : Post L O) (rows new : List Row) (listener listener' : L)
+    (output output' : O) : Type 0 where
+  pub same : new ≡ rows
+  pub waiting : post.waiting listener' ≡ post.waiting listener
+  pub unprinted : output' ≡ output
+  pub refused : Counts 1 (post.refused listener) (post.refused listener')
+
+-- one connection was served, and its line not written
+pub record LosesLine {L O : Type 0} (number : ℕ) (post : Post L O) (rows new : List Row) (listener listener' : L)
+    (output output' : O) (why : Stop) : Type 0 where
+  pub outcome : Outcome
+  pub served : ServesNext rows new (post.waiting listener) (post.waiting listener') outcome
+  pub stops : LinePrints (connection_line number outcome) (post.taken output) (post.taken output')
+      (post.lost output) (post.lost output') (Err why)
+
+-- why one connection has no line
+abbrev pub StopsOne : {L O : Type 0} → (number : ℕ) → Post L O → (rows new : List Row) → (listener listener' : L)
+    → (output output' : O) → Stop → Type 0
+StopsOne {L} {O} number post rows new listener listener' output output' stop.NoConnection =
+    NoneCame post rows new listener listener' output output'
+StopsOne {L} {O} number post rows new listener listener' output output' (stop.Failed f) =
+    LosesLine number post rows new listener listener' output output' (stop.Failed f)

@@ -1,0 +1,33 @@
+//! What the program's words ask for.
+use oncrpc_tasks::Task;
+
+/// What the words ask for.
+#[derive(Debug, PartialEq, Eq, Drop)]
+pub enum Request {
+    /// A task that needs no network.
+    Offline(Task),
+    /// Print the rows of a registry.
+    Info(InfoTask),
+    /// Serve a registry.
+    Serve(ServeTask),
+}
+
+/// A registry that is asked for its rows.
+#[derive(Debug, PartialEq, Eq, Drop)]
+pub struct InfoTask {
+    /// The name or address of its host.
+    pub host: String,
+    /// Its port.
+    pub port: u16,
+    /// The version of its program, 2 to 4.
+    pub vers: u32,
+}
+
+/// A registry to be served.
+#[derive(Debug, PartialEq, Eq, Drop)]
+pub struct ServeTask {
+    /// The port to listen at; 0 takes a free one.
+    pub port: u16,
+    /// How many connections are served.
+    pub count: u32,
+}

@@ -1,0 +1,5 @@
+//! Tests of `oncrpc_service` by its public calls.
+mod asking;
+mod harness;
+mod loopback;
+mod serving;
