@@ -11,7 +11,12 @@ use std::net::{TcpStream, ToSocketAddrs};
 use xdr_io::{FromRead, IntoWrite, Sink};
 
 /// Asks a registry for its rows, and gives the exit status.
-pub fn info<O: Sink, F: Sink>(rt: &HostRuntime, what: &InfoTask, output: &mut O, faults: &mut F) -> u8
+pub fn info<O: Sink, F: Sink>(
+    rt: &HostRuntime,
+    what: &InfoTask,
+    output: &mut O,
+    faults: &mut F,
+) -> u8
     ensures { result ≤ 4 }
 {
     match connect(rt, what) {
@@ -37,7 +42,12 @@ fn connect(rt: &HostRuntime, what: &InfoTask) -> io::Result<TcpStream> {
 }
 
 /// Serves a registry on 127.0.0.1, and gives the exit status. Its own rows have the port that is really listened at.
-pub fn serve<O: Sink, F: Sink>(rt: &HostRuntime, what: &ServeTask, output: &mut O, faults: &mut F) -> u8
+pub fn serve<O: Sink, F: Sink>(
+    rt: &HostRuntime,
+    what: &ServeTask,
+    output: &mut O,
+    faults: &mut F,
+) -> u8
     ensures { result ≤ 4 }
 {
     let alloc = rt.alloc();

@@ -86,8 +86,11 @@ begins_not post rows l o o' count (stop.Failed failure.Write) p = record {
   outcomes = [];
   served = (refl, refl);
   few = omega arith;
-  stops = (subst (λ (z : List ℕ). InPart z (post.taken o) (post.taken o'))
-      (sym (append-nil (listening_line (post.port l)))) p.0, p.1);
+  stops = (
+    subst (λ (z : List ℕ). InPart z (post.taken o) (post.taken o'))
+        (sym (append-nil (listening_line (post.port l)))) p.0,
+    p.1,
+  );
 }
 begins_not post rows l o o' count (stop.Failed failure.NoMemory) p = record {
   outcomes = [];
@@ -103,7 +106,7 @@ pub goes_on : {L O : Type 0} (post : Post L O) (rows mid new : List Row) (l m k 
 goes_on post rows mid new l m k o p q n done one =
     let counted = done.counted in
     let longer : length (done.outcomes ++ one.outcome ∷ []) ≡ length done.outcomes + 1 =
-        length-append done.outcomes (one.outcome ∷ []) in
+    length-append done.outcomes (one.outcome ∷ []) in
     record {
       outcomes = done.outcomes ++ one.outcome ∷ [];
       served = each_then rows mid new _ _ _ done.outcomes one.outcome done.served one.served;
@@ -137,7 +140,7 @@ stops_on post rows mid new l m k o p q n count (stop.Failed failure.TooManyReads
 stops_on post rows mid new l m k o p q n count (stop.Failed failure.Write) few done one =
     let counted = done.counted in
     let longer : length (done.outcomes ++ one.outcome ∷ []) ≡ length done.outcomes + 1 =
-        length-append done.outcomes (one.outcome ∷ []) in
+    length-append done.outcomes (one.outcome ∷ []) in
     record {
       outcomes = done.outcomes ++ one.outcome ∷ [];
       served = each_then rows mid new _ _ _ done.outcomes one.outcome done.served one.served;
@@ -152,7 +155,7 @@ stops_on post rows mid new l m k o p q n count (stop.Failed failure.Write) few d
 stops_on post rows mid new l m k o p q n count (stop.Failed failure.NoMemory) few done one =
     let counted = done.counted in
     let longer : length (done.outcomes ++ one.outcome ∷ []) ≡ length done.outcomes + 1 =
-        length-append done.outcomes (one.outcome ∷ []) in
+    length-append done.outcomes (one.outcome ∷ []) in
     record {
       outcomes = done.outcomes ++ one.outcome ∷ [];
       served = each_then rows mid new _ _ _ done.outcomes one.outcome done.served one.served;

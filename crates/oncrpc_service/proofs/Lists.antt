@@ -142,12 +142,18 @@ pub record AreRows (t : Tree) : Type 0 where
   pub rows : List Row
   pub is : t ≡ rpcb_list rows
 
-one_more : (r : Row) (t : Tree) → AreRows t → AreRows (value.present, value.node value.fields
-    (value.node (rpcb_tree r).0 (rpcb_tree r).1 (value.node t.0 t.1 value.none)) value.none)
+one_more : (r : Row) (t : Tree) → AreRows t → AreRows (
+  value.present,
+  value.node value.fields
+      (value.node (rpcb_tree r).0 (rpcb_tree r).1 (value.node t.0 t.1 value.none)) value.none,
+)
 one_more r t more = record {
   rows = r ∷ more.rows;
-  is = ap (λ (x : Tree). (value.present, value.node value.fields
-      (value.node (rpcb_tree r).0 (rpcb_tree r).1 (value.node x.0 x.1 value.none)) value.none)) more.is;
+  is = ap (λ (x : Tree). (
+    value.present,
+    value.node value.fields
+        (value.node (rpcb_tree r).0 (rpcb_tree r).1 (value.node x.0 x.1 value.none)) value.none,
+  )) more.is;
 }
 
 -- what fits an `rpcblist` is one of rows
@@ -161,12 +167,15 @@ are_rows value.present (value.node value.fields (value.node g i (value.node h vs
     let next = both (fits dir_kinds 14 (h, vs)) (fit dir_kinds [] r) row.1 in
     let more = are_rows h vs next.0 in
     let first = a_row g i row.0 in
-    subst AreRows (ap (λ (t : Tree). (value.present, value.node value.fields
-        (value.node t.0 t.1 (value.node h vs value.none)) value.none)) (sym first.1)
-        ∙ ap (λ (x : Values). (value.present, value.node value.fields (value.node g i (value.node h vs x)) value.none))
-        (sym (no_more r next.1))
-        ∙ ap (λ (x : Values). (value.present, value.node value.fields (value.node g i (value.node h vs r)) x))
-        (sym (no_more rest all.1))) (one_more first.0 (h, vs) more)
+    subst AreRows (ap (λ (t : Tree). (
+      value.present,
+      value.node value.fields
+          (value.node t.0 t.1 (value.node h vs value.none)) value.none,
+    )) (sym first.1)
+    ∙ ap (λ (x : Values). (value.present, value.node value.fields (value.node g i (value.node h vs x)) value.none))
+    (sym (no_more r next.1))
+    ∙ ap (λ (x : Values). (value.present, value.node value.fields (value.node g i (value.node h vs r)) x))
+    (sym (no_more rest all.1))) (one_more first.0 (h, vs) more)
 are_rows value.present (value.node value.fields (value.node g i value.none) rest) e =
     absurd (false≢true ((both (fits dir_kinds 11 (g, i)) _ (both _ (fit dir_kinds [] rest) e).0).1))
 are_rows value.present (value.node value.fields value.none rest) e = absurd (false≢true e)
@@ -202,12 +211,18 @@ pub record AreMappings (t : Tree) : Type 0 where
   pub rows : List Mapping
   pub is : t ≡ pmap_list rows
 
-one_mapping_more : (m : Mapping) (t : Tree) → AreMappings t → AreMappings (value.present, value.node value.fields
-    (value.node (mapping_tree m).0 (mapping_tree m).1 (value.node t.0 t.1 value.none)) value.none)
+one_mapping_more : (m : Mapping) (t : Tree) → AreMappings t → AreMappings (
+  value.present,
+  value.node value.fields
+      (value.node (mapping_tree m).0 (mapping_tree m).1 (value.node t.0 t.1 value.none)) value.none,
+)
 one_mapping_more m t more = record {
   rows = m ∷ more.rows;
-  is = ap (λ (x : Tree). (value.present, value.node value.fields
-      (value.node (mapping_tree m).0 (mapping_tree m).1 (value.node x.0 x.1 value.none)) value.none)) more.is;
+  is = ap (λ (x : Tree). (
+    value.present,
+    value.node value.fields
+        (value.node (mapping_tree m).0 (mapping_tree m).1 (value.node x.0 x.1 value.none)) value.none,
+  )) more.is;
 }
 
 -- what fits a `pmaplist` is one of mappings
@@ -221,12 +236,15 @@ are_mappings value.present (value.node value.fields (value.node g i (value.node 
     let next = both (fits dir_kinds 18 (h, vs)) (fit dir_kinds [] r) row.1 in
     let more = are_mappings h vs next.0 in
     let first = a_mapping g i row.0 in
-    subst AreMappings (ap (λ (t : Tree). (value.present, value.node value.fields
-        (value.node t.0 t.1 (value.node h vs value.none)) value.none)) (sym first.1)
-        ∙ ap (λ (x : Values). (value.present, value.node value.fields (value.node g i (value.node h vs x)) value.none))
-        (sym (no_more r next.1))
-        ∙ ap (λ (x : Values). (value.present, value.node value.fields (value.node g i (value.node h vs r)) x))
-        (sym (no_more rest all.1))) (one_mapping_more first.0 (h, vs) more)
+    subst AreMappings (ap (λ (t : Tree). (
+      value.present,
+      value.node value.fields
+          (value.node t.0 t.1 (value.node h vs value.none)) value.none,
+    )) (sym first.1)
+    ∙ ap (λ (x : Values). (value.present, value.node value.fields (value.node g i (value.node h vs x)) value.none))
+    (sym (no_more r next.1))
+    ∙ ap (λ (x : Values). (value.present, value.node value.fields (value.node g i (value.node h vs r)) x))
+    (sym (no_more rest all.1))) (one_mapping_more first.0 (h, vs) more)
 are_mappings value.present (value.node value.fields (value.node g i value.none) rest) e =
     absurd (false≢true ((both (fits dir_kinds 15 (g, i)) _ (both _ (fit dir_kinds [] rest) e).0).1))
 are_mappings value.present (value.node value.fields value.none rest) e = absurd (false≢true e)

@@ -40,8 +40,15 @@ pub fn info_over<R: Source, W: Sink, O: Sink, F: Sink>(
     faults: &mut F,
     vers: u32,
 ) -> u8
-    ensures { InfoEnds vers (record { left = R.left; reads = R.reads; unread = R.failures; sent = W.taken;
-        unsent = W.failures; taken = O.taken; lost = O.failures })
+    ensures { InfoEnds vers (record {
+      left = R.left;
+      reads = R.reads;
+      unread = R.failures;
+      sent = W.taken;
+      unsent = W.failures;
+      taken = O.taken;
+      lost = O.failures;
+    })
         reader.old reader.new writer.old writer.new output.old output.new faults.old faults.new result }
 {
     let answer = exchange(alloc, reader, writer, &dump_call(alloc, vers));
@@ -123,7 +130,11 @@ fn reply_page(alloc: Global, vers: u32, reply: &Reply) -> Result<Page, Failure>
     ensures memory { IfErr result (λ f. f ≡ Failure.NoMemory) }
 {
     match reply {
-        Reply::Accepted { xid: _, verf: _, status } => status_page(alloc, vers, status),
+        Reply::Accepted {
+            xid: _,
+            verf: _,
+            status,
+        } => status_page(alloc, vers, status),
         Reply::Denied { xid: _, why } => Ok(refused(denied_line(alloc, *why)?)),
     }
 }

@@ -17,7 +17,9 @@ pub fn status_line(alloc: Global, status: &Status) -> Result<String, AllocError>
     match status {
         Status::Success(_) => String::from_str(alloc, "refused SUCCESS\n"),
         Status::ProgUnavail => String::from_str(alloc, "refused PROG_UNAVAIL\n"),
-        Status::ProgMismatch { low, high } => format!(in alloc; "refused PROG_MISMATCH {low} {high}\n"),
+        Status::ProgMismatch { low, high } => format!(in alloc;
+            "refused PROG_MISMATCH {low} {high}\n"
+        ),
         Status::ProcUnavail => String::from_str(alloc, "refused PROC_UNAVAIL\n"),
         Status::GarbageArgs => String::from_str(alloc, "refused GARBAGE_ARGS\n"),
         Status::SystemErr => String::from_str(alloc, "refused SYSTEM_ERR\n"),
@@ -41,7 +43,10 @@ pub fn fault_line(alloc: Global, fault: ClientFault) -> Result<String, Failure>
 {
     match fault {
         ClientFault::Record(fault) => record_line(alloc, fault),
-        ClientFault::Reply(fault) => Ok(format!(in alloc; "refused {}\n", reply_fault_name(fault))?),
+        ClientFault::Reply(fault) => Ok(format!(in alloc;
+            "refused {}\n",
+            reply_fault_name(fault)
+        )?),
         ClientFault::WrongXid { got } => Ok(format!(in alloc; "refused WrongXid {got}\n")?),
         ClientFault::Read => Err(Failure::Read),
         ClientFault::Write { written: _ } => Err(Failure::Write),

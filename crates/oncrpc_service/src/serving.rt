@@ -26,8 +26,13 @@ pub fn serve_on<L: Listener, S: BuildHasher, O: Sink, F: Sink>(
     output: &mut O,
     faults: &mut F,
 ) -> u8
-    ensures { ServeEnds count (record { port = L.port_of; waiting = L.waiting; refused = L.failures; taken = O.taken;
-        lost = O.failures })
+    ensures { ServeEnds count (record {
+      port = L.port_of;
+      waiting = L.waiting;
+      refused = L.failures;
+      taken = O.taken;
+      lost = O.failures;
+    })
         directory.old directory.new listener.old listener.new output.old output.new faults.old faults.new result }
 {
     match serve_all(alloc, listener, count, directory, output) {
@@ -157,8 +162,7 @@ fn connection_line(
     match outcome {
         Ok(served) => format!(in alloc;
             "connection {number}: {} records, {} replies\n",
-            served.records,
-            served.replies
+            served.records, served.replies
         ),
         Err(ServeFault::Record(fault)) => record_line(alloc, number, fault),
         Err(ServeFault::Read) => format!(in alloc; "connection {number}: Read\n"),
@@ -174,7 +178,9 @@ fn record_line(alloc: Global, number: u32, fault: RecordFault) -> Result<String,
 {
     match fault {
         RecordFault::TooLong { at } => format!(in alloc; "connection {number}: TooLong at {at}\n"),
-        RecordFault::Truncated { at } => format!(in alloc; "connection {number}: Truncated at {at}\n"),
+        RecordFault::Truncated { at } => format!(in alloc;
+            "connection {number}: Truncated at {at}\n"
+        ),
         RecordFault::Read => format!(in alloc; "connection {number}: Read\n"),
         RecordFault::Write { written: _ } => format!(in alloc; "connection {number}: Write\n"),
         RecordFault::TooManyReads => format!(in alloc; "connection {number}: TooManyReads\n"),

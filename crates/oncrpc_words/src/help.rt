@@ -1,7 +1,8 @@
 //! What the program says of itself.
 
 /// The program in a line.
-pub const ABOUT: &str = "Checks and shows XDR values, marks ONC RPC records, asks and serves rpcbind";
+pub const ABOUT: &str =
+    "Checks and shows XDR values, marks ONC RPC records, asks and serves rpcbind";
 
 /// The program in a paragraph.
 pub const LONG_ABOUT: &str =

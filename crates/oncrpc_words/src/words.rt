@@ -29,15 +29,13 @@ pub fn read_words(alloc: Global, words: Vec<String>) -> Result<Request, WordsFau
 fn first_request(alloc: Global) -> Result<Request, AllocError>
     ensures { IfOk result IsFirst }
 {
-    Ok(Request::Offline(
-        Task::Check(ValueTask {
-            name: String::from_str(alloc, "opaque")?,
-            types: None,
-            hex: true,
-            depth: DEPTH,
-            bytes: BYTES,
-        }),
-    ))
+    Ok(Request::Offline(Task::Check(ValueTask {
+        name: String::from_str(alloc, "opaque")?,
+        types: None,
+        hex: true,
+        depth: DEPTH,
+        bytes: BYTES,
+    })))
 }
 
 fn request_of(alloc: Global, words: &[String]) -> Result<Request, Error> {

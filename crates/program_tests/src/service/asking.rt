@@ -13,8 +13,7 @@ const CALL_2: &str =
     "80000028 00000001 00000000 00000002 000186a0 00000002 00000004 00000000 00000000 00000000 00000000";
 
 // Four rows in version 4, and their lines.
-const ROWS_4: &str =
-    "800000f4 00000001 00000001 00000000 00000000 00000000 00000000
+const ROWS_4: &str = "800000f4 00000001 00000001 00000000 00000000 00000000 00000000
 00000001 000186a0 00000002 00000003 74637000 0000000d 302e302e 302e302e 302e3131 31000000 00000009 73757065 72757365 72000000
 00000001 000186a0 00000003 00000003 74637000 0000000d 302e302e 302e302e 302e3131 31000000 00000009 73757065 72757365 72000000
 00000001 000186a0 00000004 00000003 74637000 0000000d 302e302e 302e302e 302e3131 31000000 00000009 73757065 72757365 72000000
@@ -137,7 +136,14 @@ fn is_told(
     let mut writer = MemorySink::new(&mut sent, piece, failing.1);
     let mut output = MemorySink::new(&mut out, piece, failing.2);
     let mut faults = MemorySink::new(&mut err, piece, None);
-    let status = info_over(alloc, &mut reader, &mut writer, &mut output, &mut faults, vers);
+    let status = info_over(
+        alloc,
+        &mut reader,
+        &mut writer,
+        &mut output,
+        &mut faults,
+        vers,
+    );
     Ok(
         status == ended.0
             && output.written() == ended.1.as_bytes()
@@ -150,8 +156,28 @@ fn is_told(
 fn rows_are_printed(rt: HostRuntime) -> Result<(), Fail> {
     for piece in [1, 3, 4096] {
         let alloc = rt.alloc();
-        assert!(rt; is_told(alloc, 4, ROWS_4, piece, NONE_FAILS, (0, LINES_4, ""), CALL_4)?);
-        assert!(rt; is_told(alloc, 2, ROWS_2, piece, NONE_FAILS, (0, LINES_2, ""), CALL_2)?);
+        assert!(rt;
+            is_told(
+                alloc,
+                4,
+                ROWS_4,
+                piece,
+                NONE_FAILS,
+                (0, LINES_4, ""),
+                CALL_4
+            )?
+        );
+        assert!(rt;
+            is_told(
+                alloc,
+                2,
+                ROWS_2,
+                piece,
+                NONE_FAILS,
+                (0, LINES_2, ""),
+                CALL_2
+            )?
+        );
         assert!(rt; is_told(alloc, 4, ODD, piece, NONE_FAILS, (0, ODD_LINES, ""), CALL_4)?);
     }
     Ok(())
@@ -160,7 +186,15 @@ fn rows_are_printed(rt: HostRuntime) -> Result<(), Fail> {
 #[test]
 fn refusals_are_printed(rt: HostRuntime) -> Result<(), Fail> {
     for (answer, line) in &REFUSED {
-        let right = is_told(rt.alloc(), 4, answer, 4096, NONE_FAILS, (1, line, ""), CALL_4)?;
+        let right = is_told(
+            rt.alloc(),
+            4,
+            answer,
+            4096,
+            NONE_FAILS,
+            (1, line, ""),
+            CALL_4,
+        )?;
         assert!(rt; right, "{line}");
     }
     Ok(())
@@ -173,7 +207,17 @@ fn devices_fail(rt: HostRuntime) -> Result<(), Fail> {
     let write = (3, "", "write fault\n");
     let begun = (3, "program ", "write fault\n");
     assert!(rt; is_told(alloc, 4, ROWS_4, 8, (Some(2), None, None), read, CALL_4)?);
-    assert!(rt; is_told(alloc, 4, ROWS_4, 8, (None, Some(2), None), write, "80000028 00000001")?);
+    assert!(rt;
+        is_told(
+            alloc,
+            4,
+            ROWS_4,
+            8,
+            (None, Some(2), None),
+            write,
+            "80000028 00000001"
+        )?
+    );
     assert!(rt; is_told(alloc, 4, ROWS_4, 8, (None, None, Some(2)), begun, CALL_4)?);
     Ok(())
 }
@@ -188,7 +232,11 @@ fn is_wanting(alloc: Global) -> Result<bool, Fail> {
     let mut faults = MemorySink::new(&mut err, 4096, None);
     let _kept = growths::take_all(alloc)?;
     let status = info_over(alloc, &mut reader, &mut writer, &mut output, &mut faults, 4);
-    Ok(status == 4 && output.written().is_empty() && faults.written() == b"out of memory\n".as_slice())
+    Ok(
+        status == 4
+            && output.written().is_empty()
+            && faults.written() == b"out of memory\n".as_slice(),
+    )
 }
 
 #[test]

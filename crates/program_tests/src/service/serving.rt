@@ -27,7 +27,13 @@ const GETPORT_REPLY: &str =
     "8000001c 00000001 00000001 00000000 00000000 00000000 00000000 00000801";
 
 // What a connection sends, which read and which write of it fails, what goes out, and its line without the number.
-type Connection = (&'static str, Option<u64>, Option<u64>, &'static str, &'static str);
+type Connection = (
+    &'static str,
+    Option<u64>,
+    Option<u64>,
+    &'static str,
+    &'static str,
+);
 
 const CONNECTIONS: [Connection; 9] = [
     (NULL, None, None, NULL_REPLY, "1 records, 1 replies"),
@@ -62,7 +68,14 @@ fn is_served(
     let mut faults = MemorySink::new(&mut err, 32, None);
     let mut listener = MemoryListener::new(111, waiting);
     let mut directory = registry(alloc)?;
-    let status = serve_on(alloc, &mut listener, count, &mut directory, &mut output, &mut faults);
+    let status = serve_on(
+        alloc,
+        &mut listener,
+        count,
+        &mut directory,
+        &mut output,
+        &mut faults,
+    );
     let printed = status == ended.0
         && output.written() == ended.1.as_bytes()
         && faults.written() == ended.2.as_bytes();

@@ -111,12 +111,23 @@ fn records_are_asked(rt: HostRuntime) -> Result<(), AllocError> {
 // Words, and the host, the port and the version that they ask for.
 const INFOS: [(Words, &str, u16, u32); 4] = [
     (&["info", "localhost", "111"], "localhost", 111, 4),
-    (&["info", "127.0.0.1", "0", "--vers", "2"], "127.0.0.1", 0, 2),
+    (
+        &["info", "127.0.0.1", "0", "--vers", "2"],
+        "127.0.0.1",
+        0,
+        2,
+    ),
     (&["info", "--vers=3", "", "65535"], "", 65535, 3),
     (&["info", "::1", "+007", "--vers", "04"], "::1", 7, 4),
 ];
 
-fn asks_info(alloc: Global, words: Words, host: &str, port: u16, vers: u32) -> Result<bool, AllocError> {
+fn asks_info(
+    alloc: Global,
+    words: Words,
+    host: &str,
+    port: u16,
+    vers: u32,
+) -> Result<bool, AllocError> {
     let host = String::from_str(alloc, host)?;
     match read(alloc, words)? {
         Ok(Request::Info(task)) => Ok(task == InfoTask { host, port, vers }),
@@ -127,7 +138,10 @@ fn asks_info(alloc: Global, words: Words, host: &str, port: u16, vers: u32) -> R
 #[test]
 fn infos_are_asked(rt: HostRuntime) -> Result<(), AllocError> {
     for (words, host, port, vers) in &INFOS {
-        assert!(rt; asks_info(rt.alloc(), words, host, *port, *vers)?, "{words:?}");
+        assert!(rt;
+            asks_info(rt.alloc(), words, host, *port, *vers)?,
+            "{words:?}"
+        );
     }
     Ok(())
 }
@@ -135,7 +149,11 @@ fn infos_are_asked(rt: HostRuntime) -> Result<(), AllocError> {
 // Words, and the port and the count that they ask for.
 const SERVES: [(Words, u16, u32); 2] = [
     (&["serve", "--port", "0", "--count", "1"], 0, 1),
-    (&["serve", "--count=4294967295", "--port=65535"], 65535, 4294967295),
+    (
+        &["serve", "--count=4294967295", "--port=65535"],
+        65535,
+        4294967295,
+    ),
 ];
 
 fn asks_serve(alloc: Global, words: Words, port: u16, count: u32) -> Result<bool, AllocError> {
@@ -173,7 +191,10 @@ const REFUSED: [(Words, u8); 35] = [
     (&["serve", "--count", "1"], 2),
     (&["serve", "--port", "65536", "--count", "1"], 2),
     (&["serve", "--port", "1", "--count", "4294967296"], 2),
-    (&["serve", "--port", "1", "--count", "1", "--datagrams", "1"], 2),
+    (
+        &["serve", "--port", "1", "--count", "1", "--datagrams", "1"],
+        2,
+    ),
     (&["check", "--name", "int", "--types"], 2),
     (
         &["show", "--name", "int", "--types", "a", "--types", "b"],

@@ -8,14 +8,14 @@ use Rattle.oncrpc_service.proofs.info.rows_page.Goals as goal
 pub returns-in-Ok-clause-told : goal.returns-in-Ok-clause-told
 returns-in-Ok-clause-told c =
     let value = rw (c.in_ok-schema.ensures.schema, c.list_kind.ensures, c.dump_limits.ensures)
-        at c.in-Ok.ensures.value in
+    at c.in-Ok.ensures.value in
     let page = c.in_ok-list_page-in-Ok.ensures in
     told_rows c.args.vers c.args.results.now (tree c.in-Ok.list) c.in-Ok._used _ _ value.0 value.2 page.0 page.1
 
 pub returns-clause-told : goal.returns-clause-told
 returns-clause-told c =
     let none = rw (c.in_ok-schema.ensures.schema, c.list_kind.ensures, c.dump_limits.ensures)
-        at c.in-Err.ensures.refused in
+    at c.in-Err.ensures.refused in
     if_ok c.refusal_page.result
     (λ p told. told_refusal c.args.vers c.args.results.now c.in-Err.fault p.status p.text.items none
     c.in-Err.ensures.place c.in-Err.ensures.truncated told) c.refusal_page.ensures.told

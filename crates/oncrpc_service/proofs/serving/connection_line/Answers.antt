@@ -3,6 +3,3 @@ use Rattle.oncrpc_service.proofs.serving.connection_line.Goals as goal
 
 pub returns-in-Ok : goal.returns-in-Ok
 returns-in-Ok c = rw c.in-Ok.is (search (rules, append_assoc))
-
-pub returns-in-Err-NoMemory : goal.returns-in-Err-NoMemory
-returns-in-Err-NoMemory c = rw c.in-Err-NoMemory.is (search (rules, append_assoc))

@@ -7,13 +7,13 @@ use Rattle.oncrpc_service.proofs.serving.serve_all.Goals as goal
 pub returns-in-Err-clause-stopped : goal.returns-in-Err-clause-stopped
 returns-in-Err-clause-stopped g c =
     let line = rw (c.port.ensures, c.in-Err.is) at (c.print.ensures (listening_line c.port.result)
-        c.listening_line.ensures (listening_is_some c.port.result)) in
+    c.listening_line.ensures (listening_is_some c.port.result)) in
     begins_not _ _ _ _ _ _ _ line
 
 pub loop-before-init : goal.loop-before-init
 loop-before-init g c =
     let line = rw (c.port.ensures, c.in-Ok.is) at (c.print.ensures (listening_line c.port.result)
-        c.listening_line.ensures (listening_is_some c.port.result)) in
+    c.listening_line.ensures (listening_is_some c.port.result)) in
     begins _ _ _ _ _ line.0 line.1
 
 pub returns-in-Err-serve_one-clause-stopped : goal.returns-in-Err-serve_one-clause-stopped

@@ -6,12 +6,12 @@ use Rattle.oncrpc_service.proofs.serving.serve_one.Goals as goal
 pub returns-in-Ok-clause-served : goal.returns-in-Ok-clause-served
 returns-in-Ok-clause-served g c =
     let line = c.print.ensures (connection_line c.args.number c.in-Ok.outcome) c.connection_line.ensures
-        (line_is_some c.args.number c.in-Ok.outcome) in
+    (line_is_some c.args.number c.in-Ok.outcome) in
     one_served _ c.args.number _ _ _ _ _ _ c.in-Ok.outcome c.print.result c.in-Ok.ensures.served
     c.in-Ok.ensures.none_failed line
 
 pub returns-in-Ok-clause-stopped : goal.returns-in-Ok-clause-stopped
 returns-in-Ok-clause-stopped g c =
     let line = c.print.ensures (connection_line c.args.number c.in-Ok.outcome) c.connection_line.ensures
-        (line_is_some c.args.number c.in-Ok.outcome) in
+    (line_is_some c.args.number c.in-Ok.outcome) in
     one_stopped _ c.args.number _ _ _ _ _ _ c.in-Ok.outcome c.print.result c.in-Ok.ensures.served line
