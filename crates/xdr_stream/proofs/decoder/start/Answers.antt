@@ -24,6 +24,7 @@ returns-clause-stands c =
       subst (λ (fs : List (List Part)). Sees c.args.schema.now.kinds c.args.kind.place c.args.limits tells Next
           ((item_part c.args.kind.place ∷ []) ∷ fs) [])
           (ap (λ (fs : List Frame). onto [] fs) (sym c.new.ensures.items))
-          (sees_start c.args.schema.now.kinds c.args.kind.place c.args.limits tells c.len-known.ensures.valued c.requires
+          (sees_start c.args.schema.now.kinds c.args.kind.place c.args.limits tells c.len-known.ensures.valued
+          c.requires
           (told_start c.new-2.result.items c.new-3.result.items c.new-2.ensures.items c.new-3.ensures.items)),
     )
