@@ -3,13 +3,12 @@ ghost use Rattle.std.specs.Prelude.{◌≡◌, ◌≢◌, ◌⊎◌, ℕ, IfOk, 
 ghost use Rattle.std.specs.Io.KnownBytes.{Appends};
 ghost use Rattle.oncrpc_words.specs.Words.{IsFirst};
 
-use oncrpc_tasks::Task;
-use oncrpc_words::{WordsFault, no_memory, print_words_fault, read_words};
+use oncrpc_words::{Request, WordsFault, no_memory, print_words_fault, read_words};
 use std::alloc::Global;
 use xdr_io::Sink;
 
 /// Called without any word the program checks an opaque in hexadecimal, within the greatest limits.
-pub fn the_first_run(alloc: Global) -> Result<Task, WordsFault>
+pub fn the_first_run(alloc: Global) -> Result<Request, WordsFault>
     ensures { IfOk result IsFirst }
 {
     read_words(alloc, Vec::new(alloc))
