@@ -1,6 +1,6 @@
 //! What is printed of connections, and what goes out on them.
-use crate::service::harness::{bytes, registry};
-use oncrpc_service::{MemoryListener, serve_on};
+use crate::service::harness::{MemoryListener, bytes, registry};
+use oncrpc_service::serve_on;
 use std::alloc::Global;
 use std::test::Fail;
 use xdr_io::{MemorySink, MemorySource};
