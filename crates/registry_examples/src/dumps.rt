@@ -27,16 +27,6 @@ pub fn dump_of_a_row<S: BuildHasher + Drop>(alloc: Global, hasher: S) -> Result<
     directory.dump(alloc)
 }
 
-/// The port dump of one row over `tcp` is a list of one `mapping`, at port 2049 (RFC 1833 section 3.1).
-pub fn dump_of_a_port<S: BuildHasher + Drop>(alloc: Global, hasher: S) -> Result<Value, NoMemory>
-    ensures { IfOk result (λ list. tree list ≡
-        linked (group (number 7 ∷ number 1 ∷ number 6 ∷ number 2049 ∷ []) ∷ [])) }
-{
-    let mut directory = Directory::new(alloc, hasher);
-    directory.set(alloc, 7, 1, b"tcp", b"127.0.0.1.8.1", b"1000")?;
-    directory.dump_ports(alloc)
-}
-
 /// Each row is in the dump, in order of insertion.
 pub fn dump_of_two_rows<S: BuildHasher + Drop>(alloc: Global, hasher: S) -> Result<Value, NoMemory>
     ensures { let first = group (number 7 ∷ number 1 ∷ content (codes "tcp") ∷ content (codes "a") ∷ content [] ∷ []) in
