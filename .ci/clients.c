@@ -1,6 +1,6 @@
 /* Calls of libtirpc's own client library to a registry at port 111 of 127.0.0.1.
 
-   clients getport PROG VERS       pmap_getport over TCP
+   clients getport PROG VERS       GETPORT of version 2 for TCP, over TCP (pmap_getport itself asks by datagram)
    clients getmaps                 pmap_getmaps
    clients getaddr PROG VERS       rpcb_getaddr over TCP
    clients getrows                 rpcb_getmaps over TCP
@@ -43,6 +43,20 @@ static int local(char **words) {
     return !at || !rpcb_set(strtoul(words[0], 0, 10), strtoul(words[1], 0, 10), over, at);
 }
 
+static int getport(char **words) {
+    struct sockaddr_in at = registry();
+    struct timeval wait = {5, 0};
+    int fd = RPC_ANYSOCK;
+    u_int port = 0;
+    struct pmap row = {strtoul(words[0], 0, 10), strtoul(words[1], 0, 10), IPPROTO_TCP, 0};
+    CLIENT *client = clnttcp_create(&at, PMAPPROG, PMAPVERS, &fd, 0, 0);
+    if (!client) return 1;
+    if (clnt_call(client, PMAPPROC_GETPORT, (xdrproc_t)xdr_pmap, (void *)&row, (xdrproc_t)xdr_u_int, (void *)&port, wait))
+        clnt_perror(client, "GETPORT");
+    printf("%u\n", port);
+    return 0;
+}
+
 static int getmaps(void) {
     struct sockaddr_in at = registry();
     for (struct pmaplist *row = pmap_getmaps(&at); row; row = row->pml_next)
@@ -70,14 +84,10 @@ static int getaddr(char **words) {
 }
 
 int main(int count, char **words) {
-    struct sockaddr_in at = registry();
     if (count == 2 && !strcmp(words[1], "getmaps")) return getmaps();
     if (count == 2 && !strcmp(words[1], "getrows")) return getrows();
     if (count == 4 && !strcmp(words[1], "getaddr")) return getaddr(words + 2);
-    if (count == 4 && !strcmp(words[1], "getport")) {
-        printf("%u\n", pmap_getport(&at, strtoul(words[2], 0, 10), strtoul(words[3], 0, 10), IPPROTO_TCP));
-        return 0;
-    }
+    if (count == 4 && !strcmp(words[1], "getport")) return getport(words + 2);
     if (count == 5 && !strcmp(words[1], "set")) return set(words + 2);
     if (count == 5 && !strcmp(words[1], "local")) return local(words + 2);
     if (count == 5 && !strcmp(words[1], "unset"))
