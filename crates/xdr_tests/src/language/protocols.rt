@@ -1,5 +1,5 @@
-//! The protocols of RFC 1094 as rpcgen's files declare them, with `unsigned int` in place of a bare `unsigned` and no
-//! `struct` before a name in a declaration (docs/LANGUAGE.md has the commands).
+//! The protocols of RFC 1094 as rpcgen's files declare them, with `unsigned int` in place of a bare `unsigned`
+//! (docs/LANGUAGE.md has the command) and no `struct` before a name in a declaration.
 
 /// NFS, version 2 (RFC 1094 section 2).
 pub static NFS: &[u8] = b"
