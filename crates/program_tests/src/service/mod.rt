@@ -2,4 +2,3 @@
 mod asking;
 mod harness;
 mod loopback;
-mod serving;

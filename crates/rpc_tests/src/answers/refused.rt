@@ -140,11 +140,11 @@ fn missed_in_none(
     directory: &mut Registry,
     messages: &[Vec<u8>],
 ) -> Result<usize, Fail> {
-    let mut missed = 0;
+    let mut missed: usize = 0;
     let _kept = take_all(alloc)?;
     for message in messages {
         match answer(alloc, directory, Transport::Tcp, message) {
-            Answered::OutOfMemory { xid: 1 } => missed += 1,
+            Answered::OutOfMemory { xid: 1 } => missed = missed.saturating_add(1),
             _ => {}
         }
     }

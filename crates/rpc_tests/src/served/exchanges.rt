@@ -1,4 +1,7 @@
 //! Calls exchanged for replies.
+ghost use Rattle.std.specs.Prelude.{◌≡◌, []};
+ghost use Rattle.rpc_message.specs.View.{auth_view, call_view};
+
 use crate::served::made::{Device, PLAIN, bytes_of};
 use growths::{allow, refuse};
 use rpc_engine::{ClientFault, exchange};
@@ -46,10 +49,35 @@ fn view(answer: &Result<Reply, ClientFault>) -> Told {
 }
 
 /// An opaque_auth of flavor 0 and no bytes.
-fn no_auth(alloc: Global) -> OpaqueAuth {
+fn no_auth(alloc: Global) -> OpaqueAuth
+    ensures { auth_view result ≡ record { flavor = 0; body = [] } }
+{
     OpaqueAuth {
         flavor: 0,
         body: Vec::new(alloc),
+    }
+}
+
+/// The null call of version 2 with xid 1.
+fn null_call(alloc: Global) -> Call
+    ensures { call_view result ≡ record {
+      xid = 1;
+      prog = 100000;
+      vers = 2;
+      proc = 0;
+      args = [];
+      cred = record { flavor = 0; body = [] };
+      verf = record { flavor = 0; body = [] };
+    } }
+{
+    Call {
+        xid: 1,
+        prog: 100000,
+        vers: 2,
+        proc: 0,
+        cred: no_auth(alloc),
+        verf: no_auth(alloc),
+        args: Vec::new(alloc),
     }
 }
 
@@ -63,15 +91,7 @@ fn exchanged(
     into: Device,
 ) -> Option<(Told, usize)> {
     let mut room = [0u8; 256];
-    let asked = Call {
-        xid: 1,
-        prog: 100000,
-        vers: 2,
-        proc: 0,
-        cred: no_auth(alloc),
-        verf: no_auth(alloc),
-        args: Vec::new(alloc),
-    };
+    let asked = null_call(alloc);
     let mut source = MemorySource::new(input, usize::from(from.piece).max(1), from.failing);
     let mut sink = MemorySink::new(&mut room, usize::from(into.piece).max(1), into.failing);
     let answer = exchange(alloc, &mut source, &mut sink, &asked);

@@ -32,22 +32,26 @@ pub fn count(records: u64, replies: u64) -> Told {
     Ok(Served { records, replies })
 }
 
-/// Where replies go to, of at most 2048 bytes.
+/// What went out, of at most 2048 bytes, with zeros behind it.
 pub type Room = [u8; 2048];
 
-/// What serving the input answers, and how many bytes it writes.
+/// What serving the input answers, how many bytes it writes, and which.
 pub fn served(
     alloc: Global,
     directory: &mut Registry,
     input: &[u8],
     from: Device,
     into: Device,
-    room: &mut Room,
-) -> (Told, usize) {
+) -> (Told, usize, Room) {
+    let mut room = [0u8; 2048];
+    let mut written = [0u8; 2048];
     let mut source = MemorySource::new(input, usize::from(from.piece).max(1), from.failing);
-    let mut sink = MemorySink::new(room, usize::from(into.piece).max(1), into.failing);
+    let mut sink = MemorySink::new(&mut room, usize::from(into.piece).max(1), into.failing);
     let told = serve(alloc, &mut source, &mut sink, directory, Transport::Tcp);
-    (told, sink.used())
+    for (to, byte) in written.iter_mut().zip(sink.written()) {
+        *to = *byte;
+    }
+    (told, sink.used(), written)
 }
 
 /// Whether serving the input answers this and writes these bytes and no others.
@@ -60,9 +64,8 @@ pub fn is_served(
     told: Told,
     output: &[u8],
 ) -> bool {
-    let mut room = [0u8; 2048];
-    let (answer, used) = served(alloc, directory, input, from, into, &mut room);
-    answer == told && room.get(..used) == Some(output)
+    let (answer, used, written) = served(alloc, directory, input, from, into);
+    answer == told && written.get(..used) == Some(output)
 }
 
 /// The bytes that these digits spell, one text after another.

@@ -110,10 +110,9 @@ fn answered(alloc: Global, rt: &impl Env, number: u64, row: usize) -> Option<(An
     let output = bytes_of(alloc, &[*reply])?;
     let missed = bytes_of(alloc, &[SYSTEM_ERR])?;
     let _refuses = refuse(alloc, rt, number).ok()?;
-    let mut room = [0u8; 2048];
-    let (told, used) = served(alloc, &mut directory, &input, PLAIN, PLAIN, &mut room);
+    let (told, used, written) = served(alloc, &mut directory, &input, PLAIN, PLAIN);
     allow(rt);
-    let answer = answer_of(told, room.get(..used)?, &output, &missed);
+    let answer = answer_of(told, written.get(..used)?, &output, &missed);
     let again = answer == Answer::Whole
         || is_served(
             alloc,
@@ -176,12 +175,11 @@ fn told_in_none(
     directory: &mut Registry,
     input: &[u8],
 ) -> Result<Option<ServeFault>, Fail> {
-    let mut room = [0u8; 2048];
     let _kept = take_all(alloc)?;
-    match served(alloc, directory, input, PLAIN, PLAIN, &mut room) {
-        (Ok(told), 0) if told.replies == 0 => Ok(None),
-        (Err(fault), 0) => Ok(Some(fault)),
-        (_, _) => Err(Fail::from("something was written")),
+    match served(alloc, directory, input, PLAIN, PLAIN) {
+        (Ok(told), 0, _) if told.replies == 0 => Ok(None),
+        (Err(fault), 0, _) => Ok(Some(fault)),
+        (_, _, _) => Err(Fail::from("something was written")),
     }
 }
 
