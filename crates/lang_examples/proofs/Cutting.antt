@@ -9,7 +9,7 @@ use Rattle.xdr_tokens.specs.declared.fault.Fault.TheVariants as fault
 use Rattle.xdr_tokens.specs.Due.{RefusesRightly, Gives}
 use Rattle.xdr_tokens.specs.Tokens.{Lexeme, lexemes}
 use Rattle.xdr_tokens.specs.Text.{Piece, Cuts, Tokens, token_of, with_token}
-use Rattle.xdr_tokens.specs.steps.Front.{piece_at}
+use Rattle.xdr_tokens.specs.Private.Front.{piece_at}
 use Rattle.xdr_tokens.proofs.Options.{some_is, some_is_not, bind_some}
 use Rattle.xdr_tokens.proofs.Pieces.{piece_again}
 use Rattle.xdr_tokens.proofs.Whole.{shorter, more_tokens, all_done}

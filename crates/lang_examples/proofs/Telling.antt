@@ -5,14 +5,14 @@ use Rattle.std.proofs.Common.{Result, Ok, Err, IfOk, IfErr}
 use Rattle.std.specs.Prelude.{option_and_then, is_ok, false}
 use Rattle.xdr_tokens.proofs.Options.{some_is, some_is_not, bind_some}
 use Rattle.xdr_grammar.specs.Outline.{nothing}
-use Rattle.xdr_grammar.specs.steps.Reading.{definitions_at}
+use Rattle.xdr_grammar.specs.Private.Reading.{definitions_at}
 use Rattle.xdr_grammar.proofs.Outlining.{outline_again}
 use Rattle.xdr_lang.specs.declared.declarations.Declared.{Declared as Made}
 use Rattle.xdr_lang.specs.declared.place.LangFault.{LangFault}
 use Rattle.xdr_lang.specs.Declarations.{Declared}
 use Rattle.xdr_lang.specs.Means.{Means}
 use Rattle.xdr_lang.specs.Views.{declared_of}
-use Rattle.xdr_lang.specs.steps.Meaning.{distinct_meaning}
+use Rattle.xdr_lang.specs.Private.Meaning.{distinct_meaning}
 use Rattle.xdr_lang.proofs.Distinctly.{joined, parted}
 use Rattle.xdr_types.specs.Kinds.{Lists}
 use Rattle.xdr_types.specs.Faults.{IsWellFormed}

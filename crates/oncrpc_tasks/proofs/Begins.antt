@@ -15,7 +15,7 @@ use Rattle.oncrpc_tasks.specs.declared.failure.Failure.{Failure}
 use Rattle.oncrpc_tasks.specs.declared.given.Given.{Given}
 use Rattle.oncrpc_tasks.specs.declared.given.Given.TheVariants as given
 use Rattle.xdr_codec.specs.Refused.{IsRefused, HasNoneWithin}
-use Rattle.oncrpc_tasks.specs.Input.{BeginsInput, Gives, TextGives}
+use Rattle.oncrpc_tasks.specs.Input.{BeginsInput, InputGives, TextGives}
 use Rattle.oncrpc_tasks.specs.Right.{Question, BeginsWithValue, HasNoValue, IsRefusal, IsRight, IsRightFor}
 use Rattle.oncrpc_tasks.specs.Right.{IsRightForText, lines_of}
 
@@ -137,7 +137,7 @@ text_is_right q text v (answer.Refused f) shown right gives =
 
 told_is_right : (q : Question) (v : Vec ℕ Global) (a : Answer) (shown : List ℕ)
     → ((whole : List ℕ) → BeginsInput q.limits.bytes whole v.items → IsRight q whole a shown)
-    → (hex : Bool) (told : Option (List ℕ)) → Gives hex q.limits.bytes told (given.Bytes v)
+    → (hex : Bool) (told : Option (List ℕ)) → InputGives hex q.limits.bytes told (given.Bytes v)
     → IsRightFor q hex told a shown
 told_is_right q v a shown right true None gives = tt
 told_is_right q v a shown right false None gives = tt
@@ -148,7 +148,7 @@ told_is_right q v a shown right false (Some bytes) gives = right bytes gives
 pub given_is_right : (q : Question) (g : Given) (v : Vec ℕ Global) (bytes : List ℕ)
     (r : Result (Answer × Vec ℕ Global) Failure) → g ≡ given.Bytes v → bytes ≡ v.items
     → IfOk r (λ a. (whole : List ℕ) → BeginsInput q.limits.bytes whole bytes → IsRight q whole a.0 a.1.items)
-    → IfOk r (λ a. (hex : Bool) (told : Option (List ℕ)) → Gives hex q.limits.bytes told g
+    → IfOk r (λ a. (hex : Bool) (told : Option (List ℕ)) → InputGives hex q.limits.bytes told g
     → IsRightFor q hex told a.0 a.1.items)
 given_is_right q g v bytes (Ok a) is same right = λ hex told gives. told_is_right q v a.0 a.1.items
     (rw same at right) hex told (rw is at gives)

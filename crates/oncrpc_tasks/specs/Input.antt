@@ -22,10 +22,10 @@ PlainGives enough input (given.Bytes v) = BeginsInput enough input v.items
 PlainGives enough input _ = ⊥
 
 -- what the input gives, where its bytes are told
-abbrev pub Gives : Bool → ℕ → Option (List ℕ) → Given → Type 0
-Gives hex enough None g = ⊤
-Gives true enough (Some input) g = TextGives input g
-Gives false enough (Some input) g = PlainGives enough input g
+abbrev pub InputGives : Bool → ℕ → Option (List ℕ) → Given → Type 0
+InputGives hex enough None g = ⊤
+InputGives true enough (Some input) g = TextGives input g
+InputGives false enough (Some input) g = PlainGives enough input g
 
 -- how many bytes are read at most: a page of 4096 past the limit, which for a text of hexadecimal is 1048576
 abbrev pub most_read : Bool → ℕ → ℕ

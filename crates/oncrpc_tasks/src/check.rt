@@ -7,7 +7,7 @@ ghost use Rattle.xdr_types.specs.Within.{FitsWithin};
 ghost use Rattle.xdr_io.specs.Told.{Counts, CountsAtMost, MovesAtMost};
 ghost use Rattle.oncrpc_tasks.specs.Checked.{AnswersInPart};
 ghost use Rattle.oncrpc_tasks.specs.Ends.{OfValue, TaskEnds};
-ghost use Rattle.oncrpc_tasks.specs.Input.{BeginsInput, Gives, most_read};
+ghost use Rattle.oncrpc_tasks.specs.Input.{BeginsInput, InputGives, most_read};
 ghost use Rattle.oncrpc_tasks.specs.Lines.{line};
 ghost use Rattle.oncrpc_tasks.specs.Right.{IsRight, IsRightFor, lines_of};
 
@@ -137,7 +137,7 @@ fn answer_given(
     given: &Given,
 ) -> Result<(Answer, Vec<u8>), Failure>
     requires { kind.place < length schema.now.kinds }
-    ensures right { IfOk result (λ r. (hex : Bool) (told : Option (List ℕ)) → Gives hex limits.bytes told given.now
+    ensures right { IfOk result (λ r. (hex : Bool) (told : Option (List ℕ)) → InputGives hex limits.bytes told given.now
         → IsRightFor (record { kinds = schema.now.kinds; place = kind.place; limits = limits; shows = shows })
         hex told r.0 r.1.items) }
     ensures memory { IfErr result (λ f. f ≡ Failure.NoMemory) }

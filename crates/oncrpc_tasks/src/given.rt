@@ -1,7 +1,7 @@
 //! The bytes that a task is given.
 ghost use Rattle.std.specs.Prelude.{◌≡◌, IfOk, OnOk, IsErrOf};
 ghost use Rattle.xdr_io.specs.Told.{Counts, CountsAtMost, MovesAtMost};
-ghost use Rattle.oncrpc_tasks.specs.Input.{Gives, most_read};
+ghost use Rattle.oncrpc_tasks.specs.Input.{InputGives, most_read};
 
 use super::failure::Failure;
 use super::hexadecimal::{MOST_TEXT, bytes_of_text};
@@ -26,7 +26,7 @@ pub fn given_over<I: Source>(
     enough: usize,
     hex: bool,
 ) -> Result<Given, Failure>
-    ensures gives { IfOk result (λ given. Gives hex enough (I.left input.old) given) }
+    ensures gives { IfOk result (λ given. InputGives hex enough (I.left input.old) given) }
     ensures none_failed { OnOk result (Counts 0 (I.failures input.old) (I.failures input.new)) }
     ensures failed { IsErrOf result Failure.Read → Counts 1 (I.failures input.old) (I.failures input.new) }
     ensures many { IsErrOf result Failure.TooManyReads → Counts 1048576 (I.reads input.old) (I.reads input.new) }

@@ -14,7 +14,7 @@ use Rattle.rpc_rows.specs.Rows.{row_of}
 use Rattle.rpc_dumps.specs.Dir.{dir_kinds}
 use Rattle.rpc_dumps.specs.Dumps.{number, group, rpcb_tree}
 use Rattle.rpc_answer.specs.Answer.{AreArguments, AreGarbage}
-use Rattle.rpc_answer.specs.Parsed.{text, HasNoText}
+use Rattle.rpc_answer.specs.Private.Parsed.{text, HasNoText}
 use Rattle.xdr_units.proofs.Bytes.{same_word}
 use Rattle.rpc_answer.proofs.Decoded.{begins, decoded}
 use Rattle.rpc_answer.proofs.Fields.{text_front, short_word}

@@ -11,7 +11,7 @@ use Rattle.rpc_answer.specs.Callers.{Owner, Refused, IsCaller}
 use Rattle.rpc_answer.specs.Answer.{denies, accepts, accepted, auth_error, Answers, silence, no_memory, xid_in, Answer}
 use Rattle.rpc_answer.specs.Answering.{PushesAnswer, Adds, appended_of}
 use Rattle.rpc_answer.specs.declared.answering.Appended.{Appended}
-use Rattle.rpc_answer.specs.Pushes.{PushesStatus, PushesCall, most}
+use Rattle.rpc_answer.specs.Private.Pushes.{PushesStatus, PushesCall, most}
 
 -- a caller who is believed
 pub pushes_accepted : (rows : List Row) (netid owner : List ℕ) (c : CallView) (old out : List ℕ) (new : List Row)

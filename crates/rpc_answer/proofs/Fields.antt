@@ -4,7 +4,7 @@ use Rattle.std.proofs.Common.{append_assoc}
 use Rattle.std.proofs.lemmas.List.{length-append, length-replicate}
 use Rattle.xdr_units.specs.Numbers.{word, gap, pad, padded}
 use Rattle.xdr_units.proofs.Bytes.{same_word, same_content}
-use Rattle.rpc_answer.specs.Parsed.{text, HasNoText}
+use Rattle.rpc_answer.specs.Private.Parsed.{text, HasNoText}
 
 -- too few bytes for a word
 pub short_word : (b : List ℕ) (n : ℕ) (rest : List ℕ) → length b < 4 → b ≡ word n ++ rest → ⊥

@@ -12,9 +12,9 @@ use Rattle.rpc_uaddr.specs.Uaddrs.{uaddr_of}
 use Rattle.rpc_rows.specs.Rows.{Row}
 use Rattle.rpc_dumps.specs.Dir.{dir_kinds}
 use Rattle.rpc_dumps.specs.Dumps.{linked, rpcb_tree, rpcb_list, mapping_tree, mapping_row, mapping_list, prot_of}
-use Rattle.rpc_answer.specs.Parsed.{text}
+use Rattle.rpc_answer.specs.Private.Parsed.{text}
 use Rattle.rpc_answer.proofs.Chains.{then}
-use Rattle.rpc_answer.specs.Pushes.{row_bytes, mapping_bytes, mapping_at_bytes}
+use Rattle.rpc_answer.specs.Private.Pushes.{row_bytes, mapping_bytes, mapping_at_bytes}
 
 node : (f p q : List ℕ) → f ++ ((p ++ (q ++ [])) ++ []) ≡ (f ++ p) ++ q
 node f p q = simp (append_assoc, append-nil)

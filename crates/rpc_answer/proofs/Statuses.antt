@@ -14,7 +14,7 @@ use Rattle.rpc_rows.specs.Steps.{Step, set, unset, getaddr}
 use Rattle.rpc_rows.specs.Ports.{set_port, unset_port, get_port}
 use Rattle.rpc_dumps.specs.Dumps.{number, group, rpcb_tree, rpcb_list, mapping_list}
 use Rattle.rpc_dumps.specs.Dir.{dir_kinds}
-use Rattle.rpc_answer.specs.Parsed.{text}
+use Rattle.rpc_answer.specs.Private.Parsed.{text}
 use Rattle.rpc_answer.proofs.Chains.{then}
 use Rattle.rpc_answer.proofs.Decoded.{decoded}
 use Rattle.rpc_answer.proofs.Fields.{length-padded}
@@ -22,7 +22,7 @@ use Rattle.rpc_answer.specs.Procedures.{Procedure, null, set_2, unset_2, getport
 use Rattle.rpc_answer.specs.Procedures.{dump_3, procedures_2, procedures_3, procedure_at, void, told}
 use Rattle.rpc_answer.specs.Answer.{AreArguments, AreGarbage, IsVersion, IsCallOf, ComesTo, no_program, no_version}
 use Rattle.rpc_answer.specs.Answer.{no_procedure, garbage, success, accepted, program}
-use Rattle.rpc_answer.specs.Pushes.{PushesStatus, Tells, head, most}
+use Rattle.rpc_answer.specs.Private.Pushes.{PushesStatus, Tells, head, most}
 
 -- any bytes begin with no arguments
 pub no_arguments : (args : List ℕ) → AreArguments 5 args void

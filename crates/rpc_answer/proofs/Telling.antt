@@ -4,7 +4,7 @@ use Rattle.xdr_units.specs.Numbers.{num4, number_of}
 use Rattle.rpc_rows.specs.Rows.{Row}
 use Rattle.rpc_rows.specs.Steps.{Step}
 use Rattle.std.specs.Io.{StartsWith}
-use Rattle.rpc_answer.specs.Pushes.{Tells, head}
+use Rattle.rpc_answer.specs.Private.Pushes.{Tells, head}
 use Rattle.rpc_answer.proofs.Chains.{begins_added}
 
 told : (xid : ℕ) (old mid out : List ℕ) (done : Bool) → mid ≡ old ++ (head xid 0 ++ num4 (number_of false))

@@ -4,7 +4,7 @@ use Rattle.rpc_message.specs.Message.{SystemErr}
 use Rattle.rpc_message.specs.Spelling.{reply}
 use Rattle.rpc_rows.specs.Rows.{Row}
 use Rattle.rpc_answer.specs.Answer.{Answer, accepted}
-use Rattle.rpc_answer.specs.Pushes.{most}
+use Rattle.rpc_answer.specs.Private.Pushes.{most}
 use Rattle.rpc_answer.specs.declared.answering.Appended.{Appended}
 use Rattle.rpc_answer.specs.declared.answering.Appended.TheVariants as appended
 

@@ -5,5 +5,4 @@ pub mod Laws
 pub mod Views
 pub mod Answering
 pub mod Owners
-pub mod Parsed
-pub mod Pushes
+pub mod Private

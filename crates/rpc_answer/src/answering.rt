@@ -5,7 +5,7 @@ ghost use Rattle.xdr_units.specs.Numbers.{IsWord};
 ghost use Rattle.rpc_message.specs.View.{lent_call_view};
 ghost use Rattle.rpc_answer.specs.Answer.{Answer};
 ghost use Rattle.rpc_answer.specs.Answering.{AppendsAnswer, PushesAnswer, appended_of};
-ghost use Rattle.rpc_answer.specs.Pushes.{PushesCall};
+ghost use Rattle.rpc_answer.specs.Private.Pushes.{PushesCall};
 ghost use Rattle.rpc_answer.specs.Views.{netid_of, is_refused, sent_of};
 
 use crate::callers::{AUTH_BADCRED, AUTH_BADVERF, Caller, caller_of};

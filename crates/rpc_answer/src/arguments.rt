@@ -1,7 +1,7 @@
 //! Arguments, as they lie in the bytes of a call. Nothing here takes memory.
 ghost use Rattle.std.specs.Prelude.{◌≡◌, ◌++◌, ◌<◌, ◌^◌, length, MatchOption};
 ghost use Rattle.rpc_answer.specs.Answer.{AreArguments, AreGarbage};
-ghost use Rattle.rpc_answer.specs.Parsed.{text, HasNoText, mapping_value, AreRpcb};
+ghost use Rattle.rpc_answer.specs.Private.Parsed.{text, HasNoText, mapping_value, AreRpcb};
 
 use xdr_units::{first_content, first_word};
 

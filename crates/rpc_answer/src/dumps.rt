@@ -6,7 +6,7 @@ ghost use Rattle.rpc_rows.specs.Rows.{IsRow};
 ghost use Rattle.rpc_rows.specs.Views.{plain_row};
 ghost use Rattle.rpc_dumps.specs.Dir.{dir_kinds};
 ghost use Rattle.rpc_dumps.specs.Dumps.{rpcb_list, mapping_list, prot_of};
-ghost use Rattle.rpc_answer.specs.Pushes.{row_bytes, mapping_bytes, mapping_at_bytes};
+ghost use Rattle.rpc_answer.specs.Private.Pushes.{row_bytes, mapping_bytes, mapping_at_bytes};
 
 use crate::replies::push_text;
 use rpc_directory::{Directory, Row, Uaddr, read_uaddr};

@@ -7,8 +7,8 @@ ghost use Rattle.rpc_rows.specs.Rows.{row_of};
 ghost use Rattle.rpc_rows.specs.Steps.{set, unset, getaddr};
 ghost use Rattle.rpc_rows.specs.Ports.{set_port, unset_port, get_port};
 ghost use Rattle.rpc_answer.specs.Owners.{owner_text};
-ghost use Rattle.rpc_answer.specs.Parsed.{text};
-ghost use Rattle.rpc_answer.specs.Pushes.{head, Tells};
+ghost use Rattle.rpc_answer.specs.Private.Parsed.{text};
+ghost use Rattle.rpc_answer.specs.Private.Pushes.{head, Tells};
 ghost use Rattle.rpc_answer.specs.Views.{netid_of};
 
 use crate::arguments::{Mapping, Rpcb};

@@ -5,8 +5,8 @@ ghost use Rattle.xdr_units.specs.Numbers.{IsWord};
 ghost use Rattle.rpc_message.specs.Message.{RpcMismatch, Denied};
 ghost use Rattle.rpc_message.specs.Spelling.{reply};
 ghost use Rattle.rpc_answer.specs.Answer.{auth_error};
-ghost use Rattle.rpc_answer.specs.Parsed.{text};
-ghost use Rattle.rpc_answer.specs.Pushes.{head};
+ghost use Rattle.rpc_answer.specs.Private.Parsed.{text};
+ghost use Rattle.rpc_answer.specs.Private.Pushes.{head};
 
 use std::alloc::AllocError;
 use xdr_units::{push_padded, push_word};

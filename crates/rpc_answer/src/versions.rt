@@ -6,8 +6,8 @@ ghost use Rattle.rpc_message.specs.Spelling.{reply};
 ghost use Rattle.rpc_message.specs.View.{lent_call_view};
 ghost use Rattle.rpc_answer.specs.Owners.{owner_text};
 ghost use Rattle.rpc_answer.specs.Answer.{program, accepted, AreArguments};
-ghost use Rattle.rpc_answer.specs.Parsed.{mapping_value, AreRpcb};
-ghost use Rattle.rpc_answer.specs.Pushes.{PushesStatus};
+ghost use Rattle.rpc_answer.specs.Private.Parsed.{mapping_value, AreRpcb};
+ghost use Rattle.rpc_answer.specs.Private.Pushes.{PushesStatus};
 ghost use Rattle.rpc_answer.specs.Views.{netid_of};
 
 use crate::arguments::{Mapping, Rpcb, mapping_at, rpcb_at};

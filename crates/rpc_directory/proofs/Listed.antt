@@ -5,7 +5,7 @@ use Rattle.xdr_types.specs.Tree.{Tree}
 use Rattle.rpc_rows.specs.Rows.{Row}
 use Rattle.rpc_dumps.specs.Dumps.{given, group, rpcb_tree}
 use Rattle.rpc_dumps.proofs.Steps.{rpcb_more, mapping_more, mapping_less}
-use Rattle.rpc_directory.specs.Listings.{item_of, list_of}
+use Rattle.rpc_directory.specs.Private.Listings.{item_of, list_of}
 use Rattle.rpc_directory.specs.declared.dumps.Listing.{Listing}
 use Rattle.rpc_directory.specs.declared.dumps.Listing.TheVariants.{Rpcbs, Mappings}
 

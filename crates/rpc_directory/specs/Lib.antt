@@ -1,1 +1,1 @@
-pub mod Listings
+pub mod Private

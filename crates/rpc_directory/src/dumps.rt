@@ -6,7 +6,7 @@ ghost use Rattle.rpc_rows.specs.Rows.{IsRegistry};
 ghost use Rattle.rpc_rows.specs.Views.{plain_row};
 ghost use Rattle.rpc_dumps.specs.Dir.{dir_kinds};
 ghost use Rattle.rpc_dumps.specs.Dumps.{rpcb_list, mapping_list, dump_limits};
-ghost use Rattle.rpc_directory.specs.Listings.{item_of, list_of};
+ghost use Rattle.rpc_directory.specs.Private.Listings.{item_of, list_of};
 
 use crate::directory::Directory;
 use rpc_dumps::{linked, mapping, rpcb};

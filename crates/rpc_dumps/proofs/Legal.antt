@@ -8,7 +8,7 @@ use Rattle.xdr_types.specs.Kinds as xdr
 use Rattle.xdr_types.specs.Kinds.{KindView, Part, Lists, kind_at}
 use Rattle.xdr_types.specs.Faults.{AreFlawless, IsWellFormed, kind_flaw_at, name_flaw_at, fault}
 use Rattle.xdr_types.specs.Refused.{IsRefused}
-use Rattle.xdr_types.specs.Rounds.{given}
+use Rattle.xdr_types.specs.Private.Rounds.{given}
 use Rattle.xdr_types.specs.Sound.{IsBelow, Asks, IsSound}
 use Rattle.xdr_types.proofs.Flawless.{one-more}
 use Rattle.xdr_types.proofs.Heighting.{has-height}

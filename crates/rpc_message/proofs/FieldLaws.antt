@@ -14,7 +14,7 @@ use Rattle.xdr_units.specs.Fronts.{HasBadPadding}
 use Rattle.xdr_units.proofs.Bytes.{AreBytes-drop, AreBytes-take}
 use Rattle.xdr_units.specs.Numbers.{AreBytes, word, gap, pad, padded, IsWord}
 use Rattle.rpc_message.specs.Spelling.{opaque, auth, IsAuth}
-use Rattle.rpc_message.specs.Reading.{◌>>=◌, are_zeros, word_at, padding_at, opaque_at, auth_at}
+use Rattle.rpc_message.specs.Private.Reading.{◌>>=◌, are_zeros, word_at, padding_at, opaque_at, auth_at}
 
 -- the value of a step that did not fail
 pub bind_ok : {A B : Type 0} (r : Result A ReplyFault) (f : A → Result B ReplyFault) (y : B) → (r >>= f) ≡ Ok y

@@ -5,7 +5,7 @@ ghost use Rattle.rpc_message.specs.Message.{CallView, CaseView, Whole, OtherVers
 ghost use Rattle.rpc_message.specs.Spelling.{call, CallBytes};
 ghost use Rattle.rpc_message.specs.View.{call_view, case_view, lent_case_view};
 ghost use Rattle.rpc_message.specs.Cases.{IsCase};
-ghost use Rattle.rpc_message.specs.Reading.{Reads, call_head_at, target_at, case_of};
+ghost use Rattle.rpc_message.specs.Private.Reading.{Reads, call_head_at, target_at, case_of};
 
 use crate::fault::ReplyFault;
 use crate::fields::{auth_at, push_auth, word_at};

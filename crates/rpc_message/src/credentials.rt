@@ -6,7 +6,7 @@ ghost use Rattle.rpc_message.specs.Message.{AuthSysView};
 ghost use Rattle.xdr_units.specs.Numbers.{word, IsWord};
 ghost use Rattle.rpc_message.specs.Spelling.{auth_sys, AuthSysBytes};
 ghost use Rattle.rpc_message.specs.View.{auth_sys_view};
-ghost use Rattle.rpc_message.specs.Reading.{Gives, is_memory, words_at, gids_at, auth_sys_at};
+ghost use Rattle.rpc_message.specs.Private.Reading.{ReadsOrNoMemory, is_memory, words_at, gids_at, auth_sys_at};
 
 use crate::fault::ReplyFault;
 use crate::fields::{opaque_at, push_opaque, word_at};
@@ -16,7 +16,7 @@ use xdr_units::{NoMemory, push_word};
 
 /// So many words from the front.
 fn words_of(alloc: Global, count: u32, bytes: &[u8]) -> Result<(Vec<u32>, &[u8]), ReplyFault>
-    ensures { Gives (λ x. (x.0.items, x.1.now)) result (words_at count bytes.now) }
+    ensures { ReadsOrNoMemory (λ x. (x.0.items, x.1.now)) result (words_at count bytes.now) }
 {
     let mut words = Vec::new(alloc);
     let mut rest = bytes;
@@ -31,7 +31,7 @@ fn words_of(alloc: Global, count: u32, bytes: &[u8]) -> Result<(Vec<u32>, &[u8])
 /// The gids to the end: how many, at most 16, and each of them.
 #[tactic(auto, unfolding(crate::specs::Reading::gids_at))]
 fn gids_of(alloc: Global, bytes: &[u8]) -> Result<Vec<u32>, ReplyFault>
-    ensures { Gives (λ v. v.items) result (gids_at bytes.now) }
+    ensures { ReadsOrNoMemory (λ v. v.items) result (gids_at bytes.now) }
 {
     let (count, rest) = word_at(bytes)?;
     if 16 < count {
@@ -47,7 +47,7 @@ fn gids_of(alloc: Global, bytes: &[u8]) -> Result<Vec<u32>, ReplyFault>
 /// The whole body.
 #[tactic(auto, unfolding(crate::specs::Reading::auth_sys_at))]
 fn auth_sys_of(alloc: Global, bytes: &[u8]) -> Result<AuthSys, ReplyFault>
-    ensures { Gives auth_sys_view result (auth_sys_at bytes.now) }
+    ensures { ReadsOrNoMemory auth_sys_view result (auth_sys_at bytes.now) }
 {
     let (stamp, rest) = word_at(bytes)?;
     let (machine, rest) = opaque_at(255, rest)?;

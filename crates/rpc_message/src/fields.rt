@@ -6,7 +6,7 @@ ghost use Rattle.std.specs.Io.{StartsWith};
 ghost use Rattle.xdr_units.specs.Numbers.{gap, word, IsWord};
 ghost use Rattle.rpc_message.specs.Spelling.{opaque, auth, IsAuth};
 ghost use Rattle.rpc_message.specs.View.{auth_view, lent_view};
-ghost use Rattle.rpc_message.specs.Reading.{Reads, word_at, opaque_at, auth_at};
+ghost use Rattle.rpc_message.specs.Private.Reading.{Reads, word_at, opaque_at, auth_at};
 
 use crate::fault::ReplyFault;
 use crate::message::{LentAuth, OpaqueAuth};

@@ -7,8 +7,8 @@ ghost use Rattle.rpc_message.specs.Message.{ReplyView};
 ghost use Rattle.rpc_message.specs.Spelling.{reply, status, why, IsStatus, IsWhy, IsReply, ReplyBytes};
 ghost use Rattle.rpc_message.specs.View.{reply_view, status_view, why_view, HasShortVerf};
 ghost use Rattle.rpc_message.specs.Faults.{StandsIn};
-ghost use Rattle.rpc_message.specs.Reading.{Reads, Gives, bounds_at, status_at, why_at, accepted_at, denied_at};
-ghost use Rattle.rpc_message.specs.Reading.{reply_stat_at, reply_at};
+ghost use Rattle.rpc_message.specs.Private.Reading.{Reads, ReadsOrNoMemory, bounds_at, status_at, why_at, accepted_at, denied_at};
+ghost use Rattle.rpc_message.specs.Private.Reading.{reply_stat_at, reply_at};
 
 use crate::fault::ReplyFault;
 use crate::fields::{auth_at, push_auth, word_at};
@@ -32,7 +32,7 @@ fn bounds(bytes: &[u8]) -> Result<(u32, u32), ReplyFault>
 /// What follows the number `stat` of an accepted reply.
 #[tactic(auto, unfolding(crate::specs::Reading::status_at))]
 fn status_of(alloc: Global, stat: u32, bytes: &[u8]) -> Result<Status, ReplyFault>
-    ensures { Gives status_view result (status_at stat bytes.now) }
+    ensures { ReadsOrNoMemory status_view result (status_at stat bytes.now) }
 {
     match stat {
         0 => Ok(Status::Success(Vec::from_slice(alloc, bytes)?)),
@@ -73,7 +73,7 @@ fn why_of(stat: u32, bytes: &[u8]) -> Result<Why, ReplyFault>
 /// The rest of an accepted reply.
 #[tactic(auto, unfolding(crate::specs::Reading::accepted_at))]
 fn accepted(alloc: Global, xid: u32, bytes: &[u8]) -> Result<Reply, ReplyFault>
-    ensures { Gives reply_view result (accepted_at xid bytes.now) }
+    ensures { ReadsOrNoMemory reply_view result (accepted_at xid bytes.now) }
 {
     let (verf, rest) = auth_at(bytes)?;
     let (stat, rest) = word_at(rest)?;
@@ -95,7 +95,7 @@ fn denied(xid: u32, bytes: &[u8]) -> Result<Reply, ReplyFault>
 /// What follows the number `stat` of a reply.
 #[tactic(auto, unfolding(crate::specs::Reading::reply_stat_at))]
 fn reply_stat(alloc: Global, xid: u32, stat: u32, bytes: &[u8]) -> Result<Reply, ReplyFault>
-    ensures { Gives reply_view result (reply_stat_at xid stat bytes.now) }
+    ensures { ReadsOrNoMemory reply_view result (reply_stat_at xid stat bytes.now) }
 {
     match stat {
         0 => accepted(alloc, xid, bytes),
@@ -107,7 +107,7 @@ fn reply_stat(alloc: Global, xid: u32, stat: u32, bytes: &[u8]) -> Result<Reply,
 /// The whole reply.
 #[tactic(auto, unfolding(crate::specs::Reading::reply_at))]
 fn reply_at(alloc: Global, bytes: &[u8]) -> Result<Reply, ReplyFault>
-    ensures { Gives reply_view result (reply_at bytes.now) }
+    ensures { ReadsOrNoMemory reply_view result (reply_at bytes.now) }
 {
     let (xid, rest) = word_at(bytes)?;
     let (kind, rest) = word_at(rest)?;

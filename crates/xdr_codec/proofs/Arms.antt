@@ -15,8 +15,8 @@ use Rattle.xdr_types.specs.declared.value.Value.{Value}
 use Rattle.xdr_types.specs.declared.kind.Member.{Member}
 use Rattle.xdr_codec.specs.declared.fault.Reason.{Reason}
 use Rattle.xdr_codec.specs.Refused.{IsRefused}
-use Rattle.xdr_codec.specs.Steps.Units.{HasNoNumber}
-use Rattle.xdr_codec.specs.Steps.Reading.{IsHead, HasNoHead, IsLeaf, IsRead, HasNoValue, AreRead, HasNoValues}
+use Rattle.xdr_codec.specs.Private.Units.{HasNoNumber}
+use Rattle.xdr_codec.specs.Private.Reading.{IsHead, HasNoHead, IsLeaf, IsRead, HasNoValue, AreRead, HasNoValues}
 use Rattle.xdr_codec.proofs.Composed.{joined, broken_inside, broken_head, leaf}
 use Rattle.xdr_codec.proofs.Fronts.{HasFirst, first_number, refused_first}
 

@@ -14,7 +14,7 @@ use Rattle.xdr_types.proofs.Unique.{one}
 use Rattle.xdr_types.proofs.Grown.{fit-snoc, spelling-snoc}
 use Rattle.xdr_codec.specs.declared.fault.Reason.{Reason}
 use Rattle.xdr_codec.specs.Refused.{IsRefused}
-use Rattle.xdr_codec.specs.Steps.Reading.{IsHead, HasNoHead, IsLeaf, IsRead, HasNoValue, AreRead, HasNoValues}
+use Rattle.xdr_codec.specs.Private.Reading.{IsHead, HasNoHead, IsLeaf, IsRead, HasNoValue, AreRead, HasNoValues}
 use Rattle.xdr_types.proofs.Unique.{one_head}
 
 both : (a b : Bool) → a && b ≡ true → (a ≡ true) × (b ≡ true)

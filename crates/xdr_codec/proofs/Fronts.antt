@@ -14,8 +14,8 @@ use Rattle.xdr_types.proofs.Numbers.{num4-front, signed4, unsigned4}
 use Rattle.xdr_codec.specs.declared.fault.Reason.{Reason}
 use Rattle.xdr_codec.specs.declared.fault.Reason.TheVariants as reason
 use Rattle.xdr_codec.specs.Refused.{MayFollow, IsRefused}
-use Rattle.xdr_codec.specs.Steps.Reading.{HasNoHead}
-use Rattle.xdr_codec.specs.Steps.Units.{HasNoNumber, HasNoContent, is_count, is_case, are_zeros}
+use Rattle.xdr_codec.specs.Private.Reading.{HasNoHead}
+use Rattle.xdr_codec.specs.Private.Units.{HasNoNumber, HasNoContent, is_count, is_case, are_zeros}
 use Rattle.xdr_types.proofs.Unique.{split, lengths}
 
 both : (a b : Bool) → a && b ≡ true → (a ≡ true) × (b ≡ true)

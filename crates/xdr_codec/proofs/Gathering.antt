@@ -5,8 +5,8 @@ use Rattle.std.proofs.lemmas.List.{append-nil, length-append, take_all, take-app
 use Rattle.std.specs.Io.KnownBytes.{Appends}
 use Rattle.xdr_io.specs.Told.{Counts}
 use Rattle.xdr_io.proofs.Chained.{Appends-none, Appends-trans, Counts-trans, take-add, take_past}
-use Rattle.xdr_codec.specs.Steps.Gathered.{Gathering, Holds, IsCut, Gathers, Breaks}
-use Rattle.xdr_codec.specs.Steps.GatheredLaws.{breaks-after}
+use Rattle.xdr_codec.specs.Private.Gathered.{Gathering, Holds, IsCut, Gathers, Breaks}
+use Rattle.xdr_codec.specs.Private.GatheredLaws.{breaks-after}
 
 -- the array goes out whole
 pub flushed : (a b : Gathering) → Appends a.taken b.taken (take a.filled a.array) → Counts 0 a.failures b.failures

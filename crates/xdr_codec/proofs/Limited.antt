@@ -13,8 +13,8 @@ use Rattle.xdr_types.proofs.Unique.{one}
 use Rattle.xdr_codec.specs.declared.fault.Reason.{Reason}
 use Rattle.xdr_codec.specs.declared.fault.Reason.TheVariants as reason
 use Rattle.xdr_codec.specs.Refused.{IsRefused, HasNoneWithin}
-use Rattle.xdr_codec.specs.Steps.Whys.{why_at}
-use Rattle.xdr_codec.specs.Steps.Reading.{IsRead, HasNoValue}
+use Rattle.xdr_codec.specs.Private.Whys.{why_at}
+use Rattle.xdr_codec.specs.Private.Reading.{IsRead, HasNoValue}
 
 -- a list that begins another, in a front that is at least as long
 front-of : (a x b : List ℕ) (n : ℕ) → a ++ x ≡ b → length a ≤ n → a ++ take (n - length a) x ≡ take n b

@@ -1,6 +1,6 @@
 -- One put after another.
 use Rattle.std.proofs.Common.{ℕ, List, ◌++◌, Result, Ok, Err}
-use Rattle.xdr_codec.specs.Steps.PutAll.{PutAll}
+use Rattle.xdr_codec.specs.Private.PutAll.{PutAll}
 
 pub put_then : {S A E : Type 0} (r : Result A E) (sends cuts : S → S → List ℕ → Type 0)
     → ((a b c : S) (x y : List ℕ) → sends a b x → sends b c y → sends a c (x ++ y))

@@ -1,3 +1,3 @@
 pub mod Refused
 pub mod Stands
-pub mod Steps
+pub mod Private

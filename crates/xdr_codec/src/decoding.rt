@@ -5,7 +5,7 @@ ghost use Rattle.xdr_types.specs.Tree.{Tree};
 ghost use Rattle.xdr_types.specs.View.{tree};
 ghost use Rattle.xdr_types.specs.Within.{FitsWithin};
 ghost use Rattle.xdr_codec.specs.Refused.{IsRefused, HasNoneWithin};
-ghost use Rattle.xdr_codec.specs.Steps.Whys.{why_at};
+ghost use Rattle.xdr_codec.specs.Private.Whys.{why_at};
 ghost use Rattle.xdr_codec.specs.declared.fault.Reason.TheVariants.{Truncated};
 
 use crate::fault::{DecodeFault, Reason};

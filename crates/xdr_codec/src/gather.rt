@@ -1,6 +1,6 @@
 //! Bytes gathered in an array on their way to a sink.
 ghost use Rattle.std.specs.Prelude.{◌≡◌, ◌+◌, ◌≤◌, ◌<◌, ◌^◌, ◌++◌, [], ⊤, length, take, MatchResult};
-ghost use Rattle.xdr_codec.specs.Steps.Gathered.{Gathers, Breaks, gathering};
+ghost use Rattle.xdr_codec.specs.Private.Gathered.{Gathers, Breaks, gathering};
 
 use crate::put::{NotPut, Put};
 use xdr_io::{Sink, write_whole};

@@ -4,7 +4,7 @@ ghost use Rattle.xdr_types.specs.Kinds.{KindView, int, unsigned, hyper, unsigned
 ghost use Rattle.xdr_types.specs.Kinds.{opaque_up_to, text};
 ghost use Rattle.xdr_types.specs.KindViews.{constant_of};
 ghost use Rattle.xdr_types.specs.View.{tree};
-ghost use Rattle.xdr_codec.specs.Steps.Reading.{IsLeaf, HasNoHead};
+ghost use Rattle.xdr_codec.specs.Private.Reading.{IsLeaf, HasNoHead};
 ghost use Rattle.xdr_codec.specs.Refused.{IsRefused};
 
 use crate::fault::Reason;

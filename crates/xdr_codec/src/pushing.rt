@@ -6,7 +6,7 @@ ghost use Rattle.xdr_types.specs.Fits.{Fits, fits, fit, is_legal, item_part, par
 ghost use Rattle.xdr_units.specs.Numbers.{num4, num8, number_of, pad, padded};
 ghost use Rattle.xdr_types.specs.Spelling.{spelling, own, bytes_of};
 ghost use Rattle.xdr_types.specs.View.{tree, values};
-ghost use Rattle.xdr_codec.specs.Steps.PutAll.{PutAll};
+ghost use Rattle.xdr_codec.specs.Private.PutAll.{PutAll};
 
 use crate::put::{NotPut, Put, put_nothing};
 use byteorder::{BigEndian, ByteOrder};

@@ -5,7 +5,7 @@ ghost use Rattle.xdr_types.specs.Kinds.{Part, kind_at, fixed, up_to, structure, 
 ghost use Rattle.xdr_types.specs.KindViews.{branch_of, part_of_member};
 ghost use Rattle.xdr_types.specs.Fits.{item_part};
 ghost use Rattle.xdr_types.specs.View.{tree, values};
-ghost use Rattle.xdr_codec.specs.Steps.Reading.{IsRead, HasNoValue, AreRead, HasNoValues};
+ghost use Rattle.xdr_codec.specs.Private.Reading.{IsRead, HasNoValue, AreRead, HasNoValues};
 ghost use Rattle.xdr_codec.specs.Refused.{IsRefused};
 
 use crate::fault::Reason;

@@ -4,7 +4,7 @@ ghost use Rattle.xdr_types.specs.Kinds.{kind_at};
 ghost use Rattle.xdr_types.specs.KindViews.{branch_of, part_of_member};
 ghost use Rattle.xdr_types.specs.Fits.{is_tag_of, part_of};
 ghost use Rattle.xdr_units.specs.Numbers.{num4};
-ghost use Rattle.xdr_codec.specs.Steps.Units.{HasNoNumber, is_case};
+ghost use Rattle.xdr_codec.specs.Private.Units.{HasNoNumber, is_case};
 ghost use Rattle.xdr_codec.specs.Refused.{IsRefused};
 
 use crate::fault::Reason;

@@ -3,7 +3,7 @@ ghost use Rattle.std.specs.Prelude.{◌≡◌, ◌++◌, ◌<◌, pos, length, M
 ghost use Rattle.xdr_types.specs.Fits.{is_unsigned, are_bytes};
 ghost use Rattle.xdr_units.specs.Numbers.{num4, num8, number_of, padded};
 ghost use Rattle.xdr_codec.specs.Refused.{IsRefused};
-ghost use Rattle.xdr_codec.specs.Steps.Units.{HasNoNumber, HasNoContent, is_count, are_zeros};
+ghost use Rattle.xdr_codec.specs.Private.Units.{HasNoNumber, HasNoContent, is_count, are_zeros};
 ghost use Rattle.xdr_codec.specs.declared.fault.Reason.TheVariants.{Truncated, NoMemory};
 
 use crate::fault::Reason;

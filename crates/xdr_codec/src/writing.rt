@@ -22,8 +22,8 @@ pub struct WriteFault {
 
 impl<'w, W: Sink> Put for Gather<'w, W> {
     ghost use Rattle.std.proofs.Common.{refl, ◌∙◌};
-    ghost use Rattle.xdr_codec.specs.Steps.Gathered.{Gathers, Breaks, gathering};
-    ghost use Rattle.xdr_codec.specs.Steps.GatheredLaws.{gathers-none, gathers-trans, breaks-after, breaks-longer};
+    ghost use Rattle.xdr_codec.specs.Private.Gathered.{Gathers, Breaks, gathering};
+    ghost use Rattle.xdr_codec.specs.Private.GatheredLaws.{gathers-none, gathers-trans, breaks-after, breaks-longer};
 
     ghost sends = { λ a b x. (b.sink.ghost_name ≡ a.sink.ghost_name)
         × Gathers (gathering (W.taken a.sink.now) (W.failures a.sink.now) a.array a.filled a.written)

@@ -14,10 +14,10 @@ use Rattle.xdr_grammar.specs.Grammar.{procedure, procedures, version, versions, 
 use Rattle.xdr_grammar.specs.Outline.{Part, Outline, body_in, passed_in, arguments_in, result_in, procedure_in}
 use Rattle.xdr_grammar.specs.Outline.{procedures_in, version_in, versions_in, definition_in, outlined}
 use Rattle.xdr_tokens.specs.Options.{◌>>=◌}
-use Rattle.xdr_grammar.specs.steps.Reading.{taken, Reader, repeat, after_word, after_sign, name_at, either_sign}
-use Rattle.xdr_grammar.specs.steps.Reading.{declaration_with, specifier_at, passed_with, argument_with, arguments_with}
-use Rattle.xdr_grammar.specs.steps.Reading.{result_with, procedure_with, version_with, program_with, const_at}
-use Rattle.xdr_grammar.specs.steps.Reading.{typedef_with, defined_with, definition_at, definitions_at}
+use Rattle.xdr_grammar.specs.Private.Reading.{taken, Reader, repeat, after_word, after_sign, name_at, either_sign}
+use Rattle.xdr_grammar.specs.Private.Reading.{declaration_with, specifier_at, passed_with, argument_with, arguments_with}
+use Rattle.xdr_grammar.specs.Private.Reading.{result_with, procedure_with, version_with, program_with, const_at}
+use Rattle.xdr_grammar.specs.Private.Reading.{typedef_with, defined_with, definition_at, definitions_at}
 use Rattle.xdr_grammar.proofs.Leaves.{numbered_again}
 use Rattle.xdr_grammar.proofs.Again.{RereadsSpecifiers, RereadsDeclarations, specifier_begins, specifier_long}
 use Rattle.xdr_grammar.proofs.Again.{body_long, declaration_long, declaration_again, specifier_again, body_again}

@@ -20,12 +20,12 @@ use Rattle.xdr_grammar.specs.Outline.{DUpTo, DStructure, DChoice, Outline, late,
 use Rattle.xdr_grammar.specs.Outline.{members_in, specifier_in, body_in, declaration_in, content_in, fields_in, arms_in}
 use Rattle.xdr_grammar.specs.Outline.{default_in}
 use Rattle.xdr_tokens.specs.Options.{◌>>=◌}
-use Rattle.xdr_grammar.specs.steps.Reading.{taken, Reader, repeat, after_word, after_sign, name_at, value_at}
-use Rattle.xdr_grammar.specs.steps.Reading.{size_at, limit_at, either_sign, opaque_at, text_at, declared_at}
-use Rattle.xdr_grammar.specs.steps.Reading.{declaration_with, content_with, int_at, basic_at, member_at, enum_at}
-use Rattle.xdr_grammar.specs.steps.Reading.{field_with, struct_with, case_at, arm_with, default_with, switch_with}
-use Rattle.xdr_grammar.specs.steps.Reading.{union_with, body_word_at, inner_word_at, body_with, defined_part}
-use Rattle.xdr_grammar.specs.steps.Reading.{specifier_at}
+use Rattle.xdr_grammar.specs.Private.Reading.{taken, Reader, repeat, after_word, after_sign, name_at, value_at}
+use Rattle.xdr_grammar.specs.Private.Reading.{size_at, limit_at, either_sign, opaque_at, text_at, declared_at}
+use Rattle.xdr_grammar.specs.Private.Reading.{declaration_with, content_with, int_at, basic_at, member_at, enum_at}
+use Rattle.xdr_grammar.specs.Private.Reading.{field_with, struct_with, case_at, arm_with, default_with, switch_with}
+use Rattle.xdr_grammar.specs.Private.Reading.{union_with, body_word_at, inner_word_at, body_with, defined_part}
+use Rattle.xdr_grammar.specs.Private.Reading.{specifier_at}
 use Rattle.xdr_tokens.proofs.Options.{bind_some, some_is, chosen}
 use Rattle.xdr_grammar.proofs.Leaves.{taken_some, word_found, sign_found, name_found, either_found, value_found}
 use Rattle.xdr_grammar.proofs.Leaves.{size_found, limit_found}

@@ -12,8 +12,8 @@ use Rattle.xdr_grammar.specs.Tree.{Value, Literal, Constant}
 use Rattle.xdr_grammar.specs.Grammar.{value, limit}
 use Rattle.xdr_grammar.specs.Outline.{Outline, Late, late}
 use Rattle.xdr_tokens.specs.Options.{◌>>=◌}
-use Rattle.xdr_grammar.specs.steps.Reading.{taken, word_number, mark_number, after_word, after_sign, name_at}
-use Rattle.xdr_grammar.specs.steps.Reading.{number_at, value_at, size_at, limit_at, either_sign, numbered_at}
+use Rattle.xdr_grammar.specs.Private.Reading.{taken, word_number, mark_number, after_word, after_sign, name_at}
+use Rattle.xdr_grammar.specs.Private.Reading.{number_at, value_at, size_at, limit_at, either_sign, numbered_at}
 
 -- which way it went
 pub taken_some : {A B : Type 0} (o : Option A) (f : A → B) (b y : B) → taken o f b ≡ y

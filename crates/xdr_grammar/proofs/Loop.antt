@@ -5,9 +5,9 @@ use Rattle.xdr_grammar.specs.declared.misread.Misread.{Misread}
 use Rattle.xdr_grammar.specs.declared.misread.Misread.TheVariants as misread
 use Rattle.xdr_tokens.specs.Tokens.{Lexeme}
 use Rattle.xdr_grammar.specs.Outline.{Outline}
-use Rattle.xdr_grammar.specs.steps.Parsing.{MisreadsRightly}
+use Rattle.xdr_grammar.specs.Private.Parsing.{MisreadsRightly}
 use Rattle.xdr_tokens.specs.Options.{◌>>=◌}
-use Rattle.xdr_grammar.specs.steps.Reading.{Reader, repeat}
+use Rattle.xdr_grammar.specs.Private.Reading.{Reader, repeat}
 
 -- where one reading gives nothing, another gives nothing
 pub fails_along : {A B : Type 0} (e : Misread) (r : Option A) (t : Option B) → (r ≡ None → t ≡ None) → MisreadsRightly e r

@@ -7,12 +7,12 @@ use Rattle.xdr_grammar.specs.declared.misread.Misplaced.TheVariants as misplaced
 use Rattle.xdr_grammar.specs.declared.misread.Misread.{Misread}
 use Rattle.xdr_grammar.specs.declared.misread.Misread.TheVariants as misread
 use Rattle.xdr_grammar.specs.Misreadings.{IsGrammarFault}
-use Rattle.xdr_grammar.specs.steps.Parsing as steps
-use Rattle.xdr_grammar.specs.steps.Parsing.{told}
+use Rattle.xdr_grammar.specs.Private.Parsing as steps
+use Rattle.xdr_grammar.specs.Private.Parsing.{told}
 use Rattle.xdr_grammar.specs.Grammar.{specification}
 use Rattle.xdr_grammar.specs.Outline.{Outline, nothing}
 use Rattle.xdr_grammar.specs.Spelled.{IsOutline}
-use Rattle.xdr_grammar.specs.steps.Reading.{definitions_at}
+use Rattle.xdr_grammar.specs.Private.Reading.{definitions_at}
 use Rattle.xdr_grammar.proofs.FoundAll.{definitions_found}
 use Rattle.xdr_grammar.proofs.AgainAll.{definitions_again}
 

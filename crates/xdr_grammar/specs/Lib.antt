@@ -11,4 +11,4 @@ pub mod Outline
 pub mod View
 pub mod Spelled
 pub mod Misreadings
-pub mod steps
+pub mod Private

@@ -2,7 +2,7 @@
 ghost use Rattle.std.specs.Prelude.{◌≡◌, OnOk, IfOk, IfErr};
 ghost use Rattle.xdr_grammar.specs.Outline.{declare, place, add, add_type, add_program};
 ghost use Rattle.xdr_grammar.specs.View.{late_of, part_of, field_of, shape_of, program_of};
-ghost use Rattle.xdr_grammar.specs.steps.Parsing.{left, so_far};
+ghost use Rattle.xdr_grammar.specs.Private.Parsing.{left, so_far};
 
 use crate::misread::Misread;
 use crate::outline::{Draft, Entry, Field, Late, Name, Part, Program, Shape};

@@ -1,10 +1,10 @@
 //! Declarations, and the bodies of structs and unions, which stand inside one another.
 ghost use Rattle.std.specs.Prelude.{length, map, option_map};
 ghost use Rattle.xdr_grammar.specs.View.{late_of, part_of, field_of, arm_of};
-ghost use Rattle.xdr_grammar.specs.steps.Reading.{repeat, declaration_with, content_with, field_with, struct_with};
-ghost use Rattle.xdr_grammar.specs.steps.Reading.{case_at, arm_with, default_with, switch_with, union_with, body_with};
-ghost use Rattle.xdr_grammar.specs.steps.Reading.{specifier_at};
-ghost use Rattle.xdr_grammar.specs.steps.Parsing.{left, Reads};
+ghost use Rattle.xdr_grammar.specs.Private.Reading.{repeat, declaration_with, content_with, field_with, struct_with};
+ghost use Rattle.xdr_grammar.specs.Private.Reading.{case_at, arm_with, default_with, switch_with, union_with, body_with};
+ghost use Rattle.xdr_grammar.specs.Private.Reading.{specifier_at};
+ghost use Rattle.xdr_grammar.specs.Private.Parsing.{left, Reads};
 
 use crate::misread::{Misplaced, Misread};
 use crate::outline::{Arm, BodyKind, Field, Late, Name, Part, Shape};

@@ -1,7 +1,7 @@
 //! What follows the type in a declaration: its name, and brackets or a star.
 ghost use Rattle.xdr_grammar.specs.View.{part_of, field_of};
-ghost use Rattle.xdr_grammar.specs.steps.Reading.{opaque_at, text_at, declared_at};
-ghost use Rattle.xdr_grammar.specs.steps.Parsing.{Reads};
+ghost use Rattle.xdr_grammar.specs.Private.Reading.{opaque_at, text_at, declared_at};
+ghost use Rattle.xdr_grammar.specs.Private.Parsing.{Reads};
 
 use crate::misread::Misread;
 use crate::outline::{Field, Part, Shape};

@@ -1,9 +1,9 @@
 //! Definitions, one after the other.
 ghost use Rattle.std.specs.Prelude.{◌≡◌, length};
 ghost use Rattle.xdr_grammar.specs.View.{part_of};
-ghost use Rattle.xdr_grammar.specs.steps.Reading.{declaration_with, specifier_at, const_at, typedef_with, defined_part};
-ghost use Rattle.xdr_grammar.specs.steps.Reading.{defined_with, definition_at, definitions_at};
-ghost use Rattle.xdr_grammar.specs.steps.Parsing.{left, so_far, Parses, Defines};
+ghost use Rattle.xdr_grammar.specs.Private.Reading.{declaration_with, specifier_at, const_at, typedef_with, defined_part};
+ghost use Rattle.xdr_grammar.specs.Private.Reading.{defined_with, definition_at, definitions_at};
+ghost use Rattle.xdr_grammar.specs.Private.Parsing.{left, so_far, Parses, Defines};
 
 use crate::misread::Misread;
 use crate::outline::{BodyKind, Field, Late, Part};

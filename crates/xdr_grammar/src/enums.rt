@@ -1,8 +1,8 @@
 //! The bodies of enums.
 ghost use Rattle.std.specs.Prelude.{length, map};
 ghost use Rattle.xdr_grammar.specs.View.{part_of, member_of};
-ghost use Rattle.xdr_grammar.specs.steps.Reading.{repeat, member_at, enum_at};
-ghost use Rattle.xdr_grammar.specs.steps.Parsing.{left, Reads};
+ghost use Rattle.xdr_grammar.specs.Private.Reading.{repeat, member_at, enum_at};
+ghost use Rattle.xdr_grammar.specs.Private.Parsing.{left, Reads};
 
 use crate::misread::Misread;
 use crate::outline::{Member, Part, Shape};

@@ -1,7 +1,7 @@
 //! Why tokens spell no definitions.
 ghost use Rattle.std.specs.Prelude.{◌≡◌};
 ghost use Rattle.xdr_grammar.specs.declared.misread.Misread.TheVariants.{NoMemory};
-ghost use Rattle.xdr_grammar.specs.steps.Parsing.{told};
+ghost use Rattle.xdr_grammar.specs.Private.Parsing.{told};
 
 use std::alloc::{AllocError, AllocFailed};
 use xdr_tokens::{Fault, Wrong};

@@ -1,7 +1,7 @@
 //! Where bodies of structs, unions and enums begin, and which one is one too many.
 ghost use Rattle.std.specs.Prelude.{◌≡◌, Some, None, IfSome};
-ghost use Rattle.xdr_grammar.specs.steps.Reading.{body_word_at, inner_word_at};
-ghost use Rattle.xdr_grammar.specs.steps.Parsing.{left, so_far};
+ghost use Rattle.xdr_grammar.specs.Private.Reading.{body_word_at, inner_word_at};
+ghost use Rattle.xdr_grammar.specs.Private.Parsing.{left, so_far};
 
 use crate::misread::Misread;
 use crate::outline::BodyKind;

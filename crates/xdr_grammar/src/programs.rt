@@ -1,9 +1,9 @@
 //! Programs, their versions and their procedures.
 ghost use Rattle.std.specs.Prelude.{length, map, option_map};
 ghost use Rattle.xdr_grammar.specs.View.{part_of, procedure_of, version_of};
-ghost use Rattle.xdr_grammar.specs.steps.Reading.{repeat, specifier_at, passed_with, argument_with, arguments_with};
-ghost use Rattle.xdr_grammar.specs.steps.Reading.{result_with, procedure_with, version_with, program_with};
-ghost use Rattle.xdr_grammar.specs.steps.Parsing.{left, Reads, Defines};
+ghost use Rattle.xdr_grammar.specs.Private.Reading.{repeat, specifier_at, passed_with, argument_with, arguments_with};
+ghost use Rattle.xdr_grammar.specs.Private.Reading.{result_with, procedure_with, version_with, program_with};
+ghost use Rattle.xdr_grammar.specs.Private.Parsing.{left, Reads, Defines};
 
 use crate::misread::Misread;
 use crate::outline::{Part, Procedure, Program, Version};

@@ -4,10 +4,10 @@ ghost use Rattle.xdr_tokens.specs.Tokens.{lexemes};
 ghost use Rattle.xdr_grammar.specs.Outline.{Outline as OutlineSpec};
 ghost use Rattle.xdr_grammar.specs.View.{outline_of};
 ghost use Rattle.xdr_tokens.specs.Due.{Gives};
-ghost use Rattle.xdr_grammar.specs.steps.Reading.{after_word, after_sign, either_sign};
+ghost use Rattle.xdr_grammar.specs.Private.Reading.{after_word, after_sign, either_sign};
 ghost use Rattle.xdr_grammar.specs.Spelled.{IsOutline};
 ghost use Rattle.xdr_grammar.specs.Misreadings.{IsGrammarFault};
-ghost use Rattle.xdr_grammar.specs.steps.Parsing.{left, so_far, Parses, Takes, place_in};
+ghost use Rattle.xdr_grammar.specs.Private.Parsing.{left, so_far, Parses, Takes, place_in};
 
 use crate::misread::{Misplaced, Misread, fault_of};
 use crate::outline::Outline;

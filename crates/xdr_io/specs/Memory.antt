@@ -8,9 +8,9 @@ abbrev pub IsDue : Option ℕ → ℕ → Type 0
 IsDue failing calls = failing ≡ Some (min (calls + 1) (2 ^ 64 - 1))
 
 -- A read fails exactly where it is the one that fails, and else gives a whole piece while there is one.
-abbrev pub Gives : {E : Type 0} → MemorySource → Result ℕ E → Type 0
-Gives old (Ok n) = (IsDue old.failing old.reads → ⊥) × (n ≡ min (min (length old.rest.now) old.piece) 4096)
-Gives old (Err e) = IsDue old.failing old.reads
+abbrev pub ReadAnswers : {E : Type 0} → MemorySource → Result ℕ E → Type 0
+ReadAnswers old (Ok n) = (IsDue old.failing old.reads → ⊥) × (n ≡ min (min (length old.rest.now) old.piece) 4096)
+ReadAnswers old (Err e) = IsDue old.failing old.reads
 
 -- the pieces and the call that fails stay
 abbrev pub SameSource : MemorySource → MemorySource → Type 0
@@ -22,10 +22,10 @@ IsFull sink = sink.used ≡ length sink.room.now
 
 -- A write fails exactly where it is the one that fails or the slice is full, and else takes a whole piece while it has
 -- room.
-abbrev pub Takes : {E : Type 0} → MemorySink → Result ℕ E → List ℕ → Type 0
-Takes old (Ok n) piece = (IsDue old.failing old.writes → ⊥) × (IsFull old → ⊥)
+abbrev pub WriteAnswers : {E : Type 0} → MemorySink → Result ℕ E → List ℕ → Type 0
+WriteAnswers old (Ok n) piece = (IsDue old.failing old.writes → ⊥) × (IsFull old → ⊥)
     × (n ≡ min (min (length piece) old.piece) (length old.room.now - old.used))
-Takes old (Err e) piece = IsDue old.failing old.writes ⊎ IsFull old
+WriteAnswers old (Err e) piece = IsDue old.failing old.writes ⊎ IsFull old
 
 -- the room, the pieces and the call that fails stay
 abbrev pub SameSink : MemorySink → MemorySink → Type 0

@@ -36,7 +36,7 @@ impl<'a> MemorySource<'a> {
 }
 
 impl<'a> Source for MemorySource<'a> {
-    ghost use Rattle.xdr_io.specs.Memory.{Gives, SameSource};
+    ghost use Rattle.xdr_io.specs.Memory.{ReadAnswers, SameSource};
 
     ghost left = { λ s. Some s.rest.now };
 
@@ -49,7 +49,7 @@ impl<'a> Source for MemorySource<'a> {
         ensures bytes { ReadMoves (Some self.old.rest.now) (Some self.new.rest.now) result array.new }
         ensures count { Counts 1 (told_count self.old.reads) (told_count self.new.reads) }
         ensures failed { Counts (read_failures result) (told_count self.old.failures) (told_count self.new.failures) }
-        ensures gives { Gives self.old result }
+        ensures gives { ReadAnswers self.old result }
         ensures same { SameSource self.old self.new }
     {
         self.reads = self.reads.saturating_add(1);
@@ -116,7 +116,7 @@ impl<'a> MemorySink<'a> {
 }
 
 impl<'a> Sink for MemorySink<'a> {
-    ghost use Rattle.xdr_io.specs.Memory.{Takes, SameSink};
+    ghost use Rattle.xdr_io.specs.Memory.{WriteAnswers, SameSink};
 
     ghost taken = { λ s. Some (take s.used s.room.now) };
 
@@ -131,7 +131,7 @@ impl<'a> Sink for MemorySink<'a> {
         ensures count { Counts 1 (told_count self.old.writes) (told_count self.new.writes) }
         ensures failed { Counts (write_failures result piece.now)
             (told_count self.old.failures) (told_count self.new.failures) }
-        ensures takes { Takes self.old result piece.now }
+        ensures takes { WriteAnswers self.old result piece.now }
         ensures same { SameSink self.old self.new }
     {
         self.writes = self.writes.saturating_add(1);

@@ -14,7 +14,7 @@ use Rattle.xdr_lang.specs.Means.{IsMeant}
 use Rattle.xdr_lang.specs.Views.{declared_of}
 use Rattle.xdr_lang.specs.declared.declarations.Declared.{Declared as Made}
 use Rattle.xdr_lang.specs.Meaning.{meaning}
-use Rattle.xdr_lang.specs.steps.Meaning.{distinct_meaning}
+use Rattle.xdr_lang.specs.Private.Meaning.{distinct_meaning}
 
 none_is_not : {A : Type 0} (x : A) → None ≡ Some x → ⊥
 none_is_not x e = absurd cc

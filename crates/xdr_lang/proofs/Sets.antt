@@ -12,7 +12,7 @@ use Rattle.std.proofs.lemmas.Map.Text.{is_eq-slice_cmp}
 use Rattle.std.proofs.lemmas.Slice.Eq.{bytes_eq-Decides}
 use Rattle.std.proofs.lemmas.Bool.Decides.{same_from_decides, Decides-like, Decides-int_eq}
 use denote.Ref.{Bor}
-use Rattle.xdr_lang.specs.steps.Tables.{key_texts}
+use Rattle.xdr_lang.specs.Private.Tables.{key_texts}
 use Rattle.xdr_lang.specs.Distinct.{is_void, has_name, repeats, has_number, repeats_number, has_pair, repeats_pair}
 
 or_cond : (b x : Bool) → cond b true x ≡ (b || x)

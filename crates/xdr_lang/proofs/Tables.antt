@@ -19,8 +19,8 @@ use Rattle.xdr_tokens.proofs.Options.{some_is}
 use Rattle.xdr_lang.specs.Declarations.{or_else}
 use Rattle.xdr_tokens.specs.Options.{◌>>=◌}
 use Rattle.xdr_lang.specs.LookUp.{Known, known, type_named, place_with, named_place}
-use Rattle.xdr_lang.specs.steps.Tables.{at_name, first_named, HasFirst, HasParts, IsPlacedAt, HasPlaces, HasNoPlaces}
-use Rattle.xdr_lang.specs.steps.Tables.{IsIn, key_texts, leads_into, stays_in, all_stay}
+use Rattle.xdr_lang.specs.Private.Tables.{at_name, first_named, HasFirst, HasParts, IsPlacedAt, HasPlaces, HasNoPlaces}
+use Rattle.xdr_lang.specs.Private.Tables.{IsIn, key_texts, leads_into, stays_in, all_stay}
 use Rattle.xdr_lang.specs.Distinct.{has_name}
 use Rattle.xdr_lang.proofs.Sets.{names_cmp}
 

@@ -20,4 +20,4 @@ pub mod Meaning
 pub mod Means
 pub mod Before
 pub mod Views
-pub mod steps
+pub mod Private

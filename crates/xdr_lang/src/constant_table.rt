@@ -3,7 +3,7 @@ ghost use Rattle.std.specs.Prelude.{◌≡◌, OnOk, OnErr, List, [], ◌∷◌,
 ghost use Rattle.xdr_lang.specs.Views.{known_of, knowns};
 ghost use Rattle.xdr_lang.specs.LookUp.{known};
 ghost use Rattle.xdr_lang.specs.LookUp.{Known as KnownSpec};
-ghost use Rattle.xdr_lang.specs.steps.Tables.{HasFirst};
+ghost use Rattle.xdr_lang.specs.Private.Tables.{HasFirst};
 
 use crate::constants::Known;
 use std::alloc::{AllocError, Global};

@@ -7,7 +7,7 @@ ghost use Rattle.xdr_types.specs.Sound.{IsSound};
 ghost use Rattle.xdr_types.specs.declared.fault.Flaw.TheVariants as flaw;
 ghost use Rattle.xdr_lang.specs.Declarations.{Declared as DeclaredSpec};
 ghost use Rattle.xdr_lang.specs.Meaning.{meaning};
-ghost use Rattle.xdr_lang.specs.steps.Meaning.{distinct_meaning};
+ghost use Rattle.xdr_lang.specs.Private.Meaning.{distinct_meaning};
 ghost use Rattle.xdr_lang.specs.Means.{IsMeant};
 ghost use Rattle.xdr_lang.specs.Views.{declared_of, listed_of};
 

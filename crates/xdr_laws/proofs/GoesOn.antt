@@ -17,7 +17,7 @@ use Rattle.xdr_types.specs.Fits.{fits, fit, item_part}
 use Rattle.xdr_types.specs.Spelling.{spelling}
 use Rattle.xdr_types.specs.Layout.{Entry, layout, entries, Role, of_number, of_flag, of_length, of_content, of_group}
 use Rattle.xdr_types.specs.Front.{Front}
-use Rattle.xdr_types.specs.Outcome.{Stands, Admits, AdmitsNumber}
+use Rattle.xdr_types.specs.Outcome.{HasNextUnit, Admits, AdmitsNumber}
 use Rattle.xdr_laws.specs.Owed.{AreBytes, Due, Frame, Rest, Completes, Reads, lead_of, IsFreeBytes, HasUnit, Accepts}
 use Rattle.xdr_laws.specs.Owed.{role_of, EndsAt, IsOnTrack, Reaches, AreOfList}
 use Rattle.xdr_types.specs.Laws.{EachKindHasAValue, EachPartIsKnown}
@@ -175,7 +175,7 @@ rest_case s e p n u len of_group low some units at ends = absurd ends
 -- ---- the law where q is read
 
 abbrev Continues : List KindView → ℕ → List ℕ → List ℕ → Type 0
-Continues s t q u = (e : Entry) × Stands s t q e
+Continues s t q u = (e : Entry) × HasNextUnit s t q e
     × (Front s t (q ++ u) ↔ Admits s (kind_at s e.kind) e.role (length q - e.at) u)
 
 -- a unit that is read continues the front
@@ -215,7 +215,7 @@ module _ (s : List KindView) (has : EachKindHasAValue s) (known : EachPartIsKnow
       subst (λ (l : List Entry). Contains l e) (sym i.1)
       (Contains-append_left (begun ++ e ∷ []) i.0 e (Contains-append_right begun (e ∷ []) e (0, omega arith, refl)))
       in
-      let stands : Stands s t q e = (front.0, front.1, inside, omega arith, omega arith) in
+      let stands : HasNextUnit s t q e = (front.0, front.1, inside, omega arith, omega arith) in
       let to : Front s t (q ++ u) → Admits s k (role_of k) (length q - e.at) u = λ f.
       (let c = front_into s t q u begun owed r.reads f in
       admits_accepted s k (length q - e.at) u r.settled
@@ -247,7 +247,7 @@ module _ (s : List KindView) (has : EachKindHasAValue s) (known : EachPartIsKnow
       (All-from_recursion (λ (x : Entry). x.at % 4 ≡ 0) (entries s t front.0)
       (parts_units s 0 1 (item_part t ∷ []) (from_list (front.0 ∷ [])) refl)) inside in
       let c = rest_case s e (length q) n u len e.role track.3 r.settled units at track.4 in
-      let stands : Stands s t q e = (front.0, front.1, inside, track.3, c.0) in
+      let stands : HasNextUnit s t q e = (front.0, front.1, inside, track.3, c.0) in
       let to : Front s t (q ++ u) → Admits s (kind_at s e.kind) e.role (length q - e.at) u = λ f.
       (let g = front_into s t q u begun owed r.reads f in
       c.1 (λ few. refuses_padding s (length q) n ds u g.0 g.1 r.settled few len g.2)) in

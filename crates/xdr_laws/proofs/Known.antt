@@ -15,7 +15,7 @@ use Rattle.xdr_types.specs.Fits.{Fits, fits, parts, item_part}
 use Rattle.xdr_types.specs.Spelling.{own, spelling, bytes_of}
 use Rattle.xdr_types.specs.Layout.{Entry, layout, entries, shown, content}
 use Rattle.xdr_types.specs.Front.{Front}
-use Rattle.xdr_types.specs.Outcome.{Stands}
+use Rattle.xdr_types.specs.Outcome.{HasNextUnit}
 use Rattle.xdr_laws.specs.Owed.{AreBytes, Due, Frame, Rest, Completes, Reads, lead_of, HasUnit, IsSettled, Reaches}
 use Rattle.xdr_laws.proofs.Legal.{IsLegal, FitAll, fit_node, both, and}
 use Rattle.std.proofs.lemmas.Bool.{false≢true}
@@ -341,7 +341,7 @@ up_to_known s t q ps k v c f e =
 
 -- it is one of the known
 known_holds : (s : List KindView) (t : ℕ) (q : List ℕ) (ps : List Entry) → AreKnown s t q ps → (e : Entry)
-    → Stands s t q e
+    → HasNextUnit s t q e
     → Contains ps e
 known_holds s t q ps k e h =
     let i = k.all h.0 h.1.1 h.1.0 h.1.2 in
@@ -356,8 +356,8 @@ known_holds s t q ps k e h =
       ))
     ]
 
-pub one_stands : (s : List KindView) (t : ℕ) (q : List ℕ) → length q % 4 ≡ 0 → (e f : Entry) → Stands s t q e
-    → Stands s t q f → e ≡ f
+pub one_stands : (s : List KindView) (t : ℕ) (q : List ℕ) → length q % 4 ≡ 0 → (e f : Entry) → HasNextUnit s t q e
+    → HasNextUnit s t q f → e ≡ f
 one_stands s t q units e f h g =
     let k = known s t q units (h.0, h.1) in
     let i = k.1.all h.0 h.1.1 h.1.0 h.1.2 in

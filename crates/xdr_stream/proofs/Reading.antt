@@ -19,7 +19,7 @@ use Rattle.xdr_types.specs.Layout.{Entry, entry, entries, shown, shown_bytes, sh
 use Rattle.xdr_types.specs.Layout.{of_length, of_content, of_group}
 use Rattle.xdr_types.specs.Front.{Front}
 use Rattle.xdr_types.specs.Laws.{EachKindHasAValue, EachPartIsKnown}
-use Rattle.xdr_types.specs.Outcome.{Stands, Admits, Why, bad_padding, reason, Whole, TooDeep, Broken}
+use Rattle.xdr_types.specs.Outcome.{HasNextUnit, Admits, Why, bad_padding, reason, Whole, TooDeep, Broken}
 use Rattle.xdr_types.specs.Outcome.{IsDeep, IsQuiet, IsReached, Outcome}
 use Rattle.xdr_laws.specs.Owed.{Due, Frame, Rest, Reads, lead_of, HasUnit, IsSilent, IsFreeBytes, IsUnitFirst}
 use Rattle.xdr_laws.specs.Owed.{IsLengthFirst, free_size, silent_head, Accepts, head_of, why_of, IsSettled}
@@ -202,7 +202,7 @@ module _ (s : List KindView) (t : ℕ) (l : Bounds) (has : EachKindHasAValue s) 
   by_part : (ds : List Due) (q u : List ℕ) (accepts : Type 0) (e : Entry) → Front s t q
       → ((rest : List ℕ) → IsReached s t l (q ++ rest) (length q)) → IsUnfinished s t q → (IsDeep s t l q → ⊥)
       → (length q ≡ l.bytes → ⊥)
-      → length u ≡ 4 → are_bytes u ≡ true → Stands s t q e
+      → length u ≡ 4 → are_bytes u ≡ true → HasNextUnit s t q e
       → (accepts → Admits s (kind_at s e.kind) e.role (length q - e.at) u)
       → (Admits s (kind_at s e.kind) e.role (length q - e.at) u → accepts)
       → Decides s t l q u accepts (reason s (kind_at s e.kind) e.role (from_be_bytes w32 u))

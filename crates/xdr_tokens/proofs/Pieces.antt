@@ -9,7 +9,7 @@ use Rattle.xdr_tokens.specs.declared.token.Mark.TheVariants as mark
 use Rattle.xdr_tokens.specs.Bytes.{within, is_space, is_letter, is_digit, is_word, run_length, after_comment, number_of}
 use Rattle.xdr_tokens.specs.Bytes.{decimal}
 use Rattle.xdr_tokens.specs.Tokens.{Lexeme, Number, Sign}
-use Rattle.xdr_tokens.specs.steps.Front.{comment_at, numeral_at, piece_at}
+use Rattle.xdr_tokens.specs.Private.Front.{comment_at, numeral_at, piece_at}
 use Rattle.xdr_tokens.proofs.Options.{some_is, bind_some, chosen}
 use Rattle.xdr_tokens.specs.Text.{Piece, Blank, Comment, Run, Constant, Single, spelling, IsRun, HasNoEnd, EndsRun}
 use Rattle.xdr_tokens.specs.Text.{BeginsWord, BeginsDigit, IsNumeral, MayPrecede, token_of, marks, mark_among, mark_of}

@@ -7,7 +7,7 @@ use Rattle.xdr_tokens.specs.declared.fault.Fault.TheVariants as fault
 use Rattle.xdr_tokens.specs.Tokens.{Lexeme}
 use Rattle.xdr_tokens.specs.Due.{RefusesRightly}
 use Rattle.xdr_tokens.specs.Refusals.{IsTokenFault}
-use Rattle.xdr_tokens.specs.steps.Front.{piece_at}
+use Rattle.xdr_tokens.specs.Private.Front.{piece_at}
 use Rattle.xdr_tokens.specs.Text.{Piece, Blank, Comment, Run, Constant, Single, spelling, MayPrecede, token_of, with_token}
 use Rattle.xdr_tokens.specs.Text.{Cuts, Tokens}
 use Rattle.xdr_tokens.proofs.Options.{some_is, some_is_not}

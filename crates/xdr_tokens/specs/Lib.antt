@@ -5,4 +5,4 @@ pub mod Bytes
 pub mod Keywords
 pub mod Text
 pub mod Refusals
-pub mod steps
+pub mod Private

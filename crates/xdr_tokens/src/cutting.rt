@@ -5,7 +5,7 @@ ghost use Rattle.xdr_tokens.specs.Tokens.{Lexeme, lexeme, lexemes};
 ghost use Rattle.xdr_tokens.specs.Due.{Gives};
 ghost use Rattle.xdr_tokens.specs.Refusals.{IsTokenFault, wrong_number};
 ghost use Rattle.xdr_tokens.specs.Text.{Tokens, with_token, mark_of};
-ghost use Rattle.xdr_tokens.specs.steps.Front.{comment_at, numeral_at, piece_at};
+ghost use Rattle.xdr_tokens.specs.Private.Front.{comment_at, numeral_at, piece_at};
 
 use crate::bytes::{digit, letter, run_length, skip_comment, space};
 use crate::fault::{Fault, Wrong};

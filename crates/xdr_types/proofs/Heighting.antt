@@ -8,7 +8,7 @@ use Rattle.std.proofs.lemmas.Bool.{eqb-false, false≢true}
 use Rattle.std.proofs.lemmas.List.{get_or-set_same, get_or-set_other, get_or_past}
 use Rattle.xdr_types.specs.Kinds as xdr
 use Rattle.xdr_types.specs.Kinds.{KindView, Part, Branch, kind_at}
-use Rattle.xdr_types.specs.Rounds.{given, IsMarked, AreBelow, IsClosed, missing, AreHeights}
+use Rattle.xdr_types.specs.Private.Rounds.{given, IsMarked, AreBelow, IsClosed, missing, AreHeights}
 use Rattle.xdr_types.specs.Sound.{Heighting, IsBelow, Asks, IsProper, HasHeight}
 
 none≢some : (m : ℕ) → None ≡ Some m → ⊥

@@ -6,7 +6,7 @@ use Rattle.std.specs.List.{AllByRecursion}
 use Rattle.xdr_types.specs.Kinds as xdr
 use Rattle.xdr_types.specs.Kinds.{KindView, Part, kind_at}
 use Rattle.xdr_types.specs.Sound.{Heighting, IsBelow, Asks, IsProper}
-use Rattle.xdr_types.specs.Rounds.{given, IsMarked, AreHeights}
+use Rattle.xdr_types.specs.Private.Rounds.{given, IsMarked, AreHeights}
 use Rattle.xdr_types.specs.Height.{highest, over, height_within, IsHigher, AreHigher}
 use Rattle.xdr_types.proofs.Heighting.{asks-mono, number}
 

@@ -12,7 +12,7 @@ use Rattle.std.proofs.Math.Seq.{get_or-append_seam}
 use Rattle.xdr_types.specs.Kinds as xdr
 use Rattle.xdr_types.specs.Kinds.{KindView, Constant, Branch}
 use Rattle.xdr_types.specs.Fits.{is_tag_of, is_numbered}
-use Rattle.xdr_types.specs.Sets.{HasNumbers, HasNumberOutside}
+use Rattle.xdr_types.specs.Private.Sets.{HasNumbers, HasNumberOutside}
 
 -- the tags of an enumeration are those of the set of its numbers
 pub numbered-tag : (f : KindView) (members : List Constant) (s : BTreeSet ℤ) (z : ℤ) (r : Bool)

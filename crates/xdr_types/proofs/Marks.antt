@@ -12,8 +12,8 @@ use Rattle.xdr_types.specs.Kinds as xdr
 use Rattle.xdr_types.specs.Kinds.{KindView, Part, Branch, kind_at}
 use Rattle.xdr_types.specs.Faults.{some_optional}
 use Rattle.xdr_types.specs.Sound.{Asks, HasFreeTag}
-use Rattle.xdr_types.specs.Rounds.{given, missing, AreHeights, is_marked, IsMarked, are_marked, some_marked}
-use Rattle.xdr_types.specs.Sets.{IsReached}
+use Rattle.xdr_types.specs.Private.Rounds.{given, missing, AreHeights, is_marked, IsMarked, are_marked, some_marked}
+use Rattle.xdr_types.specs.Private.Sets.{IsReached}
 
 is_none_of : (o : Option ℕ) → is_some o ≡ false → o ≡ None
 is_none_of None h = refl

@@ -8,10 +8,8 @@ pub mod Laws
 pub mod Layout
 pub mod Named
 pub use Rattle.xdr_units.specs.Numbers
-pub mod Rounds
 pub mod Rows
 pub mod Same
-pub mod Sets
 pub mod Sound
 pub mod Spelling
 pub mod Tree
@@ -20,3 +18,4 @@ pub mod View
 pub mod Within
 pub mod Front
 pub mod Outcome
+pub mod Private

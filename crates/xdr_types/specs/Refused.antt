@@ -2,8 +2,7 @@
 use Rattle.std.specs.Prelude.{◌≡◌, ◌⊎◌, ◌<◌, ◌≤◌, ℕ, length, Option, Some}
 use Rattle.xdr_types.specs.Kinds.{Lists}
 use Rattle.xdr_types.specs.Faults.{fault, kind_flaw_at, name_flaw_at, AreFlawless, IsWellFormed}
-use Rattle.xdr_types.specs.Rounds.{IsLowestWithout}
-use Rattle.xdr_types.specs.Sound.{IsSound}
+use Rattle.xdr_types.specs.Sound.{IsSound, IsLowestWithout}
 use Rattle.xdr_types.specs.declared.fault.Flaw.{Flaw}
 use Rattle.xdr_types.specs.declared.fault.Flaw.TheVariants as flaw
 use Rattle.xdr_types.specs.declared.fault.SchemaFault.{SchemaFault}

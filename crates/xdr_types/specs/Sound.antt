@@ -47,3 +47,9 @@ HasHeight kinds place = (height : Heighting) × (n : ℕ) × IsProper kinds heig
 -- a schema is sound where each place has a height
 abbrev pub IsSound : List KindView → Type 0
 IsSound kinds = (place : ℕ) → place < length kinds → HasHeight kinds place
+
+-- the lowest place without a height
+pub record IsLowestWithout (kinds : List KindView) (place : ℕ) : Type 0 where
+  pub within : place < length kinds
+  pub none : HasHeight kinds place → ⊥
+  pub lower : (q : ℕ) → q < place → HasHeight kinds q

@@ -3,7 +3,7 @@ ghost use Rattle.std.specs.Prelude.{◌≡◌, map, length, MatchOption};
 ghost use Rattle.xdr_types.specs.KindViews.{kind_view};
 ghost use Rattle.xdr_types.specs.Faults.{kind_flaw, kind_flaw_at, AreFlawless};
 ghost use Rattle.xdr_types.specs.Refused.{IsFirstFlaw};
-ghost use Rattle.xdr_types.specs.Sets.{AreNumbers};
+ghost use Rattle.xdr_types.specs.Private.Sets.{AreNumbers};
 
 use crate::empty::has_empty_list;
 use crate::fault::{Flaw, SchemaFault};

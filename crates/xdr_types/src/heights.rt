@@ -4,11 +4,10 @@ ghost use Rattle.std.specs.Prelude.{true, false, replicate};
 ghost use Rattle.xdr_types.specs.Kinds.{Part, kind_at};
 ghost use Rattle.xdr_types.specs.KindViews.{kind_view, part_of_member, branch_of};
 ghost use Rattle.xdr_types.specs.Faults.{some_optional};
-ghost use Rattle.xdr_types.specs.Sound.{IsSound, Asks};
+ghost use Rattle.xdr_types.specs.Sound.{IsSound, IsLowestWithout, Asks};
 ghost use Rattle.xdr_types.specs.Height.{AreHigher};
-ghost use Rattle.xdr_types.specs.Rounds.{given, are_marked, some_marked, is_marked, IsMarked, IsClosed, AreHeights};
-ghost use Rattle.xdr_types.specs.Rounds.{IsLowestWithout};
-ghost use Rattle.xdr_types.specs.Sets.{IsReached, AreReached};
+ghost use Rattle.xdr_types.specs.Private.Rounds.{given, are_marked, some_marked, is_marked, IsMarked, IsClosed, AreHeights};
+ghost use Rattle.xdr_types.specs.Private.Sets.{IsReached, AreReached};
 
 use crate::kind::{Arm, Kind, KindId, Member};
 use crate::reach::reached_defaults;

@@ -5,7 +5,7 @@ ghost use Rattle.std.specs.BTreeSet.{contains};
 ghost use Rattle.std.specs.Ordering.{int_cmp};
 ghost use Rattle.xdr_types.specs.Kinds.{kind_at};
 ghost use Rattle.xdr_types.specs.KindViews.{kind_view};
-ghost use Rattle.xdr_types.specs.Sets.{AreNumbers, HasNumberOutside, HasFreeNumber, IsReached, AreReached};
+ghost use Rattle.xdr_types.specs.Private.Sets.{AreNumbers, HasNumberOutside, HasFreeNumber, IsReached, AreReached};
 
 use crate::kind::{Kind, KindId};
 use crate::sets::{cases_of, has_case, numbers_of_kinds};

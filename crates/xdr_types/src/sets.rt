@@ -6,7 +6,7 @@ ghost use Rattle.xdr_types.specs.Kinds.{kind_at};
 ghost use Rattle.xdr_types.specs.KindViews.{kind_view, constant_of, branch_of};
 ghost use Rattle.xdr_types.specs.Fits.{is_numbered, is_listed, is_signed, is_tag_of};
 ghost use Rattle.xdr_types.specs.Sound.{has_arm};
-ghost use Rattle.xdr_types.specs.Sets.{AreNumbers, HasNumbers};
+ghost use Rattle.xdr_types.specs.Private.Sets.{AreNumbers, HasNumbers};
 
 use crate::choice::is_tag_number;
 use crate::kind::{Arm, Kind, KindId};

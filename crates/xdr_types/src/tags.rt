@@ -5,7 +5,7 @@ ghost use Rattle.xdr_types.specs.Kinds.{Branch, kind_at};
 ghost use Rattle.xdr_types.specs.KindViews.{kind_view, branch_of};
 ghost use Rattle.xdr_types.specs.Fits.{is_tag_of};
 ghost use Rattle.xdr_types.specs.Faults.{some_of, is_tag, has_bad_tag, has_illegal_case};
-ghost use Rattle.xdr_types.specs.Sets.{AreNumbers};
+ghost use Rattle.xdr_types.specs.Private.Sets.{AreNumbers};
 
 use crate::kind::{Arm, Kind, KindId};
 use crate::sets::is_legal_case;

@@ -1,7 +1,7 @@
 use Rattle.std.proofs.Common.{refl}
 use Rattle.xdr_tokens.specs.Bytes.{run_length, after_comment, value_from, number_of}
 use Rattle.xdr_tokens.specs.Keywords.{word_among, word_or_name}
-use Rattle.xdr_tokens.specs.steps.Front.{comment_at, piece_at}
+use Rattle.xdr_tokens.specs.Private.Front.{comment_at, piece_at}
 use Rattle.lang_examples.proofs.Cutting.{cut, tells_tokens, memory_of_tokens}
 use Rattle.lang_examples.proofs.token_lists.comment_with_a_star.Goals as goal
 

@@ -1,7 +1,7 @@
 use Rattle.std.proofs.Common.{refl, ◌∙◌}
 use Rattle.xdr_tokens.specs.Bytes.{run_length, after_comment, value_from, number_of}
 use Rattle.xdr_tokens.specs.Keywords.{word_among, word_or_name}
-use Rattle.xdr_tokens.specs.steps.Front.{comment_at, piece_at}
+use Rattle.xdr_tokens.specs.Private.Front.{comment_at, piece_at}
 use Rattle.lang_examples.proofs.Cutting.{cut, no_tokens}
 use Rattle.lang_examples.proofs.token_lists.no_token_of_a_bar.Goals as goal
 

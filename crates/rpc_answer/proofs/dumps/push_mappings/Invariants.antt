@@ -1,6 +1,6 @@
 use Rattle.std.proofs.Common.{◌≡◌, ◌++◌, take}
 use Rattle.std.specs.List.{flat_map}
-use Rattle.rpc_answer.specs.Pushes.{mapping_bytes}
+use Rattle.rpc_answer.specs.Private.Pushes.{mapping_bytes}
 use Rattle.rpc_answer.proofs.dumps.push_mappings.Given as goal
 
 -- the mappings of the rows so far

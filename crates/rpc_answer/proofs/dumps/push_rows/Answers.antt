@@ -1,7 +1,7 @@
 use Rattle.std.proofs.Common.{◌+◌, ap, sym, ◌∙◌, arith, option_map}
 use Rattle.rpc_rows.specs.Views.{plain_row}
 use Rattle.xdr_units.specs.Numbers.{word}
-use Rattle.rpc_answer.specs.Pushes.{row_bytes}
+use Rattle.rpc_answer.specs.Private.Pushes.{row_bytes}
 use Rattle.rpc_answer.proofs.Listing.{spelled_more, spelled_all, some_within, rows_spelled}
 use Rattle.rpc_answer.proofs.Chains.{begins_then, begins_added}
 use Rattle.rpc_answer.proofs.dumps.push_rows.Goals as goal

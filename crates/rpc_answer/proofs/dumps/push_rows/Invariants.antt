@@ -1,6 +1,6 @@
 use Rattle.std.proofs.Common.{◌≡◌, ◌++◌, take}
 use Rattle.std.specs.List.{flat_map}
-use Rattle.rpc_answer.specs.Pushes.{row_bytes}
+use Rattle.rpc_answer.specs.Private.Pushes.{row_bytes}
 use Rattle.rpc_answer.proofs.dumps.push_rows.Given as goal
 
 -- the rows so far

@@ -1,7 +1,7 @@
 use Rattle.std.proofs.Common.{◌≡◌, ◌++◌, List, ℕ, arith, ap, ◌∙◌}
 use Rattle.rpc_rows.specs.Steps.{getaddr}
-use Rattle.rpc_answer.specs.Parsed.{text}
-use Rattle.rpc_answer.specs.Pushes.{head}
+use Rattle.rpc_answer.specs.Private.Parsed.{text}
+use Rattle.rpc_answer.specs.Private.Pushes.{head}
 use Rattle.rpc_answer.specs.Views.{netid_of}
 use Rattle.rpc_answer.proofs.Chains.{then}
 use Rattle.rpc_answer.proofs.procedures.push_address.Goals as goal

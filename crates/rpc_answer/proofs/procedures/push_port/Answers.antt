@@ -1,6 +1,6 @@
 use Rattle.std.proofs.Common.{ℕ, ◌++◌, ap, ◌∙◌}
 use Rattle.xdr_units.specs.Numbers.{word}
-use Rattle.rpc_answer.specs.Pushes.{head}
+use Rattle.rpc_answer.specs.Private.Pushes.{head}
 use Rattle.rpc_answer.proofs.Chains.{then}
 use Rattle.rpc_answer.proofs.procedures.push_port.Goals as goal
 

@@ -1,5 +1,5 @@
 use Rattle.std.proofs.lemmas.Result.{err_from_is_err_and}
-use Rattle.rpc_message.specs.Reading.{words_at}
+use Rattle.rpc_message.specs.Private.Reading.{words_at}
 use Rattle.rpc_message.proofs.Loop.{goes_on, ends, is_done}
 use Rattle.rpc_message.proofs.credentials.words_of.Goals as goal
 

@@ -3,8 +3,8 @@ use Rattle.xdr_types.specs.Tree.{Tree}
 use Rattle.xdr_types.specs.View.{tree}
 use Rattle.xdr_codec.specs.declared.fault.Reason.{Reason}
 use Rattle.xdr_codec.specs.Refused.{IsRefused, HasNoneWithin}
-use Rattle.xdr_codec.specs.Steps.Whys.{why_at}
-use Rattle.xdr_codec.specs.Steps.Reading.{IsRead, HasNoValue}
+use Rattle.xdr_codec.specs.Private.Whys.{why_at}
+use Rattle.xdr_codec.specs.Private.Reading.{IsRead, HasNoValue}
 use Rattle.xdr_codec.proofs.Limited.{front_is, refused, accepted, alone}
 use Rattle.xdr_codec.proofs.decoding.decode.Goals as goal
 

@@ -1,6 +1,6 @@
 use Rattle.std.proofs.Common.{rules}
 use Rattle.xdr_types.specs.Kinds.{opaque_up_to, text}
-use Rattle.xdr_codec.specs.Steps.Reading.{HasNoHead}
+use Rattle.xdr_codec.specs.Private.Reading.{HasNoHead}
 use Rattle.xdr_codec.specs.Refused.{IsRefused}
 use Rattle.xdr_codec.proofs.Fronts.{refused_first}
 use Rattle.xdr_codec.proofs.leaf.read_counted.Goals as goal

@@ -13,7 +13,7 @@ use Rattle.xdr_types.specs.declared.value.Value.{Value}
 use Rattle.xdr_types.specs.declared.kind.Member.{Member}
 use Rattle.xdr_types.proofs.Views.{tree-List, tree-Some}
 use Rattle.xdr_codec.specs.Refused.{IsRefused}
-use Rattle.xdr_codec.specs.Steps.Reading.{IsRead, HasNoValue, AreRead, HasNoValues}
+use Rattle.xdr_codec.specs.Private.Reading.{IsRead, HasNoValue, AreRead, HasNoValues}
 use Rattle.xdr_codec.proofs.Composed.{broken_first, broken_after, only_part, one_more}
 use Rattle.xdr_codec.proofs.Arms.{all-at, fields_split, fields_more, fields_many, items_split, items_more, items_many}
 use Rattle.xdr_codec.proofs.Arms.{chosen_known, fixed_known, up_to_known, maybe_known, structure_known, no_first_value}

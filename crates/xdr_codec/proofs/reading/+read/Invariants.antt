@@ -2,7 +2,7 @@ use Rattle.std.proofs.Common.{◌≡◌, ◌+◌, ◌*◌, length, map, replicat
 use Rattle.xdr_types.specs.KindViews.{part_of_member}
 use Rattle.xdr_types.specs.Fits.{item_part}
 use Rattle.xdr_types.specs.View.{values}
-use Rattle.xdr_codec.specs.Steps.Reading.{AreRead}
+use Rattle.xdr_codec.specs.Private.Reading.{AreRead}
 use Rattle.xdr_codec.proofs.reading.+read.Given as goal
 
 abbrev pub decreases-read_value : goal.decreases-read_value

@@ -2,7 +2,7 @@ use Rattle.std.proofs.Common.{Some, length, sym, ◌∙◌}
 use Rattle.xdr_tokens.specs.Tokens.{lexemes}
 use Rattle.xdr_grammar.specs.Outline.{nothing}
 use Rattle.xdr_grammar.specs.View.{outline_of}
-use Rattle.xdr_grammar.specs.steps.Reading.{definitions_at}
+use Rattle.xdr_grammar.specs.Private.Reading.{definitions_at}
 use Rattle.xdr_grammar.proofs.Loop.{fails_along}
 use Rattle.xdr_grammar.proofs.Outlining.{outline_found, outline_again, told_fails, told_is}
 use Rattle.xdr_grammar.proofs.reading.read_outline.Goals as goal

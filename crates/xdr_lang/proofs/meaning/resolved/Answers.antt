@@ -5,7 +5,7 @@ use Rattle.xdr_types.specs.Sound.{IsSound}
 use Rattle.xdr_grammar.specs.View.{outline_of}
 use Rattle.xdr_tokens.proofs.Options.{some_is}
 use Rattle.xdr_lang.specs.Declarations.{Declared}
-use Rattle.xdr_lang.specs.steps.Meaning.{distinct_meaning}
+use Rattle.xdr_lang.specs.Private.Meaning.{distinct_meaning}
 use Rattle.xdr_lang.specs.Views.{declared_of, listed_of}
 use Rattle.xdr_lang.proofs.Distinctly.{joined, found_meant, fails_on}
 use Rattle.xdr_lang.proofs.meaning.resolved.Goals as goal

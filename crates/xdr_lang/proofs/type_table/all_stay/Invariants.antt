@@ -1,6 +1,6 @@
 use Rattle.std.proofs.Common.{◌≡◌, drop}
 use Rattle.xdr_lang.specs.Views.{types_of}
-use Rattle.xdr_lang.specs.steps.Tables.{all_stay}
+use Rattle.xdr_lang.specs.Private.Tables.{all_stay}
 use Rattle.xdr_lang.proofs.type_table.all_stay.Given as goal
 
 abbrev pub invariant-loop-field : goal.invariant-loop-field

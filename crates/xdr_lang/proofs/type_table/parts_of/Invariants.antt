@@ -1,6 +1,6 @@
 use Rattle.std.proofs.Common.{take}
 use Rattle.xdr_lang.specs.Views.{types_of}
-use Rattle.xdr_lang.specs.steps.Tables.{HasParts}
+use Rattle.xdr_lang.specs.Private.Tables.{HasParts}
 use Rattle.xdr_lang.proofs.type_table.parts_of.Given as goal
 
 abbrev pub invariant-loop-field : goal.invariant-loop-field

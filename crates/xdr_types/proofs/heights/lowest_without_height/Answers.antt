@@ -1,7 +1,7 @@
 use Rattle.std.proofs.Common.{◌<◌, sym, ap, ◌∙◌, arith, map, length, replicate, None, ℕ}
 use Rattle.std.proofs.lemmas.List.{length-map}
 use Rattle.xdr_types.specs.KindViews.{kind_view}
-use Rattle.xdr_types.specs.Rounds.{IsMarked}
+use Rattle.xdr_types.specs.Private.Rounds.{IsMarked}
 use Rattle.xdr_types.proofs.Higher.{are-higher}
 use Rattle.xdr_types.proofs.Heighting.{no-height, has-height}
 use Rattle.xdr_types.proofs.Marks.{fresh, none-read}

@@ -1,6 +1,6 @@
 use Rattle.std.proofs.Common.{◌≡◌, ℕ, ◌<◌, ◌-◌, length, map}
 use Rattle.xdr_types.specs.KindViews.{kind_view}
-use Rattle.xdr_types.specs.Rounds.{IsMarked, AreHeights}
+use Rattle.xdr_types.specs.Private.Rounds.{IsMarked, AreHeights}
 use Rattle.xdr_types.proofs.heights.lowest_without_height.Given as goal
 
 abbrev pub invariant-loop : goal.invariant-loop

@@ -3,7 +3,7 @@ use Rattle.std.proofs.lemmas.List.{length-map}
 use Rattle.xdr_types.specs.Kinds.{KindView}
 use Rattle.xdr_types.specs.KindViews.{kind_view}
 use Rattle.xdr_types.specs.Sound.{Asks}
-use Rattle.xdr_types.specs.Rounds.{IsMarked}
+use Rattle.xdr_types.specs.Private.Rounds.{IsMarked}
 use Rattle.xdr_types.proofs.Heighting.{step}
 use Rattle.xdr_types.proofs.Marks.{kind-read, none-read}
 use Rattle.xdr_types.proofs.heights.settle.Goals as goal

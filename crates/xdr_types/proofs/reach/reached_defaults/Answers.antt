@@ -2,7 +2,7 @@ use Rattle.std.proofs.Common.{◌≡◌, ◌<◌, List, [], ◌∷◌, ap, ◌�
 use Rattle.std.proofs.lemmas.List.{length-append}
 use Rattle.xdr_types.specs.Kinds.{KindView, kind_at}
 use Rattle.xdr_types.specs.KindViews.{kind_view}
-use Rattle.xdr_types.specs.Sets.{IsReached}
+use Rattle.xdr_types.specs.Private.Sets.{IsReached}
 use Rattle.xdr_types.specs.declared.kind.Kind.{Kind}
 use Rattle.xdr_types.proofs.InSets.{pushed}
 use Rattle.xdr_types.proofs.Marks.{kind-read}

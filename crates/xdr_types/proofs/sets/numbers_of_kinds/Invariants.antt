@@ -1,6 +1,6 @@
 use Rattle.std.proofs.Common.{◌≡◌, length, map}
 use Rattle.xdr_types.specs.KindViews.{kind_view}
-use Rattle.xdr_types.specs.Sets.{AreNumbers}
+use Rattle.xdr_types.specs.Private.Sets.{AreNumbers}
 use Rattle.xdr_types.proofs.sets.numbers_of_kinds.Given as goal
 
 abbrev pub invariant-loop-kind : goal.invariant-loop-kind

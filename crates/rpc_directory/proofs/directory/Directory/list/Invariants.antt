@@ -1,6 +1,6 @@
 use Rattle.std.proofs.Common.{◌≡◌, ◌≤◌, length, drop}
 use Rattle.xdr_types.specs.View.{tree}
-use Rattle.rpc_directory.specs.Listings.{list_of}
+use Rattle.rpc_directory.specs.Private.Listings.{list_of}
 use Rattle.rpc_directory.proofs.directory.Directory.list.Given as goal
 
 abbrev pub invariant-loop-left : goal.invariant-loop-left

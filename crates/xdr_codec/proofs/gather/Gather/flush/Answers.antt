@@ -1,5 +1,5 @@
 use Rattle.std.proofs.Common.{arith, refl}
-use Rattle.xdr_codec.specs.Steps.Gathered.{gathering}
+use Rattle.xdr_codec.specs.Private.Gathered.{gathering}
 use Rattle.xdr_codec.proofs.Gathering.{flushed, flush_cut}
 use Rattle.xdr_codec.proofs.gather.Gather.flush.Goals as goal
 

@@ -1,6 +1,6 @@
 use Rattle.std.proofs.Common.{◌≡◌, ◌-◌, length}
-use Rattle.xdr_grammar.specs.steps.Reading.{definitions_at}
-use Rattle.xdr_grammar.specs.steps.Parsing.{left, so_far}
+use Rattle.xdr_grammar.specs.Private.Reading.{definitions_at}
+use Rattle.xdr_grammar.specs.Private.Parsing.{left, so_far}
 use Rattle.xdr_grammar.proofs.reading.Parser.definitions.Given as goal
 
 abbrev pub invariant-loop : goal.invariant-loop

@@ -1,7 +1,7 @@
 use Rattle.std.proofs.Common.{◌≡◌, ◌-◌, length, map}
 use Rattle.xdr_grammar.specs.View.{member_of}
-use Rattle.xdr_grammar.specs.steps.Reading.{repeat, member_at}
-use Rattle.xdr_grammar.specs.steps.Parsing.{left, so_far}
+use Rattle.xdr_grammar.specs.Private.Reading.{repeat, member_at}
+use Rattle.xdr_grammar.specs.Private.Parsing.{left, so_far}
 use Rattle.xdr_grammar.proofs.Loop.{with_front}
 use Rattle.xdr_grammar.proofs.reading.Parser.members.Given as goal
 

@@ -1,7 +1,7 @@
 use Rattle.std.proofs.Common.{◌≡◌, ◌-◌, length, map}
 use Rattle.xdr_grammar.specs.View.{version_of}
-use Rattle.xdr_grammar.specs.steps.Reading.{repeat, specifier_at, version_with}
-use Rattle.xdr_grammar.specs.steps.Parsing.{left, so_far}
+use Rattle.xdr_grammar.specs.Private.Reading.{repeat, specifier_at, version_with}
+use Rattle.xdr_grammar.specs.Private.Parsing.{left, so_far}
 use Rattle.xdr_grammar.proofs.Loop.{with_front}
 use Rattle.xdr_grammar.proofs.reading.Parser.versions.Given as goal
 

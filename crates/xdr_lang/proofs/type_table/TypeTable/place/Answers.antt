@@ -2,7 +2,7 @@ use Rattle.std.proofs.Common.{◌≡◌, ◌≤◌, length, sym, arith}
 use Rattle.std.proofs.lemmas.List.{length-map}
 use Rattle.xdr_grammar.specs.View.{field_of}
 use Rattle.xdr_lang.specs.Views.{types_of}
-use Rattle.xdr_lang.specs.steps.Tables.{IsPlacedAt}
+use Rattle.xdr_lang.specs.Private.Tables.{IsPlacedAt}
 use Rattle.xdr_lang.proofs.type_table.TypeTable.place.Goals as goal
 
 pub returns-in-Some : goal.returns-in-Some

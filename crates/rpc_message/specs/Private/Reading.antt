@@ -34,9 +34,9 @@ abbrev pub is_memory : ReplyFault → Bool
 is_memory faults.NoMemory = true
 is_memory e = false
 
-abbrev pub Gives : {X Y : Type 0} → (X → Y) → Result X ReplyFault → Result Y ReplyFault → Type 0
-Gives view (Ok x) read = read ≡ Ok (view x)
-Gives view (Err e) read = Fails e read
+abbrev pub ReadsOrNoMemory : {X Y : Type 0} → (X → Y) → Result X ReplyFault → Result Y ReplyFault → Type 0
+ReadsOrNoMemory view (Ok x) read = read ≡ Ok (view x)
+ReadsOrNoMemory view (Err e) read = Fails e read
 
 -- A field is a value and the bytes after it.
 unfoldable pub word_at : List ℕ → Result (ℕ × List ℕ) ReplyFault

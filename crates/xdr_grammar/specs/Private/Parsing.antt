@@ -14,7 +14,7 @@ use Rattle.xdr_grammar.specs.declared.misread.Misread.TheVariants as misread
 use Rattle.xdr_tokens.specs.Tokens.{Lexeme, lexemes}
 use Rattle.xdr_grammar.specs.Outline.{Outline}
 use Rattle.xdr_grammar.specs.View.{outline_of}
-use Rattle.xdr_grammar.specs.steps.Reading.{Reader, Definer}
+use Rattle.xdr_grammar.specs.Private.Reading.{Reader, Definer}
 
 -- the fault of a text whose token is refused so
 abbrev pub wrong_of : Misplaced → Wrong

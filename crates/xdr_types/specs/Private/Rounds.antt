@@ -2,7 +2,7 @@
 use Rattle.std.specs.Prelude.{◌≡◌, ℕ, ◌+◌, ◌<◌, List, [], ◌∷◌, length, Option, Some, None, slice_index_or, Bool, true}
 use Rattle.std.specs.Prelude.{false, ◌&&◌, ◌||◌, is_some, IsTrue}
 use Rattle.xdr_types.specs.Kinds.{KindView, Part, Branch, kind_at}
-use Rattle.xdr_types.specs.Sound.{Heighting, Asks, IsProper, HasHeight}
+use Rattle.xdr_types.specs.Sound.{Heighting, Asks, IsProper}
 
 -- the numbers that a list gives
 abbrev pub given : List (Option ℕ) → Heighting
@@ -47,9 +47,3 @@ pub record AreHeights (kinds : List KindView) (hs : List (Option ℕ)) (next : �
   pub proper : IsProper kinds (given hs)
   pub below : AreBelow hs next
   pub left : next + missing hs ≡ length kinds
-
--- the lowest place without a height
-pub record IsLowestWithout (kinds : List KindView) (place : ℕ) : Type 0 where
-  pub within : place < length kinds
-  pub none : HasHeight kinds place → ⊥
-  pub lower : (q : ℕ) → q < place → HasHeight kinds q

@@ -3,7 +3,7 @@ use Rattle.std.proofs.Common.{ℕ, List, [], ◌++◌, length, refl, sym, ap, su
 use Rattle.std.proofs.lemmas.List.{append-nil, length-append, take-append-le}
 use Rattle.std.specs.Io.KnownBytes.{Appends}
 use Rattle.xdr_io.proofs.Chained.{Counts-trans, Counts-none}
-use Rattle.xdr_codec.specs.Steps.Gathered.{Gathering, Holds, IsCut, Gathers, Breaks}
+use Rattle.xdr_codec.specs.Private.Gathered.{Gathering, Holds, IsCut, Gathers, Breaks}
 
 pub gathers-none : (a : Gathering) → Gathers a a []
 gathers-none a = record {

@@ -9,7 +9,7 @@ use Rattle.rpc_message.specs.Spelling.{reply, IsReply, IsStatus}
 use Rattle.rpc_rows.specs.Rows.{Row}
 use Rattle.rpc_rows.specs.Steps.{Step}
 use Rattle.rpc_dumps.specs.Dumps.{prot_of}
-use Rattle.rpc_answer.specs.Parsed.{text}
+use Rattle.rpc_answer.specs.Private.Parsed.{text}
 use Rattle.rpc_answer.specs.Answer.{ComesTo, AnswersCall, accepted}
 
 -- the words of an accepted reply up to its number: xid, REPLY, MSG_ACCEPTED, AUTH_NONE, no body, accept_stat

@@ -1,0 +1,7 @@
+-- Definitions that only private functions cite: the steps of the code. No contract of a public call names any of it.
+pub mod Gathered
+pub mod GatheredLaws
+pub mod PutAll
+pub mod Reading
+pub mod Units
+pub mod Whys

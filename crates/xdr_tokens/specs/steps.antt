@@ -1,2 +1,0 @@
--- What the functions of this crate compute, step by step. The public contracts name nothing of it.
-pub mod Front
