@@ -14,7 +14,7 @@ use std::alloc::Global;
 use xdr_units::{NoMemory, push_word};
 
 /// The xid and the version of a call.
-#[tactic(auto, unfolding(crate::specs::Reading::call_head_at))]
+#[tactic(auto, unfolding(crate::specs::Private::Reading::call_head_at))]
 fn call_head(bytes: &[u8]) -> Result<(u32, u32, &[u8]), ReplyFault>
     ensures { Reads (λ x. (x.0, x.1, x.2.now)) result (call_head_at bytes.now) }
 {
@@ -28,7 +28,7 @@ fn call_head(bytes: &[u8]) -> Result<(u32, u32, &[u8]), ReplyFault>
 }
 
 /// Program, version and procedure.
-#[tactic(auto, unfolding(crate::specs::Reading::target_at))]
+#[tactic(auto, unfolding(crate::specs::Private::Reading::target_at))]
 fn target(bytes: &[u8]) -> Result<(u32, u32, u32, &[u8]), ReplyFault>
     ensures { Reads (λ x. (x.0, x.1, x.2, x.3.now)) result (target_at bytes.now) }
 {
@@ -39,7 +39,7 @@ fn target(bytes: &[u8]) -> Result<(u32, u32, u32, &[u8]), ReplyFault>
 }
 
 /// The case of the bytes.
-#[tactic(auto, unfolding(crate::specs::Reading::case_of))]
+#[tactic(auto, unfolding(crate::specs::Private::Reading::case_of))]
 fn case_of(bytes: &[u8]) -> LentRead<'_>
     ensures { case_of bytes.now ≡ lent_case_view result }
 {

@@ -29,7 +29,7 @@ fn words_of(alloc: Global, count: u32, bytes: &[u8]) -> Result<(Vec<u32>, &[u8])
 }
 
 /// The gids to the end: how many, at most 16, and each of them.
-#[tactic(auto, unfolding(crate::specs::Reading::gids_at))]
+#[tactic(auto, unfolding(crate::specs::Private::Reading::gids_at))]
 fn gids_of(alloc: Global, bytes: &[u8]) -> Result<Vec<u32>, ReplyFault>
     ensures { ReadsOrNoMemory (λ v. v.items) result (gids_at bytes.now) }
 {
@@ -45,7 +45,7 @@ fn gids_of(alloc: Global, bytes: &[u8]) -> Result<Vec<u32>, ReplyFault>
 }
 
 /// The whole body.
-#[tactic(auto, unfolding(crate::specs::Reading::auth_sys_at))]
+#[tactic(auto, unfolding(crate::specs::Private::Reading::auth_sys_at))]
 fn auth_sys_of(alloc: Global, bytes: &[u8]) -> Result<AuthSys, ReplyFault>
     ensures { ReadsOrNoMemory auth_sys_view result (auth_sys_at bytes.now) }
 {

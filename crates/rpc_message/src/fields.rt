@@ -31,7 +31,7 @@ fn is_zero_behind(count: usize, bytes: &[u8]) -> bool
 }
 
 /// A length of at most so much, the bytes, and their padding. Padding that is not zero is named before a cut.
-#[tactic(auto, unfolding(crate::specs::Reading::opaque_at))]
+#[tactic(auto, unfolding(crate::specs::Private::Reading::opaque_at))]
 pub fn opaque_at(most: u32, bytes: &[u8]) -> Result<(&[u8], &[u8]), ReplyFault>
     requires { most ≤ 400 }
     ensures { Reads (λ x. (x.0.now, x.1.now)) result (opaque_at most bytes.now) }
@@ -54,7 +54,7 @@ pub fn opaque_at(most: u32, bytes: &[u8]) -> Result<(&[u8], &[u8]), ReplyFault>
 }
 
 /// A flavor, and a body of at most 400 bytes.
-#[tactic(auto, unfolding(crate::specs::Reading::auth_at))]
+#[tactic(auto, unfolding(crate::specs::Private::Reading::auth_at))]
 pub fn auth_at(bytes: &[u8]) -> Result<(LentAuth<'_>, &[u8]), ReplyFault>
     ensures { Reads (λ x. (lent_view x.0, x.1.now)) result (auth_at bytes.now) }
 {

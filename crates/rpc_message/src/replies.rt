@@ -17,7 +17,7 @@ use std::alloc::{AllocError, Global};
 use xdr_units::{NoMemory, push_word};
 
 /// The two numbers that end a reply.
-#[tactic(auto, unfolding(crate::specs::Reading::bounds_at))]
+#[tactic(auto, unfolding(crate::specs::Private::Reading::bounds_at))]
 fn bounds(bytes: &[u8]) -> Result<(u32, u32), ReplyFault>
     ensures { Reads (λ x. (x.0, x.1)) result (bounds_at bytes.now) }
 {
@@ -30,7 +30,7 @@ fn bounds(bytes: &[u8]) -> Result<(u32, u32), ReplyFault>
 }
 
 /// What follows the number `stat` of an accepted reply.
-#[tactic(auto, unfolding(crate::specs::Reading::status_at))]
+#[tactic(auto, unfolding(crate::specs::Private::Reading::status_at))]
 fn status_of(alloc: Global, stat: u32, bytes: &[u8]) -> Result<Status, ReplyFault>
     ensures { ReadsOrNoMemory status_view result (status_at stat bytes.now) }
 {
@@ -50,7 +50,7 @@ fn status_of(alloc: Global, stat: u32, bytes: &[u8]) -> Result<Status, ReplyFaul
 }
 
 /// What follows the number `stat` of a denied reply.
-#[tactic(auto, unfolding(crate::specs::Reading::why_at))]
+#[tactic(auto, unfolding(crate::specs::Private::Reading::why_at))]
 fn why_of(stat: u32, bytes: &[u8]) -> Result<Why, ReplyFault>
     ensures { Reads why_view result (why_at stat bytes.now) }
 {
@@ -71,7 +71,7 @@ fn why_of(stat: u32, bytes: &[u8]) -> Result<Why, ReplyFault>
 }
 
 /// The rest of an accepted reply.
-#[tactic(auto, unfolding(crate::specs::Reading::accepted_at))]
+#[tactic(auto, unfolding(crate::specs::Private::Reading::accepted_at))]
 fn accepted(alloc: Global, xid: u32, bytes: &[u8]) -> Result<Reply, ReplyFault>
     ensures { ReadsOrNoMemory reply_view result (accepted_at xid bytes.now) }
 {
@@ -83,7 +83,7 @@ fn accepted(alloc: Global, xid: u32, bytes: &[u8]) -> Result<Reply, ReplyFault>
 }
 
 /// The rest of a denied reply.
-#[tactic(auto, unfolding(crate::specs::Reading::denied_at))]
+#[tactic(auto, unfolding(crate::specs::Private::Reading::denied_at))]
 fn denied(xid: u32, bytes: &[u8]) -> Result<Reply, ReplyFault>
     ensures { Reads reply_view result (denied_at xid bytes.now) }
 {
@@ -93,7 +93,7 @@ fn denied(xid: u32, bytes: &[u8]) -> Result<Reply, ReplyFault>
 }
 
 /// What follows the number `stat` of a reply.
-#[tactic(auto, unfolding(crate::specs::Reading::reply_stat_at))]
+#[tactic(auto, unfolding(crate::specs::Private::Reading::reply_stat_at))]
 fn reply_stat(alloc: Global, xid: u32, stat: u32, bytes: &[u8]) -> Result<Reply, ReplyFault>
     ensures { ReadsOrNoMemory reply_view result (reply_stat_at xid stat bytes.now) }
 {
@@ -105,7 +105,7 @@ fn reply_stat(alloc: Global, xid: u32, stat: u32, bytes: &[u8]) -> Result<Reply,
 }
 
 /// The whole reply.
-#[tactic(auto, unfolding(crate::specs::Reading::reply_at))]
+#[tactic(auto, unfolding(crate::specs::Private::Reading::reply_at))]
 fn reply_at(alloc: Global, bytes: &[u8]) -> Result<Reply, ReplyFault>
     ensures { ReadsOrNoMemory reply_view result (reply_at bytes.now) }
 {

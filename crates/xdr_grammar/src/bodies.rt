@@ -14,7 +14,7 @@ use xdr_tokens::{Keyword, Mark};
 impl<'t, 'a> Parser<'t, 'a> {
     /// A declaration, but not void.
     #[cycle(declarations)]
-    #[tactic(auto, unfolding(crate::specs::steps::Reading::declaration_with))]
+    #[tactic(auto, unfolding(crate::specs::Private::Reading::declaration_with))]
     pub(crate) fn declaration(&mut self, depth: u32) -> Result<Field<'a>, Misread>
         ensures { Reads field_of result (declaration_with (specifier_at depth)) self.old self.new }
     {
@@ -31,7 +31,7 @@ impl<'t, 'a> Parser<'t, 'a> {
 
     /// A declaration or void.
     #[cycle(declarations)]
-    #[tactic(auto, unfolding(crate::specs::steps::Reading::content_with))]
+    #[tactic(auto, unfolding(crate::specs::Private::Reading::content_with))]
     fn content(&mut self, depth: u32) -> Result<Field<'a>, Misread>
         ensures { Reads field_of result (content_with (declaration_with (specifier_at depth))) self.old self.new }
     {
@@ -47,7 +47,7 @@ impl<'t, 'a> Parser<'t, 'a> {
 
     /// A field of a struct, and whether another one follows.
     #[cycle(declarations)]
-    #[tactic(auto, unfolding(crate::specs::steps::Reading::field_with))]
+    #[tactic(auto, unfolding(crate::specs::Private::Reading::field_with))]
     fn field(&mut self, depth: u32) -> Result<(Field<'a>, bool), Misread>
         ensures { Reads (λ x. (field_of x.0, x.1)) result
             (field_with (content_with (declaration_with (specifier_at depth)))) self.old self.new }
@@ -60,7 +60,7 @@ impl<'t, 'a> Parser<'t, 'a> {
 
     /// The fields of a struct and its `}`.
     #[cycle(declarations)]
-    #[tactic(auto, unfolding(crate::specs::steps::Reading::repeat))]
+    #[tactic(auto, unfolding(crate::specs::Private::Reading::repeat))]
     fn fields(&mut self, depth: u32) -> Result<Vec<Field<'a>>, Misread>
         ensures { Reads (λ x. map field_of x.items) result
             (repeat (field_with (content_with (declaration_with (specifier_at depth)))) (length (left self.old)))
@@ -79,7 +79,7 @@ impl<'t, 'a> Parser<'t, 'a> {
 
     /// What follows `struct`.
     #[cycle(declarations)]
-    #[tactic(auto, unfolding(crate::specs::steps::Reading::struct_with))]
+    #[tactic(auto, unfolding(crate::specs::Private::Reading::struct_with))]
     fn struct_body(&mut self, start: usize, depth: u32) -> Result<Part<'a>, Misread>
         ensures { Reads part_of result
             (struct_with (content_with (declaration_with (specifier_at depth)))) self.old self.new }
@@ -90,7 +90,7 @@ impl<'t, 'a> Parser<'t, 'a> {
     }
 
     /// A value and `:` after `case`, and whether another `case` follows.
-    #[tactic(auto, unfolding(crate::specs::steps::Reading::case_at))]
+    #[tactic(auto, unfolding(crate::specs::Private::Reading::case_at))]
     fn case(&mut self) -> Result<(Late<'a>, bool), Misread>
         ensures { Reads (λ x. (late_of x.0, x.1)) result case_at self.old self.new }
     {
@@ -101,7 +101,7 @@ impl<'t, 'a> Parser<'t, 'a> {
     }
 
     /// The values of an arm.
-    #[tactic(auto, unfolding(crate::specs::steps::Reading::repeat))]
+    #[tactic(auto, unfolding(crate::specs::Private::Reading::repeat))]
     fn cases(&mut self) -> Result<Vec<Late<'a>>, Misread>
         ensures { Reads (λ x. map late_of x.items) result (repeat case_at (length (left self.old))) self.old self.new }
     {
@@ -118,7 +118,7 @@ impl<'t, 'a> Parser<'t, 'a> {
 
     /// An arm of a union after its first `case`, and whether another `case` follows.
     #[cycle(declarations)]
-    #[tactic(auto, unfolding(crate::specs::steps::Reading::arm_with))]
+    #[tactic(auto, unfolding(crate::specs::Private::Reading::arm_with))]
     fn arm(&mut self, depth: u32) -> Result<(Arm<'a>, bool), Misread>
         ensures { Reads (λ x. (arm_of x.0, x.1)) result
             (arm_with (content_with (declaration_with (specifier_at depth)))) self.old self.new }
@@ -132,7 +132,7 @@ impl<'t, 'a> Parser<'t, 'a> {
 
     /// The arms of a union after the first `case`.
     #[cycle(declarations)]
-    #[tactic(auto, unfolding(crate::specs::steps::Reading::repeat))]
+    #[tactic(auto, unfolding(crate::specs::Private::Reading::repeat))]
     fn arms(&mut self, depth: u32) -> Result<Vec<Arm<'a>>, Misread>
         ensures { Reads (λ x. map arm_of x.items) result
             (repeat (arm_with (content_with (declaration_with (specifier_at depth)))) (length (left self.old))) self.old
@@ -151,7 +151,7 @@ impl<'t, 'a> Parser<'t, 'a> {
 
     /// The default of a union, where it has one.
     #[cycle(declarations)]
-    #[tactic(auto, unfolding(crate::specs::steps::Reading::default_with))]
+    #[tactic(auto, unfolding(crate::specs::Private::Reading::default_with))]
     fn default(&mut self, depth: u32) -> Result<Option<Field<'a>>, Misread>
         ensures { Reads (λ x. option_map field_of x) result
             (default_with (content_with (declaration_with (specifier_at depth)))) self.old self.new }
@@ -167,7 +167,7 @@ impl<'t, 'a> Parser<'t, 'a> {
 
     /// What follows `union`, as far as the first `case`.
     #[cycle(declarations)]
-    #[tactic(auto, unfolding(crate::specs::steps::Reading::switch_with))]
+    #[tactic(auto, unfolding(crate::specs::Private::Reading::switch_with))]
     fn switch(&mut self, depth: u32) -> Result<Field<'a>, Misread>
         ensures { Reads field_of result (switch_with (declaration_with (specifier_at depth))) self.old self.new }
     {
@@ -182,7 +182,7 @@ impl<'t, 'a> Parser<'t, 'a> {
 
     /// What follows `union`.
     #[cycle(declarations)]
-    #[tactic(auto, unfolding(crate::specs::steps::Reading::union_with))]
+    #[tactic(auto, unfolding(crate::specs::Private::Reading::union_with))]
     fn union_body(&mut self, start: usize, depth: u32) -> Result<Part<'a>, Misread>
         ensures { Reads part_of result (union_with (declaration_with (specifier_at depth))) self.old self.new }
     {
@@ -195,7 +195,7 @@ impl<'t, 'a> Parser<'t, 'a> {
 
     /// A body, with at most so many bodies inside it.
     #[cycle(declarations)]
-    #[tactic(auto, unfolding(crate::specs::steps::Reading::body_with))]
+    #[tactic(auto, unfolding(crate::specs::Private::Reading::body_with))]
     pub(crate) fn body(
         &mut self,
         kind: BodyKind,
@@ -214,7 +214,7 @@ impl<'t, 'a> Parser<'t, 'a> {
     /// A type specifier, spelled by what begins at `start`, with at most so many bodies inside one
     /// another.
     #[cycle(declarations)]
-    #[tactic(auto, unfolding(crate::specs::steps::Reading::specifier_at))]
+    #[tactic(auto, unfolding(crate::specs::Private::Reading::specifier_at))]
     pub(crate) fn specifier(&mut self, start: usize, depth: u32) -> Result<Part<'a>, Misread>
         ensures { Reads part_of result (specifier_at depth) self.old self.new }
     {

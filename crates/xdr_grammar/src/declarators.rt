@@ -10,7 +10,7 @@ use xdr_tokens::Mark;
 
 impl<'t, 'a> Parser<'t, 'a> {
     /// What follows `opaque`, which stands at `start`.
-    #[tactic(auto, unfolding(crate::specs::steps::Reading::opaque_at))]
+    #[tactic(auto, unfolding(crate::specs::Private::Reading::opaque_at))]
     pub(crate) fn opaque(&mut self, start: usize) -> Result<Field<'a>, Misread>
         ensures { Reads field_of result opaque_at self.old self.new }
     {
@@ -27,7 +27,7 @@ impl<'t, 'a> Parser<'t, 'a> {
     }
 
     /// What follows `string`, which stands at `start`.
-    #[tactic(auto, unfolding(crate::specs::steps::Reading::text_at))]
+    #[tactic(auto, unfolding(crate::specs::Private::Reading::text_at))]
     pub(crate) fn text(&mut self, start: usize) -> Result<Field<'a>, Misread>
         ensures { Reads field_of result text_at self.old self.new }
     {
@@ -39,7 +39,7 @@ impl<'t, 'a> Parser<'t, 'a> {
     }
 
     /// What follows a type specifier, which begins at `start`.
-    #[tactic(auto, unfolding(crate::specs::steps::Reading::declared_at))]
+    #[tactic(auto, unfolding(crate::specs::Private::Reading::declared_at))]
     pub(crate) fn declared(&mut self, part: Part<'a>, start: usize) -> Result<Field<'a>, Misread>
         ensures { Reads field_of result (declared_at (part_of part.entry)) self.old self.new }
     {

@@ -22,7 +22,7 @@ fn defined_part(kind: BodyKind, part: Part<'_>) -> Part<'_>
 
 impl<'t, 'a> Parser<'t, 'a> {
     /// What follows `const`.
-    #[tactic(auto, unfolding(crate::specs::steps::Reading::const_at))]
+    #[tactic(auto, unfolding(crate::specs::Private::Reading::const_at))]
     fn constant(&mut self) -> Result<(), Misread>
         ensures { Defines result const_at self.old self.new }
     {
@@ -32,7 +32,7 @@ impl<'t, 'a> Parser<'t, 'a> {
     }
 
     /// What follows `typedef`.
-    #[tactic(auto, unfolding(crate::specs::steps::Reading::typedef_with))]
+    #[tactic(auto, unfolding(crate::specs::Private::Reading::typedef_with))]
     fn typedef(&mut self) -> Result<(), Misread>
         ensures { Defines result (typedef_with (declaration_with (specifier_at 32))) self.old self.new }
     {
@@ -42,7 +42,7 @@ impl<'t, 'a> Parser<'t, 'a> {
     }
 
     /// An enum, a struct or a union with its name.
-    #[tactic(auto, unfolding(crate::specs::steps::Reading::defined_with))]
+    #[tactic(auto, unfolding(crate::specs::Private::Reading::defined_with))]
     fn defined(&mut self) -> Result<(), Misread>
         ensures { Defines result (defined_with (declaration_with (specifier_at 31))) self.old self.new }
     {
@@ -57,7 +57,7 @@ impl<'t, 'a> Parser<'t, 'a> {
     }
 
     /// A definition.
-    #[tactic(auto, unfolding(crate::specs::steps::Reading::definition_at))]
+    #[tactic(auto, unfolding(crate::specs::Private::Reading::definition_at))]
     fn definition(&mut self) -> Result<(), Misread>
         ensures { Defines result definition_at self.old self.new }
     {
@@ -75,7 +75,7 @@ impl<'t, 'a> Parser<'t, 'a> {
     }
 
     /// The definitions, to the end of the tokens.
-    #[tactic(auto, unfolding(crate::specs::steps::Reading::definitions_at))]
+    #[tactic(auto, unfolding(crate::specs::Private::Reading::definitions_at))]
     pub(crate) fn definitions(&mut self) -> Result<(), Misread>
         ensures { Parses (λ _. so_far self.new) result
             (definitions_at (length (left self.old)) (so_far self.old) (left self.old)) }

@@ -11,7 +11,7 @@ use xdr_tokens::Mark;
 
 impl<'t, 'a> Parser<'t, 'a> {
     /// A member of an enum, and whether another one follows.
-    #[tactic(auto, unfolding(crate::specs::steps::Reading::member_at))]
+    #[tactic(auto, unfolding(crate::specs::Private::Reading::member_at))]
     fn member(&mut self) -> Result<(Member<'a>, bool), Misread>
         ensures { Reads (λ x. (member_of x.0, x.1)) result member_at self.old self.new }
     {
@@ -24,7 +24,7 @@ impl<'t, 'a> Parser<'t, 'a> {
     }
 
     /// The members of an enum and its `}`.
-    #[tactic(auto, unfolding(crate::specs::steps::Reading::repeat))]
+    #[tactic(auto, unfolding(crate::specs::Private::Reading::repeat))]
     fn members(&mut self) -> Result<Vec<Member<'a>>, Misread>
         ensures { Reads (λ x. map member_of x.items) result
             (repeat member_at (length (left self.old))) self.old self.new }
@@ -41,7 +41,7 @@ impl<'t, 'a> Parser<'t, 'a> {
     }
 
     /// What follows `enum`.
-    #[tactic(auto, unfolding(crate::specs::steps::Reading::enum_at))]
+    #[tactic(auto, unfolding(crate::specs::Private::Reading::enum_at))]
     pub(crate) fn enum_body(&mut self, start: usize) -> Result<Part<'a>, Misread>
         ensures { Reads part_of result enum_at self.old self.new }
     {

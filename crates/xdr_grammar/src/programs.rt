@@ -12,7 +12,7 @@ use xdr_tokens::{Keyword, Mark};
 
 impl<'t, 'a> Parser<'t, 'a> {
     /// The type of an argument or a result.
-    #[tactic(auto, unfolding(crate::specs::steps::Reading::passed_with))]
+    #[tactic(auto, unfolding(crate::specs::Private::Reading::passed_with))]
     fn passed(&mut self) -> Result<Part<'a>, Misread>
         ensures { Reads part_of result (passed_with (specifier_at 32)) self.old self.new }
     {
@@ -23,7 +23,7 @@ impl<'t, 'a> Parser<'t, 'a> {
     }
 
     /// An argument, and whether another one follows.
-    #[tactic(auto, unfolding(crate::specs::steps::Reading::argument_with))]
+    #[tactic(auto, unfolding(crate::specs::Private::Reading::argument_with))]
     fn argument(&mut self) -> Result<(Part<'a>, bool), Misread>
         ensures { Reads (λ x. (part_of x.0, x.1)) result (argument_with (specifier_at 32)) self.old self.new }
     {
@@ -33,7 +33,7 @@ impl<'t, 'a> Parser<'t, 'a> {
     }
 
     /// The arguments of a procedure that has some, and their `)`.
-    #[tactic(auto, unfolding(crate::specs::steps::Reading::repeat))]
+    #[tactic(auto, unfolding(crate::specs::Private::Reading::repeat))]
     fn some_arguments(&mut self) -> Result<Vec<Part<'a>>, Misread>
         ensures { Reads (λ x. map part_of x.items) result
             (repeat (argument_with (specifier_at 32)) (length (left self.old))) self.old self.new }
@@ -50,7 +50,7 @@ impl<'t, 'a> Parser<'t, 'a> {
     }
 
     /// The arguments of a procedure and their `)`.
-    #[tactic(auto, unfolding(crate::specs::steps::Reading::arguments_with))]
+    #[tactic(auto, unfolding(crate::specs::Private::Reading::arguments_with))]
     fn arguments(&mut self) -> Result<Vec<Part<'a>>, Misread>
         ensures { Reads (λ x. map part_of x.items) result (arguments_with (specifier_at 32)) self.old self.new }
     {
@@ -62,7 +62,7 @@ impl<'t, 'a> Parser<'t, 'a> {
     }
 
     /// The result of a procedure.
-    #[tactic(auto, unfolding(crate::specs::steps::Reading::result_with))]
+    #[tactic(auto, unfolding(crate::specs::Private::Reading::result_with))]
     fn result(&mut self) -> Result<Option<Part<'a>>, Misread>
         ensures { Reads (λ x. option_map part_of x) result (result_with (specifier_at 32)) self.old self.new }
     {
@@ -74,7 +74,7 @@ impl<'t, 'a> Parser<'t, 'a> {
     }
 
     /// A procedure, and whether another one follows.
-    #[tactic(auto, unfolding(crate::specs::steps::Reading::procedure_with))]
+    #[tactic(auto, unfolding(crate::specs::Private::Reading::procedure_with))]
     fn procedure(&mut self) -> Result<(Procedure<'a>, bool), Misread>
         ensures { Reads (λ x. (procedure_of x.0, x.1)) result (procedure_with (specifier_at 32)) self.old self.new }
     {
@@ -94,7 +94,7 @@ impl<'t, 'a> Parser<'t, 'a> {
     }
 
     /// The procedures of a version and their `}`.
-    #[tactic(auto, unfolding(crate::specs::steps::Reading::repeat))]
+    #[tactic(auto, unfolding(crate::specs::Private::Reading::repeat))]
     fn procedures(&mut self) -> Result<Vec<Procedure<'a>>, Misread>
         ensures { Reads (λ x. map procedure_of x.items) result
             (repeat (procedure_with (specifier_at 32)) (length (left self.old))) self.old self.new }
@@ -111,7 +111,7 @@ impl<'t, 'a> Parser<'t, 'a> {
     }
 
     /// A version, and whether another one follows.
-    #[tactic(auto, unfolding(crate::specs::steps::Reading::version_with))]
+    #[tactic(auto, unfolding(crate::specs::Private::Reading::version_with))]
     fn version(&mut self) -> Result<(Version<'a>, bool), Misread>
         ensures { Reads (λ x. (version_of x.0, x.1)) result (version_with (specifier_at 32)) self.old self.new }
     {
@@ -130,7 +130,7 @@ impl<'t, 'a> Parser<'t, 'a> {
     }
 
     /// The versions of a program and their `}`.
-    #[tactic(auto, unfolding(crate::specs::steps::Reading::repeat))]
+    #[tactic(auto, unfolding(crate::specs::Private::Reading::repeat))]
     fn versions(&mut self) -> Result<Vec<Version<'a>>, Misread>
         ensures { Reads (λ x. map version_of x.items) result
             (repeat (version_with (specifier_at 32)) (length (left self.old))) self.old self.new }
@@ -147,7 +147,7 @@ impl<'t, 'a> Parser<'t, 'a> {
     }
 
     /// What follows `program`.
-    #[tactic(auto, unfolding(crate::specs::steps::Reading::program_with))]
+    #[tactic(auto, unfolding(crate::specs::Private::Reading::program_with))]
     pub(crate) fn program(&mut self) -> Result<(), Misread>
         ensures { Defines result (program_with (specifier_at 32)) self.old self.new }
     {

@@ -58,7 +58,7 @@ impl<'t, 'a> Parser<'t, 'a> {
     }
 
     /// Takes the keyword, where it is in front.
-    #[tactic(auto, unfolding(crate::specs::steps::Reading::after_word))]
+    #[tactic(auto, unfolding(crate::specs::Private::Reading::after_word))]
     pub(crate) fn word(&mut self, wanted: Keyword) -> bool
         ensures yes { result ≡ true → after_word wanted (left self.old) ≡ Some (left self.new) }
         ensures no { result ≡ false → after_word wanted (left self.old) ≡ None }
@@ -75,7 +75,7 @@ impl<'t, 'a> Parser<'t, 'a> {
     }
 
     /// Takes the mark, where it is in front.
-    #[tactic(auto, unfolding(crate::specs::steps::Reading::after_sign))]
+    #[tactic(auto, unfolding(crate::specs::Private::Reading::after_sign))]
     pub(crate) fn sign(&mut self, wanted: Mark) -> bool
         ensures yes { result ≡ true → after_sign wanted (left self.old) ≡ Some (left self.new) }
         ensures no { result ≡ false → after_sign wanted (left self.old) ≡ None }
@@ -116,7 +116,7 @@ impl<'t, 'a> Parser<'t, 'a> {
     }
 
     /// Takes one of two marks, and says whether it is the first.
-    #[tactic(auto, unfolding(crate::specs::steps::Reading::either_sign))]
+    #[tactic(auto, unfolding(crate::specs::Private::Reading::either_sign))]
     pub(crate) fn either(&mut self, on: Mark, end: Mark) -> Result<bool, Misread>
         ensures read { Takes (λ x. x) result (either_sign on end) self.old self.new }
         ensures made { so_far self.new ≡ so_far self.old }

@@ -12,7 +12,7 @@ use xdr_tokens::{Keyword, Mark, Token};
 
 impl<'t, 'a> Parser<'t, 'a> {
     /// The name in front.
-    #[tactic(auto, unfolding(crate::specs::steps::Reading::name_at))]
+    #[tactic(auto, unfolding(crate::specs::Private::Reading::name_at))]
     pub(crate) fn name(&mut self) -> Result<Name<'a>, Misread>
         ensures read { Takes (λ x. x.text.now) result name_at self.old self.new }
         ensures made { so_far self.new ≡ so_far self.old }
@@ -27,7 +27,7 @@ impl<'t, 'a> Parser<'t, 'a> {
     }
 
     /// The constant in front.
-    #[tactic(auto, unfolding(crate::specs::steps::Reading::number_at))]
+    #[tactic(auto, unfolding(crate::specs::Private::Reading::number_at))]
     fn number(&mut self) -> Result<Number, Misread>
         ensures read { Takes (λ x. x.value) result number_at self.old self.new }
         ensures made { so_far self.new ≡ so_far self.old }
@@ -45,7 +45,7 @@ impl<'t, 'a> Parser<'t, 'a> {
     }
 
     /// The value in front.
-    #[tactic(auto, unfolding(crate::specs::steps::Reading::value_at))]
+    #[tactic(auto, unfolding(crate::specs::Private::Reading::value_at))]
     pub(crate) fn value(&mut self) -> Result<Late<'a>, Misread>
         ensures read { Takes late_of result (value_at (so_far self.old)) self.old self.new }
         ensures made { so_far self.new ≡ so_far self.old }
@@ -69,7 +69,7 @@ impl<'t, 'a> Parser<'t, 'a> {
     }
 
     /// A size and its closing bracket.
-    #[tactic(auto, unfolding(crate::specs::steps::Reading::size_at))]
+    #[tactic(auto, unfolding(crate::specs::Private::Reading::size_at))]
     pub(crate) fn size(&mut self) -> Result<Late<'a>, Misread>
         ensures read { Takes late_of result (size_at (so_far self.old)) self.old self.new }
         ensures made { so_far self.new ≡ so_far self.old }
@@ -80,7 +80,7 @@ impl<'t, 'a> Parser<'t, 'a> {
     }
 
     /// What stands between `<` and `>`, and the `>`.
-    #[tactic(auto, unfolding(crate::specs::steps::Reading::limit_at))]
+    #[tactic(auto, unfolding(crate::specs::Private::Reading::limit_at))]
     pub(crate) fn limit(&mut self) -> Result<Option<Late<'a>>, Misread>
         ensures read { Takes (λ x. option_map late_of x) result (limit_at (so_far self.old)) self.old self.new }
         ensures made { so_far self.new ≡ so_far self.old }
@@ -94,7 +94,7 @@ impl<'t, 'a> Parser<'t, 'a> {
     }
 
     /// What stands between `=` and `;`, and both.
-    #[tactic(auto, unfolding(crate::specs::steps::Reading::numbered_at))]
+    #[tactic(auto, unfolding(crate::specs::Private::Reading::numbered_at))]
     pub(crate) fn numbered(&mut self) -> Result<Number, Misread>
         ensures read { Takes (λ x. x.value) result numbered_at self.old self.new }
         ensures made { so_far self.new ≡ so_far self.old }
@@ -106,7 +106,7 @@ impl<'t, 'a> Parser<'t, 'a> {
     }
 
     /// The token in front is the word of a floating kind.
-    #[tactic(auto, unfolding(crate::specs::steps::Reading::name_at))]
+    #[tactic(auto, unfolding(crate::specs::Private::Reading::name_at))]
     fn is_floating(&self) -> bool
         ensures { result ≡ true → name_at (left self.now) ≡ None }
     {
@@ -119,7 +119,7 @@ impl<'t, 'a> Parser<'t, 'a> {
     }
 
     /// Takes `int`, or `long`, which stands for the same.
-    #[tactic(auto, unfolding(crate::specs::steps::Reading::int_at))]
+    #[tactic(auto, unfolding(crate::specs::Private::Reading::int_at))]
     fn int(&mut self) -> bool
         ensures yes { result ≡ true → int_at (left self.old) ≡ Some (left self.new) }
         ensures no { result ≡ false → int_at (left self.old) ≡ None }
@@ -130,7 +130,7 @@ impl<'t, 'a> Parser<'t, 'a> {
     }
 
     /// A basic type or the name of a type, with or without `struct`.
-    #[tactic(auto, unfolding(crate::specs::steps::Reading::basic_at))]
+    #[tactic(auto, unfolding(crate::specs::Private::Reading::basic_at))]
     pub(crate) fn basic(&mut self) -> Result<Part<'a>, Misread>
         ensures read { Takes part_of result basic_at self.old self.new }
         ensures made { so_far self.new ≡ so_far self.old }

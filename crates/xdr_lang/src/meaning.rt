@@ -55,7 +55,7 @@ fn meaning(alloc: Global, outline: &Outline<'_>) -> Result<Listed, Fault>
 }
 
 /// The same, where no name is there twice.
-#[tactic(auto, unfolding(crate::specs::steps::Meaning::distinct_meaning))]
+#[tactic(auto, unfolding(crate::specs::Private::Meaning::distinct_meaning))]
 fn distinct_meaning(alloc: Global, outline: &Outline<'_>) -> Result<Listed, Fault>
     ensures { Gives listed_of result (distinct_meaning (outline_of outline.now)) }
 {

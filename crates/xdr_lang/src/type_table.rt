@@ -222,7 +222,7 @@ fn is_in(names: &BTreeSet<&str>, name: &str) -> bool
 }
 
 /// A type whose name is among these is another name for one of them.
-#[tactic(auto, unfolding(crate::specs::steps::Tables::stays_in))]
+#[tactic(auto, unfolding(crate::specs::Private::Tables::stays_in))]
 fn stays(field: &Field<'_>, names: &BTreeSet<&str>) -> bool
     ensures { result ≡ stays_in names.now (field_of field.now) }
 {
@@ -236,7 +236,7 @@ fn stays(field: &Field<'_>, names: &BTreeSet<&str>) -> bool
 }
 
 /// The same of all types.
-#[tactic(auto, unfolding(crate::specs::steps::Tables::all_stay))]
+#[tactic(auto, unfolding(crate::specs::Private::Tables::all_stay))]
 fn all_stay(types: &[Field<'_>], names: &BTreeSet<&str>) -> bool
     ensures { result ≡ all_stay names.now (types_of types.now) }
 {

@@ -46,7 +46,7 @@ fn mark_at(byte: u8) -> Option<Mark>
 }
 
 /// What follows a comment, after its `/`.
-#[tactic(auto, unfolding(crate::specs::steps::Front::comment_at))]
+#[tactic(auto, unfolding(crate::specs::Private::Front::comment_at))]
 fn comment(text: &[u8]) -> Option<&[u8]>
     ensures { MatchOption result (comment_at text.now ≡ None) (λ rest. comment_at text.now ≡ Some rest.now) }
 {
@@ -83,7 +83,7 @@ fn numeral(text: &[u8], len: usize) -> Result<(Option<Token<'_>>, &[u8]), Fault>
 }
 
 /// The token in front, or none at white space and comments, and what follows.
-#[tactic(auto, unfolding(crate::specs::steps::Front::piece_at))]
+#[tactic(auto, unfolding(crate::specs::Private::Front::piece_at))]
 fn piece(text: &[u8]) -> Result<(Option<Token<'_>>, &[u8]), Fault>
     requires { 1 ≤ length text.now }
     ensures read { Gives (λ x. (option_map lexeme x.0, x.1.now)) result (piece_at text.now) }
