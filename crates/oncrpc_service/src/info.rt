@@ -17,10 +17,10 @@ use oncrpc_tasks::{Answer, Failure, line_of, report};
 use rpc_directory::directory_schema;
 use rpc_engine::{ClientFault, exchange};
 use rpc_message::{Call, OpaqueAuth, Reply, Status};
-use std::alloc::{AllocError, Global};
+use std::alloc::Global;
 use xdr_codec::{DecodeFault, Reason, decode};
 use xdr_io::{Sink, Source, write_whole};
-use xdr_types::{KindId, Limits, Value};
+use xdr_types::{KindId, Limits, NoMemory, Value};
 
 /// The registry's program (RFC 1833 section 2).
 const PROGRAM: u32 = 100000;
@@ -187,7 +187,7 @@ fn refusal_page(alloc: Global, fault: DecodeFault) -> Result<Page, Failure>
 }
 
 // A header, and a line for each row.
-fn list_page(alloc: Global, vers: u32, list: &Value) -> Result<Page, AllocError>
+fn list_page(alloc: Global, vers: u32, list: &Value) -> Result<Page, NoMemory>
     ensures { IfOk result (λ p. (p.status ≡ 0)
         × (p.text.items ≡ header vers ++ list_lines (tree list.now).0 (tree list.now).1)) }
 {

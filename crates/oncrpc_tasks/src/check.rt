@@ -14,11 +14,11 @@ ghost use Rattle.oncrpc_tasks.specs.Right.{IsRight, IsRightFor, lines_of};
 use super::answer::{Answer, line_of, status_of};
 use super::failure::{Failure, report};
 use super::given::{Given, given_over};
-use std::alloc::{AllocError, Global};
+use std::alloc::Global;
 use xdr_codec::{Reason, decode};
 use xdr_io::{Sink, Source, write_whole};
 use xdr_show::show;
-use xdr_types::{KindId, Limits, Schema, Value};
+use xdr_types::{KindId, Limits, NoMemory, Schema, Value};
 
 /// Checks that the input begins with a value of the kind, and prints one line: `ok N`, or `ok N, more follows` where
 /// at least one more byte can be read, status 0; `refused WHY at N`, status 1. With `hex` the input is a text of
@@ -186,7 +186,7 @@ fn shown_of(
     limits: Limits,
     shows: bool,
     value: &Value,
-) -> Result<Vec<u8>, AllocError>
+) -> Result<Vec<u8>, NoMemory>
     requires { FitsWithin schema.now.kinds kind.place limits (tree value.now) }
     ensures { IfOk result (λ v. v.items
         ≡ lines_of (record { kinds = schema.now.kinds; place = kind.place; limits = limits; shows = shows })

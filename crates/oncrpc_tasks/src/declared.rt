@@ -6,10 +6,10 @@ ghost use Rattle.oncrpc_tasks.specs.Sources.{bare, Declares, FileFails, HasNone,
 use super::failure::Failure;
 use super::open::Opener;
 use super::unusable::Unusable;
-use std::alloc::{AllocError, Global};
+use std::alloc::Global;
 use xdr_io::read_past;
 use xdr_lang::{Declared, MAX_TEXT, read};
-use xdr_types::Schema;
+use xdr_types::{NoMemory, Schema};
 
 /// What the file's text declares, or the basic schema alone where no file is named. A text is read until more than
 /// 262144 bytes of it are there.
@@ -51,7 +51,7 @@ fn declared_in<P: Opener>(
     }
 }
 
-fn bare(alloc: Global) -> Result<Declared, AllocError>
+fn bare(alloc: Global) -> Result<Declared, NoMemory>
     ensures { IfOk result (λ d. declared_of d ≡ bare) }
 {
     Ok(Declared {

@@ -44,6 +44,14 @@ impl From<Cut> for Failure {
     }
 }
 
+impl From<xdr_types::NoMemory> for Failure {
+    ghost from_gives = { λ _ f. f ≡ NoMemory };
+
+    fn from(_: xdr_types::NoMemory) -> Failure {
+        Failure::NoMemory
+    }
+}
+
 impl From<AllocError> for Failure {
     ghost from_gives = { λ _ f. f ≡ NoMemory };
 

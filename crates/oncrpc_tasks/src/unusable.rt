@@ -38,6 +38,14 @@ impl From<InputFault> for Unusable {
     }
 }
 
+impl From<xdr_types::NoMemory> for Unusable {
+    ghost from_gives = { λ _ u. u ≡ Failed NoMemory };
+
+    fn from(_: xdr_types::NoMemory) -> Unusable {
+        Unusable::Failed(Failure::NoMemory)
+    }
+}
+
 impl From<AllocError> for Unusable {
     ghost from_gives = { λ _ u. u ≡ Failed NoMemory };
 

@@ -14,7 +14,8 @@ use crate::transport::Transport;
 use crate::versions::push_accepted;
 use rpc_directory::Directory;
 use rpc_message::{LentCall, LentRead, read_lent_call};
-use std::alloc::{AllocError, Global};
+use std::alloc::Global;
+use xdr_units::NoMemory;
 use std::hash::BuildHasher;
 
 /// What a record is answered with.
@@ -112,7 +113,7 @@ fn push_answer<S: BuildHasher>(
 }
 
 /// What was written, where memory may have been refused.
-fn written(xid: u32, added: Result<(), AllocError>) -> Appended
+fn written(xid: u32, added: Result<(), NoMemory>) -> Appended
     ensures { result ≡ appended_of xid added }
 {
     match added {
@@ -129,7 +130,7 @@ fn push_call<S: BuildHasher>(
     transport: Transport,
     call: &LentCall<'_>,
     out: &mut Vec<u8>,
-) -> Result<(), AllocError>
+) -> Result<(), NoMemory>
     requires { IsWord call.now.xid }
     ensures ok { let c = lent_call_view call.now in
         OnOk result (PushesCall directory.old (netid_of transport) c out.old.items directory.new out.new.items) }
@@ -139,6 +140,6 @@ fn push_call<S: BuildHasher>(
     match caller_of(alloc, &call.cred) {
         Ok(Caller::Owner(owner)) => push_accepted(alloc, directory, transport, owner, call, out),
         Ok(Caller::Refused(stat)) => push_auth_error(out, call.xid, stat),
-        Err(_) => Err(AllocError),
+        Err(_) => Err(NoMemory),
     }
 }

@@ -10,16 +10,15 @@ ghost use Rattle.rpc_answer.specs.Private.Pushes.{row_bytes, mapping_bytes, mapp
 
 use crate::replies::push_text;
 use rpc_directory::{Directory, Row, Uaddr, read_uaddr};
-use std::alloc::AllocError;
 use std::hash::BuildHasher;
-use xdr_units::push_word;
+use xdr_units::{NoMemory, push_word};
 
 /// Writes all rows in order as an `rpcblist` (RFC 1833 section 2.2.1, RPCBPROC_DUMP).
 #[tactic(auto, using(crate::proofs::Chains::begins_then))]
 pub fn push_rows<S: BuildHasher>(
     directory: &Directory<S>,
     out: &mut Vec<u8>,
-) -> Result<(), AllocError>
+) -> Result<(), NoMemory>
     ensures ok { OnOk result (out.new.items ≡ out.old.items ++ bytes_of dir_kinds 14 (rpcb_list directory.now)) }
     ensures few { length (bytes_of dir_kinds 14 (rpcb_list directory.now)) ≤ 16777216 }
     ensures begins { StartsWith out.new.items out.old.items }
@@ -37,7 +36,7 @@ pub fn push_rows<S: BuildHasher>(
 
 /// Writes that a row follows, and the row.
 #[tactic(auto, using(crate::proofs::Chains::begins_then))]
-fn push_row(row: &Row, out: &mut Vec<u8>) -> Result<(), AllocError>
+fn push_row(row: &Row, out: &mut Vec<u8>) -> Result<(), NoMemory>
     requires { IsRow (plain_row row.now) }
     ensures ok { OnOk result (out.new.items ≡ out.old.items ++ row_bytes (plain_row row.now)) }
     ensures begins { StartsWith out.new.items out.old.items }
@@ -57,7 +56,7 @@ fn push_row(row: &Row, out: &mut Vec<u8>) -> Result<(), AllocError>
 pub fn push_mappings<S: BuildHasher>(
     directory: &Directory<S>,
     out: &mut Vec<u8>,
-) -> Result<(), AllocError>
+) -> Result<(), NoMemory>
     ensures ok { OnOk result (out.new.items ≡ out.old.items ++ bytes_of dir_kinds 18 (mapping_list directory.now)) }
     ensures few { length (bytes_of dir_kinds 18 (mapping_list directory.now)) ≤ 16777216 }
     ensures begins { StartsWith out.new.items out.old.items }
@@ -75,7 +74,7 @@ pub fn push_mappings<S: BuildHasher>(
 
 /// Writes that a mapping follows, and the mapping, where the row has one.
 #[tactic(auto, using(crate::proofs::Chains::begins_then))]
-fn push_mapping(row: &Row, out: &mut Vec<u8>) -> Result<(), AllocError>
+fn push_mapping(row: &Row, out: &mut Vec<u8>) -> Result<(), NoMemory>
     ensures ok { OnOk result (out.new.items ≡ out.old.items ++ mapping_bytes (plain_row row.now)) }
     ensures begins { StartsWith out.new.items out.old.items }
 {
@@ -92,7 +91,7 @@ fn push_mapping_at(
     prot: u32,
     address: Uaddr,
     out: &mut Vec<u8>,
-) -> Result<(), AllocError>
+) -> Result<(), NoMemory>
     ensures ok { OnOk result (out.new.items ≡ out.old.items ++ mapping_at_bytes (plain_row row.now) prot address) }
     ensures begins { StartsWith out.new.items out.old.items }
 {

@@ -17,13 +17,13 @@ use crate::replies::{push_head, push_text};
 use crate::transport::Transport;
 use itoa::Buffer;
 use rpc_directory::Directory;
-use std::alloc::{AllocError, Global};
+use std::alloc::Global;
 use std::hash::BuildHasher;
-use xdr_units::push_word;
+use xdr_units::{NoMemory, push_word};
 
 /// Writes a successful reply whose result is FALSE.
 #[tactic(auto, using(crate::proofs::Chains::begins_then))]
-fn push_false(out: &mut Vec<u8>, xid: u32) -> Result<(), AllocError>
+fn push_false(out: &mut Vec<u8>, xid: u32) -> Result<(), NoMemory>
     ensures ok { OnOk result (out.new.items ≡ out.old.items ++ (head xid 0 ++ num4 (number_of false))) }
     ensures begins { StartsWith out.new.items out.old.items }
 {
@@ -53,7 +53,7 @@ pub fn push_set_port<S: BuildHasher>(
     xid: u32,
     m: Mapping,
     out: &mut Vec<u8>,
-) -> Result<(), AllocError>
+) -> Result<(), NoMemory>
     ensures ok { let step = set_port directory.old m.prog m.vers m.prot m.port (owner_text owner) in
         OnOk result (Tells step xid out.old.items directory.new out.new.items) }
     ensures err { OnErr result (directory.new ≡ directory.old) }
@@ -67,7 +67,7 @@ pub fn push_set_port<S: BuildHasher>(
             tell(out, done);
             Ok(())
         }
-        Err(_) => Err(AllocError),
+        Err(_) => Err(NoMemory),
     }
 }
 
@@ -79,7 +79,7 @@ pub fn push_unset_port<S: BuildHasher>(
     xid: u32,
     m: Mapping,
     out: &mut Vec<u8>,
-) -> Result<(), AllocError>
+) -> Result<(), NoMemory>
     ensures ok { let step = unset_port directory.old m.prog m.vers (owner_text owner) in
         OnOk result (Tells step xid out.old.items directory.new out.new.items) }
     ensures err { OnErr result (directory.new ≡ directory.old) }
@@ -100,7 +100,7 @@ pub fn push_port<S: BuildHasher>(
     xid: u32,
     m: Mapping,
     out: &mut Vec<u8>,
-) -> Result<(), AllocError>
+) -> Result<(), NoMemory>
     ensures ok { let port = get_port directory.now m.prog m.vers m.prot in
         OnOk result (out.new.items ≡ out.old.items ++ (head xid 0 ++ word port)) }
     ensures begins { StartsWith out.new.items out.old.items }
@@ -119,7 +119,7 @@ pub fn push_set<S: BuildHasher>(
     xid: u32,
     r: Rpcb<'_>,
     out: &mut Vec<u8>,
-) -> Result<(), AllocError>
+) -> Result<(), NoMemory>
     ensures ok { let row = row_of r.entry.prog r.entry.vers r.entry.netid.now r.entry.address.now (owner_text owner) in
         OnOk result (Tells (set directory.old row) xid out.old.items directory.new out.new.items) }
     ensures err { OnErr result (directory.new ≡ directory.old) }
@@ -133,7 +133,7 @@ pub fn push_set<S: BuildHasher>(
             tell(out, done);
             Ok(())
         }
-        Err(_) => Err(AllocError),
+        Err(_) => Err(NoMemory),
     }
 }
 
@@ -145,7 +145,7 @@ pub fn push_unset<S: BuildHasher>(
     xid: u32,
     r: Rpcb<'_>,
     out: &mut Vec<u8>,
-) -> Result<(), AllocError>
+) -> Result<(), NoMemory>
     ensures ok { let step = unset directory.old r.entry.prog r.entry.vers r.entry.netid.now (owner_text owner) in
         OnOk result (Tells step xid out.old.items directory.new out.new.items) }
     ensures err { OnErr result (directory.new ≡ directory.old) }
@@ -167,7 +167,7 @@ pub fn push_address<S: BuildHasher>(
     xid: u32,
     r: Rpcb<'_>,
     out: &mut Vec<u8>,
-) -> Result<(), AllocError>
+) -> Result<(), NoMemory>
     ensures ok { let address = getaddr directory.now r.entry.prog r.entry.vers (netid_of transport) in
         OnOk result (out.new.items ≡ out.old.items ++ (head xid 0 ++ text address)) }
     ensures few { length (getaddr directory.now r.entry.prog r.entry.vers (netid_of transport)) ≤ 256 }

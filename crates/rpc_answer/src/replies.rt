@@ -8,13 +8,12 @@ ghost use Rattle.rpc_answer.specs.Answer.{auth_error};
 ghost use Rattle.rpc_answer.specs.Private.Parsed.{text};
 ghost use Rattle.rpc_answer.specs.Private.Pushes.{head};
 
-use std::alloc::AllocError;
-use xdr_units::{push_padded, push_word};
+use xdr_units::{NoMemory, push_padded, push_word};
 
 /// Writes the length of a text, its bytes, and zeros up to a multiple of four (RFC 4506 section 4.11). The text is
 /// shorter than 2^32 bytes.
 #[tactic(auto, using(crate::proofs::Chains::begins_then))]
-pub fn push_text(out: &mut Vec<u8>, content: &[u8]) -> Result<(), AllocError>
+pub fn push_text(out: &mut Vec<u8>, content: &[u8]) -> Result<(), NoMemory>
     requires { length content.now < 2 ^ 32 }
     ensures ok { OnOk result (out.new.items ≡ out.old.items ++ text content.now) }
     ensures begins { StartsWith out.new.items out.old.items }
@@ -26,7 +25,7 @@ pub fn push_text(out: &mut Vec<u8>, content: &[u8]) -> Result<(), AllocError>
 /// Writes the words of an accepted reply up to its number, `accept_stat`. Its verifier is AUTH_NONE with an empty body
 /// (RFC 5531 section 9).
 #[tactic(auto, using(crate::proofs::Chains::begins_then))]
-pub fn push_head(out: &mut Vec<u8>, xid: u32, stat: u32) -> Result<(), AllocError>
+pub fn push_head(out: &mut Vec<u8>, xid: u32, stat: u32) -> Result<(), NoMemory>
     ensures ok { OnOk result (out.new.items ≡ out.old.items ++ head xid stat) }
     ensures fits { IsWord xid }
     ensures begins { StartsWith out.new.items out.old.items }
@@ -42,7 +41,7 @@ pub fn push_head(out: &mut Vec<u8>, xid: u32, stat: u32) -> Result<(), AllocErro
 
 /// Writes a reply that denies a call for an `auth_stat` (RFC 5531 section 9).
 #[tactic(auto, using(crate::proofs::Chains::begins_then))]
-pub fn push_auth_error(out: &mut Vec<u8>, xid: u32, stat: u32) -> Result<(), AllocError>
+pub fn push_auth_error(out: &mut Vec<u8>, xid: u32, stat: u32) -> Result<(), NoMemory>
     ensures ok { OnOk result (out.new.items ≡ out.old.items ++ reply (auth_error xid stat)) }
     ensures fits { IsWord xid }
     ensures stat { IsWord stat }
@@ -57,7 +56,7 @@ pub fn push_auth_error(out: &mut Vec<u8>, xid: u32, stat: u32) -> Result<(), All
 
 /// Writes the reply to a call of another version of RPC: version 2 alone is spoken here (RFC 5531 section 9).
 #[tactic(auto, using(crate::proofs::Chains::begins_then))]
-pub fn push_rpc_mismatch(out: &mut Vec<u8>, xid: u32) -> Result<(), AllocError>
+pub fn push_rpc_mismatch(out: &mut Vec<u8>, xid: u32) -> Result<(), NoMemory>
     ensures ok { OnOk result (out.new.items ≡ out.old.items ++ reply (Denied xid (RpcMismatch 2 2))) }
     ensures fits { IsWord xid }
     ensures begins { StartsWith out.new.items out.old.items }

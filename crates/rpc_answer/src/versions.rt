@@ -20,9 +20,9 @@ use crate::replies::push_head;
 use crate::transport::Transport;
 use rpc_directory::Directory;
 use rpc_message::LentCall;
-use std::alloc::{AllocError, Global};
+use std::alloc::Global;
 use std::hash::BuildHasher;
-use xdr_units::push_word;
+use xdr_units::{NoMemory, push_word};
 
 /// The registry's program (RFC 1833 section 2).
 const PROGRAM: u32 = 100000;
@@ -48,7 +48,7 @@ pub fn push_accepted<S: BuildHasher>(
     owner: Owner,
     call: &LentCall<'_>,
     out: &mut Vec<u8>,
-) -> Result<(), AllocError>
+) -> Result<(), NoMemory>
     ensures ok { let c = lent_call_view call.now in OnOk result
         (PushesStatus directory.old (netid_of transport) (owner_text owner) c out.old.items directory.new
         out.new.items) }
@@ -68,7 +68,7 @@ pub fn push_accepted<S: BuildHasher>(
 
 /// Writes the reply to a call of a version that is not here: 2 to 4 are.
 #[tactic(auto, using(crate::proofs::Chains::begins_then))]
-fn push_prog_mismatch(out: &mut Vec<u8>, xid: u32) -> Result<(), AllocError>
+fn push_prog_mismatch(out: &mut Vec<u8>, xid: u32) -> Result<(), NoMemory>
     ensures ok { OnOk result (out.new.items ≡ out.old.items ++ reply (accepted xid (ProgMismatch 2 4))) }
     ensures begins { StartsWith out.new.items out.old.items }
 {
@@ -87,7 +87,7 @@ fn push_version_2<S: BuildHasher>(
     owner: Owner,
     call: &LentCall<'_>,
     out: &mut Vec<u8>,
-) -> Result<(), AllocError>
+) -> Result<(), NoMemory>
     requires prog { call.now.prog ≡ program }
     requires vers { call.now.vers ≡ 2 }
     ensures ok { let c = lent_call_view call.now in OnOk result
@@ -120,7 +120,7 @@ fn push_on_mapping<S: BuildHasher>(
     call: &LentCall<'_>,
     m: Mapping,
     out: &mut Vec<u8>,
-) -> Result<(), AllocError>
+) -> Result<(), NoMemory>
     requires prog { call.now.prog ≡ program }
     requires vers { call.now.vers ≡ 2 }
     requires least { 1 ≤ call.now.proc }
@@ -149,7 +149,7 @@ fn push_version_3<S: BuildHasher>(
     owner: Owner,
     call: &LentCall<'_>,
     out: &mut Vec<u8>,
-) -> Result<(), AllocError>
+) -> Result<(), NoMemory>
     requires prog { call.now.prog ≡ program }
     requires least_vers { 3 ≤ call.now.vers }
     requires greatest_vers { call.now.vers ≤ 4 }
@@ -183,7 +183,7 @@ fn push_on_rpcb<S: BuildHasher>(
     call: &LentCall<'_>,
     r: Rpcb<'_>,
     out: &mut Vec<u8>,
-) -> Result<(), AllocError>
+) -> Result<(), NoMemory>
     requires prog { call.now.prog ≡ program }
     requires least_vers { 3 ≤ call.now.vers }
     requires greatest_vers { call.now.vers ≤ 4 }

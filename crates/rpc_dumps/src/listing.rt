@@ -6,12 +6,12 @@ ghost use Rattle.rpc_dumps.specs.Dumps.{rpcb_tree, mapping_tree, mapping_row, gi
 
 use rpc_rows::Row;
 use rpc_uaddr::{Uaddr, read_uaddr};
-use std::alloc::{AllocError, Global};
+use std::alloc::Global;
 use std::boxed::Box;
-use xdr_types::Value;
+use xdr_types::{NoMemory, Value};
 
 /// The row as an `rpcb` (RFC 1833 section 2.1).
-pub fn rpcb(alloc: Global, row: &Row) -> Result<Value, AllocError>
+pub fn rpcb(alloc: Global, row: &Row) -> Result<Value, NoMemory>
     ensures { IfOk result (λ v. tree v ≡ rpcb_tree (plain_row row.now)) }
 {
     let mut parts = Vec::with_capacity(alloc, 5)?;
@@ -25,7 +25,7 @@ pub fn rpcb(alloc: Global, row: &Row) -> Result<Value, AllocError>
 
 /// The row as a `mapping` (RFC 1833 section 3.1), where it is over `tcp` or `udp` and its address is a universal
 /// address over IPv4.
-pub fn mapping(alloc: Global, row: &Row) -> Result<Option<Value>, AllocError>
+pub fn mapping(alloc: Global, row: &Row) -> Result<Option<Value>, NoMemory>
     ensures { IfOk result (λ v. option_map tree v ≡ mapping_row (plain_row row.now)) }
 {
     let prot = match prot_of(&row.netid) {
@@ -39,7 +39,7 @@ pub fn mapping(alloc: Global, row: &Row) -> Result<Option<Value>, AllocError>
 }
 
 // The row as a mapping with the transport's number and the address's port.
-fn mapping_at(alloc: Global, row: &Row, prot: u32, address: Uaddr) -> Result<Value, AllocError>
+fn mapping_at(alloc: Global, row: &Row, prot: u32, address: Uaddr) -> Result<Value, NoMemory>
     ensures { IfOk result (λ v. tree v ≡ mapping_tree (plain_row row.now) prot address) }
 {
     let mut parts = Vec::with_capacity(alloc, 4)?;
@@ -64,7 +64,7 @@ fn prot_of(netid: &[u8]) -> Option<u32>
 }
 
 /// A chain of optional nodes with one more value at its front (RFC 4506 section 4.19).
-pub fn linked(alloc: Global, first: Value, rest: Value) -> Result<Value, AllocError>
+pub fn linked(alloc: Global, first: Value, rest: Value) -> Result<Value, NoMemory>
     ensures { IfOk result (λ v. tree v ≡ given (group (tree first ∷ tree rest ∷ []))) }
 {
     let mut parts = Vec::with_capacity(alloc, 2)?;

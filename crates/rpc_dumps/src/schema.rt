@@ -8,15 +8,15 @@ ghost use Rattle.xdr_types.specs.declared.fault.Flaw.TheVariants as flaw;
 ghost use Rattle.xdr_types.specs.Named.{basic, named};
 ghost use Rattle.rpc_dumps.specs.Dir.{dir_kinds, dir_lists, rpcb, mapping};
 
-use std::alloc::{AllocError, Global};
+use std::alloc::Global;
 use std::string::String;
-use xdr_types::{Kind, KindId, Member, Schema, SchemaFault};
+use xdr_types::{Kind, KindId, Member, NoMemory, Schema, SchemaFault};
 
 /// The schema of the registry's types (RFC 1833 sections 2.1 and 3.1), after the basic kinds: places 8 to 10 the
 /// strings of `rpcb`, 11 `rpcb`, 12 an optional node, 13 `rp__list`, 14 `rpcblist`, 15 `mapping`, 16 an optional node,
 /// 17 `pm__list`, 18 `pmaplist`. The lists are well formed and sound, so that the only error is want of memory.
 #[tactic(auto, using(crate::proofs::Legal::well_formed, crate::proofs::Legal::sound))]
-pub fn directory_schema(alloc: Global) -> Result<Schema, AllocError>
+pub fn directory_schema(alloc: Global) -> Result<Schema, NoMemory>
     ensures schema { IfOk result (λ s. s ≡ dir_lists) }
     ensures well_formed { IsWellFormed dir_lists }
     ensures sound { IsSound dir_kinds }
@@ -25,7 +25,7 @@ pub fn directory_schema(alloc: Global) -> Result<Schema, AllocError>
     let names = dir_names(alloc)?;
     match build_lists(alloc, kinds, names) {
         Ok(schema) => Ok(schema),
-        Err(_) => Err(AllocError),
+        Err(_) => Err(NoMemory),
     }
 }
 
@@ -42,7 +42,7 @@ fn build_lists(
 }
 
 // The names of the basic kinds.
-fn basic_names(alloc: Global) -> Result<Vec<(String, KindId)>, AllocError>
+fn basic_names(alloc: Global) -> Result<Vec<(String, KindId)>, NoMemory>
     ensures { IfOk result (λ v. map name_of v.items ≡ basic.names) }
 {
     let mut names = Vec::with_capacity(alloc, 13)?;
@@ -57,7 +57,7 @@ fn basic_names(alloc: Global) -> Result<Vec<(String, KindId)>, AllocError>
 }
 
 // All names, the basic ones first.
-fn dir_names(alloc: Global) -> Result<Vec<(String, KindId)>, AllocError>
+fn dir_names(alloc: Global) -> Result<Vec<(String, KindId)>, NoMemory>
     ensures { IfOk result (λ v. map name_of v.items ≡ dir_lists.names) }
 {
     let mut names = basic_names(alloc)?;
@@ -76,7 +76,7 @@ fn push_name(
     alloc: Global,
     name: &str,
     place: u32,
-) -> Result<(), AllocError>
+) -> Result<(), NoMemory>
     ensures { OnOk result (map name_of names.new.items ≡ map name_of names.old.items ++ named name.now place ∷ []) }
 {
     names.push((String::from_str(alloc, name)?, KindId { place }))?;
@@ -84,7 +84,7 @@ fn push_name(
 }
 
 // A row of versions 3 and 4.
-fn rpcb_kind(alloc: Global) -> Result<Kind, AllocError>
+fn rpcb_kind(alloc: Global) -> Result<Kind, NoMemory>
     ensures { IfOk result (λ k. kind_view k ≡ rpcb) }
 {
     let mut fields = Vec::with_capacity(alloc, 5)?;
@@ -102,7 +102,7 @@ fn push_field(
     alloc: Global,
     name: &str,
     place: u32,
-) -> Result<(), AllocError>
+) -> Result<(), NoMemory>
     ensures { let part = named name.now place in
         OnOk result (map part_of_member fields.new.items ≡ map part_of_member fields.old.items ++ part ∷ []) }
 {
@@ -114,7 +114,7 @@ fn push_field(
 }
 
 // The kinds, the basic ones first.
-fn dir_kinds(alloc: Global) -> Result<Vec<Kind>, AllocError>
+fn dir_kinds(alloc: Global) -> Result<Vec<Kind>, NoMemory>
     ensures { IfOk result (λ v. map kind_view v.items ≡ dir_kinds) }
 {
     let mut kinds = basic_kinds(alloc)?;
@@ -145,7 +145,7 @@ fn maybe(place: u32) -> Kind
 }
 
 // The basic kinds.
-fn basic_kinds(alloc: Global) -> Result<Vec<Kind>, AllocError>
+fn basic_kinds(alloc: Global) -> Result<Vec<Kind>, NoMemory>
     ensures { IfOk result (λ v. map kind_view v.items ≡ basic.kinds) }
 {
     let mut kinds = Vec::with_capacity(alloc, 19)?;
@@ -161,7 +161,7 @@ fn basic_kinds(alloc: Global) -> Result<Vec<Kind>, AllocError>
 }
 
 // Adds a kind.
-fn push_kind(kinds: &mut Vec<Kind>, kind: Kind) -> Result<(), AllocError>
+fn push_kind(kinds: &mut Vec<Kind>, kind: Kind) -> Result<(), NoMemory>
     ensures { OnOk result (map kind_view kinds.new.items ≡ map kind_view kinds.old.items ++ kind_view kind ∷ []) }
 {
     kinds.push(kind)?;
@@ -175,7 +175,7 @@ fn node_kind(
     place: u32,
     next: &str,
     after: u32,
-) -> Result<Kind, AllocError>
+) -> Result<Kind, NoMemory>
     ensures { IfOk result (λ k. kind_view k ≡ xdr.structure (named item.now place ∷ named next.now after ∷ [])) }
 {
     let mut fields = Vec::with_capacity(alloc, 2)?;
@@ -185,7 +185,7 @@ fn node_kind(
 }
 
 // A row of version 2.
-fn mapping_kind(alloc: Global) -> Result<Kind, AllocError>
+fn mapping_kind(alloc: Global) -> Result<Kind, NoMemory>
     ensures { IfOk result (λ k. kind_view k ≡ mapping) }
 {
     let mut fields = Vec::with_capacity(alloc, 4)?;

@@ -14,7 +14,7 @@ use rpc_message::{Call, Reply, ReplyFault, read_reply, write_call};
 use rpc_record::{
     RecordFault, RecordReader, RecordStep, mark, no_record_begins_another, too_long_ends_the_stream,
 };
-use std::alloc::{AllocError, Global};
+use std::alloc::Global;
 use xdr_io::{MOST_READS, ReadFault, Sink, Source, write_whole};
 
 /// The most bytes of a reply that is kept.

@@ -11,7 +11,7 @@ ghost use Rattle.rpc_message.specs.Private.Reading.{ReadsOrNoMemory, is_memory, 
 use crate::fault::ReplyFault;
 use crate::fields::{opaque_at, push_opaque, word_at};
 use crate::message::AuthSys;
-use std::alloc::{AllocError, Global};
+use std::alloc::Global;
 use xdr_units::{NoMemory, push_word};
 
 /// So many words from the front.
@@ -94,7 +94,7 @@ pub fn read_auth_sys(alloc: Global, bytes: &[u8]) -> Result<Option<AuthSys>, NoM
 
 /// Writes each word.
 #[tactic(auto, using(crate::proofs::Loop::words_more))]
-fn push_words(out: &mut Vec<u8>, words: &[u32]) -> Result<(), AllocError>
+fn push_words(out: &mut Vec<u8>, words: &[u32]) -> Result<(), NoMemory>
     ensures ok { OnOk result (out.new.items ≡ out.old.items ++ flat_map word words.now) }
     ensures fits { OnOk result (All IsWord words.now) }
 {

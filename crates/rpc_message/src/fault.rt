@@ -5,6 +5,7 @@ ghost use Rattle.rpc_message.specs.declared.fault.ReplyFault.TheVariants as faul
 
 use std::alloc::{AllocError, AllocFailed};
 use thiserror::Error;
+use xdr_units::NoMemory;
 
 /// Why bytes are no reply: the first fault in the order of the bytes (RFC 5531 sections 8.2 and 9).
 #[derive(Clone, Copy, Debug, PartialEq, Eq, Error)]
@@ -33,6 +34,14 @@ impl From<AllocError> for ReplyFault {
     ghost from_gives = { λ _ e. e ≡ faults.NoMemory };
 
     fn from(_e: AllocError) -> ReplyFault {
+        ReplyFault::NoMemory
+    }
+}
+
+impl From<NoMemory> for ReplyFault {
+    ghost from_gives = { λ _ e. e ≡ faults.NoMemory };
+
+    fn from(_e: NoMemory) -> ReplyFault {
         ReplyFault::NoMemory
     }
 }

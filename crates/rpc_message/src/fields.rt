@@ -10,8 +10,7 @@ ghost use Rattle.rpc_message.specs.Private.Reading.{Reads, word_at, opaque_at, a
 
 use crate::fault::ReplyFault;
 use crate::message::{LentAuth, OpaqueAuth};
-use std::alloc::AllocError;
-use xdr_units::{NoContent, are_zeros, first_content, first_word, push_padded, push_word};
+use xdr_units::{NoContent, NoMemory, are_zeros, first_content, first_word, push_padded, push_word};
 
 /// The word in front, its highest byte first, and what follows it.
 pub fn word_at(bytes: &[u8]) -> Result<(u32, &[u8]), ReplyFault>
@@ -65,7 +64,7 @@ pub fn auth_at(bytes: &[u8]) -> Result<(LentAuth<'_>, &[u8]), ReplyFault>
 
 /// Writes the length, the bytes, and zeros up to a multiple of four.
 #[tactic(auto, using(crate::proofs::Begins::begins_then))]
-pub fn push_opaque(out: &mut Vec<u8>, bytes: &[u8]) -> Result<(), AllocError>
+pub fn push_opaque(out: &mut Vec<u8>, bytes: &[u8]) -> Result<(), NoMemory>
     requires { length bytes.now ≤ 400 }
     ensures ok { OnOk result (out.new.items ≡ out.old.items ++ opaque bytes.now) }
     ensures begins { StartsWith out.new.items out.old.items }
@@ -76,7 +75,7 @@ pub fn push_opaque(out: &mut Vec<u8>, bytes: &[u8]) -> Result<(), AllocError>
 
 /// Writes the flavor and the body.
 #[tactic(auto, using(crate::proofs::Begins::begins_then))]
-pub fn push_auth(out: &mut Vec<u8>, a: &OpaqueAuth) -> Result<(), AllocError>
+pub fn push_auth(out: &mut Vec<u8>, a: &OpaqueAuth) -> Result<(), NoMemory>
     requires { length a.now.body.items ≤ 400 }
     ensures ok { OnOk result (out.new.items ≡ out.old.items ++ auth (auth_view a.now)) }
     ensures fits { OnOk result (IsAuth (auth_view a.now)) }

@@ -3,7 +3,8 @@
 ghost use Rattle.std.specs.Prelude.{◌≡◌, IfOk};
 ghost use Rattle.rpc_message.specs.View.{auth_view, lent_view, call_view, lent_call_view};
 
-use std::alloc::{AllocError, Global};
+use std::alloc::Global;
+use xdr_units::NoMemory;
 
 /// A flavor of authentication and its body, `opaque_auth` (section 8.2). In a message the body has at most 400
 /// bytes. Flavors that RFC 5531 does not name are kept as they are.
@@ -44,7 +45,7 @@ pub struct LentAuth<'a> {
 
 impl LentAuth<'_> {
     /// The same with a body of its own.
-    pub fn copied(self, alloc: Global) -> Result<OpaqueAuth, AllocError>
+    pub fn copied(self, alloc: Global) -> Result<OpaqueAuth, NoMemory>
         ensures { IfOk result (λ a. auth_view a ≡ lent_view self.entry) }
     {
         Ok(OpaqueAuth {
@@ -68,7 +69,7 @@ pub struct LentCall<'a> {
 
 impl LentCall<'_> {
     /// The same with parts of its own.
-    pub fn copied(self, alloc: Global) -> Result<Call, AllocError>
+    pub fn copied(self, alloc: Global) -> Result<Call, NoMemory>
         ensures { IfOk result (λ c. call_view c ≡ lent_call_view self.entry) }
     {
         Ok(Call {

@@ -13,7 +13,7 @@ ghost use Rattle.rpc_message.specs.Private.Reading.{reply_stat_at, reply_at};
 use crate::fault::ReplyFault;
 use crate::fields::{auth_at, push_auth, word_at};
 use crate::message::{Reply, Status, Why};
-use std::alloc::{AllocError, Global};
+use std::alloc::Global;
 use xdr_units::{NoMemory, push_word};
 
 /// The two numbers that end a reply.
@@ -135,7 +135,7 @@ pub fn read_reply(alloc: Global, bytes: &[u8]) -> Result<Reply, ReplyFault>
 
 /// Writes a status with its number.
 #[tactic(auto, using(crate::proofs::Begins::begins_then))]
-fn push_status(out: &mut Vec<u8>, s: &Status) -> Result<(), AllocError>
+fn push_status(out: &mut Vec<u8>, s: &Status) -> Result<(), NoMemory>
     ensures ok { OnOk result (out.new.items ≡ out.old.items ++ status (status_view s.now)) }
     ensures fits { OnOk result (IsStatus (status_view s.now)) }
     ensures begins { StartsWith out.new.items out.old.items }
@@ -143,7 +143,7 @@ fn push_status(out: &mut Vec<u8>, s: &Status) -> Result<(), AllocError>
     match s {
         Status::Success(results) => {
             push_word(out, 0)?;
-            out.extend_from_slice(results)
+            Ok(out.extend_from_slice(results)?)
         }
         Status::ProgUnavail => push_word(out, 1),
         Status::ProgMismatch { low, high } => {
@@ -159,7 +159,7 @@ fn push_status(out: &mut Vec<u8>, s: &Status) -> Result<(), AllocError>
 
 /// Writes a reason with its number.
 #[tactic(auto, using(crate::proofs::Begins::begins_then))]
-fn push_why(out: &mut Vec<u8>, w: Why) -> Result<(), AllocError>
+fn push_why(out: &mut Vec<u8>, w: Why) -> Result<(), NoMemory>
     ensures ok { OnOk result (out.new.items ≡ out.old.items ++ why (why_view w)) }
     ensures fits { OnOk result (IsWhy (why_view w)) }
     ensures begins { StartsWith out.new.items out.old.items }
@@ -179,7 +179,7 @@ fn push_why(out: &mut Vec<u8>, w: Why) -> Result<(), AllocError>
 
 /// Writes a reply.
 #[tactic(auto, using(crate::proofs::Begins::begins_then))]
-fn push_reply(out: &mut Vec<u8>, r: &Reply) -> Result<(), AllocError>
+fn push_reply(out: &mut Vec<u8>, r: &Reply) -> Result<(), NoMemory>
     requires { HasShortVerf r.now }
     ensures ok { OnOk result (out.new.items ≡ out.old.items ++ reply (reply_view r.now)) }
     ensures fits { OnOk result (IsReply (reply_view r.now)) }

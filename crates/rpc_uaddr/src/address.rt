@@ -2,7 +2,7 @@
 ghost use Rattle.std.specs.Prelude.{◌≡◌, ◌++◌, ◌∷◌, decimal, IfOk, OnOk};
 ghost use Rattle.rpc_uaddr.specs.Uaddrs.{uaddr_text};
 
-use std::alloc::{AllocError, Global};
+use std::alloc::Global;
 use xdr_units::{NoMemory, push_decimal};
 
 /// A host and a port over IPv4 (RFC 5665 section 5.2.3.3).
@@ -30,7 +30,7 @@ pub fn write_uaddr(alloc: Global, address: Uaddr) -> Result<Vec<u8>, NoMemory>
 }
 
 /// Adds a dot and a number.
-fn push_dotted(text: &mut Vec<u8>, number: u32) -> Result<(), AllocError>
+fn push_dotted(text: &mut Vec<u8>, number: u32) -> Result<(), NoMemory>
     ensures { OnOk result (text.new.items ≡ text.old.items ++ (46 ∷ decimal number)) }
 {
     text.push(b'.')?;

@@ -11,12 +11,11 @@ ghost use Rattle.xdr_types.specs.View.{tree, values};
 ghost use Rattle.xdr_types.specs.Within.{FitsWithin};
 
 use crate::pushing::push_value;
-use std::alloc::{AllocError, Global};
-use xdr_types::{KindId, Limits, Schema, Value, size};
+use std::alloc::Global;
+use xdr_types::{KindId, Limits, NoMemory, Schema, Value, size};
 
 /// The encoding of a value (RFC 4506): exactly its bytes, and no other value of the kind has them. The value fits the
-/// kind within the limits, as `fits` tells. An error is want of memory; that none comes while memory is granted is no
-/// clause, tests show it. The bytes are asked for in one growth of their count.
+/// kind within the limits, as `fits` tells. That no error comes while memory is granted is no clause, tests show it. The bytes are asked for in one growth of their count.
 ///
 /// Each level of the value takes stack: up to 0.5 MiB at depth 4096 on x86-64.
 pub fn encode(
@@ -25,7 +24,7 @@ pub fn encode(
     kind: KindId,
     value: &Value,
     limits: Limits,
-) -> Result<Vec<u8>, AllocError>
+) -> Result<Vec<u8>, NoMemory>
     requires { FitsWithin schema.now.kinds kind.place limits (tree value.now) }
     ensures bytes { IfOk result (λ b. b.items ≡ bytes_of schema.now.kinds kind.place (tree value.now)) }
     ensures only { IfOk result (λ b. (t : Tree) → Fits schema.now.kinds kind.place t
@@ -34,6 +33,6 @@ pub fn encode(
     let mut out = Vec::with_capacity(alloc, size(schema, kind, value, limits) as usize)?;
     match push_value(&mut out, schema, kind, value) {
         Ok(()) => Ok(out),
-        Err(_) => Err(AllocError),
+        Err(_) => Err(NoMemory),
     }
 }

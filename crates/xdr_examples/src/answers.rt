@@ -13,15 +13,12 @@ ghost use Rattle.xdr_types.specs.declared.fault.SchemaFault.{SchemaFault};
 ghost use Rattle.xdr_types.specs.Fits.{Fits};
 ghost use Rattle.xdr_examples.specs.Rfc.{constant};
 
-use std::alloc::{AllocError, Global};
+use std::alloc::Global;
 use std::string::String;
-use xdr_types::{
-    Arm, Flaw, Kind, KindId, Member, Schema, is_legal_tag, is_number_of, is_same_schema,
-    no_schema_has_a_fault, part_under,
-};
+use xdr_types::{Arm, Flaw, Kind, KindId, Member, NoMemory, Schema, is_legal_tag, is_number_of, is_same_schema, no_schema_has_a_fault, part_under};
 
 /// The basic schema has eight kinds.
-pub fn basic_has_eight_kinds(alloc: Global) -> Result<usize, AllocError>
+pub fn basic_has_eight_kinds(alloc: Global) -> Result<usize, NoMemory>
     ensures { IfOk result (λ n. n ≡ 8) }
 {
     let basic = Schema::basic(alloc)?;
@@ -29,7 +26,7 @@ pub fn basic_has_eight_kinds(alloc: Global) -> Result<usize, AllocError>
 }
 
 /// Its `opaque` stands at place 6.
-pub fn place_of_opaque(alloc: Global) -> Result<Option<u32>, AllocError>
+pub fn place_of_opaque(alloc: Global) -> Result<Option<u32>, NoMemory>
     ensures { IfOk result (λ place. place ≡ Some 6) }
 {
     let basic = Schema::basic(alloc)?;
@@ -37,7 +34,7 @@ pub fn place_of_opaque(alloc: Global) -> Result<Option<u32>, AllocError>
 }
 
 /// It has no name for the void kind.
-pub fn void_has_no_name(alloc: Global) -> Result<bool, AllocError>
+pub fn void_has_no_name(alloc: Global) -> Result<bool, NoMemory>
     ensures { IfOk result (λ found. found ≡ false) }
 {
     let basic = Schema::basic(alloc)?;

@@ -6,10 +6,10 @@ ghost use Rattle.xdr_types.specs.Within.{FitsWithin};
 ghost use Rattle.xdr_examples.specs.Rfc.{content, file_kinds, sillyprog, sillyprog_bytes, list_kinds, strings};
 ghost use Rattle.xdr_examples.specs.Rfc.{strings_bytes};
 
-use std::alloc::{AllocError, Global};
+use std::alloc::Global;
 use xdr_codec::{encode, encode_to};
 use xdr_io::MemorySink;
-use xdr_types::{KindId, Limits, Schema, Value};
+use xdr_types::{KindId, Limits, NoMemory, Schema, Value};
 
 // The bytes of the file of RFC 4506 section 7.
 const SILLYPROG: [u8; 48] =
@@ -21,7 +21,7 @@ pub fn encodes_the_file(
     schema: &Schema,
     value: &Value,
     limits: Limits,
-) -> Result<Vec<u8>, AllocError>
+) -> Result<Vec<u8>, NoMemory>
     requires kinds { schema.now.kinds ≡ file_kinds }
     requires value { tree value.now ≡ sillyprog }
     requires deep { 3 ≤ limits.depth }
@@ -37,7 +37,7 @@ pub fn encodes_a_list(
     schema: &Schema,
     value: &Value,
     limits: Limits,
-) -> Result<Vec<u8>, AllocError>
+) -> Result<Vec<u8>, NoMemory>
     requires kinds { schema.now.kinds ≡ list_kinds }
     requires value { tree value.now ≡ strings }
     requires deep { 6 ≤ limits.depth }
@@ -80,7 +80,7 @@ pub fn writes_a_member_as_its_number(
     kind: KindId,
     value: &Value,
     limits: Limits,
-) -> Result<Vec<u8>, AllocError>
+) -> Result<Vec<u8>, NoMemory>
     requires fits { FitsWithin schema.now.kinds kind.place limits (tree value.now) }
     requires value { (tree value.now).0 ≡ numbered (pos 5) }
     ensures { IfOk result (λ b. b.items ≡ 0 ∷ 0 ∷ 0 ∷ 5 ∷ []) }

@@ -7,9 +7,9 @@ ghost use Rattle.xdr_types.specs.View.{tree};
 ghost use Rattle.xdr_types.specs.Within.{FitsWithin};
 ghost use Rattle.xdr_examples.specs.Rfc.{constant, content, file_kinds, sillyprog, sillyprog_lines};
 
-use std::alloc::{AllocError, Global};
+use std::alloc::Global;
 use xdr_show::show;
-use xdr_types::{KindId, Limits, Schema, Value};
+use xdr_types::{KindId, Limits, NoMemory, Schema, Value};
 
 /// The file of RFC 4506 section 7: a line for each part, two spaces further in for each level.
 pub fn shows_the_file(
@@ -17,7 +17,7 @@ pub fn shows_the_file(
     schema: &Schema,
     value: &Value,
     limits: Limits,
-) -> Result<Vec<u8>, AllocError>
+) -> Result<Vec<u8>, NoMemory>
     requires kinds { schema.now.kinds ≡ file_kinds }
     requires value { tree value.now ≡ sillyprog }
     requires deep { 3 ≤ limits.depth }
@@ -34,7 +34,7 @@ pub fn shows_a_number(
     kind: KindId,
     value: &Value,
     limits: Limits,
-) -> Result<Vec<u8>, AllocError>
+) -> Result<Vec<u8>, NoMemory>
     requires fits { FitsWithin schema.now.kinds kind.place limits (tree value.now) }
     requires kind { kind_at schema.now.kinds kind.place ≡ xdr.int }
     requires value { tree value.now ≡ (int (negsuc 4), none) }
@@ -66,7 +66,7 @@ pub fn shows_a_member(
     kind: KindId,
     value: &Value,
     limits: Limits,
-) -> Result<Vec<u8>, AllocError>
+) -> Result<Vec<u8>, NoMemory>
     requires fits { FitsWithin schema.now.kinds kind.place limits (tree value.now) }
     requires kind { kind_at schema.now.kinds kind.place ≡
         xdr.numbered (constant (codes "TWO") 2 ∷ constant (codes "ONE") 1 ∷ []) }
@@ -106,7 +106,7 @@ pub fn shows_an_empty_array(
     item: KindId,
     value: &Value,
     limits: Limits,
-) -> Result<Vec<u8>, AllocError>
+) -> Result<Vec<u8>, NoMemory>
     requires fits { FitsWithin schema.now.kinds kind.place limits (tree value.now) }
     requires kind { kind_at schema.now.kinds kind.place ≡ up_to item.place 9 }
     requires value { tree value.now ≡ (items 0, none) }
@@ -123,7 +123,7 @@ pub fn shows_an_absent_item(
     item: KindId,
     value: &Value,
     limits: Limits,
-) -> Result<Vec<u8>, AllocError>
+) -> Result<Vec<u8>, NoMemory>
     requires fits { FitsWithin schema.now.kinds kind.place limits (tree value.now) }
     requires kind { kind_at schema.now.kinds kind.place ≡ maybe item.place }
     requires value { tree value.now ≡ (absent, none) }

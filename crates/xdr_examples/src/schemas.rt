@@ -8,9 +8,9 @@ ghost use Rattle.xdr_types.specs.Sound.{IsSound};
 ghost use Rattle.xdr_examples.specs.Refusal.{first_flaw, IsRefusedFor, IsNoFlaw};
 
 use crate::made::{arm, member};
-use std::alloc::{AllocError, Global};
+use std::alloc::Global;
 use std::string::String;
-use xdr_types::{Flaw, Kind, KindId, Schema, SchemaFault, no_schema_has_a_fault};
+use xdr_types::{Flaw, Kind, KindId, NoMemory, Schema, SchemaFault, no_schema_has_a_fault};
 
 /// Why lists make no schema; none where they do. It is the first flaw that they have, or want of memory.
 pub fn refusal(alloc: Global, kinds: Vec<Kind>, names: Vec<(String, KindId)>) -> Option<SchemaFault>
@@ -40,7 +40,7 @@ pub fn only_memory(
 }
 
 /// An int and a structure of one are a schema: want of memory alone refuses them (RFC 4506 section 4.14).
-pub fn structure_of_an_int(alloc: Global) -> Result<Option<SchemaFault>, AllocError>
+pub fn structure_of_an_int(alloc: Global) -> Result<Option<SchemaFault>, NoMemory>
     ensures { IfOk result (λ r. IfSome r (λ e. e.why ≡ Flaw.NoMemory)) }
 {
     let field = member(alloc, "x", 0)?;
@@ -50,7 +50,7 @@ pub fn structure_of_an_int(alloc: Global) -> Result<Option<SchemaFault>, AllocEr
 }
 
 /// An opaque of size 0 is no kind (RFC 4506 section 4.9).
-pub fn opaque_of_size_zero(alloc: Global) -> Result<Option<SchemaFault>, AllocError>
+pub fn opaque_of_size_zero(alloc: Global) -> Result<Option<SchemaFault>, NoMemory>
     ensures { IfOk result (λ r. IsRefusedFor r Flaw.ZeroSize 0) }
 {
     let kinds = vec![in alloc; Kind::Opaque { size: 0 }]?;
@@ -58,7 +58,7 @@ pub fn opaque_of_size_zero(alloc: Global) -> Result<Option<SchemaFault>, AllocEr
 }
 
 /// The void kind can be no item of an optional (RFC 4506 section 4.16).
-pub fn optional_void(alloc: Global) -> Result<Option<SchemaFault>, AllocError>
+pub fn optional_void(alloc: Global) -> Result<Option<SchemaFault>, NoMemory>
     ensures { IfOk result (λ r. IsRefusedFor r Flaw.VoidMember 1) }
 {
     let kinds = vec![in alloc;
@@ -71,7 +71,7 @@ pub fn optional_void(alloc: Global) -> Result<Option<SchemaFault>, AllocError>
 }
 
 /// Nor can it have a name.
-pub fn name_of_nothing(alloc: Global) -> Result<Option<SchemaFault>, AllocError>
+pub fn name_of_nothing(alloc: Global) -> Result<Option<SchemaFault>, NoMemory>
     ensures { IfOk result (λ r. IsRefusedFor r Flaw.VoidMember 0) }
 {
     let kinds = vec![in alloc; Kind::Nothing]?;
@@ -81,7 +81,7 @@ pub fn name_of_nothing(alloc: Global) -> Result<Option<SchemaFault>, AllocError>
 }
 
 /// Also where another name stands before it.
-pub fn second_name_of_nothing(alloc: Global) -> Result<Option<SchemaFault>, AllocError>
+pub fn second_name_of_nothing(alloc: Global) -> Result<Option<SchemaFault>, NoMemory>
     ensures { IfOk result (λ r. IsRefusedFor r Flaw.VoidMember 1) }
 {
     let kinds = vec![in alloc; Kind::Int, Kind::Nothing]?;
@@ -92,7 +92,7 @@ pub fn second_name_of_nothing(alloc: Global) -> Result<Option<SchemaFault>, Allo
 }
 
 /// One name stands once.
-pub fn name_twice(alloc: Global) -> Result<Option<SchemaFault>, AllocError>
+pub fn name_twice(alloc: Global) -> Result<Option<SchemaFault>, NoMemory>
     ensures { IfOk result (λ r. IsRefusedFor r Flaw.NameTwice 1) }
 {
     let kinds = vec![in alloc; Kind::Int]?;
@@ -103,7 +103,7 @@ pub fn name_twice(alloc: Global) -> Result<Option<SchemaFault>, AllocError>
 }
 
 /// Two fields have two names (RFC 4506 section 4.14).
-pub fn field_twice(alloc: Global) -> Result<Option<SchemaFault>, AllocError>
+pub fn field_twice(alloc: Global) -> Result<Option<SchemaFault>, NoMemory>
     ensures { IfOk result (λ r. IsRefusedFor r Flaw.NameTwice 1) }
 {
     let first = member(alloc, "x", 0)?;
@@ -114,7 +114,7 @@ pub fn field_twice(alloc: Global) -> Result<Option<SchemaFault>, AllocError>
 }
 
 /// A case stands once among the cases of an arm (RFC 4506 section 4.15).
-pub fn case_twice_in_one_arm(alloc: Global) -> Result<Option<SchemaFault>, AllocError>
+pub fn case_twice_in_one_arm(alloc: Global) -> Result<Option<SchemaFault>, NoMemory>
     ensures { IfOk result (λ r. IsRefusedFor r Flaw.CaseTwice 1) }
 {
     let part = member(alloc, "x", 0)?;
@@ -129,7 +129,7 @@ pub fn case_twice_in_one_arm(alloc: Global) -> Result<Option<SchemaFault>, Alloc
 }
 
 /// And in one arm only.
-pub fn case_in_two_arms(alloc: Global) -> Result<Option<SchemaFault>, AllocError>
+pub fn case_in_two_arms(alloc: Global) -> Result<Option<SchemaFault>, NoMemory>
     ensures { IfOk result (λ r. IsRefusedFor r Flaw.CaseTwice 1) }
 {
     let first = arm(alloc, 0, 1, member(alloc, "x", 0)?)?;
@@ -144,7 +144,7 @@ pub fn case_in_two_arms(alloc: Global) -> Result<Option<SchemaFault>, AllocError
 }
 
 /// Arms without a name do not share one: these two are no flaw.
-pub fn arms_without_names(alloc: Global) -> Result<Option<SchemaFault>, AllocError>
+pub fn arms_without_names(alloc: Global) -> Result<Option<SchemaFault>, NoMemory>
     ensures { IfOk result (λ r. IsNoFlaw r) }
 {
     let first = arm(alloc, 0, 1, member(alloc, "", 0)?)?;
@@ -159,7 +159,7 @@ pub fn arms_without_names(alloc: Global) -> Result<Option<SchemaFault>, AllocErr
 }
 
 /// A case is a number that the discriminant may have: a bool is 0 or 1 (RFC 4506 section 4.15).
-pub fn case_that_is_not_legal(alloc: Global) -> Result<Option<SchemaFault>, AllocError>
+pub fn case_that_is_not_legal(alloc: Global) -> Result<Option<SchemaFault>, NoMemory>
     ensures { IfOk result (λ r. IsRefusedFor r Flaw.CaseNotLegal 1) }
 {
     let part = member(alloc, "x", 0)?;
@@ -174,7 +174,7 @@ pub fn case_that_is_not_legal(alloc: Global) -> Result<Option<SchemaFault>, Allo
 }
 
 /// An array of a kind that is not there, and of size 0: the unknown kind is said first.
-pub fn two_faults_of_one_kind(alloc: Global) -> Result<Option<SchemaFault>, AllocError>
+pub fn two_faults_of_one_kind(alloc: Global) -> Result<Option<SchemaFault>, NoMemory>
     ensures { IfOk result (λ r. IsRefusedFor r Flaw.UnknownKind 1) }
 {
     let array = Kind::Fixed {
@@ -186,7 +186,7 @@ pub fn two_faults_of_one_kind(alloc: Global) -> Result<Option<SchemaFault>, Allo
 }
 
 /// Two kinds with a fault: that of the lower place is said.
-pub fn two_kinds_with_a_fault(alloc: Global) -> Result<Option<SchemaFault>, AllocError>
+pub fn two_kinds_with_a_fault(alloc: Global) -> Result<Option<SchemaFault>, NoMemory>
     ensures { IfOk result (λ r. IsRefusedFor r Flaw.ZeroSize 0) }
 {
     let optional = Kind::Maybe {
@@ -197,7 +197,7 @@ pub fn two_kinds_with_a_fault(alloc: Global) -> Result<Option<SchemaFault>, Allo
 }
 
 /// A kind's fault is said before a name's.
-pub fn kind_before_name(alloc: Global) -> Result<Option<SchemaFault>, AllocError>
+pub fn kind_before_name(alloc: Global) -> Result<Option<SchemaFault>, NoMemory>
     ensures { IfOk result (λ r. IsRefusedFor r Flaw.ZeroSize 0) }
 {
     let kinds = vec![in alloc; Kind::Opaque { size: 0 }]?;

@@ -2,14 +2,15 @@
 ghost use Rattle.std.specs.Prelude.{◌≡◌, ◌<◌, ◌^◌, ◌++◌, [], ◌∷◌, codes, decimal, length, true, false, IfOk, IfSome};
 ghost use Rattle.xdr_units.specs.Numbers.{long_word, padded, word};
 
-use std::alloc::{AllocError, Global};
+use std::alloc::Global;
 use xdr_units::{
+    NoMemory,
     are_zeros, before_dot, decimal_number, first_content, first_long_word, first_word,
     push_decimal, push_padded, push_word,
 };
 
 /// A number is four bytes, the most significant first (RFC 4506 section 4.2).
-pub fn writes_a_number(alloc: Global) -> Result<Vec<u8>, AllocError>
+pub fn writes_a_number(alloc: Global) -> Result<Vec<u8>, NoMemory>
     ensures { IfOk result (λ b. b.items ≡ 0 ∷ 0 ∷ 1 ∷ 2 ∷ []) }
 {
     let mut out = Vec::new(alloc);
@@ -48,7 +49,7 @@ pub fn reads_a_long_number(bytes: &[u8], number: u64, behind: &[u8]) -> bool
 }
 
 /// Zeros fill up the last four bytes of content (RFC 4506 section 3).
-pub fn pads_to_four_bytes(alloc: Global) -> Result<Vec<u8>, AllocError>
+pub fn pads_to_four_bytes(alloc: Global) -> Result<Vec<u8>, NoMemory>
     ensures { IfOk result (λ b. b.items ≡ 97 ∷ 98 ∷ 99 ∷ 100 ∷ 101 ∷ 0 ∷ 0 ∷ 0 ∷ []) }
 {
     let mut out = Vec::new(alloc);
@@ -57,7 +58,7 @@ pub fn pads_to_four_bytes(alloc: Global) -> Result<Vec<u8>, AllocError>
 }
 
 /// Four bytes need none.
-pub fn pads_no_whole_unit(alloc: Global) -> Result<Vec<u8>, AllocError>
+pub fn pads_no_whole_unit(alloc: Global) -> Result<Vec<u8>, NoMemory>
     ensures { IfOk result (λ b. b.items ≡ 97 ∷ 98 ∷ 99 ∷ 100 ∷ []) }
 {
     let mut out = Vec::new(alloc);
@@ -96,7 +97,7 @@ pub fn tells_zeros() -> (bool, bool)
 }
 
 /// A number is written as its decimal text.
-pub fn writes_a_decimal(alloc: Global) -> Result<Vec<u8>, AllocError>
+pub fn writes_a_decimal(alloc: Global) -> Result<Vec<u8>, NoMemory>
     ensures { IfOk result (λ b. b.items ≡ codes "4095") }
 {
     let mut out = Vec::new(alloc);

@@ -11,8 +11,8 @@ ghost use Rattle.xdr_types.specs.Tree.{depth};
 ghost use Rattle.xdr_types.specs.View.{tree};
 ghost use Rattle.xdr_examples.specs.Rfc.{file_kinds};
 
-use std::alloc::{AllocError, Global};
-use xdr_types::{KindId, Limits, Schema, Value, each_spelling_is_one_value, fits, is_equal, size};
+use std::alloc::Global;
+use xdr_types::{KindId, Limits, NoMemory, Schema, Value, each_spelling_is_one_value, fits, is_equal, size};
 
 /// A number is one of an int (RFC 4506 section 4.1).
 pub fn int_fits_in_one_unit(schema: &Schema, id: KindId, number: i32) -> bool
@@ -97,7 +97,7 @@ pub fn number_without_a_name(schema: &Schema, limits: Limits) -> bool
 }
 
 /// A copy is the same value.
-pub fn copy_is_the_same(value: &Value, alloc: Global) -> Result<bool, AllocError>
+pub fn copy_is_the_same(value: &Value, alloc: Global) -> Result<bool, NoMemory>
     ensures { IfOk result (λ same. same ≡ true) }
 {
     let copy = value.copy(alloc)?;

@@ -3,23 +3,24 @@ ghost use Rattle.std.specs.Prelude.{◌≡◌, ◌≤◌, ◌++◌, [], ◌∷�
 ghost use Rattle.hex.specs.Hex.{encode_lower};
 ghost use Rattle.xdr_show.specs.Line.{escaped, is_plain, quoted};
 
-use std::alloc::AllocError;
+use xdr_types::NoMemory;
 
 // The digits of hexadecimal.
 const DIGITS: &[u8; 16] = b"0123456789abcdef";
 
 /// The bytes of a text between quotation marks.
-pub fn push_quoted(out: &mut Vec<u8>, bytes: &[u8]) -> Result<(), AllocError>
+pub fn push_quoted(out: &mut Vec<u8>, bytes: &[u8]) -> Result<(), NoMemory>
     ensures { OnOk result (out.new.items ≡ out.old.items ++ quoted bytes.now) }
 {
     out.extend_from_slice(b"\"")?;
     push_escaped_bytes(out, bytes)?;
-    out.extend_from_slice(b"\"")
+    out.extend_from_slice(b"\"")?;
+    Ok(())
 }
 
 /// The bytes of a text, each that is not plain as `\x` and two lower-case hexadecimal digits. Plain are 0x20 to 0x7e
 /// save the quotation mark and the backslash. An error is want of memory, and some of the text may then have been added.
-pub fn push_escaped_bytes(out: &mut Vec<u8>, bytes: &[u8]) -> Result<(), AllocError>
+pub fn push_escaped_bytes(out: &mut Vec<u8>, bytes: &[u8]) -> Result<(), NoMemory>
     ensures { OnOk result (out.new.items ≡ out.old.items ++ flat_map escaped bytes.now) }
 {
     let mut rest = bytes;
@@ -51,11 +52,12 @@ fn plain_count(bytes: &[u8]) -> usize
 }
 
 // A byte of a text.
-fn push_escaped(out: &mut Vec<u8>, byte: u8) -> Result<(), AllocError>
+fn push_escaped(out: &mut Vec<u8>, byte: u8) -> Result<(), NoMemory>
     ensures { OnOk result (out.new.items ≡ out.old.items ++ escaped byte) }
 {
     if is_plain(byte) {
-        out.extend_from_slice(&[byte])
+        out.extend_from_slice(&[byte])?;
+        Ok(())
     } else {
         out.extend_from_slice(b"\\x")?;
         push_pair(out, byte)
@@ -70,14 +72,14 @@ fn is_plain(byte: u8) -> bool
 }
 
 /// Bytes as hexadecimal.
-pub fn push_hexadecimal(out: &mut Vec<u8>, bytes: &[u8]) -> Result<(), AllocError>
+pub fn push_hexadecimal(out: &mut Vec<u8>, bytes: &[u8]) -> Result<(), NoMemory>
     ensures { OnOk result (out.new.items ≡ out.old.items ++ (codes "0x" ++ encode_lower bytes.now)) }
 {
     out.extend_from_slice(b"0x")?;
     push_pairs(out, bytes)
 }
 
-fn push_pairs(out: &mut Vec<u8>, bytes: &[u8]) -> Result<(), AllocError>
+fn push_pairs(out: &mut Vec<u8>, bytes: &[u8]) -> Result<(), NoMemory>
     ensures { OnOk result (out.new.items ≡ out.old.items ++ encode_lower bytes.now) }
 {
     for byte in bytes {
@@ -88,10 +90,11 @@ fn push_pairs(out: &mut Vec<u8>, bytes: &[u8]) -> Result<(), AllocError>
 
 // A byte as two digits of hexadecimal.
 #[tactic(auto, unfolding(hex::specs::Hex::encode_with))]
-fn push_pair(out: &mut Vec<u8>, byte: u8) -> Result<(), AllocError>
+fn push_pair(out: &mut Vec<u8>, byte: u8) -> Result<(), NoMemory>
     ensures { OnOk result (out.new.items ≡ out.old.items ++ encode_lower (byte ∷ [])) }
 {
     let high = DIGITS[(byte / 16) as usize];
     let low = DIGITS[(byte % 16) as usize];
-    out.extend_from_slice(&[high, low])
+    out.extend_from_slice(&[high, low])?;
+    Ok(())
 }

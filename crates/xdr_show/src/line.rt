@@ -8,8 +8,7 @@ ghost use Rattle.xdr_show.specs.Lines.{node_text};
 
 use crate::content::{push_hexadecimal, push_quoted};
 use crate::number::{push_case, push_count, push_flag, push_numbered, push_signed, push_unsigned};
-use std::alloc::AllocError;
-use xdr_types::{Kind, Schema, Value};
+use xdr_types::{Kind, NoMemory, Schema, Value};
 
 /// The line of a node.
 pub fn push_line(
@@ -19,7 +18,7 @@ pub fn push_line(
     kind: &Kind,
     depth: u32,
     value: &Value,
-) -> Result<(), AllocError>
+) -> Result<(), NoMemory>
     requires { is_legal schema.now.kinds (kind_view kind.now) (tree value.now).0 ≡ true }
     ensures { OnOk result (out.new.items ≡ out.old.items
         ++ line_text depth name.now (node_text schema.now.kinds (kind_view kind.now) (tree value.now).0)) }
@@ -27,11 +26,12 @@ pub fn push_line(
     push_indent(out, depth)?;
     push_label(out, name)?;
     push_text(out, schema, kind, value)?;
-    out.extend_from_slice(b"\n")
+    out.extend_from_slice(b"\n")?;
+    Ok(())
 }
 
 // Two spaces for each level below the first.
-fn push_indent(out: &mut Vec<u8>, depth: u32) -> Result<(), AllocError>
+fn push_indent(out: &mut Vec<u8>, depth: u32) -> Result<(), NoMemory>
     ensures { OnOk result (out.new.items ≡ out.old.items ++ indent depth) }
 {
     for _level in 0..depth.saturating_sub(1) {
@@ -41,14 +41,15 @@ fn push_indent(out: &mut Vec<u8>, depth: u32) -> Result<(), AllocError>
 }
 
 // A name with a colon and a space after it, where there is one.
-fn push_label(out: &mut Vec<u8>, name: &[u8]) -> Result<(), AllocError>
+fn push_label(out: &mut Vec<u8>, name: &[u8]) -> Result<(), NoMemory>
     ensures { OnOk result (out.new.items ≡ out.old.items ++ label name.now) }
 {
     if name.is_empty() {
         return Ok(());
     }
     out.extend_from_slice(name)?;
-    out.extend_from_slice(b": ")
+    out.extend_from_slice(b": ")?;
+    Ok(())
 }
 
 // What the line of a node says.
@@ -57,7 +58,7 @@ fn push_text(
     schema: &Schema,
     kind: &Kind,
     value: &Value,
-) -> Result<(), AllocError>
+) -> Result<(), NoMemory>
     requires { is_legal schema.now.kinds (kind_view kind.now) (tree value.now).0 ≡ true }
     ensures { OnOk result (out.new.items ≡ out.old.items
         ++ node_text schema.now.kinds (kind_view kind.now) (tree value.now).0) }
@@ -81,7 +82,7 @@ fn push_text(
             u64::from(*size),
         ),
         (_, Value::List(items)) => push_count(out, b"list of ", items.len() as u64),
-        (_, Value::Group(_)) => out.extend_from_slice(b"struct"),
+        (_, Value::Group(_)) => Ok(out.extend_from_slice(b"struct")?),
         (
             Kind::Choice {
                 tag,
@@ -93,9 +94,9 @@ fn push_text(
                 part: _,
             },
         ) => push_case(out, schema, *tag, *number),
-        (_, Value::Maybe(None)) => out.extend_from_slice(b"absent"),
-        (_, Value::Maybe(Some(_))) => out.extend_from_slice(b"present"),
-        (_, Value::Nothing) => out.extend_from_slice(b"void"),
+        (_, Value::Maybe(None)) => Ok(out.extend_from_slice(b"absent")?),
+        (_, Value::Maybe(Some(_))) => Ok(out.extend_from_slice(b"present")?),
+        (_, Value::Nothing) => Ok(out.extend_from_slice(b"void")?),
         _ => Ok(()),
     }
 }

@@ -7,28 +7,29 @@ ghost use Rattle.xdr_types.specs.Fits.{is_tag_of};
 ghost use Rattle.xdr_show.specs.Line.{flag_text, name_of_number, numbered_text, tag_text};
 
 use itoa::Buffer;
-use std::alloc::AllocError;
 use std::string::String;
-use xdr_types::{Kind, KindId, Schema};
+use xdr_types::{Kind, KindId, NoMemory, Schema};
 
 /// A number in decimal, after a minus sign where it is negative.
-pub fn push_signed(out: &mut Vec<u8>, number: i64) -> Result<(), AllocError>
+pub fn push_signed(out: &mut Vec<u8>, number: i64) -> Result<(), NoMemory>
     ensures { OnOk result (out.new.items ≡ out.old.items ++ signed_decimal number) }
 {
     let mut buffer = Buffer::new();
-    out.extend_from_slice(buffer.format(number).as_bytes())
+    out.extend_from_slice(buffer.format(number).as_bytes())?;
+    Ok(())
 }
 
 /// A number that is not negative, in decimal.
-pub fn push_unsigned(out: &mut Vec<u8>, number: u64) -> Result<(), AllocError>
+pub fn push_unsigned(out: &mut Vec<u8>, number: u64) -> Result<(), NoMemory>
     ensures { OnOk result (out.new.items ≡ out.old.items ++ decimal number) }
 {
     let mut buffer = Buffer::new();
-    out.extend_from_slice(buffer.format(number).as_bytes())
+    out.extend_from_slice(buffer.format(number).as_bytes())?;
+    Ok(())
 }
 
 /// A count in decimal, after the words that say of what.
-pub fn push_count(out: &mut Vec<u8>, words: &[u8], count: u64) -> Result<(), AllocError>
+pub fn push_count(out: &mut Vec<u8>, words: &[u8], count: u64) -> Result<(), NoMemory>
     ensures { OnOk result (out.new.items ≡ out.old.items ++ (words.now ++ decimal count)) }
 {
     out.extend_from_slice(words)?;
@@ -36,13 +37,15 @@ pub fn push_count(out: &mut Vec<u8>, words: &[u8], count: u64) -> Result<(), All
 }
 
 /// A boolean.
-pub fn push_flag(out: &mut Vec<u8>, flag: bool) -> Result<(), AllocError>
+pub fn push_flag(out: &mut Vec<u8>, flag: bool) -> Result<(), NoMemory>
     ensures { OnOk result (out.new.items ≡ out.old.items ++ flag_text flag) }
 {
     if flag {
-        out.extend_from_slice(b"TRUE")
+        out.extend_from_slice(b"TRUE")?;
+        Ok(())
     } else {
-        out.extend_from_slice(b"FALSE")
+        out.extend_from_slice(b"FALSE")?;
+        Ok(())
     }
 }
 
@@ -51,7 +54,7 @@ pub fn push_numbered(
     out: &mut Vec<u8>,
     members: &Vec<(String, i32)>,
     number: i64,
-) -> Result<(), AllocError>
+) -> Result<(), NoMemory>
     ensures { OnOk result (out.new.items ≡ out.old.items ++ numbered_text (map constant_of members.now.items) number) }
 {
     out.extend_from_slice(first_name(members, number))?;
@@ -77,7 +80,7 @@ pub fn push_case(
     schema: &Schema,
     tag: KindId,
     number: i64,
-) -> Result<(), AllocError>
+) -> Result<(), NoMemory>
     requires { is_tag_of (kind_at schema.now.kinds tag.place) number ≡ true }
     ensures { OnOk result (out.new.items ≡ out.old.items
         ++ (codes "case " ++ tag_text (kind_at schema.now.kinds tag.place) number)) }
@@ -87,7 +90,7 @@ pub fn push_case(
 }
 
 // The number of a discriminant of the kind.
-fn push_tag(out: &mut Vec<u8>, kind: &Kind, number: i64) -> Result<(), AllocError>
+fn push_tag(out: &mut Vec<u8>, kind: &Kind, number: i64) -> Result<(), NoMemory>
     ensures { OnOk result (out.new.items ≡ out.old.items ++ tag_text (kind_view kind.now) number) }
 {
     match kind {

@@ -9,11 +9,11 @@ ghost use Rattle.xdr_show.specs.Lines.{lines, value_lines};
 ghost use Rattle.xdr_show.specs.Shown.{show_text};
 
 use crate::line::push_line;
-use std::alloc::{AllocError, Global};
-use xdr_types::{Kind, KindId, Limits, Member, Schema, Value, part_under};
+use std::alloc::Global;
+use xdr_types::{Kind, KindId, Limits, Member, NoMemory, Schema, Value, part_under};
 
 /// The lines of a value (RFC 4506 section 4): one for each part of its layout in order, a node before those inside it,
-/// two spaces further in. The value fits the kind within the limits, as `fits` tells. An error is want of memory.
+/// two spaces further in. The value fits the kind within the limits, as `fits` tells.
 ///
 /// A line has the part's name, where it has one, and then: `struct`, `array of` and `list of` with a count, `void`,
 /// `present` or `absent`; a number in decimal, `TRUE` or `FALSE`, the name of an enumeration's member before its
@@ -26,7 +26,7 @@ pub fn show(
     kind: KindId,
     value: &Value,
     limits: Limits,
-) -> Result<Vec<u8>, AllocError>
+) -> Result<Vec<u8>, NoMemory>
     requires { FitsWithin schema.now.kinds kind.place limits (tree value.now) }
     ensures { IfOk result (λ v. v.items ≡ show_text schema.now.kinds kind.place (tree value.now)) }
 {
@@ -46,7 +46,7 @@ fn push_value(
     id: KindId,
     depth: u32,
     value: &Value,
-) -> Result<(), AllocError>
+) -> Result<(), NoMemory>
     requires fits { fits schema.now.kinds id.place (tree value.now) ≡ true }
     requires deep { depth + depth_of (tree value.now).1 ≤ 4096 }
     ensures { OnOk result (out.new.items ≡ out.old.items
@@ -65,7 +65,7 @@ fn push_inner(
     kind: &Kind,
     depth: u32,
     value: &Value,
-) -> Result<(), AllocError>
+) -> Result<(), NoMemory>
     requires fits { fit schema.now.kinds (parts (kind_view kind.now) (tree value.now).0) (tree value.now).1 ≡ true }
     requires deep { depth + depth_of (tree value.now).1 ≤ 4097 }
     ensures { OnOk result (out.new.items ≡ out.old.items
@@ -121,7 +121,7 @@ fn push_items(
     id: KindId,
     depth: u32,
     items: &Vec<Value>,
-) -> Result<(), AllocError>
+) -> Result<(), NoMemory>
     requires fits { fit schema.now.kinds (replicate (length items.now.items) (item_part id.place))
         (values items.now.items) ≡ true }
     requires deep { depth + depth_of (values items.now.items) ≤ 4097 }
@@ -143,7 +143,7 @@ fn push_fields(
     fields: &Vec<Member>,
     depth: u32,
     parts: &Vec<Value>,
-) -> Result<(), AllocError>
+) -> Result<(), NoMemory>
     requires fits { fit schema.now.kinds (map part_of_member fields.now.items) (values parts.now.items) ≡ true }
     requires deep { depth + depth_of (values parts.now.items) ≤ 4097 }
     ensures { OnOk result (out.new.items ≡ out.old.items

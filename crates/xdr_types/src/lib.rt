@@ -36,3 +36,4 @@ pub use limits::Limits;
 pub use schema::{Schema, is_same_schema};
 pub use sizes::size;
 pub use value::Value;
+pub use xdr_units::NoMemory;

@@ -16,9 +16,10 @@ use crate::faults::first_in_kinds;
 use crate::heights::lowest_without_height;
 use crate::kind::{Kind, KindId};
 use crate::names::first_in_names;
-use std::alloc::{AllocError, Global};
+use std::alloc::Global;
 use std::marker::Model;
 use std::string::String;
+use xdr_units::NoMemory;
 
 /// Kinds that name one another by place, and names for some of them: well formed and sound.
 #[derive(Debug, Drop)]
@@ -125,13 +126,13 @@ impl Schema {
 
     /// The basic schema, of the kinds without declarations (RFC 4506 sections 4.1, 4.2, 4.4, 4.5, 4.10, 4.11, 4.16):
     /// `int`, `unsigned`, `hyper`, `unsigned-hyper`, `bool`, a void kind without a name, `opaque` and `string`, at
-    /// places 0 to 7. An error is want of memory.
-    pub fn basic(alloc: Global) -> Result<Schema, AllocError>
+    /// places 0 to 7.
+    pub fn basic(alloc: Global) -> Result<Schema, NoMemory>
         ensures { IfOk result (λ s. s ≡ basic) }
     {
         let kinds = basic_kinds(alloc)?;
         let names = basic_names(alloc)?;
-        Schema::build(alloc, kinds, names).map_err(|_| AllocError)
+        Schema::build(alloc, kinds, names).map_err(|_| NoMemory)
     }
 
     /// The kind that a name names; none where the schema does not have the name.
@@ -170,7 +171,7 @@ impl Schema {
 }
 
 // The kinds at places 0 to 7.
-fn basic_kinds(alloc: Global) -> Result<Vec<Kind>, AllocError>
+fn basic_kinds(alloc: Global) -> Result<Vec<Kind>, NoMemory>
     ensures { IfOk result (λ v. map kind_view v.items ≡ basic.kinds) }
 {
     Ok(vec![in alloc;
@@ -186,7 +187,7 @@ fn basic_kinds(alloc: Global) -> Result<Vec<Kind>, AllocError>
 }
 
 // The names of all but the void kind.
-fn basic_names(alloc: Global) -> Result<Vec<(String, KindId)>, AllocError>
+fn basic_names(alloc: Global) -> Result<Vec<(String, KindId)>, NoMemory>
     ensures { IfOk result (λ v. map name_of v.items ≡ basic.names) }
 {
     let mut names = Vec::new(alloc);

@@ -2,7 +2,8 @@
 ghost use Rattle.std.specs.Prelude.{◌≡◌, IfOk, map};
 ghost use Rattle.xdr_types.specs.View.{tree};
 
-use std::alloc::{AllocError, Global};
+use std::alloc::Global;
+use xdr_units::NoMemory;
 
 /// A value of XDR (RFC 4506 sections 4.1 to 4.19). `Bytes` are of an opaque or a string, `List` has the items of an
 /// array, `Group` one value for each field of a structure.
@@ -23,8 +24,8 @@ pub enum Value {
 }
 
 impl Value {
-    /// An equal value, in memory of its own. An error is want of memory.
-    pub fn copy(&self, alloc: Global) -> Result<Value, AllocError>
+    /// An equal value, in memory of its own.
+    pub fn copy(&self, alloc: Global) -> Result<Value, NoMemory>
         ensures { IfOk result (λ v. tree v ≡ tree self.now) }
     {
         copy(self, alloc)
@@ -32,7 +33,7 @@ impl Value {
 }
 
 #[cycle(copy)]
-fn copy(value: &Value, alloc: Global) -> Result<Value, AllocError>
+fn copy(value: &Value, alloc: Global) -> Result<Value, NoMemory>
     ensures { IfOk result (λ v. tree v ≡ tree value.now) }
 {
     match value {
@@ -59,7 +60,7 @@ fn copy(value: &Value, alloc: Global) -> Result<Value, AllocError>
 }
 
 #[cycle(copy)]
-fn copy_items(items: &Vec<Value>, alloc: Global) -> Result<Vec<Value>, AllocError>
+fn copy_items(items: &Vec<Value>, alloc: Global) -> Result<Vec<Value>, NoMemory>
     ensures { IfOk result (λ v. map tree v.items ≡ map tree items.now.items) }
 {
     let mut copies = Vec::with_capacity(alloc, items.len())?;

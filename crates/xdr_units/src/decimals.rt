@@ -2,8 +2,8 @@
 ghost use Rattle.std.specs.Prelude.{◌≡◌, ◌<◌, ◌^◌, ◌++◌, ◌∷◌, ℕ, Some, decimal, IfSome, MatchOption, OnOk};
 ghost use Rattle.xdr_units.specs.Texts.{HasNoDot};
 
+use crate::memory::NoMemory;
 use itoa::Buffer;
-use std::alloc::AllocError;
 use std::str::from_utf8;
 
 /// The number below 2^32 whose decimal text this is, which has no leading zero. `None` for every other text. It takes
@@ -30,9 +30,10 @@ pub fn before_dot(text: &[u8]) -> Option<(&[u8], &[u8])>
 }
 
 /// Writes the number's decimal text.
-pub fn push_decimal(out: &mut Vec<u8>, number: u32) -> Result<(), AllocError>
+pub fn push_decimal(out: &mut Vec<u8>, number: u32) -> Result<(), NoMemory>
     ensures { OnOk result (out.new.items ≡ out.old.items ++ decimal number) }
 {
     let mut buffer = Buffer::new();
-    out.extend_from_slice(buffer.format(number).as_bytes())
+    out.extend_from_slice(buffer.format(number).as_bytes())?;
+    Ok(())
 }

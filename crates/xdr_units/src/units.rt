@@ -5,8 +5,8 @@ ghost use Rattle.std.specs.Io.{StartsWith};
 ghost use Rattle.xdr_units.specs.Numbers.{word, long_word, gap, padded, IsWord};
 ghost use Rattle.xdr_units.specs.Fronts.{IsNoContent};
 
+use crate::memory::NoMemory;
 use byteorder::{BigEndian, ByteOrder};
-use std::alloc::AllocError;
 
 /// Why padded content does not stand at the front of bytes.
 #[derive(Clone, Copy, Debug, PartialEq, Eq)]
@@ -85,7 +85,7 @@ pub fn first_content(bytes: &[u8], size: u32) -> Result<(&[u8], &[u8]), NoConten
 }
 
 /// Writes the number's four bytes. Where memory is refused it writes none.
-pub fn push_word(out: &mut Vec<u8>, number: u32) -> Result<(), AllocError>
+pub fn push_word(out: &mut Vec<u8>, number: u32) -> Result<(), NoMemory>
     ensures ok { OnOk result (out.new.items ≡ out.old.items ++ word number) }
     ensures fits { IsWord number }
     ensures kept { OnErr result (out.new.items ≡ out.old.items) }
@@ -93,11 +93,12 @@ pub fn push_word(out: &mut Vec<u8>, number: u32) -> Result<(), AllocError>
 {
     let mut bytes = [0; 4];
     BigEndian::write_u32(&mut bytes, number);
-    out.extend_from_slice(&bytes)
+    out.extend_from_slice(&bytes)?;
+    Ok(())
 }
 
 /// Writes the bytes and their padding. Where memory is refused some of them may stand behind what stood there.
-pub fn push_padded(out: &mut Vec<u8>, bytes: &[u8]) -> Result<(), AllocError>
+pub fn push_padded(out: &mut Vec<u8>, bytes: &[u8]) -> Result<(), NoMemory>
     ensures ok { OnOk result (out.new.items ≡ out.old.items ++ padded bytes.now) }
     ensures begins { StartsWith out.new.items out.old.items }
 {
