@@ -1,4 +1,5 @@
-//! The registry asked and served: what a server's rows are printed as, and how connections are served one after another.
+//! The registry asked and served: what a server's rows are printed as, and how connections are served one after
+//! another.
 #![tactic(auto)]
 
 mod info;

@@ -65,9 +65,10 @@ abbrev pub IsFormInPart : ℕ → (left taken taken' : Option (List ℕ)) → Ty
 IsFormInPart limit None taken taken' = ⊤
 IsFormInPart limit (Some text) taken taken' = FormInPart limit text taken taken'
 
--- What was printed where a device failed: nothing, or the beginning of what is right. Of records, what came whole before
--- the failure, which is told.
-abbrev pub PrintsInPart : Asked → (unprinted : Type 0) → (fails : Failure → Type 0) → (left left' taken taken' : Option (List ℕ))
+-- What was printed where a device failed: nothing, or the beginning of what is right. Of records, what came whole
+-- before the failure, which is told.
+abbrev pub PrintsInPart : Asked → (unprinted : Type 0) → (fails : Failure → Type 0)
+    → (left left' taken taken' : Option (List ℕ))
     → Type 0
 PrintsInPart (OfValue q hex) unprinted fails left left' taken taken' = unprinted ⊎ AnswersInPart q hex left taken taken'
 PrintsInPart (OfWords told what shows) unprinted fails left left' taken taken' =

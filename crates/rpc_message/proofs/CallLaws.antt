@@ -10,7 +10,8 @@ use Rattle.rpc_message.specs.Message.{AuthView, CallView, CaseView, Whole, Other
 use Rattle.xdr_units.specs.Numbers.{AreBytes, word, IsWord}
 use Rattle.rpc_message.specs.Spelling.{auth, CallBytes}
 use Rattle.rpc_message.specs.Cases.{NoAuth, IsOtherVersion, IsBadCred, IsBadVerf, IsNoCall, IsCase}
-use Rattle.rpc_message.specs.Private.Reading.{◌>>=◌, read_or, Head, Target, whole_case, verf_case, cred_case, version_case}
+use Rattle.rpc_message.specs.Private.Reading.{◌>>=◌, read_or, Head, Target, whole_case, verf_case, cred_case}
+use Rattle.rpc_message.specs.Private.Reading.{version_case}
 use Rattle.rpc_message.specs.Private.Reading.{word_at, auth_at, call_head_at, target_at, case_of}
 use Rattle.rpc_message.proofs.FieldLaws.{bind_ok, bind_err, guard_then, guard_fails, ok_is, ok_no_err, word_takes}
 use Rattle.rpc_message.proofs.FieldLaws.{word_again, word_fails, auth_takes, auth_again}

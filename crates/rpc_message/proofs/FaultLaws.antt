@@ -17,8 +17,10 @@ use Rattle.rpc_message.specs.View.{reply_view}
 use Rattle.rpc_message.specs.Faults.{Place, Xid, MessageType, ReplyStat, AcceptStat, AcceptLow, AcceptHigh, RejectStat}
 use Rattle.rpc_message.specs.Faults.{RejectLow, RejectHigh, AuthStat, before, IsPlace, EndsInNumber, IsCutAuth}
 use Rattle.rpc_message.specs.Faults.{IsTooLong, IsPaddedWrong, HasNoResults, StandsIn}
-use Rattle.rpc_message.specs.Private.Reading.{◌>>=◌, ReadsOrNoMemory, ended, are_zeros, word_at, padding_at, opaque_at, auth_at}
-use Rattle.rpc_message.specs.Private.Reading.{bounds_at, status_at, why_at, accepted_at, denied_at, reply_stat_at, reply_at}
+use Rattle.rpc_message.specs.Private.Reading.{◌>>=◌, ReadsOrNoMemory, ended, are_zeros, word_at, padding_at, opaque_at}
+use Rattle.rpc_message.specs.Private.Reading.{auth_at}
+use Rattle.rpc_message.specs.Private.Reading.{bounds_at, status_at, why_at, accepted_at, denied_at, reply_stat_at}
+use Rattle.rpc_message.specs.Private.Reading.{reply_at}
 use Rattle.rpc_message.proofs.FieldLaws.{bind_err, ok_no_err, err_is, failed, guard_fails, word_takes, word_fails}
 use Rattle.rpc_message.proofs.FieldLaws.{zeros_are, are_zeros-replicate, body_at, auth_takes}
 
@@ -705,7 +707,8 @@ reply_fails bytes d fits e =
           ]
     ]
 
-pub is_fault : (bytes : List ℕ) (r : Result Reply ReplyFault) → AreBytes bytes → ReadsOrNoMemory reply_view r (reply_at bytes)
+pub is_fault : (bytes : List ℕ) (r : Result Reply ReplyFault) → AreBytes bytes
+    → ReadsOrNoMemory reply_view r (reply_at bytes)
     → IfErr r (λ f. StandsIn f bytes)
 is_fault bytes (Ok x) fits e = tt
 is_fault bytes (Err faults.Truncated) fits e = reply_fails bytes faults.Truncated fits e

@@ -13,7 +13,8 @@ use Rattle.rpc_message.specs.Message.{Denied}
 use Rattle.xdr_units.specs.Numbers.{AreBytes, word, IsWord}
 use Rattle.rpc_message.specs.Spelling.{auth, status, why, reply, IsAuth, IsStatus, IsWhy, ReplyBytes}
 use Rattle.rpc_message.specs.View.{reply_view}
-use Rattle.rpc_message.specs.Private.Reading.{◌>>=◌, ReadsOrNoMemory, ended, word_at, auth_at, bounds_at, status_at, why_at, accepted_at}
+use Rattle.rpc_message.specs.Private.Reading.{◌>>=◌, ReadsOrNoMemory, ended, word_at, auth_at, bounds_at, status_at}
+use Rattle.rpc_message.specs.Private.Reading.{why_at, accepted_at}
 use Rattle.rpc_message.specs.Private.Reading.{denied_at, reply_stat_at, reply_at}
 use Rattle.rpc_message.proofs.FieldLaws.{bind_ok, guard_then, ok_is, ok_no_err, word_takes, word_again, auth_takes}
 use Rattle.rpc_message.proofs.FieldLaws.{auth_again}
@@ -209,7 +210,8 @@ reply_again (Denied xid w) bytes e = ap reply_at e.parts ∙ head_again xid 1 (w
 pub one_reply : (q r : ReplyView) (bytes : List ℕ) → ReplyBytes q bytes → ReplyBytes r bytes → q ≡ r
 one_reply q r bytes x y = ok_is q r (sym (reply_again q bytes x) ∙ reply_again r bytes y)
 
-pub is_found : (bytes : List ℕ) (r : Result Reply ReplyFault) → AreBytes bytes → ReadsOrNoMemory reply_view r (reply_at bytes)
+pub is_found : (bytes : List ℕ) (r : Result Reply ReplyFault) → AreBytes bytes
+    → ReadsOrNoMemory reply_view r (reply_at bytes)
     → IfOk r (λ x. ReplyBytes (reply_view x) bytes)
 is_found bytes (Ok x) fits e = reply_takes bytes (reply_view x) fits e
 is_found bytes (Err d) fits e = tt

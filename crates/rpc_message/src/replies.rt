@@ -7,7 +7,8 @@ ghost use Rattle.rpc_message.specs.Message.{ReplyView};
 ghost use Rattle.rpc_message.specs.Spelling.{reply, status, why, IsStatus, IsWhy, IsReply, ReplyBytes};
 ghost use Rattle.rpc_message.specs.View.{reply_view, status_view, why_view, HasShortVerf};
 ghost use Rattle.rpc_message.specs.Faults.{StandsIn};
-ghost use Rattle.rpc_message.specs.Private.Reading.{Reads, ReadsOrNoMemory, bounds_at, status_at, why_at, accepted_at, denied_at};
+ghost use Rattle.rpc_message.specs.Private.Reading.{Reads, ReadsOrNoMemory, bounds_at, status_at, why_at, accepted_at};
+ghost use Rattle.rpc_message.specs.Private.Reading.{denied_at};
 ghost use Rattle.rpc_message.specs.Private.Reading.{reply_stat_at, reply_at};
 
 use crate::fault::ReplyFault;

@@ -15,7 +15,8 @@ use std::alloc::Global;
 use xdr_types::{KindId, Limits, NoMemory, Schema, Value, size};
 
 /// The encoding of a value (RFC 4506): exactly its bytes, and no other value of the kind has them. The value fits the
-/// kind within the limits, as `fits` tells. That no error comes while memory is granted is no clause, tests show it. The bytes are asked for in one growth of their count.
+/// kind within the limits, as `fits` tells. That no error comes while memory is granted is no clause, tests show it.
+/// The bytes are asked for in one growth of their count.
 ///
 /// Each level of the value takes stack: up to 0.5 MiB at depth 4096 on x86-64.
 pub fn encode(

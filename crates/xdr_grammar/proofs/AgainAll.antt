@@ -15,7 +15,8 @@ use Rattle.xdr_grammar.specs.Outline.{Part, Outline, body_in, passed_in, argumen
 use Rattle.xdr_grammar.specs.Outline.{procedures_in, version_in, versions_in, definition_in, outlined}
 use Rattle.xdr_tokens.specs.Options.{◌>>=◌}
 use Rattle.xdr_grammar.specs.Private.Reading.{taken, Reader, repeat, after_word, after_sign, name_at, either_sign}
-use Rattle.xdr_grammar.specs.Private.Reading.{declaration_with, specifier_at, passed_with, argument_with, arguments_with}
+use Rattle.xdr_grammar.specs.Private.Reading.{declaration_with, specifier_at, passed_with, argument_with}
+use Rattle.xdr_grammar.specs.Private.Reading.{arguments_with}
 use Rattle.xdr_grammar.specs.Private.Reading.{result_with, procedure_with, version_with, program_with, const_at}
 use Rattle.xdr_grammar.specs.Private.Reading.{typedef_with, defined_with, definition_at, definitions_at}
 use Rattle.xdr_grammar.proofs.Leaves.{numbered_again}

@@ -10,7 +10,8 @@ use Rattle.xdr_tokens.specs.Options.{◌>>=◌}
 use Rattle.xdr_grammar.specs.Private.Reading.{Reader, repeat}
 
 -- where one reading gives nothing, another gives nothing
-pub fails_along : {A B : Type 0} (e : Misread) (r : Option A) (t : Option B) → (r ≡ None → t ≡ None) → MisreadsRightly e r
+pub fails_along : {A B : Type 0} (e : Misread) (r : Option A) (t : Option B) → (r ≡ None → t ≡ None)
+    → MisreadsRightly e r
     → MisreadsRightly e t
 fails_along misread.NoMemory r t f h = tt
 fails_along (misread.Token why left) r t f h = f h

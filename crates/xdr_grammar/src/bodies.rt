@@ -2,7 +2,8 @@
 ghost use Rattle.std.specs.Prelude.{length, map, option_map};
 ghost use Rattle.xdr_grammar.specs.View.{late_of, part_of, field_of, arm_of};
 ghost use Rattle.xdr_grammar.specs.Private.Reading.{repeat, declaration_with, content_with, field_with, struct_with};
-ghost use Rattle.xdr_grammar.specs.Private.Reading.{case_at, arm_with, default_with, switch_with, union_with, body_with};
+ghost use Rattle.xdr_grammar.specs.Private.Reading.{case_at, arm_with, default_with, switch_with, union_with};
+ghost use Rattle.xdr_grammar.specs.Private.Reading.{body_with};
 ghost use Rattle.xdr_grammar.specs.Private.Reading.{specifier_at};
 ghost use Rattle.xdr_grammar.specs.Private.Parsing.{left, Reads};
 

@@ -1,7 +1,8 @@
 //! Definitions, one after the other.
 ghost use Rattle.std.specs.Prelude.{◌≡◌, length};
 ghost use Rattle.xdr_grammar.specs.View.{part_of};
-ghost use Rattle.xdr_grammar.specs.Private.Reading.{declaration_with, specifier_at, const_at, typedef_with, defined_part};
+ghost use Rattle.xdr_grammar.specs.Private.Reading.{declaration_with, specifier_at, const_at, typedef_with};
+ghost use Rattle.xdr_grammar.specs.Private.Reading.{defined_part};
 ghost use Rattle.xdr_grammar.specs.Private.Reading.{defined_with, definition_at, definitions_at};
 ghost use Rattle.xdr_grammar.specs.Private.Parsing.{left, so_far, Parses, Defines};
 

@@ -1,7 +1,8 @@
 //! Names, constants, sizes and the types that are there without a definition.
 ghost use Rattle.std.specs.Prelude.{◌≡◌, true, false, Some, None, option_map};
 ghost use Rattle.xdr_grammar.specs.View.{late_of, part_of};
-ghost use Rattle.xdr_grammar.specs.Private.Reading.{name_at, number_at, value_at, size_at, limit_at, numbered_at, int_at};
+ghost use Rattle.xdr_grammar.specs.Private.Reading.{name_at, number_at, value_at, size_at, limit_at, numbered_at};
+ghost use Rattle.xdr_grammar.specs.Private.Reading.{int_at};
 ghost use Rattle.xdr_grammar.specs.Private.Reading.{basic_at};
 ghost use Rattle.xdr_grammar.specs.Private.Parsing.{left, so_far, Takes};
 

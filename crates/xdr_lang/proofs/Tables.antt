@@ -234,7 +234,8 @@ reach types n part place steps is f (suc m) h = rw is (f m (omega (arith, h)))
 -- a name is one step further than its part
 pub one_further : (types : List out.Field) (n : List ℕ) (part : out.Part) (place steps : ℕ)
     → type_named n types ≡ Some part
-    → ((m : ℕ) → steps ≤ m → place_with types (named_place m types) part ≡ Some place) → IsPlacedAt types n place (steps + 1)
+    → ((m : ℕ) → steps ≤ m → place_with types (named_place m types) part ≡ Some place)
+    → IsPlacedAt types n place (steps + 1)
 one_further types n part place steps is f = record { reached = reach types n part place steps is f }
 
 -- a name whose part has its place at once

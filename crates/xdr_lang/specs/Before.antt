@@ -1,5 +1,5 @@
--- What a text meant before long and struct NAME were words of the language, as RFC 4506 and RFC 5531 have it: long was a
--- name, no type was told by "struct" identifier, and a struct's definition declared its name as every other does.
+-- What a text meant before long and struct NAME were words of the language, as RFC 4506 and RFC 5531 have it: long was
+-- a name, no type was told by "struct" identifier, and a struct's definition declared its name as every other does.
 use Rattle.std.specs.Prelude.{◌≡◌, ◌≤◌, ℕ, Bool, true, false, List, All, length, map, IfSome, filter, codes}
 use Rattle.xdr_tokens.specs.declared.token.Keyword.{Keyword}
 use Rattle.xdr_tokens.specs.declared.token.Keyword.TheVariants as word
@@ -85,8 +85,8 @@ declared_before o = record o { types = map type_before o.types }
 
 -- ---- what a text meant
 
--- The text is not too long, is cut into tokens, with long as a name these spell definitions without "struct" identifier,
--- and what those declared has a meaning.
+-- The text is not too long, is cut into tokens, with long as a name these spell definitions without "struct"
+-- identifier, and what those declared has a meaning.
 pub record MeantBefore (text : List ℕ) (d : Declared) : Type 0 where
   pub short : length text ≤ 262144
   pub tokens : List Lexeme

@@ -102,7 +102,8 @@ shown_low place d t k (value.items n) = items_low place d t k
 shown_low place d t k _ = (omega arith, tt)
 
 -- the part of free bytes
-pub free_part : (s : List KindView) (place d : ℕ) (t : Part) (k : KindView) → kind_at s t.kind ≡ k → IsFreeBytes (lead_of k)
+pub free_part : (s : List KindView) (place d : ℕ) (t : Part) (k : KindView) → kind_at s t.kind ≡ k
+    → IsFreeBytes (lead_of k)
     → (e : Entry) × Contains (free_parts place d t k) e × (e.at ≤ place) × EndsAt s (place + free_size k) e e.role
     × (e.depth ≡ d)
 free_part s place d t xdr.hyper is u = (

@@ -53,12 +53,7 @@ fn push_label(out: &mut Vec<u8>, name: &[u8]) -> Result<(), NoMemory>
 }
 
 // What the line of a node says.
-fn push_text(
-    out: &mut Vec<u8>,
-    schema: &Schema,
-    kind: &Kind,
-    value: &Value,
-) -> Result<(), NoMemory>
+fn push_text(out: &mut Vec<u8>, schema: &Schema, kind: &Kind, value: &Value) -> Result<(), NoMemory>
     requires { is_legal schema.now.kinds (kind_view kind.now) (tree value.now).0 ≡ true }
     ensures { OnOk result (out.new.items ≡ out.old.items
         ++ node_text schema.now.kinds (kind_view kind.now) (tree value.now).0) }

@@ -72,23 +72,16 @@ fn push_inner(
         ++ lines schema.now.kinds depth (parts (kind_view kind.now) (tree value.now).0) (tree value.now).1) }
 {
     match (kind, value) {
-        (Kind::Fixed { item, size: _ }, Value::List(items)) => push_items(
+        (Kind::Fixed { item, .. }, Value::List(items)) => push_items(
             out, schema, *item, depth, items,
         ),
-        (Kind::UpTo { item, max: _ }, Value::List(items)) => push_items(
+        (Kind::UpTo { item, .. }, Value::List(items)) => push_items(
             out, schema, *item, depth, items,
         ),
         (Kind::Structure { fields }, Value::Group(parts)) => push_fields(
             out, schema, fields, depth, parts,
         ),
-        (
-            Kind::Choice {
-                tag: _,
-                arms,
-                other,
-            },
-            Value::Choice { tag, part },
-        ) => {
+        (Kind::Choice { arms, other, .. }, Value::Choice { tag, part }) => {
             match part_under(arms, other, *tag) {
                 Some(member) => push_value(
                     out,

@@ -11,6 +11,8 @@ mod grammar;
 #[cfg(test)]
 mod language;
 #[cfg(test)]
+mod schema;
+#[cfg(test)]
 mod shown;
 #[cfg(test)]
 mod types;

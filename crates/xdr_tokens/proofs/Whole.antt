@@ -8,7 +8,8 @@ use Rattle.xdr_tokens.specs.Tokens.{Lexeme}
 use Rattle.xdr_tokens.specs.Due.{RefusesRightly}
 use Rattle.xdr_tokens.specs.Refusals.{IsTokenFault}
 use Rattle.xdr_tokens.specs.Private.Front.{piece_at}
-use Rattle.xdr_tokens.specs.Text.{Piece, Blank, Comment, Run, Constant, Single, spelling, MayPrecede, token_of, with_token}
+use Rattle.xdr_tokens.specs.Text.{Piece, Blank, Comment, Run, Constant, Single, spelling, MayPrecede, token_of}
+use Rattle.xdr_tokens.specs.Text.{with_token}
 use Rattle.xdr_tokens.specs.Text.{Cuts, Tokens}
 use Rattle.xdr_tokens.proofs.Options.{some_is, some_is_not}
 use Rattle.xdr_tokens.proofs.Pieces.{piece_found, piece_again}

@@ -72,12 +72,13 @@ reason kinds f of_group x = bad_padding
 
 -- the unit after q stands in this part of some value that begins with q
 abbrev pub HasNextUnit : List KindView → (kind : ℕ) → (q : List ℕ) → Entry → Type 0
-HasNextUnit kinds kind q e = (v : Tree) × BeginsWith kinds kind q v × Contains (entries kinds kind v) e × (e.at ≤ length q)
-    × (length q < e.at + e.size)
+HasNextUnit kinds kind q e = (v : Tree) × BeginsWith kinds kind q v × Contains (entries kinds kind v) e
+    × (e.at ≤ length q) × (length q < e.at + e.size)
 
 -- the table's reason against the unit after q, by the part in which it stands
 abbrev pub IsReason : List KindView → (kind : ℕ) → (q : List ℕ) → (unit : ℕ) → Why → Type 0
-IsReason kinds kind q x why = (e : Entry) × HasNextUnit kinds kind q e × (why ≡ reason kinds (kind_at kinds e.kind) e.role x)
+IsReason kinds kind q x why = (e : Entry) × HasNextUnit kinds kind q e
+    × (why ≡ reason kinds (kind_at kinds e.kind) e.role x)
 
 -- no reason stands against the number in the first unit of a kind (RFC 4506 sections 4.3, 4.4, 4.15)
 abbrev pub AdmitsNumber : List KindView → KindView → (unit : ℕ) → Type 0

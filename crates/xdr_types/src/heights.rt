@@ -6,7 +6,8 @@ ghost use Rattle.xdr_types.specs.KindViews.{kind_view, part_of_member, branch_of
 ghost use Rattle.xdr_types.specs.Faults.{some_optional};
 ghost use Rattle.xdr_types.specs.Sound.{IsSound, IsLowestWithout, Asks};
 ghost use Rattle.xdr_types.specs.Height.{AreHigher};
-ghost use Rattle.xdr_types.specs.Private.Rounds.{given, are_marked, some_marked, is_marked, IsMarked, IsClosed, AreHeights};
+ghost use Rattle.xdr_types.specs.Private.Rounds.{given, are_marked, some_marked, is_marked, IsMarked, IsClosed};
+ghost use Rattle.xdr_types.specs.Private.Rounds.{AreHeights};
 ghost use Rattle.xdr_types.specs.Private.Sets.{IsReached, AreReached};
 
 use crate::kind::{Arm, Kind, KindId, Member};

@@ -2,8 +2,8 @@
 use crate::words::reading::{Words, read};
 use std::alloc::{AllocError, Global};
 
-// The built-in kinds, the forms of a name, the ranges and defaults of the options, the statuses with their words, and the
-// first words of two examples.
+// The built-in kinds, the forms of a name, the ranges and defaults of the options, the statuses with their words, and
+// the first words of two examples.
 const OF_A_VALUE: [&str; 16] = [
     "int, unsigned, hyper, unsigned-hyper, bool, opaque or string",
     "P.V.N.K",

@@ -1,7 +1,7 @@
 //! Values and their bytes, in both directions.
 use crate::codec::calls::{decoded, encoded, fed, finished, refusal, started, widest, written};
 use crate::codec::made::{Made, chain, value_of};
-use crate::codec::schema::{
+use crate::schema::{
     ALIKE, FILE, FIVE, HYPER, LIST, NOTHING, PAIR, SIX_BYTES, UNSIGNED_HYPER, VOID_CHOICE,
     all_kinds,
 };

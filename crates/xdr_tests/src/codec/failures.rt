@@ -1,7 +1,7 @@
 //! Want of memory, and a write that fails.
 use crate::codec::calls::{encoded, fed, finished, is_fit, refusal, started, widest, written};
 use crate::codec::made::{Made, value_of};
-use crate::codec::schema::{FILE, FIVE, INT, MANY, OPAQUE, STRING, all_kinds};
+use crate::schema::{FILE, FIVE, INT, MANY, OPAQUE, STRING, all_kinds};
 use growths::take_all;
 use std::alloc::{AllocError, Global};
 use std::process::Abort;

@@ -1,6 +1,6 @@
 //! Values of many bytes and of many items, with ample memory.
 use crate::codec::calls::{decoded, encoded, fed, finished, started, widest};
-use crate::codec::schema::{MANY, OPAQUE, all_kinds};
+use crate::schema::{MANY, OPAQUE, all_kinds};
 use std::alloc::{AllocError, Global};
 use std::process::Abort;
 use xdr_codec::{Decoder, Progress};

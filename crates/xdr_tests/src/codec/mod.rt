@@ -6,4 +6,3 @@ mod large;
 mod made;
 mod pieces;
 mod refused;
-mod schema;

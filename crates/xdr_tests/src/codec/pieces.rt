@@ -1,7 +1,7 @@
 //! What is answered to each of several pieces, and at their end.
 use crate::codec::calls::{fed, finished, started, widest};
 use crate::codec::made::{Made, value_of};
-use crate::codec::schema::{BOOL, OPAQUE, TWO, all_kinds};
+use crate::schema::{BOOL, OPAQUE, TWO, all_kinds};
 use std::alloc::Global;
 use std::process::Abort;
 use xdr_codec::{DecodeFault, Progress, Reason};

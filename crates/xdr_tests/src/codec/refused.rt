@@ -1,6 +1,6 @@
 //! Places and reasons of refusals.
 use crate::codec::calls::{decoded, fed, finished, limits, refusal, started, widest};
-use crate::codec::schema::{
+use crate::schema::{
     ALIKE, BOOL, BOOL_CHOICE, CHOICES, FILE, FILEKIND, FIVE, HOLDER, HYPER, INT, INT_CHOICE,
     KIND_CHOICE, LIST, OPAQUE, OWNER, PAIR, SIX_BYTES, STRING, TWO, VOID_CHOICE, all_kinds,
 };

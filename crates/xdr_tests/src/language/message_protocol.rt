@@ -1,5 +1,5 @@
-//! The messages of ONC RPC as RFC 5531 declares them. Two of its spellings are not read: `opaque results[0]`, an array of size
-//! 0, for which `void` stands here, and a name after the body of a definition.
+//! The messages of ONC RPC as RFC 5531 declares them. Two of its spellings are not read: `opaque results[0]`, an array
+//! of size 0, for which `void` stands here, and a name after the body of a definition.
 
 /// Calls, replies and the body of AUTH_SYS (RFC 5531 sections 8.2 and 9, appendix A).
 pub static MESSAGES: &[u8] = b"

@@ -1,5 +1,5 @@
-//! NFS, version 3, as RFC 1813 declares it, with `unsigned long` and `long` for its numbers. Its constants of section 2.4
-//! are a table there, and declarations here.
+//! NFS, version 3, as RFC 1813 declares it, with `unsigned long` and `long` for its numbers. Its constants of section
+//! 2.4 are a table there, and declarations here.
 
 /// NFS (RFC 1813 sections 2.4 to 2.6 and 3.3).
 pub static NFS: &[u8] = b"

@@ -1,5 +1,5 @@
-//! The protocols of rpcbind as RFC 1833 declares them, with its own words. What is C and not XDR is left out: constants and
-//! a procedure's number that are names of other procedures, and a star before the name of a struct's definition.
+//! The protocols of rpcbind as RFC 1833 declares them, with its own words. What is C and not XDR is left out: constants
+//! and a procedure's number that are names of other procedures, and a star before the name of a struct's definition.
 
 /// rpcbind, versions 3 and 4 (RFC 1833 section 2.1).
 pub static RPCBIND: &[u8] = b"

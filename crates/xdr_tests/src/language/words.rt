@@ -98,8 +98,8 @@ static OTHERS: [Refused; 4] = [
     ),
 ];
 
-/// Spellings of the RFCs that are not read: a const and a procedure's number that are names, a star before the name of a
-/// struct's definition (RFC 1833), an array of size 0 and a name after a definition's body (RFC 5531), floating-point
+/// Spellings of the RFCs that are not read: a const and a procedure's number that are names, a star before the name of
+/// a struct's definition (RFC 1833), an array of size 0 and a name after a definition's body (RFC 5531), floating-point
 /// types (RFC 4506 sections 4.6 to 4.8).
 static LEFT_OUT: [Refused; 8] = [
     (b"const rpcb_highproc_2 = RPCBPROC_CALLIT;", [3, 0, 1, 25]),

@@ -1,9 +1,9 @@
 //! Values by their bytes, and what is shown of them.
-use std::alloc::{AllocError, Global};
+use std::alloc::Global;
 use std::process::Abort;
 use xdr_codec::decode;
 use xdr_show::show;
-use xdr_types::{KindId, Limits, Schema, Value, fits};
+use xdr_types::{KindId, Limits, NoMemory, Schema, Value, fits};
 
 /// The value that bytes encode, which are given as hexadecimal digits.
 pub fn value_of(rt: &impl Abort, alloc: Global, schema: &Schema, place: u32, text: &str) -> Value {
@@ -22,7 +22,7 @@ pub fn shown(
     schema: &Schema,
     place: u32,
     value: &Value,
-) -> Option<Result<Vec<u8>, AllocError>> {
+) -> Option<Result<Vec<u8>, NoMemory>> {
     let limits = Limits::new(4096, 16777216)?;
     let kind = KindId { place };
     if fits(schema, kind, value, limits) {

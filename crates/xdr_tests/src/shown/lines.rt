@@ -1,9 +1,10 @@
 //! The lines of values of each kind.
-use crate::shown::calls::{is_shown, shown, value_of};
-use crate::shown::schema::{
-    ALIKE, BOOL, BOOL_CHOICE, FILE, FILETYPE, HYPER, INT, INT_CHOICE, LIST, NEST, NOTHING, OPAQUE,
-    OPTIONAL, PAIR, SIX_BYTES, STRING, UNSIGNED, UNSIGNED_CHOICE, UNSIGNED_HYPER, all_kinds,
+use crate::schema::{
+    BOOL, FILE, FILETYPE, FLAG_CHOICE, HYPER, INT, NEGATIVE_CHOICE, NEST, NOTHING, OPAQUE,
+    OPTIONAL, PAIR, PAIRS, SIGNED_ALIKE, SIX_BYTES, STRING, UNSIGNED, UNSIGNED_CHOICE,
+    UNSIGNED_HYPER, all_kinds,
 };
+use crate::shown::calls::{is_shown, shown, value_of};
 use std::alloc::{AllocError, Global};
 use std::process::Abort;
 use xdr_types::{Schema, Value};
@@ -38,8 +39,8 @@ const NUMBERS: [Row; 8] = [
     (UNSIGNED_HYPER, "ffffffffffffffff", "18446744073709551615\n"),
     (BOOL, "00000001", "TRUE\n"),
     (BOOL, "00000000", "FALSE\n"),
-    (ALIKE, "00000005", "a = 5\n"),
-    (ALIKE, "ffffffff", "c = -1\n"),
+    (SIGNED_ALIKE, "00000005", "a = 5\n"),
+    (SIGNED_ALIKE, "ffffffff", "c = -1\n"),
 ];
 
 const CONTENT: [Row; 5] = [
@@ -57,11 +58,11 @@ const CONTENT: [Row; 5] = [
 const ARRAYS: [Row; 3] = [
     (PAIR, "ffffffff7fffffff", "array of 2\n  -1\n  2147483647\n"),
     (
-        LIST,
+        PAIRS,
         "000000020000000100000002ffffffff7fffffff",
         "list of 2\n  array of 2\n    1\n    2\n  array of 2\n    -1\n    2147483647\n",
     ),
-    (LIST, "00000000", "list of 0\n"),
+    (PAIRS, "00000000", "list of 0\n"),
 ];
 
 const OPTIONALS: [Row; 2] = [
@@ -72,9 +73,9 @@ const OPTIONALS: [Row; 2] = [
 const CHOICES: [Row; 6] = [
     (NOTHING, "", "void\n"),
     (FILETYPE, "00000000", "case TEXT = 0\n  void\n"),
-    (BOOL_CHOICE, "0000000100000007", "case TRUE\n  x: 7\n"),
-    (BOOL_CHOICE, "00000000", "case FALSE\n  void\n"),
-    (INT_CHOICE, "ffffffff", "case -1\n  none: void\n"),
+    (FLAG_CHOICE, "0000000100000007", "case TRUE\n  x: 7\n"),
+    (FLAG_CHOICE, "00000000", "case FALSE\n  void\n"),
+    (NEGATIVE_CHOICE, "ffffffff", "case -1\n  none: void\n"),
     (
         UNSIGNED_CHOICE,
         "ffffffff000000017a000000",

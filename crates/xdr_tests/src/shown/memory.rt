@@ -1,6 +1,6 @@
 //! What is answered where memory is refused.
+use crate::schema::{FILE, all_kinds};
 use crate::shown::calls::{shown, value_of};
-use crate::shown::schema::{FILE, all_kinds};
 use growths::{allow, refuse, take_all};
 use std::alloc::{AllocError, Global};
 use std::env::Env;

@@ -2,4 +2,3 @@
 pub mod calls;
 mod lines;
 mod memory;
-mod schema;

@@ -1,4 +1,4 @@
-// Kinds, schemas and values that the tests are made of.
+//! Kinds, schemas and values that the tests are made of.
 use std::alloc::{AllocError, Global};
 use std::string::String;
 use xdr_types::{Arm, Flaw, Kind, KindId, Limits, Member, Schema, Value, fits, size};

@@ -1,4 +1,4 @@
-// Long lists, with nothing twice and with a name or a case twice far apart, as rows.
+//! Long lists, with nothing twice and with a name or a case twice far apart, as rows.
 use crate::types::made::{arm, id, member, refusal, structure};
 use std::alloc::{AllocError, Global};
 use std::string::String;

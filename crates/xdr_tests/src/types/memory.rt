@@ -1,4 +1,4 @@
-// What is answered where every growth is refused.
+//! What is answered where every growth is refused.
 use crate::types::made::{arm, has_kind, id, member, refusal, size_within};
 use growths::take_all;
 use std::alloc::{AllocError, Global};

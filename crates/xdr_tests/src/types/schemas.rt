@@ -1,4 +1,4 @@
-// What a schema answers, and the laws of schemas.
+//! What a schema answers, and the laws of schemas.
 use crate::types::made::{arm, has_kind, id, member};
 use std::alloc::Global;
 use xdr_types::{

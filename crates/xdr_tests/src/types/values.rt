@@ -1,4 +1,4 @@
-// Which values fit, how many bytes they have, and their copies.
+//! Which values fit, how many bytes they have, and their copies.
 use crate::types::made::{before, empty_strings, id, list_kinds, size_within};
 use std::alloc::Global;
 use xdr_types::{Kind, Limits, Schema, Value, is_equal};

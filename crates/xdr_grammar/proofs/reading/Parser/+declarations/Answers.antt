@@ -2,7 +2,8 @@ use Rattle.std.proofs.Common.{length, map}
 use Rattle.std.proofs.lemmas.Result.{err_from_is_err_and}
 use Rattle.std.proofs.lemmas.List.{map_push}
 use Rattle.xdr_grammar.specs.View.{arm_of, field_of}
-use Rattle.xdr_grammar.specs.Private.Reading.{repeat, arm_with, content_with, declaration_with, field_with, specifier_at}
+use Rattle.xdr_grammar.specs.Private.Reading.{repeat, arm_with, content_with, declaration_with, field_with}
+use Rattle.xdr_grammar.specs.Private.Reading.{specifier_at}
 use Rattle.xdr_grammar.specs.Private.Parsing.{left, so_far}
 use Rattle.xdr_grammar.proofs.Loop.{fails_along, stops, ends, goes_on}
 use Rattle.xdr_grammar.proofs.reading.Parser.+declarations.Goals as goal

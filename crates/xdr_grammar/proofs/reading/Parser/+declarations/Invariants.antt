@@ -1,6 +1,7 @@
 use Rattle.std.proofs.Common.{◌≡◌, ◌-◌, ◌+◌, ◌*◌, length, map}
 use Rattle.xdr_grammar.specs.View.{arm_of, field_of}
-use Rattle.xdr_grammar.specs.Private.Reading.{repeat, arm_with, content_with, declaration_with, field_with, specifier_at}
+use Rattle.xdr_grammar.specs.Private.Reading.{repeat, arm_with, content_with, declaration_with, field_with}
+use Rattle.xdr_grammar.specs.Private.Reading.{specifier_at}
 use Rattle.xdr_grammar.specs.Private.Parsing.{left, so_far}
 use Rattle.xdr_grammar.proofs.Loop.{with_front}
 use Rattle.xdr_grammar.proofs.reading.Parser.+declarations.Given as goal

@@ -1,10 +1,12 @@
-//! A schema with each kind.
+//! A schema with each kind, which the tests of decoding, encoding and showing share.
 use std::alloc::{AllocError, Global};
 use std::process::Abort;
 use std::string::String;
 use xdr_types::{Arm, Kind, KindId, Member, Schema};
 
 pub const INT: u32 = 0;
+
+pub const UNSIGNED: u32 = 1;
 
 pub const HYPER: u32 = 2;
 
@@ -23,6 +25,8 @@ pub const FIVE: u32 = 8;
 pub const LIST: u32 = 9;
 
 pub const FILEKIND: u32 = 11;
+
+pub const FILETYPE: u32 = 13;
 
 pub const OWNER: u32 = 14;
 
@@ -50,6 +54,20 @@ pub const MANY: u32 = 26;
 
 pub const CHOICES: u32 = 27;
 
+pub const SIGNED_ALIKE: u32 = 28;
+
+pub const PAIRS: u32 = 29;
+
+pub const OPTIONAL: u32 = 30;
+
+pub const NEST: u32 = 31;
+
+pub const FLAG_CHOICE: u32 = 32;
+
+pub const NEGATIVE_CHOICE: u32 = 33;
+
+pub const UNSIGNED_CHOICE: u32 = 34;
+
 // A kind whose lists are literals: other kinds are named by their places, and arms by their cases.
 #[derive(Clone, Copy)]
 enum Shape {
@@ -67,11 +85,11 @@ enum Shape {
     Maybe(u32),
     Numbered(&'static [(&'static str, i32)]),
     Structure(&'static [(&'static str, u32)]),
-    Choice(u32, &'static [(i64, &'static str, u32)]),
+    Choice(u32, &'static [(i64, &'static str, u32)], Option<(&'static str, u32)>),
 }
 
 // The kinds in the order of their places.
-const SHAPES: [Shape; 28] = [
+const SHAPES: [Shape; 35] = [
     Shape::Int,
     Shape::Unsigned,
     Shape::Hyper,
@@ -89,6 +107,7 @@ const SHAPES: [Shape; 28] = [
     Shape::Choice(
         FILEKIND,
         &[(0, "", NOTHING), (1, "creator", 12), (2, "interpretor", 12)],
+        None,
     ),
     Shape::Text(32),
     Shape::OpaqueUpTo(65535),
@@ -99,17 +118,26 @@ const SHAPES: [Shape; 28] = [
         ("data", 15),
     ]),
     // The others.
-    Shape::Choice(INT, &[(1, "x", INT)]),
-    Shape::Choice(INT, &[(1, "", NOTHING)]),
+    Shape::Choice(INT, &[(1, "x", INT)], None),
+    Shape::Choice(INT, &[(1, "", NOTHING)], None),
     Shape::Structure(&[("x", INT)]),
     Shape::UpTo(INT, 2),
     Shape::Numbered(&[("a", 5), ("b", 5)]),
     Shape::Opaque(6),
     Shape::Fixed(INT, 2),
-    Shape::Choice(BOOL, &[(0, "x", INT)]),
-    Shape::Choice(FILEKIND, &[(0, "x", INT)]),
+    Shape::Choice(BOOL, &[(0, "x", INT)], None),
+    Shape::Choice(FILEKIND, &[(0, "x", INT)], None),
     Shape::UpTo(INT, 4294967295),
     Shape::Fixed(INT_CHOICE, 2),
+    // A member below 0, arrays and optionals.
+    Shape::Numbered(&[("a", 5), ("b", 5), ("c", -1)]),
+    Shape::UpTo(PAIR, 2),
+    Shape::Maybe(STRING),
+    Shape::Maybe(NEST),
+    // Unions over each other kind of discriminant.
+    Shape::Choice(BOOL, &[(1, "x", INT)], Some(("", NOTHING))),
+    Shape::Choice(INT, &[(-1, "none", NOTHING)], None),
+    Shape::Choice(UNSIGNED, &[(4294967295, "", STRING)], None),
 ];
 
 fn id(place: u32) -> KindId {
@@ -139,18 +167,24 @@ fn structure(alloc: Global, parts: &[(&'static str, u32)]) -> Result<Kind, Alloc
     Ok(Kind::Structure { fields })
 }
 
-fn choice(alloc: Global, tag: u32, parts: &[(i64, &'static str, u32)]) -> Result<Kind, AllocError> {
+fn arms_of(alloc: Global, parts: &[(i64, &'static str, u32)]) -> Result<Vec<Arm>, AllocError> {
     let mut arms = Vec::new(alloc);
     for (case, name, place) in parts {
         let cases = vec![in alloc; *case]?;
         let member = member(alloc, name, *place)?;
         arms.push(Arm { cases, member })?;
     }
-    Ok(Kind::Choice {
-        tag: id(tag),
-        arms,
-        other: None,
-    })
+    Ok(arms)
+}
+
+fn other_of(
+    alloc: Global,
+    part: Option<(&'static str, u32)>,
+) -> Result<Option<Member>, AllocError> {
+    match part {
+        Some((name, place)) => Ok(Some(member(alloc, name, place)?)),
+        None => Ok(None),
+    }
 }
 
 fn kind_of(alloc: Global, shape: Shape) -> Result<Kind, AllocError> {
@@ -175,7 +209,15 @@ fn kind_of(alloc: Global, shape: Shape) -> Result<Kind, AllocError> {
         Shape::Maybe(place) => Ok(Kind::Maybe { item: id(place) }),
         Shape::Numbered(names) => numbered(alloc, names),
         Shape::Structure(parts) => structure(alloc, parts),
-        Shape::Choice(tag, parts) => choice(alloc, tag, parts),
+        Shape::Choice(tag, parts, other) => {
+            let arms = arms_of(alloc, parts)?;
+            let other = other_of(alloc, other)?;
+            Ok(Kind::Choice {
+                tag: id(tag),
+                arms,
+                other,
+            })
+        }
     }
 }
 
