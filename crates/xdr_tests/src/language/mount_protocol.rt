@@ -1,4 +1,5 @@
-//! The mount protocol, version 3, as RFC 1813 declares it, with `struct NAME` in its lists.
+//! The mount protocol, version 3, as RFC 1813 declares it, with `struct NAME` in its lists. A case of its union is
+//! `MNT3_OK` here, the member's name; the RFC prints `MNT_OK`, which nothing declares.
 
 /// The mount protocol (RFC 1813 appendix I).
 pub static MOUNT: &[u8] = b"

@@ -18,7 +18,7 @@ struct rp__list {
    struct rp__list *rpcb_next;
 };
 
-typedef rp__list *rpcblist;        /* results of RPCBPROC_DUMP */
+typedef rp__list *rpcblist_ptr;        /* results of RPCBPROC_DUMP */
 
 /* Arguments of remote calls */
 struct rpcb_rmtcallargs {
@@ -96,7 +96,7 @@ typedef rpcb_stat rpcb_stat_byvers[RPCBVERS_STAT];
 
 /* netbuf structure, used to store the transport specific form of a universal transport address. */
 struct netbuf {
-   unsigned long maxlen;
+   unsigned int maxlen;
    opaque buf<>;
 };
 
@@ -106,22 +106,22 @@ program RPCBPROG {
       bool RPCBPROC_SET(rpcb) = 1;
       bool RPCBPROC_UNSET(rpcb) = 2;
       string RPCBPROC_GETADDR(rpcb) = 3;
-      rpcblist RPCBPROC_DUMP(void) = 4;
+      rpcblist_ptr RPCBPROC_DUMP(void) = 4;
       rpcb_rmtcallres RPCBPROC_CALLIT(rpcb_rmtcallargs) = 5;
       unsigned int RPCBPROC_GETTIME(void) = 6;
-      struct netbuf RPCBPROC_UADDR2TADDR(string) = 7;
-      string RPCBPROC_TADDR2UADDR(struct netbuf) = 8;
+      netbuf RPCBPROC_UADDR2TADDR(string) = 7;
+      string RPCBPROC_TADDR2UADDR(netbuf) = 8;
    } = 3;
 
    version RPCBVERS4 {
       bool RPCBPROC_SET(rpcb) = 1;
       bool RPCBPROC_UNSET(rpcb) = 2;
       string RPCBPROC_GETADDR(rpcb) = 3;
-      rpcblist RPCBPROC_DUMP(void) = 4;
+      rpcblist_ptr RPCBPROC_DUMP(void) = 4;
       rpcb_rmtcallres RPCBPROC_BCAST(rpcb_rmtcallargs) = 5;
       unsigned int RPCBPROC_GETTIME(void) = 6;
-      struct netbuf RPCBPROC_UADDR2TADDR(string) = 7;
-      string RPCBPROC_TADDR2UADDR(struct netbuf) = 8;
+      netbuf RPCBPROC_UADDR2TADDR(string) = 7;
+      string RPCBPROC_TADDR2UADDR(netbuf) = 8;
       string RPCBPROC_GETVERSADDR(rpcb) = 9;
       rpcb_rmtcallres RPCBPROC_INDIRECT(rpcb_rmtcallargs) = 10;
       rpcb_entry_list_ptr RPCBPROC_GETADDRLIST(rpcb) = 11;
@@ -136,10 +136,10 @@ const PMAP_PORT = 111;      /* portmapper port number */
 
 /* A mapping of (program, version, protocol) to port number */
 struct mapping {
-   unsigned long prog;
-   unsigned long vers;
-   unsigned long prot;
-   unsigned long port;
+   unsigned int prog;
+   unsigned int vers;
+   unsigned int prot;
+   unsigned int port;
 };
 
 /* Supported values for the prot field */
@@ -155,15 +155,15 @@ typedef struct pm__list *pmaplist;
 
 /* Arguments to callit */
 struct call_args {
-   unsigned long prog;
-   unsigned long vers;
-   unsigned long proc;
+   unsigned int prog;
+   unsigned int vers;
+   unsigned int proc;
    opaque args<>;
 };
 
 /* Results of callit */
 struct call_result {
-   unsigned long port;
+   unsigned int port;
    opaque res<>;
 };
 
@@ -173,7 +173,7 @@ program PMAP_PROG {
       void PMAPPROC_NULL(void) = 0;
       bool PMAPPROC_SET(mapping) = 1;
       bool PMAPPROC_UNSET(mapping) = 2;
-      unsigned long PMAPPROC_GETPORT(mapping) = 3;
+      unsigned int PMAPPROC_GETPORT(mapping) = 3;
       pmaplist PMAPPROC_DUMP(void) = 4;
       call_result PMAPPROC_CALLIT(call_args) = 5;
    } = 2;

@@ -99,9 +99,9 @@ static OTHERS: [Refused; 4] = [
 ];
 
 /// Spellings of the RFCs that are not read: a const and a procedure's number that are names, a star before the name of
-/// a struct's definition (RFC 1833), an array of size 0 and a name after a definition's body (RFC 5531), floating-point
-/// types (RFC 4506 sections 4.6 to 4.8).
-static LEFT_OUT: [Refused; 8] = [
+/// a struct's definition (RFC 1833), an array of size 0 and a name after a definition's body (RFC 5531), two names that
+/// nothing declares (RFC 1813), floating-point types (RFC 4506 sections 4.6 to 4.8).
+static LEFT_OUT: [Refused; 10] = [
     (b"const rpcb_highproc_2 = RPCBPROC_CALLIT;", [3, 0, 1, 25]),
     (
         b"program P { version V { int RPCBPROC_BCAST(int) = RPCBPROC_CALLIT; } = 4; } = 1;",
@@ -118,6 +118,14 @@ static LEFT_OUT: [Refused; 8] = [
     (
         b"union reply_body switch (int stat) { case 0: void; } reply;",
         [3, 0, 1, 54],
+    ),
+    (
+        b"enum mountstat3 { MNT3_OK = 0 }; union mountres3 switch (mountstat3 s) { case MNT_OK: int x; default: void; };",
+        [6, 0, 1, 79],
+    ),
+    (
+        b"struct FSINFOargs { int fsroot; }; program P { version V { int N(FSINFO3args) = 19; } = 3; } = 100003;",
+        [6, 0, 1, 66],
     ),
     (b"typedef float identifier;", [4, 0, 1, 9]),
     (b"typedef double identifier;", [4, 0, 1, 9]),
