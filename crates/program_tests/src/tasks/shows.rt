@@ -4,7 +4,7 @@ use oncrpc_tasks::show_over;
 use std::alloc::{AllocError, Global};
 use std::process::Abort;
 use xdr_io::{MemorySink, MemorySource};
-use xdr_types::{KindId, Limits, Schema};
+use xdr_types::{KindId, Limits, NoMemory, Schema};
 
 const SILLYPROG_LINES: &[u8] = b"struct
   filename: \"sillyprog\"
@@ -143,7 +143,7 @@ fn is_bool_shown(rt: &impl Abort, alloc: Global, schema: &Schema, lines: &[u8]) 
 }
 
 #[test]
-fn shows_a_basic_kind(rt: HostRuntime) -> Result<(), AllocError> {
+fn shows_a_basic_kind(rt: HostRuntime) -> Result<(), NoMemory> {
     let schema = Schema::basic(rt.alloc())?;
     assert!(rt; is_bool_shown(&rt, rt.alloc(), &schema, b"TRUE\nok 4, more follows\n"));
     Ok(())
