@@ -15,6 +15,7 @@ use Rattle.xdr_grammar.specs.Private.Reading.{definitions_at}
 use Rattle.xdr_grammar.proofs.Outlining.{outline_again}
 use Rattle.xdr_grammar.proofs.FoundAll.{definitions_found}
 use Rattle.lang_examples.proofs.Cutting.{present, no_refusal}
+pub use Rattle.xdr_grammar.proofs.Outlining.{outline_found}
 
 pub tells_outline : {A : Type 0} (ts us : List Lexeme) (f : Outline → A) (y : A) (r : Result Made Fault) → us ≡ ts
     → option_map f (definitions_at (length ts) nothing ts) ≡ Some y → IfOk r (λ v. IsOutline us (outline_of v))
@@ -30,12 +31,6 @@ no_outline ts us (Ok v) same none found =
     let is = subst (λ (x : List Lexeme). IsOutline x (outline_of v)) same found in
     absurd (some_is_not (outline_of v) (sym (outline_again ts (outline_of v) is) ∙ none))
 no_outline ts us (Err e) same none found = refl
-
--- what definitions are read from declares what is read
-pub outline_found : (ts : List Lexeme) (o : Outline) → definitions_at (length ts) nothing ts ≡ Some o → IsOutline ts o
-outline_found ts o e =
-    let a = definitions_found (length ts) nothing ts o e in
-    record { tree = a.tree; spelled = a.spelled; nested = a.nested; outlined = a.made }
 
 pub memory_of_outline : (ts us : List Lexeme) (r : Result Made Fault) → us ≡ ts
     → is_some (definitions_at (length ts) nothing ts) ≡ true

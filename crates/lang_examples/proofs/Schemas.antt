@@ -9,10 +9,7 @@ use Rattle.xdr_types.specs.Named.{basic}
 use Rattle.xdr_types.specs.Faults.{kind_flaw_at, name_flaw_at, AreFlawless, IsWellFormed}
 use Rattle.xdr_types.specs.Sound.{Heighting, IsBelow, Asks, IsProper, IsSound}
 use Rattle.xdr_types.specs.declared.fault.Flaw.{Flaw}
-
-pub same_or_not : (a b : ℕ) (r : Bool) → eqb a b ≡ r → (a ≡ b) ⊎ (a ≡ b → ⊥)
-same_or_not a b true e = inl (eqb-true a b e)
-same_or_not a b false e = inr (λ h. eqb-false a b e h)
+pub use Rattle.xdr_types.proofs.Heighting.{same_or_not}
 
 left_of : (a b : Bool) → (a && b) ≡ true → a ≡ true
 left_of true b e = refl

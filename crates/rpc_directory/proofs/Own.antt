@@ -7,6 +7,8 @@ use Rattle.std.proofs.lemmas.Bool.Decides.{Decides-eqb}
 use Rattle.rpc_rows.specs.Rows.{Row, row_of}
 use Rattle.rpc_rows.specs.Steps.{set, is_empty, superuser}
 use Rattle.rpc_rows.specs.Ports.{at_port, tcp}
+pub use Rattle.rpc_rows.proofs.Removed.{not_empty as is_empty-not}
+pub use Rattle.rpc_dumps.proofs.Fitting.{le_true as fits_true}
 
 module _ (address : List ℕ) (some : is_empty address ≡ false) (fits : nat_le (length address) 256 ≡ true) where
   abbrev pub own : ℕ → Row
@@ -49,12 +51,3 @@ length-at_port port h =
     simp length-append refl in
     (omega (arith, e, y), omega (arith, e, z, a, b))
 
-pub is_empty-not : (xs : List ℕ) → 0 < length xs → is_empty xs ≡ false
-is_empty-not xs h = by (nat_eq (length xs) 0) refl
-  where
-    by : (b : Bool) → nat_eq (length xs) 0 ≡ b → b ≡ false
-    by false e = refl
-    by true e = let z : length xs ≡ 0 = (Decides-eqb (length xs) 0).0 e in absurd (omega (arith, h, z))
-
-pub fits_true : (a b : ℕ) → a ≤ b → nat_le a b ≡ true
-fits_true a b h = grind (arith, h)

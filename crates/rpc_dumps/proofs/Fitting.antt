@@ -20,7 +20,7 @@ use Rattle.rpc_dumps.specs.Dir.{dir_kinds}
 use Rattle.rpc_dumps.specs.Dumps.{linked, rpcb_tree, rpcb_list, mapping_tree, mapping_row, mapping_list, prot_of}
 use Rattle.rpc_dumps.specs.Dumps.{dump_limits}
 
-le_true : (a b : ℕ) → a ≤ b → nat_le a b ≡ true
+pub le_true : (a b : ℕ) → a ≤ b → nat_le a b ≡ true
 le_true a b h = grind (arith, h)
 
 bytes_true : (bs : List ℕ) → AreBytes bs → are_bytes bs ≡ true

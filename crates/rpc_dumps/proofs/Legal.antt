@@ -4,6 +4,7 @@ use Rattle.std.proofs.Common.{true, false, ◌&&◌, nat_lt, refl, sym, ◌∙�
 use Rattle.std.proofs.Common.{Err, MatchResult}
 use Rattle.std.specs.List.{AllByRecursion}
 use Rattle.std.proofs.lemmas.Bool.{false≢true}
+use Rattle.std.proofs.lemmas.Bool.{and_parts as both}
 use Rattle.xdr_types.specs.Kinds as xdr
 use Rattle.xdr_types.specs.Kinds.{KindView, Part, Lists, kind_at}
 use Rattle.xdr_types.specs.Faults.{AreFlawless, IsWellFormed, kind_flaw_at, name_flaw_at, fault}
@@ -17,10 +18,7 @@ use Rattle.xdr_types.specs.declared.fault.Flaw.{Flaw}
 use Rattle.xdr_types.specs.declared.fault.Flaw.TheVariants as flaw
 use Rattle.xdr_types.specs.declared.fault.SchemaFault.{SchemaFault}
 use Rattle.rpc_dumps.specs.Dir.{dir_kinds, dir_lists}
-
-both : (a b : Bool) → a && b ≡ true → (a ≡ true) × (b ≡ true)
-both true b h = (refl, h)
-both false b h = absurd (false≢true h)
+use Rattle.xdr_types.proofs.Heighting.{some-is}
 
 -- no place below n has a flaw, as a test
 abbrev all_flawless : (ℕ → Option Flaw) → ℕ → Bool
@@ -105,9 +103,6 @@ asks kinds n (xdr.fixed item size) h = absurd (false≢true h)
 asks kinds n (xdr.up_to item max) h = absurd (false≢true h)
 asks kinds n (xdr.choice tag arms other) h = absurd (false≢true h)
 asks kinds n xdr.unknown h = absurd (false≢true h)
-
-some-is : (m n : ℕ) → Some m ≡ Some n → m ≡ n
-some-is m n e = cc
 
 none≢some : (m : ℕ) → None ≡ Some m → ⊥
 none≢some m e = cc

@@ -23,6 +23,7 @@ use Rattle.rpc_message.specs.Private.Reading.{bounds_at, status_at, why_at, acce
 use Rattle.rpc_message.specs.Private.Reading.{reply_at}
 use Rattle.rpc_message.proofs.FieldLaws.{bind_err, ok_no_err, err_is, failed, guard_fails, word_takes, word_fails}
 use Rattle.rpc_message.proofs.FieldLaws.{zeros_are, are_zeros-replicate, body_at, auth_takes}
+use Rattle.rpc_message.proofs.ReplyLaws.{after_kind}
 
 -- ---- steps that fail
 
@@ -663,10 +664,6 @@ stat_fails xid (suc (suc n)) bytes d x s fits e =
       none = omega arith;
       parts = refl;
     })
-
-abbrev after_kind : ℕ × List ℕ → ℕ × List ℕ → Result ReplyView ReplyFault
-after_kind xid kind = cond (eqb kind.0 1) (word_at kind.1 >>= (λ stat. reply_stat_at xid.0 stat.0 stat.1))
-    (Err faults.NotAReply)
 
 pub reply_fails : (bytes : List ℕ) (d : ReplyFault) → AreBytes bytes → reply_at bytes ≡ Err d → StandsIn d bytes
 unfolding reply_at

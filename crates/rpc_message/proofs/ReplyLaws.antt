@@ -154,7 +154,7 @@ stat_takes xid zero bytes r x fits e = accepted_takes xid bytes r x fits e
 stat_takes xid (suc zero) bytes r x fits e = denied_takes xid bytes r x fits e
 stat_takes xid (suc (suc n)) bytes r x fits e = absurd (ok_no_err r faults.BadStatus (sym e))
 
-abbrev after_kind : ℕ × List ℕ → ℕ × List ℕ → Result ReplyView ReplyFault
+abbrev pub after_kind : ℕ × List ℕ → ℕ × List ℕ → Result ReplyView ReplyFault
 after_kind xid kind = cond (eqb kind.0 1) (word_at kind.1 >>= (λ stat. reply_stat_at xid.0 stat.0 stat.1))
     (Err faults.NotAReply)
 

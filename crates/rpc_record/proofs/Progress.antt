@@ -20,6 +20,7 @@ use Rattle.rpc_record.specs.Private.Passing.{Cuts, Passed, CutBy}
 use Rattle.rpc_record.proofs.Readers.{Longest-taking, FaultyIn-room, RefusedIn-all, faults_begin}
 use Rattle.rpc_record.proofs.Places.{Longest-long}
 use Rattle.rpc_record.proofs.Counting.{normal-append}
+use Rattle.rpc_record.proofs.Told.{not_broken}
 
 -- what normalising has done so far: it takes bytes, and has written every whole record
 pub record Progress (limit : ℕ) (records : RecordReader) (count : Count)
@@ -140,13 +141,6 @@ Progress-end limit r c l l' m t t' array n p e k end w = record {
   written = p.wrote;
   counted = p.counted;
 }
-
-not_broken : (p : Place) (f : RecordFault) → IsTakingAt p → IsBrokenAt p f → ⊥
-not_broken (place.Broken g) f i e = i
-not_broken place.Between f i e = e
-not_broken (place.Header at part) f i e = e
-not_broken (place.Content w) f i e = e
-not_broken place.Whole f i e = e
 
 truncated : (limit : ℕ) (r : RecordReader) (c : Count) (l l' m t t' : Option (List ℕ))
     (p : Progress limit r c l l' t t') (f : RecordFault) → IsAtEnd m → TruncatedAt r f

@@ -113,7 +113,7 @@ Concludes-waiting reader u w bytes rs h = (
   (omega arith, (Stands-waiting reader bytes rs w h).0, λ taking. absurd (subst IsTakingAt w taking)),
 )
 
-not_broken : (p : Place) (f : RecordFault) → IsTakingAt p → IsBrokenAt p f → ⊥
+pub not_broken : (p : Place) (f : RecordFault) → IsTakingAt p → IsBrokenAt p f → ⊥
 not_broken (place.Broken g) f i e = i
 not_broken place.Between f i e = e
 not_broken (place.Header at part) f i e = e

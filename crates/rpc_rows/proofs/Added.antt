@@ -4,6 +4,7 @@ use Rattle.std.proofs.Common.{ap, sym, ◌∙◌, arith, Option, None, Some, is_
 use Rattle.std.specs.List.{list_any}
 use Rattle.std.specs.Map.{lookup}
 use Rattle.std.proofs.lemmas.Bool.Decides.{Decides-ltb}
+pub use Rattle.std.proofs.lemmas.Bool.{and_parts as both}
 use Rattle.rpc_rows.specs.declared.key.Key.{Key}
 use Rattle.rpc_rows.specs.declared.row.Row.{Row}
 use Rattle.rpc_rows.specs.Rows as plain
@@ -12,10 +13,6 @@ use Rattle.rpc_rows.specs.Keys.{key_of}
 use Rattle.rpc_rows.specs.Steps.{may_add, is_empty}
 use Rattle.rpc_rows.specs.Views.{plain_row, plain_rows, AreKeyed, IsKeyed}
 use Rattle.rpc_rows.proofs.Keyed.{key_eq, find_by_key, find_is_any}
-
-pub both : (a b : Bool) → (a && b) ≡ true → (a ≡ true) × (b ≡ true)
-both true b e = (refl, e)
-both false b e = absurd (true≢false (sym e))
 
 not_true : (a : Bool) → not a ≡ true → a ≡ false
 not_true false e = refl

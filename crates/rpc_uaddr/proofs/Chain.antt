@@ -22,7 +22,7 @@ abbrev front : List (Option ℕ) → Option ℕ
 front [] = None
 front (o ∷ os) = o
 
-abbrev behind : List (Option ℕ) → List (Option ℕ)
+abbrev pub behind : List (Option ℕ) → List (Option ℕ)
 behind [] = []
 behind (o ∷ os) = os
 

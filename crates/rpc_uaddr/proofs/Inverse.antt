@@ -8,8 +8,10 @@ use Rattle.std.specs.Str.{bytes_eq}
 use Rattle.std.specs.Str.Parse.{digits_value}
 use Rattle.std.proofs.lemmas.Slice.Eq.{bytes_eq-Decides}
 use Rattle.std.proofs.lemmas.Bool.Decides.{Decides-eqb, Decides-ltb}
+use Rattle.std.proofs.lemmas.Bool.{and_parts as and_both}
 use Rattle.rpc_uaddr.specs.declared.address.Uaddr.{Uaddr}
 use Rattle.rpc_uaddr.specs.Uaddrs.{uaddr_of, uaddr_text, uaddr_from, parts, onto_first, octet, dotted}
+use Rattle.rpc_uaddr.proofs.Chain.{behind as rest}
 
 -- parts with dots between them
 abbrev dots : List (List ℕ) → List ℕ
@@ -45,10 +47,6 @@ dots-parts (b ∷ bs) = by (nat_eq b 46) refl (parts bs) (some_part bs) (dots-pa
     by true e [] s d = absurd (true≢false (sym s))
     by true e (p ∷ ps) s d = (λ j. sym ((Decides-eqb b 46).0 e) j ∷ d j)
     by false e ps s d = dots-onto b ps s ∙ ap (λ r. b ∷ r) d
-
-and_both : (a b : Bool) → (a && b) ≡ true → (a ≡ true) × (b ≡ true)
-and_both true b e = (refl, e)
-and_both false b e = absurd (true≢false (sym e))
 
 abbrev value_of : ℕ → Option ℕ → ℕ
 value_of d None = d
@@ -110,10 +108,6 @@ six (Some a ∷ Some b ∷ Some c ∷ Some d ∷ Some h ∷ Some l ∷ o ∷ os)
 abbrev head_or : Option ℕ → List (Option ℕ) → Option ℕ
 head_or d [] = d
 head_or d (o ∷ os) = o
-
-abbrev rest : List (Option ℕ) → List (Option ℕ)
-rest [] = []
-rest (o ∷ os) = os
 
 abbrev some : List (Option ℕ) → Bool
 some [] = false

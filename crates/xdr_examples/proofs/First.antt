@@ -10,10 +10,7 @@ use Rattle.xdr_types.specs.declared.fault.Flaw.{Flaw}
 use Rattle.xdr_types.specs.declared.fault.Flaw.TheVariants as flaw
 use Rattle.xdr_types.specs.declared.fault.SchemaFault.{SchemaFault}
 use Rattle.xdr_examples.specs.Refusal.{first_from, first_flaw, IsRefusedFor, IsNoFlaw}
-
-same_or_not : (a b : ℕ) (r : Bool) → eqb a b ≡ r → (a ≡ b) ⊎ (a ≡ b → ⊥)
-same_or_not a b true e = inl (eqb-true a b e)
-same_or_not a b false e = inr (λ h. eqb-false a b e h)
+use Rattle.xdr_types.proofs.Heighting.{same_or_not}
 
 none : (at : ℕ → Option Flaw) (n place : ℕ) → ((q : ℕ) → place ≤ q → q < place + n → at q ≡ None)
     → first_from at n place ≡ None

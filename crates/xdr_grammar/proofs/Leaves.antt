@@ -14,17 +14,14 @@ use Rattle.xdr_grammar.specs.Outline.{Outline, Late, late}
 use Rattle.xdr_tokens.specs.Options.{◌>>=◌}
 use Rattle.xdr_grammar.specs.Private.Reading.{taken, word_number, mark_number, after_word, after_sign, name_at}
 use Rattle.xdr_grammar.specs.Private.Reading.{number_at, value_at, size_at, limit_at, either_sign, numbered_at}
+use Rattle.xdr_tokens.specs.Keywords.{keywords as words}
+use Rattle.xdr_tokens.specs.Text.{marks}
 
 -- which way it went
 pub taken_some : {A B : Type 0} (o : Option A) (f : A → B) (b y : B) → taken o f b ≡ y
     → ((a : A) × (o ≡ Some a) × (f a ≡ y)) ⊎ ((o ≡ None) × (b ≡ y))
 taken_some (Some a) f b y e = inl (a, refl, e)
 taken_some None f b y e = inr (refl, e)
-
-abbrev words : List Keyword
-words = word.Bool ∷ word.Case ∷ word.Const ∷ word.Default ∷ word.Double ∷ word.Enum ∷ word.Float ∷ word.Hyper ∷ word.Int
-    ∷ word.Long ∷ word.Opaque ∷ word.Program ∷ word.Quadruple ∷ word.String ∷ word.Struct ∷ word.Switch ∷ word.Typedef
-    ∷ word.Union ∷ word.Unsigned ∷ word.Version ∷ word.Void ∷ []
 
 word_back : (w : Keyword) → get_or words (word_number w) word.Bool ≡ w
 word_back word.Bool = refl
@@ -48,10 +45,6 @@ word_back word.Union = refl
 word_back word.Unsigned = refl
 word_back word.Version = refl
 word_back word.Void = refl
-
-abbrev marks : List Mark
-marks = mark.OpenBrace ∷ mark.CloseBrace ∷ mark.OpenRound ∷ mark.CloseRound ∷ mark.OpenBracket ∷ mark.CloseBracket ∷
-    mark.Less ∷ mark.Greater ∷ mark.Equal ∷ mark.Comma ∷ mark.Semicolon ∷ mark.Colon ∷ mark.Star ∷ []
 
 mark_back : (m : Mark) → get_or marks (mark_number m) mark.OpenBrace ≡ m
 mark_back mark.OpenBrace = refl

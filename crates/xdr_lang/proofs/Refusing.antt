@@ -10,12 +10,7 @@ use Rattle.xdr_types.specs.Refused.{IsFirstFlaw, IsFirstFault, IsRefused}
 use Rattle.xdr_types.specs.declared.fault.Flaw.{Flaw}
 use Rattle.xdr_types.specs.declared.fault.Flaw.TheVariants as flaw
 use Rattle.xdr_types.specs.declared.fault.SchemaFault.{SchemaFault}
-
--- where no place has a flaw, none is the first
-no_flaw : (flaw_at : ℕ → Option Flaw) (n : ℕ) (e : SchemaFault) → AreFlawless flaw_at n → IsFirstFlaw flaw_at n e → ⊥
-no_flaw flaw_at n e h first =
-    let differs : None ≡ Some e.why = sym (h e.place first.within) ∙ first.here in
-    cc
+use Rattle.xdr_types.proofs.Refusing.{no-flaw as no_flaw}
 
 no_first : (s : Lists) (e : SchemaFault) → IsFirstFault s e → IsWellFormed s → IsSound s.kinds → ⊥
 no_first s e (inl many) well sound = absurd (omega (arith, many.0, well.few))

@@ -14,6 +14,7 @@ use Rattle.std.proofs.lemmas.Bool.Decides.{same_from_decides, Decides-like, Deci
 use denote.Ref.{Bor}
 use Rattle.xdr_lang.specs.Private.Tables.{key_texts}
 use Rattle.xdr_lang.specs.Distinct.{is_void, has_name, repeats, has_number, repeats_number, has_pair, repeats_pair}
+pub use Rattle.xdr_types.proofs.Apart.{was_absent, was_there, bytes_flip, texts_cmp as names_cmp}
 
 or_cond : (b x : Bool) → cond b true x ≡ (b || x)
 or_cond true x = refl
@@ -33,24 +34,10 @@ flip true false = refl
 flip false true = refl
 flip false false = refl
 
-pub bytes_flip : (a b : List ℕ) → bytes_eq a b ≡ bytes_eq b a
-bytes_flip a b = same_from_decides _ _ (bytes_eq-Decides a b) (Decides-like _ sym sym (bytes_eq-Decides b a))
-
 int_flip : (a b : ℤ) → int_eq a b ≡ int_eq b a
 int_flip a b = same_from_decides _ _ (Decides-int_eq a b) (Decides-like _ sym sym (Decides-int_eq b a))
 
-pub was_absent : (r there : Bool) → r ≡ not there → r ≡ true → there ≡ false
-was_absent r false e h = refl
-was_absent r true e h = let no : false ≡ true = sym e ∙ h in absurd cc
-
-pub was_there : (r there : Bool) → r ≡ not there → r ≡ false → there ≡ true
-was_there r true e h = refl
-was_there r false e h = let no : true ≡ false = sym e ∙ h in absurd cc
-
 -- ---- names
-
-abbrev pub names_cmp : Bor (List ℕ) → Bor (List ℕ) → Ordering
-names_cmp x y = slice_cmp nat_cmp x.now y.now
 
 pub has_keys : (q : List ℕ) (ks : List (Bor (List ℕ)))
     → has_name q (key_texts ks) ≡ list_any (is_at (λ (k : Bor (List ℕ)). slice_cmp nat_cmp q k.now)) ks

@@ -36,6 +36,7 @@ use Rattle.xdr_laws.proofs.GoesOn.{legal_known}
 use Rattle.xdr_laws.proofs.SameParts.{parts_units}
 use Rattle.xdr_laws.proofs.Holding.{nodes_bound, content_bound}
 use Rattle.xdr_types.proofs.Higher.{higher-at}
+use Rattle.xdr_types.proofs.Inhabited.{if-none}
 
 -- ---- what a well formed schema has: nothing void stands as a field or an item, nothing fixed is of size 0, and a
 -- structure has fields
@@ -595,10 +596,6 @@ few_of s height higher closed formed t v p f =
     formed t v p f
 
 -- ---- a well formed and sound schema is formed, closed and higher
-
-if-none : (b : Bool) (w : Flaw) (rest : Option Flaw) → (if b then Some w else rest) ≡ None → (b ≡ false) × (rest ≡ None)
-if-none true w rest e = cc
-if-none false w rest e = (refl, e)
 
 not_zero : (n : ℕ) → (n == 0) ≡ false → 0 < n
 not_zero n h = grind arith

@@ -9,6 +9,7 @@ use Rattle.xdr_types.specs.Fits.{is_tag_of}
 use Rattle.xdr_types.specs.Outcome.{signed, number_in}
 use Rattle.std.proofs.lemmas.Bool.{false≢true}
 use Rattle.xdr_laws.proofs.Legal.{IsSigned, signed_is, numbered_signed, most_is}
+use Rattle.xdr_laws.proofs.Legal.{is_lt as nat_lt-true}
 
 -- the four bytes of a unit, the eight of two
 abbrev pub unit4 : ℕ → List ℕ
@@ -49,9 +50,6 @@ pub drop8-unit8 : (n : ℕ) (x : List ℕ) → drop 8 (unit8 n ++ x) ≡ x
 drop8-unit8 n x = refl
 
 -- ---- signed numbers
-
-nat_lt-true : (m n : ℕ) → m < n → nat_lt m n ≡ true
-nat_lt-true m n h = grind arith
 
 nat_lt-false : (m n : ℕ) → n ≤ m → nat_lt m n ≡ false
 nat_lt-false m n h = grind arith

@@ -4,6 +4,7 @@ use Rattle.std.proofs.Common.{drop, Option, Some, None, refl, sym, ap, subst, �
 use Rattle.std.specs.Prelude.{option_and_then, ◌&&◌}
 use Rattle.std.proofs.lemmas.Bool.{eqb-true}
 use Rattle.std.proofs.lemmas.List.{take_at, drop_at, take-append-drop}
+use Rattle.std.proofs.lemmas.Bool.{cases_Bool as test}
 use Rattle.xdr_tokens.specs.declared.token.Mark.{Mark}
 use Rattle.xdr_tokens.specs.declared.token.Mark.TheVariants as mark
 use Rattle.xdr_tokens.specs.Bytes.{within, is_space, is_letter, is_digit, is_word, run_length, after_comment, number_of}
@@ -26,10 +27,6 @@ run_length-within (b ∷ bs) = elim (is_word b) as
       | false ↦
           omega arith
     ]
-
-test : (b : Bool) → (b ≡ true) ⊎ (b ≡ false)
-test true = inl refl
-test false = inr refl
 
 pub run_is : (bs : List ℕ) → IsRun (take (run_length bs) bs)
 unfolding run_length

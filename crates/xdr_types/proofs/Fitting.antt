@@ -1,6 +1,7 @@
 -- Facts about values one after another.
 use Rattle.std.proofs.Common.{◌≡◌, List, [], ◌∷◌, length, map, Bool, true, false, ◌&&◌, refl, ap, ◌∙◌, arith, suc}
 use Rattle.std.proofs.lemmas.Bool.{false≢true}
+use Rattle.std.proofs.lemmas.Bool.{and_parts as both}
 use Rattle.xdr_types.specs.Kinds.{KindView}
 use Rattle.xdr_types.specs.KindViews.{part_of_member}
 use Rattle.xdr_types.specs.Fits.{fits, fit}
@@ -8,10 +9,6 @@ use Rattle.xdr_types.specs.View.{tree, values}
 use Rattle.xdr_types.specs.Same.{same, same_values}
 use Rattle.xdr_types.specs.declared.value.Value.{Value}
 use Rattle.xdr_types.specs.declared.kind.Member.{Member}
-
-both : (a b : Bool) → a && b ≡ true → (a ≡ true) × (b ≡ true)
-both true b h = (refl, h)
-both false b h = absurd (false≢true h)
 
 and-false : (b : Bool) → b && false ≡ false
 and-false true = refl

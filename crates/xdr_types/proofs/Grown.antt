@@ -4,16 +4,13 @@ use Rattle.std.proofs.Common.{append_assoc}
 use Rattle.std.proofs.Math.Bool.{and-true}
 use Rattle.std.proofs.lemmas.Bool.{false≢true}
 use Rattle.std.proofs.lemmas.List.{append-nil}
+use Rattle.std.proofs.lemmas.Bool.{and_parts as both}
 use Rattle.xdr_types.specs.Kinds.{KindView, Part, kind_at}
 use Rattle.xdr_types.specs.Tree.{Head, Values, node}
 use Rattle.xdr_types.specs.Fits.{fits, fit, is_legal, parts}
 use Rattle.xdr_types.specs.Spelling.{spelling, bytes_of}
 use Rattle.xdr_types.specs.View.{tree, values}
 use Rattle.xdr_types.specs.declared.value.Value.{Value}
-
-both : (a b : Bool) → a && b ≡ true → (a ≡ true) × (b ≡ true)
-both true b h = (refl, h)
-both false b h = absurd (false≢true h)
 
 and-assoc : (a b c : Bool) → a && (b && c) ≡ (a && b) && c
 and-assoc true b c = refl

@@ -14,7 +14,7 @@ use Rattle.xdr_types.specs.Sound.{Heighting, IsBelow, Asks, IsProper, HasHeight}
 none≢some : (m : ℕ) → None ≡ Some m → ⊥
 none≢some m e = cc
 
-some-is : (m n : ℕ) → Some m ≡ Some n → m ≡ n
+pub some-is : (m n : ℕ) → Some m ≡ Some n → m ≡ n
 some-is m n e = cc
 
 tested : (a b : ℕ) (r : Bool) → ltb a b ≡ r → (a < b) ⊎ (b ≤ a)
@@ -100,7 +100,7 @@ has-height kinds hs proper place marked = let found = number hs place marked in 
 abbrev one_more : List (Option ℕ) → ℕ → ℕ → List (Option ℕ)
 one_more hs place next = set hs place (Some next)
 
-same_or_not : (a b : ℕ) (r : Bool) → eqb a b ≡ r → (a ≡ b) ⊎ (a ≡ b → ⊥)
+pub same_or_not : (a b : ℕ) (r : Bool) → eqb a b ≡ r → (a ≡ b) ⊎ (a ≡ b → ⊥)
 same_or_not a b true e = inl (eqb-true a b e)
 same_or_not a b false e = inr (λ h. eqb-false a b e h)
 

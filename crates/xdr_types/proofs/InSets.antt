@@ -9,6 +9,7 @@ use Rattle.std.proofs.lemmas.Bool.{false≢true}
 use Rattle.std.proofs.lemmas.List.{length-append}
 use Rattle.std.proofs.Math.ListN.{get_or-append}
 use Rattle.std.proofs.Math.Seq.{get_or-append_seam}
+use Rattle.std.proofs.lemmas.Bool.{or_right as or_later, or_left as or_first, or_cases as one_of, cases_Bool as tested, not-true as not_true}
 use Rattle.xdr_types.specs.Kinds as xdr
 use Rattle.xdr_types.specs.Kinds.{KindView, Constant, Branch}
 use Rattle.xdr_types.specs.Fits.{is_tag_of, is_numbered}
@@ -26,21 +27,6 @@ numbered-tag f members s z r is has e =
 -- the number is among the keys
 abbrev has : List ℤ → ℤ → Bool
 has ks z = list_any (is_at (int_cmp z)) ks
-
-or_later : (a b : Bool) → b ≡ true → a || b ≡ true
-or_later true b h = refl
-or_later false b h = h
-
-or_first : (a b : Bool) → a ≡ true → a || b ≡ true
-or_first a b h = rw h refl
-
-one_of : (a b : Bool) → a || b ≡ true → (a ≡ true) ⊎ (b ≡ true)
-one_of true b h = inl refl
-one_of false b h = inr h
-
-tested : (b : Bool) → (b ≡ true) ⊎ (b ≡ false)
-tested true = inl refl
-tested false = inr refl
 
 itself : (z : ℤ) → is_at (int_cmp z) z ≡ true
 itself z = search rules
@@ -63,10 +49,6 @@ scan t (k ∷ ks) =
       ]
       | inr absent ↦ inl (k, or_first (is_at (int_cmp k) k) (has ks k) (itself k), absent)
     ]
-
-not_true : (r : Bool) → not r ≡ true → r ≡ false
-not_true true h = absurd (false≢true h)
-not_true false h = refl
 
 of_not : (r : Bool) → (r ≡ true → ⊥) → not r ≡ true
 of_not true h = absurd (h refl)

@@ -7,6 +7,7 @@ use Rattle.std.specs.Ordering.{int_eq}
 use Rattle.std.proofs.lemmas.Bool.{false≢true}
 use Rattle.std.proofs.lemmas.Bool.Decides.{Decides-int_eq}
 use Rattle.std.proofs.lemmas.List.{length-replicate}
+use Rattle.std.proofs.lemmas.Bool.{and_from as all-true, or_right as or-right, or_left as or-left, or_cases as one_of}
 use Rattle.xdr_types.specs.Kinds as xdr
 use Rattle.xdr_types.specs.Kinds.{KindView, Part, Branch, Constant, Lists, kind_at}
 use Rattle.xdr_types.specs.Tree as value
@@ -24,23 +25,9 @@ use Rattle.xdr_types.proofs.Heighting.{asks-mono, known}
 abbrev HasValue : List KindView → ℕ → Type 0
 HasValue kinds place = (t : Tree) × (fits kinds place t ≡ true)
 
-all-true : (a b : Bool) → a ≡ true → b ≡ true → a && b ≡ true
-all-true a b h k = rw h k
-
 pub or-false : (a b : Bool) → a || b ≡ false → (a ≡ false) × (b ≡ false)
 or-false false b h = (refl, h)
 or-false true b h = absurd (false≢true (sym h))
-
-one_of : (a b : Bool) → a || b ≡ true → (a ≡ true) ⊎ (b ≡ true)
-one_of true b h = inl refl
-one_of false b h = inr h
-
-or-left : (a b : Bool) → a ≡ true → a || b ≡ true
-or-left a b h = rw h refl
-
-or-right : (a b : Bool) → b ≡ true → a || b ≡ true
-or-right true b h = refl
-or-right false b h = h
 
 not-false : (b : Bool) → not b ≡ false → b ≡ true
 not-false true h = refl
@@ -48,7 +35,7 @@ not-false false h = absurd (false≢true (sym h))
 
 -- ---- what it means that no fault is found
 
-if-none : (b : Bool) (w : Flaw) (rest : Option Flaw) → (if b then Some w else rest) ≡ None → (b ≡ false) × (rest ≡ None)
+pub if-none : (b : Bool) (w : Flaw) (rest : Option Flaw) → (if b then Some w else rest) ≡ None → (b ≡ false) × (rest ≡ None)
 if-none true w rest e = cc
 if-none false w rest e = (refl, e)
 

@@ -5,6 +5,7 @@ use Rattle.std.proofs.Common.{inl, inr, replicate, map, is_some}
 use Rattle.std.specs.List.{AllByRecursion, Contains}
 use Rattle.std.proofs.lemmas.Bool.{false≢true}
 use Rattle.std.proofs.lemmas.List.{get_or-map, get_or_read, length-replicate}
+use Rattle.std.proofs.lemmas.Bool.{and_parts as both, and_from as both_of, or_cases as one_of, not-true as not_true, or_right as or_later, or_left as or_first}
 use Rattle.xdr_types.specs.KindViews.{kind_view, part_of_member}
 use Rattle.xdr_types.specs.declared.kind.Kind.{Kind}
 use Rattle.xdr_types.specs.declared.kind.Member.{Member}
@@ -18,28 +19,6 @@ use Rattle.xdr_types.specs.Private.Sets.{IsReached}
 is_none_of : (o : Option ℕ) → is_some o ≡ false → o ≡ None
 is_none_of None h = refl
 is_none_of (Some n) h = absurd (false≢true (sym h))
-
-both : (a b : Bool) → a && b ≡ true → (a ≡ true) × (b ≡ true)
-both true b h = (refl, h)
-both false b h = absurd (false≢true h)
-
-both_of : (a b : Bool) → a ≡ true → b ≡ true → a && b ≡ true
-both_of a b h k = rw h k
-
-one_of : (a b : Bool) → a || b ≡ true → (a ≡ true) ⊎ (b ≡ true)
-one_of true b h = inl refl
-one_of false b h = inr h
-
-not_true : (a : Bool) → not a ≡ true → a ≡ false
-not_true true h = absurd (false≢true h)
-not_true false h = refl
-
-or_later : (a b : Bool) → b ≡ true → a || b ≡ true
-or_later true b h = refl
-or_later false b h = h
-
-or_first : (a b : Bool) → a ≡ true → a || b ≡ true
-or_first a b h = rw h refl
 
 all-marked : (hs : List (Option ℕ)) (ps : List Part) → are_marked hs ps ≡ true
     → AllByRecursion (λ p. IsMarked hs p.kind) ps

@@ -2,6 +2,7 @@
 use Rattle.std.proofs.Common.{◌≡◌, ◌↔◌, ℕ, ℤ, pos, negsuc, List, [], ◌∷◌, ◌++◌, length, Bool, true, false, ◌&&◌, refl}
 use Rattle.std.proofs.Common.{ap, sym, ◌∙◌, subst, arith, append_assoc, append-nil, eqb-true, leb-true, le-leb, nat_le}
 use Rattle.std.proofs.lemmas.Bool.{false≢true}
+pub use Rattle.std.proofs.lemmas.Bool.{and_parts as both}
 use Rattle.xdr_types.specs.Kinds as xdr
 use Rattle.xdr_types.specs.Kinds.{KindView, Part, Branch, Constant, kind_at}
 use Rattle.xdr_types.specs.Tree as value
@@ -10,10 +11,6 @@ use Rattle.xdr_units.specs.Numbers.{num4, number_of, pad}
 use Rattle.xdr_types.specs.Fits.{fit, fits, is_legal, is_tag_of, parts}
 use Rattle.xdr_types.specs.Spelling.{spelling, own, bytes_of}
 use Rattle.xdr_types.proofs.Numbers.{num4-front, num8-front, signed4, signed8, unsigned4, unsigned8, flags}
-
-pub both : (a b : Bool) → a && b ≡ true → (a ≡ true) × (b ≡ true)
-both true b h = (refl, h)
-both false b h = absurd (false≢true h)
 
 -- lists of one length before anything
 pub split : (a b x y : List ℕ) → length a ≡ length b → a ++ x ≡ b ++ y → (a ≡ b) × (x ≡ y)

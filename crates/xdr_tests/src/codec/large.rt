@@ -1,6 +1,7 @@
 //! Values of many bytes and of many items, with ample memory.
 use crate::codec::calls::{decoded, encoded, fed, finished, started, widest};
 use crate::schema::{MANY, OPAQUE, all_kinds};
+use growths::take_all;
 use std::alloc::{AllocError, Global};
 use std::process::Abort;
 use xdr_codec::{Decoder, Progress};
@@ -89,7 +90,7 @@ fn is_done_with_four(decoder: &mut Decoder<'_>, bytes: &[u8]) -> bool {
     bytes.len() % 65536 == 4
 }
 
-// The same content in pieces.
+// The same content in pieces. It is handed out where no growth is granted any more.
 fn is_content_fed(rt: &impl Abort, alloc: Global) -> Option<bool> {
     let schema = all_kinds(rt, alloc);
     let mut bytes = Vec::from_slice(alloc, &[0, 32, 0, 0]).ok()?;
@@ -97,6 +98,7 @@ fn is_content_fed(rt: &impl Abort, alloc: Global) -> Option<bool> {
     bytes.extend_from_slice(&content).ok()?;
     let mut decoder = started(rt, alloc, &schema, OPAQUE, widest(rt));
     let is_done = is_done_with_four(&mut decoder, &bytes);
+    let _kept = take_all(alloc).ok()?;
     let value = finished(decoder).ok()?;
     Some(is_done && value == Value::Bytes(content))
 }
