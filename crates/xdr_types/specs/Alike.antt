@@ -8,7 +8,7 @@ use Rattle.std.specs.Cmp.{IsEquivalence, decided}
 use Rattle.std.specs.Cmp.Lexicographic.{pointwise, pointwise_decides}
 use Rattle.std.specs.Cmp.Rules.{signed_items}
 use Rattle.std.proofs.Common.{ap, ◌∙◌, subst, eqb-true, eq-eqb}
-use Rattle.std.proofs.lemmas.Bool.{false≢true}
+use Rattle.std.proofs.lemmas.Bool.{false≢true, and_parts as both, and_from as all-true}
 use Rattle.std.proofs.lemmas.Bool.Decides.{Decides-int_eq}
 use Rattle.std.proofs.lemmas.Slice.Eq.{bytes_eq-Decides}
 use Rattle.xdr_types.specs.Kinds as xdr
@@ -55,13 +55,6 @@ same_kind _ _ = false
 -- schemas are the same where their kinds and their names are
 abbrev pub same_lists : Lists → Lists → Bool
 same_lists s t = pointwise same_kind s.kinds t.kinds && pointwise same_part s.names t.names
-
-both : (a b : Bool) → a && b ≡ true → (a ≡ true) × (b ≡ true)
-both true b h = (refl, h)
-both false b h = absurd (false≢true h)
-
-all-true : (a b : Bool) → a ≡ true → b ≡ true → a && b ≡ true
-all-true a b h k = rw h k
 
 part-is : (p q : Part) → same_part p q ≡ true → p ≡ q
 part-is p q h =

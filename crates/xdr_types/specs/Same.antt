@@ -5,7 +5,7 @@ use Rattle.std.specs.Str.{bytes_eq}
 use Rattle.std.specs.Bool.{Decides}
 use Rattle.std.specs.Cmp.{IsEquivalence, decided}
 use Rattle.std.proofs.Common.{ap, ◌∙◌, subst, eqb-true, eq-eqb}
-use Rattle.std.proofs.lemmas.Bool.{false≢true}
+use Rattle.std.proofs.lemmas.Bool.{false≢true, and_parts as both}
 use Rattle.std.proofs.lemmas.Bool.Decides.{Decides-int_eq}
 use Rattle.std.proofs.lemmas.Slice.Eq.{bytes_eq-Decides}
 use Rattle.xdr_types.specs.Tree.{Head, int, unsigned, hyper, unsigned_hyper, boolean, numbered, bytes, items, fields}
@@ -53,10 +53,6 @@ same_flag-is true true h = refl
 same_flag-is true false h = absurd (false≢true h)
 same_flag-is false true h = absurd (false≢true h)
 same_flag-is false false h = refl
-
-both : (a b : Bool) → a && b ≡ true → (a ≡ true) × (b ≡ true)
-both true b h = (refl, h)
-both false b h = absurd (false≢true h)
 
 same_head-itself : (h : Head) → same_head h h ≡ true
 same_head-itself (int m) = (Decides-int_eq m m).1 refl
