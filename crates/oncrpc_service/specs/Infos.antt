@@ -4,8 +4,8 @@ use Rattle.std.specs.Prelude.{Result, Ok, Err, length, if◌then◌else◌}
 use Rattle.xdr_types.specs.Tree.{Tree}
 use Rattle.xdr_types.specs.Spelling.{bytes_of}
 use Rattle.xdr_types.specs.Within.{FitsWithin}
-use Rattle.xdr_codec.specs.declared.fault.DecodeFault.{DecodeFault}
-use Rattle.xdr_codec.specs.declared.fault.Reason.TheVariants as reason
+use Rattle.xdr_stream.specs.declared.fault.DecodeFault.{DecodeFault}
+use Rattle.xdr_stream.specs.declared.fault.Reason.TheVariants as reason
 use Rattle.xdr_codec.specs.Refused.{HasNoneWithin, IsRefused}
 use Rattle.rpc_record.specs.declared.fault.RecordFault.{RecordFault}
 use Rattle.rpc_record.specs.declared.fault.RecordFault.TheVariants as flaw

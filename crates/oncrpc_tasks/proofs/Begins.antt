@@ -7,8 +7,8 @@ use Rattle.std.proofs.Math.Seq.{take-append_seam}
 use Rattle.xdr_types.specs.Tree.{Tree}
 use Rattle.xdr_types.specs.Spelling.{bytes_of}
 use Rattle.xdr_types.specs.Within.{FitsWithin}
-use Rattle.xdr_codec.specs.declared.fault.Reason.{Reason}
-use Rattle.xdr_codec.specs.declared.fault.Reason.TheVariants as reason
+use Rattle.xdr_stream.specs.declared.fault.Reason.{Reason}
+use Rattle.xdr_stream.specs.declared.fault.Reason.TheVariants as reason
 use Rattle.oncrpc_tasks.specs.declared.answer.Answer.{Answer}
 use Rattle.oncrpc_tasks.specs.declared.answer.Answer.TheVariants as answer
 use Rattle.oncrpc_tasks.specs.declared.failure.Failure.{Failure}

@@ -1,7 +1,7 @@
 -- The lines that say what an input holds, and their statuses.
 use Rattle.std.specs.Prelude.{ℕ, List, ◌++◌, codes, decimal}
-use Rattle.xdr_codec.specs.declared.fault.Reason.{Reason}
-use Rattle.xdr_codec.specs.declared.fault.Reason.TheVariants as reason
+use Rattle.xdr_stream.specs.declared.fault.Reason.{Reason}
+use Rattle.xdr_stream.specs.declared.fault.Reason.TheVariants as reason
 use Rattle.oncrpc_tasks.specs.declared.answer.Answer.{Answer}
 use Rattle.oncrpc_tasks.specs.declared.answer.Answer.TheVariants as answer
 

@@ -1,7 +1,3 @@
-pub mod Arms
-pub mod Composed
-pub mod Fed
-pub mod Fronts
 pub mod Gathering
-pub mod Limited
+pub mod Outcomes
 pub mod Putting

@@ -1,3 +1,4 @@
+pub mod Outcomes
 pub mod Refused
 pub mod Stands
 pub mod Private

@@ -2,6 +2,3 @@
 pub mod Gathered
 pub mod GatheredLaws
 pub mod PutAll
-pub mod Reading
-pub mod Units
-pub mod Whys

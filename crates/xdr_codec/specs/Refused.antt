@@ -4,21 +4,8 @@ use Rattle.xdr_types.specs.Kinds.{KindView}
 use Rattle.xdr_types.specs.Tree.{Tree}
 use Rattle.xdr_types.specs.Spelling.{bytes_of}
 use Rattle.xdr_types.specs.Within.{Bounds, FitsWithin}
-use Rattle.xdr_codec.specs.declared.fault.Reason.{Reason}
-use Rattle.xdr_codec.specs.declared.fault.Reason.TheVariants as reason
-
--- the number of a reason: a unit that no value has (RFC 4506 sections 3, 4.3, 4.4, 4.10 to 4.15, 4.19), a limit, the
--- end of the bytes, want of memory
-abbrev pub reason_number : Reason → ℕ
-reason_number reason.BadBool = 1
-reason_number reason.BadNumbered = 2
-reason_number reason.BadCase = 3
-reason_number reason.TooLong = 4
-reason_number reason.BadPadding = 5
-reason_number reason.TooDeep = 6
-reason_number reason.TooLarge = 7
-reason_number reason.Truncated = 8
-reason_number reason.NoMemory = 9
+use Rattle.xdr_stream.specs.declared.fault.Reason.{Reason}
+use Rattle.xdr_stream.specs.declared.fault.Reason.TheVariants as reason
 
 -- What may still follow refused bytes: nothing where they are cut, anything where they are broken.
 -- Where memory was refused nothing is ruled out.

@@ -1,5 +1,5 @@
--- Which bytes a decoder has been given, and what its answers say of them.
-use Rattle.std.specs.Prelude.{◌≡◌, ℕ, ◌≤◌, List, [], ◌++◌, length, take, Result, Ok, Err, ⊤}
+-- Which bytes a decoder has been given, and what its answers say of the values that begin with them.
+use Rattle.std.specs.Prelude.{◌≡◌, ℕ, ◌≤◌, List, ◌++◌, length, Result, Ok, Err}
 use Rattle.xdr_types.specs.Kinds.{KindView, Lists}
 use Rattle.xdr_types.specs.Tree.{Tree}
 use Rattle.xdr_types.specs.Spelling.{bytes_of}
@@ -7,14 +7,14 @@ use Rattle.xdr_types.specs.View.{tree}
 use Rattle.xdr_types.specs.Within.{Bounds, FitsWithin}
 use Rattle.xdr_types.specs.declared.kind.KindId.{KindId}
 use Rattle.xdr_types.specs.declared.value.Value.{Value}
+use Rattle.xdr_stream.specs.Finish as stream
+use Rattle.xdr_stream.specs.declared.fault.Reason.TheVariants as reason
+use Rattle.xdr_stream.specs.declared.fault.DecodeFault.{DecodeFault}
+use Rattle.xdr_stream.specs.declared.reader.State.TheVariants.{Finished, Failed}
+use Rattle.xdr_stream.specs.declared.reader.Progress.{Progress}
+use Rattle.xdr_stream.specs.declared.reader.Progress.TheVariants.{More, Done}
 use Rattle.xdr_codec.specs.Refused.{HasNoneWithin, IsRefused}
-use Rattle.xdr_codec.specs.declared.fault.Reason.TheVariants as reason
-use Rattle.xdr_codec.specs.declared.fault.DecodeFault.{DecodeFault}
-use Rattle.xdr_codec.specs.declared.state.State.{State}
-use Rattle.xdr_codec.specs.declared.state.State.TheVariants.{Fresh, Waiting, Finished, Failed}
-use Rattle.xdr_codec.specs.declared.state.Progress.{Progress}
-use Rattle.xdr_codec.specs.declared.state.Progress.TheVariants.{More, Done}
-use Rattle.xdr_codec.specs.declared.state.Decoder.{Decoder}
+use Rattle.xdr_codec.specs.declared.decoder.Decoder.{Decoder}
 
 -- a value of the kind within the limits, whose encoding the bytes are
 abbrev pub IsWhole : List KindView → ℕ → Bounds → Tree → List ℕ → Type 0
@@ -25,25 +25,9 @@ abbrev pub Fails : List KindView → ℕ → Bounds → DecodeFault → List ℕ
 Fails kinds place limits f b = (f.why ≡ reason.Truncated → ⊥)
     × ((f.why ≡ reason.NoMemory → ⊥) → (y : List ℕ) → HasNoneWithin kinds place limits (b ++ y)) × (f.at ≤ length b)
 
-abbrev pub StandsAs : List KindView → ℕ → Bounds → List ℕ → State → List ℕ → Type 0
-StandsAs kinds place limits bytes Fresh b = (bytes ≡ b) × (b ≡ [])
-StandsAs kinds place limits bytes Waiting b = (bytes ≡ b) × HasNoneWithin kinds place limits b
-StandsAs kinds place limits bytes (Finished v) b = IsWhole kinds place limits (tree v) b
-StandsAs kinds place limits bytes (Failed f) b = Fails kinds place limits f b
-
 -- the decoder's fields stand for these bytes, all that it was given up to the value's end
 abbrev pub StandsFor : Decoder → List ℕ → Type 0
-StandsFor d b = StandsAs d.schema.now.kinds d.kind.place d.limits d.bytes.items d.state b
-
--- what a call takes of its piece: all of it, or the bytes up to the value's end
-abbrev pub taken : List ℕ → Result Progress DecodeFault → List ℕ
-taken piece (Ok More) = piece
-taken piece (Ok (Done used)) = take used piece
-taken piece (Err f) = piece
-
-abbrev pub used_of : Progress → ℕ
-used_of More = 0
-used_of (Done used) = used
+StandsFor d b = stream.Stands d.reader b
 
 -- what an answer says of the bytes so far: they begin with no value; they encode a value; none begins them however they
 -- go on
@@ -53,7 +37,7 @@ AnswersAs kinds place limits b (Ok (Done used)) = (t : Tree) × IsWhole kinds pl
 AnswersAs kinds place limits b (Err f) = Fails kinds place limits f b
 
 abbrev pub Answers : Decoder → List ℕ → Result Progress DecodeFault → Type 0
-Answers d b r = AnswersAs d.schema.now.kinds d.kind.place d.limits b r
+Answers d b r = AnswersAs d.reader.schema.now.kinds d.reader.kind.place d.reader.limits b r
 
 -- what the end says of the bytes: they encode the value; or none begins them, and they end inside one or are broken
 abbrev pub FinishesAs : List KindView → ℕ → Bounds → List ℕ → Result Value DecodeFault → Type 0
@@ -62,28 +46,24 @@ FinishesAs kinds place limits b (Err f) = IsRefused (HasNoneWithin kinds place l
     × (f.why ≡ reason.Truncated → f.at ≡ length b)
 
 abbrev pub Finishes : Decoder → List ℕ → Result Value DecodeFault → Type 0
-Finishes d b r = FinishesAs d.schema.now.kinds d.kind.place d.limits b r
+Finishes d b r = FinishesAs d.reader.schema.now.kinds d.reader.kind.place d.reader.limits b r
 
 -- the settings of a new decoder
 pub record IsStarted (d : Decoder) (schema : Lists) (kind : KindId) (limits : Bounds) : Type 0 where
-  pub schema_is : d.schema.now ≡ schema
-  pub kind_is : d.kind ≡ kind
-  pub limits_are : d.limits ≡ limits
+  pub schema_is : d.reader.schema.now ≡ schema
+  pub kind_is : d.reader.kind ≡ kind
+  pub limits_are : d.reader.limits ≡ limits
 
 -- the settings stay
 pub record IsSame (a b : Decoder) : Type 0 where
-  pub schema_is : b.schema.now ≡ a.schema.now
-  pub kind_is : b.kind ≡ a.kind
-  pub limits_are : b.limits ≡ a.limits
-
-abbrev pub IsDoneAs : State → Type 0
-IsDoneAs (Finished v) = ⊤
-IsDoneAs _ = ⊥
+  pub schema_is : b.reader.schema.now ≡ a.reader.schema.now
+  pub kind_is : b.reader.kind ≡ a.reader.kind
+  pub limits_are : b.reader.limits ≡ a.reader.limits
 
 -- the value is whole
 abbrev pub IsDone : Decoder → Type 0
-IsDone d = IsDoneAs d.state
+IsDone d = d.reader.state ≡ Finished
 
 -- this fault was answered
 abbrev pub HasFailed : Decoder → DecodeFault → Type 0
-HasFailed d f = d.state ≡ Failed f
+HasFailed d f = d.reader.state ≡ Failed f

@@ -1,28 +1,30 @@
 //! Bytes as a value.
-ghost use Rattle.std.specs.Prelude.{◌≡◌, ℕ, ◌≤◌, ◌<◌, length, take, nat_le, IfOk, IfErr};
+ghost use Rattle.std.specs.Prelude.{◌≡◌, ℕ, ◌≤◌, ◌<◌, length, take, IfOk, IfErr};
+ghost use Rattle.xdr_types.specs.Outcome.{Outcome, Whole};
 ghost use Rattle.xdr_types.specs.Spelling.{bytes_of};
 ghost use Rattle.xdr_types.specs.Tree.{Tree};
 ghost use Rattle.xdr_types.specs.View.{tree};
 ghost use Rattle.xdr_types.specs.Within.{FitsWithin};
+ghost use Rattle.xdr_stream.specs.Finish.{EndsWith};
+ghost use Rattle.xdr_stream.specs.declared.fault.Reason.TheVariants.{Truncated};
 ghost use Rattle.xdr_codec.specs.Refused.{IsRefused, HasNoneWithin};
-ghost use Rattle.xdr_codec.specs.Private.Whys.{why_at};
-ghost use Rattle.xdr_codec.specs.declared.fault.Reason.TheVariants.{Truncated};
 
-use crate::fault::{DecodeFault, Reason};
-use crate::reading::read_value;
-use crate::units::Stop;
+use crate::decoder::Decoder;
 use std::alloc::Global;
+use xdr_stream::{DecodeFault, Progress, Reason};
 use xdr_types::{KindId, Limits, Schema, Value};
 
 /// The value whose encoding begins the input, and the count of its bytes (RFC 4506). There is at most one such pair.
+/// What it answers is the outcome of the input, with `Truncated` where that is pending, memory aside; that bytes have
+/// one outcome alone is `xdr_laws::one_outcome`.
 ///
-/// A fault other than `NoMemory` says that there is none; unless it is `Truncated`, there is none in any longer input
-/// either. `at` is the count of bytes before the unit that is refused; for `TooDeep` of those before the node that lies
-/// too deep, for `TooLarge` the limit on bytes, for `Truncated` the count of all bytes. For `NoMemory` it is at most
-/// that count and says no more. It is proved that `at` is at most the count of all bytes, and that count for
-/// `Truncated`; which reason is named first, and its place, tests show.
+/// A fault other than `NoMemory` says that there is no such pair; unless it is `Truncated`, there is none in any longer
+/// input either. `at` is the count of bytes before the unit that is refused; for `TooDeep` of those before the node
+/// that lies too deep, for `TooLarge` the limit on bytes, for `Truncated` the count of all bytes. For `NoMemory` it is
+/// at most that count and says no more.
 ///
-/// Each level of the value takes stack: up to 2.4 MiB at depth 4096 on x86-64, about 600 bytes a level.
+/// Memory is what the value needs, and a frame for each of its open nodes; none where the kind is a number, a boolean,
+/// an enumeration or void. It goes down by no calls, one level a call, as the drop of the value does.
 pub fn decode(
     alloc: Global,
     schema: &Schema,
@@ -31,6 +33,8 @@ pub fn decode(
     input: &[u8],
 ) -> Result<(Value, usize), DecodeFault>
     requires { kind.place < length schema.now.kinds }
+    ensures outcome { IfOk result (λ r. Outcome schema.now.kinds kind.place limits input.now (Whole (tree r.0) r.1)) }
+    ensures fault { IfErr result (λ f. EndsWith schema.now.kinds kind.place limits input.now f) }
     ensures value { IfOk result (λ r. FitsWithin schema.now.kinds kind.place limits (tree r.0)
         × (r.1 ≤ length input.now) × (bytes_of schema.now.kinds kind.place (tree r.0) ≡ take r.1 input.now)) }
     ensures only { IfOk result (λ r. (t : Tree) (n : ℕ) → FitsWithin schema.now.kinds kind.place limits t
@@ -40,36 +44,17 @@ pub fn decode(
     ensures place { IfErr result (λ f. f.at ≤ length input.now) }
     ensures truncated { IfErr result (λ f. f.why ≡ Truncated → f.at ≡ length input.now) }
 {
-    let most = limits.bytes() as usize;
-    let front = &input[..input.len().min(most)];
-    match read_value(alloc, schema, kind, limits.depth(), front) {
-        Ok((value, rest)) => Ok((value, front.len() - rest.len())),
-        Err(stop) => Err(fault_at(stop, front.len(), most)),
-    }
-}
-
-// What is wrong with a front of so many bytes, of the most that there may be.
-fn fault_at(stop: Stop, size: usize, most: usize) -> DecodeFault
-    ensures why { result.why ≡ why_at stop.why (nat_le most size) }
-    ensures place { result.at ≤ size }
-    ensures truncated { result.why ≡ Truncated → result.at ≡ size }
-{
-    match stop.why {
-        Reason::Truncated => {
-            if most <= size {
-                return DecodeFault {
-                    why: Reason::TooLarge,
-                    at: size,
-                };
-            }
-            DecodeFault {
-                why: Reason::Truncated,
-                at: size,
-            }
-        }
-        why => DecodeFault {
-            why,
-            at: size.saturating_sub(stop.left),
+    let _range = limits.depth();
+    let mut decoder = Decoder::start(alloc, schema, kind, limits);
+    match decoder.feed(input) {
+        Ok(Progress::Done { used }) => match decoder.finish() {
+            Ok(value) => Ok((value, used)),
+            Err(fault) => Err(fault),
         },
+        Ok(Progress::More) => Err(DecodeFault {
+            why: Reason::Truncated,
+            at: input.len(),
+        }),
+        Err(fault) => Err(fault),
     }
 }

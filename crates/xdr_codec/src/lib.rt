@@ -4,19 +4,13 @@
 mod decoder;
 mod decoding;
 mod encoding;
-mod fault;
 mod gather;
-mod leaf;
 mod pushing;
 mod put;
-mod reading;
-mod state;
-mod tag;
-mod units;
 mod writing;
 
+pub use decoder::Decoder;
 pub use decoding::decode;
 pub use encoding::encode;
-pub use fault::{DecodeFault, Reason};
-pub use state::{Decoder, Progress};
 pub use writing::{WriteFault, encode_to};
+pub use xdr_stream::{DecodeFault, Progress, Reason};

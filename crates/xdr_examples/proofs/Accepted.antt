@@ -10,12 +10,13 @@ use Rattle.xdr_types.specs.Within.{Bounds, FitsWithin}
 use Rattle.xdr_types.specs.declared.value.Value.{Value}
 use Rattle.xdr_types.proofs.Unique.{one}
 use Rattle.xdr_codec.specs.Refused.{IsRefused, HasNoneWithin}
-use Rattle.xdr_codec.specs.Stands.{taken, used_of, AnswersAs, FinishesAs}
-use Rattle.xdr_codec.specs.declared.fault.Reason.{Reason}
-use Rattle.xdr_codec.specs.declared.fault.Reason.TheVariants as reason
-use Rattle.xdr_codec.specs.declared.fault.DecodeFault.{DecodeFault}
-use Rattle.xdr_codec.specs.declared.state.Progress.{Progress}
-use Rattle.xdr_codec.specs.declared.state.Progress.TheVariants.{More, Done}
+use Rattle.xdr_stream.specs.Stands.{taken, used_of}
+use Rattle.xdr_codec.specs.Stands.{AnswersAs, FinishesAs}
+use Rattle.xdr_stream.specs.declared.fault.Reason.{Reason}
+use Rattle.xdr_stream.specs.declared.fault.Reason.TheVariants as reason
+use Rattle.xdr_stream.specs.declared.fault.DecodeFault.{DecodeFault}
+use Rattle.xdr_stream.specs.declared.reader.Progress.{Progress}
+use Rattle.xdr_stream.specs.declared.reader.Progress.TheVariants.{More, Done}
 
 module _ (kinds : List KindView) (place : ℕ) (limits : Bounds) where
   -- no refusal but want of memory stands against bytes that begin with a value

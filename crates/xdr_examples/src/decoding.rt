@@ -3,7 +3,7 @@ ghost use Rattle.std.specs.Prelude.{◌≡◌, ◌≤◌, ◌<◌, ℕ, List, []
 ghost use Rattle.std.specs.Prelude.{IsTrue};
 ghost use Rattle.xdr_types.specs.Kinds.{kind_at, boolean, int, fixed, opaque_up_to, text, up_to, choice};
 ghost use Rattle.xdr_types.specs.View.{tree};
-ghost use Rattle.xdr_codec.specs.declared.fault.Reason.TheVariants.{NoMemory, Truncated};
+ghost use Rattle.xdr_stream.specs.declared.fault.Reason.TheVariants.{NoMemory, Truncated};
 ghost use Rattle.xdr_examples.specs.Rfc.{content, file_kinds, sillyprog, sillyprog_bytes, arm, part};
 
 use std::alloc::Global;

@@ -3,8 +3,8 @@ ghost use Rattle.std.specs.Prelude.{◌≡◌, ◌≤◌, ◌<◌, ◌++◌, len
 ghost use Rattle.xdr_types.specs.Kinds.{kind_at, hyper, int, opaque_up_to};
 ghost use Rattle.xdr_types.specs.View.{tree};
 ghost use Rattle.xdr_codec.specs.Stands.{IsDone};
-ghost use Rattle.xdr_codec.specs.declared.fault.Reason.TheVariants.{NoMemory};
-ghost use Rattle.xdr_codec.specs.declared.state.Progress.TheVariants.{Done, More};
+ghost use Rattle.xdr_stream.specs.declared.fault.Reason.TheVariants.{NoMemory};
+ghost use Rattle.xdr_stream.specs.declared.reader.Progress.TheVariants.{Done, More};
 ghost use Rattle.xdr_examples.specs.Rfc.{file_kinds, sillyprog, sillyprog_bytes};
 
 use std::alloc::Global;

@@ -24,13 +24,16 @@ Stands r b = StandsFor (λ (v : Values) (t : Trace). trace_of v ≡ t) r b
 abbrev pub Checks : Reader Nothing → (b : List ℕ) → Type 0
 Checks r b = StandsFor (λ (n : Nothing) (t : Trace). ⊤) r b
 
--- what the end says of the bytes b: the value that is whole in them; or they end inside one, at their count; or they
--- are refused
-abbrev pub Finishes : List KindView → (kind : ℕ) → Bounds → (b : List ℕ) → Result Value DecodeFault → Type 0
-Finishes kinds kind limits b (Ok v) = Outcome kinds kind limits b (outcome.Whole (tree v) (length b))
-Finishes kinds kind limits b (Err f) =
+-- what a fault at their end says of all of the bytes b: they end inside a value, at their count; or they are refused
+abbrev pub EndsWith : List KindView → (kind : ℕ) → Bounds → (b : List ℕ) → DecodeFault → Type 0
+EndsWith kinds kind limits b f =
     (f.why ≡ Truncated → Outcome kinds kind limits b outcome.Pending × (f.at ≡ length b))
     × ((f.why ≡ Truncated → ⊥) → Fails kinds kind limits f b)
+
+-- what the end says of the bytes b: the value that is whole in them, or a fault
+abbrev pub Finishes : List KindView → (kind : ℕ) → Bounds → (b : List ℕ) → Result Value DecodeFault → Type 0
+Finishes kinds kind limits b (Ok v) = Outcome kinds kind limits b (outcome.Whole (tree v) (length b))
+Finishes kinds kind limits b (Err f) = EndsWith kinds kind limits b f
 
 -- the settings of a new reader
 pub record IsStarted {B : Type 0} (r : Reader B) (schema : Lists) (kind : KindId) (limits : Bounds) : Type 0 where

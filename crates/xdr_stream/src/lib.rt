@@ -15,3 +15,5 @@ pub mod unit;
 pub mod values;
 
 pub use fault::{DecodeFault, Reason};
+pub use reader::{Progress, Reader};
+pub use values::Values;

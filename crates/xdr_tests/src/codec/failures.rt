@@ -32,11 +32,10 @@ const CUT: DecodeFault = DecodeFault {
     at: 4,
 };
 
-// A declared length or count meets no growth of its own, and neither do kinds of one unit.
-const WITHOUT: [(u32, &[u8], Option<DecodeFault>); 4] = [
+// A declared length meets no growth of its own, and neither do kinds of one unit.
+const WITHOUT: [(u32, &[u8], Option<DecodeFault>); 3] = [
     (FIVE, &[0, 0, 0, 5], Some(CUT)),
     (OPAQUE, &[255, 255, 255, 255], Some(CUT)),
-    (MANY, &[255, 255, 255, 255], Some(CUT)),
     (INT, &[0, 0, 0, 3, 97, 98, 99, 0], None),
 ];
 
@@ -50,8 +49,7 @@ fn lengths_take_no_memory(rt: HostRuntime) {
     }
 }
 
-// What is answered to the rest of a length or a count, and to one byte more, where no growth is granted any more. The
-// byte that came before it has brought the memory for both.
+// What is answered to a length in two pieces, and to one byte more, where no growth is granted.
 fn poor_answers(rt: &impl Abort, alloc: Global, place: u32) -> Option<bool> {
     let schema = all_kinds(rt, alloc);
     let mut decoder = started(rt, alloc, &schema, place, widest(rt));
@@ -64,13 +62,32 @@ fn poor_answers(rt: &impl Abort, alloc: Global, place: u32) -> Option<bool> {
 }
 
 #[test]
-fn declared_counts_reserve_nothing(rt: HostRuntime) {
-    for place in [OPAQUE, STRING, MANY] {
+fn declared_lengths_reserve_nothing(rt: HostRuntime) {
+    for place in [OPAQUE, STRING] {
         assert!(rt;
             poor_answers(&rt, rt.alloc(), place) == Some(true),
             "kind {place}"
         );
     }
+}
+
+// What is answered to a count of items and to one byte more, where some 64 KiB are granted, enough for the array's
+// node.
+fn poor_count(rt: &impl Abort, alloc: Global) -> Option<bool> {
+    let schema = all_kinds(rt, alloc);
+    let mut decoder = started(rt, alloc, &schema, MANY, widest(rt));
+    let _kept = {
+        let _spare = Vec::<u8>::with_capacity(alloc, 65536).ok()?;
+        take_all(alloc).ok()?
+    };
+    let count = fed(&mut decoder, &[255, 255, 255, 255]);
+    let more = fed(&mut decoder, &[97]);
+    Some([count, more] == [Ok(Progress::More); 2])
+}
+
+#[test]
+fn declared_counts_reserve_nothing(rt: HostRuntime) {
+    assert!(rt; poor_count(&rt, rt.alloc()) == Some(true));
 }
 
 // Whether the value that came whole is handed out where no growth is granted any more: it is not copied.

@@ -1,52 +1,69 @@
-use Rattle.std.proofs.Common.{rules, ◌≡◌, ℕ, ◌-◌, ◌∙◌, refl, sym, ap, subst, length, take, nat_le}
-use Rattle.xdr_types.specs.Tree.{Tree}
+use Rattle.std.proofs.Common.{◌≤◌, ℕ, List, [], ◌++◌, length, take, subst, Ok}
 use Rattle.xdr_types.specs.View.{tree}
-use Rattle.xdr_codec.specs.declared.fault.Reason.{Reason}
-use Rattle.xdr_codec.specs.Refused.{IsRefused, HasNoneWithin}
-use Rattle.xdr_codec.specs.Private.Whys.{why_at}
-use Rattle.xdr_codec.specs.Private.Reading.{IsRead, HasNoValue}
-use Rattle.xdr_codec.proofs.Limited.{front_is, refused, accepted, alone}
+use Rattle.xdr_stream.specs.Stands.{taken, used_of}
+use Rattle.xdr_stream.specs.declared.reader.Progress.{Progress}
+use Rattle.xdr_codec.specs.Stands.{StandsFor}
+use Rattle.xdr_codec.specs.Outcomes.{HasOutcome}
+use Rattle.xdr_codec.proofs.Outcomes.{whole, alone, given, not_given}
 use Rattle.xdr_codec.proofs.decoding.decode.Goals as goal
 
-pub returns-in-Ok-clause-value : goal.returns-in-Ok-clause-value
-returns-in-Ok-clause-value c =
-    let l = c.args.limits in
-    let input = c.args.input.now in
-    let front = take c.min.result input in
-    let is : front ≡ take l.bytes input = front_is input l.bytes c.min.result (search rules) in
-    let t : Tree = tree c.in-Ok.value in
-    let read : IsRead c.args.schema.now.kinds c.args.kind.place l.depth front t c.in-Ok.rest.now = subst
-    (λ (d : ℕ). IsRead c.args.schema.now.kinds c.args.kind.place d front t c.in-Ok.rest.now) c.depth.ensures.value
-    c.in-Ok.ensures in
-    accepted c.args.schema.now.kinds c.args.kind.place l input front c.in-Ok.rest.now t
-    (length front - length c.in-Ok.rest.now) is read refl
+pub returns-in-Ok-clause-outcome : goal.returns-in-Ok-clause-outcome
+returns-in-Ok-clause-outcome c =
+    let input : List ℕ = c.args.input.now in
+    let used : ℕ = c.in-Ok-Done.used in
+    let done = c.in-Ok-Done.ensures in
+    let stands = subst (λ (p : Progress). StandsFor c.feed.new.self ([] ++ taken input (Ok p))) c.in-Ok-Done.field-0-is
+    (done.stands [] c.start-decoder.ensures.stands) in
+    let low : used ≤ length input = subst (λ (p : Progress). used_of p ≤ length input) c.in-Ok-Done.field-0-is done.used
+    in
+    given c.args.schema.now c.args.kind c.args.limits c.start-decoder.result c.feed.new.self
+    c.start-decoder.ensures.settings done.same input used low c.in-Ok.value
+    (c.in-Ok.ensures.outcome (take used input) stands)
 
 pub returns-in-Ok-clause-only : goal.returns-in-Ok-clause-only
-returns-in-Ok-clause-only c u m fit low e =
-    let l = c.args.limits in
-    let input = c.args.input.now in
-    let front = take c.min.result input in
-    let is : front ≡ take l.bytes input = front_is input l.bytes c.min.result (search rules) in
-    let t : Tree = tree c.in-Ok.value in
-    let read : IsRead c.args.schema.now.kinds c.args.kind.place l.depth front t c.in-Ok.rest.now = subst
-    (λ (d : ℕ). IsRead c.args.schema.now.kinds c.args.kind.place d front t c.in-Ok.rest.now) c.depth.ensures.value
-    c.in-Ok.ensures in
-    let ours = accepted c.args.schema.now.kinds c.args.kind.place l input front c.in-Ok.rest.now t
-    (length front - length c.in-Ok.rest.now) is read refl in
-    alone c.args.schema.now.kinds c.args.kind.place l input u t m (length front - length c.in-Ok.rest.now) fit.0
-    ours.0.0 low ours.1 e ours.2
+returns-in-Ok-clause-only c = λ t n fit most spelled.
+    let s = c.args.schema.now.kinds in
+    let input : List ℕ = c.args.input.now in
+    let used : ℕ = c.in-Ok-Done.used in
+    let done = c.in-Ok-Done.ensures in
+    let stands = subst (λ (p : Progress). StandsFor c.feed.new.self ([] ++ taken input (Ok p))) c.in-Ok-Done.field-0-is
+    (done.stands [] c.start-decoder.ensures.stands) in
+    let low : used ≤ length input = subst (λ (p : Progress). used_of p ≤ length input) c.in-Ok-Done.field-0-is done.used
+    in
+    let o = given c.args.schema.now c.args.kind c.args.limits c.start-decoder.result c.feed.new.self
+    c.start-decoder.ensures.settings done.same input used low c.in-Ok.value
+    (c.in-Ok.ensures.outcome (take used input) stands) in
+    let units = c.depth-range.ensures.range.units in
+    alone s c.args.kind.place c.args.limits units input t (tree c.in-Ok.value) n used fit most spelled
+    (whole s c.args.kind.place c.args.limits units input (tree c.in-Ok.value) used o)
 
-pub returns-in-Err-clause-refused : goal.returns-in-Err-clause-refused
-returns-in-Err-clause-refused c =
-    let l = c.args.limits in
-    let S = c.args.schema.now.kinds in
-    let input = c.args.input.now in
-    let front = take c.min.result input in
-    let is : front ≡ take l.bytes input = front_is input l.bytes c.min.result (search rules) in
-    let none : IsRefused (HasNoValue S c.args.kind.place l.depth) c.in-Err.stop.why front =
-    subst (λ (d : ℕ). IsRefused (HasNoValue S c.args.kind.place d) c.in-Err.stop.why front) c.depth.ensures.value
-    c.in-Err.ensures in
-    let all = refused S c.args.kind.place l input front c.in-Err.stop.why is none in
-    let why : c.fault_at.result.why ≡ why_at c.in-Err.stop.why (nat_le l.bytes (length front)) = c.fault_at.ensures.why
-    ∙ ap (λ (n : ℕ). why_at c.in-Err.stop.why (nat_le n (length front))) c.bytes-most.ensures in
-    subst (λ (w : Reason). IsRefused (HasNoneWithin S c.args.kind.place l) w input) (sym why) all
+pub returns-in-Err-finish-clause-fault : goal.returns-in-Err-finish-clause-fault
+returns-in-Err-finish-clause-fault c =
+    let input : List ℕ = c.args.input.now in
+    let used : ℕ = c.in-Ok-Done.used in
+    let done = c.in-Ok-Done.ensures in
+    let stands = subst (λ (p : Progress). StandsFor c.feed.new.self ([] ++ taken input (Ok p))) c.in-Ok-Done.field-0-is
+    (done.stands [] c.start-decoder.ensures.stands) in
+    let low : used ≤ length input = subst (λ (p : Progress). used_of p ≤ length input) c.in-Ok-Done.field-0-is done.used
+    in
+    let o = subst (λ (p : Progress). HasOutcome c.start-decoder.result [] input (Ok p)) c.in-Ok-Done.field-0-is
+    (done.outcome [] c.start-decoder.ensures.stands) in
+    not_given c.args.schema.now c.args.kind c.args.limits c.start-decoder.result c.feed.new.self
+    c.start-decoder.ensures.settings done.same input used low c.in-Err-finish.fault c.depth-range.ensures.range.units o
+    (c.in-Err-finish.ensures.outcome (take used input) stands)
+
+pub returns-in-Err-finish-clause-truncated : goal.returns-in-Err-finish-clause-truncated
+returns-in-Err-finish-clause-truncated c = λ is.
+    let input : List ℕ = c.args.input.now in
+    let used : ℕ = c.in-Ok-Done.used in
+    let done = c.in-Ok-Done.ensures in
+    let stands = subst (λ (p : Progress). StandsFor c.feed.new.self ([] ++ taken input (Ok p))) c.in-Ok-Done.field-0-is
+    (done.stands [] c.start-decoder.ensures.stands) in
+    let low : used ≤ length input = subst (λ (p : Progress). used_of p ≤ length input) c.in-Ok-Done.field-0-is done.used
+    in
+    let o = subst (λ (p : Progress). HasOutcome c.start-decoder.result [] input (Ok p)) c.in-Ok-Done.field-0-is
+    (done.outcome [] c.start-decoder.ensures.stands) in
+    let end = not_given c.args.schema.now c.args.kind c.args.limits c.start-decoder.result c.feed.new.self
+    c.start-decoder.ensures.settings done.same input used low c.in-Err-finish.fault c.depth-range.ensures.range.units o
+    (c.in-Err-finish.ensures.outcome (take used input) stands) in
+    (end.0 is).1

@@ -5,11 +5,12 @@ use Rattle.xdr_types.specs.Kinds.{KindView, Lists}
 use Rattle.xdr_types.specs.Spelling.{bytes_of}
 use Rattle.xdr_types.specs.Within.{Bounds, FitsWithin}
 use Rattle.xdr_types.specs.declared.kind.KindId.{KindId}
-use Rattle.xdr_codec.specs.Stands.{taken, AnswersAs, FinishesAs}
-use Rattle.xdr_codec.specs.declared.fault.Reason.TheVariants.{NoMemory}
-use Rattle.xdr_codec.specs.declared.fault.DecodeFault.{DecodeFault}
-use Rattle.xdr_codec.specs.declared.state.Progress.{Progress}
-use Rattle.xdr_codec.specs.declared.state.Progress.TheVariants.{Done}
+use Rattle.xdr_stream.specs.Stands.{taken}
+use Rattle.xdr_codec.specs.Stands.{AnswersAs, FinishesAs}
+use Rattle.xdr_stream.specs.declared.fault.Reason.TheVariants.{NoMemory}
+use Rattle.xdr_stream.specs.declared.fault.DecodeFault.{DecodeFault}
+use Rattle.xdr_stream.specs.declared.reader.Progress.{Progress}
+use Rattle.xdr_stream.specs.declared.reader.Progress.TheVariants.{Done}
 use Rattle.xdr_examples.specs.Rfc.{file_kinds, sillyprog, sillyprog_bytes}
 use Rattle.xdr_examples.proofs.Accepted.{ended, ended_whole, joined, waits, waits_second}
 use Rattle.xdr_examples.proofs.pieces.joins_two_pieces.Goals as goal
@@ -36,24 +37,25 @@ returns-clause-value c =
     let set = c.start-decoder.ensures.settings in
     let p = c.in_ok-feed.field-0 in
     let q = c.in_ok-feed-2.field-0 in
-    let kinds : d.schema.now.kinds ≡ file_kinds =
+    let kinds : d.reader.schema.now.kinds ≡ file_kinds =
     ap (λ (s : Lists). s.kinds) (two.schema_is ∙ one.schema_is ∙ set.schema_is) ∙ c.requires.kinds in
-    let place : d.kind.place ≡ 6 = ap (λ (k : KindId). k.place) (two.kind_is ∙ one.kind_is ∙ set.kind_is) in
-    let limits : d.limits ≡ c.args.limits = two.limits_are ∙ one.limits_are ∙ set.limits_are in
-    let fit : FitsWithin d.schema.now.kinds d.kind.place d.limits sillyprog =
-    moved d.schema.now.kinds d.kind.place d.limits kinds place
+    let place : d.reader.kind.place ≡ 6 = ap (λ (k : KindId). k.place) (two.kind_is ∙ one.kind_is ∙ set.kind_is) in
+    let limits : d.reader.limits ≡ c.args.limits = two.limits_are ∙ one.limits_are ∙ set.limits_are in
+    let fit : FitsWithin d.reader.schema.now.kinds d.reader.kind.place d.reader.limits sillyprog =
+    moved d.reader.schema.now.kinds d.reader.kind.place d.reader.limits kinds place
     (subst (λ (l : Bounds). 3 ≤ l.depth) (sym limits) c.requires.deep)
     (subst (λ (l : Bounds). 48 ≤ l.bytes) (sym limits) c.requires.room) in
-    let bytes : bytes_of d.schema.now.kinds d.kind.place sillyprog ≡ sillyprog_bytes =
-    ap (λ (k : List KindView). bytes_of k d.kind.place sillyprog) kinds
+    let bytes : bytes_of d.reader.schema.now.kinds d.reader.kind.place sillyprog ≡ sillyprog_bytes =
+    ap (λ (k : List KindView). bytes_of k d.reader.kind.place sillyprog) kinds
     ∙ ap (λ (n : ℕ). bytes_of file_kinds n sillyprog) place in
     let first = c.in_ok-feed.ensures.stands [] c.start-decoder.ensures.stands in
     let second = c.in_ok-feed-2.ensures.stands ([] ++ taken c.args.first.now (Ok p)) first in
     let end = c.finish.ensures.answer (([] ++ taken c.args.first.now (Ok p)) ++ taken c.args.second.now (Ok q)) second
     in
-    ended d.schema.now.kinds d.kind.place d.limits sillyprog
+    ended d.reader.schema.now.kinds d.reader.kind.place d.reader.limits sillyprog
     (([] ++ taken c.args.first.now (Ok p)) ++ taken c.args.second.now (Ok q)) c.finish.result end
-    (λ v fits told. joined d.schema.now.kinds d.kind.place d.limits sillyprog v c.args.first.now c.args.second.now p q
+    (λ v fits told. joined d.reader.schema.now.kinds d.reader.kind.place d.reader.limits sillyprog v c.args.first.now
+    c.args.second.now p q
     (λ used is. let again = c.feed-2.ensures.again (c.in_ok-feed.ensures.done used is) in let same : q
     ≡ Done 0 = cc (again, c.in_ok-feed-2.was) in same)
     fit fits told (bytes ∙ sym c.requires.input))
@@ -70,7 +72,7 @@ returns-in_err-feed-clause-taken c =
     append-nil (bytes_of file_kinds 6 sillyprog) ∙ sym c.requires.input in
     let answer = settled (λ (k : List KindView) (n : ℕ) (b : Bounds).
     AnswersAs k n b ([] ++ taken first c.feed.result) c.feed.result)
-    d.schema.now.kinds d.kind.place d.limits l
+    d.reader.schema.now.kinds d.reader.kind.place d.reader.limits l
     (ap (λ (s : Lists). s.kinds) set.schema_is ∙ c.requires.kinds) (ap (λ (k : KindId). k.place) set.kind_is)
     set.limits_are (c.feed.ensures.answer [] c.start-decoder.ensures.stands) in
     let told : IfErr c.feed.result (λ f. f.why ≡ NoMemory) =
@@ -95,7 +97,7 @@ returns-in_err-feed-2-clause-taken c =
     let stands = c.in_ok-feed.ensures.stands [] c.start-decoder.ensures.stands in
     let answer = settled (λ (k : List KindView) (n : ℕ) (b : Bounds).
     AnswersAs k n b (([] ++ taken first (Ok p)) ++ taken second r) r)
-    d.schema.now.kinds d.kind.place d.limits l
+    d.reader.schema.now.kinds d.reader.kind.place d.reader.limits l
     (ap (λ (s : Lists). s.kinds) (one.schema_is ∙ set.schema_is) ∙ c.requires.kinds)
     (ap (λ (k : KindId). k.place) (one.kind_is ∙ set.kind_is))
     (one.limits_are ∙ set.limits_are) (c.feed-2.ensures.answer ([] ++ taken first (Ok p)) stands) in
@@ -125,12 +127,12 @@ returns-clause-taken c =
     let after = c.in_ok-feed-2.ensures.stands ([] ++ taken first (Ok p)) stands in
     let before = c.feed.new.self in
     let answer = settled (λ (k : List KindView) (n : ℕ) (b : Bounds). AnswersAs k n b both (Ok q))
-    before.schema.now.kinds before.kind.place before.limits l
+    before.reader.schema.now.kinds before.reader.kind.place before.reader.limits l
     (ap (λ (s : Lists). s.kinds) (one.schema_is ∙ set.schema_is) ∙ c.requires.kinds)
     (ap (λ (k : KindId). k.place) (one.kind_is ∙ set.kind_is))
     (one.limits_are ∙ set.limits_are) (c.in_ok-feed-2.ensures.answer ([] ++ taken first (Ok p)) stands) in
     let end = settled (λ (k : List KindView) (n : ℕ) (b : Bounds). FinishesAs k n b both c.finish.result)
-    d.schema.now.kinds d.kind.place d.limits l
+    d.reader.schema.now.kinds d.reader.kind.place d.reader.limits l
     (ap (λ (s : Lists). s.kinds) (two.schema_is ∙ one.schema_is ∙ set.schema_is) ∙ c.requires.kinds)
     (ap (λ (k : KindId). k.place) (two.kind_is ∙ one.kind_is ∙ set.kind_is))
     (two.limits_are ∙ one.limits_are ∙ set.limits_are) (c.finish.ensures.answer both after) in

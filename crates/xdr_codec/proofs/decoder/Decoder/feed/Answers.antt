@@ -1,0 +1,8 @@
+use Rattle.xdr_codec.proofs.Outcomes.{answers}
+use Rattle.xdr_codec.proofs.decoder.Decoder.feed.Goals as goal
+
+pub returns-clause-answer : goal.returns-clause-answer
+returns-clause-answer c = λ b stands.
+    let r = c.args.self.now.reader in
+    answers r.schema.now.kinds r.kind.place r.limits c.depth-range.ensures.range.units b c.args.piece.now c.feed.result
+    (c.feed.ensures.answer b stands)
