@@ -40,7 +40,7 @@ needs_unit s xdr.hyper solid formed none = inr (tt, omega arith)
 needs_unit s xdr.unsigned_hyper solid formed none = inr (tt, omega arith)
 needs_unit s _ solid formed none = inl tt
 
-solid_too : (k : KindView) → nodes.IsSolid k → IsSolid k
+pub solid_too : (k : KindView) → nodes.IsSolid k → IsSolid k
 solid_too xdr.nothing h = absurd h
 solid_too _ h = tt
 

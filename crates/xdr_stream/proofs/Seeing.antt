@@ -1,5 +1,5 @@
 -- What is seen after a node or a unit, and what a builder was told.
-use Rattle.std.proofs.Common.{◌≡◌, ℕ, zero, suc, ◌+◌, ◌<◌, ◌≤◌, true, false, List, [], ◌∷◌, ◌++◌}
+use Rattle.std.proofs.Common.{◌≡◌, ℕ, zero, suc, ◌+◌, ◌<◌, ◌≤◌, Bool, true, false, List, [], ◌∷◌, ◌++◌}
 use Rattle.std.proofs.Common.{length, refl, sym, ap, subst, ◌∙◌, append-nil, arith}
 use Rattle.std.proofs.Common.{replicate}
 use Rattle.std.specs.Int.{w64, from_be_bytes}
@@ -21,6 +21,8 @@ use Rattle.xdr_laws.proofs.Owed.{silent_legal}
 use Rattle.xdr_stream.specs.Frames.{left_of, rest_of, Begins, onto, stack_of, dues}
 use Rattle.xdr_stream.specs.Trace.{Level, Trace, IsOpen, leaf_in, open_in, close_in, CanClose}
 use Rattle.xdr_stream.specs.Sees.{Sees, Reading, Built, BuiltInto, Makes, make_wide, next_height, IsReady, GoesDeep}
+use Rattle.xdr_stream.specs.Steps.{IsStep}
+use Rattle.xdr_stream.specs.declared.step.Step.TheVariants as step
 use Rattle.xdr_stream.specs.declared.frame.Frame.{Frame}
 use Rattle.xdr_stream.specs.declared.machine.Trouble.{Trouble}
 use Rattle.xdr_stream.specs.declared.machine.Trouble.TheVariants as trouble
@@ -234,6 +236,12 @@ module _ (s : List KindView) (t : ℕ) (l : Bounds) (H I : Trace → Type 0) (wo
       → Sees s t l H (Wide false) (rest_of (left_of work) ∷ onto [] parents) q
   code_unsigned n r = sees_unsigned s t l H n.part (rest_of (left_of work)) (onto [] parents) q n.kind n.deep
       (opened_stack xdr.unsigned_hyper n r)
+
+  pub code_free : (k : KindView) (signed : Bool) → IsStep k (step.Wide signed) → IsNext s l work parents k
+      → Sees s t l H Next (stack_of work parents) q
+      → Sees s t l H (Wide signed) (rest_of (left_of work) ∷ onto [] parents) q
+  code_free k true is n r = code_wide (subst (λ (f : KindView). IsNext s l work parents f) is n) r
+  code_free k false is n r = code_unsigned (subst (λ (f : KindView). IsNext s l work parents f) is n) r
 
   pub code_opaque : (size : ℕ) → IsNext s l work parents (xdr.opaque size) → Sees s t l H Next (stack_of work parents) q
       → Sees s t l H (Content size) (rest_of (left_of work) ∷ onto [] parents) q

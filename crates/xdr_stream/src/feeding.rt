@@ -1,9 +1,10 @@
 //! Pieces of bytes, read unit by unit.
 ghost use Rattle.std.specs.Prelude.{◌≡◌, ◌+◌, ◌≤◌, ◌<◌, ◌%◌, ℕ, List, [], ◌∷◌, ◌++◌, length, take, drop, IfOk, IfErr};
 ghost use Rattle.std.specs.Prelude.{Ok, Err};
-ghost use Rattle.xdr_stream.specs.Frames.{stack_of};
+ghost use Rattle.xdr_stream.specs.Frames.{left_of, stack_of};
 ghost use Rattle.xdr_stream.specs.Sees.{Sees, IsReady, Ends, reason_of};
 ghost use Rattle.xdr_stream.specs.Live.{IsLive};
+ghost use Rattle.xdr_stream.specs.Sound.{IsAwaited};
 ghost use Rattle.xdr_stream.specs.Stands.{StandsFor, IsAwake, IsWaiting, IsSame, Answers, taken, used_of};
 ghost use Rattle.xdr_stream.specs.declared.machine.Awaits.TheVariants.{Content};
 ghost use Rattle.xdr_stream.specs.declared.reader.State.TheVariants.{Reading, Finished, Failed};
@@ -52,6 +53,7 @@ impl<'s, B: Build + Drop> Reader<'s, B> {
         ensures pending { self.new.pending ≡ self.old.pending }
         ensures same { IsSame self.old self.new }
     {
+        self.state = State::Fresh;
         match awaits {
             Awaits::Next => match settle(
                 self.schema,
@@ -72,6 +74,7 @@ impl<'s, B: Build + Drop> Reader<'s, B> {
 
     // A unit is needed: it is asked for, unless the limit on bytes is reached.
     fn go_on(&mut self, awaits: Awaits)
+        requires { IsAwaited self.old.schema.now.kinds (left_of self.old.work) awaits }
         ensures stands { (q : List ℕ) → length q ≡ self.old.read → self.old.pending ≡ 0
             → Sees self.old.schema.now.kinds self.old.kind.place self.old.limits (B.tells self.old.built) awaits
             (stack_of self.old.work self.old.parents.items) q
@@ -103,6 +106,7 @@ impl<'s, B: Build + Drop> Reader<'s, B> {
 
     // Takes a whole unit.
     fn take(&mut self, awaits: Awaits, unit: &[u8; 4])
+        requires { IsAwaited self.old.schema.now.kinds (left_of self.old.work) awaits }
         ensures stands { (q : List ℕ) → length q ≡ self.old.read → self.old.pending ≡ 0
             → Sees self.old.schema.now.kinds self.old.kind.place self.old.limits (B.tells self.old.built) awaits
             (stack_of self.old.work self.old.parents.items) q
@@ -114,6 +118,7 @@ impl<'s, B: Build + Drop> Reader<'s, B> {
         ensures same { IsSame self.old self.new }
     {
         let _range = self.limits.depth();
+        self.state = State::Fresh;
         match take_unit(
             self.schema,
             awaits,
@@ -132,6 +137,7 @@ impl<'s, B: Build + Drop> Reader<'s, B> {
 
     // Takes a byte.
     fn take_byte(&mut self, awaits: Awaits, byte: u8)
+        requires { IsAwaited self.old.schema.now.kinds (left_of self.old.work) awaits }
         ensures stands { (b : List ℕ) → self.old.state ≡ Reading awaits → StandsFor B.tells self.old b
             → StandsFor B.tells self.new (b ++ byte ∷ []) }
         ensures awake { self.old.state ≡ Reading awaits → IsAwake self.new.state }
@@ -149,7 +155,8 @@ impl<'s, B: Build + Drop> Reader<'s, B> {
 
     // Takes whole units of a piece that has some, where no unit is unfinished, and tells how many bytes.
     fn take_units(&mut self, awaits: Awaits, bytes: &[u8]) -> usize
-        requires { 4 ≤ length bytes.now }
+        requires there { 4 ≤ length bytes.now }
+        requires awaited { IsAwaited self.old.schema.now.kinds (left_of self.old.work) awaits }
         ensures stands { (b : List ℕ) → self.old.state ≡ Reading awaits → self.old.pending ≡ 0
             → StandsFor B.tells self.old b → StandsFor B.tells self.new (b ++ take result bytes.now) }
         ensures some { 0 < result }

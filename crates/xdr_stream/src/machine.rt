@@ -1,23 +1,22 @@
 //! How reading goes on, whatever is made of the nodes.
-ghost use Rattle.std.specs.Prelude.{◌≡◌, ◌<◌, ℕ, pos, List, [], ◌∷◌, ◌++◌, length, IfSome, IfOk, IfErr, OnOk, IsTrue};
-ghost use Rattle.xdr_types.specs.Kinds.{KindView, kind_at};
-ghost use Rattle.xdr_types.specs.KindViews.{kind_view};
-ghost use Rattle.xdr_types.specs.Within.{Bounds};
+ghost use Rattle.std.specs.Prelude.{◌≡◌, ℕ, pos, List, [], ◌∷◌, ◌++◌, IfSome, IfOk, IfErr, OnOk, false};
+ghost use Rattle.xdr_types.specs.Kinds.{KindView};
 ghost use Rattle.xdr_units.specs.Numbers.{num4};
-ghost use Rattle.xdr_laws.specs.Owed.{lead_of, HasUnit};
 ghost use Rattle.xdr_stream.specs.Frames.{left_of, rest_of, stack_of, onto};
 ghost use Rattle.xdr_stream.specs.Trace.{Trace, open_in};
 ghost use Rattle.xdr_stream.specs.Nodes.{head_of_node};
 ghost use Rattle.xdr_stream.specs.Sees.{Sees, Follows, EndsAs, IsReady, GoesDeep, TakesUnit, RefusesUnit, Settles};
 ghost use Rattle.xdr_stream.specs.Live.{IsLive};
+ghost use Rattle.xdr_stream.specs.Sound.{IsSound, AreAllSolid, HasNext, Starts, IsAwaited};
 ghost use Rattle.xdr_stream.specs.declared.machine.Awaits.TheVariants.{Next};
 
 use crate::build::{Build, Leaf, Node};
 use crate::fault::Reason;
 use crate::frame::{Frame, after, next};
 use crate::number::{Made, made_of};
-use std::alloc::{AllocError, Global};
-use xdr_types::{Kind, KindId, Limits, Schema};
+use crate::step::{Step, step_of};
+use std::alloc::AllocError;
+use xdr_types::{Kind, Limits, Schema};
 
 /// What comes next.
 #[derive(Clone, Copy)]
@@ -62,15 +61,18 @@ impl From<AllocError> for Reason {
 }
 
 /// Ends the nodes that have all their parts, and tells whether the root is one of them.
-pub fn end_nodes<'s, B: Build>(
+pub(crate) fn end_nodes<'s, B: Build>(
     work: &mut Frame<'s>,
     parents: &mut Vec<Frame<'s>>,
     built: &mut B,
 ) -> Result<bool, AllocError>
-    ensures { IfOk result (λ whole. (kinds : List KindView)
+    ensures follows { IfOk result (λ whole. (kinds : List KindView)
         → Follows kinds (B.tells built.old) Next (stack_of work.old parents.old.items) (B.tells built.new) Next
         (stack_of work.new parents.new.items)
         × EndsAs whole (stack_of work.new parents.new.items)) }
+    ensures next { IfOk result (λ whole. whole ≡ false → HasNext (left_of work.new)) }
+    ensures solid { (kinds : List KindView) → AreAllSolid kinds (stack_of work.old parents.old.items)
+        → AreAllSolid kinds (stack_of work.new parents.new.items) }
 {
     while next(work).is_none() {
         let Some(parent) = parents.pop() else {
@@ -83,63 +85,38 @@ pub fn end_nodes<'s, B: Build>(
 }
 
 /// Passes over a void part.
-pub fn pass_void<'s, B: Build>(
+pub(crate) fn pass_void<'s, B: Build>(
     schema: &'s Schema,
     limits: Limits,
     work: &mut Frame<'s>,
     parents: &Vec<Frame<'s>>,
     built: &mut B,
 ) -> Result<(), Trouble>
+    requires { IsSound schema.now.kinds (stack_of work.old parents.now.items) }
     ensures follows { OnOk result ((kind : ℕ) (q : List ℕ)
         → Sees schema.now.kinds kind limits (B.tells built.old) Next (stack_of work.old parents.now.items) q
         → Sees schema.now.kinds kind limits (B.tells built.new) Next (stack_of work.new parents.now.items) q) }
     ensures deep { IfErr result (GoesDeep schema.now.kinds limits (B.tells built.old)
         (stack_of work.old parents.now.items)) }
+    ensures solid { OnOk result (AreAllSolid schema.now.kinds (stack_of work.new parents.now.items)) }
+    ensures stays { IfErr result (λ _. work.new ≡ work.old) }
 {
+    let _known = schema.len();
     let Some(id) = next(work) else {
         return Ok(());
     };
     if parents.len() >= limits.depth() as usize {
         return Err(Trouble::TooDeep);
     }
-    if let Some(Kind::Nothing) = found(schema, id) {
+    if let Kind::Nothing = schema.kind(id) {
         built.leaf(Leaf::Nothing)?;
         *work = after(*work);
     }
     Ok(())
 }
 
-/// The kind at a place, where there is one.
-pub fn found<'s>(schema: &'s Schema, id: KindId) -> Option<&'s Kind>
-    ensures { IfSome result (λ k. (kind_view k.now ≡ kind_at schema.now.kinds id.place)
-        × (id.place < length schema.now.kinds)) }
-{
-    if !schema.has(id) {
-        return None;
-    }
-    Some(schema.kind(id))
-}
-
-/// Whether a value of the kind begins with a unit that makes it, or with a length.
-pub fn needs_unit(kind: &Kind) -> bool
-    ensures { IsTrue result → HasUnit (lead_of (kind_view kind.now)) }
-{
-    match kind {
-        Kind::Int => true,
-        Kind::Unsigned => true,
-        Kind::Bool => true,
-        Kind::Numbered { .. } => true,
-        Kind::OpaqueUpTo { .. } => true,
-        Kind::Text { .. } => true,
-        Kind::UpTo { .. } => true,
-        Kind::Choice { .. } => true,
-        Kind::Maybe { .. } => true,
-        _ => false,
-    }
-}
-
 /// Opens a node whose parts come next.
-pub fn open<'s, B: Build>(
+pub(crate) fn open<'s, B: Build>(
     work: &mut Frame<'s>,
     parents: &mut Vec<Frame<'s>>,
     built: &mut B,
@@ -148,7 +125,9 @@ pub fn open<'s, B: Build>(
 ) -> Result<(), AllocError>
     ensures stack { OnOk result (stack_of work.new parents.new.items ≡ left_of frame.entry ∷ rest_of (left_of work.old)
         ∷ onto [] parents.old.items) }
+    ensures work { OnOk result (left_of work.new ≡ left_of frame.entry) }
     ensures told { OnOk result ((t : Trace) → B.tells built.old t → B.tells built.new (open_in (head_of_node node) t)) }
+    ensures stays { IfErr result (λ _. stack_of work.new parents.new.items ≡ stack_of work.old parents.old.items) }
 {
     built.open(node)?;
     parents.push(after(*work))?;
@@ -157,90 +136,76 @@ pub fn open<'s, B: Build>(
 }
 
 /// Begins nodes of no bytes of their own until a unit is needed.
-pub fn begin<'s, B: Build>(
+pub(crate) fn begin<'s, B: Build>(
     schema: &'s Schema,
     limits: Limits,
     work: &mut Frame<'s>,
     parents: &mut Vec<Frame<'s>>,
     built: &mut B,
 ) -> Result<Awaits, Trouble>
+    requires solid { AreAllSolid schema.now.kinds (stack_of work.old parents.old.items) }
+    requires next { HasNext (left_of work.old) }
     ensures follows { IfOk result (λ a. (kind : ℕ) (q : List ℕ)
         → Sees schema.now.kinds kind limits (B.tells built.old) Next (stack_of work.old parents.old.items) q
         → Sees schema.now.kinds kind limits (B.tells built.new) a (stack_of work.new parents.new.items) q) }
     ensures ready { IfOk result (λ a. IsReady schema.now.kinds limits a (stack_of work.new parents.new.items)) }
     ensures deep { IfErr result (GoesDeep schema.now.kinds limits (B.tells built.old)
         (stack_of work.old parents.old.items)) }
+    ensures solid { AreAllSolid schema.now.kinds (stack_of work.new parents.new.items) }
 {
     let _known = schema.len();
     loop {
         let Some(id) = next(work) else {
-            return Err(Trouble::NoMemory);
+            unreachable!();
         };
         if parents.len() >= limits.depth() as usize {
             return Err(Trouble::TooDeep);
         }
-        match found(schema, id) {
-            Some(Kind::Structure { fields }) => {
+        match step_of(schema.kind(id)) {
+            Step::Unit => return Ok(Awaits::Next),
+            Step::Fields(fields) => {
                 open(work, parents, built, Node::Fields, Frame::Fields { fields })?;
             }
-            Some(Kind::Fixed { item, size }) => {
-                let frame = Frame::Items {
-                    item: *item,
-                    left: *size,
-                };
-                open(work, parents, built, Node::Items(*size), frame)?;
+            Step::Items { item, size } => {
+                let frame = Frame::Items { item, left: size };
+                open(work, parents, built, Node::Items(size), frame)?;
             }
-            Some(Kind::Hyper) => {
+            Step::Wide(signed) => {
                 *work = after(*work);
-                return Ok(Awaits::Wide(true));
+                return Ok(Awaits::Wide(signed));
             }
-            Some(Kind::UnsignedHyper) => {
+            Step::Content(size) => {
                 *work = after(*work);
-                return Ok(Awaits::Wide(false));
+                return Ok(Awaits::Content(size));
             }
-            Some(Kind::Opaque { size }) => {
-                if *size == 0 {
-                    return Err(Trouble::NoMemory);
-                }
-                *work = after(*work);
-                return Ok(Awaits::Content(*size));
-            }
-            Some(kind) => {
-                if needs_unit(kind) {
-                    return Ok(Awaits::Next);
-                }
-                return Err(Trouble::NoMemory);
-            }
-            None => return Err(Trouble::NoMemory),
+            Step::Void => unreachable!(),
         }
     }
 }
 
 /// Takes the first unit of the part that comes next.
-pub fn take_number<'s, B: Build>(
+pub(crate) fn take_number<'s, B: Build>(
     schema: &'s Schema,
     work: &mut Frame<'s>,
     parents: &mut Vec<Frame<'s>>,
     built: &mut B,
     number: u32,
 ) -> Result<Awaits, Reason>
+    requires sound { IsSound schema.now.kinds (stack_of work.old parents.old.items) }
+    requires starts { Starts schema.now.kinds (left_of work.old) }
     ensures live { IfOk result IsLive }
     ensures taken { IfOk result (λ a. TakesUnit schema.now.kinds (B.tells built.old) Next
         (stack_of work.old parents.old.items) (B.tells built.new) a (stack_of work.new parents.new.items)
         (num4 (pos number))) }
     ensures refused { IfErr result (RefusesUnit schema.now.kinds (B.tells built.old) Next
         (stack_of work.old parents.old.items) (num4 (pos number))) }
+    ensures sound { IsSound schema.now.kinds (stack_of work.new parents.new.items) }
 {
     let _known = schema.len();
     let Some(id) = next(work) else {
-        return Err(Reason::NoMemory);
+        unreachable!();
     };
-    let Some(kind) = found(schema, id) else {
-        return Err(Reason::NoMemory);
-    };
-    if !needs_unit(kind) {
-        return Err(Reason::NoMemory);
-    }
+    let kind = schema.kind(id);
     let made = match made_of(schema, kind, number) {
         Ok(made) => made,
         Err(why) => return Err(why),
@@ -268,18 +233,21 @@ pub fn take_number<'s, B: Build>(
 }
 
 /// Ends and begins what takes no byte, and tells what comes next; nothing, where the value is whole.
-pub fn settle<'s, B: Build>(
+pub(crate) fn settle<'s, B: Build>(
     schema: &'s Schema,
     limits: Limits,
     work: &mut Frame<'s>,
     parents: &mut Vec<Frame<'s>>,
     built: &mut B,
 ) -> Result<Option<Awaits>, Trouble>
+    requires { IsSound schema.now.kinds (stack_of work.old parents.old.items) }
     ensures follows { IfOk result (λ o. (kind : ℕ) (q : List ℕ)
         → Sees schema.now.kinds kind limits (B.tells built.old) Next (stack_of work.old parents.old.items) q
         → Settles schema.now.kinds kind limits (B.tells built.new) (stack_of work.new parents.new.items) q o) }
     ensures deep { IfErr result (GoesDeep schema.now.kinds limits (B.tells built.old)
         (stack_of work.old parents.old.items)) }
+    ensures sound { IsSound schema.now.kinds (stack_of work.new parents.new.items) }
+    ensures awaited { IfOk result (λ o. IfSome o (IsAwaited schema.now.kinds (left_of work.new))) }
 {
     pass_void(schema, limits, work, parents, built)?;
     if end_nodes(work, parents, built)? {

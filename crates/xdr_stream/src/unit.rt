@@ -1,8 +1,9 @@
 //! What comes next after a whole unit, and what is read of it.
 ghost use Rattle.std.specs.Prelude.{◌≡◌, pos, length, IfOk, IfErr};
 ghost use Rattle.xdr_units.specs.Numbers.{num4};
-ghost use Rattle.xdr_stream.specs.Frames.{stack_of};
+ghost use Rattle.xdr_stream.specs.Frames.{left_of, stack_of};
 ghost use Rattle.xdr_stream.specs.Live.{IsLive};
+ghost use Rattle.xdr_stream.specs.Sound.{IsSound, IsAwaited};
 ghost use Rattle.xdr_stream.specs.Sees.{TakesUnit, RefusesUnit, are_zeros};
 
 use crate::build::{Build, Leaf};
@@ -29,7 +30,7 @@ fn are_zeros(bytes: &[u8]) -> bool
 }
 
 /// Takes a whole unit, and tells what comes next, before it is settled.
-pub fn take_unit<'s, B: Build>(
+pub(crate) fn take_unit<'s, B: Build>(
     schema: &'s Schema,
     awaits: Awaits,
     work: &mut Frame<'s>,
@@ -37,12 +38,15 @@ pub fn take_unit<'s, B: Build>(
     built: &mut B,
     unit: &[u8; 4],
 ) -> Result<Awaits, Reason>
+    requires sound { IsSound schema.now.kinds (stack_of work.old parents.old.items) }
+    requires awaited { IsAwaited schema.now.kinds (left_of work.old) awaits }
     ensures size { length unit.now ≡ 4 }
     ensures live { IfOk result IsLive }
     ensures taken { IfOk result (λ a. TakesUnit schema.now.kinds (B.tells built.old) awaits
         (stack_of work.old parents.old.items) (B.tells built.new) a (stack_of work.new parents.new.items) unit.now) }
     ensures refused { IfErr result (RefusesUnit schema.now.kinds (B.tells built.old) awaits
         (stack_of work.old parents.old.items) unit.now) }
+    ensures sound { IsSound schema.now.kinds (stack_of work.new parents.new.items) }
 {
     let number = number_of(unit);
     let _known = schema.len();

@@ -5,6 +5,7 @@ use Rattle.xdr_types.specs.Fits.{item_part}
 use Rattle.xdr_stream.specs.Frames.{onto}
 use Rattle.xdr_stream.specs.Trace.{Trace}
 use Rattle.xdr_stream.specs.Sees.{Sees}
+use Rattle.xdr_stream.specs.Sound.{AreAllSolid}
 use Rattle.xdr_stream.specs.declared.frame.Frame.{Frame}
 use Rattle.xdr_stream.specs.declared.machine.Awaits.TheVariants.{Next}
 use Rattle.xdr_stream.proofs.Finishing.{sees_start}
@@ -22,3 +23,13 @@ returns-clause-stands c =
           (sees_start c.args.schema.now.kinds c.args.kind.place c.args.limits tells c.len-known.ensures.valued
           c.requires tt),
     )
+
+pub invariant_of-result : goal.invariant_of-result
+invariant_of-result c = record {
+  sound = (
+    c.requires,
+    subst (λ (fs : List (List Part)). AreAllSolid c.args.schema.now.kinds fs)
+        (ap (λ (fs : List Frame). onto [] fs) (sym c.new.ensures.items)) tt,
+  );
+  waits = tt;
+}

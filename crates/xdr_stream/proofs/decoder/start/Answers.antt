@@ -4,6 +4,7 @@ use Rattle.xdr_types.specs.Fits.{item_part}
 use Rattle.xdr_stream.specs.Frames.{onto}
 use Rattle.xdr_stream.specs.Trace.{Trace}
 use Rattle.xdr_stream.specs.Sees.{Sees}
+use Rattle.xdr_stream.specs.Sound.{AreAllSolid}
 use Rattle.xdr_stream.specs.declared.frame.Frame.{Frame}
 use Rattle.std.specs.Prelude.{None}
 use Rattle.xdr_stream.specs.Values.{trace_of}
@@ -28,3 +29,13 @@ returns-clause-stands c =
           c.requires
           (told_start c.new-2.result.items c.new-3.result.items c.new-2.ensures.items c.new-3.ensures.items)),
     )
+
+pub invariant_of-result : goal.invariant_of-result
+invariant_of-result c = record {
+  sound = (
+    c.requires,
+    subst (λ (fs : List (List Part)). AreAllSolid c.args.schema.now.kinds fs)
+        (ap (λ (fs : List Frame). onto [] fs) (sym c.new.ensures.items)) tt,
+  );
+  waits = tt;
+}

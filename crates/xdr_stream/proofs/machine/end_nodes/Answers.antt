@@ -2,13 +2,27 @@ use Rattle.std.proofs.Common.{◌≡◌, []}
 use Rattle.xdr_stream.specs.Frames.{left_of, Begins}
 use Rattle.xdr_stream.proofs.Frames.{none_of}
 use Rattle.xdr_stream.proofs.Seeing.{sees_popped}
+use Rattle.xdr_stream.proofs.Sounding.{stack_popped}
 use Rattle.xdr_stream.proofs.machine.end_nodes.Goals as goal
 
 pub loop-parents-preserved : goal.loop-parents-preserved
-loop-parents-preserved g c = λ kinds kind limits q h.
-    let none = none_of c.next.result (left_of c.loop-parents.work ≡ [])
-    (λ k. Begins (left_of c.loop-parents.work) k.place) c.loop-parents-test.ensures c.next.ensures in
-    sees_popped kinds kind limits (g.B.Build.tells c.loop-parents.built)
-    (g.B.Build.tells c.close.new.self) c.loop-parents.work c.in-Some.parent c.loop-parents.parents.items
-    c.pop.new.self.items q none
-    c.in-Some.ensures.items c.in_ok-close.ensures (c.loop-parents.invariant kinds kind limits q h)
+loop-parents-preserved g c = (
+  (λ kinds kind limits q h.
+      let none = none_of c.next.result (left_of c.loop-parents.work ≡ [])
+      (λ k. Begins (left_of c.loop-parents.work) k.place) c.loop-parents-test.ensures c.next.ensures in
+      sees_popped kinds kind limits (g.B.Build.tells c.loop-parents.built)
+      (g.B.Build.tells c.close.new.self) c.loop-parents.work c.in-Some.parent c.loop-parents.parents.items
+      c.pop.new.self.items q none
+      c.in-Some.ensures.items c.in_ok-close.ensures (c.loop-parents.invariant.0 kinds kind limits q h)),
+  λ kinds h.
+      (stack_popped kinds c.loop-parents.work c.in-Some.parent c.loop-parents.parents.items c.pop.new.self.items
+      c.in-Some.ensures.items (c.loop-parents.invariant.1 kinds h)).1,
+)
+
+pub returns-in_err-close-clause-solid : goal.returns-in_err-close-clause-solid
+returns-in_err-close-clause-solid g c = λ kinds h.
+    let p = stack_popped kinds c.loop-parents.work c.in-Some.parent c.loop-parents.parents.items c.pop.new.self.items
+    c.in-Some.ensures.items (c.loop-parents.invariant.1 kinds h) in (p.0, p.1.1)
+
+pub returns-clause-solid : goal.returns-clause-solid
+returns-clause-solid g c = c.loop-parents.invariant.1

@@ -1,8 +1,16 @@
 use Rattle.std.proofs.Common.{◌<◌, ◌≤◌, length, sym, ap, ◌∙◌, arith}
 use Rattle.xdr_types.specs.Kinds as xdr
+use Rattle.xdr_types.specs.Kinds.{KindView, Part}
 use Rattle.xdr_types.specs.KindViews.{kind_view}
+use Rattle.xdr_stream.specs.Frames.{left_of}
 use Rattle.xdr_stream.proofs.Seeing.{is_next, code_deep, code_void}
+use Rattle.xdr_stream.proofs.Sounding.{first_known}
 use Rattle.xdr_stream.proofs.machine.pass_void.Goals as goal
+
+pub kind-requires : goal.kind-requires
+kind-requires g c = record {
+  has = first_known c.args.schema.now.kinds (left_of c.args.work.now) c.in-Some.id.place c.requires.0 c.in-Some.ensures;
+}
 
 pub returns-then-len-depth-clause-deep : goal.returns-then-len-depth-clause-deep
 returns-then-len-depth-clause-deep g c = λ kind q rest h.
@@ -16,7 +24,7 @@ pub returns-in_ok-leaf-clause-follows : goal.returns-in_ok-leaf-clause-follows
 returns-in_ok-leaf-clause-follows g c = λ kind q h.
     let shallow : length c.args.parents.now.items < c.args.limits.depth =
     omega (arith, c.if-len-depth.false, c.len.ensures, c.depth.ensures.value) in
-    let is = sym (ap kind_view c.in-Some-Nothing.field-0-is) ∙ c.in-Some-Nothing.ensures.0 in
+    let is = sym (ap kind_view c.in-Nothing.is) ∙ c.kind.ensures in
     let n = is_next c.args.schema.now.kinds c.args.limits c.args.work.now c.args.parents.now.items c.in-Some.id.place
     xdr.nothing c.in-Some.ensures is shallow in
     rw c.after.ensures (code_void c.args.schema.now.kinds kind c.args.limits (g.B.Build.tells c.args.built.now)

@@ -2,11 +2,26 @@ use Rattle.std.proofs.Common.{Bool, subst}
 use Rattle.xdr_stream.specs.Frames.{stack_of}
 use Rattle.xdr_stream.specs.Sees.{EndsAs}
 use Rattle.xdr_stream.proofs.Seeing.{goes_deep}
+use Rattle.xdr_stream.proofs.Sounding.{solid_sound}
 use Rattle.xdr_stream.proofs.machine.settle.Goals as goal
+
+pub returns-in_err-end_nodes-clause-sound : goal.returns-in_err-end_nodes-clause-sound
+returns-in_err-end_nodes-clause-sound g c =
+    solid_sound c.args.schema.now.kinds (stack_of c.end_nodes.new.work c.end_nodes.new.parents.items)
+    (c.end_nodes.ensures.solid c.args.schema.now.kinds c.in_ok-pass_void.ensures.solid)
+
+pub returns-then-branch-clause-sound : goal.returns-then-branch-clause-sound
+returns-then-branch-clause-sound g c =
+    solid_sound c.args.schema.now.kinds (stack_of c.end_nodes.new.work c.end_nodes.new.parents.items)
+    (c.end_nodes.ensures.solid c.args.schema.now.kinds c.in_ok-pass_void.ensures.solid)
+
+pub begin-requires-clause-solid : goal.begin-requires-clause-solid
+begin-requires-clause-solid g c =
+    c.end_nodes.ensures.solid c.args.schema.now.kinds c.in_ok-pass_void.ensures.solid
 
 pub returns-then-branch-clause-follows : goal.returns-then-branch-clause-follows
 returns-then-branch-clause-follows g c = λ kind q h.
-    let e = c.in_ok-end_nodes.ensures c.args.schema.now.kinds in (
+    let e = c.in_ok-end_nodes.ensures.follows c.args.schema.now.kinds in (
       subst (λ (b : Bool). EndsAs b (stack_of c.end_nodes.new.work c.end_nodes.new.parents.items)) c.if-branch.true
           e.1,
       e.0 kind c.args.limits q (c.in_ok-pass_void.ensures.follows kind q h),
@@ -17,12 +32,12 @@ returns-in-Err-clause-deep g c =
     goes_deep c.args.schema.now.kinds c.args.limits (g.B.Build.tells c.args.built.now)
     (g.B.Build.tells c.end_nodes.new.built) (stack_of c.args.work.now c.args.parents.now.items)
     (stack_of c.end_nodes.new.work c.end_nodes.new.parents.items) c.in-Err.trouble
-    (λ kind q h. (c.in_ok-end_nodes.ensures c.args.schema.now.kinds).0 kind c.args.limits q
+    (λ kind q h. (c.in_ok-end_nodes.ensures.follows c.args.schema.now.kinds).0 kind c.args.limits q
     (c.in_ok-pass_void.ensures.follows kind q h)) c.in-Err.ensures.deep
 
 pub returns-in-Ok-clause-follows : goal.returns-in-Ok-clause-follows
 returns-in-Ok-clause-follows g c = λ kind q h. (
-  c.in-Ok.ensures.follows kind q ((c.in_ok-end_nodes.ensures c.args.schema.now.kinds).0 kind c.args.limits q
+  c.in-Ok.ensures.follows kind q ((c.in_ok-end_nodes.ensures.follows c.args.schema.now.kinds).0 kind c.args.limits q
       (c.in_ok-pass_void.ensures.follows kind q h)),
   c.in-Ok.ensures.ready,
 )

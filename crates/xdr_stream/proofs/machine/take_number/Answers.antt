@@ -1,22 +1,42 @@
-use Rattle.std.proofs.Common.{◌≡◌, ◌<◌, ◌^◌, List, subst, arith, rules}
-use Rattle.xdr_types.specs.Kinds.{KindView}
+use Rattle.std.proofs.Common.{◌≡◌, ◌<◌, ◌^◌, List, length, sym, subst, arith}
+use Rattle.std.specs.List.{AllByRecursion}
+use Rattle.xdr_types.specs.Kinds.{KindView, Part}
+use Rattle.xdr_types.specs.Tree.{Head}
+use Rattle.xdr_types.specs.Fits.{parts}
+use Rattle.xdr_laws.proofs.Nodes.{IsFormedKind, formed_of}
 use Rattle.xdr_types.specs.KindViews.{kind_view}
-use Rattle.xdr_laws.specs.Owed.{lead_of, HasUnit}
+use Rattle.xdr_laws.specs.Owed.{lead_of, HasUnit, head_of}
+use Rattle.xdr_stream.specs.Frames.{left_of}
+use Rattle.xdr_stream.specs.Sound.{AreKnown, IsSound}
 use Rattle.xdr_stream.specs.Taking.{Takes}
 use Rattle.xdr_stream.specs.Nodes.{head_of_leaf, head_of_node}
 use Rattle.xdr_stream.specs.declared.number.Made.{Made}
 use Rattle.xdr_stream.proofs.Seeing.{next_ready}
 use Rattle.xdr_stream.proofs.Taking.{unit_refused, unit_leaf, unit_open, length_empty, length_some}
+use Rattle.xdr_stream.proofs.Sounding.{first_known, first_starts, known_rest, made_known}
 use Rattle.xdr_stream.proofs.machine.take_number.Goals as goal
+
+pub kind-kind-requires : goal.kind-kind-requires
+kind-kind-requires g c = record {
+  has = first_known c.args.schema.now.kinds (left_of c.args.work.now) c.in-Some.id.place c.requires.sound.0
+      c.in-Some.ensures;
+}
+
+pub made_of-requires : goal.made_of-requires
+made_of-requires g c =
+    let s : List KindView = c.args.schema.now.kinds in
+    subst (λ (f : KindView). HasUnit (lead_of f)) (sym c.kind-kind.ensures)
+    (first_starts s (left_of c.args.work.now) c.in-Some.id.place c.requires.starts c.in-Some.ensures)
 
 pub returns-in-Err-clause-refused : goal.returns-in-Err-clause-refused
 returns-in-Err-clause-refused g c = λ kind limits q rest ready small h.
     let s : List KindView = c.args.schema.now.kinds in
-    let k : KindView = kind_view c.in-Some-found.kind.now in
-    let unit : HasUnit (lead_of k) = search (rules, c.needs_unit.ensures) in
+    let k : KindView = kind_view c.kind-kind.result.now in
+    let unit : HasUnit (lead_of k) = subst (λ (f : KindView). HasUnit (lead_of f)) (sym c.kind-kind.ensures)
+    (first_starts s (left_of c.args.work.now) c.in-Some.id.place c.requires.starts c.in-Some.ensures) in
     let less : c.args.number < 2 ^ 32 = omega (arith, c.ranges.number) in
     let n = next_ready s limits c.args.work.now c.args.parents.now.items c.in-Some.id.place k c.in-Some.ensures
-    c.in-Some-found.ensures.0 ready in
+    c.kind-kind.ensures ready in
     unit_refused s c.len-known.ensures.valued c.len-known.ensures.known kind limits (g.B.Build.tells c.args.built.now)
     (g.B.Build.tells c.args.built.now) c.args.work.now c.args.parents.now.items q k n c.args.number less small h
     unit c.in-Err.why rest c.in-Err.ensures.0 c.in-Err.ensures.1
@@ -24,11 +44,12 @@ returns-in-Err-clause-refused g c = λ kind limits q rest ready small h.
 pub returns-in_ok-leaf-in-Leaf-clause-taken : goal.returns-in_ok-leaf-in-Leaf-clause-taken
 returns-in_ok-leaf-in-Leaf-clause-taken g c = λ kind limits q ready small h.
     let s : List KindView = c.args.schema.now.kinds in
-    let k : KindView = kind_view c.in-Some-found.kind.now in
-    let unit : HasUnit (lead_of k) = search (rules, c.needs_unit.ensures) in
+    let k : KindView = kind_view c.kind-kind.result.now in
+    let unit : HasUnit (lead_of k) = subst (λ (f : KindView). HasUnit (lead_of f)) (sym c.kind-kind.ensures)
+    (first_starts s (left_of c.args.work.now) c.in-Some.id.place c.requires.starts c.in-Some.ensures) in
     let less : c.args.number < 2 ^ 32 = omega (arith, c.ranges.number) in
     let n = next_ready s limits c.args.work.now c.args.parents.now.items c.in-Some.id.place k c.in-Some.ensures
-    c.in-Some-found.ensures.0 ready in
+    c.kind-kind.ensures ready in
     let t = subst (λ (m : Made). Takes s k c.args.number m) c.in-Leaf.is c.in-Ok.ensures in
     rw c.after.ensures
     (unit_leaf s c.len-known.ensures.valued c.len-known.ensures.known kind limits (g.B.Build.tells c.args.built.now)
@@ -38,11 +59,12 @@ returns-in_ok-leaf-in-Leaf-clause-taken g c = λ kind limits q ready small h.
 pub returns-in_ok-open-in-Open-clause-taken : goal.returns-in_ok-open-in-Open-clause-taken
 returns-in_ok-open-in-Open-clause-taken g c = λ kind limits q ready small h.
     let s : List KindView = c.args.schema.now.kinds in
-    let k : KindView = kind_view c.in-Some-found.kind.now in
-    let unit : HasUnit (lead_of k) = search (rules, c.needs_unit.ensures) in
+    let k : KindView = kind_view c.kind-kind.result.now in
+    let unit : HasUnit (lead_of k) = subst (λ (f : KindView). HasUnit (lead_of f)) (sym c.kind-kind.ensures)
+    (first_starts s (left_of c.args.work.now) c.in-Some.id.place c.requires.starts c.in-Some.ensures) in
     let less : c.args.number < 2 ^ 32 = omega (arith, c.ranges.number) in
     let n = next_ready s limits c.args.work.now c.args.parents.now.items c.in-Some.id.place k c.in-Some.ensures
-    c.in-Some-found.ensures.0 ready in
+    c.kind-kind.ensures ready in
     let t = subst (λ (m : Made). Takes s k c.args.number m) c.in-Open.is c.in-Ok.ensures in
     let opened = unit_open s c.len-known.ensures.valued c.len-known.ensures.known kind limits
     (g.B.Build.tells c.args.built.now)
@@ -53,11 +75,12 @@ returns-in_ok-open-in-Open-clause-taken g c = λ kind limits q ready small h.
 pub returns-then-size-eq0-clause-taken : goal.returns-then-size-eq0-clause-taken
 returns-then-size-eq0-clause-taken g c = λ kind limits q ready small h.
     let s : List KindView = c.args.schema.now.kinds in
-    let k : KindView = kind_view c.in-Some-found.kind.now in
-    let unit : HasUnit (lead_of k) = search (rules, c.needs_unit.ensures) in
+    let k : KindView = kind_view c.kind-kind.result.now in
+    let unit : HasUnit (lead_of k) = subst (λ (f : KindView). HasUnit (lead_of f)) (sym c.kind-kind.ensures)
+    (first_starts s (left_of c.args.work.now) c.in-Some.id.place c.requires.starts c.in-Some.ensures) in
     let less : c.args.number < 2 ^ 32 = omega (arith, c.ranges.number) in
     let n = next_ready s limits c.args.work.now c.args.parents.now.items c.in-Some.id.place k c.in-Some.ensures
-    c.in-Some-found.ensures.0 ready in
+    c.kind-kind.ensures ready in
     let t = subst (λ (m : Made). Takes s k c.args.number m) c.in-Length.is c.in-Ok.ensures in
     let none : c.args.number ≡ 0 = omega (arith, t.1.1, c.if-size-eq0.true) in
     rw c.after-then-size-eq0.ensures
@@ -69,13 +92,30 @@ returns-then-size-eq0-clause-taken g c = λ kind limits q ready small h.
 pub returns-else-size-eq0-clause-taken : goal.returns-else-size-eq0-clause-taken
 returns-else-size-eq0-clause-taken g c = λ kind limits q ready small h.
     let s : List KindView = c.args.schema.now.kinds in
-    let k : KindView = kind_view c.in-Some-found.kind.now in
-    let unit : HasUnit (lead_of k) = search (rules, c.needs_unit.ensures) in
+    let k : KindView = kind_view c.kind-kind.result.now in
+    let unit : HasUnit (lead_of k) = subst (λ (f : KindView). HasUnit (lead_of f)) (sym c.kind-kind.ensures)
+    (first_starts s (left_of c.args.work.now) c.in-Some.id.place c.requires.starts c.in-Some.ensures) in
     let less : c.args.number < 2 ^ 32 = omega (arith, c.ranges.number) in
     let n = next_ready s limits c.args.work.now c.args.parents.now.items c.in-Some.id.place k c.in-Some.ensures
-    c.in-Some-found.ensures.0 ready in
+    c.kind-kind.ensures ready in
     let t = subst (λ (m : Made). Takes s k c.args.number m) c.in-Length.is c.in-Ok.ensures in
     rw (c.after-in-Length.ensures, t.1.1)
     (length_some s c.len-known.ensures.valued c.len-known.ensures.known kind limits (g.B.Build.tells c.args.built.now)
     (g.B.Build.tells c.args.built.now) c.args.work.now c.args.parents.now.items q k n c.args.number less small h
     unit t.1.0 t.0)
+
+pub returns-in_ok-open-in-Open-clause-sound : goal.returns-in_ok-open-in-Open-clause-sound
+returns-in_ok-open-in-Open-clause-sound g c =
+    let s : List KindView = c.args.schema.now.kinds in
+    let k : KindView = kind_view c.kind-kind.result.now in
+    let within = first_known s (left_of c.args.work.now) c.in-Some.id.place c.requires.sound.0 c.in-Some.ensures in
+    let t = subst (λ (m : Made). Takes s k c.args.number m) c.in-Open.is c.in-Ok.ensures in
+    let all : (h : Head) → AllByRecursion (λ (p : Part). p.kind < length s) (parts k h) = λ h.
+    subst (λ (f : KindView). AllByRecursion (λ (p : Part). p.kind < length s) (parts f h)) (sym c.kind-kind.ensures)
+    (c.len-known.ensures.known c.in-Some.id.place h within) in
+    let formed : IsFormedKind s k = subst (λ (f : KindView). IsFormedKind s f) (sym c.kind-kind.ensures)
+    (formed_of c.args.schema.now c.len-known.ensures.well_formed c.in-Some.id.place) in
+    let inner : AreKnown s (left_of c.in-Open.frame) = subst (λ (ps : List Part). AreKnown s ps) t.1.3
+    (made_known s k (head_of s k c.args.number) all formed t.1.0) in
+    subst (λ (fs : List (List Part)). IsSound s fs) (sym c.in_ok-open-in-Open.ensures.stack)
+    (inner, (known_rest s (left_of c.args.work.now) c.requires.sound.0, c.requires.sound.1))
