@@ -4,7 +4,7 @@ use Rattle.std.proofs.Common.{true, is_some, true≢false, IfSome, IfNone}
 use Rattle.xdr_units.specs.Texts.{HasNoDot}
 use Rattle.rpc_uaddr.specs.declared.address.Uaddr.{Uaddr}
 use Rattle.rpc_uaddr.specs.Uaddrs.{uaddr_from, uaddr_of, uaddr_text, IsUaddr, octet, octets, parts}
-use Rattle.rpc_uaddr.proofs.Inverse.{first, some_part, reads_only_texts}
+use Rattle.rpc_uaddr.proofs.Inverse.{first, some_part, reads_only_texts, rest as behind}
 use Rattle.rpc_uaddr.proofs.Back.{parts_one, parts_more, reads_all_texts}
 
 -- ---- one number
@@ -21,10 +21,6 @@ octets_one text h = ap (map octet) (parts_one text h)
 abbrev front : List (Option ℕ) → Option ℕ
 front [] = None
 front (o ∷ os) = o
-
-abbrev pub behind : List (Option ℕ) → List (Option ℕ)
-behind [] = []
-behind (o ∷ os) = os
 
 none_some : (n : ℕ) → None ≡ Some n → ⊥
 none_some n e = true≢false (sym (ap is_some e))

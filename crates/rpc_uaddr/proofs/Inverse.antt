@@ -11,7 +11,6 @@ use Rattle.std.proofs.lemmas.Bool.Decides.{Decides-eqb, Decides-ltb}
 use Rattle.std.proofs.lemmas.Bool.{and_parts as and_both}
 use Rattle.rpc_uaddr.specs.declared.address.Uaddr.{Uaddr}
 use Rattle.rpc_uaddr.specs.Uaddrs.{uaddr_of, uaddr_text, uaddr_from, parts, onto_first, octet, dotted}
-use Rattle.rpc_uaddr.proofs.Chain.{behind as rest}
 
 -- parts with dots between them
 abbrev dots : List (List ℕ) → List ℕ
@@ -108,6 +107,10 @@ six (Some a ∷ Some b ∷ Some c ∷ Some d ∷ Some h ∷ Some l ∷ o ∷ os)
 abbrev head_or : Option ℕ → List (Option ℕ) → Option ℕ
 head_or d [] = d
 head_or d (o ∷ os) = o
+
+abbrev pub rest : List (Option ℕ) → List (Option ℕ)
+rest [] = []
+rest (o ∷ os) = os
 
 abbrev some : List (Option ℕ) → Bool
 some [] = false
