@@ -1,10 +1,10 @@
 //! The calls of `xdr_codec`, each where its arguments are right. Nothing is said here of their answers, so that the
 //! tests are proved fast.
-use std::alloc::{AllocError, Global};
+use std::alloc::Global;
 use std::process::Abort;
 use xdr_codec::{DecodeFault, Decoder, Progress, WriteFault, decode, encode, encode_to};
 use xdr_io::MemorySink;
-use xdr_types::{KindId, Limits, Schema, Value, fits};
+use xdr_types::{KindId, Limits, NoMemory, Schema, Value, fits};
 
 /// Limits that are in range.
 pub fn limits(rt: &impl Abort, depth: u32, bytes: u32) -> Limits {
@@ -29,7 +29,7 @@ pub fn encoded(
     schema: &Schema,
     place: u32,
     value: &Value,
-) -> Result<Vec<u8>, AllocError> {
+) -> Result<Vec<u8>, NoMemory> {
     let (kind, limits) = (KindId { place }, widest(rt));
     assert!(*rt; schema.has(kind) && fits(schema, kind, value, limits));
     encode(alloc, schema, kind, value, limits)

@@ -2,9 +2,10 @@
 use crate::schema::{FILE, all_kinds};
 use crate::shown::calls::{shown, value_of};
 use growths::{allow, refuse, take_all};
-use std::alloc::{AllocError, Global};
+use std::alloc::Global;
 use std::env::Env;
 use std::process::Abort;
+use xdr_types::NoMemory;
 
 // The file of RFC 4506 section 7.
 const SILLYPROG: &str =
@@ -27,7 +28,7 @@ fn wants_memory(rt: HostRuntime) {
 }
 
 // What is shown are the lines, or nothing where the growths can be refused.
-fn is_right(text: Option<Result<Vec<u8>, AllocError>>, can_refuse: bool) -> bool {
+fn is_right(text: Option<Result<Vec<u8>, NoMemory>>, can_refuse: bool) -> bool {
     match text {
         Some(Ok(lines)) => lines.as_slice() == LINES,
         Some(Err(_)) => can_refuse,
