@@ -42,7 +42,8 @@ module _ (s : List KindView) (t : ℕ) (l : Bounds) (H : Trace → Type 0) (fs :
       → (v : Tree) × Outcome s t l (b ++ more) (Whole v (length b))
   whole_on b more r = let w = sees_whole s t l H b fs more r.1 r.2 in (w.0, w.2)
 
-module _ {B : Type 0} {g : _} (tells : B → Trace → Type 0) (old new : Reader B g) (same : IsSame old new) (b : List ℕ) where
+module _ {B : Type 0} {g : _} (tells : B → Trace → Type 0) (old new : Reader B g)
+    (same : IsSame old new) (b : List ℕ) where
   kinds_are : new.schema.now.kinds ≡ old.schema.now.kinds
   kinds_are = ap (λ (x : Lists). x.kinds) same.schema_is
 
@@ -64,7 +65,8 @@ module _ {B : Type 0} {g : _} (tells : B → Trace → Type 0) (old new : Reader
       x b) is r)))
 
 -- the answers of a reader that stands for the bytes before a piece and those that were taken of it
-module _ {B : Type 0} {g : _} (tells : B → Trace → Type 0) (old new : Reader B g) (same : IsSame old new) (b piece : List ℕ)
+module _ {B : Type 0} {g : _} (tells : B → Trace → Type 0) (old new : Reader B g)
+    (same : IsSame old new) (b piece : List ℕ)
     (used : ℕ)
     (within : used ≤ length piece) (r : StandsFor tells new (b ++ take used piece)) where
   cut : (b ++ take used piece) ++ drop used piece ≡ b ++ piece

@@ -40,7 +40,7 @@ use Rattle.xdr_stream.proofs.Reading.{reading_start}
 abbrev pub at_start : Trace
 at_start = record { levels = level value.nothing [] ∷ []; content = [] }
 
-abbrev trace_at : List trace.Level → List ℕ → Trace
+abbrev pub trace_at : List trace.Level → List ℕ → Trace
 trace_at levels content = record { levels = levels; content = content }
 
 pub told_start : (ls : List Level) (content : List ℕ) → ls ≡ [] → content ≡ []

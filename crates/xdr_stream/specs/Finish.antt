@@ -36,7 +36,8 @@ Finishes kinds kind limits b (Ok v) = Outcome kinds kind limits b (outcome.Whole
 Finishes kinds kind limits b (Err f) = EndsWith kinds kind limits b f
 
 -- the settings of a new reader
-pub record IsStarted {B : Type 0} {g : _} (r : Reader B g) (schema : Lists) (kind : KindId) (limits : Bounds) : Type 0 where
+pub record IsStarted {B : Type 0} {g : _} (r : Reader B g) (schema : Lists) (kind : KindId) (limits : Bounds)
+    : Type 0 where
   pub schema_is : r.schema.now ≡ schema
   pub kind_is : r.kind ≡ kind
   pub limits_are : r.limits ≡ limits

@@ -6,6 +6,8 @@ use Rattle.xdr_types.specs.Kinds as xdr
 use Rattle.xdr_types.specs.Kinds.{KindView, Part, kind_at}
 use Rattle.xdr_laws.specs.Owed.{Lead, UnitFirst, LengthFirst, FreeBytes, Silent, lead_of, HasUnit}
 use Rattle.xdr_stream.specs.First.{IsSolid}
+use Rattle.xdr_stream.specs.Frames.{stack_of}
+use Rattle.xdr_stream.specs.declared.frame.Frame.{Frame}
 use Rattle.xdr_stream.specs.declared.machine.Awaits.{Awaits}
 use Rattle.xdr_stream.specs.declared.machine.Awaits.TheVariants.{Next, Content, Wide, Low}
 use Rattle.xdr_stream.specs.declared.reader.State.{State}
@@ -35,6 +37,10 @@ AreKnown kinds (p ∷ q ∷ ps) = AreSolid kinds (p ∷ q ∷ ps)
 abbrev pub IsSound : List KindView → List (List Part) → Type 0
 IsSound kinds [] = ⊤
 IsSound kinds (ps ∷ fs) = AreKnown kinds ps × AreAllSolid kinds fs
+
+-- the same of the nodes at work in code
+abbrev pub IsSoundAt : List KindView → Frame → List Frame → Type 0
+IsSoundAt kinds work parents = IsSound kinds (stack_of work parents)
 
 -- some part is left
 abbrev pub HasNext : List Part → Type 0
@@ -86,9 +92,12 @@ AreKnown-prop kinds [] = Unit-prop
 AreKnown-prop kinds (p ∷ []) = (less-prop p.kind (length kinds))
 AreKnown-prop kinds (p ∷ q ∷ ps) = AreSolid-prop kinds (p ∷ q ∷ ps)
 
-pub IsSound-prop : (kinds : List KindView) (fs : List (List Part)) → IsProp (IsSound kinds fs)
+IsSound-prop : (kinds : List KindView) (fs : List (List Part)) → IsProp (IsSound kinds fs)
 IsSound-prop kinds [] = Unit-prop
 IsSound-prop kinds (ps ∷ fs) = ×_prop (AreKnown-prop kinds ps) (AreAllSolid-prop kinds fs)
+
+pub one_sound : (kinds : List KindView) (work : Frame) (parents : List Frame) → IsProp (IsSoundAt kinds work parents)
+one_sound kinds work parents = IsSound-prop kinds (stack_of work parents)
 
 HasUnit-prop : (l : Lead) → IsProp (HasUnit l)
 HasUnit-prop UnitFirst = Unit-prop
@@ -106,8 +115,8 @@ IsAwaited-prop kinds ps (Content n) = Unit-prop
 IsAwaited-prop kinds ps (Wide signed) = Unit-prop
 IsAwaited-prop kinds ps (Low signed x) = Unit-prop
 
-pub Waits-prop : (kinds : List KindView) (ps : List Part) (s : State) → IsProp (Waits kinds ps s)
-Waits-prop kinds ps Fresh = Unit-prop
-Waits-prop kinds ps (Reading a) = IsAwaited-prop kinds ps a
-Waits-prop kinds ps Finished = Unit-prop
-Waits-prop kinds ps (Failed f) = Unit-prop
+pub one_wait : (kinds : List KindView) (ps : List Part) (s : State) → IsProp (Waits kinds ps s)
+one_wait kinds ps Fresh = Unit-prop
+one_wait kinds ps (Reading a) = IsAwaited-prop kinds ps a
+one_wait kinds ps Finished = Unit-prop
+one_wait kinds ps (Failed f) = Unit-prop

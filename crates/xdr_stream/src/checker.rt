@@ -19,6 +19,10 @@ impl Build for Nothing {
         Ok(())
     }
 
+    fn numbers(&mut self, _: bool, _: &[u8]) -> Result<(), AllocError> {
+        Ok(())
+    }
+
     fn open(&mut self, _: Node) -> Result<(), AllocError> {
         Ok(())
     }

@@ -1,29 +1,32 @@
 //! Pieces of bytes, read unit by unit.
-ghost use Rattle.std.specs.Prelude.{◌≡◌, ◌+◌, ◌≤◌, ◌<◌, ◌%◌, ℕ, List, [], ◌∷◌, ◌++◌, length, take, drop, IfOk, IfErr};
-ghost use Rattle.std.specs.Prelude.{Ok, Err};
+ghost use Rattle.std.specs.Prelude.{◌≡◌, ◌+◌, ◌≤◌, ◌<◌, ◌%◌, ◌*◌, ℕ, List, [], ◌∷◌, ◌++◌, length, take, drop};
+ghost use Rattle.std.specs.Prelude.{IfOk, IfErr, Ok, Err};
 ghost use Rattle.xdr_stream.specs.Frames.{left_of, stack_of};
 ghost use Rattle.xdr_stream.specs.Sees.{Sees, IsReady, Ends, reason_of};
 ghost use Rattle.xdr_stream.specs.Live.{IsLive};
 ghost use Rattle.xdr_stream.specs.Sound.{IsAwaited};
 ghost use Rattle.xdr_stream.specs.Stands.{StandsFor, IsAwake, IsWaiting, IsSame, Answers, taken, used_of};
-ghost use Rattle.xdr_stream.specs.declared.machine.Awaits.TheVariants.{Content};
+ghost use Rattle.xdr_stream.specs.Run.{IsRun};
+ghost use Rattle.xdr_stream.specs.declared.machine.Awaits.TheVariants.{Next, Content};
 ghost use Rattle.xdr_stream.specs.declared.reader.State.TheVariants.{Reading, Finished, Failed};
 ghost use Rattle.xdr_stream.specs.declared.reader.Progress.TheVariants.{Done};
 
 use crate::build::Build;
 use crate::fault::{DecodeFault, Reason};
+use crate::frame::Frame;
 use crate::machine::{Awaits, Trouble, settle};
 use crate::reader::{Progress, Reader, State};
+use crate::run::{Run, run_due};
 use crate::unit::take_unit;
 
 /// What is left to read of content, and how many whole units of it are there: within what is left and the limit.
-pub fn units_there(left: u32, there: usize, room: usize) -> usize
+pub fn units_there(left: usize, there: usize, room: usize) -> usize
     ensures units { result % 4 ≡ 0 }
     ensures left { result ≤ left }
     ensures there { result ≤ there }
     ensures room { result ≤ room }
 {
-    let most = (left as usize).min(there).min(room);
+    let most = left.min(there).min(room);
     most - most % 4
 }
 
@@ -166,10 +169,20 @@ impl<'s, B: Build + Drop> Reader<'s, B> {
     {
         if let Awaits::Content(left) = awaits {
             let room = (self.limits.bytes() as usize).saturating_sub(self.read);
-            let n = units_there(left, bytes.len(), room);
+            let n = units_there(left as usize, bytes.len(), room);
             if n > 4 {
                 self.take_content(left - (n as u32 - 4), n, bytes);
                 return n;
+            }
+        }
+        if let Awaits::Next = awaits {
+            if let Some(run) = run_due(self.schema, self.work) {
+                let room = (self.limits.bytes() as usize).saturating_sub(self.read);
+                let n = units_there(run.left as usize * 4, bytes.len(), room);
+                if n > 4 {
+                    self.take_run(run, run.left - ((n / 4) as u32 - 1), n, bytes);
+                    return n;
+                }
             }
         }
         self.take(awaits, &unit_at(bytes, 0));
@@ -194,6 +207,35 @@ impl<'s, B: Build + Drop> Reader<'s, B> {
             Ok(()) => {
                 self.read = self.read.saturating_add(n - 4);
                 self.take(Awaits::Content(last), &unit_at(bytes, n - 4));
+            }
+            Err(_) => self.fail(Reason::NoMemory),
+        }
+    }
+
+    // Takes so many bytes of numbers of one unit, items of the array at work; so many are left at the last of them.
+    fn take_run(&mut self, run: Run, last: u32, n: usize, bytes: &[u8])
+        requires units { n % 4 ≡ 0 }
+        requires some { 4 < n }
+        requires there { n ≤ length bytes.now }
+        requires last { 0 < last }
+        requires due { IsRun self.old.schema.now.kinds self.old.work run }
+        requires left { 4 * run.left + 4 ≡ 4 * last + n }
+        ensures stands { (b : List ℕ) → self.old.state ≡ Reading Next
+            → self.old.pending ≡ 0 → n + self.old.read ≤ self.old.limits.bytes
+            → StandsFor B.tells self.old b → StandsFor B.tells self.new (b ++ take n bytes.now) }
+        ensures awake { IsAwake self.new.state }
+        ensures same { IsSame self.old self.new }
+    {
+        let _known = self.schema.len();
+        let _range = self.limits.depth();
+        match self.built.numbers(run.signed, &bytes[..n - 4]) {
+            Ok(()) => {
+                self.work = Frame::Items {
+                    item: run.item,
+                    left: last,
+                };
+                self.read = self.read.saturating_add(n - 4);
+                self.take(Awaits::Next, &unit_at(bytes, n - 4));
             }
             Err(_) => self.fail(Reason::NoMemory),
         }

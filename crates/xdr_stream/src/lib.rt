@@ -11,6 +11,7 @@ pub mod frame;
 pub mod machine;
 pub mod number;
 pub mod reader;
+pub mod run;
 pub mod step;
 pub mod unit;
 pub mod values;

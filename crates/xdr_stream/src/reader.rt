@@ -1,6 +1,6 @@
 //! A reader: where reading stands.
-ghost use Rattle.xdr_stream.specs.Frames.{left_of, stack_of};
-ghost use Rattle.xdr_stream.specs.Sound.{IsSound, IsSound-prop, Waits, Waits-prop};
+ghost use Rattle.xdr_stream.specs.Frames.{left_of};
+ghost use Rattle.xdr_stream.specs.Sound.{IsSoundAt, Waits, one_sound, one_wait};
 
 use crate::build::Build;
 use crate::fault::DecodeFault;
@@ -48,6 +48,6 @@ pub struct Reader<'s, B: Build + Drop> {
     /// How many of them are there.
     pub pending: usize,
     pub state: State,
-    ghost sound: { IsSound schema.now.kinds (stack_of work parents.items) } by { IsSound-prop schema.now.kinds (stack_of work parents.items) },
-    ghost waits: { Waits schema.now.kinds (left_of work) state } by { Waits-prop schema.now.kinds (left_of work) state },
+    ghost sound: { IsSoundAt schema.now.kinds work parents.items } by { one_sound schema.now.kinds work parents.items },
+    ghost waits: { Waits schema.now.kinds (left_of work) state } by { one_wait schema.now.kinds (left_of work) state },
 }

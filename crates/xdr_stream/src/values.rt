@@ -1,9 +1,10 @@
 //! The value that the nodes make.
-ghost use Rattle.std.specs.Prelude.{◌≡◌};
-ghost use Rattle.std.specs.Prelude.{[], ◌∷◌, OnOk, MatchOption};
+ghost use Rattle.std.specs.Prelude.{◌≡◌, ◌+◌, ◌≤◌, [], ◌∷◌, length, take, drop, OnOk, MatchOption};
+ghost use Rattle.std.specs.Int.{w32, from_be_bytes};
 ghost use Rattle.xdr_types.specs.Tree.{Tree, nothing};
 ghost use Rattle.xdr_types.specs.View.{tree};
 ghost use Rattle.xdr_stream.specs.Nodes.{head_of_leaf, head_of_node};
+ghost use Rattle.xdr_stream.specs.Runs.{number_head};
 ghost use Rattle.xdr_stream.specs.Trace.{level as told, added, IsOpen, IsFilled};
 ghost use Rattle.xdr_stream.specs.Values.{trace_of, level_of, closed_tree, leaf_tree};
 
@@ -94,6 +95,25 @@ fn value_of(alloc: Global, leaf: Leaf) -> Value
     }
 }
 
+// A number of one unit, signed or not.
+fn number_value(signed: bool, number: u32) -> Value
+    ensures { tree result ≡ leaf_tree (number_head signed number) }
+{
+    if signed {
+        Value::Int(number.cast_signed())
+    } else {
+        Value::Unsigned(number)
+    }
+}
+
+// The number in the unit at a place.
+fn number_at(bytes: &[u8], at: usize) -> u32
+    requires { at + 4 ≤ length bytes.now }
+    ensures { result ≡ from_be_bytes w32 (take 4 (drop at bytes.now)) }
+{
+    u32::from_be_bytes([bytes[at], bytes[at + 1], bytes[at + 2], bytes[at + 3]])
+}
+
 fn begun(alloc: Global, node: Node) -> Level
     ensures { level_of result ≡ told (head_of_node node) [] }
 {
@@ -115,6 +135,16 @@ impl Build for Values {
         add(self.alloc, &mut self.work, value_of(self.alloc, leaf))
     }
 
+    fn numbers(&mut self, signed: bool, units: &[u8]) -> Result<(), AllocError> {
+        let mut at = 0;
+        while at < units.len() {
+            let value = number_value(signed, number_at(units, at));
+            add(self.alloc, &mut self.work, value)?;
+            at += 4;
+        }
+        Ok(())
+    }
+
     fn open(&mut self, node: Node) -> Result<(), AllocError> {
         self.parents.reserve(1)?;
         let parent = std::mem::replace(&mut self.work, begun(self.alloc, node));
@@ -131,6 +161,10 @@ impl Build for Values {
     }
 
     fn extend(&mut self, bytes: &[u8]) -> Result<(), AllocError> {
+        if self.content.is_empty() {
+            // The last unit brings four bytes at most.
+            self.content.reserve(bytes.len().saturating_add(4))?;
+        }
         self.content.extend_from_slice(bytes)?;
         Ok(())
     }

@@ -1,0 +1,80 @@
+use Rattle.std.proofs.Common.{◌≡◌, ◌+◌, ◌-◌, ◌*◌, ◌≤◌, ℕ, List, ◌++◌, length, take, subst, sym, ap, ◌∙◌, true}
+use Rattle.std.proofs.Common.{append_assoc, append-nil, arith}
+use Rattle.std.proofs.lemmas.List.{length-append, length-take}
+use Rattle.std.proofs.Math.Seq.{take-add}
+use Rattle.xdr_types.specs.Kinds.{KindView}
+use Rattle.xdr_types.specs.Fits.{are_bytes}
+use Rattle.xdr_laws.proofs.Legal.{bytes_are}
+use Rattle.xdr_stream.specs.Frames.{stack_of}
+use Rattle.xdr_stream.specs.Sees.{Sees, IsReady}
+use Rattle.xdr_stream.specs.Sound.{IsSoundAt}
+use Rattle.xdr_stream.specs.Stands.{StandsAs, StandsFor}
+use Rattle.xdr_stream.specs.declared.frame.Frame.{Frame}
+use Rattle.xdr_stream.specs.declared.machine.Awaits.TheVariants.{Next}
+use Rattle.xdr_stream.specs.declared.reader.State.{State}
+use Rattle.xdr_stream.proofs.Units.{bytes_taken}
+use Rattle.xdr_stream.proofs.Running.{many_numbers, ready_numbers, deep_numbers, sound_numbers, waits_numbers}
+use Rattle.xdr_stream.proofs.Running.{awaited_numbers}
+use Rattle.xdr_stream.proofs.reader.Reader.take_run.Goals as goal
+
+pub invariant_of-self : goal.invariant_of-self
+invariant_of-self g c =
+    let a = c.args.self.now in
+    let s : List KindView = a.schema.now.kinds in
+    let due = c.requires.due in record {
+      sound = sound_numbers s c.args.run.item c.args.run.signed c.args.run.left c.args.last a.parents.items due.kind
+          due.known (subst (λ (w : Frame). IsSoundAt s w a.parents.items) due.node a.sound);
+      waits = waits_numbers s c.args.run.item c.args.run.signed c.args.last a.state due.kind c.requires.last;
+    }
+
+pub take-requires : goal.take-requires
+take-requires g c =
+    awaited_numbers c.args.self.now.schema.now.kinds c.args.run.item c.args.run.signed c.args.last Next
+    c.requires.due.kind c.requires.last
+
+pub returns-in-Ok-clause-stands : goal.returns-in-Ok-clause-stands
+returns-in-Ok-clause-stands g c = λ b state none room st.
+    let a = c.args.self.now in
+    let due = c.requires.due in
+    let s = subst (λ (x : State). StandsAs a.schema.now.kinds a.kind.place a.limits (g.B.Build.tells a.built)
+    (stack_of a.work a.parents.items) a.read a.unit a.pending x b) state st in
+    let m : ℕ = c.args.n - 4 in
+    let u : List ℕ = take m c.args.bytes.now in
+    let size : length u ≡ m = omega (arith, length-take m c.args.bytes.now, c.requires.there) in
+    let are : are_bytes u ≡ true = bytes_taken m c.args.bytes.now (λ i. omega (arith, c.type_inv.bytes i)) in
+    let fits : length s.0 + length u ≤ a.limits.bytes = omega (arith, size, s.2, room, c.requires.some) in
+    let seen = subst (λ (w : Frame). Sees a.schema.now.kinds a.kind.place a.limits (g.B.Build.tells a.built) Next
+    (stack_of w a.parents.items) s.0) due.node s.4 in
+    let ready = subst (λ (w : Frame). IsReady a.schema.now.kinds a.limits Next (stack_of w a.parents.items)) due.node
+    s.5 in
+    let deep = deep_numbers a.schema.now.kinds a.limits c.args.run.item c.args.run.left a.parents.items ready in
+    let count : length u ≡ 4 * (c.args.run.left - c.args.last) =
+    omega (arith, size, c.requires.left, c.requires.some) in
+    let sum : c.args.run.left ≡ (c.args.run.left - c.args.last) + c.args.last =
+    omega (arith, c.requires.left, c.requires.some) in
+    let next = many_numbers a.schema.now.kinds c.len-known.ensures.valued c.len-known.ensures.known a.kind.place
+    a.limits c.args.run.item c.args.run.signed due.kind a.parents.items deep u (g.B.Build.tells a.built)
+    (g.B.Build.tells c.numbers.new.self) (c.args.run.left - c.args.last) c.args.last c.args.run.left s.0 count sum
+    (bytes_are u are) fits c.in-Ok.ensures seen in
+    let far : length (s.0 ++ u) ≡ c.saturating_add-self.result =
+    omega (
+      arith,
+      length-append s.0 u,
+      size,
+      s.2,
+      room,
+      c.depth-range.ensures.range.most_bytes,
+      c.saturating_add-self.ensures,
+    ) in
+    let four : take c.args.n c.args.bytes.now ≡ u ++ c.unit_at.result =
+    ap (λ (k : ℕ). take k c.args.bytes.now) (omega (arith, c.requires.some)) ∙ take-add m 4 c.args.bytes.now
+    ∙ ap (λ (x : List ℕ). u ++ x) (sym c.unit_at.ensures) in
+    let joined : (s.0 ++ u) ++ c.unit_at.result ≡ b ++ take c.args.n c.args.bytes.now =
+    append_assoc s.0 u c.unit_at.result ∙ ap (λ (x : List ℕ). s.0 ++ x) (sym four)
+    ∙ ap (λ (x : List ℕ). x ++ take c.args.n c.args.bytes.now)
+    (sym (s.1 ∙ ap (λ (k : ℕ). s.0 ++ take k a.unit) none ∙ append-nil s.0)) in
+    subst (λ (x : List ℕ). StandsFor g.B.Build.tells c.take.new.self x) joined
+    (c.take.ensures.stands (s.0 ++ u) far none next
+    (ready_numbers a.schema.now.kinds c.len-known.ensures.valued c.len-known.ensures.known a.kind.place a.limits
+    c.args.run.item c.args.run.signed due.kind a.parents.items deep c.args.last c.requires.last)
+    (omega (arith, length-append s.0 u, size, s.2, room, c.requires.some)))

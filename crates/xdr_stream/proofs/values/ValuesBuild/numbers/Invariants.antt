@@ -1,0 +1,12 @@
+use Rattle.std.proofs.Common.{◌≡◌, ◌-◌, ◌%◌, ◌≤◌, length, take}
+use Rattle.xdr_stream.specs.Runs.{numbers_in}
+use Rattle.xdr_stream.specs.Values.{trace_of}
+use Rattle.xdr_stream.proofs.values.ValuesBuild.numbers.Given as goal
+
+abbrev pub invariant-loop-at : goal.invariant-loop-at
+invariant-loop-at l =
+    (l.at % 4 ≡ 0) × (l.at ≤ length l.units)
+    × (trace_of l.self ≡ numbers_in l.signed (take l.at l.units) (trace_of l.initial.self))
+
+abbrev pub decreases-loop-at : goal.decreases-loop-at
+decreases-loop-at l = length l.units - l.at

@@ -1,0 +1,42 @@
+//! Numbers of one unit each that come one after another.
+ghost use Rattle.std.specs.Prelude.{IfSome};
+ghost use Rattle.xdr_stream.specs.Frames.{left_of};
+ghost use Rattle.xdr_stream.specs.Sound.{AreKnown};
+ghost use Rattle.xdr_stream.specs.Run.{IsRun};
+
+use crate::frame::Frame;
+use xdr_types::{Kind, KindId, Schema};
+
+/// Items of an array that are numbers of one unit each, signed or not: so many are not begun.
+#[derive(Clone, Copy)]
+pub struct Run {
+    pub item: KindId,
+    pub left: u32,
+    pub signed: bool,
+}
+
+/// The numbers of one unit that come next at a node, where they do.
+pub(crate) fn run_due(schema: &Schema, work: Frame<'_>) -> Option<Run>
+    requires { AreKnown schema.now.kinds (left_of work) }
+    ensures { IfSome result (IsRun schema.now.kinds work.entry) }
+{
+    let Frame::Items { item, left } = work else {
+        return None;
+    };
+    if left == 0 {
+        return None;
+    }
+    match schema.kind(item) {
+        Kind::Int => Some(Run {
+            item,
+            left,
+            signed: true,
+        }),
+        Kind::Unsigned => Some(Run {
+            item,
+            left,
+            signed: false,
+        }),
+        _ => None,
+    }
+}
