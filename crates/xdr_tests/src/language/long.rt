@@ -40,7 +40,7 @@ fn long_texts_are_refused(rt: HostRuntime) {
 type Nested = (&'static [u8], usize, [usize; 4]);
 
 /// Bodies inside others. A body in the switch declaration of a union is inside the union's.
-static NESTED: [Nested; 20] = [
+static NESTED: [Nested; 29] = [
     (b"int a;", 32, [0, 0, 0, 0]),
     (b"int a;", 33, [12, 0, 1, 304]),
     (b"\nenum { A = 1 } e;", 32, [12, 0, 2, 6]),
@@ -121,6 +121,43 @@ static NESTED: [Nested; 20] = [
         [12, 0, 1, 319],
     ),
     (b"struct NAME b;", 32, [6, 0, 1, 304]),
+    (
+        b"union switch (unsigned long d) { case 1: void; } b;",
+        32,
+        [12, 0, 1, 328],
+    ),
+    (
+        b"union switch (struct s d[2]) { case 1: void; } b;",
+        32,
+        [12, 0, 1, 326],
+    ),
+    (
+        b"union switch (struct s d<>) { case 1: void; } b;",
+        32,
+        [12, 0, 1, 325],
+    ),
+    (
+        b"union switch (union switch (struct s d) { case 1: void; } e) { case 1: void; } u;",
+        32,
+        [12, 0, 1, 337],
+    ),
+    (
+        b"union switch (float d) { case 1: void; } b;",
+        32,
+        [4, 0, 1, 311],
+    ),
+    (
+        b"union switch (struct float d) { case 1: void; } b;",
+        32,
+        [3, 0, 1, 318],
+    ),
+    (
+        b"union switch (void) { case 1: void; } b;",
+        32,
+        [3, 0, 1, 311],
+    ),
+    (b"unsigned struct { int a; } b;", 32, [3, 0, 1, 306]),
+    (b"struct float b;", 32, [3, 0, 1, 304]),
 ];
 
 /// `typedef`, then so many bodies of structs inside one another around `inside`.

@@ -59,7 +59,7 @@ static UNKNOWN: [Refused; 14] = [
 ];
 
 /// The words where no type is due, and words that are not of the language.
-static UNEXPECTED: [Refused; 19] = [
+static UNEXPECTED: [Refused; 24] = [
     (b"struct long { int x; };", [3, 0, 1, 8]),
     (b"const long = 1;", [3, 0, 1, 7]),
     (b"typedef struct s;", [3, 0, 1, 17]),
@@ -79,6 +79,11 @@ static UNEXPECTED: [Refused; 19] = [
     (b"typedef enum e t;", [3, 0, 1, 14]),
     (b"typedef union u t;", [3, 0, 1, 15]),
     (b"typedef unsigned u;", [3, 0, 1, 18]),
+    (b"typedef struct float f;", [3, 0, 1, 16]),
+    (b"typedef struct enum e;", [3, 0, 1, 16]),
+    (b"typedef unsigned float f;", [3, 0, 1, 18]),
+    (b"typedef unsigned struct s t;", [3, 0, 1, 18]),
+    (b"typedef unsigned long", [3, 0, 1, 22]),
 ];
 
 /// Other faults of texts with the words.
@@ -96,6 +101,68 @@ static OTHERS: [Refused; 4] = [
         b"enum s { A = 1 }; struct s { int x; }; typedef struct s t;",
         [5, 0, 1, 26],
     ),
+];
+
+/// Texts with two faults, one of them a name after `struct`: the first in the text is told.
+static ORDER: [Refused; 14] = [
+    (
+        b"typedef struct n a; struct s { int x; int x; };",
+        [6, 0, 1, 16],
+    ),
+    (
+        b"struct s { int x; int x; }; typedef struct n a;",
+        [5, 0, 1, 23],
+    ),
+    (
+        b"typedef struct s t; struct s { int x; }; enum s { A = 1 };",
+        [5, 0, 1, 47],
+    ),
+    (
+        b"typedef struct TRUE t; struct TRUE { int x; };",
+        [6, 0, 1, 16],
+    ),
+    (
+        b"typedef struct s t; typedef struct t u; struct s { int x; };",
+        [6, 0, 1, 36],
+    ),
+    (b"typedef struct n x[-1];", [6, 0, 1, 16]),
+    (b"typedef struct n x[N];", [6, 0, 1, 16]),
+    (b"typedef opaque x<-1>; typedef struct n y;", [7, 0, 1, 18]),
+    (b"typedef m b; typedef struct n a;", [6, 0, 1, 9]),
+    (b"typedef struct n a; typedef m b;", [6, 0, 1, 16]),
+    (
+        b"union u switch (int d) { case 1: struct n x; case N: void; };",
+        [6, 0, 1, 41],
+    ),
+    (
+        b"union u switch (int d) { case 1: int x; default: struct n y; };",
+        [6, 0, 1, 57],
+    ),
+    (
+        b"program P { version V { void N(int, struct n) = -1; } = 1; } = 1;",
+        [6, 0, 1, 44],
+    ),
+    (b"typedef a a; typedef struct n t;", [6, 0, 1, 29]),
+];
+
+/// A typedef that never ends is told before kinds that are no schema, and those where the declaration of the kind
+/// begins, at the word.
+static LATER: [Refused; 6] = [
+    (
+        b"struct s { int x; }; typedef struct s t; typedef a b; typedef b a;",
+        [9, 0, 1, 52],
+    ),
+    (b"struct s { struct s x; }; typedef a a;", [9, 0, 1, 37]),
+    (
+        b"struct s { int x; }; typedef struct s a[0];",
+        [10, 2, 1, 30],
+    ),
+    (
+        b"struct s { int x; }; struct t { struct s x[0]; };",
+        [10, 2, 1, 33],
+    ),
+    (b"typedef long a[0];", [10, 2, 1, 9]),
+    (b"typedef unsigned long a[0];", [10, 2, 1, 9]),
 ];
 
 /// Spellings of the RFCs that are not read: a const and a procedure's number that are names, a star before the name of
@@ -200,6 +267,12 @@ fn the_words_are_refused_elsewhere(rt: HostRuntime) {
     assert_eq!(rt; first_other(rt.alloc(), &UNKNOWN), None);
     assert_eq!(rt; first_other(rt.alloc(), &UNEXPECTED), None);
     assert_eq!(rt; first_other(rt.alloc(), &OTHERS), None);
+}
+
+#[test]
+fn faults_of_the_words_have_their_order_and_place(rt: HostRuntime) {
+    assert_eq!(rt; first_other(rt.alloc(), &ORDER), None);
+    assert_eq!(rt; first_other(rt.alloc(), &LATER), None);
 }
 
 #[test]
