@@ -22,21 +22,26 @@ pub fn push_text(out: &mut Vec<u8>, content: &[u8]) -> Result<(), NoMemory>
     push_padded(out, content)
 }
 
-/// Writes the words of an accepted reply up to its number, `accept_stat`. Its verifier is AUTH_NONE with an empty body
-/// (RFC 5531 section 9).
+/// The words of an accepted reply up to its number, `accept_stat`. Its verifier is AUTH_NONE with an empty body (RFC 5531
+/// section 9).
+fn accepted_head(xid: u32, stat: u32) -> [u8; 24]
+    ensures { result ≡ head xid stat }
+{
+    let [a, b, c, d] = xid.to_be_bytes();
+    let [e, f, g, h] = stat.to_be_bytes();
+    [
+        a, b, c, d, 0, 0, 0, 1, 0, 0, 0, 0, 0, 0, 0, 0, 0, 0, 0, 0, e, f, g, h,
+    ]
+}
+
+/// Writes those words, in one piece.
 #[tactic(auto, using(crate::proofs::Chains::begins_then))]
 pub fn push_head(out: &mut Vec<u8>, xid: u32, stat: u32) -> Result<(), NoMemory>
     ensures ok { OnOk result (out.new.items ≡ out.old.items ++ head xid stat) }
     ensures fits { IsWord xid }
     ensures begins { StartsWith out.new.items out.old.items }
 {
-    push_word(out, xid)?;
-    push_word(out, 1)?;
-    push_word(out, 0)?;
-    push_word(out, 0)?;
-    push_word(out, 0)?;
-    push_word(out, stat)?;
-    Ok(())
+    out.extend_from_slice(&accepted_head(xid, stat))
 }
 
 /// Writes a reply that denies a call for an `auth_stat` (RFC 5531 section 9).

@@ -1,5 +1,5 @@
 //! The key under which a row stands.
-ghost use Rattle.std.specs.Prelude.{◌≡◌, ◌≤◌, ◌-◌, ◌++◌, ◌∷◌, replicate, length};
+ghost use Rattle.std.specs.Prelude.{◌≡◌, ◌≤◌, ◌-◌, ◌++◌, ◌∷◌, replicate, length, take, min};
 ghost use Rattle.std.specs.Hash as fed;
 ghost use Rattle.std.specs.Cmp.Rules.{hashing};
 ghost use Rattle.std.proofs.Common.{rules};
@@ -18,15 +18,15 @@ pub struct Key {
 }
 
 impl Hash for Key {
-    ghost hash_input = { λ k. fed.u32 k.prog ++ (fed.u32 k.vers ++ (k.name ∷ fed.u8 k.len)) };
+    ghost hash_input = { λ k. fed.u32 k.prog ++ (fed.u32 k.vers ++ (take (min k.len 64) k.name ∷ fed.u8 k.len)) };
 
     ghost respects_eq = { Prim.search (hashing, rules) };
 
-    // The whole name in one write, which costs far less than a write for each of its bytes.
+    // The netid in one write, without the zeros that follow it.
     fn hash<H: Hasher>(&self, state: &mut H) {
         state.write_u32(self.prog);
         state.write_u32(self.vers);
-        state.write(&self.name);
+        state.write(&self.name[..usize::from(self.len).min(64)]);
         state.write_u8(self.len);
     }
 }
