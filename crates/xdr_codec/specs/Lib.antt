@@ -1,3 +1,4 @@
+pub mod Checks
 pub mod Outcomes
 pub mod Refused
 pub mod Stands

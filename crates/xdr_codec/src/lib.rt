@@ -1,6 +1,7 @@
 //! The encoding of XDR values, and their decoding.
 #![tactic(auto)]
 
+mod checker;
 mod decoder;
 mod decoding;
 mod encoding;
@@ -9,6 +10,7 @@ mod pushing;
 mod put;
 mod writing;
 
+pub use checker::Checker;
 pub use decoder::Decoder;
 pub use decoding::decode;
 pub use encoding::encode;

@@ -15,8 +15,10 @@ ghost use Rattle.xdr_examples.specs.Rfc.{constant};
 
 use std::alloc::Global;
 use std::string::String;
-use xdr_types::{Arm, Flaw, Kind, KindId, Member, NoMemory, Schema, is_legal_tag, is_number_of, is_same_schema};
-use xdr_types::{no_schema_has_a_fault, part_under};
+use xdr_types::{
+    Arm, Flaw, Kind, KindId, Member, NoMemory, Schema, is_legal_tag, is_number_of, is_same_schema,
+    no_schema_has_a_fault, part_under,
+};
 
 /// The basic schema has eight kinds.
 pub fn basic_has_eight_kinds(alloc: Global) -> Result<usize, NoMemory>

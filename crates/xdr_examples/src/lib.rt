@@ -3,6 +3,7 @@
 #![tactic(auto)]
 
 pub mod answers;
+pub mod checking;
 pub mod decoding;
 pub mod devices;
 pub mod encoding;

@@ -4,8 +4,7 @@ ghost use Rattle.xdr_units.specs.Numbers.{long_word, padded, word};
 
 use std::alloc::Global;
 use xdr_units::{
-    NoMemory,
-    are_zeros, before_dot, decimal_number, first_content, first_long_word, first_word,
+    NoMemory, are_zeros, before_dot, decimal_number, first_content, first_long_word, first_word,
     push_decimal, push_padded, push_word,
 };
 

@@ -12,7 +12,9 @@ ghost use Rattle.xdr_types.specs.View.{tree};
 ghost use Rattle.xdr_examples.specs.Rfc.{file_kinds};
 
 use std::alloc::Global;
-use xdr_types::{KindId, Limits, NoMemory, Schema, Value, each_spelling_is_one_value, fits, is_equal, size};
+use xdr_types::{
+    KindId, Limits, NoMemory, Schema, Value, each_spelling_is_one_value, fits, is_equal, size,
+};
 
 /// A number is one of an int (RFC 4506 section 4.1).
 pub fn int_fits_in_one_unit(schema: &Schema, id: KindId, number: i32) -> bool

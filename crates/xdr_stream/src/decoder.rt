@@ -74,7 +74,7 @@ pub fn finish<'s>(reader: Reader<'s, Values>) -> Result<Value, DecodeFault>
 }
 
 // How many bytes came after the whole units.
-fn unfinished(unit: &[u8; 4], pending: usize) -> usize
+pub(crate) fn unfinished(unit: &[u8; 4], pending: usize) -> usize
     ensures count { result ≡ length (take pending unit.now) }
     ensures few { result ≤ 4 }
 {
@@ -82,7 +82,7 @@ fn unfinished(unit: &[u8; 4], pending: usize) -> usize
 }
 
 // The bytes end inside the value.
-fn truncated(at: usize) -> DecodeFault
+pub(crate) fn truncated(at: usize) -> DecodeFault
     ensures { result ≡ record { why = Truncated; at = at } }
 {
     DecodeFault {
@@ -92,7 +92,11 @@ fn truncated(at: usize) -> DecodeFault
 }
 
 // What no bytes are, of a kind that the schema has.
-fn finish_empty(schema: &Schema, kind: KindId, limits: Limits) -> Result<Value, DecodeFault>
+pub(crate) fn finish_empty(
+    schema: &Schema,
+    kind: KindId,
+    limits: Limits,
+) -> Result<Value, DecodeFault>
     ensures { kind.place < length schema.now.kinds → Finishes schema.now.kinds kind.place limits [] result }
 {
     let _known = schema.len();

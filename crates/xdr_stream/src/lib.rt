@@ -2,6 +2,7 @@
 #![tactic(auto)]
 
 pub mod build;
+pub mod checked;
 pub mod checker;
 pub mod decoder;
 pub mod fault;

@@ -1,5 +1,7 @@
 //! Values and their bytes, in both directions.
-use crate::codec::calls::{decoded, encoded, fed, finished, refusal, started, widest, written};
+use crate::codec::calls::{
+    counted, decoded, encoded, fed, finished, refusal, started, widest, written,
+};
 use crate::codec::made::{Made, chain, value_of};
 use crate::schema::{
     ALIKE, FILE, FIVE, HYPER, LIST, NOTHING, PAIR, SIX_BYTES, UNSIGNED_HYPER, VOID_CHOICE,
@@ -66,7 +68,8 @@ fn check(rt: &impl Abort, alloc: Global, schema: &Schema, place: u32, value: Mad
     let right = is_encoded(rt, alloc, schema, place, &value, &input)
         && is_written(rt, schema, place, &value, &input)
         && is_decoded(rt, alloc, schema, place, &value, &input)
-        && is_fed(rt, alloc, schema, place, &value, &input);
+        && is_fed(rt, alloc, schema, place, &value, &input)
+        && is_counted(rt, alloc, schema, place, &input);
     if !right {
         panic!(*rt; "kind {place}: {text}");
     }
@@ -132,6 +135,14 @@ fn is_fed(
     last == Ok(Progress::Done { used })
         && late == Ok(Progress::Done { used: 0 })
         && is_value(finished(decoder), value)
+}
+
+// A checker counts the bytes.
+fn is_counted(rt: &impl Abort, alloc: Global, schema: &Schema, place: u32, input: &[u8]) -> bool {
+    match counted(rt, alloc, schema, place, widest(rt), input) {
+        Ok(count) => count as usize == input.len(),
+        Err(_) => false,
+    }
 }
 
 fn is_value(answer: Result<Value, DecodeFault>, value: &Value) -> bool {

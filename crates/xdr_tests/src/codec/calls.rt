@@ -2,7 +2,7 @@
 //! tests are proved fast.
 use std::alloc::Global;
 use std::process::Abort;
-use xdr_codec::{DecodeFault, Decoder, Progress, WriteFault, decode, encode, encode_to};
+use xdr_codec::{Checker, DecodeFault, Decoder, Progress, WriteFault, decode, encode, encode_to};
 use xdr_io::MemorySink;
 use xdr_types::{KindId, Limits, NoMemory, Schema, Value, fits};
 
@@ -95,4 +95,27 @@ pub fn fed(decoder: &mut Decoder<'_>, piece: &[u8]) -> Result<Progress, DecodeFa
 /// What `finish` answers.
 pub fn finished(decoder: Decoder<'_>) -> Result<Value, DecodeFault> {
     decoder.finish()
+}
+
+/// What a checker answers to the end of the bytes, which it is given one by one up to a value's end or a refusal, for a
+/// kind that the schema has.
+pub fn counted(
+    rt: &impl Abort,
+    alloc: Global,
+    schema: &Schema,
+    place: u32,
+    limits: Limits,
+    input: &[u8],
+) -> Result<u32, DecodeFault> {
+    let kind = KindId { place };
+    assert!(*rt; schema.has(kind));
+    let mut checker = Checker::start(alloc, schema, kind, limits);
+    let mut answer = checker.feed(&[]);
+    for byte in input {
+        if answer != Ok(Progress::More) {
+            break;
+        }
+        answer = checker.feed(&[*byte]);
+    }
+    checker.finish()
 }

@@ -1,0 +1,42 @@
+-- Which bytes a checker has been given, and what its answers say of them: the outcome of decoding (RFC 4506).
+use Rattle.std.specs.Prelude.{◌≡◌, ℕ, List, Result}
+use Rattle.xdr_types.specs.Kinds.{Lists}
+use Rattle.xdr_types.specs.Within.{Bounds}
+use Rattle.xdr_types.specs.declared.kind.KindId.{KindId}
+use Rattle.xdr_stream.specs.Finish as stream
+use Rattle.xdr_stream.specs.Stands as told
+use Rattle.xdr_stream.specs.Checked.{Counts}
+use Rattle.xdr_stream.specs.declared.fault.DecodeFault.{DecodeFault}
+use Rattle.xdr_stream.specs.declared.reader.State.TheVariants.{Finished, Failed}
+use Rattle.xdr_stream.specs.declared.reader.Progress.{Progress}
+use Rattle.xdr_codec.specs.declared.checker.Checker.{Checker}
+
+-- the checker's fields stand for these bytes, all that it was given up to the value's end
+abbrev pub StandsFor : Checker → (b : List ℕ) → Type 0
+StandsFor c b = stream.Checks c.reader b
+
+-- the answer to a piece is the outcome of the bytes b before it and all of its own: more to come where it is pending,
+-- done where a value is whole, a fault where it is one of this reason at this place, unless memory was refused
+abbrev pub HasOutcome : Checker → (b piece : List ℕ) → Result Progress DecodeFault → Type 0
+HasOutcome c b piece r = told.Answers c.reader.schema.now.kinds c.reader.kind.place c.reader.limits b piece r
+
+-- the answer to the end of the bytes b is their outcome: the count of the value that is whole, a fault of this reason at
+-- this place, and cut short at their count where it is pending
+abbrev pub CountsIn : Checker → (b : List ℕ) → Result ℕ DecodeFault → Type 0
+CountsIn c b r = Counts c.reader.schema.now.kinds c.reader.kind.place c.reader.limits b r
+
+-- the settings of a new checker
+abbrev pub IsStarted : Checker → Lists → KindId → Bounds → Type 0
+IsStarted c schema kind limits = stream.IsStarted c.reader schema kind limits
+
+-- the settings stay
+abbrev pub IsSame : (a b : Checker) → Type 0
+IsSame a b = told.IsSame a.reader b.reader
+
+-- the value is whole
+abbrev pub IsDone : Checker → Type 0
+IsDone c = c.reader.state ≡ Finished
+
+-- this fault was answered
+abbrev pub HasFailed : Checker → DecodeFault → Type 0
+HasFailed c f = c.reader.state ≡ Failed f

@@ -1,0 +1,43 @@
+//! What the end of the bytes says of a value that was not made.
+ghost use Rattle.std.specs.Prelude.{◌≡◌, ◌<◌, ℕ, List, [], length, Err};
+ghost use Rattle.xdr_stream.specs.Finish.{Checks};
+ghost use Rattle.xdr_stream.specs.Checked.{Counts};
+ghost use Rattle.xdr_stream.specs.declared.reader.State.TheVariants.{Failed};
+
+use crate::checker::Nothing;
+use crate::decoder::{finish_empty, truncated, unfinished};
+use crate::fault::DecodeFault;
+use crate::reader::{Reader, State};
+use xdr_types::{KindId, Limits, Schema};
+
+/// How many bytes the value has that they encode. A fault of an earlier call comes again; where the value is not whole,
+/// it is `Truncated` at the count of bytes given. Before any `feed` it answers as after an empty piece. It takes no
+/// memory.
+pub fn finish_check<'s>(reader: Reader<'s, Nothing>) -> Result<u32, DecodeFault>
+    ensures answer { (b : List ℕ) → Checks reader.entry b
+        → Counts reader.entry.schema.now.kinds reader.entry.kind.place reader.entry.limits b result }
+    ensures for_ever { (f : DecodeFault) → reader.entry.state ≡ Failed f → result ≡ Err f }
+{
+    let limits = reader.limits;
+    let _range = limits.depth();
+    let most = limits.bytes() as usize;
+    let at = reader
+        .read
+        .saturating_add(unfinished(&reader.unit, reader.pending));
+    match reader.state {
+        State::Failed(fault) => Err(fault),
+        State::Finished => Ok(reader.read.min(most) as u32),
+        State::Reading(_) => Err(truncated(at)),
+        State::Fresh => count_empty(reader.schema, reader.kind, limits),
+    }
+}
+
+// How many bytes the value has that no bytes are, of a kind that the schema has.
+fn count_empty(schema: &Schema, kind: KindId, limits: Limits) -> Result<u32, DecodeFault>
+    ensures { kind.place < length schema.now.kinds → Counts schema.now.kinds kind.place limits [] result }
+{
+    match finish_empty(schema, kind, limits) {
+        Ok(_) => Ok(0),
+        Err(fault) => Err(fault),
+    }
+}
