@@ -2,7 +2,7 @@
 use crate::Told;
 use std::alloc::Global;
 use std::string::String;
-use xdr_codec::{Decoder, Progress, decode, encode};
+use xdr_codec::{Checker, Decoder, Progress, decode, encode};
 use xdr_lang::read;
 use xdr_show::show;
 use xdr_types::{Kind, KindId, Limits, Member, Schema, Value, fits};
@@ -100,4 +100,23 @@ pub fn fed_in_pieces(alloc: Global) -> Told {
         content.len()
     )
     .ok()
+}
+
+/// The same pieces, judged without a value.
+pub fn counted_in_pieces(alloc: Global) -> Told {
+    let schema = Schema::basic(alloc).ok()?;
+    let string = schema.named("string")?;
+    let limits = Limits::new(1, 1024)?;
+    if !schema.has(string) {
+        return None;
+    }
+    let mut checker = Checker::start(alloc, &schema, string, limits);
+    let Ok(Progress::More) = checker.feed(b"\0\0\0\x03a") else {
+        return None;
+    };
+    let Ok(Progress::Done { .. }) = checker.feed(b"bc\0\xff") else {
+        return None;
+    };
+    let count = checker.finish().ok()?;
+    format!(in alloc; "a value of {count} bytes, which was not made").ok()
 }
