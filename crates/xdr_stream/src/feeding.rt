@@ -19,7 +19,7 @@ use crate::reader::{Progress, Reader, State};
 use crate::run::{Run, run_due};
 use crate::unit::take_unit;
 
-/// What is left to read of content, and how many whole units of it are there: within what is left and the limit.
+/// How many bytes of whole units are there: within what is left to read, the piece and the limit.
 pub fn units_there(left: usize, there: usize, room: usize) -> usize
     ensures units { result % 4 ≡ 0 }
     ensures left { result ≤ left }
@@ -169,9 +169,9 @@ impl<'s, B: Build + Drop> Reader<'s, B> {
     {
         if let Awaits::Content(left) = awaits {
             let room = (self.limits.bytes() as usize).saturating_sub(self.read);
-            let n = units_there(left as usize, bytes.len(), room);
+            let n = units_there(left as usize + 3, bytes.len(), room);
             if n > 4 {
-                self.take_content(left - (n as u32 - 4), n, bytes);
+                self.take_content(left - (n - 4) as u32, n, bytes);
                 return n;
             }
         }
@@ -189,11 +189,12 @@ impl<'s, B: Build + Drop> Reader<'s, B> {
         4
     }
 
-    // Takes so many bytes of content, whole units of a piece that has them; so many are left at the last of them.
+    // Takes so many bytes of content and its padding, units of a piece that has them; at the last of them so many
+    // bytes of content are left.
     fn take_content(&mut self, last: u32, n: usize, bytes: &[u8])
         requires units { n % 4 ≡ 0 }
         requires some { 4 < n }
-        requires last { 4 ≤ last }
+        requires last { 0 < last }
         requires there { n ≤ length bytes.now }
         ensures stands { (b : List ℕ) (left : ℕ) → left + 4 ≡ last + n → self.old.state ≡ Reading (Content left)
             → self.old.pending ≡ 0 → n + self.old.read ≤ self.old.limits.bytes
