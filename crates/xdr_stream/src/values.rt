@@ -46,6 +46,18 @@ fn add(alloc: Global, level: &mut Level, value: Value) -> Result<(), AllocError>
     Ok(())
 }
 
+// The same, where it is mostly an item.
+fn add_item(alloc: Global, level: &mut Level, value: Value) -> Result<(), AllocError>
+    ensures { OnOk result (level_of level.new ≡ told (level_of level.old).head
+        (added (level_of level.old).head (level_of level.old).done (tree value))) }
+{
+    if let Level::Items { items, .. } = level {
+        items.push(value)?;
+        return Ok(());
+    }
+    add(alloc, level, value)
+}
+
 // The value of a finished node.
 fn closed(level: Level) -> Value
     ensures { IsOpen (level_of level).head → IsFilled (level_of level).head (level_of level).done
@@ -139,7 +151,7 @@ impl Build for Values {
         let mut at = 0;
         while at < units.len() {
             let value = number_value(signed, number_at(units, at));
-            add(self.alloc, &mut self.work, value)?;
+            add_item(self.alloc, &mut self.work, value)?;
             at += 4;
         }
         Ok(())

@@ -12,9 +12,9 @@ pub loop-at-preserved : goal.loop-at-preserved
 loop-at-preserved c =
     let i = c.loop-at.invariant in
     let b = c.loop-at.self in
-    let grown : level_of c.add.new.level ≡ level (level_of b.work).head
+    let grown : level_of c.add_item.new.level ≡ level (level_of b.work).head
     (added (level_of b.work).head (level_of b.work).done (leaf_tree (number_head c.args.signed c.number_at.result))) =
-    c.in_ok-add.ensures
+    c.in_ok-add_item.ensures
     ∙ ap (λ (v : Tree). level (level_of b.work).head (added (level_of b.work).head (level_of b.work).done v))
     c.number_value-value.ensures in (
       omega (arith, i.0),
