@@ -36,8 +36,8 @@ impl<'s> Decoder<'s> {
     /// `xdr_laws::one_outcome`.
     ///
     /// What it holds is the value so far, a frame for each of its open nodes, and at most three bytes of input. It
-    /// takes no memory where the kind is a number, a boolean, an enumeration or void. It goes down by no calls; the drop
-    /// of a value does.
+    /// takes no memory where the kind is a number, a boolean, an enumeration or void. Reading goes down by no calls;
+    /// the drop of a value does, one level a call.
     pub fn feed(&mut self, piece: &[u8]) -> Result<Progress, DecodeFault>
         ensures stands { (b : List ℕ) → StandsFor self.old b → StandsFor self.new (b ++ taken piece.now result) }
         ensures outcome { (b : List ℕ) → StandsFor self.old b → HasOutcome self.old b piece.now result }

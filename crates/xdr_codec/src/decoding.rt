@@ -24,7 +24,7 @@ use xdr_types::{KindId, Limits, Schema, Value};
 /// at most that count and says no more.
 ///
 /// Memory is what the value needs, and a frame for each of its open nodes; none where the kind is a number, a boolean,
-/// an enumeration or void. It goes down by no calls, one level a call, as the drop of the value does.
+/// an enumeration or void. Reading goes down by no calls; the drop of the value does, one level a call.
 pub fn decode(
     alloc: Global,
     schema: &Schema,
