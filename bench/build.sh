@@ -11,3 +11,4 @@ cp "$here"/c/*.c "$to/c/"; cp "$here/x/bench.x" "$to/gen/"
 cd "$to"
 for p in stdio_check loop_xdr; do gcc -O2 -w -I/usr/include/tirpc c/$p.c gen/bench_xdr.c -o $p -ltirpc; done
 for p in records loop_registry; do gcc -O2 -w -I/usr/include/tirpc c/$p.c -o $p -ltirpc; done
+gcc -O2 -w c/registry_load.c -o registry_load

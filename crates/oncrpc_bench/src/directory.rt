@@ -6,7 +6,8 @@ use rpc_directory::{Directory, NoMemory};
 use std::alloc::Global;
 use std::hash::{BuildHasherDefault, DefaultHasher};
 
-type Registry = Directory<BuildHasherDefault<DefaultHasher>>;
+/// A registry whose order is the same in each run.
+pub type Registry = Directory<BuildHasherDefault<DefaultHasher>>;
 
 const ADDRESS: &[u8] = b"127.0.0.1.8.1";
 
@@ -15,8 +16,8 @@ fn add(alloc: Global, directory: &mut Registry, prog: u32) -> Result<bool, NoMem
     directory.set(alloc, prog, 1, b"tcp", ADDRESS, b"1000")
 }
 
-// A registry of so many rows, of the programs from 0 on.
-fn filled(alloc: Global, rows: u32) -> Result<Registry, NoMemory> {
+/// A registry of so many rows, of the programs from 0 on.
+pub fn filled(alloc: Global, rows: u32) -> Result<Registry, NoMemory> {
     let mut directory = Directory::new(alloc, BuildHasherDefault::new());
     for prog in 0..rows {
         let _added = add(alloc, &mut directory, prog)?;

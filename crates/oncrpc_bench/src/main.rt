@@ -1,9 +1,10 @@
-//! Calls of the libraries again and again, for measurements: `oncrpc_bench codec VALUE WORK COUNT` and `oncrpc_bench
-//! directory WORK ROWS COUNT`. Without words it does nothing.
+//! Calls of the libraries again and again, for measurements: `oncrpc_bench codec VALUE WORK COUNT`, `oncrpc_bench
+//! directory WORK ROWS COUNT` and `oncrpc_bench served WORK ROWS COUNT`. Without words it does nothing.
 #![tactic(auto)]
 
 mod codec;
 mod directory;
+mod served;
 
 use std::alloc::Global;
 use std::env;
@@ -15,6 +16,7 @@ fn work(alloc: Global, words: &[String]) -> bool {
         [what, rest @ ..] => match what.as_str() {
             "codec" => codec::work(alloc, rest),
             "directory" => directory::work(alloc, rest),
+            "served" => served::work(alloc, rest),
             _ => false,
         },
     }
