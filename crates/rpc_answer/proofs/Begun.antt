@@ -18,6 +18,7 @@ use Rattle.rpc_answer.specs.Private.Parsed.{text, HasNoText}
 use Rattle.xdr_units.proofs.Bytes.{same_word}
 use Rattle.rpc_answer.proofs.Decoded.{begins, decoded}
 use Rattle.rpc_answer.proofs.Fields.{text_front, short_word}
+use Rattle.rpc_answer.proofs.Statuses.{mapping_of}
 
 both : (a b : Bool) → a && b ≡ true → (a ≡ true) × (b ≡ true)
 both true b h = (refl, h)
@@ -119,9 +120,6 @@ fields_of kind ps t k h =
     by _ vs e = absurd (false≢true e)
 
 -- ---- mappings
-
-abbrev mapping_of : ℕ → ℕ → ℕ → ℕ → Tree
-mapping_of prog vers prot port = group (number prog ∷ number vers ∷ number prot ∷ number port ∷ [])
 
 record IsMapping (t : Tree) : Type 0 where
   prog : ℕ

@@ -112,7 +112,7 @@ nth xs n k p e h = ap (slice_get xs) e ∙ h
 
 -- ---- what each answer comes to
 
-abbrev mapping_of : ℕ → ℕ → ℕ → ℕ → Tree
+abbrev pub mapping_of : ℕ → ℕ → ℕ → ℕ → Tree
 mapping_of prog vers prot port = group (number prog ∷ number vers ∷ number prot ∷ number port ∷ [])
 
 module _ (rows : List Row) (netid owner : List ℕ) (c : CallView) (old out : List ℕ) where

@@ -18,17 +18,7 @@ use Rattle.rpc_engine.specs.declared.fault.ClientFault.{ClientFault}
 use Rattle.rpc_engine.specs.declared.fault.ClientFault.TheVariants as fault
 use Rattle.rpc_engine.specs.Exchanged.{most_reply, IsFirst, Exchanged, Wrote, write_failures}
 use Rattle.rpc_engine.specs.Private.Looking.{Looks, EndsAt, Flawed, NextRecord, FirstRead, Replies, client_fault_of}
-
--- what begins the bytes begins them with more behind
-pub begins_more : (limit : ℕ) (rs : List (List ℕ)) (bytes more : List ℕ) → Begins limit rs bytes
-    → Begins limit rs (bytes ++ more)
-begins_more limit rs bytes more h = record {
-  whole = h.whole;
-  more = h.more ++ more;
-  stream = h.stream;
-  within = h.within;
-  spelled = ap (λ b. b ++ more) h.spelled ∙ append_assoc h.whole h.more more;
-}
+pub use Rattle.rpc_record.proofs.Readers.{Begins-more as begins_more}
 
 pub looks_first : (r : RecordReader) (l : Option (List ℕ)) → limit_of r ≡ most_reply → IsTaking r → Stands r [] []
     → Always r (λ rs bytes. Longest (limit_of r) rs bytes) → Always r (λ rs bytes. HasNoLong (limit_of r) bytes)

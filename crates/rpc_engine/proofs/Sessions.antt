@@ -18,9 +18,7 @@ use Rattle.rpc_engine.specs.Private.Sending.{Counted}
 use Rattle.rpc_engine.specs.Private.Fronts.{front_len, IsSent}
 use Rattle.rpc_engine.specs.Private.Serving.{Does, LosesBy}
 use Rattle.rpc_engine.proofs.Runs.{run_none, run_one}
-
-pub normal_append : (rs more : List (List ℕ)) → normal (rs ++ more) ≡ normal rs ++ normal more
-normal_append rs more = flat_map-append (fragment true) rs more
+pub use Rattle.rpc_record.proofs.Counting.{normal-append as normal_append}
 
 pub normal_one : (r : List ℕ) → normal (r ∷ []) ≡ fragment true r
 normal_one r = append-nil (fragment true r)

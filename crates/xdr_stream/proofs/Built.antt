@@ -17,12 +17,9 @@ use Rattle.xdr_laws.proofs.Legal.{both, and, IsLegal, legal_is, bytes_are, are_b
 use Rattle.xdr_laws.proofs.Content.{bytes_front}
 use Rattle.xdr_stream.specs.Trace.{Level, level, added, add, IsOpen, close_levels, IsFilled, CanCloseLevels}
 use Rattle.xdr_stream.specs.Sees.{Opens, Built, BuiltInto, Makes}
+use Rattle.xdr_types.proofs.Grown.{and-assoc}
 
 -- ---- one more value at the end
-
-and-assoc : (a b c : Bool) → a && (b && c) ≡ (a && b) && c
-and-assoc true b c = refl
-and-assoc false b c = refl
 
 -- as many values as parts
 pub as_many : (s : List KindView) (ts : List Part) (vs : List Tree) → fit s ts (from_list vs) ≡ true

@@ -41,6 +41,7 @@ use Rattle.xdr_laws.proofs.Events.{not_deep_at, unfinished_at, outcome_deep, out
 use Rattle.xdr_laws.proofs.Events.{outcome_unit, reached_next}
 use Rattle.xdr_stream.specs.Frames.{dues}
 use Rattle.xdr_stream.specs.Sees.{Reading}
+use Rattle.xdr_laws.proofs.Whole.{AllLow as AreAt}
 
 -- ---- the frames that stand open
 
@@ -58,9 +59,6 @@ dues_track s begun place [] = tt
 dues_track s begun place (ps ∷ fs) = (omega (arith, dues_length fs), dues_frames fs)
 
 -- ---- what a node shows
-
-abbrev AreAt : ℕ → List Entry → Type 0
-AreAt most es = AllByRecursion (λ (e : Entry). e.depth ≤ most) es
 
 bytes_deep : (most place d : ℕ) (t : Part) (k : KindView) (n : ℕ) → d ≤ most → AreAt most (shown_bytes place d t k n)
 bytes_deep most place d t (xdr.opaque size) n h = (h, tt)

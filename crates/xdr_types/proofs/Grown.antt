@@ -12,7 +12,7 @@ use Rattle.xdr_types.specs.Spelling.{spelling, bytes_of}
 use Rattle.xdr_types.specs.View.{tree, values}
 use Rattle.xdr_types.specs.declared.value.Value.{Value}
 
-and-assoc : (a b c : Bool) → a && (b && c) ≡ (a && b) && c
+pub and-assoc : (a b c : Bool) → a && (b && c) ≡ (a && b) && c
 and-assoc true b c = refl
 and-assoc false b c = refl
 
