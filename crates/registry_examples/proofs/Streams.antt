@@ -9,12 +9,7 @@ use Rattle.rpc_rows.specs.Rows.{Row}
 use Rattle.rpc_engine.specs.declared.fault.Served.{Served}
 use Rattle.rpc_engine.specs.Run.{Run}
 use Rattle.rpc_engine.specs.Served.{Serves, most_record}
-
--- a source that told its bytes and has ended gave all of them
-all_read : (bytes input : List ℕ) (left : Option (List ℕ)) → Consumes (Some bytes) left input → IsAtEnd left
-    → bytes ≡ input
-all_read bytes input None c e = absurd c
-all_read bytes input (Some rest) c e = c ∙ ap (λ k. input ++ k) e ∙ append-nil input
+use Rattle.xdr_io.proofs.Ended.{all_read}
 
 module _ (netid : List ℕ) (rows new : List Row) (l m t u : Option (List ℕ)) (served : Served)
     (s : Serves netid rows new l m t u served) (bytes : List ℕ) (told : l ≡ Some bytes) where

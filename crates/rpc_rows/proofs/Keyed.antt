@@ -16,6 +16,7 @@ use Rattle.std.specs.Map.{lookup}
 use Rattle.std.specs.List.{list_any}
 use Rattle.std.proofs.lemmas.Bool.Decides.{Decides-and, Decides-eqb, same_from_decides}
 use Rattle.std.proofs.Math.Seq.{take-append_seam}
+use Rattle.std.proofs.Math.Bool.{and-false as and_false}
 
 abbrev pub key_eq : Key → Key → Bool
 key_eq = derived.eq-value.it
@@ -45,10 +46,6 @@ pub padded_test : (n m : List ℕ)
     → (bytes_eq (n ++ replicate (64 - length n) 0) (m ++ replicate (64 - length m) 0) && nat_eq (length n) (length m))
     ≡ bytes_eq n m
 padded_test n m = same_from_decides _ (bytes_eq n m) (Decides-padded n m) (bytes_eq-Decides n m)
-
-and_false : (a : Bool) → (a && false) ≡ false
-and_false true = refl
-and_false false = refl
 
 and_assoc : (a b c : Bool) → (a && (b && c)) ≡ ((a && b) && c)
 and_assoc true b c = refl

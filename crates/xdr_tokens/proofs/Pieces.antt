@@ -15,6 +15,7 @@ use Rattle.xdr_tokens.proofs.Options.{some_is, bind_some, chosen}
 use Rattle.xdr_tokens.specs.Text.{Piece, Blank, Comment, Run, Constant, Single, spelling, IsRun, HasNoEnd, EndsRun}
 use Rattle.xdr_tokens.specs.Text.{BeginsWord, BeginsDigit, IsNumeral, MayPrecede, token_of, marks, mark_among, mark_of}
 use Rattle.xdr_tokens.specs.Text.{mark_code}
+use Rattle.std.proofs.Math.Bool.{and-false as and_false}
 
 -- ---- runs
 
@@ -44,10 +45,6 @@ run_again [] rest h ends = ends
 run_again (b ∷ run) rest h ends = rw h.0 (ap suc (run_again run rest h.1 ends))
 
 -- ---- comments
-
-and_false : (b : Bool) → (b && false) ≡ false
-and_false true = refl
-and_false false = refl
 
 and_true : (a b : Bool) → (a && b) ≡ true → (a ≡ true) × (b ≡ true)
 and_true true b e = (refl, e)

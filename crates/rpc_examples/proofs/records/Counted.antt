@@ -8,12 +8,7 @@ use Rattle.rpc_record.specs.declared.fault.Count.{Count}
 use Rattle.rpc_record.specs.Marked.{header, normal, IsContent, Marked, Longest, OneLongest}
 use Rattle.rpc_record.specs.Reading.{IsWhole, WholeIsLongest}
 use Rattle.rpc_record.specs.Normalised.{Normalised, IsCount}
-
--- a source that told its bytes and has ended gave all of them
-all_read : (bytes input : List ℕ) (left : Option (List ℕ)) → Consumes (Some bytes) left input → IsAtEnd left
-    → bytes ≡ input
-all_read bytes input None c e = absurd c
-all_read bytes input (Some rest) c e = c ∙ ap (λ k. input ++ k) e ∙ append-nil input
+use Rattle.xdr_io.proofs.Ended.{all_read}
 
 -- what was normalised is counted and written by any reading of the bytes as records
 pub counted : OneLongest → WholeIsLongest → (limit : ℕ) (rs : List (List ℕ)) (bytes : List ℕ) → IsWhole limit rs bytes
