@@ -6,6 +6,7 @@ mod decoder;
 mod decoding;
 mod encoding;
 mod gather;
+pub mod laws;
 mod pushing;
 mod put;
 mod writing;

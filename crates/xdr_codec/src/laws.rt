@@ -1,0 +1,9 @@
+//! The laws on which decoding stands (RFC 4506): each kind of a schema has a value, and no encoding of a kind begins
+//! another; values that share the first bytes of their encodings share the parts there; a unit is refused exactly where
+//! no value goes on with it; few nodes begin at one place; bytes have one outcome, and one that is not pending stays.
+
+pub use xdr_laws::{
+    few_at_one_place, goes_on, held, one_outcome, outcomes_stay, parts_join, refused_for_good,
+    same_parts, some_outcome, whole_exactly,
+};
+pub use xdr_types::{each_kind_has_a_value, each_spelling_is_one_value};
