@@ -42,7 +42,7 @@ module _ (s : List KindView) (t : ℕ) (l : Bounds) (H : Trace → Type 0) (fs :
       → (v : Tree) × Outcome s t l (b ++ more) (Whole v (length b))
   whole_on b more r = let w = sees_whole s t l H b fs more r.1 r.2 in (w.0, w.2)
 
-module _ {B : Type 0} {g : _} (tells : B → Trace → Type 0) (old new : Reader B g)
+module _ {B : Type 0} (tells : B → Trace → Type 0) (old new : Reader B)
     (same : IsSame old new) (b : List ℕ) where
   kinds_are : new.schema.now.kinds ≡ old.schema.now.kinds
   kinds_are = ap (λ (x : Lists). x.kinds) same.schema_is
@@ -65,7 +65,7 @@ module _ {B : Type 0} {g : _} (tells : B → Trace → Type 0) (old new : Reader
       x b) is r)))
 
 -- the answers of a reader that stands for the bytes before a piece and those that were taken of it
-module _ {B : Type 0} {g : _} (tells : B → Trace → Type 0) (old new : Reader B g)
+module _ {B : Type 0} (tells : B → Trace → Type 0) (old new : Reader B)
     (same : IsSame old new) (b piece : List ℕ)
     (used : ℕ)
     (within : used ≤ length piece) (r : StandsFor tells new (b ++ take used piece)) where
@@ -117,7 +117,7 @@ module _ {B : Type 0} {g : _} (tells : B → Trace → Type 0) (old new : Reader
       (fails_on K new.kind.place new.limits f (b ++ take used piece) (drop used piece) before))
 
 -- what is the same twice is the same
-pub same_then : {B : Type 0} {g : _} (a b c : Reader B g) → IsSame a b → IsSame b c → IsSame a c
+pub same_then : {B : Type 0} (a b c : Reader B) → IsSame a b → IsSame b c → IsSame a c
 same_then a b c x y = record {
   schema_is = y.schema_is ∙ x.schema_is;
   kind_is = y.kind_is ∙ x.kind_is;

@@ -17,11 +17,11 @@ use Rattle.xdr_stream.specs.declared.checker.Nothing.{Nothing}
 use Rattle.xdr_stream.specs.declared.values.Values.{Values}
 
 -- a decoder's fields stand for these bytes, all that it was given up to the value's end
-abbrev pub Stands : {g : _} → Reader Values g → (b : List ℕ) → Type 0
+abbrev pub Stands : Reader Values → (b : List ℕ) → Type 0
 Stands r b = StandsFor (λ (v : Values) (t : Trace). trace_of v ≡ t) r b
 
 -- a checker's fields stand for these bytes
-abbrev pub Checks : {g : _} → Reader Nothing g → (b : List ℕ) → Type 0
+abbrev pub Checks : Reader Nothing → (b : List ℕ) → Type 0
 Checks r b = StandsFor (λ (n : Nothing) (t : Trace). ⊤) r b
 
 -- what a fault at their end says of all of the bytes b: they end inside a value, at their count; or they are refused
@@ -36,8 +36,7 @@ Finishes kinds kind limits b (Ok v) = Outcome kinds kind limits b (outcome.Whole
 Finishes kinds kind limits b (Err f) = EndsWith kinds kind limits b f
 
 -- the settings of a new reader
-pub record IsStarted {B : Type 0} {g : _} (r : Reader B g) (schema : Lists) (kind : KindId) (limits : Bounds)
-    : Type 0 where
+pub record IsStarted {B : Type 0} (r : Reader B) (schema : Lists) (kind : KindId) (limits : Bounds) : Type 0 where
   pub schema_is : r.schema.now ≡ schema
   pub kind_is : r.kind ≡ kind
   pub limits_are : r.limits ≡ limits

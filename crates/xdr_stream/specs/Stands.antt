@@ -34,7 +34,7 @@ StandsAs kinds kind limits H fs read room pending Finished b =
 StandsAs kinds kind limits H fs read room pending (Failed f) b = Fails kinds kind limits f b
 
 -- a reader's fields stand for these bytes, all that it was given up to the value's end
-abbrev pub StandsFor : {B : Type 0} → {g : _} → (tells : B → Trace → Type 0) → Reader B g → (b : List ℕ) → Type 0
+abbrev pub StandsFor : {B : Type 0} → (tells : B → Trace → Type 0) → Reader B → (b : List ℕ) → Type 0
 StandsFor tells r b =
     StandsAs r.schema.now.kinds r.kind.place r.limits (tells r.built) (stack_of r.work r.parents.items) r.read r.unit
     r.pending r.state b
@@ -50,7 +50,7 @@ IsWaiting (Reading a) = ⊤
 IsWaiting _ = ⊥
 
 -- the settings stay
-pub record IsSame {B : Type 0} {g : _} (a b : Reader B g) : Type 0 where
+pub record IsSame {B : Type 0} (a b : Reader B) : Type 0 where
   pub schema_is : b.schema.now ≡ a.schema.now
   pub kind_is : b.kind ≡ a.kind
   pub limits_are : b.limits ≡ a.limits

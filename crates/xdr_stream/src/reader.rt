@@ -2,7 +2,6 @@
 ghost use Rattle.xdr_stream.specs.Frames.{left_of};
 ghost use Rattle.xdr_stream.specs.Sound.{IsSoundAt, Waits, one_sound, one_wait};
 
-use crate::build::Build;
 use crate::fault::DecodeFault;
 use crate::frame::Frame;
 use crate::machine::Awaits;
@@ -32,7 +31,7 @@ pub enum State {
 
 /// Reads unit by unit, and tells the nodes to a builder.
 #[derive(Drop)]
-pub struct Reader<'s, B: Build + Drop> {
+pub struct Reader<'s, B: Drop> {
     pub schema: &'s Schema,
     pub kind: KindId,
     pub limits: Limits,
