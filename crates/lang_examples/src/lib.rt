@@ -21,8 +21,8 @@ pub use refused::{
     struct_before_a_union, struct_before_an_enumeration, true_as_a_size,
 };
 pub use texts::{
-    arrays, linked_list, list_of_structs, long_numbers, missing_size, older_text, string_argument,
-    two_meanings,
+    arrays, linked_list, list_of_structs, long_numbers, long_was_a_name, missing_size, older_text,
+    string_argument, text_without_the_words, two_meanings,
 };
 pub use token_lists::{
     comment_with_a_star, keyword_and_names, least_number, long_and_a_longer_name, no_token_of_a_bar,

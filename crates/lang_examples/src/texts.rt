@@ -1,11 +1,14 @@
 //! What `read` gives for texts that mean something (RFC 4506 section 6.4, RFC 5531 section 12): the kinds of a text
 //! come after the eight basic ones.
-ghost use Rattle.std.specs.Prelude.{◌≡◌, Some, None, IfOk, IfErr, [], ◌∷◌, codes, drop, map};
+ghost use Rattle.std.specs.Prelude.{◌≡◌, Some, None, IfOk, IfErr, [], ◌∷◌, codes, drop, filter, map};
+ghost use Rattle.xdr_tokens.specs.Tokens.{Word, Name};
+ghost use Rattle.xdr_tokens.specs.Keywords.{keywords, word_among, word_or_name};
+ghost use Rattle.xdr_tokens.specs.declared.token.Keyword.TheVariants as word;
 ghost use Rattle.xdr_types.specs.Kinds as xdr;
 ghost use Rattle.xdr_types.specs.Named.{named};
 ghost use Rattle.xdr_lang.specs.Declarations as said;
 ghost use Rattle.xdr_lang.specs.Means.{Means};
-ghost use Rattle.xdr_lang.specs.Before.{HasNoLong, MeantBefore};
+ghost use Rattle.xdr_lang.specs.Before.{HasNoLong, HasNoStructName, MeantBefore, was_keyword};
 ghost use Rattle.xdr_lang.specs.Views.{declared_of};
 
 use std::alloc::Global;
@@ -71,6 +74,23 @@ pub fn string_argument(alloc: Global) -> Result<Declared, LangFault>
 pub fn older_text(text: &[u8])
     requires { HasNoLong text.now }
     ensures { (d : said.Declared) → MeantBefore text.now d → Means text.now d }
+{
+    older_texts_keep_their_meanings()
+}
+
+/// A text without `long` in which no type is told by `struct` and a name means nothing that it did not mean before.
+pub fn text_without_the_words(text: &[u8])
+    requires long { HasNoLong text.now }
+    requires none { HasNoStructName text.now }
+    ensures { (d : said.Declared) → Means text.now d → MeantBefore text.now d }
+{
+    older_texts_keep_their_meanings()
+}
+
+/// `long` was a name.
+pub fn long_was_a_name(run: &[u8])
+    requires { word_or_name run.now ≡ Word word.Long }
+    ensures { word_among (filter was_keyword keywords) run.now ≡ Name (codes "long") }
 {
     older_texts_keep_their_meanings()
 }
