@@ -41,7 +41,7 @@ pub fn push_head(out: &mut Vec<u8>, xid: u32, stat: u32) -> Result<(), NoMemory>
     ensures fits { IsWord xid }
     ensures begins { StartsWith out.new.items out.old.items }
 {
-    out.extend_from_slice(&accepted_head(xid, stat))
+    Ok(out.extend_from_slice(&accepted_head(xid, stat))?)
 }
 
 /// Writes a reply that denies a call for an `auth_stat` (RFC 5531 section 9).
