@@ -15,8 +15,8 @@ use crate::versions::push_accepted;
 use rpc_directory::Directory;
 use rpc_message::{LentCall, LentRead, read_lent_call};
 use std::alloc::Global;
-use xdr_units::NoMemory;
 use std::hash::BuildHasher;
+use xdr_units::NoMemory;
 
 /// What a record is answered with.
 #[derive(Debug, Drop)]

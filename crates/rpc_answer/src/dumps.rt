@@ -86,12 +86,7 @@ fn push_mapping(row: &Row, out: &mut Vec<u8>) -> Result<(), NoMemory>
 
 /// Writes that a mapping follows, and the mapping.
 #[tactic(auto, using(crate::proofs::Chains::begins_then))]
-fn push_mapping_at(
-    row: &Row,
-    prot: u32,
-    address: Uaddr,
-    out: &mut Vec<u8>,
-) -> Result<(), NoMemory>
+fn push_mapping_at(row: &Row, prot: u32, address: Uaddr, out: &mut Vec<u8>) -> Result<(), NoMemory>
     ensures ok { OnOk result (out.new.items ≡ out.old.items ++ mapping_at_bytes (plain_row row.now) prot address) }
     ensures begins { StartsWith out.new.items out.old.items }
 {

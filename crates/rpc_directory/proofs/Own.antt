@@ -50,4 +50,3 @@ length-at_port port h =
     (length (decimal 0) + 1 + (length (decimal (port / 256)) + 1 + length (decimal (port % 256)))))) =
     simp length-append refl in
     (omega (arith, e, y), omega (arith, e, z, a, b))
-

@@ -10,7 +10,9 @@ ghost use Rattle.rpc_message.specs.Private.Reading.{Reads, word_at, opaque_at, a
 
 use crate::fault::ReplyFault;
 use crate::message::{LentAuth, OpaqueAuth};
-use xdr_units::{NoContent, NoMemory, are_zeros, first_content, first_word, push_padded, push_word};
+use xdr_units::{
+    NoContent, NoMemory, are_zeros, first_content, first_word, push_padded, push_word,
+};
 
 /// The word in front, its highest byte first, and what follows it.
 pub fn word_at(bytes: &[u8]) -> Result<(u32, &[u8]), ReplyFault>

@@ -30,8 +30,7 @@ impl<'t, 'a> Parser<'t, 'a> {
     }
 
     /// The same where a type specifier is due: `struct` and a name begin no body.
-    #[tactic(auto, unfolding(crate::specs::Private::Reading::inner_word_at, crate::specs::Private::Reading::after_word,
-        crate::specs::Private::Reading::name_at))]
+    #[tactic(auto, unfolding(crate::specs::Private::Reading::inner_word_at, crate::specs::Private::Reading::after_word, crate::specs::Private::Reading::name_at))]
     pub(crate) fn inner_word(&mut self) -> Option<BodyKind>
         ensures some { IfSome result (λ k. inner_word_at (left self.old) ≡ Some (k, left self.new)) }
         ensures none { result ≡ None → inner_word_at (left self.old) ≡ None }
