@@ -4,9 +4,9 @@ ghost use Rattle.std.specs.Prelude.{◌<◌, ◌≤◌};
 
 use crate::directory::filled;
 use rpc_engine::{Transport, serve};
-use std::alloc::{AllocError, Global};
+use std::alloc::Global;
 use xdr_io::{ReadFault, Sink, SinkFault, Source};
-use xdr_units::push_word;
+use xdr_units::{NoMemory, push_word};
 
 /// How many calls a read brings.
 const CALLS: u32 = 32;
@@ -44,7 +44,7 @@ impl Sink for Counting {
 }
 
 // Writes words, each as four bytes.
-fn push_words(out: &mut Vec<u8>, words: &[u32]) -> Result<(), AllocError> {
+fn push_words(out: &mut Vec<u8>, words: &[u32]) -> Result<(), NoMemory> {
     for word in words {
         push_word(out, *word)?;
     }
@@ -53,7 +53,7 @@ fn push_words(out: &mut Vec<u8>, words: &[u32]) -> Result<(), AllocError> {
 
 // The calls of a read: the null procedure of version 2, or the address over `tcp` of version 1 of a program, each as
 // one last fragment (RFC 5531 sections 9 and 11, RFC 1833 sections 2 and 3).
-fn calls(alloc: Global, asks_addresses: bool, rows: u32) -> Result<Vec<u8>, AllocError>
+fn calls(alloc: Global, asks_addresses: bool, rows: u32) -> Result<Vec<u8>, NoMemory>
     requires { 0 < rows }
 {
     let mut out = Vec::new(alloc);
