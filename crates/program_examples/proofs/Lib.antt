@@ -1,3 +1,5 @@
 pub mod Spelled
 pub mod Stopped
 pub mod Opened
+pub mod Serves
+pub mod Asks

@@ -2,6 +2,7 @@
 #![tactic(auto)]
 
 pub mod records;
+pub mod service;
 pub mod tasks;
 pub mod values;
 pub mod words;
