@@ -11,8 +11,9 @@ use Rattle.xdr_types.proofs.Unique.{both}
 use Rattle.rpc_rows.specs.Rows.{Row, row_of}
 use Rattle.rpc_dumps.specs.Dir.{dir_kinds}
 use Rattle.rpc_dumps.specs.Dumps.{content, group, linked, number, rpcb_list, rpcb_tree}
+use Rattle.rpc_answer.proofs.Begun.{none_of}
 use Rattle.oncrpc_service.specs.Rows.{Mapping, mapping_tree, pmap_list, words, row_line, mapping_line}
-use Rattle.oncrpc_service.specs.Rows.{field_text, more_fields, fields_line, item_line, list_lines}
+use Rattle.oncrpc_service.specs.Private.Nodes.{field_text, more_fields, fields_line, item_line, list_lines}
 
 abbrev text_of : Tree → List ℕ
 text_of t = field_text t.0
@@ -55,10 +56,6 @@ mapping_lines ms = linked_lines (map mapping_tree ms) ∙ each_mapping ms
 
 -- ---- what fits is a list of rows
 
-no_more : (vs : Values) → fit dir_kinds [] vs ≡ true → vs ≡ value.none
-no_more value.none e = refl
-no_more (value.node h i r) e = absurd (false≢true e)
-
 -- a node of a kind, and those after it
 abbrev node_fits : KindView → List Part → (h : Head) → (i r : Values) → Type 0
 node_fits k ps h i r = (is_legal dir_kinds k h && fit dir_kinds (parts k h) i) && fit dir_kinds ps r ≡ true
@@ -77,7 +74,7 @@ word ps (value.unsigned n) i r e =
     record {
       number = n;
       rest = r;
-      is = ap (λ (x : Values). value.node (value.unsigned n) x r) (no_more i b.1);
+      is = ap (λ (x : Values). value.node (value.unsigned n) x r) (none_of i b.1);
       fits = a.1;
     }
 word ps _ i r e = absurd (false≢true e)
@@ -102,7 +99,7 @@ text ps (value.bytes bs) i r e =
     record {
       text = bs;
       rest = r;
-      is = ap (λ (x : Values). value.node (value.bytes bs) x r) (no_more i b.1);
+      is = ap (λ (x : Values). value.node (value.bytes bs) x r) (none_of i b.1);
       fits = a.1;
     }
 text ps _ i r e = absurd (false≢true e)
@@ -131,7 +128,7 @@ five vs e =
           (b.is ∙ ap (λ (x : Values). value.node (value.unsigned b.number) value.none x)
           (c.is ∙ ap (λ (x : Values). value.node (value.bytes c.text) value.none x)
           (d.is ∙ ap (λ (x : Values). value.node (value.bytes d.text) value.none x)
-          (o.is ∙ ap (λ (x : Values). value.node (value.bytes o.text) value.none x) (no_more o.rest o.fits)))));
+          (o.is ∙ ap (λ (x : Values). value.node (value.bytes o.text) value.none x) (none_of o.rest o.fits)))));
     }
 
 a_row : (h : Head) (i : Values) → fits dir_kinds 11 (h, i) ≡ true → (r : Row) × ((h, i) ≡ rpcb_tree r)
@@ -173,9 +170,9 @@ are_rows value.present (value.node value.fields (value.node g i (value.node h vs
           (value.node t.0 t.1 (value.node h vs value.none)) value.none,
     )) (sym first.1)
     ∙ ap (λ (x : Values). (value.present, value.node value.fields (value.node g i (value.node h vs x)) value.none))
-    (sym (no_more r next.1))
+    (sym (none_of r next.1))
     ∙ ap (λ (x : Values). (value.present, value.node value.fields (value.node g i (value.node h vs r)) x))
-    (sym (no_more rest all.1))) (one_more first.0 (h, vs) more)
+    (sym (none_of rest all.1))) (one_more first.0 (h, vs) more)
 are_rows value.present (value.node value.fields (value.node g i value.none) rest) e =
     absurd (false≢true ((both (fits dir_kinds 11 (g, i)) _ (both _ (fit dir_kinds [] rest) e).0).1))
 are_rows value.present (value.node value.fields value.none rest) e = absurd (false≢true e)
@@ -200,7 +197,7 @@ four vs e =
       is = a.is ∙ ap (λ (x : Values). value.node (value.unsigned a.number) value.none x)
           (b.is ∙ ap (λ (x : Values). value.node (value.unsigned b.number) value.none x)
           (c.is ∙ ap (λ (x : Values). value.node (value.unsigned c.number) value.none x)
-          (d.is ∙ ap (λ (x : Values). value.node (value.unsigned d.number) value.none x) (no_more d.rest d.fits))));
+          (d.is ∙ ap (λ (x : Values). value.node (value.unsigned d.number) value.none x) (none_of d.rest d.fits))));
     }
 
 a_mapping : (h : Head) (i : Values) → fits dir_kinds 15 (h, i) ≡ true → (m : Mapping) × ((h, i) ≡ mapping_tree m)
@@ -242,9 +239,9 @@ are_mappings value.present (value.node value.fields (value.node g i (value.node 
           (value.node t.0 t.1 (value.node h vs value.none)) value.none,
     )) (sym first.1)
     ∙ ap (λ (x : Values). (value.present, value.node value.fields (value.node g i (value.node h vs x)) value.none))
-    (sym (no_more r next.1))
+    (sym (none_of r next.1))
     ∙ ap (λ (x : Values). (value.present, value.node value.fields (value.node g i (value.node h vs r)) x))
-    (sym (no_more rest all.1))) (one_mapping_more first.0 (h, vs) more)
+    (sym (none_of rest all.1))) (one_mapping_more first.0 (h, vs) more)
 are_mappings value.present (value.node value.fields (value.node g i value.none) rest) e =
     absurd (false≢true ((both (fits dir_kinds 15 (g, i)) _ (both _ (fit dir_kinds [] rest) e).0).1))
 are_mappings value.present (value.node value.fields value.none rest) e = absurd (false≢true e)

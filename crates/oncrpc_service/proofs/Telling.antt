@@ -8,7 +8,8 @@ use Rattle.xdr_types.specs.Spelling.{bytes_of}
 use Rattle.xdr_types.specs.Within.{FitsWithin}
 use Rattle.rpc_dumps.specs.Dir.{dir_kinds}
 use Rattle.rpc_dumps.specs.Dumps.{dump_limits, rpcb_list}
-use Rattle.oncrpc_service.specs.Rows.{pmap_list, header, row_line, mapping_line, list_lines}
+use Rattle.oncrpc_service.specs.Rows.{pmap_list, header, row_line, mapping_line}
+use Rattle.oncrpc_service.specs.Private.Nodes.{list_lines}
 use Rattle.xdr_stream.specs.declared.fault.DecodeFault.{DecodeFault}
 use Rattle.xdr_stream.specs.declared.fault.Reason.TheVariants as reason
 use Rattle.xdr_codec.specs.Refused.{HasNoneWithin, IsRefused}

@@ -9,7 +9,7 @@ use Rattle.xdr_types.specs.declared.value.Value as Value'
 use Rattle.xdr_types.specs.declared.value.Value.{Value}
 use Rattle.xdr_types.proofs.Joining.{values-at}
 use Rattle.xdr_types.proofs.Views.{tree-Group}
-use Rattle.oncrpc_service.specs.Rows.{item_line, list_lines, node_lines}
+use Rattle.oncrpc_service.specs.Private.Nodes.{item_line, list_lines, node_lines}
 
 pub on_ok : {A E P Q : Type 0} (r : Result A E) → (P → Q) → OnOk r P → OnOk r Q
 on_ok (Ok v) f p = f p

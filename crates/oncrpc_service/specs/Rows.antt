@@ -1,10 +1,9 @@
 -- The lines of a registry's rows (RFC 1833 sections 2.1 and 3.1).
 use Rattle.std.specs.Prelude.{ℕ, List, [], ◌∷◌, ◌++◌, ◌==◌, map, flat_map, codes, decimal, if◌then◌else◌}
-use Rattle.xdr_types.specs.Tree as value
-use Rattle.xdr_types.specs.Tree.{Head, Values, Tree}
+use Rattle.xdr_types.specs.Tree.{Tree}
 use Rattle.xdr_show.specs.Line.{escaped}
 use Rattle.rpc_rows.specs.Rows.{Row}
-use Rattle.rpc_dumps.specs.Dumps.{number, group, linked}
+use Rattle.rpc_dumps.specs.Dumps.{mapping_of, linked}
 
 -- a row of version 2 (RFC 1833 section 3.1)
 pub record Mapping : Type 0 where
@@ -15,7 +14,7 @@ pub record Mapping : Type 0 where
 
 -- the same as a value
 abbrev pub mapping_tree : Mapping → Tree
-mapping_tree m = group (number m.prog ∷ number m.vers ∷ number m.prot ∷ number m.port ∷ [])
+mapping_tree m = mapping_of m.prog m.vers m.prot m.port
 
 -- all of them in order, as a `pmaplist` (RFC 1833 section 3.1)
 abbrev pub pmap_list : List Mapping → Tree
@@ -43,36 +42,3 @@ mapping_line m = words (decimal m.prog ∷ decimal m.vers ∷ decimal m.prot ∷
 -- the line above the rows
 abbrev pub header : (vers : ℕ) → List ℕ
 header vers = if vers == 2 then codes "program vers prot port\n" else codes "program vers netid address owner\n"
-
--- ---- the same lines node by node: what the code writes
-
--- a number, or a text
-abbrev pub field_text : Head → List ℕ
-field_text (value.unsigned n) = decimal n
-field_text (value.bytes bs) = escaped_text bs
-field_text _ = []
-
--- fields after the first, each after a space, and the end of the line
-abbrev pub more_fields : Values → List ℕ
-more_fields value.none = codes "\n"
-more_fields (value.node h inner rest) = 32 ∷ field_text h ++ more_fields rest
-
--- the fields of a row
-abbrev pub fields_line : Values → List ℕ
-fields_line value.none = codes "\n"
-fields_line (value.node h inner rest) = field_text h ++ more_fields rest
-
--- a row
-abbrev pub item_line : Head → Values → List ℕ
-item_line value.fields vs = fields_line vs
-item_line _ vs = codes "\n"
-
--- the rows of a list, one inside the other
-abbrev pub list_lines : Head → Values → List ℕ
-list_lines value.present (value.node value.fields (value.node g item (value.node h rest value.none)) value.none) =
-    item_line g item ++ list_lines h rest
-list_lines _ vs = []
-
--- a row and those that follow it
-abbrev pub node_lines : Tree → List ℕ
-node_lines t = list_lines value.present (value.node t.0 t.1 value.none)

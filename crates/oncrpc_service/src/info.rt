@@ -9,7 +9,8 @@ ghost use Rattle.oncrpc_tasks.specs.Lines.{line};
 ghost use Rattle.oncrpc_service.specs.InfoEnds.{InfoEnds, TellsInPart};
 ghost use Rattle.oncrpc_service.specs.Infos.{Tells, TellsReply, TellsRows, TellsStatus, dump_call, failure_of};
 ghost use Rattle.oncrpc_service.specs.Infos.{list_place};
-ghost use Rattle.oncrpc_service.specs.Rows.{header, list_lines};
+ghost use Rattle.oncrpc_service.specs.Rows.{header};
+ghost use Rattle.oncrpc_service.specs.Private.Nodes.{list_lines};
 
 use crate::refusal::{denied_line, fault_line, status_line};
 use crate::rows::push_rows;

@@ -1,7 +1,7 @@
 //! The lines of a registry's rows.
 ghost use Rattle.std.specs.Prelude.{◌≡◌, ◌++◌, OnOk};
 ghost use Rattle.xdr_types.specs.View.{tree, values};
-ghost use Rattle.oncrpc_service.specs.Rows.{field_text, item_line, list_lines, more_fields, node_lines};
+ghost use Rattle.oncrpc_service.specs.Private.Nodes.{field_text, item_line, list_lines, more_fields, node_lines};
 
 use xdr_show::push_escaped_bytes;
 use xdr_types::Value;

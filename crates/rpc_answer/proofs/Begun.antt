@@ -43,7 +43,7 @@ first_of p ps (value.node head inner rest) h =
     let b = both (is_legal dir_kinds (kind_at dir_kinds p.kind) head) _ a.0 in
     record { head = head; inner = inner; rest = rest; is = refl; legal = b.0; inner_fits = b.1; rest_fits = a.1 }
 
-none_of : (vs : Values) → fit dir_kinds [] vs ≡ true → vs ≡ value.none
+pub none_of : (vs : Values) → fit dir_kinds [] vs ≡ true → vs ≡ value.none
 none_of value.none h = refl
 none_of (value.node head inner rest) h = absurd (false≢true h)
 
@@ -161,19 +161,16 @@ no_mapping args short t h =
     length-append (bytes_of dir_kinds 15 (mapping_of m.prog m.vers m.prot m.port)) rest in
     omega (arith, ap length bytes, long, short)
 
-le_true : (a b : ℕ) → a ≤ b → nat_le a b ≡ true
-le_true a b h = le-leb a b h
-
 -- four words are a mapping
 pub whole_mapping : (args : List ℕ) (prog vers prot port : ℕ) (a b c rest : List ℕ) → prog < 2 ^ 32 → vers < 2 ^ 32
     → prot < 2 ^ 32 → port < 2 ^ 32
     → args ≡ word prog ++ a → a ≡ word vers ++ b → b ≡ word prot ++ c → c ≡ word port ++ rest
     → AreArguments 15 args (mapping_of prog vers prot port)
 whole_mapping args prog vers prot port a b c rest p v n o e f g h =
-    let lp : nat_le prog 4294967295 ≡ true = le_true _ _ (omega arith) in
-    let lv : nat_le vers 4294967295 ≡ true = le_true _ _ (omega arith) in
-    let ln : nat_le prot 4294967295 ≡ true = le_true _ _ (omega arith) in
-    let lo : nat_le port 4294967295 ≡ true = le_true _ _ (omega arith) in
+    let lp : nat_le prog 4294967295 ≡ true = le-leb _ _ (omega arith) in
+    let lv : nat_le vers 4294967295 ≡ true = le-leb _ _ (omega arith) in
+    let ln : nat_le prot 4294967295 ≡ true = le-leb _ _ (omega arith) in
+    let lo : nat_le port 4294967295 ≡ true = le-leb _ _ (omega arith) in
     let fits : fits dir_kinds 15 (mapping_of prog vers prot port) ≡ true =
     λ j. (lp j && true) && ((lv j && true) && ((ln j && true) && ((lo j && true) && true))) in
     decoded 15 args (mapping_of prog vers prot port) (record {
@@ -351,11 +348,11 @@ module _ (args : List ℕ) (prog : ℕ) (x1 : List ℕ) (prog_small : prog < 2 ^
               let bn = b3.0 in
               let ba = b4.0 in
               let bo = b5.0 in
-              let lp : nat_le prog 4294967295 ≡ true = le_true _ _ (omega arith) in
-              let lv : nat_le vers 4294967295 ≡ true = le_true _ _ (omega arith) in
-              let ln : nat_le (length netid) 4294967295 ≡ true = le_true _ _ (omega arith) in
-              let la : nat_le (length address) 4294967295 ≡ true = le_true _ _ (omega arith) in
-              let lo : nat_le (length owner) 4294967295 ≡ true = le_true _ _ (omega arith) in
+              let lp : nat_le prog 4294967295 ≡ true = le-leb _ _ (omega arith) in
+              let lv : nat_le vers 4294967295 ≡ true = le-leb _ _ (omega arith) in
+              let ln : nat_le (length netid) 4294967295 ≡ true = le-leb _ _ (omega arith) in
+              let la : nat_le (length address) 4294967295 ≡ true = le-leb _ _ (omega arith) in
+              let lo : nat_le (length owner) 4294967295 ≡ true = le-leb _ _ (omega arith) in
               let legal : fits dir_kinds 11 (rpcb_tree (row_of prog vers netid address owner)) ≡ true =
               λ j. (lp j && true) && ((lv j && true) && ((((ln j && ln j) && bn j) && true) &&
               ((((la j && la j) && ba j) && true) && ((((lo j && lo j) && bo j) && true) && true)))) in

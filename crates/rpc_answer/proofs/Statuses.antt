@@ -12,7 +12,7 @@ use Rattle.rpc_message.specs.Spelling.{reply, IsStatus}
 use Rattle.rpc_rows.specs.Rows.{Row, row_of}
 use Rattle.rpc_rows.specs.Steps.{Step, set, unset, getaddr}
 use Rattle.rpc_rows.specs.Ports.{set_port, unset_port, get_port}
-use Rattle.rpc_dumps.specs.Dumps.{number, group, rpcb_tree, rpcb_list, mapping_list}
+use Rattle.rpc_dumps.specs.Dumps.{mapping_of, rpcb_tree, rpcb_list, mapping_list}
 use Rattle.rpc_dumps.specs.Dir.{dir_kinds}
 use Rattle.rpc_answer.specs.Private.Parsed.{text}
 use Rattle.rpc_answer.proofs.Chains.{then}
@@ -111,9 +111,6 @@ pub nth : (xs : List Procedure) (n k : ℕ) (p : Procedure) → n ≡ k → slic
 nth xs n k p e h = ap (slice_get xs) e ∙ h
 
 -- ---- what each answer comes to
-
-abbrev pub mapping_of : ℕ → ℕ → ℕ → ℕ → Tree
-mapping_of prog vers prot port = group (number prog ∷ number vers ∷ number prot ∷ number port ∷ [])
 
 module _ (rows : List Row) (netid owner : List ℕ) (c : CallView) (old out : List ℕ) where
   pub pushes_null : IsCallOf c null → out ≡ old ++ head c.xid 0 → PushesStatus rows netid owner c old rows out

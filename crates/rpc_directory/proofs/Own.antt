@@ -8,7 +8,6 @@ use Rattle.rpc_rows.specs.Rows.{Row, row_of}
 use Rattle.rpc_rows.specs.Steps.{set, is_empty, superuser}
 use Rattle.rpc_rows.specs.Ports.{at_port, tcp}
 pub use Rattle.rpc_rows.proofs.Removed.{not_empty as is_empty-not}
-pub use Rattle.rpc_dumps.proofs.Fitting.{le_true as fits_true}
 
 module _ (address : List ℕ) (some : is_empty address ≡ false) (fits : nat_le (length address) 256 ≡ true) where
   abbrev pub own : ℕ → Row

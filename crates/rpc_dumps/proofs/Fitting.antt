@@ -6,33 +6,28 @@ use Rattle.std.specs.List.{AllByRecursion, cons_option}
 use Rattle.std.specs.Str.{bytes_eq}
 use Rattle.std.proofs.lemmas.List.{length-append, length-replicate, length-map}
 use Rattle.std.proofs.lemmas.Bool.Decides.{Decides-ltb}
+use Rattle.std.proofs.lemmas.Bool.{le-leb}
 use Rattle.xdr_types.specs.Tree.{Tree, depth}
 use Rattle.xdr_types.specs.Fits.{fits, is_length, are_bytes}
 use Rattle.xdr_units.specs.Numbers.{num4, pad, padded}
 use Rattle.xdr_types.specs.Spelling.{bytes_of}
 use Rattle.xdr_types.specs.Within.{FitsWithin}
+use Rattle.xdr_types.proofs.Content.{are_bytes_of}
 use Rattle.rpc_uaddr.specs.declared.address.Uaddr.{Uaddr}
 use Rattle.rpc_uaddr.specs.Uaddrs.{uaddr_of}
 use Rattle.rpc_uaddr.proofs.Inverse.{port_small}
-use Rattle.rpc_rows.specs.Rows.{Row, AreBytes, IsRow, IsRegistry}
+use Rattle.xdr_units.specs.Numbers.{AreBytes}
+use Rattle.rpc_rows.specs.Rows.{Row, IsRow, IsRegistry}
 use Rattle.rpc_rows.specs.Ports.{tcp, udp}
 use Rattle.rpc_dumps.specs.Dir.{dir_kinds}
 use Rattle.rpc_dumps.specs.Dumps.{linked, rpcb_tree, rpcb_list, mapping_tree, mapping_row, mapping_list, prot_of}
 use Rattle.rpc_dumps.specs.Dumps.{dump_limits}
 
-pub le_true : (a b : ℕ) → a ≤ b → nat_le a b ≡ true
-le_true a b h = grind (arith, h)
-
-bytes_true : (bs : List ℕ) → AreBytes bs → are_bytes bs ≡ true
-bytes_true [] h = refl
-bytes_true (b ∷ bs) h = let small : nat_lt b 256 ≡ true =
-    (Decides-ltb b 256).1 h.0 in λ j. small j && bytes_true bs h.1 j
-
 text_fits : (bs : List ℕ) (most : ℕ) → length bs ≤ most → most ≤ 4294967295 → AreBytes bs
     → (is_length 4294967295 (length bs) && are_bytes bs) ≡ true
 text_fits bs most h m b =
-    let e : nat_le (length bs) 4294967295 ≡ true = le_true (length bs) 4294967295 (omega (arith, h, m)) in
-    let f = bytes_true bs b in
+    let e : nat_le (length bs) 4294967295 ≡ true = le-leb (length bs) 4294967295 (omega (arith, h, m)) in
+    let f = are_bytes_of bs b in
     λ j. (e j && e j) && f j
 
 -- what a value in a dump keeps to
@@ -81,8 +76,8 @@ four p v n a = joined p _
 
 row_fits : (r : Row) → IsRow r → fits dir_kinds 11 (rpcb_tree r) ≡ true
 row_fits r h =
-    let prog : nat_le r.prog 4294967295 ≡ true = le_true _ _ (omega (arith, h.prog)) in
-    let vers : nat_le r.vers 4294967295 ≡ true = le_true _ _ (omega (arith, h.vers)) in
+    let prog : nat_le r.prog 4294967295 ≡ true = le-leb _ _ (omega (arith, h.prog)) in
+    let vers : nat_le r.vers 4294967295 ≡ true = le-leb _ _ (omega (arith, h.vers)) in
     let netid = text_fits r.netid 64 h.netid (omega arith) h.netid_bytes in
     let address = text_fits r.address 256 h.address (omega arith) h.address_bytes in
     let owner = text_fits r.owner 10 h.owner (omega arith) h.owner_bytes in
@@ -116,10 +111,10 @@ mapping_short r prot a =
 
 good_mapping : (r : Row) (prot : ℕ) (a : Uaddr) → IsRow r → prot ≤ 17 → a.port < 65536 → Good 15 (mapping_tree r prot a)
 good_mapping r n a h small port =
-    let prog : nat_le r.prog 4294967295 ≡ true = le_true _ _ (omega (arith, h.prog)) in
-    let vers : nat_le r.vers 4294967295 ≡ true = le_true _ _ (omega (arith, h.vers)) in
-    let prot : nat_le n 4294967295 ≡ true = le_true _ _ (omega (arith, small)) in
-    let end : nat_le a.port 4294967295 ≡ true = le_true _ _ (omega (arith, port)) in
+    let prog : nat_le r.prog 4294967295 ≡ true = le-leb _ _ (omega (arith, h.prog)) in
+    let vers : nat_le r.vers 4294967295 ≡ true = le-leb _ _ (omega (arith, h.vers)) in
+    let prot : nat_le n 4294967295 ≡ true = le-leb _ _ (omega (arith, small)) in
+    let end : nat_le a.port 4294967295 ≡ true = le-leb _ _ (omega (arith, port)) in
     record {
       legal = λ j. (prog j && true) &&
           ((vers j && true) && ((prot j && true) && ((end j && true) && true)));

@@ -5,6 +5,7 @@ use Rattle.std.proofs.Common.{Err, MatchResult}
 use Rattle.std.specs.List.{AllByRecursion}
 use Rattle.std.proofs.lemmas.Bool.{false≢true}
 use Rattle.std.proofs.lemmas.Bool.{and_parts as both}
+use Rattle.std.proofs.lemmas.Option.{none-some}
 use Rattle.xdr_types.specs.Kinds as xdr
 use Rattle.xdr_types.specs.Kinds.{KindView, Part, Lists, kind_at}
 use Rattle.xdr_types.specs.Faults.{AreFlawless, IsWellFormed, kind_flaw_at, name_flaw_at, fault}
@@ -104,13 +105,10 @@ asks kinds n (xdr.up_to item max) h = absurd (false≢true h)
 asks kinds n (xdr.choice tag arms other) h = absurd (false≢true h)
 asks kinds n xdr.unknown h = absurd (false≢true h)
 
-none≢some : (m : ℕ) → None ≡ Some m → ⊥
-none≢some m e = cc
-
 proper : (kinds fs : List KindView) (ns : List (Option ℕ)) → all_below fs ns ≡ true → (place n : ℕ)
     → given ns place ≡ Some n
     → Asks kinds (IsBelow (given heights) n) (kind_at fs place)
-proper kinds [] [] h place n e = absurd (none≢some n e)
+proper kinds [] [] h place n e = absurd (none-some n e)
 proper kinds [] (o ∷ ns) h place n e = absurd (false≢true h)
 proper kinds (f ∷ fs) [] h place n e = absurd (false≢true h)
 proper kinds (f ∷ fs) (None ∷ ns) h place n e = absurd (false≢true h)

@@ -39,9 +39,13 @@ rpcb_tree r = group (number r.prog ∷ number r.vers ∷ content r.netid ∷ con
 abbrev pub rpcb_list : List Row → Tree
 rpcb_list rows = linked (map rpcb_tree rows)
 
+-- a `mapping` (RFC 1833 section 3.1)
+abbrev pub mapping_of : (prog vers prot port : ℕ) → Tree
+mapping_of prog vers prot port = group (number prog ∷ number vers ∷ number prot ∷ number port ∷ [])
+
 -- a row at an IPv4 address as a `mapping` with the transport's number (RFC 1833 section 3.1)
 abbrev pub mapping_tree : Row → ℕ → Uaddr → Tree
-mapping_tree r prot a = group (number r.prog ∷ number r.vers ∷ number prot ∷ number a.port ∷ [])
+mapping_tree r prot a = mapping_of r.prog r.vers prot a.port
 
 -- the number of a transport that version 2 knows (RFC 1833 section 3.1: IPPROTO_TCP, IPPROTO_UDP)
 abbrev pub prot_of : List ℕ → Option ℕ

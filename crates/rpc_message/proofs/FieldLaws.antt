@@ -11,7 +11,7 @@ use Rattle.rpc_message.specs.declared.fault.ReplyFault.{ReplyFault}
 use Rattle.rpc_message.specs.declared.fault.ReplyFault.TheVariants.{Truncated, BadAuth}
 use Rattle.rpc_message.specs.Message.{AuthView}
 use Rattle.xdr_units.specs.Fronts.{HasBadPadding}
-use Rattle.xdr_units.proofs.Bytes.{AreBytes-drop, AreBytes-take}
+use Rattle.xdr_units.proofs.Bytes.{byte_at, AreBytes-drop, AreBytes-take}
 use Rattle.xdr_units.specs.Numbers.{AreBytes, word, gap, pad, padded, IsWord}
 use Rattle.rpc_message.specs.Spelling.{opaque, auth, IsAuth}
 use Rattle.rpc_message.specs.Private.Reading.{◌>>=◌, are_zeros, word_at, padding_at, opaque_at, auth_at}
@@ -89,13 +89,14 @@ word_takes bytes x fits e =
     let long : 4 ≤ length bytes = ltb-false _ _ g.0 in
     let front_fits = AreBytes-take 4 bytes fits in
     let front : word n ≡ take 4 bytes = be_bytes_4 (take 4 bytes) n
-    (omega (arith, length-take 4 bytes)) front_fits refl in
+    (omega (arith, length-take 4 bytes)) (byte_at (take 4 bytes) front_fits) refl in
     let taken : Takes bytes (word n) (drop 4 bytes) =
     record {
       parts = sym (take-append-drop 4 bytes) ∙ ap (λ (t : List ℕ). t ++ drop 4 bytes) (sym front);
       rest_fits = AreBytes-drop 4 bytes fits;
     } in
-    let small : IsWord n = omega (arith, front_fits 0, front_fits 1, front_fits 2, front_fits 3) in
+    let at = byte_at (take 4 bytes) front_fits in
+    let small : IsWord n = omega (arith, at 0, at 1, at 2, at 3) in
     subst (λ (y : ℕ × List ℕ). Takes bytes (word y.0) y.1 × IsWord y.0) (ok_is (n, drop 4 bytes) x g.1) (taken, small)
 
 word_from : (text rest : List ℕ) → length text ≡ 4 → word_at (text ++ rest) ≡ Ok (from_be_bytes w32 text, rest)

@@ -1,6 +1,7 @@
 -- The records that a reader has met are those of the longest front that is a stream of records within the limit.
 use Rattle.std.proofs.Common.{◌≡◌, ℕ, suc, ◌+◌, ◌^◌, ◌<◌, Bool, true, false, List, [], ◌∷◌, ◌++◌, length, take, All}
 use Rattle.std.proofs.Common.{refl, sym, ap, ◌∙◌, append_assoc, arith}
+use Rattle.xdr_units.proofs.Bytes.{same_front}
 use Rattle.rpc_record.proofs.Headers.{length-header}
 use Rattle.std.specs.List.{flat_map, concat}
 use Rattle.std.specs.Int.{w32, from_be_bytes}
@@ -26,19 +27,13 @@ same_number false true n m h i e = absurd (omega arith)
 same_number false false n m h i e = (refl, e)
 
 -- two lists of one length, each with another behind it
-pub split_same : (a b x y : List ℕ) → length a ≡ length b → a ++ x ≡ b ++ y → (a ≡ b) × (x ≡ y)
-split_same a b x y e f =
-    let same : a ≡ b = sym (take_at a x (length a) refl) ∙ ap (λ k. take (length a) k) f
-    ∙ take_at b y (length a) (sym e) in
-    (same, append_cancel_left b x y (ap (λ k. k ++ x) (sym same) ∙ f))
-
 pub true_false : true ≡ false → ⊥
 true_false e = cc
 
 pub header-same : (l k : Bool) (n m : ℕ) (x y : List ℕ) → n < 2 ^ 31 → m < 2 ^ 31 → header l n ++ x ≡ header k m ++ y
     → (l ≡ k) × (n ≡ m) × (x ≡ y)
 header-same l k n m x y h i e =
-    let s = split_same (header l n) (header k m) x y (length-header l n ∙ sym (length-header k m)) e in
+    let s = same_front (header l n) (header k m) x y (length-header l n ∙ sym (length-header k m)) e in
     let t = same_number l k n m h i (sym (header-number l n h) ∙ ap (from_be_bytes w32) s.0 ∙ header-number k m i) in
     (t.0, t.1, s.1)
 
@@ -47,7 +42,7 @@ pub fragment-same : (l k : Bool) (c d x y : List ℕ) → IsContent c → IsCont
 fragment-same l k c d x y h i e =
     let s = header-same l k (length c) (length d) (c ++ x) (d ++ y) h i (sym (append_assoc (header l (length c)) c x)
     ∙ e ∙ append_assoc (header k (length d)) d y) in
-    let t = split_same c d x y s.1 s.2 in
+    let t = same_front c d x y s.1 s.2 in
     (s.0, t.0, t.1)
 
 -- two markings at the front of the same bytes are one

@@ -2,6 +2,7 @@
 use Rattle.std.specs.Prelude.{◌≡◌, ℕ, ◌≤◌, ◌<◌, Bool, ◌&&◌, List, nat_eq, ◌^◌, length, false, [], ◌∷◌, ⊤}
 use Rattle.std.specs.List.{list_any, AllByRecursion}
 use Rattle.std.specs.Str.{bytes_eq}
+use Rattle.xdr_units.specs.Numbers.{AreBytes}
 
 -- who serves a version of a program over a transport, where, and who set it: the `rpcb` of RFC 1833 section 2.1
 pub record Row : Type 0 where
@@ -28,10 +29,6 @@ is_of prog vers r = nat_eq prog r.prog && nat_eq vers r.vers
 -- and over this transport
 abbrev pub is_at : ℕ → ℕ → List ℕ → Row → Bool
 is_at prog vers netid r = is_of prog vers r && bytes_eq netid r.netid
-
--- each number of the list is a byte's
-abbrev pub AreBytes : List ℕ → Type 0
-AreBytes bs = AllByRecursion (λ b. b < 256) bs
 
 -- what a row keeps to: numbers of 32 bits, a netid and an address that are not empty, and short texts of bytes (the
 -- lengths are this project's own)

@@ -1,4 +1,5 @@
 -- A text that is read is the text of its address.
+use Rattle.std.specs.Option.{unwrap_or}
 use Rattle.std.proofs.Common.{◌≡◌, ℕ, ◌+◌, ◌*◌, ◌/◌, ◌%◌, ◌<◌, Bool, true, false, ◌&&◌, cond, List, [], ◌∷◌, ◌++◌, refl}
 use Rattle.std.proofs.Common.{ap, sym, ◌∙◌, Option, Some, None, is_some, map, nat_eq, nat_lt, decimal, codes, arith}
 use Rattle.std.proofs.Common.{true≢false, mod-lt}
@@ -47,10 +48,6 @@ dots-parts (b ∷ bs) = by (nat_eq b 46) refl (parts bs) (some_part bs) (dots-pa
     by true e (p ∷ ps) s d = (λ j. sym ((Decides-eqb b 46).0 e) j ∷ d j)
     by false e ps s d = dots-onto b ps s ∙ ap (λ r. b ∷ r) d
 
-abbrev value_of : ℕ → Option ℕ → ℕ
-value_of d None = d
-value_of d (Some n) = n
-
 pub octet_is : (p : List ℕ) (n : ℕ) → octet p ≡ Some n → (p ≡ decimal n) × (n < 256)
 octet_is p n = by (bytes_eq p (decimal (digits_value 10 p)) && nat_lt (digits_value 10 p) 256) refl
   where
@@ -59,7 +56,7 @@ octet_is p n = by (bytes_eq p (decimal (digits_value 10 p)) && nat_lt (digits_va
     by false e f = absurd (true≢false (sym (ap is_some f)))
     by true e f =
         let w = and_both _ _ e in
-        let v : digits_value 10 p ≡ n = ap (value_of 0) f in
+        let v : digits_value 10 p ≡ n = ap (λ (o : Option ℕ). unwrap_or o 0) f in
         let lt : digits_value 10 p < 256 = (Decides-ltb _ 256).0 w.1 in
         ((bytes_eq-Decides p (decimal (digits_value 10 p))).0 w.0 ∙ ap decimal v, omega (arith, v, lt))
 

@@ -10,19 +10,13 @@ use Rattle.xdr_types.specs.Refused.{IsFirstFlaw, IsFirstFault, IsRefused}
 use Rattle.xdr_types.specs.declared.fault.Flaw.{Flaw}
 use Rattle.xdr_types.specs.declared.fault.Flaw.TheVariants as flaw
 use Rattle.xdr_types.specs.declared.fault.SchemaFault.{SchemaFault}
-use Rattle.xdr_types.proofs.Refusing.{no-flaw as no_flaw}
-
-no_first : (s : Lists) (e : SchemaFault) → IsFirstFault s e → IsWellFormed s → IsSound s.kinds → ⊥
-no_first s e (inl many) well sound = absurd (omega (arith, many.0, well.few))
-no_first s e (inr (inl kind)) well sound = no_flaw (kind_flaw_at s.kinds) _ e well.kinds kind.1
-no_first s e (inr (inr (inl name))) well sound = no_flaw (name_flaw_at s.kinds s.names) _ e well.names name.2
-no_first s e (inr (inr (inr low))) well sound = low.2.none (sound e.place low.2.within)
+use Rattle.xdr_types.proofs.Refusing.{refused}
 
 -- lists that are well formed and sound are refused for want of memory alone
 pub only_memory : (s : Lists) (e : SchemaFault) → IsWellFormed s → IsSound s.kinds → IsRefused s e
     → e.why ≡ flaw.NoMemory
 only_memory s e ok sound (inl m) = ap (λ (x : SchemaFault). x.why) m
-only_memory s e ok sound (inr first) = absurd (no_first s e first ok sound)
+only_memory s e ok sound (inr first) = absurd (refused s e first ok sound)
 
 -- what is refused, but not for want of memory, is not due
 pub refused_is_not_due : {A : Type 0} (e : Fault) (n : ℕ) (a : A) → (e ≡ fault.NoMemory → n ≡ 13) → (n ≡ 13 → ⊥)

@@ -14,7 +14,7 @@ use Rattle.std.proofs.lemmas.Bool.Decides.{same_from_decides, Decides-like, Deci
 use denote.Ref.{Bor}
 use Rattle.xdr_lang.specs.Private.Tables.{key_texts}
 use Rattle.xdr_lang.specs.Distinct.{is_void, has_name, repeats, has_number, repeats_number, has_pair, repeats_pair}
-pub use Rattle.xdr_types.proofs.Apart.{was_absent, was_there, bytes_flip, texts_cmp as names_cmp}
+pub use Rattle.xdr_types.proofs.Apart.{was_absent, was_there, bytes_eq-sym, texts_cmp as names_cmp}
 
 or_cond : (b x : Bool) → cond b true x ≡ (b || x)
 or_cond true x = refl
@@ -43,7 +43,7 @@ pub has_keys : (q : List ℕ) (ks : List (Bor (List ℕ)))
     → has_name q (key_texts ks) ≡ list_any (is_at (λ (k : Bor (List ℕ)). slice_cmp nat_cmp q k.now)) ks
 unfolding has_name
 has_keys q [] = refl
-has_keys q (k ∷ ks) = rw (is_eq-slice_cmp q k.now, bytes_flip q k.now, ← has_keys q ks)
+has_keys q (k ∷ ks) = rw (is_eq-slice_cmp q k.now, bytes_eq-sym q k.now, ← has_keys q ks)
     (or_cond (bytes_eq k.now q) (has_name q (key_texts ks)))
 
 has_more : (q n : List ℕ) (b : List (List ℕ)) → has_name q (b ++ n ∷ []) ≡ cond (has_name q b) true (bytes_eq n q)

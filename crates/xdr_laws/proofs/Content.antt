@@ -6,18 +6,20 @@ use Rattle.std.specs.Int.{w32, w64, from_be_bytes}
 use Rattle.std.proofs.lemmas.Nat.{be_bytes_4, be_bytes_8}
 use Rattle.std.proofs.lemmas.List.{take_at, drop_at, length-append, length-drop, take-append-le, drop-append-le}
 use Rattle.std.proofs.lemmas.List.{append_cancel_left}
+use Rattle.std.proofs.Math.Nat.{add-zero}
 use Rattle.xdr_types.specs.Kinds as xdr
 use Rattle.xdr_types.specs.Kinds.{KindView, Part, Constant, kind_at}
 use Rattle.xdr_types.specs.Tree as value
 use Rattle.xdr_types.specs.Tree.{Head, Values, Tree, from_list}
-use Rattle.xdr_units.specs.Numbers.{pad}
+use Rattle.xdr_units.specs.Numbers.{pad, AreBytes, word, long_word}
 use Rattle.xdr_types.specs.Fits.{parts}
 use Rattle.xdr_types.specs.Spelling.{own}
 use Rattle.xdr_types.specs.Layout.{Entry, entry, shown, content, of_number, of_length}
-use Rattle.xdr_laws.specs.Owed.{AreBytes, Due, Frame, Rest, Completes, Reads, lead_of, IsLengthFirst, IsFreeBytes}
+use Rattle.xdr_laws.specs.Owed.{Due, Frame, Rest, Completes, Reads, lead_of, IsLengthFirst, IsFreeBytes}
 use Rattle.xdr_laws.specs.Owed.{free_size, Accepts}
+use Rattle.xdr_units.proofs.Bytes.{byte_at, AreBytes-append, AreBytes-drop}
 use Rattle.xdr_laws.proofs.Legal.{IsSigned, IsLegal}
-use Rattle.xdr_laws.proofs.Numbers.{unit4, unit8, units_of, unit4-length, unit8-length, from4, from4-unit4, drop4-unit4}
+use Rattle.xdr_laws.proofs.Numbers.{units_of, unit4-length, unit8-length, from4, from4-unit4, drop4-unit4}
 use Rattle.xdr_laws.proofs.Numbers.{signed8, signed8_low, signed8_high}
 use Rattle.xdr_laws.proofs.Owed.{begin_into, begin_back, reads_end}
 
@@ -25,9 +27,6 @@ use Rattle.xdr_laws.proofs.Owed.{begin_into, begin_back, reads_end}
 
 abbrev IsLeaf : List KindView → KindView → Head → (place d : ℕ) (t : Part) → List ℕ → List Entry → Type 0
 IsLeaf s k h place d t b ps = IsLegal s k h × (own k h ≡ b) × (parts k h ≡ []) × (shown place d t k h ≡ ps)
-
-nothing_more : (place : ℕ) → place + 0 ≡ place
-nothing_more place = omega arith
 
 leaf_back : (s : List KindView) (place d : ℕ) (t : Part) (ts : List Part) (ds : List Due) (h : Head) (b : List ℕ)
     (qs : List Entry) (y : List ℕ) (ps : List Entry)
@@ -37,7 +36,7 @@ leaf_back s place d t ts ds h b qs y ps leaf r =
     let k : KindView = kind_at s t.kind in
     let at : Completes s (place + length (own k h) + 0) (Frame d ts ∷ ds) y ps = subst
     (λ (n : ℕ). Completes s n (Frame d ts ∷ ds) y ps)
-    (ap (λ (o : List ℕ). place + length o) (sym leaf.1) ∙ sym (nothing_more (place + length (own k h)))) r in
+    (ap (λ (o : List ℕ). place + length o) (sym leaf.1) ∙ sym (add-zero (place + length (own k h)))) r in
     let inner = (reads_end s (place + length (own k h)) (d + 1) (Frame d ts ∷ ds)).back y ps at in
     let whole = begin_back s place d t ts ds h y ps leaf.0
     (subst (λ (l : List Part). Completes s (place + length (own k h)) (Frame (d + 1) l ∷ Frame d ts ∷ ds) y ps)
@@ -51,7 +50,7 @@ leaf_into : (s : List KindView) (place d : ℕ) (ts kinds : List Part) (ds : Lis
 leaf_into s place d ts kinds ds y ps none r =
     let ended = (reads_end s place (d + 1) (Frame d ts ∷ ds)).into y ps
     (subst (λ (l : List Part). Completes s place (Frame (d + 1) l ∷ Frame d ts ∷ ds) y ps) none r) in
-    subst (λ (n : ℕ). Completes s n (Frame d ts ∷ ds) y ps) (nothing_more place)
+    subst (λ (n : ℕ). Completes s n (Frame d ts ∷ ds) y ps) (add-zero place)
     (subst (λ (l : List Entry). Completes s (place + 0) (Frame d ts ∷ ds) y l) (sym ended.1) ended.2)
 
 -- ---- a length and its content
@@ -61,7 +60,7 @@ counted place d t n = entry place 4 d t of_length ∷ content (place + 4) d t n
 
 abbrev IsCountedBy : List KindView → KindView → Head → (place d : ℕ) (t : Part) → List ℕ → Type 0
 IsCountedBy s k g place d t bs =
-    AreBytes bs × Accepts s k (length bs) × IsLeaf s k g place d t (unit4 (length bs) ++ (bs ++ pad (length bs)))
+    AreBytes bs × Accepts s k (length bs) × IsLeaf s k g place d t (word (length bs) ++ (bs ++ pad (length bs)))
     (counted place d t (length bs))
 
 counted_is : (s : List KindView) (k : KindView) (g : Head) (place d : ℕ) (t : Part) → IsLengthFirst (lead_of k)
@@ -75,7 +74,7 @@ counted_is s _ g place d t u l = absurd u
 
 counted_legal : (s : List KindView) (k : KindView) (place d : ℕ) (t : Part) (bs : List ℕ) → IsLengthFirst (lead_of k)
     → Accepts s k (length bs) → AreBytes bs
-    → IsLeaf s k (value.bytes bs) place d t (unit4 (length bs) ++ (bs ++ pad (length bs)))
+    → IsLeaf s k (value.bytes bs) place d t (word (length bs) ++ (bs ++ pad (length bs)))
     (counted place d t (length bs))
 counted_legal s (xdr.opaque_up_to max) place d t bs u a b = ((a.0, a.1, b), refl, refl, refl)
 counted_legal s (xdr.text max) place d t bs u a b = ((a.0, a.1, b), refl, refl, refl)
@@ -90,32 +89,32 @@ module _ (s : List KindView) (place d : ℕ) (t : Part) (ts : List Part) (ds : L
     (u : IsLengthFirst (lead_of (kind_at s t.kind))) where
   -- what a value that begins with the length x is
   length_into : (less : x < 2 ^ 32) (c : List ℕ) (all : List Entry)
-      → Completes s place (Frame d (t ∷ ts) ∷ ds) (unit4 x ++ c) all
+      → Completes s place (Frame d (t ∷ ts) ∷ ds) (word x ++ c) all
       → Accepts s (kind_at s t.kind) x × (qs : List Entry) × (all ≡ counted place d t x ++ qs)
-      × Completes s (place + length (unit4 x)) (Rest x ∷ Frame d ts ∷ ds) c qs
+      × Completes s (place + length (word x)) (Rest x ∷ Frame d ts ∷ ds) c qs
   length_into less c all r =
       let k : KindView = kind_at s t.kind in
-      let i = begin_into s place d t ts ds (unit4 x ++ c) all r in
+      let i = begin_into s place d t ts ds (word x ++ c) all r in
       let g : Head = i.0 in
       let y : List ℕ = i.1 in
       let l = counted_is s k g place d t u i.3 in
       let bs : List ℕ = l.0 in
       let n : ℕ = length bs in
       let leaf = l.1.2 in
-      let e1 : unit4 x ++ c ≡ unit4 n ++ ((bs ++ pad n) ++ y) = i.4 ∙ ap (λ (o : List ℕ). o ++ y) leaf.1
-      ∙ append_assoc (unit4 n) (bs ++ pad n) y in
+      let e1 : word x ++ c ≡ word n ++ ((bs ++ pad n) ++ y) = i.4 ∙ ap (λ (o : List ℕ). o ++ y) leaf.1
+      ∙ append_assoc (word n) (bs ++ pad n) y in
       let small : n < 2 ^ 32 = length_small s k n u l.1.1 in
       let same : n ≡ x = sym (from4-unit4 n ((bs ++ pad n) ++ y) small) ∙ ap from4 (sym e1) ∙ from4-unit4 x c less in
       let rest : c ≡ bs ++ (pad n ++ y) = sym (drop4-unit4 x c) ∙ ap (λ (b : List ℕ). drop 4 b) e1
       ∙ drop4-unit4 n ((bs ++ pad n) ++ y) ∙ append_assoc bs (pad n) y in
       let ended = leaf_into s (place + length (own k g)) d ts (parts k g) ds y i.2 leaf.2 i.6 in
-      let far : place + length (own k g) ≡ place + length (unit4 x) + (x + length (pad x)) =
+      let far : place + length (own k g) ≡ place + length (word x) + (x + length (pad x)) =
       omega (
         arith,
         unit4-length x,
         unit4-length n,
         ap length leaf.1,
-        length-append (unit4 n) (bs ++ pad n),
+        length-append (word n) (bs ++ pad n),
         length-append bs (pad n),
         same,
         ap (λ (m : ℕ). length (pad m)) same,
@@ -135,7 +134,7 @@ module _ (s : List KindView) (place d : ℕ) (t : Part) (ts : List Part) (ds : L
       )
 
   pub reads_length : Accepts s (kind_at s t.kind) x
-      → Reads s place (Frame d (t ∷ ts) ∷ ds) (unit4 x) (counted place d t x) (Rest x ∷ Frame d ts ∷ ds)
+      → Reads s place (Frame d (t ∷ ts) ∷ ds) (word x) (counted place d t x) (Rest x ∷ Frame d ts ∷ ds)
   reads_length a = record {
     into = λ c all r. let i = length_into (length_small s (kind_at s t.kind) x u a) c all r in (i.1, i.2, i.3);
     back = λ c ps r. length_back c ps r.0 r.1 r.2 r.3 r.4 r.5;
@@ -143,35 +142,35 @@ module _ (s : List KindView) (place d : ℕ) (t : Part) (ts : List Part) (ds : L
     where
       length_back : (c : List ℕ) (ps : List Entry) (bs y : List ℕ) → length bs ≡ x → AreBytes bs
           → c ≡ bs ++ (pad x ++ y)
-          → Completes s (place + length (unit4 x) + (x + length (pad x))) (Frame d ts ∷ ds) y ps
-          → Completes s place (Frame d (t ∷ ts) ∷ ds) (unit4 x ++ c) (counted place d t x ++ ps)
+          → Completes s (place + length (word x) + (x + length (pad x))) (Frame d ts ∷ ds) y ps
+          → Completes s place (Frame d (t ∷ ts) ∷ ds) (word x ++ c) (counted place d t x ++ ps)
       length_back c ps bs y len are e r =
           let k : KindView = kind_at s t.kind in
           let n : ℕ = length bs in
           let leaf = counted_legal s k place d t bs u (subst (λ (m : ℕ). Accepts s k m) (sym len) a) are in
-          let far : place + length (unit4 x) + (x + length (pad x)) ≡ place + length (unit4 n ++ (bs ++ pad n)) =
+          let far : place + length (word x) + (x + length (pad x)) ≡ place + length (word n ++ (bs ++ pad n)) =
           omega (
             arith,
             unit4-length x,
             unit4-length n,
-            length-append (unit4 n) (bs ++ pad n),
+            length-append (word n) (bs ++ pad n),
             length-append bs (pad n),
             len,
             ap (λ (m : ℕ). length (pad m)) len,
           ) in
-          let whole = leaf_back s place d t ts ds (value.bytes bs) (unit4 n ++ (bs ++ pad n)) (counted place d t n) y ps
+          let whole = leaf_back s place d t ts ds (value.bytes bs) (word n ++ (bs ++ pad n)) (counted place d t n) y ps
           leaf (subst (λ (m : ℕ). Completes s m (Frame d ts ∷ ds) y ps) far r) in
-          let spelled : (unit4 n ++ (bs ++ pad n)) ++ y ≡ unit4 x ++ c =
-          append_assoc (unit4 n) (bs ++ pad n) y ∙ ap (λ (b : List ℕ). unit4 n ++ b) (append_assoc bs (pad n) y)
-          ∙ ap (λ (m : ℕ). unit4 m ++ (bs ++ (pad m ++ y))) len ∙ ap (λ (b : List ℕ). unit4 x ++ b) (sym e) in
+          let spelled : (word n ++ (bs ++ pad n)) ++ y ≡ word x ++ c =
+          append_assoc (word n) (bs ++ pad n) y ∙ ap (λ (b : List ℕ). word n ++ b) (append_assoc bs (pad n) y)
+          ∙ ap (λ (m : ℕ). word m ++ (bs ++ (pad m ++ y))) len ∙ ap (λ (b : List ℕ). word x ++ b) (sym e) in
           subst (λ (b : List ℕ). Completes s place (Frame d (t ∷ ts) ∷ ds) b (counted place d t x ++ ps)) spelled
-          (subst (λ (m : ℕ). Completes s place (Frame d (t ∷ ts) ∷ ds) ((unit4 n ++ (bs ++ pad n)) ++ y)
+          (subst (λ (m : ℕ). Completes s place (Frame d (t ∷ ts) ∷ ds) ((word n ++ (bs ++ pad n)) ++ y)
           (counted place d t m ++ ps)) len whole)
 
 -- no other length begins what is owed
 pub refuses_length : (s : List KindView) (place d : ℕ) (t : Part) (ts : List Part) (ds : List Due) (x : ℕ) (c : List ℕ)
     (ps : List Entry) → IsLengthFirst (lead_of (kind_at s t.kind)) → x < 2 ^ 32
-    → Completes s place (Frame d (t ∷ ts) ∷ ds) (unit4 x ++ c) ps → Accepts s (kind_at s t.kind) x
+    → Completes s place (Frame d (t ∷ ts) ∷ ds) (word x ++ c) ps → Accepts s (kind_at s t.kind) x
 refuses_length s place d t ts ds x c ps u less r = (length_into s place d t ts ds x u less c ps r).0
 
 -- ---- free bytes
@@ -180,7 +179,7 @@ abbrev pub free_parts : (place d : ℕ) (t : Part) → KindView → List Entry
 free_parts place d t (xdr.opaque size) = content place d t size
 free_parts place d t _ = entry place 8 d t of_number ∷ []
 
-pub bytes8 : (n : ℕ) → AreBytes (unit8 n)
+pub bytes8 : (n : ℕ) → AreBytes (long_word n)
 bytes8 n = (
   omega arith,
   (
@@ -192,13 +191,8 @@ bytes8 n = (
   ),
 )
 
-get_byte : (bs : List ℕ) → AreBytes bs → (i : ℕ) → get_or bs i 0 < 256
-get_byte [] a i = omega arith
-get_byte (b ∷ bs) a zero = a.0
-get_byte (b ∷ bs) a (suc i) = get_byte bs a.1 i
-
-pub unit4_back : (u : List ℕ) → length u ≡ 4 → AreBytes u → unit4 (from_be_bytes w32 u) ≡ u
-unit4_back u len are = be_bytes_4 u (from_be_bytes w32 u) len (get_byte u are) refl
+pub unit4_back : (u : List ℕ) → length u ≡ 4 → AreBytes u → word (from_be_bytes w32 u) ≡ u
+unit4_back u len are = be_bytes_4 u (from_be_bytes w32 u) len (byte_at u are) refl
 
 pub unit4_less : (u : List ℕ) → length u ≡ 4 → AreBytes u → from_be_bytes w32 u < 2 ^ 32
 unit4_less (a ∷ b ∷ c ∷ d ∷ []) len are = omega arith
@@ -208,8 +202,8 @@ unit4_less (a ∷ b ∷ []) len are = absurd (omega arith)
 unit4_less (a ∷ b ∷ c ∷ []) len are = absurd (omega arith)
 unit4_less (a ∷ b ∷ c ∷ d ∷ e ∷ u) len are = absurd (omega arith)
 
-pub unit8_back : (u : List ℕ) → length u ≡ 8 → AreBytes u → unit8 (from_be_bytes w64 u) ≡ u
-unit8_back u len are = be_bytes_8 u (from_be_bytes w64 u) len (get_byte u are) refl
+pub unit8_back : (u : List ℕ) → length u ≡ 8 → AreBytes u → long_word (from_be_bytes w64 u) ≡ u
+unit8_back u len are = be_bytes_8 u (from_be_bytes w64 u) len (byte_at u are) refl
 
 pub unit8_less : (u : List ℕ) → length u ≡ 8 → AreBytes u → from_be_bytes w64 u < 2 ^ 64
 unit8_less (a ∷ b ∷ c ∷ d ∷ e ∷ f ∷ g ∷ h ∷ []) len are = omega arith
@@ -245,15 +239,15 @@ free_is : (s : List KindView) (k : KindView) (g : Head) (place d : ℕ) (t : Par
     → IsLegal s k g
     → (bs : List ℕ) × IsFreeBy s k g place d t bs
 free_is s xdr.hyper (value.hyper z) place d t u l = (
-  unit8 (units_of z),
+  long_word (units_of z),
   (
     unit8-length (units_of z),
     bytes8 (units_of z),
-    (l, sym (append-nil (unit8 (units_of z))), refl, refl),
+    (l, sym (append-nil (long_word (units_of z))), refl, refl),
   ),
 )
 free_is s xdr.unsigned_hyper (value.unsigned_hyper n) place d t u l =
-    (unit8 n, (unit8-length n, bytes8 n, (l, sym (append-nil (unit8 n)), refl, refl)))
+    (long_word n, (unit8-length n, bytes8 n, (l, sym (append-nil (long_word n)), refl, refl)))
 free_is s (xdr.opaque size) (value.bytes bs) place d t u l =
     (bs, (l.0, l.1, (l, ap (λ (n : ℕ). bs ++ pad n) l.0, refl, ap (λ (n : ℕ). content place d t n) l.0)))
 free_is s xdr.hyper _ place d t u l = absurd l
@@ -267,7 +261,7 @@ free_legal : (s : List KindView) (k : KindView) (place d : ℕ) (t : Part) (bs :
 free_legal s xdr.hyper place d t bs u len are =
     let b = signed8_unit (from_be_bytes w64 bs) (unit8_less bs len are) in (
       value.hyper (signed8 (from_be_bytes w64 bs)),
-      (b.0, ap unit8 b.1 ∙ unit8_back bs len are ∙ sym (append-nil bs), refl, refl),
+      (b.0, ap long_word b.1 ∙ unit8_back bs len are ∙ sym (append-nil bs), refl, refl),
     )
 free_legal s xdr.unsigned_hyper place d t bs u len are = (
   value.unsigned_hyper (from_be_bytes w64 bs),
@@ -320,15 +314,6 @@ reads_free s place d t ts ds u = record {
 
 -- ---- four bytes of content that aren't the last
 
-pub bytes_front : (u v : List ℕ) → AreBytes u → AreBytes v → AreBytes (u ++ v)
-bytes_front [] v a b = b
-bytes_front (x ∷ u) v a b = (a.0, bytes_front u v a.1 b)
-
-bytes_rest : (n : ℕ) (v : List ℕ) → AreBytes v → AreBytes (drop n v)
-bytes_rest zero v a = a
-bytes_rest (suc n) [] a = tt
-bytes_rest (suc n) (x ∷ v) a = bytes_rest n v a.1
-
 pad_less : (n : ℕ) → 4 ≤ n → pad (n - 4) ≡ pad n
 pad_less n h = let same : (n - 4) % 4 ≡ n % 4 = omega arith in ap (λ (m : ℕ). replicate ((4 - m) % 4) 0) same
 
@@ -350,7 +335,7 @@ reads_rest s place n ds u long len are = record {
           drop 4 bs,
           r.1,
           omega (arith, length-drop 4 bs, r.2),
-          bytes_rest 4 bs r.3,
+          AreBytes-drop 4 bs r.3,
           after ∙ ap (λ (p : List ℕ). drop 4 bs ++ (p ++ r.1)) (sym (pad_less n long)),
           subst (λ (m : ℕ). Completes s m ds r.1 all) far r.5,
         ),
@@ -362,7 +347,7 @@ reads_rest s place n ds u long len are = record {
         u ++ bs,
         r.1,
         omega (arith, length-append u bs, r.2, len),
-        bytes_front u bs are r.3,
+        AreBytes-append u bs are r.3,
         ap (λ (b : List ℕ). u ++ b) (r.4 ∙ ap (λ (p : List ℕ). bs ++ (p ++ r.1)) (pad_less n long))
             ∙ sym (append_assoc u bs (pad n ++ r.1)),
         subst (λ (m : ℕ). Completes s m ds r.1 ps) far r.5,

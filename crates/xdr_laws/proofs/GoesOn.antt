@@ -12,13 +12,13 @@ use Rattle.xdr_types.specs.Kinds as xdr
 use Rattle.xdr_types.specs.Kinds.{KindView, Part, Constant, kind_at}
 use Rattle.xdr_types.specs.Tree as value
 use Rattle.xdr_types.specs.Tree.{Head, Values, Tree, from_list}
-use Rattle.xdr_units.specs.Numbers.{pad}
+use Rattle.xdr_units.specs.Numbers.{pad, AreBytes, word}
 use Rattle.xdr_types.specs.Fits.{fits, fit, item_part}
 use Rattle.xdr_types.specs.Spelling.{spelling}
 use Rattle.xdr_types.specs.Layout.{Entry, layout, entries, Role, of_number, of_flag, of_length, of_content, of_group}
 use Rattle.xdr_types.specs.Front.{Front}
 use Rattle.xdr_types.specs.Outcome.{HasNextUnit, Admits, AdmitsNumber}
-use Rattle.xdr_laws.specs.Owed.{AreBytes, Due, Frame, Rest, Completes, Reads, lead_of, IsFreeBytes, HasUnit, Accepts}
+use Rattle.xdr_laws.specs.Owed.{Due, Frame, Rest, Completes, Reads, lead_of, IsFreeBytes, HasUnit, Accepts}
 use Rattle.xdr_laws.specs.Owed.{role_of, EndsAt, IsOnTrack, Reaches, AreOfList}
 use Rattle.xdr_types.specs.Laws.{EachKindHasAValue, EachPartIsKnown}
 use Rattle.xdr_laws.proofs.Owed.{begin_into}
@@ -26,7 +26,6 @@ use Rattle.xdr_laws.proofs.Legal.{IsLegal, FitAll, fit_node, and, bytes_are}
 use Rattle.std.proofs.lemmas.Bool.{false≢true}
 use Rattle.xdr_laws.specs.Held.{first}
 use Rattle.xdr_laws.specs.Laws.{IsUnfinished, GoesOn}
-use Rattle.xdr_laws.proofs.Numbers.{unit4}
 use Rattle.xdr_laws.proofs.Content.{unit4_back, unit4_less, refuses_padding}
 use Rattle.xdr_laws.proofs.Reach.{step_unit, step_rest, accepted, Steps}
 use Rattle.xdr_laws.proofs.SameParts.{parts_units}
@@ -208,7 +207,7 @@ module _ (s : List KindView) (has : EachKindHasAValue s) (known : EachPartIsKnow
       let owed : List Due = Frame d (t' ∷ ts) ∷ ds in
       let e : Entry = first (length q) d t' k in
       let x : ℕ = from_be_bytes w32 u in
-      let is : unit4 x ≡ u = unit4_back u len are in
+      let is : word x ≡ u = unit4_back u len are in
       let less : x < 2 ^ 32 = unit4_less u len are in
       let i = (known_at s t q begun owed r).all front.0 front.1.1 front.1.0 front.1.2 in
       let inside : Contains (entries s t front.0) e =

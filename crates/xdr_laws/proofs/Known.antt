@@ -6,30 +6,31 @@ use Rattle.std.specs.Prelude.{Contains}
 use Rattle.std.proofs.lemmas.List.{length-append, length-replicate}
 use Rattle.std.proofs.lemmas.List.Elements.{All-contains, All-from_recursion, Contains-append_cases}
 use Rattle.std.proofs.lemmas.List.Elements.{Contains-append_left}
+use Rattle.xdr_units.proofs.Bytes.{AreBytes-append}
 use Rattle.xdr_types.specs.Kinds as xdr
 use Rattle.xdr_types.specs.Kinds.{KindView, Part, Constant, kind_at}
 use Rattle.xdr_types.specs.Tree as value
 use Rattle.xdr_types.specs.Tree.{Head, Values, Tree, from_list}
-use Rattle.xdr_units.specs.Numbers.{pad, padded}
+use Rattle.xdr_units.specs.Numbers.{pad, padded, AreBytes, word}
 use Rattle.xdr_types.specs.Fits.{Fits, fits, parts, item_part}
 use Rattle.xdr_types.specs.Spelling.{own, spelling, bytes_of}
 use Rattle.xdr_types.specs.Layout.{Entry, layout, entries, shown, content}
 use Rattle.xdr_types.specs.Front.{Front}
 use Rattle.xdr_types.specs.Outcome.{HasNextUnit}
-use Rattle.xdr_laws.specs.Owed.{AreBytes, Due, Frame, Rest, Completes, Reads, lead_of, HasUnit, IsSettled, Reaches}
+use Rattle.xdr_laws.specs.Owed.{Due, Frame, Rest, Completes, Reads, lead_of, HasUnit, IsSettled, Reaches}
 use Rattle.xdr_laws.proofs.Legal.{IsLegal, FitAll, fit_node, both, and}
 use Rattle.std.proofs.lemmas.Bool.{false≢true}
 use Rattle.xdr_laws.specs.Parts.{Join, up_to, AllFrom, AreKnown}
 use Rattle.xdr_laws.specs.Held.{first, begins_here}
-use Rattle.xdr_laws.proofs.Numbers.{unit4, unit_of, units_of, unit4-length, unit8-length}
+use Rattle.xdr_laws.proofs.Numbers.{unit_of, units_of, unit4-length, unit8-length}
 use Rattle.xdr_laws.proofs.Owed.{begin_into}
-use Rattle.xdr_laws.proofs.Content.{bytes8, bytes_front}
+use Rattle.xdr_laws.proofs.Content.{bytes8}
 use Rattle.xdr_laws.proofs.Parts.{all_append, parts_join, from_less, completes_from, one_holder}
 use Rattle.xdr_laws.proofs.Reach.{reach}
 
 -- ---- a spelling is whole units of bytes
 
-pub bytes4 : (n : ℕ) → AreBytes (unit4 n)
+pub bytes4 : (n : ℕ) → AreBytes (word n)
 bytes4 n = (omega arith, (omega arith, (omega arith, (omega arith, tt))))
 
 zero_bytes : (n : ℕ) → AreBytes (replicate n 0)
@@ -43,11 +44,11 @@ content_bytes s (xdr.text max) bs l = l.2
 content_bytes s _ bs l = absurd l
 
 padded_bytes : (bs : List ℕ) → AreBytes bs → AreBytes (padded bs)
-padded_bytes bs a = bytes_front bs (pad (length bs)) a (zero_bytes ((4 - length bs % 4) % 4))
+padded_bytes bs a = AreBytes-append bs (pad (length bs)) a (zero_bytes ((4 - length bs % 4) % 4))
 
 own_content : (k : KindView) (bs : List ℕ) → AreBytes bs → AreBytes (own k (value.bytes bs))
 own_content (xdr.opaque size) bs a = padded_bytes bs a
-own_content _ bs a = bytes_front (unit4 (length bs)) (padded bs) (bytes4 (length bs)) (padded_bytes bs a)
+own_content _ bs a = AreBytes-append (word (length bs)) (padded bs) (bytes4 (length bs)) (padded_bytes bs a)
 
 own_items : (k : KindView) (n : ℕ) → AreBytes (own k (value.items n))
 own_items (xdr.fixed item size) n = tt
@@ -75,8 +76,8 @@ spelling_bytes s (t ∷ ts) value.none f = absurd (false≢true f)
 spelling_bytes s (t ∷ ts) (value.node h ps rest) fits =
     let k : KindView = kind_at s t.kind in
     let f = fit_node s t ts h ps rest fits in
-    bytes_front (own k h ++ spelling s (parts k h) ps) (spelling s ts rest)
-    (bytes_front (own k h) (spelling s (parts k h) ps) (own_bytes s k h f.0) (spelling_bytes s (parts k h) ps f.1))
+    AreBytes-append (own k h ++ spelling s (parts k h) ps) (spelling s ts rest)
+    (AreBytes-append (own k h) (spelling s (parts k h) ps) (own_bytes s k h f.0) (spelling_bytes s (parts k h) ps f.1))
     (spelling_bytes s ts rest f.2)
 
 -- a value as the only one of a list
@@ -104,7 +105,7 @@ content_units _ bs = omega (
   arith,
   unit4-length (length bs),
   pad_units (length bs),
-  length-append (unit4 (length bs))
+  length-append (word (length bs))
       (bs ++ pad (length bs)),
   length-append bs (pad (length bs)),
 )
@@ -179,14 +180,14 @@ shows_first s place d t (xdr.opaque_up_to max) (value.bytes bs) u l = (
   refl,
   (omega arith, tt),
   omega
-      (arith, unit4-length (length bs), length-append (unit4 (length bs)) (bs ++ pad (length bs))),
+      (arith, unit4-length (length bs), length-append (word (length bs)) (bs ++ pad (length bs))),
 )
 shows_first s place d t (xdr.text max) (value.bytes bs) u l = (
   content (place + 4) d t (length bs),
   refl,
   (omega arith, tt),
   omega
-      (arith, unit4-length (length bs), length-append (unit4 (length bs)) (bs ++ pad (length bs))),
+      (arith, unit4-length (length bs), length-append (word (length bs)) (bs ++ pad (length bs))),
 )
 shows_first s place d t (xdr.up_to item max) (value.items n) u l = ([], refl, tt, omega (arith, unit4-length n))
 shows_first s place d t (xdr.choice tag arms other) (value.tag z) u l =

@@ -9,7 +9,7 @@ use Rattle.xdr_types.specs.Kinds as xdr
 use Rattle.xdr_types.specs.Kinds.{KindView, Part, Constant, kind_at}
 use Rattle.xdr_types.specs.Tree as value
 use Rattle.xdr_types.specs.Tree.{Head, Values, Tree, from_list}
-use Rattle.xdr_units.specs.Numbers.{pad}
+use Rattle.xdr_units.specs.Numbers.{pad, word}
 use Rattle.xdr_types.specs.Fits.{Fits, fits, fit, parts, item_part, part_of}
 use Rattle.xdr_types.specs.Spelling.{own, spelling}
 use Rattle.xdr_types.specs.Layout.{Entry, entry, layout, entries, shown, content, of_length}
@@ -25,11 +25,12 @@ use Rattle.xdr_types.specs.declared.fault.Flaw.{Flaw}
 use Rattle.xdr_types.specs.declared.fault.Flaw.TheVariants as flaw
 use Rattle.xdr_types.proofs.Inhabited.{or-false}
 use Rattle.xdr_types.proofs.Known.{all_known}
+use Rattle.xdr_laws.specs.Owed.{IsSolid}
 use Rattle.xdr_laws.proofs.Legal.{IsLegal, FitAll, fit_node, both, legal_is}
 use Rattle.std.proofs.lemmas.Bool.{false≢true}
 use Rattle.xdr_laws.specs.Parts.{Join, up_to, AllFrom, is_opaque, is_first, one_if, nodes_at, nodes}
 use Rattle.xdr_laws.specs.Laws.{FewAtOnePlace, HeldBounds}
-use Rattle.xdr_laws.proofs.Numbers.{unit4, unit_of, units_of, unit4-length, unit8-length}
+use Rattle.xdr_laws.proofs.Numbers.{unit_of, units_of, unit4-length, unit8-length}
 use Rattle.xdr_laws.proofs.Parts.{parts_join, join_from}
 use Rattle.xdr_laws.proofs.Known.{root_fits}
 use Rattle.xdr_laws.proofs.GoesOn.{legal_known}
@@ -40,10 +41,6 @@ use Rattle.xdr_types.proofs.Inhabited.{if-none}
 
 -- ---- what a well formed schema has: nothing void stands as a field or an item, nothing fixed is of size 0, and a
 -- structure has fields
-
-abbrev pub IsSolid : KindView → Type 0
-IsSolid xdr.nothing = ⊥
-IsSolid _ = ⊤
 
 abbrev pub AreMembers : List KindView → List Part → Type 0
 AreMembers s ts = AllByRecursion (λ (t : Part). IsSolid (kind_at s t.kind)) ts
@@ -211,9 +208,9 @@ long_or_open s xdr.boolean (value.boolean false) w m l = inl (omega (arith, unit
 long_or_open s (xdr.numbered constants) (value.numbered z) w m l = inl (omega (arith, unit4-length (unit_of z)))
 long_or_open s (xdr.opaque size) (value.bytes bs) w m l = inl (omega (arith, l.0, length-append bs (pad (length bs))))
 long_or_open s (xdr.opaque_up_to max) (value.bytes bs) w m l = inl
-    (omega (arith, unit4-length (length bs), length-append (unit4 (length bs)) (bs ++ pad (length bs))))
+    (omega (arith, unit4-length (length bs), length-append (word (length bs)) (bs ++ pad (length bs))))
 long_or_open s (xdr.text max) (value.bytes bs) w m l = inl
-    (omega (arith, unit4-length (length bs), length-append (unit4 (length bs)) (bs ++ pad (length bs))))
+    (omega (arith, unit4-length (length bs), length-append (word (length bs)) (bs ++ pad (length bs))))
 long_or_open s (xdr.fixed item size) (value.items n) w m l = inr
     (refl, (members_copies s n (item_part item) w.1, omega (arith, length-replicate n (item_part item), w.0, l)))
 long_or_open s (xdr.up_to item max) (value.items n) w m l = inl (omega (arith, unit4-length n))

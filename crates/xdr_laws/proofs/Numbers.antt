@@ -3,20 +3,15 @@ use Rattle.std.proofs.Common.{◌≡◌, ℕ, ◌-◌, ◌^◌, ◌<◌, ◌≤�
 use Rattle.std.proofs.Common.{take, drop, refl, ap, ◌∙◌, arith}
 use Rattle.std.specs.Int.{w32, w64, to_be_bytes, from_be_bytes, cast_unsigned}
 use Rattle.std.proofs.lemmas.Nat.{from_be_bytes-to_be_bytes_4, from_be_bytes-to_be_bytes_8}
+use Rattle.std.proofs.lemmas.Bool.{leb-true}
 use Rattle.xdr_types.specs.Kinds as xdr
 use Rattle.xdr_types.specs.Kinds.{KindView, Constant}
 use Rattle.xdr_types.specs.Fits.{is_tag_of}
 use Rattle.xdr_types.specs.Outcome.{signed, number_in}
 use Rattle.std.proofs.lemmas.Bool.{false≢true}
-use Rattle.xdr_laws.proofs.Legal.{IsSigned, signed_is, numbered_signed, most_is}
+use Rattle.xdr_units.specs.Numbers.{word, long_word}
+use Rattle.xdr_laws.proofs.Legal.{IsSigned, signed_is, numbered_signed}
 use Rattle.xdr_laws.proofs.Legal.{is_lt as nat_lt-true}
-
--- the four bytes of a unit, the eight of two
-abbrev pub unit4 : ℕ → List ℕ
-unit4 n = to_be_bytes w32 n
-
-abbrev pub unit8 : ℕ → List ℕ
-unit8 n = to_be_bytes w64 n
 
 abbrev pub unit_of : ℤ → ℕ
 unit_of z = cast_unsigned w32 z
@@ -31,22 +26,22 @@ from4 b = from_be_bytes w32 (take 4 b)
 abbrev pub from8 : List ℕ → ℕ
 from8 b = from_be_bytes w64 (take 8 b)
 
-pub unit4-length : (n : ℕ) → length (unit4 n) ≡ 4
+pub unit4-length : (n : ℕ) → length (word n) ≡ 4
 unit4-length n = refl
 
-pub unit8-length : (n : ℕ) → length (unit8 n) ≡ 8
+pub unit8-length : (n : ℕ) → length (long_word n) ≡ 8
 unit8-length n = refl
 
-pub from4-unit4 : (n : ℕ) (x : List ℕ) → n < 2 ^ 32 → from4 (unit4 n ++ x) ≡ n
+pub from4-unit4 : (n : ℕ) (x : List ℕ) → n < 2 ^ 32 → from4 (word n ++ x) ≡ n
 from4-unit4 n x h = from_be_bytes-to_be_bytes_4 n h
 
-pub from8-unit8 : (n : ℕ) (x : List ℕ) → n < 2 ^ 64 → from8 (unit8 n ++ x) ≡ n
+pub from8-unit8 : (n : ℕ) (x : List ℕ) → n < 2 ^ 64 → from8 (long_word n ++ x) ≡ n
 from8-unit8 n x h = from_be_bytes-to_be_bytes_8 n h
 
-pub drop4-unit4 : (n : ℕ) (x : List ℕ) → drop 4 (unit4 n ++ x) ≡ x
+pub drop4-unit4 : (n : ℕ) (x : List ℕ) → drop 4 (word n ++ x) ≡ x
 drop4-unit4 n x = refl
 
-pub drop8-unit8 : (n : ℕ) (x : List ℕ) → drop 8 (unit8 n ++ x) ≡ x
+pub drop8-unit8 : (n : ℕ) (x : List ℕ) → drop 8 (long_word n ++ x) ≡ x
 drop8-unit8 n x = refl
 
 -- ---- signed numbers
@@ -86,8 +81,8 @@ signed8_back (negsuc n) h =
 
 pub number_back : (k : KindView) (z : ℤ) → is_tag_of k z ≡ true → (unit_of z < 2 ^ 32) × (number_in k (unit_of z) ≡ z)
 number_back xdr.int z h = signed_back z (signed_is 2147483648 z h)
-number_back xdr.unsigned (pos n) h = let low = most_is n 4294967295 h in (omega arith, refl)
-number_back xdr.boolean (pos n) h = let low = most_is n 1 h in (omega arith, refl)
+number_back xdr.unsigned (pos n) h = let low = leb-true n 4294967295 h in (omega arith, refl)
+number_back xdr.boolean (pos n) h = let low = leb-true n 1 h in (omega arith, refl)
 number_back (xdr.numbered constants) z h = signed_back z (numbered_signed constants z h)
 number_back xdr.unsigned (negsuc n) h = absurd (false≢true h)
 number_back xdr.boolean (negsuc n) h = absurd (false≢true h)

@@ -4,6 +4,8 @@ use Rattle.std.proofs.Common.{List, [], ◌∷◌, ◌++◌, length, refl, sym, 
 use Rattle.std.proofs.Common.{ltb-true}
 use Rattle.std.specs.Prelude.{is_some}
 use Rattle.std.proofs.lemmas.List.{length-append, append_cancel_left}
+use Rattle.std.proofs.Math.Nat.{add-zero}
+use Rattle.xdr_units.specs.Numbers.{word}
 use Rattle.xdr_types.specs.Kinds as xdr
 use Rattle.xdr_types.specs.Kinds.{KindView, Part, Constant, kind_at}
 use Rattle.xdr_types.specs.Tree as value
@@ -16,7 +18,7 @@ use Rattle.xdr_laws.specs.Owed.{Due, Frame, Completes, Reads, lead_of, IsUnitFir
 use Rattle.xdr_laws.specs.Owed.{flag, truth, head_of}
 use Rattle.xdr_laws.proofs.Legal.{IsSigned, IsLegal, FitAll, fit_node, node_fits, numbered_signed}
 use Rattle.std.proofs.lemmas.Bool.{false≢true}
-use Rattle.xdr_laws.proofs.Numbers.{unit4, unit_of, from4, from4-unit4, signed_back, signed_low, signed_high}
+use Rattle.xdr_laws.proofs.Numbers.{unit_of, from4, from4-unit4, signed_back, signed_low, signed_high}
 use Rattle.xdr_laws.proofs.Numbers.{number_back}
 
 pub regroup : {A : Type 0} → (a b c x : List A) → (a ++ (b ++ c)) ++ x ≡ a ++ (b ++ (c ++ x))
@@ -100,13 +102,10 @@ begin_into s place d t ts ds c all r = begin_into_at s place d t ts ds r.0 r.1 r
 
 -- ---- reading, step after step
 
-nothing_more : (place : ℕ) → place + 0 ≡ place
-nothing_more place = omega arith
-
 pub reads_none : (s : List KindView) (place : ℕ) (ds : List Due) → Reads s place ds [] [] ds
 reads_none s place ds = record {
-  into = λ c all r. (all, refl, subst (λ (n : ℕ). Completes s n ds c all) (sym (nothing_more place)) r);
-  back = λ c ps r. subst (λ (n : ℕ). Completes s n ds c ps) (nothing_more place) r;
+  into = λ c all r. (all, refl, subst (λ (n : ℕ). Completes s n ds c all) (sym (add-zero place)) r);
+  back = λ c ps r. subst (λ (n : ℕ). Completes s n ds c ps) (add-zero place) r;
 }
 
 pub reads_then : (s : List KindView) (place : ℕ) (a b d : List Due) (q u : List ℕ) (ps qs : List Entry)
@@ -135,7 +134,7 @@ reads_then s place a b d q u ps qs first second =
 pub silent_then : (s : List KindView) (place : ℕ) (a b d : List Due) (u : List ℕ) (ps qs : List Entry)
     → Reads s place a [] ps b → Reads s place b u qs d → Reads s place a u (ps ++ qs) d
 silent_then s place a b d u ps qs first second =
-    reads_then s place a b d [] u ps qs first (subst (λ (n : ℕ). Reads s n b u qs d) (sym (nothing_more place)) second)
+    reads_then s place a b d [] u ps qs first (subst (λ (n : ℕ). Reads s n b u qs d) (sym (add-zero place)) second)
 
 -- a frame that owes nothing more ends
 pub reads_end : (s : List KindView) (place d : ℕ) (ds : List Due) → Reads s place (Frame d [] ∷ ds) [] [] ds
@@ -224,13 +223,13 @@ reads_silent s place d t ts ds u =
 
 -- ---- the first unit of a head
 
-only_unit : (n x : ℕ) (c y : List ℕ) → n < 2 ^ 32 → x < 2 ^ 32 → unit4 n ++ c ≡ unit4 x ++ y → n ≡ x
+only_unit : (n x : ℕ) (c y : List ℕ) → n < 2 ^ 32 → x < 2 ^ 32 → word n ++ c ≡ word x ++ y → n ≡ x
 only_unit n x c y small less e = sym (from4-unit4 n c small) ∙ ap from4 e ∙ from4-unit4 x y less
 
 -- a legal head whose bytes begin with the unit x is the head that x makes, and x is accepted
 pub head_is : (s : List KindView) (k : KindView) (g : Head) (x : ℕ) (c y : List ℕ) → IsUnitFirst (lead_of k)
     → x < 2 ^ 32
-    → IsLegal s k g → unit4 x ++ c ≡ own k g ++ y → Accepts s k x × (head_of s k x ≡ g)
+    → IsLegal s k g → word x ++ c ≡ own k g ++ y → Accepts s k x × (head_of s k x ≡ g)
 head_is s xdr.int (value.int z) x c y u less l e =
     let b = signed_back z l in
     let same : x ≡ unit_of z = only_unit x (unit_of z) c y less b.0 e in
@@ -301,18 +300,18 @@ number_unit (xdr.numbered constants) x h = (signed_unit x h).1
 number_unit _ x h = refl
 
 abbrev MakesHead : List KindView → KindView → ℕ → Type 0
-MakesHead s k x = IsLegal s k (head_of s k x) × (own k (head_of s k x) ≡ unit4 x) × (x < 2 ^ 32)
+MakesHead s k x = IsLegal s k (head_of s k x) × (own k (head_of s k x) ≡ word x) × (x < 2 ^ 32)
 
 -- what is accepted makes a legal head, whose bytes are the unit
 pub head_legal : (s : List KindView) (k : KindView) (x : ℕ) → IsUnitFirst (lead_of k) → Accepts s k x → MakesHead s k x
-head_legal s xdr.int x u a = let b = signed_unit x a in (b.0, ap unit4 b.1, a)
+head_legal s xdr.int x u a = let b = signed_unit x a in (b.0, ap word b.1, a)
 head_legal s xdr.unsigned x u a = (a, refl, a)
 head_legal s xdr.boolean zero u a = (tt, refl, lit< tt)
 head_legal s xdr.boolean (suc zero) u a = (tt, refl, lit< tt)
 head_legal s xdr.boolean (suc (suc x)) u a = absurd (omega arith)
-head_legal s (xdr.numbered constants) x u a = let b = signed_unit x a.0 in (a.1, ap unit4 b.1, a.0)
+head_legal s (xdr.numbered constants) x u a = let b = signed_unit x a.0 in (a.1, ap word b.1, a.0)
 head_legal s (xdr.up_to item max) x u a = (a, refl, a.1)
-head_legal s (xdr.choice tag arms other) x u a = ((a.1, a.2), ap unit4 (number_unit (kind_at s tag) x a.0), a.0)
+head_legal s (xdr.choice tag arms other) x u a = ((a.1, a.2), ap word (number_unit (kind_at s tag) x a.0), a.0)
 head_legal s (xdr.maybe item) zero u a = (tt, refl, lit< tt)
 head_legal s (xdr.maybe item) (suc zero) u a = (tt, refl, lit< tt)
 head_legal s (xdr.maybe item) (suc (suc x)) u a = absurd (omega arith)
@@ -322,7 +321,7 @@ head_legal s _ x u a = absurd u
 -- an accepted unit is read
 pub reads_unit : (s : List KindView) (place d : ℕ) (t : Part) (ts : List Part) (ds : List Due) (x : ℕ)
     → IsUnitFirst (lead_of (kind_at s t.kind)) → Accepts s (kind_at s t.kind) x
-    → Reads s place (Frame d (t ∷ ts) ∷ ds) (unit4 x)
+    → Reads s place (Frame d (t ∷ ts) ∷ ds) (word x)
     (shown place d t (kind_at s t.kind) (head_of s (kind_at s t.kind) x))
     (Frame (d + 1) (parts (kind_at s t.kind) (head_of s (kind_at s t.kind) x)) ∷ Frame d ts ∷ ds)
 reads_unit s place d t ts ds x u a =
@@ -337,7 +336,7 @@ reads_unit s place d t ts ds x u a =
 -- and no other unit begins what is owed
 pub refuses_unit : (s : List KindView) (place d : ℕ) (t : Part) (ts : List Part) (ds : List Due) (x : ℕ) (c : List ℕ)
     (ps : List Entry) → IsUnitFirst (lead_of (kind_at s t.kind)) → x < 2 ^ 32
-    → Completes s place (Frame d (t ∷ ts) ∷ ds) (unit4 x ++ c) ps → Accepts s (kind_at s t.kind) x
+    → Completes s place (Frame d (t ∷ ts) ∷ ds) (word x ++ c) ps → Accepts s (kind_at s t.kind) x
 refuses_unit s place d t ts ds x c ps u less r =
-    let b = begin_into s place d t ts ds (unit4 x ++ c) ps r in
+    let b = begin_into s place d t ts ds (word x ++ c) ps r in
     (head_is s (kind_at s t.kind) b.0 x c b.1 u less b.3 b.4).0

@@ -6,30 +6,28 @@ use Rattle.std.specs.Int.{w32, from_be_bytes}
 use Rattle.std.proofs.lemmas.List.{length-append, length-take, take-append-drop}
 use Rattle.std.proofs.lemmas.List.Elements.{Contains-append_right}
 use Rattle.std.proofs.lemmas.Bool.{cases_lt}
+use Rattle.std.proofs.Math.Nat.{add-zero}
 use Rattle.xdr_types.specs.Kinds as xdr
 use Rattle.xdr_types.specs.Kinds.{KindView, Part, Constant, kind_at}
 use Rattle.xdr_types.specs.Tree as value
 use Rattle.xdr_types.specs.Tree.{Head, Values, Tree, from_list}
-use Rattle.xdr_units.specs.Numbers.{pad}
+use Rattle.xdr_units.specs.Numbers.{pad, AreBytes, word}
 use Rattle.xdr_types.specs.Fits.{fits, parts}
 use Rattle.xdr_types.specs.Spelling.{spelling}
 use Rattle.xdr_types.specs.Layout.{Entry, entry, shown, shown_bytes, shown_items, of_number, of_content}
-use Rattle.xdr_laws.specs.Owed.{AreBytes, Due, Frame, Rest, Completes, Reads, Lead, UnitFirst, LengthFirst, FreeBytes}
+use Rattle.xdr_units.proofs.Bytes.{AreBytes-take}
+use Rattle.xdr_laws.specs.Owed.{Due, Frame, Rest, Completes, Reads, Lead, UnitFirst, LengthFirst, FreeBytes}
 use Rattle.xdr_laws.specs.Owed.{Silent, lead_of, IsUnitFirst, IsLengthFirst, IsFreeBytes, IsSilent, HasUnit, free_size}
 use Rattle.xdr_laws.specs.Owed.{silent_head, Accepts, head_of, IsSettled, AreFrames, EndsAt, IsOnTrack, AllUpTo}
 use Rattle.xdr_laws.specs.Owed.{Reaches, AreOfList}
 use Rattle.xdr_types.specs.Laws.{EachPartIsKnown}
 use Rattle.xdr_laws.proofs.Legal.{FitAll, fit_node}
 use Rattle.std.proofs.lemmas.Bool.{false≢true}
-use Rattle.xdr_laws.proofs.Numbers.{unit4}
 use Rattle.xdr_laws.proofs.Owed.{reads_none, reads_end, reads_then, silent_then, reads_silent, silent_only, reads_unit}
 use Rattle.xdr_laws.proofs.Owed.{refuses_unit}
 use Rattle.xdr_laws.proofs.Parts.{all_append}
 use Rattle.xdr_laws.proofs.Content.{counted, free_parts, reads_length, refuses_length, reads_free, reads_rest}
 use Rattle.xdr_laws.proofs.Content.{reads_last, reads_over, refuses_padding, unit4_back, unit4_less}
-
-nothing_more : (place : ℕ) → place + 0 ≡ place
-nothing_more place = omega arith
 
 lead_case : (l : Lead) → HasUnit l ⊎ IsFreeBytes l ⊎ IsSilent l
 lead_case UnitFirst = inl tt
@@ -228,7 +226,7 @@ settles_then s place before a b begun first low e = (
     settled = e.2.settled;
     track = subst (λ (l : List Entry). IsOnTrack s l (place + 0) e.1) (append_assoc before begun e.0) e.2.track;
     low = all_append (λ (x : Entry). x.at ≤ place + 0) begun e.0
-        (subst (λ (m : ℕ). AllUpTo m begun) (sym (nothing_more place)) low) e.2.low;
+        (subst (λ (m : ℕ). AllUpTo m begun) (sym (add-zero place)) low) e.2.low;
   },
 )
 
@@ -251,9 +249,9 @@ settle s place before (Frame d ts ∷ ds) p c ps a r =
           reads = e.2;
           settled = n.0;
           track = subst
-              (λ (m : ℕ). IsOnTrack s (before ++ e.0) m e.1) (sym (nothing_more place)) n.1;
+              (λ (m : ℕ). IsOnTrack s (before ++ e.0) m e.1) (sym (add-zero place)) n.1;
           low = subst
-              (λ (m : ℕ). AllUpTo m e.0) (sym (nothing_more place)) e.4;
+              (λ (m : ℕ). AllUpTo m e.0) (sym (add-zero place)) e.4;
         },
       )
       | inr same ↦
@@ -273,7 +271,7 @@ settle s place before (Rest (suc n) ∷ ds) p c ps a r = (
     reads = reads_none s place (Rest (suc n) ∷ ds);
     settled = omega arith;
     track = subst (λ (l : List Entry). IsOnTrack s l (place + 0) (Rest (suc n) ∷ ds)) (sym (append-nil before))
-        (subst (λ (m : ℕ). IsOnTrack s before m (Rest (suc n) ∷ ds)) (sym (nothing_more place)) a);
+        (subst (λ (m : ℕ). IsOnTrack s before m (Rest (suc n) ∷ ds)) (sym (add-zero place)) a);
     low = tt;
   },
 )
@@ -290,7 +288,7 @@ pub step_unit : (s : List KindView) (place : ℕ) (before : List Entry) (d : ℕ
     (ds : List Due)
     (x : ℕ) → (d ≡ length ds + 1) × AreFrames ds
     → HasUnit (lead_of (kind_at s t.kind)) → Accepts s (kind_at s t.kind) x
-    → Steps s place before (Frame d (t ∷ ts) ∷ ds) (unit4 x)
+    → Steps s place before (Frame d (t ∷ ts) ∷ ds) (word x)
 step_unit s place before d t ts ds x a u accepts =
     elim (unit_case (lead_of (kind_at s t.kind)) u) [
       | inl first ↦
@@ -326,7 +324,7 @@ step_unit s place before d t ts ds x a u accepts =
 
 pub accepted : (s : List KindView) (place d : ℕ) (t : Part) (ts : List Part) (ds : List Due) (x : ℕ) (c : List ℕ)
     (ps : List Entry) → HasUnit (lead_of (kind_at s t.kind)) → x < 2 ^ 32
-    → Completes s place (Frame d (t ∷ ts) ∷ ds) (unit4 x ++ c) ps → Accepts s (kind_at s t.kind) x
+    → Completes s place (Frame d (t ∷ ts) ∷ ds) (word x ++ c) ps → Accepts s (kind_at s t.kind) x
 accepted s place d t ts ds x c ps u less r = elim (unit_case (lead_of (kind_at s t.kind)) u) [
   | inl first ↦ refuses_unit s place d t ts ds x c ps first less r
   | inr first ↦ refuses_length s place d t ts ds x c ps first less r
@@ -345,11 +343,6 @@ still_ends s place n before h e =
           (λ (m : ℕ). EndsAt s m e.0 e.0.role) same e.3,
     )
 
-pub bytes_take : (n : ℕ) (v : List ℕ) → AreBytes v → AreBytes (take n v)
-bytes_take zero v a = tt
-bytes_take (suc n) [] a = tt
-bytes_take (suc n) (x ∷ v) a = (a.0, bytes_take n v a.1)
-
 pub step_rest : (s : List KindView) (place : ℕ) (before : List Entry) (n : ℕ) (ds : List Due) (u : List ℕ) → 0 < n
     → IsOnTrack s before place (Rest n ∷ ds)
     → length u ≡ 4 → AreBytes u → (n < 4 → drop n u ≡ pad n) → Steps s place before (Rest n ∷ ds) u
@@ -357,7 +350,7 @@ unfolding still_ends
 step_rest s place before n ds u some a len are zeros = elim (cases_lt n 4) [
   | inl few ↦
       (let same : take n u ++ pad n ≡ u = ap (λ (z : List ℕ). take n u ++ z) (sym (zeros few)) ∙ take-append-drop n u in
-      let read = reads_last s place n ds (take n u) (omega (arith, length-take n u)) (bytes_take n u are) in (
+      let read = reads_last s place n ds (take n u) (omega (arith, length-take n u)) (AreBytes-take n u are) in (
         [],
         ds,
         subst (λ (q : List ℕ). Reads s place (Rest n ∷ ds) q [] ds) same read,
@@ -384,7 +377,7 @@ step s place before [] u c ps n a len are r = absurd (omega (arith, ap length r.
 step s place before (Frame d [] ∷ ds) u c ps n a len are r = absurd n
 step s place before (Frame d (t ∷ ts) ∷ ds) u c ps n a len are r =
     let x : ℕ = from_be_bytes w32 u in
-    let is : unit4 x ≡ u = unit4_back u len are in
+    let is : word x ≡ u = unit4_back u len are in
     let accepts = accepted s place d t ts ds x c ps n (unit4_less u len are)
     (subst (λ (b : List ℕ). Completes s place (Frame d (t ∷ ts) ∷ ds) (b ++ c) ps) (sym is) r) in
     subst (λ (b : List ℕ). Steps s place before (Frame d (t ∷ ts) ∷ ds) b) is
@@ -407,9 +400,9 @@ reach s (x ∷ y ∷ z ∷ w ∷ q) place before ds c ps a are units r =
     let one = settle s place before ds place (u ++ (q ++ c)) ps a r in
     let r1 = one.2.reads.into (u ++ (q ++ c)) ps r in
     let at1 : Completes s place one.1 (u ++ (q ++ c)) r1.0 = subst (λ (m : ℕ). Completes s m one.1 (u ++ (q ++ c)) r1.0)
-    (nothing_more place) r1.2 in
+    (add-zero place) r1.2 in
     let track1 : IsOnTrack s (before ++ one.0) place one.1 = subst (λ (m : ℕ). IsOnTrack s (before ++ one.0) m one.1)
-    (nothing_more place) one.2.track in
+    (add-zero place) one.2.track in
     let two = step s place (before ++ one.0) one.1 u (q ++ c) r1.0 one.2.settled track1 refl
     (are.0, (are.1.0, (are.1.1.0, (are.1.1.1.0, tt)))) at1 in
     let r2 = two.2.into (q ++ c) r1.0 at1 in

@@ -6,6 +6,7 @@ use Rattle.std.specs.Prelude.{Option, Some, None, is_some, ◌⊎◌, ⊤}
 use Rattle.std.proofs.Math.Bool.{and-true}
 use Rattle.std.proofs.lemmas.Bool.{false≢true}
 use Rattle.std.proofs.lemmas.List.{length-append, length-replicate}
+use Rattle.xdr_units.proofs.Bytes.{AreBytes-append}
 use Rattle.xdr_types.specs.Kinds as xdr
 use Rattle.xdr_types.specs.Kinds.{KindView, Part, kind_at}
 use Rattle.xdr_types.specs.Tree as value
@@ -14,7 +15,6 @@ use Rattle.xdr_units.specs.Numbers.{pad}
 use Rattle.xdr_types.specs.Fits.{Fits, fit, fits, is_legal, parts, item_part, are_bytes, optional_part, part_of}
 use Rattle.xdr_types.specs.Spelling.{own, spelling, bytes_of}
 use Rattle.xdr_laws.proofs.Legal.{both, and, IsLegal, legal_is, bytes_are, are_bytes_of}
-use Rattle.xdr_laws.proofs.Content.{bytes_front}
 use Rattle.xdr_stream.specs.Trace.{Level, level, added, add, IsOpen, close_levels, IsFilled, CanCloseLevels}
 use Rattle.xdr_stream.specs.Sees.{Opens, Built, BuiltInto, Makes}
 use Rattle.xdr_types.proofs.Grown.{and-assoc}
@@ -299,7 +299,7 @@ into_more s t (l ∷ ls) (left ∷ fs) content u make n m q units are e b =
       ap (λ (x : List ℕ). x ++ u) b.7 ∙ append_assoc o (b.3 ++ content) u
           ∙ ap (λ (x : List ℕ). o ++ x) (append_assoc b.3 content u),
       omega (arith, length-append content u, b.8),
-      are_bytes_of (content ++ u) (bytes_front content u (bytes_are content b.9) (bytes_are u are)),
+      are_bytes_of (content ++ u) (AreBytes-append content u (bytes_are content b.9) (bytes_are u are)),
     )
 
 -- its last bytes and the zeros after them

@@ -11,13 +11,13 @@ use Rattle.xdr_types.specs.Spelling.{own, spelling, bytes_of}
 use Rattle.xdr_types.specs.Within.{Bounds}
 use Rattle.xdr_types.specs.Laws.{EachKindHasAValue, EachPartIsKnown}
 use Rattle.xdr_types.specs.Outcome.{Outcome, Pending, Whole, TooDeep}
-use Rattle.xdr_laws.specs.Owed.{lead_of, HasUnit, IsSilent, IsFreeBytes, free_size, silent_head}
+use Rattle.xdr_laws.specs.Owed.{lead_of, HasUnit, IsSilent, IsFreeBytes, free_size, silent_head, IsSolid}
 use Rattle.xdr_laws.proofs.Events.{outcome_pending}
 use Rattle.xdr_laws.proofs.Nodes.{IsFormedKind}
 use Rattle.xdr_laws.proofs.Nodes as nodes
 use Rattle.xdr_stream.specs.Frames.{dues, Begins, rest_of}
 use Rattle.xdr_stream.specs.Sees.{Reading}
-use Rattle.xdr_stream.specs.First.{IsDue, IsSolid}
+use Rattle.xdr_stream.specs.First.{IsDue}
 use Rattle.xdr_stream.proofs.Reading.{reading_start, reading_silent, reading_close, reading_free, still_due, still_rest}
 use Rattle.xdr_stream.proofs.Reading.{ends_deep, ends_whole}
 

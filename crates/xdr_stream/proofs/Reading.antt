@@ -11,7 +11,7 @@ use Rattle.xdr_types.specs.Kinds as xdr
 use Rattle.xdr_types.specs.Kinds.{KindView, Part, kind_at}
 use Rattle.xdr_types.specs.Tree as value
 use Rattle.xdr_types.specs.Tree.{Head, Values, Tree, from_list}
-use Rattle.xdr_units.specs.Numbers.{pad}
+use Rattle.xdr_units.specs.Numbers.{pad, word}
 use Rattle.xdr_types.specs.Fits.{Fits, parts, item_part, are_bytes}
 use Rattle.xdr_types.specs.Spelling.{bytes_of}
 use Rattle.xdr_types.specs.Within.{Bounds}
@@ -27,12 +27,13 @@ use Rattle.xdr_laws.specs.Owed.{AreFrames, EndsAt, IsOnTrack, AllUpTo, Reaches}
 use Rattle.xdr_laws.specs.Held.{first}
 use Rattle.xdr_laws.specs.Laws.{IsUnfinished}
 use Rattle.xdr_laws.proofs.Legal.{bytes_are}
-use Rattle.xdr_laws.proofs.Numbers.{unit4, unit4-length}
+use Rattle.xdr_laws.proofs.Numbers.{unit4-length}
 use Rattle.xdr_laws.proofs.Owed.{reads_then, reads_end, reads_silent, reads_unit, begin_into}
 use Rattle.xdr_laws.proofs.Content.{reads_length, reads_free, reads_rest, reads_last, reads_over}
 use Rattle.xdr_laws.proofs.Content.{unit4_less, free_parts, counted}
 use Rattle.xdr_laws.proofs.Parts.{all_append}
-use Rattle.xdr_laws.proofs.Reach.{free_low, silent_low, shown_low, free_part, low_less, bytes_take}
+use Rattle.xdr_units.proofs.Bytes.{AreBytes-take}
+use Rattle.xdr_laws.proofs.Reach.{free_low, silent_low, shown_low, free_part, low_less}
 use Rattle.xdr_laws.proofs.SameParts.{parts_units}
 use Rattle.xdr_laws.proofs.Known.{root, begins_into, one_stands}
 use Rattle.xdr_laws.proofs.GoesOn.{admits_accepted, accepted_admits, Fills, rest_case}
@@ -308,7 +309,7 @@ module _ (s : List KindView) (t : ℕ) (l : Bounds) where
       }
 
   -- the unit of a head
-  pub reading_unit : (p : Part) (ps : List Part) (fs : List (List Part)) (q u : List ℕ) (x : ℕ) → unit4 x ≡ u
+  pub reading_unit : (p : Part) (ps : List Part) (fs : List (List Part)) (q u : List ℕ) (x : ℕ) → word x ≡ u
       → IsUnitFirst (lead_of (kind_at s p.kind)) → Accepts s (kind_at s p.kind) x → length fs + 1 ≤ l.depth
       → Front s t (q ++ u) × ((rest : List ℕ) → IsReached s t l (q ++ (u ++ rest)) (length q + 4))
       → Reading s t l (dues ((p ∷ ps) ∷ fs)) q
@@ -320,7 +321,7 @@ module _ (s : List KindView) (t : ℕ) (l : Bounds) where
       let far : length fs + 1 + 1 ≡ length (ps ∷ fs) + 1 = omega arith in
       let more : Reads s (length q) (dues ((p ∷ ps) ∷ fs)) u new (dues (parts k h ∷ ps ∷ fs)) =
       subst (λ (b : List ℕ). Reads s (length q) (dues ((p ∷ ps) ∷ fs)) b new (dues (parts k h ∷ ps ∷ fs))) is
-      (subst (λ (n : ℕ). Reads s (length q) (dues ((p ∷ ps) ∷ fs)) (unit4 x) new (Frame n (parts k h) ∷ dues (ps ∷ fs)))
+      (subst (λ (n : ℕ). Reads s (length q) (dues ((p ∷ ps) ∷ fs)) (word x) new (Frame n (parts k h) ∷ dues (ps ∷ fs)))
       far (reads_unit s (length q) (length fs + 1) p ps (dues fs) x unit accepts)) in
       taken (dues ((p ∷ ps) ∷ fs)) (dues (parts k h ∷ ps ∷ fs)) q u new r more
       (ap (λ (b : List ℕ). length b) (sym is) ∙ unit4-length x)
@@ -328,7 +329,7 @@ module _ (s : List KindView) (t : ℕ) (l : Bounds) where
       (shown_low (length q) (length fs + 1) p k h) (shown_deep l.depth (length q) (length fs + 1) p k h deep) next
 
   -- the length of content
-  pub reading_length : (p : Part) (ps : List Part) (fs : List (List Part)) (q u : List ℕ) (x : ℕ) → unit4 x ≡ u
+  pub reading_length : (p : Part) (ps : List Part) (fs : List (List Part)) (q u : List ℕ) (x : ℕ) → word x ≡ u
       → IsLengthFirst (lead_of (kind_at s p.kind)) → Accepts s (kind_at s p.kind) x → length fs + 1 ≤ l.depth
       → Front s t (q ++ u) × ((rest : List ℕ) → IsReached s t l (q ++ (u ++ rest)) (length q + 4))
       → Reading s t l (dues ((p ∷ ps) ∷ fs)) q
@@ -379,7 +380,7 @@ module _ (s : List KindView) (t : ℕ) (l : Bounds) where
   reading_last n fs q u few len are zeros next r =
       let same : take n u ++ pad n ≡ u = ap (λ (z : List ℕ). take n u ++ z) (sym zeros) ∙ take-append-drop n u in
       let read = reads_last s (length q) n (dues fs) (take n u) (omega (arith, length-take n u))
-      (bytes_take n u (bytes_are u are)) in
+      (AreBytes-take n u (bytes_are u are)) in
       taken (Rest n ∷ dues fs) (dues fs) q u [] r
       (subst (λ (b : List ℕ). Reads s (length q) (Rest n ∷ dues fs) b [] (dues fs)) same read) len
       (dues_track s (r.begun ++ []) (length q + 4) fs) tt tt next

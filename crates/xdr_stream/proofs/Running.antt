@@ -3,13 +3,14 @@ use Rattle.std.proofs.Common.{◌≡◌, ℕ, suc, zero, ◌+◌, ◌*◌, ◌%�
 use Rattle.std.proofs.Common.{◌++◌, length, refl, sym, subst, append-nil, append_assoc, arith, take, drop}
 use Rattle.std.specs.Int.{w32, from_be_bytes}
 use Rattle.std.proofs.lemmas.List.{length-append}
+use Rattle.xdr_units.specs.Numbers.{AreBytes}
 use Rattle.xdr_types.specs.Kinds.{KindView, kind_at}
 use Rattle.xdr_types.specs.Tree.{Head}
 use Rattle.xdr_types.specs.Fits.{parts, item_part}
 use Rattle.xdr_types.specs.Within.{Bounds}
 use Rattle.xdr_types.specs.Laws.{EachKindHasAValue, EachPartIsKnown}
 use Rattle.xdr_types.specs.declared.kind.KindId.{KindId}
-use Rattle.xdr_laws.specs.Owed.{AreBytes, lead_of, HasUnit, IsUnitFirst, Accepts, head_of}
+use Rattle.xdr_laws.specs.Owed.{lead_of, HasUnit, IsUnitFirst, Accepts, head_of, IsSolid}
 use Rattle.xdr_laws.proofs.Content.{unit4_back, unit4_less}
 use Rattle.xdr_stream.specs.Frames.{left_of, onto, stack_of}
 use Rattle.xdr_stream.specs.Trace.{Trace, leaf_in}
@@ -17,7 +18,6 @@ use Rattle.xdr_stream.specs.Sees.{Sees, IsReady}
 use Rattle.xdr_stream.specs.Runs.{number_kind, number_head, numbers_in}
 use Rattle.xdr_stream.specs.declared.frame.Frame.{Frame}
 use Rattle.xdr_stream.specs.declared.frame.Frame.TheVariants.{Items}
-use Rattle.xdr_stream.specs.First.{IsSolid}
 use Rattle.xdr_stream.specs.Sound.{IsSound, Starts, IsAwaited, Waits}
 use Rattle.xdr_stream.specs.declared.machine.Awaits.{Awaits}
 use Rattle.xdr_stream.specs.declared.machine.Awaits.TheVariants.{Next, Content, Wide, Low}

@@ -7,7 +7,7 @@ use Rattle.xdr_types.specs.Kinds as xdr
 use Rattle.xdr_types.specs.Kinds.{KindView, Part, kind_at}
 use Rattle.xdr_types.specs.Tree as value
 use Rattle.xdr_types.specs.Tree.{Head, Tree}
-use Rattle.xdr_units.specs.Numbers.{pad}
+use Rattle.xdr_units.specs.Numbers.{pad, long_word}
 use Rattle.xdr_types.specs.Height.{height, AreHigher, IsHigher}
 use Rattle.xdr_types.specs.Fits.{is_legal, parts, item_part}
 use Rattle.xdr_types.specs.Spelling.{own}
@@ -15,7 +15,6 @@ use Rattle.xdr_types.specs.Within.{Bounds}
 use Rattle.xdr_types.specs.Outcome.{Outcome, TooDeep}
 use Rattle.xdr_laws.specs.Owed.{Rest, lead_of, HasUnit, IsSilent, IsFreeBytes, silent_head, free_size}
 use Rattle.xdr_laws.proofs.Legal.{IsLegal, is_legal_of, bytes_are}
-use Rattle.xdr_laws.proofs.Numbers.{unit8}
 use Rattle.xdr_laws.proofs.Content.{signed8_unit, unit8_less, unit8_back}
 use Rattle.xdr_laws.proofs.Owed.{silent_legal}
 use Rattle.xdr_stream.specs.Frames.{left_of, rest_of, Begins, onto, stack_of, dues}
@@ -117,7 +116,7 @@ pub makes_wide : (s : List KindView) → Makes s xdr.hyper 8 [] (make_wide true)
 makes_wide s bs len are =
     let b = signed8_unit (from_be_bytes w64 bs) (unit8_less bs len (bytes_are bs are)) in (
       is_legal_of s xdr.hyper (make_wide true bs) b.0,
-      ap unit8 b.1 ∙ unit8_back bs len (bytes_are bs are)
+      ap long_word b.1 ∙ unit8_back bs len (bytes_are bs are)
           ∙ sym (append-nil bs),
       refl,
     )

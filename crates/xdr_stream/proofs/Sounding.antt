@@ -9,10 +9,9 @@ use Rattle.xdr_types.specs.Tree as value
 use Rattle.xdr_types.specs.Tree.{Head}
 use Rattle.xdr_types.specs.Fits.{parts, item_part, optional_part, part_of}
 use Rattle.xdr_types.specs.Laws.{EachPartIsKnown}
-use Rattle.xdr_laws.specs.Owed.{lead_of, IsUnitFirst, HasUnit}
+use Rattle.xdr_laws.specs.Owed.{lead_of, IsUnitFirst, HasUnit, IsSolid}
 use Rattle.xdr_laws.proofs.Nodes.{IsFormedKind, AreMembers}
 use Rattle.xdr_stream.specs.Frames.{left_of, rest_of, Begins, onto, stack_of}
-use Rattle.xdr_stream.specs.First.{IsSolid}
 use Rattle.xdr_stream.specs.Sound.{AreSolid, AreAllSolid, AreKnown, IsSound, HasNext, Starts}
 use Rattle.xdr_stream.specs.declared.frame.Frame.{Frame}
 use Rattle.xdr_stream.proofs.Frames.{onto_last}

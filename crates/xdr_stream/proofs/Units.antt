@@ -8,19 +8,18 @@ use Rattle.std.proofs.lemmas.Bool.{cases_lt, false≢true}
 use Rattle.std.proofs.lemmas.List.{length-append, length-take, take-append-drop}
 use Rattle.std.proofs.Common.{inl, inr}
 use Rattle.std.proofs.lemmas.Nat.{from_be_bytes-to_be_bytes_4}
+use Rattle.xdr_units.proofs.Bytes.{AreBytes-append, AreBytes-take, bytes_at}
 use Rattle.xdr_types.specs.Kinds.{KindView, Part}
 use Rattle.xdr_types.specs.Tree as value
 use Rattle.xdr_types.specs.Tree.{Head}
-use Rattle.xdr_units.specs.Numbers.{pad, num4}
+use Rattle.xdr_units.specs.Numbers.{pad, num4, AreBytes}
 use Rattle.xdr_types.specs.Fits.{are_bytes}
 use Rattle.xdr_types.specs.Within.{Bounds}
 use Rattle.xdr_types.specs.Laws.{EachKindHasAValue, EachPartIsKnown}
 use Rattle.xdr_types.specs.Outcome.{bad_padding, Outcome, Broken}
-use Rattle.xdr_laws.specs.Owed.{Rest, AreBytes}
+use Rattle.xdr_laws.specs.Owed.{Rest}
 use Rattle.xdr_laws.proofs.Legal.{both, and, bytes_are, are_bytes_of}
-use Rattle.xdr_laws.proofs.Content.{bytes_front}
 use Rattle.xdr_laws.proofs.GoesOn.{Fills, AreZeros, fill_zeros, zeros_fill}
-use Rattle.xdr_laws.proofs.Reach.{bytes_take}
 use Rattle.xdr_stream.specs.Frames.{dues}
 use Rattle.xdr_stream.specs.Trace.{Trace, Level, leaf_in, extend_in, content_in}
 use Rattle.xdr_stream.specs.Sees.{Sees, Reading, Built, BuiltInto, make_wide, are_zeros}
@@ -125,7 +124,7 @@ module _ (s : List KindView) (has : EachKindHasAValue s) (known : EachPartIsKnow
       let units = content_units s t r.trace.levels fs r.trace.content value.bytes n q r.built in
       let all : are_bytes (r.trace.content ++ v) ≡ true =
       are_bytes_of (r.trace.content ++ v)
-      (bytes_front r.trace.content v (bytes_are r.trace.content units.1) (bytes_take n u (bytes_are u are))) in
+      (AreBytes-append r.trace.content v (bytes_are r.trace.content units.1) (AreBytes-take n u (bytes_are u are))) in
       let b = into_end s t r.trace.levels fs r.trace.content v value.bytes q all
       (subst (λ (m : ℕ). BuiltInto s t r.trace.levels fs r.trace.content value.bytes m q) (sym size) r.built) in
       let same : pad b.0 ≡ drop n u = same_pad n b.0 some few
@@ -226,8 +225,4 @@ module _ (s : List KindView) (has : EachKindHasAValue s) (known : EachPartIsKnow
 
 -- bytes that are taken of bytes
 pub bytes_taken : (n : ℕ) (bs : List ℕ) → ((i : ℕ) → get_or bs i 0 < 256) → are_bytes (take n bs) ≡ true
-bytes_taken n bs h = are_bytes_of (take n bs) (bytes_take n bs (all bs h))
-  where
-    all : (bs : List ℕ) → ((i : ℕ) → get_or bs i 0 < 256) → AreBytes bs
-    all [] h = tt
-    all (b ∷ bs) h = (h 0, all bs (λ i. h (suc i)))
+bytes_taken n bs h = are_bytes_of (take n bs) (AreBytes-take n bs (bytes_at bs h))

@@ -1,6 +1,5 @@
 -- What is due before any byte.
 use Rattle.std.specs.Prelude.{◌≡◌, ℕ, ◌+◌, List, [], ◌∷◌, length, ⊤}
-use Rattle.xdr_types.specs.Kinds as xdr
 use Rattle.xdr_types.specs.Kinds.{KindView, Part}
 use Rattle.xdr_types.specs.Within.{Bounds}
 use Rattle.xdr_stream.specs.Frames.{dues}
@@ -11,8 +10,3 @@ abbrev pub IsDue : List KindView → (kind : ℕ) → Bounds → (place depth : 
 IsDue kinds kind limits place depth =
     (p : Part) × (ps : List Part) × (fs : List (List Part)) × Reading kinds kind limits (dues ((p ∷ ps) ∷ fs)) []
     × (p.kind ≡ place) × (length fs + 1 ≡ depth)
-
--- the kind is not void
-abbrev pub IsSolid : KindView → Type 0
-IsSolid xdr.nothing = ⊥
-IsSolid _ = ⊤

@@ -4,8 +4,7 @@ use Rattle.std.specs.Coded.{×_prop, Unit-prop}
 use Rattle.std.proofs.Props.{props}
 use Rattle.xdr_types.specs.Kinds as xdr
 use Rattle.xdr_types.specs.Kinds.{KindView, Part, kind_at}
-use Rattle.xdr_laws.specs.Owed.{Lead, UnitFirst, LengthFirst, FreeBytes, Silent, lead_of, HasUnit}
-use Rattle.xdr_stream.specs.First.{IsSolid}
+use Rattle.xdr_laws.specs.Owed.{Lead, UnitFirst, LengthFirst, FreeBytes, Silent, lead_of, HasUnit, IsSolid}
 use Rattle.xdr_stream.specs.Frames.{stack_of}
 use Rattle.xdr_stream.specs.declared.frame.Frame.{Frame}
 use Rattle.xdr_stream.specs.declared.machine.Awaits.{Awaits}

@@ -6,7 +6,7 @@ ghost use Rattle.xdr_types.specs.Fits.{parts};
 ghost use Rattle.xdr_types.specs.Outcome.{Outcome, TooDeep, Pending};
 ghost use Rattle.xdr_laws.specs.Owed.{lead_of, IsSilent, silent_head};
 ghost use Rattle.xdr_stream.specs.Frames.{Begins};
-ghost use Rattle.xdr_stream.specs.First.{IsSolid};
+ghost use Rattle.xdr_laws.specs.Owed.{IsSolid};
 
 use xdr_types::{Kind, KindId, Limits, Schema};
 

@@ -14,6 +14,7 @@ use Rattle.std.proofs.lemmas.Map.Text.{is_eq-slice_cmp}
 use Rattle.std.proofs.lemmas.Slice.Eq.{bytes_eq-Decides}
 use Rattle.std.proofs.lemmas.Bool.Decides.{same_from_decides, Decides-like}
 use denote.Ref.{Bor}
+pub use Rattle.xdr_units.proofs.Bytes.{bytes_eq-sym}
 use Rattle.xdr_types.specs.Kinds.{Constant, Part, Branch}
 use Rattle.xdr_types.specs.KindViews.{constant_of, part_of_member, branch_of}
 use Rattle.xdr_types.specs.Faults.{some_of, some_optional, is_none, constant_twice, part_twice, arm_twice}
@@ -147,15 +148,12 @@ texts_cmp x y = slice_cmp nat_cmp x.now y.now
 abbrev pub has_text : BTreeSet (Bor (List ℕ)) → List ℕ → Bool
 has_text s q = list_any (is_at (λ (k : Bor (List ℕ)). slice_cmp nat_cmp q k.now)) s.keys
 
-pub bytes_flip : (a b : List ℕ) → bytes_eq a b ≡ bytes_eq b a
-bytes_flip a b = same_from_decides _ _ (bytes_eq-Decides a b) (Decides-like _ sym sym (bytes_eq-Decides b a))
-
 pub added_text : (s n : BTreeSet (Bor (List ℕ))) (k : Bor (List ℕ)) (name : List ℕ) → k.now ≡ name
     → Updates texts_cmp s n k true → (q : List ℕ) → has_text n q ≡ bytes_eq q name || has_text s q
 added_text s n k name e u q =
     let here : has_text n q ≡ cond (is_eq (slice_cmp nat_cmp k.now q)) true (has_text s q) =
     u.0 (record { ref_ptr = (0, 0); now = q }) in
-    rw (here, is_eq-slice_cmp k.now q, e, bytes_flip name q) (sym (or_cond (bytes_eq q name) (has_text s q)))
+    rw (here, is_eq-slice_cmp k.now q, e, bytes_eq-sym name q) (sym (or_cond (bytes_eq q name) (has_text s q)))
 
 pub no_text : (s : BTreeSet (Bor (List ℕ))) → s.keys ≡ [] → (q : List ℕ) → false ≡ has_text s q
 no_text s e q = ap (λ ks. list_any (is_at (λ (k : Bor (List ℕ)). slice_cmp nat_cmp q k.now)) ks) (sym e)

@@ -10,7 +10,8 @@ use Rattle.xdr_types.specs.KindViews.{name_of}
 use Rattle.xdr_types.specs.Faults.{some_of, name_flaw, name_flaw_at}
 use Rattle.xdr_types.specs.declared.kind.KindId.{KindId}
 use Rattle.xdr_types.proofs.Flawless.{flaw-here}
-use Rattle.xdr_types.proofs.Apart.{texts_cmp, has_text, added_text, no_text, or_false, or_group, bytes_flip, was_absent}
+use Rattle.xdr_units.proofs.Bytes.{bytes_eq-sym}
+use Rattle.xdr_types.proofs.Apart.{texts_cmp, has_text, added_text, no_text, or_false, or_group, was_absent}
 
 -- the set has the names before a place
 abbrev pub HasNames : List (String Global × KindId) → ℕ → BTreeSet (Bor (List ℕ)) → Type 0
@@ -44,7 +45,7 @@ next_name names i n s t k lt is e u h q =
     rw more (some_taken (λ (p : Part). bytes_eq p.name q) names i n lt is
     ∙ ap (λ b. b || bytes_eq (string_bytes n.0) q) (h q)
     ∙ or_swap (has_text s q) (bytes_eq (string_bytes n.0) q)
-    ∙ ap (λ b. b || has_text s q) (bytes_flip (string_bytes n.0) q)
+    ∙ ap (λ b. b || has_text s q) (bytes_eq-sym (string_bytes n.0) q)
     ∙ sym (added_text s t k (string_bytes n.0) e u q))
 
 -- where a name is new, none of those before it need be looked at

@@ -22,11 +22,6 @@ one-more flaw_at n h e place within = by_case (nat_lt place n) refl
         subst (λ (q : ℕ). flaw_at q ≡ None) same e
 
 -- the kind at a place, of the list of kinds
-pub kind-here : (ks : List Kind) (i : ℕ) (k : Kind) → i < length ks → k ≡ get_or ks i k
-    → kind_at (map kind_view ks) i ≡ kind_view k
-kind-here [] i k h is = absurd (omega arith)
-kind-here (j ∷ ks) zero k h is = ap kind_view (sym is)
-kind-here (j ∷ ks) (suc i) k h is = kind-here ks i k (omega arith) is
 
 -- the name at a place, of the list of names
 pub name-here : (ns : List (String Global × KindId)) (i : ℕ) (n : String Global × KindId) → i < length ns

@@ -6,13 +6,11 @@ use Rattle.std.proofs.Math.ListN.{set, length-set}
 use Rattle.std.specs.List.{AllByRecursion}
 use Rattle.std.proofs.lemmas.Bool.{eqb-false, false≢true}
 use Rattle.std.proofs.lemmas.List.{get_or-set_same, get_or-set_other, get_or_past}
+use Rattle.std.proofs.lemmas.Option.{none-some}
 use Rattle.xdr_types.specs.Kinds as xdr
 use Rattle.xdr_types.specs.Kinds.{KindView, Part, Branch, kind_at}
 use Rattle.xdr_types.specs.Private.Rounds.{given, IsMarked, AreBelow, IsClosed, missing, AreHeights}
 use Rattle.xdr_types.specs.Sound.{Heighting, IsBelow, Asks, IsProper, HasHeight}
-
-none≢some : (m : ℕ) → None ≡ Some m → ⊥
-none≢some m e = cc
 
 pub some-is : (m n : ℕ) → Some m ≡ Some n → m ≡ n
 some-is m n e = cc
@@ -90,7 +88,7 @@ pub no-height : (kinds : List KindView) (hs : List (Option ℕ)) → IsClosed ki
     → HasHeight kinds place → ⊥
 no-height kinds hs closed place none h =
     let found = number hs place (marked_below kinds hs closed h.0 h.2 (h.1 + 1) place h.1 (omega arith) h.3) in
-    none≢some found.0 (sym none ∙ found.1)
+    none-some found.0 (sym none ∙ found.1)
 
 pub has-height : (kinds : List KindView) (hs : List (Option ℕ)) → IsProper kinds (given hs) → (place : ℕ)
     → IsMarked hs place → HasHeight kinds place
@@ -108,7 +106,7 @@ kept : (hs : List (Option ℕ)) (place next q m : ℕ) → given hs place ≡ No
     → given (one_more hs place next) q ≡ Some m
 kept hs place next q m none e =
     elim (same_or_not q place (eqb q place) refl) [
-      | inl same ↦ absurd (none≢some m (sym none ∙ ap (given hs) (sym same) ∙ e))
+      | inl same ↦ absurd (none-some m (sym none ∙ ap (given hs) (sym same) ∙ e))
       | inr other ↦ get_or-set_other hs place q (Some next) None other ∙ e
     ]
 
@@ -149,7 +147,7 @@ missing-set : (hs : List (Option ℕ)) (place n : ℕ) → place < length hs →
     → missing (set hs place (Some n)) + 1 ≡ missing hs
 missing-set [] place n within none = absurd (omega arith)
 missing-set (None ∷ hs) zero n within none = refl
-missing-set (Some m ∷ hs) zero n within none = absurd (none≢some m (sym none))
+missing-set (Some m ∷ hs) zero n within none = absurd (none-some m (sym none))
 missing-set (None ∷ hs) (suc place) n within none = ap (λ k. k + 1) (missing-set hs place n (omega arith) none)
 missing-set (Some m ∷ hs) (suc place) n within none = missing-set hs place n (omega arith) none
 

@@ -6,6 +6,7 @@ use Rattle.std.specs.List.{AllByRecursion, Contains}
 use Rattle.std.proofs.lemmas.Bool.{false≢true}
 use Rattle.std.proofs.lemmas.List.{get_or-map, get_or_read, length-replicate}
 use Rattle.std.proofs.lemmas.Bool.{and_parts as both, and_from as both_of, or_cases as one_of, not-true as not_true, or_right as or_later, or_left as or_first}
+use Rattle.std.proofs.lemmas.Option.{none-some}
 use Rattle.xdr_types.specs.KindViews.{kind_view, part_of_member}
 use Rattle.xdr_types.specs.declared.kind.Kind.{Kind}
 use Rattle.xdr_types.specs.declared.kind.Member.{Member}
@@ -107,9 +108,6 @@ other-met kinds hs f tag arms other r is none by = (
   λ a. other-from kinds hs tag arms other r none by (subst (Asks kinds (IsMarked hs)) is a),
 )
 
-none≢some_part : (p : Part) → None ≡ Some p → ⊥
-none≢some_part p e = cc
-
 some-part-is : (p q : Part) → Some p ≡ Some q → p ≡ q
 some-part-is p q e = cc
 
@@ -120,7 +118,7 @@ reached-met : (kinds : List KindView) (hs : List (Option ℕ)) (tag : ℕ) (arms
     → IsTrue (reached && some_optional (λ (p : Part). is_marked hs p.kind) other) ↔ OtherMet kinds hs tag arms other
 reached-met kinds hs tag arms None reached by = (
   λ h. absurd (false≢true (both reached false h).1),
-  λ m. absurd (none≢some_part m.0 m.1),
+  λ m. absurd (none-some m.0 m.1),
 )
 reached-met kinds hs tag arms (Some p) reached by = (
   λ h. let b = both reached (is_marked hs p.kind) h in (p, refl, by.0 b.0, b.1),
@@ -154,9 +152,6 @@ no-given zero place = refl
 no-given (suc n) zero = refl
 no-given (suc n) (suc place) = no-given n place
 
-none≢some : (m : ℕ) → None ≡ Some m → ⊥
-none≢some m e = cc
-
 all-missing : (n : ℕ) → missing (replicate n None) ≡ n
 all-missing zero = refl
 all-missing (suc n) = rw (all-missing n) (omega arith)
@@ -165,7 +160,7 @@ all-missing (suc n) = rw (all-missing n) (omega arith)
 pub fresh : (kinds : List KindView) (hs : List (Option ℕ)) → hs ≡ replicate (length kinds) None → AreHeights kinds hs 0
 fresh kinds hs e = subst (λ (z : List (Option ℕ)). AreHeights kinds z 0) (sym e) record {
   lengths = length-replicate (length kinds) None;
-  proper = λ place n is. absurd (none≢some n (sym (no-given (length kinds) place) ∙ is));
-  below = λ place n is. absurd (none≢some n (sym (no-given (length kinds) place) ∙ is));
+  proper = λ place n is. absurd (none-some n (sym (no-given (length kinds) place) ∙ is));
+  below = λ place n is. absurd (none-some n (sym (no-given (length kinds) place) ∙ is));
   left = rw (all-missing (length kinds)) (omega arith);
 }

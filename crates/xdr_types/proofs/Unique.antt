@@ -3,6 +3,7 @@ use Rattle.std.proofs.Common.{◌≡◌, ◌↔◌, ℕ, ℤ, pos, negsuc, List,
 use Rattle.std.proofs.Common.{ap, sym, ◌∙◌, subst, arith, append_assoc, append-nil, eqb-true, leb-true, le-leb, nat_le}
 use Rattle.std.proofs.lemmas.Bool.{false≢true}
 pub use Rattle.std.proofs.lemmas.Bool.{and_parts as both}
+use Rattle.xdr_units.proofs.Bytes.{same_front}
 use Rattle.xdr_types.specs.Kinds as xdr
 use Rattle.xdr_types.specs.Kinds.{KindView, Part, Branch, Constant, kind_at}
 use Rattle.xdr_types.specs.Tree as value
@@ -13,23 +14,13 @@ use Rattle.xdr_types.specs.Spelling.{spelling, own, bytes_of}
 use Rattle.xdr_types.proofs.Numbers.{num4-front, num8-front, signed4, signed8, unsigned4, unsigned8, flags}
 
 -- lists of one length before anything
-pub split : (a b x y : List ℕ) → length a ≡ length b → a ++ x ≡ b ++ y → (a ≡ b) × (x ≡ y)
-split [] [] x y n e = (refl, e)
-split [] (k ∷ b) x y n e = absurd (omega (arith, n))
-split (j ∷ a) [] x y n e = absurd (omega (arith, n))
-split (j ∷ a) (k ∷ b) x y n e =
-    let heads : j ≡ k = cc in
-    let tails : a ++ x ≡ b ++ y = cc in
-    let rest = split a b x y (omega (arith, n)) tails in
-    (rw (heads, rest.0) refl, rest.1)
-
 -- bytes and their padding before anything
 content : (a b x y : List ℕ) → length a ≡ length b → (a ++ pad (length a)) ++ x ≡ (b ++ pad (length b)) ++ y
     → (a ≡ b) × (x ≡ y)
 content a b x y n e =
-    let first = split a b (pad (length a) ++ x) (pad (length b) ++ y) n
+    let first = same_front a b (pad (length a) ++ x) (pad (length b) ++ y) n
     (sym (append_assoc a (pad (length a)) x) ∙ e ∙ append_assoc b (pad (length b)) y) in
-    let second = split (pad (length a)) (pad (length b)) x y (ap (λ k. length (pad k)) n) first.1 in
+    let second = same_front (pad (length a)) (pad (length b)) x y (ap (λ k. length (pad k)) n) first.1 in
     (first.0, second.1)
 
 pub lengths : (m n max : ℕ) → nat_le m max && nat_le m 4294967295 ≡ true → nat_le n max && nat_le n 4294967295 ≡ true

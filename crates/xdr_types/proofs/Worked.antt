@@ -2,6 +2,7 @@
 use Rattle.std.proofs.Common.{◌≡◌, ℕ, pos, List, [], ◌∷◌, ◌++◌, length, replicate, true, ap, ◌∙◌, arith, refl, sym}
 use Rattle.std.proofs.Common.{append_assoc}
 use Rattle.std.proofs.lemmas.Bool.{false≢true}
+use Rattle.xdr_units.proofs.Bytes.{same_front}
 use Rattle.xdr_types.specs.Kinds as xdr
 use Rattle.xdr_types.specs.Kinds.{KindView}
 use Rattle.xdr_types.specs.Tree as value
@@ -11,7 +12,7 @@ use Rattle.xdr_types.specs.Fits.{fits, is_legal}
 use Rattle.xdr_types.specs.Spelling.{own, bytes_of}
 use Rattle.xdr_types.specs.Within.{FitsWithin}
 use Rattle.xdr_types.proofs.Numbers.{num4-front}
-use Rattle.xdr_types.proofs.Unique.{both, split, lengths}
+use Rattle.xdr_types.proofs.Unique.{both, lengths}
 
 -- opaque five<5>
 abbrev five : List KindView
@@ -23,7 +24,7 @@ no_padding_of_one : (h : Head) → is_legal five (xdr.opaque_up_to 5) h ≡ true
 no_padding_of_one (value.bytes bs) h e =
     let front = num4-front (pos (length bs)) (pos 3) ((bs ++ pad (length bs)) ++ []) (97 ∷ 98 ∷ 99 ∷ 1 ∷ []) e in
     let three : length bs ≡ 3 = lengths (length bs) 3 5 (both _ _ h).0 refl front.0 in
-    let rest = split bs (97 ∷ 98 ∷ 99 ∷ []) (pad (length bs) ++ []) (1 ∷ []) three
+    let rest = same_front bs (97 ∷ 98 ∷ 99 ∷ []) (pad (length bs) ++ []) (1 ∷ []) three
     (sym (append_assoc bs (pad (length bs)) []) ∙ front.1) in
     let zero : pad 3 ++ [] ≡ 1 ∷ [] = ap (λ (n : ℕ). pad n ++ []) (sym three) ∙ rest.1 in
     absurd (omega (arith, ap first zero))

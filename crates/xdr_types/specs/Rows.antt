@@ -4,7 +4,7 @@ use Rattle.xdr_types.specs.Kinds as xdr
 use Rattle.xdr_types.specs.Kinds.{KindView, Part, Branch, Constant, Lists}
 use Rattle.xdr_types.specs.Tree as value
 use Rattle.xdr_types.specs.Tree.{Tree, from_list}
-use Rattle.xdr_types.specs.Fits.{fits, Fits}
+use Rattle.xdr_types.specs.Fits.{fits, Fits, item_part}
 use Rattle.xdr_units.specs.Numbers.{num8}
 use Rattle.xdr_types.specs.Spelling.{bytes_of}
 use Rattle.xdr_types.specs.Layout.{entry, entries, of_number, of_flag, of_length, of_content, of_group}
@@ -14,9 +14,6 @@ use Rattle.xdr_types.specs.declared.fault.Flaw.TheVariants as flaw
 
 abbrev part : ℕ → ℕ → Part
 part name kind = record { name = name ∷ []; kind = kind }
-
-abbrev unnamed : ℕ → Part
-unnamed kind = record { name = []; kind = kind }
 
 -- five of "abc"
 five : bytes_of (xdr.opaque_up_to 5 ∷ []) 0
@@ -78,8 +75,8 @@ flawless = refl
 
 -- the parts of a list of "a", with the fields' names, and none for the root and the item of an optional
 one_string : entries list_kinds 1 (entry_of (97 ∷ []) no_entry)
-    ≡ entry 0 4 1 (unnamed 1) of_flag
-    ∷ entry 4 0 2 (unnamed 2) of_group
+    ≡ entry 0 4 1 (item_part 1) of_flag
+    ∷ entry 4 0 2 (item_part 2) of_group
     ∷ entry 4 4 3 (part 105 0) of_length
     ∷ entry 8 4 3 (part 105 0) (of_content 1)
     ∷ entry 12 4 3 (part 110 1) of_flag
@@ -113,7 +110,7 @@ file_kinds =
     ∷ filekind
     ∷ xdr.text 255
     ∷ xdr.text 255
-    ∷ xdr.choice 8 (record { cases = pos 0 ∷ []; part = unnamed 5 } ∷ record {
+    ∷ xdr.choice 8 (record { cases = pos 0 ∷ []; part = item_part 5 } ∷ record {
       cases = pos 1 ∷ [];
       part = creator;
     } ∷ record { cases = pos 2 ∷ []; part = interpretor } ∷ []) None
@@ -140,7 +137,7 @@ sillyprog_fits : Fits file_kinds 15 sillyprog
 sillyprog_fits = refl
 
 ten_parts : entries file_kinds 15 sillyprog
-    ≡ entry 0 0 1 (unnamed 15) of_group
+    ≡ entry 0 0 1 (item_part 15) of_group
     ∷ entry 0 4 2 filename of_length
     ∷ entry 4 12 2 filename (of_content 9)
     ∷ entry 16 4 2 type of_number
@@ -154,17 +151,17 @@ ten_parts : entries file_kinds 15 sillyprog
 ten_parts = refl
 
 -- content is a part also where it has no bytes
-no_content : entries (xdr.opaque_up_to 4294967295 ∷ []) 0 (bytes []) ≡ entry 0 4 1 (unnamed 0) of_length ∷ entry 4 0 1
-    (unnamed 0) (of_content 0) ∷ []
+no_content : entries (xdr.opaque_up_to 4294967295 ∷ []) 0 (bytes []) ≡ entry 0 4 1 (item_part 0) of_length ∷ entry 4 0 1
+    (item_part 0) (of_content 0) ∷ []
 no_content = refl
 
 -- content of a fixed length has no length before it
-fixed_content : entries (xdr.opaque 3 ∷ []) 0 (bytes (1 ∷ 2 ∷ 3 ∷ [])) ≡ entry 0 4 1 (unnamed 0) (of_content 3) ∷ []
+fixed_content : entries (xdr.opaque 3 ∷ []) 0 (bytes (1 ∷ 2 ∷ 3 ∷ [])) ≡ entry 0 4 1 (item_part 0) (of_content 3) ∷ []
 fixed_content = refl
 
 -- a void part is a part of no bytes
 void_part : entries file_kinds 11 (value.tag (pos 0), from_list ((value.nothing, value.none) ∷ [])) ≡ entry 0 4 1
-    (unnamed 11) of_number ∷ entry 4 0 2 (unnamed 5) of_group ∷ []
+    (item_part 11) of_number ∷ entry 4 0 2 (item_part 5) of_group ∷ []
 void_part = refl
 
 -- the reasons against a discriminant: neither 0 nor 1, no arm, no member's number

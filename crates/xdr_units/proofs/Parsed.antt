@@ -1,4 +1,5 @@
 -- What is parsed as a number is it, where its decimal text is the text that was parsed.
+use Rattle.std.specs.Option.{unwrap_or}
 use Rattle.std.proofs.Common.{◌≡◌, ℕ, ◌<◌, ◌^◌, Bool, true, List, ap, sym, ◌∙◌, subst, arith, Option, Some, None}
 use Rattle.std.proofs.Common.{Result, Ok, Err, decimal, MatchResult, is_some, true≢false}
 use Rattle.std.specs.Result.{result_ok}
@@ -38,15 +39,11 @@ pub no_number_parsed : {E : Type 0} (r : Result ℕ E) (digits text : List ℕ) 
 no_number_parsed r digits text s p e n small same =
     no_value r n (parse-decimal 32 n digits r small (wide n small) (s ∙ same) p) e
 
-abbrev the : ℕ → Option ℕ → ℕ
-the d None = d
-the d (Some n) = n
-
 -- The text of a number is parsed as it.
 pub number_parsed : {E : Type 0} (r : Result ℕ E) (digits text : List ℕ) (m : ℕ) (b : Bool) → digits ≡ text
     → ParsesUnsigned 32 10 digits r → result_ok r ≡ Some m
     → b ≡ bytes_eq (decimal m) text → (n : ℕ) → n < 2 ^ 32 → text ≡ decimal n → then_some b m ≡ Some n
 number_parsed r digits text m b s p e d n small same =
-    let k : m ≡ n = ap (the 0) (sym e ∙ ap result_ok (parse-decimal 32 n digits r small (wide n small) (s ∙ same) p)) in
+    let k : m ≡ n = ap (λ (o : Option ℕ). unwrap_or o 0) (sym e ∙ ap result_ok (parse-decimal 32 n digits r small (wide n small) (s ∙ same) p)) in
     let t : b ≡ true = d ∙ (bytes_eq-Decides (decimal m) text).1 (ap decimal k ∙ sym same) in
     ap (λ c. then_some c m) t ∙ ap Some k

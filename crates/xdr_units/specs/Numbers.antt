@@ -1,7 +1,8 @@
 -- Numbers, padding and padded content as bytes, most significant byte first; signed numbers are two's complement
 -- (RFC 4506 sections 3 and 4).
-use Rattle.std.specs.Prelude.{ℕ, ◌-◌, ◌%◌, ◌<◌, ◌^◌, ℤ, pos, List, Bool, true, false, ◌++◌, length, replicate, get_or}
+use Rattle.std.specs.Prelude.{ℕ, ◌-◌, ◌%◌, ◌<◌, ◌^◌, ℤ, pos, List, Bool, true, false, ◌++◌, length, replicate}
 use Rattle.std.specs.Int.{w32, w64, to_be_bytes, cast_unsigned}
+use Rattle.std.specs.List.{AllByRecursion}
 
 -- the four bytes of an unsigned number below 2^32 (RFC 4506 section 4.2)
 abbrev pub word : ℕ → List ℕ
@@ -44,4 +45,4 @@ IsWord n = n < 2 ^ 32
 
 -- each number is a byte
 abbrev pub AreBytes : List ℕ → Type 0
-AreBytes bytes = (i : ℕ) → get_or bytes i 0 < 256
+AreBytes bytes = AllByRecursion (λ (b : ℕ). b < 256) bytes

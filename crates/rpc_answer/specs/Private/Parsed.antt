@@ -2,7 +2,7 @@
 use Rattle.std.specs.Prelude.{◌≡◌, ℕ, ◌<◌, ◌^◌, List, [], ◌∷◌, ◌++◌, length}
 use Rattle.xdr_units.specs.Numbers.{word, padded}
 use Rattle.xdr_types.specs.Tree.{Tree}
-use Rattle.rpc_dumps.specs.Dumps.{number, group, rpcb_tree}
+use Rattle.rpc_dumps.specs.Dumps.{mapping_of, rpcb_tree}
 use Rattle.rpc_rows.specs.Rows.{Row, row_of}
 use Rattle.rpc_answer.specs.Answer.{AreArguments}
 use Rattle.rpc_answer.specs.declared.arguments.Mapping.{Mapping}
@@ -18,7 +18,7 @@ HasNoText bytes = (bs rest : List ℕ) → length bs < 2 ^ 32 → bytes ≡ text
 
 -- the value of a `mapping`
 abbrev pub mapping_value : Mapping → Tree
-mapping_value m = group (number m.prog ∷ number m.vers ∷ number m.prot ∷ number m.port ∷ [])
+mapping_value m = mapping_of m.prog m.vers m.prot m.port
 
 -- the row that an `rpcb` spells, with some owner
 abbrev pub row_in : Rpcb → List ℕ → Row

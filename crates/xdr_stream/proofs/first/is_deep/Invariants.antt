@@ -1,6 +1,7 @@
 use Rattle.std.proofs.Common.{◌+◌, ◌-◌, ◌<◌, length}
+use Rattle.xdr_laws.specs.Owed.{IsSolid}
 use Rattle.xdr_types.specs.Kinds.{kind_at}
-use Rattle.xdr_stream.specs.First.{IsDue, IsSolid}
+use Rattle.xdr_stream.specs.First.{IsDue}
 use Rattle.xdr_stream.proofs.first.is_deep.Given as goal
 
 abbrev pub invariant-loop-depth : goal.invariant-loop-depth

@@ -1,11 +1,11 @@
 use Rattle.std.proofs.Common.{◌≡◌, ◌<◌, ◌≤◌, List, length, map, refl, sym, subst, ◌∙◌, arith}
+use Rattle.xdr_laws.specs.Owed.{IsSolid}
 use Rattle.xdr_types.specs.Kinds as xdr
 use Rattle.xdr_types.specs.Kinds.{KindView, Part, kind_at}
 use Rattle.xdr_types.specs.Tree as value
 use Rattle.xdr_types.specs.KindViews.{kind_view, part_of_member}
 use Rattle.xdr_laws.proofs.Nodes.{IsFormedKind, formed_of}
 use Rattle.xdr_stream.specs.Frames.{left_of}
-use Rattle.xdr_stream.specs.First.{IsSolid}
 use Rattle.xdr_stream.specs.Sees.{Sees}
 use Rattle.xdr_stream.specs.Sound.{AreAllSolid, HasNext}
 use Rattle.xdr_stream.specs.Steps.{IsStep}

@@ -1,5 +1,6 @@
 use Rattle.std.proofs.Common.{◌≡◌, ◌<◌, ◌^◌, rules, drop, ℕ, List, length, true, false, pos, sym, ap, subst, ◌∙◌}
 use Rattle.std.proofs.Common.{arith}
+use Rattle.xdr_units.proofs.Bytes.{AreBytes-append}
 use Rattle.xdr_units.specs.Numbers.{num4}
 use Rattle.xdr_types.specs.Fits.{are_bytes}
 use Rattle.std.specs.Int.{w64, from_be_bytes}
@@ -7,7 +8,6 @@ use Rattle.std.proofs.lemmas.List.{take_all, length-drop}
 use Rattle.std.proofs.Math.Facts.{of_z-to_z}
 use Rattle.std.proofs.Common.{to_z, of_z, Fits, ℤ, ◌+◌, ◌-◌, ◌*◌, ◌++◌, Bool, negsuc, cond, nat_lt}
 use Rattle.xdr_types.specs.Tree as value
-use Rattle.xdr_laws.proofs.Content.{bytes_front}
 use Rattle.xdr_laws.proofs.Legal.{are_bytes_of, bytes_are}
 use Rattle.xdr_laws.proofs.Known.{bytes4}
 use Rattle.xdr_stream.specs.Frames.{stack_of}
@@ -87,7 +87,7 @@ returns-in_ok-leaf-in-Low-2-clause-taken g c = λ kind limits q ready small h.
     let are : are_bytes u ≡ true = subst (λ (b : List ℕ). are_bytes b ≡ true) is
     (are_bytes_of (num4 (pos y)) (bytes4 y)) in
     let all : are_bytes (num4 (pos x) ++ u) ≡ true =
-    are_bytes_of (num4 (pos x) ++ u) (bytes_front (num4 (pos x)) u (bytes4 x) (bytes_are u are)) in
+    are_bytes_of (num4 (pos x) ++ u) (AreBytes-append (num4 (pos x)) u (bytes4 x) (bytes_are u are)) in
     let xx : x < 2 ^ 32 = omega arith in
     let yy : y < 2 ^ 32 = omega arith in
     let two : c.from.result * 4294967296 + c.from-in-Low.result ≡ from_be_bytes w64 (num4 (pos x) ++ u) =
@@ -113,7 +113,7 @@ returns-in_ok-leaf-in-Low-clause-taken g c = λ kind limits q ready small h.
     let are : are_bytes u ≡ true = subst (λ (b : List ℕ). are_bytes b ≡ true) is
     (are_bytes_of (num4 (pos y)) (bytes4 y)) in
     let all : are_bytes (num4 (pos x) ++ u) ≡ true =
-    are_bytes_of (num4 (pos x) ++ u) (bytes_front (num4 (pos x)) u (bytes4 x) (bytes_are u are)) in
+    are_bytes_of (num4 (pos x) ++ u) (AreBytes-append (num4 (pos x)) u (bytes4 x) (bytes_are u are)) in
     let xx : x < 2 ^ 32 = omega arith in
     let yy : y < 2 ^ 32 = omega arith in
     let two : c.from.result * 4294967296 + c.from-in-Low.result ≡ from_be_bytes w64 (num4 (pos x) ++ u) =

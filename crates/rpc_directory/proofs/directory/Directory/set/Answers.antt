@@ -1,5 +1,6 @@
 use Rattle.std.proofs.Common.{◌≡◌, ◌≤◌, ◌<◌, ℕ, List, [], length, subst, sym, ◌∙◌}
-use Rattle.rpc_rows.specs.Rows.{AreBytes, row_of}
+use Rattle.xdr_units.specs.Numbers.{AreBytes}
+use Rattle.rpc_rows.specs.Rows.{row_of}
 use Rattle.rpc_rows.proofs.Added.{addable}
 use Rattle.rpc_directory.proofs.Bytes.{bytes_by_type}
 use Rattle.rpc_directory.proofs.directory.Directory.set.Goals as goal
