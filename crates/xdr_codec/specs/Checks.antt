@@ -6,6 +6,8 @@ use Rattle.xdr_types.specs.declared.kind.KindId.{KindId}
 use Rattle.xdr_stream.specs.Finish as stream
 use Rattle.xdr_stream.specs.Stands as told
 use Rattle.xdr_stream.specs.Checked.{Counts}
+use Rattle.xdr_stream.specs.Held as held
+use Rattle.xdr_stream.specs.declared.holding.Held.{Held}
 use Rattle.xdr_stream.specs.declared.fault.DecodeFault.{DecodeFault}
 use Rattle.xdr_stream.specs.declared.reader.State.TheVariants.{Finished, Failed}
 use Rattle.xdr_stream.specs.declared.reader.Progress.{Progress}
@@ -40,3 +42,15 @@ IsDone c = c.reader.state ≡ Finished
 -- this fault was answered
 abbrev pub HasFailed : Checker → DecodeFault → Type 0
 HasFailed c f = c.reader.state ≡ Failed f
+
+-- no fault came, and the value is not whole
+abbrev pub GoesOn : Checker → Type 0
+GoesOn c = held.GoesOn c.reader.state
+
+-- the counts are those of the checker's own fields, which have no node and no content
+abbrev pub CountsFields : Checker → Held → Type 0
+CountsFields c h = held.IsCount c.reader 0 0 h
+
+-- after the bytes b: a frame more than the limit on depth at most, and less than a unit
+abbrev pub IsHeldWithin : Checker → (b : List ℕ) → Held → Type 0
+IsHeldWithin c b h = held.IsWithin c.reader.schema.now.kinds c.reader.limits b h

@@ -1,4 +1,5 @@
 pub mod Checks
+pub mod Held
 pub mod Outcomes
 pub mod Refused
 pub mod Stands

@@ -101,7 +101,7 @@ module _ {B : Type 0} (tells : B → Trace → Type 0) (old new : Reader B)
   answers_fault f is =
       subst (λ (x : List ℕ). Fails old.schema.now.kinds old.kind.place old.limits f x) cut
       (fails_on old.schema.now.kinds old.kind.place old.limits f (b ++ take used piece) (drop used piece)
-      (stands_as tells old new same (b ++ take used piece) (Failed f) is r))
+      (stands_as tells old new same (b ++ take used piece) (Failed f) is r).0)
 
   -- after a fault the whole piece is taken
   pub stands_failed : (f : DecodeFault) → new.state ≡ Failed f → StandsFor tells new (b ++ piece)
@@ -112,9 +112,12 @@ module _ {B : Type 0} (tells : B → Trace → Type 0) (old new : Reader B)
       let before = subst (λ (x : State). StandsAs K new.kind.place new.limits H fs new.read new.unit new.pending x
       (b ++ take used piece)) is r in
       subst (λ (x : State). StandsAs K new.kind.place new.limits H fs new.read new.unit new.pending x (b ++ piece))
-      (sym is)
-      (subst (λ (x : List ℕ). Fails K new.kind.place new.limits f x) cut
-      (fails_on K new.kind.place new.limits f (b ++ take used piece) (drop used piece) before))
+      (sym is) (
+        subst (λ (x : List ℕ). Fails K new.kind.place new.limits f x) cut
+            (fails_on K new.kind.place new.limits f (b ++ take used piece) (drop used piece) before.0),
+        before.1,
+        before.2,
+      )
 
 -- what is the same twice is the same
 pub same_then : {B : Type 0} (a b c : Reader B) → IsSame a b → IsSame b c → IsSame a c

@@ -1,5 +1,5 @@
 -- How the finished parts grow with what is read.
-use Rattle.std.proofs.Common.{◌≡◌, ℕ, ◌+◌, ◌%◌, ◌≤◌, true, false, Bool, ◌&&◌, List, [], ◌∷◌, ◌++◌}
+use Rattle.std.proofs.Common.{◌≡◌, ℕ, ◌+◌, ◌%◌, ◌≤◌, true, false, Bool, ◌&&◌, List, [], ◌∷◌, ◌++◌, pos}
 use Rattle.std.proofs.Common.{length, refl, sym, ap, subst, ◌∙◌, append_assoc, append-nil, zero-add, arith}
 use Rattle.std.proofs.Common.{inl, inr}
 use Rattle.std.specs.Prelude.{Option, Some, None, is_some, ◌⊎◌, ⊤}
@@ -11,12 +11,16 @@ use Rattle.xdr_types.specs.Kinds as xdr
 use Rattle.xdr_types.specs.Kinds.{KindView, Part, kind_at}
 use Rattle.xdr_types.specs.Tree as value
 use Rattle.xdr_types.specs.Tree.{Head, Values, Tree, from_list}
-use Rattle.xdr_units.specs.Numbers.{pad}
+use Rattle.xdr_units.specs.Numbers.{num4, pad}
 use Rattle.xdr_types.specs.Fits.{Fits, fit, fits, is_legal, parts, item_part, are_bytes, optional_part, part_of}
 use Rattle.xdr_types.specs.Spelling.{own, spelling, bytes_of}
 use Rattle.xdr_laws.proofs.Legal.{both, and, IsLegal, legal_is, bytes_are, are_bytes_of}
-use Rattle.xdr_stream.specs.Trace.{Level, level, added, add, IsOpen, close_levels, IsFilled, CanCloseLevels}
-use Rattle.xdr_stream.specs.Sees.{Opens, Built, BuiltInto, Makes}
+use Rattle.xdr_stream.specs.Trace.{Level, level, added, add, IsOpen, close_levels, IsFilled, CanCloseLevels, IsMany}
+use Rattle.xdr_stream.specs.Trace.{Trace, HasRoomAt, HasRoomIn, HasRoom, IsManyIn, TakesMany}
+use Rattle.xdr_types.specs.Within.{Bounds}
+use Rattle.xdr_stream.specs.Sees.{Sees, Opens, Built, BuiltAs, BuiltInto, Makes, make_wide}
+use Rattle.xdr_stream.specs.declared.machine.Awaits.{Awaits}
+use Rattle.xdr_stream.specs.declared.machine.Awaits.TheVariants.{Next, Content, Wide, Low}
 use Rattle.xdr_types.proofs.Grown.{and-assoc}
 
 -- ---- one more value at the end
@@ -50,16 +54,11 @@ spelling_last s (t ∷ ts) (w ∷ vs) p v n =
 
 -- ---- what a head says of its parts
 
-abbrev IsMany : Head → Type 0
-IsMany value.fields = ⊤
-IsMany (value.items n) = ⊤
-IsMany _ = ⊥
-
 optional_few : (o : Option Part) → length (optional_part o) ≤ 1
 optional_few None = omega arith
 optional_few (Some p) = omega arith
 
-many_or : (s : List KindView) (k : KindView) (h : Head) → IsLegal s k h → IsMany h ⊎ (length (parts k h) ≤ 1)
+pub many_or : (s : List KindView) (k : KindView) (h : Head) → IsLegal s k h → IsMany h ⊎ (length (parts k h) ≤ 1)
 many_or s (xdr.fixed item size) (value.items n) l = inl tt
 many_or s (xdr.up_to item max) (value.items n) l = inl tt
 many_or s (xdr.structure ps) value.fields l = inl tt
@@ -87,6 +86,20 @@ added_none : (h : Head) (v : Tree) → added h [] v ≡ v ∷ []
 added_none value.fields v = refl
 added_none (value.items n) v = refl
 added_none _ v = refl
+
+many_room : (h : Head) (done : List Tree) → IsMany h → HasRoomAt h done
+many_room value.fields done m = tt
+many_room (value.items n) done m = tt
+many_room _ done m = absurd m
+
+none_room : (h : Head) → HasRoomAt h []
+none_room value.fields = tt
+none_room (value.items n) = tt
+none_room _ = refl
+
+few_room : (h : Head) (done : List Tree) → length done ≡ 0 → HasRoomAt h done
+few_room h [] e = none_room h
+few_room h (w ∷ done) e = absurd (omega arith)
 
 added_few : (h : Head) (done : List Tree) (v : Tree) → length done ≡ 0 → added h done v ≡ done ++ v ∷ []
 added_few h [] v e = added_none h v
@@ -142,6 +155,22 @@ added_opens s t (l ∷ ls) (f ∷ fs) h ts left p r done v o n =
     ]
 added_opens s t [] (f ∷ fs) h ts left p r done v o n = absurd o
 added_opens s t (l ∷ ls) [] h ts left p r done v o n = absurd o
+
+-- and has room for it
+pub room_opens : (s : List KindView) (t : ℕ) (ls : List Level) (fs : List (List Part)) (h : Head) (ts left : List Part)
+    (p : Part) (r : List ℕ) (done : List Tree)
+    → Opens s t ls fs h (ts ++ p ∷ left) r → length ts ≡ length done → HasRoomAt h done
+room_opens s t [] [] h ts left p r done o n =
+    let few : length (ts ++ p ∷ left) ≡ 1 = ap (λ (l : List Part). length l) o.1 in
+    few_room h done (omega (arith, length-append ts (p ∷ left)))
+room_opens s t (l ∷ ls) (f ∷ fs) h ts left p r done o n =
+    elim (many_or s (kind_at s o.1.kind) h (legal_is s (kind_at s o.1.kind) h o.6)) [
+      | inl many ↦ many_room h done many
+      | inr few ↦ few_room h done (omega
+          (arith, few, ap (λ (x : List Part). length x) o.7, length-append ts (p ∷ left)))
+    ]
+room_opens s t [] (f ∷ fs) h ts left p r done o n = absurd o
+room_opens s t (l ∷ ls) [] h ts left p r done o n = absurd o
 
 -- a value of the next part
 pub finish : (s : List KindView) (t : ℕ) (l : Level) (ls : List Level) (fs : List (List Part)) (ts left : List Part)
@@ -224,7 +253,11 @@ built_close s t (l ∷ m ∷ ls) left fs q b =
     (spelling s (parts k l.head) (from_list l.done)))
     ∙ ap (λ (x : List ℕ). x ++ spelling s (parts k l.head) (from_list l.done)) (sym o.8)
     ∙ ap (λ (ps : List Part). b.1 ++ spelling s ps (from_list l.done)) (sym all) ∙ sym b.4 in (
-      (o.5, filled s k l.head l.done o.5 (legal_is s k l.head o.6) (as_many s (parts k l.head) l.done inside)),
+      (
+        o.5,
+        filled s k l.head l.done o.5 (legal_is s k l.head o.6) (as_many s (parts k l.head) l.done inside),
+        room_opens s t ls fs m.head o.0 left p o.2 m.done o.3 (as_many s o.0 m.done o.4),
+      ),
       subst (λ (x : List ℕ). Built s t (add v (m ∷ ls)) (left ∷ fs) x) far
           (finish s t m ls fs o.0 left p o.2 v o.3 o.4 fitting),
     )
@@ -333,3 +366,72 @@ into_end s t (l ∷ ls) (left ∷ fs) content u make q are b =
       subst (λ (x : List ℕ). Built s t (add v (l ∷ ls)) (left ∷ fs) x) far
           (finish s t l ls fs b.0 left p b.2 v b.4 b.5 fitting),
     )
+
+-- ---- room for one more part
+
+-- a part or content is to come
+abbrev pub Gives : Awaits → List (List Part) → Type 0
+Gives Next ((p ∷ ps) ∷ fs) = ⊤
+Gives Next _ = ⊥
+Gives _ fs = ⊤
+
+built_room : (s : List KindView) (t : ℕ) (ls : List Level) (p : Part) (ps : List Part) (fs : List (List Part))
+    (q : List ℕ) → Built s t ls ((p ∷ ps) ∷ fs) q → HasRoomIn ls
+built_room s t [] p ps fs q b = absurd b
+built_room s t (l ∷ ls) p ps fs q b = room_opens s t ls fs l.head b.0 ps p b.1 l.done b.2 (as_many s b.0 l.done b.3)
+
+into_room : (s : List KindView) (t : ℕ) (ls : List Level) (fs : List (List Part)) (content : List ℕ)
+    (make : List ℕ → Head) (n : ℕ) (q : List ℕ) → BuiltInto s t ls fs content make n q → HasRoomIn ls
+into_room s t [] fs content make n q b = absurd b
+into_room s t (l ∷ ls) [] content make n q b = absurd b
+into_room s t (l ∷ ls) (left ∷ fs) content make n q b =
+    room_opens s t ls fs l.head b.0 left b.1 b.2 l.done b.4 (as_many s b.0 l.done b.5)
+
+-- a part that may be one of many
+built_many : (s : List KindView) (t : ℕ) (ls : List Level) (ps : List Part) (fs : List (List Part)) (q : List ℕ)
+    → 2 ≤ length ps → Built s t ls (ps ∷ fs) q → IsManyIn ls
+built_many s t [] ps fs q two b = absurd b
+built_many s t (l ∷ ls) ps fs q two b = opens_many ls fs l.head (b.0 ++ ps) b.1 (omega (arith, length-append b.0 ps)) b.2
+  where
+    opens_many : (ls : List Level) (fs : List (List Part)) (h : Head) (qs : List Part) (r : List ℕ) → 2 ≤ length qs
+        → Opens s t ls fs h qs r → IsMany h
+    opens_many [] [] h qs r two o = absurd (omega (arith, ap (λ (l : List Part). length l) o.1))
+    opens_many (m ∷ ls) (f ∷ fs) h qs r two o =
+        elim (many_or s (kind_at s o.1.kind) h (legal_is s (kind_at s o.1.kind) h o.6)) [
+          | inl many ↦ many
+          | inr few ↦ absurd (omega (arith, few, ap (λ (x : List Part). length x) o.7))
+        ]
+    opens_many [] (f ∷ fs) h qs r two o = absurd o
+    opens_many (m ∷ ls) [] h qs r two o = absurd o
+
+-- a builder was told this, of which more is known
+abbrev pub With : (H K : Trace → Type 0) → Trace → Type 0
+With H K a = H a × K a
+
+module _ (s : List KindView) (t : ℕ) (l : Bounds) (H : Trace → Type 0) where
+  pub seen_with : (K : Trace → Type 0) (a : Awaits) (fs : List (List Part)) (q : List ℕ) (r : Sees s t l H a fs q)
+      → K r.trace → Sees s t l (With H K) a fs q
+  seen_with K a fs q r k = record {
+    reading = r.reading;
+    trace = r.trace;
+    told = (r.told, k);
+    built = r.built;
+  }
+
+  -- the innermost node has room for what is to come
+  pub seen_room : (a : Awaits) (fs : List (List Part)) (q : List ℕ) → Gives a fs → Sees s t l H a fs q
+      → Sees s t l (With H HasRoom) a fs q
+  seen_room a fs q g r = seen_with HasRoom a fs q r (room a fs g r.trace r.built)
+    where
+      room : (a : Awaits) (fs : List (List Part)) → Gives a fs → (x : Trace) → BuiltAs s t a x fs q → HasRoom x
+      room Next [] g x b = absurd g
+      room Next ([] ∷ fs) g x b = absurd g
+      room Next ((p ∷ ps) ∷ fs) g x b = built_room s t x.levels p ps fs q b.1
+      room (Content n) fs g x b = into_room s t x.levels fs x.content value.bytes n q b
+      room (Wide signed) fs g x b = into_room s t x.levels fs [] (make_wide signed) 8 q b.1
+      room (Low signed y) fs g x b = into_room s t x.levels fs (num4 (pos y)) (make_wide signed) 4 q b.1
+
+  -- and for many
+  pub seen_many : (ps : List Part) (fs : List (List Part)) (q : List ℕ) → 2 ≤ length ps → Sees s t l H Next (ps ∷ fs) q
+      → Sees s t l (With H TakesMany) Next (ps ∷ fs) q
+  seen_many ps fs q two r = seen_with TakesMany Next (ps ∷ fs) q r (built_many s t r.trace.levels ps fs q two r.built.1)

@@ -1,5 +1,5 @@
 -- The count of a value's bytes, where it was not made.
-use Rattle.std.proofs.Common.{◌≡◌, ℕ, ◌%◌, ◌≤◌, List, [], ◌++◌, length, append-nil, subst, sym, arith}
+use Rattle.std.proofs.Common.{◌≡◌, ℕ, ◌%◌, ◌≤◌, List, [], length, append-nil, subst}
 use Rattle.xdr_types.specs.Kinds.{KindView, Part}
 use Rattle.xdr_types.specs.Tree.{Tree}
 use Rattle.xdr_types.specs.Within.{Bounds}

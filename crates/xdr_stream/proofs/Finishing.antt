@@ -17,9 +17,9 @@ use Rattle.xdr_types.specs.Within.{Bounds}
 use Rattle.xdr_types.specs.Laws.{EachKindHasAValue}
 use Rattle.xdr_types.specs.declared.value.Value.{Value}
 use Rattle.xdr_stream.specs.Trace as trace
-use Rattle.xdr_stream.specs.Trace.{Trace, level}
+use Rattle.xdr_stream.specs.Trace.{Trace, level, at_start}
 use Rattle.xdr_stream.specs.Sees.{Sees, Ends}
-use Rattle.xdr_stream.specs.Values.{level_of, levels_onto, trace_of}
+use Rattle.xdr_stream.specs.Values.{level_of, levels_onto, Tells}
 use Rattle.xdr_stream.specs.Stands.{StandsAs, Fails}
 use Rattle.xdr_stream.specs.Finish.{Finishes}
 use Rattle.xdr_stream.specs.declared.fault.Reason.{Reason}
@@ -35,10 +35,6 @@ use Rattle.xdr_stream.proofs.Answering.{pending_on}
 use Rattle.xdr_stream.specs.declared.machine.Awaits.TheVariants.{Next}
 use Rattle.xdr_stream.proofs.Built.{built_start}
 use Rattle.xdr_stream.proofs.Reading.{reading_start}
-
--- what a builder was told before any byte: the root has no value
-abbrev pub at_start : Trace
-at_start = record { levels = level value.nothing [] ∷ []; content = [] }
 
 abbrev pub trace_at : List trace.Level → List ℕ → Trace
 trace_at levels content = record { levels = levels; content = content }
@@ -69,13 +65,13 @@ first_level (m ∷ ms) l = m
 
 module _ (s : List KindView) (t : ℕ) (l : Bounds) (built : Values) (fs : List (List Part)) (read : ℕ) (room : List ℕ)
     (pending : ℕ) (b : List ℕ)
-    (r : StandsAs s t l (λ (x : Trace). trace_of built ≡ x) fs read room pending Finished b) where
+    (r : StandsAs s t l (λ (x : Trace). Tells built x) fs read room pending Finished b) where
   -- the root has its value
   rooted : (v : Tree) × (level_of built.work ≡ level value.nothing (v ∷ [])) × Outcome s t l b (Whole v (length b))
   rooted =
-      let w = sees_whole s t l (λ (x : Trace). trace_of built ≡ x) b fs [] r.1 r.2 in
+      let w = sees_whole s t l (λ (x : Trace). Tells built x) b fs [] r.1 r.2 in
       let all : level_of built.work ∷ levels_onto [] built.parents.items ≡ level value.nothing (w.0 ∷ []) ∷ [] =
-      ap (λ (x : Trace). x.levels) r.2.told ∙ w.1 in (
+      ap (λ (x : Trace). x.levels) r.2.told.trace ∙ w.1 in (
         w.0,
         ap (λ (ls : List trace.Level). first_level ls (level_of built.work)) all,
         subst (λ (x : List ℕ). Outcome s t l x (Whole w.0 (length b))) (append-nil b) w.2,

@@ -14,7 +14,6 @@ use Rattle.xdr_types.specs.Outcome.{Outcome, Pending, Whole, TooDeep}
 use Rattle.xdr_laws.specs.Owed.{lead_of, HasUnit, IsSilent, IsFreeBytes, free_size, silent_head, IsSolid}
 use Rattle.xdr_laws.proofs.Events.{outcome_pending}
 use Rattle.xdr_laws.proofs.Nodes.{IsFormedKind}
-use Rattle.xdr_laws.proofs.Nodes as nodes
 use Rattle.xdr_stream.specs.Frames.{dues, Begins, rest_of}
 use Rattle.xdr_stream.specs.Sees.{Reading}
 use Rattle.xdr_stream.specs.First.{IsDue}
@@ -40,17 +39,13 @@ needs_unit s xdr.hyper solid formed none = inr (tt, omega arith)
 needs_unit s xdr.unsigned_hyper solid formed none = inr (tt, omega arith)
 needs_unit s _ solid formed none = inl tt
 
-pub solid_too : (k : KindView) → nodes.IsSolid k → IsSolid k
-solid_too xdr.nothing h = absurd h
-solid_too _ h = tt
-
 -- the first part of a node that begins without a byte is none of void kind
 pub solid_first : (s : List KindView) (k : KindView) (place : ℕ) → IsSolid k → IsFormedKind s k → IsSilent (lead_of k)
     → Begins (parts k (silent_head k)) place → IsSolid (kind_at s place)
 solid_first s (xdr.structure []) place solid formed silent b = absurd (omega (arith, formed.0))
 solid_first s (xdr.structure (p ∷ ps)) place solid formed silent b =
     subst (λ (n : ℕ). IsSolid (kind_at s n)) (ap (λ (qs : List Part). first_kind qs) b.1 ∙ b.2)
-    (solid_too (kind_at s p.kind) formed.1.0)
+    formed.1.0
   where
     first_kind : List Part → ℕ
     first_kind [] = 0
@@ -58,7 +53,7 @@ solid_first s (xdr.structure (p ∷ ps)) place solid formed silent b =
 solid_first s (xdr.fixed item zero) place solid formed silent b = absurd (omega (arith, formed.0))
 solid_first s (xdr.fixed item (suc n)) place solid formed silent b =
     subst (λ (n : ℕ). IsSolid (kind_at s n)) (ap (λ (qs : List Part). first_kind qs) b.1 ∙ b.2)
-    (solid_too (kind_at s item) formed.1)
+    formed.1
   where
     first_kind : List Part → ℕ
     first_kind [] = 0

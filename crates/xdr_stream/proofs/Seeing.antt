@@ -18,7 +18,7 @@ use Rattle.xdr_laws.proofs.Legal.{IsLegal, is_legal_of, bytes_are}
 use Rattle.xdr_laws.proofs.Content.{signed8_unit, unit8_less, unit8_back}
 use Rattle.xdr_laws.proofs.Owed.{silent_legal}
 use Rattle.xdr_stream.specs.Frames.{left_of, rest_of, Begins, onto, stack_of, dues}
-use Rattle.xdr_stream.specs.Trace.{Level, Trace, IsOpen, leaf_in, open_in, close_in, CanClose}
+use Rattle.xdr_stream.specs.Trace.{Level, Trace, IsOpen, leaf_in, open_in, close_in, CanClose, HasRoom}
 use Rattle.xdr_stream.specs.Sees.{Sees, Reading, Built, BuiltInto, Makes, make_wide, next_height, IsReady, GoesDeep}
 use Rattle.xdr_stream.specs.Steps.{IsStep}
 use Rattle.xdr_stream.specs.declared.step.Step.TheVariants as step
@@ -27,7 +27,7 @@ use Rattle.xdr_stream.specs.declared.machine.Trouble.{Trouble}
 use Rattle.xdr_stream.specs.declared.machine.Trouble.TheVariants as trouble
 use Rattle.xdr_stream.specs.declared.machine.Awaits.TheVariants.{Next, Content, Wide}
 use Rattle.xdr_stream.proofs.Frames.{onto_last, onto_length}
-use Rattle.xdr_stream.proofs.Built.{built_leaf, built_open, built_close, into_start}
+use Rattle.xdr_stream.proofs.Built.{built_leaf, built_open, built_close, into_start, With, Gives, seen_room}
 use Rattle.xdr_stream.proofs.Reading.{reading_close, reading_silent, reading_free, ends_deep}
 
 module _ (s : List KindView) (t : ℕ) (l : Bounds) (H I : Trace → Type 0) where
@@ -252,6 +252,14 @@ module _ (s : List KindView) (t : ℕ) (l : Bounds) (H I : Trace → Type 0) (wo
   code_deep place rest b deep r =
       sees_deep s t l H H b.0 (rest_of (left_of work)) (onto [] parents) q rest (omega (arith, onto_length [] parents))
       (subst (λ (ps : List Part). Sees s t l H Next (ps ∷ onto [] parents) q) b.1 r)
+
+-- the innermost node has room for the part that comes next
+pub room_next : (s : List KindView) (t : ℕ) (l : Bounds) (H : Trace → Type 0) (work : Frame) (parents : List Frame)
+    (q : List ℕ) (k : KindView) → IsNext s l work parents k → Sees s t l H Next (stack_of work parents) q
+    → Sees s t l (With H HasRoom) Next (stack_of work parents) q
+room_next s t l H work parents q k n r =
+    seen_room s t l H Next (stack_of work parents) q
+    (subst (λ (ps : List Part). Gives Next (ps ∷ onto [] parents)) (sym n.first) tt) r
 
 -- ---- what comes next stands lower
 

@@ -15,7 +15,6 @@ use Rattle.xdr_stream.specs.Frames.{left_of, rest_of, Begins, onto, stack_of}
 use Rattle.xdr_stream.specs.Sound.{AreSolid, AreAllSolid, AreKnown, IsSound, HasNext, Starts}
 use Rattle.xdr_stream.specs.declared.frame.Frame.{Frame}
 use Rattle.xdr_stream.proofs.Frames.{onto_last}
-use Rattle.xdr_stream.proofs.Firsts.{solid_too}
 
 no_parts : (p : Part) → [] ≡ p ∷ rest_of [] → ⊥
 no_parts p e = cc
@@ -93,7 +92,7 @@ module _ (s : List KindView) where
       → AreSolid s ps
   solid_members [] known solid = tt
   solid_members (p ∷ ps) known solid =
-      ((known.0, solid_too (kind_at s p.kind) solid.0), solid_members ps known.1 solid.1)
+      ((known.0, solid.0), solid_members ps known.1 solid.1)
 
   pub solid_items : (item n : ℕ) → item < length s → IsSolid (kind_at s item)
       → AreSolid s (replicate n (item_part item))
@@ -111,7 +110,7 @@ module _ (s : List KindView) where
       → IsUnitFirst (lead_of k) → AreKnown s (parts k h)
   made_known (xdr.up_to item max) (value.items n) all formed u =
       solid_known (replicate n (item_part item))
-      (solid_items item n (all (value.items 1)).0 (solid_too (kind_at s item) formed))
+      (solid_items item n (all (value.items 1)).0 formed)
   made_known (xdr.choice tag arms other) (value.tag z) all formed u =
       optional_known (part_of arms other z) (all (value.tag z))
   made_known (xdr.maybe item) value.present all formed u = (all value.present).0
@@ -153,6 +152,6 @@ items_solid s place item size known within formed is =
     let all : AllByRecursion (λ (p : Part). p.kind < length s) (parts (xdr.fixed item size) (value.items 1)) =
     subst (λ (k : KindView). AllByRecursion (λ (p : Part). p.kind < length s) (parts k (value.items 1))) (sym is)
     (known place (value.items 1) within) in (
-      solid_items s item size all.0 (solid_too (kind_at s item) f.1),
+      solid_items s item size all.0 f.1,
       has_items item size f.0,
     )

@@ -22,7 +22,7 @@ use Rattle.xdr_stream.proofs.Reading.{reading_close, still_due, still_rest, ends
 
 module _ (s : List KindView) (t : ℕ) (l : Bounds) (H : Trace → Type 0) (q : List ℕ) where
   -- no node is too deep, and the value is not whole
-  still : (a : Awaits) (fs : List (List Part)) → IsReady s l a fs → Sees s t l H a fs q
+  pub still : (a : Awaits) (fs : List (List Part)) → IsReady s l a fs → Sees s t l H a fs q
       → (IsDeep s t l q → ⊥) × IsUnfinished s t q
   still Next [] ready r = absurd ready
   still Next ([] ∷ fs) ready r = absurd ready

@@ -8,7 +8,7 @@ use Rattle.xdr_types.specs.Outcome.{Outcome}
 use Rattle.xdr_types.specs.declared.kind.KindId.{KindId}
 use Rattle.xdr_types.specs.declared.value.Value.{Value}
 use Rattle.xdr_stream.specs.Trace.{Trace}
-use Rattle.xdr_stream.specs.Values.{trace_of}
+use Rattle.xdr_stream.specs.Values.{Tells}
 use Rattle.xdr_stream.specs.Stands.{Fails, StandsFor}
 use Rattle.xdr_stream.specs.declared.fault.DecodeFault.{DecodeFault}
 use Rattle.xdr_stream.specs.declared.fault.Reason.TheVariants.{Truncated}
@@ -18,7 +18,7 @@ use Rattle.xdr_stream.specs.declared.values.Values.{Values}
 
 -- a decoder's fields stand for these bytes, all that it was given up to the value's end
 abbrev pub Stands : Reader Values → (b : List ℕ) → Type 0
-Stands r b = StandsFor (λ (v : Values) (t : Trace). trace_of v ≡ t) r b
+Stands r b = StandsFor (λ (v : Values) (t : Trace). Tells v t) r b
 
 -- a checker's fields stand for these bytes
 abbrev pub Checks : Reader Nothing → (b : List ℕ) → Type 0

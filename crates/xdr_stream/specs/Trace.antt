@@ -16,6 +16,38 @@ pub record Trace : Type 0 where
 abbrev pub level : Head → List Tree → Level
 level h done = record { head = h; done = done }
 
+-- what was told before any byte: what stands around the root has no part
+abbrev pub at_start : Trace
+at_start = record { levels = level value.nothing [] ∷ []; content = [] }
+
+-- a node that may have more parts than one (RFC 4506 sections 4.12 to 4.14)
+abbrev pub IsMany : Head → Type 0
+IsMany value.fields = ⊤
+IsMany (value.items n) = ⊤
+IsMany _ = ⊥
+
+-- a node may have one more part
+abbrev pub HasRoomAt : Head → List Tree → Type 0
+HasRoomAt value.fields done = ⊤
+HasRoomAt (value.items n) done = ⊤
+HasRoomAt _ done = done ≡ []
+
+abbrev pub HasRoomIn : List Level → Type 0
+HasRoomIn [] = ⊥
+HasRoomIn (l ∷ ls) = HasRoomAt l.head l.done
+
+-- the innermost node may have one more part
+abbrev pub HasRoom : Trace → Type 0
+HasRoom t = HasRoomIn t.levels
+
+abbrev pub IsManyIn : List Level → Type 0
+IsManyIn [] = ⊥
+IsManyIn (l ∷ ls) = IsMany l.head
+
+-- the innermost node may have many parts
+abbrev pub TakesMany : Trace → Type 0
+TakesMany t = IsManyIn t.levels
+
 -- whether a node has one part at most
 abbrev pub added : Head → List Tree → Tree → List Tree
 added value.fields done v = done ++ v ∷ []
@@ -61,9 +93,9 @@ IsFilled value.fields done = ⊤
 IsFilled _ done = (v : Tree) × (done ≡ v ∷ [])
 
 abbrev pub CanCloseLevels : List Level → Type 0
-CanCloseLevels (l ∷ m ∷ ls) = IsOpen l.head × IsFilled l.head l.done
+CanCloseLevels (l ∷ m ∷ ls) = IsOpen l.head × IsFilled l.head l.done × HasRoomAt m.head m.done
 CanCloseLevels _ = ⊥
 
--- the innermost node has all its parts
+-- the innermost node has all its parts, and the one around it may have it
 abbrev pub CanClose : Trace → Type 0
 CanClose t = CanCloseLevels t.levels

@@ -1,6 +1,7 @@
 //! What is made of the nodes that are read.
 ghost use Rattle.std.specs.Prelude.{◌≡◌, ◌%◌, List, ℕ, length, OnOk};
-ghost use Rattle.xdr_stream.specs.Trace.{Trace, leaf_in, open_in, close_in, extend_in, content_in, CanClose};
+ghost use Rattle.xdr_stream.specs.Trace.{Trace, leaf_in, open_in, close_in, extend_in, content_in};
+ghost use Rattle.xdr_stream.specs.Trace.{CanClose, HasRoom, TakesMany, at_start};
 ghost use Rattle.xdr_stream.specs.Nodes.{head_of_leaf, head_of_node};
 ghost use Rattle.xdr_stream.specs.Runs.{numbers_in};
 
@@ -36,12 +37,14 @@ pub trait Build {
 
     /// A node without parts.
     fn leaf(&mut self, leaf: Leaf) -> Result<(), AllocError>
-        ensures { OnOk result ((t : Trace) → tells self.old t → tells self.new (leaf_in (head_of_leaf leaf) t)) };
+        ensures { OnOk result ((t : Trace) → tells self.old t → HasRoom t
+            → tells self.new (leaf_in (head_of_leaf leaf) t)) };
 
     /// Numbers of one unit each, signed or not, one after another.
     fn numbers(&mut self, signed: bool, units: &[u8]) -> Result<(), AllocError>
         requires { length units.now % 4 ≡ 0 }
-        ensures { OnOk result ((t : Trace) → tells self.old t → tells self.new (numbers_in signed units.now t)) };
+        ensures { OnOk result ((t : Trace) → tells self.old t → TakesMany t
+            → tells self.new (numbers_in signed units.now t)) };
 
     /// A node whose parts come next.
     fn open(&mut self, node: Node) -> Result<(), AllocError>
@@ -57,5 +60,9 @@ pub trait Build {
 
     /// The end of the content, which makes a node without parts.
     fn content(&mut self) -> Result<(), AllocError>
-        ensures { OnOk result ((t : Trace) → tells self.old t → tells self.new (content_in t)) };
+        ensures { OnOk result ((t : Trace) → tells self.old t → HasRoom t → tells self.new (content_in t)) };
+
+    /// Lets all of it go, as before any byte. It takes no memory.
+    fn clear(&mut self)
+        ensures { tells self.new at_start };
 }

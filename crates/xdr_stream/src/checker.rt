@@ -1,5 +1,6 @@
 //! Reading without a value.
 ghost use Rattle.std.specs.Prelude.{⊤, ◌<◌, [], length};
+ghost use Rattle.xdr_stream.specs.Held.{GoesOn};
 ghost use Rattle.xdr_stream.specs.Finish.{Checks, IsStarted};
 
 use crate::build::{Build, Leaf, Node};
@@ -38,6 +39,8 @@ impl Build for Nothing {
     fn content(&mut self) -> Result<(), AllocError> {
         Ok(())
     }
+
+    fn clear(&mut self) {}
 }
 
 /// A checker that has been given no byte.
@@ -50,6 +53,7 @@ pub fn check<'s>(
     requires { kind.place < length schema.now.kinds }
     ensures stands { Checks result [] }
     ensures settings { IsStarted result schema.now kind limits }
+    ensures open { GoesOn result.state }
 {
     let _known = schema.len();
     Reader {

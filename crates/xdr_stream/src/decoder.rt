@@ -1,5 +1,6 @@
 //! Bytes in pieces as a value, with no input kept but an unfinished unit.
 ghost use Rattle.std.specs.Prelude.{◌≡◌, ◌<◌, ◌≤◌, ℕ, List, [], length, take, Err};
+ghost use Rattle.xdr_stream.specs.Held.{GoesOn};
 ghost use Rattle.xdr_stream.specs.Finish.{Stands, Finishes, IsStarted};
 ghost use Rattle.xdr_stream.specs.declared.fault.Reason.TheVariants.{Truncated};
 ghost use Rattle.xdr_stream.specs.declared.reader.State.TheVariants.{Failed};
@@ -22,6 +23,7 @@ pub fn start<'s>(
     requires { kind.place < length schema.now.kinds }
     ensures stands { Stands result [] }
     ensures settings { IsStarted result schema.now kind limits }
+    ensures open { GoesOn result.state }
 {
     let _known = schema.len();
     Reader {
@@ -38,6 +40,8 @@ pub fn start<'s>(
             work: Level::Root(None),
             parents: Vec::new(alloc),
             content: Vec::new(alloc),
+            nodes: 0,
+            kept: 0,
         },
         read: 0,
         unit: [0; 4],

@@ -9,7 +9,7 @@ ghost use Rattle.xdr_stream.specs.Stands.{StandsFor, IsAwake, IsWaiting, IsSame,
 ghost use Rattle.xdr_stream.specs.Run.{IsRun};
 ghost use Rattle.xdr_stream.specs.declared.machine.Awaits.TheVariants.{Next, Content};
 ghost use Rattle.xdr_stream.specs.declared.reader.State.TheVariants.{Reading, Finished, Failed};
-ghost use Rattle.xdr_stream.specs.declared.reader.Progress.TheVariants.{Done};
+ghost use Rattle.xdr_stream.specs.declared.reader.Progress.TheVariants.{More, Done};
 
 use crate::build::Build;
 use crate::fault::{DecodeFault, Reason};
@@ -94,7 +94,7 @@ impl<'s, B: Build + Drop> Reader<'s, B> {
         }
     }
 
-    // Refuses what comes after the units that are read.
+    // Refuses what comes after the units that are read, and lets go of what is held.
     fn fail(&mut self, why: Reason)
         ensures stands { (b : List ℕ)
             → ((rest : List ℕ) → Ends self.old.schema.now.kinds self.old.kind.place self.old.limits why
@@ -105,6 +105,8 @@ impl<'s, B: Build + Drop> Reader<'s, B> {
         ensures same { IsSame self.old self.new }
     {
         self.state = State::Failed(DecodeFault { why, at: self.read });
+        self.parents = Vec::new(*self.parents.allocator());
+        self.built.clear();
     }
 
     // Takes a whole unit.
@@ -288,6 +290,7 @@ impl<'s, B: Build + Drop> Reader<'s, B> {
         ensures answer { (b : List ℕ) → StandsFor B.tells self.old b
             → Answers self.old.schema.now.kinds self.old.kind.place self.old.limits b piece.now result }
         ensures used { IfOk result (λ p. used_of p ≤ length piece.now) }
+        ensures more { IfOk result (λ p. p ≡ More → IsWaiting self.new.state) }
         ensures done { IfOk result (λ p. (used : ℕ) → p ≡ Done used → self.new.state ≡ Finished) }
         ensures again { self.old.state ≡ Finished → result ≡ Ok (Done 0) }
         ensures failed { IfErr result (λ f. self.new.state ≡ Failed f) }

@@ -9,6 +9,7 @@ pub mod fault;
 pub mod feeding;
 pub mod first;
 pub mod frame;
+pub mod holding;
 pub mod machine;
 pub mod number;
 pub mod reader;
@@ -18,5 +19,6 @@ pub mod unit;
 pub mod values;
 
 pub use fault::{DecodeFault, Reason};
+pub use holding::Held;
 pub use reader::{Progress, Reader};
 pub use values::Values;

@@ -1,12 +1,12 @@
 //! The value that the nodes make.
 ghost use Rattle.std.specs.Prelude.{◌≡◌, ◌+◌, ◌≤◌, [], ◌∷◌, length, take, drop, OnOk, MatchOption};
 ghost use Rattle.std.specs.Int.{w32, from_be_bytes};
-ghost use Rattle.xdr_types.specs.Tree.{Tree, nothing};
+ghost use Rattle.xdr_types.specs.Tree.{Tree, bytes, nothing};
 ghost use Rattle.xdr_types.specs.View.{tree};
 ghost use Rattle.xdr_stream.specs.Nodes.{head_of_leaf, head_of_node};
 ghost use Rattle.xdr_stream.specs.Runs.{number_head};
 ghost use Rattle.xdr_stream.specs.Trace.{level as told, added, IsOpen, IsFilled};
-ghost use Rattle.xdr_stream.specs.Values.{trace_of, level_of, closed_tree, leaf_tree};
+ghost use Rattle.xdr_stream.specs.Values.{Tells, level_of, closed_tree, leaf_tree};
 
 use crate::build::{Build, Leaf, Node};
 use std::alloc::{AllocError, Global};
@@ -29,6 +29,10 @@ pub struct Values {
     pub work: Level,
     pub parents: Vec<Level>,
     pub content: Vec<u8>,
+    /// How many nodes there are, finished or at work.
+    pub nodes: usize,
+    /// How many bytes of content.
+    pub kept: usize,
 }
 
 // One more finished part.
@@ -107,6 +111,13 @@ fn value_of(alloc: Global, leaf: Leaf) -> Value
     }
 }
 
+// Content as a value.
+fn content_value(content: Vec<u8>) -> Value
+    ensures { tree result ≡ leaf_tree (bytes content.items) }
+{
+    Value::Bytes(content)
+}
+
 // A number of one unit, signed or not.
 fn number_value(signed: bool, number: u32) -> Value
     ensures { tree result ≡ leaf_tree (number_head signed number) }
@@ -141,10 +152,12 @@ fn begun(alloc: Global, node: Node) -> Level
 }
 
 impl Build for Values {
-    ghost tells = { λ b t. trace_of b ≡ t };
+    ghost tells = { λ b t. Tells b t };
 
     fn leaf(&mut self, leaf: Leaf) -> Result<(), AllocError> {
-        add(self.alloc, &mut self.work, value_of(self.alloc, leaf))
+        add(self.alloc, &mut self.work, value_of(self.alloc, leaf))?;
+        self.nodes = self.nodes.saturating_add(1);
+        Ok(())
     }
 
     fn numbers(&mut self, signed: bool, units: &[u8]) -> Result<(), AllocError> {
@@ -154,6 +167,7 @@ impl Build for Values {
             add_item(self.alloc, &mut self.work, value)?;
             at += 4;
         }
+        self.nodes = self.nodes.saturating_add(units.len() / 4);
         Ok(())
     }
 
@@ -161,6 +175,7 @@ impl Build for Values {
         self.parents.reserve(1)?;
         let parent = std::mem::replace(&mut self.work, begun(self.alloc, node));
         self.parents.push_reserved(parent);
+        self.nodes = self.nodes.saturating_add(1);
         Ok(())
     }
 
@@ -178,11 +193,22 @@ impl Build for Values {
             self.content.reserve(bytes.len().saturating_add(4))?;
         }
         self.content.extend_from_slice(bytes)?;
+        self.kept = self.kept.saturating_add(bytes.len());
         Ok(())
     }
 
     fn content(&mut self) -> Result<(), AllocError> {
         let content = std::mem::replace(&mut self.content, Vec::new(self.alloc));
-        add(self.alloc, &mut self.work, Value::Bytes(content))
+        add(self.alloc, &mut self.work, content_value(content))?;
+        self.nodes = self.nodes.saturating_add(1);
+        Ok(())
+    }
+
+    fn clear(&mut self) {
+        self.work = Level::Root(None);
+        self.parents = Vec::new(self.alloc);
+        self.content = Vec::new(self.alloc);
+        self.nodes = 0;
+        self.kept = 0;
     }
 }

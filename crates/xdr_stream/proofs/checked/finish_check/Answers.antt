@@ -1,4 +1,4 @@
-use Rattle.std.proofs.Common.{◌≡◌, ℕ, List, length, subst, sym, arith}
+use Rattle.std.proofs.Common.{subst, arith}
 use Rattle.std.specs.Prelude.{⊤}
 use Rattle.xdr_stream.specs.Trace.{Trace}
 use Rattle.xdr_stream.specs.Frames.{stack_of}
@@ -13,7 +13,7 @@ returns-in-Failed-clause-answer c = λ b st.
     let r = c.args.reader in
     finish_failed r.schema.now.kinds r.kind.place r.limits c.in-Failed.fault b
     (subst (λ (x : State). StandsAs r.schema.now.kinds r.kind.place r.limits (λ (t : Trace). ⊤)
-    (stack_of r.work r.parents.items) r.read r.unit r.pending x b) c.in-Failed.is st)
+    (stack_of r.work r.parents.items) r.read r.unit r.pending x b) c.in-Failed.is st).0
 
 pub returns-in-Finished-clause-answer : goal.returns-in-Finished-clause-answer
 returns-in-Finished-clause-answer c = λ b st.

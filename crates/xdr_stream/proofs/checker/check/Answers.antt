@@ -1,4 +1,4 @@
-use Rattle.std.proofs.Common.{List, [], ◌∷◌, refl, sym, ap, subst}
+use Rattle.std.proofs.Common.{List, [], ◌∷◌, length, refl, sym, ap, subst}
 use Rattle.std.specs.Prelude.{⊤}
 use Rattle.xdr_types.specs.Kinds.{Part}
 use Rattle.xdr_types.specs.Fits.{item_part}
@@ -22,6 +22,8 @@ returns-clause-stands c =
           (ap (λ (fs : List Frame). onto [] fs) (sym c.new.ensures.items))
           (sees_start c.args.schema.now.kinds c.args.kind.place c.args.limits tells c.len-known.ensures.valued
           c.requires tt),
+      tt,
+      ap (λ (fs : List Frame). length ((item_part c.args.kind.place ∷ []) ∷ onto [] fs)) c.new.ensures.items,
     )
 
 pub invariant_of-result : goal.invariant_of-result

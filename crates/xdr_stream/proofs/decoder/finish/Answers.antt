@@ -1,7 +1,7 @@
-use Rattle.std.proofs.Common.{◌≡◌, subst, arith}
+use Rattle.std.proofs.Common.{subst, arith}
 use Rattle.xdr_stream.specs.Trace.{Trace}
 use Rattle.xdr_stream.specs.Frames.{stack_of}
-use Rattle.xdr_stream.specs.Values.{trace_of}
+use Rattle.xdr_stream.specs.Values.{Tells}
 use Rattle.xdr_stream.specs.Stands.{StandsAs}
 use Rattle.xdr_stream.specs.declared.reader.State.{State}
 use Rattle.xdr_stream.proofs.Finishing.{finish_failed, finish_open, still_open, root_whole, root_not_none}
@@ -11,15 +11,15 @@ pub returns-in-Failed-clause-answer : goal.returns-in-Failed-clause-answer
 returns-in-Failed-clause-answer c = λ b st.
     let r = c.args.reader in
     finish_failed r.schema.now.kinds r.kind.place r.limits c.in-Failed.fault b
-    (subst (λ (x : State). StandsAs r.schema.now.kinds r.kind.place r.limits (λ (t : Trace). trace_of r.built ≡ t)
-    (stack_of r.work r.parents.items) r.read r.unit r.pending x b) c.in-Failed.is st)
+    (subst (λ (x : State). StandsAs r.schema.now.kinds r.kind.place r.limits (λ (t : Trace). Tells r.built t)
+    (stack_of r.work r.parents.items) r.read r.unit r.pending x b) c.in-Failed.is st).0
 
 pub returns-in-Some-clause-answer : goal.returns-in-Some-clause-answer
 returns-in-Some-clause-answer c = λ b st.
     let r = c.args.reader in
     root_whole r.schema.now.kinds r.kind.place r.limits r.built
     (stack_of r.work r.parents.items) r.read r.unit r.pending b
-    (subst (λ (x : State). StandsAs r.schema.now.kinds r.kind.place r.limits (λ (t : Trace). trace_of r.built ≡ t)
+    (subst (λ (x : State). StandsAs r.schema.now.kinds r.kind.place r.limits (λ (t : Trace). Tells r.built t)
     (stack_of r.work r.parents.items) r.read r.unit r.pending x b) c.in-Finished.is st) c.in-Some.value
     c.in-Some.ensures
 
@@ -29,15 +29,15 @@ returns-in-Finished-clause-answer c = λ b st.
     absurd (root_not_none r.schema.now.kinds r.kind.place r.limits r.built
     (stack_of r.work r.parents.items) r.read r.unit
     r.pending b
-    (subst (λ (x : State). StandsAs r.schema.now.kinds r.kind.place r.limits (λ (t : Trace). trace_of r.built ≡ t)
+    (subst (λ (x : State). StandsAs r.schema.now.kinds r.kind.place r.limits (λ (t : Trace). Tells r.built t)
     (stack_of r.work r.parents.items) r.read r.unit r.pending x b) c.in-Finished.is st) c.in-None.ensures)
 
 pub returns-in-Reading-clause-answer : goal.returns-in-Reading-clause-answer
 returns-in-Reading-clause-answer c = λ b st.
     let r = c.args.reader in
-    let o = still_open r.schema.now.kinds r.kind.place r.limits (λ (t : Trace). trace_of r.built ≡ t)
+    let o = still_open r.schema.now.kinds r.kind.place r.limits (λ (t : Trace). Tells r.built t)
     (stack_of r.work r.parents.items) r.read r.unit r.pending c.in-Reading.field-0 b
-    (subst (λ (x : State). StandsAs r.schema.now.kinds r.kind.place r.limits (λ (t : Trace). trace_of r.built ≡ t)
+    (subst (λ (x : State). StandsAs r.schema.now.kinds r.kind.place r.limits (λ (t : Trace). Tells r.built t)
     (stack_of r.work r.parents.items) r.read r.unit r.pending x b) c.in-Reading.is st)
     c.depth-range.ensures.range.units in
     finish_open r.schema.now.kinds r.kind.place r.limits c.truncated-in-Reading.result c.saturating_add-at.result b

@@ -3,7 +3,9 @@ use Rattle.xdr_types.specs.Kinds as xdr
 use Rattle.xdr_types.specs.Kinds.{KindView, Part}
 use Rattle.xdr_types.specs.KindViews.{kind_view}
 use Rattle.xdr_stream.specs.Frames.{left_of}
-use Rattle.xdr_stream.proofs.Seeing.{is_next, code_deep, code_void}
+use Rattle.xdr_stream.specs.Trace.{Trace, HasRoom}
+use Rattle.xdr_stream.proofs.Built.{With}
+use Rattle.xdr_stream.proofs.Seeing.{is_next, code_deep, code_void, room_next}
 use Rattle.xdr_stream.proofs.Sounding.{first_known}
 use Rattle.xdr_stream.proofs.machine.pass_void.Goals as goal
 
@@ -27,5 +29,8 @@ returns-in_ok-leaf-clause-follows g c = λ kind q h.
     let is = sym (ap kind_view c.in-Nothing.is) ∙ c.kind.ensures in
     let n = is_next c.args.schema.now.kinds c.args.limits c.args.work.now c.args.parents.now.items c.in-Some.id.place
     xdr.nothing c.in-Some.ensures is shallow in
-    rw c.after.ensures (code_void c.args.schema.now.kinds kind c.args.limits (g.B.Build.tells c.args.built.now)
-    (g.B.Build.tells c.leaf.new.self) c.args.work.now c.args.parents.now.items q n c.in_ok-leaf.ensures h)
+    let H : Trace → Type 0 = g.B.Build.tells c.args.built.now in
+    rw c.after.ensures (code_void c.args.schema.now.kinds kind c.args.limits (With H HasRoom)
+    (g.B.Build.tells c.leaf.new.self) c.args.work.now c.args.parents.now.items q n
+    (λ a told. c.in_ok-leaf.ensures a told.0 told.1)
+    (room_next c.args.schema.now.kinds kind c.args.limits H c.args.work.now c.args.parents.now.items q xdr.nothing n h))

@@ -11,7 +11,9 @@ use Rattle.xdr_stream.specs.Sound.{AreKnown, IsSound}
 use Rattle.xdr_stream.specs.Taking.{Takes}
 use Rattle.xdr_stream.specs.Nodes.{head_of_leaf, head_of_node}
 use Rattle.xdr_stream.specs.declared.number.Made.{Made}
-use Rattle.xdr_stream.proofs.Seeing.{next_ready}
+use Rattle.xdr_stream.specs.Trace.{Trace, HasRoom}
+use Rattle.xdr_stream.proofs.Built.{With}
+use Rattle.xdr_stream.proofs.Seeing.{next_ready, room_next}
 use Rattle.xdr_stream.proofs.Taking.{unit_refused, unit_leaf, unit_open, length_empty, length_some}
 use Rattle.xdr_stream.proofs.Sounding.{first_known, first_starts, known_rest, made_known}
 use Rattle.xdr_stream.proofs.machine.take_number.Goals as goal
@@ -51,10 +53,12 @@ returns-in_ok-leaf-in-Leaf-clause-taken g c = λ kind limits q ready small h.
     let n = next_ready s limits c.args.work.now c.args.parents.now.items c.in-Some.id.place k c.in-Some.ensures
     c.kind-kind.ensures ready in
     let t = subst (λ (m : Made). Takes s k c.args.number m) c.in-Leaf.is c.in-Ok.ensures in
+    let H : Trace → Type 0 = g.B.Build.tells c.args.built.now in
     rw c.after.ensures
-    (unit_leaf s c.len-known.ensures.valued c.len-known.ensures.known kind limits (g.B.Build.tells c.args.built.now)
-    (g.B.Build.tells c.leaf.new.self) c.args.work.now c.args.parents.now.items q k n c.args.number less small h
-    unit t.1.0 t.0 (head_of_leaf c.in-Leaf.leaf) t.1.1 t.1.2 c.in_ok-leaf-in-Leaf.ensures)
+    (unit_leaf s c.len-known.ensures.valued c.len-known.ensures.known kind limits (With H HasRoom)
+    (g.B.Build.tells c.leaf.new.self) c.args.work.now c.args.parents.now.items q k n c.args.number less small
+    (room_next s kind limits H c.args.work.now c.args.parents.now.items q k n h)
+    unit t.1.0 t.0 (head_of_leaf c.in-Leaf.leaf) t.1.1 t.1.2 (λ a told. c.in_ok-leaf-in-Leaf.ensures a told.0 told.1))
 
 pub returns-in_ok-open-in-Open-clause-taken : goal.returns-in_ok-open-in-Open-clause-taken
 returns-in_ok-open-in-Open-clause-taken g c = λ kind limits q ready small h.
@@ -83,11 +87,12 @@ returns-then-size-eq0-clause-taken g c = λ kind limits q ready small h.
     c.kind-kind.ensures ready in
     let t = subst (λ (m : Made). Takes s k c.args.number m) c.in-Length.is c.in-Ok.ensures in
     let none : c.args.number ≡ 0 = omega (arith, t.1.1, c.if-size-eq0.true) in
+    let H : Trace → Type 0 = g.B.Build.tells c.args.built.now in
     rw c.after-then-size-eq0.ensures
-    (length_empty s c.len-known.ensures.valued c.len-known.ensures.known kind limits (g.B.Build.tells c.args.built.now)
+    (length_empty s c.len-known.ensures.valued c.len-known.ensures.known kind limits (With H HasRoom)
     (g.B.Build.tells c.leaf-then-size-eq0.new.self) c.args.work.now c.args.parents.now.items q k n c.args.number
-    less small h
-    unit t.1.0 t.0 none c.in_ok-leaf-in-Length.ensures)
+    less small (room_next s kind limits H c.args.work.now c.args.parents.now.items q k n h)
+    unit t.1.0 t.0 none (λ a told. c.in_ok-leaf-in-Length.ensures a told.0 told.1))
 
 pub returns-else-size-eq0-clause-taken : goal.returns-else-size-eq0-clause-taken
 returns-else-size-eq0-clause-taken g c = λ kind limits q ready small h.

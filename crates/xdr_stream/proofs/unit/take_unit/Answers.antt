@@ -12,8 +12,10 @@ use Rattle.xdr_laws.proofs.Legal.{are_bytes_of, bytes_are}
 use Rattle.xdr_laws.proofs.Known.{bytes4}
 use Rattle.xdr_stream.specs.Frames.{stack_of}
 use Rattle.xdr_stream.specs.Sees.{are_zeros, make_wide}
-use Rattle.xdr_stream.specs.declared.machine.Awaits.TheVariants.{Low}
+use Rattle.xdr_stream.specs.declared.machine.Awaits.TheVariants.{Content, Low}
 use Rattle.xdr_stream.proofs.Units.{first_of_two, second_of_two, two_units, to64, more_content, last_content}
+use Rattle.xdr_stream.specs.Trace.{Trace, HasRoom}
+use Rattle.xdr_stream.proofs.Built.{With, seen_room}
 use Rattle.xdr_stream.proofs.Units.{bad_content}
 use Rattle.xdr_stream.proofs.unit.take_unit.Goals as goal
 
@@ -60,6 +62,7 @@ returns-then-not-are_zeros-clause-refused g c = λ kind limits q rest ready smal
 
 pub returns-in_ok-content-in-Content-clause-taken : goal.returns-in_ok-content-in-Content-clause-taken
 returns-in_ok-content-in-Content-clause-taken g c = λ kind limits q ready small h.
+    let H : Trace → Type 0 = g.B.Build.tells c.args.built.now in
     let u : List ℕ = c.args.unit.now in
     let is : num4 (pos c.number_of-number.result) ≡ u = c.number_of-number.ensures in
     let len : length u ≡ 4 = ap (λ (b : List ℕ). length b) (sym is) in
@@ -71,14 +74,16 @@ returns-in_ok-content-in-Content-clause-taken g c = λ kind limits q ready small
     (omega (arith, length-drop c.in-Content.left u, len)))) ∙ sym c.if-not-are_zeros.ensures in
     let some : 0 < c.in-Content.left = rw c.in-Content.is at ready in
     last_content c.args.schema.now.kinds c.len-known.ensures.valued c.len-known.ensures.known kind limits
-    (g.B.Build.tells c.args.built.now) (g.B.Build.tells c.content.new.self)
+    (With H HasRoom) (g.B.Build.tells c.content.new.self)
     (stack_of c.args.work.now c.args.parents.now.items) q u len are small
     c.in-Content.left some (omega arith) zeros
-    (λ a told. c.in_ok-content-in-Content.ensures _ (c.in_ok-extend-in-Content-2.ensures a told))
-    (rw c.in-Content.is at h)
+    (λ a told. c.in_ok-content-in-Content.ensures _ (c.in_ok-extend-in-Content-2.ensures a told.0) told.1)
+    (seen_room c.args.schema.now.kinds kind limits H (Content c.in-Content.left)
+    (stack_of c.args.work.now c.args.parents.now.items) q tt (rw c.in-Content.is at h))
 
 pub returns-in_ok-leaf-in-Low-2-clause-taken : goal.returns-in_ok-leaf-in-Low-2-clause-taken
 returns-in_ok-leaf-in-Low-2-clause-taken g c = λ kind limits q ready small h.
+    let H : Trace → Type 0 = g.B.Build.tells c.args.built.now in
     let u : List ℕ = c.args.unit.now in
     let x : ℕ = c.in-Low.high in
     let y : ℕ = c.number_of-number.result in
@@ -98,13 +103,16 @@ returns-in_ok-leaf-in-Low-2-clause-taken g c = λ kind limits q ready small h.
     let head : value.unsigned_hyper (c.from.result * 4294967296 + c.from-in-Low.result) ≡ make_wide false
     (num4 (pos x) ++ u) = ap value.unsigned_hyper two in
     second_of_two c.args.schema.now.kinds c.len-known.ensures.valued c.len-known.ensures.known kind limits
-    (g.B.Build.tells c.args.built.now) (g.B.Build.tells c.leaf-else-signed.new.self)
+    (With H HasRoom) (g.B.Build.tells c.leaf-else-signed.new.self)
     (stack_of c.args.work.now c.args.parents.now.items) q u len are small
     false x (value.unsigned_hyper (c.from.result * 4294967296 + c.from-in-Low.result)) head all
-    c.in_ok-leaf-in-Low-2.ensures (rw what at h)
+    (λ a told. c.in_ok-leaf-in-Low-2.ensures a told.0 told.1)
+    (seen_room c.args.schema.now.kinds kind limits H (Low false x)
+    (stack_of c.args.work.now c.args.parents.now.items) q tt (rw what at h))
 
 pub returns-in_ok-leaf-in-Low-clause-taken : goal.returns-in_ok-leaf-in-Low-clause-taken
 returns-in_ok-leaf-in-Low-clause-taken g c = λ kind limits q ready small h.
+    let H : Trace → Type 0 = g.B.Build.tells c.args.built.now in
     let u : List ℕ = c.args.unit.now in
     let x : ℕ = c.in-Low.high in
     let y : ℕ = c.number_of-number.result in
@@ -130,6 +138,9 @@ returns-in_ok-leaf-in-Low-clause-taken g c = λ kind limits q ready small h.
     ∙ ap (λ (n : ℕ). value.hyper (cond (nat_lt n 9223372036854775808) (pos n) (negsuc (18446744073709551615 - n))))
     two in
     second_of_two c.args.schema.now.kinds c.len-known.ensures.valued c.len-known.ensures.known kind limits
-    (g.B.Build.tells c.args.built.now) (g.B.Build.tells c.leaf.new.self)
+    (With H HasRoom) (g.B.Build.tells c.leaf.new.self)
     (stack_of c.args.work.now c.args.parents.now.items) q u len are small
-    true x (value.hyper (to_z w64 (of_z w64 c.cast_signed.result))) head all c.in_ok-leaf-in-Low.ensures (rw what at h)
+    true x (value.hyper (to_z w64 (of_z w64 c.cast_signed.result))) head all
+    (λ a told. c.in_ok-leaf-in-Low.ensures a told.0 told.1)
+    (seen_room c.args.schema.now.kinds kind limits H (Low true x)
+    (stack_of c.args.work.now c.args.parents.now.items) q tt (rw what at h))

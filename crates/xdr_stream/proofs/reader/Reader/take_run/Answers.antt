@@ -1,11 +1,15 @@
-use Rattle.std.proofs.Common.{◌≡◌, ◌+◌, ◌-◌, ◌*◌, ◌≤◌, ℕ, List, ◌++◌, length, take, subst, sym, ap, ◌∙◌, true}
+use Rattle.std.proofs.Common.{replicate, [], ◌≡◌, ◌+◌, ◌-◌, ◌*◌, ◌≤◌, ℕ, List, ◌++◌, length, take, subst, sym, ap, ◌∙◌, true}
 use Rattle.std.proofs.Common.{append_assoc, append-nil, arith}
-use Rattle.std.proofs.lemmas.List.{length-append, length-take}
+use Rattle.std.proofs.lemmas.List.{length-append, length-take, length-replicate}
 use Rattle.std.proofs.Math.Seq.{take-add}
 use Rattle.xdr_types.specs.Kinds.{KindView}
 use Rattle.xdr_types.specs.Fits.{are_bytes}
 use Rattle.xdr_laws.proofs.Legal.{bytes_are}
-use Rattle.xdr_stream.specs.Frames.{stack_of}
+use Rattle.xdr_types.specs.Fits.{item_part}
+use Rattle.xdr_stream.specs.Frames.{left_of, onto, stack_of}
+use Rattle.xdr_stream.specs.Trace.{TakesMany}
+use Rattle.xdr_stream.proofs.Built.{With, seen_many}
+use Rattle.xdr_stream.specs.declared.frame.Frame.TheVariants.{Items}
 use Rattle.xdr_stream.specs.Sees.{Sees, IsReady}
 use Rattle.xdr_stream.specs.Sound.{IsSoundAt}
 use Rattle.xdr_stream.specs.Stands.{StandsAs, StandsFor}
@@ -52,10 +56,20 @@ returns-in-Ok-clause-stands g c = λ b state none room st.
     omega (arith, size, c.requires.left, c.requires.some) in
     let sum : c.args.run.left ≡ (c.args.run.left - c.args.last) + c.args.last =
     omega (arith, c.requires.left, c.requires.some) in
+    let two : 2 ≤ length (replicate c.args.run.left (item_part c.args.run.item.place)) =
+    omega (
+      arith,
+      length-replicate c.args.run.left (item_part c.args.run.item.place),
+      c.requires.left,
+      c.requires.some,
+      c.requires.last,
+    ) in
     let next = many_numbers a.schema.now.kinds c.len-known.ensures.valued c.len-known.ensures.known a.kind.place
-    a.limits c.args.run.item c.args.run.signed due.kind a.parents.items deep u (g.B.Build.tells a.built)
+    a.limits c.args.run.item c.args.run.signed due.kind a.parents.items deep u (With (g.B.Build.tells a.built) TakesMany)
     (g.B.Build.tells c.numbers.new.self) (c.args.run.left - c.args.last) c.args.last c.args.run.left s.0 count sum
-    (bytes_are u are) fits c.in-Ok.ensures seen in
+    (bytes_are u are) fits (λ x told. c.in-Ok.ensures x told.0 told.1)
+    (seen_many a.schema.now.kinds a.kind.place a.limits (g.B.Build.tells a.built)
+    (left_of (Items c.args.run.item c.args.run.left)) (onto [] a.parents.items) s.0 two seen) in
     let far : length (s.0 ++ u) ≡ c.saturating_add-self.result =
     omega (
       arith,

@@ -1,4 +1,5 @@
-use Rattle.std.proofs.Common.{◌≡◌, ◌∙◌, ℕ, [], ◌∷◌, ap, sym, arith, take}
+use Rattle.std.proofs.Common.{◌≡◌, ◌∙◌, ℕ, List, [], ◌∷◌, ◌*◌, ◌/◌, length, ap, sym, arith, take}
+use Rattle.std.proofs.lemmas.List.{take_all}
 use Rattle.xdr_types.specs.Tree.{Tree}
 use Rattle.xdr_stream.specs.Runs.{number_head, numbers_in}
 use Rattle.xdr_stream.specs.Trace as trace
@@ -6,6 +7,7 @@ use Rattle.xdr_stream.specs.Trace.{Trace, level, added, leaf_in}
 use Rattle.xdr_stream.specs.Values.{trace_of, level_of, levels_onto, leaf_tree}
 use Rattle.xdr_stream.proofs.Finishing.{trace_at}
 use Rattle.xdr_stream.proofs.Running.{numbers_more}
+use Rattle.xdr_stream.proofs.Told.{tells_numbers}
 use Rattle.xdr_stream.proofs.values.ValuesBuild.numbers.Goals as goal
 
 pub loop-at-preserved : goal.loop-at-preserved
@@ -26,4 +28,16 @@ loop-at-preserved c =
           c.number_at.ensures
           ∙ sym (numbers_more c.args.signed c.loop-at.at c.args.units.now (trace_of c.args.self.now) i.0
           (omega (arith, i.0, i.1, c.loop-at-test.true, c.requires))),
+      i.3,
+      i.4,
     )
+
+pub returns : goal.returns
+returns c = λ t told many.
+    let i = c.loop-at.invariant in
+    let us : List ℕ = c.args.units.now in
+    let all : take c.loop-at.at us ≡ us = take_all c.loop-at.at us (omega (arith, c.loop-at-test.false)) in
+    let len : length us ≡ 4 * (length us / 4) = omega (arith, c.requires) in
+    tells_numbers c.args.self.now _ c.args.signed us (length us / 4) t len
+    (i.2 ∙ ap (λ (x : List ℕ). numbers_in c.args.signed x (trace_of c.args.self.now)) all)
+    (λ few. omega (arith, c.saturating_add-self.ensures, i.3, few)) i.4 told many

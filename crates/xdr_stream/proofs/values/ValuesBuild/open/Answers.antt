@@ -1,11 +1,15 @@
+use Rattle.std.proofs.Common.{refl, arith}
 use Rattle.xdr_stream.specs.Nodes.{head_of_node}
 use Rattle.xdr_stream.proofs.Levels.{opened}
+use Rattle.xdr_stream.proofs.Told.{tells_open}
 use Rattle.xdr_stream.proofs.values.ValuesBuild.open.Goals as goal
 
 pub returns : goal.returns
-returns c = λ t h.
-    opened c.args.self.now.content.items c.args.self.now.work c.replace-parent.new.dest c.replace-parent.result
+returns c = λ t told.
+    tells_open c.args.self.now _ (head_of_node c.args.node) t
+    (opened c.args.self.now.content.items c.args.self.now.work c.replace-parent.new.dest c.replace-parent.result
     c.args.self.now.parents.items c.reserve.new.self.items c.push_reserved.new.self.items
     (head_of_node c.args.node) t
     (rw c.replace-parent.ensures.after c.begun.ensures) c.replace-parent.ensures.value c.in_ok-reserve.ensures.items
-    c.push_reserved.ensures.items h
+    c.push_reserved.ensures.items told.trace)
+    (λ few. omega (arith, c.saturating_add-self.ensures, few)) refl told
