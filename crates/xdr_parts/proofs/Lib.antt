@@ -1,0 +1,3 @@
+pub mod Stepping
+pub mod Keeping
+pub mod Judging

@@ -1,0 +1,61 @@
+-- Where a walk over the bytes of a value stands.
+use Rattle.std.specs.Prelude.{◌≡◌, ℕ, ◌+◌, ◌≤◌, ◌<◌, List, [], ◌∷◌, ◌++◌, length, map, take, drop}
+use Rattle.std.specs.List.{AllByRecursion}
+use Rattle.xdr_types.specs.Kinds as xdr
+use Rattle.xdr_types.specs.Kinds.{KindView, Part}
+use Rattle.xdr_types.specs.Tree.{Tree}
+use Rattle.xdr_types.specs.Fits.{Fits}
+use Rattle.xdr_types.specs.Spelling.{bytes_of}
+use Rattle.xdr_types.specs.Layout.{Entry, entries}
+use Rattle.xdr_laws.specs.Owed.{Completes}
+use Rattle.xdr_stream.specs.Frames.{left_of, rest_of, stack_of, dues}
+use Rattle.xdr_parts.specs.Lent.{entry_of, AreLentFrom}
+use Rattle.xdr_parts.specs.declared.part.Lent.{Lent}
+use Rattle.xdr_parts.specs.declared.part.Role.{Role}
+use Rattle.xdr_parts.specs.declared.part.Role.TheVariants.{Number, Content}
+use Rattle.xdr_parts.specs.declared.next.Next.{Next}
+use Rattle.xdr_parts.specs.declared.walk.Walk.{Walk}
+
+-- the part that comes next
+abbrev pub part_of : Next → Part
+part_of n = record { name = n.name.now; kind = n.kind.place }
+
+-- no part is deeper than the deepest that limits allow
+abbrev pub AreLow : List Entry → Type 0
+AreLow es = AllByRecursion (λ (e : Entry). e.depth ≤ 4096) es
+
+-- a walk has come so far in the list of all parts of a value: those that it has, and those of what is owed
+pub record Stands (w : Walk) (all : List Entry) : Type 0 where
+  pub left : List Entry
+  pub owes : Completes w.schema.now.kinds w.at (dues (stack_of w.work w.parents.items)) (drop w.at w.bytes.now) left
+  pub within : w.at ≤ length w.bytes.now
+  pub joined : all ≡ map entry_of w.parts.items ++ left
+  pub low : AreLow left
+  pub lent : AreLentFrom w.bytes.now w.parts.items
+
+-- the innermost node has this part to begin
+abbrev pub IsNext : Walk → Next → Type 0
+IsNext w n = left_of w.work ≡ part_of n ∷ rest_of (left_of w.work)
+
+-- a value of the kind is so many bytes, whatever they are, as one part of this role (RFC 4506 sections 4.5, 4.9)
+abbrev pub IsFree : KindView → Role → (size : ℕ) → Type 0
+IsFree xdr.hyper Number size = size ≡ 8
+IsFree xdr.unsigned_hyper Number size = size ≡ 8
+IsFree (xdr.opaque n) Content size = n ≡ size
+IsFree _ _ size = ⊥
+
+-- a walk has kept these parts, has gone so many bytes on, and owes this then
+pub record Wrote (w w' : Walk) (new : List Entry) (moved : ℕ) (fs : List (List Part)) : Type 0 where
+  pub schema_is : w'.schema.now ≡ w.schema.now
+  pub bytes_are : w'.bytes.now ≡ w.bytes.now
+  pub at_is : w'.at ≡ w.at + moved
+  pub stack_is : stack_of w'.work w'.parents.items ≡ fs
+  pub parts_are : map entry_of w'.parts.items ≡ map entry_of w.parts.items ++ new
+  pub lent : AreLentFrom w.bytes.now w.parts.items → AreLentFrom w.bytes.now w'.parts.items
+  pub more : length w.parts.items + length new ≤ length w'.parts.items
+
+-- the bytes spell a value of the kind that is not deeper than limits allow
+pub record IsSpelled (kinds : List KindView) (kind : ℕ) (bytes : List ℕ) (v : Tree) : Type 0 where
+  pub fits : Fits kinds kind v
+  pub spelled : bytes_of kinds kind v ≡ bytes
+  pub low : AreLow (entries kinds kind v)

@@ -1,0 +1,50 @@
+//! The parts of the value that begins an input.
+ghost use Rattle.std.specs.Prelude.{◌≡◌, ◌<◌, ℕ, length, map, IfOk, IfErr};
+ghost use Rattle.xdr_types.specs.Layout.{entries};
+ghost use Rattle.xdr_types.specs.Outcome.{Outcome, Whole};
+ghost use Rattle.xdr_types.specs.Tree.{Tree};
+ghost use Rattle.xdr_stream.specs.Finish.{EndsWith};
+ghost use Rattle.xdr_parts.specs.Lent.{entry_of, AreLentFrom};
+
+use crate::judge::judge;
+use crate::part::Lent;
+use crate::walk::spelled_parts;
+use std::alloc::Global;
+use xdr_stream::{DecodeFault, Reason};
+use xdr_types::{KindId, Limits, Schema};
+
+/// The parts of the value whose encoding begins the input (RFC 4506 section 4), in the order of their bytes, a parent
+/// before its parts. Their bytes are the input's own: a number, a flag or a length is its unit, or two of a hyper
+/// integer; content is without the zeros after it; a structure, an array of fixed size and a void have none.
+///
+/// A fault is that of `decode`: where no value within the limits begins the input, `why` and `at` say it, `Truncated`
+/// at the count of bytes where the input ends inside one. For `NoMemory` `at` is at most the count of bytes.
+///
+/// Memory is that of the list, and a frame for each open node; no more is reserved than the bytes that came call for.
+pub fn parts<'a>(
+    alloc: Global,
+    schema: &'a Schema,
+    kind: KindId,
+    limits: Limits,
+    input: &'a [u8],
+) -> Result<Vec<Lent<'a>>, DecodeFault>
+    requires { kind.place < length schema.now.kinds }
+    ensures outcome { IfOk result (λ ls. (v : Tree) × (n : ℕ)
+        × Outcome schema.now.kinds kind.place limits input.now (Whole v n)
+        × (map entry_of ls.items ≡ entries schema.now.kinds kind.place v)) }
+    ensures lent { IfOk result (λ ls. AreLentFrom input.now ls.items) }
+    ensures fault { IfErr result (λ f. EndsWith schema.now.kinds kind.place limits input.now f) }
+{
+    let _range = limits.depth();
+    let used = match judge(alloc, schema, kind, limits, input) {
+        Ok(used) => used,
+        Err(fault) => return Err(fault),
+    };
+    match spelled_parts(alloc, schema, kind, &input[..used]) {
+        Ok(parts) => Ok(parts),
+        Err(_) => Err(DecodeFault {
+            why: Reason::NoMemory,
+            at: used,
+        }),
+    }
+}

@@ -1,0 +1,44 @@
+//! The part of a node that comes next.
+ghost use Rattle.std.specs.Prelude.{◌≡◌, [], ◌∷◌, MatchOption};
+ghost use Rattle.xdr_stream.specs.Frames.{left_of, rest_of};
+ghost use Rattle.xdr_parts.specs.Private.Walking.{part_of};
+
+use xdr_stream::frame::Frame;
+use xdr_types::KindId;
+
+/// A named part: the name of a field or an arm, empty for items and the root.
+#[derive(Clone, Copy)]
+pub struct Next<'a> {
+    pub kind: KindId,
+    pub name: &'a str,
+}
+
+/// The part of a node at work that comes next; none, where all have begun.
+pub fn first<'a>(frame: Frame<'a>) -> Option<Next<'a>>
+    ensures { MatchOption result (left_of frame.entry ≡ [])
+        (λ n. left_of frame.entry ≡ part_of n ∷ rest_of (left_of frame.entry)) }
+{
+    match frame {
+        Frame::Fields { fields } => match fields {
+            [field, ..] => Some(Next {
+                kind: field.kind,
+                name: field.name.as_str(),
+            }),
+            [] => None,
+        },
+        Frame::Items { item, left } => {
+            if left == 0 {
+                None
+            } else {
+                Some(Next {
+                    kind: item,
+                    name: "",
+                })
+            }
+        }
+        Frame::Arm { member } => Some(Next {
+            kind: member.kind,
+            name: member.name.as_str(),
+        }),
+    }
+}

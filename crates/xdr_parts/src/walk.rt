@@ -1,0 +1,268 @@
+//! The parts of a value whose bytes are known to spell one.
+ghost use Rattle.std.specs.Prelude.{◌≡◌, ◌+◌, ◌≤◌, ◌<◌, pos, List, [], ◌∷◌, length, map, take, drop};
+ghost use Rattle.std.specs.Prelude.{IfOk, OnOk, MatchOption};
+ghost use Rattle.xdr_types.specs.Kinds.{kind_at};
+ghost use Rattle.xdr_types.specs.KindViews.{kind_view};
+ghost use Rattle.xdr_types.specs.Tree.{Tree};
+ghost use Rattle.xdr_types.specs.Fits.{parts};
+ghost use Rattle.xdr_types.specs.Layout.{Entry, content, entry, entries, of_length};
+ghost use Rattle.xdr_units.specs.Numbers.{num4, gap};
+ghost use Rattle.xdr_laws.specs.Owed.{lead_of, HasUnit, IsSilent, silent_head};
+ghost use Rattle.xdr_stream.specs.Frames.{left_of, rest_of, stack_of, onto};
+ghost use Rattle.xdr_parts.specs.Lent.{entry_of, size_in, role_in, AreLentFrom};
+ghost use Rattle.xdr_parts.specs.Private.Walking.{part_of, Stands, Wrote, IsNext, IsFree, IsSpelled};
+
+use crate::next::{Next, first};
+use crate::part::{Lent, Role, part_at, unit_role};
+use std::alloc::{AllocError, Global};
+use xdr_stream::frame::{Frame, after};
+use xdr_stream::number::{Made, made_of};
+use xdr_stream::step::{Step, step_of};
+use xdr_types::{Kind, KindId, Schema};
+
+/// Goes over the bytes of a value, and keeps its parts.
+#[derive(Drop)]
+pub struct Walk<'a> {
+    pub schema: &'a Schema,
+    /// The bytes of the whole value.
+    pub bytes: &'a [u8],
+    /// How many of them belong to the parts so far.
+    pub at: usize,
+    /// The node at work.
+    pub work: Frame<'a>,
+    /// The nodes around it, the root first.
+    pub parents: Vec<Frame<'a>>,
+    /// The parts so far.
+    pub parts: Vec<Lent<'a>>,
+}
+
+/// The parts of the value that these bytes spell.
+pub fn spelled_parts<'a>(
+    alloc: Global,
+    schema: &'a Schema,
+    kind: KindId,
+    bytes: &'a [u8],
+) -> Result<Vec<Lent<'a>>, AllocError>
+    requires { (v : Tree) × IsSpelled schema.now.kinds kind.place bytes.now v }
+    ensures parts { IfOk result (λ ls. (v : Tree) → IsSpelled schema.now.kinds kind.place bytes.now v
+        → map entry_of ls.items ≡ entries schema.now.kinds kind.place v) }
+    ensures lent { IfOk result (λ ls. AreLentFrom bytes.now ls.items) }
+{
+    let mut walk = Walk {
+        schema,
+        bytes,
+        at: 0,
+        work: Frame::Items {
+            item: kind,
+            left: 1,
+        },
+        parents: Vec::new(alloc),
+        parts: Vec::new(alloc),
+    };
+    while let Some(next) = walk.next() {
+        walk.take(next)?;
+    }
+    Ok(walk.parts)
+}
+
+// The unit at a place.
+fn unit_at(bytes: &[u8], at: usize) -> u32
+    requires { at + 4 ≤ length bytes.now }
+    ensures { num4 (pos result) ≡ take 4 (drop at bytes.now) }
+{
+    u32::from_be_bytes([bytes[at], bytes[at + 1], bytes[at + 2], bytes[at + 3]])
+}
+
+impl<'a> Walk<'a> {
+    // Ends the nodes that have all their parts, and tells which part comes next; none, where the value has ended.
+    fn next(&mut self) -> Option<Next<'a>>
+        ensures stands { (all : List Entry) → Stands self.old all → Stands self.new all }
+        ensures next { MatchOption result (stack_of self.new.work self.new.parents.items ≡ [] ∷ []) (IsNext self.new) }
+        ensures parts { self.new.parts ≡ self.old.parts }
+        ensures bytes { self.new.bytes.now ≡ self.old.bytes.now }
+    {
+        loop {
+            if let Some(next) = first(self.work) {
+                return Some(next);
+            }
+            let Some(parent) = self.parents.pop() else {
+                return None;
+            };
+            self.work = parent;
+        }
+    }
+
+    // Takes the part that comes next.
+    fn take(&mut self, next: Next<'a>) -> Result<(), AllocError>
+        requires stands { (all : List Entry) × Stands self.old all }
+        requires next { IsNext self.old next }
+        ensures stands { OnOk result ((all : List Entry) → Stands self.old all → Stands self.new all) }
+        ensures more { OnOk result (length self.old.parts.items < length self.new.parts.items) }
+        ensures bytes { OnOk result (self.new.bytes.now ≡ self.old.bytes.now) }
+    {
+        let kind = self.schema.kind(next.kind);
+        match step_of(kind) {
+            Step::Unit => self.take_unit(next, kind),
+            Step::Fields(fields) => self.take_group(next, kind, Frame::Fields { fields }),
+            Step::Items { item, size } => {
+                self.take_group(next, kind, Frame::Items { item, left: size })
+            }
+            Step::Void => {
+                let none = Frame::Items {
+                    item: next.kind,
+                    left: 0,
+                };
+                self.take_group(next, kind, none)
+            }
+            Step::Wide(_) => self.take_free(next, kind, Role::Number, 8),
+            Step::Content(size) => self.take_free(next, kind, Role::Content, size),
+        }
+    }
+
+    // Takes a part that begins with a unit.
+    fn take_unit(&mut self, next: Next<'a>, kind: &'a Kind) -> Result<(), AllocError>
+        requires stands { (all : List Entry) × Stands self.old all }
+        requires next { IsNext self.old next }
+        requires kind { kind_view kind.now ≡ kind_at self.old.schema.now.kinds next.kind.place }
+        requires unit { HasUnit (lead_of (kind_view kind.now)) }
+        ensures stands { OnOk result ((all : List Entry) → Stands self.old all → Stands self.new all) }
+        ensures more { OnOk result (length self.old.parts.items < length self.new.parts.items) }
+        ensures bytes { OnOk result (self.new.bytes.now ≡ self.old.bytes.now) }
+    {
+        let number = unit_at(self.bytes, self.at);
+        let Ok(made) = made_of(self.schema, kind, number) else {
+            unreachable!();
+        };
+        let role = unit_role(kind);
+        match made {
+            Made::Leaf(_) => self.leaf(next, role, 4, 4),
+            Made::Open(_, frame) => self.open(next, role, 4, frame),
+            Made::Length(size) => self.counted(next, size),
+        }
+    }
+
+    // Takes a part of so many bytes, whatever they are.
+    fn take_free(
+        &mut self,
+        next: Next<'a>,
+        kind: &'a Kind,
+        role: Role,
+        size: u32,
+    ) -> Result<(), AllocError>
+        requires stands { (all : List Entry) × Stands self.old all }
+        requires next { IsNext self.old next }
+        requires kind { kind_view kind.now ≡ kind_at self.old.schema.now.kinds next.kind.place }
+        requires free { IsFree (kind_view kind.now) role size }
+        ensures stands { OnOk result ((all : List Entry) → Stands self.old all → Stands self.new all) }
+        ensures more { OnOk result (length self.old.parts.items < length self.new.parts.items) }
+        ensures bytes { OnOk result (self.new.bytes.now ≡ self.old.bytes.now) }
+    {
+        self.leaf(next, role, size as usize, whole_units(size))
+    }
+
+    // Takes a part of no bytes of its own.
+    fn take_group(
+        &mut self,
+        next: Next<'a>,
+        kind: &'a Kind,
+        frame: Frame<'a>,
+    ) -> Result<(), AllocError>
+        requires stands { (all : List Entry) × Stands self.old all }
+        requires next { IsNext self.old next }
+        requires kind { kind_view kind.now ≡ kind_at self.old.schema.now.kinds next.kind.place }
+        requires silent { IsSilent (lead_of (kind_view kind.now)) }
+        requires frame { parts (kind_view kind.now) (silent_head (kind_view kind.now)) ≡ left_of frame }
+        ensures stands { OnOk result ((all : List Entry) → Stands self.old all → Stands self.new all) }
+        ensures more { OnOk result (length self.old.parts.items < length self.new.parts.items) }
+        ensures bytes { OnOk result (self.new.bytes.now ≡ self.old.bytes.now) }
+    {
+        self.open(next, Role::Group, 0, frame)
+    }
+
+    // Keeps a length and as many bytes of content.
+    fn counted(&mut self, next: Next<'a>, size: u32) -> Result<(), AllocError>
+        requires there { self.old.at + (4 + (size + gap size)) ≤ length self.old.bytes.now }
+        requires deep { length self.old.parents.items < 4096 }
+        ensures { OnOk result (Wrote self.old self.new
+            (entry self.old.at 4 (length self.old.parents.items + 1) (part_of next.entry) of_length
+            ∷ content (self.old.at + 4) (length self.old.parents.items + 1) (part_of next.entry) size)
+            (4 + (size + gap size)) (rest_of (left_of self.old.work) ∷ onto [] self.old.parents.items)) }
+    {
+        self.write(next, Role::Length, 4, 4)?;
+        self.leaf(next, Role::Content, size as usize, whole_units(size))
+    }
+
+    // Keeps a part of so many bytes that has none inside it, and goes so many bytes on.
+    fn leaf(
+        &mut self,
+        next: Next<'a>,
+        role: Role,
+        size: usize,
+        moved: usize,
+    ) -> Result<(), AllocError>
+        requires there { self.old.at + size ≤ length self.old.bytes.now }
+        requires moved { self.old.at + moved ≤ length self.old.bytes.now }
+        requires deep { length self.old.parents.items < 4096 }
+        ensures { OnOk result (Wrote self.old self.new
+            (entry self.old.at (size_in role size) (length self.old.parents.items + 1) (part_of next.entry)
+            (role_in role size) ∷ []) moved
+            (rest_of (left_of self.old.work) ∷ onto [] self.old.parents.items)) }
+    {
+        self.write(next, role, size, moved)?;
+        self.work = after(self.work);
+        Ok(())
+    }
+
+    // Keeps a part of so many bytes, inside which the parts of a frame come next.
+    fn open(
+        &mut self,
+        next: Next<'a>,
+        role: Role,
+        size: usize,
+        frame: Frame<'a>,
+    ) -> Result<(), AllocError>
+        requires there { self.old.at + size ≤ length self.old.bytes.now }
+        requires deep { length self.old.parents.items < 4096 }
+        ensures { OnOk result (Wrote self.old self.new
+            (entry self.old.at (size_in role size) (length self.old.parents.items + 1) (part_of next.entry)
+            (role_in role size) ∷ []) size
+            (left_of frame.entry ∷ rest_of (left_of self.old.work) ∷ onto [] self.old.parents.items)) }
+    {
+        self.write(next, role, size, size)?;
+        self.parents.push(after(self.work))?;
+        self.work = frame;
+        Ok(())
+    }
+
+    // Keeps a part of so many bytes, and goes so many bytes on.
+    fn write(
+        &mut self,
+        next: Next<'a>,
+        role: Role,
+        size: usize,
+        moved: usize,
+    ) -> Result<(), AllocError>
+        requires there { self.old.at + size ≤ length self.old.bytes.now }
+        requires moved { self.old.at + moved ≤ length self.old.bytes.now }
+        requires deep { length self.old.parents.items < 4096 }
+        ensures wrote { OnOk result (Wrote self.old self.new
+            (entry self.old.at (size_in role size) (length self.old.parents.items + 1) (part_of next.entry)
+            (role_in role size) ∷ []) moved (stack_of self.old.work self.old.parents.items)) }
+        ensures work { self.new.work ≡ self.old.work }
+        ensures parents { self.new.parents.items ≡ self.old.parents.items }
+    {
+        let depth = self.parents.len() as u32 + 1;
+        let part = part_at(self.bytes, self.at, depth, next, role, size);
+        self.parts.push(part)?;
+        self.at += moved;
+        Ok(())
+    }
+}
+
+// So many bytes, and those that bring them to whole units.
+fn whole_units(size: u32) -> usize
+    ensures { result ≡ size + gap size }
+{
+    let size = size as usize;
+    size + (4 - size % 4) % 4
+}
