@@ -1,6 +1,6 @@
 //! Values and their bytes, in both directions.
 use crate::codec::calls::{
-    counted, decoded, encoded, fed, finished, refusal, started, widest, written,
+    counted, decoded, encoded, fed, finished, lent, refusal, started, widest, written,
 };
 use crate::codec::made::{Made, chain, value_of};
 use crate::schema::{
@@ -9,7 +9,7 @@ use crate::schema::{
 };
 use std::alloc::{AllocError, Global};
 use std::process::Abort;
-use xdr_codec::{DecodeFault, Progress, Reason};
+use xdr_codec::{DecodeFault, Lent, Progress, Reason};
 use xdr_io::MemorySink;
 use xdr_types::{Schema, Value};
 
@@ -69,7 +69,8 @@ fn check(rt: &impl Abort, alloc: Global, schema: &Schema, place: u32, value: Mad
         && is_written(rt, schema, place, &value, &input)
         && is_decoded(rt, alloc, schema, place, &value, &input)
         && is_fed(rt, alloc, schema, place, &value, &input)
-        && is_counted(rt, alloc, schema, place, &input);
+        && is_counted(rt, alloc, schema, place, &input)
+        && is_joined(rt, alloc, schema, place, &input);
     if !right {
         panic!(*rt; "kind {place}: {text}");
     }
@@ -145,6 +146,28 @@ fn is_counted(rt: &impl Abort, alloc: Global, schema: &Schema, place: u32, input
     }
 }
 
+// The stretches of the parts, content with its zeros, join to the bytes.
+fn is_joined(rt: &impl Abort, alloc: Global, schema: &Schema, place: u32, input: &[u8]) -> bool {
+    match lent(rt, alloc, schema, place, widest(rt), input) {
+        Ok(parts) => ends_at(&parts) == Some(input.len()),
+        Err(_) => false,
+    }
+}
+
+// Where the last of the stretches ends, if each begins where the one before it does.
+fn ends_at(parts: &[Lent<'_>]) -> Option<usize> {
+    let mut at = 0usize;
+    for part in parts {
+        if part.at != at {
+            return None;
+        }
+        at = at
+            .checked_add(part.bytes.len())?
+            .checked_next_multiple_of(4)?;
+    }
+    Some(at)
+}
+
 fn is_value(answer: Result<Value, DecodeFault>, value: &Value) -> bool {
     match answer {
         Ok(again) => again == *value,
@@ -157,7 +180,11 @@ fn is_deepest_coded(rt: &impl Abort, alloc: Global) -> Option<bool> {
     let schema = all_kinds(rt, alloc);
     let list = chain(alloc, 2047).ok()?;
     let bytes = encoded(rt, alloc, &schema, LIST, &list).ok()?;
-    Some(bytes.len() == 16380 && is_decoded(rt, alloc, &schema, LIST, &list, &bytes))
+    Some(
+        bytes.len() == 16380
+            && is_decoded(rt, alloc, &schema, LIST, &list, &bytes)
+            && is_joined(rt, alloc, &schema, LIST, &bytes),
+    )
 }
 
 #[test]

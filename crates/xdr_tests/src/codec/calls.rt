@@ -2,7 +2,9 @@
 //! tests are proved fast.
 use std::alloc::Global;
 use std::process::Abort;
-use xdr_codec::{Checker, DecodeFault, Decoder, Progress, WriteFault, decode, encode, encode_to};
+use xdr_codec::{
+    Checker, DecodeFault, Decoder, Lent, Progress, WriteFault, decode, encode, encode_to, parts,
+};
 use xdr_io::MemorySink;
 use xdr_types::{KindId, Limits, NoMemory, Schema, Value, fits};
 
@@ -118,4 +120,30 @@ pub fn counted(
         answer = checker.feed(&[*byte]);
     }
     checker.finish()
+}
+
+/// The parts of the value that begins the bytes, for a kind that the schema has.
+pub fn lent<'a>(
+    rt: &impl Abort,
+    alloc: Global,
+    schema: &'a Schema,
+    place: u32,
+    limits: Limits,
+    input: &'a [u8],
+) -> Result<Vec<Lent<'a>>, DecodeFault> {
+    let kind = KindId { place };
+    assert!(*rt; schema.has(kind));
+    parts(alloc, schema, kind, limits, input)
+}
+
+/// What `parts` refuses the bytes with, or `None` where they begin with a value.
+pub fn lent_refusal(
+    rt: &impl Abort,
+    alloc: Global,
+    schema: &Schema,
+    place: u32,
+    limits: Limits,
+    input: &[u8],
+) -> Option<DecodeFault> {
+    lent(rt, alloc, schema, place, limits, input).err()
 }

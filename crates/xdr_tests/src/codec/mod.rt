@@ -3,6 +3,7 @@ mod accepted;
 mod calls;
 mod failures;
 mod large;
+mod lent;
 mod made;
 mod pieces;
 mod refused;

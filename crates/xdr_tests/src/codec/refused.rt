@@ -1,5 +1,7 @@
 //! Places and reasons of refusals.
-use crate::codec::calls::{counted, decoded, fed, finished, limits, refusal, started, widest};
+use crate::codec::calls::{
+    counted, decoded, fed, finished, lent_refusal, limits, refusal, started, widest,
+};
 use crate::schema::{
     ALIKE, BOOL, BOOL_CHOICE, CHOICES, FILE, FILEKIND, FIVE, HOLDER, HYPER, INT, INT_CHOICE,
     KIND_CHOICE, LIST, OPAQUE, OWNER, PAIR, SIX_BYTES, STRING, TWO, VOID_CHOICE, all_kinds,
@@ -38,7 +40,8 @@ fn check(rt: &impl Abort, alloc: Global, schema: &Schema, limits: Limits, row: R
     let fault = Some(DecodeFault { why, at });
     let right = refusal(rt, alloc, schema, place, limits, &input) == fault
         && fed_refusal(rt, alloc, schema, place, limits, &input) == fault
-        && counted(rt, alloc, schema, place, limits, &input).err() == fault;
+        && counted(rt, alloc, schema, place, limits, &input).err() == fault
+        && lent_refusal(rt, alloc, schema, place, limits, &input) == fault;
     if !right {
         panic!(*rt; "kind {place}: {text}");
     }

@@ -19,6 +19,6 @@ mod refusals;
 mod registry_protocol;
 mod shapes;
 mod standards;
-mod texts;
+pub mod texts;
 mod unknown;
 mod words;
