@@ -147,3 +147,25 @@ pub fn lent_refusal(
 ) -> Option<DecodeFault> {
     lent(rt, alloc, schema, place, limits, input).err()
 }
+
+/// What a checker answers to the end of the bytes, which it is given in pieces of this size up to a value's end or a
+/// refusal, for a kind that the schema has.
+pub fn checked(
+    rt: &impl Abort,
+    alloc: Global,
+    schema: &Schema,
+    place: u32,
+    limits: Limits,
+    input: &[u8],
+    size: u32,
+) -> Result<u32, DecodeFault> {
+    let kind = KindId { place };
+    assert!(*rt; schema.has(kind));
+    let mut checker = Checker::start(alloc, schema, kind, limits);
+    for piece in input.chunks(size.max(1) as usize) {
+        if checker.feed(piece) != Ok(Progress::More) {
+            break;
+        }
+    }
+    checker.finish()
+}

@@ -6,4 +6,5 @@ mod large;
 mod lent;
 mod made;
 mod pieces;
+mod random;
 mod refused;
