@@ -2,19 +2,20 @@
 use Rattle.std.proofs.Common.{◌≡◌, ℕ, zero, suc, ◌+◌, ◌-◌, ◌%◌, ◌^◌, ◌<◌, ◌≤◌, List, [], ◌∷◌, ◌++◌, length, replicate}
 use Rattle.std.proofs.Common.{take, drop, refl, sym, ap, subst, ◌∙◌, append_assoc, arith}
 use Rattle.std.proofs.lemmas.List.{length-append, length-drop, length-replicate, drop_at, drop-drop, take-append-drop}
+use Rattle.std.proofs.Math.Nat.{add-zero}
 use Rattle.xdr_types.specs.Kinds as xdr
 use Rattle.xdr_types.specs.Kinds.{KindView, Part, kind_at}
 use Rattle.xdr_types.specs.Tree as value
 use Rattle.xdr_types.specs.Tree.{Head}
 use Rattle.xdr_types.specs.Fits.{parts}
 use Rattle.xdr_types.specs.Spelling.{own}
-use Rattle.xdr_types.specs.Layout.{Entry, entry, shown, shown_bytes, shown_items, content, of_number, of_length, of_group}
-use Rattle.xdr_units.specs.Numbers.{pad, gap}
+use Rattle.xdr_types.specs.Layout.{Entry, entry, shown, shown_bytes, shown_items, content, of_number, of_length}
+use Rattle.xdr_types.specs.Layout.{of_group}
+use Rattle.xdr_units.specs.Numbers.{pad, gap, word}
 use Rattle.xdr_laws.specs.Owed.{Due, Frame, Rest, Completes, Lead, UnitFirst, LengthFirst, FreeBytes, Silent, lead_of}
 use Rattle.xdr_laws.specs.Owed.{HasUnit, IsUnitFirst, IsLengthFirst, IsFreeBytes, IsSilent, free_size, silent_head}
 use Rattle.xdr_laws.specs.Owed.{Accepts, head_of, role_of}
 use Rattle.xdr_laws.specs.Held.{first}
-use Rattle.xdr_laws.proofs.Numbers.{unit4}
 use Rattle.xdr_laws.proofs.Owed.{begin_into, reads_end, reads_silent, reads_unit, refuses_unit}
 use Rattle.xdr_laws.proofs.Content.{counted, free_parts, reads_length, reads_free, refuses_length}
 use Rattle.xdr_laws.proofs.Known.{shows_first}
@@ -48,15 +49,12 @@ pub record Goes (s : List KindView) (at : ℕ) (bytes : List ℕ) (es : List Ent
   pub owes : Completes s (at + moved) (dues fs) (drop (at + moved) bytes) left
   pub within : at + moved ≤ length bytes
 
-nothing_more : (place : ℕ) → place + 0 ≡ place
-nothing_more place = omega arith
-
 -- a node ends
 pub ended : (s : List KindView) (at : ℕ) (fs : List (List Part)) (c : List ℕ) (es : List Entry)
     → Completes s at (dues ([] ∷ fs)) c es → Completes s at (dues fs) c es
 ended s at fs c es r =
     let i = (reads_end s at (length fs + 1) (dues fs)).into c es r in
-    subst (λ (n : ℕ). Completes s n (dues fs) c es) (nothing_more at)
+    subst (λ (n : ℕ). Completes s n (dues fs) c es) (add-zero at)
     (subst (λ (x : List Entry). Completes s (at + 0) (dues fs) c x) (sym i.1) i.2)
 
 -- the whole value has ended
@@ -84,7 +82,8 @@ content_goes s at n gs bytes es within r =
 -- ---- what a kind shows
 
 -- a head of one unit shows one part
-unit_shown : (s : List KindView) (place d : ℕ) (p : Part) (k : KindView) (x : ℕ) → IsUnitFirst (lead_of k) → Accepts s k x
+unit_shown : (s : List KindView) (place d : ℕ) (p : Part) (k : KindView) (x : ℕ) → IsUnitFirst (lead_of k)
+    → Accepts s k x
     → shown place d p k (head_of s k x) ≡ first place d p k ∷ []
 unit_shown s place d p xdr.int x u a = refl
 unit_shown s place d p xdr.unsigned x u a = refl
@@ -113,7 +112,8 @@ bytes_low : (place d : ℕ) (p : Part) (k : KindView) (n : ℕ) (ps : List Entry
 bytes_low place d p (xdr.opaque size) n ps a = a.0
 bytes_low place d p _ n ps a = a.0
 
-items_low : (place d : ℕ) (p : Part) (k : KindView) (ps : List Entry) → AreLow (shown_items place d p k ++ ps) → d ≤ 4096
+items_low : (place d : ℕ) (p : Part) (k : KindView) (ps : List Entry) → AreLow (shown_items place d p k ++ ps)
+    → d ≤ 4096
 items_low place d p (xdr.fixed item size) ps a = a.0
 items_low place d p _ ps a = a.0
 
@@ -141,11 +141,11 @@ free_as (xdr.opaque n) Content size f = (tt, f, λ at d p. ap (λ (n : ℕ). con
 free_as _ _ size f = absurd f
 
 -- a unit and the bytes behind it
-pub unit_spelled : (bytes : List ℕ) (at x : ℕ) → unit4 x ≡ take 4 (drop at bytes)
-    → drop at bytes ≡ unit4 x ++ drop (at + 4) bytes
+pub unit_spelled : (bytes : List ℕ) (at x : ℕ) → word x ≡ take 4 (drop at bytes)
+    → drop at bytes ≡ word x ++ drop (at + 4) bytes
 unit_spelled bytes at x e =
     sym (take-append-drop 4 (drop at bytes)) ∙ ap (λ (l : List ℕ). l ++ drop 4 (drop at bytes)) (sym e)
-    ∙ ap (λ (l : List ℕ). unit4 x ++ l) (drop-drop 4 at bytes)
+    ∙ ap (λ (l : List ℕ). word x ++ l) (drop-drop 4 at bytes)
 
 by_lead : {A : Type 0} → (l : Lead) → HasUnit l → (IsUnitFirst l → A) → (IsLengthFirst l → A) → A
 by_lead UnitFirst u f g = f tt
@@ -182,9 +182,10 @@ module _ (s : List KindView) (at : ℕ) (bytes : List ℕ) (p : Part) (ps : List
       there bytes (own K b.0 ++ b.1) at 4 b.4 (omega (arith, f.3, length-append (own K b.0) b.1)) within
 
   -- and is one that the kind accepts
-  pub unit_accepted : (x : ℕ) (c : List ℕ) → HasUnit (lead_of K) → x < 2 ^ 32 → drop at bytes ≡ unit4 x ++ c → Accepts s K x
+  pub unit_accepted : (x : ℕ) (c : List ℕ) → HasUnit (lead_of K) → x < 2 ^ 32 → drop at bytes ≡ word x ++ c
+      → Accepts s K x
   unit_accepted x c u less e =
-      let q : Completes s at (dues ((p ∷ ps) ∷ fs)) (unit4 x ++ c) es =
+      let q : Completes s at (dues ((p ∷ ps) ∷ fs)) (word x ++ c) es =
       subst (λ (b : List ℕ). Completes s at (dues ((p ∷ ps) ∷ fs)) b es) e r in
       by_lead {A = Accepts s K x} (lead_of K) u
       (λ first. refuses_unit s at D p ps (dues fs) x c es first less q)
@@ -192,10 +193,10 @@ module _ (s : List KindView) (at : ℕ) (bytes : List ℕ) (p : Part) (ps : List
 
   -- a unit that makes a head
   pub goes_unit : (x : ℕ) (inner : List Part) → IsUnitFirst (lead_of K) → Accepts s K x
-      → drop at bytes ≡ unit4 x ++ drop (at + 4) bytes → at + 4 ≤ length bytes → parts K (head_of s K x) ≡ inner
+      → drop at bytes ≡ word x ++ drop (at + 4) bytes → at + 4 ≤ length bytes → parts K (head_of s K x) ≡ inner
       → Goes s at bytes es (entry at 4 D p (role_of K) ∷ []) 4 (inner ∷ ps ∷ fs)
   goes_unit x inner u a e long is =
-      let q : Completes s at (dues ((p ∷ ps) ∷ fs)) (unit4 x ++ drop (at + 4) bytes) es =
+      let q : Completes s at (dues ((p ∷ ps) ∷ fs)) (word x ++ drop (at + 4) bytes) es =
       subst (λ (b : List ℕ). Completes s at (dues ((p ∷ ps) ∷ fs)) b es) e r in
       let i = (reads_unit s at D p ps (dues fs) x u a).into (drop (at + 4) bytes) es q in
       let far : D + 1 ≡ length (ps ∷ fs) + 1 = omega arith in
@@ -210,7 +211,7 @@ module _ (s : List KindView) (at : ℕ) (bytes : List ℕ) (p : Part) (ps : List
 
   -- a unit that makes a head without parts
   pub goes_leaf : (x : ℕ) → IsUnitFirst (lead_of K) → Accepts s K x
-      → drop at bytes ≡ unit4 x ++ drop (at + 4) bytes → at + 4 ≤ length bytes → parts K (head_of s K x) ≡ []
+      → drop at bytes ≡ word x ++ drop (at + 4) bytes → at + 4 ≤ length bytes → parts K (head_of s K x) ≡ []
       → Goes s at bytes es (entry at 4 D p (role_of K) ∷ []) 4 (ps ∷ fs)
   goes_leaf x u a e long is =
       let g = goes_unit x [] u a e long is in
@@ -223,10 +224,10 @@ module _ (s : List KindView) (at : ℕ) (bytes : List ℕ) (p : Part) (ps : List
 
   -- a length and its content
   pub goes_length : (x : ℕ) → IsLengthFirst (lead_of K) → Accepts s K x
-      → drop at bytes ≡ unit4 x ++ drop (at + 4) bytes → at + 4 ≤ length bytes
+      → drop at bytes ≡ word x ++ drop (at + 4) bytes → at + 4 ≤ length bytes
       → Goes s at bytes es (counted at D p x) (4 + (x + gap x)) (ps ∷ fs)
   goes_length x u a e long =
-      let q : Completes s at (dues ((p ∷ ps) ∷ fs)) (unit4 x ++ drop (at + 4) bytes) es =
+      let q : Completes s at (dues ((p ∷ ps) ∷ fs)) (word x ++ drop (at + 4) bytes) es =
       subst (λ (b : List ℕ). Completes s at (dues ((p ∷ ps) ∷ fs)) b es) e r in
       let i = (reads_length s at D p ps (dues fs) x u a).into (drop (at + 4) bytes) es q in
       let g = content_goes s (at + 4) x (ps ∷ fs) bytes i.0 long i.2 in
@@ -245,7 +246,7 @@ module _ (s : List KindView) (at : ℕ) (bytes : List ℕ) (p : Part) (ps : List
       let n : ℕ = free_size K in
       let i = (reads_free s at D p ps (dues fs) u).into (drop at bytes) es r in
       let here : Completes s at (Rest n ∷ dues (ps ∷ fs)) (drop at bytes) i.0 =
-      subst (λ (m : ℕ). Completes s m (Rest n ∷ dues (ps ∷ fs)) (drop at bytes) i.0) (nothing_more at) i.2 in
+      subst (λ (m : ℕ). Completes s m (Rest n ∷ dues (ps ∷ fs)) (drop at bytes) i.0) (add-zero at) i.2 in
       let g = content_goes s at n (ps ∷ fs) bytes i.0 within here in
       record { left = i.0; parted = i.1; owes = g.0; within = g.1 }
 
@@ -259,7 +260,7 @@ module _ (s : List KindView) (at : ℕ) (bytes : List ℕ) (p : Part) (ps : List
         left = i.0;
         parted = i.1 ∙ ap (λ (b : List Entry). b ++ i.0) (silent_shown at D p K u);
         owes = subst (λ (b : List ℕ). Completes s (at + 0) (dues (inner ∷ ps ∷ fs)) b i.0)
-            (ap (λ (m : ℕ). drop m bytes) (sym (nothing_more at)))
+            (ap (λ (m : ℕ). drop m bytes) (sym (add-zero at)))
             (subst (λ (y : List Part). Completes s (at + 0) (dues (y ∷ ps ∷ fs)) (drop at bytes) i.0) is
             (subst (λ (n : ℕ). Completes s (at + 0) (Frame n (parts K (silent_head K)) ∷ dues (ps ∷ fs))
             (drop at bytes) i.0) far i.2));
@@ -271,13 +272,13 @@ module _ (s : List KindView) (at : ℕ) (bytes : List ℕ) (p : Part) (ps : List
     pub unit_there_of : HasUnit (lead_of k) → at + 4 ≤ length bytes
     unit_there_of u = unit_there (subst (λ (f : KindView). HasUnit (lead_of f)) same u)
 
-    pub accepted_of : (x : ℕ) → HasUnit (lead_of k) → x < 2 ^ 32 → unit4 x ≡ take 4 (drop at bytes) → Accepts s k x
+    pub accepted_of : (x : ℕ) → HasUnit (lead_of k) → x < 2 ^ 32 → word x ≡ take 4 (drop at bytes) → Accepts s k x
     accepted_of x u less e =
         subst (λ (f : KindView). Accepts s f x) (sym same)
         (unit_accepted x (drop (at + 4) bytes) (subst (λ (f : KindView). HasUnit (lead_of f)) same u) less
         (unit_spelled bytes at x e))
 
-    pub leaf_of : (x : ℕ) → IsUnitFirst (lead_of k) → Accepts s k x → unit4 x ≡ take 4 (drop at bytes)
+    pub leaf_of : (x : ℕ) → IsUnitFirst (lead_of k) → Accepts s k x → word x ≡ take 4 (drop at bytes)
         → at + 4 ≤ length bytes → parts k (head_of s k x) ≡ []
         → Goes s at bytes es (entry at 4 D p (role_of k) ∷ []) 4 (ps ∷ fs)
     leaf_of x u a e long is =
@@ -288,7 +289,7 @@ module _ (s : List KindView) (at : ℕ) (bytes : List ℕ) (p : Part) (ps : List
         → Goes s at bytes es (entry at 4 D p (role_of f) ∷ []) 4 (ps ∷ fs)) (sym same) all u a is
 
     pub open_of : (x : ℕ) (inner : List Part) → IsUnitFirst (lead_of k) → Accepts s k x
-        → unit4 x ≡ take 4 (drop at bytes) → at + 4 ≤ length bytes → parts k (head_of s k x) ≡ inner
+        → word x ≡ take 4 (drop at bytes) → at + 4 ≤ length bytes → parts k (head_of s k x) ≡ inner
         → Goes s at bytes es (entry at 4 D p (role_of k) ∷ []) 4 (inner ∷ ps ∷ fs)
     open_of x inner u a e long is =
         let all : IsUnitFirst (lead_of K) → Accepts s K x → parts K (head_of s K x) ≡ inner
@@ -297,7 +298,7 @@ module _ (s : List KindView) (at : ℕ) (bytes : List ℕ) (p : Part) (ps : List
         subst (λ (f : KindView). IsUnitFirst (lead_of f) → Accepts s f x → parts f (head_of s f x) ≡ inner
         → Goes s at bytes es (entry at 4 D p (role_of f) ∷ []) 4 (inner ∷ ps ∷ fs)) (sym same) all u a is
 
-    pub length_of : (x : ℕ) → IsLengthFirst (lead_of k) → Accepts s k x → unit4 x ≡ take 4 (drop at bytes)
+    pub length_of : (x : ℕ) → IsLengthFirst (lead_of k) → Accepts s k x → word x ≡ take 4 (drop at bytes)
         → at + 4 ≤ length bytes → Goes s at bytes es (counted at D p x) (4 + (x + gap x)) (ps ∷ fs)
     length_of x u a e long =
         goes_length x (subst (λ (f : KindView). IsLengthFirst (lead_of f)) same u)

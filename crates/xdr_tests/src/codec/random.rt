@@ -1,12 +1,14 @@
-//! Random schemas and inputs, of one seed: what `decode`, a decoder and a checker in pieces, and encoding again say of
-//! them agrees.
-use crate::codec::calls::{checked, decoded, encoded, fed, finished, limits, started};
+//! Random schemas and inputs, of one seed: what `decode`, a decoder and a checker in pieces, lent parts, and encoding
+//! again say of them agrees.
+use crate::codec::calls::{
+    checked, decoded, encoded, fed, finished, lent, lent_refusal, limits, started,
+};
 use rand_core::utils::NextWord;
 use rand_pcg::Pcg32;
 use std::alloc::{AllocError, Global};
 use std::process::Abort;
 use std::string::String;
-use xdr_codec::{DecodeFault, Progress};
+use xdr_codec::{DecodeFault, Lent, Progress};
 use xdr_types::{Arm, Kind, KindId, Limits, Member, Schema, Value};
 
 const SEED: u64 = 4506;
@@ -211,6 +213,21 @@ fn is_count(count: Result<u32, DecodeFault>, used: usize) -> bool {
     }
 }
 
+// The parts stand one behind the other from the first byte on, and end with the value.
+fn are_joined(parts: Result<Vec<Lent<'_>>, DecodeFault>, used: usize) -> bool {
+    let Ok(parts) = parts else {
+        return false;
+    };
+    let mut end = 0usize;
+    for part in &parts {
+        if part.at != end {
+            return false;
+        }
+        end = end.saturating_add(part.bytes.len().div_ceil(4).saturating_mul(4));
+    }
+    end == used
+}
+
 // Whether the bytes begin with a value, where all say one thing of them.
 fn agree(
     rt: &impl Abort,
@@ -224,13 +241,17 @@ fn agree(
     let pieces = in_pieces(rt, alloc, schema, place, limits, input, size);
     let count = checked(rt, alloc, schema, place, limits, input, other);
     match decoded(rt, alloc, schema, place, limits, input) {
-        Err(fault) if pieces == Err(fault) && count == Err(fault) => Some(false),
-        Err(_) => None,
+        Err(fault) => {
+            let refusal = lent_refusal(rt, alloc, schema, place, limits, input);
+            let same = pieces == Err(fault) && count == Err(fault) && refusal == Some(fault);
+            if same { Some(false) } else { None }
+        }
         Ok((value, used)) => {
             let bytes = encoded(rt, alloc, schema, place, &value).ok()?;
             let same = is_count(count, used)
                 && input.starts_with(&bytes)
                 && bytes.len() == used
+                && are_joined(lent(rt, alloc, schema, place, limits, input), used)
                 && pieces == Ok(value);
             if same { Some(true) } else { None }
         }
