@@ -1,3 +1,4 @@
 pub mod First
 pub mod Accepted
+pub mod LentBytes
 pub mod Sound
