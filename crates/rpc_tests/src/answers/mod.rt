@@ -1,5 +1,6 @@
 //! Tests of `rpc_answer` by its public calls.
 mod asked;
 mod captured;
+mod large;
 mod refused;
 mod rows;

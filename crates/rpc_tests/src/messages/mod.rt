@@ -1,6 +1,6 @@
 //! Tests of `rpc_message`: messages worked by hand from RFC 5531, and what is answered where memory is refused.
 mod calls;
 mod credentials;
-mod parts;
+pub mod parts;
 mod refused;
 mod replies;

@@ -1,5 +1,6 @@
 //! Growths that are refused.
 use crate::records::made::{BOTH, Device, PLAIN, TWO, normalised};
+use growths::take_all;
 use rpc_record::{RecordFault, RecordReader, RecordStep, mark};
 use std::alloc::Global;
 use std::env::Env;
@@ -55,7 +56,7 @@ fn keeps_the_first(alloc: Global, piece: u16) -> bool {
 
 /// The same where there is no memory.
 fn keeps_the_first_in_none(alloc: Global, piece: u16) -> Option<bool> {
-    let _kept = growths::take_all(alloc).ok()?;
+    let _kept = take_all(alloc).ok()?;
     Some(keeps_the_first(alloc, piece))
 }
 
@@ -76,7 +77,7 @@ fn wants_memory(reader: &mut RecordReader) -> bool {
 
 /// The same where there is none.
 fn wants_memory_in_none(alloc: Global, reader: &mut RecordReader) -> bool {
-    match growths::take_all(alloc) {
+    match take_all(alloc) {
         Ok(_kept) => wants_memory(reader),
         Err(_) => false,
     }
@@ -95,18 +96,29 @@ fn a_reader_without_memory_stays_so(rt: HostRuntime) {
 /// Whether the header of a last fragment of 16777216 bytes is taken where there is no memory: its length reserves none.
 fn takes_a_header(alloc: Global) -> Option<bool> {
     let mut reader = RecordReader::start(alloc, 16777216);
-    let _kept = growths::take_all(alloc).ok()?;
+    let _kept = take_all(alloc).ok()?;
     Some(reader.feed(&[0x81, 0, 0, 0]) == Ok(RecordStep::More))
+}
+
+/// Whether the first byte of a fragment of 2147483647 is taken where some 64 KiB are granted.
+fn takes_a_byte(alloc: Global) -> Option<bool> {
+    let mut reader = RecordReader::start(alloc, 2147483647);
+    let _kept = {
+        let _spare = Vec::<u8>::with_capacity(alloc, 65536).ok()?;
+        take_all(alloc).ok()?
+    };
+    Some(reader.feed(&[0xff, 0xff, 0xff, 0xff, 0x61]) == Ok(RecordStep::More))
 }
 
 /// Whether marking says that there is no memory.
 fn mark_wants_memory(alloc: Global) -> Option<bool> {
-    let _kept = growths::take_all(alloc).ok()?;
+    let _kept = take_all(alloc).ok()?;
     Some(mark(alloc, b"abc").is_err())
 }
 
 #[test]
 fn memory_is_wanted_for_content_alone(rt: HostRuntime) {
     assert!(rt; takes_a_header(rt.alloc()) == Some(true));
+    assert!(rt; takes_a_byte(rt.alloc()) == Some(true));
     assert!(rt; mark_wants_memory(rt.alloc()) == Some(true));
 }

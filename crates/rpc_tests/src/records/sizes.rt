@@ -43,5 +43,10 @@ fn is_marked(alloc: Global, length: usize, header: &[u8; 4]) -> Option<bool> {
 
 #[test]
 fn a_long_record_is_marked(rt: HostRuntime) {
-    assert!(rt; is_marked(rt.alloc(), 65536, &[0x80, 1, 0, 0]) == Some(true));
+    for (length, header) in &LONG {
+        assert!(rt;
+            is_marked(rt.alloc(), *length, header) == Some(true),
+            "of {length} bytes"
+        );
+    }
 }

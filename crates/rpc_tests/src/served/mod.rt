@@ -2,6 +2,7 @@
 
 mod devices;
 mod exchanges;
+mod large;
 mod made;
 mod memory;
 mod rows;
