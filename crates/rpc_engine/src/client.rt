@@ -1,5 +1,5 @@
 //! The exchange of a call for a reply.
-ghost use Rattle.std.specs.Prelude.{◌≡◌, ◌≤◌, true, [], ◌∷◌, length, IfOk, IfErr, OnOk, OnErr, IsErrOf, MatchResult};
+ghost use Rattle.std.specs.Prelude.{◌≡◌, ◌≢◌, ◌≤◌, true, [], ◌∷◌, length, IfOk, IfErr, OnOk, OnErr, IsErrOf, MatchResult};
 ghost use Rattle.xdr_io.specs.Told.{Counts, CountsAtMost};
 ghost use Rattle.rpc_record.specs.Marked.{fragment};
 ghost use Rattle.rpc_record.specs.Stands.{IsTaking, limit_of};
@@ -71,6 +71,8 @@ fn first_record<R: Source>(alloc: Global, reader: &mut R) -> Result<Vec<u8>, Cli
     ensures reads { CountsAtMost 1048576 (R.reads reader.old) (R.reads reader.new) }
     ensures many { IsErrOf result ClientFault.TooManyReads → Counts 1048576 (R.reads reader.old) (R.reads reader.new) }
     ensures none_failed { OnOk result (Counts 0 (R.failures reader.old) (R.failures reader.new)) }
+    ensures unfailed { IfErr result (λ f.
+        f ≢ ClientFault.Read → Counts 0 (R.failures reader.old) (R.failures reader.new)) }
 {
     let mut records = RecordReader::start(alloc, MOST_REPLY);
     let mut array = [0u8; 4096];
@@ -140,6 +142,9 @@ fn receive<R: Source>(alloc: Global, reader: &mut R, xid: u32) -> Result<Reply, 
     ensures read { IsErrOf result ClientFault.Read → Counts 1 (R.failures reader.old) (R.failures reader.new) }
     ensures reads { CountsAtMost 1048576 (R.reads reader.old) (R.reads reader.new) }
     ensures many { IsErrOf result ClientFault.TooManyReads → Counts 1048576 (R.reads reader.old) (R.reads reader.new) }
+    ensures none_failed { OnOk result (Counts 0 (R.failures reader.old) (R.failures reader.new)) }
+    ensures unfailed { IfErr result (λ f.
+        f ≢ ClientFault.Read → Counts 0 (R.failures reader.old) (R.failures reader.new)) }
 {
     too_long_ends_the_stream();
     match first_record(alloc, reader) {
@@ -151,8 +156,8 @@ fn receive<R: Source>(alloc: Global, reader: &mut R, xid: u32) -> Result<Reply, 
 /// Writes the call as one last fragment, and reads the first record, of at most 16777216 bytes, as its reply (RFC 5531
 /// sections 9 and 11). The call's credential and verifier have bodies of at most 400 bytes, and the call has at most
 /// 2147483647. What follows the first record in the last read is dropped. After `Write` the first `written` bytes of
-/// the call's record went out, and after `NoMemory` all of it or nothing. An input that ends before its first byte is
-/// `Truncated` at 0.
+/// the call's record went out, and after `NoMemory` all of it or nothing. After any answer but `Read` no read failed. An
+/// input that ends before its first byte is `Truncated` at 0.
 pub fn exchange<R: Source, W: Sink>(
     alloc: Global,
     reader: &mut R,
@@ -168,6 +173,9 @@ pub fn exchange<R: Source, W: Sink>(
     ensures read { IsErrOf result ClientFault.Read → Counts 1 (R.failures reader.old) (R.failures reader.new) }
     ensures reads { CountsAtMost 1048576 (R.reads reader.old) (R.reads reader.new) }
     ensures many { IsErrOf result ClientFault.TooManyReads → Counts 1048576 (R.reads reader.old) (R.reads reader.new) }
+    ensures none_failed { OnOk result (Counts 0 (R.failures reader.old) (R.failures reader.new)) }
+    ensures unfailed { IfErr result (λ f.
+        f ≢ ClientFault.Read → Counts 0 (R.failures reader.old) (R.failures reader.new)) }
     ensures write { Counts (write_failures result) (W.failures writer.old) (W.failures writer.new) }
 {
     let marked = match marked_call(alloc, call) {

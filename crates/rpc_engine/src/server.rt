@@ -1,5 +1,5 @@
 //! The registry as a server over a stream of records.
-ghost use Rattle.std.specs.Prelude.{◌≡◌, [], IfOk, IfErr, OnOk, OnErr, IsErrOf};
+ghost use Rattle.std.specs.Prelude.{◌≡◌, ◌≢◌, [], IfOk, IfErr, OnOk, OnErr, IsErrOf};
 ghost use Rattle.xdr_io.specs.Told.{Counts, CountsAtMost};
 ghost use Rattle.rpc_record.specs.Stands.{IsTaking, IsWaiting};
 ghost use Rattle.rpc_answer.specs.Views.{netid_of};
@@ -94,7 +94,8 @@ fn answer_piece<W: Sink, S: BuildHasher>(
 /// refused gets the reply SYSTEM_ERR, and the rows stay. After `Record`, `Read`, `TooManyReads`, which comes where
 /// 1048576 reads did not reach the end, and `NoMemory`, which comes where a record could not be kept, the records
 /// before were answered. After `Write` the first `written` bytes of the output went out, of which the last are some of
-/// the reply to the record being answered, and the rows are those after that record.
+/// the reply to the record being answered, and the rows are those after that record. After any answer but `Read` no read
+/// failed.
 pub fn serve<R: Source, W: Sink, S: BuildHasher>(
     alloc: Global,
     reader: &mut R,
@@ -107,6 +108,8 @@ pub fn serve<R: Source, W: Sink, S: BuildHasher>(
     ensures fault { IfErr result (λ f. Stops (netid_of transport) directory.old directory.new
         (R.left reader.old) (R.left reader.new) (W.taken writer.old) (W.taken writer.new) f) }
     ensures read { IsErrOf result ServeFault.Read → Counts 1 (R.failures reader.old) (R.failures reader.new) }
+    ensures unfailed { IfErr result (λ f.
+        f ≢ ServeFault.Read → Counts 0 (R.failures reader.old) (R.failures reader.new)) }
     ensures reads { CountsAtMost 1048576 (R.reads reader.old) (R.reads reader.new) }
     ensures many { IsErrOf result ServeFault.TooManyReads → Counts 1048576 (R.reads reader.old) (R.reads reader.new) }
     ensures write { IfErr result (λ f. WriteFails f (W.failures writer.old) (W.failures writer.new)) }
