@@ -57,3 +57,9 @@ fn makes_no_read_too_many(rt: HostRuntime) {
     assert!(rt; count_read(rt.alloc(), 1048576) == Err(InputFault::TooManyReads));
     assert!(rt; count_read(rt.alloc(), 1048575) == Ok(1048575));
 }
+
+#[test]
+fn what_is_enough_reserves_nothing(rt: HostRuntime) {
+    let mut source = MemorySource::new(b"abc", 4096, None);
+    assert!(rt; reads(rt.alloc(), &mut source, 1 << 62, b"abc"));
+}

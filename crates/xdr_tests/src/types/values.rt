@@ -96,3 +96,19 @@ fn copies_values(rt: HostRuntime) {
     assert!(rt; copies_three(rt.alloc()) == Some(true));
     assert!(rt; copies_deep(rt.alloc()) == Some(true));
 }
+
+// Whether content of 65536 bytes and an array of 100,000 numbers equal their copies.
+fn copies_long(alloc: Global) -> Option<bool> {
+    let content = Value::Bytes(vec![in alloc; 97u8; 65536].ok()?);
+    let mut items = Vec::new(alloc);
+    for number in 0..100000 {
+        items.push(Value::Int(number)).ok()?;
+    }
+    let list = Value::List(items);
+    Some(content.copy(alloc).ok()? == content && list.copy(alloc).ok()? == list)
+}
+
+#[test]
+fn copies_long_values(rt: HostRuntime) {
+    assert!(rt; copies_long(rt.alloc()) == Some(true));
+}
