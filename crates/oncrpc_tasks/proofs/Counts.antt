@@ -1,5 +1,5 @@
 -- A count that is told.
-use Rattle.std.proofs.Common.{◌≡◌, ℕ, ◌-◌, ◌^◌, Bool, true, false, Option, Some, None, nat_lt, if◌then◌else◌}
+use Rattle.std.proofs.Common.{◌≡◌, ℕ, ◌-◌, ◌^◌, Bool, true, false, Some, None, nat_lt, if◌then◌else◌}
 use Rattle.xdr_io.specs.Told.{told_count}
 
 some_inner : (b : Bool) (m n : ℕ) → (if b then Some m else None) ≡ Some n → m ≡ n

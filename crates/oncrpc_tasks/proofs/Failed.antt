@@ -1,5 +1,5 @@
 -- How the failure of a device is told.
-use Rattle.std.proofs.Common.{◌≡◌, ℕ, Result, Err, IsErrOf, arith}
+use Rattle.std.proofs.Common.{◌≡◌, Result, Err, IsErrOf, arith}
 use Rattle.xdr_io.specs.Told.{Counts}
 use Rattle.oncrpc_tasks.specs.declared.failure.Failure.{Failure}
 use Rattle.oncrpc_tasks.specs.declared.failure.Failure.TheVariants as failure

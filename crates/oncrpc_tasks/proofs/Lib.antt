@@ -5,3 +5,6 @@ pub mod Questions
 pub mod Texts
 pub mod Counts
 pub mod Failed
+pub mod Judging
+pub mod Progress
+pub mod Rightly

@@ -1,5 +1,5 @@
 -- How a task ends: what its exit status says of what it read and printed.
-use Rattle.std.specs.Prelude.{◌≡◌, ◌⊎◌, ℕ, ◌+◌, ◌≤◌, ◌<◌, Bool, true, false, List, ◌++◌, ◌∷◌, [], length, take, Option}
+use Rattle.std.specs.Prelude.{◌≡◌, ◌⊎◌, ℕ, ◌≤◌, ◌<◌, Bool, true, false, List, ◌++◌, ◌∷◌, [], length, take, Option}
 use Rattle.std.specs.Prelude.{None, Some, Ok, ⊤}
 use Rattle.std.specs.Io.KnownBytes.{Appends}
 use Rattle.hex.specs.Hex.{decode_of, encode_lower}
@@ -16,7 +16,8 @@ use Rattle.oncrpc_tasks.specs.Input.{most_read}
 use Rattle.oncrpc_tasks.specs.Records.{Done, Marks, RefusedBytes, StopsFor}
 use Rattle.oncrpc_tasks.specs.Right.{Question}
 use Rattle.oncrpc_tasks.specs.Sources.{IsTold, told_text}
-use Rattle.oncrpc_tasks.specs.Tasks.{Asks, AsksNothing, IsAnswered}
+use Rattle.oncrpc_tasks.specs.Stopping.{ReadsUnsettled, LastRead, IsUnread, IsPlainCheck}
+use Rattle.oncrpc_tasks.specs.Tasks.{Asks, AsksNothing, ByWords, IsAnswered}
 
 -- what is asked of an input: a value, the value that words ask for with a text of declarations, or its records
 pub data Asked : Type 0 where
@@ -106,6 +107,23 @@ ReadsAtMost (OfWords told what shows) left left' = MovesAtMost (most_read what.h
 ReadsAtMost (OfRecords limit true) left left' = MovesAtMost (most_read true 0) left left'
 ReadsAtMost (OfRecords limit false) left left' = ⊤
 
+-- Where a read failed, or one more than the most would be needed: what was read before settles no answer of a check of
+-- an input that is read as it is. So no read is made, and none fails, after a refusal.
+abbrev pub NeedsMore : Asked → (left left' : Option (List ℕ)) → Type 0
+NeedsMore (OfValue q hex) left left' = IsPlainCheck q.shows hex → ReadsUnsettled q left left'
+NeedsMore (OfWords told what shows) left left' =
+    IsPlainCheck shows what.hex → ByWords told what shows (λ (q : Question). ReadsUnsettled q left left')
+NeedsMore (OfRecords limit hex) left left' = ⊤
+
+-- Where such a check stops reading: nothing was read, or what came before the last read settles no answer.
+abbrev pub StopsReading : Asked → (left left' : Option (List ℕ)) → (reads reads' : Option ℕ) → Type 0
+StopsReading (OfValue q hex) left left' reads reads' =
+    IsPlainCheck q.shows hex → IsUnread left left' reads reads' ⊎ LastRead q left left' reads reads'
+StopsReading (OfWords told what shows) left left' reads reads' =
+    IsPlainCheck shows what.hex → IsUnread left left' reads reads'
+    ⊎ ByWords told what shows (λ (q : Question). LastRead q left left' reads reads')
+StopsReading (OfRecords limit hex) left left' reads reads' = ⊤
+
 -- What a reader and a writer tell: the bytes that are left, the reads, and those that failed; the bytes that were
 -- taken, and the writes that failed.
 pub record Tells (I O : Type 0) : Type 0 where
@@ -123,6 +141,17 @@ Fails tells input input' output output' failure.TooManyReads =
     Counts 1048576 (tells.reads input) (tells.reads input')
 Fails tells input input' output output' failure.NoMemory = ⊥
 
+-- what failed: the file of declarations, a read, a write, or as many reads as there may be
+abbrev pub Device : {I O : Type 0} → Asked → (file : Type 0) → Tells I O → (input input' : I) → (output output' : O)
+    → Type 0
+Device asked file tells input input' output output' =
+    (file × (input' ≡ input) × (output' ≡ output))
+    ⊎ ((Counts 1 (tells.failures input) (tells.failures input')
+    × NeedsMore asked (tells.left input) (tells.left input'))
+    ⊎ (Counts 1 (tells.lost output) (tells.lost output')
+    ⊎ (Counts 1048576 (tells.reads input) (tells.reads input')
+    × NeedsMore asked (tells.left input) (tells.left input'))))
+
 -- What a status says of the input, the output and the writer for faults. `file` says that declarations were not read.
 pub record TaskEnds {I O F : Type 0} (asked : Asked) (file : Type 0) (tells : Tells I O) (input input' : I)
     (output output' : O) (faults faults' : F) (status : ℕ) : Type 0 where
@@ -133,12 +162,11 @@ pub record TaskEnds {I O F : Type 0} (asked : Asked) (file : Type 0) (tells : Te
   pub unlost : status ≤ 1 → Counts 0 (tells.lost output) (tells.lost output')
   pub silent : IsSilent asked status → faults' ≡ faults
   pub unasked : status ≡ 2 → AsksNone asked × (input' ≡ input) × (output' ≡ output)
-  pub device : status ≡ 3 → (file × (input' ≡ input) × (output' ≡ output))
-      ⊎ (Counts 1 (tells.failures input) (tells.failures input')
-      ⊎ (Counts 1 (tells.lost output) (tells.lost output') ⊎ Counts 1048576 (tells.reads input) (tells.reads input')))
+  pub device : status ≡ 3 → Device asked file tells input input' output output'
   pub in_part : status ≡ 3 → PrintsInPart asked (output' ≡ output) (Fails tells input input' output output')
       (tells.left input) (tells.left input') (tells.taken output) (tells.taken output')
   pub wanting : status ≡ 4 → PrintsAtWant asked (output' ≡ output) (tells.left input) (tells.left input')
       (tells.taken output) (tells.taken output')
   pub few_reads : CountsAtMost 1048576 (tells.reads input) (tells.reads input')
   pub bounded : ReadsAtMost asked (tells.left input) (tells.left input')
+  pub stops : StopsReading asked (tells.left input) (tells.left input') (tells.reads input) (tells.reads input')

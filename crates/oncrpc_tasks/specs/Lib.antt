@@ -4,8 +4,10 @@ pub mod Hexadecimal
 pub mod Input
 pub mod Lines
 pub mod Naming
+pub mod Private
 pub mod Records
 pub mod Right
 pub mod Sources
 pub mod Status
+pub mod Stopping
 pub mod Tasks

@@ -6,9 +6,11 @@ use Rattle.xdr_types.specs.Kinds.{KindView}
 use Rattle.xdr_types.specs.Tree.{Tree}
 use Rattle.xdr_types.specs.Spelling.{bytes_of}
 use Rattle.xdr_types.specs.Within.{Bounds, FitsWithin}
+use Rattle.xdr_types.specs.Outcome.{Ending, Outcome, Pending, Whole}
 use Rattle.xdr_show.specs.Shown.{show_text}
 use Rattle.xdr_stream.specs.declared.fault.Reason.{Reason}
 use Rattle.xdr_stream.specs.declared.fault.Reason.TheVariants as reason
+use Rattle.xdr_stream.specs.Sees.{Ends}
 use Rattle.oncrpc_tasks.specs.declared.answer.Answer.{Answer}
 use Rattle.oncrpc_tasks.specs.declared.answer.Answer.TheVariants as answer
 use Rattle.oncrpc_tasks.specs.Hexadecimal.{digits, IsBadHex}
@@ -36,17 +38,28 @@ pub record BeginsWithValue (q : Question) (bytes : List ℕ) (used : ℕ) (more 
 abbrev pub HasNoValue : Question → List ℕ → Type 0
 HasNoValue q bytes = (used : ℕ) (more shown : List ℕ) → BeginsWithValue q bytes used more shown → ⊥
 
--- A value that the end of the input cuts is refused at that end. Every other refusal stands whatever bytes follow.
+-- this is the outcome of decoding the bytes: the first event at the least place that has one (RFC 4506 sections 3 and 4)
+abbrev pub HasOutcome : Question → List ℕ → Ending → Type 0
+HasOutcome q bytes e = Outcome q.kinds q.place q.limits bytes e
+
+-- The outcome is a whole value, of which this is shown, and these bytes follow it.
+abbrev pub IsWhole : Question → List ℕ → (used : ℕ) → (more shown : List ℕ) → Type 0
+IsWhole q bytes used more shown =
+    (b : BeginsWithValue q bytes used more shown) × HasOutcome q bytes (Whole b.value used)
+
+-- The reason and the place are those of the outcome. A value that the end of the input cuts, whose outcome is pending, is
+-- refused at that end. Every other outcome stands whatever bytes follow. No value begins the bytes.
 abbrev pub IsRefusal : Question → List ℕ → Reason → ℕ → Type 0
 IsRefusal q bytes reason.NoMemory at = ⊥
-IsRefusal q bytes reason.Truncated at = HasNoValue q bytes × (length bytes ≤ q.limits.bytes → at ≡ length bytes)
-IsRefusal q bytes _ at = (more : List ℕ) → HasNoValue q (bytes ++ more)
+IsRefusal q bytes reason.Truncated at = HasOutcome q bytes Pending × (at ≡ length bytes) × HasNoValue q bytes
+IsRefusal q bytes why at =
+    (more : List ℕ) → Ends q.kinds q.place q.limits why (bytes ++ more) at × HasNoValue q (bytes ++ more)
 
 -- The answer is right for these bytes, and so is what is shown before it: of a refusal nothing.
 abbrev pub IsRight : Question → List ℕ → Answer → (shown : List ℕ) → Type 0
-IsRight q bytes (answer.Whole used) shown = BeginsWithValue q bytes used [] shown
+IsRight q bytes (answer.Whole used) shown = IsWhole q bytes used [] shown
 IsRight q bytes (answer.MoreFollows used) shown =
-    (more : List ℕ) × (0 < length more) × BeginsWithValue q bytes used more shown
+    (more : List ℕ) × (0 < length more) × IsWhole q bytes used more shown
 IsRight q bytes (answer.Refused f) shown = IsRefusal q bytes f.why f.at × (shown ≡ [])
 IsRight q bytes _ shown = ⊥
 

@@ -26,6 +26,15 @@ pub record Asks (text : List ℕ) (what : ValueTask) (shows : Bool) (q : Questio
   pub limits : q.limits ≡ record { depth = what.depth; bytes = what.bytes }
   pub lines : q.shows ≡ shows
 
+-- A question is asked, by a text that is told, and this is true of it.
+pub record ByWords (told : List ℕ → Option (List ℕ)) (what : ValueTask) (shows : Bool) (Holds : Question → Type 0)
+    : Type 0 where
+  pub text : List ℕ
+  pub is_told : IsTold (told_text told what.types) text
+  pub question : Question
+  pub asked : Asks text what shows question
+  pub holds : Holds question
+
 -- A question is asked, by a text that is told, and was answered.
 pub record IsAnswered (told : List ℕ → Option (List ℕ)) (what : ValueTask) (shows : Bool)
     (left taken taken' : Option (List ℕ)) (status : ℕ) : Type 0 where

@@ -1,29 +1,34 @@
 //! Reads one value, and prints what the input holds, and the value's lines where they are asked for.
-ghost use Rattle.std.specs.Prelude.{◌≡◌, ◌≢◌, ℕ, ◌++◌, ◌<◌, [], true, false, Bool, Option, List, length, IfOk, IfErr};
+ghost use Rattle.std.specs.Prelude.{◌≡◌, ◌≢◌, ◌⊎◌, ℕ, ◌++◌, ◌<◌, true, false, Bool, Option, List, length, IfOk, IfErr};
 ghost use Rattle.std.specs.Prelude.{OnOk, IsErrOf};
 ghost use Rattle.std.specs.Io.KnownBytes.{Appends};
-ghost use Rattle.xdr_types.specs.View.{tree};
-ghost use Rattle.xdr_types.specs.Within.{FitsWithin};
 ghost use Rattle.xdr_io.specs.Told.{Counts, CountsAtMost, MovesAtMost};
 ghost use Rattle.oncrpc_tasks.specs.Checked.{AnswersInPart};
 ghost use Rattle.oncrpc_tasks.specs.Ends.{OfValue, TaskEnds};
-ghost use Rattle.oncrpc_tasks.specs.Input.{BeginsInput, InputGives, most_read};
+ghost use Rattle.oncrpc_tasks.specs.Input.{InputGives, most_read};
 ghost use Rattle.oncrpc_tasks.specs.Lines.{line};
-ghost use Rattle.oncrpc_tasks.specs.Right.{IsRight, IsRightFor, lines_of};
+ghost use Rattle.oncrpc_tasks.specs.Right.{IsRight, IsRightFor};
+ghost use Rattle.oncrpc_tasks.specs.Stopping.{IsPlainCheck, IsUnread, LastRead, ReadsUnsettled};
 
 use super::answer::{Answer, line_of, status_of};
 use super::failure::{Failure, report};
 use super::given::{Given, given_over};
+use super::judge::{judge_bytes, judge_over};
 use std::alloc::Global;
 use xdr_codec::{Reason, decode};
 use xdr_io::{Sink, Source, write_whole};
 use xdr_show::show;
-use xdr_types::{KindId, Limits, NoMemory, Schema, Value};
+use xdr_types::{KindId, Limits, Schema};
 
 /// Checks that the input begins with a value of the kind, and prints one line: `ok N`, or `ok N, more follows` where
-/// at least one more byte can be read, status 0; `refused WHY at N`, status 1. With `hex` the input is a text of
-/// hexadecimal, and `refused bad hex` or `refused hex too long` may come, status 1. A device that fails or too many
-/// reads are status 3, want of memory is status 4, and then `faults` gets the line.
+/// at least one more byte can be read, status 0; `refused WHY at N`, status 1, of the reason and at the place that the
+/// outcome of decoding has (RFC 4506). With `hex` the input is a text of hexadecimal, and `refused bad hex` or
+/// `refused hex too long` may come, status 1. A device that fails or too many reads are status 3, want of memory is
+/// status 4, and then `faults` gets the line.
+///
+/// The input is judged as it is read, by pages of 4096 bytes, and no value is made of it. Reading stops at a refusal,
+/// so that a read that would fail after it is not met; after a value it goes on until one more byte or the end is
+/// seen. With `hex` all of the input is read first.
 pub fn check_over<I: Source, O: Sink, F: Sink>(
     alloc: Global,
     input: &mut I,
@@ -109,8 +114,14 @@ fn print_answer<I: Source, O: Sink>(
         × Appends (O.taken output.old) (O.taken output.new) (shown ++ line a)) }
     ensures none_failed { OnOk result (Counts 0 (I.failures input.old) (I.failures input.new)
         × Counts 0 (O.failures output.old) (O.failures output.new)) }
-    ensures read { IsErrOf result Failure.Read → Counts 1 (I.failures input.old) (I.failures input.new) }
-    ensures many { IsErrOf result Failure.TooManyReads → Counts 1048576 (I.reads input.old) (I.reads input.new) }
+    ensures read { IsErrOf result Failure.Read → Counts 1 (I.failures input.old) (I.failures input.new)
+        × (IsPlainCheck shows hex
+        → ReadsUnsettled (record { kinds = schema.now.kinds; place = kind.place; limits = limits; shows = shows })
+        (I.left input.old) (I.left input.new)) }
+    ensures many { IsErrOf result Failure.TooManyReads → Counts 1048576 (I.reads input.old) (I.reads input.new)
+        × (IsPlainCheck shows hex
+        → ReadsUnsettled (record { kinds = schema.now.kinds; place = kind.place; limits = limits; shows = shows })
+        (I.left input.old) (I.left input.new)) }
     ensures write { IsErrOf result Failure.Write → Counts 1 (O.failures output.old) (O.failures output.new) }
     ensures in_part { IsErrOf result Failure.Write
         → AnswersInPart (record { kinds = schema.now.kinds; place = kind.place; limits = limits; shows = shows })
@@ -118,16 +129,59 @@ fn print_answer<I: Source, O: Sink>(
     ensures nothing { IfErr result (λ f. f ≢ Failure.Write → output.new ≡ output.old) }
     ensures reads { CountsAtMost 1048576 (I.reads input.old) (I.reads input.new) }
     ensures moved { MovesAtMost (most_read hex limits.bytes) (I.left input.old) (I.left input.new) }
+    ensures stops { IsPlainCheck shows hex
+        → IsUnread (I.left input.old) (I.left input.new) (I.reads input.old) (I.reads input.new)
+        ⊎ LastRead (record { kinds = schema.now.kinds; place = kind.place; limits = limits; shows = shows })
+        (I.left input.old) (I.left input.new) (I.reads input.old) (I.reads input.new) }
 {
-    let given = given_over(alloc, input, limits.bytes() as usize, hex)?;
-    let (answer, mut text) = answer_given(alloc, schema, kind, limits, shows, &given)?;
+    let (answer, mut text) = answer_to(alloc, input, schema, kind, limits, hex, shows)?;
     let line = line_of(alloc, answer)?;
     text.extend_from_slice(line.as_bytes())?;
     write_whole(output, &text)?;
     Ok(answer)
 }
 
-// The answer, and what is shown before its line.
+// The answer, and what is shown before its line. A check of an input that is read as it is judges it as it is read; all
+// else reads first.
+fn answer_to<I: Source>(
+    alloc: Global,
+    input: &mut I,
+    schema: &Schema,
+    kind: KindId,
+    limits: Limits,
+    hex: bool,
+    shows: bool,
+) -> Result<(Answer, Vec<u8>), Failure>
+    requires { kind.place < length schema.now.kinds }
+    ensures right { IfOk result (λ r.
+        IsRightFor (record { kinds = schema.now.kinds; place = kind.place; limits = limits; shows = shows })
+        hex (I.left input.old) r.0 r.1.items) }
+    ensures none_failed { OnOk result (Counts 0 (I.failures input.old) (I.failures input.new)) }
+    ensures read { IsErrOf result Failure.Read → Counts 1 (I.failures input.old) (I.failures input.new)
+        × (IsPlainCheck shows hex
+        → ReadsUnsettled (record { kinds = schema.now.kinds; place = kind.place; limits = limits; shows = shows })
+        (I.left input.old) (I.left input.new)) }
+    ensures many { IsErrOf result Failure.TooManyReads → Counts 1048576 (I.reads input.old) (I.reads input.new)
+        × (IsPlainCheck shows hex
+        → ReadsUnsettled (record { kinds = schema.now.kinds; place = kind.place; limits = limits; shows = shows })
+        (I.left input.old) (I.left input.new)) }
+    ensures no_write { IsErrOf result Failure.Write → ⊥ }
+    ensures reads { CountsAtMost 1048576 (I.reads input.old) (I.reads input.new) }
+    ensures moved { MovesAtMost (most_read hex limits.bytes) (I.left input.old) (I.left input.new) }
+    ensures stops { IsPlainCheck shows hex
+        → IsUnread (I.left input.old) (I.left input.new) (I.reads input.old) (I.reads input.new)
+        ⊎ LastRead (record { kinds = schema.now.kinds; place = kind.place; limits = limits; shows = shows })
+        (I.left input.old) (I.left input.new) (I.reads input.old) (I.reads input.new) }
+{
+    if shows || hex {
+        let given = given_over(alloc, input, limits.bytes() as usize, hex)?;
+        answer_given(alloc, schema, kind, limits, shows, &given)
+    } else {
+        let answer = judge_over(alloc, input, schema, kind, limits)?;
+        Ok((answer, Vec::new(alloc)))
+    }
+}
+
 fn answer_given(
     alloc: Global,
     schema: &Schema,
@@ -142,6 +196,7 @@ fn answer_given(
         hex told r.0 r.1.items) }
     ensures memory { IfErr result (λ f. f ≡ Failure.NoMemory) }
 {
+    let _range = limits.depth();
     match given {
         Given::Bytes(bytes) => answer_of(alloc, schema, kind, limits, shows, bytes),
         Given::BadHex => Ok((Answer::BadHex, Vec::new(alloc))),
@@ -149,7 +204,6 @@ fn answer_given(
     }
 }
 
-/// What the beginning of an input says of the whole of it.
 fn answer_of(
     alloc: Global,
     schema: &Schema,
@@ -159,14 +213,37 @@ fn answer_of(
     bytes: &[u8],
 ) -> Result<(Answer, Vec<u8>), Failure>
     requires { kind.place < length schema.now.kinds }
-    ensures right { IfOk result (λ r. (whole : List ℕ) → BeginsInput limits.bytes whole bytes.now
-        → IsRight (record { kinds = schema.now.kinds; place = kind.place; limits = limits; shows = shows })
-        whole r.0 r.1.items) }
+    ensures right { IfOk result (λ r.
+        IsRight (record { kinds = schema.now.kinds; place = kind.place; limits = limits; shows = shows })
+        bytes.now r.0 r.1.items) }
     ensures memory { IfErr result (λ f. f ≡ Failure.NoMemory) }
 {
+    if shows {
+        shown_of(alloc, schema, kind, limits, bytes)
+    } else {
+        let answer = judge_bytes(alloc, schema, kind, limits, bytes)?;
+        Ok((answer, Vec::new(alloc)))
+    }
+}
+
+// The answer, and the lines of the value.
+fn shown_of(
+    alloc: Global,
+    schema: &Schema,
+    kind: KindId,
+    limits: Limits,
+    bytes: &[u8],
+) -> Result<(Answer, Vec<u8>), Failure>
+    requires { kind.place < length schema.now.kinds }
+    ensures right { IfOk result (λ r.
+        IsRight (record { kinds = schema.now.kinds; place = kind.place; limits = limits; shows = true })
+        bytes.now r.0 r.1.items) }
+    ensures memory { IfErr result (λ f. f ≡ Failure.NoMemory) }
+{
+    let _range = limits.depth();
     match decode(alloc, schema, kind, limits, bytes) {
         Ok((value, used)) => {
-            let shown = shown_of(alloc, schema, kind, limits, shows, &value)?;
+            let shown = show(alloc, schema, kind, &value, limits)?;
             if used < bytes.len() {
                 Ok((Answer::MoreFollows { used }, shown))
             } else {
@@ -175,26 +252,5 @@ fn answer_of(
         }
         Err(fault) if fault.why == Reason::NoMemory => Err(Failure::NoMemory),
         Err(fault) => Ok((Answer::Refused(fault), Vec::new(alloc))),
-    }
-}
-
-// The value's lines, where they are asked for.
-fn shown_of(
-    alloc: Global,
-    schema: &Schema,
-    kind: KindId,
-    limits: Limits,
-    shows: bool,
-    value: &Value,
-) -> Result<Vec<u8>, NoMemory>
-    requires { FitsWithin schema.now.kinds kind.place limits (tree value.now) }
-    ensures { IfOk result (λ v. v.items
-        ≡ lines_of (record { kinds = schema.now.kinds; place = kind.place; limits = limits; shows = shows })
-        (tree value.now)) }
-{
-    if shows {
-        show(alloc, schema, kind, value, limits)
-    } else {
-        Ok(Vec::new(alloc))
     }
 }

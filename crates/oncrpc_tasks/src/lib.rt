@@ -8,6 +8,7 @@ mod failure;
 mod gathered;
 mod given;
 mod hexadecimal;
+mod judge;
 mod named;
 mod open;
 mod question;

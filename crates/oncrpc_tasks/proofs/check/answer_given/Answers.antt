@@ -11,5 +11,5 @@ returns-in-Bytes-clause-right c =
       limits = c.args.limits;
       shows = c.args.shows;
     } in
-    given_is_right q c.args.given.now c.in-Bytes.bytes c.deref.result.now c.answer_of.result c.in-Bytes.is
+    given_is_right q c.depth-range.ensures.range.units c.args.given.now c.in-Bytes.bytes c.deref.result.now c.answer_of.result c.in-Bytes.is
     c.deref.ensures.value c.answer_of.ensures.right

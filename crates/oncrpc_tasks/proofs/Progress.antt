@@ -1,0 +1,198 @@
+-- An input that is judged as it is read: where reading stands.
+use Rattle.std.proofs.Common.{◌≡◌, ℕ, ◌+◌, ◌<◌, ◌≤◌, List, [], ◌++◌, length, take, refl, sym, ap}
+use Rattle.std.proofs.Common.{subst, ◌∙◌, arith, append-nil, length-append, Option, Some, None, false}
+use Rattle.std.specs.Io.KnownBytes.{Keeps, Consumes, IsAtEnd}
+use Rattle.xdr_types.specs.Kinds.{Lists}
+use Rattle.xdr_types.specs.Within.{AreBounds, Bounds}
+use Rattle.xdr_types.specs.declared.kind.KindId.{KindId}
+use Rattle.xdr_io.specs.Told.{Counts, CountsAtMost, MovesAtMost}
+use Rattle.xdr_io.proofs.Chained.{Counts-trans, Consumes-trans, Consumes-none, Consumes-then_kept}
+use Rattle.xdr_io.proofs.Chained.{Consumes-at_end}
+use Rattle.xdr_codec.specs.Checks.{StandsFor, IsStarted}
+use Rattle.xdr_codec.specs.declared.checker.Checker.{Checker}
+use Rattle.oncrpc_tasks.specs.declared.answer.Answer.{Answer}
+use Rattle.oncrpc_tasks.specs.declared.judge.Verdict.{Verdict}
+use Rattle.oncrpc_tasks.specs.declared.judge.Verdict.TheVariants.{Open, Settled}
+use Rattle.oncrpc_tasks.specs.Private.Judged.{Follows, Says}
+use Rattle.oncrpc_tasks.specs.Right.{Question, IsRight, IsRightFor}
+use Rattle.oncrpc_tasks.specs.Stopping.{IsUnsettled, ReadsUnsettled, LastRead}
+use Rattle.oncrpc_tasks.proofs.Rightly.{unsettled_within}
+
+-- What was read settles no answer; this one is right if the input ends here.
+pub record Progress (q : Question) (c : Checker) (count : ℕ) (at_end : Answer) (turn : ℕ) (left left' : Option (List ℕ))
+    : Type 0 where
+  pub seen : List ℕ
+  pub read : Consumes left left' seen
+  pub counted : count ≡ length seen
+  pub turns : turn ≤ length seen
+  pub follows : Follows q c seen
+  pub unsettled : IsUnsettled q seen
+  pub right : IsRight q seen at_end []
+
+-- an answer that is right whatever follows is right for an input that is told
+for_told : (q : Question) (a : Answer) (b : List ℕ) (left left' : Option (List ℕ)) → Consumes left left' b
+    → ((more : List ℕ) → IsRight q (b ++ more) a []) → IsRightFor q false left a []
+for_told q a b None left' read each = tt
+for_told q a b (Some input) None read each = absurd read
+for_told q a b (Some input) (Some rest) read each =
+    subst (λ (x : List ℕ). IsRight q x a []) (sym read) (each rest)
+
+at_its_end : (q : Question) (a : Answer) (b : List ℕ) (left left' : Option (List ℕ)) → Consumes left left' b
+    → IsAtEnd left' → IsRight q b a [] → IsRightFor q false left a []
+at_its_end q a b None left' read end right = tt
+at_its_end q a b (Some input) None read end right = absurd read
+at_its_end q a b (Some input) (Some rest) read end right =
+    subst (λ (x : List ℕ). IsRight q x a [])
+    (sym (read ∙ ap (λ (x : List ℕ). b ++ x) end ∙ append-nil b)) right
+
+-- a checker that was started follows no bytes yet
+pub started : (c : Checker) (s : Lists) (k : KindId) (l : Bounds) → StandsFor c [] → IsStarted c s k l
+    → Follows (record { kinds = s.kinds; place = k.place; limits = l; shows = false }) c []
+started c s k l stands set = record {
+  stands = stands;
+  kinds_are = ap (λ (x : Lists). x.kinds) set.schema_is;
+  place_is = ap (λ (x : KindId). x.place) set.kind_is;
+  limits_are = set.limits_are;
+  lines = refl;
+}
+
+-- before the first read
+pub begun : (q : Question) (d : Checker) (v : Verdict) (a : Answer) (left : Option (List ℕ)) → v ≡ Open a
+    → Says q d [] v → Progress q d 0 a 0 left left
+begun q d v a left is says =
+    let h : Says q d [] (Open a) = subst (λ (x : Verdict). Says q d [] x) is says in
+    record {
+      seen = [];
+      read = Consumes-none left;
+      counted = refl;
+      turns = omega arith;
+      follows = h.0;
+      unsettled = h.1;
+      right = h.2;
+    }
+
+-- all bytes in one piece
+pub all_open : (q : Question) (d : Checker) (b : List ℕ) (v : Verdict) (a : Answer) → v ≡ Open a → Says q d b v
+    → IsRight q b a []
+all_open q d b v a is says =
+    let h : Says q d b (Open a) = subst (λ (x : Verdict). Says q d b x) is says in h.2
+
+pub all_settled : (q : Question) (d : Checker) (b : List ℕ) (v : Verdict) (a : Answer) → v ≡ Settled a → Says q d b v
+    → IsRight q b a []
+all_settled q d b v a is says =
+    let h : Says q d b (Settled a) = subst (λ (x : Verdict). Says q d b x) is says in
+    subst (λ (x : List ℕ). IsRight q x a []) (append-nil b) (h [])
+
+pub settled_first : (q : Question) (d : Checker) (v : Verdict) (a : Answer) (left : Option (List ℕ)) → v ≡ Settled a
+    → Says q d [] v → IsRightFor q false left a []
+settled_first q d v a left is says =
+    let h : Says q d [] (Settled a) = subst (λ (x : Verdict). Says q d [] x) is says in
+    for_told q a [] left left (Consumes-none left) h
+
+module _ (q : Question) (bounds : AreBounds q.limits.depth q.limits.bytes) where
+  -- what comes before the last read is within the limit, and that read is of a page at most
+  pub moved_by : (left left' : Option (List ℕ)) (reads reads' : Option ℕ) → LastRead q left left' reads reads'
+      → MovesAtMost (q.limits.bytes + 4096) left left'
+  moved_by left left' reads reads' h =
+      let within = unsettled_within q bounds.units h.before h.unsettled in
+      record {
+        input = h.before ++ h.last;
+        few = omega (arith, within, h.page, length-append h.before h.last);
+        read = h.read;
+      }
+
+module _ (q : Question) (c : Checker) (count : ℕ) (at_end : Answer) (turn : ℕ) (left left' : Option (List ℕ))
+    (reads reads' reads'' : Option ℕ) (p : Progress q c count at_end turn left left') (counted : Counts turn reads reads')
+  where
+    -- a read that failed
+    pub unsettled_by : (left'' : Option (List ℕ)) → Keeps left' left'' → ReadsUnsettled q left left''
+    unsettled_by left'' kept =
+        record { bytes = p.seen; unsettled = p.unsettled; read = Consumes-then_kept _ _ _ p.seen p.read kept }
+
+    pub failed_by : (left'' : Option (List ℕ)) → Keeps left' left'' → Counts 1 reads' reads''
+        → LastRead q left left'' reads reads''
+    failed_by left'' kept one = record {
+      before = p.seen;
+      last = [];
+      unsettled = p.unsettled;
+      page = omega arith;
+      read = Consumes-then_kept _ _ _ (p.seen ++ [])
+          (subst (λ (x : List ℕ). Consumes left left' x) (sym (append-nil p.seen)) p.read) kept;
+      few = record {
+        calls = turn + 1;
+        few = omega (arith, p.turns);
+        counted = Counts-trans _ _ _ turn 1 _ refl counted one;
+      };
+    }
+
+    -- after the last read that is allowed
+    pub many_by : LastRead q left left' reads reads'
+    many_by = record {
+      before = p.seen;
+      last = [];
+      unsettled = p.unsettled;
+      page = omega arith;
+      read = subst (λ (x : List ℕ). Consumes left left' x) (sym (append-nil p.seen)) p.read;
+      few = record { calls = turn; few = omega (arith, p.turns); counted = counted };
+    }
+
+    pub one_more : Counts 1 reads' reads'' → turn < 1048576 → CountsAtMost 1048576 reads reads''
+    one_more one low = record {
+      calls = turn + 1;
+      few = omega (arith, low);
+      counted = Counts-trans _ _ _ turn 1 _ refl counted one;
+    }
+
+    pub count_within : AreBounds q.limits.depth q.limits.bytes → count ≤ 16777216
+    count_within bounds =
+        omega (arith, p.counted, unsettled_within q bounds.units p.seen p.unsettled, bounds.most_bytes)
+
+    pub at_end_by : (left'' : Option (List ℕ)) (n : ℕ) (array : List ℕ) → n ≡ 0 → Consumes left' left'' (take n array)
+        → IsAtEnd left'' → IsRightFor q false left at_end []
+    at_end_by left'' n array none read end =
+        at_its_end q at_end p.seen left left'' (Consumes-at_end left left' left'' p.seen array n none p.read read) end
+        p.right
+
+    -- a read that gave some bytes
+    pub goes_on : (left'' : Option (List ℕ)) (n : ℕ) (array : List ℕ) (d : Checker) (v : Verdict) (a : Answer)
+        → length (take n array) ≡ n → (n ≡ 0 → ⊥) → Consumes left' left'' (take n array) → v ≡ Open a
+        → Says q d (p.seen ++ take n array) v → Progress q d (count + n) a (turn + 1) left left''
+    goes_on left'' n array d v a size some read is says =
+        let h : Says q d (p.seen ++ take n array) (Open a) =
+        subst (λ (x : Verdict). Says q d (p.seen ++ take n array) x) is says in
+        let grown = length-append p.seen (take n array) in
+        let one : 1 ≤ n = omega (arith, some) in
+        record {
+          seen = p.seen ++ take n array;
+          read = Consumes-trans _ _ _ p.seen (take n array) _ refl p.read read;
+          counted = omega (arith, grown, size, p.counted);
+          turns = omega (arith, grown, size, p.turns, one);
+          follows = h.0;
+          unsettled = h.1;
+          right = h.2;
+        }
+
+    pub settled_by : (left'' : Option (List ℕ)) (n : ℕ) (array : List ℕ) (d : Checker) (v : Verdict) (a : Answer)
+        → Consumes left' left'' (take n array) → v ≡ Settled a → Says q d (p.seen ++ take n array) v
+        → IsRightFor q false left a []
+    settled_by left'' n array d v a read is says =
+        let h : Says q d (p.seen ++ take n array) (Settled a) =
+        subst (λ (x : Verdict). Says q d (p.seen ++ take n array) x) is says in
+        for_told q a (p.seen ++ take n array) left left''
+        (Consumes-trans _ _ _ p.seen (take n array) _ refl p.read read) h
+
+    -- a read that gave some bytes, or none at the end
+    pub read_by : (left'' : Option (List ℕ)) (n : ℕ) (array : List ℕ) → length (take n array) ≤ 4096
+        → Consumes left' left'' (take n array) → Counts 1 reads' reads'' → LastRead q left left'' reads reads''
+    read_by left'' n array few moved one = record {
+      before = p.seen;
+      last = take n array;
+      unsettled = p.unsettled;
+      page = few;
+      read = Consumes-trans _ _ _ p.seen (take n array) _ refl p.read moved;
+      few = record {
+        calls = turn + 1;
+        few = omega (arith, p.turns);
+        counted = Counts-trans _ _ _ turn 1 _ refl counted one;
+      };
+    }

@@ -1,0 +1,120 @@
+//! A value judged while its bytes come.
+ghost use Rattle.std.specs.Prelude.{◌≡◌, ◌⊎◌, ◌≤◌, ◌<◌, ◌+◌, ◌++◌, ℕ, List, [], false, length, IfOk, IfErr, OnOk, IsErrOf};
+ghost use Rattle.xdr_types.specs.Within.{AreBounds};
+ghost use Rattle.xdr_io.specs.Told.{Counts, CountsAtMost, MovesAtMost};
+ghost use Rattle.oncrpc_tasks.specs.Right.{Question, IsRight, IsRightFor};
+ghost use Rattle.oncrpc_tasks.specs.Stopping.{LastRead, ReadsUnsettled, IsUnread};
+ghost use Rattle.oncrpc_tasks.specs.Private.Judged.{Follows, Says};
+
+use super::answer::Answer;
+use super::failure::Failure;
+use std::alloc::Global;
+use xdr_codec::{Checker, DecodeFault, Progress, Reason};
+use xdr_io::{MOST_READS, Source};
+use xdr_types::{KindId, Limits, Schema};
+
+/// What the bytes so far say.
+enum Verdict {
+    /// This answer, if no more bytes come.
+    Open(Answer),
+    /// This answer, whatever comes.
+    Settled(Answer),
+}
+
+/// Feeds a piece after `count` bytes.
+fn judge_piece(checker: &mut Checker, count: usize, piece: &[u8]) -> Result<Verdict, Failure>
+    requires { count ≤ 16777216 }
+    ensures says { IfOk result (λ v. (q : Question) (bytes : List ℕ) → Follows q checker.old bytes
+        → AreBounds q.limits.depth q.limits.bytes → count ≡ length bytes → Says q checker.new (bytes ++ piece.now) v) }
+    ensures memory { IfErr result (λ f. f ≡ Failure.NoMemory) }
+{
+    match checker.feed(piece) {
+        Ok(Progress::More) => Ok(Verdict::Open(Answer::Refused(DecodeFault {
+            why: Reason::Truncated,
+            at: count + piece.len(),
+        }))),
+        Ok(Progress::Done { used }) if used < piece.len() => {
+            Ok(Verdict::Settled(Answer::MoreFollows { used: count + used }))
+        }
+        Ok(Progress::Done { .. }) => Ok(Verdict::Open(Answer::Whole {
+            used: count + piece.len(),
+        })),
+        Err(fault) if fault.why == Reason::NoMemory => Err(Failure::NoMemory),
+        Err(fault) => Ok(Verdict::Settled(Answer::Refused(fault))),
+    }
+}
+
+/// What all bytes of an input say.
+pub fn judge_bytes(
+    alloc: Global,
+    schema: &Schema,
+    kind: KindId,
+    limits: Limits,
+    bytes: &[u8],
+) -> Result<Answer, Failure>
+    requires { kind.place < length schema.now.kinds }
+    ensures right { IfOk result (λ a.
+        IsRight (record { kinds = schema.now.kinds; place = kind.place; limits = limits; shows = false })
+        bytes.now a []) }
+    ensures memory { IfErr result (λ f. f ≡ Failure.NoMemory) }
+{
+    let _range = limits.depth();
+    let mut checker = Checker::start(alloc, schema, kind, limits);
+    let verdict = judge_piece(&mut checker, 0, bytes)?;
+    match verdict {
+        Verdict::Open(answer) => Ok(answer),
+        Verdict::Settled(answer) => Ok(answer),
+    }
+}
+
+/// What an input says that is judged as it is read. Reading stops where the answer is settled: at a refusal, at the
+/// first byte after the value, or at the end. A refusal of no bytes is answered before any read.
+pub fn judge_over<I: Source>(
+    alloc: Global,
+    input: &mut I,
+    schema: &Schema,
+    kind: KindId,
+    limits: Limits,
+) -> Result<Answer, Failure>
+    requires { kind.place < length schema.now.kinds }
+    ensures right { IfOk result (λ a.
+        IsRightFor (record { kinds = schema.now.kinds; place = kind.place; limits = limits; shows = false }) false
+        (I.left input.old) a []) }
+    ensures none_failed { OnOk result (Counts 0 (I.failures input.old) (I.failures input.new)) }
+    ensures failed { IsErrOf result Failure.Read → Counts 1 (I.failures input.old) (I.failures input.new)
+        × ReadsUnsettled (record { kinds = schema.now.kinds; place = kind.place; limits = limits; shows = false })
+        (I.left input.old) (I.left input.new) }
+    ensures many { IsErrOf result Failure.TooManyReads → Counts 1048576 (I.reads input.old) (I.reads input.new)
+        × ReadsUnsettled (record { kinds = schema.now.kinds; place = kind.place; limits = limits; shows = false })
+        (I.left input.old) (I.left input.new) }
+    ensures no_write { IsErrOf result Failure.Write → ⊥ }
+    ensures reads { CountsAtMost 1048576 (I.reads input.old) (I.reads input.new) }
+    ensures moved { MovesAtMost (limits.bytes + 4096) (I.left input.old) (I.left input.new) }
+    ensures stops { IsUnread (I.left input.old) (I.left input.new) (I.reads input.old) (I.reads input.new)
+        ⊎ LastRead (record { kinds = schema.now.kinds; place = kind.place; limits = limits; shows = false })
+        (I.left input.old) (I.left input.new) (I.reads input.old) (I.reads input.new) }
+{
+    let _range = limits.depth();
+    let mut checker = Checker::start(alloc, schema, kind, limits);
+    let mut at_end = match judge_piece(&mut checker, 0, &[])? {
+        Verdict::Open(answer) => answer,
+        Verdict::Settled(answer) => return Ok(answer),
+    };
+    let mut array = [0u8; 4096];
+    let mut count = 0;
+    for _turn in 0..MOST_READS {
+        let n = match input.read(&mut array) {
+            Ok(n) => n,
+            Err(_) => return Err(Failure::Read),
+        };
+        if n == 0 {
+            return Ok(at_end);
+        }
+        at_end = match judge_piece(&mut checker, count, &array[..n])? {
+            Verdict::Open(answer) => answer,
+            Verdict::Settled(answer) => return Ok(answer),
+        };
+        count += n;
+    }
+    Err(Failure::TooManyReads)
+}
