@@ -1,4 +1,3 @@
 pub mod Transports
 pub mod Own
-pub mod Bytes
 pub mod Listed

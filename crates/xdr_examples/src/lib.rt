@@ -7,6 +7,7 @@ pub mod checking;
 pub mod decoding;
 pub mod devices;
 pub mod encoding;
+pub mod holding;
 pub mod lending;
 pub mod limits;
 pub mod lines;

@@ -1,8 +1,8 @@
-use Rattle.std.proofs.Common.{◌≡◌, ◌≤◌, ◌<◌, ℕ, List, [], length, subst, sym, ◌∙◌}
+use Rattle.std.proofs.Common.{◌≡◌, ◌≤◌, ◌<◌, ℕ, List, [], length, subst, sym, ◌∙◌, arith}
 use Rattle.xdr_units.specs.Numbers.{AreBytes}
+use Rattle.xdr_units.proofs.Bytes.{bytes_at}
 use Rattle.rpc_rows.specs.Rows.{row_of}
 use Rattle.rpc_rows.proofs.Added.{addable}
-use Rattle.rpc_directory.proofs.Bytes.{bytes_by_type}
 use Rattle.rpc_directory.proofs.directory.Directory.set.Goals as goal
 
 pub append-requires-clause-row : goal.append-requires-clause-row
@@ -20,7 +20,7 @@ append-requires-clause-row g c =
       netid = subst (λ (t : List ℕ). length t ≤ 64) (sym netid) may.netid;
       address = subst (λ (t : List ℕ). length t ≤ 256) (sym address) may.address;
       owner = subst (λ (t : List ℕ). length t ≤ 10) (sym owner) c.requires;
-      netid_bytes = subst AreBytes (sym netid) (bytes_by_type c.args.netid.now c.type_inv.netid);
-      address_bytes = subst AreBytes (sym address) (bytes_by_type c.args.address.now c.type_inv.address);
-      owner_bytes = subst AreBytes (sym owner) (bytes_by_type c.args.owner.now c.type_inv.owner);
+      netid_bytes = subst AreBytes (sym netid) (bytes_at c.args.netid.now (λ i. omega (arith, c.type_inv.netid i)));
+      address_bytes = subst AreBytes (sym address) (bytes_at c.args.address.now (λ i. omega (arith, c.type_inv.address i)));
+      owner_bytes = subst AreBytes (sym owner) (bytes_at c.args.owner.now (λ i. omega (arith, c.type_inv.owner i)));
     }
