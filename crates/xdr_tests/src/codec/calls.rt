@@ -3,7 +3,8 @@
 use std::alloc::Global;
 use std::process::Abort;
 use xdr_codec::{
-    Checker, DecodeFault, Decoder, Lent, Progress, WriteFault, decode, encode, encode_to, parts,
+    Checker, DecodeFault, Decoder, Held, Lent, Progress, WriteFault, decode, encode, encode_to,
+    parts,
 };
 use xdr_io::MemorySink;
 use xdr_types::{KindId, Limits, NoMemory, Schema, Value, fits};
@@ -168,4 +169,32 @@ pub fn checked(
         }
     }
     checker.finish()
+}
+
+/// A checker for a kind that the schema has.
+pub fn checking<'s>(
+    rt: &impl Abort,
+    alloc: Global,
+    schema: &'s Schema,
+    place: u32,
+    limits: Limits,
+) -> Checker<'s> {
+    let kind = KindId { place };
+    assert!(*rt; schema.has(kind));
+    Checker::start(alloc, schema, kind, limits)
+}
+
+/// What a checker's `feed` answers.
+pub fn judged(checker: &mut Checker<'_>, piece: &[u8]) -> Result<Progress, DecodeFault> {
+    checker.feed(piece)
+}
+
+/// What a decoder holds.
+pub fn held(decoder: &Decoder<'_>) -> Held {
+    decoder.held()
+}
+
+/// What a checker holds.
+pub fn counted_held(checker: &Checker<'_>) -> Held {
+    checker.held()
 }

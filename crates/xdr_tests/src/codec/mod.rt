@@ -2,6 +2,7 @@
 mod accepted;
 mod calls;
 mod failures;
+mod holding;
 mod large;
 mod lent;
 mod made;
