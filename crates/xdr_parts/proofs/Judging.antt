@@ -1,5 +1,5 @@
 -- What a checker's answer to the whole input says of it.
-use Rattle.std.proofs.Common.{◌≡◌, ℕ, ◌+◌, List, [], ◌++◌, length, refl, sym, ap, subst, ◌∙◌, zero-add, Result, Ok, Err, ◌≤◌, ◌%◌}
+use Rattle.std.proofs.Common.{◌≡◌, ℕ, ◌+◌, List, [], ◌++◌, length, sym, ap, subst, ◌∙◌, zero-add, Result, Ok, Err, ◌≤◌, ◌%◌}
 use Rattle.std.proofs.Common.{◌∷◌, take, drop, arith, inl, inr}
 use Rattle.std.specs.List.{AllByRecursion}
 use Rattle.std.proofs.lemmas.List.{length-drop, length-take, take-append-drop, take-append-le, drop-append-le}
@@ -12,7 +12,7 @@ use Rattle.xdr_types.specs.Outcome.{Outcome}
 use Rattle.xdr_types.specs.declared.kind.KindId.{KindId}
 use Rattle.xdr_stream.specs.Finish.{IsStarted, EndsWith}
 use Rattle.xdr_stream.specs.Sees.{Ends}
-use Rattle.xdr_stream.specs.Stands.{Answers, Fails}
+use Rattle.xdr_stream.specs.Stands.{Answers}
 use Rattle.xdr_stream.specs.declared.checker.Nothing.{Nothing}
 use Rattle.xdr_stream.specs.declared.fault.DecodeFault.{DecodeFault}
 use Rattle.xdr_stream.specs.declared.fault.Reason.{Reason}

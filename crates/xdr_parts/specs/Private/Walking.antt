@@ -1,5 +1,5 @@
 -- Where a walk over the bytes of a value stands.
-use Rattle.std.specs.Prelude.{◌≡◌, ℕ, ◌+◌, ◌≤◌, ◌<◌, List, [], ◌∷◌, ◌++◌, length, map, take, drop}
+use Rattle.std.specs.Prelude.{◌≡◌, ℕ, ◌+◌, ◌≤◌, List, ◌∷◌, ◌++◌, length, map, drop}
 use Rattle.std.specs.List.{AllByRecursion}
 use Rattle.xdr_types.specs.Kinds as xdr
 use Rattle.xdr_types.specs.Kinds.{KindView, Part}
@@ -10,7 +10,6 @@ use Rattle.xdr_types.specs.Layout.{Entry, entries}
 use Rattle.xdr_laws.specs.Owed.{Completes}
 use Rattle.xdr_stream.specs.Frames.{left_of, rest_of, stack_of, dues}
 use Rattle.xdr_parts.specs.Lent.{entry_of, AreLentFrom}
-use Rattle.xdr_parts.specs.declared.part.Lent.{Lent}
 use Rattle.xdr_parts.specs.declared.part.Role.{Role}
 use Rattle.xdr_parts.specs.declared.part.Role.TheVariants.{Number, Content}
 use Rattle.xdr_parts.specs.declared.next.Next.{Next}

@@ -1,4 +1,4 @@
-use Rattle.std.proofs.Common.{◌≡◌, [], refl, subst, Ok, Err}
+use Rattle.std.proofs.Common.{[], refl, subst, Ok}
 use Rattle.xdr_stream.specs.Stands.{Answers}
 use Rattle.xdr_stream.specs.declared.reader.Progress.{Progress}
 use Rattle.xdr_parts.proofs.Judging.{done, more, failed}

@@ -1,10 +1,9 @@
-use Rattle.std.proofs.Common.{◌≡◌, List, [], ◌∷◌, sym, ap, subst, ◌∙◌, drop}
+use Rattle.std.proofs.Common.{◌≡◌, List, [], ◌∷◌, ap, subst, ◌∙◌, drop}
 use Rattle.xdr_types.specs.Kinds.{Part}
 use Rattle.xdr_laws.specs.Owed.{Completes}
-use Rattle.xdr_stream.specs.Frames.{left_of, rest_of, stack_of, onto, dues}
+use Rattle.xdr_stream.specs.Frames.{left_of, onto, dues}
 use Rattle.xdr_stream.specs.declared.frame.Frame.{Frame}
 use Rattle.xdr_stream.proofs.Frames.{onto_last}
-use Rattle.xdr_parts.specs.Private.Walking.{part_of}
 use Rattle.xdr_parts.proofs.Stepping.{ended}
 use Rattle.xdr_parts.proofs.walk.Walk.next.Goals as goal
 
