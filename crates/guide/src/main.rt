@@ -9,18 +9,19 @@ use messages::{ask_for_a_port, reply_to_a_call, unmark};
 use std::alloc::Global;
 use std::process::ExitCode;
 use std::string::String;
-use values::{counted_in_pieces, declared_value, fed_in_pieces, structure_by_hand};
+use values::{counted_in_pieces, declared_value, fed_in_pieces, lent_in_place, structure_by_hand};
 
 /// What an example came to: a line, or none where memory was refused or a call answered otherwise.
 pub type Told = Option<String>;
 
 // The lines of all examples.
-fn lines(alloc: Global) -> Option<[String; 7]> {
+fn lines(alloc: Global) -> Option<[String; 8]> {
     Some([
         structure_by_hand(alloc)?,
         declared_value(alloc)?,
         fed_in_pieces(alloc)?,
         counted_in_pieces(alloc)?,
+        lent_in_place(alloc)?,
         unmark(alloc)?,
         reply_to_a_call(alloc)?,
         ask_for_a_port(alloc)?,

@@ -2,7 +2,7 @@
 use crate::Told;
 use std::alloc::Global;
 use std::string::String;
-use xdr_codec::{Checker, Decoder, Progress, decode, encode};
+use xdr_codec::{Checker, Decoder, Progress, decode, encode, parts};
 use xdr_lang::read;
 use xdr_show::show;
 use xdr_types::{Kind, KindId, Limits, Member, Schema, Value, fits};
@@ -119,4 +119,24 @@ pub fn counted_in_pieces(alloc: Global) -> Told {
     };
     let count = checker.finish().ok()?;
     format!(in alloc; "a value of {count} bytes, which was not made").ok()
+}
+
+/// The same bytes where they lie: a length, and content that is lent.
+pub fn lent_in_place(alloc: Global) -> Told {
+    let schema = Schema::basic(alloc).ok()?;
+    let string = schema.named("string")?;
+    let limits = Limits::new(1, 1024)?;
+    if !schema.has(string) {
+        return None;
+    }
+    let found = parts(alloc, &schema, string, limits, b"\0\0\0\x03abc\0\xff").ok()?;
+    let [_, content] = found.as_slice() else {
+        return None;
+    };
+    format!(in alloc;
+        "content of {} bytes at {}",
+        content.bytes.len(),
+        content.at
+    )
+    .ok()
 }
