@@ -93,22 +93,21 @@ spelled_all f rows i old out new tail all past e n is =
     n ∙ ap (λ (x : List ℕ). x ++ tail) (e ∙ ap (λ (l : List Row). old ++ flat_map f l) (take_whole rows i past))
     ∙ append_assoc old (flat_map f rows) tail ∙ ap (λ (x : List ℕ). old ++ x) (sym is)
 
-nested : (a b c d e f : List ℕ) → ((((a ++ b) ++ c) ++ d) ++ e) ++ f ≡ a ++ (b ++ (c ++ (d ++ (e ++ f))))
+nested : (a b c d e f : List ℕ) → (((a ++ (b ++ c)) ++ d) ++ e) ++ f ≡ a ++ (b ++ (c ++ (d ++ (e ++ f))))
 nested a b c d e f = simp append_assoc
 
 -- the parts of a row, one after another
-pub row_added : (r : Row) (o x1 x2 x3 x4 x5 x6 n a w : List ℕ) → n ≡ r.netid → a ≡ r.address → w ≡ r.owner → x1 ≡ o
-    ++ word 1 → x2 ≡ x1 ++ word r.prog → x3 ≡ x2 ++ word r.vers → x4 ≡ x3 ++ text n → x5 ≡ x4 ++ text a → x6 ≡ x5
-    ++ text w
-    → x6 ≡ o ++ row_bytes r
-row_added r o x1 x2 x3 x4 x5 x6 n a w en ea ew e1 e2 e3 e4 e5 e6 =
-    let p = word 1 in
-    let q = word r.prog in
-    let v = word r.vers in
-    let t4 = e4 ∙ ap (λ (t : List ℕ). x3 ++ text t) en in
-    let t5 = e5 ∙ ap (λ (t : List ℕ). x4 ++ text t) ea in
-    let t6 = e6 ∙ ap (λ (t : List ℕ). x5 ++ text t) ew in
-    then o ((((p ++ q) ++ v) ++ text r.netid) ++ text r.address) (text r.owner) x5 x6
-    (then o (((p ++ q) ++ v) ++ text r.netid) (text r.address) x4 x5 (then o ((p ++ q) ++ v) (text r.netid) x3 x4
-    (then o (p ++ q) v x2 x3 (then o p q x1 x2 e1 e2) e3) t4) t5) t6
-    ∙ ap (λ (x : List ℕ). o ++ x) (nested p q v (text r.netid) (text r.address) (text r.owner))
+pub row_added : (r : Row) (o h x1 x2 x3 x4 n a w : List ℕ) → n ≡ r.netid → a ≡ r.address → w ≡ r.owner
+    → h ≡ word 1 ++ (word r.prog ++ word r.vers) → x1 ≡ o ++ h → x2 ≡ x1 ++ text n → x3 ≡ x2 ++ text a
+    → x4 ≡ x3 ++ text w
+    → x4 ≡ o ++ row_bytes r
+row_added r o h x1 x2 x3 x4 n a w en ea ew eh e1 e2 e3 e4 =
+    let f = word 1 ++ (word r.prog ++ word r.vers) in
+    let t1 = e1 ∙ ap (λ (t : List ℕ). o ++ t) eh in
+    let t2 = e2 ∙ ap (λ (t : List ℕ). x1 ++ text t) en in
+    let t3 = e3 ∙ ap (λ (t : List ℕ). x2 ++ text t) ea in
+    let t4 = e4 ∙ ap (λ (t : List ℕ). x3 ++ text t) ew in
+    then o ((f ++ text r.netid) ++ text r.address) (text r.owner) x3 x4
+    (then o (f ++ text r.netid) (text r.address) x2 x3 (then o f (text r.netid) x1 x2 t1 t2) t3) t4
+    ∙ ap (λ (x : List ℕ). o ++ x)
+    (nested (word 1) (word r.prog) (word r.vers) (text r.netid) (text r.address) (text r.owner))

@@ -1,6 +1,7 @@
 //! The rows of the registry as results.
 ghost use Rattle.std.specs.Prelude.{◌≡◌, ◌≤◌, ◌++◌, length, OnOk};
 ghost use Rattle.std.specs.Io.{StartsWith};
+ghost use Rattle.xdr_units.specs.Numbers.{word};
 ghost use Rattle.xdr_types.specs.Spelling.{bytes_of};
 ghost use Rattle.rpc_rows.specs.Rows.{IsRow};
 ghost use Rattle.rpc_rows.specs.Views.{plain_row};
@@ -34,6 +35,15 @@ pub fn push_rows<S: BuildHasher>(
     Ok(())
 }
 
+/// The words before the texts of a row, after the one that says that it is there (RFC 1833 section 2.1).
+fn row_head(prog: u32, vers: u32) -> [u8; 12]
+    ensures { result ≡ word 1 ++ (word prog ++ word vers) }
+{
+    let [a, b, c, d] = prog.to_be_bytes();
+    let [e, f, g, h] = vers.to_be_bytes();
+    [0, 0, 0, 1, a, b, c, d, e, f, g, h]
+}
+
 /// Writes that a row follows, and the row.
 #[tactic(auto, using(crate::proofs::Chains::begins_then))]
 fn push_row(row: &Row, out: &mut Vec<u8>) -> Result<(), NoMemory>
@@ -41,9 +51,7 @@ fn push_row(row: &Row, out: &mut Vec<u8>) -> Result<(), NoMemory>
     ensures ok { OnOk result (out.new.items ≡ out.old.items ++ row_bytes (plain_row row.now)) }
     ensures begins { StartsWith out.new.items out.old.items }
 {
-    push_word(out, 1)?;
-    push_word(out, row.prog)?;
-    push_word(out, row.vers)?;
+    out.extend_from_slice(&row_head(row.prog, row.vers))?;
     push_text(out, &row.netid)?;
     push_text(out, &row.address)?;
     push_text(out, &row.owner)?;
@@ -90,12 +98,20 @@ fn push_mapping_at(row: &Row, prot: u32, address: Uaddr, out: &mut Vec<u8>) -> R
     ensures ok { OnOk result (out.new.items ≡ out.old.items ++ mapping_at_bytes (plain_row row.now) prot address) }
     ensures begins { StartsWith out.new.items out.old.items }
 {
-    push_word(out, 1)?;
-    push_word(out, row.prog)?;
-    push_word(out, row.vers)?;
-    push_word(out, prot)?;
-    push_word(out, u32::from(address.port))?;
+    let port = u32::from(address.port);
+    out.extend_from_slice(&mapping_words(row.prog, row.vers, prot, port))?;
     Ok(())
+}
+
+/// The words of a mapping, after the one that says that it is there (RFC 1833 section 3.1).
+fn mapping_words(prog: u32, vers: u32, prot: u32, port: u32) -> [u8; 20]
+    ensures { result ≡ word 1 ++ (word prog ++ (word vers ++ (word prot ++ word port))) }
+{
+    let [a, b, c, d] = prog.to_be_bytes();
+    let [e, f, g, h] = vers.to_be_bytes();
+    let [i, j, k, l] = prot.to_be_bytes();
+    let [m, n, o, p] = port.to_be_bytes();
+    [0, 0, 0, 1, a, b, c, d, e, f, g, h, i, j, k, l, m, n, o, p]
 }
 
 /// The number of a transport that version 2 knows.
