@@ -1,5 +1,5 @@
-//! Calls of a registry served from memory: WORK is `null` or `getaddr`, ROWS is 1 to 1024, and COUNT is how many reads
-//! there are, each of which brings 32 calls. An address is asked of 32 rows, which lie all over the registry.
+//! Calls of a registry served from memory: WORK is `null`, `getaddr` or `dump`, ROWS is 1 to 1024, and COUNT is how many
+//! reads there are, each of which brings 32 calls. An address is asked of 32 rows, which lie all over the registry.
 ghost use Rattle.std.specs.Prelude.{◌<◌, ◌≤◌};
 
 use crate::directory::filled;
@@ -51,43 +51,64 @@ fn push_words(out: &mut Vec<u8>, words: &[u32]) -> Result<(), NoMemory> {
     Ok(())
 }
 
-// The calls of a read: the null procedure of version 2, or the address over `tcp` of version 1 of a program, each as
-// one last fragment (RFC 5531 sections 9 and 11, RFC 1833 sections 2 and 3).
-fn calls(alloc: Global, asks_addresses: bool, rows: u32) -> Result<Vec<u8>, NoMemory>
+// What is asked.
+#[derive(Clone, Copy)]
+enum Ask {
+    Null,
+    Address,
+    Dump,
+}
+
+// The work with this name.
+fn ask_of(name: &str) -> Option<Ask> {
+    match name {
+        "null" => Some(Ask::Null),
+        "getaddr" => Some(Ask::Address),
+        "dump" => Some(Ask::Dump),
+        _ => None,
+    }
+}
+
+// Writes a call as one last fragment (RFC 5531 sections 9 and 11, RFC 1833 sections 2 and 3): the null procedure of
+// version 2, the address over `tcp` of version 1 of a program, or all rows, in version 4.
+fn push_call(out: &mut Vec<u8>, asked: Ask, xid: u32, prog: u32) -> Result<(), NoMemory> {
+    match asked {
+        Ask::Null => push_words(out, &[0x80000028, xid, 0, 2, 100000, 2, 0, 0, 0, 0, 0]),
+        Ask::Dump => push_words(out, &[0x80000028, xid, 0, 2, 100000, 4, 4, 0, 0, 0, 0]),
+        Ask::Address => {
+            push_words(out, &[0x80000040, xid, 0, 2, 100000, 4, 3, 0, 0, 0, 0])?;
+            push_words(out, &[prog, 1, 3, 0x74637000, 0, 0])
+        }
+    }
+}
+
+// The calls of a read.
+fn calls(alloc: Global, asked: Ask, rows: u32) -> Result<Vec<u8>, NoMemory>
     requires { 0 < rows }
 {
     let mut out = Vec::new(alloc);
     for turn in 0..CALLS {
-        if asks_addresses {
-            let prog = turn.wrapping_mul(2654435761) % rows;
-            push_words(
-                &mut out,
-                &[0x80000040, turn, 0, 2, 100000, 4, 3, 0, 0, 0, 0],
-            )?;
-            push_words(&mut out, &[prog, 1, 3, 0x74637000, 0, 0])?;
-        } else {
-            push_words(
-                &mut out,
-                &[0x80000028, turn, 0, 2, 100000, 2, 0, 0, 0, 0, 0],
-            )?;
-        }
+        push_call(&mut out, asked, turn, turn.wrapping_mul(2654435761) % rows)?;
     }
     Ok(out)
 }
 
-// How many bytes a reply has with its header: that of an address has its 13 bytes with their length and padding.
-fn reply_size(asks_addresses: bool) -> u64
-    ensures { result ≤ 48 }
-{
-    if asks_addresses { 48 } else { 28 }
+// How many bytes a reply has with its header: that of an address has its 13 bytes with their length and padding, that
+// of all rows 48 a row.
+fn reply_size(asked: Ask, rows: u32) -> u64 {
+    match asked {
+        Ask::Null => 28,
+        Ask::Address => 48,
+        Ask::Dump => 32 + 48 * u64::from(rows),
+    }
 }
 
 // Serves the calls so many times, and says whether each was answered; nothing where memory is refused.
-fn does(alloc: Global, asks_addresses: bool, rows: u32, count: u32) -> Option<bool>
+fn does(alloc: Global, asked: Ask, rows: u32, count: u32) -> Option<bool>
     requires { 0 < rows }
 {
     let mut directory = filled(alloc, rows).ok()?;
-    let bytes = calls(alloc, asks_addresses, rows).ok()?;
+    let bytes = calls(alloc, asked, rows).ok()?;
     let mut reader = Repeated {
         bytes: &bytes,
         times: count,
@@ -103,7 +124,7 @@ fn does(alloc: Global, asks_addresses: bool, rows: u32, count: u32) -> Option<bo
     let wanted = u64::from(count) * u64::from(CALLS);
     match served {
         Ok(served) => {
-            let size = wanted * reply_size(asks_addresses);
+            let size = wanted.wrapping_mul(reply_size(asked, rows));
             Some(served.replies == wanted && writer.bytes == size)
         }
         Err(_) => Some(false),
@@ -119,9 +140,8 @@ pub fn work(alloc: Global, words: &[String]) -> bool {
     let (Ok(rows), Ok(count)) = (rows.as_str().parse::<u32>(), count.as_str().parse::<u32>()) else {
         return false;
     };
-    let asks_addresses = what.as_str() == "getaddr";
-    if rows == 0 || (!asks_addresses && what.as_str() != "null") {
-        return false;
+    match ask_of(what.as_str()) {
+        Some(asked) if rows > 0 => does(alloc, asked, rows, count).unwrap_or(false),
+        _ => false,
     }
-    does(alloc, asks_addresses, rows, count).unwrap_or(false)
 }
