@@ -86,7 +86,12 @@ fn reports_reads_of_records(rt: HostRuntime) {
 
 #[test]
 fn reports_too_many_reads(rt: HostRuntime) -> Result<(), AllocError> {
-    let long = vec![in rt.alloc(); 0u8; 1048577]?;
+    // A length of 1048576, and content that is not whole after as many reads.
+    let mut long = vec![in rt.alloc(); 0u8; 1]?;
+    long.extend_from_slice(b"\x10\0\0")?;
+    for _ in 0..1048573 {
+        long.push(0)?;
+    }
     let bytes = within(rt.alloc(), "opaque", false, 16777216)?;
     let ending = (3, b"".as_slice(), b"too many reads\n".as_slice());
     assert!(rt; ends(rt.alloc(), &bytes, b"", &long, by(1), ending));

@@ -86,13 +86,14 @@ fn bodies_are_limited(rt: HostRuntime) -> Result<(), AllocError> {
     Ok(())
 }
 
-// The limit on bytes, the read of one byte that fails, the status, the output and the faults: a byte more than the
-// limit is read, and none after it.
-const BYTES: [(u32, u64, u8, &[u8], &[u8]); 4] = [
+// The limit on bytes, the read of one byte that fails, the status, the output and the faults: a byte is read after a
+// value, and none after a refusal.
+const BYTES: [(u32, u64, u8, &[u8], &[u8]); 5] = [
     (8, 10, 0, b"ok 8, more follows\n", b""),
     (8, 9, 3, b"", b"read fault\n"),
     (4, 6, 1, b"refused TooLarge at 4\n", b""),
-    (4, 5, 3, b"", b"read fault\n"),
+    (4, 5, 1, b"refused TooLarge at 4\n", b""),
+    (4, 4, 3, b"", b"read fault\n"),
 ];
 
 fn is_read_to(

@@ -7,4 +7,5 @@ mod memory;
 mod names;
 mod records;
 mod shows;
+mod stops;
 mod values;
