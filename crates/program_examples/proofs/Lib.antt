@@ -1,3 +1,4 @@
+pub mod Devices
 pub mod Spelled
 pub mod Stopped
 pub mod Opened

@@ -1,10 +1,11 @@
 //! One value: when something is printed, what stands before the line of its outcome, and how much is read.
-ghost use Rattle.std.specs.Prelude.{◌≡◌, ◌≢◌, ◌⊎◌, ◌<◌, ◌≤◌, ◌+◌, ◌++◌, ℕ, List, length, take};
+ghost use Rattle.std.specs.Prelude.{◌≡◌, ◌≢◌, ◌⊎◌, ◌<◌, ◌≤◌, ◌+◌, ◌++◌, ℕ, List, length, take, false};
 ghost use Rattle.std.specs.Io.KnownBytes.{Appends};
 ghost use Rattle.xdr_io.specs.Told.{Counts, MovesAtMost};
 ghost use Rattle.oncrpc_tasks.specs.declared.answer.Answer.{Answer};
 ghost use Rattle.oncrpc_tasks.specs.declared.answer.Answer.TheVariants.{BadHex, Whole};
 ghost use Rattle.oncrpc_tasks.specs.Lines.{line, line_status};
+ghost use Rattle.oncrpc_tasks.specs.Stopping.{ReadsUnsettled};
 
 use oncrpc_tasks::{Failure, check_over, report, show_over};
 use std::alloc::Global;
@@ -71,6 +72,26 @@ pub fn a_device_is_3<I: Source, O: Sink, F: Sink>(
         ⊎ Counts 1048576 (I.reads input.old) (I.reads input.new)) }
 {
     check_over(alloc, input, output, faults, schema, kind, limits, hex)
+}
+
+/// A read that fails is met only where what was read settles no answer: none is made after a refusal, nor after a byte
+/// behind the value.
+pub fn no_read_fails_after_the_answer<I: Source, O: Sink, F: Sink>(
+    alloc: Global,
+    input: &mut I,
+    output: &mut O,
+    faults: &mut F,
+    schema: &Schema,
+    kind: KindId,
+    limits: Limits,
+) -> u8
+    requires { kind.place < length schema.now.kinds }
+    ensures { result ≡ 3
+        → ReadsUnsettled (record { kinds = schema.now.kinds; place = kind.place; limits = limits; shows = false })
+        (I.left input.old) (I.left input.new)
+        ⊎ Counts 1 (O.failures output.old) (O.failures output.new) }
+{
+    check_over(alloc, input, output, faults, schema, kind, limits, false)
 }
 
 /// Of a value nothing is printed in part but the beginning of what is right.
