@@ -388,21 +388,30 @@ into_room s t (l ∷ ls) (left ∷ fs) content make n q b =
     room_opens s t ls fs l.head b.0 left b.1 b.2 l.done b.4 (as_many s b.0 l.done b.5)
 
 -- a part that may be one of many
+opens_many : (s : List KindView) (t : ℕ) (ls : List Level) (fs : List (List Part)) (h : Head) (qs : List Part)
+    (r : List ℕ) → 2 ≤ length qs → Opens s t ls fs h qs r → IsMany h
+opens_many s t [] [] h qs r two o = absurd (omega (arith, ap (λ (l : List Part). length l) o.1))
+opens_many s t (m ∷ ls) (f ∷ fs) h qs r two o =
+    elim (many_or s (kind_at s o.1.kind) h (legal_is s (kind_at s o.1.kind) h o.6)) [
+      | inl many ↦ many
+      | inr few ↦ absurd (omega (arith, few, ap (λ (x : List Part). length x) o.7))
+    ]
+opens_many s t [] (f ∷ fs) h qs r two o = absurd o
+opens_many s t (m ∷ ls) [] h qs r two o = absurd o
+
 built_many : (s : List KindView) (t : ℕ) (ls : List Level) (ps : List Part) (fs : List (List Part)) (q : List ℕ)
     → 2 ≤ length ps → Built s t ls (ps ∷ fs) q → IsManyIn ls
 built_many s t [] ps fs q two b = absurd b
-built_many s t (l ∷ ls) ps fs q two b = opens_many ls fs l.head (b.0 ++ ps) b.1 (omega (arith, length-append b.0 ps)) b.2
-  where
-    opens_many : (ls : List Level) (fs : List (List Part)) (h : Head) (qs : List Part) (r : List ℕ) → 2 ≤ length qs
-        → Opens s t ls fs h qs r → IsMany h
-    opens_many [] [] h qs r two o = absurd (omega (arith, ap (λ (l : List Part). length l) o.1))
-    opens_many (m ∷ ls) (f ∷ fs) h qs r two o =
-        elim (many_or s (kind_at s o.1.kind) h (legal_is s (kind_at s o.1.kind) h o.6)) [
-          | inl many ↦ many
-          | inr few ↦ absurd (omega (arith, few, ap (λ (x : List Part). length x) o.7))
-        ]
-    opens_many [] (f ∷ fs) h qs r two o = absurd o
-    opens_many (m ∷ ls) [] h qs r two o = absurd o
+built_many s t (l ∷ ls) ps fs q two b =
+    opens_many s t ls fs l.head (b.0 ++ ps) b.1 (omega (arith, two, length-append b.0 ps)) b.2
+
+-- and so inside the content of one of its parts
+into_many : (s : List KindView) (t : ℕ) (ls : List Level) (left : List Part) (fs : List (List Part)) (content : List ℕ)
+    (make : List ℕ → Head) (n : ℕ) (q : List ℕ) → 1 ≤ length left → BuiltInto s t ls (left ∷ fs) content make n q
+    → IsManyIn ls
+into_many s t [] left fs content make n q some b = absurd b
+into_many s t (l ∷ ls) left fs content make n q some b =
+    opens_many s t ls fs l.head (b.0 ++ b.1 ∷ left) b.2 (omega (arith, some, length-append b.0 (b.1 ∷ left))) b.4
 
 -- a builder was told this, of which more is known
 abbrev pub With : (H K : Trace → Type 0) → Trace → Type 0
@@ -435,3 +444,9 @@ module _ (s : List KindView) (t : ℕ) (l : Bounds) (H : Trace → Type 0) where
   pub seen_many : (ps : List Part) (fs : List (List Part)) (q : List ℕ) → 2 ≤ length ps → Sees s t l H Next (ps ∷ fs) q
       → Sees s t l (With H TakesMany) Next (ps ∷ fs) q
   seen_many ps fs q two r = seen_with TakesMany Next (ps ∷ fs) q r (built_many s t r.trace.levels ps fs q two r.built.1)
+
+  -- also where two units of one are to come
+  pub seen_many_wide : (sg : Bool) (left : List Part) (fs : List (List Part)) (q : List ℕ) → 1 ≤ length left
+      → Sees s t l H (Wide sg) (left ∷ fs) q → Sees s t l (With H TakesMany) (Wide sg) (left ∷ fs) q
+  seen_many_wide sg left fs q some r = seen_with TakesMany (Wide sg) (left ∷ fs) q r
+      (into_many s t r.trace.levels left fs [] (make_wide sg) 8 q some r.built.1)

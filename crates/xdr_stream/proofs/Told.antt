@@ -87,7 +87,7 @@ number_bytes : (sg : Bool) (x : ℕ) → bytes_in (number_head sg x) ≡ 0
 number_bytes true x = refl
 number_bytes false x = refl
 
-many_room : (ls : List trace.Level) → IsManyIn ls → HasRoomIn ls
+pub many_room : (ls : List trace.Level) → IsManyIn ls → HasRoomIn ls
 many_room [] m = absurd m
 many_room (l ∷ ls) m = room l.head l.done m
   where
@@ -96,7 +96,7 @@ many_room (l ∷ ls) m = room l.head l.done m
     room (value.items n) done m = tt
     room _ done m = absurd m
 
-many_stays : (v : Tree) (ls : List trace.Level) → IsManyIn ls → IsManyIn (add v ls)
+pub many_stays : (v : Tree) (ls : List trace.Level) → IsManyIn ls → IsManyIn (add v ls)
 many_stays v [] m = absurd m
 many_stays v (l ∷ ls) m = m
 

@@ -3,7 +3,7 @@ ghost use Rattle.std.specs.Prelude.{◌≡◌, ◌%◌, List, ℕ, length, OnOk}
 ghost use Rattle.xdr_stream.specs.Trace.{Trace, leaf_in, open_in, close_in, extend_in, content_in};
 ghost use Rattle.xdr_stream.specs.Trace.{CanClose, HasRoom, TakesMany, at_start};
 ghost use Rattle.xdr_stream.specs.Nodes.{head_of_leaf, head_of_node};
-ghost use Rattle.xdr_stream.specs.Runs.{numbers_in};
+ghost use Rattle.xdr_stream.specs.Runs.{numbers_in, hypers_in};
 
 use std::alloc::AllocError;
 
@@ -45,6 +45,12 @@ pub trait Build {
         requires { length units.now % 4 ≡ 0 }
         ensures { OnOk result ((t : Trace) → tells self.old t → TakesMany t
             → tells self.new (numbers_in signed units.now t)) };
+
+    /// Hyper integers, signed or not, one after another.
+    fn hypers(&mut self, signed: bool, units: &[u8]) -> Result<(), AllocError>
+        requires { length units.now % 8 ≡ 0 }
+        ensures { OnOk result ((t : Trace) → tells self.old t → TakesMany t
+            → tells self.new (hypers_in signed units.now t)) };
 
     /// A node whose parts come next.
     fn open(&mut self, node: Node) -> Result<(), AllocError>

@@ -16,6 +16,7 @@ pub struct Nothing;
 impl Build for Nothing {
     ghost tells = { λ _ _. ⊤ };
 
+    #[inline(always)]
     fn leaf(&mut self, _: Leaf) -> Result<(), AllocError> {
         Ok(())
     }
@@ -24,18 +25,26 @@ impl Build for Nothing {
         Ok(())
     }
 
+    fn hypers(&mut self, _: bool, _: &[u8]) -> Result<(), AllocError> {
+        Ok(())
+    }
+
+    #[inline(always)]
     fn open(&mut self, _: Node) -> Result<(), AllocError> {
         Ok(())
     }
 
+    #[inline(always)]
     fn close(&mut self) -> Result<(), AllocError> {
         Ok(())
     }
 
+    #[inline(always)]
     fn extend(&mut self, _: &[u8]) -> Result<(), AllocError> {
         Ok(())
     }
 
+    #[inline(always)]
     fn content(&mut self) -> Result<(), AllocError> {
         Ok(())
     }

@@ -6,8 +6,8 @@ ghost use Rattle.xdr_stream.specs.Sees.{Sees, IsReady, Ends, reason_of};
 ghost use Rattle.xdr_stream.specs.Live.{IsLive};
 ghost use Rattle.xdr_stream.specs.Sound.{IsAwaited};
 ghost use Rattle.xdr_stream.specs.Stands.{StandsFor, IsAwake, IsWaiting, IsSame, Answers, taken, used_of};
-ghost use Rattle.xdr_stream.specs.Run.{IsRun};
-ghost use Rattle.xdr_stream.specs.declared.machine.Awaits.TheVariants.{Next, Content};
+ghost use Rattle.xdr_stream.specs.Run.{IsRun, IsHypers};
+ghost use Rattle.xdr_stream.specs.declared.machine.Awaits.TheVariants.{Next, Content, Wide};
 ghost use Rattle.xdr_stream.specs.declared.reader.State.TheVariants.{Reading, Finished, Failed};
 ghost use Rattle.xdr_stream.specs.declared.reader.Progress.TheVariants.{More, Done};
 
@@ -16,7 +16,7 @@ use crate::fault::{DecodeFault, Reason};
 use crate::frame::Frame;
 use crate::machine::{Awaits, Trouble, settle};
 use crate::reader::{Progress, Reader, State};
-use crate::run::{Run, run_due};
+use crate::run::{Run, hypers_due, run_due};
 use crate::unit::take_unit;
 
 /// How many bytes of whole units are there: within what is left to read, the piece and the limit.
@@ -28,6 +28,17 @@ pub fn units_there(left: usize, there: usize, room: usize) -> usize
 {
     let most = left.min(there).min(room);
     most - most % 4
+}
+
+// How many bytes of hyper integers are there: within what is left to read and the piece, and below the limit.
+fn hypers_there(left: usize, there: usize, room: usize) -> usize
+    ensures units { result % 8 ≡ 0 }
+    ensures left { result ≤ left }
+    ensures there { result ≤ there }
+    ensures room { 0 < result → result < room }
+{
+    let most = left.min(there).min(room.saturating_sub(1));
+    most - most % 8
 }
 
 // The unit at a place.
@@ -47,6 +58,7 @@ fn with_last(unit: [u8; 4], byte: u8) -> [u8; 4]
 
 impl<'s, B: Build + Drop> Reader<'s, B> {
     // Ends and begins what takes no byte, where this comes next after whole units.
+    #[inline(always)]
     fn settle(&mut self, awaits: Awaits)
         ensures stands { (q : List ℕ) → length q ≡ self.old.read → self.old.pending ≡ 0 → IsLive awaits
             → Sees self.old.schema.now.kinds self.old.kind.place self.old.limits (B.tells self.old.built) awaits
@@ -76,6 +88,7 @@ impl<'s, B: Build + Drop> Reader<'s, B> {
     }
 
     // A unit is needed: it is asked for, unless the limit on bytes is reached.
+    #[inline(always)]
     fn go_on(&mut self, awaits: Awaits)
         requires { IsAwaited self.old.schema.now.kinds (left_of self.old.work) awaits }
         ensures stands { (q : List ℕ) → length q ≡ self.old.read → self.old.pending ≡ 0
@@ -110,6 +123,7 @@ impl<'s, B: Build + Drop> Reader<'s, B> {
     }
 
     // Takes a whole unit.
+    #[inline(always)]
     fn take(&mut self, awaits: Awaits, unit: &[u8; 4])
         requires { IsAwaited self.old.schema.now.kinds (left_of self.old.work) awaits }
         ensures stands { (q : List ℕ) → length q ≡ self.old.read → self.old.pending ≡ 0
@@ -187,12 +201,39 @@ impl<'s, B: Build + Drop> Reader<'s, B> {
                 }
             }
         }
+        self.take_first(awaits, bytes)
+    }
+
+    // Takes the unit that comes first, or all hyper integers of an array where one begins with it, and tells how many
+    // bytes.
+    #[inline(always)]
+    fn take_first(&mut self, awaits: Awaits, bytes: &[u8]) -> usize
+        requires there { 4 ≤ length bytes.now }
+        requires awaited { IsAwaited self.old.schema.now.kinds (left_of self.old.work) awaits }
+        ensures stands { (b : List ℕ) → self.old.state ≡ Reading awaits → self.old.pending ≡ 0
+            → StandsFor B.tells self.old b → StandsFor B.tells self.new (b ++ take result bytes.now) }
+        ensures some { 0 < result }
+        ensures within { result ≤ length bytes.now }
+        ensures awake { IsAwake self.new.state }
+        ensures same { IsSame self.old self.new }
+    {
+        if let Awaits::Wide(signed) = awaits {
+            if let Some(run) = hypers_due(self.schema, self.work, signed) {
+                let room = (self.limits.bytes() as usize).saturating_sub(self.read);
+                let n = hypers_there(run.left as usize * 8, bytes.len(), room);
+                if n > 0 && self.parents.len() < self.limits.depth() as usize {
+                    self.take_hypers(run, run.left - (n / 8) as u32, n, bytes);
+                    return n;
+                }
+            }
+        }
         self.take(awaits, &unit_at(bytes, 0));
         4
     }
 
     // Takes so many bytes of content and its padding, units of a piece that has them; at the last of them so many
     // bytes of content are left.
+    #[inline(always)]
     fn take_content(&mut self, last: u32, n: usize, bytes: &[u8])
         requires units { n % 4 ≡ 0 }
         requires some { 4 < n }
@@ -216,6 +257,7 @@ impl<'s, B: Build + Drop> Reader<'s, B> {
     }
 
     // Takes so many bytes of numbers of one unit, items of the array at work; so many are left at the last of them.
+    #[inline(always)]
     fn take_run(&mut self, run: Run, last: u32, n: usize, bytes: &[u8])
         requires units { n % 4 ≡ 0 }
         requires some { 4 < n }
@@ -239,6 +281,37 @@ impl<'s, B: Build + Drop> Reader<'s, B> {
                 };
                 self.read = self.read.saturating_add(n - 4);
                 self.take(Awaits::Next, &unit_at(bytes, n - 4));
+            }
+            Err(_) => self.fail(Reason::NoMemory),
+        }
+    }
+
+    // Takes so many bytes of hyper integers, that which has begun the first of them; one more has begun then, and so
+    // many are left after it.
+    #[inline(always)]
+    fn take_hypers(&mut self, run: Run, last: u32, n: usize, bytes: &[u8])
+        requires units { n % 8 ≡ 0 }
+        requires some { 0 < n }
+        requires there { n ≤ length bytes.now }
+        requires due { IsHypers self.old.schema.now.kinds self.old.work run }
+        requires left { 8 * run.left ≡ 8 * last + n }
+        requires deep { length self.old.parents.items < self.old.limits.depth }
+        ensures stands { (b : List ℕ) → self.old.state ≡ Reading (Wide run.signed)
+            → self.old.pending ≡ 0 → n + self.old.read < self.old.limits.bytes
+            → StandsFor B.tells self.old b → StandsFor B.tells self.new (b ++ take n bytes.now) }
+        ensures awake { IsAwake self.new.state }
+        ensures same { IsSame self.old self.new }
+    {
+        let _known = self.schema.len();
+        let _range = self.limits.depth();
+        match self.built.hypers(run.signed, &bytes[..n]) {
+            Ok(()) => {
+                self.state = State::Reading(Awaits::Wide(run.signed));
+                self.work = Frame::Items {
+                    item: run.item,
+                    left: last,
+                };
+                self.read = self.read.saturating_add(n);
             }
             Err(_) => self.fail(Reason::NoMemory),
         }

@@ -61,6 +61,7 @@ impl From<AllocError> for Reason {
 }
 
 /// Ends the nodes that have all their parts, and tells whether the root is one of them.
+#[inline(always)]
 pub(crate) fn end_nodes<'s, B: Build>(
     work: &mut Frame<'s>,
     parents: &mut Vec<Frame<'s>>,
@@ -85,6 +86,7 @@ pub(crate) fn end_nodes<'s, B: Build>(
 }
 
 /// Passes over a void part.
+#[inline(always)]
 pub(crate) fn pass_void<'s, B: Build>(
     schema: &'s Schema,
     limits: Limits,
@@ -116,6 +118,7 @@ pub(crate) fn pass_void<'s, B: Build>(
 }
 
 /// Opens a node whose parts come next.
+#[inline(always)]
 pub(crate) fn open<'s, B: Build>(
     work: &mut Frame<'s>,
     parents: &mut Vec<Frame<'s>>,
@@ -136,6 +139,7 @@ pub(crate) fn open<'s, B: Build>(
 }
 
 /// Begins nodes of no bytes of their own until a unit is needed.
+#[inline(always)]
 pub(crate) fn begin<'s, B: Build>(
     schema: &'s Schema,
     limits: Limits,
@@ -184,6 +188,7 @@ pub(crate) fn begin<'s, B: Build>(
 }
 
 /// Takes the first unit of the part that comes next.
+#[inline(always)]
 pub(crate) fn take_number<'s, B: Build>(
     schema: &'s Schema,
     work: &mut Frame<'s>,
@@ -233,6 +238,7 @@ pub(crate) fn take_number<'s, B: Build>(
 }
 
 /// Ends and begins what takes no byte, and tells what comes next; nothing, where the value is whole.
+#[inline(always)]
 pub(crate) fn settle<'s, B: Build>(
     schema: &'s Schema,
     limits: Limits,

@@ -24,6 +24,7 @@ pub enum Made<'s> {
 }
 
 /// What the number in the first unit of a value makes of it.
+#[inline(always)]
 pub fn made_of<'s>(schema: &'s Schema, kind: &'s Kind, number: u32) -> Result<Made<'s>, Reason>
     requires { HasUnit (lead_of (kind_view kind.now)) }
     ensures { MatchResult result (Takes schema.now.kinds (kind_view kind.now) number)

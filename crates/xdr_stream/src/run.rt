@@ -1,13 +1,13 @@
-//! Numbers of one unit each that come one after another.
-ghost use Rattle.std.specs.Prelude.{IfSome};
+//! Numbers of one unit each, or hyper integers, that come one after another.
+ghost use Rattle.std.specs.Prelude.{◌≡◌, IfSome};
 ghost use Rattle.xdr_stream.specs.Frames.{left_of};
 ghost use Rattle.xdr_stream.specs.Sound.{AreKnown};
-ghost use Rattle.xdr_stream.specs.Run.{IsRun};
+ghost use Rattle.xdr_stream.specs.Run.{IsRun, IsHypers};
 
 use crate::frame::Frame;
 use xdr_types::{Kind, KindId, Schema};
 
-/// Items of an array that are numbers of one unit each, signed or not: so many are not begun.
+/// Items of an array that are numbers, signed or not: so many are not begun.
 #[derive(Clone, Copy)]
 pub struct Run {
     pub item: KindId,
@@ -33,6 +33,33 @@ pub(crate) fn run_due(schema: &Schema, work: Frame<'_>) -> Option<Run>
             signed: true,
         }),
         Kind::Unsigned => Some(Run {
+            item,
+            left,
+            signed: false,
+        }),
+        _ => None,
+    }
+}
+
+/// The hyper integers, signed or not as asked, that come next at a node, where they do.
+pub(crate) fn hypers_due(schema: &Schema, work: Frame<'_>, signed: bool) -> Option<Run>
+    requires { AreKnown schema.now.kinds (left_of work) }
+    ensures run { IfSome result (IsHypers schema.now.kinds work.entry) }
+    ensures same { IfSome result (λ r. r.signed ≡ signed) }
+{
+    let Frame::Items { item, left } = work else {
+        return None;
+    };
+    if left == 0 {
+        return None;
+    }
+    match schema.kind(item) {
+        Kind::Hyper if signed => Some(Run {
+            item,
+            left,
+            signed: true,
+        }),
+        Kind::UnsignedHyper if !signed => Some(Run {
             item,
             left,
             signed: false,

@@ -30,6 +30,7 @@ fn are_zeros(bytes: &[u8]) -> bool
 }
 
 /// Takes a whole unit, and tells what comes next, before it is settled.
+#[inline(always)]
 pub(crate) fn take_unit<'s, B: Build>(
     schema: &'s Schema,
     awaits: Awaits,

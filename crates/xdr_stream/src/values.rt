@@ -1,10 +1,11 @@
 //! The value that the nodes make.
-ghost use Rattle.std.specs.Prelude.{◌≡◌, ◌+◌, ◌≤◌, [], ◌∷◌, length, take, drop, OnOk, MatchOption};
-ghost use Rattle.std.specs.Int.{w32, from_be_bytes};
+ghost use Rattle.std.specs.Prelude.{◌≡◌, ◌+◌, ◌≤◌, ℕ, List, [], ◌∷◌, length, take, drop, OnOk, MatchOption};
+ghost use Rattle.std.specs.Int.{w32, w64, from_be_bytes};
 ghost use Rattle.xdr_types.specs.Tree.{Tree, bytes, nothing};
 ghost use Rattle.xdr_types.specs.View.{tree};
 ghost use Rattle.xdr_stream.specs.Nodes.{head_of_leaf, head_of_node};
 ghost use Rattle.xdr_stream.specs.Runs.{number_head};
+ghost use Rattle.xdr_stream.specs.Sees.{make_wide};
 ghost use Rattle.xdr_stream.specs.Trace.{level as told, added, IsOpen, IsFilled};
 ghost use Rattle.xdr_stream.specs.Values.{Tells, level_of, closed_tree, leaf_tree};
 
@@ -51,6 +52,7 @@ fn add(alloc: Global, level: &mut Level, value: Value) -> Result<(), AllocError>
 }
 
 // The same, where it is mostly an item.
+#[inline(always)]
 fn add_item(alloc: Global, level: &mut Level, value: Value) -> Result<(), AllocError>
     ensures { OnOk result (level_of level.new ≡ told (level_of level.old).head
         (added (level_of level.old).head (level_of level.old).done (tree value))) }
@@ -63,6 +65,7 @@ fn add_item(alloc: Global, level: &mut Level, value: Value) -> Result<(), AllocE
 }
 
 // The value of a finished node.
+#[inline(always)]
 fn closed(level: Level) -> Value
     ensures { IsOpen (level_of level).head → IsFilled (level_of level).head (level_of level).done
         → tree result ≡ closed_tree (level_of level) }
@@ -95,6 +98,7 @@ pub fn root_of(work: Level) -> Option<Value>
     }
 }
 
+#[inline(always)]
 fn value_of(alloc: Global, leaf: Leaf) -> Value
     ensures { tree result ≡ leaf_tree (head_of_leaf leaf) }
 {
@@ -137,6 +141,37 @@ fn number_at(bytes: &[u8], at: usize) -> u32
     u32::from_be_bytes([bytes[at], bytes[at + 1], bytes[at + 2], bytes[at + 3]])
 }
 
+// A hyper integer, signed or not.
+#[inline(always)]
+fn hyper_leaf(signed: bool, number: u64) -> Leaf
+    ensures { (bs : List ℕ) → number ≡ from_be_bytes w64 bs → head_of_leaf result ≡ make_wide signed bs }
+{
+    if signed {
+        Leaf::Hyper(number.cast_signed())
+    } else {
+        Leaf::UnsignedHyper(number)
+    }
+}
+
+// The number in the two units at a place.
+#[inline(always)]
+fn hyper_at(bytes: &[u8], at: usize) -> u64
+    requires { at + 8 ≤ length bytes.now }
+    ensures { result ≡ from_be_bytes w64 (take 8 (drop at bytes.now)) }
+{
+    u64::from_be_bytes([
+        bytes[at],
+        bytes[at + 1],
+        bytes[at + 2],
+        bytes[at + 3],
+        bytes[at + 4],
+        bytes[at + 5],
+        bytes[at + 6],
+        bytes[at + 7],
+    ])
+}
+
+#[inline(always)]
 fn begun(alloc: Global, node: Node) -> Level
     ensures { level_of result ≡ told (head_of_node node) [] }
 {
@@ -154,6 +189,7 @@ fn begun(alloc: Global, node: Node) -> Level
 impl Build for Values {
     ghost tells = { λ b t. Tells b t };
 
+    #[inline(always)]
     fn leaf(&mut self, leaf: Leaf) -> Result<(), AllocError> {
         add(self.alloc, &mut self.work, value_of(self.alloc, leaf))?;
         self.nodes = self.nodes.saturating_add(1);
@@ -171,6 +207,16 @@ impl Build for Values {
         Ok(())
     }
 
+    fn hypers(&mut self, signed: bool, units: &[u8]) -> Result<(), AllocError> {
+        let mut at = 0;
+        while at < units.len() {
+            self.leaf(hyper_leaf(signed, hyper_at(units, at)))?;
+            at += 8;
+        }
+        Ok(())
+    }
+
+    #[inline(always)]
     fn open(&mut self, node: Node) -> Result<(), AllocError> {
         self.parents.reserve(1)?;
         let parent = std::mem::replace(&mut self.work, begun(self.alloc, node));
@@ -179,6 +225,7 @@ impl Build for Values {
         Ok(())
     }
 
+    #[inline(always)]
     fn close(&mut self) -> Result<(), AllocError> {
         if let Some(parent) = self.parents.pop() {
             let level = std::mem::replace(&mut self.work, parent);
@@ -187,6 +234,7 @@ impl Build for Values {
         Ok(())
     }
 
+    #[inline(always)]
     fn extend(&mut self, bytes: &[u8]) -> Result<(), AllocError> {
         if self.content.is_empty() {
             // The last unit brings four bytes at most.
@@ -197,6 +245,7 @@ impl Build for Values {
         Ok(())
     }
 
+    #[inline(always)]
     fn content(&mut self) -> Result<(), AllocError> {
         let content = std::mem::replace(&mut self.content, Vec::new(self.alloc));
         add(self.alloc, &mut self.work, content_value(content))?;

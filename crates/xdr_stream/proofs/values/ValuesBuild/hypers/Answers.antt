@@ -1,0 +1,29 @@
+use Rattle.std.proofs.Common.{◌≤◌, ◌≡◌, ◌+◌, ◌∙◌, List, ℕ, length, take, drop, ap, sym, subst, arith}
+use Rattle.std.proofs.lemmas.List.{take_all}
+use Rattle.xdr_types.specs.Tree.{Head}
+use Rattle.xdr_stream.specs.Runs.{hypers_in}
+use Rattle.xdr_stream.specs.Trace.{Trace, leaf_in}
+use Rattle.xdr_stream.specs.Values.{Tells}
+use Rattle.xdr_stream.proofs.Hypers.{hypers_more, hypers_room}
+use Rattle.xdr_stream.proofs.values.ValuesBuild.hypers.Goals as goal
+
+pub loop-at-preserved : goal.loop-at-preserved
+loop-at-preserved c =
+    let i = c.loop-at.invariant in
+    let us : List ℕ = c.args.units.now in
+    let there : c.loop-at.at + 8 ≤ length us = omega (arith, i.0, i.1, c.loop-at-test.true, c.requires) in (
+      omega (arith, i.0),
+      there,
+      λ t told many.
+          let before : Trace = hypers_in c.args.signed (take c.loop-at.at us) t in
+          subst (λ (x : Trace). Tells c.leaf.new.self x)
+          (ap (λ (k : Head). leaf_in k before) (c.hyper_leaf.ensures (take 8 (drop c.loop-at.at us)) c.hyper_at.ensures)
+          ∙ sym (hypers_more c.args.signed c.loop-at.at us t i.0 there))
+          (c.in_ok-leaf.ensures before (i.2 t told many) (hypers_room c.args.signed (take c.loop-at.at us) t many)),
+    )
+
+pub returns : goal.returns
+returns c = λ t told many.
+    let us : List ℕ = c.args.units.now in
+    subst (λ (x : List ℕ). Tells c.loop-at.self (hypers_in c.args.signed x t))
+    (take_all c.loop-at.at us (omega (arith, c.loop-at-test.false))) (c.loop-at.invariant.2 t told many)
