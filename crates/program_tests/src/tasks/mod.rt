@@ -2,6 +2,7 @@
 mod declarations;
 mod devices;
 mod harness;
+mod large;
 mod limits;
 mod memory;
 mod names;
