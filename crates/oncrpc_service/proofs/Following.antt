@@ -1,6 +1,7 @@
 -- Connections one after another, and their lines.
 use Rattle.std.proofs.Common.{◌≡◌, ℕ, suc, ◌+◌, ◌<◌, ◌≤◌, List, [], ◌∷◌, ◌++◌, length, take, drop, Option, Some, None}
-use Rattle.std.proofs.Common.{codes, decimal, Result, Ok, Err, IfOk, IfErr, OnOk, refl, ap, sym, ◌∙◌, subst, arith, append_assoc, length-append, inl, inr}
+use Rattle.std.proofs.Common.{codes, decimal, Result, Ok, Err, IfOk, IfErr, OnOk, refl, ap, sym, ◌∙◌, subst, arith}
+use Rattle.std.proofs.Common.{append_assoc, length-append, inl, inr}
 use Rattle.std.proofs.lemmas.List.{append-nil}
 use Rattle.std.proofs.Math.Seq.{take-append-add}
 use Rattle.std.specs.Io.KnownBytes.{Appends}
@@ -124,7 +125,8 @@ stops_on {O = O} post rows mid new l m k o p q n count stop.NoConnection few don
     let counted = done.counted in
     record {
       outcomes = done.outcomes;
-      served = subst (λ (r : List Row). ServesEach rows (post.waiting l) done.outcomes r (post.waiting k)) (sym one.same)
+      served = subst (λ (r : List Row). ServesEach rows (post.waiting l) done.outcomes r (post.waiting k))
+          (sym one.same)
           (subst (λ (w : Option (List (List ℕ))). ServesEach rows (post.waiting l) done.outcomes mid w)
           (sym one.waiting) done.served);
       few = omega (arith, counted, few);

@@ -86,7 +86,8 @@ abbrev pub LinePrints : (line : List ℕ) → (taken taken' : Option (List ℕ))
     → Result (Unit {0}) Stop → Type 0
 LinePrints line taken taken' lost lost' (Ok _) = Appends taken taken' line × Counts 0 lost lost'
 LinePrints line taken taken' lost lost' (Err stop.NoConnection) = ⊥
-LinePrints line taken taken' lost lost' (Err (stop.Failed failure.Write)) = InPart line taken taken' × Counts 1 lost lost'
+LinePrints line taken taken' lost lost' (Err (stop.Failed failure.Write)) = InPart line taken taken'
+    × Counts 1 lost lost'
 LinePrints line taken taken' lost lost' (Err (stop.Failed failure.NoMemory)) = InPart line taken taken'
 LinePrints line taken taken' lost lost' (Err (stop.Failed _)) = ⊥
 

@@ -1,5 +1,5 @@
 //! Records of a stream (RFC 5531 section 11): marked, read in any pieces, and brought to their normal form.
-ghost use Rattle.std.specs.Prelude.{◌≡◌, ◌≤◌, ◌⊎◌, [], ◌∷◌, true, IfOk, IfSome, OnOk, MatchResult};
+ghost use Rattle.std.specs.Prelude.{◌≡◌, ◌≤◌, ◌⊎◌, [], ◌∷◌, true, IfOk, IfErr, IfSome, OnOk, MatchResult, take};
 ghost use Rattle.std.specs.Io.KnownBytes.{Appends};
 ghost use Rattle.xdr_io.specs.Told.{Counts};
 ghost use Rattle.rpc_record.specs.Reading.{IsWhole};
@@ -41,6 +41,15 @@ pub fn heads_65536_bytes() -> [u8; 4]
 pub fn writes_three_bytes<W: Sink>(writer: &mut W) -> Result<(), Cut>
     ensures { OnOk result (Appends (W.taken writer.old) (W.taken writer.new)
         (128 ∷ 0 ∷ 0 ∷ 3 ∷ 97 ∷ 98 ∷ 99 ∷ [])) }
+{
+    write_marked(writer, b"abc")
+}
+
+/// Where a write fails, what went out is told exactly: the first `written` bytes of header and content.
+#[tactic(auto, unfolding(rpc_record::specs::Marked::header))]
+pub fn writes_three_bytes_in_part<W: Sink>(writer: &mut W) -> Result<(), Cut>
+    ensures { IfErr result (λ cut. Appends (W.taken writer.old) (W.taken writer.new)
+        (take cut.written (128 ∷ 0 ∷ 0 ∷ 3 ∷ 97 ∷ 98 ∷ 99 ∷ []))) }
 {
     write_marked(writer, b"abc")
 }

@@ -1,5 +1,6 @@
 -- Bytes that begin with a value: what `parts` says of them.
-use Rattle.std.proofs.Common.{◌≡◌, ℕ, ◌%◌, ◌≤◌, Vec, Global, List, [], ◌∷◌, ◌++◌, length, take, drop, refl, ap, sym, ◌∙◌, subst, map}
+use Rattle.std.proofs.Common.{◌≡◌, ℕ, ◌%◌, ◌≤◌, Vec, Global, List, [], ◌∷◌, ◌++◌, length, take, drop, refl, ap, sym}
+use Rattle.std.proofs.Common.{◌∙◌, subst, map}
 use Rattle.std.proofs.Common.{Result, Ok, Err, IfOk, IfErr}
 use Rattle.std.proofs.lemmas.List.{append-nil}
 use Rattle.xdr_types.specs.Kinds.{KindView}
@@ -43,7 +44,8 @@ abbrev pub cut : (input : List ℕ) → List Entry → List (List ℕ)
 cut input es = map (λ (e : Entry). take (lent_size e.size e.role) (drop e.at input)) es
 
 -- the bytes of parts are those that stand at their places
-pub bytes_cut : (input : List ℕ) (ls : List Lent) → AreLentFrom input ls → bytes_of_each ls ≡ cut input (map entry_of ls)
+pub bytes_cut : (input : List ℕ) (ls : List Lent) → AreLentFrom input ls
+    → bytes_of_each ls ≡ cut input (map entry_of ls)
 bytes_cut input [] a = refl
 bytes_cut input (l ∷ ls) a =
     let n : ℕ = length l.bytes.now in
@@ -80,13 +82,20 @@ module _ (kinds : List KindView) (place : ℕ) (limits : Bounds) (units : limits
   no_reason : (b : List ℕ) (v : Tree) (n at : ℕ) (why : Reason) → Outcome kinds place limits b (Whole v n)
       → (why ≡ reason.Truncated → Outcome kinds place limits b Pending × (at ≡ length b)) → Ended b why at
       → why ≡ reason.NoMemory
-  no_reason b v n at reason.BadBool w short e = absurd (no_whole b (Broken bad_bool at) v n (at_once b (Broken bad_bool at) ((e (λ i. cc)).0 [])) w)
-  no_reason b v n at reason.BadNumbered w short e = absurd (no_whole b (Broken bad_numbered at) v n (at_once b (Broken bad_numbered at) ((e (λ i. cc)).0 [])) w)
-  no_reason b v n at reason.BadCase w short e = absurd (no_whole b (Broken bad_case at) v n (at_once b (Broken bad_case at) ((e (λ i. cc)).0 [])) w)
-  no_reason b v n at reason.TooLong w short e = absurd (no_whole b (Broken too_long at) v n (at_once b (Broken too_long at) ((e (λ i. cc)).0 [])) w)
-  no_reason b v n at reason.BadPadding w short e = absurd (no_whole b (Broken bad_padding at) v n (at_once b (Broken bad_padding at) ((e (λ i. cc)).0 [])) w)
-  no_reason b v n at reason.TooDeep w short e = absurd (no_whole b (TooDeep at) v n (at_once b (TooDeep at) ((e (λ i. cc)).0 [])) w)
-  no_reason b v n at reason.TooLarge w short e = absurd (no_whole b (TooLarge at) v n (at_once b (TooLarge at) ((e (λ i. cc)).0 [])) w)
+  no_reason b v n at reason.BadBool w short e = absurd (no_whole b (Broken bad_bool at) v n
+      (at_once b (Broken bad_bool at) ((e (λ i. cc)).0 [])) w)
+  no_reason b v n at reason.BadNumbered w short e = absurd (no_whole b (Broken bad_numbered at) v n
+      (at_once b (Broken bad_numbered at) ((e (λ i. cc)).0 [])) w)
+  no_reason b v n at reason.BadCase w short e = absurd (no_whole b (Broken bad_case at) v n
+      (at_once b (Broken bad_case at) ((e (λ i. cc)).0 [])) w)
+  no_reason b v n at reason.TooLong w short e = absurd (no_whole b (Broken too_long at) v n
+      (at_once b (Broken too_long at) ((e (λ i. cc)).0 [])) w)
+  no_reason b v n at reason.BadPadding w short e = absurd (no_whole b (Broken bad_padding at) v n
+      (at_once b (Broken bad_padding at) ((e (λ i. cc)).0 [])) w)
+  no_reason b v n at reason.TooDeep w short e = absurd
+      (no_whole b (TooDeep at) v n (at_once b (TooDeep at) ((e (λ i. cc)).0 [])) w)
+  no_reason b v n at reason.TooLarge w short e = absurd
+      (no_whole b (TooLarge at) v n (at_once b (TooLarge at) ((e (λ i. cc)).0 [])) w)
   no_reason b v n at reason.Truncated w short e = absurd (no_whole b Pending v n (short refl).0 w)
   no_reason b v n at reason.NoMemory w short e = refl
 

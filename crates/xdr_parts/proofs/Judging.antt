@@ -1,5 +1,6 @@
 -- What a checker's answer to the whole input says of it.
-use Rattle.std.proofs.Common.{◌≡◌, ℕ, ◌+◌, List, [], ◌++◌, length, sym, ap, subst, ◌∙◌, zero-add, Result, Ok, Err, ◌≤◌, ◌%◌}
+use Rattle.std.proofs.Common.{◌≡◌, ℕ, ◌+◌, List, [], ◌++◌, length, sym, ap, subst, ◌∙◌, zero-add, Result, Ok, Err, ◌≤◌}
+use Rattle.std.proofs.Common.{◌%◌}
 use Rattle.std.proofs.Common.{◌∷◌, take, drop, arith, inl, inr}
 use Rattle.std.specs.List.{AllByRecursion}
 use Rattle.std.proofs.lemmas.List.{length-drop, length-take, take-append-drop, take-append-le, drop-append-le}
@@ -61,7 +62,8 @@ lower low high [] h a = tt
 lower low high (e ∷ es) h a = (omega (arith, a.0), lower low high es h a.1)
 
 -- its bytes spell it, and it is not too deep
-pub spelled : (s : List KindView) (t : ℕ) (l : Bounds) (b : List ℕ) (v : Tree) (p : ℕ) → l.bytes % 4 ≡ 0 → l.depth ≤ 4096
+pub spelled : (s : List KindView) (t : ℕ) (l : Bounds) (b : List ℕ) (v : Tree) (p : ℕ) → l.bytes % 4 ≡ 0
+    → l.depth ≤ 4096
     → Outcome s t l b (outcome.Whole v p) → IsSpelled s t (take p b) v
 spelled s t l b v p units most o =
     let within = (whole_exactly s t l b v p units).0 o in
@@ -81,7 +83,8 @@ lent_of_first p b (l ∷ ls) a =
     let n : ℕ = length l.bytes.now in
     let short : l.at + n ≤ length (take p b) = a.0.0 in
     let same : drop l.at b ≡ drop l.at (take p b) ++ drop p b =
-    ap (λ (x : List ℕ). drop l.at x) (sym (take-append-drop p b)) ∙ drop-append-le l.at (take p b) (drop p b) (omega (arith, short)) in
+    ap (λ (x : List ℕ). drop l.at x) (sym (take-append-drop p b)) ∙ drop-append-le l.at (take p b) (drop p b)
+        (omega (arith, short)) in
     let cut : take n (drop l.at b) ≡ take n (drop l.at (take p b)) =
     ap (λ (x : List ℕ). take n x) same
     ∙ take-append-le n (drop l.at (take p b)) (drop p b) (omega (arith, short, length-drop l.at (take p b))) in

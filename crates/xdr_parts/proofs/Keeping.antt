@@ -67,10 +67,12 @@ module _ (w : Walk) (n : Next) (all : List Entry) (st : Stands w all) (next : Is
 
   pub is_shallow : length w.parents.items < 4096
   is_shallow =
-      let deep : length F < 4096 = shallow w.schema.now.kinds w.at w.bytes.now (part_of n) R F st.left st.within due st.low in
+      let deep : length F < 4096 = shallow w.schema.now.kinds w.at w.bytes.now (part_of n) R F st.left st.within due
+          st.low in
       omega (arith, level w.parents.items)
 
-  pub kept : (v : Walk) (new also : List Entry) (moved : ℕ) (fs : List (List Part)) → Wrote w v new moved fs → new ≡ also
+  pub kept : (v : Walk) (new also : List Entry) (moved : ℕ) (fs : List (List Part)) → Wrote w v new moved fs
+      → new ≡ also
       → Goes w.schema.now.kinds w.at w.bytes.now st.left also moved fs → Stands v all
   kept v new also moved fs f same g =
       let owes : Completes w.schema.now.kinds (w.at + moved) (dues (stack_of v.work v.parents.items))
@@ -108,7 +110,8 @@ goes_on (Ok x) w v n new also moved fs next same goes f = λ all st.
 goes_on (Err e) w v n new also moved fs next same goes f = f
 
 -- before any byte all parts are owed
-pub starts : (w : Walk) (kind : KindId) (v : Tree) → w.at ≡ 0 → w.work ≡ Items kind 1 → w.parents.items ≡ [] → w.parts.items ≡ []
+pub starts : (w : Walk) (kind : KindId) (v : Tree) → w.at ≡ 0 → w.work ≡ Items kind 1 → w.parents.items ≡ []
+    → w.parts.items ≡ []
     → IsSpelled w.schema.now.kinds kind.place w.bytes.now v → Stands w (entries w.schema.now.kinds kind.place v)
 starts w kind v at work parents none f =
     let s : List KindView = w.schema.now.kinds in

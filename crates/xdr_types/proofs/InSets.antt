@@ -9,7 +9,8 @@ use Rattle.std.proofs.lemmas.Bool.{false≢true}
 use Rattle.std.proofs.lemmas.List.{length-append}
 use Rattle.std.proofs.Math.ListN.{get_or-append}
 use Rattle.std.proofs.Math.Seq.{get_or-append_seam}
-use Rattle.std.proofs.lemmas.Bool.{or_right as or_later, or_left as or_first, or_cases as one_of, cases_Bool as tested, not-true as not_true}
+use Rattle.std.proofs.lemmas.Bool.{or_right as or_later, or_left as or_first, or_cases as one_of, cases_Bool as tested}
+use Rattle.std.proofs.lemmas.Bool.{not-true as not_true}
 use Rattle.xdr_types.specs.Kinds as xdr
 use Rattle.xdr_types.specs.Kinds.{KindView, Constant, Branch}
 use Rattle.xdr_types.specs.Fits.{is_tag_of, is_numbered}

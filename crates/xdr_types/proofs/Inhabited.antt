@@ -35,7 +35,8 @@ not-false false h = absurd (false≢true (sym h))
 
 -- ---- what it means that no fault is found
 
-pub if-none : (b : Bool) (w : Flaw) (rest : Option Flaw) → (if b then Some w else rest) ≡ None → (b ≡ false) × (rest ≡ None)
+pub if-none : (b : Bool) (w : Flaw) (rest : Option Flaw) → (if b then Some w else rest) ≡ None → (b ≡ false)
+    × (rest ≡ None)
 if-none true w rest e = cc
 if-none false w rest e = (refl, e)
 

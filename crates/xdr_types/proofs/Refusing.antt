@@ -8,7 +8,8 @@ use Rattle.xdr_types.specs.declared.fault.Flaw.{Flaw}
 use Rattle.xdr_types.specs.declared.fault.SchemaFault.{SchemaFault}
 
 -- where no place has a flaw, none is the first
-pub no-flaw : (flaw_at : ℕ → Option Flaw) (n : ℕ) (e : SchemaFault) → AreFlawless flaw_at n → IsFirstFlaw flaw_at n e → ⊥
+pub no-flaw : (flaw_at : ℕ → Option Flaw) (n : ℕ) (e : SchemaFault) → AreFlawless flaw_at n → IsFirstFlaw flaw_at n e
+    → ⊥
 no-flaw flaw_at n e h first =
     let differs : None ≡ Some e.why = sym (h e.place first.within) ∙ first.here in
     cc

@@ -18,7 +18,8 @@ loop-next-preserved c = (
       ∙ onto_last [] c.pop.new.self.items c.in-Some-pop.parent in
       record {
         left = st.left;
-        owes = subst (λ (x : List (List Part)). Completes w.schema.now.kinds w.at (dues x) (drop w.at w.bytes.now) st.left)
+        owes = subst (λ (x : List (List Part)). Completes w.schema.now.kinds w.at (dues x) (drop w.at w.bytes.now)
+            st.left)
             outer (ended w.schema.now.kinds w.at (onto [] w.parents.items) (drop w.at w.bytes.now) st.left
             (subst (λ (x : List Part). Completes w.schema.now.kinds w.at (dues (x ∷ onto [] w.parents.items))
             (drop w.at w.bytes.now) st.left) none st.owes));

@@ -37,17 +37,20 @@ unreachable-requires c =
     c.requires.kind c.unit_at-number.result c.requires.unit c.unit_at-number.type_inv c.unit_at-number.ensures)
 
 pub leaf-requires-clause-there : goal.leaf-requires-clause-there
-leaf-requires-clause-there c = is_there c.args.self.now c.args.next _ c.requires.stands c.requires.next c.requires.kind c.requires.unit
+leaf-requires-clause-there c = is_there c.args.self.now c.args.next _ c.requires.stands c.requires.next c.requires.kind
+    c.requires.unit
 
 pub leaf-requires-clause-moved : goal.leaf-requires-clause-moved
-leaf-requires-clause-moved c = is_there c.args.self.now c.args.next _ c.requires.stands c.requires.next c.requires.kind c.requires.unit
+leaf-requires-clause-moved c = is_there c.args.self.now c.args.next _ c.requires.stands c.requires.next c.requires.kind
+    c.requires.unit
 
 pub leaf-requires-clause-deep : goal.leaf-requires-clause-deep
 leaf-requires-clause-deep c =
     is_shallow c.args.self.now c.args.next c.requires.stands.0 c.requires.stands.1 c.requires.next
 
 pub open-requires-clause-there : goal.open-requires-clause-there
-open-requires-clause-there c = is_there c.args.self.now c.args.next _ c.requires.stands c.requires.next c.requires.kind c.requires.unit
+open-requires-clause-there c = is_there c.args.self.now c.args.next _ c.requires.stands c.requires.next c.requires.kind
+    c.requires.unit
 
 pub open-requires-clause-deep : goal.open-requires-clause-deep
 open-requires-clause-deep c =
@@ -61,7 +64,8 @@ counted-requires-clause-there c =
     c.in-Length.is c.in-Ok.ensures in
     let g = length_of w.schema.now.kinds w.at w.bytes.now (part_of c.args.next) (rest_of (left_of w.work))
     (onto [] w.parents.items) st.left st.within (due w c.args.next c.requires.stands.0 st c.requires.next) _
-    c.requires.kind c.unit_at-number.result t.1.0 t.0 c.unit_at-number.ensures (is_there c.args.self.now c.args.next _ c.requires.stands c.requires.next c.requires.kind c.requires.unit) in
+    c.requires.kind c.unit_at-number.result t.1.0 t.0 c.unit_at-number.ensures
+        (is_there c.args.self.now c.args.next _ c.requires.stands c.requires.next c.requires.kind c.requires.unit) in
     subst (λ (m : ℕ). w.at + (4 + (m + gap m)) ≤ length w.bytes.now) (sym t.1.1) g.within
 
 pub counted-requires-clause-deep : goal.counted-requires-clause-deep
@@ -104,7 +108,8 @@ returns-in-Open-clause-stands c =
     (role_of k) refl c.unit_role-role.ensures.size (level w.parents.items) c.unit_role-role.ensures.role))
     (λ all st. open_of w.schema.now.kinds w.at w.bytes.now (part_of n) (rest_of (left_of w.work)) fs st.left st.within
     (due w n all st c.requires.next) _ c.requires.kind c.unit_at-number.result (left_of c.in-Open.frame) t.1.0 t.0
-    c.unit_at-number.ensures (is_there c.args.self.now c.args.next _ c.requires.stands c.requires.next c.requires.kind c.requires.unit) t.1.3)
+    c.unit_at-number.ensures (is_there c.args.self.now c.args.next _ c.requires.stands c.requires.next c.requires.kind
+        c.requires.unit) t.1.3)
     c.open.ensures
 
 pub returns-in-Length-clause-stands : goal.returns-in-Length-clause-stands
