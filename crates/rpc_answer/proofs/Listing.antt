@@ -5,7 +5,7 @@ use Rattle.std.proofs.Common.{append_assoc, append-nil, true≢false, slice_get}
 use Rattle.std.specs.List.{flat_map, cons_option}
 use Rattle.std.specs.Option.{option_map_or}
 use Rattle.std.proofs.lemmas.List.Concat.{flat_map-append}
-use Rattle.xdr_units.specs.Numbers.{word}
+use Rattle.xdr_units.specs.Numbers.{word, pad, padded}
 use Rattle.xdr_types.specs.Spelling.{bytes_of}
 use Rattle.rpc_uaddr.specs.declared.address.Uaddr.{Uaddr}
 use Rattle.rpc_uaddr.specs.Uaddrs.{uaddr_of}
@@ -93,21 +93,29 @@ spelled_all f rows i old out new tail all past e n is =
     n ∙ ap (λ (x : List ℕ). x ++ tail) (e ∙ ap (λ (l : List Row). old ++ flat_map f l) (take_whole rows i past))
     ∙ append_assoc old (flat_map f rows) tail ∙ ap (λ (x : List ℕ). old ++ x) (sym is)
 
-nested : (a b c d e f : List ℕ) → (((a ++ (b ++ c)) ++ d) ++ e) ++ f ≡ a ++ (b ++ (c ++ (d ++ (e ++ f))))
-nested a b c d e f = simp append_assoc
+-- the pieces of a row, one after another
+pieces : (o h p v ln n pn la a pa lo w : List ℕ)
+    → (((((o ++ (h ++ (p ++ (v ++ ln)))) ++ n) ++ (pn ++ la)) ++ a) ++ (pa ++ lo)) ++ w
+    ≡ o ++ (h ++ (p ++ (v ++ ((ln ++ (n ++ pn)) ++ ((la ++ (a ++ pa)) ++ (lo ++ w))))))
+pieces o h p v ln n pn la a pa lo w = simp append_assoc
 
--- the parts of a row, one after another
-pub row_added : (r : Row) (o h x1 x2 x3 x4 n a w : List ℕ) → n ≡ r.netid → a ≡ r.address → w ≡ r.owner
-    → h ≡ word 1 ++ (word r.prog ++ word r.vers) → x1 ≡ o ++ h → x2 ≡ x1 ++ text n → x3 ≡ x2 ++ text a
-    → x4 ≡ x3 ++ text w
-    → x4 ≡ o ++ row_bytes r
-row_added r o h x1 x2 x3 x4 n a w en ea ew eh e1 e2 e3 e4 =
-    let f = word 1 ++ (word r.prog ++ word r.vers) in
+-- the bytes of a row, where its texts were written in those pieces
+pub row_added : (r : Row) (o h x1 x2 x3 x4 x5 x6 n a w : List ℕ) → n ≡ r.netid → a ≡ r.address → w ≡ r.owner
+    → h ≡ word 1 ++ (word r.prog ++ (word r.vers ++ word (length n))) → x1 ≡ o ++ h → x2 ≡ x1 ++ n
+    → x3 ≡ x2 ++ (pad (length n) ++ word (length a)) → x4 ≡ x3 ++ a
+    → x5 ≡ x4 ++ (pad (length a) ++ word (length w)) → x6 ≡ x5 ++ padded w
+    → x6 ≡ o ++ row_bytes r
+row_added r o h x1 x2 x3 x4 x5 x6 n a w en ea ew eh e1 e2 e3 e4 e5 e6 =
     let t1 = e1 ∙ ap (λ (t : List ℕ). o ++ t) eh in
-    let t2 = e2 ∙ ap (λ (t : List ℕ). x1 ++ text t) en in
-    let t3 = e3 ∙ ap (λ (t : List ℕ). x2 ++ text t) ea in
-    let t4 = e4 ∙ ap (λ (t : List ℕ). x3 ++ text t) ew in
-    then o ((f ++ text r.netid) ++ text r.address) (text r.owner) x3 x4
-    (then o (f ++ text r.netid) (text r.address) x2 x3 (then o f (text r.netid) x1 x2 t1 t2) t3) t4
-    ∙ ap (λ (x : List ℕ). o ++ x)
-    (nested (word 1) (word r.prog) (word r.vers) (text r.netid) (text r.address) (text r.owner))
+    let t2 = e2 ∙ ap (λ (t : List ℕ). t ++ n) t1 in
+    let t3 = e3 ∙ ap (λ (t : List ℕ). t ++ (pad (length n) ++ word (length a))) t2 in
+    let t4 = e4 ∙ ap (λ (t : List ℕ). t ++ a) t3 in
+    let t5 = e5 ∙ ap (λ (t : List ℕ). t ++ (pad (length a) ++ word (length w))) t4 in
+    let t6 = e6 ∙ ap (λ (t : List ℕ). t ++ padded w) t5 in
+    t6 ∙ pieces o (word 1) (word r.prog) (word r.vers) (word (length n)) n (pad (length n)) (word (length a)) a
+    (pad (length a)) (word (length w)) (padded w)
+    ∙ ap (λ (t : List ℕ). of t a w) en ∙ ap (λ (t : List ℕ). of r.netid t w) ea
+    ∙ ap (λ (t : List ℕ). of r.netid r.address t) ew
+  where
+    of : List ℕ → List ℕ → List ℕ → List ℕ
+    of n a w = o ++ (word 1 ++ (word r.prog ++ (word r.vers ++ (text n ++ (text a ++ text w)))))

@@ -1,7 +1,7 @@
 //! The rows of the registry as results.
 ghost use Rattle.std.specs.Prelude.{◌≡◌, ◌≤◌, ◌++◌, length, OnOk};
 ghost use Rattle.std.specs.Io.{StartsWith};
-ghost use Rattle.xdr_units.specs.Numbers.{word};
+ghost use Rattle.xdr_units.specs.Numbers.{word, pad};
 ghost use Rattle.xdr_types.specs.Spelling.{bytes_of};
 ghost use Rattle.rpc_rows.specs.Rows.{IsRow};
 ghost use Rattle.rpc_rows.specs.Views.{plain_row};
@@ -9,10 +9,9 @@ ghost use Rattle.rpc_dumps.specs.Dir.{dir_kinds};
 ghost use Rattle.rpc_dumps.specs.Dumps.{rpcb_list, mapping_list, prot_of};
 ghost use Rattle.rpc_answer.specs.Private.Pushes.{row_bytes, mapping_bytes, mapping_at_bytes};
 
-use crate::replies::push_text;
 use rpc_directory::{Directory, Row, Uaddr, read_uaddr};
 use std::hash::BuildHasher;
-use xdr_units::{NoMemory, push_word};
+use xdr_units::{NoMemory, push_padded, push_word};
 
 /// Writes all rows in order as an `rpcblist` (RFC 1833 section 2.2.1, RPCBPROC_DUMP).
 #[tactic(auto, using(crate::proofs::Chains::begins_then))]
@@ -35,26 +34,48 @@ pub fn push_rows<S: BuildHasher>(
     Ok(())
 }
 
-/// The words before the texts of a row, after the one that says that it is there (RFC 1833 section 2.1).
-fn row_head(prog: u32, vers: u32) -> [u8; 12]
-    ensures { result ≡ word 1 ++ (word prog ++ word vers) }
+/// The words before the netid of a row: that the row is there, its program and version, and the netid's length (RFC 1833
+/// section 2.1).
+fn row_head(prog: u32, vers: u32, length: u32) -> [u8; 16]
+    ensures { result ≡ word 1 ++ (word prog ++ (word vers ++ word length)) }
 {
     let [a, b, c, d] = prog.to_be_bytes();
     let [e, f, g, h] = vers.to_be_bytes();
-    [0, 0, 0, 1, a, b, c, d, e, f, g, h]
+    let [i, j, k, l] = length.to_be_bytes();
+    [0, 0, 0, 1, a, b, c, d, e, f, g, h, i, j, k, l]
 }
 
-/// Writes that a row follows, and the row.
+/// Writes the padding of a text of `size` bytes and the length of the text that follows, in one piece.
+#[tactic(auto, using(crate::proofs::Chains::begins_then))]
+fn push_between(out: &mut Vec<u8>, size: usize, length: u32) -> Result<(), NoMemory>
+    ensures ok { OnOk result (out.new.items ≡ out.old.items ++ (pad size ++ word length)) }
+    ensures begins { StartsWith out.new.items out.old.items }
+{
+    let [a, b, c, d] = length.to_be_bytes();
+    match size % 4 {
+        0 => Ok(out.extend_from_slice(&[a, b, c, d])?),
+        1 => Ok(out.extend_from_slice(&[0, 0, 0, a, b, c, d])?),
+        2 => Ok(out.extend_from_slice(&[0, 0, a, b, c, d])?),
+        _ => Ok(out.extend_from_slice(&[0, a, b, c, d])?),
+    }
+}
+
+/// Writes that a row follows, and the row, its texts with their lengths and padding in seven pieces.
 #[tactic(auto, using(crate::proofs::Chains::begins_then))]
 fn push_row(row: &Row, out: &mut Vec<u8>) -> Result<(), NoMemory>
     requires { IsRow (plain_row row.now) }
     ensures ok { OnOk result (out.new.items ≡ out.old.items ++ row_bytes (plain_row row.now)) }
     ensures begins { StartsWith out.new.items out.old.items }
 {
-    out.extend_from_slice(&row_head(row.prog, row.vers))?;
-    push_text(out, &row.netid)?;
-    push_text(out, &row.address)?;
-    push_text(out, &row.owner)?;
+    let netid: &[u8] = &row.netid;
+    let address: &[u8] = &row.address;
+    let owner: &[u8] = &row.owner;
+    out.extend_from_slice(&row_head(row.prog, row.vers, netid.len() as u32))?;
+    out.extend_from_slice(netid)?;
+    push_between(out, netid.len(), address.len() as u32)?;
+    out.extend_from_slice(address)?;
+    push_between(out, address.len(), owner.len() as u32)?;
+    push_padded(out, owner)?;
     Ok(())
 }
 
