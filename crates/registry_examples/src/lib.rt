@@ -4,4 +4,5 @@
 pub mod addresses;
 pub mod directory;
 pub mod dumps;
+pub mod looking;
 pub mod served;

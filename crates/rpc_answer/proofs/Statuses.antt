@@ -1,8 +1,10 @@
 -- What a call came to, put together.
 use Rattle.std.proofs.Common.{◌≡◌, ℕ, zero, suc, ◌+◌, ◌-◌, ◌%◌, ◌≤◌, ◌<◌, ◌⊎◌, mod-lt, append-nil, Bool, List, [], ◌∷◌}
-use Rattle.std.proofs.Common.{◌++◌, length, Some, None, cond, refl, ap, sym, ◌∙◌, subst, arith, slice_get}
+use Rattle.std.proofs.Common.{◌++◌, ◌&&◌, true, false, length, Some, None, cond, refl, ap, sym, ◌∙◌, subst, arith, slice_get}
+use Rattle.std.proofs.Common.{nat_eq}
 use Rattle.std.proofs.lemmas.List.{length-append}
 use Rattle.std.proofs.lemmas.Bool.{ne_eqb}
+use Rattle.std.proofs.lemmas.Bool.Decides.{Decides-eqb}
 use Rattle.xdr_types.specs.Tree.{Tree}
 use Rattle.xdr_units.specs.Numbers.{word, num4, number_of, padded}
 use Rattle.xdr_types.specs.Spelling.{bytes_of}
@@ -10,16 +12,17 @@ use Rattle.rpc_message.specs.Message.{CallView, StatusView, Success, ProgUnavail
 use Rattle.rpc_message.specs.Message.{GarbageArgs}
 use Rattle.rpc_message.specs.Spelling.{reply, IsStatus}
 use Rattle.rpc_rows.specs.Rows.{Row, row_of}
-use Rattle.rpc_rows.specs.Steps.{Step, set, unset, getaddr}
+use Rattle.rpc_rows.specs.Steps.{Step, set, unset, getversaddr}
+use Rattle.rpc_rows.specs.LookUp.{getaddr}
 use Rattle.rpc_rows.specs.Ports.{set_port, unset_port, get_port}
-use Rattle.rpc_dumps.specs.Dumps.{mapping_of, rpcb_tree, rpcb_list, mapping_list}
+use Rattle.rpc_dumps.specs.Dumps.{mapping_of, rpcb_tree, rpcb_list, mapping_list, content}
 use Rattle.rpc_dumps.specs.Dir.{dir_kinds}
 use Rattle.rpc_answer.specs.Private.Parsed.{text}
 use Rattle.rpc_answer.proofs.Chains.{then}
 use Rattle.rpc_answer.proofs.Decoded.{decoded}
 use Rattle.rpc_answer.proofs.Fields.{length-padded}
 use Rattle.rpc_answer.specs.Procedures.{Procedure, null, set_2, unset_2, getport_2, dump_2, set_3, unset_3, getaddr_3}
-use Rattle.rpc_answer.specs.Procedures.{dump_3, procedures_2, procedures_3, procedure_at, void, told}
+use Rattle.rpc_answer.specs.Procedures.{dump_3, getversaddr_4, procedures_2, procedures_3, procedure_at, void, told}
 use Rattle.rpc_answer.specs.Answer.{AreArguments, AreGarbage, IsVersion, IsCallOf, ComesTo, no_program, no_version}
 use Rattle.rpc_answer.specs.Answer.{no_procedure, garbage, success, accepted, program}
 use Rattle.rpc_answer.specs.Private.Pushes.{PushesStatus, Tells, head, most}
@@ -69,14 +72,44 @@ module _ (rows : List Row) (netid owner : List ℕ) (c : CallView) (old out : Li
       pushes_results p t new of are moved (k.added ∙ ap (λ (x : List ℕ). old ++ (head c.xid 0 ++ x)) result)
       (omega (arith, few))
 
+  -- a reply with an address
+  pub pushes_address : (p : Procedure) (t : Tree) (a : List ℕ) → IsCallOf c p → AreArguments p.takes c.args t
+      → p.gives ≡ 7 → p.step rows netid owner t ≡ (rows, content a) → out ≡ old ++ (head c.xid 0 ++ text a)
+      → length a ≤ 256 → PushesStatus rows netid owner c old rows out
+  pushes_address p t a of are gives is e few =
+      let result : text a ≡ bytes_of dir_kinds p.gives (p.step rows netid owner t).1 =
+      sym (append-nil (text a)) ∙ sym (ap (λ (x : List Row × Tree). bytes_of dir_kinds 7 x.1) is)
+      ∙ sym (ap (λ (n : ℕ). bytes_of dir_kinds n (p.step rows netid owner t).1) gives) in
+      let long : length (text a) ≡ 4 + length (padded a) = length-append (word (length a)) (padded a) in
+      let gap : (4 - length a % 4) % 4 < 4 = mod-lt (4 - length a % 4) (omega arith) in
+      let short : length (bytes_of dir_kinds p.gives (p.step rows netid owner t).1) ≤ 16777216 =
+      omega (arith, ap length result, long, length-padded a, gap, few) in
+      pushes_results p t rows of are (sym (ap (λ (x : List Row × Tree). x.0) is))
+      (e ∙ ap (λ (x : List ℕ). old ++ (head c.xid 0 ++ x)) result) short
+
 -- ---- procedures
 
--- the number of a version that is 2, and of one that is not
+-- the number of a version that is 2, and of one that is 3 or 4
 at_2 : (vers proc : ℕ) → vers ≡ 2 → procedure_at vers proc ≡ slice_get procedures_2 proc
 at_2 vers proc e = ap (λ (v : ℕ). procedure_at v proc) e
 
-at_3 : (vers proc : ℕ) → 3 ≤ vers → procedure_at vers proc ≡ slice_get procedures_3 proc
-at_3 vers proc h = ap (λ (b : Bool). slice_get (cond b procedures_2 procedures_3) proc)
+-- it is not that of the one procedure that version 4 alone has
+shared : (vers proc : ℕ) → (proc ≡ 9 → vers ≡ 3) → (nat_eq vers 4 && nat_eq proc 9) ≡ false
+shared vers proc other = by (nat_eq vers 4) (nat_eq proc 9) refl refl
+  where
+    by : (a b : Bool) → nat_eq vers 4 ≡ a → nat_eq proc 9 ≡ b → (a && b) ≡ false
+    by false b e f = refl
+    by true false e f = refl
+    by true true e f =
+        let nine : proc ≡ 9 = (Decides-eqb proc 9).0 f in
+        let four : vers ≡ 4 = (Decides-eqb vers 4).0 e in
+        absurd (omega (arith, four, other nine))
+
+at_3 : (vers proc : ℕ) → 3 ≤ vers → (proc ≡ 9 → vers ≡ 3) → procedure_at vers proc ≡ slice_get procedures_3 proc
+at_3 vers proc h other =
+    ap (λ (b : Bool). cond b (Some getversaddr_4) (slice_get (cond (nat_eq vers 2) procedures_2 procedures_3) proc))
+    (shared vers proc other)
+    ∙ ap (λ (b : Bool). slice_get (cond b procedures_2 procedures_3) proc)
     (ne_eqb vers 2 (λ (e : vers ≡ 2). omega (arith, e, h)))
 
 pub called_2 : (c : CallView) (p : Procedure) → c.prog ≡ program → c.vers ≡ 2 → slice_get procedures_2 c.proc ≡ Some p
@@ -89,12 +122,19 @@ called_2 c p prog vers e = record {
 }
 
 pub called_3 : (c : CallView) (p : Procedure) → c.prog ≡ program → 3 ≤ c.vers → c.vers ≤ 4
-    → slice_get procedures_3 c.proc ≡ Some p → IsCallOf c p
-called_3 c p prog low high e = record {
+    → (c.proc ≡ 9 → c.vers ≡ 3) → slice_get procedures_3 c.proc ≡ Some p → IsCallOf c p
+called_3 c p prog low high other e = record {
   program_is = prog;
   version = (omega arith, omega arith);
   procedure_is =
-      at_3 c.vers c.proc low ∙ e;
+      at_3 c.vers c.proc low other ∙ e;
+}
+
+pub called_4 : (c : CallView) → c.prog ≡ program → c.vers ≡ 4 → c.proc ≡ 9 → IsCallOf c getversaddr_4
+called_4 c prog vers proc = record {
+  program_is = prog;
+  version = (omega arith, omega arith);
+  procedure_is = λ j. procedure_at (vers j) (proc j);
 }
 
 -- a table of five has nothing past it
@@ -180,15 +220,14 @@ module _ (rows : List Row) (netid owner : List ℕ) (c : CallView) (old out : Li
 
     pub pushes_getaddr_3 : IsCallOf c getaddr_3 → out ≡ old ++ (head c.xid 0 ++ text (getaddr rows prog vers netid))
         → length (getaddr rows prog vers netid) ≤ 256 → PushesStatus rows netid owner c old rows out
-    pushes_getaddr_3 of e few =
-        let a = getaddr rows prog vers netid in
-        let same : text a ++ [] ≡ text a = append-nil (text a) in
-        let long : length (text a) ≡ 4 + length (padded a) = length-append (word (length a)) (padded a) in
-        let gap : (4 - length a % 4) % 4 < 4 = mod-lt (4 - length a % 4) (omega arith) in
-        let short : length (text a ++ []) ≤ 16777216 = omega (arith, ap length same, long, length-padded a, gap, few) in
-        pushes_results rows netid owner c old out getaddr_3
-        (rpcb_tree (row_of prog vers id address someone)) rows of are refl (e ∙ ap (λ (x : List ℕ). old
-        ++ (head c.xid 0 ++ x)) (sym same)) short
+    pushes_getaddr_3 of e few = pushes_address rows netid owner c old out getaddr_3
+        (rpcb_tree (row_of prog vers id address someone)) (getaddr rows prog vers netid) of are refl refl e few
+
+    pub pushes_getversaddr_4 : IsCallOf c getversaddr_4
+        → out ≡ old ++ (head c.xid 0 ++ text (getversaddr rows prog vers netid))
+        → length (getversaddr rows prog vers netid) ≤ 256 → PushesStatus rows netid owner c old rows out
+    pushes_getversaddr_4 of e few = pushes_address rows netid owner c old out getversaddr_4
+        (rpcb_tree (row_of prog vers id address someone)) (getversaddr rows prog vers netid) of are refl refl e few
 
 -- a procedure of 1 to 3 takes what its table says
 pub some_2 : (n : ℕ) → 1 ≤ n → n ≤ 3 → (p : Procedure) × ((slice_get procedures_2 n ≡ Some p) × (p.takes ≡ 15))
@@ -218,11 +257,13 @@ pub garbage_3 : (rows : List Row) (netid owner : List ℕ) (c : CallView) (old o
     → PushesStatus rows netid owner c old rows out
 garbage_3 rows netid owner c old out prog low high h k none e =
     let s = some_3 c.proc h k in
-    pushes_garbage rows netid owner c old out s.0 (called_3 c s.0 prog low high s.1.0)
+    pushes_garbage rows netid owner c old out s.0
+    (called_3 c s.0 prog low high (λ (e : c.proc ≡ 9). absurd (omega (arith, e, k))) s.1.0)
     (subst (λ (n : ℕ). AreGarbage n c.args) (sym s.1.1) none) e
 
 pub past_2 : (vers proc : ℕ) → vers ≡ 2 → 5 ≤ proc → procedure_at vers proc ≡ None
 past_2 vers proc e h = at_2 vers proc e ∙ none_past_5 null set_2 unset_2 getport_2 dump_2 proc h
 
-pub past_3 : (vers proc : ℕ) → 3 ≤ vers → 5 ≤ proc → procedure_at vers proc ≡ None
-past_3 vers proc e h = at_3 vers proc e ∙ none_past_5 null set_3 unset_3 getaddr_3 dump_3 proc h
+pub past_3 : (vers proc : ℕ) → 3 ≤ vers → (proc ≡ 9 → vers ≡ 3) → 5 ≤ proc → procedure_at vers proc ≡ None
+past_3 vers proc low other h =
+    at_3 vers proc low other ∙ none_past_5 null set_3 unset_3 getaddr_3 dump_3 proc h

@@ -1,9 +1,10 @@
 -- The registry's procedures (RFC 1833 sections 2.2.1 and 3.2).
-use Rattle.std.specs.Prelude.{ℕ, List, [], ◌∷◌, ◌==◌, Option, if◌then◌else◌, slice_get, slice_index_or}
+use Rattle.std.specs.Prelude.{ℕ, ◌&&◌, List, [], ◌∷◌, ◌==◌, Option, Some, if◌then◌else◌, slice_get, slice_index_or}
 use Rattle.xdr_types.specs.Tree as value
 use Rattle.xdr_types.specs.Tree.{Head, Values, Tree}
 use Rattle.rpc_rows.specs.Rows.{Row, row_of}
-use Rattle.rpc_rows.specs.Steps.{Step, set, unset, getaddr}
+use Rattle.rpc_rows.specs.Steps.{Step, set, unset, getversaddr}
+use Rattle.rpc_rows.specs.LookUp.{getaddr}
 use Rattle.rpc_rows.specs.Ports.{set_port, unset_port, get_port}
 use Rattle.rpc_dumps.specs.Dumps.{number, content, rpcb_list, mapping_list}
 
@@ -105,7 +106,8 @@ unset_3 = record {
   step = λ rows netid owner t. told (unset rows (number_at 0 t) (number_at 1 t) (text_at 2 t) owner);
 }
 
--- looks an address up over the call's own transport; the argument's netid is ignored (RPCBPROC_GETADDR)
+-- looks an address up over the call's own transport, of the greatest version where the argument's is not registered;
+-- the argument's netid is ignored (RPCBPROC_GETADDR)
 abbrev pub getaddr_3 : Procedure
 getaddr_3 = record {
   takes = 11;
@@ -117,6 +119,14 @@ getaddr_3 = record {
 abbrev pub dump_3 : Procedure
 dump_3 = record { takes = 5; gives = 14; step = λ rows netid owner t. (rows, rpcb_list rows) }
 
+-- looks up the address of just this version; the argument's netid is ignored (RPCBPROC_GETVERSADDR)
+abbrev pub getversaddr_4 : Procedure
+getversaddr_4 = record {
+  takes = 11;
+  gives = 7;
+  step = λ rows netid owner t. (rows, content (getversaddr rows (number_at 0 t) (number_at 1 t) netid));
+}
+
 -- the table of procedures: of version 2, and of versions 3 and 4, from number 0
 abbrev pub procedures_2 : List Procedure
 procedures_2 = null ∷ set_2 ∷ unset_2 ∷ getport_2 ∷ dump_2 ∷ []
@@ -124,6 +134,8 @@ procedures_2 = null ∷ set_2 ∷ unset_2 ∷ getport_2 ∷ dump_2 ∷ []
 abbrev pub procedures_3 : List Procedure
 procedures_3 = null ∷ set_3 ∷ unset_3 ∷ getaddr_3 ∷ dump_3 ∷ []
 
--- the procedure with a number in version 2, 3 or 4
+-- the procedure with a number in version 2, 3 or 4; version 4 has number 9 besides
 abbrev pub procedure_at : ℕ → ℕ → Option Procedure
-procedure_at vers proc = slice_get (if vers == 2 then procedures_2 else procedures_3) proc
+procedure_at vers proc =
+    if vers == 4 && proc == 9 then Some getversaddr_4
+    else slice_get (if vers == 2 then procedures_2 else procedures_3) proc

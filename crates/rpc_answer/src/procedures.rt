@@ -4,7 +4,8 @@ ghost use Rattle.std.specs.Prelude.{◌≡◌, ◌<◌, ◌≤◌, length, ◌++
 ghost use Rattle.std.specs.Io.{StartsWith};
 ghost use Rattle.xdr_units.specs.Numbers.{word, num4, number_of};
 ghost use Rattle.rpc_rows.specs.Rows.{row_of};
-ghost use Rattle.rpc_rows.specs.Steps.{set, unset, getaddr};
+ghost use Rattle.rpc_rows.specs.Steps.{set, unset, getversaddr};
+ghost use Rattle.rpc_rows.specs.LookUp.{getaddr};
 ghost use Rattle.rpc_rows.specs.Ports.{set_port, unset_port, get_port};
 ghost use Rattle.rpc_answer.specs.Owners.{owner_text};
 ghost use Rattle.rpc_answer.specs.Private.Parsed.{text};
@@ -159,7 +160,8 @@ pub fn push_unset<S: BuildHasher>(
     Ok(())
 }
 
-/// Looks an address up over the transport; it has at most 256 bytes (RFC 1833 section 2.2.1, RPCBPROC_GETADDR).
+/// Looks an address up over the transport, that of the greatest version where this one is not registered; it has at
+/// most 256 bytes (RFC 1833 section 2.2.1, RPCBPROC_GETADDR).
 #[tactic(auto, using(crate::proofs::Chains::begins_then))]
 pub fn push_address<S: BuildHasher>(
     directory: &Directory<S>,
@@ -174,6 +176,27 @@ pub fn push_address<S: BuildHasher>(
     ensures begins { StartsWith out.new.items out.old.items }
 {
     let address = directory.getaddr(r.prog, r.vers, transport.netid());
+    push_head(out, xid, 0)?;
+    push_text(out, address)?;
+    Ok(())
+}
+
+/// Looks up the address of just this version over the transport; it has at most 256 bytes (RFC 1833 section 2.2.1,
+/// RPCBPROC_GETVERSADDR).
+#[tactic(auto, using(crate::proofs::Chains::begins_then))]
+pub fn push_version_address<S: BuildHasher>(
+    directory: &Directory<S>,
+    transport: Transport,
+    xid: u32,
+    r: Rpcb<'_>,
+    out: &mut Vec<u8>,
+) -> Result<(), NoMemory>
+    ensures ok { let address = getversaddr directory.now r.entry.prog r.entry.vers (netid_of transport) in
+        OnOk result (out.new.items ≡ out.old.items ++ (head xid 0 ++ text address)) }
+    ensures few { length (getversaddr directory.now r.entry.prog r.entry.vers (netid_of transport)) ≤ 256 }
+    ensures begins { StartsWith out.new.items out.old.items }
+{
+    let address = directory.getversaddr(r.prog, r.vers, transport.netid());
     push_head(out, xid, 0)?;
     push_text(out, address)?;
     Ok(())

@@ -15,6 +15,7 @@ use crate::callers::Owner;
 use crate::dumps::{push_mappings, push_rows};
 use crate::procedures::{
     push_address, push_port, push_set, push_set_port, push_unset, push_unset_port,
+    push_version_address,
 };
 use crate::replies::push_head;
 use crate::transport::Transport;
@@ -37,6 +38,9 @@ const PROG_MISMATCH: u32 = 2;
 const PROC_UNAVAIL: u32 = 3;
 
 const GARBAGE_ARGS: u32 = 4;
+
+/// The procedure that version 4 alone has (RFC 1833 section 2.2.1, RPCBPROC_GETVERSADDR).
+const GETVERSADDR: u32 = 9;
 
 /// Writes the reply to a call of a caller who is believed: program, version, procedure and arguments are looked at in
 /// this order (RFC 5531 section 9). Where memory is refused the rows are as they were.
@@ -61,7 +65,7 @@ pub fn push_accepted<S: BuildHasher>(
     match call.vers {
         2 => push_version_2(alloc, directory, transport, owner, call, out),
         3 => push_version_3(alloc, directory, transport, owner, call, out),
-        4 => push_version_3(alloc, directory, transport, owner, call, out),
+        4 => push_version_4(alloc, directory, transport, owner, call, out),
         _ => push_prog_mismatch(out, call.xid),
     }
 }
@@ -140,7 +144,34 @@ fn push_on_mapping<S: BuildHasher>(
     }
 }
 
-/// Writes the reply to a call of version 3 or 4 (RFC 1833 section 2.2.1).
+/// Writes the reply to a call of version 4, which has one procedure more than version 3 (RFC 1833 section 2.2.1).
+#[tactic(auto, using(crate::proofs::Chains::begins_then))]
+fn push_version_4<S: BuildHasher>(
+    alloc: Global,
+    directory: &mut Directory<S>,
+    transport: Transport,
+    owner: Owner,
+    call: &LentCall<'_>,
+    out: &mut Vec<u8>,
+) -> Result<(), NoMemory>
+    requires prog { call.now.prog ≡ program }
+    requires vers { call.now.vers ≡ 4 }
+    ensures ok { let c = lent_call_view call.now in OnOk result
+        (PushesStatus directory.old (netid_of transport) (owner_text owner) c out.old.items directory.new
+        out.new.items) }
+    ensures err { OnErr result (directory.new ≡ directory.old) }
+    ensures begins { StartsWith out.new.items out.old.items }
+{
+    if call.proc != GETVERSADDR {
+        return push_version_3(alloc, directory, transport, owner, call, out);
+    }
+    match rpcb_at(call.args) {
+        Some(r) => push_version_address(directory, transport, call.xid, r, out),
+        None => push_head(out, call.xid, GARBAGE_ARGS),
+    }
+}
+
+/// Writes the reply to a call of a procedure that version 3 has, or that neither 3 nor 4 has (RFC 1833 section 2.2.1).
 #[tactic(auto, using(crate::proofs::Chains::begins_then))]
 fn push_version_3<S: BuildHasher>(
     alloc: Global,
@@ -153,6 +184,7 @@ fn push_version_3<S: BuildHasher>(
     requires prog { call.now.prog ≡ program }
     requires least_vers { 3 ≤ call.now.vers }
     requires greatest_vers { call.now.vers ≤ 4 }
+    requires other { call.now.proc ≡ 9 → call.now.vers ≡ 3 }
     ensures ok { let c = lent_call_view call.now in OnOk result
         (PushesStatus directory.old (netid_of transport) (owner_text owner) c out.old.items directory.new
         out.new.items) }

@@ -1,6 +1,9 @@
 //! The rows of the registry, and the calls of versions 3 and 4.
 ghost use Rattle.std.specs.Prelude.{◌≡◌, ◌≤◌, [], length, false, OnErr, IfOk, IfSome, None, ◌↔◌, option_map, slice_get};
+ghost use Rattle.std.specs.Prelude.{is_some};
 ghost use Rattle.std.specs.List.{list_any};
+ghost use Rattle.std.specs.Option.{option_map_or};
+ghost use Rattle.rpc_rows.specs.LookUp as looking;
 ghost use Rattle.rpc_rows.specs.Steps as step;
 ghost use Rattle.rpc_rows.specs.Ports as ports;
 ghost use Rattle.rpc_rows.specs.Rows.{row_of, is_at, IsRow, IsRegistry};
@@ -11,7 +14,7 @@ ghost use Rattle.rpc_dumps.specs.Dumps.{rpcb_list, mapping_list, dump_limits};
 
 use crate::ports::any_host;
 use indexmap::IndexMap;
-use rpc_rows::{Key, Row, append, find, remove_all, remove_one};
+use rpc_rows::{Key, Row, append, find, look_up, remove_all, remove_one};
 use rpc_uaddr::NoMemory;
 use std::alloc::Global;
 use std::hash::BuildHasher;
@@ -86,12 +89,22 @@ impl<S: BuildHasher> Directory<S> {
     }
 
     // The row of a program, a version and a netid.
-    pub(crate) fn find(&self, prog: u32, vers: u32, netid: &[u8]) -> Option<&Row>
+    fn find(&self, prog: u32, vers: u32, netid: &[u8]) -> Option<&Row>
         ensures value { option_map (λ r. plain_row r.now) result ≡ step.row_at self.now prog vers netid.now }
         ensures row { IfSome result (λ r. IsRow (plain_row r.now)) }
     {
         let rows = &self.rows;
         find(rows, prog, vers, netid)
+    }
+
+    // That row; where there is none, the row of greatest version with that program and netid.
+    pub(crate) fn look_up(&self, prog: u32, vers: u32, netid: &[u8]) -> Option<&Row>
+        ensures value { option_map (λ r. plain_row r.now) result ≡ looking.look_up self.now prog vers netid.now }
+        ensures some { is_some result ≡ list_any (looking.is_over prog netid.now) self.now }
+        ensures row { IfSome result (λ r. IsRow (plain_row r.now)) }
+    {
+        let rows = &self.rows;
+        look_up(rows, prog, vers, netid)
     }
 
     // Whether there is a row of a program, a version and a netid.
@@ -101,18 +114,28 @@ impl<S: BuildHasher> Directory<S> {
         self.find(prog, vers, netid).is_some()
     }
 
-    /// The registered universal address of a version of a program over a transport, at most 256 bytes, and empty
-    /// exactly where there is none (RFC 1833 section 2.2.1, RPCBPROC_GETADDR). It is one look-up by the key's hash, so
-    /// what it costs does not grow with the rows, unless the hasher puts many keys together. It takes no memory.
+    /// The universal address of a version of a program over a transport, at most 256 bytes (RFC 1833 section 2.2.1,
+    /// RPCBPROC_GETADDR): the registered one; where that version is not registered, the address of the greatest version
+    /// of the program that is registered over the transport; and empty exactly where none is. For a version that is
+    /// registered it is one look-up by the key's hash, so what it costs does not grow with the rows, unless the hasher
+    /// puts many keys together; for another it is a pass over all rows besides. It takes no memory.
     pub fn getaddr(&self, prog: u32, vers: u32, netid: &[u8]) -> &[u8]
-        ensures value { result.now ≡ step.getaddr self.now prog vers netid.now }
+        ensures value { result.now ≡ looking.getaddr self.now prog vers netid.now }
+        ensures short { length result.now ≤ 256 }
+        ensures empty { (result.now ≡ []) ↔ (list_any (looking.is_over prog netid.now) self.now ≡ false) }
+    {
+        address_of(self.look_up(prog, vers, netid))
+    }
+
+    /// The registered universal address of just this version of a program over a transport, at most 256 bytes, and
+    /// empty exactly where there is none (RFC 1833 section 2.2.1, RPCBPROC_GETVERSADDR). It is one look-up by the key's
+    /// hash, as `getaddr` of a version that is registered. It takes no memory.
+    pub fn getversaddr(&self, prog: u32, vers: u32, netid: &[u8]) -> &[u8]
+        ensures value { result.now ≡ step.getversaddr self.now prog vers netid.now }
         ensures short { length result.now ≤ 256 }
         ensures empty { (result.now ≡ []) ↔ (step.row_at self.now prog vers netid.now ≡ None) }
     {
-        match self.find(prog, vers, netid) {
-            Some(row) => &row.address,
-            None => &[],
-        }
+        address_of(self.find(prog, vers, netid))
     }
 
     /// Adds a row at the end (RFC 1833 section 2.2.1, RPCBPROC_SET). False, with nothing changed: an empty netid or
@@ -173,5 +196,19 @@ impl<S: BuildHasher> Directory<S> {
         } else {
             remove_one(&mut self.rows, prog, vers, netid, owner)
         }
+    }
+}
+
+// The address of a row, empty where there is none.
+fn address_of(row: Option<&Row>) -> &[u8]
+    requires { IfSome row (λ r. IsRow (plain_row r.now)) }
+    ensures value { let plain = option_map (λ r. plain_row r.now) row.entry in
+        result.now ≡ option_map_or (λ r. r.address) plain [] }
+    ensures short { length result.now ≤ 256 }
+    ensures empty { (result.now ≡ []) ↔ (option_map (λ r. plain_row r.now) row.entry ≡ None) }
+{
+    match row {
+        Some(row) => &row.address,
+        None => &[],
     }
 }

@@ -47,9 +47,9 @@ impl<S: BuildHasher> Directory<S> {
         first || second
     }
 
-    /// The port of a version of a program over the transport of this number (RFC 1833 section 3.2, PMAPPROC_GETPORT): 0
-    /// for a `prot` other than 6 and 17, where there is no row, and where its address is no universal address over
-    /// IPv4. It takes no memory.
+    /// The port of a version of a program over the transport of this number (RFC 1833 section 3.2, PMAPPROC_GETPORT),
+    /// that of the row which `getaddr` looks up: 0 for a `prot` other than 6 and 17, where there is no such row, and
+    /// where its address is no universal address over IPv4. It costs what `getaddr` costs, and takes no memory.
     pub fn get_port(&self, prog: u32, vers: u32, prot: u32) -> u32
         ensures value { result ≡ ports.get_port self.now prog vers prot }
         ensures port { result < 65536 }
@@ -60,12 +60,12 @@ impl<S: BuildHasher> Directory<S> {
         }
     }
 
-    // The port of a version of a program over a transport.
+    // The port of the row that is looked up over a transport.
     fn port_over(&self, prog: u32, vers: u32, netid: &[u8]) -> u32
         ensures value { result ≡ ports.port_over self.now prog vers netid.now }
         ensures port { result < 65536 }
     {
-        match self.find(prog, vers, netid) {
+        match self.look_up(prog, vers, netid) {
             Some(row) => port_in(&row.address),
             None => 0,
         }

@@ -4,3 +4,4 @@ pub mod Added
 pub mod Twice
 pub mod Removed
 pub mod Bounds
+pub mod Greatest

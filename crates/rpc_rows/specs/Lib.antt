@@ -1,5 +1,6 @@
 pub mod Rows
 pub mod Steps
+pub mod LookUp
 pub mod Keys
 pub mod Views
 pub mod Ports

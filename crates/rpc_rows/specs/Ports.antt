@@ -3,7 +3,8 @@ use Rattle.std.specs.Prelude.{ℕ, ◌/◌, ◌%◌, Bool, false, ◌||◌, List
 use Rattle.std.specs.Prelude.{if◌then◌else◌, codes}
 use Rattle.std.specs.Option.{option_map_or}
 use Rattle.rpc_rows.specs.Rows.{Row, row_of}
-use Rattle.rpc_rows.specs.Steps.{Step, set, without, is_unset, row_at, superuser}
+use Rattle.rpc_rows.specs.Steps.{Step, set, without, is_unset, superuser}
+use Rattle.rpc_rows.specs.LookUp.{look_up}
 use Rattle.rpc_uaddr.specs.Uaddrs.{dotted, uaddr_of}
 
 -- the transport with number 6 (RFC 5665 section 5.1)
@@ -50,9 +51,9 @@ own_rows port =
 abbrev pub port_in : List ℕ → ℕ
 port_in text = option_map_or (λ a. a.port) (uaddr_of text) 0
 
--- the port of a version of a program over a transport, 0 where there is no row
+-- the port of the row that is looked up for a version of a program over a transport, 0 where there is none
 abbrev pub port_over : List Row → ℕ → ℕ → List ℕ → ℕ
-port_over rows prog vers netid = option_map_or (λ r. port_in r.address) (row_at rows prog vers netid) 0
+port_over rows prog vers netid = option_map_or (λ r. port_in r.address) (look_up rows prog vers netid) 0
 
 -- and with a transport's number, 0 where it has none (RFC 1833 section 3.2, PMAPPROC_GETPORT)
 abbrev pub get_port : List Row → ℕ → ℕ → ℕ → ℕ

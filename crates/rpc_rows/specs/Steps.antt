@@ -50,6 +50,6 @@ unset rows prog vers netid owner = without (is_unset prog vers netid owner) rows
 abbrev pub row_at : List Row → ℕ → ℕ → List ℕ → Option Row
 row_at rows prog vers netid = find (is_at prog vers netid) rows
 
--- its address, empty where there is none (RFC 1833 section 2.2.1, RPCBPROC_GETADDR)
-abbrev pub getaddr : List Row → ℕ → ℕ → List ℕ → List ℕ
-getaddr rows prog vers netid = option_map_or (λ r. r.address) (row_at rows prog vers netid) []
+-- its address, empty where there is none (RFC 1833 section 2.2.1, RPCBPROC_GETVERSADDR)
+abbrev pub getversaddr : List Row → ℕ → ℕ → List ℕ → List ℕ
+getversaddr rows prog vers netid = option_map_or (λ r. r.address) (row_at rows prog vers netid) []

@@ -3,8 +3,10 @@
 
 mod entries;
 mod key;
+mod looking;
 mod row;
 
 pub use entries::{append, find, remove_all, remove_one};
 pub use key::Key;
+pub use looking::look_up;
 pub use row::Row;

@@ -2,6 +2,7 @@
 ghost use Rattle.std.specs.Prelude.{◌≡◌};
 ghost use Rattle.std.specs.Str.{bytes_eq};
 ghost use Rattle.rpc_rows.specs.Steps.{is_unset, superuser, may_remove};
+ghost use Rattle.rpc_rows.specs.LookUp.{is_over};
 ghost use Rattle.rpc_rows.specs.Views.{plain_row};
 
 /// A row of the registry: who serves a version of a program over a transport, and where (RFC 1833 section 2.1, `rpcb`).
@@ -29,6 +30,13 @@ impl Row {
             && vers == self.vers
             && (netid.is_empty() || netid == self.netid.as_slice())
             && self.may_remove(owner)
+    }
+
+    /// Whether the row is of this program and over this transport, in whatever version.
+    pub fn is_over(&self, prog: u32, netid: &[u8]) -> bool
+        ensures { result ≡ is_over prog netid.now (plain_row self.now) }
+    {
+        prog == self.prog && netid == self.netid.as_slice()
     }
 
     /// Whether the owner may remove the row: it is the row's own, or `superuser`.

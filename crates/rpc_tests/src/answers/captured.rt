@@ -1,6 +1,6 @@
 //! Calls that real clients sent (libtirpc's, rpcinfo's, nmap's own), in one run. Where rpcbind has the same rows and
 //! answers the same, what is to be sent is the reply that it sent. It differs where it has more rows, merges an address
-//! with that of the connection, answers TRUE to a second SET of one row, and has procedures past 4.
+//! with that of the connection, answers TRUE to a second SET of one row, and has procedures that are left out here.
 use crate::answers::asked::Asked::Record;
 use crate::answers::asked::{Asked, right_answers};
 use crate::registry::calls::started;

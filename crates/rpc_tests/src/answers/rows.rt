@@ -59,7 +59,7 @@ fn answers_what_is_no_call_of_version_2(rt: HostRuntime) -> Result<(), Fail> {
 
 // The first check that fails decides: the program before its version, the version before the procedure, the procedure
 // before the arguments.
-const CHECKS: [Asked; 14] = [
+const CHECKS: [Asked; 18] = [
     Record(
         "000000030000000000000002000186a0000000050000000000000000000000000000000000000000",
         "0000000300000001000000000000000000000000000000020000000200000004",
@@ -80,7 +80,11 @@ const CHECKS: [Asked; 14] = [
     Call(Nobody, 5, 9, "", "000000020000000200000004"),
     Call(Nobody, 1, 9, "", "000000020000000200000004"),
     Call(Nobody, 0, 0, "", "000000020000000200000004"),
-    Call(Nobody, 4, 9, "", "00000003"),
+    Call(Nobody, 4, 9, "", "00000004"),
+    Call(Nobody, 4, 8, "", "00000003"),
+    Call(Nobody, 4, 10, "", "00000003"),
+    Call(Nobody, 3, 9, "", "00000003"),
+    Call(Nobody, 2, 9, "", "00000003"),
     Call(Nobody, 3, 5, "", "00000003"),
     Call(Nobody, 2, 4294967295, "", "00000003"),
     OtherProgram(99999, "00000001"),
@@ -131,8 +135,9 @@ fn denies_callers(rt: HostRuntime) -> Result<(), Fail> {
     Ok(())
 }
 
-// A port that is set is found by both versions, and is not set again; netid and port of a look-up are ignored.
-const PORTS: [Asked; 12] = [
+// A port that is set is found by both versions, and is not set again; netid and port of a look-up are ignored. A version
+// that is not registered is looked up as the greatest that is, but not by procedure 9 of version 4, which asks for one.
+const PORTS: [Asked; 16] = [
     Call(
         Nobody,
         2,
@@ -172,14 +177,42 @@ const PORTS: [Asked; 12] = [
         Nobody,
         2,
         3,
-        "20000000000000020000000600000000",
-        "0000000000000000",
+        "20000000000000090000000600000000",
+        "0000000000000801",
     ),
     Call(
         Nobody,
         3,
         3,
-        "200000000000000200000003746370000000000000000000",
+        "2000000000000009000000000000000000000000",
+        "000000000000000b302e302e302e302e382e3100",
+    ),
+    Call(
+        Nobody,
+        4,
+        9,
+        "2000000000000009000000000000000000000000",
+        "0000000000000000",
+    ),
+    Call(
+        Nobody,
+        4,
+        9,
+        "2000000000000001000000037564700000000001780000000000000179000000",
+        "000000000000000b302e302e302e302e382e3100",
+    ),
+    Call(
+        Nobody,
+        3,
+        9,
+        "2000000000000001000000000000000000000000",
+        "00000003",
+    ),
+    Call(
+        Nobody,
+        3,
+        3,
+        "200000010000000200000003746370000000000000000000",
         "0000000000000000",
     ),
     Call(

@@ -60,6 +60,8 @@ pub enum Call {
     UnsetPort(u32, u32, Owner, bool),
     /// `getaddr`: the address, empty for none.
     Address(Key, &'static [u8]),
+    /// `getversaddr`: the address, empty for none.
+    VersionAddress(Key, &'static [u8]),
     /// `get_port`: the port, 0 for none.
     Port(PortKey, u32),
     /// `rows`: how many there are.
@@ -121,6 +123,9 @@ fn finds(directory: &Registry, call: &Call) -> bool {
     match call {
         Call::Address((prog, vers, netid), address) => {
             directory.getaddr(*prog, *vers, netid) == *address
+        }
+        Call::VersionAddress((prog, vers, netid), address) => {
+            directory.getversaddr(*prog, *vers, netid) == *address
         }
         Call::Port((prog, vers, prot), port) => directory.get_port(*prog, *vers, *prot) == *port,
         Call::Rows(count) => directory.rows() == *count,

@@ -71,6 +71,24 @@ fn address_of(list: &[Entry], entry: &Entry) -> u32 {
     0
 }
 
+/// The number of the address that is looked up for an entry's key: of the greatest version where there is no row of its
+/// own, and 0 where there is no row of the program and the netid.
+fn looked_up(list: &[Entry], entry: &Entry) -> u32 {
+    let own = address_of(list, entry);
+    if own != 0 {
+        return own;
+    }
+    let mut greatest = 0;
+    let mut address = 0;
+    for row in list {
+        if row.prog == entry.prog && row.netid == entry.netid && row.vers >= greatest {
+            greatest = row.vers;
+            address = row.address;
+        }
+    }
+    address
+}
+
 /// Adds a row to the list, where it may be added.
 fn set(list: &mut Vec<Entry>, entry: Entry) -> Result<bool, AllocError> {
     if address_of(list, &entry) != 0 || entry.netid == 0 || entry.address == 0 {
@@ -144,9 +162,10 @@ fn call(list: &mut Vec<Entry>, which: u32, e: Entry) -> Result<Call, AllocError>
             let over_udp = unset(list, Entry { netid: 2, ..e });
             Call::UnsetPort(e.prog, e.vers, by, over_tcp || over_udp)
         }
-        5 => Call::Address(key, address(address_of(list, &e))),
+        5 => Call::Address(key, address(looked_up(list, &e))),
+        6 => Call::VersionAddress(key, address(address_of(list, &e))),
         _ if e.netid == 0 || e.netid == 3 => Call::Port(port_key, 0),
-        _ => Call::Port(port_key, port_at(address_of(list, &e))),
+        _ => Call::Port(port_key, port_at(looked_up(list, &e))),
     })
 }
 
@@ -175,7 +194,7 @@ fn alike(alloc: Global, count: u32) -> Result<u32, AllocError> {
     let mut list = Vec::new(alloc);
     for number in 0..count {
         let entry = numbers.entry();
-        let call = call(&mut list, numbers.below(7), entry)?;
+        let call = call(&mut list, numbers.below(8), entry)?;
         if answer(alloc, &mut directory, &call) != Some(true) || !is_list(&directory, &list) {
             return Ok(number);
         }

@@ -1,6 +1,7 @@
 //! What each call answers on named rows.
 use crate::registry::calls::Call::{
     Address, Dump, DumpPorts, NoRow, Port, Row, Rows, Set, SetPort, Unset, UnsetPort,
+    VersionAddress,
 };
 use crate::registry::calls::Owner::{
     GreatestUser, Superuser, Unknown, User100, User1000, User1001,
@@ -167,6 +168,38 @@ const VERSIONS: [Call; 3] = [
     DumpPorts(&[MAPPING_2, MAPPING_4]),
 ];
 
+// A version that is not registered is looked up as the greatest of its program and netid that is, by `getaddr` and
+// `get_port`, and not by `getversaddr`.
+const OTHER_VERSIONS: [Call; 27] = [
+    Set((9, 2, TCP), b"1.2.3.4.0.2", Unknown, true),
+    Set((9, 5, TCP), b"1.2.3.4.0.5", Unknown, true),
+    Set((9, 3, TCP), b"1.2.3.4.0.3", Unknown, true),
+    Set((9, 7, UDP), b"1.2.3.4.0.7", Unknown, true),
+    Set((8, 9, TCP), b"1.2.3.4.0.9", Unknown, true),
+    Address((9, 3, TCP), b"1.2.3.4.0.3"),
+    Address((9, 4, TCP), b"1.2.3.4.0.5"),
+    Address((9, 0, TCP), b"1.2.3.4.0.5"),
+    Address((9, 4294967295, TCP), b"1.2.3.4.0.5"),
+    Address((9, 7, TCP), b"1.2.3.4.0.5"),
+    Address((9, 5, UDP), b"1.2.3.4.0.7"),
+    Address((10, 5, TCP), b""),
+    Address((9, 5, b"tcp6"), b""),
+    Address((9, 5, b""), b""),
+    VersionAddress((9, 3, TCP), b"1.2.3.4.0.3"),
+    VersionAddress((9, 4, TCP), b""),
+    VersionAddress((9, 7, TCP), b""),
+    Port((9, 3, 6), 3),
+    Port((9, 4, 6), 5),
+    Port((9, 1, 17), 7),
+    Port((9, 1, 5), 0),
+    Unset((9, 5, TCP), Unknown, true),
+    Address((9, 5, TCP), b"1.2.3.4.0.3"),
+    Port((9, 5, 6), 3),
+    Set((9, 6, TCP), b"localhost", Unknown, true),
+    Address((9, 5, TCP), b"localhost"),
+    Port((9, 5, 6), 0),
+];
+
 // Of the rows over `tcp` and `udp`, `dump_ports` gives those at an IPv4 address.
 const ADDRESSES: [Call; 12] = [
     Set((9, 1, b"tcp6"), b"::1.8.1", Unknown, true),
@@ -213,7 +246,7 @@ const PORT_0: [Call; 3] = [
 ];
 
 // The port at which a registry is started, and the calls on it.
-const TABLES: [(u16, &[Call]); 12] = [
+const TABLES: [(u16, &[Call]); 13] = [
     (111, &OWN_FOUND),
     (111, &OWN_DUMPS),
     (111, &LENGTHS),
@@ -222,6 +255,7 @@ const TABLES: [(u16, &[Call]); 12] = [
     (111, &UNSET_PORTS),
     (111, &OWNERS),
     (111, &VERSIONS),
+    (111, &OTHER_VERSIONS),
     (111, &ADDRESSES),
     (2049, &OTHER_PORT),
     (65535, &GREATEST_PORT),

@@ -1,5 +1,5 @@
 use Rattle.std.proofs.Common.{◌≡◌, ◌++◌, List, ℕ, arith, ap, ◌∙◌}
-use Rattle.rpc_rows.specs.Steps.{getaddr}
+use Rattle.rpc_rows.specs.LookUp.{getaddr}
 use Rattle.rpc_answer.specs.Private.Parsed.{text}
 use Rattle.rpc_answer.specs.Private.Pushes.{head}
 use Rattle.rpc_answer.specs.Views.{netid_of}

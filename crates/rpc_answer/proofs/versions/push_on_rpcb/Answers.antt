@@ -1,4 +1,4 @@
-use Rattle.std.proofs.Common.{refl, arith}
+use Rattle.std.proofs.Common.{◌≡◌, refl, arith}
 use Rattle.rpc_message.specs.View.{lent_call_view}
 use Rattle.rpc_answer.specs.Owners.{owner_text}
 use Rattle.rpc_answer.specs.Procedures.{set_3, unset_3, getaddr_3, procedures_3}
@@ -16,6 +16,7 @@ returns-in-1-clause-ok g c =
     (owner_text c.args.owner) call _ _ r.prog r.vers r.netid.now r.address.now c.requires.arguments.owner
     c.requires.arguments.are _
     (called_3 call set_3 c.requires.prog c.requires.least_vers c.requires.greatest_vers
+    (λ (e : call.proc ≡ 9). absurd (omega (arith, e, c.in-1.is)))
     (nth procedures_3 call.proc 1 set_3 c.in-1.is refl)))
     c.push_set.ensures.ok
 
@@ -28,6 +29,7 @@ returns-in-2-clause-ok g c =
     (owner_text c.args.owner) call _ _ r.prog r.vers r.netid.now r.address.now c.requires.arguments.owner
     c.requires.arguments.are _
     (called_3 call unset_3 c.requires.prog c.requires.least_vers c.requires.greatest_vers
+    (λ (e : call.proc ≡ 9). absurd (omega (arith, e, c.in-2.is)))
     (nth procedures_3 call.proc 2 unset_3 c.in-2.is refl)))
     c.push_unset.ensures.ok
 
@@ -40,5 +42,6 @@ returns-in_default-clause-ok g c =
     (owner_text c.args.owner) call _ _ r.prog r.vers r.netid.now r.address.now c.requires.arguments.owner
     c.requires.arguments.are
     (called_3 call getaddr_3 c.requires.prog c.requires.least_vers c.requires.greatest_vers
+    (λ (f : call.proc ≡ 9). absurd (omega (arith, f, c.requires.greatest)))
     (nth procedures_3 call.proc 3 getaddr_3 (omega arith) refl)) e c.push_address.ensures.few)
     c.push_address.ensures.ok
