@@ -1,2 +1,4 @@
+pub mod Heads
 pub mod Joined
+pub mod Parts
 pub mod Stepping

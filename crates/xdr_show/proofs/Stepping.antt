@@ -1,25 +1,25 @@
 -- One more level, digit, item or part.
-use Rattle.std.proofs.Common.{◌≡◌, ℕ, ◌+◌, ◌*◌, ◌≤◌, ◌<◌, List, [], ◌∷◌, ◌++◌, length, drop, get_or, replicate, refl}
+use Rattle.std.proofs.Common.{◌≡◌, ℕ, ◌+◌, ◌-◌, ◌≤◌, List, [], ◌∷◌, ◌++◌, replicate, refl}
 use Rattle.std.proofs.Common.{ap, sym, ◌∙◌, arith, append_assoc}
-use Rattle.std.proofs.lemmas.List.{at_drop_more, replicate-append-replicate}
+use Rattle.std.proofs.lemmas.List.{replicate-append-replicate}
 use Rattle.hex.specs.Hex.{encode_lower, encode_with}
 use Rattle.xdr_types.specs.Kinds.{KindView, Part}
 use Rattle.xdr_types.specs.Tree.{Tree, Values, node, depth_of}
 use Rattle.xdr_show.specs.Lines.{lines, value_lines}
 
--- one level more is two spaces more
-pub spaces-next : (n : ℕ) → ◌++◌ {A = ℕ} (replicate (2 * n) 32) (32 ∷ 32 ∷ []) ≡ replicate (2 * (n + 1)) 32
-spaces-next n = let more : 2 * n + 2 ≡ 2 * (n + 1) = omega arith in replicate-append-replicate {A = ℕ} (2 * n) 2 32
-    ∙ ap (λ (k : ℕ). replicate {A = ℕ} k 32) more
+-- so many spaces, and then so many more
+pub spaces-more : (m n : ℕ) → n ≤ m → ◌++◌ {A = ℕ} (replicate n 32) (replicate (m - n) 32) ≡ replicate m 32
+spaces-more m n few =
+    let all : n + (m - n) ≡ m = omega (arith, few) in
+    replicate-append-replicate {A = ℕ} n (m - n) 32 ∙ ap (λ (k : ℕ). replicate {A = ℕ} k 32) all
 
--- the first of bytes in hexadecimal, and the rest
-pub encode-cons : (b : ℕ) (bs : List ℕ) → encode_lower (b ∷ bs) ≡ encode_lower (b ∷ []) ++ encode_lower bs
+-- bytes that join are joined in hexadecimal
+pub encode-append : (xs ys : List ℕ) → encode_lower (xs ++ ys) ≡ encode_lower xs ++ encode_lower ys
 unfolding encode_with
-encode-cons b bs = refl
-
-pub encode-at : (bs : List ℕ) (i d : ℕ) → i < length bs
-    → encode_lower (drop i bs) ≡ encode_lower (get_or bs i d ∷ []) ++ encode_lower (drop (i + 1) bs)
-encode-at bs i d h = at_drop_more encode_lower bs i d h ∙ encode-cons (get_or bs i d) (drop (i + 1) bs)
+encode-append [] ys = refl
+encode-append (x ∷ xs) ys =
+    ap (λ (l : List ℕ). encode_lower (x ∷ []) ++ l) (encode-append xs ys)
+    ∙ sym (append_assoc (encode_lower (x ∷ [])) (encode_lower xs) (encode_lower ys))
 
 -- one more of the values is written
 pub lines-step : (kinds : List KindView) (depth : ℕ) (p : Part) (ps qs : List Part) (t : Tree) (vs ws : Values)

@@ -3,6 +3,7 @@ ghost use Rattle.std.specs.Prelude.{◌≡◌, ◌≤◌, ◌++◌, [], ◌∷�
 ghost use Rattle.hex.specs.Hex.{encode_lower};
 ghost use Rattle.xdr_show.specs.Line.{escaped, is_plain, quoted};
 
+use hex::encode_to_slice;
 use xdr_types::NoMemory;
 
 // The digits of hexadecimal.
@@ -80,11 +81,20 @@ pub fn push_hexadecimal(out: &mut Vec<u8>, bytes: &[u8]) -> Result<(), NoMemory>
     push_pairs(out, bytes)
 }
 
+// Each byte as two digits of hexadecimal.
 fn push_pairs(out: &mut Vec<u8>, bytes: &[u8]) -> Result<(), NoMemory>
     ensures { OnOk result (out.new.items ≡ out.old.items ++ encode_lower bytes.now) }
 {
-    for byte in bytes {
-        push_pair(out, *byte)?;
+    let mut digits = [0u8; 64];
+    let mut rest = bytes;
+    while !rest.is_empty() {
+        let (run, behind) = rest.split_at(rest.len().min(32));
+        let pairs = &mut digits[..2 * run.len()];
+        let Ok(()) = encode_to_slice(run, pairs) else {
+            unreachable!();
+        };
+        out.extend_from_slice(pairs)?;
+        rest = behind;
     }
     Ok(())
 }

@@ -2,11 +2,15 @@
 #![tactic(auto)]
 
 mod content;
+mod head;
 mod laws;
+mod lent;
 mod line;
 mod number;
+mod reading;
 mod shown;
 
 pub use content::push_escaped_bytes;
 pub use laws::lines_are_of_the_layout;
+pub use lent::show_parts;
 pub use shown::show;

@@ -2,13 +2,17 @@
 ghost use Rattle.std.specs.Prelude.{◌≡◌, ◌≤◌, ◌++◌, OnOk, true};
 ghost use Rattle.xdr_types.specs.KindViews.{kind_view};
 ghost use Rattle.xdr_types.specs.Fits.{is_legal};
-ghost use Rattle.xdr_types.specs.View.{tree};
 ghost use Rattle.xdr_show.specs.Line.{indent, label, line_text};
 ghost use Rattle.xdr_show.specs.Lines.{node_text};
+ghost use Rattle.xdr_show.specs.Private.Heads.{head_view};
 
 use crate::content::{push_hexadecimal, push_quoted};
+use crate::head::Head;
 use crate::number::{push_case, push_count, push_flag, push_numbered, push_signed, push_unsigned};
-use xdr_types::{Kind, NoMemory, Schema, Value};
+use xdr_types::{Kind, NoMemory, Schema};
+
+// Spaces that go in at once.
+const SPACES: [u8; 64] = [b' '; 64];
 
 /// The line of a node.
 pub fn push_line(
@@ -17,15 +21,15 @@ pub fn push_line(
     name: &[u8],
     kind: &Kind,
     depth: u32,
-    value: &Value,
+    head: Head,
 ) -> Result<(), NoMemory>
-    requires { is_legal schema.now.kinds (kind_view kind.now) (tree value.now).0 ≡ true }
+    requires { is_legal schema.now.kinds (kind_view kind.now) (head_view head) ≡ true }
     ensures { OnOk result (out.new.items ≡ out.old.items
-        ++ line_text depth name.now (node_text schema.now.kinds (kind_view kind.now) (tree value.now).0)) }
+        ++ line_text depth name.now (node_text schema.now.kinds (kind_view kind.now) (head_view head.entry))) }
 {
     push_indent(out, depth)?;
     push_label(out, name)?;
-    push_text(out, schema, kind, value)?;
+    push_text(out, schema, kind, head)?;
     out.extend_from_slice(b"\n")?;
     Ok(())
 }
@@ -34,9 +38,12 @@ pub fn push_line(
 fn push_indent(out: &mut Vec<u8>, depth: u32) -> Result<(), NoMemory>
     ensures { OnOk result (out.new.items ≡ out.old.items ++ indent depth) }
 {
-    for _level in 0..depth.saturating_sub(1) {
-        out.extend_from_slice(b"  ")?;
+    let mut left = 2 * depth.saturating_sub(1) as usize;
+    while left > SPACES.len() {
+        out.extend_from_slice(&SPACES)?;
+        left -= SPACES.len();
     }
+    out.extend_from_slice(&SPACES[..left])?;
     Ok(())
 }
 
@@ -53,45 +60,42 @@ fn push_label(out: &mut Vec<u8>, name: &[u8]) -> Result<(), NoMemory>
 }
 
 // What the line of a node says.
-fn push_text(out: &mut Vec<u8>, schema: &Schema, kind: &Kind, value: &Value) -> Result<(), NoMemory>
-    requires { is_legal schema.now.kinds (kind_view kind.now) (tree value.now).0 ≡ true }
+fn push_text(out: &mut Vec<u8>, schema: &Schema, kind: &Kind, head: Head) -> Result<(), NoMemory>
+    requires { is_legal schema.now.kinds (kind_view kind.now) (head_view head) ≡ true }
     ensures { OnOk result (out.new.items ≡ out.old.items
-        ++ node_text schema.now.kinds (kind_view kind.now) (tree value.now).0) }
+        ++ node_text schema.now.kinds (kind_view kind.now) (head_view head.entry)) }
 {
-    match (kind, value) {
-        (_, Value::Int(n)) => push_signed(out, i64::from(*n)),
-        (_, Value::Unsigned(n)) => push_unsigned(out, u64::from(*n)),
-        (_, Value::Hyper(n)) => push_signed(out, *n),
-        (_, Value::UnsignedHyper(n)) => push_unsigned(out, *n),
-        (_, Value::Bool(b)) => push_flag(out, *b),
-        (Kind::Numbered { members }, Value::Numbered(n)) => push_numbered(
+    match (kind, head) {
+        (_, Head::Int(n)) => push_signed(out, i64::from(n)),
+        (_, Head::Unsigned(n)) => push_unsigned(out, u64::from(n)),
+        (_, Head::Hyper(n)) => push_signed(out, n),
+        (_, Head::UnsignedHyper(n)) => push_unsigned(out, n),
+        (_, Head::Bool(b)) => push_flag(out, b),
+        (Kind::Numbered { members }, Head::Numbered(n)) => push_numbered(
             out,
             members,
-            i64::from(*n),
+            i64::from(n),
         ),
-        (Kind::Text { max: _ }, Value::Bytes(bytes)) => push_quoted(out, bytes),
-        (_, Value::Bytes(bytes)) => push_hexadecimal(out, bytes),
-        (Kind::Fixed { item: _, size }, Value::List(_)) => push_count(
+        (Kind::Text { max: _ }, Head::Bytes(bytes)) => push_quoted(out, bytes),
+        (_, Head::Bytes(bytes)) => push_hexadecimal(out, bytes),
+        (Kind::Fixed { item: _, size }, Head::Items(_)) => push_count(
             out,
             b"array of ",
             u64::from(*size),
         ),
-        (_, Value::List(items)) => push_count(out, b"list of ", items.len() as u64),
-        (_, Value::Group(_)) => Ok(out.extend_from_slice(b"struct")?),
+        (_, Head::Items(count)) => push_count(out, b"list of ", count),
+        (_, Head::Fields) => Ok(out.extend_from_slice(b"struct")?),
         (
             Kind::Choice {
                 tag,
                 arms: _,
                 other: _,
             },
-            Value::Choice {
-                tag: number,
-                part: _,
-            },
-        ) => push_case(out, schema, *tag, *number),
-        (_, Value::Maybe(None)) => Ok(out.extend_from_slice(b"absent")?),
-        (_, Value::Maybe(Some(_))) => Ok(out.extend_from_slice(b"present")?),
-        (_, Value::Nothing) => Ok(out.extend_from_slice(b"void")?),
+            Head::Tag(number),
+        ) => push_case(out, schema, *tag, number),
+        (_, Head::Absent) => Ok(out.extend_from_slice(b"absent")?),
+        (_, Head::Present) => Ok(out.extend_from_slice(b"present")?),
+        (_, Head::Nothing) => Ok(out.extend_from_slice(b"void")?),
         _ => Ok(()),
     }
 }

@@ -8,6 +8,7 @@ ghost use Rattle.xdr_types.specs.Within.{FitsWithin};
 ghost use Rattle.xdr_show.specs.Lines.{lines, value_lines};
 ghost use Rattle.xdr_show.specs.Shown.{show_text};
 
+use crate::head::head_of_value;
 use crate::line::push_line;
 use std::alloc::Global;
 use xdr_types::{Kind, KindId, Limits, Member, NoMemory, Schema, Value, part_under};
@@ -53,7 +54,7 @@ fn push_value(
         ++ value_lines schema.now.kinds depth (record { name = name.now; kind = id.place }) (tree value.now)) }
 {
     let kind = schema.kind(id);
-    push_line(out, schema, name, kind, depth, value)?;
+    push_line(out, schema, name, kind, depth, head_of_value(value))?;
     push_inner(out, schema, kind, depth + 1, value)
 }
 
