@@ -5,10 +5,12 @@ use Rattle.std.proofs.Common.{arith, replicate}
 use Rattle.std.specs.Int.{w32, w64, from_be_bytes}
 use Rattle.std.proofs.Common.{get_or, suc, rules, cond, nat_lt, negsuc, to_z}
 use Rattle.std.proofs.lemmas.Bool.{cases_lt, false≢true}
-use Rattle.std.proofs.lemmas.List.{length-append, length-take, take-append-drop}
+use Rattle.std.proofs.lemmas.List.{length-append, length-take, length-drop, take-append-drop}
+use Rattle.std.proofs.lemmas.List.{drop-drop}
+use Rattle.std.proofs.Math.Seq.{take-add}
 use Rattle.std.proofs.Common.{inl, inr}
 use Rattle.std.proofs.lemmas.Nat.{from_be_bytes-to_be_bytes_4}
-use Rattle.xdr_units.proofs.Bytes.{AreBytes-append, AreBytes-take, bytes_at}
+use Rattle.xdr_units.proofs.Bytes.{AreBytes-append, AreBytes-take, AreBytes-drop, bytes_at}
 use Rattle.xdr_types.specs.Kinds.{KindView, Part}
 use Rattle.xdr_types.specs.Tree as value
 use Rattle.xdr_types.specs.Tree.{Head}
@@ -226,3 +228,41 @@ module _ (s : List KindView) (has : EachKindHasAValue s) (known : EachPartIsKnow
 -- bytes that are taken of bytes
 pub bytes_taken : (n : ℕ) (bs : List ℕ) → ((i : ℕ) → get_or bs i 0 < 256) → are_bytes (take n bs) ≡ true
 bytes_taken n bs h = are_bytes_of (take n bs) (AreBytes-take n bs (bytes_at bs h))
+
+-- all of what is left of content and its padding at once
+pub whole_content : (s : List KindView) → EachKindHasAValue s → EachPartIsKnown s → (t : ℕ) (l : Bounds)
+    (fs : List (List Part)) (H I : Trace → Type 0) (u : List ℕ) (n : ℕ) (q : List ℕ) → length u % 4 ≡ 0
+    → are_bytes u ≡ true → n ≤ length u → length u < n + 4 → 0 < n → are_zeros (drop n u) ≡ true
+    → length q + length u ≤ l.bytes → ((a : Trace) → H a → I (content_in (extend_in (take n u) a)))
+    → Sees s t l H (Content n) fs q → Sees s t l I Next fs (q ++ u)
+whole_content s has known t l fs H I u n q units are most least some zeros room tells r =
+    let m : ℕ = length u - 4 in
+    let k : ℕ = n - m in
+    let v : List ℕ = take m u in
+    let w : List ℕ = drop m u in
+    let parts : n ≡ m + k = omega (arith, units, some, least, most) in
+    let size : length v ≡ m = omega (arith, length-take m u) in
+    let four : length w ≡ 4 = omega (arith, length-drop m u, units, some, most) in
+    let J : Trace → Type 0 = λ (b : Trace). (a : Trace) × H a × (b ≡ extend_in v a) in
+    let fits : length q + length v ≤ l.bytes = omega (arith, size, room) in
+    let more : Sees s t l J (Content (n - length v)) fs (q ++ v) =
+    many_units s has known t l fs H J v n q (omega (arith, size, units))
+    (are_bytes_of v (AreBytes-take m u (bytes_are u are))) (omega (arith, size, some, units, least)) fits
+    (λ a h. (a, h, refl)) r in
+    let here : Sees s t l J (Content k) fs (q ++ v) =
+    subst (λ (x : ℕ). Sees s t l J (Content x) fs (q ++ v)) (ap (λ (x : ℕ). n - x) size) more in
+    let last : take n u ≡ v ++ take k w = ap (λ (x : ℕ). take x u) parts ∙ take-add m k u in
+    let zero : are_zeros (drop k w) ≡ true =
+    subst (λ (x : List ℕ). are_zeros x ≡ true) (ap (λ (x : ℕ). drop x u) parts ∙ sym (drop-drop k m u)) zeros in
+    let same : (a : Trace) → extend_in (take k w) (extend_in v a) ≡ extend_in (take n u) a = λ a.
+    ap (λ (c : List ℕ). record { levels = a.levels; content = c })
+    (append_assoc a.content v (take k w) ∙ ap (λ (x : List ℕ). a.content ++ x) (sym last)) in
+    let told : (b : Trace) → J b → I (content_in (extend_in (take k w) b)) = λ b j.
+    subst (λ (x : Trace). I (content_in (extend_in (take k w) x))) (sym j.2)
+    (subst (λ (x : Trace). I (content_in x)) (sym (same j.0)) (tells j.0 j.1)) in
+    let full : length (q ++ v) ≡ l.bytes → ⊥ = λ e. omega (arith, e, length-append q v, size, room, units, some, most) in
+    let end : Sees s t l I Next fs ((q ++ v) ++ w) =
+    last_content s has known t l J I fs (q ++ v) w four (are_bytes_of w (AreBytes-drop m u (bytes_are u are))) full k
+    (omega (arith, parts, least, units)) (omega (arith, most, parts)) zero told here in
+    subst (λ (x : List ℕ). Sees s t l I Next fs x)
+    (append_assoc q v w ∙ ap (λ (x : List ℕ). q ++ x) (take-append-drop m u)) end

@@ -17,7 +17,7 @@ use crate::frame::Frame;
 use crate::machine::{Awaits, Trouble, settle};
 use crate::reader::{Progress, Reader, State};
 use crate::run::{Run, hypers_due, run_due};
-use crate::unit::take_unit;
+use crate::unit::{are_zeros, end_content, take_unit};
 
 /// How many bytes of whole units are there: within what is left to read, the piece and the limit.
 pub fn units_there(left: usize, there: usize, room: usize) -> usize
@@ -39,6 +39,24 @@ fn hypers_there(left: usize, there: usize, room: usize) -> usize
 {
     let most = left.min(there).min(room.saturating_sub(1));
     most - most % 8
+}
+
+// How many bytes some bytes of content take with their padding, where these are there, and the limit is not reached
+// before their end; else 0.
+#[inline(always)]
+fn whole_there(size: u32, there: usize, room: usize) -> usize
+    ensures units { result % 4 ≡ 0 }
+    ensures size { 0 < result → (size ≤ result) × (result < size + 4) }
+    ensures there { result ≤ there }
+    ensures room { result ≤ room }
+{
+    let most = size as usize + 3;
+    let whole = most - most % 4;
+    if whole <= there && whole <= room {
+        whole
+    } else {
+        0
+    }
 }
 
 // The unit at a place.
@@ -200,8 +218,79 @@ impl<'s, B: Build + Drop> Reader<'s, B> {
                     return n;
                 }
             }
+            return self.take_part(bytes);
         }
         self.take_first(awaits, bytes)
+    }
+
+    // Takes the unit that comes first at a part, and the content behind it where all of it is there, and tells how many
+    // bytes.
+    #[inline(always)]
+    fn take_part(&mut self, bytes: &[u8]) -> usize
+        requires there { 4 ≤ length bytes.now }
+        requires awaited { IsAwaited self.old.schema.now.kinds (left_of self.old.work) Next }
+        ensures stands { (b : List ℕ) → self.old.state ≡ Reading Next → self.old.pending ≡ 0
+            → StandsFor B.tells self.old b → StandsFor B.tells self.new (b ++ take result bytes.now) }
+        ensures some { 0 < result }
+        ensures within { result ≤ length bytes.now }
+        ensures awake { IsAwake self.new.state }
+        ensures same { IsSame self.old self.new }
+    {
+        let _range = self.limits.depth();
+        self.state = State::Fresh;
+        let unit = unit_at(bytes, 0);
+        match take_unit(
+            self.schema,
+            Awaits::Next,
+            &mut self.work,
+            &mut self.parents,
+            &mut self.built,
+            &unit,
+        ) {
+            Ok(awaits) => {
+                self.read = self.read.saturating_add(4);
+                4 + self.take_whole(awaits, &bytes[4..])
+            }
+            Err(why) => {
+                self.fail(why);
+                4
+            }
+        }
+    }
+
+    // Takes content that comes next where all of it and its padding are there, and begins what comes next; tells how
+    // many bytes.
+    #[inline(always)]
+    fn take_whole(&mut self, awaits: Awaits, bytes: &[u8]) -> usize
+        ensures stands { (q : List ℕ) → length q ≡ self.old.read → self.old.pending ≡ 0 → IsLive awaits
+            → Sees self.old.schema.now.kinds self.old.kind.place self.old.limits (B.tells self.old.built) awaits
+            (stack_of self.old.work self.old.parents.items) q
+            → StandsFor B.tells self.new (q ++ take result bytes.now) }
+        ensures within { result ≤ length bytes.now }
+        ensures awake { IsAwake self.new.state }
+        ensures same { IsSame self.old self.new }
+    {
+        let _known = self.schema.len();
+        let _range = self.limits.depth();
+        if let Awaits::Content(size) = awaits {
+            let room = (self.limits.bytes() as usize).saturating_sub(self.read);
+            let n = whole_there(size, bytes.len(), room);
+            if n > 0 && are_zeros(&bytes[size as usize..n]) {
+                match end_content(&mut self.built, &bytes[..size as usize]) {
+                    Ok(()) => {
+                        self.read = self.read.saturating_add(n);
+                        self.settle(Awaits::Next);
+                        return n;
+                    }
+                    Err(_) => {
+                        self.fail(Reason::NoMemory);
+                        return n;
+                    }
+                }
+            }
+        }
+        self.settle(awaits);
+        0
     }
 
     // Takes the unit that comes first, or all hyper integers of an array where one begins with it, and tells how many

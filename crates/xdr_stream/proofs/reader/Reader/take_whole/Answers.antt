@@ -1,0 +1,52 @@
+use Rattle.std.proofs.Common.{◌≡◌, ◌+◌, ◌-◌, ◌<◌, ◌≤◌, ◌%◌, ℕ, List, ◌++◌, length, take, drop, subst, sym, ap, ◌∙◌, true}
+use Rattle.std.proofs.Common.{append_assoc, append-nil, arith, rules}
+use Rattle.std.proofs.lemmas.List.{length-append, length-take, drop-take, take-take}
+use Rattle.xdr_types.specs.Fits.{are_bytes}
+use Rattle.xdr_stream.specs.Frames.{stack_of}
+use Rattle.xdr_stream.specs.Trace.{Trace, HasRoom, content_in, extend_in}
+use Rattle.xdr_stream.specs.Sees.{Sees, are_zeros}
+use Rattle.xdr_stream.specs.declared.machine.Awaits.TheVariants.{Next, Content}
+use Rattle.xdr_stream.proofs.Built.{With, seen_room}
+use Rattle.xdr_stream.proofs.Units.{whole_content, bytes_taken}
+use Rattle.xdr_stream.proofs.reader.Reader.take_whole.Goals as goal
+
+pub returns-in-Ok-clause-stands : goal.returns-in-Ok-clause-stands
+returns-in-Ok-clause-stands g c = λ q len none live h.
+    let a = c.args.self.now in
+    let H : Trace → Type 0 = g.B.Build.tells a.built in
+    let I : Trace → Type 0 = g.B.Build.tells c.end_content.new.built in
+    let size : ℕ = c.in-Content.size in
+    let n : ℕ = c.whole_there-n.result in
+    let e = c.whole_there-n.ensures in
+    let u : List ℕ = take n c.args.bytes.now in
+    let some : 0 < n = omega (arith, c.if-n-gt0.true) in
+    let fits = e.size some in
+    let many : length u ≡ n = omega (arith, length-take n c.args.bytes.now, e.there) in
+    let units : length u % 4 ≡ 0 = omega (arith, many, e.units) in
+    let are : are_bytes u ≡ true = bytes_taken n c.args.bytes.now (λ i. omega (arith, c.type_inv.bytes i)) in
+    let gap : n ≡ size + (n - size) = omega (arith, fits.0) in
+    let zeros : are_zeros (drop size u) ≡ true =
+    ap (λ (k : ℕ). are_zeros (drop size (take k c.args.bytes.now))) gap
+    ∙ ap (λ (x : List ℕ). are_zeros x) (drop-take size (n - size) c.args.bytes.now)
+    ∙ sym c.are_zeros.ensures ∙ c.if-are_zeros.true in
+    let first : take size u ≡ take size c.args.bytes.now = take-take size n c.args.bytes.now fits.0 in
+    let room : length q + length u ≤ a.limits.bytes = omega (arith, many, e.room, len, some) in
+    let told : (x : Trace) → With H HasRoom x → I (content_in (extend_in (take size u) x)) = λ x w.
+    subst (λ (z : List ℕ). I (content_in (extend_in z x))) (sym first) (c.in-Ok.ensures x w.0 w.1) in
+    let next = whole_content a.schema.now.kinds c.len-known.ensures.valued c.len-known.ensures.known a.kind.place a.limits
+    (stack_of a.work a.parents.items) (With H HasRoom) I u size q units are (omega (arith, many, fits.0))
+    (omega (arith, many, fits.1)) (rw c.in-Content.is at live) zeros room told
+    (seen_room a.schema.now.kinds a.kind.place a.limits H (Content size)
+    (stack_of a.work a.parents.items) q tt (rw c.in-Content.is at h)) in
+    let far : length (q ++ u) ≡ c.saturating_add-self.result =
+    omega (
+      arith,
+      length-append q u,
+      many,
+      len,
+      e.room,
+      some,
+      c.depth-range.ensures.range.most_bytes,
+      c.saturating_add-self.ensures,
+    ) in
+    c.settle.ensures.stands (q ++ u) far none tt next
