@@ -1,5 +1,6 @@
-//! Calls of a registry served from memory: WORK is `null`, `getaddr` or `dump`, ROWS is 1 to 1024, and COUNT is how many
-//! reads there are, each of which brings 32 calls. An address is asked of 32 rows, which lie all over the registry.
+//! Calls of a registry served from memory: WORK is `null`, `getaddr` or `dump`, ROWS is 1 to 1024, and COUNT is how
+//! many reads there are, each of which brings 32 calls. An address is asked of 32 rows, which lie all over the
+//! registry.
 ghost use Rattle.std.specs.Prelude.{◌<◌, ◌≤◌};
 
 use crate::directory::filled;

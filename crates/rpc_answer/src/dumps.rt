@@ -34,8 +34,8 @@ pub fn push_rows<S: BuildHasher>(
     Ok(())
 }
 
-/// The words before the netid of a row: that the row is there, its program and version, and the netid's length (RFC 1833
-/// section 2.1).
+/// The words before the netid of a row: that the row is there, its program and version, and the netid's length (RFC
+/// 1833 section 2.1).
 fn row_head(prog: u32, vers: u32, length: u32) -> [u8; 16]
     ensures { result ≡ word 1 ++ (word prog ++ (word vers ++ word length)) }
 {

@@ -22,8 +22,8 @@ pub fn push_text(out: &mut Vec<u8>, content: &[u8]) -> Result<(), NoMemory>
     push_padded(out, content)
 }
 
-/// The words of an accepted reply up to its number, `accept_stat`. Its verifier is AUTH_NONE with an empty body (RFC 5531
-/// section 9).
+/// The words of an accepted reply up to its number, `accept_stat`. Its verifier is AUTH_NONE with an empty body (RFC
+/// 5531 section 9).
 fn accepted_head(xid: u32, stat: u32) -> [u8; 24]
     ensures { result ≡ head xid stat }
 {

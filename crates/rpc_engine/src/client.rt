@@ -156,8 +156,8 @@ fn receive<R: Source>(alloc: Global, reader: &mut R, xid: u32) -> Result<Reply, 
 /// Writes the call as one last fragment, and reads the first record, of at most 16777216 bytes, as its reply (RFC 5531
 /// sections 9 and 11). The call's credential and verifier have bodies of at most 400 bytes, and the call has at most
 /// 2147483647. What follows the first record in the last read is dropped. After `Write` the first `written` bytes of
-/// the call's record went out, and after `NoMemory` all of it or nothing. After any answer but `Read` no read failed. An
-/// input that ends before its first byte is `Truncated` at 0.
+/// the call's record went out, and after `NoMemory` all of it or nothing. After any answer but `Read` no read failed.
+/// An input that ends before its first byte is `Truncated` at 0.
 pub fn exchange<R: Source, W: Sink>(
     alloc: Global,
     reader: &mut R,

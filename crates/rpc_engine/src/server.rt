@@ -94,8 +94,8 @@ fn answer_piece<W: Sink, S: BuildHasher>(
 /// refused gets the reply SYSTEM_ERR, and the rows stay. After `Record`, `Read`, `TooManyReads`, which comes where
 /// 1048576 reads did not reach the end, and `NoMemory`, which comes where a record could not be kept, the records
 /// before were answered. After `Write` the first `written` bytes of the output went out, of which the last are some of
-/// the reply to the record being answered, and the rows are those after that record. After any answer but `Read` no read
-/// failed.
+/// the reply to the record being answered, and the rows are those after that record. After any answer but `Read` no
+/// read failed.
 pub fn serve<R: Source, W: Sink, S: BuildHasher>(
     alloc: Global,
     reader: &mut R,

@@ -22,8 +22,8 @@ StandsFor c b = stream.Checks c.reader b
 abbrev pub HasOutcome : Checker → (b piece : List ℕ) → Result Progress DecodeFault → Type 0
 HasOutcome c b piece r = told.Answers c.reader.schema.now.kinds c.reader.kind.place c.reader.limits b piece r
 
--- the answer to the end of the bytes b is their outcome: the count of the value that is whole, a fault of this reason at
--- this place, and cut short at their count where it is pending
+-- the answer to the end of the bytes b is their outcome: the count of the value that is whole, a fault of this reason
+-- at this place, and cut short at their count where it is pending
 abbrev pub CountsIn : Checker → (b : List ℕ) → Result ℕ DecodeFault → Type 0
 CountsIn c b r = Counts c.reader.schema.now.kinds c.reader.kind.place c.reader.limits b r
 

@@ -47,8 +47,8 @@ impl<'s> Checker<'s> {
         self.reader.feed(piece)
     }
 
-    /// How much is held, as `Decoder::held` counts it: no node and no byte of content. After a fault nothing is. It takes
-    /// no memory.
+    /// How much is held, as `Decoder::held` counts it: no node and no byte of content. After a fault nothing is. It
+    /// takes no memory.
     pub fn held(&self) -> Held
         ensures counts { CountsFields self.now result }
         ensures bounds { (b : List ℕ) → StandsFor self.now b → IsHeldWithin self.now b result }

@@ -63,8 +63,8 @@ impl<'s> Decoder<'s> {
     /// each as soon as it is due, so that a decoder that was given no byte has one; `bytes` those of content; `pending`
     /// those of an unfinished unit. Whatever lengths the bytes declare, `frames` is at most one more than the limit on
     /// depth, `nodes` at most (kinds + 1) times (u + 1) after u whole units, `bytes` at most the bytes given, `pending`
-    /// at most 3 (RFC 4506 section 3). After `Done` `nodes` and `bytes` are the value's, `frames` and `pending` 0. After
-    /// a fault nothing is held.
+    /// at most 3 (RFC 4506 section 3). After `Done` `nodes` and `bytes` are the value's, `frames` and `pending` 0.
+    /// After a fault nothing is held.
     pub fn held(&self) -> Held
         ensures counts { (b : List ℕ) → StandsFor self.now b → CountsFields self.now result }
         ensures bounds { (b : List ℕ) → StandsFor self.now b → IsHeldWithin self.now b result }

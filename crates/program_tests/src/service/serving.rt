@@ -65,8 +65,8 @@ connection 10: 1 records, 1 replies
 connection 11: 1 records, 1 replies
 ";
 
-// Whether serving so many of these clients, where this write to the output fails, ends with this status, output and line
-// about faults.
+// Whether serving so many of these clients, where this write to the output fails, ends with this status, output and
+// line about faults.
 fn ends(
     alloc: Global,
     clients: &'static [Client],

@@ -12,8 +12,8 @@ use std::test::Fail;
 /// An accepted reply to xid 1, up to the results of a SUCCESS.
 const SUCCESS: Part = Digits("000000010000000100000000000000000000000000000000");
 
-/// The registry's own rows at port 111 and 1021 rows over `tcp` at one address, of user `unknown`: program 0 to 1020, in
-/// version 1.
+/// The registry's own rows at port 111 and 1021 rows over `tcp` at one address, of user `unknown`: program 0 to 1020,
+/// in version 1.
 fn full(alloc: Global, address: &[u8]) -> Option<Registry> {
     let mut directory = started(alloc).ok()?;
     for prog in 0..1021 {
