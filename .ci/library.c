@@ -1,0 +1,163 @@
+/* Calls of the C library on inputs that nobody promised, with each growth of memory refused in turn.
+ *
+ * Linked with -Wl,--wrap=malloc,--wrap=realloc, so that what the library asks for is counted and can be refused. The last
+ * line is what came: whole answers, wants of memory, and answers that are wrong, of which there may be none. */
+#include <pthread.h>
+#include <stdio.h>
+#include <stdlib.h>
+#include <string.h>
+
+#include "oncrpc.h"
+
+extern void *__real_malloc(size_t);
+extern void *__real_realloc(void *, size_t);
+
+static long asked, refused_at, onward;
+static unsigned long whole, wanting, wrong;
+
+static int refuses(void) {
+    asked++;
+    return refused_at && (asked == refused_at || (onward && asked > refused_at));
+}
+
+void *__wrap_malloc(size_t count) { return refuses() ? NULL : __real_malloc(count); }
+void *__wrap_realloc(void *at, size_t count) { return refuses() ? NULL : __real_realloc(at, count); }
+
+/* After RFC 1813: what a READDIR answers, as one list. */
+static const char text[] =
+    "const NAMES = 255;\n"
+    "typedef string filename<NAMES>;\n"
+    "struct entry { unsigned hyper fileid; filename name; unsigned hyper cookie; entry *next; };\n"
+    "struct dirlist { entry *entries; bool eof; };\n"
+    "union reply switch (int status) { case 0: dirlist list; default: void; };\n";
+
+struct row { const char *name; const char *input; size_t count; uint32_t status, why; size_t at; };
+
+#define ENTRY "\0\0\0\1\0\0\0\0\0\0\0\2\0\0\0\3abc\0\0\0\0\0\0\0\0\3"
+static const struct row rows[] = {
+    {"reply", "\0\0\0\0" ENTRY ENTRY "\0\0\0\0\0\0\0\1", 68, ONCRPC_OK, 0, 68},
+    {"reply", "\0\0\0\5" ENTRY, 32, ONCRPC_MORE_FOLLOWS, 0, 4},
+    {"reply", "\0\0\0\0" ENTRY "\0\0\0\2", 36, ONCRPC_REFUSED, ONCRPC_BAD_BOOL, 32},
+    {"reply", "\0\0\0\0\0\0\0\1\0\0\0\0\0\0\0\2\0\0\1\0", 20, ONCRPC_REFUSED, ONCRPC_TOO_LONG, 16},
+    {"filename", "\0\0\0\1ab\0\0", 8, ONCRPC_REFUSED, ONCRPC_BAD_PADDING, 4},
+    {"filename", "\0\0\0\377", 4, ONCRPC_REFUSED, ONCRPC_TRUNCATED, 4},
+    {"opaque", "\377\377\377\377", 4, ONCRPC_REFUSED, ONCRPC_TRUNCATED, 4},
+    {"folder", "", 0, ONCRPC_NO_KIND, 0, 0},
+    {"\377", "", 0, ONCRPC_NO_KIND, 0, 0},
+};
+
+static void judge(int is_right, uint32_t status) {
+    if (status == ONCRPC_NO_MEMORY && refused_at) {
+        wanting++;
+    } else if (is_right) {
+        whole++;
+    } else {
+        wrong++;
+        printf("wrong: status %u with growth %ld refused\n", status, refused_at);
+    }
+}
+
+static int tells(const oncrpc_outcome *outcome, size_t at, uint32_t why) {
+    return outcome->at == at && outcome->why == why && !outcome->line && !outcome->column && !outcome->inner;
+}
+
+static void check_held(oncrpc_declarations *held, const struct row *row) {
+    oncrpc_outcome outcome = {9, 9, 9, 9, 9};
+    uint32_t status = oncrpc_declarations_check(held, (const uint8_t *)row->name, strlen(row->name), ONCRPC_MOST_DEPTH,
+        ONCRPC_MOST_BYTES, (const uint8_t *)row->input, row->count, &outcome);
+    judge(status == row->status && tells(&outcome, row->at, row->why), status);
+}
+
+static void check_by_text(const struct row *row) {
+    oncrpc_outcome outcome = {9, 9, 9, 9, 9};
+    uint32_t status = oncrpc_check((const uint8_t *)text, sizeof text - 1, (const uint8_t *)row->name, strlen(row->name),
+        ONCRPC_MOST_DEPTH, ONCRPC_MOST_BYTES, (const uint8_t *)row->input, row->count, &outcome);
+    judge(status == row->status && tells(&outcome, row->at, row->why), status);
+}
+
+static void check_text(void) {
+    static const char *texts[] = {"struct", "struct a { a b; };", "const A = 1; const A = 2;", "\377", "/*"};
+    static const uint32_t faults[] = {ONCRPC_UNEXPECTED, ONCRPC_BAD_SCHEMA, ONCRPC_NAME_TWICE, ONCRPC_BAD_CHARACTER,
+        ONCRPC_BAD_CHARACTER};
+    for (size_t i = 0; i < sizeof texts / sizeof *texts; i++) {
+        oncrpc_declarations held = {0};
+        oncrpc_outcome outcome;
+        uint32_t status = oncrpc_declarations_read((const uint8_t *)texts[i], strlen(texts[i]), &held, &outcome);
+        judge(status == ONCRPC_UNDECLARED && outcome.why == faults[i] && !outcome.at && outcome.line && outcome.column,
+            status);
+        oncrpc_declarations_free(&held);
+    }
+}
+
+static void check_records(void) {
+    static const uint8_t input[] = {0, 0, 0, 1, 'a', 0x80, 0, 0, 2, 'b', 'c', 0x80, 0, 0, 0};
+    static const uint8_t form[] = {0x80, 0, 0, 3, 'a', 'b', 'c', 0x80, 0, 0, 0, '.'};
+    uint8_t room[12];
+    size_t written = 9;
+    oncrpc_outcome outcome;
+    memset(room, '.', sizeof room);
+    uint32_t status = oncrpc_normalise(input, sizeof input, 3, room, sizeof room, &written, &outcome);
+    judge(status == ONCRPC_OK && tells(&outcome, 11, 0) && written == 11 && !memcmp(room, form, 12), status);
+    status = oncrpc_normalise(input, 14, 3, room, sizeof room, &written, &outcome);
+    judge(status == ONCRPC_REFUSED && tells(&outcome, 14, ONCRPC_TRUNCATED) && written == 7, status);
+    status = oncrpc_normalise(input, sizeof input, 2, room, sizeof room, &written, &outcome);
+    judge(status == ONCRPC_REFUSED && tells(&outcome, 5, ONCRPC_TOO_LONG) && written == 0, status);
+    status = oncrpc_normalise(input, sizeof input, 3, room, 10, &written, &outcome);
+    judge(status == ONCRPC_NO_ROOM && tells(&outcome, 11, 0) && written == 0, status);
+    status = oncrpc_normalise(input, sizeof input, ONCRPC_MOST_RECORD + 1, room, 10, &written, &outcome);
+    judge(status == ONCRPC_BAD_LIMITS && tells(&outcome, 0, 0) && written == 0, status);
+}
+
+/* Reads, checks and frees, each twice over. Says whether no growth was left to refuse. */
+static int round_of(long at, int all_later) {
+    oncrpc_declarations held = {0};
+    oncrpc_outcome outcome;
+    asked = 0, refused_at = at, onward = all_later;
+    for (int again = 0; again < 2; again++) {
+        uint32_t status = oncrpc_declarations_read((const uint8_t *)text, sizeof text - 1, &held, &outcome);
+        judge(status == ONCRPC_OK && tells(&outcome, 0, 0), status);
+        for (size_t i = 0; status == ONCRPC_OK && i < sizeof rows / sizeof *rows; i++) {
+            check_held(&held, rows + i);
+        }
+    }
+    check_by_text(rows);
+    check_by_text(rows + 3);
+    check_text();
+    check_records();
+    oncrpc_declarations_free(&held);
+    oncrpc_declarations_free(&held);
+    uint32_t status = oncrpc_declarations_check(&held, (const uint8_t *)"int", 3, 1, 4, (const uint8_t *)"", 0, &outcome);
+    judge(status == ONCRPC_NO_DECLARATIONS && tells(&outcome, 0, 0), status);
+    return asked < at;
+}
+
+/* The deepest value that a limit allows, on a stack of 64 KiB. */
+static uint8_t deepest[4096 * 4];
+
+static void *check_deepest(void *unused) {
+    static const char *deep = "struct o { o *x; };";
+    oncrpc_outcome outcome;
+    uint32_t status = oncrpc_check((const uint8_t *)deep, strlen(deep), (const uint8_t *)"o", 1, ONCRPC_MOST_DEPTH,
+        ONCRPC_MOST_BYTES, deepest, sizeof deepest, &outcome);
+    judge(status == ONCRPC_REFUSED && outcome.why == ONCRPC_TOO_DEEP, status);
+    return unused;
+}
+
+int main(void) {
+    pthread_t thread;
+    pthread_attr_t small;
+    for (size_t i = 3; i < sizeof deepest; i += 4) {
+        deepest[i] = 1;
+    }
+    if (pthread_attr_init(&small) || pthread_attr_setstacksize(&small, 65536)
+        || pthread_create(&thread, &small, check_deepest, NULL) || pthread_join(thread, NULL)) {
+        return 2;
+    }
+    round_of(0, 0);
+    for (int all_later = 0; all_later < 2; all_later++) {
+        for (long at = 1; !round_of(at, all_later); at++) {
+        }
+    }
+    printf("whole %lu, wanting %lu, wrong %lu\n", whole, wanting, wrong);
+    return wrong != 0;
+}

@@ -1,0 +1,5 @@
+pub mod Handles
+mod Judging
+mod Named
+mod Records
+pub mod Values

@@ -1,0 +1,59 @@
+-- What normalising a buffer says of all of it.
+use Rattle.std.proofs.Common.{◌≡◌, ℕ, List, [], ◌++◌, length, refl, sym, ap, ◌∙◌, subst, Option, None, Some}
+use Rattle.std.proofs.Common.{append-nil}
+use Rattle.std.specs.Io.KnownBytes.{Consumes, IsAtEnd}
+use Rattle.rpc_record.specs.declared.fault.Count.{Count}
+use Rattle.rpc_record.specs.declared.fault.RecordFault.TheVariants as fault
+use Rattle.rpc_record.specs.Marked.{Longest}
+use Rattle.rpc_record.specs.Reading.{IsWhole, IsInside, TooLongAt}
+use Rattle.rpc_record.specs.Normalised.{Normalised, Stops}
+use Rattle.rpc_record.proofs.Readers.{TooLongAt-more}
+use Rattle.rpc_record.proofs.Places.{Longest-long}
+use Rattle.xdr_stream.specs.declared.fault.Reason.TheVariants as reason
+use Rattle.oncrpc_c.specs.Normal.{IsForm}
+
+-- a source that is at its end gave all
+all_read : (input : List ℕ) (left : Option (List ℕ)) (read : List ℕ) → Consumes (Some input) left read → IsAtEnd left
+    → input ≡ read
+all_read input None read took end = absurd took
+all_read input (Some rest) read took end =
+    took ∙ ap (λ (l : List ℕ). read ++ l) end ∙ append-nil read
+
+-- what a source gave stands at the front
+front_read : (input : List ℕ) (left : Option (List ℕ)) (read : List ℕ) → Consumes (Some input) left read
+    → (rest : List ℕ) × (input ≡ read ++ rest)
+front_read input None read took = absurd took
+front_read input (Some rest) read took = (rest, took)
+
+pub form_whole : (limit : ℕ) (input form : List ℕ) (left : Option (List ℕ)) (count : Count)
+    → Normalised limit (Some input) left (Some []) (Some form) count → IsForm limit input form None
+form_whole limit input form left count n = record {
+  rs = n.rs;
+  ends = subst (λ (b : List ℕ). IsWhole limit n.rs b) (sym (all_read input left n.input n.read n.end)) n.whole;
+  marked = n.written;
+}
+
+pub form_long : (limit at : ℕ) (input form : List ℕ) (left : Option (List ℕ))
+    → Stops limit (Some input) left (Some []) (Some form) (fault.TooLong at)
+    → IsForm limit input form (Some (record { why = reason.TooLong; at = at }))
+form_long limit at input form left s =
+    let front = front_read input left s.input s.read in
+    let there : TooLongAt limit s.rs at input =
+    subst (λ (b : List ℕ). TooLongAt limit s.rs at b) (sym front.1)
+    (TooLongAt-more limit at s.rs s.input front.0 s.stopped.0) in
+    record { rs = s.rs; ends = (there, Longest-long limit at s.rs input there); marked = s.stopped.2 }
+
+pub form_cut : (limit at : ℕ) (input form : List ℕ) (left : Option (List ℕ))
+    → Stops limit (Some input) left (Some []) (Some form) (fault.Truncated at)
+    → IsForm limit input form (Some (record { why = reason.Truncated; at = length input }))
+form_cut limit at input form left s =
+    let all = all_read input left s.input s.read s.stopped.3 in
+    record {
+      rs = s.rs;
+      ends = (
+        refl,
+        subst (λ (b : List ℕ). IsInside limit s.rs b) (sym all) s.stopped.1,
+        subst (λ (b : List ℕ). Longest limit s.rs b) (sym all) s.stopped.2,
+      );
+      marked = s.stopped.4;
+    }

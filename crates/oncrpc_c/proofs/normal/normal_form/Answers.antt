@@ -1,0 +1,9 @@
+-- The source holds the input, and the sink holds nothing at first and hands out what it took.
+use Rattle.oncrpc_c.proofs.Records.{form_long}
+use Rattle.oncrpc_c.proofs.normal.normal_form.Goals as goal
+
+pub returns-in-Err-TooLong : goal.returns-in-Err-TooLong
+returns-in-Err-TooLong c =
+    let stops = rw (c.new-source.ensures.left, c.new-sink.ensures, c.in-Err-TooLong.field-0-is) at
+    c.in-Err-TooLong.ensures.fault in
+    rw c.into_bytes-in-Err-TooLong.ensures (form_long _ _ c.args.input.now _ _ stops)

@@ -1,0 +1,42 @@
+//! What is asked of bytes by declarations.
+ghost use Rattle.std.specs.Prelude.{MatchOption};
+ghost use Rattle.xdr_lang.specs.Views.{declared_of};
+ghost use Rattle.oncrpc_c.specs.Answers.{IsRight, Names, NamesNone};
+
+use super::answer::Answer;
+use super::judge::judge;
+use std::alloc::Global;
+use std::str::from_utf8;
+use xdr_lang::Declared;
+use xdr_types::{KindId, Limits};
+
+/// What the bytes are by the declarations. The name is looked at before the limits.
+pub fn answer_by(
+    alloc: Global,
+    declared: &Declared,
+    name: &[u8],
+    depth: u32,
+    bytes: u32,
+    input: &[u8],
+) -> Answer
+    ensures { IsRight (declared_of declared.now) name.now depth bytes input.now result }
+{
+    let _well_formed = declared.schema.len();
+    let Some(kind) = kind_named(declared, name) else {
+        return Answer::NoKind;
+    };
+    match Limits::new(depth, bytes) {
+        Some(limits) => judge(alloc, &declared.schema, kind, limits, input),
+        None => Answer::BadLimits,
+    }
+}
+
+fn kind_named(declared: &Declared, name: &[u8]) -> Option<KindId>
+    ensures { MatchOption result (NamesNone (declared_of declared.now) name.now)
+        (λ kind. Names (declared_of declared.now) name.now kind.place) }
+{
+    match from_utf8(name) {
+        Ok(name) => declared.kind(name),
+        Err(_) => None,
+    }
+}

@@ -1,0 +1,123 @@
+//! Declarations that are read once, and asked many times.
+ghost use Rattle.std.specs.Prelude.{◌≡◌, Some, None, option_map};
+ghost use Rattle.xdr_lang.specs.Views.{declared_of};
+ghost use Rattle.oncrpc_c.specs.Held.{IsReading, IsRightByHeld};
+ghost use Rattle.oncrpc_c.specs.Statuses.{status_of, outcome_of};
+ghost use Rattle.oncrpc_c.specs.declared.answer.Answer.{Answer as AnswerSpec};
+
+use super::answer::Answer;
+use super::asking::answer_by;
+use super::handle::Handle;
+use super::loose::Loose;
+use super::outcome::Outcome;
+use super::unread::{Unread, read_text};
+use std::alloc::Global;
+use std::mem::replace;
+use std::ptr::null_mut;
+use xdr_lang::Declared;
+
+fn nowhere() -> *mut u8 {
+    null_mut()
+}
+
+fn opened(alloc: Global, handle: Handle) -> Option<Box<Declared>>
+    ensures { option_map (λ b. b.value) result ≡ handle.declared }
+{
+    match handle.opened(alloc) {
+        Some(loose) => Some(loose.into_box()),
+        None => None,
+    }
+}
+
+/// Takes the declarations out, and leaves none.
+fn taken(alloc: Global, handle: &mut Handle) -> Option<Box<Declared>>
+    ensures taken { option_map (λ b. b.value) result ≡ handle.old.declared }
+    ensures left { handle.new.declared ≡ None }
+{
+    let at = nowhere();
+    opened(alloc, replace(handle, Handle::none(at)))
+}
+
+/// Keeps these declarations; what was held before is freed.
+fn keep(alloc: Global, handle: &mut Handle, declared: Box<Declared>)
+    ensures { handle.new.declared ≡ Some declared.value }
+{
+    let _before = opened(alloc, replace(handle, Handle::of(Loose::of(declared))));
+}
+
+/// Reads the text into the handle, which holds none where it is refused.
+fn read_into(alloc: Global, text: &[u8], handle: &mut Handle) -> Answer
+    ensures { IsReading text.now (option_map declared_of handle.new.declared) result }
+{
+    let _before = taken(alloc, handle);
+    let declared = match read_text(alloc, text) {
+        Ok(declared) => declared,
+        Err(Unread::Undeclared(fault)) => return Answer::Undeclared(fault),
+        Err(Unread::NoMemory) => return Answer::NoMemory,
+    };
+    match Box::new(alloc, declared) {
+        Ok(kept) => {
+            keep(alloc, handle, kept);
+            Answer::Whole { used: 0 }
+        }
+        Err(_) => Answer::NoMemory,
+    }
+}
+
+/// Reads a text of declarations into the handle. What that held before is freed.
+///
+/// Status 0: the handle holds what the text declares. 3: the text declares nothing; `why` is the fault's number, 1 to
+/// 12, at `line` and `column`, with `inner` for 10. 6: memory was refused. At 3 and 6 the handle holds none.
+#[unsafe(no_mangle)]
+pub extern "C" fn oncrpc_declarations_read(
+    alloc: Global,
+    text: &[u8],
+    handle: &mut Handle,
+    outcome: &mut Outcome,
+) -> u32
+    ensures { (a : AnswerSpec) × IsReading text.now (option_map declared_of handle.new.declared) a
+        × (result ≡ status_of a) × (outcome.new ≡ outcome_of a) }
+{
+    let answer = read_into(alloc, text, handle);
+    *outcome = answer.outcome();
+    answer.status()
+}
+
+/// Answers whether the input is a value of the kind with that name, by the declarations that the handle holds. They
+/// stay.
+///
+/// The statuses are those of `oncrpc_check`. In place of 3 comes 7: the handle holds no declarations.
+#[unsafe(no_mangle)]
+pub extern "C" fn oncrpc_declarations_check(
+    alloc: Global,
+    handle: &mut Handle,
+    name: &[u8],
+    depth: u32,
+    bytes: u32,
+    input: &[u8],
+    outcome: &mut Outcome,
+) -> u32
+    ensures stay { handle.new.declared ≡ handle.old.declared }
+    ensures answer { (a : AnswerSpec)
+        × IsRightByHeld (option_map declared_of handle.old.declared) name.now depth bytes input.now a
+        × (result ≡ status_of a) × (outcome.new ≡ outcome_of a) }
+{
+    let answer = match taken(alloc, handle) {
+        Some(declared) => {
+            let answer = answer_by(alloc, &declared, name, depth, bytes, input);
+            keep(alloc, handle, declared);
+            answer
+        }
+        None => Answer::NoDeclarations,
+    };
+    *outcome = answer.outcome();
+    answer.status()
+}
+
+/// Frees the declarations that the handle holds, if any. It then holds none, so that a second call does nothing.
+#[unsafe(no_mangle)]
+pub extern "C" fn oncrpc_declarations_free(alloc: Global, handle: &mut Handle)
+    ensures { handle.new.declared ≡ None }
+{
+    let _gone = taken(alloc, handle);
+}

@@ -1,0 +1,25 @@
+//! What C can call: `include/oncrpc.h` says it for who writes C.
+//!
+//! Each export answers a status, and tells the rest through what the caller lends. None wants anything but pointers
+//! that lead where their counts say.
+#![tactic(auto)]
+
+mod answer;
+mod asking;
+mod check;
+mod declarations;
+mod gathered;
+mod handle;
+mod judge;
+mod loose;
+mod normal;
+mod outcome;
+mod unread;
+
+pub use check::oncrpc_check;
+pub use declarations::{
+    oncrpc_declarations_check, oncrpc_declarations_free, oncrpc_declarations_read,
+};
+pub use handle::Handle;
+pub use normal::oncrpc_normalise;
+pub use outcome::Outcome;
