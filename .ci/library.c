@@ -1,7 +1,7 @@
 /* Calls of the C library on inputs that nobody promised, with each growth of memory refused in turn.
  *
- * Linked with -Wl,--wrap=malloc,--wrap=realloc, so that what the library asks for is counted and can be refused. The last
- * line is what came: whole answers, wants of memory, and answers that are wrong, of which there may be none. */
+ * Linked with -Wl,--wrap=malloc,--wrap=realloc, so that what the library asks for is counted and can be refused. The
+ * last line is what came: whole answers, wants of memory, and answers that are wrong, of which there may be none. */
 #include <pthread.h>
 #include <stdio.h>
 #include <stdlib.h>
@@ -70,8 +70,8 @@ static void check_held(oncrpc_declarations *held, const struct row *row) {
 
 static void check_by_text(const struct row *row) {
     oncrpc_outcome outcome = {9, 9, 9, 9, 9};
-    uint32_t status = oncrpc_check((const uint8_t *)text, sizeof text - 1, (const uint8_t *)row->name, strlen(row->name),
-        ONCRPC_MOST_DEPTH, ONCRPC_MOST_BYTES, (const uint8_t *)row->input, row->count, &outcome);
+    uint32_t status = oncrpc_check((const uint8_t *)text, sizeof text - 1, (const uint8_t *)row->name,
+        strlen(row->name), ONCRPC_MOST_DEPTH, ONCRPC_MOST_BYTES, (const uint8_t *)row->input, row->count, &outcome);
     judge(status == row->status && tells(&outcome, row->at, row->why), status);
 }
 
@@ -83,8 +83,8 @@ static void check_text(void) {
         oncrpc_declarations held = {0};
         oncrpc_outcome outcome;
         uint32_t status = oncrpc_declarations_read((const uint8_t *)texts[i], strlen(texts[i]), &held, &outcome);
-        judge(status == ONCRPC_UNDECLARED && outcome.why == faults[i] && !outcome.at && outcome.line && outcome.column,
-            status);
+        int is_told = outcome.why == faults[i] && !outcome.at && outcome.line && outcome.column;
+        judge(status == ONCRPC_UNDECLARED && is_told, status);
         oncrpc_declarations_free(&held);
     }
 }
@@ -126,17 +126,37 @@ static int round_of(long at, int all_later) {
     check_records();
     oncrpc_declarations_free(&held);
     oncrpc_declarations_free(&held);
-    uint32_t status = oncrpc_declarations_check(&held, (const uint8_t *)"int", 3, 1, 4, (const uint8_t *)"", 0, &outcome);
+    const uint8_t *none = (const uint8_t *)"";
+    uint32_t status = oncrpc_declarations_check(&held, (const uint8_t *)"int", 3, 1, 4, none, 0, &outcome);
     judge(status == ONCRPC_NO_DECLARATIONS && tells(&outcome, 0, 0), status);
     return asked < at;
 }
 
-/* The deepest value that a limit allows, on a stack of 64 KiB. */
+/* The deepest value that a limit allows, the deepest text, and a round of all calls, on a stack of 64 KiB. */
 static uint8_t deepest[4096 * 4];
+
+static void check_nested(void) {
+    char nested[512] = "struct a {";
+    oncrpc_declarations held = {0};
+    oncrpc_outcome outcome;
+    for (int i = 0; i < 31; i++) {
+        strcat(nested, "struct {");
+    }
+    strcat(nested, "int x;");
+    for (int i = 0; i < 31; i++) {
+        strcat(nested, "} x;");
+    }
+    strcat(nested, "};");
+    uint32_t status = oncrpc_declarations_read((const uint8_t *)nested, strlen(nested), &held, &outcome);
+    judge(status == ONCRPC_OK && tells(&outcome, 0, 0), status);
+    oncrpc_declarations_free(&held);
+}
 
 static void *check_deepest(void *unused) {
     static const char *deep = "struct o { o *x; };";
     oncrpc_outcome outcome;
+    check_nested();
+    round_of(0, 0);
     uint32_t status = oncrpc_check((const uint8_t *)deep, strlen(deep), (const uint8_t *)"o", 1, ONCRPC_MOST_DEPTH,
         ONCRPC_MOST_BYTES, deepest, sizeof deepest, &outcome);
     judge(status == ONCRPC_REFUSED && outcome.why == ONCRPC_TOO_DEEP, status);
@@ -153,7 +173,6 @@ int main(void) {
         || pthread_create(&thread, &small, check_deepest, NULL) || pthread_join(thread, NULL)) {
         return 2;
     }
-    round_of(0, 0);
     for (int all_later = 0; all_later < 2; all_later++) {
         for (long at = 1; !round_of(at, all_later); at++) {
         }
