@@ -1,6 +1,6 @@
 /* Reads declarations once, and tells of some inputs whether they are values of a kind that they declare.
  *
- *   cc -Iinclude examples/check.c liboncrpc.a -o check && ./check                                                      */
+ *   ./build-library library && cc -Ilibrary/include examples/check.c library/liboncrpc.a -o check && ./check */
 #include <stdio.h>
 #include <string.h>
 
