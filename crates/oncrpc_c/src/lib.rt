@@ -8,6 +8,7 @@ mod answer;
 mod asking;
 mod check;
 mod declarations;
+mod examples;
 mod gathered;
 mod handle;
 mod judge;

@@ -1,0 +1,78 @@
+-- What a status says of the answer.
+use Rattle.std.proofs.Common.{◌≡◌, ◌≢◌, ℕ, List, Option, None, Some, refl, ap, sym, ◌∙◌, subst, arith, length}
+use Rattle.xdr_lang.specs.Declarations.{Declared}
+use Rattle.oncrpc_c.specs.declared.answer.Answer.{Answer}
+use Rattle.oncrpc_c.specs.declared.answer.Answer.TheVariants as answer
+use Rattle.oncrpc_c.specs.declared.outcome.Outcome.{Outcome}
+use Rattle.oncrpc_c.specs.Answers.{IsRightByText}
+use Rattle.oncrpc_c.specs.Held.{IsReading, IsRightByHeld}
+use Rattle.oncrpc_c.specs.Normal.{IsMarked}
+use Rattle.oncrpc_c.specs.Statuses.{status_of, outcome_of, at_place}
+
+pub whole_told : (text name : List ℕ) (depth bytes : ℕ) (input : List ℕ) (a : Answer)
+    → IsRightByText text name depth bytes input a → 0 ≡ status_of a → outcome_of a ≡ at_place (length input)
+whole_told text name depth bytes input (answer.Whole used) r e = ap at_place r.2.judged.1
+whole_told text name depth bytes input (answer.Followed used) r e = absurd (omega (arith, e))
+whole_told text name depth bytes input (answer.Refused f) r e = absurd (omega (arith, e))
+whole_told text name depth bytes input (answer.Undeclared f) r e = absurd (omega (arith, e))
+whole_told text name depth bytes input answer.NoKind r e = absurd (omega (arith, e))
+whole_told text name depth bytes input answer.BadLimits r e = absurd (omega (arith, e))
+whole_told text name depth bytes input answer.NoMemory r e = absurd (omega (arith, e))
+whole_told text name depth bytes input answer.NoDeclarations r e = absurd (omega (arith, e))
+whole_told text name depth bytes input (answer.NoRoom n) r e = absurd (omega (arith, e))
+
+pub memory_told : (a : Answer) → 6 ≡ status_of a → outcome_of a ≡ at_place 0
+memory_told (answer.Whole used) e = absurd (omega (arith, e))
+memory_told (answer.Followed used) e = absurd (omega (arith, e))
+memory_told (answer.Refused f) e = absurd (omega (arith, e))
+memory_told (answer.Undeclared f) e = absurd (omega (arith, e))
+memory_told answer.NoKind e = refl
+memory_told answer.BadLimits e = refl
+memory_told answer.NoMemory e = refl
+memory_told answer.NoDeclarations e = refl
+memory_told (answer.NoRoom n) e = absurd (omega (arith, e))
+
+-- a text that was read is held
+read_holds : (text : List ℕ) (held : Option Declared) (a : Answer) → IsReading text held a → 0 ≡ status_of a
+    → (d : Declared) × (held ≡ Some d)
+read_holds text held (answer.Whole used) r e = (r.1, r.3)
+read_holds text held (answer.Followed used) r e = absurd r
+read_holds text held (answer.Refused f) r e = absurd r
+read_holds text held (answer.Undeclared f) r e = absurd (omega (arith, e))
+read_holds text held answer.NoKind r e = absurd r
+read_holds text held answer.BadLimits r e = absurd r
+read_holds text held answer.NoMemory r e = absurd (omega (arith, e))
+read_holds text held answer.NoDeclarations r e = absurd r
+read_holds text held (answer.NoRoom n) r e = absurd r
+
+held_answers : (d : Declared) (name : List ℕ) (depth bytes : ℕ) (input : List ℕ) (a : Answer)
+    → IsRightByHeld (Some d) name depth bytes input a → 7 ≡ status_of a → ⊥
+held_answers d name depth bytes input (answer.Whole used) r e = omega (arith, e)
+held_answers d name depth bytes input (answer.Followed used) r e = omega (arith, e)
+held_answers d name depth bytes input (answer.Refused f) r e = omega (arith, e)
+held_answers d name depth bytes input (answer.Undeclared f) r e = omega (arith, e)
+held_answers d name depth bytes input answer.NoKind r e = omega (arith, e)
+held_answers d name depth bytes input answer.BadLimits r e = omega (arith, e)
+held_answers d name depth bytes input answer.NoMemory r e = omega (arith, e)
+held_answers d name depth bytes input answer.NoDeclarations r e = r.judged
+held_answers d name depth bytes input (answer.NoRoom n) r e = omega (arith, e)
+
+pub held_told : (text : List ℕ) (held : Option Declared) (a : Answer) → IsReading text held a → 0 ≡ status_of a
+    → (name : List ℕ) (depth bytes : ℕ) (input : List ℕ) (b : Answer) → IsRightByHeld held name depth bytes input b
+    → 7 ≡ status_of b → ⊥
+held_told text held a read e name depth bytes input b r told =
+    let h = read_holds text held a read e in
+    held_answers h.0 name depth bytes input b
+    (subst (λ (x : Option Declared). IsRightByHeld x name depth bytes input b) h.1 r) told
+
+pub room_told : (limit : ℕ) (input old new : List ℕ) (written : ℕ) (a : Answer)
+    → IsMarked limit input old new written a → 8 ≡ status_of a → (new ≡ old) × (written ≡ 0)
+room_told limit input old new written (answer.Whole used) r e = absurd (omega (arith, e))
+room_told limit input old new written (answer.Followed used) r e = absurd r
+room_told limit input old new written (answer.Refused f) r e = absurd (omega (arith, e))
+room_told limit input old new written (answer.Undeclared f) r e = absurd r
+room_told limit input old new written answer.NoKind r e = absurd r
+room_told limit input old new written answer.BadLimits r e = r.1
+room_told limit input old new written answer.NoMemory r e = r
+room_told limit input old new written answer.NoDeclarations r e = absurd r
+room_told limit input old new written (answer.NoRoom n) r e = r.1
