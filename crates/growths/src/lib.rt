@@ -18,6 +18,12 @@ pub fn refuse(alloc: Global, rt: &impl Env, number: u64) -> Result<bool, AllocEr
     Ok(asked(rt, name.as_str()).is_some())
 }
 
+/// Refuses the growth with this number, counted from here from 1, and every later one. False where nothing can refuse.
+pub fn refuse_from(alloc: Global, rt: &impl Env, number: u64) -> Result<bool, AllocError> {
+    let name = format!(in alloc; "REFUSE_GROWTH_{number}..")?;
+    Ok(asked(rt, name.as_str()).is_some())
+}
+
 /// Refuses nothing more.
 pub fn allow(rt: &impl Env) {
     let _ = asked(rt, "REFUSE_GROWTH_0");
@@ -65,6 +71,20 @@ mod tests {
         }
         let given = String::from_str(alloc, "a")?;
         assert!(rt; given.as_str() == "a");
+        Ok(())
+    }
+
+    #[test]
+    fn all_growths_are_refused_from_one_on(rt: HostRuntime) -> Result<(), Fail> {
+        let alloc = rt.alloc();
+        let can_refuse = refuse_from(alloc, &rt, 2)?;
+        let first = String::from_str(alloc, "a");
+        let second = String::from_str(alloc, "b");
+        let third = String::from_str(alloc, "c");
+        allow(&rt);
+        let fourth = String::from_str(alloc, "d");
+        assert!(rt; first.is_ok() && fourth.is_ok());
+        assert!(rt; second.is_err() == can_refuse && third.is_err() == can_refuse);
         Ok(())
     }
 

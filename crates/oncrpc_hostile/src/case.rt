@@ -1,0 +1,115 @@
+//! A call that is asked for, and what fails in it: the words of a line, with one space between two.
+//!
+//! `ENGINE READ_PIECE READ_FAILS WRITE_PIECE WRITE_FAILS REFUSED SETTING NAME TEXT INPUT BEFORE AFTER`: how many bytes
+//! a read gives and a write takes, and which of them fails, from 1, 0 for none; the growth that is refused, as N alone
+//! or N.. with all later ones, 0 for none; a number that the engine knows; the name of a kind; and in hexadecimal a
+//! text of declarations, the bytes to read, and streams for the registry before and after.
+use std::alloc::Global;
+use std::env::Env;
+
+/// The words of a line.
+#[derive(Drop)]
+pub struct Case<'a> {
+    words: Vec<&'a str>,
+}
+
+impl<'a> Case<'a> {
+    /// The case that a line holds; `None` for want of memory.
+    pub fn read(alloc: Global, line: &'a str) -> Option<Case<'a>> {
+        let words = line.split(' ').collect::<Vec<&str>>(alloc).ok()?;
+        Some(Case { words })
+    }
+
+    // The word at a place, empty where there is none.
+    fn word(&self, place: usize) -> &'a str {
+        match self.words.get(place) {
+            Some(word) => word,
+            None => "",
+        }
+    }
+
+    // The number at a place, 0 where there is none.
+    fn number(&self, place: usize) -> u64 {
+        self.word(place).parse::<u64>().unwrap_or(0)
+    }
+
+    // The call that fails, if one does.
+    fn failing(&self, place: usize) -> Option<u64> {
+        match self.number(place) {
+            0 => None,
+            call => Some(call),
+        }
+    }
+
+    /// What is to be called.
+    pub fn engine(&self) -> &'a str {
+        self.word(0)
+    }
+
+    /// How many bytes a read gives, at most.
+    pub fn read_piece(&self) -> usize {
+        self.number(1) as usize
+    }
+
+    /// The read that fails.
+    pub fn read_failing(&self) -> Option<u64> {
+        self.failing(2)
+    }
+
+    /// How many bytes a write takes, at most.
+    pub fn write_piece(&self) -> usize {
+        self.number(3) as usize
+    }
+
+    /// The write that fails.
+    pub fn write_failing(&self) -> Option<u64> {
+        self.failing(4)
+    }
+
+    /// A number that the engine knows.
+    pub fn setting(&self) -> u32 {
+        self.number(6).min(4294967295) as u32
+    }
+
+    /// The name of a kind.
+    pub fn name(&self) -> &'a str {
+        self.word(7)
+    }
+
+    /// The text of declarations.
+    pub fn text(&self, alloc: Global) -> Option<Vec<u8>> {
+        hex::decode(alloc, self.word(8)).ok()
+    }
+
+    /// The bytes to read.
+    pub fn input(&self, alloc: Global) -> Option<Vec<u8>> {
+        hex::decode(alloc, self.word(9)).ok()
+    }
+
+    /// What the registry is served before the call.
+    pub fn before(&self, alloc: Global) -> Option<Vec<u8>> {
+        hex::decode(alloc, self.word(10)).ok()
+    }
+
+    /// What the registry is served after the call.
+    pub fn after(&self, alloc: Global) -> Option<Vec<u8>> {
+        hex::decode(alloc, self.word(11)).ok()
+    }
+
+    /// Refuses growths from here on, as the case asks, and gives how many there were before.
+    pub fn refuse(&self, alloc: Global, rt: &impl Env) -> Option<u64> {
+        let asked = self.word(5);
+        let _refuses = match asked.strip_suffix("..") {
+            Some(first) => growths::refuse_from(alloc, rt, first.parse::<u64>().ok()?).ok()?,
+            None => growths::refuse(alloc, rt, asked.parse::<u64>().ok()?).ok()?,
+        };
+        Some(growths::count(rt).unwrap_or(0))
+    }
+}
+
+/// Refuses nothing more, and gives how many growths there were since that many.
+pub fn allow(rt: &impl Env, before: u64) -> u64 {
+    let met = growths::count(rt).unwrap_or(0);
+    growths::allow(rt);
+    met.saturating_sub(before)
+}
