@@ -52,7 +52,9 @@ fn feed_whole(
 // Keeps a record behind its length, in room that is there.
 fn keep(record: Option<Vec<u8>>, out: &mut Vec<u8>) {
     if let Some(record) = record {
-        let _length = out.extend_from_slice(&(record.len() as u32).to_be_bytes());
+        let _length = out.extend_from_slice(
+            &u32::try_from(record.len()).unwrap_or(0).to_be_bytes(),
+        );
         let _content = out.extend_from_slice(&record);
     }
 }

@@ -112,7 +112,11 @@ fn serves_the_next(
     null: &[u8],
     input: &[u8],
 ) -> Option<bool> {
-    let mut both = Vec::from_slice(alloc, &(input.len() as u32).to_be_bytes()).ok()?;
+    let mut both = Vec::from_slice(
+        alloc,
+        &u32::try_from(input.len()).unwrap_or(0).to_be_bytes(),
+    )
+    .ok()?;
     both.extend_from_slice(input).ok()?;
     both.extend_from_slice(null).ok()?;
     let mut clients = Clients::new(&both, 4096);

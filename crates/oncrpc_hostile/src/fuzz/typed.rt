@@ -5,6 +5,7 @@ use crate::fuzz::mutate::below;
 use crate::fuzz::sinks::Compared;
 use crate::values::{feed_checker, feed_decoder};
 use oncrpc_tasks::{check_over, show_over};
+use rand_core::utils::NextWord;
 use rand_pcg::Pcg32;
 use std::alloc::Global;
 use xdr_codec::{Checker, DecodeFault, Decoder, Lent, decode, encode, parts};
@@ -13,14 +14,16 @@ use xdr_lang::read;
 use xdr_show::show;
 use xdr_types::{KindId, Limits, Schema, Value, fits};
 
+// A number from 1 to the greatest.
+fn some_number(random: &mut Pcg32, most: u32) -> u32 {
+    (random.next_word() % most.max(1)).saturating_add(1)
+}
+
 // Limits, at times low ones.
 fn some_limits(random: &mut Pcg32) -> Option<Limits> {
     match below(random, 4) {
-        0 => Limits::new(below(random, 8).saturating_add(1) as u32, 16777216),
-        1 => Limits::new(
-            4096,
-            below(random, 64).saturating_add(1).saturating_mul(4) as u32,
-        ),
+        0 => Limits::new(some_number(random, 8), 16777216),
+        1 => Limits::new(4096, some_number(random, 64).saturating_mul(4)),
         _ => Limits::new(4096, 16777216),
     }
 }
