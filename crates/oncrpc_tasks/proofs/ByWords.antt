@@ -1,5 +1,5 @@
 -- A value that was asked for by words is the one that they ask for.
-use Rattle.std.proofs.Common.{◌≡◌, ◌⊎◌, ℕ, Bool, List, Option, inl, inr, ap, sym, subst}
+use Rattle.std.proofs.Common.{◌≡◌, ◌⊎◌, ℕ, Bool, List, Option, inl, inr, ap, subst}
 use Rattle.xdr_io.specs.Told.{MovesAtMost}
 use Rattle.oncrpc_tasks.specs.declared.task.ValueTask.{ValueTask}
 use Rattle.oncrpc_tasks.specs.declared.failure.Failure.{Failure}
@@ -7,7 +7,7 @@ use Rattle.oncrpc_tasks.specs.Ends.{OfValue, OfWords, Tells, TaskEnds, PrintsInP
 use Rattle.oncrpc_tasks.specs.Input.{most_read}
 use Rattle.oncrpc_tasks.specs.Right.{Question}
 use Rattle.oncrpc_tasks.specs.Sources.{IsTold, told_text}
-use Rattle.oncrpc_tasks.specs.Stopping.{LastRead, IsUnread, IsPlainCheck}
+use Rattle.oncrpc_tasks.specs.Stopping.{LastRead, IsUnread}
 use Rattle.oncrpc_tasks.specs.Tasks.{Asks, ByWords}
 
 in_part_by_words : (told : List ℕ → Option (List ℕ)) (what : ValueTask) (shows : Bool) (q : Question) (text : List ℕ)
@@ -19,10 +19,6 @@ in_part_by_words told what shows q text is_told asks u fails left left' taken ta
 in_part_by_words told what shows q text is_told asks u fails left left' taken taken' (inr h) =
     inr (record { text = text; is_told = is_told; question = q; asked = asks; answered = h })
 
-plain_by : (what : ValueTask) (shows : Bool) (q : Question) → q.shows ≡ shows → IsPlainCheck shows what.hex
-    → IsPlainCheck q.shows what.hex
-plain_by what shows q lines plain = subst (λ (b : Bool). IsPlainCheck b what.hex) (sym lines) plain
-
 module _ (told : List ℕ → Option (List ℕ)) (what : ValueTask) (shows : Bool) (q : Question) (text : List ℕ)
     (is_told : IsTold (told_text told what.types) text) (asks : Asks text what shows q) where
   needs_by_words : (left left' : Option (List ℕ)) → NeedsMore (OfValue q what.hex) left left'
@@ -33,7 +29,7 @@ module _ (told : List ℕ → Option (List ℕ)) (what : ValueTask) (shows : Boo
         is_told = is_told;
         question = q;
         asked = asks;
-        holds = needs (plain_by what shows q asks.lines plain);
+        holds = needs plain;
       }
 
   stops_by_words : (left left' : Option (List ℕ)) (reads reads' : Option ℕ)
@@ -74,5 +70,5 @@ by_words told what shows q file tells i i' o o' fs fs' s text is_told asks e = r
   few_reads = e.few_reads;
   bounded = subst (λ n. MovesAtMost (most_read what.hex n) (tells.left i) (tells.left i'))
       (ap (λ b. b.bytes) asks.limits) e.bounded;
-  stops = λ plain. stops_by_words told what shows q text is_told asks _ _ _ _ (e.stops (plain_by what shows q asks.lines plain));
+  stops = λ plain. stops_by_words told what shows q text is_told asks _ _ _ _ (e.stops plain);
 }

@@ -8,3 +8,4 @@ pub mod Failed
 pub mod Judging
 pub mod Progress
 pub mod Rightly
+pub mod Showing

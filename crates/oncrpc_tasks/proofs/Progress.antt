@@ -1,6 +1,6 @@
 -- An input that is judged as it is read: where reading stands.
 use Rattle.std.proofs.Common.{◌≡◌, ℕ, ◌+◌, ◌<◌, ◌≤◌, List, [], ◌++◌, length, take, refl, sym, ap}
-use Rattle.std.proofs.Common.{subst, ◌∙◌, arith, append-nil, length-append, Option, Some, None, false}
+use Rattle.std.proofs.Common.{subst, ◌∙◌, arith, append-nil, length-append, Option, Some, None, Bool, true, false, if◌then◌else◌}
 use Rattle.std.specs.Io.KnownBytes.{Keeps, Consumes, IsAtEnd}
 use Rattle.xdr_types.specs.Kinds.{Lists}
 use Rattle.xdr_types.specs.Within.{AreBounds, Bounds}
@@ -13,14 +13,14 @@ use Rattle.xdr_codec.specs.declared.checker.Checker.{Checker}
 use Rattle.oncrpc_tasks.specs.declared.answer.Answer.{Answer}
 use Rattle.oncrpc_tasks.specs.declared.judge.Verdict.{Verdict}
 use Rattle.oncrpc_tasks.specs.declared.judge.Verdict.TheVariants.{Open, Settled}
-use Rattle.oncrpc_tasks.specs.Private.Judged.{Follows, Says}
+use Rattle.oncrpc_tasks.specs.Private.Judged.{Follows, IsKept, Says}
 use Rattle.oncrpc_tasks.specs.Right.{Question, IsRight, IsRightFor}
 use Rattle.oncrpc_tasks.specs.Stopping.{IsUnsettled, ReadsUnsettled, LastRead}
 use Rattle.oncrpc_tasks.proofs.Rightly.{unsettled_within}
 
--- What was read settles no answer; this one is right if the input ends here.
+-- What was read settles no answer; this one is right if the input ends here. All of it is kept, or nothing.
 pub record Progress (q : Question) (c : Checker) (count : ℕ) (at_end : Answer) (turn : ℕ) (left left' : Option (List ℕ))
-    : Type 0 where
+    (keeps : Bool) (kept : List ℕ) : Type 0 where
   pub seen : List ℕ
   pub read : Consumes left left' seen
   pub counted : count ≡ length seen
@@ -28,6 +28,7 @@ pub record Progress (q : Question) (c : Checker) (count : ℕ) (at_end : Answer)
   pub follows : Follows q c seen
   pub unsettled : IsUnsettled q seen
   pub right : IsRight q seen at_end []
+  pub is_kept : kept ≡ (if keeps then seen else [])
 
 -- an answer that is right whatever follows is right for an input that is told
 for_told : (q : Question) (a : Answer) (b : List ℕ) (left left' : Option (List ℕ)) → Consumes left left' b
@@ -56,10 +57,14 @@ started c s k l stands set = record {
   lines = refl;
 }
 
+none_kept : (keeps : Bool) (kept : List ℕ) → kept ≡ [] → kept ≡ (if keeps then [] else [])
+none_kept true kept none = none
+none_kept false kept none = none
+
 -- before the first read
-pub begun : (q : Question) (d : Checker) (v : Verdict) (a : Answer) (left : Option (List ℕ)) → v ≡ Open a
-    → Says q d [] v → Progress q d 0 a 0 left left
-begun q d v a left is says =
+pub begun : (q : Question) (d : Checker) (v : Verdict) (a : Answer) (left : Option (List ℕ)) (keeps : Bool)
+    (kept : List ℕ) → kept ≡ [] → v ≡ Open a → Says q d [] v → Progress q d 0 a 0 left left keeps kept
+begun q d v a left keeps kept none is says =
     let h : Says q d [] (Open a) = subst (λ (x : Verdict). Says q d [] x) is says in
     record {
       seen = [];
@@ -69,6 +74,7 @@ begun q d v a left is says =
       follows = h.0;
       unsettled = h.1;
       right = h.2;
+      is_kept = none_kept keeps kept none;
     }
 
 -- all bytes in one piece
@@ -89,6 +95,23 @@ settled_first q d v a left is says =
     let h : Says q d [] (Settled a) = subst (λ (x : Verdict). Says q d [] x) is says in
     for_told q a [] left left (Consumes-none left) h
 
+-- what is kept: all that was seen, or nothing
+kept_by : (keeps : Bool) (kept seen : List ℕ) (q : Question) (left left' : Option (List ℕ)) (a : Answer)
+    → kept ≡ (if keeps then seen else []) → Consumes left left' seen → IsRight q seen a [] → IsKept keeps q left left' a kept
+kept_by true kept seen q left left' a all read right =
+    subst (λ (x : List ℕ). IsKept true q left left' a x) (sym all) (read, right)
+kept_by false kept seen q left left' a all read right = all
+
+more_kept : (keeps : Bool) (kept kept' seen page : List ℕ) → kept ≡ (if keeps then seen else [])
+    → kept' ≡ (if keeps then kept ++ page else kept) → kept' ≡ (if keeps then seen ++ page else [])
+more_kept true kept kept' seen page all grown = grown ∙ ap (λ (x : List ℕ). x ++ page) all
+more_kept false kept kept' seen page all grown = grown ∙ all
+
+pub kept_first : (q : Question) (d : Checker) (v : Verdict) (a : Answer) (left : Option (List ℕ)) (keeps : Bool)
+    (kept : List ℕ) → kept ≡ [] → v ≡ Settled a → Says q d [] v → IsKept keeps q left left a kept
+kept_first q d v a left keeps kept none is says =
+    kept_by keeps kept [] q left left a (none_kept keeps kept none) (Consumes-none left) (all_settled q d [] v a is says)
+
 module _ (q : Question) (bounds : AreBounds q.limits.depth q.limits.bytes) where
   -- what comes before the last read is within the limit, and that read is of a page at most
   pub moved_by : (left left' : Option (List ℕ)) (reads reads' : Option ℕ) → LastRead q left left' reads reads'
@@ -102,97 +125,116 @@ module _ (q : Question) (bounds : AreBounds q.limits.depth q.limits.bytes) where
       }
 
 module _ (q : Question) (c : Checker) (count : ℕ) (at_end : Answer) (turn : ℕ) (left left' : Option (List ℕ))
-    (reads reads' reads'' : Option ℕ) (p : Progress q c count at_end turn left left') (counted : Counts turn reads reads')
-  where
-    -- a read that failed
-    pub unsettled_by : (left'' : Option (List ℕ)) → Keeps left' left'' → ReadsUnsettled q left left''
-    unsettled_by left'' kept =
-        record { bytes = p.seen; unsettled = p.unsettled; read = Consumes-then_kept _ _ _ p.seen p.read kept }
+    (reads reads' reads'' : Option ℕ) {keeps : Bool} {kept : List ℕ}
+    (p : Progress q c count at_end turn left left' keeps kept) (counted : Counts turn reads reads') where
+  -- a read that failed
+  pub unsettled_by : (left'' : Option (List ℕ)) → Keeps left' left'' → ReadsUnsettled q left left''
+  unsettled_by left'' kept =
+      record { bytes = p.seen; unsettled = p.unsettled; read = Consumes-then_kept _ _ _ p.seen p.read kept }
 
-    pub failed_by : (left'' : Option (List ℕ)) → Keeps left' left'' → Counts 1 reads' reads''
-        → LastRead q left left'' reads reads''
-    failed_by left'' kept one = record {
-      before = p.seen;
-      last = [];
-      unsettled = p.unsettled;
-      page = omega arith;
-      read = Consumes-then_kept _ _ _ (p.seen ++ [])
-          (subst (λ (x : List ℕ). Consumes left left' x) (sym (append-nil p.seen)) p.read) kept;
-      few = record {
-        calls = turn + 1;
-        few = omega (arith, p.turns);
-        counted = Counts-trans _ _ _ turn 1 _ refl counted one;
-      };
-    }
-
-    -- after the last read that is allowed
-    pub many_by : LastRead q left left' reads reads'
-    many_by = record {
-      before = p.seen;
-      last = [];
-      unsettled = p.unsettled;
-      page = omega arith;
-      read = subst (λ (x : List ℕ). Consumes left left' x) (sym (append-nil p.seen)) p.read;
-      few = record { calls = turn; few = omega (arith, p.turns); counted = counted };
-    }
-
-    pub one_more : Counts 1 reads' reads'' → turn < 1048576 → CountsAtMost 1048576 reads reads''
-    one_more one low = record {
+  pub failed_by : (left'' : Option (List ℕ)) → Keeps left' left'' → Counts 1 reads' reads''
+      → LastRead q left left'' reads reads''
+  failed_by left'' kept one = record {
+    before = p.seen;
+    last = [];
+    unsettled = p.unsettled;
+    page = omega arith;
+    read = Consumes-then_kept _ _ _ (p.seen ++ [])
+        (subst (λ (x : List ℕ). Consumes left left' x) (sym (append-nil p.seen)) p.read) kept;
+    few = record {
       calls = turn + 1;
-      few = omega (arith, low);
+      few = omega (arith, p.turns);
       counted = Counts-trans _ _ _ turn 1 _ refl counted one;
-    }
+    };
+  }
 
-    pub count_within : AreBounds q.limits.depth q.limits.bytes → count ≤ 16777216
-    count_within bounds =
-        omega (arith, p.counted, unsettled_within q bounds.units p.seen p.unsettled, bounds.most_bytes)
+  -- after the last read that is allowed
+  pub many_by : LastRead q left left' reads reads'
+  many_by = record {
+    before = p.seen;
+    last = [];
+    unsettled = p.unsettled;
+    page = omega arith;
+    read = subst (λ (x : List ℕ). Consumes left left' x) (sym (append-nil p.seen)) p.read;
+    few = record { calls = turn; few = omega (arith, p.turns); counted = counted };
+  }
 
-    pub at_end_by : (left'' : Option (List ℕ)) (n : ℕ) (array : List ℕ) → n ≡ 0 → Consumes left' left'' (take n array)
-        → IsAtEnd left'' → IsRightFor q false left at_end []
-    at_end_by left'' n array none read end =
-        at_its_end q at_end p.seen left left'' (Consumes-at_end left left' left'' p.seen array n none p.read read) end
-        p.right
+  pub one_more : Counts 1 reads' reads'' → turn < 1048576 → CountsAtMost 1048576 reads reads''
+  one_more one low = record {
+    calls = turn + 1;
+    few = omega (arith, low);
+    counted = Counts-trans _ _ _ turn 1 _ refl counted one;
+  }
 
-    -- a read that gave some bytes
-    pub goes_on : (left'' : Option (List ℕ)) (n : ℕ) (array : List ℕ) (d : Checker) (v : Verdict) (a : Answer)
-        → length (take n array) ≡ n → (n ≡ 0 → ⊥) → Consumes left' left'' (take n array) → v ≡ Open a
-        → Says q d (p.seen ++ take n array) v → Progress q d (count + n) a (turn + 1) left left''
-    goes_on left'' n array d v a size some read is says =
-        let h : Says q d (p.seen ++ take n array) (Open a) =
-        subst (λ (x : Verdict). Says q d (p.seen ++ take n array) x) is says in
-        let grown = length-append p.seen (take n array) in
-        let one : 1 ≤ n = omega (arith, some) in
-        record {
-          seen = p.seen ++ take n array;
-          read = Consumes-trans _ _ _ p.seen (take n array) _ refl p.read read;
-          counted = omega (arith, grown, size, p.counted);
-          turns = omega (arith, grown, size, p.turns, one);
-          follows = h.0;
-          unsettled = h.1;
-          right = h.2;
-        }
+  pub count_within : AreBounds q.limits.depth q.limits.bytes → count ≤ 16777216
+  count_within bounds =
+      omega (arith, p.counted, unsettled_within q bounds.units p.seen p.unsettled, bounds.most_bytes)
 
-    pub settled_by : (left'' : Option (List ℕ)) (n : ℕ) (array : List ℕ) (d : Checker) (v : Verdict) (a : Answer)
-        → Consumes left' left'' (take n array) → v ≡ Settled a → Says q d (p.seen ++ take n array) v
-        → IsRightFor q false left a []
-    settled_by left'' n array d v a read is says =
-        let h : Says q d (p.seen ++ take n array) (Settled a) =
-        subst (λ (x : Verdict). Says q d (p.seen ++ take n array) x) is says in
-        for_told q a (p.seen ++ take n array) left left''
-        (Consumes-trans _ _ _ p.seen (take n array) _ refl p.read read) h
+  pub at_end_by : (left'' : Option (List ℕ)) (n : ℕ) (array : List ℕ) → n ≡ 0 → Consumes left' left'' (take n array)
+      → IsAtEnd left'' → IsRightFor q false left at_end []
+  at_end_by left'' n array none read end =
+      at_its_end q at_end p.seen left left'' (Consumes-at_end left left' left'' p.seen array n none p.read read) end
+      p.right
 
-    -- a read that gave some bytes, or none at the end
-    pub read_by : (left'' : Option (List ℕ)) (n : ℕ) (array : List ℕ) → length (take n array) ≤ 4096
-        → Consumes left' left'' (take n array) → Counts 1 reads' reads'' → LastRead q left left'' reads reads''
-    read_by left'' n array few moved one = record {
-      before = p.seen;
-      last = take n array;
-      unsettled = p.unsettled;
-      page = few;
-      read = Consumes-trans _ _ _ p.seen (take n array) _ refl p.read moved;
-      few = record {
-        calls = turn + 1;
-        few = omega (arith, p.turns);
-        counted = Counts-trans _ _ _ turn 1 _ refl counted one;
-      };
-    }
+  -- a read that gave some bytes
+  pub goes_on : (left'' : Option (List ℕ)) (n : ℕ) (array : List ℕ) (d : Checker) (v : Verdict) (a : Answer)
+      → length (take n array) ≡ n → (n ≡ 0 → ⊥) → Consumes left' left'' (take n array) → v ≡ Open a
+      → Says q d (p.seen ++ take n array) v → (kept' : List ℕ)
+      → kept' ≡ (if keeps then kept ++ take n array else kept)
+      → Progress q d (count + n) a (turn + 1) left left'' keeps kept'
+  goes_on left'' n array d v a size some read is says kept' grown_kept =
+      let h : Says q d (p.seen ++ take n array) (Open a) =
+      subst (λ (x : Verdict). Says q d (p.seen ++ take n array) x) is says in
+      let grown = length-append p.seen (take n array) in
+      let one : 1 ≤ n = omega (arith, some) in
+      record {
+        seen = p.seen ++ take n array;
+        read = Consumes-trans _ _ _ p.seen (take n array) _ refl p.read read;
+        counted = omega (arith, grown, size, p.counted);
+        turns = omega (arith, grown, size, p.turns, one);
+        follows = h.0;
+        unsettled = h.1;
+        right = h.2;
+        is_kept = more_kept keeps kept kept' p.seen (take n array) p.is_kept grown_kept;
+      }
+
+  pub settled_by : (left'' : Option (List ℕ)) (n : ℕ) (array : List ℕ) (d : Checker) (v : Verdict) (a : Answer)
+      → Consumes left' left'' (take n array) → v ≡ Settled a → Says q d (p.seen ++ take n array) v
+      → IsRightFor q false left a []
+  settled_by left'' n array d v a read is says =
+      let h : Says q d (p.seen ++ take n array) (Settled a) =
+      subst (λ (x : Verdict). Says q d (p.seen ++ take n array) x) is says in
+      for_told q a (p.seen ++ take n array) left left''
+      (Consumes-trans _ _ _ p.seen (take n array) _ refl p.read read) h
+
+  -- a read that gave some bytes, or none at the end
+  pub read_by : (left'' : Option (List ℕ)) (n : ℕ) (array : List ℕ) → length (take n array) ≤ 4096
+      → Consumes left' left'' (take n array) → Counts 1 reads' reads'' → LastRead q left left'' reads reads''
+  read_by left'' n array few moved one = record {
+    before = p.seen;
+    last = take n array;
+    unsettled = p.unsettled;
+    page = few;
+    read = Consumes-trans _ _ _ p.seen (take n array) _ refl p.read moved;
+    few = record {
+      calls = turn + 1;
+      few = omega (arith, p.turns);
+      counted = Counts-trans _ _ _ turn 1 _ refl counted one;
+    };
+  }
+
+  -- what is kept at the end of the input, and where the answer is settled
+  pub kept_at_end : (left'' : Option (List ℕ)) (n : ℕ) (array : List ℕ) → n ≡ 0 → Consumes left' left'' (take n array)
+      → IsKept keeps q left left'' at_end kept
+  kept_at_end left'' n array none read =
+      kept_by keeps kept p.seen q left left'' at_end p.is_kept
+      (Consumes-at_end left left' left'' p.seen array n none p.read read) p.right
+
+  pub kept_settled : (left'' : Option (List ℕ)) (n : ℕ) (array : List ℕ) (d : Checker) (v : Verdict) (a : Answer)
+      → Consumes left' left'' (take n array) → v ≡ Settled a → Says q d (p.seen ++ take n array) v
+      → (kept' : List ℕ) → kept' ≡ (if keeps then kept ++ take n array else kept) → IsKept keeps q left left'' a kept'
+  kept_settled left'' n array d v a read is says kept' grown_kept =
+      kept_by keeps kept' (p.seen ++ take n array) q left left'' a
+      (more_kept keeps kept kept' p.seen (take n array) p.is_kept grown_kept)
+      (Consumes-trans _ _ _ p.seen (take n array) _ refl p.read read)
+      (all_settled q d (p.seen ++ take n array) v a is says)

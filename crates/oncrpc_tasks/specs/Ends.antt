@@ -16,7 +16,7 @@ use Rattle.oncrpc_tasks.specs.Input.{most_read}
 use Rattle.oncrpc_tasks.specs.Records.{Done, Marks, RefusedBytes, StopsFor}
 use Rattle.oncrpc_tasks.specs.Right.{Question}
 use Rattle.oncrpc_tasks.specs.Sources.{IsTold, told_text}
-use Rattle.oncrpc_tasks.specs.Stopping.{ReadsUnsettled, LastRead, IsUnread, IsPlainCheck}
+use Rattle.oncrpc_tasks.specs.Stopping.{ReadsUnsettled, LastRead, IsUnread, IsPlain}
 use Rattle.oncrpc_tasks.specs.Tasks.{Asks, AsksNothing, ByWords, IsAnswered}
 
 -- what is asked of an input: a value, the value that words ask for with a text of declarations, or its records
@@ -107,20 +107,20 @@ ReadsAtMost (OfWords told what shows) left left' = MovesAtMost (most_read what.h
 ReadsAtMost (OfRecords limit true) left left' = MovesAtMost (most_read true 0) left left'
 ReadsAtMost (OfRecords limit false) left left' = ⊤
 
--- Where a read failed, or one more than the most would be needed: what was read before settles no answer of a check of
--- an input that is read as it is. So no read is made, and none fails, after a refusal.
+-- Where a read failed, or one more than the most would be needed: what was read before settles no answer, of an input
+-- that is read as it is. So no read is made, and none fails, after a refusal.
 abbrev pub NeedsMore : Asked → (left left' : Option (List ℕ)) → Type 0
-NeedsMore (OfValue q hex) left left' = IsPlainCheck q.shows hex → ReadsUnsettled q left left'
+NeedsMore (OfValue q hex) left left' = IsPlain hex → ReadsUnsettled q left left'
 NeedsMore (OfWords told what shows) left left' =
-    IsPlainCheck shows what.hex → ByWords told what shows (λ (q : Question). ReadsUnsettled q left left')
+    IsPlain what.hex → ByWords told what shows (λ (q : Question). ReadsUnsettled q left left')
 NeedsMore (OfRecords limit hex) left left' = ⊤
 
--- Where such a check stops reading: nothing was read, or what came before the last read settles no answer.
+-- Where reading such an input stops: nothing was read, or what came before the last read settles no answer.
 abbrev pub StopsReading : Asked → (left left' : Option (List ℕ)) → (reads reads' : Option ℕ) → Type 0
 StopsReading (OfValue q hex) left left' reads reads' =
-    IsPlainCheck q.shows hex → IsUnread left left' reads reads' ⊎ LastRead q left left' reads reads'
+    IsPlain hex → IsUnread left left' reads reads' ⊎ LastRead q left left' reads reads'
 StopsReading (OfWords told what shows) left left' reads reads' =
-    IsPlainCheck shows what.hex → IsUnread left left' reads reads'
+    IsPlain what.hex → IsUnread left left' reads reads'
     ⊎ ByWords told what shows (λ (q : Question). LastRead q left left' reads reads')
 StopsReading (OfRecords limit hex) left left' reads reads' = ⊤
 

@@ -16,16 +16,10 @@ TextGives text given.HexTooLong = 1048576 < length text
 TextGives text given.BadHex = (length text ≤ 1048576) × IsBadHex text
 TextGives text (given.Bytes v) = (length text ≤ 1048576) × (decode_of (digits text) ≡ Ok v.items)
 
--- what an input that is read as it is gives
-abbrev pub PlainGives : ℕ → List ℕ → Given → Type 0
-PlainGives enough input (given.Bytes v) = BeginsInput enough input v.items
-PlainGives enough input _ = ⊥
-
 -- what the input gives, where its bytes are told
-abbrev pub InputGives : Bool → ℕ → Option (List ℕ) → Given → Type 0
-InputGives hex enough None g = ⊤
-InputGives true enough (Some input) g = TextGives input g
-InputGives false enough (Some input) g = PlainGives enough input g
+abbrev pub InputGives : Option (List ℕ) → Given → Type 0
+InputGives None g = ⊤
+InputGives (Some text) g = TextGives text g
 
 -- how many bytes are read at most: a page of 4096 past the limit, which for a text of hexadecimal is 1048576
 abbrev pub most_read : Bool → ℕ → ℕ

@@ -1,5 +1,5 @@
--- Where a check stops reading.
-use Rattle.std.specs.Prelude.{◌⊎◌, ℕ, ◌+◌, ◌≤◌, Bool, false, List, ◌++◌, length, Option, ⊤}
+-- Where reading a value stops.
+use Rattle.std.specs.Prelude.{◌⊎◌, ℕ, ◌+◌, ◌≤◌, Bool, true, false, List, ◌++◌, length, Option, ⊤}
 use Rattle.std.specs.Io.KnownBytes.{Keeps, Consumes}
 use Rattle.xdr_types.specs.Tree.{Tree}
 use Rattle.xdr_types.specs.Outcome.{Pending, Whole}
@@ -29,7 +29,7 @@ pub record LastRead (q : Question) (left left' : Option (List ℕ)) (reads reads
 abbrev pub IsUnread : (left left' : Option (List ℕ)) → (reads reads' : Option ℕ) → Type 0
 IsUnread left left' reads reads' = Keeps left left' × Counts 0 reads reads'
 
--- an input is judged as it is, and nothing of its value is shown
-abbrev pub IsPlainCheck : (shows hex : Bool) → Type 0
-IsPlainCheck false false = ⊤
-IsPlainCheck _ _ = ⊥
+-- an input is judged as it is, and not as hexadecimal
+abbrev pub IsPlain : (hex : Bool) → Type 0
+IsPlain false = ⊤
+IsPlain true = ⊥

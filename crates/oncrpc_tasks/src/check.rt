@@ -1,23 +1,27 @@
 //! Reads one value, and prints what the input holds, and the value's lines where they are asked for.
-ghost use Rattle.std.specs.Prelude.{◌≡◌, ◌≢◌, ◌⊎◌, ℕ, ◌++◌, ◌<◌, true, false, Bool, Option, List, length, IfOk, IfErr};
+ghost use Rattle.std.specs.Prelude.{◌≡◌, ◌≢◌, ◌⊎◌, ℕ, ◌++◌, ◌<◌, [], true, false, Option, List, length, IfOk, IfErr};
 ghost use Rattle.std.specs.Prelude.{OnOk, IsErrOf};
 ghost use Rattle.std.specs.Io.KnownBytes.{Appends};
 ghost use Rattle.xdr_io.specs.Told.{Counts, CountsAtMost, MovesAtMost};
 ghost use Rattle.oncrpc_tasks.specs.Checked.{AnswersInPart};
 ghost use Rattle.oncrpc_tasks.specs.Ends.{OfValue, TaskEnds};
+ghost use Rattle.xdr_types.specs.Tree.{Tree};
+ghost use Rattle.xdr_types.specs.Outcome.{Outcome, Whole};
+ghost use Rattle.xdr_show.specs.Shown.{show_text};
 ghost use Rattle.oncrpc_tasks.specs.Input.{InputGives, most_read};
+ghost use Rattle.oncrpc_tasks.specs.Private.Judged.{Shows};
 ghost use Rattle.oncrpc_tasks.specs.Lines.{line};
 ghost use Rattle.oncrpc_tasks.specs.Right.{IsRight, IsRightFor};
-ghost use Rattle.oncrpc_tasks.specs.Stopping.{IsPlainCheck, IsUnread, LastRead, ReadsUnsettled};
+ghost use Rattle.oncrpc_tasks.specs.Stopping.{IsPlain, IsUnread, LastRead, ReadsUnsettled};
 
 use super::answer::{Answer, line_of, status_of};
 use super::failure::{Failure, report};
 use super::given::{Given, given_over};
 use super::judge::{judge_bytes, judge_over};
 use std::alloc::Global;
-use xdr_codec::{Reason, decode};
+use xdr_codec::{Reason, parts};
 use xdr_io::{Sink, Source, write_whole};
-use xdr_show::show;
+use xdr_show::show_parts;
 use xdr_types::{KindId, Limits, Schema};
 
 /// Checks that the input begins with a value of the kind, and prints one line: `ok N`, or `ok N, more follows` where
@@ -52,6 +56,8 @@ pub fn check_over<I: Source, O: Sink, F: Sink>(
 
 /// The same, and where the input begins with a value of the kind, the value's lines are printed before the line of
 /// its outcome. Nothing is printed before the outcome is known.
+///
+/// What is read is kept, as far as reading goes, and the lines are printed from its parts: no value is made.
 pub fn show_over<I: Source, O: Sink, F: Sink>(
     alloc: Global,
     input: &mut I,
@@ -115,11 +121,11 @@ fn print_answer<I: Source, O: Sink>(
     ensures none_failed { OnOk result (Counts 0 (I.failures input.old) (I.failures input.new)
         × Counts 0 (O.failures output.old) (O.failures output.new)) }
     ensures read { IsErrOf result Failure.Read → Counts 1 (I.failures input.old) (I.failures input.new)
-        × (IsPlainCheck shows hex
+        × (IsPlain hex
         → ReadsUnsettled (record { kinds = schema.now.kinds; place = kind.place; limits = limits; shows = shows })
         (I.left input.old) (I.left input.new)) }
     ensures many { IsErrOf result Failure.TooManyReads → Counts 1048576 (I.reads input.old) (I.reads input.new)
-        × (IsPlainCheck shows hex
+        × (IsPlain hex
         → ReadsUnsettled (record { kinds = schema.now.kinds; place = kind.place; limits = limits; shows = shows })
         (I.left input.old) (I.left input.new)) }
     ensures write { IsErrOf result Failure.Write → Counts 1 (O.failures output.old) (O.failures output.new) }
@@ -129,7 +135,7 @@ fn print_answer<I: Source, O: Sink>(
     ensures nothing { IfErr result (λ f. f ≢ Failure.Write → output.new ≡ output.old) }
     ensures reads { CountsAtMost 1048576 (I.reads input.old) (I.reads input.new) }
     ensures moved { MovesAtMost (most_read hex limits.bytes) (I.left input.old) (I.left input.new) }
-    ensures stops { IsPlainCheck shows hex
+    ensures stops { IsPlain hex
         → IsUnread (I.left input.old) (I.left input.new) (I.reads input.old) (I.reads input.new)
         ⊎ LastRead (record { kinds = schema.now.kinds; place = kind.place; limits = limits; shows = shows })
         (I.left input.old) (I.left input.new) (I.reads input.old) (I.reads input.new) }
@@ -141,8 +147,8 @@ fn print_answer<I: Source, O: Sink>(
     Ok(answer)
 }
 
-// The answer, and what is shown before its line. A check of an input that is read as it is judges it as it is read; all
-// else reads first.
+// The answer, and what is shown before its line. Hexadecimal is read to its end first; what is read as it is is judged
+// as it is read.
 fn answer_to<I: Source>(
     alloc: Global,
     input: &mut I,
@@ -158,27 +164,28 @@ fn answer_to<I: Source>(
         hex (I.left input.old) r.0 r.1.items) }
     ensures none_failed { OnOk result (Counts 0 (I.failures input.old) (I.failures input.new)) }
     ensures read { IsErrOf result Failure.Read → Counts 1 (I.failures input.old) (I.failures input.new)
-        × (IsPlainCheck shows hex
+        × (IsPlain hex
         → ReadsUnsettled (record { kinds = schema.now.kinds; place = kind.place; limits = limits; shows = shows })
         (I.left input.old) (I.left input.new)) }
     ensures many { IsErrOf result Failure.TooManyReads → Counts 1048576 (I.reads input.old) (I.reads input.new)
-        × (IsPlainCheck shows hex
+        × (IsPlain hex
         → ReadsUnsettled (record { kinds = schema.now.kinds; place = kind.place; limits = limits; shows = shows })
         (I.left input.old) (I.left input.new)) }
     ensures no_write { IsErrOf result Failure.Write → ⊥ }
     ensures reads { CountsAtMost 1048576 (I.reads input.old) (I.reads input.new) }
     ensures moved { MovesAtMost (most_read hex limits.bytes) (I.left input.old) (I.left input.new) }
-    ensures stops { IsPlainCheck shows hex
+    ensures stops { IsPlain hex
         → IsUnread (I.left input.old) (I.left input.new) (I.reads input.old) (I.reads input.new)
         ⊎ LastRead (record { kinds = schema.now.kinds; place = kind.place; limits = limits; shows = shows })
         (I.left input.old) (I.left input.new) (I.reads input.old) (I.reads input.new) }
 {
-    if shows || hex {
-        let given = given_over(alloc, input, limits.bytes() as usize, hex)?;
+    if hex {
+        let given = given_over(alloc, input)?;
         answer_given(alloc, schema, kind, limits, shows, &given)
     } else {
-        let answer = judge_over(alloc, input, schema, kind, limits)?;
-        Ok((answer, Vec::new(alloc)))
+        let (answer, bytes) = judge_over(alloc, input, schema, kind, limits, shows)?;
+        let shown = shown_of(alloc, schema, kind, limits, shows, answer, &bytes)?;
+        Ok((answer, shown))
     }
 }
 
@@ -191,66 +198,70 @@ fn answer_given(
     given: &Given,
 ) -> Result<(Answer, Vec<u8>), Failure>
     requires { kind.place < length schema.now.kinds }
-    ensures right { IfOk result (λ r. (hex : Bool) (told : Option (List ℕ)) → InputGives hex limits.bytes told given.now
+    ensures right { IfOk result (λ r. (told : Option (List ℕ)) → InputGives told given.now
         → IsRightFor (record { kinds = schema.now.kinds; place = kind.place; limits = limits; shows = shows })
-        hex told r.0 r.1.items) }
+        true told r.0 r.1.items) }
     ensures memory { IfErr result (λ f. f ≡ Failure.NoMemory) }
 {
-    let _range = limits.depth();
     match given {
-        Given::Bytes(bytes) => answer_of(alloc, schema, kind, limits, shows, bytes),
+        Given::Bytes(bytes) => {
+            let answer = judge_bytes(alloc, schema, kind, limits, bytes)?;
+            let shown = shown_of(alloc, schema, kind, limits, shows, answer, bytes)?;
+            Ok((answer, shown))
+        }
         Given::BadHex => Ok((Answer::BadHex, Vec::new(alloc))),
         Given::HexTooLong => Ok((Answer::HexTooLong, Vec::new(alloc))),
     }
 }
 
-fn answer_of(
-    alloc: Global,
-    schema: &Schema,
-    kind: KindId,
-    limits: Limits,
-    shows: bool,
-    bytes: &[u8],
-) -> Result<(Answer, Vec<u8>), Failure>
-    requires { kind.place < length schema.now.kinds }
-    ensures right { IfOk result (λ r.
-        IsRight (record { kinds = schema.now.kinds; place = kind.place; limits = limits; shows = shows })
-        bytes.now r.0 r.1.items) }
-    ensures memory { IfErr result (λ f. f ≡ Failure.NoMemory) }
-{
-    if shows {
-        shown_of(alloc, schema, kind, limits, bytes)
-    } else {
-        let answer = judge_bytes(alloc, schema, kind, limits, bytes)?;
-        Ok((answer, Vec::new(alloc)))
-    }
-}
-
-// The answer, and the lines of the value.
+// What is shown of the bytes, whose answer this is: the lines of the value, where there is one and they are asked for.
 fn shown_of(
     alloc: Global,
     schema: &Schema,
     kind: KindId,
     limits: Limits,
+    shows: bool,
+    answer: Answer,
     bytes: &[u8],
-) -> Result<(Answer, Vec<u8>), Failure>
-    requires { kind.place < length schema.now.kinds }
-    ensures right { IfOk result (λ r.
-        IsRight (record { kinds = schema.now.kinds; place = kind.place; limits = limits; shows = true })
-        bytes.now r.0 r.1.items) }
+) -> Result<Vec<u8>, Failure>
+    requires known { kind.place < length schema.now.kinds }
+    requires right { shows ≡ true
+        → IsRight (record { kinds = schema.now.kinds; place = kind.place; limits = limits; shows = false })
+        bytes.now answer [] }
+    ensures right { IfOk result (λ text. Shows
+        (record { kinds = schema.now.kinds; place = kind.place; limits = limits; shows = shows })
+        bytes.now answer text.items) }
+    ensures memory { IfErr result (λ f. f ≡ Failure.NoMemory) }
+{
+    if !shows {
+        return Ok(Vec::new(alloc));
+    }
+    match answer {
+        Answer::Whole { .. } => lines_of(alloc, schema, kind, limits, bytes),
+        Answer::MoreFollows { .. } => lines_of(alloc, schema, kind, limits, bytes),
+        Answer::Refused(_) | Answer::BadHex | Answer::HexTooLong => Ok(Vec::new(alloc)),
+    }
+}
+
+// The lines of the value that these bytes begin with.
+fn lines_of(
+    alloc: Global,
+    schema: &Schema,
+    kind: KindId,
+    limits: Limits,
+    bytes: &[u8],
+) -> Result<Vec<u8>, Failure>
+    requires known { kind.place < length schema.now.kinds }
+    requires whole { (v : Tree) × (n : ℕ) × Outcome schema.now.kinds kind.place limits bytes.now (Whole v n) }
+    ensures lines { IfOk result (λ text. (v : Tree) (n : ℕ)
+        → Outcome schema.now.kinds kind.place limits bytes.now (Whole v n)
+        → text.items ≡ show_text schema.now.kinds kind.place v) }
     ensures memory { IfErr result (λ f. f ≡ Failure.NoMemory) }
 {
     let _range = limits.depth();
-    match decode(alloc, schema, kind, limits, bytes) {
-        Ok((value, used)) => {
-            let shown = show(alloc, schema, kind, &value, limits)?;
-            if used < bytes.len() {
-                Ok((Answer::MoreFollows { used }, shown))
-            } else {
-                Ok((Answer::Whole { used }, shown))
-            }
-        }
+    match parts(alloc, schema, kind, limits, bytes) {
+        Ok(lent) => Ok(show_parts(alloc, schema, &lent)?),
         Err(fault) if fault.why == Reason::NoMemory => Err(Failure::NoMemory),
-        Err(fault) => Ok((Answer::Refused(fault), Vec::new(alloc))),
+        Err(_) => unreachable!(),
     }
 }

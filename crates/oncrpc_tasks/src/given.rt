@@ -1,7 +1,7 @@
-//! The bytes that a task is given.
-ghost use Rattle.std.specs.Prelude.{◌≡◌, IfOk, OnOk, IsErrOf};
+//! The bytes that a task is given as hexadecimal.
+ghost use Rattle.std.specs.Prelude.{◌≡◌, ◌+◌, IfOk, OnOk, IsErrOf};
 ghost use Rattle.xdr_io.specs.Told.{Counts, CountsAtMost, MovesAtMost};
-ghost use Rattle.oncrpc_tasks.specs.Input.{InputGives, most_read};
+ghost use Rattle.oncrpc_tasks.specs.Input.{InputGives};
 
 use super::failure::Failure;
 use super::hexadecimal::{MOST_TEXT, bytes_of_text};
@@ -11,7 +11,7 @@ use xdr_io::{Source, read_past};
 /// What the input holds.
 #[derive(Drop)]
 pub enum Given {
-    /// These bytes. More may follow where there are more than were asked for.
+    /// These bytes.
     Bytes(Vec<u8>),
     /// A text that is no hexadecimal.
     BadHex,
@@ -19,24 +19,16 @@ pub enum Given {
     HexTooLong,
 }
 
-/// Reads the input until it ends, or more than `enough` bytes are there. With `hex` all of it is read, as a text.
-pub fn given_over<I: Source>(
-    alloc: Global,
-    input: &mut I,
-    enough: usize,
-    hex: bool,
-) -> Result<Given, Failure>
-    ensures gives { IfOk result (λ given. InputGives hex enough (I.left input.old) given) }
+/// Reads the input, a text of hexadecimal, until it ends or more than 1048576 bytes are there.
+pub fn given_over<I: Source>(alloc: Global, input: &mut I) -> Result<Given, Failure>
+    ensures gives { IfOk result (λ given. InputGives (I.left input.old) given) }
     ensures none_failed { OnOk result (Counts 0 (I.failures input.old) (I.failures input.new)) }
     ensures failed { IsErrOf result Failure.Read → Counts 1 (I.failures input.old) (I.failures input.new) }
     ensures many { IsErrOf result Failure.TooManyReads → Counts 1048576 (I.reads input.old) (I.reads input.new) }
     ensures no_write { IsErrOf result Failure.Write → ⊥ }
     ensures reads { CountsAtMost 1048576 (I.reads input.old) (I.reads input.new) }
-    ensures moved { MovesAtMost (most_read hex enough) (I.left input.old) (I.left input.new) }
+    ensures moved { MovesAtMost (1048576 + 4096) (I.left input.old) (I.left input.new) }
 {
-    if !hex {
-        return Ok(Given::Bytes(read_past(alloc, input, enough)?));
-    }
     let text = read_past(alloc, input, MOST_TEXT)?;
     if text.len() > MOST_TEXT {
         return Ok(Given::HexTooLong);

@@ -1,19 +1,20 @@
 //! A value judged while its bytes come.
-ghost use Rattle.std.specs.Prelude.{◌≡◌, ◌⊎◌, ◌≤◌, ◌<◌, ◌+◌, ◌++◌, ℕ, List, [], false, length, IfOk, IfErr, OnOk, IsErrOf};
+ghost use Rattle.std.specs.Prelude.{◌≡◌, ◌⊎◌, ◌≤◌, ◌<◌, ◌+◌, ◌++◌, ℕ, List, [], if◌then◌else◌, false, length, IfOk, IfErr, OnOk, IsErrOf};
 ghost use Rattle.xdr_types.specs.Within.{AreBounds};
 ghost use Rattle.xdr_io.specs.Told.{Counts, CountsAtMost, MovesAtMost};
 ghost use Rattle.oncrpc_tasks.specs.Right.{Question, IsRight, IsRightFor};
 ghost use Rattle.oncrpc_tasks.specs.Stopping.{LastRead, ReadsUnsettled, IsUnread};
-ghost use Rattle.oncrpc_tasks.specs.Private.Judged.{Follows, Says};
+ghost use Rattle.oncrpc_tasks.specs.Private.Judged.{Follows, IsKept, Says};
 
 use super::answer::Answer;
 use super::failure::Failure;
-use std::alloc::Global;
+use std::alloc::{AllocError, Global};
 use xdr_codec::{Checker, DecodeFault, Progress, Reason};
 use xdr_io::{MOST_READS, Source};
 use xdr_types::{KindId, Limits, Schema};
 
 /// What the bytes so far say.
+#[derive(Clone, Copy)]
 enum Verdict {
     /// This answer, if no more bytes come.
     Open(Answer),
@@ -67,19 +68,24 @@ pub fn judge_bytes(
     }
 }
 
-/// What an input says that is judged as it is read. Reading stops where the answer is settled: at a refusal, at the
-/// first byte after the value, or at the end. A refusal of no bytes is answered before any read.
+/// What an input says that is judged as it is read, and all bytes that were read where `keeps` asks for them. Reading
+/// stops where the answer is settled: at a refusal, at the first byte after the value, or at the end. A refusal of no
+/// bytes is answered before any read.
 pub fn judge_over<I: Source>(
     alloc: Global,
     input: &mut I,
     schema: &Schema,
     kind: KindId,
     limits: Limits,
-) -> Result<Answer, Failure>
+    keeps: bool,
+) -> Result<(Answer, Vec<u8>), Failure>
     requires { kind.place < length schema.now.kinds }
-    ensures right { IfOk result (λ a.
+    ensures right { IfOk result (λ r.
         IsRightFor (record { kinds = schema.now.kinds; place = kind.place; limits = limits; shows = false }) false
-        (I.left input.old) a []) }
+        (I.left input.old) r.0 []) }
+    ensures kept { IfOk result (λ r.
+        IsKept keeps (record { kinds = schema.now.kinds; place = kind.place; limits = limits; shows = false })
+        (I.left input.old) (I.left input.new) r.0 r.1.items) }
     ensures none_failed { OnOk result (Counts 0 (I.failures input.old) (I.failures input.new)) }
     ensures failed { IsErrOf result Failure.Read → Counts 1 (I.failures input.old) (I.failures input.new)
         × ReadsUnsettled (record { kinds = schema.now.kinds; place = kind.place; limits = limits; shows = false })
@@ -96,9 +102,10 @@ pub fn judge_over<I: Source>(
 {
     let _range = limits.depth();
     let mut checker = Checker::start(alloc, schema, kind, limits);
+    let mut kept = Vec::new(alloc);
     let mut at_end = match judge_piece(&mut checker, 0, &[])? {
         Verdict::Open(answer) => answer,
-        Verdict::Settled(answer) => return Ok(answer),
+        Verdict::Settled(answer) => return Ok((answer, kept)),
     };
     let mut array = [0u8; 4096];
     let mut count = 0;
@@ -108,13 +115,25 @@ pub fn judge_over<I: Source>(
             Err(_) => return Err(Failure::Read),
         };
         if n == 0 {
-            return Ok(at_end);
+            return Ok((at_end, kept));
         }
-        at_end = match judge_piece(&mut checker, count, &array[..n])? {
+        let verdict = judge_piece(&mut checker, count, &array[..n])?;
+        keep(&mut kept, keeps, &array[..n])?;
+        at_end = match verdict {
             Verdict::Open(answer) => answer,
-            Verdict::Settled(answer) => return Ok(answer),
+            Verdict::Settled(answer) => return Ok((answer, kept)),
         };
         count += n;
     }
     Err(Failure::TooManyReads)
+}
+
+// Keeps a piece, where it is to be kept.
+fn keep(kept: &mut Vec<u8>, keeps: bool, piece: &[u8]) -> Result<(), AllocError>
+    ensures { OnOk result (kept.new.items ≡ (if keeps then kept.old.items ++ piece.now else kept.old.items)) }
+{
+    if keeps {
+        kept.extend_from_slice(piece)?;
+    }
+    Ok(())
 }

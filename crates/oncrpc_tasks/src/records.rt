@@ -167,7 +167,7 @@ fn mark_text<I: Source, O: Sink>(
     ensures reads { CountsAtMost 1048576 (I.reads input.old) (I.reads input.new) }
     ensures moved { MovesAtMost (most_read true 0) (I.left input.old) (I.left input.new) }
 {
-    let bytes = match given_over(alloc, input, 0, true)? {
+    let bytes = match given_over(alloc, input)? {
         Given::Bytes(bytes) => bytes,
         Given::BadHex => return Ok(Marking::BadHex),
         Given::HexTooLong => return Ok(Marking::HexTooLong),

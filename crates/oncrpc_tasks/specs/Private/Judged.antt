@@ -1,7 +1,9 @@
 -- A value that is judged while its bytes come.
-use Rattle.std.specs.Prelude.{◌≡◌, ℕ, List, [], ◌++◌, false}
+use Rattle.std.specs.Prelude.{◌≡◌, ℕ, List, [], ◌++◌, Bool, true, false, Option}
+use Rattle.std.specs.Io.KnownBytes.{Consumes}
 use Rattle.xdr_codec.specs.Checks.{StandsFor}
 use Rattle.xdr_codec.specs.declared.checker.Checker.{Checker}
+use Rattle.oncrpc_tasks.specs.declared.answer.Answer.{Answer}
 use Rattle.oncrpc_tasks.specs.declared.judge.Verdict.{Verdict}
 use Rattle.oncrpc_tasks.specs.declared.judge.Verdict.TheVariants.{Open, Settled}
 use Rattle.oncrpc_tasks.specs.Right.{Question, IsRight}
@@ -19,3 +21,16 @@ pub record Follows (q : Question) (checker : Checker) (bytes : List ℕ) : Type 
 abbrev pub Says : Question → Checker → (bytes : List ℕ) → Verdict → Type 0
 Says q checker bytes (Open a) = Follows q checker bytes × IsUnsettled q bytes × IsRight q bytes a []
 Says q checker bytes (Settled a) = (more : List ℕ) → IsRight q (bytes ++ more) a []
+
+-- the same question, of which nothing is to be shown
+abbrev pub unshown : Question → Question
+unshown q = record { kinds = q.kinds; place = q.place; limits = q.limits; shows = false }
+
+-- What is kept of an input: all that was read, and the answer is right if the input ends with it; else nothing.
+abbrev pub IsKept : (keeps : Bool) → Question → (left left' : Option (List ℕ)) → Answer → (bytes : List ℕ) → Type 0
+IsKept true q left left' a bytes = Consumes left left' bytes × IsRight q bytes a []
+IsKept false q left left' a bytes = bytes ≡ []
+
+-- This is shown of the bytes and of all that follows them: an answer that is right without lines is right with these.
+abbrev pub Shows : Question → (bytes : List ℕ) → Answer → (shown : List ℕ) → Type 0
+Shows q bytes a shown = (more : List ℕ) → IsRight (unshown q) (bytes ++ more) a [] → IsRight q (bytes ++ more) a shown

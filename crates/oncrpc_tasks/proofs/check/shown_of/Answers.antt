@@ -1,41 +1,42 @@
--- What the decoder says of the bytes.
-use Rattle.std.proofs.Common.{sym, ◌∙◌, true, arith, rules}
-use Rattle.std.proofs.lemmas.Bool.{false≢true}
-use Rattle.xdr_types.specs.View.{tree}
+-- What is shown of an answer.
+use Rattle.std.proofs.Common.{◌≡◌, true, rules}
 use Rattle.oncrpc_tasks.specs.Right.{Question}
-use Rattle.oncrpc_tasks.proofs.Rightly.{whole_at_end, more_there, refused_at_end}
+use Rattle.oncrpc_tasks.proofs.Showing.{lines_whole, lines_before, shows_none}
 use Rattle.oncrpc_tasks.proofs.check.shown_of.Goals as goal
 
-pub returns-then-used-bytes-clause-right : goal.returns-then-used-bytes-clause-right
-returns-then-used-bytes-clause-right c =
+pub returns-in-Whole-clause-right : goal.returns-in-Whole-clause-right
+returns-in-Whole-clause-right c =
     let q : Question = record {
       kinds = c.args.schema.now.kinds;
       place = c.args.kind.place;
       limits = c.args.limits;
-      shows = true;
+      shows = c.args.shows;
     } in
-    more_there q c.depth-range.ensures.range.units c.args.bytes.now c.in_ok-shown-in-Ok.shown.items
-    (tree c.in-Ok.value) c.in-Ok.used c.in-Ok.ensures.outcome c.in_ok-shown-in-Ok.ensures c.if-used-bytes.true
+    let asked : c.args.shows ≡ true = search rules in
+    lines_whole q asked c.args.bytes.now c.args.answer c.in-Whole.used c.in-Whole.is (c.requires.right asked)
+    c.lines_of.result c.lines_of.ensures.lines
 
-pub returns-in-Ok-clause-right : goal.returns-in-Ok-clause-right
-returns-in-Ok-clause-right c =
+pub returns-in-MoreFollows-clause-right : goal.returns-in-MoreFollows-clause-right
+returns-in-MoreFollows-clause-right c =
     let q : Question = record {
       kinds = c.args.schema.now.kinds;
       place = c.args.kind.place;
       limits = c.args.limits;
-      shows = true;
+      shows = c.args.shows;
     } in
-    whole_at_end q c.depth-range.ensures.range.units c.args.bytes.now c.in_ok-shown-in-Ok.shown.items
-    (tree c.in-Ok.value) c.in-Ok.used c.in-Ok.ensures.outcome c.in_ok-shown-in-Ok.ensures (omega arith)
+    let asked : c.args.shows ≡ true = search rules in
+    lines_before q asked c.args.bytes.now c.args.answer c.in-MoreFollows.used c.in-MoreFollows.is
+    (c.requires.right asked) c.lines_of-in-MoreFollows.result c.lines_of-in-MoreFollows.ensures.lines
 
-pub returns-clause-right : goal.returns-clause-right
-returns-clause-right c =
+pub returns-in-Refused : goal.returns-in-Refused
+returns-in-Refused c =
     let q : Question = record {
       kinds = c.args.schema.now.kinds;
       place = c.args.kind.place;
       limits = c.args.limits;
-      shows = true;
+      shows = c.args.shows;
     } in
-    let h = refused_at_end q c.depth-range.ensures.range.units c.args.bytes.now c.in-Err.fault c.in-Err.ensures.fault
-    (λ e. let same = rw e at c.eq.ensures in false≢true (sym c.if-eq.false ∙ same)) in
-    (h.0, search rules)
+    record {
+      right = shows_none q c.args.bytes.now c.args.answer _ c.new-in-Refused.ensures.items c.in-Refused.is;
+      memory = tt;
+    }

@@ -6,6 +6,7 @@ use Rattle.xdr_io.specs.Told.{Counts}
 use Rattle.xdr_io.proofs.Chained.{Counts-trans, Counts-none}
 use Rattle.oncrpc_tasks.proofs.Progress.{started, begun, settled_first, moved_by, unsettled_by, failed_by, many_by, one_more}
 use Rattle.oncrpc_tasks.proofs.Progress.{count_within, at_end_by, goes_on, settled_by, read_by}
+use Rattle.oncrpc_tasks.proofs.Progress.{kept_first, kept_at_end, kept_settled}
 use Rattle.oncrpc_tasks.proofs.judge.judge_over.Goals as goal
 
 pub returns-in-Settled-clause-right : goal.returns-in-Settled-clause-right
@@ -14,9 +15,15 @@ returns-in-Settled-clause-right g c =
     (c.in_ok-answer.ensures.says _ [] (started c.start-checker.result c.args.schema.now c.args.kind c.args.limits c.start-checker.ensures.stands
     c.start-checker.ensures.settings) c.depth-range.ensures.range refl)
 
+pub returns-in-Settled-clause-kept : goal.returns-in-Settled-clause-kept
+returns-in-Settled-clause-kept g c =
+    kept_first _ _ _ c.in-Settled.answer _ c.args.keeps _ c.new-kept.ensures.items c.in-Settled.is
+    (c.in_ok-answer.ensures.says _ [] (started c.start-checker.result c.args.schema.now c.args.kind c.args.limits c.start-checker.ensures.stands
+    c.start-checker.ensures.settings) c.depth-range.ensures.range refl)
+
 pub loop-turn-init : goal.loop-turn-init
 loop-turn-init g c = record {
-  progress = begun _ _ _ c.in-Open.answer _ c.in-Open.is
+  progress = begun _ _ _ c.in-Open.answer _ c.args.keeps _ c.new-kept.ensures.items c.in-Open.is
       (c.in_ok-answer.ensures.says _ [] (started c.start-checker.result c.args.schema.now c.args.kind c.args.limits c.start-checker.ensures.stands
       c.start-checker.ensures.settings) c.depth-range.ensures.range refl);
   reads = Counts-none _;
@@ -49,6 +56,11 @@ returns-then-n-eq0-clause-right g c =
     at_end_by _ _ _ _ _ _ _ _ _ (g.I.Source.reads c.loop-turn.input) c.loop-turn.invariant.progress c.loop-turn.invariant.reads _ c.in-Ok.n c.read.new.array c.if-n-eq0.true
     c.in-Ok.ensures.bytes.0 (c.in-Ok.ensures.bytes.1 c.if-n-eq0.true)
 
+pub returns-then-n-eq0-clause-kept : goal.returns-then-n-eq0-clause-kept
+returns-then-n-eq0-clause-kept g c =
+    kept_at_end _ _ _ _ _ _ _ _ _ (g.I.Source.reads c.loop-turn.input) c.loop-turn.invariant.progress c.loop-turn.invariant.reads _ c.in-Ok.n c.read.new.array c.if-n-eq0.true
+    c.in-Ok.ensures.bytes.0
+
 pub returns-then-n-eq0-clause-none_failed : goal.returns-then-n-eq0-clause-none_failed
 returns-then-n-eq0-clause-none_failed g c =
     Counts-trans _ _ _ 0 0 0 refl c.loop-turn.invariant.none_failed c.in-Ok.ensures.failed
@@ -79,12 +91,12 @@ returns-then-n-eq0-clause-stops g c =
     ))
     c.in-Ok.ensures.bytes.0 c.read.ensures.count)
 
-pub returns-in_err-answer-2-clause-reads : goal.returns-in_err-answer-2-clause-reads
-returns-in_err-answer-2-clause-reads g c =
+pub returns-in_err-verdict-clause-reads : goal.returns-in_err-verdict-clause-reads
+returns-in_err-verdict-clause-reads g c =
     one_more _ _ _ _ _ _ _ _ _ _ c.loop-turn.invariant.progress c.loop-turn.invariant.reads c.read.ensures.count (omega arith)
 
-pub returns-in_err-answer-2-clause-moved : goal.returns-in_err-answer-2-clause-moved
-returns-in_err-answer-2-clause-moved g c =
+pub returns-in_err-verdict-clause-moved : goal.returns-in_err-verdict-clause-moved
+returns-in_err-verdict-clause-moved g c =
     moved_by _ c.depth-range.ensures.range _ _ _ _ (read_by _ _ _ _ _ _ _ _ _ _ c.loop-turn.invariant.progress c.loop-turn.invariant.reads _ c.in-Ok.n c.read.new.array
     (omega (
       arith,
@@ -94,8 +106,8 @@ returns-in_err-answer-2-clause-moved g c =
     ))
     c.in-Ok.ensures.bytes.0 c.read.ensures.count)
 
-pub returns-in_err-answer-2-clause-stops : goal.returns-in_err-answer-2-clause-stops
-returns-in_err-answer-2-clause-stops g c =
+pub returns-in_err-verdict-clause-stops : goal.returns-in_err-verdict-clause-stops
+returns-in_err-verdict-clause-stops g c =
     inr (read_by _ _ _ _ _ _ _ _ _ _ c.loop-turn.invariant.progress c.loop-turn.invariant.reads _ c.in-Ok.n c.read.new.array
     (omega (
       arith,
@@ -105,16 +117,12 @@ returns-in_err-answer-2-clause-stops g c =
     ))
     c.in-Ok.ensures.bytes.0 c.read.ensures.count)
 
-pub returns-in-Settled-2-clause-none_failed : goal.returns-in-Settled-2-clause-none_failed
-returns-in-Settled-2-clause-none_failed g c =
-    Counts-trans _ _ _ 0 0 0 refl c.loop-turn.invariant.none_failed c.in-Ok.ensures.failed
-
-pub returns-in-Settled-2-clause-reads : goal.returns-in-Settled-2-clause-reads
-returns-in-Settled-2-clause-reads g c =
+pub returns-in_err-keep-clause-reads : goal.returns-in_err-keep-clause-reads
+returns-in_err-keep-clause-reads g c =
     one_more _ _ _ _ _ _ _ _ _ _ c.loop-turn.invariant.progress c.loop-turn.invariant.reads c.read.ensures.count (omega arith)
 
-pub returns-in-Settled-2-clause-moved : goal.returns-in-Settled-2-clause-moved
-returns-in-Settled-2-clause-moved g c =
+pub returns-in_err-keep-clause-moved : goal.returns-in_err-keep-clause-moved
+returns-in_err-keep-clause-moved g c =
     moved_by _ c.depth-range.ensures.range _ _ _ _ (read_by _ _ _ _ _ _ _ _ _ _ c.loop-turn.invariant.progress c.loop-turn.invariant.reads _ c.in-Ok.n c.read.new.array
     (omega (
       arith,
@@ -124,8 +132,38 @@ returns-in-Settled-2-clause-moved g c =
     ))
     c.in-Ok.ensures.bytes.0 c.read.ensures.count)
 
-pub returns-in-Settled-2-clause-stops : goal.returns-in-Settled-2-clause-stops
-returns-in-Settled-2-clause-stops g c =
+pub returns-in_err-keep-clause-stops : goal.returns-in_err-keep-clause-stops
+returns-in_err-keep-clause-stops g c =
+    inr (read_by _ _ _ _ _ _ _ _ _ _ c.loop-turn.invariant.progress c.loop-turn.invariant.reads _ c.in-Ok.n c.read.new.array
+    (omega (
+      arith,
+      c.in-Ok.ensures.bound,
+      length-take-le c.in-Ok.n c.read.new.array
+          (omega (arith, c.in-Ok.ensures.bound, c.read.array_long)),
+    ))
+    c.in-Ok.ensures.bytes.0 c.read.ensures.count)
+
+pub returns-in-Settled-verdict-clause-none_failed : goal.returns-in-Settled-verdict-clause-none_failed
+returns-in-Settled-verdict-clause-none_failed g c =
+    Counts-trans _ _ _ 0 0 0 refl c.loop-turn.invariant.none_failed c.in-Ok.ensures.failed
+
+pub returns-in-Settled-verdict-clause-reads : goal.returns-in-Settled-verdict-clause-reads
+returns-in-Settled-verdict-clause-reads g c =
+    one_more _ _ _ _ _ _ _ _ _ _ c.loop-turn.invariant.progress c.loop-turn.invariant.reads c.read.ensures.count (omega arith)
+
+pub returns-in-Settled-verdict-clause-moved : goal.returns-in-Settled-verdict-clause-moved
+returns-in-Settled-verdict-clause-moved g c =
+    moved_by _ c.depth-range.ensures.range _ _ _ _ (read_by _ _ _ _ _ _ _ _ _ _ c.loop-turn.invariant.progress c.loop-turn.invariant.reads _ c.in-Ok.n c.read.new.array
+    (omega (
+      arith,
+      c.in-Ok.ensures.bound,
+      length-take-le c.in-Ok.n c.read.new.array
+          (omega (arith, c.in-Ok.ensures.bound, c.read.array_long)),
+    ))
+    c.in-Ok.ensures.bytes.0 c.read.ensures.count)
+
+pub returns-in-Settled-verdict-clause-stops : goal.returns-in-Settled-verdict-clause-stops
+returns-in-Settled-verdict-clause-stops g c =
     inr (read_by _ _ _ _ _ _ _ _ _ _ c.loop-turn.invariant.progress c.loop-turn.invariant.reads _ c.in-Ok.n c.read.new.array
     (omega (
       arith,
@@ -139,12 +177,20 @@ pub judge_piece-requires-in-loop-turn : goal.judge_piece-requires-in-loop-turn
 judge_piece-requires-in-loop-turn g c =
     count_within _ _ _ _ _ _ _ _ _ (g.I.Source.reads c.loop-turn.input) c.loop-turn.invariant.progress c.loop-turn.invariant.reads c.depth-range.ensures.range
 
-pub returns-in-Settled-2-clause-right : goal.returns-in-Settled-2-clause-right
-returns-in-Settled-2-clause-right g c =
+pub returns-in-Settled-verdict-clause-right : goal.returns-in-Settled-verdict-clause-right
+returns-in-Settled-verdict-clause-right g c =
     settled_by _ _ _ _ _ _ _ _ _ (g.I.Source.reads c.loop-turn.input) c.loop-turn.invariant.progress c.loop-turn.invariant.reads _ c.in-Ok.n c.read.new.array _ _
-    c.in-Settled-2.answer c.in-Ok.ensures.bytes.0 c.in-Settled-2.is
-    (c.in_ok-answer-2.ensures.says _ c.loop-turn.invariant.progress.seen
+    c.in-Settled-verdict.answer c.in-Ok.ensures.bytes.0 c.in-Settled-verdict.is
+    (c.in_ok-verdict.ensures.says _ c.loop-turn.invariant.progress.seen
     c.loop-turn.invariant.progress.follows c.depth-range.ensures.range c.loop-turn.invariant.progress.counted)
+
+pub returns-in-Settled-verdict-clause-kept : goal.returns-in-Settled-verdict-clause-kept
+returns-in-Settled-verdict-clause-kept g c =
+    kept_settled _ _ _ _ _ _ _ _ _ (g.I.Source.reads c.loop-turn.input) c.loop-turn.invariant.progress c.loop-turn.invariant.reads _ c.in-Ok.n c.read.new.array _ _
+    c.in-Settled-verdict.answer c.in-Ok.ensures.bytes.0 c.in-Settled-verdict.is
+    (c.in_ok-verdict.ensures.says _ c.loop-turn.invariant.progress.seen
+    c.loop-turn.invariant.progress.follows c.depth-range.ensures.range c.loop-turn.invariant.progress.counted)
+    _ c.in_ok-keep.ensures
 
 pub overflow_add-count : goal.overflow_add-count
 overflow_add-count g c =
@@ -152,11 +198,12 @@ overflow_add-count g c =
 
 pub loop-turn-preserved : goal.loop-turn-preserved
 loop-turn-preserved g c = record {
-  progress = goes_on _ _ _ _ _ _ _ _ _ (g.I.Source.reads c.loop-turn.input) c.loop-turn.invariant.progress c.loop-turn.invariant.reads _ c.in-Ok.n c.read.new.array _ _ c.in-Open-2.answer
+  progress = goes_on _ _ _ _ _ _ _ _ _ (g.I.Source.reads c.loop-turn.input) c.loop-turn.invariant.progress c.loop-turn.invariant.reads _ c.in-Ok.n c.read.new.array _ _ c.in-Open-verdict.answer
       (length-take-le c.in-Ok.n c.read.new.array (omega (arith, c.in-Ok.ensures.bound, c.read.array_long)))
-      c.if-n-eq0.false c.in-Ok.ensures.bytes.0 c.in-Open-2.is
-      (c.in_ok-answer-2.ensures.says _ c.loop-turn.invariant.progress.seen
-      c.loop-turn.invariant.progress.follows c.depth-range.ensures.range c.loop-turn.invariant.progress.counted);
+      c.if-n-eq0.false c.in-Ok.ensures.bytes.0 c.in-Open-verdict.is
+      (c.in_ok-verdict.ensures.says _ c.loop-turn.invariant.progress.seen
+      c.loop-turn.invariant.progress.follows c.depth-range.ensures.range c.loop-turn.invariant.progress.counted)
+      _ c.in_ok-keep.ensures;
   reads = Counts-trans _ _ _ c.loop-turn._turn 1 _ refl c.loop-turn.invariant.reads c.read.ensures.count;
   none_failed = Counts-trans _ _ _ 0 0 0 refl c.loop-turn.invariant.none_failed c.in-Ok.ensures.failed;
 }

@@ -7,7 +7,7 @@ abbrev pub invariant-loop-turn : goal.invariant-loop-turn
 invariant-loop-turn g l = record {
   progress : Progress
       (record { kinds = l.fn.schema.kinds; place = l.fn.kind.place; limits = l.fn.limits; shows = false }) l.checker
-      l.count l.at_end l._turn (g.I.Source.left l.fn.input) (g.I.Source.left l.input);
+      l.count l.at_end l._turn (g.I.Source.left l.fn.input) (g.I.Source.left l.input) l.fn.keeps l.kept.items;
   reads : Counts l._turn (g.I.Source.reads l.fn.input) (g.I.Source.reads l.input);
   none_failed : Counts 0 (g.I.Source.failures l.fn.input) (g.I.Source.failures l.input);
 }

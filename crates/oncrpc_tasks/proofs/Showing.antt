@@ -1,0 +1,207 @@
+-- What is shown of bytes whose answer is known without lines.
+use Rattle.std.proofs.Common.{◌≡◌, ◌⊎◌, inl, inr, ℕ, ◌%◌, Bool, true, false, List, [], ◌++◌, refl, sym, ap, subst, ◌∙◌}
+use Rattle.std.proofs.Common.{Option, Some, None, Result, Ok, Err, IfOk, Vec, Global}
+use Rattle.std.proofs.lemmas.List.{append-nil}
+use Rattle.std.specs.Io.KnownBytes.{Consumes}
+use Rattle.xdr_types.specs.Kinds.{KindView}
+use Rattle.xdr_types.specs.Tree.{Tree}
+use Rattle.xdr_types.specs.Within.{Bounds}
+use Rattle.xdr_types.specs.Outcome.{Ending, Outcome, Whole}
+use Rattle.xdr_show.specs.Shown.{show_text}
+use Rattle.xdr_laws.proofs.Longer.{stays}
+use Rattle.xdr_laws.proofs.OneOutcome.{one_outcome}
+use Rattle.xdr_laws.proofs.Whole.{whole_exactly}
+use Rattle.xdr_stream.specs.Finish.{EndsWith}
+use Rattle.xdr_stream.specs.Sees.{Ends}
+use Rattle.xdr_stream.specs.declared.fault.DecodeFault.{DecodeFault}
+use Rattle.xdr_stream.specs.declared.fault.Reason.{Reason}
+use Rattle.xdr_stream.specs.declared.fault.Reason.TheVariants as reason
+use Rattle.oncrpc_tasks.specs.declared.answer.Answer.{Answer}
+use Rattle.oncrpc_tasks.specs.declared.answer.Answer.TheVariants as answer
+use Rattle.oncrpc_tasks.specs.declared.failure.Failure.{Failure}
+use Rattle.oncrpc_tasks.specs.Right.{Question, BeginsWithValue, HasOutcome, HasNoValue, IsWhole, IsRefusal, IsRight}
+use Rattle.oncrpc_tasks.specs.Right.{IsRightFor, lines_of}
+use Rattle.oncrpc_tasks.specs.Stopping.{ReadsUnsettled, LastRead, IsUnread}
+use Rattle.oncrpc_tasks.specs.Private.Judged.{IsKept, Shows, unshown}
+use Rattle.oncrpc_tasks.proofs.Rightly.{refused_at_end}
+
+-- an outcome is one value
+abbrev value_in : Tree → Ending → Tree
+value_in other (Whole v n) = v
+value_in other _ = other
+
+same_value : (s : List KindView) (t : ℕ) (l : Bounds) (b more : List ℕ) (v w : Tree) (m n : ℕ)
+    → Outcome s t l b (Whole v m) → Outcome s t l (b ++ more) (Whole w n) → v ≡ w
+same_value s t l b more v w m n o p =
+    ap (λ (e : Ending). value_in v e)
+    (one_outcome s t l (b ++ more) (Whole v m) (Whole w n) (stays s t l b more (Whole v m) tt o) p)
+
+-- the value of an answer that has one
+pub whole_value : (q : Question) (b : List ℕ) (used : ℕ) → IsRight q b (answer.Whole used) []
+    → (v : Tree) × (n : ℕ) × HasOutcome q b (Whole v n)
+whole_value q b used h = (h.0.value, used, h.1)
+
+pub value_before : (q : Question) (b : List ℕ) (used : ℕ) → IsRight q b (answer.MoreFollows used) []
+    → (v : Tree) × (n : ℕ) × HasOutcome q b (Whole v n)
+value_before q b used h = (h.2.0.value, used, h.2.1)
+
+-- where a value begins the bytes, no refusal of them is right
+no_value_of : (q : Question) (b : List ℕ) (why : Reason) (at : ℕ) → IsRefusal q b why at → HasNoValue q b
+no_value_of q b reason.NoMemory at h = absurd h
+no_value_of q b reason.Truncated at h = h.2
+no_value_of q b reason.BadBool at h = subst (λ (x : List ℕ). HasNoValue q x) (append-nil b) (h []).1
+no_value_of q b reason.BadNumbered at h = subst (λ (x : List ℕ). HasNoValue q x) (append-nil b) (h []).1
+no_value_of q b reason.BadCase at h = subst (λ (x : List ℕ). HasNoValue q x) (append-nil b) (h []).1
+no_value_of q b reason.TooLong at h = subst (λ (x : List ℕ). HasNoValue q x) (append-nil b) (h []).1
+no_value_of q b reason.BadPadding at h = subst (λ (x : List ℕ). HasNoValue q x) (append-nil b) (h []).1
+no_value_of q b reason.TooDeep at h = subst (λ (x : List ℕ). HasNoValue q x) (append-nil b) (h []).1
+no_value_of q b reason.TooLarge at h = subst (λ (x : List ℕ). HasNoValue q x) (append-nil b) (h []).1
+
+-- so no fault but want of memory stands against a value
+pub no_fault : (q : Question) → q.limits.bytes % 4 ≡ 0 → (b : List ℕ) → (v : Tree) × (n : ℕ) × HasOutcome q b (Whole v n)
+    → (f : DecodeFault) → EndsWith q.kinds q.place q.limits b f → (f.why ≡ reason.NoMemory → ⊥) → ⊥
+no_fault q units b whole f ends known =
+    let exact = (whole_exactly q.kinds q.place q.limits b whole.0 whole.1 units).0 whole.2 in
+    let begins : BeginsWithValue q b whole.1 exact.1 (lines_of q whole.0) = record {
+      value = whole.0;
+      fits = exact.0;
+      joined = exact.2;
+      counted = exact.3;
+      lines = refl;
+    } in
+    no_value_of q b f.why f.at (refused_at_end q units b f ends known).0 whole.1 exact.1 (lines_of q whole.0) begins
+
+-- the lines of the value are those of each value that the bytes are the outcome of
+pub those_lines : (s : List KindView) (t : ℕ) (l : Bounds) (b : List ℕ) (v : Tree) (n : ℕ) (text : List ℕ)
+    → Outcome s t l b (Whole v n) → text ≡ show_text s t v
+    → (w : Tree) (m : ℕ) → Outcome s t l b (Whole w m) → text ≡ show_text s t w
+those_lines s t l b v n text o is w m p =
+    is ∙ ap (λ (x : Tree). show_text s t x)
+    (same_value s t l b [] v w n m o (subst (λ (y : List ℕ). Outcome s t l y (Whole w m)) (sym (append-nil b)) p))
+
+-- ---- the same question with lines and without
+
+module _ (q : Question) where
+  -- a value with its lines, in place of one without
+  lined : (shown : List ℕ) (b : List ℕ) (used : ℕ) (more : List ℕ) (h : IsWhole (unshown q) b used more [])
+      → shown ≡ lines_of q h.0.value → IsWhole q b used more shown
+  lined shown b used more h is = (
+    record {
+      value = h.0.value;
+      fits = h.0.fits;
+      joined = h.0.joined;
+      counted = h.0.counted;
+      lines = is;
+    },
+    h.1,
+  )
+
+  -- no value without lines is none with them
+  none_lined : (b : List ℕ) → HasNoValue (unshown q) b → HasNoValue q b
+  none_lined b none used more shown h = none used more []
+      (record { value = h.value; fits = h.fits; joined = h.joined; counted = h.counted; lines = refl })
+
+  refusal_lined : (b : List ℕ) (why : Reason) (at : ℕ) → IsRefusal (unshown q) b why at → IsRefusal q b why at
+  refusal_lined b reason.NoMemory at h = absurd h
+  refusal_lined b reason.Truncated at h = (h.0, h.1, none_lined b h.2)
+  refusal_lined b reason.BadBool at h = λ more. ((h more).0, none_lined (b ++ more) (h more).1)
+  refusal_lined b reason.BadNumbered at h = λ more. ((h more).0, none_lined (b ++ more) (h more).1)
+  refusal_lined b reason.BadCase at h = λ more. ((h more).0, none_lined (b ++ more) (h more).1)
+  refusal_lined b reason.TooLong at h = λ more. ((h more).0, none_lined (b ++ more) (h more).1)
+  refusal_lined b reason.BadPadding at h = λ more. ((h more).0, none_lined (b ++ more) (h more).1)
+  refusal_lined b reason.TooDeep at h = λ more. ((h more).0, none_lined (b ++ more) (h more).1)
+  refusal_lined b reason.TooLarge at h = λ more. ((h more).0, none_lined (b ++ more) (h more).1)
+
+  -- a refusal is shown without lines
+  shows_refusal : (b : List ℕ) (f : DecodeFault) → Shows q b (answer.Refused f) []
+  shows_refusal b f = λ more h. (refusal_lined (b ++ more) f.why f.at h.0, refl)
+
+  pub shows_none : (b : List ℕ) (a : Answer) (text : List ℕ) → text ≡ []
+      → ((f : DecodeFault) × (a ≡ answer.Refused f)) ⊎ ((a ≡ answer.BadHex) ⊎ (a ≡ answer.HexTooLong)) → Shows q b a text
+  shows_none b a text none (inl h) = rw none (rw h.1 (shows_refusal b h.0))
+  shows_none b a text none (inr (inl is)) = rw is (λ more h. absurd h)
+  shows_none b a text none (inr (inr is)) = rw is (λ more h. absurd h)
+
+  -- nothing is shown where nothing is asked for
+  without : q.shows ≡ false → (v : Tree) → [] ≡ lines_of q v
+  without none v = rw none refl
+
+  pub shows_nothing : q.shows ≡ false → (b : List ℕ) (a : Answer) → Shows q b a []
+  shows_nothing none b (answer.Whole used) = λ more h. lined [] (b ++ more) used [] h (without none h.0.value)
+  shows_nothing none b (answer.MoreFollows used) = λ more h.
+      (h.0, h.1, lined [] (b ++ more) used h.0 h.2 (without none h.2.0.value))
+  shows_nothing none b (answer.Refused f) = shows_refusal b f
+  shows_nothing none b answer.BadHex = λ more h. absurd h
+  shows_nothing none b answer.HexTooLong = λ more h. absurd h
+
+  -- the lines of a value that begins the bytes
+  module _ (asked : q.shows ≡ true) (b text : List ℕ) (whole : (v : Tree) × (n : ℕ) × HasOutcome q b (Whole v n))
+      (lines : (v : Tree) (n : ℕ) → HasOutcome q b (Whole v n) → text ≡ show_text q.kinds q.place v) where
+    of_value : (more : List ℕ) (w : Tree) (m : ℕ) → HasOutcome q (b ++ more) (Whole w m) → text ≡ lines_of q w
+    of_value more w m o =
+        let same : whole.0 ≡ w = same_value q.kinds q.place q.limits b more whole.0 w whole.1 m whole.2 o in
+        let said : text ≡ show_text q.kinds q.place w =
+        lines whole.0 whole.1 whole.2 ∙ ap (λ (x : Tree). show_text q.kinds q.place x) same in
+        rw asked said
+
+    pub shows_whole : (used : ℕ) → Shows q b (answer.Whole used) text
+    shows_whole used = λ more h. lined text (b ++ more) used [] h (of_value more h.0.value used h.1)
+
+    pub shows_value : (used : ℕ) → Shows q b (answer.MoreFollows used) text
+    shows_value used = λ more h.
+        (h.0, h.1, lined text (b ++ more) used h.0 h.2 (of_value more h.2.0.value used h.2.1))
+
+  -- the same of the answer to making them
+  pub lines_whole : q.shows ≡ true → (b : List ℕ) (a : Answer) (used : ℕ) → a ≡ answer.Whole used
+      → IsRight (unshown q) b a [] → (r : Result (Vec ℕ Global) Failure)
+      → IfOk r (λ text. (v : Tree) (n : ℕ) → HasOutcome q b (Whole v n) → text.items ≡ show_text q.kinds q.place v)
+      → IfOk r (λ text. Shows q b a text.items)
+  lines_whole asked b a used is right (Ok text) lines =
+      let whole = whole_value (unshown q) b used (subst (λ (x : Answer). IsRight (unshown q) b x []) is right) in
+      subst (λ (x : Answer). Shows q b x text.items) (sym is) (shows_whole asked b text.items whole lines used)
+  lines_whole asked b a used is right (Err f) lines = tt
+
+  pub lines_before : q.shows ≡ true → (b : List ℕ) (a : Answer) (used : ℕ) → a ≡ answer.MoreFollows used
+      → IsRight (unshown q) b a [] → (r : Result (Vec ℕ Global) Failure)
+      → IfOk r (λ text. (v : Tree) (n : ℕ) → HasOutcome q b (Whole v n) → text.items ≡ show_text q.kinds q.place v)
+      → IfOk r (λ text. Shows q b a text.items)
+  lines_before asked b a used is right (Ok text) lines =
+      let whole = value_before (unshown q) b used (subst (λ (x : Answer). IsRight (unshown q) b x []) is right) in
+      subst (λ (x : Answer). Shows q b x text.items) (sym is) (shows_value asked b text.items whole lines used)
+  lines_before asked b a used is right (Err f) lines = tt
+
+  -- what is shown of all bytes
+  pub shows_all : (b : List ℕ) (a : Answer) (text : List ℕ) → IsRight (unshown q) b a [] → Shows q b a text
+      → IsRight q b a text
+  shows_all b a text right shows =
+      subst (λ (x : List ℕ). IsRight q x a text) (append-nil b)
+      (shows [] (subst (λ (x : List ℕ). IsRight (unshown q) x a []) (sym (append-nil b)) right))
+
+  -- what is shown of the bytes that were kept of an input is right for the input
+  pub shows_kept : (keeps : Bool) (left left' : Option (List ℕ)) (b : List ℕ) (a : Answer) (text : List ℕ)
+      → IsKept keeps (unshown q) left left' a b → IsRightFor (unshown q) false left a [] → Shows q b a text
+      → IsRightFor q false left a text
+  shows_kept keeps None left' b a text kept right shows = tt
+  shows_kept true (Some input) None b a text kept right shows = absurd kept.0
+  shows_kept true (Some input) (Some rest) b a text kept right shows =
+      subst (λ (x : List ℕ). IsRight q x a text) (sym kept.0)
+      (shows rest (subst (λ (x : List ℕ). IsRight (unshown q) x a []) kept.0 right))
+  shows_kept false (Some input) left' b a text kept right shows =
+      (subst (λ (x : List ℕ). Shows q x a text) kept shows) input right
+
+  -- what was read is said of either question
+  pub reads_shown : (left left' : Option (List ℕ)) → ReadsUnsettled (unshown q) left left' → ReadsUnsettled q left left'
+  reads_shown left left' h = record { bytes = h.bytes; unsettled = h.unsettled; read = h.read }
+
+  pub stops_shown : (left left' : Option (List ℕ)) (reads reads' : Option ℕ)
+      → IsUnread left left' reads reads' ⊎ LastRead (unshown q) left left' reads reads'
+      → IsUnread left left' reads reads' ⊎ LastRead q left left' reads reads'
+  stops_shown left left' reads reads' (inl unread) = inl unread
+  stops_shown left left' reads reads' (inr h) = inr (record {
+    before = h.before;
+    last = h.last;
+    unsettled = h.unsettled;
+    page = h.page;
+    read = h.read;
+    few = h.few;
+  })
