@@ -5,10 +5,11 @@ ghost use Rattle.xdr_types.specs.Kinds.{kind_at, maybe, up_to};
 ghost use Rattle.xdr_types.specs.Tree.{absent, int, items, none, numbered};
 ghost use Rattle.xdr_types.specs.View.{tree};
 ghost use Rattle.xdr_types.specs.Within.{FitsWithin};
-ghost use Rattle.xdr_examples.specs.Rfc.{constant, content, file_kinds, sillyprog, sillyprog_lines};
+ghost use Rattle.xdr_examples.specs.Rfc.{constant, content, file_kinds, sillyprog, sillyprog_bytes, sillyprog_lines};
 
 use std::alloc::Global;
-use xdr_show::show;
+use xdr_codec::parts;
+use xdr_show::{show, show_parts};
 use xdr_types::{KindId, Limits, NoMemory, Schema, Value};
 
 /// The file of RFC 4506 section 7: a line for each part, two spaces further in for each level.
@@ -25,6 +26,26 @@ pub fn shows_the_file(
     ensures { IfOk result (λ b. b.items ≡ sillyprog_lines) }
 {
     show(alloc, schema, KindId { place: 6 }, value, limits)
+}
+
+/// The same lines are printed from the parts of its 48 bytes, and no value is made.
+pub fn shows_the_lent_file(
+    alloc: Global,
+    schema: &Schema,
+    limits: Limits,
+    input: &[u8],
+) -> Option<Vec<u8>>
+    requires kinds { schema.now.kinds ≡ file_kinds }
+    requires deep { 3 ≤ limits.depth }
+    requires room { 48 ≤ limits.bytes }
+    requires input { input.now ≡ sillyprog_bytes }
+    ensures { IfSome result (λ b. b.items ≡ sillyprog_lines) }
+{
+    let _range = limits.depth();
+    match parts(alloc, schema, KindId { place: 6 }, limits, input) {
+        Ok(lent) => show_parts(alloc, schema, &lent).ok(),
+        Err(_) => None,
+    }
 }
 
 /// A number is shown in decimal, after a minus sign where it is negative.
