@@ -1,5 +1,5 @@
 //! One value: when something is printed, what stands before the line of its outcome, and how much is read.
-ghost use Rattle.std.specs.Prelude.{◌≡◌, ◌≢◌, ◌⊎◌, ◌<◌, ◌≤◌, ◌+◌, ◌++◌, ℕ, List, length, take, false};
+ghost use Rattle.std.specs.Prelude.{◌≡◌, ◌≢◌, ◌⊎◌, ◌<◌, ◌≤◌, ◌+◌, ◌++◌, ℕ, List, length, take, true, false};
 ghost use Rattle.std.specs.Io.KnownBytes.{Appends};
 ghost use Rattle.xdr_io.specs.Told.{Counts, MovesAtMost};
 ghost use Rattle.oncrpc_tasks.specs.declared.answer.Answer.{Answer};
@@ -92,6 +92,26 @@ pub fn no_read_fails_after_the_answer<I: Source, O: Sink, F: Sink>(
         ⊎ Counts 1 (O.failures output.old) (O.failures output.new) }
 {
     check_over(alloc, input, output, faults, schema, kind, limits, false)
+}
+
+/// A show stops reading where a check does: a read that fails is met only where what was read settles no answer, so none
+/// is made after a refusal.
+pub fn no_read_of_a_show_fails_after_the_answer<I: Source, O: Sink, F: Sink>(
+    alloc: Global,
+    input: &mut I,
+    output: &mut O,
+    faults: &mut F,
+    schema: &Schema,
+    kind: KindId,
+    limits: Limits,
+) -> u8
+    requires { kind.place < length schema.now.kinds }
+    ensures { result ≡ 3
+        → ReadsUnsettled (record { kinds = schema.now.kinds; place = kind.place; limits = limits; shows = true })
+        (I.left input.old) (I.left input.new)
+        ⊎ Counts 1 (O.failures output.old) (O.failures output.new) }
+{
+    show_over(alloc, input, output, faults, schema, kind, limits, false)
 }
 
 /// Of a value nothing is printed in part but the beginning of what is right.
