@@ -135,8 +135,8 @@ fn denies_callers(rt: HostRuntime) -> Result<(), Fail> {
     Ok(())
 }
 
-// A port that is set is found by both versions, and is not set again; netid and port of a look-up are ignored. A version
-// that is not registered is looked up as the greatest that is, but not by procedure 9 of version 4, which asks for one.
+// A port that is set is found by both versions, and is not set again; netid and port of a look-up are ignored. A
+// version that is not registered is looked up as the greatest that is, but not by procedure 9 of version 4.
 const PORTS: [Asked; 16] = [
     Call(
         Nobody,

@@ -62,7 +62,8 @@ returns-clause-value g c =
     let rows = c.args.rows.now in
     let over = is_over c.args.prog c.args.netid.now in
     let lent = YieldsList-end
-    (YieldsList-from_rest (values rows) (c.into_iter-row-iterator.ensures.into_iter_gives ∙ c.values-row-items.ensures.rest))
+    (YieldsList-from_rest (values rows)
+    (c.into_iter-row-iterator.ensures.into_iter_gives ∙ c.values-row-items.ensures.rest))
     c.loop-row.yielded _ c.loop-row.yielded_by _ _ c.in-None.is c.next.ensures.steps in
     all_looked_at (filter over (map view c.loop-row.yielded)) (option_map view c.loop-row.greatest) c.loop-row.invariant
     ∙ ap (λ xs. greatest (filter over xs)) (sym (map-map plain_row deref c.loop-row.yielded) ∙ ap (map plain_row) lent.0
