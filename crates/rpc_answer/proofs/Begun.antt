@@ -12,7 +12,7 @@ use Rattle.xdr_types.specs.Fits.{Fits, fits, fit, is_legal, parts, are_bytes}
 use Rattle.xdr_types.specs.Spelling.{bytes_of}
 use Rattle.rpc_rows.specs.Rows.{row_of}
 use Rattle.rpc_dumps.specs.Dir.{dir_kinds}
-use Rattle.rpc_dumps.specs.Dumps.{number, group, rpcb_tree, mapping_of}
+use Rattle.rpc_dumps.specs.Dumps.{rpcb_tree, mapping_of}
 use Rattle.rpc_answer.specs.Answer.{AreArguments, AreGarbage}
 use Rattle.rpc_answer.specs.Private.Parsed.{text, HasNoText}
 use Rattle.xdr_units.proofs.Bytes.{same_word}

@@ -8,22 +8,37 @@ use Rattle.rpc_message.specs.Spelling.{reply, IsReply}
 use Rattle.rpc_message.specs.Cases.{IsCase}
 use Rattle.rpc_rows.specs.Rows.{Row}
 use Rattle.rpc_answer.specs.Callers.{Owner, Refused, IsCaller}
-use Rattle.rpc_answer.specs.Answer.{denies, accepts, accepted, auth_error, Answers, silence, no_memory, xid_in, Answer}
+use Rattle.rpc_answer.specs.Answer.{denies, accepts, too_long, is_too_long, accepted, auth_error, Answers, silence}
+use Rattle.rpc_answer.specs.Answer.{no_memory, xid_in, Answer}
 use Rattle.rpc_answer.specs.Answering.{PushesAnswer, Adds, appended_of}
 use Rattle.rpc_answer.specs.declared.answering.Appended.{Appended}
-use Rattle.rpc_answer.specs.Private.Pushes.{PushesStatus, PushesCall, most}
+use Rattle.rpc_answer.specs.Private.Pushes.{PushesStatus, PushesCall, most, head}
 
--- a caller who is believed
+-- a caller who is believed, and a reply that can be sent
 pub pushes_accepted : (rows : List Row) (netid owner : List ℕ) (c : CallView) (old out : List ℕ) (new : List Row)
-    → IsWord c.xid → IsCaller c.cred (Owner owner) → PushesStatus rows netid owner c old new out
-    → PushesCall rows netid c old new out
-pushes_accepted rows netid owner c old out new word is k = record {
+    → IsWord c.xid → IsCaller c.cred (Owner owner) → (k : PushesStatus rows netid owner c old new out)
+    → is_too_long netid (length (reply (accepted c.xid k.status))) ≡ false → PushesCall rows netid c old new out
+pushes_accepted rows netid owner c old out new word is k room = record {
   said = accepted c.xid k.status;
-  answers = accepts owner new k.status is k.comes;
+  answers = accepts owner new k.status is k.comes room;
   fits = (word, record { flavor = omega arith; short = omega arith }, k.fits);
   added = k.added;
   short = k.short;
 }
+
+-- and one that has no room
+pub pushes_too_long : (rows : List Row) (netid owner : List ℕ) (c : CallView) (old mid out : List ℕ) (new : List Row)
+    → IsWord c.xid → IsCaller c.cred (Owner owner) → (k : PushesStatus rows netid owner c old new mid)
+    → is_too_long netid (length (reply (accepted c.xid k.status))) ≡ true → new ≡ rows → out ≡ old ++ head c.xid 5
+    → PushesCall rows netid c old new out
+pushes_too_long rows netid owner c old mid out new word is k long same e = subst
+    (λ (x : List Row). PushesCall rows netid c old x out) (sym same) (record {
+      said = accepted c.xid SystemErr;
+      answers = too_long owner new k.status is k.comes long;
+      fits = (word, record { flavor = omega arith; short = omega arith }, tt);
+      added = e;
+      short = omega (arith, ap length e, length-append old (head c.xid 5));
+    })
 
 -- a caller who is not
 pub pushes_auth_error : (rows : List Row) (netid : List ℕ) (c : CallView) (old out : List ℕ) (stat : ℕ) → IsWord c.xid

@@ -7,3 +7,4 @@ pub mod Telling
 pub mod Calls
 pub mod Listing
 pub mod One
+pub mod Room

@@ -1,6 +1,6 @@
 -- A record has one answer.
 use Rattle.std.proofs.Common.{◌≡◌, ◌⊎◌, ◌↔◌, ℕ, ◌<◌, Bool, true, false, List, [], Option, Some, None, option_map}
-use Rattle.std.proofs.Common.{is_some, inl, inr}
+use Rattle.std.proofs.Common.{is_some, inl, inr, length}
 use Rattle.std.proofs.Common.{refl, ap, sym, ◌∙◌, subst, arith, true≢false}
 use Rattle.xdr_units.specs.Numbers.{AreBytes}
 use Rattle.xdr_types.specs.Tree.{Tree}
@@ -18,6 +18,7 @@ use Rattle.rpc_answer.specs.Callers.{Caller, Owner, Refused, owner_of, IsCaller,
 use Rattle.rpc_answer.specs.Procedures.{Procedure}
 use Rattle.rpc_answer.specs.Answer.{argument_limits, AreArguments, IsVersion, IsCallOf, ComesTo, no_program, no_version}
 use Rattle.rpc_answer.specs.Answer.{no_procedure, garbage, success, accepted, auth_error, AnswersCall, denies, accepts}
+use Rattle.rpc_answer.specs.Answer.{too_long, is_too_long}
 use Rattle.rpc_answer.specs.Answer.{xid_in, Answers, silence, other_version, bad_cred, bad_verf, call, no_memory}
 use Rattle.rpc_answer.specs.Answer.{Sends}
 use Rattle.rpc_answer.specs.Laws.{OneAnswer}
@@ -131,6 +132,18 @@ module _
           λ j. Success (bytes_of dir_kinds (e j).gives ((e j).step rows netid owner (f j)).1),
         )
 
+    -- two owners of one caller come to one status
+    same_status : (owner who : List ℕ) {new also : List Row} {s t : StatusView} → IsCaller c.cred (Owner owner)
+        → IsCaller c.cred (Owner who) → ComesTo rows netid owner c new s → ComesTo rows netid who c also t
+        → (new ≡ also) × (s ≡ t)
+    same_status owner who {new} {also} {s} {t} h k come go =
+        let e : owner ≡ who = ap text_of (one_caller c.cred h k) in
+        one_status who (subst (λ (x : List ℕ). ComesTo rows netid x c new s) e come) go
+
+    -- whether the transport has no room for the reply of a status
+    abbrev room_for : StatusView → Bool
+    room_for status = is_too_long netid (length (reply (accepted c.xid status)))
+
     -- a whole call has one reply
     one_reply : {new also : List Row} {q r : ReplyView} → AnswersCall rows netid c new q
         → AnswersCall rows netid c also r → (new ≡ also) × (q ≡ r)
@@ -139,14 +152,24 @@ module _
       ap (λ (x : Caller). auth_error c.xid (stat_of x))
           (one_caller c.cred h k),
     )
-    one_reply (denies s h) (accepts owner new status k come) =
+    one_reply (denies s h) (accepts owner new status k come fits) =
         absurd (true≢false (ap is_owner (one_caller c.cred k h)))
-    one_reply (accepts owner new status h come) (denies t k) =
+    one_reply (denies s h) (too_long owner new status k come long) =
+        absurd (true≢false (ap is_owner (one_caller c.cred k h)))
+    one_reply (accepts owner new status h come fits) (denies t k) =
         absurd (true≢false (ap is_owner (one_caller c.cred h k)))
-    one_reply (accepts owner new status h come) (accepts who next mark k go) =
-        let e : owner ≡ who = ap text_of (one_caller c.cred h k) in
-        let s = one_status who (subst (λ (x : List ℕ). ComesTo rows netid x c new status) e come) go in
+    one_reply (accepts owner new status h come fits) (accepts who next mark k go room) =
+        let s = same_status owner who h k come go in
         (s.0, ap (accepted c.xid) s.1)
+    one_reply (accepts owner new status h come fits) (too_long who next mark k go long) =
+        let s = same_status owner who h k come go in
+        absurd (true≢false (sym long ∙ sym (ap room_for s.1) ∙ fits))
+    one_reply (too_long owner new status h come long) (denies t k) =
+        absurd (true≢false (ap is_owner (one_caller c.cred h k)))
+    one_reply (too_long owner new status h come long) (accepts who next mark k go fits) =
+        let s = same_status owner who h k come go in
+        absurd (true≢false (sym long ∙ ap room_for s.1 ∙ fits))
+    one_reply (too_long owner new status h come long) (too_long who next mark k go also) = (refl, refl)
 
   module _ (rows : List Row) (netid : List ℕ) where
     -- what a case and refused memory make of the rows and the reply

@@ -1,5 +1,7 @@
 -- What the registry answers to a record (RFC 5531 section 9, RFC 1833 sections 2 and 3).
-use Rattle.std.specs.Prelude.{◌≡◌, ◌≢◌, ◌⊎◌, ℕ, ◌<◌, ◌≤◌, Bool, true, false, List, [], Option, Some, None, ⊤}
+use Rattle.std.specs.Prelude.{◌≡◌, ◌≢◌, ◌⊎◌, ℕ, ◌<◌, ◌≤◌, nat_lt, Bool, true, false, ◌&&◌, List, [], length, Option}
+use Rattle.std.specs.Prelude.{Some, None, ⊤}
+use Rattle.std.specs.Str.{bytes_eq}
 use Rattle.xdr_types.specs.Tree.{Tree}
 use Rattle.xdr_types.specs.Spelling.{bytes_of}
 use Rattle.xdr_types.specs.Within.{Bounds}
@@ -9,8 +11,9 @@ use Rattle.rpc_message.specs.Message.{CallView, CaseView, Whole, OtherVersion, B
 use Rattle.rpc_message.specs.Message.{Success, ProgUnavail, ProgMismatch, ProcUnavail, GarbageArgs, SystemErr}
 use Rattle.rpc_message.specs.Message.{RpcMismatch, AuthError, ReplyView, Accepted, Denied}
 use Rattle.rpc_message.specs.Cases.{IsCase}
-use Rattle.rpc_message.specs.Spelling.{ReplyBytes}
+use Rattle.rpc_message.specs.Spelling.{ReplyBytes, reply}
 use Rattle.rpc_rows.specs.Rows.{Row}
+use Rattle.rpc_rows.specs.Ports.{udp}
 use Rattle.rpc_dumps.specs.Dir.{dir_kinds}
 use Rattle.rpc_answer.specs.Callers.{Owner, Refused, IsCaller}
 use Rattle.rpc_answer.specs.Procedures.{Procedure, procedure_at}
@@ -71,11 +74,24 @@ accepted xid status = Accepted xid (record { flavor = 0; body = [] }) status
 abbrev pub auth_error : ℕ → ℕ → ReplyView
 auth_error xid stat = Denied xid (AuthError stat)
 
--- The new rows and the reply to a whole call: denied where the caller is not believed.
+-- the most bytes of a datagram over IPv4: 65535 without headers of 20 and of 8 bytes (RFC 791, RFC 768)
+abbrev pub most_datagram : ℕ
+most_datagram = 65507
+
+-- a reply of so many bytes has no room in one message of the transport: only datagrams are bounded
+abbrev pub is_too_long : (netid : List ℕ) → ℕ → Bool
+is_too_long netid count = bytes_eq netid udp && nat_lt most_datagram count
+
+-- The new rows and the reply to a whole call: denied where the caller is not believed, and SYSTEM_ERR with the rows as
+-- they were where the reply has no room (this project's own).
 pub data AnswersCall (rows : List Row) (netid : List ℕ) (c : CallView) : List Row → ReplyView → Type 0 where
   denies : (stat : ℕ) → IsCaller c.cred (Refused stat) → AnswersCall rows netid c rows (auth_error c.xid stat)
   accepts : (owner : List ℕ) (new : List Row) (status : StatusView) → IsCaller c.cred (Owner owner)
-      → ComesTo rows netid owner c new status → AnswersCall rows netid c new (accepted c.xid status)
+      → ComesTo rows netid owner c new status → is_too_long netid (length (reply (accepted c.xid status))) ≡ false
+      → AnswersCall rows netid c new (accepted c.xid status)
+  too_long : (owner : List ℕ) (new : List Row) (status : StatusView) → IsCaller c.cred (Owner owner)
+      → ComesTo rows netid owner c new status → is_too_long netid (length (reply (accepted c.xid status))) ≡ true
+      → AnswersCall rows netid c rows (accepted c.xid SystemErr)
 
 -- the xid of a message that wants a reply
 abbrev pub xid_in : CaseView → Option ℕ

@@ -5,11 +5,14 @@ ghost use Rattle.xdr_units.specs.Numbers.{IsWord};
 ghost use Rattle.rpc_message.specs.View.{lent_call_view};
 ghost use Rattle.rpc_answer.specs.Answer.{Answer};
 ghost use Rattle.rpc_answer.specs.Answering.{AppendsAnswer, PushesAnswer, appended_of};
+ghost use Rattle.rpc_answer.specs.Callers.{IsCaller};
+ghost use Rattle.rpc_answer.specs.Callers.{Owner as Believed};
+ghost use Rattle.rpc_answer.specs.Owners.{owner_text};
 ghost use Rattle.rpc_answer.specs.Private.Pushes.{PushesCall};
 ghost use Rattle.rpc_answer.specs.Views.{netid_of, is_refused, sent_of};
 
-use crate::callers::{AUTH_BADCRED, AUTH_BADVERF, Caller, caller_of};
-use crate::replies::{push_auth_error, push_rpc_mismatch};
+use crate::callers::{AUTH_BADCRED, AUTH_BADVERF, Caller, Owner, caller_of};
+use crate::replies::{cut_to_system_err, push_auth_error, push_rpc_mismatch};
 use crate::transport::Transport;
 use crate::versions::push_accepted;
 use rpc_directory::Directory;
@@ -43,8 +46,9 @@ pub enum Appended {
 /// What the registry answers to a record that came over a transport. The first of these checks that fails decides: the
 /// record is a call, of version 2 of RPC, with a credential and a verifier; the credential is AUTH_NONE, or AUTH_SYS
 /// that reads; the program is 100000, in version 2, 3 or 4, with this procedure, and the arguments begin with a value
-/// of its kind within depth 4096 and 65536 bytes (RFC 5531 section 9, RFC 1833 sections 2.2.1 and 3.2). No memory is
-/// asked for once rows have changed. A record that is no call takes none.
+/// of its kind within depth 4096 and 65536 bytes (RFC 5531 section 9, RFC 1833 sections 2.2.1 and 3.2). Over UDP a
+/// reply of more than 65507 bytes is SYSTEM_ERR, with the rows as they were. No memory is asked for once rows have
+/// changed. A record that is no call takes none.
 pub fn answer<S: BuildHasher>(
     alloc: Global,
     directory: &mut Directory<S>,
@@ -138,8 +142,34 @@ fn push_call<S: BuildHasher>(
     ensures begins { StartsWith out.new.items out.old.items }
 {
     match caller_of(alloc, &call.cred) {
-        Ok(Caller::Owner(owner)) => push_accepted(alloc, directory, transport, owner, call, out),
+        Ok(Caller::Owner(owner)) => push_sendable(alloc, directory, transport, owner, call, out),
         Ok(Caller::Refused(stat)) => push_auth_error(out, call.xid, stat),
         Err(_) => Err(NoMemory),
     }
+}
+
+/// Writes the reply to a call of a caller who is believed: SYSTEM_ERR, with the rows as they were, where the transport
+/// has no room for it.
+#[tactic(auto, using(crate::proofs::Chains::begins_then))]
+fn push_sendable<S: BuildHasher>(
+    alloc: Global,
+    directory: &mut Directory<S>,
+    transport: Transport,
+    owner: Owner,
+    call: &LentCall<'_>,
+    out: &mut Vec<u8>,
+) -> Result<(), NoMemory>
+    requires word { IsWord call.now.xid }
+    requires caller { IsCaller (lent_call_view call.now).cred (Believed (owner_text owner)) }
+    ensures ok { let c = lent_call_view call.now in
+        OnOk result (PushesCall directory.old (netid_of transport) c out.old.items directory.new out.new.items) }
+    ensures err { OnErr result (directory.new ≡ directory.old) }
+    ensures begins { StartsWith out.new.items out.old.items }
+{
+    let before = out.len();
+    push_accepted(alloc, directory, transport, owner, call, out)?;
+    if !transport.carries(out.len() - before) {
+        cut_to_system_err(out, before);
+    }
+    Ok(())
 }

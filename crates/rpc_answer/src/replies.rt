@@ -1,5 +1,5 @@
 //! Texts and the heads of replies, written behind bytes.
-ghost use Rattle.std.specs.Prelude.{◌≡◌, ◌<◌, ◌^◌, ◌++◌, length, OnOk};
+ghost use Rattle.std.specs.Prelude.{◌≡◌, ◌<◌, ◌≤◌, ◌+◌, ◌^◌, ◌++◌, ℕ, List, length, OnOk};
 ghost use Rattle.std.specs.Io.{StartsWith};
 ghost use Rattle.xdr_units.specs.Numbers.{IsWord};
 ghost use Rattle.rpc_message.specs.Message.{RpcMismatch, Denied};
@@ -72,4 +72,15 @@ pub fn push_rpc_mismatch(out: &mut Vec<u8>, xid: u32) -> Result<(), NoMemory>
     push_word(out, 0)?;
     push_word(out, 2)?;
     push_word(out, 2)
+}
+
+/// Makes a successful reply that stands behind so many bytes SYSTEM_ERR without results, where it stands (RFC 5531
+/// section 9). Nothing grows.
+pub fn cut_to_system_err(out: &mut Vec<u8>, before: usize)
+    requires { before + 24 ≤ length out.old.items }
+    ensures { (old results : List ℕ) (xid : ℕ) → length old ≡ before
+        → out.old.items ≡ old ++ (head xid 0 ++ results) → out.new.items ≡ old ++ head xid 5 }
+{
+    out.truncate(before + 24);
+    out[before + 23] = 5;
 }

@@ -1,5 +1,5 @@
 -- Arguments as they lie in the bytes of a call.
-use Rattle.std.specs.Prelude.{◌≡◌, ℕ, ◌<◌, ◌^◌, List, [], ◌∷◌, ◌++◌, length}
+use Rattle.std.specs.Prelude.{◌≡◌, ℕ, ◌<◌, ◌^◌, List, ◌++◌, length}
 use Rattle.xdr_units.specs.Numbers.{word, padded}
 use Rattle.xdr_types.specs.Tree.{Tree}
 use Rattle.rpc_dumps.specs.Dumps.{mapping_of, rpcb_tree}

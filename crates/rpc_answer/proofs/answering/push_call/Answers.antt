@@ -1,15 +1,11 @@
 use Rattle.rpc_message.specs.View.{lent_call_view}
-use Rattle.rpc_answer.specs.Owners.{owner_text}
 use Rattle.rpc_answer.specs.Views.{netid_of}
 use Rattle.rpc_answer.proofs.Chains.{on_ok}
-use Rattle.rpc_answer.proofs.Calls.{pushes_accepted, pushes_auth_error}
+use Rattle.rpc_answer.proofs.Calls.{pushes_auth_error}
 use Rattle.rpc_answer.proofs.answering.push_call.Goals as goal
 
-pub returns-in-Ok-Owner-clause-ok : goal.returns-in-Ok-Owner-clause-ok
-returns-in-Ok-Owner-clause-ok g c =
-    let is = rw c.in-Ok-Owner.field-0-is at c.in-Ok-Owner.ensures in
-    on_ok c.push_accepted.result _ _ (pushes_accepted c.args.directory.now (netid_of c.args.transport)
-    (owner_text c.in-Ok-Owner.owner) (lent_call_view c.args.call.now) _ _ _ c.requires is) c.push_accepted.ensures.ok
+pub push_sendable-requires-clause-caller : goal.push_sendable-requires-clause-caller
+push_sendable-requires-clause-caller g c = rw c.in-Ok-Owner.field-0-is at c.in-Ok-Owner.ensures
 
 pub returns-in-Ok-Refused-clause-ok : goal.returns-in-Ok-Refused-clause-ok
 returns-in-Ok-Refused-clause-ok g c =
