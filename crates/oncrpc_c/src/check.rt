@@ -32,10 +32,10 @@ fn answer_to(
 /// (1 to 4096) and of no more than `bytes` bytes (4 to 16777216, a multiple of four). The text is looked at first, then
 /// the name, then the limits, then the input.
 ///
-/// Status 0: the input is a value, and 1: a value and then more bytes; `at` counts the value's bytes. 2: no value within
-/// the limits begins the input; `why` is the reason's number, 1 to 8, at the place `at`. 3: the text declares nothing;
-/// `why` is the fault's number, 1 to 12, at `line` and `column`, with `inner` for 10. 4: no kind has the name. 5: the
-/// limits are out of range. 6: memory was refused.
+/// Status 0: the input is a value, and 1: a value and then more bytes; `at` counts the value's bytes. 2: no value
+/// within the limits begins the input; `why` is the reason's number, 1 to 8, at the place `at`. 3: the text declares
+/// nothing; `why` is the fault's number, 1 to 12, at `line` and `column`, with `inner` for 10. 4: no kind has the name.
+/// 5: the limits are out of range. 6: memory was refused.
 #[unsafe(no_mangle)]
 pub extern "C" fn oncrpc_check(
     alloc: Global,

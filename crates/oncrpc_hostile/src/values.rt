@@ -1,6 +1,6 @@
-//! Values of the kind NAME of TEXT, within SETTING bytes: `decode`, `parts`, `decoder` and `checker`, in pieces as read,
-//! over INPUT; `cut` in three pieces, cut at READ_PIECE and READ_FAILS; `encode`, `encode_to`, `show` and `copy` of the
-//! value that begins INPUT; and `declarations`, TEXT alone.
+//! Values of the kind NAME of TEXT, within SETTING bytes: `decode`, `parts`, `decoder` and `checker`, in pieces as
+//! read, over INPUT; `cut` in three pieces, cut at READ_PIECE and READ_FAILS; `encode`, `encode_to`, `show` and `copy`
+//! of the value that begins INPUT; and `declarations`, TEXT alone.
 ghost use Rattle.std.specs.Prelude.{◌≤◌, ◌<◌, length};
 
 use crate::case::{Case, allow};

@@ -1,6 +1,7 @@
 -- An input that is judged as it is read: where reading stands.
 use Rattle.std.proofs.Common.{◌≡◌, ℕ, ◌+◌, ◌<◌, ◌≤◌, List, [], ◌++◌, length, take, refl, sym, ap}
-use Rattle.std.proofs.Common.{subst, ◌∙◌, arith, append-nil, length-append, Option, Some, None, Bool, true, false, if◌then◌else◌}
+use Rattle.std.proofs.Common.{subst, ◌∙◌, arith, append-nil, length-append, Option, Some, None, Bool, true, false}
+use Rattle.std.proofs.Common.{if◌then◌else◌}
 use Rattle.std.specs.Io.KnownBytes.{Keeps, Consumes, IsAtEnd}
 use Rattle.xdr_types.specs.Kinds.{Lists}
 use Rattle.xdr_types.specs.Within.{AreBounds, Bounds}
@@ -97,7 +98,8 @@ settled_first q d v a left is says =
 
 -- what is kept: all that was seen, or nothing
 kept_by : (keeps : Bool) (kept seen : List ℕ) (q : Question) (left left' : Option (List ℕ)) (a : Answer)
-    → kept ≡ (if keeps then seen else []) → Consumes left left' seen → IsRight q seen a [] → IsKept keeps q left left' a kept
+    → kept ≡ (if keeps then seen else []) → Consumes left left' seen → IsRight q seen a []
+    → IsKept keeps q left left' a kept
 kept_by true kept seen q left left' a all read right =
     subst (λ (x : List ℕ). IsKept true q left left' a x) (sym all) (read, right)
 kept_by false kept seen q left left' a all read right = all
@@ -110,7 +112,8 @@ more_kept false kept kept' seen page all grown = grown ∙ all
 pub kept_first : (q : Question) (d : Checker) (v : Verdict) (a : Answer) (left : Option (List ℕ)) (keeps : Bool)
     (kept : List ℕ) → kept ≡ [] → v ≡ Settled a → Says q d [] v → IsKept keeps q left left a kept
 kept_first q d v a left keeps kept none is says =
-    kept_by keeps kept [] q left left a (none_kept keeps kept none) (Consumes-none left) (all_settled q d [] v a is says)
+    kept_by keeps kept [] q left left a (none_kept keeps kept none) (Consumes-none left)
+    (all_settled q d [] v a is says)
 
 module _ (q : Question) (bounds : AreBounds q.limits.depth q.limits.bytes) where
   -- what comes before the last read is within the limit, and that read is of a page at most

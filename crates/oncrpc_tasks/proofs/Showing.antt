@@ -58,7 +58,8 @@ no_value_of q b reason.TooDeep at h = subst (λ (x : List ℕ). HasNoValue q x) 
 no_value_of q b reason.TooLarge at h = subst (λ (x : List ℕ). HasNoValue q x) (append-nil b) (h []).1
 
 -- so no fault but want of memory stands against a value
-pub no_fault : (q : Question) → q.limits.bytes % 4 ≡ 0 → (b : List ℕ) → (v : Tree) × (n : ℕ) × HasOutcome q b (Whole v n)
+pub no_fault : (q : Question) → q.limits.bytes % 4 ≡ 0 → (b : List ℕ) → (v : Tree) × (n : ℕ)
+    × HasOutcome q b (Whole v n)
     → (f : DecodeFault) → EndsWith q.kinds q.place q.limits b f → (f.why ≡ reason.NoMemory → ⊥) → ⊥
 no_fault q units b whole f ends known =
     let exact = (whole_exactly q.kinds q.place q.limits b whole.0 whole.1 units).0 whole.2 in
@@ -117,7 +118,8 @@ module _ (q : Question) where
   shows_refusal b f = λ more h. (refusal_lined (b ++ more) f.why f.at h.0, refl)
 
   pub shows_none : (b : List ℕ) (a : Answer) (text : List ℕ) → text ≡ []
-      → ((f : DecodeFault) × (a ≡ answer.Refused f)) ⊎ ((a ≡ answer.BadHex) ⊎ (a ≡ answer.HexTooLong)) → Shows q b a text
+      → ((f : DecodeFault) × (a ≡ answer.Refused f)) ⊎ ((a ≡ answer.BadHex) ⊎ (a ≡ answer.HexTooLong))
+      → Shows q b a text
   shows_none b a text none (inl h) = rw none (rw h.1 (shows_refusal b h.0))
   shows_none b a text none (inr (inl is)) = rw is (λ more h. absurd h)
   shows_none b a text none (inr (inr is)) = rw is (λ more h. absurd h)

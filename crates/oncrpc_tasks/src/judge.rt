@@ -1,5 +1,6 @@
 //! A value judged while its bytes come.
-ghost use Rattle.std.specs.Prelude.{◌≡◌, ◌⊎◌, ◌≤◌, ◌<◌, ◌+◌, ◌++◌, ℕ, List, [], if◌then◌else◌, false, length, IfOk, IfErr, OnOk, IsErrOf};
+ghost use Rattle.std.specs.Prelude.{◌≡◌, ◌⊎◌, ◌≤◌, ◌<◌, ◌+◌, ◌++◌, ℕ, List, [], if◌then◌else◌, false, length, IfOk};
+ghost use Rattle.std.specs.Prelude.{IfErr, OnOk, IsErrOf};
 ghost use Rattle.xdr_types.specs.Within.{AreBounds};
 ghost use Rattle.xdr_io.specs.Told.{Counts, CountsAtMost, MovesAtMost};
 ghost use Rattle.oncrpc_tasks.specs.Right.{Question, IsRight, IsRightFor};

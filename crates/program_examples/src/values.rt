@@ -94,8 +94,8 @@ pub fn no_read_fails_after_the_answer<I: Source, O: Sink, F: Sink>(
     check_over(alloc, input, output, faults, schema, kind, limits, false)
 }
 
-/// A show stops reading where a check does: a read that fails is met only where what was read settles no answer, so none
-/// is made after a refusal.
+/// A show stops reading where a check does: a read that fails is met only where what was read settles no answer, so
+/// none is made after a refusal.
 pub fn no_read_of_a_show_fails_after_the_answer<I: Source, O: Sink, F: Sink>(
     alloc: Global,
     input: &mut I,

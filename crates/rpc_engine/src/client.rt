@@ -1,5 +1,6 @@
 //! The exchange of a call for a reply.
-ghost use Rattle.std.specs.Prelude.{◌≡◌, ◌≢◌, ◌≤◌, true, [], ◌∷◌, length, IfOk, IfErr, OnOk, OnErr, IsErrOf, MatchResult};
+ghost use Rattle.std.specs.Prelude.{◌≡◌, ◌≢◌, ◌≤◌, true, [], ◌∷◌, length, IfOk, IfErr, OnOk, OnErr, IsErrOf};
+ghost use Rattle.std.specs.Prelude.{MatchResult};
 ghost use Rattle.xdr_io.specs.Told.{Counts, CountsAtMost};
 ghost use Rattle.rpc_record.specs.Marked.{fragment};
 ghost use Rattle.rpc_record.specs.Stands.{IsTaking, limit_of};

@@ -29,5 +29,5 @@ narrowed (Ok x) p n h same one =
     ap Some h.1 ∙ sym (octet_decimal n h.0) ∙ ap octet (sym same)
 narrowed (Err x) p n h same one =
     octet_none p (λ m small is. let equal : n ≡ m = ap (λ (o : Option ℕ). unwrap_or o 0)
-        (one m (omega (arith, small)) is) in h
+    (one m (omega (arith, small)) is) in h
     (omega (arith, equal, small)))

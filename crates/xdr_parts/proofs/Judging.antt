@@ -84,7 +84,7 @@ lent_of_first p b (l ∷ ls) a =
     let short : l.at + n ≤ length (take p b) = a.0.0 in
     let same : drop l.at b ≡ drop l.at (take p b) ++ drop p b =
     ap (λ (x : List ℕ). drop l.at x) (sym (take-append-drop p b)) ∙ drop-append-le l.at (take p b) (drop p b)
-        (omega (arith, short)) in
+    (omega (arith, short)) in
     let cut : take n (drop l.at b) ≡ take n (drop l.at (take p b)) =
     ap (λ (x : List ℕ). take n x) same
     ∙ take-append-le n (drop l.at (take p b)) (drop p b) (omega (arith, short, length-drop l.at (take p b))) in

@@ -68,7 +68,7 @@ module _ (w : Walk) (n : Next) (all : List Entry) (st : Stands w all) (next : Is
   pub is_shallow : length w.parents.items < 4096
   is_shallow =
       let deep : length F < 4096 = shallow w.schema.now.kinds w.at w.bytes.now (part_of n) R F st.left st.within due
-          st.low in
+      st.low in
       omega (arith, level w.parents.items)
 
   pub kept : (v : Walk) (new also : List Entry) (moved : ℕ) (fs : List (List Part)) → Wrote w v new moved fs

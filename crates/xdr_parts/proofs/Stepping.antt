@@ -72,7 +72,7 @@ content_goes s at n gs bytes es within r =
     let long : length (bs ++ pad n) ≡ n + gap n = omega (arith, length-append bs (pad n), r.2, pad_length n) in
     let spelled : drop at bytes ≡ (bs ++ pad n) ++ r.1 = r.4 ∙ sym (append_assoc bs (pad n) r.1) in
     let behind : drop (at + (n + gap n)) bytes ≡ r.1 = drop_behind bytes (bs ++ pad n) r.1 at (n + gap n) spelled
-        long in (
+    long in (
       subst
           (λ (x : List ℕ). Completes s (at + (n + gap n)) (dues gs) x es) (sym behind)
           (subst (λ (m : ℕ). Completes s (at + m) (dues gs) r.1 es) far r.5),

@@ -1,5 +1,6 @@
 -- The lines of lent parts are those of the values whose layout they are.
-use Rattle.std.proofs.Common.{◌≡◌, ℕ, ◌+◌, ◌<◌, ◌≤◌, Bool, true, false, Option, None, Some, List, [], ◌∷◌, ◌++◌, length, map}
+use Rattle.std.proofs.Common.{◌≡◌, ℕ, ◌+◌, ◌<◌, ◌≤◌, Bool, true, false, Option, None, Some, List, [], ◌∷◌, ◌++◌, length}
+use Rattle.std.proofs.Common.{map}
 use Rattle.std.proofs.Common.{take, drop, refl, sym, ap, subst, ◌∙◌, append_assoc, arith, lit<}
 use Rattle.std.specs.Prelude.{MatchOption, ⊤}
 use Rattle.std.specs.List.{AllByRecursion, flat_map}
@@ -121,13 +122,19 @@ module _ (kinds : List KindView) where
       record { known = h.0; sized = h.1; legal = h.2 }
 
   line_is : (l : Lent) (depth : ℕ) (p : Part) (r : Role) (bs : List ℕ) → Is l depth p r bs
-      → line_lent kinds l ≡ line_in kinds (kind_at kinds p.kind) depth p.name (shown_in kinds (kind_at kinds p.kind) r bs)
+      → line_lent kinds l ≡ line_in kinds (kind_at kinds p.kind) depth p.name
+      (shown_in kinds (kind_at kinds p.kind) r bs)
   line_is l depth p r bs is =
-      ap (λ (k : ℕ). line_in kinds (kind_at kinds k) l.depth l.name.now (shown_in kinds (kind_at kinds k) l.role l.bytes.now)) is.kind
-      ∙ ap (λ (x : Role). line_in kinds (kind_at kinds p.kind) l.depth l.name.now (shown_in kinds (kind_at kinds p.kind) x l.bytes.now)) is.role
-      ∙ ap (λ (b : List ℕ). line_in kinds (kind_at kinds p.kind) l.depth l.name.now (shown_in kinds (kind_at kinds p.kind) r b)) is.bytes
-      ∙ ap (λ (d : ℕ). line_in kinds (kind_at kinds p.kind) d l.name.now (shown_in kinds (kind_at kinds p.kind) r bs)) is.deep
-      ∙ ap (λ (n : List ℕ). line_in kinds (kind_at kinds p.kind) depth n (shown_in kinds (kind_at kinds p.kind) r bs)) is.name
+      ap (λ (k : ℕ). line_in kinds (kind_at kinds k) l.depth l.name.now
+      (shown_in kinds (kind_at kinds k) l.role l.bytes.now)) is.kind
+      ∙ ap (λ (x : Role). line_in kinds (kind_at kinds p.kind) l.depth l.name.now
+      (shown_in kinds (kind_at kinds p.kind) x l.bytes.now)) is.role
+      ∙ ap (λ (b : List ℕ). line_in kinds (kind_at kinds p.kind) l.depth l.name.now
+      (shown_in kinds (kind_at kinds p.kind) r b)) is.bytes
+      ∙ ap (λ (d : ℕ). line_in kinds (kind_at kinds p.kind) d l.name.now (shown_in kinds (kind_at kinds p.kind) r bs))
+      is.deep
+      ∙ ap (λ (n : List ℕ). line_in kinds (kind_at kinds p.kind) depth n (shown_in kinds (kind_at kinds p.kind) r bs))
+      is.name
 
 -- ---- the parts of one node
 
@@ -158,18 +165,23 @@ module _ (kinds : List KindView) (input : List ℕ) (place depth : ℕ) (p : Par
     }
 
     number_part : entry_of l ≡ entry at (length q) depth p layout.of_number → Is l depth p Number q
-    number_part e = units Number layout.of_number e (role_number l.role (length l.bytes.now) (ap (λ (x : Entry). x.role) e)) (λ n. refl)
+    number_part e = units Number layout.of_number e (role_number l.role (length l.bytes.now)
+        (ap (λ (x : Entry). x.role) e)) (λ n. refl)
 
     flag_part : entry_of l ≡ entry at (length q) depth p layout.of_flag → Is l depth p Flag q
-    flag_part e = units Flag layout.of_flag e (role_flag l.role (length l.bytes.now) (ap (λ (x : Entry). x.role) e)) (λ n. refl)
+    flag_part e = units Flag layout.of_flag e (role_flag l.role (length l.bytes.now) (ap (λ (x : Entry). x.role) e))
+        (λ n. refl)
 
     length_part : entry_of l ≡ entry at (length q) depth p layout.of_length → Is l depth p Length q
-    length_part e = units Length layout.of_length e (role_length l.role (length l.bytes.now) (ap (λ (x : Entry). x.role) e)) (λ n. refl)
+    length_part e = units Length layout.of_length e (role_length l.role (length l.bytes.now)
+        (ap (λ (x : Entry). x.role) e)) (λ n. refl)
 
     group_part : entry_of l ≡ entry at (length q) depth p layout.of_group → Is l depth p Group q
-    group_part e = units Group layout.of_group e (role_group l.role (length l.bytes.now) (ap (λ (x : Entry). x.role) e)) (λ n. refl)
+    group_part e = units Group layout.of_group e (role_group l.role (length l.bytes.now) (ap (λ (x : Entry). x.role) e))
+        (λ n. refl)
 
-    content_part : (size : ℕ) → entry_of l ≡ entry at size depth p (layout.of_content (length q)) → Is l depth p Content q
+    content_part : (size : ℕ) → entry_of l ≡ entry at size depth p (layout.of_content (length q))
+        → Is l depth p Content q
     content_part size e =
         let r = role_content l.role (length l.bytes.now) (length q) (ap (λ (x : Entry). x.role) e) in
         record {
@@ -269,9 +281,11 @@ module _ (kinds : List KindView) (input : List ℕ) (place depth : ℕ) (p : Par
       let nothing : shown_in kinds (kind_at kinds p.kind) Length u ≡ None =
       subst (λ (k : KindView). shown_in kinds k Length u ≡ None) same (none u) in
       let reads : Reads kinds p.kind Length u = (
-        legal_known kinds p.kind (value.bytes bs) (subst (λ (k : KindView). IsLegal kinds k (value.bytes bs)) same legal),
+        legal_known kinds p.kind (value.bytes bs) (subst (λ (k : KindView). IsLegal kinds k (value.bytes bs)) same
+            legal),
         refl,
-        subst (λ (o : Option Head). MatchOption o ⊤ (λ g. is_legal kinds (kind_at kinds p.kind) g ≡ true)) (sym nothing) tt,
+        subst (λ (o : Option Head). MatchOption o ⊤ (λ g. is_legal kinds (kind_at kinds p.kind) g ≡ true))
+            (sym nothing) tt,
       ) in
       let line : line_lent kinds l ≡ [] =
       line_is kinds l depth p Length u is
@@ -310,7 +324,8 @@ module _ (kinds : List KindView) (input : List ℕ) (place depth : ℕ) (p : Par
   node_says (xdr.structure fields) value.fields same l c stands ls e lent =
       group_says (xdr.structure fields) same value.fields l refl ls e lent
   node_says (xdr.choice tag arms other) (value.tag z) same l c stands ls e lent =
-      number_says (xdr.choice tag arms other) same (value.tag z) l (read_tag kinds tag arms other z l) c stands ls e lent
+      number_says (xdr.choice tag arms other) same (value.tag z) l (read_tag kinds tag arms other z l) c stands ls e
+      lent
   node_says (xdr.maybe item) value.present same l c stands ls e lent =
       flag_says (xdr.maybe item) same value.present l (ap flag (word_back 1 (lit< tt))) refl c stands ls e lent
   node_says (xdr.maybe item) value.absent same l c stands ls e lent =
@@ -381,7 +396,8 @@ says_value kinds kind v input ls are =
     (said.0, said.1 ∙ append-nil _ ∙ sym (show_is_lines kinds kind v))
 
 -- what `parts` tells of its list is what `show_parts` asks of it
-pub are_parts : (kinds : List KindView) (kind : ℕ) (limits : Bounds) (input : List ℕ) (v : Tree) (n : ℕ) (ls : List Lent)
+pub are_parts : (kinds : List KindView) (kind : ℕ) (limits : Bounds) (input : List ℕ) (v : Tree) (n : ℕ)
+    (ls : List Lent)
     → Outcome kinds kind limits input (Whole v n) → map entry_of ls ≡ entries kinds kind v → AreLentFrom input ls
     → ArePartsOf kinds kind v input ls
 are_parts kinds kind limits input v n ls o listed lent = record {

@@ -11,8 +11,8 @@ use std::alloc::Global;
 use xdr_parts::Lent;
 use xdr_types::{NoMemory, Schema};
 
-/// The lines of a value (RFC 4506 section 4), printed from its parts: the same that `show` prints, and no value is made.
-/// The parts are all that `parts` lent of one value, in their order, and the schema is that of this value.
+/// The lines of a value (RFC 4506 section 4), printed from its parts: the same that `show` prints, and no value is
+/// made. The parts are all that `parts` lent of one value, in their order, and the schema is that of this value.
 ///
 /// It takes no stack for a level of the value, and memory for the lines alone.
 pub fn show_parts<'a>(

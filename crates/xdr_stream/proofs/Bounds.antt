@@ -136,7 +136,12 @@ module _ (s : List KindView) (t : ℕ) where
   kept_room (Wide signed) fs q x b =
       omega (arith, into_room x.levels fs [] (make_wide signed) 8 q b.1, ap (λ (bs : List ℕ). length bs) b.0)
   kept_room (Low signed y) fs q x b =
-      omega (arith, into_room x.levels fs (num4 (pos y)) (make_wide signed) 4 q b.1, ap (λ (bs : List ℕ). length bs) b.0)
+      omega (
+        arith,
+        into_room x.levels fs (num4 (pos y)) (make_wide signed) 4 q b.1,
+        ap (λ (bs : List ℕ). length bs)
+            b.0,
+      )
 
 -- ---- the nodes are those that the law counts
 
@@ -176,7 +181,8 @@ module _ (s : List KindView) (t : ℕ) (l : Bounds) (H : Trace → Type 0) (q : 
       here r.reading.begun p ps fs ready.0
       ∙ next_count s t l r.trace.levels ((p ∷ ps) ∷ fs) q r.reading r.built.1
   counted (Content n) fs ready r =
-      nowhere r.reading.begun n fs ∙ into_count s t l r.trace.levels fs r.trace.content value.bytes n q r.reading r.built
+      nowhere r.reading.begun n fs ∙ into_count s t l r.trace.levels fs r.trace.content value.bytes n q r.reading
+      r.built
   counted (Wide signed) fs ready r =
       nowhere r.reading.begun 8 fs ∙ into_count s t l r.trace.levels fs [] (make_wide signed) 8 q r.reading r.built.1
   counted (Low signed x) fs ready r =

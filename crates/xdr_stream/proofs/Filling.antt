@@ -179,7 +179,8 @@ module _ (s : List KindView) (t : ℕ) where
       omega (arith, e)
 
   -- inside content
-  pub into_count : (l : Bounds) (ls : List Level) (fs : List (List Part)) (content : List ℕ) (make : List ℕ → Head) (n : ℕ)
+  pub into_count : (l : Bounds) (ls : List Level) (fs : List (List Part)) (content : List ℕ) (make : List ℕ → Head)
+      (n : ℕ)
       (q : List ℕ) (r : Reading s t l (Rest n ∷ dues fs) q)
       → BuiltInto s t ls fs content make n q → nodes s r.begun ≡ nodes_in ls
   into_count l [] fs content make n q r b = absurd b

@@ -22,11 +22,13 @@ use Rattle.xdr_stream.proofs.Finishing.{trace_at}
 
 -- ---- one part more
 
-nodes_last : (vs : List Tree) (v : Tree) → count_nodes (from_list (vs ++ v ∷ [])) ≡ count_nodes (from_list vs) + node_count v
+nodes_last : (vs : List Tree) (v : Tree) → count_nodes (from_list (vs ++ v ∷ [])) ≡ count_nodes
+    (from_list vs) + node_count v
 nodes_last [] v = omega arith
 nodes_last (w ∷ vs) v = omega (arith, nodes_last vs v)
 
-bytes_last : (vs : List Tree) (v : Tree) → count_bytes (from_list (vs ++ v ∷ [])) ≡ count_bytes (from_list vs) + byte_count v
+bytes_last : (vs : List Tree) (v : Tree) → count_bytes (from_list (vs ++ v ∷ [])) ≡ count_bytes
+    (from_list vs) + byte_count v
 bytes_last [] v = omega arith
 bytes_last (w ∷ vs) v = omega (arith, bytes_last vs v)
 

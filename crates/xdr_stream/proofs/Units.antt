@@ -260,7 +260,8 @@ whole_content s has known t l fs H I u n q units are most least some zeros room 
     let told : (b : Trace) → J b → I (content_in (extend_in (take k w) b)) = λ b j.
     subst (λ (x : Trace). I (content_in (extend_in (take k w) x))) (sym j.2)
     (subst (λ (x : Trace). I (content_in x)) (sym (same j.0)) (tells j.0 j.1)) in
-    let full : length (q ++ v) ≡ l.bytes → ⊥ = λ e. omega (arith, e, length-append q v, size, room, units, some, most) in
+    let full : length (q ++ v) ≡ l.bytes
+    → ⊥ = λ e. omega (arith, e, length-append q v, size, room, units, some, most) in
     let end : Sees s t l I Next fs ((q ++ v) ++ w) =
     last_content s has known t l J I fs (q ++ v) w four (are_bytes_of w (AreBytes-drop m u (bytes_are u are))) full k
     (omega (arith, parts, least, units)) (omega (arith, most, parts)) zero told here in

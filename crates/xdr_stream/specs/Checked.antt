@@ -10,5 +10,6 @@ use Rattle.xdr_stream.specs.declared.fault.DecodeFault.{DecodeFault}
 
 -- the end of the bytes b counts the bytes of the value that is whole in them, or is a fault
 abbrev pub Counts : List KindView → (kind : ℕ) → Bounds → (b : List ℕ) → Result ℕ DecodeFault → Type 0
-Counts kinds kind limits b (Ok n) = ((v : Tree) × Outcome kinds kind limits b (outcome.Whole v (length b))) × (n ≡ length b)
+Counts kinds kind limits b (Ok n) = ((v : Tree) × Outcome kinds kind limits b (outcome.Whole v (length b)))
+    × (n ≡ length b)
 Counts kinds kind limits b (Err f) = EndsWith kinds kind limits b f

@@ -55,7 +55,8 @@ pub record IsCount {B : Type 0} (r : Reader B) (nodes bytes : ℕ) (h : Held) : 
 abbrev pub Counts : Reader Values → Held → Type 0
 Counts r h = IsCount r (nodes_at r.state (nodes_in (trace_of r.built).levels)) (bytes_kept (trace_of r.built)) h
 
--- after the bytes b: with u whole units at most (kinds + 1) (u + 1) nodes, a frame more than the limit on depth, no more
+-- after the bytes b: with u whole units at most (kinds + 1) (u + 1) nodes, a frame more than the limit on depth, no
+    more
 -- content than bytes, and less than a unit (RFC 4506 section 3)
 pub record IsWithin (kinds : List KindView) (limits : Bounds) (b : List ℕ) (h : Held) : Type 0 where
   pub frames : h.frames ≤ limits.depth + 1
@@ -63,7 +64,8 @@ pub record IsWithin (kinds : List KindView) (limits : Bounds) (b : List ℕ) (h 
   pub bytes : h.bytes ≤ length b
   pub pending : h.pending ≤ 3
 
--- where a unit is needed: after the whole units of b the nodes are those that the law counts, each as soon as it is due,
+-- where a unit is needed: after the whole units of b the nodes are those that the law counts, each as soon as it is
+    due,
 -- and the bytes behind them are pending
 pub record IsDue (kinds : List KindView) (kind : ℕ) (b : List ℕ) (h : Held) : Type 0 where
   pub whole : List ℕ

@@ -2,7 +2,8 @@
 ghost use Rattle.std.specs.Prelude.{◌≡◌, ◌+◌, ◌%◌, ◌^◌, ◌<◌, ℕ, List, length};
 ghost use Rattle.xdr_stream.specs.Finish.{Stands, Checks};
 ghost use Rattle.xdr_stream.specs.Stands.{IsWaiting};
-ghost use Rattle.xdr_stream.specs.Held.{Counts, IsCount, IsDue, IsWithin, IsWhole, GoesOn, frames_at, nodes_at, pending_at};
+ghost use Rattle.xdr_stream.specs.Held.{Counts, IsCount, IsDue, IsWithin, IsWhole, GoesOn, frames_at, nodes_at};
+ghost use Rattle.xdr_stream.specs.Held.{pending_at};
 ghost use Rattle.xdr_stream.specs.declared.reader.State.TheVariants.{Finished};
 
 use crate::build::Build;

@@ -45,6 +45,6 @@ pub number_parsed : {E : Type 0} (r : Result ℕ E) (digits text : List ℕ) (m 
     → b ≡ bytes_eq (decimal m) text → (n : ℕ) → n < 2 ^ 32 → text ≡ decimal n → then_some b m ≡ Some n
 number_parsed r digits text m b s p e d n small same =
     let k : m ≡ n = ap (λ (o : Option ℕ). unwrap_or o 0)
-        (sym e ∙ ap result_ok (parse-decimal 32 n digits r small (wide n small) (s ∙ same) p)) in
+    (sym e ∙ ap result_ok (parse-decimal 32 n digits r small (wide n small) (s ∙ same) p)) in
     let t : b ≡ true = d ∙ (bytes_eq-Decides (decimal m) text).1 (ap decimal k ∙ sym same) in
     ap (λ c. then_some c m) t ∙ ap Some k

@@ -31,7 +31,8 @@ returns-in_ok-shown-clause-right g c =
       limits = c.args.limits;
       shows = c.args.shows;
     } in
-    rw c.if-hex.false (shows_kept q c.args.shows _ _ c.in_ok-answer.bytes.items _ _ c.in_ok-answer.ensures.kept c.in_ok-answer.ensures.right
+    rw c.if-hex.false (shows_kept q c.args.shows _ _ c.in_ok-answer.bytes.items _ _ c.in_ok-answer.ensures.kept
+    c.in_ok-answer.ensures.right
     (rw c.deref.ensures.value at c.in_ok-shown.ensures.right))
 
 pub returns-in_ok-shown-clause-stops : goal.returns-in_ok-shown-clause-stops

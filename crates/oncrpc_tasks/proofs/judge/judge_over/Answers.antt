@@ -4,7 +4,8 @@ use Rattle.std.proofs.lemmas.List.{length-take-le}
 use Rattle.std.proofs.KnownBytes.{Keeps-refl}
 use Rattle.xdr_io.specs.Told.{Counts}
 use Rattle.xdr_io.proofs.Chained.{Counts-trans, Counts-none}
-use Rattle.oncrpc_tasks.proofs.Progress.{started, begun, settled_first, moved_by, unsettled_by, failed_by, many_by, one_more}
+use Rattle.oncrpc_tasks.proofs.Progress.{started, begun, settled_first, moved_by, unsettled_by, failed_by, many_by}
+use Rattle.oncrpc_tasks.proofs.Progress.{one_more}
 use Rattle.oncrpc_tasks.proofs.Progress.{count_within, at_end_by, goes_on, settled_by, read_by}
 use Rattle.oncrpc_tasks.proofs.Progress.{kept_first, kept_at_end, kept_settled}
 use Rattle.oncrpc_tasks.proofs.judge.judge_over.Goals as goal
@@ -12,19 +13,22 @@ use Rattle.oncrpc_tasks.proofs.judge.judge_over.Goals as goal
 pub returns-in-Settled-clause-right : goal.returns-in-Settled-clause-right
 returns-in-Settled-clause-right g c =
     settled_first _ _ _ c.in-Settled.answer _ c.in-Settled.is
-    (c.in_ok-answer.ensures.says _ [] (started c.start-checker.result c.args.schema.now c.args.kind c.args.limits c.start-checker.ensures.stands
+    (c.in_ok-answer.ensures.says _ [] (started c.start-checker.result c.args.schema.now c.args.kind c.args.limits
+    c.start-checker.ensures.stands
     c.start-checker.ensures.settings) c.depth-range.ensures.range refl)
 
 pub returns-in-Settled-clause-kept : goal.returns-in-Settled-clause-kept
 returns-in-Settled-clause-kept g c =
     kept_first _ _ _ c.in-Settled.answer _ c.args.keeps _ c.new-kept.ensures.items c.in-Settled.is
-    (c.in_ok-answer.ensures.says _ [] (started c.start-checker.result c.args.schema.now c.args.kind c.args.limits c.start-checker.ensures.stands
+    (c.in_ok-answer.ensures.says _ [] (started c.start-checker.result c.args.schema.now c.args.kind c.args.limits
+    c.start-checker.ensures.stands
     c.start-checker.ensures.settings) c.depth-range.ensures.range refl)
 
 pub loop-turn-init : goal.loop-turn-init
 loop-turn-init g c = record {
   progress = begun _ _ _ c.in-Open.answer _ c.args.keeps _ c.new-kept.ensures.items c.in-Open.is
-      (c.in_ok-answer.ensures.says _ [] (started c.start-checker.result c.args.schema.now c.args.kind c.args.limits c.start-checker.ensures.stands
+      (c.in_ok-answer.ensures.says _ [] (started c.start-checker.result c.args.schema.now c.args.kind c.args.limits
+      c.start-checker.ensures.stands
       c.start-checker.ensures.settings) c.depth-range.ensures.range refl);
   reads = Counts-none _;
   none_failed = Counts-none _;
@@ -34,31 +38,37 @@ pub returns-in-Err-clause-failed : goal.returns-in-Err-clause-failed
 returns-in-Err-clause-failed g c =
     λ e. (
       Counts-trans _ _ _ 0 1 1 refl c.loop-turn.invariant.none_failed c.in-Err.ensures.failed,
-      unsettled_by _ _ _ _ _ _ _ _ _ (g.I.Source.reads c.loop-turn.input) c.loop-turn.invariant.progress c.loop-turn.invariant.reads _ c.in-Err.ensures.bytes,
+      unsettled_by _ _ _ _ _ _ _ _ _ (g.I.Source.reads c.loop-turn.input) c.loop-turn.invariant.progress
+          c.loop-turn.invariant.reads _ c.in-Err.ensures.bytes,
     )
 
 pub returns-in-Err-clause-reads : goal.returns-in-Err-clause-reads
 returns-in-Err-clause-reads g c =
-    one_more _ _ _ _ _ _ _ _ _ _ c.loop-turn.invariant.progress c.loop-turn.invariant.reads c.read.ensures.count (omega arith)
+    one_more _ _ _ _ _ _ _ _ _ _ c.loop-turn.invariant.progress c.loop-turn.invariant.reads c.read.ensures.count
+    (omega arith)
 
 pub returns-in-Err-clause-moved : goal.returns-in-Err-clause-moved
 returns-in-Err-clause-moved g c =
-    moved_by _ c.depth-range.ensures.range _ _ _ _ (failed_by _ _ _ _ _ _ _ _ _ _ c.loop-turn.invariant.progress c.loop-turn.invariant.reads _ c.in-Err.ensures.bytes
+    moved_by _ c.depth-range.ensures.range _ _ _ _ (failed_by _ _ _ _ _ _ _ _ _ _ c.loop-turn.invariant.progress
+    c.loop-turn.invariant.reads _ c.in-Err.ensures.bytes
     c.read.ensures.count)
 
 pub returns-in-Err-clause-stops : goal.returns-in-Err-clause-stops
 returns-in-Err-clause-stops g c =
-    inr (failed_by _ _ _ _ _ _ _ _ _ _ c.loop-turn.invariant.progress c.loop-turn.invariant.reads _ c.in-Err.ensures.bytes
+    inr (failed_by _ _ _ _ _ _ _ _ _ _ c.loop-turn.invariant.progress c.loop-turn.invariant.reads _
+    c.in-Err.ensures.bytes
     c.read.ensures.count)
 
 pub returns-then-n-eq0-clause-right : goal.returns-then-n-eq0-clause-right
 returns-then-n-eq0-clause-right g c =
-    at_end_by _ _ _ _ _ _ _ _ _ (g.I.Source.reads c.loop-turn.input) c.loop-turn.invariant.progress c.loop-turn.invariant.reads _ c.in-Ok.n c.read.new.array c.if-n-eq0.true
+    at_end_by _ _ _ _ _ _ _ _ _ (g.I.Source.reads c.loop-turn.input) c.loop-turn.invariant.progress
+    c.loop-turn.invariant.reads _ c.in-Ok.n c.read.new.array c.if-n-eq0.true
     c.in-Ok.ensures.bytes.0 (c.in-Ok.ensures.bytes.1 c.if-n-eq0.true)
 
 pub returns-then-n-eq0-clause-kept : goal.returns-then-n-eq0-clause-kept
 returns-then-n-eq0-clause-kept g c =
-    kept_at_end _ _ _ _ _ _ _ _ _ (g.I.Source.reads c.loop-turn.input) c.loop-turn.invariant.progress c.loop-turn.invariant.reads _ c.in-Ok.n c.read.new.array c.if-n-eq0.true
+    kept_at_end _ _ _ _ _ _ _ _ _ (g.I.Source.reads c.loop-turn.input) c.loop-turn.invariant.progress
+    c.loop-turn.invariant.reads _ c.in-Ok.n c.read.new.array c.if-n-eq0.true
     c.in-Ok.ensures.bytes.0
 
 pub returns-then-n-eq0-clause-none_failed : goal.returns-then-n-eq0-clause-none_failed
@@ -67,11 +77,13 @@ returns-then-n-eq0-clause-none_failed g c =
 
 pub returns-then-n-eq0-clause-reads : goal.returns-then-n-eq0-clause-reads
 returns-then-n-eq0-clause-reads g c =
-    one_more _ _ _ _ _ _ _ _ _ _ c.loop-turn.invariant.progress c.loop-turn.invariant.reads c.read.ensures.count (omega arith)
+    one_more _ _ _ _ _ _ _ _ _ _ c.loop-turn.invariant.progress c.loop-turn.invariant.reads c.read.ensures.count
+    (omega arith)
 
 pub returns-then-n-eq0-clause-moved : goal.returns-then-n-eq0-clause-moved
 returns-then-n-eq0-clause-moved g c =
-    moved_by _ c.depth-range.ensures.range _ _ _ _ (read_by _ _ _ _ _ _ _ _ _ _ c.loop-turn.invariant.progress c.loop-turn.invariant.reads _ c.in-Ok.n c.read.new.array
+    moved_by _ c.depth-range.ensures.range _ _ _ _ (read_by _ _ _ _ _ _ _ _ _ _ c.loop-turn.invariant.progress
+    c.loop-turn.invariant.reads _ c.in-Ok.n c.read.new.array
     (omega (
       arith,
       c.in-Ok.ensures.bound,
@@ -82,7 +94,8 @@ returns-then-n-eq0-clause-moved g c =
 
 pub returns-then-n-eq0-clause-stops : goal.returns-then-n-eq0-clause-stops
 returns-then-n-eq0-clause-stops g c =
-    inr (read_by _ _ _ _ _ _ _ _ _ _ c.loop-turn.invariant.progress c.loop-turn.invariant.reads _ c.in-Ok.n c.read.new.array
+    inr (read_by _ _ _ _ _ _ _ _ _ _ c.loop-turn.invariant.progress c.loop-turn.invariant.reads _ c.in-Ok.n
+    c.read.new.array
     (omega (
       arith,
       c.in-Ok.ensures.bound,
@@ -93,11 +106,13 @@ returns-then-n-eq0-clause-stops g c =
 
 pub returns-in_err-verdict-clause-reads : goal.returns-in_err-verdict-clause-reads
 returns-in_err-verdict-clause-reads g c =
-    one_more _ _ _ _ _ _ _ _ _ _ c.loop-turn.invariant.progress c.loop-turn.invariant.reads c.read.ensures.count (omega arith)
+    one_more _ _ _ _ _ _ _ _ _ _ c.loop-turn.invariant.progress c.loop-turn.invariant.reads c.read.ensures.count
+    (omega arith)
 
 pub returns-in_err-verdict-clause-moved : goal.returns-in_err-verdict-clause-moved
 returns-in_err-verdict-clause-moved g c =
-    moved_by _ c.depth-range.ensures.range _ _ _ _ (read_by _ _ _ _ _ _ _ _ _ _ c.loop-turn.invariant.progress c.loop-turn.invariant.reads _ c.in-Ok.n c.read.new.array
+    moved_by _ c.depth-range.ensures.range _ _ _ _ (read_by _ _ _ _ _ _ _ _ _ _ c.loop-turn.invariant.progress
+    c.loop-turn.invariant.reads _ c.in-Ok.n c.read.new.array
     (omega (
       arith,
       c.in-Ok.ensures.bound,
@@ -108,7 +123,8 @@ returns-in_err-verdict-clause-moved g c =
 
 pub returns-in_err-verdict-clause-stops : goal.returns-in_err-verdict-clause-stops
 returns-in_err-verdict-clause-stops g c =
-    inr (read_by _ _ _ _ _ _ _ _ _ _ c.loop-turn.invariant.progress c.loop-turn.invariant.reads _ c.in-Ok.n c.read.new.array
+    inr (read_by _ _ _ _ _ _ _ _ _ _ c.loop-turn.invariant.progress c.loop-turn.invariant.reads _ c.in-Ok.n
+    c.read.new.array
     (omega (
       arith,
       c.in-Ok.ensures.bound,
@@ -119,11 +135,13 @@ returns-in_err-verdict-clause-stops g c =
 
 pub returns-in_err-keep-clause-reads : goal.returns-in_err-keep-clause-reads
 returns-in_err-keep-clause-reads g c =
-    one_more _ _ _ _ _ _ _ _ _ _ c.loop-turn.invariant.progress c.loop-turn.invariant.reads c.read.ensures.count (omega arith)
+    one_more _ _ _ _ _ _ _ _ _ _ c.loop-turn.invariant.progress c.loop-turn.invariant.reads c.read.ensures.count
+    (omega arith)
 
 pub returns-in_err-keep-clause-moved : goal.returns-in_err-keep-clause-moved
 returns-in_err-keep-clause-moved g c =
-    moved_by _ c.depth-range.ensures.range _ _ _ _ (read_by _ _ _ _ _ _ _ _ _ _ c.loop-turn.invariant.progress c.loop-turn.invariant.reads _ c.in-Ok.n c.read.new.array
+    moved_by _ c.depth-range.ensures.range _ _ _ _ (read_by _ _ _ _ _ _ _ _ _ _ c.loop-turn.invariant.progress
+    c.loop-turn.invariant.reads _ c.in-Ok.n c.read.new.array
     (omega (
       arith,
       c.in-Ok.ensures.bound,
@@ -134,7 +152,8 @@ returns-in_err-keep-clause-moved g c =
 
 pub returns-in_err-keep-clause-stops : goal.returns-in_err-keep-clause-stops
 returns-in_err-keep-clause-stops g c =
-    inr (read_by _ _ _ _ _ _ _ _ _ _ c.loop-turn.invariant.progress c.loop-turn.invariant.reads _ c.in-Ok.n c.read.new.array
+    inr (read_by _ _ _ _ _ _ _ _ _ _ c.loop-turn.invariant.progress c.loop-turn.invariant.reads _ c.in-Ok.n
+    c.read.new.array
     (omega (
       arith,
       c.in-Ok.ensures.bound,
@@ -149,11 +168,13 @@ returns-in-Settled-verdict-clause-none_failed g c =
 
 pub returns-in-Settled-verdict-clause-reads : goal.returns-in-Settled-verdict-clause-reads
 returns-in-Settled-verdict-clause-reads g c =
-    one_more _ _ _ _ _ _ _ _ _ _ c.loop-turn.invariant.progress c.loop-turn.invariant.reads c.read.ensures.count (omega arith)
+    one_more _ _ _ _ _ _ _ _ _ _ c.loop-turn.invariant.progress c.loop-turn.invariant.reads c.read.ensures.count
+    (omega arith)
 
 pub returns-in-Settled-verdict-clause-moved : goal.returns-in-Settled-verdict-clause-moved
 returns-in-Settled-verdict-clause-moved g c =
-    moved_by _ c.depth-range.ensures.range _ _ _ _ (read_by _ _ _ _ _ _ _ _ _ _ c.loop-turn.invariant.progress c.loop-turn.invariant.reads _ c.in-Ok.n c.read.new.array
+    moved_by _ c.depth-range.ensures.range _ _ _ _ (read_by _ _ _ _ _ _ _ _ _ _ c.loop-turn.invariant.progress
+    c.loop-turn.invariant.reads _ c.in-Ok.n c.read.new.array
     (omega (
       arith,
       c.in-Ok.ensures.bound,
@@ -164,7 +185,8 @@ returns-in-Settled-verdict-clause-moved g c =
 
 pub returns-in-Settled-verdict-clause-stops : goal.returns-in-Settled-verdict-clause-stops
 returns-in-Settled-verdict-clause-stops g c =
-    inr (read_by _ _ _ _ _ _ _ _ _ _ c.loop-turn.invariant.progress c.loop-turn.invariant.reads _ c.in-Ok.n c.read.new.array
+    inr (read_by _ _ _ _ _ _ _ _ _ _ c.loop-turn.invariant.progress c.loop-turn.invariant.reads _ c.in-Ok.n
+    c.read.new.array
     (omega (
       arith,
       c.in-Ok.ensures.bound,
@@ -175,18 +197,21 @@ returns-in-Settled-verdict-clause-stops g c =
 
 pub judge_piece-requires-in-loop-turn : goal.judge_piece-requires-in-loop-turn
 judge_piece-requires-in-loop-turn g c =
-    count_within _ _ _ _ _ _ _ _ _ (g.I.Source.reads c.loop-turn.input) c.loop-turn.invariant.progress c.loop-turn.invariant.reads c.depth-range.ensures.range
+    count_within _ _ _ _ _ _ _ _ _ (g.I.Source.reads c.loop-turn.input) c.loop-turn.invariant.progress
+    c.loop-turn.invariant.reads c.depth-range.ensures.range
 
 pub returns-in-Settled-verdict-clause-right : goal.returns-in-Settled-verdict-clause-right
 returns-in-Settled-verdict-clause-right g c =
-    settled_by _ _ _ _ _ _ _ _ _ (g.I.Source.reads c.loop-turn.input) c.loop-turn.invariant.progress c.loop-turn.invariant.reads _ c.in-Ok.n c.read.new.array _ _
+    settled_by _ _ _ _ _ _ _ _ _ (g.I.Source.reads c.loop-turn.input) c.loop-turn.invariant.progress
+    c.loop-turn.invariant.reads _ c.in-Ok.n c.read.new.array _ _
     c.in-Settled-verdict.answer c.in-Ok.ensures.bytes.0 c.in-Settled-verdict.is
     (c.in_ok-verdict.ensures.says _ c.loop-turn.invariant.progress.seen
     c.loop-turn.invariant.progress.follows c.depth-range.ensures.range c.loop-turn.invariant.progress.counted)
 
 pub returns-in-Settled-verdict-clause-kept : goal.returns-in-Settled-verdict-clause-kept
 returns-in-Settled-verdict-clause-kept g c =
-    kept_settled _ _ _ _ _ _ _ _ _ (g.I.Source.reads c.loop-turn.input) c.loop-turn.invariant.progress c.loop-turn.invariant.reads _ c.in-Ok.n c.read.new.array _ _
+    kept_settled _ _ _ _ _ _ _ _ _ (g.I.Source.reads c.loop-turn.input) c.loop-turn.invariant.progress
+    c.loop-turn.invariant.reads _ c.in-Ok.n c.read.new.array _ _
     c.in-Settled-verdict.answer c.in-Ok.ensures.bytes.0 c.in-Settled-verdict.is
     (c.in_ok-verdict.ensures.says _ c.loop-turn.invariant.progress.seen
     c.loop-turn.invariant.progress.follows c.depth-range.ensures.range c.loop-turn.invariant.progress.counted)
@@ -194,11 +219,17 @@ returns-in-Settled-verdict-clause-kept g c =
 
 pub overflow_add-count : goal.overflow_add-count
 overflow_add-count g c =
-    omega (arith, c.in-Ok.ensures.bound, count_within _ _ _ _ _ _ _ _ _ (g.I.Source.reads c.loop-turn.input) c.loop-turn.invariant.progress c.loop-turn.invariant.reads c.depth-range.ensures.range)
+    omega (
+      arith,
+      c.in-Ok.ensures.bound,
+      count_within _ _ _ _ _ _ _ _ _ (g.I.Source.reads c.loop-turn.input)
+          c.loop-turn.invariant.progress c.loop-turn.invariant.reads c.depth-range.ensures.range,
+    )
 
 pub loop-turn-preserved : goal.loop-turn-preserved
 loop-turn-preserved g c = record {
-  progress = goes_on _ _ _ _ _ _ _ _ _ (g.I.Source.reads c.loop-turn.input) c.loop-turn.invariant.progress c.loop-turn.invariant.reads _ c.in-Ok.n c.read.new.array _ _ c.in-Open-verdict.answer
+  progress = goes_on _ _ _ _ _ _ _ _ _ (g.I.Source.reads c.loop-turn.input) c.loop-turn.invariant.progress
+      c.loop-turn.invariant.reads _ c.in-Ok.n c.read.new.array _ _ c.in-Open-verdict.answer
       (length-take-le c.in-Ok.n c.read.new.array (omega (arith, c.in-Ok.ensures.bound, c.read.array_long)))
       c.if-n-eq0.false c.in-Ok.ensures.bytes.0 c.in-Open-verdict.is
       (c.in_ok-verdict.ensures.says _ c.loop-turn.invariant.progress.seen
@@ -211,8 +242,10 @@ loop-turn-preserved g c = record {
 pub returns-clause-many : goal.returns-clause-many
 returns-clause-many g c =
     λ e. let all : c.loop-turn._turn ≡ 1048576 = omega arith in (
-      subst (λ (k : ℕ). Counts k (g.I.Source.reads c.args.input.now) (g.I.Source.reads c.loop-turn.input)) all c.loop-turn.invariant.reads,
-      unsettled_by _ _ _ _ _ _ _ _ _ (g.I.Source.reads c.loop-turn.input) c.loop-turn.invariant.progress c.loop-turn.invariant.reads _ (Keeps-refl _),
+      subst (λ (k : ℕ). Counts k (g.I.Source.reads c.args.input.now) (g.I.Source.reads c.loop-turn.input)) all
+          c.loop-turn.invariant.reads,
+      unsettled_by _ _ _ _ _ _ _ _ _ (g.I.Source.reads c.loop-turn.input) c.loop-turn.invariant.progress
+          c.loop-turn.invariant.reads _ (Keeps-refl _),
     )
 
 pub returns-clause-reads : goal.returns-clause-reads
@@ -221,8 +254,10 @@ returns-clause-reads g c =
 
 pub returns-clause-moved : goal.returns-clause-moved
 returns-clause-moved g c =
-    moved_by _ c.depth-range.ensures.range _ _ _ _ (many_by _ _ _ _ _ _ _ _ _ (g.I.Source.reads c.loop-turn.input) c.loop-turn.invariant.progress c.loop-turn.invariant.reads)
+    moved_by _ c.depth-range.ensures.range _ _ _ _ (many_by _ _ _ _ _ _ _ _ _ (g.I.Source.reads c.loop-turn.input)
+    c.loop-turn.invariant.progress c.loop-turn.invariant.reads)
 
 pub returns-clause-stops : goal.returns-clause-stops
 returns-clause-stops g c =
-    inr (many_by _ _ _ _ _ _ _ _ _ (g.I.Source.reads c.loop-turn.input) c.loop-turn.invariant.progress c.loop-turn.invariant.reads)
+    inr (many_by _ _ _ _ _ _ _ _ _ (g.I.Source.reads c.loop-turn.input) c.loop-turn.invariant.progress
+    c.loop-turn.invariant.reads)

@@ -12,4 +12,4 @@ returns-clause-found c =
 pub returns-clause-only : goal.returns-clause-only
 returns-clause-only c = λ k h.
     sym c.case_of.ensures ∙ case_again c.args.bytes.now k
-        (bytes_at c.args.bytes.now (λ i. omega (arith, c.type_inv.bytes i))) h
+    (bytes_at c.args.bytes.now (λ i. omega (arith, c.type_inv.bytes i))) h

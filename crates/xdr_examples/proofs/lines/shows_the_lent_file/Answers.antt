@@ -51,6 +51,7 @@ returns-in-Ok c =
     let lines : show_text kinds 6 h.0 ≡ sillyprog_lines =
     ap (λ (v : Tree). show_text kinds 6 v) same ∙ ap (λ (k : List KindView). show_text k 6 sillyprog) c.requires.kinds
     ∙ file_lines in
-    by_parts kinds c.deref.result.now c.show_parts.result c.ok.result c.ok.ensures.value c.show_parts.ensures 6 h.0 input
+    by_parts kinds c.deref.result.now c.show_parts.result c.ok.result c.ok.ensures.value c.show_parts.ensures 6 h.0
+    input
     (rw c.deref.ensures.value (are_parts kinds 6 c.args.limits input h.0 h.1 _ h.2 h.3 c.in-Ok.ensures.lent))
     sillyprog_lines lines

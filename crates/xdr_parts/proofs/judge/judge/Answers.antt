@@ -8,7 +8,7 @@ pub returns-in-Ok-Done-clause-whole : goal.returns-in-Ok-Done-clause-whole
 returns-in-Ok-Done-clause-whole c =
     let r = c.check-reader.result in
     done c.args.schema.now c.args.kind c.args.limits r c.check-reader.ensures.settings c.args.input.now
-        c.in-Ok-Done.used
+    c.in-Ok-Done.used
     (subst (λ (p : Progress). Answers r.schema.now.kinds r.kind.place r.limits [] c.args.input.now (Ok p))
     c.in-Ok-Done.field-0-is (c.in-Ok-Done.ensures.answer [] c.check-reader.ensures.stands))
 

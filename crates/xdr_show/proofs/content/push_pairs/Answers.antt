@@ -9,7 +9,8 @@ loop-rest-preserved c =
     let run = c.split_at.result.0.now in
     let behind = c.split_at.result.1.now in
     let new : c.extend_from_slice.new.self.items
-    ≡ c.loop-rest.out.items ++ encode_lower run = search (rules, c.in_ok-extend_from_slice.ensures.items, c.in-Ok.ensures.written) in
+    ≡ c.loop-rest.out.items ++ encode_lower run = search
+    (rules, c.in_ok-extend_from_slice.ensures.items, c.in-Ok.ensures.written) in
     let joined : run ++ behind ≡ c.loop-rest.rest.now = search (rules, take-append-drop) in
     ap (λ (z : List ℕ). z ++ encode_lower behind) new
     ∙ append_assoc c.loop-rest.out.items (encode_lower run) (encode_lower behind)

@@ -12,7 +12,12 @@ returns-clause-bounds c = λ b st.
     c.depth-range.ensures.range (λ (t : Trace). ⊤) (stack_of r.work r.parents.items) r.read r.unit
     r.pending r.state b c.pending_of.ensures.room st in
     record {
-      frames = omega (arith, c.frames_of.ensures, frames_few r.state r.work r.parents.items r.limits.depth w.2.frames_are);
+      frames = omega (
+        arith,
+        c.frames_of.ensures,
+        frames_few r.state r.work r.parents.items r.limits.depth
+            w.2.frames_are,
+      );
       nodes = omega arith;
       bytes = omega arith;
       pending = omega (arith, c.pending_of.ensures.count, w.2.pending_is);

@@ -36,7 +36,12 @@ returns-clause-bounds c = λ b st.
     let below : r.built.nodes + 1 < 2 ^ 64 = omega (arith, n, w.2.few) in
     let nodes = c.nodes_of.ensures below ∙ ap (λ (m : ℕ). nodes_at r.state m) n in
     record {
-      frames = omega (arith, c.frames_of.ensures, frames_few r.state r.work r.parents.items r.limits.depth w.2.frames_are);
+      frames = omega (
+        arith,
+        c.frames_of.ensures,
+        frames_few r.state r.work r.parents.items r.limits.depth
+            w.2.frames_are,
+      );
       nodes = omega (arith, nodes, w.2.nodes);
       bytes = omega (arith, w.1.kept w.2.short, w.2.bytes);
       pending = omega (arith, c.pending_of.ensures.count, w.2.pending_is);

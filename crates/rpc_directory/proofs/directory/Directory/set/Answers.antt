@@ -21,6 +21,7 @@ append-requires-clause-row g c =
       address = subst (λ (t : List ℕ). length t ≤ 256) (sym address) may.address;
       owner = subst (λ (t : List ℕ). length t ≤ 10) (sym owner) c.requires;
       netid_bytes = subst AreBytes (sym netid) (bytes_at c.args.netid.now (λ i. omega (arith, c.type_inv.netid i)));
-      address_bytes = subst AreBytes (sym address) (bytes_at c.args.address.now (λ i. omega (arith, c.type_inv.address i)));
+      address_bytes = subst AreBytes (sym address)
+          (bytes_at c.args.address.now (λ i. omega (arith, c.type_inv.address i)));
       owner_bytes = subst AreBytes (sym owner) (bytes_at c.args.owner.now (λ i. omega (arith, c.type_inv.owner i)));
     }

@@ -43,7 +43,7 @@ returns-clause-stands c =
     (ap (λ (e : Entry). e ∷ [])
     (entry_same w.at w.at size size d (length fs + 1) (part_of n) role role refl refl (level w.parents.items) refl))
     (λ all st. subst (λ (m : ℕ). Goes w.schema.now.kinds w.at w.bytes.now st.left also m
-        (rest_of (left_of w.work) ∷ fs))
+    (rest_of (left_of w.work) ∷ fs))
     (sym c.whole_units.ensures)
     (free_of w.schema.now.kinds w.at w.bytes.now (part_of n) (rest_of (left_of w.work)) fs st.left st.within
     (due w n all st c.requires.next) _ c.requires.kind c.args.role c.args.size c.requires.free))

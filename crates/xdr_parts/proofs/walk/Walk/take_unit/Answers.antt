@@ -65,7 +65,7 @@ counted-requires-clause-there c =
     let g = length_of w.schema.now.kinds w.at w.bytes.now (part_of c.args.next) (rest_of (left_of w.work))
     (onto [] w.parents.items) st.left st.within (due w c.args.next c.requires.stands.0 st c.requires.next) _
     c.requires.kind c.unit_at-number.result t.1.0 t.0 c.unit_at-number.ensures
-        (is_there c.args.self.now c.args.next _ c.requires.stands c.requires.next c.requires.kind c.requires.unit) in
+    (is_there c.args.self.now c.args.next _ c.requires.stands c.requires.next c.requires.kind c.requires.unit) in
     subst (λ (m : ℕ). w.at + (4 + (m + gap m)) ≤ length w.bytes.now) (sym t.1.1) g.within
 
 pub counted-requires-clause-deep : goal.counted-requires-clause-deep
@@ -109,7 +109,7 @@ returns-in-Open-clause-stands c =
     (λ all st. open_of w.schema.now.kinds w.at w.bytes.now (part_of n) (rest_of (left_of w.work)) fs st.left st.within
     (due w n all st c.requires.next) _ c.requires.kind c.unit_at-number.result (left_of c.in-Open.frame) t.1.0 t.0
     c.unit_at-number.ensures (is_there c.args.self.now c.args.next _ c.requires.stands c.requires.next c.requires.kind
-        c.requires.unit) t.1.3)
+    c.requires.unit) t.1.3)
     c.open.ensures
 
 pub returns-in-Length-clause-stands : goal.returns-in-Length-clause-stands

@@ -53,7 +53,8 @@ returns-in-Ok-clause-stands g c = λ b state none room st.
       c.requires.some,
     ) in
     let next = many_hypers a.schema.now.kinds c.len-known.ensures.valued c.len-known.ensures.known a.kind.place
-    a.limits c.args.run.item c.args.run.signed due.kind a.parents.items deep u (With (g.B.Build.tells a.built) TakesMany)
+    a.limits c.args.run.item c.args.run.signed due.kind a.parents.items deep u
+    (With (g.B.Build.tells a.built) TakesMany)
     (g.B.Build.tells c.hypers.new.self) (c.args.run.left - c.args.last) c.args.last c.args.run.left s.0 count sum
     (bytes_are u are) fits (λ x told. c.in-Ok.ensures x told.0 told.1)
     (seen_many_wide a.schema.now.kinds a.kind.place a.limits (g.B.Build.tells a.built) c.args.run.signed

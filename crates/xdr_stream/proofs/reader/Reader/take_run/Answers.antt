@@ -1,4 +1,5 @@
-use Rattle.std.proofs.Common.{replicate, [], ◌≡◌, ◌+◌, ◌-◌, ◌*◌, ◌≤◌, ℕ, List, ◌++◌, length, take, subst, sym, ap, ◌∙◌, true}
+use Rattle.std.proofs.Common.{replicate, [], ◌≡◌, ◌+◌, ◌-◌, ◌*◌, ◌≤◌, ℕ, List, ◌++◌, length, take, subst, sym, ap, ◌∙◌}
+use Rattle.std.proofs.Common.{true}
 use Rattle.std.proofs.Common.{append_assoc, append-nil, arith}
 use Rattle.std.proofs.lemmas.List.{length-append, length-take, length-replicate}
 use Rattle.std.proofs.Math.Seq.{take-add}
@@ -65,7 +66,8 @@ returns-in-Ok-clause-stands g c = λ b state none room st.
       c.requires.last,
     ) in
     let next = many_numbers a.schema.now.kinds c.len-known.ensures.valued c.len-known.ensures.known a.kind.place
-    a.limits c.args.run.item c.args.run.signed due.kind a.parents.items deep u (With (g.B.Build.tells a.built) TakesMany)
+    a.limits c.args.run.item c.args.run.signed due.kind a.parents.items deep u
+    (With (g.B.Build.tells a.built) TakesMany)
     (g.B.Build.tells c.numbers.new.self) (c.args.run.left - c.args.last) c.args.last c.args.run.left s.0 count sum
     (bytes_are u are) fits (λ x told. c.in-Ok.ensures x told.0 told.1)
     (seen_many a.schema.now.kinds a.kind.place a.limits (g.B.Build.tells a.built)

@@ -1,4 +1,5 @@
-use Rattle.std.proofs.Common.{◌≡◌, ◌+◌, ◌-◌, ◌<◌, ◌≤◌, ◌%◌, ℕ, List, ◌++◌, length, take, drop, subst, sym, ap, ◌∙◌, true}
+use Rattle.std.proofs.Common.{◌≡◌, ◌+◌, ◌-◌, ◌<◌, ◌≤◌, ◌%◌, ℕ, List, ◌++◌, length, take, drop, subst, sym, ap, ◌∙◌}
+use Rattle.std.proofs.Common.{true}
 use Rattle.std.proofs.Common.{append_assoc, append-nil, arith, rules}
 use Rattle.std.proofs.lemmas.List.{length-append, length-take, drop-take, take-take}
 use Rattle.xdr_types.specs.Fits.{are_bytes}
@@ -33,7 +34,8 @@ returns-in-Ok-clause-stands g c = λ q len none live h.
     let room : length q + length u ≤ a.limits.bytes = omega (arith, many, e.room, len, some) in
     let told : (x : Trace) → With H HasRoom x → I (content_in (extend_in (take size u) x)) = λ x w.
     subst (λ (z : List ℕ). I (content_in (extend_in z x))) (sym first) (c.in-Ok.ensures x w.0 w.1) in
-    let next = whole_content a.schema.now.kinds c.len-known.ensures.valued c.len-known.ensures.known a.kind.place a.limits
+    let next = whole_content a.schema.now.kinds c.len-known.ensures.valued c.len-known.ensures.known a.kind.place
+    a.limits
     (stack_of a.work a.parents.items) (With H HasRoom) I u size q units are (omega (arith, many, fits.0))
     (omega (arith, many, fits.1)) (rw c.in-Content.is at live) zeros room told
     (seen_room a.schema.now.kinds a.kind.place a.limits H (Content size)

@@ -21,5 +21,6 @@ returns-in_ok-add c = λ t told can.
 pub returns-in_default : goal.returns-in_default
 returns-in_default c = λ t told can.
     let none : length c.args.self.now.parents.items ≡ 0 = omega (arith, c.in_default.ensures.cases) in
-    absurd (not_closed c.args.self.now.content.items c.args.self.now.work c.args.self.now.parents.items t none told.trace
+    absurd (not_closed c.args.self.now.content.items c.args.self.now.work c.args.self.now.parents.items t none
+    told.trace
     can)
