@@ -38,8 +38,8 @@ pub record BeginsWithValue (q : Question) (bytes : List ℕ) (used : ℕ) (more 
 abbrev pub HasNoValue : Question → List ℕ → Type 0
 HasNoValue q bytes = (used : ℕ) (more shown : List ℕ) → BeginsWithValue q bytes used more shown → ⊥
 
--- this is the outcome of decoding the bytes: the first event at the least place that has one
-    (RFC 4506 sections 3 and 4)
+-- this is the outcome of decoding the bytes: the first event at the least place that has one (RFC 4506 sections 3 and
+-- 4)
 abbrev pub HasOutcome : Question → List ℕ → Ending → Type 0
 HasOutcome q bytes e = Outcome q.kinds q.place q.limits bytes e
 
@@ -48,9 +48,8 @@ abbrev pub IsWhole : Question → List ℕ → (used : ℕ) → (more shown : Li
 IsWhole q bytes used more shown =
     (b : BeginsWithValue q bytes used more shown) × HasOutcome q bytes (Whole b.value used)
 
--- The reason and the place are those of the outcome. A value that the end of the input cuts, whose outcome is
-    pending, is
--- refused at that end. Every other outcome stands whatever bytes follow. No value begins the bytes.
+-- The reason and the place are those of the outcome. A value that the end of the input cuts, whose outcome is pending,
+-- is refused at that end. Every other outcome stands whatever bytes follow. No value begins the bytes.
 abbrev pub IsRefusal : Question → List ℕ → Reason → ℕ → Type 0
 IsRefusal q bytes reason.NoMemory at = ⊥
 IsRefusal q bytes reason.Truncated at = HasOutcome q bytes Pending × (at ≡ length bytes) × HasNoValue q bytes

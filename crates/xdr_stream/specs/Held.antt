@@ -56,8 +56,7 @@ abbrev pub Counts : Reader Values → Held → Type 0
 Counts r h = IsCount r (nodes_at r.state (nodes_in (trace_of r.built).levels)) (bytes_kept (trace_of r.built)) h
 
 -- after the bytes b: with u whole units at most (kinds + 1) (u + 1) nodes, a frame more than the limit on depth, no
-    more
--- content than bytes, and less than a unit (RFC 4506 section 3)
+-- more content than bytes, and less than a unit (RFC 4506 section 3)
 pub record IsWithin (kinds : List KindView) (limits : Bounds) (b : List ℕ) (h : Held) : Type 0 where
   pub frames : h.frames ≤ limits.depth + 1
   pub nodes : h.nodes ≤ (length kinds + 1) * (length b / 4 + 1)
@@ -65,8 +64,7 @@ pub record IsWithin (kinds : List KindView) (limits : Bounds) (b : List ℕ) (h 
   pub pending : h.pending ≤ 3
 
 -- where a unit is needed: after the whole units of b the nodes are those that the law counts, each as soon as it is
-    due,
--- and the bytes behind them are pending
+-- due, and the bytes behind them are pending
 pub record IsDue (kinds : List KindView) (kind : ℕ) (b : List ℕ) (h : Held) : Type 0 where
   pub whole : List ℕ
   pub rest : List ℕ
