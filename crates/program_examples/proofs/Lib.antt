@@ -1,4 +1,5 @@
 pub mod Devices
+pub mod Empty
 pub mod Spelled
 pub mod Stopped
 pub mod Opened
