@@ -17,7 +17,8 @@ use Rattle.rpc_message.specs.declared.message.Reply.{Reply}
 use Rattle.rpc_engine.specs.declared.fault.ClientFault.{ClientFault}
 use Rattle.rpc_engine.specs.declared.fault.ClientFault.TheVariants as fault
 use Rattle.rpc_engine.specs.Exchanged.{most_reply, IsFirst, Exchanged, Wrote, write_failures}
-use Rattle.rpc_engine.specs.Private.Looking.{Looks, EndsAt, Flawed, NextRecord, FirstRead, Replies, client_fault_of}
+use Rattle.rpc_engine.specs.DatagramExchange.{Replies}
+use Rattle.rpc_engine.specs.Private.Looking.{Looks, EndsAt, Flawed, NextRecord, FirstRead, client_fault_of}
 pub use Rattle.rpc_record.proofs.Readers.{Begins-more as begins_more}
 
 pub looks_first : (r : RecordReader) (l : Option (List ℕ)) → limit_of r ≡ most_reply → IsTaking r → Stands r [] []

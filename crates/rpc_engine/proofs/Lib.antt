@@ -4,3 +4,7 @@ pub mod Pieces
 pub mod Whole
 pub mod First
 pub mod Outcomes
+pub mod Ports
+pub mod DatagramRuns
+pub mod Exchanges
+pub mod Cases

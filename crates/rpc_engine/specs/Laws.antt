@@ -1,7 +1,8 @@
--- Laws of the run and of an exchange.
+-- Laws of the run, of an exchange and of a message.
 use Rattle.std.specs.Prelude.{◌≡◌, ℕ, List, ◌++◌, Bool}
 use Rattle.rpc_rows.specs.Rows.{Row}
 use Rattle.rpc_engine.specs.Run.{Run}
+use Rattle.rpc_engine.specs.DatagramExchange.{MessageCase, IsMessageCase}
 use Rattle.rpc_engine.specs.Exchanged.{Outcome, Truncated, IsOutcome}
 
 -- Two runs, the second along the records that follow and from the rows that the first left, are one.
@@ -27,3 +28,12 @@ HasEnded _ = ⊥
 abbrev pub OutcomesStay : Type 0
 OutcomesStay = (xid : ℕ) (input more : List ℕ) (o : Outcome) → (HasEnded o → ⊥) → IsOutcome xid input o
     → IsOutcome xid (input ++ more) o
+
+-- No message has two of the cases.
+abbrev pub OneCase : Type 0
+OneCase = (xid : ℕ) (message : List ℕ) (o p : MessageCase) → IsMessageCase xid message o → IsMessageCase xid message p
+    → o ≡ p
+
+-- No message has none of them.
+abbrev pub SomeCase : Type 0
+SomeCase = (xid : ℕ) (message : List ℕ) → ((o : MessageCase) → IsMessageCase xid message o → ⊥) → ⊥

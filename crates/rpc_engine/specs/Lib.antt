@@ -2,5 +2,9 @@ pub mod Run
 pub mod Counted
 pub mod Served
 pub mod Exchanged
+pub mod Ports
+pub mod MemoryPorts
+pub mod Datagrams
+pub mod DatagramExchange
 pub mod Laws
 pub mod Private

@@ -3,3 +3,4 @@ pub mod Fronts
 pub mod Sending
 pub mod Serving
 pub mod Looking
+pub mod Replying

@@ -7,7 +7,8 @@ ghost use Rattle.rpc_record.specs.Stands.{IsTaking, limit_of};
 ghost use Rattle.rpc_message.specs.Spelling.{call as call_bytes};
 ghost use Rattle.rpc_message.specs.View.{call_view, reply_view};
 ghost use Rattle.rpc_engine.specs.Exchanged.{Exchanged, IsExact, Wrote, xid_of, write_failures};
-ghost use Rattle.rpc_engine.specs.Private.Looking.{EndsAt, NextRecord, FirstRead, Replies, client_fault_of};
+ghost use Rattle.rpc_engine.specs.DatagramExchange.{Replies};
+ghost use Rattle.rpc_engine.specs.Private.Looking.{EndsAt, NextRecord, FirstRead, client_fault_of};
 ghost use Rattle.rpc_engine.specs.declared.fault.ClientFault.TheVariants as faults;
 
 use crate::fault::ClientFault;
@@ -107,8 +108,8 @@ fn ended(records: &mut RecordReader) -> RecordFault
     }
 }
 
-/// The reply that a record is, to the call with this xid.
-fn reply_to(alloc: Global, xid: u32, message: &[u8]) -> Result<Reply, ClientFault>
+/// The reply that a message is, to the call with this xid.
+pub fn reply_to(alloc: Global, xid: u32, message: &[u8]) -> Result<Reply, ClientFault>
     ensures { Replies xid message.now result }
 {
     match read_reply(alloc, message) {

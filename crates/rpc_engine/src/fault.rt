@@ -23,7 +23,20 @@ pub enum ServeFault {
     NoMemory,
 }
 
-/// How many records were answered, and how many replies went out. `u64::MAX` stands for every greater number.
+/// Why serving datagrams stopped, after so many that were finished: each was answered, and its reply, if it wants one,
+/// was sent.
+#[derive(Clone, Copy, Debug, PartialEq, Eq, Error)]
+pub enum DatagramFault {
+    /// A receive failed.
+    #[error("a receive failed after {done} datagrams")]
+    Read { done: u64 },
+    /// A send failed.
+    #[error("a send failed after {done} datagrams")]
+    Write { done: u64 },
+}
+
+/// How many records or datagrams were answered, and how many replies went out. `u64::MAX` stands for every greater
+/// number.
 #[derive(Clone, Copy, Debug, PartialEq, Eq)]
 pub struct Served {
     pub records: u64,
@@ -31,7 +44,7 @@ pub struct Served {
 }
 
 /// Why a call was not exchanged for a reply. Places and counts are of bytes, and `u64::MAX` stands for every greater
-/// one.
+/// one. Over datagrams a read is a receive, a write is a send, and the datagram stands for the first record.
 #[derive(Clone, Copy, Debug, PartialEq, Eq, Error)]
 pub enum ClientFault {
     /// The input has no first record of at most 16777216 bytes: `TooLong` or `Truncated`.

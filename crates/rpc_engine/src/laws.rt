@@ -1,5 +1,5 @@
 //! Laws of the definitions that the contracts name. No call of them does anything.
-ghost use Rattle.rpc_engine.specs.Laws.{RunsJoin, OneOutcome, SomeOutcome, OutcomesStay};
+ghost use Rattle.rpc_engine.specs.Laws.{RunsJoin, OneOutcome, SomeOutcome, OutcomesStay, OneCase, SomeCase};
 
 use rpc_message::reply_bytes_are_exact;
 use rpc_record::{no_record_begins_another, too_long_ends_the_stream};
@@ -18,4 +18,13 @@ pub fn exchanges_have_one_outcome()
     reply_bytes_are_exact();
     no_record_begins_another();
     too_long_ends_the_stream();
+}
+
+/// Each message has one of the three cases of a reply over datagrams: so an answer that names one comes exactly where
+/// the datagram has it.
+pub fn messages_have_one_case()
+    ensures exclusive { OneCase }
+    ensures covering { SomeCase }
+{
+    reply_bytes_are_exact();
 }

@@ -1,5 +1,5 @@
 -- Looking for the first record of an input.
-use Rattle.std.specs.Prelude.{◌≡◌, ◌≢◌, ℕ, List, [], ◌∷◌, ◌++◌, length, take, Option, Some, None, Result, Ok, Err}
+use Rattle.std.specs.Prelude.{◌≡◌, ℕ, List, [], ◌∷◌, ◌++◌, length, take, Option, Some, None, Result, Ok, Err}
 use Rattle.std.specs.declared.vec.Vec.{Vec}
 use Rattle.std.specs.declared.alloc.Global.{Global}
 use Rattle.std.specs.Io.KnownBytes.{Consumes, IsAtEnd}
@@ -9,15 +9,9 @@ use Rattle.rpc_record.specs.declared.reader.RecordReader.{RecordReader}
 use Rattle.rpc_record.specs.Marked.{Longest}
 use Rattle.rpc_record.specs.Reading.{Begins, TooLongAt, HasNoLong, capped}
 use Rattle.rpc_record.specs.Stands.{Stands, IsTaking, Takes, After, limit_of}
-use Rattle.rpc_message.specs.declared.message.Reply.{Reply}
-use Rattle.rpc_message.specs.declared.fault.ReplyFault.TheVariants as why
-use Rattle.rpc_message.specs.Message.{ReplyView}
-use Rattle.rpc_message.specs.Spelling.{ReplyBytes}
-use Rattle.rpc_message.specs.Faults.{StandsIn}
-use Rattle.rpc_message.specs.View.{reply_view}
 use Rattle.rpc_engine.specs.declared.fault.ClientFault.{ClientFault}
 use Rattle.rpc_engine.specs.declared.fault.ClientFault.TheVariants as fault
-use Rattle.rpc_engine.specs.Exchanged.{most_reply, xid_of, IsFirst, IsNoReply}
+use Rattle.rpc_engine.specs.Exchanged.{most_reply, IsFirst}
 
 -- The input so far has no whole record, and no header that passes the limit.
 pub record Looks (records : RecordReader) (left left' : Option (List ℕ)) : Type 0 where
@@ -69,11 +63,3 @@ pub record FirstRead (left left' : Option (List ℕ)) (result : Result (Vec ℕ 
   pub input : List ℕ
   pub read : Consumes left left' input
   pub reads : FirstReads input left' result
-
--- what a record says as a reply to a call with this xid
-abbrev pub Replies : (xid : ℕ) → List ℕ → Result Reply ClientFault → Type 0
-Replies xid r (Ok reply) = ReplyBytes (reply_view reply) r × (xid_of (reply_view reply) ≡ xid)
-Replies xid r (Err (fault.WrongXid got)) = ((v : ReplyView) × (ReplyBytes v r × (xid_of v ≡ got))) × (got ≢ xid)
-Replies xid r (Err (fault.Reply f)) = IsNoReply r × StandsIn f r × (f ≢ why.NoMemory)
-Replies xid r (Err fault.NoMemory) = Unit {0}
-Replies xid r (Err _) = ⊥

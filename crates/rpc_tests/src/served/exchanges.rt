@@ -17,7 +17,7 @@ const CALL: &str =
 
 /// What an exchange answers, without what lies in memory.
 #[derive(Clone, Copy, PartialEq, Eq)]
-enum Told {
+pub enum Told {
     /// A success with so many bytes of results.
     Success(usize),
     /// Denied with this `auth_stat`.
@@ -28,7 +28,7 @@ enum Told {
 }
 
 /// What the answer tells.
-fn view(answer: &Result<Reply, ClientFault>) -> Told {
+pub fn view(answer: &Result<Reply, ClientFault>) -> Told {
     match answer {
         Ok(
             Reply::Accepted {
@@ -59,7 +59,7 @@ fn no_auth(alloc: Global) -> OpaqueAuth
 }
 
 /// The null call of version 2 with xid 1.
-fn null_call(alloc: Global) -> Call
+pub fn null_call(alloc: Global) -> Call
     ensures { call_view result ≡ record {
       xid = 1;
       prog = 100000;

@@ -1,5 +1,7 @@
-//! The registry as a server over streams, and calls exchanged for replies.
+//! The registry as a server over streams and over datagrams, and calls exchanged for replies.
 
+mod datagram_exchanges;
+mod datagrams;
 mod devices;
 mod exchanges;
 mod large;
