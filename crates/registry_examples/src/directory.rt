@@ -14,16 +14,17 @@ pub fn new_has_no_rows<S: BuildHasher + Drop>(alloc: Global, hasher: S) -> u32
     directory.rows()
 }
 
-/// A directory starts with the registry's own three rows, at the port that it is given (RFC 1833 sections 2 and 3).
+/// A directory starts with the registry's own six rows, over `tcp` and `udp`, at the port that it is given (RFC 1833
+/// sections 2 and 3).
 pub fn starts_with_itself<S: BuildHasher + Drop>(
     alloc: Global,
     hasher: S,
 ) -> Result<(u32, u32, u32), NoMemory>
-    ensures { IfOk result (λ found. found ≡ (3, 111, 111)) }
+    ensures { IfOk result (λ found. found ≡ (6, 111, 111)) }
 {
     let directory = Directory::start(alloc, hasher, 111)?;
     let second = directory.get_port(100000, 2, 6);
-    let fourth = directory.get_port(100000, 4, 6);
+    let fourth = directory.get_port(100000, 4, 17);
     Ok((directory.rows(), second, fourth))
 }
 
@@ -68,7 +69,7 @@ pub fn owners_remove<S: BuildHasher + Drop>(
     Ok((other, superuser, again))
 }
 
-/// An empty netid removes all rows of a version, and the rest keep their order.
+/// An empty netid removes all rows of a version, over both transports, and the rest keep their order.
 pub fn version_is_removed<S: BuildHasher + Drop>(
     alloc: Global,
     hasher: S,
@@ -77,7 +78,7 @@ pub fn version_is_removed<S: BuildHasher + Drop>(
 {
     let mut directory = Directory::start(alloc, hasher, 111)?;
     let done = directory.unset(100000, 3, b"", b"superuser");
-    match (directory.row(0), directory.row(1)) {
+    match (directory.row(1), directory.row(2)) {
         (Some(first), Some(second)) => Ok((done, first.vers, second.vers)),
         _ => Ok((done, 0, 0)),
     }

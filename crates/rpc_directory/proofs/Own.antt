@@ -1,33 +1,63 @@
 -- The registry's own rows are set one after another.
-use Rattle.std.proofs.Common.{◌≡◌, ℕ, ◌<◌, ◌≤◌, ◌/◌, ◌%◌, Bool, true, false, List, [], ◌∷◌, refl, ap, ◌∙◌, length}
+use Rattle.std.proofs.Common.{◌≡◌, ℕ, ◌<◌, ◌≤◌, ◌/◌, ◌%◌, Bool, true, false, List, [], ◌∷◌, ◌++◌, refl, ap, ◌∙◌, length}
 use Rattle.std.proofs.Common.{nat_eq, nat_le, decimal, arith, ◌+◌, ◌*◌, mod-lt}
 use Rattle.std.proofs.lemmas.List.{length-append}
 use Rattle.std.proofs.lemmas.Fmt.{length-decimal-le, decimal_nonempty}
 use Rattle.std.proofs.lemmas.Bool.Decides.{Decides-eqb}
-use Rattle.rpc_rows.specs.Rows.{Row, row_of}
-use Rattle.rpc_rows.specs.Steps.{set, is_empty, superuser}
-use Rattle.rpc_rows.specs.Ports.{at_port, tcp}
+use Rattle.rpc_rows.specs.Rows.{Row}
+use Rattle.rpc_rows.specs.Steps.{Step, set, is_empty}
+use Rattle.rpc_rows.specs.Ports.{at_port, tcp, udp}
+use Rattle.rpc_directory.specs.Private.Own.{own_row, set_both}
 pub use Rattle.rpc_rows.proofs.Removed.{not_empty as is_empty-not}
 
 module _ (address : List ℕ) (some : is_empty address ≡ false) (fits : nat_le (length address) 256 ≡ true) where
-  abbrev pub own : ℕ → Row
-  own vers = row_of 100000 vers tcp address superuser
+  abbrev pub over_tcp : ℕ → Row
+  over_tcp vers = own_row vers tcp address
 
-  first_own : set [] (own 2) ≡ (own 2 ∷ [], true)
-  first_own = rw some (rw fits refl)
+  abbrev pub over_udp : ℕ → Row
+  over_udp vers = own_row vers udp address
 
-  second_own : set (own 2 ∷ []) (own 3) ≡ (own 2 ∷ own 3 ∷ [], true)
-  second_own = rw some (rw fits refl)
+  -- both rows of a version
+  abbrev pub own : ℕ → List Row
+  own vers = over_tcp vers ∷ over_udp vers ∷ []
 
-  third_own : set (own 2 ∷ own 3 ∷ []) (own 4) ≡ (own 2 ∷ own 3 ∷ own 4 ∷ [], true)
-  third_own = rw some (rw fits refl)
+  first : set [] (over_tcp 2) ≡ (over_tcp 2 ∷ [], true)
+  first = rw some (rw fits refl)
 
-  pub own_set : (a b c d : List Row) (x y z : Bool) → a ≡ [] → (b, x) ≡ set a (own 2) → (c, y) ≡ set b (own 3)
-      → (d, z) ≡ set c (own 4) → d ≡ own 2 ∷ own 3 ∷ own 4 ∷ []
-  own_set a b c d x y z e f g h =
-      let one : b ≡ own 2 ∷ [] = ap (λ p. p.0) (f ∙ ap (λ r. set r (own 2)) e ∙ first_own) in
-      let two : c ≡ own 2 ∷ own 3 ∷ [] = ap (λ p. p.0) (g ∙ ap (λ r. set r (own 3)) one ∙ second_own) in
-      ap (λ p. p.0) (h ∙ ap (λ r. set r (own 4)) two ∙ third_own)
+  second : set (over_tcp 2 ∷ []) (over_udp 2) ≡ (over_tcp 2 ∷ over_udp 2 ∷ [], true)
+  second = rw some (rw fits refl)
+
+  third : set (over_tcp 2 ∷ over_udp 2 ∷ []) (over_tcp 3)
+      ≡ (over_tcp 2 ∷ over_udp 2 ∷ over_tcp 3 ∷ [], true)
+  third = rw some (rw fits refl)
+
+  fourth : set (over_tcp 2 ∷ over_udp 2 ∷ over_tcp 3 ∷ []) (over_udp 3)
+      ≡ (over_tcp 2 ∷ over_udp 2 ∷ over_tcp 3 ∷ over_udp 3 ∷ [], true)
+  fourth = rw some (rw fits refl)
+
+  fifth : set (over_tcp 2 ∷ over_udp 2 ∷ over_tcp 3 ∷ over_udp 3 ∷ []) (over_tcp 4)
+      ≡ (over_tcp 2 ∷ over_udp 2 ∷ over_tcp 3 ∷ over_udp 3 ∷ over_tcp 4 ∷ [], true)
+  fifth = rw some (rw fits refl)
+
+  sixth : set (over_tcp 2 ∷ over_udp 2 ∷ over_tcp 3 ∷ over_udp 3 ∷ over_tcp 4 ∷ []) (over_udp 4)
+      ≡ (over_tcp 2 ∷ over_udp 2 ∷ over_tcp 3 ∷ over_udp 3 ∷ over_tcp 4 ∷ over_udp 4 ∷ [], true)
+  sixth = rw some (rw fits refl)
+
+  first_own : set_both [] 2 address ≡ own 2
+  first_own = ap (λ (s : Step). (set s.0 (over_udp 2)).0) first ∙ ap (λ (s : Step). s.0) second
+
+  second_own : set_both (own 2) 3 address ≡ own 2 ++ own 3
+  second_own = ap (λ (s : Step). (set s.0 (over_udp 3)).0) third ∙ ap (λ (s : Step). s.0) fourth
+
+  third_own : set_both (own 2 ++ own 3) 4 address ≡ own 2 ++ own 3 ++ own 4
+  third_own = ap (λ (s : Step). (set s.0 (over_udp 4)).0) fifth ∙ ap (λ (s : Step). s.0) sixth
+
+  pub own_set : (a b c d : List Row) → a ≡ [] → b ≡ set_both a 2 address → c ≡ set_both b 3 address
+      → d ≡ set_both c 4 address → d ≡ own 2 ++ own 3 ++ own 4
+  own_set a b c d e f g h =
+      let one : b ≡ own 2 = f ∙ ap (λ (r : List Row). set_both r 2 address) e ∙ first_own in
+      let two : c ≡ own 2 ++ own 3 = g ∙ ap (λ (r : List Row). set_both r 3 address) one ∙ second_own in
+      h ∙ ap (λ (r : List Row). set_both r 4 address) two ∙ third_own
 
 high_fits : (port : ℕ) → port < 65536 → port / 256 < 1000
 high_fits port h = let m : port < 256 * 256 = h in grind (arith, m)

@@ -1,6 +1,6 @@
 //! The rows of the registry, and the calls of versions 3 and 4.
 ghost use Rattle.std.specs.Prelude.{◌≡◌, ◌≤◌, [], length, false, OnErr, IfOk, IfSome, None, ◌↔◌, option_map, slice_get};
-ghost use Rattle.std.specs.Prelude.{is_some};
+ghost use Rattle.std.specs.Prelude.{OnOk, is_some};
 ghost use Rattle.std.specs.List.{list_any};
 ghost use Rattle.std.specs.Option.{option_map_or};
 ghost use Rattle.rpc_rows.specs.LookUp as looking;
@@ -11,6 +11,7 @@ ghost use Rattle.rpc_rows.specs.Views.{plain_row};
 ghost use Rattle.xdr_types.specs.Within.{FitsWithin};
 ghost use Rattle.rpc_dumps.specs.Dir.{dir_kinds};
 ghost use Rattle.rpc_dumps.specs.Dumps.{rpcb_list, mapping_list, dump_limits};
+ghost use Rattle.rpc_directory.specs.Private.Own.{set_both};
 
 use crate::ports::any_host;
 use indexmap::IndexMap;
@@ -48,8 +49,8 @@ impl<S: BuildHasher> Directory<S> {
         }
     }
 
-    /// The registry's own rows: program 100000 in versions 2, 3 and 4 over `tcp`, at every host and this port, owned by
-    /// `superuser` (RFC 1833 sections 2 and 3). Its only error is `NoMemory`.
+    /// The registry's own rows: program 100000 in versions 2, 3 and 4, each over `tcp` and then over `udp`, at every
+    /// host and this port, owned by `superuser` (RFC 1833 sections 2 and 3). Its only error is `NoMemory`.
     pub fn start(alloc: Global, hasher: S, port: u16) -> Result<Self, NoMemory>
     where
         S: Drop,
@@ -57,10 +58,19 @@ impl<S: BuildHasher> Directory<S> {
     {
         let mut directory = Directory::new(alloc, hasher);
         let address = any_host(alloc, port)?;
-        directory.set(alloc, 100000, 2, b"tcp", &address, b"superuser")?;
-        directory.set(alloc, 100000, 3, b"tcp", &address, b"superuser")?;
-        directory.set(alloc, 100000, 4, b"tcp", &address, b"superuser")?;
+        directory.set_own(alloc, 2, &address)?;
+        directory.set_own(alloc, 3, &address)?;
+        directory.set_own(alloc, 4, &address)?;
         Ok(directory)
+    }
+
+    // Adds the registry's own rows of a version, where they may be added.
+    fn set_own(&mut self, alloc: Global, vers: u32, address: &[u8]) -> Result<(), NoMemory>
+        ensures { OnOk result (self.new ≡ set_both self.old vers address.now) }
+    {
+        self.set(alloc, 100000, vers, b"tcp", address, b"superuser")?;
+        self.set(alloc, 100000, vers, b"udp", address, b"superuser")?;
+        Ok(())
     }
 
     /// How many rows there are: at most 1024. It takes no memory. Its clauses are what always holds of the rows: each

@@ -1,6 +1,6 @@
 -- The calls of version 2, which name a transport by its number (RFC 1833 section 3).
 use Rattle.std.specs.Prelude.{ℕ, ◌/◌, ◌%◌, Bool, false, ◌||◌, List, [], ◌∷◌, nat_eq, nat_le, Option, Some, None}
-use Rattle.std.specs.Prelude.{if◌then◌else◌, codes}
+use Rattle.std.specs.Prelude.{if◌then◌else◌, codes, flat_map}
 use Rattle.std.specs.Option.{option_map_or}
 use Rattle.rpc_rows.specs.Rows.{Row, row_of}
 use Rattle.rpc_rows.specs.Steps.{Step, set, without, is_unset, superuser}
@@ -41,11 +41,14 @@ is_unset_port prog vers owner r = is_unset prog vers tcp owner r || is_unset pro
 abbrev pub unset_port : List Row → ℕ → ℕ → List ℕ → Step
 unset_port rows prog vers owner = without (is_unset_port prog vers owner) rows
 
--- the registry's own rows: program 100000 in versions 2, 3 and 4 (RFC 1833 sections 2 and 3)
+-- the registry's own rows of a version: program 100000 over both transports (RFC 1833 sections 2 and 3)
+abbrev pub own_rows_of : ℕ → ℕ → List Row
+own_rows_of port vers =
+    row_of 100000 vers tcp (at_port port) superuser ∷ row_of 100000 vers udp (at_port port) superuser ∷ []
+
+-- the registry's own rows: those of versions 2, 3 and 4, in this order
 abbrev pub own_rows : ℕ → List Row
-own_rows port =
-    row_of 100000 2 tcp (at_port port) superuser ∷ row_of 100000 3 tcp (at_port port) superuser ∷ row_of 100000 4 tcp
-    (at_port port) superuser ∷ []
+own_rows port = flat_map (own_rows_of port) (2 ∷ 3 ∷ 4 ∷ [])
 
 -- the port of an address, 0 where it is no IPv4 universal address
 abbrev pub port_in : List ℕ → ℕ

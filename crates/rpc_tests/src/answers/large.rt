@@ -12,11 +12,11 @@ use std::test::Fail;
 /// An accepted reply to xid 1, up to the results of a SUCCESS.
 const SUCCESS: Part = Digits("000000010000000100000000000000000000000000000000");
 
-/// The registry's own rows at port 111 and 1021 rows over `tcp` at one address, of user `unknown`: program 0 to 1020,
+/// The registry's own rows at port 111 and 1018 rows over `tcp` at one address, of user `unknown`: program 0 to 1017,
 /// in version 1.
 fn full(alloc: Global, address: &[u8]) -> Option<Registry> {
     let mut directory = started(alloc).ok()?;
-    for prog in 0..1021 {
+    for prog in 0..1018 {
         let owner = Owner::Unknown.text();
         if directory.set(alloc, prog, 1, b"tcp", address, owner) != Ok(true) {
             return None;
@@ -33,16 +33,18 @@ fn push_row(bytes: &mut Vec<u8>, prog: u32, vers: u32, rest: &[u8]) -> Result<()
     bytes.extend_from_slice(rest)
 }
 
-/// The reply that has these rows, with what stands behind program and version of the own rows and of the others (RFC
-/// 1833 sections 2.1 and 3.1).
-fn dump(alloc: Global, own: &[Part], other: &[Part]) -> Option<Vec<u8>> {
+/// The reply that has these rows, with what stands behind program and version of the own rows over each transport and
+/// of the others (RFC 1833 sections 2.1 and 3.1).
+fn dump(alloc: Global, own: &[Part; 2], other: &[Part]) -> Option<Vec<u8>> {
     let mut bytes = joined(alloc, &[SUCCESS])?;
-    let rest = joined(alloc, own)?;
+    let over_tcp = joined(alloc, &own[..1])?;
+    let over_udp = joined(alloc, &own[1..])?;
     for vers in 2..5 {
-        push_row(&mut bytes, 100000, vers, &rest).ok()?;
+        push_row(&mut bytes, 100000, vers, &over_tcp).ok()?;
+        push_row(&mut bytes, 100000, vers, &over_udp).ok()?;
     }
     let rest = joined(alloc, other)?;
-    for prog in 0..1021 {
+    for prog in 0..1018 {
         push_row(&mut bytes, prog, 1, &rest).ok()?;
     }
     bytes.extend_from_slice(&[0; 4]).ok()?;
@@ -61,19 +63,24 @@ fn is_dumped(
     is_sent(&answered, &reply?)
 }
 
-// Transport and port.
-const PORT: Part = Digits("000000060000006f");
+// Transport and port, over `tcp` and over `udp`.
+const PORTS: [Part; 2] = [Digits("000000060000006f"), Digits("000000110000006f")];
 
 /// Whether version 2 dumps 1024 rows.
 fn dumps_ports(alloc: Global) -> Option<bool> {
     let mut directory = full(alloc, EVERY_HOST)?;
-    is_dumped(alloc, &mut directory, 2, dump(alloc, &[PORT], &[PORT]))
+    is_dumped(alloc, &mut directory, 2, dump(alloc, &PORTS, &PORTS[..1]))
 }
 
 // Netid, address and owner of the own rows.
-const OWN: Part = Digits(
-    "00000003746370000000000d302e302e302e302e302e31313100000000000009737570657275736572000000",
-);
+const OWN: [Part; 2] = [
+    Digits(
+        "00000003746370000000000d302e302e302e302e302e31313100000000000009737570657275736572000000",
+    ),
+    Digits(
+        "00000003756470000000000d302e302e302e302e302e31313100000000000009737570657275736572000000",
+    ),
+];
 
 // The same of a row with the longest address.
 const LONGEST: [Part; 3] = [
@@ -82,11 +89,11 @@ const LONGEST: [Part; 3] = [
     Digits("00000007756e6b6e6f776e00"),
 ];
 
-/// Whether a version dumps 1024 rows, with 298292 bytes behind the own ones.
+/// Whether a version dumps 1024 rows, with 297256 bytes of the others.
 fn dumps_rows(alloc: Global, vers: u32) -> Option<bool> {
     let address = joined(alloc, &[Again(97, 256)])?;
     let mut directory = full(alloc, &address)?;
-    is_dumped(alloc, &mut directory, vers, dump(alloc, &[OWN], &LONGEST))
+    is_dumped(alloc, &mut directory, vers, dump(alloc, &OWN, &LONGEST))
 }
 
 #[test]

@@ -96,20 +96,20 @@ fn dumps_fit_their_kinds(rt: HostRuntime) {
     assert!(rt; fit(rt.alloc()) == Some(true));
 }
 
-// What a registry of 1024 rows answers, the last of them of program 1020.
+// What a registry of 1024 rows answers, the last of them of program 1017.
 const FULL: [Call; 5] = [
-    Call::Set((1021, 1, b"tcp"), EVERY_HOST, Owner::Unknown, false),
+    Call::Set((1018, 1, b"tcp"), EVERY_HOST, Owner::Unknown, false),
     Call::Rows(1024),
-    Call::Row(1023, (1020, 1, b"tcp"), EVERY_HOST, Owner::Unknown),
+    Call::Row(1023, (1017, 1, b"tcp"), EVERY_HOST, Owner::Unknown),
     Call::NoRow(1024),
-    Call::Address((1021, 1, b"tcp"), b""),
+    Call::Address((1018, 1, b"tcp"), b""),
 ];
 
-/// Adds 1021 rows to the registry's own, and says whether each was added and none more, and both dumps
+/// Adds 1018 rows to the registry's own, and says whether each was added and none more, and both dumps
 /// have all.
 fn fills(alloc: Global) -> Option<bool> {
     let mut directory = started(alloc).ok()?;
-    for prog in 0..1021 {
+    for prog in 0..1018 {
         let call = Call::Set((prog, 1, b"tcp"), EVERY_HOST, Owner::Unknown, true);
         if answer(alloc, &mut directory, &call) != Some(true) {
             return Some(false);

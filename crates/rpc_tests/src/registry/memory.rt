@@ -15,15 +15,18 @@ const TAKING: [Call; 4] = [
 ];
 
 // The calls that take none: the registry's own rows are there, and are removed.
-const TAKING_NONE: [Call; 11] = [
-    Call::Rows(3),
+const TAKING_NONE: [Call; 14] = [
+    Call::Rows(6),
     Call::Row(0, (100000, 2, b"tcp"), EVERY_HOST, Owner::Superuser),
-    Call::Row(2, (100000, 4, b"tcp"), EVERY_HOST, Owner::Superuser),
+    Call::Row(4, (100000, 4, b"tcp"), EVERY_HOST, Owner::Superuser),
+    Call::Row(5, (100000, 4, b"udp"), EVERY_HOST, Owner::Superuser),
     Call::Address((100000, 4, b"tcp"), EVERY_HOST),
     Call::Address((100000, 5, b"tcp"), EVERY_HOST),
     Call::VersionAddress((100000, 4, b"tcp"), EVERY_HOST),
     Call::Port((100000, 4, 6), 111),
+    Call::Port((100000, 4, 17), 111),
     Call::Unset((100000, 3, b"tcp"), Owner::Superuser, true),
+    Call::Unset((100000, 3, b"udp"), Owner::Superuser, true),
     Call::Unset((100000, 4, b""), Owner::Superuser, true),
     Call::UnsetPort(100000, 2, Owner::Superuser, true),
     Call::Rows(0),

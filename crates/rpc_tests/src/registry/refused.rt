@@ -15,14 +15,14 @@ const PAST_ALL: u64 = 100;
 const TAKING: [(Call, Call); 4] = [
     (
         Call::Set((7, 1, b"tcp"), EVERY_HOST, Owner::Unknown, true),
-        Call::Row(3, (7, 1, b"tcp"), EVERY_HOST, Owner::Unknown),
+        Call::Row(6, (7, 1, b"tcp"), EVERY_HOST, Owner::Unknown),
     ),
     (
         Call::SetPort((7, 1, 17), 2049, Owner::Unknown, true),
         Call::Port((7, 1, 17), 2049),
     ),
-    (OWN_DUMP, Call::Rows(3)),
-    (OWN_PORTS, Call::Rows(3)),
+    (OWN_DUMP, Call::Rows(6)),
+    (OWN_PORTS, Call::Rows(6)),
 ];
 
 /// Whether an answer is right where this growth was refused: none stands for want of memory, and else it says whether

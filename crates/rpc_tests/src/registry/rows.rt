@@ -16,7 +16,7 @@ const TCP: &[u8] = b"tcp";
 const UDP: &[u8] = b"udp";
 
 // The registry's own rows as `rpcb`s.
-const RPCB_2: &[Field] = &[
+const RPCB_2_TCP: &[Field] = &[
     Number(100000),
     Number(2),
     Text(TCP),
@@ -24,7 +24,15 @@ const RPCB_2: &[Field] = &[
     Text(b"superuser"),
 ];
 
-const RPCB_3: &[Field] = &[
+const RPCB_2_UDP: &[Field] = &[
+    Number(100000),
+    Number(2),
+    Text(UDP),
+    Text(EVERY_HOST),
+    Text(b"superuser"),
+];
+
+const RPCB_3_TCP: &[Field] = &[
     Number(100000),
     Number(3),
     Text(TCP),
@@ -32,7 +40,15 @@ const RPCB_3: &[Field] = &[
     Text(b"superuser"),
 ];
 
-const RPCB_4: &[Field] = &[
+const RPCB_3_UDP: &[Field] = &[
+    Number(100000),
+    Number(3),
+    Text(UDP),
+    Text(EVERY_HOST),
+    Text(b"superuser"),
+];
+
+const RPCB_4_TCP: &[Field] = &[
     Number(100000),
     Number(4),
     Text(TCP),
@@ -40,28 +56,56 @@ const RPCB_4: &[Field] = &[
     Text(b"superuser"),
 ];
 
+const RPCB_4_UDP: &[Field] = &[
+    Number(100000),
+    Number(4),
+    Text(UDP),
+    Text(EVERY_HOST),
+    Text(b"superuser"),
+];
+
 // And as `mapping`s.
-const MAPPING_2: &[Field] = &[Number(100000), Number(2), Number(6), Number(111)];
+const MAPPING_2_TCP: &[Field] = &[Number(100000), Number(2), Number(6), Number(111)];
 
-const MAPPING_3: &[Field] = &[Number(100000), Number(3), Number(6), Number(111)];
+const MAPPING_2_UDP: &[Field] = &[Number(100000), Number(2), Number(17), Number(111)];
 
-const MAPPING_4: &[Field] = &[Number(100000), Number(4), Number(6), Number(111)];
+const MAPPING_3_TCP: &[Field] = &[Number(100000), Number(3), Number(6), Number(111)];
+
+const MAPPING_3_UDP: &[Field] = &[Number(100000), Number(3), Number(17), Number(111)];
+
+const MAPPING_4_TCP: &[Field] = &[Number(100000), Number(4), Number(6), Number(111)];
+
+const MAPPING_4_UDP: &[Field] = &[Number(100000), Number(4), Number(17), Number(111)];
 
 /// The registry's own rows as an `rpcblist`.
-pub const OWN_DUMP: Call = Dump(&[RPCB_2, RPCB_3, RPCB_4]);
+pub const OWN_DUMP: Call = Dump(&[
+    RPCB_2_TCP, RPCB_2_UDP, RPCB_3_TCP, RPCB_3_UDP, RPCB_4_TCP, RPCB_4_UDP,
+]);
 
 /// And as a `pmaplist`.
-pub const OWN_PORTS: Call = DumpPorts(&[MAPPING_2, MAPPING_3, MAPPING_4]);
+pub const OWN_PORTS: Call = DumpPorts(&[
+    MAPPING_2_TCP,
+    MAPPING_2_UDP,
+    MAPPING_3_TCP,
+    MAPPING_3_UDP,
+    MAPPING_4_TCP,
+    MAPPING_4_UDP,
+]);
 
 /// What a started registry finds of its own rows, without memory.
-pub const OWN_FOUND: [Call; 7] = [
-    Rows(3),
+pub const OWN_FOUND: [Call; 12] = [
+    Rows(6),
     Row(0, (100000, 2, TCP), EVERY_HOST, Superuser),
-    Row(1, (100000, 3, TCP), EVERY_HOST, Superuser),
-    Row(2, (100000, 4, TCP), EVERY_HOST, Superuser),
-    NoRow(3),
+    Row(1, (100000, 2, UDP), EVERY_HOST, Superuser),
+    Row(2, (100000, 3, TCP), EVERY_HOST, Superuser),
+    Row(3, (100000, 3, UDP), EVERY_HOST, Superuser),
+    Row(4, (100000, 4, TCP), EVERY_HOST, Superuser),
+    Row(5, (100000, 4, UDP), EVERY_HOST, Superuser),
+    NoRow(6),
     Address((100000, 4, TCP), EVERY_HOST),
+    Address((100000, 4, UDP), EVERY_HOST),
     Port((100000, 4, 6), 111),
+    Port((100000, 4, 17), 111),
 ];
 
 // And how it dumps them.
@@ -93,11 +137,11 @@ const LENGTHS: [Call; 9] = [
     Set((7, 1, NETID_64), ADDRESS_257, Unknown, false),
     Set((7, 1, b""), ADDRESS_256, Unknown, false),
     Set((7, 1, NETID_64), b"", Unknown, false),
-    Rows(3),
+    Rows(6),
     Set((7, 1, NETID_64), ADDRESS_256, Unknown, true),
-    Row(3, (7, 1, NETID_64), ADDRESS_256, Unknown),
+    Row(6, (7, 1, NETID_64), ADDRESS_256, Unknown),
     Set((7, 1, NETID_64), b"a", Unknown, false),
-    Rows(4),
+    Rows(7),
 ];
 
 // RFC 1833 section 3.1: the transports of version 2 are 6 for `tcp` and 17 for `udp`.
@@ -108,11 +152,11 @@ const PORTS: [Call; 11] = [
     Port((7, 1, 17), 0),
     SetPort((7, 1, 17), 65536, Unknown, false),
     SetPort((7, 1, 5), 111, Unknown, false),
-    Rows(4),
+    Rows(7),
     SetPort((7, 1, 17), 0, Unknown, true),
     Address((7, 1, UDP), b"0.0.0.0.0.0"),
     Port((7, 1, 17), 0),
-    Rows(5),
+    Rows(8),
 ];
 
 // A second set of a key changes nothing, and a dump gives the rows in the order in which they were set.
@@ -122,11 +166,14 @@ const SET_TWICE: [Call; 7] = [
     Port((536870912, 1, 6), 2049),
     SetPort((536870912, 1, 6), 2050, Unknown, false),
     Port((536870912, 1, 6), 2049),
-    Rows(4),
+    Rows(7),
     DumpPorts(&[
-        MAPPING_2,
-        MAPPING_3,
-        MAPPING_4,
+        MAPPING_2_TCP,
+        MAPPING_2_UDP,
+        MAPPING_3_TCP,
+        MAPPING_3_UDP,
+        MAPPING_4_TCP,
+        MAPPING_4_UDP,
         &[Number(536870912), Number(1), Number(6), Number(2049)],
     ]),
 ];
@@ -139,7 +186,7 @@ const UNSET_PORTS: [Call; 7] = [
     Port((8, 1, 6), 111),
     Port((8, 1, 17), 0),
     UnsetPort(8, 1, User1000, false),
-    Rows(4),
+    Rows(7),
 ];
 
 // Only its owner and the superuser remove a row. An owner that begins another's name is another.
@@ -154,18 +201,18 @@ const OWNERS: [Call; 15] = [
     Unset((10, 1, b""), User100, false),
     Unset((10, 2, TCP), User1000, false),
     Unset((10, 2, b""), User1000, false),
-    Rows(5),
+    Rows(8),
     Set((10, 3, TCP), EVERY_HOST, GreatestUser, true),
-    Row(5, (10, 3, TCP), EVERY_HOST, GreatestUser),
+    Row(8, (10, 3, TCP), EVERY_HOST, GreatestUser),
     Unset((10, 3, TCP), GreatestUser, true),
-    Rows(5),
+    Rows(8),
 ];
 
 // With an empty netid all rows of a version go, and the rest keep their order.
 const VERSIONS: [Call; 3] = [
     Unset((100000, 3, b""), Superuser, true),
-    Dump(&[RPCB_2, RPCB_4]),
-    DumpPorts(&[MAPPING_2, MAPPING_4]),
+    Dump(&[RPCB_2_TCP, RPCB_2_UDP, RPCB_4_TCP, RPCB_4_UDP]),
+    DumpPorts(&[MAPPING_2_TCP, MAPPING_2_UDP, MAPPING_4_TCP, MAPPING_4_UDP]),
 ];
 
 // A version that is not registered is looked up as the greatest of its program and netid that is, by `getaddr` and
@@ -217,32 +264,45 @@ const ADDRESSES: [Call; 12] = [
 ];
 
 // The registry's own rows at port 2049.
-const OTHER_PORT: [Call; 8] = [
-    Rows(3),
+const OTHER_PORT: [Call; 14] = [
+    Rows(6),
     Row(0, (100000, 2, TCP), b"0.0.0.0.8.1", Superuser),
-    Row(1, (100000, 3, TCP), b"0.0.0.0.8.1", Superuser),
-    Row(2, (100000, 4, TCP), b"0.0.0.0.8.1", Superuser),
+    Row(1, (100000, 2, UDP), b"0.0.0.0.8.1", Superuser),
+    Row(2, (100000, 3, TCP), b"0.0.0.0.8.1", Superuser),
+    Row(3, (100000, 3, UDP), b"0.0.0.0.8.1", Superuser),
+    Row(4, (100000, 4, TCP), b"0.0.0.0.8.1", Superuser),
+    Row(5, (100000, 4, UDP), b"0.0.0.0.8.1", Superuser),
     Port((100000, 2, 6), 2049),
+    Port((100000, 2, 17), 2049),
     Port((100000, 3, 6), 2049),
+    Port((100000, 3, 17), 2049),
     Port((100000, 4, 6), 2049),
+    Port((100000, 4, 17), 2049),
     DumpPorts(&[
         &[Number(100000), Number(2), Number(6), Number(2049)],
+        &[Number(100000), Number(2), Number(17), Number(2049)],
         &[Number(100000), Number(3), Number(6), Number(2049)],
+        &[Number(100000), Number(3), Number(17), Number(2049)],
         &[Number(100000), Number(4), Number(6), Number(2049)],
+        &[Number(100000), Number(4), Number(17), Number(2049)],
     ]),
 ];
 
 // The registry's own rows at the greatest port and at port 0.
-const GREATEST_PORT: [Call; 3] = [
-    Row(2, (100000, 4, TCP), b"0.0.0.0.255.255", Superuser),
+const GREATEST_PORT: [Call; 5] = [
+    Row(4, (100000, 4, TCP), b"0.0.0.0.255.255", Superuser),
+    Row(5, (100000, 4, UDP), b"0.0.0.0.255.255", Superuser),
     Port((100000, 4, 6), 65535),
-    Rows(3),
+    Port((100000, 4, 17), 65535),
+    Rows(6),
 ];
 
-const PORT_0: [Call; 3] = [
+const PORT_0: [Call; 5] = [
     Address((100000, 4, TCP), b"0.0.0.0.0.0"),
+    Address((100000, 4, UDP), b"0.0.0.0.0.0"),
     Port((100000, 4, 6), 0),
-    Rows(3),
+    Port((100000, 4, 17), 0),
+    Rows(6),
 ];
 
 // The port at which a registry is started, and the calls on it.
