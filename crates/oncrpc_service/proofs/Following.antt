@@ -21,30 +21,9 @@ use Rattle.oncrpc_service.specs.Connections.{listening_line, printed}
 use Rattle.oncrpc_service.specs.ServeEnds.{Post, HasServed, HasStopped, HasServedOne, LinePrints, LosesLine, NoneCame}
 use Rattle.oncrpc_service.specs.ServeEnds.{ServeEnds, StopsOne}
 use Rattle.oncrpc_service.specs.Written.{InPart}
+use Rattle.oncrpc_service.proofs.Texts.{begun, in_part_then, numbered_then}
 
 -- ---- texts
-
-pub in_part_then : (a b c : Option (List ℕ)) (x y : List ℕ) → Appends a b x → InPart y b c → InPart (x ++ y) a c
-in_part_then a b c x y before part =
-    let long : length (x ++ y) ≡ length x + length y = length-append x y in
-    let cut = part.cut in
-    record {
-      count = length x + part.count;
-      cut = omega (arith, long, cut);
-      written = Appends-trans a b c x (take part.count y) (take (length x + part.count) (x ++ y))
-          (sym (take-append-add x y part.count)) before part.written;
-    }
-
-lines_then : (number : ℕ) (os : List Outcome) (o : Outcome)
-    → connection_lines number os ++ connection_line (number + length os) o ≡ connection_lines number (os ++ o ∷ [])
-lines_then number [] o =
-    let same : number + 0 ≡ number = omega arith in
-    ap (λ (n : ℕ). connection_line n o) same ∙ sym (append-nil (connection_line number o))
-lines_then number (p ∷ os) o =
-    let next : number + suc (length os) ≡ suc number + length os = omega arith in
-    append_assoc (connection_line number p) (connection_lines (suc number) os) _
-    ∙ ap (λ (n : ℕ). connection_line number p ++ (connection_lines (suc number) os ++ connection_line n o)) next
-    ∙ ap (λ (z : List ℕ). connection_line number p ++ z) (lines_then (suc number) os o)
 
 -- the lines of one more connection
 printed_then : (port n : ℕ) (os : List Outcome) (o : Outcome) → length os ≡ n
@@ -53,7 +32,7 @@ printed_then port n os o e =
     let number : n + 1 ≡ 1 + length os = omega (arith, e) in
     append_assoc (listening_line port) (connection_lines 1 os) _
     ∙ ap (λ (k : ℕ). listening_line port ++ (connection_lines 1 os ++ connection_line k o)) number
-    ∙ ap (λ (z : List ℕ). listening_line port ++ z) (lines_then 1 os o)
+    ∙ ap (λ (z : List ℕ). listening_line port ++ z) (numbered_then connection_line 1 os o)
 
 -- ---- connections
 
@@ -195,9 +174,6 @@ one_stopped post n rows new l m o p x (Ok u) next line = tt
 one_stopped post n rows new l m o p x (Err stop.NoConnection) next line = absurd line
 one_stopped post n rows new l m o p x (Err (stop.Failed f)) next line =
     record { outcome = x; served = next; stops = line }
-
-begun : (xs ys : List ℕ) → 0 < length xs → 0 < length (xs ++ ys)
-begun xs ys some = let e : length (xs ++ ys) ≡ length xs + length ys = length-append xs ys in omega (arith, e, some)
 
 -- a line has some bytes
 pub line_is_some : (n : ℕ) (o : Outcome) → 0 < length (connection_line n o)

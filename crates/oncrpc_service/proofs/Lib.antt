@@ -1,5 +1,7 @@
 pub mod Ending
+pub mod Finishing
 pub mod Following
 pub mod Lists
 pub mod Telling
+pub mod Texts
 pub mod Walks

@@ -1,5 +1,5 @@
 -- Connections that were served one after another, and their lines.
-use Rattle.std.specs.Prelude.{◌≡◌, ℕ, suc, List, [], ◌∷◌, ◌++◌, codes, decimal, Option, Result, Ok, Err}
+use Rattle.std.specs.Prelude.{◌≡◌, ℕ, List, [], ◌∷◌, ◌++◌, codes, decimal, Option, Result, Ok, Err}
 use Rattle.rpc_record.specs.declared.fault.RecordFault.{RecordFault}
 use Rattle.rpc_record.specs.declared.fault.RecordFault.TheVariants as flaw
 use Rattle.rpc_rows.specs.Rows.{Row}
@@ -9,6 +9,7 @@ use Rattle.rpc_engine.specs.declared.fault.ServeFault.TheVariants as fault
 use Rattle.rpc_engine.specs.declared.fault.Served.{Served}
 use Rattle.rpc_engine.specs.Served.{Serves, Stops}
 use Rattle.oncrpc_service.specs.Listening.{Arrives}
+use Rattle.oncrpc_service.specs.Written.{numbered}
 
 -- how a connection ended: what was counted, or what was wrong with it
 abbrev pub Outcome : Type 0
@@ -58,8 +59,7 @@ connection_line number (Err fault.NoMemory) = codes "connection " ++ decimal num
 
 -- the lines of connections, the first with this number
 abbrev pub connection_lines : (number : ℕ) → List Outcome → List ℕ
-connection_lines number [] = []
-connection_lines number (o ∷ os) = connection_line number o ++ connection_lines (suc number) os
+connection_lines number os = numbered connection_line number os
 
 -- the line before the first connection
 abbrev pub listening_line : (port : ℕ) → List ℕ

@@ -6,9 +6,11 @@ use Rattle.rpc_message.specs.declared.message.Reply.{Reply}
 use Rattle.rpc_message.specs.Spelling.{call}
 use Rattle.rpc_engine.specs.declared.fault.ClientFault.{ClientFault}
 use Rattle.rpc_engine.specs.declared.fault.ClientFault.TheVariants as fault
+use Rattle.rpc_engine.specs.DatagramExchange.{ExchangesDatagram, read_failures}
 use Rattle.rpc_engine.specs.Exchanged.{Exchanged, Wrote, write_failures}
 use Rattle.oncrpc_tasks.specs.declared.failure.Failure.{Failure}
 use Rattle.oncrpc_tasks.specs.declared.failure.Failure.TheVariants as failure
+use Rattle.oncrpc_service.specs.DatagramEnds.{Desk}
 use Rattle.oncrpc_service.specs.Infos.{Tells, dump_call, failure_of}
 use Rattle.oncrpc_service.specs.Written.{InPart}
 
@@ -36,7 +38,19 @@ DeviceFails vers answer unprinted taken taken' lost lost' =
     (((f : Failure) × (failure_of answer ≡ Some f)) × unprinted)
     ⊎ (TellsInPart vers answer taken taken' × Counts 1 lost lost')
 
--- The rows were asked for, and this is what the status says of the answer, of the output and of the writer for faults.
+-- What an answer says was printed, and this is what the status says of the output and of the writer for faults.
+pub record AnswerEnds {O F : Type 0} (vers : ℕ) (answer : Result Reply ClientFault) (taken : O → Option (List ℕ))
+    (lost : O → Option ℕ) (output output' : O) (faults faults' : F) (status : ℕ) : Type 0 where
+  pub known : (status ≤ 1) ⊎ ((status ≡ 3) ⊎ (status ≡ 4))
+  pub printed : status ≤ 1 → (text : List ℕ) × Tells vers answer status text
+      × Appends (taken output) (taken output') text
+  pub unlost : status ≤ 1 → Counts 0 (lost output) (lost output')
+  pub silent : status ≤ 1 → faults' ≡ faults
+  pub device : status ≡ 3 → DeviceFails vers answer (output' ≡ output) (taken output) (taken output')
+      (lost output) (lost output')
+  pub wanting : status ≡ 4 → output' ≡ output
+
+-- The rows were asked for over a connection, and this is what was written, read and printed.
 pub record InfoEnds {I W O F : Type 0} (vers : ℕ) (line : Line I W O) (reader reader' : I) (writer writer' : W)
     (output output' : O) (faults faults' : F) (status : ℕ) : Type 0 where
   pub answer : Result Reply ClientFault
@@ -46,11 +60,14 @@ pub record InfoEnds {I W O F : Type 0} (vers : ℕ) (line : Line I W O) (reader 
   pub many : answer ≡ Err fault.TooManyReads → Counts 1048576 (line.reads reader) (line.reads reader')
   pub few_reads : CountsAtMost 1048576 (line.reads reader) (line.reads reader')
   pub unsent : Counts (write_failures answer) (line.unsent writer) (line.unsent writer')
-  pub known : (status ≤ 1) ⊎ ((status ≡ 3) ⊎ (status ≡ 4))
-  pub printed : status ≤ 1 → (text : List ℕ) × Tells vers answer status text
-      × Appends (line.taken output) (line.taken output') text
-  pub unlost : status ≤ 1 → Counts 0 (line.lost output) (line.lost output')
-  pub silent : status ≤ 1 → faults' ≡ faults
-  pub device : status ≡ 3 → DeviceFails vers answer (output' ≡ output) (line.taken output) (line.taken output')
-      (line.lost output) (line.lost output')
-  pub wanting : status ≡ 4 → output' ≡ output
+  pub ends : AnswerEnds vers answer line.taken line.lost output output' faults faults' status
+
+-- The rows were asked for by a datagram, and this is what was sent, received and printed.
+pub record DatagramInfoEnds {P O F : Type 0} (vers : ℕ) (desk : Desk P O) (port port' : P)
+    (output output' : O) (faults faults' : F) (status : ℕ) : Type 0 where
+  pub answer : Result Reply ClientFault
+  pub exchanged : ExchangesDatagram 1 (call (dump_call vers)) (desk.tells port).left (desk.tells port').left
+      (desk.tells port).sent (desk.tells port').sent answer
+  pub unreceived : Counts (read_failures answer) (desk.tells port).unreceived (desk.tells port').unreceived
+  pub unsent : Counts (write_failures answer) (desk.tells port).unsent (desk.tells port').unsent
+  pub ends : AnswerEnds vers answer desk.taken desk.lost output output' faults faults' status

@@ -1,4 +1,6 @@
 pub mod Connections
+pub mod DatagramEnds
+pub mod Datagrams
 pub mod InfoEnds
 pub mod Infos
 pub mod Listening

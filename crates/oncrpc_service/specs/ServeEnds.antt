@@ -3,11 +3,10 @@ use Rattle.std.specs.Prelude.{◌≡◌, ◌⊎◌, ℕ, ◌≤◌, ◌<◌, Lis
 use Rattle.std.specs.Io.KnownBytes.{Appends}
 use Rattle.xdr_io.specs.Told.{Counts}
 use Rattle.rpc_rows.specs.Rows.{Row}
-use Rattle.oncrpc_tasks.specs.declared.failure.Failure.TheVariants as failure
 use Rattle.oncrpc_service.specs.declared.serving.Stop.{Stop}
 use Rattle.oncrpc_service.specs.declared.serving.Stop.TheVariants as stop
 use Rattle.oncrpc_service.specs.Connections.{Outcome, ServesEach, ServesNext, connection_line, printed}
-use Rattle.oncrpc_service.specs.Written.{InPart}
+use Rattle.oncrpc_service.specs.Written.{InPart, IsCut}
 
 -- What a listener and a writer tell: the port, what the clients that wait send, and what failed.
 pub record Post (L O : Type 0) : Type 0 where
@@ -47,10 +46,7 @@ abbrev pub StopsUnder : (text : List ℕ) → (fewer : Type 0) → (refused refu
     → (taken taken' : Option (List ℕ)) → (lost lost' : Option ℕ) → Stop → Type 0
 StopsUnder text fewer refused refused' taken taken' lost lost' stop.NoConnection =
     fewer × Counts 1 refused refused' × Appends taken taken' text
-StopsUnder text fewer refused refused' taken taken' lost lost' (stop.Failed failure.Write) =
-    InPart text taken taken' × Counts 1 lost lost'
-StopsUnder text fewer refused refused' taken taken' lost lost' (stop.Failed failure.NoMemory) = InPart text taken taken'
-StopsUnder text fewer refused refused' taken taken' lost lost' (stop.Failed _) = ⊥
+StopsUnder text fewer refused refused' taken taken' lost lost' (stop.Failed f) = IsCut text taken taken' lost lost' f
 
 -- so many connections were served, and their lines written
 pub record HasServed {L O : Type 0} (count : ℕ) (post : Post L O) (rows new : List Row) (listener listener' : L)
@@ -86,10 +82,7 @@ abbrev pub LinePrints : (line : List ℕ) → (taken taken' : Option (List ℕ))
     → Result (Unit {0}) Stop → Type 0
 LinePrints line taken taken' lost lost' (Ok _) = Appends taken taken' line × Counts 0 lost lost'
 LinePrints line taken taken' lost lost' (Err stop.NoConnection) = ⊥
-LinePrints line taken taken' lost lost' (Err (stop.Failed failure.Write)) = InPart line taken taken'
-    × Counts 1 lost lost'
-LinePrints line taken taken' lost lost' (Err (stop.Failed failure.NoMemory)) = InPart line taken taken'
-LinePrints line taken taken' lost lost' (Err (stop.Failed _)) = ⊥
+LinePrints line taken taken' lost lost' (Err (stop.Failed f)) = IsCut line taken taken' lost lost' f
 
 -- no connection came
 pub record NoneCame {L O : Type 0} (post : Post L O) (rows new : List Row) (listener listener' : L)

@@ -6,7 +6,8 @@ ghost use Rattle.xdr_io.specs.Told.{Counts};
 ghost use Rattle.rpc_message.specs.View.{auth_view, call_view, reply_view, status_view};
 ghost use Rattle.rpc_dumps.specs.Dumps.{dump_limits};
 ghost use Rattle.oncrpc_tasks.specs.Lines.{line};
-ghost use Rattle.oncrpc_service.specs.InfoEnds.{InfoEnds, TellsInPart};
+ghost use Rattle.oncrpc_service.specs.DatagramEnds.{desk_of};
+ghost use Rattle.oncrpc_service.specs.InfoEnds.{AnswerEnds, DatagramInfoEnds, InfoEnds, TellsInPart};
 ghost use Rattle.oncrpc_service.specs.Infos.{Tells, TellsReply, TellsRows, TellsStatus, dump_call, failure_of};
 ghost use Rattle.oncrpc_service.specs.Infos.{list_place};
 ghost use Rattle.oncrpc_service.specs.Rows.{header};
@@ -16,7 +17,7 @@ use crate::refusal::{denied_line, fault_line, status_line};
 use crate::rows::push_rows;
 use oncrpc_tasks::{Answer, Failure, line_of, report};
 use rpc_directory::directory_schema;
-use rpc_engine::{ClientFault, exchange};
+use rpc_engine::{ClientFault, DatagramPort, exchange, exchange_datagram};
 use rpc_message::{Call, OpaqueAuth, Reply, Status};
 use std::alloc::Global;
 use xdr_codec::{DecodeFault, Reason, decode};
@@ -53,6 +54,38 @@ pub fn info_over<R: Source, W: Sink, O: Sink, F: Sink>(
         reader.old reader.new writer.old writer.new output.old output.new faults.old faults.new result }
 {
     let answer = exchange(alloc, reader, writer, &dump_call(alloc, vers));
+    end_with(alloc, output, faults, vers, answer)
+}
+
+/// Asks the registry behind a port for all its rows by one datagram, and prints what `info_over` prints of the answer:
+/// a header and a line for each row, status 0, or one line `refused ..`, status 1. A port or an output that fails is
+/// status 3, want of memory is status 4; then `faults` gets the line, and of the rows nothing or a beginning is
+/// printed.
+pub fn info_datagram<P: DatagramPort, O: Sink, F: Sink>(
+    alloc: Global,
+    port: &mut P,
+    output: &mut O,
+    faults: &mut F,
+    vers: u32,
+) -> u8
+    ensures { DatagramInfoEnds vers
+        (desk_of P.left P.sent P.receive_failures P.send_failures O.taken O.failures)
+        port.old port.new output.old output.new faults.old faults.new result }
+{
+    let answer = exchange_datagram(alloc, port, &dump_call(alloc, vers));
+    end_with(alloc, output, faults, vers, answer)
+}
+
+// Prints what the answer says, or why that can not be done, and gives the status.
+fn end_with<O: Sink, F: Sink>(
+    alloc: Global,
+    output: &mut O,
+    faults: &mut F,
+    vers: u32,
+    answer: Result<Reply, ClientFault>,
+) -> u8
+    ensures { AnswerEnds vers answer O.taken O.failures output.old output.new faults.old faults.new result }
+{
     match print_answer(alloc, output, vers, answer) {
         Ok(status) => status,
         Err(failure) => report(failure, faults),

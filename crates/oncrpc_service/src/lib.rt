@@ -1,15 +1,20 @@
-//! The registry asked and served: what a server's rows are printed as, and how connections are served one after
-//! another.
+//! The registry asked and served: what a server's rows are printed as, and how connections are served, and datagrams
+//! answered, one after another.
 #![tactic(auto)]
 
+mod datagrams;
 mod info;
 mod listener;
 mod loopback;
+mod printing;
 mod refusal;
 mod rows;
 mod serving;
+mod udp;
 
-pub use info::info_over;
+pub use datagrams::datagrams_on;
+pub use info::{info_datagram, info_over};
 pub use listener::{AcceptFault, Listener};
 pub use loopback::Loopback;
 pub use serving::{report_socket, serve_on};
+pub use udp::{ClientPort, LoopbackPort};

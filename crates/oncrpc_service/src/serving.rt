@@ -6,6 +6,7 @@ ghost use Rattle.oncrpc_service.specs.Connections.{ServesNext, connection_line, 
 ghost use Rattle.oncrpc_service.specs.ServeEnds.{HasServed, HasServedOne, HasStopped, LinePrints, ServeEnds, StopsOne};
 
 use crate::listener::Listener;
+use crate::printing::print_line;
 use oncrpc_tasks::{Failure, report};
 use rpc_directory::Directory;
 use rpc_engine::{ServeFault, Served, Transport, serve};
@@ -137,12 +138,9 @@ fn print<O: Sink>(output: &mut O, line: Result<String, AllocError>) -> Result<()
         → LinePrints text (O.taken output.old) (O.taken output.new) (O.failures output.old) (O.failures output.new)
         result }
 {
-    match line {
-        Ok(line) => match write_whole(output, line.as_bytes()) {
-            Ok(()) => Ok(()),
-            Err(_) => Err(Stop::Failed(Failure::Write)),
-        },
-        Err(_) => Err(Stop::Failed(Failure::NoMemory)),
+    match print_line(output, line) {
+        Ok(()) => Ok(()),
+        Err(failure) => Err(Stop::Failed(failure)),
     }
 }
 

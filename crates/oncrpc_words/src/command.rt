@@ -78,7 +78,8 @@ fn info_command<'a>(alloc: Global) -> Result<Command<'a>, AllocError> {
         .after_help(help::AFTER_INFO)
         .arg(host)?
         .arg(port)?
-        .arg(vers)
+        .arg(vers)?
+        .arg(flag(alloc, "udp", help::UDP))
 }
 
 fn serve_command<'a>(alloc: Global) -> Result<Command<'a>, AllocError> {
@@ -88,11 +89,15 @@ fn serve_command<'a>(alloc: Global) -> Result<Command<'a>, AllocError> {
     let count = option(alloc, "count", "C", help::COUNT)
         .required(true)
         .value_parser(value_parser!(u32));
+    let datagrams = option(alloc, "datagrams", "D", help::DATAGRAMS)
+        .value_parser(value_parser!(u32))
+        .default_value("0");
     Command::new(alloc, "serve")
         .about(help::SERVE)
         .after_help(help::AFTER_SERVE)
         .arg(port)?
-        .arg(count)
+        .arg(count)?
+        .arg(datagrams)
 }
 
 // A word that stands at its place, without an option before it.
@@ -117,8 +122,12 @@ fn number<'a>(alloc: Global, id: &'a str, help: &'a str) -> Arg<'a> {
 }
 
 fn hex_flag<'a>(alloc: Global) -> Arg<'a> {
-    Arg::new(alloc, "hex")
-        .long("hex")
-        .help(help::HEX)
+    flag(alloc, "hex", help::HEX)
+}
+
+fn flag<'a>(alloc: Global, id: &'a str, help: &'a str) -> Arg<'a> {
+    Arg::new(alloc, id)
+        .long(id)
+        .help(help)
         .action(ArgAction::SetTrue)
 }

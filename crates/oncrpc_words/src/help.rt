@@ -36,10 +36,11 @@ pub const SHOW: &str = "Reads one value from standard input and prints its lines
 pub const RECORDS: &str = "Writes each record of standard input as one fragment";
 
 /// What `info` does.
-pub const INFO: &str = "Asks the registry of a host for its rows over TCP and prints them";
+pub const INFO: &str = "Asks the registry of a host for its rows and prints them";
 
 /// What `serve` does.
-pub const SERVE: &str = "Serves a registry on 127.0.0.1 over TCP, one connection after another";
+pub const SERVE: &str =
+    "Serves a registry on 127.0.0.1, connections over TCP and then datagrams over UDP";
 
 /// The word for a host.
 pub const HOST: &str = "The name or address of the host, of which the first address is used";
@@ -51,10 +52,17 @@ pub const REGISTRY_PORT: &str = "The port of its registry, 0 to 65535; rpcbind h
 pub const VERS: &str = "The version of the registry's program, 2 to 4";
 
 /// The option for the port to listen at.
-pub const PORT: &str = "The port to listen at, 0 to 65535; 0 takes a free one";
+pub const PORT: &str = "The port to listen at, over TCP and UDP, 0 to 65535; 0 takes a free one";
 
 /// The option for how many connections are served.
 pub const COUNT: &str = "How many connections are served, 0 to 4294967295";
+
+/// The option for how many datagrams are answered.
+pub const DATAGRAMS: &str = "How many datagrams are answered after them, 0 to 4294967295";
+
+/// The option for asking by a datagram.
+pub const UDP: &str =
+    "Asks by one datagram over UDP, where without it one connection over TCP is made";
 
 /// The option for a name.
 pub const NAME: &str = "The name of the value's kind:
@@ -137,20 +145,24 @@ Exit status:
 
 Examples:
   oncrpc info localhost 111
-  oncrpc info 127.0.0.1 111 --vers 2";
+  oncrpc info 127.0.0.1 111 --vers 2 --udp";
 
 /// What `serve` prints, its statuses and examples of it.
 pub const AFTER_SERVE: &str =
     "It prints 'listening on 127.0.0.1 PORT', and after each connection K, from 1, 'connection K: N records, M replies',
-or 'connection K: ' and what was wrong with it, which ends that connection alone. The registry begins with its own rows,
-versions 2, 3 and 4 of program 100000, and is gone when the program ends.
+or 'connection K: ' and what was wrong with it, which ends that connection alone. Once all connections were served, it
+prints after each datagram K, from 1, 'datagram K: reply' or 'datagram K: no reply', or 'datagram K: Read' or
+'datagram K: Write' where none could be received or the reply could not be sent, which counts as one of the D. The
+registry begins with its own rows, versions 2, 3 and 4 of program 100000 over tcp and udp, and is gone when the program
+ends.
 
 Exit status:
-  0  all connections were served
+  0  all connections were served, and all datagrams after them
   2  words are refused
   3  a socket or a write to standard output failed
   4  memory was refused
 
 Examples:
   oncrpc serve --port 0 --count 1
+  oncrpc serve --port 111 --count 0 --datagrams 1000
   oncrpc serve --port 111 --count 1000";

@@ -21,13 +21,17 @@ pub struct InfoTask {
     pub port: u16,
     /// The version of its program, 2 to 4.
     pub vers: u32,
+    /// Whether it is asked by a datagram over UDP, and not over TCP.
+    pub udp: bool,
 }
 
 /// A registry to be served.
 #[derive(Debug, PartialEq, Eq, Drop)]
 pub struct ServeTask {
-    /// The port to listen at; 0 takes a free one.
+    /// The port to listen at, over TCP and over UDP; 0 takes one that is free over TCP.
     pub port: u16,
     /// How many connections are served.
     pub count: u32,
+    /// How many datagrams are answered after them.
+    pub datagrams: u32,
 }

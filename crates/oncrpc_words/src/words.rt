@@ -81,6 +81,7 @@ fn info_task(alloc: Global, options: &ArgMatches<'_>) -> Result<InfoTask, AllocE
         host: String::from_str(alloc, options.get_str("host").unwrap_or(""))?,
         port: options.get_one::<u16>("port").unwrap_or(0),
         vers: options.get_one::<u32>("vers").unwrap_or(VERS),
+        udp: options.get_flag("udp"),
     })
 }
 
@@ -88,5 +89,6 @@ fn serve_task(options: &ArgMatches<'_>) -> ServeTask {
     ServeTask {
         port: options.get_one::<u16>("port").unwrap_or(0),
         count: options.get_one::<u32>("count").unwrap_or(0),
+        datagrams: options.get_one::<u32>("datagrams").unwrap_or(0),
     }
 }

@@ -1,8 +1,9 @@
-//! Clients over TCP of this host.
+//! Clients over TCP and UDP of this host.
 use crate::service::harness::{bytes, registry};
-use oncrpc_service::{Listener, Loopback, serve_on};
+use oncrpc_service::{ClientPort, Listener, Loopback, LoopbackPort, datagrams_on, serve_on};
+use rpc_engine::DatagramPort;
 use std::io::{Read, Write};
-use std::net::{Ipv4Addr, Shutdown, TcpStream};
+use std::net::{Ipv4Addr, Shutdown, SocketAddr, TcpStream};
 use std::test::Fail;
 use xdr_io::MemorySink;
 
@@ -13,9 +14,9 @@ const NULL: &str =
 const NULL_REPLY: &str = "80000018 00000001 00000001 00000000 00000000 00000000 00000000";
 
 // A client that has sent all that it will.
-fn client(rt: &HostRuntime, port: u16) -> Result<TcpStream, Fail> {
+fn client(rt: &HostRuntime, port: u16, digits: &str) -> Result<TcpStream, Fail> {
     let stream = TcpStream::connect(rt, (Ipv4Addr::LOCALHOST, port))?;
-    (&stream).write_all(&bytes(rt.alloc(), NULL)?)?;
+    (&stream).write_all(&bytes(rt.alloc(), digits)?)?;
     stream.shutdown(Shutdown::Write)?;
     Ok(stream)
 }
@@ -32,7 +33,7 @@ fn gets(rt: &HostRuntime, stream: &TcpStream, digits: &str) -> Result<bool, Fail
 fn two_clients_are_answered(rt: HostRuntime) -> Result<(), Fail> {
     let mut listener = Loopback::bind(&rt, 0)?;
     let port = listener.port();
-    let (first, second) = (client(&rt, port)?, client(&rt, port)?);
+    let (first, second) = (client(&rt, port, NULL)?, client(&rt, port, NULL)?);
     let (mut out, mut err) = ([0u8; 128], [0u8; 32]);
     let mut output = MemorySink::new(&mut out, 128, None);
     let mut faults = MemorySink::new(&mut err, 32, None);
@@ -50,5 +51,70 @@ fn two_clients_are_answered(rt: HostRuntime) -> Result<(), Fail> {
     )?;
     assert!(rt; port != 0 && status == 0 && output.written() == lines.as_bytes());
     assert!(rt; gets(&rt, &first, NULL_REPLY)? && gets(&rt, &second, NULL_REPLY)?);
+    Ok(())
+}
+
+// SET of version 2 of port 2049 for version 1 of program 536870912 over `tcp`, its reply, GETPORT of it as a datagram,
+// and the reply to that.
+const SET: &str =
+    "80000038 00000001 00000000 00000002 000186a0 00000002 00000001 00000000 00000000 00000000 00000000
+20000000 00000001 00000006 00000801";
+
+const SET_REPLY: &str = "8000001c 00000001 00000001 00000000 00000000 00000000 00000000 00000001";
+
+const GETPORT: &str =
+    "00000002 00000000 00000002 000186a0 00000002 00000003 00000000 00000000 00000000 00000000
+20000000 00000001 00000006 00000000";
+
+const GETPORT_REPLY: &str = "00000002 00000001 00000000 00000000 00000000 00000000 00000801";
+
+// A client over UDP that has sent its datagram.
+fn datagram_client(rt: &HostRuntime, port: u16) -> Result<ClientPort, Fail> {
+    let server = SocketAddr::from((Ipv4Addr::LOCALHOST, port));
+    let mut client = ClientPort::connect(rt, server)?;
+    client.send(&bytes(rt.alloc(), GETPORT)?)?;
+    Ok(client)
+}
+
+// Whether the datagram that the client receives is this one.
+fn receives(rt: &HostRuntime, client: &mut ClientPort, digits: &str) -> Result<bool, Fail> {
+    let mut array = [0u8; 65536];
+    let n = client.receive(&mut array)?;
+    Ok(array.get(..n as usize) == Some(bytes(rt.alloc(), digits)?.as_slice()))
+}
+
+// A row that is set over a connection is found by a datagram, which is sent before anything is served.
+#[test]
+fn a_datagram_finds_what_a_connection_set(rt: HostRuntime) -> Result<(), Fail> {
+    let mut listener = Loopback::bind(&rt, 0)?;
+    let port = listener.port();
+    let mut datagrams = LoopbackPort::bind(&rt, port)?;
+    let setter = client(&rt, port, SET)?;
+    let mut asker = datagram_client(&rt, port)?;
+    let (mut out, mut err) = ([0u8; 128], [0u8; 32]);
+    let mut output = MemorySink::new(&mut out, 128, None);
+    let mut faults = MemorySink::new(&mut err, 32, None);
+    let mut directory = registry(rt.alloc())?;
+    let served = serve_on(
+        rt.alloc(),
+        &mut listener,
+        1,
+        &mut directory,
+        &mut output,
+        &mut faults,
+    );
+    let answered = datagrams_on(
+        rt.alloc(),
+        &mut datagrams,
+        1,
+        &mut directory,
+        &mut output,
+        &mut faults,
+    );
+    let lines = format!(in rt.alloc();
+        "listening on 127.0.0.1 {port}\nconnection 1: 1 records, 1 replies\ndatagram 1: reply\n"
+    )?;
+    assert!(rt; served == 0 && answered == 0 && output.written() == lines.as_bytes());
+    assert!(rt; gets(&rt, &setter, SET_REPLY)? && receives(&rt, &mut asker, GETPORT_REPLY)?);
     Ok(())
 }

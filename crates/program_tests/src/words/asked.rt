@@ -108,17 +108,26 @@ fn records_are_asked(rt: HostRuntime) -> Result<(), AllocError> {
     Ok(())
 }
 
-// Words, and the host, the port and the version that they ask for.
-const INFOS: [(Words, &str, u16, u32); 4] = [
-    (&["info", "localhost", "111"], "localhost", 111, 4),
+// Words, and the host, the port, the version and whether over UDP that they ask for.
+const INFOS: [(Words, &str, u16, u32, bool); 6] = [
+    (&["info", "localhost", "111"], "localhost", 111, 4, false),
     (
         &["info", "127.0.0.1", "0", "--vers", "2"],
         "127.0.0.1",
         0,
         2,
+        false,
     ),
-    (&["info", "--vers=3", "", "65535"], "", 65535, 3),
-    (&["info", "::1", "+007", "--vers", "04"], "::1", 7, 4),
+    (&["info", "--vers=3", "", "65535"], "", 65535, 3, false),
+    (&["info", "::1", "+007", "--vers", "04"], "::1", 7, 4, false),
+    (
+        &["info", "localhost", "111", "--udp"],
+        "localhost",
+        111,
+        4,
+        true,
+    ),
+    (&["info", "--udp", "--vers=2", "a", "1"], "a", 1, 2, true),
 ];
 
 fn asks_info(
@@ -127,52 +136,94 @@ fn asks_info(
     host: &str,
     port: u16,
     vers: u32,
+    udp: bool,
 ) -> Result<bool, AllocError> {
     let host = String::from_str(alloc, host)?;
+    let asked = InfoTask {
+        host,
+        port,
+        vers,
+        udp,
+    };
     match read(alloc, words)? {
-        Ok(Request::Info(task)) => Ok(task == InfoTask { host, port, vers }),
+        Ok(Request::Info(task)) => Ok(task == asked),
         _ => Ok(false),
     }
 }
 
 #[test]
 fn infos_are_asked(rt: HostRuntime) -> Result<(), AllocError> {
-    for (words, host, port, vers) in &INFOS {
+    for (words, host, port, vers, udp) in &INFOS {
         assert!(rt;
-            asks_info(rt.alloc(), words, host, *port, *vers)?,
+            asks_info(rt.alloc(), words, host, *port, *vers, *udp)?,
             "{words:?}"
         );
     }
     Ok(())
 }
 
-// Words, and the port and the count that they ask for.
-const SERVES: [(Words, u16, u32); 2] = [
-    (&["serve", "--port", "0", "--count", "1"], 0, 1),
+// Words, and the port and the counts of connections and datagrams that they ask for.
+const SERVES: [(Words, u16, u32, u32); 4] = [
+    (&["serve", "--port", "0", "--count", "1"], 0, 1, 0),
     (
         &["serve", "--count=4294967295", "--port=65535"],
         65535,
         4294967295,
+        0,
+    ),
+    (
+        &[
+            "serve",
+            "--port",
+            "111",
+            "--count",
+            "0",
+            "--datagrams",
+            "4294967295",
+        ],
+        111,
+        0,
+        4294967295,
+    ),
+    (
+        &["serve", "--datagrams=+07", "--port=1", "--count=2"],
+        1,
+        2,
+        7,
     ),
 ];
 
-fn asks_serve(alloc: Global, words: Words, port: u16, count: u32) -> Result<bool, AllocError> {
+fn asks_serve(
+    alloc: Global,
+    words: Words,
+    port: u16,
+    count: u32,
+    datagrams: u32,
+) -> Result<bool, AllocError> {
+    let asked = ServeTask {
+        port,
+        count,
+        datagrams,
+    };
     match read(alloc, words)? {
-        Ok(Request::Serve(task)) => Ok(task == ServeTask { port, count }),
+        Ok(Request::Serve(task)) => Ok(task == asked),
         _ => Ok(false),
     }
 }
 
 #[test]
 fn serves_are_asked(rt: HostRuntime) -> Result<(), AllocError> {
-    for (words, port, count) in &SERVES {
-        assert!(rt; asks_serve(rt.alloc(), words, *port, *count)?, "{words:?}");
+    for (words, port, count, datagrams) in &SERVES {
+        assert!(rt;
+            asks_serve(rt.alloc(), words, *port, *count, *datagrams)?,
+            "{words:?}"
+        );
     }
     Ok(())
 }
 
 // Words that give no task, and the status.
-const REFUSED: [(Words, u8); 35] = [
+const REFUSED: [(Words, u8); 38] = [
     (&["check"], 2),
     (&["nope"], 2),
     (&["show"], 2),
@@ -185,14 +236,28 @@ const REFUSED: [(Words, u8); 35] = [
     (&["info", "localhost", "111", "112"], 2),
     (&["info", "localhost", "111", "--vers", "1"], 2),
     (&["info", "localhost", "111", "--vers", "5"], 2),
-    (&["info", "localhost", "111", "--udp"], 2),
+    (&["info", "localhost", "111", "--udp=1"], 2),
+    (&["info", "localhost", "111", "--udp", "--udp"], 2),
     (&["serve"], 2),
     (&["serve", "--port", "1"], 2),
     (&["serve", "--count", "1"], 2),
     (&["serve", "--port", "65536", "--count", "1"], 2),
     (&["serve", "--port", "1", "--count", "4294967296"], 2),
+    (&["serve", "--port", "1", "--datagrams", "1"], 2),
     (
-        &["serve", "--port", "1", "--count", "1", "--datagrams", "1"],
+        &[
+            "serve",
+            "--port",
+            "1",
+            "--count",
+            "1",
+            "--datagrams",
+            "4294967296",
+        ],
+        2,
+    ),
+    (
+        &["serve", "--port", "1", "--count", "1", "--datagrams", "-1"],
         2,
     ),
     (&["check", "--name", "int", "--types"], 2),

@@ -35,10 +35,11 @@ const OF_RECORDS: [&str; 9] = [
     "\n  oncrpc records --limit ",
 ];
 
-const OF_INFO: [&str; 8] = [
+const OF_INFO: [&str; 9] = [
     "<HOST>",
     "<PORT>",
     "2 to 4 [default: 4]",
+    "--udp ",
     "program vers netid address owner",
     "program vers prot port",
     "\n  1  ",
@@ -46,12 +47,16 @@ const OF_INFO: [&str; 8] = [
     "\n  oncrpc info localhost 111",
 ];
 
-const OF_SERVE: [&str; 8] = [
+const OF_SERVE: [&str; 12] = [
     "--port <N>",
     "0 takes a free one",
     "--count <C>",
+    "--datagrams <D>",
+    "[default: 0]",
     "listening on 127.0.0.1 PORT",
     "connection K: N records, M replies",
+    "datagram K: reply",
+    "datagram K: no reply",
     "\n  3  ",
     "\n  4  ",
     "\n  oncrpc serve --port 111",

@@ -8,6 +8,6 @@ use Rattle.program_examples.proofs.service.asks_for_all_rows.Goals as goal
 pub returns : goal.returns
 returns g c = λ printed.
     let e = c.info_over.ensures in
-    let told = e.printed printed in
+    let told = e.ends.printed printed in
     all_written _ _ _ c.requires.fresh (whole_call (call (dump_call 4)) 4 _ told.0 _ _ e.answer
     told.1 e.wrote) ∙ ap Some dump_bytes

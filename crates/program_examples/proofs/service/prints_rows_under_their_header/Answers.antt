@@ -6,6 +6,6 @@ use Rattle.program_examples.proofs.service.prints_rows_under_their_header.Goals 
 pub returns : goal.returns
 returns g c = λ zero.
     let e = c.info_over.ensures in
-    let told = e.printed (omega (arith, zero)) in
+    let told = e.ends.printed (omega (arith, zero)) in
     let under = under_header e.answer _ told.0 zero told.1 in
     (under.0, all_written _ _ _ c.requires.fresh told.2 ∙ ap Some under.1)
