@@ -33,6 +33,12 @@ pub dump_bytes : fragment true (call (dump_call 4)) ≡ 128 ∷ 0 ∷ 0 ∷ 40 �
 unfolding header
 dump_bytes = refl
 
+-- the same without a mark
+pub datagram_bytes : call (dump_call 4) ≡ 0 ∷ 0 ∷ 0 ∷ 1 ∷ 0 ∷ 0 ∷ 0 ∷ 0
+    ∷ 0 ∷ 0 ∷ 0 ∷ 2 ∷ 0 ∷ 1 ∷ 134 ∷ 160 ∷ 0 ∷ 0 ∷ 0 ∷ 4 ∷ 0 ∷ 0 ∷ 0 ∷ 4
+    ∷ 0 ∷ 0 ∷ 0 ∷ 0 ∷ 0 ∷ 0 ∷ 0 ∷ 0 ∷ 0 ∷ 0 ∷ 0 ∷ 0 ∷ 0 ∷ 0 ∷ 0 ∷ 0 ∷ []
+datagram_bytes = refl
+
 abbrev pub UnderHeader : List ℕ → Type 0
 UnderHeader text = (lines : List ℕ) × (text ≡ codes "program vers prot port\n" ++ lines)
 

@@ -5,3 +5,4 @@ pub mod Stopped
 pub mod Opened
 pub mod Serves
 pub mod Asks
+pub mod Answered

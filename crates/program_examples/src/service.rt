@@ -1,8 +1,10 @@
 //! The registry asked and served: what goes out, what is printed, and when rows can not have changed.
-ghost use Rattle.std.specs.Prelude.{◌≡◌, ◌≢◌, ◌<◌, ◌≤◌, ◌++◌, ℕ, List, [], ◌∷◌, Some, codes};
+ghost use Rattle.std.specs.Prelude.{◌≡◌, ◌≢◌, ◌<◌, ◌≤◌, ◌⊎◌, ◌++◌, ℕ, List, [], ◌∷◌, Some, codes};
 
-use oncrpc_service::{Listener, info_over, serve_on};
+use oncrpc_service::{Listener, datagrams_on, info_datagram, info_over, serve_on};
 use rpc_directory::Directory;
+use rpc_engine::DatagramPort;
+use rpc_message::five_cases;
 use std::alloc::Global;
 use std::hash::BuildHasher;
 use xdr_io::{Sink, Source};
@@ -96,4 +98,85 @@ pub fn is_silent_under_an_answer<R: Source, W: Sink, O: Sink, F: Sink>(
     ensures { result ≤ 1 → faults.new ≡ faults.old }
 {
     info_over(alloc, reader, writer, output, faults, vers)
+}
+
+/// Where no datagram is to be answered none is received, the rows stay, and nothing is printed.
+pub fn answers_no_datagram<P: DatagramPort, S: BuildHasher, O: Sink, F: Sink>(
+    alloc: Global,
+    port: &mut P,
+    directory: &mut Directory<S>,
+    output: &mut O,
+    faults: &mut F,
+) -> u8
+    requires fresh { O.taken output.old ≡ Some [] }
+    ensures rows { directory.new ≡ directory.old }
+    ensures left { P.left port.new ≡ P.left port.old }
+    ensures printed { result ≡ 0 → O.taken output.new ≡ Some [] }
+{
+    datagrams_on(alloc, port, 0, directory, output, faults)
+}
+
+/// A receive that fails uses up one of those that are to be answered: where no datagram is left one has its line, and
+/// it is not asked for another.
+pub fn uses_up_one_for_a_failed_receive<P: DatagramPort, S: BuildHasher, O: Sink, F: Sink>(
+    alloc: Global,
+    port: &mut P,
+    directory: &mut Directory<S>,
+    output: &mut O,
+    faults: &mut F,
+) -> u8
+    requires fresh { O.taken output.old ≡ Some [] }
+    requires none_left { P.left port.old ≡ Some [] }
+    ensures { result ≡ 0 → O.taken output.new ≡ Some (codes "datagram 1: Read\n") }
+{
+    datagrams_on(alloc, port, 1, directory, output, faults)
+}
+
+/// A datagram that is no call changes no row and has no reply, so that none can not be sent: its line says so, unless
+/// it could not be received.
+pub fn says_that_there_is_no_reply<P: DatagramPort, S: BuildHasher, O: Sink, F: Sink>(
+    alloc: Global,
+    port: &mut P,
+    directory: &mut Directory<S>,
+    output: &mut O,
+    faults: &mut F,
+) -> u8
+    requires fresh { O.taken output.old ≡ Some [] }
+    requires no_call { P.left port.old ≡ Some ([] ∷ []) }
+    ensures { result ≡ 0 → (O.taken output.new ≡ Some (codes "datagram 1: no reply\n"))
+        ⊎ (O.taken output.new ≡ Some (codes "datagram 1: Read\n")) }
+{
+    five_cases();
+    datagrams_on(alloc, port, 1, directory, output, faults)
+}
+
+/// Where an answer by datagram is printed, the one datagram that went out is DUMP of version 4 with xid 1 and no
+/// credentials.
+pub fn asks_by_one_datagram<P: DatagramPort, O: Sink, F: Sink>(
+    alloc: Global,
+    port: &mut P,
+    output: &mut O,
+    faults: &mut F,
+) -> u8
+    requires fresh { P.sent port.old ≡ Some [] }
+    ensures { result ≤ 1 → P.sent port.new ≡ Some ((0 ∷ 0 ∷ 0 ∷ 1 ∷ 0 ∷ 0 ∷ 0 ∷ 0
+        ∷ 0 ∷ 0 ∷ 0 ∷ 2 ∷ 0 ∷ 1 ∷ 134 ∷ 160 ∷ 0 ∷ 0 ∷ 0 ∷ 4 ∷ 0 ∷ 0 ∷ 0 ∷ 4
+        ∷ 0 ∷ 0 ∷ 0 ∷ 0 ∷ 0 ∷ 0 ∷ 0 ∷ 0 ∷ 0 ∷ 0 ∷ 0 ∷ 0 ∷ 0 ∷ 0 ∷ 0 ∷ 0 ∷ []) ∷ []) }
+{
+    info_datagram(alloc, port, output, faults, 4)
+}
+
+/// Where no datagram comes no answer is printed.
+pub fn prints_nothing_without_a_datagram<P: DatagramPort, O: Sink, F: Sink>(
+    alloc: Global,
+    port: &mut P,
+    output: &mut O,
+    faults: &mut F,
+    vers: u32,
+) -> u8
+    requires none_left { P.left port.old ≡ Some [] }
+    ensures no_rows { result ≢ 0 }
+    ensures no_refusal { result ≢ 1 }
+{
+    info_datagram(alloc, port, output, faults, vers)
 }

@@ -1,0 +1,213 @@
+-- Datagrams that are answered where none is to be, none comes, or one that is no call; what asking by a datagram sends.
+use Rattle.std.proofs.Common.{◌≡◌, ℕ, ◌+◌, ◌<◌, ◌≤◌, ◌⊎◌, inl, inr, List, [], ◌∷◌, ◌++◌, length, Bool, Option}
+use Rattle.std.proofs.Common.{Some, None, ◌==◌, if◌then◌else◌}
+use Rattle.std.proofs.Common.{Result, Ok, Err, codes, decimal, suc, get_or, refl, ap, sym, ◌∙◌, subst, arith}
+use Rattle.std.specs.Fmt.{digits}
+use Rattle.xdr_units.specs.Numbers.{AreBytes}
+use Rattle.rpc_message.specs.declared.message.Reply.{Reply}
+use Rattle.rpc_message.specs.Message.{CaseView, ReplyView, NotACall}
+use Rattle.rpc_message.specs.Cases.{IsCase}
+use Rattle.rpc_rows.specs.Rows.{Row}
+use Rattle.rpc_rows.specs.Ports.{udp}
+use Rattle.rpc_answer.specs.Answer.{Answer, Answers, Sends, xid_in, silence, other_version, bad_cred, bad_verf, call}
+use Rattle.rpc_answer.specs.Answer.{no_memory}
+use Rattle.rpc_engine.specs.declared.fault.ClientFault.{ClientFault}
+use Rattle.rpc_engine.specs.declared.fault.ClientFault.TheVariants as fault
+use Rattle.rpc_engine.specs.declared.fault.DatagramFault.TheVariants as broken
+use Rattle.rpc_engine.specs.DatagramExchange.{ExchangesDatagram}
+use Rattle.rpc_engine.specs.Datagrams.{ServesDatagrams, NotSent}
+use Rattle.rpc_engine.specs.Ports.{Told, Receives, Sends as IsSent}
+use Rattle.rpc_engine.specs.Run.{Run, listed}
+use Rattle.rpc_engine.specs.declared.fault.Served.{Served}
+use Rattle.rpc_record.specs.Reading.{capped}
+use Rattle.oncrpc_service.specs.Datagrams.{Ended, FinishesEach, Telling, datagram_lines}
+use Rattle.oncrpc_service.specs.Infos.{Tells}
+
+-- no datagram leaves all as it was
+pub none_answered : (rows new : List Row) (old now : Telling) (es : List Ended) → length es ≤ 0
+    → FinishesEach rows old es new now → (new ≡ rows) × (now ≡ old)
+none_answered rows new old now [] few f = f
+none_answered rows new old now (e ∷ es) few f = absurd (omega (arith, few))
+
+pub no_lines : (es : List Ended) → length es ≤ 0 → datagram_lines es ≡ []
+no_lines [] few = refl
+no_lines (e ∷ es) few = absurd (omega (arith, few))
+
+-- ---- what a port gives of which nothing, or one datagram without bytes, is left
+
+none_received : (left : Told) (d : List ℕ) (ds : List (List ℕ)) → Receives (Some []) left (d ∷ ds) → ⊥
+none_received None d ds h = h
+none_received (Some rest) d ds h = let e : 0 ≡ suc (length (ds ++ rest)) = ap length h in omega (arith, e)
+
+empty_front : (left : Told) (ds : List (List ℕ)) → Receives (Some []) left ds → ds ≡ []
+empty_front left [] h = refl
+empty_front left (d ∷ ds) h = absurd (none_received left d ds h)
+
+then_none : (mid left : Told) (d : List ℕ) → Receives (Some []) mid [] → Receives mid left (d ∷ []) → ⊥
+then_none None left d h k = h
+then_none (Some rest) left d h k =
+    none_received left d [] (subst (λ (r : List (List ℕ)). Receives (Some r) left (d ∷ [])) (sym h) k)
+
+one_front : (left : Told) (ds : List (List ℕ)) → length ds ≡ 1 → Receives (Some ([] ∷ [])) left ds → ds ≡ [] ∷ []
+one_front None ds one h = absurd h
+one_front (Some rest) [] one h = absurd (omega (arith, one))
+one_front (Some rest) (d ∷ []) one h =
+    ap (λ (x : List ℕ). x ∷ []) (sym (ap (λ (l : List (List ℕ)). get_or l 0 []) h))
+one_front (Some rest) (d ∷ c ∷ ds) one h = absurd (omega (arith, one))
+
+no_front : (ds : List (List ℕ)) → length ds ≡ 0 → ds ≡ []
+no_front [] none = refl
+no_front (d ∷ ds) none = absurd (omega (arith, none))
+
+then_one : (mid left : Told) (d : List ℕ) → Receives (Some ([] ∷ [])) mid [] → Receives mid left (d ∷ []) → d ≡ []
+then_one None left d h k = absurd h
+then_one (Some rest) left d h k =
+    let front = one_front left (d ∷ []) refl
+    (subst (λ (r : List (List ℕ)). Receives (Some r) left (d ∷ [])) (sym h) k) in
+    ap (λ (l : List (List ℕ)). get_or l 0 []) front
+
+not_served_none : (rows new : List Row) (left left' sent sent' : Told) (s : Served) → left ≡ Some []
+    → ServesDatagrams 1 rows new left left' sent sent' s → ⊥
+not_served_none rows new left left' sent sent' s none h =
+    let no = empty_front left' h.datagrams
+    (subst (λ (t : Told). Receives t left' h.datagrams) none h.finished.received) in
+    let n : length h.datagrams ≡ 0 = ap length no in
+    let all = h.all in
+    omega (arith, n, all)
+
+not_sent_none : (done : ℕ) (rows new : List Row) (left left' sent sent' : Told) → left ≡ Some []
+    → NotSent 1 done rows new left left' sent sent' → ⊥
+not_sent_none done rows new left left' sent sent' none h =
+    let first = subst (λ (t : Told). Receives t h.waiting h.datagrams) none h.finished.received in
+    let no = empty_front h.waiting h.datagrams first in
+    then_none h.waiting left' h.answering
+    (subst (λ (ds : List (List ℕ)). Receives (Some []) h.waiting ds) no first) h.received
+
+-- where none is left the one that is to be answered is not received
+pub one_unreceived : (rows new : List Row) (old now : Telling) (es : List Ended) → old.left ≡ Some [] → length es ≡ 1
+    → FinishesEach rows old es new now → datagram_lines es ≡ codes "datagram 1: Read\n"
+unfolding digits
+one_unreceived rows new old now [] none one f = absurd (omega (arith, one))
+one_unreceived rows new old now (Err (broken.Read done) ∷ []) none one f = refl
+one_unreceived rows new old now (Err (broken.Write done) ∷ []) none one f =
+    absurd (not_sent_none done rows f.0 old.left f.1.0.left old.sent f.1.0.sent none f.1.1.0.0)
+one_unreceived rows new old now (Ok s ∷ []) none one f =
+    absurd (not_served_none rows f.0 old.left f.1.0.left old.sent f.1.0.sent s none f.1.1.0.0)
+one_unreceived rows new old now (e ∷ d ∷ es) none one f = absurd (omega (arith, one))
+
+-- ---- silence
+
+abbrev HasOne : {A : Type 0} → Option A → Type 0
+HasOne None = ⊥
+HasOne (Some x) = ⊤
+
+no_xid : (x : ℕ) → Some x ≡ None → ⊥
+no_xid x e = subst (λ (o : Option ℕ). HasOne o) e tt
+
+-- the law that a message has one case
+abbrev pub Exclusive : Type 0
+Exclusive = (bytes : List ℕ) (j k : CaseView) → AreBytes bytes → IsCase bytes j → IsCase bytes k → j ≡ k
+
+answers_silent : (rows new : List Row) (netid : List ℕ) (k : CaseView) (y : Bool) (said : Option ReplyView)
+    → k ≡ NotACall → Answers rows netid k y new said → said ≡ None
+answers_silent rows _ netid _ _ _ is (silence y) = refl
+answers_silent rows _ netid _ _ _ is (other_version xid version) = absurd (no_xid xid (ap xid_in is))
+answers_silent rows _ netid _ _ _ is (bad_cred xid) = absurd (no_xid xid (ap xid_in is))
+answers_silent rows _ netid _ _ _ is (bad_verf xid) = absurd (no_xid xid (ap xid_in is))
+answers_silent rows _ netid _ _ _ is (call c new r are) = absurd (no_xid c.xid (ap xid_in is))
+answers_silent rows _ netid _ _ _ is (no_memory k xid e) = absurd (no_xid xid (sym e ∙ ap xid_in is))
+
+sends_silent : (said : Option ReplyView) (sent : Option (List ℕ)) → said ≡ None → Sends said sent → sent ≡ None
+sends_silent None None e s = refl
+sends_silent None (Some bytes) e s = absurd s
+sends_silent (Some r) sent e s = absurd (subst (λ (o : Option ReplyView). HasOne o) e tt)
+
+answer_silent : Exclusive → (rows new : List Row) (y : Bool) (sent : Option (List ℕ)) → Answer rows udp [] y new sent
+    → sent ≡ None
+answer_silent exclusive rows new y sent a =
+    let is : a.case ≡ NotACall = exclusive [] a.case NotACall tt a.read (inl (omega arith)) in
+    sends_silent a.said sent (answers_silent rows new udp a.case y a.said is a.answers) a.sends
+
+run_silent : Exclusive → (rows new : List Row) (ys : List Bool) (replies : List (List ℕ))
+    → Run rows udp ([] ∷ []) ys new replies → replies ≡ []
+run_silent exclusive rows new [] replies r = absurd r
+run_silent exclusive rows new (y ∷ []) replies r =
+    let none = answer_silent exclusive rows r.0 y r.1.0 r.1.1.1.0 in
+    r.1.1.1.2 ∙ ap (λ (o : Option (List ℕ)). listed o ++ r.1.1.0) none ∙ r.1.1.1.1.1
+run_silent exclusive rows new (y ∷ z ∷ zs) replies r = absurd r.1.1.1.1
+
+no_reply_line : (s : Served) → s.replies ≡ 0 → datagram_lines (Ok s ∷ []) ≡ codes "datagram 1: no reply\n"
+unfolding digits
+no_reply_line s zero =
+    ap (λ (n : ℕ). (codes "datagram " ++ decimal 1 ++ codes ": "
+    ++ (if n == 0 then codes "no reply" else codes "reply") ++ codes "\n") ++ []) zero
+
+served_silent : Exclusive → (rows new : List Row) (left left' sent sent' : Told) (s : Served)
+    → left ≡ Some ([] ∷ []) → ServesDatagrams 1 rows new left left' sent sent' s → s.replies ≡ 0
+served_silent exclusive rows new left left' sent sent' s is h =
+    let front = one_front left' h.datagrams h.all
+    (subst (λ (t : Told). Receives t left' h.datagrams) is h.finished.received) in
+    let none = run_silent exclusive rows new h.finished.refusals h.replies
+    (subst (λ (ds : List (List ℕ)). Run rows udp ds h.finished.refusals new h.replies) front h.finished.run) in
+    h.counted.answered ∙ ap (λ (rs : List (List ℕ)). capped (length rs)) none
+
+not_unsent_silent : Exclusive → (done : ℕ) (rows new : List Row) (left left' sent sent' : Told)
+    → left ≡ Some ([] ∷ []) → NotSent 1 done rows new left left' sent sent' → ⊥
+not_unsent_silent exclusive done rows new left left' sent sent' is h =
+    let few = h.few in
+    let many = h.so_many in
+    let no = no_front h.datagrams (omega (arith, few, many)) in
+    let first = subst (λ (ds : List (List ℕ)). Receives (Some ([] ∷ [])) h.waiting ds) no
+    (subst (λ (t : Told). Receives t h.waiting h.datagrams) is h.finished.received) in
+    let empty = then_one h.waiting left' h.answering first h.received in
+    let none = answer_silent exclusive h.mid new h.refused (Some h.unsent)
+    (subst (λ (d : List ℕ). Answer h.mid udp d h.refused new (Some h.unsent)) empty h.answer) in
+    subst (λ (o : Option (List ℕ)). HasOne o) none tt
+
+-- where one that is no call is left, its line says that there is no reply, or that it was not received
+pub one_silent : Exclusive → (rows new : List Row) (old now : Telling) (es : List Ended)
+    → old.left ≡ Some ([] ∷ []) → length es ≡ 1 → FinishesEach rows old es new now
+    → (datagram_lines es ≡ codes "datagram 1: no reply\n") ⊎ (datagram_lines es ≡ codes "datagram 1: Read\n")
+unfolding digits
+one_silent exclusive rows new old now [] is one f = absurd (omega (arith, one))
+one_silent exclusive rows new old now (Err (broken.Read done) ∷ []) is one f = inr refl
+one_silent exclusive rows new old now (Err (broken.Write done) ∷ []) is one f =
+    absurd (not_unsent_silent exclusive done rows f.0 old.left f.1.0.left old.sent f.1.0.sent is f.1.1.0.0)
+one_silent exclusive rows new old now (Ok s ∷ []) is one f =
+    inl (no_reply_line s (served_silent exclusive rows f.0 old.left f.1.0.left old.sent f.1.0.sent s is f.1.1.0.0))
+one_silent exclusive rows new old now (e ∷ d ∷ es) is one f = absurd (omega (arith, one))
+
+-- ---- asking by a datagram
+
+-- where an answer is printed the call was sent
+pub whole_datagram : (vers status : ℕ) (text bytes : List ℕ) (left left' sent sent' : Told)
+    (answer : Result Reply ClientFault) → Tells vers answer status text
+    → ExchangesDatagram 1 bytes left left' sent sent' answer → IsSent sent sent' (bytes ∷ [])
+whole_datagram vers status text bytes left left' sent sent' (Ok reply) t h = h.0
+whole_datagram vers status text bytes left left' sent sent' (Err (fault.Record f)) t h = h.0
+whole_datagram vers status text bytes left left' sent sent' (Err fault.Read) t h = absurd t.1
+whole_datagram vers status text bytes left left' sent sent' (Err (fault.Write written)) t h = absurd t.1
+whole_datagram vers status text bytes left left' sent sent' (Err (fault.Reply f)) t h = h.0
+whole_datagram vers status text bytes left left' sent sent' (Err (fault.WrongXid got)) t h = h.0
+whole_datagram vers status text bytes left left' sent sent' (Err fault.TooManyReads) t h = absurd t.1
+whole_datagram vers status text bytes left left' sent sent' (Err fault.NoMemory) t h = absurd t.1
+
+pub all_sent : (d : List ℕ) (sent sent' : Told) → sent ≡ Some [] → IsSent sent sent' (d ∷ []) → sent' ≡ Some (d ∷ [])
+all_sent d sent None e h = absurd (subst (λ (t : Told). IsSent t None (d ∷ [])) e h)
+all_sent d sent (Some all) e h = ap Some (subst (λ (t : Told). IsSent t (Some all) (d ∷ [])) e h)
+
+-- where none is left no answer is printed
+pub not_told : (vers status : ℕ) (text bytes : List ℕ) (left left' sent sent' : Told)
+    (answer : Result Reply ClientFault) → left ≡ Some [] → Tells vers answer status text
+    → ExchangesDatagram 1 bytes left left' sent sent' answer → ⊥
+not_told vers status text bytes left left' sent sent' (Ok reply) none t h =
+    none_received left' h.1.0 [] (subst (λ (l : Told). Receives l left' (h.1.0 ∷ [])) none h.1.1.0)
+not_told vers status text bytes left left' sent sent' (Err (fault.Record f)) none t h = h.1.1.1
+not_told vers status text bytes left left' sent sent' (Err fault.Read) none t h = t.1
+not_told vers status text bytes left left' sent sent' (Err (fault.Write written)) none t h = t.1
+not_told vers status text bytes left left' sent sent' (Err (fault.Reply f)) none t h =
+    none_received left' h.1.0 [] (subst (λ (l : Told). Receives l left' (h.1.0 ∷ [])) none h.1.1.0)
+not_told vers status text bytes left left' sent sent' (Err (fault.WrongXid got)) none t h =
+    none_received left' h.1.0 [] (subst (λ (l : Told). Receives l left' (h.1.0 ∷ [])) none h.1.1.0)
+not_told vers status text bytes left left' sent sent' (Err fault.TooManyReads) none t h = t.1
+not_told vers status text bytes left left' sent sent' (Err fault.NoMemory) none t h = t.1
