@@ -43,16 +43,16 @@ module _ (one : OneOutcome) (whole : WholeIsLongest) (none : WholeHasNoLong) (xi
 
 -- ---- the reply of a null call with xid 2
 
-abbrev two : List ℕ
+abbrev pub two : List ℕ
 two = 0 ∷ 0 ∷ 0 ∷ 2 ∷ 0 ∷ 0 ∷ 0 ∷ 1 ∷ 0 ∷ 0 ∷ 0 ∷ 0 ∷ 0 ∷ 0 ∷ 0 ∷ 0 ∷ 0 ∷ 0 ∷ 0 ∷ 0 ∷ 0 ∷ 0 ∷ 0 ∷ 0 ∷ []
 
 abbrev pub two_bytes : List ℕ
 two_bytes = 128 ∷ 0 ∷ 0 ∷ 24 ∷ two
 
-abbrev two_reply : ReplyView
+abbrev pub two_reply : ReplyView
 two_reply = Accepted 2 (record { flavor = 0; body = [] }) (Success [])
 
-two_spelled : ReplyBytes two_reply two
+pub two_spelled : ReplyBytes two_reply two
 two_spelled = record {
   fits = (omega arith, record { flavor = omega arith; short = omega arith }, tt);
   parts = refl;

@@ -1,0 +1,211 @@
+-- What the datagrams of the examples come to.
+use Rattle.std.proofs.Common.{◌≡◌, ◌≢◌, ℕ, ◌<◌, inl, Bool, List, [], ◌∷◌, ◌++◌, length, Option, Some, None, Result, Ok, Err}
+use Rattle.std.proofs.Common.{refl, sym, ap, ◌∙◌, subst, arith, IfOk, IfErr, OnOk, IsOk, IsErr, take}
+use Rattle.std.specs.Prelude.{⊤}
+use Rattle.xdr_units.specs.Numbers.{AreBytes}
+use Rattle.rpc_message.specs.declared.fault.ReplyFault.{ReplyFault}
+use Rattle.rpc_message.specs.declared.message.Reply.{Reply}
+use Rattle.rpc_message.specs.Cases.{IsCase}
+use Rattle.rpc_message.specs.Message.{CaseView, Whole, OtherVersion, BadCred, BadVerf, NotACall, ReplyView}
+use Rattle.rpc_message.specs.View.{reply_view}
+use Rattle.rpc_rows.specs.Rows.{Row}
+use Rattle.rpc_rows.specs.Ports.{udp}
+use Rattle.rpc_answer.specs.Answer.{Answer, Answers, Sends as SendsReply, silence, other_version, bad_cred, bad_verf}
+use Rattle.rpc_answer.specs.Answer.{call, no_memory, xid_in}
+use Rattle.rpc_engine.specs.declared.fault.ClientFault.{ClientFault}
+use Rattle.rpc_engine.specs.declared.fault.ClientFault.TheVariants as fault
+use Rattle.rpc_engine.specs.declared.fault.DatagramFault.{DatagramFault}
+use Rattle.rpc_engine.specs.declared.fault.DatagramFault.TheVariants as datagram_fault
+use Rattle.rpc_engine.specs.declared.fault.Served.{Served}
+use Rattle.rpc_engine.specs.Datagrams.{ServesDatagrams, StopsDatagrams}
+use Rattle.rpc_engine.specs.DatagramExchange.{ExchangesDatagram, OwnReply, OtherReply, NotReply, IsMessageCase}
+use Rattle.rpc_engine.specs.Laws.{OneCase}
+use Rattle.rpc_engine.specs.Ports.{Told, Receives, Sends, pieces, received_from}
+use Rattle.rpc_engine.specs.declared.memory_port.MemoryPort.{MemoryPort}
+use Rattle.rpc_engine.specs.Run.{Run, listed}
+use Rattle.registry_examples.proofs.Replies.{two, two_reply, two_spelled}
+
+-- what a port over memory tells
+abbrev pub left_of : MemoryPort → Told
+left_of port = Some (received_from port.next port.waiting.now)
+
+abbrev pub sent_of : MemoryPort → Told
+sent_of port = Some (pieces (take port.count port.sizes.now) port.room.now)
+
+-- ---- no datagram
+
+none_run : (rows new : List Row) (ys : List Bool) (replies : List (List ℕ)) → Run rows udp [] ys new replies
+    → (new ≡ rows) × (replies ≡ [])
+none_run rows new [] replies h = h
+none_run rows new (y ∷ ys) replies h = absurd h
+
+no_items : (ds : List (List ℕ)) → length ds ≡ 0 → ds ≡ []
+no_items [] e = refl
+no_items (d ∷ ds) e = absurd (omega (arith, e))
+
+-- nothing was received or sent, and the rows stay
+abbrev pub IsStill : List Row → List Row → Told → Told → Told → Told → Type 0
+IsStill rows new l m s t = (new ≡ rows) × Receives l m [] × Sends s t []
+
+module _ (rows new : List Row) (l m s t : Told) where
+  still : (ds replies : List (List ℕ)) (ys : List Bool) → length ds ≡ 0 → Receives l m ds
+      → Run rows udp ds ys new replies → Sends s t replies → IsStill rows new l m s t
+  still ds replies ys e h run k =
+      let none = no_items ds e in
+      let r = none_run rows new ys replies (subst (λ d. Run rows udp d ys new replies) none run) in
+      (r.0, subst (λ d. Receives l m d) none h, subst (λ d. Sends s t d) r.1 k)
+
+  pub none_served : (result : Result Served DatagramFault)
+      → IfOk result (λ served. ServesDatagrams 0 rows new l m s t served)
+      → IfErr result (λ f. StopsDatagrams 0 rows new l m s t f)
+      → IsOk result × IfOk result (λ served. (served.records ≡ 0) × (served.replies ≡ 0)) × IsStill rows new l m s t
+  none_served (Ok served) h k =
+      let f = h.finished in
+      let ds = no_items h.datagrams h.all in
+      let replies = (none_run rows new f.refusals h.replies
+      (subst (λ d. Run rows udp d f.refusals new h.replies) ds f.run)).1 in (
+        refl,
+        (omega (arith, h.counted.records, h.all), omega (arith, h.counted.answered, ap length replies)),
+        still h.datagrams h.replies f.refusals h.all f.received f.run f.sends,
+      )
+  none_served (Err (datagram_fault.Read done)) h k = absurd (omega (arith, k.few))
+  none_served (Err (datagram_fault.Write done)) h k = absurd (omega (arith, k.few))
+
+  pub none_came : (result : Result Served DatagramFault) → IfErr result (λ f. StopsDatagrams 2 rows new l m s t f)
+      → result ≡ Err (datagram_fault.Read 0) → IsStill rows new l m s t
+  none_came result k e =
+      let h = subst (λ r. IfErr r (λ f. StopsDatagrams 2 rows new l m s t f)) e k in
+      still h.datagrams h.replies h.finished.refusals h.so_many h.finished.received h.finished.run h.finished.sends
+
+-- ---- a datagram that is told
+
+told_first : (l m : Told) (d : List ℕ) (more ds : List (List ℕ)) → l ≡ Some (d ∷ more) → length ds ≡ 1
+    → Receives l m ds → ds ≡ d ∷ []
+told_first None m d more ds e n h = absurd (apart e)
+  where
+    apart : ◌≡◌ {A = Told} None (Some (d ∷ more)) → ⊥
+    apart e = cc
+told_first (Some all) None d more ds e n h = absurd h
+told_first (Some all) (Some rest) d more [] e n h = absurd (omega (arith, n))
+told_first (Some all) (Some rest) d more (x ∷ y ∷ ds) e n h = absurd (omega (arith, n))
+told_first (Some all) (Some rest) d more (x ∷ []) e n h = ap (λ k. k ∷ []) (same (sym h ∙ inside e))
+  where
+    inside : Some all ≡ Some (d ∷ more) → all ≡ d ∷ more
+    inside e = cc
+
+    same : x ∷ rest ≡ d ∷ more → x ≡ d
+    same e = cc
+
+-- ---- an empty datagram
+
+abbrev IfNoCall : CaseView → List Row → List Row → Option ReplyView → Type 0
+IfNoCall NotACall rows new said = (new ≡ rows) × (said ≡ None)
+IfNoCall _ rows new said = ⊤
+
+no_xid : (k : CaseView) (xid : ℕ) (rows : List Row) (said : Option ReplyView) → xid_in k ≡ Some xid
+    → IfNoCall k rows rows said
+no_xid NotACall xid rows said e = absurd (apart e)
+  where
+    apart : ◌≡◌ {A = Option ℕ} None (Some xid) → ⊥
+    apart e = cc
+no_xid (Whole c) xid rows said e = tt
+no_xid (OtherVersion x v) xid rows said e = tt
+no_xid (BadCred x) xid rows said e = tt
+no_xid (BadVerf x) xid rows said e = tt
+
+no_call : {rows : List Row} {netid : List ℕ} {k : CaseView} {y : Bool} {new : List Row} {said : Option ReplyView}
+    → Answers rows netid k y new said → IfNoCall k rows new said
+no_call (silence y) = (refl, refl)
+no_call (other_version xid version) = tt
+no_call (bad_cred xid) = tt
+no_call (bad_verf xid) = tt
+no_call (call c new r h) = tt
+no_call {rows = rows} (no_memory k xid e) = no_xid k xid rows _ e
+
+abbrev FiveCases : Type 0
+FiveCases = (bytes : List ℕ) (j k : CaseView) → AreBytes bytes → IsCase bytes j → IsCase bytes k → j ≡ k
+
+module _ (five : FiveCases) where
+  silent : (rows mid : List Row) (y : Bool) (sent : Option (List ℕ)) → Answer rows udp [] y mid sent
+      → (mid ≡ rows) × (sent ≡ None)
+  silent rows mid y sent h =
+      let none : h.case ≡ NotACall = five [] h.case NotACall bytes h.read (inl (omega arith)) in
+      let is = subst (λ k. IfNoCall k rows mid h.said) none (no_call h.answers) in
+      (is.0, unsent sent (subst (λ r. SendsReply r sent) is.1 h.sends))
+    where
+      bytes : AreBytes []
+      bytes = tt
+
+      unsent : (sent : Option (List ℕ)) → SendsReply None sent → sent ≡ None
+      unsent None h = refl
+      unsent (Some bytes) h = absurd h
+
+  silent_run : (rows new : List Row) (ys : List Bool) (replies : List (List ℕ))
+      → Run rows udp ([] ∷ []) ys new replies → (new ≡ rows) × (replies ≡ [])
+  silent_run rows new [] replies h = absurd h
+  silent_run rows new (y ∷ z ∷ ys) replies (mid, (sent, (more, (a, run, is)))) = absurd run
+  silent_run rows new (y ∷ []) replies (mid, (sent, (more, (a, (same, none), is)))) =
+      let s = silent rows mid y sent a in
+      (same ∙ s.0, is ∙ ap (λ k. listed k ++ more) s.1 ∙ none)
+
+  module _ (rows new : List Row) (l m s t : Told) (told : l ≡ Some ([] ∷ [])) where
+    pub silent_served : (result : Result Served DatagramFault)
+        → IfOk result (λ served. ServesDatagrams 1 rows new l m s t served)
+        → IfOk result (λ served. (served.records ≡ 1) × (served.replies ≡ 0)) × OnOk result (new ≡ rows)
+    silent_served (Err f) h = (tt, tt)
+    silent_served (Ok served) h =
+        let f = h.finished in
+        let one = told_first l m [] [] h.datagrams told h.all f.received in
+        let r = silent_run rows new f.refusals h.replies
+        (subst (λ d. Run rows udp d f.refusals new h.replies) one f.run) in
+        ((omega (arith, h.counted.records, h.all), omega (arith, h.counted.answered, ap length r.1)), r.0)
+
+-- ---- the reply to a call with xid 2
+
+other_case : IsMessageCase 1 two (OtherReply 2)
+other_case = ((two_reply, (two_spelled, refl)), λ e. omega (arith, e))
+
+module _ (one : OneCase) (call : List ℕ) (l m s t : Told) (told : l ≡ Some (two ∷ [])) (xid : ℕ) (is : xid ≡ 1)
+    (result : Result Reply ClientFault) (h : ExchangesDatagram xid call l m s t result) where
+  came : (message : List ℕ) → Receives l m (message ∷ []) → message ≡ two
+  came message h = same (told_first l m two [] (message ∷ []) told refl h)
+    where
+      same : message ∷ [] ≡ two ∷ [] → message ≡ two
+      same e = cc
+
+  says : (r : Result Reply ClientFault) → result ≡ r → ExchangesDatagram 1 call l m s t r
+  says r e = subst (λ n. ExchangesDatagram n call l m s t r) is (subst (λ k. ExchangesDatagram xid call l m s t k) e h)
+
+  pub other_two : (got : ℕ) → result ≡ Err (fault.WrongXid got) → got ≡ 2
+  other_two got e =
+      let x = says (Err (fault.WrongXid got)) e in
+      same (one 1 two (OtherReply got) (OtherReply 2)
+      (subst (λ d. IsMessageCase 1 d (OtherReply got)) (came x.1.0 x.1.1.0) x.1.1.1) other_case)
+    where
+      same : OtherReply got ≡ OtherReply 2 → got ≡ 2
+      same e = cc
+
+  pub is_reply : (f : ReplyFault) → result ≢ Err (fault.Reply f)
+  is_reply f e =
+      let x = says (Err (fault.Reply f)) e in
+      apart (one 1 two NotReply (OtherReply 2)
+      (subst (λ d. IsMessageCase 1 d NotReply) (came x.1.0 x.1.1.0) x.1.1.1.0) other_case)
+    where
+      apart : NotReply ≡ OtherReply 2 → ⊥
+      apart e = cc
+
+  not_own : (reply : Reply) → result ≡ Ok reply → ⊥
+  not_own reply e =
+      let x = says (Ok reply) e in
+      apart (one 1 two (OwnReply (reply_view reply)) (OtherReply 2)
+      (subst (λ d. IsMessageCase 1 d (OwnReply (reply_view reply))) (came x.1.0 x.1.1.0) x.1.1.1) other_case)
+    where
+      apart : OwnReply (reply_view reply) ≡ OtherReply 2 → ⊥
+      apart e = cc
+
+  pub is_err : IsErr result
+  is_err = by result refl
+    where
+      by : (r : Result Reply ClientFault) → result ≡ r → IsErr r
+      by (Err f) e = refl
+      by (Ok reply) e = absurd (not_own reply e)
