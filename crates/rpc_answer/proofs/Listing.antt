@@ -1,11 +1,13 @@
 -- The bytes of a dump, row by row.
-use Rattle.std.proofs.Common.{◌≡◌, ℕ, zero, suc, ◌≤◌, ◌<◌, List, [], ◌∷◌, ◌++◌, length, filter_map, take, Option, Some}
+use Rattle.std.proofs.Common.{◌≡◌, ℕ, zero, suc, ◌+◌, ◌≤◌, ◌<◌, List, [], ◌∷◌, ◌++◌, length, filter_map, take, drop}
+use Rattle.std.proofs.Common.{◌-◌, replicate, slice_index_or, length-append, Option, Some}
 use Rattle.std.proofs.Common.{None, option_map, option_and_then, is_some, refl, ap, sym, ◌∙◌, arith}
 use Rattle.std.proofs.Common.{append_assoc, append-nil, true≢false, slice_get}
 use Rattle.std.specs.List.{flat_map, cons_option}
 use Rattle.std.specs.Option.{option_map_or}
+use Rattle.std.proofs.lemmas.List.{take_all, length-replicate}
 use Rattle.std.proofs.lemmas.List.Concat.{flat_map-append}
-use Rattle.xdr_units.specs.Numbers.{word, pad, padded}
+use Rattle.xdr_units.specs.Numbers.{word, pad, gap}
 use Rattle.xdr_types.specs.Spelling.{bytes_of}
 use Rattle.rpc_uaddr.specs.declared.address.Uaddr.{Uaddr}
 use Rattle.rpc_uaddr.specs.Uaddrs.{uaddr_of}
@@ -13,8 +15,7 @@ use Rattle.rpc_rows.specs.Rows.{Row}
 use Rattle.rpc_dumps.specs.Dir.{dir_kinds}
 use Rattle.rpc_dumps.specs.Dumps.{linked, rpcb_tree, rpcb_list, mapping_tree, mapping_row, mapping_list, prot_of}
 use Rattle.rpc_answer.specs.Private.Parsed.{text}
-use Rattle.rpc_answer.proofs.Chains.{then}
-use Rattle.rpc_answer.specs.Private.Pushes.{row_bytes, mapping_bytes, mapping_at_bytes}
+use Rattle.rpc_answer.specs.Private.Pushes.{row_bytes, front_bytes, mapping_bytes, mapping_at_bytes}
 
 node : (f p q : List ℕ) → f ++ ((p ++ (q ++ [])) ++ []) ≡ (f ++ p) ++ q
 node f p q = simp (append_assoc, append-nil)
@@ -93,29 +94,81 @@ spelled_all f rows i old out new tail all past e n is =
     n ∙ ap (λ (x : List ℕ). x ++ tail) (e ∙ ap (λ (l : List Row). old ++ flat_map f l) (take_whole rows i past))
     ∙ append_assoc old (flat_map f rows) tail ∙ ap (λ (x : List ℕ). old ++ x) (sym is)
 
--- the pieces of a row, one after another
-pieces : (o h p v ln n pn la a pa lo w : List ℕ)
-    → (((((o ++ (h ++ (p ++ (v ++ ln)))) ++ n) ++ (pn ++ la)) ++ a) ++ (pa ++ lo)) ++ w
-    ≡ o ++ (h ++ (p ++ (v ++ ((ln ++ (n ++ pn)) ++ ((la ++ (a ++ pa)) ++ (lo ++ w))))))
-pieces o h p v ln n pn la a pa lo w = simp append_assoc
+-- the pieces of a row's front, where its netid was written by itself
+front_pieces : (o p h pr v ln n pn la : List ℕ) → (((o ++ (p ++ h)) ++ (pr ++ (v ++ ln))) ++ n) ++ (pn ++ la)
+    ≡ o ++ (p ++ (h ++ (pr ++ (v ++ ((ln ++ (n ++ pn)) ++ la)))))
+front_pieces o p h pr v ln n pn la = simp append_assoc
 
--- the bytes of a row, where its texts were written in those pieces
-pub row_added : (r : Row) (o h x1 x2 x3 x4 x5 x6 n a w : List ℕ) → n ≡ r.netid → a ≡ r.address → w ≡ r.owner
-    → h ≡ word 1 ++ (word r.prog ++ (word r.vers ++ word (length n))) → x1 ≡ o ++ h → x2 ≡ x1 ++ n
-    → x3 ≡ x2 ++ (pad (length n) ++ word (length a)) → x4 ≡ x3 ++ a
-    → x5 ≡ x4 ++ (pad (length a) ++ word (length w)) → x6 ≡ x5 ++ padded w
-    → x6 ≡ o ++ row_bytes r
-row_added r o h x1 x2 x3 x4 x5 x6 n a w en ea ew eh e1 e2 e3 e4 e5 e6 =
-    let t1 = e1 ∙ ap (λ (t : List ℕ). o ++ t) eh in
-    let t2 = e2 ∙ ap (λ (t : List ℕ). t ++ n) t1 in
-    let t3 = e3 ∙ ap (λ (t : List ℕ). t ++ (pad (length n) ++ word (length a))) t2 in
-    let t4 = e4 ∙ ap (λ (t : List ℕ). t ++ a) t3 in
-    let t5 = e5 ∙ ap (λ (t : List ℕ). t ++ (pad (length a) ++ word (length w))) t4 in
-    let t6 = e6 ∙ ap (λ (t : List ℕ). t ++ padded w) t5 in
-    t6 ∙ pieces o (word 1) (word r.prog) (word r.vers) (word (length n)) n (pad (length n)) (word (length a)) a
-    (pad (length a)) (word (length w)) (padded w)
-    ∙ ap (λ (t : List ℕ). of t a w) en ∙ ap (λ (t : List ℕ). of r.netid t w) ea
-    ∙ ap (λ (t : List ℕ). of r.netid r.address t) ew
+-- the front of a row behind the padding of what stands before it, where it was written in those pieces
+pub front_added : (r : Row) (p o x1 x2 x3 x4 h n la : List ℕ) → n ≡ r.netid → la ≡ word (length r.address)
+    → h ≡ word r.prog ++ (word r.vers ++ word (length n)) → x1 ≡ o ++ (p ++ word 1) → x2 ≡ x1 ++ h → x3 ≡ x2 ++ n
+    → x4 ≡ x3 ++ (pad (length n) ++ la) → x4 ≡ o ++ (p ++ front_bytes r)
+front_added r p o x1 x2 x3 x4 h n la en ea eh e1 e2 e3 e4 =
+    e4 ∙ ap (λ (t : List ℕ). t ++ (pad (length n) ++ la)) (e3 ∙ ap (λ (t : List ℕ). t ++ n)
+    (e2 ∙ ap (λ (t : List ℕ). t ++ h) e1 ∙ ap (λ (t : List ℕ). (o ++ (p ++ word 1)) ++ t) eh))
+    ∙ front_pieces o p (word 1) (word r.prog) (word r.vers) (word (length n)) n (pad (length n)) la
+    ∙ ap (λ (t : List ℕ). o ++ (p ++ (word 1 ++ (word r.prog ++ (word r.vers ++ (text t ++ la)))))) en
+    ∙ ap (λ (t : List ℕ). o ++ (p ++ (word 1 ++ (word r.prog ++ (word r.vers ++ (text r.netid ++ t)))))) ea
+
+-- the last of some zeros before the rest
+pub last_zeros : (k n g : ℕ) (rest : List ℕ) → k + g ≡ n → drop k (replicate n 0 ++ rest) ≡ replicate g 0 ++ rest
+last_zeros zero n g rest e = ap (λ (m : ℕ). replicate m 0 ++ rest) (omega (arith, e))
+last_zeros (suc k) zero g rest e = absurd (omega (arith, e))
+last_zeros (suc k) (suc n) g rest e = last_zeros k n g rest (omega (arith, e))
+
+-- a list of three
+three : (n : List ℕ) → 3 ≤ length n → length n < 4
+    → n ≡ slice_index_or n 0 0 ∷ slice_index_or n 1 0 ∷ slice_index_or n 2 0 ∷ []
+three [] h l = absurd (omega (arith, h))
+three (x ∷ []) h l = absurd (omega (arith, h))
+three (x ∷ y ∷ []) h l = absurd (omega (arith, h))
+three (x ∷ y ∷ z ∷ []) h l = refl
+three (x ∷ y ∷ z ∷ w ∷ n) h l = absurd (omega (arith, l))
+
+-- the same, where the netid has three bytes and all was written in one piece
+pub short_added : (r : Row) (k b m : ℕ) (o x head n : List ℕ) → n ≡ r.netid → 3 ≤ length n → length n < 4
+    → m ≡ length r.address → k + gap b ≡ 3
+    → head ≡ replicate 3 0 ++ (word 1 ++ (word r.prog ++ (word r.vers ++ (text (slice_index_or n 0 0
+    ∷ slice_index_or n 1 0 ∷ slice_index_or n 2 0 ∷ []) ++ word m))))
+    → x ≡ o ++ take (27 - k) (drop k head) → x ≡ o ++ (pad b ++ front_bytes r)
+short_added r k b m o x head n en h l em ek eh ex =
+    ex ∙ ap (λ (t : List ℕ). o ++ take (27 - k) (drop k t)) eh
+    ∙ ap (λ (t : List ℕ). o ++ take (27 - k) t) (last_zeros k 3 (gap b) (front netid m) ek)
+    ∙ ap (λ (t : List ℕ). o ++ t) (take_all (27 - k) (pad b ++ front netid m) (omega (
+      arith,
+      ek,
+      length-append (pad b)
+          (front netid m),
+      length-replicate {A = ℕ} (gap b) 0,
+    )))
+    ∙ ap (λ (t : List ℕ). o ++ (pad b ++ front t m)) (sym (three n h l) ∙ en)
+    ∙ ap (λ (t : ℕ). o ++ (pad b ++ front r.netid t)) em
   where
-    of : List ℕ → List ℕ → List ℕ → List ℕ
-    of n a w = o ++ (word 1 ++ (word r.prog ++ (word r.vers ++ (text n ++ (text a ++ text w)))))
+    netid : List ℕ
+    netid = slice_index_or n 0 0 ∷ slice_index_or n 1 0 ∷ slice_index_or n 2 0 ∷ []
+
+    front : List ℕ → ℕ → List ℕ
+    front t a = word 1 ++ (word r.prog ++ (word r.vers ++ (text t ++ word a)))
+
+-- the pieces of a row, one after another
+pieces : (o p h pr v t la a pa lo w pw : List ℕ)
+    → ((((o ++ (p ++ (h ++ (pr ++ (v ++ (t ++ la)))))) ++ a) ++ (pa ++ lo)) ++ w) ++ pw
+    ≡ (o ++ p) ++ (h ++ (pr ++ (v ++ (t ++ ((la ++ (a ++ pa)) ++ (lo ++ (w ++ pw)))))))
+pieces o p h pr v t la a pa lo w pw = simp append_assoc
+
+-- a row behind what stands before it and its padding, once its own last padding is written
+pub row_added : (r : Row) (p o x1 x2 x3 x4 a w : List ℕ) → a ≡ r.address → w ≡ r.owner
+    → x1 ≡ o ++ (p ++ front_bytes r) → x2 ≡ x1 ++ a → x3 ≡ x2 ++ (pad (length a) ++ word (length w)) → x4 ≡ x3 ++ w
+    → x4 ++ pad (length r.owner) ≡ (o ++ p) ++ row_bytes r
+row_added r p o x1 x2 x3 x4 a w ea ew e1 e2 e3 e4 =
+    let t2 = e2 ∙ ap (λ (t : List ℕ). t ++ a) e1 ∙ ap (λ (t : List ℕ). (o ++ (p ++ front_bytes r)) ++ t) ea in
+    let t3 = e3 ∙ ap (λ (t : List ℕ). t ++ (pad (length a) ++ word (length w))) t2
+    ∙ ap (λ (t : List ℕ). ((o ++ (p ++ front_bytes r)) ++ r.address) ++ (pad (length t) ++ word (length w))) ea
+    ∙ ap (λ (t : List ℕ). ((o ++ (p ++ front_bytes r)) ++ r.address) ++ (pad (length r.address) ++ word (length t)))
+    ew in
+    let t4 = e4 ∙ ap (λ (t : List ℕ). t ++ w) t3
+    ∙ ap (λ (t : List ℕ). (((o ++ (p ++ front_bytes r)) ++ r.address)
+    ++ (pad (length r.address) ++ word (length r.owner))) ++ t) ew in
+    ap (λ (t : List ℕ). t ++ pad (length r.owner)) t4
+    ∙ pieces o p (word 1) (word r.prog) (word r.vers) (text r.netid) (word (length r.address)) r.address
+    (pad (length r.address)) (word (length r.owner)) r.owner (pad (length r.owner))

@@ -44,6 +44,10 @@ pub record PushesCall (rows : List Row) (netid : List ℕ) (c : CallView) (old :
 abbrev pub row_bytes : Row → List ℕ
 row_bytes r = word 1 ++ (word r.prog ++ (word r.vers ++ (text r.netid ++ (text r.address ++ text r.owner))))
 
+-- the same up to the length of its address
+abbrev pub front_bytes : Row → List ℕ
+front_bytes r = word 1 ++ (word r.prog ++ (word r.vers ++ (text r.netid ++ word (length r.address))))
+
 -- the same of a mapping
 abbrev pub mapping_at_bytes : Row → ℕ → Uaddr → List ℕ
 mapping_at_bytes r prot a = word 1 ++ (word r.prog ++ (word r.vers ++ (word prot ++ word a.port)))

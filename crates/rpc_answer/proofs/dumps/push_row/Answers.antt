@@ -1,12 +1,11 @@
 use Rattle.rpc_rows.specs.Views.{plain_row}
+use Rattle.xdr_units.specs.Numbers.{pad}
 use Rattle.rpc_answer.proofs.Listing.{row_added}
 use Rattle.rpc_answer.proofs.dumps.push_row.Goals as goal
 
 pub returns-clause-ok : goal.returns-clause-ok
 returns-clause-ok c =
-    row_added (plain_row c.args.row.now) c.args.out.now.items c.row_head.result _ _ _ _ _ _
-    c.deref-netid.result.now c.deref-address.result.now c.deref-owner.result.now
-    c.deref-netid.ensures.value c.deref-address.ensures.value c.deref-owner.ensures.value
-    c.row_head.ensures c.in_ok-extend_from_slice.ensures.items c.in_ok-extend_from_slice-2.ensures.items
-    c.in_ok-push_between.ensures.ok c.in_ok-extend_from_slice-3.ensures.items c.in_ok-push_between-2.ensures.ok
-    c.in_ok-push_padded.ensures.ok
+    row_added (plain_row c.args.row.now) (pad c.args.before) c.args.out.now.items _ _ _ _
+    c.deref-address.result.now c.deref-owner.result.now c.deref-address.ensures.value c.deref-owner.ensures.value
+    c.in_ok-push_front.ensures.ok c.in_ok-extend_from_slice.ensures.items c.in_ok-push_between.ensures.ok
+    c.in_ok-extend_from_slice-2.ensures.items

@@ -1,9 +1,9 @@
-use Rattle.std.proofs.Common.{◌+◌, ap, sym, ◌∙◌, arith, option_map}
+use Rattle.std.proofs.Common.{◌+◌, ◌++◌, length, List, ℕ, ap, sym, ◌∙◌, arith, option_map, append_assoc}
 use Rattle.rpc_rows.specs.Views.{plain_row}
-use Rattle.xdr_units.specs.Numbers.{word}
+use Rattle.xdr_units.specs.Numbers.{word, pad}
 use Rattle.rpc_answer.specs.Private.Pushes.{row_bytes}
 use Rattle.rpc_answer.proofs.Listing.{spelled_more, spelled_all, some_within, rows_spelled}
-use Rattle.rpc_answer.proofs.Chains.{begins_then, begins_added}
+use Rattle.rpc_answer.proofs.Chains.{begins_then}
 use Rattle.rpc_answer.proofs.dumps.push_rows.Goals as goal
 use Rattle.rpc_answer.proofs.dumps.push_rows.Goals.{in-Some+in_ok-push_row-in-Some, in-None}
 
@@ -13,25 +13,27 @@ returns-in_err-push_row-in-Some-clause-few g c = c.rows-rows.ensures.dump.1.1
 pub loop-index-preserved : goal.loop-index-preserved
 loop-index-preserved g c =
     elim c.match-row.branch [
-      | in-Some+in_ok-push_row-in-Some w ↦
-          rw w.out-is (spelled_more row_bytes c.args.directory.now c.loop-index.index (c.loop-index.index + 1)
-          (plain_row w.in-Some.row.now) c.args.out.now.items c.loop-index.out.items _ (omega arith)
-          (sym c.row.ensures.value
-          ∙ ap (option_map (λ r. plain_row r.now)) w.in-Some.is) c.loop-index.invariant
-          w.in_ok-push_row-in-Some.ensures.ok)
+      | in-Some+in_ok-push_row-in-Some w ↦ rw w.out-is rw w.before-is (
+        spelled_more row_bytes c.args.directory.now c.loop-index.index (c.loop-index.index + 1)
+            (plain_row w.in-Some.row.now) c.args.out.now.items (c.loop-index.out.items ++ pad c.loop-index.before) _
+            (omega arith) (sym c.row.ensures.value
+            ∙ ap (option_map (λ r. plain_row r.now)) w.in-Some.is) c.loop-index.invariant.0
+            (ap (λ (x : List ℕ). w.push_row.new.out.items ++ pad (length x)) w.deref-owner.ensures.value
+            ∙ w.in_ok-push_row-in-Some.ensures.ok),
+        begins_then c.args.out.now.items c.loop-index.out.items _ c.loop-index.invariant.1
+            w.in_ok-push_row-in-Some.ensures.begins,
+      )
       | in-None w ↦ absurd (some_within c.args.directory.now c.loop-index.index
           (omega (arith, c.loop-index-test.true, c.rows-rows.ensures.value)) (sym c.row.ensures.value
           ∙ ap (option_map (λ r. plain_row r.now)) w.in-None.is))
     ]
 
-pub returns-in_err-push_word-clause-few : goal.returns-in_err-push_word-clause-few
-returns-in_err-push_word-clause-few g c = c.rows-rows.ensures.dump.1.1
-
 pub returns-clause-ok : goal.returns-clause-ok
 returns-clause-ok g c =
-    spelled_all row_bytes c.args.directory.now c.loop-index.index c.args.out.now.items c.loop-index.out.items _
-    (word 0) _ (omega (arith, c.loop-index-test.false, c.rows-rows.ensures.value)) c.loop-index.invariant
-    c.in_ok-push_word.ensures.ok
+    spelled_all row_bytes c.args.directory.now c.loop-index.index c.args.out.now.items
+    (c.loop-index.out.items ++ pad c.loop-index.before) _ (word 0) _
+    (omega (arith, c.loop-index-test.false, c.rows-rows.ensures.value)) c.loop-index.invariant.0
+    (c.in_ok-push_between.ensures.ok ∙ sym (append_assoc c.loop-index.out.items (pad c.loop-index.before) (word 0)))
     (rows_spelled c.args.directory.now)
 
 pub returns-clause-few : goal.returns-clause-few
@@ -39,5 +41,4 @@ returns-clause-few g c = c.rows-rows.ensures.dump.1.1
 
 pub returns-in_err-push_row-in-Some-clause-begins : goal.returns-in_err-push_row-in-Some-clause-begins
 returns-in_err-push_row-in-Some-clause-begins g c =
-    begins_then c.args.out.now.items c.loop-index.out.items _
-    (begins_added c.args.out.now.items _ c.loop-index.out.items c.loop-index.invariant) c.push_row.ensures.begins
+    begins_then c.args.out.now.items c.loop-index.out.items _ c.loop-index.invariant.1 c.push_row.ensures.begins
