@@ -1,3 +1,4 @@
 pub mod Gathering
+pub mod Given
 pub mod Outcomes
 pub mod Putting

@@ -7,6 +7,7 @@ mod decoding;
 mod encoding;
 mod gather;
 pub mod laws;
+mod pieces;
 mod pushing;
 mod put;
 mod writing;

@@ -1,3 +1,6 @@
+use Rattle.std.proofs.Common.{◌++◌}
+use Rattle.std.proofs.Math.Logic.{∥∥₁_map}
+use Rattle.xdr_stream.specs.Stands.{taken}
 use Rattle.xdr_codec.proofs.Outcomes.{answers}
 use Rattle.xdr_codec.proofs.decoder.Decoder.feed.Goals as goal
 
@@ -6,3 +9,9 @@ returns-clause-answer c = λ b stands.
     let r = c.args.self.now.reader in
     answers r.schema.now.kinds r.kind.place r.limits c.depth-range.ensures.range.units b c.args.piece.now c.feed.result
     (c.feed.ensures.answer b stands)
+
+pub invariant_of-self : goal.invariant_of-self
+invariant_of-self c = record {
+  given = ∥∥₁_map c.args.self.now.given
+      (λ s. (s.0 ++ taken c.args.piece.now c.feed.result, c.feed.ensures.stands s.0 s.1));
+}
