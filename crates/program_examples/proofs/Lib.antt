@@ -6,3 +6,5 @@ pub mod Opened
 pub mod Serves
 pub mod Asks
 pub mod Answered
+pub mod Normalised
+pub mod Arguments

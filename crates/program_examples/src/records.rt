@@ -1,8 +1,11 @@
 //! Streams of records: which limits are taken, and what is printed.
-ghost use Rattle.std.specs.Prelude.{◌≡◌, ◌≢◌, ◌≤◌, ◌⊎◌, ℕ, List, Some, true};
+ghost use Rattle.std.specs.Prelude.{◌≡◌, ◌≢◌, ◌≤◌, ◌⊎◌, ◌++◌, ◌∷◌, [], ℕ, List, Some, Ok, IfSome, true};
 ghost use Rattle.std.specs.Io.KnownBytes.{Appends, Consumes};
+ghost use Rattle.hex.specs.Hex.{decode_of, encode_lower};
 ghost use Rattle.xdr_io.specs.Told.{Counts, CountsAtMost, MovesAtMost};
 ghost use Rattle.rpc_record.specs.Marked.{Longest, normal};
+ghost use Rattle.rpc_record.specs.Reading.{IsWhole};
+ghost use Rattle.oncrpc_tasks.specs.Hexadecimal.{digits};
 ghost use Rattle.oncrpc_tasks.specs.Records.{RefusedBytes};
 
 use oncrpc_tasks::records_over;
@@ -80,6 +83,22 @@ pub fn written_before_a_read_failed<I: Source, O: Sink, F: Sink>(
         × Appends (O.taken output.old) (O.taken output.new) (normal records) }
 {
     records_over(alloc, input, output, faults, limit, false)
+}
+
+/// What is printed of a text of hexadecimal is the normal form of the records that it spells, one fragment for each, not
+/// the text again.
+pub fn a_text_is_normalised<I: Source, O: Sink, F: Sink>(
+    alloc: Global,
+    input: &mut I,
+    output: &mut O,
+    faults: &mut F,
+    limit: u32,
+) -> u8
+    ensures { result ≡ 0 → IfSome (I.left input.old) (λ text. (bytes : List ℕ) × (records : List (List ℕ))
+        × (decode_of (digits text) ≡ Ok bytes) × IsWhole limit records bytes
+        × Appends (O.taken output.old) (O.taken output.new) (encode_lower (normal records) ++ 10 ∷ [])) }
+{
+    records_over(alloc, input, output, faults, limit, true)
 }
 
 /// Where memory was refused for a text of hexadecimal, nothing was printed but what comes before a refusal's line.

@@ -1,10 +1,15 @@
 //! Tasks as the words ask for them, with the texts of declarations that they name.
-ghost use Rattle.std.specs.Prelude.{◌≡◌, ◌<◌, ◌≤◌, ℕ, None, Some, IfSome, string_bytes, true};
+ghost use Rattle.std.specs.Prelude.{◌≡◌, ◌≢◌, ◌<◌, ◌≤◌, ◌∷◌, [], ℕ, List, None, Some, IfSome, string_bytes, true};
+ghost use Rattle.std.specs.Prelude.{length};
 ghost use Rattle.xdr_io.specs.Told.{CountsAtMost};
+ghost use Rattle.xdr_types.specs.Named.{place_named};
 ghost use Rattle.xdr_types.specs.Within.{AreBounds};
+ghost use Rattle.oncrpc_names.specs.Names.{IsPartName, name_text};
+ghost use Rattle.oncrpc_names.specs.declared.reading.Part.TheVariants.{Argument};
+ghost use Rattle.oncrpc_names.specs.declared.reading.PartName.{PartName};
 ghost use Rattle.oncrpc_tasks.specs.Naming.{Names};
 ghost use Rattle.oncrpc_tasks.specs.Sources.{bare};
-ghost use Rattle.xdr_lang.specs.Declarations.{Declared};
+ghost use Rattle.xdr_lang.specs.Declarations.{Declared, Procedure, procedure_of_program};
 ghost use Rattle.xdr_lang.specs.Means.{Means};
 
 use oncrpc_tasks::{MemoryOpener, Opener, Task, ValueTask, task_over};
@@ -55,6 +60,29 @@ pub fn a_named_file_declares<P: Opener, I: Source, O: Sink, F: Sink>(
         → IfSome (P.told opener.old (string_bytes file.now)) (λ text. (d : Declared) × Means text d) }
 {
     task_over(alloc, &Task::Show(what), opener, input, output, faults)
+}
+
+/// Arguments are counted from 1: the only argument of a procedure has the number 1, and a task that names it is done.
+pub fn arguments_count_from_1<P: Opener, I: Source, O: Sink, F: Sink>(
+    alloc: Global,
+    what: ValueTask,
+    file: &String,
+    opener: &mut P,
+    input: &mut I,
+    output: &mut O,
+    faults: &mut F,
+) -> u8
+    requires types { what.types ≡ Some file.now }
+    requires limits { AreBounds what.depth what.bytes }
+    requires only { (text : List ℕ) × (d : Declared) × (name : PartName) × (p : Procedure) × (place : ℕ)
+        × (P.told opener.old (string_bytes file.now) ≡ Some text) × Means text d
+        × IsPartName name × (name.part ≡ Argument 1) × (string_bytes what.name ≡ name_text name)
+        × (place_named d.schema.names (string_bytes what.name) ≡ None)
+        × (procedure_of_program name.program name.version name.procedure d.programs ≡ Some p)
+        × (p.arguments ≡ place ∷ []) × (place < length d.schema.kinds) }
+    ensures { result ≢ 2 }
+{
+    task_over(alloc, &Task::Check(what), opener, input, output, faults)
 }
 
 /// Where the declarations, the name or the limits are refused, the input is not read and nothing is printed.
