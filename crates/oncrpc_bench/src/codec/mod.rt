@@ -1,12 +1,12 @@
-//! Encodes or decodes one value again and again: VALUE is `uint1M`, `list2000`, `file1M` or `opaque16M`, and WORK is
-//! `encode` or `decode`.
+//! Encodes, decodes or checks one value again and again: VALUE is `uint1M`, `list2000`, `file1M` or `opaque16M`, and
+//! WORK is `encode`, `decode` or `check`.
 mod values;
 
 ghost use Rattle.std.specs.Prelude.{◌≤◌};
 
 use std::alloc::Global;
 use values::{Sample, make_sample};
-use xdr_codec::{decode, encode};
+use xdr_codec::{Checker, Progress, decode, encode};
 use xdr_types::{KindId, Limits, Schema, Value, fits};
 
 /// Encodes the value so many times, and says whether each went well.
@@ -50,6 +50,30 @@ fn decodes(
     well
 }
 
+/// Encodes the value once, and judges its bytes so many times, each time in one piece.
+fn checks(
+    alloc: Global,
+    schema: &Schema,
+    kind: KindId,
+    value: &Value,
+    limits: Limits,
+    count: u32,
+) -> bool {
+    if !fits(schema, kind, value, limits) || !schema.has(kind) {
+        return false;
+    }
+    let Ok(bytes) = encode(alloc, schema, kind, value, limits) else {
+        return false;
+    };
+    let mut well = true;
+    for _ in 0..count {
+        let mut checker = Checker::start(alloc, schema, kind, limits);
+        let used = bytes.len();
+        well = well && checker.feed(bytes.as_slice()) == Ok(Progress::Done { used });
+    }
+    well
+}
+
 /// Does the work on the value so many times, by the words VALUE, WORK and COUNT, and says whether each call went well.
 pub fn work(alloc: Global, words: &[String]) -> bool {
     let [name, what, count] = words else {
@@ -72,6 +96,7 @@ pub fn work(alloc: Global, words: &[String]) -> bool {
     match what.as_str() {
         "encode" => encodes(alloc, &schema, kind, &value, limits, count),
         "decode" => decodes(alloc, &schema, kind, &value, limits, count),
+        "check" => checks(alloc, &schema, kind, &value, limits, count),
         _ => false,
     }
 }
