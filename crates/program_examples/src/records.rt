@@ -85,8 +85,8 @@ pub fn written_before_a_read_failed<I: Source, O: Sink, F: Sink>(
     records_over(alloc, input, output, faults, limit, false)
 }
 
-/// What is printed of a text of hexadecimal is the normal form of the records that it spells, one fragment for each, not
-/// the text again.
+/// What is printed of a text of hexadecimal is the normal form of the records that it spells, one fragment for each,
+/// and not the text again.
 pub fn a_text_is_normalised<I: Source, O: Sink, F: Sink>(
     alloc: Global,
     input: &mut I,
