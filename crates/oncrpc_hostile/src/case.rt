@@ -1,11 +1,13 @@
 //! A call that is asked for, and what fails in it: the words of a line, with one space between two.
 //!
-//! `ENGINE READ_PIECE READ_FAILS WRITE_PIECE WRITE_FAILS REFUSED SETTING NAME TEXT INPUT BEFORE AFTER`: how many bytes
-//! a read gives and a write takes, and which of them fails, from 1, 0 for none; the growth that is refused, as N alone
-//! or N.. with all later ones, 0 for none; a number that the engine knows; the name of a kind; and in hexadecimal a
-//! text of declarations, the bytes to read, and streams for the registry before and after.
+//! `ENGINE READ_PIECE READ_FAILS WRITE_PIECE WRITE_FAILS REFUSED SETTING NAME TEXT INPUT BEFORE AFTER ZEROS DEPTH BYTES`:
+//! how many bytes a read gives and a write takes, and which of them fails, from 1, 0 for none; the growth that is
+//! refused, as N alone or N.. with all later ones, 0 for none; a number that the engine knows; the name of a kind; in
+//! hexadecimal a text of declarations, the bytes to read, and streams for the registry before and after; how many zero
+//! bytes are read before the bytes; and the limits on depth and bytes.
 use std::alloc::Global;
 use std::env::Env;
+use xdr_types::Limits;
 
 /// The words of a line.
 #[derive(Drop)]
@@ -83,7 +85,11 @@ impl<'a> Case<'a> {
 
     /// The bytes to read.
     pub fn input(&self, alloc: Global) -> Option<Vec<u8>> {
-        hex::decode(alloc, self.word(9)).ok()
+        let bytes = hex::decode(alloc, self.word(9)).ok()?;
+        match self.number(12) {
+            0 => Some(bytes),
+            zeros => behind_zeros(alloc, zeros.min(16777216) as usize, &bytes),
+        }
     }
 
     /// What the registry is served before the call.
@@ -94,6 +100,21 @@ impl<'a> Case<'a> {
     /// What the registry is served after the call.
     pub fn after(&self, alloc: Global) -> Option<Vec<u8>> {
         hex::decode(alloc, self.word(11)).ok()
+    }
+
+    /// The limit on depth.
+    pub fn depth(&self) -> u32 {
+        self.number(13).min(4294967295) as u32
+    }
+
+    /// The limit on bytes.
+    pub fn bytes(&self) -> u32 {
+        self.number(14).min(4294967295) as u32
+    }
+
+    /// Both limits, where they are in range.
+    pub fn limits(&self) -> Option<Limits> {
+        Limits::new(self.depth(), self.bytes())
     }
 
     /// Refuses growths from here on, as the case asks, and gives how many there were before.
@@ -107,9 +128,23 @@ impl<'a> Case<'a> {
     }
 }
 
+// The bytes behind so many zeros.
+fn behind_zeros(alloc: Global, zeros: usize, bytes: &[u8]) -> Option<Vec<u8>> {
+    let mut all = vec![in alloc; 0u8; zeros].ok()?;
+    match all.extend_from_slice(bytes) {
+        Ok(()) => Some(all),
+        Err(_) => None,
+    }
+}
+
+/// How many growths there were since that many.
+pub fn since(rt: &impl Env, before: u64) -> u64 {
+    growths::count(rt).unwrap_or(0).saturating_sub(before)
+}
+
 /// Refuses nothing more, and gives how many growths there were since that many.
 pub fn allow(rt: &impl Env, before: u64) -> u64 {
-    let met = growths::count(rt).unwrap_or(0);
+    let met = since(rt, before);
     growths::allow(rt);
-    met.saturating_sub(before)
+    met
 }

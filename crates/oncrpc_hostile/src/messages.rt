@@ -2,7 +2,7 @@
 ghost use Rattle.std.specs.Prelude.{◌≤◌, length};
 
 use crate::case::{Case, allow};
-use crate::lines::line;
+use crate::told::line;
 use rpc_message::{
     AuthSys, Call, CallRead, NoMemory, Reply, read_auth_sys, read_call, read_reply, write_auth_sys,
     write_call, write_reply,
@@ -36,7 +36,7 @@ fn call(alloc: Global, rt: &impl Env, case: &Case<'_>) -> Option<String> {
         _ => None,
     };
     let met = allow(rt, before);
-    line(alloc, met, &(read, again))
+    Some(line(alloc, met, &(read, again)))
 }
 
 // The bytes of a reply, where its verifier is short.
@@ -56,7 +56,7 @@ fn reply(alloc: Global, rt: &impl Env, case: &Case<'_>) -> Option<String> {
         Err(_) => None,
     };
     let met = allow(rt, before);
-    line(alloc, met, &(read, again))
+    Some(line(alloc, met, &(read, again)))
 }
 
 // The bytes of a credential, where it is short.
@@ -76,5 +76,5 @@ fn credential(alloc: Global, rt: &impl Env, case: &Case<'_>) -> Option<String> {
         _ => None,
     };
     let met = allow(rt, before);
-    line(alloc, met, &(read, again))
+    Some(line(alloc, met, &(read, again)))
 }

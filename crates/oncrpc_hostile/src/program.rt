@@ -4,8 +4,8 @@
 ghost use Rattle.std.specs.Prelude.{◌<◌};
 
 use crate::case::{Case, allow};
-use crate::lines::{line, with_bytes};
 use crate::registry::started;
+use crate::told::{line, with_bytes};
 use oncrpc_service::{AcceptFault, Listener, info_over, serve_on};
 use std::alloc::Global;
 use std::env::Env;
@@ -21,18 +21,18 @@ pub fn told(rt: &HostRuntime, case: &Case<'_>) -> Option<String> {
 
 fn info(alloc: Global, rt: &impl Env, case: &Case<'_>) -> Option<String> {
     let input = case.input(alloc)?;
+    let before = case.refuse(alloc, rt)?;
     let mut room = [0u8; 4096];
     let (mut told, mut sent) = ([0u8; 128], [0u8; 128]);
-    let (read, write) = (case.read_piece().max(1), case.write_piece().max(1));
-    let mut source = MemorySource::new(&input, read, case.read_failing());
+    let write = case.write_piece().max(1);
     let (sends, prints) = match case.setting() & 8 {
         0 => (None, case.write_failing()),
         _ => (case.write_failing(), None),
     };
+    let mut source = MemorySource::new(&input, case.read_piece().max(1), case.read_failing());
     let mut call = MemorySink::new(&mut sent, write, sends);
     let mut output = MemorySink::new(&mut room, write, prints);
     let mut faults = MemorySink::new(&mut told, 128, None);
-    let before = case.refuse(alloc, rt)?;
     let status = info_over(
         alloc,
         &mut source,
@@ -41,16 +41,15 @@ fn info(alloc: Global, rt: &impl Env, case: &Case<'_>) -> Option<String> {
         &mut faults,
         case.setting() & 7,
     );
-    let met = allow(rt, before);
-    let told = line(alloc, met, &status)?;
-    let told = with_bytes(alloc, told, call.written())?;
-    let told = with_bytes(alloc, told, output.written())?;
-    with_bytes(alloc, told, faults.written())
+    let told = line(alloc, allow(rt, before), &status);
+    let told = with_bytes(alloc, told, call.written());
+    let told = with_bytes(alloc, told, output.written());
+    Some(with_bytes(alloc, told, faults.written()))
 }
 
-/// What a client sends, at most so many bytes a read.
+// What a client sends, at most so many bytes a read.
 #[derive(Drop)]
-pub struct Sent<'a> {
+struct Sent<'a> {
     bytes: &'a [u8],
     piece: usize,
 }
@@ -64,9 +63,9 @@ impl<'a> Source for Sent<'a> {
     }
 }
 
-/// Where replies go, which nobody looks at.
+// Where replies go, which nobody looks at.
 #[derive(Drop)]
-pub struct Nowhere;
+struct Nowhere;
 
 impl Sink for Nowhere {
     fn write(&mut self, piece: &[u8]) -> Result<usize, SinkFault> {
@@ -74,18 +73,11 @@ impl Sink for Nowhere {
     }
 }
 
-/// Clients one after another. After the last none comes.
+// Clients one after another. After the last none comes.
 #[derive(Drop)]
-pub struct Clients<'a> {
+struct Clients<'a> {
     all: &'a [u8],
     piece: usize,
-}
-
-impl<'a> Clients<'a> {
-    /// The clients whose bytes stand here, each behind its length, and that send at most so many a read.
-    pub fn new(all: &'a [u8], piece: usize) -> Clients<'a> {
-        Clients { all, piece }
-    }
 }
 
 impl<'a> Listener for Clients<'a> {
@@ -119,13 +111,16 @@ impl<'a> Listener for Clients<'a> {
 
 fn connections(alloc: Global, rt: &impl Env, case: &Case<'_>) -> Option<String> {
     let input = case.input(alloc)?;
+    let mut directory = started(alloc)?;
+    let before = case.refuse(alloc, rt)?;
     let mut room = [0u8; 4096];
     let mut told = [0u8; 128];
-    let mut directory = started(alloc)?;
-    let mut clients = Clients::new(&input, case.read_piece().max(1));
+    let mut clients = Clients {
+        all: &input,
+        piece: case.read_piece().max(1),
+    };
     let mut output = MemorySink::new(&mut room, case.write_piece().max(1), case.write_failing());
     let mut faults = MemorySink::new(&mut told, 128, None);
-    let before = case.refuse(alloc, rt)?;
     let status = serve_on(
         alloc,
         &mut clients,
@@ -134,8 +129,7 @@ fn connections(alloc: Global, rt: &impl Env, case: &Case<'_>) -> Option<String> 
         &mut output,
         &mut faults,
     );
-    let met = allow(rt, before);
-    let told = line(alloc, met, &status)?;
-    let told = with_bytes(alloc, told, output.written())?;
-    with_bytes(alloc, told, faults.written())
+    let told = line(alloc, allow(rt, before), &status);
+    let told = with_bytes(alloc, told, output.written());
+    Some(with_bytes(alloc, told, faults.written()))
 }

@@ -2,7 +2,7 @@
 ghost use Rattle.std.specs.Prelude.{◌≤◌, ◌<◌};
 
 use crate::case::{Case, allow};
-use crate::lines::{line, with_bytes};
+use crate::told::{bytes_line, line, with_bytes};
 use rpc_record::{RecordFault, RecordReader, RecordStep, mark, normalise};
 use std::alloc::Global;
 use std::env::Env;
@@ -19,15 +19,14 @@ pub fn told(rt: &HostRuntime, case: &Case<'_>) -> Option<String> {
 
 fn normalised(alloc: Global, rt: &impl Env, case: &Case<'_>) -> Option<String> {
     let input = case.input(alloc)?;
+    let before = case.refuse(alloc, rt)?;
     let mut room = [0u8; 4096];
     let limit = case.setting().min(2147483647);
     let mut source = MemorySource::new(&input, case.read_piece().max(1), case.read_failing());
     let mut sink = MemorySink::new(&mut room, case.write_piece().max(1), case.write_failing());
-    let before = case.refuse(alloc, rt)?;
     let answer = normalise(alloc, &mut source, &mut sink, limit);
-    let met = allow(rt, before);
-    let told = line(alloc, met, &answer)?;
-    with_bytes(alloc, told, sink.written())
+    let told = line(alloc, allow(rt, before), &answer);
+    Some(with_bytes(alloc, told, sink.written()))
 }
 
 // Feeds a piece until it is taken whole, and keeps the records that come whole in it.
@@ -76,14 +75,14 @@ fn feed_all(
 fn handed_out(alloc: Global, rt: &impl Env, case: &Case<'_>) -> Option<String> {
     let input = case.input(alloc)?;
     let mut out = Vec::with_capacity(alloc, input.len().saturating_mul(2).saturating_add(64)).ok()?;
-    let mut reader = RecordReader::start(alloc, case.setting().min(2147483647));
     let before = case.refuse(alloc, rt)?;
+    let mut reader = RecordReader::start(alloc, case.setting().min(2147483647));
     let fed = feed_all(&mut reader, &input, case.read_piece(), &mut out);
     let end = reader.end();
     let met = allow(rt, before);
     let again = reader.feed(&[0]);
-    let told = line(alloc, met, &(fed, end, again, reader.end()))?;
-    with_bytes(alloc, told, &out)
+    let told = line(alloc, met, &(fed, end, again, reader.end()));
+    Some(with_bytes(alloc, told, &out))
 }
 
 fn marked(alloc: Global, rt: &impl Env, case: &Case<'_>) -> Option<String> {
@@ -93,9 +92,5 @@ fn marked(alloc: Global, rt: &impl Env, case: &Case<'_>) -> Option<String> {
     }
     let before = case.refuse(alloc, rt)?;
     let answer = mark(alloc, &input);
-    let met = allow(rt, before);
-    match answer {
-        Ok(bytes) => with_bytes(alloc, line(alloc, met, &"Ok")?, &bytes),
-        Err(fault) => line(alloc, met, &fault),
-    }
+    Some(bytes_line(alloc, allow(rt, before), &answer))
 }

@@ -5,7 +5,7 @@ ghost use Rattle.std.specs.Prelude.{◌≡◌, ◌<◌, []};
 ghost use Rattle.rpc_message.specs.View.{auth_view, call_view};
 
 use crate::case::{Case, allow};
-use crate::lines::{line, with_bytes};
+use crate::told::{line, with_bytes};
 use rpc_directory::Directory;
 use rpc_engine::{ServeFault, Served, Transport, answer, exchange, serve};
 use rpc_message::{Call, OpaqueAuth};
@@ -32,36 +32,42 @@ pub fn told(rt: &HostRuntime, case: &Case<'_>) -> Option<String> {
     }
 }
 
-/// What serving bytes answers where nothing fails, and what it writes into the room.
-pub fn serve_whole(
+// What serving bytes answers where nothing fails, and what is written into the room, of which this many bytes.
+fn serve_whole(
     alloc: Global,
     directory: &mut Registry,
     input: &[u8],
-    piece: usize,
     room: &mut [u8],
 ) -> (Result<Served, ServeFault>, usize) {
-    let mut source = MemorySource::new(input, piece.max(1), None);
+    let mut source = MemorySource::new(input, 4096, None);
     let mut sink = MemorySink::new(room, 65536, None);
     let told = serve(alloc, &mut source, &mut sink, directory, Transport::Tcp);
     (told, sink.used())
 }
 
 // A registry that was served what comes before the call.
-fn prepared(alloc: Global, case: &Case<'_>, room: &mut [u8]) -> Option<Registry> {
-    let mut directory = started(alloc)?;
+fn prepared(alloc: Global, case: &Case<'_>) -> Option<Registry> {
     let before = case.before(alloc)?;
-    let (_told, _used) = serve_whole(alloc, &mut directory, &before, 4096, room);
+    let mut directory = started(alloc)?;
+    let mut room = [0u8; 4096];
+    let (_told, _used) = serve_whole(alloc, &mut directory, &before, &mut room);
     Some(directory)
+}
+
+// The line with what the registry, with all its memory, answers to a stream afterwards, and writes.
+fn with_after(alloc: Global, directory: &mut Registry, before: String, stream: &[u8]) -> String {
+    let mut room = [0u8; 4096];
+    let (_told, used) = serve_whole(alloc, directory, stream, &mut room);
+    with_bytes(alloc, before, room.get(..used).unwrap_or(&[]))
 }
 
 fn served(alloc: Global, rt: &impl Env, case: &Case<'_>) -> Option<String> {
     let (input, after) = (case.input(alloc)?, case.after(alloc)?);
+    let mut directory = prepared(alloc, case)?;
+    let before = case.refuse(alloc, rt)?;
     let mut room = [0u8; 4096];
-    let mut other = [0u8; 4096];
-    let mut directory = prepared(alloc, case, &mut other)?;
     let mut source = MemorySource::new(&input, case.read_piece().max(1), case.read_failing());
     let mut sink = MemorySink::new(&mut room, case.write_piece().max(1), case.write_failing());
-    let before = case.refuse(alloc, rt)?;
     let told = serve(
         alloc,
         &mut source,
@@ -69,23 +75,18 @@ fn served(alloc: Global, rt: &impl Env, case: &Case<'_>) -> Option<String> {
         &mut directory,
         Transport::Tcp,
     );
-    let met = allow(rt, before);
-    let (again, used) = serve_whole(alloc, &mut directory, &after, 4096, &mut other);
-    let told = line(alloc, met, &(told, again))?;
-    let told = with_bytes(alloc, told, sink.written())?;
-    with_bytes(alloc, told, other.get(..used)?)
+    let told = line(alloc, allow(rt, before), &told);
+    let told = with_bytes(alloc, told, sink.written());
+    Some(with_after(alloc, &mut directory, told, &after))
 }
 
 fn answered(alloc: Global, rt: &impl Env, case: &Case<'_>) -> Option<String> {
     let (input, after) = (case.input(alloc)?, case.after(alloc)?);
-    let mut other = [0u8; 4096];
-    let mut directory = prepared(alloc, case, &mut other)?;
+    let mut directory = prepared(alloc, case)?;
     let before = case.refuse(alloc, rt)?;
     let told = answer(alloc, &mut directory, Transport::Tcp, &input);
-    let met = allow(rt, before);
-    let (_again, used) = serve_whole(alloc, &mut directory, &after, 4096, &mut other);
-    let told = line(alloc, met, &told)?;
-    with_bytes(alloc, told, other.get(..used)?)
+    let told = line(alloc, allow(rt, before), &told);
+    Some(with_after(alloc, &mut directory, told, &after))
 }
 
 // An opaque_auth of flavor 0 and no bytes.
@@ -123,25 +124,23 @@ fn null_call(alloc: Global) -> Call
 
 fn exchanged(alloc: Global, rt: &impl Env, case: &Case<'_>) -> Option<String> {
     let input = case.input(alloc)?;
-    let mut room = [0u8; 128];
+    let before = case.refuse(alloc, rt)?;
     let call = null_call(alloc);
+    let mut room = [0u8; 128];
     let mut source = MemorySource::new(&input, case.read_piece().max(1), case.read_failing());
     let mut sink = MemorySink::new(&mut room, case.write_piece().max(1), case.write_failing());
-    let before = case.refuse(alloc, rt)?;
     let told = exchange(alloc, &mut source, &mut sink, &call);
-    let met = allow(rt, before);
-    let told = line(alloc, met, &told)?;
-    with_bytes(alloc, told, sink.written())
+    let told = line(alloc, allow(rt, before), &told);
+    Some(with_bytes(alloc, told, sink.written()))
 }
 
 // A registry that is made, and its rows as values of both kinds.
 fn dumped(alloc: Global, rt: &impl Env, case: &Case<'_>) -> Option<String> {
-    let mut other = [0u8; 4096];
-    let directory = prepared(alloc, case, &mut other)?;
+    let directory = prepared(alloc, case)?;
     let before = case.refuse(alloc, rt)?;
     let is_made = started(alloc).is_some();
     let (all, ports) = (directory.dump(alloc), directory.dump_ports(alloc));
     let schema = rpc_directory::directory_schema(alloc);
     let met = allow(rt, before);
-    line(alloc, met, &(is_made, all, ports, schema.is_ok()))
+    Some(line(alloc, met, &(is_made, all, ports, schema.is_ok())))
 }

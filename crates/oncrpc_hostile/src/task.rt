@@ -3,7 +3,7 @@
 ghost use Rattle.std.specs.Prelude.{◌<◌};
 
 use crate::case::{Case, allow};
-use crate::lines::{line, with_bytes};
+use crate::told::{line, with_bytes};
 use oncrpc_tasks::{MemoryOpener, RecordsTask, Task, ValueTask, task_over};
 use std::alloc::Global;
 use std::env::Env;
@@ -14,8 +14,8 @@ fn value_task(alloc: Global, case: &Case<'_>) -> Option<ValueTask> {
         name: String::from_str(alloc, case.name()).ok()?,
         types: Some(String::from_str(alloc, "a.x").ok()?),
         hex: case.setting() & 4 != 0,
-        depth: 4096,
-        bytes: 16777216,
+        depth: case.depth(),
+        bytes: case.bytes(),
     })
 }
 
@@ -38,24 +38,34 @@ pub fn told(rt: &HostRuntime, case: &Case<'_>) -> Option<String> {
 fn run(alloc: Global, rt: &impl Env, case: &Case<'_>) -> Option<String> {
     let (text, input) = (case.text(alloc)?, case.input(alloc)?);
     let task = task(alloc, case)?;
+    let before = case.refuse(alloc, rt)?;
+    Some(ended(alloc, rt, case, &task, &text, &input, before))
+}
+
+fn ended(
+    alloc: Global,
+    rt: &impl Env,
+    case: &Case<'_>,
+    task: &Task,
+    text: &[u8],
+    input: &[u8],
+    before: u64,
+) -> String {
     let mut room = [0u8; 4096];
     let mut told = [0u8; 128];
-    let (read, write) = (case.read_piece().max(1), case.write_piece().max(1));
-    let mut opener = MemoryOpener::new("a.x", &text, 4096, None);
-    let mut source = MemorySource::new(&input, read, case.read_failing());
-    let mut output = MemorySink::new(&mut room, write, case.write_failing());
+    let mut opener = MemoryOpener::new("a.x", text, 4096, None);
+    let mut source = MemorySource::new(input, case.read_piece().max(1), case.read_failing());
+    let mut output = MemorySink::new(&mut room, case.write_piece().max(1), case.write_failing());
     let mut faults = MemorySink::new(&mut told, 128, None);
-    let before = case.refuse(alloc, rt)?;
     let status = task_over(
         alloc,
-        &task,
+        task,
         &mut opener,
         &mut source,
         &mut output,
         &mut faults,
     );
-    let met = allow(rt, before);
-    let told = line(alloc, met, &status)?;
-    let told = with_bytes(alloc, told, output.written())?;
+    let told = line(alloc, allow(rt, before), &status);
+    let told = with_bytes(alloc, told, output.written());
     with_bytes(alloc, told, faults.written())
 }

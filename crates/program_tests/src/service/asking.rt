@@ -212,28 +212,6 @@ fn refusals_are_printed(rt: HostRuntime) -> Result<(), Fail> {
     Ok(())
 }
 
-#[test]
-fn devices_fail(rt: HostRuntime) -> Result<(), Fail> {
-    let alloc = rt.alloc();
-    let read = (3, "", "read fault\n");
-    let write = (3, "", "write fault\n");
-    let begun = (3, "program ", "write fault\n");
-    assert!(rt; is_told(alloc, 4, ROWS_4, 8, (Some(2), None, None), read, CALL_4)?);
-    assert!(rt;
-        is_told(
-            alloc,
-            4,
-            ROWS_4,
-            8,
-            (None, Some(2), None),
-            write,
-            "80000028 00000001"
-        )?
-    );
-    assert!(rt; is_told(alloc, 4, ROWS_4, 8, (None, None, Some(2)), begun, CALL_4)?);
-    Ok(())
-}
-
 // The most rows that a list has within depth 4096.
 const MOST_ROWS: u32 = 2047;
 
@@ -271,28 +249,5 @@ fn are_printed(alloc: Global, rows: u32) -> Result<bool, Fail> {
 #[test]
 fn the_longest_list_is_printed(rt: HostRuntime) -> Result<(), Fail> {
     assert!(rt; are_printed(rt.alloc(), MOST_ROWS)?);
-    Ok(())
-}
-
-// How a registry's answer ends where no growth is granted: the call may have gone out.
-fn is_wanting(alloc: Global) -> Result<bool, Fail> {
-    let (mut out, mut err, mut sent) = ([0u8; 256], [0u8; 32], [0u8; 64]);
-    let input = bytes(alloc, ROWS_4)?;
-    let mut reader = MemorySource::new(&input, 4096, None);
-    let mut writer = MemorySink::new(&mut sent, 4096, None);
-    let mut output = MemorySink::new(&mut out, 4096, None);
-    let mut faults = MemorySink::new(&mut err, 4096, None);
-    let _kept = growths::take_all(alloc)?;
-    let status = info_over(alloc, &mut reader, &mut writer, &mut output, &mut faults, 4);
-    Ok(
-        status == 4
-            && output.written().is_empty()
-            && faults.written() == b"out of memory\n".as_slice(),
-    )
-}
-
-#[test]
-fn wants_memory(rt: HostRuntime) -> Result<(), Fail> {
-    assert!(rt; is_wanting(rt.alloc())?);
     Ok(())
 }

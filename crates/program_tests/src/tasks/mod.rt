@@ -4,7 +4,6 @@ mod devices;
 mod harness;
 mod large;
 mod limits;
-mod memory;
 mod names;
 mod records;
 mod shows;

@@ -1,5 +1,5 @@
 //! The lines of values.
-use crate::tasks::harness::{Devices, FILE, LIST, PING, SILLYPROG, SOUND, by, ends, show};
+use crate::tasks::harness::{FILE, LIST, PING, SILLYPROG, SOUND, by, ends, show};
 use oncrpc_tasks::show_over;
 use std::alloc::{AllocError, Global};
 use std::process::Abort;
@@ -97,26 +97,6 @@ fn shows_no_cut_file(rt: HostRuntime) -> Result<(), AllocError> {
         .unwrap_or(b"");
     let ending = (1, b"refused Truncated at 44\n".as_slice(), b"".as_slice());
     assert!(rt; ends(rt.alloc(), &task, FILE, cut, SOUND, ending));
-    Ok(())
-}
-
-// What went out before a write failed is the beginning of the right lines.
-#[test]
-fn stops_where_a_write_fails(rt: HostRuntime) -> Result<(), AllocError> {
-    let task = show(rt.alloc(), "file", Some("a.x"))?;
-    for call in 1..SILLYPROG_LINES.len() + 1 {
-        let devices = Devices {
-            piece: 1,
-            write: Some(call as u64),
-            ..SOUND
-        };
-        let before = SILLYPROG_LINES.get(..call.saturating_sub(1)).unwrap_or(b"");
-        let ending = (3, before, b"write fault\n".as_slice());
-        assert!(rt;
-            ends(rt.alloc(), &task, FILE, SILLYPROG, devices, ending),
-            "at {call}"
-        );
-    }
     Ok(())
 }
 

@@ -3,5 +3,4 @@ mod asked;
 mod captured;
 mod datagrams;
 mod large;
-mod refused;
 mod rows;

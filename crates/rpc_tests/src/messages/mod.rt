@@ -1,6 +1,5 @@
-//! Tests of `rpc_message`: messages worked by hand from RFC 5531, and what is answered where memory is refused.
+//! Tests of `rpc_message`: messages worked by hand from RFC 5531.
 mod calls;
 mod credentials;
 pub mod parts;
-mod refused;
 mod replies;

@@ -3,12 +3,10 @@ ghost use Rattle.std.specs.Prelude.{◌≡◌, []};
 ghost use Rattle.rpc_message.specs.View.{auth_view, call_view};
 
 use crate::served::made::{Device, PLAIN, bytes_of};
-use growths::{allow, refuse};
 use rpc_engine::{ClientFault, exchange};
 use rpc_message::{Call, OpaqueAuth, Reply, ReplyFault, Status, Why};
 use rpc_record::RecordFault;
 use std::alloc::Global;
-use std::test::Fail;
 use xdr_io::{MemorySink, MemorySource};
 
 /// The null call of version 2 with xid 1, as it is written.
@@ -198,80 +196,4 @@ fn the_first_record_is_the_answer(rt: HostRuntime) {
             );
         }
     }
-}
-
-/// What is told where a read or a write fails, and how many bytes of the call were written. A reply comes in pieces of
-/// ten bytes, and the call goes out so.
-fn told_with(alloc: Global, read: Option<u64>, write: Option<u64>) -> Option<(Told, usize)> {
-    let from = Device {
-        piece: 10,
-        failing: read,
-    };
-    let into = Device {
-        piece: 10,
-        failing: write,
-    };
-    let input = bytes_of(alloc, &[ROWS[0].0])?;
-    let call = bytes_of(alloc, &[CALL])?;
-    exchanged(alloc, &input, &call, from, into)
-}
-
-// Three reads give 28 bytes, and the third gives the last of them.
-#[test]
-fn reads_fail_in_turn(rt: HostRuntime) {
-    for failing in 1..6 {
-        let wanted = if failing < 4 {
-            Told::Fault(ClientFault::Read)
-        } else {
-            Told::Success(0)
-        };
-        assert!(rt;
-            told_with(rt.alloc(), Some(failing), None) == Some((wanted, 44)),
-            "the read {failing} fails"
-        );
-    }
-}
-
-// Five writes take 44 bytes.
-#[test]
-fn writes_fail_in_turn(rt: HostRuntime) {
-    for failing in 1..8u64 {
-        let written = failing.saturating_sub(1).saturating_mul(10).min(44);
-        let wanted = if failing < 6 {
-            Told::Fault(ClientFault::Write { written })
-        } else {
-            Told::Success(0)
-        };
-        assert!(rt;
-            told_with(rt.alloc(), None, Some(failing)) == Some((wanted, written as usize)),
-            "the write {failing} fails"
-        );
-    }
-}
-
-/// What is told where the growth of this number is refused, and how many bytes of the call were written.
-fn told_without(rt: &HostRuntime, number: u64) -> Option<(Told, usize)> {
-    let alloc = rt.alloc();
-    let input = bytes_of(alloc, &[ROWS[1].0])?;
-    let call = bytes_of(alloc, &[CALL])?;
-    let _refuses = refuse(alloc, rt, number).ok()?;
-    let told = exchanged(alloc, &input, &call, PLAIN, PLAIN);
-    allow(rt);
-    told
-}
-
-// The call is written whole or not at all.
-#[test]
-fn growths_are_refused_in_turn(rt: HostRuntime) -> Result<(), Fail> {
-    let refuses = refuse(rt.alloc(), &rt, 1)?;
-    allow(&rt);
-    for number in 1..24 {
-        let is_well = match told_without(&rt, number) {
-            Some((Told::Success(4), 44)) => !refuses || number > 1,
-            Some((Told::Fault(ClientFault::NoMemory), 0 | 44)) => refuses && number < 23,
-            _ => false,
-        };
-        assert!(rt; is_well, "the growth {number}");
-    }
-    Ok(())
 }

@@ -2,7 +2,6 @@
 
 mod datagram_exchanges;
 mod datagrams;
-mod devices;
 mod exchanges;
 mod large;
 mod made;

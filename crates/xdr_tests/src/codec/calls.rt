@@ -19,12 +19,6 @@ pub fn widest(rt: &impl Abort) -> Limits {
     limits(rt, 4096, 16777216)
 }
 
-/// Whether the schema has a kind at the place, and the value fits it within the widest limits.
-pub fn is_fit(rt: &impl Abort, schema: &Schema, place: u32, value: &Value) -> bool {
-    let kind = KindId { place };
-    schema.has(kind) && fits(schema, kind, value, widest(rt))
-}
-
 /// What `encode` answers for a value that fits within the widest limits.
 pub fn encoded(
     rt: &impl Abort,

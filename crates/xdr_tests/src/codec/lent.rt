@@ -5,11 +5,9 @@ use crate::schema::{
     BOOL, CHOICES, FLAG_CHOICE, HYPER, INT, INT_CHOICE, LIST, NOTHING, OPAQUE, PAIR, SIX_BYTES,
     STRING, TWO, VOID_CHOICE, all_kinds,
 };
-use growths::{allow, refuse};
 use std::alloc::Global;
-use std::env::Env;
 use std::process::Abort;
-use xdr_codec::{DecodeFault, Lent, Reason, Role};
+use xdr_codec::{DecodeFault, Lent, Role};
 use xdr_lang::read;
 
 // The place of a part, its depth, kind and name, what stands in it, and its bytes.
@@ -178,31 +176,5 @@ fn each_role(rt: HostRuntime) {
         if !are_parts(&parts, wanted) {
             panic!(rt; "kind {place}: {text}");
         }
-    }
-}
-
-// Whether the file's parts come, or want of memory where this growth is refused.
-fn meets(rt: &(impl Abort + Env), alloc: Global, refused: u64) -> Option<bool> {
-    let declared = read(alloc, texts::FILE).ok()?;
-    let file = declared.kind("file")?;
-    let input = hex::decode(alloc, SILLYPROG).ok()?;
-    let limits = widest(rt);
-    let can_refuse = refuse(alloc, rt, refused).ok()?;
-    let answer = lent(rt, alloc, &declared.schema, file.place, limits, &input);
-    allow(rt);
-    match answer {
-        Ok(parts) => Some(are_parts(&parts, &FILE_PARTS)),
-        Err(fault) => Some(can_refuse && fault.why == Reason::NoMemory && fault.at <= 48),
-    }
-}
-
-// Each growth is refused in turn, where something refuses them.
-#[test]
-fn meets_refused_growths(rt: HostRuntime) {
-    for refused in 1..16 {
-        assert!(rt;
-            meets(&rt, rt.alloc(), refused) == Some(true),
-            "the growth {refused}"
-        );
     }
 }

@@ -6,7 +6,6 @@ mod directory;
 mod grammar;
 mod kinds;
 mod long;
-mod memory;
 mod message_protocol;
 mod mount_protocol;
 mod names;

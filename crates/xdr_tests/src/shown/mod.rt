@@ -2,4 +2,3 @@
 pub mod calls;
 mod large;
 mod lines;
-mod memory;
