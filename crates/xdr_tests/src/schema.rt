@@ -68,6 +68,8 @@ pub const NEGATIVE_CHOICE: u32 = 33;
 
 pub const UNSIGNED_CHOICE: u32 = 34;
 
+pub const HYPERS: u32 = 35;
+
 // A kind whose lists are literals: other kinds are named by their places, and arms by their cases.
 #[derive(Clone, Copy)]
 enum Shape {
@@ -89,7 +91,7 @@ enum Shape {
 }
 
 // The kinds in the order of their places.
-const SHAPES: [Shape; 35] = [
+const SHAPES: [Shape; 36] = [
     Shape::Int,
     Shape::Unsigned,
     Shape::Hyper,
@@ -138,6 +140,7 @@ const SHAPES: [Shape; 35] = [
     Shape::Choice(BOOL, &[(1, "x", INT)], Some(("", NOTHING))),
     Shape::Choice(INT, &[(-1, "none", NOTHING)], None),
     Shape::Choice(UNSIGNED, &[(4294967295, "", STRING)], None),
+    Shape::Fixed(HYPER, 3),
 ];
 
 fn id(place: u32) -> KindId {

@@ -1,5 +1,5 @@
 //! Inputs and outputs of many bytes, with memory for them.
-use crate::tasks::harness::{check, show};
+use crate::tasks::harness::{check, show, within};
 use oncrpc_tasks::{MemoryOpener, RecordsTask, Task, task_over};
 use std::alloc::{AllocError, Global};
 use xdr_io::{MemorySink, MemorySource};
@@ -66,6 +66,21 @@ fn takes_long_values(rt: HostRuntime) -> Result<(), AllocError> {
         b"\nok 65540\n".as_slice(),
     );
     assert!(rt; is_answered(rt.alloc(), &shown, LONG, lines) == Some(true));
+    Ok(())
+}
+
+// An opaque of 2 MiB, which is read by whole pages: one of fewer than two bytes would need more than 1048576 reads.
+const PAGES: Text = (b"\0\x20\0\0", (b"abcdefghijklmnop", 131072), b"");
+
+#[test]
+fn reads_whole_pages(rt: HostRuntime) -> Result<(), AllocError> {
+    let task = within(rt.alloc(), "opaque", false, 16777216)?;
+    let told = (
+        b"ok 2097156\n".as_slice(),
+        (b"".as_slice(), 0),
+        b"".as_slice(),
+    );
+    assert!(rt; is_answered(rt.alloc(), &task, PAGES, told) == Some(true));
     Ok(())
 }
 

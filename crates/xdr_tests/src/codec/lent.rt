@@ -2,10 +2,12 @@
 use crate::codec::calls::{lent, widest};
 use crate::language::texts;
 use crate::schema::{
-    BOOL, CHOICES, FLAG_CHOICE, HYPER, INT, INT_CHOICE, LIST, NOTHING, OPAQUE, PAIR, SIX_BYTES,
-    STRING, TWO, VOID_CHOICE, all_kinds,
+    BOOL, CHOICES, FLAG_CHOICE, HYPER, INT, INT_CHOICE, LIST, MANY, NOTHING, OPAQUE, PAIR,
+    SIX_BYTES, STRING, TWO, VOID_CHOICE, all_kinds,
 };
+use growths::{count, take_all};
 use std::alloc::Global;
+use std::env::Env;
 use std::process::Abort;
 use xdr_codec::{DecodeFault, Lent, Role};
 use xdr_lang::read;
@@ -177,4 +179,51 @@ fn each_role(rt: HostRuntime) {
             panic!(rt; "kind {place}: {text}");
         }
     }
+}
+
+// A length or a count, and so many units behind it.
+fn units(alloc: Global, first: u32, count: u32) -> Option<Vec<u8>> {
+    let mut bytes = Vec::from_slice(alloc, &first.to_be_bytes()).ok()?;
+    for _ in 0..count {
+        bytes.extend_from_slice(b"abcd").ok()?;
+    }
+    Some(bytes)
+}
+
+// Whether an opaque of 1 MiB has its two parts where some 64 KiB are granted, so that its length reserves nothing.
+fn are_lent_in_little(rt: &impl Abort, alloc: Global) -> Option<bool> {
+    let schema = all_kinds(rt, alloc);
+    let input = units(alloc, 1048576, 262144)?;
+    let _kept = {
+        let _spare = Vec::<u8>::with_capacity(alloc, 65536).ok()?;
+        take_all(alloc).ok()?
+    };
+    match lent(rt, alloc, &schema, OPAQUE, widest(rt), &input) {
+        Ok(parts) => Some(parts.len() == 2),
+        Err(_) => Some(false),
+    }
+}
+
+#[test]
+fn lengths_reserve_nothing(rt: HostRuntime) {
+    assert!(rt; are_lent_in_little(&rt, rt.alloc()) == Some(true));
+}
+
+// Whether the parts of 4000 numbers take as many growths as powers of two are filled, and one for a frame, where
+// something counts them.
+fn grow_by_powers(rt: &(impl Abort + Env), alloc: Global) -> Option<bool> {
+    let schema = all_kinds(rt, alloc);
+    let input = units(alloc, 4000, 4000)?;
+    let before = count(rt).unwrap_or(0);
+    let parts = lent(rt, alloc, &schema, MANY, widest(rt), &input);
+    let met = count(rt).unwrap_or(0).saturating_sub(before);
+    match parts {
+        Ok(parts) => Some(parts.len() == 4001 && met <= 14),
+        Err(_) => Some(false),
+    }
+}
+
+#[test]
+fn many_parts_take_few_growths(rt: HostRuntime) {
+    assert!(rt; grow_by_powers(&rt, rt.alloc()) == Some(true));
 }

@@ -3,8 +3,9 @@ use crate::codec::calls::{
     counted, decoded, fed, finished, lent_refusal, limits, refusal, started, widest,
 };
 use crate::schema::{
-    ALIKE, BOOL, BOOL_CHOICE, CHOICES, FILE, FILEKIND, FIVE, HOLDER, HYPER, INT, INT_CHOICE,
-    KIND_CHOICE, LIST, OPAQUE, OWNER, PAIR, SIX_BYTES, STRING, TWO, VOID_CHOICE, all_kinds,
+    ALIKE, BOOL, BOOL_CHOICE, CHOICES, FILE, FILEKIND, FIVE, HOLDER, HYPER, HYPERS, INT,
+    INT_CHOICE, KIND_CHOICE, LIST, OPAQUE, OWNER, PAIR, SIX_BYTES, STRING, TWO, VOID_CHOICE,
+    all_kinds,
 };
 use std::alloc::Global;
 use std::process::Abort;
@@ -75,7 +76,7 @@ const NUMBERS: [Row; 13] = [
     (CHOICES, "000000010000000700000002", Reason::BadCase, 8),
 ];
 
-const CONTENT: [Row; 13] = [
+const CONTENT: [Row; 15] = [
     (FIVE, "00000006", Reason::TooLong, 0),
     (OWNER, "00000021", Reason::TooLong, 0),
     (TWO, "00000003", Reason::TooLong, 0),
@@ -96,10 +97,23 @@ const CONTENT: [Row; 13] = [
     (BOOL, "", Reason::Truncated, 0),
     (HYPER, "000000000000", Reason::Truncated, 6),
     (TWO, "0000000200000007", Reason::Truncated, 8),
+    // Hyper integers one after another, cut after a unit and inside one.
+    (
+        HYPERS,
+        "0000000000000001000000000000000200000000",
+        Reason::Truncated,
+        20,
+    ),
+    (
+        HYPERS,
+        "000000000000000100000000000000",
+        Reason::Truncated,
+        15,
+    ),
 ];
 
 // The limits on depth and on bytes come before the row.
-const LIMITED: [(u32, u32, Row); 13] = [
+const LIMITED: [(u32, u32, Row); 16] = [
     (1, 16777216, (HOLDER, "", Reason::TooDeep, 0)),
     (1, 16777216, (VOID_CHOICE, "00000001", Reason::TooDeep, 4)),
     (1, 16777216, (TWO, "00000001", Reason::TooDeep, 4)),
@@ -113,6 +127,37 @@ const LIMITED: [(u32, u32, Row); 13] = [
     (4096, 4, (HYPER, "00000000", Reason::TooLarge, 4)),
     (4096, 4, (PAIR, "00000001", Reason::TooLarge, 4)),
     (4096, 8, (TWO, "0000000200000001", Reason::TooLarge, 8)),
+    // Hyper integers one after another, up to the limit and past it, and at the limit inside one.
+    (
+        4096,
+        16,
+        (
+            HYPERS,
+            "00000000000000010000000000000002",
+            Reason::TooLarge,
+            16,
+        ),
+    ),
+    (
+        4096,
+        16,
+        (
+            HYPERS,
+            "000000000000000100000000000000020000000000000003",
+            Reason::TooLarge,
+            16,
+        ),
+    ),
+    (
+        4096,
+        12,
+        (
+            HYPERS,
+            "00000000000000010000000000000002",
+            Reason::TooLarge,
+            12,
+        ),
+    ),
     // The limit on bytes is looked at before the next unit is.
     (
         4096,
