@@ -99,7 +99,7 @@ one_unreceived rows new old now (e ∷ d ∷ es) none one f = absurd (omega (ari
 
 abbrev HasOne : {A : Type 0} → Option A → Type 0
 HasOne None = ⊥
-HasOne (Some x) = ⊤
+HasOne (Some x) = Unit {0}
 
 no_xid : (x : ℕ) → Some x ≡ None → ⊥
 no_xid x e = subst (λ (o : Option ℕ). HasOne o) e tt
@@ -139,8 +139,8 @@ run_silent exclusive rows new (y ∷ z ∷ zs) replies r = absurd r.1.1.1.1
 no_reply_line : (s : Served) → s.replies ≡ 0 → datagram_lines (Ok s ∷ []) ≡ codes "datagram 1: no reply\n"
 unfolding digits
 no_reply_line s zero =
-    ap (λ (n : ℕ). (codes "datagram " ++ decimal 1 ++ codes ": "
-    ++ (if n == 0 then codes "no reply" else codes "reply") ++ codes "\n") ++ []) zero
+    ap (λ (n : ℕ). (if n == 0 then codes "datagram " ++ decimal 1 ++ codes ": no reply\n"
+    else codes "datagram " ++ decimal 1 ++ codes ": reply\n") ++ []) zero
 
 served_silent : Exclusive → (rows new : List Row) (left left' sent sent' : Told) (s : Served)
     → left ≡ Some ([] ∷ []) → ServesDatagrams 1 rows new left left' sent sent' s → s.replies ≡ 0
