@@ -90,7 +90,8 @@ fn lent(
     Some(line(alloc, met, &told))
 }
 
-// Feeds a decoder pieces of this size up to an answer that is not `More`, and gives how many it was fed and that answer.
+// Feeds a decoder pieces of this size up to an answer that is not `More`, and gives how many it was fed and that
+// answer.
 fn feed_decoder(
     decoder: &mut Decoder<'_>,
     input: &[u8],
