@@ -1,6 +1,7 @@
 /* Calls of a registry over one TCP connection to 127.0.0.1, so many unanswered at a time; prints the calls a second. Each
  * reply is looked at: its xid is the next one's, and it is SUCCESS.
- * usage: registry_load PORT fill|null|getaddr|setunset|dump COUNT WINDOW ROWS
+ * usage: registry_load PORT fill|null|getaddr|setunset|dump|udp-null|udp-getaddr COUNT WINDOW ROWS
+ * A work that begins with udp- goes by datagrams, one a call, of which none may be lost.
  * fill sets COUNT rows after the first ROWS; getaddr asks for rows that lie all over the first ROWS; setunset sets a row
  * that is not there and removes it. A SET or an UNSET whose result is FALSE is counted, and said at the end. */
 #include <arpa/inet.h>
@@ -59,12 +60,32 @@ static int stop(const char *why) {
     fprintf(stderr, "registry_load: %s\n", why);
     exit(1);
 }
+static void datagrams(const struct sockaddr_in *at, const char *work, uint32_t count, uint32_t window, uint32_t rows) {
+    uint32_t sent = 0, got = 0;
+    int s = socket(AF_INET, SOCK_DGRAM, 0);
+    struct timeval most = {20, 0};
+    setsockopt(s, SOL_SOCKET, SO_RCVTIMEO, &most, sizeof most);
+    if (connect(s, (void *)at, sizeof *at)) stop("no socket");
+    double begun = now();
+    for (; got < count; got++) {
+        for (; sent < count && sent - got < window; sent++) {
+            make(work, sent + 1, rows);
+            if (send(s, call + 4, made - 4, 0) < 0) stop("a send failed");
+        }
+        ssize_t n = recv(s, in, sizeof in, 0);
+        if (n < 0) stop("no reply for 20 seconds");
+        if (n < 24 || number(in) != got + 1 || number(in + 4) != 1 || number(in + 8) || number(in + 20))
+            stop("no successful reply to the next call");
+    }
+    printf("%.0f\n", count / (now() - begun));
+}
 int main(int c, char **v) {
     if (c != 6) return stop("five words are wanted");
     const char *work = v[2];
     uint32_t count = atol(v[3]), window = atol(v[4]), rows = atol(v[5]), sent = 0, got = 0, refused = 0;
     int tells = !strcmp(work, "fill") || !strcmp(work, "setunset"), fresh = 1, s = socket(AF_INET, SOCK_STREAM, 0);
     struct sockaddr_in at = {.sin_family = AF_INET, .sin_port = htons(atoi(v[1])), .sin_addr.s_addr = htonl(INADDR_LOOPBACK)};
+    if (!strncmp(work, "udp-", 4)) return datagrams(&at, work + 4, count, window, rows), 0;
     if (connect(s, (void *)&at, sizeof at)) return stop("no connection");
     fcntl(s, F_SETFL, O_NONBLOCK);
     size_t full = 0, went = 0, held = 0;
