@@ -1,0 +1,367 @@
+"""Growths of memory that are refused, each in turn, alone and with all later ones."""
+import itertools
+import re
+
+from .rows import (
+    ASKED, ASKED_AFTER, BY_RECORD, CALLS, Case, EXCHANGED, FILE, FURTHER, MORE, NULL, PIECES, PING, REFUSED,
+    REPLY, Refused, SERVED, SET, STREAMS, TAKING, TEXTS, WHOLE, WIDEST, Whole, denied, marked, octets, reply,
+    word,
+)
+from .running import run
+from .streams import (
+    asked_of, exchanged, handed_out, is_printed_well, normal_form, normalised, records_in, replies_to, served,
+    told_after,
+)
+from .values import checked, fault_of, fed, records_over, typed
+
+# Growths of memory that are refused. What a case answers in place of its whole answer tells want of memory.
+NO_MEMORY = "Err(NoMemory)"
+SYSTEM_ERR = "00000005"
+
+
+def is_some_run(told, whole, case, most):
+    """Whether what was served is a run in which at most so many records met want of memory, before the end or at it."""
+    answer, (written, after) = told.answer, told.streams
+    found, _ = records_in(case.given, 65536)
+    made = records_in(written, WIDEST)[0]
+    if answer not in (NO_MEMORY, whole.answer) or normal_form(made) != written:
+        return False
+    has_row, missed, at = False, answer == NO_MEMORY, 0
+    for _, content in found:
+        _, without, with_row, row_after = BY_RECORD[content]
+        right = with_row if has_row else without
+        got = made[at][1] if at < len(made) else None
+        if got is None and right is not None:
+            break
+        if right is None:
+            continue
+        at += 1
+        if got == right:
+            has_row = has_row if row_after is None else row_after
+        elif got == octets(content[:4].hex() + REPLY[8:] + SYSTEM_ERR):
+            missed += 1
+        else:
+            return False
+    if not any(content for _, content in found) and answer == NO_MEMORY:
+        return False
+    is_all = answer == NO_MEMORY or at == sum(row is not None for row in replies_to(found)[0])
+    return is_all and at == len(made) and missed <= most and after == told_after(has_row)
+
+
+def connection_lines(told, whole, most):
+    """Whether each line is the whole run's, or tells want of memory; or status 4 stands behind some of the lines."""
+    output, faults = told.streams
+    lines, wanted = output.splitlines(), whole.streams[0].splitlines()
+    missed = sum(line != right for line, right in zip(lines, wanted))
+    missing = re.compile(rb"connection \d+: (NoMemory|\d+ records, \d+ replies)")
+    is_known = all(line == right or missing.fullmatch(line) for line, right in zip(lines, wanted))
+    if (told.answer, faults) == ("4", b"out of memory\n"):
+        return is_known and missed + 1 <= most and len(lines) <= len(wanted)
+    return is_known and missed <= most and len(lines) == len(wanted) and (told.answer, faults) == (whole.answer, b"")
+
+
+def some_parts(told, whole):
+    """Whether each part of what a registry's making and dumping tells is the whole run's, or tells want of memory."""
+    parts, rest = whole.answer[1:-1].split(", Ok("), told.answer[1:-1]
+    wanted = [parts[0], "Ok(" + parts[1], "Ok(" + parts[2].removesuffix(", true"), "true"]
+    choices = [(right, other) for right, other in zip(wanted, ("false", NO_MEMORY, NO_MEMORY, "false"))]
+    return any(rest == ", ".join(chosen) for chosen in itertools.product(*choices))
+
+
+def is_kept_before(told, case):
+    """Whether the first growth that is refused leaves exactly the records before the first that has content."""
+    found, _ = records_in(case.given, case.setting >> 3 if case.engine == "task" else case.setting)
+    empty = len([*itertools.takewhile(lambda record: not record[1], found)])
+    one = word(0) if case.engine == "reader" else marked(b"")
+    return case.refused.removesuffix("..") != "1" or told.streams[0] == one * empty
+
+
+def wants_memory(told, whole, case):
+    """Whether the answer tells want of memory as the call's contract has it."""
+    most = 1 if not case.refused.endswith("..") else 10**9
+    fault = re.search(r"(Err\(DecodeFault \{ why: NoMemory, at: (\d+) \}\))", told.answer)
+    is_begun = all(right.startswith(got) for got, right in zip(told.streams, whole.streams))
+    match case.engine:
+        case "serve":
+            return is_some_run(told, whole, case, most)
+        case "connections":
+            return connection_lines(told, whole, most)
+        case "registry":
+            return some_parts(told, whole)
+        case "normalise":
+            written = told.streams[0]
+            is_records = records_in(written, WIDEST)[1] is None
+            return told.answer == NO_MEMORY and is_begun and is_records and is_kept_before(told, case)
+        case "reader":
+            return told.answer == f"({', '.join([NO_MEMORY] * 4)})" and is_begun and is_kept_before(told, case)
+        case "task":
+            in_hex = case.setting & 4
+            is_kept = not told.streams[0] or (case.setting & 3 == 2 and (in_hex or is_kept_before(told, case)))
+            is_cut = whole.streams[0].startswith(told.streams[0])
+            return (told.answer, told.streams[1]) == ("4", b"out of memory\n") and is_cut and is_kept
+        case "info":
+            sent, printed, faults = told.streams
+            return (told.answer, printed, faults) == ("4", b"", b"out of memory\n") and sent in (b"", whole.streams[0])
+        case "answer":
+            xid = int.from_bytes(case.given[:4], "big")
+            return told.answer == f"OutOfMemory {{ xid: {xid} }}" and told.streams[0] == told_after(bool(case.before))
+        case "exchange":
+            return told.answer == NO_MEMORY and told.streams[0] in (b"", whole.streams[0])
+        case "decode" | "parts":
+            return bool(fault) and told.answer == fault[1] and int(fault[2]) <= len(case.given)
+        case "decoder" | "checker":
+            count = int(re.match(r"\(\((\d+)", told.answer)[1])
+            is_same = bool(fault) and told.answer == f"(({count}, {fault[1]}, {fault[1]}), {fault[1]}, 0)"
+            read = min(count * case.reads[0], len(case.given))
+            return is_same and int(fault[2]) <= read < int(fault[2]) + case.reads[0] + 4
+        case "call" | "reply" | "credential":
+            is_read = whole.answer.split(", Some(")[0] + f", Some({NO_MEMORY}))"
+            return told.answer in (f"({NO_MEMORY}, None)", is_read)
+        case "declarations":
+            return told.answer == "Err(LangFault { number: 13, inner: 0, line: 1, column: 1 })"
+        case "mark" | "copy" | "encode" | "show":
+            return told.answer == "NoMemory"
+    return told.answer == NO_MEMORY
+
+
+# Calls that end at the first growth that is refused, and tell the same whether later ones are granted again.
+ENDING = "normalise reader exchange answer decode parts decoder checker encode show copy mark".split()
+# Those that take memory for each answer, so that the first growth is not done without.
+TAKING_ANY = "answer declarations mark exchange info encode show call credential".split()
+
+
+def is_granted_well(whole, case, number):
+    """The whole answer or want of memory, the same alone and with all later growths refused."""
+    first = {}
+
+    def is_well(told, refused):
+        is_whole = (told.answer, told.streams) == (whole.answer, whole.streams)
+        alone = first.setdefault(number, told)
+        is_same = case.engine not in ENDING or told[1:] == alone[1:]
+        if case.engine == "serve" and alone.answer != NO_MEMORY and not is_whole:
+            # The reply SYSTEM_ERR takes no memory: it is there with all later growths refused too.
+            missed = octets(REPLY[8:] + SYSTEM_ERR)
+            is_same = (missed in alone.streams[0]) <= (missed in told.streams[0])
+        is_done = number > 1 or not whole.met or case.engine not in TAKING_ANY
+        return is_same and (is_done if is_whole else number <= whole.met and wants_memory(told, whole, refused))
+
+    return is_well
+
+
+def answered(record, before):
+    """The reply and the rows after it."""
+    replies, rows = replies_to([(0, record)], before)
+    sent = "Silent" if replies[0] is None else f"Reply({list(replies[0])})"
+    return lambda told: (told.answer, told.streams) == (sent, [told_after(rows[0])])
+
+
+def joined_well(row, given):
+    """Whether parts stand one behind the other from the first byte on, joined with their zeros are the value's bytes, or
+    are refused as the row is."""
+    if isinstance(row, Refused):
+        return lambda told: told.answer == fault_of(row.why, row.at)
+
+    def is_well(told):
+        found = re.findall(r"Lent { at: (\d+), [^[]*role: (\w+), bytes: \[([0-9, ]*)\] }", told.answer)
+        bytes_of = [bytes(map(int, filter(None, each.split(", ")))) for *_, each in found]
+        roles = [role for _, role, _ in found]
+        for role, following, length, content_of in zip(roles, roles[1:], bytes_of, bytes_of[1:]):
+            if (role, following) == ("Length", "Content") and word(len(content_of)) != length:
+                return False
+        padded = [each + bytes(-len(each) % 4) for each in bytes_of]
+        places = [0, *itertools.accumulate(map(len, padded))]
+        return b"".join(padded) == given[: row.used] and [int(at) for at, *_ in found] == places[:-1]
+
+    return is_well
+
+
+def told_again(given):
+    """What is read is written again as the same bytes, or it is refused."""
+    return lambda told: f"Some(Ok({list(given)})))" in told.answer or ", None)" in told.answer
+
+
+def connection_line(number, given):
+    found, why = records_in(given, 65536)
+    sent = sum(row is not None for row in replies_to(found)[0])
+    ending = re.sub(r" \{ at: (\d+) \}", r" at \1", why) if why else f"{len(found)} records, {sent} replies"
+    return f"connection {number}: {ending}\n".encode()
+
+
+def connected(streams, writes):
+    """The lines of connections one after another."""
+    lines = [b"listening on 127.0.0.1 111\n"]
+    lines += [connection_line(number, given) for number, given in enumerate(streams, 1)]
+    return lambda told: is_printed_well(told, 0, b"".join(lines), b"", writes)
+
+
+def clients(*streams):
+    return {"setting": len(streams), "given": b"".join(word(len(given)) + given for given in streams)}
+
+
+def connection_cases():
+    streams = [SERVED[0], b"", SERVED[3], octets("80000000"), octets("7fffffff00"), octets("800000280000000100"), SERVED[0]]
+    for piece in PIECES:
+        for failing in range(0, 240 // piece + 3):
+            case = Case("connections", (piece, 0), (piece, failing), **clients(*streams))
+            yield case, connected(streams, (piece, failing))
+
+
+def stream_rows():
+    for limit, digits in STREAMS:
+        given = octets(digits)
+        for piece in PIECES:
+            reads = piece, 0
+            yield Case("normalise", reads, setting=limit, given=given), normalised(limit, given, reads, (4096, 0))
+            yield Case("reader", reads, setting=limit, given=given), handed_out(limit, given)
+        for in_hex in (0, 4):
+            text = given.hex().encode() if in_hex else given
+            is_well = records_over(limit, given, in_hex, (4096, 0), (4096, 0))
+            yield Case("task", setting=2 + in_hex + 8 * limit, given=text), is_well
+        wanted = '"Ok"', [marked(given)]
+        yield Case("mark", given=given), lambda told, wanted=wanted: (told.answer, told.streams) == wanted
+
+
+def decoded_well(row):
+    wanted = fault_of(row.why, row.at) if isinstance(row, Refused) else f"Ok(({row.value}, {row.used}))"
+    return lambda told: told.answer == wanted
+
+
+def value_rows():
+    for row in WHOLE + REFUSED:
+        given = octets(row.digits)
+        kind = {"given": given, **typed(row)}
+        yield Case("decode", **kind), decoded_well(row)
+        yield Case("parts", **kind), joined_well(row, given)
+        for engine, piece in itertools.product(("decoder", "checker"), PIECES):
+            yield Case(engine, (piece, 0), **kind), fed(row, given, piece, engine == "checker")
+        if isinstance(row, Whole):
+            for engine, output in (("encode", given[: row.used]), ("show", row.lines)):
+                wanted = '"Ok"', [output]
+                yield Case(engine, **kind), lambda told, wanted=wanted: (told.answer, told.streams) == wanted
+            yield Case("copy", **kind), lambda told: told.answer == "true"
+        for shows, in_hex in itertools.product((0, 1), (0, 4)):
+            kind["given"] = given.hex().encode() if in_hex else given
+            is_well = checked(row, given, shows, in_hex, (4096, 0), (4096, 0))
+            yield Case("task", setting=shows + in_hex, **kind), is_well
+
+
+# Tasks that are refused before any input is read or in the midst of a long one, and one of an argument.
+TASKS = [
+    (1, "file", PING, b"", "2", b"", b"no such name: file\n"),
+    (1, "file", b"typedef opaque x[0];", b"", "2", b"", b"declaration refused: 10 (2) at 1:9\n"),
+    (4, "536870912.1.1.1", PING, b"00000002 68690001", "1", b"refused BadPadding at 4\n", b""),
+    (4, "opaque", b"", b"00001194" + b"61" * 4500, "0", b"ok 4504\n", b""),
+]
+
+
+def task_rows():
+    for setting, name, text, given, status, output, faults in TASKS:
+        wanted = status, [output, faults]
+        case = Case("task", setting=setting, name=name, text=text, given=given)
+        yield case, lambda told, wanted=wanted: (told.answer, told.streams) == wanted
+
+
+MESSAGES = [
+    ("call", "00000001 00000000 00000002 000186a0 00000002 00000000 00000001 0000001c 00000000 00000003 626f7800 000003e8 "
+     "00000064 00000001 00000064 00000000 00000000 0000002a"),
+    ("reply", "00000001 00000001 00000000 00000002 00000001 61000000 00000000 0000002a"),
+    ("reply", "00000001 00000001 00000001 00000001 00000063"),
+    ("credential", "00000000 00000003 626f7800 000003e8 00000064 00000001 00000064"),
+]
+
+
+def message_rows():
+    for engine, digits in MESSAGES:
+        wanted = f", Some(Ok({list(octets(digits))})))"
+        yield Case(engine, given=octets(digits)), lambda told, wanted=wanted: told.answer.endswith(wanted)
+    for record, *_replies in CALLS + FURTHER:
+        yield Case("call", given=record), told_again(record)
+    for stream, _ in EXCHANGED:
+        for _, content in records_in(stream, WIDEST)[0]:
+            yield Case("reply", given=content), told_again(content)
+
+
+def registry_rows():
+    # An empty record is no call, and is served without memory.
+    served_so = [octets("80000000"), octets("80000001 00")]
+    for given in (*SERVED[:3], *served_so):
+        for reads in ((48, 0), (4096, 0)):
+            yield Case("serve", reads, given=given, after=ASKED_AFTER), served(given, reads, (4096, 0))
+        yield Case("connections", **clients(given)), connected([given], (4096, 0))
+    for has_row, before in enumerate((b"", marked(SET))):
+        for record, *_replies in CALLS:
+            yield Case("answer", given=record, before=before, after=ASKED_AFTER), answered(record, bool(has_row))
+        for record, sent in FURTHER:
+            wanted = f"Reply({list(sent)})", [told_after(bool(has_row))]
+            case = Case("answer", given=record, before=before, after=ASKED_AFTER)
+            yield case, lambda told, wanted=wanted: (told.answer, told.streams) == wanted
+        yield Case("registry", before=before), lambda told: re.fullmatch(r"\(true, Ok\(.*\), Ok\(.*\), true\)", told.answer)
+    for record in TAKING:
+        yield Case("answer", given=record, after=ASKED_AFTER), lambda told: told.answer.startswith("Reply([")
+    for (stream, told), piece in itertools.product(EXCHANGED, PIECES):
+        yield Case("exchange", (piece, 0), given=stream), exchanged(stream, told, (piece, 0), (4096, 0))
+    for (stream, status, printed), piece in itertools.product(ASKED, PIECES):
+        is_well = asked_of(stream, status, printed, (piece, 0), (4096, 0), False)
+        yield Case("info", (piece, 0), setting=4, given=stream), is_well
+
+
+def text_rows():
+    for number, text in enumerate(TEXTS):
+        begins = "Ok(Declared" if number < 8 else "Err(LangFault"
+        yield Case("declarations", text=text), lambda told, begins=begins: told.answer.startswith(begins)
+
+
+def growth_cases():
+    """Rows whose growths are refused, each with the judge of its whole answer."""
+    for rows in (stream_rows, value_rows, task_rows, message_rows, registry_rows, text_rows):
+        yield from rows()
+
+
+def refused_cases(heap):
+    cases = [case for case, _ in growth_cases()]
+    wholes = run(cases, LD_PRELOAD=heap)
+    if sum(whole.met for whole in wholes) < len(cases):
+        print("growths are not counted")
+        return
+    for case, whole in zip(cases, wholes):
+        for number in range(1, whole.met + 3):
+            is_well = is_granted_well(whole, case, number)
+            for refused in (str(number), f"{number}.."):
+                changed = case._replace(refused=refused)
+                yield changed, lambda told, changed=changed, is_well=is_well: is_well(told, changed)
+
+
+def free_cases():
+    """Calls that take no memory, whatever the lengths that their bytes declare."""
+    asked = [
+        (b"", "hyper", "80000000 00000000", "decode"),
+        (b"", "int", "00000003 61626300", "decode"),
+        (b"", "opaque", "00000003 61626300", "checker"),
+        (b"", "opaque", "ffffffff", "decode"),
+        (MORE, "five", "00000005", "decode"),
+        (b"", "opaque", "ffffffff 61", "decoder"),
+        (b"", "string", "ffffffff 61", "decoder"),
+        (FILE, "filekind", "00000002", "decode"),
+        (MORE, "six", "61626364 65660000", "checker"),
+        (MORE, "five", "00000003 61626300", "encode_to"),
+    ]
+    asked += [(b"", "opaque", "00010000" + "61" * 65536, "checker"), (b"", "opaque", "00000008" + "61" * 8, "checker")]
+    for text, name, digits, engine in asked:
+        yield Case(engine, (1, 0), name=name, text=text, given=octets(digits)), lambda told: told.met == 0
+    # The header of a record; an empty record, which is no call; bytes that are no call, and cases of none.
+    for given in (b"", octets("81000000"), octets("80000000")):
+        yield Case("reader", (1, 0), given=given), lambda told: told.met == 0
+    yield Case("serve", (1, 0), given=octets("81000000")), lambda told: told.met == 0
+    for given in (octets("00000001"), NULL[:11], octets("00000002 00000000 00000003"), NULL[:24], NULL[:32]):
+        yield Case("call", given=given), lambda told: told.met == 0
+    yield Case("reply", given=octets("00000001 00000001 00000001 00000001 00000063")[:19]), lambda told: told.met == 0
+    yield Case("answer", given=octets("00000001")), lambda told: (told.met, told.answer) == (0, "Silent")
+
+
+def answer_cases():
+    """The null call cut at each byte: silence, a credential and a verifier that cannot be read, and the reply."""
+    for length in range(len(NULL) + 1):
+        sent = None if length < 24 else denied(1) if length < 32 else denied(3) if length < 40 else reply("00000000")
+        wanted = "Silent" if sent is None else f"Reply({list(sent)})", [told_after(False)]
+        case = Case("answer", given=NULL[:length], after=ASKED_AFTER)
+        yield case, lambda told, wanted=wanted: (told.answer, told.streams) == wanted

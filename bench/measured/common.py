@@ -1,0 +1,57 @@
+"""Times and instructions of programs, ours beside others."""
+import os
+import subprocess
+import sys
+import tempfile
+import time
+
+ROOT = os.path.dirname(os.path.dirname(os.path.dirname(os.path.realpath(__file__))))
+OURS = f"{ROOT}/crates/oncrpc/out/oncrpc"
+CALLS_OF_OURS = f"{ROOT}/crates/oncrpc_bench/out/oncrpc_bench"
+
+
+def wall(words, given, runs=5):
+    """The least wall time in seconds, and what the run wrote."""
+    best = None
+    for _ in range(runs):
+        with open(given, "rb") as source, tempfile.TemporaryFile() as sink:
+            begun = time.perf_counter()
+            ended = subprocess.run(words, stdin=source, stdout=sink, stderr=subprocess.PIPE)
+            taken = time.perf_counter() - begun
+            sink.seek(0)
+            written = sink.read(64), os.fstat(sink.fileno()).st_size
+        if ended.returncode != 0:
+            sys.exit(f"{words}: status {ended.returncode}: {ended.stderr[:200]}")
+        best = taken if best is None else min(best, taken)
+    return best, written
+
+
+def instructions(words, given):
+    """The count of instructions by callgrind."""
+    with tempfile.TemporaryDirectory() as folder, open(given, "rb") as source:
+        out = f"--callgrind-out-file={folder}/out"
+        ended = subprocess.run(
+            ["valgrind", "--tool=callgrind", out, *words], stdin=source, stdout=subprocess.DEVNULL, stderr=subprocess.PIPE
+        )
+        for line in ended.stderr.decode(errors="replace").splitlines():
+            if "Collected" in line:
+                return int(line.split(":")[-1])
+    sys.exit(f"{words}: callgrind counted nothing: {ended.stderr[-300:]}")
+
+
+def beside(name, ours, theirs, given, units, counted=True):
+    """One line: our wall time and instructions over libtirpc's, and instructions a unit of each."""
+    mine, wrote = wall(ours, given)
+    other, _ = wall(theirs, given)
+    line = f"{name}: wall {mine / other:.2f} ({mine * 1e3:.1f} ms beside {other * 1e3:.1f} ms)"
+    if counted:
+        a, b = instructions(ours, given), instructions(theirs, given)
+        line += f", instructions {a / b:.2f} ({a / units:.2f} beside {b / units:.2f} a unit)"
+    print(line, flush=True)
+    return wrote
+
+
+def alone(name, ours, given, units):
+    """One line of ours, where there is nothing to stand beside."""
+    taken, _ = wall(ours, given)
+    print(f"{name}: {taken * 1e3:.1f} ms, {instructions(ours, given) / units:.2f} instructions a unit", flush=True)
