@@ -4,7 +4,7 @@ use crate::schema::{
     OPTIONAL, PAIR, PAIRS, SIGNED_ALIKE, SIX_BYTES, STRING, UNSIGNED, UNSIGNED_CHOICE,
     UNSIGNED_HYPER, all_kinds,
 };
-use crate::shown::calls::{is_printed, is_shown, shown, value_of};
+use crate::shown::calls::{is_shown, shown, value_of};
 use std::alloc::{AllocError, Global};
 use std::process::Abort;
 use xdr_types::{Schema, Value};
@@ -19,13 +19,9 @@ fn check_each(rt: &impl Abort, alloc: Global, rows: &[Row]) {
     }
 }
 
-// The lines are shown of the value, and the same are printed from the parts of its bytes.
 fn check(rt: &impl Abort, alloc: Global, schema: &Schema, place: u32, text: &str, lines: &str) {
     let value = value_of(rt, alloc, schema, place, text);
-    let bytes = hex::decode(alloc, text).expect(rt, text);
-    let right = is_shown(alloc, schema, place, &value, lines)
-        && is_printed(alloc, schema, place, &bytes, lines.as_bytes());
-    if !right {
+    if !is_shown(alloc, schema, place, &value, lines) {
         panic!(*rt; "{lines}");
     }
 }
