@@ -1,9 +1,10 @@
 /* Calls of a registry over one TCP connection to 127.0.0.1, so many unanswered at a time; prints the calls a second. Each
  * reply is looked at: its xid is the next one's, and it is SUCCESS.
- * usage: registry_load PORT fill|null|getaddr|setunset|dump|udp-null|udp-getaddr COUNT WINDOW ROWS
+ * usage: registry_load PORT fill|null|getaddr|getother|setunset|dump|fill-udp|udp-null|udp-getaddr COUNT WINDOW ROWS
  * A work that begins with udp- goes by datagrams, one a call, of which none may be lost.
- * fill sets COUNT rows after the first ROWS; getaddr asks for rows that lie all over the first ROWS; setunset sets a row
- * that is not there and removes it. A SET or an UNSET whose result is FALSE is counted, and said at the end. */
+ * fill sets COUNT rows after the first ROWS, and fill-udp rows of udp; getaddr asks for rows that lie all over the first
+ * ROWS, and getother for versions of their programs that are not registered; setunset sets a row that is not there and
+ * removes it. A SET or an UNSET whose result is FALSE is counted, and said at the end. */
 #include <arpa/inet.h>
 #include <errno.h>
 #include <fcntl.h>
@@ -18,6 +19,7 @@
 enum { FIRST = 0x20000000, ROOM = 1 << 16, KEPT = 1 << 21 };
 static unsigned char call[256], out[ROOM], in[KEPT];
 static size_t made;
+static const char *netid = "tcp";
 static void word(uint32_t v) {
     uint32_t wire = htonl(v);
     memcpy(call + made, &wire, 4);
@@ -30,19 +32,20 @@ static void text(const char *s) {
     memcpy(call + made, s, n);
     made += (n + 3) & ~3u;
 }
-static void rpcb(uint32_t prog, const char *at) {
-    word(prog), word(1), text("tcp"), text(at), text("");
+static void rpcb(uint32_t prog, uint32_t vers, const char *at) {
+    word(prog), word(vers), text(netid), text(at), text("");
 }
 static void make(const char *work, uint32_t xid, uint32_t rows) {
-    uint32_t prog = FIRST + rows + xid - 1, proc = 0;
+    uint32_t prog = FIRST + rows + xid - 1, proc = 0, vers = 1;
     const char *at = "127.0.0.1.8.1";
     made = 4;
-    if (!strcmp(work, "fill")) proc = 1;
-    if (!strcmp(work, "getaddr")) proc = 3, prog = FIRST + xid * 2654435761u % rows, at = "";
+    if (!strncmp(work, "fill", 4)) proc = 1;
+    if (!strncmp(work, "get", 3)) proc = 3, prog = FIRST + xid * 2654435761u % rows, at = "";
+    if (!strcmp(work, "getother")) vers = 2;
     if (!strcmp(work, "setunset")) proc = xid % 2 ? 1 : 2, prog = FIRST - 1;
     if (!strcmp(work, "dump")) proc = 4;
     word(xid), word(0), word(2), word(100000), word(proc ? 4 : 2), word(proc), word(0), word(0), word(0), word(0);
-    if (proc && proc != 4) rpcb(prog, at);
+    if (proc && proc != 4) rpcb(prog, vers, at);
     uint32_t header = htonl(0x80000000u | (made - 4));
     memcpy(call, &header, 4);
 }
@@ -83,8 +86,9 @@ int main(int c, char **v) {
     if (c != 6) return stop("five words are wanted");
     const char *work = v[2];
     uint32_t count = atol(v[3]), window = atol(v[4]), rows = atol(v[5]), sent = 0, got = 0, refused = 0;
-    int tells = !strcmp(work, "fill") || !strcmp(work, "setunset"), fresh = 1, s = socket(AF_INET, SOCK_STREAM, 0);
+    int tells = !strncmp(work, "fill", 4) || !strcmp(work, "setunset"), fresh = 1, s = socket(AF_INET, SOCK_STREAM, 0);
     struct sockaddr_in at = {.sin_family = AF_INET, .sin_port = htons(atoi(v[1])), .sin_addr.s_addr = htonl(INADDR_LOOPBACK)};
+    if (strstr(work, "udp")) netid = "udp";
     if (!strncmp(work, "udp-", 4)) return datagrams(&at, work + 4, count, window, rows), 0;
     if (connect(s, (void *)&at, sizeof at)) return stop("no connection");
     fcntl(s, F_SETFL, O_NONBLOCK);

@@ -14,6 +14,8 @@ HOST = "127.0.0.1"
 PORTS = {"ours": 1111, "rpcbind": 111}
 # The most rows that either is filled to, and how many calls a connection has unanswered.
 FULL, WINDOW = 1024, 256
+# How many rows of the load's both hold then: the others are their own.
+HELD = FULL - 16
 
 
 def needs():
@@ -43,8 +45,8 @@ def serve(base, folder):
 
 
 def started(words, port):
-    """A registry at a port, once it can be connected to."""
-    process = subprocess.Popen(words, stdout=subprocess.PIPE)
+    """A registry at a port, once it can be connected to. Its lines, one for each datagram, go nowhere."""
+    process = subprocess.Popen(words, stdout=subprocess.DEVNULL)
     for _ in range(200):
         with socket.socket() as tried:
             if tried.connect_ex((HOST, port)) == 0:
@@ -53,15 +55,17 @@ def started(words, port):
     sys.exit(f"{words}: nothing listens at {port}")
 
 
-def load_at(base, port, work, count, rows, window=WINDOW):
-    """The calls a second of so many calls over one connection, or by datagrams."""
-    words = [f"{base}/registry_load", str(port), work, str(count), str(window), str(rows)]
+def ended(processes):
+    """Ends registries that are no longer asked."""
+    for process in processes:
+        process.kill()
+        process.wait()
+
+
+def load(base, name, work, count, rows=1, window=WINDOW):
+    """The calls a second of so many calls of one of the two over one connection, or by datagrams."""
+    words = [f"{base}/registry_load", str(PORTS[name]), work, str(count), str(window), str(rows)]
     return float(subprocess.run(words, check=True, stdout=subprocess.PIPE).stdout)
-
-
-def load(base, name, work, count, rows=1):
-    """The same of one of the two registries."""
-    return load_at(base, PORTS[name], work, count, rows)
 
 
 def fill(base, name, own, to, old):
@@ -83,6 +87,7 @@ def side_by_side(base):
         ("setunset", 1012, {"ours": 50000, "rpcbind": 20000}),
         ("dump", 1012, {"ours": 2000, "rpcbind": 1000}),
         ("getaddr", FULL, {"ours": 400000, "rpcbind": 20000}),
+        ("getother", FULL, {"ours": 100000, "rpcbind": 20000}),
     ]:
         for name in PORTS:
             fill(base, name, rows[name], to, old)
@@ -101,25 +106,22 @@ def side_by_side(base):
 def by_datagrams(base):
     """Datagrams a second of both registries at the greatest count of rows: ours serves them after its connections."""
     count = {"ours": 400000, "rpcbind": 40000}
-    asked = 3 * 2 * count["ours"]
-    port = PORTS["ours"] + 1
-    words = [OURS, "serve", "--port", str(port), "--count", "2", "--datagrams", str(asked)]
-    ours = started(words, port)
-    rows = {"ours": 6, "rpcbind": len(subprocess.run([OURS, "info", HOST, "111"], check=True, stdout=subprocess.PIPE).stdout.splitlines()) - 1}
-    load_at(base, port, "fill", FULL - rows["ours"], 0)
+    # One connection is that which finds it listening, the other one fills it.
+    words = [OURS, "serve", "--port", str(PORTS["ours"]), "--count", "2", "--datagrams", str(2 * 3 * count["ours"])]
+    both = [started(words, PORTS["ours"]), started(["rpcbind", "-f", "-i"], PORTS["rpcbind"])]
+    for name in PORTS:
+        load(base, name, "fill-udp", HELD, 0)
     for work in ("null", "getaddr"):
         best = {name: 0.0 for name in PORTS}
         for _ in range(3):
             for name in PORTS:
-                at = port if name == "ours" else PORTS[name]
-                best[name] = max(best[name], load_at(base, at, f"udp-{work}", count[name], FULL - max(rows.values()), 64))
+                best[name] = max(best[name], load(base, name, f"udp-{work}", count[name], HELD, 64))
         print(
-            f"serve, {work} by datagram, {FULL} rows: {best['ours']:,.0f} calls a second beside {best['rpcbind']:,.0f}:"
-            f" {best['ours'] / best['rpcbind']:.1f} times as many",
+            f"serve, {work} by datagram, {HELD} rows of the load's: {best['ours']:,.0f} calls a second beside"
+            f" {best['rpcbind']:,.0f}: {best['ours'] / best['rpcbind']:.1f} times as many",
             flush=True,
         )
-    ours.kill()
-    ours.wait()
+    ended(both)
 
 
 NULL = struct.pack(">11I", 0x80000028, 1, 0, 2, 100000, 2, 0, 0, 0, 0, 0)
@@ -184,8 +186,6 @@ def inside(base):
     ours = started([OURS, "serve", "--port", str(PORTS["ours"]), "--count", "1000000"], PORTS["ours"])
     theirs = started(["rpcbind", "-f", "-i"], PORTS["rpcbind"])
     side_by_side(base)
+    ended([ours, theirs])
     by_datagrams(base)
-    for process in (ours, theirs):
-        process.kill()
-        process.wait()
     hostile_connections()
