@@ -17,6 +17,7 @@ pub enum Frame<'s> {
 }
 
 /// The kind of the part that comes next.
+#[inline(always)]
 pub fn next(frame: &Frame) -> Option<KindId>
     ensures { MatchOption result (left_of frame.now ≡ []) (λ k. Begins (left_of frame.now) k.place) }
 {
@@ -31,6 +32,7 @@ pub fn next(frame: &Frame) -> Option<KindId>
 }
 
 /// The frame after its next part.
+#[inline(always)]
 pub fn after<'s>(frame: Frame<'s>) -> Frame<'s>
     ensures { left_of result ≡ rest_of (left_of frame.entry) }
 {

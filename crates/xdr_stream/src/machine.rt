@@ -1,5 +1,5 @@
 //! How reading goes on, whatever is made of the nodes.
-ghost use Rattle.std.specs.Prelude.{◌≡◌, ℕ, pos, List, [], ◌∷◌, ◌++◌, IfSome, IfOk, IfErr, OnOk, false};
+ghost use Rattle.std.specs.Prelude.{◌≡◌, ℕ, pos, List, [], ◌∷◌, ◌++◌, IfSome, IfOk, IfErr, OnOk, true, false};
 ghost use Rattle.xdr_types.specs.Kinds.{KindView};
 ghost use Rattle.xdr_units.specs.Numbers.{num4};
 ghost use Rattle.xdr_stream.specs.Frames.{left_of, rest_of, stack_of, onto};
@@ -237,6 +237,31 @@ pub(crate) fn take_number<'s, B: Build>(
     }
 }
 
+// Whether the next part begins with a unit, and is not too deep.
+#[inline(always)]
+fn is_due<'s>(
+    schema: &'s Schema,
+    limits: Limits,
+    work: &Frame<'s>,
+    parents: &Vec<Frame<'s>>,
+) -> bool
+    requires { IsSound schema.now.kinds (stack_of work.now parents.now.items) }
+    ensures ready { result ≡ true → IsReady schema.now.kinds limits Next (stack_of work.now parents.now.items) }
+    ensures starts { result ≡ true → Starts schema.now.kinds (left_of work.now) }
+{
+    let _known = schema.len();
+    let Some(id) = next(work) else {
+        return false;
+    };
+    if limits.depth() as usize <= parents.len() {
+        return false;
+    }
+    match step_of(schema.kind(id)) {
+        Step::Unit => true,
+        _ => false,
+    }
+}
+
 /// Ends and begins what takes no byte, and tells what comes next; nothing, where the value is whole.
 #[inline(always)]
 pub(crate) fn settle<'s, B: Build>(
@@ -255,6 +280,9 @@ pub(crate) fn settle<'s, B: Build>(
     ensures sound { IsSound schema.now.kinds (stack_of work.new parents.new.items) }
     ensures awaited { IfOk result (λ o. IfSome o (IsAwaited schema.now.kinds (left_of work.new))) }
 {
+    if is_due(schema, limits, work, parents) {
+        return Ok(Some(Awaits::Next));
+    }
     pass_void(schema, limits, work, parents, built)?;
     if end_nodes(work, parents, built)? {
         return Ok(None);

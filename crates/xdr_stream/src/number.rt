@@ -85,6 +85,7 @@ pub fn made_of<'s>(schema: &'s Schema, kind: &'s Kind, number: u32) -> Result<Ma
 }
 
 // The part that a discriminant picks.
+#[inline(always)]
 fn chosen<'s>(
     schema: &'s Schema,
     tag: KindId,
@@ -109,6 +110,7 @@ fn chosen<'s>(
 }
 
 // The number that a unit stands for as a discriminant, and the reason against it where it is no legal one.
+#[inline(always)]
 fn number_under(schema: &Schema, tag: KindId, number: u32) -> (i64, Reason)
     ensures number { result.0 ≡ number_in (kind_at schema.now.kinds tag.place) number }
     ensures why { IsWhy result.1 (tag_why (kind_at schema.now.kinds tag.place)) }

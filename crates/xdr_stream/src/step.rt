@@ -22,6 +22,7 @@ pub enum Step<'s> {
 }
 
 /// How a value of the kind begins.
+#[inline(always)]
 pub fn step_of<'s>(kind: &'s Kind) -> Step<'s>
     ensures { IsStep (kind_view kind.now) result }
 {

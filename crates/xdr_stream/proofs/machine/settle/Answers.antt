@@ -41,3 +41,9 @@ returns-in-Ok-clause-follows g c = λ kind q h. (
       (c.in_ok-pass_void.ensures.follows kind q h)),
   c.in-Ok.ensures.ready,
 )
+
+pub returns-then-is_due-clause-follows : goal.returns-then-is_due-clause-follows
+returns-then-is_due-clause-follows g c = λ kind q h. (h, c.is_due.ensures.ready c.if-is_due.true)
+
+pub returns-then-is_due-clause-awaited : goal.returns-then-is_due-clause-awaited
+returns-then-is_due-clause-awaited g c = c.is_due.ensures.starts c.if-is_due.true
