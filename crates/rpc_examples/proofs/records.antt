@@ -1,3 +1,4 @@
 pub mod Counted
 pub mod Refused
 pub mod Handed
+pub mod Limited

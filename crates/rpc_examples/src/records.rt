@@ -1,8 +1,10 @@
 //! Records of a stream (RFC 5531 section 11): marked, read in any pieces, and brought to their normal form.
-ghost use Rattle.std.specs.Prelude.{◌≡◌, ◌≤◌, ◌⊎◌, [], ◌∷◌, true, IfOk, IfErr, IfSome, OnOk, MatchResult, take};
-ghost use Rattle.std.specs.Io.KnownBytes.{Appends};
+ghost use Rattle.std.specs.Prelude.{◌≡◌, ◌≤◌, ◌⊎◌, ℕ, List, [], ◌∷◌, true, IfOk, IfErr, IfSome, OnOk, MatchResult};
+ghost use Rattle.std.specs.Prelude.{take, vec_len};
+ghost use Rattle.std.specs.Io.KnownBytes.{Appends, Consumes};
 ghost use Rattle.xdr_io.specs.Told.{Counts};
-ghost use Rattle.rpc_record.specs.Reading.{IsWhole};
+ghost use Rattle.rpc_record.specs.Marked.{normal};
+ghost use Rattle.rpc_record.specs.Reading.{IsWhole, RefusedIn};
 ghost use Rattle.rpc_record.specs.Stands.{Always, IsTaking, IsWaiting, IsBroken, limit_of};
 
 use rpc_record::{
@@ -100,6 +102,38 @@ pub fn hands_out_the_content(alloc: Global) -> Option<Vec<u8>>
     }
 }
 
+/// The bytes that are used end with the record's last: they are one record, whatever follows in the piece.
+pub fn uses_one_record(alloc: Global, piece: &[u8]) -> Option<usize>
+    ensures { IfSome result (λ used. (r : List ℕ) × IsWhole 100 (r ∷ []) (take used piece.now)) }
+{
+    match RecordReader::start(alloc, 100).feed(piece) {
+        Ok(RecordStep::Whole { used }) => Some(used),
+        _ => None,
+    }
+}
+
+/// A record may have as many bytes as the limit says: `80000001 61` where the limit is 1.
+pub fn takes_a_record_of_the_limit(alloc: Global) -> Result<RecordStep, RecordFault>
+    ensures { IfErr result (λ f. f ≡ RecordFault.NoMemory) }
+{
+    too_long_ends_the_stream();
+    RecordReader::start(alloc, 1).feed(&[0x80, 0, 0, 1, 0x61])
+}
+
+/// An input that ends inside a record is cut after the bytes that were taken: `800000` at 3.
+pub fn tells_where_it_was_cut(alloc: Global) -> Option<RecordFault>
+    ensures { IfSome result (λ f. f ≡ RecordFault.Truncated 3) }
+{
+    let mut reader = RecordReader::start(alloc, 100);
+    match reader.feed(&[0x80, 0, 0]) {
+        Ok(RecordStep::More) => match reader.end() {
+            Ok(()) => None,
+            Err(fault) => Some(fault),
+        },
+        _ => None,
+    }
+}
+
 /// Where the input ends well and no record waits, the bytes taken are the records handed out, and no more.
 pub fn ends_between_two_records(reader: &mut RecordReader) -> Result<(), RecordFault>
     requires { IsTaking reader.old }
@@ -127,6 +161,13 @@ pub fn keeps_at_most_the_limit(alloc: Global, piece: &[u8]) -> usize
 {
     let mut reader = RecordReader::start(alloc, 100);
     let _fed = reader.feed(piece);
+    reader.kept()
+}
+
+/// What is kept is the content of the record so far, all of it.
+pub fn counts_what_is_kept(reader: &RecordReader) -> usize
+    ensures { result ≡ vec_len reader.now.content }
+{
     reader.kept()
 }
 
@@ -194,6 +235,19 @@ pub fn keeps_two_records_apart<W: Sink>(alloc: Global, writer: &mut W) -> Result
     let mut source = MemorySource::new(&stream, 4096, None);
     let count = normalise(alloc, &mut source, writer, 100)?;
     Ok(count)
+}
+
+/// Where memory is refused, the whole records before the one that no room was found for were written.
+pub fn writes_what_was_whole<R: Source, W: Sink>(
+    alloc: Global,
+    reader: &mut R,
+    writer: &mut W,
+) -> Result<Count, RecordFault>
+    ensures { result ≡ Err RecordFault.NoMemory → (read : List ℕ) × (records : List (List ℕ))
+        × Consumes (R.left reader.old) (R.left reader.new) read × RefusedIn 100 records 4096 read
+        × Appends (W.taken writer.old) (W.taken writer.new) (normal records) }
+{
+    normalise(alloc, reader, writer, 100)
 }
 
 /// Where a record is above the limit, no read and no write failed.

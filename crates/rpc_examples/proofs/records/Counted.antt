@@ -24,7 +24,7 @@ pub nothing_is_whole : IsWhole 100 [] []
 nothing_is_whole = record { stream = refl; within = λ k d h. absurd (omega arith) }
 
 -- all of one record, or of two
-one_is : (P : List ℕ → Type 0) (x : List ℕ) → P x → All P (x ∷ [])
+pub one_is : (P : List ℕ → Type 0) (x : List ℕ) → P x → All P (x ∷ [])
 one_is P x p zero d lt = p
 one_is P x p (suc k) d lt = absurd (omega arith)
 

@@ -11,7 +11,7 @@ use Rattle.rpc_record.specs.Stands.{Always, Stands, Takes, limit_of}
 abbrev pub one_record : List ℕ
 one_record = 128 ∷ 0 ∷ 0 ∷ 1 ∷ 97 ∷ []
 
-is_marked : Marked (97 ∷ []) one_record
+pub is_marked : Marked (97 ∷ []) one_record
 unfolding header
 is_marked = record {
   firsts = [];
