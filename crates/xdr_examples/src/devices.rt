@@ -1,11 +1,14 @@
 //! Readers and writers: where bytes come from and where they go, a piece at a time.
 ghost use Rattle.std.specs.Prelude.{◌≡◌, ◌<◌, [], ◌∷◌, true, false, length, IfOk, IfErr, IfSome, IsErr, Some, vec_len};
+ghost use Rattle.std.specs.Prelude.{OnOk, Ok};
+ghost use Rattle.std.specs.Io.KnownBytes.{Appends};
 ghost use Rattle.xdr_io.specs.Told.{Counts};
 
 use std::alloc::{AllocError, Global};
+use std::io::Write;
 use xdr_io::{
-    Cut, FromRead, InputFault, MemorySink, MemorySource, ReadFault, Sink, SinkFault, Source,
-    read_past, write_whole,
+    Cut, FromRead, InputFault, IntoWrite, MemorySink, MemorySource, ReadFault, Sink, SinkFault,
+    Source, read_past, write_whole,
 };
 
 /// A read gives a piece: of three bytes in pieces of two, the first two.
@@ -42,6 +45,16 @@ pub fn counts_reads<'a>(bytes: &'a [u8]) -> MemorySource<'a>
     let _failed = source.read(&mut array);
     let _read = source.read(&mut array);
     source
+}
+
+/// What a read gave is read no more: of three bytes in pieces of two, the second read gives one.
+pub fn reads_the_rest() -> Result<usize, ReadFault>
+    ensures { IfOk result (λ count. count ≡ 1) }
+{
+    let mut array = [0; 4096];
+    let mut source = MemorySource::new(b"abc", 2, None);
+    let _first = source.read(&mut array)?;
+    source.read(&mut array)
 }
 
 /// A source over std's reader gives the reader's bytes, from the front of the array on.
@@ -130,6 +143,28 @@ pub fn writes_a_byte_a_time(room: &mut [u8]) -> Result<usize, Cut>
     Ok(sink.used())
 }
 
+/// Whatever the sink, an answer of Ok says that all went out.
+pub fn writes_all_where_it_is_well<W: Sink>(sink: &mut W) -> Result<(), Cut>
+    ensures { OnOk result (Appends (W.taken sink.old) (W.taken sink.new) (97 ∷ 98 ∷ 99 ∷ [])) }
+{
+    write_whole(sink, b"abc")
+}
+
+/// A sink over std's writer hands it the piece, where std knows what the writer holds.
+pub fn writes_a_writer_of_std<W: Write>(sink: &mut IntoWrite<W>) -> Result<usize, SinkFault>
+    ensures { result ≡ Ok 3
+        → Appends (W.contents sink.old.writer) (W.contents sink.new.writer) (97 ∷ 98 ∷ 99 ∷ []) }
+{
+    sink.write(b"abc")
+}
+
+/// To take nothing of a piece that has some is a failed write, of a lent sink too.
+pub fn counts_a_write_of_nothing<W: Sink>(sink: &mut &mut W) -> Result<usize, SinkFault>
+    ensures { result ≡ Ok 0 → Counts 1 (W.failures sink.old.now) (W.failures sink.new.now) }
+{
+    Sink::write(sink, b"a")
+}
+
 /// A cut says exactly how many bytes went out.
 pub fn counts_what_went_out(room: &mut [u8], bytes: &[u8]) -> bool
     ensures { result ≡ true }
@@ -172,6 +207,15 @@ pub fn reads_on_after_a_failed_read() -> Result<usize, ReadFault>
     let mut source = MemorySource::new(b"abc", 4096, Some(1));
     let _failed = source.read(&mut array);
     source.read(&mut array)
+}
+
+/// A failed write takes nothing.
+pub fn takes_nothing_where_it_fails(room: &mut [u8]) -> usize
+    ensures { result ≡ 0 }
+{
+    let mut sink = MemorySink::new(room, 4096, Some(1));
+    let _failed = sink.write(b"abc");
+    sink.used()
 }
 
 /// Writes are counted, and so are those that failed.
