@@ -232,6 +232,8 @@ STREAMS = [
     (100, "80000000 80000001 61 80000000"),
     (4, "00000000"),
     (4, "8000"),
+    (0, "80000001"),
+    (0, "00000000 00000000 80000000"),
 ]
 NO_AUTH = "OpaqueAuth { flavor: 0, body: [] }"
 # What comes for a call that is exchanged, and what is told once its first record is whole.
@@ -241,9 +243,22 @@ EXCHANGED = [
         marked(octets(REPLY + "00000000 00000801")) + b"\x80",
         f"Ok(Accepted {{ xid: 1, verf: {NO_AUTH}, status: Success([0, 0, 8, 1]) }})",
     ),
+    (marked(octets(REPLY + "00000000")), f"Ok(Accepted {{ xid: 1, verf: {NO_AUTH}, status: Success([]) }})"),
+    (
+        octets("00000018" + REPLY + "00000000 80000004 00000801 80000001 00"),
+        f"Ok(Accepted {{ xid: 1, verf: {NO_AUTH}, status: Success([0, 0, 8, 1]) }})",
+    ),
     (marked(octets("00000002 00000001 00000000 00000000 00000000 00000000")), "Err(WrongXid { got: 2 })"),
     (marked(octets("00000001 00000001 00000001 00000001 00000005")), "Ok(Denied { xid: 1, why: AuthError(5) })"),
+    (marked(octets("00000000 00000001 00000001 00000001 00000001")) + b"\0", "Err(WrongXid { got: 0 })"),
     (marked(octets("00000001")), "Err(Reply(Truncated))"),
+    (marked(b""), "Err(Reply(Truncated))"),
+    (marked(call(2, 0, "")), "Err(Reply(NotAReply))"),
+    (marked(octets("00000001 00000001 00000002")), "Err(Reply(BadStatus))"),
+    (marked(octets("00000001 00000001 00000000 00000000 00000191 00000000")) + bytes(4), "Err(Reply(BadAuth))"),
+    (marked(octets(REPLY + "00000003 00")), "Err(Reply(Rest))"),
+    (octets("81000001"), "Err(Record(TooLong { at: 0 }))"),
+    (octets("00000002 0000 ffffffff"), "Err(Record(TooLong { at: 6 }))"),
     (word(2) + b"ab" + word(0x81000000), "Err(Record(TooLong { at: 6 }))"),
 ]
 # What comes for a call for all rows in version 4, the exit status and what is printed once the first record is whole.

@@ -9,14 +9,8 @@ use std::alloc::{AllocError, Global};
 pub enum Caller {
     /// AUTH_NONE with an empty body.
     Nobody,
-    /// AUTH_SYS with uid 0.
-    Root,
-    /// AUTH_SYS with uid 1000.
-    User1000,
     /// AUTH_SYS with uid 1001.
     User1001,
-    /// AUTH_SYS with uid 2^32 - 1.
-    GreatestUser,
 }
 
 /// A record and what is sent for it, in hexadecimal.
@@ -25,12 +19,6 @@ pub enum Asked {
     /// A call of version 2 to 4 with xid 1 and the registry's program: its version, procedure and arguments, and the
     /// reply from `accept_stat` on.
     Call(Caller, u32, u32, &'static str, &'static str),
-    /// The same call of another program.
-    OtherProgram(u32, &'static str),
-    /// A call of version 2 with xid 1 and this credential: the `auth_stat` with which it is denied.
-    Denied(&'static str, u32),
-    /// A record, and the whole reply.
-    Record(&'static str, &'static str),
     /// A record that nothing is sent for.
     Silent(&'static str),
 }
@@ -39,10 +27,7 @@ pub enum Asked {
 fn credential(caller: Caller) -> &'static str {
     match caller {
         Caller::Nobody => "0000000000000000",
-        Caller::Root => "00000001000000140000000000000000000000000000000000000000",
-        Caller::User1000 => "00000001000000140000000000000000000003e80000000000000000",
         Caller::User1001 => "00000001000000140000000000000000000003e90000000000000000",
-        Caller::GreatestUser => "00000001000000140000000000000000ffffffff0000000000000000",
     }
 }
 
@@ -55,26 +40,16 @@ fn digits_of(alloc: Global, asked: &Asked) -> Result<String, AllocError> {
                 "000000010000000000000002000186a0{vers:08x}{proc:08x}{cred}0000000000000000{args}"
             )
         }
-        Asked::OtherProgram(prog, _) => {
-            format!(in alloc;
-                "000000010000000000000002{prog:08x}000000020000000000000000000000000000000000000000"
-            )
-        }
-        Asked::Denied(cred, _) => {
-            format!(in alloc; "000000010000000000000002000186a00000000200000000{cred}")
-        }
-        Asked::Record(digits, _) | Asked::Silent(digits) => String::from_str(alloc, digits),
+        Asked::Silent(digits) => String::from_str(alloc, digits),
     }
 }
 
 /// What is to be sent, in hexadecimal: no digits for silence.
 fn wanted(alloc: Global, asked: &Asked) -> Result<String, AllocError> {
     match asked {
-        Asked::Call(_, _, _, _, status) | Asked::OtherProgram(_, status) => {
+        Asked::Call(_, _, _, _, status) => {
             format!(in alloc; "0000000100000001000000000000000000000000{status}")
         }
-        Asked::Denied(_, stat) => format!(in alloc; "00000001000000010000000100000001{stat:08x}"),
-        Asked::Record(_, reply) => String::from_str(alloc, reply),
         Asked::Silent(_) => Ok(String::new(alloc)),
     }
 }

@@ -1,4 +1,4 @@
-//! Replies of many bytes, and the longest credential, netid and address, with memory for them.
+//! Replies of many bytes, with memory for them.
 use crate::answers::asked::Asked::Call;
 use crate::answers::asked::Caller::Nobody;
 use crate::answers::asked::{is_sent, record};
@@ -7,7 +7,6 @@ use crate::messages::parts::{Part, joined};
 use crate::registry::calls::{EVERY_HOST, Owner, Registry, started};
 use rpc_answer::{Transport, answer};
 use std::alloc::{AllocError, Global};
-use std::test::Fail;
 
 /// An accepted reply to xid 1, up to the results of a SUCCESS.
 const SUCCESS: Part = Digits("000000010000000100000000000000000000000000000000");
@@ -102,66 +101,4 @@ fn dumps_1024_rows(rt: HostRuntime) {
     for vers in 3..5 {
         assert!(rt; dumps_rows(rt.alloc(), vers) == Some(true), "{vers}");
     }
-}
-
-// A null call with the longest body of AUTH_SYS as its credential: 255 bytes of machine name and 16 gids, 340 bytes.
-const LONG_CREDENTIAL: [Part; 6] = [
-    Digits("000000010000000000000002000186a000000002000000000000000100000154"),
-    Digits("00000001000000ff"),
-    Again(97, 255),
-    Digits("00000000020000000300000010"),
-    Again(0, 64),
-    Digits("0000000000000000"),
-];
-
-// SET of version 4 with the longest address, over `tcp` and over the longest netid, and between them GETADDR.
-const LONG_SET: [Part; 4] = [
-    Digits("000000010000000000000002000186a0000000040000000100000000000000000000000000000000"),
-    Digits("0000138800000001000000037463700000000100"),
-    Again(97, 256),
-    Digits("00000000"),
-];
-
-const LONG_FOUND: [Part; 2] = [
-    Digits("000000010000000000000002000186a0000000040000000300000000000000000000000000000000"),
-    Digits("0000138800000001000000000000000000000000"),
-];
-
-const LONG_NETID: [Part; 6] = [
-    Digits("000000010000000000000002000186a0000000040000000100000000000000000000000000000000"),
-    Digits("000013880000000100000040"),
-    Again(116, 64),
-    Digits("00000100"),
-    Again(97, 256),
-    Digits("00000000"),
-];
-
-const TRUE: Part = Digits("00000001");
-
-/// A record, and the reply.
-type Row = (&'static [Part], &'static [Part]);
-
-static ROWS: [Row; 4] = [
-    (&LONG_CREDENTIAL, &[SUCCESS]),
-    (&LONG_SET, &[SUCCESS, TRUE]),
-    (&LONG_FOUND, &[SUCCESS, Digits("00000100"), Again(97, 256)]),
-    (&LONG_NETID, &[SUCCESS, TRUE]),
-];
-
-/// Whether the record is answered so.
-fn is_row_answered(alloc: Global, directory: &mut Registry, row: &Row) -> Option<bool> {
-    let message = joined(alloc, row.0)?;
-    let wanted = joined(alloc, row.1)?;
-    let answered = answer(alloc, directory, Transport::Tcp, &message);
-    is_sent(&answered, &wanted)
-}
-
-#[test]
-fn answers_the_longest_calls(rt: HostRuntime) -> Result<(), Fail> {
-    let mut directory = started(rt.alloc())?;
-    for (number, row) in ROWS.iter().enumerate() {
-        let right = is_row_answered(rt.alloc(), &mut directory, row);
-        assert!(rt; right == Some(true), "row {number}");
-    }
-    Ok(())
 }

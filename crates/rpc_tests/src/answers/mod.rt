@@ -1,6 +1,5 @@
 //! Tests of `rpc_answer` by its public calls.
 mod asked;
-mod captured;
 mod datagrams;
 mod large;
 mod rows;

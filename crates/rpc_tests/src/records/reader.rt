@@ -1,8 +1,9 @@
 //! A reader of records call by call, and records that are marked.
-use crate::records::made::TWO;
-use rpc_record::{RecordFault, RecordReader, RecordStep, mark, write_marked};
-use std::alloc::Global;
+use rpc_record::{RecordFault, RecordReader, RecordStep, twice_as_once, write_marked};
 use xdr_io::MemorySink;
+
+/// Two records of one byte each, as they stand in their normal form.
+const TWO: [u8; 10] = [0x80, 0, 0, 1, 0x61, 0x80, 0, 0, 1, 0x62];
 
 /// A call of a reader, and what it answers.
 enum Call {
@@ -48,32 +49,15 @@ fn one_record_at_a_time(rt: HostRuntime) {
     }
 }
 
-/// Records, and what each is as one last fragment.
-static MARKED: [(&[u8], &[u8]); 2] = [
-    (b"", &[0x80, 0, 0, 0]),
-    (b"abc", &[0x80, 0, 0, 3, 0x61, 0x62, 0x63]),
-];
-
-/// Whether the record is marked so.
-fn is_marked(alloc: Global, record: &[u8], wanted: &[u8]) -> Option<bool> {
-    if record.len() > 100 {
-        return None;
-    }
-    let marked = mark(alloc, record).ok()?;
-    Some(marked.as_slice() == wanted)
-}
-
-#[test]
-fn marks_records(rt: HostRuntime) {
-    for (record, wanted) in &MARKED {
-        assert!(rt; is_marked(rt.alloc(), record, wanted) == Some(true));
-    }
-}
-
 #[test]
 fn writes_marked_records(rt: HostRuntime) {
     let mut room = [0u8; 64];
     let mut sink = MemorySink::new(&mut room, 4096, None);
     assert!(rt; write_marked(&mut sink, b"abc") == Ok(()));
     assert!(rt; sink.written() == [0x80, 0, 0, 3, 0x61, 0x62, 0x63].as_slice());
+}
+
+#[test]
+fn normalising_twice_is_normalising_once(_rt: HostRuntime) {
+    twice_as_once();
 }

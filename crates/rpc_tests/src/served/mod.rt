@@ -3,7 +3,4 @@
 mod datagram_exchanges;
 mod datagrams;
 mod exchanges;
-mod large;
 mod made;
-mod memory;
-mod rows;
