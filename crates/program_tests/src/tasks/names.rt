@@ -2,42 +2,6 @@
 use crate::tasks::harness::{Devices, PING, SOUND, check, ends, typed_within, within};
 use std::alloc::{AllocError, Global};
 
-// Two programs; the procedures have arguments of 4, 8 and 12 bytes, and a result of 8.
-const TWO: &[u8] = b"typedef int three[3];
-program A {
-   version ONE { void ZERO(void) = 0; hyper TWO(int, hyper, three) = 2; } = 1;
-   version TEN { bool BOTH(bool, int) = 7; } = 10;
-} = 4294967295;
-program B { version ONE { three BACK(three) = 2; } = 3; } = 0;
-";
-
-const FOUND: [(&[u8], &str, &[u8]); 10] = [
-    (TWO, "4294967295.1.2.1", b"ok 4, more follows\n"),
-    (TWO, "4294967295.1.2.2", b"ok 8, more follows\n"),
-    (TWO, "4294967295.1.2.3", b"ok 12, more follows\n"),
-    (TWO, "4294967295.1.2.result", b"ok 8, more follows\n"),
-    (TWO, "4294967295.10.7.1", b"ok 4, more follows\n"),
-    (TWO, "0.3.2.1", b"ok 12, more follows\n"),
-    (TWO, "0.3.2.result", b"ok 12, more follows\n"),
-    (TWO, "three", b"ok 12, more follows\n"),
-    (PING, "536870912.1.1.1", b"ok 4, more follows\n"),
-    (PING, "536870912.1.1.result", b"ok 4, more follows\n"),
-];
-
-fn is_found(alloc: Global, text: &[u8], name: &str, output: &[u8]) -> Result<bool, AllocError> {
-    let task = check(alloc, name, Some("a.x"))?;
-    let zeros = b"00000000 00000000 00000000 00000000";
-    Ok(ends(alloc, &task, text, zeros, SOUND, (0, output, b"")))
-}
-
-#[test]
-fn finds_arguments_and_results(rt: HostRuntime) -> Result<(), AllocError> {
-    for (text, name, output) in &FOUND {
-        assert!(rt; is_found(rt.alloc(), text, name, output)?, "{name}");
-    }
-    Ok(())
-}
-
 const UNKNOWN: [&str; 33] = [
     "536870912.1.0.result",
     "536870912.1.0.1",
