@@ -5,7 +5,6 @@ mod declared;
 mod directory;
 mod grammar;
 mod kinds;
-mod long;
 mod message_protocol;
 mod mount_protocol;
 mod names;
