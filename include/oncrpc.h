@@ -1,8 +1,8 @@
-/* oncrpc: proved XDR (RFC 4506) and record marking (RFC 5531 section 11) for C and C++.
+/* oncrpc: proved XDR (RFC 4506), and messages and record marking of ONC RPC (RFC 5531), for C and C++.
  *
  * Each function answers a status, one of the ONCRPC_ numbers below, and fills what the caller lends. What it promises
- * is the contract of the function of that name in crates/oncrpc_c/src, which a prover has accepted; these comments
- * retell it.
+ * is the contract of the function of that name in crates/oncrpc_c/src or crates/rpc_c/src, which a prover has accepted;
+ * these comments retell it.
  *
  * POINTERS. A pointer to bytes with a count beside it leads to so many bytes, and is not null, also where the count is
  * 0. Nothing else may write those bytes while the call runs. What a call fills (an outcome, a room, a handle) overlaps
@@ -41,7 +41,18 @@ enum {
     ONCRPC_BAD_LIMITS = 5,      /* a limit is out of its range */
     ONCRPC_NO_MEMORY = 6,       /* memory was refused */
     ONCRPC_NO_DECLARATIONS = 7, /* the handle holds no declarations */
-    ONCRPC_NO_ROOM = 8          /* the room is too small. `at`: how many bytes are needed */
+    ONCRPC_NO_ROOM = 8,         /* the room is too small. `at`, or `count` of a writer: how many bytes are needed */
+
+    /* Of messages alone. */
+    ONCRPC_NOT_A_CALL = 9,      /* no call, or less than the front of one */
+    ONCRPC_OTHER_VERSION = 10,  /* a call of another version of RPC than 2 */
+    ONCRPC_BAD_CREDENTIAL = 11, /* the credential is cut, has more than 400 bytes, or padding that is not zero */
+    ONCRPC_BAD_VERIFIER = 12,   /* the same of the verifier; of a reply's verifier all but that it is cut */
+    ONCRPC_CUT = 13,            /* the bytes end inside of a reply's numbers or its verifier */
+    ONCRPC_NOT_A_REPLY = 14,    /* the second number is not that of a reply */
+    ONCRPC_BAD_STATE = 15,      /* a reply of a state that there is not */
+    ONCRPC_BYTES_FOLLOW = 16,   /* at least one byte follows a reply without results */
+    ONCRPC_NOT_AUTH_SYS = 17    /* no body of AUTH_SYS, or more than one may have */
 };
 
 /* Why bytes are refused: `why` of an outcome with ONCRPC_REFUSED. The place is that of the unit (four bytes) or of the
@@ -87,6 +98,63 @@ typedef struct {
     void *at;
     bool live;
 } oncrpc_declarations;
+
+/* So many bytes of a message, behind so many others: input + at leads to the first of them. */
+typedef struct {
+    size_t at;
+    size_t count;
+} oncrpc_part;
+
+/* A call of version 2 of RPC: its numbers, and where its parts lie (RFC 5531 section 9). */
+typedef struct {
+    uint32_t xid;
+    uint32_t rpc_version; /* 2, or the other version of ONCRPC_OTHER_VERSION; no writer looks at it */
+    uint32_t program;
+    uint32_t version;     /* of the program */
+    uint32_t procedure;
+    uint32_t credential_flavor; /* 0 is AUTH_NONE, 1 is AUTH_SYS; others are kept as they are */
+    uint32_t verifier_flavor;
+    oncrpc_part credential; /* the body without its padding; no writer looks at the three parts */
+    oncrpc_part verifier;
+    oncrpc_part arguments; /* all that follows */
+} oncrpc_call;
+
+/* `state` of a reply: what an accepted call came to, 0 to 5, or why a call was denied. */
+enum {
+    ONCRPC_SUCCESS = 0,       /* `results`, all that follows */
+    ONCRPC_PROG_UNAVAIL = 1,
+    ONCRPC_PROG_MISMATCH = 2, /* `low` and `high`: the program's versions */
+    ONCRPC_PROC_UNAVAIL = 3,
+    ONCRPC_GARBAGE_ARGS = 4,
+    ONCRPC_SYSTEM_ERR = 5,
+    ONCRPC_RPC_MISMATCH = 6,  /* `low` and `high`: the versions of RPC */
+    ONCRPC_AUTH_ERROR = 7     /* `auth_stat` */
+};
+
+/* A reply: its numbers, and where its parts lie (RFC 5531 section 9). What its state does not speak of is 0. */
+typedef struct {
+    uint32_t xid;
+    uint32_t state;
+    uint32_t low;
+    uint32_t high;
+    uint32_t auth_stat;
+    uint32_t verifier_flavor; /* of an accepted reply */
+    oncrpc_part verifier;     /* its body without the padding; no writer looks at the two parts */
+    oncrpc_part results;      /* of ONCRPC_SUCCESS */
+} oncrpc_reply;
+
+/* The body of a credential of the flavor 1, AUTH_SYS (RFC 5531 appendix A). */
+typedef struct {
+    uint32_t stamp;
+    uint32_t uid;
+    uint32_t gid;
+    uint32_t gid_count; /* at most 16 */
+    uint32_t gids[16];  /* `gid_count` of them; a reader fills the others with 0, no writer looks at them */
+    oncrpc_part machine; /* the name of the machine, at most 255 bytes; no writer looks at it */
+} oncrpc_auth_sys;
+
+/* The greatest count of bytes of a credential or a verifier. */
+#define ONCRPC_MOST_BODY 400u
 
 /* The limits of a check, at their greatest. A depth is 1 to ONCRPC_MOST_DEPTH, where the value itself is at 1; bytes
  * are 4 to ONCRPC_MOST_BYTES and a multiple of four. */
@@ -143,6 +211,62 @@ uint32_t oncrpc_normalise(
     uint8_t *room, size_t room_count,
     size_t *written,
     oncrpc_outcome *outcome);
+
+/* ---- messages
+ *
+ * The readers take a message as it is in a datagram or a record: no header of a fragment stands before it. What they
+ * fill has places in the caller's bytes, and holds no pointer. What they refuse is told by the status alone: of the
+ * first fault in the order of the bytes, with each field 0 that is not named here.
+ *
+ * A writer fills the front of `room`, and leaves the rest of it as it was. ONCRPC_OK: `count` bytes were written.
+ * ONCRPC_NO_ROOM: `count` bytes are needed. At each status but ONCRPC_OK the room is as it was, and at each but these
+ * two `count` is 0.
+ *
+ * A writer copies what it is given and makes the message before it looks at the room, and a reader of a reply or of
+ * AUTH_SYS copies its parts: that takes memory until they return. */
+
+/* Reads a call, and takes no memory. ONCRPC_OK: each field is filled. ONCRPC_OTHER_VERSION: `xid` and `rpc_version` are
+ * told. ONCRPC_BAD_CREDENTIAL, _BAD_VERIFIER: `xid` is told, and `rpc_version` is 2. ONCRPC_NOT_A_CALL: fewer than 12
+ * bytes, a second number that is not 0, or version 2 with fewer than 24 bytes. */
+uint32_t oncrpc_call_read(const uint8_t *input, size_t input_count, oncrpc_call *call);
+
+/* Writes a call of version 2 of RPC with the xid, the program, its version, the procedure and the two flavors of
+ * `call`, and with these bodies and arguments. ONCRPC_OK, _NO_ROOM. _BAD_CREDENTIAL, and else _BAD_VERIFIER: more than
+ * ONCRPC_MOST_BODY bytes. _NO_MEMORY. */
+uint32_t oncrpc_call_write(
+    const oncrpc_call *call,
+    const uint8_t *credential, size_t credential_count,
+    const uint8_t *verifier, size_t verifier_count,
+    const uint8_t *arguments, size_t arguments_count,
+    uint8_t *room, size_t room_count,
+    size_t *count);
+
+/* Reads a reply. ONCRPC_OK: the bytes are one, all of them. ONCRPC_CUT, _NOT_A_REPLY, _BAD_STATE, _BAD_VERIFIER,
+ * _BYTES_FOLLOW, _NO_MEMORY: each field is 0. */
+uint32_t oncrpc_reply_read(const uint8_t *input, size_t input_count, oncrpc_reply *reply);
+
+/* Writes a reply with the xid and the state of `reply`, and with what that state speaks of: an accepted reply has the
+ * verifier's flavor and these bytes as its body, ONCRPC_SUCCESS these results; where a state has no verifier or no
+ * results, those bytes are not looked at. ONCRPC_OK, _NO_ROOM. _BAD_STATE: the state is above 7. _BAD_VERIFIER: more
+ * than ONCRPC_MOST_BODY bytes. _NO_MEMORY. */
+uint32_t oncrpc_reply_write(
+    const oncrpc_reply *reply,
+    const uint8_t *verifier, size_t verifier_count,
+    const uint8_t *results, size_t results_count,
+    uint8_t *room, size_t room_count,
+    size_t *count);
+
+/* Reads the body of a credential of the flavor AUTH_SYS: input + call.credential.at of a call. ONCRPC_OK: the bytes are
+ * such a body, all of them. ONCRPC_NOT_AUTH_SYS, _NO_MEMORY: each field is 0. */
+uint32_t oncrpc_auth_sys_read(const uint8_t *input, size_t input_count, oncrpc_auth_sys *auth);
+
+/* Writes such a body, with the numbers and the first `gid_count` gids of `auth` and this name of a machine.
+ * ONCRPC_OK, _NO_ROOM. _NOT_AUTH_SYS: more than 16 gids or 255 bytes of name. _NO_MEMORY. */
+uint32_t oncrpc_auth_sys_write(
+    const oncrpc_auth_sys *auth,
+    const uint8_t *machine, size_t machine_count,
+    uint8_t *room, size_t room_count,
+    size_t *count);
 
 #ifdef __cplusplus
 }

@@ -1,0 +1,14 @@
+-- What writing leaves in the room that the caller lends.
+use Rattle.std.specs.Prelude.{◌≡◌, ◌<◌, ℕ, List, ◌++◌, length, drop}
+use Rattle.rpc_c.specs.declared.answer.Answer.{Answer}
+use Rattle.rpc_c.specs.declared.answer.Answer.TheVariants as answer
+
+-- the bytes stand at the front of the room, whose other bytes stay; or the room has too few for them and stays
+abbrev pub IsPlaced : (bytes old new : List ℕ) → (count : ℕ) → Answer → Type 0
+IsPlaced bytes old new count answer.Whole = (count ≡ length bytes) × (new ≡ bytes ++ drop (length bytes) old)
+IsPlaced bytes old new count answer.NoRoom = (count ≡ length bytes) × (length old < length bytes) × (new ≡ old)
+IsPlaced bytes old new count _ = ⊥
+
+-- nothing is written
+abbrev pub IsKept : (old new : List ℕ) → (count : ℕ) → Type 0
+IsKept old new count = (new ≡ old) × (count ≡ 0)
