@@ -19,9 +19,9 @@ use super::failure::{Failure, report};
 use super::given::{Given, given_over};
 use super::judge::{judge_bytes, judge_over};
 use std::alloc::Global;
-use xdr_codec::{Reason, parts};
+use xdr_codec::Reason;
 use xdr_io::{Sink, Source, write_whole};
-use xdr_show::show_parts;
+use xdr_show::show_bytes;
 use xdr_types::{KindId, Limits, Schema};
 
 /// Checks that the input begins with a value of the kind, and prints one line: `ok N`, or `ok N, more follows` where
@@ -259,8 +259,8 @@ fn lines_of(
     ensures memory { IfErr result (λ f. f ≡ Failure.NoMemory) }
 {
     let _range = limits.depth();
-    match parts(alloc, schema, kind, limits, bytes) {
-        Ok(lent) => Ok(show_parts(alloc, schema, &lent)?),
+    match show_bytes(alloc, schema, kind, limits, bytes) {
+        Ok(lines) => Ok(lines),
         Err(fault) if fault.why == Reason::NoMemory => Err(Failure::NoMemory),
         Err(_) => unreachable!(),
     }

@@ -1,6 +1,8 @@
 //! The parts of a value as lines.
-ghost use Rattle.std.specs.Prelude.{◌≡◌, ◌++◌, ℕ, List, IfOk, OnOk};
+ghost use Rattle.std.specs.Prelude.{◌≡◌, ◌<◌, ◌++◌, ℕ, List, length, IfOk, IfErr, OnOk};
 ghost use Rattle.xdr_types.specs.Tree.{Tree};
+ghost use Rattle.xdr_types.specs.Outcome.{Outcome, Whole};
+ghost use Rattle.xdr_stream.specs.Finish.{EndsWith};
 ghost use Rattle.xdr_show.specs.Lent.{ArePartsOf};
 ghost use Rattle.xdr_show.specs.Shown.{show_text};
 ghost use Rattle.xdr_show.specs.Private.Read.{line_lent, IsReadable};
@@ -8,8 +10,42 @@ ghost use Rattle.xdr_show.specs.Private.Read.{line_lent, IsReadable};
 use crate::line::push_line;
 use crate::reading::head_of_part;
 use std::alloc::Global;
-use xdr_parts::Lent;
-use xdr_types::{NoMemory, Schema};
+use xdr_parts::{Lent, parts};
+use xdr_stream::{DecodeFault, Reason};
+use xdr_types::{KindId, Limits, NoMemory, Schema};
+
+/// The lines of the value whose encoding begins the input (RFC 4506 section 4): the same that `show` prints, and no
+/// value is made.
+///
+/// A fault is that of `parts`, and so of `decode`: where no value within the limits begins the input, `why` and `at`
+/// say it, `Truncated` at the count of bytes where the input ends inside one. For `NoMemory` `at` is at most the count
+/// of bytes.
+///
+/// Memory is that of the value's parts and of the lines.
+pub fn show_bytes(
+    alloc: Global,
+    schema: &Schema,
+    kind: KindId,
+    limits: Limits,
+    input: &[u8],
+) -> Result<Vec<u8>, DecodeFault>
+    requires { kind.place < length schema.now.kinds }
+    ensures lines { IfOk result (λ text. (v : Tree) × (n : ℕ)
+        × Outcome schema.now.kinds kind.place limits input.now (Whole v n)
+        × (text.items ≡ show_text schema.now.kinds kind.place v)) }
+    ensures fault { IfErr result (λ f. EndsWith schema.now.kinds kind.place limits input.now f) }
+{
+    match parts(alloc, schema, kind, limits, input) {
+        Ok(lent) => match show_parts(alloc, schema, &lent) {
+            Ok(text) => Ok(text),
+            Err(_) => Err(DecodeFault {
+                why: Reason::NoMemory,
+                at: 0,
+            }),
+        },
+        Err(fault) => Err(fault),
+    }
+}
 
 /// The lines of a value (RFC 4506 section 4), printed from its parts: the same that `show` prints, and no value is
 /// made. The parts are all that `parts` lent of one value, in their order, and the schema is that of this value.
