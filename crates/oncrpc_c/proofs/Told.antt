@@ -7,6 +7,7 @@ use Rattle.oncrpc_c.specs.declared.outcome.Outcome.{Outcome}
 use Rattle.oncrpc_c.specs.Answers.{IsRightByText}
 use Rattle.oncrpc_c.specs.Held.{IsReading, IsRightByHeld}
 use Rattle.oncrpc_c.specs.Normal.{IsMarked}
+use Rattle.oncrpc_c.specs.Shown.{IsShownByHeld}
 use Rattle.oncrpc_c.specs.Statuses.{status_of, outcome_of, at_place}
 
 pub whole_told : (text name : List ℕ) (depth bytes : ℕ) (input : List ℕ) (a : Answer)
@@ -76,3 +77,17 @@ room_told limit input old new written answer.BadLimits r e = r.1
 room_told limit input old new written answer.NoMemory r e = r
 room_told limit input old new written answer.NoDeclarations r e = absurd r
 room_told limit input old new written (answer.NoRoom n) r e = r.1
+
+pub shown_told : (held : Option Declared) (name : List ℕ) (depth bytes : ℕ) (input old new : List ℕ) (written : ℕ)
+    (a : Answer) → IsShownByHeld held name depth bytes input old new written a → 8 ≡ status_of a
+    → (new ≡ old) × (written ≡ 0)
+shown_told None name depth bytes input old new written a r e = r.1
+shown_told (Some d) name depth bytes input old new written (answer.Whole used) r e = absurd (omega (arith, e))
+shown_told (Some d) name depth bytes input old new written (answer.Followed used) r e = absurd (omega (arith, e))
+shown_told (Some d) name depth bytes input old new written (answer.Refused f) r e = absurd (omega (arith, e))
+shown_told (Some d) name depth bytes input old new written (answer.Undeclared f) r e = absurd (omega (arith, e))
+shown_told (Some d) name depth bytes input old new written answer.NoKind r e = r.1
+shown_told (Some d) name depth bytes input old new written answer.BadLimits r e = r.2
+shown_told (Some d) name depth bytes input old new written answer.NoMemory r e = absurd (omega (arith, e))
+shown_told (Some d) name depth bytes input old new written answer.NoDeclarations r e = absurd (omega (arith, e))
+shown_told (Some d) name depth bytes input old new written (answer.NoRoom n) r e = r.shown.1

@@ -1,5 +1,5 @@
 -- What marking the records of a buffer anew leaves in another (RFC 5531 section 11).
-use Rattle.std.specs.Prelude.{◌≡◌, ℕ, ◌<◌, List, ◌++◌, length, drop, Option, None, Some}
+use Rattle.std.specs.Prelude.{◌≡◌, ℕ, ◌<◌, List, length, Option, None, Some}
 use Rattle.rpc_record.specs.Marked.{normal, Longest}
 use Rattle.rpc_record.specs.Reading.{IsWhole, IsInside, TooLongAt}
 use Rattle.xdr_stream.specs.declared.fault.DecodeFault.{DecodeFault}
@@ -7,6 +7,7 @@ use Rattle.xdr_stream.specs.declared.fault.Reason.{Reason}
 use Rattle.xdr_stream.specs.declared.fault.Reason.TheVariants as reason
 use Rattle.oncrpc_c.specs.declared.answer.Answer.{Answer}
 use Rattle.oncrpc_c.specs.declared.answer.Answer.TheVariants as answer
+use Rattle.oncrpc_c.specs.Room.{IsPut, IsKept}
 
 -- why the input is no stream of records within the limit, behind these records: a header that passes the limit, or the
 -- input's end inside the next record
@@ -26,11 +27,6 @@ pub record IsForm (limit : ℕ) (input form : List ℕ) (end : Option DecodeFaul
   pub ends : EndsAs limit rs input end
   pub marked : form ≡ normal rs
 
--- The form stands at the front of the room, whose other bytes stay.
-pub record IsPut (form old new : List ℕ) (written : ℕ) : Type 0 where
-  pub count : written ≡ length form
-  pub front : new ≡ form ++ drop (length form) old
-
 -- The form does not go into the room.
 pub record HasNoRoom (limit : ℕ) (input old : List ℕ) (needed : ℕ) : Type 0 where
   pub form : List ℕ
@@ -38,10 +34,6 @@ pub record HasNoRoom (limit : ℕ) (input old : List ℕ) (needed : ℕ) : Type 
   pub right : IsForm limit input form end
   pub count : needed ≡ length form
   pub more : length old < needed
-
--- nothing is written
-abbrev pub IsKept : (old new : List ℕ) → (written : ℕ) → Type 0
-IsKept old new written = (new ≡ old) × (written ≡ 0)
 
 -- the answer to an input, and what stands in the room
 abbrev pub IsMarked : (limit : ℕ) → (input old new : List ℕ) → (written : ℕ) → Answer → Type 0

@@ -1,5 +1,5 @@
 -- How C sees an answer: a status, and the fields of an outcome.
-use Rattle.std.specs.Prelude.{ℕ}
+use Rattle.std.specs.Prelude.{ℕ, Bool, true, false}
 use Rattle.xdr_stream.specs.Reasons.{reason_number}
 use Rattle.oncrpc_c.specs.declared.answer.Answer.{Answer}
 use Rattle.oncrpc_c.specs.declared.answer.Answer.TheVariants as answer
@@ -32,3 +32,9 @@ outcome_of answer.BadLimits = at_place 0
 outcome_of answer.NoMemory = at_place 0
 outcome_of answer.NoDeclarations = at_place 0
 outcome_of (answer.NoRoom needed) = at_place needed
+
+-- whether a value begins the bytes
+abbrev pub tells_value : Answer → Bool
+tells_value (answer.Whole used) = true
+tells_value (answer.Followed used) = true
+tells_value _ = false

@@ -1,6 +1,6 @@
 //! Answers, and how C sees them.
 ghost use Rattle.std.specs.Prelude.{◌≡◌};
-ghost use Rattle.oncrpc_c.specs.Statuses.{status_of, outcome_of};
+ghost use Rattle.oncrpc_c.specs.Statuses.{status_of, outcome_of, tells_value};
 
 use super::outcome::Outcome;
 use xdr_codec::DecodeFault;
@@ -30,6 +30,16 @@ pub enum Answer {
 }
 
 impl Answer {
+    /// Whether it says that a value begins the bytes.
+    pub fn has_value(&self) -> bool
+        ensures { result ≡ tells_value self.now }
+    {
+        match self {
+            Answer::Whole { .. } | Answer::Followed { .. } => true,
+            _ => false,
+        }
+    }
+
     /// The number that C sees.
     pub fn status(&self) -> u32
         ensures { result ≡ status_of self.now }

@@ -31,7 +31,8 @@ pub fn answer_by(
     }
 }
 
-fn kind_named(declared: &Declared, name: &[u8]) -> Option<KindId>
+/// The kind that the name names, which is no text or the name of none otherwise.
+pub fn kind_named(declared: &Declared, name: &[u8]) -> Option<KindId>
     ensures { MatchOption result (NamesNone (declared_of declared.now) name.now)
         (λ kind. Names (declared_of declared.now) name.now kind.place) }
 {

@@ -1,5 +1,5 @@
 //! Declarations that are read once, and asked many times.
-ghost use Rattle.std.specs.Prelude.{◌≡◌, Some, None, option_map};
+ghost use Rattle.std.specs.Prelude.{◌≡◌, None, option_map};
 ghost use Rattle.xdr_lang.specs.Views.{declared_of};
 ghost use Rattle.oncrpc_c.specs.Held.{IsReading, IsRightByHeld};
 ghost use Rattle.oncrpc_c.specs.Statuses.{status_of, outcome_of};
@@ -8,42 +8,10 @@ ghost use Rattle.oncrpc_c.specs.declared.answer.Answer.{Answer as AnswerSpec};
 use super::answer::Answer;
 use super::asking::answer_by;
 use super::handle::Handle;
-use super::loose::Loose;
+use super::held::{keep, taken};
 use super::outcome::Outcome;
 use super::unread::{Unread, read_text};
 use std::alloc::Global;
-use std::mem::replace;
-use std::ptr::null_mut;
-use xdr_lang::Declared;
-
-fn nowhere() -> *mut u8 {
-    null_mut()
-}
-
-fn opened(alloc: Global, handle: Handle) -> Option<Box<Declared>>
-    ensures { option_map (λ b. b.value) result ≡ handle.declared }
-{
-    match handle.opened(alloc) {
-        Some(loose) => Some(loose.into_box()),
-        None => None,
-    }
-}
-
-/// Takes the declarations out, and leaves none.
-fn taken(alloc: Global, handle: &mut Handle) -> Option<Box<Declared>>
-    ensures taken { option_map (λ b. b.value) result ≡ handle.old.declared }
-    ensures left { handle.new.declared ≡ None }
-{
-    let at = nowhere();
-    opened(alloc, replace(handle, Handle::none(at)))
-}
-
-/// Keeps these declarations; what was held before is freed.
-fn keep(alloc: Global, handle: &mut Handle, declared: Box<Declared>)
-    ensures { handle.new.declared ≡ Some declared.value }
-{
-    let _before = opened(alloc, replace(handle, Handle::of(Loose::of(declared))));
-}
 
 /// Reads the text into the handle, which holds none where it is refused.
 fn read_into(alloc: Global, text: &[u8], handle: &mut Handle) -> Answer

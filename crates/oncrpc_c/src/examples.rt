@@ -9,6 +9,7 @@ use super::declarations::{
 use super::handle::Handle;
 use super::normal::oncrpc_normalise;
 use super::outcome::Outcome;
+use super::show::oncrpc_declarations_show;
 use std::alloc::Global;
 
 /// Status 0 tells how many bytes the input has, and nothing else.
@@ -69,4 +70,34 @@ pub fn leaves_small_room(
     ensures { result ≡ 8 → (room.new ≡ room.old) × (written.new ≡ 0) }
 {
     oncrpc_normalise(alloc, input, 65536, room, written, outcome)
+}
+
+/// Room for too few lines stays as it was.
+pub fn shows_nothing_in_small_room(
+    alloc: Global,
+    handle: &mut Handle,
+    input: &[u8],
+    room: &mut [u8],
+    written: &mut usize,
+    outcome: &mut Outcome,
+) -> u32
+    ensures { result ≡ 8 → (room.new ≡ room.old) × (written.new ≡ 0) }
+{
+    oncrpc_declarations_show(alloc, handle, b"int", 1, 4, input, room, written, outcome)
+}
+
+/// Lines are shown by declarations that were read.
+pub fn shows_by_what_was_read(
+    alloc: Global,
+    text: &[u8],
+    handle: &mut Handle,
+    room: &mut [u8],
+    written: &mut usize,
+    outcome: &mut Outcome,
+) -> (u32, u32)
+    ensures { result.0 ≡ 0 → result.1 ≢ 7 }
+{
+    let read = oncrpc_declarations_read(alloc, text, handle, outcome);
+    let show = oncrpc_declarations_show(alloc, handle, b"int", 1, 4, b"", room, written, outcome);
+    (read, show)
 }

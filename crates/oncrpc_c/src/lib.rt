@@ -11,10 +11,13 @@ mod declarations;
 mod examples;
 mod gathered;
 mod handle;
+mod held;
 mod judge;
 mod loose;
 mod normal;
 mod outcome;
+mod room;
+mod show;
 mod unread;
 
 pub use check::oncrpc_check;
@@ -24,3 +27,4 @@ pub use declarations::{
 pub use handle::Handle;
 pub use normal::oncrpc_normalise;
 pub use outcome::Outcome;
+pub use show::oncrpc_declarations_show;

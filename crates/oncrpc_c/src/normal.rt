@@ -1,5 +1,5 @@
 //! Records of one buffer, marked anew into another.
-ghost use Rattle.std.specs.Prelude.{◌≡◌, ◌≤◌, ◌++◌, length, drop, IfOk};
+ghost use Rattle.std.specs.Prelude.{◌≡◌, ◌≤◌, IfOk};
 ghost use Rattle.oncrpc_c.specs.Normal.{IsForm, IsMarked};
 ghost use Rattle.oncrpc_c.specs.Statuses.{status_of, outcome_of};
 ghost use Rattle.oncrpc_c.specs.declared.answer.Answer.{Answer as AnswerSpec};
@@ -7,6 +7,7 @@ ghost use Rattle.oncrpc_c.specs.declared.answer.Answer.{Answer as AnswerSpec};
 use super::answer::Answer;
 use super::gathered::Gathered;
 use super::outcome::Outcome;
+use super::room::put;
 use rpc_record::{NoMemory, RecordFault, normalise};
 use std::alloc::Global;
 use xdr_codec::{DecodeFault, Reason};
@@ -46,14 +47,6 @@ fn normal_form(
     }
 }
 
-/// Puts the bytes at the front of the room.
-fn put(room: &mut [u8], bytes: &[u8])
-    requires { length bytes.now ≤ length room.old }
-    ensures { room.new ≡ bytes.now ++ drop (length bytes.now) room.old }
-{
-    room[..bytes.len()].copy_from_slice(bytes);
-}
-
 /// Puts the normal form of the input's records into the room.
 fn mark_into(
     alloc: Global,
@@ -71,11 +64,9 @@ fn mark_into(
     let Ok((end, form)) = normal_form(alloc, input, limit) else {
         return Answer::NoMemory;
     };
-    if room.len() < form.len() {
+    if !put(room, &form, written) {
         return Answer::NoRoom { needed: form.len() };
     }
-    put(room, &form);
-    *written = form.len();
     match end {
         None => Answer::Whole { used: form.len() },
         Some(fault) => Answer::Refused(fault),

@@ -1,0 +1,28 @@
+-- The lines of the value that the answer tells of go into the room, or do not.
+use Rattle.std.proofs.Common.{◌≡◌, ℕ, length, true, rules}
+use Rattle.xdr_show.specs.Shown.{show_text}
+use Rattle.oncrpc_c.specs.Answers.{Question, BeginsWithValue}
+use Rattle.oncrpc_c.specs.Statuses.{tells_value}
+use Rattle.oncrpc_c.proofs.Showing.{lines_shown, no_room}
+use Rattle.oncrpc_c.proofs.show.show_into.Goals as goal
+
+pub returns-then-put : goal.returns-then-put
+returns-then-put c =
+    let q : Question =
+    record { kinds = c.args.schema.now.kinds; place = c.args.kind.place; limits = c.args.limits } in
+    let tells : tells_value c.judge-answer.result ≡ true = search rules in
+    lines_shown q c.args.input.now c.deref.result.now (rw c.deref.ensures.value c.in-Ok.ensures) c.args.room.now
+    c.put.new.room c.put.new.written c.judge-answer.result c.judge-answer.ensures tells
+    (c.put.ensures.put (search rules))
+
+pub returns : goal.returns
+returns c =
+    let q : Question =
+    record { kinds = c.args.schema.now.kinds; place = c.args.kind.place; limits = c.args.limits } in
+    let tells : tells_value c.judge-answer.result ≡ true = search rules in
+    let len : c.len.result ≡ length c.in-Ok.lines.items = search rules in (
+      rw len (no_room q c.args.input.now c.in-Ok.lines.items c.in-Ok.ensures c.args.room.now
+          c.judge-answer.result c.judge-answer.ensures tells
+          (rw c.deref.ensures.value at c.put.ensures.small (search rules))),
+      c.put.ensures.kept (search rules),
+    )
