@@ -193,6 +193,23 @@ uint32_t oncrpc_declarations_check(
     const uint8_t *input, size_t input_count,
     oncrpc_outcome *outcome);
 
+/* Puts the lines of the value that begins the input into `room`, by declarations that were read: one for each part, in
+ * the order of the bytes, a node before those inside it, two spaces further in, each ended by a newline, as `oncrpc show`
+ * prints them (docs/FORMATS.md). No zero ends them. The declarations stay, whatever the status is.
+ *
+ * ONCRPC_OK, _MORE_FOLLOWS: `written` says how many bytes of the room were written, from its first on; the others are as
+ * they were. ONCRPC_NO_ROOM: `at` of the outcome says how many bytes of room are needed. At any status but the first two
+ * the room is as it was, and `written` is 0.
+ * ONCRPC_OK, _MORE_FOLLOWS, _REFUSED, _NO_KIND, _BAD_LIMITS, _NO_MEMORY, _NO_DECLARATIONS, _NO_ROOM. */
+uint32_t oncrpc_declarations_show(
+    oncrpc_declarations *declarations,
+    const uint8_t *name, size_t name_count,
+    uint32_t depth, uint32_t bytes,
+    const uint8_t *input, size_t input_count,
+    uint8_t *room, size_t room_count,
+    size_t *written,
+    oncrpc_outcome *outcome);
+
 /* Gives back what `declarations` holds, if anything. It then holds none, so that a second call does nothing. */
 void oncrpc_declarations_free(oncrpc_declarations *declarations);
 
