@@ -331,6 +331,15 @@ def refused_cases(heap):
                 yield changed, lambda told, changed=changed, is_well=is_well: is_well(told, changed)
 
 
+def room_cases(heap):
+    """A stream of calls meets a growth more for each call more, that of its record: a reply's room is kept."""
+    streams = [Case("serve", (4096, 0), given=marked(NULL) * count, after=ASKED_AFTER) for count in (1, 2, 3, 32, 64)]
+    first = run(streams[:1], LD_PRELOAD=heap)[0].met
+    for case in streams:
+        growths = first + len(case.given) // len(marked(NULL)) - 1
+        yield case, lambda told, growths=growths: told.met == growths > 0
+
+
 def free_cases():
     """Calls that take no memory, whatever the lengths that their bytes declare."""
     asked = [
