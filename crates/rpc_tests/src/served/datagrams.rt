@@ -162,6 +162,25 @@ fn answers_each_datagram(rt: HostRuntime) {
     }
 }
 
+/// Whether two of three datagrams are served, and then the third by the next call: it was left in the port.
+fn is_third_left(alloc: Global) -> Option<bool> {
+    let mut directory = started(alloc).ok()?;
+    let (null, set) = (bytes_of(alloc, &[NULL_CALL])?, bytes_of(alloc, &[SET])?);
+    let asked = bytes_of(alloc, &[GETPORT])?;
+    let (mut room, mut sizes) = ([0u8; 128], [0usize; 4]);
+    let waiting = [null.as_slice(), set.as_slice(), asked.as_slice()];
+    let mut port = MemoryPort::new(&waiting, &mut room, &mut sizes, None);
+    let two = serve_datagrams(alloc, &mut port, 2, &mut directory);
+    let are_two = two == BOTH && are_sent(alloc, &port, &[NULL_REPLY, IS_SET])?;
+    let one = serve_datagrams(alloc, &mut port, 1, &mut directory);
+    Some(are_two && one == ONE && are_sent(alloc, &port, &[NULL_REPLY, IS_SET, PORT])?)
+}
+
+#[test]
+fn leaves_the_next_datagram_in_the_port(rt: HostRuntime) {
+    assert!(rt; is_third_left(rt.alloc()) == Some(true));
+}
+
 /// Rows that one registry serves one after another.
 type Rows = [Row; 2];
 
