@@ -70,6 +70,11 @@ impl Clients {
             next: 0,
         }
     }
+
+    /// How many connections were handed out.
+    pub fn handed_out(&self) -> usize {
+        self.next
+    }
 }
 
 impl Listener for Clients {

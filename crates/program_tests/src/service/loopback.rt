@@ -68,11 +68,18 @@ const GETPORT: &str =
 
 const GETPORT_REPLY: &str = "00000002 00000001 00000000 00000000 00000000 00000000 00000801";
 
+// GETPORT of another client, of version 2 of the registry's own program over UDP, and the reply to that.
+const OWN_GETPORT: &str =
+    "00000003 00000000 00000002 000186a0 00000002 00000003 00000000 00000000 00000000 00000000
+000186a0 00000002 00000011 00000000";
+
+const OWN_GETPORT_REPLY: &str = "00000003 00000001 00000000 00000000 00000000 00000000 0000006f";
+
 // A client over UDP that has sent its datagram.
-fn datagram_client(rt: &HostRuntime, port: u16) -> Result<ClientPort, Fail> {
+fn datagram_client(rt: &HostRuntime, port: u16, digits: &str) -> Result<ClientPort, Fail> {
     let server = SocketAddr::from((Ipv4Addr::LOCALHOST, port));
     let mut client = ClientPort::connect(rt, server)?;
-    client.send(&bytes(rt.alloc(), GETPORT)?)?;
+    client.send(&bytes(rt.alloc(), digits)?)?;
     Ok(client)
 }
 
@@ -83,14 +90,16 @@ fn receives(rt: &HostRuntime, client: &mut ClientPort, digits: &str) -> Result<b
     Ok(array.get(..n as usize) == Some(bytes(rt.alloc(), digits)?.as_slice()))
 }
 
-// A row that is set over a connection is found by a datagram, which is sent before anything is served.
+// A row that is set over a connection is found by a datagram, which is sent before anything is served. Another client's
+// datagram waits behind it, and each client gets its own reply.
 #[test]
-fn a_datagram_finds_what_a_connection_set(rt: HostRuntime) -> Result<(), Fail> {
+fn datagrams_find_what_a_connection_set(rt: HostRuntime) -> Result<(), Fail> {
     let mut listener = Loopback::bind(&rt, 0)?;
     let port = listener.port();
     let mut datagrams = LoopbackPort::bind(&rt, port)?;
     let setter = client(&rt, port, SET)?;
-    let mut asker = datagram_client(&rt, port)?;
+    let mut asker = datagram_client(&rt, port, GETPORT)?;
+    let mut other = datagram_client(&rt, port, OWN_GETPORT)?;
     let (mut out, mut err) = ([0u8; 128], [0u8; 32]);
     let mut output = MemorySink::new(&mut out, 128, None);
     let mut faults = MemorySink::new(&mut err, 32, None);
@@ -106,15 +115,17 @@ fn a_datagram_finds_what_a_connection_set(rt: HostRuntime) -> Result<(), Fail> {
     let answered = datagrams_on(
         rt.alloc(),
         &mut datagrams,
-        1,
+        2,
         &mut directory,
         &mut output,
         &mut faults,
     );
     let lines = format!(in rt.alloc();
-        "listening on 127.0.0.1 {port}\nconnection 1: 1 records, 1 replies\ndatagram 1: reply\n"
+        "listening on 127.0.0.1 {port}\nconnection 1: 1 records, 1 replies\ndatagram 1: reply\ndatagram 2: reply\n"
     )?;
     assert!(rt; served == 0 && answered == 0 && output.written() == lines.as_bytes());
-    assert!(rt; gets(&rt, &setter, SET_REPLY)? && receives(&rt, &mut asker, GETPORT_REPLY)?);
+    assert!(rt; gets(&rt, &setter, SET_REPLY)?);
+    assert!(rt; receives(&rt, &mut asker, GETPORT_REPLY)?);
+    assert!(rt; receives(&rt, &mut other, OWN_GETPORT_REPLY)?);
     Ok(())
 }

@@ -116,3 +116,30 @@ fn serving_ends_early(rt: HostRuntime) -> Result<(), Fail> {
     assert!(rt; ends(alloc, &CLIENTS, 1, Some(2), (3, listening, "write fault\n"))?);
     Ok(())
 }
+
+// How serving three clients ends where this write to the output fails, and how many connections were handed out.
+fn ends_after(alloc: Global, failing: u64) -> Result<(u8, usize), Fail> {
+    let (mut out, mut err) = ([0u8; 512], [0u8; 32]);
+    let mut output = MemorySink::new(&mut out, 512, Some(failing));
+    let mut faults = MemorySink::new(&mut err, 32, None);
+    let mut listener = Clients::new(alloc, &CLIENTS);
+    let mut directory = registry(alloc)?;
+    let status = serve_on(
+        alloc,
+        &mut listener,
+        3,
+        &mut directory,
+        &mut output,
+        &mut faults,
+    );
+    Ok((status, listener.handed_out()))
+}
+
+// The first line is printed before a client is waited for, and that of each connection before the next client is.
+#[test]
+fn lines_are_printed_before_the_next_client(rt: HostRuntime) -> Result<(), Fail> {
+    for (failing, clients) in [(1, 0), (2, 1), (3, 2)] {
+        assert!(rt; ends_after(rt.alloc(), failing)? == (3, clients));
+    }
+    Ok(())
+}
