@@ -1,4 +1,4 @@
--- What showing the value that begins an input leaves in a room, a line for each part of its layout (RFC 4506 section 4).
+-- What showing the value that begins an input leaves in a room: a line for each part of it (RFC 4506 section 4).
 use Rattle.std.specs.Prelude.{◌≡◌, ◌<◌, ℕ, List, length, Option, Some, None}
 use Rattle.xdr_types.specs.Within.{AreBounds}
 use Rattle.xdr_show.specs.Shown.{show_text}
