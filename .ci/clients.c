@@ -52,7 +52,8 @@ static int getport(char **words) {
     struct pmap row = {strtoul(words[0], 0, 10), strtoul(words[1], 0, 10), IPPROTO_TCP, 0};
     CLIENT *client = clnttcp_create(&at, PMAPPROG, PMAPVERS, &fd, 0, 0);
     if (!client) return 1;
-    if (clnt_call(client, PMAPPROC_GETPORT, (xdrproc_t)xdr_pmap, (void *)&row, (xdrproc_t)xdr_u_int, (void *)&port, wait))
+    if (clnt_call(client, PMAPPROC_GETPORT, (xdrproc_t)xdr_pmap, (void *)&row, (xdrproc_t)xdr_u_int, (void *)&port,
+                  wait))
         clnt_perror(client, "GETPORT");
     printf("%u\n", port);
     return 0;
@@ -68,7 +69,8 @@ static int askport(char **words) {
 static int getmaps(void) {
     struct sockaddr_in at = registry();
     for (struct pmaplist *row = pmap_getmaps(&at); row; row = row->pml_next)
-        printf("%lu %lu %lu %lu\n", row->pml_map.pm_prog, row->pml_map.pm_vers, row->pml_map.pm_prot, row->pml_map.pm_port);
+        printf("%lu %lu %lu %lu\n", row->pml_map.pm_prog, row->pml_map.pm_vers, row->pml_map.pm_prot,
+               row->pml_map.pm_port);
     return 0;
 }
 

@@ -68,6 +68,101 @@ static void check_held(oncrpc_declarations *held, const struct row *row) {
     judge(status == row->status && tells(&outcome, row->at, row->why), status);
 }
 
+/* The parts of a value tile its bytes, and their names the names. */
+static int are_parts(const oncrpc_value_part *parts, size_t count, size_t used, size_t names) {
+    size_t at = 0, name_at = 0;
+    for (size_t i = 0; i < count; i++) {
+        const oncrpc_value_part *part = parts + i;
+        int is_told = part->role >= ONCRPC_ROLE_NUMBER && part->role <= ONCRPC_ROLE_GROUP && part->xdr_type
+            && part->xdr_type <= ONCRPC_TYPE_VOID && part->depth && part->depth <= ONCRPC_MOST_DEPTH;
+        if (!is_told || part->at != at || part->name_at != name_at) {
+            return 0;
+        }
+        at += (part->count + 3) / 4 * 4;
+        name_at += part->name_count;
+    }
+    return at == used && name_at == names;
+}
+
+/* The parts tell of the bytes what a check tells, in room that is just enough and not in less. */
+static void list_held(oncrpc_declarations *held, const struct row *row, size_t count) {
+    oncrpc_value_part parts[40], kept[40];
+    uint8_t names[256], unwritten[256];
+    oncrpc_outcome check;
+    oncrpc_parts_outcome found = {9, 9, 9, 9}, again;
+    const uint8_t *name = (const uint8_t *)row->name, *input = (const uint8_t *)row->input;
+    size_t name_count = strlen(row->name);
+    memset(parts, '.', sizeof parts), memset(kept, '.', sizeof kept);
+    memset(names, '.', sizeof names), memset(unwritten, '.', sizeof unwritten);
+    uint32_t wanted = oncrpc_declarations_check(held, name, name_count, ONCRPC_MOST_DEPTH, ONCRPC_MOST_BYTES, input,
+        count, &check);
+    uint32_t status = oncrpc_declarations_parts(held, name, name_count, ONCRPC_MOST_DEPTH, ONCRPC_MOST_BYTES, input,
+        count, parts, 0, names, 0, &found);
+    int is_kept = !memcmp(parts, kept, sizeof parts) && !memcmp(names, unwritten, sizeof names);
+    int has_value = wanted <= ONCRPC_MORE_FOLLOWS;
+    if (wanted == ONCRPC_NO_MEMORY) {
+        judge(0, wanted);
+        return;
+    }
+    judge(is_kept && status == (has_value ? (uint32_t)ONCRPC_NO_ROOM : wanted) && found.at == check.at
+        && found.why == check.why && !found.parts == !has_value && (has_value || !found.names), status);
+    if (status != ONCRPC_NO_ROOM || found.parts > 40 || found.names > 256) {
+        return;
+    }
+    status = oncrpc_declarations_parts(held, name, name_count, ONCRPC_MOST_DEPTH, ONCRPC_MOST_BYTES, input, count,
+        parts, found.parts - 1, names, found.names, &again);
+    is_kept = !memcmp(parts, kept, sizeof parts) && !memcmp(names, unwritten, sizeof names);
+    judge(is_kept && status == ONCRPC_NO_ROOM && again.parts == found.parts && again.names == found.names, status);
+    status = oncrpc_declarations_parts(held, name, name_count, ONCRPC_MOST_DEPTH, ONCRPC_MOST_BYTES, input, count,
+        parts, found.parts, names, found.names, &again);
+    int rest_is_kept = !memcmp(parts + found.parts, kept, (40 - found.parts) * sizeof *parts)
+        && !memcmp(names + found.names, unwritten, 256 - found.names);
+    judge(rest_is_kept && status == wanted && !memcmp(&again, &found, sizeof again)
+        && are_parts(parts, again.parts, again.at, again.names), status);
+}
+
+/* A value is listed: the first part of content is the name that it spells. */
+static void check_listed(oncrpc_declarations *held) {
+    oncrpc_value_part parts[4];
+    uint8_t names[4];
+    oncrpc_parts_outcome found = {9, 9, 9, 9};
+    uint32_t status = oncrpc_declarations_parts(held, (const uint8_t *)"filename", 8, 1, 8,
+        (const uint8_t *)"\0\0\0\3abc", 8, parts, 4, names, 4, &found);
+    judge(status == ONCRPC_OK && found.at == 8 && found.parts == 2 && !found.names && !found.why
+        && parts[0].role == ONCRPC_ROLE_LENGTH && parts[0].count == 4 && parts[1].role == ONCRPC_ROLE_CONTENT
+        && parts[1].at == 4 && parts[1].count == 3 && parts[1].xdr_type == ONCRPC_TYPE_STRING
+        && parts[1].kind == parts[0].kind && parts[1].depth == 1, status);
+}
+
+/* Lines tell of the bytes what a check tells, and stand at the front of the room, where it has enough. */
+static void show_held(oncrpc_declarations *held, const struct row *row) {
+    uint8_t room[512], unwritten[512];
+    size_t written = 9;
+    oncrpc_outcome outcome = {9, 9, 9, 9, 9};
+    const uint8_t *name = (const uint8_t *)row->name, *input = (const uint8_t *)row->input;
+    int has_value = row->status <= ONCRPC_MORE_FOLLOWS;
+    memset(room, '.', sizeof room), memset(unwritten, '.', sizeof unwritten);
+    uint32_t status = oncrpc_declarations_show(held, name, strlen(row->name), ONCRPC_MOST_DEPTH, ONCRPC_MOST_BYTES,
+        input, row->count, room, 0, &written, &outcome);
+    int is_told = has_value ? status == ONCRPC_NO_ROOM && tells(&outcome, outcome.at, 0) && outcome.at
+        : status == row->status && tells(&outcome, row->at, row->why);
+    judge(is_told && !written && !memcmp(room, unwritten, sizeof room), status);
+    status = oncrpc_declarations_show(held, name, strlen(row->name), ONCRPC_MOST_DEPTH, ONCRPC_MOST_BYTES, input,
+        row->count, room, sizeof room, &written, &outcome);
+    int is_put = has_value ? written && room[written - 1] == '\n' : !written;
+    judge(status == row->status && tells(&outcome, row->at, row->why) && is_put
+        && !memcmp(room + written, unwritten, sizeof room - written), status);
+}
+
+static void check_shown(oncrpc_declarations *held) {
+    uint8_t room[8] = "........";
+    size_t written = 9;
+    oncrpc_outcome outcome;
+    uint32_t status = oncrpc_declarations_show(held, (const uint8_t *)"filename", 8, 1, 8,
+        (const uint8_t *)"\0\0\0\3abc", 8, room, sizeof room, &written, &outcome);
+    judge(status == ONCRPC_OK && tells(&outcome, 8, 0) && written == 6 && !memcmp(room, "\"abc\"\n..", 8), status);
+}
+
 static void check_by_text(const struct row *row) {
     oncrpc_outcome outcome = {9, 9, 9, 9, 9};
     uint32_t status = oncrpc_check((const uint8_t *)text, sizeof text - 1, (const uint8_t *)row->name,
@@ -176,6 +271,80 @@ static void check_credentials(void) {
     judge(status == ONCRPC_NOT_AUTH_SYS && !auth.stamp && !auth.machine.at, status);
 }
 
+/* Calls of version 2 of the registry, and what they are answered (RFC 1833 section 3): NULL, SET of program 300 in
+ * version 7 over tcp at port 2049, GETPORT of it, and of one that is not there. */
+#define ASKS(procedure) "\0\0\0\7\0\0\0\0\0\0\0\2\0\1\x86\xa0\0\0\0\2\0\0\0" procedure \
+    "\0\0\0\0\0\0\0\0\0\0\0\0\0\0\0\0"
+#define TELLS "\0\0\0\7\0\0\0\1\0\0\0\0\0\0\0\0\0\0\0\0\0\0\0\0"
+#define MAPPING(version) "\0\0\1\x2c\0\0\0" version "\0\0\0\6\0\0\x08\1"
+static const struct { const char *call; size_t count; const char *reply; size_t size; } asks[] = {
+    {ASKS("\0"), 40, TELLS, 24},
+    {ASKS("\1") MAPPING("\7"), 56, TELLS "\0\0\0\1", 28},
+    {ASKS("\3") MAPPING("\7"), 56, TELLS "\0\0\x08\1", 28},
+    {ASKS("\3") "\0\0\1\x2d\0\0\0\7\0\0\0\6\0\0\0\0", 56, TELLS "\0\0\0\0", 28},
+};
+
+static const uint8_t *bytes(const char *text) { return (const uint8_t *)text; }
+
+/* Asks with too little room, and takes the reply that waits. Where a growth was refused the reply may be SYSTEM_ERR.
+ * Says whether it was not. */
+static int check_ask(oncrpc_registry *held, size_t i) {
+    uint8_t room[64], before[64];
+    oncrpc_outcome outcome = {9, 9, 9, 9, 9}, taken = {9, 9, 9, 9, 9};
+    memset(room, '.', sizeof room);
+    memset(before, '.', sizeof before);
+    const uint8_t *call = bytes(asks[i].call);
+    uint32_t status = oncrpc_registry_answer(held, bytes("tcp"), 3, call, asks[i].count, room, 23, &outcome);
+    judge(status == ONCRPC_NO_ROOM && tells(&outcome, outcome.at, 0) && !memcmp(room, before, 64), status);
+    status = oncrpc_registry_reply(held, room, sizeof room, &taken);
+    int is_refused = refused_at && taken.at == 24 && room[23] == 5;
+    int is_told = is_refused || (taken.at == asks[i].size && !memcmp(room, asks[i].reply, taken.at));
+    int is_kept = tells(&taken, outcome.at, 0) && !memcmp(room + taken.at, before, 32);
+    judge(status == ONCRPC_OK && is_told && is_kept, status);
+    status = oncrpc_registry_reply(held, room, sizeof room, &taken);
+    judge(status == ONCRPC_SILENCE && tells(&taken, 0, 0), status);
+    wanting += is_refused;
+    return !is_refused;
+}
+
+static void check_rows(oncrpc_registry *held) {
+    oncrpc_outcome outcome = {9, 9, 9, 9, 9};
+    const uint8_t *at = bytes("0.0.0.0.8.1"), *me = bytes("1000 and more");
+    uint32_t status = oncrpc_registry_set(held, 301, 7, bytes("udp"), 3, at, 11, me, 4, &outcome);
+    judge(status == ONCRPC_OK && tells(&outcome, 0, 0), status);
+    int is_set = status == ONCRPC_OK;
+    status = oncrpc_registry_set(held, 301, 7, bytes("udp"), 3, at, 11, me, 11, &outcome);
+    judge(status == ONCRPC_UNCHANGED && tells(&outcome, 0, 0), status);
+    status = oncrpc_registry_unset(held, 301, 7, bytes("udp"), 3, me, 3, &outcome);
+    judge(status == ONCRPC_UNCHANGED && tells(&outcome, 0, 0), status);
+    status = oncrpc_registry_unset(held, 301, 7, bytes(""), 0, me, 4, &outcome);
+    judge(status == (is_set ? ONCRPC_OK : ONCRPC_UNCHANGED) && tells(&outcome, 0, 0), status);
+}
+
+static void check_registry(void) {
+    uint8_t room[64];
+    oncrpc_registry held = {0};
+    oncrpc_outcome outcome = {9, 9, 9, 9, 9};
+    uint32_t status = oncrpc_registry_start(&held, 111, bytes("0123456789abcdef"), 16, &outcome);
+    judge(status == ONCRPC_OK && tells(&outcome, 0, 0), status);
+    uint32_t none = status == ONCRPC_OK ? 0 : ONCRPC_NO_REGISTRY;
+    int is_set = 1;
+    for (size_t i = 0; !none && is_set && i < sizeof asks / sizeof *asks; i++) {
+        is_set = check_ask(&held, i);
+    }
+    if (!none) {
+        check_rows(&held);
+    }
+    status = oncrpc_registry_answer(&held, bytes("tcp6"), 4, asking, 76, room, sizeof room, &outcome);
+    judge(status == (none ? none : ONCRPC_NO_TRANSPORT) && tells(&outcome, 0, 0), status);
+    status = oncrpc_registry_answer(&held, bytes("udp"), 3, telling, 28, room, sizeof room, &outcome);
+    judge(status == (none ? none : ONCRPC_SILENCE) && tells(&outcome, 0, 0), status);
+    oncrpc_registry_free(&held);
+    oncrpc_registry_free(&held);
+    status = oncrpc_registry_unset(&held, 301, 7, bytes("udp"), 3, bytes("me"), 2, &outcome);
+    judge(status == ONCRPC_NO_REGISTRY && tells(&outcome, 0, 0), status);
+}
+
 /* Reads, checks and frees, each twice over. Says whether no growth was left to refuse. */
 static int round_of(long at, int all_later) {
     oncrpc_declarations held = {0};
@@ -186,6 +355,12 @@ static int round_of(long at, int all_later) {
         judge(status == ONCRPC_OK && tells(&outcome, 0, 0), status);
         for (size_t i = 0; status == ONCRPC_OK && i < sizeof rows / sizeof *rows; i++) {
             check_held(&held, rows + i);
+            show_held(&held, rows + i);
+            list_held(&held, rows + i, rows[i].count);
+        }
+        if (status == ONCRPC_OK) {
+            check_listed(&held);
+            check_shown(&held);
         }
     }
     check_by_text(rows);
@@ -195,12 +370,45 @@ static int round_of(long at, int all_later) {
     check_calls();
     check_replies();
     check_credentials();
+    check_registry();
     oncrpc_declarations_free(&held);
     oncrpc_declarations_free(&held);
     const uint8_t *none = (const uint8_t *)"";
     uint32_t status = oncrpc_declarations_check(&held, (const uint8_t *)"int", 3, 1, 4, none, 0, &outcome);
     judge(status == ONCRPC_NO_DECLARATIONS && tells(&outcome, 0, 0), status);
+    oncrpc_value_part part;
+    oncrpc_parts_outcome found = {9, 9, 9, 9};
+    uint8_t byte;
+    status = oncrpc_declarations_parts(&held, (const uint8_t *)"int", 3, 1, 4, none, 0, &part, 1, &byte, 1, &found);
+    judge(status == ONCRPC_NO_DECLARATIONS && !found.at && !found.parts && !found.names && !found.why, status);
     return asked < at;
+}
+
+/* Each beginning of each row, and each of its bytes changed, by parts and by a check. */
+static void list_hostile(void) {
+    oncrpc_declarations held = {0};
+    oncrpc_outcome outcome;
+    char changed[128];
+    uint32_t status = oncrpc_declarations_read((const uint8_t *)text, sizeof text - 1, &held, &outcome);
+    judge(status == ONCRPC_OK, status);
+    for (const struct row *row = rows; row < rows + sizeof rows / sizeof *rows; row++) {
+        struct row other = *row;
+        other.input = changed;
+        for (size_t i = 0; i < row->count; i++) {
+            list_held(&held, row, i);
+            for (int bit = 0; bit < 8; bit++) {
+                memcpy(changed, row->input, row->count);
+                changed[i] ^= (char)(1 << bit);
+                list_held(&held, &other, row->count);
+            }
+        }
+    }
+    oncrpc_parts_outcome found = {9, 9, 9, 9};
+    oncrpc_value_part part;
+    uint8_t byte = 0;
+    status = oncrpc_declarations_parts(&held, (const uint8_t *)"int", 3, 0, 4, &byte, 0, &part, 1, &byte, 1, &found);
+    judge(status == ONCRPC_BAD_LIMITS && !found.at && !found.parts && !found.names && !found.why, status);
+    oncrpc_declarations_free(&held);
 }
 
 /* The deepest value that a limit allows, the deepest text, and a round of all calls, on a stack of 64 KiB. */
@@ -223,14 +431,32 @@ static void check_nested(void) {
     oncrpc_declarations_free(&held);
 }
 
+/* The deepest value that the limit allows ends where a flag is 0: 2048 structures, and an optional in each. */
+static void list_deepest(const char *deep) {
+    oncrpc_declarations held = {0};
+    oncrpc_outcome outcome;
+    oncrpc_parts_outcome found = {9, 9, 9, 9};
+    oncrpc_value_part part;
+    uint8_t byte;
+    uint32_t status = oncrpc_declarations_read((const uint8_t *)deep, strlen(deep), &held, &outcome);
+    judge(status == ONCRPC_OK, status);
+    deepest[2048 * 4 - 1] = 0;
+    status = oncrpc_declarations_parts(&held, (const uint8_t *)"o", 1, ONCRPC_MOST_DEPTH, ONCRPC_MOST_BYTES, deepest,
+        sizeof deepest, &part, 1, &byte, 1, &found);
+    judge(status == ONCRPC_NO_ROOM && found.at == 8192 && found.parts == 4096 && found.names == 2048, status);
+    oncrpc_declarations_free(&held);
+}
+
 static void *check_deepest(void *unused) {
     static const char *deep = "struct o { o *x; };";
     oncrpc_outcome outcome;
     check_nested();
     round_of(0, 0);
+    list_hostile();
     uint32_t status = oncrpc_check((const uint8_t *)deep, strlen(deep), (const uint8_t *)"o", 1, ONCRPC_MOST_DEPTH,
         ONCRPC_MOST_BYTES, deepest, sizeof deepest, &outcome);
     judge(status == ONCRPC_REFUSED && outcome.why == ONCRPC_TOO_DEEP, status);
+    list_deepest(deep);
     return unused;
 }
 

@@ -7,34 +7,32 @@
 #include "oncrpc.h"
 
 /* After RFC 4506 section 7. */
-static const char text[] =
-    "const MAXUSERNAME = 32;\n"
-    "const MAXFILELEN = 65535;\n"
-    "const MAXNAMELEN = 255;\n"
-    "enum filekind { TEXT = 0, DATA = 1, EXEC = 2 };\n"
-    "union filetype switch (filekind kind) {\n"
-    "case TEXT: void;\n"
-    "case DATA: string creator<MAXNAMELEN>;\n"
-    "case EXEC: string interpretor<MAXNAMELEN>;\n"
-    "};\n"
-    "struct file {\n"
-    "   string filename<MAXNAMELEN>;\n"
-    "   filetype type;\n"
-    "   string owner<MAXUSERNAME>;\n"
-    "   opaque data<MAXFILELEN>;\n"
-    "};\n";
+static const char text[] = "const MAXUSERNAME = 32;\n"
+                           "const MAXFILELEN = 65535;\n"
+                           "const MAXNAMELEN = 255;\n"
+                           "enum filekind { TEXT = 0, DATA = 1, EXEC = 2 };\n"
+                           "union filetype switch (filekind kind) {\n"
+                           "case TEXT: void;\n"
+                           "case DATA: string creator<MAXNAMELEN>;\n"
+                           "case EXEC: string interpretor<MAXNAMELEN>;\n"
+                           "};\n"
+                           "struct file {\n"
+                           "   string filename<MAXNAMELEN>;\n"
+                           "   filetype type;\n"
+                           "   string owner<MAXUSERNAME>;\n"
+                           "   opaque data<MAXFILELEN>;\n"
+                           "};\n";
 
 /* The value that the RFC gives: the file sillyprog of john. */
-static const uint8_t input[48] =
-    "\0\0\0\11sillyprog\0\0\0"
-    "\0\0\0\2\0\0\0\4lisp"
-    "\0\0\0\4john"
-    "\0\0\0\6(quit)\0\0";
+static const uint8_t input[48] = "\0\0\0\11sillyprog\0\0\0"
+                                 "\0\0\0\2\0\0\0\4lisp"
+                                 "\0\0\0\4john"
+                                 "\0\0\0\6(quit)\0\0";
 
 static uint32_t show(oncrpc_declarations *declarations, size_t count, uint8_t *room, size_t room_count, size_t *written,
                      oncrpc_outcome *outcome) {
-    return oncrpc_declarations_show(declarations, (const uint8_t *)"file", 4, ONCRPC_MOST_DEPTH, ONCRPC_MOST_BYTES, input,
-                                    count, room, room_count, written, outcome);
+    return oncrpc_declarations_show(declarations, (const uint8_t *)"file", 4, ONCRPC_MOST_DEPTH, ONCRPC_MOST_BYTES,
+                                    input, count, room, room_count, written, outcome);
 }
 
 int main(void) {
@@ -42,7 +40,8 @@ int main(void) {
     oncrpc_outcome outcome;
     uint8_t room[256];
     size_t written;
-    if (oncrpc_declarations_read((const uint8_t *)text, sizeof text - 1, &declarations, &outcome) != ONCRPC_OK) return 1;
+    if (oncrpc_declarations_read((const uint8_t *)text, sizeof text - 1, &declarations, &outcome) != ONCRPC_OK)
+        return 1;
     uint32_t status = show(&declarations, sizeof input, room, sizeof room, &written, &outcome);
     fwrite(room, 1, written, stdout);
     printf("status %u, %zu bytes of input\n", status, outcome.at);

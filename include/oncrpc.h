@@ -1,16 +1,18 @@
-/* oncrpc: proved XDR (RFC 4506), and messages and record marking of ONC RPC (RFC 5531), for C and C++.
+/* oncrpc: proved XDR (RFC 4506), messages and record marking of ONC RPC (RFC 5531), and the registry of rpcbind (RFC
+ * 1833), for C and C++.
  *
  * Each function answers a status, one of the ONCRPC_ numbers below, and fills what the caller lends. What it promises
- * is the contract of the function of that name in crates/oncrpc_c/src or crates/rpc_c/src, which a prover has accepted;
- * these comments retell it.
+ * is the contract of the function of that name in crates/oncrpc_c/src, crates/rpc_c/src or crates/registry_c/src, which
+ * a prover has accepted; these comments retell it.
  *
  * POINTERS. A pointer to bytes with a count beside it leads to so many bytes, and is not null, also where the count is
  * 0. Nothing else may write those bytes while the call runs. What a call fills (an outcome, a room, a handle) overlaps
  * nothing else that the call is given. A call keeps no pointer: when it has returned, the bytes are the caller's again.
  *
- * MEMORY. What is kept between calls is in a handle, oncrpc_declarations, and is given back by its free. All memory
- * comes from malloc and realloc and goes to free. Where one of them refuses, the answer is ONCRPC_NO_MEMORY, nothing is
- * lost, and the call may be made again. No length or count that the input declares reserves any.
+ * MEMORY. What is kept between calls is in a handle, oncrpc_declarations or oncrpc_registry, and is given back by its
+ * free. All memory comes from malloc and realloc and goes to free. Where one of them refuses, the answer is
+ * ONCRPC_NO_MEMORY, or of oncrpc_registry_answer the reply SYSTEM_ERR, nothing is lost, and the call may be made again.
+ * No length or count that the input declares reserves any.
  *
  * THREADS. There is no state outside of the handles and no initialisation, so calls on several threads at once are well
  * where they share nothing that one of them fills. A handle stays on one thread, with one call at a time: a check
@@ -52,7 +54,13 @@ enum {
     ONCRPC_NOT_A_REPLY = 14,    /* the second number is not that of a reply */
     ONCRPC_BAD_STATE = 15,      /* a reply of a state that there is not */
     ONCRPC_BYTES_FOLLOW = 16,   /* at least one byte follows a reply without results */
-    ONCRPC_NOT_AUTH_SYS = 17    /* no body of AUTH_SYS, or more than one may have */
+    ONCRPC_NOT_AUTH_SYS = 17,   /* no body of AUTH_SYS, or more than one may have */
+
+    /* Of a registry alone. */
+    ONCRPC_NO_REGISTRY = 18,  /* the handle holds no registry */
+    ONCRPC_SILENCE = 19,      /* there is no reply: nothing is to be sent */
+    ONCRPC_NO_TRANSPORT = 20, /* the netid is neither tcp nor udp */
+    ONCRPC_UNCHANGED = 21     /* no row was added or removed */
 };
 
 /* Why bytes are refused: `why` of an outcome with ONCRPC_REFUSED. The place is that of the unit (four bytes) or of the
@@ -98,6 +106,55 @@ typedef struct {
     void *at;
     bool live;
 } oncrpc_declarations;
+
+/* A part of a value. Each node of a value has one, with the bytes that are the node's own, and not those inside it; an
+ * opaque or a string of variable size has two, its length and then its content. Places and counts are in bytes. */
+typedef struct {
+    size_t at;         /* input + at leads to the part's own bytes, */
+    size_t count;      /* which are so many; of content without the zeros that fill its last four */
+    size_t name_at;    /* names + name_at leads to its name: that of the field or the arm, */
+    size_t name_count; /* of so many bytes; 0 of the value itself and of items. No zero ends it */
+    uint32_t depth;    /* how deep its node is; the value itself is at 1 */
+    uint32_t kind;     /* which kind of the declarations its node has: the same number, the same kind */
+    uint32_t xdr_type; /* ONCRPC_TYPE_.. of that kind */
+    uint32_t role;     /* ONCRPC_ROLE_..: what its bytes are */
+} oncrpc_value_part;
+
+/* `role` of a part (RFC 4506 section 4). A number has its most significant byte first. */
+enum {
+    ONCRPC_ROLE_NUMBER = 1,  /* an integer, a bool, an enum, a discriminant: 4 bytes, 8 of the hyper types */
+    ONCRPC_ROLE_FLAG = 2,    /* whether an optional item is there: 4 bytes, the number 0 or 1 */
+    ONCRPC_ROLE_LENGTH = 3,  /* how many bytes of content, or items, follow: 4 bytes, an unsigned number */
+    ONCRPC_ROLE_CONTENT = 4, /* the bytes of an opaque or a string, perhaps 0 */
+    ONCRPC_ROLE_GROUP = 5    /* no bytes of its own: a struct, an array of fixed size, a void */
+};
+
+/* `xdr_type` of a part. */
+enum {
+    ONCRPC_TYPE_INT = 1,
+    ONCRPC_TYPE_UNSIGNED = 2,
+    ONCRPC_TYPE_HYPER = 3,
+    ONCRPC_TYPE_UNSIGNED_HYPER = 4,
+    ONCRPC_TYPE_BOOL = 5,
+    ONCRPC_TYPE_ENUM = 6,
+    ONCRPC_TYPE_FIXED_OPAQUE = 7, /* of fixed size */
+    ONCRPC_TYPE_OPAQUE = 8,       /* of variable size */
+    ONCRPC_TYPE_STRING = 9,
+    ONCRPC_TYPE_FIXED_ARRAY = 10, /* of fixed size */
+    ONCRPC_TYPE_ARRAY = 11,       /* of variable size */
+    ONCRPC_TYPE_STRUCT = 12,
+    ONCRPC_TYPE_UNION = 13,
+    ONCRPC_TYPE_OPTIONAL = 14,
+    ONCRPC_TYPE_VOID = 15
+};
+
+/* What a call for parts found. Each field that its status does not speak of is 0. */
+typedef struct {
+    size_t at;    /* how many bytes the value has, or the place of a refusal */
+    size_t parts; /* how many parts the value has */
+    size_t names; /* how many bytes the names of all its parts have */
+    uint32_t why; /* a reason */
+} oncrpc_parts_outcome;
 
 /* So many bytes of a message, behind so many others: input + at leads to the first of them. */
 typedef struct {
@@ -194,12 +251,12 @@ uint32_t oncrpc_declarations_check(
     oncrpc_outcome *outcome);
 
 /* Puts the lines of the value that begins the input into `room`, by declarations that were read: one for each part, in
- * the order of the bytes, a node before those inside it, two spaces further in, each ended by a newline, as `oncrpc show`
- * prints them (docs/FORMATS.md). No zero ends them. The declarations stay, whatever the status is.
+ * the order of the bytes, a node before those inside it, two spaces further in, each ended by a newline, as
+ * `oncrpc show` prints them (docs/FORMATS.md). No zero ends them. The declarations stay, whatever the status is.
  *
- * ONCRPC_OK, _MORE_FOLLOWS: `written` says how many bytes of the room were written, from its first on; the others are as
- * they were. ONCRPC_NO_ROOM: `at` of the outcome says how many bytes of room are needed. At any status but the first two
- * the room is as it was, and `written` is 0.
+ * ONCRPC_OK, _MORE_FOLLOWS: `written` says how many bytes of the room were written, from its first on; the others are
+ * as they were. ONCRPC_NO_ROOM: `at` of the outcome says how many bytes of room are needed. At any status but the first
+ * two the room is as it was, and `written` is 0.
  * ONCRPC_OK, _MORE_FOLLOWS, _REFUSED, _NO_KIND, _BAD_LIMITS, _NO_MEMORY, _NO_DECLARATIONS, _NO_ROOM. */
 uint32_t oncrpc_declarations_show(
     oncrpc_declarations *declarations,
@@ -209,6 +266,26 @@ uint32_t oncrpc_declarations_show(
     uint8_t *room, size_t room_count,
     size_t *written,
     oncrpc_outcome *outcome);
+
+/* Tells where the parts of the value that begins `input` lie, by declarations that were read: in the order of the
+ * bytes, a node before those inside it. Puts the parts into `parts`, an array of `parts_count`, not null also where
+ * that is 0, and their names into `names`, one directly behind the other, in the order of the parts. The parts hold
+ * places in the caller's `input` and `names`, and no pointer. The declarations stay, whatever the status is.
+ *
+ * ONCRPC_OK, _MORE_FOLLOWS: `at` of the outcome says how many bytes the value has, `parts` and `names` how many parts
+ * and bytes of names were written, each from the first on; the others are as they were. ONCRPC_NO_ROOM: `at` says how
+ * many bytes the value has, and an array of `parts` parts and room for `names` bytes are needed, both. ONCRPC_REFUSED:
+ * `why` and `at`, as oncrpc_declarations_check tells them. At any status but the first two both rooms are as they were,
+ * so a count of 0 for both asks how much they need.
+ * ONCRPC_OK, _MORE_FOLLOWS, _REFUSED, _NO_KIND, _BAD_LIMITS, _NO_MEMORY, _NO_DECLARATIONS, _NO_ROOM. */
+uint32_t oncrpc_declarations_parts(
+    oncrpc_declarations *declarations,
+    const uint8_t *name, size_t name_count,
+    uint32_t depth, uint32_t bytes,
+    const uint8_t *input, size_t input_count,
+    oncrpc_value_part *parts, size_t parts_count,
+    uint8_t *names, size_t names_count,
+    oncrpc_parts_outcome *outcome);
 
 /* Gives back what `declarations` holds, if anything. It then holds none, so that a second call does nothing. */
 void oncrpc_declarations_free(oncrpc_declarations *declarations);
@@ -284,6 +361,83 @@ uint32_t oncrpc_auth_sys_write(
     const uint8_t *machine, size_t machine_count,
     uint8_t *room, size_t room_count,
     size_t *count);
+
+/* ---- the registry
+ *
+ * The registry of RFC 1833, versions 2, 3 and 4 of program 100000: rows in memory, at most 1024, each a program, a
+ * version, a netid, an address and an owner. The caller has the sockets: what came in a datagram or a record goes into
+ * oncrpc_registry_answer, and what that puts into the room is sent back. Each call below but the last fills `outcome`:
+ * `at` where it is spoken of, and 0 in each other field and at each other status. At ONCRPC_NO_REGISTRY nothing is
+ * changed. */
+
+/* A registry, or none. It begins as {0}; only the calls below may look into it or write it, and a copy of it must not
+ * be used beside it. It is given back by oncrpc_registry_free. */
+typedef struct {
+    void *at;
+    bool live;
+} oncrpc_registry;
+
+/* Starts a registry in `registry`, and gives back what that held before. Its rows are its own: program 100000 in
+ * versions 2, 3 and 4, each over tcp and then over udp, at 0.0.0.0 and this port, owned by superuser.
+ *
+ * `seed` is as many bytes that the peers can not know, 16 of getentropy for one. Rows are found by hashes behind it, so
+ * that no peer can choose many that hash alike, which would make each look-up slow. The answers do not depend on it.
+ *
+ * ONCRPC_OK. ONCRPC_NO_MEMORY: it holds none. */
+uint32_t oncrpc_registry_start(
+    oncrpc_registry *registry,
+    uint16_t port,
+    const uint8_t *seed, size_t seed_count,
+    oncrpc_outcome *outcome);
+
+/* Answers a record that came over the transport `netid`, which is tcp or udp, and puts the reply into the front of
+ * `room`. The record, and the reply, is as it is in a datagram or, over tcp, without the headers of its fragments.
+ *
+ * ONCRPC_OK: `at` bytes of reply were written, and the rest of the room is as it was. ONCRPC_SILENCE: the record is no
+ * call, and is to be dropped. ONCRPC_NO_ROOM: `at` bytes of room are needed. What was asked for is done already, so the
+ * reply waits in the registry for oncrpc_registry_reply, until the next call of this function, which gives it up.
+ * ONCRPC_NO_TRANSPORT: nothing is changed. ONCRPC_NO_REGISTRY. At each status but ONCRPC_OK the room is as it was.
+ *
+ * Where memory is refused the reply is SYSTEM_ERR of 24 bytes, and the rows are as they were. Over udp a reply has at
+ * most 65507 bytes: a longer one is SYSTEM_ERR, and the rows are as they were. */
+uint32_t oncrpc_registry_answer(
+    oncrpc_registry *registry,
+    const uint8_t *netid, size_t netid_count,
+    const uint8_t *record, size_t record_count,
+    uint8_t *room, size_t room_count,
+    oncrpc_outcome *outcome);
+
+/* Puts the reply that waits into the front of `room`; then it waits no longer.
+ * ONCRPC_OK: `at` bytes were written, and the rest of the room is as it was. ONCRPC_NO_ROOM: `at` bytes are needed, and
+ * the reply waits on. ONCRPC_SILENCE: no reply waits. ONCRPC_NO_REGISTRY. */
+uint32_t oncrpc_registry_reply(
+    oncrpc_registry *registry,
+    uint8_t *room, size_t room_count,
+    oncrpc_outcome *outcome);
+
+/* Adds a row at the end. ONCRPC_OK. ONCRPC_UNCHANGED: the netid or the address is empty, the netid has more than 64
+ * bytes, the address more than 256 or the owner more than 10, there is a row of this program, version and netid, or
+ * there are 1024 rows. ONCRPC_NO_MEMORY: no row was added. ONCRPC_NO_REGISTRY. A reply that waits stays. */
+uint32_t oncrpc_registry_set(
+    oncrpc_registry *registry,
+    uint32_t program, uint32_t version,
+    const uint8_t *netid, size_t netid_count,
+    const uint8_t *address, size_t address_count,
+    const uint8_t *owner, size_t owner_count,
+    oncrpc_outcome *outcome);
+
+/* Removes the row of this program, version and netid, or with an empty netid each row of the program and version, where
+ * the row is owned by `owner` or `owner` is superuser. ONCRPC_OK: at least one. ONCRPC_UNCHANGED: there is none.
+ * ONCRPC_NO_REGISTRY. A reply that waits stays. It takes no memory. */
+uint32_t oncrpc_registry_unset(
+    oncrpc_registry *registry,
+    uint32_t program, uint32_t version,
+    const uint8_t *netid, size_t netid_count,
+    const uint8_t *owner, size_t owner_count,
+    oncrpc_outcome *outcome);
+
+/* Gives back what `registry` holds, if anything. It then holds none, so that a second call does nothing. */
+void oncrpc_registry_free(oncrpc_registry *registry);
 
 #ifdef __cplusplus
 }

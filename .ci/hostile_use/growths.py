@@ -3,13 +3,46 @@ import itertools
 import re
 
 from .rows import (
-    ASKED, ASKED_AFTER, BY_RECORD, CALLS, Case, EXCHANGED, FILE, FURTHER, MORE, NULL, PIECES, PING, REFUSED,
-    REPLY, Refused, SERVED, SET, STREAMS, TAKING, TEXTS, WHOLE, WIDEST, Whole, denied, marked, octets, reply,
+    ASKED,
+    ASKED_AFTER,
+    BY_RECORD,
+    CALLS,
+    Case,
+    EXCHANGED,
+    FILE,
+    FURTHER,
+    MORE,
+    NULL,
+    PIECES,
+    PING,
+    REFUSED,
+    REPLY,
+    Refused,
+    SERVED,
+    SET,
+    STREAMS,
+    TAKING,
+    TEXTS,
+    WHOLE,
+    WIDEST,
+    Whole,
+    denied,
+    marked,
+    octets,
+    reply,
     word,
 )
 from .running import run
 from .streams import (
-    asked_of, exchanged, handed_out, is_printed_well, normal_form, normalised, records_in, replies_to, served,
+    asked_of,
+    exchanged,
+    handed_out,
+    is_printed_well,
+    normal_form,
+    normalised,
+    records_in,
+    replies_to,
+    served,
     told_after,
 )
 from .values import checked, fault_of, fed, records_over, typed
@@ -156,8 +189,8 @@ def answered(record, before):
 
 
 def joined_well(row, given):
-    """Whether parts stand one behind the other from the first byte on, joined with their zeros are the value's bytes, or
-    are refused as the row is."""
+    """Whether parts stand one behind the other from the first byte on, joined with their zeros are the value's bytes,
+    or are refused as the row is."""
     if isinstance(row, Refused):
         return lambda told: told.answer == fault_of(row.why, row.at)
 
@@ -199,7 +232,15 @@ def clients(*streams):
 
 
 def connection_cases():
-    streams = [SERVED[0], b"", SERVED[3], octets("80000000"), octets("7fffffff00"), octets("800000280000000100"), SERVED[0]]
+    streams = [
+        SERVED[0],
+        b"",
+        SERVED[3],
+        octets("80000000"),
+        octets("7fffffff00"),
+        octets("800000280000000100"),
+        SERVED[0],
+    ]
     for piece in PIECES:
         for failing in range(0, 240 // piece + 3):
             case = Case("connections", (piece, 0), (piece, failing), **clients(*streams))
@@ -262,8 +303,11 @@ def task_rows():
 
 
 MESSAGES = [
-    ("call", "00000001 00000000 00000002 000186a0 00000002 00000000 00000001 0000001c 00000000 00000003 626f7800 000003e8 "
-     "00000064 00000001 00000064 00000000 00000000 0000002a"),
+    (
+        "call",
+        "00000001 00000000 00000002 000186a0 00000002 00000000 00000001 0000001c 00000000 00000003 626f7800 000003e8 "
+        "00000064 00000001 00000064 00000000 00000000 0000002a",
+    ),
     ("reply", "00000001 00000001 00000000 00000002 00000001 61000000 00000000 0000002a"),
     ("reply", "00000001 00000001 00000001 00000001 00000063"),
     ("credential", "00000000 00000003 626f7800 000003e8 00000064 00000001 00000064"),
@@ -295,7 +339,9 @@ def registry_rows():
             wanted = f"Reply({list(sent)})", [told_after(bool(has_row))]
             case = Case("answer", given=record, before=before, after=ASKED_AFTER)
             yield case, lambda told, wanted=wanted: (told.answer, told.streams) == wanted
-        yield Case("registry", before=before), lambda told: re.fullmatch(r"\(true, Ok\(.*\), Ok\(.*\), true\)", told.answer)
+        yield Case("registry", before=before), lambda told: re.fullmatch(
+            r"\(true, Ok\(.*\), Ok\(.*\), true\)", told.answer
+        )
     for record in TAKING:
         yield Case("answer", given=record, after=ASKED_AFTER), lambda told: told.answer.startswith("Reply([")
     for (stream, told), piece in itertools.product(EXCHANGED, PIECES):

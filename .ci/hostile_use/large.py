@@ -2,7 +2,21 @@
 import itertools
 
 from .rows import (
-    ASKED_AFTER, Case, LIST, MORE, NULL, PIECES, Refused, SERVED, SET, WIDEST, Whole, call, marked, octets, word,
+    ASKED_AFTER,
+    Case,
+    LIST,
+    MORE,
+    NULL,
+    PIECES,
+    Refused,
+    SERVED,
+    SET,
+    WIDEST,
+    Whole,
+    call,
+    marked,
+    octets,
+    word,
 )
 from .streams import handed_out, normalised, told_after
 from .values import checked, fault_of, fed, typed
@@ -71,7 +85,11 @@ def large_cases():
         (Case("task", (1, 0), setting=2 + 8 * WIDEST, zeros=1048577), *unread),
         (Case("task", (1, 0), setting=0, name="many", text=MANY, zeros=1200000), *unread),
         (Case("task", (1, 0), setting=0, name="many", text=MANY, zeros=1048576), *unread),
-        (Case("task", (1, 0), setting=0, name="many", text=MANY, zeros=1048575), "1", [b"refused Truncated at 1048575\n", b""]),
+        (
+            Case("task", (1, 0), setting=0, name="many", text=MANY, zeros=1048575),
+            "1",
+            [b"refused Truncated at 1048575\n", b""],
+        ),
         (Case("task", setting=0, name="many", text=MANY, zeros=1200000), "0", [b"ok 1200000\n", b""]),
     ]
     for case, *wanted in rows:

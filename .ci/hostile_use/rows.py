@@ -17,8 +17,9 @@ MORE = b"""typedef opaque five<5>; typedef int big<>; typedef opaque six[6]; typ
 typedef int few<2>;
 union u switch (int n) { case 1: int x; }; union b switch (bool d) { case TRUE: string s<3>; default: void; };
 """
-SILLYPROG = "00000009 73696c6c 7970726f 67000000 " \
-    "00000002 00000004 6c697370 00000004 6a6f686e 00000006 28717569 74290000"
+SILLYPROG = (
+    "00000009 73696c6c 7970726f 67000000 " "00000002 00000004 6c697370 00000004 6a6f686e 00000006 28717569 74290000"
+)
 SILLYPROG_LINES = b"""struct
   filename: "sillyprog"
   type: case EXEC = 2
@@ -82,7 +83,8 @@ PENDING = [
 ]
 PING = b"program PING { version ONE { void NIL(void) = 0; string ECHO(string) = 1; } = 1; } = 536870912;\n"
 # The types of the registry (RFC 1833 sections 2.1 and 3.1).
-DIRECTORY = b"""struct rpcb { unsigned int r_prog; unsigned int r_vers; string r_netid<>; string r_addr<>; string r_owner<>; };
+DIRECTORY = b"""struct rpcb { unsigned int r_prog; unsigned int r_vers; string r_netid<>; string r_addr<>;
+string r_owner<>; };
 struct rp__list { rpcb rpcb_map; rp__list *rpcb_next; };
 typedef rp__list *rpcblist;
 struct mapping { unsigned int prog; unsigned int vers; unsigned int prot; unsigned int port; };
@@ -202,10 +204,16 @@ TAKING = [
     octets("00000001 00000000 00000002 000186a0 00000003 00000001" + USER + ADDRESS),
     octets("00000001 00000000 00000002 000186a0 00000004 00000002" + USER + ADDRESS),
     octets("00000001 00000000 00000002 000186a0 00000002 00000001" + USER + "20000000 00000009 00000011 00000801"),
-    octets("00000001 00000000 00000002 000186a0 00000004 00000002" + USER.replace("000003e9", "00000000")
-        + "000186a0 00000004 00000000 00000000 00000000"),
-    octets("00000001 00000000 00000002 000186a0 00000002 00000002" + USER.replace("000003e9", "00000000")
-        + "000186a0 00000003 00000000 00000000"),
+    octets(
+        "00000001 00000000 00000002 000186a0 00000004 00000002"
+        + USER.replace("000003e9", "00000000")
+        + "000186a0 00000004 00000000 00000000 00000000"
+    ),
+    octets(
+        "00000001 00000000 00000002 000186a0 00000002 00000002"
+        + USER.replace("000003e9", "00000000")
+        + "000186a0 00000003 00000000 00000000"
+    ),
     call(4, 1, ADDRESS),
     call(4, 4, ""),
     call(3, 4, ""),

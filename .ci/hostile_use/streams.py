@@ -3,7 +3,19 @@ import collections
 import itertools
 
 from .rows import (
-    ASKED, ASKED_AFTER, BY_RECORD, Case, EXCHANGED, NULL, PIECES, SERVED, STREAMS, WIDEST, call, marked, octets,
+    ASKED,
+    ASKED_AFTER,
+    BY_RECORD,
+    Case,
+    EXCHANGED,
+    NULL,
+    PIECES,
+    SERVED,
+    STREAMS,
+    WIDEST,
+    call,
+    marked,
+    octets,
     word,
 )
 from .running import Told

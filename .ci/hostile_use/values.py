@@ -129,7 +129,9 @@ def cutting_cases():
         given = octets(digits)
         for cuts in itertools.combinations_with_replacement(range(len(given) + 1), 2):
             wanted = cut_well(given, cuts, whole, refused)
-            yield Case("cut", (cuts[0], cuts[1]), given=given, **kind), lambda told, wanted=wanted: told.answer == wanted
+            yield Case(
+                "cut", (cuts[0], cuts[1]), given=given, **kind
+            ), lambda told, wanted=wanted: told.answer == wanted
 
 
 def fed(row, given, piece, is_counted):

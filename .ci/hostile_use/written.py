@@ -5,7 +5,20 @@ import re
 
 from .large import refused_text
 from .rows import (
-    Case, FILE, LIST, NULL, PIECES, PING, SILLYPROG, SILLYPROG_LINES, WIDEST, call, marked, octets, reply, word,
+    Case,
+    FILE,
+    LIST,
+    NULL,
+    PIECES,
+    PING,
+    SILLYPROG,
+    SILLYPROG_LINES,
+    WIDEST,
+    call,
+    marked,
+    octets,
+    reply,
+    word,
 )
 
 # A row that user 1001 sets, 1000 cannot remove, and the superuser removes once; and the checks in their order, with a
@@ -80,12 +93,18 @@ def served_cases():
 # What comes for a call for all rows, by its version, the status and what is printed. The rows are the registry's own
 # and one more; and one whose texts are `a"b`, a backslash and a line feed, and none, with a byte behind that is left
 # out.
-LINES_4 = b"program vers netid address owner\n" + b"".join(
-    b"100000 %d %s 0.0.0.0.0.111 superuser\n" % (vers, netid) for vers in (2, 3, 4) for netid in (b"tcp", b"udp")
-) + b"536870912 1 tcp 0.0.0.0.8.1 unknown\n"
-LINES_2 = b"program vers prot port\n" + b"".join(
-    b"100000 %d %d 111\n" % (vers, prot) for vers in (2, 3, 4) for prot in (6, 17)
-) + b"536870912 1 6 2049\n"
+LINES_4 = (
+    b"program vers netid address owner\n"
+    + b"".join(
+        b"100000 %d %s 0.0.0.0.0.111 superuser\n" % (vers, netid) for vers in (2, 3, 4) for netid in (b"tcp", b"udp")
+    )
+    + b"536870912 1 tcp 0.0.0.0.8.1 unknown\n"
+)
+LINES_2 = (
+    b"program vers prot port\n"
+    + b"".join(b"100000 %d %d 111\n" % (vers, prot) for vers in (2, 3, 4) for prot in (6, 17))
+    + b"536870912 1 6 2049\n"
+)
 ROW_4 = "00000001 20000000 00000001 00000003 74637000 0000000b 302e302e 302e302e 382e3100 00000007 756e6b6e 6f776e00"
 ROWS_2 = "".join(f"00000001 000186a0 {vers:08x} {prot:08x} 0000006f" for vers in (2, 3, 4) for prot in (6, 17))
 ROW_2 = "00000001 20000000 00000001 00000006 00000801"

@@ -1,7 +1,7 @@
-/* The nearest to our directory_bench: rpcbind's registry is a linked list of libtirpc's RPCB, which each call walks. libtirpc
- * itself keeps no registry, so this is that list written again: a look-up compares program and netid, then the version; a
- * set looks the row up and is added at the end; an unset walks the whole list.
- * usage: loop_registry getaddr|refused|last|first ROWS COUNT */
+/* The nearest to our directory_bench: rpcbind's registry is a linked list of libtirpc's RPCB, which each call walks.
+ * libtirpc itself keeps no registry, so this is that list written again: a look-up compares program and netid, then the
+ * version; a set looks the row up and is added at the end; an unset walks the whole list. usage: loop_registry
+ * getaddr|refused|last|first ROWS COUNT */
 #include <stdio.h>
 #include <stdlib.h>
 #include <string.h>
@@ -10,7 +10,8 @@
 static struct rpcblist *rows;
 static struct rpcblist *find(rpcprog_t prog, rpcvers_t vers, const char *netid) {
     for (struct rpcblist *at = rows; at; at = at->rpcb_next)
-        if (at->rpcb_map.r_prog == prog && !strcmp(at->rpcb_map.r_netid, netid) && at->rpcb_map.r_vers == vers) return at;
+        if (at->rpcb_map.r_prog == prog && !strcmp(at->rpcb_map.r_netid, netid) && at->rpcb_map.r_vers == vers)
+            return at;
     return 0;
 }
 static void discard(struct rpcblist *row) {
@@ -38,7 +39,8 @@ static int unset(rpcprog_t prog, rpcvers_t vers, const char *netid, const char *
     int gone = 0;
     for (struct rpcblist **at = &rows; *at;) {
         struct rpcblist *row = *at;
-        if (row->rpcb_map.r_prog != prog || row->rpcb_map.r_vers != vers || (*netid && strcmp(netid, row->rpcb_map.r_netid))) {
+        if (row->rpcb_map.r_prog != prog || row->rpcb_map.r_vers != vers ||
+            (*netid && strcmp(netid, row->rpcb_map.r_netid))) {
             at = &row->rpcb_next;
             continue;
         }

@@ -1,18 +1,51 @@
 /* The nearest to our codec_bench with rpcgen and libtirpc: one value, encoded or decoded (and freed) COUNT times.
- * usage: loop_xdr uint1M|list2000|file1M|opaque16M encode|decode COUNT */
+ * usage: loop_xdr uint1M|list2000|file1M|opaque16M encode|decode COUNT
+ * With -DLIBRARY, on liboncrpc too: check in place of decode, by the declarations on standard input, which are read
+ * once; or read, which reads and frees them COUNT times. */
 #include <stdio.h>
 #include <stdlib.h>
 #include <string.h>
 #include <rpc/rpc.h>
 #include "../gen/bench.h"
+#ifdef LIBRARY
+#include "oncrpc.h"
+/* Reads the declarations on standard input so many times, and gives them back but for the last. */
+static oncrpc_declarations declared(long count) {
+    static uint8_t text[4096];
+    oncrpc_declarations held = {0};
+    oncrpc_outcome outcome;
+    size_t length = fread(text, 1, sizeof text, stdin);
+    for (long i = 0; i < count; i++) {
+        oncrpc_declarations_free(&held);
+        if (oncrpc_declarations_read(text, length, &held, &outcome)) exit(1);
+    }
+    return held;
+}
+static void check(const char *name, const char *wire, size_t length, long count) {
+    oncrpc_declarations held = declared(1);
+    oncrpc_outcome outcome;
+    for (long i = 0; i < count; i++)
+        if (oncrpc_declarations_check(&held, (const uint8_t *)name, strlen(name), ONCRPC_MOST_DEPTH, ONCRPC_MOST_BYTES,
+                                      (const uint8_t *)wire, length, &outcome))
+            exit(1);
+    oncrpc_declarations_free(&held);
+}
+#endif
 static char *wire;
-static void loop(xdrproc_t f, void *value, size_t size, int decode, long count) {
+static void loop(const char *name, xdrproc_t f, void *value, size_t size, const char *work, long count) {
     XDR x;
     u_int length;
+    int decode = !strcmp(work, "decode");
     char *into = calloc(1, size);
     xdrmem_create(&x, wire, 40u << 20, XDR_ENCODE);
     if (!f(&x, value)) exit(1);
     length = xdr_getpos(&x);
+#ifdef LIBRARY
+    if (!strcmp(work, "check")) {
+        check(name, wire, length, count);
+        return;
+    }
+#endif
     for (long i = 0; i < count; i++) {
         xdrmem_create(&x, wire, decode ? length : 40u << 20, decode ? XDR_DECODE : XDR_ENCODE);
         if (decode) memset(into, 0, size);
@@ -21,17 +54,23 @@ static void loop(xdrproc_t f, void *value, size_t size, int decode, long count) 
     }
 }
 int main(int c, char **v) {
-    int decode = !strcmp(v[2], "decode");
     long count = atol(v[3]);
     wire = malloc(40u << 20);
+#ifdef LIBRARY
+    if (!strcmp(v[2], "read")) {
+        oncrpc_declarations held = declared(count);
+        oncrpc_declarations_free(&held);
+        return 0;
+    }
+#endif
     if (!strcmp(v[1], "opaque16M")) {
         blob b = {16777212, malloc(16777212)};
         for (u_int i = 0; i < b.blob_len; i++) b.blob_val[i] = i * 31;
-        loop((xdrproc_t)xdr_blob, &b, sizeof b, decode, count);
+        loop("blob", (xdrproc_t)xdr_blob, &b, sizeof b, v[2], count);
     } else if (!strcmp(v[1], "uint1M")) {
         nums a = {1000000, malloc(4000000)};
         for (u_int i = 0; i < a.nums_len; i++) a.nums_val[i] = i * 2654435761u;
-        loop((xdrproc_t)xdr_nums, &a, sizeof a, decode, count);
+        loop("nums", (xdrproc_t)xdr_nums, &a, sizeof a, v[2], count);
     } else if (!strcmp(v[1], "list2000")) {
         list l = 0;
         for (int i = 0; i < 2000; i++) {
@@ -41,7 +80,7 @@ int main(int c, char **v) {
             e->next = l;
             l = e;
         }
-        loop((xdrproc_t)xdr_list, &l, sizeof l, decode, count);
+        loop("list", (xdrproc_t)xdr_list, &l, sizeof l, v[2], count);
     } else {
         file f;
         f.filename = "sillyprog";
@@ -50,7 +89,7 @@ int main(int c, char **v) {
         f.owner = "john";
         f.data.data_len = 6;
         f.data.data_val = "(quit)";
-        loop((xdrproc_t)xdr_file, &f, sizeof f, decode, count);
+        loop("file", (xdrproc_t)xdr_file, &f, sizeof f, v[2], count);
     }
     return 0;
 }

@@ -1,12 +1,21 @@
 /* The nearest to `oncrpc records` with libtirpc: reads records of SIZE bytes from standard input by xdrrec, and writes
- * each to standard output as one final fragment. usage: records SIZE [COUNT] (COUNT: that many records; none: to the end) */
+ * each to standard output as one final fragment. usage: records SIZE [COUNT] (COUNT: that many records; none: to the
+ * end) */
 #include <stdio.h>
 #include <stdlib.h>
 #include <string.h>
 #include <unistd.h>
 #include <rpc/rpc.h>
-static int rd(void *h, void *b, int n) { (void)h; n = read(0, b, n); return n > 0 ? n : -1; }
-static int wr(void *h, void *b, int n) { (void)h; (void)b; return n; }
+static int rd(void *h, void *b, int n) {
+    (void)h;
+    n = read(0, b, n);
+    return n > 0 ? n : -1;
+}
+static int wr(void *h, void *b, int n) {
+    (void)h;
+    (void)b;
+    return n;
+}
 int main(int c, char **v) {
     unsigned long size = atol(v[1]), count = c > 2 ? atol(v[2]) : ~0ul, n;
     char *body = malloc(size + 4);

@@ -1,10 +1,10 @@
-/* Calls of a registry over one TCP connection to 127.0.0.1, so many unanswered at a time; prints the calls a second. Each
- * reply is looked at: its xid is the next one's, and it is SUCCESS.
- * usage: registry_load PORT fill|null|getaddr|getother|setunset|dump|fill-udp|udp-null|udp-getaddr COUNT WINDOW ROWS
- * A work that begins with udp- goes by datagrams, one a call, of which none may be lost.
- * fill sets COUNT rows after the first ROWS, and fill-udp rows of udp; getaddr asks for rows that lie all over the first
- * ROWS, and getother for versions of their programs that are not registered; setunset sets a row that is not there and
- * removes it. A SET or an UNSET whose result is FALSE is counted, and said at the end. */
+/* Calls of a registry over one TCP connection to 127.0.0.1, so many unanswered at a time; prints the calls a second.
+ * Each reply is looked at: its xid is the next one's, and it is SUCCESS. usage: registry_load PORT
+ * fill|null|getaddr|getother|setunset|dump|fill-udp|udp-null|udp-getaddr COUNT WINDOW ROWS A work that begins with udp-
+ * goes by datagrams, one a call, of which none may be lost. fill sets COUNT rows after the first ROWS, and fill-udp
+ * rows of udp; getaddr asks for rows that lie all over the first ROWS, and getother for versions of their programs that
+ * are not registered; setunset sets a row that is not there and removes it. A SET or an UNSET whose result is FALSE is
+ * counted, and said at the end. */
 #include <arpa/inet.h>
 #include <errno.h>
 #include <fcntl.h>
@@ -87,7 +87,8 @@ int main(int c, char **v) {
     const char *work = v[2];
     uint32_t count = atol(v[3]), window = atol(v[4]), rows = atol(v[5]), sent = 0, got = 0, refused = 0;
     int tells = !strncmp(work, "fill", 4) || !strcmp(work, "setunset"), fresh = 1, s = socket(AF_INET, SOCK_STREAM, 0);
-    struct sockaddr_in at = {.sin_family = AF_INET, .sin_port = htons(atoi(v[1])), .sin_addr.s_addr = htonl(INADDR_LOOPBACK)};
+    struct sockaddr_in at = {
+        .sin_family = AF_INET, .sin_port = htons(atoi(v[1])), .sin_addr.s_addr = htonl(INADDR_LOOPBACK)};
     if (strstr(work, "udp")) netid = "udp";
     if (!strncmp(work, "udp-", 4)) return datagrams(&at, work + 4, count, window, rows), 0;
     if (connect(s, (void *)&at, sizeof at)) return stop("no connection");
@@ -120,7 +121,8 @@ int main(int c, char **v) {
             uint32_t header = number(in + done), size = header & 0x7fffffff;
             const unsigned char *reply = in + done + 4;
             if (held - done < 4 + (size_t)size) break;
-            if (fresh && (size < 24 || number(reply) != got + 1 || number(reply + 4) != 1 || number(reply + 8) || number(reply + 20)))
+            if (fresh && (size < 24 || number(reply) != got + 1 || number(reply + 4) != 1 || number(reply + 8) ||
+                          number(reply + 20)))
                 return stop("no successful reply to the next call");
             if (fresh && tells) refused += size < 28 || !number(reply + 24);
             fresh = header >> 31;

@@ -7,6 +7,8 @@ import time
 
 ROOT = os.path.dirname(os.path.dirname(os.path.dirname(os.path.realpath(__file__))))
 OURS = f"{ROOT}/crates/oncrpc/out/oncrpc"
+# (./build-library leaves it there)
+ARCHIVE = f"{ROOT}/library/liboncrpc.a"
 CALLS_OF_OURS = f"{ROOT}/crates/oncrpc_bench/out/oncrpc_bench"
 
 
@@ -31,7 +33,10 @@ def instructions(words, given):
     with tempfile.TemporaryDirectory() as folder, open(given, "rb") as source:
         out = f"--callgrind-out-file={folder}/out"
         ended = subprocess.run(
-            ["valgrind", "--tool=callgrind", out, *words], stdin=source, stdout=subprocess.DEVNULL, stderr=subprocess.PIPE
+            ["valgrind", "--tool=callgrind", out, *words],
+            stdin=source,
+            stdout=subprocess.DEVNULL,
+            stderr=subprocess.PIPE,
         )
         for line in ended.stderr.decode(errors="replace").splitlines():
             if "Collected" in line:

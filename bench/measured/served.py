@@ -30,11 +30,15 @@ def needs():
 
 
 def serve(base, folder):
-    """The served registry: instructions of a call from memory, calls a second beside rpcbind, and hostile connections."""
+    """The served registry: instructions of a call, calls a second beside rpcbind, and hostile connections."""
     if os.path.exists(CALLS_OF_OURS):
         for work, rows in (("null", FULL), ("getaddr", FULL), ("dump", FULL)):
-            many, few = (instructions([CALLS_OF_OURS, "served", work, str(rows), str(reads)], os.devnull) for reads in (320, 64))
-            print(f"serve, {work} from memory, {rows} rows: {(many - few) / 256 / 32:.0f} instructions a call", flush=True)
+            many, few = (
+                instructions([CALLS_OF_OURS, "served", work, str(rows), str(reads)], os.devnull) for reads in (320, 64)
+            )
+            print(
+                f"serve, {work} from memory, {rows} rows: {(many - few) / 256 / 32:.0f} instructions a call", flush=True
+            )
     missing = needs()
     if missing:
         print(f"serve, beside rpcbind: {missing}")
@@ -162,7 +166,9 @@ def resident(process):
 def hostile_connections(count=10000):
     """Connections one after another, each third of them cut or hostile: lines, replies, and the resident size."""
     sizes, wanted, wrong = {}, [], 0
-    process = subprocess.Popen([OURS, "serve", "--port", "1112", "--count", str(count)], stdout=subprocess.PIPE, text=True)
+    process = subprocess.Popen(
+        [OURS, "serve", "--port", "1112", "--count", str(count)], stdout=subprocess.PIPE, text=True
+    )
     lines = [process.stdout.readline()]
     for number in range(1, count + 1):
         given, told = (NULL, "1 records, 1 replies") if number % 3 else CUT[number // 3 % len(CUT)]
@@ -175,7 +181,8 @@ def hostile_connections(count=10000):
     process.wait()
     others = sum(a != b for a, b in zip(lines[1:], wanted))
     print(
-        f"serve, {count:,} connections, a third of them cut or hostile: {wrong} with another reply, {others} with another line,"
+        f"serve, {count:,} connections, a third of them cut or hostile: {wrong} with another reply,"
+        f" {others} with another line,"
         f" status {process.returncode}; resident after 100 {sizes[100]} KiB, at the end {sizes[count - 1]} KiB",
         flush=True,
     )

@@ -2,7 +2,7 @@
 
 
 def declarations(kinds, members, size):
-    """A text of so many kinds of its own and members of enumerations, filled up with line feeds; rpcgen wants short lines."""
+    """A text of so many kinds of its own and members of enumerations, filled with line feeds; rpcgen wants short lines."""
     names = ",\n".join(f"A{n}=1" for n in range(members))
     structs = "\n".join(f"struct s{n}{{int a;}};" for n in range(kinds - 1))
     return f"enum e{{{names}}};\n{structs}".encode().ljust(size, b"\n")
@@ -15,7 +15,7 @@ def spelled(number):
 
 
 def typedef_chain(size, first):
-    """A typedef `first`, a chain of typedefs in a third of the text, and fields of the chain's last name in the rest."""
+    """A typedef `first`, a chain of typedefs in a third of the text, and fields of its last name in the rest."""
     names = [f"k{spelled(n)}" for n in range(size // 57)]
     links = "".join(f"typedef {a} {b};" for a, b in zip(["int", *names], names))
     text = f"{first}{links}struct s{{"
@@ -44,8 +44,8 @@ def nested(size):
 
 
 def heights(size):
-    """An enumeration, a union whose cases but the default lead to the end of a chain of structures, and that chain, which
-    in a whole text has 1001 structures."""
+    """An enumeration, a union whose cases but the default lead to the end of a chain of structures, and that chain,
+    which in a whole text has 1001 structures."""
     links = size * 1000 // 262144
     chain = "".join(f"struct s{n}{{s{n + 1} x;}};" for n in range(links)) + f"struct s{links}{{int x;}};"
     members = (size - len(chain) - 80) // 23
@@ -63,14 +63,26 @@ HOSTILE = {
     "a long name in a loop of typedefs": long_name_in_a_loop,
     "a union over a large enumeration beside a chain of structures": heights,
     "typedefs of themselves": lambda size: many(size, lambda n: f"typedef a{spelled(n)} a{spelled(n)};"),
-    "fields, the last there twice": lambda size: many(size, lambda n: f"int a{spelled(n)};", "struct s{", "int aaaa;};"),
-    "constants, the last there twice": lambda size: many(size, lambda n: f"const a{spelled(n)}=1;", "", "const aaaa=1;"),
-    "constants, each a member's number": lambda size: many(size, lambda n: f"a{spelled(n)}=a000,", "enum e{a000=1,", "b=c};"),
+    "fields, the last there twice": lambda size: many(
+        size, lambda n: f"int a{spelled(n)};", "struct s{", "int aaaa;};"
+    ),
+    "constants, the last there twice": lambda size: many(
+        size, lambda n: f"const a{spelled(n)}=1;", "", "const aaaa=1;"
+    ),
+    "constants, each a member's number": lambda size: many(
+        size, lambda n: f"a{spelled(n)}=a000,", "enum e{a000=1,", "b=c};"
+    ),
     "procedures, the last number there twice": lambda size: many(
-        size, lambda n: f"int a{spelled(n)}(e,e)={100000 + n};", "enum e{A=1};program P{version V{", "int b(e)=100000;}=1;}=1;"
+        size,
+        lambda n: f"int a{spelled(n)}(e,e)={100000 + n};",
+        "enum e{A=1};program P{version V{",
+        "int b(e)=100000;}=1;}=1;",
     ),
     "versions, the last pair there twice": lambda size: many(
-        size, lambda n: f"version a{spelled(n)}{{int b(int)=1;}}={100000 + n};", "program P{", "version b{int b(int)=1;}=100000;}=1;"
+        size,
+        lambda n: f"version a{spelled(n)}{{int b(int)=1;}}={100000 + n};",
+        "program P{",
+        "version b{int b(int)=1;}=100000;}=1;",
     ),
     "cases of a union": lambda size: many(size, lambda n: f"case {100000 + n}:", "union u switch(int d){", "void;};"),
     "cases by the names of members": lambda size: many(

@@ -12,6 +12,11 @@ pub fn count(rt: &impl Env) -> Option<u64> {
     asked(rt, "GROWTHS")
 }
 
+/// How many bytes were asked for so far, those of a block that grows anew each time, or `None` where nothing counts.
+pub fn bytes(rt: &impl Env) -> Option<u64> {
+    asked(rt, "GROWTH_BYTES")
+}
+
 /// Refuses the growth with this number, counted from here from 1; 0 refuses none. False where nothing can refuse.
 pub fn refuse(alloc: Global, rt: &impl Env, number: u64) -> Result<bool, AllocError> {
     let name = format!(in alloc; "REFUSE_GROWTH_{number}")?;
@@ -98,8 +103,12 @@ mod tests {
         let third = String::from_str(alloc, "c");
         assert!(rt; first.is_ok() && second.is_err() == can_refuse && third.is_ok());
         let before = count(&rt);
+        let bytes_before = bytes(&rt);
         let fourth = String::from_str(alloc, "d");
         assert!(rt; fourth.is_ok() && before.is_some() == can_refuse);
+        if let (Some(before), Some(after)) = (bytes_before, bytes(&rt)) {
+            assert!(rt; after > before);
+        }
         if let (Some(before), Some(after)) = (before, count(&rt)) {
             assert!(rt; after == before.saturating_add(1));
         }

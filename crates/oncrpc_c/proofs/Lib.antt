@@ -1,6 +1,8 @@
 pub mod Handles
 mod Judging
 mod Named
+mod Pair
+mod Parting
 mod Records
 mod Showing
 mod Told

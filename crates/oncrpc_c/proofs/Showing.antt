@@ -27,13 +27,19 @@ abbrev value_in : Tree → Ending → Tree
 value_in other (Whole v n) = v
 value_in other _ = other
 
+-- one value begins the input
+pub same_value : (q : Question) (b : List ℕ) (used : ℕ) (begins : BeginsWithValue q b used) (v : Tree) (n : ℕ)
+    → Outcome q.kinds q.place q.limits b (Whole v n) → v ≡ begins.value
+same_value q b used begins v n o =
+    let one = one_outcome q.kinds q.place q.limits b (Whole v n) (Whole begins.value used) o begins.outcome in
+    ap (λ (e : Ending). value_in v e) one
+
 -- lines of a value that begins the input are those of each
 pub same_lines : (q : Question) (b : List ℕ) (used : ℕ) (begins : BeginsWithValue q b used) (v : Tree) (n : ℕ)
     (text : List ℕ) → Outcome q.kinds q.place q.limits b (Whole v n) → text ≡ show_text q.kinds q.place v
     → text ≡ show_text q.kinds q.place begins.value
 same_lines q b used begins v n text o is =
-    let one = one_outcome q.kinds q.place q.limits b (Whole v n) (Whole begins.value used) o begins.outcome in
-    is ∙ ap (λ (x : Tree). show_text q.kinds q.place x) (ap (λ (e : Ending). value_in v e) one)
+    is ∙ ap (λ (x : Tree). show_text q.kinds q.place x) (same_value q b used begins v n o)
 
 -- any refusal but want of memory is of these bytes and no more
 nothing_follows : (why : Reason) → (why ≡ reason.NoMemory → ⊥) → MayFollow why []

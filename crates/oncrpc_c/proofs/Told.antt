@@ -1,13 +1,15 @@
 -- What a status says of the answer.
-use Rattle.std.proofs.Common.{◌≡◌, ◌≢◌, ℕ, List, Option, None, Some, refl, ap, sym, ◌∙◌, subst, arith, length}
+use Rattle.std.proofs.Common.{◌≡◌, ℕ, ◌<◌, ◌≤◌, ◌⊎◌, List, Option, None, Some, refl, ap, subst, arith, length}
 use Rattle.xdr_lang.specs.Declarations.{Declared}
 use Rattle.oncrpc_c.specs.declared.answer.Answer.{Answer}
 use Rattle.oncrpc_c.specs.declared.answer.Answer.TheVariants as answer
-use Rattle.oncrpc_c.specs.declared.outcome.Outcome.{Outcome}
 use Rattle.oncrpc_c.specs.Answers.{IsRightByText}
 use Rattle.oncrpc_c.specs.Held.{IsReading, IsRightByHeld}
 use Rattle.oncrpc_c.specs.Normal.{IsMarked}
 use Rattle.oncrpc_c.specs.Shown.{IsShownByHeld}
+use Rattle.oncrpc_c.specs.Parted.{Rooms, AreKept, IsPartedByHeld, parts_status, parts_outcome}
+use Rattle.oncrpc_c.specs.declared.listed.Listed.{Listed}
+use Rattle.oncrpc_c.specs.declared.listed.Listed.TheVariants as listed
 use Rattle.oncrpc_c.specs.Statuses.{status_of, outcome_of, at_place}
 
 pub whole_told : (text name : List ℕ) (depth bytes : ℕ) (input : List ℕ) (a : Answer)
@@ -91,3 +93,33 @@ shown_told (Some d) name depth bytes input old new written answer.BadLimits r e 
 shown_told (Some d) name depth bytes input old new written answer.NoMemory r e = absurd (omega (arith, e))
 shown_told (Some d) name depth bytes input old new written answer.NoDeclarations r e = absurd (omega (arith, e))
 shown_told (Some d) name depth bytes input old new written (answer.NoRoom n) r e = r.shown.1
+
+-- what status 8 says of a call for parts
+pub small_told : (held : Option Declared) (name : List ℕ) (depth bytes : ℕ) (input : List ℕ) (old new : Rooms)
+    (a : Listed) → IsPartedByHeld held name depth bytes input old new a → 8 ≡ parts_status a
+    → AreKept old new × ((length old.parts < (parts_outcome a).parts) ⊎ (length old.names < (parts_outcome a).names))
+small_told None name depth bytes input old new a r e = absurd (omega (arith, e, ap parts_status r.0))
+small_told (Some d) name depth bytes input old new (listed.Whole c) r e = absurd (omega (arith, e))
+small_told (Some d) name depth bytes input old new (listed.Followed c) r e = absurd (omega (arith, e))
+small_told (Some d) name depth bytes input old new (listed.Refused f) r e = absurd (omega (arith, e))
+small_told (Some d) name depth bytes input old new listed.NoKind r e = absurd (omega (arith, e))
+small_told (Some d) name depth bytes input old new listed.BadLimits r e = absurd (omega (arith, e))
+small_told (Some d) name depth bytes input old new listed.NoMemory r e = absurd (omega (arith, e))
+small_told (Some d) name depth bytes input old new listed.NoDeclarations r e = absurd (omega (arith, e))
+small_told (Some d) name depth bytes input old new (listed.NoRoom c) r e = (r.parted.4, r.parted.3)
+
+-- what status 2 says of it
+pub refusal_told : (held : Option Declared) (name : List ℕ) (depth bytes : ℕ) (input : List ℕ) (old new : Rooms)
+    (a : Listed) → IsPartedByHeld held name depth bytes input old new a → 2 ≡ parts_status a
+    → AreKept old new × ((parts_outcome a).parts ≡ 0) × ((parts_outcome a).names ≡ 0)
+    × ((parts_outcome a).at ≤ length input)
+refusal_told None name depth bytes input old new a r e = absurd (omega (arith, e, ap parts_status r.0))
+refusal_told (Some d) name depth bytes input old new (listed.Whole c) r e = absurd (omega (arith, e))
+refusal_told (Some d) name depth bytes input old new (listed.Followed c) r e = absurd (omega (arith, e))
+refusal_told (Some d) name depth bytes input old new (listed.Refused f) r e =
+    (r.parted.1, refl, refl, r.parted.0.within)
+refusal_told (Some d) name depth bytes input old new listed.NoKind r e = absurd (omega (arith, e))
+refusal_told (Some d) name depth bytes input old new listed.BadLimits r e = absurd (omega (arith, e))
+refusal_told (Some d) name depth bytes input old new listed.NoMemory r e = absurd (omega (arith, e))
+refusal_told (Some d) name depth bytes input old new listed.NoDeclarations r e = absurd (omega (arith, e))
+refusal_told (Some d) name depth bytes input old new (listed.NoRoom c) r e = absurd (omega (arith, e))

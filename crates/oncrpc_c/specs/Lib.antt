@@ -2,6 +2,10 @@ pub mod Answers
 pub mod Held
 pub mod Kept
 pub mod Normal
+pub mod Pair
+pub mod Parted
+pub mod Parts
+pub mod Private
 pub mod Room
 pub mod Shown
 pub mod Statuses

@@ -1,5 +1,7 @@
 //! What the exports' contracts force on telling inputs, each proved from the contracts alone.
-ghost use Rattle.std.specs.Prelude.{◌≡◌, ◌≢◌, length};
+ghost use Rattle.std.specs.Prelude.{◌≡◌, ◌≢◌, ◌<◌, ◌≤◌, ◌⊎◌, codes, length, option_map, take};
+ghost use Rattle.xdr_lang.specs.Views.{declared_of};
+ghost use Rattle.oncrpc_c.specs.Pair.{HoldsPair, pair_bytes, pair_parts, pair_outcome};
 ghost use Rattle.oncrpc_c.specs.Statuses.{at_place};
 
 use super::check::oncrpc_check;
@@ -7,8 +9,11 @@ use super::declarations::{
     oncrpc_declarations_check, oncrpc_declarations_free, oncrpc_declarations_read,
 };
 use super::handle::Handle;
+use super::listed::PartsOutcome;
 use super::normal::oncrpc_normalise;
 use super::outcome::Outcome;
+use super::part::ValuePart;
+use super::parts::oncrpc_declarations_parts;
 use super::show::oncrpc_declarations_show;
 use std::alloc::Global;
 
@@ -100,4 +105,54 @@ pub fn shows_by_what_was_read(
     let read = oncrpc_declarations_read(alloc, text, handle, outcome);
     let show = oncrpc_declarations_show(alloc, handle, b"int", 1, 4, b"", room, written, outcome);
     (read, show)
+}
+
+/// Rooms of which one is too small stay as they were.
+pub fn lists_nothing_in_small_rooms(
+    alloc: Global,
+    handle: &mut Handle,
+    input: &[u8],
+    parts: &mut [ValuePart],
+    names: &mut [u8],
+    outcome: &mut PartsOutcome,
+) -> u32
+    ensures kept { result ≡ 8 → (parts.new ≡ parts.old) × (names.new ≡ names.old) }
+    ensures small { result ≡ 8 → (length parts.old < outcome.new.parts) ⊎ (length names.old < outcome.new.names) }
+{
+    oncrpc_declarations_parts(alloc, handle, b"int", 1, 4, input, parts, names, outcome)
+}
+
+/// Of a refused input no part is told, and both rooms stay as they were.
+pub fn lists_no_part_of_a_refusal(
+    alloc: Global,
+    handle: &mut Handle,
+    input: &[u8],
+    parts: &mut [ValuePart],
+    names: &mut [u8],
+    outcome: &mut PartsOutcome,
+) -> u32
+    ensures none { result ≡ 2 → (outcome.new.parts ≡ 0) × (outcome.new.names ≡ 0) }
+    ensures kept { result ≡ 2 → (parts.new ≡ parts.old) × (names.new ≡ names.old) }
+    ensures within { result ≡ 2 → outcome.new.at ≤ length input.now }
+{
+    oncrpc_declarations_parts(alloc, handle, b"int", 1, 4, input, parts, names, outcome)
+}
+
+/// A structure of a number and a string has four parts, the string two of them, and content is told without the zero
+/// after it. Each name stands behind those of the parts before.
+pub fn lists_a_structure(
+    alloc: Global,
+    handle: &mut Handle,
+    input: &[u8],
+    parts: &mut [ValuePart],
+    names: &mut [u8],
+    outcome: &mut PartsOutcome,
+) -> u32
+    requires held { HoldsPair (option_map declared_of handle.old.declared) }
+    requires input { input.now ≡ pair_bytes }
+    ensures parts { result ≡ 0 → take 4 parts.new ≡ pair_parts }
+    ensures names { result ≡ 0 → take 10 names.new ≡ codes "idnamename" }
+    ensures outcome { result ≡ 0 → outcome.new ≡ pair_outcome }
+{
+    oncrpc_declarations_parts(alloc, handle, b"pair", 2, 12, input, parts, names, outcome)
 }

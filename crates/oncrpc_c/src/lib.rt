@@ -9,13 +9,16 @@ mod asking;
 mod check;
 mod declarations;
 mod examples;
-mod gathered;
 mod handle;
 mod held;
 mod judge;
+mod listed;
+mod listing;
 mod loose;
 mod normal;
 mod outcome;
+mod part;
+mod parts;
 mod room;
 mod show;
 mod unread;
@@ -25,6 +28,9 @@ pub use declarations::{
     oncrpc_declarations_check, oncrpc_declarations_free, oncrpc_declarations_read,
 };
 pub use handle::Handle;
+pub use listed::PartsOutcome;
 pub use normal::oncrpc_normalise;
 pub use outcome::Outcome;
+pub use part::ValuePart;
+pub use parts::oncrpc_declarations_parts;
 pub use show::oncrpc_declarations_show;

@@ -5,13 +5,12 @@ ghost use Rattle.oncrpc_c.specs.Statuses.{status_of, outcome_of};
 ghost use Rattle.oncrpc_c.specs.declared.answer.Answer.{Answer as AnswerSpec};
 
 use super::answer::Answer;
-use super::gathered::Gathered;
 use super::outcome::Outcome;
 use super::room::put;
 use rpc_record::{NoMemory, RecordFault, normalise};
 use std::alloc::Global;
 use xdr_codec::{DecodeFault, Reason};
-use xdr_io::MemorySource;
+use xdr_io::{Gathered, MemorySource};
 
 /// The greatest limit on the bytes of a record.
 const MOST_LIMIT: u32 = 2147483647;

@@ -1,6 +1,7 @@
 //! A call that is asked for, and what fails in it: the words of a line, with one space between two.
 //!
-//! `ENGINE READ_PIECE READ_FAILS WRITE_PIECE WRITE_FAILS REFUSED SETTING NAME TEXT INPUT BEFORE AFTER ZEROS DEPTH BYTES`:
+//! `ENGINE READ_PIECE READ_FAILS WRITE_PIECE WRITE_FAILS REFUSED SETTING NAME TEXT INPUT BEFORE AFTER ZEROS DEPTH
+//! BYTES`:
 //! how many bytes a read gives and a write takes, and which of them fails, from 1, 0 for none; the growth that is
 //! refused, as N alone or N.. with all later ones, 0 for none; a number that the engine knows; the name of a kind; in
 //! hexadecimal a text of declarations, the bytes to read, and streams for the registry before and after; how many zero

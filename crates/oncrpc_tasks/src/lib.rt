@@ -5,7 +5,6 @@ mod answer;
 mod check;
 mod declared;
 mod failure;
-mod gathered;
 mod given;
 mod hexadecimal;
 mod judge;

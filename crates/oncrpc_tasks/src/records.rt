@@ -7,11 +7,10 @@ ghost use Rattle.oncrpc_tasks.specs.Input.{most_read};
 ghost use Rattle.oncrpc_tasks.specs.Records.{Marks, MarksAsText, StopsFor, refusal_line};
 
 use super::failure::{Failure, report};
-use super::gathered::Gathered;
 use super::given::{Given, given_over};
 use rpc_record::{RecordFault, normalise};
 use std::alloc::{AllocError, Global};
-use xdr_io::{MemorySource, Sink, Source, write_whole};
+use xdr_io::{Gathered, MemorySource, Sink, Source, write_whole};
 
 /// The greatest limit on the bytes of a record.
 pub const MOST_LIMIT: u32 = 2147483647;

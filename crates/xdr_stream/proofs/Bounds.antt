@@ -211,14 +211,16 @@ module _ (s : List KindView) (t : ℕ) (l : Bounds) (H : Trace → Type 0) (q : 
   holds (Wide signed) fs ready r =
       let ds : List Due = Rest 8 ∷ dues fs in
       let kept : ℕ = content_before (length q) r.reading.begun in
-      let h = held_by_frames s t l q r.reading.begun ds r.reading.front (reaches s t l ds q (omega arith) r.reading) in (
+      let h = held_by_frames s t l q r.reading.begun ds r.reading.front
+      (reaches s t l ds q (omega arith) r.reading) in (
         (kept, subst (λ (k : ℕ). Holds s t q k kept) (counted (Wide signed) fs ready r) h.0),
         omega (arith, h.1 (still s t l H q (Wide signed) fs ready r).0, dues_length fs),
       )
   holds (Low signed x) fs ready r =
       let ds : List Due = Rest 4 ∷ dues fs in
       let kept : ℕ = content_before (length q) r.reading.begun in
-      let h = held_by_frames s t l q r.reading.begun ds r.reading.front (reaches s t l ds q (omega arith) r.reading) in (
+      let h = held_by_frames s t l q r.reading.begun ds r.reading.front
+      (reaches s t l ds q (omega arith) r.reading) in (
         (kept, subst (λ (k : ℕ). Holds s t q k kept) (counted (Low signed x) fs ready r) h.0),
         omega (arith, h.1 (still s t l H q (Low signed x) fs ready r).0, dues_length fs),
       )

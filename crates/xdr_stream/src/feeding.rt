@@ -1,12 +1,12 @@
 //! Pieces of bytes, read unit by unit.
-ghost use Rattle.std.specs.Prelude.{◌≡◌, ◌+◌, ◌≤◌, ◌<◌, ◌%◌, ◌*◌, ℕ, List, [], ◌∷◌, ◌++◌, length, take, drop};
+ghost use Rattle.std.specs.Prelude.{◌≡◌, ◌+◌, ◌≤◌, ◌<◌, ◌%◌, ◌*◌, ℕ, List, [], ◌∷◌, ◌++◌, length, take};
 ghost use Rattle.std.specs.Prelude.{IfOk, IfErr, Ok, Err};
 ghost use Rattle.xdr_stream.specs.Frames.{left_of, stack_of};
 ghost use Rattle.xdr_stream.specs.Sees.{Sees, IsReady, Ends, reason_of};
 ghost use Rattle.xdr_stream.specs.Live.{IsLive};
 ghost use Rattle.xdr_stream.specs.Sound.{IsAwaited};
 ghost use Rattle.xdr_stream.specs.Stands.{StandsFor, IsAwake, IsWaiting, IsSame, Answers, taken, used_of};
-ghost use Rattle.xdr_stream.specs.Run.{IsRun, IsHypers};
+ghost use Rattle.xdr_stream.specs.Run.{IsHypers};
 ghost use Rattle.xdr_stream.specs.declared.machine.Awaits.TheVariants.{Next, Content, Wide};
 ghost use Rattle.xdr_stream.specs.declared.reader.State.TheVariants.{Reading, Finished, Failed};
 ghost use Rattle.xdr_stream.specs.declared.reader.Progress.TheVariants.{More, Done};
@@ -16,8 +16,9 @@ use crate::fault::{DecodeFault, Reason};
 use crate::frame::Frame;
 use crate::machine::{Awaits, Trouble, settle};
 use crate::reader::{Progress, Reader, State};
-use crate::run::{Run, hypers_due, run_due};
-use crate::unit::{are_zeros, end_content, take_unit};
+use crate::run::{Run, hypers_due};
+use crate::unit::take_unit;
+use crate::whole::unit_at;
 
 /// How many bytes of whole units are there: within what is left to read, the piece and the limit.
 pub fn units_there(left: usize, there: usize, room: usize) -> usize
@@ -41,32 +42,6 @@ fn hypers_there(left: usize, there: usize, room: usize) -> usize
     most - most % 8
 }
 
-// How many bytes some bytes of content take with their padding, where these are there, and the limit is not reached
-// before their end; else 0.
-#[inline(always)]
-fn whole_there(size: u32, there: usize, room: usize) -> usize
-    ensures units { result % 4 ≡ 0 }
-    ensures size { 0 < result → (size ≤ result) × (result < size + 4) }
-    ensures there { result ≤ there }
-    ensures room { result ≤ room }
-{
-    let most = size as usize + 3;
-    let whole = most - most % 4;
-    if whole <= there && whole <= room {
-        whole
-    } else {
-        0
-    }
-}
-
-// The unit at a place.
-fn unit_at(bytes: &[u8], at: usize) -> [u8; 4]
-    requires { at + 4 ≤ length bytes.now }
-    ensures { result ≡ take 4 (drop at bytes.now) }
-{
-    [bytes[at], bytes[at + 1], bytes[at + 2], bytes[at + 3]]
-}
-
 // A unit with this last byte.
 fn with_last(unit: [u8; 4], byte: u8) -> [u8; 4]
     ensures { result ≡ take 3 unit ++ byte ∷ [] }
@@ -77,7 +52,7 @@ fn with_last(unit: [u8; 4], byte: u8) -> [u8; 4]
 impl<'s, B: Build + Drop> Reader<'s, B> {
     // Ends and begins what takes no byte, where this comes next after whole units.
     #[inline(always)]
-    fn settle(&mut self, awaits: Awaits)
+    pub(crate) fn settle(&mut self, awaits: Awaits)
         ensures stands { (q : List ℕ) → length q ≡ self.old.read → self.old.pending ≡ 0 → IsLive awaits
             → Sees self.old.schema.now.kinds self.old.kind.place self.old.limits (B.tells self.old.built) awaits
             (stack_of self.old.work self.old.parents.items) q
@@ -126,7 +101,7 @@ impl<'s, B: Build + Drop> Reader<'s, B> {
     }
 
     // Refuses what comes after the units that are read, and lets go of what is held.
-    fn fail(&mut self, why: Reason)
+    pub(crate) fn fail(&mut self, why: Reason)
         ensures stands { (b : List ℕ)
             → ((rest : List ℕ) → Ends self.old.schema.now.kinds self.old.kind.place self.old.limits why
             (b ++ rest) self.old.read)
@@ -142,7 +117,7 @@ impl<'s, B: Build + Drop> Reader<'s, B> {
 
     // Takes a whole unit.
     #[inline(always)]
-    fn take(&mut self, awaits: Awaits, unit: &[u8; 4])
+    pub(crate) fn take(&mut self, awaits: Awaits, unit: &[u8; 4])
         requires { IsAwaited self.old.schema.now.kinds (left_of self.old.work) awaits }
         ensures stands { (q : List ℕ) → length q ≡ self.old.read → self.old.pending ≡ 0
             → Sees self.old.schema.now.kinds self.old.kind.place self.old.limits (B.tells self.old.built) awaits
@@ -198,7 +173,7 @@ impl<'s, B: Build + Drop> Reader<'s, B> {
             → StandsFor B.tells self.old b → StandsFor B.tells self.new (b ++ take result bytes.now) }
         ensures some { 0 < result }
         ensures within { result ≤ length bytes.now }
-        ensures awake { IsAwake self.new.state }
+        ensures awake { self.old.state ≡ Reading awaits → IsAwake self.new.state }
         ensures same { IsSame self.old self.new }
     {
         if let Awaits::Content(left) = awaits {
@@ -210,87 +185,9 @@ impl<'s, B: Build + Drop> Reader<'s, B> {
             }
         }
         if let Awaits::Next = awaits {
-            if let Some(run) = run_due(self.schema, self.work) {
-                let room = (self.limits.bytes() as usize).saturating_sub(self.read);
-                let n = units_there(run.left as usize * 4, bytes.len(), room);
-                if n > 4 {
-                    self.take_run(run, run.left - ((n / 4) as u32 - 1), n, bytes);
-                    return n;
-                }
-            }
-            return self.take_part(bytes);
+            return self.take_next(bytes);
         }
         self.take_first(awaits, bytes)
-    }
-
-    // Takes the unit that comes first at a part, and the content behind it where all of it is there, and tells how many
-    // bytes.
-    #[inline(always)]
-    fn take_part(&mut self, bytes: &[u8]) -> usize
-        requires there { 4 ≤ length bytes.now }
-        requires awaited { IsAwaited self.old.schema.now.kinds (left_of self.old.work) Next }
-        ensures stands { (b : List ℕ) → self.old.state ≡ Reading Next → self.old.pending ≡ 0
-            → StandsFor B.tells self.old b → StandsFor B.tells self.new (b ++ take result bytes.now) }
-        ensures some { 0 < result }
-        ensures within { result ≤ length bytes.now }
-        ensures awake { IsAwake self.new.state }
-        ensures same { IsSame self.old self.new }
-    {
-        let _range = self.limits.depth();
-        self.state = State::Fresh;
-        let unit = unit_at(bytes, 0);
-        match take_unit(
-            self.schema,
-            Awaits::Next,
-            &mut self.work,
-            &mut self.parents,
-            &mut self.built,
-            &unit,
-        ) {
-            Ok(awaits) => {
-                self.read = self.read.saturating_add(4);
-                4 + self.take_whole(awaits, &bytes[4..])
-            }
-            Err(why) => {
-                self.fail(why);
-                4
-            }
-        }
-    }
-
-    // Takes content that comes next where all of it and its padding are there, and begins what comes next; tells how
-    // many bytes.
-    #[inline(always)]
-    fn take_whole(&mut self, awaits: Awaits, bytes: &[u8]) -> usize
-        ensures stands { (q : List ℕ) → length q ≡ self.old.read → self.old.pending ≡ 0 → IsLive awaits
-            → Sees self.old.schema.now.kinds self.old.kind.place self.old.limits (B.tells self.old.built) awaits
-            (stack_of self.old.work self.old.parents.items) q
-            → StandsFor B.tells self.new (q ++ take result bytes.now) }
-        ensures within { result ≤ length bytes.now }
-        ensures awake { IsAwake self.new.state }
-        ensures same { IsSame self.old self.new }
-    {
-        let _known = self.schema.len();
-        let _range = self.limits.depth();
-        if let Awaits::Content(size) = awaits {
-            let room = (self.limits.bytes() as usize).saturating_sub(self.read);
-            let n = whole_there(size, bytes.len(), room);
-            if n > 0 && are_zeros(&bytes[size as usize..n]) {
-                match end_content(&mut self.built, &bytes[..size as usize]) {
-                    Ok(()) => {
-                        self.read = self.read.saturating_add(n);
-                        self.settle(Awaits::Next);
-                        return n;
-                    }
-                    Err(_) => {
-                        self.fail(Reason::NoMemory);
-                        return n;
-                    }
-                }
-            }
-        }
-        self.settle(awaits);
-        0
     }
 
     // Takes the unit that comes first, or all hyper integers of an array where one begins with it, and tells how many
@@ -340,36 +237,6 @@ impl<'s, B: Build + Drop> Reader<'s, B> {
             Ok(()) => {
                 self.read = self.read.saturating_add(n - 4);
                 self.take(Awaits::Content(last), &unit_at(bytes, n - 4));
-            }
-            Err(_) => self.fail(Reason::NoMemory),
-        }
-    }
-
-    // Takes so many bytes of numbers of one unit, items of the array at work; so many are left at the last of them.
-    #[inline(always)]
-    fn take_run(&mut self, run: Run, last: u32, n: usize, bytes: &[u8])
-        requires units { n % 4 ≡ 0 }
-        requires some { 4 < n }
-        requires there { n ≤ length bytes.now }
-        requires last { 0 < last }
-        requires due { IsRun self.old.schema.now.kinds self.old.work run }
-        requires left { 4 * run.left + 4 ≡ 4 * last + n }
-        ensures stands { (b : List ℕ) → self.old.state ≡ Reading Next
-            → self.old.pending ≡ 0 → n + self.old.read ≤ self.old.limits.bytes
-            → StandsFor B.tells self.old b → StandsFor B.tells self.new (b ++ take n bytes.now) }
-        ensures awake { IsAwake self.new.state }
-        ensures same { IsSame self.old self.new }
-    {
-        let _known = self.schema.len();
-        let _range = self.limits.depth();
-        match self.built.numbers(run.signed, &bytes[..n - 4]) {
-            Ok(()) => {
-                self.work = Frame::Items {
-                    item: run.item,
-                    left: last,
-                };
-                self.read = self.read.saturating_add(n - 4);
-                self.take(Awaits::Next, &unit_at(bytes, n - 4));
             }
             Err(_) => self.fail(Reason::NoMemory),
         }

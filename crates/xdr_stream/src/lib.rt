@@ -12,11 +12,13 @@ pub mod frame;
 pub mod holding;
 pub mod machine;
 pub mod number;
+pub mod part;
 pub mod reader;
 pub mod run;
 pub mod step;
 pub mod unit;
 pub mod values;
+pub mod whole;
 
 pub use fault::{DecodeFault, Reason};
 pub use holding::Held;

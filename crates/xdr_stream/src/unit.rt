@@ -15,7 +15,7 @@ use std::alloc::AllocError;
 use xdr_types::Schema;
 
 // The number of a unit.
-fn number_of(unit: &[u8; 4]) -> u32
+pub(crate) fn number_of(unit: &[u8; 4]) -> u32
     ensures { num4 (pos result) ≡ unit.now }
 {
     u32::from_be_bytes(*unit)

@@ -1,7 +1,7 @@
 //! Datagrams served: each receive and each send fails in turn, and so does each growth.
 use crate::registry::calls::{Registry, started};
 use crate::served::made::bytes_of;
-use growths::{allow, refuse, take_all};
+use growths::{allow, bytes, refuse, take_all};
 use rpc_engine::{DatagramFault, MemoryPort, Served, serve_datagrams};
 use std::alloc::Global;
 use std::env::Env;
@@ -295,6 +295,34 @@ fn sends_system_err_at_each_refused_growth(rt: HostRuntime) -> Result<(), Fail> 
         );
     }
     Ok(())
+}
+
+/// How many bytes serving a call asks for. `None` where nothing counts them, or where its reply is another.
+fn bytes_for(alloc: Global, rt: &impl Env, call: &(&str, &str)) -> Option<u64> {
+    let mut directory = started(alloc).ok()?;
+    let datagram = bytes_of(alloc, &[call.0])?;
+    let reply = bytes_of(alloc, &[call.1])?;
+    let before = bytes(rt)?;
+    let answer = served(alloc, &mut directory, &datagram);
+    let after = bytes(rt)?;
+    if is_replied(&answer, &reply) {
+        Some(after.saturating_sub(before))
+    } else {
+        None
+    }
+}
+
+// A reply of 24 or 28 bytes wants a room of its own size, which may be doubled once. A datagram may have 65507.
+#[test]
+fn asks_for_no_more_memory_than_the_reply_wants(rt: HostRuntime) {
+    let counts = bytes(&rt).is_some();
+    for (number, call) in [CALLS[0], CALLS[2]].iter().enumerate() {
+        let asked = bytes_for(rt.alloc(), &rt, call);
+        assert!(rt;
+            asked.is_some_and(|asked| asked > 0 && asked <= 128) == counts,
+            "call {number}"
+        );
+    }
 }
 
 /// Whether a call is answered by SYSTEM_ERR where there is no memory, and an empty datagram by silence.

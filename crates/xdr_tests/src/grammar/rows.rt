@@ -26,11 +26,13 @@ pub static DECLARING: [Declares; 8] = [
         [2, 2, 3, 0],
     ),
     (
-        b"union u switch (bool b) { case TRUE: case 3: opaque x[3]; case FALSE: void; default: struct { int a; void; } y; };",
+        b"union u switch (bool b) { case TRUE: case 3: opaque x[3]; case FALSE: void; \
+            default: struct { int a; void; } y; };",
         [0, 3, 1, 0],
     ),
     (
-        b"program P { version V { void NIL(void) = 0; string ECHO(string, hyper) = 1; } = 1; version W { int N(enum { X = 1 }) = 0; } = 2; } = 9;",
+        b"program P { version V { void NIL(void) = 0; string ECHO(string, hyper) = 1; } = 1; \
+            version W { int N(enum { X = 1 }) = 0; } = 2; } = 9;",
         [1, 1, 0, 1],
     ),
     (

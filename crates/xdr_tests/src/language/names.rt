@@ -58,7 +58,8 @@ static NUMBERED: [Refused; 4] = [
         [5, 0, 1, 84],
     ),
     (
-        b"program P { version V { void N(void) = 0; } = 1; } = 7;\nprogram Q { version V { void N(void) = 0; } = 1; } = 7;",
+        b"program P { version V { void N(void) = 0; } = 1; } = 7;\n\
+            program Q { version V { void N(void) = 0; } = 1; } = 7;",
         [5, 0, 2, 47],
     ),
     (

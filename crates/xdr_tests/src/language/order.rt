@@ -86,7 +86,8 @@ static UNKNOWN: [Refused; 31] = [
         [6, 0, 1, 25],
     ),
     (
-        b"program P { version V { void N(void) = 0; } = 1; } = 7; program Q { version V { void N(void) = 0; } = 1; } = 8; typedef t u;",
+        b"program P { version V { void N(void) = 0; } = 1; } = 7; \
+            program Q { version V { void N(void) = 0; } = 1; } = 8; typedef t u;",
         [6, 0, 1, 121],
     ),
     (

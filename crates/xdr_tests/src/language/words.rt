@@ -187,7 +187,8 @@ static LEFT_OUT: [Refused; 10] = [
         [3, 0, 1, 54],
     ),
     (
-        b"enum mountstat3 { MNT3_OK = 0 }; union mountres3 switch (mountstat3 s) { case MNT_OK: int x; default: void; };",
+        b"enum mountstat3 { MNT3_OK = 0 }; \
+            union mountres3 switch (mountstat3 s) { case MNT_OK: int x; default: void; };",
         [6, 0, 1, 79],
     ),
     (

@@ -4,7 +4,7 @@ use crate::schema::{
     OPTIONAL, PAIR, PAIRS, SIGNED_ALIKE, SIX_BYTES, STRING, UNSIGNED, UNSIGNED_CHOICE,
     UNSIGNED_HYPER, all_kinds,
 };
-use crate::shown::calls::{is_shown, shown, value_of};
+use crate::shown::calls::{is_shown, is_shown_of_bytes, shown, value_of};
 use std::alloc::{AllocError, Global};
 use std::process::Abort;
 use xdr_types::{Schema, Value};
@@ -21,7 +21,8 @@ fn check_each(rt: &impl Abort, alloc: Global, rows: &[Row]) {
 
 fn check(rt: &impl Abort, alloc: Global, schema: &Schema, place: u32, text: &str, lines: &str) {
     let value = value_of(rt, alloc, schema, place, text);
-    if !is_shown(alloc, schema, place, &value, lines) {
+    let is_same = is_shown_of_bytes(alloc, schema, place, text, lines);
+    if !is_same || !is_shown(alloc, schema, place, &value, lines) {
         panic!(*rt; "{lines}");
     }
 }
@@ -29,7 +30,8 @@ fn check(rt: &impl Abort, alloc: Global, schema: &Schema, place: u32, text: &str
 const FILES: [Row; 1] = [(
     FILE,
     "0000000973696c6c7970726f6700000000000002000000046c697370000000046a6f686e000000062871756974290000",
-    "struct\n  filename: \"sillyprog\"\n  type: case EXEC = 2\n    interpretor: \"lisp\"\n  owner: \"john\"\n  data: 0x287175697429\n",
+    "struct\n  filename: \"sillyprog\"\n  type: case EXEC = 2\n    interpretor: \"lisp\"\n  \
+    owner: \"john\"\n  data: 0x287175697429\n",
 )];
 
 const NUMBERS: [Row; 8] = [

@@ -4,6 +4,10 @@ use Rattle.oncrpc_c.proofs.normal.normal_form.Goals as goal
 
 pub returns-in-Err-TooLong : goal.returns-in-Err-TooLong
 returns-in-Err-TooLong c =
-    let stops = rw (c.new-source.ensures.left, c.new-sink.ensures, c.in-Err-TooLong.field-0-is) at
-    c.in-Err-TooLong.ensures.fault in
-    rw c.into_bytes-in-Err-TooLong.ensures (form_long _ _ c.args.input.now _ _ stops)
+    let stops = rw (
+      c.new-source.ensures.left,
+      c.new-sink.ensures,
+      c.in-Err-TooLong.field-0-is,
+      c.into_bytes-in-Err-TooLong.ensures,
+    ) at c.in-Err-TooLong.ensures.fault in
+    form_long _ _ c.args.input.now _ _ stops

@@ -1,7 +1,6 @@
 -- The lines of the value that the answer tells of go into the room, or do not.
-use Rattle.std.proofs.Common.{◌≡◌, ℕ, length, true, rules}
-use Rattle.xdr_show.specs.Shown.{show_text}
-use Rattle.oncrpc_c.specs.Answers.{Question, BeginsWithValue}
+use Rattle.std.proofs.Common.{◌≡◌, length, true, rules}
+use Rattle.oncrpc_c.specs.Answers.{Question}
 use Rattle.oncrpc_c.specs.Statuses.{tells_value}
 use Rattle.oncrpc_c.proofs.Showing.{lines_shown, no_room}
 use Rattle.oncrpc_c.proofs.show.show_into.Goals as goal

@@ -16,7 +16,8 @@ returns-clause-other c =
     let p = c.new-port.result in
     let q = c.exchange_datagram.new.port in
     other_two c.messages_have_one_case.ensures.exclusive (call_bytes (call_view c.args.call.now)) (left_of p)
-    (left_of q) (sent_of p) (sent_of q) c.new-port.ensures.left c.args.call.now.xid c.requires.xid c.exchange_datagram.result
+    (left_of q) (sent_of p) (sent_of q) c.new-port.ensures.left c.args.call.now.xid c.requires.xid
+    c.exchange_datagram.result
     c.exchange_datagram.ensures.answer
 
 pub returns-clause-reply : goal.returns-clause-reply

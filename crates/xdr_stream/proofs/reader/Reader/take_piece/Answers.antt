@@ -13,7 +13,7 @@ loop-at-preserved-then-piece-at-ge4 g c =
     let at : ℕ = c.loop-at.at in
     let n : ℕ = c.take_units-at.result in (
       omega (arith, c.take_units-at.ensures.within, length-take (length p - at) (drop at p), length-drop at p, i.0),
-      c.take_units-at.ensures.awake,
+      c.take_units-at.ensures.awake c.in-Reading.is,
       same_then c.args.self.now c.loop-at.self c.take_units-at.new.self i.2 c.take_units-at.ensures.same,
       λ b st.
           let all : take (length p - at) (drop at p) ≡ drop at p =

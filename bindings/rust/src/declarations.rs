@@ -1,0 +1,142 @@
+//! Declarations in the XDR language, and values of the kinds that they declare.
+
+use crate::fault::{CheckFault, ReadFault};
+use crate::sys;
+use std::ptr;
+
+/// How deep a value may be, and how many bytes it may have.
+#[derive(Clone, Copy, Debug, PartialEq, Eq, Hash)]
+pub struct Limits {
+    /// From 1, where the value itself is at 1, to 4096.
+    pub depth: u32,
+    /// From 4 to 16777216, a multiple of four.
+    pub bytes: u32,
+}
+
+impl Limits {
+    /// The greatest limits that are taken.
+    pub const MOST: Self = Self {
+        depth: 4096,
+        bytes: 16_777_216,
+    };
+}
+
+/// A value at the front of the bytes.
+#[derive(Clone, Copy, Debug, PartialEq, Eq, Hash)]
+pub struct Checked {
+    /// How many bytes it has.
+    pub used: usize,
+    /// Whether at least one more byte follows it.
+    pub more_follows: bool,
+}
+
+impl Checked {
+    pub(crate) fn of(status: u32, outcome: &sys::Outcome) -> Result<Self, CheckFault> {
+        match status {
+            sys::OK | sys::MORE_FOLLOWS => Ok(Self {
+                used: outcome.at,
+                more_follows: status == sys::MORE_FOLLOWS,
+            }),
+            _ => Err(CheckFault::of(status, outcome)),
+        }
+    }
+}
+
+/// Declarations that were read. They stay on their thread, and a check borrows them alone.
+#[derive(Debug)]
+pub struct Declarations {
+    handle: sys::Declarations,
+}
+
+impl Declarations {
+    /// Reads declarations in the XDR language (RFC 4506 section 6), at most 262144 bytes of them.
+    pub fn read(text: &[u8]) -> Result<Self, ReadFault> {
+        let mut read = Self {
+            handle: sys::Declarations {
+                at: ptr::null_mut(),
+                live: false,
+            },
+        };
+        let mut outcome = sys::Outcome::default();
+        // SAFETY: the text is a slice, and handle and outcome are ours alone.
+        let status =
+            unsafe { sys::oncrpc_declarations_read(text.as_ptr(), text.len(), &mut read.handle, &mut outcome) };
+        match status {
+            sys::OK => Ok(read),
+            _ => Err(ReadFault::of(status, &outcome)),
+        }
+    }
+
+    /// Tells whether a value of the kind begins the input. The name is one that the text declares, or that of a basic
+    /// kind: `int`, `unsigned`, `hyper`, `unsigned-hyper`, `bool`, `opaque`, `string`. Builds no value.
+    pub fn check(&mut self, name: &str, limits: Limits, input: &[u8]) -> Result<Checked, CheckFault> {
+        let mut outcome = sys::Outcome::default();
+        // SAFETY: name and input are slices, and handle and outcome are ours alone.
+        let status = unsafe {
+            sys::oncrpc_declarations_check(
+                &mut self.handle,
+                name.as_ptr(),
+                name.len(),
+                limits.depth,
+                limits.bytes,
+                input.as_ptr(),
+                input.len(),
+                &mut outcome,
+            )
+        };
+        Checked::of(status, &outcome)
+    }
+
+    /// The lines of the value that begins the input, one for each part, as `oncrpc show` prints them.
+    pub fn show(&mut self, name: &str, limits: Limits, input: &[u8]) -> Result<(Checked, String), CheckFault> {
+        let (status, outcome, _) = self.show_into(name, limits, input, &mut []);
+        let mut lines = room(if status == sys::NO_ROOM { outcome.at } else { 0 }).ok_or(CheckFault::NoMemory)?;
+        let (status, outcome, written) = self.show_into(name, limits, input, &mut lines);
+        let found = Checked::of(status, &outcome)?;
+        lines.truncate(written);
+        let text = String::from_utf8(lines).unwrap_or_else(|it| String::from_utf8_lossy(it.as_bytes()).into_owned());
+        Ok((found, text))
+    }
+
+    pub(crate) fn handle(&mut self) -> &mut sys::Declarations {
+        &mut self.handle
+    }
+
+    /// The status, the outcome, and how many bytes of the room were written.
+    fn show_into(&mut self, name: &str, limits: Limits, input: &[u8], room: &mut [u8]) -> (u32, sys::Outcome, usize) {
+        let mut outcome = sys::Outcome::default();
+        let mut written = 0;
+        // SAFETY: name and input are slices; handle, room, count and outcome are ours alone and lie apart.
+        let status = unsafe {
+            sys::oncrpc_declarations_show(
+                &mut self.handle,
+                name.as_ptr(),
+                name.len(),
+                limits.depth,
+                limits.bytes,
+                input.as_ptr(),
+                input.len(),
+                room.as_mut_ptr(),
+                room.len(),
+                &mut written,
+                &mut outcome,
+            )
+        };
+        (status, outcome, written)
+    }
+}
+
+impl Drop for Declarations {
+    fn drop(&mut self) {
+        // SAFETY: the handle is ours alone; one that holds none is left as it is.
+        unsafe { sys::oncrpc_declarations_free(&mut self.handle) }
+    }
+}
+
+/// So many zeros, or `None` where memory is refused.
+pub(crate) fn room(count: usize) -> Option<Vec<u8>> {
+    let mut made = Vec::new();
+    made.try_reserve_exact(count).ok()?;
+    made.resize(count, 0);
+    Some(made)
+}

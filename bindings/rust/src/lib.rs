@@ -1,0 +1,33 @@
+//! XDR (RFC 4506), messages and record marking of ONC RPC (RFC 5531), and the registry of rpcbind (RFC 1833), by proved
+//! code.
+//!
+//! Safe calls of `liboncrpc`, over std alone. What each call promises is the contract of the function of C that it
+//! makes, which a prover has accepted (`include/oncrpc.h` retells it); the code here only lends it the bytes and gives
+//! its statuses names. No call panics on any input, and no length that the input declares reserves memory.
+//!
+//! ```no_run
+//! use oncrpc::{Declarations, Limits};
+//!
+//! let mut declarations = Declarations::read(b"struct point { int x; int y; };")?;
+//! let checked = declarations.check("point", Limits::MOST, &[0; 8])?;
+//! assert_eq!((checked.used, checked.more_follows), (8, false));
+//! # Ok::<(), Box<dyn std::error::Error>>(())
+//! ```
+#![deny(missing_docs)]
+
+mod declarations;
+mod fault;
+mod messages;
+mod parts;
+mod records;
+mod registry;
+mod sys;
+
+pub use declarations::{Checked, Declarations, Limits};
+pub use fault::{CheckFault, ReadFault, Reason, Refusal, TextFault, TextFaultKind};
+pub use messages::{
+    Auth, AuthSys, AuthSysFault, Call, CallFault, Denial, Outcome, Reply, ReplyFault, Versions, WriteFault,
+};
+pub use parts::{Part, Parts, Role, XdrType};
+pub use records::{normalise, NormaliseFault, MOST_RECORD};
+pub use registry::{NoMemory, Registry, Transport};

@@ -1,0 +1,69 @@
+//! Record marking (RFC 5531 section 11).
+
+use crate::declarations::room;
+use crate::fault::Refusal;
+use crate::sys;
+use std::error::Error;
+use std::fmt;
+
+/// The greatest limit on the bytes of a record.
+pub const MOST_RECORD: u32 = 2_147_483_647;
+
+/// Why a stream of records is not whole.
+#[derive(Clone, Debug, PartialEq, Eq, Hash)]
+#[non_exhaustive]
+pub enum NormaliseFault {
+    /// A record is above the limit, or the bytes end inside one.
+    Refused {
+        /// Why, and where.
+        refusal: Refusal,
+        /// The normal form of the records before it.
+        before: Vec<u8>,
+    },
+    /// The limit is above [`MOST_RECORD`].
+    BadLimit,
+    /// Memory was refused, or the input has more than 4294963200 bytes.
+    NoMemory,
+}
+
+impl fmt::Display for NormaliseFault {
+    fn fmt(&self, f: &mut fmt::Formatter<'_>) -> fmt::Result {
+        match self {
+            Self::Refused { refusal, .. } => refusal.fmt(f),
+            Self::BadLimit => f.write_str("the limit is out of its range"),
+            Self::NoMemory => f.write_str("out of memory"),
+        }
+    }
+}
+
+impl Error for NormaliseFault {}
+
+/// Each record of the input as one final fragment, where a record may have `limit` bytes.
+pub fn normalise(input: &[u8], limit: u32) -> Result<Vec<u8>, NormaliseFault> {
+    // A record has at least the header that is written for it, so no more room is needed.
+    let mut marked = room(input.len()).ok_or(NormaliseFault::NoMemory)?;
+    let mut written = 0;
+    let mut outcome = sys::Outcome::default();
+    // SAFETY: the input is a slice; room, count and outcome are ours alone and lie apart.
+    let status = unsafe {
+        sys::oncrpc_normalise(
+            input.as_ptr(),
+            input.len(),
+            limit,
+            marked.as_mut_ptr(),
+            marked.len(),
+            &mut written,
+            &mut outcome,
+        )
+    };
+    marked.truncate(written);
+    match status {
+        sys::OK => Ok(marked),
+        sys::REFUSED => Err(NormaliseFault::Refused {
+            refusal: Refusal::of(&outcome),
+            before: marked,
+        }),
+        sys::BAD_LIMITS => Err(NormaliseFault::BadLimit),
+        _ => Err(NormaliseFault::NoMemory),
+    }
+}

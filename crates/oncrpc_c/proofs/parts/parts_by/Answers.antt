@@ -1,0 +1,16 @@
+-- The name names a kind of the schema, which is well formed.
+use Rattle.xdr_lang.specs.Views.{declared_of}
+use Rattle.oncrpc_c.proofs.Named.{place_known}
+use Rattle.oncrpc_c.proofs.Parting.{parted_by}
+use Rattle.oncrpc_c.proofs.parts.parts_by.Goals as goal
+
+pub parts_into-requires : goal.parts_into-requires
+parts_into-requires c =
+    place_known c.args.declared.now.schema c.len-well_formed.ensures.well_formed c.args.name.now
+    c.in-Some.kind.place c.in-Some.ensures
+
+pub returns : goal.returns
+returns c =
+    let within = c.in-Some-new.ensures in
+    parted_by (declared_of c.args.declared.now) c.args.name.now c.args.depth c.args.bytes c.args.input.now _ _
+    c.in-Some.kind.place c.in-Some.ensures within.0 c.parts_into.result (rw within.1 at c.parts_into.ensures)

@@ -1,0 +1,4 @@
+mod Denied
+pub mod Handles
+mod Told
+pub mod Values

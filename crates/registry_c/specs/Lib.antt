@@ -1,0 +1,6 @@
+pub mod Answered
+pub mod Held
+pub mod Kept
+pub mod Rooms
+pub mod Rows
+pub mod Statuses

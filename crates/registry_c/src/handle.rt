@@ -1,0 +1,56 @@
+//! A registry that C keeps.
+ghost use Rattle.std.specs.Prelude.{◌≡◌, Option, Some, None, option_map};
+ghost use Rattle.registry_c.specs.declared.state.State.{State};
+
+use super::loose::Loose;
+use super::state::State;
+use std::alloc::Global;
+use std::marker::Model;
+
+/// A registry in C's hands, or none.
+#[repr(C)]
+pub struct Registry {
+    at: *mut u8,
+    live: bool,
+    pub ghost held: { Option State },
+}
+
+impl Model for Registry {
+    ghost use Rattle.registry_c.specs.Kept.{kept};
+
+    ghost also_owns = { λ h. kept h.live h.at h.held };
+}
+
+impl Registry {
+    /// No registry.
+    pub(crate) fn none(at: *mut u8) -> Registry
+        ensures { result.held ≡ None }
+    {
+        Registry { at, live: false }
+    }
+
+    /// This registry.
+    pub(crate) fn of(loose: Loose<State, Global>) -> Registry
+        ensures { result.held ≡ Some loose.value }
+    {
+        let Loose { at, alloc: _ } = loose;
+        Registry {
+            at: at as *mut u8,
+            live: true,
+        }
+    }
+
+    /// The registry, where there is one.
+    pub(crate) fn opened(self, alloc: Global) -> Option<Loose<State, Global>>
+        ensures { option_map (λ b. b.value) result ≡ self.held }
+    {
+        let Registry { at, live } = self;
+        if live {
+            return Some(Loose {
+                at: at as *mut State,
+                alloc,
+            });
+        }
+        None
+    }
+}

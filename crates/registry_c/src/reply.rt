@@ -1,0 +1,70 @@
+//! Replies that wait for room.
+ghost use Rattle.std.specs.Prelude.{◌≡◌, option_map};
+ghost use Rattle.rpc_message.specs.Message.{SystemErr};
+ghost use Rattle.rpc_message.specs.Spelling.{reply};
+ghost use Rattle.rpc_answer.specs.Answer.{accepted};
+ghost use Rattle.registry_c.specs.Answered.{IsTaken, IsTakenBy};
+ghost use Rattle.registry_c.specs.Held.{held_of};
+ghost use Rattle.registry_c.specs.Statuses.{status_of, outcome_of};
+ghost use Rattle.registry_c.specs.declared.answer.Answer.{Answer as AnswerSpec};
+
+use super::answer::Answer;
+use super::handle::Registry;
+use super::held::{keep, taken};
+use super::outcome::Outcome;
+use super::room::place;
+use super::state::State;
+use rpc_answer::Answered;
+use std::alloc::Global;
+
+/// The reply SYSTEM_ERR (RFC 5531 section 9).
+fn system_error(xid: u32) -> [u8; 24]
+    ensures { result ≡ reply (accepted xid SystemErr) }
+{
+    let [a, b, c, d] = xid.to_be_bytes();
+    [
+        a, b, c, d, 0, 0, 0, 1, 0, 0, 0, 0, 0, 0, 0, 0, 0, 0, 0, 0, 0, 0, 0, 5,
+    ]
+}
+
+/// Puts the reply that waits into the room. It waits on where it does not go into it.
+pub fn reply_into(state: &mut State, room: &mut [u8]) -> Answer
+    ensures { IsTaken (held_of state.old) (held_of state.new) room.old room.new result }
+{
+    let answer = match &state.waiting {
+        Answered::Silent => Answer::Silence,
+        Answered::Reply(bytes) => place(bytes, room),
+        Answered::OutOfMemory { xid } => place(&system_error(*xid), room),
+    };
+    if let Answer::Whole { .. } = answer {
+        state.waiting = Answered::Silent;
+    }
+    answer
+}
+
+/// Puts the reply that waits for room into the room, and then it waits no longer.
+///
+/// Status 0: the `at` bytes of the reply are written, and the rest of the room is untouched. 8: the room is too small,
+/// `at` bytes are needed, and the reply waits on. 19: no reply waits. 18: the handle holds no registry. At 8, 18 and 19
+/// the room is untouched. The rows stay.
+#[unsafe(no_mangle)]
+pub extern "C" fn oncrpc_registry_reply(
+    alloc: Global,
+    handle: &mut Registry,
+    room: &mut [u8],
+    outcome: &mut Outcome,
+) -> u32
+    ensures { (a : AnswerSpec) × IsTakenBy (option_map held_of handle.old.held) (option_map held_of handle.new.held)
+        room.old room.new a × (result ≡ status_of a) × (outcome.new ≡ outcome_of a) }
+{
+    let answer = match taken(alloc, handle) {
+        Some(mut state) => {
+            let answer = reply_into(&mut state, room);
+            keep(alloc, handle, state);
+            answer
+        }
+        None => Answer::NoRegistry,
+    };
+    *outcome = answer.outcome();
+    answer.status()
+}
