@@ -46,7 +46,7 @@ returns-in-Ok-clause-stands g c = λ b state none st.
     let rest : List (List Part) = onto [] a.parents.items in
     let seen : Sees s a.kind.place a.limits I Next (stack_of c.after-self.result a.parents.items) (q ++ u) =
     subst (λ (ps : List Part). Sees s a.kind.place a.limits I Next (ps ∷ rest) (q ++ u))
-        (sym c.after-self.ensures) next in
+    (sym c.after-self.ensures) next in
     let size : length u ≡ w.all = omega (arith, length-take w.all c.args.bytes.now, e.there) in
     let far : length (q ++ u) ≡ c.saturating_add-self.result =
     omega (

@@ -49,7 +49,7 @@ returns-in-Ok-clause-stands g c = λ b state none st.
     let rest : List (List Part) = onto [] a.parents.items in
     let seen : Sees s a.kind.place a.limits I Next (stack_of c.after-self.result a.parents.items) (q ++ u) =
     subst (λ (ps : List Part). Sees s a.kind.place a.limits I Next (ps ∷ rest) (q ++ u))
-        (sym c.after-self.ensures) next in
+    (sym c.after-self.ensures) next in
     let ready : IsReady s a.limits Next (stack_of c.after-self.result a.parents.items) =
     subst (λ (ps : List Part). IsReady s a.limits Next (ps ∷ rest)) (sym c.after-self.ensures)
     (ready_rest s a.limits (left_of a.work) (rest_of (left_of a.work)) rest c.requires.starts r.5) in
