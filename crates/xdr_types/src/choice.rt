@@ -11,6 +11,7 @@ use std::string::String;
 
 /// Whether a discriminant of the kind may have the number: an int's from -2^31 to 2^31 - 1, an unsigned int's from 0 to
 /// 2^32 - 1, 0 and 1 of a bool, the members' of an enumeration, none of another kind (RFC 4506 section 4.15).
+#[inline(always)]
 pub fn is_legal_tag(schema: &Schema, id: KindId, number: i64) -> bool
     ensures { result ≡ is_tag_of (kind_at schema.now.kinds id.place) number }
 {
@@ -18,6 +19,7 @@ pub fn is_legal_tag(schema: &Schema, id: KindId, number: i64) -> bool
 }
 
 /// The same, over the list of kinds.
+#[inline(always)]
 pub fn is_tag_number(kinds: &Vec<Kind>, id: KindId, number: i64) -> bool
     ensures { result ≡ is_tag_of (kind_at (map kind_view kinds.now.items) id.place) number }
 {
@@ -35,6 +37,7 @@ pub fn is_tag_number(kinds: &Vec<Kind>, id: KindId, number: i64) -> bool
 }
 
 /// Whether a member of an enumeration has the number (RFC 4506 section 4.3).
+#[inline(always)]
 pub fn is_number_of(members: &Vec<(String, i32)>, number: i64) -> bool
     ensures { result ≡ is_numbered (map constant_of members.now.items) number }
 {
@@ -50,6 +53,7 @@ pub fn is_number_of(members: &Vec<(String, i32)>, number: i64) -> bool
 }
 
 /// Whether the cases have the number.
+#[inline(always)]
 pub fn lists(cases: &[i64], number: i64) -> bool
     ensures { result ≡ is_listed cases.now number }
 {
@@ -75,6 +79,7 @@ pub fn has_no_arm(arms: &[Arm], number: i64) -> bool
 
 /// The part of a union under a discriminant: that of the arm which lists the number, else the default, where there is
 /// one (RFC 4506 section 4.15).
+#[inline(always)]
 pub fn part_under<'a>(
     arms: &'a Vec<Arm>,
     other: &'a Option<Member>,
