@@ -29,7 +29,8 @@ static const char text[] =
     "typedef string filename<NAMES>;\n"
     "struct entry { unsigned hyper fileid; filename name; unsigned hyper cookie; entry *next; };\n"
     "struct dirlist { entry *entries; bool eof; };\n"
-    "union reply switch (int status) { case 0: dirlist list; default: void; };\n";
+    "union reply switch (int status) { case 0: dirlist list; default: void; };\n"
+    "program NFS { version V3 { reply READDIR(filename, hyper) = 16; void NULL(void) = 0; } = 3; } = 100003;\n";
 
 struct row { const char *name; const char *input; size_t count; uint32_t status, why; size_t at; };
 
@@ -42,6 +43,13 @@ static const struct row rows[] = {
     {"filename", "\0\0\0\1ab\0\0", 8, ONCRPC_REFUSED, ONCRPC_BAD_PADDING, 4},
     {"filename", "\0\0\0\377", 4, ONCRPC_REFUSED, ONCRPC_TRUNCATED, 4},
     {"opaque", "\377\377\377\377", 4, ONCRPC_REFUSED, ONCRPC_TRUNCATED, 4},
+    {"100003.3.16.result", "\0\0\0\0\0\0\0\0\0\0\0\1", 12, ONCRPC_OK, 0, 12},
+    {"100003.3.16.1", "\0\0\0\1ab\0\0", 8, ONCRPC_REFUSED, ONCRPC_BAD_PADDING, 4},
+    {"100003.3.16.2", "\0\0\0\0\0\0\0\1", 8, ONCRPC_OK, 0, 8},
+    {"100003.3.16.3", "", 0, ONCRPC_NO_KIND, 0, 0},
+    {"100003.3.16.0", "", 0, ONCRPC_NO_KIND, 0, 0},
+    {"100003.3.0.result", "", 0, ONCRPC_NO_KIND, 0, 0},
+    {"100003.3.016.1", "", 0, ONCRPC_NO_KIND, 0, 0},
     {"folder", "", 0, ONCRPC_NO_KIND, 0, 0},
     {"\377", "", 0, ONCRPC_NO_KIND, 0, 0},
 };

@@ -222,8 +222,10 @@ typedef struct {
 #define ONCRPC_MOST_RECORD 2147483647u
 
 /* Reads `text`, declarations in the XDR language of at most 262144 bytes (docs/LANGUAGE.md), and tells whether `input`
- * is a value of the kind `name` that the text declares, or of a basic one: int, unsigned, hyper, unsigned-hyper, bool,
- * opaque, string. The name is UTF-8 and needs no zero at its end.
+ * is a value of the kind `name`: a type that the text declares, or a basic one, int, unsigned, hyper, unsigned-hyper,
+ * bool, opaque, string; or P.V.N.K, the K-th argument, from 1, of procedure N in version V of program P of the text, or
+ * P.V.N.result, its result where that is not void, with decimal numbers without leading zeros. The name is UTF-8 and
+ * needs no zero at its end.
  *
  * The text is looked at first, then the name, then the limits, then the input. `outcome` is filled at every status.
  * ONCRPC_OK, _MORE_FOLLOWS, _REFUSED, _UNDECLARED, _NO_KIND, _BAD_LIMITS, _NO_MEMORY. */

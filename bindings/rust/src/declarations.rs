@@ -68,7 +68,8 @@ impl Declarations {
     }
 
     /// Tells whether a value of the kind begins the input. The name is one that the text declares, or that of a basic
-    /// kind: `int`, `unsigned`, `hyper`, `unsigned-hyper`, `bool`, `opaque`, `string`. Builds no value.
+    /// kind: `int`, `unsigned`, `hyper`, `unsigned-hyper`, `bool`, `opaque`, `string`; or `P.V.N.K`, the K-th argument,
+    /// from 1, of procedure N in version V of program P, or `P.V.N.result`. Builds no value.
     pub fn check(&mut self, name: &str, limits: Limits, input: &[u8]) -> Result<Checked, CheckFault> {
         let mut outcome = sys::Outcome::default();
         // SAFETY: name and input are slices, and handle and outcome are ours alone.

@@ -1,6 +1,5 @@
 pub mod Handles
 mod Judging
-mod Named
 mod Pair
 mod Parting
 mod Records

@@ -4,7 +4,6 @@ use Rattle.std.specs.Str.{IsUtf8}
 use Rattle.xdr_types.specs.Kinds.{KindView}
 use Rattle.xdr_types.specs.Tree.{Tree}
 use Rattle.xdr_types.specs.Spelling.{bytes_of}
-use Rattle.xdr_types.specs.Named.{place_named}
 use Rattle.xdr_types.specs.Within.{Bounds, AreBounds, FitsWithin}
 use Rattle.xdr_types.specs.Outcome.{Outcome, Whole}
 use Rattle.xdr_stream.specs.Finish.{EndsWith}
@@ -13,6 +12,7 @@ use Rattle.xdr_stream.specs.declared.fault.Reason.TheVariants as reason
 use Rattle.xdr_codec.specs.Refused.{HasNoneWithin, IsRefused}
 use Rattle.xdr_lang.specs.Declarations.{Declared}
 use Rattle.xdr_lang.specs.Means.{Means}
+use Rattle.oncrpc_kinds.specs.Naming as naming
 use Rattle.oncrpc_c.specs.declared.answer.Answer.{Answer}
 use Rattle.oncrpc_c.specs.declared.answer.Answer.TheVariants as answer
 use Rattle.oncrpc_c.specs.Unread.{IsUndeclared}
@@ -47,13 +47,13 @@ IsJudged q input (answer.Refused f) = IsRefusal q input f
 IsJudged q input answer.NoMemory = ⊤
 IsJudged q input _ = ⊥
 
--- the name names the kind at this place
+-- the name is that of the kind at this place: of the schema, or of an argument or a result (RFC 5531 section 12.3)
 abbrev pub Names : Declared → (name : List ℕ) → (place : ℕ) → Type 0
-Names d name place = place_named d.schema.names name ≡ Some place
+Names d name place = naming.Names name d place × (place < length d.schema.kinds)
 
 -- the name is no text, or names nothing
 abbrev pub NamesNone : Declared → (name : List ℕ) → Type 0
-NamesNone d name = IsUtf8 name → place_named d.schema.names name ≡ None
+NamesNone d name = IsUtf8 name → (place : ℕ) → Names d name place → ⊥
 
 -- what is asked by the place of a kind that is declared
 abbrev pub question : Declared → (place depth bytes : ℕ) → Question

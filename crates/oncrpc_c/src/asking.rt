@@ -5,6 +5,7 @@ ghost use Rattle.oncrpc_c.specs.Answers.{IsRight, Names, NamesNone};
 
 use super::answer::Answer;
 use super::judge::judge;
+use oncrpc_kinds::kind_named;
 use std::alloc::Global;
 use std::str::from_utf8;
 use xdr_lang::Declared;
@@ -21,8 +22,7 @@ pub fn answer_by(
 ) -> Answer
     ensures { IsRight (declared_of declared.now) name.now depth bytes input.now result }
 {
-    let _well_formed = declared.schema.len();
-    let Some(kind) = kind_named(declared, name) else {
+    let Some(kind) = kind_asked(declared, name) else {
         return Answer::NoKind;
     };
     match Limits::new(depth, bytes) {
@@ -32,12 +32,13 @@ pub fn answer_by(
 }
 
 /// The kind that the name names, which is no text or the name of none otherwise.
-pub fn kind_named(declared: &Declared, name: &[u8]) -> Option<KindId>
+pub fn kind_asked(declared: &Declared, name: &[u8]) -> Option<KindId>
     ensures { MatchOption result (NamesNone (declared_of declared.now) name.now)
         (λ kind. Names (declared_of declared.now) name.now kind.place) }
 {
-    match from_utf8(name) {
-        Ok(name) => declared.kind(name),
-        Err(_) => None,
+    let kind = kind_named(declared, from_utf8(name).ok()?)?;
+    if declared.schema.has(kind) {
+        return Some(kind);
     }
+    None
 }

@@ -6,7 +6,7 @@ ghost use Rattle.oncrpc_c.specs.Parted.{IsParted, IsPartedByHeld, parts_status, 
 ghost use Rattle.oncrpc_c.specs.declared.listed.Listed.{Listed as ListedSpec};
 
 use super::answer::Answer;
-use super::asking::kind_named;
+use super::asking::kind_asked;
 use super::handle::Handle;
 use super::held::{keep, taken};
 use super::judge::judge;
@@ -90,8 +90,7 @@ fn parts_by(
     ensures { IsPartedByHeld (Some (declared_of declared.now)) name.now depth bytes input.now
         (record { parts = parts.old; names = names.old }) (record { parts = parts.new; names = names.new }) result }
 {
-    let _well_formed = declared.schema.len();
-    let Some(kind) = kind_named(declared, name) else {
+    let Some(kind) = kind_asked(declared, name) else {
         return Listed::NoKind;
     };
     let Some(limits) = Limits::new(depth, bytes) else {

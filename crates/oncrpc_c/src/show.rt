@@ -8,7 +8,7 @@ ghost use Rattle.oncrpc_c.specs.Statuses.{status_of, outcome_of};
 ghost use Rattle.oncrpc_c.specs.declared.answer.Answer.{Answer as AnswerSpec};
 
 use super::answer::Answer;
-use super::asking::kind_named;
+use super::asking::kind_asked;
 use super::handle::Handle;
 use super::held::{keep, taken};
 use super::judge::judge;
@@ -89,8 +89,7 @@ fn show_by(
         written.new result }
 {
     *written = 0;
-    let _well_formed = declared.schema.len();
-    let Some(kind) = kind_named(declared, name) else {
+    let Some(kind) = kind_asked(declared, name) else {
         return Answer::NoKind;
     };
     let Some(limits) = Limits::new(depth, bytes) else {

@@ -7,7 +7,7 @@ use Rattle.xdr_types.specs.Kinds.{KindView}
 use Rattle.xdr_types.specs.declared.kind.KindId.{KindId}
 use Rattle.xdr_lang.specs.Declarations.{Declared}
 use Rattle.oncrpc_tasks.specs.declared.task.ValueTask.{ValueTask}
-use Rattle.oncrpc_tasks.specs.Naming.{Names}
+use Rattle.oncrpc_kinds.specs.Naming.{Names}
 use Rattle.oncrpc_tasks.specs.Sources.{Declares, told_text}
 use Rattle.oncrpc_tasks.specs.Tasks.{AsksNothing}
 

@@ -3,7 +3,6 @@ pub mod Ends
 pub mod Hexadecimal
 pub mod Input
 pub mod Lines
-pub mod Naming
 pub mod Private
 pub mod Records
 pub mod Right

@@ -11,7 +11,7 @@ use Rattle.oncrpc_tasks.specs.declared.question.Question as declared
 use Rattle.oncrpc_tasks.specs.declared.unusable.Unusable.{Unusable}
 use Rattle.oncrpc_tasks.specs.declared.unusable.Unusable.TheVariants as unusable
 use Rattle.oncrpc_tasks.specs.Checked.{Answers}
-use Rattle.oncrpc_tasks.specs.Naming.{Names}
+use Rattle.oncrpc_kinds.specs.Naming.{Names}
 use Rattle.oncrpc_tasks.specs.Right.{Question}
 use Rattle.oncrpc_tasks.specs.Sources.{IsDeclared, IsTold, told_text}
 

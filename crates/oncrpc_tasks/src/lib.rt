@@ -8,7 +8,6 @@ mod failure;
 mod given;
 mod hexadecimal;
 mod judge;
-mod named;
 mod open;
 mod question;
 mod records;

@@ -7,7 +7,7 @@ ghost use Rattle.xdr_types.specs.Within.{AreBounds};
 ghost use Rattle.oncrpc_names.specs.Names.{IsPartName, name_text};
 ghost use Rattle.oncrpc_names.specs.declared.reading.Part.TheVariants.{Argument};
 ghost use Rattle.oncrpc_names.specs.declared.reading.PartName.{PartName};
-ghost use Rattle.oncrpc_tasks.specs.Naming.{Names};
+ghost use Rattle.oncrpc_kinds.specs.Naming.{Names};
 ghost use Rattle.oncrpc_tasks.specs.Sources.{bare};
 ghost use Rattle.xdr_lang.specs.Declarations.{Declared, Procedure, procedure_of_program};
 ghost use Rattle.xdr_lang.specs.Means.{Means};

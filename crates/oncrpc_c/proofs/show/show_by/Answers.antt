@@ -1,13 +1,10 @@
--- The name names a kind of the schema, which is well formed.
+-- The name names a kind of the schema.
 use Rattle.xdr_lang.specs.Views.{declared_of}
-use Rattle.oncrpc_c.proofs.Named.{place_known}
 use Rattle.oncrpc_c.proofs.Showing.{shown_by}
 use Rattle.oncrpc_c.proofs.show.show_by.Goals as goal
 
 pub show_into-requires : goal.show_into-requires
-show_into-requires c =
-    place_known c.args.declared.now.schema c.len-well_formed.ensures.well_formed c.args.name.now
-    c.in-Some.kind.place c.in-Some.ensures
+show_into-requires c = c.in-Some.ensures.1
 
 pub returns : goal.returns
 returns c =

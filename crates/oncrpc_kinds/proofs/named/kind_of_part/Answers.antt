@@ -2,8 +2,8 @@ use Rattle.std.proofs.Common.{rules, ap, sym, ◌∙◌, option_map, slice_get, 
 use Rattle.std.proofs.lemmas.Option.{slice_get-map}
 use Rattle.xdr_types.specs.declared.kind.KindId.{KindId}
 use Rattle.xdr_lang.specs.Views.{declared_of, procedure_of}
-use Rattle.oncrpc_tasks.proofs.Procedures.{argument_named, item_copied}
-use Rattle.oncrpc_tasks.proofs.named.kind_of_part.Goals as goal
+use Rattle.oncrpc_kinds.proofs.Procedures.{argument_named, item_copied}
+use Rattle.oncrpc_kinds.proofs.named.kind_of_part.Goals as goal
 
 pub returns-in_ok-before-in-Argument : goal.returns-in_ok-before-in-Argument
 returns-in_ok-before-in-Argument c =

@@ -1,7 +1,7 @@
 //! The kind that a name names.
 ghost use Rattle.std.specs.Prelude.{◌≡◌, ℕ, option_map, IfSome, MatchOption};
 ghost use Rattle.xdr_lang.specs.Views.{declared_of};
-ghost use Rattle.oncrpc_tasks.specs.Naming.{Names, part_named};
+ghost use Rattle.oncrpc_kinds.specs.Naming.{Names, part_named};
 
 use oncrpc_names::{Part, PartName, read_part_name};
 use xdr_lang::Declared;

@@ -7,7 +7,7 @@ use Rattle.std.proofs.lemmas.Option.{slice_get_past, slice_get_read}
 use Rattle.xdr_lang.specs.Declarations.{Declared, Procedure, procedure_of_program}
 use Rattle.oncrpc_names.specs.declared.reading.Part.TheVariants as part
 use Rattle.oncrpc_names.specs.declared.reading.PartName.{PartName}
-use Rattle.oncrpc_tasks.specs.Naming.{place_of_part, part_named}
+use Rattle.oncrpc_kinds.specs.Naming.{place_of_part, part_named}
 
 pub argument_named : (d : Declared) (n : PartName) (p : Procedure) (k b : ℕ)
     → Some p ≡ procedure_of_program n.program n.version n.procedure d.programs
