@@ -1,4 +1,5 @@
 pub mod Handles
+mod Argument
 mod Judging
 mod Pair
 mod Parting

@@ -1,4 +1,5 @@
 pub mod Answers
+pub mod Argument
 pub mod Held
 pub mod Kept
 pub mod Normal

@@ -1,6 +1,7 @@
 //! What the exports' contracts force on telling inputs, each proved from the contracts alone.
 ghost use Rattle.std.specs.Prelude.{◌≡◌, ◌≢◌, ◌<◌, ◌≤◌, ◌⊎◌, codes, length, option_map, take};
 ghost use Rattle.xdr_lang.specs.Views.{declared_of};
+ghost use Rattle.oncrpc_c.specs.Argument.{HasArgument};
 ghost use Rattle.oncrpc_c.specs.Pair.{HoldsPair, pair_bytes, pair_parts, pair_outcome};
 ghost use Rattle.oncrpc_c.specs.Statuses.{at_place};
 
@@ -105,6 +106,19 @@ pub fn shows_by_what_was_read(
     let read = oncrpc_declarations_read(alloc, text, handle, outcome);
     let show = oncrpc_declarations_show(alloc, handle, b"int", 1, 4, b"", room, written, outcome);
     (read, show)
+}
+
+/// Arguments are named by numbers and counted from 1: the only argument of a procedure has the number 1.
+pub fn names_an_argument(
+    alloc: Global,
+    handle: &mut Handle,
+    input: &[u8],
+    outcome: &mut Outcome,
+) -> u32
+    requires { HasArgument (option_map declared_of handle.old.declared) }
+    ensures { result ≢ 4 }
+{
+    oncrpc_declarations_check(alloc, handle, b"100003.3.16.1", 1, 4, input, outcome)
 }
 
 /// Rooms of which one is too small stay as they were.

@@ -1,0 +1,59 @@
+-- The name of an argument that is there is no unknown one.
+use Rattle.std.proofs.Common.{◌≡◌, ◌<◌, ℕ, List, [], ◌∷◌, length, Option, Some, None, inr, refl, ap, arith}
+use Rattle.std.specs.Prelude.{codes}
+use Rattle.std.specs.Str.{IsUtf8}
+use Rattle.xdr_lang.specs.Declarations.{Declared, Procedure, procedure_of_program}
+use Rattle.oncrpc_names.specs.Names.{IsPartName}
+use Rattle.oncrpc_names.specs.declared.reading.Part.TheVariants.{Argument}
+use Rattle.oncrpc_names.specs.declared.reading.PartName.{PartName}
+use Rattle.oncrpc_kinds.specs.Naming.{part_named, place_of_part}
+use Rattle.oncrpc_c.specs.Answers.{Names}
+use Rattle.oncrpc_c.specs.Argument.{HasArgument}
+use Rattle.oncrpc_c.specs.Held.{IsRightByHeld}
+use Rattle.oncrpc_c.specs.Statuses.{status_of}
+use Rattle.oncrpc_c.specs.declared.answer.Answer.{Answer}
+use Rattle.oncrpc_c.specs.declared.answer.Answer.TheVariants as answer
+
+first : PartName
+first = record { program = 100003; version = 3; procedure = 16; part = Argument 1 }
+
+is_text : IsUtf8 (codes "100003.3.16.1")
+is_text = (codes "100003.3.16.1", refl, refl)
+
+found : (d : Declared) (p : Procedure) (place : ℕ) → procedure_of_program 100003 3 16 d.programs ≡ Some p
+    → p.arguments ≡ place ∷ [] → part_named d first ≡ Some place
+found d p place there only = rw there (rw only refl)
+
+named : (d : Declared) → HasArgument (Some d) → (place : ℕ) × Names d (codes "100003.3.16.1") place
+named d (p, place, there, only, known, none) = (
+  place,
+  inr (
+    none,
+    record {
+      name = first;
+      unsigned = record {
+        program = omega arith;
+        version = omega arith;
+        procedure = omega arith;
+        part = omega arith;
+      };
+      spelled = refl;
+      found = found d p place there only;
+    },
+  ),
+  known,
+)
+
+pub argument_told : (held : Option Declared) → HasArgument held → (depth bytes : ℕ) (input : List ℕ) (a : Answer)
+    → IsRightByHeld held (codes "100003.3.16.1") depth bytes input a → 4 ≡ status_of a → ⊥
+argument_told None has depth bytes input a r e = has
+argument_told (Some d) has depth bytes input answer.NoKind r e =
+    let it = named d has in r is_text it.0 it.1
+argument_told (Some d) has depth bytes input (answer.Whole used) r e = absurd (omega (arith, e))
+argument_told (Some d) has depth bytes input (answer.Followed used) r e = absurd (omega (arith, e))
+argument_told (Some d) has depth bytes input (answer.Refused f) r e = absurd (omega (arith, e))
+argument_told (Some d) has depth bytes input (answer.Undeclared f) r e = absurd (omega (arith, e))
+argument_told (Some d) has depth bytes input answer.BadLimits r e = absurd (omega (arith, e))
+argument_told (Some d) has depth bytes input answer.NoMemory r e = absurd (omega (arith, e))
+argument_told (Some d) has depth bytes input answer.NoDeclarations r e = absurd (omega (arith, e))
+argument_told (Some d) has depth bytes input (answer.NoRoom n) r e = absurd (omega (arith, e))
