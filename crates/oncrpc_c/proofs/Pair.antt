@@ -1,6 +1,7 @@
 -- What a call for parts says of the worked value.
 use Rattle.std.proofs.Common.{◌≡◌, ℕ, List, [], ◌∷◌, ◌++◌, length, take, drop, refl, ap, ◌∙◌, subst, Option}
-use Rattle.std.proofs.Common.{Some, None, arith, length-append}
+use Rattle.std.proofs.Common.{Some, None, arith, length-append, inl, inr, sym}
+use Rattle.std.proofs.lemmas.Option.{none-some}
 use Rattle.std.specs.Prelude.{◌+◌, codes}
 use Rattle.xdr_types.specs.Kinds.{KindView, kind_at}
 use Rattle.xdr_types.specs.Layout.{Entry, entries}
@@ -9,7 +10,9 @@ use Rattle.xdr_types.specs.Fits.{Fits}
 use Rattle.xdr_types.specs.Tree as value
 use Rattle.xdr_types.specs.Tree.{Tree, from_list}
 use Rattle.xdr_types.proofs.Unique.{one}
+use Rattle.xdr_types.specs.Named.{place_named}
 use Rattle.xdr_lang.specs.Declarations.{Declared}
+use Rattle.oncrpc_kinds.specs.Naming as naming
 use Rattle.oncrpc_c.specs.declared.listed.Counts.{Counts}
 use Rattle.oncrpc_c.specs.declared.listed.Listed.{Listed}
 use Rattle.oncrpc_c.specs.declared.listed.Listed.TheVariants as listed
@@ -97,8 +100,10 @@ module _ (d : Declared) (is : d.schema.kinds ≡ pair_kinds) (place : ℕ) (at :
         ∙ ap (λ (x : List ℕ). take 10 (x ++ drop (length x) old.names)) listed_names,
   )
 
-named_two : (d : Declared) (place : ℕ) (names : Option ℕ) → names ≡ Some 2 → names ≡ Some place → place ≡ 2
-named_two d place names two is = cc (two, is)
+named_two : (d : Declared) (place : ℕ) → place_named d.schema.names (codes "pair") ≡ Some 2
+    → naming.Names (codes "pair") d place → place ≡ 2
+named_two d place two (inl is) = cc (two, is)
+named_two d place two (inr part) = absurd (none-some 2 (sym part.0 ∙ two))
 
 -- what status 0 says of it
 pub pair_listed : (held : Option Declared) → HoldsPair held → (old new : Rooms) (a : Listed)
@@ -106,7 +111,7 @@ pub pair_listed : (held : Option Declared) → HoldsPair held → (old new : Roo
     → (take 4 new.parts ≡ pair_parts) × (take 10 new.names ≡ codes "idnamename") × (parts_outcome a ≡ pair_outcome)
 pair_listed None holds old new a r e = absurd holds
 pair_listed (Some d) holds old new (listed.Whole c) r e =
-    let at : r.place ≡ 2 = named_two d r.place _ holds.1 r.names in
+    let at : r.place ≡ 2 = named_two d r.place holds.1 r.names.named in
     let list = r.parted.0 in
     let rooms = told_rooms d holds.0 r.place at list.0 list.1 c r.parted.1 list.2 old new list.3 in
     (rooms.0, rooms.1, told_counts d holds.0 r.place at list.0 list.1 c r.parted.1 list.2)

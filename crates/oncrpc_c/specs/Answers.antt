@@ -47,13 +47,14 @@ IsJudged q input (answer.Refused f) = IsRefusal q input f
 IsJudged q input answer.NoMemory = ⊤
 IsJudged q input _ = ⊥
 
--- the name is that of the kind at this place: of the schema, or of an argument or a result (RFC 5531 section 12.3)
-abbrev pub Names : Declared → (name : List ℕ) → (place : ℕ) → Type 0
-Names d name place = naming.Names name d place × (place < length d.schema.kinds)
+-- The name is that of the kind at this place: of the schema, or of an argument or a result (RFC 5531 section 12.3).
+pub record Names (d : Declared) (name : List ℕ) (place : ℕ) : Type 0 where
+  pub named : naming.Names name d place
+  pub known : place < length d.schema.kinds
 
--- the name is no text, or names nothing
-abbrev pub NamesNone : Declared → (name : List ℕ) → Type 0
-NamesNone d name = IsUtf8 name → (place : ℕ) → Names d name place → ⊥
+-- The name is no text, or names nothing.
+pub record NamesNone (d : Declared) (name : List ℕ) : Type 0 where
+  pub none : IsUtf8 name → (place : ℕ) → Names d name place → ⊥
 
 -- what is asked by the place of a kind that is declared
 abbrev pub question : Declared → (place depth bytes : ℕ) → Question

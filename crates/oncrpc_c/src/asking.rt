@@ -36,9 +36,11 @@ pub fn kind_asked(declared: &Declared, name: &[u8]) -> Option<KindId>
     ensures { MatchOption result (NamesNone (declared_of declared.now) name.now)
         (λ kind. Names (declared_of declared.now) name.now kind.place) }
 {
-    let kind = kind_named(declared, from_utf8(name).ok()?)?;
-    if declared.schema.has(kind) {
-        return Some(kind);
+    let Ok(name) = from_utf8(name) else {
+        return None;
+    };
+    match kind_named(declared, name) {
+        Some(kind) if declared.schema.has(kind) => Some(kind),
+        _ => None,
     }
-    None
 }

@@ -2,4 +2,4 @@
 use Rattle.oncrpc_c.proofs.asking.answer_by.Goals as goal
 
 pub judge-requires : goal.judge-requires
-judge-requires c = c.in-Some.ensures.1
+judge-requires c = c.in-Some.ensures.known

@@ -4,7 +4,7 @@ use Rattle.oncrpc_c.proofs.Parting.{parted_by}
 use Rattle.oncrpc_c.proofs.parts.parts_by.Goals as goal
 
 pub parts_into-requires : goal.parts_into-requires
-parts_into-requires c = c.in-Some.ensures.1
+parts_into-requires c = c.in-Some.ensures.known
 
 pub returns : goal.returns
 returns c =

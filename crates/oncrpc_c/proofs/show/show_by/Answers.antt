@@ -4,7 +4,7 @@ use Rattle.oncrpc_c.proofs.Showing.{shown_by}
 use Rattle.oncrpc_c.proofs.show.show_by.Goals as goal
 
 pub show_into-requires : goal.show_into-requires
-show_into-requires c = c.in-Some.ensures.1
+show_into-requires c = c.in-Some.ensures.known
 
 pub returns : goal.returns
 returns c =
