@@ -1,0 +1,1 @@
+//! What the exports' contracts force on telling inputs, each proved from the contracts alone.
