@@ -1,2 +1,4 @@
+mod Ends
+mod Feeds
 pub mod Handles
 pub mod Values

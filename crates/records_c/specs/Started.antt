@@ -5,8 +5,8 @@ use Rattle.records_c.specs.declared.answer.Answer.TheVariants as answer
 use Rattle.records_c.specs.Held.{Held, limit_of, IsTaking, Stands}
 
 -- a reader with this limit, before the first byte
-pub record IsFresh (limit : ℕ) (h : Held) : Type 0 where
-  pub limit : limit_of h ≡ limit
+pub record IsFresh (most : ℕ) (h : Held) : Type 0 where
+  pub limit : limit_of h ≡ most
   pub taking : IsTaking h
   pub stands : Stands h [] []
 

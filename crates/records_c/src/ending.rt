@@ -32,7 +32,11 @@ fn end_of(state: &mut State) -> Answer
 /// `why` 4. 6: memory had been refused before. 2 and 6 are answered for ever after. 22: the handle holds no reader. A
 /// count or place above 18446744073709551615 is told as that. It takes no memory.
 #[unsafe(no_mangle)]
-pub extern "C" fn oncrpc_records_end(alloc: Global, handle: &mut Records, outcome: &mut Outcome) -> u32
+pub extern "C" fn oncrpc_records_end(
+    alloc: Global,
+    handle: &mut Records,
+    outcome: &mut Outcome,
+) -> u32
     ensures { (a : AnswerSpec) × IsEndedBy (option_map held_of handle.old.held) (option_map held_of handle.new.held) a
         × (result ≡ status_of a) × (outcome.new ≡ outcome_of a) }
 {
