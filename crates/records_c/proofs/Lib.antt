@@ -1,4 +1,7 @@
 mod Ends
 mod Feeds
+mod Followed
 pub mod Handles
+mod Long
+mod Told
 pub mod Values

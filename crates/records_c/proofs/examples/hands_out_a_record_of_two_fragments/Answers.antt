@@ -1,0 +1,36 @@
+-- The stream is followed over its pieces.
+use Rattle.std.proofs.Common.{◌≡◌, ◌≢◌, ℕ, ◌<◌, ◌⊎◌, inl, inr, [], ◌∷◌, refl, sym, ap, ◌∙◌, arith}
+use Rattle.records_c.specs.declared.outcome.Outcome.{Outcome}
+use Rattle.records_c.specs.Statuses.{status_of, outcome_of}
+use Rattle.records_c.proofs.Followed.{fed_first, fed_last, taken, abc, abc_is_whole}
+use Rattle.records_c.proofs.Told.{started}
+use Rattle.records_c.proofs.examples.hands_out_a_record_of_two_fragments.Goals as goal
+
+-- memory was not refused
+known : (n m : ℕ) → n ≡ m → n < 6 ⊎ 6 < n → m ≢ 6
+known n m e (inl lt) is = omega (arith, e, lt, is)
+known n m e (inr lt) is = omega (arith, e, lt, is)
+
+pub returns : goal.returns
+returns c = λ e first last.
+    let n = c.no_record_begins_another.ensures in
+    let l = c.too_long_ends_the_stream.ensures in
+    let s = c.oncrpc_records_start-started.ensures in
+    let f = c.oncrpc_records_feed-begun.ensures in
+    let g = c.oncrpc_records_feed-fed.ensures in
+    let t = c.oncrpc_records_take-taken.ensures in
+    let h = started 3 _ s.0 s.1 (sym e ∙ s.2) in
+    let a = fed_first n.apart n.longest n.whole l.ends l.none 3 abc [] (0 ∷ 0 ∷ 0 ∷ 2 ∷ 97 ∷ 98 ∷ 128 ∷ 0 ∷ [])
+    (0 ∷ 1 ∷ 99 ∷ []) abc_is_whole _ _ f.0 (omega arith) (known _ _ f.2 first)
+    (record { reader = h.held; is = h.is; limit_is = h.fresh.limit; taking = h.fresh.taking; stands = h.fresh.stands })
+    f.1 in
+    let b = fed_last n.apart n.longest n.whole l.ends l.none 3 abc (0 ∷ 0 ∷ 0 ∷ 2 ∷ 97 ∷ 98 ∷ 128 ∷ 0 ∷ [])
+    (0 ∷ 1 ∷ 99 ∷ []) [] abc_is_whole _ _ g.0 refl (known _ _ g.2 last) a.1 g.1 in
+    let k = taken abc _ _ _ _ t.0 c.requires b.1 t.1 in (
+      f.2 ∙ ap status_of a.0,
+      g.2 ∙ ap status_of b.0,
+      ap (λ (o : Outcome). o.at) (g.3 ∙ ap outcome_of b.0),
+      t.2 ∙ ap status_of k.0,
+      t.3 ∙ ap outcome_of k.0,
+      k.1,
+    )
