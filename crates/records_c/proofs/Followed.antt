@@ -13,14 +13,7 @@ use Rattle.records_c.specs.Fed.{IsRead, IsRefused, IsFedAs, IsFedTo, IsFedBy}
 use Rattle.records_c.specs.Held.{Held, limit_of, IsTaking, Waits, Stands}
 use Rattle.records_c.specs.Statuses.{status_of}
 use Rattle.records_c.specs.Taken.{IsTakenBy, IsGiven}
-
--- a reader with this limit is held, which has taken these bytes and has handed out no record
-pub record IsAt (limit : ℕ) (bytes : List ℕ) (held : Option Held) : Type 0 where
-  pub reader : Held
-  pub is : held ≡ Some reader
-  pub limit_is : limit_of reader ≡ limit
-  pub taking : IsTaking reader
-  pub stands : Stands reader bytes []
+use Rattle.records_c.proofs.Told.{IsAt}
 
 -- this record waits in the handle
 pub record IsWaiting (r : List ℕ) (held : Option Held) : Type 0 where
@@ -28,7 +21,7 @@ pub record IsWaiting (r : List ℕ) (held : Option Held) : Type 0 where
   pub is : held ≡ Some reader
   pub waits : Waits reader r
 
-one_marked : (limit : ℕ) (r bytes : List ℕ) → IsWhole limit (r ∷ []) bytes → Marked r bytes
+pub one_marked : (limit : ℕ) (r bytes : List ℕ) → IsWhole limit (r ∷ []) bytes → Marked r bytes
 one_marked limit r bytes w =
     let s = w.stream in
     subst (λ b. Marked r b) (sym (s.1.1.2 ∙ ap (λ k. s.0 ++ k) s.1.1.1 ∙ append-nil s.0)) s.1.1.0
@@ -71,7 +64,7 @@ module _ (apart : NoneBeginsAnother) (one : OneLongest) (longest : WholeIsLonges
   module _ (h l : Held) (e : limit_of h ≡ limit) (i : IsTaking h) (s : Stands h before []) where
     first_to : (left : Option Held) (a : Answer) → 0 < length after → status_of a ≢ 6 → left ≡ Some l
         → limit_of l ≡ limit_of h → IsFedTo h piece l a
-        → (a ≡ answer.More) × IsAt limit (before ++ piece) left
+        → (a ≡ answer.More) × IsAt limit (before ++ piece) [] left
     first_to left (answer.Whole count) some known is m b =
         absurd (omega (arith, some, ap length (read h l count s b).1, length-append (drop count piece) after))
     first_to left answer.More some known is m b = (
@@ -109,15 +102,15 @@ module _ (apart : NoneBeginsAnother) (one : OneLongest) (longest : WholeIsLonges
     last_to left answer.NoReader ended known is b = absurd b
     last_to left answer.NoRecord ended known is b = absurd b
 
-  pub fed_first : (held left : Option Held) (a : Answer) → 0 < length after → status_of a ≢ 6 → IsAt limit before held
+  pub fed_first : (held left : Option Held) (a : Answer) → 0 < length after → status_of a ≢ 6 → IsAt limit before [] held
       → IsFedBy held piece left a
-      → (a ≡ answer.More) × IsAt limit (before ++ piece) left
+      → (a ≡ answer.More) × IsAt limit (before ++ piece) [] left
   fed_first held left a some known at f =
       let by = subst (λ (o : Option Held). IsFedBy o piece left a) at.is f in
       first_to at.reader by.0 at.limit_is at.taking at.stands left a some known by.1 by.2.limit
       (subst (λ (w : Option (List ℕ)). IsFedAs w at.reader piece by.0 a) at.taking.0 by.2.fed)
 
-  pub fed_last : (held left : Option Held) (a : Answer) → after ≡ [] → status_of a ≢ 6 → IsAt limit before held
+  pub fed_last : (held left : Option Held) (a : Answer) → after ≡ [] → status_of a ≢ 6 → IsAt limit before [] held
       → IsFedBy held piece left a
       → (a ≡ answer.Whole (length piece)) × IsWaiting r left
   fed_last held left a ended known at f =

@@ -1,3 +1,4 @@
+mod Closed
 mod Ends
 mod Feeds
 mod Followed

@@ -43,7 +43,7 @@ is_long = record {
   spelled = refl;
 }
 
-marked_length : (r bytes : List ℕ) → Marked r bytes → 4 ≤ length bytes
+pub marked_length : (r bytes : List ℕ) → Marked r bytes → 4 ≤ length bytes
 unfolding header
 marked_length r bytes m =
     let head = header true (length m.last) in
@@ -106,7 +106,8 @@ module _ (none : WholeHasNoLong) (h l : Held) (fresh : IsFresh 2 h) where
       absurd (not_whole none count b.content
       (subst (λ (n : ℕ). IsWhole n (b.content ∷ []) (take count three_bytes)) fresh.limit (b.whole [] [] fresh.stands)))
   fed_to answer.More b =
-      absurd (b.short [] [] fresh.stands [] 0 (subst (λ (n : ℕ). TooLongAt n [] 0 three_bytes) (sym fresh.limit) is_long))
+      absurd (b.short [] [] fresh.stands [] 0
+      (subst (λ (n : ℕ). TooLongAt n [] 0 three_bytes) (sym fresh.limit) is_long))
   fed_to (answer.Refused f) b =
       which f 4 (b.kind fresh.taking)
       (subst (λ (n : ℕ). FaultyIn n [] f 4 three_bytes) fresh.limit (b.here fresh.taking [] [] fresh.stands))

@@ -1,16 +1,13 @@
 -- What a status says of the answer and of what the handle holds then.
-use Rattle.std.proofs.Common.{◌≡◌, ℕ, ◌⊎◌, inl, inr, List, [], length, refl, sym, ap, ◌∙◌, subst, arith}
-use Rattle.std.proofs.Common.{length-append, Option, None, Some}
+use Rattle.std.proofs.Common.{◌≡◌, ℕ, ◌⊎◌, inl, inr, List, [], refl, sym, ap, ◌∙◌, subst, arith}
+use Rattle.std.proofs.Common.{Option, None, Some}
 use Rattle.rpc_record.specs.declared.fault.RecordFault.{RecordFault}
-use Rattle.rpc_record.specs.declared.fault.RecordFault.TheVariants as fault
 use Rattle.rpc_record.specs.declared.reader.RecordReader.{RecordReader}
-use Rattle.rpc_record.specs.Reading.{IsInside}
-use Rattle.rpc_record.proofs.Told.{not_broken}
 use Rattle.records_c.specs.declared.answer.Answer.{Answer}
 use Rattle.records_c.specs.declared.answer.Answer.TheVariants as answer
-use Rattle.records_c.specs.Ended.{IsEndedAs, IsEndedTo, IsEndedBy, IsCut}
+use Rattle.records_c.specs.Ended.{IsEndedBy}
 use Rattle.records_c.specs.Fed.{IsFedAs, IsFedTo, IsFedBy}
-use Rattle.records_c.specs.Held.{Held, IsTaking, IsBroken, limit_of}
+use Rattle.records_c.specs.Held.{Held, IsTaking, IsBroken, Stands, limit_of}
 use Rattle.records_c.specs.Started.{IsStarted, IsFresh}
 use Rattle.records_c.specs.Statuses.{status_of}
 use Rattle.records_c.specs.Taken.{IsTakenBy, IsGiven}
@@ -32,7 +29,24 @@ started limit left answer.NoReader s e = absurd s
 started limit left answer.More s e = absurd s
 started limit left answer.NoRecord s e = absurd s
 
-same_held : (h l : Held) → l.reader ≡ h.reader → l.waits ≡ h.waits → l ≡ h
+-- a reader with this limit is held, which has taken these bytes, has handed out these records, and takes more
+pub record IsAt (limit : ℕ) (bytes : List ℕ) (rs : List (List ℕ)) (held : Option Held) : Type 0 where
+  pub reader : Held
+  pub is : held ≡ Some reader
+  pub limit_is : limit_of reader ≡ limit
+  pub taking : IsTaking reader
+  pub stands : Stands reader bytes rs
+
+pub at_first : {limit : ℕ} {left : Option Held} → Holds limit left → IsAt limit [] [] left
+at_first h = record {
+  reader = h.held;
+  is = h.is;
+  limit_is = h.fresh.limit;
+  taking = h.fresh.taking;
+  stands = h.fresh.stands;
+}
+
+pub same_held : (h l : Held) → l.reader ≡ h.reader → l.waits ≡ h.waits → l ≡ h
 same_held h l e d =
     let with_reader : RecordReader → Held = λ r. record { reader = r; waits = l.waits } in
     let with_waits : Option (List ℕ) → Held = λ w. record { reader = h.reader; waits = w } in
@@ -54,40 +68,6 @@ none_taken held left h old new a is none t =
       held = by.1 ∙ ap (λ (l : Held). Some l) (same_held h by.0 by.2.reader (given.1 ∙ sym none));
       room = given.2;
     }
-
--- ---- a stream may end before its first byte
-
-not_inside : (limit : ℕ) → IsInside limit [] [] → ⊥
-not_inside limit i = omega (arith, i.some, ap length i.spelled, length-append i.whole i.part)
-
-not_cut : (limit : ℕ) (h : Held) (f : RecordFault) → IsFresh limit h → IsCut h f → ⊥
-not_cut limit h (fault.Truncated at) n c = not_inside (limit_of h) (c [] [] n.stands).1
-not_cut limit h (fault.TooLong at) n c = c
-not_cut limit h fault.NoMemory n c = c
-not_cut limit h fault.Read n c = c
-not_cut limit h (fault.Write written) n c = c
-not_cut limit h fault.TooManyReads n c = c
-
-not_bad : (limit : ℕ) (h : Held) (f : RecordFault) → IsFresh limit h → IsBroken h f ⊎ (IsTaking h × IsCut h f) → ⊥
-not_bad limit h f n (inl b) = not_broken h.reader.place f n.taking.1 b.1
-not_bad limit h f n (inr t) = not_cut limit h f n t.1
-
-ended_as : (limit : ℕ) (h left : Held) (a : Answer) → IsFresh limit h → IsEndedTo h left a → a ≡ answer.Whole 0
-ended_as limit h left (answer.Whole count) n e = ap answer.Whole e.0
-ended_as limit h left (answer.Refused f) n e = absurd (not_bad limit h f n e.why)
-ended_as limit h left answer.BadLimit n e = absurd e
-ended_as limit h left answer.NoMemory n e = absurd e
-ended_as limit h left (answer.NoRoom needed) n e = absurd e
-ended_as limit h left answer.NoReader n e = absurd e
-ended_as limit h left answer.More n e = absurd e
-ended_as limit h left answer.NoRecord n e = absurd e
-
-pub ended_fresh : (limit : ℕ) (held left : Option Held) (h : Held) (a : Answer) → held ≡ Some h → IsFresh limit h
-    → IsEndedBy held left a
-    → a ≡ answer.Whole 0
-ended_fresh limit held left h a is n e =
-    let by = subst (λ (o : Option Held). IsEndedBy o left a) is e in
-    ended_as limit h by.0 a n (subst (λ (w : Option (List ℕ)). IsEndedAs w h by.0 a) n.taking.0 by.2.ended)
 
 -- ---- a refusal is answered for ever after
 

@@ -198,14 +198,32 @@ pub fn hands_out_once(
     (first, second)
 }
 
+/// Behind a first record that was handed out the stream may end.
+pub fn may_end_behind_a_record(
+    alloc: Global,
+    handle: &mut Records,
+    piece: &[u8],
+    room: &mut [u8],
+    outcome: &mut Outcome,
+) -> (u32, u32, u32, u32)
+    ensures { result.0 ≡ 0 → result.1 ≡ 0 → result.2 ≡ 0 → (result.3 ≡ 0) × (outcome.new ≡ at_count 0) }
+{
+    no_record_begins_another();
+    let started = oncrpc_records_start(alloc, handle, 100, outcome);
+    let fed = oncrpc_records_feed(alloc, handle, piece, outcome);
+    let taken = oncrpc_records_take(alloc, handle, room, outcome);
+    let ended = oncrpc_records_end(alloc, handle, outcome);
+    (started, fed, taken, ended)
+}
+
 /// A stream that ends inside a record, `800000`, is cut after the bytes that were taken.
 pub fn tells_where_a_stream_is_cut(
     alloc: Global,
     handle: &mut Records,
     outcome: &mut Outcome,
 ) -> (u32, u32, u32)
-    ensures { result.0 ≡ 0 → result.1 ≡ 23
-        → (result.2 ≡ 2) × (outcome.new ≡ record { at = 3; line = 0; column = 0; why = 8; inner = 0 }) }
+    ensures { result.0 ≡ 0 → (result.1 ≡ 6) ⊎ ((result.1 ≡ 23) × (result.2 ≡ 2)
+        × (outcome.new ≡ record { at = 3; line = 0; column = 0; why = 8; inner = 0 })) }
 {
     let started = oncrpc_records_start(alloc, handle, 100, outcome);
     let fed = oncrpc_records_feed(alloc, handle, &[0x80, 0, 0], outcome);

@@ -35,8 +35,8 @@ fn feed_to(state: &mut State, piece: &[u8]) -> Answer
 /// Status 0: a record is whole and waits for `oncrpc_records_take`. The first `at` bytes of the piece were taken, which
 /// end with its last byte, and no other; while it waits none is taken. 23: all were taken, and more are wanted. 2: the
 /// header at the place `at` in the stream would bring its record above the limit, `why` 4, or the stream ended inside a
-/// record before, `why` 8. 6: memory for a record was refused. 2 and 6 are answered for ever after. 22: the handle holds
-/// no reader. A place is the count of the stream's bytes before it, 18446744073709551615 for every greater one.
+/// record before, `why` 8. 6: memory for a record was refused. 2 and 6 are answered for ever after. 22: the handle
+/// holds no reader. A place is the count of the stream's bytes before it, 18446744073709551615 for every greater one.
 #[unsafe(no_mangle)]
 pub extern "C" fn oncrpc_records_feed(
     alloc: Global,

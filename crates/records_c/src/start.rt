@@ -40,8 +40,8 @@ fn start_in(alloc: Global, handle: &mut Records, limit: u32) -> Answer
 /// Starts a reader of a stream of records of at most `limit` bytes each, 0 to 2147483647 (RFC 5531 section 11), in the
 /// handle. What the handle held before is freed.
 ///
-/// Status 0: the handle holds the reader, before the first byte. 5: the limit is out of range. 6: memory was refused. At
-/// 5 and 6 the handle holds none.
+/// Status 0: the handle holds the reader, before the first byte. 5: the limit is out of range. 6: memory was refused.
+/// At 5 and 6 the handle holds none.
 #[unsafe(no_mangle)]
 pub extern "C" fn oncrpc_records_start(
     alloc: Global,

@@ -3,7 +3,7 @@ use Rattle.std.proofs.Common.{◌≡◌, ◌≢◌, ℕ, ◌<◌, ◌⊎◌, inl
 use Rattle.records_c.specs.declared.outcome.Outcome.{Outcome}
 use Rattle.records_c.specs.Statuses.{status_of, outcome_of}
 use Rattle.records_c.proofs.Followed.{fed_first, fed_last, taken, abc, abc_is_whole}
-use Rattle.records_c.proofs.Told.{started}
+use Rattle.records_c.proofs.Told.{started, at_first}
 use Rattle.records_c.proofs.examples.hands_out_a_record_of_two_fragments.Goals as goal
 
 -- memory was not refused
@@ -22,8 +22,7 @@ returns c = λ e first last.
     let h = started 3 _ s.0 s.1 (sym e ∙ s.2) in
     let a = fed_first n.apart n.longest n.whole l.ends l.none 3 abc [] (0 ∷ 0 ∷ 0 ∷ 2 ∷ 97 ∷ 98 ∷ 128 ∷ 0 ∷ [])
     (0 ∷ 1 ∷ 99 ∷ []) abc_is_whole _ _ f.0 (omega arith) (known _ _ f.2 first)
-    (record { reader = h.held; is = h.is; limit_is = h.fresh.limit; taking = h.fresh.taking; stands = h.fresh.stands })
-    f.1 in
+    (at_first h) f.1 in
     let b = fed_last n.apart n.longest n.whole l.ends l.none 3 abc (0 ∷ 0 ∷ 0 ∷ 2 ∷ 97 ∷ 98 ∷ 128 ∷ 0 ∷ [])
     (0 ∷ 1 ∷ 99 ∷ []) [] abc_is_whole _ _ g.0 refl (known _ _ g.2 last) a.1 g.1 in
     let k = taken abc _ _ _ _ t.0 c.requires b.1 t.1 in (

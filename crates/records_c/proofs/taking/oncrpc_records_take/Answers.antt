@@ -13,7 +13,8 @@ returns c = (
     | in-Some w ↦
         let was : c.args.handle.now.held ≡ Some w.deref_mut.result.now = sym w.in-Some.ensures.taken
         ∙ ap (λ (s : State). Some s) (sym w.deref_mut.ensures.value) in
-        let now : c.match-taken.handle.held ≡ Some w.take_into-answer.new.state = ap (λ (h : Records). h.held) w.handle-is
+        let now : c.match-taken.handle.held ≡ Some w.take_into-answer.new.state =
+        ap (λ (h : Records). h.held) w.handle-is
         ∙ w.keep.ensures in
         rw (was, now, w.answer-is, w.room-is) (held_of w.take_into-answer.new.state, refl, w.take_into-answer.ensures)
     | in-None w ↦
