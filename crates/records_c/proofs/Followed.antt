@@ -102,7 +102,8 @@ module _ (apart : NoneBeginsAnother) (one : OneLongest) (longest : WholeIsLonges
     last_to left answer.NoReader ended known is b = absurd b
     last_to left answer.NoRecord ended known is b = absurd b
 
-  pub fed_first : (held left : Option Held) (a : Answer) → 0 < length after → status_of a ≢ 6 → IsAt limit before [] held
+  pub fed_first : (held left : Option Held) (a : Answer) → 0 < length after → status_of a ≢ 6
+      → IsAt limit before [] held
       → IsFedBy held piece left a
       → (a ≡ answer.More) × IsAt limit (before ++ piece) [] left
   fed_first held left a some known at f =
