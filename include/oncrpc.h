@@ -459,8 +459,8 @@ void oncrpc_registry_free(oncrpc_registry *registry);
  *
  * and where that ends with ONCRPC_MORE_WANTED, the next piece is received. Counts are in bytes. A place is the count of
  * the stream's bytes before it, from the first that was fed; SIZE_MAX stands for every greater one. Each call below but
- * the last fills `outcome`: `at` and `why` where they are spoken of, and 0 in each other field and at each other status.
- * At ONCRPC_NO_READER nothing is changed. */
+ * the last fills `outcome`: `at` and `why` where they are spoken of, and 0 in each other field and at each other
+ * status. At ONCRPC_NO_READER nothing is changed. */
 
 /* A reader of one stream of records, or none. It begins as {0}; only the calls below may look into it or write it, and
  * a copy of it must not be used beside it. It is given back by oncrpc_records_free. */
