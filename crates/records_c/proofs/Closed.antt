@@ -1,6 +1,6 @@
 -- What a stream's end is told behind known bytes, and which pieces lead there.
 use Rattle.std.proofs.Common.{◌≡◌, ℕ, ◌<◌, ◌⊎◌, inl, inr, List, [], ◌∷◌, ◌++◌, length, take, refl}
-use Rattle.std.proofs.Common.{ap, ◌∙◌, subst, length-append, arith, Option, Some, None}
+use Rattle.std.proofs.Common.{ap, ◌∙◌, subst, length-append, arith, Option, Some}
 use Rattle.std.proofs.lemmas.List.{length-take}
 use Rattle.rpc_record.specs.declared.fault.RecordFault.{RecordFault}
 use Rattle.rpc_record.specs.declared.fault.RecordFault.TheVariants as fault
@@ -11,12 +11,11 @@ use Rattle.records_c.specs.declared.answer.Answer.{Answer}
 use Rattle.records_c.specs.declared.answer.Answer.TheVariants as answer
 use Rattle.records_c.specs.Ended.{IsEndedAs, IsEndedTo, IsEndedBy, IsCut}
 use Rattle.records_c.specs.Fed.{IsFedAs, IsFedTo, IsFedBy, IsRefused}
-use Rattle.records_c.specs.Held.{Held, IsTaking, IsBroken, Waits, Stands, limit_of}
+use Rattle.records_c.specs.Held.{Held, IsTaking, IsBroken, Stands, limit_of}
 use Rattle.records_c.specs.Statuses.{status_of}
-use Rattle.records_c.specs.Taken.{IsTakenBy, IsGiven}
 use Rattle.records_c.proofs.Followed.{one_marked}
 use Rattle.records_c.proofs.Long.{marked_length}
-use Rattle.records_c.proofs.Told.{IsAt, same_held}
+use Rattle.records_c.proofs.Told.{IsAt, Waiting}
 
 -- ---- the end of a reader that takes bytes
 
@@ -138,17 +137,13 @@ fed_short limit piece held left a short at f =
     fed_to limit piece short at.reader by.0 at.limit_is at.taking at.stands left a by.1 by.2.limit
     (subst (λ (w : Option (List ℕ)). IsFedAs w at.reader piece by.0 a) at.taking.0 by.2.fed)
 
--- ---- a first record, which is then taken
+-- ---- a first record
 
 -- the bytes taken are one record, which waits
 pub record HasRead (limit : ℕ) (held : Option Held) : Type 0 where
   pub content : List ℕ
   pub bytes : List ℕ
-  pub reader : Held
-  pub is : held ≡ Some reader
-  pub limit_is : limit_of reader ≡ limit
-  pub waits : Waits reader content
-  pub stands : Stands reader bytes []
+  pub waiting : Waiting limit bytes [] content held
   pub whole : IsWhole limit (content ∷ []) bytes
 
 read_to : (limit : ℕ) (piece : List ℕ) (h l : Held) (left : Option Held) (a : Answer) → limit_of h ≡ limit
@@ -157,11 +152,7 @@ read_to : (limit : ℕ) (piece : List ℕ) (h l : Held) (left : Option Held) (a 
 read_to limit piece h l left (answer.Whole count) e s is m b z = record {
   content = b.content;
   bytes = take count piece;
-  reader = l;
-  is = is;
-  limit_is = m ∙ e;
-  waits = b.waits;
-  stands = b.takes [] [] s;
+  waiting = record { reader = l; is = is; limit_is = m ∙ e; waits = b.waits; stands = b.takes [] [] s };
   whole = subst (λ n. IsWhole n (b.content ∷ []) (take count piece)) e (b.whole [] [] s);
 }
 read_to limit piece h l left (answer.Refused fault.NoMemory) e s is m b z = absurd (omega (arith, z))
@@ -184,32 +175,3 @@ has_read limit piece held left a at f z =
     let by = subst (λ (o : Option Held). IsFedBy o piece left a) at.is f in
     read_to limit piece at.reader by.0 left a at.limit_is at.stands by.1 by.2.limit
     (subst (λ (w : Option (List ℕ)). IsFedAs w at.reader piece by.0 a) at.taking.0 by.2.fed) z
-
-waits_no_more : (r old new : List ℕ) (waits : Option (List ℕ)) (a : Answer) → IsGiven (Some r) waits old new a
-    → 0 ≡ status_of a → waits ≡ None
-waits_no_more r old new waits (answer.Whole count) g z = g.1
-waits_no_more r old new waits (answer.NoRoom needed) g z = absurd (omega (arith, z))
-waits_no_more r old new waits (answer.Refused f) g z = absurd g.0
-waits_no_more r old new waits answer.BadLimit g z = absurd g.0
-waits_no_more r old new waits answer.NoMemory g z = absurd g.0
-waits_no_more r old new waits answer.NoReader g z = absurd g.0
-waits_no_more r old new waits answer.More g z = absurd g.0
-waits_no_more r old new waits answer.NoRecord g z = absurd g.0
-
-pub past : (limit : ℕ) (held left : Option Held) (old new : List ℕ) (a : Answer) (w : HasRead limit held)
-    → IsTakenBy held left old new a
-    → 0 ≡ status_of a → IsAt limit w.bytes (w.content ∷ []) left
-past limit held left old new a w t z =
-    let by = subst (λ (o : Option Held). IsTakenBy o left old new a) w.is t in
-    let given = subst (λ (k : Option (List ℕ)). IsGiven k by.0.waits old new a) w.waits.0 by.2.given in
-    let next : Held = record { reader = w.reader.reader; waits = None } in
-    let whole : Held = record { reader = w.reader.reader; waits = Some w.content } in
-    let is_whole : w.reader ≡ whole = same_held whole w.reader refl w.waits.0 in
-    record {
-      reader = next;
-      is = by.1 ∙ ap (λ (l : Held). Some l)
-          (same_held next by.0 by.2.reader (waits_no_more w.content old new by.0.waits a given z));
-      limit_is = w.limit_is;
-      taking = (refl, w.waits.1);
-      stands = subst (λ (h : Held). Stands h w.bytes []) is_whole w.stands;
-    }

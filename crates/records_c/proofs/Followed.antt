@@ -1,8 +1,7 @@
 -- A stream of one record, followed over its pieces.
 use Rattle.std.proofs.Common.{◌≡◌, ◌≢◌, ℕ, ◌<◌, ◌≤◌, List, [], ◌∷◌, ◌++◌, length, take, drop, refl, sym, ap, ◌∙◌}
 use Rattle.std.proofs.Common.{subst, append_assoc, length-append, length-drop, arith, zero, suc, All, Option, Some}
-use Rattle.std.proofs.lemmas.List.{append-nil, take-append-drop}
-use Rattle.std.proofs.Math.Seq.{take-append_seam}
+use Rattle.std.proofs.lemmas.List.{append-nil, take_all, take-append-drop}
 use Rattle.rpc_record.specs.declared.fault.RecordFault.{RecordFault}
 use Rattle.rpc_record.specs.declared.fault.RecordFault.TheVariants as fault
 use Rattle.rpc_record.specs.Marked.{header, IsContent, Marked, Longest, NoneBeginsAnother, OneLongest}
@@ -12,14 +11,7 @@ use Rattle.records_c.specs.declared.answer.Answer.TheVariants as answer
 use Rattle.records_c.specs.Fed.{IsRead, IsRefused, IsFedAs, IsFedTo, IsFedBy}
 use Rattle.records_c.specs.Held.{Held, limit_of, IsTaking, Waits, Stands}
 use Rattle.records_c.specs.Statuses.{status_of}
-use Rattle.records_c.specs.Taken.{IsTakenBy, IsGiven}
-use Rattle.records_c.proofs.Told.{IsAt}
-
--- this record waits in the handle
-pub record IsWaiting (r : List ℕ) (held : Option Held) : Type 0 where
-  pub reader : Held
-  pub is : held ≡ Some reader
-  pub waits : Waits reader r
+use Rattle.records_c.proofs.Told.{IsAt, Waiting}
 
 pub one_marked : (limit : ℕ) (r bytes : List ℕ) → IsWhole limit (r ∷ []) bytes → Marked r bytes
 one_marked limit r bytes w =
@@ -79,28 +71,36 @@ module _ (apart : NoneBeginsAnother) (one : OneLongest) (longest : WholeIsLonges
     first_to left answer.NoReader some known is m b = absurd b
     first_to left answer.NoRecord some known is m b = absurd b
 
-    last_to : (left : Option Held) (a : Answer) → after ≡ [] → status_of a ≢ 6 → left ≡ Some l → IsFedTo h piece l a
-        → (a ≡ answer.Whole (length piece)) × IsWaiting r left
-    last_to left (answer.Whole count) ended known is b =
+    last_to : (left : Option Held) (a : Answer) → after ≡ [] → status_of a ≢ 6 → left ≡ Some l
+        → limit_of l ≡ limit_of h → IsFedTo h piece l a
+        → (a ≡ answer.Whole (length piece)) × Waiting limit (before ++ piece) [] r left
+    last_to left (answer.Whole count) ended known is m b =
         let t = read h l count s b in
         let count_is : count ≡ length piece = omega
-        (arith, b.within, ap length t.1, length-append (drop count piece) after, length-drop count piece) in (
+        (arith, b.within, ap length t.1, length-append (drop count piece) after, length-drop count piece) in
+        let most : length piece ≤ count = omega (arith, count_is) in (
           ap answer.Whole count_is,
-          record { reader = l; is = is; waits = subst (λ k. Waits l k) (sym t.0) b.waits },
+          record {
+            reader = l;
+            is = is;
+            limit_is = m ∙ e;
+            waits = subst (λ k. Waits l k) (sym t.0) b.waits;
+            stands = subst (λ k. Stands l (before ++ k) []) (take_all count piece most) (b.takes before [] s);
+          },
         )
-    last_to left answer.More ended known is b =
+    last_to left answer.More ended known is m b =
         let bytes = before ++ piece in
         let whole : IsWhole limit (r ∷ []) bytes = subst (λ k. IsWhole limit (r ∷ []) k)
         (ap (λ k. (before ++ piece) ++ k) ended ∙ append-nil bytes) all in
         absurd (empty-is (one limit [] (r ∷ []) bytes (subst (λ n. Longest n [] bytes) e (b.longest before [] s))
         (longest limit (r ∷ []) bytes whole)))
-    last_to left (answer.Refused f) ended known is b =
+    last_to left (answer.Refused f) ended known is m b =
         absurd (known (ap (λ g. status_of (answer.Refused g)) (refused h l f e i s b)))
-    last_to left answer.BadLimit ended known is b = absurd b
-    last_to left answer.NoMemory ended known is b = absurd b
-    last_to left (answer.NoRoom needed) ended known is b = absurd b
-    last_to left answer.NoReader ended known is b = absurd b
-    last_to left answer.NoRecord ended known is b = absurd b
+    last_to left answer.BadLimit ended known is m b = absurd b
+    last_to left answer.NoMemory ended known is m b = absurd b
+    last_to left (answer.NoRoom needed) ended known is m b = absurd b
+    last_to left answer.NoReader ended known is m b = absurd b
+    last_to left answer.NoRecord ended known is m b = absurd b
 
   pub fed_first : (held left : Option Held) (a : Answer) → 0 < length after → status_of a ≢ 6
       → IsAt limit before [] held
@@ -113,38 +113,14 @@ module _ (apart : NoneBeginsAnother) (one : OneLongest) (longest : WholeIsLonges
 
   pub fed_last : (held left : Option Held) (a : Answer) → after ≡ [] → status_of a ≢ 6 → IsAt limit before [] held
       → IsFedBy held piece left a
-      → (a ≡ answer.Whole (length piece)) × IsWaiting r left
+      → (a ≡ answer.Whole (length piece)) × Waiting limit (before ++ piece) [] r left
   fed_last held left a ended known at f =
       let by = subst (λ (o : Option Held). IsFedBy o piece left a) at.is f in
-      last_to at.reader by.0 at.limit_is at.taking at.stands left a ended known by.1
+      last_to at.reader by.0 at.limit_is at.taking at.stands left a ended known by.1 by.2.limit
       (subst (λ (w : Option (List ℕ)). IsFedAs w at.reader piece by.0 a) at.taking.0 by.2.fed)
 
--- the record goes into a room that is large enough
-given : (r old new : List ℕ) (waits : Option (List ℕ)) (a : Answer) → length r ≤ length old
-    → IsGiven (Some r) waits old new a
-    → (a ≡ answer.Whole (length r)) × (take (length r) new ≡ r)
-given r old new waits (answer.Whole count) fits g = (
-  ap answer.Whole g.0.0,
-  ap (λ k. take (length r) k) g.0.1 ∙ take-append_seam r (drop (length r) old),
-)
-given r old new waits (answer.NoRoom needed) fits g = absurd (omega (arith, fits, g.0.1))
-given r old new waits (answer.Refused f) fits g = absurd g.0
-given r old new waits answer.BadLimit fits g = absurd g.0
-given r old new waits answer.NoMemory fits g = absurd g.0
-given r old new waits answer.NoReader fits g = absurd g.0
-given r old new waits answer.More fits g = absurd g.0
-given r old new waits answer.NoRecord fits g = absurd g.0
-
-pub taken : (r : List ℕ) (held left : Option Held) (old new : List ℕ) (a : Answer) → length r ≤ length old
-    → IsWaiting r held
-    → IsTakenBy held left old new a → (a ≡ answer.Whole (length r)) × (take (length r) new ≡ r)
-taken r held left old new a fits w t =
-    let by = subst (λ (o : Option Held). IsTakenBy o left old new a) w.is t in
-    given r old new by.0.waits a fits
-    (subst (λ (k : Option (List ℕ)). IsGiven k by.0.waits old new a) w.waits.0 by.2.given)
-
 -- all of one record
-one_is : (P : List ℕ → Type 0) (x : List ℕ) → P x → All P (x ∷ [])
+pub one_is : (P : List ℕ → Type 0) (x : List ℕ) → P x → All P (x ∷ [])
 one_is P x p zero d lt = p
 one_is P x p (suc k) d lt = absurd (omega arith)
 
@@ -152,10 +128,12 @@ abbrev pub abc : List ℕ
 abc = 97 ∷ 98 ∷ 99 ∷ []
 
 -- 00000002 6162 80000001 63
-pub abc_is_whole : IsWhole 3 (abc ∷ []) (0 ∷ 0 ∷ 0 ∷ 2 ∷ 97 ∷ 98 ∷ 128 ∷ 0 ∷ 0 ∷ 1 ∷ 99 ∷ [])
+abbrev pub bytes : List ℕ
+bytes = 0 ∷ 0 ∷ 0 ∷ 2 ∷ 97 ∷ 98 ∷ 128 ∷ 0 ∷ 0 ∷ 1 ∷ 99 ∷ []
+
+pub abc_is_whole : IsWhole 3 (abc ∷ []) bytes
 unfolding header
 abc_is_whole =
-    let bytes : List ℕ = 0 ∷ 0 ∷ 0 ∷ 2 ∷ 97 ∷ 98 ∷ 128 ∷ 0 ∷ 0 ∷ 1 ∷ 99 ∷ [] in
     let marked : Marked abc bytes = record {
       firsts = (97 ∷ 98 ∷ []) ∷ [];
       last = 99 ∷ [];

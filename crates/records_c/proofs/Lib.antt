@@ -4,5 +4,7 @@ mod Feeds
 mod Followed
 pub mod Handles
 mod Long
+mod Next
+mod Past
 mod Told
 pub mod Values

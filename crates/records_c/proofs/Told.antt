@@ -7,7 +7,7 @@ use Rattle.records_c.specs.declared.answer.Answer.{Answer}
 use Rattle.records_c.specs.declared.answer.Answer.TheVariants as answer
 use Rattle.records_c.specs.Ended.{IsEndedBy}
 use Rattle.records_c.specs.Fed.{IsFedAs, IsFedTo, IsFedBy}
-use Rattle.records_c.specs.Held.{Held, IsTaking, IsBroken, Stands, limit_of}
+use Rattle.records_c.specs.Held.{Held, IsTaking, IsBroken, Stands, Waits, limit_of}
 use Rattle.records_c.specs.Started.{IsStarted, IsFresh}
 use Rattle.records_c.specs.Statuses.{status_of}
 use Rattle.records_c.specs.Taken.{IsTakenBy, IsGiven}
@@ -45,6 +45,14 @@ at_first h = record {
   taking = h.fresh.taking;
   stands = h.fresh.stands;
 }
+
+-- the same, with this record waiting behind them
+pub record Waiting (limit : ℕ) (bytes : List ℕ) (rs : List (List ℕ)) (r : List ℕ) (held : Option Held) : Type 0 where
+  pub reader : Held
+  pub is : held ≡ Some reader
+  pub limit_is : limit_of reader ≡ limit
+  pub waits : Waits reader r
+  pub stands : Stands reader bytes rs
 
 pub same_held : (h l : Held) → l.reader ≡ h.reader → l.waits ≡ h.waits → l ≡ h
 same_held h l e d =

@@ -1,5 +1,5 @@
 //! What the exports' contracts force on telling inputs, each proved from the contracts alone.
-ghost use Rattle.std.specs.Prelude.{◌≡◌, ◌<◌, ◌≤◌, ◌⊎◌, ℕ, List, [], ◌∷◌, length, take, Some, None, option_map};
+ghost use Rattle.std.specs.Prelude.{◌≡◌, ◌≢◌, ◌<◌, ◌≤◌, ◌⊎◌, ℕ, List, [], ◌∷◌, length, take, Some, None, option_map};
 ghost use Rattle.rpc_record.specs.Reading.{IsWhole};
 ghost use Rattle.records_c.specs.Held.{Held, held_of};
 ghost use Rattle.records_c.specs.Started.{IsFresh};
@@ -87,7 +87,7 @@ pub fn hands_out_a_record_of_two_fragments(
     outcome: &mut Outcome,
 ) -> (u32, u32, u32, usize, u32)
     requires { 3 ≤ length room.old }
-    ensures { result.0 ≡ 0 → result.1 < 6 ⊎ 6 < result.1 → result.2 < 6 ⊎ 6 < result.2
+    ensures { result.0 ≡ 0 → result.1 ≢ 6 → result.2 ≢ 6
         → (result.1 ≡ 23) × (result.2 ≡ 0) × (result.3 ≡ 3) × (result.4 ≡ 0) × (outcome.new ≡ at_count 3)
         × (take 3 room.new ≡ 97 ∷ 98 ∷ 99 ∷ []) }
 {
@@ -99,6 +99,33 @@ pub fn hands_out_a_record_of_two_fragments(
     let used = outcome.at;
     let taken = oncrpc_records_take(alloc, handle, room, outcome);
     (started, begun, fed, used, taken)
+}
+
+/// Two records that come in one piece, `80000001 61 80000000`, are handed out one after the other: the first ends after
+/// five bytes, and the rest is fed again.
+pub fn hands_out_two_records_of_a_piece(
+    alloc: Global,
+    handle: &mut Records,
+    room: &mut [u8],
+    outcome: &mut Outcome,
+) -> (u32, u32, usize, u32, u32)
+    requires { 1 ≤ length room.old }
+    ensures { result.0 ≡ 0 → result.1 ≢ 6 → result.4 ≢ 6
+        → (result.1 ≡ 0) × (result.2 ≡ 5) × (result.3 ≡ 0) × (take 1 room.new ≡ 97 ∷ []) × (result.4 ≡ 0)
+        × (outcome.new ≡ at_count 4) }
+{
+    too_long_ends_the_stream();
+    let started = oncrpc_records_start(alloc, handle, 1, outcome);
+    let fed = oncrpc_records_feed(
+        alloc,
+        handle,
+        &[0x80, 0, 0, 1, 0x61, 0x80, 0, 0, 0],
+        outcome,
+    );
+    let used = outcome.at;
+    let taken = oncrpc_records_take(alloc, handle, room, outcome);
+    let next = oncrpc_records_feed(alloc, handle, &[0x80, 0, 0, 0], outcome);
+    (started, fed, used, taken, next)
 }
 
 /// The bytes that a first piece is told to have had taken are one record, whatever follows in the piece.
