@@ -2,17 +2,18 @@
  * 1833), for C and C++.
  *
  * Each function answers a status, one of the ONCRPC_ numbers below, and fills what the caller lends. What it promises
- * is the contract of the function of that name in crates/oncrpc_c/src, crates/rpc_c/src or crates/registry_c/src, which
- * a prover has accepted; these comments retell it.
+ * is the contract of the function of that name in the src of crates/oncrpc_c, crates/rpc_c, crates/registry_c or
+ * crates/records_c, which a prover has accepted; these comments retell it.
  *
  * POINTERS. A pointer to bytes with a count beside it leads to so many bytes, and is not null, also where the count is
  * 0. Nothing else may write those bytes while the call runs. What a call fills (an outcome, a room, a handle) overlaps
  * nothing else that the call is given. A call keeps no pointer: when it has returned, the bytes are the caller's again.
  *
- * MEMORY. What is kept between calls is in a handle, oncrpc_declarations or oncrpc_registry, and is given back by its
- * free. All memory comes from malloc and realloc and goes to free. Where one of them refuses, the answer is
- * ONCRPC_NO_MEMORY, or of oncrpc_registry_answer the reply SYSTEM_ERR, nothing is lost, and the call may be made again.
- * No length or count that the input declares reserves any.
+ * MEMORY. What is kept between calls is in a handle, oncrpc_declarations, oncrpc_registry or oncrpc_records, and is
+ * given back by its free. All memory comes from malloc and realloc and goes to free. Where one of them refuses, the
+ * answer is ONCRPC_NO_MEMORY, or of oncrpc_registry_answer the reply SYSTEM_ERR, nothing is lost, and the call may be
+ * made again; but after ONCRPC_NO_MEMORY of oncrpc_records_feed the stream is lost. No length or count that the input
+ * declares reserves any.
  *
  * THREADS. There is no state outside of the handles and no initialisation, so calls on several threads at once are well
  * where they share nothing that one of them fills. A handle stays on one thread, with one call at a time: a check
@@ -60,7 +61,12 @@ enum {
     ONCRPC_NO_REGISTRY = 18,  /* the handle holds no registry */
     ONCRPC_SILENCE = 19,      /* there is no reply: nothing is to be sent */
     ONCRPC_NO_TRANSPORT = 20, /* the netid is neither tcp nor udp */
-    ONCRPC_UNCHANGED = 21     /* no row was added or removed */
+    ONCRPC_UNCHANGED = 21,    /* no row was added or removed */
+
+    /* Of a stream of records alone. */
+    ONCRPC_NO_READER = 22,   /* the handle holds no reader */
+    ONCRPC_MORE_WANTED = 23, /* all was taken, and no record is whole */
+    ONCRPC_NO_RECORD = 24    /* no record waits */
 };
 
 /* Why bytes are refused: `why` of an outcome with ONCRPC_REFUSED. The place is that of the unit (four bytes) or of the
@@ -440,6 +446,71 @@ uint32_t oncrpc_registry_unset(
 
 /* Gives back what `registry` holds, if anything. It then holds none, so that a second call does nothing. */
 void oncrpc_registry_free(oncrpc_registry *registry);
+
+/* ---- records in fragments
+ *
+ * Over a connection a message is a record: fragments, each behind a header of four bytes that counts its bytes and says
+ * whether it is the record's last (RFC 5531 section 11). A reader takes what was received, in any pieces, and hands out
+ * the records, without the headers, in their order. The caller has the socket, and one reader for each connection:
+ *
+ *     while ((status = oncrpc_records_feed(&records, piece, count, &outcome)) == ONCRPC_OK) {
+ *         piece += outcome.at, count -= outcome.at;
+ *         status = oncrpc_records_take(&records, room, room_count, &outcome);
+ *         ...
+ *     }
+ *
+ * and where that ends with ONCRPC_MORE_WANTED, the next piece is received. Counts are in bytes. A place is the count of
+ * the stream's bytes before it, from the first that was fed; SIZE_MAX stands for every greater one. Each call below but
+ * the last fills `outcome`: `at` and `why` where they are spoken of, and 0 in each other field and at each other
+ * status. At ONCRPC_NO_READER nothing is changed. */
+
+/* A reader of one stream of records, or none. It begins as {0}; only the calls below may look into it or write it, and
+ * a copy of it must not be used beside it. It is given back by oncrpc_records_free. */
+typedef struct {
+    void *at;
+    bool live;
+} oncrpc_records;
+
+/* Starts a reader in `records`, before the first byte of a stream whose records may have `limit` bytes, at most
+ * ONCRPC_MOST_RECORD, and gives back what that held before. Of the stream it keeps one record at most, as it comes.
+ * ONCRPC_OK. ONCRPC_BAD_LIMITS, _NO_MEMORY: it holds none. */
+uint32_t oncrpc_records_start(oncrpc_records *records, uint32_t limit, oncrpc_outcome *outcome);
+
+/* Takes bytes of `piece`, which may be empty, up to the end of a record.
+ *
+ * ONCRPC_OK: a record is whole, and waits for oncrpc_records_take. The first `at` bytes of the piece were taken, the
+ * last of which is the record's last; the others are to be fed again, after the record was taken. While a record waits
+ * no byte is taken, and `at` is 0. ONCRPC_MORE_WANTED: all bytes were taken, each record that was whole was handed out,
+ * and no header brings its record above the limit.
+ *
+ * ONCRPC_REFUSED: `why` is ONCRPC_TOO_LONG, and `at` the place of the header that brings its record above the limit;
+ * the records before it were handed out. Or oncrpc_records_end told before that the stream is cut: this is told again.
+ * ONCRPC_NO_MEMORY: the record that had begun is lost. These two are answered for ever after, by oncrpc_records_end
+ * too, with the same `why` and `at`, whatever is fed. ONCRPC_NO_READER. */
+uint32_t oncrpc_records_feed(
+    oncrpc_records *records,
+    const uint8_t *piece, size_t piece_count,
+    oncrpc_outcome *outcome);
+
+/* Puts the record that waits into the front of `room`; then it waits no longer, and the next may be fed.
+ * ONCRPC_OK: `at` bytes were written, 0 of an empty record, and the rest of the room is as it was. ONCRPC_NO_ROOM: `at`
+ * bytes are needed, and the record waits on. ONCRPC_NO_RECORD. ONCRPC_NO_READER. At each status but ONCRPC_OK the room
+ * is as it was. It takes no memory. */
+uint32_t oncrpc_records_take(
+    oncrpc_records *records,
+    uint8_t *room, size_t room_count,
+    oncrpc_outcome *outcome);
+
+/* Tells whether the stream may end behind the bytes that were taken.
+ * ONCRPC_OK: they end with a record's last byte, or there are none; a record that waits waits on, and nothing is
+ * changed. ONCRPC_REFUSED: `why` is ONCRPC_TRUNCATED, and `at` the count of all bytes that were taken, which end inside
+ * a record, for ever after; or `why` and `at` are those that oncrpc_records_feed told. ONCRPC_NO_MEMORY: it told that.
+ * ONCRPC_NO_READER. It takes no memory. */
+uint32_t oncrpc_records_end(oncrpc_records *records, oncrpc_outcome *outcome);
+
+/* Gives back what `records` holds, if anything, with a record that waits. It then holds none, so that a second call
+ * does nothing. */
+void oncrpc_records_free(oncrpc_records *records);
 
 #ifdef __cplusplus
 }

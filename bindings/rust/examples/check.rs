@@ -1,8 +1,10 @@
 //! Reads declarations once, checks inputs that nobody promised, shows one and looks into it, reads a call and its
-//! reply, and asks a registry.
+//! reply, asks a registry, and reads a stream of records.
 //!
 //!     ./build-library && cd bindings/rust && cargo run --example check
-use oncrpc::{normalise, Auth, AuthSys, Call, Declarations, Limits, Outcome, Registry, Reply, Role, Transport};
+use oncrpc::{
+    normalise, Auth, AuthSys, Call, Declarations, Limits, Outcome, Records, Registry, Reply, Role, Transport,
+};
 use std::error::Error;
 
 /// After RFC 4506 section 7.
@@ -128,6 +130,21 @@ fn registry() -> Result<(), Box<dyn Error>> {
     Ok(())
 }
 
+/// A record of two fragments that comes in two pieces, and less than one (RFC 5531 section 11).
+fn stream() -> Result<(), Box<dyn Error>> {
+    let mut records = Records::start(100)?;
+    let mut record = Vec::new();
+    for mut piece in [b"\0\0\0\x02ab\x80\0".as_slice(), b"\0\x01c\x80\0\0\x03d"] {
+        while let Some(used) = records.feed(piece)? {
+            records.take(&mut record)?;
+            println!("record: {}", String::from_utf8_lossy(&record));
+            piece = &piece[used..];
+        }
+    }
+    println!("end: {:?}", records.end());
+    Ok(())
+}
+
 fn main() -> Result<(), Box<dyn Error>> {
     let mut declarations = Declarations::read(TEXT)?;
     checks(&mut declarations);
@@ -139,5 +156,6 @@ fn main() -> Result<(), Box<dyn Error>> {
     println!("{:?}", normalise(b"\0\0\0\x02ab\x80\0\0\x01c", 4));
     println!("{:?}", normalise(b"\0\0\0\x02ab\x80\0\0\x03c", 4));
     messages()?;
-    registry()
+    registry()?;
+    stream()
 }

@@ -21,6 +21,7 @@ mod messages;
 mod parts;
 mod records;
 mod registry;
+mod stream;
 mod sys;
 
 pub use declarations::{Checked, Declarations, Limits};
@@ -31,3 +32,4 @@ pub use messages::{
 pub use parts::{Part, Parts, Role, XdrType};
 pub use records::{normalise, NormaliseFault, MOST_RECORD};
 pub use registry::{NoMemory, Registry, Transport};
+pub use stream::{Records, StreamFault};

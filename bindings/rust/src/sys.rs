@@ -18,6 +18,7 @@ pub const BAD_STATE: u32 = 15;
 pub const BYTES_FOLLOW: u32 = 16;
 pub const NOT_AUTH_SYS: u32 = 17;
 pub const UNCHANGED: u32 = 21;
+pub const MORE_WANTED: u32 = 23;
 
 #[repr(C)]
 #[derive(Default)]
@@ -63,6 +64,14 @@ pub struct PartsOutcome {
 #[repr(C)]
 #[derive(Debug)]
 pub struct Registry {
+    pub at: *mut c_void,
+    pub live: bool,
+}
+
+/// A reader of a stream of records, or none. The pointer keeps it on its thread.
+#[repr(C)]
+#[derive(Debug)]
+pub struct Records {
     pub at: *mut c_void,
     pub live: bool,
 }
@@ -263,4 +272,19 @@ extern "C" {
     ) -> u32;
 
     pub fn oncrpc_registry_free(registry: *mut Registry);
+
+    pub fn oncrpc_records_start(records: *mut Records, limit: u32, outcome: *mut Outcome) -> u32;
+
+    pub fn oncrpc_records_feed(
+        records: *mut Records,
+        piece: *const u8,
+        piece_count: usize,
+        outcome: *mut Outcome,
+    ) -> u32;
+
+    pub fn oncrpc_records_take(records: *mut Records, room: *mut u8, room_count: usize, outcome: *mut Outcome) -> u32;
+
+    pub fn oncrpc_records_end(records: *mut Records, outcome: *mut Outcome) -> u32;
+
+    pub fn oncrpc_records_free(records: *mut Records);
 }

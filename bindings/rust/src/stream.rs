@@ -1,0 +1,125 @@
+//! A stream of records in fragments (RFC 5531 section 11), over the caller's own connection.
+
+use crate::fault::Refusal;
+use crate::registry::NoMemory;
+use crate::sys;
+use std::error::Error;
+use std::fmt;
+use std::ptr;
+
+/// Why a stream of records does not go on.
+#[derive(Clone, Copy, Debug, PartialEq, Eq, Hash)]
+#[non_exhaustive]
+pub enum StreamFault {
+    /// A header brings its record above the limit, or the stream ended inside a record; and where, in bytes from the
+    /// stream's first.
+    Refused(Refusal),
+    /// The limit is above [`MOST_RECORD`](crate::MOST_RECORD).
+    BadLimit,
+    /// Memory was refused.
+    NoMemory,
+}
+
+impl StreamFault {
+    fn of(status: u32, outcome: &sys::Outcome) -> Self {
+        match status {
+            sys::REFUSED => Self::Refused(Refusal::of(outcome)),
+            sys::BAD_LIMITS => Self::BadLimit,
+            _ => Self::NoMemory,
+        }
+    }
+}
+
+impl fmt::Display for StreamFault {
+    fn fmt(&self, f: &mut fmt::Formatter<'_>) -> fmt::Result {
+        match self {
+            Self::Refused(refusal) => refusal.fmt(f),
+            Self::BadLimit => f.write_str("the limit is out of its range"),
+            Self::NoMemory => f.write_str("out of memory"),
+        }
+    }
+}
+
+impl Error for StreamFault {}
+
+/// A reader of one stream: takes what was received, in any pieces, and hands out the records without the headers of
+/// their fragments, in their order. It stays on its thread.
+#[derive(Debug)]
+pub struct Records {
+    handle: sys::Records,
+}
+
+impl Records {
+    /// A reader before the first byte of a stream whose records may have `limit` bytes. Of the stream it keeps one record
+    /// at most, as it comes.
+    pub fn start(limit: u32) -> Result<Self, StreamFault> {
+        let mut started = Self {
+            handle: sys::Records {
+                at: ptr::null_mut(),
+                live: false,
+            },
+        };
+        let mut outcome = sys::Outcome::default();
+        // SAFETY: handle and outcome are ours alone and lie apart.
+        match unsafe { sys::oncrpc_records_start(&mut started.handle, limit, &mut outcome) } {
+            sys::OK => Ok(started),
+            status => Err(StreamFault::of(status, &outcome)),
+        }
+    }
+
+    /// Takes bytes of the piece, which may be empty, up to the end of a record.
+    ///
+    /// `Some(used)`: a record is whole, and waits for [`Records::take`]. The first `used` bytes of the piece were taken,
+    /// the last of which is the record's last; the others are to be fed again. While a record waits none is taken.
+    /// `None`: all bytes were taken, and no record is whole. A fault is answered for ever after.
+    pub fn feed(&mut self, piece: &[u8]) -> Result<Option<usize>, StreamFault> {
+        let mut outcome = sys::Outcome::default();
+        // SAFETY: the piece is a slice; handle and outcome are ours alone and lie apart.
+        let status = unsafe { sys::oncrpc_records_feed(&mut self.handle, piece.as_ptr(), piece.len(), &mut outcome) };
+        match status {
+            sys::OK => Ok(Some(outcome.at)),
+            sys::MORE_WANTED => Ok(None),
+            _ => Err(StreamFault::of(status, &outcome)),
+        }
+    }
+
+    /// The record that waits. `record` is filled anew, and its room kept from call to call; false where none waits. Where
+    /// `record` wants memory, the record waits on.
+    pub fn take(&mut self, record: &mut Vec<u8>) -> Result<bool, NoMemory> {
+        record.resize(record.capacity(), 0);
+        let (mut status, mut count) = self.take_into(record);
+        if status == sys::NO_ROOM {
+            record.clear();
+            record.try_reserve_exact(count).map_err(|_| NoMemory)?;
+            record.resize(count, 0);
+            (status, count) = self.take_into(record);
+        }
+        record.truncate(count);
+        Ok(status == sys::OK)
+    }
+
+    fn take_into(&mut self, room: &mut [u8]) -> (u32, usize) {
+        let mut outcome = sys::Outcome::default();
+        // SAFETY: handle, room and outcome are ours alone and lie apart.
+        let status = unsafe { sys::oncrpc_records_take(&mut self.handle, room.as_mut_ptr(), room.len(), &mut outcome) };
+        (status, outcome.at)
+    }
+
+    /// Whether the stream may end behind the bytes that were taken: between two records, or with a record that waits,
+    /// which waits on. A fault is answered for ever after.
+    pub fn end(&mut self) -> Result<(), StreamFault> {
+        let mut outcome = sys::Outcome::default();
+        // SAFETY: handle and outcome are ours alone and lie apart.
+        match unsafe { sys::oncrpc_records_end(&mut self.handle, &mut outcome) } {
+            sys::OK => Ok(()),
+            status => Err(StreamFault::of(status, &outcome)),
+        }
+    }
+}
+
+impl Drop for Records {
+    fn drop(&mut self) {
+        // SAFETY: the handle is ours alone; one that holds none is left as it is.
+        unsafe { sys::oncrpc_records_free(&mut self.handle) }
+    }
+}

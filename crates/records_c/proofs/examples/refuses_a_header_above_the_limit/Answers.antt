@@ -1,0 +1,11 @@
+use Rattle.std.proofs.Common.{sym, ◌∙◌}
+use Rattle.records_c.proofs.Long.{fed_long}
+use Rattle.records_c.proofs.Told.{started}
+use Rattle.records_c.proofs.examples.refuses_a_header_above_the_limit.Goals as goal
+
+pub returns : goal.returns
+returns c = λ e.
+    let s = c.oncrpc_records_start-started.ensures in
+    let f = c.oncrpc_records_feed-fed.ensures in
+    let h = started 2 _ s.0 s.1 (sym e ∙ s.2) in
+    rw (f.2, f.3) (fed_long c.too_long_ends_the_stream.ensures.none _ _ h.held f.0 h.is h.fresh f.1)

@@ -1,0 +1,8 @@
+pub mod Ended
+pub mod Fed
+pub mod Held
+pub mod Kept
+pub mod Rooms
+pub mod Started
+pub mod Statuses
+pub mod Taken
