@@ -14,6 +14,8 @@ for p in stdio_check loop_xdr; do gcc -O2 -w -I/usr/include/tirpc c/$p.c gen/ben
 if [ -e "$here/../library/liboncrpc.a" ]; then
     gcc -O2 -w -DLIBRARY -I/usr/include/tirpc -I"$here/../library/include" c/loop_xdr.c gen/bench_xdr.c \
         "$here/../library/liboncrpc.a" -o loop_library -ltirpc
+    gcc -O2 -w -I/usr/include/tirpc -I"$here/../library/include" c/loop_stream.c \
+        "$here/../library/liboncrpc.a" -o loop_stream -ltirpc
 fi
 for p in records loop_registry; do gcc -O2 -w -I/usr/include/tirpc c/$p.c -o $p -ltirpc; done
 gcc -O2 -w c/registry_load.c -o registry_load
