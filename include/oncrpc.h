@@ -456,7 +456,7 @@ void oncrpc_registry_free(oncrpc_registry *registry);
  *     while ((status = oncrpc_records_feed(&records, piece, count, &outcome)) == ONCRPC_OK) {
  *         piece += outcome.at, count -= outcome.at;
  *         status = oncrpc_records_take(&records, room, room_count, &outcome);
- *         ...
+ *         ...                     at ONCRPC_NO_ROOM it is to be called again with more, since the record waits on
  *     }
  *
  * and where that ends with ONCRPC_MORE_WANTED, the next piece is received. Counts are in bytes. A place is the count of
