@@ -29,7 +29,7 @@ pub body_written : (p : AuthSysParts) (machine old new : List ℕ) (count : ℕ)
     → IsAuthSysWritten p machine old new count a → 0 ≡ status_of a
     → AuthSysBytes (auth_sys_of p machine) (take count new)
 body_written p machine old new count answer.Whole w e =
-    subst (λ (b : List ℕ). AuthSysBytes (auth_sys_of p machine) b) (sym (front_placed w.0 old new count w.2)) w.1
+    subst (λ (b : List ℕ). AuthSysBytes (auth_sys_of p machine) b) (sym (front_placed w.1 old new count w.3)) w.2
 body_written p machine old new count answer.NoMemory w e = absurd (omega (arith, e))
 body_written p machine old new count answer.NoRoom w e = absurd (omega (arith, e))
 body_written p machine old new count answer.BadCredential w e = absurd w

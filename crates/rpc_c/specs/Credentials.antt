@@ -1,5 +1,5 @@
 -- What C sees of a body of AUTH_SYS, and what it asks to be written (RFC 5531 appendix A).
-use Rattle.std.specs.Prelude.{◌⊎◌, ◌<◌, ◌-◌, ℕ, List, ◌++◌, length, take, replicate}
+use Rattle.std.specs.Prelude.{◌⊎◌, ◌≤◌, ◌<◌, ◌-◌, ℕ, List, ◌++◌, length, take, replicate}
 use Rattle.rpc_message.specs.Message.{AuthSysView}
 use Rattle.rpc_message.specs.Spelling.{AuthSysBytes}
 use Rattle.rpc_c.specs.declared.answer.Answer.{Answer}
@@ -50,12 +50,14 @@ abbrev pub auth_sys_of : AuthSysParts → (machine : List ℕ) → AuthSysView
 auth_sys_of p machine =
     record { stamp = p.stamp; machine = machine; uid = p.uid; gid = p.gid; gids = take p.gid_count p.gids }
 
--- what writing a body came to, and what stands in the room
+-- What writing a body came to, and what stands in the room. No body has more gids than 16, and none is left out.
 abbrev pub IsAuthSysWritten : AuthSysParts → (machine old new : List ℕ) → (count : ℕ) → Answer → Type 0
 IsAuthSysWritten p machine old new count answer.Whole =
-    (bytes : List ℕ) × AuthSysBytes (auth_sys_of p machine) bytes × IsPlaced bytes old new count answer.Whole
+    (p.gid_count ≤ 16) × (bytes : List ℕ) × AuthSysBytes (auth_sys_of p machine) bytes
+    × IsPlaced bytes old new count answer.Whole
 IsAuthSysWritten p machine old new count answer.NoRoom =
-    (bytes : List ℕ) × AuthSysBytes (auth_sys_of p machine) bytes × IsPlaced bytes old new count answer.NoRoom
+    (p.gid_count ≤ 16) × (bytes : List ℕ) × AuthSysBytes (auth_sys_of p machine) bytes
+    × IsPlaced bytes old new count answer.NoRoom
 IsAuthSysWritten p machine old new count answer.NoAuthSys =
     ((16 < p.gid_count) ⊎ (255 < length machine)) × IsKept old new count
 IsAuthSysWritten p machine old new count answer.NoMemory = IsKept old new count

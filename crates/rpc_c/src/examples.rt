@@ -91,6 +91,21 @@ pub fn writes_no_state_eight(
     oncrpc_reply_write(alloc, reply, b"", b"", room, count)
 }
 
+/// Of more than 16 gids none is written.
+pub fn writes_no_long_list_of_gids(
+    alloc: Global,
+    auth: &AuthSysParts,
+    machine: &[u8],
+    room: &mut [u8],
+    count: &mut usize,
+) -> u32
+    requires { 16 < auth.now.gid_count }
+    ensures status { (result ≡ 17) ⊎ (result ≡ 6) }
+    ensures kept { (room.new ≡ room.old) × (count.new ≡ 0) }
+{
+    oncrpc_auth_sys_write(alloc, auth, machine, room, count)
+}
+
 /// A body of AUTH_SYS that was written is read as what was asked for, unless memory was refused.
 pub fn reads_the_body_that_was_written(
     alloc: Global,
