@@ -1,5 +1,5 @@
 -- What normalising a buffer says of all of it.
-use Rattle.std.proofs.Common.{◌≡◌, ℕ, List, [], ◌++◌, length, refl, sym, ap, ◌∙◌, subst, Option, None, Some}
+use Rattle.std.proofs.Common.{◌≡◌, ℕ, ◌≤◌, List, [], ◌++◌, length, refl, sym, ap, ◌∙◌, subst, Option, None, Some}
 use Rattle.std.proofs.Common.{append-nil}
 use Rattle.std.specs.Io.KnownBytes.{Consumes, IsAtEnd}
 use Rattle.rpc_record.specs.declared.fault.Count.{Count}
@@ -26,29 +26,36 @@ front_read input None read took = absurd took
 front_read input (Some rest) read took = (rest, took)
 
 pub form_whole : (limit : ℕ) (input form : List ℕ) (left : Option (List ℕ)) (count : Count)
-    → Normalised limit (Some input) left (Some []) (Some form) count → IsForm limit input form None
-form_whole limit input form left count n = record {
+    → limit ≤ 2147483647 → Normalised limit (Some input) left (Some []) (Some form) count → IsForm limit input form None
+form_whole limit input form left count i n = record {
+  in_range = i;
   rs = n.rs;
   ends = subst (λ (b : List ℕ). IsWhole limit n.rs b) (sym (all_read input left n.input n.read n.end)) n.whole;
   marked = n.written;
 }
 
 pub form_long : (limit at : ℕ) (input form : List ℕ) (left : Option (List ℕ))
-    → Stops limit (Some input) left (Some []) (Some form) (fault.TooLong at)
+    → limit ≤ 2147483647 → Stops limit (Some input) left (Some []) (Some form) (fault.TooLong at)
     → IsForm limit input form (Some (record { why = reason.TooLong; at = at }))
-form_long limit at input form left s =
+form_long limit at input form left i s =
     let front = front_read input left s.input s.read in
     let there : TooLongAt limit s.rs at input =
     subst (λ (b : List ℕ). TooLongAt limit s.rs at b) (sym front.1)
     (TooLongAt-more limit at s.rs s.input front.0 s.stopped.0) in
-    record { rs = s.rs; ends = (there, Longest-long limit at s.rs input there); marked = s.stopped.2 }
+    record {
+      in_range = i;
+      rs = s.rs;
+      ends = (there, Longest-long limit at s.rs input there);
+      marked = s.stopped.2;
+    }
 
 pub form_cut : (limit at : ℕ) (input form : List ℕ) (left : Option (List ℕ))
-    → Stops limit (Some input) left (Some []) (Some form) (fault.Truncated at)
+    → limit ≤ 2147483647 → Stops limit (Some input) left (Some []) (Some form) (fault.Truncated at)
     → IsForm limit input form (Some (record { why = reason.Truncated; at = length input }))
-form_cut limit at input form left s =
+form_cut limit at input form left i s =
     let all = all_read input left s.input s.read s.stopped.3 in
     record {
+      in_range = i;
       rs = s.rs;
       ends = (
         refl,

@@ -1,5 +1,5 @@
 -- What marking the records of a buffer anew leaves in another (RFC 5531 section 11).
-use Rattle.std.specs.Prelude.{◌≡◌, ℕ, ◌<◌, List, length, Option, None, Some}
+use Rattle.std.specs.Prelude.{◌≡◌, ℕ, ◌≤◌, ◌<◌, List, length, Option, None, Some}
 use Rattle.rpc_record.specs.Marked.{normal, Longest}
 use Rattle.rpc_record.specs.Reading.{IsWhole, IsInside, TooLongAt}
 use Rattle.xdr_stream.specs.declared.fault.DecodeFault.{DecodeFault}
@@ -21,8 +21,9 @@ abbrev pub EndsAs : (limit : ℕ) → (rs : List (List ℕ)) → (input : List �
 EndsAs limit rs input None = IsWhole limit rs input
 EndsAs limit rs input (Some f) = StopsAs limit rs input f.why f.at
 
--- The bytes are the normal form of the records at the front of the input.
+-- The bytes are the normal form of the records at the front of the input, by a limit in its range.
 pub record IsForm (limit : ℕ) (input form : List ℕ) (end : Option DecodeFault) : Type 0 where
+  pub in_range : limit ≤ 2147483647
   pub rs : List (List ℕ)
   pub ends : EndsAs limit rs input end
   pub marked : form ≡ normal rs

@@ -78,6 +78,23 @@ pub fn leaves_small_room(
     oncrpc_normalise(alloc, input, 65536, room, written, outcome)
 }
 
+/// By a limit out of its range nothing is written, of whatever input.
+pub fn marks_nothing_by_a_limit_out_of_range(
+    alloc: Global,
+    input: &[u8],
+    limit: u32,
+    room: &mut [u8],
+    written: &mut usize,
+    outcome: &mut Outcome,
+) -> u32
+    requires { 2147483647 < limit }
+    ensures status { (result ≡ 5) ⊎ (result ≡ 6) }
+    ensures kept { (room.new ≡ room.old) × (written.new ≡ 0) }
+    ensures outcome { outcome.new ≡ at_place 0 }
+{
+    oncrpc_normalise(alloc, input, limit, room, written, outcome)
+}
+
 /// Room for too few lines stays as it was.
 pub fn shows_nothing_in_small_room(
     alloc: Global,

@@ -10,4 +10,4 @@ returns-in-Err-TooLong c =
       c.in-Err-TooLong.field-0-is,
       c.into_bytes-in-Err-TooLong.ensures,
     ) at c.in-Err-TooLong.ensures.fault in
-    form_long _ _ c.args.input.now _ _ stops
+    form_long _ _ c.args.input.now _ _ c.requires stops
