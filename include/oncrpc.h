@@ -11,9 +11,10 @@
  *
  * MEMORY. What is kept between calls is in a handle, oncrpc_declarations, oncrpc_registry or oncrpc_records, and is
  * given back by its free. All memory comes from malloc and realloc and goes to free. Where one of them refuses, the
- * answer is ONCRPC_NO_MEMORY, or of oncrpc_registry_answer the reply SYSTEM_ERR, nothing is lost, and the call may be
- * made again; but after ONCRPC_NO_MEMORY of oncrpc_records_feed the stream is lost. No length or count that the input
- * declares reserves any.
+ * answer is ONCRPC_NO_MEMORY, or of oncrpc_registry_answer the reply SYSTEM_ERR, no memory is lost, and the call may be
+ * made again. What a handle holds stays then, but that of oncrpc_declarations_read, oncrpc_registry_start and
+ * oncrpc_records_start holds none, and after ONCRPC_NO_MEMORY of oncrpc_records_feed the stream is lost. No length or
+ * count that the input declares reserves any.
  *
  * THREADS. There is no state outside of the handles and no initialisation, so calls on several threads at once are well
  * where they share nothing that one of them fills. A handle stays on one thread, with one call at a time: a check
@@ -403,8 +404,9 @@ uint32_t oncrpc_registry_start(
  *
  * ONCRPC_OK: `at` bytes of reply were written, and the rest of the room is as it was. ONCRPC_SILENCE: the record is no
  * call, and is to be dropped. ONCRPC_NO_ROOM: `at` bytes of room are needed. What was asked for is done already, so the
- * reply waits in the registry for oncrpc_registry_reply, until the next call of this function, which gives it up.
- * ONCRPC_NO_TRANSPORT: nothing is changed. ONCRPC_NO_REGISTRY. At each status but ONCRPC_OK the room is as it was.
+ * reply waits in the registry for oncrpc_registry_reply, until the next call of this function, which gives it up
+ * unless it answers ONCRPC_NO_TRANSPORT: then nothing is changed. ONCRPC_NO_REGISTRY. At each status but ONCRPC_OK the
+ * room is as it was.
  *
  * Where memory is refused the reply is SYSTEM_ERR of 24 bytes, and the rows are as they were. Over udp a reply has at
  * most 65507 bytes: a longer one is SYSTEM_ERR, and the rows are as they were. */
