@@ -5,7 +5,7 @@ use Rattle.std.specs.Io.KnownBytes.{Consumes, IsAtEnd}
 use Rattle.rpc_record.specs.declared.fault.Count.{Count}
 use Rattle.rpc_record.specs.declared.fault.RecordFault.TheVariants as fault
 use Rattle.rpc_record.specs.Marked.{Longest}
-use Rattle.rpc_record.specs.Reading.{IsWhole, IsInside, TooLongAt}
+use Rattle.rpc_record.specs.Reading.{IsWhole, IsInside, TooLongAt, HasNoLong}
 use Rattle.rpc_record.specs.Normalised.{Normalised, Stops}
 use Rattle.rpc_record.proofs.Readers.{TooLongAt-more}
 use Rattle.rpc_record.proofs.Places.{Longest-long}
@@ -61,6 +61,7 @@ form_cut limit at input form left i s =
         refl,
         subst (λ (b : List ℕ). IsInside limit s.rs b) (sym all) s.stopped.1,
         subst (λ (b : List ℕ). Longest limit s.rs b) (sym all) s.stopped.2,
+        subst (λ (b : List ℕ). HasNoLong limit b) (sym all) s.stopped.5,
       );
       marked = s.stopped.4;
     }

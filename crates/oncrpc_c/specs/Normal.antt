@@ -1,7 +1,7 @@
 -- What marking the records of a buffer anew leaves in another (RFC 5531 section 11).
 use Rattle.std.specs.Prelude.{◌≡◌, ℕ, ◌≤◌, ◌<◌, List, length, Option, None, Some}
 use Rattle.rpc_record.specs.Marked.{normal, Longest}
-use Rattle.rpc_record.specs.Reading.{IsWhole, IsInside, TooLongAt}
+use Rattle.rpc_record.specs.Reading.{IsWhole, IsInside, TooLongAt, HasNoLong}
 use Rattle.xdr_stream.specs.declared.fault.DecodeFault.{DecodeFault}
 use Rattle.xdr_stream.specs.declared.fault.Reason.{Reason}
 use Rattle.xdr_stream.specs.declared.fault.Reason.TheVariants as reason
@@ -10,10 +10,11 @@ use Rattle.oncrpc_c.specs.declared.answer.Answer.TheVariants as answer
 use Rattle.oncrpc_c.specs.Room.{IsPut, IsKept}
 
 -- why the input is no stream of records within the limit, behind these records: a header that passes the limit, or the
--- input's end inside the next record
+-- input's end inside the next record, where no header passes the limit
 abbrev pub StopsAs : (limit : ℕ) → (rs : List (List ℕ)) → (input : List ℕ) → Reason → (at : ℕ) → Type 0
 StopsAs limit rs input reason.TooLong at = TooLongAt limit rs at input × Longest limit rs input
-StopsAs limit rs input reason.Truncated at = (at ≡ length input) × IsInside limit rs input × Longest limit rs input
+StopsAs limit rs input reason.Truncated at =
+    (at ≡ length input) × IsInside limit rs input × Longest limit rs input × HasNoLong limit input
 StopsAs limit rs input _ at = ⊥
 
 -- how the records end: with the input, or where it is refused

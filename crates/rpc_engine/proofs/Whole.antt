@@ -10,7 +10,7 @@ use Rattle.rpc_record.specs.declared.fault.RecordFault.{RecordFault}
 use Rattle.rpc_record.specs.declared.fault.RecordFault.TheVariants as flaw
 use Rattle.rpc_record.specs.declared.reader.RecordReader.{RecordReader}
 use Rattle.rpc_record.specs.Marked.{fragment, normal, Longest, OneLongest}
-use Rattle.rpc_record.specs.Reading.{IsWhole, IsInside, Begins, Faulty, WholeIsLongest, capped}
+use Rattle.rpc_record.specs.Reading.{IsWhole, IsInside, Begins, HasNoLong, Faulty, WholeIsLongest, capped}
 use Rattle.rpc_record.specs.Stands.{Stands, Always, IsTaking, limit_of}
 use Rattle.rpc_engine.specs.declared.fault.ServeFault.{ServeFault}
 use Rattle.rpc_engine.specs.declared.fault.ServeFault.TheVariants as fault
@@ -23,8 +23,9 @@ use Rattle.rpc_engine.proofs.Sessions.{normal_append, normal_one}
 
 pub begins : (netid : List ℕ) (limit : ℕ) (r : RecordReader) (rows : List Row) (s : Session) (l t : Option (List ℕ))
     → limit_of r ≡ limit → IsTaking r → Stands r [] [] → Always r (λ rs bytes. Longest (limit_of r) rs bytes)
-    → HasCounted s [] [] → Progress netid limit r rows rows s l l t t
-begins netid limit r rows s l t e i k longest h = record {
+    → Always r (λ rs bytes. HasNoLong (limit_of r) bytes) → HasCounted s [] []
+    → Progress netid limit r rows rows s l l t t
+begins netid limit r rows s l t e i k longest not_long h = record {
   input = [];
   rs = [];
   refusals = [];
@@ -34,6 +35,7 @@ begins netid limit r rows s l t e i k longest h = record {
   taking = i;
   stands = k;
   longest = subst (λ n. Longest n [] []) e (longest [] [] k);
+  not_long = subst (λ n. HasNoLong n []) e (not_long [] [] k);
   run = run_none rows netid;
   counted = h;
   wrote = Appends-none t;
@@ -44,8 +46,9 @@ module _ (netid : List ℕ) (r : RecordReader) (rows mid : List Row) (s : Sessio
   pub goes_on : (r' : RecordReader) (new : List Row) (s' : Session) (x : List ℕ) (u : Option (List ℕ))
       → Consumes l' m x → Answered netid r r' mid new s s' x t' u
       → (IsTaking r' → Always r' (λ rs bytes. Longest (limit_of r') rs bytes))
+      → (IsTaking r' → Always r' (λ rs bytes. HasNoLong (limit_of r') bytes))
       → Progress netid most_record r' rows new s' l m t u
-  goes_on r' new s' x u k q longest = record {
+  goes_on r' new s' x u k q longest not_long = record {
     input = p.input ++ x;
     rs = p.rs ++ q.more;
     refusals = p.refusals ++ q.does.refusals;
@@ -56,6 +59,8 @@ module _ (netid : List ℕ) (r : RecordReader) (rows mid : List Row) (s : Sessio
     stands = q.moves p.input p.rs p.stands;
     longest = subst (λ n. Longest n (p.rs ++ q.more) (p.input ++ x)) (q.limit ∙ p.same)
         (longest q.taking (p.input ++ x) (p.rs ++ q.more) (q.moves p.input p.rs p.stands));
+    not_long = subst (λ n. HasNoLong n (p.input ++ x)) (q.limit ∙ p.same)
+        (not_long q.taking (p.input ++ x) (p.rs ++ q.more) (q.moves p.input p.rs p.stands));
     run = runs_join rows mid new netid p.rs q.more p.refusals q.does.refusals p.replies q.does.others p.run q.does.run;
     counted = q.does.counts p.rs p.replies p.counted;
     wrote = Appends-trans t t' u (normal p.replies) (normal q.does.others) (normal (p.replies ++ q.does.others))
@@ -240,5 +245,5 @@ module _ (netid : List ℕ) (r : RecordReader) (rows mid : List Row) (s : Sessio
         replies = p.replies;
         read = Consumes-at_end l l' m p.input array n e p.read k;
         run = p.run;
-        stopped = (refl, subst (λ n. IsInside n p.rs p.input) p.same w.1, p.longest, end, p.wrote);
+        stopped = (refl, subst (λ n. IsInside n p.rs p.input) p.same w.1, p.longest, end, p.wrote, p.not_long);
       })

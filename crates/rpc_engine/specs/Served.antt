@@ -4,7 +4,7 @@ use Rattle.std.specs.Io.KnownBytes.{Appends, Consumes, IsAtEnd}
 use Rattle.xdr_io.specs.Told.{Counts}
 use Rattle.rpc_record.specs.declared.fault.RecordFault.TheVariants as flaw
 use Rattle.rpc_record.specs.Marked.{normal, Longest}
-use Rattle.rpc_record.specs.Reading.{IsWhole, IsInside, Begins, TooLongAt, RefusedIn, capped}
+use Rattle.rpc_record.specs.Reading.{IsWhole, IsInside, Begins, TooLongAt, HasNoLong, RefusedIn, capped}
 use Rattle.rpc_rows.specs.Rows.{Row}
 use Rattle.rpc_engine.specs.declared.fault.ServeFault.{ServeFault}
 use Rattle.rpc_engine.specs.declared.fault.ServeFault.TheVariants as fault
@@ -44,15 +44,15 @@ pub record CutLast (netid : List ℕ) (rows : List Row) (rs replies : List (List
   pub whole : length (normal others) ≤ w
   pub short : w < length (normal replies)
 
--- What a fault says of the input, the records that were answered and their replies. Where memory was refused it was in
--- the last 4096 bytes, the most that a read gives.
+-- What a fault says of the input, the records that were answered and their replies. Where it ends inside a record no
+-- header passed the limit. Where memory was refused it was in the last 4096 bytes, the most that a read gives.
 abbrev pub StopsBy : (netid : List ℕ) → List Row → (rs : List (List ℕ)) → (replies : List (List ℕ))
     → (input : List ℕ) → Option (List ℕ) → Option (List ℕ) → Option (List ℕ) → ServeFault → Type 0
 StopsBy netid rows rs replies input left' taken taken' (fault.Record (flaw.TooLong at)) =
     TooLongAt most_record rs at input × Longest most_record rs input × Appends taken taken' (normal replies)
 StopsBy netid rows rs replies input left' taken taken' (fault.Record (flaw.Truncated at)) =
     (at ≡ capped (length input)) × IsInside most_record rs input × Longest most_record rs input × IsAtEnd left'
-    × Appends taken taken' (normal replies)
+    × Appends taken taken' (normal replies) × HasNoLong most_record input
 StopsBy netid rows rs replies input left' taken taken' (fault.Record _) = ⊥
 StopsBy netid rows rs replies input left' taken taken' (fault.Write written) =
     Begins most_record rs input

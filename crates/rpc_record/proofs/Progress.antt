@@ -12,7 +12,7 @@ use Rattle.rpc_record.specs.declared.place.Place.{Place}
 use Rattle.rpc_record.specs.declared.place.Place.TheVariants as place
 use Rattle.rpc_record.specs.declared.reader.RecordReader.{RecordReader}
 use Rattle.rpc_record.specs.Marked.{normal}
-use Rattle.rpc_record.specs.Reading.{IsWhole, IsInside, Begins, Faulty, FaultyIn}
+use Rattle.rpc_record.specs.Reading.{IsWhole, IsInside, Begins, HasNoLong, Faulty, FaultyIn}
 use Rattle.rpc_record.specs.Fields.{IsBrokenAt, IsTakingAt, StandsAt}
 use Rattle.rpc_record.specs.Stands.{Stands, IsTaking, IsBroken, IsBetween, IsWaiting, TruncatedAt, limit_of}
 use Rattle.rpc_record.specs.Normalised.{IsCount, Normalised, StopsBy, Stops}
@@ -20,6 +20,7 @@ use Rattle.rpc_record.specs.Private.Passing.{Cuts, Passed, CutBy}
 use Rattle.rpc_record.proofs.Readers.{Longest-taking, FaultyIn-room, RefusedIn-all, faults_begin}
 use Rattle.rpc_record.proofs.Places.{Longest-long}
 use Rattle.rpc_record.proofs.Counting.{normal-append}
+use Rattle.rpc_record.proofs.Exact.{not_long}
 use Rattle.rpc_record.proofs.Told.{not_broken}
 
 -- what normalising has done so far: it takes bytes, and has written every whole record
@@ -152,6 +153,7 @@ truncated limit r c l l' m t t' p (fault.Truncated at) end h =
       Longest-taking limit r p.input p.rs p.same p.taking p.stands,
       end,
       p.wrote,
+      subst (λ x. HasNoLong x p.input) p.same (λ others at' t. not_long r at' p.input p.rs others p.taking p.stands t),
     )
 truncated limit r c l l' m t t' p (fault.TooLong at) end h = absurd h
 truncated limit r c l l' m t t' p fault.Read end h = absurd h

@@ -5,7 +5,7 @@ use Rattle.rpc_record.specs.declared.fault.RecordFault.{RecordFault}
 use Rattle.rpc_record.specs.declared.fault.RecordFault.TheVariants as fault
 use Rattle.rpc_record.specs.declared.fault.Count.{Count}
 use Rattle.rpc_record.specs.Marked.{normal, Longest}
-use Rattle.rpc_record.specs.Reading.{IsWhole, IsInside, Begins, TooLongAt, RefusedIn, capped}
+use Rattle.rpc_record.specs.Reading.{IsWhole, IsInside, Begins, TooLongAt, HasNoLong, RefusedIn, capped}
 use Rattle.xdr_io.specs.Told.{Counts}
 
 -- the count of these records, and of the bytes of their normal form
@@ -23,15 +23,15 @@ pub record Normalised (limit : ℕ) (left left' taken taken' : Option (List ℕ)
   pub written : Appends taken taken' (normal rs)
   pub counted : IsCount count rs
 
--- What a fault says of what was read, and what was written. Where memory was refused it was in the last 4096 bytes, the
--- most that a read gives.
+-- What a fault says of what was read, and what was written. Where it ends inside a record no header passed the limit.
+-- Where memory was refused it was in the last 4096 bytes, the most that a read gives.
 abbrev pub StopsBy : ℕ → List (List ℕ) → List ℕ → Option (List ℕ) → Option (List ℕ) → Option (List ℕ) → RecordFault
     → Type 0
 StopsBy limit rs input left' taken taken' (fault.TooLong at) =
     TooLongAt limit rs at input × Longest limit rs input × Appends taken taken' (normal rs)
 StopsBy limit rs input left' taken taken' (fault.Truncated at) =
     (at ≡ capped (length input)) × IsInside limit rs input × Longest limit rs input × IsAtEnd left'
-    × Appends taken taken' (normal rs)
+    × Appends taken taken' (normal rs) × HasNoLong limit input
 StopsBy limit rs input left' taken taken' (fault.Write written) =
     Begins limit rs input
     × ((w : ℕ) × ((w < length (normal rs)) × (written ≡ capped w) × Appends taken taken' (take w (normal rs))))

@@ -5,7 +5,7 @@ use Rattle.rpc_record.specs.declared.fault.RecordFault.TheVariants as flaw
 use Rattle.rpc_record.specs.declared.fault.RecordFault.{RecordFault}
 use Rattle.rpc_record.specs.declared.reader.RecordReader.{RecordReader}
 use Rattle.rpc_record.specs.Marked.{normal, fragment, Longest}
-use Rattle.rpc_record.specs.Reading.{Begins, TooLongAt, RefusedIn, capped}
+use Rattle.rpc_record.specs.Reading.{Begins, TooLongAt, HasNoLong, RefusedIn, capped}
 use Rattle.rpc_record.specs.Stands.{Stands, IsTaking, After, Moves, limit_of}
 use Rattle.rpc_rows.specs.Rows.{Row}
 use Rattle.rpc_answer.specs.Answer.{Answer}
@@ -110,6 +110,7 @@ pub record Progress (netid : List ℕ) (limit : ℕ) (records : RecordReader) (r
   pub taking : IsTaking records
   pub stands : Stands records input rs
   pub longest : Longest limit rs input
+  pub not_long : HasNoLong limit input
   pub run : Run rows netid rs refusals new replies
   pub counted : HasCounted session rs replies
   pub wrote : Appends taken taken' (normal replies)

@@ -25,7 +25,8 @@ pub loop-turn-preserved : goal.loop-turn-preserved
 loop-turn-preserved g c = record {
   progress = goes_on (netid_of c.args.transport) c.loop-turn.records _ _ c.loop-turn.session _ _ _ _ _
       c.loop-turn.invariant.progress c.answer_piece.new.records _ c.answer_piece.new.session _ _
-      c.in-Ok.ensures.bytes.0 c.in-Ok-answer_piece.ensures.ok c.records_are_longest-in-Ok-answer_piece.ensures.taking;
+      c.in-Ok.ensures.bytes.0 c.in-Ok-answer_piece.ensures.ok c.records_are_longest-in-Ok-answer_piece.ensures.taking
+      c.records_are_longest-in-Ok-answer_piece.ensures.not_long;
   reads = Counts-trans _ _ _ c.loop-turn._turn 1 _ refl c.loop-turn.invariant.reads c.read.ensures.count;
   reads_failed = Counts-trans _ _ _ 0 0 0 refl c.loop-turn.invariant.reads_failed c.in-Ok.ensures.failed;
   writes_failed = Counts-trans _ _ _ 0 0 0 refl c.loop-turn.invariant.writes_failed
@@ -41,7 +42,8 @@ pub loop-turn-init : goal.loop-turn-init
 loop-turn-init g c = record {
   progress = begins (netid_of c.args.transport) most_record c.start-records.result _ c.new-session.result _ _
       c.start-records.ensures.limit c.start-records.ensures.taking c.start-records.ensures.stands
-      (c.records_are_longest.ensures.taking c.start-records.ensures.taking) c.new-session.ensures;
+      (c.records_are_longest.ensures.taking c.start-records.ensures.taking)
+      (c.records_are_longest.ensures.not_long c.start-records.ensures.taking) c.new-session.ensures;
   reads = Counts-none _;
   reads_failed = Counts-none _;
   writes_failed = Counts-none _;
