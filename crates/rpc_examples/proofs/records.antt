@@ -1,4 +1,5 @@
 pub mod Counted
+pub mod Cut
 pub mod Refused
 pub mod Handed
 pub mod Limited

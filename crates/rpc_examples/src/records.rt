@@ -237,6 +237,20 @@ pub fn keeps_two_records_apart<W: Sink>(alloc: Global, writer: &mut W) -> Result
     Ok(count)
 }
 
+/// Where a header passes the limit the input is not told as cut, though it ends behind it: `80000001` where the limit
+/// is 0.
+pub fn tells_no_long_header_as_cut<W: Sink>(
+    alloc: Global,
+    writer: &mut W,
+    place: u64,
+) -> Result<Count, RecordFault>
+    ensures { result ≡ Err (RecordFault.Truncated place) → ⊥ }
+{
+    let stream = [0x80, 0, 0, 1];
+    let mut source = MemorySource::new(&stream, 4096, None);
+    normalise(alloc, &mut source, writer, 0)
+}
+
 /// Where memory is refused, the whole records before the one that no room was found for were written.
 pub fn writes_what_was_whole<R: Source, W: Sink>(
     alloc: Global,

@@ -1,5 +1,5 @@
 -- A header above the limit, which is refused.
-use Rattle.std.proofs.Common.{◌≡◌, ℕ, ◌+◌, ◌<◌, ◌≤◌, true, false, List, [], ◌∷◌, ◌++◌, length, take, Ok, Err, Result}
+use Rattle.std.proofs.Common.{◌≡◌, ℕ, ◌≤◌, true, false, List, [], ◌∷◌, ◌++◌, length, take, Ok, Err, Result}
 use Rattle.std.proofs.Common.{◌⊎◌, inl, inr, MatchResult}
 use Rattle.std.proofs.Common.{refl, sym, ap, ◌∙◌, subst, length-append, arith}
 use Rattle.std.proofs.lemmas.List.{append-nil, take_all, length-take}
@@ -17,7 +17,7 @@ use Rattle.rpc_record.specs.Stands.{Stands, IsTaking, Feeds, Tells}
 abbrev pub one_byte : List ℕ
 one_byte = 128 ∷ 0 ∷ 0 ∷ 1 ∷ []
 
-is_long : TooLongAt 0 [] 0 one_byte
+pub is_long : TooLongAt 0 [] 0 one_byte
 unfolding header
 is_long = record {
   before = [];
