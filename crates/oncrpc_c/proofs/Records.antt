@@ -1,7 +1,7 @@
 -- What normalising a buffer says of all of it.
-use Rattle.std.proofs.Common.{◌≡◌, ℕ, ◌≤◌, List, [], ◌++◌, length, refl, sym, ap, ◌∙◌, subst, Option, None, Some}
-use Rattle.std.proofs.Common.{append-nil}
-use Rattle.std.specs.Io.KnownBytes.{Consumes, IsAtEnd}
+use Rattle.std.proofs.Common.{◌≡◌, ℕ, ◌≤◌, List, [], ◌++◌, length, refl, sym, subst, Option, None, Some}
+use Rattle.std.specs.Io.KnownBytes.{Consumes}
+use Rattle.xdr_io.proofs.Ended.{all_read}
 use Rattle.rpc_record.specs.declared.fault.Count.{Count}
 use Rattle.rpc_record.specs.declared.fault.RecordFault.TheVariants as fault
 use Rattle.rpc_record.specs.Marked.{Longest}
@@ -11,13 +11,6 @@ use Rattle.rpc_record.proofs.Readers.{TooLongAt-more}
 use Rattle.rpc_record.proofs.Places.{Longest-long}
 use Rattle.xdr_stream.specs.declared.fault.Reason.TheVariants as reason
 use Rattle.oncrpc_c.specs.Normal.{IsForm}
-
--- a source that is at its end gave all
-all_read : (input : List ℕ) (left : Option (List ℕ)) (read : List ℕ) → Consumes (Some input) left read → IsAtEnd left
-    → input ≡ read
-all_read input None read took end = absurd took
-all_read input (Some rest) read took end =
-    took ∙ ap (λ (l : List ℕ). read ++ l) end ∙ append-nil read
 
 -- what a source gave stands at the front
 front_read : (input : List ℕ) (left : Option (List ℕ)) (read : List ℕ) → Consumes (Some input) left read
@@ -30,7 +23,7 @@ pub form_whole : (limit : ℕ) (input form : List ℕ) (left : Option (List ℕ)
 form_whole limit input form left count i n = record {
   in_range = i;
   rs = n.rs;
-  ends = subst (λ (b : List ℕ). IsWhole limit n.rs b) (sym (all_read input left n.input n.read n.end)) n.whole;
+  ends = subst (λ (b : List ℕ). IsWhole limit n.rs b) (sym (all_read input n.input left n.read n.end)) n.whole;
   marked = n.written;
 }
 
@@ -53,7 +46,7 @@ pub form_cut : (limit at : ℕ) (input form : List ℕ) (left : Option (List ℕ
     → limit ≤ 2147483647 → Stops limit (Some input) left (Some []) (Some form) (fault.Truncated at)
     → IsForm limit input form (Some (record { why = reason.Truncated; at = length input }))
 form_cut limit at input form left i s =
-    let all = all_read input left s.input s.read s.stopped.3 in
+    let all = all_read input s.input left s.read s.stopped.3 in
     record {
       in_range = i;
       rs = s.rs;

@@ -1,14 +1,15 @@
 -- What the streams of the examples come to.
-use Rattle.std.proofs.Common.{◌≡◌, ℕ, true, Bool, List, [], ◌∷◌, ◌++◌, length, Option, Some, None, Result, Ok, Err}
-use Rattle.std.proofs.Common.{refl, sym, ap, ◌∙◌, subst, arith, IfOk, IsErr}
-use Rattle.std.proofs.lemmas.List.{append-nil}
-use Rattle.std.specs.Io.KnownBytes.{Consumes, IsAtEnd}
+use Rattle.std.proofs.Common.{◌≡◌, ℕ, true, Bool, List, [], ◌∷◌, length, Option, Some, Result, Ok, Err}
+use Rattle.std.proofs.Common.{refl, sym, ap, subst, arith, IfOk, IsErr}
+use Rattle.std.specs.Io.KnownBytes.{Consumes}
+use Rattle.rpc_record.specs.declared.fault.RecordFault.TheVariants as flaw
 use Rattle.rpc_record.specs.Marked.{header, OneLongest}
 use Rattle.rpc_record.specs.Reading.{IsWhole, WholeIsLongest, WholeHasNoLong, TooLongAt}
 use Rattle.rpc_rows.specs.Rows.{Row}
+use Rattle.rpc_engine.specs.declared.fault.ServeFault.TheVariants as fault
 use Rattle.rpc_engine.specs.declared.fault.Served.{Served}
 use Rattle.rpc_engine.specs.Run.{Run}
-use Rattle.rpc_engine.specs.Served.{Serves, most_record}
+use Rattle.rpc_engine.specs.Served.{Serves, Stops, most_record}
 use Rattle.xdr_io.proofs.Ended.{all_read}
 
 module _ (netid : List ℕ) (rows new : List Row) (l m t u : Option (List ℕ)) (served : Served)
@@ -72,3 +73,9 @@ pub too_long : {E : Type 0} → WholeHasNoLong → (netid : List ℕ) (rows new 
 too_long none netid rows new l m t u (Err e) s told = refl
 too_long none netid rows new l m t u (Ok served) s told =
     absurd (none most_record s.rs _ (whole_is netid rows new l m t u served s _ told) [] 0 long_header)
+
+pub not_cut : (netid : List ℕ) (rows new : List Row) (l m t u : Option (List ℕ)) (at : ℕ)
+    → Stops netid rows new l m t u (fault.Record (flaw.Truncated at)) → l ≡ Some (128 ∷ 1 ∷ 0 ∷ 1 ∷ []) → ⊥
+not_cut netid rows new l m t u at s told =
+    let all = all_read _ s.input m (subst (λ k. Consumes k m s.input) told s.read) s.stopped.3 in
+    s.stopped.5 [] 0 (subst (λ b. TooLongAt most_record [] 0 b) all long_header)

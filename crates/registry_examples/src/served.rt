@@ -9,7 +9,7 @@ use rpc_engine::{
     ClientFault, ServeFault, Served, Transport, exchange, exchanges_have_one_outcome, serve,
 };
 use rpc_message::{Call, Reply, ReplyFault};
-use rpc_record::{no_record_begins_another, too_long_ends_the_stream};
+use rpc_record::{RecordFault, no_record_begins_another, too_long_ends_the_stream};
 use std::alloc::Global;
 use std::hash::BuildHasher;
 use xdr_io::{MemorySource, Sink};
@@ -29,13 +29,15 @@ pub fn serves_nothing<W: Sink, S: BuildHasher>(
     Ok(served)
 }
 
-/// A header of more than 65536 bytes, `80010001`, is never served.
+/// A header of more than 65536 bytes, `80010001`, is never served, and is not told as an input that is cut.
 pub fn refuses_a_record_above_the_limit<W: Sink, S: BuildHasher>(
     alloc: Global,
     writer: &mut W,
     directory: &mut Directory<S>,
+    place: u64,
 ) -> Result<Served, ServeFault>
-    ensures { IsErr result }
+    ensures refused { IsErr result }
+    ensures whole { result ≡ Err (ServeFault.Record (RecordFault.Truncated place)) → ⊥ }
 {
     too_long_ends_the_stream();
     let mut reader = MemorySource::new(&[0x80, 1, 0, 1], 4096, None);
