@@ -1,6 +1,8 @@
 -- A decoder that is new, and one whose value is whole.
 use Rattle.std.proofs.Common.{◌≡◌, ℕ, ◌+◌, ◌%◌, ◌<◌, ◌≤◌, List, [], ◌∷◌, ◌++◌, length, take, refl, sym, ap, subst, ◌∙◌}
 use Rattle.std.proofs.Common.{append-nil, arith}
+use Rattle.std.proofs.Math.Logic.{∥∥₁_elim}
+use Rattle.std.proofs.Math.Nat.{lt_of_not-le}
 use Rattle.std.proofs.lemmas.List.{length-append}
 use Rattle.xdr_types.specs.Kinds.{KindView, Part, kind_at}
 use Rattle.xdr_types.specs.Tree as value
@@ -27,7 +29,8 @@ use Rattle.xdr_stream.specs.declared.fault.Reason.TheVariants as reason
 use Rattle.xdr_stream.specs.declared.fault.Reason.TheVariants.{Truncated}
 use Rattle.xdr_stream.specs.declared.fault.DecodeFault.{DecodeFault}
 use Rattle.xdr_stream.specs.declared.machine.Awaits.{Awaits}
-use Rattle.xdr_stream.specs.declared.reader.State.TheVariants.{Reading, Finished}
+use Rattle.xdr_stream.specs.declared.reader.State.{State}
+use Rattle.xdr_stream.specs.declared.reader.State.TheVariants.{Fresh, Reading, Finished}
 use Rattle.xdr_stream.specs.declared.values.Level.{Level}
 use Rattle.xdr_stream.specs.declared.values.Values.{Values}
 use Rattle.xdr_stream.proofs.Standing.{sees_whole, within_limit}
@@ -104,6 +107,22 @@ front_known s t q f =
     let fitting = f.1.0 in
     legal_known s t v.0
     (legal_is s (kind_at s t) v.0 (both (is_legal s (kind_at s t) v.0) (fit s (parts (kind_at s t) v.0) v.1) fitting).0)
+
+-- what no bytes allow is so of none
+pub ruled_out : {S : Type 0} → ∥ S ∥₁ → (S → ⊥) → ⊥
+ruled_out some each = ∥∥₁_elim some (λ x y. absurd x) each
+
+-- where nothing has begun, the kind is one of the list
+fresh_known : (s : List KindView) (t : ℕ) (l : Bounds) (H : Trace → Type 0) (fs : List (List Part)) (read : ℕ)
+    (room : List ℕ) (pending : ℕ) (b : List ℕ) → StandsAs s t l H fs read room pending Fresh b → t < length s
+fresh_known s t l H fs read room pending b r = front_known s t [] r.3.reading.front
+
+pub kind_known : (s : List KindView) (t : ℕ) (l : Bounds) (H : Trace → Type 0) (fs : List (List Part)) (read : ℕ)
+    (room : List ℕ) (pending : ℕ) (state : State) → state ≡ Fresh
+    → ∥ ((b : List ℕ) × StandsAs s t l H fs read room pending state b) ∥₁ → t < length s
+kind_known s t l H fs read room pending state is given = lt_of_not-le (λ more. ruled_out given (λ g.
+    omega (arith, more, fresh_known s t l H fs read room pending g.0
+    (subst (λ (x : State). StandsAs s t l H fs read room pending x g.0) is g.1))))
 
 -- ---- what the end answers
 

@@ -13,7 +13,9 @@ use xdr_types::{KindId, Limits, Schema};
 /// How many bytes the value has that they encode. A fault of an earlier call comes again; where the value is not whole,
 /// it is `Truncated` at the count of bytes given. Before any `feed` it answers as after an empty piece. It takes no
 /// memory.
+/// The reader's fields stand for the bytes that it was given.
 pub fn finish_check<'s>(reader: Reader<'s, Nothing>) -> Result<u32, DecodeFault>
+    requires given { ∥ ((b : List ℕ) × Checks reader b) ∥₁ }
     ensures answer { (b : List ℕ) → Checks reader.entry b
         → Counts reader.entry.schema.now.kinds reader.entry.kind.place reader.entry.limits b result }
     ensures for_ever { (f : DecodeFault) → reader.entry.state ≡ Failed f → result ≡ Err f }
@@ -34,7 +36,8 @@ pub fn finish_check<'s>(reader: Reader<'s, Nothing>) -> Result<u32, DecodeFault>
 
 // How many bytes the value has that no bytes are, of a kind that the schema has.
 fn count_empty(schema: &Schema, kind: KindId, limits: Limits) -> Result<u32, DecodeFault>
-    ensures { kind.place < length schema.now.kinds → Counts schema.now.kinds kind.place limits [] result }
+    requires { kind.place < length schema.now.kinds }
+    ensures { Counts schema.now.kinds kind.place limits [] result }
 {
     match finish_empty(schema, kind, limits) {
         Ok(_) => Ok(0),

@@ -52,7 +52,9 @@ pub fn start<'s>(
 
 /// The value that the bytes encode. A fault of an earlier call comes again; where the value is not whole, it is
 /// `Truncated` at the count of bytes given. Before any `feed` it answers as after an empty piece. It takes no memory.
+/// The reader's fields stand for the bytes that it was given.
 pub fn finish<'s>(reader: Reader<'s, Values>) -> Result<Value, DecodeFault>
+    requires given { ∥ ((b : List ℕ) × Stands reader b) ∥₁ }
     ensures answer { (b : List ℕ) → Stands reader.entry b
         → Finishes reader.entry.schema.now.kinds reader.entry.kind.place reader.entry.limits b result }
     ensures for_ever { (f : DecodeFault) → reader.entry.state ≡ Failed f → result ≡ Err f }
@@ -70,7 +72,7 @@ pub fn finish<'s>(reader: Reader<'s, Values>) -> Result<Value, DecodeFault>
         State::Failed(fault) => Err(fault),
         State::Finished => match root_of(built.work) {
             Some(value) => Ok(value),
-            None => Err(truncated(at)),
+            None => unreachable!(),
         },
         State::Reading(_) => Err(truncated(at)),
         State::Fresh => finish_empty(schema, kind, limits),
@@ -101,13 +103,11 @@ pub(crate) fn finish_empty(
     kind: KindId,
     limits: Limits,
 ) -> Result<Value, DecodeFault>
-    ensures { kind.place < length schema.now.kinds → Finishes schema.now.kinds kind.place limits [] result }
+    requires { kind.place < length schema.now.kinds }
+    ensures { Finishes schema.now.kinds kind.place limits [] result }
 {
     let _known = schema.len();
     let _range = limits.depth();
-    if !schema.has(kind) {
-        return Err(truncated(0));
-    }
     if let Kind::Nothing = schema.kind(kind) {
         return Ok(Value::Nothing);
     }

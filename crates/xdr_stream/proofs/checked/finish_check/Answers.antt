@@ -4,7 +4,7 @@ use Rattle.xdr_stream.specs.Trace.{Trace}
 use Rattle.xdr_stream.specs.Frames.{stack_of}
 use Rattle.xdr_stream.specs.Stands.{StandsAs}
 use Rattle.xdr_stream.specs.declared.reader.State.{State}
-use Rattle.xdr_stream.proofs.Finishing.{finish_failed, finish_open, still_open}
+use Rattle.xdr_stream.proofs.Finishing.{finish_failed, finish_open, still_open, kind_known}
 use Rattle.xdr_stream.proofs.Counting.{counted_whole}
 use Rattle.xdr_stream.proofs.checked.finish_check.Goals as goal
 
@@ -44,3 +44,9 @@ returns-in-Reading-clause-answer c = λ b st.
       c.depth-range.ensures.range.most_bytes,
     ))
     o.0
+
+pub count_empty-requires : goal.count_empty-requires
+count_empty-requires c =
+    let r = c.args.reader in
+    kind_known r.schema.now.kinds r.kind.place r.limits (λ (t : Trace). ⊤)
+    (stack_of r.work r.parents.items) r.read r.unit r.pending r.state c.in-Fresh.is c.requires.given

@@ -4,7 +4,7 @@ use Rattle.xdr_stream.specs.Frames.{stack_of}
 use Rattle.xdr_stream.specs.Values.{Tells}
 use Rattle.xdr_stream.specs.Stands.{StandsAs}
 use Rattle.xdr_stream.specs.declared.reader.State.{State}
-use Rattle.xdr_stream.proofs.Finishing.{finish_failed, finish_open, still_open, root_whole, root_not_none}
+use Rattle.xdr_stream.proofs.Finishing.{finish_failed, finish_open, still_open, root_whole, root_not_none, ruled_out, kind_known}
 use Rattle.xdr_stream.proofs.decoder.finish.Goals as goal
 
 pub returns-in-Failed-clause-answer : goal.returns-in-Failed-clause-answer
@@ -23,14 +23,19 @@ returns-in-Some-clause-answer c = λ b st.
     (stack_of r.work r.parents.items) r.read r.unit r.pending x b) c.in-Finished.is st) c.in-Some.value
     c.in-Some.ensures
 
-pub returns-in-Finished-clause-answer : goal.returns-in-Finished-clause-answer
-returns-in-Finished-clause-answer c = λ b st.
+pub unreachable-requires : goal.unreachable-requires
+unreachable-requires c =
     let r = c.args.reader in
-    absurd (root_not_none r.schema.now.kinds r.kind.place r.limits r.built
-    (stack_of r.work r.parents.items) r.read r.unit
-    r.pending b
+    ruled_out c.requires.given (λ g. root_not_none r.schema.now.kinds r.kind.place r.limits r.built
+    (stack_of r.work r.parents.items) r.read r.unit r.pending g.0
     (subst (λ (x : State). StandsAs r.schema.now.kinds r.kind.place r.limits (λ (t : Trace). Tells r.built t)
-    (stack_of r.work r.parents.items) r.read r.unit r.pending x b) c.in-Finished.is st) c.in-None.ensures)
+    (stack_of r.work r.parents.items) r.read r.unit r.pending x g.0) c.in-Finished.is g.1) c.in-None.ensures)
+
+pub finish_empty-requires : goal.finish_empty-requires
+finish_empty-requires c =
+    let r = c.args.reader in
+    kind_known r.schema.now.kinds r.kind.place r.limits (λ (t : Trace). Tells r.built t)
+    (stack_of r.work r.parents.items) r.read r.unit r.pending r.state c.in-Fresh.is c.requires.given
 
 pub returns-in-Reading-clause-answer : goal.returns-in-Reading-clause-answer
 returns-in-Reading-clause-answer c = λ b st.
@@ -40,8 +45,8 @@ returns-in-Reading-clause-answer c = λ b st.
     (subst (λ (x : State). StandsAs r.schema.now.kinds r.kind.place r.limits (λ (t : Trace). Tells r.built t)
     (stack_of r.work r.parents.items) r.read r.unit r.pending x b) c.in-Reading.is st)
     c.depth-range.ensures.range.units in
-    finish_open r.schema.now.kinds r.kind.place r.limits c.truncated-in-Reading.result c.saturating_add-at.result b
-    c.truncated-in-Reading.ensures
+    finish_open r.schema.now.kinds r.kind.place r.limits c.truncated.result c.saturating_add-at.result b
+    c.truncated.ensures
     (omega (
       arith,
       c.saturating_add-at.ensures,
