@@ -176,6 +176,9 @@ impl<'s, B: Build + Drop> Reader<'s, B> {
         ensures awake { self.old.state ≡ Reading awaits → IsAwake self.new.state }
         ensures same { IsSame self.old self.new }
     {
+        if let Awaits::Next = awaits {
+            return self.take_next(bytes);
+        }
         if let Awaits::Content(left) = awaits {
             let room = (self.limits.bytes() as usize).saturating_sub(self.read);
             let n = units_there(left as usize + 3, bytes.len(), room);
@@ -183,9 +186,6 @@ impl<'s, B: Build + Drop> Reader<'s, B> {
                 self.take_content(left - (n - 4) as u32, n, bytes);
                 return n;
             }
-        }
-        if let Awaits::Next = awaits {
-            return self.take_next(bytes);
         }
         self.take_first(awaits, bytes)
     }

@@ -1,8 +1,9 @@
 //! What the first unit of a value makes.
-ghost use Rattle.std.specs.Prelude.{◌≡◌, ℕ, pos, ℤ, map, option_map, IfOk, IfErr, MatchResult, Some, true};
+ghost use Rattle.std.specs.Prelude.{◌≡◌, ℕ, pos, ℤ, map, option_map, IfOk, IfErr, MatchResult, Some, true, false};
 ghost use Rattle.xdr_types.specs.Kinds.{kind_at, choice};
 ghost use Rattle.xdr_types.specs.KindViews.{kind_view, branch_of, part_of_member};
 ghost use Rattle.xdr_types.specs.Fits.{is_tag_of, part_of};
+ghost use Rattle.xdr_types.specs.Faults.{has_illegal_case};
 ghost use Rattle.xdr_types.specs.Outcome.{number_in};
 ghost use Rattle.xdr_laws.specs.Owed.{lead_of, HasUnit};
 ghost use Rattle.xdr_stream.specs.Taking.{Takes, Refuses, IsWhy, tag_why};
@@ -84,6 +85,24 @@ pub fn made_of<'s>(schema: &'s Schema, kind: &'s Kind, number: u32) -> Result<Ma
     }
 }
 
+/// The same for a kind whose cases are legal, as each kind of a schema is.
+#[inline(always)]
+pub(crate) fn made_in<'s>(
+    schema: &'s Schema,
+    kind: &'s Kind,
+    number: u32,
+) -> Result<Made<'s>, Reason>
+    requires unit { HasUnit (lead_of (kind_view kind.now)) }
+    requires legal { has_illegal_case schema.now.kinds (kind_view kind.now) ≡ false }
+    ensures { MatchResult result (Takes schema.now.kinds (kind_view kind.now) number)
+        (Refuses schema.now.kinds (kind_view kind.now) number) }
+{
+    match kind {
+        Kind::Choice { tag, arms, other } => picked(schema, *tag, arms, other, number),
+        _ => made_of(schema, kind, number),
+    }
+}
+
 // The part that a discriminant picks.
 #[inline(always)]
 fn chosen<'s>(
@@ -107,6 +126,32 @@ fn chosen<'s>(
         Some(member) => Ok(Made::Open(Node::Tag(signed), Frame::Arm { member })),
         None => Err(Reason::BadCase),
     }
+}
+
+// The part that a discriminant picks, where the cases are legal: without a default, what has a part is one of them.
+#[inline(always)]
+fn picked<'s>(
+    schema: &'s Schema,
+    tag: KindId,
+    arms: &'s Vec<Arm>,
+    other: &'s Option<Member>,
+    number: u32,
+) -> Result<Made<'s>, Reason>
+    requires { has_illegal_case schema.now.kinds (choice tag.place (map branch_of arms.now.items)
+        (option_map part_of_member other.now)) ≡ false }
+    ensures { MatchResult result
+        (Takes schema.now.kinds (choice tag.place (map branch_of arms.now.items) (option_map part_of_member other.now))
+        number)
+        (Refuses schema.now.kinds (choice tag.place (map branch_of arms.now.items)
+        (option_map part_of_member other.now)) number) }
+{
+    if other.is_none() {
+        let (signed, _) = number_under(schema, tag, number);
+        if let Some(member) = part_under(arms, other, signed) {
+            return Ok(Made::Open(Node::Tag(signed), Frame::Arm { member }));
+        }
+    }
+    chosen(schema, tag, arms, other, number)
 }
 
 // The number that a unit stands for as a discriminant, and the reason against it where it is no legal one.

@@ -1,8 +1,9 @@
-use Rattle.std.proofs.Common.{◌≡◌, ◌<◌, ◌^◌, List, length, sym, subst, arith}
+use Rattle.std.proofs.Common.{◌≡◌, ◌<◌, ◌^◌, List, length, false, sym, subst, arith}
 use Rattle.std.specs.List.{AllByRecursion}
 use Rattle.xdr_types.specs.Kinds.{KindView, Part}
 use Rattle.xdr_types.specs.Tree.{Head}
 use Rattle.xdr_types.specs.Fits.{parts}
+use Rattle.xdr_types.specs.Faults.{has_illegal_case}
 use Rattle.xdr_laws.proofs.Nodes.{IsFormedKind, formed_of}
 use Rattle.xdr_types.specs.KindViews.{kind_view}
 use Rattle.xdr_laws.specs.Owed.{lead_of, HasUnit, head_of}
@@ -15,6 +16,7 @@ use Rattle.xdr_stream.specs.Trace.{Trace, HasRoom}
 use Rattle.xdr_stream.proofs.Built.{With}
 use Rattle.xdr_stream.proofs.Seeing.{next_ready, room_next}
 use Rattle.xdr_stream.proofs.Taking.{unit_refused, unit_leaf, unit_open, length_empty, length_some}
+use Rattle.xdr_stream.proofs.Cases.{cases_legal}
 use Rattle.xdr_stream.proofs.Sounding.{first_known, first_starts, known_rest, made_known}
 use Rattle.xdr_stream.proofs.machine.take_number.Goals as goal
 
@@ -24,11 +26,16 @@ kind-kind-requires g c = record {
       c.in-Some.ensures;
 }
 
-pub made_of-requires : goal.made_of-requires
-made_of-requires g c =
+pub made_in-requires : goal.made_in-requires
+made_in-requires g c =
     let s : List KindView = c.args.schema.now.kinds in
-    subst (λ (f : KindView). HasUnit (lead_of f)) (sym c.kind-kind.ensures)
-    (first_starts s (left_of c.args.work.now) c.in-Some.id.place c.requires.starts c.in-Some.ensures)
+    let within = first_known s (left_of c.args.work.now) c.in-Some.id.place c.requires.sound.0 c.in-Some.ensures in
+    record {
+      unit = subst (λ (f : KindView). HasUnit (lead_of f)) (sym c.kind-kind.ensures)
+          (first_starts s (left_of c.args.work.now) c.in-Some.id.place c.requires.starts c.in-Some.ensures);
+      legal = subst (λ (f : KindView). has_illegal_case s f ≡ false) (sym c.kind-kind.ensures)
+          (cases_legal c.args.schema.now c.len-known.ensures.well_formed c.in-Some.id.place within);
+    }
 
 pub returns-in-Err-clause-refused : goal.returns-in-Err-clause-refused
 returns-in-Err-clause-refused g c = λ kind limits q rest ready small h.
