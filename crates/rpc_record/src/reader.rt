@@ -3,8 +3,9 @@ ghost use Rattle.std.specs.Prelude.{◌+◌, ◌≤◌, vec_len};
 ghost use Rattle.rpc_record.specs.Fields.{left_of};
 
 use super::fault::{RecordFault, RecordStep};
+use super::header::{Heading, heading_of};
 use super::place::{Begun, Fragment, Place};
-use super::steps::{after_content, after_header};
+use super::steps::{after_content, after_header, after_heading};
 use std::alloc::Global;
 use std::mem;
 
@@ -22,11 +23,11 @@ pub struct RecordReader {
 }
 
 impl RecordReader {
-    ghost use Rattle.std.specs.Prelude.{◌≡◌, ◌<◌, ◌++◌, ◌↔◌, ℕ, List, [], ◌∷◌, length, take, IsTrue, IfSome};
+    ghost use Rattle.std.specs.Prelude.{◌≡◌, ◌<◌, ◌^◌, ◌++◌, ◌↔◌, ℕ, List, [], ◌∷◌, length, take, IsTrue, IfSome};
     ghost use Rattle.rpc_record.specs.Stands.{Stands, Always, IsTaking, IsWaiting, IsBroken, limit_of};
     ghost use Rattle.rpc_record.specs.Stands.{Takes, Feeds, Tells, Stays, Hands, Ends, Concludes};
     ghost use Rattle.rpc_record.specs.Private.Steps.{Refuses, IsFed, IsStepped};
-    ghost use Rattle.rpc_record.specs.Marked.{Longest};
+    ghost use Rattle.rpc_record.specs.Marked.{Longest, header};
     ghost use Rattle.rpc_record.specs.Fields.{InHeader, begun_bytes};
     ghost use Rattle.rpc_record.specs.Reading.{TooLongAt, IsWhole, Begins, Faulty, HasNoLong, capped};
     ghost use Rattle.rpc_record.specs.declared.place.Place.TheVariants as place;
@@ -88,11 +89,50 @@ impl RecordReader {
         ensures refuses { Refuses self.old self.new (take result piece.now) }
     {
         match self.place {
-            Place::Between => self.take_header(self.taken, Begun::Nothing, piece[0]),
+            Place::Between => self.begin_header(self.taken, piece),
+            Place::Header {
+                at,
+                begun: Begun::Nothing,
+            } => self.begin_header(at, piece),
             Place::Header { at, begun } => self.take_header(at, begun, piece[0]),
             Place::Content(fragment) => self.take_content(fragment, piece),
             Place::Whole | Place::Broken(_) => 0,
         }
+    }
+
+    /// Takes a whole header, or its first byte where fewer than four are there.
+    fn begin_header(&mut self, at: u64, piece: &[u8]) -> usize
+        requires { 0 < length piece.now }
+        ensures some { 0 < result }
+        ensures within { result ≤ length piece.now }
+        ensures stepped { IsStepped self.new }
+        ensures limit { limit_of self.new ≡ limit_of self.old }
+        ensures stands { (bytes : List ℕ) (rs : List (List ℕ))
+            → InHeader (limit_of self.old) rs self.old.content.items at [] bytes
+            → self.old.taken ≡ capped (length bytes)
+            → Stands self.new (bytes ++ take result piece.now) rs }
+    {
+        match piece {
+            [a, b, c, d, ..] => self.take_heading(at, heading_of(*a, *b, *c, *d)),
+            _ => self.take_header(at, Begun::Nothing, piece[0]),
+        }
+    }
+
+    /// Takes a whole header.
+    fn take_heading(&mut self, at: u64, heading: Heading) -> usize
+        requires { heading.count < 2 ^ 31 }
+        ensures four { result ≡ 4 }
+        ensures stepped { IsStepped self.new }
+        ensures limit { limit_of self.new ≡ limit_of self.old }
+        ensures stands { (bytes : List ℕ) (rs : List (List ℕ))
+            → InHeader (limit_of self.old) rs self.old.content.items at [] bytes
+            → self.old.taken ≡ capped (length bytes)
+            → Stands self.new (bytes ++ header heading.last heading.count) rs }
+    {
+        let room = (self.limit as usize).saturating_sub(self.content.len()) as u32;
+        self.taken = self.taken.saturating_add(4);
+        self.place = after_heading(at, heading, self.taken, room);
+        4
     }
 
     /// Takes the next byte of a header.

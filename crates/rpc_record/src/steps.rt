@@ -36,8 +36,8 @@ pub fn after_header(at: u64, begun: Begun, byte: u8, taken: u64, room: u32) -> P
     }
 }
 
-/// The place after a whole header.
-fn after_heading(at: u64, heading: Heading, taken: u64, room: u32) -> Place
+/// The place after a whole header. There is room for so many bytes in the record.
+pub fn after_heading(at: u64, heading: Heading, taken: u64, room: u32) -> Place
     requires { heading.count < 2 ^ 31 }
     ensures stepped { IsSteppedAt result }
     ensures left { left_of result ≤ room }
