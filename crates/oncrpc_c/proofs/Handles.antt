@@ -22,7 +22,7 @@ use Rattle.xdr_lang.specs.contracts.declarations.Declared as declared
 use Rattle.xdr_lang.specs.declared.declarations.Declared.{Declared}
 use Rattle.oncrpc_c.specs.contracts.handle.Handle as handle
 use Rattle.oncrpc_c.specs.Kept.{kept}
-use Rattle.oncrpc_c.proofs.Values.{both}
+use Rattle.c_handles.proofs.Values.{both}
 
 abbrev pub Hr : RattleType
 Hr = handle.the_row

@@ -6,4 +6,3 @@ mod Parting
 mod Records
 mod Showing
 mod Told
-pub mod Values

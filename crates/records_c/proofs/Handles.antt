@@ -22,7 +22,7 @@ use Rattle.records_c.specs.contracts.state.State as state
 use Rattle.records_c.specs.declared.state.State.{State}
 use Rattle.records_c.specs.contracts.handle.Records as handle
 use Rattle.records_c.specs.Kept.{kept}
-use Rattle.records_c.proofs.Values.{both}
+use Rattle.c_handles.proofs.Values.{both}
 
 abbrev pub Hr : RattleType
 Hr = handle.the_row

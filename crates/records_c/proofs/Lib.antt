@@ -7,4 +7,3 @@ mod Long
 mod Next
 mod Past
 mod Told
-pub mod Values

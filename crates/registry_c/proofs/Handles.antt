@@ -22,7 +22,7 @@ use Rattle.registry_c.specs.contracts.state.State as state
 use Rattle.registry_c.specs.declared.state.State.{State}
 use Rattle.registry_c.specs.contracts.handle.Registry as handle
 use Rattle.registry_c.specs.Kept.{kept}
-use Rattle.registry_c.proofs.Values.{both}
+use Rattle.c_handles.proofs.Values.{both}
 
 abbrev pub Hr : RattleType
 Hr = handle.the_row

@@ -1,4 +1,3 @@
 mod Denied
 pub mod Handles
 mod Told
-pub mod Values

@@ -2,7 +2,7 @@
 ghost use Rattle.std.specs.Prelude.{◌≡◌, Option, Some, None, option_map};
 ghost use Rattle.registry_c.specs.declared.state.State.{State};
 
-use super::loose::Loose;
+use c_handles::Loose;
 use super::state::State;
 use std::alloc::Global;
 use std::marker::Model;

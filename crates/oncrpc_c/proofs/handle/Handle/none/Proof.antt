@@ -16,7 +16,7 @@ use Rattle.std.proofs.raw_atomic.Walks.{proved}
 use Rattle.oncrpc_c.specs.contracts.handle.Handle.none as f
 use Rattle.oncrpc_c.proofs.handle.Handle.none.Statement.{statement}
 use Rattle.oncrpc_c.proofs.handle.Handle.none.Code as code
-use Rattle.oncrpc_c.proofs.Values.{both, both_tt}
+use Rattle.c_handles.proofs.Values.{both, both_tt}
 use Rattle.oncrpc_c.proofs.Handles.{handle_in, ptr_good}
 
 abbrev stayed : Stays f.ended.signature.params f.ended.kept

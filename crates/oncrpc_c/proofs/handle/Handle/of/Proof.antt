@@ -22,7 +22,7 @@ use Rattle.std.proofs.alloc.Global.TheLaws as heap_laws
 use Rattle.std.specs.contracts.impls.GlobalAllocator.TheImpl.{ghosts}
 use Rattle.std.proofs.raw_atomic.Walks.{proved_at}
 use Rattle.xdr_lang.specs.contracts.declarations.Declared as declared
-use Rattle.oncrpc_c.proofs.Values.{both, Loose, loose_good, loose_out}
+use Rattle.c_handles.proofs.Values.{both, Loose, loose_good, loose_out}
 use Rattle.oncrpc_c.proofs.Handles.{handle_in}
 use Rattle.oncrpc_c.specs.contracts.handle.Handle.of.{ended, clauses}
 use Rattle.oncrpc_c.specs.contracts.handle.Handle.of.Key.{name as #self}

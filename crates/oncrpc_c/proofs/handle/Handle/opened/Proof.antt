@@ -28,7 +28,7 @@ use Rattle.std.proofs.alloc.Global.TheLaws as heap_laws
 use Rattle.std.specs.contracts.impls.GlobalAllocator.TheImpl.{ghosts}
 use Rattle.std.proofs.raw_atomic.Walks.{proved_at}
 use Rattle.xdr_lang.specs.contracts.declarations.Declared as declared
-use Rattle.oncrpc_c.proofs.Values.{both, both_tt, Loose, loose_good, loose_in}
+use Rattle.c_handles.proofs.Values.{both, both_tt, Loose, loose_good, loose_in}
 use Rattle.oncrpc_c.proofs.Handles.{Hr, handle_out, kept_cases, ptr_good}
 use Rattle.oncrpc_c.specs.contracts.handle.Handle.opened.{ended, clauses}
 use Rattle.oncrpc_c.specs.contracts.handle.Handle.opened.Key.{name as #self}

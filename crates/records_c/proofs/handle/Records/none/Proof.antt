@@ -16,7 +16,7 @@ use Rattle.std.proofs.raw_atomic.Walks.{proved}
 use Rattle.records_c.specs.contracts.handle.Records.none as f
 use Rattle.records_c.proofs.handle.Records.none.Statement.{statement}
 use Rattle.records_c.proofs.handle.Records.none.Code as code
-use Rattle.records_c.proofs.Values.{both, both_tt}
+use Rattle.c_handles.proofs.Values.{both, both_tt}
 use Rattle.records_c.proofs.Handles.{handle_in, ptr_good}
 
 abbrev stayed : Stays f.ended.signature.params f.ended.kept

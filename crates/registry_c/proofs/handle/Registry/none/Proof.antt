@@ -16,7 +16,7 @@ use Rattle.std.proofs.raw_atomic.Walks.{proved}
 use Rattle.registry_c.specs.contracts.handle.Registry.none as f
 use Rattle.registry_c.proofs.handle.Registry.none.Statement.{statement}
 use Rattle.registry_c.proofs.handle.Registry.none.Code as code
-use Rattle.registry_c.proofs.Values.{both, both_tt}
+use Rattle.c_handles.proofs.Values.{both, both_tt}
 use Rattle.registry_c.proofs.Handles.{handle_in, ptr_good}
 
 abbrev stayed : Stays f.ended.signature.params f.ended.kept

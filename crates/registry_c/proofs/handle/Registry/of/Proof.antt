@@ -22,7 +22,7 @@ use Rattle.std.proofs.alloc.Global.TheLaws as heap_laws
 use Rattle.std.specs.contracts.impls.GlobalAllocator.TheImpl.{ghosts}
 use Rattle.std.proofs.raw_atomic.Walks.{proved_at}
 use Rattle.registry_c.specs.contracts.state.State as state
-use Rattle.registry_c.proofs.Values.{both, Loose, loose_good, loose_out}
+use Rattle.c_handles.proofs.Values.{both, Loose, loose_good, loose_out}
 use Rattle.registry_c.proofs.Handles.{handle_in}
 use Rattle.registry_c.specs.contracts.handle.Registry.of.{ended, clauses}
 use Rattle.registry_c.specs.contracts.handle.Registry.of.Key.{name as #self}

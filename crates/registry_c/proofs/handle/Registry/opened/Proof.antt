@@ -28,7 +28,7 @@ use Rattle.std.proofs.alloc.Global.TheLaws as heap_laws
 use Rattle.std.specs.contracts.impls.GlobalAllocator.TheImpl.{ghosts}
 use Rattle.std.proofs.raw_atomic.Walks.{proved_at}
 use Rattle.registry_c.specs.contracts.state.State as state
-use Rattle.registry_c.proofs.Values.{both, both_tt, Loose, loose_good, loose_in}
+use Rattle.c_handles.proofs.Values.{both, both_tt, Loose, loose_good, loose_in}
 use Rattle.registry_c.proofs.Handles.{Hr, handle_out, kept_cases, ptr_good}
 use Rattle.registry_c.specs.contracts.handle.Registry.opened.{ended, clauses}
 use Rattle.registry_c.specs.contracts.handle.Registry.opened.Key.{name as #self}
