@@ -1,4 +1,3 @@
-pub mod Handles
 mod Argument
 mod Judging
 mod Pair

@@ -1,3 +1,2 @@
 mod Denied
-pub mod Handles
 mod Told
