@@ -1,5 +1,5 @@
 -- The name of an argument that is there is no unknown one.
-use Rattle.std.proofs.Common.{◌≡◌, ◌<◌, ℕ, List, [], ◌∷◌, length, Option, Some, None, inr, refl, ap, arith}
+use Rattle.std.proofs.Common.{◌≡◌, ◌<◌, ℕ, List, [], ◌∷◌, Option, Some, None, inr, refl, ap, arith}
 use Rattle.std.proofs.Common.{◌∙◌, option_and_then, slice_get}
 use Rattle.std.specs.Prelude.{codes, ⊤}
 use Rattle.std.specs.Fmt.{digits}
@@ -7,7 +7,7 @@ use Rattle.std.specs.Str.{IsAscii, IsUtf8}
 use Rattle.std.proofs.lemmas.Str.{IsUtf8-from_ascii}
 use Rattle.std.proofs.lemmas.Str.Ascii.{IsAscii-cons, IsAscii-nil}
 use Rattle.xdr_lang.specs.Declarations.{Declared, Procedure, procedure_of_program}
-use Rattle.oncrpc_names.specs.Names.{IsPartName, name_text}
+use Rattle.oncrpc_names.specs.Names.{name_text}
 use Rattle.oncrpc_names.specs.declared.reading.Part.TheVariants.{Argument}
 use Rattle.oncrpc_names.specs.declared.reading.PartName.{PartName}
 use Rattle.oncrpc_kinds.specs.Naming.{part_named, place_of_part}

@@ -1,4 +1,3 @@
-pub mod Handles
 mod Argument
 mod Judging
 mod Pair
@@ -6,4 +5,3 @@ mod Parting
 mod Records
 mod Showing
 mod Told
-pub mod Values

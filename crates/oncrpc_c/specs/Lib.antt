@@ -1,7 +1,6 @@
 pub mod Answers
 pub mod Argument
 pub mod Held
-pub mod Kept
 pub mod Normal
 pub mod Pair
 pub mod Parted

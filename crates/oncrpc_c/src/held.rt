@@ -2,7 +2,7 @@
 ghost use Rattle.std.specs.Prelude.{◌≡◌, Some, None, option_map};
 
 use super::handle::Handle;
-use super::loose::Loose;
+use c_handles::Loose;
 use std::alloc::Global;
 use std::mem::replace;
 use std::ptr::null_mut;

@@ -14,7 +14,6 @@ mod held;
 mod judge;
 mod listed;
 mod listing;
-mod loose;
 mod normal;
 mod outcome;
 mod part;

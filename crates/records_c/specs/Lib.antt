@@ -1,7 +1,6 @@
 pub mod Ended
 pub mod Fed
 pub mod Held
-pub mod Kept
 pub mod Rooms
 pub mod Started
 pub mod Statuses

@@ -2,8 +2,8 @@
 ghost use Rattle.std.specs.Prelude.{◌≡◌, Option, Some, None, option_map};
 ghost use Rattle.records_c.specs.declared.state.State.{State};
 
-use super::loose::Loose;
 use super::state::State;
+use c_handles::Loose;
 use std::alloc::Global;
 use std::marker::Model;
 
@@ -16,9 +16,10 @@ pub struct Records {
 }
 
 impl Model for Records {
-    ghost use Rattle.records_c.specs.Kept.{kept};
+    ghost use Rattle.c_handles.specs.Kept.{kept};
+    ghost use Rattle.records_c.specs.contracts.state.State.{the_row};
 
-    ghost also_owns = { λ h. kept h.live h.at h.held };
+    ghost also_owns = { λ h. kept the_row h.live h.at h.held };
 }
 
 impl Records {

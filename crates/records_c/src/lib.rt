@@ -10,7 +10,6 @@ mod examples;
 mod feeding;
 mod handle;
 mod held;
-mod loose;
 mod outcome;
 mod room;
 mod start;

@@ -1,4 +1,2 @@
 mod Denied
-pub mod Handles
 mod Told
-pub mod Values

@@ -1,6 +1,5 @@
 pub mod Answered
 pub mod Held
-pub mod Kept
 pub mod Rooms
 pub mod Rows
 pub mod Statuses

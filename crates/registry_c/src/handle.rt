@@ -2,7 +2,7 @@
 ghost use Rattle.std.specs.Prelude.{◌≡◌, Option, Some, None, option_map};
 ghost use Rattle.registry_c.specs.declared.state.State.{State};
 
-use super::loose::Loose;
+use c_handles::Loose;
 use super::state::State;
 use std::alloc::Global;
 use std::marker::Model;
@@ -16,9 +16,10 @@ pub struct Registry {
 }
 
 impl Model for Registry {
-    ghost use Rattle.registry_c.specs.Kept.{kept};
+    ghost use Rattle.c_handles.specs.Kept.{kept};
+    ghost use Rattle.registry_c.specs.contracts.state.State.{the_row};
 
-    ghost also_owns = { λ h. kept h.live h.at h.held };
+    ghost also_owns = { λ h. kept the_row h.live h.at h.held };
 }
 
 impl Registry {

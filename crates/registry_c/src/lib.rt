@@ -10,7 +10,6 @@ mod examples;
 mod handle;
 mod hasher;
 mod held;
-mod loose;
 mod outcome;
 mod reply;
 mod room;

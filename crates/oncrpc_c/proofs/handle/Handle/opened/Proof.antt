@@ -28,8 +28,9 @@ use Rattle.std.proofs.alloc.Global.TheLaws as heap_laws
 use Rattle.std.specs.contracts.impls.GlobalAllocator.TheImpl.{ghosts}
 use Rattle.std.proofs.raw_atomic.Walks.{proved_at}
 use Rattle.xdr_lang.specs.contracts.declarations.Declared as declared
-use Rattle.oncrpc_c.proofs.Values.{both, both_tt, Loose, loose_good, loose_in}
-use Rattle.oncrpc_c.proofs.Handles.{Hr, handle_out, kept_cases, ptr_good}
+use Rattle.c_handles.proofs.Values.{both, both_tt, Loose, loose_good, loose_in}
+use Rattle.c_handles.proofs.Handles.{handle_out, kept_cases, ptr_good}
+use Rattle.oncrpc_c.specs.contracts.handle.Handle as handle
 use Rattle.oncrpc_c.specs.contracts.handle.Handle.opened.{ended, clauses}
 use Rattle.oncrpc_c.specs.contracts.handle.Handle.opened.Key.{name as #self}
 use Rattle.oncrpc_c.proofs.handle.Handle.opened.Statement.{statement}
@@ -40,9 +41,9 @@ opened_spec 𝓤 𝓛 𝓜 𝓡 wired =
     let H = 𝓛.H in let 𝓣 = tables 𝓤 H 𝓜 𝓡 𝓡.env in let R : RattleType = declared.the_row in let
     Z : RattleType = heap.the_row in let LZ = heap_laws.the_row_laws in let Lr : RattleType = Loose R Z LZ ghosts in
     let c = clauses 𝓛 𝓜.mem 𝓡.returns in let fn = code.function in let hs : Stays ended.signature.params ended.kept =
-    (stay_dropped (plain (λ _. Hr)) yes, (stay_dropped (plain (λ _. Z)) yes, tt)) in
+    (stay_dropped (plain (λ _. handle.the_row)) yes, (stay_dropped (plain (λ _. Z)) yes, tt)) in
     proved_at 𝓛 ended hs c 𝓜 𝓡 (
-      Goes-dropped 𝓛 0 (plain (λ _. Hr)) yes (λ κs x f. refl),
+      Goes-dropped 𝓛 0 (plain (λ _. handle.the_row)) yes (λ κs x f. refl),
       (Goes-dropped 𝓛 0 (plain (λ _. Z)) yes (λ κs x f. refl), tt),
     ) #self fn (code.unfolded 𝓤 H 𝓜 𝓡 wired) (λ z are.
     let κs = z.0.0 in let d = z.0.3.0 in let a = z.0.3.1.0 in let Post : Val
@@ -51,8 +52,8 @@ opened_spec 𝓤 𝓛 𝓜 𝓡 wired =
     let h = one (layout Z) z.0.4.1.0 ((LZ.lawful 𝓛).typed a z.0.4.1.0 are.1.0) in
     qed 𝓛 ((‵ ftrue ⊛ ‵ (owns (types_at ended.signature.params κs) z.0.3 z.0.4)) ∷ raw ((c κs z.0.3).requires z.1) ∷ [])
     ∵ split ! $ move ! (1 ∷ []) $ fsplit3 ! $
-    rewrite ! 1 (λ (us : List Val). ‵ (Z.own_val a us)) h.1 refl $ handle_out ! d z.0.4.0
-    (λ ws. kept_cases ! d.live d.at d.declared
+    rewrite ! 1 (λ (us : List Val). ‵ (Z.own_val a us)) h.1 refl $ handle_out R ! d.at d.live d.declared z.0.4.0
+    (λ ws. kept_cases R ! d.live d.at d.declared
     -- [the allocator; nothing; no tokens; no requires], with the block before them where there is one
     (λ off none. let v : Val = both (ptr_val d.at) (vbool false) in let v₀ : Val = live 0 vnil in
     let told = subst (λ (l : Bool). z.0.4.0 ≡ both (ptr_val d.at) (vbool l) ∷ []) off ws in

@@ -16,8 +16,9 @@ use Rattle.std.proofs.raw_atomic.Walks.{proved}
 use Rattle.records_c.specs.contracts.handle.Records.none as f
 use Rattle.records_c.proofs.handle.Records.none.Statement.{statement}
 use Rattle.records_c.proofs.handle.Records.none.Code as code
-use Rattle.records_c.proofs.Values.{both, both_tt}
-use Rattle.records_c.proofs.Handles.{handle_in, ptr_good}
+use Rattle.records_c.specs.contracts.state.State as state
+use Rattle.c_handles.proofs.Values.{both, both_tt}
+use Rattle.c_handles.proofs.Handles.{handle_in, ptr_good}
 
 abbrev stayed : Stays f.ended.signature.params f.ended.kept
 stayed = (stay_dropped _ yes, tt)
@@ -36,5 +37,5 @@ none_spec 𝓤 𝓛 𝓜 𝓡 wired =
     returns ! (look_at ! 0 refl) $ free_all ! refl $ keep ! [] $
     suffices ! _ (ends_at 𝓛 f.ended stayed c y (both (ptr_val p) (vbool false))
     (record { at = p; live = false; held = None }) (tt, tt) (tt, tt)) $ says ! refl $
-    feq_i ! Bool false false refl $ handle_in ! p false None $ nothing ! $ nothing ! $ fjoin ! $ join ! $ nothing ! $
-    join ! $ done !))
+    feq_i ! Bool false false refl $ handle_in state.the_row ! p false None $ nothing ! $ nothing ! $ fjoin ! $
+    join ! $ nothing ! $ join ! $ done !))

@@ -22,8 +22,8 @@ use Rattle.std.proofs.alloc.Global.TheLaws as heap_laws
 use Rattle.std.specs.contracts.impls.GlobalAllocator.TheImpl.{ghosts}
 use Rattle.std.proofs.raw_atomic.Walks.{proved_at}
 use Rattle.registry_c.specs.contracts.state.State as state
-use Rattle.registry_c.proofs.Values.{both, Loose, loose_good, loose_out}
-use Rattle.registry_c.proofs.Handles.{handle_in}
+use Rattle.c_handles.proofs.Values.{both, Loose, loose_good, loose_out}
+use Rattle.c_handles.proofs.Handles.{handle_in}
 use Rattle.registry_c.specs.contracts.handle.Registry.of.{ended, clauses}
 use Rattle.registry_c.specs.contracts.handle.Registry.of.Key.{name as #self}
 use Rattle.registry_c.proofs.handle.Registry.of.Statement.{statement}
@@ -52,5 +52,5 @@ of_spec 𝓤 𝓛 𝓜 𝓡 wired =
     returns ! (look_at ! 0 refl) $ free_all ! refl $ keep ! (0 ∷ []) $
     suffices ! _ (ends_at 𝓛 ended hs c z (both (vptr b o) (vbool true))
     (record { at = block_ptr b o; live = true; held = Some v.value }) (tt, tt) (tt, tt)) $ says ! refl $
-    feq_i ! Bool true true refl $ fjoin ! $ handle_in ! (block_ptr b o) true (Some v.value) $ nothing ! $ nothing ! $
+    feq_i ! Bool true true refl $ fjoin ! $ handle_in R ! (block_ptr b o) true (Some v.value) $ nothing ! $ nothing ! $
     fjoin ! $ join ! $ nothing ! $ join ! $ done !)))
