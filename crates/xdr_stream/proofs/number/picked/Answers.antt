@@ -1,5 +1,5 @@
-use Rattle.std.proofs.Common.{◌≡◌, rules, List, ℤ, map, option_map, Option, Some, is_some, not, true, false, sym, ap, subst}
-use Rattle.std.proofs.Common.{◌∙◌, Bor, to_z, of_z}
+use Rattle.std.proofs.Common.{◌≡◌, rules, List, ℤ, map, option_map, Option, Some, is_some, not, true, false}
+use Rattle.std.proofs.Common.{◌∙◌, sym, ap, subst, Bor, to_z, of_z}
 use Rattle.std.specs.Int.{w64}
 use Rattle.xdr_types.specs.Kinds.{KindView, Part, Branch, kind_at}
 use Rattle.xdr_types.specs.KindViews.{branch_of, part_of_member}
