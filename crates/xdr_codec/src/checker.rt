@@ -1,5 +1,6 @@
 //! Bytes in pieces, judged without a value.
 ghost use Rattle.std.specs.Prelude.{◌≡◌, ◌≤◌, ◌<◌, ◌%◌, ℕ, List, [], ◌++◌, length, IfOk, IfErr, Ok, Err};
+ghost use Rattle.xdr_stream.specs.Finish.{Checks};
 ghost use Rattle.xdr_stream.specs.Stands.{taken, used_of};
 ghost use Rattle.xdr_stream.specs.declared.reader.Progress.TheVariants.{More, Done};
 ghost use Rattle.xdr_codec.specs.Checks.{StandsFor, HasOutcome, CountsIn, IsSame, IsStarted, IsDone, HasFailed};
@@ -16,6 +17,7 @@ use xdr_types::{KindId, Limits, Schema};
 #[derive(Drop)]
 pub struct Checker<'s> {
     reader: Reader<'s, Nothing>,
+    ghost given: { ∥ ((b : List ℕ) × Checks reader b) ∥₁ },
 }
 
 impl<'s> Checker<'s> {
