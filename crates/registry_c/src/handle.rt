@@ -2,8 +2,8 @@
 ghost use Rattle.std.specs.Prelude.{◌≡◌, Option, Some, None, option_map};
 ghost use Rattle.registry_c.specs.declared.state.State.{State};
 
-use c_handles::Loose;
 use super::state::State;
+use c_handles::Loose;
 use std::alloc::Global;
 use std::marker::Model;
 

@@ -2,8 +2,8 @@
 ghost use Rattle.std.specs.Prelude.{◌≡◌, Some, None, option_map};
 
 use super::handle::Registry;
-use c_handles::Loose;
 use super::state::State;
+use c_handles::Loose;
 use std::alloc::Global;
 use std::mem::replace;
 use std::ptr::null_mut;
