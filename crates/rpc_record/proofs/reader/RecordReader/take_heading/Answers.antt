@@ -1,4 +1,4 @@
-use Rattle.std.proofs.Common.{◌≡◌, ◌+◌, ◌++◌, length, refl, ap, sym, ◌∙◌, length-append, arith}
+use Rattle.std.proofs.Common.{◌≡◌, ◌++◌, length, refl, ap, sym, ◌∙◌, length-append, arith}
 use Rattle.std.proofs.lemmas.List.{append-nil}
 use Rattle.rpc_record.specs.Marked.{header}
 use Rattle.rpc_record.specs.Reading.{capped}
