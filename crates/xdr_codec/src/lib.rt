@@ -6,6 +6,7 @@ mod decoder;
 mod decoding;
 mod encoding;
 mod gather;
+mod judging;
 pub mod laws;
 mod pieces;
 mod pushing;

@@ -121,8 +121,12 @@ pub kind_known : (s : List KindView) (t : ℕ) (l : Bounds) (H : Trace → Type 
     (room : List ℕ) (pending : ℕ) (state : State) → state ≡ Fresh
     → ∥ ((b : List ℕ) × StandsAs s t l H fs read room pending state b) ∥₁ → t < length s
 kind_known s t l H fs read room pending state is given = lt_of_not-le (λ more. ruled_out given (λ g.
-    omega (arith, more, fresh_known s t l H fs read room pending g.0
-    (subst (λ (x : State). StandsAs s t l H fs read room pending x g.0) is g.1))))
+    omega (
+      arith,
+      more,
+      fresh_known s t l H fs read room pending g.0
+          (subst (λ (x : State). StandsAs s t l H fs read room pending x g.0) is g.1),
+    )))
 
 -- ---- what the end answers
 
