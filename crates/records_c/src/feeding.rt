@@ -12,9 +12,10 @@ use super::outcome::Outcome;
 use super::state::State;
 use rpc_record::RecordStep;
 use std::alloc::Global;
+use std::mem::replace;
 
 /// Feeds a piece, and keeps the record that is whole then beside the reader.
-fn feed_to(state: &mut State, piece: &[u8]) -> Answer
+fn feed_to(alloc: Global, state: &mut State, piece: &[u8]) -> Answer
     ensures { IsFed (held_of state.old) piece.now (held_of state.new) result }
 {
     if state.waiting.is_some() {
@@ -23,7 +24,8 @@ fn feed_to(state: &mut State, piece: &[u8]) -> Answer
     match state.reader.feed(piece) {
         Ok(RecordStep::More) => Answer::More,
         Ok(RecordStep::Whole { used }) => {
-            state.waiting = state.reader.take();
+            let room = replace(&mut state.room, Vec::new(alloc));
+            state.waiting = state.reader.take_with(room);
             Answer::Whole { count: used }
         }
         Err(fault) => Answer::Refused(fault),
@@ -49,7 +51,7 @@ pub extern "C" fn oncrpc_records_feed(
 {
     let answer = match taken(alloc, handle) {
         Some(mut state) => {
-            let answer = feed_to(&mut state, piece);
+            let answer = feed_to(alloc, &mut state, piece);
             keep(alloc, handle, state);
             answer
         }

@@ -6,4 +6,6 @@ use rpc_record::RecordReader;
 pub struct State {
     pub reader: RecordReader,
     pub waiting: Option<Vec<u8>>,
+    /// Memory of a record that was taken, for one to come.
+    pub room: Vec<u8>,
 }

@@ -22,7 +22,9 @@ fn take_into(state: &mut State, room: &mut [u8]) -> Answer
         None => Answer::NoRecord,
     };
     if let Answer::Whole { .. } = answer {
-        state.waiting = None;
+        if let Some(record) = state.waiting.take() {
+            state.room = record;
+        }
     }
     answer
 }

@@ -201,6 +201,24 @@ impl RecordReader {
         }
     }
 
+    /// As `take`, and the next record goes into this room's memory, whose bytes are dropped.
+    pub fn take_with(&mut self, room: Vec<u8>) -> Option<Vec<u8>>
+        ensures limit { limit_of self.new ≡ limit_of self.old }
+        ensures hands { Hands self.old self.new result }
+        ensures content { IfSome result (λ v.
+            Always self.old (λ rs bytes. IsWhole (limit_of self.old) (rs ++ v.items ∷ []) bytes)) }
+    {
+        if let Place::Whole = self.place {
+            self.place = Place::Between;
+            let mut empty = room;
+            empty.clear();
+            let record = mem::replace(&mut self.content, empty);
+            Some(record)
+        } else {
+            None
+        }
+    }
+
     /// Ends the input: well between two records and while one waits, which changes nothing. Inside a record it is
     /// `Truncated` after the bytes taken, for ever after, and an earlier fault is answered again.
     pub fn end(&mut self) -> Result<(), RecordFault>

@@ -10,7 +10,7 @@ returns-in-Ok-More c =
 pub returns-in-Ok-Whole : goal.returns-in-Ok-Whole
 returns-in-Ok-Whole c =
     let f = rw c.in-Ok-Whole.field-0-is at c.in-Ok-Whole.ensures in
-    let t = c.take.ensures in
+    let t = c.take_with.ensures in
     whole _ c.feed.new.self _ c.args.state.now.waiting _ _ _ c.if-is_some.ensures f.limit t.limit f.feeds f.stays
     t.hands t.content
 
