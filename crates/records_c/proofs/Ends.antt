@@ -15,7 +15,7 @@ use Rattle.rpc_record.specs.Stands.{IsBetween, IsWaiting, IsTaking, IsBroken, Tr
 use Rattle.records_c.specs.declared.answer.Answer.TheVariants as answer
 use Rattle.records_c.specs.Ended.{IsEnded, IsCut}
 use Rattle.records_c.specs.Held as held
-use Rattle.records_c.specs.Held.{Held, held_of}
+use Rattle.records_c.specs.Held.{Held, content_of}
 
 -- one fault was answered at most, and none while bytes are taken
 one_fault : (p : Place) (f g : RecordFault) → IsBrokenAt p f → IsBrokenAt p g → f ≡ g
@@ -42,7 +42,7 @@ kept waits reader = record { reader = reader; waits = waits }
 
 pub well : (old new : RecordReader) (w : Option (Vec ℕ Global)) (u : Unit {0}) → false ≡ is_some w
     → limit_of new ≡ limit_of old → Ends old new (Ok u) → Concludes old (Ok u)
-    → IsEnded (held_of (record { reader = old; waiting = w })) (held_of (record { reader = new; waiting = w }))
+    → IsEnded (record { reader = old; waits = content_of w }) (record { reader = new; waits = content_of w })
     (answer.Whole 0)
 well old new (Some v) u e l ends says = absurd (false≢true e)
 well old new None u e l ends says = record {
@@ -72,7 +72,7 @@ same old f g (inr t) c = absurd (none_taking old.place g t.0 c)
 
 pub bad : (old new : RecordReader) (w : Option (Vec ℕ Global)) (f : RecordFault) → false ≡ is_some w
     → limit_of new ≡ limit_of old → Ends old new (Err f) → Concludes old (Err f)
-    → IsEnded (held_of (record { reader = old; waiting = w })) (held_of (record { reader = new; waiting = w }))
+    → IsEnded (record { reader = old; waits = content_of w }) (record { reader = new; waits = content_of w })
     (answer.Refused f)
 bad old new (Some v) f e l ends says = absurd (false≢true e)
 bad old new None f e l ends says = record {

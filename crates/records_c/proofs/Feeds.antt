@@ -11,7 +11,7 @@ use Rattle.rpc_record.specs.Reading.{IsWhole}
 use Rattle.rpc_record.specs.Stands.{Always, Feeds, Tells, Stays, Hands, limit_of}
 use Rattle.records_c.specs.declared.answer.Answer.TheVariants as answer
 use Rattle.records_c.specs.Fed.{IsFed}
-use Rattle.records_c.specs.Held.{held_of}
+use Rattle.records_c.specs.Held.{content_of}
 
 well_bad : {s : RecordStep} {f : RecordFault} → ◌≡◌ {A = Result RecordStep RecordFault} (Ok s) (Err f) → ⊥
 well_bad e = cc
@@ -23,7 +23,7 @@ refused_same e = cc
 pub more : (old new : RecordReader) (w : Option (Vec ℕ Global)) (piece : List ℕ) → false ≡ is_some w
     → limit_of new ≡ limit_of old → Feeds old new piece (Ok step.More) → Tells old piece (Ok step.More)
     → Stays old (Ok step.More)
-    → IsFed (held_of (record { reader = old; waiting = w })) piece (held_of (record { reader = new; waiting = w }))
+    → IsFed (record { reader = old; waits = content_of w }) piece (record { reader = new; waits = content_of w })
     answer.More
 more old new (Some v) piece e l feeds tells stays = absurd (false≢true e)
 more old new None piece e l feeds tells stays = record {
@@ -43,7 +43,7 @@ pub whole : (old mid new : RecordReader) (w o : Option (Vec ℕ Global)) (piece 
     → limit_of mid ≡ limit_of old → limit_of new ≡ limit_of mid → Feeds old mid piece (Ok (step.Whole used))
     → Stays old (Ok (step.Whole used)) → Hands mid new o
     → IfSome o (λ v. Always mid (λ rs bytes. IsWhole (limit_of mid) (rs ++ v.items ∷ []) bytes))
-    → IsFed (held_of (record { reader = old; waiting = w })) piece (held_of (record { reader = new; waiting = o }))
+    → IsFed (record { reader = old; waits = content_of w }) piece (record { reader = new; waits = content_of o })
     (answer.Whole used)
 whole old mid new (Some v) o piece used e l m feeds stays hands is = absurd (false≢true e)
 whole old mid new None None piece used e l m feeds stays hands is = absurd (hands.0 feeds.0)
@@ -64,7 +64,7 @@ whole old mid new None (Some v) piece used e l m feeds stays hands is = record {
 pub refused : (old new : RecordReader) (w : Option (Vec ℕ Global)) (piece : List ℕ) (f : RecordFault)
     → false ≡ is_some w
     → limit_of new ≡ limit_of old → Feeds old new piece (Err f) → Tells old piece (Err f) → Stays old (Err f)
-    → IsFed (held_of (record { reader = old; waiting = w })) piece (held_of (record { reader = new; waiting = w }))
+    → IsFed (record { reader = old; waits = content_of w }) piece (record { reader = new; waits = content_of w })
     (answer.Refused f)
 refused old new (Some v) piece f e l feeds tells stays = absurd (false≢true e)
 refused old new None piece f e l feeds tells stays = record {

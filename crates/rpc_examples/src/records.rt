@@ -71,6 +71,14 @@ pub fn hands_out_once(reader: &mut RecordReader) -> bool
     reader.take().is_none()
 }
 
+/// So it is where room for the next is given with the call.
+pub fn hands_out_once_with(reader: &mut RecordReader, room: Vec<u8>) -> bool
+    ensures { result ≡ true }
+{
+    let _first = reader.take_with(room);
+    reader.take().is_none()
+}
+
 /// While a record waits, a reader takes no more bytes.
 pub fn waits_to_be_taken(reader: &mut RecordReader, piece: &[u8]) -> Result<RecordStep, RecordFault>
     requires { IsWaiting reader.old }
