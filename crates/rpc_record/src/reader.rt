@@ -201,8 +201,8 @@ impl RecordReader {
         }
     }
 
-    /// As `take`, and the next record goes into this room's memory, whose bytes are dropped. Where no record is whole the
-    /// room is given back.
+    /// As `take`, and the next record goes into this room's memory, whose bytes are dropped. Where no record is whole
+    /// that memory is freed.
     pub fn take_with(&mut self, room: Vec<u8>) -> Option<Vec<u8>>
         ensures limit { limit_of self.new ≡ limit_of self.old }
         ensures hands { Hands self.old self.new result }

@@ -4,7 +4,8 @@ use Rattle.xdr_stream.specs.Frames.{stack_of}
 use Rattle.xdr_stream.specs.Values.{Tells}
 use Rattle.xdr_stream.specs.Stands.{StandsAs}
 use Rattle.xdr_stream.specs.declared.reader.State.{State}
-use Rattle.xdr_stream.proofs.Finishing.{finish_failed, finish_open, still_open, root_whole, root_not_none, ruled_out, kind_known}
+use Rattle.xdr_stream.proofs.Finishing.{finish_failed, finish_open, still_open, root_whole, root_not_none}
+use Rattle.xdr_stream.proofs.Finishing.{ruled_out, kind_known}
 use Rattle.xdr_stream.proofs.decoder.finish.Goals as goal
 
 pub returns-in-Failed-clause-answer : goal.returns-in-Failed-clause-answer
