@@ -18,7 +18,7 @@ use crate::machine::Awaits;
 use crate::reader::{Reader, State};
 use crate::run::{Run, run_due};
 use crate::unit::{are_zeros, end_content, take_unit};
-use crate::whole::{Whole, arm_due, field_due, unit_at, whole_there};
+use crate::whole::{Whole, content_due, is_field_after, unit_at, whole_there};
 
 impl<'s, B: Build + Drop> Reader<'s, B> {
     // Takes what comes first at a part: content that is there whole, a run of numbers, or a unit; tells how many bytes.
@@ -33,12 +33,12 @@ impl<'s, B: Build + Drop> Reader<'s, B> {
         ensures awake { self.old.state ≡ Reading Next → IsAwake self.new.state }
         ensures same { IsSame self.old self.new }
     {
-        if let Some(whole) = field_due(self.schema, self.work, self.limits, self.read, bytes) {
-            self.take_field(whole, bytes);
-            return whole.all;
-        }
-        if let Some(whole) = arm_due(self.schema, self.work, self.limits, self.read, bytes) {
-            self.take_arm(whole, bytes);
+        if let Some(whole) = content_due(self.schema, self.work, self.limits, self.read, bytes) {
+            if is_field_after(self.schema, self.work) {
+                self.take_field(whole, bytes);
+            } else {
+                self.take_counted(whole, bytes);
+            }
             return whole.all;
         }
         if let Some(run) = run_due(self.schema, self.work) {
@@ -76,7 +76,7 @@ impl<'s, B: Build + Drop> Reader<'s, B> {
 
     // Takes content that is there whole, and begins what comes next.
     #[inline(always)]
-    fn take_arm(&mut self, whole: Whole, bytes: &[u8])
+    fn take_counted(&mut self, whole: Whole, bytes: &[u8])
         requires { IsWholeAt self.old.schema.now.kinds (left_of self.old.work) self.old.limits self.old.read
             bytes.now whole }
         ensures stands { (b : List ℕ) → self.old.state ≡ Reading Next → self.old.pending ≡ 0
