@@ -1,5 +1,6 @@
 -- What an example says of lists of kinds and names that make no schema.
 use Rattle.std.specs.Prelude.{◌≡◌, ◌⊎◌, ℕ, zero, suc, ◌+◌, length, Option, Some, None, ⊤}
+use Rattle.std.specs.Option.{option_or}
 use Rattle.xdr_types.specs.Kinds.{Lists}
 use Rattle.xdr_types.specs.Faults.{fault, kind_flaw_at, name_flaw_at}
 use Rattle.xdr_types.specs.declared.fault.Flaw.{Flaw}
@@ -16,15 +17,10 @@ abbrev pub first_from : (ℕ → Option Flaw) → ℕ → ℕ → Option SchemaF
 first_from flaw_at zero place = None
 first_from flaw_at (suc count) place = found_or (flaw_at place) place (first_from flaw_at count (place + 1))
 
--- the fault, or another where there is none
-abbrev pub or_else : Option SchemaFault → Option SchemaFault → Option SchemaFault
-or_else None other = other
-or_else (Some e) other = Some e
-
 -- the first flaw of a kind, else of a name
 abbrev pub first_flaw : Lists → Option SchemaFault
 first_flaw s =
-    or_else (first_from (kind_flaw_at s.kinds) (length s.kinds) 0)
+    option_or (first_from (kind_flaw_at s.kinds) (length s.kinds) 0)
     (first_from (name_flaw_at s.kinds s.names) (length s.names) 0)
 
 -- no schema was made: for this fault, or for want of memory

@@ -13,7 +13,8 @@ use Rattle.xdr_tokens.proofs.Options.{some_is}
 use Rattle.xdr_grammar.specs.Outline.{Part, IsBasic, IsNamed, IsStruct, IsMade, IsStructMade, IsText, IsVoid, Field}
 use Rattle.xdr_grammar.specs.Outline.{Arm, Draft, DNumbered, DOpaque, DOpaqueUpTo, DText, DFixed, DUpTo, DStructure}
 use Rattle.xdr_grammar.specs.Outline.{DChoice, DMaybe, Procedure, Version, Program, Outline}
-use Rattle.xdr_lang.specs.LookUp.{Known, type_named, place_with, named_place, place_of, numbers}
+use Rattle.xdr_constants.specs.Constants.{Known, numbers}
+use Rattle.xdr_lang.specs.LookUp.{type_named, place_with, named_place, place_of}
 use Rattle.xdr_lang.specs.Kinds.{each_onto, where_given, one_field, one_arm, one_kind}
 use Rattle.xdr_lang.specs.Programs.{signature, one_procedure, one_version, one_program}
 use Rattle.xdr_lang.specs.Meaning.{meaning}

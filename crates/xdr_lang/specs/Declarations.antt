@@ -1,5 +1,6 @@
 -- What a text declares (RFC 4506 section 6.4, RFC 5531 section 12.3).
 use Rattle.std.specs.Prelude.{ℕ, ℤ, List, [], ◌∷◌, Option, Some, None, ◌==◌, if◌then◌else◌}
+use Rattle.std.specs.Option.{option_or}
 use Rattle.xdr_types.specs.Kinds.{Lists}
 
 -- a constant: declared by const, or a member of an enum
@@ -32,11 +33,6 @@ pub record Declared : Type 0 where
   pub constants : List Constant
   pub programs : List Program
 
--- the first that is there
-abbrev pub or_else : {A : Type 0} → Option A → Option A → Option A
-or_else (Some a) other = Some a
-or_else None other = other
-
 -- the procedure with that number
 unfoldable pub procedure_numbered : ℕ → List Procedure → Option Procedure
 procedure_numbered n [] = None
@@ -45,11 +41,11 @@ procedure_numbered n (p ∷ ps) = if p.number == n then Some p else procedure_nu
 -- the procedure with that number in a version with that number
 unfoldable pub procedure_of_version : ℕ → ℕ → List Version → Option Procedure
 procedure_of_version v n [] = None
-procedure_of_version v n (x ∷ xs) = if x.number == v then or_else (procedure_numbered n x.procedures)
+procedure_of_version v n (x ∷ xs) = if x.number == v then option_or (procedure_numbered n x.procedures)
     (procedure_of_version v n xs) else procedure_of_version v n xs
 
 -- the same in a program with that number
 unfoldable pub procedure_of_program : ℕ → ℕ → ℕ → List Program → Option Procedure
 procedure_of_program p v n [] = None
-procedure_of_program p v n (x ∷ xs) = if x.number == p then or_else (procedure_of_version v n x.versions)
+procedure_of_program p v n (x ∷ xs) = if x.number == p then option_or (procedure_of_version v n x.versions)
     (procedure_of_program p v n xs) else procedure_of_program p v n xs

@@ -4,7 +4,8 @@ use Rattle.xdr_grammar.specs.Outline.{Late, Field, Arm, Draft, DNumbered, DOpaqu
 use Rattle.xdr_grammar.specs.Outline.{DStructure, DChoice, DMaybe}
 use Rattle.xdr_types.specs.Kinds as xdr
 use Rattle.xdr_tokens.specs.Options.{◌>>=◌}
-use Rattle.xdr_lang.specs.LookUp.{Known, looked_up, size, limit, member_number, case_number, place_of}
+use Rattle.xdr_constants.specs.Constants.{Known, looked_up, size, limit, member_number, case_number}
+use Rattle.xdr_lang.specs.LookUp.{place_of}
 
 -- f of each in order, after those before; where each has one
 unfoldable pub each_onto : {A B : Type 0} → (A → Option B) → List A → List B → Option (List B)

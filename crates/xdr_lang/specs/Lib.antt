@@ -6,6 +6,7 @@ pub use Rattle.xdr_grammar.specs.Grammar
 pub use Rattle.xdr_grammar.specs.Outline
 pub use Rattle.xdr_grammar.specs.Spelled
 pub use Rattle.xdr_grammar.specs.Tree
+pub use Rattle.xdr_constants.specs.Constants
 pub use Rattle.xdr_types.specs.Faults
 pub use Rattle.xdr_types.specs.KindViews
 pub use Rattle.xdr_types.specs.Named

@@ -5,7 +5,7 @@ use Rattle.xdr_types.specs.Named.{basic}
 use Rattle.xdr_grammar.specs.Outline.{Outline}
 use Rattle.xdr_lang.specs.Declarations.{Constant, Declared}
 use Rattle.xdr_tokens.specs.Options.{◌>>=◌}
-use Rattle.xdr_lang.specs.LookUp.{Known, numbers}
+use Rattle.xdr_constants.specs.Constants.{Known, numbers}
 use Rattle.xdr_lang.specs.Kinds.{each, each_onto, one_kind, one_field}
 use Rattle.xdr_lang.specs.Programs.{one_program}
 

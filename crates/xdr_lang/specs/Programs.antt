@@ -3,7 +3,8 @@ use Rattle.std.specs.Prelude.{ℕ, List, Option, Some}
 use Rattle.xdr_grammar.specs.Outline as out
 use Rattle.xdr_lang.specs.Declarations.{Procedure, Version, Program}
 use Rattle.xdr_tokens.specs.Options.{◌>>=◌}
-use Rattle.xdr_lang.specs.LookUp.{unsigned, place_of}
+use Rattle.xdr_constants.specs.Constants.{unsigned}
+use Rattle.xdr_lang.specs.LookUp.{place_of}
 use Rattle.xdr_lang.specs.Kinds.{each, where_given}
 
 -- the places of the kinds of a procedure's arguments, and of its result's where there is one

@@ -6,22 +6,13 @@ use Rattle.xdr_grammar.specs.declared.outline.Name.{Name}
 use Rattle.xdr_grammar.specs.Outline as out
 use Rattle.xdr_grammar.specs.View.{field_of}
 use Rattle.xdr_types.specs.declared.kind.KindId.{KindId}
-use Rattle.xdr_lang.specs.declared.constants.Known.{Known}
 use Rattle.xdr_lang.specs.declared.declarations.Procedure.{Procedure}
 use Rattle.xdr_lang.specs.declared.declarations.Version.{Version}
 use Rattle.xdr_lang.specs.declared.declarations.Program.{Program}
 use Rattle.xdr_lang.specs.declared.declarations.Declared.{Declared}
 use Rattle.xdr_lang.specs.declared.meaning.Listed.{Listed}
 use Rattle.xdr_types.specs.KindViews.{lists_of}
-use Rattle.xdr_lang.specs.LookUp as look
 use Rattle.xdr_lang.specs.Declarations as said
-
--- a constant that is looked up
-abbrev pub known_of : Known → look.Known
-known_of k = record { name = k.name.text.now; value = k.value; by_const = k.by_const }
-
-abbrev pub knowns : List Known → List look.Known
-knowns ks = map known_of ks
 
 -- types that are looked up
 abbrev pub types_of : List Field → List out.Field

@@ -1,7 +1,8 @@
 //! What a text declares, and look-ups in it.
 ghost use Rattle.std.specs.Prelude.{◌≡◌, Some, None, map, option_map};
 ghost use Rattle.xdr_types.specs.Named.{place_named};
-ghost use Rattle.xdr_lang.specs.Declarations.{or_else, procedure_numbered, procedure_of_version, procedure_of_program};
+ghost use Rattle.std.specs.Option.{option_or};
+ghost use Rattle.xdr_lang.specs.Declarations.{procedure_numbered, procedure_of_version, procedure_of_program};
 ghost use Rattle.xdr_lang.specs.Views.{procedure_of, version_of, program_of, declared_of};
 
 use std::string::String;

@@ -2,15 +2,14 @@
 //! decided elsewhere; this finds the place.
 ghost use Rattle.std.specs.Prelude.{◌≡◌};
 
-use crate::constant_table::ConstantTable;
-use crate::constants::{
-    Known, case_number, entry_number, looked_up, place_of_value, size, unsigned,
-};
 use crate::distinct::add_names;
 use crate::places::kind_of;
 use crate::type_table::{TypeTable, type_table};
 use std::alloc::{AllocError, Global};
 use std::collections::{BTreeMap, BTreeSet};
+use xdr_constants::{
+    ConstantTable, Known, case_number, entry_number, looked_up, place_of_value, size, unsigned,
+};
 use xdr_grammar::{
     Arm, Draft, Entry, Field, Late, Name, Number, Outline, Part, Procedure, Program, Shape, Version,
 };

@@ -4,17 +4,19 @@ ghost use Rattle.xdr_tokens.specs.Due.{Gives};
 ghost use Rattle.xdr_grammar.specs.View.{late_of, field_of, member_of, arm_of, draft_of};
 ghost use Rattle.xdr_types.specs.KindViews.{constant_of, part_of_member, branch_of, kind_view};
 ghost use Rattle.xdr_types.specs.Named.{basic};
-ghost use Rattle.xdr_lang.specs.Views.{knowns, types_of};
+ghost use Rattle.xdr_constants.specs.Views.{knowns};
+ghost use Rattle.xdr_lang.specs.Views.{types_of};
 ghost use Rattle.xdr_lang.specs.Kinds.{each, each_onto, where_given, one_member, one_case, one_field, one_arm};
 ghost use Rattle.xdr_lang.specs.Kinds.{one_kind};
 
-use crate::constant_table::ConstantTable;
-use crate::constants::{case_number, limit, looked_up, member_number, place_of_value, size};
 use crate::lists::basic_kinds;
 use crate::places::kind_of;
 use crate::type_table::TypeTable;
 use std::alloc::Global;
 use std::string::String;
+use xdr_constants::{
+    ConstantTable, case_number, limit, looked_up, member_number, place_of_value, size,
+};
 use xdr_grammar::{Arm, Draft, Field, Late, Member as EnumMember, Shape};
 use xdr_tokens::Fault;
 use xdr_types::{Arm as Branch, Kind, Member};

@@ -1,8 +1,6 @@
 //! The XDR language: what a text declares (RFC 4506 section 6, RFC 5531 section 12).
 #![tactic(auto)]
 
-mod constant_table;
-mod constants;
 mod declarations;
 mod distinct;
 mod faults;

@@ -11,7 +11,6 @@ ghost use Rattle.xdr_lang.specs.Private.Meaning.{distinct_meaning};
 ghost use Rattle.xdr_lang.specs.Means.{IsMeant};
 ghost use Rattle.xdr_lang.specs.Views.{declared_of, listed_of};
 
-use crate::constants::numbers;
 use crate::declarations::{Declared, Program};
 use crate::distinct::has_twice;
 use crate::faults::schema_fault;
@@ -22,6 +21,7 @@ use crate::programs::all_programs;
 use crate::type_table::type_table;
 use std::alloc::Global;
 use std::string::String;
+use xdr_constants::numbers;
 use xdr_grammar::Outline;
 use xdr_tokens::{Fault, Wrong};
 use xdr_types::{Kind, KindId, Schema};

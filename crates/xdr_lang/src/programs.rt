@@ -7,12 +7,12 @@ ghost use Rattle.xdr_lang.specs.Views.{types_of, places, procedure_of, version_o
 ghost use Rattle.xdr_lang.specs.Kinds.{each, each_onto, where_given};
 ghost use Rattle.xdr_lang.specs.Programs.{signature, one_procedure, one_version, one_program};
 
-use crate::constants::unsigned;
 use crate::declarations::{Procedure, Program, Version};
 use crate::places::kind_of;
 use crate::type_table::TypeTable;
 use std::alloc::Global;
 use std::string::String;
+use xdr_constants::unsigned;
 use xdr_grammar::{
     Field, Part, Procedure as Spelled, Program as SpelledProgram, Version as SpelledVersion,
 };

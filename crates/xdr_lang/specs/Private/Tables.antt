@@ -1,36 +1,17 @@
 -- What the tables of names hold, for look-ups (the names of RFC 4506 section 6.4).
-use Rattle.std.specs.Prelude.{◌≡◌, ◌≤◌, ℕ, suc, ℤ, Bool, true, false, List, [], ◌∷◌, map, Option, Some, None}
+use Rattle.std.specs.Prelude.{◌≡◌, ◌≤◌, ℕ, Bool, true, false, List, [], ◌∷◌, map, Option, Some, None}
 use Rattle.std.specs.Prelude.{option_map}
 use Rattle.std.specs.Prelude.{if◌then◌else◌}
-use Rattle.std.specs.BTreeMap.{BTreeMap, get_by}
+use Rattle.std.specs.BTreeMap.{BTreeMap}
 use Rattle.std.specs.BTreeSet.{BTreeSet}
-use Rattle.std.specs.Ordering.{nat_cmp}
-use Rattle.std.specs.Cmp.Lexicographic.{slice_cmp}
-use Rattle.std.specs.Str.{bytes_eq}
 use denote.Ref.{Bor}
 use Rattle.xdr_grammar.specs.declared.outline.Part.{Part}
 use Rattle.xdr_grammar.specs.View.{part_of}
 use Rattle.xdr_grammar.specs.Outline.{Field, Part as Shown, IsBasic, IsNamed, IsStruct, IsMade, IsStructMade, IsText}
 use Rattle.xdr_grammar.specs.Outline.{IsVoid}
-use Rattle.xdr_lang.specs.LookUp.{Known, type_named, named_place}
+use Rattle.xdr_constants.specs.Private.Tables.{key_texts, at_name}
+use Rattle.xdr_lang.specs.LookUp.{type_named, named_place}
 use Rattle.xdr_lang.specs.Distinct.{has_name}
-
--- the keys, without where they lie in memory
-abbrev pub key_texts : List (Bor (List ℕ)) → List (List ℕ)
-key_texts ks = map (λ (k : Bor (List ℕ)). k.now) ks
-
--- what the map has at the name
-abbrev pub at_name : {X : Type 0} → List ℕ → BTreeMap (Bor (List ℕ)) X → Option X
-at_name n m = get_by (λ k. slice_cmp nat_cmp n k.now) m
-
--- the first constant with that name: its place, counted from i on, its number, and whether const declares it
-unfoldable pub first_named : List ℕ → ℕ → List Known → Option (ℕ × ℤ × Bool)
-first_named n i [] = None
-first_named n i (k ∷ ks) = if bytes_eq k.name n then Some (i, k.value, k.by_const) else first_named n (suc i) ks
-
--- The map has the first constant with each name.
-pub record HasFirst (m : BTreeMap (Bor (List ℕ)) (ℕ × ℤ × Bool)) (ks : List Known) : Type 0 where
-  pub finds : (n : List ℕ) → at_name n m ≡ first_named n 0 ks
 
 -- The map has what each type is declared as.
 pub record HasParts (m : BTreeMap (Bor (List ℕ)) Part) (types : List Field) : Type 0 where

@@ -15,7 +15,8 @@ use Rattle.xdr_grammar.specs.Private.Reading.{body_word_at, body_with, specifier
 use Rattle.xdr_grammar.specs.Private.Reading.{arguments_with, result_with, procedure_with, version_with, program_with}
 use Rattle.xdr_grammar.specs.Private.Reading.{const_at, typedef_with, defined_with, definition_at, definitions_at}
 use Rattle.xdr_grammar.specs.Private.Reading.{int_at, inner_word_at}
-use Rattle.xdr_lang.specs.LookUp.{known, earlier, looked_up, size, limit, entry_number, numbers, type_named}
+use Rattle.xdr_constants.specs.Constants.{known, earlier, looked_up, size, limit, entry_number, numbers}
+use Rattle.xdr_lang.specs.LookUp.{type_named}
 use Rattle.xdr_lang.specs.LookUp.{named_place}
 use Rattle.xdr_lang.specs.Kinds.{each_onto, where_given, one_member, one_case, one_field, one_arm, one_kind}
 use Rattle.xdr_lang.specs.Programs.{signature, one_procedure, one_version, one_program}

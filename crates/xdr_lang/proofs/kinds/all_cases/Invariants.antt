@@ -1,5 +1,5 @@
 use Rattle.std.proofs.Common.{◌≡◌, drop, map, []}
-use Rattle.xdr_lang.specs.Views.{knowns}
+use Rattle.xdr_constants.specs.Views.{knowns}
 use Rattle.xdr_grammar.specs.View as view
 use Rattle.xdr_lang.specs.Kinds.{each_onto, one_case}
 use Rattle.xdr_lang.proofs.kinds.all_cases.Given as goal

@@ -1,5 +1,6 @@
 use Rattle.std.proofs.Common.{◌≡◌, drop, map}
-use Rattle.xdr_lang.specs.Views.{knowns, types_of}
+use Rattle.xdr_constants.specs.Views.{knowns}
+use Rattle.xdr_lang.specs.Views.{types_of}
 use Rattle.xdr_grammar.specs.View as view
 use Rattle.xdr_lang.specs.Kinds.{each_onto, one_kind}
 use Rattle.xdr_types.specs.KindViews as xdr

@@ -1,5 +1,6 @@
 use Rattle.std.proofs.Common.{◌≡◌, drop, map, ◌++◌}
-use Rattle.xdr_lang.specs.Views.{knowns, constant_of}
+use Rattle.xdr_constants.specs.Views.{knowns}
+use Rattle.xdr_lang.specs.Views.{constant_of}
 use Rattle.xdr_lang.specs.Meaning as said
 use Rattle.xdr_lang.proofs.lists.all_constants.Given as goal
 

@@ -1,10 +1,10 @@
 use Rattle.std.proofs.Common.{rules, ◌≡◌, Some, None, take, refl, sym, ◌∙◌}
 use Rattle.xdr_tokens.specs.Options.{◌>>=◌}
-use Rattle.xdr_lang.specs.LookUp.{known}
-use Rattle.xdr_lang.specs.Private.Tables.{at_name}
-use Rattle.xdr_lang.specs.Views.{knowns}
-use Rattle.xdr_lang.proofs.Tables.{within, known_before, is_below, not_below}
-use Rattle.xdr_lang.proofs.constant_table.ConstantTable.named.Goals as goal
+use Rattle.xdr_constants.specs.Constants.{known}
+use Rattle.xdr_constants.specs.Private.Tables.{at_name}
+use Rattle.xdr_constants.specs.Views.{knowns}
+use Rattle.xdr_constants.proofs.Tables.{within, known_before, is_below, not_below}
+use Rattle.xdr_constants.proofs.constant_table.ConstantTable.named.Goals as goal
 
 pub returns-in-Some : goal.returns-in-Some
 returns-in-Some c =

@@ -1,5 +1,5 @@
-use Rattle.xdr_lang.proofs.Tables.{no_constants}
-use Rattle.xdr_lang.proofs.constant_table.ConstantTable.new.Goals as goal
+use Rattle.xdr_constants.proofs.Tables.{no_constants}
+use Rattle.xdr_constants.proofs.constant_table.ConstantTable.new.Goals as goal
 
 pub invariant_of-result : goal.invariant_of-result
 invariant_of-result c = record { is_first = rw c.new.ensures.items (no_constants c.new-2.result c.new-2.ensures.empty) }

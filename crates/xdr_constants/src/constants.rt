@@ -3,9 +3,9 @@ ghost use Rattle.std.specs.Prelude.{◌≡◌, true, false, Some, None, IfOk, le
 ghost use Rattle.std.specs.Prelude.{◌<◌, take};
 ghost use Rattle.xdr_tokens.specs.Due.{Gives};
 ghost use Rattle.xdr_grammar.specs.View.{late_of, entry_of};
-ghost use Rattle.xdr_lang.specs.Views.{known_of, knowns};
-ghost use Rattle.xdr_lang.specs.LookUp.{unsigned, member_number, case_number, known, earlier, looked_up, size, limit};
-ghost use Rattle.xdr_lang.specs.LookUp.{entry_number, numbers};
+ghost use Rattle.xdr_constants.specs.Views.{known_of, knowns};
+ghost use Rattle.xdr_constants.specs.Constants.{unsigned, member_number, case_number, known, earlier, looked_up, size, limit};
+ghost use Rattle.xdr_constants.specs.Constants.{entry_number, numbers};
 
 use crate::constant_table::ConstantTable;
 use std::alloc::Global;
@@ -67,7 +67,7 @@ pub fn case_number(value: i128, left: usize) -> Result<i64, Fault>
 
 /// The number of the constant with that name, and whether `const` declares it: among the first
 /// `before` of them and the two that are declared before the text.
-#[tactic(auto, unfolding(crate::specs::LookUp::earlier))]
+#[tactic(auto, unfolding(crate::specs::Constants::earlier))]
 fn earlier(constants: &ConstantTable<'_>, name: &str, before: usize) -> Option<(i128, bool)>
     ensures { result ≡ earlier name.now (take before (knowns constants.now.list.items)) }
 {
@@ -81,7 +81,7 @@ fn earlier(constants: &ConstantTable<'_>, name: &str, before: usize) -> Option<(
 }
 
 /// The number that a value stands for.
-#[tactic(auto, unfolding(crate::specs::LookUp::looked_up))]
+#[tactic(auto, unfolding(crate::specs::Constants::looked_up))]
 pub fn looked_up(constants: &ConstantTable<'_>, value: &Late<'_>) -> Result<i128, Fault>
     ensures { Gives (λ x. x) result (looked_up (knowns constants.now.list.items) (late_of value.now)) }
 {
@@ -98,7 +98,7 @@ pub fn looked_up(constants: &ConstantTable<'_>, value: &Late<'_>) -> Result<i128
 }
 
 /// The size that a value stands for.
-#[tactic(auto, unfolding(crate::specs::LookUp::size))]
+#[tactic(auto, unfolding(crate::specs::Constants::size))]
 pub fn size(constants: &ConstantTable<'_>, value: &Late<'_>) -> Result<u32, Fault>
     ensures { Gives (λ x. x) result (size (knowns constants.now.list.items) (late_of value.now)) }
 {
@@ -119,7 +119,7 @@ pub fn size(constants: &ConstantTable<'_>, value: &Late<'_>) -> Result<u32, Faul
 }
 
 /// The greatest length that a declaration allows.
-#[tactic(auto, unfolding(crate::specs::LookUp::limit))]
+#[tactic(auto, unfolding(crate::specs::Constants::limit))]
 pub fn limit(constants: &ConstantTable<'_>, value: &Option<Late<'_>>) -> Result<u32, Fault>
     ensures { Gives (λ x. x) result (limit (knowns constants.now.list.items) (option_map late_of value.now)) }
 {
@@ -138,7 +138,7 @@ pub fn place_of_value(value: &Late<'_>) -> usize {
 }
 
 /// The number of one more constant.
-#[tactic(auto, unfolding(crate::specs::LookUp::entry_number))]
+#[tactic(auto, unfolding(crate::specs::Constants::entry_number))]
 pub fn entry_number(constants: &ConstantTable<'_>, entry: &Entry<'_>) -> Result<i128, Fault>
     ensures { Gives (λ x. x) result (entry_number (knowns constants.now.list.items) (entry_of entry.now)) }
 {
@@ -151,7 +151,7 @@ pub fn entry_number(constants: &ConstantTable<'_>, entry: &Entry<'_>) -> Result<
 }
 
 /// The constants with their numbers.
-#[tactic(auto, unfolding(crate::specs::LookUp::numbers))]
+#[tactic(auto, unfolding(crate::specs::Constants::numbers))]
 pub fn numbers<'a>(alloc: Global, entries: &[Entry<'a>]) -> Result<ConstantTable<'a>, Fault>
     ensures { Gives (λ x. knowns x.list.items) result (numbers (map entry_of entries.now) []) }
 {

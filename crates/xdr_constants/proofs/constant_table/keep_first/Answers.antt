@@ -2,10 +2,10 @@ use Rattle.std.proofs.Common.{◌≡◌, ℕ, ℤ, Bool, Some, length, rules, re
 use Rattle.std.specs.BTreeMap.{Updates}
 use mir.Val.{to_z, of_z}
 use mir.Syntax.{w128}
-use Rattle.xdr_lang.specs.Views.{known_of}
-use Rattle.xdr_lang.proofs.Sets.{names_cmp}
-use Rattle.xdr_lang.proofs.Tables.{new_constant, old_constant}
-use Rattle.xdr_lang.proofs.constant_table.keep_first.Goals as goal
+use Rattle.xdr_constants.specs.Views.{known_of}
+use Rattle.xdr_types.proofs.Apart.{texts_cmp as names_cmp}
+use Rattle.xdr_constants.proofs.Tables.{new_constant, old_constant}
+use Rattle.xdr_constants.proofs.constant_table.keep_first.Goals as goal
 
 pub returns-then-contains_key-clause-kept : goal.returns-then-contains_key-clause-kept
 returns-then-contains_key-clause-kept c = λ ks has len. old_constant c.args.first.now ks

@@ -1,5 +1,5 @@
-use Rattle.xdr_lang.proofs.Tables.{no_constants}
-use Rattle.xdr_lang.proofs.constant_table.ConstantTable.push.Goals as goal
+use Rattle.xdr_constants.proofs.Tables.{no_constants}
+use Rattle.xdr_constants.proofs.constant_table.ConstantTable.push.Goals as goal
 
 pub invariant_of-self-in-Err : goal.invariant_of-self-in-Err
 invariant_of-self-in-Err c =

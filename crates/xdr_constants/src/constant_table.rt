@@ -1,9 +1,9 @@
 //! The constants so far, and the first with each name.
 ghost use Rattle.std.specs.Prelude.{◌≡◌, OnOk, OnErr, List, [], ◌∷◌, ◌++◌, length, take};
-ghost use Rattle.xdr_lang.specs.Views.{known_of, knowns};
-ghost use Rattle.xdr_lang.specs.LookUp.{known};
-ghost use Rattle.xdr_lang.specs.LookUp.{Known as KnownSpec};
-ghost use Rattle.xdr_lang.specs.Private.Tables.{HasFirst};
+ghost use Rattle.xdr_constants.specs.Views.{known_of, knowns};
+ghost use Rattle.xdr_constants.specs.Constants.{known};
+ghost use Rattle.xdr_constants.specs.Constants.{Known as KnownSpec};
+ghost use Rattle.xdr_constants.specs.Private.Tables.{HasFirst};
 
 use crate::constants::Known;
 use std::alloc::{AllocError, Global};
