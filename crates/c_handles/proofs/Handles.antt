@@ -51,7 +51,8 @@ module _ (R : RattleType) where
         → Step K 𝓛 (‵ (handle_owns p l x (both (ptr_val p) (vbool l) ∷ [])) ∷ Γ) G (‵ (kept R l p x) ∷ Γ) G
     handle_in t p l x = step (λ s. let v : Val = both (ptr_val p) (vbool l) in
         nothing t $ feq_i t (List Val) (vbool l ∷ []) (vbool l ∷ []) refl $ fjoin t $
-        feq_i t (List Val) (ptr_val p ∷ []) (ptr_val p ∷ []) refl $ fjoin t $ feq_i t (List Val) (v ∷ []) (v ∷ []) refl $ fjoin t $
+        feq_i t (List Val) (ptr_val p ∷ []) (ptr_val p ∷ []) refl $ fjoin t $
+        feq_i t (List Val) (v ∷ []) (v ∷ []) refl $ fjoin t $
         fpack t (Valss cells) (lies p l (v ∷ [])) (ptr_val p ∷ [], (vbool l ∷ [], tt)) $ fjoin t $ s)
 
     pub kept_cases : K → (l : Bool) (p : Ptr) (x : Option R.Denot) → (l ≡ false → x ≡ None → Seq K 𝓛 Γ G)

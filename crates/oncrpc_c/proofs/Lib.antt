@@ -4,4 +4,5 @@ mod Pair
 mod Parting
 mod Records
 mod Showing
+mod Slot
 mod Told

@@ -4,8 +4,9 @@ use Rattle.std.proofs.Common.{ap, ◌∙◌, subst, length-append, arith, Option
 use Rattle.std.proofs.lemmas.List.{length-take}
 use Rattle.rpc_record.specs.declared.fault.RecordFault.{RecordFault}
 use Rattle.rpc_record.specs.declared.fault.RecordFault.TheVariants as fault
-use Rattle.rpc_record.specs.Marked.{header, Marked, NoneBeginsAnother}
-use Rattle.rpc_record.specs.Reading.{IsWhole, IsInside, TooLongAt, capped}
+use Rattle.rpc_record.specs.Marked.{Marked, NoneBeginsAnother}
+use Rattle.rpc_record.specs.Reading.{IsWhole, IsInside, capped}
+use Rattle.rpc_record.proofs.Long.{Marked-length, TooLongAt-length, only_memory}
 use Rattle.rpc_record.proofs.Told.{not_broken}
 use Rattle.records_c.specs.declared.answer.Answer.{Answer}
 use Rattle.records_c.specs.declared.answer.Answer.TheVariants as answer
@@ -14,7 +15,6 @@ use Rattle.records_c.specs.Fed.{IsFedAs, IsFedTo, IsFedBy, IsRefused}
 use Rattle.records_c.specs.Held.{Held, IsTaking, IsBroken, Stands, limit_of}
 use Rattle.records_c.specs.Statuses.{status_of}
 use Rattle.records_c.proofs.Followed.{one_marked}
-use Rattle.records_c.proofs.Long.{marked_length}
 use Rattle.records_c.proofs.Told.{IsAt, Waiting}
 
 -- ---- the end of a reader that takes bytes
@@ -92,32 +92,15 @@ none_behind apart limit r bytes w i =
 
 module _ (limit : ℕ) (piece : List ℕ) (short : length piece < 4) (h l : Held) (e : limit_of h ≡ limit) (i : IsTaking h)
     (s : Stands h [] []) where
-  not_long : (n at : ℕ) → TooLongAt n [] at piece → ⊥
-  unfolding header
-  not_long n at t =
-      let head = header t.last t.count in
-      let four : length head ≡ 4 = refl in
-      omega (
-        arith,
-        short,
-        ap length t.spelled,
-        length-append t.before (head ++ t.more),
-        length-append head t.more,
-        four,
-      )
-
   refused : (f : RecordFault) → IsRefused h piece l f → f ≡ fault.NoMemory
-  refused (fault.TooLong at) b = absurd (not_long (limit_of h) at (b.here i [] [] s))
-  refused fault.NoMemory b = refl
-  refused (fault.Truncated at) b = absurd (b.kind i)
-  refused fault.Read b = absurd (b.kind i)
-  refused (fault.Write written) b = absurd (b.kind i)
-  refused fault.TooManyReads b = absurd (b.kind i)
+  refused f b =
+      only_memory (limit_of h) (length piece) [] f piece
+      (λ at t. omega (arith, short, TooLongAt-length (limit_of h) at [] piece t)) (b.kind i) (b.here i [] [] s)
 
   fed_to : (left : Option Held) (a : Answer) → left ≡ Some l → limit_of l ≡ limit_of h → IsFedTo h piece l a
       → (status_of a ≡ 6) ⊎ ((a ≡ answer.More) × IsAt limit piece [] left)
   fed_to left (answer.Whole count) is m b =
-      let long = marked_length b.content (take count piece)
+      let long = Marked-length b.content (take count piece)
       (one_marked (limit_of h) b.content (take count piece) (b.whole [] [] s)) in
       absurd (omega (arith, short, long, length-take count piece))
   fed_to left answer.More is m b =

@@ -5,7 +5,8 @@ use Rattle.std.proofs.lemmas.List.{append-nil, take_all, take-append-drop}
 use Rattle.rpc_record.specs.declared.fault.RecordFault.{RecordFault}
 use Rattle.rpc_record.specs.declared.fault.RecordFault.TheVariants as fault
 use Rattle.rpc_record.specs.Marked.{header, IsContent, Marked, Longest, NoneBeginsAnother, OneLongest}
-use Rattle.rpc_record.specs.Reading.{IsWhole, TooLongAt, TooLongEnds, WholeHasNoLong, WholeIsLongest}
+use Rattle.rpc_record.specs.Reading.{IsWhole, FaultyIn, TooLongEnds, WholeHasNoLong, WholeIsLongest}
+use Rattle.rpc_record.proofs.Long.{only_memory}
 use Rattle.records_c.specs.declared.answer.Answer.{Answer}
 use Rattle.records_c.specs.declared.answer.Answer.TheVariants as answer
 use Rattle.records_c.specs.Fed.{IsRead, IsRefused, IsFedAs, IsFedTo, IsFedBy}
@@ -33,16 +34,11 @@ module _ (apart : NoneBeginsAnother) (one : OneLongest) (longest : WholeIsLonges
     (all : IsWhole limit (r ∷ []) ((before ++ piece) ++ after)) where
   refused : (h l : Held) (f : RecordFault) → limit_of h ≡ limit → IsTaking h → Stands h before []
       → IsRefused h piece l f → f ≡ fault.NoMemory
-  refused h l (fault.TooLong at) e i s b =
-      let here : TooLongAt limit [] at (before ++ piece) = subst (λ n. TooLongAt n [] at (before ++ piece)) e
-      (b.here i before [] s) in
-      absurd (none limit (r ∷ []) ((before ++ piece) ++ after) all [] at
-      (ends limit at [] (before ++ piece) after here).0)
-  refused h l fault.NoMemory e i s b = refl
-  refused h l (fault.Truncated at) e i s b = absurd (b.kind i)
-  refused h l fault.Read e i s b = absurd (b.kind i)
-  refused h l (fault.Write written) e i s b = absurd (b.kind i)
-  refused h l fault.TooManyReads e i s b = absurd (b.kind i)
+  refused h l f e i s b =
+      only_memory limit (length piece) [] f (before ++ piece)
+      (λ at t. none limit (r ∷ []) ((before ++ piece) ++ after) all [] at
+      (ends limit at [] (before ++ piece) after t).0)
+      (b.kind i) (subst (λ n. FaultyIn n [] f (length piece) (before ++ piece)) e (b.here i before [] s))
 
   -- what is read whole is the record, and nothing is left behind it
   read : (h l : Held) (count : ℕ) → Stands h before [] → (b : IsRead h piece l count)

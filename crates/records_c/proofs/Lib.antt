@@ -5,4 +5,5 @@ mod Followed
 mod Long
 mod Next
 mod Past
+mod Slot
 mod Told

@@ -7,7 +7,8 @@ use Rattle.std.proofs.Math.Seq.{take-append_seam}
 use Rattle.rpc_record.specs.declared.fault.RecordFault.{RecordFault}
 use Rattle.rpc_record.specs.declared.fault.RecordFault.TheVariants as fault
 use Rattle.rpc_record.specs.Marked.{header, IsContent, Marked, Stream, Longest}
-use Rattle.rpc_record.specs.Reading.{IsWhole, HasNoLong, TooLongAt}
+use Rattle.rpc_record.specs.Reading.{IsWhole, HasNoLong, FaultyIn}
+use Rattle.rpc_record.proofs.Long.{only_memory}
 use Rattle.rpc_record.proofs.Longest.{Marked-same}
 use Rattle.rpc_record.proofs.Streams.{Stream-push}
 use Rattle.records_c.specs.declared.answer.Answer.{Answer}
@@ -36,13 +37,9 @@ module _ (limit : ℕ) (rs : List (List ℕ)) (r before front back : List ℕ) (
 
   refused : (h l : Held) (f : RecordFault) → limit_of h ≡ limit → IsTaking h → Stands h before rs
       → IsRefused h piece l f → f ≡ fault.NoMemory
-  refused h l (fault.TooLong at) e i s b =
-      absurd (short rs at (subst (λ n. TooLongAt n rs at (before ++ piece)) e (b.here i before rs s)))
-  refused h l fault.NoMemory e i s b = refl
-  refused h l (fault.Truncated at) e i s b = absurd (b.kind i)
-  refused h l fault.Read e i s b = absurd (b.kind i)
-  refused h l (fault.Write written) e i s b = absurd (b.kind i)
-  refused h l fault.TooManyReads e i s b = absurd (b.kind i)
+  refused h l f e i s b =
+      only_memory limit (length piece) rs f (before ++ piece) (short rs) (b.kind i)
+      (subst (λ n. FaultyIn n rs f (length piece) (before ++ piece)) e (b.here i before rs s))
 
   read : (h l : Held) (count : ℕ) → Stands h before rs → (b : IsRead h piece l count)
       → (b.content ≡ r) × (count ≡ length front)

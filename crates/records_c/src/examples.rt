@@ -167,7 +167,6 @@ pub fn refuses_a_header_above_the_limit(
     ensures { result.0 ≡ 0 → (result.1 ≡ 6)
         ⊎ ((result.1 ≡ 2) × (outcome.new ≡ record { at = 0; line = 0; column = 0; why = 4; inner = 0 })) }
 {
-    too_long_ends_the_stream();
     let started = oncrpc_records_start(alloc, handle, 2, outcome);
     let fed = oncrpc_records_feed(alloc, handle, &[0x80, 0, 0, 3], outcome);
     (started, fed)

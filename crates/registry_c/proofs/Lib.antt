@@ -1,2 +1,3 @@
 mod Denied
+mod Slot
 mod Told

@@ -5,6 +5,7 @@ use Rattle.std.specs.Io.KnownBytes.{Consumes}
 use Rattle.rpc_record.specs.declared.fault.RecordFault.TheVariants as flaw
 use Rattle.rpc_record.specs.Marked.{header, OneLongest}
 use Rattle.rpc_record.specs.Reading.{IsWhole, WholeIsLongest, WholeHasNoLong, TooLongAt}
+use Rattle.rpc_record.proofs.Long.{long_first}
 use Rattle.rpc_rows.specs.Rows.{Row}
 use Rattle.rpc_engine.specs.declared.fault.ServeFault.TheVariants as fault
 use Rattle.rpc_engine.specs.declared.fault.Served.{Served}
@@ -45,27 +46,7 @@ nothing one whole netid rows new l m t u served s told =
 
 long_header : TooLongAt most_record [] 0 (128 ∷ 1 ∷ 0 ∷ 1 ∷ [])
 unfolding header
-long_header = record {
-  before = [];
-  content = [];
-  last = true;
-  count = 65537;
-  more = [];
-  upto = record {
-    whole = [];
-    firsts = [];
-    stream = refl;
-    within = λ k d lt. absurd (omega arith);
-    each = λ k d lt. absurd (omega arith);
-    fits = omega arith;
-    joined = refl;
-    spelled = refl;
-  };
-  place = refl;
-  counted = omega arith;
-  passes = omega arith;
-  spelled = refl;
-}
+long_header = long_first most_record 65537 true [] (omega arith) (omega arith)
 
 pub too_long : {E : Type 0} → WholeHasNoLong → (netid : List ℕ) (rows new : List Row) (l m t u : Option (List ℕ))
     (result : Result Served E) → IfOk result (λ served. Serves netid rows new l m t u served)

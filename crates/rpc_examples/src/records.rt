@@ -184,7 +184,6 @@ pub fn counts_what_is_kept(reader: &RecordReader) -> usize
 pub fn refuses_a_header_above_the_limit(alloc: Global) -> Result<RecordStep, RecordFault>
     ensures { MatchResult result (λ _. ⊥) (λ f. (f ≡ RecordFault.TooLong 0) ⊎ (f ≡ RecordFault.NoMemory)) }
 {
-    too_long_ends_the_stream();
     RecordReader::start(alloc, 0).feed(&[0x80, 0, 0, 1])
 }
 

@@ -11,4 +11,5 @@ pub mod Passing
 pub mod Gathering
 pub mod Progress
 pub mod Exact
+pub mod Long
 pub mod Told

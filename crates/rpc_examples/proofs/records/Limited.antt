@@ -4,8 +4,9 @@ use Rattle.rpc_record.specs.declared.fault.RecordFault.{RecordFault}
 use Rattle.rpc_record.specs.declared.fault.RecordFault.TheVariants as fault
 use Rattle.rpc_record.specs.declared.fault.RecordStep.{RecordStep}
 use Rattle.rpc_record.specs.declared.reader.RecordReader.{RecordReader}
-use Rattle.rpc_record.specs.Reading.{TooLongAt, IsWhole, WholeHasNoLong, FaultyIn, IsFeedFault}
+use Rattle.rpc_record.specs.Reading.{TooLongAt, IsWhole, WholeHasNoLong}
 use Rattle.rpc_record.specs.Stands.{Stands, IsTaking, Feeds, Tells}
+use Rattle.rpc_record.proofs.Long.{only_memory}
 use Rattle.rpc_examples.proofs.records.Counted.{one_is}
 use Rattle.rpc_examples.proofs.records.Handed.{one_record, is_marked}
 
@@ -15,20 +16,11 @@ is_whole = record {
   within = one_is (λ r. length r ≤ 1) (97 ∷ []) (omega arith);
 }
 
--- No header in it passes the limit.
-which : WholeHasNoLong → (limit : ℕ) (f : RecordFault) (n : ℕ) (piece : List ℕ) → limit ≡ 1 → piece ≡ one_record
-    → IsFeedFault f → FaultyIn limit [] f n piece → f ≡ fault.NoMemory
-which none limit (fault.TooLong at) n piece e p i h = absurd (none 1 ((97 ∷ []) ∷ []) one_record is_whole [] at
-    (subst (λ b. TooLongAt 1 [] at b) p (subst (λ l. TooLongAt l [] at piece) e h)))
-which none limit fault.NoMemory n piece e p i h = refl
-which none limit (fault.Truncated at) n piece e p i h = absurd i
-which none limit fault.Read n piece e p i h = absurd i
-which none limit (fault.Write written) n piece e p i h = absurd i
-which none limit fault.TooManyReads n piece e p i h = absurd i
-
 pub is_taken : WholeHasNoLong → (old new : RecordReader) (piece : List ℕ) (answer : Result RecordStep RecordFault)
     → old.limit ≡ 1 → piece ≡ one_record → IsTaking old → Stands old [] [] → Feeds old new piece answer
     → Tells old piece answer → IfErr answer (λ f. f ≡ fault.NoMemory)
 is_taken none old new piece (Err f) e p i s k t =
-    which none old.limit f (length piece) piece e p (k.2 i) ((t [] [] s).1 i)
+    only_memory old.limit (length piece) [] f piece
+    (λ at h. none 1 ((97 ∷ []) ∷ []) one_record is_whole [] at (subst (λ b. TooLongAt 1 [] at b) p
+    (subst (λ l. TooLongAt l [] at piece) e h))) (k.2 i) ((t [] [] s).1 i)
 is_taken none old new piece (Ok step) e p i s k t = tt

@@ -8,4 +8,4 @@ returns c = λ e.
     let s = c.oncrpc_records_start-started.ensures in
     let f = c.oncrpc_records_feed-fed.ensures in
     let h = started 2 _ s.0 s.1 (sym e ∙ s.2) in
-    rw (f.2, f.3) (fed_long c.too_long_ends_the_stream.ensures.none _ _ h.held f.0 h.is h.fresh f.1)
+    rw (f.2, f.3) (fed_long _ _ h.held f.0 h.is h.fresh f.1)

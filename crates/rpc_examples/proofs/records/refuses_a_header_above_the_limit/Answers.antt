@@ -5,6 +5,6 @@ use Rattle.rpc_examples.proofs.records.refuses_a_header_above_the_limit.Goals as
 pub returns : goal.returns
 returns c =
     let start = c.start.ensures in
-    is_refused c.too_long_ends_the_stream.ensures.none c.start.result c.feed.new.self _ c.feed.result
+    is_refused c.start.result c.feed.new.self _ c.feed.result
     start.limit refl start.taking
     start.stands c.feed.ensures.feeds c.feed.ensures.tells
