@@ -12,3 +12,4 @@ pub mod Gathering
 pub mod Progress
 pub mod Exact
 pub mod Told
+pub mod Singles
