@@ -13,3 +13,4 @@ pub mod Progress
 pub mod Exact
 pub mod Long
 pub mod Told
+pub mod Singles

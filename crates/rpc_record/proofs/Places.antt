@@ -43,26 +43,31 @@ InHeader-at_next limit taken rs first part before last e u h fits t =
       Upto-first_some limit rs first before part u h fits,
     )) t
 
+-- between two records no fragment of the next has come
+pub Upto-between : (limit : ℕ) (rs : List (List ℕ)) (content bytes : List ℕ) → content ≡ [] → IsWhole limit rs bytes
+    → Upto limit rs content bytes
+Upto-between limit rs content bytes e w =
+    let none : length content ≤ limit = omega (arith, ap length e) in
+    record {
+      whole = bytes;
+      firsts = [];
+      stream = w.stream;
+      within = w.within;
+      each = λ k d h. absurd (omega arith);
+      fits = none;
+      joined = e;
+      spelled = sym (append-nil bytes);
+    }
+
 -- between two records the next header is due
 pub InHeader-between : (limit taken : ℕ) (rs : List (List ℕ)) (content bytes : List ℕ) → content ≡ []
     → IsWhole limit rs bytes → taken ≡ capped (length bytes) → InHeader limit rs content taken [] bytes
-InHeader-between limit taken rs content bytes e w t =
-    let none : length content ≤ limit = omega (arith, ap length e) in
-    record {
-      before = bytes;
-      upto = record {
-        whole = bytes;
-        firsts = [];
-        stream = w.stream;
-        within = w.within;
-        each = λ k d h. absurd (omega arith);
-        fits = none;
-        joined = e;
-        spelled = sym (append-nil bytes);
-      };
-      place = t;
-      spelled = sym (append-nil bytes);
-    }
+InHeader-between limit taken rs content bytes e w t = record {
+  before = bytes;
+  upto = Upto-between limit rs content bytes e w;
+  place = t;
+  spelled = sym (append-nil bytes);
+}
 
 -- the bytes so far, where the last of a fragment's have come
 pub content_whole : (before part more bytes : List ℕ) (last : Bool) (left : ℕ) → length more ≡ left

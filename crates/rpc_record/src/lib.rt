@@ -9,6 +9,7 @@ mod normal;
 mod outbox;
 mod place;
 mod reader;
+mod single;
 mod steps;
 
 pub use fault::{Count, RecordFault, RecordStep};

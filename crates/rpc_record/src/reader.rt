@@ -5,6 +5,7 @@ ghost use Rattle.rpc_record.specs.Fields.{left_of};
 use super::fault::{RecordFault, RecordStep};
 use super::header::{Heading, heading_of};
 use super::place::{Begun, Fragment, Place};
+use super::single::single_record;
 use super::steps::{after_content, after_header, after_heading};
 use std::alloc::Global;
 use std::mem;
@@ -23,11 +24,12 @@ pub struct RecordReader {
 }
 
 impl RecordReader {
-    ghost use Rattle.std.specs.Prelude.{◌≡◌, ◌<◌, ◌^◌, ◌++◌, ◌↔◌, ℕ, List, [], ◌∷◌, length, take, IsTrue, IfSome};
+    ghost use Rattle.std.specs.Prelude.{◌≡◌, ◌<◌, ◌^◌, ◌++◌, ◌↔◌, ℕ, List, [], ◌∷◌, length, take, true};
+    ghost use Rattle.std.specs.Prelude.{IsTrue, IfSome, IfOk, IfErr};
     ghost use Rattle.rpc_record.specs.Stands.{Stands, Always, IsTaking, IsWaiting, IsBroken, limit_of};
-    ghost use Rattle.rpc_record.specs.Stands.{Takes, Feeds, Tells, Stays, Hands, Ends, Concludes};
+    ghost use Rattle.rpc_record.specs.Stands.{Takes, Feeds, Tells, Stays, Hands, Ends, Concludes, IsBetween};
     ghost use Rattle.rpc_record.specs.Private.Steps.{Refuses, IsFed, IsStepped};
-    ghost use Rattle.rpc_record.specs.Marked.{Longest, header};
+    ghost use Rattle.rpc_record.specs.Marked.{Longest, header, fragment};
     ghost use Rattle.rpc_record.specs.Fields.{InHeader, begun_bytes};
     ghost use Rattle.rpc_record.specs.Reading.{TooLongAt, IsWhole, Begins, Faulty, HasNoLong, capped};
     ghost use Rattle.rpc_record.specs.declared.place.Place.TheVariants as place;
@@ -53,6 +55,50 @@ impl RecordReader {
     /// it waits nothing more is. `TooLong`, at a header that brings its record above the limit, and `NoMemory` take
     /// the whole piece and are answered for ever after.
     pub fn feed(&mut self, piece: &[u8]) -> Result<RecordStep, RecordFault>
+        ensures limit { limit_of self.new ≡ limit_of self.old }
+        ensures feeds { Feeds self.old self.new piece.now result }
+        ensures tells { Tells self.old piece.now result }
+        ensures stays { Stays self.old result }
+    {
+        if let Place::Between = self.place {
+            if let Some(record) = single_record(piece) {
+                if self.content.len() + record.len() <= self.limit as usize {
+                    return self.take_single(record);
+                }
+            }
+        }
+        self.feed_on(piece)
+    }
+
+    /// Takes a record with this content that is one fragment. Where memory is refused for it, it is broken.
+    fn take_single(&mut self, content: &[u8]) -> Result<RecordStep, RecordFault>
+        requires between { IsBetween self.old }
+        requires some { 0 < length content.now }
+        requires counted { length content.now < 2 ^ 31 }
+        requires fits { vec_len self.old.content + length content.now ≤ limit_of self.old }
+        ensures limit { limit_of self.new ≡ limit_of self.old }
+        ensures whole { IfOk result (λ s. (s ≡ RecordStep.Whole (4 + length content.now)) × IsWaiting self.new) }
+        ensures refused { IfErr result (λ f. (f ≡ RecordFault.NoMemory) × (self.new.place ≡ place.Broken f)) }
+        ensures takes { Takes self.old self.new (fragment true content.now) }
+        ensures refuses { Refuses self.old self.new (fragment true content.now) }
+    {
+        match self.content.extend_from_slice(content) {
+            Ok(()) => {
+                let used = 4 + content.len();
+                self.taken = self.taken.saturating_add(used as u64);
+                self.place = Place::Whole;
+                Ok(RecordStep::Whole { used })
+            }
+            Err(_) => {
+                self.place = Place::Broken(RecordFault::NoMemory);
+                Err(RecordFault::NoMemory)
+            }
+        }
+    }
+
+    /// Takes the bytes of a piece, as `feed`: a header at a time, and a fragment at a time.
+    #[inline(never)]
+    fn feed_on(&mut self, piece: &[u8]) -> Result<RecordStep, RecordFault>
         ensures limit { limit_of self.new ≡ limit_of self.old }
         ensures feeds { Feeds self.old self.new piece.now result }
         ensures tells { Tells self.old piece.now result }

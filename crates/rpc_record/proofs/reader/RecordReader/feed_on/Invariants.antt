@@ -1,7 +1,7 @@
 use Rattle.std.proofs.Common.{◌≡◌, ◌≤◌, ◌-◌, length, take}
 use Rattle.rpc_record.specs.Stands.{IsTaking, Takes, limit_of}
 use Rattle.rpc_record.specs.Private.Steps.{IsFed, Refuses}
-use Rattle.rpc_record.proofs.reader.RecordReader.feed.Given as goal
+use Rattle.rpc_record.proofs.reader.RecordReader.feed_on.Given as goal
 
 abbrev pub invariant-loop-used : goal.invariant-loop-used
 invariant-loop-used l = record {

@@ -1,0 +1,89 @@
+-- A record that is one fragment, behind whole records.
+use Rattle.std.proofs.Common.{◌≡◌, ℕ, ◌+◌, ◌<◌, ◌≤◌, true, List, [], ◌∷◌, ◌++◌, length, take, refl, sym, ap}
+use Rattle.std.proofs.Common.{subst, ◌∙◌, Ok, Err, Result, IfOk, IfErr, append_assoc, length-append, arith}
+use Rattle.std.proofs.lemmas.List.{append-nil}
+use Rattle.rpc_record.specs.Marked.{header, fragment, IsContent}
+use Rattle.rpc_record.specs.Reading.{IsWhole, IsInside, RefusedIn, capped}
+use Rattle.rpc_record.specs.Reading.{IsFeedFault}
+use Rattle.rpc_record.specs.Fields.{StandsAt, IsBrokenAt}
+use Rattle.rpc_record.specs.Stands.{Stands, IsBetween, IsWaiting, IsBroken, Takes, Feeds, Tells, limit_of}
+use Rattle.rpc_record.specs.Private.Steps.{Refuses}
+use Rattle.rpc_record.specs.declared.fault.RecordFault.{RecordFault}
+use Rattle.rpc_record.specs.declared.fault.RecordFault.TheVariants as fault
+use Rattle.rpc_record.specs.declared.fault.RecordStep.{RecordStep}
+use Rattle.rpc_record.specs.declared.fault.RecordStep.TheVariants as step
+use Rattle.rpc_record.specs.declared.place.Fragment.{Fragment}
+use Rattle.rpc_record.specs.declared.place.Place.TheVariants as place
+use Rattle.rpc_record.specs.declared.reader.RecordReader.{RecordReader}
+use Rattle.rpc_record.proofs.Streams.{Upto-last}
+use Rattle.rpc_record.proofs.Places.{Upto-between, IsInside-at}
+use Rattle.rpc_record.proofs.Readers.{RefusedIn-now, Takes-broken}
+use Rattle.rpc_record.proofs.Told.{Tells-whole, Tells-broken}
+
+pub Stands-between : (reader : RecordReader) (bytes : List ℕ) (rs : List (List ℕ)) → IsBetween reader
+    → Stands reader bytes rs → (reader.content.items ≡ []) × IsWhole reader.limit rs bytes
+    × (reader.taken ≡ capped (length bytes))
+Stands-between reader bytes rs e h = subst (λ p. StandsAt reader.limit p reader.content.items reader.taken bytes rs) e h
+
+module _ (limit : ℕ) (rs : List (List ℕ)) (content bytes part : List ℕ) (none : content ≡ []) (w : IsWhole limit rs bytes)
+    (counted : IsContent part) (fits : length content + length part ≤ limit) where
+  -- it is whole
+  pub Whole-single : IsWhole limit (rs ++ (content ++ part) ∷ []) (bytes ++ fragment true part)
+  Whole-single = Upto-last limit rs content bytes part (Upto-between limit rs content bytes none w) counted
+      (omega (arith, length-append content part, fits))
+
+  inside_single : 0 < length part → IsInside limit rs (bytes ++ header true (length part))
+  inside_single some =
+      let head = header true (length part) in
+      let same : length part ≡ 0 + length part = omega arith in
+      let f : Fragment = record { left = length part; last = true; some = some } in
+      (IsInside-at limit (capped (length (bytes ++ head))) (place.Content f) content (bytes ++ head) rs tt (
+        record {
+          before = bytes;
+          first = content;
+          part = [];
+          upto = Upto-between limit rs content bytes none w;
+          joined = sym (append-nil content);
+          spelled = ap (λ b. bytes ++ b) (sym (append-nil head)) ∙ ap (λ k. bytes ++ (header true k ++ [])) same;
+          counted = omega (arith, counted);
+          fits = fits;
+        },
+        refl,
+      )).1
+
+  -- memory was refused for it
+  pub Refused-single : (n : ℕ) → 0 < length part → length part ≤ n → RefusedIn limit rs n (bytes ++ fragment true part)
+  Refused-single n some few =
+      let head = header true (length part) in
+      subst (λ b. RefusedIn limit rs n b) (append_assoc bytes head part)
+      (RefusedIn-now limit n rs (bytes ++ head) part some few (inside_single some))
+
+-- it stands at the front of a piece, and was taken or refused
+module _ (old new : RecordReader) (piece part : List ℕ) (same : limit_of new ≡ limit_of old)
+    (front : take (4 + length part) piece ≡ fragment true part) (within : 4 + length part ≤ length piece)
+    (takes : Takes old new (fragment true part)) (refuses : Refuses old new (fragment true part)) where
+  takes_front : Takes old new (take (4 + length part) piece)
+  takes_front = subst (λ b. Takes old new b) (sym front) takes
+
+  is_broken : (f : RecordFault) → new.place ≡ place.Broken f → IsBroken new f
+  is_broken f e = subst (λ p. IsBrokenAt p f) (sym e) refl
+
+  pub Feeds-single : (r : Result RecordStep RecordFault)
+      → IfOk r (λ s. (s ≡ step.Whole (4 + length part)) × IsWaiting new)
+      → IfErr r (λ f. (f ≡ fault.NoMemory) × (new.place ≡ place.Broken f)) → Feeds old new piece r
+  Feeds-single (Ok s) a b = subst (λ k. Feeds old new piece (Ok k)) (sym a.0)
+      (a.1, within, takes_front, λ taking. omega arith)
+  Feeds-single (Err f) a b = (
+    is_broken f b.1,
+    Takes-broken old new f (4 + length part) piece b.1 takes_front,
+    λ taking. subst IsFeedFault (sym b.0) tt,
+  )
+
+  pub Tells-single : (r : Result RecordStep RecordFault)
+      → IfOk r (λ s. (s ≡ step.Whole (4 + length part)) × IsWaiting new)
+      → IfErr r (λ f. (f ≡ fault.NoMemory) × (new.place ≡ place.Broken f)) → Tells old piece r
+  Tells-single (Ok s) a b = subst (λ k. Tells old piece (Ok k)) (sym a.0)
+      (Tells-whole old new (4 + length part) piece same a.1 takes_front)
+  Tells-single (Err f) a b = Tells-broken old new f (4 + length part) piece same (is_broken f b.1)
+      (Takes-broken old new f (4 + length part) piece b.1 takes_front)
+      (subst (λ b. Refuses old new b) (sym front) refuses)
