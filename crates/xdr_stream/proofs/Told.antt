@@ -1,6 +1,7 @@
 -- What a builder of values counts grows with what it is told.
 use Rattle.std.proofs.Common.{◌≡◌, ℕ, zero, suc, ◌+◌, ◌*◌, ◌^◌, ◌<◌, Bool, true, false, List, [], ◌∷◌, ◌++◌}
 use Rattle.std.proofs.Common.{length, refl, sym, ap, ◌∙◌, arith}
+use Rattle.std.proofs.lemmas.List.{length-append}
 use Rattle.std.specs.Int.{w32, from_be_bytes}
 use Rattle.xdr_types.specs.Tree as value
 use Rattle.xdr_types.specs.Tree.{Head, Tree, from_list}
@@ -9,6 +10,7 @@ use Rattle.xdr_types.specs.declared.value.Value.{Value}
 use Rattle.xdr_laws.specs.Held.{count_nodes, count_bytes, node_count, byte_count, bytes_in}
 use Rattle.xdr_stream.specs.Trace as trace
 use Rattle.xdr_stream.specs.Trace.{Trace, level, added, add, leaf_in, open_in, close_in, content_in, close_levels}
+use Rattle.xdr_stream.specs.Trace.{extend_in}
 use Rattle.xdr_stream.specs.Trace.{IsOpen, CanClose, CanCloseLevels, HasRoomAt, HasRoomIn, HasRoom, IsManyIn, TakesMany}
 use Rattle.xdr_stream.specs.Nodes.{head_of_leaf}
 use Rattle.xdr_stream.specs.Runs.{number_head, numbers_in}
@@ -191,6 +193,31 @@ tells_content b n v t made grown parents content counted kept told room =
     ∙ grown_level b (level_of n.work) w t [] told.trace same in
     tells_more b n t (content_in t) 1 0 is (nodes_added w t.levels room)
     (omega (arith, bytes_added w t.levels room)) counted (λ few. omega (arith, kept)) told
+
+pub none_there : (bs : List ℕ) → length bs ≡ 0 → bs ≡ []
+none_there [] e = refl
+none_there (b ∷ bs) e = absurd (omega (arith, e))
+
+-- content that came whole, where none had come before
+pub tells_whole : (b n : Values) (v : Value) (bs : List ℕ) (t : Trace) → b.content.items ≡ []
+    → tree v ≡ leaf_tree (value.bytes bs)
+    → level_of n.work ≡ level (level_of b.work).head (added (level_of b.work).head (level_of b.work).done (tree v))
+    → n.parents.items ≡ b.parents.items → n.content.items ≡ b.content.items
+    → (b.nodes + 1 < 2 ^ 64 → n.nodes ≡ b.nodes + 1)
+    → (b.kept + length bs < 2 ^ 64 → n.kept ≡ b.kept + length bs) → Tells b t → HasRoom t
+    → Tells n (content_in (extend_in bs t))
+tells_whole b n v bs t empty made grown parents content counted longer told room =
+    let none : t.content ≡ [] = ap (λ (x : Trace). x.content) (sym told.trace) ∙ empty in
+    let w : Tree = leaf_tree (value.bytes (t.content ++ bs)) in
+    let same = grown ∙ ap (λ (w : Tree). level (level_of b.work).head
+    (added (level_of b.work).head (level_of b.work).done w))
+    (made ∙ ap (λ (x : List ℕ). leaf_tree (value.bytes (x ++ bs))) (sym none)) in
+    let is : trace_of n ≡ content_in (extend_in bs t) =
+    ap (λ (ls : List Level). trace_at (level_of n.work ∷ levels_onto [] ls) n.content.items) parents
+    ∙ ap (λ (x : List ℕ). trace_at (level_of n.work ∷ levels_onto [] b.parents.items) x) (content ∙ empty)
+    ∙ grown_level b (level_of n.work) w t [] told.trace same in
+    tells_more b n t (content_in (extend_in bs t)) 1 (length bs) is (nodes_added w t.levels room)
+    (omega (arith, bytes_added w t.levels room, length-append t.content bs)) counted longer told
 
 pub tells_open : (b n : Values) (h : Head) (t : Trace) → trace_of n ≡ open_in h t
     → (b.nodes + 1 < 2 ^ 64 → n.nodes ≡ b.nodes + 1) → n.kept ≡ b.kept → Tells b t → Tells n (open_in h t)

@@ -25,7 +25,8 @@ pub enum Leaf {
 #[derive(Clone, Copy)]
 pub enum Node {
     Items(u32),
-    Fields,
+    /// So many fields, as the kind has.
+    Fields(usize),
     Tag(i64),
     Present,
 }
@@ -67,6 +68,11 @@ pub trait Build {
     /// The end of the content, which makes a node without parts.
     fn content(&mut self) -> Result<(), AllocError>
         ensures { OnOk result ((t : Trace) → tells self.old t → HasRoom t → tells self.new (content_in t)) };
+
+    /// Bytes of content and its end, which make a node without parts.
+    fn whole(&mut self, bytes: &[u8]) -> Result<(), AllocError>
+        ensures { OnOk result ((t : Trace) → tells self.old t → HasRoom t
+            → tells self.new (content_in (extend_in bytes.now t))) };
 
     /// Lets all of it go, as before any byte. It takes no memory.
     fn clear(&mut self)

@@ -49,6 +49,11 @@ impl Build for Nothing {
         Ok(())
     }
 
+    #[inline(always)]
+    fn whole(&mut self, _: &[u8]) -> Result<(), AllocError> {
+        Ok(())
+    }
+
     fn clear(&mut self) {}
 }
 

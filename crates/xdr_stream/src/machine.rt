@@ -168,7 +168,8 @@ pub(crate) fn begin<'s, B: Build>(
         match step_of(schema.kind(id)) {
             Step::Unit => return Ok(Awaits::Next),
             Step::Fields(fields) => {
-                open(work, parents, built, Node::Fields, Frame::Fields { fields })?;
+                let node = Node::Fields(fields.len());
+                open(work, parents, built, node, Frame::Fields { fields })?;
             }
             Step::Items { item, size } => {
                 let frame = Frame::Items { item, left: size };

@@ -17,7 +17,7 @@ use crate::frame::{Frame, after};
 use crate::machine::Awaits;
 use crate::reader::{Reader, State};
 use crate::run::{Run, run_due};
-use crate::unit::{are_zeros, end_content, take_unit};
+use crate::unit::{are_zeros, take_unit};
 use crate::whole::{Whole, content_due, is_field_after, unit_at, whole_there};
 
 impl<'s, B: Build + Drop> Reader<'s, B> {
@@ -65,7 +65,7 @@ impl<'s, B: Build + Drop> Reader<'s, B> {
     {
         let _known = self.schema.len();
         let _range = self.limits.depth();
-        match end_content(&mut self.built, &bytes[4..4 + whole.size]) {
+        match self.built.whole(&bytes[4..4 + whole.size]) {
             Ok(()) => {
                 self.work = after(self.work);
                 self.read = self.read.saturating_add(whole.all);
@@ -86,7 +86,7 @@ impl<'s, B: Build + Drop> Reader<'s, B> {
     {
         let _known = self.schema.len();
         let _range = self.limits.depth();
-        match end_content(&mut self.built, &bytes[4..4 + whole.size]) {
+        match self.built.whole(&bytes[4..4 + whole.size]) {
             Ok(()) => {
                 self.state = State::Fresh;
                 self.work = after(self.work);
@@ -180,7 +180,7 @@ impl<'s, B: Build + Drop> Reader<'s, B> {
             let room = (self.limits.bytes() as usize).saturating_sub(self.read);
             let n = whole_there(size, bytes.len(), room);
             if n > 0 && are_zeros(&bytes[size as usize..n]) {
-                match end_content(&mut self.built, &bytes[..size as usize]) {
+                match self.built.whole(&bytes[..size as usize]) {
                     Ok(()) => {
                         self.read = self.read.saturating_add(n);
                         self.settle(Awaits::Next);

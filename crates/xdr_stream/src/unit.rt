@@ -1,9 +1,8 @@
 //! What comes next after a whole unit, and what is read of it.
-ghost use Rattle.std.specs.Prelude.{◌≡◌, pos, length, IfOk, IfErr, OnOk};
+ghost use Rattle.std.specs.Prelude.{◌≡◌, pos, length, IfOk, IfErr};
 ghost use Rattle.xdr_units.specs.Numbers.{num4};
 ghost use Rattle.xdr_stream.specs.Frames.{left_of, stack_of};
 ghost use Rattle.xdr_stream.specs.Live.{IsLive};
-ghost use Rattle.xdr_stream.specs.Trace.{Trace, HasRoom, content_in, extend_in};
 ghost use Rattle.xdr_stream.specs.Sound.{IsSound, IsAwaited};
 ghost use Rattle.xdr_stream.specs.Sees.{TakesUnit, RefusesUnit, are_zeros};
 
@@ -11,7 +10,6 @@ use crate::build::{Build, Leaf};
 use crate::fault::Reason;
 use crate::frame::Frame;
 use crate::machine::{Awaits, take_number};
-use std::alloc::AllocError;
 use xdr_types::Schema;
 
 // The number of a unit.
@@ -30,16 +28,6 @@ pub(crate) fn are_zeros(bytes: &[u8]) -> bool
         [0, others @ ..] => are_zeros(others),
         [_, ..] => false,
     }
-}
-
-/// Takes the bytes of content that are left, and its end.
-#[inline(always)]
-pub(crate) fn end_content<B: Build>(built: &mut B, bytes: &[u8]) -> Result<(), AllocError>
-    ensures { OnOk result ((t : Trace) → B.tells built.old t → HasRoom t
-        → B.tells built.new (content_in (extend_in bytes.now t))) }
-{
-    built.extend(bytes)?;
-    built.content()
 }
 
 /// Takes a whole unit, and tells what comes next, before it is settled.

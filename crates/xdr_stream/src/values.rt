@@ -1,5 +1,5 @@
 //! The value that the nodes make.
-ghost use Rattle.std.specs.Prelude.{◌≡◌, ◌+◌, ◌≤◌, ℕ, List, [], ◌∷◌, length, take, drop, OnOk, MatchOption};
+ghost use Rattle.std.specs.Prelude.{◌≡◌, ◌+◌, ◌≤◌, ℕ, List, [], ◌∷◌, length, take, drop, OnOk, IfOk, MatchOption};
 ghost use Rattle.std.specs.Int.{w32, w64, from_be_bytes};
 ghost use Rattle.xdr_types.specs.Tree.{Tree, bytes, nothing};
 ghost use Rattle.xdr_types.specs.View.{tree};
@@ -171,18 +171,19 @@ fn hyper_at(bytes: &[u8], at: usize) -> u64
     ])
 }
 
+// A node that has begun. A structure has room for its fields; an array has none for the items that bytes declare.
 #[inline(always)]
-fn begun(alloc: Global, node: Node) -> Level
-    ensures { level_of result ≡ told (head_of_node node) [] }
+fn begun(alloc: Global, node: Node) -> Result<Level, AllocError>
+    ensures { IfOk result (λ l. level_of l ≡ told (head_of_node node) []) }
 {
     match node {
-        Node::Items(count) => Level::Items {
+        Node::Items(count) => Ok(Level::Items {
             count,
             items: Vec::new(alloc),
-        },
-        Node::Fields => Level::Fields(Vec::new(alloc)),
-        Node::Tag(tag) => Level::Choice { tag, part: None },
-        Node::Present => Level::Maybe(None),
+        }),
+        Node::Fields(count) => Ok(Level::Fields(Vec::with_capacity(alloc, count)?)),
+        Node::Tag(tag) => Ok(Level::Choice { tag, part: None }),
+        Node::Present => Ok(Level::Maybe(None)),
     }
 }
 
@@ -219,7 +220,8 @@ impl Build for Values {
     #[inline(always)]
     fn open(&mut self, node: Node) -> Result<(), AllocError> {
         self.parents.reserve(1)?;
-        let parent = std::mem::replace(&mut self.work, begun(self.alloc, node));
+        let level = begun(self.alloc, node)?;
+        let parent = std::mem::replace(&mut self.work, level);
         self.parents.push_reserved(parent);
         self.nodes = self.nodes.saturating_add(1);
         Ok(())
@@ -250,6 +252,20 @@ impl Build for Values {
         let content = std::mem::replace(&mut self.content, Vec::new(self.alloc));
         add(self.alloc, &mut self.work, content_value(content))?;
         self.nodes = self.nodes.saturating_add(1);
+        Ok(())
+    }
+
+    #[inline(always)]
+    fn whole(&mut self, bytes: &[u8]) -> Result<(), AllocError> {
+        if self.content.len() > 0 {
+            self.extend(bytes)?;
+            self.content()?;
+            return Ok(());
+        }
+        let copy = Vec::from_slice(self.alloc, bytes)?;
+        add(self.alloc, &mut self.work, content_value(copy))?;
+        self.nodes = self.nodes.saturating_add(1);
+        self.kept = self.kept.saturating_add(bytes.len());
         Ok(())
     }
 

@@ -30,7 +30,7 @@ returns-in-Ok-clause-stands g c = λ b state none st.
     let s : List KindView = a.schema.now.kinds in
     let w = c.args.whole in
     let H : Trace → Type 0 = g.B.Build.tells a.built in
-    let I : Trace → Type 0 = g.B.Build.tells c.end_content.new.built in
+    let I : Trace → Type 0 = g.B.Build.tells c.whole.new.self in
     let r = subst (λ (x : State). StandsAs s a.kind.place a.limits H (stack_of a.work a.parents.items) a.read a.unit
     a.pending x b) state st in
     let q : List ℕ = r.0 in

@@ -1,12 +1,12 @@
 use Rattle.std.proofs.Common.{◌≡◌, ◌+◌, ◌-◌, ◌<◌, ◌≤◌, ◌%◌, ℕ, List, ◌++◌, length, take, drop, subst, sym, ap, ◌∙◌}
 use Rattle.std.proofs.Common.{true}
-use Rattle.std.proofs.Common.{append_assoc, append-nil, arith, rules}
+use Rattle.std.proofs.Common.{arith}
 use Rattle.std.proofs.lemmas.List.{length-append, length-take, drop-take, take-take}
 use Rattle.xdr_types.specs.Fits.{are_bytes}
 use Rattle.xdr_stream.specs.Frames.{stack_of}
 use Rattle.xdr_stream.specs.Trace.{Trace, HasRoom, content_in, extend_in}
-use Rattle.xdr_stream.specs.Sees.{Sees, are_zeros}
-use Rattle.xdr_stream.specs.declared.machine.Awaits.TheVariants.{Next, Content}
+use Rattle.xdr_stream.specs.Sees.{are_zeros}
+use Rattle.xdr_stream.specs.declared.machine.Awaits.TheVariants.{Content}
 use Rattle.xdr_stream.proofs.Built.{With, seen_room}
 use Rattle.xdr_stream.proofs.Units.{whole_content, bytes_taken}
 use Rattle.xdr_stream.proofs.reader.Reader.take_whole.Goals as goal
@@ -15,7 +15,7 @@ pub returns-in-Ok-clause-stands : goal.returns-in-Ok-clause-stands
 returns-in-Ok-clause-stands g c = λ q len none live h.
     let a = c.args.self.now in
     let H : Trace → Type 0 = g.B.Build.tells a.built in
-    let I : Trace → Type 0 = g.B.Build.tells c.end_content.new.built in
+    let I : Trace → Type 0 = g.B.Build.tells c.whole.new.self in
     let size : ℕ = c.in-Content.size in
     let n : ℕ = c.whole_there-n.result in
     let e = c.whole_there-n.ensures in
