@@ -7,7 +7,7 @@ use Rattle.rpc_record.specs.Marked.{header, fragment, IsContent, Stream, OneLong
 use Rattle.rpc_record.specs.declared.place.Place.{Place}
 use Rattle.rpc_record.specs.declared.place.Place.TheVariants as place
 use Rattle.rpc_record.specs.declared.reader.RecordReader.{RecordReader}
-use Rattle.rpc_record.specs.Reading.{Upto, TooLongAt, HasNoLong, WholeHasNoLong, OneTooLong}
+use Rattle.rpc_record.specs.Reading.{Upto, TooLongAt, WholeHasNoLong, OneTooLong}
 use Rattle.rpc_record.specs.Fields.{StandsAt, IsTakingAt, begun_bytes}
 use Rattle.rpc_record.specs.Reading.{capped}
 use Rattle.rpc_record.specs.Stands.{Stands, IsTaking, limit_of}

@@ -1,12 +1,11 @@
 -- The records that a reader has met are those of the longest front that is a stream of records within the limit.
-use Rattle.std.proofs.Common.{◌≡◌, ℕ, suc, ◌+◌, ◌^◌, ◌<◌, Bool, true, false, List, [], ◌∷◌, ◌++◌, length, take, All}
+use Rattle.std.proofs.Common.{◌≡◌, ℕ, suc, ◌+◌, ◌^◌, ◌<◌, Bool, true, false, List, [], ◌∷◌, ◌++◌, length, All}
 use Rattle.std.proofs.Common.{refl, sym, ap, ◌∙◌, append_assoc, arith}
 use Rattle.xdr_units.proofs.Bytes.{same_front}
 use Rattle.rpc_record.proofs.Headers.{length-header}
 use Rattle.std.specs.List.{flat_map, concat}
 use Rattle.std.specs.Int.{w32, from_be_bytes}
 use Rattle.std.proofs.lemmas.Nat.{from_be_bytes-to_be_bytes_4}
-use Rattle.std.proofs.lemmas.List.{take_at, append_cancel_left}
 use Rattle.rpc_record.specs.Marked.{header, fragment, IsContent, Marked, OneReading}
 
 -- a header's number

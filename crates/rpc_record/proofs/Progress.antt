@@ -13,7 +13,7 @@ use Rattle.rpc_record.specs.declared.place.Place.TheVariants as place
 use Rattle.rpc_record.specs.declared.reader.RecordReader.{RecordReader}
 use Rattle.rpc_record.specs.Marked.{normal}
 use Rattle.rpc_record.specs.Reading.{IsWhole, IsInside, Begins, HasNoLong, Faulty, FaultyIn}
-use Rattle.rpc_record.specs.Fields.{IsBrokenAt, IsTakingAt, StandsAt}
+use Rattle.rpc_record.specs.Fields.{IsTakingAt, StandsAt}
 use Rattle.rpc_record.specs.Stands.{Stands, IsTaking, IsBroken, IsBetween, IsWaiting, TruncatedAt, limit_of}
 use Rattle.rpc_record.specs.Normalised.{IsCount, Normalised, StopsBy, Stops}
 use Rattle.rpc_record.specs.Private.Passing.{Cuts, Passed, CutBy}
