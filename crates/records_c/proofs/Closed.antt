@@ -1,5 +1,5 @@
 -- What a stream's end is told behind known bytes, and which pieces lead there.
-use Rattle.std.proofs.Common.{◌≡◌, ℕ, ◌<◌, ◌⊎◌, inl, inr, List, [], ◌∷◌, ◌++◌, length, take, refl}
+use Rattle.std.proofs.Common.{◌≡◌, ℕ, ◌<◌, ◌⊎◌, inl, inr, List, [], ◌∷◌, length, take, refl}
 use Rattle.std.proofs.Common.{ap, ◌∙◌, subst, length-append, arith, Option, Some}
 use Rattle.std.proofs.lemmas.List.{length-take}
 use Rattle.rpc_record.specs.declared.fault.RecordFault.{RecordFault}

@@ -1,12 +1,13 @@
 -- A stream of one record, followed over its pieces.
 use Rattle.std.proofs.Common.{◌≡◌, ◌≢◌, ℕ, ◌<◌, ◌≤◌, List, [], ◌∷◌, ◌++◌, length, take, drop, refl, sym, ap, ◌∙◌}
-use Rattle.std.proofs.Common.{subst, append_assoc, length-append, length-drop, arith, zero, suc, All, Option, Some}
+use Rattle.std.proofs.Common.{subst, append_assoc, length-append, length-drop, arith, Option, Some}
 use Rattle.std.proofs.lemmas.List.{append-nil, take_all, take-append-drop}
 use Rattle.rpc_record.specs.declared.fault.RecordFault.{RecordFault}
 use Rattle.rpc_record.specs.declared.fault.RecordFault.TheVariants as fault
-use Rattle.rpc_record.specs.Marked.{header, IsContent, Marked, Longest, NoneBeginsAnother, OneLongest}
+use Rattle.rpc_record.specs.Marked.{header, Marked, Longest, NoneBeginsAnother, OneLongest}
 use Rattle.rpc_record.specs.Reading.{IsWhole, FaultyIn, TooLongEnds, WholeHasNoLong, WholeIsLongest}
 use Rattle.rpc_record.proofs.Long.{only_memory}
+use Rattle.rpc_record.proofs.Streams.{Upto-none, Upto-first, Upto-last}
 use Rattle.records_c.specs.declared.answer.Answer.{Answer}
 use Rattle.records_c.specs.declared.answer.Answer.TheVariants as answer
 use Rattle.records_c.specs.Fed.{IsRead, IsRefused, IsFedAs, IsFedTo, IsFedBy}
@@ -115,11 +116,6 @@ module _ (apart : NoneBeginsAnother) (one : OneLongest) (longest : WholeIsLonges
       last_to at.reader by.0 at.limit_is at.taking at.stands left a ended known by.1 by.2.limit
       (subst (λ (w : Option (List ℕ)). IsFedAs w at.reader piece by.0 a) at.taking.0 by.2.fed)
 
--- all of one record
-pub one_is : (P : List ℕ → Type 0) (x : List ℕ) → P x → All P (x ∷ [])
-one_is P x p zero d lt = p
-one_is P x p (suc k) d lt = absurd (omega arith)
-
 abbrev pub abc : List ℕ
 abc = 97 ∷ 98 ∷ 99 ∷ []
 
@@ -130,15 +126,5 @@ bytes = 0 ∷ 0 ∷ 0 ∷ 2 ∷ 97 ∷ 98 ∷ 128 ∷ 0 ∷ 0 ∷ 1 ∷ 99 ∷ [
 pub abc_is_whole : IsWhole 3 (abc ∷ []) bytes
 unfolding header
 abc_is_whole =
-    let marked : Marked abc bytes = record {
-      firsts = (97 ∷ 98 ∷ []) ∷ [];
-      last = 99 ∷ [];
-      each = one_is IsContent (97 ∷ 98 ∷ []) (omega arith);
-      each_last = omega arith;
-      content = refl;
-      spelled = refl;
-    } in
-    record {
-      stream = (bytes, ([], (marked, refl, refl)));
-      within = one_is (λ r. length r ≤ 3) abc (omega arith);
-    }
+    let begun = Upto-first 3 [] [] [] (97 ∷ 98 ∷ []) (Upto-none 3) (omega arith) (omega arith) in
+    Upto-last 3 [] (97 ∷ 98 ∷ []) (0 ∷ 0 ∷ 0 ∷ 2 ∷ 97 ∷ 98 ∷ []) (99 ∷ []) begun (omega arith) (omega arith)

@@ -1,22 +1,21 @@
 -- The next record of a stream, which begins a piece.
-use Rattle.std.proofs.Common.{◌≡◌, ◌≢◌, ℕ, ◌≤◌, List, [], ◌∷◌, ◌++◌, length, take, drop, refl, sym, ap, ◌∙◌, subst}
-use Rattle.std.proofs.Common.{append_assoc, length-append, length-drop, arith, Option, Some, zero, suc, All}
+use Rattle.std.proofs.Common.{◌≡◌, ◌≢◌, ℕ, ◌≤◌, List, [], ◌∷◌, ◌++◌, length, take, drop, sym, ap, ◌∙◌, subst}
+use Rattle.std.proofs.Common.{append_assoc, length-append, length-drop, arith, Option, Some}
 use Rattle.std.proofs.lemmas.List.{append-nil, take-append-drop}
 use Rattle.std.proofs.lemmas.List.Elements.{All-push}
 use Rattle.std.proofs.Math.Seq.{take-append_seam}
 use Rattle.rpc_record.specs.declared.fault.RecordFault.{RecordFault}
 use Rattle.rpc_record.specs.declared.fault.RecordFault.TheVariants as fault
-use Rattle.rpc_record.specs.Marked.{header, IsContent, Marked, Stream, Longest}
+use Rattle.rpc_record.specs.Marked.{header, Marked, Stream, Longest}
 use Rattle.rpc_record.specs.Reading.{IsWhole, HasNoLong, FaultyIn}
 use Rattle.rpc_record.proofs.Long.{only_memory}
 use Rattle.rpc_record.proofs.Longest.{Marked-same}
-use Rattle.rpc_record.proofs.Streams.{Stream-push}
+use Rattle.rpc_record.proofs.Streams.{Stream-push, Marked-one, whole_none, whole_push}
 use Rattle.records_c.specs.declared.answer.Answer.{Answer}
 use Rattle.records_c.specs.declared.answer.Answer.TheVariants as answer
 use Rattle.records_c.specs.Fed.{IsRead, IsRefused, IsFedAs, IsFedTo, IsFedBy}
 use Rattle.records_c.specs.Held.{Held, limit_of, IsTaking, Waits, Stands}
 use Rattle.records_c.specs.Statuses.{status_of}
-use Rattle.records_c.proofs.Followed.{one_is}
 use Rattle.records_c.proofs.Told.{IsAt, Waiting}
 
 -- what follows whole records and makes one more is that one
@@ -98,47 +97,18 @@ one = 128 ∷ 0 ∷ 0 ∷ 1 ∷ 97 ∷ []
 abbrev pub empty : List ℕ
 empty = 128 ∷ 0 ∷ 0 ∷ 0 ∷ []
 
-none_are : (P : List ℕ → Type 0) → All P []
-none_are P k d lt = absurd (omega arith)
-
-two_are : (P : List ℕ → Type 0) (x y : List ℕ) → P x → P y → All P (x ∷ y ∷ [])
-two_are P x y p q zero d lt = p
-two_are P x y p q (suc zero) d lt = q
-two_are P x y p q (suc (suc k)) d lt = absurd (omega arith)
-
 pub one_marked : Marked (97 ∷ []) one
 unfolding header
-one_marked = record {
-  firsts = [];
-  last = 97 ∷ [];
-  each = none_are IsContent;
-  each_last = omega arith;
-  content = refl;
-  spelled = refl;
-}
+one_marked = Marked-one (97 ∷ []) (omega arith)
 
 pub empty_marked : Marked [] empty
 unfolding header
-empty_marked = record {
-  firsts = [];
-  last = [];
-  each = none_are IsContent;
-  each_last = omega arith;
-  content = refl;
-  spelled = refl;
-}
-
-pub none_whole : IsWhole 1 [] []
-none_whole = record { stream = refl; within = none_are (λ r. length r ≤ 1) }
+empty_marked = Marked-one [] (omega arith)
 
 pub one_whole : IsWhole 1 ((97 ∷ []) ∷ []) one
-one_whole = record {
-  stream = (one, ([], (one_marked, refl, refl)));
-  within = one_is (λ r. length r ≤ 1) (97 ∷ []) (omega arith);
-}
+unfolding header
+one_whole = whole_push 1 [] [] (97 ∷ []) (whole_none 1) (omega arith) (omega arith)
 
 pub both_whole : IsWhole 1 ((97 ∷ []) ∷ [] ∷ []) (one ++ empty)
-both_whole = record {
-  stream = (one, (empty, (one_marked, (empty, ([], (empty_marked, refl, refl))), refl)));
-  within = two_are (λ r. length r ≤ 1) (97 ∷ []) [] (omega arith) (omega arith);
-}
+unfolding header
+both_whole = whole_push 1 ((97 ∷ []) ∷ []) one [] one_whole (omega arith) (omega arith)

@@ -5,6 +5,7 @@ use Rattle.rpc_record.specs.declared.fault.RecordFault.TheVariants as flaw
 use Rattle.rpc_record.specs.declared.fault.RecordFault.{RecordFault}
 use Rattle.rpc_record.specs.Marked.{header, Marked}
 use Rattle.rpc_record.specs.Reading.{IsWhole, WholeIsLongest, WholeHasNoLong}
+use Rattle.rpc_record.proofs.Streams.{whole_none, whole_push}
 use Rattle.rpc_message.specs.declared.fault.ReplyFault.{ReplyFault}
 use Rattle.rpc_message.specs.declared.message.Reply.{Reply}
 use Rattle.rpc_message.specs.Message.{ReplyView, Accepted, Success}
@@ -17,11 +18,9 @@ use Rattle.rpc_engine.specs.Laws.{OneOutcome}
 
 -- ---- no bytes
 
-none_whole : IsWhole most_reply [] []
-none_whole = record { stream = refl; within = λ k d h. absurd (omega arith) }
-
 none_case : WholeIsLongest → WholeHasNoLong → (xid : ℕ) → IsOutcome xid [] (Truncated 0)
-none_case whole none xid = (refl, whole most_reply [] [] none_whole, none most_reply [] [] none_whole)
+none_case whole none xid =
+    let nothing = whole_none most_reply in (refl, whole most_reply [] [] nothing, none most_reply [] [] nothing)
 
 module _ (one : OneOutcome) (whole : WholeIsLongest) (none : WholeHasNoLong) (xid : ℕ) (left : Option (List ℕ))
     (told : left ≡ Some []) where
@@ -61,25 +60,8 @@ two_spelled = record {
 two_first : IsFirst two two_bytes
 unfolding header
 two_first =
-    let marked : Marked two two_bytes = record {
-      firsts = [];
-      last = two;
-      each = λ k d lt. absurd (omega arith);
-      each_last = omega arith;
-      content = refl;
-      spelled = refl;
-    } in
-    record {
-      whole = two_bytes;
-      more = [];
-      stream = (two_bytes, ([], (marked, refl, refl)));
-      within = one_within;
-      spelled = refl;
-    }
-  where
-    one_within : (k : ℕ) (d : List ℕ) → k < 1 → length (get_or (two ∷ []) k d) ≤ most_reply
-    one_within zero d lt = omega arith
-    one_within (suc k) d lt = absurd (omega (arith, lt))
+    let w = whole_push most_reply [] [] two (whole_none most_reply) (omega arith) (omega arith) in
+    record { whole = two_bytes; more = []; stream = w.stream; within = w.within; spelled = refl }
 
 other_case : IsOutcome 1 two_bytes (OtherXid 2)
 other_case = (two, (two_first, (two_reply, (two_spelled, refl)), λ e. omega (arith, e)))

@@ -6,6 +6,7 @@ use Rattle.rpc_record.specs.declared.fault.RecordFault.TheVariants as flaw
 use Rattle.rpc_record.specs.Marked.{header, OneLongest}
 use Rattle.rpc_record.specs.Reading.{IsWhole, WholeIsLongest, WholeHasNoLong, TooLongAt}
 use Rattle.rpc_record.proofs.Long.{long_first}
+use Rattle.rpc_record.proofs.Streams.{whole_none}
 use Rattle.rpc_rows.specs.Rows.{Row}
 use Rattle.rpc_engine.specs.declared.fault.ServeFault.TheVariants as fault
 use Rattle.rpc_engine.specs.declared.fault.Served.{Served}
@@ -30,14 +31,11 @@ run_none : (rows new : List Row) (netid : List ℕ) (ys : List Bool) (replies : 
 run_none rows new netid [] replies h = h
 run_none rows new netid (y ∷ ys) replies h = absurd h
 
-none_whole : IsWhole most_record [] []
-none_whole = record { stream = refl; within = λ k d h. absurd (omega arith) }
-
 pub nothing : OneLongest → WholeIsLongest → (netid : List ℕ) (rows new : List Row) (l m t u : Option (List ℕ))
     (served : Served) → Serves netid rows new l m t u served → l ≡ Some []
     → ((served.records ≡ 0) × (served.replies ≡ 0)) × (new ≡ rows)
 nothing one whole netid rows new l m t u served s told =
-    let none = records_are netid rows new l m t u served s [] told one whole [] none_whole in
+    let none = records_are netid rows new l m t u served s [] told one whole [] (whole_none most_record) in
     let run = run_none rows new netid s.refusals s.replies
     (subst (λ k. Run rows netid k s.refusals new s.replies) none s.run) in
     ((omega (arith, s.counted.records, ap length none), omega (arith, s.counted.answered, ap length run.1)), run.0)

@@ -5,15 +5,15 @@ use Rattle.std.specs.Prelude.{IfOk, IfErr}
 use Rattle.std.proofs.lemmas.List.{append-nil}
 use Rattle.xdr_units.specs.Numbers.{word, IsWord}
 use Rattle.xdr_units.proofs.Bytes.{same_word}
-use Rattle.rpc_message.specs.Message.{AuthView, ReplyView, WhyView, Accepted, Denied, RpcMismatch, AuthError}
+use Rattle.rpc_message.specs.Message.{AuthView, ReplyView, Accepted, Denied, RpcMismatch, AuthError}
 use Rattle.rpc_message.specs.declared.fault.ReplyFault.{ReplyFault}
 use Rattle.rpc_message.specs.declared.fault.ReplyFault.TheVariants as faults
 use Rattle.rpc_message.specs.declared.message.Reply.{Reply}
 use Rattle.rpc_message.specs.View.{reply_view}
 use Rattle.rpc_message.specs.Spelling.{auth, reply, status, IsAuth, IsReply, ReplyBytes}
 use Rattle.rpc_message.specs.Faults.{Place, Xid, MessageType, ReplyStat, AcceptStat, AcceptLow, AcceptHigh, RejectStat}
-use Rattle.rpc_message.specs.Faults.{RejectLow, RejectHigh, AuthStat, before, IsPlace, IsNoStatus, IsCut, IsCutAuth}
-use Rattle.rpc_message.specs.Faults.{IsOtherKind, HasBadStatus, HasBadAuth, HasRest, StandsIn}
+use Rattle.rpc_message.specs.Faults.{RejectLow, RejectHigh, AuthStat, before, IsPlace, IsNoStatus, IsCutAuth}
+use Rattle.rpc_message.specs.Faults.{IsOtherKind, StandsIn}
 use Rattle.rpc_examples.proofs.Told.{long_is_no_auth}
 
 -- this fault, or want of memory

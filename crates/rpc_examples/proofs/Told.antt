@@ -1,14 +1,11 @@
 -- What stands in the bytes of the examples.
-use Rattle.std.proofs.Common.{◌≡◌, ◌≢◌, ℕ, ◌<◌, ◌^◌, List, [], ◌∷◌, ◌++◌, length, get_or, Bool, true, false, Result, Ok}
-use Rattle.std.proofs.Common.{Err, refl, sym, ap, subst, ◌∙◌, arith, inl, inr}
+use Rattle.std.proofs.Common.{◌≡◌, ℕ, List, [], ◌∷◌, ◌++◌, length, get_or, Result, Ok}
+use Rattle.std.proofs.Common.{Err, refl, ap, arith, inl, inr}
 use Rattle.std.specs.Prelude.{OnErr, IsOk}
 use Rattle.xdr_units.specs.Numbers.{word, padded}
 use Rattle.xdr_units.proofs.Bytes.{same_word}
-use Rattle.rpc_message.specs.Message.{AuthView, CallView, ReplyView, Accepted, Denied}
-use Rattle.rpc_message.specs.declared.fault.ReplyFault.{ReplyFault}
-use Rattle.rpc_message.specs.declared.message.Reply.{Reply}
-use Rattle.rpc_message.specs.View.{reply_view}
-use Rattle.rpc_message.specs.Spelling.{auth, call, reply, IsAuth, CallBytes, ReplyBytes}
+use Rattle.rpc_message.specs.Message.{CallView}
+use Rattle.rpc_message.specs.Spelling.{auth, CallBytes}
 use Rattle.rpc_message.specs.Cases.{NoAuth, IsOtherVersion, IsBadCred, IsBadVerf, IsNoCall}
 
 -- the third word of a call is 2

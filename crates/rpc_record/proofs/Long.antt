@@ -10,6 +10,7 @@ use Rattle.rpc_record.specs.Reading.{TooLongAt, IsWhole, FaultyIn, IsFeedFault}
 use Rattle.rpc_record.proofs.Exact.{one_too_long}
 use Rattle.rpc_record.proofs.Headers.{length-header}
 use Rattle.rpc_record.proofs.Places.{Longest-long}
+use Rattle.rpc_record.proofs.Streams.{Upto-none}
 
 pub Marked-length : (r bytes : List ℕ) → Marked r bytes → 4 ≤ length bytes
 Marked-length r bytes m =
@@ -43,16 +44,7 @@ long_first limit count last more above fits = record {
   last = last;
   count = count;
   more = more;
-  upto = record {
-    whole = [];
-    firsts = [];
-    stream = refl;
-    within = λ k d lt. absurd (omega arith);
-    each = λ k d lt. absurd (omega arith);
-    fits = omega arith;
-    joined = refl;
-    spelled = refl;
-  };
+  upto = Upto-none limit;
   place = refl;
   counted = fits;
   passes = omega (arith, above);

@@ -4,7 +4,7 @@ use Rattle.std.proofs.Common.{subst, append_assoc, arith}
 use Rattle.std.specs.List.{flat_map, concat}
 use Rattle.std.proofs.lemmas.List.{append-nil, length_push}
 use Rattle.std.proofs.lemmas.List.Concat.{flat_map-append}
-use Rattle.std.proofs.lemmas.List.Elements.{All-push}
+use Rattle.std.proofs.lemmas.List.Elements.{All-nil, All-push}
 use Rattle.rpc_record.specs.Marked.{fragment, IsContent, Marked, Stream}
 use Rattle.rpc_record.specs.Reading.{Upto, IsWhole}
 
@@ -78,3 +78,24 @@ Upto-last limit rs content bytes part u h fits =
           (Stream-push rs u.whole _ (content ++ part) u.stream marked);
       within = All-push (λ r. length r ≤ limit) rs (content ++ part) u.within fits;
     }
+
+-- no bytes, and one more record that is one fragment
+pub whole_none : (limit : ℕ) → IsWhole limit [] []
+whole_none limit = record { stream = refl; within = All-nil (λ r. length r ≤ limit) }
+
+pub Marked-one : (r : List ℕ) → IsContent r → Marked r (fragment true r)
+Marked-one r h = record {
+  firsts = [];
+  last = r;
+  each = All-nil IsContent;
+  each_last = h;
+  content = refl;
+  spelled = refl;
+}
+
+pub whole_push : (limit : ℕ) (rs : List (List ℕ)) (bytes r : List ℕ) → IsWhole limit rs bytes → IsContent r
+    → length r ≤ limit → IsWhole limit (rs ++ r ∷ []) (bytes ++ fragment true r)
+whole_push limit rs bytes r w h fits = record {
+  stream = Stream-push rs bytes (fragment true r) r w.stream (Marked-one r h);
+  within = All-push (λ x. length x ≤ limit) rs r w.within fits;
+}

@@ -2,22 +2,16 @@
 use Rattle.std.proofs.Common.{◌≡◌, ℕ, ◌^◌, ◌<◌, ◌≤◌, suc, true, List, [], ◌∷◌, ◌++◌, length, refl, ap, ◌∙◌}
 use Rattle.std.proofs.Common.{length-append, arith}
 use Rattle.std.proofs.lemmas.List.{append-nil, nil_from_length}
-use Rattle.rpc_record.specs.Marked.{fragment, Marked, Stream, Within, normal, TwiceAsOnce}
+use Rattle.rpc_record.specs.Marked.{fragment, Stream, Within, normal, TwiceAsOnce}
 use Rattle.rpc_record.proofs.Longest.{one_reading}
+use Rattle.rpc_record.proofs.Streams.{Marked-one}
 use Rattle.rpc_record.proofs.Partial.{IsUnfinished-fragments, HasNoFragment-short}
 
 pub Stream-normal : (limit : ℕ) (rs : List (List ℕ)) → limit < 2 ^ 31 → Within limit rs → Stream rs (normal rs)
 Stream-normal limit [] h w = refl
 Stream-normal limit (r ∷ rs) h w =
     let room : length r ≤ limit = w 0 [] (omega arith) in
-    let marked : Marked r (fragment true r) = record {
-      firsts = [];
-      last = r;
-      each = λ k d lt. absurd (omega arith);
-      each_last = omega arith;
-      content = refl;
-      spelled = refl;
-    } in
+    let marked = Marked-one r (omega (arith, h, room)) in
     (fragment true r, (normal rs, (marked, Stream-normal limit rs h (λ k d lt. w (suc k) d (omega arith)), refl)))
 
 pub same_records : (limit : ℕ) (rs others : List (List ℕ)) (bytes : List ℕ) → Within limit rs → Within limit others

@@ -1,10 +1,11 @@
 -- The record that is handed out.
-use Rattle.std.proofs.Common.{◌≡◌, ℕ, ◌+◌, ◌^◌, ◌<◌, ◌≤◌, List, [], ◌∷◌, ◌++◌, take, drop, Option, Some, None, IfSome}
-use Rattle.std.proofs.Common.{Vec, Global, refl, sym, ap, ◌∙◌, subst, arith}
+use Rattle.std.proofs.Common.{◌≡◌, ℕ, List, [], ◌∷◌, ◌++◌, take, drop, Option, Some, None, IfSome}
+use Rattle.std.proofs.Common.{Vec, Global, sym, ap, ◌∙◌, subst, arith}
 use Rattle.std.proofs.lemmas.List.{append-nil, take-append-drop}
 use Rattle.rpc_record.specs.declared.reader.RecordReader.{RecordReader}
 use Rattle.rpc_record.specs.Marked.{header, Marked, NoneBeginsAnother}
 use Rattle.rpc_record.specs.Reading.{IsWhole}
+use Rattle.rpc_record.proofs.Streams.{Marked-one}
 use Rattle.rpc_record.specs.Stands.{Always, Stands, Takes, limit_of}
 
 -- 80000001 61
@@ -13,14 +14,7 @@ one_record = 128 ∷ 0 ∷ 0 ∷ 1 ∷ 97 ∷ []
 
 pub is_marked : Marked (97 ∷ []) one_record
 unfolding header
-is_marked = record {
-  firsts = [];
-  last = 97 ∷ [];
-  each = λ k d lt. absurd (omega arith);
-  each_last = omega arith;
-  content = refl;
-  spelled = refl;
-}
+is_marked = Marked-one (97 ∷ []) (omega arith)
 
 pub handed : NoneBeginsAnother → (old new : RecordReader) (used : ℕ) (o : Option (Vec ℕ Global)) → Stands old [] []
     → Takes old new (take used one_record)

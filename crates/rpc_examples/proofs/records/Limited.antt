@@ -1,20 +1,19 @@
 -- A record of as many bytes as the limit says.
-use Rattle.std.proofs.Common.{◌≡◌, ℕ, ◌<◌, ◌≤◌, List, [], ◌∷◌, length, Ok, Err, Result, IfErr, refl, subst, arith}
+use Rattle.std.proofs.Common.{◌≡◌, ℕ, List, [], ◌∷◌, length, Ok, Err, Result, IfErr, subst, arith}
 use Rattle.rpc_record.specs.declared.fault.RecordFault.{RecordFault}
 use Rattle.rpc_record.specs.declared.fault.RecordFault.TheVariants as fault
 use Rattle.rpc_record.specs.declared.fault.RecordStep.{RecordStep}
 use Rattle.rpc_record.specs.declared.reader.RecordReader.{RecordReader}
+use Rattle.rpc_record.specs.Marked.{header}
 use Rattle.rpc_record.specs.Reading.{TooLongAt, IsWhole, WholeHasNoLong}
 use Rattle.rpc_record.specs.Stands.{Stands, IsTaking, Feeds, Tells}
 use Rattle.rpc_record.proofs.Long.{only_memory}
-use Rattle.rpc_examples.proofs.records.Counted.{one_is}
-use Rattle.rpc_examples.proofs.records.Handed.{one_record, is_marked}
+use Rattle.rpc_record.proofs.Streams.{whole_none, whole_push}
+use Rattle.rpc_examples.proofs.records.Handed.{one_record}
 
 is_whole : IsWhole 1 ((97 ∷ []) ∷ []) one_record
-is_whole = record {
-  stream = (one_record, ([], (is_marked, refl, refl)));
-  within = one_is (λ r. length r ≤ 1) (97 ∷ []) (omega arith);
-}
+unfolding header
+is_whole = whole_push 1 [] [] (97 ∷ []) (whole_none 1) (omega arith) (omega arith)
 
 pub is_taken : WholeHasNoLong → (old new : RecordReader) (piece : List ℕ) (answer : Result RecordStep RecordFault)
     → old.limit ≡ 1 → piece ≡ one_record → IsTaking old → Stands old [] [] → Feeds old new piece answer

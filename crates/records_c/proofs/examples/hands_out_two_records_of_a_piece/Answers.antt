@@ -1,8 +1,9 @@
 -- The stream is followed from record to record.
 use Rattle.std.proofs.Common.{[], ◌∷◌, ◌++◌, sym, ap, ◌∙◌, arith}
+use Rattle.rpc_record.proofs.Streams.{whole_none}
 use Rattle.records_c.specs.declared.outcome.Outcome.{Outcome}
 use Rattle.records_c.specs.Statuses.{status_of, outcome_of}
-use Rattle.records_c.proofs.Next.{fed_next, one, empty, one_marked, empty_marked, none_whole, one_whole, both_whole}
+use Rattle.records_c.proofs.Next.{fed_next, one, empty, one_marked, empty_marked, one_whole, both_whole}
 use Rattle.records_c.proofs.Past.{taken}
 use Rattle.records_c.proofs.Told.{started, at_first}
 use Rattle.records_c.proofs.examples.hands_out_two_records_of_a_piece.Goals as goal
@@ -15,7 +16,7 @@ returns c = λ e first second.
     let g = c.oncrpc_records_feed-next.ensures in
     let short = c.too_long_ends_the_stream.ensures.none 1 ((97 ∷ []) ∷ [] ∷ []) (one ++ empty) both_whole in
     let h = started 1 _ s.0 s.1 (sym e ∙ s.2) in
-    let a = fed_next 1 [] (97 ∷ []) [] one empty none_whole one_marked (omega arith) short _ _ f.0
+    let a = fed_next 1 [] (97 ∷ []) [] one empty (whole_none 1) one_marked (omega arith) short _ _ f.0
     (λ is. first (f.2 ∙ is)) (at_first h) f.1 in
     let k = taken 1 one [] (97 ∷ []) _ _ _ _ t.0 a.1 t.1 c.requires in
     let b = fed_next 1 ((97 ∷ []) ∷ []) [] one empty [] one_whole empty_marked (omega arith) short _ _ g.0

@@ -1,4 +1,4 @@
-use Rattle.std.proofs.Common.{[], ◌∷◌}
+use Rattle.std.proofs.Common.{[]}
 use Rattle.rpc_record.specs.Marked.{header}
 use Rattle.rpc_examples.proofs.records.Counted.{counted, nothing_is_whole}
 use Rattle.rpc_examples.proofs.records.normalises_nothing.Goals as goal
