@@ -1,8 +1,7 @@
 -- What the reader in a handle does with a piece, where no record waits.
-use Rattle.std.proofs.Common.{◌≡◌, ℕ, false, List, [], ◌∷◌, ◌++◌, take, refl, ◌∙◌}
-use Rattle.std.proofs.Common.{subst, Ok, Err, Result, Option, None, Some, IfSome, Vec, Global}
+use Rattle.std.proofs.Common.{◌≡◌, ℕ, Bool, true, false, List, [], ◌∷◌, ◌++◌, take, refl, sym, ◌∙◌}
+use Rattle.std.proofs.Common.{subst, Ok, Err, Result, Some, Vec, Global}
 use Rattle.std.proofs.lemmas.Bool.{false≢true}
-use Rattle.std.specs.Option.{is_some}
 use Rattle.rpc_record.specs.declared.fault.RecordFault.{RecordFault}
 use Rattle.rpc_record.specs.declared.fault.RecordStep.{RecordStep}
 use Rattle.rpc_record.specs.declared.fault.RecordStep.TheVariants as step
@@ -11,7 +10,7 @@ use Rattle.rpc_record.specs.Reading.{IsWhole}
 use Rattle.rpc_record.specs.Stands.{Always, Feeds, Tells, Stays, Hands, limit_of}
 use Rattle.records_c.specs.declared.answer.Answer.TheVariants as answer
 use Rattle.records_c.specs.Fed.{IsFed}
-use Rattle.records_c.specs.Held.{content_of}
+use Rattle.records_c.specs.Held.{waiting_of}
 
 well_bad : {s : RecordStep} {f : RecordFault} → ◌≡◌ {A = Result RecordStep RecordFault} (Ok s) (Err f) → ⊥
 well_bad e = cc
@@ -20,13 +19,13 @@ refused_same : {f g : RecordFault} → ◌≡◌ {A = Result RecordStep RecordFa
     → answer.Refused f ≡ answer.Refused g
 refused_same e = cc
 
-pub more : (old new : RecordReader) (w : Option (Vec ℕ Global)) (piece : List ℕ) → false ≡ is_some w
+pub more : (old new : RecordReader) (w : Bool) (last piece : List ℕ) → w ≡ false
     → limit_of new ≡ limit_of old → Feeds old new piece (Ok step.More) → Tells old piece (Ok step.More)
     → Stays old (Ok step.More)
-    → IsFed (record { reader = old; waits = content_of w }) piece (record { reader = new; waits = content_of w })
+    → IsFed (record { reader = old; waits = waiting_of w last }) piece (record { reader = new; waits = waiting_of w last })
     answer.More
-more old new (Some v) piece e l feeds tells stays = absurd (false≢true e)
-more old new None piece e l feeds tells stays = record {
+more old new true last piece e l feeds tells stays = absurd (false≢true (sym e))
+more old new false last piece e l feeds tells stays = record {
   limit = l;
   fed = record {
     taking = (refl, feeds.0);
@@ -38,16 +37,14 @@ more old new None piece e l feeds tells stays = record {
 }
 
 -- the record that is whole is taken out of the reader, and waits
-pub whole : (old mid new : RecordReader) (w o : Option (Vec ℕ Global)) (piece : List ℕ) (used : ℕ)
-    → false ≡ is_some w
-    → limit_of mid ≡ limit_of old → limit_of new ≡ limit_of mid → Feeds old mid piece (Ok (step.Whole used))
-    → Stays old (Ok (step.Whole used)) → Hands mid new o
-    → IfSome o (λ v. Always mid (λ rs bytes. IsWhole (limit_of mid) (rs ++ v.items ∷ []) bytes))
-    → IsFed (record { reader = old; waits = content_of w }) piece (record { reader = new; waits = content_of o })
+pub whole : (old mid new : RecordReader) (w : Bool) (v : Vec ℕ Global) (last piece : List ℕ) (used : ℕ)
+    → w ≡ false → limit_of mid ≡ limit_of old → limit_of new ≡ limit_of mid → Feeds old mid piece (Ok (step.Whole used))
+    → Stays old (Ok (step.Whole used)) → Hands mid new (Some v)
+    → Always mid (λ rs bytes. IsWhole (limit_of mid) (rs ++ v.items ∷ []) bytes)
+    → IsFed (record { reader = old; waits = waiting_of w last }) piece (record { reader = new; waits = Some v.items })
     (answer.Whole used)
-whole old mid new (Some v) o piece used e l m feeds stays hands is = absurd (false≢true e)
-whole old mid new None None piece used e l m feeds stays hands is = absurd (hands.0 feeds.0)
-whole old mid new None (Some v) piece used e l m feeds stays hands is = record {
+whole old mid new true v last piece used e l m feeds stays hands is = absurd (false≢true (sym e))
+whole old mid new false v last piece used e l m feeds stays hands is = record {
   limit = m ∙ l;
   fed = record {
     content = v.items;
@@ -61,13 +58,12 @@ whole old mid new None (Some v) piece used e l m feeds stays hands is = record {
   again = λ f b. absurd (well_bad (stays.broken f b.1));
 }
 
-pub refused : (old new : RecordReader) (w : Option (Vec ℕ Global)) (piece : List ℕ) (f : RecordFault)
-    → false ≡ is_some w
-    → limit_of new ≡ limit_of old → Feeds old new piece (Err f) → Tells old piece (Err f) → Stays old (Err f)
-    → IsFed (record { reader = old; waits = content_of w }) piece (record { reader = new; waits = content_of w })
+pub refused : (old new : RecordReader) (w : Bool) (last piece : List ℕ) (f : RecordFault)
+    → w ≡ false → limit_of new ≡ limit_of old → Feeds old new piece (Err f) → Tells old piece (Err f) → Stays old (Err f)
+    → IsFed (record { reader = old; waits = waiting_of w last }) piece (record { reader = new; waits = waiting_of w last })
     (answer.Refused f)
-refused old new (Some v) piece f e l feeds tells stays = absurd (false≢true e)
-refused old new None piece f e l feeds tells stays = record {
+refused old new true last piece f e l feeds tells stays = absurd (false≢true (sym e))
+refused old new false last piece f e l feeds tells stays = record {
   limit = l;
   fed = record {
     broken = (refl, feeds.0);

@@ -18,14 +18,20 @@ use std::mem::replace;
 fn feed_to(alloc: Global, state: &mut State, piece: &[u8]) -> Answer
     ensures { IsFed (held_of state.old) piece.now (held_of state.new) result }
 {
-    if state.waiting.is_some() {
+    if state.waits {
         return Answer::Whole { count: 0 };
     }
     match state.reader.feed(piece) {
         Ok(RecordStep::More) => Answer::More,
         Ok(RecordStep::Whole { used }) => {
-            let room = replace(&mut state.room, Vec::new(alloc));
-            state.waiting = state.reader.take_with(room);
+            let room = replace(&mut state.last, Vec::new(alloc));
+            match state.reader.take_with(room) {
+                Some(whole) => {
+                    state.last = whole;
+                    state.waits = true;
+                }
+                None => {}
+            }
             Answer::Whole { count: used }
         }
         Err(fault) => Answer::Refused(fault),
