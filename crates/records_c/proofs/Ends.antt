@@ -1,9 +1,8 @@
 -- What the reader in a handle says of the stream's end, where no record waits.
-use Rattle.std.proofs.Common.{◌≡◌, ℕ, ◌⊎◌, inl, inr, false, List, ◌++◌, refl, sym, ap}
-use Rattle.std.proofs.Common.{◌∙◌, subst, Ok, Err, Option, None, Some, Vec, Global}
+use Rattle.std.proofs.Common.{◌≡◌, ℕ, ◌⊎◌, inl, inr, Bool, true, false, List, ◌++◌, refl, sym, ap}
+use Rattle.std.proofs.Common.{◌∙◌, subst, Ok, Err, Option, None}
 use Rattle.std.proofs.lemmas.Bool.{false≢true}
 use Rattle.std.proofs.lemmas.List.{append-nil}
-use Rattle.std.specs.Option.{is_some}
 use Rattle.rpc_record.specs.declared.fault.RecordFault.{RecordFault}
 use Rattle.rpc_record.specs.declared.fault.RecordFault.TheVariants as fault
 use Rattle.rpc_record.specs.declared.place.Place.{Place}
@@ -15,7 +14,7 @@ use Rattle.rpc_record.specs.Stands.{IsBetween, IsWaiting, IsTaking, IsBroken, Tr
 use Rattle.records_c.specs.declared.answer.Answer.TheVariants as answer
 use Rattle.records_c.specs.Ended.{IsEnded, IsCut}
 use Rattle.records_c.specs.Held as held
-use Rattle.records_c.specs.Held.{Held, content_of}
+use Rattle.records_c.specs.Held.{Held, waiting_of}
 
 -- one fault was answered at most, and none while bytes are taken
 one_fault : (p : Place) (f g : RecordFault) → IsBrokenAt p f → IsBrokenAt p g → f ≡ g
@@ -40,12 +39,12 @@ none_well reader f (inr e) b = subst (λ (p : Place). IsBrokenAt p f) e b
 abbrev kept : Option (List ℕ) → RecordReader → Held
 kept waits reader = record { reader = reader; waits = waits }
 
-pub well : (old new : RecordReader) (w : Option (Vec ℕ Global)) (u : Unit {0}) → false ≡ is_some w
+pub well : (old new : RecordReader) (w : Bool) (last : List ℕ) (u : Unit {0}) → w ≡ false
     → limit_of new ≡ limit_of old → Ends old new (Ok u) → Concludes old (Ok u)
-    → IsEnded (record { reader = old; waits = content_of w }) (record { reader = new; waits = content_of w })
+    → IsEnded (record { reader = old; waits = waiting_of w last }) (record { reader = new; waits = waiting_of w last })
     (answer.Whole 0)
-well old new (Some v) u e l ends says = absurd (false≢true e)
-well old new None u e l ends says = record {
+well old new true last u e l ends says = absurd (false≢true (sym e))
+well old new false last u e l ends says = record {
   limit = l;
   ended = (
     refl,
@@ -70,12 +69,12 @@ same : (old : RecordReader) (f g : RecordFault) → IsBroken old f ⊎ (IsTaking
 same old f g (inl b) c = one_fault old.place f g b c
 same old f g (inr t) c = absurd (none_taking old.place g t.0 c)
 
-pub bad : (old new : RecordReader) (w : Option (Vec ℕ Global)) (f : RecordFault) → false ≡ is_some w
+pub bad : (old new : RecordReader) (w : Bool) (last : List ℕ) (f : RecordFault) → w ≡ false
     → limit_of new ≡ limit_of old → Ends old new (Err f) → Concludes old (Err f)
-    → IsEnded (record { reader = old; waits = content_of w }) (record { reader = new; waits = content_of w })
+    → IsEnded (record { reader = old; waits = waiting_of w last }) (record { reader = new; waits = waiting_of w last })
     (answer.Refused f)
-bad old new (Some v) f e l ends says = absurd (false≢true e)
-bad old new None f e l ends says = record {
+bad old new true last f e l ends says = absurd (false≢true (sym e))
+bad old new false last f e l ends says = record {
   limit = l;
   ended = record {
     broken = (refl, ends.0);

@@ -1,17 +1,15 @@
 -- What the reader in a handle does with a piece, where no record waits.
-use Rattle.std.proofs.Common.{◌≡◌, ℕ, false, List, [], ◌∷◌, ◌++◌, take, refl, ◌∙◌}
-use Rattle.std.proofs.Common.{subst, Ok, Err, Result, Option, None, Some, IfSome, Vec, Global}
+use Rattle.std.proofs.Common.{◌≡◌, ℕ, Bool, true, false, List, refl, sym}
+use Rattle.std.proofs.Common.{Ok, Err, Result, Some}
 use Rattle.std.proofs.lemmas.Bool.{false≢true}
-use Rattle.std.specs.Option.{is_some}
 use Rattle.rpc_record.specs.declared.fault.RecordFault.{RecordFault}
 use Rattle.rpc_record.specs.declared.fault.RecordStep.{RecordStep}
 use Rattle.rpc_record.specs.declared.fault.RecordStep.TheVariants as step
 use Rattle.rpc_record.specs.declared.reader.RecordReader.{RecordReader}
-use Rattle.rpc_record.specs.Reading.{IsWhole}
-use Rattle.rpc_record.specs.Stands.{Always, Feeds, Tells, Stays, Hands, limit_of}
+use Rattle.rpc_record.specs.Stands.{Fills, IsFilled, Tells, Stays, limit_of}
 use Rattle.records_c.specs.declared.answer.Answer.TheVariants as answer
 use Rattle.records_c.specs.Fed.{IsFed}
-use Rattle.records_c.specs.Held.{content_of}
+use Rattle.records_c.specs.Held.{waiting_of}
 
 well_bad : {s : RecordStep} {f : RecordFault} → ◌≡◌ {A = Result RecordStep RecordFault} (Ok s) (Err f) → ⊥
 well_bad e = cc
@@ -20,13 +18,14 @@ refused_same : {f g : RecordFault} → ◌≡◌ {A = Result RecordStep RecordFa
     → answer.Refused f ≡ answer.Refused g
 refused_same e = cc
 
-pub more : (old new : RecordReader) (w : Option (Vec ℕ Global)) (piece : List ℕ) → false ≡ is_some w
-    → limit_of new ≡ limit_of old → Feeds old new piece (Ok step.More) → Tells old piece (Ok step.More)
+pub more : (old new : RecordReader) (w : Bool) (last last' piece room : List ℕ) → w ≡ false
+    → limit_of new ≡ limit_of old → Fills old new piece room (Ok step.More) → Tells old piece (Ok step.More)
     → Stays old (Ok step.More)
-    → IsFed (record { reader = old; waits = content_of w }) piece (record { reader = new; waits = content_of w })
+    → IsFed (record { reader = old; waits = waiting_of w last }) piece
+    (record { reader = new; waits = waiting_of w last' })
     answer.More
-more old new (Some v) piece e l feeds tells stays = absurd (false≢true e)
-more old new None piece e l feeds tells stays = record {
+more old new true last last' piece room e l feeds tells stays = absurd (false≢true (sym e))
+more old new false last last' piece room e l feeds tells stays = record {
   limit = l;
   fed = record {
     taking = (refl, feeds.0);
@@ -37,37 +36,34 @@ more old new None piece e l feeds tells stays = record {
   again = λ f b. absurd (well_bad (stays.broken f b.1));
 }
 
--- the record that is whole is taken out of the reader, and waits
-pub whole : (old mid new : RecordReader) (w o : Option (Vec ℕ Global)) (piece : List ℕ) (used : ℕ)
-    → false ≡ is_some w
-    → limit_of mid ≡ limit_of old → limit_of new ≡ limit_of mid → Feeds old mid piece (Ok (step.Whole used))
-    → Stays old (Ok (step.Whole used)) → Hands mid new o
-    → IfSome o (λ v. Always mid (λ rs bytes. IsWhole (limit_of mid) (rs ++ v.items ∷ []) bytes))
-    → IsFed (record { reader = old; waits = content_of w }) piece (record { reader = new; waits = content_of o })
+-- the record that is whole is handed out, and waits
+pub whole : (old new : RecordReader) (w : Bool) (last piece content : List ℕ) (used : ℕ) → w ≡ false
+    → limit_of new ≡ limit_of old → Fills old new piece content (Ok (step.Whole used))
+    → IsFilled old piece content (Ok (step.Whole used)) → Stays old (Ok (step.Whole used))
+    → IsFed (record { reader = old; waits = waiting_of w last }) piece (record { reader = new; waits = Some content })
     (answer.Whole used)
-whole old mid new (Some v) o piece used e l m feeds stays hands is = absurd (false≢true e)
-whole old mid new None None piece used e l m feeds stays hands is = absurd (hands.0 feeds.0)
-whole old mid new None (Some v) piece used e l m feeds stays hands is = record {
-  limit = m ∙ l;
+whole old new true last piece content used e l fills is stays = absurd (false≢true (sym e))
+whole old new false last piece content used e l fills is stays = record {
+  limit = l;
   fed = record {
-    content = v.items;
-    waits = (refl, hands.1);
-    within = feeds.1;
-    some = λ i. feeds.3 i.1;
-    takes = λ bytes rs s. hands.2 (bytes ++ take used piece) rs (feeds.2 bytes rs s);
-    whole = λ bytes rs s. subst (λ (n : ℕ). IsWhole n (rs ++ v.items ∷ []) (bytes ++ take used piece)) l
-        (is (bytes ++ take used piece) rs (feeds.2 bytes rs s));
+    content = content;
+    waits = (refl, fills.0);
+    within = fills.1;
+    some = λ i. fills.3 i.1;
+    takes = fills.2;
+    whole = is;
   };
   again = λ f b. absurd (well_bad (stays.broken f b.1));
 }
 
-pub refused : (old new : RecordReader) (w : Option (Vec ℕ Global)) (piece : List ℕ) (f : RecordFault)
-    → false ≡ is_some w
-    → limit_of new ≡ limit_of old → Feeds old new piece (Err f) → Tells old piece (Err f) → Stays old (Err f)
-    → IsFed (record { reader = old; waits = content_of w }) piece (record { reader = new; waits = content_of w })
+pub refused : (old new : RecordReader) (w : Bool) (last last' piece room : List ℕ) (f : RecordFault)
+    → w ≡ false → limit_of new ≡ limit_of old → Fills old new piece room (Err f)
+    → Tells old piece (Err f) → Stays old (Err f)
+    → IsFed (record { reader = old; waits = waiting_of w last }) piece
+    (record { reader = new; waits = waiting_of w last' })
     (answer.Refused f)
-refused old new (Some v) piece f e l feeds tells stays = absurd (false≢true e)
-refused old new None piece f e l feeds tells stays = record {
+refused old new true last last' piece room f e l feeds tells stays = absurd (false≢true (sym e))
+refused old new false last last' piece room f e l feeds tells stays = record {
   limit = l;
   fed = record {
     broken = (refl, feeds.0);

@@ -1,7 +1,5 @@
 -- What a reader of records holds, and the bytes and records that it stands for.
-use Rattle.std.specs.Prelude.{◌≡◌, ℕ, List, [], ◌∷◌, ◌++◌, Option, Some, None}
-use Rattle.std.specs.declared.vec.Vec.{Vec}
-use Rattle.std.specs.declared.alloc.Global.{Global}
+use Rattle.std.specs.Prelude.{◌≡◌, ℕ, Bool, true, false, List, [], ◌∷◌, ◌++◌, Option, Some, None}
 use Rattle.rpc_record.specs.Stands as reads
 use Rattle.rpc_record.specs.declared.fault.RecordFault.{RecordFault}
 use Rattle.rpc_record.specs.declared.reader.RecordReader.{RecordReader}
@@ -12,12 +10,13 @@ pub record Held : Type 0 where
   pub reader : RecordReader
   pub waits : Option (List ℕ)
 
-abbrev pub content_of : Option (Vec ℕ Global) → Option (List ℕ)
-content_of None = None
-content_of (Some v) = Some v.items
+-- this record, where it waits
+abbrev pub waiting_of : (waits : Bool) → (last : List ℕ) → Option (List ℕ)
+waiting_of true last = Some last
+waiting_of false last = None
 
 abbrev pub held_of : State → Held
-held_of s = record { reader = s.reader; waits = content_of s.waiting }
+held_of s = record { reader = s.reader; waits = waiting_of s.waits s.last.items }
 
 -- no record has more bytes
 abbrev pub limit_of : Held → ℕ

@@ -16,7 +16,7 @@ use std::alloc::Global;
 fn end_of(state: &mut State) -> Answer
     ensures { IsEnded (held_of state.old) (held_of state.new) result }
 {
-    if state.waiting.is_some() {
+    if state.waits {
         return Answer::Whole { count: 0 };
     }
     match state.reader.end() {

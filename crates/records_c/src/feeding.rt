@@ -12,20 +12,18 @@ use super::outcome::Outcome;
 use super::state::State;
 use rpc_record::RecordStep;
 use std::alloc::Global;
-use std::mem::replace;
 
 /// Feeds a piece, and keeps the record that is whole then beside the reader.
-fn feed_to(alloc: Global, state: &mut State, piece: &[u8]) -> Answer
+fn feed_to(state: &mut State, piece: &[u8]) -> Answer
     ensures { IsFed (held_of state.old) piece.now (held_of state.new) result }
 {
-    if state.waiting.is_some() {
+    if state.waits {
         return Answer::Whole { count: 0 };
     }
-    match state.reader.feed(piece) {
+    match state.reader.feed_into(piece, &mut state.last) {
         Ok(RecordStep::More) => Answer::More,
         Ok(RecordStep::Whole { used }) => {
-            let room = replace(&mut state.room, Vec::new(alloc));
-            state.waiting = state.reader.take_with(room);
+            state.waits = true;
             Answer::Whole { count: used }
         }
         Err(fault) => Answer::Refused(fault),
@@ -51,7 +49,7 @@ pub extern "C" fn oncrpc_records_feed(
 {
     let answer = match taken(alloc, handle) {
         Some(mut state) => {
-            let answer = feed_to(alloc, &mut state, piece);
+            let answer = feed_to(&mut state, piece);
             keep(alloc, handle, state);
             answer
         }

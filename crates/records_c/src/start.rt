@@ -26,8 +26,8 @@ fn start_in(alloc: Global, handle: &mut Records, limit: u32) -> Answer
     }
     let state = State {
         reader: RecordReader::start(alloc, limit),
-        waiting: None,
-        room: Vec::new(alloc),
+        waits: false,
+        last: Vec::new(alloc),
     };
     match Box::new(alloc, state) {
         Ok(state) => {

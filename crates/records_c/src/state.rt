@@ -5,7 +5,8 @@ use rpc_record::RecordReader;
 #[derive(Drop)]
 pub struct State {
     pub reader: RecordReader,
-    pub waiting: Option<Vec<u8>>,
-    /// Memory of a record that was taken, for one to come.
-    pub room: Vec<u8>,
+    /// Whether a record waits to be taken.
+    pub waits: bool,
+    /// The record that waits; where none does, memory for one to come.
+    pub last: Vec<u8>,
 }

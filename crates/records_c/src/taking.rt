@@ -17,14 +17,12 @@ use std::alloc::Global;
 fn take_into(state: &mut State, room: &mut [u8]) -> Answer
     ensures { IsTaken (held_of state.old) (held_of state.new) room.old room.new result }
 {
-    let answer = match &state.waiting {
-        Some(record) => place(record, room),
-        None => Answer::NoRecord,
-    };
+    if !state.waits {
+        return Answer::NoRecord;
+    }
+    let answer = place(&state.last, room);
     if let Answer::Whole { .. } = answer {
-        if let Some(record) = state.waiting.take() {
-            state.room = record;
-        }
+        state.waits = false;
     }
     answer
 }

@@ -48,6 +48,13 @@ Feeds old new piece (Ok (step.Whole used)) =
     IsWaiting new × (used ≤ length piece) × Takes old new (take used piece) × (IsTaking old → 0 < used)
 Feeds old new piece (Err f) = IsBroken new f × Takes old new piece × (IsTaking old → IsFeedFault f)
 
+-- what feeding a piece does where a record that is whole then is handed out
+abbrev pub Fills : RecordReader → RecordReader → List ℕ → (r : List ℕ) → Result RecordStep RecordFault → Type 0
+Fills old new piece r (Ok step.More) = IsTaking new × Takes old new piece
+Fills old new piece r (Ok (step.Whole used)) =
+    IsTaking new × (used ≤ length piece) × Moves old new (take used piece) (r ∷ []) × (IsTaking old → 0 < used)
+Fills old new piece r (Err f) = IsBroken new f × Takes old new piece × (IsTaking old → IsFeedFault f)
+
 -- whatever bytes the reader has taken and whatever records it has handed out, this holds of them
 abbrev pub Always : RecordReader → (List (List ℕ) → List ℕ → Type 0) → Type 0
 Always reader P = (bytes : List ℕ) (rs : List (List ℕ)) → Stands reader bytes rs → P rs bytes
@@ -67,6 +74,12 @@ Tells old piece (Ok (step.Whole used)) =
 Tells old piece (Err f) =
     After old piece (λ rs bytes.
     Faulty old.limit rs f bytes × (IsTaking old → FaultyIn old.limit rs f (length piece) bytes))
+
+-- the bytes taken are the records handed out before and this one, where one was
+abbrev pub IsFilled : RecordReader → List ℕ → (r : List ℕ) → Result RecordStep RecordFault → Type 0
+IsFilled old piece r (Ok (step.Whole used)) =
+    After old (take used piece) (λ rs bytes. IsWhole old.limit (rs ++ r ∷ []) bytes)
+IsFilled old piece r _ = Unit {0}
 
 -- A broken reader answers its fault, and one where a record waits takes nothing.
 pub record Stays (old : RecordReader) (result : Result RecordStep RecordFault) : Type 0 where

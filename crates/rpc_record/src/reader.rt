@@ -27,7 +27,8 @@ impl RecordReader {
     ghost use Rattle.std.specs.Prelude.{◌≡◌, ◌<◌, ◌^◌, ◌++◌, ◌↔◌, ℕ, List, [], ◌∷◌, length, take, true};
     ghost use Rattle.std.specs.Prelude.{IsTrue, IfSome, IfOk, IfErr};
     ghost use Rattle.rpc_record.specs.Stands.{Stands, Always, IsTaking, IsWaiting, IsBroken, limit_of};
-    ghost use Rattle.rpc_record.specs.Stands.{Takes, Feeds, Tells, Stays, Hands, Ends, Concludes, IsBetween};
+    ghost use Rattle.rpc_record.specs.Stands.{Takes, Feeds, Tells, Stays, Hands, Ends, Concludes};
+    ghost use Rattle.rpc_record.specs.Stands.{IsBetween, Moves, Fills, IsFilled};
     ghost use Rattle.rpc_record.specs.Private.Steps.{Refuses, IsFed, IsStepped};
     ghost use Rattle.rpc_record.specs.Marked.{Longest, header, fragment};
     ghost use Rattle.rpc_record.specs.Fields.{InHeader, begun_bytes};
@@ -73,7 +74,6 @@ impl RecordReader {
     /// Takes a record with this content that is one fragment. Where memory is refused for it, it is broken.
     fn take_single(&mut self, content: &[u8]) -> Result<RecordStep, RecordFault>
         requires between { IsBetween self.old }
-        requires some { 0 < length content.now }
         requires counted { length content.now < 2 ^ 31 }
         requires fits { vec_len self.old.content + length content.now ≤ limit_of self.old }
         ensures limit { limit_of self.new ≡ limit_of self.old }
@@ -94,6 +94,73 @@ impl RecordReader {
                 Err(RecordFault::NoMemory)
             }
         }
+    }
+
+    /// As `feed`, and a record that is whole then is handed out into the room, so that the next begins. The bytes of the
+    /// room are dropped. Its memory may be given to a record to come, and where none is whole its bytes are any.
+    pub fn feed_into(&mut self, piece: &[u8], room: &mut Vec<u8>) -> Result<RecordStep, RecordFault>
+        ensures limit { limit_of self.new ≡ limit_of self.old }
+        ensures fills { Fills self.old self.new piece.now room.new.items result }
+        ensures tells { Tells self.old piece.now result }
+        ensures content { IsFilled self.old piece.now room.new.items result }
+        ensures stays { Stays self.old result }
+    {
+        if let Place::Between = self.place {
+            if let Some(record) = single_record(piece) {
+                if record.len() <= self.limit as usize {
+                    return self.put_single(record, room);
+                }
+            }
+        }
+        self.hand_into(piece, room)
+    }
+
+    /// Takes a record with this content that is one fragment, and puts it into the room. Where memory is refused for
+    /// it, it is broken.
+    fn put_single(&mut self, content: &[u8], room: &mut Vec<u8>) -> Result<RecordStep, RecordFault>
+        requires between { IsBetween self.old }
+        requires counted { length content.now < 2 ^ 31 }
+        requires fits { length content.now ≤ limit_of self.old }
+        ensures limit { limit_of self.new ≡ limit_of self.old }
+        ensures whole { IfOk result (λ s. (s ≡ RecordStep.Whole (4 + length content.now))
+            × (room.new.items ≡ content.now) × IsBetween self.new
+            × Moves self.old self.new (fragment true content.now) (content.now ∷ [])) }
+        ensures refused { IfErr result (λ f. (f ≡ RecordFault.NoMemory) × (self.new.place ≡ place.Broken f)
+            × Takes self.old self.new (fragment true content.now)) }
+        ensures refuses { Refuses self.old self.new (fragment true content.now) }
+    {
+        room.clear();
+        match room.extend_from_slice(content) {
+            Ok(()) => {
+                let used = 4 + content.len();
+                self.taken = self.taken.saturating_add(used as u64);
+                Ok(RecordStep::Whole { used })
+            }
+            Err(_) => {
+                self.place = Place::Broken(RecordFault::NoMemory);
+                Err(RecordFault::NoMemory)
+            }
+        }
+    }
+
+    /// As `feed_into`, with the record taken out of the reader where it is whole.
+    #[inline(never)]
+    fn hand_into(&mut self, piece: &[u8], room: &mut Vec<u8>) -> Result<RecordStep, RecordFault>
+        ensures limit { limit_of self.new ≡ limit_of self.old }
+        ensures fills { Fills self.old self.new piece.now room.new.items result }
+        ensures tells { Tells self.old piece.now result }
+        ensures content { IsFilled self.old piece.now room.new.items result }
+        ensures stays { Stays self.old result }
+    {
+        let step = self.feed_on(piece)?;
+        if let RecordStep::Whole { .. } = step {
+            let memory = mem::replace(room, Vec::new(self.alloc));
+            match self.take_with(memory) {
+                Some(whole) => *room = whole,
+                None => {}
+            }
+        }
+        Ok(step)
     }
 
     /// Takes the bytes of a piece, as `feed`: a header at a time, and a fragment at a time.

@@ -4,9 +4,8 @@ ghost use Rattle.rpc_record.specs.Marked.{fragment};
 
 use super::header::heading_of;
 
-/// The record at the front of the bytes, where one fragment holds it, it has some byte, and its last is there.
+/// The content of the record at the front of the bytes, where one fragment holds it and its last byte is there.
 pub fn single_record(bytes: &[u8]) -> Option<&[u8]>
-    ensures some { IfSome result (λ r. 0 < length r.now) }
     ensures counted { IfSome result (λ r. length r.now < 2 ^ 31) }
     ensures front { IfSome result (λ r. take (4 + length r.now) bytes.now ≡ fragment true r.now) }
     ensures within { IfSome result (λ r. 4 + length r.now ≤ length bytes.now) }
@@ -15,7 +14,7 @@ pub fn single_record(bytes: &[u8]) -> Option<&[u8]>
         [a, b, c, d, rest @ ..] => {
             let heading = heading_of(*a, *b, *c, *d);
             let count = heading.count as usize;
-            if heading.last && 0 < count && count <= rest.len() {
+            if heading.last && count <= rest.len() {
                 Some(&rest[..count])
             } else {
                 None

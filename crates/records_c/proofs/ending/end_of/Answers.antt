@@ -4,9 +4,11 @@ use Rattle.records_c.proofs.ending.end_of.Goals as goal
 
 pub returns-in-Ok : goal.returns-in-Ok
 returns-in-Ok c =
-    let f = c.in-Ok.ensures in well _ _ c.args.state.now.waiting _ c.if-is_some.ensures f.limit f.ends f.concludes
+    let f = c.in-Ok.ensures in
+    well _ _ c.args.state.now.waits c.args.state.now.last.items _ c.if-state.false f.limit f.ends f.concludes
 
 pub returns-in-Err : goal.returns-in-Err
 returns-in-Err c =
     let f = c.in-Err.ensures in
-    bad _ _ c.args.state.now.waiting c.in-Err.fault c.if-is_some.ensures f.limit f.ends f.concludes
+    bad _ _ c.args.state.now.waits c.args.state.now.last.items c.in-Err.fault c.if-state.false f.limit f.ends
+    f.concludes

@@ -1,4 +1,4 @@
-use Rattle.std.proofs.Common.{◌≡◌, ◌++◌, ◌∷◌, [], true, length, sym, subst, length-append, arith}
+use Rattle.std.proofs.Common.{◌≡◌, ◌<◌, ◌++◌, ◌∷◌, [], true, length, sym, subst, ap, length-append, arith}
 use Rattle.rpc_record.specs.Marked.{header, fragment}
 use Rattle.rpc_record.specs.Reading.{IsWhole, capped}
 use Rattle.rpc_record.proofs.Headers.{length-header}
@@ -28,8 +28,9 @@ returns-in-Err-clause-takes c bytes rs h =
     let self = c.args.self.now in
     let part = c.args.content.now in
     let s = Stands-between self bytes rs c.requires.between h in
+    let some : 0 < length part = omega (arith, c.in-Err.ensures.full, ap length s.0) in
     Refused-single self.limit rs self.content.items bytes part s.0 s.1 c.requires.counted (omega
-    (arith, c.requires.fits)) (length (bytes ++ fragment true part)) c.requires.some (omega (
+    (arith, c.requires.fits)) (length (bytes ++ fragment true part)) some (omega (
       arith,
       length-append bytes (fragment true part),
       length-append (header true (length part)) part,
@@ -40,6 +41,7 @@ returns-in-Err-clause-refuses c broken taking bytes rs h =
     let self = c.args.self.now in
     let part = c.args.content.now in
     let s = Stands-between self bytes rs c.requires.between h in
+    let some : 0 < length part = omega (arith, c.in-Err.ensures.full, ap length s.0) in
     Refused-single self.limit rs self.content.items bytes part s.0 s.1 c.requires.counted (omega
-    (arith, c.requires.fits)) (length (fragment true part)) c.requires.some
+    (arith, c.requires.fits)) (length (fragment true part)) some
     (omega (arith, length-append (header true (length part)) part))
