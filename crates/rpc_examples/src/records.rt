@@ -79,6 +79,21 @@ pub fn hands_out_once_with(reader: &mut RecordReader, room: Vec<u8>) -> bool
     reader.take().is_none()
 }
 
+/// So it is where a record goes into a room with the piece that brings it: nothing waits after it.
+pub fn leaves_none_where_it_goes_into_a_room(
+    reader: &mut RecordReader,
+    piece: &[u8],
+    room: &mut Vec<u8>,
+) -> bool
+    ensures { result ≡ true }
+{
+    match reader.feed_into(piece, room) {
+        Ok(RecordStep::Whole { .. }) => reader.take().is_none(),
+        Ok(RecordStep::More) => reader.take().is_none(),
+        Err(_) => reader.take().is_none(),
+    }
+}
+
 /// While a record waits, a reader takes no more bytes.
 pub fn waits_to_be_taken(reader: &mut RecordReader, piece: &[u8]) -> Result<RecordStep, RecordFault>
     requires { IsWaiting reader.old }
@@ -108,6 +123,18 @@ pub fn hands_out_the_content(alloc: Global) -> Option<Vec<u8>>
         Ok(RecordStep::Whole { .. }) => reader.take(),
         _ => None,
     }
+}
+
+/// The record that goes into a room is the one that was marked: `80000001 61`.
+pub fn puts_the_content_into_a_room(
+    alloc: Global,
+    room: &mut Vec<u8>,
+) -> Result<RecordStep, RecordFault>
+    ensures { IfOk result (λ step. (used : ℕ) → step ≡ RecordStep.Whole used → room.new.items ≡ 97 ∷ []) }
+{
+    no_record_begins_another();
+    let mut reader = RecordReader::start(alloc, 100);
+    reader.feed_into(&[0x80, 0, 0, 1, 0x61], room)
 }
 
 /// The bytes that are used end with the record's last: they are one record, whatever follows in the piece.
