@@ -36,8 +36,8 @@ pub struct Values {
     pub kept: usize,
 }
 
-// One more finished part.
-fn add(alloc: Global, level: &mut Level, value: Value) -> Result<(), AllocError>
+// One more finished part of any node.
+fn add_any(alloc: Global, level: &mut Level, value: Value) -> Result<(), AllocError>
     ensures { OnOk result (level_of level.new ≡ told (level_of level.old).head
         (added (level_of level.old).head (level_of level.old).done (tree value))) }
 {
@@ -61,7 +61,20 @@ fn add_item(alloc: Global, level: &mut Level, value: Value) -> Result<(), AllocE
         items.push(value)?;
         return Ok(());
     }
-    add(alloc, level, value)
+    add_any(alloc, level, value)
+}
+
+// The same, where it is mostly a field or an item.
+#[inline(always)]
+fn add(alloc: Global, level: &mut Level, value: Value) -> Result<(), AllocError>
+    ensures { OnOk result (level_of level.new ≡ told (level_of level.old).head
+        (added (level_of level.old).head (level_of level.old).done (tree value))) }
+{
+    if let Level::Fields(items) = level {
+        items.push(value)?;
+        return Ok(());
+    }
+    add_item(alloc, level, value)
 }
 
 // The value of a finished node.
