@@ -123,14 +123,12 @@ impl<'a> Walk<'a> {
     fn take_unit(&mut self, next: Next<'a>, kind: &'a Kind) -> Result<(), AllocError>
         requires stands { (all : List Entry) × Stands self.old all }
         requires next { IsNext self.old next }
-        requires known { next.kind.place < length self.old.schema.now.kinds }
         requires kind { kind_view kind.now ≡ kind_at self.old.schema.now.kinds next.kind.place }
         requires unit { HasUnit (lead_of (kind_view kind.now)) }
         ensures stands { OnOk result ((all : List Entry) → Stands self.old all → Stands self.new all) }
         ensures more { OnOk result (length self.old.parts.items < length self.new.parts.items) }
         ensures bytes { OnOk result (self.new.bytes.now ≡ self.old.bytes.now) }
     {
-        let _known = self.schema.len();
         let number = unit_at(self.bytes, self.at);
         let Ok(made) = made_of(self.schema, kind, number) else {
             unreachable!();

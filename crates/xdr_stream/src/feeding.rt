@@ -8,7 +8,7 @@ ghost use Rattle.xdr_stream.specs.Sound.{IsAwaited};
 ghost use Rattle.xdr_stream.specs.Stands.{StandsFor, IsAwake, IsWaiting, IsSame, Answers, taken, used_of};
 ghost use Rattle.xdr_stream.specs.Run.{IsHypers};
 ghost use Rattle.xdr_stream.specs.declared.machine.Awaits.TheVariants.{Next, Content, Wide};
-ghost use Rattle.xdr_stream.specs.declared.reader.State.TheVariants.{Reading, Finished, Failed};
+ghost use Rattle.xdr_stream.specs.declared.reader.State.TheVariants.{Fresh, Reading, Finished, Failed};
 ghost use Rattle.xdr_stream.specs.declared.reader.Progress.TheVariants.{More, Done};
 
 use crate::build::Build;
@@ -53,6 +53,7 @@ impl<'s, B: Build + Drop> Reader<'s, B> {
     // Ends and begins what takes no byte, where this comes next after whole units.
     #[inline(always)]
     pub(crate) fn settle(&mut self, awaits: Awaits)
+        requires { self.old.state ≡ Fresh }
         ensures stands { (q : List ℕ) → length q ≡ self.old.read → self.old.pending ≡ 0 → IsLive awaits
             → Sees self.old.schema.now.kinds self.old.kind.place self.old.limits (B.tells self.old.built) awaits
             (stack_of self.old.work self.old.parents.items) q
@@ -61,7 +62,6 @@ impl<'s, B: Build + Drop> Reader<'s, B> {
         ensures pending { self.new.pending ≡ self.old.pending }
         ensures same { IsSame self.old self.new }
     {
-        self.state = State::Fresh;
         match awaits {
             Awaits::Next => match settle(
                 self.schema,

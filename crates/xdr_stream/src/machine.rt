@@ -13,7 +13,7 @@ ghost use Rattle.xdr_stream.specs.declared.machine.Awaits.TheVariants.{Next};
 use crate::build::{Build, Leaf, Node};
 use crate::fault::Reason;
 use crate::frame::{Frame, after, next};
-use crate::number::{Made, made_of};
+use crate::number::{Made, made_in};
 use crate::step::{Step, step_of};
 use std::alloc::AllocError;
 use xdr_types::{Kind, Limits, Schema};
@@ -212,7 +212,7 @@ pub(crate) fn take_number<'s, B: Build>(
         unreachable!();
     };
     let kind = schema.kind(id);
-    let made = match made_of(schema, kind, number) {
+    let made = match made_in(schema, kind, number) {
         Ok(made) => made,
         Err(why) => return Err(why),
     };

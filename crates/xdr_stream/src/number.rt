@@ -24,11 +24,10 @@ pub enum Made<'s> {
     Length(u32),
 }
 
-/// What the number in the first unit of a value makes of it, of a kind whose cases are legal, as each kind of a schema is.
+/// What the number in the first unit of a value makes of it.
 #[inline(always)]
 pub fn made_of<'s>(schema: &'s Schema, kind: &'s Kind, number: u32) -> Result<Made<'s>, Reason>
-    requires unit { HasUnit (lead_of (kind_view kind.now)) }
-    requires legal { has_illegal_case schema.now.kinds (kind_view kind.now) ≡ false }
+    requires { HasUnit (lead_of (kind_view kind.now)) }
     ensures { MatchResult result (Takes schema.now.kinds (kind_view kind.now) number)
         (Refuses schema.now.kinds (kind_view kind.now) number) }
 {
@@ -70,7 +69,7 @@ pub fn made_of<'s>(schema: &'s Schema, kind: &'s Kind, number: u32) -> Result<Ma
             };
             Ok(Made::Open(Node::Items(number), frame))
         }
-        Kind::Choice { tag, arms, other } => picked(schema, *tag, arms, other, number),
+        Kind::Choice { tag, arms, other } => chosen(schema, *tag, arms, other, number),
         Kind::Maybe { item } => match number {
             0 => Ok(Made::Leaf(Leaf::Absent)),
             1 => {
@@ -83,6 +82,24 @@ pub fn made_of<'s>(schema: &'s Schema, kind: &'s Kind, number: u32) -> Result<Ma
             _ => Err(Reason::BadBool),
         },
         _ => unreachable!(),
+    }
+}
+
+/// The same for a kind whose cases are legal, as each kind of a schema is.
+#[inline(always)]
+pub(crate) fn made_in<'s>(
+    schema: &'s Schema,
+    kind: &'s Kind,
+    number: u32,
+) -> Result<Made<'s>, Reason>
+    requires unit { HasUnit (lead_of (kind_view kind.now)) }
+    requires legal { has_illegal_case schema.now.kinds (kind_view kind.now) ≡ false }
+    ensures { MatchResult result (Takes schema.now.kinds (kind_view kind.now) number)
+        (Refuses schema.now.kinds (kind_view kind.now) number) }
+{
+    match kind {
+        Kind::Choice { tag, arms, other } => picked(schema, *tag, arms, other, number),
+        _ => made_of(schema, kind, number),
     }
 }
 

@@ -8,7 +8,7 @@ ghost use Rattle.xdr_stream.specs.Stands.{StandsFor, IsAwake, IsSame};
 ghost use Rattle.xdr_stream.specs.Run.{IsRun};
 ghost use Rattle.xdr_stream.specs.Whole.{IsWholeAt};
 ghost use Rattle.xdr_stream.specs.declared.machine.Awaits.TheVariants.{Next};
-ghost use Rattle.xdr_stream.specs.declared.reader.State.TheVariants.{Reading};
+ghost use Rattle.xdr_stream.specs.declared.reader.State.TheVariants.{Fresh, Reading};
 
 use crate::build::Build;
 use crate::fault::Reason;
@@ -18,7 +18,7 @@ use crate::machine::Awaits;
 use crate::reader::{Reader, State};
 use crate::run::{Run, run_due};
 use crate::unit::{are_zeros, take_unit};
-use crate::whole::{Whole, content_due, is_field_after, unit_at, whole_there};
+use crate::whole::{Whole, arm_due, field_due, unit_at, whole_there};
 
 impl<'s, B: Build + Drop> Reader<'s, B> {
     // Takes what comes first at a part: content that is there whole, a run of numbers, or a unit; tells how many bytes.
@@ -33,12 +33,12 @@ impl<'s, B: Build + Drop> Reader<'s, B> {
         ensures awake { self.old.state ≡ Reading Next → IsAwake self.new.state }
         ensures same { IsSame self.old self.new }
     {
-        if let Some(whole) = content_due(self.schema, self.work, self.limits, self.read, bytes) {
-            if is_field_after(self.schema, self.work) {
-                self.take_field(whole, bytes);
-            } else {
-                self.take_counted(whole, bytes);
-            }
+        if let Some(whole) = field_due(self.schema, self.work, self.limits, self.read, bytes) {
+            self.take_field(whole, bytes);
+            return whole.all;
+        }
+        if let Some(whole) = arm_due(self.schema, self.work, self.limits, self.read, bytes) {
+            self.take_arm(whole, bytes);
             return whole.all;
         }
         if let Some(run) = run_due(self.schema, self.work) {
@@ -76,7 +76,7 @@ impl<'s, B: Build + Drop> Reader<'s, B> {
 
     // Takes content that is there whole, and begins what comes next.
     #[inline(always)]
-    fn take_counted(&mut self, whole: Whole, bytes: &[u8])
+    fn take_arm(&mut self, whole: Whole, bytes: &[u8])
         requires { IsWholeAt self.old.schema.now.kinds (left_of self.old.work) self.old.limits self.old.read
             bytes.now whole }
         ensures stands { (b : List ℕ) → self.old.state ≡ Reading Next → self.old.pending ≡ 0
@@ -166,6 +166,7 @@ impl<'s, B: Build + Drop> Reader<'s, B> {
     // many bytes.
     #[inline(always)]
     fn take_whole(&mut self, awaits: Awaits, bytes: &[u8]) -> usize
+        requires { self.old.state ≡ Fresh }
         ensures stands { (q : List ℕ) → length q ≡ self.old.read → self.old.pending ≡ 0 → IsLive awaits
             → Sees self.old.schema.now.kinds self.old.kind.place self.old.limits (B.tells self.old.built) awaits
             (stack_of self.old.work self.old.parents.items) q

@@ -7,6 +7,7 @@ ghost use Rattle.xdr_stream.specs.Nodes.{head_of_leaf, head_of_node};
 ghost use Rattle.xdr_stream.specs.Runs.{number_head};
 ghost use Rattle.xdr_stream.specs.Sees.{make_wide};
 ghost use Rattle.xdr_stream.specs.Trace.{level as told, added, IsOpen, IsFilled};
+ghost use Rattle.xdr_stream.specs.Trace.{Trace, HasRoom, leaf_in, content_in, extend_in};
 ghost use Rattle.xdr_stream.specs.Values.{Tells, level_of, closed_tree, leaf_tree};
 
 use crate::build::{Build, Leaf, Node};
@@ -36,8 +37,8 @@ pub struct Values {
     pub kept: usize,
 }
 
-// One more finished part.
-fn add(alloc: Global, level: &mut Level, value: Value) -> Result<(), AllocError>
+// One more finished part of any node.
+fn add_any(alloc: Global, level: &mut Level, value: Value) -> Result<(), AllocError>
     ensures { OnOk result (level_of level.new ≡ told (level_of level.old).head
         (added (level_of level.old).head (level_of level.old).done (tree value))) }
 {
@@ -61,7 +62,20 @@ fn add_item(alloc: Global, level: &mut Level, value: Value) -> Result<(), AllocE
         items.push(value)?;
         return Ok(());
     }
-    add(alloc, level, value)
+    add_any(alloc, level, value)
+}
+
+// The same, where it is mostly a field or an item.
+#[inline(always)]
+fn add(alloc: Global, level: &mut Level, value: Value) -> Result<(), AllocError>
+    ensures { OnOk result (level_of level.new ≡ told (level_of level.old).head
+        (added (level_of level.old).head (level_of level.old).done (tree value))) }
+{
+    if let Level::Fields(items) = level {
+        items.push(value)?;
+        return Ok(());
+    }
+    add_item(alloc, level, value)
 }
 
 // The value of a finished node.
@@ -187,16 +201,41 @@ fn begun(alloc: Global, node: Node) -> Result<Level, AllocError>
     }
 }
 
+impl Values {
+    // Bytes of content behind others, and its end.
+    #[inline(never)]
+    fn end(&mut self, bytes: &[u8]) -> Result<(), AllocError>
+        ensures { OnOk result ((t : Trace) → Tells self.old t → HasRoom t
+            → Tells self.new (content_in (extend_in bytes.now t))) }
+    {
+        self.extend(bytes)?;
+        self.content()?;
+        Ok(())
+    }
+
+    // A node without parts, where it is mostly an item.
+    #[inline(always)]
+    fn item(&mut self, leaf: Leaf) -> Result<(), AllocError>
+        ensures { OnOk result ((t : Trace) → Tells self.old t → HasRoom t
+            → Tells self.new (leaf_in (head_of_leaf leaf) t)) }
+    {
+        add_item(self.alloc, &mut self.work, value_of(self.alloc, leaf))?;
+        self.nodes = self.nodes.saturating_add(1);
+        Ok(())
+    }
+}
+
 impl Build for Values {
     ghost tells = { λ b t. Tells b t };
 
     #[inline(always)]
     fn leaf(&mut self, leaf: Leaf) -> Result<(), AllocError> {
-        add(self.alloc, &mut self.work, value_of(self.alloc, leaf))?;
+        add_any(self.alloc, &mut self.work, value_of(self.alloc, leaf))?;
         self.nodes = self.nodes.saturating_add(1);
         Ok(())
     }
 
+    #[inline(never)]
     fn numbers(&mut self, signed: bool, units: &[u8]) -> Result<(), AllocError> {
         let mut at = 0;
         while at < units.len() {
@@ -208,10 +247,11 @@ impl Build for Values {
         Ok(())
     }
 
+    #[inline(never)]
     fn hypers(&mut self, signed: bool, units: &[u8]) -> Result<(), AllocError> {
         let mut at = 0;
         while at < units.len() {
-            self.leaf(hyper_leaf(signed, hyper_at(units, at)))?;
+            self.item(hyper_leaf(signed, hyper_at(units, at)))?;
             at += 8;
         }
         Ok(())
@@ -250,16 +290,15 @@ impl Build for Values {
     #[inline(always)]
     fn content(&mut self) -> Result<(), AllocError> {
         let content = std::mem::replace(&mut self.content, Vec::new(self.alloc));
-        add(self.alloc, &mut self.work, content_value(content))?;
+        add_any(self.alloc, &mut self.work, content_value(content))?;
         self.nodes = self.nodes.saturating_add(1);
         Ok(())
     }
 
-    #[inline(always)]
+    #[inline(never)]
     fn whole(&mut self, bytes: &[u8]) -> Result<(), AllocError> {
         if self.content.len() > 0 {
-            self.extend(bytes)?;
-            self.content()?;
+            self.end(bytes)?;
             return Ok(());
         }
         let copy = Vec::from_slice(self.alloc, bytes)?;

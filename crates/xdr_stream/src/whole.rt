@@ -7,7 +7,7 @@ ghost use Rattle.xdr_stream.specs.Frames.{left_of, rest_of};
 ghost use Rattle.xdr_stream.specs.Sound.{AreKnown, Starts};
 ghost use Rattle.xdr_stream.specs.Whole.{IsCounted, IsWhole, IsWholeAt};
 
-use crate::frame::{Frame, next};
+use crate::frame::Frame;
 use crate::step::{Step, step_of};
 use crate::unit::{are_zeros, number_of};
 use xdr_types::{Kind, KindId, Limits, Schema};
@@ -94,9 +94,40 @@ fn is_unit(schema: &Schema, kind: KindId) -> bool
     }
 }
 
-/// Content that comes next, where it is there whole.
+/// Content that is a field, where it is there whole, and the next field begins with a unit.
 #[inline(always)]
-pub(crate) fn content_due(
+pub(crate) fn field_due(
+    schema: &Schema,
+    work: Frame<'_>,
+    limits: Limits,
+    read: usize,
+    bytes: &[u8],
+) -> Option<Whole>
+    requires known { AreKnown schema.now.kinds (left_of work) }
+    requires there { 4 ≤ length bytes.now }
+    ensures whole { IfSome result (IsWholeAt schema.now.kinds (left_of work.entry) limits read bytes.now) }
+    ensures starts { IfSome result (λ _. Starts schema.now.kinds (rest_of (left_of work.entry))) }
+{
+    let _known = schema.len();
+    let Frame::Fields { fields } = work else {
+        return None;
+    };
+    let [first, second, ..] = fields else {
+        return None;
+    };
+    let Some(whole) = whole_of(schema.kind(first.kind), limits, read, bytes) else {
+        return None;
+    };
+    if is_unit(schema, second.kind) {
+        Some(whole)
+    } else {
+        None
+    }
+}
+
+/// Content that is the part of an arm, where it is there whole.
+#[inline(always)]
+pub(crate) fn arm_due(
     schema: &Schema,
     work: Frame<'_>,
     limits: Limits,
@@ -108,24 +139,8 @@ pub(crate) fn content_due(
     ensures { IfSome result (IsWholeAt schema.now.kinds (left_of work.entry) limits read bytes.now) }
 {
     let _known = schema.len();
-    let Some(kind) = next(&work) else {
+    let Frame::Arm { member } = work else {
         return None;
     };
-    whole_of(schema.kind(kind), limits, read, bytes)
-}
-
-/// Whether a field comes after the next one, and begins with a unit.
-#[inline(always)]
-pub(crate) fn is_field_after(schema: &Schema, work: Frame<'_>) -> bool
-    requires { AreKnown schema.now.kinds (left_of work) }
-    ensures { result ≡ true → Starts schema.now.kinds (rest_of (left_of work.entry)) }
-{
-    let _known = schema.len();
-    let Frame::Fields { fields } = work else {
-        return false;
-    };
-    match fields {
-        [_, second, ..] => is_unit(schema, second.kind),
-        _ => false,
-    }
+    whole_of(schema.kind(member.kind), limits, read, bytes)
 }

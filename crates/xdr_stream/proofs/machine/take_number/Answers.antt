@@ -26,8 +26,8 @@ kind-kind-requires g c = record {
       c.in-Some.ensures;
 }
 
-pub made_of-requires : goal.made_of-requires
-made_of-requires g c =
+pub made_in-requires : goal.made_in-requires
+made_in-requires g c =
     let s : List KindView = c.args.schema.now.kinds in
     let within = first_known s (left_of c.args.work.now) c.in-Some.id.place c.requires.sound.0 c.in-Some.ensures in
     record {

@@ -1,7 +1,6 @@
-use Rattle.std.proofs.Common.{◌≡◌, ℕ, ◌+◌, ◌≤◌, false, List, [], ◌∷◌, length, refl, sym, ap, subst}
+use Rattle.std.proofs.Common.{◌≡◌, ℕ, ◌+◌, ◌≤◌, List, [], ◌∷◌, length, refl, sym, ap, subst}
 use Rattle.xdr_types.specs.Kinds.{KindView, kind_at}
 use Rattle.xdr_types.specs.KindViews.{kind_view}
-use Rattle.xdr_types.specs.Faults.{has_illegal_case}
 use Rattle.xdr_types.specs.Layout.{Entry, entry}
 use Rattle.xdr_units.specs.Numbers.{gap}
 use Rattle.xdr_laws.specs.Owed.{lead_of, HasUnit, role_of}
@@ -9,7 +8,6 @@ use Rattle.xdr_laws.proofs.Content.{counted}
 use Rattle.xdr_stream.specs.Frames.{left_of, rest_of, onto}
 use Rattle.xdr_stream.specs.Taking.{Takes}
 use Rattle.xdr_stream.specs.declared.number.Made.{Made}
-use Rattle.xdr_stream.proofs.Cases.{cases_legal}
 use Rattle.xdr_parts.specs.Lent.{size_in, role_in}
 use Rattle.xdr_parts.specs.Private.Walking.{Stands, IsNext, part_of}
 use Rattle.xdr_parts.specs.declared.next.Next.{Next}
@@ -28,15 +26,6 @@ is_there w n k some next same unit =
 pub unit_at-number-requires : goal.unit_at-number-requires
 unit_at-number-requires c =
     is_there c.args.self.now c.args.next _ c.requires.stands c.requires.next c.requires.kind c.requires.unit
-
-pub made_of-requires : goal.made_of-requires
-made_of-requires c =
-    let s = c.args.self.now.schema.now in
-    record {
-      unit = c.requires.unit;
-      legal = subst (λ (f : KindView). has_illegal_case s.kinds f ≡ false) (sym c.requires.kind)
-          (cases_legal s c.len-known.ensures.well_formed c.args.next.kind.place c.requires.known);
-    }
 
 pub unreachable-requires : goal.unreachable-requires
 unreachable-requires c =

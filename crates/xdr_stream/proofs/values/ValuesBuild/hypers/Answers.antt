@@ -16,10 +16,10 @@ loop-at-preserved c =
       there,
       λ t told many.
           let before : Trace = hypers_in c.args.signed (take c.loop-at.at us) t in
-          subst (λ (x : Trace). Tells c.leaf.new.self x)
+          subst (λ (x : Trace). Tells c.item.new.self x)
           (ap (λ (k : Head). leaf_in k before) (c.hyper_leaf.ensures (take 8 (drop c.loop-at.at us)) c.hyper_at.ensures)
           ∙ sym (hypers_more c.args.signed c.loop-at.at us t i.0 there))
-          (c.in_ok-leaf.ensures before (i.2 t told many) (hypers_room c.args.signed (take c.loop-at.at us) t many)),
+          (c.in_ok-item.ensures before (i.2 t told many) (hypers_room c.args.signed (take c.loop-at.at us) t many)),
     )
 
 pub returns : goal.returns

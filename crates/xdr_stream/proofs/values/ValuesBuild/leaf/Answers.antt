@@ -4,5 +4,5 @@ use Rattle.xdr_stream.proofs.values.ValuesBuild.leaf.Goals as goal
 
 pub returns : goal.returns
 returns c = λ t told room.
-    tells_leaf c.args.self.now _ c.value_of.result c.args.leaf t c.value_of.ensures c.in_ok-add.ensures refl refl
+    tells_leaf c.args.self.now _ c.value_of.result c.args.leaf t c.value_of.ensures c.in_ok-add_any.ensures refl refl
     (λ few. omega (arith, c.saturating_add-self.ensures, few)) refl told room

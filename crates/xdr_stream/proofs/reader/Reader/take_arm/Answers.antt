@@ -12,7 +12,7 @@ use Rattle.xdr_stream.specs.declared.machine.Awaits.TheVariants.{Next}
 use Rattle.xdr_stream.specs.declared.reader.State.{State}
 use Rattle.xdr_stream.proofs.Units.{bytes_taken}
 use Rattle.xdr_stream.proofs.Wholes.{whole_seen, sound_rest}
-use Rattle.xdr_stream.proofs.reader.Reader.take_counted.Goals as goal
+use Rattle.xdr_stream.proofs.reader.Reader.take_arm.Goals as goal
 
 pub invariant_of-self : goal.invariant_of-self
 invariant_of-self g c =
