@@ -62,10 +62,9 @@ impl RecordReader {
         ensures stays { Stays self.old result }
     {
         if let Place::Between = self.place {
-            if let Some(record) = single_record(piece) {
-                if self.content.len() + record.len() <= self.limit as usize {
-                    return self.take_single(record);
-                }
+            let room = (self.limit as usize).saturating_sub(self.content.len()) as u32;
+            if let Some(record) = single_record(piece, &room) {
+                return self.take_single(record);
             }
         }
         self.feed_on(piece)
@@ -106,10 +105,8 @@ impl RecordReader {
         ensures stays { Stays self.old result }
     {
         if let Place::Between = self.place {
-            if let Some(record) = single_record(piece) {
-                if record.len() <= self.limit as usize {
-                    return self.put_single(record, room);
-                }
+            if let Some(record) = single_record(piece, &self.limit) {
+                return self.put_single(record, room);
             }
         }
         self.hand_into(piece, room)
