@@ -2,7 +2,8 @@
 use Rattle.std.proofs.Common.{◌≡◌, ℕ, ◌+◌, ◌^◌, ◌<◌, ◌≤◌, suc, Bool, false, List, [], ◌∷◌, ◌++◌, length, All, refl, sym}
 use Rattle.std.proofs.Common.{ap, ◌∙◌, subst, append_assoc, length-append, arith}
 use Rattle.std.specs.List.{flat_map, concat}
-use Rattle.std.proofs.lemmas.List.{append-nil, nil_from_length}
+use Rattle.std.proofs.lemmas.List.{append-nil}
+use Rattle.rpc_record.proofs.Streams.{begin_each_other}
 use Rattle.rpc_record.specs.Marked.{header, fragment, IsContent, Stream, OneLongest}
 use Rattle.rpc_record.specs.declared.place.Place.{Place}
 use Rattle.rpc_record.specs.declared.place.Place.TheVariants as place
@@ -60,14 +61,7 @@ pub Longest-same : OneLongest
 Longest-same limit rs others bytes h k =
     let more = h.only others k.whole k.part k.within k.stream k.spelled in
     let back = k.only rs h.whole h.part h.within h.stream h.spelled in
-    let short : length more.0 ≡ 0 = omega (
-      arith,
-      ap length more.1,
-      ap length back.1,
-      length-append others more.0,
-      length-append rs back.0,
-    ) in
-    more.1 ∙ ap (λ x. others ++ x) (nil_from_length more.0 short) ∙ append-nil others
+    begin_each_other rs others more.0 back.0 more.1 back.1
 
 -- the same stream up to a header that passes the limit, and up to a tail that has none
 apart : (limit at : ℕ) (rs others : List (List ℕ)) (content bytes before tail : List ℕ)

@@ -92,39 +92,31 @@ FaultyIn-other limit n m rs (fault.Write written) bytes k h = h
 FaultyIn-other limit n m rs fault.TooManyReads bytes k h = h
 FaultyIn-other limit n m rs fault.NoMemory bytes k h = k refl
 
-RefusedIn-room : (limit n m : ℕ) (rs : List (List ℕ)) (bytes : List ℕ) → n ≤ m → RefusedIn limit rs n bytes
-    → RefusedIn limit rs m bytes
-RefusedIn-room limit n m rs bytes e h = record {
+-- what is left of them says how few they may be
+RefusedIn-few : (limit n m : ℕ) (rs : List (List ℕ)) (bytes : List ℕ) (h : RefusedIn limit rs n bytes)
+    → length h.rest ≤ m → RefusedIn limit rs m bytes
+RefusedIn-few limit n m rs bytes h few = record {
   here = h.here;
   rest = h.rest;
   inside = h.inside;
   longest = h.longest;
   some = h.some;
-  few = omega (arith, h.few, e);
+  few = few;
   spelled = h.spelled;
 }
 
 -- it was refused somewhere in all of the bytes
 pub RefusedIn-all : (limit n : ℕ) (rs : List (List ℕ)) (bytes : List ℕ) → RefusedIn limit rs n bytes
     → RefusedIn limit rs (length bytes) bytes
-RefusedIn-all limit n rs bytes h = record {
-  here = h.here;
-  rest = h.rest;
-  inside = h.inside;
-  longest = h.longest;
-  some = h.some;
-  few = omega (arith, ap length h.spelled, length-append h.here h.rest);
-  spelled = h.spelled;
-}
+RefusedIn-all limit n rs bytes h =
+    RefusedIn-few limit n (length bytes) rs bytes h (omega (arith, ap length h.spelled, length-append h.here h.rest))
 
 pub FaultyIn-room : (limit n m : ℕ) (rs : List (List ℕ)) (f : RecordFault) (bytes : List ℕ) → n ≤ m
     → FaultyIn limit rs f n bytes → FaultyIn limit rs f m bytes
-FaultyIn-room limit n m rs (fault.TooLong at) bytes e h = h
-FaultyIn-room limit n m rs (fault.Truncated at) bytes e h = h
-FaultyIn-room limit n m rs fault.Read bytes e h = h
-FaultyIn-room limit n m rs (fault.Write written) bytes e h = h
-FaultyIn-room limit n m rs fault.TooManyReads bytes e h = h
-FaultyIn-room limit n m rs fault.NoMemory bytes e h = RefusedIn-room limit n m rs bytes e h
+FaultyIn-room limit n m rs f bytes e h =
+    FaultyIn-other limit n m rs f bytes
+    (λ is. let r = subst (λ g. FaultyIn limit rs g n bytes) is h in
+    RefusedIn-few limit n m rs bytes r (omega (arith, r.few, e))) h
 
 pub Stands-broken : (reader : RecordReader) (f : RecordFault) (bytes more : List ℕ) (rs : List (List ℕ))
     → reader.place ≡ place.Broken f → Stands reader bytes rs → Stands reader (bytes ++ more) rs

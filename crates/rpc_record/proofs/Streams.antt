@@ -1,8 +1,8 @@
 -- Streams of records, one fragment further.
 use Rattle.std.proofs.Common.{◌≡◌, ℕ, ◌+◌, ◌<◌, ◌≤◌, true, false, List, [], ◌∷◌, ◌++◌, length, refl, sym, ap, ◌∙◌}
-use Rattle.std.proofs.Common.{subst, append_assoc, arith}
+use Rattle.std.proofs.Common.{subst, append_assoc, length-append, arith}
 use Rattle.std.specs.List.{flat_map, concat}
-use Rattle.std.proofs.lemmas.List.{append-nil, length_push}
+use Rattle.std.proofs.lemmas.List.{append-nil, length_push, nil_from_length}
 use Rattle.std.proofs.lemmas.List.Concat.{flat_map-append}
 use Rattle.std.proofs.lemmas.List.Elements.{All-nil, All-push}
 use Rattle.rpc_record.specs.Marked.{fragment, IsContent, Marked, Stream}
@@ -78,6 +78,18 @@ Upto-last limit rs content bytes part u h fits =
           (Stream-push rs u.whole _ (content ++ part) u.stream marked);
       within = All-push (λ r. length r ≤ limit) rs (content ++ part) u.within fits;
     }
+
+-- two lists that begin each other are one
+pub begin_each_other : (rs others more back : List (List ℕ)) → rs ≡ others ++ more → others ≡ rs ++ back → rs ≡ others
+begin_each_other rs others more back e f =
+    let short : length more ≡ 0 = omega (
+      arith,
+      ap length e,
+      ap length f,
+      length-append others more,
+      length-append rs back,
+    ) in
+    e ∙ ap (λ k. others ++ k) (nil_from_length more short) ∙ append-nil others
 
 -- no bytes, and one more record that is one fragment
 pub whole_none : (limit : ℕ) → IsWhole limit [] []

@@ -1,10 +1,9 @@
 -- The normal form is a stream of the same records, and of no others.
-use Rattle.std.proofs.Common.{◌≡◌, ℕ, ◌^◌, ◌<◌, ◌≤◌, suc, true, List, [], ◌∷◌, ◌++◌, length, refl, ap, ◌∙◌}
-use Rattle.std.proofs.Common.{length-append, arith}
-use Rattle.std.proofs.lemmas.List.{append-nil, nil_from_length}
+use Rattle.std.proofs.Common.{◌≡◌, ℕ, ◌^◌, ◌<◌, ◌≤◌, suc, true, List, [], ◌∷◌, length, refl, ap}
+use Rattle.std.proofs.Common.{arith}
 use Rattle.rpc_record.specs.Marked.{fragment, Stream, Within, normal, TwiceAsOnce}
 use Rattle.rpc_record.proofs.Longest.{one_reading}
-use Rattle.rpc_record.proofs.Streams.{Marked-one}
+use Rattle.rpc_record.proofs.Streams.{Marked-one, begin_each_other}
 use Rattle.rpc_record.proofs.Partial.{IsUnfinished-fragments, HasNoFragment-short}
 
 pub Stream-normal : (limit : ℕ) (rs : List (List ℕ)) → limit < 2 ^ 31 → Within limit rs → Stream rs (normal rs)
@@ -21,14 +20,7 @@ same_records limit rs others bytes w v s t =
     (HasNoFragment-short limit 0 [] (omega arith)) in
     let more = one_reading limit rs bytes [] s none others bytes [] v t refl in
     let back = one_reading limit others bytes [] t none rs bytes [] w s refl in
-    let short : length more.0 ≡ 0 = omega (
-      arith,
-      ap length more.1,
-      ap length back.1,
-      length-append others more.0,
-      length-append rs back.0,
-    ) in
-    more.1 ∙ ap (λ k. others ++ k) (nil_from_length more.0 short) ∙ append-nil others
+    begin_each_other rs others more.0 back.0 more.1 back.1
 
 pub twice_as_once : TwiceAsOnce
 twice_as_once limit rs h w = (
