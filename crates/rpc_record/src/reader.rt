@@ -95,8 +95,8 @@ impl RecordReader {
         }
     }
 
-    /// As `feed`, and a record that is whole then is handed out into the room, so that the next begins. The bytes of the
-    /// room are dropped. Its memory may be given to a record to come, and where none is whole its bytes are any.
+    /// As `feed`, and a record that is whole then is handed out into the room, so that the next begins. The bytes of
+    /// the room are dropped. Its memory may be given to a record to come, and where none is whole its bytes are any.
     pub fn feed_into(&mut self, piece: &[u8], room: &mut Vec<u8>) -> Result<RecordStep, RecordFault>
         ensures limit { limit_of self.new ≡ limit_of self.old }
         ensures fills { Fills self.old self.new piece.now room.new.items result }
