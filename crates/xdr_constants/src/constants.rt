@@ -4,8 +4,8 @@ ghost use Rattle.std.specs.Prelude.{◌<◌, take};
 ghost use Rattle.xdr_tokens.specs.Due.{Gives};
 ghost use Rattle.xdr_grammar.specs.View.{late_of, entry_of};
 ghost use Rattle.xdr_constants.specs.Views.{known_of, knowns};
-ghost use Rattle.xdr_constants.specs.Constants.{unsigned, member_number, case_number, known, earlier, looked_up, size, limit};
-ghost use Rattle.xdr_constants.specs.Constants.{entry_number, numbers};
+ghost use Rattle.xdr_constants.specs.Constants.{unsigned, member_number, case_number, known, earlier, looked_up};
+ghost use Rattle.xdr_constants.specs.Constants.{size, limit, entry_number, numbers};
 
 use crate::constant_table::ConstantTable;
 use std::alloc::Global;

@@ -10,6 +10,6 @@ returns c = λ t told.
     (opened c.args.self.now.content.items c.args.self.now.work c.replace-parent.new.dest c.replace-parent.result
     c.args.self.now.parents.items c.reserve.new.self.items c.push_reserved.new.self.items
     (head_of_node c.args.node) t
-    (rw c.replace-parent.ensures.after c.in_ok-level.ensures) c.replace-parent.ensures.value c.in_ok-reserve.ensures.items
-    c.push_reserved.ensures.items told.trace)
+    (rw c.replace-parent.ensures.after c.in_ok-level.ensures) c.replace-parent.ensures.value
+    c.in_ok-reserve.ensures.items c.push_reserved.ensures.items told.trace)
     (λ few. omega (arith, c.saturating_add-self.ensures, few)) refl told
