@@ -14,6 +14,9 @@ use crate::build::{Build, Leaf, Node};
 use std::alloc::{AllocError, Global};
 use xdr_types::Value;
 
+/// The most fields that a structure has room for when it begins, so that a node takes little memory before its bytes.
+const MOST_ROOM: usize = 16;
+
 /// A node at work with its finished parts.
 #[derive(Drop)]
 pub enum Level {
@@ -185,7 +188,8 @@ fn hyper_at(bytes: &[u8], at: usize) -> u64
     ])
 }
 
-// A node that has begun. A structure has room for its fields; an array has none for the items that bytes declare.
+// A node that has begun. A structure has room for its fields, or the first of many; an array has none for the items
+// that bytes declare.
 #[inline(always)]
 fn begun(alloc: Global, node: Node) -> Result<Level, AllocError>
     ensures { IfOk result (λ l. level_of l ≡ told (head_of_node node) []) }
@@ -195,7 +199,10 @@ fn begun(alloc: Global, node: Node) -> Result<Level, AllocError>
             count,
             items: Vec::new(alloc),
         }),
-        Node::Fields(count) => Ok(Level::Fields(Vec::with_capacity(alloc, count)?)),
+        Node::Fields(count) => {
+            let room = count.min(MOST_ROOM);
+            Ok(Level::Fields(Vec::with_capacity(alloc, room)?))
+        }
         Node::Tag(tag) => Ok(Level::Choice { tag, part: None }),
         Node::Present => Ok(Level::Maybe(None)),
     }
