@@ -279,18 +279,22 @@ static void check_credentials(void) {
     judge(status == ONCRPC_NOT_AUTH_SYS && !auth.stamp && !auth.machine.at, status);
 }
 
-/* A stream of two records, "abc" in two fragments and one of no bytes, or its first bytes, and what its end is told. */
-static const uint8_t stream[] = {0, 0, 0, 1, 'a', 0x80, 0, 0, 2, 'b', 'c', 0x80, 0, 0, 0};
-static const char *contents[] = {"abc", ""};
+/* A stream of three records, "abc" in two fragments, one of no bytes, and "de" in one fragment, or its first bytes, and
+ * what its end is told. */
+static const uint8_t stream[] = {
+    0, 0, 0, 1, 'a', 0x80, 0, 0, 2, 'b', 'c', 0x80, 0, 0, 0, 0x80, 0, 0, 2, 'd', 'e'};
+static const char *contents[] = {"abc", "", "de"};
 static const struct { size_t count, taken; uint32_t limit, status, why; size_t at; } streams[] = {
+    {21, 3, 3, ONCRPC_OK, 0, 0},
     {15, 2, 3, ONCRPC_OK, 0, 0},
     {11, 1, 3, ONCRPC_OK, 0, 0},
     {0, 0, 0, ONCRPC_OK, 0, 0},
+    {20, 2, 3, ONCRPC_REFUSED, ONCRPC_TRUNCATED, 20},
     {14, 1, 3, ONCRPC_REFUSED, ONCRPC_TRUNCATED, 14},
     {10, 0, 3, ONCRPC_REFUSED, ONCRPC_TRUNCATED, 10},
     {1, 0, 3, ONCRPC_REFUSED, ONCRPC_TRUNCATED, 1},
-    {15, 0, 2, ONCRPC_REFUSED, ONCRPC_TOO_LONG, 5},
-    {15, 0, 0, ONCRPC_REFUSED, ONCRPC_TOO_LONG, 0},
+    {21, 0, 2, ONCRPC_REFUSED, ONCRPC_TOO_LONG, 5},
+    {21, 0, 0, ONCRPC_REFUSED, ONCRPC_TOO_LONG, 0},
 };
 
 /* The record that waits stays where the room is too small, and goes into one that is not, once. No byte is taken while
@@ -326,9 +330,9 @@ static size_t feed_stream(oncrpc_records *held, size_t count, size_t piece) {
         uint32_t status = oncrpc_records_feed(held, stream + at, size, &outcome);
         int is_failure = status == ONCRPC_REFUSED || status == ONCRPC_NO_MEMORY;
         if (status == ONCRPC_OK) {
-            judge(outcome.at && outcome.at <= size && tells(&outcome, outcome.at, 0) && taken < 2, status);
+            judge(outcome.at && outcome.at <= size && tells(&outcome, outcome.at, 0) && taken < 3, status);
             size = outcome.at;
-            take_next(held, contents[taken < 2 ? taken : 0]);
+            take_next(held, contents[taken < 3 ? taken : 0]);
             taken++;
         } else {
             judge(is_failure || (status == ONCRPC_MORE_WANTED && tells(&outcome, 0, 0)), status);

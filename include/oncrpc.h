@@ -475,7 +475,7 @@ typedef struct {
 
 /* Starts a reader in `records`, before the first byte of a stream whose records may have `limit` bytes, at most
  * ONCRPC_MOST_RECORD, and gives back what that held before. Of the stream it keeps one record at most, as it comes, and
- * the memory of the one before it, for the next. ONCRPC_OK. ONCRPC_BAD_LIMITS, _NO_MEMORY: it holds none. */
+ * the memory of an earlier one, for the next. ONCRPC_OK. ONCRPC_BAD_LIMITS, _NO_MEMORY: it holds none. */
 uint32_t oncrpc_records_start(oncrpc_records *records, uint32_t limit, oncrpc_outcome *outcome);
 
 /* Takes bytes of `piece`, which may be empty, up to the end of a record.

@@ -148,14 +148,23 @@ def deep_cases():
     yield Case("encode_to", writes=(1, 0), **kind), lambda told: (told.answer, told.streams) == ("Ok(16380)", [given])
 
 
+WIDE = b"struct s { s *next; " + b"".join(b"int a%d; " % number for number in range(1000)) + b"}; typedef s *wide;"
+
+
 def declared_cases():
-    """Lengths and counts of gibibytes, and a byte behind them, where there are 64 MiB."""
+    """Lengths and counts of gibibytes, and a byte behind them, and 2000 wide structures that have begun, where there are
+    64 MiB."""
     for text, name, piece in ((b"", "opaque", 1), (b"", "string", 4), (MORE, "big", 4), (MORE, "big", 1)):
         for engine in ("decoder", "checker"):
             case = Case(engine, (piece, 0), name=name, text=text, given=octets("ffffffff 61"))
             cut = fault_of("Truncated", 5)
             wanted = f"(({-(-5 // piece)}, Ok(More), Ok(More)), {cut}, 0)"
             yield case, lambda told, wanted=wanted: told.answer == wanted
+    for engine, piece in itertools.product(("decoder", "checker"), (4, 4096)):
+        given = word(1) * 2000
+        wanted = f"(({-(-8000 // piece)}, Ok(More), Ok(More)), {fault_of('Truncated', 8000)}, 0)"
+        case = Case(engine, (piece, 0), name="wide", text=WIDE, given=given)
+        yield case, lambda told, wanted=wanted: told.answer == wanted
     given = octets("ffffffff 61")
     yield Case("reader", (1, 0), setting=2147483647, given=given), handed_out(2147483647, given)
     yield Case("normalise", (1, 0), setting=2147483647, given=given), normalised(2147483647, given, (1, 0), (1, 0))
