@@ -3,3 +3,4 @@ pub mod Cut
 pub mod Refused
 pub mod Handed
 pub mod Limited
+pub mod Put

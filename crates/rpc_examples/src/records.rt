@@ -125,14 +125,16 @@ pub fn hands_out_the_content(alloc: Global) -> Option<Vec<u8>>
     }
 }
 
-/// The record that goes into a room is the one that was marked: `80000001 61`.
+/// The record that goes into a room is the one that was marked, `80000001 61`, and ends with the fifth byte.
 pub fn puts_the_content_into_a_room(
     alloc: Global,
     room: &mut Vec<u8>,
 ) -> Result<RecordStep, RecordFault>
-    ensures { IfOk result (λ step. (used : ℕ) → step ≡ RecordStep.Whole used → room.new.items ≡ 97 ∷ []) }
+    ensures whole { IfOk result (λ step. (step ≡ RecordStep.Whole 5) × (room.new.items ≡ 97 ∷ [])) }
+    ensures refused { IfErr result (λ f. f ≡ RecordFault.NoMemory) }
 {
     no_record_begins_another();
+    too_long_ends_the_stream();
     let mut reader = RecordReader::start(alloc, 100);
     reader.feed_into(&[0x80, 0, 0, 1, 0x61], room)
 }

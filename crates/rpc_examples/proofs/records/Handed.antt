@@ -1,15 +1,12 @@
 -- The record that is handed out.
-use Rattle.std.proofs.Common.{◌≡◌, ℕ, List, [], ◌∷◌, ◌++◌, take, drop, Option, Some, None, IfSome, IfOk}
-use Rattle.std.proofs.Common.{Result, Ok, Err, Vec, Global, sym, ap, ◌∙◌, subst, arith}
+use Rattle.std.proofs.Common.{◌≡◌, ℕ, List, [], ◌∷◌, ◌++◌, take, drop, Option, Some, None, IfSome}
+use Rattle.std.proofs.Common.{Vec, Global, sym, ap, ◌∙◌, subst, arith}
 use Rattle.std.proofs.lemmas.List.{append-nil, take-append-drop}
-use Rattle.rpc_record.specs.declared.fault.RecordFault.{RecordFault}
-use Rattle.rpc_record.specs.declared.fault.RecordStep.{RecordStep}
-use Rattle.rpc_record.specs.declared.fault.RecordStep.TheVariants as step
 use Rattle.rpc_record.specs.declared.reader.RecordReader.{RecordReader}
 use Rattle.rpc_record.specs.Marked.{header, Marked, NoneBeginsAnother}
 use Rattle.rpc_record.specs.Reading.{IsWhole}
 use Rattle.rpc_record.proofs.Streams.{Marked-one}
-use Rattle.rpc_record.specs.Stands.{Always, Stands, Takes, IsFilled, limit_of}
+use Rattle.rpc_record.specs.Stands.{Always, Stands, Takes, limit_of}
 
 -- 80000001 61
 abbrev pub one_record : List ℕ
@@ -19,16 +16,15 @@ pub is_marked : Marked (97 ∷ []) one_record
 unfolding header
 is_marked = Marked-one (97 ∷ []) (omega arith)
 
--- a record that is whole within it is that one
-whole_is : NoneBeginsAnother → (limit used : ℕ) (r : List ℕ) → IsWhole limit (r ∷ []) (take used one_record)
-    → r ≡ 97 ∷ []
+-- a record that is whole within it is that one, and all of it
+pub whole_is : NoneBeginsAnother → (limit used : ℕ) (r : List ℕ) → IsWhole limit (r ∷ []) (take used one_record)
+    → (97 ∷ [] ≡ r) × (drop used one_record ≡ [])
 whole_is apart limit used r whole =
     let w = whole.stream in
     let all : take used one_record ≡ w.0 = w.1.1.2 ∙ ap (λ k. w.0 ++ k) w.1.1.1 ∙ append-nil w.0 in
     let split : one_record ≡ w.0 ++ drop used one_record = sym (take-append-drop used one_record)
     ∙ ap (λ k. k ++ drop used one_record) all in
-    sym (apart r (97 ∷ []) w.0 (drop used one_record) w.1.1.0
-    (subst (λ b. Marked (97 ∷ []) b) split is_marked)).0
+    apart r (97 ∷ []) w.0 (drop used one_record) w.1.1.0 (subst (λ b. Marked (97 ∷ []) b) split is_marked)
 
 pub handed : NoneBeginsAnother → (old new : RecordReader) (used : ℕ) (o : Option (Vec ℕ Global)) → Stands old [] []
     → Takes old new (take used one_record)
@@ -36,11 +32,4 @@ pub handed : NoneBeginsAnother → (old new : RecordReader) (used : ℕ) (o : Op
     → IfSome o (λ v. v.items ≡ 97 ∷ [])
 handed apart old new used None s t h = tt
 handed apart old new used (Some v) s t h =
-    whole_is apart (limit_of new) used v.items (h (take used one_record) [] (t [] [] s))
-
-pub put : NoneBeginsAnother → (old : RecordReader) (r : List ℕ) (answer : Result RecordStep RecordFault)
-    → Stands old [] [] → IsFilled old one_record r answer
-    → IfOk answer (λ s. (used : ℕ) → s ≡ step.Whole used → r ≡ 97 ∷ [])
-put apart old r (Ok step.More) s f = λ used e. absurd cc
-put apart old r (Ok (step.Whole n)) s f = λ used e. whole_is apart (limit_of old) n r (f [] [] s)
-put apart old r (Err x) s f = tt
+    sym (whole_is apart (limit_of new) used v.items (h (take used one_record) [] (t [] [] s))).0

@@ -1,7 +1,17 @@
-use Rattle.rpc_examples.proofs.records.Handed.{put}
+use Rattle.std.proofs.Common.{refl}
+use Rattle.rpc_examples.proofs.records.Put.{put, put_refused}
 use Rattle.rpc_examples.proofs.records.puts_the_content_into_a_room.Goals as goal
 
-pub returns : goal.returns
-returns c =
-    put c.no_record_begins_another.ensures.apart c.start-reader.result c.feed_into.new.room.items c.feed_into.result
-    c.start-reader.ensures.stands c.feed_into.ensures.content
+pub returns-clause-whole : goal.returns-clause-whole
+returns-clause-whole c =
+    let start = c.start-reader.ensures in
+    let fed = c.feed_into.ensures in
+    put c.no_record_begins_another.ensures.apart c.start-reader.result c.feed_into.new.self _
+    c.feed_into.new.room.items c.feed_into.result start.limit refl start.stands fed.fills fed.tells fed.content
+
+pub returns-clause-refused : goal.returns-clause-refused
+returns-clause-refused c =
+    let start = c.start-reader.ensures in
+    let fed = c.feed_into.ensures in
+    put_refused c.too_long_ends_the_stream.ensures.none c.start-reader.result c.feed_into.new.self _
+    c.feed_into.new.room.items c.feed_into.result start.limit refl start.taking start.stands fed.fills fed.tells
