@@ -16,8 +16,7 @@ use Rattle.xdr_grammar.specs.Private.Reading.{arguments_with, result_with, proce
 use Rattle.xdr_grammar.specs.Private.Reading.{const_at, typedef_with, defined_with, definition_at, definitions_at}
 use Rattle.xdr_grammar.specs.Private.Reading.{int_at, inner_word_at}
 use Rattle.xdr_constants.specs.Constants.{known, earlier, looked_up, size, limit, entry_number, numbers}
-use Rattle.xdr_lang.specs.LookUp.{type_named}
-use Rattle.xdr_lang.specs.LookUp.{named_place}
+use Rattle.xdr_lang.specs.LookUp.{type_named, named_place}
 use Rattle.xdr_lang.specs.Kinds.{each_onto, where_given, one_member, one_case, one_field, one_arm, one_kind}
 use Rattle.xdr_lang.specs.Programs.{signature, one_procedure, one_version, one_program}
 use Rattle.xdr_lang.specs.Distinct.{has_name, repeats, has_number, repeats_number, has_pair, repeats_pair, kind_repeats}
