@@ -2,8 +2,10 @@
 use crate::codec::calls::{
     checking, counted_held, fed, finished, held, judged, limits, started, widest,
 };
-use crate::schema::{BOOL, OPAQUE, all_kinds};
+use crate::schema::{BOOL, MANY, OPAQUE, all_kinds};
+use growths::bytes;
 use std::alloc::Global;
+use std::env::Env;
 use std::process::Abort;
 use xdr_codec::{DecodeFault, Held, Progress, Reason};
 use xdr_types::{Kind, KindId, Limits, Schema};
@@ -107,6 +109,28 @@ fn holds_the_item_that_is_due(rt: HostRuntime) {
         holding(2, 2, 0, 0),
     )];
     check(&rt, alloc, &schema, 1, widest(&rt), steps);
+}
+
+// How many bytes of memory a decoder asks for with the count of an array, where something counts them.
+fn asked_with(
+    rt: &(impl Abort + Env),
+    alloc: Global,
+    schema: &Schema,
+    count: &[u8],
+) -> Option<u64> {
+    let mut decoder = started(rt, alloc, schema, MANY, widest(rt));
+    let before = bytes(rt)?;
+    let _ = fed(&mut decoder, count);
+    let after = bytes(rt)?;
+    Some(after.saturating_sub(before))
+}
+
+#[test]
+fn asks_for_nothing_for_a_declared_count(rt: HostRuntime) {
+    let alloc = rt.alloc();
+    let schema = all_kinds(&rt, alloc);
+    let one = asked_with(&rt, alloc, &schema, &[0, 0, 0, 1]);
+    assert!(rt; asked_with(&rt, alloc, &schema, &[0, 0, 15, 160]) == one);
 }
 
 #[test]
