@@ -16,7 +16,7 @@ examples.";
 pub const VERSION: &str = "0.1.0";
 
 /// The product's version, and the line of the prover that accepts it.
-pub const LONG_VERSION: &str = "0.1.0\nproved with rattle-kit-13b logic dac8208d650f15bf";
+pub const LONG_VERSION: &str = "0.1.0\nproved with rattle-kit-13f logic dac8208d650f15bf";
 
 /// The statuses of each command.
 pub const STATUSES: &str = "Exit status:

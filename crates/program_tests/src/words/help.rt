@@ -77,7 +77,7 @@ const OF_ALL: [&str; 11] = [
 ];
 
 // The product's line and the prover's.
-const OF_VERSION: [&str; 2] = ["oncrpc 0.1.0\n", "rattle-kit-13b logic dac8208d650f15bf\n"];
+const OF_VERSION: [&str; 2] = ["oncrpc 0.1.0\n", "rattle-kit-13f logic dac8208d650f15bf\n"];
 
 // Words, and what their answer says.
 const SAID: [(Words, &[&str]); 9] = [
