@@ -1,7 +1,7 @@
 -- The five cases of a message that is read as a call (RFC 5531 section 9).
 use Rattle.std.specs.Prelude.{◌≡◌, ◌⊎◌, ◌≢◌, ℕ, ◌<◌, List, ◌++◌, length}
 use Rattle.rpc_message.specs.Message.{AuthView, CaseView, Whole, OtherVersion, BadCred, BadVerf, NotACall}
-use Rattle.xdr_units.specs.Numbers.{word, IsWord}
+use Rattle.xdr_units.specs.Numbers.{word, AreBytes, IsWord}
 use Rattle.rpc_message.specs.Spelling.{auth, IsAuth, CallBytes}
 
 -- No opaque_auth stands in front: it is cut, too long or has other padding (section 8.2).
@@ -66,3 +66,7 @@ IsCase bytes (OtherVersion xid version) = IsOtherVersion xid version bytes
 IsCase bytes (BadCred xid) = IsBadCred xid bytes
 IsCase bytes (BadVerf xid) = IsBadVerf xid bytes
 IsCase bytes NotACall = IsNoCall bytes
+
+-- No bytes are in two of the cases.
+abbrev pub NoTwoCases : Type 0
+NoTwoCases = (bytes : List ℕ) (j k : CaseView) → AreBytes bytes → IsCase bytes j → IsCase bytes k → j ≡ k

@@ -4,7 +4,7 @@ ghost use Rattle.std.specs.Prelude.{◌≡◌, ◌↔◌, List, ℕ};
 ghost use Rattle.rpc_message.specs.Message.{AuthSysView, CallView, CaseView, ReplyView};
 ghost use Rattle.xdr_units.specs.Numbers.{AreBytes};
 ghost use Rattle.rpc_message.specs.Spelling.{AuthSysBytes, CallBytes, ReplyBytes};
-ghost use Rattle.rpc_message.specs.Cases.{IsCase};
+ghost use Rattle.rpc_message.specs.Cases.{IsCase, NoTwoCases};
 
 /// Two calls are equal exactly if their bytes are (RFC 5531 section 9).
 pub fn call_bytes_are_exact()
@@ -26,5 +26,5 @@ pub fn five_cases()
     // One of them applies,
     ensures covering { (bytes : List ℕ) → AreBytes bytes → (k : CaseView) × IsCase bytes k }
     // and no two of them.
-    ensures exclusive { (bytes : List ℕ) (j k : CaseView) → AreBytes bytes → IsCase bytes j → IsCase bytes k → j ≡ k }
+    ensures exclusive { NoTwoCases }
 {}
