@@ -88,7 +88,7 @@ head_fails bytes d fits e =
                     kind = b.0.0;
                     rest = b.0.1;
                     fits = (t0.1, t1.1);
-                    other = eqb-false _ _ (guard_fails (eqb b.0.0 0) NotAReply (a.0.0, c.0.0, c.0.1) d c.2);
+                    other = eqb-false _ _ (guard_fails (eqb b.0.0 0) NotAReply (a.0.0, c.0.0, c.0.1) d c.2).0;
                     parts = t0.0.parts ∙ ap (λ (t : List ℕ). word a.0.0 ++ t) t1.0.parts;
                   }))
                 ]

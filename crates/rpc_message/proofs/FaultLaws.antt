@@ -22,19 +22,16 @@ use Rattle.rpc_message.specs.Private.Reading.{auth_at}
 use Rattle.rpc_message.specs.Private.Reading.{bounds_at, status_at, why_at, accepted_at, denied_at, reply_stat_at}
 use Rattle.rpc_message.specs.Private.Reading.{reply_at}
 use Rattle.rpc_message.proofs.FieldLaws.{bind_err, ok_no_err, err_is, failed, guard_fails, word_takes, word_fails}
-use Rattle.rpc_message.proofs.FieldLaws.{zeros_are, are_zeros-replicate, body_at, auth_takes}
+use Rattle.rpc_message.proofs.FieldLaws.{zeros_are, are_zeros-replicate, short_padding, whole_padding, body_at}
+use Rattle.rpc_message.proofs.FieldLaws.{auth_takes}
 use Rattle.rpc_message.proofs.ReplyLaws.{after_kind}
 
 -- ---- steps that fail
 
-last_fails : {A : Type 0} (b : Bool) (f d : ReplyFault) (x : A) → cond b (Ok x) (Err f) ≡ Err d → d ≡ f
-last_fails true f d x e = absurd (ok_no_err x d e)
-last_fails {A} false f d x e = sym (err_is {A = A} f d e)
-
 ended_fails : {A : Type 0} (rest : List ℕ) (x : A) (d : ReplyFault) → ended rest x ≡ Err d
     → (d ≡ faults.Rest) × (b : ℕ) × (more : List ℕ) × (rest ≡ b ∷ more)
 ended_fails [] x d e = absurd (ok_no_err x d e)
-ended_fails (b ∷ more) x d e = (last_fails (eqb (length (b ∷ more)) 0) faults.Rest d x e, b, more, refl)
+ended_fails (b ∷ more) x d e = ((guard_fails (eqb (length (b ∷ more)) 0) faults.Rest x d e).1, b, more, refl)
 
 cond_either : {A : Type 0} (b : Bool) (x y : Result A ReplyFault) (d : ReplyFault) → cond b x y ≡ Err d
     → ((b ≡ true) × (x ≡ Err d)) ⊎ ((b ≡ false) × (y ≡ Err d))
@@ -65,12 +62,6 @@ record WrongPadding (n : ℕ) (bytes : List ℕ) : Type 0 where
   wrong : filling ≢ replicate (length filling) 0
   parts : bytes ≡ filling ++ rest
 
-abbrev short_padding : List ℕ → Result (List ℕ) ReplyFault
-short_padding bytes = cond (are_zeros bytes) (Err faults.Truncated) (Err faults.BadAuth)
-
-abbrev whole_padding : ℕ → List ℕ → Result (List ℕ) ReplyFault
-whole_padding n bytes = cond (are_zeros (take (gap n) bytes)) (Ok (drop (gap n) bytes)) (Err faults.BadAuth)
-
 padding_fails : (n : ℕ) (bytes : List ℕ) (d : ReplyFault) → padding_at n bytes ≡ Err d
     → CutOr d (CutPadding n bytes) (WrongPadding n bytes)
 unfolding padding_at
@@ -100,17 +91,15 @@ padding_fails n bytes d e =
           ]
       | inr s ↦
           let filling = take (gap n) bytes in
+          let w = guard_fails (are_zeros filling) faults.BadAuth (drop (gap n) bytes) d s.1 in
           inr (
-            last_fails (are_zeros filling) faults.BadAuth d
-                (drop (gap n) bytes) s.1,
+            w.1,
             record {
               filling = filling;
               rest = drop (gap n) bytes;
               size = omega (arith, length-take (gap n) bytes);
-              wrong =
-                  not_zeros filling (guard_fails (are_zeros filling) faults.BadAuth (drop (gap n) bytes) d s.1);
-              parts =
-                  sym (take-append-drop (gap n) bytes);
+              wrong = not_zeros filling w.0;
+              parts = sym (take-append-drop (gap n) bytes);
             },
           )
     ]

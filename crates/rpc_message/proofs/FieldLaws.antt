@@ -63,9 +63,9 @@ guard_cut false d x f e = absurd (ok_no_err x f e)
 
 -- a test that failed
 pub guard_fails : {A : Type 0} (b : Bool) (d : ReplyFault) (x : A) (f : ReplyFault) → cond b (Ok x) (Err d) ≡ Err f
-    → b ≡ false
+    → (b ≡ false) × (f ≡ d)
 guard_fails true d x f e = absurd (ok_no_err x f e)
-guard_fails false d x f e = refl
+guard_fails {A} false d x f e = (refl, sym (err_is {A = A} d f e))
 
 -- what a reader took from the front
 pub record Takes (bytes text rest : List ℕ) : Type 0 where
@@ -125,10 +125,10 @@ pub are_zeros-replicate : (n : ℕ) → are_zeros (replicate n 0) ≡ true
 are_zeros-replicate zero = refl
 are_zeros-replicate (suc n) = are_zeros-replicate n
 
-abbrev short_padding : List ℕ → Result (List ℕ) ReplyFault
+abbrev pub short_padding : List ℕ → Result (List ℕ) ReplyFault
 short_padding bytes = cond (are_zeros bytes) (Err Truncated) (Err BadAuth)
 
-abbrev whole_padding : ℕ → List ℕ → Result (List ℕ) ReplyFault
+abbrev pub whole_padding : ℕ → List ℕ → Result (List ℕ) ReplyFault
 whole_padding n bytes = cond (are_zeros (take (gap n) bytes)) (Ok (drop (gap n) bytes)) (Err BadAuth)
 
 -- a choice of which the first answer is no Ok
