@@ -7,6 +7,7 @@ use Rattle.rpc_record.specs.declared.fault.RecordStep.{RecordStep}
 use Rattle.rpc_record.specs.declared.fault.RecordStep.TheVariants as step
 use Rattle.rpc_record.specs.declared.reader.RecordReader.{RecordReader}
 use Rattle.rpc_record.specs.Stands.{Fills, IsFilled, Tells, Stays, limit_of}
+use Rattle.rpc_record.proofs.Readers.{between_taking}
 use Rattle.records_c.specs.declared.answer.Answer.TheVariants as answer
 use Rattle.records_c.specs.Fed.{IsFed}
 use Rattle.records_c.specs.Held.{waiting_of}
@@ -47,7 +48,7 @@ whole old new false last piece content used e l fills is stays = record {
   limit = l;
   fed = record {
     content = content;
-    waits = (refl, fills.0);
+    waits = (refl, between_taking new fills.0);
     within = fills.1;
     some = λ i. fills.3 i.1;
     takes = fills.2;

@@ -13,6 +13,7 @@ use Rattle.rpc_record.specs.Marked.{fragment, Longest, OneLongest}
 use Rattle.rpc_record.specs.Reading.{Begins, Faulty, FaultyIn, IsFeedFault, IsWhole, IsInside, WholeIsLongest}
 use Rattle.rpc_record.specs.Reading.{HasNoLong, capped}
 use Rattle.rpc_record.specs.Stands.{Stands, Always, After, IsTaking, IsWaiting, Takes, Hands, limit_of}
+use Rattle.rpc_record.proofs.Readers.{between_taking}
 use Rattle.rpc_message.specs.declared.message.Reply.{Reply}
 use Rattle.rpc_engine.specs.declared.fault.ClientFault.{ClientFault}
 use Rattle.rpc_engine.specs.declared.fault.ClientFault.TheVariants as fault
@@ -124,10 +125,11 @@ ends_badly r f i h bytes s longest = ((h bytes [] s).1 i).0
 pub next_taken : (old w c : RecordReader) (piece : List ℕ) (used : ℕ) (r : Option (Vec ℕ Global)) → IsWaiting w
     → Takes old w (take used piece) → Hands w c r → limit_of c ≡ limit_of old
     → (IsTaking c → Always c (λ rs bytes. Begins (limit_of c) rs bytes)) → NextRecord old c piece (Ok r)
-next_taken old w c piece used (Some v) i t (waiting, taking, h) e begins = (
+next_taken old w c piece used (Some v) i t (waiting, between, h) e begins = (
   used,
   λ bytes rs k. subst (λ n. Begins n (rs ++ v.items ∷ []) (bytes ++ take used piece)) e
-      (begins taking (bytes ++ take used piece) (rs ++ v.items ∷ []) (h (bytes ++ take used piece) rs (t bytes rs k))),
+      (begins (between_taking c between) (bytes ++ take used piece) (rs ++ v.items ∷ [])
+      (h (bytes ++ take used piece) rs (t bytes rs k))),
 )
 next_taken old w c piece used None i t (never, same) e begins = absurd (never i)
 

@@ -14,7 +14,7 @@ use Rattle.rpc_record.specs.Reading.{Begins, IsWhole, IsInside, capped, TooLongA
 use Rattle.rpc_record.specs.Fields.{IsTakingAt}
 use Rattle.rpc_record.specs.Reading.{FaultyIn, FaultsBegin}
 use Rattle.rpc_record.specs.Fields.{IsBrokenAt, StandsAt}
-use Rattle.rpc_record.specs.Stands.{Stands, IsTaking, IsWaiting, IsBroken, Takes, limit_of}
+use Rattle.rpc_record.specs.Stands.{Stands, IsTaking, IsBetween, IsWaiting, IsBroken, Takes, limit_of}
 use Rattle.rpc_record.proofs.Places.{IsInside-at, Longest-at, Longest-inside}
 
 pub Begins-more : (limit : ℕ) (rs : List (List ℕ)) (bytes more : List ℕ) → Begins limit rs bytes
@@ -140,6 +140,9 @@ Takes-piece a b c n m piece p q bytes rs h =
     subst (λ b. Stands c b rs) (append_assoc bytes (take n piece) _
     ∙ ap (λ k. bytes ++ (take n piece ++ take m k)) (take_rest piece n) ∙ ap (λ k. bytes ++ k) (take-add n m piece))
     (q (bytes ++ take n piece) rs (p bytes rs h))
+
+pub between_taking : (reader : RecordReader) → IsBetween reader → IsTaking reader
+between_taking reader e = subst (λ p. IsTakingAt p) (sym e) tt
 
 pub Stands-waiting : (reader : RecordReader) (bytes : List ℕ) (rs : List (List ℕ)) → IsWaiting reader
     → Stands reader bytes rs → IsWhole reader.limit (rs ++ reader.content.items ∷ []) bytes

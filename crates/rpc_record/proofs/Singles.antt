@@ -5,9 +5,9 @@ use Rattle.std.proofs.lemmas.List.{append-nil}
 use Rattle.rpc_record.specs.Marked.{header, fragment, IsContent}
 use Rattle.rpc_record.specs.Reading.{IsWhole, IsInside, RefusedIn, capped}
 use Rattle.rpc_record.specs.Reading.{IsFeedFault}
-use Rattle.rpc_record.specs.Fields.{StandsAt, IsTakingAt, IsBrokenAt}
+use Rattle.rpc_record.specs.Fields.{StandsAt, IsBrokenAt}
 use Rattle.rpc_record.specs.Stands.{Stands, IsBetween, IsWaiting, IsBroken, Takes, Feeds, Tells, limit_of}
-use Rattle.rpc_record.specs.Stands.{IsTaking, Moves, Fills, After}
+use Rattle.rpc_record.specs.Stands.{Moves, Fills, After}
 use Rattle.rpc_record.specs.Private.Steps.{Refuses}
 use Rattle.rpc_record.specs.declared.fault.RecordFault.{RecordFault}
 use Rattle.rpc_record.specs.declared.fault.RecordFault.TheVariants as fault
@@ -100,9 +100,6 @@ module _ (old new : RecordReader) (piece part r : List ℕ) (same : limit_of new
   abbrev IsRefused : RecordFault → Type 0
   IsRefused f = (f ≡ fault.NoMemory) × (new.place ≡ place.Broken f) × Takes old new (fragment true part)
 
-  taking : IsBetween new → IsTaking new
-  taking e = subst (λ p. IsTakingAt p) (sym e) tt
-
   put : (k : List ℕ) → k ≡ part → Moves old new (fragment true part) (part ∷ [])
       → Moves old new (take (4 + length part) piece) (k ∷ [])
   put k e m = subst (λ b. Moves old new b (k ∷ [])) (sym front)
@@ -122,7 +119,7 @@ module _ (old new : RecordReader) (piece part r : List ℕ) (same : limit_of new
   pub Fills-single : (k : Result RecordStep RecordFault) → IfOk k IsPut → IfErr k IsRefused
       → Fills old new piece r k
   Fills-single (Ok s) a b = subst (λ k. Fills old new piece r (Ok k)) (sym a.0)
-      (taking a.2, within, put r a.1 a.3, λ i. omega arith)
+      (a.2, within, put r a.1 a.3, λ i. omega arith)
   Fills-single (Err f) a b = (is_broken new f b.1, all_taken f b.1 b.2, λ i. subst IsFeedFault (sym b.0) tt)
 
   pub Tells-filled : (k : Result RecordStep RecordFault) → IfOk k IsPut → IfErr k IsRefused → Tells old piece k

@@ -1,6 +1,6 @@
 -- The byte lists, and the records handed out, that a record reader stands for.
 use Rattle.std.specs.Prelude.{◌≡◌, ℕ, ◌≤◌, ◌<◌, List, [], ◌++◌, length, take, Ok, Err, Result, Some, None, Option, ◌∷◌}
-use Rattle.std.specs.Prelude.{◌⊎◌}
+use Rattle.std.specs.Prelude.{◌⊎◌, IfSome}
 use Rattle.std.specs.declared.vec.Vec.{Vec}
 use Rattle.std.specs.declared.alloc.Global.{Global}
 use Rattle.rpc_record.specs.declared.fault.RecordFault.TheVariants as fault
@@ -23,6 +23,10 @@ limit_of reader = reader.limit
 -- it is between two records or inside one
 abbrev pub IsTaking : RecordReader → Type 0
 IsTaking reader = IsTakingAt reader.place
+
+-- it is between two records
+abbrev pub IsBetween : RecordReader → Type 0
+IsBetween reader = reader.place ≡ place.Between
 
 -- a whole record waits
 abbrev pub IsWaiting : RecordReader → Type 0
@@ -52,7 +56,7 @@ Feeds old new piece (Err f) = IsBroken new f × Takes old new piece × (IsTaking
 abbrev pub Fills : RecordReader → RecordReader → List ℕ → (r : List ℕ) → Result RecordStep RecordFault → Type 0
 Fills old new piece r (Ok step.More) = IsTaking new × Takes old new piece
 Fills old new piece r (Ok (step.Whole used)) =
-    IsTaking new × (used ≤ length piece) × Moves old new (take used piece) (r ∷ []) × (IsTaking old → 0 < used)
+    IsBetween new × (used ≤ length piece) × Moves old new (take used piece) (r ∷ []) × (IsTaking old → 0 < used)
 Fills old new piece r (Err f) = IsBroken new f × Takes old new piece × (IsTaking old → IsFeedFault f)
 
 -- whatever bytes the reader has taken and whatever records it has handed out, this holds of them
@@ -89,13 +93,14 @@ pub record Stays (old : RecordReader) (result : Result RecordStep RecordFault) :
 -- what handing out does
 abbrev pub Hands : RecordReader → RecordReader → Option (Vec ℕ Global) → Type 0
 Hands old new (Some v) =
-    IsWaiting old × IsTaking new
+    IsWaiting old × IsBetween new
     × ((bytes : List ℕ) (rs : List (List ℕ)) → Stands old bytes rs → Stands new bytes (rs ++ v.items ∷ []))
 Hands old new None = (IsWaiting old → ⊥) × (new ≡ old)
 
--- it is between two records
-abbrev pub IsBetween : RecordReader → Type 0
-IsBetween reader = reader.place ≡ place.Between
+-- the bytes taken are the records handed out before and this one, where one is
+abbrev pub IsHanded : RecordReader → Option (Vec ℕ Global) → Type 0
+IsHanded old handed =
+    IfSome handed (λ v. Always old (λ rs bytes. IsWhole (limit_of old) (rs ++ v.items ∷ []) bytes))
 
 -- the answer is this place, inside a record
 abbrev pub TruncatedAt : RecordReader → RecordFault → Type 0

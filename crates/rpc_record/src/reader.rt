@@ -25,9 +25,9 @@ pub struct RecordReader {
 
 impl RecordReader {
     ghost use Rattle.std.specs.Prelude.{◌≡◌, ◌<◌, ◌^◌, ◌++◌, ◌↔◌, ℕ, List, [], ◌∷◌, length, take, true};
-    ghost use Rattle.std.specs.Prelude.{IsTrue, IfSome, IfOk, IfErr};
+    ghost use Rattle.std.specs.Prelude.{IsTrue, Some, IfOk, IfErr};
     ghost use Rattle.rpc_record.specs.Stands.{Stands, Always, IsTaking, IsWaiting, IsBroken, limit_of};
-    ghost use Rattle.rpc_record.specs.Stands.{Takes, Feeds, Tells, Stays, Hands, Ends, Concludes};
+    ghost use Rattle.rpc_record.specs.Stands.{Takes, Feeds, Tells, Stays, Hands, IsHanded, Ends, Concludes};
     ghost use Rattle.rpc_record.specs.Stands.{IsBetween, Moves, Fills, IsFilled};
     ghost use Rattle.rpc_record.specs.Private.Steps.{Refuses, IsFed, IsStepped};
     ghost use Rattle.rpc_record.specs.Marked.{Longest, header, fragment};
@@ -95,8 +95,9 @@ impl RecordReader {
         }
     }
 
-    /// As `feed`, and a record that is whole then is handed out into the room, so that the next begins. The bytes of
-    /// the room are dropped. Its memory may be given to a record to come, and where none is whole its bytes are any.
+    /// As `feed`, and a record that is whole then is handed out into the room, so that the next begins. `Whole`: the
+    /// bytes that the room had are dropped, and it holds the content of the record; its memory may be given to a record
+    /// to come. `More`, and a fault: the room's bytes are any.
     pub fn feed_into(&mut self, piece: &[u8], room: &mut Vec<u8>) -> Result<RecordStep, RecordFault>
         ensures limit { limit_of self.new ≡ limit_of self.old }
         ensures fills { Fills self.old self.new piece.now room.new.items result }
@@ -152,10 +153,7 @@ impl RecordReader {
         let step = self.feed_on(piece)?;
         if let RecordStep::Whole { .. } = step {
             let memory = mem::replace(room, Vec::new(self.alloc));
-            match self.take_with(memory) {
-                Some(whole) => *room = whole,
-                None => {}
-            }
+            *room = self.hand_out(memory);
         }
         Ok(step)
     }
@@ -299,13 +297,10 @@ impl RecordReader {
     pub fn take(&mut self) -> Option<Vec<u8>>
         ensures limit { limit_of self.new ≡ limit_of self.old }
         ensures hands { Hands self.old self.new result }
-        ensures content { IfSome result (λ v.
-            Always self.old (λ rs bytes. IsWhole (limit_of self.old) (rs ++ v.items ∷ []) bytes)) }
+        ensures content { IsHanded self.old result }
     {
         if let Place::Whole = self.place {
-            self.place = Place::Between;
-            let record = mem::replace(&mut self.content, Vec::new(self.alloc));
-            Some(record)
+            Some(self.hand_out(Vec::new(self.alloc)))
         } else {
             None
         }
@@ -316,18 +311,26 @@ impl RecordReader {
     pub fn take_with(&mut self, room: Vec<u8>) -> Option<Vec<u8>>
         ensures limit { limit_of self.new ≡ limit_of self.old }
         ensures hands { Hands self.old self.new result }
-        ensures content { IfSome result (λ v.
-            Always self.old (λ rs bytes. IsWhole (limit_of self.old) (rs ++ v.items ∷ []) bytes)) }
+        ensures content { IsHanded self.old result }
     {
         if let Place::Whole = self.place {
-            self.place = Place::Between;
-            let mut empty = room;
-            empty.clear();
-            let record = mem::replace(&mut self.content, empty);
-            Some(record)
+            Some(self.hand_out(room))
         } else {
             None
         }
+    }
+
+    /// Hands out the record that waits, and the next goes into this room's memory, whose bytes are dropped.
+    fn hand_out(&mut self, room: Vec<u8>) -> Vec<u8>
+        requires waiting { IsWaiting self.old }
+        ensures limit { limit_of self.new ≡ limit_of self.old }
+        ensures hands { Hands self.old self.new (Some result) }
+        ensures content { IsHanded self.old (Some result) }
+    {
+        let mut empty = room;
+        empty.clear();
+        self.place = Place::Between;
+        mem::replace(&mut self.content, empty)
     }
 
     /// Ends the input: well between two records and while one waits, which changes nothing. Inside a record it is
