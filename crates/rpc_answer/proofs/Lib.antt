@@ -6,5 +6,6 @@ pub mod Statuses
 pub mod Telling
 pub mod Calls
 pub mod Listing
+pub mod Cases
 pub mod One
 pub mod Room

@@ -2,16 +2,15 @@
 use Rattle.std.proofs.Common.{◌≡◌, ◌⊎◌, ◌↔◌, ℕ, ◌<◌, Bool, true, false, List, [], Option, Some, None, option_map}
 use Rattle.std.proofs.Common.{is_some, inl, inr, length}
 use Rattle.std.proofs.Common.{refl, ap, sym, ◌∙◌, subst, arith, true≢false}
-use Rattle.xdr_units.specs.Numbers.{AreBytes}
 use Rattle.xdr_types.specs.Tree.{Tree}
 use Rattle.xdr_types.specs.Spelling.{bytes_of}
 use Rattle.xdr_types.specs.Outcome as decoding
 use Rattle.xdr_types.specs.Outcome.{Ending}
 use Rattle.xdr_laws.specs.Laws.{OneOutcome}
 use Rattle.rpc_message.specs.Message.{AuthView, AuthSysView, CallView, CaseView, Whole, OtherVersion, BadCred, BadVerf}
-use Rattle.rpc_message.specs.Message.{NotACall, StatusView, Success, SystemErr, RpcMismatch, ReplyView, Denied}
+use Rattle.rpc_message.specs.Message.{NotACall, StatusView, Success, ReplyView}
 use Rattle.rpc_message.specs.Spelling.{AuthSysBytes, reply}
-use Rattle.rpc_message.specs.Cases.{IsCase}
+use Rattle.rpc_message.specs.Cases.{NoTwoCases}
 use Rattle.rpc_rows.specs.Rows.{Row}
 use Rattle.rpc_dumps.specs.Dir.{dir_kinds}
 use Rattle.rpc_answer.specs.Callers.{Caller, Owner, Refused, owner_of, IsCaller, anyone, user, unreadable, other}
@@ -19,9 +18,9 @@ use Rattle.rpc_answer.specs.Procedures.{Procedure}
 use Rattle.rpc_answer.specs.Answer.{argument_limits, AreArguments, IsVersion, IsCallOf, ComesTo, no_program, no_version}
 use Rattle.rpc_answer.specs.Answer.{no_procedure, garbage, success, accepted, auth_error, AnswersCall, denies, accepts}
 use Rattle.rpc_answer.specs.Answer.{too_long, is_too_long}
-use Rattle.rpc_answer.specs.Answer.{xid_in, Answers, silence, other_version, bad_cred, bad_verf, call, no_memory}
-use Rattle.rpc_answer.specs.Answer.{Sends}
+use Rattle.rpc_answer.specs.Answer.{Answers}
 use Rattle.rpc_answer.specs.Laws.{OneAnswer}
+use Rattle.rpc_answer.proofs.Cases.{sends_is, Decided, decided}
 
 -- ---- what tells constructors apart
 
@@ -55,15 +54,7 @@ abbrev tree_of : Tree → Ending → Tree
 tree_of t (decoding.Whole v place) = v
 tree_of t _ = t
 
--- what is sent is the bytes of what is said
-sends_is : (said : Option ReplyView) (sent : Option (List ℕ)) → Sends said sent → sent ≡ option_map reply said
-sends_is None None h = refl
-sends_is (Some r) (Some bytes) h = ap Some h.parts
-sends_is None (Some bytes) h = absurd h
-sends_is (Some r) None h = absurd h
-
-module _
-    (cases : (bytes : List ℕ) (j k : CaseView) → AreBytes bytes → IsCase bytes j → IsCase bytes k → j ≡ k)
+module _ (cases : NoTwoCases)
     (bodies : (p q : AuthSysView) (a b : List ℕ) → AuthSysBytes p a → AuthSysBytes q b → ((p ≡ q) ↔ (a ≡ b)))
     (outcomes : OneOutcome dir_kinds) where
   -- a credential names one caller
@@ -172,35 +163,11 @@ module _
     one_reply (too_long owner new status h come long) (too_long who next mark k go also) = (refl, refl)
 
   module _ (rows : List Row) (netid : List ℕ) where
-    -- what a case and refused memory make of the rows and the reply
-    abbrev Decided : CaseView → (refused : Bool) → List Row → Option ReplyView → Type 0
-    Decided k true new said = (new ≡ rows) × (said ≡ option_map (λ xid. accepted xid SystemErr) (xid_in k))
-    Decided NotACall false new said = (new ≡ rows) × (said ≡ None)
-    Decided (OtherVersion xid version) false new said =
-        (new ≡ rows) × (said ≡ Some (Denied xid (RpcMismatch 2 2)))
-    Decided (BadCred xid) false new said = (new ≡ rows) × (said ≡ Some (auth_error xid 1))
-    Decided (BadVerf xid) false new said = (new ≡ rows) × (said ≡ Some (auth_error xid 3))
-    Decided (Whole c) false new said = (r : ReplyView) × (AnswersCall rows netid c new r × (said ≡ Some r))
-
-    silent : (refused : Bool) → Decided NotACall refused rows None
-    silent true = (refl, refl)
-    silent false = (refl, refl)
-
-    decided : {k : CaseView} {refused : Bool} {new : List Row} {said : Option ReplyView}
-        → Answers rows netid k refused new said → Decided k refused new said
-    decided (silence refused) = silent refused
-    decided (other_version xid version) = (refl, refl)
-    decided (bad_cred xid) = (refl, refl)
-    decided (bad_verf xid) = (refl, refl)
-    decided (call c new r h) = (r, (h, refl))
-    decided (no_memory k xid e) =
-        (refl, ap (λ (o : Option ℕ). option_map (λ n. accepted n SystemErr) o) (sym e))
-
     both_are : {A : Type 0} (x a b : A) → a ≡ x → b ≡ x → a ≡ b
     both_are x a b e f = e ∙ sym f
 
     agree : (k : CaseView) (refused : Bool) (new also : List Row) (said told : Option ReplyView)
-        → Decided k refused new said → Decided k refused also told → (new ≡ also) × (said ≡ told)
+        → Decided rows netid k refused new said → Decided rows netid k refused also told → (new ≡ also) × (said ≡ told)
     agree k true new also said told x y = (both_are _ new also x.0 y.0, both_are _ said told x.1 y.1)
     agree NotACall false new also said told x y = (both_are _ new also x.0 y.0, both_are _ said told x.1 y.1)
     agree (OtherVersion xid version) false new also said told x y =
