@@ -1,17 +1,15 @@
 -- What a call of version 3 of RPC is answered.
-use Rattle.std.proofs.Common.{◌≡◌, ℕ, ◌<◌, ◌≤◌, ◌⊎◌, inl, inr, Bool, List, [], ◌∷◌, ◌++◌, length, take, drop}
-use Rattle.std.proofs.Common.{refl, ap, ◌∙◌, subst, arith, Option, None, Some}
+use Rattle.std.proofs.Common.{◌≡◌, ℕ, ◌<◌, ◌≤◌, ◌⊎◌, inl, inr, Bool, true, false, List, [], ◌∷◌, ◌++◌, length, take}
+use Rattle.std.proofs.Common.{drop, refl, ap, sym, ◌∙◌, subst, arith, Option, None, Some, option_map}
 use Rattle.std.proofs.Math.Seq.{take-append_seam}
-use Rattle.std.specs.Prelude.{⊤}
 use Rattle.xdr_units.specs.Numbers.{AreBytes}
-use Rattle.rpc_message.specs.Cases.{IsCase}
-use Rattle.rpc_message.specs.Message.{CaseView, Whole, OtherVersion, BadCred, BadVerf, NotACall, ReplyView, Denied}
-use Rattle.rpc_message.specs.Message.{RpcMismatch, SystemErr}
+use Rattle.rpc_message.specs.Cases.{IsCase, NoTwoCases}
+use Rattle.rpc_message.specs.Message.{OtherVersion, ReplyView, Denied, RpcMismatch, SystemErr}
 use Rattle.rpc_message.specs.Spelling.{reply}
 use Rattle.rpc_rows.specs.Rows.{Row}
 use Rattle.rpc_rows.specs.Ports.{tcp, own_rows}
-use Rattle.rpc_answer.specs.Answer.{Answer as Answered, Answers, Sends, silence, other_version, bad_cred, bad_verf}
-use Rattle.rpc_answer.specs.Answer.{call, no_memory, xid_in, accepted}
+use Rattle.rpc_answer.specs.Answer.{Answer as Answered, Sends, accepted}
+use Rattle.rpc_answer.proofs.Cases.{Decided, sends_is, decided_by}
 use Rattle.registry_c.specs.declared.answer.Answer.{Answer}
 use Rattle.registry_c.specs.declared.answer.Answer.TheVariants as answer
 use Rattle.registry_c.specs.Answered.{IsGiven, IsAnswered, IsAnsweredBy}
@@ -26,62 +24,17 @@ asked = 0 ∷ 0 ∷ 0 ∷ 2 ∷ 0 ∷ 0 ∷ 0 ∷ 0 ∷ 0 ∷ 0 ∷ 0 ∷ 3 ∷ 
 abbrev mismatch : ReplyView
 mismatch = Denied 2 (RpcMismatch 2 2)
 
--- it is told that the version is another one, or that memory was refused
-abbrev IsDenial : ReplyView → Type 0
-IsDenial r = (r ≡ mismatch) ⊎ (r ≡ accepted 2 SystemErr)
-
-abbrev IfOther : CaseView → Option ReplyView → Type 0
-IfOther (OtherVersion xid version) said =
-    (said ≡ Some (Denied xid (RpcMismatch 2 2))) ⊎ (said ≡ Some (accepted xid SystemErr))
-IfOther _ said = ⊤
-
-refused : (k : CaseView) (xid : ℕ) → xid_in k ≡ Some xid → IfOther k (Some (accepted xid SystemErr))
-refused NotACall xid e = tt
-refused (Whole c) xid e = tt
-refused (OtherVersion x v) xid e = inr (ap (λ (n : ℕ). Some (accepted n SystemErr)) (same e))
-  where
-    same : ◌≡◌ {A = Option ℕ} (Some x) (Some xid) → xid ≡ x
-    same e = cc
-refused (BadCred x) xid e = tt
-refused (BadVerf x) xid e = tt
-
-other : {rows : List Row} {netid : List ℕ} {k : CaseView} {y : Bool} {new : List Row} {said : Option ReplyView}
-    → Answers rows netid k y new said → IfOther k said
-other (silence y) = tt
-other (other_version xid version) = inl refl
-other (bad_cred xid) = tt
-other (bad_verf xid) = tt
-other (call c new r h) = tt
-other (no_memory k xid e) = refused k xid e
-
-abbrev pub FiveCases : Type 0
-FiveCases = (bytes : List ℕ) (j k : CaseView) → AreBytes bytes → IsCase bytes j → IsCase bytes k → j ≡ k
-
 -- what is sent is one of the two replies
 abbrev IsSent : Option (List ℕ) → Type 0
 IsSent None = ⊥
 IsSent (Some bytes) = (bytes ≡ reply mismatch) ⊎ (bytes ≡ reply (accepted 2 SystemErr))
 
-sent_said : (said : Option ReplyView) (sent : Option (List ℕ)) → IfOther (OtherVersion 2 3) said → Sends said sent
-    → IsSent sent
-sent_said None None (inl e) s = absurd (none-is e)
-  where
-    none-is : {r : ReplyView} → None ≡ Some r → ⊥
-    none-is e = cc
-sent_said None None (inr e) s = absurd (none-is e)
-  where
-    none-is : {r : ReplyView} → None ≡ Some r → ⊥
-    none-is e = cc
-sent_said None (Some bytes) e s = absurd s
-sent_said (Some r) None e s = absurd s
-sent_said (Some r) (Some bytes) (inl e) s = inl (s.parts ∙ ap reply (inside e))
-  where
-    inside : {q : ReplyView} → Some r ≡ Some q → r ≡ q
-    inside e = cc
-sent_said (Some r) (Some bytes) (inr e) s = inr (s.parts ∙ ap reply (inside e))
-  where
-    inside : {q : ReplyView} → Some r ≡ Some q → r ≡ q
-    inside e = cc
+sent_said : (rows new : List Row) (y : Bool) (said : Option ReplyView) (sent : Option (List ℕ))
+    → Decided rows tcp (OtherVersion 2 3) y new said → Sends said sent → IsSent sent
+sent_said rows new true said sent d s =
+    subst IsSent (sym (sends_is said sent s ∙ ap (λ (o : Option ReplyView). option_map reply o) d.1)) (inr refl)
+sent_said rows new false said sent d s =
+    subst IsSent (sym (sends_is said sent s ∙ ap (λ (o : Option ReplyView). option_map reply o) d.1)) (inl refl)
 
 abbrev Stands : List ℕ → Type 0
 Stands room = (take 24 room ≡ reply mismatch) ⊎ (take 24 room ≡ reply (accepted 2 SystemErr))
@@ -132,11 +85,10 @@ read = record {
   parts = refl;
 }
 
-module _ (five : FiveCases) (old new : List ℕ) (room : 24 ≤ length old) where
+module _ (cases : NoTwoCases) (old new : List ℕ) (room : 24 ≤ length old) where
   sent : (rows mid : List Row) (y : Bool) (s : Option (List ℕ)) → Answered rows tcp asked y mid s → IsSent s
   sent rows mid y s h =
-      let is : h.case ≡ OtherVersion 2 3 = five asked h.case (OtherVersion 2 3) bytes h.read read in
-      sent_said h.said s (subst (λ (k : CaseView). IfOther k h.said) is (other h.answers)) h.sends
+      sent_said rows mid y h.said s (decided_by rows tcp cases asked bytes y mid s h (OtherVersion 2 3) read) h.sends
 
   answered : (h l : Held) (a : Answer) → IsAnswered h tcp asked l old new a
       → (status_of a ≡ 0) × (outcome_of a ≡ at_count 24) × Stands new
