@@ -1,23 +1,22 @@
 -- Datagrams that are answered where none is to be, none comes, or one that is no call; what asking by a datagram sends.
-use Rattle.std.proofs.Common.{◌≡◌, ℕ, ◌+◌, ◌<◌, ◌≤◌, ◌⊎◌, inl, inr, List, [], ◌∷◌, ◌++◌, length, Bool, Option}
+use Rattle.std.proofs.Common.{◌≡◌, ℕ, ◌+◌, ◌≤◌, ◌⊎◌, inl, inr, List, [], ◌∷◌, ◌++◌, length, Option}
 use Rattle.std.proofs.Common.{Some, None, ◌==◌, if◌then◌else◌}
 use Rattle.std.proofs.Common.{Result, Ok, Err, codes, decimal, suc, get_or, refl, ap, sym, ◌∙◌, subst, arith}
 use Rattle.std.specs.Fmt.{digits}
-use Rattle.xdr_units.specs.Numbers.{AreBytes}
 use Rattle.rpc_message.specs.declared.message.Reply.{Reply}
-use Rattle.rpc_message.specs.Message.{CaseView, ReplyView, NotACall}
-use Rattle.rpc_message.specs.Cases.{IsCase}
+use Rattle.rpc_message.specs.Cases.{NoTwoCases}
 use Rattle.rpc_rows.specs.Rows.{Row}
 use Rattle.rpc_rows.specs.Ports.{udp}
-use Rattle.rpc_answer.specs.Answer.{Answer, Answers, Sends, xid_in, silence, other_version, bad_cred, bad_verf, call}
-use Rattle.rpc_answer.specs.Answer.{no_memory}
+use Rattle.rpc_answer.specs.Answer.{Answer}
+use Rattle.rpc_answer.proofs.Cases.{silent}
 use Rattle.rpc_engine.specs.declared.fault.ClientFault.{ClientFault}
 use Rattle.rpc_engine.specs.declared.fault.ClientFault.TheVariants as fault
 use Rattle.rpc_engine.specs.declared.fault.DatagramFault.TheVariants as broken
 use Rattle.rpc_engine.specs.DatagramExchange.{ExchangesDatagram}
 use Rattle.rpc_engine.specs.Datagrams.{ServesDatagrams, NotSent}
 use Rattle.rpc_engine.specs.Ports.{Told, Receives, Sends as IsSent}
-use Rattle.rpc_engine.specs.Run.{Run, listed}
+use Rattle.rpc_engine.specs.Run.{Run}
+use Rattle.rpc_engine.proofs.Runs.{run_silent}
 use Rattle.rpc_engine.specs.declared.fault.Served.{Served}
 use Rattle.rpc_record.specs.Reading.{capped}
 use Rattle.oncrpc_service.specs.Datagrams.{Ended, FinishesEach, Telling, datagram_lines}
@@ -101,81 +100,46 @@ abbrev HasOne : {A : Type 0} → Option A → Type 0
 HasOne None = ⊥
 HasOne (Some x) = Unit {0}
 
-no_xid : (x : ℕ) → Some x ≡ None → ⊥
-no_xid x e = subst (λ (o : Option ℕ). HasOne o) e tt
-
--- the law that a message has one case
-abbrev pub Exclusive : Type 0
-Exclusive = (bytes : List ℕ) (j k : CaseView) → AreBytes bytes → IsCase bytes j → IsCase bytes k → j ≡ k
-
-answers_silent : (rows new : List Row) (netid : List ℕ) (k : CaseView) (y : Bool) (said : Option ReplyView)
-    → k ≡ NotACall → Answers rows netid k y new said → said ≡ None
-answers_silent rows _ netid _ _ _ is (silence y) = refl
-answers_silent rows _ netid _ _ _ is (other_version xid version) = absurd (no_xid xid (ap xid_in is))
-answers_silent rows _ netid _ _ _ is (bad_cred xid) = absurd (no_xid xid (ap xid_in is))
-answers_silent rows _ netid _ _ _ is (bad_verf xid) = absurd (no_xid xid (ap xid_in is))
-answers_silent rows _ netid _ _ _ is (call c new r are) = absurd (no_xid c.xid (ap xid_in is))
-answers_silent rows _ netid _ _ _ is (no_memory k xid e) = absurd (no_xid xid (sym e ∙ ap xid_in is))
-
-sends_silent : (said : Option ReplyView) (sent : Option (List ℕ)) → said ≡ None → Sends said sent → sent ≡ None
-sends_silent None None e s = refl
-sends_silent None (Some bytes) e s = absurd s
-sends_silent (Some r) sent e s = absurd (subst (λ (o : Option ReplyView). HasOne o) e tt)
-
-answer_silent : Exclusive → (rows new : List Row) (y : Bool) (sent : Option (List ℕ)) → Answer rows udp [] y new sent
-    → sent ≡ None
-answer_silent exclusive rows new y sent a =
-    let is : a.case ≡ NotACall = exclusive [] a.case NotACall tt a.read (inl (omega arith)) in
-    sends_silent a.said sent (answers_silent rows new udp a.case y a.said is a.answers) a.sends
-
-run_silent : Exclusive → (rows new : List Row) (ys : List Bool) (replies : List (List ℕ))
-    → Run rows udp ([] ∷ []) ys new replies → replies ≡ []
-run_silent exclusive rows new [] replies r = absurd r
-run_silent exclusive rows new (y ∷ []) replies r =
-    let none = answer_silent exclusive rows r.0 y r.1.0 r.1.1.1.0 in
-    r.1.1.1.2 ∙ ap (λ (o : Option (List ℕ)). listed o ++ r.1.1.0) none ∙ r.1.1.1.1.1
-run_silent exclusive rows new (y ∷ z ∷ zs) replies r = absurd r.1.1.1.1
-
 no_reply_line : (s : Served) → s.replies ≡ 0 → datagram_lines (Ok s ∷ []) ≡ codes "datagram 1: no reply\n"
 unfolding digits
 no_reply_line s zero =
     ap (λ (n : ℕ). (if n == 0 then codes "datagram " ++ decimal 1 ++ codes ": no reply\n"
     else codes "datagram " ++ decimal 1 ++ codes ": reply\n") ++ []) zero
 
-served_silent : Exclusive → (rows new : List Row) (left left' sent sent' : Told) (s : Served)
+served_silent : NoTwoCases → (rows new : List Row) (left left' sent sent' : Told) (s : Served)
     → left ≡ Some ([] ∷ []) → ServesDatagrams 1 rows new left left' sent sent' s → s.replies ≡ 0
-served_silent exclusive rows new left left' sent sent' s is h =
+served_silent cases rows new left left' sent sent' s is h =
     let front = one_front left' h.datagrams h.all
     (subst (λ (t : Told). Receives t left' h.datagrams) is h.finished.received) in
-    let none = run_silent exclusive rows new h.finished.refusals h.replies
+    let none = run_silent cases rows new udp h.finished.refusals h.replies
     (subst (λ (ds : List (List ℕ)). Run rows udp ds h.finished.refusals new h.replies) front h.finished.run) in
-    h.counted.answered ∙ ap (λ (rs : List (List ℕ)). capped (length rs)) none
+    h.counted.answered ∙ ap (λ (rs : List (List ℕ)). capped (length rs)) none.1
 
-not_unsent_silent : Exclusive → (done : ℕ) (rows new : List Row) (left left' sent sent' : Told)
+not_unsent_silent : NoTwoCases → (done : ℕ) (rows new : List Row) (left left' sent sent' : Told)
     → left ≡ Some ([] ∷ []) → NotSent 1 done rows new left left' sent sent' → ⊥
-not_unsent_silent exclusive done rows new left left' sent sent' is h =
+not_unsent_silent cases done rows new left left' sent sent' is h =
     let few = h.few in
     let many = h.so_many in
     let no = no_front h.datagrams (omega (arith, few, many)) in
     let first = subst (λ (ds : List (List ℕ)). Receives (Some ([] ∷ [])) h.waiting ds) no
     (subst (λ (t : Told). Receives t h.waiting h.datagrams) is h.finished.received) in
     let empty = then_one h.waiting left' h.answering first h.received in
-    let none = answer_silent exclusive h.mid new h.refused (Some h.unsent)
-    (subst (λ (d : List ℕ). Answer h.mid udp d h.refused new (Some h.unsent)) empty h.answer) in
-    subst (λ (o : Option (List ℕ)). HasOne o) none tt
+    let none = silent h.mid udp cases [] tt h.refused new (Some h.unsent)
+    (subst (λ (d : List ℕ). Answer h.mid udp d h.refused new (Some h.unsent)) empty h.answer) (inl (omega arith)) in
+    subst (λ (o : Option (List ℕ)). HasOne o) none.1 tt
 
 -- where one that is no call is left, its line says that there is no reply, or that it was not received
-pub one_silent : Exclusive → (rows new : List Row) (old now : Telling) (es : List Ended)
+pub one_silent : NoTwoCases → (rows new : List Row) (old now : Telling) (es : List Ended)
     → old.left ≡ Some ([] ∷ []) → length es ≡ 1 → FinishesEach rows old es new now
     → (datagram_lines es ≡ codes "datagram 1: no reply\n") ⊎ (datagram_lines es ≡ codes "datagram 1: Read\n")
 unfolding digits
-one_silent exclusive rows new old now [] is one f = absurd (omega (arith, one))
-one_silent exclusive rows new old now (Err (broken.Read done) ∷ []) is one f = inr refl
-one_silent exclusive rows new old now (Err (broken.Write done) ∷ []) is one f =
-    absurd (not_unsent_silent exclusive done rows f.0 old.left f.1.0.left old.sent f.1.0.sent is f.1.1.0.0)
-one_silent exclusive rows new old now (Ok s ∷ []) is one f =
-    inl (no_reply_line s (served_silent exclusive rows f.0 old.left f.1.0.left old.sent f.1.0.sent s is f.1.1.0.0))
-one_silent exclusive rows new old now (e ∷ d ∷ es) is one f = absurd (omega (arith, one))
+one_silent cases rows new old now [] is one f = absurd (omega (arith, one))
+one_silent cases rows new old now (Err (broken.Read done) ∷ []) is one f = inr refl
+one_silent cases rows new old now (Err (broken.Write done) ∷ []) is one f =
+    absurd (not_unsent_silent cases done rows f.0 old.left f.1.0.left old.sent f.1.0.sent is f.1.1.0.0)
+one_silent cases rows new old now (Ok s ∷ []) is one f =
+    inl (no_reply_line s (served_silent cases rows f.0 old.left f.1.0.left old.sent f.1.0.sent s is f.1.1.0.0))
+one_silent cases rows new old now (e ∷ d ∷ es) is one f = absurd (omega (arith, one))
 
 -- ---- asking by a datagram
 

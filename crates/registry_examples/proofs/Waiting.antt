@@ -1,18 +1,13 @@
 -- What the datagrams of the examples come to.
-use Rattle.std.proofs.Common.{◌≡◌, ◌≢◌, ℕ, ◌<◌, inl, Bool, List, [], ◌∷◌, ◌++◌, length, Option, Some, None}
+use Rattle.std.proofs.Common.{◌≡◌, ◌≢◌, ℕ, Bool, List, [], ◌∷◌, length, Some, None}
 use Rattle.std.proofs.Common.{Result, Ok, Err}
 use Rattle.std.proofs.Common.{refl, sym, ap, ◌∙◌, subst, arith, IfOk, IfErr, OnOk, IsOk, IsErr, take}
-use Rattle.std.specs.Prelude.{⊤}
-use Rattle.xdr_units.specs.Numbers.{AreBytes}
 use Rattle.rpc_message.specs.declared.fault.ReplyFault.{ReplyFault}
 use Rattle.rpc_message.specs.declared.message.Reply.{Reply}
-use Rattle.rpc_message.specs.Cases.{IsCase}
-use Rattle.rpc_message.specs.Message.{CaseView, Whole, OtherVersion, BadCred, BadVerf, NotACall, ReplyView}
+use Rattle.rpc_message.specs.Cases.{NoTwoCases}
 use Rattle.rpc_message.specs.View.{reply_view}
 use Rattle.rpc_rows.specs.Rows.{Row}
 use Rattle.rpc_rows.specs.Ports.{udp}
-use Rattle.rpc_answer.specs.Answer.{Answer, Answers, Sends as SendsReply, silence, other_version, bad_cred, bad_verf}
-use Rattle.rpc_answer.specs.Answer.{call, no_memory, xid_in}
 use Rattle.rpc_engine.specs.declared.fault.ClientFault.{ClientFault}
 use Rattle.rpc_engine.specs.declared.fault.ClientFault.TheVariants as fault
 use Rattle.rpc_engine.specs.declared.fault.DatagramFault.{DatagramFault}
@@ -23,7 +18,8 @@ use Rattle.rpc_engine.specs.DatagramExchange.{ExchangesDatagram, OwnReply, Other
 use Rattle.rpc_engine.specs.Laws.{OneCase}
 use Rattle.rpc_engine.specs.Ports.{Told, Receives, Sends, pieces, received_from}
 use Rattle.rpc_engine.specs.declared.memory_port.MemoryPort.{MemoryPort}
-use Rattle.rpc_engine.specs.Run.{Run, listed}
+use Rattle.rpc_engine.specs.Run.{Run}
+use Rattle.rpc_engine.proofs.Runs.{run_silent}
 use Rattle.registry_examples.proofs.Replies.{two, two_reply, two_spelled}
 
 -- what a port over memory tells
@@ -99,56 +95,7 @@ told_first (Some all) (Some rest) d more (x ∷ []) e n h = ap (λ k. k ∷ []) 
 
 -- ---- an empty datagram
 
-abbrev IfNoCall : CaseView → List Row → List Row → Option ReplyView → Type 0
-IfNoCall NotACall rows new said = (new ≡ rows) × (said ≡ None)
-IfNoCall _ rows new said = ⊤
-
-no_xid : (k : CaseView) (xid : ℕ) (rows : List Row) (said : Option ReplyView) → xid_in k ≡ Some xid
-    → IfNoCall k rows rows said
-no_xid NotACall xid rows said e = absurd (apart e)
-  where
-    apart : ◌≡◌ {A = Option ℕ} None (Some xid) → ⊥
-    apart e = cc
-no_xid (Whole c) xid rows said e = tt
-no_xid (OtherVersion x v) xid rows said e = tt
-no_xid (BadCred x) xid rows said e = tt
-no_xid (BadVerf x) xid rows said e = tt
-
-no_call : {rows : List Row} {netid : List ℕ} {k : CaseView} {y : Bool} {new : List Row} {said : Option ReplyView}
-    → Answers rows netid k y new said → IfNoCall k rows new said
-no_call (silence y) = (refl, refl)
-no_call (other_version xid version) = tt
-no_call (bad_cred xid) = tt
-no_call (bad_verf xid) = tt
-no_call (call c new r h) = tt
-no_call {rows = rows} (no_memory k xid e) = no_xid k xid rows _ e
-
-abbrev FiveCases : Type 0
-FiveCases = (bytes : List ℕ) (j k : CaseView) → AreBytes bytes → IsCase bytes j → IsCase bytes k → j ≡ k
-
-module _ (five : FiveCases) where
-  silent : (rows mid : List Row) (y : Bool) (sent : Option (List ℕ)) → Answer rows udp [] y mid sent
-      → (mid ≡ rows) × (sent ≡ None)
-  silent rows mid y sent h =
-      let none : h.case ≡ NotACall = five [] h.case NotACall bytes h.read (inl (omega arith)) in
-      let is = subst (λ k. IfNoCall k rows mid h.said) none (no_call h.answers) in
-      (is.0, unsent sent (subst (λ r. SendsReply r sent) is.1 h.sends))
-    where
-      bytes : AreBytes []
-      bytes = tt
-
-      unsent : (sent : Option (List ℕ)) → SendsReply None sent → sent ≡ None
-      unsent None h = refl
-      unsent (Some bytes) h = absurd h
-
-  silent_run : (rows new : List Row) (ys : List Bool) (replies : List (List ℕ))
-      → Run rows udp ([] ∷ []) ys new replies → (new ≡ rows) × (replies ≡ [])
-  silent_run rows new [] replies h = absurd h
-  silent_run rows new (y ∷ z ∷ ys) replies (mid, (sent, (more, (a, run, is)))) = absurd run
-  silent_run rows new (y ∷ []) replies (mid, (sent, (more, (a, (same, none), is)))) =
-      let s = silent rows mid y sent a in
-      (same ∙ s.0, is ∙ ap (λ k. listed k ++ more) s.1 ∙ none)
-
+module _ (cases : NoTwoCases) where
   module _ (rows new : List Row) (l m s t : Told) (told : l ≡ Some ([] ∷ [])) where
     pub silent_served : (result : Result Served DatagramFault)
         → IfOk result (λ served. ServesDatagrams 1 rows new l m s t served)
@@ -157,7 +104,7 @@ module _ (five : FiveCases) where
     silent_served (Ok served) h =
         let f = h.finished in
         let one = told_first l m [] [] h.datagrams told h.all f.received in
-        let r = silent_run rows new f.refusals h.replies
+        let r = run_silent cases rows new udp f.refusals h.replies
         (subst (λ d. Run rows udp d f.refusals new h.replies) one f.run) in
         ((omega (arith, h.counted.records, h.all), omega (arith, h.counted.answered, ap length r.1)), r.0)
 

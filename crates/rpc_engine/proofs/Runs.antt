@@ -1,8 +1,11 @@
--- Two runs, one after the other, are one.
-use Rattle.std.proofs.Common.{ℕ, List, [], ◌∷◌, ◌++◌, Bool, Option, refl, sym, ap, ◌∙◌, subst, append_assoc}
+-- Two runs, one after the other, are one; a run along one record without bytes.
+use Rattle.std.proofs.Common.{◌≡◌, ℕ, List, [], ◌∷◌, ◌++◌, Bool, Option, inl, refl, sym, ap, ◌∙◌, subst, append_assoc}
+use Rattle.std.proofs.Common.{arith}
 use Rattle.std.proofs.lemmas.List.{append-nil}
+use Rattle.rpc_message.specs.Cases.{NoTwoCases}
 use Rattle.rpc_rows.specs.Rows.{Row}
 use Rattle.rpc_answer.specs.Answer.{Answer}
+use Rattle.rpc_answer.proofs.Cases.{silent}
 use Rattle.rpc_engine.specs.Run.{Run, listed}
 use Rattle.rpc_engine.specs.Laws.{RunsJoin}
 
@@ -33,3 +36,12 @@ runs_join rows mid new netid (r ∷ rs) more (y ∷ ys) zs replies others (first
     ),
   ),
 )
+
+-- no bytes have no reply, and the rows stay
+pub run_silent : NoTwoCases → (rows new : List Row) (netid : List ℕ) (ys : List Bool) (replies : List (List ℕ))
+    → Run rows netid ([] ∷ []) ys new replies → (new ≡ rows) × (replies ≡ [])
+run_silent cases rows new netid [] replies r = absurd r
+run_silent cases rows new netid (y ∷ z ∷ ys) replies (mid, (sent, (more, (a, run, is)))) = absurd run
+run_silent cases rows new netid (y ∷ []) replies (mid, (sent, (more, (a, (same, last), is)))) =
+    let s = silent rows netid cases [] tt y mid sent a (inl (omega arith)) in
+    (same ∙ s.0, is ∙ ap (λ (o : Option (List ℕ)). listed o ++ more) s.1 ∙ last)
