@@ -47,7 +47,8 @@ impl<'a> ConstantTable<'a> {
         }
     }
 
-    /// One more constant. Where memory runs out, no constant is left.
+    /// One more constant. Where memory is refused for the look-up by its name, the constants stay; where it is refused
+    /// for the list, none is left.
     pub fn push(&mut self, known: Known<'a>) -> Result<(), AllocError>
         ensures { OnOk result (knowns self.new.list.items ≡ knowns self.old.list.items ++ known_of known.entry ∷ []) }
     {
