@@ -14,7 +14,7 @@ use denote.Ref.{Bor}
 use Rattle.xdr_types.proofs.Apart.{texts_cmp as names_cmp}
 use Rattle.xdr_tokens.specs.Options.{◌>>=◌}
 use Rattle.xdr_constants.specs.Constants.{Known, known}
-use Rattle.xdr_constants.specs.Private.Tables.{at_name, first_named, HasFirst}
+use Rattle.xdr_constants.specs.Tables.{at_name, first_named, HasFirst}
 
 -- ---- one more name in a map
 

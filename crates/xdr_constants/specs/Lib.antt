@@ -3,4 +3,4 @@ pub use Rattle.xdr_tokens.specs.Options
 pub use Rattle.xdr_grammar.specs.Outline
 pub mod Constants
 pub mod Views
-pub mod Private
+pub mod Tables

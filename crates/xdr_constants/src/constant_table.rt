@@ -3,7 +3,7 @@ ghost use Rattle.std.specs.Prelude.{◌≡◌, OnOk, OnErr, List, [], ◌∷◌,
 ghost use Rattle.xdr_constants.specs.Views.{known_of, knowns};
 ghost use Rattle.xdr_constants.specs.Constants.{known};
 ghost use Rattle.xdr_constants.specs.Constants.{Known as KnownSpec};
-ghost use Rattle.xdr_constants.specs.Private.Tables.{HasFirst};
+ghost use Rattle.xdr_constants.specs.Tables.{HasFirst};
 
 use crate::constants::Known;
 use std::alloc::{AllocError, Global};

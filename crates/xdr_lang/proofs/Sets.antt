@@ -12,7 +12,7 @@ use Rattle.std.proofs.lemmas.Map.Text.{is_eq-slice_cmp}
 use Rattle.std.proofs.lemmas.Slice.Eq.{bytes_eq-Decides}
 use Rattle.std.proofs.lemmas.Bool.Decides.{same_from_decides, Decides-like, Decides-int_eq}
 use denote.Ref.{Bor}
-use Rattle.xdr_constants.specs.Private.Tables.{key_texts}
+use Rattle.xdr_constants.specs.Tables.{key_texts}
 use Rattle.xdr_lang.specs.Distinct.{is_void, has_name, repeats, has_number, repeats_number, has_pair, repeats_pair}
 pub use Rattle.xdr_types.proofs.Apart.{was_absent, was_there, bytes_eq-sym, texts_cmp as names_cmp}
 

@@ -12,7 +12,7 @@ use Rattle.xdr_grammar.specs.View.{part_of}
 use Rattle.xdr_grammar.specs.Outline as out
 use Rattle.xdr_tokens.proofs.Options.{some_is}
 use Rattle.xdr_tokens.specs.Options.{◌>>=◌}
-use Rattle.xdr_constants.specs.Private.Tables.{key_texts, at_name}
+use Rattle.xdr_constants.specs.Tables.{key_texts, at_name}
 use Rattle.xdr_constants.proofs.Tables.{at_more, at_same, at_empty, none_from, picked, kept, option_or_cond}
 use Rattle.xdr_constants.proofs.Tables.{same_text}
 use Rattle.xdr_lang.specs.LookUp.{type_named, place_with, named_place}

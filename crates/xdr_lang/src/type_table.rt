@@ -5,7 +5,7 @@ ghost use Rattle.xdr_grammar.specs.View.{part_of, field_of};
 ghost use Rattle.xdr_lang.specs.LookUp.{type_named, place_of};
 ghost use Rattle.xdr_lang.specs.Views.{types_of};
 ghost use Rattle.xdr_lang.specs.Distinct.{has_name};
-ghost use Rattle.xdr_constants.specs.Private.Tables.{key_texts};
+ghost use Rattle.xdr_constants.specs.Tables.{key_texts};
 ghost use Rattle.xdr_lang.specs.Private.Tables.{HasParts, HasPlaces, HasNoPlaces, IsPlacedAt, stays_in};
 ghost use Rattle.xdr_lang.specs.Private.Tables.{all_stay};
 

@@ -9,7 +9,7 @@ use Rattle.xdr_grammar.specs.declared.outline.Part.{Part}
 use Rattle.xdr_grammar.specs.View.{part_of}
 use Rattle.xdr_grammar.specs.Outline.{Field, Part as Shown, IsBasic, IsNamed, IsStruct, IsMade, IsStructMade, IsText}
 use Rattle.xdr_grammar.specs.Outline.{IsVoid}
-use Rattle.xdr_constants.specs.Private.Tables.{key_texts, at_name}
+use Rattle.xdr_constants.specs.Tables.{key_texts, at_name}
 use Rattle.xdr_lang.specs.LookUp.{type_named, named_place}
 use Rattle.xdr_lang.specs.Distinct.{has_name}
 

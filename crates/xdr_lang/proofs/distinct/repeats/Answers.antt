@@ -1,7 +1,7 @@
 use Rattle.std.proofs.Common.{◌≡◌, ◌<◌, ◌+◌, [], ◌∷◌, length, drop, drop-cons, add-one, get_or, refl, sym, ◌∙◌, arith}
 use Rattle.xdr_grammar.specs.declared.outline.Name.{Name}
 use Rattle.xdr_lang.specs.Views.{texts}
-use Rattle.xdr_constants.specs.Private.Tables.{key_texts}
+use Rattle.xdr_constants.specs.Tables.{key_texts}
 use Rattle.xdr_lang.specs.Distinct.{repeats}
 use Rattle.xdr_lang.proofs.Sets.{was_absent, was_there, next_name, name_twice}
 use Rattle.xdr_lang.proofs.distinct.repeats.Goals as goal

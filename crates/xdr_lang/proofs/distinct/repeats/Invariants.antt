@@ -1,6 +1,6 @@
 use Rattle.std.proofs.Common.{◌≡◌, drop, []}
 use Rattle.xdr_lang.specs.Views.{texts}
-use Rattle.xdr_constants.specs.Private.Tables.{key_texts}
+use Rattle.xdr_constants.specs.Tables.{key_texts}
 use Rattle.xdr_lang.specs.Distinct.{repeats}
 use Rattle.xdr_lang.proofs.distinct.repeats.Given as goal
 

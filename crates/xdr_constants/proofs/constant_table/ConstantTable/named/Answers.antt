@@ -1,7 +1,7 @@
 use Rattle.std.proofs.Common.{rules, ◌≡◌, Some, None, take, refl, sym, ◌∙◌}
 use Rattle.xdr_tokens.specs.Options.{◌>>=◌}
 use Rattle.xdr_constants.specs.Constants.{known}
-use Rattle.xdr_constants.specs.Private.Tables.{at_name}
+use Rattle.xdr_constants.specs.Tables.{at_name}
 use Rattle.xdr_constants.specs.Views.{knowns}
 use Rattle.xdr_constants.proofs.Tables.{within, known_before, is_below, not_below}
 use Rattle.xdr_constants.proofs.constant_table.ConstantTable.named.Goals as goal
