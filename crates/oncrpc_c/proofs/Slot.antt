@@ -1,10 +1,10 @@
 -- What the handle's type is made of.
 use Rattle.std.proofs.Common.{refl}
 use Rattle.c_handles.proofs.Slots.{Slot}
-use Rattle.xdr_lang.specs.contracts.declarations.Declared as declared
+use Rattle.oncrpc_c.specs.contracts.state.State as state
 use Rattle.oncrpc_c.specs.contracts.handle.Handle as handle
 
-abbrev pub slot : Slot declared.the_row
+abbrev pub slot : Slot state.the_row
 slot = record {
   name = handle.struct.name;
   row = handle.the_row;

@@ -1,32 +1,34 @@
 //! What is asked of bytes by declarations.
-ghost use Rattle.std.specs.Prelude.{MatchOption};
+ghost use Rattle.std.specs.Prelude.{◌≡◌, MatchOption};
 ghost use Rattle.xdr_lang.specs.Views.{declared_of};
 ghost use Rattle.oncrpc_c.specs.Answers.{IsRight, Names, NamesNone};
 
 use super::answer::Answer;
 use super::judge::judge;
+use super::state::State;
 use oncrpc_kinds::kind_named;
 use std::alloc::Global;
 use std::str::from_utf8;
 use xdr_lang::Declared;
 use xdr_types::{KindId, Limits};
 
-/// What the bytes are by the declarations. The name is looked at before the limits.
+/// What the bytes are by the declarations, which stay. The name is looked at before the limits.
 pub fn answer_by(
     alloc: Global,
-    declared: &Declared,
+    state: &mut State,
     name: &[u8],
     depth: u32,
     bytes: u32,
     input: &[u8],
 ) -> Answer
-    ensures { IsRight (declared_of declared.now) name.now depth bytes input.now result }
+    ensures stay { state.new ≡ state.old }
+    ensures answer { IsRight (declared_of state.old) name.now depth bytes input.now result }
 {
-    let Some(kind) = kind_asked(declared, name) else {
+    let Some(kind) = state.kind(name) else {
         return Answer::NoKind;
     };
     match Limits::new(depth, bytes) {
-        Some(limits) => judge(alloc, &declared.schema, kind, limits, input),
+        Some(limits) => judge(alloc, &state.declared().schema, kind, limits, input),
         None => Answer::BadLimits,
     }
 }

@@ -7,6 +7,7 @@ ghost use Rattle.oncrpc_c.specs.declared.answer.Answer.{Answer as AnswerSpec};
 use super::answer::Answer;
 use super::asking::answer_by;
 use super::outcome::Outcome;
+use super::state::State;
 use super::unread::{Unread, read_text};
 use std::alloc::Global;
 
@@ -22,7 +23,7 @@ fn answer_to(
     ensures { IsRightByText text.now name.now depth bytes input.now result }
 {
     match read_text(alloc, text) {
-        Ok(declared) => answer_by(alloc, &declared, name, depth, bytes, input),
+        Ok(declared) => answer_by(alloc, &mut State::of(declared), name, depth, bytes, input),
         Err(Unread::Undeclared(fault)) => Answer::Undeclared(fault),
         Err(Unread::NoMemory) => Answer::NoMemory,
     }

@@ -10,6 +10,7 @@ use super::asking::answer_by;
 use super::handle::Handle;
 use super::held::{keep, taken};
 use super::outcome::Outcome;
+use super::state::State;
 use super::unread::{Unread, read_text};
 use std::alloc::Global;
 
@@ -23,7 +24,7 @@ fn read_into(alloc: Global, text: &[u8], handle: &mut Handle) -> Answer
         Err(Unread::Undeclared(fault)) => return Answer::Undeclared(fault),
         Err(Unread::NoMemory) => return Answer::NoMemory,
     };
-    match Box::new(alloc, declared) {
+    match Box::new(alloc, State::of(declared)) {
         Ok(kept) => {
             keep(alloc, handle, kept);
             Answer::Whole { used: 0 }
@@ -71,9 +72,9 @@ pub extern "C" fn oncrpc_declarations_check(
         × (result ≡ status_of a) × (outcome.new ≡ outcome_of a) }
 {
     let answer = match taken(alloc, handle) {
-        Some(declared) => {
-            let answer = answer_by(alloc, &declared, name, depth, bytes, input);
-            keep(alloc, handle, declared);
+        Some(mut state) => {
+            let answer = answer_by(alloc, &mut state, name, depth, bytes, input);
+            keep(alloc, handle, state);
             answer
         }
         None => Answer::NoDeclarations,

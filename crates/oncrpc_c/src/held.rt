@@ -2,17 +2,17 @@
 ghost use Rattle.std.specs.Prelude.{◌≡◌, Some, None, option_map};
 
 use super::handle::Handle;
+use super::state::State;
 use c_handles::Loose;
 use std::alloc::Global;
 use std::mem::replace;
 use std::ptr::null_mut;
-use xdr_lang::Declared;
 
 fn nowhere() -> *mut u8 {
     null_mut()
 }
 
-fn opened(alloc: Global, handle: Handle) -> Option<Box<Declared>>
+fn opened(alloc: Global, handle: Handle) -> Option<Box<State>>
     ensures { option_map (λ b. b.value) result ≡ handle.declared }
 {
     match handle.opened(alloc) {
@@ -22,7 +22,7 @@ fn opened(alloc: Global, handle: Handle) -> Option<Box<Declared>>
 }
 
 /// Takes the declarations out, and leaves none.
-pub fn taken(alloc: Global, handle: &mut Handle) -> Option<Box<Declared>>
+pub fn taken(alloc: Global, handle: &mut Handle) -> Option<Box<State>>
     ensures taken { option_map (λ b. b.value) result ≡ handle.old.declared }
     ensures left { handle.new.declared ≡ None }
 {
@@ -31,8 +31,8 @@ pub fn taken(alloc: Global, handle: &mut Handle) -> Option<Box<Declared>>
 }
 
 /// Keeps these declarations; what was held before is freed.
-pub fn keep(alloc: Global, handle: &mut Handle, declared: Box<Declared>)
-    ensures { handle.new.declared ≡ Some declared.value }
+pub fn keep(alloc: Global, handle: &mut Handle, state: Box<State>)
+    ensures { handle.new.declared ≡ Some state.value }
 {
-    let _before = opened(alloc, replace(handle, Handle::of(Loose::of(declared))));
+    let _before = opened(alloc, replace(handle, Handle::of(Loose::of(state))));
 }

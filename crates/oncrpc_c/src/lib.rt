@@ -20,6 +20,7 @@ mod part;
 mod parts;
 mod room;
 mod show;
+mod state;
 mod unread;
 
 pub use check::oncrpc_check;

@@ -125,9 +125,10 @@ pub extern "C" fn oncrpc_declarations_parts(
         × (result ≡ parts_status a) × (outcome.new ≡ parts_outcome a) }
 {
     let answer = match taken(alloc, handle) {
-        Some(declared) => {
-            let answer = parts_by(alloc, &declared, name, depth, bytes, input, parts, names);
-            keep(alloc, handle, declared);
+        Some(state) => {
+            let declared = state.declared();
+            let answer = parts_by(alloc, declared, name, depth, bytes, input, parts, names);
+            keep(alloc, handle, state);
             answer
         }
         None => Listed::NoDeclarations,

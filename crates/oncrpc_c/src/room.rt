@@ -10,10 +10,9 @@ pub fn put(room: &mut [u8], bytes: &[u8], written: &mut usize) -> bool
     ensures small { result ≡ false → length room.old < length bytes.now }
 {
     *written = 0;
-    if room.len() < bytes.len() {
+    if !c_rooms::put(bytes, room) {
         return false;
     }
-    room[..bytes.len()].copy_from_slice(bytes);
     *written = bytes.len();
     true
 }

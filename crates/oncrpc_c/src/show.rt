@@ -122,9 +122,10 @@ pub extern "C" fn oncrpc_declarations_show(
 {
     *written = 0;
     let answer = match taken(alloc, handle) {
-        Some(declared) => {
-            let answer = show_by(alloc, &declared, name, depth, bytes, input, room, written);
-            keep(alloc, handle, declared);
+        Some(state) => {
+            let declared = state.declared();
+            let answer = show_by(alloc, declared, name, depth, bytes, input, room, written);
+            keep(alloc, handle, state);
             answer
         }
         None => Answer::NoDeclarations,

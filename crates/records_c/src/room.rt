@@ -1,17 +1,18 @@
-//! Bytes put into what the caller lends.
+//! Bytes put into what the caller lends, as an answer.
 ghost use Rattle.records_c.specs.Rooms.{IsPlaced};
 
 use super::answer::Answer;
+use c_rooms::put;
 
 /// Puts the bytes at the front of the room where they fit into it.
 pub fn place(bytes: &[u8], room: &mut [u8]) -> Answer
     ensures { IsPlaced bytes.now room.old room.new result }
 {
-    if room.len() < bytes.len() {
-        return Answer::NoRoom {
+    if put(bytes, room) {
+        Answer::Whole { count: bytes.len() }
+    } else {
+        Answer::NoRoom {
             needed: bytes.len(),
-        };
+        }
     }
-    room[..bytes.len()].copy_from_slice(bytes);
-    Answer::Whole { count: bytes.len() }
 }
