@@ -18,14 +18,13 @@ levels_last outer (m ∷ ls) l = levels_last (level_of m ∷ outer) ls l
 abbrev pub told : List ℕ → Level → List Level → Trace
 told content work parents = record { levels = level_of work ∷ levels_onto [] parents; content = content }
 
-pub opened : (content : List ℕ) (work new parent : Level) (parents reserved pushed : List Level) (h : Head) (t : Trace)
-    → level_of new ≡ level h [] → parent ≡ work → reserved ≡ parents → pushed ≡ reserved ++ parent ∷ []
+pub opened : (content : List ℕ) (work new parent : Level) (parents pushed : List Level) (h : Head) (t : Trace)
+    → level_of new ≡ level h [] → parent ≡ work → pushed ≡ parents ++ parent ∷ []
     → told content work parents ≡ t → told content new pushed ≡ open_in h t
-opened content work new parent parents reserved pushed h t begun same kept last e =
+opened content work new parent parents pushed h t begun same last e =
     let inner : levels_onto [] pushed ≡ level_of work ∷ levels_onto [] parents =
-    ap (λ (ls : List Level). levels_onto [] ls) last ∙ levels_last [] reserved parent
-    ∙ ap (λ (l : Level). level_of l ∷ levels_onto [] reserved) same
-    ∙ ap (λ (ls : List Level). level_of work ∷ levels_onto [] ls) kept in
+    ap (λ (ls : List Level). levels_onto [] ls) last ∙ levels_last [] parents parent
+    ∙ ap (λ (l : Level). level_of l ∷ levels_onto [] parents) same in
     let first : told content new pushed ≡ open_in h (told content work parents) =
     ap (λ (l : trace.Level). let r : Trace = record { levels = l ∷ levels_onto [] pushed; content = content } in r)
     begun

@@ -175,6 +175,12 @@ frames_few (Reading a) work parents depth h = omega (arith, h tt, onto_length []
 frames_few Finished work parents depth h = omega arith
 frames_few (Failed f) work parents depth h = omega arith
 
+-- so that a machine counts the parents
+pub parents_few : (st : State) (work : Frame) (parents : List Frame) (l : Bounds) → AreBounds l.depth l.bytes
+    → (GoesOn st → length (stack_of work parents) ≤ l.depth + 1) → GoesOn st → length parents ≤ 4096
+parents_few st work parents l bounds h goes =
+    omega (arith, h goes, onto_length [] parents, bounds.most_depth)
+
 -- the nodes after the whole units are those of the law, where a unit is needed
 pub due_stored : (s : List KindView) (t : ℕ) (l : Bounds) (H : Trace → Type 0) (fs : List (List Part)) (read : ℕ)
     (room : List ℕ) (pending : ℕ) (st : State) (b : List ℕ) → length room ≡ 4 → IsWaiting st

@@ -7,6 +7,7 @@ use crate::build::{Build, Leaf, Node};
 use crate::frame::Frame;
 use crate::reader::{Reader, State};
 use std::alloc::{AllocError, Global};
+use xdr_stack::Stack;
 use xdr_types::{KindId, Limits, Schema};
 
 /// Makes nothing of the nodes.
@@ -78,7 +79,7 @@ pub fn check<'s>(
             item: kind,
             left: 1,
         },
-        parents: Vec::new(alloc),
+        parents: Stack::new(alloc),
         built: Nothing,
         read: 0,
         unit: [0; 4],

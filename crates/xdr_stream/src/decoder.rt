@@ -11,6 +11,7 @@ use crate::frame::Frame;
 use crate::reader::{Reader, State};
 use crate::values::{Level, Values, root_of};
 use std::alloc::Global;
+use xdr_stack::{Blocks, Stack};
 use xdr_types::{Kind, KindId, Limits, Schema, Value};
 
 /// A decoder that has been given no byte.
@@ -34,11 +35,11 @@ pub fn start<'s>(
             item: kind,
             left: 1,
         },
-        parents: Vec::new(alloc),
+        parents: Stack::new(alloc),
         built: Values {
             alloc,
             work: Level::Root(None),
-            parents: Vec::new(alloc),
+            parents: Blocks::new(alloc),
             content: Vec::new(alloc),
             nodes: 0,
             kept: 0,

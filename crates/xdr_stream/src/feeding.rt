@@ -111,7 +111,7 @@ impl<'s, B: Build + Drop> Reader<'s, B> {
         ensures same { IsSame self.old self.new }
     {
         self.state = State::Failed(DecodeFault { why, at: self.read });
-        self.parents = Vec::new(*self.parents.allocator());
+        self.parents.clear();
         self.built.clear();
     }
 

@@ -16,6 +16,15 @@ pub enum Frame<'s> {
     Arm { member: &'s Member },
 }
 
+impl<'s> Default for Frame<'s> {
+    fn default() -> Frame<'s> {
+        Frame::Items {
+            item: KindId { place: 0 },
+            left: 0,
+        }
+    }
+}
+
 /// The kind of the part that comes next.
 #[inline(always)]
 pub fn next(frame: &Frame) -> Option<KindId>

@@ -1,5 +1,5 @@
 //! What a reader holds.
-ghost use Rattle.std.specs.Prelude.{◌≡◌, ◌+◌, ◌%◌, ◌^◌, ◌<◌, ℕ, List, length};
+ghost use Rattle.std.specs.Prelude.{◌≡◌, ◌+◌, ◌%◌, ◌^◌, ◌<◌, ◌≤◌, ℕ, List, length};
 ghost use Rattle.xdr_stream.specs.Finish.{Stands, Checks};
 ghost use Rattle.xdr_stream.specs.Stands.{IsWaiting};
 ghost use Rattle.xdr_stream.specs.Held.{Counts, IsCount, IsDue, IsWithin, IsWhole, GoesOn, frames_at, nodes_at};
@@ -26,7 +26,8 @@ pub struct Held {
 
 // How many frames stand open.
 fn frames_of<B: Drop>(reader: &Reader<'_, B>) -> usize
-    ensures { result ≡ frames_at reader.now.state reader.now.parents.items }
+    ensures { (GoesOn reader.now.state → length reader.now.parents.items ≤ 4096)
+        → result ≡ frames_at reader.now.state reader.now.parents.items }
 {
     match reader.state {
         State::Fresh => reader.parents.len().saturating_add(1),
@@ -86,7 +87,7 @@ pub fn held_by_decoder(reader: &Reader<'_, Values>) -> Held
 
 /// How much a checker holds: no node and no content. It takes no memory.
 pub fn held_by_checker(reader: &Reader<'_, Nothing>) -> Held
-    ensures counts { IsCount reader.now 0 0 result }
+    ensures counts { (b : List ℕ) → Checks reader.now b → IsCount reader.now 0 0 result }
     ensures bounds { (b : List ℕ) → Checks reader.now b
         → IsWithin reader.now.schema.now.kinds reader.now.limits b result }
     ensures pending { (b : List ℕ) → Checks reader.now b

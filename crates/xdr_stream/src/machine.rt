@@ -16,6 +16,7 @@ use crate::frame::{Frame, after, next};
 use crate::number::{Made, made_in};
 use crate::step::{Step, step_of};
 use std::alloc::AllocError;
+use xdr_stack::Stack;
 use xdr_types::{Kind, Limits, Schema};
 
 /// What comes next.
@@ -64,7 +65,7 @@ impl From<AllocError> for Reason {
 #[inline(always)]
 pub(crate) fn end_nodes<'s, B: Build>(
     work: &mut Frame<'s>,
-    parents: &mut Vec<Frame<'s>>,
+    parents: &mut Stack<Frame<'s>>,
     built: &mut B,
 ) -> Result<bool, AllocError>
     ensures follows { IfOk result (λ whole. (kinds : List KindView)
@@ -91,7 +92,7 @@ pub(crate) fn pass_void<'s, B: Build>(
     schema: &'s Schema,
     limits: Limits,
     work: &mut Frame<'s>,
-    parents: &Vec<Frame<'s>>,
+    parents: &Stack<Frame<'s>>,
     built: &mut B,
 ) -> Result<(), Trouble>
     requires { IsSound schema.now.kinds (stack_of work.old parents.now.items) }
@@ -121,7 +122,7 @@ pub(crate) fn pass_void<'s, B: Build>(
 #[inline(always)]
 pub(crate) fn open<'s, B: Build>(
     work: &mut Frame<'s>,
-    parents: &mut Vec<Frame<'s>>,
+    parents: &mut Stack<Frame<'s>>,
     built: &mut B,
     node: Node,
     frame: Frame<'s>,
@@ -144,7 +145,7 @@ pub(crate) fn begin<'s, B: Build>(
     schema: &'s Schema,
     limits: Limits,
     work: &mut Frame<'s>,
-    parents: &mut Vec<Frame<'s>>,
+    parents: &mut Stack<Frame<'s>>,
     built: &mut B,
 ) -> Result<Awaits, Trouble>
     requires solid { AreAllSolid schema.now.kinds (stack_of work.old parents.old.items) }
@@ -193,7 +194,7 @@ pub(crate) fn begin<'s, B: Build>(
 pub(crate) fn take_number<'s, B: Build>(
     schema: &'s Schema,
     work: &mut Frame<'s>,
-    parents: &mut Vec<Frame<'s>>,
+    parents: &mut Stack<Frame<'s>>,
     built: &mut B,
     number: u32,
 ) -> Result<Awaits, Reason>
@@ -244,7 +245,7 @@ fn is_due<'s>(
     schema: &'s Schema,
     limits: Limits,
     work: &Frame<'s>,
-    parents: &Vec<Frame<'s>>,
+    parents: &Stack<Frame<'s>>,
 ) -> bool
     requires { IsSound schema.now.kinds (stack_of work.now parents.now.items) }
     ensures ready { result ≡ true → IsReady schema.now.kinds limits Next (stack_of work.now parents.now.items) }
@@ -269,7 +270,7 @@ pub(crate) fn settle<'s, B: Build>(
     schema: &'s Schema,
     limits: Limits,
     work: &mut Frame<'s>,
-    parents: &mut Vec<Frame<'s>>,
+    parents: &mut Stack<Frame<'s>>,
     built: &mut B,
 ) -> Result<Option<Awaits>, Trouble>
     requires { IsSound schema.now.kinds (stack_of work.old parents.old.items) }

@@ -5,6 +5,7 @@ ghost use Rattle.xdr_stream.specs.Sound.{IsSoundAt, Waits, one_sound, one_wait};
 use crate::fault::DecodeFault;
 use crate::frame::Frame;
 use crate::machine::Awaits;
+use xdr_stack::Stack;
 use xdr_types::{KindId, Limits, Schema};
 
 /// What a piece has brought.
@@ -38,7 +39,7 @@ pub struct Reader<'s, B: Drop> {
     /// The node at work.
     pub work: Frame<'s>,
     /// The nodes around it, the root first.
-    pub parents: Vec<Frame<'s>>,
+    pub parents: Stack<Frame<'s>>,
     pub built: B,
     /// How many bytes of whole units are read.
     pub read: usize,

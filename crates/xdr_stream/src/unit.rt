@@ -10,6 +10,7 @@ use crate::build::{Build, Leaf};
 use crate::fault::Reason;
 use crate::frame::Frame;
 use crate::machine::{Awaits, take_number};
+use xdr_stack::Stack;
 use xdr_types::Schema;
 
 // The number of a unit.
@@ -36,7 +37,7 @@ pub(crate) fn take_unit<'s, B: Build>(
     schema: &'s Schema,
     awaits: Awaits,
     work: &mut Frame<'s>,
-    parents: &mut Vec<Frame<'s>>,
+    parents: &mut Stack<Frame<'s>>,
     built: &mut B,
     unit: &[u8; 4],
 ) -> Result<Awaits, Reason>

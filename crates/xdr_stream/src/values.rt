@@ -12,6 +12,7 @@ ghost use Rattle.xdr_stream.specs.Values.{Tells, level_of, closed_tree, leaf_tre
 
 use crate::build::{Build, Leaf, Node};
 use std::alloc::{AllocError, Global};
+use xdr_stack::Blocks;
 use xdr_types::Value;
 
 /// The most fields that a structure has room for when it begins, so that a node takes little memory before its bytes.
@@ -32,7 +33,7 @@ pub enum Level {
 pub struct Values {
     pub alloc: Global,
     pub work: Level,
-    pub parents: Vec<Level>,
+    pub parents: Blocks<Level>,
     pub content: Vec<u8>,
     /// How many nodes there are, finished or at work.
     pub nodes: usize,
@@ -266,10 +267,9 @@ impl Build for Values {
 
     #[inline(always)]
     fn open(&mut self, node: Node) -> Result<(), AllocError> {
-        self.parents.reserve(1)?;
         let level = begun(self.alloc, node)?;
         let parent = std::mem::replace(&mut self.work, level);
-        self.parents.push_reserved(parent);
+        self.parents.push(parent)?;
         self.nodes = self.nodes.saturating_add(1);
         Ok(())
     }
@@ -317,7 +317,7 @@ impl Build for Values {
 
     fn clear(&mut self) {
         self.work = Level::Root(None);
-        self.parents = Vec::new(self.alloc);
+        self.parents.clear();
         self.content = Vec::new(self.alloc);
         self.nodes = 0;
         self.kept = 0;

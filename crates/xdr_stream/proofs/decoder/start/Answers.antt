@@ -26,7 +26,7 @@ returns-clause-stands c =
       kept = 0;
     } in
     let told : Tells built at_start = record {
-      trace = told_start c.new-2.result.items c.new-3.result.items c.new-2.ensures.items c.new-3.ensures.items;
+      trace = told_start c.new-2.result.items c.new-3.result.items c.new-2.ensures c.new-3.ensures.items;
       nodes = λ few. refl;
       kept = λ few. refl;
     } in
@@ -36,11 +36,11 @@ returns-clause-stands c =
       refl,
       subst (λ (fs : List (List Part)). Sees c.args.schema.now.kinds c.args.kind.place c.args.limits tells Next
           ((item_part c.args.kind.place ∷ []) ∷ fs) [])
-          (ap (λ (fs : List Frame). onto [] fs) (sym c.new.ensures.items))
+          (ap (λ (fs : List Frame). onto [] fs) (sym c.new.ensures))
           (sees_start c.args.schema.now.kinds c.args.kind.place c.args.limits tells c.len-known.ensures.valued
           c.requires told),
       told,
-      ap (λ (fs : List Frame). length ((item_part c.args.kind.place ∷ []) ∷ onto [] fs)) c.new.ensures.items,
+      ap (λ (fs : List Frame). length ((item_part c.args.kind.place ∷ []) ∷ onto [] fs)) c.new.ensures,
     )
 
 pub invariant_of-result : goal.invariant_of-result
@@ -48,7 +48,7 @@ invariant_of-result c = record {
   sound = (
     c.requires,
     subst (λ (fs : List (List Part)). AreAllSolid c.args.schema.now.kinds fs)
-        (ap (λ (fs : List Frame). onto [] fs) (sym c.new.ensures.items)) tt,
+        (ap (λ (fs : List Frame). onto [] fs) (sym c.new.ensures)) tt,
   );
   waits = tt;
 }

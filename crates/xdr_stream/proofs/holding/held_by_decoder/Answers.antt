@@ -7,7 +7,7 @@ use Rattle.xdr_stream.specs.Kept.{nodes_in, bytes_kept}
 use Rattle.xdr_stream.specs.Held.{frames_at, nodes_at, pending_at}
 use Rattle.xdr_stream.specs.Stands.{StandsAs}
 use Rattle.xdr_stream.specs.declared.reader.State.{State}
-use Rattle.xdr_stream.proofs.Stored.{stored, frames_few, whole_stored, due_stored}
+use Rattle.xdr_stream.proofs.Stored.{stored, frames_few, parents_few, whole_stored, due_stored}
 use Rattle.xdr_stream.proofs.holding.held_by_decoder.Goals as goal
 
 pub returns-clause-counts : goal.returns-clause-counts
@@ -19,7 +19,7 @@ returns-clause-counts c = λ b st.
     let n = w.1.nodes (omega (arith, w.2.few)) in
     let below : r.built.nodes + 1 < 2 ^ 64 = omega (arith, n, w.2.few) in
     record {
-      frames = c.frames_of.ensures;
+      frames = c.frames_of.ensures (parents_few r.state r.work r.parents.items r.limits c.depth-range.ensures.range w.2.frames_are);
       nodes_are = c.nodes_of.ensures below ∙ ap (λ (m : ℕ). nodes_at r.state m) n
           ∙ ap (λ (t : Trace). nodes_at r.state (nodes_in t.levels)) (sym w.1.trace);
       bytes_are = w.1.kept w.2.short ∙ ap (λ (t : Trace). bytes_kept t) (sym w.1.trace);
@@ -38,7 +38,7 @@ returns-clause-bounds c = λ b st.
     record {
       frames = omega (
         arith,
-        c.frames_of.ensures,
+        c.frames_of.ensures (parents_few r.state r.work r.parents.items r.limits c.depth-range.ensures.range w.2.frames_are),
         frames_few r.state r.work r.parents.items r.limits.depth
             w.2.frames_are,
       );
@@ -76,7 +76,8 @@ returns-clause-whole c = λ b done st.
     record {
       value = v.0;
       outcome = v.1;
-      frames = c.frames_of.ensures ∙ ap (λ (x : State). frames_at x r.parents.items) done;
+      frames = c.frames_of.ensures (parents_few r.state r.work r.parents.items r.limits c.depth-range.ensures.range w.2.frames_are)
+          ∙ ap (λ (x : State). frames_at x r.parents.items) done;
       nodes = (let m = c.nodes_of.ensures below ∙ ap (λ (x : State). nodes_at x (r.built.nodes + 1)) done in
           omega (arith, m, n, ap (λ (t : Trace). nodes_in t.levels) same, v.4));
       bytes = w.1.kept w.2.short ∙ ap (λ (t : Trace). bytes_kept t) same ∙ v.5;

@@ -8,8 +8,8 @@ pub returns : goal.returns
 returns c = λ t told.
     tells_open c.args.self.now _ (head_of_node c.args.node) t
     (opened c.args.self.now.content.items c.args.self.now.work c.replace-parent.new.dest c.replace-parent.result
-    c.args.self.now.parents.items c.reserve.new.self.items c.push_reserved.new.self.items
+    c.args.self.now.parents.items c.push.new.self.items
     (head_of_node c.args.node) t
     (rw c.replace-parent.ensures.after c.in_ok-level.ensures) c.replace-parent.ensures.value
-    c.in_ok-reserve.ensures.items c.push_reserved.ensures.items told.trace)
+    c.in_ok-push.ensures.items told.trace)
     (λ few. omega (arith, c.saturating_add-self.ensures, few)) refl told
