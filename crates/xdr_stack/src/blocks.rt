@@ -9,13 +9,12 @@ use std::alloc::{AllocError, Global};
 use std::marker::Model;
 use std::mem;
 
-/// The most items of a block, so that a block of items of forty bytes is below a kibibyte: asked for as much, the C
-/// library joins all small blocks that it keeps, and has to cut each later one anew.
-const MOST: usize = 16;
-
-/// Items, one upon the other, in blocks of a few. The blocks that they filled once are kept for those to come.
+/// Items, one upon the other, in blocks of `MOST` at most. The blocks that they filled once are kept for those to come.
+///
+/// `MOST` is to be such that a block is below a kibibyte: asked for as much, the C library joins all small blocks that
+/// it keeps, and has to cut each later one anew.
 #[derive(Drop)]
-pub struct Blocks<T> {
+pub struct Blocks<T, const MOST: usize> {
     alloc: Global,
     /// The items above the full blocks.
     top: Vec<T>,
@@ -24,7 +23,7 @@ pub struct Blocks<T> {
     ghost filled: { AreFilled full } by { one_filled full },
 }
 
-impl<T> Model for Blocks<T> {
+impl<T, const MOST: usize> Model for Blocks<T, MOST> {
     ghost use Rattle.std.specs.Prelude.{◌++◌};
     ghost use Rattle.xdr_stack.specs.Stacks.{Items};
     ghost use Rattle.xdr_stack.specs.Chains.{chain_items, AreFilled};
@@ -35,7 +34,12 @@ impl<T> Model for Blocks<T> {
 }
 
 // A spare block, or a new one.
-fn empty_block<T: Drop>(alloc: Global, spare: &mut Chain<T>) -> Result<Box<Block<T>>, AllocError>
+fn empty_block<T: Drop>(
+    alloc: Global,
+    most: usize,
+    spare: &mut Chain<T>,
+) -> Result<Box<Block<T>>, AllocError>
+    requires { 0 < most }
     ensures items { IfOk result (λ b. b.value.items.items ≡ []) }
     ensures room { IfOk result (λ b. 0 < vec_capacity b.value.items) }
 {
@@ -44,7 +48,7 @@ fn empty_block<T: Drop>(alloc: Global, spare: &mut Chain<T>) -> Result<Box<Block
         block.items.reserve(1)?;
         return Ok(block);
     }
-    let items = Vec::with_capacity(alloc, MOST)?;
+    let items = Vec::with_capacity(alloc, most)?;
     let below = Chain::End;
     Ok(Box::new(alloc, Block { items, below })?)
 }
@@ -54,6 +58,7 @@ fn empty_block<T: Drop>(alloc: Global, spare: &mut Chain<T>) -> Result<Box<Block
 #[inline(never)]
 fn make_room<T: Drop>(
     alloc: Global,
+    most: usize,
     top: &mut Vec<T>,
     full: &mut Chain<T>,
     spare: &mut Chain<T>,
@@ -62,10 +67,12 @@ fn make_room<T: Drop>(
     ensures filled { AreFilled full.old → AreFilled full.new }
     ensures room { OnOk result (vec_len top.new < vec_capacity top.new) }
 {
-    if top.len() < MOST {
-        return top.reserve(1);
+    let most = most.max(1);
+    if top.len() < most {
+        let more = top.len().max(4).min(most - top.len());
+        return top.reserve_exact(more);
     }
-    let mut block = empty_block(alloc, spare)?;
+    let mut block = empty_block(alloc, most, spare)?;
     mem::swap(top, &mut block.items);
     full.push(block);
     Ok(())
@@ -86,9 +93,9 @@ fn lower<T: Drop>(top: &mut Vec<T>, full: &mut Chain<T>, spare: &mut Chain<T>)
     }
 }
 
-impl<T: Drop> Blocks<T> {
+impl<T: Drop, const MOST: usize> Blocks<T, MOST> {
     /// No items. It takes no memory.
-    pub fn new(alloc: Global) -> Blocks<T>
+    pub fn new(alloc: Global) -> Blocks<T, MOST>
         ensures { result.items ≡ [] }
     {
         Blocks {
@@ -114,7 +121,13 @@ impl<T: Drop> Blocks<T> {
         ensures stays { OnErr result (self.new.items ≡ self.old.items) }
     {
         if self.top.len() == self.top.capacity() {
-            make_room(self.alloc, &mut self.top, &mut self.full, &mut self.spare)?;
+            make_room(
+                self.alloc,
+                MOST,
+                &mut self.top,
+                &mut self.full,
+                &mut self.spare,
+            )?;
         }
         self.top.push_reserved(item);
         Ok(())

@@ -11,12 +11,15 @@ use std::marker::Model;
 /// How many items lie in the stack itself.
 const NEAR: usize = 4;
 
+/// How many lie in a block, so that a block of items of 24 bytes is below a kibibyte.
+const FAR: usize = 40;
+
 /// A stack. Its lowest four items take no memory of their own, and the others lie in blocks of a few.
 #[derive(Drop)]
 pub struct Stack<T: MadeWith<Global> + Drop> {
     near: ArrayVec<T, NEAR, Global>,
     /// The items above those. There are none unless those are four.
-    far: Blocks<T>,
+    far: Blocks<T, FAR>,
     /// How many items there are, or the most that a `usize` counts.
     count: usize,
 }
@@ -39,7 +42,7 @@ impl<T: MadeWith<Global> + Drop> Model for Stack<T> {
 // The count after one item fewer, of which so many are near: where it was the most that a `usize` counts, there may be
 // more, and they are counted.
 #[inline(always)]
-fn less<T: Drop>(count: usize, near: usize, far: &Blocks<T>) -> usize
+fn less<T: Drop>(count: usize, near: usize, far: &Blocks<T, FAR>) -> usize
     ensures { count ≡ min (near + (length far.now.items + 1)) (2 ^ 64 - 1)
         → result ≡ min (near + length far.now.items) (2 ^ 64 - 1) }
 {

@@ -18,6 +18,9 @@ use xdr_types::Value;
 /// The most fields that a structure has room for when it begins, so that a node takes little memory before its bytes.
 const MOST_ROOM: usize = 16;
 
+/// How many nodes at work lie in a block, so that a block of them is below a kibibyte.
+const BLOCK: usize = 24;
+
 /// A node at work with its finished parts.
 #[derive(Drop)]
 pub enum Level {
@@ -33,7 +36,7 @@ pub enum Level {
 pub struct Values {
     pub alloc: Global,
     pub work: Level,
-    pub parents: Blocks<Level>,
+    pub parents: Blocks<Level, BLOCK>,
     pub content: Vec<u8>,
     /// How many nodes there are, finished or at work.
     pub nodes: usize,
