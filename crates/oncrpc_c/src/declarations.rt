@@ -8,10 +8,10 @@ ghost use Rattle.oncrpc_c.specs.declared.answer.Answer.{Answer as AnswerSpec};
 use super::answer::Answer;
 use super::asking::answer_by;
 use super::handle::Handle;
-use super::held::{keep, taken};
 use super::outcome::Outcome;
 use super::state::State;
 use super::unread::{Unread, read_text};
+use c_handles::{keep, taken};
 use std::alloc::Global;
 
 /// Reads the text into the handle, which holds none where it is refused.

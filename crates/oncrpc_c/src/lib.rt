@@ -10,7 +10,6 @@ mod check;
 mod declarations;
 mod examples;
 mod handle;
-mod held;
 mod judge;
 mod listed;
 mod listing;

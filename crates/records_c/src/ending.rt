@@ -7,9 +7,9 @@ ghost use Rattle.records_c.specs.declared.answer.Answer.{Answer as AnswerSpec};
 
 use super::answer::Answer;
 use super::handle::Records;
-use super::held::{keep, taken};
 use super::outcome::Outcome;
 use super::state::State;
+use c_handles::{keep, taken};
 use std::alloc::Global;
 
 /// Ends the stream behind the bytes that were taken.

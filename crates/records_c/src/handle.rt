@@ -3,7 +3,7 @@ ghost use Rattle.std.specs.Prelude.{◌≡◌, Option, Some, None, option_map};
 ghost use Rattle.records_c.specs.declared.state.State.{State};
 
 use super::state::State;
-use c_handles::Loose;
+use c_handles::{Keeper, Loose};
 use std::alloc::Global;
 use std::marker::Model;
 
@@ -22,16 +22,18 @@ impl Model for Records {
     ghost also_owns = { λ h. kept the_row h.live h.at h.held };
 }
 
-impl Records {
+impl Keeper<State> for Records {
+    ghost held = { λ h. h.held };
+
     /// No reader.
-    pub(crate) fn none(at: *mut u8) -> Records
+    fn none(at: *mut u8) -> Records
         ensures { result.held ≡ None }
     {
         Records { at, live: false }
     }
 
     /// This reader.
-    pub(crate) fn of(loose: Loose<State, Global>) -> Records
+    fn of(loose: Loose<State, Global>) -> Records
         ensures { result.held ≡ Some loose.value }
     {
         let Loose { at, alloc: _ } = loose;
@@ -42,7 +44,7 @@ impl Records {
     }
 
     /// The reader, where there is one.
-    pub(crate) fn opened(self, alloc: Global) -> Option<Loose<State, Global>>
+    fn opened(self, alloc: Global) -> Option<Loose<State, Global>>
         ensures { option_map (λ b. b.value) result ≡ self.held }
     {
         let Records { at, live } = self;

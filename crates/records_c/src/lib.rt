@@ -9,7 +9,6 @@ mod ending;
 mod examples;
 mod feeding;
 mod handle;
-mod held;
 mod outcome;
 mod room;
 mod start;

@@ -7,10 +7,10 @@ ghost use Rattle.records_c.specs.declared.answer.Answer.{Answer as AnswerSpec};
 
 use super::answer::Answer;
 use super::handle::Records;
-use super::held::{keep, taken};
 use super::outcome::Outcome;
 use super::room::place;
 use super::state::State;
+use c_handles::{keep, taken};
 use std::alloc::Global;
 
 /// Puts the record that waits into the room. It waits on where it does not go into it.

@@ -8,11 +8,11 @@ ghost use Rattle.registry_c.specs.declared.answer.Answer.{Answer as AnswerSpec};
 
 use super::answer::Answer;
 use super::handle::Registry;
-use super::held::{keep, taken};
 use super::outcome::Outcome;
 use super::reply::reply_into;
 use super::state::State;
 use super::transport::transport_of;
+use c_handles::{keep, taken};
 use rpc_answer::{Transport, answer};
 use std::alloc::Global;
 

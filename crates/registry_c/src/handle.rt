@@ -3,7 +3,7 @@ ghost use Rattle.std.specs.Prelude.{◌≡◌, Option, Some, None, option_map};
 ghost use Rattle.registry_c.specs.declared.state.State.{State};
 
 use super::state::State;
-use c_handles::Loose;
+use c_handles::{Keeper, Loose};
 use std::alloc::Global;
 use std::marker::Model;
 
@@ -22,16 +22,18 @@ impl Model for Registry {
     ghost also_owns = { λ h. kept the_row h.live h.at h.held };
 }
 
-impl Registry {
+impl Keeper<State> for Registry {
+    ghost held = { λ h. h.held };
+
     /// No registry.
-    pub(crate) fn none(at: *mut u8) -> Registry
+    fn none(at: *mut u8) -> Registry
         ensures { result.held ≡ None }
     {
         Registry { at, live: false }
     }
 
     /// This registry.
-    pub(crate) fn of(loose: Loose<State, Global>) -> Registry
+    fn of(loose: Loose<State, Global>) -> Registry
         ensures { result.held ≡ Some loose.value }
     {
         let Loose { at, alloc: _ } = loose;
@@ -42,7 +44,7 @@ impl Registry {
     }
 
     /// The registry, where there is one.
-    pub(crate) fn opened(self, alloc: Global) -> Option<Loose<State, Global>>
+    fn opened(self, alloc: Global) -> Option<Loose<State, Global>>
         ensures { option_map (λ b. b.value) result ≡ self.held }
     {
         let Registry { at, live } = self;

@@ -9,7 +9,6 @@ mod answering;
 mod examples;
 mod handle;
 mod hasher;
-mod held;
 mod outcome;
 mod reply;
 mod room;

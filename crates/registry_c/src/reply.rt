@@ -10,10 +10,10 @@ ghost use Rattle.registry_c.specs.declared.answer.Answer.{Answer as AnswerSpec};
 
 use super::answer::Answer;
 use super::handle::Registry;
-use super::held::{keep, taken};
 use super::outcome::Outcome;
 use super::room::place;
 use super::state::State;
+use c_handles::{keep, taken};
 use rpc_answer::Answered;
 use std::alloc::Global;
 

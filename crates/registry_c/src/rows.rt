@@ -8,9 +8,9 @@ ghost use Rattle.registry_c.specs.declared.answer.Answer.{Answer as AnswerSpec};
 
 use super::answer::Answer;
 use super::handle::Registry;
-use super::held::{keep, taken};
 use super::outcome::Outcome;
 use super::state::State;
+use c_handles::{keep, taken};
 use std::alloc::Global;
 
 /// The greatest count of bytes of an owner.
