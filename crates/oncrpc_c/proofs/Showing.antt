@@ -4,9 +4,9 @@ use Rattle.std.proofs.Common.{append-nil, Some}
 use Rattle.std.proofs.lemmas.Bool.{false≢true}
 use Rattle.std.proofs.lemmas.List.{take-append-drop}
 use Rattle.xdr_types.specs.Tree.{Tree}
-use Rattle.xdr_types.specs.Outcome.{Ending, Outcome, Whole}
+use Rattle.xdr_types.specs.Outcome.{Outcome, Whole}
 use Rattle.xdr_show.specs.Shown.{show_text}
-use Rattle.xdr_laws.proofs.OneOutcome.{one_outcome}
+use Rattle.xdr_laws.proofs.OneOutcome.{one_whole}
 use Rattle.xdr_stream.specs.Finish.{EndsWith}
 use Rattle.xdr_stream.specs.declared.fault.DecodeFault.{DecodeFault}
 use Rattle.xdr_stream.specs.declared.fault.Reason.{Reason}
@@ -22,17 +22,11 @@ use Rattle.oncrpc_c.specs.Room.{IsPut, IsKept}
 use Rattle.oncrpc_c.specs.Shown.{IsShown, IsShownBy, IsShownByHeld, HaveNoRoom}
 use Rattle.oncrpc_c.specs.Statuses.{tells_value}
 
--- the value of an outcome that has one
-abbrev value_in : Tree → Ending → Tree
-value_in other (Whole v n) = v
-value_in other _ = other
-
 -- one value begins the input
 pub same_value : (q : Question) (b : List ℕ) (used : ℕ) (begins : BeginsWithValue q b used) (v : Tree) (n : ℕ)
     → Outcome q.kinds q.place q.limits b (Whole v n) → v ≡ begins.value
 same_value q b used begins v n o =
-    let one = one_outcome q.kinds q.place q.limits b (Whole v n) (Whole begins.value used) o begins.outcome in
-    ap (λ (e : Ending). value_in v e) one
+    one_whole q.kinds q.place q.limits b v begins.value n used o begins.outcome
 
 -- lines of a value that begins the input are those of each
 pub same_lines : (q : Question) (b : List ℕ) (used : ℕ) (begins : BeginsWithValue q b used) (v : Tree) (n : ℕ)

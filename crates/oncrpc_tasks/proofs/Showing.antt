@@ -6,10 +6,10 @@ use Rattle.std.specs.Io.KnownBytes.{Consumes}
 use Rattle.xdr_types.specs.Kinds.{KindView}
 use Rattle.xdr_types.specs.Tree.{Tree}
 use Rattle.xdr_types.specs.Within.{Bounds}
-use Rattle.xdr_types.specs.Outcome.{Ending, Outcome, Whole}
+use Rattle.xdr_types.specs.Outcome.{Outcome, Whole}
 use Rattle.xdr_show.specs.Shown.{show_text}
 use Rattle.xdr_laws.proofs.Longer.{stays}
-use Rattle.xdr_laws.proofs.OneOutcome.{one_outcome}
+use Rattle.xdr_laws.proofs.OneOutcome.{one_whole}
 use Rattle.xdr_laws.proofs.Whole.{whole_exactly}
 use Rattle.xdr_stream.specs.Finish.{EndsWith}
 use Rattle.xdr_stream.specs.Sees.{Ends}
@@ -25,16 +25,10 @@ use Rattle.oncrpc_tasks.specs.Stopping.{ReadsUnsettled, LastRead, IsUnread}
 use Rattle.oncrpc_tasks.specs.Private.Judged.{IsKept, Shows, unshown}
 use Rattle.oncrpc_tasks.proofs.Rightly.{refused_at_end}
 
--- an outcome is one value
-abbrev value_in : Tree → Ending → Tree
-value_in other (Whole v n) = v
-value_in other _ = other
-
 same_value : (s : List KindView) (t : ℕ) (l : Bounds) (b more : List ℕ) (v w : Tree) (m n : ℕ)
     → Outcome s t l b (Whole v m) → Outcome s t l (b ++ more) (Whole w n) → v ≡ w
 same_value s t l b more v w m n o p =
-    ap (λ (e : Ending). value_in v e)
-    (one_outcome s t l (b ++ more) (Whole v m) (Whole w n) (stays s t l b more (Whole v m) tt o) p)
+    one_whole s t l (b ++ more) v w m n (stays s t l b more (Whole v m) tt o) p
 
 -- the value of an answer that has one
 pub whole_value : (q : Question) (b : List ℕ) (used : ℕ) → IsRight q b (answer.Whole used) []

@@ -2,6 +2,7 @@
 use Rattle.std.proofs.Common.{◌≡◌, ℕ, ◌+◌, ◌≤◌, ◌⊎◌, inl, inr, List, [], ◌∷◌, ◌++◌, length, Option}
 use Rattle.std.proofs.Common.{Some, None, ◌==◌, if◌then◌else◌}
 use Rattle.std.proofs.Common.{Result, Ok, Err, codes, decimal, suc, get_or, refl, ap, sym, ◌∙◌, subst, arith}
+use Rattle.std.proofs.lemmas.List.{nil_from_length}
 use Rattle.std.specs.Fmt.{digits}
 use Rattle.rpc_message.specs.declared.message.Reply.{Reply}
 use Rattle.rpc_message.specs.Cases.{NoTwoCases}
@@ -53,10 +54,6 @@ one_front (Some rest) [] one h = absurd (omega (arith, one))
 one_front (Some rest) (d ∷ []) one h =
     ap (λ (x : List ℕ). x ∷ []) (sym (ap (λ (l : List (List ℕ)). get_or l 0 []) h))
 one_front (Some rest) (d ∷ c ∷ ds) one h = absurd (omega (arith, one))
-
-no_front : (ds : List (List ℕ)) → length ds ≡ 0 → ds ≡ []
-no_front [] none = refl
-no_front (d ∷ ds) none = absurd (omega (arith, none))
 
 then_one : (mid left : Told) (d : List ℕ) → Receives (Some ([] ∷ [])) mid [] → Receives mid left (d ∷ []) → d ≡ []
 then_one None left d h k = absurd h
@@ -120,7 +117,7 @@ not_unsent_silent : NoTwoCases → (done : ℕ) (rows new : List Row) (left left
 not_unsent_silent cases done rows new left left' sent sent' is h =
     let few = h.few in
     let many = h.so_many in
-    let no = no_front h.datagrams (omega (arith, few, many)) in
+    let no = nil_from_length h.datagrams (omega (arith, few, many)) in
     let first = subst (λ (ds : List (List ℕ)). Receives (Some ([] ∷ [])) h.waiting ds) no
     (subst (λ (t : Told). Receives t h.waiting h.datagrams) is h.finished.received) in
     let empty = then_one h.waiting left' h.answering first h.received in

@@ -10,6 +10,7 @@ use Rattle.rpc_record.specs.declared.place.Place.TheVariants as place
 use Rattle.rpc_record.specs.declared.reader.RecordReader.{RecordReader}
 use Rattle.rpc_record.specs.Fields.{IsTakingAt, IsBrokenAt}
 use Rattle.rpc_record.specs.Reading.{IsWhole}
+use Rattle.rpc_record.proofs.Told.{not_broken}
 use Rattle.rpc_record.specs.Stands.{IsBetween, IsWaiting, IsTaking, IsBroken, TruncatedAt, Ends, Concludes, limit_of}
 use Rattle.records_c.specs.declared.answer.Answer.TheVariants as answer
 use Rattle.records_c.specs.Ended.{IsEnded, IsCut}
@@ -23,13 +24,6 @@ one_fault (place.Header at part) f g b c = absurd b
 one_fault (place.Content w) f g b c = absurd b
 one_fault place.Whole f g b c = absurd b
 one_fault (place.Broken h) f g b c = sym b ∙ c
-
-none_taking : (p : Place) (f : RecordFault) → IsTakingAt p → IsBrokenAt p f → ⊥
-none_taking place.Between f t b = b
-none_taking (place.Header at part) f t b = b
-none_taking (place.Content w) f t b = b
-none_taking place.Whole f t b = b
-none_taking (place.Broken h) f t b = t
 
 none_well : (reader : RecordReader) (f : RecordFault) → IsBetween reader ⊎ IsWaiting reader → IsBroken reader f → ⊥
 none_well reader f (inl e) b = subst (λ (p : Place). IsBrokenAt p f) e b
@@ -67,7 +61,7 @@ cut old fault.TooManyReads t = absurd t
 same : (old : RecordReader) (f g : RecordFault) → IsBroken old f ⊎ (IsTaking old × TruncatedAt old f) → IsBroken old g
     → f ≡ g
 same old f g (inl b) c = one_fault old.place f g b c
-same old f g (inr t) c = absurd (none_taking old.place g t.0 c)
+same old f g (inr t) c = absurd (not_broken old.place g t.0 c)
 
 pub bad : (old new : RecordReader) (w : Bool) (last : List ℕ) (f : RecordFault) → w ≡ false
     → limit_of new ≡ limit_of old → Ends old new (Err f) → Concludes old (Err f)

@@ -2,6 +2,7 @@
 use Rattle.std.proofs.Common.{◌≡◌, ◌≢◌, ℕ, Bool, List, [], ◌∷◌, length, Some, None}
 use Rattle.std.proofs.Common.{Result, Ok, Err}
 use Rattle.std.proofs.Common.{refl, sym, ap, ◌∙◌, subst, arith, IfOk, IfErr, OnOk, IsOk, IsErr, take}
+use Rattle.std.proofs.lemmas.List.{nil_from_length}
 use Rattle.rpc_message.specs.declared.fault.ReplyFault.{ReplyFault}
 use Rattle.rpc_message.specs.declared.message.Reply.{Reply}
 use Rattle.rpc_message.specs.Cases.{NoTwoCases}
@@ -36,10 +37,6 @@ none_run : (rows new : List Row) (ys : List Bool) (replies : List (List ℕ)) �
 none_run rows new [] replies h = h
 none_run rows new (y ∷ ys) replies h = absurd h
 
-no_items : (ds : List (List ℕ)) → length ds ≡ 0 → ds ≡ []
-no_items [] e = refl
-no_items (d ∷ ds) e = absurd (omega (arith, e))
-
 -- nothing was received or sent, and the rows stay
 abbrev pub IsStill : List Row → List Row → Told → Told → Told → Told → Type 0
 IsStill rows new l m s t = (new ≡ rows) × Receives l m [] × Sends s t []
@@ -48,7 +45,7 @@ module _ (rows new : List Row) (l m s t : Told) where
   still : (ds replies : List (List ℕ)) (ys : List Bool) → length ds ≡ 0 → Receives l m ds
       → Run rows udp ds ys new replies → Sends s t replies → IsStill rows new l m s t
   still ds replies ys e h run k =
-      let none = no_items ds e in
+      let none = nil_from_length ds e in
       let r = none_run rows new ys replies (subst (λ d. Run rows udp d ys new replies) none run) in
       (r.0, subst (λ d. Receives l m d) none h, subst (λ d. Sends s t d) r.1 k)
 
@@ -58,7 +55,7 @@ module _ (rows new : List Row) (l m s t : Told) where
       → IsOk result × IfOk result (λ served. (served.records ≡ 0) × (served.replies ≡ 0)) × IsStill rows new l m s t
   none_served (Ok served) h k =
       let f = h.finished in
-      let ds = no_items h.datagrams h.all in
+      let ds = nil_from_length h.datagrams h.all in
       let replies = (none_run rows new f.refusals h.replies
       (subst (λ d. Run rows udp d f.refusals new h.replies) ds f.run)).1 in (
         refl,

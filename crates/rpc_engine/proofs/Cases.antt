@@ -7,7 +7,7 @@ use Rattle.rpc_engine.specs.Exchanged.{xid_of}
 use Rattle.rpc_engine.specs.DatagramExchange.{OwnReply, OtherReply, NotReply}
 use Rattle.rpc_engine.specs.Laws.{OneCase, SomeCase}
 
-abbrev ReplyLaw : Type 0
+abbrev pub ReplyLaw : Type 0
 ReplyLaw = (q r : ReplyView) (a b : List ℕ) → ReplyBytes q a → ReplyBytes r b → ((q ≡ r) ↔ (a ≡ b))
 
 module _ (exact : ReplyLaw) where

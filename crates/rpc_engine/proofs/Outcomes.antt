@@ -15,6 +15,7 @@ use Rattle.rpc_engine.specs.declared.fault.ClientFault.TheVariants as fault
 use Rattle.rpc_engine.specs.Exchanged.{most_reply, xid_of, IsNoReply, IsFirst, IsOutcome, IsAnswer, IsExact, Exchanged}
 use Rattle.rpc_engine.specs.Exchanged.{Outcome, Replied, OtherXid, NoReply, TooLong, Truncated}
 use Rattle.rpc_engine.specs.Laws.{OneOutcome, SomeOutcome, OutcomesStay, HasEnded}
+use Rattle.rpc_engine.proofs.Cases.{ReplyLaw}
 use Rattle.rpc_engine.proofs.First.{begins_more}
 
 -- of two fronts the longer one begins with the shorter
@@ -62,9 +63,6 @@ long_first : TooLongEnds → (r : List ℕ) (at : ℕ) (input : List ℕ) → To
 long_first ends r at input long h =
     none_first r input
     (subst (λ b. Longest most_reply [] b) (append-nil input) (ends most_reply at [] input [] long).1) h
-
-abbrev ReplyLaw : Type 0
-ReplyLaw = (q r : ReplyView) (a b : List ℕ) → ReplyBytes q a → ReplyBytes r b → ((q ≡ r) ↔ (a ≡ b))
 
 module _ (exact : ReplyLaw) (none : NoneBeginsAnother) (ends : TooLongEnds) (one : OneTooLong) where
   same_reply : (v w : ReplyView) (r s input : List ℕ) → IsFirst r input → IsFirst s input → ReplyBytes v r

@@ -69,7 +69,3 @@ pub plain_rows-push : (es : List (Key × Row)) (e : Key × Row)
     → plain_rows (es ++ e ∷ []) ≡ plain_rows es ++ plain_row e.1 ∷ []
 plain_rows-push [] e = refl
 plain_rows-push (x ∷ xs) e = ap (λ rs. plain_row x.1 ∷ rs) (plain_rows-push xs e)
-
-pub is_some-map : {X Y : Type 0} (f : X → Y) (x : Option X) → is_some (option_map f x) ≡ is_some x
-is_some-map f None = refl
-is_some-map f (Some x) = refl

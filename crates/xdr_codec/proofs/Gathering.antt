@@ -1,7 +1,7 @@
 -- The steps of a gathering.
 use Rattle.std.proofs.Common.{◌≡◌, ℕ, zero, suc, ◌+◌, ◌-◌, ◌<◌, ◌≤◌, ◌^◌, List, [], ◌∷◌, ◌++◌, length, take, drop, refl}
 use Rattle.std.proofs.Common.{sym, ap, subst, ◌∙◌, arith, Option}
-use Rattle.std.proofs.lemmas.List.{append-nil, length-append, take_all, take-append-drop, take-append-le, length-drop}
+use Rattle.std.proofs.lemmas.List.{append-nil, length-append, take_all, take-append-drop, take-append-le, length-drop, drop-append-le}
 use Rattle.std.specs.Io.KnownBytes.{Appends}
 use Rattle.xdr_io.specs.Told.{Counts}
 use Rattle.xdr_io.proofs.Chained.{Appends-none, Appends-trans, Counts-trans, take-add, take_past}
@@ -76,11 +76,6 @@ gathered a b x taken counts written filled array = record {
       };
   none_failed = counts;
 }
-  where
-    drop-append-le : (n : ℕ) (xs ys : List ℕ) → n ≤ length xs → drop n (xs ++ ys) ≡ drop n xs ++ ys
-    drop-append-le zero xs ys h = refl
-    drop-append-le (suc n) [] ys h = absurd (omega (arith, h))
-    drop-append-le (suc n) (x ∷ xs) ys h = drop-append-le n xs ys (omega (arith, h))
 
 -- bytes go out past the empty array
 pub passed : (a b : Gathering) (x : List ℕ) → a.filled ≡ 0 → b.filled ≡ 0 → Appends a.taken b.taken x

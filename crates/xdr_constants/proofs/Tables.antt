@@ -124,15 +124,9 @@ same_constants m n ks has e = record { finds = λ q. at_same m n e q ∙ has.fin
 abbrev pub within : ℕ → ℕ × ℤ × Bool → Option (ℤ × Bool)
 within before x = cond (nat_lt x.0 before) (Some (x.1, x.2)) None
 
-pub not_below : (i b : ℕ) → b ≤ i → nat_lt i b ≡ false
-not_below i b h = le-ltb i b h
-
-pub is_below : (i b : ℕ) → i < b → nat_lt i b ≡ true
-is_below i b h = lt-ltb i b h
-
 none_cons : (t : Bool) (f : Option (ℕ × ℤ × Bool)) (i : ℕ) (x : Known) (b : ℕ) → b ≤ i → (f >>= within b) ≡ None
     → (cond t (Some (i, x.value, x.by_const)) f >>= within b) ≡ None
-none_cons true f i x b h e = rw (not_below i b h) refl
+none_cons true f i x b h e = rw (le-ltb i b h) refl
 none_cons false f i x b h e = e
 
 none_within : (q : List ℕ) (ks : List Known) (i b : ℕ) → b ≤ i → (first_named q i ks >>= within b) ≡ None
@@ -144,7 +138,7 @@ none_within q (x ∷ ks) i b h = none_cons (bytes_eq x.name q) (first_named q (s
 known_cons : (t : Bool) (k : Option (ℤ × Bool)) (f : Option (ℕ × ℤ × Bool)) (i : ℕ) (x : Known) (b : ℕ) → i < b
     → k ≡ (f >>= within b)
     → cond t (Some (x.value, x.by_const)) k ≡ (cond t (Some (i, x.value, x.by_const)) f >>= within b)
-known_cons true k f i x b h e = rw (is_below i b h) refl
+known_cons true k f i x b h e = rw (lt-ltb i b h) refl
 known_cons false k f i x b h e = e
 
 known_within : (q : List ℕ) (ks : List Known) (i b : ℕ) → known q (take b ks) ≡ (first_named q i ks >>= within (i + b))

@@ -6,6 +6,7 @@ use Rattle.std.specs.BTreeMap.{BTreeMap, Updates, IsUnchanged, IsEmpty}
 use Rattle.std.specs.BTreeSet.{BTreeSet}
 use Rattle.std.specs.Option.{option_or}
 use Rattle.std.specs.Str.{bytes_eq}
+use Rattle.xdr_units.proofs.Found.{is_some-map}
 use denote.Ref.{Bor}
 use Rattle.xdr_grammar.specs.declared.outline.Part.{Part}
 use Rattle.xdr_grammar.specs.View.{part_of}
@@ -35,10 +36,6 @@ map_cond : {A B : Type 0} (f : A → B) (b : Bool) (v : A) (o : Option A)
 map_cond f true v o = refl
 map_cond f false v o = refl
 
-map_some : {A B : Type 0} (f : A → B) (o : Option A) → is_some (option_map f o) ≡ is_some o
-map_some f (Some a) = refl
-map_some f None = refl
-
 pub no_parts : (m : BTreeMap (Bor (List ℕ)) Part) → IsEmpty m → HasParts m []
 unfolding type_named
 no_parts m e = record { finds = λ q. ap (λ (o : Option Part). option_map part_of o) (at_empty m e q) }
@@ -65,7 +62,7 @@ old_part m ts t key has same there = record {
       let present : bytes_eq t.name q ≡ true → is_some (type_named q ts) ≡ true = λ e.
       let here : key.now ≡ q = same ∙ same_text t.name q e in
       let at : is_some (at_name q m) ≡ true = subst (λ (x : List ℕ). is_some (at_name x m) ≡ true) here there in
-      ap (λ (o : Option out.Part). is_some o) (sym (has.finds q)) ∙ map_some part_of (at_name q m) ∙ at in
+      ap (λ (o : Option out.Part). is_some o) (sym (has.finds q)) ∙ is_some-map part_of (at_name q m) ∙ at in
       has.finds q
       ∙ kept (bytes_eq t.name q) (type_named q ts) t.part present
       ∙ sym (named_more q ts t);

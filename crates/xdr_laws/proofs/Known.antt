@@ -6,7 +6,7 @@ use Rattle.std.specs.Prelude.{Contains}
 use Rattle.std.proofs.lemmas.List.{length-append, length-replicate}
 use Rattle.std.proofs.lemmas.List.Elements.{All-contains, All-from_recursion, Contains-append_cases}
 use Rattle.std.proofs.lemmas.List.Elements.{Contains-append_left}
-use Rattle.xdr_units.proofs.Bytes.{AreBytes-append}
+use Rattle.xdr_units.proofs.Bytes.{AreBytes-append, AreBytes-before}
 use Rattle.xdr_types.specs.Kinds as xdr
 use Rattle.xdr_types.specs.Kinds.{KindView, Part, Constant, kind_at}
 use Rattle.xdr_types.specs.Tree as value
@@ -91,10 +91,6 @@ root_spelling s t v = append-nil (bytes_of s t v)
 pub value_bytes : (s : List KindView) (t : ℕ) (v : Tree) → Fits s t v → AreBytes (bytes_of s t v)
 value_bytes s t v f = subst (λ (b : List ℕ). AreBytes b) (root_spelling s t v)
     (spelling_bytes s (item_part t ∷ []) (from_list (v ∷ [])) (root_fits s t v f))
-
-front_bytes : (q c : List ℕ) → AreBytes (q ++ c) → AreBytes q
-front_bytes [] c a = tt
-front_bytes (x ∷ q) c a = (a.0, front_bytes q c a.1)
 
 pad_units : (n : ℕ) → (n + length (pad n)) % 4 ≡ 0
 pad_units n = omega (arith, length-replicate {A = ℕ} ((4 - n % 4) % 4) 0)
@@ -274,7 +270,7 @@ reached_front s t q units f =
     let whole : Completes s 0 (root t) (q ++ f.1.1) (entries s t f.0) = subst
     (λ (b : List ℕ). Completes s 0 (root t) b (entries s t f.0)) f.1.2 (completion_of s t f.0 f.1.0) in
     reach s q 0 [] (root t) f.1.1 (entries s t f.0) (refl, tt)
-    (front_bytes q f.1.1 (subst (λ (b : List ℕ). AreBytes b) f.1.2 (value_bytes s t f.0 f.1.0))) units whole
+    (AreBytes-before q f.1.1 (subst (λ (b : List ℕ). AreBytes b) f.1.2 (value_bytes s t f.0 f.1.0))) units whole
 
 -- a value that begins with q, from where q is read
 pub begins_into : (s : List KindView) (t : ℕ) (q : List ℕ) (begun : List Entry) (ds : List Due)

@@ -45,15 +45,12 @@ module _ (s : List KindView) (t : ℕ) (l : Bounds) (b x : List ℕ) (p : ℕ) w
   full_shorter : (v : Tree) → p ≤ length b → IsFull s t (b ++ x) p v → IsFull s t b p v
   full_shorter v h f = record { fits = f.fits; spelled = f.spelled ∙ same_front h }
 
-drop_longer : (p : ℕ) (b x : List ℕ) → p ≤ length b → drop p (b ++ x) ≡ drop p b ++ x
-drop_longer p b x h = drop-append-le p b x h
-
 bad_longer : (s : List KindView) (t : ℕ) (b x : List ℕ) (p : ℕ) (why : Why) → IsBad s t b p why
     → IsBad s t (b ++ x) p why
 bad_longer s t b x p why bad =
     let short : p ≤ length b = omega (arith, bad.enough) in
     let unit : take 4 (drop p (b ++ x)) ≡ take 4 (drop p b) =
-    ap (λ (y : List ℕ). take 4 y) (drop_longer p b x short)
+    ap (λ (y : List ℕ). take 4 y) (drop-append-le p b x short)
     ∙ take-append-le 4 (drop p b) x (omega (arith, bad.enough, length-drop p b)) in
     record {
       enough = omega (arith, bad.enough, length-append b x);

@@ -31,7 +31,7 @@ use Rattle.std.proofs.lemmas.Bool.{false≢true}
 use Rattle.xdr_laws.specs.Parts.{Join, up_to, AllFrom, is_opaque, is_first, one_if, nodes_at, nodes}
 use Rattle.xdr_laws.specs.Laws.{FewAtOnePlace, HeldBounds}
 use Rattle.xdr_laws.proofs.Numbers.{unit_of, units_of, unit4-length, unit8-length}
-use Rattle.xdr_laws.proofs.Parts.{parts_join, join_from}
+use Rattle.xdr_laws.proofs.Parts.{parts_join, join_from, join_low}
 use Rattle.xdr_laws.proofs.Known.{root_fits}
 use Rattle.xdr_laws.proofs.GoesOn.{legal_known}
 use Rattle.xdr_laws.proofs.SameParts.{parts_units}
@@ -91,10 +91,6 @@ nodes_after s p a b (e ∷ ps) j h =
     let low = join_low (a + e.size) b ps j.1 in
     let here = not_here e.at p (one_if (is_first (kind_at s e.kind) e.role)) (λ same. absurd (omega (arith, j.0))) in
     let more = nodes_after s p (a + e.size) b ps j.1 h in omega arith
-  where
-    join_low : (a b : ℕ) (ps : List Entry) → Join a ps b → a ≤ b
-    join_low a b [] j = omega arith
-    join_low a b (e ∷ ps) j = let more = join_low (a + e.size) b ps j.1 in omega arith
 
 -- ---- one node begins with a head, at its place
 

@@ -3,7 +3,7 @@ use Rattle.std.proofs.Common.{◌≡◌, ℕ, ◌-◌, ◌^◌, ◌<◌, ◌≤�
 use Rattle.std.proofs.Common.{take, drop, refl, ap, ◌∙◌, arith}
 use Rattle.std.specs.Int.{w32, w64, to_be_bytes, from_be_bytes, cast_unsigned}
 use Rattle.std.proofs.lemmas.Nat.{from_be_bytes-to_be_bytes_4, from_be_bytes-to_be_bytes_8}
-use Rattle.std.proofs.lemmas.Bool.{leb-true}
+use Rattle.std.proofs.lemmas.Bool.{leb-true, le-ltb, lt-ltb}
 use Rattle.xdr_types.specs.Kinds as xdr
 use Rattle.xdr_types.specs.Kinds.{KindView, Constant}
 use Rattle.xdr_types.specs.Fits.{is_tag_of}
@@ -11,7 +11,6 @@ use Rattle.xdr_types.specs.Outcome.{signed, number_in}
 use Rattle.std.proofs.lemmas.Bool.{false≢true}
 use Rattle.xdr_units.specs.Numbers.{word, long_word}
 use Rattle.xdr_laws.proofs.Legal.{IsSigned, signed_is, numbered_signed}
-use Rattle.xdr_laws.proofs.Legal.{is_lt as nat_lt-true}
 
 abbrev pub unit_of : ℤ → ℕ
 unit_of z = cast_unsigned w32 z
@@ -46,14 +45,11 @@ drop8-unit8 n x = refl
 
 -- ---- signed numbers
 
-nat_lt-false : (m n : ℕ) → n ≤ m → nat_lt m n ≡ false
-nat_lt-false m n h = grind arith
-
 pub signed_low : (x : ℕ) → x < 2147483648 → signed x ≡ pos x
-signed_low x h = rw (nat_lt-true x 2147483648 h) refl
+signed_low x h = rw (lt-ltb x 2147483648 h) refl
 
 pub signed_high : (x : ℕ) → 2147483648 ≤ x → signed x ≡ negsuc (4294967295 - x)
-signed_high x h = rw (nat_lt-false x 2147483648 h) refl
+signed_high x h = rw (le-ltb x 2147483648 h) refl
 
 pub signed_back : (z : ℤ) → IsSigned 2147483648 z → (unit_of z < 2 ^ 32) × (signed (unit_of z) ≡ z)
 signed_back (pos n) h = (omega arith, signed_low n h)
@@ -67,10 +63,10 @@ abbrev pub signed8 : ℕ → ℤ
 signed8 x = cond (nat_lt x 9223372036854775808) (pos x) (negsuc (18446744073709551615 - x))
 
 pub signed8_low : (x : ℕ) → x < 9223372036854775808 → signed8 x ≡ pos x
-signed8_low x h = rw (nat_lt-true x 9223372036854775808 h) refl
+signed8_low x h = rw (lt-ltb x 9223372036854775808 h) refl
 
 pub signed8_high : (x : ℕ) → 9223372036854775808 ≤ x → signed8 x ≡ negsuc (18446744073709551615 - x)
-signed8_high x h = rw (nat_lt-false x 9223372036854775808 h) refl
+signed8_high x h = rw (le-ltb x 9223372036854775808 h) refl
 
 pub signed8_back : (z : ℤ) → IsSigned 9223372036854775808 z → (units_of z < 2 ^ 64) × (signed8 (units_of z) ≡ z)
 signed8_back (pos n) h = (omega arith, signed8_low n h)

@@ -19,7 +19,7 @@ use xdr_types::Value;
 const MOST_ROOM: usize = 16;
 
 /// How many nodes at work lie in a block, so that a block of them is below a kibibyte.
-const BLOCK: usize = 24;
+const BLOCK: usize = 16;
 
 /// A node at work with its finished parts.
 #[derive(Drop)]

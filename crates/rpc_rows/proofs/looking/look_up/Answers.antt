@@ -3,7 +3,7 @@ use Rattle.std.specs.Option.{option_or}
 use Rattle.rpc_rows.specs.Steps.{row_at}
 use Rattle.rpc_rows.specs.LookUp.{is_over, greatest}
 use Rattle.rpc_rows.specs.Views.{plain_row, plain_rows}
-use Rattle.rpc_rows.proofs.Added.{is_some-map}
+use Rattle.xdr_units.proofs.Found.{is_some-map}
 use Rattle.rpc_rows.proofs.Greatest.{some_looked_up}
 use Rattle.rpc_rows.proofs.looking.look_up.Goals as goal
 

@@ -1,7 +1,7 @@
 use Rattle.std.proofs.Common.{ap, sym, ◌∙◌, is_some}
 use Rattle.rpc_rows.specs.Rows.{is_at}
 use Rattle.rpc_rows.proofs.Keyed.{find_is_any}
-use Rattle.rpc_rows.proofs.Added.{is_some-map}
+use Rattle.xdr_units.proofs.Found.{is_some-map}
 use Rattle.rpc_directory.proofs.directory.Directory.has.Goals as goal
 
 pub returns : goal.returns
