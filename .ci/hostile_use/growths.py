@@ -20,6 +20,7 @@ from .rows import (
     Refused,
     SERVED,
     SET,
+    SILLYPROG,
     STREAMS,
     TAKING,
     TEXTS,
@@ -386,6 +387,30 @@ def room_cases(heap):
         yield case, lambda told, growths=growths: told.met == growths > 0
 
 
+# A type with parts of its own, and lengths of a chain of them, under some of which a block of the nodes at work is full.
+CHAINED = b"struct t { t parts<>; };"
+LENGTHS = range(1, 64)
+
+
+def chain(length, leaves):
+    """A chain of so many nodes with one part each, and a last one with so many, of which each has one."""
+    return octets("00000001" * length + f"{leaves:08x}" + "00000001 00000000" * leaves)
+
+
+def swing_cases(heap):
+    """How often the nodes at work go down and up asks for no memory of theirs: none in a checker, and in a decoder what
+    their values take, the same at each depth."""
+    for engine in ("checker", "decode"):
+        made = {
+            leaves: [Case(engine, (4096, 0), name="t", text=CHAINED, given=chain(length, leaves)) for length in LENGTHS]
+            for leaves in (2, 200)
+        }
+        few, many = (run(made[leaves], LD_PRELOAD=heap) for leaves in (2, 200))
+        more = {after.met - before.met for before, after in zip(few, many)}
+        is_well = more == {0} if engine == "checker" else len(more) == 1 and more.pop() >= 198
+        yield made[200][0], lambda told, is_well=is_well: is_well and told.met > 0
+
+
 def free_cases():
     """Calls that take no memory, whatever the lengths that their bytes declare."""
     asked = [
@@ -397,6 +422,7 @@ def free_cases():
         (b"", "opaque", "ffffffff 61", "decoder"),
         (b"", "string", "ffffffff 61", "decoder"),
         (FILE, "filekind", "00000002", "decode"),
+        (FILE, "file", SILLYPROG, "checker"),
         (MORE, "six", "61626364 65660000", "checker"),
         (MORE, "five", "00000003 61626300", "encode_to"),
     ]

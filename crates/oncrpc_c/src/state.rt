@@ -8,8 +8,8 @@ use std::marker::Model;
 use xdr_lang::Declared;
 use xdr_types::KindId;
 
-/// Declarations, beside the name of at most 64 bytes that they were last asked for, and the kind that it names. A
-/// contract sees the declarations alone.
+/// Declarations, beside the last name of at most 64 bytes that was looked up and names a kind, and that kind. A contract
+/// sees the declarations alone.
 #[derive(Drop)]
 pub struct State {
     declared: Declared,
@@ -53,8 +53,8 @@ impl State {
         &self.declared
     }
 
-    /// The kind that the name names, which is no text or the name of none otherwise. Only another name than that of the
-    /// last call is looked up.
+    /// The kind that the name names, which is no text or the name of none otherwise. The name that is remembered is not
+    /// looked up; one above 64 bytes, or of no kind, is looked up each time and not remembered.
     pub fn kind(&mut self, name: &[u8]) -> Option<KindId>
         ensures stay { self.new ≡ self.old }
         ensures kind { MatchOption result (NamesNone (declared_of self.old) name.now)
