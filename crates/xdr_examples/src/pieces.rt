@@ -1,8 +1,8 @@
 //! A value whose bytes come in pieces.
-ghost use Rattle.std.specs.Prelude.{◌≡◌, ◌≤◌, ◌<◌, ◌++◌, length, IfOk, IfErr, IfSome, IsErr, IsTrue, Ok};
+ghost use Rattle.std.specs.Prelude.{◌≡◌, ◌≤◌, ◌<◌, [], ◌++◌, length, IfOk, IfErr, IfSome, IsErr, IsTrue, Ok};
 ghost use Rattle.xdr_types.specs.Kinds.{kind_at, hyper, int, opaque_up_to};
 ghost use Rattle.xdr_types.specs.View.{tree};
-ghost use Rattle.xdr_codec.specs.Stands.{IsDone};
+ghost use Rattle.xdr_codec.specs.Stands.{StandsFor, IsDone, HasFailed};
 ghost use Rattle.xdr_stream.specs.declared.fault.Reason.TheVariants.{NoMemory};
 ghost use Rattle.xdr_stream.specs.declared.reader.Progress.TheVariants.{Done, More};
 ghost use Rattle.xdr_examples.specs.Rfc.{file_kinds, sillyprog, sillyprog_bytes};
@@ -63,6 +63,18 @@ pub fn waits_for_the_rest(
     ensures fault { IfErr result (λ f. f.why ≡ NoMemory) }
 {
     let mut decoder = Decoder::start(alloc, schema, kind, limits);
+    begins_a_hyper(&mut decoder)
+}
+
+// The first half of a hyper integer, to a decoder that was given no byte.
+fn begins_a_hyper(decoder: &mut Decoder<'_>) -> Result<Progress, DecodeFault>
+    requires fresh { StandsFor decoder.old [] }
+    requires kind { kind_at decoder.old.reader.schema.now.kinds decoder.old.reader.kind.place ≡ hyper }
+    requires limit { 8 ≤ decoder.old.reader.limits.bytes }
+    requires depth { 1 ≤ decoder.old.reader.limits.depth }
+    ensures answer { IfOk result (λ p. p ≡ More) }
+    ensures fault { IfErr result (λ f. f.why ≡ NoMemory) }
+{
     decoder.feed(&[0, 0, 0, 1])
 }
 
@@ -126,8 +138,21 @@ pub fn stays_whole(decoder: &mut Decoder<'_>, piece: &[u8]) -> Result<Progress, 
 pub fn stays_refused(mut decoder: Decoder<'_>, first: &[u8], second: &[u8]) -> Option<bool>
     ensures { IfSome result (λ same. IsTrue same) }
 {
+    let (fault, same) = refuses_twice(&mut decoder, first, second)?;
+    let last = decoder.finish().err()?;
+    Some(same && fault == last)
+}
+
+// A fault, and whether the next call answers the same.
+fn refuses_twice(
+    decoder: &mut Decoder<'_>,
+    first: &[u8],
+    second: &[u8],
+) -> Option<(DecodeFault, bool)>
+    ensures failed { IfSome result (λ told. HasFailed decoder.new told.0) }
+    ensures same { IfSome result (λ told. IsTrue told.1) }
+{
     let fault = decoder.feed(first).err()?;
     let again = decoder.feed(second).err()?;
-    let last = decoder.finish().err()?;
-    Some(fault == again && fault == last)
+    Some((fault, fault == again))
 }

@@ -24,3 +24,9 @@ returns-clause-nodes c =
     (length c.args.schema.now.kinds + 1) (length c.args.piece.now / 4 + 1)
     (omega (arith, ap (λ (k : List KindView). length k) kinds)) (omega (arith, few)) in
     omega (arith, w.nodes, most)
+
+pub returns-clause-bytes : goal.returns-clause-bytes
+returns-clause-bytes c =
+    let b : List ℕ = taken c.args.piece.now c.feed.result in
+    let w = c.held.ensures.bounds b (c.feed.ensures.stands [] c.start-decoder.ensures.stands) in
+    omega (arith, w.bytes, taken_few c.args.piece.now c.feed.result)

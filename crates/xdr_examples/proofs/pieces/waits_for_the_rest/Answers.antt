@@ -1,27 +1,13 @@
-use Rattle.std.proofs.Common.{◌≡◌, ◌≤◌, ◌++◌, [], ◌∷◌, pos, subst, sym, refl}
-use Rattle.xdr_types.specs.Kinds as xdr
-use Rattle.xdr_types.specs.Kinds.{kind_at}
-use Rattle.xdr_types.specs.Spelling.{bytes_of}
-use Rattle.xdr_types.specs.Tree as value
-use Rattle.xdr_types.specs.Tree.{Tree}
-use Rattle.xdr_types.specs.Within.{Bounds, FitsWithin}
-use Rattle.xdr_examples.proofs.Accepted.{waits}
+use Rattle.std.proofs.Common.{◌≤◌, subst, sym}
+use Rattle.xdr_types.specs.Within.{Bounds}
 use Rattle.xdr_examples.proofs.pieces.waits_for_the_rest.Goals as goal
 
--- the hyper integer 2^32 begins with these bytes
-abbrev number : Tree
-number = (value.hyper (pos 4294967296), value.none)
-
-pub returns-clause-fault : goal.returns-clause-fault
-returns-clause-fault c =
-    let d = c.start-decoder.result in
+pub begins_a_hyper-requires : goal.begins_a_hyper-requires
+begins_a_hyper-requires c =
     let set = c.start-decoder.ensures.settings in
-    let S = d.reader.schema.now.kinds in
-    let kind : kind_at S d.reader.kind.place ≡ xdr.hyper = rw (set.schema_is, set.kind_is) c.requires.kind in
-    let limit : 8 ≤ d.reader.limits.bytes = subst (λ (l : Bounds). 8 ≤ l.bytes) (sym set.limits_are) c.requires.limit in
-    let depth : 1 ≤ d.reader.limits.depth = subst (λ (l : Bounds). 1 ≤ l.depth) (sym set.limits_are) c.requires.depth in
-    let fit : FitsWithin S d.reader.kind.place d.reader.limits number = rw kind (refl, (depth, limit)) in
-    let bytes : bytes_of S d.reader.kind.place number ++ [] ≡ (0 ∷ 0 ∷ 0 ∷ 1 ∷ []) ++ (0 ∷ 0 ∷ 0 ∷ 0 ∷ []) =
-    rw kind refl in
-    waits S d.reader.kind.place d.reader.limits (0 ∷ 0 ∷ 0 ∷ 1 ∷ []) (0 ∷ 0 ∷ 0 ∷ 0 ∷ []) number fit bytes
-    c.feed.result (c.feed.ensures.answer [] c.start-decoder.ensures.stands)
+    record {
+      fresh = c.start-decoder.ensures.stands;
+      kind = rw (set.schema_is, set.kind_is) c.requires.kind;
+      limit = subst (λ (l : Bounds). 8 ≤ l.bytes) (sym set.limits_are) c.requires.limit;
+      depth = subst (λ (l : Bounds). 1 ≤ l.depth) (sym set.limits_are) c.requires.depth;
+    }
