@@ -17,6 +17,11 @@ pub fn bytes(rt: &impl Env) -> Option<u64> {
     asked(rt, "GROWTH_BYTES")
 }
 
+/// How many bytes are not given back, each block by all of its room, or `None` where nothing counts.
+pub fn held(rt: &impl Env) -> Option<u64> {
+    asked(rt, "HELD_BYTES")
+}
+
 /// Refuses the growth with this number, counted from here from 1; 0 refuses none. False where nothing can refuse.
 pub fn refuse(alloc: Global, rt: &impl Env, number: u64) -> Result<bool, AllocError> {
     let name = format!(in alloc; "REFUSE_GROWTH_{number}")?;
@@ -104,10 +109,16 @@ mod tests {
         assert!(rt; first.is_ok() && second.is_err() == can_refuse && third.is_ok());
         let before = count(&rt);
         let bytes_before = bytes(&rt);
+        let held_before = held(&rt);
         let fourth = String::from_str(alloc, "d");
         assert!(rt; fourth.is_ok() && before.is_some() == can_refuse);
         if let (Some(before), Some(after)) = (bytes_before, bytes(&rt)) {
             assert!(rt; after > before);
+        }
+        if let (Some(before), Some(after)) = (held_before, held(&rt)) {
+            assert!(rt; after > before);
+            drop(fourth);
+            assert!(rt; held(&rt) == Some(before));
         }
         if let (Some(before), Some(after)) = (before, count(&rt)) {
             assert!(rt; after == before.saturating_add(1));

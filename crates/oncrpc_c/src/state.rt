@@ -8,8 +8,8 @@ use std::marker::Model;
 use xdr_lang::Declared;
 use xdr_types::KindId;
 
-/// Declarations, beside the last name of at most 64 bytes that was looked up and names a kind, and that kind. A contract
-/// sees the declarations alone.
+/// Declarations, beside the last name of at most 64 bytes that was looked up and names a kind, and that kind. A
+/// contract sees the declarations alone.
 #[derive(Drop)]
 pub struct State {
     declared: Declared,

@@ -1,5 +1,7 @@
 -- What the code makes, without where it lies in memory and in the text.
-use Rattle.std.specs.Prelude.{List, map}
+use Rattle.std.specs.Prelude.{ℕ, List, map}
+use Rattle.xdr_grammar.specs.declared.outline.Late.{Late}
+use Rattle.xdr_grammar.specs.declared.outline.Late.TheVariants as late
 use Rattle.xdr_constants.specs.declared.constants.Known.{Known}
 use Rattle.xdr_constants.specs.Constants as said
 
@@ -9,3 +11,8 @@ known_of k = record { name = k.name.text.now; value = k.value; by_const = k.by_c
 
 abbrev pub knowns : List Known → List said.Known
 knowns ks = map known_of ks
+
+-- where a value stands: so many bytes of the text are left at its first
+abbrev pub place_of : Late → ℕ
+place_of (late.Given n) = n.left
+place_of (late.Earlier n before) = n.left

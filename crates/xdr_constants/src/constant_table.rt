@@ -47,21 +47,16 @@ impl<'a> ConstantTable<'a> {
         }
     }
 
-    /// One more constant. Where memory is refused for the look-up by its name, the constants stay; where it is refused
-    /// for the list, none is left.
+    /// One more constant. Where memory is refused, the constants stay.
     pub fn push(&mut self, known: Known<'a>) -> Result<(), AllocError>
-        ensures { OnOk result (knowns self.new.list.items ≡ knowns self.old.list.items ++ known_of known.entry ∷ []) }
+        ensures added { OnOk result (knowns self.new.list.items ≡ knowns self.old.list.items ++ known_of known.entry ∷ []) }
+        ensures stays { OnErr result (knowns self.new.list.items ≡ knowns self.old.list.items) }
     {
         let place = self.list.len();
+        self.list.reserve(1)?;
         keep_first(&mut self.first, place, known)?;
-        match self.list.push(known) {
-            Ok(()) => Ok(()),
-            Err(_) => {
-                self.list.clear();
-                self.first.clear();
-                Err(AllocError)
-            }
-        }
+        self.list.push_reserved(known);
+        Ok(())
     }
 
     /// The number of the constant with that name among the first `before`, and whether `const`

@@ -3,7 +3,7 @@ ghost use Rattle.std.specs.Prelude.{◌≡◌, true, false, Some, None, IfOk, le
 ghost use Rattle.std.specs.Prelude.{◌<◌, take};
 ghost use Rattle.xdr_tokens.specs.Due.{Gives};
 ghost use Rattle.xdr_grammar.specs.View.{late_of, entry_of};
-ghost use Rattle.xdr_constants.specs.Views.{known_of, knowns};
+ghost use Rattle.xdr_constants.specs.Views.{known_of, knowns, place_of};
 ghost use Rattle.xdr_constants.specs.Constants.{unsigned, member_number, case_number, known, earlier, looked_up};
 ghost use Rattle.xdr_constants.specs.Constants.{size, limit, entry_number, numbers};
 
@@ -129,8 +129,10 @@ pub fn limit(constants: &ConstantTable<'_>, value: &Option<Late<'_>>) -> Result<
     }
 }
 
-/// Where a value stands.
-pub fn place_of_value(value: &Late<'_>) -> usize {
+/// Where a value stands, as the count of bytes of the text from there on.
+pub fn place_of_value(value: &Late<'_>) -> usize
+    ensures { result ≡ place_of value.now }
+{
     match value {
         Late::Given(number) => number.left,
         Late::Earlier { name, .. } => name.left,

@@ -1,6 +1,6 @@
 //! Where bodies of structs, unions and enums begin, and which one is one too many.
-ghost use Rattle.std.specs.Prelude.{◌≡◌, Some, None, IfSome};
-ghost use Rattle.xdr_grammar.specs.Private.Reading.{body_word_at, inner_word_at};
+ghost use Rattle.std.specs.Prelude.{◌≡◌, Some, None, IfSome, is_some};
+ghost use Rattle.xdr_grammar.specs.Private.Reading.{named_struct_at, body_word_at, inner_word_at};
 ghost use Rattle.xdr_grammar.specs.Private.Parsing.{left, so_far};
 
 use crate::misread::Misread;
@@ -29,18 +29,29 @@ impl<'t, 'a> Parser<'t, 'a> {
         None
     }
 
+    // Whether `struct` and a name come first.
+    #[tactic(auto, unfolding(crate::specs::Private::Reading::after_word, crate::specs::Private::Reading::name_at))]
+    fn names_a_struct(&self) -> bool
+        ensures { is_some (named_struct_at (left self.now)) ≡ result }
+    {
+        matches!(
+            self.rest,
+            [Token::Word(Keyword::Struct, _), Token::Name(_, _), ..]
+        )
+    }
+
     /// The same where a type specifier is due: `struct` and a name begin no body.
-    #[tactic(auto, unfolding(crate::specs::Private::Reading::inner_word_at, crate::specs::Private::Reading::after_word, crate::specs::Private::Reading::name_at))]
+    #[tactic(auto, unfolding(crate::specs::Private::Reading::inner_word_at))]
     pub(crate) fn inner_word(&mut self) -> Option<BodyKind>
         ensures some { IfSome result (λ k. inner_word_at (left self.old) ≡ Some (k, left self.new)) }
         ensures none { result ≡ None → inner_word_at (left self.old) ≡ None }
         ensures same { result ≡ None → left self.new ≡ left self.old }
         ensures made { so_far self.new ≡ so_far self.old }
     {
-        match self.rest {
-            [Token::Word(Keyword::Struct, _), Token::Name(_, _), ..] => None,
-            _ => self.body_word(),
+        if self.names_a_struct() {
+            return None;
         }
+        self.body_word()
     }
 
     /// The switch declaration of a union whose body is one too many, where no body stands in it.

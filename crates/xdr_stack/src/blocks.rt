@@ -1,4 +1,4 @@
-//! Items in blocks of a few.
+//! Items in blocks.
 ghost use Rattle.std.specs.Prelude.{◌≡◌, ◌+◌, ◌-◌, ◌^◌, ◌<◌, [], ◌∷◌, ◌++◌, length, min};
 ghost use Rattle.std.specs.Prelude.{OnOk, OnErr, IfOk, MatchOption, vec_len, vec_capacity};
 ghost use Rattle.std.specs.Option.{option_to_list};
@@ -33,27 +33,31 @@ impl<T, const MOST: usize> Model for Blocks<T, MOST> {
     ghost view = { λ b. record { items = chain_items b.full ++ b.top.items } };
 }
 
-// A spare block, or a new one.
-fn empty_block<T: Drop>(
-    alloc: Global,
-    most: usize,
-    spare: &mut Chain<T>,
-) -> Result<Box<Block<T>>, AllocError>
-    requires { 0 < most }
-    ensures items { IfOk result (λ b. b.value.items.items ≡ []) }
-    ensures room { IfOk result (λ b. 0 < vec_capacity b.value.items) }
+// A spare block, or a new one, without items.
+fn empty_block<T: Drop>(alloc: Global, spare: &mut Chain<T>) -> Result<Box<Block<T>>, AllocError>
+    ensures { IfOk result (λ b. b.value.items.items ≡ []) }
 {
     if let Some(mut block) = spare.pop() {
         block.items.clear();
-        block.items.reserve(1)?;
         return Ok(block);
     }
-    let items = Vec::with_capacity(alloc, most)?;
+    let items = Vec::new(alloc);
     let below = Chain::End;
     Ok(Box::new(alloc, Block { items, below })?)
 }
 
-// Room for an item at the top: in a larger block, or in an empty one over the full ones.
+// How many items more the top is to have room for: the lowest block grows, each other one is made whole.
+fn room_for<T>(most: usize, top: usize, full: &Chain<T>) -> usize
+    requires { top < most }
+    ensures { 0 < result }
+{
+    match full {
+        Chain::End => top.max(4).min(most - top),
+        Chain::More(_) => most - top,
+    }
+}
+
+// Makes room for an item at the top: in a larger block, or in an empty one over the full ones.
 #[cold]
 #[inline(never)]
 fn make_room<T: Drop>(
@@ -68,14 +72,12 @@ fn make_room<T: Drop>(
     ensures room { OnOk result (vec_len top.new < vec_capacity top.new) }
 {
     let most = most.max(1);
-    if top.len() < most {
-        let more = top.len().max(4).min(most - top.len());
-        return top.reserve_exact(more);
+    if top.len() >= most {
+        let mut block = empty_block(alloc, spare)?;
+        mem::swap(top, &mut block.items);
+        full.push(block);
     }
-    let mut block = empty_block(alloc, most, spare)?;
-    mem::swap(top, &mut block.items);
-    full.push(block);
-    Ok(())
+    top.reserve_exact(room_for(most, top.len(), full))
 }
 
 // Makes the highest full block the top, which has no items.

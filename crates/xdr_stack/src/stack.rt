@@ -1,4 +1,4 @@
-//! A stack whose lowest items lie in it, and the others in blocks of a few.
+//! A stack whose lowest items lie in it, and the others in blocks of forty.
 ghost use Rattle.std.specs.Prelude.{◌≡◌, ◌+◌, ◌-◌, ◌^◌, ◌<◌, ◌≤◌, [], ◌∷◌, ◌++◌, length, min, OnOk, OnErr, MatchOption};
 ghost use Rattle.std.specs.Option.{option_to_list};
 
@@ -14,7 +14,7 @@ const NEAR: usize = 4;
 /// How many lie in a block, so that a block of items of 24 bytes is below a kibibyte.
 const FAR: usize = 40;
 
-/// A stack. Its lowest four items take no memory of their own, and the others lie in blocks of a few.
+/// A stack. Its lowest four items take no memory of their own, and the others lie in blocks of forty.
 #[derive(Drop)]
 pub struct Stack<T: MadeWith<Global> + Drop> {
     near: ArrayVec<T, NEAR, Global>,

@@ -4,10 +4,9 @@ ghost use Rattle.xdr_stream.specs.Held.{GoesOn};
 ghost use Rattle.xdr_stream.specs.Finish.{Checks, IsStarted};
 
 use crate::build::{Build, Leaf, Node};
-use crate::frame::Frame;
-use crate::reader::{Reader, State};
+use crate::fresh::fresh;
+use crate::reader::Reader;
 use std::alloc::{AllocError, Global};
-use xdr_stack::Stack;
 use xdr_types::{KindId, Limits, Schema};
 
 /// Makes nothing of the nodes.
@@ -70,20 +69,5 @@ pub fn check<'s>(
     ensures settings { IsStarted result schema.now kind limits }
     ensures open { GoesOn result.state }
 {
-    let _known = schema.len();
-    Reader {
-        schema,
-        kind,
-        limits,
-        work: Frame::Items {
-            item: kind,
-            left: 1,
-        },
-        parents: Stack::new(alloc),
-        built: Nothing,
-        read: 0,
-        unit: [0; 4],
-        pending: 0,
-        state: State::Fresh,
-    }
+    fresh(alloc, schema, kind, limits, Nothing)
 }

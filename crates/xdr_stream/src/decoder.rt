@@ -7,11 +7,10 @@ ghost use Rattle.xdr_stream.specs.declared.reader.State.TheVariants.{Failed};
 
 use crate::fault::{DecodeFault, Reason};
 use crate::first::is_deep;
-use crate::frame::Frame;
+use crate::fresh::fresh;
 use crate::reader::{Reader, State};
-use crate::values::{Level, Values, root_of};
+use crate::values::{Values, root_of};
 use std::alloc::Global;
-use xdr_stack::{Blocks, Stack};
 use xdr_types::{Kind, KindId, Limits, Schema, Value};
 
 /// A decoder that has been given no byte.
@@ -26,29 +25,7 @@ pub fn start<'s>(
     ensures settings { IsStarted result schema.now kind limits }
     ensures open { GoesOn result.state }
 {
-    let _known = schema.len();
-    Reader {
-        schema,
-        kind,
-        limits,
-        work: Frame::Items {
-            item: kind,
-            left: 1,
-        },
-        parents: Stack::new(alloc),
-        built: Values {
-            alloc,
-            work: Level::Root(None),
-            parents: Blocks::new(alloc),
-            content: Vec::new(alloc),
-            nodes: 0,
-            kept: 0,
-        },
-        read: 0,
-        unit: [0; 4],
-        pending: 0,
-        state: State::Fresh,
-    }
+    fresh(alloc, schema, kind, limits, Values::new(alloc))
 }
 
 /// The value that the bytes encode. A fault of an earlier call comes again; where the value is not whole, it is

@@ -16,6 +16,7 @@ pub enum Frame<'s> {
     Arm { member: &'s Member },
 }
 
+// A node without parts, which fills what has no node yet.
 impl<'s> Default for Frame<'s> {
     fn default() -> Frame<'s> {
         Frame::Items {

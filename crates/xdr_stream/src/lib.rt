@@ -9,6 +9,7 @@ pub mod fault;
 pub mod feeding;
 pub mod first;
 pub mod frame;
+pub mod fresh;
 pub mod holding;
 pub mod machine;
 pub mod number;

@@ -7,7 +7,7 @@ ghost use Rattle.xdr_stream.specs.Nodes.{head_of_leaf, head_of_node};
 ghost use Rattle.xdr_stream.specs.Runs.{number_head};
 ghost use Rattle.xdr_stream.specs.Sees.{make_wide};
 ghost use Rattle.xdr_stream.specs.Trace.{level as told, added, IsOpen, IsFilled};
-ghost use Rattle.xdr_stream.specs.Trace.{Trace, HasRoom, leaf_in, content_in, extend_in};
+ghost use Rattle.xdr_stream.specs.Trace.{Trace, HasRoom, at_start, leaf_in, content_in, extend_in};
 ghost use Rattle.xdr_stream.specs.Values.{Tells, level_of, closed_tree, leaf_tree};
 
 use crate::build::{Build, Leaf, Node};
@@ -213,6 +213,20 @@ fn begun(alloc: Global, node: Node) -> Result<Level, AllocError>
 }
 
 impl Values {
+    /// A builder that was told nothing. It takes no memory.
+    pub(crate) fn new(alloc: Global) -> Values
+        ensures { Tells result at_start }
+    {
+        Values {
+            alloc,
+            work: Level::Root(None),
+            parents: Blocks::new(alloc),
+            content: Vec::new(alloc),
+            nodes: 0,
+            kept: 0,
+        }
+    }
+
     // Bytes of content behind others, and its end.
     #[inline(never)]
     fn end(&mut self, bytes: &[u8]) -> Result<(), AllocError>
@@ -268,6 +282,7 @@ impl Build for Values {
         Ok(())
     }
 
+    // Where memory is refused the node at work is lost: the reader fails then, and lets go of all.
     #[inline(always)]
     fn open(&mut self, node: Node) -> Result<(), AllocError> {
         let level = begun(self.alloc, node)?;
@@ -319,10 +334,6 @@ impl Build for Values {
     }
 
     fn clear(&mut self) {
-        self.work = Level::Root(None);
-        self.parents.clear();
-        self.content = Vec::new(self.alloc);
-        self.nodes = 0;
-        self.kept = 0;
+        *self = Values::new(self.alloc);
     }
 }

@@ -251,9 +251,13 @@ body_with declaration kind.Enum o ts = enum_at o ts
 body_with declaration kind.Struct o ts = struct_with (content_with declaration) o ts
 body_with declaration kind.Union o ts = union_with declaration o ts
 
+-- what follows "struct" and a name
+abbrev pub named_struct_at : List Lexeme → Option (List ℕ × List Lexeme)
+named_struct_at ts = after_word word.Struct ts >>= name_at
+
 -- the same where a type specifier is due: "struct" and a name begin no body
 unfoldable pub inner_word_at : List Lexeme → Option (BodyKind × List Lexeme)
-inner_word_at ts = taken (after_word word.Struct ts >>= name_at) (λ n. None) (body_word_at ts)
+inner_word_at ts = taken (named_struct_at ts) (λ n. None) (body_word_at ts)
 
 -- a type specifier with at most so many bodies inside one another
 unfoldable pub specifier_at : ℕ → Reader Part

@@ -2,8 +2,8 @@
 use crate::codec::calls::{
     checking, counted_held, fed, finished, held, judged, limits, started, widest,
 };
-use crate::schema::{BOOL, MANY, OPAQUE, all_kinds};
-use growths::bytes;
+use crate::schema::{BOOL, LIST, MANY, OPAQUE, all_kinds};
+use growths::{bytes, held as held_in_all};
 use std::alloc::Global;
 use std::env::Env;
 use std::process::Abort;
@@ -163,4 +163,30 @@ fn holds_nothing_after_a_fault(rt: HostRuntime) {
         (&[0, 0, 0, 1], Err(fault), NOTHING),
     ];
     check(&rt, alloc, &schema, BOOL, widest(&rt), steps);
+}
+
+// How many bytes of memory there are before a list, in its midst, and after a fault in it, where something counts them.
+fn held_around_a_fault(
+    rt: &(impl Abort + Env),
+    alloc: Global,
+    schema: &Schema,
+) -> Option<(u64, u64, u64)> {
+    let mut decoder = started(rt, alloc, schema, LIST, widest(rt));
+    let before = held_in_all(rt)?;
+    for _ in 0..300 {
+        let _ = fed(&mut decoder, &[0, 0, 0, 1, 0, 0, 0, 1, 97, 0, 0, 0]);
+    }
+    let amid = held_in_all(rt)?;
+    assert!(*rt; fed(&mut decoder, &[0, 0, 0, 2]).is_err());
+    let after = held_in_all(rt)?;
+    Some((before, amid, after))
+}
+
+#[test]
+fn gives_all_memory_back_at_a_fault(rt: HostRuntime) {
+    let alloc = rt.alloc();
+    let schema = all_kinds(&rt, alloc);
+    if let Some((before, amid, after)) = held_around_a_fault(&rt, alloc, &schema) {
+        assert!(rt; before < amid && after == before);
+    }
 }

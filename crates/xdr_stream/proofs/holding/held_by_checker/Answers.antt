@@ -12,7 +12,8 @@ returns-clause-counts c = λ b st.
     c.depth-range.ensures.range (λ (t : Trace). ⊤) (stack_of r.work r.parents.items) r.read r.unit
     r.pending r.state b c.pending_of.ensures.room st in
     record {
-      frames = c.frames_of.ensures (parents_few r.state r.work r.parents.items r.limits c.depth-range.ensures.range w.2.frames_are);
+      frames = c.frames_of.ensures (parents_few r.state r.work r.parents.items r.limits c.depth-range.ensures.range
+          w.2.frames_are);
       nodes_are = refl;
       bytes_are = refl;
       pending = c.pending_of.ensures.count;
@@ -27,7 +28,8 @@ returns-clause-bounds c = λ b st.
     record {
       frames = omega (
         arith,
-        c.frames_of.ensures (parents_few r.state r.work r.parents.items r.limits c.depth-range.ensures.range w.2.frames_are),
+        c.frames_of.ensures (parents_few r.state r.work r.parents.items r.limits c.depth-range.ensures.range
+            w.2.frames_are),
         frames_few r.state r.work r.parents.items r.limits.depth
             w.2.frames_are,
       );

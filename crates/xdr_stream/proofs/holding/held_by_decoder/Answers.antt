@@ -19,7 +19,8 @@ returns-clause-counts c = λ b st.
     let n = w.1.nodes (omega (arith, w.2.few)) in
     let below : r.built.nodes + 1 < 2 ^ 64 = omega (arith, n, w.2.few) in
     record {
-      frames = c.frames_of.ensures (parents_few r.state r.work r.parents.items r.limits c.depth-range.ensures.range w.2.frames_are);
+      frames = c.frames_of.ensures (parents_few r.state r.work r.parents.items r.limits c.depth-range.ensures.range
+          w.2.frames_are);
       nodes_are = c.nodes_of.ensures below ∙ ap (λ (m : ℕ). nodes_at r.state m) n
           ∙ ap (λ (t : Trace). nodes_at r.state (nodes_in t.levels)) (sym w.1.trace);
       bytes_are = w.1.kept w.2.short ∙ ap (λ (t : Trace). bytes_kept t) (sym w.1.trace);
@@ -38,7 +39,8 @@ returns-clause-bounds c = λ b st.
     record {
       frames = omega (
         arith,
-        c.frames_of.ensures (parents_few r.state r.work r.parents.items r.limits c.depth-range.ensures.range w.2.frames_are),
+        c.frames_of.ensures (parents_few r.state r.work r.parents.items r.limits c.depth-range.ensures.range
+            w.2.frames_are),
         frames_few r.state r.work r.parents.items r.limits.depth
             w.2.frames_are,
       );
@@ -76,7 +78,8 @@ returns-clause-whole c = λ b done st.
     record {
       value = v.0;
       outcome = v.1;
-      frames = c.frames_of.ensures (parents_few r.state r.work r.parents.items r.limits c.depth-range.ensures.range w.2.frames_are)
+      frames = c.frames_of.ensures (parents_few r.state r.work r.parents.items r.limits c.depth-range.ensures.range
+          w.2.frames_are)
           ∙ ap (λ (x : State). frames_at x r.parents.items) done;
       nodes = (let m = c.nodes_of.ensures below ∙ ap (λ (x : State). nodes_at x (r.built.nodes + 1)) done in
           omega (arith, m, n, ap (λ (t : Trace). nodes_in t.levels) same, v.4));
