@@ -357,23 +357,29 @@ abbrev StatusFails : ℕ → List ℕ → ReplyFault → Type 0
 StatusFails stat bytes d = ((d ≡ faults.Truncated) × (stat ≡ 2) × CutBounds bytes)
     ⊎ (((d ≡ faults.Rest) × StatusRest stat bytes) ⊎ ((d ≡ faults.BadStatus) × (5 < stat)))
 
+-- a status without more: its word ends the bytes, so what follows is too much
+plain_fails : (s : StatusView) (stat : ℕ) (bytes : List ℕ) (d : ReplyFault) → IsStatus s
+    → ((xid : ℕ) (verf : AuthView) → HasNoResults (Accepted xid verf s)) → status s ≡ word stat
+    → ended bytes s ≡ Err d → StatusFails stat bytes d
+plain_fails s stat bytes d fits plain same e = let l =
+    ended_fails bytes s d e in inr
+    (inl (
+      l.0,
+      record {
+        s = s;
+        byte = l.1;
+        more = l.2;
+        fits = fits;
+        plain = plain;
+        parts = ap (λ (t : List ℕ). word stat ++ t) l.3 ∙ ap (λ (t : List ℕ). t ++ l.1 ∷ l.2) (sym same);
+      },
+    ))
+
 status_fails : (stat : ℕ) (bytes : List ℕ) (d : ReplyFault) → AreBytes bytes → status_at stat bytes ≡ Err d
     → StatusFails stat bytes d
 unfolding status_at
 status_fails zero bytes d fits e = absurd (ok_no_err (Success bytes) d e)
-status_fails (suc zero) bytes d fits e = let l =
-    ended_fails bytes ProgUnavail d e in inr
-    (inl (
-      l.0,
-      record {
-        s = ProgUnavail;
-        byte = l.1;
-        more = l.2;
-        fits = tt;
-        plain = λ x v. tt;
-        parts = ap (λ (t : List ℕ). word 1 ++ t) l.3;
-      },
-    ))
+status_fails (suc zero) bytes d fits e = plain_fails ProgUnavail 1 bytes d tt (λ x v. tt) refl e
 status_fails (suc (suc zero)) bytes d fits e =
     elim (bind_err (bounds_at bytes) (λ b. Ok (ProgMismatch b.0 b.1)) d e) [
       | inl h ↦ elim (bounds_fails bytes d fits h) [
@@ -392,45 +398,9 @@ status_fails (suc (suc zero)) bytes d fits e =
       ]
       | inr a ↦ absurd (ok_no_err (ProgMismatch a.0.0 a.0.1) d a.2)
     ]
-status_fails (suc (suc (suc zero))) bytes d fits e = let l =
-    ended_fails bytes ProcUnavail d e in inr
-    (inl (
-      l.0,
-      record {
-        s = ProcUnavail;
-        byte = l.1;
-        more = l.2;
-        fits = tt;
-        plain = λ x v. tt;
-        parts = ap (λ (t : List ℕ). word 3 ++ t) l.3;
-      },
-    ))
-status_fails (suc (suc (suc (suc zero)))) bytes d fits e = let l =
-    ended_fails bytes GarbageArgs d e in inr
-    (inl (
-      l.0,
-      record {
-        s = GarbageArgs;
-        byte = l.1;
-        more = l.2;
-        fits = tt;
-        plain = λ x v. tt;
-        parts = ap (λ (t : List ℕ). word 4 ++ t) l.3;
-      },
-    ))
-status_fails (suc (suc (suc (suc (suc zero))))) bytes d fits e = let l =
-    ended_fails bytes SystemErr d e in inr
-    (inl (
-      l.0,
-      record {
-        s = SystemErr;
-        byte = l.1;
-        more = l.2;
-        fits = tt;
-        plain = λ x v. tt;
-        parts = ap (λ (t : List ℕ). word 5 ++ t) l.3;
-      },
-    ))
+status_fails (suc (suc (suc zero))) bytes d fits e = plain_fails ProcUnavail 3 bytes d tt (λ x v. tt) refl e
+status_fails (suc (suc (suc (suc zero)))) bytes d fits e = plain_fails GarbageArgs 4 bytes d tt (λ x v. tt) refl e
+status_fails (suc (suc (suc (suc (suc zero))))) bytes d fits e = plain_fails SystemErr 5 bytes d tt (λ x v. tt) refl e
 status_fails (suc (suc (suc (suc (suc (suc n)))))) bytes d fits e =
     inr (inr (sym (err_is {A = StatusView} faults.BadStatus d e), omega arith))
 
