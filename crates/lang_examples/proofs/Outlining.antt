@@ -13,7 +13,6 @@ use Rattle.xdr_grammar.specs.View.{outline_of}
 use Rattle.xdr_grammar.specs.Spelled.{IsOutline}
 use Rattle.xdr_grammar.specs.Private.Reading.{definitions_at}
 use Rattle.xdr_grammar.proofs.Outlining.{outline_again}
-use Rattle.xdr_grammar.proofs.FoundAll.{definitions_found}
 use Rattle.lang_examples.proofs.Cutting.{present, no_refusal}
 pub use Rattle.xdr_grammar.proofs.Outlining.{outline_found}
 

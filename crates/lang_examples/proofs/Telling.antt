@@ -1,6 +1,6 @@
 -- What a text means, computed.
-use Rattle.std.proofs.Common.{◌≡◌, ◌≢◌, ◌≤◌, ◌<◌, arith, ℕ, inl, inr, eqb, subst}
-use Rattle.std.proofs.Common.{List, length, Option, Some, None, option_map, refl, sym, ap, ◌∙◌}
+use Rattle.std.proofs.Common.{◌≡◌, ◌≢◌, ◌≤◌, ◌<◌, arith, ℕ, inl, inr, eqb}
+use Rattle.std.proofs.Common.{List, length, Option, Some, None, refl, sym, ap, ◌∙◌}
 use Rattle.std.proofs.Common.{Result, Ok, Err, IfOk, IfErr}
 use Rattle.std.specs.Prelude.{option_and_then, is_ok, false}
 use Rattle.xdr_tokens.proofs.Options.{some_is, some_is_not, bind_some}
@@ -14,7 +14,6 @@ use Rattle.xdr_lang.specs.Means.{Means}
 use Rattle.xdr_lang.specs.Views.{declared_of}
 use Rattle.xdr_lang.specs.Private.Meaning.{distinct_meaning}
 use Rattle.xdr_lang.proofs.Distinctly.{joined, parted}
-use Rattle.xdr_types.specs.Kinds.{Lists}
 use Rattle.xdr_types.specs.Faults.{IsWellFormed}
 use Rattle.xdr_types.specs.Sound.{IsSound}
 use Rattle.lang_examples.proofs.Cutting.{cut, cut_is, cut_found}
@@ -34,12 +33,12 @@ told_is text d m =
     rw (cut_is text m.tokens m.cut, outline_again m.tokens m.outline m.spelled)
     (joined m.outline d m.meant.distinct m.meant.meant)
 
-pub tells : {A : Type 0} (text : List ℕ) (f : Declared → A) (y : A) (r : Result Made LangFault)
-    → option_map f (told text) ≡ Some y → IfOk r (λ v. Means text (declared_of v)) → IfOk r (λ v. f (declared_of v) ≡ y)
-tells text f y (Ok v) is found =
-    some_is (f (declared_of v)) y
-    (sym (ap (λ (o : Option Declared). option_map f o) (told_is text (declared_of v) found)) ∙ is)
-tells text f y (Err e) is found = tt
+-- what is read from a text is what the text means
+pub tells : {A : Type 0} (text : List ℕ) (d : Declared) (f : Declared → A) (r : Result Made LangFault) → Means text d
+    → IfOk r (λ v. Means text (declared_of v)) → IfOk r (λ v. f (declared_of v) ≡ f d)
+tells text d f (Ok v) means found =
+    ap f (some_is (declared_of v) d (sym (told_is text (declared_of v) found) ∙ told_is text d means))
+tells text d f (Err e) means found = tt
 
 pub refuses : (text : List ℕ) (r : Result Made LangFault) → told text ≡ None
     → IfOk r (λ v. Means text (declared_of v)) → is_ok r ≡ false
@@ -51,13 +50,8 @@ pub too_long : (text : List ℕ) (r : Result Made LangFault) → 262144 < length
 too_long text (Ok v) lt found = absurd (omega (arith, lt, found.short))
 too_long text (Err e) lt found = refl
 
-mapped : {A B : Type 0} (f : A → B) (o : Option A) (y : B) → option_map f o ≡ Some y
-    → (x : A) × (o ≡ Some x) × (f x ≡ y)
-mapped f (Some x) y e = (x, refl, some_is (f x) y e)
-mapped f None y e = absurd cc
-
 -- a text that is told means it, where its kinds are a schema
-told_means : (text : List ℕ) (d : Declared) → told text ≡ Some d → length text ≤ 262144 → IsWellFormed d.schema
+pub told_means : (text : List ℕ) (d : Declared) → told text ≡ Some d → length text ≤ 262144 → IsWellFormed d.schema
     → IsSound d.schema.kinds → Means text d
 unfolding told
 told_means text d e short ok sound =
@@ -73,16 +67,12 @@ told_means text d e short ok sound =
       meant = record { distinct = p.0; meant = p.1; well_formed = ok; sound = sound };
     }
 
-pub memory_of_text : (text : List ℕ) (s : Lists) (r : Result Made LangFault)
-    → option_map (λ (d : Declared). d.schema) (told text) ≡ Some s → length text ≤ 262144 → IsWellFormed s
-    → IsSound s.kinds → IfErr r (λ e. e.number ≢ 13 → (d : Declared) → Means text d → ⊥)
-    → IfErr r (λ e. e.number ≡ 13)
-memory_of_text text s (Ok v) is short ok sound refused = tt
-memory_of_text text s (Err e) is short ok sound refused =
-    let m = mapped (λ (d : Declared). d.schema) (told text) s is in
-    let means = told_means text m.0 m.1 short (subst IsWellFormed (sym m.2) ok)
-    (subst (λ (x : Lists). IsSound x.kinds) (sym m.2) sound) in
+-- only for want of memory is a text refused that means something
+pub memory_of_text : (text : List ℕ) (d : Declared) (r : Result Made LangFault) → Means text d
+    → IfErr r (λ e. e.number ≢ 13 → (d : Declared) → Means text d → ⊥) → IfErr r (λ e. e.number ≡ 13)
+memory_of_text text d (Ok v) means refused = tt
+memory_of_text text d (Err e) means refused =
     elim (same_or_not e.number 13 (eqb e.number 13) refl) [
       | inl same ↦ same
-      | inr other ↦ absurd (refused other m.0 means)
+      | inr other ↦ absurd (refused other d means)
     ]
