@@ -387,7 +387,8 @@ def room_cases(heap):
         yield case, lambda told, growths=growths: told.met == growths > 0
 
 
-# A type with parts of its own, and lengths of a chain of them, under some of which a block of the nodes at work is full.
+# A type with parts of its own, and lengths of a chain of them, under some of which a block of the nodes at work is
+# full.
 CHAINED = b"struct t { t parts<>; };"
 LENGTHS = range(1, 64)
 

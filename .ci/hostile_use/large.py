@@ -152,8 +152,8 @@ WIDE = b"struct s { s *next; " + b"".join(b"int a%d; " % number for number in ra
 
 
 def declared_cases():
-    """Lengths and counts of gibibytes, and a byte behind them, and 2000 wide structures that have begun, where there are
-    64 MiB."""
+    """Lengths and counts of gibibytes, and a byte behind them, and 2000 wide structures that have begun, where there
+    are 64 MiB."""
     for text, name, piece in ((b"", "opaque", 1), (b"", "string", 4), (MORE, "big", 4), (MORE, "big", 1)):
         for engine in ("decoder", "checker"):
             case = Case(engine, (piece, 0), name=name, text=text, given=octets("ffffffff 61"))

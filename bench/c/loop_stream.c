@@ -1,5 +1,5 @@
-/* Records of 40 bytes that lie in memory, read by the library's handle or by xdrrec, in pieces of 4000 bytes as libtirpc
- * reads them. usage: loop_stream ours|theirs COUNT */
+/* Records of 40 bytes that lie in memory, read by the library's handle or by xdrrec, in pieces of 4000 bytes as
+ * libtirpc reads them. usage: loop_stream ours|theirs COUNT */
 #include <stdio.h>
 #include <stdlib.h>
 #include <string.h>

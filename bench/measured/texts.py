@@ -2,7 +2,7 @@
 
 
 def declarations(kinds, members, size):
-    """A text of so many kinds of its own and members of enumerations, filled with line feeds; rpcgen wants short lines."""
+    """A text of so many kinds of its own and members of enumerations, filled with line feeds, as rpcgen wants."""
     names = ",\n".join(f"A{n}=1" for n in range(members))
     structs = "\n".join(f"struct s{n}{{int a;}};" for n in range(kinds - 1))
     return f"enum e{{{names}}};\n{structs}".encode().ljust(size, b"\n")

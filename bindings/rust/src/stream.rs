@@ -50,8 +50,8 @@ pub struct Records {
 }
 
 impl Records {
-    /// A reader before the first byte of a stream whose records may have `limit` bytes. Of the stream it keeps one record
-    /// at most, as it comes.
+    /// A reader before the first byte of a stream whose records may have `limit` bytes. Of the stream it keeps one
+    /// record at most, as it comes.
     pub fn start(limit: u32) -> Result<Self, StreamFault> {
         let mut started = Self {
             handle: sys::Records {
@@ -69,8 +69,8 @@ impl Records {
 
     /// Takes bytes of the piece, which may be empty, up to the end of a record.
     ///
-    /// `Some(used)`: a record is whole, and waits for [`Records::take`]. The first `used` bytes of the piece were taken,
-    /// the last of which is the record's last; the others are to be fed again. While a record waits none is taken.
+    /// `Some(used)`: a record is whole, and waits for [`Records::take`]. The first `used` bytes of the piece were
+    /// taken, the last of which is the record's last; the others are to be fed again. While a record waits none is taken.
     /// `None`: all bytes were taken, and no record is whole. A fault is answered for ever after.
     pub fn feed(&mut self, piece: &[u8]) -> Result<Option<usize>, StreamFault> {
         let mut outcome = sys::Outcome::default();
@@ -83,8 +83,8 @@ impl Records {
         }
     }
 
-    /// The record that waits. `record` is filled anew, and its room kept from call to call; false where none waits. Where
-    /// `record` wants memory, the record waits on.
+    /// The record that waits. `record` is filled anew, and its room kept from call to call; false where none waits.
+    /// Where `record` wants memory, the record waits on.
     pub fn take(&mut self, record: &mut Vec<u8>) -> Result<bool, NoMemory> {
         record.resize(record.capacity(), 0);
         let (mut status, mut count) = self.take_into(record);

@@ -49,7 +49,8 @@ impl<'a> ConstantTable<'a> {
 
     /// One more constant. Where memory is refused, the constants stay.
     pub fn push(&mut self, known: Known<'a>) -> Result<(), AllocError>
-        ensures added { OnOk result (knowns self.new.list.items ≡ knowns self.old.list.items ++ known_of known.entry ∷ []) }
+        ensures added { OnOk result
+            (knowns self.new.list.items ≡ knowns self.old.list.items ++ known_of known.entry ∷ []) }
         ensures stays { OnErr result (knowns self.new.list.items ≡ knowns self.old.list.items) }
     {
         let place = self.list.len();
