@@ -1,9 +1,7 @@
 -- Datagrams one after another, and their lines.
-use Rattle.std.proofs.Common.{◌≡◌, ℕ, ◌+◌, ◌<◌, ◌≤◌, List, [], ◌∷◌, ◌++◌, length, Option, Some, None, Result, Ok, Err}
-use Rattle.std.proofs.Common.{Bool, true, false, ◌==◌, if◌then◌else◌, IfOk, IfErr, OnOk, refl, ap, sym, ◌∙◌, subst}
+use Rattle.std.proofs.Common.{◌≡◌, ℕ, ◌+◌, ◌<◌, List, [], ◌∷◌, ◌++◌, length, Result, Ok, Err}
+use Rattle.std.proofs.Common.{Bool, true, false, ◌==◌, if◌then◌else◌, IfOk, IfErr, OnOk, refl, ap, ◌∙◌, subst}
 use Rattle.std.proofs.Common.{arith, length-append, codes, decimal}
-use Rattle.std.proofs.lemmas.List.{append-nil}
-use Rattle.std.specs.Io.KnownBytes.{Appends}
 use Rattle.xdr_io.specs.Told.{Counts}
 use Rattle.xdr_io.proofs.Chained.{Appends-none, Appends-trans, Counts-trans, Counts-none}
 use Rattle.rpc_rows.specs.Rows.{Row}

@@ -1,9 +1,8 @@
 -- Connections one after another, and their lines.
-use Rattle.std.proofs.Common.{◌≡◌, ℕ, suc, ◌+◌, ◌<◌, ◌≤◌, List, [], ◌∷◌, ◌++◌, length, take, drop, Option, Some, None}
+use Rattle.std.proofs.Common.{◌≡◌, ℕ, ◌+◌, ◌<◌, List, [], ◌∷◌, ◌++◌, length, Option}
 use Rattle.std.proofs.Common.{codes, decimal, Result, Ok, Err, IfOk, IfErr, OnOk, refl, ap, sym, ◌∙◌, subst, arith}
-use Rattle.std.proofs.Common.{append_assoc, length-append, inl, inr}
+use Rattle.std.proofs.Common.{append_assoc, length-append}
 use Rattle.std.proofs.lemmas.List.{append-nil}
-use Rattle.std.proofs.Math.Seq.{take-append-add}
 use Rattle.std.specs.Io.KnownBytes.{Appends}
 use Rattle.xdr_io.specs.Told.{Counts}
 use Rattle.xdr_io.proofs.Chained.{Appends-trans, Counts-trans, Counts-none}
@@ -18,8 +17,8 @@ use Rattle.oncrpc_service.specs.declared.serving.Stop.{Stop}
 use Rattle.oncrpc_service.specs.declared.serving.Stop.TheVariants as stop
 use Rattle.oncrpc_service.specs.Connections.{Outcome, ServesEach, ServesNext, connection_line, connection_lines}
 use Rattle.oncrpc_service.specs.Connections.{listening_line, printed}
-use Rattle.oncrpc_service.specs.ServeEnds.{Post, HasServed, HasStopped, HasServedOne, LinePrints, LosesLine, NoneCame}
-use Rattle.oncrpc_service.specs.ServeEnds.{ServeEnds, StopsOne}
+use Rattle.oncrpc_service.specs.ServeEnds.{Post, HasServed, HasStopped, HasServedOne, LinePrints}
+use Rattle.oncrpc_service.specs.ServeEnds.{StopsOne}
 use Rattle.oncrpc_service.specs.Written.{InPart}
 use Rattle.oncrpc_service.proofs.Texts.{begun, in_part_then, numbered_then}
 

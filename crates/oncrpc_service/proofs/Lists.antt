@@ -10,10 +10,10 @@ use Rattle.xdr_types.specs.Fits.{fits, fit, is_legal, parts}
 use Rattle.xdr_types.proofs.Unique.{both}
 use Rattle.rpc_rows.specs.Rows.{Row, row_of}
 use Rattle.rpc_dumps.specs.Dir.{dir_kinds}
-use Rattle.rpc_dumps.specs.Dumps.{content, group, linked, number, rpcb_list, rpcb_tree}
+use Rattle.rpc_dumps.specs.Dumps.{content, linked, number, rpcb_list, rpcb_tree}
 use Rattle.rpc_answer.proofs.Begun.{none_of}
 use Rattle.oncrpc_service.specs.Rows.{Mapping, mapping_tree, pmap_list, words, row_line, mapping_line}
-use Rattle.oncrpc_service.specs.Private.Nodes.{field_text, more_fields, fields_line, item_line, list_lines}
+use Rattle.oncrpc_service.specs.Private.Nodes.{field_text, fields_line, item_line, list_lines}
 
 abbrev text_of : Tree → List ℕ
 text_of t = field_text t.0

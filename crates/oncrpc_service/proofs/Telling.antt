@@ -1,14 +1,14 @@
 -- What results say, by what the decoder answers.
 use Rattle.std.proofs.Common.{◌≡◌, ◌≢◌, ℕ, ◌≤◌, List, ◌++◌, Bool, true, false, length, take, drop, refl, ap, sym, ◌∙◌}
-use Rattle.std.proofs.Common.{subst, if◌then◌else◌, ◌==◌, flat_map, ◌⊎◌, inl, inr}
+use Rattle.std.proofs.Common.{subst, if◌then◌else◌, ◌==◌, inl, inr}
 use Rattle.std.proofs.lemmas.List.{take-append-drop}
 use Rattle.std.proofs.lemmas.Bool.Decides.{eqb_tells}
 use Rattle.xdr_types.specs.Tree.{Tree}
 use Rattle.xdr_types.specs.Spelling.{bytes_of}
 use Rattle.xdr_types.specs.Within.{FitsWithin}
 use Rattle.rpc_dumps.specs.Dir.{dir_kinds}
-use Rattle.rpc_dumps.specs.Dumps.{dump_limits, rpcb_list}
-use Rattle.oncrpc_service.specs.Rows.{pmap_list, header, row_line, mapping_line}
+use Rattle.rpc_dumps.specs.Dumps.{dump_limits}
+use Rattle.oncrpc_service.specs.Rows.{header}
 use Rattle.oncrpc_service.specs.Private.Nodes.{list_lines}
 use Rattle.xdr_stream.specs.declared.fault.DecodeFault.{DecodeFault}
 use Rattle.xdr_stream.specs.declared.fault.Reason.TheVariants as reason

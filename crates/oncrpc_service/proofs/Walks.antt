@@ -1,5 +1,5 @@
 -- What is written of a list's node.
-use Rattle.std.proofs.Common.{◌≡◌, ℕ, ◌+◌, ◌<◌, ◌≤◌, List, [], ◌∷◌, ◌++◌, length, drop, get_or, refl, ap, sym, ◌∙◌}
+use Rattle.std.proofs.Common.{◌≡◌, ℕ, ◌<◌, ◌≤◌, List, [], ◌∷◌, ◌++◌, length, get_or, refl, ap, sym, ◌∙◌}
 use Rattle.std.proofs.Common.{arith}
 use Rattle.std.proofs.Common.{append_assoc, append-nil, Vec, Global, Result, Ok, Err, IfOk, OnOk, ◌⊎◌, inl, inr}
 use Rattle.std.proofs.lemmas.List.{drop_all}

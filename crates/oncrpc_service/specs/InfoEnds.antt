@@ -9,7 +9,6 @@ use Rattle.rpc_engine.specs.declared.fault.ClientFault.TheVariants as fault
 use Rattle.rpc_engine.specs.DatagramExchange.{ExchangesDatagram, read_failures}
 use Rattle.rpc_engine.specs.Exchanged.{Exchanged, Wrote, write_failures}
 use Rattle.oncrpc_tasks.specs.declared.failure.Failure.{Failure}
-use Rattle.oncrpc_tasks.specs.declared.failure.Failure.TheVariants as failure
 use Rattle.oncrpc_service.specs.DatagramEnds.{Desk}
 use Rattle.oncrpc_service.specs.Infos.{Tells, dump_call, failure_of}
 use Rattle.oncrpc_service.specs.Written.{InPart}

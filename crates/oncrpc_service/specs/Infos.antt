@@ -1,5 +1,5 @@
 -- What is printed of a registry's answer.
-use Rattle.std.specs.Prelude.{◌≡◌, ◌≢◌, ℕ, ◌≤◌, ◌==◌, List, [], ◌∷◌, ◌++◌, flat_map, codes, decimal, Option, None, Some}
+use Rattle.std.specs.Prelude.{◌≡◌, ◌≢◌, ℕ, ◌≤◌, ◌==◌, List, [], ◌++◌, flat_map, codes, decimal, Option, None, Some}
 use Rattle.std.specs.Prelude.{Result, Ok, Err, length, if◌then◌else◌}
 use Rattle.xdr_types.specs.Tree.{Tree}
 use Rattle.xdr_types.specs.Spelling.{bytes_of}

@@ -2,7 +2,6 @@
 use Rattle.std.proofs.Common.{◌≡◌, ◌⊎◌, inl, inr, ℕ, ◌%◌, Bool, true, false, List, [], ◌++◌, refl, sym, ap, subst, ◌∙◌}
 use Rattle.std.proofs.Common.{Option, Some, None, Result, Ok, Err, IfOk, Vec, Global}
 use Rattle.std.proofs.lemmas.List.{append-nil}
-use Rattle.std.specs.Io.KnownBytes.{Consumes}
 use Rattle.xdr_types.specs.Kinds.{KindView}
 use Rattle.xdr_types.specs.Tree.{Tree}
 use Rattle.xdr_types.specs.Within.{Bounds}
@@ -12,7 +11,6 @@ use Rattle.xdr_laws.proofs.Longer.{stays}
 use Rattle.xdr_laws.proofs.OneOutcome.{one_whole}
 use Rattle.xdr_laws.proofs.Whole.{whole_exactly}
 use Rattle.xdr_stream.specs.Finish.{EndsWith}
-use Rattle.xdr_stream.specs.Sees.{Ends}
 use Rattle.xdr_stream.specs.declared.fault.DecodeFault.{DecodeFault}
 use Rattle.xdr_stream.specs.declared.fault.Reason.{Reason}
 use Rattle.xdr_stream.specs.declared.fault.Reason.TheVariants as reason

@@ -1,5 +1,5 @@
 -- What the input of a task gives it.
-use Rattle.std.specs.Prelude.{◌≡◌, ℕ, ◌<◌, ◌≤◌, Bool, true, false, List, [], ◌++◌, length, Option, Some, None, Ok, ⊤}
+use Rattle.std.specs.Prelude.{◌≡◌, ℕ, ◌<◌, ◌≤◌, Bool, List, [], ◌++◌, length, Option, Some, None, Ok, ⊤}
 use Rattle.std.specs.Prelude.{◌+◌, if◌then◌else◌}
 use Rattle.hex.specs.Hex.{decode_of}
 use Rattle.oncrpc_tasks.specs.declared.given.Given.{Given}

@@ -1,5 +1,5 @@
 -- Datagrams that are answered where none is to be, none comes, or one that is no call; what asking by a datagram sends.
-use Rattle.std.proofs.Common.{◌≡◌, ℕ, ◌+◌, ◌≤◌, ◌⊎◌, inl, inr, List, [], ◌∷◌, ◌++◌, length, Option}
+use Rattle.std.proofs.Common.{◌≡◌, ℕ, ◌≤◌, ◌⊎◌, inl, inr, List, [], ◌∷◌, ◌++◌, length, Option}
 use Rattle.std.proofs.Common.{Some, None, ◌==◌, if◌then◌else◌}
 use Rattle.std.proofs.Common.{Result, Ok, Err, codes, decimal, suc, get_or, refl, ap, sym, ◌∙◌, subst, arith}
 use Rattle.std.proofs.lemmas.List.{nil_from_length}

@@ -11,7 +11,7 @@ use Rattle.oncrpc_names.specs.Names.{IsPartName, name_text}
 use Rattle.oncrpc_names.specs.declared.reading.Part.{Part}
 use Rattle.oncrpc_names.specs.declared.reading.Part.TheVariants.{Argument}
 use Rattle.oncrpc_names.specs.declared.reading.PartName.{PartName}
-use Rattle.oncrpc_kinds.specs.Naming.{Names, part_named, place_of_part}
+use Rattle.oncrpc_kinds.specs.Naming.{part_named, place_of_part}
 use Rattle.oncrpc_tasks.specs.Right.{Question}
 use Rattle.oncrpc_tasks.specs.Sources.{IsDeclared, IsTold, told_text}
 use Rattle.oncrpc_tasks.specs.Tasks.{Asks, AsksNothing}

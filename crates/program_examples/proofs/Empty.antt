@@ -1,5 +1,5 @@
 -- What is answered to an input of no bytes.
-use Rattle.std.proofs.Common.{◌≡◌, ℕ, ◌+◌, ◌≤◌, ◌<◌, false, List, [], ◌++◌, length, Option, Some, sym, ap, ◌∙◌, arith}
+use Rattle.std.proofs.Common.{◌≡◌, ℕ, ◌+◌, ◌<◌, false, List, [], ◌++◌, length, Option, Some, sym, ap, ◌∙◌, arith}
 use Rattle.std.proofs.Common.{length-append, subst}
 use Rattle.std.specs.Io.KnownBytes.{Appends}
 use Rattle.xdr_types.specs.Spelling.{bytes_of}

@@ -8,7 +8,7 @@ use Rattle.rpc_record.specs.declared.fault.RecordFault.TheVariants as fault
 use Rattle.rpc_record.specs.declared.place.Place.{Place}
 use Rattle.rpc_record.specs.declared.place.Place.TheVariants as place
 use Rattle.rpc_record.specs.declared.reader.RecordReader.{RecordReader}
-use Rattle.rpc_record.specs.Fields.{IsTakingAt, IsBrokenAt}
+use Rattle.rpc_record.specs.Fields.{IsBrokenAt}
 use Rattle.rpc_record.specs.Reading.{IsWhole}
 use Rattle.rpc_record.proofs.Told.{not_broken}
 use Rattle.rpc_record.specs.Stands.{IsBetween, IsWaiting, IsTaking, IsBroken, TruncatedAt, Ends, Concludes, limit_of}

@@ -1,10 +1,8 @@
 -- What the inputs of the examples are to a call.
-use Rattle.std.proofs.Common.{◌≡◌, ◌≢◌, ℕ, zero, suc, ◌<◌, ◌≤◌, List, [], ◌∷◌, ◌++◌, length, get_or, Option, Some}
-use Rattle.std.proofs.Common.{Result, Ok, Err, refl, sym, subst, arith, IsErr}
-use Rattle.rpc_record.specs.declared.fault.RecordFault.TheVariants as flaw
-use Rattle.rpc_record.specs.declared.fault.RecordFault.{RecordFault}
-use Rattle.rpc_record.specs.Marked.{header, Marked}
-use Rattle.rpc_record.specs.Reading.{IsWhole, WholeIsLongest, WholeHasNoLong}
+use Rattle.std.proofs.Common.{◌≡◌, ◌≢◌, ℕ, List, [], ◌∷◌, Option, Some}
+use Rattle.std.proofs.Common.{Result, Ok, Err, refl, subst, arith, IsErr}
+use Rattle.rpc_record.specs.Marked.{header}
+use Rattle.rpc_record.specs.Reading.{WholeIsLongest, WholeHasNoLong}
 use Rattle.rpc_record.proofs.Streams.{whole_none, whole_push}
 use Rattle.rpc_message.specs.declared.fault.ReplyFault.{ReplyFault}
 use Rattle.rpc_message.specs.declared.message.Reply.{Reply}
@@ -12,7 +10,7 @@ use Rattle.rpc_message.specs.Message.{ReplyView, Accepted, Success}
 use Rattle.rpc_message.specs.Spelling.{ReplyBytes}
 use Rattle.rpc_engine.specs.declared.fault.ClientFault.{ClientFault}
 use Rattle.rpc_engine.specs.declared.fault.ClientFault.TheVariants as fault
-use Rattle.rpc_engine.specs.Exchanged.{Outcome, Replied, OtherXid, NoReply, Truncated, IsOutcome, IsExact}
+use Rattle.rpc_engine.specs.Exchanged.{Replied, OtherXid, NoReply, Truncated, IsOutcome, IsExact}
 use Rattle.rpc_engine.specs.Exchanged.{IsFirst, most_reply}
 use Rattle.rpc_engine.specs.Laws.{OneOutcome}
 

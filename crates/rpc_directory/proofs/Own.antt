@@ -1,9 +1,8 @@
 -- The registry's own rows are set one after another.
-use Rattle.std.proofs.Common.{◌≡◌, ℕ, ◌<◌, ◌≤◌, ◌/◌, ◌%◌, Bool, true, false, List, [], ◌∷◌, ◌++◌, refl, ap, ◌∙◌, length}
-use Rattle.std.proofs.Common.{nat_eq, nat_le, decimal, arith, ◌+◌, ◌*◌, mod-lt}
+use Rattle.std.proofs.Common.{◌≡◌, ℕ, ◌<◌, ◌≤◌, ◌/◌, ◌%◌, true, false, List, [], ◌∷◌, ◌++◌, refl, ap, ◌∙◌, length}
+use Rattle.std.proofs.Common.{nat_le, decimal, arith, ◌+◌, ◌*◌, mod-lt}
 use Rattle.std.proofs.lemmas.List.{length-append}
 use Rattle.std.proofs.lemmas.Fmt.{length-decimal-le, decimal_nonempty}
-use Rattle.std.proofs.lemmas.Bool.Decides.{Decides-eqb}
 use Rattle.rpc_rows.specs.Rows.{Row}
 use Rattle.rpc_rows.specs.Steps.{Step, set, is_empty}
 use Rattle.rpc_rows.specs.Ports.{at_port, tcp, udp}

@@ -1,5 +1,5 @@
 -- What stood at the front of bytes still stands there, one write after another.
-use Rattle.std.proofs.Common.{◌≡◌, ℕ, ◌≤◌, List, length, take, sym, ap, ◌∙◌, arith}
+use Rattle.std.proofs.Common.{ℕ, ◌≤◌, List, length, take, sym, ap, ◌∙◌, arith}
 use Rattle.std.proofs.lemmas.List.{take-take, length-take}
 use Rattle.std.specs.Io.{StartsWith}
 

@@ -1,7 +1,6 @@
 -- The first fault of lists is the one that their refusal says.
-use Rattle.std.proofs.Common.{◌≡◌, ◌⊎◌, inl, inr, ℕ, zero, suc, ◌+◌, ◌<◌, ◌≤◌, Bool, true, false, eqb, eqb-true, length}
+use Rattle.std.proofs.Common.{◌≡◌, ◌⊎◌, inl, inr, ℕ, zero, suc, ◌+◌, ◌<◌, ◌≤◌, eqb, length}
 use Rattle.std.proofs.Common.{Option, Some, None, Result, Ok, Err, MatchResult, refl, ap, sym, subst, ◌∙◌, arith}
-use Rattle.std.proofs.lemmas.Bool.{eqb-false}
 use Rattle.xdr_types.specs.Kinds.{Lists}
 use Rattle.xdr_types.specs.Faults.{fault, kind_flaw_at, name_flaw_at, IsWellFormed}
 use Rattle.xdr_types.specs.Refused.{IsFirstFault, IsRefused}

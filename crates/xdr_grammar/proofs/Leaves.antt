@@ -7,11 +7,10 @@ use Rattle.xdr_tokens.specs.declared.token.Keyword.TheVariants as word
 use Rattle.xdr_tokens.specs.declared.token.Mark.{Mark}
 use Rattle.xdr_tokens.specs.declared.token.Mark.TheVariants as mark
 use Rattle.xdr_tokens.specs.Tokens.{Lexeme, Word, Name, Number, Sign}
-use Rattle.xdr_tokens.proofs.Options.{some_is, bind_some, chosen}
+use Rattle.xdr_tokens.proofs.Options.{some_is, bind_some}
 use Rattle.xdr_grammar.specs.Tree.{Value, Literal, Constant}
 use Rattle.xdr_grammar.specs.Grammar.{value, limit}
 use Rattle.xdr_grammar.specs.Outline.{Outline, Late, late}
-use Rattle.xdr_tokens.specs.Options.{◌>>=◌}
 use Rattle.xdr_grammar.specs.Private.Reading.{taken, word_number, mark_number, after_word, after_sign, name_at}
 use Rattle.xdr_grammar.specs.Private.Reading.{number_at, value_at, size_at, limit_at, either_sign, numbered_at}
 use Rattle.xdr_tokens.specs.Keywords.{keywords as words}

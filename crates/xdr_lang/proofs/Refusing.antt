@@ -1,12 +1,12 @@
 -- What is not refused, and what nothing is due for.
-use Rattle.std.proofs.Common.{◌≤◌, lit≤, ◌≡◌, inl, inr, ℕ, Option, Some, None, refl, ap, arith, sym, ◌∙◌}
+use Rattle.std.proofs.Common.{◌≤◌, lit≤, ◌≡◌, inl, inr, ℕ, Some, refl, ap}
 use Rattle.xdr_tokens.specs.declared.fault.Fault.{Fault}
 use Rattle.xdr_tokens.specs.declared.fault.Fault.TheVariants as fault
 use Rattle.xdr_tokens.specs.Due.{RefusesRightly}
 use Rattle.xdr_types.specs.Kinds.{Lists}
-use Rattle.xdr_types.specs.Faults.{fault_number, AreFlawless, IsWellFormed, kind_flaw_at, name_flaw_at}
+use Rattle.xdr_types.specs.Faults.{fault_number, IsWellFormed}
 use Rattle.xdr_types.specs.Sound.{IsSound}
-use Rattle.xdr_types.specs.Refused.{IsFirstFlaw, IsFirstFault, IsRefused}
+use Rattle.xdr_types.specs.Refused.{IsRefused}
 use Rattle.xdr_types.specs.declared.fault.Flaw.{Flaw}
 use Rattle.xdr_types.specs.declared.fault.Flaw.TheVariants as flaw
 use Rattle.xdr_types.specs.declared.fault.SchemaFault.{SchemaFault}

@@ -1,7 +1,7 @@
 -- A length and its content, and content of a fixed size, unit after unit.
 use Rattle.std.proofs.Common.{◌≡◌, ℕ, zero, suc, ◌+◌, ◌-◌, ◌%◌, ◌^◌, ◌<◌, ◌≤◌, ℤ, pos, negsuc, Bool, true, false}
 use Rattle.std.proofs.Common.{nat_lt, ltb-true, List, [], ◌∷◌, ◌++◌, length, take, drop, refl, sym, ap, subst, ◌∙◌}
-use Rattle.std.proofs.Common.{append_assoc, append-nil, arith, replicate, get_or}
+use Rattle.std.proofs.Common.{append_assoc, append-nil, arith, replicate}
 use Rattle.std.specs.Int.{w32, w64, from_be_bytes}
 use Rattle.std.proofs.lemmas.Nat.{be_bytes_4, be_bytes_8}
 use Rattle.std.proofs.lemmas.List.{take_at, drop_at, length-append, length-drop, take-append-le, drop-append-le}

@@ -1,7 +1,7 @@
 -- How many nodes begin at one place.
 use Rattle.std.proofs.Common.{◌≡◌, ℕ, zero, suc, ◌+◌, ◌<◌, ◌≤◌, ◌==◌, Bool, true, false, cond, nat_lt, List, [], ◌∷◌}
 use Rattle.std.proofs.Common.{◌++◌, length, Option, Some, None, refl, sym, ap, subst, ◌∙◌, arith, inl, inr, replicate}
-use Rattle.std.specs.Prelude.{◌⊎◌, ⊤, ◌*◌, if◌then◌else◌}
+use Rattle.std.specs.Prelude.{◌⊎◌, ⊤, ◌*◌}
 use Rattle.std.specs.List.{AllByRecursion}
 use Rattle.std.proofs.lemmas.Bool.{cases_lt}
 use Rattle.std.proofs.lemmas.List.{length-append, length-replicate, get_or_past}
@@ -21,7 +21,6 @@ use Rattle.xdr_types.specs.Faults.{some_of, is_none, is_void, is_nothing, has_un
 use Rattle.xdr_types.specs.Faults.{has_bad_tag, has_case_twice, has_illegal_case, has_empty_list, kind_flaw}
 use Rattle.xdr_types.specs.Faults.{IsWellFormed}
 use Rattle.xdr_types.specs.Laws.{EachPartIsKnown}
-use Rattle.xdr_types.specs.declared.fault.Flaw.{Flaw}
 use Rattle.xdr_types.specs.declared.fault.Flaw.TheVariants as flaw
 use Rattle.xdr_types.proofs.Inhabited.{or-false}
 use Rattle.xdr_types.proofs.Known.{all_known}

@@ -1,5 +1,5 @@
 -- What a walk over a value's bytes does to the parts that are owed.
-use Rattle.std.proofs.Common.{◌≡◌, ℕ, zero, suc, ◌+◌, ◌-◌, ◌%◌, ◌^◌, ◌<◌, ◌≤◌, List, [], ◌∷◌, ◌++◌, length, replicate}
+use Rattle.std.proofs.Common.{◌≡◌, ℕ, zero, suc, ◌+◌, ◌^◌, ◌<◌, ◌≤◌, List, [], ◌∷◌, ◌++◌, length}
 use Rattle.std.proofs.Common.{take, drop, refl, sym, ap, subst, ◌∙◌, append_assoc, arith}
 use Rattle.std.proofs.lemmas.List.{length-append, length-drop, length-replicate, drop_at, drop-drop, take-append-drop}
 use Rattle.std.proofs.Math.Nat.{add-zero}
@@ -12,7 +12,7 @@ use Rattle.xdr_types.specs.Spelling.{own}
 use Rattle.xdr_types.specs.Layout.{Entry, entry, shown, shown_bytes, shown_items, content, of_number, of_length}
 use Rattle.xdr_types.specs.Layout.{of_group}
 use Rattle.xdr_units.specs.Numbers.{pad, gap, word}
-use Rattle.xdr_laws.specs.Owed.{Due, Frame, Rest, Completes, Lead, UnitFirst, LengthFirst, FreeBytes, Silent, lead_of}
+use Rattle.xdr_laws.specs.Owed.{Frame, Rest, Completes, Lead, UnitFirst, LengthFirst, FreeBytes, Silent, lead_of}
 use Rattle.xdr_laws.specs.Owed.{HasUnit, IsUnitFirst, IsLengthFirst, IsFreeBytes, IsSilent, free_size, silent_head}
 use Rattle.xdr_laws.specs.Owed.{Accepts, head_of, role_of}
 use Rattle.xdr_laws.specs.Held.{first}

@@ -1,5 +1,5 @@
 -- What the bytes of a legal head show is that head.
-use Rattle.std.proofs.Common.{◌≡◌, ℕ, ◌^◌, ◌<◌, ℤ, pos, Bool, true, false, List, [], length, refl, sym, ap, subst, ◌∙◌}
+use Rattle.std.proofs.Common.{◌≡◌, ℕ, ◌^◌, ◌<◌, ℤ, Bool, true, false, List, [], length, refl, ap, ◌∙◌}
 use Rattle.std.proofs.Common.{lit<, Option}
 use Rattle.std.specs.Int.{w32, w64, from_be_bytes}
 use Rattle.xdr_units.specs.Numbers.{word, long_word}
@@ -9,7 +9,7 @@ use Rattle.xdr_types.specs.Tree as value
 use Rattle.xdr_types.specs.Tree.{Head}
 use Rattle.xdr_types.specs.Spelling.{own}
 use Rattle.xdr_types.specs.Outcome.{signed, number_in}
-use Rattle.xdr_laws.specs.Owed.{flag, truth}
+use Rattle.xdr_laws.specs.Owed.{truth}
 use Rattle.xdr_laws.proofs.Legal.{IsSigned, IsLegal, numbered_signed}
 use Rattle.xdr_laws.proofs.Numbers.{unit_of, units_of, from4-unit4, from8-unit8, signed_back, signed8, signed8_back}
 use Rattle.xdr_laws.proofs.Numbers.{number_back}

@@ -1,7 +1,7 @@
 -- The lines of lent parts are those of the values whose layout they are.
-use Rattle.std.proofs.Common.{◌≡◌, ℕ, ◌+◌, ◌<◌, ◌≤◌, Bool, true, false, Option, None, Some, List, [], ◌∷◌, ◌++◌, length}
+use Rattle.std.proofs.Common.{◌≡◌, ℕ, ◌+◌, ◌<◌, true, Option, None, Some, List, [], ◌∷◌, ◌++◌, length}
 use Rattle.std.proofs.Common.{map}
-use Rattle.std.proofs.Common.{take, drop, refl, sym, ap, subst, ◌∙◌, append_assoc, arith, lit<}
+use Rattle.std.proofs.Common.{take, drop, refl, sym, ap, subst, ◌∙◌, append_assoc, lit<}
 use Rattle.std.specs.Prelude.{MatchOption, ⊤}
 use Rattle.std.specs.List.{AllByRecursion, flat_map}
 use Rattle.std.proofs.lemmas.Bool.{false≢true}
@@ -14,7 +14,7 @@ use Rattle.xdr_types.specs.Kinds.{KindView, Part, kind_at}
 use Rattle.xdr_types.specs.Tree as value
 use Rattle.xdr_types.specs.Tree.{Head, Values, Tree, from_list}
 use Rattle.xdr_types.specs.Fits.{is_legal, parts, item_part}
-use Rattle.xdr_types.specs.Spelling.{own, spelling, bytes_of}
+use Rattle.xdr_types.specs.Spelling.{own, spelling}
 use Rattle.xdr_types.specs.Layout as layout
 use Rattle.xdr_types.specs.Layout.{Entry, entry, entries, shown}
 use Rattle.xdr_types.specs.Outcome.{Outcome, Whole}
@@ -27,11 +27,10 @@ use Rattle.xdr_parts.specs.Lent.{entry_of, size_in, role_in, IsLentFrom, AreLent
 use Rattle.xdr_parts.specs.declared.part.Lent.{Lent}
 use Rattle.xdr_parts.specs.declared.part.Role.{Role}
 use Rattle.xdr_parts.specs.declared.part.Role.TheVariants.{Number, Flag, Length, Content, Group}
-use Rattle.xdr_show.specs.Line.{line_text}
-use Rattle.xdr_show.specs.Lines.{node_text, node_line, lines}
+use Rattle.xdr_show.specs.Lines.{node_line, lines}
 use Rattle.xdr_show.specs.Lent.{ArePartsOf}
 use Rattle.xdr_show.specs.Shown.{show_text}
-use Rattle.xdr_show.specs.Private.Read.{shown_in, number_shown, line_in, line_lent, IsSized, IsReadable, number_size}
+use Rattle.xdr_show.specs.Private.Read.{shown_in, line_in, line_lent, IsSized, IsReadable}
 use Rattle.xdr_show.proofs.Heads.{IsRead, word_back, read_int, read_unsigned, read_hyper, read_unsigned_hyper}
 use Rattle.xdr_show.proofs.Heads.{read_boolean, read_numbered, read_tag}
 use Rattle.xdr_show.proofs.Joined.{show_is_lines}

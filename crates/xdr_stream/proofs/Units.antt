@@ -3,7 +3,7 @@ use Rattle.std.proofs.Common.{◌≡◌, ℕ, ◌+◌, ◌-◌, ◌*◌, ◌%◌
 use Rattle.std.proofs.Common.{[], ◌∷◌, ◌++◌, length, take, drop, refl, sym, ap, subst, ◌∙◌, append_assoc, append-nil}
 use Rattle.std.proofs.Common.{arith, replicate}
 use Rattle.std.specs.Int.{w32, w64, from_be_bytes}
-use Rattle.std.proofs.Common.{get_or, suc, rules, cond, nat_lt, negsuc, to_z}
+use Rattle.std.proofs.Common.{get_or, rules, cond, nat_lt, negsuc, to_z}
 use Rattle.std.proofs.lemmas.Bool.{cases_lt, false≢true}
 use Rattle.std.proofs.lemmas.List.{length-append, length-take, length-drop, take-append-drop}
 use Rattle.std.proofs.lemmas.List.{drop-drop}

@@ -11,8 +11,6 @@ use Rattle.std.specs.Ordering.{nat_cmp, is_eq}
 use Rattle.std.specs.Cmp.Lexicographic.{slice_cmp}
 use Rattle.std.specs.Str.{bytes_eq}
 use Rattle.std.proofs.lemmas.Map.Text.{is_eq-slice_cmp}
-use Rattle.std.proofs.lemmas.Slice.Eq.{bytes_eq-Decides}
-use Rattle.std.proofs.lemmas.Bool.Decides.{same_from_decides, Decides-like}
 use denote.Ref.{Bor}
 pub use Rattle.xdr_units.proofs.Bytes.{bytes_eq-sym}
 use Rattle.xdr_types.specs.Kinds.{Constant, Part, Branch}

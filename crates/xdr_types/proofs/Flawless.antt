@@ -3,11 +3,10 @@ use Rattle.std.proofs.Common.{◌≡◌, ℕ, zero, suc, ◌+◌, ◌<◌, ◌�
 use Rattle.std.proofs.Common.{false, Option, None, String, slice_index_or, refl, ap, sym, ◌∙◌, subst, arith, nat_lt}
 use Rattle.std.proofs.Common.{ltb-true, ltb-false}
 use Rattle.std.specs.declared.alloc.Global.{Global}
-use Rattle.xdr_types.specs.Kinds.{KindView, Part, kind_at}
-use Rattle.xdr_types.specs.KindViews.{kind_view, name_of}
+use Rattle.xdr_types.specs.Kinds.{KindView, Part}
+use Rattle.xdr_types.specs.KindViews.{name_of}
 use Rattle.xdr_types.specs.Faults.{AreFlawless, name_flaw, name_flaw_at}
 use Rattle.xdr_types.specs.declared.fault.Flaw.{Flaw}
-use Rattle.xdr_types.specs.declared.kind.Kind.{Kind}
 use Rattle.xdr_types.specs.declared.kind.KindId.{KindId}
 
 pub one-more : (flaw_at : ℕ → Option Flaw) (n : ℕ) → AreFlawless flaw_at n → flaw_at n ≡ None

@@ -1,6 +1,6 @@
 -- What a set of numbers says of the enumeration that it was made of.
 use Rattle.std.proofs.Common.{◌≡◌, ℕ, ◌+◌, ◌<◌, ◌≤◌, ◌++◌, length, get_or, ltb, ltb-true, ltb-false, arith, rules, ℤ}
-use Rattle.std.proofs.Common.{Bool, true, false, ◌||◌, List, [], ◌∷◌, int_cmp, refl, sym, ap, ◌∙◌, subst, ◌⊎◌, inl, inr}
+use Rattle.std.proofs.Common.{Bool, true, false, List, [], ◌∷◌, int_cmp, refl, sym, ap, ◌∙◌, subst, ◌⊎◌, inl, inr}
 use Rattle.std.proofs.Common.{IsTrue, not, ◌↔◌}
 use Rattle.std.specs.BTreeSet.{BTreeSet, contains, IsSubset}
 use Rattle.std.specs.BTreeMap.{is_at}

@@ -1,7 +1,7 @@
 -- Every kind of a well formed and sound schema has a value.
 use Rattle.std.proofs.Common.{◌≡◌, ℕ, zero, suc, ◌+◌, ◌<◌, ℤ, pos, List, [], ◌∷◌, length, replicate, get_or, Bool, true}
 use Rattle.std.proofs.Common.{false, not, ◌&&◌, ◌||◌, if◌then◌else◌, Option, Some, None, is_some, refl, ap, sym, ◌∙◌}
-use Rattle.std.proofs.Common.{subst, arith, eq-eqb, le-leb, ◌⊎◌, inl, inr}
+use Rattle.std.proofs.Common.{subst, arith, eq-eqb, le-leb, inl, inr}
 use Rattle.std.specs.List.{AllByRecursion}
 use Rattle.std.specs.Ordering.{int_eq}
 use Rattle.std.proofs.lemmas.Bool.{false≢true}

@@ -1,12 +1,12 @@
 -- What the tests of marks say.
 use Rattle.std.proofs.Common.{◌≡◌, ℕ, zero, suc, ◌+◌, ◌<◌, List, [], ◌∷◌, length, get_or, Option, Some, None, Bool}
-use Rattle.std.proofs.Common.{true, false, ◌&&◌, ◌||◌, not, IsTrue, ◌↔◌, refl, ap, sym, ◌∙◌, subst, arith, add-one, ◌⊎◌}
+use Rattle.std.proofs.Common.{true, false, ◌&&◌, IsTrue, ◌↔◌, refl, ap, sym, ◌∙◌, subst, arith, add-one}
 use Rattle.std.proofs.Common.{inl, inr, replicate, map, is_some}
 use Rattle.std.specs.List.{AllByRecursion, Contains}
 use Rattle.std.proofs.lemmas.Bool.{false≢true}
 use Rattle.std.proofs.lemmas.List.{get_or-map, get_or_read, length-replicate}
-use Rattle.std.proofs.lemmas.Bool.{and_parts as both, and_from as both_of, or_cases as one_of, not-true as not_true}
-use Rattle.std.proofs.lemmas.Bool.{or_right as or_later, or_left as or_first}
+use Rattle.std.proofs.lemmas.Bool.{and_parts as both, and_from as both_of, or_cases as one_of}
+use Rattle.std.proofs.lemmas.Bool.{or_right as or_later}
 use Rattle.std.proofs.lemmas.Option.{none-some}
 use Rattle.xdr_types.specs.KindViews.{kind_view, part_of_member}
 use Rattle.xdr_types.specs.declared.kind.Kind.{Kind}

@@ -1,5 +1,5 @@
 -- What is printed of an answer.
-use Rattle.std.proofs.Common.{◌≡◌, refl, arith, inl, inr}
+use Rattle.std.proofs.Common.{refl, arith, inl, inr}
 use Rattle.oncrpc_service.proofs.Ending.{not_done, three_or_four, device_failed, wanted}
 use Rattle.oncrpc_service.proofs.info.end_with.Goals as goal
 

@@ -1,5 +1,4 @@
 -- The value that the decoder gives is a list of rows, and what it refuses begins with none.
-use Rattle.std.proofs.Common.{rules, sym, ◌∙◌, ap, subst}
 use Rattle.xdr_types.specs.View.{tree}
 use Rattle.oncrpc_service.proofs.Telling.{told_rows, told_refusal}
 use Rattle.oncrpc_service.proofs.Walks.{if_ok}

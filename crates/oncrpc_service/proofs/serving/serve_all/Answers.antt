@@ -1,5 +1,4 @@
 -- Each connection follows those before it.
-use Rattle.std.proofs.Common.{rules}
 use Rattle.oncrpc_service.specs.Connections.{listening_line}
 use Rattle.oncrpc_service.proofs.Following.{begins, begins_not, goes_on, stops_on, listening_is_some}
 use Rattle.oncrpc_service.proofs.serving.serve_all.Goals as goal

@@ -1,4 +1,4 @@
-use Rattle.std.proofs.Common.{ap, ◌∙◌, ◌≤◌, Some, arith}
+use Rattle.std.proofs.Common.{ap, ◌∙◌, Some, arith}
 use Rattle.program_examples.proofs.Serves.{all_written}
 use Rattle.program_examples.proofs.Asks.{under_header}
 use Rattle.program_examples.proofs.service.prints_rows_under_their_header.Goals as goal

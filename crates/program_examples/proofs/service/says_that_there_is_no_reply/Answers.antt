@@ -1,4 +1,4 @@
-use Rattle.std.proofs.Common.{◌≡◌, ap, ◌∙◌, Some, inl, inr}
+use Rattle.std.proofs.Common.{ap, ◌∙◌, Some, inl, inr}
 use Rattle.program_examples.proofs.Serves.{all_written}
 use Rattle.program_examples.proofs.Answered.{one_silent}
 use Rattle.program_examples.proofs.service.says_that_there_is_no_reply.Goals as goal

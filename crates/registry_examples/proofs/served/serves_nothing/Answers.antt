@@ -1,4 +1,3 @@
-use Rattle.rpc_answer.specs.Views.{netid_of}
 use Rattle.registry_examples.proofs.Streams.{nothing}
 use Rattle.registry_examples.proofs.served.serves_nothing.Goals as goal
 

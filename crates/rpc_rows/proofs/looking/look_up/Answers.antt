@@ -1,4 +1,4 @@
-use Rattle.std.proofs.Common.{◌≡◌, Option, Some, None, option_map, is_some, filter, ap, sym, ◌∙◌}
+use Rattle.std.proofs.Common.{◌≡◌, Some, None, option_map, is_some, filter, ap, sym, ◌∙◌}
 use Rattle.std.specs.Option.{option_or}
 use Rattle.rpc_rows.specs.Steps.{row_at}
 use Rattle.rpc_rows.specs.LookUp.{is_over, greatest}

@@ -1,4 +1,4 @@
-use Rattle.std.proofs.Common.{◌≡◌, ◌++◌, ◌-◌, ◌≤◌, List, ℕ, ap, ◌∙◌, append_assoc, replicate, take, rules, arith}
+use Rattle.std.proofs.Common.{◌≡◌, ◌++◌, ◌-◌, List, ℕ, ap, ◌∙◌, append_assoc, replicate, take, rules, arith}
 use Rattle.std.proofs.lemmas.List.{take-replicate}
 use Rattle.xdr_show.proofs.Stepping.{spaces-more}
 use Rattle.xdr_show.proofs.line.push_indent.Goals as goal

@@ -5,7 +5,6 @@ use Rattle.std.proofs.Math.Seq.{take-add}
 use Rattle.xdr_stream.specs.Frames.{stack_of}
 use Rattle.xdr_stream.specs.Sees.{Ends}
 use Rattle.xdr_stream.specs.Stands.{StandsAs, StandsFor}
-use Rattle.xdr_stream.specs.declared.machine.Awaits.TheVariants.{Next}
 use Rattle.xdr_stream.specs.declared.reader.State.{State}
 use Rattle.xdr_stream.proofs.Standing.{within_limit}
 use Rattle.xdr_stream.proofs.reader.Reader.take_part.Goals as goal
