@@ -1,5 +1,5 @@
 -- What the texts of the examples mean, computed once each.
-use Rattle.std.proofs.Common.{ℕ, List, [], ◌∷◌, ◌++◌, None, codes, lit≤, refl}
+use Rattle.std.proofs.Common.{◌≡◌, ℕ, List, [], ◌∷◌, ◌++◌, None, codes, lit≤, refl}
 use Rattle.xdr_types.specs.Kinds as xdr
 use Rattle.xdr_types.specs.Kinds.{KindView, Part}
 use Rattle.xdr_types.specs.Named.{basic, named}
@@ -69,7 +69,7 @@ takes_string = record {
   }) ∷ [];
 }
 
--- what each text means
+-- what each text means, and which mean nothing
 pub record Meanings : Type 0 where
   pub arrays : Means (codes "typedef int a[2]; typedef int b<2>;") (two_arrays 0)
   pub long_numbers : Means (codes "typedef long a[2]; typedef unsigned long b<2>;") (two_arrays 1)
@@ -77,8 +77,19 @@ pub record Meanings : Type 0 where
   pub linked_list : Means (codes "struct e{int n;e*next;};") entries
   pub list_of_structs : Means (codes "struct e{long n;struct e*next;};") entries
   pub string_argument : Means (codes "program P{version V{void N(string)=0;}=2;}=1;") takes_string
+  pub const_used_before_it_is_declared : told (codes "typedef int t<N>; const N = 3;") ≡ None
+  pub eight_is_no_octal_digit : told (codes "const N = 08;") ≡ None
+  pub long_as_a_name : told (codes "const long = 3;") ≡ None
+  pub struct_before_a_union : told (codes "union u switch(int d){case 1:void;};typedef struct u t;") ≡ None
+  pub struct_before_an_enumeration : told (codes "enum e{A=1};typedef struct e t;") ≡ None
+  pub struct_before_a_typedef : told (codes "typedef struct{int x;} s;typedef struct s t;") ≡ None
+  pub true_as_a_size : told (codes "typedef int t<TRUE>;") ≡ None
+  pub member_as_a_size : told (codes "enum e { A = 1 }; typedef int t[A];") ≡ None
+  pub field_name_there_twice : told (codes "struct s { int a; bool a; };") ≡ None
+  pub pair_of_numbers_there_twice :
+      told (codes "program P{version V{void N(void)=0;}=2;version W{void N(void)=0;}=2;}=1;") ≡ None
 
--- each text means that: the text is read by computing
+-- so it is: each text is read by computing
 pub meanings : Meanings
 unfolding told cut run_length after_comment value_from number_of word_among word_or_name comment_at piece_at
     after_word after_sign name_at number_at value_at size_at limit_at either_sign numbered_at repeat opaque_at text_at
@@ -101,4 +112,14 @@ meanings = record {
   list_of_structs = told_means _ entries refl (lit≤ tt) (well _ (lit≤ tt) refl refl)
       (sound_ten (xdr.maybe 9) (xdr.structure entry) tt ((0, refl, lit≤ tt), ((1, refl, lit≤ tt), tt)));
   string_argument = told_means _ takes_string refl (lit≤ tt) (well _ (lit≤ tt) refl refl) sound_eight;
+  const_used_before_it_is_declared = refl;
+  eight_is_no_octal_digit = refl;
+  long_as_a_name = refl;
+  struct_before_a_union = refl;
+  struct_before_an_enumeration = refl;
+  struct_before_a_typedef = refl;
+  true_as_a_size = refl;
+  member_as_a_size = refl;
+  field_name_there_twice = refl;
+  pair_of_numbers_there_twice = refl;
 }

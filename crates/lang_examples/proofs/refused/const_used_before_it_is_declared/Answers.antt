@@ -1,36 +1,7 @@
-use Rattle.std.proofs.Common.{refl, ◌∙◌}
-use Rattle.xdr_tokens.specs.Bytes.{run_length, after_comment, value_from, number_of}
-use Rattle.xdr_tokens.specs.Keywords.{word_among, word_or_name}
-use Rattle.xdr_tokens.specs.Private.Front.{comment_at, piece_at}
-use Rattle.xdr_grammar.specs.Private.Reading.{after_word, after_sign, name_at, number_at, value_at, size_at, limit_at}
-use Rattle.xdr_grammar.specs.Private.Reading.{either_sign, numbered_at, repeat, opaque_at, text_at, declared_at}
-use Rattle.xdr_grammar.specs.Private.Reading.{declaration_with, content_with, basic_at, member_at, enum_at, field_with}
-use Rattle.xdr_grammar.specs.Private.Reading.{struct_with, case_at, arm_with, default_with, switch_with, union_with}
-use Rattle.xdr_grammar.specs.Private.Reading.{body_word_at, body_with, specifier_at, passed_with, argument_with}
-use Rattle.xdr_grammar.specs.Private.Reading.{arguments_with, result_with, procedure_with, version_with, program_with}
-use Rattle.xdr_grammar.specs.Private.Reading.{const_at, typedef_with, defined_with, definition_at, definitions_at}
-use Rattle.xdr_grammar.specs.Private.Reading.{int_at, inner_word_at}
-use Rattle.xdr_constants.specs.Constants.{known, earlier, looked_up, size, limit, entry_number, numbers}
-use Rattle.xdr_lang.specs.LookUp.{type_named, named_place}
-use Rattle.xdr_lang.specs.Kinds.{each_onto, where_given, one_member, one_case, one_field, one_arm, one_kind}
-use Rattle.xdr_lang.specs.Programs.{signature, one_procedure, one_version, one_program}
-use Rattle.xdr_lang.specs.Distinct.{has_name, repeats, has_number, repeats_number, has_pair, repeats_pair, kind_repeats}
-use Rattle.xdr_lang.specs.Distinct.{kinds_repeat, version_repeats, versions_repeat, program_repeats, programs_repeat}
-use Rattle.xdr_lang.specs.Distinct.{pairs_of, pairs, has_twice}
-use Rattle.xdr_lang.specs.Meaning.{meaning}
-use Rattle.xdr_lang.specs.Private.Meaning.{distinct_meaning}
-use Rattle.lang_examples.proofs.Cutting.{cut}
-use Rattle.lang_examples.proofs.Telling.{told, refuses}
+use Rattle.std.proofs.Common.{◌∙◌}
+use Rattle.lang_examples.proofs.Telling.{refuses}
+use Rattle.lang_examples.proofs.Meanings.{meanings}
 use Rattle.lang_examples.proofs.refused.const_used_before_it_is_declared.Goals as goal
 
 pub returns : goal.returns
-unfolding told cut run_length after_comment value_from number_of word_among word_or_name comment_at piece_at
-    after_word after_sign name_at number_at value_at size_at limit_at either_sign numbered_at repeat opaque_at text_at
-    declared_at declaration_with content_with int_at basic_at member_at enum_at field_with struct_with case_at
-    arm_with default_with switch_with union_with body_word_at inner_word_at body_with specifier_at passed_with
-    argument_with arguments_with result_with procedure_with version_with program_with const_at typedef_with
-    defined_with definition_at definitions_at known earlier looked_up size limit entry_number numbers type_named
-    named_place each_onto where_given one_member one_case one_field one_arm one_kind signature one_procedure
-    one_version one_program has_name repeats has_number repeats_number has_pair repeats_pair kind_repeats kinds_repeat
-    version_repeats versions_repeat program_repeats programs_repeat pairs_of pairs has_twice meaning distinct_meaning
-returns c = c.is_ok.ensures.value ∙ refuses _ c.read.result refl c.read.ensures.found
+returns c = c.is_ok.ensures.value ∙ refuses _ c.read.result meanings.const_used_before_it_is_declared c.read.ensures.found
