@@ -9,7 +9,7 @@ fi
 cp "$here"/c/*.c "$to/c/"; cp "$here/x/bench.x" "$to/gen/"
 (cd "$to/gen" && rm -f bench.h bench_xdr.c && rpcgen -h bench.x >bench.h && rpcgen -c bench.x >bench_xdr.c)
 cd "$to"
-for p in stdio_check loop_xdr; do gcc -O2 -w -I/usr/include/tirpc c/$p.c gen/bench_xdr.c -o $p -ltirpc; done
+for p in stdio_check stdio_show loop_xdr; do gcc -O2 -w -I/usr/include/tirpc c/$p.c gen/bench_xdr.c -o $p -ltirpc; done
 # The library for C, where './build-library' has left it in library/.
 if [ -e "$here/../library/liboncrpc.a" ]; then
     gcc -O2 -w -DLIBRARY -I/usr/include/tirpc -I"$here/../library/include" c/loop_xdr.c gen/bench_xdr.c \

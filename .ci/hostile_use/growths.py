@@ -428,6 +428,17 @@ def free_cases():
         (MORE, "five", "00000003 61626300", "encode_to"),
     ]
     asked += [(b"", "opaque", "00010000" + "61" * 65536, "checker"), (b"", "opaque", "00000008" + "61" * 8, "checker")]
+    # Checked without memory: all kinds but those of a node.
+    for text, name, digits in (
+        (b"", "int", "80000000"),
+        (b"", "unsigned", "ffffffff"),
+        (b"", "hyper", "80000000 00000000"),
+        (b"", "unsigned-hyper", "ffffffff ffffffff"),
+        (b"", "bool", "00000001"),
+        (b"", "string", "00000003 61626300"),
+        (FILE, "filekind", "00000002"),
+    ):
+        asked.append((text, name, digits, "checker"))
     for text, name, digits, engine in asked:
         yield Case(engine, (1, 0), name=name, text=text, given=octets(digits)), lambda told: told.met == 0
     # The header of a record; an empty record, which is no call; bytes that are no call, and cases of none.

@@ -1,5 +1,5 @@
 /* The nearest to our codec_bench with rpcgen and libtirpc: one value, encoded or decoded (and freed) COUNT times.
- * usage: loop_xdr uint1M|list2000|file1M|opaque16M encode|decode COUNT
+ * usage: loop_xdr uint1M|list2000|file1M|opaque1M|opaque16M encode|decode COUNT
  * With -DLIBRARY, on liboncrpc too: check in place of decode, by the declarations on standard input, which are read
  * once; or read, which reads and frees them COUNT times. */
 #include <stdio.h>
@@ -63,8 +63,9 @@ int main(int c, char **v) {
         return 0;
     }
 #endif
-    if (!strcmp(v[1], "opaque16M")) {
-        blob b = {16777212, malloc(16777212)};
+    if (!strncmp(v[1], "opaque", 6)) {
+        u_int size = !strcmp(v[1], "opaque1M") ? 1048572 : 16777212;
+        blob b = {size, malloc(size)};
         for (u_int i = 0; i < b.blob_len; i++) b.blob_val[i] = i * 31;
         loop("blob", (xdrproc_t)xdr_blob, &b, sizeof b, v[2], count);
     } else if (!strcmp(v[1], "uint1M")) {

@@ -70,7 +70,8 @@ impl Records {
     /// Takes bytes of the piece, which may be empty, up to the end of a record.
     ///
     /// `Some(used)`: a record is whole, and waits for [`Records::take`]. The first `used` bytes of the piece were
-    /// taken, the last of which is the record's last; the others are to be fed again. While a record waits none is taken.
+    /// taken, the last of which is the record's last; the others are to be fed again. While a record waits none is
+    /// taken.
     /// `None`: all bytes were taken, and no record is whole. A fault is answered for ever after.
     pub fn feed(&mut self, piece: &[u8]) -> Result<Option<usize>, StreamFault> {
         let mut outcome = sys::Outcome::default();

@@ -1,5 +1,5 @@
-//! Encodes, decodes or checks one value again and again: VALUE is `uint1M`, `list2000`, `file1M` or `opaque16M`, and
-//! WORK is `encode`, `decode` or `check`.
+//! Encodes, decodes or checks one value again and again: VALUE is `uint1M`, `list2000`, `file1M`, `opaque1M` or
+//! `opaque16M`, and WORK is `encode`, `decode` or `check`.
 mod values;
 
 ghost use Rattle.std.specs.Prelude.{◌≤◌};

@@ -33,7 +33,8 @@ impl From<SchemaFault> for NoSample {
 /// The sample with this name.
 pub fn make_sample(alloc: Global, name: &str) -> Result<Sample, NoSample> {
     let (kinds, place, value) = match name {
-        "opaque16M" => opaque(alloc)?,
+        "opaque1M" => opaque(alloc, 1048572)?,
+        "opaque16M" => opaque(alloc, 16777212)?,
         "uint1M" => numbers(alloc)?,
         "list2000" => list(alloc)?,
         "file1M" => file(alloc)?,
@@ -61,10 +62,10 @@ fn bytes(alloc: Global, text: &[u8]) -> Result<Value, AllocError> {
     Ok(Value::Bytes(content))
 }
 
-// An opaque that makes 16 MiB with its length.
-fn opaque(alloc: Global) -> Result<(Vec<Kind>, u32, Value), AllocError> {
-    let mut content = Vec::with_capacity(alloc, 16777212)?;
-    for number in 0u32..16777212 {
+// An opaque of so many bytes, four fewer than it takes with its length.
+fn opaque(alloc: Global, size: u32) -> Result<(Vec<Kind>, u32, Value), AllocError> {
+    let mut content = Vec::with_capacity(alloc, size as usize)?;
+    for number in 0..size {
         content.push((number % 251) as u8)?;
     }
     let kinds = vec![in alloc; Kind::OpaqueUpTo { max: 4294967295 }]?;
