@@ -1,7 +1,6 @@
 -- The items of blocks.
 use Rattle.std.specs.Prelude.{◌<◌, ℕ, List, [], ◌++◌, length}
-use Rattle.std.specs.Coded.{×_prop, Unit-prop}
-use Rattle.std.proofs.Props.{props}
+use Rattle.std.specs.Coded.{×_prop, Unit-prop, le_prop}
 use Rattle.xdr_stack.specs.declared.chain.Chain.{Chain}
 use Rattle.xdr_stack.specs.declared.chain.Chain.TheVariants.{End, More'}
 
@@ -15,10 +14,7 @@ abbrev pub AreFilled : {T : Type 0} → Chain T → Type 0
 AreFilled End = Unit {0}
 AreFilled (More' p items below) = (0 < length items.items) × AreFilled below
 
-less-prop : (a b : ℕ) → IsProp (a < b)
-less-prop a b = Prim.hlevel props
-
 -- it says so in one way
 pub one_filled : {T : Type 0} → (c : Chain T) → IsProp (AreFilled c)
 one_filled End = Unit-prop
-one_filled (More' p items below) = ×_prop (less-prop 0 (length items.items)) (one_filled below)
+one_filled (More' p items below) = ×_prop le_prop (one_filled below)

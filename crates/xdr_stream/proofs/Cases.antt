@@ -2,7 +2,7 @@
 use Rattle.std.proofs.Common.{◌≡◌, ℕ, ◌<◌, ℤ, List, [], ◌∷◌, length, Bool, true, false, not, ◌||◌, if◌then◌else◌}
 use Rattle.std.proofs.Common.{Option, Some, None, is_some, refl, sym, subst}
 use Rattle.std.specs.Prelude.{option_map}
-use Rattle.std.proofs.lemmas.Bool.{false≢true}
+use Rattle.std.proofs.lemmas.Bool.{false≢true, not-false}
 use Rattle.std.specs.Ordering.{int_eq}
 use Rattle.std.proofs.lemmas.Bool.Decides.{Decides-int_eq}
 use Rattle.xdr_types.specs.Kinds.{KindView, Part, Branch, Lists, kind_at, choice}
@@ -11,10 +11,6 @@ use Rattle.xdr_types.specs.Faults.{some_of, has_unknown, is_zero_size, has_void,
 use Rattle.xdr_types.specs.Faults.{has_illegal_case, kind_flaw, IsWellFormed}
 use Rattle.xdr_types.specs.declared.fault.Flaw.TheVariants as flaw
 use Rattle.xdr_types.proofs.Inhabited.{or-false, if-none}
-
-not_false : (b : Bool) → not b ≡ false → b ≡ true
-not_false true h = refl
-not_false false h = absurd (false≢true (sym h))
 
 -- ---- what no fault finds
 
@@ -44,7 +40,7 @@ module _ (legal : ℤ → Bool) where
       by_first : (b : Bool) → int_eq c z ≡ b → b || is_listed cs z ≡ true → not (legal c) ≡ false
           → (is_listed cs z ≡ true → legal z ≡ true) → legal z ≡ true
       by_first true e k here rest =
-          subst (λ (x : ℤ). legal x ≡ true) ((Decides-int_eq c z).0 e) (not_false (legal c) here)
+          subst (λ (x : ℤ). legal x ≡ true) ((Decides-int_eq c z).0 e) (not-false (legal c) here)
       by_first false e k here rest = rest k
 
   -- without a default, what has a part is a case

@@ -1,7 +1,6 @@
 -- Which parts the nodes at work of a reader may have, whatever bytes it was given.
 use Rattle.std.specs.Prelude.{ℕ, ◌<◌, List, [], ◌∷◌, length, ⊤}
-use Rattle.std.specs.Coded.{×_prop, Unit-prop}
-use Rattle.std.proofs.Props.{props}
+use Rattle.std.specs.Coded.{×_prop, Unit-prop, le_prop}
 use Rattle.xdr_types.specs.Kinds as xdr
 use Rattle.xdr_types.specs.Kinds.{KindView, Part, kind_at}
 use Rattle.xdr_laws.specs.Owed.{Lead, UnitFirst, LengthFirst, FreeBytes, Silent, lead_of, HasUnit, IsSolid}
@@ -67,9 +66,6 @@ Waits kinds ps (Failed f) = ⊤
 
 -- ---- each of these facts has one proof at most
 
-less-prop : (a b : ℕ) → IsProp (a < b)
-less-prop a b = Prim.hlevel props
-
 ⊥-prop : IsProp ⊥
 ⊥-prop x y = absurd x
 
@@ -80,7 +76,7 @@ IsSolid-prop _ = Unit-prop
 AreSolid-prop : (kinds : List KindView) (ps : List Part) → IsProp (AreSolid kinds ps)
 AreSolid-prop kinds [] = Unit-prop
 AreSolid-prop kinds (p ∷ ps) =
-    ×_prop (×_prop (less-prop p.kind (length kinds)) (IsSolid-prop (kind_at kinds p.kind))) (AreSolid-prop kinds ps)
+    ×_prop (×_prop le_prop (IsSolid-prop (kind_at kinds p.kind))) (AreSolid-prop kinds ps)
 
 AreAllSolid-prop : (kinds : List KindView) (fs : List (List Part)) → IsProp (AreAllSolid kinds fs)
 AreAllSolid-prop kinds [] = Unit-prop
@@ -88,7 +84,7 @@ AreAllSolid-prop kinds (ps ∷ fs) = ×_prop (AreSolid-prop kinds ps) (AreAllSol
 
 AreKnown-prop : (kinds : List KindView) (ps : List Part) → IsProp (AreKnown kinds ps)
 AreKnown-prop kinds [] = Unit-prop
-AreKnown-prop kinds (p ∷ []) = (less-prop p.kind (length kinds))
+AreKnown-prop kinds (p ∷ []) = le_prop
 AreKnown-prop kinds (p ∷ q ∷ ps) = AreSolid-prop kinds (p ∷ q ∷ ps)
 
 IsSound-prop : (kinds : List KindView) (fs : List (List Part)) → IsProp (IsSound kinds fs)
