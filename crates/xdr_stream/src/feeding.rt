@@ -42,7 +42,6 @@ fn hypers_there(left: usize, there: usize, room: usize) -> usize
     most - most % 8
 }
 
-// A unit with this last byte.
 fn with_last(unit: [u8; 4], byte: u8) -> [u8; 4]
     ensures { result ≡ take 3 unit ++ byte ∷ [] }
 {
@@ -147,7 +146,6 @@ impl<'s, B: Build + Drop> Reader<'s, B> {
         }
     }
 
-    // Takes a byte.
     fn take_byte(&mut self, awaits: Awaits, byte: u8)
         requires { IsAwaited self.old.schema.now.kinds (left_of self.old.work) awaits }
         ensures stands { (b : List ℕ) → self.old.state ≡ Reading awaits → StandsFor B.tells self.old b
@@ -341,7 +339,6 @@ impl<'s, B: Build + Drop> Reader<'s, B> {
     }
 }
 
-// The reason that a trouble is.
 fn reason_of(trouble: Trouble) -> Reason
     ensures { result ≡ reason_of trouble }
 {

@@ -86,7 +86,6 @@ pub(crate) fn end_nodes<'s, B: Build>(
     Ok(false)
 }
 
-/// Passes over a void part.
 #[inline(always)]
 pub(crate) fn pass_void<'s, B: Build>(
     schema: &'s Schema,

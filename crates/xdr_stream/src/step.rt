@@ -17,11 +17,9 @@ pub enum Step<'s> {
     Wide(bool),
     /// With so many bytes of content.
     Content(u32),
-    /// It is void.
     Void,
 }
 
-/// How a value of the kind begins.
 #[inline(always)]
 pub fn step_of<'s>(kind: &'s Kind) -> Step<'s>
     ensures { IsStep (kind_view kind.now) result }

@@ -13,14 +13,12 @@ use crate::machine::{Awaits, take_number};
 use xdr_stack::Stack;
 use xdr_types::Schema;
 
-// The number of a unit.
 pub(crate) fn number_of(unit: &[u8; 4]) -> u32
     ensures { num4 (pos result) ≡ unit.now }
 {
     u32::from_be_bytes(*unit)
 }
 
-/// Whether each is zero.
 pub(crate) fn are_zeros(bytes: &[u8]) -> bool
     ensures { result ≡ are_zeros bytes.now }
 {

@@ -136,7 +136,6 @@ fn value_of(alloc: Global, leaf: Leaf) -> Value
     }
 }
 
-// Content as a value.
 fn content_value(content: Vec<u8>) -> Value
     ensures { tree result ≡ leaf_tree (bytes content.items) }
 {

@@ -37,7 +37,6 @@ pub(crate) fn whole_there(size: u32, there: usize, room: usize) -> usize
     }
 }
 
-// The unit at a place.
 pub(crate) fn unit_at(bytes: &[u8], at: usize) -> [u8; 4]
     requires { at + 4 ≤ length bytes.now }
     ensures { result ≡ take 4 (drop at bytes.now) }
