@@ -15,7 +15,7 @@ use Rattle.xdr_laws.specs.Owed.{Completes}
 use Rattle.xdr_stream.specs.Frames.{left_of, rest_of, stack_of, onto, dues}
 use Rattle.xdr_stream.proofs.Frames.{onto_length}
 use Rattle.xdr_parts.specs.Lent.{entry_of, AreLentFrom}
-use Rattle.xdr_parts.specs.Private.Walking.{Stands, Wrote, IsNext, part_of, AreLow, IsSpelled}
+use Rattle.xdr_parts.specs.Private.Walking.{HasWalked, Wrote, IsNext, part_of, AreLow, IsSpelled}
 use Rattle.xdr_stream.specs.declared.frame.Frame.{Frame}
 use Rattle.xdr_parts.specs.declared.next.Next.{Next}
 use Rattle.xdr_parts.specs.declared.walk.Walk.{Walk}
@@ -51,7 +51,7 @@ wrote_then a b c new more m n fs gs f g = record {
   more = omega (arith, length-append new more, f.more, g.more);
 }
 
-module _ (w : Walk) (n : Next) (all : List Entry) (st : Stands w all) (next : IsNext w n) where
+module _ (w : Walk) (n : Next) (all : List Entry) (st : HasWalked w all) (next : IsNext w n) where
   abbrev F : List (List Part)
   F = onto [] w.parents.items
 
@@ -73,7 +73,7 @@ module _ (w : Walk) (n : Next) (all : List Entry) (st : Stands w all) (next : Is
 
   pub kept : (v : Walk) (new also : List Entry) (moved : ℕ) (fs : List (List Part)) → Wrote w v new moved fs
       → new ≡ also
-      → Goes w.schema.now.kinds w.at w.bytes.now st.left also moved fs → Stands v all
+      → Goes w.schema.now.kinds w.at w.bytes.now st.left also moved fs → HasWalked v all
   kept v new also moved fs f same g =
       let owes : Completes w.schema.now.kinds (w.at + moved) (dues (stack_of v.work v.parents.items))
       (drop (w.at + moved) w.bytes.now) g.left =
@@ -103,8 +103,8 @@ module _ (w : Walk) (n : Next) (all : List Entry) (st : Stands w all) (next : Is
 -- a call that keeps parts that are the next ones keeps the stand
 pub goes_on : {E : Type 0} (r : Result (Unit {0}) E) (w v : Walk) (n : Next) (new also : List Entry) (moved : ℕ)
     (fs : List (List Part)) → IsNext w n → new ≡ also
-    → ((all : List Entry) (st : Stands w all) → Goes w.schema.now.kinds w.at w.bytes.now st.left also moved fs)
-    → OnOk r (Wrote w v new moved fs) → OnOk r ((all : List Entry) → Stands w all → Stands v all)
+    → ((all : List Entry) (st : HasWalked w all) → Goes w.schema.now.kinds w.at w.bytes.now st.left also moved fs)
+    → OnOk r (Wrote w v new moved fs) → OnOk r ((all : List Entry) → HasWalked w all → HasWalked v all)
 goes_on (Ok x) w v n new also moved fs next same goes f = λ all st.
     kept w n all st next v new also moved fs f same (goes all st)
 goes_on (Err e) w v n new also moved fs next same goes f = f
@@ -112,7 +112,7 @@ goes_on (Err e) w v n new also moved fs next same goes f = f
 -- before any byte all parts are owed
 pub starts : (w : Walk) (kind : KindId) (v : Tree) → w.at ≡ 0 → w.work ≡ Items kind 1 → w.parents.items ≡ []
     → w.parts.items ≡ []
-    → IsSpelled w.schema.now.kinds kind.place w.bytes.now v → Stands w (entries w.schema.now.kinds kind.place v)
+    → IsSpelled w.schema.now.kinds kind.place w.bytes.now v → HasWalked w (entries w.schema.now.kinds kind.place v)
 starts w kind v at work parents none f =
     let s : List KindView = w.schema.now.kinds in
     let es : List Entry = entries s kind.place v in
@@ -132,7 +132,7 @@ starts w kind v at work parents none f =
     }
 
 -- after all frames have ended no part is left
-pub finished : (w : Walk) (all : List Entry) → Stands w all → stack_of w.work w.parents.items ≡ [] ∷ []
+pub finished : (w : Walk) (all : List Entry) → HasWalked w all → stack_of w.work w.parents.items ≡ [] ∷ []
     → map entry_of w.parts.items ≡ all
 finished w all st none =
     let s : List KindView = w.schema.now.kinds in

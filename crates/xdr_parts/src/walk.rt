@@ -10,7 +10,7 @@ ghost use Rattle.xdr_units.specs.Numbers.{num4, gap};
 ghost use Rattle.xdr_laws.specs.Owed.{lead_of, HasUnit, IsSilent, silent_head};
 ghost use Rattle.xdr_stream.specs.Frames.{left_of, rest_of, stack_of, onto};
 ghost use Rattle.xdr_parts.specs.Lent.{entry_of, size_in, role_in, AreLentFrom};
-ghost use Rattle.xdr_parts.specs.Private.Walking.{part_of, Stands, Wrote, IsNext, IsFree, IsSpelled};
+ghost use Rattle.xdr_parts.specs.Private.Walking.{part_of, HasWalked, Wrote, IsNext, IsFree, IsSpelled};
 
 use crate::next::{Next, first};
 use crate::part::{Lent, Role, part_at, unit_role};
@@ -65,7 +65,6 @@ pub fn spelled_parts<'a>(
     Ok(walk.parts)
 }
 
-// The unit at a place.
 fn unit_at(bytes: &[u8], at: usize) -> u32
     requires { at + 4 ≤ length bytes.now }
     ensures { num4 (pos result) ≡ take 4 (drop at bytes.now) }
@@ -76,7 +75,7 @@ fn unit_at(bytes: &[u8], at: usize) -> u32
 impl<'a> Walk<'a> {
     // Ends the nodes that have all their parts, and tells which part comes next; none, where the value has ended.
     fn next(&mut self) -> Option<Next<'a>>
-        ensures stands { (all : List Entry) → Stands self.old all → Stands self.new all }
+        ensures walked { (all : List Entry) → HasWalked self.old all → HasWalked self.new all }
         ensures next { MatchOption result (stack_of self.new.work self.new.parents.items ≡ [] ∷ []) (IsNext self.new) }
         ensures parts { self.new.parts ≡ self.old.parts }
         ensures bytes { self.new.bytes.now ≡ self.old.bytes.now }
@@ -94,9 +93,9 @@ impl<'a> Walk<'a> {
 
     // Takes the part that comes next.
     fn take(&mut self, next: Next<'a>) -> Result<(), AllocError>
-        requires stands { (all : List Entry) × Stands self.old all }
+        requires walked { (all : List Entry) × HasWalked self.old all }
         requires next { IsNext self.old next }
-        ensures stands { OnOk result ((all : List Entry) → Stands self.old all → Stands self.new all) }
+        ensures walked { OnOk result ((all : List Entry) → HasWalked self.old all → HasWalked self.new all) }
         ensures more { OnOk result (length self.old.parts.items < length self.new.parts.items) }
         ensures bytes { OnOk result (self.new.bytes.now ≡ self.old.bytes.now) }
     {
@@ -121,11 +120,11 @@ impl<'a> Walk<'a> {
 
     // Takes a part that begins with a unit.
     fn take_unit(&mut self, next: Next<'a>, kind: &'a Kind) -> Result<(), AllocError>
-        requires stands { (all : List Entry) × Stands self.old all }
+        requires walked { (all : List Entry) × HasWalked self.old all }
         requires next { IsNext self.old next }
         requires kind { kind_view kind.now ≡ kind_at self.old.schema.now.kinds next.kind.place }
         requires unit { HasUnit (lead_of (kind_view kind.now)) }
-        ensures stands { OnOk result ((all : List Entry) → Stands self.old all → Stands self.new all) }
+        ensures walked { OnOk result ((all : List Entry) → HasWalked self.old all → HasWalked self.new all) }
         ensures more { OnOk result (length self.old.parts.items < length self.new.parts.items) }
         ensures bytes { OnOk result (self.new.bytes.now ≡ self.old.bytes.now) }
     {
@@ -149,11 +148,11 @@ impl<'a> Walk<'a> {
         role: Role,
         size: u32,
     ) -> Result<(), AllocError>
-        requires stands { (all : List Entry) × Stands self.old all }
+        requires walked { (all : List Entry) × HasWalked self.old all }
         requires next { IsNext self.old next }
         requires kind { kind_view kind.now ≡ kind_at self.old.schema.now.kinds next.kind.place }
         requires free { IsFree (kind_view kind.now) role size }
-        ensures stands { OnOk result ((all : List Entry) → Stands self.old all → Stands self.new all) }
+        ensures walked { OnOk result ((all : List Entry) → HasWalked self.old all → HasWalked self.new all) }
         ensures more { OnOk result (length self.old.parts.items < length self.new.parts.items) }
         ensures bytes { OnOk result (self.new.bytes.now ≡ self.old.bytes.now) }
     {
@@ -167,12 +166,12 @@ impl<'a> Walk<'a> {
         kind: &'a Kind,
         frame: Frame<'a>,
     ) -> Result<(), AllocError>
-        requires stands { (all : List Entry) × Stands self.old all }
+        requires walked { (all : List Entry) × HasWalked self.old all }
         requires next { IsNext self.old next }
         requires kind { kind_view kind.now ≡ kind_at self.old.schema.now.kinds next.kind.place }
         requires silent { IsSilent (lead_of (kind_view kind.now)) }
         requires frame { parts (kind_view kind.now) (silent_head (kind_view kind.now)) ≡ left_of frame }
-        ensures stands { OnOk result ((all : List Entry) → Stands self.old all → Stands self.new all) }
+        ensures walked { OnOk result ((all : List Entry) → HasWalked self.old all → HasWalked self.new all) }
         ensures more { OnOk result (length self.old.parts.items < length self.new.parts.items) }
         ensures bytes { OnOk result (self.new.bytes.now ≡ self.old.bytes.now) }
     {

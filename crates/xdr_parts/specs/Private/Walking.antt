@@ -24,7 +24,7 @@ abbrev pub AreLow : List Entry → Type 0
 AreLow es = AllByRecursion (λ (e : Entry). e.depth ≤ 4096) es
 
 -- a walk has come so far in the list of all parts of a value: those that it has, and those of what is owed
-pub record Stands (w : Walk) (all : List Entry) : Type 0 where
+pub record HasWalked (w : Walk) (all : List Entry) : Type 0 where
   pub left : List Entry
   pub owes : Completes w.schema.now.kinds w.at (dues (stack_of w.work w.parents.items)) (drop w.at w.bytes.now) left
   pub within : w.at ≤ length w.bytes.now

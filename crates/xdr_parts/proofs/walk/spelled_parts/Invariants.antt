@@ -1,11 +1,11 @@
 use Rattle.std.proofs.Common.{◌≡◌, ◌-◌, ◌^◌, List, length}
 use Rattle.xdr_types.specs.Layout.{Entry}
-use Rattle.xdr_parts.specs.Private.Walking.{Stands}
+use Rattle.xdr_parts.specs.Private.Walking.{HasWalked}
 use Rattle.xdr_parts.proofs.walk.spelled_parts.Given as goal
 
 abbrev pub invariant-loop-next : goal.invariant-loop-next
 invariant-loop-next l =
-    ((all : List Entry) → Stands l.initial.walk all → Stands l.walk all)
+    ((all : List Entry) → HasWalked l.initial.walk all → HasWalked l.walk all)
     × (l.walk.bytes.now ≡ l.initial.walk.bytes.now)
 
 -- each part takes memory

@@ -10,27 +10,27 @@ use Rattle.xdr_parts.proofs.walk.Walk.take_free.Goals as goal
 pub leaf-requires-clause-there : goal.leaf-requires-clause-there
 leaf-requires-clause-there c =
     let w = c.args.self.now in
-    let st = c.requires.stands.1 in
+    let st = c.requires.walked.1 in
     let g = free_of w.schema.now.kinds w.at w.bytes.now (part_of c.args.next) (rest_of (left_of w.work))
-    (onto [] w.parents.items) st.left st.within (due w c.args.next c.requires.stands.0 st c.requires.next) _
+    (onto [] w.parents.items) st.left st.within (due w c.args.next c.requires.walked.0 st c.requires.next) _
     c.requires.kind c.args.role c.args.size c.requires.free in
     omega (arith, g.within)
 
 pub leaf-requires-clause-moved : goal.leaf-requires-clause-moved
 leaf-requires-clause-moved c =
     let w = c.args.self.now in
-    let st = c.requires.stands.1 in
+    let st = c.requires.walked.1 in
     let g = free_of w.schema.now.kinds w.at w.bytes.now (part_of c.args.next) (rest_of (left_of w.work))
-    (onto [] w.parents.items) st.left st.within (due w c.args.next c.requires.stands.0 st c.requires.next) _
+    (onto [] w.parents.items) st.left st.within (due w c.args.next c.requires.walked.0 st c.requires.next) _
     c.requires.kind c.args.role c.args.size c.requires.free in
     subst (λ (m : ℕ). w.at + m ≤ length w.bytes.now) (sym c.whole_units.ensures) g.within
 
 pub leaf-requires-clause-deep : goal.leaf-requires-clause-deep
 leaf-requires-clause-deep c =
-    is_shallow c.args.self.now c.args.next c.requires.stands.0 c.requires.stands.1 c.requires.next
+    is_shallow c.args.self.now c.args.next c.requires.walked.0 c.requires.walked.1 c.requires.next
 
-pub returns-clause-stands : goal.returns-clause-stands
-returns-clause-stands c =
+pub returns-clause-walked : goal.returns-clause-walked
+returns-clause-walked c =
     let w = c.args.self.now in
     let n = c.args.next in
     let fs = onto [] w.parents.items in

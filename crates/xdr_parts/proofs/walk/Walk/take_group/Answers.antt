@@ -8,10 +8,10 @@ use Rattle.xdr_parts.proofs.walk.Walk.take_group.Goals as goal
 
 pub open-requires-clause-deep : goal.open-requires-clause-deep
 open-requires-clause-deep c =
-    is_shallow c.args.self.now c.args.next c.requires.stands.0 c.requires.stands.1 c.requires.next
+    is_shallow c.args.self.now c.args.next c.requires.walked.0 c.requires.walked.1 c.requires.next
 
-pub returns-clause-stands : goal.returns-clause-stands
-returns-clause-stands c =
+pub returns-clause-walked : goal.returns-clause-walked
+returns-clause-walked c =
     let w = c.args.self.now in
     let n = c.args.next in
     let fs = onto [] w.parents.items in
