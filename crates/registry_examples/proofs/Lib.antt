@@ -1,3 +1,4 @@
 pub mod Streams
 pub mod Replies
 pub mod Waiting
+pub mod Messages

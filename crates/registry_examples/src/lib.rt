@@ -2,6 +2,7 @@
 #![tactic(auto)]
 
 pub mod addresses;
+pub mod answers;
 pub mod datagrams;
 pub mod directory;
 pub mod dumps;
