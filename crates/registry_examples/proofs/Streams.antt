@@ -1,9 +1,9 @@
 -- What the streams of the examples come to.
 use Rattle.std.proofs.Common.{◌≡◌, ℕ, true, Bool, List, [], ◌∷◌, length, Option, Some, Result, Ok, Err}
 use Rattle.std.proofs.Common.{refl, sym, ap, subst, arith, IfOk, IsErr}
-use Rattle.std.specs.Io.KnownBytes.{Consumes}
+use Rattle.std.specs.Io.KnownBytes.{Appends, Consumes}
 use Rattle.rpc_record.specs.declared.fault.RecordFault.TheVariants as flaw
-use Rattle.rpc_record.specs.Marked.{header, OneLongest}
+use Rattle.rpc_record.specs.Marked.{header, normal, OneLongest}
 use Rattle.rpc_record.specs.Reading.{IsWhole, WholeIsLongest, WholeHasNoLong, TooLongAt}
 use Rattle.rpc_record.proofs.Long.{long_first}
 use Rattle.rpc_record.proofs.Streams.{whole_none}
@@ -39,6 +39,23 @@ nothing one whole netid rows new l m t u served s told =
     let run = run_none rows new netid s.refusals s.replies
     (subst (λ k. Run rows netid k s.refusals new s.replies) none s.run) in
     ((omega (arith, s.counted.records, ap length none), omega (arith, s.counted.answered, ap length run.1)), run.0)
+
+-- what was written is known by how it began and what it is now
+written_is : (t u : Option (List ℕ)) (bytes more : List ℕ) → Appends t u more → t ≡ Some [] → u ≡ Some bytes
+    → more ≡ [] → bytes ≡ []
+written_is t u bytes more h begun now none =
+    subst (λ (b : List ℕ). Appends (Some []) (Some bytes) b) none
+    (subst (λ (x : Option (List ℕ)). Appends x (Some bytes) more) begun
+    (subst (λ (x : Option (List ℕ)). Appends t x more) now h))
+
+pub unwritten : OneLongest → WholeIsLongest → (netid : List ℕ) (rows new : List Row) (l m t u : Option (List ℕ))
+    (served : Served) → Serves netid rows new l m t u served → l ≡ Some [] → t ≡ Some [] → (bytes : List ℕ)
+    → u ≡ Some bytes → bytes ≡ []
+unwritten one whole netid rows new l m t u served s told begun bytes now =
+    let none = records_are netid rows new l m t u served s [] told one whole [] (whole_none most_record) in
+    let run = run_none rows new netid s.refusals s.replies
+    (subst (λ k. Run rows netid k s.refusals new s.replies) none s.run) in
+    written_is t u bytes (normal s.replies) s.written begun now (ap normal run.1)
 
 -- ---- 80010001
 

@@ -79,3 +79,21 @@ pub fn hands_out_no_other_datagram(alloc: Global, call: &Call) -> Result<Reply, 
     let mut port = MemoryPort::new(&waiting, &mut room, &mut sizes, None);
     exchange_datagram(alloc, &mut port, call)
 }
+
+/// A call that was answered was sent in one datagram, of just its bytes.
+pub fn sends_one_datagram(
+    alloc: Global,
+    waiting: &[&[u8]],
+    room: &mut [u8],
+    call: &Call,
+) -> Result<(usize, usize), ClientFault>
+    requires cred { length call.now.cred.body.items ≤ 400 }
+    requires verf { length call.now.verf.body.items ≤ 400 }
+    requires short { length (call_bytes (call_view call.now)) ≤ 65507 }
+    ensures { IfOk result (λ sent. sent ≡ (1, length (call_bytes (call_view call.now)))) }
+{
+    let mut sizes = [0usize; 4];
+    let mut port = MemoryPort::new(waiting, room, &mut sizes, None);
+    exchange_datagram(alloc, &mut port, call)?;
+    Ok((port.sent_sizes().len(), port.sent_bytes().len()))
+}

@@ -1,5 +1,5 @@
 //! What serving a stream and exchanging a call come to (RFC 5531 sections 9 and 11).
-ghost use Rattle.std.specs.Prelude.{◌≡◌, ◌≢◌, ◌≤◌, ℕ, length, Ok, Err, IsErr, IfOk, OnOk};
+ghost use Rattle.std.specs.Prelude.{◌≡◌, ◌≢◌, ◌≤◌, ℕ, [], length, Ok, Err, IsErr, IfOk, OnOk};
 ghost use Rattle.rpc_message.specs.Spelling.{call as call_bytes};
 ghost use Rattle.rpc_message.specs.View.{call_view};
 ghost use Rattle.rpc_engine.specs.declared.fault.ClientFault.TheVariants as fault;
@@ -12,7 +12,7 @@ use rpc_message::{Call, Reply, ReplyFault};
 use rpc_record::{RecordFault, no_record_begins_another, too_long_ends_the_stream};
 use std::alloc::Global;
 use std::hash::BuildHasher;
-use xdr_io::{MemorySource, Sink};
+use xdr_io::{Gathered, MemorySource, Sink};
 
 /// A stream of no bytes has no records: none is answered, and the rows stay.
 pub fn serves_nothing<W: Sink, S: BuildHasher>(
@@ -27,6 +27,20 @@ pub fn serves_nothing<W: Sink, S: BuildHasher>(
     let mut reader = MemorySource::new(&[], 4096, None);
     let served = serve(alloc, &mut reader, writer, directory, Transport::Tcp)?;
     Ok(served)
+}
+
+/// Nothing is written for a stream of no bytes.
+pub fn writes_nothing_for_nothing<S: BuildHasher>(
+    alloc: Global,
+    directory: &mut Directory<S>,
+) -> Result<Vec<u8>, ServeFault>
+    ensures { IfOk result (λ written. written.items ≡ []) }
+{
+    no_record_begins_another();
+    let mut reader = MemorySource::new(&[], 4096, None);
+    let mut writer = Gathered::new(alloc);
+    serve(alloc, &mut reader, &mut writer, directory, Transport::Tcp)?;
+    Ok(writer.into_bytes())
 }
 
 /// A header of more than 65536 bytes, `80010001`, is never served, and is not told as an input that is cut.
