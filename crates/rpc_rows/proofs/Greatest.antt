@@ -8,15 +8,13 @@ use Rattle.std.proofs.lemmas.List.Folds.{find-append, list_all-append}
 use Rattle.std.proofs.lemmas.List.Elements.{filter-append}
 use Rattle.std.proofs.lemmas.Bool.{and_parts as both, le-leb, leb-true, lt-leb}
 use Rattle.std.proofs.lemmas.Bool.Decides.{Decides-ltb}
+use Rattle.std.proofs.lemmas.Option.{same_Some}
+use Rattle.std.proofs.Math.Bool.{or-true}
 use Rattle.std.specs.Str.{bytes_eq}
 use Rattle.rpc_rows.specs.Rows.{Row, IsRow, is_at}
 use Rattle.rpc_rows.specs.Steps.{row_at}
 use Rattle.rpc_rows.specs.LookUp.{is_over, none_greater, greatest, look_up}
 use Rattle.rpc_rows.proofs.Keyed.{find_is_any}
-
-abbrev the : Row → Option Row → Row
-the d None = d
-the d (Some r) = r
 
 -- the row so far is that of greatest version of these
 abbrev pub IsGreatest : List Row → Option Row → Type 0
@@ -30,7 +28,7 @@ found_passes test (x ∷ xs) r e = by (test x) refl e (found_passes test xs r)
   where
     by : (b : Bool) → test x ≡ b → cond b (Some x) (find test xs) ≡ Some r → (find test xs ≡ Some r → test r ≡ true)
         → test r ≡ true
-    by true t f rest = sym (ap (λ o. test (the x o)) f) ∙ t
+    by true t f rest = sym (ap test (same_Some x r f)) ∙ t
     by false t f rest = rest f
 
 -- What is found is found by a test that only it and others of them pass.
@@ -41,7 +39,7 @@ found_still test only (x ∷ xs) r less e f = by (test x) refl e (λ g. found_st
   where
     by : (b : Bool) → test x ≡ b → cond b (Some x) (find test xs) ≡ Some r
         → (find test xs ≡ Some r → find only xs ≡ Some r) → cond (only x) (Some x) (find only xs) ≡ Some r
-    by true t g rest = ap (λ b. cond b (Some x) (find only xs)) (ap only (ap (the x) g) ∙ f) ∙ g
+    by true t g rest = ap (λ b. cond b (Some x) (find only xs)) (ap only (same_Some x r g) ∙ f) ∙ g
     by false t g rest = ap (λ b. cond b (Some x) (find only xs)) (less x t) ∙ rest g
 
 -- none of the rows is greater than a row that is greater than one of which that holds
@@ -185,10 +183,6 @@ some_kept test rows = some (filter test rows) ∙ any test rows
         by true e = refl
         by false e = e
 
-or_true : (t : Bool) → (t || true) ≡ true
-or_true true = refl
-or_true false = refl
-
 -- A row is looked up exactly where one of the program is there over the transport, in whatever version.
 pub some_looked_up : (rows : List Row) (prog vers : ℕ) (netid : List ℕ)
     → is_some (look_up rows prog vers netid) ≡ list_any (is_over prog netid) rows
@@ -220,5 +214,5 @@ some_looked_up rows prog vers netid =
         by true e o f rest =
             let on : o ≡ true = sym f ∙ under (nat_eq prog x.prog) (nat_eq vers x.vers) (bytes_eq netid x.netid) e in
             sym (ap (λ t. t || list_any (is_over prog netid) xs) on)
-        by false e true f rest = or_true (list_any (is_at prog vers netid) xs)
+        by false e true f rest = or-true (list_any (is_at prog vers netid) xs)
         by false e false f rest = rest

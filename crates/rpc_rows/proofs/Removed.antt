@@ -8,6 +8,7 @@ use Rattle.std.specs.Option.{option_map_or}
 use Rattle.std.specs.Str.{bytes_eq}
 use Rattle.std.proofs.lemmas.Slice.Eq.{bytes_eq-Decides}
 use Rattle.std.proofs.lemmas.Bool.Decides.{Decides-eqb}
+use Rattle.std.proofs.lemmas.Option.{same_Some}
 use Rattle.rpc_rows.specs.declared.key.Key.{Key}
 use Rattle.rpc_rows.specs.declared.row.Row.{Row}
 use Rattle.rpc_rows.specs.Keys.{key_of}
@@ -44,17 +45,13 @@ alone_at prog vers netid (x ∷ xs) h = (λ at. one at, alone_at prog vers netid
 abbrev pub Spares : (plain.Row → Bool) → List plain.Row → Type 0
 Spares gone xs = (left gone xs ≡ xs) × (list_any gone xs ≡ false)
 
-abbrev the : plain.Row → Option plain.Row → plain.Row
-the d None = d
-the d (Some r) = r
-
 module _ (at may gone : plain.Row → Bool) (says : (x : plain.Row) → gone x ≡ (at x && may x)) where
   not_gone : (x : plain.Row) → at x ≡ false → gone x ≡ false
   not_gone x e = says x ∙ ap (λ b. b && may x) e
 
   -- a row that is found goes exactly where it may
   as_may : (x r : plain.Row) (b : Bool) → at x ≡ true → Some x ≡ Some r → may r ≡ b → gone x ≡ b
-  as_may x r b a f m = says x ∙ (λ j. a j && may x) ∙ ap may (ap (the x) f) ∙ m
+  as_may x r b a f m = says x ∙ (λ j. a j && may x) ∙ ap may (same_Some x r f) ∙ m
 
   spared : (x : plain.Row) (xs : List plain.Row) → gone x ≡ false → Spares gone xs → Spares gone (x ∷ xs)
   spared x xs g r =
