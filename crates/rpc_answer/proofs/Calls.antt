@@ -10,9 +10,9 @@ use Rattle.rpc_rows.specs.Rows.{Row}
 use Rattle.rpc_answer.specs.Callers.{Owner, Refused, IsCaller}
 use Rattle.rpc_answer.specs.Answer.{denies, accepts, too_long, is_too_long, accepted, auth_error, Answers, silence}
 use Rattle.rpc_answer.specs.Answer.{no_memory, xid_in, Answer}
-use Rattle.rpc_answer.specs.Answering.{PushesAnswer, Adds, appended_of}
+use Rattle.rpc_answer.specs.Answering.{PushesAnswer, Adds, appended_of, most}
 use Rattle.rpc_answer.specs.declared.answering.Appended.{Appended}
-use Rattle.rpc_answer.specs.Private.Pushes.{PushesStatus, PushesCall, most, head}
+use Rattle.rpc_answer.specs.Private.Pushes.{PushesStatus, PushesCall, head}
 
 -- a caller who is believed, and a reply that can be sent
 pub pushes_accepted : (rows : List Row) (netid owner : List ℕ) (c : CallView) (old out : List ℕ) (new : List Row)

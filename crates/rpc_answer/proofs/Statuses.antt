@@ -25,7 +25,8 @@ use Rattle.rpc_answer.specs.Procedures.{Procedure, null, set_2, unset_2, getport
 use Rattle.rpc_answer.specs.Procedures.{dump_3, getversaddr_4, procedures_2, procedures_3, procedure_at, void, told}
 use Rattle.rpc_answer.specs.Answer.{AreArguments, AreGarbage, IsVersion, IsCallOf, ComesTo, no_program, no_version}
 use Rattle.rpc_answer.specs.Answer.{no_procedure, garbage, success, accepted, program}
-use Rattle.rpc_answer.specs.Private.Pushes.{PushesStatus, Tells, head, most}
+use Rattle.rpc_answer.specs.Answering.{most}
+use Rattle.rpc_answer.specs.Private.Pushes.{PushesStatus, Tells, head}
 
 -- any bytes begin with no arguments
 pub no_arguments : (args : List ℕ) → AreArguments 5 args void

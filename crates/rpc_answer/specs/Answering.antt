@@ -4,7 +4,6 @@ use Rattle.rpc_message.specs.Message.{SystemErr}
 use Rattle.rpc_message.specs.Spelling.{reply}
 use Rattle.rpc_rows.specs.Rows.{Row}
 use Rattle.rpc_answer.specs.Answer.{Answer, accepted}
-use Rattle.rpc_answer.specs.Private.Pushes.{most}
 use Rattle.rpc_answer.specs.declared.answering.Appended.{Appended}
 use Rattle.rpc_answer.specs.declared.answering.Appended.TheVariants as appended
 
@@ -12,6 +11,10 @@ use Rattle.rpc_answer.specs.declared.answering.Appended.TheVariants as appended
 abbrev pub appended_of : {E : Type 0} → ℕ → Result (Unit {0}) E → Appended
 appended_of xid (Ok u) = appended.Reply
 appended_of xid (Err e) = appended.OutOfMemory xid
+
+-- the most bytes of a reply: 24 before the results (RFC 5531 section 9), and 16777216 of these
+abbrev pub most : ℕ
+most = 16777240
 
 -- The bytes were written, and they are not too many for a record.
 pub record Adds (old out bytes : List ℕ) : Type 0 where

@@ -11,14 +11,11 @@ use Rattle.rpc_rows.specs.Steps.{Step}
 use Rattle.rpc_dumps.specs.Dumps.{prot_of}
 use Rattle.rpc_answer.specs.Private.Parsed.{text}
 use Rattle.rpc_answer.specs.Answer.{ComesTo, AnswersCall, accepted}
+use Rattle.rpc_answer.specs.Answering.{most}
 
 -- the words of an accepted reply up to its number: xid, REPLY, MSG_ACCEPTED, AUTH_NONE, no body, accept_stat
 abbrev pub head : ℕ → ℕ → List ℕ
 head xid stat = word xid ++ word 1 ++ word 0 ++ word 0 ++ word 0 ++ word stat
-
--- the most bytes of a reply: 24 before the results
-abbrev pub most : ℕ
-most = 16777240
 
 -- The call came to a status, and the accepted reply was written.
 pub record PushesStatus (rows : List Row) (netid owner : List ℕ) (c : CallView) (old : List ℕ) (new : List Row)
