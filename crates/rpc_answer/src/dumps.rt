@@ -6,11 +6,12 @@ ghost use Rattle.xdr_types.specs.Spelling.{bytes_of};
 ghost use Rattle.rpc_rows.specs.Rows.{IsRow};
 ghost use Rattle.rpc_rows.specs.Views.{plain_row};
 ghost use Rattle.rpc_dumps.specs.Dir.{dir_kinds};
-ghost use Rattle.rpc_dumps.specs.Dumps.{rpcb_list, mapping_list, prot_of};
+ghost use Rattle.rpc_dumps.specs.Dumps.{rpcb_list, mapping_list};
 ghost use Rattle.rpc_answer.specs.Private.Parsed.{text};
 ghost use Rattle.rpc_answer.specs.Private.Pushes.{row_bytes, front_bytes, mapping_bytes, mapping_at_bytes};
 
 use rpc_directory::{Directory, Row, Uaddr, read_uaddr};
+use rpc_dumps::prot_of;
 use std::hash::BuildHasher;
 use xdr_units::{NoMemory, push_word};
 
@@ -185,17 +186,4 @@ fn mapping_words(prog: u32, vers: u32, prot: u32, port: u32) -> [u8; 20]
     let [i, j, k, l] = prot.to_be_bytes();
     let [m, n, o, p] = port.to_be_bytes();
     [0, 0, 0, 1, a, b, c, d, e, f, g, h, i, j, k, l, m, n, o, p]
-}
-
-/// The number of a transport that version 2 knows.
-fn prot_of(netid: &[u8]) -> Option<u32>
-    ensures { result ≡ prot_of netid.now }
-{
-    if netid == b"tcp".as_slice() {
-        Some(6)
-    } else if netid == b"udp".as_slice() {
-        Some(17)
-    } else {
-        None
-    }
 }

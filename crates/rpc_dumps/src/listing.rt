@@ -50,8 +50,8 @@ fn mapping_at(alloc: Global, row: &Row, prot: u32, address: Uaddr) -> Result<Val
     Ok(Value::Group(parts))
 }
 
-// The number of a transport that version 2 knows.
-fn prot_of(netid: &[u8]) -> Option<u32>
+/// The protocol's number of a transport that version 2 knows, 6 for `tcp` and 17 for `udp` (RFC 1833 section 3.1).
+pub fn prot_of(netid: &[u8]) -> Option<u32>
     ensures { result ≡ prot_of netid.now }
 {
     if netid == b"tcp".as_slice() {
