@@ -49,7 +49,7 @@ fn accepted_asked(
     })
 }
 
-/// The reply.
+/// The reply of the parts' state: accepted up to 5, denied at 6 (RPC_MISMATCH) and 7 (AUTH_ERROR) (RFC 5531 section 9).
 pub fn reply_asked(
     alloc: Global,
     parts: &ReplyParts,

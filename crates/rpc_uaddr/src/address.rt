@@ -10,7 +10,7 @@ use xdr_units::{NoMemory, push_decimal};
 pub struct Uaddr {
     /// The host's four octets, as they stand in its dotted text.
     pub host: [u8; 4],
-    /// The port.
+    /// The port of TCP or UDP, whose high octet comes before its low one in the text.
     pub port: u16,
 }
 
