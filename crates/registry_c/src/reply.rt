@@ -1,8 +1,5 @@
 //! Replies that wait for room.
 ghost use Rattle.std.specs.Prelude.{◌≡◌, option_map};
-ghost use Rattle.rpc_message.specs.Message.{SystemErr};
-ghost use Rattle.rpc_message.specs.Spelling.{reply};
-ghost use Rattle.rpc_answer.specs.Answer.{accepted};
 ghost use Rattle.registry_c.specs.Answered.{IsTaken, IsTakenBy};
 ghost use Rattle.registry_c.specs.Held.{held_of};
 ghost use Rattle.registry_c.specs.Statuses.{status_of, outcome_of};
@@ -14,18 +11,8 @@ use super::outcome::Outcome;
 use super::room::place;
 use super::state::State;
 use c_handles::{keep, taken};
-use rpc_answer::Answered;
+use rpc_answer::{Answered, system_error};
 use std::alloc::Global;
-
-/// The reply SYSTEM_ERR (RFC 5531 section 9).
-fn system_error(xid: u32) -> [u8; 24]
-    ensures { result ≡ reply (accepted xid SystemErr) }
-{
-    let [a, b, c, d] = xid.to_be_bytes();
-    [
-        a, b, c, d, 0, 0, 0, 1, 0, 0, 0, 0, 0, 0, 0, 0, 0, 0, 0, 0, 0, 0, 0, 5,
-    ]
-}
 
 /// Puts the reply that waits into the room. It waits on where it does not go into it.
 pub fn reply_into(state: &mut State, room: &mut [u8]) -> Answer

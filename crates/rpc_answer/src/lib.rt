@@ -14,4 +14,5 @@ mod versions;
 
 pub use answering::{Answered, Appended, answer, append_answer};
 pub use laws::one_answer;
+pub use replies::system_error;
 pub use transport::Transport;

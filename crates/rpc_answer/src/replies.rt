@@ -2,9 +2,9 @@
 ghost use Rattle.std.specs.Prelude.{◌≡◌, ◌<◌, ◌≤◌, ◌+◌, ◌^◌, ◌++◌, ℕ, List, length, OnOk};
 ghost use Rattle.std.specs.Io.{StartsWith};
 ghost use Rattle.xdr_units.specs.Numbers.{IsWord};
-ghost use Rattle.rpc_message.specs.Message.{RpcMismatch, Denied};
+ghost use Rattle.rpc_message.specs.Message.{RpcMismatch, Denied, SystemErr};
 ghost use Rattle.rpc_message.specs.Spelling.{reply};
-ghost use Rattle.rpc_answer.specs.Answer.{auth_error};
+ghost use Rattle.rpc_answer.specs.Answer.{accepted, auth_error};
 ghost use Rattle.rpc_answer.specs.Private.Parsed.{text};
 ghost use Rattle.rpc_answer.specs.Private.Pushes.{head};
 
@@ -32,6 +32,14 @@ fn accepted_head(xid: u32, stat: u32) -> [u8; 24]
     [
         a, b, c, d, 0, 0, 0, 1, 0, 0, 0, 0, 0, 0, 0, 0, 0, 0, 0, 0, e, f, g, h,
     ]
+}
+
+/// The reply SYSTEM_ERR to a call with this xid: it has no results, and is sent where memory was refused (RFC 5531
+/// section 9).
+pub fn system_error(xid: u32) -> [u8; 24]
+    ensures { result ≡ reply (accepted xid SystemErr) }
+{
+    accepted_head(xid, 5)
 }
 
 /// Writes those words, in one piece.

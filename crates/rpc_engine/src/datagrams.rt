@@ -1,29 +1,16 @@
 //! The registry as a server over datagrams.
-ghost use Rattle.std.specs.Prelude.{◌≡◌, [], IfOk, IfErr, OnOk, OnErr};
+ghost use Rattle.std.specs.Prelude.{[], IfOk, IfErr, OnOk, OnErr};
 ghost use Rattle.xdr_io.specs.Told.{Counts};
-ghost use Rattle.rpc_message.specs.Message.{SystemErr};
-ghost use Rattle.rpc_message.specs.Spelling.{reply};
-ghost use Rattle.rpc_answer.specs.Answer.{accepted};
 ghost use Rattle.rpc_engine.specs.Datagrams.{ServesDatagrams, StopsDatagrams, receives_failed, sends_failed};
 ghost use Rattle.rpc_engine.specs.Ports.{Receives, failures_of};
 ghost use Rattle.rpc_engine.specs.Private.Replying.{RepliesTo};
 
 use crate::fault::{DatagramFault, Served};
 use crate::port::{DatagramPort, PortFault};
-use rpc_answer::{Appended, Transport, append_answer};
+use rpc_answer::{Appended, Transport, append_answer, system_error};
 use rpc_directory::Directory;
 use std::alloc::Global;
 use std::hash::BuildHasher;
-
-/// The reply SYSTEM_ERR (RFC 5531 section 9).
-fn system_error(xid: u32) -> [u8; 24]
-    ensures { result ≡ reply (accepted xid SystemErr) }
-{
-    let [a, b, c, d] = xid.to_be_bytes();
-    [
-        a, b, c, d, 0, 0, 0, 1, 0, 0, 0, 0, 0, 0, 0, 0, 0, 0, 0, 0, 0, 0, 0, 5,
-    ]
-}
 
 /// Answers a datagram, with the reply made in this room, and says whether it was a call, which wants a
 /// reply.
