@@ -2,6 +2,7 @@
 use Rattle.std.proofs.Common.{◌≡◌, ℕ, Bool, true, false, ◌||◌, List, [], ◌∷◌, ◌++◌, refl, sym, ap, ◌∙◌, subst, arith}
 use Rattle.std.proofs.Common.{Option, None, Some, if◌then◌else◌}
 use Rattle.std.proofs.lemmas.Bool.{false≢true}
+use Rattle.std.proofs.Math.Bool.{or-true}
 use Rattle.std.proofs.lemmas.List.Folds.{list_any-append}
 use Rattle.std.proofs.lemmas.Slice.Eq.{bytes_eq-Decides}
 use Rattle.std.specs.List.{list_any}
@@ -22,14 +23,10 @@ added rows new r e = by_case (may_add rows r) e
     by_case true is = ap (λ (s : Step). s.0) is
     by_case false is = absurd (false≢true (sym (ap (λ (s : Step). s.1) is)))
 
-or_true : (b : Bool) → (b || true) ≡ true
-or_true true = refl
-or_true false = refl
-
 -- its owner may remove it
 named : (netid address owner : List ℕ) → is_unset 300 7 netid owner (row_of 300 7 netid address owner) ≡ true
 named netid address owner =
-    rw ((bytes_eq-Decides netid netid).1 refl, (bytes_eq-Decides owner owner).1 refl, or_true (is_empty netid)) refl
+    rw ((bytes_eq-Decides netid netid).1 refl, (bytes_eq-Decides owner owner).1 refl, or-true (is_empty netid)) refl
 
 module _ (netid address owner : List ℕ) where
   abbrev pub r : Row
@@ -40,7 +37,7 @@ module _ (netid address owner : List ℕ) where
       ap (λ (rs : List Row). list_any (is_unset 300 7 netid owner) rs) (added rows new r e)
       ∙ list_any-append (is_unset 300 7 netid owner) rows (r ∷ [])
       ∙ ap (λ (b : Bool). list_any (is_unset 300 7 netid owner) rows || (b || false)) (named netid address owner)
-      ∙ or_true _
+      ∙ or-true _
 
   set_there : (h l : Held) (a : Answer) → IsSet h r l a → 0 ≡ status_of a
       → list_any (is_unset 300 7 netid owner) l.rows ≡ true
