@@ -8,3 +8,7 @@ AreAtFront bytes old new = new ≡ bytes ++ drop (length bytes) old
 -- the room has too few bytes for them, and stays
 abbrev pub HasTooFew : (bytes old new : List ℕ) → Type 0
 HasTooFew bytes old new = (length old < length bytes) × (new ≡ old)
+
+-- nothing is written
+abbrev pub IsKept : (old new : List ℕ) → (written : ℕ) → Type 0
+IsKept old new written = (new ≡ old) × (written ≡ 0)

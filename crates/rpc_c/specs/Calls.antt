@@ -6,7 +6,8 @@ use Rattle.rpc_c.specs.declared.answer.Answer.{Answer}
 use Rattle.rpc_c.specs.declared.answer.Answer.TheVariants as answer
 use Rattle.rpc_c.specs.declared.calls.CallParts.{CallParts}
 use Rattle.rpc_c.specs.Parts.{part, none, padded_size}
-use Rattle.rpc_c.specs.Rooms.{IsPlaced, IsKept}
+use Rattle.c_rooms.specs.Rooms.{IsKept}
+use Rattle.rpc_c.specs.Rooms.{IsPlaced}
 
 -- the status of each case
 abbrev pub case_status : CaseView → ℕ

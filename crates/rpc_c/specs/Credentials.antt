@@ -6,7 +6,8 @@ use Rattle.rpc_c.specs.declared.answer.Answer.{Answer}
 use Rattle.rpc_c.specs.declared.answer.Answer.TheVariants as answer
 use Rattle.rpc_c.specs.declared.credentials.AuthSysParts.{AuthSysParts}
 use Rattle.rpc_c.specs.Parts.{part, none}
-use Rattle.rpc_c.specs.Rooms.{IsPlaced, IsKept}
+use Rattle.c_rooms.specs.Rooms.{IsKept}
+use Rattle.rpc_c.specs.Rooms.{IsPlaced}
 
 -- no body
 abbrev pub silent : AuthSysParts

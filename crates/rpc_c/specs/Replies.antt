@@ -11,7 +11,8 @@ use Rattle.rpc_c.specs.declared.answer.Answer.{Answer}
 use Rattle.rpc_c.specs.declared.answer.Answer.TheVariants as answer
 use Rattle.rpc_c.specs.declared.replies.ReplyParts.{ReplyParts}
 use Rattle.rpc_c.specs.Parts.{part, none, padded_size}
-use Rattle.rpc_c.specs.Rooms.{IsPlaced, IsKept}
+use Rattle.c_rooms.specs.Rooms.{IsKept}
+use Rattle.rpc_c.specs.Rooms.{IsPlaced}
 
 -- a reply of this state, and nothing else
 abbrev pub bare : (xid state : ℕ) → ReplyParts

@@ -9,7 +9,3 @@ abbrev pub IsPlaced : (bytes old new : List ℕ) → (count : ℕ) → Answer �
 IsPlaced bytes old new count answer.Whole = (count ≡ length bytes) × AreAtFront bytes old new
 IsPlaced bytes old new count answer.NoRoom = (count ≡ length bytes) × HasTooFew bytes old new
 IsPlaced bytes old new count _ = ⊥
-
--- nothing is written
-abbrev pub IsKept : (old new : List ℕ) → (count : ℕ) → Type 0
-IsKept old new count = (new ≡ old) × (count ≡ 0)
