@@ -1,7 +1,9 @@
--- One more place without a flaw.
+-- Lists in which no place has a flaw: place by place, and as a test.
 use Rattle.std.proofs.Common.{◌≡◌, ℕ, zero, suc, ◌+◌, ◌<◌, ◌≤◌, List, [], ◌∷◌, length, map, take, get_or, Bool, true}
 use Rattle.std.proofs.Common.{false, Option, None, String, slice_index_or, refl, ap, sym, ◌∙◌, subst, arith, nat_lt}
-use Rattle.std.proofs.Common.{ltb-true, ltb-false}
+use Rattle.std.proofs.Common.{ltb-true, ltb-false, Some, is_none, ◌&&◌}
+use Rattle.std.proofs.lemmas.Bool.{false≢true}
+use Rattle.std.proofs.lemmas.Bool.{and_parts as both}
 use Rattle.std.specs.declared.alloc.Global.{Global}
 use Rattle.xdr_types.specs.Kinds.{KindView, Part}
 use Rattle.xdr_types.specs.KindViews.{name_of}
@@ -20,7 +22,20 @@ one-more flaw_at n h e place within = by_case (nat_lt place n) refl
         let same : n ≡ place = omega (arith, above, within) in
         subst (λ (q : ℕ). flaw_at q ≡ None) same e
 
--- the kind at a place, of the list of kinds
+-- no place below n has a flaw, as a test
+abbrev pub all_flawless : (ℕ → Option Flaw) → ℕ → Bool
+all_flawless flaw_at zero = true
+all_flawless flaw_at (suc n) = is_none (flaw_at n) && all_flawless flaw_at n
+
+none-is : (o : Option Flaw) → is_none o ≡ true → o ≡ None
+none-is None h = refl
+none-is (Some f) h = absurd (false≢true h)
+
+pub flawless : (flaw_at : ℕ → Option Flaw) (n : ℕ) → all_flawless flaw_at n ≡ true → AreFlawless flaw_at n
+flawless flaw_at zero h place within = absurd (omega (arith, within))
+flawless flaw_at (suc n) h place within =
+    let tests = both (is_none (flaw_at n)) (all_flawless flaw_at n) h in
+    one-more flaw_at n (flawless flaw_at n tests.1) (none-is (flaw_at n) tests.0) place (omega (arith, within))
 
 -- the name at a place, of the list of names
 pub name-here : (ns : List (String Global × KindId)) (i : ℕ) (n : String Global × KindId) → i < length ns

@@ -4,7 +4,7 @@ use Rattle.std.proofs.Common.{false, not, ◌&&◌, ◌||◌, if◌then◌else�
 use Rattle.std.proofs.Common.{subst, arith, eq-eqb, le-leb, inl, inr}
 use Rattle.std.specs.List.{AllByRecursion}
 use Rattle.std.specs.Ordering.{int_eq}
-use Rattle.std.proofs.lemmas.Bool.{false≢true}
+use Rattle.std.proofs.lemmas.Bool.{false≢true, not-false}
 use Rattle.std.proofs.lemmas.Bool.Decides.{Decides-int_eq}
 use Rattle.std.proofs.lemmas.List.{length-replicate}
 use Rattle.std.proofs.lemmas.Bool.{and_from as all-true, or_right as or-right, or_left as or-left, or_cases as one_of}
@@ -28,10 +28,6 @@ HasValue kinds place = (t : Tree) × (fits kinds place t ≡ true)
 pub or-false : (a b : Bool) → a || b ≡ false → (a ≡ false) × (b ≡ false)
 or-false false b h = (refl, h)
 or-false true b h = absurd (false≢true (sym h))
-
-not-false : (b : Bool) → not b ≡ false → b ≡ true
-not-false true h = refl
-not-false false h = absurd (false≢true (sym h))
 
 -- ---- what it means that no fault is found
 

@@ -33,7 +33,7 @@ pub use fit::fits;
 pub use kind::{Arm, Kind, KindId, Member};
 pub use laws::{each_kind_has_a_value, each_spelling_is_one_value, no_schema_has_a_fault};
 pub use limits::Limits;
-pub use schema::{Schema, is_same_schema};
+pub use schema::{Schema, basic_kinds, basic_names, is_same_schema};
 pub use sizes::size;
 pub use value::Value;
 pub use xdr_units::NoMemory;

@@ -154,7 +154,7 @@ impl Schema {
         (id.place as usize) < self.kinds.len()
     }
 
-    /// The kinds.
+    /// The list that places are indices of, for look-ups that want no `has`.
     pub(crate) fn kinds(&self) -> &Vec<Kind>
         ensures { map kind_view result.now.items ≡ self.now.kinds }
     {
@@ -170,8 +170,9 @@ impl Schema {
     }
 }
 
-// The kinds at places 0 to 7.
-fn basic_kinds(alloc: Global) -> Result<Vec<Kind>, NoMemory>
+/// The kinds of the basic schema at places 0 to 7, as `Schema::basic` lists them: what a list for `Schema::build` may
+/// begin with. `NoMemory` comes where a growth was refused.
+pub fn basic_kinds(alloc: Global) -> Result<Vec<Kind>, NoMemory>
     ensures { IfOk result (λ v. map kind_view v.items ≡ basic.kinds) }
 {
     Ok(vec![in alloc;
@@ -186,8 +187,9 @@ fn basic_kinds(alloc: Global) -> Result<Vec<Kind>, NoMemory>
     ]?)
 }
 
-// The names of all but the void kind.
-fn basic_names(alloc: Global) -> Result<Vec<(String, KindId)>, NoMemory>
+/// The names of the basic schema, of all its kinds but the void one at place 5: what a list for `Schema::build` may
+/// begin with, beside `basic_kinds`. `NoMemory` comes where a growth was refused.
+pub fn basic_names(alloc: Global) -> Result<Vec<(String, KindId)>, NoMemory>
     ensures { IfOk result (λ v. map name_of v.items ≡ basic.names) }
 {
     let mut names = Vec::new(alloc);
