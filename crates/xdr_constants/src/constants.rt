@@ -15,11 +15,11 @@ use xdr_tokens::{Fault, Wrong};
 /// A constant with its number.
 #[derive(Clone, Copy, Debug)]
 pub struct Known<'a> {
-    /// Its name.
+    /// Its spelling, and the place where it is declared.
     pub name: Name<'a>,
-    /// Its number.
+    /// From -2^63 to 2^64 - 1; of a member of an enumeration from -2^31 to 2^31 - 1.
     pub value: i128,
-    /// Whether `const` declares it.
+    /// Whether `const` declares it, and not an enumeration: no other may be a size.
     pub by_const: bool,
 }
 
