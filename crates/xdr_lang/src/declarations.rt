@@ -8,36 +8,36 @@ ghost use Rattle.xdr_lang.specs.Views.{procedure_of, version_of, program_of, dec
 use std::string::String;
 use xdr_types::{KindId, Schema};
 
-/// A procedure: the kinds of its arguments and of its result. No result is void.
+/// A procedure of a version (RFC 5531 section 12.2).
 #[derive(Debug, Drop)]
 pub struct Procedure {
-    /// Its name.
+    /// No other procedure of its version has the name (RFC 5531 section 12.3).
     pub name: String,
-    /// Its number in its version.
+    /// No other procedure of its version has the number.
     pub number: u32,
-    /// The kinds of its arguments. None at all is void.
+    /// The kinds of its arguments, in text order. None at all is void.
     pub arguments: Vec<KindId>,
-    /// The kind of its result.
+    /// The kind of what it answers. None is void.
     pub result: Option<KindId>,
 }
 
-/// A version of a program.
+/// A version of a program: procedures under one number (RFC 5531 section 12.2).
 #[derive(Debug, Drop)]
 pub struct Version {
-    /// Its name.
+    /// No other version of its program has the name (RFC 5531 section 12.3).
     pub name: String,
-    /// Its number in its program.
+    /// No other version has the number in a program with its program's number.
     pub number: u32,
     /// Its procedures, in text order.
     pub procedures: Vec<Procedure>,
 }
 
-/// A program.
+/// A program: versions under one number (RFC 5531 section 12.2).
 #[derive(Debug, Drop)]
 pub struct Program {
-    /// Its name.
+    /// No other program, type or constant of the text has the name (RFC 5531 section 12.3).
     pub name: String,
-    /// Its number.
+    /// Programs of one number differ in the numbers of their versions.
     pub number: u32,
     /// Its versions, in text order.
     pub versions: Vec<Version>,
@@ -49,9 +49,9 @@ pub struct Program {
 pub struct Declared {
     /// The kinds, and the types' names with their kinds.
     pub schema: Schema,
-    /// The constants with their numbers.
+    /// What `const` and the members of enumerations declare, with numbers from -2^63 to 2^64 - 1.
     pub constants: Vec<(String, i128)>,
-    /// The programs.
+    /// What `program` declares (RFC 5531 section 12.2).
     pub programs: Vec<Program>,
 }
 

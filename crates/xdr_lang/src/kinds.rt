@@ -9,7 +9,6 @@ ghost use Rattle.xdr_lang.specs.Views.{types_of};
 ghost use Rattle.xdr_lang.specs.Kinds.{each, each_onto, where_given, one_member, one_case, one_field, one_arm};
 ghost use Rattle.xdr_lang.specs.Kinds.{one_kind};
 
-use crate::lists::basic_kinds;
 use crate::places::kind_of;
 use crate::type_table::TypeTable;
 use std::alloc::Global;
@@ -19,7 +18,7 @@ use xdr_constants::{
 };
 use xdr_grammar::{Arm, Draft, Field, Late, Member as EnumMember, Shape};
 use xdr_tokens::Fault;
-use xdr_types::{Arm as Branch, Kind, Member};
+use xdr_types::{Arm as Branch, Kind, Member, basic_kinds};
 
 /// A member of an enum.
 #[tactic(auto, unfolding(crate::specs::Kinds::one_member))]
@@ -221,7 +220,7 @@ pub fn all_kinds(
         (each_onto (one_kind (knowns constants.now.list.items) (types_of types.now.list.items))
         (map draft_of items.now) basic.kinds) }
 {
-    let mut found = basic_kinds(alloc)?;
+    let mut found = basic_kinds(alloc).map_err(|_| Fault::NoMemory)?;
     for draft in items {
         let one = one_kind(alloc, constants, types, draft)?;
         found.push(one)?;

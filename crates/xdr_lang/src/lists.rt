@@ -1,8 +1,8 @@
-//! The basic kinds and names, and the types and constants of a text after them.
+//! The types and constants of a text, after those that every text has.
 ghost use Rattle.std.specs.Prelude.{◌≡◌, IfOk, List, map, ◌++◌};
 ghost use Rattle.xdr_tokens.specs.Due.{Gives};
 ghost use Rattle.xdr_grammar.specs.View.{field_of};
-ghost use Rattle.xdr_types.specs.KindViews.{kind_view, name_of};
+ghost use Rattle.xdr_types.specs.KindViews.{name_of};
 ghost use Rattle.xdr_types.specs.Named.{basic};
 ghost use Rattle.xdr_constants.specs.Views.{known_of, knowns};
 ghost use Rattle.xdr_lang.specs.Views.{types_of, constant_of};
@@ -17,42 +17,7 @@ use std::string::String;
 use xdr_constants::Known;
 use xdr_grammar::Field;
 use xdr_tokens::Fault;
-use xdr_types::{Kind, KindId};
-
-/// The basic kinds.
-pub fn basic_kinds(alloc: Global) -> Result<Vec<Kind>, AllocError>
-    ensures { IfOk result (λ v. map kind_view v.items ≡ basic.kinds) }
-{
-    let kinds = vec![in alloc;
-        Kind::Int,
-        Kind::Unsigned,
-        Kind::Hyper,
-        Kind::UnsignedHyper,
-        Kind::Bool,
-        Kind::Nothing,
-        Kind::OpaqueUpTo { max: 4294967295 },
-        Kind::Text { max: 4294967295 },
-    ]?;
-    Ok(kinds)
-}
-
-/// The names of the basic kinds.
-fn basic_names(alloc: Global) -> Result<Vec<(String, KindId)>, AllocError>
-    ensures { IfOk result (λ v. map name_of v.items ≡ basic.names) }
-{
-    let mut names = Vec::new(alloc);
-    names.push((String::from_str(alloc, "int")?, KindId { place: 0 }))?;
-    names.push((String::from_str(alloc, "unsigned")?, KindId { place: 1 }))?;
-    names.push((String::from_str(alloc, "hyper")?, KindId { place: 2 }))?;
-    names.push((
-        String::from_str(alloc, "unsigned-hyper")?,
-        KindId { place: 3 },
-    ))?;
-    names.push((String::from_str(alloc, "bool")?, KindId { place: 4 }))?;
-    names.push((String::from_str(alloc, "opaque")?, KindId { place: 6 }))?;
-    names.push((String::from_str(alloc, "string")?, KindId { place: 7 }))?;
-    Ok(names)
-}
+use xdr_types::{KindId, basic_names};
 
 /// A type with its kind.
 #[tactic(auto, unfolding(crate::specs::Kinds::one_field))]
@@ -74,7 +39,7 @@ pub fn all_types(alloc: Global, types: &TypeTable<'_>) -> Result<Vec<(String, Ki
     ensures { Gives (λ x. map name_of x.items) result
         (each_onto (one_field (types_of types.now.list.items)) (types_of types.now.list.items) basic.names) }
 {
-    let mut found = basic_names(alloc)?;
+    let mut found = basic_names(alloc).map_err(|_| Fault::NoMemory)?;
     for field in &types.list {
         let one = one_type(alloc, types, field)?;
         found.push(one)?;
