@@ -1,5 +1,5 @@
 -- The lists of the registry's types are well formed and sound, so only want of memory refuses them.
-use Rattle.std.proofs.Common.{◌≡◌, ℕ, zero, suc, ◌<◌, List, [], ◌∷◌, length, Option, Some, None, is_some, is_none, Bool}
+use Rattle.std.proofs.Common.{◌≡◌, ℕ, zero, suc, ◌<◌, List, [], ◌∷◌, length, Option, Some, None, is_some, Bool}
 use Rattle.std.proofs.Common.{true, false, ◌&&◌, nat_lt, refl, sym, ◌∙◌, arith, ltb-true, subst, inl, inr, Result, Ok}
 use Rattle.std.proofs.Common.{Err, MatchResult}
 use Rattle.std.specs.List.{AllByRecursion}
@@ -8,33 +8,17 @@ use Rattle.std.proofs.lemmas.Bool.{and_parts as both}
 use Rattle.std.proofs.lemmas.Option.{none-some}
 use Rattle.xdr_types.specs.Kinds as xdr
 use Rattle.xdr_types.specs.Kinds.{KindView, Part, Lists, kind_at}
-use Rattle.xdr_types.specs.Faults.{AreFlawless, IsWellFormed, kind_flaw_at, name_flaw_at, fault}
+use Rattle.xdr_types.specs.Faults.{IsWellFormed, kind_flaw_at, name_flaw_at, fault}
 use Rattle.xdr_types.specs.Refused.{IsRefused}
 use Rattle.xdr_types.specs.Private.Rounds.{given}
 use Rattle.xdr_types.specs.Sound.{IsBelow, Asks, IsSound}
-use Rattle.xdr_types.proofs.Flawless.{one-more}
+use Rattle.xdr_types.proofs.Flawless.{flawless}
 use Rattle.xdr_types.proofs.Heighting.{has-height}
 use Rattle.xdr_types.proofs.Refusing.{refused}
-use Rattle.xdr_types.specs.declared.fault.Flaw.{Flaw}
 use Rattle.xdr_types.specs.declared.fault.Flaw.TheVariants as flaw
 use Rattle.xdr_types.specs.declared.fault.SchemaFault.{SchemaFault}
 use Rattle.rpc_dumps.specs.Dir.{dir_kinds, dir_lists}
 use Rattle.xdr_types.proofs.Heighting.{some-is}
-
--- no place below n has a flaw, as a test
-abbrev all_flawless : (ℕ → Option Flaw) → ℕ → Bool
-all_flawless flaw_at zero = true
-all_flawless flaw_at (suc n) = is_none (flaw_at n) && all_flawless flaw_at n
-
-none-is : (o : Option Flaw) → is_none o ≡ true → o ≡ None
-none-is None h = refl
-none-is (Some f) h = absurd (false≢true h)
-
-flawless : (flaw_at : ℕ → Option Flaw) (n : ℕ) → all_flawless flaw_at n ≡ true → AreFlawless flaw_at n
-flawless flaw_at zero h place within = absurd (omega (arith, within))
-flawless flaw_at (suc n) h place within =
-    let tests = both (is_none (flaw_at n)) (all_flawless flaw_at n) h in
-    one-more flaw_at n (flawless flaw_at n tests.1) (none-is (flaw_at n) tests.0) place (omega (arith, within))
 
 pub well_formed : IsWellFormed dir_lists
 well_formed = record {

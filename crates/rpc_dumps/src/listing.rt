@@ -50,7 +50,8 @@ fn mapping_at(alloc: Global, row: &Row, prot: u32, address: Uaddr) -> Result<Val
     Ok(Value::Group(parts))
 }
 
-/// The protocol's number of a transport that version 2 knows, 6 for `tcp` and 17 for `udp` (RFC 1833 section 3.1).
+/// The number of a transport that version 2 knows: 6 of the netid `tcp`, 17 of `udp`, none of another (RFC 1833 section
+/// 3.1).
 pub fn prot_of(netid: &[u8]) -> Option<u32>
     ensures { result ≡ prot_of netid.now }
 {

@@ -5,12 +5,12 @@ ghost use Rattle.xdr_types.specs.KindViews.{kind_view, part_of_member, name_of, 
 ghost use Rattle.xdr_types.specs.Faults.{IsWellFormed, fault};
 ghost use Rattle.xdr_types.specs.Sound.{IsSound};
 ghost use Rattle.xdr_types.specs.declared.fault.Flaw.TheVariants as flaw;
-ghost use Rattle.xdr_types.specs.Named.{basic, named};
+ghost use Rattle.xdr_types.specs.Named.{named};
 ghost use Rattle.rpc_dumps.specs.Dir.{dir_kinds, dir_lists, rpcb, mapping};
 
 use std::alloc::Global;
 use std::string::String;
-use xdr_types::{Kind, KindId, Member, NoMemory, Schema, SchemaFault};
+use xdr_types::{Kind, KindId, Member, NoMemory, Schema, SchemaFault, basic_kinds, basic_names};
 
 /// The schema of the registry's types (RFC 1833 sections 2.1 and 3.1), after the basic kinds: places 8 to 10 the
 /// strings of `rpcb`, 11 `rpcb`, 12 an optional node, 13 `rp__list`, 14 `rpcblist`, 15 `mapping`, 16 an optional node,
@@ -39,21 +39,6 @@ fn build_lists(
     ensures { MatchResult result (λ s. s ≡ dir_lists) (λ e. e ≡ fault flaw.NoMemory 0) }
 {
     Schema::build(alloc, kinds, names)
-}
-
-// The names of the basic kinds.
-fn basic_names(alloc: Global) -> Result<Vec<(String, KindId)>, NoMemory>
-    ensures { IfOk result (λ v. map name_of v.items ≡ basic.names) }
-{
-    let mut names = Vec::with_capacity(alloc, 13)?;
-    push_name(&mut names, alloc, "int", 0)?;
-    push_name(&mut names, alloc, "unsigned", 1)?;
-    push_name(&mut names, alloc, "hyper", 2)?;
-    push_name(&mut names, alloc, "unsigned-hyper", 3)?;
-    push_name(&mut names, alloc, "bool", 4)?;
-    push_name(&mut names, alloc, "opaque", 6)?;
-    push_name(&mut names, alloc, "string", 7)?;
-    Ok(names)
 }
 
 // All names, the basic ones first.
@@ -142,22 +127,6 @@ fn maybe(place: u32) -> Kind
     Kind::Maybe {
         item: KindId { place },
     }
-}
-
-// The basic kinds.
-fn basic_kinds(alloc: Global) -> Result<Vec<Kind>, NoMemory>
-    ensures { IfOk result (λ v. map kind_view v.items ≡ basic.kinds) }
-{
-    let mut kinds = Vec::with_capacity(alloc, 19)?;
-    push_kind(&mut kinds, Kind::Int)?;
-    push_kind(&mut kinds, Kind::Unsigned)?;
-    push_kind(&mut kinds, Kind::Hyper)?;
-    push_kind(&mut kinds, Kind::UnsignedHyper)?;
-    push_kind(&mut kinds, Kind::Bool)?;
-    push_kind(&mut kinds, Kind::Nothing)?;
-    push_kind(&mut kinds, Kind::OpaqueUpTo { max: 4294967295 })?;
-    push_kind(&mut kinds, Kind::Text { max: 4294967295 })?;
-    Ok(kinds)
 }
 
 // Adds a kind.
