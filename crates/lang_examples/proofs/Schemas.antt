@@ -1,47 +1,17 @@
 -- Which lists make a schema, computed.
-use Rattle.std.proofs.Common.{◌≡◌, inl, inr, ◌≤◌, ℕ, zero, suc}
-use Rattle.std.proofs.Common.{List, [], ◌∷◌, ◌++◌, length, Bool, true, false}
-use Rattle.std.proofs.Common.{eqb, Option, Some, None, refl, ap, ◌∙◌, arith, subst}
-use Rattle.std.specs.Prelude.{not, ◌&&◌, is_some}
+use Rattle.std.proofs.Common.{◌≡◌, ◌≤◌, ℕ, zero, suc, List, [], ◌∷◌, ◌++◌, length, true, Some, None, refl, arith, subst}
 use Rattle.xdr_types.specs.Kinds.{KindView, Lists}
 use Rattle.xdr_types.specs.Named.{basic}
-use Rattle.xdr_types.specs.Faults.{kind_flaw_at, name_flaw_at, AreFlawless, IsWellFormed}
+use Rattle.xdr_types.specs.Faults.{kind_flaw_at, name_flaw_at, IsWellFormed}
 use Rattle.xdr_types.specs.Sound.{Heighting, IsBelow, Asks, IsProper, IsSound}
-use Rattle.xdr_types.specs.declared.fault.Flaw.{Flaw}
-pub use Rattle.xdr_types.proofs.Heighting.{same_or_not}
+use Rattle.xdr_types.proofs.Flawless.{all_flawless, flawless}
 
-left_of : (a b : Bool) → (a && b) ≡ true → a ≡ true
-left_of true b e = refl
-left_of false b e = absurd cc
-
-right_of : (a b : Bool) → (a && b) ≡ true → b ≡ true
-right_of true b e = e
-right_of false b e = absurd cc
-
-none_there : (o : Option Flaw) → not (is_some o) ≡ true → o ≡ None
-none_there None e = refl
-none_there (Some x) e = absurd cc
-
--- no place below n has a flaw
-abbrev pub flawless : (ℕ → Option Flaw) → ℕ → Bool
-flawless at zero = true
-flawless at (suc n) = not (is_some (at n)) && flawless at n
-
-are_flawless : (at : ℕ → Option Flaw) (n : ℕ) → flawless at n ≡ true → AreFlawless at n
-are_flawless at zero e = λ place low. absurd (omega (arith, low))
-are_flawless at (suc n) e = λ place low.
-    elim (same_or_not place n (eqb place n) refl) [
-      | inl same ↦ ap at same ∙ none_there (at n) (left_of (not (is_some (at n))) (flawless at n) e)
-      | inr other ↦
-          are_flawless at n (right_of (not (is_some (at n))) (flawless at n) e) place (omega (arith, low, other))
-    ]
-
-pub well : (s : Lists) → length s.kinds ≤ 1024 → flawless (kind_flaw_at s.kinds) (length s.kinds) ≡ true
-    → flawless (name_flaw_at s.kinds s.names) (length s.names) ≡ true → IsWellFormed s
+pub well : (s : Lists) → length s.kinds ≤ 1024 → all_flawless (kind_flaw_at s.kinds) (length s.kinds) ≡ true
+    → all_flawless (name_flaw_at s.kinds s.names) (length s.names) ≡ true → IsWellFormed s
 well s few kinds names = record {
   few = few;
-  kinds = are_flawless (kind_flaw_at s.kinds) (length s.kinds) kinds;
-  names = are_flawless (name_flaw_at s.kinds s.names) (length s.names) names;
+  kinds = flawless (kind_flaw_at s.kinds) (length s.kinds) kinds;
+  names = flawless (name_flaw_at s.kinds s.names) (length s.names) names;
 }
 
 -- the basic kinds

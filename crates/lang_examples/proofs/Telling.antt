@@ -18,7 +18,7 @@ use Rattle.xdr_types.specs.Faults.{IsWellFormed}
 use Rattle.xdr_types.specs.Sound.{IsSound}
 use Rattle.lang_examples.proofs.Cutting.{cut, cut_is, cut_found}
 use Rattle.lang_examples.proofs.Outlining.{outline_found}
-use Rattle.lang_examples.proofs.Schemas.{same_or_not}
+use Rattle.xdr_types.proofs.Heighting.{same_or_not}
 
 -- what a text means, as far as its kinds are a schema
 unfoldable pub told : List ℕ → Option Declared

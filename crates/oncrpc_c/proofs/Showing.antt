@@ -18,7 +18,8 @@ use Rattle.oncrpc_c.specs.declared.answer.Answer.TheVariants as answer
 use Rattle.xdr_types.specs.Within.{AreBounds}
 use Rattle.xdr_lang.specs.Declarations.{Declared}
 use Rattle.oncrpc_c.specs.Answers.{Question, BeginsWithValue, IsJudged, Names, question}
-use Rattle.oncrpc_c.specs.Room.{IsPut, IsKept}
+use Rattle.c_rooms.specs.Rooms.{IsKept}
+use Rattle.oncrpc_c.specs.Room.{IsPut}
 use Rattle.oncrpc_c.specs.Shown.{IsShown, IsShownBy, IsShownByHeld, HaveNoRoom}
 use Rattle.oncrpc_c.specs.Statuses.{tells_value}
 

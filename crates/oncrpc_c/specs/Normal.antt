@@ -7,7 +7,8 @@ use Rattle.xdr_stream.specs.declared.fault.Reason.{Reason}
 use Rattle.xdr_stream.specs.declared.fault.Reason.TheVariants as reason
 use Rattle.oncrpc_c.specs.declared.answer.Answer.{Answer}
 use Rattle.oncrpc_c.specs.declared.answer.Answer.TheVariants as answer
-use Rattle.oncrpc_c.specs.Room.{IsPut, IsKept}
+use Rattle.c_rooms.specs.Rooms.{IsKept}
+use Rattle.oncrpc_c.specs.Room.{IsPut}
 
 -- why the input is no stream of records within the limit, behind these records: a header that passes the limit, or the
 -- input's end inside the next record, where no header passes the limit

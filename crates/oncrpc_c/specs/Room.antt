@@ -6,7 +6,3 @@ use Rattle.c_rooms.specs.Rooms.{AreAtFront}
 pub record IsPut (form old new : List ℕ) (written : ℕ) : Type 0 where
   pub count : written ≡ length form
   pub front : AreAtFront form old new
-
--- nothing is written
-abbrev pub IsKept : (old new : List ℕ) → (written : ℕ) → Type 0
-IsKept old new written = (new ≡ old) × (written ≡ 0)

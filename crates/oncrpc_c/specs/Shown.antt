@@ -6,7 +6,8 @@ use Rattle.xdr_lang.specs.Declarations.{Declared}
 use Rattle.oncrpc_c.specs.declared.answer.Answer.{Answer}
 use Rattle.oncrpc_c.specs.declared.answer.Answer.TheVariants as answer
 use Rattle.oncrpc_c.specs.Answers.{Question, BeginsWithValue, IsRefusal, Names, NamesNone, question}
-use Rattle.oncrpc_c.specs.Room.{IsPut, IsKept}
+use Rattle.c_rooms.specs.Rooms.{IsKept}
+use Rattle.oncrpc_c.specs.Room.{IsPut}
 
 -- The lines are those of the value whose encoding is the first bytes.
 pub record AreLines (q : Question) (input lines : List ℕ) (used : ℕ) : Type 0 where

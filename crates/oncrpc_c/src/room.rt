@@ -1,6 +1,7 @@
 //! Bytes put into room that C lends.
 ghost use Rattle.std.specs.Prelude.{◌≡◌, ◌≢◌, ◌<◌, false, true, length};
-ghost use Rattle.oncrpc_c.specs.Room.{IsPut, IsKept};
+ghost use Rattle.c_rooms.specs.Rooms.{IsKept};
+ghost use Rattle.oncrpc_c.specs.Room.{IsPut};
 
 /// Puts the bytes at the front of the room, and counts them. Where they do not go into it the room stays as it is, and
 /// the count is 0.

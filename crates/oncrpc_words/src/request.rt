@@ -17,7 +17,7 @@ pub enum Request {
 pub struct InfoTask {
     /// The name or address of its host.
     pub host: String,
-    /// Its port.
+    /// The port that it is asked at, over TCP or UDP; rpcbind has 111.
     pub port: u16,
     /// The version of its program, 2 to 4.
     pub vers: u32,

@@ -2,6 +2,7 @@
 use Rattle.std.proofs.Common.{◌≡◌, ◌<◌, ◌+◌, ◌-◌, Ordering, String, ℕ, zero, suc, ℤ, Bool, true, false, cond, not, ◌&&◌}
 use Rattle.std.proofs.Common.{◌||◌, List, [], ◌∷◌, length, Option, option_map, map, drop, drop-cons, get_or}
 use Rattle.std.proofs.Common.{string_bytes, refl, sym, ap, ◌∙◌, arith}
+use Rattle.std.proofs.Math.Bool.{or-true, or-false, or_assoc}
 use Rattle.std.proofs.Math.Seq.{drop-length}
 use Rattle.std.specs.declared.alloc.Global.{Global}
 use Rattle.std.specs.BTreeSet.{BTreeSet, Updates}
@@ -41,21 +42,9 @@ pub record AreApart {A K : Type 0} (by : Naming A K) (xs : List A) (has : K → 
   pub apart : repeats by xs ≡ false
   pub names : (q : K) → is_there by xs q ≡ has q
 
-pub or_true : (b : Bool) → b || true ≡ true
-or_true true = refl
-or_true false = refl
-
-pub or_false : (b : Bool) → b || false ≡ b
-or_false true = refl
-or_false false = refl
-
 pub or_cond : (b x : Bool) → b || x ≡ cond b true x
 or_cond true x = refl
 or_cond false x = refl
-
-pub or_group : (a b c : Bool) → (a || b) || c ≡ a || (b || c)
-or_group true b c = refl
-or_group false b c = refl
 
 pub was_absent : (r there : Bool) → r ≡ not there → r ≡ true → there ≡ false
 was_absent r false e h = refl
@@ -85,7 +74,7 @@ one_more {A} by x xs has new not u h = record {
       let first : by.counts (by.name x) && is_there by xs (by.name x) ≡ false =
       ap (λ b. by.counts (by.name x) && b) (h.names (by.name x)) ∙ not in
       rw (first, h.apart) refl;
-  names = λ q. or_group (by.alike q (by.name x)) (some_of (λ (y : A). by.alike q (by.name y)) xs) (by.besides q)
+  names = λ q. or_assoc (by.alike q (by.name x)) (some_of (λ (y : A). by.alike q (by.name y)) xs) (by.besides q)
       ∙ ap (λ b. by.alike q (by.name x) || b) (h.names q) ∙ sym (u q);
 }
 
@@ -100,7 +89,7 @@ repeats_from : {A K : Type 0} (by : Naming A K) (xs : List A) (j : ℕ) → repe
     → repeats by xs ≡ true
 repeats_from by xs zero h = h
 repeats_from by [] (suc j) h = h
-repeats_from by (x ∷ xs) (suc j) h = rw (repeats_from by xs j h) (or_true _)
+repeats_from by (x ∷ xs) (suc j) h = rw (repeats_from by xs j h) (or-true _)
 
 pub cut : {A : Type 0} (xs : List A) (i : ℕ) (d x : A) → i < length xs → x ≡ get_or xs (length xs - 1 - i) d
     → drop (length xs - 1 - i) xs ≡ x ∷ drop (length xs - i) xs
@@ -159,7 +148,7 @@ no_text s e q = ap (λ ks. list_any (is_at (λ (k : Bor (List ℕ)). slice_cmp n
 pub one_text : (s n : BTreeSet (Bor (List ℕ))) (k : Bor (List ℕ)) (name : List ℕ) → s.keys ≡ [] → k.now ≡ name
     → Updates texts_cmp s n k true → (q : List ℕ) → bytes_eq q name ≡ has_text n q
 one_text s n k name e is u q = sym (added_text s n k name is u q ∙ ap (λ b. bytes_eq q name || b) (sym (no_text s e q))
-    ∙ or_false (bytes_eq q name))
+    ∙ or-false (bytes_eq q name))
 
 -- elements that are told apart by a text of each, where all texts count
 abbrev pub by_text : {A : Type 0} → (A → List ℕ) → Naming A (List ℕ)
@@ -180,7 +169,7 @@ constants (m ∷ ms) =
     rw (
       later,
       constants ms,
-      or_false (some_of
+      or-false (some_of
           (λ (d : String Global × ℤ). bytes_eq (string_bytes m.0) (string_bytes d.0)) ms),
     ) refl
 
@@ -193,7 +182,7 @@ fields (m ∷ ms) =
     rw (
       later,
       fields ms,
-      or_false (some_of
+      or-false (some_of
           (λ (n : Member). bytes_eq (string_bytes m.name) (string_bytes n.name)) ms),
     ) refl
 

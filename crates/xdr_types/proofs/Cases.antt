@@ -1,6 +1,7 @@
 -- A set of the cases after one tells whether it is there again.
 use Rattle.std.proofs.Common.{◌≡◌, ◌<◌, ◌+◌, ◌-◌, ℕ, zero, suc, ℤ, Bool, true, false, ◌||◌, List, [], ◌∷◌, length, map}
 use Rattle.std.proofs.Common.{drop, get_or, int_cmp, int_eq, refl, sym, ap, ◌∙◌, arith}
+use Rattle.std.proofs.Math.Bool.{or-true}
 use Rattle.std.proofs.Math.Seq.{drop-length}
 use Rattle.std.specs.BTreeSet.{BTreeSet, contains, Updates}
 use Rattle.xdr_types.specs.Kinds.{Branch}
@@ -9,7 +10,7 @@ use Rattle.xdr_types.specs.Fits.{is_listed}
 use Rattle.xdr_types.specs.Sound.{has_arm}
 use Rattle.xdr_types.specs.Faults.{some_of, case_twice, arms_case_twice}
 use Rattle.xdr_types.specs.declared.kind.Arm.{Arm}
-use Rattle.xdr_types.proofs.Apart.{Naming, AreApart, repeats, or_cond, or_true, cut}
+use Rattle.xdr_types.proofs.Apart.{Naming, AreApart, repeats, or_cond, cut}
 
 -- cases, and those that are there besides
 abbrev pub by_case : (ℤ → Bool) → Naming ℤ ℤ
@@ -54,7 +55,7 @@ twice_from : (arms : List Arm) (j : ℕ) → arms_case_twice (map branch_of (dro
     → arms_case_twice (map branch_of arms) ≡ true
 twice_from arms zero h = h
 twice_from [] (suc j) h = h
-twice_from (a ∷ arms) (suc j) h = rw (twice_from arms j h) (or_true _)
+twice_from (a ∷ arms) (suc j) h = rw (twice_from arms j h) (or-true _)
 
 pub next_arm : (arms : List Arm) (i : ℕ) (a : Arm) (has new : ℤ → Bool) → i < length arms
     → a ≡ get_or arms (length arms - 1 - i) a

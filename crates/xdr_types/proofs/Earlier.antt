@@ -1,6 +1,7 @@
 -- A set of the names of a schema before one tells whether it is one of them.
 use Rattle.std.proofs.Common.{◌≡◌, ◌<◌, ◌+◌, String, ℕ, zero, suc, Bool, true, false, not, if◌then◌else◌, ◌||◌, List}
 use Rattle.std.proofs.Common.{[], ◌∷◌, length, map, take, get_or, string_bytes, refl, sym, ap, ◌∙◌, arith}
+use Rattle.std.proofs.Math.Bool.{or-false, or_assoc}
 use Rattle.std.specs.declared.alloc.Global.{Global}
 use Rattle.std.specs.BTreeSet.{BTreeSet, Updates}
 use Rattle.std.specs.Str.{bytes_eq}
@@ -11,7 +12,7 @@ use Rattle.xdr_types.specs.Faults.{some_of, name_flaw, name_flaw_at}
 use Rattle.xdr_types.specs.declared.kind.KindId.{KindId}
 use Rattle.xdr_types.proofs.Flawless.{flaw-here}
 use Rattle.xdr_units.proofs.Bytes.{bytes_eq-sym}
-use Rattle.xdr_types.proofs.Apart.{texts_cmp, has_text, added_text, no_text, or_false, or_group, was_absent}
+use Rattle.xdr_types.proofs.Apart.{texts_cmp, has_text, added_text, no_text, was_absent}
 
 -- the set has the names before a place
 abbrev pub HasNames : List (String Global × KindId) → ℕ → BTreeSet (Bor (List ℕ)) → Type 0
@@ -28,10 +29,10 @@ some_taken : (test : Part → Bool) (names : List (String Global × KindId)) (i 
     → i < length names → n ≡ get_or names i n
     → some_of test (map name_of (take (suc i) names)) ≡ some_of test (map name_of (take i names)) || test (name_of n)
 some_taken test [] i n lt is = absurd (omega arith)
-some_taken test (m ∷ names) zero n lt is = or_false (test (name_of m)) ∙ ap (λ k. test (name_of k)) (sym is)
+some_taken test (m ∷ names) zero n lt is = or-false (test (name_of m)) ∙ ap (λ k. test (name_of k)) (sym is)
 some_taken test (m ∷ names) (suc i) n lt is =
     ap (λ b. test (name_of m) || b) (some_taken test names i n (omega arith) is)
-    ∙ sym (or_group (test (name_of m)) (some_of test (map name_of (take i names))) (test (name_of n)))
+    ∙ sym (or_assoc (test (name_of m)) (some_of test (map name_of (take i names))) (test (name_of n)))
 
 pub no_names : (names : List (String Global × KindId)) (s : BTreeSet (Bor (List ℕ))) → s.keys ≡ [] → HasNames names 0 s
 no_names names s e = no_text s e
