@@ -84,8 +84,8 @@ def is_some_run(told, whole, case, most):
 
 def connection_lines(told, whole, most):
     """Whether each line is the whole run's, or tells want of memory; or status 4 stands behind some of the lines."""
-    output, faults = told.streams
-    lines, wanted = output.splitlines(), whole.streams[0].splitlines()
+    output, faults = told.streams[1:]
+    lines, wanted = output.splitlines(), whole.streams[1].splitlines()
     missed = sum(line != right for line, right in zip(lines, wanted))
     missing = re.compile(rb"connection \d+: (NoMemory|\d+ records, \d+ replies)")
     is_known = all(line == right or missing.fullmatch(line) for line, right in zip(lines, wanted))
@@ -229,7 +229,8 @@ def connected(streams, writes):
 
 
 def clients(*streams):
-    return {"setting": len(streams), "given": b"".join(word(len(given)) + given for given in streams)}
+    """Clients none of whose reads fails."""
+    return {"setting": len(streams), "given": b"".join(word(len(given) + 1) + b"\0" + given for given in streams)}
 
 
 def connection_cases():

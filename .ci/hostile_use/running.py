@@ -8,8 +8,8 @@ from .rows import octets
 ROOT = os.path.dirname(os.path.dirname(os.path.dirname(os.path.realpath(__file__))))
 PROGRAM = os.environ.get("HOSTILE", f"{ROOT}/crates/oncrpc_hostile/out/oncrpc_hostile")
 # How many streams an engine's line tells at its end.
-STREAMS_OF = {"normalise": 1, "reader": 1, "task": 2, "info": 3, "connections": 2, "serve": 2, "answer": 1}
-STREAMS_OF.update(exchange=1, encode_to=1, encode=1, show=1, mark=1)
+STREAMS_OF = {"normalise": 1, "reader": 1, "task": 2, "info": 3, "connections": 3, "serve": 2, "answer": 1}
+STREAMS_OF.update(datagrams=3, asking=3, exchange=1, encode_to=1, encode=1, show=1, mark=1)
 
 
 def line_of(case):

@@ -4,6 +4,7 @@
 #![tactic(auto)]
 
 mod case;
+mod datagrams;
 mod messages;
 mod program;
 mod records;
@@ -22,7 +23,7 @@ fn called(rt: &HostRuntime, case: &Case<'_>) -> Option<String> {
     match case.engine() {
         "normalise" | "reader" | "mark" => records::told(rt, case),
         "task" => task::told(rt, case),
-        "info" | "connections" => program::told(rt, case),
+        "info" | "connections" | "datagrams" | "asking" => program::told(rt, case),
         "serve" | "answer" | "exchange" | "registry" => registry::told(rt, case),
         "call" | "reply" | "credential" => messages::told(rt, case),
         _ => values::told(rt, case),
