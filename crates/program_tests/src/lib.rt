@@ -4,6 +4,4 @@
 #[cfg(test)]
 mod service;
 #[cfg(test)]
-mod tasks;
-#[cfg(test)]
 mod words;
