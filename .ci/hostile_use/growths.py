@@ -34,6 +34,7 @@ from .rows import (
     word,
 )
 from .running import run
+from .service import port_rows, port_wants_memory
 from .streams import (
     asked_of,
     exchanged,
@@ -136,6 +137,8 @@ def wants_memory(told, whole, case):
         case "info":
             sent, printed, faults = told.streams
             return (told.answer, printed, faults) == ("4", b"", b"out of memory\n") and sent in (b"", whole.streams[0])
+        case "datagrams" | "asking":
+            return port_wants_memory(told, whole, case)
         case "answer":
             xid = int.from_bytes(case.given[:4], "big")
             return told.answer == f"OutOfMemory {{ xid: {xid} }}" and told.streams[0] == told_after(bool(case.before))
@@ -161,7 +164,7 @@ def wants_memory(told, whole, case):
 # Calls that end at the first growth that is refused, and tell the same whether later ones are granted again.
 ENDING = "normalise reader exchange answer decode parts decoder checker encode show copy mark".split()
 # Those that take memory for each answer, so that the first growth is not done without.
-TAKING_ANY = "answer declarations mark exchange info encode show call credential".split()
+TAKING_ANY = "answer declarations mark exchange info datagrams asking encode show call credential".split()
 
 
 def is_granted_well(whole, case, number):
@@ -361,7 +364,7 @@ def text_rows():
 
 def growth_cases():
     """Rows whose growths are refused, each with the judge of its whole answer."""
-    for rows in (stream_rows, value_rows, task_rows, message_rows, registry_rows, text_rows):
+    for rows in (stream_rows, value_rows, task_rows, message_rows, registry_rows, port_rows, text_rows):
         yield from rows()
 
 

@@ -1,4 +1,4 @@
-//! Tests of what the program does, over readers and writers in memory.
+//! Tests of the words that the program reads, and of what it serves over loopback.
 #![tactic(auto)]
 
 #[cfg(test)]
