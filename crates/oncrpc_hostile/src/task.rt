@@ -50,10 +50,7 @@ fn task(alloc: Global, case: &Case<'_>) -> Option<Task> {
 
 /// The exit status of the case, and what was written to each stream.
 pub fn told(rt: &HostRuntime, case: &Case<'_>) -> Option<String> {
-    run(rt.alloc(), rt, case)
-}
-
-fn run(alloc: Global, rt: &impl Env, case: &Case<'_>) -> Option<String> {
+    let alloc = rt.alloc();
     let (text, input) = (case.text(alloc)?, case.input(alloc)?);
     let task = task(alloc, case)?;
     ended(alloc, rt, case, &task, &text, &input)

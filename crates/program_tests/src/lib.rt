@@ -2,6 +2,6 @@
 #![tactic(auto)]
 
 #[cfg(test)]
-mod service;
+mod loopback;
 #[cfg(test)]
 mod words;

@@ -1,11 +1,28 @@
-//! Clients over TCP and UDP of this host.
-use crate::service::harness::{bytes, registry};
+//! Tests of `oncrpc_service` by its public calls: clients over TCP and UDP of this host.
 use oncrpc_service::{ClientPort, Listener, Loopback, LoopbackPort, datagrams_on, serve_on};
+use rpc_directory::Directory;
 use rpc_engine::DatagramPort;
+use std::alloc::Global;
+use std::hash::{BuildHasherDefault, DefaultHasher};
 use std::io::{Read, Write};
 use std::net::{Ipv4Addr, Shutdown, SocketAddr, TcpStream};
 use std::test::Fail;
 use xdr_io::MemorySink;
+
+// A registry whose order is the same in each run.
+type Registry = Directory<BuildHasherDefault<DefaultHasher>>;
+
+// A registry at port 111 with its own rows alone.
+fn registry(alloc: Global) -> Result<Registry, Fail> {
+    Ok(Directory::start(alloc, BuildHasherDefault::<DefaultHasher>::new(), 111)?)
+}
+
+// The bytes that hexadecimal digits with spaces and line feeds between them spell.
+fn bytes(alloc: Global, digits: &str) -> Result<Vec<u8>, Fail> {
+    let lines = digits.replace(alloc, " ", "")?;
+    let dense = lines.replace(alloc, "\n", "")?;
+    Ok(hex::decode(alloc, dense.as_str())?)
+}
 
 // The NULL call of version 2 in two fragments, and its reply.
 const NULL: &str =

@@ -1,3 +1,0 @@
-//! Tests of `oncrpc_service` by its public calls.
-mod harness;
-mod loopback;
