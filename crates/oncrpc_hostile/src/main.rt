@@ -5,6 +5,7 @@
 
 mod case;
 mod datagrams;
+mod language;
 mod messages;
 mod program;
 mod records;
@@ -26,6 +27,7 @@ fn called(rt: &HostRuntime, case: &Case<'_>) -> Option<String> {
         "info" | "connections" | "datagrams" | "asking" => program::told(rt, case),
         "serve" | "answer" | "exchange" | "registry" => registry::told(rt, case),
         "call" | "reply" | "credential" => messages::told(rt, case),
+        "tokens" | "outline" | "declarations" | "directory" => language::told(rt, case),
         _ => values::told(rt, case),
     }
 }

@@ -1,6 +1,6 @@
 //! Values of the kind NAME of TEXT, within DEPTH and BYTES: `decode`, `parts`, `decoder` and `checker`, in pieces as
 //! read, over INPUT; `cut` in three pieces, cut at READ_PIECE and READ_FAILS; `encode`, `encode_to`, `show` and `copy`
-//! of the value that begins INPUT; and `declarations`, TEXT alone.
+//! of the value that begins INPUT. `void` is the kind without a value's bytes, which no text names.
 ghost use Rattle.std.specs.Prelude.{◌≤◌, ◌<◌, length};
 
 use crate::case::{Case, allow, since};
@@ -17,20 +17,13 @@ use xdr_types::{KindId, Limits, Schema, Value, fits};
 pub fn told(rt: &HostRuntime, case: &Case<'_>) -> Option<String> {
     let alloc = rt.alloc();
     let text = case.text(alloc)?;
-    if case.engine() == "declarations" {
-        return declarations(alloc, rt, case, &text);
-    }
     let input = case.input(alloc)?;
     let declared = read(alloc, &text).ok()?;
-    let kind = declared.kind(case.name())?;
+    let kind = match case.name() {
+        "void" => KindId { place: 5 },
+        name => declared.kind(name)?,
+    };
     over(alloc, rt, case, &declared.schema, kind, &input)
-}
-
-fn declarations(alloc: Global, rt: &impl Env, case: &Case<'_>, text: &[u8]) -> Option<String> {
-    let before = case.refuse(alloc, rt)?;
-    let told = read(alloc, text);
-    let met = allow(rt, before);
-    Some(line(alloc, met, &told))
 }
 
 // What is told of a case with a schema.
