@@ -162,9 +162,10 @@ def wants_memory(told, whole, case):
 
 
 # Calls that end at the first growth that is refused, and tell the same whether later ones are granted again.
-ENDING = "normalise reader exchange answer decode parts decoder checker encode show copy mark".split()
+ENDING = "normalise reader exchange answer decode parts decoder checker encode show copy mark tokens outline".split()
 # Those that take memory for each answer, so that the first growth is not done without.
 TAKING_ANY = "answer declarations mark exchange info datagrams asking encode show call credential".split()
+TAKING_ANY += "tokens outline directory".split()
 
 
 def is_granted_well(whole, case, number):
@@ -360,6 +361,8 @@ def text_rows():
     for number, text in enumerate(TEXTS):
         begins = "Ok(Declared" if number < 8 else "Err(LangFault"
         yield Case("declarations", text=text), lambda told, begins=begins: told.answer.startswith(begins)
+    for engine, text in (("tokens", FILE), ("outline", FILE), ("outline", PING), ("directory", b"")):
+        yield Case(engine, text=text), lambda told: told.answer.startswith("Ok(")
 
 
 def growth_cases():

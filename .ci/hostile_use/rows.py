@@ -62,8 +62,9 @@ WHOLE = [
     Whole(MORE, "u", "00000001 00000007", 8, b"case 1\n  x: 7\n", "Choice { tag: 1, part: Int(7) }"),
     Whole(MORE, "few", "00000002 00000007 00000008 00000009", 12, b"list of 2\n  7\n  8\n", "List([Int(7), Int(8)])"),
 ]
-# Refusals: the bytes within a limit, the reason, its place, and the count of bytes after which it stands.
-Refused = collections.namedtuple("Refused", "text name digits bytes why at stands")
+# Refusals: the bytes within a limit, the reason, its place, the count of bytes after which it stands, and the limit on
+# depth.
+Refused = collections.namedtuple("Refused", "text name digits bytes why at stands depth", defaults=(4096,))
 REFUSED = [
     Refused(MORE, "five", "00000003 61626301", WIDEST, "BadPadding", 4, 8),
     Refused(MORE, "five", "00000006 61626364", WIDEST, "TooLong", 0, 4),

@@ -18,7 +18,8 @@ def outcome_line(row, seen):
 
 
 def typed(row):
-    return {"name": row.name, "text": row.text, "bytes": getattr(row, "bytes", WIDEST)}
+    limits = {"bytes": getattr(row, "bytes", WIDEST), "depth": getattr(row, "depth", 4096)}
+    return {"name": row.name, "text": row.text, **limits}
 
 
 def value_ending(row, shows, seen, has_failed):
@@ -145,7 +146,7 @@ def fed(row, given, piece, is_counted):
     elif isinstance(row, Refused):
         answer = again = end = fault_of(row.why, row.at)
     else:
-        answer, again = f"Ok(Done {{ used: {stands - (pieces - 1) * piece} }})", "Ok(Done { used: 0 })"
+        answer, again = f"Ok(Done {{ used: {stands - max(pieces - 1, 0) * piece} }})", "Ok(Done { used: 0 })"
         end = f"Ok({row.used if is_counted else row.value})"
     wanted = f"(({pieces}, {answer}, {again}), {end}, 0)"
     return lambda told: told.answer == wanted

@@ -1,0 +1,319 @@
+"""Values by each call of the codec and the lines that show them, bytes that are refused, and the parts that are lent of
+bytes (RFC 4506): rows as they stand, in pieces."""
+import itertools
+
+from .growths import decoded_well, joined_well
+from .rows import Case, FILE, LIST, MORE, PIECES, Refused, SILLYPROG, WHOLE, WIDEST, Whole, content, octets, word
+from .values import cut_well, fed, typed
+
+# Texts of one kind each, and more.
+ALIKE = b"enum alike { a = 5, b = 5 };"
+SIGNED_ALIKE = b"enum alike { a = 5, b = 5, c = -1 };"
+PAIR = b"typedef int pair[2];"
+PAIRS = b"typedef int pair[2]; typedef pair pairs<2>;"
+SIX = b"typedef opaque six[6];"
+TWO = b"typedef int two<2>;"
+HYPERS = b"typedef hyper hypers[3];"
+OWNER = b"typedef string owner<32>;"
+HOLDER = b"struct holder { int x; };"
+OPTIONAL = b"typedef string text<>; typedef text *optional;"
+NEST = b"typedef nest *nest;"
+VOID_CHOICE = b"union choice switch (int d) { case 1: void; };"
+BOOL_CHOICE = b"union choice switch (bool d) { case FALSE: int x; };"
+FLAG_CHOICE = b"union choice switch (bool d) { case TRUE: int x; default: void; };"
+KIND_CHOICE = FILE + b"union choice switch (filekind kind) { case TEXT: int x; };"
+CHOICES = b"union u switch (int d) { case 1: int x; }; typedef u choices[2];"
+# A text, a kind, all bytes of a value, and the value.
+CODED = [
+    (SIX, "six", "61626364 65660000", content(b"abcdef")),
+    (b"", "unsigned-hyper", "ffffffff ffffffff", "UnsignedHyper(18446744073709551615)"),
+    (ALIKE, "alike", "00000005", "Numbered(5)"),
+    (b"", "void", "", "Nothing"),
+    (PAIR, "pair", "ffffffff 7fffffff", "List([Int(-1), Int(2147483647)])"),
+    (VOID_CHOICE, "choice", "00000001", "Choice { tag: 1, part: Nothing }"),
+]
+# A text, a kind, bytes, the reason of their refusal and its place.
+WIDE = [
+    # Booleans and numbers.
+    (b"", "bool", "00000002", "BadBool", 0),
+    (LIST, "list", "00000002", "BadBool", 0),
+    (LIST, "list", "00000001 00000001 61000000 80000000", "BadBool", 12),
+    (BOOL_CHOICE, "choice", "00000002", "BadBool", 0),
+    (FILE, "filekind", "ffffffff", "BadNumbered", 0),
+    (ALIKE, "alike", "00000004", "BadNumbered", 0),
+    (KIND_CHOICE, "choice", "00000003", "BadNumbered", 0),
+    (FILE, "file", "00000001 61000000 00000003", "BadNumbered", 8),
+    (MORE, "u", "00000002", "BadCase", 0),
+    (BOOL_CHOICE, "choice", "00000001", "BadCase", 0),
+    (KIND_CHOICE, "choice", "00000001", "BadCase", 0),
+    (CHOICES, "choices", "00000001 00000007 00000002", "BadCase", 8),
+    # Content. The owner's name in a file has 33 characters.
+    (MORE, "five", "00000006", "TooLong", 0),
+    (OWNER, "owner", "00000021", "TooLong", 0),
+    (TWO, "two", "00000003", "TooLong", 0),
+    (FILE, "file", "00000001 61000000 00000000 00000021", "TooLong", 12),
+    (SIX, "six", "61626364 65660001", "BadPadding", 4),
+    (b"", "string", "00000005 61626364 65000100", "BadPadding", 8),
+    # The unit of the padding is not whole.
+    (MORE, "five", "00000002 616101", "Truncated", 7),
+    (SIX, "six", "61626364 656601", "Truncated", 7),
+    (b"", "string", "00000009 73696c6c 79", "Truncated", 9),
+    (b"", "bool", "", "Truncated", 0),
+    (b"", "hyper", "00000000 0000", "Truncated", 6),
+    (TWO, "two", "00000002 00000007", "Truncated", 8),
+    # Hyper integers one after another, cut after a unit and inside one.
+    (HYPERS, "hypers", "00000000 00000001 00000000 00000002 00000000", "Truncated", 20),
+    (HYPERS, "hypers", "00000000 00000001 00000000 000000", "Truncated", 15),
+]
+# The same behind the limits on depth and on bytes.
+LIMITED = [
+    (1, WIDEST, HOLDER, "holder", "", "TooDeep", 0),
+    (1, WIDEST, VOID_CHOICE, "choice", "00000001", "TooDeep", 4),
+    (1, WIDEST, TWO, "two", "00000001", "TooDeep", 4),
+    (2, WIDEST, LIST, "list", "00000001", "TooDeep", 4),
+    (1, WIDEST, PAIR, "pair", "00000001", "TooDeep", 0),
+    # Deep comes before large, and a deep part of no bytes is deep at the limit on bytes.
+    (1, 4, VOID_CHOICE, "choice", "00000001", "TooDeep", 4),
+    (1, 4, TWO, "two", "00000001", "TooDeep", 4),
+    (4096, 8, b"", "opaque", "00000008 61616161 62", "TooLarge", 8),
+    (4096, 4, b"", "hyper", "00000000", "TooLarge", 4),
+    (4096, 4, PAIR, "pair", "00000001", "TooLarge", 4),
+    (4096, 8, TWO, "two", "00000002 00000001", "TooLarge", 8),
+    # Hyper integers one after another, up to the limit and past it, and at the limit inside one.
+    (4096, 16, HYPERS, "hypers", "00000000 00000001 00000000 00000002", "TooLarge", 16),
+    (4096, 16, HYPERS, "hypers", "00000000 00000001 00000000 00000002 00000000 00000003", "TooLarge", 16),
+    (4096, 12, HYPERS, "hypers", "00000000 00000001 00000000 00000002", "TooLarge", 12),
+    # The limit on bytes is looked at before the next unit is.
+    (4096, 8, FILE, "file", "00000001 61000000 00000003", "TooLarge", 8),
+]
+# A text, a kind, the bytes of a value and its lines.
+SHOWN = [
+    (b"", "int", "fffffffb", b"-5\n"),
+    (b"", "unsigned", "ffffffff", b"4294967295\n"),
+    (b"", "unsigned-hyper", "ffffffff ffffffff", b"18446744073709551615\n"),
+    (b"", "bool", "00000000", b"FALSE\n"),
+    (SIGNED_ALIKE, "alike", "00000005", b"a = 5\n"),
+    (SIGNED_ALIKE, "alike", "ffffffff", b"c = -1\n"),
+    (SIX, "six", "000ff0ff 61620000", b"0x000ff0ff6162\n"),
+    (b"", "opaque", "00000000", b"0x\n"),
+    (b"", "string", "00000003 22095c00", b'"\\x22\\x09\\x5c"\n'),
+    (b"", "string", "00000005 1f207e7f ff000000", b'"\\x1f ~\\x7f\\xff"\n'),
+    (b"", "string", "00000000", b'""\n'),
+    (PAIR, "pair", "ffffffff 7fffffff", b"array of 2\n  -1\n  2147483647\n"),
+    (
+        PAIRS,
+        "pairs",
+        "00000002 00000001 00000002 ffffffff 7fffffff",
+        b"list of 2\n  array of 2\n    1\n    2\n  array of 2\n    -1\n    2147483647\n",
+    ),
+    (PAIRS, "pairs", "00000000", b"list of 0\n"),
+    (OPTIONAL, "optional", "00000001 00000002 61620000", b'present\n  "ab"\n'),
+    (OPTIONAL, "optional", "00000000", b"absent\n"),
+    (b"", "void", "", b"void\n"),
+    (FILE, "filetype", "00000000", b"case TEXT = 0\n  void\n"),
+    (FLAG_CHOICE, "choice", "00000001 00000007", b"case TRUE\n  x: 7\n"),
+    (FLAG_CHOICE, "choice", "00000000", b"case FALSE\n  void\n"),
+]
+# A text, a kind, bytes, and the parts of the value that begins them: the place of each, its depth, kind and name, what
+# stands in it, and its bytes.
+LENT = [
+    (
+        FILE,
+        "file",
+        SILLYPROG,
+        [
+            (0, 1, 15, "", "Group", b""),
+            (0, 2, 12, "filename", "Length", b"\0\0\0\x09"),
+            (4, 2, 12, "filename", "Content", b"sillyprog"),
+            (16, 2, 11, "type", "Number", b"\0\0\0\x02"),
+            (20, 3, 10, "interpretor", "Length", b"\0\0\0\x04"),
+            (24, 3, 10, "interpretor", "Content", b"lisp"),
+            (28, 2, 13, "owner", "Length", b"\0\0\0\x04"),
+            (32, 2, 13, "owner", "Content", b"john"),
+            (36, 2, 14, "data", "Length", b"\0\0\0\x06"),
+            (40, 2, 14, "data", "Content", b"(quit)"),
+        ],
+    ),
+    (b"", "opaque", "00000000 0000002a", [(0, 1, 6, "", "Length", b"\0\0\0\0"), (4, 1, 6, "", "Content", b"")]),
+    (b"", "string", "00000003 61626300", [(0, 1, 7, "", "Length", b"\0\0\0\x03"), (4, 1, 7, "", "Content", b"abc")]),
+    (SIX, "six", "61626364 65660000 00000007", [(0, 1, 8, "", "Content", b"abcdef")]),
+    (b"", "int", "fffffffb", [(0, 1, 0, "", "Number", b"\xff\xff\xff\xfb")]),
+    (b"", "bool", "00000001", [(0, 1, 4, "", "Number", b"\0\0\0\x01")]),
+    (b"", "hyper", "80000000 00000000", [(0, 1, 2, "", "Number", b"\x80\0\0\0\0\0\0\0")]),
+    (b"", "void", "", [(0, 1, 5, "", "Group", b"")]),
+    (
+        PAIR,
+        "pair",
+        "ffffffff 7fffffff",
+        [
+            (0, 1, 8, "", "Group", b""),
+            (0, 2, 0, "", "Number", b"\xff\xff\xff\xff"),
+            (4, 2, 0, "", "Number", b"\x7f\xff\xff\xff"),
+        ],
+    ),
+    (
+        TWO,
+        "two",
+        "00000001 00000007",
+        [(0, 1, 8, "", "Length", b"\0\0\0\x01"), (4, 2, 0, "", "Number", b"\0\0\0\x07")],
+    ),
+    (
+        VOID_CHOICE,
+        "choice",
+        "00000001",
+        [(0, 1, 8, "", "Number", b"\0\0\0\x01"), (4, 2, 5, "", "Group", b"")],
+    ),
+    (
+        FLAG_CHOICE,
+        "choice",
+        "00000000",
+        [(0, 1, 8, "", "Number", b"\0\0\0\0"), (4, 2, 5, "", "Group", b"")],
+    ),
+    (
+        CHOICES,
+        "choices",
+        "00000001 00000007 00000001 00000008",
+        [
+            (0, 1, 9, "", "Group", b""),
+            (0, 2, 8, "", "Number", b"\0\0\0\x01"),
+            (4, 3, 0, "x", "Number", b"\0\0\0\x07"),
+            (8, 2, 8, "", "Number", b"\0\0\0\x01"),
+            (12, 3, 0, "x", "Number", b"\0\0\0\x08"),
+        ],
+    ),
+    (
+        LIST,
+        "list",
+        "00000001 00000001 61000000 00000000",
+        [
+            (0, 1, 11, "", "Flag", b"\0\0\0\x01"),
+            (4, 2, 10, "", "Group", b""),
+            (4, 3, 8, "item", "Length", b"\0\0\0\x01"),
+            (8, 3, 8, "item", "Content", b"a"),
+            (12, 3, 9, "next", "Flag", b"\0\0\0\0"),
+        ],
+    ),
+]
+
+
+def behind_so(row):
+    """What a decoder and a checker answer to a value, to nothing and to a byte behind it, and to the end."""
+    given, cuts = octets(row.digits)[: row.used] + b"\7", (row.used, row.used)
+    wanted = cut_well(given, cuts, row, None)
+    yield Case("cut", cuts, given=given, **typed(row)), lambda told: told.answer == wanted
+
+
+def coded_so(row):
+    """A value by each call: decoded, whole and in pieces, lent, encoded and copied."""
+    given = octets(row.digits)[: row.used]
+    kind = {"given": given, **typed(row)}
+    yield Case("decode", **kind), decoded_well(row)
+    yield Case("parts", **kind), joined_well(row, given)
+    for engine, piece in itertools.product(("decoder", "checker"), PIECES):
+        yield Case(engine, (piece, 0), **kind), fed(row, given, piece, engine == "checker")
+    yield Case("encode", **kind), lambda told: (told.answer, told.streams) == ('"Ok"', [given])
+    taken = f"Ok({row.used})", [given]
+    yield Case("encode_to", writes=(3, 0), **kind), lambda told: (told.answer, told.streams) == taken
+    yield Case("copy", **kind), lambda told: told.answer == "true"
+
+
+def coded_cases():
+    for text, name, digits, value in CODED:
+        row = Whole(text, name, digits, len(octets(digits)), None, value)
+        yield from coded_so(row)
+        yield from behind_so(row)
+    for row in WHOLE:
+        yield from behind_so(row)
+    # A number of as many bytes as the limit, with one behind.
+    case = Case("decode", name="int", given=octets("00000005 09"), depth=1, bytes=4)
+    yield case, lambda told: told.answer == "Ok((Int(5), 4))"
+
+
+def refusal(text, name, digits, why, at, depth=4096, most=WIDEST):
+    """The row of a refusal. It stands once its unit is whole, for want of depth or of bytes before that, and never
+    where the bytes only end too early."""
+    stands = {"TooDeep": at, "TooLarge": at, "Truncated": len(octets(digits)) + 1}.get(why, at + 4)
+    return Refused(text, name, digits, most, why, at, stands, depth)
+
+
+def refused_value_cases():
+    rows = [refusal(*row) for row in WIDE]
+    rows += [refusal(*row, depth, most) for depth, most, *row in LIMITED]
+    for row in rows:
+        given = octets(row.digits)
+        kind = {"given": given, **typed(row)}
+        yield Case("decode", **kind), decoded_well(row)
+        yield Case("parts", **kind), joined_well(row, given)
+        for engine, piece in itertools.product(("decoder", "checker"), PIECES):
+            yield Case(engine, (piece, 0), **kind), fed(row, given, piece, engine == "checker")
+
+
+def shown_so(text, name, digits, lines):
+    """The lines of the value that the bytes encode, and of the bytes themselves."""
+    given = octets(digits)
+    kind = {"name": name, "text": text, "given": given}
+    yield Case("show", **kind), lambda told: (told.answer, told.streams) == ('"Ok"', [lines])
+    printed = "0", [lines + b"ok %d\n" % len(given), b""]
+    yield Case("task", setting=1, **kind), lambda told: (told.answer, told.streams) == printed
+
+
+def shown_cases():
+    for row in SHOWN:
+        yield from shown_so(*row)
+    letters = "00010000" + "61" * 65536
+    yield from shown_so(b"", "string", letters, b'"' + b"a" * 65536 + b'"\n')
+    yield from shown_so(b"", "opaque", letters, b"0x" + b"61" * 65536 + b"\n")
+    yield from shown_so(MORE, "big", "000186a0" + "00000007" * 100000, b"list of 100000\n" + b"  7\n" * 100000)
+    # Each level is indented by two spaces more than the one before it.
+    lines = b"".join(b"  " * level + b"present\n" for level in range(4095)) + b"  " * 4095 + b"absent\n"
+    case = Case("show", name="nest", text=NEST, given=word(1) * 4095 + word(0))
+    yield case, lambda told: (told.answer, told.streams) == ('"Ok"', [lines])
+
+
+def part(at, depth, place, name, role, content_of):
+    """What is told of a part."""
+    kind = f"KindId {{ place: {place} }}"
+    return f'Lent {{ at: {at}, depth: {depth}, kind: {kind}, name: "{name}", role: {role}, bytes: {list(content_of)} }}'
+
+
+def lent_cases():
+    for text, name, digits, parts in LENT:
+        wanted = f"Ok([{', '.join(part(*each) for each in parts)}])"
+        case = Case("parts", name=name, text=text, given=octets(digits))
+        yield case, lambda told, wanted=wanted: told.answer == wanted
+
+
+# The numbers below 524288, a unit each, as content of two mebibytes; and those below 100,000 as items.
+UNITS = b"".join(map(word, range(524288)))
+CONTENT, CONTENT_VALUE = word(2097152) + UNITS, content(UNITS)
+ITEMS = word(100000) + UNITS[:400000]
+ITEMS_VALUE = "List([" + ", ".join(f"Int({number})" for number in range(100000)) + "])"
+
+
+def long_value_cases():
+    """Long values, encoded, decoded and copied."""
+    letters = b"a" * 65536
+    for text, name, given, value in (
+        (b"", "opaque", CONTENT, CONTENT_VALUE),
+        (b"", "opaque", word(65536) + letters, content(letters)),
+        (MORE, "big", ITEMS, ITEMS_VALUE),
+    ):
+        kind = {"name": name, "text": text, "given": given}
+        decoded = f"Ok(({value}, {len(given)}))"
+        yield Case("decode", **kind), lambda told, decoded=decoded: told.answer == decoded
+        encoded = '"Ok"', [given]
+        yield Case("encode", **kind), lambda told, encoded=encoded: (told.answer, told.streams) == encoded
+        yield Case("copy", **kind), lambda told: told.answer == "true"
+
+
+def handed_cases():
+    """What is decoded in pieces is handed out at the end without a growth."""
+    row = Whole(b"", "opaque", CONTENT.hex(), len(CONTENT), None, CONTENT_VALUE)
+    is_well = fed(row, CONTENT, 65536, False)
+    yield Case("decoder", (65536, 0), name="opaque", given=CONTENT), lambda told: told.met > 0 and is_well(told)
+
+
+def few_growths_cases():
+    """The parts of 4000 numbers take as many growths as powers of two are filled, and one for a frame."""
+    case = Case("parts", name="big", text=MORE, given=word(4000) + b"abcd" * 4000)
+    yield case, lambda told: told.answer.count("Lent {") == 4001 and 0 < told.met <= 14
