@@ -1,15 +1,11 @@
-//! Tests of XDR and its language by public calls: readers and writers, schemas and values, the codec, the lines of
-//! values, declarations.
+//! Tests of XDR by public calls: readers and writers, schemas and values, and of the codec and the lines of values what
+//! no engine of `oncrpc_hostile` tells.
 #![tactic(auto)]
 
 #[cfg(test)]
 mod codec;
 #[cfg(test)]
 mod device;
-#[cfg(test)]
-mod grammar;
-#[cfg(test)]
-mod language;
 #[cfg(test)]
 mod schema;
 #[cfg(test)]

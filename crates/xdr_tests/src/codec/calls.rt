@@ -2,11 +2,7 @@
 //! tests are proved fast.
 use std::alloc::Global;
 use std::process::Abort;
-use xdr_codec::{
-    Checker, DecodeFault, Decoder, Held, Lent, Progress, WriteFault, decode, encode, encode_to,
-    parts,
-};
-use xdr_io::MemorySink;
+use xdr_codec::{Checker, DecodeFault, Decoder, Held, Lent, Progress, decode, encode, parts};
 use xdr_types::{KindId, Limits, NoMemory, Schema, Value, fits};
 
 /// Limits that are in range.
@@ -32,19 +28,6 @@ pub fn encoded(
     encode(alloc, schema, kind, value, limits)
 }
 
-/// What `encode_to` answers for a value that fits within the widest limits.
-pub fn written(
-    rt: &impl Abort,
-    sink: &mut MemorySink<'_>,
-    schema: &Schema,
-    place: u32,
-    value: &Value,
-) -> Result<u32, WriteFault> {
-    let (kind, limits) = (KindId { place }, widest(rt));
-    assert!(*rt; schema.has(kind) && fits(schema, kind, value, limits));
-    encode_to(sink, schema, kind, value, limits)
-}
-
 /// What `decode` answers for a kind that the schema has.
 pub fn decoded(
     rt: &impl Abort,
@@ -57,18 +40,6 @@ pub fn decoded(
     let kind = KindId { place };
     assert!(*rt; schema.has(kind));
     decode(alloc, schema, kind, limits, input)
-}
-
-/// What `decode` refuses the bytes with, or `None` where they begin with a value.
-pub fn refusal(
-    rt: &impl Abort,
-    alloc: Global,
-    schema: &Schema,
-    place: u32,
-    limits: Limits,
-    input: &[u8],
-) -> Option<DecodeFault> {
-    decoded(rt, alloc, schema, place, limits, input).err()
 }
 
 /// A decoder for a kind that the schema has.
@@ -92,29 +63,6 @@ pub fn fed(decoder: &mut Decoder<'_>, piece: &[u8]) -> Result<Progress, DecodeFa
 /// What `finish` answers.
 pub fn finished(decoder: Decoder<'_>) -> Result<Value, DecodeFault> {
     decoder.finish()
-}
-
-/// What a checker answers to the end of the bytes, which it is given one by one up to a value's end or a refusal, for a
-/// kind that the schema has.
-pub fn counted(
-    rt: &impl Abort,
-    alloc: Global,
-    schema: &Schema,
-    place: u32,
-    limits: Limits,
-    input: &[u8],
-) -> Result<u32, DecodeFault> {
-    let kind = KindId { place };
-    assert!(*rt; schema.has(kind));
-    let mut checker = Checker::start(alloc, schema, kind, limits);
-    let mut answer = checker.feed(&[]);
-    for byte in input {
-        if answer != Ok(Progress::More) {
-            break;
-        }
-        answer = checker.feed(&[*byte]);
-    }
-    checker.finish()
 }
 
 /// The parts of the value that begins the bytes, for a kind that the schema has.

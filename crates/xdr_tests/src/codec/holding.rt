@@ -2,7 +2,7 @@
 use crate::codec::calls::{
     checking, counted_held, fed, finished, held, judged, limits, started, widest,
 };
-use crate::schema::{BOOL, LIST, MANY, OPAQUE, all_kinds};
+use crate::schema::{BOOL, LIST, MANY, OPAQUE, schema};
 use growths::{bytes, held as held_in_all};
 use std::alloc::Global;
 use std::env::Env;
@@ -65,7 +65,7 @@ fn check(
 #[test]
 fn holds_content_and_an_unfinished_unit(rt: HostRuntime) {
     let alloc = rt.alloc();
-    let schema = all_kinds(&rt, alloc);
+    let schema = schema(&rt, alloc);
     let piece: &[u8] = &[0, 0, 0, 6, 97, 98, 99, 100, 101, 102];
     check(
         &rt,
@@ -80,7 +80,7 @@ fn holds_content_and_an_unfinished_unit(rt: HostRuntime) {
 #[test]
 fn holds_nothing_for_a_declared_length(rt: HostRuntime) {
     let alloc = rt.alloc();
-    let schema = all_kinds(&rt, alloc);
+    let schema = schema(&rt, alloc);
     let steps: &[Step] = &[
         (&[], Ok(Progress::More), NEW),
         (
@@ -128,7 +128,7 @@ fn asked_with(
 #[test]
 fn asks_for_nothing_for_a_declared_count(rt: HostRuntime) {
     let alloc = rt.alloc();
-    let schema = all_kinds(&rt, alloc);
+    let schema = schema(&rt, alloc);
     let one = asked_with(&rt, alloc, &schema, &[0, 0, 0, 1]);
     assert!(rt; asked_with(&rt, alloc, &schema, &[0, 0, 15, 160]) == one);
 }
@@ -136,7 +136,7 @@ fn asks_for_nothing_for_a_declared_count(rt: HostRuntime) {
 #[test]
 fn holds_the_whole_value_alone(rt: HostRuntime) {
     let alloc = rt.alloc();
-    let schema = all_kinds(&rt, alloc);
+    let schema = schema(&rt, alloc);
     let piece: &[u8] = &[0, 0, 0, 4, 97, 97, 97, 97];
     let done = Ok(Progress::Done { used: 8 });
     check(
@@ -152,7 +152,7 @@ fn holds_the_whole_value_alone(rt: HostRuntime) {
 #[test]
 fn holds_nothing_after_a_fault(rt: HostRuntime) {
     let alloc = rt.alloc();
-    let schema = all_kinds(&rt, alloc);
+    let schema = schema(&rt, alloc);
     let fault = DecodeFault {
         why: Reason::BadBool,
         at: 0,
@@ -185,7 +185,7 @@ fn held_around_a_fault(
 #[test]
 fn gives_all_memory_back_at_a_fault(rt: HostRuntime) {
     let alloc = rt.alloc();
-    let schema = all_kinds(&rt, alloc);
+    let schema = schema(&rt, alloc);
     if let Some((before, amid, after)) = held_around_a_fault(&rt, alloc, &schema) {
         assert!(rt; before < amid && after == before);
     }

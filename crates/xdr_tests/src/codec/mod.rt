@@ -1,9 +1,5 @@
-//! Tests of the encoding and the decoding of XDR values.
-mod accepted;
+//! Tests of `xdr_codec` by its public calls.
 mod calls;
 mod holding;
-mod large;
 mod lent;
-mod made;
 mod random;
-mod refused;

@@ -57,15 +57,6 @@ fn fits_lists(rt: HostRuntime) {
     assert!(rt; size_of_empty_strings(rt.alloc(), 2048) == Some(None));
 }
 
-// Whether the copy of three bytes has them.
-fn copies_three(alloc: Global) -> Option<bool> {
-    let value = Value::Bytes(vec![in alloc; 97u8, 98, 99].ok()?);
-    match value.copy(alloc).ok()? {
-        Value::Bytes(again) => Some(again.as_slice() == b"abc".as_slice()),
-        _ => Some(false),
-    }
-}
-
 // So many arrays of one item inside one another.
 fn lists(alloc: Global, count: u32) -> Option<Value> {
     let mut list = Value::Nothing;
@@ -75,40 +66,36 @@ fn lists(alloc: Global, count: u32) -> Option<Value> {
     Some(list)
 }
 
-// So many optionals inside one another.
-fn optionals(alloc: Global, count: u32) -> Option<Value> {
-    let mut chain = Value::Nothing;
+// So many optionals around a value.
+fn optionals(alloc: Global, count: u32, last: Value) -> Option<Value> {
+    let mut chain = last;
     for _ in 0..count {
         chain = Value::Maybe(Some(Box::new(alloc, chain).ok()?));
     }
     Some(chain)
 }
 
+// How many bytes so many optionals of one kind take that are present, inside one another.
+fn size_of_nest(alloc: Global, count: u32) -> Option<Option<u32>> {
+    let nest = optionals(alloc, count, Value::Maybe(None))?;
+    let schema = unnamed(alloc, vec![in alloc; Kind::Maybe { item: id(0) }].ok()?)?;
+    Some(size_within(&schema, id(0), &nest, Limits::new(4096, 16777216)))
+}
+
+#[test]
+fn fits_none_that_is_deeper(rt: HostRuntime) {
+    assert!(rt; size_of_nest(rt.alloc(), 4095) == Some(Some(16384)));
+    assert!(rt; size_of_nest(rt.alloc(), 4096) == Some(None));
+}
+
 // Whether deep values equal their copies and not one another.
 fn copies_deep(alloc: Global) -> Option<bool> {
-    let (list, chain) = (lists(alloc, 4095)?, optionals(alloc, 4095)?);
+    let (list, chain) = (lists(alloc, 4095)?, optionals(alloc, 4095, Value::Nothing)?);
     let (again, same) = (list.copy(alloc).ok()?, chain.copy(alloc).ok()?);
     Some(is_equal(&list, &again) && chain == same && chain != list)
 }
 
 #[test]
 fn copies_values(rt: HostRuntime) {
-    assert!(rt; copies_three(rt.alloc()) == Some(true));
     assert!(rt; copies_deep(rt.alloc()) == Some(true));
-}
-
-// Whether content of 65536 bytes and an array of 100,000 numbers equal their copies.
-fn copies_long(alloc: Global) -> Option<bool> {
-    let content = Value::Bytes(vec![in alloc; 97u8; 65536].ok()?);
-    let mut items = Vec::new(alloc);
-    for number in 0..100000 {
-        items.push(Value::Int(number)).ok()?;
-    }
-    let list = Value::List(items);
-    Some(content.copy(alloc).ok()? == content && list.copy(alloc).ok()? == list)
-}
-
-#[test]
-fn copies_long_values(rt: HostRuntime) {
-    assert!(rt; copies_long(rt.alloc()) == Some(true));
 }

@@ -1,4 +1,0 @@
-//! Tests of `xdr_show` by its public calls.
-pub mod calls;
-mod large;
-mod lines;
