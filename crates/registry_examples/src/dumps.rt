@@ -1,9 +1,10 @@
 //! The rows of a directory as values, and the schema of their kinds.
-ghost use Rattle.std.specs.Prelude.{◌≡◌, ◌∷◌, [], codes, true, IfOk};
+ghost use Rattle.std.specs.Prelude.{◌≡◌, ◌∷◌, [], codes, true, Some, None, IfOk};
 ghost use Rattle.xdr_types.specs.View.{tree};
 ghost use Rattle.rpc_dumps.specs.Dumps.{linked, group, number, content};
 
 use rpc_directory::{Directory, NoMemory, directory_schema};
+use rpc_dumps::prot_of;
 use std::alloc::Global;
 use std::hash::BuildHasher;
 use xdr_types::{KindId, Limits, Value, fits};
@@ -49,6 +50,14 @@ pub fn dump_without_ports<S: BuildHasher + Drop>(
     let mut directory = Directory::new(alloc, hasher);
     directory.set(alloc, 9, 1, b"tcp6", b"1.2.3.4.5.6", b"unknown")?;
     directory.dump_ports(alloc)
+}
+
+/// `tcp` and `udp` have the protocols 6 and 17 in the list of version 2, and no other transport has one (RFC 1833 section
+/// 3.1).
+pub fn numbers_of_transports() -> (Option<u32>, Option<u32>, Option<u32>)
+    ensures { result ≡ (Some 6, Some 17, None) }
+{
+    (prot_of(b"tcp"), prot_of(b"udp"), prot_of(b"tcp6"))
 }
 
 /// A dump is a value of its kind in the schema, within a server's limits.

@@ -14,5 +14,6 @@ pub mod lines;
 mod made;
 pub mod pieces;
 pub mod schemas;
+pub mod stacks;
 pub mod units;
 pub mod values;
