@@ -109,7 +109,6 @@ SHOWN = [
     (PAIRS, "pairs", "00000000", b"list of 0\n"),
     (OPTIONAL, "optional", "00000001 00000002 61620000", b'present\n  "ab"\n'),
     (OPTIONAL, "optional", "00000000", b"absent\n"),
-    (b"", "void", "", b"void\n"),
     (FILE, "filetype", "00000000", b"case TEXT = 0\n  void\n"),
     (FLAG_CHOICE, "choice", "00000001 00000007", b"case TRUE\n  x: 7\n"),
     (FLAG_CHOICE, "choice", "00000000", b"case FALSE\n  void\n"),

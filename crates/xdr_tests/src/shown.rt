@@ -22,9 +22,15 @@ fn choice(alloc: Global, over: Kind, case: i64, name: &str, part: Kind) -> Optio
     Schema::build(alloc, kinds, Vec::new(alloc)).ok()
 }
 
-// Whether these lines are shown of the value at place 2 that the bytes encode, and of the bytes.
-fn is_shown(alloc: Global, schema: &Schema, input: &[u8], lines: &[u8]) -> Option<bool> {
-    let (kind, limits) = (KindId { place: 2 }, Limits::new(4096, 16777216)?);
+// Whether these lines are shown of the value at a place that the bytes encode, and of the bytes.
+fn is_shown(
+    alloc: Global,
+    schema: &Schema,
+    place: u32,
+    input: &[u8],
+    lines: &[u8],
+) -> Option<bool> {
+    let (kind, limits) = (KindId { place }, Limits::new(4096, 16777216)?);
     if !schema.has(kind) {
         return None;
     }
@@ -42,7 +48,8 @@ fn shows_a_void_arm_with_a_name(rt: HostRuntime) {
     let alloc = rt.alloc();
     let schema = choice(alloc, Kind::Int, -1, "none", Kind::Nothing).expect(&rt, "schema");
     let lines = b"case -1\n  none: void\n";
-    assert!(rt; is_shown(alloc, &schema, &[255, 255, 255, 255], lines) == Some(true));
+    assert!(rt; is_shown(alloc, &schema, 2, &[255, 255, 255, 255], lines) == Some(true));
+    assert!(rt; is_shown(alloc, &schema, 1, &[], b"void\n") == Some(true));
 }
 
 #[test]
@@ -51,5 +58,5 @@ fn shows_an_arm_without_a_name(rt: HostRuntime) {
     let text = Kind::Text { max: 4294967295 };
     let schema = choice(alloc, Kind::Unsigned, 4294967295, "", text).expect(&rt, "schema");
     let input = b"\xff\xff\xff\xff\0\0\0\x01z\0\0\0";
-    assert!(rt; is_shown(alloc, &schema, input, b"case 4294967295\n  \"z\"\n") == Some(true));
+    assert!(rt; is_shown(alloc, &schema, 2, input, b"case 4294967295\n  \"z\"\n") == Some(true));
 }
