@@ -2,6 +2,9 @@
 import itertools
 import re
 
+from .directory import is_registry
+from .messages import message_cases
+from .registry import few_bytes_cases, is_missed, is_not_appended, is_unexchanged, swept_cases
 from .rows import (
     ASKED,
     ASKED_AFTER,
@@ -97,10 +100,13 @@ def connection_lines(told, whole, most):
 
 def some_parts(told, whole):
     """Whether each part of what a registry's making and dumping tells is the whole run's, or tells want of memory."""
-    parts, rest = whole.answer[1:-1].split(", Ok("), told.answer[1:-1]
-    wanted = [parts[0], "Ok(" + parts[1], "Ok(" + parts[2].removesuffix(", true"), "true"]
-    choices = [(right, other) for right, other in zip(wanted, ("false", NO_MEMORY, NO_MEMORY, "false"))]
-    return any(rest == ", ".join(chosen) for chosen in itertools.product(*choices))
+    parts, rest = whole.answer[1:].removesuffix(", Some(true))").split(", Ok("), told.answer[1:]
+    wanted = [parts[0], *("Ok(" + part for part in parts[1:])]
+    for chosen in itertools.product(*zip(wanted, ("None", *[NO_MEMORY] * 3))):
+        is_fit = "None" if NO_MEMORY in chosen else "Some(true)"
+        if rest == ", ".join(chosen) + f", {is_fit})":
+            return True
+    return False
 
 
 def is_kept_before(told, case):
@@ -142,6 +148,12 @@ def wants_memory(told, whole, case):
         case "answer":
             xid = int.from_bytes(case.given[:4], "big")
             return told.answer == f"OutOfMemory {{ xid: {xid} }}" and told.streams[0] == told_after(bool(case.before))
+        case "append":
+            return is_not_appended(told, case)
+        case "serve_datagrams":
+            return is_missed(told, case)
+        case "exchange_datagram":
+            return is_unexchanged(told)
         case "exchange":
             return told.answer == NO_MEMORY and told.streams[0] in (b"", whole.streams[0])
         case "decode" | "parts":
@@ -163,9 +175,10 @@ def wants_memory(told, whole, case):
 
 # Calls that end at the first growth that is refused, and tell the same whether later ones are granted again.
 ENDING = "normalise reader exchange answer decode parts decoder checker encode show copy mark tokens outline".split()
+ENDING += ["append", "exchange_datagram"]
 # Those that take memory for each answer, so that the first growth is not done without.
 TAKING_ANY = "answer declarations mark exchange info datagrams asking encode show call credential".split()
-TAKING_ANY += "tokens outline directory".split()
+TAKING_ANY += "tokens outline directory_schema append exchange_datagram serve_datagrams".split()
 
 
 def is_granted_well(whole, case, number):
@@ -324,6 +337,7 @@ def message_rows():
     for engine, digits in MESSAGES:
         wanted = f", Some(Ok({list(octets(digits))})))"
         yield Case(engine, given=octets(digits)), lambda told, wanted=wanted: told.answer.endswith(wanted)
+    yield from message_cases()
     for record, *_replies in CALLS + FURTHER:
         yield Case("call", given=record), told_again(record)
     for stream, _ in EXCHANGED:
@@ -345,13 +359,12 @@ def registry_rows():
             wanted = f"Reply({list(sent)})", [told_after(bool(has_row))]
             case = Case("answer", given=record, before=before, after=ASKED_AFTER)
             yield case, lambda told, wanted=wanted: (told.answer, told.streams) == wanted
-        yield Case("registry", before=before), lambda told: re.fullmatch(
-            r"\(true, Ok\(.*\), Ok\(.*\), true\)", told.answer
-        )
+        yield Case("registry", before=before), lambda told, has_row=bool(has_row): is_registry(told, has_row)
     for record in TAKING:
         yield Case("answer", given=record, after=ASKED_AFTER), lambda told: told.answer.startswith("Reply([")
     for (stream, told), piece in itertools.product(EXCHANGED, PIECES):
         yield Case("exchange", (piece, 0), given=stream), exchanged(stream, told, (piece, 0), (4096, 0))
+    yield from swept_cases()
     for (stream, status, printed), piece in itertools.product(ASKED, PIECES):
         is_well = asked_of(stream, status, printed, (piece, 0), (4096, 0), False)
         yield Case("info", (piece, 0), setting=4, given=stream), is_well
@@ -361,7 +374,7 @@ def text_rows():
     for number, text in enumerate(TEXTS):
         begins = "Ok(Declared" if number < 8 else "Err(LangFault"
         yield Case("declarations", text=text), lambda told, begins=begins: told.answer.startswith(begins)
-    for engine, text in (("tokens", FILE), ("outline", FILE), ("outline", PING), ("directory", b"")):
+    for engine, text in (("tokens", FILE), ("outline", FILE), ("outline", PING), ("directory_schema", b"")):
         yield Case(engine, text=text), lambda told: told.answer.startswith("Ok(")
 
 
@@ -392,6 +405,7 @@ def room_cases(heap):
     for case in streams:
         growths = first + len(case.given) // len(marked(NULL)) - 1
         yield case, lambda told, growths=growths: told.met == growths > 0
+    yield from few_bytes_cases()
 
 
 # A type with parts of its own, and lengths of a chain of them, under some of which a block of the nodes at work is

@@ -380,7 +380,7 @@ def directory_cases():
         rest = f"constants: {pairs(BASIC_CONSTANTS)}, programs: []"
         return told.answer == f"Ok(Declared {{ schema: {schema[0]}, {rest} }})"
 
-    yield Case("directory"), is_schema
+    yield Case("directory_schema"), is_schema
     for text in (DIRECTORY, RPCB):
         yield Case("declarations", text=text), is_same
 

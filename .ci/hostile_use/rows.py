@@ -139,6 +139,17 @@ def reply(results, xid=1):
 
 MAPPING = "20000000 00000001 00000006 "
 OWN = "".join(f"00000001 000186a0 0000000{vers} 000000{prot} 0000006f" for vers in (2, 3, 4) for prot in ("06", "11"))
+# The same rows in versions 3 and 4 of the registry. A row of program 7 over `tcp`, its address, and an owner.
+TCP_7 = "00000007 00000001 00000003 74637000"
+AT_9 = "0000000b 312e322e 332e342e 302e3900"
+OWNER = "00000009 73757065 72757365 72000000"
+
+
+def own_row(vers, netid):
+    return f"00000001 000186a0 {vers:08x} 00000003 {netid} 0000000d 302e302e 302e302e 302e3131 31000000 {OWNER}"
+
+
+OWN_ROWS = " ".join(own_row(vers, netid) for vers in (2, 3, 4) for netid in ("74637000", "75647000"))
 # A record, its replies without and with the row of version 1 of program 2^29, and whether the row is there afterwards:
 # None where that does not change. A reply of None is silence (RFC 1833 sections 2.2 and 3.2, RFC 5531 section 9).
 CALLS = [

@@ -10,6 +10,7 @@ PROGRAM = os.environ.get("HOSTILE", f"{ROOT}/crates/oncrpc_hostile/out/oncrpc_ho
 # How many streams an engine's line tells at its end.
 STREAMS_OF = {"normalise": 1, "reader": 1, "task": 2, "info": 3, "connections": 3, "serve": 2, "answer": 1}
 STREAMS_OF.update(datagrams=3, asking=3, exchange=1, encode_to=1, encode=1, show=1, mark=1)
+STREAMS_OF.update(append=2, serve_datagrams=2, exchange_datagram=1, write_marked=1)
 
 
 def line_of(case):

@@ -5,14 +5,18 @@ import re
 
 from .large import refused_text
 from .rows import (
+    AT_9,
     Case,
     FILE,
     LIST,
     NULL,
+    OWNER,
+    OWN_ROWS,
     PIECES,
     PING,
     SILLYPROG,
     SILLYPROG_LINES,
+    TCP_7,
     WIDEST,
     call,
     marked,
@@ -25,20 +29,12 @@ from .rows import (
 # row whose owner is the caller, whatever its argument says (RFC 1833 section 2.1).
 BY_1001 = "00000001 00000014 00000000 00000000 000003e9 00000000 00000000 00000000 00000000"
 BY_1000, BY_ROOT = BY_1001.replace("000003e9", "000003e8"), BY_1001.replace("000003e9", "00000000")
-TCP_7 = "00000007 00000001 00000003 74637000"
-AT_9 = "0000000b 312e322e 332e342e 302e3900"
-OWNER = "00000009 73757065 72757365 72000000"
 
 
 def called_by(caller, vers, proc, args):
     return octets(f"00000001 00000000 00000002 000186a0 {vers:08x} {proc:08x} {caller} {args}")
 
 
-def own_row(vers, netid):
-    return f"00000001 000186a0 {vers:08x} 00000003 {netid} 0000000d 302e302e 302e302e 302e3131 31000000 {OWNER}"
-
-
-OWN_ROWS = " ".join(own_row(vers, netid) for vers in (2, 3, 4) for netid in ("74637000", "75647000"))
 # The longest body of AUTH_SYS, 340 bytes, the longest address and the longest netid.
 LONG_CREDENTIAL = "00000001 000000ff" + "61" * 255 + "00 00000002 00000003 00000010" + "00" * 64
 LONG_NULL = called_by(f"00000001 00000154 {LONG_CREDENTIAL} 00000000 00000000", 2, 0, "")

@@ -23,8 +23,8 @@ impl<'a> Case<'a> {
         Some(Case { words })
     }
 
-    // The word at a place, empty where there is none.
-    fn word(&self, place: usize) -> &'a str {
+    /// The word at a place, empty where there is none.
+    pub fn word(&self, place: usize) -> &'a str {
         match self.words.get(place) {
             Some(word) => word,
             None => "",
@@ -34,6 +34,11 @@ impl<'a> Case<'a> {
     // The number at a place, 0 where there is none.
     fn number(&self, place: usize) -> u64 {
         self.word(place).parse::<u64>().unwrap_or(0)
+    }
+
+    /// The same of 32 bits.
+    pub fn whole(&self, place: usize) -> u32 {
+        self.number(place).min(4294967295) as u32
     }
 
     // The call that fails, if one does.
@@ -71,7 +76,7 @@ impl<'a> Case<'a> {
 
     /// A number that the engine knows.
     pub fn setting(&self) -> u32 {
-        self.number(6).min(4294967295) as u32
+        self.whole(6)
     }
 
     /// The name of a kind.
@@ -105,12 +110,12 @@ impl<'a> Case<'a> {
 
     /// The limit on depth.
     pub fn depth(&self) -> u32 {
-        self.number(13).min(4294967295) as u32
+        self.whole(13)
     }
 
     /// The limit on bytes.
     pub fn bytes(&self) -> u32 {
-        self.number(14).min(4294967295) as u32
+        self.whole(14)
     }
 
     /// Both limits, where they are in range.

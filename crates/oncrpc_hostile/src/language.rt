@@ -1,5 +1,5 @@
 //! The language of declarations, over TEXT alone: `tokens`; `outline`, how many constants, kinds, types and programs its
-//! definitions declare; `declarations`, what it means; and `directory`, the schema of the registry, of no text.
+//! definitions declare; `declarations`, what it means; and `directory_schema`, the schema of the registry, of no text.
 use crate::case::{Case, allow};
 use crate::told::line;
 use rpc_directory::directory_schema;
@@ -22,7 +22,7 @@ pub fn told(rt: &HostRuntime, case: &Case<'_>) -> Option<String> {
             let told = counted(alloc, &text);
             Some(line(alloc, allow(rt, before), &told))
         }
-        "directory" => {
+        "directory_schema" => {
             let told = directory_schema(alloc);
             Some(line(alloc, allow(rt, before), &told))
         }

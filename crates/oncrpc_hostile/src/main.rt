@@ -5,8 +5,10 @@
 
 mod case;
 mod datagrams;
+mod directory;
 mod language;
 mod messages;
+mod ports;
 mod program;
 mod records;
 mod registry;
@@ -22,12 +24,16 @@ use std::process::ExitCode;
 // Makes the call of a case, and tells how many growths of memory it met and what it answered.
 fn called(rt: &HostRuntime, case: &Case<'_>) -> Option<String> {
     match case.engine() {
-        "normalise" | "reader" | "mark" => records::told(rt, case),
+        "normalise" | "reader" | "reader_calls" | "mark" | "write_marked" => records::told(
+            rt, case,
+        ),
         "task" => task::told(rt, case),
         "info" | "connections" | "datagrams" | "asking" => program::told(rt, case),
-        "serve" | "answer" | "exchange" | "registry" => registry::told(rt, case),
+        "serve" | "answer" | "append" | "exchange" | "registry" => registry::told(rt, case),
+        "directory" => directory::told(rt, case),
+        "serve_datagrams" | "exchange_datagram" => ports::told(rt, case),
         "call" | "reply" | "credential" => messages::told(rt, case),
-        "tokens" | "outline" | "declarations" | "directory" => language::told(rt, case),
+        "tokens" | "outline" | "declarations" | "directory_schema" => language::told(rt, case),
         _ => values::told(rt, case),
     }
 }
