@@ -1,13 +1,7 @@
-//! Tests of records, messages, the registry, its answers and what serves it by public calls.
+//! Tests of the registry by its public calls, and of a law of records.
 #![tactic(auto)]
 
-#[cfg(test)]
-mod answers;
-#[cfg(test)]
-mod messages;
 #[cfg(test)]
 mod records;
 #[cfg(test)]
 mod registry;
-#[cfg(test)]
-mod served;

@@ -1,18 +1,13 @@
-//! The calls of the registry as rows of a table: what is asked, and what is to be answered. What runs them says nothing
-//! of its answer, so that a test of many calls is proved fast.
+//! Calls of the registry: what is asked, and what is to be answered. What makes them says nothing of its answer, so that
+//! a test of many calls is proved fast.
 ghost use Rattle.std.specs.Prelude.{◌≤◌, length};
 
-use crate::registry::dumps::{Field, is_list};
 use rpc_directory::{Directory, NoMemory, Row};
 use std::alloc::Global;
 use std::hash::{BuildHasherDefault, DefaultHasher};
-use xdr_types::Value;
 
 /// A registry with the standard hasher.
 pub type Registry = Directory<BuildHasherDefault<DefaultHasher>>;
-
-/// The address of port 111 at every host.
-pub const EVERY_HOST: &[u8] = b"0.0.0.0.0.111";
 
 /// A program, a version and a netid.
 pub type Key = (u32, u32, &'static [u8]);
@@ -25,10 +20,7 @@ pub type PortKey = (u32, u32, u32);
 pub enum Owner {
     Superuser,
     Unknown,
-    User100,
     User1000,
-    User1001,
-    GreatestUser,
 }
 
 impl Owner {
@@ -39,10 +31,7 @@ impl Owner {
         match self {
             Owner::Superuser => b"superuser",
             Owner::Unknown => b"unknown",
-            Owner::User100 => b"100",
             Owner::User1000 => b"1000",
-            Owner::User1001 => b"1001",
-            Owner::GreatestUser => b"4294967295",
         }
     }
 }
@@ -64,26 +53,6 @@ pub enum Call {
     VersionAddress(Key, &'static [u8]),
     /// `get_port`: the port, 0 for none.
     Port(PortKey, u32),
-    /// `rows`: how many there are.
-    Rows(u32),
-    /// `row` at an index: its key, address and owner.
-    Row(u32, Key, &'static [u8], Owner),
-    /// `row` at an index where there is none.
-    NoRow(u32),
-    /// `dump`: the fields of each row.
-    Dump(&'static [&'static [Field]]),
-    /// `dump_ports`: the fields of each row.
-    DumpPorts(&'static [&'static [Field]]),
-}
-
-/// The registry's own rows, at port 111.
-pub fn started(alloc: Global) -> Result<Registry, NoMemory> {
-    started_at(alloc, 111)
-}
-
-/// The registry's own rows, at this port.
-pub fn started_at(alloc: Global, port: u16) -> Result<Registry, NoMemory> {
-    Directory::start(alloc, BuildHasherDefault::new(), port)
 }
 
 /// A registry without rows.
@@ -112,8 +81,6 @@ pub fn answer(alloc: Global, directory: &mut Registry, call: &Call) -> Option<bo
         Call::UnsetPort(prog, vers, owner, done) => {
             Some(directory.unset_port(*prog, *vers, owner.text()) == *done)
         }
-        Call::Dump(rows) => is_dumped(directory.dump(alloc), rows),
-        Call::DumpPorts(rows) => is_dumped(directory.dump_ports(alloc), rows),
         _ => Some(finds(directory, call)),
     }
 }
@@ -128,11 +95,6 @@ fn finds(directory: &Registry, call: &Call) -> bool {
             directory.getversaddr(*prog, *vers, netid) == *address
         }
         Call::Port((prog, vers, prot), port) => directory.get_port(*prog, *vers, *prot) == *port,
-        Call::Rows(count) => directory.rows() == *count,
-        Call::Row(index, key, address, owner) => {
-            is_row(directory.row(*index), key, address, owner.text())
-        }
-        Call::NoRow(index) => directory.row(*index).is_none(),
         _ => false,
     }
 }
@@ -141,14 +103,6 @@ fn finds(directory: &Registry, call: &Call) -> bool {
 fn is_done(answer: Result<bool, NoMemory>, wanted: bool) -> Option<bool> {
     match answer {
         Ok(done) => Some(done == wanted),
-        Err(NoMemory) => None,
-    }
-}
-
-// Whether the list has these rows.
-fn is_dumped(answer: Result<Value, NoMemory>, rows: &[&[Field]]) -> Option<bool> {
-    match answer {
-        Ok(list) => Some(is_list(&list, rows)),
         Err(NoMemory) => None,
     }
 }
@@ -166,14 +120,4 @@ pub fn is_row(row: Option<&Row>, key: &Key, address: &[u8], owner: &[u8]) -> boo
         }
         None => false,
     }
-}
-
-/// How many of the calls are answered as wanted, up to the first that is not.
-pub fn right_calls(alloc: Global, directory: &mut Registry, calls: &[Call]) -> usize {
-    for (number, call) in calls.iter().enumerate() {
-        if answer(alloc, directory, call) != Some(true) {
-            return number;
-        }
-    }
-    calls.len()
 }

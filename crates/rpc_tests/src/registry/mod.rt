@@ -1,9 +1,3 @@
-//! Tests of `rpc_directory`, and of `rpc_uaddr`, by their public calls.
-mod addresses;
-pub mod calls;
-mod dumps;
-mod memory;
+//! Random calls of the registry beside a plain list.
+mod calls;
 mod random;
-mod refused;
-pub mod rows;
-mod schema;

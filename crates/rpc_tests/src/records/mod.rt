@@ -1,4 +1,0 @@
-//! Tests of `rpc_record` by its public calls.
-mod captured;
-mod reader;
-mod sizes;
