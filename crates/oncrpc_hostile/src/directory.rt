@@ -1,7 +1,8 @@
-//! Calls of a registry, one after another, with a line of TEXT for each: it has no rows before it is started. A line is
-//! `CALL PROG VERS NETID ADDRESS REFUSED OWNER`, with one space between two words: a transport stands in the place of a
-//! netid, a port in that of an address, an index or the port at the start in that of a program, the four bytes of a host
-//! and a port in those of program and version, and REFUSED is the growth that is refused to the call, as in a case.
+//! Calls of a registry, one after another, with a line of TEXT for each: it has no rows before it is started. A line
+//! is `CALL PROG VERS NETID ADDRESS REFUSED OWNER`, with one space between two words: a transport stands in the place
+//! of a netid, a port in that of an address, an index or the port at the start in that of a program, the four bytes
+//! of a host and a port in those of program and version, and REFUSED is the growth that is refused to the call, as in
+//! a case.
 ghost use Rattle.std.specs.Prelude.{◌≤◌, length};
 
 use crate::case::{Case, allow};

@@ -1,5 +1,6 @@
-//! The language of declarations, over TEXT alone: `tokens`; `outline`, how many constants, kinds, types and programs its
-//! definitions declare; `declarations`, what it means; and `directory_schema`, the schema of the registry, of no text.
+//! The language of declarations, over TEXT alone: `tokens`; `outline`, how many constants, kinds, types and programs
+//! its definitions declare; `declarations`, what it means; and `directory_schema`, the schema of the registry, of no
+//! text.
 use crate::case::{Case, allow};
 use crate::told::line;
 use rpc_directory::directory_schema;

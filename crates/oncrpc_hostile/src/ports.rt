@@ -1,6 +1,6 @@
-//! Datagrams over a port in memory, of which the receive or send of number READ_FAILS fails. `serve_datagrams` is given
-//! the registry at port 111 that was served BEFORE: it serves as many parts of INPUT as the low byte of SETTING says, and
-//! then as many as the others say. `exchange_datagram` exchanges the null call of version 2 with xid 1.
+//! Datagrams over a port in memory, of which the receive or send of number READ_FAILS fails. `serve_datagrams` is
+//! given the registry at port 111 that was served BEFORE: it serves as many parts of INPUT as the low byte of SETTING
+//! says, and then as many as the others say. `exchange_datagram` exchanges the null call of version 2 with xid 1.
 use crate::case::{Case, allow};
 use crate::datagrams::cut;
 use crate::registry::{null_call, prepared, with_after};

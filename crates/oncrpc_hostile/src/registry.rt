@@ -1,7 +1,7 @@
 //! The registry at port 111: it is served BEFORE, then the call is made, and then it is served AFTER with all its
-//! memory. `serve` serves INPUT, `answer` answers it as one record, over UDP where SETTING is 17, `append` does so behind
-//! TEXT, `exchange` reads it where the null call of version 2 with xid 1 is exchanged for a reply, and `registry` makes a
-//! registry and dumps it.
+//! memory. `serve` serves INPUT, `answer` answers it as one record, over UDP where SETTING is 17, `append` does so
+//! behind TEXT, `exchange` reads it where the null call of version 2 with xid 1 is exchanged for a reply, and
+//! `registry` makes a registry and dumps it.
 ghost use Rattle.std.specs.Prelude.{◌≡◌, ◌<◌, []};
 ghost use Rattle.rpc_message.specs.View.{auth_view, call_view};
 

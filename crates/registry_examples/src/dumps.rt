@@ -52,8 +52,8 @@ pub fn dump_without_ports<S: BuildHasher + Drop>(
     directory.dump_ports(alloc)
 }
 
-/// `tcp` and `udp` have the protocols 6 and 17 in the list of version 2, and no other transport has one (RFC 1833 section
-/// 3.1).
+/// `tcp` and `udp` have the protocols 6 and 17 in the list of version 2, and no other transport has one (RFC 1833
+/// section 3.1).
 pub fn numbers_of_transports() -> (Option<u32>, Option<u32>, Option<u32>)
     ensures { result ≡ (Some 6, Some 17, None) }
 {

@@ -1,5 +1,5 @@
-//! Calls of the registry: what is asked, and what is to be answered. What makes them says nothing of its answer, so that
-//! a test of many calls is proved fast.
+//! Calls of the registry: what is asked, and what is to be answered. What makes them says nothing of its answer, so
+//! that a test of many calls is proved fast.
 ghost use Rattle.std.specs.Prelude.{◌≤◌, length};
 
 use rpc_directory::{Directory, NoMemory, Row};
