@@ -180,7 +180,7 @@ OTHER_PORT = [
         (100000, 4, 17, 2049),
     ]),
 ]
-# The registry's own rows at the greatest port and at port 0.
+# The registry's own rows at the greatest port.
 GREATEST_PORT = [
     ("row", 4, (100000, 4, "tcp"), "0.0.0.0.255.255", "superuser"),
     ("row", 5, (100000, 4, "udp"), "0.0.0.0.255.255", "superuser"),
@@ -188,7 +188,7 @@ GREATEST_PORT = [
     ("get_port", (100000, 4, 17), 65535),
     ("rows", 6),
 ]
-# 
+# And at port 0.
 PORT_0 = [
     ("getaddr", (100000, 4, "tcp"), "0.0.0.0.0.0"),
     ("getaddr", (100000, 4, "udp"), "0.0.0.0.0.0"),
