@@ -26,7 +26,7 @@ enum Answer<'a> {
 }
 
 // Makes a call that may take memory, or another.
-fn answer<'a>(alloc: Global, directory: &'a mut Registry, call: &Case<'a>) -> Answer<'a> {
+fn made<'a>(alloc: Global, directory: &'a mut Registry, call: &Case<'a>) -> Answer<'a> {
     let (prog, vers, prot) = (call.whole(1), call.whole(2), call.whole(3));
     let (netid, address) = (call.word(3).as_bytes(), call.word(4).as_bytes());
     let owner = owner_of(call);
@@ -90,7 +90,7 @@ pub fn told(rt: &HostRuntime, case: &Case<'_>) -> Option<String> {
     for words in calls.split('\n') {
         let call = Case::read(alloc, words)?;
         let before = call.refuse(alloc, rt)?;
-        let answer = answer(alloc, &mut directory, &call);
+        let answer = made(alloc, &mut directory, &call);
         let met = allow(rt, before);
         told.push_str(" ").ok()?;
         told.push_str(line(alloc, met, &answer).as_str()).ok()?;
