@@ -61,7 +61,8 @@ struct Taken<'a> {
 
 impl<'a> Sink for Taken<'a> {
     fn write(&mut self, piece: &[u8]) -> Result<usize, SinkFault> {
-        match self.wanted {
+        let wanted = self.wanted;
+        match wanted {
             Some(wanted) if wanted != piece => Err(SinkFault),
             Some(_) => {
                 self.wanted = Some(&[]);
