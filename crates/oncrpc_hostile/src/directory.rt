@@ -10,6 +10,7 @@ use crate::registry::Registry;
 use crate::told::line;
 use rpc_directory::{Directory, NoMemory, Row, Uaddr, read_uaddr, write_uaddr};
 use std::alloc::Global;
+use std::env::Env;
 use std::hash::BuildHasherDefault;
 use xdr_types::Value;
 
@@ -80,6 +81,18 @@ fn found<'a>(directory: &'a Registry, call: &Case<'a>) -> Answer<'a> {
     }
 }
 
+// The line of a call that is made.
+fn line_of(
+    alloc: Global,
+    rt: &impl Env,
+    directory: &mut Registry,
+    call: &Case<'_>,
+    before: u64,
+) -> String {
+    let answer = made(alloc, directory, call);
+    line(alloc, allow(rt, before), &answer)
+}
+
 /// What is told of the case: how many growths each call met and what it answered, with a semicolon behind it.
 pub fn told(rt: &HostRuntime, case: &Case<'_>) -> Option<String> {
     let alloc = rt.alloc();
@@ -90,10 +103,9 @@ pub fn told(rt: &HostRuntime, case: &Case<'_>) -> Option<String> {
     for words in calls.split('\n') {
         let call = Case::read(alloc, words)?;
         let before = call.refuse(alloc, rt)?;
-        let answer = made(alloc, &mut directory, &call);
-        let met = allow(rt, before);
+        let line = line_of(alloc, rt, &mut directory, &call, before);
         told.push_str(" ").ok()?;
-        told.push_str(line(alloc, met, &answer).as_str()).ok()?;
+        told.push_str(line.as_str()).ok()?;
         told.push_str(";").ok()?;
     }
     Some(told)
