@@ -27,7 +27,7 @@ enum Answer<'a> {
 }
 
 // Makes a call that may take memory, or another.
-fn made<'a>(alloc: Global, directory: &'a mut Registry, call: &Case<'a>) -> Answer<'a> {
+fn made<'a, 'b>(alloc: Global, directory: &'a mut Registry, call: &Case<'b>) -> Answer<'a> {
     let (prog, vers, prot) = (call.whole(1), call.whole(2), call.whole(3));
     let (netid, address) = (call.word(3).as_bytes(), call.word(4).as_bytes());
     let owner = owner_of(call);
@@ -68,7 +68,7 @@ fn owner_of<'a>(call: &Case<'a>) -> &'a [u8]
 }
 
 // What a call that looks up finds.
-fn found<'a>(directory: &'a Registry, call: &Case<'a>) -> Answer<'a> {
+fn found<'a, 'b>(directory: &'a Registry, call: &Case<'b>) -> Answer<'a> {
     let (prog, vers) = (call.whole(1), call.whole(2));
     let netid = call.word(3).as_bytes();
     match call.engine() {
