@@ -248,12 +248,12 @@ def refused_value_cases():
 
 
 def shown_so(text, name, digits, lines):
-    """The lines of the value that the bytes encode, and of the bytes themselves."""
-    given = octets(digits)
-    kind = {"name": name, "text": text, "given": given}
-    yield Case("show", **kind), lambda told: (told.answer, told.streams) == ('"Ok"', [lines])
+    """The lines of the value that the bytes encode, and of their digits, which are hexadecimal."""
+    given, kind = octets(digits), {"name": name, "text": text}
+    yield Case("show", given=given, **kind), lambda told: (told.answer, told.streams) == ('"Ok"', [lines])
     printed = "0", [lines + b"ok %d\n" % len(given), b""]
-    yield Case("task", setting=1, **kind), lambda told: (told.answer, told.streams) == printed
+    case = Case("task", setting=5, given=digits.encode(), **kind)
+    yield case, lambda told: (told.answer, told.streams) == printed
 
 
 def shown_cases():
