@@ -2,8 +2,8 @@
  * 1833), for C and C++.
  *
  * Each function answers a status, one of the ONCRPC_ numbers below, and fills what the caller lends. What it promises
- * is the contract of the function of that name in the src of crates/oncrpc_c, crates/rpc_c, crates/registry_c or
- * crates/records_c, which a prover has accepted; these comments retell it.
+ * is the contract of the function of that name in the src of crates/c_values, crates/c_messages, crates/c_registry or
+ * crates/c_records, which a prover has accepted; these comments retell it.
  *
  * POINTERS. A pointer to bytes with a count beside it leads to so many bytes, and is not null, also where the count is
  * 0. Nothing else may write those bytes while the call runs. What a call fills (an outcome, a room, a handle) overlaps

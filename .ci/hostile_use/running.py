@@ -1,4 +1,4 @@
-"""Cases as lines for 'oncrpc_hostile', and what it told of each."""
+"""Cases as lines for 'tool_probe', and what it told of each."""
 import collections
 import os
 import subprocess
@@ -6,7 +6,7 @@ import subprocess
 from .rows import octets
 
 ROOT = os.path.dirname(os.path.dirname(os.path.dirname(os.path.realpath(__file__))))
-PROGRAM = os.environ.get("HOSTILE", f"{ROOT}/crates/oncrpc_hostile/out/oncrpc_hostile")
+PROGRAM = os.environ.get("HOSTILE", f"{ROOT}/crates/tool_probe/out/tool_probe")
 # How many streams an engine's line tells at its end.
 STREAMS_OF = {"normalise": 1, "reader": 1, "task": 2, "info": 3, "connections": 3, "serve": 2, "answer": 1}
 STREAMS_OF.update(datagrams=3, asking=3, exchange=1, encode_to=1, encode=1, show=1, mark=1)

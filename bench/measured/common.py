@@ -9,7 +9,7 @@ ROOT = os.path.dirname(os.path.dirname(os.path.dirname(os.path.realpath(__file__
 OURS = f"{ROOT}/crates/oncrpc/out/oncrpc"
 # (./build-library leaves it there)
 ARCHIVE = f"{ROOT}/library/liboncrpc.a"
-CALLS_OF_OURS = f"{ROOT}/crates/oncrpc_bench/out/oncrpc_bench"
+CALLS_OF_OURS = f"{ROOT}/crates/tool_bench/out/tool_bench"
 
 
 def wall(words, given, runs=5):

@@ -4,7 +4,7 @@ use Rattle.std.proofs.Common.{Bool, true, false, ◌==◌, if◌then◌else◌, 
 use Rattle.std.proofs.Common.{arith, length-append, codes, decimal}
 use Rattle.xdr_io.specs.Told.{Counts}
 use Rattle.xdr_io.proofs.Chained.{Appends-none, Appends-trans, Counts-trans, Counts-none}
-use Rattle.rpc_rows.specs.Rows.{Row}
+use Rattle.registry_rows.specs.Rows.{Row}
 use Rattle.rpc_engine.specs.declared.fault.DatagramFault.TheVariants as fault
 use Rattle.rpc_engine.specs.Datagrams.{ServesDatagrams, StopsDatagrams, receives_failed, sends_failed}
 use Rattle.oncrpc_tasks.specs.declared.failure.Failure.{Failure}

@@ -7,8 +7,8 @@ use Rattle.std.specs.Io.KnownBytes.{Appends}
 use Rattle.xdr_io.specs.Told.{Counts}
 use Rattle.xdr_io.proofs.Chained.{Appends-trans, Counts-trans, Counts-none}
 use Rattle.rpc_record.specs.declared.fault.RecordFault.TheVariants as flaw
-use Rattle.rpc_rows.specs.Rows.{Row}
-use Rattle.rpc_rows.specs.Ports.{tcp}
+use Rattle.registry_rows.specs.Rows.{Row}
+use Rattle.registry_rows.specs.Ports.{tcp}
 use Rattle.rpc_engine.specs.declared.fault.ServeFault.TheVariants as fault
 use Rattle.rpc_engine.specs.Served.{Serves, Stops}
 use Rattle.oncrpc_service.specs.Listening.{Arrives}

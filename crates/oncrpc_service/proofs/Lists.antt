@@ -8,10 +8,10 @@ use Rattle.xdr_types.specs.Tree as value
 use Rattle.xdr_types.specs.Tree.{Head, Values, Tree, from_list}
 use Rattle.xdr_types.specs.Fits.{fits, fit, is_legal, parts}
 use Rattle.xdr_types.proofs.Unique.{both}
-use Rattle.rpc_rows.specs.Rows.{Row, row_of}
-use Rattle.rpc_dumps.specs.Dir.{dir_kinds}
-use Rattle.rpc_dumps.specs.Dumps.{content, linked, number, rpcb_list, rpcb_tree}
-use Rattle.rpc_answer.proofs.Begun.{none_of}
+use Rattle.registry_rows.specs.Rows.{Row, row_of}
+use Rattle.registry_dumps.specs.Dir.{dir_kinds}
+use Rattle.registry_dumps.specs.Dumps.{content, linked, number, rpcb_list, rpcb_tree}
+use Rattle.registry_answer.proofs.Begun.{none_of}
 use Rattle.oncrpc_service.specs.Rows.{Mapping, mapping_tree, pmap_list, words, row_line, mapping_line}
 use Rattle.oncrpc_service.specs.Private.Nodes.{field_text, fields_line, item_line, list_lines}
 

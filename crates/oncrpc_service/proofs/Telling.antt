@@ -6,8 +6,8 @@ use Rattle.std.proofs.lemmas.Bool.Decides.{eqb_tells}
 use Rattle.xdr_types.specs.Tree.{Tree}
 use Rattle.xdr_types.specs.Spelling.{bytes_of}
 use Rattle.xdr_types.specs.Within.{FitsWithin}
-use Rattle.rpc_dumps.specs.Dir.{dir_kinds}
-use Rattle.rpc_dumps.specs.Dumps.{dump_limits}
+use Rattle.registry_dumps.specs.Dir.{dir_kinds}
+use Rattle.registry_dumps.specs.Dumps.{dump_limits}
 use Rattle.oncrpc_service.specs.Rows.{header}
 use Rattle.oncrpc_service.specs.Private.Nodes.{list_lines}
 use Rattle.xdr_stream.specs.declared.fault.DecodeFault.{DecodeFault}

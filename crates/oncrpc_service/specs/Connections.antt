@@ -2,8 +2,8 @@
 use Rattle.std.specs.Prelude.{◌≡◌, ℕ, List, [], ◌∷◌, ◌++◌, codes, decimal, Option, Result, Ok, Err}
 use Rattle.rpc_record.specs.declared.fault.RecordFault.{RecordFault}
 use Rattle.rpc_record.specs.declared.fault.RecordFault.TheVariants as flaw
-use Rattle.rpc_rows.specs.Rows.{Row}
-use Rattle.rpc_rows.specs.Ports.{tcp}
+use Rattle.registry_rows.specs.Rows.{Row}
+use Rattle.registry_rows.specs.Ports.{tcp}
 use Rattle.rpc_engine.specs.declared.fault.ServeFault.{ServeFault}
 use Rattle.rpc_engine.specs.declared.fault.ServeFault.TheVariants as fault
 use Rattle.rpc_engine.specs.declared.fault.Served.{Served}

@@ -1,7 +1,7 @@
 -- Datagrams that were answered one after another, and their lines.
 use Rattle.std.specs.Prelude.{◌≡◌, ℕ, ◌==◌, List, [], ◌∷◌, ◌++◌, codes, decimal, Option, Result, Ok, Err, if◌then◌else◌}
 use Rattle.xdr_io.specs.Told.{Counts}
-use Rattle.rpc_rows.specs.Rows.{Row}
+use Rattle.registry_rows.specs.Rows.{Row}
 use Rattle.rpc_engine.specs.declared.fault.DatagramFault.{DatagramFault}
 use Rattle.rpc_engine.specs.declared.fault.DatagramFault.TheVariants as fault
 use Rattle.rpc_engine.specs.declared.fault.Served.{Served}

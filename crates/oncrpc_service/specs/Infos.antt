@@ -15,9 +15,9 @@ use Rattle.rpc_message.specs.declared.fault.ReplyFault.TheVariants as why
 use Rattle.rpc_message.specs.Message.{CallView, ReplyView, StatusView, WhyView, Accepted, Denied, Success, ProgUnavail}
 use Rattle.rpc_message.specs.Message.{ProgMismatch, ProcUnavail, GarbageArgs, SystemErr, RpcMismatch, AuthError}
 use Rattle.rpc_message.specs.View.{reply_view}
-use Rattle.rpc_rows.specs.Rows.{Row}
-use Rattle.rpc_dumps.specs.Dir.{dir_kinds}
-use Rattle.rpc_dumps.specs.Dumps.{dump_limits, rpcb_list}
+use Rattle.registry_rows.specs.Rows.{Row}
+use Rattle.registry_dumps.specs.Dir.{dir_kinds}
+use Rattle.registry_dumps.specs.Dumps.{dump_limits, rpcb_list}
 use Rattle.rpc_engine.specs.declared.fault.ClientFault.{ClientFault}
 use Rattle.rpc_engine.specs.declared.fault.ClientFault.TheVariants as fault
 use Rattle.oncrpc_tasks.specs.declared.answer.Answer.TheVariants as answer

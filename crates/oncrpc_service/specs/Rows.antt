@@ -2,8 +2,8 @@
 use Rattle.std.specs.Prelude.{ℕ, List, [], ◌∷◌, ◌++◌, ◌==◌, map, flat_map, codes, decimal, if◌then◌else◌}
 use Rattle.xdr_types.specs.Tree.{Tree}
 use Rattle.xdr_show.specs.Line.{escaped}
-use Rattle.rpc_rows.specs.Rows.{Row}
-use Rattle.rpc_dumps.specs.Dumps.{mapping_of, linked}
+use Rattle.registry_rows.specs.Rows.{Row}
+use Rattle.registry_dumps.specs.Dumps.{mapping_of, linked}
 
 -- a row of version 2 (RFC 1833 section 3.1)
 pub record Mapping : Type 0 where

@@ -2,7 +2,7 @@
 use Rattle.std.specs.Prelude.{◌≡◌, ◌⊎◌, ℕ, ◌≤◌, ◌<◌, List, length, Option, Result, Ok, Err}
 use Rattle.std.specs.Io.KnownBytes.{Appends}
 use Rattle.xdr_io.specs.Told.{Counts}
-use Rattle.rpc_rows.specs.Rows.{Row}
+use Rattle.registry_rows.specs.Rows.{Row}
 use Rattle.oncrpc_service.specs.declared.serving.Stop.{Stop}
 use Rattle.oncrpc_service.specs.declared.serving.Stop.TheVariants as stop
 use Rattle.oncrpc_service.specs.Connections.{Outcome, ServesEach, ServesNext, connection_line, printed}

@@ -4,7 +4,7 @@ ghost use Rattle.std.specs.Io.KnownBytes.{Appends};
 ghost use Rattle.xdr_types.specs.View.{tree};
 ghost use Rattle.xdr_io.specs.Told.{Counts};
 ghost use Rattle.rpc_message.specs.View.{auth_view, call_view, reply_view, status_view};
-ghost use Rattle.rpc_dumps.specs.Dumps.{dump_limits};
+ghost use Rattle.registry_dumps.specs.Dumps.{dump_limits};
 ghost use Rattle.oncrpc_tasks.specs.Lines.{line};
 ghost use Rattle.oncrpc_service.specs.DatagramEnds.{desk_of};
 ghost use Rattle.oncrpc_service.specs.InfoEnds.{AnswerEnds, DatagramInfoEnds, InfoEnds, TellsInPart};

@@ -3,11 +3,11 @@ use Rattle.std.proofs.Common.{◌≡◌, ℕ, ◌<◌, ◌≤◌, ◌/◌, ◌%�
 use Rattle.std.proofs.Common.{nat_le, decimal, arith, ◌+◌, ◌*◌, mod-lt}
 use Rattle.std.proofs.lemmas.List.{length-append}
 use Rattle.std.proofs.lemmas.Fmt.{length-decimal-le, decimal_nonempty}
-use Rattle.rpc_rows.specs.Rows.{Row}
-use Rattle.rpc_rows.specs.Steps.{Step, set, is_empty}
-use Rattle.rpc_rows.specs.Ports.{at_port, tcp, udp}
+use Rattle.registry_rows.specs.Rows.{Row}
+use Rattle.registry_rows.specs.Steps.{Step, set, is_empty}
+use Rattle.registry_rows.specs.Ports.{at_port, tcp, udp}
 use Rattle.rpc_directory.specs.Private.Own.{own_row, set_both}
-pub use Rattle.rpc_rows.proofs.Removed.{not_empty as is_empty-not}
+pub use Rattle.registry_rows.proofs.Removed.{not_empty as is_empty-not}
 
 module _ (address : List ℕ) (some : is_empty address ≡ false) (fits : nat_le (length address) 256 ≡ true) where
   abbrev pub over_tcp : ℕ → Row

@@ -1,9 +1,9 @@
 -- Two unsets are the one of both transports.
 use Rattle.std.proofs.Common.{◌≡◌, ℕ, Bool, true, false, not, ◌||◌, cond, List, [], ◌∷◌, refl, ap, ◌∙◌, filter}
 use Rattle.std.specs.List.{list_any}
-use Rattle.rpc_rows.specs.Rows.{Row}
-use Rattle.rpc_rows.specs.Steps.{unset, is_unset}
-use Rattle.rpc_rows.specs.Ports.{unset_port, tcp, udp}
+use Rattle.registry_rows.specs.Rows.{Row}
+use Rattle.registry_rows.specs.Steps.{unset, is_unset}
+use Rattle.registry_rows.specs.Ports.{unset_port, tcp, udp}
 
 module _ {X : Type 0} (s t : X → Bool) where
   filter_twice : (xs : List X)

@@ -3,20 +3,20 @@ ghost use Rattle.std.specs.Prelude.{◌≡◌, ◌≤◌, [], length, false, OnE
 ghost use Rattle.std.specs.Prelude.{OnOk, is_some};
 ghost use Rattle.std.specs.List.{list_any};
 ghost use Rattle.std.specs.Option.{option_map_or};
-ghost use Rattle.rpc_rows.specs.LookUp as looking;
-ghost use Rattle.rpc_rows.specs.Steps as step;
-ghost use Rattle.rpc_rows.specs.Ports as ports;
-ghost use Rattle.rpc_rows.specs.Rows.{row_of, is_at, IsRow, IsRegistry};
-ghost use Rattle.rpc_rows.specs.Views.{plain_row};
+ghost use Rattle.registry_rows.specs.LookUp as looking;
+ghost use Rattle.registry_rows.specs.Steps as step;
+ghost use Rattle.registry_rows.specs.Ports as ports;
+ghost use Rattle.registry_rows.specs.Rows.{row_of, is_at, IsRow, IsRegistry};
+ghost use Rattle.registry_rows.specs.Views.{plain_row};
 ghost use Rattle.xdr_types.specs.Within.{FitsWithin};
-ghost use Rattle.rpc_dumps.specs.Dir.{dir_kinds};
-ghost use Rattle.rpc_dumps.specs.Dumps.{rpcb_list, mapping_list, dump_limits};
+ghost use Rattle.registry_dumps.specs.Dir.{dir_kinds};
+ghost use Rattle.registry_dumps.specs.Dumps.{rpcb_list, mapping_list, dump_limits};
 ghost use Rattle.rpc_directory.specs.Private.Own.{set_both};
 
 use crate::ports::any_host;
 use indexmap::IndexMap;
-use rpc_rows::{Key, Row, append, find, look_up, remove_all, remove_one};
-use rpc_uaddr::NoMemory;
+use registry_rows::{Key, Row, append, find, look_up, remove_all, remove_one};
+use registry_uaddr::NoMemory;
 use std::alloc::Global;
 use std::hash::BuildHasher;
 use std::marker::Model;
@@ -29,8 +29,8 @@ pub struct Directory<S: BuildHasher> {
 
 impl<S: BuildHasher> Model for Directory<S> {
     ghost use Rattle.std.specs.Prelude.{List};
-    ghost use Rattle.rpc_rows.specs.Rows.{Row as PlainRow};
-    ghost use Rattle.rpc_rows.specs.Views.{plain_rows, AreEntries};
+    ghost use Rattle.registry_rows.specs.Rows.{Row as PlainRow};
+    ghost use Rattle.registry_rows.specs.Views.{plain_rows, AreEntries};
 
     ghost Value = { List PlainRow };
 

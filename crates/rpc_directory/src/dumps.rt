@@ -2,16 +2,16 @@
 ghost use Rattle.std.specs.Prelude.{◌≡◌, IfOk, option_map};
 ghost use Rattle.xdr_types.specs.View.{tree};
 ghost use Rattle.xdr_types.specs.Within.{FitsWithin};
-ghost use Rattle.rpc_rows.specs.Rows.{IsRegistry};
-ghost use Rattle.rpc_rows.specs.Views.{plain_row};
-ghost use Rattle.rpc_dumps.specs.Dir.{dir_kinds};
-ghost use Rattle.rpc_dumps.specs.Dumps.{rpcb_list, mapping_list, dump_limits};
+ghost use Rattle.registry_rows.specs.Rows.{IsRegistry};
+ghost use Rattle.registry_rows.specs.Views.{plain_row};
+ghost use Rattle.registry_dumps.specs.Dir.{dir_kinds};
+ghost use Rattle.registry_dumps.specs.Dumps.{rpcb_list, mapping_list, dump_limits};
 ghost use Rattle.rpc_directory.specs.Private.Listings.{item_of, list_of};
 
 use crate::directory::Directory;
-use rpc_dumps::{linked, mapping, rpcb};
-use rpc_rows::Row;
-use rpc_uaddr::NoMemory;
+use registry_dumps::{linked, mapping, rpcb};
+use registry_rows::Row;
+use registry_uaddr::NoMemory;
 use std::alloc::Global;
 use std::hash::BuildHasher;
 use xdr_types::Value;

@@ -6,6 +6,6 @@ mod dumps;
 mod ports;
 
 pub use directory::Directory;
-pub use rpc_dumps::directory_schema;
-pub use rpc_rows::Row;
-pub use rpc_uaddr::{NoMemory, Uaddr, read_uaddr, write_uaddr};
+pub use registry_dumps::directory_schema;
+pub use registry_rows::Row;
+pub use registry_uaddr::{NoMemory, Uaddr, read_uaddr, write_uaddr};

@@ -1,9 +1,9 @@
 //! The calls of version 2, which name a transport by its number.
 ghost use Rattle.std.specs.Prelude.{◌≡◌, ◌≤◌, ◌<◌, length, false, OnErr, IfOk, option_map};
-ghost use Rattle.rpc_rows.specs.Ports as ports;
+ghost use Rattle.registry_rows.specs.Ports as ports;
 
 use crate::directory::Directory;
-use rpc_uaddr::{NoMemory, Uaddr, read_uaddr, write_uaddr};
+use registry_uaddr::{NoMemory, Uaddr, read_uaddr, write_uaddr};
 use std::alloc::Global;
 use std::hash::BuildHasher;
 

@@ -2,9 +2,9 @@
 use Rattle.std.proofs.Common.{◌≡◌, ℕ, ◌+◌, ◌<◌, ◌^◌, Bool, true, false, List, [], ◌∷◌, ◌++◌, length, Option, Some, None}
 use Rattle.std.proofs.Common.{refl, sym, subst, length-append, arith, cond, Ok}
 use Rattle.std.proofs.lemmas.List.{append-nil, length_push}
-use Rattle.rpc_rows.specs.Rows.{Row}
-use Rattle.rpc_rows.specs.Ports.{udp}
-use Rattle.rpc_answer.specs.Answer.{Answer}
+use Rattle.registry_rows.specs.Rows.{Row}
+use Rattle.registry_rows.specs.Ports.{udp}
+use Rattle.registry_answer.specs.Answer.{Answer}
 use Rattle.rpc_engine.specs.Run.{listed}
 use Rattle.rpc_engine.specs.Ports.{Told, Receives, Sends}
 use Rattle.rpc_engine.specs.Datagrams.{Finishes, ServesDatagrams, NotReceived, NotSent}

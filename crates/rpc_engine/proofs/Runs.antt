@@ -3,9 +3,9 @@ use Rattle.std.proofs.Common.{◌≡◌, ℕ, List, [], ◌∷◌, ◌++◌, Boo
 use Rattle.std.proofs.Common.{arith}
 use Rattle.std.proofs.lemmas.List.{append-nil}
 use Rattle.rpc_message.specs.Cases.{NoTwoCases}
-use Rattle.rpc_rows.specs.Rows.{Row}
-use Rattle.rpc_answer.specs.Answer.{Answer}
-use Rattle.rpc_answer.proofs.Cases.{silent}
+use Rattle.registry_rows.specs.Rows.{Row}
+use Rattle.registry_answer.specs.Answer.{Answer}
+use Rattle.registry_answer.proofs.Cases.{silent}
 use Rattle.rpc_engine.specs.Run.{Run, listed}
 use Rattle.rpc_engine.specs.Laws.{RunsJoin}
 

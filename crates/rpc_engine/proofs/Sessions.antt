@@ -6,10 +6,10 @@ use Rattle.std.proofs.lemmas.List.{append-nil, length_push}
 use Rattle.std.specs.Io.KnownBytes.{Appends}
 use Rattle.xdr_io.proofs.Chained.{Appends-none}
 use Rattle.xdr_io.specs.declared.whole.Cut.{Cut}
-use Rattle.rpc_rows.specs.Rows.{Row}
+use Rattle.registry_rows.specs.Rows.{Row}
 use Rattle.rpc_record.specs.Marked.{fragment, normal, FragmentLength}
 use Rattle.rpc_record.specs.Reading.{capped}
-use Rattle.rpc_answer.specs.Answer.{Answer}
+use Rattle.registry_answer.specs.Answer.{Answer}
 use Rattle.rpc_engine.specs.declared.fault.ServeFault.{ServeFault}
 use Rattle.rpc_engine.specs.declared.fault.ServeFault.TheVariants as fault
 use Rattle.rpc_engine.specs.declared.session.Session.{Session}

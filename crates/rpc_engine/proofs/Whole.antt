@@ -5,7 +5,7 @@ use Rattle.std.proofs.lemmas.List.{append-nil}
 use Rattle.std.specs.Io.KnownBytes.{Keeps, Appends, Consumes, IsAtEnd}
 use Rattle.xdr_io.proofs.Chained.{Appends-trans, Appends-none, Consumes-trans, Consumes-none, Consumes-kept}
 use Rattle.xdr_io.proofs.Chained.{Consumes-at_end, take_past}
-use Rattle.rpc_rows.specs.Rows.{Row}
+use Rattle.registry_rows.specs.Rows.{Row}
 use Rattle.rpc_record.specs.declared.fault.RecordFault.{RecordFault}
 use Rattle.rpc_record.specs.declared.fault.RecordFault.TheVariants as flaw
 use Rattle.rpc_record.specs.declared.reader.RecordReader.{RecordReader}

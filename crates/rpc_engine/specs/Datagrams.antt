@@ -1,8 +1,8 @@
 -- What serving datagrams has received, done and sent (RFC 5531 section 9, RFC 1833 sections 2 and 3).
 use Rattle.std.specs.Prelude.{◌≡◌, ℕ, ◌<◌, List, [], ◌∷◌, length, Bool, Some}
-use Rattle.rpc_rows.specs.Rows.{Row}
-use Rattle.rpc_rows.specs.Ports.{udp}
-use Rattle.rpc_answer.specs.Answer.{Answer}
+use Rattle.registry_rows.specs.Rows.{Row}
+use Rattle.registry_rows.specs.Ports.{udp}
+use Rattle.registry_answer.specs.Answer.{Answer}
 use Rattle.rpc_engine.specs.declared.fault.DatagramFault.{DatagramFault}
 use Rattle.rpc_engine.specs.declared.fault.DatagramFault.TheVariants as fault
 use Rattle.rpc_engine.specs.declared.fault.Served.{Served}

@@ -1,6 +1,6 @@
 -- Laws of the run, of an exchange and of a message.
 use Rattle.std.specs.Prelude.{◌≡◌, ℕ, List, ◌++◌, Bool}
-use Rattle.rpc_rows.specs.Rows.{Row}
+use Rattle.registry_rows.specs.Rows.{Row}
 use Rattle.rpc_engine.specs.Run.{Run}
 use Rattle.rpc_engine.specs.DatagramExchange.{MessageCase, IsMessageCase}
 use Rattle.rpc_engine.specs.Exchanged.{Outcome, Truncated, IsOutcome}

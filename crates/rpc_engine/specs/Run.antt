@@ -1,7 +1,7 @@
 -- A run of the registry along records (RFC 5531 sections 9 and 11).
 use Rattle.std.specs.Prelude.{◌≡◌, ℕ, List, [], ◌∷◌, ◌++◌, Bool, Option, Some, None}
-use Rattle.rpc_rows.specs.Rows.{Row}
-use Rattle.rpc_answer.specs.Answer.{Answer}
+use Rattle.registry_rows.specs.Rows.{Row}
+use Rattle.registry_answer.specs.Answer.{Answer}
 
 -- one reply, or none
 abbrev pub listed : Option (List ℕ) → List (List ℕ)

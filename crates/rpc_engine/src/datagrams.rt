@@ -7,7 +7,7 @@ ghost use Rattle.rpc_engine.specs.Private.Replying.{RepliesTo};
 
 use crate::fault::{DatagramFault, Served};
 use crate::port::{DatagramPort, PortFault};
-use rpc_answer::{Appended, Transport, append_answer, system_error};
+use registry_answer::{Appended, Transport, append_answer, system_error};
 use rpc_directory::Directory;
 use std::alloc::Global;
 use std::hash::BuildHasher;

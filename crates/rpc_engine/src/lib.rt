@@ -19,5 +19,5 @@ pub use fault::{ClientFault, DatagramFault, ServeFault, Served};
 pub use laws::{exchanges_have_one_outcome, messages_have_one_case, runs_join};
 pub use memory_port::MemoryPort;
 pub use port::{DatagramPort, PortFault};
-pub use rpc_answer::{Answered, Transport, answer};
+pub use registry_answer::{Answered, Transport, answer};
 pub use server::serve;

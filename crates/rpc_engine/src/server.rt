@@ -2,13 +2,13 @@
 ghost use Rattle.std.specs.Prelude.{◌≡◌, ◌≢◌, [], IfOk, IfErr, OnOk, OnErr, IsErrOf};
 ghost use Rattle.xdr_io.specs.Told.{Counts, CountsAtMost};
 ghost use Rattle.rpc_record.specs.Stands.{IsTaking, IsWaiting};
-ghost use Rattle.rpc_answer.specs.Views.{netid_of};
+ghost use Rattle.registry_answer.specs.Views.{netid_of};
 ghost use Rattle.rpc_engine.specs.Served.{Serves, Stops, WriteFails};
 ghost use Rattle.rpc_engine.specs.Private.Serving.{Answered as AnsweredPiece, CutBy, LostNext, fault_of};
 
 use crate::fault::{ServeFault, Served};
 use crate::session::Session;
-use rpc_answer::Transport;
+use registry_answer::Transport;
 use rpc_directory::Directory;
 use rpc_record::{
     RecordFault, RecordReader, RecordStep, no_record_begins_another, too_long_ends_the_stream,

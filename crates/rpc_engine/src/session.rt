@@ -7,11 +7,11 @@ ghost use Rattle.rpc_engine.specs.Private.Fronts.{front_len, IsSent};
 ghost use Rattle.rpc_message.specs.Message.{SystemErr};
 ghost use Rattle.rpc_message.specs.Spelling.{reply};
 ghost use Rattle.rpc_record.specs.Marked.{header, fragment};
-ghost use Rattle.rpc_answer.specs.Answer.{accepted};
-ghost use Rattle.rpc_answer.specs.Views.{netid_of};
+ghost use Rattle.registry_answer.specs.Answer.{accepted};
+ghost use Rattle.registry_answer.specs.Views.{netid_of};
 
 use crate::fault::{ServeFault, Served};
-use rpc_answer::{Appended, Transport, append_answer};
+use registry_answer::{Appended, Transport, append_answer};
 use rpc_directory::Directory;
 use rpc_record::{last_header, normal_forms_join, write_marked};
 use std::alloc::Global;

@@ -1,8 +1,8 @@
 -- The two lists that a dump may give (RFC 1833 sections 2.2.1 and 3.2).
 use Rattle.std.specs.Prelude.{List, Option, Some}
 use Rattle.xdr_types.specs.Tree.{Tree}
-use Rattle.rpc_rows.specs.Rows.{Row}
-use Rattle.rpc_dumps.specs.Dumps.{rpcb_tree, rpcb_list, mapping_row, mapping_list}
+use Rattle.registry_rows.specs.Rows.{Row}
+use Rattle.registry_dumps.specs.Dumps.{rpcb_tree, rpcb_list, mapping_row, mapping_list}
 use Rattle.rpc_directory.specs.declared.dumps.Listing.{Listing}
 use Rattle.rpc_directory.specs.declared.dumps.Listing.TheVariants.{Rpcbs, Mappings}
 

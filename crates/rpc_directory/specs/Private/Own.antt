@@ -1,8 +1,8 @@
 -- How the registry's own rows are added (RFC 1833 sections 2 and 3).
 use Rattle.std.specs.Prelude.{ℕ, List}
-use Rattle.rpc_rows.specs.Rows.{Row, row_of}
-use Rattle.rpc_rows.specs.Steps.{set, superuser}
-use Rattle.rpc_rows.specs.Ports.{tcp, udp}
+use Rattle.registry_rows.specs.Rows.{Row, row_of}
+use Rattle.registry_rows.specs.Steps.{set, superuser}
+use Rattle.registry_rows.specs.Ports.{tcp, udp}
 
 -- a row of the registry's program
 abbrev pub own_row : (vers : ℕ) → (netid address : List ℕ) → Row

@@ -1,8 +1,8 @@
 -- What answering a datagram does, and what serving datagrams has done so far.
 use Rattle.std.specs.Prelude.{◌≡◌, ℕ, true, false, Bool, List, [], ◌∷◌, length, Some, None, Result, Ok, Err}
-use Rattle.rpc_rows.specs.Rows.{Row}
-use Rattle.rpc_rows.specs.Ports.{udp}
-use Rattle.rpc_answer.specs.Answer.{Answer}
+use Rattle.registry_rows.specs.Rows.{Row}
+use Rattle.registry_rows.specs.Ports.{udp}
+use Rattle.registry_answer.specs.Answer.{Answer}
 use Rattle.rpc_engine.specs.Datagrams.{Finishes}
 use Rattle.rpc_engine.specs.Ports.{Told, Sends}
 

@@ -7,8 +7,8 @@ use Rattle.rpc_record.specs.declared.reader.RecordReader.{RecordReader}
 use Rattle.rpc_record.specs.Marked.{normal, fragment, Longest}
 use Rattle.rpc_record.specs.Reading.{Begins, TooLongAt, HasNoLong, RefusedIn, capped}
 use Rattle.rpc_record.specs.Stands.{Stands, IsTaking, After, Moves, limit_of}
-use Rattle.rpc_rows.specs.Rows.{Row}
-use Rattle.rpc_answer.specs.Answer.{Answer}
+use Rattle.registry_rows.specs.Rows.{Row}
+use Rattle.registry_answer.specs.Answer.{Answer}
 use Rattle.rpc_engine.specs.declared.fault.ServeFault.{ServeFault}
 use Rattle.rpc_engine.specs.declared.fault.ServeFault.TheVariants as fault
 use Rattle.rpc_engine.specs.declared.session.Session.{Session}

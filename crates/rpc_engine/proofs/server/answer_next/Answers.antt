@@ -1,4 +1,4 @@
-use Rattle.rpc_answer.specs.Views.{netid_of}
+use Rattle.registry_answer.specs.Views.{netid_of}
 use Rattle.rpc_record.proofs.Readers.{between_taking}
 use Rattle.rpc_engine.proofs.Pieces.{lost_next_by}
 use Rattle.rpc_engine.proofs.server.answer_next.Goals as goal

@@ -1,7 +1,7 @@
 use Rattle.std.proofs.Common.{◌-◌, ◌++◌, length, take, drop, refl, ap, ◌∙◌, arith}
 use Rattle.std.proofs.lemmas.List.{take_rest, take-append-drop}
 use Rattle.xdr_io.proofs.Chained.{Counts-trans, Counts-none, take-add, length_rest}
-use Rattle.rpc_answer.specs.Views.{netid_of}
+use Rattle.registry_answer.specs.Views.{netid_of}
 use Rattle.rpc_engine.proofs.Pieces.{answered_none, answered_fed, answered_record, answered_trans, cut_fed, cut_lost}
 use Rattle.rpc_engine.proofs.server.answer_piece.Goals as goal
 

@@ -1,6 +1,6 @@
 use Rattle.std.proofs.Common.{◌≤◌, ◌-◌, length, take}
 use Rattle.xdr_io.specs.Told.{Counts}
-use Rattle.rpc_answer.specs.Views.{netid_of}
+use Rattle.registry_answer.specs.Views.{netid_of}
 use Rattle.rpc_engine.specs.Private.Serving.{Answered}
 use Rattle.rpc_engine.proofs.server.answer_piece.Given as goal
 

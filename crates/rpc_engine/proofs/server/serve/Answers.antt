@@ -1,7 +1,7 @@
 use Rattle.std.proofs.Common.{◌+◌, refl, arith}
 use Rattle.std.proofs.lemmas.List.{length-take-le}
 use Rattle.xdr_io.proofs.Chained.{Counts-trans, Counts-none}
-use Rattle.rpc_answer.specs.Views.{netid_of}
+use Rattle.registry_answer.specs.Views.{netid_of}
 use Rattle.rpc_engine.proofs.Whole.{begins, goes_on, stops_cut, stops_read, stops_many, stops_truncated, ends}
 use Rattle.rpc_engine.specs.Served.{most_record}
 use Rattle.rpc_engine.proofs.server.serve.Goals as goal

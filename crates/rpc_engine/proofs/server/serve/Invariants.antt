@@ -1,5 +1,5 @@
 use Rattle.xdr_io.specs.Told.{Counts}
-use Rattle.rpc_answer.specs.Views.{netid_of}
+use Rattle.registry_answer.specs.Views.{netid_of}
 use Rattle.rpc_engine.specs.Served.{most_record}
 use Rattle.rpc_engine.specs.Private.Serving.{Progress}
 use Rattle.rpc_engine.proofs.server.serve.Given as goal

@@ -1,8 +1,8 @@
 use Rattle.std.proofs.Common.{subst, sym}
 use Rattle.xdr_types.specs.Within.{FitsWithin}
-use Rattle.rpc_dumps.specs.Dir.{dir_kinds}
-use Rattle.rpc_dumps.specs.Dumps.{dump_limits}
-use Rattle.rpc_dumps.proofs.Fitting.{dump_ports_fits}
+use Rattle.registry_dumps.specs.Dir.{dir_kinds}
+use Rattle.registry_dumps.specs.Dumps.{dump_limits}
+use Rattle.registry_dumps.proofs.Fitting.{dump_ports_fits}
 use Rattle.rpc_directory.proofs.directory.Directory.dump_ports.Goals as goal
 
 pub returns-clause-fits : goal.returns-clause-fits

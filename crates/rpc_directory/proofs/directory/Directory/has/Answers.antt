@@ -1,6 +1,6 @@
 use Rattle.std.proofs.Common.{ap, sym, ◌∙◌, is_some}
-use Rattle.rpc_rows.specs.Rows.{is_at}
-use Rattle.rpc_rows.proofs.Keyed.{find_is_any}
+use Rattle.registry_rows.specs.Rows.{is_at}
+use Rattle.registry_rows.proofs.Keyed.{find_is_any}
 use Rattle.xdr_units.proofs.Found.{is_some-map}
 use Rattle.rpc_directory.proofs.directory.Directory.has.Goals as goal
 

@@ -1,7 +1,7 @@
 use Rattle.std.proofs.Common.{◌≡◌, ◌∙◌, ap, sym, arith, option_map, ◌-◌, drop, ℕ}
 use Rattle.xdr_types.specs.View.{tree}
-use Rattle.rpc_rows.specs.Views.{plain_row}
-use Rattle.rpc_dumps.proofs.Steps.{none_past}
+use Rattle.registry_rows.specs.Views.{plain_row}
+use Rattle.registry_dumps.proofs.Steps.{none_past}
 use Rattle.rpc_directory.specs.Private.Listings.{list_of}
 use Rattle.rpc_directory.proofs.Listed.{list_more, list_less}
 use Rattle.rpc_directory.proofs.directory.Directory.list.Goals as goal

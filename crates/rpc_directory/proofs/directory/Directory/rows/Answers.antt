@@ -1,7 +1,7 @@
 use Rattle.std.proofs.Common.{subst}
-use Rattle.rpc_rows.specs.Rows.{IsRegistry}
-use Rattle.rpc_rows.proofs.Twice.{registry}
-use Rattle.rpc_dumps.proofs.Fitting.{dump_fits, dump_ports_fits}
+use Rattle.registry_rows.specs.Rows.{IsRegistry}
+use Rattle.registry_rows.proofs.Twice.{registry}
+use Rattle.registry_dumps.proofs.Fitting.{dump_fits, dump_ports_fits}
 use Rattle.rpc_directory.proofs.directory.Directory.rows.Goals as goal
 
 pub returns-clause-registry : goal.returns-clause-registry

@@ -1,5 +1,5 @@
 use Rattle.std.proofs.Common.{ap, ◌∙◌, List, ℕ}
-use Rattle.rpc_rows.specs.Ports.{at_port}
+use Rattle.registry_rows.specs.Ports.{at_port}
 use Rattle.std.proofs.lemmas.Bool.{le-leb}
 use Rattle.rpc_directory.specs.Private.Own.{set_both}
 use Rattle.rpc_directory.proofs.Own.{own_set, length-at_port, is_empty-not}

@@ -1,6 +1,6 @@
 use Rattle.std.proofs.Common.{◌∙◌}
-use Rattle.rpc_rows.specs.Steps.{is_unset}
-use Rattle.rpc_rows.proofs.Filtered.{none_without}
+use Rattle.registry_rows.specs.Steps.{is_unset}
+use Rattle.registry_rows.proofs.Filtered.{none_without}
 use Rattle.rpc_directory.proofs.directory.Directory.unset.Goals as goal
 
 pub returns-then-is_empty-clause-refused : goal.returns-then-is_empty-clause-refused

@@ -1,5 +1,5 @@
 use Rattle.std.proofs.Common.{◌≡◌, length, true, false, subst}
-use Rattle.rpc_answer.specs.Views.{netid_of}
+use Rattle.registry_answer.specs.Views.{netid_of}
 use Rattle.rpc_engine.specs.declared.session.Session.{Session}
 use Rattle.rpc_engine.specs.Private.Fronts.{front_len, IsSent}
 use Rattle.rpc_engine.proofs.Sessions.{does_silent, does_reply, loses_reply, front_is}

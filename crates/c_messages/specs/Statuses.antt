@@ -1,0 +1,13 @@
+-- How C sees what writing came to.
+use Rattle.std.specs.Prelude.{ℕ}
+use Rattle.c_messages.specs.declared.answer.Answer.{Answer}
+use Rattle.c_messages.specs.declared.answer.Answer.TheVariants as answer
+
+abbrev pub status_of : Answer → ℕ
+status_of answer.Whole = 0
+status_of answer.NoMemory = 6
+status_of answer.NoRoom = 8
+status_of answer.BadCredential = 11
+status_of answer.BadVerifier = 12
+status_of answer.BadStatus = 15
+status_of answer.NoAuthSys = 17

@@ -1,0 +1,212 @@
+//! Replies read and written (RFC 5531 section 9).
+ghost use Rattle.std.specs.Prelude.{◌≡◌, ◌⊎◌, Result};
+ghost use Rattle.rpc_message.specs.Message.{ReplyView};
+ghost use Rattle.rpc_message.specs.Spelling.{ReplyBytes};
+ghost use Rattle.rpc_message.specs.View.{reply_view, status_view, HasShortVerf};
+ghost use Rattle.rpc_message.specs.declared.fault.ReplyFault.{ReplyFault as FaultSpec};
+ghost use Rattle.c_messages.specs.Parts.{LiesAt};
+ghost use Rattle.c_messages.specs.Replies.{bare, with_status, told_of, fault_status, outcome_status, outcome_told};
+ghost use Rattle.c_messages.specs.Replies.{IsOutcome, verifier_of, results_of, IsReplyWritten};
+ghost use Rattle.c_messages.specs.Statuses.{status_of};
+ghost use Rattle.c_messages.specs.declared.answer.Answer.{Answer as AnswerSpec};
+
+use super::answer::Answer;
+use super::asked::reply_asked;
+use super::part::{Part, padded_size};
+use super::room::place;
+use rpc_message::{Reply, ReplyFault, Status, Why, read_reply, write_reply};
+use std::alloc::Global;
+
+/// The greatest count of bytes of a verifier (RFC 5531 section 8.2).
+const MOST_BODY: usize = 400;
+
+/// The last state of an accepted reply, SYSTEM_ERR.
+const MOST_STATUS: u32 = 5;
+
+/// The last state, AUTH_ERROR.
+const MOST_STATE: u32 = 7;
+
+/// What C sees of a reply. Each field that the state does not speak of is 0.
+#[repr(C)]
+#[derive(Clone, Copy, Debug, PartialEq, Eq)]
+pub struct ReplyParts {
+    pub xid: u32,
+    /// The number of an accepted reply's status, 0 to 5, or 6 for RPC_MISMATCH, or 7 for AUTH_ERROR.
+    pub state: u32,
+    pub low: u32,
+    pub high: u32,
+    pub auth_stat: u32,
+    pub verifier_flavor: u32,
+    pub verifier: Part,
+    pub results: Part,
+}
+
+/// A reply of this state without a verifier.
+fn bare(xid: u32, state: u32) -> ReplyParts
+    ensures { result ≡ bare xid state }
+{
+    ReplyParts {
+        xid,
+        state,
+        low: 0,
+        high: 0,
+        auth_stat: 0,
+        verifier_flavor: 0,
+        verifier: Part::none(),
+        results: Part::none(),
+    }
+}
+
+/// What a status adds to the parts of an accepted reply whose results would be at that place.
+fn with_status(parts: ReplyParts, status: &Status, at: usize) -> ReplyParts
+    ensures { result ≡ with_status parts (status_view status.now) at }
+{
+    match status {
+        Status::Success(results) => ReplyParts {
+            results: Part {
+                at,
+                count: results.len(),
+            },
+            ..parts
+        },
+        Status::ProgUnavail => ReplyParts { state: 1, ..parts },
+        Status::ProgMismatch { low, high } => ReplyParts {
+            state: 2,
+            low: *low,
+            high: *high,
+            ..parts
+        },
+        Status::ProcUnavail => ReplyParts { state: 3, ..parts },
+        Status::GarbageArgs => ReplyParts { state: 4, ..parts },
+        Status::SystemErr => ReplyParts { state: 5, ..parts },
+    }
+}
+
+/// All parts of a reply.
+fn told(reply: &Reply) -> ReplyParts
+    requires { HasShortVerf reply.now }
+    ensures { result ≡ told_of (reply_view reply.now) }
+{
+    match reply {
+        Reply::Accepted { xid, verf, status } => {
+            let accepted = ReplyParts {
+                verifier_flavor: verf.flavor,
+                verifier: Part {
+                    at: 20,
+                    count: verf.body.len(),
+                },
+                ..bare(*xid, 0)
+            };
+            with_status(accepted, status, 24 + padded_size(verf.body.len()))
+        }
+        Reply::Denied {
+            xid,
+            why: Why::RpcMismatch { low, high },
+        } => ReplyParts {
+            low: *low,
+            high: *high,
+            ..bare(*xid, 6)
+        },
+        Reply::Denied {
+            xid,
+            why: Why::AuthError(stat),
+        } => ReplyParts {
+            auth_stat: *stat,
+            ..bare(*xid, 7)
+        },
+    }
+}
+
+/// The number that C sees of a fault.
+fn fault_status(fault: ReplyFault) -> u32
+    ensures { result ≡ fault_status fault }
+{
+    match fault {
+        ReplyFault::NoMemory => 6,
+        ReplyFault::BadAuth => 12,
+        ReplyFault::Truncated => 13,
+        ReplyFault::NotAReply => 14,
+        ReplyFault::BadStatus => 15,
+        ReplyFault::Rest => 16,
+    }
+}
+
+/// Reads the bytes as a reply, and tells its numbers and where its parts lie (RFC 5531 sections 8.2 and 9).
+///
+/// Status 0: they are a reply, all of them; its fields are filled. Else the first fault in the order of the bytes: 13:
+/// they end inside of a number or of the verifier. 14: the second number is not 1, REPLY. 15: a status that there is
+/// not. 12: the verifier is too long, or has padding that is not zero. 16: bytes follow a reply without results. 6:
+/// memory was refused. At all but 0 each field is 0.
+#[unsafe(no_mangle)]
+pub extern "C" fn oncrpc_reply_read(alloc: Global, input: &[u8], reply: &mut ReplyParts) -> u32
+    // A reply that is told has these bytes, and a fault names what stands in them.
+    ensures found { (a : Result ReplyView FaultSpec) × IsOutcome input.now a × (result ≡ outcome_status a)
+        × (reply.new ≡ outcome_told a) }
+    // A reply that the bytes are is told, unless memory was refused.
+    ensures only { (r : ReplyView) → ReplyBytes r input.now
+        → (result ≡ 6) ⊎ ((result ≡ 0) × (reply.new ≡ told_of r)) }
+    // Its parts lie where they are told to be.
+    ensures verifier { (r : ReplyView) → ReplyBytes r input.now → result ≡ 0
+        → LiesAt input.now reply.new.verifier (verifier_of r) }
+    ensures results { (r : ReplyView) → ReplyBytes r input.now → result ≡ 0
+        → LiesAt input.now reply.new.results (results_of r) }
+{
+    match read_reply(alloc, input) {
+        Ok(value) => {
+            *reply = told(&value);
+            0
+        }
+        Err(fault) => {
+            *reply = bare(0, 0);
+            fault_status(fault)
+        }
+    }
+}
+
+fn reply_into(
+    alloc: Global,
+    reply: &ReplyParts,
+    verifier: &[u8],
+    results: &[u8],
+    room: &mut [u8],
+    count: &mut usize,
+) -> Answer
+    ensures { IsReplyWritten reply.now verifier.now results.now room.old room.new count.new result }
+{
+    *count = 0;
+    if MOST_STATE < reply.state {
+        return Answer::BadStatus;
+    }
+    if reply.state <= MOST_STATUS && MOST_BODY < verifier.len() {
+        return Answer::BadVerifier;
+    }
+    let Ok(asked) = reply_asked(alloc, reply, verifier, results) else {
+        return Answer::NoMemory;
+    };
+    match write_reply(alloc, &asked) {
+        Ok(bytes) => place(&bytes, room, count),
+        Err(_) => Answer::NoMemory,
+    }
+}
+
+/// Writes a reply into the room: the xid and the state of `reply` and what that state speaks of, with these bytes as
+/// the body of an accepted reply's verifier and as the results of state 0 (RFC 5531 section 9).
+///
+/// Status 0: `count` bytes are written, and the rest of the room is untouched. 8: the room is too small, `count` bytes
+/// are needed. 15: the state is above 7. 12: the verifier of an accepted reply has more than 400 bytes. 6: memory was
+/// refused. At 6, 8, 12 and 15 the room is untouched, and at 6, 12 and 15 `count` is 0.
+#[unsafe(no_mangle)]
+pub extern "C" fn oncrpc_reply_write(
+    alloc: Global,
+    reply: &ReplyParts,
+    verifier: &[u8],
+    results: &[u8],
+    room: &mut [u8],
+    count: &mut usize,
+) -> u32
+    ensures { (a : AnswerSpec)
+        × IsReplyWritten reply.now verifier.now results.now room.old room.new count.new a
+        × (result ≡ status_of a) }
+{
+    reply_into(alloc, reply, verifier, results, room, count).status()
+}

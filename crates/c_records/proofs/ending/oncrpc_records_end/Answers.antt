@@ -1,0 +1,25 @@
+-- What is done to the state is done to what the handle holds.
+use Rattle.std.proofs.Common.{◌≡◌, refl, sym, ap, ◌∙◌, Some, None}
+use Rattle.c_records.specs.declared.handle.Records.{Records}
+use Rattle.c_records.specs.declared.state.State.{State}
+use Rattle.c_records.specs.Held.{held_of}
+use Rattle.c_records.proofs.ending.oncrpc_records_end.Goals as goal
+use Rattle.c_records.proofs.ending.oncrpc_records_end.Goals.{in-Some, in-None}
+
+pub returns : goal.returns
+returns c = (
+  c.match-taken.answer,
+  elim c.match-taken.branch [
+    | in-Some w ↦
+        let was : c.args.handle.now.held ≡ Some w.deref_mut.result.now = sym w.in-Some.ensures.taken
+        ∙ ap (λ (s : State). Some s) (sym w.deref_mut.ensures.value) in
+        let now : c.match-taken.handle.held ≡ Some w.end_of-answer.new.state = ap (λ (h : Records). h.held) w.handle-is
+        ∙ w.keep.ensures in
+        rw (was, now, w.answer-is) (held_of w.end_of-answer.new.state, refl, w.end_of-answer.ensures)
+    | in-None w ↦
+        let now : c.match-taken.handle.held ≡ None = ap (λ (h : Records). h.held) w.handle-is ∙ c.taken.ensures.left in
+        rw (sym w.in-None.ensures.taken, now, w.answer-is) (refl, refl)
+  ],
+  c.status.ensures,
+  c.outcome.ensures,
+)

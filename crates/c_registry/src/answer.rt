@@ -1,0 +1,65 @@
+//! Answers, and how C sees them.
+ghost use Rattle.std.specs.Prelude.{◌≡◌};
+ghost use Rattle.c_registry.specs.Statuses.{status_of, outcome_of};
+
+use super::outcome::Outcome;
+
+/// What a call answers.
+#[derive(Clone, Copy, Debug, PartialEq, Eq)]
+pub enum Answer {
+    /// It is done, and so many bytes of a reply were written.
+    Whole { count: usize },
+    /// Memory was refused.
+    NoMemory,
+    /// Room for fewer bytes than this.
+    NoRoom { needed: usize },
+    /// The handle holds no registry.
+    NoRegistry,
+    /// There is no reply.
+    Silence,
+    /// The netid is that of no transport.
+    NoTransport,
+    /// No row was added or removed.
+    Unchanged,
+}
+
+impl Answer {
+    /// The number that C sees.
+    pub fn status(&self) -> u32
+        ensures { result ≡ status_of self.now }
+    {
+        match self {
+            Answer::Whole { .. } => 0,
+            Answer::NoMemory => 6,
+            Answer::NoRoom { .. } => 8,
+            Answer::NoRegistry => 18,
+            Answer::Silence => 19,
+            Answer::NoTransport => 20,
+            Answer::Unchanged => 21,
+        }
+    }
+
+    /// What C sees beside it.
+    pub fn outcome(&self) -> Outcome
+        ensures { result ≡ outcome_of self.now }
+    {
+        let silent = Outcome {
+            at: 0,
+            line: 0,
+            column: 0,
+            why: 0,
+            inner: 0,
+        };
+        match self {
+            Answer::Whole { count } => Outcome {
+                at: *count,
+                ..silent
+            },
+            Answer::NoRoom { needed } => Outcome {
+                at: *needed,
+                ..silent
+            },
+            _ => silent,
+        }
+    }
+}

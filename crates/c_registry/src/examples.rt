@@ -1,0 +1,204 @@
+//! What the exports' contracts force on telling inputs, each proved from the contracts alone.
+ghost use Rattle.std.specs.Prelude.{◌≡◌, ◌<◌, ◌≤◌, ◌⊎◌, [], ◌∷◌, length, take, Some, None, option_map};
+ghost use Rattle.rpc_message.specs.Message.{Denied, RpcMismatch, SystemErr};
+ghost use Rattle.rpc_message.specs.Spelling.{reply};
+ghost use Rattle.registry_answer.specs.Answer.{accepted};
+ghost use Rattle.registry_rows.specs.Ports.{own_rows};
+ghost use Rattle.c_registry.specs.Held.{held_of};
+ghost use Rattle.c_registry.specs.Statuses.{at_count};
+
+use super::answering::oncrpc_registry_answer;
+use super::handle::Registry;
+use super::outcome::Outcome;
+use super::reply::oncrpc_registry_reply;
+use super::rows::{oncrpc_registry_set, oncrpc_registry_unset};
+use super::start::{oncrpc_registry_free, oncrpc_registry_start};
+use rpc_message::five_cases;
+use std::alloc::Global;
+
+/// A registry that was started holds its own rows, whatever the seed is and whatever the handle held.
+pub fn holds_its_own_rows(
+    alloc: Global,
+    handle: &mut Registry,
+    seed: &[u8],
+    outcome: &mut Outcome,
+) -> u32
+    ensures held { result ≡ 0
+        → option_map held_of handle.new.held ≡ Some (record { rows = own_rows 111; waits = None }) }
+    ensures outcome { outcome.new ≡ at_count 0 }
+{
+    oncrpc_registry_start(alloc, handle, 111, seed, outcome)
+}
+
+/// Where memory was refused nothing is held.
+pub fn holds_nothing_without_memory(
+    alloc: Global,
+    handle: &mut Registry,
+    seed: &[u8],
+    outcome: &mut Outcome,
+) -> u32
+    ensures { result ≡ 6 → option_map held_of handle.new.held ≡ None }
+{
+    oncrpc_registry_start(alloc, handle, 111, seed, outcome)
+}
+
+/// After `free` nothing is answered.
+pub fn answers_nothing_after_free(
+    alloc: Global,
+    handle: &mut Registry,
+    message: &[u8],
+    room: &mut [u8],
+    outcome: &mut Outcome,
+) -> u32
+    ensures status { result ≡ 18 }
+    ensures outcome { outcome.new ≡ at_count 0 }
+    ensures room { room.new ≡ room.old }
+{
+    oncrpc_registry_free(alloc, handle);
+    oncrpc_registry_answer(alloc, handle, b"tcp", message, room, outcome)
+}
+
+/// To free twice is well.
+pub fn is_freed_twice(alloc: Global, handle: &mut Registry)
+    ensures { handle.new.held ≡ None }
+{
+    oncrpc_registry_free(alloc, handle);
+    oncrpc_registry_free(alloc, handle);
+}
+
+/// Over another transport nothing is answered, and the rows stay.
+pub fn knows_no_third_transport(
+    alloc: Global,
+    handle: &mut Registry,
+    message: &[u8],
+    room: &mut [u8],
+    outcome: &mut Outcome,
+) -> (u32, u32)
+    ensures { result.0 ≡ 0 → (result.1 ≡ 20) × (room.new ≡ room.old)
+        × (option_map held_of handle.new.held ≡ Some (record { rows = own_rows 111; waits = None })) }
+{
+    let started = oncrpc_registry_start(alloc, handle, 111, b"", outcome);
+    let answered = oncrpc_registry_answer(alloc, handle, b"tcp6", message, room, outcome);
+    (started, answered)
+}
+
+/// No bytes are no call: the answer is silence, and the rows stay.
+pub fn is_silent_to_no_call(
+    alloc: Global,
+    handle: &mut Registry,
+    room: &mut [u8],
+    outcome: &mut Outcome,
+) -> (u32, u32)
+    ensures { result.0 ≡ 0 → (result.1 ≡ 19) × (room.new ≡ room.old)
+        × (option_map held_of handle.new.held ≡ Some (record { rows = own_rows 111; waits = None })) }
+{
+    five_cases();
+    let started = oncrpc_registry_start(alloc, handle, 111, b"", outcome);
+    let answered = oncrpc_registry_answer(alloc, handle, b"udp", b"", room, outcome);
+    (started, answered)
+}
+
+/// A call of version 3 of RPC, with xid 2, is told that version 2 alone is spoken, or that memory was refused.
+pub fn speaks_version_two_alone(
+    alloc: Global,
+    handle: &mut Registry,
+    message: &[u8],
+    room: &mut [u8],
+    outcome: &mut Outcome,
+) -> (u32, u32)
+    requires call { message.now ≡ 0 ∷ 0 ∷ 0 ∷ 2 ∷ 0 ∷ 0 ∷ 0 ∷ 0 ∷ 0 ∷ 0 ∷ 0 ∷ 3 ∷ [] }
+    requires room { 24 ≤ length room.old }
+    ensures { let front = take 24 room.new in
+        result.0 ≡ 0 → (result.1 ≡ 0) × (outcome.new ≡ at_count 24)
+        × ((front ≡ reply (Denied 2 (RpcMismatch 2 2))) ⊎ (front ≡ reply (accepted 2 SystemErr))) }
+{
+    five_cases();
+    let started = oncrpc_registry_start(alloc, handle, 111, b"", outcome);
+    let answered = oncrpc_registry_answer(alloc, handle, b"tcp", message, room, outcome);
+    (started, answered)
+}
+
+/// Room that is too small stays as it was, and what is told is how much is needed.
+pub fn tells_the_room_that_is_needed(
+    alloc: Global,
+    handle: &mut Registry,
+    message: &[u8],
+    room: &mut [u8],
+    outcome: &mut Outcome,
+) -> u32
+    ensures { result ≡ 8 → (room.new ≡ room.old) × (length room.old < outcome.new.at) }
+{
+    oncrpc_registry_answer(alloc, handle, b"tcp", message, room, outcome)
+}
+
+/// A reply that did not go into the room is not lost: it goes into one that is large enough.
+pub fn keeps_the_reply(
+    alloc: Global,
+    handle: &mut Registry,
+    message: &[u8],
+    room: &mut [u8],
+    more: &mut [u8],
+    outcome: &mut Outcome,
+) -> (u32, usize, u32)
+    ensures { result.0 ≡ 8 → result.1 ≤ length more.old → (result.2 ≡ 0) × (outcome.new ≡ at_count result.1) }
+{
+    let answered = oncrpc_registry_answer(alloc, handle, b"tcp", message, room, outcome);
+    let needed = outcome.at;
+    let taken = oncrpc_registry_reply(alloc, handle, more, outcome);
+    (answered, needed, taken)
+}
+
+/// A reply is given once.
+pub fn gives_a_reply_once(
+    alloc: Global,
+    handle: &mut Registry,
+    room: &mut [u8],
+    outcome: &mut Outcome,
+) -> (u32, u32)
+    ensures { result.0 ≡ 0 → result.1 ≡ 19 }
+{
+    let first = oncrpc_registry_reply(alloc, handle, room, outcome);
+    let second = oncrpc_registry_reply(alloc, handle, room, outcome);
+    (first, second)
+}
+
+/// What was set is removed by its owner.
+pub fn removes_what_it_set(
+    alloc: Global,
+    handle: &mut Registry,
+    netid: &[u8],
+    address: &[u8],
+    owner: &[u8],
+    outcome: &mut Outcome,
+) -> (u32, u32)
+    ensures { result.0 ≡ 0 → result.1 ≡ 0 }
+{
+    let set = oncrpc_registry_set(alloc, handle, 300, 7, netid, address, owner, outcome);
+    let unset = oncrpc_registry_unset(alloc, handle, 300, 7, netid, owner, outcome);
+    (set, unset)
+}
+
+/// The registry's own rows are not removed by another owner, and stay.
+pub fn keeps_its_own_rows(alloc: Global, handle: &mut Registry, outcome: &mut Outcome) -> (u32, u32)
+    ensures { result.0 ≡ 0 → (result.1 ≡ 21)
+        × (option_map held_of handle.new.held ≡ Some (record { rows = own_rows 111; waits = None })) }
+{
+    let started = oncrpc_registry_start(alloc, handle, 111, b"", outcome);
+    let unset = oncrpc_registry_unset(alloc, handle, 100000, 2, b"tcp", b"1000", outcome);
+    (started, unset)
+}
+
+/// An owner of 11 bytes sets no row.
+pub fn sets_no_long_owner(
+    alloc: Global,
+    handle: &mut Registry,
+    address: &[u8],
+    owner: &[u8],
+    outcome: &mut Outcome,
+) -> u32
+    requires { 10 < length owner.now }
+    ensures status { result ≡ 0 → ⊥ }
+    ensures stays { option_map held_of handle.new.held ≡ option_map held_of handle.old.held }
+{
+    oncrpc_registry_set(alloc, handle, 300, 7, b"tcp", address, owner, outcome)
+}

@@ -1,0 +1,95 @@
+//! Answers, and how C sees them.
+ghost use Rattle.std.specs.Prelude.{◌≡◌};
+ghost use Rattle.c_values.specs.Statuses.{status_of, outcome_of, tells_value};
+
+use super::outcome::Outcome;
+use xdr_codec::DecodeFault;
+use xdr_lang::LangFault;
+
+/// What a call answers.
+#[derive(Clone, Copy, Debug, PartialEq, Eq)]
+pub enum Answer {
+    /// All was done: a value of so many bytes and no more, or so many bytes written.
+    Whole { used: usize },
+    /// A value of so many bytes, and then at least one more.
+    Followed { used: usize },
+    /// Bytes that are refused.
+    Refused(DecodeFault),
+    /// A text that declares nothing.
+    Undeclared(LangFault),
+    /// A name that names no kind.
+    NoKind,
+    /// Limits out of range.
+    BadLimits,
+    /// Memory was refused.
+    NoMemory,
+    /// No declarations were read.
+    NoDeclarations,
+    /// Room for fewer bytes than this.
+    NoRoom { needed: usize },
+}
+
+impl Answer {
+    /// Whether it says that a value begins the bytes.
+    pub fn has_value(&self) -> bool
+        ensures { result ≡ tells_value self.now }
+    {
+        match self {
+            Answer::Whole { .. } | Answer::Followed { .. } => true,
+            _ => false,
+        }
+    }
+
+    /// The number that C sees.
+    pub fn status(&self) -> u32
+        ensures { result ≡ status_of self.now }
+    {
+        match self {
+            Answer::Whole { .. } => 0,
+            Answer::Followed { .. } => 1,
+            Answer::Refused(_) => 2,
+            Answer::Undeclared(_) => 3,
+            Answer::NoKind => 4,
+            Answer::BadLimits => 5,
+            Answer::NoMemory => 6,
+            Answer::NoDeclarations => 7,
+            Answer::NoRoom { .. } => 8,
+        }
+    }
+
+    /// What C sees beside it.
+    pub fn outcome(&self) -> Outcome
+        ensures { result ≡ outcome_of self.now }
+    {
+        let silent = Outcome {
+            at: 0,
+            line: 0,
+            column: 0,
+            why: 0,
+            inner: 0,
+        };
+        match self {
+            Answer::Whole { used } | Answer::Followed { used } => Outcome {
+                at: *used,
+                ..silent
+            },
+            Answer::Refused(fault) => Outcome {
+                at: fault.at,
+                why: fault.why.number() as u32,
+                ..silent
+            },
+            Answer::Undeclared(fault) => Outcome {
+                line: fault.line,
+                column: fault.column,
+                why: fault.number as u32,
+                inner: fault.inner as u32,
+                ..silent
+            },
+            Answer::NoRoom { needed } => Outcome {
+                at: *needed,
+                ..silent
+            },
+            _ => silent,
+        }
+    }
+}

@@ -1,0 +1,189 @@
+//! What the exports' contracts force on telling inputs, each proved from the contracts alone.
+ghost use Rattle.std.specs.Prelude.{◌≡◌, ◌≢◌, ◌<◌, ◌≤◌, ◌⊎◌, codes, length, option_map, take};
+ghost use Rattle.xdr_lang.specs.Views.{declared_of};
+ghost use Rattle.c_values.specs.Argument.{HasArgument};
+ghost use Rattle.c_values.specs.Pair.{HoldsPair, pair_bytes, pair_parts, pair_outcome};
+ghost use Rattle.c_values.specs.Statuses.{at_place};
+
+use super::check::oncrpc_check;
+use super::declarations::{
+    oncrpc_declarations_check, oncrpc_declarations_free, oncrpc_declarations_read,
+};
+use super::handle::Handle;
+use super::listed::PartsOutcome;
+use super::normal::oncrpc_normalise;
+use super::outcome::Outcome;
+use super::part::ValuePart;
+use super::parts::oncrpc_declarations_parts;
+use super::show::oncrpc_declarations_show;
+use std::alloc::Global;
+
+/// Status 0 tells how many bytes the input has, and nothing else.
+pub fn tells_the_count_of_a_value(
+    alloc: Global,
+    text: &[u8],
+    input: &[u8],
+    outcome: &mut Outcome,
+) -> u32
+    ensures { result ≡ 0 → outcome.new ≡ at_place (length input.now) }
+{
+    oncrpc_check(alloc, text, b"int", 1, 4, input, outcome)
+}
+
+/// Where memory was refused nothing is told.
+pub fn tells_nothing_without_memory(
+    alloc: Global,
+    text: &[u8],
+    input: &[u8],
+    outcome: &mut Outcome,
+) -> u32
+    ensures { result ≡ 6 → outcome.new ≡ at_place 0 }
+{
+    oncrpc_check(alloc, text, b"int", 1, 4, input, outcome)
+}
+
+/// Declarations that were read are there for a check.
+pub fn holds_what_was_read(
+    alloc: Global,
+    text: &[u8],
+    handle: &mut Handle,
+    outcome: &mut Outcome,
+) -> (u32, u32)
+    ensures { result.0 ≡ 0 → result.1 ≢ 7 }
+{
+    let read = oncrpc_declarations_read(alloc, text, handle, outcome);
+    let check = oncrpc_declarations_check(alloc, handle, b"int", 1, 4, b"", outcome);
+    (read, check)
+}
+
+/// After `free` there are none.
+pub fn holds_nothing_after_free(alloc: Global, handle: &mut Handle, outcome: &mut Outcome) -> u32
+    ensures status { result ≡ 7 }
+    ensures outcome { outcome.new ≡ at_place 0 }
+{
+    oncrpc_declarations_free(alloc, handle);
+    oncrpc_declarations_check(alloc, handle, b"int", 1, 4, b"", outcome)
+}
+
+/// Room that is too small stays as it was.
+pub fn leaves_small_room(
+    alloc: Global,
+    input: &[u8],
+    room: &mut [u8],
+    written: &mut usize,
+    outcome: &mut Outcome,
+) -> u32
+    ensures { result ≡ 8 → (room.new ≡ room.old) × (written.new ≡ 0) }
+{
+    oncrpc_normalise(alloc, input, 65536, room, written, outcome)
+}
+
+/// By a limit out of its range nothing is written, of whatever input.
+pub fn marks_nothing_by_a_limit_out_of_range(
+    alloc: Global,
+    input: &[u8],
+    limit: u32,
+    room: &mut [u8],
+    written: &mut usize,
+    outcome: &mut Outcome,
+) -> u32
+    requires { 2147483647 < limit }
+    ensures status { (result ≡ 5) ⊎ (result ≡ 6) }
+    ensures kept { (room.new ≡ room.old) × (written.new ≡ 0) }
+    ensures outcome { outcome.new ≡ at_place 0 }
+{
+    oncrpc_normalise(alloc, input, limit, room, written, outcome)
+}
+
+/// Room for too few lines stays as it was.
+pub fn shows_nothing_in_small_room(
+    alloc: Global,
+    handle: &mut Handle,
+    input: &[u8],
+    room: &mut [u8],
+    written: &mut usize,
+    outcome: &mut Outcome,
+) -> u32
+    ensures { result ≡ 8 → (room.new ≡ room.old) × (written.new ≡ 0) }
+{
+    oncrpc_declarations_show(alloc, handle, b"int", 1, 4, input, room, written, outcome)
+}
+
+/// Lines are shown by declarations that were read.
+pub fn shows_by_what_was_read(
+    alloc: Global,
+    text: &[u8],
+    handle: &mut Handle,
+    room: &mut [u8],
+    written: &mut usize,
+    outcome: &mut Outcome,
+) -> (u32, u32)
+    ensures { result.0 ≡ 0 → result.1 ≢ 7 }
+{
+    let read = oncrpc_declarations_read(alloc, text, handle, outcome);
+    let show = oncrpc_declarations_show(alloc, handle, b"int", 1, 4, b"", room, written, outcome);
+    (read, show)
+}
+
+/// Arguments are named by numbers and counted from 1: the only argument of a procedure has the number 1.
+pub fn names_an_argument(
+    alloc: Global,
+    handle: &mut Handle,
+    input: &[u8],
+    outcome: &mut Outcome,
+) -> u32
+    requires { HasArgument (option_map declared_of handle.old.declared) }
+    ensures { result ≢ 4 }
+{
+    oncrpc_declarations_check(alloc, handle, b"100003.3.16.1", 1, 4, input, outcome)
+}
+
+/// Rooms of which one is too small stay as they were.
+pub fn lists_nothing_in_small_rooms(
+    alloc: Global,
+    handle: &mut Handle,
+    input: &[u8],
+    parts: &mut [ValuePart],
+    names: &mut [u8],
+    outcome: &mut PartsOutcome,
+) -> u32
+    ensures kept { result ≡ 8 → (parts.new ≡ parts.old) × (names.new ≡ names.old) }
+    ensures small { result ≡ 8 → (length parts.old < outcome.new.parts) ⊎ (length names.old < outcome.new.names) }
+{
+    oncrpc_declarations_parts(alloc, handle, b"int", 1, 4, input, parts, names, outcome)
+}
+
+/// Of a refused input no part is told, and both rooms stay as they were.
+pub fn lists_no_part_of_a_refusal(
+    alloc: Global,
+    handle: &mut Handle,
+    input: &[u8],
+    parts: &mut [ValuePart],
+    names: &mut [u8],
+    outcome: &mut PartsOutcome,
+) -> u32
+    ensures none { result ≡ 2 → (outcome.new.parts ≡ 0) × (outcome.new.names ≡ 0) }
+    ensures kept { result ≡ 2 → (parts.new ≡ parts.old) × (names.new ≡ names.old) }
+    ensures within { result ≡ 2 → outcome.new.at ≤ length input.now }
+{
+    oncrpc_declarations_parts(alloc, handle, b"int", 1, 4, input, parts, names, outcome)
+}
+
+/// A structure of a number and a string has four parts, the string two of them, and content is told without the zero
+/// after it. Each name stands behind those of the parts before.
+pub fn lists_a_structure(
+    alloc: Global,
+    handle: &mut Handle,
+    input: &[u8],
+    parts: &mut [ValuePart],
+    names: &mut [u8],
+    outcome: &mut PartsOutcome,
+) -> u32
+    requires held { HoldsPair (option_map declared_of handle.old.declared) }
+    requires input { input.now ≡ pair_bytes }
+    ensures parts { result ≡ 0 → take 4 parts.new ≡ pair_parts }
+    ensures names { result ≡ 0 → take 10 names.new ≡ codes "idnamename" }
+    ensures outcome { result ≡ 0 → outcome.new ≡ pair_outcome }
+{
+    oncrpc_declarations_parts(alloc, handle, b"pair", 2, 12, input, parts, names, outcome)
+}

@@ -1,0 +1,98 @@
+//! Records of one buffer, marked anew into another.
+ghost use Rattle.std.specs.Prelude.{◌≡◌, ◌≤◌, IfOk};
+ghost use Rattle.c_values.specs.Normal.{IsForm, IsMarked};
+ghost use Rattle.c_values.specs.Statuses.{status_of, outcome_of};
+ghost use Rattle.c_values.specs.declared.answer.Answer.{Answer as AnswerSpec};
+
+use super::answer::Answer;
+use super::outcome::Outcome;
+use super::room::put;
+use rpc_record::{NoMemory, RecordFault, normalise};
+use std::alloc::Global;
+use xdr_codec::{DecodeFault, Reason};
+use xdr_io::{Gathered, MemorySource};
+
+/// The greatest limit on the bytes of a record.
+const MOST_LIMIT: u32 = 2147483647;
+
+/// The records of the input as one fragment each, and why the input is refused after them, if it is.
+fn normal_form(
+    alloc: Global,
+    input: &[u8],
+    limit: u32,
+) -> Result<(Option<DecodeFault>, Vec<u8>), NoMemory>
+    requires { limit ≤ 2147483647 }
+    ensures { IfOk result (λ r. IsForm limit input.now r.1.items r.0) }
+{
+    let mut source = MemorySource::new(input, 4096, None);
+    let mut sink = Gathered::new(alloc);
+    match normalise(alloc, &mut source, &mut sink, limit) {
+        Ok(_) => Ok((None, sink.into_bytes())),
+        Err(RecordFault::TooLong { at }) => {
+            let fault = DecodeFault {
+                why: Reason::TooLong,
+                at: at as usize,
+            };
+            Ok((Some(fault), sink.into_bytes()))
+        }
+        Err(RecordFault::Truncated { .. }) => {
+            let fault = DecodeFault {
+                why: Reason::Truncated,
+                at: input.len(),
+            };
+            Ok((Some(fault), sink.into_bytes()))
+        }
+        Err(_) => Err(NoMemory),
+    }
+}
+
+/// Puts the normal form of the input's records into the room.
+fn mark_into(
+    alloc: Global,
+    input: &[u8],
+    limit: u32,
+    room: &mut [u8],
+    written: &mut usize,
+) -> Answer
+    ensures { IsMarked limit input.now room.old room.new written.new result }
+{
+    *written = 0;
+    if limit > MOST_LIMIT {
+        return Answer::BadLimits;
+    }
+    let Ok((end, form)) = normal_form(alloc, input, limit) else {
+        return Answer::NoMemory;
+    };
+    if !put(room, &form, written) {
+        return Answer::NoRoom { needed: form.len() };
+    }
+    match end {
+        None => Answer::Whole { used: form.len() },
+        Some(fault) => Answer::Refused(fault),
+    }
+}
+
+/// Writes each record of the input into the room as one final fragment (RFC 5531 section 11). A record may have `limit`
+/// bytes, at most 2147483647.
+///
+/// Status 0: the input is whole records. 2: after the records that are written, `why` 4, a record is too long by the
+/// header at the place `at`, or 8, the input ends inside a record. At 0 and 2 `written` counts the bytes that were
+/// written, and the rest of the room is untouched. 8: the room is too small, `at` bytes are needed. 5: the limit is out
+/// of range. 6: memory was refused, or the input has more than 4294963200 bytes. At 5, 6 and 8 the room is untouched,
+/// and `written` is 0.
+#[unsafe(no_mangle)]
+pub extern "C" fn oncrpc_normalise(
+    alloc: Global,
+    input: &[u8],
+    limit: u32,
+    room: &mut [u8],
+    written: &mut usize,
+    outcome: &mut Outcome,
+) -> u32
+    ensures { (a : AnswerSpec) × IsMarked limit input.now room.old room.new written.new a
+        × (result ≡ status_of a) × (outcome.new ≡ outcome_of a) }
+{
+    let answer = mark_into(alloc, input, limit, room, written);
+    *outcome = answer.outcome();
+    answer.status()
+}

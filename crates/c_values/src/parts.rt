@@ -1,0 +1,138 @@
+//! The parts of a value, by declarations that were read.
+ghost use Rattle.std.specs.Prelude.{◌≡◌, ◌<◌, length, option_map, Some};
+ghost use Rattle.xdr_lang.specs.Views.{declared_of};
+ghost use Rattle.c_values.specs.Answers.{BeginsWithValue};
+ghost use Rattle.c_values.specs.Parted.{IsParted, IsPartedByHeld, parts_status, parts_outcome};
+ghost use Rattle.c_values.specs.declared.listed.Listed.{Listed as ListedSpec};
+
+use super::answer::Answer;
+use super::asking::kind_asked;
+use super::handle::Handle;
+use super::judge::judge;
+use super::listed::{Counts, Listed, PartsOutcome};
+use super::listing::list_parts;
+use super::part::ValuePart;
+use c_handles::{keep, taken};
+use std::alloc::Global;
+use xdr_lang::Declared;
+use xdr_types::{KindId, Limits, Schema};
+
+/// Puts the parts of the value that begins the input into the rooms.
+fn list_into(
+    alloc: Global,
+    schema: &Schema,
+    kind: KindId,
+    limits: Limits,
+    input: &[u8],
+    used: usize,
+    parts: &mut [ValuePart],
+    names: &mut [u8],
+) -> Listed
+    requires known { kind.place < length schema.now.kinds }
+    requires begins { BeginsWithValue
+        (record { kinds = schema.now.kinds; place = kind.place; limits = limits }) input.now used }
+    ensures { IsParted (record { kinds = schema.now.kinds; place = kind.place; limits = limits }) input.now
+        (record { parts = parts.old; names = names.old }) (record { parts = parts.new; names = names.new }) result }
+{
+    let Ok(list) = list_parts(alloc, schema, kind, limits, input) else {
+        return Listed::NoMemory;
+    };
+    let counts = Counts {
+        used,
+        parts: list.parts.len(),
+        names: list.names.len(),
+    };
+    if !list.put(parts, names) {
+        return Listed::NoRoom(counts);
+    }
+    if used < input.len() {
+        Listed::Followed(counts)
+    } else {
+        Listed::Whole(counts)
+    }
+}
+
+/// Judges the input, and puts the parts of its value into the rooms.
+fn parts_into(
+    alloc: Global,
+    schema: &Schema,
+    kind: KindId,
+    limits: Limits,
+    input: &[u8],
+    parts: &mut [ValuePart],
+    names: &mut [u8],
+) -> Listed
+    requires { kind.place < length schema.now.kinds }
+    ensures { IsParted (record { kinds = schema.now.kinds; place = kind.place; limits = limits }) input.now
+        (record { parts = parts.old; names = names.old }) (record { parts = parts.new; names = names.new }) result }
+{
+    match judge(alloc, schema, kind, limits, input) {
+        Answer::Whole { used } | Answer::Followed { used } => {
+            list_into(alloc, schema, kind, limits, input, used, parts, names)
+        }
+        Answer::Refused(fault) => Listed::Refused(fault),
+        Answer::NoMemory => Listed::NoMemory,
+        _ => unreachable!(),
+    }
+}
+
+/// The same by declarations. The name is looked at before the limits.
+fn parts_by(
+    alloc: Global,
+    declared: &Declared,
+    name: &[u8],
+    depth: u32,
+    bytes: u32,
+    input: &[u8],
+    parts: &mut [ValuePart],
+    names: &mut [u8],
+) -> Listed
+    ensures { IsPartedByHeld (Some (declared_of declared.now)) name.now depth bytes input.now
+        (record { parts = parts.old; names = names.old }) (record { parts = parts.new; names = names.new }) result }
+{
+    let Some(kind) = kind_asked(declared, name) else {
+        return Listed::NoKind;
+    };
+    let Some(limits) = Limits::new(depth, bytes) else {
+        return Listed::BadLimits;
+    };
+    parts_into(alloc, &declared.schema, kind, limits, input, parts, names)
+}
+
+/// Puts the parts of the value that begins the input into the rooms (RFC 4506 section 4), in the order of their bytes,
+/// a node before those inside it, and their names joined. The declarations that the handle holds stay.
+///
+/// Status 0: the input is a value, and 1: a value and then more bytes. `at` counts the value's bytes, `parts` the parts
+/// and `names` the bytes of names that were written; the rest of the rooms is untouched. 2: no value within the limits
+/// begins the input; `why` is the reason's number, 1 to 8, at the place `at`. 4: no kind has the name. 5: the limits
+/// are out of range. 6: memory was refused. 7: the handle holds no declarations. 8: a room is too small; `at` counts
+/// the value's bytes, room for `parts` parts and `names` bytes is needed. Above 1 both rooms are untouched.
+#[unsafe(no_mangle)]
+pub extern "C" fn oncrpc_declarations_parts(
+    alloc: Global,
+    handle: &mut Handle,
+    name: &[u8],
+    depth: u32,
+    bytes: u32,
+    input: &[u8],
+    parts: &mut [ValuePart],
+    names: &mut [u8],
+    outcome: &mut PartsOutcome,
+) -> u32
+    ensures stay { handle.new.declared ≡ handle.old.declared }
+    ensures answer { (a : ListedSpec) × IsPartedByHeld (option_map declared_of handle.old.declared) name.now depth bytes
+        input.now (record { parts = parts.old; names = names.old }) (record { parts = parts.new; names = names.new }) a
+        × (result ≡ parts_status a) × (outcome.new ≡ parts_outcome a) }
+{
+    let answer = match taken(alloc, handle) {
+        Some(state) => {
+            let declared = state.declared();
+            let answer = parts_by(alloc, declared, name, depth, bytes, input, parts, names);
+            keep(alloc, handle, state);
+            answer
+        }
+        None => Listed::NoDeclarations,
+    };
+    *outcome = answer.outcome();
+    answer.status()
+}

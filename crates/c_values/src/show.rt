@@ -1,0 +1,135 @@
+//! The lines of a value, by declarations that were read.
+ghost use Rattle.std.specs.Prelude.{◌≡◌, ◌<◌, ℕ, length, IfOk, IfErr, option_map, Some};
+ghost use Rattle.xdr_lang.specs.Views.{declared_of};
+ghost use Rattle.xdr_show.specs.Shown.{show_text};
+ghost use Rattle.c_values.specs.Answers.{BeginsWithValue};
+ghost use Rattle.c_values.specs.Shown.{IsShown, IsShownByHeld};
+ghost use Rattle.c_values.specs.Statuses.{status_of, outcome_of};
+ghost use Rattle.c_values.specs.declared.answer.Answer.{Answer as AnswerSpec};
+
+use super::answer::Answer;
+use super::asking::kind_asked;
+use super::handle::Handle;
+use super::judge::judge;
+use super::outcome::Outcome;
+use super::room::put;
+use c_handles::{keep, taken};
+use std::alloc::Global;
+use xdr_codec::Reason;
+use xdr_lang::Declared;
+use xdr_show::show_bytes;
+use xdr_types::{KindId, Limits, NoMemory, Schema};
+
+/// The lines of the value that begins the input.
+fn lines_of(
+    alloc: Global,
+    schema: &Schema,
+    kind: KindId,
+    limits: Limits,
+    input: &[u8],
+) -> Result<Vec<u8>, NoMemory>
+    requires known { kind.place < length schema.now.kinds }
+    requires begins { (used : ℕ) × BeginsWithValue
+        (record { kinds = schema.now.kinds; place = kind.place; limits = limits }) input.now used }
+    ensures { IfOk result (λ text. (used : ℕ) (begins : BeginsWithValue
+        (record { kinds = schema.now.kinds; place = kind.place; limits = limits }) input.now used)
+        → text.items ≡ show_text schema.now.kinds kind.place begins.value) }
+{
+    let _range = limits.depth();
+    match show_bytes(alloc, schema, kind, limits, input) {
+        Ok(lines) => Ok(lines),
+        Err(fault) if fault.why == Reason::NoMemory => Err(NoMemory),
+        Err(_) => unreachable!(),
+    }
+}
+
+/// Judges the input, and puts the lines of its value into the room.
+fn show_into(
+    alloc: Global,
+    schema: &Schema,
+    kind: KindId,
+    limits: Limits,
+    input: &[u8],
+    room: &mut [u8],
+    written: &mut usize,
+) -> Answer
+    requires { kind.place < length schema.now.kinds }
+    ensures { IsShown (record { kinds = schema.now.kinds; place = kind.place; limits = limits })
+        input.now room.old room.new written.new result }
+{
+    *written = 0;
+    let answer = judge(alloc, schema, kind, limits, input);
+    if !answer.has_value() {
+        return answer;
+    }
+    let Ok(lines) = lines_of(alloc, schema, kind, limits, input) else {
+        return Answer::NoMemory;
+    };
+    if put(room, &lines, written) {
+        answer
+    } else {
+        Answer::NoRoom {
+            needed: lines.len(),
+        }
+    }
+}
+
+/// The same by declarations. The name is looked at before the limits.
+fn show_by(
+    alloc: Global,
+    declared: &Declared,
+    name: &[u8],
+    depth: u32,
+    bytes: u32,
+    input: &[u8],
+    room: &mut [u8],
+    written: &mut usize,
+) -> Answer
+    ensures { IsShownByHeld (Some (declared_of declared.now)) name.now depth bytes input.now room.old room.new
+        written.new result }
+{
+    *written = 0;
+    let Some(kind) = kind_asked(declared, name) else {
+        return Answer::NoKind;
+    };
+    let Some(limits) = Limits::new(depth, bytes) else {
+        return Answer::BadLimits;
+    };
+    show_into(alloc, &declared.schema, kind, limits, input, room, written)
+}
+
+/// Puts the lines of the value that begins the input into the room, as `show` of the program prints them: one for each
+/// part, a node before those inside it, two spaces further in. The declarations that the handle holds stay.
+///
+/// The statuses are those of `oncrpc_declarations_check`, and 8: the room is too small, `at` bytes are needed. At 0 and
+/// 1 `written` counts the bytes that were written, and the rest of the room is untouched. At any other status the room
+/// is untouched, and `written` is 0.
+#[unsafe(no_mangle)]
+pub extern "C" fn oncrpc_declarations_show(
+    alloc: Global,
+    handle: &mut Handle,
+    name: &[u8],
+    depth: u32,
+    bytes: u32,
+    input: &[u8],
+    room: &mut [u8],
+    written: &mut usize,
+    outcome: &mut Outcome,
+) -> u32
+    ensures stay { handle.new.declared ≡ handle.old.declared }
+    ensures answer { (a : AnswerSpec) × IsShownByHeld (option_map declared_of handle.old.declared) name.now depth bytes
+        input.now room.old room.new written.new a × (result ≡ status_of a) × (outcome.new ≡ outcome_of a) }
+{
+    *written = 0;
+    let answer = match taken(alloc, handle) {
+        Some(state) => {
+            let declared = state.declared();
+            let answer = show_by(alloc, declared, name, depth, bytes, input, room, written);
+            keep(alloc, handle, state);
+            answer
+        }
+        None => Answer::NoDeclarations,
+    };
+    *outcome = answer.outcome();
+    answer.status()
+}

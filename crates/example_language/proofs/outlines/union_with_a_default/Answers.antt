@@ -1,0 +1,32 @@
+use Rattle.std.proofs.Common.{refl}
+use Rattle.xdr_grammar.specs.Outline.{Outline}
+use Rattle.xdr_grammar.specs.Private.Reading.{after_word, after_sign, name_at, number_at, value_at, size_at, limit_at}
+use Rattle.xdr_grammar.specs.Private.Reading.{either_sign, numbered_at, repeat, opaque_at, text_at, declared_at}
+use Rattle.xdr_grammar.specs.Private.Reading.{declaration_with, content_with, basic_at, member_at, enum_at, field_with}
+use Rattle.xdr_grammar.specs.Private.Reading.{struct_with, case_at, arm_with, default_with, switch_with, union_with}
+use Rattle.xdr_grammar.specs.Private.Reading.{body_word_at, body_with, specifier_at, passed_with, argument_with}
+use Rattle.xdr_grammar.specs.Private.Reading.{arguments_with, result_with, procedure_with, version_with, program_with}
+use Rattle.xdr_grammar.specs.Private.Reading.{const_at, typedef_with, defined_with, definition_at, definitions_at}
+use Rattle.xdr_grammar.specs.Private.Reading.{int_at, inner_word_at}
+use Rattle.example_language.specs.Spelled.{union_tokens}
+use Rattle.example_language.proofs.Outlining.{tells_outline, memory_of_outline}
+use Rattle.example_language.proofs.outlines.union_with_a_default.Goals as goal
+
+pub returns-clause-found : goal.returns-clause-found
+unfolding after_word after_sign name_at number_at value_at size_at limit_at either_sign numbered_at repeat opaque_at
+    text_at declared_at declaration_with content_with int_at basic_at member_at enum_at field_with struct_with case_at
+    arm_with default_with switch_with union_with body_word_at inner_word_at body_with specifier_at passed_with
+    argument_with arguments_with result_with procedure_with version_with program_with const_at typedef_with
+    defined_with definition_at definitions_at
+returns-clause-found c =
+    tells_outline union_tokens _
+    (λ (o : Outline). o.drafts) _ c.read_outline.result c.requires refl c.read_outline.ensures.found
+
+pub returns-clause-taken : goal.returns-clause-taken
+unfolding after_word after_sign name_at number_at value_at size_at limit_at either_sign numbered_at repeat opaque_at
+    text_at declared_at declaration_with content_with int_at basic_at member_at enum_at field_with struct_with case_at
+    arm_with default_with switch_with union_with body_word_at inner_word_at body_with specifier_at passed_with
+    argument_with arguments_with result_with procedure_with version_with program_with const_at typedef_with
+    defined_with definition_at definitions_at
+returns-clause-taken c =
+    memory_of_outline union_tokens _ c.read_outline.result c.requires refl c.read_outline.ensures.only

@@ -1,0 +1,7 @@
+use Rattle.std.proofs.Common.{◌∙◌}
+use Rattle.example_language.proofs.Telling.{refuses}
+use Rattle.example_language.proofs.Meanings.{meanings}
+use Rattle.example_language.proofs.refused.member_as_a_size.Goals as goal
+
+pub returns : goal.returns
+returns c = c.is_ok.ensures.value ∙ refuses _ c.read.result meanings.member_as_a_size c.read.ensures.found

@@ -1,0 +1,7 @@
+use Rattle.std.proofs.Common.{rules}
+use Rattle.std.specs.Fmt.{digits}
+use Rattle.example_registry.proofs.looking.finds_its_own_version.Goals as goal
+
+pub returns : goal.returns
+unfolding digits
+returns g c = search rules

@@ -1,0 +1,7 @@
+use Rattle.std.proofs.Common.{rules}
+use Rattle.std.specs.Fmt.{digits}
+use Rattle.example_registry.proofs.looking.ports_of_other_versions.Goals as goal
+
+pub returns : goal.returns
+unfolding digits
+returns g c = search rules

@@ -1,0 +1,51 @@
+use Rattle.std.proofs.Common.{◌≡◌, ◌++◌, [], ◌∷◌, ℕ, List, subst, sym, refl, ◌∙◌, IfOk, map}
+use Rattle.xdr_types.specs.Layout.{Entry, entry, entries, of_length, of_content}
+use Rattle.xdr_types.specs.Spelling.{bytes_of}
+use Rattle.xdr_types.specs.Within.{FitsWithin}
+use Rattle.xdr_parts.specs.Lent.{entry_of}
+use Rattle.example_xdr.specs.Rfc.{content, part}
+use Rattle.example_xdr.specs.Lent.{bytes_of_each}
+use Rattle.example_xdr.proofs.LentBytes.{given, lent_bytes, only_memory, cut}
+use Rattle.example_xdr.proofs.lending.lends_an_empty_opaque.Goals as goal
+
+pub returns-clause-parts : goal.returns-clause-parts
+returns-clause-parts c =
+    let S = c.args.schema.now.kinds in
+    let place = c.args.kind.place in
+    let bytes : bytes_of S place (content []) ++ (0 ∷ 0 ∷ 0 ∷ 42 ∷ [])
+    ≡ 0 ∷ 0 ∷ 0 ∷ 0 ∷ 0 ∷ 0 ∷ 0 ∷ 42 ∷ [] = rw c.requires.kind refl in
+    let fit : FitsWithin S place c.args.limits (content []) = rw c.requires.kind
+    (refl, (c.requires.depth, c.requires.limit)) in
+    let all : entries S place (content [])
+    ≡ entry 0 4 1 (part [] place) of_length ∷ entry 4 0 1 (part [] place) (of_content 0) ∷ [] =
+    rw c.requires.kind refl in
+    subst (λ (es : List Entry). IfOk c.parts.result (λ ls. map entry_of ls.items ≡ es)) all
+    (given S place c.args.limits c.depth-range.ensures.range.units c.args.input.now (content [])
+    (0 ∷ 0 ∷ 0 ∷ 42 ∷ []) fit (c.requires.input ∙ sym bytes) c.parts.result c.parts.ensures.outcome)
+
+pub returns-clause-bytes : goal.returns-clause-bytes
+returns-clause-bytes c =
+    let S = c.args.schema.now.kinds in
+    let place = c.args.kind.place in
+    let es : List Entry = entry 0 4 1 (part [] place) of_length ∷ entry 4 0 1 (part [] place) (of_content 0) ∷ [] in
+    let bytes : bytes_of S place (content []) ++ (0 ∷ 0 ∷ 0 ∷ 42 ∷ [])
+    ≡ 0 ∷ 0 ∷ 0 ∷ 0 ∷ 0 ∷ 0 ∷ 0 ∷ 42 ∷ [] = rw c.requires.kind refl in
+    let fit : FitsWithin S place c.args.limits (content []) = rw c.requires.kind
+    (refl, (c.requires.depth, c.requires.limit)) in
+    let all : entries S place (content []) ≡ es = rw c.requires.kind refl in
+    let parts = subst (λ (x : List Entry). IfOk c.parts.result (λ ls. map entry_of ls.items ≡ x)) all
+    (given S place c.args.limits c.depth-range.ensures.range.units c.args.input.now (content [])
+    (0 ∷ 0 ∷ 0 ∷ 42 ∷ []) fit (c.requires.input ∙ sym bytes) c.parts.result c.parts.ensures.outcome) in
+    subst (λ (b : List ℕ). IfOk c.parts.result (λ ls. bytes_of_each ls.items ≡ cut b es)) c.requires.input
+    (lent_bytes c.args.input.now es c.parts.result parts c.parts.ensures.lent)
+
+pub returns-clause-taken : goal.returns-clause-taken
+returns-clause-taken c =
+    let S = c.args.schema.now.kinds in
+    let place = c.args.kind.place in
+    let bytes : bytes_of S place (content []) ++ (0 ∷ 0 ∷ 0 ∷ 42 ∷ [])
+    ≡ 0 ∷ 0 ∷ 0 ∷ 0 ∷ 0 ∷ 0 ∷ 0 ∷ 42 ∷ [] = rw c.requires.kind refl in
+    let fit : FitsWithin S place c.args.limits (content []) = rw c.requires.kind
+    (refl, (c.requires.depth, c.requires.limit)) in
+    only_memory S place c.args.limits c.depth-range.ensures.range.units c.args.input.now (content [])
+    (0 ∷ 0 ∷ 0 ∷ 42 ∷ []) fit (c.requires.input ∙ sym bytes) c.parts.result c.parts.ensures.fault

@@ -1,0 +1,7 @@
+use Rattle.std.proofs.Common.{rules}
+use Rattle.std.specs.Fmt.{digits}
+use Rattle.example_xdr.proofs.units.writes_a_decimal.Goals as goal
+
+pub returns : goal.returns
+unfolding digits
+returns c = search rules

@@ -1,8 +1,0 @@
-use Rattle.std.proofs.Common.{◌∙◌}
-use Rattle.lang_examples.proofs.Telling.{refuses}
-use Rattle.lang_examples.proofs.Meanings.{meanings}
-use Rattle.lang_examples.proofs.refused.const_used_before_it_is_declared.Goals as goal
-
-pub returns : goal.returns
-returns c =
-    c.is_ok.ensures.value ∙ refuses _ c.read.result meanings.const_used_before_it_is_declared c.read.ensures.found

@@ -1,7 +1,0 @@
-use Rattle.std.proofs.Common.{◌∙◌}
-use Rattle.lang_examples.proofs.Telling.{refuses}
-use Rattle.lang_examples.proofs.Meanings.{meanings}
-use Rattle.lang_examples.proofs.refused.eight_is_no_octal_digit.Goals as goal
-
-pub returns : goal.returns
-returns c = c.is_ok.ensures.value ∙ refuses _ c.read.result meanings.eight_is_no_octal_digit c.read.ensures.found

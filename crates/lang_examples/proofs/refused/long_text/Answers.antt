@@ -1,6 +1,0 @@
-use Rattle.std.proofs.Common.{◌∙◌}
-use Rattle.lang_examples.proofs.Telling.{too_long}
-use Rattle.lang_examples.proofs.refused.long_text.Goals as goal
-
-pub returns : goal.returns
-returns c = c.is_ok.ensures.value ∙ too_long _ c.read.result c.requires c.read.ensures.found

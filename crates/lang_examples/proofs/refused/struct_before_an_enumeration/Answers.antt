@@ -1,7 +1,0 @@
-use Rattle.std.proofs.Common.{◌∙◌}
-use Rattle.lang_examples.proofs.Telling.{refuses}
-use Rattle.lang_examples.proofs.Meanings.{meanings}
-use Rattle.lang_examples.proofs.refused.struct_before_an_enumeration.Goals as goal
-
-pub returns : goal.returns
-returns c = c.is_ok.ensures.value ∙ refuses _ c.read.result meanings.struct_before_an_enumeration c.read.ensures.found

@@ -1,7 +1,0 @@
-use Rattle.std.proofs.Common.{◌∙◌}
-use Rattle.lang_examples.proofs.Telling.{refuses}
-use Rattle.lang_examples.proofs.Meanings.{meanings}
-use Rattle.lang_examples.proofs.refused.true_as_a_size.Goals as goal
-
-pub returns : goal.returns
-returns c = c.is_ok.ensures.value ∙ refuses _ c.read.result meanings.true_as_a_size c.read.ensures.found

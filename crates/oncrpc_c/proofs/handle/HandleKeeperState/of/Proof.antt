@@ -1,9 +1,0 @@
--- `of` keeps what the box owned.
-use Rattle.c_handles.proofs.Slots.Of.{of_meets}
-use Rattle.oncrpc_c.specs.contracts.handle.HandleKeeperState.of.Key as key
-use Rattle.oncrpc_c.proofs.Slot.{slot}
-use Rattle.oncrpc_c.proofs.handle.HandleKeeperState.of.Statement.{statement}
-use Rattle.oncrpc_c.proofs.handle.HandleKeeperState.of.Code as code
-
-pub of_spec : {M : Type 1} → statement M
-of_spec 𝓤 𝓛 𝓜 𝓡 wired = of_meets _ slot 𝓤 𝓛 𝓜 𝓡 key.name (code.unfolded 𝓤 𝓛.H 𝓜 𝓡 wired)

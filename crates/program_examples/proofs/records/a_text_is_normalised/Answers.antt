@@ -1,6 +1,0 @@
-use Rattle.std.proofs.Common.{arith}
-use Rattle.program_examples.proofs.Normalised.{normal_printed}
-use Rattle.program_examples.proofs.records.a_text_is_normalised.Goals as goal
-
-pub returns : goal.returns
-returns g c = λ zero. normal_printed _ _ _ _ ((c.records_over.ensures.ends.printed (omega (arith, zero))).0 zero)

@@ -1,6 +1,0 @@
-use Rattle.program_examples.proofs.Stopped.{before_a_failure}
-use Rattle.program_examples.proofs.records.written_before_a_read_failed.Goals as goal
-
-pub returns : goal.returns
-returns g c = λ three none.
-    before_a_failure _ _ _ _ _ _ _ _ _ _ c.records_over.ensures.ends three c.requires none

@@ -1,6 +1,0 @@
-use Rattle.program_examples.proofs.Arguments.{one_is_asked}
-use Rattle.program_examples.proofs.tasks.arguments_count_from_1.Goals as goal
-
-pub returns : goal.returns
-returns g c = λ two. one_is_asked _ _ _ c.requires.types c.requires.limits c.requires.only
-    (c.task_over.ensures.unasked two).0

@@ -1,9 +1,0 @@
--- `opened` gives back what the handle owned.
-use Rattle.c_handles.proofs.Slots.Opened.{opened_meets}
-use Rattle.records_c.specs.contracts.handle.RecordsKeeperState.opened.Key as key
-use Rattle.records_c.proofs.Slot.{slot}
-use Rattle.records_c.proofs.handle.RecordsKeeperState.opened.Statement.{statement}
-use Rattle.records_c.proofs.handle.RecordsKeeperState.opened.Code as code
-
-pub opened_spec : {M : Type 1} → statement M
-opened_spec 𝓤 𝓛 𝓜 𝓡 wired = opened_meets _ slot 𝓤 𝓛 𝓜 𝓡 key.name (code.unfolded 𝓤 𝓛.H 𝓜 𝓡 wired)

@@ -1,0 +1,26 @@
+-- Arguments that decode are those that begin with a value within the limits.
+use Rattle.std.proofs.Common.{◌≡◌, ℕ, List, ◌++◌, length, refl}
+use Rattle.xdr_types.specs.Tree.{Tree}
+use Rattle.xdr_types.specs.Spelling.{bytes_of}
+use Rattle.xdr_types.specs.Within.{FitsWithin}
+use Rattle.xdr_laws.proofs.Whole.{whole_exactly}
+use Rattle.registry_dumps.specs.Dir.{dir_kinds}
+use Rattle.registry_answer.specs.Answer.{argument_limits, AreArguments}
+
+-- A value within the limits, and what follows its bytes.
+pub record BeginsWith (kind : ℕ) (args : List ℕ) (t : Tree) : Type 0 where
+  pub fits : FitsWithin dir_kinds kind argument_limits t
+  pub rest : List ℕ
+  pub is : args ≡ bytes_of dir_kinds kind t ++ rest
+
+pub begins : (kind : ℕ) (args : List ℕ) (t : Tree) → AreArguments kind args t → BeginsWith kind args t
+begins kind args t (place, o) =
+    let w = (whole_exactly dir_kinds kind argument_limits args t place refl).0 o in
+    record { fits = w.0; rest = w.1; is = w.2 }
+
+pub decoded : (kind : ℕ) (args : List ℕ) (t : Tree) → BeginsWith kind args t → AreArguments kind args t
+decoded kind args t b = (
+  length (bytes_of dir_kinds kind t),
+  (whole_exactly dir_kinds kind argument_limits args t (length (bytes_of dir_kinds kind t)) refl).1
+      (b.fits, b.rest, b.is, refl),
+)

@@ -1,0 +1,15 @@
+use Rattle.rpc_message.specs.View.{lent_call_view}
+use Rattle.registry_answer.specs.Views.{netid_of}
+use Rattle.registry_answer.proofs.Chains.{on_ok}
+use Rattle.registry_answer.proofs.Calls.{pushes_auth_error}
+use Rattle.registry_answer.proofs.answering.push_call.Goals as goal
+
+pub push_sendable-requires-clause-caller : goal.push_sendable-requires-clause-caller
+push_sendable-requires-clause-caller g c = rw c.in-Ok-Owner.field-0-is at c.in-Ok-Owner.ensures
+
+pub returns-in-Ok-Refused-clause-ok : goal.returns-in-Ok-Refused-clause-ok
+returns-in-Ok-Refused-clause-ok g c =
+    let is = rw c.in-Ok-Refused.field-0-is at c.in-Ok-Refused.ensures in
+    on_ok c.push_auth_error.result _ _ (pushes_auth_error c.args.directory.now (netid_of c.args.transport)
+    (lent_call_view c.args.call.now) _ _ c.in-Ok-Refused.stat c.requires c.push_auth_error.ensures.stat is)
+    c.push_auth_error.ensures.ok

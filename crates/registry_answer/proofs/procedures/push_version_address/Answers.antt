@@ -1,0 +1,20 @@
+use Rattle.std.proofs.Common.{◌≡◌, ◌++◌, List, ℕ, arith, ap, ◌∙◌}
+use Rattle.registry_rows.specs.Steps.{getversaddr}
+use Rattle.registry_answer.specs.Private.Parsed.{text}
+use Rattle.registry_answer.specs.Private.Pushes.{head}
+use Rattle.registry_answer.specs.Views.{netid_of}
+use Rattle.registry_answer.proofs.Chains.{then}
+use Rattle.registry_answer.proofs.procedures.push_version_address.Goals as goal
+
+pub push_text-requires : goal.push_text-requires
+push_text-requires g c = omega (arith, c.getversaddr-address.ensures.short)
+
+pub returns-clause-ok : goal.returns-clause-ok
+returns-clause-ok g c =
+    let rows = c.args.directory.now in
+    let r = c.args.r in
+    let old = c.args.out.now.items in
+    let is : c.getversaddr-address.result.now ≡ getversaddr rows r.prog r.vers (netid_of c.args.transport) =
+    c.getversaddr-address.ensures.value ∙ ap (λ (n : List ℕ). getversaddr rows r.prog r.vers n) c.netid.ensures in
+    then old (head c.args.xid 0) (text c.getversaddr-address.result.now) _ _ c.in_ok-push_head.ensures.ok
+    c.in_ok-push_text.ensures.ok ∙ ap (λ (t : List ℕ). old ++ (head c.args.xid 0 ++ text t)) is

@@ -1,0 +1,40 @@
+use Rattle.std.proofs.Common.{refl, arith}
+use Rattle.rpc_message.specs.View.{lent_call_view}
+use Rattle.registry_answer.specs.Owners.{owner_text}
+use Rattle.registry_answer.specs.Procedures.{null, dump_2, procedures_2}
+use Rattle.registry_answer.specs.Views.{netid_of}
+use Rattle.registry_answer.proofs.Chains.{on_ok}
+use Rattle.registry_answer.proofs.Statuses.{pushes_null, pushes_dump_2, pushes_no_procedure, garbage_2, called_2, past_2}
+use Rattle.registry_answer.proofs.Statuses.{nth}
+use Rattle.registry_answer.proofs.versions.push_version_2.Goals as goal
+
+pub returns-in-0-clause-ok : goal.returns-in-0-clause-ok
+returns-in-0-clause-ok g c =
+    let call = lent_call_view c.args.call.now in
+    on_ok c.push_head.result _ _ (pushes_null _ (netid_of c.args.transport) (owner_text c.args.owner) call _ _
+    (called_2 call null c.requires.prog c.requires.vers (nth procedures_2 call.proc 0 null c.in-0.is refl)))
+    c.push_head.ensures.ok
+
+pub returns-in_ok-push_head-in-4-clause-ok : goal.returns-in_ok-push_head-in-4-clause-ok
+returns-in_ok-push_head-in-4-clause-ok g c =
+    let call = lent_call_view c.args.call.now in
+    on_ok c.push_mappings.result _ _
+    (λ e. pushes_dump_2 _ (netid_of c.args.transport)
+    (owner_text c.args.owner) call _ _ c.push_head-in-4.new.out.items
+    (called_2 call dump_2 c.requires.prog c.requires.vers (nth procedures_2 call.proc 4 dump_2 c.in-4.is refl))
+    c.in_ok-push_head-in-4.ensures.ok e c.push_mappings.ensures.few)
+    c.push_mappings.ensures.ok
+
+pub returns-in-None-clause-ok : goal.returns-in-None-clause-ok
+returns-in-None-clause-ok g c =
+    let call = lent_call_view c.args.call.now in
+    on_ok c.push_head-in-None.result _ _
+    (garbage_2 _ (netid_of c.args.transport) (owner_text c.args.owner) call _ _ c.requires.prog c.requires.vers
+    (omega arith) (omega arith) c.in-None.ensures) c.push_head-in-None.ensures.ok
+
+pub returns-in_default-2-clause-ok : goal.returns-in_default-2-clause-ok
+returns-in_default-2-clause-ok g c =
+    let call = lent_call_view c.args.call.now in
+    on_ok c.push_head-in_default-2.result _ _ (pushes_no_procedure _ (netid_of c.args.transport)
+    (owner_text c.args.owner) call _ _ c.requires.prog (omega arith, omega arith)
+    (past_2 call.vers call.proc c.requires.vers (omega arith))) c.push_head-in_default-2.ensures.ok

@@ -1,0 +1,166 @@
+//! The kinds and names of the registry's types.
+ghost use Rattle.std.specs.Prelude.{◌≡◌, ◌++◌, ◌∷◌, [], IfOk, MatchResult, map, string_bytes, OnOk};
+ghost use Rattle.xdr_types.specs.Kinds as xdr;
+ghost use Rattle.xdr_types.specs.KindViews.{kind_view, part_of_member, name_of, lists_of};
+ghost use Rattle.xdr_types.specs.Faults.{IsWellFormed, fault};
+ghost use Rattle.xdr_types.specs.Sound.{IsSound};
+ghost use Rattle.xdr_types.specs.declared.fault.Flaw.TheVariants as flaw;
+ghost use Rattle.xdr_types.specs.Named.{named};
+ghost use Rattle.registry_dumps.specs.Dir.{dir_kinds, dir_lists, rpcb, mapping};
+
+use std::alloc::Global;
+use std::string::String;
+use xdr_types::{Kind, KindId, Member, NoMemory, Schema, SchemaFault, basic_kinds, basic_names};
+
+/// The schema of the registry's types (RFC 1833 sections 2.1 and 3.1), after the basic kinds: places 8 to 10 the
+/// strings of `rpcb`, 11 `rpcb`, 12 an optional node, 13 `rp__list`, 14 `rpcblist`, 15 `mapping`, 16 an optional node,
+/// 17 `pm__list`, 18 `pmaplist`. The lists are well formed and sound, so that the only error is want of memory.
+#[tactic(auto, using(crate::proofs::Legal::well_formed, crate::proofs::Legal::sound))]
+pub fn directory_schema(alloc: Global) -> Result<Schema, NoMemory>
+    ensures schema { IfOk result (λ s. s ≡ dir_lists) }
+    ensures well_formed { IsWellFormed dir_lists }
+    ensures sound { IsSound dir_kinds }
+{
+    let kinds = dir_kinds(alloc)?;
+    let names = dir_names(alloc)?;
+    match build_lists(alloc, kinds, names) {
+        Ok(schema) => Ok(schema),
+        Err(_) => Err(NoMemory),
+    }
+}
+
+// The schema of the registry's lists, in which no fault is found: a refusal is want of memory.
+fn build_lists(
+    alloc: Global,
+    kinds: Vec<Kind>,
+    names: Vec<(String, KindId)>,
+) -> Result<Schema, SchemaFault>
+    requires { lists_of kinds.items names.items ≡ dir_lists }
+    ensures { MatchResult result (λ s. s ≡ dir_lists) (λ e. e ≡ fault flaw.NoMemory 0) }
+{
+    Schema::build(alloc, kinds, names)
+}
+
+// All names, the basic ones first.
+fn dir_names(alloc: Global) -> Result<Vec<(String, KindId)>, NoMemory>
+    ensures { IfOk result (λ v. map name_of v.items ≡ dir_lists.names) }
+{
+    let mut names = basic_names(alloc)?;
+    push_name(&mut names, alloc, "rpcb", 11)?;
+    push_name(&mut names, alloc, "rp__list", 13)?;
+    push_name(&mut names, alloc, "rpcblist", 14)?;
+    push_name(&mut names, alloc, "mapping", 15)?;
+    push_name(&mut names, alloc, "pm__list", 17)?;
+    push_name(&mut names, alloc, "pmaplist", 18)?;
+    Ok(names)
+}
+
+// Adds a name and the place that it names.
+fn push_name(
+    names: &mut Vec<(String, KindId)>,
+    alloc: Global,
+    name: &str,
+    place: u32,
+) -> Result<(), NoMemory>
+    ensures { OnOk result (map name_of names.new.items ≡ map name_of names.old.items ++ named name.now place ∷ []) }
+{
+    names.push((String::from_str(alloc, name)?, KindId { place }))?;
+    Ok(())
+}
+
+// A row of versions 3 and 4.
+fn rpcb_kind(alloc: Global) -> Result<Kind, NoMemory>
+    ensures { IfOk result (λ k. kind_view k ≡ rpcb) }
+{
+    let mut fields = Vec::with_capacity(alloc, 5)?;
+    push_field(&mut fields, alloc, "r_prog", 1)?;
+    push_field(&mut fields, alloc, "r_vers", 1)?;
+    push_field(&mut fields, alloc, "r_netid", 8)?;
+    push_field(&mut fields, alloc, "r_addr", 9)?;
+    push_field(&mut fields, alloc, "r_owner", 10)?;
+    Ok(Kind::Structure { fields })
+}
+
+// Adds a field.
+fn push_field(
+    fields: &mut Vec<Member>,
+    alloc: Global,
+    name: &str,
+    place: u32,
+) -> Result<(), NoMemory>
+    ensures { let part = named name.now place in
+        OnOk result (map part_of_member fields.new.items ≡ map part_of_member fields.old.items ++ part ∷ []) }
+{
+    fields.push(Member {
+        name: String::from_str(alloc, name)?,
+        kind: KindId { place },
+    })?;
+    Ok(())
+}
+
+// The kinds, the basic ones first.
+fn dir_kinds(alloc: Global) -> Result<Vec<Kind>, NoMemory>
+    ensures { IfOk result (λ v. map kind_view v.items ≡ dir_kinds) }
+{
+    let mut kinds = basic_kinds(alloc)?;
+    push_kind(&mut kinds, Kind::Text { max: 4294967295 })?;
+    push_kind(&mut kinds, Kind::Text { max: 4294967295 })?;
+    push_kind(&mut kinds, Kind::Text { max: 4294967295 })?;
+    push_kind(&mut kinds, rpcb_kind(alloc)?)?;
+    push_kind(&mut kinds, maybe(13))?;
+    push_kind(
+        &mut kinds,
+        node_kind(alloc, "rpcb_map", 11, "rpcb_next", 12)?,
+    )?;
+    push_kind(&mut kinds, maybe(13))?;
+    push_kind(&mut kinds, mapping_kind(alloc)?)?;
+    push_kind(&mut kinds, maybe(17))?;
+    push_kind(&mut kinds, node_kind(alloc, "map", 15, "next", 16)?)?;
+    push_kind(&mut kinds, maybe(17))?;
+    Ok(kinds)
+}
+
+// An optional value.
+fn maybe(place: u32) -> Kind
+    ensures { kind_view result ≡ xdr.maybe place }
+{
+    Kind::Maybe {
+        item: KindId { place },
+    }
+}
+
+// Adds a kind.
+fn push_kind(kinds: &mut Vec<Kind>, kind: Kind) -> Result<(), NoMemory>
+    ensures { OnOk result (map kind_view kinds.new.items ≡ map kind_view kinds.old.items ++ kind_view kind ∷ []) }
+{
+    kinds.push(kind)?;
+    Ok(())
+}
+
+// A node of a list: its item and the rest.
+fn node_kind(
+    alloc: Global,
+    item: &str,
+    place: u32,
+    next: &str,
+    after: u32,
+) -> Result<Kind, NoMemory>
+    ensures { IfOk result (λ k. kind_view k ≡ xdr.structure (named item.now place ∷ named next.now after ∷ [])) }
+{
+    let mut fields = Vec::with_capacity(alloc, 2)?;
+    push_field(&mut fields, alloc, item, place)?;
+    push_field(&mut fields, alloc, next, after)?;
+    Ok(Kind::Structure { fields })
+}
+
+// A row of version 2.
+fn mapping_kind(alloc: Global) -> Result<Kind, NoMemory>
+    ensures { IfOk result (λ k. kind_view k ≡ mapping) }
+{
+    let mut fields = Vec::with_capacity(alloc, 4)?;
+    push_field(&mut fields, alloc, "prog", 1)?;
+    push_field(&mut fields, alloc, "vers", 1)?;
+    push_field(&mut fields, alloc, "prot", 1)?;
+    push_field(&mut fields, alloc, "port", 1)?;
+    Ok(Kind::Structure { fields })
+}

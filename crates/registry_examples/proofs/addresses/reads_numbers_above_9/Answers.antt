@@ -1,8 +1,0 @@
-use Rattle.std.proofs.Common.{ap, ◌∙◌}
-use Rattle.std.specs.Fmt.{digits}
-use Rattle.rpc_uaddr.specs.Uaddrs.{uaddr_of}
-use Rattle.registry_examples.proofs.addresses.reads_numbers_above_9.Goals as goal
-
-pub returns : goal.returns
-unfolding digits
-returns c = c.read_uaddr.ensures.value ∙ ap uaddr_of c.requires

@@ -1,7 +1,0 @@
-use Rattle.std.proofs.Common.{rules}
-use Rattle.std.specs.Fmt.{digits}
-use Rattle.registry_examples.proofs.addresses.writes_the_port_by_octets.Goals as goal
-
-pub returns : goal.returns
-unfolding digits
-returns c = search rules

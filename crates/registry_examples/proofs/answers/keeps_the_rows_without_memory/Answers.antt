@@ -1,5 +1,0 @@
-use Rattle.registry_examples.proofs.Messages.{kept}
-use Rattle.registry_examples.proofs.answers.keeps_the_rows_without_memory.Goals as goal
-
-pub returns : goal.returns
-returns g c = kept _ _ _ _ c.answer.result c.answer.ensures

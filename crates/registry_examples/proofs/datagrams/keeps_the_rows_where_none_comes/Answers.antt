@@ -1,5 +1,0 @@
-use Rattle.registry_examples.proofs.Waiting.{none_came}
-use Rattle.registry_examples.proofs.datagrams.keeps_the_rows_where_none_comes.Goals as goal
-
-pub returns : goal.returns
-returns g c = none_came _ _ _ _ _ _ c.serve_datagrams.result c.serve_datagrams.ensures.fault

@@ -1,7 +1,0 @@
-use Rattle.std.proofs.Common.{rules}
-use Rattle.std.specs.Fmt.{digits}
-use Rattle.registry_examples.proofs.looking.finds_its_own_version.Goals as goal
-
-pub returns : goal.returns
-unfolding digits
-returns g c = search rules

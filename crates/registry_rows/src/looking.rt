@@ -1,0 +1,63 @@
+//! The look-up of a row, which falls back to the greatest version.
+ghost use Rattle.std.specs.Prelude.{◌≡◌, true, nat_lt, option_map, filter, is_some, IfSome};
+ghost use Rattle.std.specs.List.{list_any};
+ghost use Rattle.std.specs.Option.{option_map_or};
+ghost use Rattle.registry_rows.specs.LookUp.{look_up, greatest, is_over};
+ghost use Rattle.registry_rows.specs.Rows.{IsRow};
+ghost use Rattle.registry_rows.specs.Views.{plain_row, plain_rows, AreEntries};
+
+use crate::entries::find;
+use crate::key::Key;
+use crate::row::Row;
+use indexmap::IndexMap;
+use std::hash::BuildHasher;
+
+/// The row of a program, a version and a netid; where there is none, the row of greatest version with that program and
+/// netid. The first is one look-up by the key's hash, the second a pass over the rows besides. It takes no memory.
+pub fn look_up<'a, S: BuildHasher>(
+    rows: &'a IndexMap<Key, Row, S>,
+    prog: u32,
+    vers: u32,
+    netid: &[u8],
+) -> Option<&'a Row>
+    requires { AreEntries rows.now.entries }
+    ensures value { let row = look_up (plain_rows rows.now.entries) prog vers netid.now in
+        option_map (λ r. plain_row r.now) result ≡ row }
+    ensures some { is_some result ≡ list_any (is_over prog netid.now) (plain_rows rows.now.entries) }
+    ensures row { IfSome result (λ r. IsRow (plain_row r.now)) }
+{
+    match find(rows, prog, vers, netid) {
+        Some(row) => Some(row),
+        None => find_greatest(rows, prog, netid),
+    }
+}
+
+// The row of greatest version of a program over a transport.
+fn find_greatest<'a, S: BuildHasher>(
+    rows: &'a IndexMap<Key, Row, S>,
+    prog: u32,
+    netid: &[u8],
+) -> Option<&'a Row>
+    requires { AreEntries rows.now.entries }
+    ensures value { let over = filter (is_over prog netid.now) (plain_rows rows.now.entries) in
+        option_map (λ r. plain_row r.now) result ≡ greatest over }
+    ensures row { IfSome result (λ r. IsRow (plain_row r.now)) }
+{
+    let mut greatest = None;
+    for row in rows.values() {
+        if row.is_over(prog, netid) && is_greater(row, greatest) {
+            greatest = Some(row);
+        }
+    }
+    greatest
+}
+
+// Whether the row's version is greater than that of another, or there is no other.
+fn is_greater(row: &Row, other: Option<&Row>) -> bool
+    ensures { result ≡ option_map_or (λ r. nat_lt r.now.vers row.now.vers) other.entry true }
+{
+    match other {
+        Some(other) => other.vers < row.vers,
+        None => true,
+    }
+}

@@ -1,7 +1,0 @@
-use Rattle.rpc_dumps.specs.Dir.{dir_kinds}
-use Rattle.rpc_answer.proofs.One.{one_answer}
-use Rattle.rpc_answer.proofs.laws.one_answer.Goals as goal
-
-pub returns : goal.returns
-returns c =
-    one_answer c.five_cases.ensures.exclusive c.auth_sys_bytes_are_exact.ensures (c.one_outcome.ensures dir_kinds)

@@ -1,7 +1,0 @@
-use Rattle.std.proofs.Common.{rules}
-use Rattle.std.specs.Fmt.{digits}
-use Rattle.xdr_examples.proofs.units.writes_a_decimal.Goals as goal
-
-pub returns : goal.returns
-unfolding digits
-returns c = search rules
