@@ -15,9 +15,10 @@ use Rattle.registry_rows.specs.Rows.{Row}
 use Rattle.registry_dumps.specs.Dir.{dir_kinds}
 use Rattle.registry_answer.specs.Callers.{Caller, Owner, Refused, owner_of, IsCaller, anyone, user, unreadable, other}
 use Rattle.registry_answer.specs.Procedures.{Procedure}
-use Rattle.registry_answer.specs.Answer.{argument_limits, AreArguments, IsVersion, IsCallOf, ComesTo, no_program, no_version}
-use Rattle.registry_answer.specs.Answer.{no_procedure, garbage, success, accepted, auth_error, AnswersCall, denies, accepts}
-use Rattle.registry_answer.specs.Answer.{too_long, is_too_long}
+use Rattle.registry_answer.specs.Answer.{argument_limits, AreArguments, IsVersion, IsCallOf, ComesTo}
+use Rattle.registry_answer.specs.Answer.{no_program, no_version}
+use Rattle.registry_answer.specs.Answer.{no_procedure, garbage, success, accepted, auth_error, AnswersCall}
+use Rattle.registry_answer.specs.Answer.{denies, accepts, too_long, is_too_long}
 use Rattle.registry_answer.specs.Answer.{Answers}
 use Rattle.registry_answer.specs.Laws.{OneAnswer}
 use Rattle.registry_answer.proofs.Cases.{sends_is, Decided, decided}

@@ -21,8 +21,10 @@ use Rattle.registry_answer.specs.Private.Parsed.{text}
 use Rattle.registry_answer.proofs.Chains.{then}
 use Rattle.registry_answer.proofs.Decoded.{decoded}
 use Rattle.registry_answer.proofs.Fields.{length-padded}
-use Rattle.registry_answer.specs.Procedures.{Procedure, null, set_2, unset_2, getport_2, dump_2, set_3, unset_3, getaddr_3}
-use Rattle.registry_answer.specs.Procedures.{dump_3, getversaddr_4, procedures_2, procedures_3, procedure_at, void, told}
+use Rattle.registry_answer.specs.Procedures.{Procedure, null, set_2, unset_2, getport_2, dump_2, set_3, unset_3}
+use Rattle.registry_answer.specs.Procedures.{getaddr_3}
+use Rattle.registry_answer.specs.Procedures.{dump_3, getversaddr_4, procedures_2, procedures_3, procedure_at}
+use Rattle.registry_answer.specs.Procedures.{void, told}
 use Rattle.registry_answer.specs.Answer.{AreArguments, AreGarbage, IsVersion, IsCallOf, ComesTo, no_program, no_version}
 use Rattle.registry_answer.specs.Answer.{no_procedure, garbage, success, accepted, program}
 use Rattle.registry_answer.specs.Answering.{most}

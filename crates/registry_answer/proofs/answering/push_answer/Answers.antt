@@ -4,8 +4,8 @@ use Rattle.rpc_message.specs.View.{lent_call_view}
 use Rattle.registry_answer.specs.Answer.{auth_error, other_version, bad_cred, bad_verf, call}
 use Rattle.registry_answer.specs.Views.{netid_of}
 use Rattle.registry_answer.proofs.Chains.{on_ok}
-use Rattle.registry_answer.proofs.Calls.{answers_silence, answers_no_memory, adds, adds_short, pushes_by, any_err, on_err}
-use Rattle.registry_answer.proofs.Calls.{unchanged}
+use Rattle.registry_answer.proofs.Calls.{answers_silence, answers_no_memory, adds, adds_short, pushes_by}
+use Rattle.registry_answer.proofs.Calls.{any_err, on_err, unchanged}
 use Rattle.registry_answer.proofs.answering.push_answer.Goals as goal
 
 pub returns-in-NotACall-clause-answer : goal.returns-in-NotACall-clause-answer

@@ -4,8 +4,8 @@ use Rattle.registry_answer.specs.Owners.{owner_text}
 use Rattle.registry_answer.specs.Procedures.{null, dump_2, procedures_2}
 use Rattle.registry_answer.specs.Views.{netid_of}
 use Rattle.registry_answer.proofs.Chains.{on_ok}
-use Rattle.registry_answer.proofs.Statuses.{pushes_null, pushes_dump_2, pushes_no_procedure, garbage_2, called_2, past_2}
-use Rattle.registry_answer.proofs.Statuses.{nth}
+use Rattle.registry_answer.proofs.Statuses.{pushes_null, pushes_dump_2, pushes_no_procedure, garbage_2}
+use Rattle.registry_answer.proofs.Statuses.{called_2, past_2, nth}
 use Rattle.registry_answer.proofs.versions.push_version_2.Goals as goal
 
 pub returns-in-0-clause-ok : goal.returns-in-0-clause-ok
