@@ -11,6 +11,7 @@ use Rattle.xdr_show.specs.Shown.{show_text}
 use Rattle.xdr_stream.specs.declared.fault.Reason.{Reason}
 use Rattle.xdr_stream.specs.declared.fault.Reason.TheVariants as reason
 use Rattle.xdr_stream.specs.Sees.{Ends}
+use Rattle.oncrpc_tasks.specs.declared.question.Question as declared
 use Rattle.oncrpc_tasks.specs.declared.answer.Answer.{Answer}
 use Rattle.oncrpc_tasks.specs.declared.answer.Answer.TheVariants as answer
 use Rattle.oncrpc_tasks.specs.Hexadecimal.{digits, IsBadHex}
@@ -21,6 +22,14 @@ pub record Question : Type 0 where
   pub place : ℕ
   pub limits : Bounds
   pub shows : Bool
+
+-- what a question of the code asks
+abbrev pub asked_of : declared.Question → Question
+asked_of q = record { kinds = q.schema.now.kinds; place = q.kind.place; limits = q.limits; shows = q.shows }
+
+-- the kind that it asks for is one of its schema's
+abbrev pub IsKnown : declared.Question → Type 0
+IsKnown q = q.kind.place < length q.schema.now.kinds
 
 -- what is printed of a value before the line of its outcome
 abbrev pub lines_of : Question → Tree → List ℕ

@@ -7,7 +7,7 @@ use Rattle.oncrpc_tasks.specs.declared.task.Task.{Task}
 use Rattle.oncrpc_tasks.specs.declared.task.Task.TheVariants as task
 use Rattle.oncrpc_tasks.specs.declared.task.ValueTask.{ValueTask}
 use Rattle.oncrpc_tasks.specs.declared.failure.Failure.TheVariants as failure
-use Rattle.oncrpc_tasks.specs.declared.question.Question as declared
+use Rattle.oncrpc_tasks.specs.declared.target.Target.{Target}
 use Rattle.oncrpc_tasks.specs.declared.unusable.Unusable.{Unusable}
 use Rattle.oncrpc_tasks.specs.declared.unusable.Unusable.TheVariants as unusable
 use Rattle.oncrpc_tasks.specs.Checked.{Answers}
@@ -51,11 +51,11 @@ pub record AsksNothing (told : List ℕ → Option (List ℕ)) (what : ValueTask
   pub none : (shows : Bool) (q : Question) → Asks text what shows q → ⊥
 
 -- The question is asked, by a text that is told.
-pub record AsksFor (told : List ℕ → Option (List ℕ)) (what : ValueTask) (question : declared.Question) : Type 0 where
+pub record AsksFor (told : List ℕ → Option (List ℕ)) (what : ValueTask) (target : Target) : Type 0 where
   pub text : List ℕ
   pub is_told : IsTold (told_text told what.types) text
   pub asked : (shows : Bool) → Asks text what shows
-      (record { kinds = question.schema.kinds; place = question.kind.place; limits = question.limits; shows = shows })
+      (record { kinds = target.schema.kinds; place = target.kind.place; limits = target.limits; shows = shows })
 
 -- why there is no question: what the words say, a file that could not be read, or want of memory
 abbrev pub HasNoQuestion : (List ℕ → Option (List ℕ)) → ValueTask → Unusable → Type 0

@@ -3,16 +3,17 @@ ghost use Rattle.std.specs.Prelude.{◌≡◌, ◌⊎◌, ◌≤◌, ◌<◌, �
 ghost use Rattle.std.specs.Prelude.{IfErr, OnOk, IsErrOf};
 ghost use Rattle.xdr_types.specs.Within.{AreBounds};
 ghost use Rattle.xdr_io.specs.Told.{Counts, CountsAtMost, MovesAtMost};
-ghost use Rattle.oncrpc_tasks.specs.Right.{Question, IsRight, IsRightFor};
+ghost use Rattle.oncrpc_tasks.specs.Right as right;
+ghost use Rattle.oncrpc_tasks.specs.Right.{IsKnown, IsRight, IsRightFor, asked_of};
 ghost use Rattle.oncrpc_tasks.specs.Stopping.{LastRead, ReadsUnsettled, IsUnread};
-ghost use Rattle.oncrpc_tasks.specs.Private.Judged.{Follows, IsKept, Says};
+ghost use Rattle.oncrpc_tasks.specs.Private.Judged.{Follows, IsKept, Says, unshown};
 
 use super::answer::Answer;
 use super::failure::Failure;
+use super::question::Question;
 use std::alloc::{AllocError, Global};
 use xdr_codec::{Checker, DecodeFault, Progress, Reason};
 use xdr_io::{MOST_READS, Source};
-use xdr_types::{KindId, Limits, Schema};
 
 /// What the bytes so far say.
 #[derive(Clone, Copy)]
@@ -26,7 +27,7 @@ enum Verdict {
 /// Feeds a piece after `count` bytes.
 fn judge_piece(checker: &mut Checker, count: usize, piece: &[u8]) -> Result<Verdict, Failure>
     requires { count ≤ 16777216 }
-    ensures says { IfOk result (λ v. (q : Question) (bytes : List ℕ) → Follows q checker.old bytes
+    ensures says { IfOk result (λ v. (q : right.Question) (bytes : List ℕ) → Follows q checker.old bytes
         → AreBounds q.limits.depth q.limits.bytes → count ≡ length bytes → Says q checker.new (bytes ++ piece.now) v) }
     ensures memory { IfErr result (λ f. f ≡ Failure.NoMemory) }
 {
@@ -47,20 +48,19 @@ fn judge_piece(checker: &mut Checker, count: usize, piece: &[u8]) -> Result<Verd
 }
 
 /// What all bytes of an input say.
-pub fn judge_bytes(
-    alloc: Global,
-    schema: &Schema,
-    kind: KindId,
-    limits: Limits,
-    bytes: &[u8],
-) -> Result<Answer, Failure>
-    requires { kind.place < length schema.now.kinds }
-    ensures right { IfOk result (λ a.
-        IsRight (record { kinds = schema.now.kinds; place = kind.place; limits = limits; shows = false })
-        bytes.now a []) }
+pub fn judge_bytes(alloc: Global, question: &Question, bytes: &[u8]) -> Result<Answer, Failure>
+    requires { IsKnown question.now }
+    ensures right { IfOk result (λ a. IsRight (unshown (asked_of question.now)) bytes.now a []) }
     ensures memory { IfErr result (λ f. f ≡ Failure.NoMemory) }
 {
-    let _range = limits.depth();
+    let Question {
+        schema,
+        kind,
+        limits,
+        ..
+    } = *question;
+    // The range of the limits, for the proof.
+    let _in_range = limits.depth();
     let mut checker = Checker::start(alloc, schema, kind, limits);
     let verdict = judge_piece(&mut checker, 0, bytes)?;
     match verdict {
@@ -69,39 +69,40 @@ pub fn judge_bytes(
     }
 }
 
-/// What an input says that is judged as it is read, and all bytes that were read where `keeps` asks for them. Reading
-/// stops where the answer is settled: at a refusal, at the first byte after the value, or at the end. A refusal of no
-/// bytes is answered before any read.
+/// What an input says that is judged as it is read, and all bytes that were read where the lines are to be shown.
+/// Reading stops where the answer is settled: at a refusal, at the first byte after the value, or at the end. A refusal
+/// of no bytes is answered before any read.
 pub fn judge_over<I: Source>(
     alloc: Global,
+    question: &Question,
     input: &mut I,
-    schema: &Schema,
-    kind: KindId,
-    limits: Limits,
-    keeps: bool,
 ) -> Result<(Answer, Vec<u8>), Failure>
-    requires { kind.place < length schema.now.kinds }
+    requires { IsKnown question.now }
     ensures right { IfOk result (λ r.
-        IsRightFor (record { kinds = schema.now.kinds; place = kind.place; limits = limits; shows = false }) false
-        (I.left input.old) r.0 []) }
+        IsRightFor (unshown (asked_of question.now)) false (I.left input.old) r.0 []) }
     ensures kept { IfOk result (λ r.
-        IsKept keeps (record { kinds = schema.now.kinds; place = kind.place; limits = limits; shows = false })
-        (I.left input.old) (I.left input.new) r.0 r.1.items) }
+        IsKept question.now.shows (unshown (asked_of question.now)) (I.left input.old) (I.left input.new) r.0
+        r.1.items) }
     ensures none_failed { OnOk result (Counts 0 (I.failures input.old) (I.failures input.new)) }
     ensures failed { IsErrOf result Failure.Read → Counts 1 (I.failures input.old) (I.failures input.new)
-        × ReadsUnsettled (record { kinds = schema.now.kinds; place = kind.place; limits = limits; shows = false })
-        (I.left input.old) (I.left input.new) }
+        × ReadsUnsettled (unshown (asked_of question.now)) (I.left input.old) (I.left input.new) }
     ensures many { IsErrOf result Failure.TooManyReads → Counts 1048576 (I.reads input.old) (I.reads input.new)
-        × ReadsUnsettled (record { kinds = schema.now.kinds; place = kind.place; limits = limits; shows = false })
-        (I.left input.old) (I.left input.new) }
+        × ReadsUnsettled (unshown (asked_of question.now)) (I.left input.old) (I.left input.new) }
     ensures no_write { IsErrOf result Failure.Write → ⊥ }
     ensures reads { CountsAtMost 1048576 (I.reads input.old) (I.reads input.new) }
-    ensures moved { MovesAtMost (limits.bytes + 4096) (I.left input.old) (I.left input.new) }
+    ensures moved { MovesAtMost (question.now.limits.bytes + 4096) (I.left input.old) (I.left input.new) }
     ensures stops { IsUnread (I.left input.old) (I.left input.new) (I.reads input.old) (I.reads input.new)
-        ⊎ LastRead (record { kinds = schema.now.kinds; place = kind.place; limits = limits; shows = false })
-        (I.left input.old) (I.left input.new) (I.reads input.old) (I.reads input.new) }
+        ⊎ LastRead (unshown (asked_of question.now)) (I.left input.old) (I.left input.new) (I.reads input.old)
+        (I.reads input.new) }
 {
-    let _range = limits.depth();
+    let Question {
+        schema,
+        kind,
+        limits,
+        ..
+    } = *question;
+    // The range of the limits, for the proof.
+    let _in_range = limits.depth();
     let mut checker = Checker::start(alloc, schema, kind, limits);
     let mut kept = Vec::new(alloc);
     let mut at_end = match judge_piece(&mut checker, 0, &[])? {
@@ -119,7 +120,7 @@ pub fn judge_over<I: Source>(
             return Ok((at_end, kept));
         }
         let verdict = judge_piece(&mut checker, count, &array[..n])?;
-        keep(&mut kept, keeps, &array[..n])?;
+        keep(&mut kept, question.shows, &array[..n])?;
         at_end = match verdict {
             Verdict::Open(answer) => answer,
             Verdict::Settled(answer) => return Ok((answer, kept)),

@@ -11,12 +11,14 @@ mod judge;
 mod open;
 mod question;
 mod records;
+mod target;
 mod task;
 mod unusable;
 
 pub use answer::{Answer, line_of};
-pub use check::{check_over, show_over};
+pub use check::{answer_over, check_over, show_over};
 pub use failure::{Failure, report};
 pub use open::{MemoryOpener, Opener};
+pub use question::Question;
 pub use records::{MOST_LIMIT, Marking, records_over};
 pub use task::{RecordsTask, Task, ValueTask, task_over};

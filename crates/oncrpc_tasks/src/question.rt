@@ -1,49 +1,14 @@
-//! What a task asks of its input.
-ghost use Rattle.std.specs.Prelude.{◌≡◌, ◌<◌, length, IfOk, IfErr, IsErrOf};
-ghost use Rattle.oncrpc_tasks.specs.Sources.{FileFails};
-ghost use Rattle.oncrpc_tasks.specs.Tasks.{AsksFor, HasNoQuestion};
-
-use super::declared::declared;
-use super::failure::Failure;
-use super::open::Opener;
-use super::task::ValueTask;
-use super::unusable::Unusable;
-use oncrpc_kinds::kind_named;
-use std::alloc::Global;
+//! What is asked of an input.
 use xdr_types::{KindId, Limits, Schema};
 
-/// A kind that its schema has, and the limits on a value of it.
-#[derive(Drop)]
-pub struct Question {
-    pub schema: Schema,
+/// A value of a kind that the schema has, within the limits, and how it is read and told.
+#[derive(Clone, Copy)]
+pub struct Question<'a> {
+    pub schema: &'a Schema,
     pub kind: KindId,
     pub limits: Limits,
-}
-
-/// What the task asks. The declarations are looked at first, then the name, then the limits.
-pub fn question_of<P: Opener>(
-    alloc: Global,
-    what: &ValueTask,
-    opener: &mut P,
-) -> Result<Question, Unusable>
-    ensures asks { IfOk result (λ q. AsksFor (P.told opener.old) what.now q) }
-    ensures known { IfOk result (λ q. q.kind.place < length q.schema.kinds) }
-    ensures none { IfErr result (λ why. HasNoQuestion (P.told opener.old) what.now why) }
-    ensures failed { IsErrOf result (Unusable.Failed Failure.Read)
-        → FileFails P.Text.left P.Text.failures (P.told opener.old) what.now.types
-        (P.failures opener.old) (P.failures opener.new) }
-{
-    let declared = declared(alloc, &what.types, opener)?;
-    let kind = match kind_named(&declared, &what.name) {
-        Some(kind) if declared.schema.has(kind) => kind,
-        _ => return Err(Unusable::Name),
-    };
-    let Some(limits) = Limits::new(what.depth, what.bytes) else {
-        return Err(Unusable::Limits);
-    };
-    Ok(Question {
-        schema: declared.schema,
-        kind,
-        limits,
-    })
+    /// Whether the input is a text of hexadecimal. Else it is read as it is.
+    pub hex: bool,
+    /// Whether the lines of the value are printed before the line of its outcome.
+    pub shows: bool,
 }

@@ -3,10 +3,11 @@ ghost use Rattle.oncrpc_tasks.specs.Ends.{OfWords, TaskEnds, asked_by};
 ghost use Rattle.oncrpc_tasks.specs.Sources.{FileFails};
 ghost use Rattle.oncrpc_tasks.specs.Tasks.{file_of};
 
-use super::check::{check_over, show_over};
+use super::check::answer_over;
 use super::open::Opener;
-use super::question::question_of;
+use super::question::Question;
 use super::records::records_over;
+use super::target::target_of;
 use super::unusable::refuse;
 use std::alloc::Global;
 use xdr_io::{Sink, Source};
@@ -85,14 +86,16 @@ fn value_over<P: Opener, I: Source, O: Sink, F: Sink>(
         (record { left = I.left; reads = I.reads; failures = I.failures; taken = O.taken; lost = O.failures })
         input.old input.new output.old output.new faults.old faults.new result }
 {
-    let question = match question_of(alloc, what, opener) {
-        Ok(question) => question,
+    let target = match target_of(alloc, what, opener) {
+        Ok(target) => target,
         Err(why) => return refuse(alloc, why, &what.name, faults),
     };
-    let (schema, kind, limits) = (&question.schema, question.kind, question.limits);
-    if shows {
-        show_over(alloc, input, output, faults, schema, kind, limits, what.hex)
-    } else {
-        check_over(alloc, input, output, faults, schema, kind, limits, what.hex)
-    }
+    let question = Question {
+        schema: &target.schema,
+        kind: target.kind,
+        limits: target.limits,
+        hex: what.hex,
+        shows,
+    };
+    answer_over(alloc, &question, input, output, faults)
 }

@@ -1,46 +1,26 @@
 -- What is read as it is, shown and not.
-use Rattle.oncrpc_tasks.specs.Right.{Question}
+use Rattle.oncrpc_tasks.specs.Right.{asked_of}
 use Rattle.oncrpc_tasks.proofs.Showing.{shows_kept, stops_shown}
 use Rattle.oncrpc_tasks.proofs.check.answer_to.Goals as goal
 
 pub returns-in_err-answer-clause-stops : goal.returns-in_err-answer-clause-stops
 returns-in_err-answer-clause-stops g c =
-    let q : Question = record {
-      kinds = c.args.schema.now.kinds;
-      place = c.args.kind.place;
-      limits = c.args.limits;
-      shows = c.args.shows;
-    } in
+    let q = asked_of c.args.question.now in
     λ plain. stops_shown q _ _ _ _ c.judge_over.ensures.stops
 
 pub returns-in_err-shown-clause-stops : goal.returns-in_err-shown-clause-stops
 returns-in_err-shown-clause-stops g c =
-    let q : Question = record {
-      kinds = c.args.schema.now.kinds;
-      place = c.args.kind.place;
-      limits = c.args.limits;
-      shows = c.args.shows;
-    } in
+    let q = asked_of c.args.question.now in
     λ plain. stops_shown q _ _ _ _ c.judge_over.ensures.stops
 
 pub returns-in_ok-shown-clause-right : goal.returns-in_ok-shown-clause-right
 returns-in_ok-shown-clause-right g c =
-    let q : Question = record {
-      kinds = c.args.schema.now.kinds;
-      place = c.args.kind.place;
-      limits = c.args.limits;
-      shows = c.args.shows;
-    } in
-    rw c.if-hex.false (shows_kept q c.args.shows _ _ c.in_ok-answer.bytes.items _ _ c.in_ok-answer.ensures.kept
+    let q = asked_of c.args.question.now in
+    rw c.if-hex.false (shows_kept q q.shows _ _ c.in_ok-answer.bytes.items _ _ c.in_ok-answer.ensures.kept
     c.in_ok-answer.ensures.right
     (rw c.deref.ensures.value at c.in_ok-shown.ensures.right))
 
 pub returns-in_ok-shown-clause-stops : goal.returns-in_ok-shown-clause-stops
 returns-in_ok-shown-clause-stops g c =
-    let q : Question = record {
-      kinds = c.args.schema.now.kinds;
-      place = c.args.kind.place;
-      limits = c.args.limits;
-      shows = c.args.shows;
-    } in
+    let q = asked_of c.args.question.now in
     λ plain. stops_shown q _ _ _ _ c.judge_over.ensures.stops

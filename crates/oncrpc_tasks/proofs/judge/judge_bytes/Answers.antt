@@ -6,13 +6,15 @@ use Rattle.oncrpc_tasks.proofs.judge.judge_bytes.Goals as goal
 pub returns-in-Open-clause-right : goal.returns-in-Open-clause-right
 returns-in-Open-clause-right c =
     all_open _ _ c.args.bytes.now _ c.in-Open.answer c.in-Open.is
-    (c.in_ok-verdict.ensures.says _ [] (started c.start-checker.result c.args.schema.now c.args.kind c.args.limits
+    (c.in_ok-verdict.ensures.says _ [] (started c.start-checker.result c.args.question.now.schema.now
+    c.args.question.now.kind c.args.question.now.limits
     c.start-checker.ensures.stands
     c.start-checker.ensures.settings) c.depth-range.ensures.range refl)
 
 pub returns-clause-right : goal.returns-clause-right
 returns-clause-right c =
     all_settled _ _ c.args.bytes.now _ c.in-Settled.answer c.in-Settled.is
-    (c.in_ok-verdict.ensures.says _ [] (started c.start-checker.result c.args.schema.now c.args.kind c.args.limits
+    (c.in_ok-verdict.ensures.says _ [] (started c.start-checker.result c.args.question.now.schema.now
+    c.args.question.now.kind c.args.question.now.limits
     c.start-checker.ensures.stands
     c.start-checker.ensures.settings) c.depth-range.ensures.range refl)

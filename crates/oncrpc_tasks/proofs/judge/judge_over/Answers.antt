@@ -13,21 +13,24 @@ use Rattle.oncrpc_tasks.proofs.judge.judge_over.Goals as goal
 pub returns-in-Settled-clause-right : goal.returns-in-Settled-clause-right
 returns-in-Settled-clause-right g c =
     settled_first _ _ _ c.in-Settled.answer _ c.in-Settled.is
-    (c.in_ok-answer.ensures.says _ [] (started c.start-checker.result c.args.schema.now c.args.kind c.args.limits
+    (c.in_ok-answer.ensures.says _ [] (started c.start-checker.result c.args.question.now.schema.now
+    c.args.question.now.kind c.args.question.now.limits
     c.start-checker.ensures.stands
     c.start-checker.ensures.settings) c.depth-range.ensures.range refl)
 
 pub returns-in-Settled-clause-kept : goal.returns-in-Settled-clause-kept
 returns-in-Settled-clause-kept g c =
-    kept_first _ _ _ c.in-Settled.answer _ c.args.keeps _ c.new-kept.ensures.items c.in-Settled.is
-    (c.in_ok-answer.ensures.says _ [] (started c.start-checker.result c.args.schema.now c.args.kind c.args.limits
+    kept_first _ _ _ c.in-Settled.answer _ c.args.question.now.shows _ c.new-kept.ensures.items c.in-Settled.is
+    (c.in_ok-answer.ensures.says _ [] (started c.start-checker.result c.args.question.now.schema.now
+    c.args.question.now.kind c.args.question.now.limits
     c.start-checker.ensures.stands
     c.start-checker.ensures.settings) c.depth-range.ensures.range refl)
 
 pub loop-turn-init : goal.loop-turn-init
 loop-turn-init g c = record {
-  progress = begun _ _ _ c.in-Open.answer _ c.args.keeps _ c.new-kept.ensures.items c.in-Open.is
-      (c.in_ok-answer.ensures.says _ [] (started c.start-checker.result c.args.schema.now c.args.kind c.args.limits
+  progress = begun _ _ _ c.in-Open.answer _ c.args.question.now.shows _ c.new-kept.ensures.items c.in-Open.is
+      (c.in_ok-answer.ensures.says _ [] (started c.start-checker.result c.args.question.now.schema.now
+      c.args.question.now.kind c.args.question.now.limits
       c.start-checker.ensures.stands
       c.start-checker.ensures.settings) c.depth-range.ensures.range refl);
   reads = Counts-none _;

@@ -1,13 +1,13 @@
-use Rattle.std.proofs.Common.{false}
 use Rattle.xdr_io.specs.Told.{Counts}
+use Rattle.oncrpc_tasks.specs.Right.{asked_of}
+use Rattle.oncrpc_tasks.specs.Private.Judged.{unshown}
 use Rattle.oncrpc_tasks.proofs.Progress.{Progress}
 use Rattle.oncrpc_tasks.proofs.judge.judge_over.Given as goal
 
 abbrev pub invariant-loop-turn : goal.invariant-loop-turn
 invariant-loop-turn g l = record {
-  progress : Progress
-      (record { kinds = l.fn.schema.kinds; place = l.fn.kind.place; limits = l.fn.limits; shows = false }) l.checker
-      l.count l.at_end l._turn (g.I.Source.left l.fn.input) (g.I.Source.left l.input) l.fn.keeps l.kept.items;
+  progress : Progress (unshown (asked_of l.fn.question)) l.checker l.count l.at_end l._turn
+      (g.I.Source.left l.fn.input) (g.I.Source.left l.input) l.fn.question.shows l.kept.items;
   reads : Counts l._turn (g.I.Source.reads l.fn.input) (g.I.Source.reads l.input);
   none_failed : Counts 0 (g.I.Source.failures l.fn.input) (g.I.Source.failures l.input);
 }

@@ -1,8 +1,8 @@
 -- A name that names no kind that is there asks nothing.
 use Rattle.xdr_lang.specs.Views.{declared_of}
 use Rattle.oncrpc_tasks.proofs.Questions.{nothing_asked, none_known, not_known, false_is}
-use Rattle.oncrpc_tasks.proofs.question.question_of.Goals as goal
-use Rattle.oncrpc_tasks.proofs.question.question_of.Goals.{in_default-via-in-Some+else-has, in_default-via-in_default}
+use Rattle.oncrpc_tasks.proofs.target.target_of.Goals as goal
+use Rattle.oncrpc_tasks.proofs.target.target_of.Goals.{in_default-via-in-Some+else-has, in_default-via-in_default}
 
 pub returns-in_default-clause-none : goal.returns-in_default-clause-none
 returns-in_default-clause-none g c =
