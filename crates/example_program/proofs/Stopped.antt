@@ -3,8 +3,9 @@ use Rattle.std.proofs.Common.{◌≡◌, ℕ, ◌+◌, List, Option, Some, false
 use Rattle.std.specs.Io.KnownBytes.{Appends, Consumes}
 use Rattle.xdr_io.specs.Told.{Counts}
 use Rattle.rpc_record.specs.Marked.{Longest, normal}
-use Rattle.oncrpc_tasks.specs.Ends.{Tells, Fails, OfRecords, TaskEnds}
+use Rattle.oncrpc_tasks.specs.Devices.{Tells, Fails}
 use Rattle.oncrpc_tasks.specs.Records.{StopsFor}
+use Rattle.oncrpc_tasks.specs.RecordsEnd.{RecordsEnd}
 use Rattle.oncrpc_tasks.specs.declared.failure.Failure.{Failure}
 use Rattle.oncrpc_tasks.specs.declared.failure.Failure.TheVariants as failure
 
@@ -29,9 +30,9 @@ module _ {I O : Type 0} (tells : Tells I O) (i i' : I) (o o' : O) (limit : ℕ) 
   of_failure failure.TooManyReads h s p q = (s.input, s.rs, s.read, s.stopped.0, s.stopped.1)
   of_failure failure.NoMemory h s p q = absurd h
 
-  pub before_a_failure : {F : Type 0} (file : Type 0) (fs fs' : F) (status : ℕ)
-      → TaskEnds (OfRecords limit false) file tells i i' o o' fs fs' status → status ≡ 3 → tells.lost o ≡ Some 0
+  pub before_a_failure : {F : Type 0} (fs fs' : F) (status : ℕ)
+      → RecordsEnd limit false tells i i' o o' fs fs' status → status ≡ 3 → tells.lost o ≡ Some 0
       → tells.lost o' ≡ Some 0
       → WritesAll limit (tells.left i) (tells.left i') (tells.taken o) (tells.taken o')
-  before_a_failure file fs fs' status e three p q =
+  before_a_failure fs fs' status e three p q =
       let h = e.in_part three in of_failure h.0 h.1 h.2 p q

@@ -4,7 +4,7 @@ use Rattle.xdr_io.specs.Told.{Counts}
 use Rattle.oncrpc_tasks.specs.declared.failure.Failure.{Failure}
 use Rattle.oncrpc_tasks.specs.declared.failure.Failure.TheVariants as failure
 use Rattle.oncrpc_tasks.specs.declared.records.Marking.{Marking}
-use Rattle.oncrpc_tasks.specs.Ends.{Tells, Fails}
+use Rattle.oncrpc_tasks.specs.Devices.{Tells, Fails}
 use Rattle.oncrpc_tasks.specs.Status.{failure_status}
 
 pub failed_by : {I O : Type 0} (tells : Tells I O) (i i' : I) (o o' : O) (r : Result Marking Failure) (f : Failure)

@@ -1,10 +1,12 @@
 pub mod Checked
+pub mod Devices
 pub mod Ends
 pub mod Hexadecimal
 pub mod Input
 pub mod Lines
 pub mod Private
 pub mod Records
+pub mod RecordsEnd
 pub mod Right
 pub mod Sources
 pub mod Status

@@ -10,7 +10,6 @@ use Rattle.oncrpc_tasks.specs.declared.failure.Failure.TheVariants as failure
 use Rattle.oncrpc_tasks.specs.declared.target.Target.{Target}
 use Rattle.oncrpc_tasks.specs.declared.unusable.Unusable.{Unusable}
 use Rattle.oncrpc_tasks.specs.declared.unusable.Unusable.TheVariants as unusable
-use Rattle.oncrpc_tasks.specs.Checked.{Answers}
 use Rattle.oncrpc_kinds.specs.Naming.{Names}
 use Rattle.oncrpc_tasks.specs.Right.{Question}
 use Rattle.oncrpc_tasks.specs.Sources.{IsDeclared, IsTold, told_text}
@@ -25,24 +24,6 @@ pub record Asks (text : List ℕ) (what : ValueTask) (shows : Bool) (q : Questio
   pub in_range : AreBounds what.depth what.bytes
   pub limits : q.limits ≡ record { depth = what.depth; bytes = what.bytes }
   pub lines : q.shows ≡ shows
-
--- A question is asked, by a text that is told, and this is true of it.
-pub record ByWords (told : List ℕ → Option (List ℕ)) (what : ValueTask) (shows : Bool) (Holds : Question → Type 0)
-    : Type 0 where
-  pub text : List ℕ
-  pub is_told : IsTold (told_text told what.types) text
-  pub question : Question
-  pub asked : Asks text what shows question
-  pub holds : Holds question
-
--- A question is asked, by a text that is told, and was answered.
-pub record IsAnswered (told : List ℕ → Option (List ℕ)) (what : ValueTask) (shows : Bool)
-    (left taken taken' : Option (List ℕ)) (status : ℕ) : Type 0 where
-  pub text : List ℕ
-  pub is_told : IsTold (told_text told what.types) text
-  pub question : Question
-  pub asked : Asks text what shows question
-  pub answered : Answers question what.hex left taken taken' status
 
 -- No question is asked, by a text that is told.
 pub record AsksNothing (told : List ℕ → Option (List ℕ)) (what : ValueTask) : Type 0 where

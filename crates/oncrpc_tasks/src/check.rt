@@ -4,7 +4,7 @@ ghost use Rattle.std.specs.Prelude.{OnOk, IsErrOf};
 ghost use Rattle.std.specs.Io.KnownBytes.{Appends};
 ghost use Rattle.xdr_io.specs.Told.{Counts, CountsAtMost, MovesAtMost};
 ghost use Rattle.oncrpc_tasks.specs.Checked.{AnswersInPart};
-ghost use Rattle.oncrpc_tasks.specs.Ends.{OfValue, TaskEnds};
+ghost use Rattle.oncrpc_tasks.specs.Ends.{ValueEnds};
 ghost use Rattle.xdr_types.specs.Tree.{Tree};
 ghost use Rattle.xdr_types.specs.Outcome.{Outcome, Whole};
 ghost use Rattle.xdr_show.specs.Shown.{show_text};
@@ -45,8 +45,8 @@ pub fn check_over<I: Source, O: Sink, F: Sink>(
     hex: bool,
 ) -> u8
     requires { kind.place < length schema.now.kinds }
-    ensures { TaskEnds
-        (OfValue (record { kinds = schema.now.kinds; place = kind.place; limits = limits; shows = false }) hex) ⊥
+    ensures { ValueEnds
+        (record { kinds = schema.now.kinds; place = kind.place; limits = limits; shows = false }) hex
         (record { left = I.left; reads = I.reads; failures = I.failures; taken = O.taken; lost = O.failures })
         input.old input.new output.old output.new faults.old faults.new result }
 {
@@ -75,8 +75,8 @@ pub fn show_over<I: Source, O: Sink, F: Sink>(
     hex: bool,
 ) -> u8
     requires { kind.place < length schema.now.kinds }
-    ensures { TaskEnds
-        (OfValue (record { kinds = schema.now.kinds; place = kind.place; limits = limits; shows = true }) hex) ⊥
+    ensures { ValueEnds
+        (record { kinds = schema.now.kinds; place = kind.place; limits = limits; shows = true }) hex
         (record { left = I.left; reads = I.reads; failures = I.failures; taken = O.taken; lost = O.failures })
         input.old input.new output.old output.new faults.old faults.new result }
 {
@@ -100,7 +100,7 @@ pub fn answer_over<I: Source, O: Sink, F: Sink>(
     faults: &mut F,
 ) -> u8
     requires { IsKnown question.now }
-    ensures { TaskEnds (OfValue (asked_of question.now) question.now.hex) ⊥
+    ensures { ValueEnds (asked_of question.now) question.now.hex
         (record { left = I.left; reads = I.reads; failures = I.failures; taken = O.taken; lost = O.failures })
         input.old input.new output.old output.new faults.old faults.new result }
 {

@@ -2,7 +2,7 @@
 ghost use Rattle.std.specs.Prelude.{◌≡◌, ◌≢◌, ◌⊎◌, ◌↔◌, ◌<◌, ◌≤◌, [], true, false, Option, List, ℕ, Some, IfOk, IfErr};
 ghost use Rattle.std.specs.Prelude.{OnOk, IsErrOf, string_bytes};
 ghost use Rattle.xdr_io.specs.Told.{Counts, CountsAtMost, MovesAtMost};
-ghost use Rattle.oncrpc_tasks.specs.Ends.{OfRecords, TaskEnds, IsFormInPart};
+ghost use Rattle.oncrpc_tasks.specs.RecordsEnd.{RecordsEnd, IsFormInPart};
 ghost use Rattle.oncrpc_tasks.specs.Input.{most_read};
 ghost use Rattle.oncrpc_tasks.specs.Records.{Marks, MarksAsText, StopsFor, refusal_line};
 
@@ -42,7 +42,7 @@ pub fn records_over<I: Source, O: Sink, F: Sink>(
     limit: u32,
     hex: bool,
 ) -> u8
-    ensures ends { TaskEnds (OfRecords limit hex) ⊥
+    ensures ends { RecordsEnd limit hex
         (record { left = I.left; reads = I.reads; failures = I.failures; taken = O.taken; lost = O.failures })
         input.old input.new output.old output.new faults.old faults.new result }
     ensures limits { (result ≡ 2) ↔ (2147483647 < limit) }
@@ -68,7 +68,7 @@ fn bytes_over<I: Source, O: Sink, F: Sink>(
     limit: u32,
 ) -> u8
     requires { limit ≤ 2147483647 }
-    ensures ends { TaskEnds (OfRecords limit false) ⊥
+    ensures ends { RecordsEnd limit false
         (record { left = I.left; reads = I.reads; failures = I.failures; taken = O.taken; lost = O.failures })
         input.old input.new output.old output.new faults.old faults.new result }
     ensures limits { result ≢ 2 }
@@ -89,7 +89,7 @@ fn text_over<I: Source, O: Sink, F: Sink>(
     limit: u32,
 ) -> u8
     requires { limit ≤ 2147483647 }
-    ensures ends { TaskEnds (OfRecords limit true) ⊥
+    ensures ends { RecordsEnd limit true
         (record { left = I.left; reads = I.reads; failures = I.failures; taken = O.taken; lost = O.failures })
         input.old input.new output.old output.new faults.old faults.new result }
     ensures limits { result ≢ 2 }

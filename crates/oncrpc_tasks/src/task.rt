@@ -1,5 +1,6 @@
 //! A task that needs no network: what the words ask for, and how it is done.
-ghost use Rattle.oncrpc_tasks.specs.Ends.{OfWords, TaskEnds, asked_by};
+ghost use Rattle.std.specs.Prelude.{◌≤◌};
+ghost use Rattle.oncrpc_tasks.specs.Ends.{TaskEnds, WordsEnd};
 ghost use Rattle.oncrpc_tasks.specs.Sources.{FileFails};
 ghost use Rattle.oncrpc_tasks.specs.Tasks.{file_of};
 
@@ -58,7 +59,8 @@ pub fn task_over<P: Opener, I: Source, O: Sink, F: Sink>(
     output: &mut O,
     faults: &mut F,
 ) -> u8
-    ensures { TaskEnds (asked_by (P.told opener.old) task.now)
+    ensures known { result ≤ 4 }
+    ensures ends { TaskEnds (P.told opener.old) task.now
         (FileFails P.Text.left P.Text.failures (P.told opener.old) (file_of task.now)
         (P.failures opener.old) (P.failures opener.new))
         (record { left = I.left; reads = I.reads; failures = I.failures; taken = O.taken; lost = O.failures })
@@ -80,7 +82,8 @@ fn value_over<P: Opener, I: Source, O: Sink, F: Sink>(
     output: &mut O,
     faults: &mut F,
 ) -> u8
-    ensures { TaskEnds (OfWords (P.told opener.old) what.now shows)
+    ensures known { result ≤ 4 }
+    ensures ends { WordsEnd (P.told opener.old) what.now shows
         (FileFails P.Text.left P.Text.failures (P.told opener.old) what.now.types
         (P.failures opener.old) (P.failures opener.new))
         (record { left = I.left; reads = I.reads; failures = I.failures; taken = O.taken; lost = O.failures })

@@ -3,4 +3,4 @@ use Rattle.example_program.proofs.records.written_before_a_read_failed.Goals as 
 
 pub returns : goal.returns
 returns g c = λ three none.
-    before_a_failure _ _ _ _ _ _ _ _ _ _ c.records_over.ensures.ends three c.requires none
+    before_a_failure _ _ _ _ _ _ _ _ _ c.records_over.ensures.ends three c.requires none

@@ -1,9 +1,15 @@
 -- The value that is read is the one that the words ask for.
-use Rattle.oncrpc_tasks.proofs.ByWords.{by_words}
+use Rattle.std.proofs.Common.{inl, inr, refl}
+use Rattle.oncrpc_tasks.proofs.Unasked.{unasked}
 use Rattle.oncrpc_tasks.proofs.task.value_over.Goals as goal
 
-pub returns : goal.returns
-returns g c =
+pub returns-clause-ends : goal.returns-clause-ends
+returns-clause-ends g c =
     let asks = c.in-Ok.ensures.asks in
-    by_words _ c.args.what.now c.args.shows _ _ _ _ _ _ _ _ _ _ asks.text asks.is_told
-    (asks.asked c.args.shows) c.answer_over.ensures
+    inl (record {
+      text = asks.text;
+      is_told = asks.is_told;
+      question = _;
+      asked = asks.asked c.args.shows;
+      ends = c.answer_over.ensures;
+    })
