@@ -64,21 +64,44 @@ fn info_by_datagram<O: Sink, F: Sink>(
     }
 }
 
+// A connection to the first address of the host that takes one.
 fn connect(rt: &HostRuntime, what: &InfoTask) -> io::Result<TcpStream> {
-    TcpStream::connect(rt, address(rt, what)?)
-}
-
-fn connect_port(rt: &HostRuntime, what: &InfoTask) -> io::Result<ClientPort> {
-    ClientPort::connect(rt, address(rt, what)?)
-}
-
-// The first address of the host.
-fn address(rt: &HostRuntime, what: &InfoTask) -> io::Result<SocketAddr> {
-    let mut addresses = (what.host.as_str(), what.port).to_socket_addrs(rt)?;
-    match addresses.next() {
-        Some(address) => Ok(address),
-        None => Err(io::Error::from(io::ErrorKind::NotFound)),
+    let mut refused = io::Error::from(io::ErrorKind::NotFound);
+    for address in addresses(rt, what)? {
+        match TcpStream::connect(rt, address) {
+            Ok(stream) => return Ok(stream),
+            Err(error) => refused = error,
+        }
     }
+    Err(refused)
+}
+
+// A port for datagrams to the first address of the host to which there is a way.
+fn connect_port(rt: &HostRuntime, what: &InfoTask) -> io::Result<ClientPort> {
+    let mut refused = io::Error::from(io::ErrorKind::NotFound);
+    for address in addresses(rt, what)? {
+        match ClientPort::connect(rt, address) {
+            Ok(port) => return Ok(port),
+            Err(error) => refused = error,
+        }
+    }
+    Err(refused)
+}
+
+// The addresses of the host, those of IPv4 first, since a registry of this program listens at 127.0.0.1 alone.
+fn addresses(rt: &HostRuntime, what: &InfoTask) -> io::Result<Vec<SocketAddr>> {
+    let found = (what.host.as_str(), what.port).to_socket_addrs(rt)?;
+    let mut first = Vec::new(rt.alloc());
+    let mut others = Vec::new(rt.alloc());
+    for address in found {
+        if address.is_ipv4() {
+            first.push(address)?;
+        } else {
+            others.push(address)?;
+        }
+    }
+    first.append(&mut others)?;
+    Ok(first)
 }
 
 /// Serves a registry on 127.0.0.1, connections over TCP and then datagrams over UDP at the same port, and gives the

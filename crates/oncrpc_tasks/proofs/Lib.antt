@@ -1,7 +1,6 @@
 pub mod Begins
 pub mod Questions
 pub mod Texts
-pub mod Unasked
 pub mod Counts
 pub mod Failed
 pub mod Judging

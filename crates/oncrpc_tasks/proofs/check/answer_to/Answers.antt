@@ -16,7 +16,7 @@ returns-in_err-shown-clause-stops g c =
 pub returns-in_ok-shown-clause-right : goal.returns-in_ok-shown-clause-right
 returns-in_ok-shown-clause-right g c =
     let q = asked_of c.args.question.now in
-    rw c.if-hex.false (shows_kept q q.shows _ _ c.in_ok-answer.bytes.items _ _ c.in_ok-answer.ensures.kept
+    rw c.if-question.false (shows_kept q q.shows _ _ c.in_ok-answer.bytes.items _ _ c.in_ok-answer.ensures.kept
     c.in_ok-answer.ensures.right
     (rw c.deref.ensures.value at c.in_ok-shown.ensures.right))
 

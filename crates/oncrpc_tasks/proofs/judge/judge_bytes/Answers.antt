@@ -9,7 +9,7 @@ returns-in-Open-clause-right c =
     (c.in_ok-verdict.ensures.says _ [] (started c.start-checker.result c.args.question.now.schema.now
     c.args.question.now.kind c.args.question.now.limits
     c.start-checker.ensures.stands
-    c.start-checker.ensures.settings) c.depth-range.ensures.range refl)
+    c.start-checker.ensures.settings) c.depth-in_range.ensures.range refl)
 
 pub returns-clause-right : goal.returns-clause-right
 returns-clause-right c =
@@ -17,4 +17,4 @@ returns-clause-right c =
     (c.in_ok-verdict.ensures.says _ [] (started c.start-checker.result c.args.question.now.schema.now
     c.args.question.now.kind c.args.question.now.limits
     c.start-checker.ensures.stands
-    c.start-checker.ensures.settings) c.depth-range.ensures.range refl)
+    c.start-checker.ensures.settings) c.depth-in_range.ensures.range refl)

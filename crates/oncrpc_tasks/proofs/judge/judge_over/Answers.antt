@@ -16,7 +16,7 @@ returns-in-Settled-clause-right g c =
     (c.in_ok-answer.ensures.says _ [] (started c.start-checker.result c.args.question.now.schema.now
     c.args.question.now.kind c.args.question.now.limits
     c.start-checker.ensures.stands
-    c.start-checker.ensures.settings) c.depth-range.ensures.range refl)
+    c.start-checker.ensures.settings) c.depth-in_range.ensures.range refl)
 
 pub returns-in-Settled-clause-kept : goal.returns-in-Settled-clause-kept
 returns-in-Settled-clause-kept g c =
@@ -24,7 +24,7 @@ returns-in-Settled-clause-kept g c =
     (c.in_ok-answer.ensures.says _ [] (started c.start-checker.result c.args.question.now.schema.now
     c.args.question.now.kind c.args.question.now.limits
     c.start-checker.ensures.stands
-    c.start-checker.ensures.settings) c.depth-range.ensures.range refl)
+    c.start-checker.ensures.settings) c.depth-in_range.ensures.range refl)
 
 pub loop-turn-init : goal.loop-turn-init
 loop-turn-init g c = record {
@@ -32,7 +32,7 @@ loop-turn-init g c = record {
       (c.in_ok-answer.ensures.says _ [] (started c.start-checker.result c.args.question.now.schema.now
       c.args.question.now.kind c.args.question.now.limits
       c.start-checker.ensures.stands
-      c.start-checker.ensures.settings) c.depth-range.ensures.range refl);
+      c.start-checker.ensures.settings) c.depth-in_range.ensures.range refl);
   reads = Counts-none _;
   none_failed = Counts-none _;
 }
@@ -52,7 +52,7 @@ returns-in-Err-clause-reads g c =
 
 pub returns-in-Err-clause-moved : goal.returns-in-Err-clause-moved
 returns-in-Err-clause-moved g c =
-    moved_by _ c.depth-range.ensures.range _ _ _ _ (failed_by _ _ _ _ _ _ _ _ _ _ c.loop-turn.invariant.progress
+    moved_by _ c.depth-in_range.ensures.range _ _ _ _ (failed_by _ _ _ _ _ _ _ _ _ _ c.loop-turn.invariant.progress
     c.loop-turn.invariant.reads _ c.in-Err.ensures.bytes
     c.read.ensures.count)
 
@@ -85,7 +85,7 @@ returns-then-n-eq0-clause-reads g c =
 
 pub returns-then-n-eq0-clause-moved : goal.returns-then-n-eq0-clause-moved
 returns-then-n-eq0-clause-moved g c =
-    moved_by _ c.depth-range.ensures.range _ _ _ _ (read_by _ _ _ _ _ _ _ _ _ _ c.loop-turn.invariant.progress
+    moved_by _ c.depth-in_range.ensures.range _ _ _ _ (read_by _ _ _ _ _ _ _ _ _ _ c.loop-turn.invariant.progress
     c.loop-turn.invariant.reads _ c.in-Ok.n c.read.new.array
     (omega (
       arith,
@@ -114,7 +114,7 @@ returns-in_err-verdict-clause-reads g c =
 
 pub returns-in_err-verdict-clause-moved : goal.returns-in_err-verdict-clause-moved
 returns-in_err-verdict-clause-moved g c =
-    moved_by _ c.depth-range.ensures.range _ _ _ _ (read_by _ _ _ _ _ _ _ _ _ _ c.loop-turn.invariant.progress
+    moved_by _ c.depth-in_range.ensures.range _ _ _ _ (read_by _ _ _ _ _ _ _ _ _ _ c.loop-turn.invariant.progress
     c.loop-turn.invariant.reads _ c.in-Ok.n c.read.new.array
     (omega (
       arith,
@@ -143,7 +143,7 @@ returns-in_err-keep-clause-reads g c =
 
 pub returns-in_err-keep-clause-moved : goal.returns-in_err-keep-clause-moved
 returns-in_err-keep-clause-moved g c =
-    moved_by _ c.depth-range.ensures.range _ _ _ _ (read_by _ _ _ _ _ _ _ _ _ _ c.loop-turn.invariant.progress
+    moved_by _ c.depth-in_range.ensures.range _ _ _ _ (read_by _ _ _ _ _ _ _ _ _ _ c.loop-turn.invariant.progress
     c.loop-turn.invariant.reads _ c.in-Ok.n c.read.new.array
     (omega (
       arith,
@@ -176,7 +176,7 @@ returns-in-Settled-verdict-clause-reads g c =
 
 pub returns-in-Settled-verdict-clause-moved : goal.returns-in-Settled-verdict-clause-moved
 returns-in-Settled-verdict-clause-moved g c =
-    moved_by _ c.depth-range.ensures.range _ _ _ _ (read_by _ _ _ _ _ _ _ _ _ _ c.loop-turn.invariant.progress
+    moved_by _ c.depth-in_range.ensures.range _ _ _ _ (read_by _ _ _ _ _ _ _ _ _ _ c.loop-turn.invariant.progress
     c.loop-turn.invariant.reads _ c.in-Ok.n c.read.new.array
     (omega (
       arith,
@@ -201,7 +201,7 @@ returns-in-Settled-verdict-clause-stops g c =
 pub judge_piece-requires-in-loop-turn : goal.judge_piece-requires-in-loop-turn
 judge_piece-requires-in-loop-turn g c =
     count_within _ _ _ _ _ _ _ _ _ (g.I.Source.reads c.loop-turn.input) c.loop-turn.invariant.progress
-    c.loop-turn.invariant.reads c.depth-range.ensures.range
+    c.loop-turn.invariant.reads c.depth-in_range.ensures.range
 
 pub returns-in-Settled-verdict-clause-right : goal.returns-in-Settled-verdict-clause-right
 returns-in-Settled-verdict-clause-right g c =
@@ -209,7 +209,7 @@ returns-in-Settled-verdict-clause-right g c =
     c.loop-turn.invariant.reads _ c.in-Ok.n c.read.new.array _ _
     c.in-Settled-verdict.answer c.in-Ok.ensures.bytes.0 c.in-Settled-verdict.is
     (c.in_ok-verdict.ensures.says _ c.loop-turn.invariant.progress.seen
-    c.loop-turn.invariant.progress.follows c.depth-range.ensures.range c.loop-turn.invariant.progress.counted)
+    c.loop-turn.invariant.progress.follows c.depth-in_range.ensures.range c.loop-turn.invariant.progress.counted)
 
 pub returns-in-Settled-verdict-clause-kept : goal.returns-in-Settled-verdict-clause-kept
 returns-in-Settled-verdict-clause-kept g c =
@@ -217,7 +217,7 @@ returns-in-Settled-verdict-clause-kept g c =
     c.loop-turn.invariant.reads _ c.in-Ok.n c.read.new.array _ _
     c.in-Settled-verdict.answer c.in-Ok.ensures.bytes.0 c.in-Settled-verdict.is
     (c.in_ok-verdict.ensures.says _ c.loop-turn.invariant.progress.seen
-    c.loop-turn.invariant.progress.follows c.depth-range.ensures.range c.loop-turn.invariant.progress.counted)
+    c.loop-turn.invariant.progress.follows c.depth-in_range.ensures.range c.loop-turn.invariant.progress.counted)
     _ c.in_ok-keep.ensures
 
 pub overflow_add-count : goal.overflow_add-count
@@ -226,7 +226,7 @@ overflow_add-count g c =
       arith,
       c.in-Ok.ensures.bound,
       count_within _ _ _ _ _ _ _ _ _ (g.I.Source.reads c.loop-turn.input)
-          c.loop-turn.invariant.progress c.loop-turn.invariant.reads c.depth-range.ensures.range,
+          c.loop-turn.invariant.progress c.loop-turn.invariant.reads c.depth-in_range.ensures.range,
     )
 
 pub loop-turn-preserved : goal.loop-turn-preserved
@@ -236,7 +236,7 @@ loop-turn-preserved g c = record {
       (length-take-le c.in-Ok.n c.read.new.array (omega (arith, c.in-Ok.ensures.bound, c.read.array_long)))
       c.if-n-eq0.false c.in-Ok.ensures.bytes.0 c.in-Open-verdict.is
       (c.in_ok-verdict.ensures.says _ c.loop-turn.invariant.progress.seen
-      c.loop-turn.invariant.progress.follows c.depth-range.ensures.range c.loop-turn.invariant.progress.counted)
+      c.loop-turn.invariant.progress.follows c.depth-in_range.ensures.range c.loop-turn.invariant.progress.counted)
       _ c.in_ok-keep.ensures;
   reads = Counts-trans _ _ _ c.loop-turn._turn 1 _ refl c.loop-turn.invariant.reads c.read.ensures.count;
   none_failed = Counts-trans _ _ _ 0 0 0 refl c.loop-turn.invariant.none_failed c.in-Ok.ensures.failed;
@@ -257,7 +257,7 @@ returns-clause-reads g c =
 
 pub returns-clause-moved : goal.returns-clause-moved
 returns-clause-moved g c =
-    moved_by _ c.depth-range.ensures.range _ _ _ _ (many_by _ _ _ _ _ _ _ _ _ (g.I.Source.reads c.loop-turn.input)
+    moved_by _ c.depth-in_range.ensures.range _ _ _ _ (many_by _ _ _ _ _ _ _ _ _ (g.I.Source.reads c.loop-turn.input)
     c.loop-turn.invariant.progress c.loop-turn.invariant.reads)
 
 pub returns-clause-stops : goal.returns-clause-stops

@@ -1,6 +1,5 @@
 -- The value that is read is the one that the words ask for.
-use Rattle.std.proofs.Common.{inl, inr, refl}
-use Rattle.oncrpc_tasks.proofs.Unasked.{unasked}
+use Rattle.std.proofs.Common.{inl}
 use Rattle.oncrpc_tasks.proofs.task.value_over.Goals as goal
 
 pub returns-clause-ends : goal.returns-clause-ends
