@@ -1,0 +1,187 @@
+"""What the crates have that a document can name: public items, the clauses of contracts, definitions and what they import.
+
+A source is read by its layout, which the gate holds to: an item begins at the first column, a member at the fifth.
+"""
+import functools
+import os
+import re
+
+ROOT = os.path.dirname(os.path.dirname(os.path.realpath(__file__)))
+PRIVATE = ("declared.", "Private")
+ITEM = re.compile(
+    r'^( *)(pub(?:\([^)]*\))? )?(?:unsafe |const |extern "C" )*(fn|struct|enum|trait|const|type|static) (\w+)', re.M
+)
+OWNER = re.compile(r"^(?:pub )?(impl|trait|enum|struct)\b(.*)$", re.M)
+DEFINED = re.compile(r"^ *(?:(?:pub|abbrev|data|record|opaque|instance) +)*([^\s(){}:,]+)(?= *[({:]|$)", re.M)
+IMPORT = re.compile(r"^ *(?:pub |ghost )*use Rattle\.(\w+)\.specs\.([\w.']+?)\.?(?:\{([^}]*)\})?(?: as (\S+?))?;?$", re.M)
+WORD = re.compile(r"[\w']+(?:\.\w+)?")
+
+
+def files_below(folder, ending):
+    """The files with this ending, sorted, as paths from the top of the tree."""
+    found = []
+    for at, folders, names in os.walk(os.path.join(ROOT, folder)):
+        folders[:] = [it for it in folders if it != "out"]
+        found += [os.path.relpath(os.path.join(at, it), ROOT) for it in names if it.endswith(ending)]
+    return sorted(found)
+
+
+@functools.cache
+def text_of(path):
+    with open(os.path.join(ROOT, path), encoding="utf-8", errors="replace") as it:
+        return it.read()
+
+
+def without_comments(text, mark):
+    return re.sub(rf"(?<![:\"]){mark}[^\n]*", "", text)
+
+
+def block_end(text, at):
+    """Where the block ends that begins at a brace."""
+    depth = 0
+    for found in re.compile(r"[{}]").finditer(text, at):
+        depth += 1 if found[0] == "{" else -1
+        if depth == 0:
+            return found.end()
+    return len(text)
+
+
+def contract_at(text, at):
+    """The clauses of the function whose head begins here: a list of (requires or ensures, name or '', text)."""
+    clauses, depth = [], 0
+    for found in (marks := re.compile(r"[(\[]|[)\]]|[{;]|\b(requires|ensures)\b *(\w*)\s*(?=\{)")).finditer(text, at):
+        if clauses and found.start() < clauses[-1][3]:
+            continue
+        if found[0] in "([":
+            depth += 1
+        elif found[0] in ")]":
+            depth -= 1
+        elif depth == 0 and found[1]:
+            end = block_end(text, found.end())
+            clauses.append((found[1], found[2], text[found.end() : end], end))
+        elif depth == 0:
+            break
+    return [it[:3] for it in clauses]
+
+
+class Crate:
+    """A crate's items by name, members by type and name, contracts by name, modules and what it hands on."""
+
+    def __init__(self, name):
+        self.name = name
+        self.items, self.members, self.contracts, self.cited = set(), {}, {}, {}
+        self.sources = files_below(f"crates/{name}/src", ".rt")
+        self.modules = {it.rsplit("/", 2)[1] if it.endswith("/mod.rt") else it.rsplit("/", 1)[1][:-3] for it in self.sources}
+        self.handed_on = {}
+        for path in self.sources:
+            self.read(path, without_comments(text_of(path), "//"))
+
+    def read(self, path, text):
+        names = imported(text)
+        for found in re.finditer(r"pub use (?:(\w+)::)?(?:\w+::)*(\{[^}]*\}|\w+)(?: as (\w+))?;", text):
+            for word in re.findall(r"\w+", found[3] or found[2]):
+                self.handed_on[word] = found[1]
+        owners = [(it.start(), block_end(text, text.find("{", it.start())), owner_of(it)) for it in OWNER.finditer(text)]
+        for begin, end, owner in owners:
+            if re.match(r"pub enum", text[begin:end]):
+                for it in re.finditer(r"^    (\w+)(?=[ ,({])", text[begin:end], re.M):
+                    self.members.setdefault(owner, set()).add(it[1])
+        for found in ITEM.finditer(text):
+            inside = [it for it in owners if it[0] < found.start() < it[1]]
+            self.take(path, text, found, inside[0][2] if inside and found[1] else None, names)
+
+    def take(self, path, text, found, owner, names):
+        _, public, word, name = found[1], found[2], found[3], found[4]
+        if owner:
+            self.members.setdefault(owner, set()).add(name)
+        if public in ("pub ",) and not owner:
+            self.items.add(name)
+        if word != "fn" or (public != "pub " and not owner):
+            return
+        key = f"{owner}::{name}" if owner else name
+        clauses = contract_at(text, found.end())
+        self.contracts.setdefault(key, []).append((path, text.count("\n", 0, found.start()) + 1, clauses, names))
+        if public == "pub " or (owner and f"trait {owner}" in text):
+            for it in clauses:
+                for spec in cited_by(it[2], names):
+                    self.cited.setdefault(spec, f"{path}: {key}")
+
+
+def owner_of(found):
+    """The type or trait that a block belongs to."""
+    words = re.sub(r"<[^<>]*(?:<[^<>]*>)*[^<>]*>", "", found[2])
+    named = re.findall(r"\w+", words.split(" for ")[-1].split("{")[0])
+    return named[0] if named else ""
+
+
+def spec_file(crate, path):
+    """The definition file that an import names: the longest part of its path that is one."""
+    parts = path.split(".")
+    while parts:
+        it = f"crates/{crate}/specs/{'/'.join(parts)}.antt"
+        if os.path.exists(os.path.join(ROOT, it)):
+            return it
+        parts.pop()
+    return None
+
+
+def imported(text):
+    """The names that a text imports from definitions of this tree, each with its file."""
+    names = {}
+    for found in IMPORT.finditer(text):
+        it = spec_file(found[1], found[2])
+        if it is None or found[2].startswith("declared"):
+            continue
+        if found[3] is None:
+            names[found[4] or found[2].rsplit(".", 1)[-1]] = it
+        for word in (found[3] or "").split(","):
+            words = word.split()
+            if words:
+                names[words[-1]] = it
+    return names
+
+
+def cited_by(text, names):
+    """The definition files that a contract's text names."""
+    found = set()
+    for word in WORD.findall(text):
+        found |= {names[it] for it in (word, word.split(".")[0]) if it in names}
+    return found
+
+
+@functools.cache
+def imports_of(spec):
+    return frozenset(imported(without_comments(text_of(spec), "--")).values())
+
+
+def closure(specs):
+    """These definition files and all that they import."""
+    found, left = set(), list(specs)
+    while left:
+        it = left.pop()
+        if it not in found:
+            found.add(it)
+            left += imports_of(it)
+    return sorted(found)
+
+
+@functools.cache
+def defined_in(spec):
+    return frozenset(DEFINED.findall(without_comments(text_of(spec), "--")))
+
+
+def fields_cited(clauses, names):
+    """The fields of the records that clauses cite, one definition of the same file further too."""
+    found = set()
+    for _, _, text, in clauses:
+        for word in set(WORD.findall(text)) & set(names):
+            body = without_comments(text_of(names[word]), "--")
+            found |= set(fields_of(body, word))
+            for it in re.findall(rf"^{re.escape(word)} [^\n]*= *(?:\n +)?(\w+)", body, re.M):
+                found |= set(fields_of(body, it))
+    return found
+
+
+def fields_of(body, record):
+    found = re.search(rf"^(?:pub )?record {re.escape(record)}\b.*?where\n((?: +[^\n]*\n|\n)*)", body + "\n", re.M | re.S)
+    return re.findall(r"^ +(?:pub )?(\w+) :", found[1], re.M) if found else []
