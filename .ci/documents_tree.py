@@ -12,7 +12,7 @@ ITEM = re.compile(
     r'^( *)(pub(?:\([^)]*\))? )?(?:unsafe |const |extern "C" )*(fn|struct|enum|trait|const|type|static) (\w+)', re.M
 )
 OWNER = re.compile(r"^(?:pub )?(impl|trait|enum|struct)\b(.*)$", re.M)
-DEFINED = re.compile(r"^ *(?:(?:pub|abbrev|data|record|opaque|instance) +)*([^\s(){}:,]+)(?= *[({:]|$)", re.M)
+DEFINED = re.compile(r"^ *(?:(?:pub|abbrev|unfoldable|data|record) +)*([^\s(){}:,]+)(?= *[({:]|$)", re.M)
 IMPORT = re.compile(r"^ *(?:pub |ghost )*use Rattle\.(\w+)\.specs\.([\w.']+?)\.?(?:\{([^}]*)\})?(?: as (\S+?))?;?$", re.M)
 WORD = re.compile(r"[\w']+(?:\.\w+)?")
 
