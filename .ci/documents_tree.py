@@ -81,7 +81,8 @@ class Crate:
         for found in re.finditer(r"pub use (?:(\w+)::)?(?:\w+::)*(\{[^}]*\}|\w+)(?: as (\w+))?;", text):
             for word in re.findall(r"\w+", found[3] or found[2]):
                 self.handed_on[word] = found[1]
-        owners = [(it.start(), block_end(text, text.find("{", it.start())), owner_of(it)) for it in OWNER.finditer(text)]
+        opened = [(it, re.compile(r"[{;]").search(text, it.start())) for it in OWNER.finditer(text)]
+        owners = [(it.start(), block_end(text, at.start()), owner_of(it)) for it, at in opened if at and at[0] == "{"]
         for begin, end, owner in owners:
             if re.match(r"pub enum", text[begin:end]):
                 for it in re.finditer(r"^    (\w+)(?=[ ,({])", text[begin:end], re.M):
@@ -111,7 +112,7 @@ def owner_of(found):
     """The type or trait that a block belongs to."""
     words = re.sub(r"<[^<>]*(?:<[^<>]*>)*[^<>]*>", "", found[2])
     named = re.findall(r"\w+", words.split(" for ")[-1].split("{")[0])
-    return named[0] if named else ""
+    return next((it for it in named if it != "mut"), "")
 
 
 def spec_file(crate, path):
