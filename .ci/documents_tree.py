@@ -1,4 +1,4 @@
-"""What the crates have that a document can name: public items, the clauses of contracts, definitions and what they import.
+"""What the crates have that a document can name: public items, clauses of contracts, definitions and their imports.
 
 A source is read by its layout, which the gate holds to: an item begins at the first column, a member at the fifth.
 """
@@ -7,13 +7,14 @@ import os
 import re
 
 ROOT = os.path.dirname(os.path.dirname(os.path.realpath(__file__)))
-PRIVATE = ("declared.", "Private")
 ITEM = re.compile(
     r'^( *)(pub(?:\([^)]*\))? )?(?:unsafe |const |extern "C" )*(fn|struct|enum|trait|const|type|static) (\w+)', re.M
 )
 OWNER = re.compile(r"^(?:pub )?(impl|trait|enum|struct)\b(.*)$", re.M)
 DEFINED = re.compile(r"^ *(?:(?:pub|abbrev|unfoldable|data|record) +)*([^\s(){}:,]+)(?= *[({:]|$)", re.M)
-IMPORT = re.compile(r"^ *(?:pub |ghost )*use Rattle\.(\w+)\.specs\.([\w.']+?)\.?(?:\{([^}]*)\})?(?: as (\S+?))?;?$", re.M)
+IMPORT = re.compile(
+    r"^ *(?:pub |ghost )*use Rattle\.(\w+)\.specs\.([\w.']+?)\.?(?:\{([^}]*)\})?(?: as (\S+?))?;?$", re.M
+)
 WORD = re.compile(r"[\w']+(?:\.\w+)?")
 
 
@@ -71,7 +72,7 @@ class Crate:
         self.name = name
         self.items, self.members, self.contracts, self.cited = set(), {}, {}, {}
         self.sources = files_below(f"crates/{name}/src", ".rt")
-        self.modules = {it.rsplit("/", 2)[1] if it.endswith("/mod.rt") else it.rsplit("/", 1)[1][:-3] for it in self.sources}
+        self.modules = {it.removesuffix("/mod.rt").removesuffix(".rt").rsplit("/", 1)[1] for it in self.sources}
         self.handed_on = {}
         for path in self.sources:
             self.read(path, without_comments(text_of(path), "//"))
@@ -171,18 +172,28 @@ def defined_in(spec):
     return frozenset(DEFINED.findall(without_comments(text_of(spec), "--")))
 
 
-def fields_cited(clauses, names):
-    """The fields of the records that clauses cite, one definition of the same file further too."""
-    found = set()
-    for _, _, text, in clauses:
-        for word in set(WORD.findall(text)) & set(names):
-            body = without_comments(text_of(names[word]), "--")
-            found |= set(fields_of(body, word))
-            for it in re.findall(rf"^{re.escape(word)} [^\n]*= *(?:\n +)?(\w+)", body, re.M):
-                found |= set(fields_of(body, it))
+@functools.cache
+def definitions_in(spec):
+    """Each definition of a file by its name: the lines from its head up to an empty one."""
+    found = {}
+    for block in re.split(r"\n\s*\n", without_comments(text_of(spec), "--")):
+        for name in DEFINED.findall(block):
+            found[name] = found.get(name, "") + block + "\n"
     return found
 
 
-def fields_of(body, record):
-    found = re.search(rf"^(?:pub )?record {re.escape(record)}\b.*?where\n((?: +[^\n]*\n|\n)*)", body + "\n", re.M | re.S)
-    return re.findall(r"^ +(?:pub )?(\w+) :", found[1], re.M) if found else []
+@functools.cache
+def fields_of(spec, name, depth):
+    """The fields of the record with this name in a file, and of the records that its definition names, so deep."""
+    body = definitions_in(spec).get(name, "")
+    found = set(re.findall(r"^ +pub (\w+) :", body, re.M)) if re.search(rf"record {re.escape(name)}\b", body) else set()
+    names = {**dict.fromkeys(definitions_in(spec), spec), **imported(text_of(spec))}
+    for word in set(WORD.findall(body)) & set(names) - {name} if depth else ():
+        found |= fields_of(names[word], word, depth - 1)
+    return frozenset(found)
+
+
+def fields_cited(clauses, names):
+    """The fields of the records that clauses cite, and of those that these name, three deep."""
+    cited = {word for _, _, text in clauses for word in WORD.findall(text) if word in names}
+    return {field for word in cited for field in fields_of(names[word], word, 3)}
