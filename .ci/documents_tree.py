@@ -15,6 +15,7 @@ DEFINED = re.compile(r"^ *(?:(?:pub|abbrev|unfoldable|data|record) +)*([^\s(){}:
 IMPORT = re.compile(
     r"^ *(?:pub |ghost )*use Rattle\.(\w+)\.specs\.([\w.']+?)\.?(?:\{([^}]*)\})?(?: as (\S+?))?;?$", re.M
 )
+HEAD = re.compile(r"[(\[]|[)\]]|[{;]|\b(requires|ensures|ghost)\b *(\w*):?\s*(?=\{)")
 WORD = re.compile(r"[\w']+(?:\.\w+)?")
 
 
@@ -49,20 +50,21 @@ def block_end(text, at):
 
 def contract_at(text, at):
     """The clauses of the function whose head begins here: a list of (requires or ensures, name or '', text)."""
-    clauses, depth = [], 0
-    for found in (marks := re.compile(r"[(\[]|[)\]]|[{;]|\b(requires|ensures)\b *(\w*)\s*(?=\{)")).finditer(text, at):
-        if clauses and found.start() < clauses[-1][3]:
+    clauses, depth, past = [], 0, at
+    for found in HEAD.finditer(text, at):
+        if found.start() < past:
             continue
         if found[0] in "([":
             depth += 1
         elif found[0] in ")]":
             depth -= 1
         elif depth == 0 and found[1]:
-            end = block_end(text, found.end())
-            clauses.append((found[1], found[2], text[found.end() : end], end))
+            past = block_end(text, found.end())
+            if found[1] != "ghost":
+                clauses.append((found[1], found[2], text[found.end() : past]))
         elif depth == 0:
             break
-    return [it[:3] for it in clauses]
+    return clauses
 
 
 class Crate:
