@@ -39,8 +39,8 @@ class Page:
                 for at, said in self.spans(block[0], block.start()):
                     self.check_word(at, said)
         self.check_links()
-        if LETTER.search(text_of(self.path)):
-            self.note(LETTER.search(text_of(self.path)).start(), LETTER.search(text_of(self.path))[0], "a kit's letter")
+        for found in LETTER.finditer(text_of(self.path)):
+            self.note(found.start(), found[0], "the letter of a kit")
 
     def check_table(self, lines, at):
         cells = lambda line: re.split(r"(?<!\\)\|", line.strip().strip("|"))
