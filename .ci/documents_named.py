@@ -7,7 +7,7 @@ import re
 from documents_tree import ROOT, Crate, cited_by, closure, fields_cited, files_below, text_of
 
 ENDINGS = (".md", ".py", ".rt", ".antt", ".h", ".c", ".cc", ".rs", ".edit", ".svg")
-PATH = re.compile(r"\.?/?[\w.-][\w.*-]*(?:/[\w.*'-]+)*/?$")
+PATH = re.compile(r"\.?/?[\w.-][\w.*-]*(?:/[\w.*'-]+)*/?(?:#\w+)?$")
 FOREIGN = ("std", "core", "alloc", "crate", "self", "super")
 HEADLINES = {
     "the main theorem": [
@@ -127,19 +127,21 @@ def fault_of_lone_function(said):
 
 
 def fault_of_path(said, folder):
-    said = re.sub(r"^\./", "", said)
+    said, _, row = re.sub(r"^\./", "", said).partition("#")
     if re.search(r"(^|/)out(/|$)|(^|/)(?!HANDLES|LICEN[CS]E|BUILD|MODULE)[A-Z]{3,}\b(?!\.md)", said):
         return None
     for base in ("", folder, "crates", "crates/*"):
-        if glob.glob(os.path.join(ROOT, base, said)):
-            return None
+        if found := glob.glob(os.path.join(ROOT, base, said)):
+            table = rf"^[A-Z0-9_, ]*\b{row}\b[A-Z0-9_, ]*="
+            named = not row or re.search(table, text_of(os.path.relpath(found[0], ROOT)), re.M)
+            return None if named else f"no table {row} in it"
     return None if "/" not in said and said in base_names() else "no such file"
 
 
 def looks_like_path(word):
     if not PATH.match(word) or word.count("/") == len(word) or re.match(r"[\d/]", word):
         return False
-    return "/" in word or (word.endswith(ENDINGS) and not word.startswith("."))
+    return "/" in word or (word.split("#")[0].endswith(ENDINGS) and not word.startswith("."))
 
 
 def believed(calls):
