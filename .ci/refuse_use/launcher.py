@@ -15,6 +15,7 @@ LEFT = rb"(, about \d+ minutes? left)?\n"
 SECONDS = rb", \d+ seconds" + LEFT
 KEPT = rb", kept from an earlier run\n"
 BEGUN = rb"oncrpc: proving the program; what the prover says goes to \S+/crates/oncrpc/out/build.log\n"
+BEGUN += rb"oncrpc: 5 crates, at most \d+ at once, about \d+ minutes? left\n"
 TOOK = rb"oncrpc: [\d.]+ minutes, [\d.]+ processor minutes\n"
 BUILT = rb"oncrpc: built \S+/crates/oncrpc/out/oncrpc\n"
 NOT_BUILT = rb"oncrpc: not built; \S+/crates/oncrpc/out/build.log says why\n"
@@ -100,6 +101,8 @@ def proved(folder):
         got = tree.run(f"./oncrpc {words}")
         told = got[2].startswith(b"oncrpc: proving") == (words == "prove")
         yield row(f"./oncrpc {words}", got[0] == 0 and told and len(got[3]) == (words == "prove"), got)
+    left = os.listdir(os.path.dirname(tree.made))
+    yield row("what ./oncrpc prove leaves", sorted(left) == ["build.log", "oncrpc", "oncrpc.sources"], left)
     source, told = f"{tree.at}/crates/low/src/lib.rt", output(b"proved", b"show")
     for what, seconds, status in (("", 0, 7), (", newer sources", 99, 7), (", older sources", -9999, 7)):
         os.utime(source, (time.time() + seconds,) * 2)
