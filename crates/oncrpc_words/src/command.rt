@@ -1,5 +1,5 @@
 //! The commands and their options, as `clap` reads them.
-use super::help;
+use super::{after, help};
 use clap::{Arg, ArgAction, Command, value_parser};
 use std::alloc::{AllocError, Global};
 
@@ -17,7 +17,7 @@ pub fn command<'a>(alloc: Global) -> Result<Command<'a>, AllocError> {
     Command::new(alloc, "oncrpc")
         .about(help::ABOUT)
         .long_about(help::LONG_ABOUT)
-        .after_help(help::STATUSES)
+        .after_help(after::AFTER_ALL)
         .version(help::VERSION)
         .long_version(help::LONG_VERSION)
         .no_binary_name(true)
@@ -33,14 +33,14 @@ pub fn command<'a>(alloc: Global) -> Result<Command<'a>, AllocError> {
 fn check_command<'a>(alloc: Global) -> Result<Command<'a>, AllocError> {
     let check = Command::new(alloc, "check")
         .about(help::CHECK)
-        .after_help(help::AFTER_CHECK);
+        .after_help(after::AFTER_CHECK);
     with_value_options(alloc, check)
 }
 
 fn show_command<'a>(alloc: Global) -> Result<Command<'a>, AllocError> {
     let show = Command::new(alloc, "show")
         .about(help::SHOW)
-        .after_help(help::AFTER_SHOW);
+        .after_help(after::AFTER_SHOW);
     with_value_options(alloc, show)
 }
 
@@ -62,7 +62,7 @@ fn records_command<'a>(alloc: Global) -> Result<Command<'a>, AllocError> {
     let limit = number(alloc, "limit", help::LIMIT).default_value("16777216");
     Command::new(alloc, "records")
         .about(help::RECORDS)
-        .after_help(help::AFTER_RECORDS)
+        .after_help(after::AFTER_RECORDS)
         .arg(limit)?
         .arg(hex_flag(alloc))
 }
@@ -75,7 +75,7 @@ fn info_command<'a>(alloc: Global) -> Result<Command<'a>, AllocError> {
         .default_value("4");
     Command::new(alloc, "info")
         .about(help::INFO)
-        .after_help(help::AFTER_INFO)
+        .after_help(after::AFTER_INFO)
         .arg(host)?
         .arg(port)?
         .arg(vers)?
@@ -94,7 +94,7 @@ fn serve_command<'a>(alloc: Global) -> Result<Command<'a>, AllocError> {
         .default_value("0");
     Command::new(alloc, "serve")
         .about(help::SERVE)
-        .after_help(help::AFTER_SERVE)
+        .after_help(after::AFTER_SERVE)
         .arg(port)?
         .arg(count)?
         .arg(datagrams)

@@ -1,6 +1,7 @@
 //! The program's words: what they ask for, what its help says, and what is printed where they ask for no task.
 #![tactic(auto)]
 
+mod after;
 mod command;
 mod fault;
 mod help;

@@ -3,7 +3,7 @@ use crate::words::reading::{Words, read};
 use std::alloc::{AllocError, Global};
 
 // The built-in kinds, the forms of a name, the ranges and defaults of the options, the statuses with their words, and
-// the first words of two examples.
+// an example.
 const OF_A_VALUE: [&str; 16] = [
     "int, unsigned, hyper, unsigned-hyper, bool, opaque or string",
     "P.V.N.K",
@@ -19,11 +19,34 @@ const OF_A_VALUE: [&str; 16] = [
     "\n  2  words, declarations, name or limits are refused\n",
     "\n  3  a read or a write failed, or more than 1048576 reads would be needed\n",
     "\n  4  memory was refused\n",
-    "\n  printf '",
+    "\n    $ printf '",
     " --types ",
 ];
 
-const OF_RECORDS: [&str; 9] = [
+// The lines of the outcome, the reasons, the numbers of a refused declaration and of a fault of its types, first and
+// last, and the line for a file that is not read.
+const OF_OUTCOMES: [&str; 18] = [
+    "\n  ok N ",
+    "\n  ok N, more follows ",
+    "\n  refused WHY at N ",
+    "\n  BadBool ",
+    "\n  BadNumbered ",
+    "\n  BadCase ",
+    "\n  TooLong ",
+    "\n  BadPadding ",
+    "\n  TooDeep ",
+    "\n  TooLarge ",
+    "\n  Truncated ",
+    "declaration refused: F at L:C",
+    "\n   1  a byte that begins no token",
+    "\n  10  a fault of a type, printed as '10 (I)'",
+    "\n  13  memory was refused",
+    "\n   7  a type without a finite value\n",
+    "begins with % or # is of rpcgen's dialect: see docs/LANGUAGE.md",
+    "'read fault'",
+];
+
+const OF_RECORDS: [&str; 11] = [
     "0 to 2147483647",
     "[default: 16777216]",
     "\n  0  the input is a stream of records\n",
@@ -31,11 +54,13 @@ const OF_RECORDS: [&str; 9] = [
     "\n  2  words or limits are refused\n",
     "\n  3  a read or a write failed, or more than 1048576 reads would be needed\n",
     "\n  4  memory was refused\n",
-    "\n  printf '",
-    "\n  oncrpc records --limit ",
+    "refused TooLong at N",
+    "refused Truncated at N",
+    "\n    $ printf '",
+    "| oncrpc records --limit ",
 ];
 
-const OF_INFO: [&str; 9] = [
+const OF_INFO: [&str; 10] = [
     "<HOST>",
     "<PORT>",
     "2 to 4 [default: 4]",
@@ -44,7 +69,8 @@ const OF_INFO: [&str; 9] = [
     "program vers prot port",
     "\n  1  ",
     "\n  4  ",
-    "\n  oncrpc info localhost 111",
+    "WrongXid NUMBER",
+    "\n    $ oncrpc info 127.0.0.1 111",
 ];
 
 const OF_SERVE: [&str; 12] = [
@@ -59,10 +85,10 @@ const OF_SERVE: [&str; 12] = [
     "datagram K: no reply",
     "\n  3  ",
     "\n  4  ",
-    "\n  oncrpc serve --port 111",
+    "\n    $ oncrpc serve --port 111",
 ];
 
-const OF_ALL: [&str; 11] = [
+const OF_ALL: [&str; 13] = [
     "check",
     "show",
     "records",
@@ -74,14 +100,17 @@ const OF_ALL: [&str; 11] = [
     "\n  2  words, declarations, name or limits are refused\n",
     "\n  3  a read",
     "\n  4  memory was refused",
+    "\n  read fault ",
+    "\n  socket fault ",
 ];
 
-// The product's line and the prover's.
-const OF_VERSION: [&str; 2] = ["oncrpc 0.1.0\n", "rattle-kit-13f logic dac8208d650f15bf\n"];
+// The product's version, and the logic that its proofs are in.
+const OF_VERSION: [&str; 1] = ["oncrpc 0.1.0\nproved with logic dac8208d650f15bf\n"];
 
 // Words, and what their answer says.
-const SAID: [(Words, &[&str]); 9] = [
+const SAID: [(Words, &[&str]); 10] = [
     (&["check", "--help"], &OF_A_VALUE),
+    (&["help", "check"], &OF_OUTCOMES),
     (&["show", "--help"], &OF_A_VALUE),
     (&["help", "show"], &OF_A_VALUE),
     (&["records", "--help"], &OF_RECORDS),

@@ -1,0 +1,55 @@
+# Made by completions/generate.
+# shellcheck shell=bash
+_oncrpc() {
+    local word=${COMP_WORDS[COMP_CWORD]} before=${COMP_WORDS[COMP_CWORD - 1]}
+    [[ $word != = ]] || word=
+    [[ $before != = ]] || before=${COMP_WORDS[COMP_CWORD - 2]}
+    COMPREPLY=()
+    if ((COMP_CWORD == 1)); then
+        mapfile -t COMPREPLY < <(compgen -W "check show records info serve help --help --version" -- "$word")
+        return
+    fi
+    case ${COMP_WORDS[1]} in
+    help) mapfile -t COMPREPLY < <(compgen -W "check show records info serve" -- "$word") ;;
+    check)
+        case $before in
+        --name) mapfile -t COMPREPLY < <(compgen -W "int unsigned hyper unsigned-hyper bool opaque string" -- "$word") ;;
+        --types) compopt -o filenames && mapfile -t COMPREPLY < <(compgen -f -- "$word") ;;
+        --depth) : ;;
+        --bytes) : ;;
+        *) mapfile -t COMPREPLY < <(compgen -W "--name --types --depth --bytes --hex --help" -- "$word") ;;
+        esac
+        ;;
+    show)
+        case $before in
+        --name) mapfile -t COMPREPLY < <(compgen -W "int unsigned hyper unsigned-hyper bool opaque string" -- "$word") ;;
+        --types) compopt -o filenames && mapfile -t COMPREPLY < <(compgen -f -- "$word") ;;
+        --depth) : ;;
+        --bytes) : ;;
+        *) mapfile -t COMPREPLY < <(compgen -W "--name --types --depth --bytes --hex --help" -- "$word") ;;
+        esac
+        ;;
+    records)
+        case $before in
+        --limit) : ;;
+        *) mapfile -t COMPREPLY < <(compgen -W "--limit --hex --help" -- "$word") ;;
+        esac
+        ;;
+    info)
+        case $before in
+        --vers) mapfile -t COMPREPLY < <(compgen -W "2 3 4" -- "$word") ;;
+        *) mapfile -t COMPREPLY < <(compgen -W "--vers --udp --help" -- "$word") ;;
+        esac
+        ((COMP_CWORD != 2)) || [[ $word == -* ]] || mapfile -t COMPREPLY < <(compgen -A hostname -- "$word")
+        ;;
+    serve)
+        case $before in
+        --port) : ;;
+        --count) : ;;
+        --datagrams) : ;;
+        *) mapfile -t COMPREPLY < <(compgen -W "--port --count --datagrams --help" -- "$word") ;;
+        esac
+        ;;
+    esac
+}
+complete -F _oncrpc oncrpc
