@@ -15,7 +15,7 @@ Lines on standard error:
   read fault                     FILE, standard input or a socket could not be read
   write fault                    the output could not be written
   socket fault                   a host, a connection or a port could not be had
-  too many reads                 the input came in more than 1048576 pieces
+  too many reads                 more than 1048576 reads would be needed
   out of memory                  memory was refused
 
 Examples:
@@ -105,7 +105,7 @@ of the field or the arm, a colon, and then:
   struct, void     a struct; nothing
   array of N       an array of fixed size
   list of N        an array of variable size
-  case NUMBER      a union by its discriminant, above the arm
+  case VALUE       a union by its discriminant, above the arm
   present, absent  optional data
 
 Exit status:
@@ -212,7 +212,7 @@ it has ended, and after them a line for each datagram K, from 1:
   connection K: TooLong at N   a record has more than 65536 bytes
   connection K: Truncated at N the connection ended inside a record
   connection K: Read           it could not be read; or Write, not be written
-  connection K: TooManyReads   it came in more than 1048576 pieces
+  connection K: TooManyReads   more than 1048576 reads would be needed
   connection K: NoMemory       memory was refused
   datagram K: reply            a reply was sent
   datagram K: no reply         the datagram is no call
