@@ -3,7 +3,7 @@ import os
 import re
 import time
 
-from refuse_use.standins import RTLIB, Tree
+from refuse_use.standins import CRATES, RTLIB, Tree
 
 FIRST = rb", which takes a minute or two to compile"
 DO = rb"`./oncrpc prove` proves and builds it\n"
@@ -117,10 +117,21 @@ def proved(folder):
     tree.write("crates/other/src/lib.rt", "fn two() {}\n")
     got = tree.run("./oncrpc show")
     yield row("./oncrpc show, the same sources", is_answer(got, 7, told, b"proved fault\n", 0), got)
-    os.remove(f"{tree.made}.sources")
+    for old, new, status in (("short:", "short: hex", 5), ("other: low", "other: short", 7), ("# C", "# The c", 7)):
+        tree.write("crates.txt", CRATES.replace(old, new))
+        got = tree.run("./oncrpc show")
+        yield row(f"./oncrpc show, '{new}' in place of '{old}'", got[0] == status, got)
+    tree.write("crates.txt", CRATES)
+    tree.write("crates/low/src/lib.rt", "fn three() {}\n")
     got = tree.run("./oncrpc show")
     yield row("./oncrpc show, a source that is newer", got[0] == 5, got)
-    os.utime(tree.made)
+    for what, then in (("sooner than its sum", 0), ("of these sources since", 5)):
+        os.utime(tree.made, (time.time() + then,) * 2)
+        os.utime(source, (time.time() - 9,) * 2)
+        os.utime(f"{tree.made}.sources", (time.time() + 2,) * 2) if not then else None
+        got = tree.run("./oncrpc show")
+        yield row(f"./oncrpc show, built {what}", got[0] == (7 if then else 5), got)
+    os.remove(f"{tree.made}.sources")
     got = tree.run("./oncrpc show")
     kept = os.path.exists(f"{tree.made}.sources")
     yield row("./oncrpc show, built by the gate", kept and is_answer(got, 7, told, b"proved fault\n", 0), got)
@@ -160,6 +171,11 @@ SIDE_BY_SIDE = [
 ]
 
 
+def side(names, jobs):
+    """The names by those that run at once, whose order says nothing."""
+    return [{*names[it : it + jobs]} for it in range(0, len(names), jobs)]
+
+
 def side_by_side(folder):
     """Independent crates are proved side by side, the longest chain first, and none is begun once one is refused."""
     for at, (jobs, fails, wanted, status, told) in enumerate(SIDE_BY_SIDE):
@@ -169,26 +185,25 @@ def side_by_side(folder):
         tree.write("bin/waits", PAIRS if jobs > 1 else "")
         got = tree.run("./oncrpc prove")
         order = tree.read("bin/order").splitlines()
-        begun = [it.split()[1] for it in order if it.startswith("begin")]
+        begun = side([it.split()[1] for it in order if it.startswith("begin")], jobs)
         # (one that was killed runs again with nothing beside it)
         alone = order[-2:] == ["begin right --jobs 1", "end right"]
         ends = b"(oncrpc: left is not proved\n)?(oncrpc: 3[^\n]*\n)?" + TOOK + (NOT_BUILT if status else BUILT)
         lines = {it[0] for it in re.findall(rb"oncrpc: \d of 5, (\w+)" + SECONDS, got[2])}
-        well = begun == wanted.split() and (got[0], lines) == (status, told) and re.search(ends + rb"\Z", got[2])
+        well = begun == side(wanted.split(), jobs) and (got[0], lines) == (status, told) and re.search(ends + rb"\Z", got[2])
         log = tree.read("crates/oncrpc/out/build.log")
         well = well and (alone or "-9" not in fails) and "prover says of left" in log and "Traceback" not in log
         yield row(f"./oncrpc prove, {jobs} at once, {fails or 'none'} fails", bool(well), got, order, log)
 
 
-# Each waits for the one that is begun last, so that all are seen side by side.
-LAST_BEGUN = {**dict.fromkeys(["c_values", "c_messages", "c_registry"], "c_records"), "c_records": "c_values"}
+LIBRARY = ["c_values", "c_messages", "c_registry", "c_records"]
 
 
 def kept(folder):
     """What an earlier run proved is told as kept, and only the rest is proved; the library for C is proved so too."""
     tree = Tree(folder, "kept", RT_JOBS="4")
     tree.write("bin/rtlib.py", RTLIB)
-    tree.write("bin/waits", "".join(f"{it} {other}\n" for it, other in LAST_BEGUN.items()))
+    tree.write("bin/waits", "".join(f"{it} {','.join(LIBRARY)}\n" for it in LIBRARY))
     tree.write("crates/low/out/stamp", "")
     got = tree.run("./oncrpc prove")
     told = re.match(BEGUN + rb"oncrpc: 1 of 5, low" + KEPT, got[2])
@@ -198,9 +213,8 @@ def kept(folder):
     got = tree.run("./build-library made")
     order = tree.read("bin/order").split("\n")[-9:-1]
     begun = {it.split()[1] for it in order[:4] if it.startswith("begin")}
-    wanted = {"c_values", "c_messages", "c_registry", "c_records"}
     told = {*re.findall(rb"oncrpc: \d of 6, (\w+)" + SECONDS, got[2])}
-    well = begun == wanted and {it[0].decode() for it in told} == wanted
+    well = begun == {*LIBRARY} and {it[0].decode() for it in told} == {*LIBRARY}
     yield row("./build-library, side by side", well, got, order)
 
 
