@@ -15,7 +15,7 @@ LEFT = rb"(, about \d+ minutes? left)?\n"
 SECONDS = rb", \d+ seconds" + LEFT
 KEPT = rb", kept from an earlier run\n"
 BEGUN = rb"oncrpc: proving the program; what the prover says goes to \S+/crates/oncrpc/out/build.log\n"
-BEGUN += rb"oncrpc: 5 crates, at most \d+ at once, about \d+ minutes? left\n"
+BEGUN += rb"oncrpc: 6 crates, at most \d+ at once, about \d+ minutes? left\n"
 TOOK = rb"oncrpc: [\d.]+ minutes, [\d.]+ processor minutes\n"
 BUILT = rb"oncrpc: built \S+/crates/oncrpc/out/oncrpc\n"
 NOT_BUILT = rb"oncrpc: not built; \S+/crates/oncrpc/out/build.log says why\n"
@@ -141,8 +141,8 @@ def proved(folder):
 
 def in_turn(folder):
     """With an rt whose library is not as expected, the crates are proved in turn."""
-    told = rb"oncrpc: 1 of 5, low" + SECONDS + rb"oncrpc: 2 of 5, short" + KEPT
-    ends = rb"oncrpc: 3 of 5, oncrpc" + SECONDS + TOOK + BUILT
+    told = rb"oncrpc: 1 of 6, low" + SECONDS + rb"oncrpc: 2 of 6, short" + KEPT
+    ends = rb"oncrpc: 3 of 6, oncrpc" + SECONDS + TOOK + BUILT
     for name, library, status, faults in (
         ("none", None, 0, ends),
         ("lacks", RTLIB.replace("def lock", "def locks"), 0, ends),
@@ -158,16 +158,16 @@ def in_turn(folder):
         yield row(f"./oncrpc prove in turn, {name}", well and "what the prover says of oncrpc" in log, got, log)
 
 
-ALL = {b"low", b"short", b"left", b"right", b"oncrpc"}
-# What waits until which other is begun, so that the two are seen side by side.
-PAIRS = "low short\nshort low\nleft right\nright left\n"
+ALL = {b"low", b"short", b"last", b"left", b"right", b"oncrpc"}
+# What waits for which other, so that two are seen side by side, and it is known which of them ends first.
+PAIRS = "low short\nshort -low\nleft right\nright -left\n"
 # How many at once, what fails and how, the crates in the order in which they are begun, the status, and which are told.
 SIDE_BY_SIDE = [
-    (1, "", "low left short right", 0, ALL),
-    (2, "", "low short left right", 0, ALL),
+    (1, "", "low left short right last", 0, ALL),
+    (2, "", "low short left right last", 0, ALL),
     (1, "left 1", "low left", 3, {b"low"}),
     (2, "left 1", "low short left right", 3, {b"low", b"short", b"right"}),
-    (2, "right -9", "low short left right right", 0, ALL),
+    (2, "right -9", "low short left right last right", 0, ALL),
 ]
 
 
@@ -188,11 +188,12 @@ def side_by_side(folder):
         begun = side([it.split()[1] for it in order if it.startswith("begin")], jobs)
         # (one that was killed runs again with nothing beside it)
         alone = order[-2:] == ["begin right --jobs 1", "end right"]
-        ends = b"(oncrpc: left is not proved\n)?(oncrpc: 3[^\n]*\n)?" + TOOK + (NOT_BUILT if status else BUILT)
-        lines = {it[0] for it in re.findall(rb"oncrpc: \d of 5, (\w+)" + SECONDS, got[2])}
-        well = begun == side(wanted.split(), jobs) and (got[0], lines) == (status, told) and re.search(ends + rb"\Z", got[2])
+        ends = b"(oncrpc: left is not proved\n)?(oncrpc: 3 of[^\n]*\n)?" + TOOK + (NOT_BUILT if status else BUILT)
+        lines = {it[0] for it in re.findall(rb"oncrpc: \d of 6, (\w+)" + SECONDS, got[2])}
+        well = begun == side(wanted.split(), jobs) and (got[0], lines) == (status, told)
         log = tree.read("crates/oncrpc/out/build.log")
-        well = well and (alone or "-9" not in fails) and "prover says of left" in log and "Traceback" not in log
+        well = well and re.search(ends + rb"\Z", got[2]) and (alone or "-9" not in fails)
+        well = well and "prover says of left" in log and "Traceback" not in log
         yield row(f"./oncrpc prove, {jobs} at once, {fails or 'none'} fails", bool(well), got, order, log)
 
 
@@ -206,7 +207,7 @@ def kept(folder):
     tree.write("bin/waits", "".join(f"{it} {','.join(LIBRARY)}\n" for it in LIBRARY))
     tree.write("crates/low/out/stamp", "")
     got = tree.run("./oncrpc prove")
-    told = re.match(BEGUN + rb"oncrpc: 1 of 5, low" + KEPT, got[2])
+    told = re.match(BEGUN + rb"oncrpc: 1 of 6, low" + KEPT, got[2])
     order = tree.read("bin/order")
     well = told and got[0] == 0 and "begin low" not in order
     yield row("./oncrpc prove, one is kept", bool(well), got, order)
