@@ -96,15 +96,16 @@ def not_kept(folder):
 def proved(folder):
     """Once the proved program stands, nothing else runs, as long as its sources are the same by what they hold."""
     tree = Tree(folder, "proved", STAND_TRY="kept")
+    source, told = f"{tree.at}/crates/low/src/lib.rt", output(b"proved", b"show")
+    os.utime(source, (time.time() + 99,) * 2)
     tree.run("./oncrpc show")
     for words in ("prove", "--prove"):
         got = tree.run(f"./oncrpc {words}")
-        told = got[2].startswith(b"oncrpc: proving") == (words == "prove")
-        yield row(f"./oncrpc {words}", got[0] == 0 and told and len(got[3]) == (words == "prove"), got)
+        begun = got[2].startswith(b"oncrpc: proving") == (words == "prove")
+        yield row(f"./oncrpc {words}", got[0] == 0 and begun and len(got[3]) == (words == "prove"), got)
     left = os.listdir(os.path.dirname(tree.made))
     yield row("what ./oncrpc prove leaves", sorted(left) == ["build.log", "oncrpc", "oncrpc.sources"], left)
-    source, told = f"{tree.at}/crates/low/src/lib.rt", output(b"proved", b"show")
-    for what, seconds, status in (("", 0, 7), (", newer sources", 99, 7), (", older sources", -9999, 7)):
+    for what, seconds, status in (("", 99, 7), (", newer sources", 999, 7), (", older sources", -9999, 7)):
         os.utime(source, (time.time() + seconds,) * 2)
         got = tree.run("./oncrpc show")
         yield row(f"./oncrpc show, proved{what}", is_answer(got, status, told, b"proved fault\n", 0), got)
@@ -156,6 +157,14 @@ def in_turn(folder):
         well = is_answer(got, 3 if status else 0, b"", BEGUN + IN_TURN + told + faults, 1)
         log = tree.read("crates/oncrpc/out/build.log")
         yield row(f"./oncrpc prove in turn, {name}", well and "what the prover says of oncrpc" in log, got, log)
+
+
+def edited(folder):
+    """Where a source changes while it is proved, nothing is taken for proved."""
+    tree = Tree(folder, "edited", STAND_EDIT="1", STAND_TRY="kept")
+    got = tree.run("./oncrpc prove")
+    told = got[2].endswith(b"oncrpc: not built: the sources changed meanwhile\n")
+    yield row("./oncrpc prove, a source changes", got[0] == 3 and told and not os.path.exists(tree.made), got)
 
 
 ALL = {b"low", b"short", b"last", b"left", b"right", b"oncrpc"}
@@ -231,5 +240,5 @@ def missing(folder):
 
 
 def launcher_rows(folder):
-    for rows in (unproved, not_kept, proved, in_turn, side_by_side, kept, missing):
+    for rows in (unproved, not_kept, proved, edited, in_turn, side_by_side, kept, missing):
         yield from rows(folder)
