@@ -1,27 +1,41 @@
 /* oncrpc: proved XDR (RFC 4506), messages and record marking of ONC RPC (RFC 5531), and the registry of rpcbind (RFC
  * 1833), for C and C++.
  *
- * Each function answers a status, one of the ONCRPC_ numbers below, and fills what the caller lends. What it promises
- * is the contract of the function of that name in the src of crates/c_values, crates/c_messages, crates/c_registry or
- * crates/c_records, which a prover has accepted; these comments retell it.
+ * Each function answers a status, one of the ONCRPC_ numbers below, and fills what the caller passes. What it
+ * promises is the contract of the function of that name in the src of crates/c_values, crates/c_messages, crates/c_registry or
+ * crates/c_records, which a prover has accepted. These comments retell it.
  *
- * POINTERS. A pointer to bytes with a count beside it leads to so many bytes, and is not null, also where the count is
- * 0. Nothing else may write those bytes while the call runs. What a call fills (an outcome, a room, a handle) overlaps
- * nothing else that the call is given. A call keeps no pointer: when it has returned, the bytes are the caller's again.
+ * SHOWN BY TESTS, and by no contract: that ONCRPC_NO_MEMORY comes only where malloc or realloc refused, or as
+ * oncrpc_normalise says of its input. That no memory is lost. Which error of a text is told, and at which line and
+ * column. The stack that is needed, and that no call ends the process. The numbers of this file, and the sizes and the
+ * places of fields. That the hashes of a registry depend on its seed is shown by neither: it is the code.
+ *
+ * POINTERS. A pointer to bytes or parts has a count beside it, and leads to so many. Where the count is 0 it may be
+ * NULL, and is not looked at. No other pointer may be NULL: neither a handle, nor an outcome, nor a call, nor a place
+ * for a count. Each is aligned as its type wants it. Nothing else may write what is read while the call runs. What a
+ * call fills, an outcome, a buffer or a handle, overlaps nothing else that the call is given. A call keeps no pointer:
+ * when it has returned, the bytes are the caller's again.
  *
  * MEMORY. What is kept between calls is in a handle, oncrpc_declarations, oncrpc_registry or oncrpc_records, and is
  * given back by its free. All memory comes from malloc and realloc and goes to free. Where one of them refuses, the
- * answer is ONCRPC_NO_MEMORY, or of oncrpc_registry_answer the reply SYSTEM_ERR, no memory is lost, and the call may be
- * made again. What a handle holds stays then, but that of oncrpc_declarations_read, oncrpc_registry_start and
- * oncrpc_records_start holds none, and after ONCRPC_NO_MEMORY of oncrpc_records_feed the stream is lost. No length or
- * count that the input declares reserves any.
+ * answer is ONCRPC_NO_MEMORY, or of oncrpc_registry_answer the reply SYSTEM_ERR. No memory is lost then, and the call
+ * may be made again. What a handle holds stays, with these exceptions: after oncrpc_declarations_read,
+ * oncrpc_registry_start and oncrpc_records_start it holds nothing. After ONCRPC_NO_MEMORY of oncrpc_records_feed the
+ * stream is lost. No length or count that the input declares reserves any memory.
  *
- * THREADS. There is no state outside of the handles and no initialisation, so calls on several threads at once are well
+ * HANDLES. A handle begins as ONCRPC_NONE, which is all zeros: `oncrpc_records records = ONCRPC_NONE;`. Only the calls
+ * below may look into it or write it. A copy of it must not be used beside it. A handle on the stack that was not set
+ * to ONCRPC_NONE holds whatever was there, and a start or a read would free that.
+ *
+ * THREADS. There is no state outside of the handles and no initialisation, so calls may run on several threads at once
  * where they share nothing that one of them fills. A handle stays on one thread, with one call at a time: a check
  * writes to it. Nothing here may be called from a signal handler, nor in the forked child of a process with threads.
  *
  * STACK. No call goes down by the depth of its input: 64 KiB are enough for every call, at the greatest limits too, as
  * was measured on x86-64 Linux.
+ *
+ * PROCESSOR. x86-64-v2 on Linux: the library has instructions of SSSE3 and SSE4.1, and an older processor ends the
+ * program at the first of them.
  *
  * No call blocks, and none ends the process. */
 #ifndef ONCRPC_H
@@ -40,18 +54,18 @@ enum {
     ONCRPC_OK = 0,              /* a value and no more; or done. `at`: how many bytes */
     ONCRPC_MORE_FOLLOWS = 1,    /* a value, and then at least one more byte. `at`: how many bytes the value has */
     ONCRPC_REFUSED = 2,         /* the bytes are refused. `why`: a reason; `at`: the count of bytes before the place */
-    ONCRPC_UNDECLARED = 3,      /* the text declares nothing. `why`: a fault; `inner`; `line`; `column` */
+    ONCRPC_UNDECLARED = 3,      /* the text has an error. `why`: a fault; `inner`; `line`; `column` */
     ONCRPC_NO_KIND = 4,         /* the name is that of no kind */
     ONCRPC_BAD_LIMITS = 5,      /* a limit is out of its range */
-    ONCRPC_NO_MEMORY = 6,       /* memory was refused */
+    ONCRPC_NO_MEMORY = 6,       /* out of memory: malloc or realloc refused */
     ONCRPC_NO_DECLARATIONS = 7, /* the handle holds no declarations */
-    ONCRPC_NO_ROOM = 8,         /* the room is too small. `at`, or `count` of a writer: how many bytes are needed */
+    ONCRPC_NO_ROOM = 8,         /* the buffer is too small. `at`, or `count` of a writer: how many bytes are needed */
 
     /* Of messages alone. */
     ONCRPC_NOT_A_CALL = 9,      /* no call, or less than the front of one */
     ONCRPC_OTHER_VERSION = 10,  /* a call of another version of RPC than 2 */
     ONCRPC_BAD_CREDENTIAL = 11, /* the credential is cut, has more than 400 bytes, or padding that is not zero */
-    ONCRPC_BAD_VERIFIER = 12,   /* the same of the verifier; of a reply's verifier all but that it is cut */
+    ONCRPC_BAD_VERIFIER = 12,   /* the same of the verifier; a reply's that is cut is ONCRPC_CUT */
     ONCRPC_CUT = 13,            /* the bytes end inside of a reply's numbers or its verifier */
     ONCRPC_NOT_A_REPLY = 14,    /* the second number is not that of a reply */
     ONCRPC_BAD_STATE = 15,      /* a reply of a state that there is not */
@@ -83,20 +97,21 @@ enum {
     ONCRPC_TRUNCATED = 8     /* the bytes end inside the value or the record, at their count, which is the place */
 };
 
-/* Why a text declares nothing: `why` of an outcome with ONCRPC_UNDECLARED. docs/LANGUAGE.md explains each. */
+/* Which error a text has: `why` of an outcome with ONCRPC_UNDECLARED. docs/LANGUAGE.md explains each. A text without
+ * a declaration, also an empty one, has none. */
 enum {
-    ONCRPC_BAD_CHARACTER = 1,
-    ONCRPC_BAD_NUMBER = 2,
-    ONCRPC_UNEXPECTED = 3,
-    ONCRPC_FLOATING_KIND = 4,
-    ONCRPC_NAME_TWICE = 5,
-    ONCRPC_NAME_UNKNOWN = 6,
-    ONCRPC_NOT_A_SIZE = 7,
-    ONCRPC_OUT_OF_RANGE = 8,
-    ONCRPC_TYPEDEF_LOOP = 9,
-    ONCRPC_BAD_SCHEMA = 10, /* `inner` is the number of the schema's fault */
-    ONCRPC_TEXT_TOO_LONG = 11,
-    ONCRPC_NESTED_TOO_DEEP = 12
+    ONCRPC_BAD_CHARACTER = 1,   /* a byte that begins no token, or a comment without an end */
+    ONCRPC_BAD_NUMBER = 2,      /* digits that are no number of the language */
+    ONCRPC_UNEXPECTED = 3,      /* a token that cannot stand there, or the end of the text */
+    ONCRPC_FLOATING_KIND = 4,   /* float, double or quadruple */
+    ONCRPC_NAME_TWICE = 5,      /* a name that is declared twice in one scope */
+    ONCRPC_NAME_UNKNOWN = 6,    /* a name that is not declared */
+    ONCRPC_NOT_A_SIZE = 7,      /* a size or a maximum that is none */
+    ONCRPC_OUT_OF_RANGE = 8,    /* a number out of the range of its place */
+    ONCRPC_TYPEDEF_LOOP = 9,    /* a typedef that leads to itself */
+    ONCRPC_BAD_SCHEMA = 10,     /* types that no value can have; `inner` is the number of the schema's fault */
+    ONCRPC_TEXT_TOO_LONG = 11,  /* more than 262144 bytes */
+    ONCRPC_NESTED_TOO_DEEP = 12 /* types inside one another too deep */
 };
 
 typedef struct {
@@ -107,8 +122,10 @@ typedef struct {
     uint32_t inner; /* the number of a schema's fault */
 } oncrpc_outcome;
 
-/* Declarations that were read, or none. It begins as {0}; only the calls below may look into it or write it, and a copy
- * of it must not be used beside it. It is given back by oncrpc_declarations_free. */
+/* What a handle begins as: it holds nothing. */
+#define ONCRPC_NONE {NULL, false}
+
+/* Declarations that were read, or none. It begins as ONCRPC_NONE, and is given back by oncrpc_declarations_free. */
 typedef struct {
     void *at;
     bool live;
@@ -229,12 +246,13 @@ typedef struct {
 #define ONCRPC_MOST_RECORD 2147483647u
 
 /* Reads `text`, declarations in the XDR language of at most 262144 bytes (docs/LANGUAGE.md), and tells whether `input`
- * is a value of the kind `name`: a type that the text declares, or a basic one, int, unsigned, hyper, unsigned-hyper,
- * bool, opaque, string; or P.V.N.K, the K-th argument, from 1, of procedure N in version V of program P of the text, or
- * P.V.N.result, its result where that is not void, with decimal numbers without leading zeros. The name is UTF-8 and
- * needs no zero at its end.
+ * begins with a value of the kind `name`. That is a type that the text declares, or a basic one: int, unsigned, hyper,
+ * unsigned-hyper, bool, opaque, string. Or P.V.N.K, the K-th argument, from 1, of procedure N in version V of program P
+ * of the text. Or P.V.N.result, its result where that is not void. These numbers are decimal, without leading zeros.
+ * The name is UTF-8 and needs no zero at its end.
  *
  * The text is looked at first, then the name, then the limits, then the input. `outcome` is filled at every status.
+ * `text`, `name` and `input` may be NULL where their count is 0; an empty text has no error and declares nothing.
  * ONCRPC_OK, _MORE_FOLLOWS, _REFUSED, _UNDECLARED, _NO_KIND, _BAD_LIMITS, _NO_MEMORY. */
 uint32_t oncrpc_check(
     const uint8_t *text, size_t text_count,
@@ -244,13 +262,14 @@ uint32_t oncrpc_check(
     oncrpc_outcome *outcome);
 
 /* Reads `text` into `declarations`. What that held before is given back. At any other status than ONCRPC_OK it holds
- * none. ONCRPC_OK, _UNDECLARED, _NO_MEMORY. */
+ * none. `text` may be NULL where its count is 0. ONCRPC_OK, _UNDECLARED, _NO_MEMORY. */
 uint32_t oncrpc_declarations_read(
     const uint8_t *text, size_t text_count,
     oncrpc_declarations *declarations,
     oncrpc_outcome *outcome);
 
-/* As oncrpc_check, by declarations that were read. They stay, whatever the status is.
+/* As oncrpc_check, by declarations that were read. They stay, whatever the status is. `name` and `input` may be NULL
+ * where their count is 0.
  * ONCRPC_OK, _MORE_FOLLOWS, _REFUSED, _NO_KIND, _BAD_LIMITS, _NO_MEMORY, _NO_DECLARATIONS. */
 uint32_t oncrpc_declarations_check(
     oncrpc_declarations *declarations,
@@ -259,33 +278,35 @@ uint32_t oncrpc_declarations_check(
     const uint8_t *input, size_t input_count,
     oncrpc_outcome *outcome);
 
-/* Puts the lines of the value that begins the input into `room`, by declarations that were read: one for each part, in
- * the order of the bytes, a node before those inside it, two spaces further in, each ended by a newline, as
- * `oncrpc show` prints them (docs/FORMATS.md). No zero ends them. The declarations stay, whatever the status is.
+/* Puts the lines of the value that begins the input into `buffer`, by declarations that were read. There is one for
+ * each part, in the order of the bytes, a node before those inside it, two spaces further in. Each is ended by a
+ * newline, as `oncrpc show` prints them (docs/FORMATS.md). No zero ends them. The declarations stay, whatever the
+ * status is. `name`, `input` and `buffer` may be NULL where their count is 0.
  *
- * ONCRPC_OK, _MORE_FOLLOWS: `written` says how many bytes of the room were written, from its first on; the others are
- * as they were. ONCRPC_NO_ROOM: `at` of the outcome says how many bytes of room are needed. At any status but the first
- * two the room is as it was, and `written` is 0.
+ * ONCRPC_OK, _MORE_FOLLOWS: `written` says how many bytes of the buffer were written, from its first on; the others are
+ * as they were. ONCRPC_NO_ROOM: `at` of the outcome says how many bytes are needed. At any status but the first two the
+ * buffer is as it was, and `written` is 0, so a count of 0 asks how many are needed.
  * ONCRPC_OK, _MORE_FOLLOWS, _REFUSED, _NO_KIND, _BAD_LIMITS, _NO_MEMORY, _NO_DECLARATIONS, _NO_ROOM. */
 uint32_t oncrpc_declarations_show(
     oncrpc_declarations *declarations,
     const uint8_t *name, size_t name_count,
     uint32_t depth, uint32_t bytes,
     const uint8_t *input, size_t input_count,
-    uint8_t *room, size_t room_count,
+    uint8_t *buffer, size_t buffer_count,
     size_t *written,
     oncrpc_outcome *outcome);
 
 /* Tells where the parts of the value that begins `input` lie, by declarations that were read: in the order of the
- * bytes, a node before those inside it. Puts the parts into `parts`, an array of `parts_count`, not null also where
- * that is 0, and their names into `names`, one directly behind the other, in the order of the parts. The parts hold
- * places in the caller's `input` and `names`, and no pointer. The declarations stay, whatever the status is.
+ * bytes, a node before those inside it. Puts the parts into `parts`, an array of `parts_count`. Puts their names into
+ * `names`, one directly behind the other, in the order of the parts. The parts hold places in the caller's `input` and
+ * `names`, and no pointer. The declarations stay, whatever the status is. `name`, `input`, `parts` and `names` may be
+ * NULL where their count is 0.
  *
- * ONCRPC_OK, _MORE_FOLLOWS: `at` of the outcome says how many bytes the value has, `parts` and `names` how many parts
- * and bytes of names were written, each from the first on; the others are as they were. ONCRPC_NO_ROOM: `at` says how
- * many bytes the value has, and an array of `parts` parts and room for `names` bytes are needed, both. ONCRPC_REFUSED:
- * `why` and `at`, as oncrpc_declarations_check tells them. At any status but the first two both rooms are as they were,
- * so a count of 0 for both asks how much they need.
+ * ONCRPC_OK, _MORE_FOLLOWS: `at` of the outcome says how many bytes the value has. `parts` and `names` of it say how
+ * many parts and bytes of names were written, each from the first on; the others are as they were. ONCRPC_NO_ROOM: `at`
+ * says how many bytes the value has. An array of `parts` parts and a buffer for `names` bytes are needed, both.
+ * ONCRPC_REFUSED: `why` and `at`, as oncrpc_declarations_check tells them. At any status but the first two both are as
+ * they were, so a count of 0 for both asks how much they need.
  * ONCRPC_OK, _MORE_FOLLOWS, _REFUSED, _NO_KIND, _BAD_LIMITS, _NO_MEMORY, _NO_DECLARATIONS, _NO_ROOM. */
 uint32_t oncrpc_declarations_parts(
     oncrpc_declarations *declarations,
@@ -299,19 +320,19 @@ uint32_t oncrpc_declarations_parts(
 /* Gives back what `declarations` holds, if anything. It then holds none, so that a second call does nothing. */
 void oncrpc_declarations_free(oncrpc_declarations *declarations);
 
-/* Writes each record of `input` into `room` as one final fragment, where a record may have `limit` bytes, at most
- * ONCRPC_MOST_RECORD.
+/* Writes each record of `input` into `buffer` as one fragment, its last, where a record may have `limit` bytes, at most
+ * ONCRPC_MOST_RECORD. `input` and `buffer` may be NULL where their count is 0. What is written has at most
+ * `input_count` bytes.
  *
  * ONCRPC_OK: the input is whole records. ONCRPC_REFUSED: the records before the refusal were written; `why` is
- * ONCRPC_TOO_LONG at the place of the header, or ONCRPC_TRUNCATED. At both `written` says how many bytes of the room
+ * ONCRPC_TOO_LONG at the place of the header, or ONCRPC_TRUNCATED. At both `written` says how many bytes of the buffer
  * were written, from its first on; the others are as they were.
- * ONCRPC_NO_ROOM: `at` of the outcome says how many bytes of room are needed. ONCRPC_BAD_LIMITS. ONCRPC_NO_MEMORY:
- * memory was refused, or the input has more than 4294963200 bytes. At these three the room is as it was, and `written`
- * is 0. */
+ * ONCRPC_NO_ROOM: `at` of the outcome says how many bytes are needed. ONCRPC_BAD_LIMITS. ONCRPC_NO_MEMORY: out of
+ * memory, or the input has more than 4294963200 bytes. At these three the buffer is as it was, and `written` is 0. */
 uint32_t oncrpc_normalise(
     const uint8_t *input, size_t input_count,
     uint32_t limit,
-    uint8_t *room, size_t room_count,
+    uint8_t *buffer, size_t buffer_count,
     size_t *written,
     oncrpc_outcome *outcome);
 
@@ -319,68 +340,71 @@ uint32_t oncrpc_normalise(
  *
  * The readers take a message as it is in a datagram or a record: no header of a fragment stands before it. What they
  * fill has places in the caller's bytes, and holds no pointer. What they refuse is told by the status alone: of the
- * first fault in the order of the bytes, with each field 0 that is not named here.
+ * first fault in the order of the bytes, with each field 0 that is not named here. `input` may be NULL where its count
+ * is 0.
  *
- * A writer fills the front of `room`, and leaves the rest of it as it was. ONCRPC_OK: `count` bytes were written.
- * ONCRPC_NO_ROOM: `count` bytes are needed. At each status but ONCRPC_OK the room is as it was, and at each but these
- * two `count` is 0.
+ * A writer fills the front of `buffer`, and leaves the rest of it as it was. ONCRPC_OK: `count` bytes were written.
+ * ONCRPC_NO_ROOM: `count` bytes are needed. At each status but ONCRPC_OK the buffer is as it was, and at each but these
+ * two `count` is 0. The bytes that a writer is given and the buffer may be NULL where their count is 0.
  *
- * A writer copies what it is given and makes the message before it looks at the room, and a reader of a reply or of
- * AUTH_SYS copies its parts: that takes memory until they return. */
+ * A writer copies what it is given, and makes the message before it looks at the buffer. A reader of a reply or of
+ * AUTH_SYS copies its parts. Both take memory until they return. */
 
 /* Reads a call, and takes no memory. ONCRPC_OK: each field is filled. ONCRPC_OTHER_VERSION: `xid` and `rpc_version` are
  * told. ONCRPC_BAD_CREDENTIAL, _BAD_VERIFIER: `xid` is told, and `rpc_version` is 2. ONCRPC_NOT_A_CALL: fewer than 12
- * bytes, a second number that is not 0, or version 2 with fewer than 24 bytes. */
+ * bytes, a second number that is not 0, or version 2 with fewer than 24 bytes. `input` may be NULL where its count is
+ * 0: then it is no call. */
 uint32_t oncrpc_call_read(const uint8_t *input, size_t input_count, oncrpc_call *call);
 
 /* Writes a call of version 2 of RPC with the xid, the program, its version, the procedure and the two flavors of
- * `call`, and with these bodies and arguments. ONCRPC_OK, _NO_ROOM. _BAD_CREDENTIAL, and else _BAD_VERIFIER: more than
- * ONCRPC_MOST_BODY bytes. _NO_MEMORY. */
+ * `call`, and with these bodies and arguments. Each of the four buffers may be NULL where its count is 0. ONCRPC_OK,
+ * _NO_ROOM. _BAD_CREDENTIAL, and else _BAD_VERIFIER: more than ONCRPC_MOST_BODY bytes. _NO_MEMORY. */
 uint32_t oncrpc_call_write(
     const oncrpc_call *call,
     const uint8_t *credential, size_t credential_count,
     const uint8_t *verifier, size_t verifier_count,
     const uint8_t *arguments, size_t arguments_count,
-    uint8_t *room, size_t room_count,
+    uint8_t *buffer, size_t buffer_count,
     size_t *count);
 
 /* Reads a reply. ONCRPC_OK: the bytes are one, all of them. ONCRPC_CUT, _NOT_A_REPLY, _BAD_STATE, _BAD_VERIFIER,
- * _BYTES_FOLLOW, _NO_MEMORY: each field is 0. */
+ * _BYTES_FOLLOW, _NO_MEMORY: each field is 0. `input` may be NULL where its count is 0: then it is cut. */
 uint32_t oncrpc_reply_read(const uint8_t *input, size_t input_count, oncrpc_reply *reply);
 
-/* Writes a reply with the xid and the state of `reply`, and with what that state speaks of: an accepted reply has the
- * verifier's flavor and these bytes as its body, ONCRPC_SUCCESS these results; where a state has no verifier or no
- * results, those bytes are not looked at. ONCRPC_OK, _NO_ROOM. _BAD_STATE: the state is above 7. _BAD_VERIFIER: more
- * than ONCRPC_MOST_BODY bytes. _NO_MEMORY. */
+/* Writes a reply with the xid and the state of `reply`, and with what that state speaks of. An accepted reply has the
+ * verifier's flavor and these bytes as its body, ONCRPC_SUCCESS these results. Where a state has no verifier or no
+ * results, those bytes are not looked at. Each of the three buffers may be NULL where its count is 0. ONCRPC_OK,
+ * _NO_ROOM. _BAD_STATE: the state is above 7. _BAD_VERIFIER: more than ONCRPC_MOST_BODY bytes. _NO_MEMORY. */
 uint32_t oncrpc_reply_write(
     const oncrpc_reply *reply,
     const uint8_t *verifier, size_t verifier_count,
     const uint8_t *results, size_t results_count,
-    uint8_t *room, size_t room_count,
+    uint8_t *buffer, size_t buffer_count,
     size_t *count);
 
 /* Reads the body of a credential of the flavor AUTH_SYS: input + call.credential.at of a call. ONCRPC_OK: the bytes are
- * such a body, all of them. ONCRPC_NOT_AUTH_SYS, _NO_MEMORY: each field is 0. */
+ * such a body, all of them. ONCRPC_NOT_AUTH_SYS, _NO_MEMORY: each field is 0. `input` may be NULL where its count is 0:
+ * then it is no such body. */
 uint32_t oncrpc_auth_sys_read(const uint8_t *input, size_t input_count, oncrpc_auth_sys *auth);
 
-/* Writes such a body, with the numbers and the first `gid_count` gids of `auth` and this name of a machine.
+/* Writes such a body, with the numbers and the first `gid_count` gids of `auth` and this name of a machine. `machine`
+ * and `buffer` may be NULL where their count is 0.
  * ONCRPC_OK, _NO_ROOM. _NOT_AUTH_SYS: more than 16 gids or 255 bytes of name. _NO_MEMORY. */
 uint32_t oncrpc_auth_sys_write(
     const oncrpc_auth_sys *auth,
     const uint8_t *machine, size_t machine_count,
-    uint8_t *room, size_t room_count,
+    uint8_t *buffer, size_t buffer_count,
     size_t *count);
 
 /* ---- the registry
  *
  * The registry of RFC 1833, versions 2, 3 and 4 of program 100000: rows in memory, at most 1024, each a program, a
  * version, a netid, an address and an owner. The caller has the sockets: what came in a datagram or a record goes into
- * oncrpc_registry_answer, and what that puts into the room is sent back. Each call below but the last fills `outcome`:
- * `at` where it is spoken of, and 0 in each other field and at each other status. At ONCRPC_NO_REGISTRY nothing is
- * changed. */
+ * oncrpc_registry_answer, and what that puts into the buffer is sent back. Each call below but the last fills
+ * `outcome`: `at` where it is spoken of, and 0 in each other field and at each other status. At ONCRPC_NO_REGISTRY
+ * nothing is changed. */
 
-/* A registry, or none. It begins as {0}; only the calls below may look into it or write it, and a copy of it must not
- * be used beside it. It is given back by oncrpc_registry_free. */
+/* A registry, or none. It begins as ONCRPC_NONE, and is given back by oncrpc_registry_free. */
 typedef struct {
     void *at;
     bool live;
@@ -389,8 +413,9 @@ typedef struct {
 /* Starts a registry in `registry`, and gives back what that held before. Its rows are its own: program 100000 in
  * versions 2, 3 and 4, each over tcp and then over udp, at 0.0.0.0 and this port, owned by superuser.
  *
- * `seed` is as many bytes that the peers can not know, 16 of getentropy for one. Rows are found by hashes behind it, so
- * that no peer can choose many that hash alike, which would make each look-up slow. The answers do not depend on it.
+ * `seed` is as many bytes that the peers can not know, 16 of getentropy for one. Rows are found by hashes that depend
+ * on it, so that no peer can choose many that hash alike, which would make each look-up slow. The answers do not depend
+ * on it. It may be NULL where its count is 0, but then every peer knows it.
  *
  * ONCRPC_OK. ONCRPC_NO_MEMORY: it holds none. */
 uint32_t oncrpc_registry_start(
@@ -400,13 +425,19 @@ uint32_t oncrpc_registry_start(
     oncrpc_outcome *outcome);
 
 /* Answers a record that came over the transport `netid`, which is tcp or udp, and puts the reply into the front of
- * `room`. The record, and the reply, is as it is in a datagram or, over tcp, without the headers of its fragments.
+ * `buffer`. The record, and the reply, is as it is in a datagram or, over tcp, without the headers of its fragments.
+ * `netid`, `record` and `buffer` may be NULL where their count is 0.
  *
- * ONCRPC_OK: `at` bytes of reply were written, and the rest of the room is as it was. ONCRPC_SILENCE: the record is no
- * call, and is to be dropped. ONCRPC_NO_ROOM: `at` bytes of room are needed. What was asked for is done already, so the
- * reply waits in the registry for oncrpc_registry_reply, until the next call of this function, which gives it up
- * unless it answers ONCRPC_NO_TRANSPORT: then nothing is changed. ONCRPC_NO_REGISTRY. At each status but ONCRPC_OK the
- * room is as it was.
+ * WHO MAY CHANGE ROWS. The call is not told who sent the record, and the owner is what its AUTH_SYS claims, which
+ * proves nothing. So any peer that claims uid 0 is superuser, and can empty the registry, its own rows too, by one
+ * datagram for each program and version. Any peer can fill it. Hand on SET and UNSET, procedures 1 and 2 of program
+ * 100000, from peers that you trust alone, those of this host for one: examples/registry.c asks oncrpc_call_read first.
+ *
+ * ONCRPC_OK: `at` bytes of reply were written, and the rest of the buffer is as it was. ONCRPC_SILENCE: the record is
+ * no call, and is to be dropped. ONCRPC_NO_ROOM: `at` bytes are needed. What was asked for is done already, so the
+ * reply waits in the registry for oncrpc_registry_reply, until the next call of this function. That gives it up, unless
+ * it answers ONCRPC_NO_TRANSPORT: then nothing is changed. ONCRPC_NO_REGISTRY. At each status but ONCRPC_OK the buffer
+ * is as it was.
  *
  * Where memory is refused the reply is SYSTEM_ERR of 24 bytes, and the rows are as they were. Over udp a reply has at
  * most 65507 bytes: a longer one is SYSTEM_ERR, and the rows are as they were. */
@@ -414,20 +445,22 @@ uint32_t oncrpc_registry_answer(
     oncrpc_registry *registry,
     const uint8_t *netid, size_t netid_count,
     const uint8_t *record, size_t record_count,
-    uint8_t *room, size_t room_count,
+    uint8_t *buffer, size_t buffer_count,
     oncrpc_outcome *outcome);
 
-/* Puts the reply that waits into the front of `room`; then it waits no longer.
- * ONCRPC_OK: `at` bytes were written, and the rest of the room is as it was. ONCRPC_NO_ROOM: `at` bytes are needed, and
- * the reply waits on. ONCRPC_SILENCE: no reply waits. ONCRPC_NO_REGISTRY. */
+/* Puts the reply that waits into the front of `buffer`; then it waits no longer. `buffer` may be NULL where its count
+ * is 0.
+ * ONCRPC_OK: `at` bytes were written, and the rest of the buffer is as it was. ONCRPC_NO_ROOM: `at` bytes are needed,
+ * and the reply waits on. ONCRPC_SILENCE: no reply waits. ONCRPC_NO_REGISTRY. */
 uint32_t oncrpc_registry_reply(
     oncrpc_registry *registry,
-    uint8_t *room, size_t room_count,
+    uint8_t *buffer, size_t buffer_count,
     oncrpc_outcome *outcome);
 
 /* Adds a row at the end. ONCRPC_OK. ONCRPC_UNCHANGED: the netid or the address is empty, the netid has more than 64
- * bytes, the address more than 256 or the owner more than 10, there is a row of this program, version and netid, or
- * there are 1024 rows. ONCRPC_NO_MEMORY: no row was added. ONCRPC_NO_REGISTRY. A reply that waits stays. */
+ * bytes, the address more than 256 or the owner more than 10. Or there is a row of this program, version and netid, or
+ * there are 1024 rows. ONCRPC_NO_MEMORY: no row was added. ONCRPC_NO_REGISTRY. A reply that waits stays. `netid`,
+ * `address` and `owner` may be NULL where their count is 0. */
 uint32_t oncrpc_registry_set(
     oncrpc_registry *registry,
     uint32_t program, uint32_t version,
@@ -438,7 +471,8 @@ uint32_t oncrpc_registry_set(
 
 /* Removes the row of this program, version and netid, or with an empty netid each row of the program and version, where
  * the row is owned by `owner` or `owner` is superuser. ONCRPC_OK: at least one. ONCRPC_UNCHANGED: there is none.
- * ONCRPC_NO_REGISTRY. A reply that waits stays. It takes no memory. */
+ * ONCRPC_NO_REGISTRY. A reply that waits stays. It takes no memory. `netid` and `owner` may be NULL where their count
+ * is 0. */
 uint32_t oncrpc_registry_unset(
     oncrpc_registry *registry,
     uint32_t program, uint32_t version,
@@ -457,7 +491,7 @@ void oncrpc_registry_free(oncrpc_registry *registry);
  *
  *     while ((status = oncrpc_records_feed(&records, piece, count, &outcome)) == ONCRPC_OK) {
  *         piece += outcome.at, count -= outcome.at;
- *         status = oncrpc_records_take(&records, room, room_count, &outcome);
+ *         status = oncrpc_records_take(&records, buffer, buffer_count, &outcome);
  *         ...                     at ONCRPC_NO_ROOM it is to be called again with more, since the record waits on
  *     }
  *
@@ -466,19 +500,18 @@ void oncrpc_registry_free(oncrpc_registry *registry);
  * the last fills `outcome`: `at` and `why` where they are spoken of, and 0 in each other field and at each other
  * status. At ONCRPC_NO_READER nothing is changed. */
 
-/* A reader of one stream of records, or none. It begins as {0}; only the calls below may look into it or write it, and
- * a copy of it must not be used beside it. It is given back by oncrpc_records_free. */
+/* A reader of one stream of records, or none. It begins as ONCRPC_NONE, and is given back by oncrpc_records_free. */
 typedef struct {
     void *at;
     bool live;
 } oncrpc_records;
 
 /* Starts a reader in `records`, before the first byte of a stream whose records may have `limit` bytes, at most
- * ONCRPC_MOST_RECORD, and gives back what that held before. Of the stream it keeps one record at most, as it comes, and
+ * ONCRPC_MOST_RECORD. It gives back what that held before. Of the stream it keeps one record at most, as it comes, and
  * the memory of an earlier one, for the next. ONCRPC_OK. ONCRPC_BAD_LIMITS, _NO_MEMORY: it holds none. */
 uint32_t oncrpc_records_start(oncrpc_records *records, uint32_t limit, oncrpc_outcome *outcome);
 
-/* Takes bytes of `piece`, which may be empty, up to the end of a record.
+/* Takes bytes of `piece`, which may be empty, up to the end of a record. `piece` may be NULL where its count is 0.
  *
  * ONCRPC_OK: a record is whole, and waits for oncrpc_records_take. The first `at` bytes of the piece were taken, the
  * last of which is the record's last; the others are to be fed again, after the record was taken. While a record waits
@@ -494,19 +527,20 @@ uint32_t oncrpc_records_feed(
     const uint8_t *piece, size_t piece_count,
     oncrpc_outcome *outcome);
 
-/* Puts the record that waits into the front of `room`; then it waits no longer, and the next may be fed.
- * ONCRPC_OK: `at` bytes were written, 0 of an empty record, and the rest of the room is as it was. ONCRPC_NO_ROOM: `at`
- * bytes are needed, and the record waits on. ONCRPC_NO_RECORD. ONCRPC_NO_READER. At each status but ONCRPC_OK the room
- * is as it was. It takes no memory. */
+/* Puts the record that waits into the front of `buffer`; then it waits no longer, and the next may be fed. `buffer` may
+ * be NULL where its count is 0, as for an empty record.
+ * ONCRPC_OK: `at` bytes were written, 0 of an empty record, and the rest of the buffer is as it was. ONCRPC_NO_ROOM:
+ * `at` bytes are needed, and the record waits on. ONCRPC_NO_RECORD. ONCRPC_NO_READER. At each status but ONCRPC_OK the
+ * buffer is as it was. It takes no memory. */
 uint32_t oncrpc_records_take(
     oncrpc_records *records,
-    uint8_t *room, size_t room_count,
+    uint8_t *buffer, size_t buffer_count,
     oncrpc_outcome *outcome);
 
 /* Tells whether the stream may end behind the bytes that were taken.
  * ONCRPC_OK: they end with a record's last byte, or there are none; a record that waits waits on, and nothing is
  * changed. ONCRPC_REFUSED: `why` is ONCRPC_TRUNCATED, and `at` the count of all bytes that were taken, which end inside
- * a record, for ever after; or `why` and `at` are those that oncrpc_records_feed told. ONCRPC_NO_MEMORY: it told that.
+ * a record, for ever after. Or `why` and `at` are those that oncrpc_records_feed told. ONCRPC_NO_MEMORY: it told that.
  * ONCRPC_NO_READER. It takes no memory. */
 uint32_t oncrpc_records_end(oncrpc_records *records, oncrpc_outcome *outcome);
 
