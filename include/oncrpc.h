@@ -1,8 +1,8 @@
 /* oncrpc: proved XDR (RFC 4506), messages and record marking of ONC RPC (RFC 5531), and the registry of rpcbind (RFC
  * 1833), for C and C++.
  *
- * Each function answers a status, one of the ONCRPC_ numbers below, and fills what the caller passes. What it
- * promises is the contract of the function of that name in the src of crates/c_values, crates/c_messages, crates/c_registry or
+ * Each function answers a status, one of the ONCRPC_ numbers below, and fills what the caller passes. What it promises
+ * is the contract of the function of that name in the src of crates/c_values, crates/c_messages, crates/c_registry or
  * crates/c_records, which a prover has accepted. These comments retell it.
  *
  * SHOWN BY TESTS, and by no contract: that ONCRPC_NO_MEMORY comes only where malloc or realloc refused, or as
