@@ -126,7 +126,7 @@ fn registry() -> Result<(), Box<dyn Error>> {
         registry.set(100_003, 3, b"tcp", b"127.0.0.1.8.1", b"root")?
     );
     println!("no call: {}", registry.answer(Transport::Udp, b"\0\0\0", &mut reply)?);
-    println!("removed: {}", registry.unset(100_003, 3, b"", b"root"));
+    println!("removed: {}", registry.unset(100_003, 3, b"", b"root")?);
     Ok(())
 }
 

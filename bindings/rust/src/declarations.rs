@@ -1,5 +1,6 @@
 //! Declarations in the XDR language, and values of the kinds that they declare.
 
+use crate::buffer::{fill, with_capacity};
 use crate::fault::{CheckFault, ReadFault};
 use crate::sys;
 use std::ptr;
@@ -16,8 +17,8 @@ pub struct Limits {
 impl Limits {
     /// The greatest limits that are taken.
     pub const MOST: Self = Self {
-        depth: 4096,
-        bytes: 16_777_216,
+        depth: sys::MOST_DEPTH,
+        bytes: sys::MOST_BYTES,
     };
 }
 
@@ -90,11 +91,13 @@ impl Declarations {
 
     /// The lines of the value that begins the input, one for each part, as `oncrpc show` prints them.
     pub fn show(&mut self, name: &str, limits: Limits, input: &[u8]) -> Result<(Checked, String), CheckFault> {
-        let (status, outcome, _) = self.show_into(name, limits, input, &mut []);
-        let mut lines = room(if status == sys::NO_ROOM { outcome.at } else { 0 }).ok_or(CheckFault::NoMemory)?;
-        let (status, outcome, written) = self.show_into(name, limits, input, &mut lines);
+        let mut lines = Vec::new();
+        let (mut status, mut outcome) = self.show_into(name, limits, input, &mut lines);
+        if status == sys::NO_ROOM {
+            lines = with_capacity(outcome.at).ok_or(CheckFault::NoMemory)?;
+            (status, outcome) = self.show_into(name, limits, input, &mut lines);
+        }
         let found = Checked::of(status, &outcome)?;
-        lines.truncate(written);
         let text = String::from_utf8(lines).unwrap_or_else(|it| String::from_utf8_lossy(it.as_bytes()).into_owned());
         Ok((found, text))
     }
@@ -103,27 +106,31 @@ impl Declarations {
         &mut self.handle
     }
 
-    /// The status, the outcome, and how many bytes of the room were written.
-    fn show_into(&mut self, name: &str, limits: Limits, input: &[u8], room: &mut [u8]) -> (u32, sys::Outcome, usize) {
+    /// Puts the lines into the vector where its capacity is enough.
+    fn show_into(&mut self, name: &str, limits: Limits, input: &[u8], lines: &mut Vec<u8>) -> (u32, sys::Outcome) {
         let mut outcome = sys::Outcome::default();
         let mut written = 0;
-        // SAFETY: name and input are slices; handle, room, count and outcome are ours alone and lie apart.
-        let status = unsafe {
-            sys::oncrpc_declarations_show(
-                &mut self.handle,
-                name.as_ptr(),
-                name.len(),
-                limits.depth,
-                limits.bytes,
-                input.as_ptr(),
-                input.len(),
-                room.as_mut_ptr(),
-                room.len(),
-                &mut written,
-                &mut outcome,
-            )
+        // SAFETY: name and input are slices; at OK and MORE_FOLLOWS so many bytes were written; handle, buffer, count
+        // and outcome are ours alone and lie apart.
+        let (status, _) = unsafe {
+            fill(lines, &[sys::OK, sys::MORE_FOLLOWS], |to, capacity| {
+                let status = sys::oncrpc_declarations_show(
+                    &mut self.handle,
+                    name.as_ptr(),
+                    name.len(),
+                    limits.depth,
+                    limits.bytes,
+                    input.as_ptr(),
+                    input.len(),
+                    to,
+                    capacity,
+                    &mut written,
+                    &mut outcome,
+                );
+                (status, written)
+            })
         };
-        (status, outcome, written)
+        (status, outcome)
     }
 }
 
@@ -132,12 +139,4 @@ impl Drop for Declarations {
         // SAFETY: the handle is ours alone; one that holds none is left as it is.
         unsafe { sys::oncrpc_declarations_free(&mut self.handle) }
     }
-}
-
-/// So many zeros, or `None` where memory is refused.
-pub(crate) fn room(count: usize) -> Option<Vec<u8>> {
-    let mut made = Vec::new();
-    made.try_reserve_exact(count).ok()?;
-    made.resize(count, 0);
-    Some(made)
 }

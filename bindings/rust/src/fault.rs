@@ -24,19 +24,22 @@ pub enum Reason {
     TooLarge,
     /// The bytes end inside the value or the record, at their count, which is the place.
     Truncated,
+    /// A reason that this crate does not know.
+    Unknown(u32),
 }
 
 impl Reason {
     fn of(number: u32) -> Self {
         match number {
-            1 => Self::BadBool,
-            2 => Self::BadNumbered,
-            3 => Self::BadCase,
-            4 => Self::TooLong,
-            5 => Self::BadPadding,
-            6 => Self::TooDeep,
-            7 => Self::TooLarge,
-            _ => Self::Truncated,
+            sys::BAD_BOOL => Self::BadBool,
+            sys::BAD_NUMBERED => Self::BadNumbered,
+            sys::BAD_CASE => Self::BadCase,
+            sys::TOO_LONG => Self::TooLong,
+            sys::BAD_PADDING => Self::BadPadding,
+            sys::TOO_DEEP => Self::TooDeep,
+            sys::TOO_LARGE => Self::TooLarge,
+            sys::TRUNCATED => Self::Truncated,
+            _ => Self::Unknown(number),
         }
     }
 }
@@ -77,8 +80,10 @@ pub enum CheckFault {
     NoKind,
     /// A limit is out of its range.
     BadLimits,
-    /// Memory was refused.
+    /// Out of memory.
     NoMemory,
+    /// A status that this crate does not know for the call.
+    Unknown(u32),
 }
 
 impl CheckFault {
@@ -87,7 +92,8 @@ impl CheckFault {
             sys::REFUSED => Self::Refused(Refusal::of(outcome)),
             sys::NO_KIND => Self::NoKind,
             sys::BAD_LIMITS => Self::BadLimits,
-            _ => Self::NoMemory,
+            sys::NO_MEMORY => Self::NoMemory,
+            _ => Self::Unknown(status),
         }
     }
 }
@@ -99,6 +105,7 @@ impl fmt::Display for CheckFault {
             Self::NoKind => f.write_str("the name is that of no kind"),
             Self::BadLimits => f.write_str("a limit is out of its range"),
             Self::NoMemory => f.write_str("out of memory"),
+            Self::Unknown(status) => write!(f, "the unknown status {status}"),
         }
     }
 }
@@ -131,8 +138,10 @@ pub enum TextFaultKind {
     BadSchema(u32),
     /// More than 262144 bytes.
     TextTooLong,
-    /// Types nested too deep.
+    /// More than 32 bodies of types inside one another.
     NestedTooDeep,
+    /// A fault that this crate does not know.
+    Unknown(u32),
 }
 
 /// What is wrong with a text of declarations, and where.
@@ -149,18 +158,19 @@ pub struct TextFault {
 impl TextFault {
     fn of(outcome: &sys::Outcome) -> Self {
         let kind = match outcome.why {
-            1 => TextFaultKind::BadCharacter,
-            2 => TextFaultKind::BadNumber,
-            3 => TextFaultKind::Unexpected,
-            4 => TextFaultKind::FloatingKind,
-            5 => TextFaultKind::NameTwice,
-            6 => TextFaultKind::NameUnknown,
-            7 => TextFaultKind::NotASize,
-            8 => TextFaultKind::OutOfRange,
-            9 => TextFaultKind::TypedefLoop,
-            10 => TextFaultKind::BadSchema(outcome.inner),
-            11 => TextFaultKind::TextTooLong,
-            _ => TextFaultKind::NestedTooDeep,
+            sys::BAD_CHARACTER => TextFaultKind::BadCharacter,
+            sys::BAD_NUMBER => TextFaultKind::BadNumber,
+            sys::UNEXPECTED => TextFaultKind::Unexpected,
+            sys::FLOATING_KIND => TextFaultKind::FloatingKind,
+            sys::NAME_TWICE => TextFaultKind::NameTwice,
+            sys::NAME_UNKNOWN => TextFaultKind::NameUnknown,
+            sys::NOT_A_SIZE => TextFaultKind::NotASize,
+            sys::OUT_OF_RANGE => TextFaultKind::OutOfRange,
+            sys::TYPEDEF_LOOP => TextFaultKind::TypedefLoop,
+            sys::BAD_SCHEMA => TextFaultKind::BadSchema(outcome.inner),
+            sys::TEXT_TOO_LONG => TextFaultKind::TextTooLong,
+            sys::NESTED_TOO_DEEP => TextFaultKind::NestedTooDeep,
+            number => TextFaultKind::Unknown(number),
         };
         Self {
             kind,
@@ -174,17 +184,20 @@ impl TextFault {
 #[derive(Clone, Copy, Debug, PartialEq, Eq, Hash)]
 #[non_exhaustive]
 pub enum ReadFault {
-    /// The text declares nothing.
+    /// The text has an error.
     Undeclared(TextFault),
-    /// Memory was refused.
+    /// Out of memory.
     NoMemory,
+    /// A status that this crate does not know for the call.
+    Unknown(u32),
 }
 
 impl ReadFault {
     pub(crate) fn of(status: u32, outcome: &sys::Outcome) -> Self {
         match status {
             sys::UNDECLARED => Self::Undeclared(TextFault::of(outcome)),
-            _ => Self::NoMemory,
+            sys::NO_MEMORY => Self::NoMemory,
+            _ => Self::Unknown(status),
         }
     }
 }
@@ -194,6 +207,7 @@ impl fmt::Display for ReadFault {
         match self {
             Self::Undeclared(it) => write!(f, "declaration refused: {:?} at {}:{}", it.kind, it.line, it.column),
             Self::NoMemory => f.write_str("out of memory"),
+            Self::Unknown(status) => write!(f, "the unknown status {status}"),
         }
     }
 }

@@ -3,7 +3,7 @@
 //!
 //! Safe calls of `liboncrpc`, over std alone. What each call promises is the contract of the function of C that it
 //! makes, which a prover has accepted (`include/oncrpc.h` retells it); the code here only lends it the bytes and gives
-//! its statuses names. No call panics on any input, and no length that the input declares reserves memory.
+//! its statuses names. A status that it does not know is `Unknown`. No call panics on any input, and no length that the input declares reserves memory.
 //!
 //! ```no_run
 //! use oncrpc::{Declarations, Limits};
@@ -15,8 +15,11 @@
 //! ```
 #![deny(missing_docs)]
 
+mod buffer;
 mod declarations;
 mod fault;
+#[cfg(test)]
+mod layout;
 mod messages;
 mod parts;
 mod records;
@@ -31,5 +34,5 @@ pub use messages::{
 };
 pub use parts::{Part, Parts, Role, XdrType};
 pub use records::{normalise, NormaliseFault, MOST_RECORD};
-pub use registry::{NoMemory, Registry, Transport};
+pub use registry::{Registry, RegistryFault, Transport};
 pub use stream::{Records, StreamFault};

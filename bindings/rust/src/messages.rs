@@ -2,7 +2,7 @@
 //!
 //! A message is as it is in a datagram or a record: no header of a fragment stands before it.
 
-use crate::declarations::room;
+use crate::buffer::{fill, with_capacity, AT_OK};
 use crate::sys;
 use std::error::Error;
 use std::fmt;
@@ -58,6 +58,8 @@ pub enum CallFault {
         /// The call's xid.
         xid: u32,
     },
+    /// A status that this crate does not know for the call.
+    Unknown(u32),
 }
 
 /// Why bytes are no body of AUTH_SYS.
@@ -66,8 +68,10 @@ pub enum CallFault {
 pub enum AuthSysFault {
     /// They are cut, have more behind them, more than 16 gids or 255 bytes of name, or padding that is not zero.
     NotAuthSys,
-    /// Memory was refused.
+    /// Out of memory.
     NoMemory,
+    /// A status that this crate does not know for the call.
+    Unknown(u32),
 }
 
 /// Why a message is not written.
@@ -80,8 +84,10 @@ pub enum WriteFault {
     BadVerifier,
     /// A body of AUTH_SYS with more than 16 gids, or with more than 255 bytes of name.
     NotAuthSys,
-    /// Memory was refused.
+    /// Out of memory.
     NoMemory,
+    /// A status that this crate does not know for the call.
+    Unknown(u32),
 }
 
 /// The versions that are served, from the lowest to the highest.
@@ -106,7 +112,7 @@ pub enum Outcome<'a> {
     ProcUnavail,
     /// The arguments could not be read.
     GarbageArgs,
-    /// The server could not do it, by want of memory for instance.
+    /// The server could not do it: it was out of memory, for instance.
     SystemErr,
 }
 
@@ -154,8 +160,10 @@ pub enum ReplyFault {
     BadVerifier,
     /// At least one byte follows a reply without results.
     BytesFollow,
-    /// Memory was refused.
+    /// Out of memory.
     NoMemory,
+    /// A status that this crate does not know for the call.
+    Unknown(u32),
 }
 
 /// The body of a credential of the flavor AUTH_SYS (RFC 5531 appendix A). It is what the caller says, and proves
@@ -193,6 +201,7 @@ says! {
         Self::OtherVersion { .. } => "a call of another version of RPC",
         Self::BadCredential { .. } => "a call with a bad credential",
         Self::BadVerifier { .. } => "a call with a bad verifier",
+        Self::Unknown(_) => "a call with an unknown status",
     ;
     ReplyFault:
         Self::Cut => "a reply that is cut",
@@ -201,16 +210,19 @@ says! {
         Self::BadVerifier => "a reply with a bad verifier",
         Self::BytesFollow => "bytes follow the reply",
         Self::NoMemory => "out of memory",
+        Self::Unknown(_) => "a reply with an unknown status",
     ;
     AuthSysFault:
         Self::NotAuthSys => "no body of AUTH_SYS",
         Self::NoMemory => "out of memory",
+        Self::Unknown(_) => "a body of AUTH_SYS with an unknown status",
     ;
     WriteFault:
         Self::BadCredential => "more than 400 bytes of credential",
         Self::BadVerifier => "more than 400 bytes of verifier",
         Self::NotAuthSys => "more than 16 gids or 255 bytes of name",
         Self::NoMemory => "out of memory",
+        Self::Unknown(_) => "an unknown status",
     ;
 }
 
@@ -219,16 +231,24 @@ fn lent<'a>(message: &'a [u8], part: &sys::Part) -> &'a [u8] {
     &message[part.at..][..part.count]
 }
 
-/// What a writer puts into a room of the size that it asks for when it has none. It answers a status and a count.
-fn written(write: impl Fn(&mut [u8]) -> (u32, usize)) -> Result<Vec<u8>, WriteFault> {
-    let (_, needed) = write(&mut []);
-    let mut message = room(needed).ok_or(WriteFault::NoMemory)?;
-    match write(&mut message).0 {
+/// What a writer puts into a buffer of the size that it asks for when it has none. It gets where the buffer begins and
+/// its size, and answers a status and a count.
+fn written(write: impl Fn(*mut u8, usize) -> (u32, usize)) -> Result<Vec<u8>, WriteFault> {
+    let mut message = Vec::new();
+    // SAFETY: a writer has written `count` bytes at OK.
+    let (mut status, needed) = unsafe { fill(&mut message, AT_OK, &write) };
+    if status == sys::NO_ROOM {
+        message = with_capacity(needed).ok_or(WriteFault::NoMemory)?;
+        // SAFETY: as above.
+        (status, _) = unsafe { fill(&mut message, AT_OK, &write) };
+    }
+    match status {
         sys::OK => Ok(message),
         sys::BAD_CREDENTIAL => Err(WriteFault::BadCredential),
         sys::BAD_VERIFIER => Err(WriteFault::BadVerifier),
         sys::NOT_AUTH_SYS => Err(WriteFault::NotAuthSys),
-        _ => Err(WriteFault::NoMemory),
+        sys::NO_MEMORY => Err(WriteFault::NoMemory),
+        _ => Err(WriteFault::Unknown(status)),
     }
 }
 
@@ -260,7 +280,8 @@ impl<'a> Call<'a> {
             }),
             sys::BAD_CREDENTIAL => Err(CallFault::BadCredential { xid: call.xid }),
             sys::BAD_VERIFIER => Err(CallFault::BadVerifier { xid: call.xid }),
-            _ => Err(CallFault::NotACall),
+            sys::NOT_A_CALL => Err(CallFault::NotACall),
+            _ => Err(CallFault::Unknown(status)),
         }
     }
 
@@ -275,9 +296,9 @@ impl<'a> Call<'a> {
             verifier_flavor: self.verifier.flavor,
             ..sys::Call::default()
         };
-        written(|room| {
+        written(|to, capacity| {
             let mut count = 0;
-            // SAFETY: what is read are slices and a call; room and count are ours alone and lie apart.
+            // SAFETY: what is read are slices and a call; buffer and count are ours alone and lie apart.
             let status = unsafe {
                 sys::oncrpc_call_write(
                     &call,
@@ -287,8 +308,8 @@ impl<'a> Call<'a> {
                     self.verifier.body.len(),
                     self.arguments.as_ptr(),
                     self.arguments.len(),
-                    room.as_mut_ptr(),
-                    room.len(),
+                    to,
+                    capacity,
                     &mut count,
                 )
             };
@@ -304,89 +325,81 @@ impl<'a> Reply<'a> {
         // SAFETY: the message is a slice, and the reply is ours alone.
         let status = unsafe { sys::oncrpc_reply_read(message.as_ptr(), message.len(), &mut reply) };
         match status {
-            sys::OK => Ok(Self::of(message, &reply)),
+            sys::OK => Self::of(message, &reply),
             sys::CUT => Err(ReplyFault::Cut),
             sys::NOT_A_REPLY => Err(ReplyFault::NotAReply),
             sys::BAD_STATE => Err(ReplyFault::BadState),
             sys::BAD_VERIFIER => Err(ReplyFault::BadVerifier),
             sys::BYTES_FOLLOW => Err(ReplyFault::BytesFollow),
-            _ => Err(ReplyFault::NoMemory),
+            sys::NO_MEMORY => Err(ReplyFault::NoMemory),
+            _ => Err(ReplyFault::Unknown(status)),
         }
     }
 
-    fn of(message: &'a [u8], reply: &sys::Reply) -> Self {
-        let (xid, versions) = (
-            reply.xid,
-            Versions {
-                low: reply.low,
-                high: reply.high,
+    /// The reply that the fields tell.
+    fn of(message: &'a [u8], reply: &sys::Reply) -> Result<Self, ReplyFault> {
+        let xid = reply.xid;
+        let versions = Versions {
+            low: reply.low,
+            high: reply.high,
+        };
+        let accepted = |outcome| Self::Accepted {
+            xid,
+            verifier: Auth {
+                flavor: reply.verifier_flavor,
+                body: lent(message, &reply.verifier),
             },
-        );
-        let outcome = match reply.state {
-            0 => Outcome::Success(lent(message, &reply.results)),
-            1 => Outcome::ProgUnavail,
-            2 => Outcome::ProgMismatch(versions),
-            3 => Outcome::ProcUnavail,
-            4 => Outcome::GarbageArgs,
-            5 => Outcome::SystemErr,
-            6 => {
-                return Self::Denied {
-                    xid,
-                    denial: Denial::RpcMismatch(versions),
-                }
-            }
-            _ => {
-                return Self::Denied {
-                    xid,
-                    denial: Denial::AuthError(reply.auth_stat),
-                }
-            }
+            outcome,
         };
-        let verifier = Auth {
-            flavor: reply.verifier_flavor,
-            body: lent(message, &reply.verifier),
-        };
-        Self::Accepted { xid, verifier, outcome }
+        let denied = |denial| Self::Denied { xid, denial };
+        Ok(match reply.state {
+            sys::SUCCESS => accepted(Outcome::Success(lent(message, &reply.results))),
+            sys::PROG_UNAVAIL => accepted(Outcome::ProgUnavail),
+            sys::PROG_MISMATCH => accepted(Outcome::ProgMismatch(versions)),
+            sys::PROC_UNAVAIL => accepted(Outcome::ProcUnavail),
+            sys::GARBAGE_ARGS => accepted(Outcome::GarbageArgs),
+            sys::SYSTEM_ERR => accepted(Outcome::SystemErr),
+            sys::RPC_MISMATCH => denied(Denial::RpcMismatch(versions)),
+            sys::AUTH_ERROR => denied(Denial::AuthError(reply.auth_stat)),
+            state => return Err(ReplyFault::Unknown(state)),
+        })
     }
 
     /// The numbers of the reply, the body of its verifier and its results.
     fn parts(&self) -> (sys::Reply, &'a [u8], &'a [u8]) {
         let mut reply = sys::Reply::default();
         let (mut body, mut results): (&[u8], &[u8]) = (&[], &[]);
-        let versions = match *self {
+        match *self {
             Self::Accepted { xid, verifier, outcome } => {
                 (reply.xid, reply.verifier_flavor, body) = (xid, verifier.flavor, verifier.body);
-                let (state, versions) = match outcome {
+                reply.state = match outcome {
                     Outcome::Success(found) => {
                         results = found;
-                        (0, None)
+                        sys::SUCCESS
                     }
-                    Outcome::ProgUnavail => (1, None),
-                    Outcome::ProgMismatch(versions) => (2, Some(versions)),
-                    Outcome::ProcUnavail => (3, None),
-                    Outcome::GarbageArgs => (4, None),
-                    Outcome::SystemErr => (5, None),
+                    Outcome::ProgUnavail => sys::PROG_UNAVAIL,
+                    Outcome::ProgMismatch(Versions { low, high }) => {
+                        (reply.low, reply.high) = (low, high);
+                        sys::PROG_MISMATCH
+                    }
+                    Outcome::ProcUnavail => sys::PROC_UNAVAIL,
+                    Outcome::GarbageArgs => sys::GARBAGE_ARGS,
+                    Outcome::SystemErr => sys::SYSTEM_ERR,
                 };
-                reply.state = state;
-                versions
             }
-            Self::Denied {
-                xid,
-                denial: Denial::RpcMismatch(versions),
-            } => {
-                (reply.xid, reply.state) = (xid, 6);
-                Some(versions)
+            Self::Denied { xid, denial } => {
+                reply.xid = xid;
+                reply.state = match denial {
+                    Denial::RpcMismatch(Versions { low, high }) => {
+                        (reply.low, reply.high) = (low, high);
+                        sys::RPC_MISMATCH
+                    }
+                    Denial::AuthError(auth_stat) => {
+                        reply.auth_stat = auth_stat;
+                        sys::AUTH_ERROR
+                    }
+                };
             }
-            Self::Denied {
-                xid,
-                denial: Denial::AuthError(auth_stat),
-            } => {
-                (reply.xid, reply.state, reply.auth_stat) = (xid, 7, auth_stat);
-                None
-            }
-        };
-        if let Some(Versions { low, high }) = versions {
-            (reply.low, reply.high) = (low, high);
         }
         (reply, body, results)
     }
@@ -394,9 +407,9 @@ impl<'a> Reply<'a> {
     /// The bytes of the reply.
     pub fn write(&self) -> Result<Vec<u8>, WriteFault> {
         let (reply, body, results) = self.parts();
-        written(|room| {
+        written(|to, capacity| {
             let mut count = 0;
-            // SAFETY: what is read are slices and a reply; room and count are ours alone and lie apart.
+            // SAFETY: what is read are slices and a reply; buffer and count are ours alone and lie apart.
             let status = unsafe {
                 sys::oncrpc_reply_write(
                     &reply,
@@ -404,8 +417,8 @@ impl<'a> Reply<'a> {
                     body.len(),
                     results.as_ptr(),
                     results.len(),
-                    room.as_mut_ptr(),
-                    room.len(),
+                    to,
+                    capacity,
                     &mut count,
                 )
             };
@@ -421,15 +434,21 @@ impl<'a> AuthSys<'a> {
         // SAFETY: the body is a slice, and what is filled is ours alone.
         let status = unsafe { sys::oncrpc_auth_sys_read(body.as_ptr(), body.len(), &mut auth) };
         match status {
-            sys::OK => Ok(Self {
-                stamp: auth.stamp,
-                machine: lent(body, &auth.machine),
-                uid: auth.uid,
-                gid: auth.gid,
-                gids: auth.gids[..auth.gid_count as usize].to_vec(),
-            }),
+            sys::OK => {
+                let own = &auth.gids[..auth.gid_count as usize];
+                let mut gids = with_capacity(own.len()).ok_or(AuthSysFault::NoMemory)?;
+                gids.extend_from_slice(own);
+                Ok(Self {
+                    stamp: auth.stamp,
+                    machine: lent(body, &auth.machine),
+                    uid: auth.uid,
+                    gid: auth.gid,
+                    gids,
+                })
+            }
             sys::NOT_AUTH_SYS => Err(AuthSysFault::NotAuthSys),
-            _ => Err(AuthSysFault::NoMemory),
+            sys::NO_MEMORY => Err(AuthSysFault::NoMemory),
+            _ => Err(AuthSysFault::Unknown(status)),
         }
     }
 
@@ -446,16 +465,16 @@ impl<'a> AuthSys<'a> {
         for (to, gid) in auth.gids.iter_mut().zip(&self.gids) {
             *to = *gid;
         }
-        written(|room| {
+        written(|to, capacity| {
             let mut count = 0;
-            // SAFETY: what is read are a slice and numbers; room and count are ours alone and lie apart.
+            // SAFETY: what is read are a slice and numbers; buffer and count are ours alone and lie apart.
             let status = unsafe {
                 sys::oncrpc_auth_sys_write(
                     &auth,
                     self.machine.as_ptr(),
                     self.machine.len(),
-                    room.as_mut_ptr(),
-                    room.len(),
+                    to,
+                    capacity,
                     &mut count,
                 )
             };

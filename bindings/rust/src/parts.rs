@@ -1,11 +1,13 @@
 //! The parts of a value, where they lie.
 
-use crate::declarations::{room, Checked, Declarations, Limits};
+use crate::buffer::with_capacity;
+use crate::declarations::{Checked, Declarations, Limits};
 use crate::fault::CheckFault;
 use crate::sys;
 
 /// What the bytes of a part are (RFC 4506 section 4). A number has its most significant byte first.
 #[derive(Clone, Copy, Debug, PartialEq, Eq, Hash)]
+#[non_exhaustive]
 pub enum Role {
     /// An integer, a bool, an enum, a discriminant: 4 bytes, 8 of the hyper types.
     Number,
@@ -17,11 +19,27 @@ pub enum Role {
     Content,
     /// No bytes of its own: a struct, an array of fixed size, a void.
     Group,
+    /// A role that this crate does not know.
+    Unknown(u32),
 }
 
-/// The type of a part's kind.
+impl Role {
+    fn of(number: u32) -> Self {
+        match number {
+            sys::ROLE_NUMBER => Self::Number,
+            sys::ROLE_FLAG => Self::Flag,
+            sys::ROLE_LENGTH => Self::Length,
+            sys::ROLE_CONTENT => Self::Content,
+            sys::ROLE_GROUP => Self::Group,
+            _ => Self::Unknown(number),
+        }
+    }
+}
+
+/// The type of a part's kind (RFC 4506 sections 4.1 to 4.19).
 #[derive(Clone, Copy, Debug, PartialEq, Eq, Hash)]
 #[allow(missing_docs)]
+#[non_exhaustive]
 pub enum XdrType {
     Int,
     Unsigned,
@@ -29,38 +47,45 @@ pub enum XdrType {
     UnsignedHyper,
     Bool,
     Enum,
+    /// An opaque of fixed size.
     FixedOpaque,
+    /// An opaque of variable size.
     Opaque,
     String,
+    /// An array of fixed size.
     FixedArray,
+    /// An array of variable size.
     Array,
     Struct,
     Union,
     Optional,
     Void,
+    /// A type that this crate does not know.
+    Unknown(u32),
 }
 
-/// Each type at its number, from 1.
-const TYPES: [XdrType; 15] = [
-    XdrType::Int,
-    XdrType::Unsigned,
-    XdrType::Hyper,
-    XdrType::UnsignedHyper,
-    XdrType::Bool,
-    XdrType::Enum,
-    XdrType::FixedOpaque,
-    XdrType::Opaque,
-    XdrType::String,
-    XdrType::FixedArray,
-    XdrType::Array,
-    XdrType::Struct,
-    XdrType::Union,
-    XdrType::Optional,
-    XdrType::Void,
-];
-
-/// Each role at its number, from 1.
-const ROLES: [Role; 5] = [Role::Number, Role::Flag, Role::Length, Role::Content, Role::Group];
+impl XdrType {
+    fn of(number: u32) -> Self {
+        match number {
+            sys::TYPE_INT => Self::Int,
+            sys::TYPE_UNSIGNED => Self::Unsigned,
+            sys::TYPE_HYPER => Self::Hyper,
+            sys::TYPE_UNSIGNED_HYPER => Self::UnsignedHyper,
+            sys::TYPE_BOOL => Self::Bool,
+            sys::TYPE_ENUM => Self::Enum,
+            sys::TYPE_FIXED_OPAQUE => Self::FixedOpaque,
+            sys::TYPE_OPAQUE => Self::Opaque,
+            sys::TYPE_STRING => Self::String,
+            sys::TYPE_FIXED_ARRAY => Self::FixedArray,
+            sys::TYPE_ARRAY => Self::Array,
+            sys::TYPE_STRUCT => Self::Struct,
+            sys::TYPE_UNION => Self::Union,
+            sys::TYPE_OPTIONAL => Self::Optional,
+            sys::TYPE_VOID => Self::Void,
+            _ => Self::Unknown(number),
+        }
+    }
+}
 
 /// A part: each node of a value has one, and an opaque or a string of variable size two, its length and its content.
 #[derive(Clone, Copy, Debug, PartialEq, Eq, Hash)]
@@ -107,28 +132,27 @@ impl Parts<'_> {
             name: &self.names[part.name_at..][..part.name_count],
             depth: part.depth,
             kind: part.kind,
-            xdr_type: TYPES[part.xdr_type as usize - 1],
-            role: ROLES[part.role as usize - 1],
+            xdr_type: XdrType::of(part.xdr_type),
+            role: Role::of(part.role),
         })
     }
 }
 
 impl Declarations {
-    /// Where the parts of the value that begins the input lie. Two rooms are taken, for the parts and their names.
+    /// Where the parts of the value that begins the input lie. Two vectors are made, for the parts and their names.
     pub fn parts<'a>(
         &mut self,
         name: &str,
         limits: Limits,
         input: &'a [u8],
     ) -> Result<(Checked, Parts<'a>), CheckFault> {
-        let (_, needed) = self.parts_into(name, limits, input, &mut [], &mut []);
-        let mut names = room(needed.names).ok_or(CheckFault::NoMemory)?;
-        let mut parts = Vec::new();
-        parts
-            .try_reserve_exact(needed.parts)
-            .map_err(|_| CheckFault::NoMemory)?;
-        parts.resize_with(needed.parts, sys::ValuePart::default);
-        let (status, found) = self.parts_into(name, limits, input, &mut parts, &mut names);
+        let (mut parts, mut names) = (Vec::new(), Vec::new());
+        let (mut status, mut found) = self.parts_into(name, limits, input, &mut parts, &mut names);
+        if status == sys::NO_ROOM {
+            parts = with_capacity(found.parts).ok_or(CheckFault::NoMemory)?;
+            names = with_capacity(found.names).ok_or(CheckFault::NoMemory)?;
+            (status, found) = self.parts_into(name, limits, input, &mut parts, &mut names);
+        }
         let outcome = sys::Outcome {
             at: found.at,
             why: found.why,
@@ -138,16 +162,17 @@ impl Declarations {
         Ok((checked, Parts { input, names, parts }))
     }
 
+    /// Puts parts and names into the vectors, which are empty, where their capacities are enough.
     fn parts_into(
         &mut self,
         name: &str,
         limits: Limits,
         input: &[u8],
-        parts: &mut [sys::ValuePart],
-        names: &mut [u8],
+        parts: &mut Vec<sys::ValuePart>,
+        names: &mut Vec<u8>,
     ) -> (u32, sys::PartsOutcome) {
         let mut outcome = sys::PartsOutcome::default();
-        // SAFETY: name and input are slices; handle, rooms and outcome are ours alone and lie apart.
+        // SAFETY: name and input are slices; handle, capacities and outcome are ours alone and lie apart.
         let status = unsafe {
             sys::oncrpc_declarations_parts(
                 self.handle(),
@@ -158,12 +183,19 @@ impl Declarations {
                 input.as_ptr(),
                 input.len(),
                 parts.as_mut_ptr(),
-                parts.len(),
+                parts.capacity(),
                 names.as_mut_ptr(),
-                names.len(),
+                names.capacity(),
                 &mut outcome,
             )
         };
+        if matches!(status, sys::OK | sys::MORE_FOLLOWS) {
+            // SAFETY: so many were written.
+            unsafe {
+                parts.set_len(outcome.parts);
+                names.set_len(outcome.names);
+            }
+        }
         (status, outcome)
     }
 }

@@ -1,13 +1,13 @@
 //! Record marking (RFC 5531 section 11).
 
-use crate::declarations::room;
+use crate::buffer::{fill, with_capacity};
 use crate::fault::Refusal;
 use crate::sys;
 use std::error::Error;
 use std::fmt;
 
 /// The greatest limit on the bytes of a record.
-pub const MOST_RECORD: u32 = 2_147_483_647;
+pub const MOST_RECORD: u32 = sys::MOST_RECORD;
 
 /// Why a stream of records is not whole.
 #[derive(Clone, Debug, PartialEq, Eq, Hash)]
@@ -22,8 +22,10 @@ pub enum NormaliseFault {
     },
     /// The limit is above [`MOST_RECORD`].
     BadLimit,
-    /// Memory was refused, or the input has more than 4294963200 bytes.
+    /// Out of memory, or the input has more than 4294963200 bytes.
     NoMemory,
+    /// A status that this crate does not know for the call.
+    Unknown(u32),
 }
 
 impl fmt::Display for NormaliseFault {
@@ -32,31 +34,35 @@ impl fmt::Display for NormaliseFault {
             Self::Refused { refusal, .. } => refusal.fmt(f),
             Self::BadLimit => f.write_str("the limit is out of its range"),
             Self::NoMemory => f.write_str("out of memory"),
+            Self::Unknown(status) => write!(f, "the unknown status {status}"),
         }
     }
 }
 
 impl Error for NormaliseFault {}
 
-/// Each record of the input as one final fragment, where a record may have `limit` bytes.
+/// Each record of the input as one fragment, its last, where a record may have `limit` bytes.
 pub fn normalise(input: &[u8], limit: u32) -> Result<Vec<u8>, NormaliseFault> {
-    // A record has at least the header that is written for it, so no more room is needed.
-    let mut marked = room(input.len()).ok_or(NormaliseFault::NoMemory)?;
+    // A record has at least the header that is written for it, so no larger buffer is needed.
+    let mut marked = with_capacity(input.len()).ok_or(NormaliseFault::NoMemory)?;
     let mut written = 0;
     let mut outcome = sys::Outcome::default();
-    // SAFETY: the input is a slice; room, count and outcome are ours alone and lie apart.
-    let status = unsafe {
-        sys::oncrpc_normalise(
-            input.as_ptr(),
-            input.len(),
-            limit,
-            marked.as_mut_ptr(),
-            marked.len(),
-            &mut written,
-            &mut outcome,
-        )
+    // SAFETY: the input is a slice; at OK and REFUSED so many bytes were written; buffer, count and outcome are ours
+    // alone and lie apart.
+    let (status, _) = unsafe {
+        fill(&mut marked, &[sys::OK, sys::REFUSED], |to, capacity| {
+            let status = sys::oncrpc_normalise(
+                input.as_ptr(),
+                input.len(),
+                limit,
+                to,
+                capacity,
+                &mut written,
+                &mut outcome,
+            );
+            (status, written)
+        })
     };
-    marked.truncate(written);
     match status {
         sys::OK => Ok(marked),
         sys::REFUSED => Err(NormaliseFault::Refused {
@@ -64,6 +70,7 @@ pub fn normalise(input: &[u8], limit: u32) -> Result<Vec<u8>, NormaliseFault> {
             before: marked,
         }),
         sys::BAD_LIMITS => Err(NormaliseFault::BadLimit),
-        _ => Err(NormaliseFault::NoMemory),
+        sys::NO_MEMORY => Err(NormaliseFault::NoMemory),
+        _ => Err(NormaliseFault::Unknown(status)),
     }
 }

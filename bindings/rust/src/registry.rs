@@ -1,5 +1,6 @@
 //! The registry of RFC 1833, versions 2, 3 and 4 of program 100000, over the caller's own sockets.
 
+use crate::buffer::{fill, AT_OK};
 use crate::sys;
 use std::error::Error;
 use std::fmt;
@@ -23,17 +24,35 @@ impl Transport {
     }
 }
 
-/// Memory was refused.
+/// Why a registry did not do what it was asked.
 #[derive(Clone, Copy, Debug, PartialEq, Eq, Hash)]
-pub struct NoMemory;
+#[non_exhaustive]
+pub enum RegistryFault {
+    /// Out of memory.
+    NoMemory,
+    /// A status that this crate does not know for the call.
+    Unknown(u32),
+}
 
-impl fmt::Display for NoMemory {
-    fn fmt(&self, f: &mut fmt::Formatter<'_>) -> fmt::Result {
-        f.write_str("out of memory")
+impl RegistryFault {
+    fn of(status: u32) -> Self {
+        match status {
+            sys::NO_MEMORY => Self::NoMemory,
+            _ => Self::Unknown(status),
+        }
     }
 }
 
-impl Error for NoMemory {}
+impl fmt::Display for RegistryFault {
+    fn fmt(&self, f: &mut fmt::Formatter<'_>) -> fmt::Result {
+        match self {
+            Self::NoMemory => f.write_str("out of memory"),
+            Self::Unknown(status) => write!(f, "the unknown status {status}"),
+        }
+    }
+}
+
+impl Error for RegistryFault {}
 
 /// Rows in memory, at most 1024, each a program, a version, a netid, an address and an owner. It stays on its thread.
 #[derive(Debug)]
@@ -44,8 +63,8 @@ pub struct Registry {
 impl Registry {
     /// A registry with the rows of its own: program 100000 in versions 2, 3 and 4, each over tcp and then over udp, at
     /// 0.0.0.0 and this port, owned by superuser. The seed is bytes that the peers can not know: rows are found by
-    /// hashes behind it. No answer depends on it.
-    pub fn start(port: u16, seed: &[u8]) -> Result<Self, NoMemory> {
+    /// hashes that depend on it. No answer does.
+    pub fn start(port: u16, seed: &[u8]) -> Result<Self, RegistryFault> {
         let mut started = Self {
             handle: sys::Registry {
                 at: ptr::null_mut(),
@@ -56,59 +75,75 @@ impl Registry {
         // SAFETY: the seed is a slice, and handle and outcome are ours alone.
         let status =
             unsafe { sys::oncrpc_registry_start(&mut started.handle, port, seed.as_ptr(), seed.len(), &mut outcome) };
-        changed(status).map(|_| started)
+        match status {
+            sys::OK => Ok(started),
+            _ => Err(RegistryFault::of(status)),
+        }
     }
 
     /// Answers a record, which is as it is in a datagram or, over TCP, without the headers of its fragments. `reply` is
-    /// filled anew, and its room kept from call to call; false where there is no reply, and nothing is to be sent.
+    /// filled anew, and its capacity kept from call to call; false where there is no reply, and nothing is to be sent.
     ///
-    /// Where the registry wants memory the reply is SYSTEM_ERR, and the rows are as they were. Where `reply` wants it,
-    /// what was asked for is done: [`Registry::reply`] takes the reply.
-    pub fn answer(&mut self, over: Transport, record: &[u8], reply: &mut Vec<u8>) -> Result<bool, NoMemory> {
+    /// The registry is not told who sent the record, and the owner is what its AUTH_SYS claims: a peer that claims uid
+    /// 0 can remove every row. Hand on SET and UNSET (procedures 1 and 2 of program 100000, [`Call::read`]) from peers
+    /// that you trust alone.
+    ///
+    /// Where the registry is out of memory the reply is SYSTEM_ERR, and the rows are as they were. Where `reply` cannot
+    /// grow the answer is `NoMemory`, and what was asked for is done: [`Registry::reply`] takes the reply.
+    ///
+    /// [`Call::read`]: crate::Call::read
+    pub fn answer(&mut self, over: Transport, record: &[u8], reply: &mut Vec<u8>) -> Result<bool, RegistryFault> {
         let netid = over.netid();
-        reply.resize(reply.capacity(), 0);
         let mut outcome = sys::Outcome::default();
-        // SAFETY: netid and record are slices; handle, room and outcome are ours alone and lie apart.
-        let status = unsafe {
-            sys::oncrpc_registry_answer(
-                &mut self.handle,
-                netid.as_ptr(),
-                netid.len(),
-                record.as_ptr(),
-                record.len(),
-                reply.as_mut_ptr(),
-                reply.len(),
-                &mut outcome,
-            )
+        // SAFETY: netid and record are slices; at OK so many bytes were written; handle, buffer and outcome are ours
+        // alone and lie apart.
+        let (status, count) = unsafe {
+            fill(reply, AT_OK, |to, capacity| {
+                let status = sys::oncrpc_registry_answer(
+                    &mut self.handle,
+                    netid.as_ptr(),
+                    netid.len(),
+                    record.as_ptr(),
+                    record.len(),
+                    to,
+                    capacity,
+                    &mut outcome,
+                );
+                (status, outcome.at)
+            })
         };
-        self.placed(status, outcome.at, reply)
+        self.placed(status, count, reply)
     }
 
     /// The reply that waits since memory for it was refused, or false.
-    pub fn reply(&mut self, reply: &mut Vec<u8>) -> Result<bool, NoMemory> {
-        reply.resize(reply.capacity(), 0);
+    pub fn reply(&mut self, reply: &mut Vec<u8>) -> Result<bool, RegistryFault> {
         let (status, count) = self.reply_into(reply);
         self.placed(status, count, reply)
     }
 
-    /// What stands in the room after this status, where the reply may wait for so many bytes of it.
-    fn placed(&mut self, status: u32, count: usize, reply: &mut Vec<u8>) -> Result<bool, NoMemory> {
-        if status != sys::NO_ROOM {
-            reply.truncate(count);
-            return Ok(status == sys::OK);
+    /// Whether a reply stands in the buffer after this status. One that waits for a buffer of so many bytes gets it.
+    fn placed(&mut self, status: u32, count: usize, reply: &mut Vec<u8>) -> Result<bool, RegistryFault> {
+        let mut status = status;
+        if status == sys::NO_ROOM {
+            reply.try_reserve_exact(count).map_err(|_| RegistryFault::NoMemory)?;
+            (status, _) = self.reply_into(reply);
         }
-        reply.clear();
-        reply.try_reserve_exact(count).map_err(|_| NoMemory)?;
-        reply.resize(count, 0);
-        Ok(self.reply_into(reply).0 == sys::OK)
+        match status {
+            sys::OK => Ok(true),
+            sys::SILENCE => Ok(false),
+            _ => Err(RegistryFault::of(status)),
+        }
     }
 
-    fn reply_into(&mut self, room: &mut [u8]) -> (u32, usize) {
+    fn reply_into(&mut self, reply: &mut Vec<u8>) -> (u32, usize) {
         let mut outcome = sys::Outcome::default();
-        // SAFETY: handle, room and outcome are ours alone and lie apart.
-        let status =
-            unsafe { sys::oncrpc_registry_reply(&mut self.handle, room.as_mut_ptr(), room.len(), &mut outcome) };
-        (status, outcome.at)
+        // SAFETY: at OK so many bytes were written; handle, buffer and outcome are ours alone and lie apart.
+        unsafe {
+            fill(reply, AT_OK, |to, capacity| {
+                let status = sys::oncrpc_registry_reply(&mut self.handle, to, capacity, &mut outcome);
+                (status, outcome.at)
+            })
+        }
     }
 
     /// Adds a row at the end. False where the netid or the address is empty, the netid has more than 64 bytes, the
@@ -121,7 +156,7 @@ impl Registry {
         netid: &[u8],
         address: &[u8],
         owner: &[u8],
-    ) -> Result<bool, NoMemory> {
+    ) -> Result<bool, RegistryFault> {
         let mut outcome = sys::Outcome::default();
         // SAFETY: netid, address and owner are slices; handle and outcome are ours alone.
         let status = unsafe {
@@ -143,7 +178,7 @@ impl Registry {
 
     /// Removes the row of this program, version and netid, or with an empty netid each row of the program and version,
     /// where the row is owned by `owner` or `owner` is superuser. False where there is none. Takes no memory.
-    pub fn unset(&mut self, program: u32, version: u32, netid: &[u8], owner: &[u8]) -> bool {
+    pub fn unset(&mut self, program: u32, version: u32, netid: &[u8], owner: &[u8]) -> Result<bool, RegistryFault> {
         let mut outcome = sys::Outcome::default();
         // SAFETY: netid and owner are slices; handle and outcome are ours alone.
         let status = unsafe {
@@ -158,7 +193,7 @@ impl Registry {
                 &mut outcome,
             )
         };
-        status == sys::OK
+        changed(status)
     }
 }
 
@@ -169,10 +204,10 @@ impl Drop for Registry {
     }
 }
 
-fn changed(status: u32) -> Result<bool, NoMemory> {
+fn changed(status: u32) -> Result<bool, RegistryFault> {
     match status {
         sys::OK => Ok(true),
         sys::UNCHANGED => Ok(false),
-        _ => Err(NoMemory),
+        _ => Err(RegistryFault::of(status)),
     }
 }

@@ -1,7 +1,7 @@
 //! A stream of records in fragments (RFC 5531 section 11), over the caller's own connection.
 
+use crate::buffer::{fill, AT_OK};
 use crate::fault::Refusal;
-use crate::registry::NoMemory;
 use crate::sys;
 use std::error::Error;
 use std::fmt;
@@ -16,8 +16,10 @@ pub enum StreamFault {
     Refused(Refusal),
     /// The limit is above [`MOST_RECORD`](crate::MOST_RECORD).
     BadLimit,
-    /// Memory was refused.
+    /// Out of memory.
     NoMemory,
+    /// A status that this crate does not know for the call.
+    Unknown(u32),
 }
 
 impl StreamFault {
@@ -25,7 +27,8 @@ impl StreamFault {
         match status {
             sys::REFUSED => Self::Refused(Refusal::of(outcome)),
             sys::BAD_LIMITS => Self::BadLimit,
-            _ => Self::NoMemory,
+            sys::NO_MEMORY => Self::NoMemory,
+            _ => Self::Unknown(status),
         }
     }
 }
@@ -36,6 +39,7 @@ impl fmt::Display for StreamFault {
             Self::Refused(refusal) => refusal.fmt(f),
             Self::BadLimit => f.write_str("the limit is out of its range"),
             Self::NoMemory => f.write_str("out of memory"),
+            Self::Unknown(status) => write!(f, "the unknown status {status}"),
         }
     }
 }
@@ -84,26 +88,30 @@ impl Records {
         }
     }
 
-    /// The record that waits. `record` is filled anew, and its room kept from call to call; false where none waits.
-    /// Where `record` wants memory, the record waits on.
-    pub fn take(&mut self, record: &mut Vec<u8>) -> Result<bool, NoMemory> {
-        record.resize(record.capacity(), 0);
-        let (mut status, mut count) = self.take_into(record);
+    /// The record that waits. `record` is filled anew, and its capacity kept from call to call; false where none waits.
+    /// Where `record` cannot grow the answer is `NoMemory`, and the record waits on.
+    pub fn take(&mut self, record: &mut Vec<u8>) -> Result<bool, StreamFault> {
+        let (mut status, count) = self.take_into(record);
         if status == sys::NO_ROOM {
-            record.clear();
-            record.try_reserve_exact(count).map_err(|_| NoMemory)?;
-            record.resize(count, 0);
-            (status, count) = self.take_into(record);
+            record.try_reserve_exact(count).map_err(|_| StreamFault::NoMemory)?;
+            (status, _) = self.take_into(record);
         }
-        record.truncate(count);
-        Ok(status == sys::OK)
+        match status {
+            sys::OK => Ok(true),
+            sys::NO_RECORD => Ok(false),
+            _ => Err(StreamFault::Unknown(status)),
+        }
     }
 
-    fn take_into(&mut self, room: &mut [u8]) -> (u32, usize) {
+    fn take_into(&mut self, record: &mut Vec<u8>) -> (u32, usize) {
         let mut outcome = sys::Outcome::default();
-        // SAFETY: handle, room and outcome are ours alone and lie apart.
-        let status = unsafe { sys::oncrpc_records_take(&mut self.handle, room.as_mut_ptr(), room.len(), &mut outcome) };
-        (status, outcome.at)
+        // SAFETY: at OK so many bytes were written; handle, buffer and outcome are ours alone and lie apart.
+        unsafe {
+            fill(record, AT_OK, |to, capacity| {
+                let status = sys::oncrpc_records_take(&mut self.handle, to, capacity, &mut outcome);
+                (status, outcome.at)
+            })
+        }
     }
 
     /// Whether the stream may end behind the bytes that were taken: between two records, or with a record that waits,

@@ -1,125 +1,224 @@
 //! The functions of `liboncrpc` and what they fill, as `include/oncrpc.h` declares them.
+//!
+//! Each number and each layout is written once, and stands in the table by which the test of `layout` compares it with
+//! what a C compiler makes of the header.
 
 use std::ffi::c_void;
 
-pub const OK: u32 = 0;
-pub const MORE_FOLLOWS: u32 = 1;
-pub const REFUSED: u32 = 2;
-pub const UNDECLARED: u32 = 3;
-pub const NO_KIND: u32 = 4;
-pub const BAD_LIMITS: u32 = 5;
-pub const NO_ROOM: u32 = 8;
-pub const OTHER_VERSION: u32 = 10;
-pub const BAD_CREDENTIAL: u32 = 11;
-pub const BAD_VERIFIER: u32 = 12;
-pub const CUT: u32 = 13;
-pub const NOT_A_REPLY: u32 = 14;
-pub const BAD_STATE: u32 = 15;
-pub const BYTES_FOLLOW: u32 = 16;
-pub const NOT_AUTH_SYS: u32 = 17;
-pub const UNCHANGED: u32 = 21;
-pub const MORE_WANTED: u32 = 23;
+/// Numbers of the header, without their prefix, and the table of them by their names there.
+macro_rules! numbers {
+    ($($name:ident = $number:literal;)*) => {
+        // A handle of this crate is never empty, so that not every status has a reader here.
+        $(#[allow(dead_code)] pub const $name: u32 = $number;)*
 
-#[repr(C)]
-#[derive(Default)]
-pub struct Outcome {
-    pub at: usize,
-    pub line: usize,
-    pub column: usize,
-    pub why: u32,
-    pub inner: u32,
+        #[cfg(test)]
+        pub const NUMBERS: &[(&str, u32)] = &[$((concat!("ONCRPC_", stringify!($name)), $name),)*];
+    };
 }
 
-/// Declarations that were read, or none. The pointer keeps it on its thread.
-#[repr(C)]
-#[derive(Debug)]
-pub struct Declarations {
-    pub at: *mut c_void,
-    pub live: bool,
+/// Structs of the header, and the table of them: each struct's size and each field's place and size, by their names
+/// there.
+macro_rules! structs {
+    ($($(#[$of:meta])* $c_name:ident as $name:ident { $($field:ident: $kind:ty,)* })*) => {
+        $(
+            #[repr(C)]
+            $(#[$of])*
+            pub struct $name {
+                $(pub $field: $kind,)*
+            }
+        )*
+
+        #[cfg(test)]
+        pub const LAYOUTS: &[(&str, &str, usize, usize)] = &[$(
+            (stringify!($c_name), "", std::mem::align_of::<$name>(), std::mem::size_of::<$name>()),
+            $((
+                stringify!($c_name),
+                stringify!($field),
+                std::mem::offset_of!($name, $field),
+                std::mem::size_of::<$kind>(),
+            ),)*
+        )*];
+    };
 }
 
-#[repr(C)]
-#[derive(Default)]
-pub struct ValuePart {
-    pub at: usize,
-    pub count: usize,
-    pub name_at: usize,
-    pub name_count: usize,
-    pub depth: u32,
-    pub kind: u32,
-    pub xdr_type: u32,
-    pub role: u32,
+numbers! {
+    OK = 0;
+    MORE_FOLLOWS = 1;
+    REFUSED = 2;
+    UNDECLARED = 3;
+    NO_KIND = 4;
+    BAD_LIMITS = 5;
+    NO_MEMORY = 6;
+    NO_DECLARATIONS = 7;
+    NO_ROOM = 8;
+    NOT_A_CALL = 9;
+    OTHER_VERSION = 10;
+    BAD_CREDENTIAL = 11;
+    BAD_VERIFIER = 12;
+    CUT = 13;
+    NOT_A_REPLY = 14;
+    BAD_STATE = 15;
+    BYTES_FOLLOW = 16;
+    NOT_AUTH_SYS = 17;
+    NO_REGISTRY = 18;
+    SILENCE = 19;
+    NO_TRANSPORT = 20;
+    UNCHANGED = 21;
+    NO_READER = 22;
+    MORE_WANTED = 23;
+    NO_RECORD = 24;
+
+    BAD_BOOL = 1;
+    BAD_NUMBERED = 2;
+    BAD_CASE = 3;
+    TOO_LONG = 4;
+    BAD_PADDING = 5;
+    TOO_DEEP = 6;
+    TOO_LARGE = 7;
+    TRUNCATED = 8;
+
+    BAD_CHARACTER = 1;
+    BAD_NUMBER = 2;
+    UNEXPECTED = 3;
+    FLOATING_KIND = 4;
+    NAME_TWICE = 5;
+    NAME_UNKNOWN = 6;
+    NOT_A_SIZE = 7;
+    OUT_OF_RANGE = 8;
+    TYPEDEF_LOOP = 9;
+    BAD_SCHEMA = 10;
+    TEXT_TOO_LONG = 11;
+    NESTED_TOO_DEEP = 12;
+
+    ROLE_NUMBER = 1;
+    ROLE_FLAG = 2;
+    ROLE_LENGTH = 3;
+    ROLE_CONTENT = 4;
+    ROLE_GROUP = 5;
+
+    TYPE_INT = 1;
+    TYPE_UNSIGNED = 2;
+    TYPE_HYPER = 3;
+    TYPE_UNSIGNED_HYPER = 4;
+    TYPE_BOOL = 5;
+    TYPE_ENUM = 6;
+    TYPE_FIXED_OPAQUE = 7;
+    TYPE_OPAQUE = 8;
+    TYPE_STRING = 9;
+    TYPE_FIXED_ARRAY = 10;
+    TYPE_ARRAY = 11;
+    TYPE_STRUCT = 12;
+    TYPE_UNION = 13;
+    TYPE_OPTIONAL = 14;
+    TYPE_VOID = 15;
+
+    SUCCESS = 0;
+    PROG_UNAVAIL = 1;
+    PROG_MISMATCH = 2;
+    PROC_UNAVAIL = 3;
+    GARBAGE_ARGS = 4;
+    SYSTEM_ERR = 5;
+    RPC_MISMATCH = 6;
+    AUTH_ERROR = 7;
+
+    MOST_BODY = 400;
+    MOST_DEPTH = 4096;
+    MOST_BYTES = 16_777_216;
+    MOST_RECORD = 2_147_483_647;
 }
 
-#[repr(C)]
-#[derive(Default)]
-pub struct PartsOutcome {
-    pub at: usize,
-    pub parts: usize,
-    pub names: usize,
-    pub why: u32,
-}
+structs! {
+    #[derive(Default)]
+    oncrpc_outcome as Outcome {
+        at: usize,
+        line: usize,
+        column: usize,
+        why: u32,
+        inner: u32,
+    }
 
-/// A registry, or none. The pointer keeps it on its thread.
-#[repr(C)]
-#[derive(Debug)]
-pub struct Registry {
-    pub at: *mut c_void,
-    pub live: bool,
-}
+    /// Declarations that were read, or none. The pointer keeps it on its thread.
+    #[derive(Debug)]
+    oncrpc_declarations as Declarations {
+        at: *mut c_void,
+        live: bool,
+    }
 
-/// A reader of a stream of records, or none. The pointer keeps it on its thread.
-#[repr(C)]
-#[derive(Debug)]
-pub struct Records {
-    pub at: *mut c_void,
-    pub live: bool,
-}
+    #[derive(Default)]
+    oncrpc_value_part as ValuePart {
+        at: usize,
+        count: usize,
+        name_at: usize,
+        name_count: usize,
+        depth: u32,
+        kind: u32,
+        xdr_type: u32,
+        role: u32,
+    }
 
-#[repr(C)]
-#[derive(Default)]
-pub struct Part {
-    pub at: usize,
-    pub count: usize,
-}
+    #[derive(Default)]
+    oncrpc_parts_outcome as PartsOutcome {
+        at: usize,
+        parts: usize,
+        names: usize,
+        why: u32,
+    }
 
-#[repr(C)]
-#[derive(Default)]
-pub struct Call {
-    pub xid: u32,
-    pub rpc_version: u32,
-    pub program: u32,
-    pub version: u32,
-    pub procedure: u32,
-    pub credential_flavor: u32,
-    pub verifier_flavor: u32,
-    pub credential: Part,
-    pub verifier: Part,
-    pub arguments: Part,
-}
+    /// A registry, or none. The pointer keeps it on its thread.
+    #[derive(Debug)]
+    oncrpc_registry as Registry {
+        at: *mut c_void,
+        live: bool,
+    }
 
-#[repr(C)]
-#[derive(Default)]
-pub struct Reply {
-    pub xid: u32,
-    pub state: u32,
-    pub low: u32,
-    pub high: u32,
-    pub auth_stat: u32,
-    pub verifier_flavor: u32,
-    pub verifier: Part,
-    pub results: Part,
-}
+    /// A reader of a stream of records, or none. The pointer keeps it on its thread.
+    #[derive(Debug)]
+    oncrpc_records as Records {
+        at: *mut c_void,
+        live: bool,
+    }
 
-#[repr(C)]
-#[derive(Default)]
-pub struct AuthSys {
-    pub stamp: u32,
-    pub uid: u32,
-    pub gid: u32,
-    pub gid_count: u32,
-    pub gids: [u32; 16],
-    pub machine: Part,
+    #[derive(Default)]
+    oncrpc_part as Part {
+        at: usize,
+        count: usize,
+    }
+
+    #[derive(Default)]
+    oncrpc_call as Call {
+        xid: u32,
+        rpc_version: u32,
+        program: u32,
+        version: u32,
+        procedure: u32,
+        credential_flavor: u32,
+        verifier_flavor: u32,
+        credential: Part,
+        verifier: Part,
+        arguments: Part,
+    }
+
+    #[derive(Default)]
+    oncrpc_reply as Reply {
+        xid: u32,
+        state: u32,
+        low: u32,
+        high: u32,
+        auth_stat: u32,
+        verifier_flavor: u32,
+        verifier: Part,
+        results: Part,
+    }
+
+    #[derive(Default)]
+    oncrpc_auth_sys as AuthSys {
+        stamp: u32,
+        uid: u32,
+        gid: u32,
+        gid_count: u32,
+        gids: [u32; 16],
+        machine: Part,
+    }
 }
 
 extern "C" {
@@ -149,8 +248,8 @@ extern "C" {
         bytes: u32,
         input: *const u8,
         input_count: usize,
-        room: *mut u8,
-        room_count: usize,
+        buffer: *mut u8,
+        buffer_count: usize,
         written: *mut usize,
         outcome: *mut Outcome,
     ) -> u32;
@@ -176,8 +275,8 @@ extern "C" {
         input: *const u8,
         input_count: usize,
         limit: u32,
-        room: *mut u8,
-        room_count: usize,
+        buffer: *mut u8,
+        buffer_count: usize,
         written: *mut usize,
         outcome: *mut Outcome,
     ) -> u32;
@@ -192,8 +291,8 @@ extern "C" {
         verifier_count: usize,
         arguments: *const u8,
         arguments_count: usize,
-        room: *mut u8,
-        room_count: usize,
+        buffer: *mut u8,
+        buffer_count: usize,
         count: *mut usize,
     ) -> u32;
 
@@ -205,8 +304,8 @@ extern "C" {
         verifier_count: usize,
         results: *const u8,
         results_count: usize,
-        room: *mut u8,
-        room_count: usize,
+        buffer: *mut u8,
+        buffer_count: usize,
         count: *mut usize,
     ) -> u32;
 
@@ -216,8 +315,8 @@ extern "C" {
         auth: *const AuthSys,
         machine: *const u8,
         machine_count: usize,
-        room: *mut u8,
-        room_count: usize,
+        buffer: *mut u8,
+        buffer_count: usize,
         count: *mut usize,
     ) -> u32;
 
@@ -235,15 +334,15 @@ extern "C" {
         netid_count: usize,
         record: *const u8,
         record_count: usize,
-        room: *mut u8,
-        room_count: usize,
+        buffer: *mut u8,
+        buffer_count: usize,
         outcome: *mut Outcome,
     ) -> u32;
 
     pub fn oncrpc_registry_reply(
         registry: *mut Registry,
-        room: *mut u8,
-        room_count: usize,
+        buffer: *mut u8,
+        buffer_count: usize,
         outcome: *mut Outcome,
     ) -> u32;
 
@@ -282,7 +381,12 @@ extern "C" {
         outcome: *mut Outcome,
     ) -> u32;
 
-    pub fn oncrpc_records_take(records: *mut Records, room: *mut u8, room_count: usize, outcome: *mut Outcome) -> u32;
+    pub fn oncrpc_records_take(
+        records: *mut Records,
+        buffer: *mut u8,
+        buffer_count: usize,
+        outcome: *mut Outcome,
+    ) -> u32;
 
     pub fn oncrpc_records_end(records: *mut Records, outcome: *mut Outcome) -> u32;
 
