@@ -1,0 +1,160 @@
+//! The registry of RFC 1833 through the crate: rows, transports and replies, by the words of the messages.
+
+use oncrpc::{Auth, AuthSys, Call, Outcome, Registry, Reply, Transport};
+
+fn started() -> Registry {
+    Registry::start(111, b"no peer knows it").unwrap()
+}
+
+/// A string of XDR (RFC 4506 section 4.11).
+fn string(text: &[u8]) -> Vec<u8> {
+    let mut bytes = (text.len() as u32).to_be_bytes().to_vec();
+    bytes.extend_from_slice(text);
+    bytes.resize(bytes.len().next_multiple_of(4), 0);
+    bytes
+}
+
+/// The structure `rpcb` (RFC 1833 section 2.1).
+fn rpcb(program: u32, version: u32, netid: &[u8], address: &[u8], owner: &[u8]) -> Vec<u8> {
+    let numbers = [program, version].map(u32::to_be_bytes).concat();
+    [numbers, string(netid), string(address), string(owner)].concat()
+}
+
+/// The results of a call of the registry.
+fn asked(registry: &mut Registry, over: Transport, version: u32, procedure: u32, arguments: &[u8]) -> Option<Vec<u8>> {
+    let call = Call {
+        xid: 5,
+        program: 100_000,
+        version,
+        procedure,
+        arguments,
+        ..Call::default()
+    };
+    let mut reply = Vec::new();
+    assert_eq!(registry.answer(over, &call.write().unwrap(), &mut reply), Ok(true));
+    match Reply::read(&reply).unwrap() {
+        Reply::Accepted {
+            xid: 5,
+            outcome: Outcome::Success(results),
+            ..
+        } => Some(results.to_vec()),
+        Reply::Accepted {
+            xid: 5,
+            outcome: Outcome::SystemErr,
+            ..
+        } => None,
+        other => panic!("{other:?}"),
+    }
+}
+
+/// DUMP of version 3 lists the registry's own rows and then those that were set, each field as it was given (RFC 1833
+/// section 2.2.1).
+#[test]
+fn rows_are_listed_as_they_were_set() {
+    let mut registry = started();
+    assert_eq!(registry.set(300, 7, b"tcp", b"1.2.3.4.8.1", b"1000"), Ok(true));
+    assert_eq!(registry.set(300, 7, b"tcp", b"1.2.3.4.8.2", b"1000"), Ok(false));
+    let mut wanted = Vec::new();
+    for version in 2..5 {
+        for netid in [b"tcp", b"udp"] {
+            wanted.extend(
+                [
+                    vec![0, 0, 0, 1],
+                    rpcb(100_000, version, netid, b"0.0.0.0.0.111", b"superuser"),
+                ]
+                .concat(),
+            );
+        }
+    }
+    let own = wanted.len();
+    wanted.extend(
+        [
+            vec![0, 0, 0, 1],
+            rpcb(300, 7, b"tcp", b"1.2.3.4.8.1", b"1000"),
+            vec![0; 4],
+        ]
+        .concat(),
+    );
+    assert_eq!(asked(&mut registry, Transport::Tcp, 3, 4, &[]), Some(wanted.clone()));
+    assert_eq!(registry.unset(300, 7, b"udp", b"1000"), Ok(false));
+    assert_eq!(registry.unset(300, 7, b"tcp", b"1001"), Ok(false));
+    assert_eq!(registry.unset(7, 300, b"tcp", b"1000"), Ok(false));
+    assert_eq!(registry.unset(300, 7, b"tcp", b"1000"), Ok(true));
+    wanted.truncate(own);
+    wanted.extend([0; 4]);
+    assert_eq!(asked(&mut registry, Transport::Tcp, 3, 4, &[]), Some(wanted));
+}
+
+/// GETADDR gives the address of the transport that the call came over (RFC 1833 section 2.2.1).
+#[test]
+fn a_transport_is_no_other() {
+    let mut registry = started();
+    assert_eq!(registry.set(300, 7, b"tcp", b"1.2.3.4.8.1", b"1000"), Ok(true));
+    assert_eq!(registry.set(300, 7, b"udp", b"1.2.3.4.8.2", b"1000"), Ok(true));
+    let asking = rpcb(300, 7, b"", b"", b"");
+    for (over, address) in [(Transport::Tcp, b"1.2.3.4.8.1"), (Transport::Udp, b"1.2.3.4.8.2")] {
+        assert_eq!(asked(&mut registry, over, 4, 3, &asking), Some(string(address)));
+    }
+}
+
+/// Above 65507 bytes a reply does not go into a datagram.
+#[test]
+fn a_long_reply_goes_over_tcp_alone() {
+    let mut registry = started();
+    let address = [b'a'; 256];
+    for program in 1000..1300 {
+        assert_eq!(registry.set(program, 1, b"tcp", &address, b"me"), Ok(true));
+    }
+    let listed = asked(&mut registry, Transport::Tcp, 3, 4, &[]).unwrap();
+    assert!(listed.len() > 65_507, "{}", listed.len());
+    assert_eq!(asked(&mut registry, Transport::Udp, 3, 4, &[]), None);
+}
+
+/// The user of AUTH_SYS owns what it sets, and no other user removes it (RFC 1833 section 2.2.1).
+#[test]
+fn a_row_has_its_callers_user() {
+    let mut registry = started();
+    let changed = |registry: &mut Registry, procedure, uid| {
+        let user = AuthSys {
+            uid,
+            gid: 9,
+            stamp: 8,
+            ..AuthSys::default()
+        }
+        .write()
+        .unwrap();
+        let row = rpcb(400, 1, b"tcp", b"1.2.3.4.8.1", b"");
+        let credential = Auth { flavor: 1, body: &user };
+        let call = Call {
+            program: 100_000,
+            version: 3,
+            procedure,
+            credential,
+            arguments: &row,
+            ..Call::default()
+        };
+        let mut reply = Vec::new();
+        assert_eq!(
+            registry.answer(Transport::Tcp, &call.write().unwrap(), &mut reply),
+            Ok(true)
+        );
+        reply[24..] == [0, 0, 0, 1]
+    };
+    assert!(changed(&mut registry, 1, 1000));
+    assert!(!changed(&mut registry, 2, 1001));
+    assert!(changed(&mut registry, 2, 1000));
+    assert!(changed(&mut registry, 1, 1000));
+    assert!(
+        changed(&mut registry, 2, 0),
+        "who claims to be superuser removes every row"
+    );
+}
+
+#[test]
+fn what_is_no_call_has_no_reply() {
+    let mut registry = started();
+    let mut reply = vec![1; 100];
+    assert_eq!(registry.answer(Transport::Udp, b"\0\0\0", &mut reply), Ok(false));
+    assert!(reply.is_empty() && reply.capacity() >= 100);
+    assert_eq!(registry.reply(&mut reply), Ok(false));
+}
