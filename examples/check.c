@@ -57,7 +57,7 @@ static void show(oncrpc_declarations *declarations, const char *name, size_t cou
 }
 
 int main(void) {
-    oncrpc_declarations declarations = {0};
+    oncrpc_declarations declarations = ONCRPC_NONE;
     oncrpc_outcome outcome;
     if (oncrpc_declarations_read((const uint8_t *)text, sizeof text - 1, &declarations, &outcome) != ONCRPC_OK) {
         printf("fault %u (%u) at %zu:%zu\n", outcome.why, outcome.inner, outcome.line, outcome.column);

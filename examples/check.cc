@@ -21,12 +21,9 @@ class Declarations {
     }
 
   private:
-    // A view of nothing may lead nowhere, and a pointer to bytes may not.
-    static const uint8_t *bytes(std::string_view view) {
-        return reinterpret_cast<const uint8_t *>(view.data() ? view.data() : "");
-    }
+    static const uint8_t *bytes(std::string_view view) { return reinterpret_cast<const uint8_t *>(view.data()); }
 
-    oncrpc_declarations held_{};
+    oncrpc_declarations held_ = ONCRPC_NONE;
 };
 
 int main() {

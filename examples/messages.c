@@ -30,10 +30,11 @@ static void tell_sys(const uint8_t *body, size_t count) {
         printf(" %u", auth.gids[i]);
     }
     /* Written again it is the same. */
-    uint8_t room[ONCRPC_MOST_BODY];
+    uint8_t buffer[ONCRPC_MOST_BODY];
     size_t written;
-    status = oncrpc_auth_sys_write(&auth, body + auth.machine.at, auth.machine.count, room, sizeof room, &written);
-    printf("%s\n", status == ONCRPC_OK && written == count && !memcmp(room, body, count) ? "" : ", written otherwise");
+    status = oncrpc_auth_sys_write(&auth, body + auth.machine.at, auth.machine.count, buffer, sizeof buffer, &written);
+    int is_same = status == ONCRPC_OK && written == count && !memcmp(buffer, body, count);
+    printf("%s\n", is_same ? "" : ", written otherwise");
 }
 
 static void tell_call(const uint8_t *input, size_t count) {
@@ -62,11 +63,12 @@ static void tell_reply(const uint8_t *input, size_t count) {
         printf(", versions %u to %u", reply.low, reply.high);
     }
     /* Written again it is the same. */
-    uint8_t room[64];
+    uint8_t buffer[64];
     size_t written;
     status = oncrpc_reply_write(&reply, input + reply.verifier.at, reply.verifier.count, input + reply.results.at,
-        reply.results.count, room, sizeof room, &written);
-    printf("%s\n", status == ONCRPC_OK && written == count && !memcmp(room, input, count) ? "" : ", written otherwise");
+        reply.results.count, buffer, sizeof buffer, &written);
+    int is_same = status == ONCRPC_OK && written == count && !memcmp(buffer, input, count);
+    printf("%s\n", is_same ? "" : ", written otherwise");
 }
 
 int main(void) {

@@ -49,13 +49,14 @@ static void print(const oncrpc_value_part *part) {
 }
 
 int main(void) {
-    oncrpc_declarations declarations = {0};
+    oncrpc_declarations declarations = ONCRPC_NONE;
     oncrpc_outcome fault;
     oncrpc_parts_outcome outcome;
     if (oncrpc_declarations_read((const uint8_t *)text, sizeof text - 1, &declarations, &fault) != ONCRPC_OK)
         return 1;
     uint32_t status = list(&declarations, sizeof input, 0, 0, &outcome);
-    printf("no room: status %u, %zu parts and %zu bytes of names are needed\n", status, outcome.parts, outcome.names);
+    printf("without buffers: status %u, %zu parts and %zu bytes of names are needed\n", status, outcome.parts,
+        outcome.names);
     status = list(&declarations, sizeof input, 16, sizeof names, &outcome);
     for (size_t i = 0; i < outcome.parts; i++) {
         print(parts + i);

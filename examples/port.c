@@ -24,31 +24,30 @@ static uint32_t number(const uint8_t *bytes) {
     return (uint32_t)bytes[0] << 24 | (uint32_t)bytes[1] << 16 | (uint32_t)bytes[2] << 8 | bytes[3];
 }
 
-/* Writes the call into the room, and answers whether it is there. */
-static int ask(uint8_t *room, size_t room_count, size_t *count) {
-    const uint8_t *none = (const uint8_t *)"";
+/* Writes the call into the buffer, and answers whether it is there. */
+static int ask(uint8_t *buffer, size_t buffer_count, size_t *count) {
     oncrpc_call call = {0};
     call.xid = 0x87f9b72a;
     call.program = 100000;
     call.version = 2;
     call.procedure = 3;
     uint32_t status =
-        oncrpc_call_write(&call, none, 0, none, 0, arguments, sizeof arguments, room, room_count, count);
+        oncrpc_call_write(&call, NULL, 0, NULL, 0, arguments, sizeof arguments, buffer, buffer_count, count);
     if (status == ONCRPC_NO_ROOM) {
-        printf("%zu bytes of room are needed\n", *count);
+        printf("%zu bytes are needed\n", *count);
     }
     return status == ONCRPC_OK;
 }
 
 int main(void) {
-    uint8_t room[64];
+    uint8_t buffer[64];
     size_t count;
-    ask(room, 40, &count);
-    if (!ask(room, sizeof room, &count)) {
+    ask(buffer, 40, &count);
+    if (!ask(buffer, sizeof buffer, &count)) {
         return 1;
     }
     printf("call of %zu bytes, %s\n", count,
-        count == sizeof sent && !memcmp(room, sent, count) ? "as captured" : "another than was captured");
+        count == sizeof sent && !memcmp(buffer, sent, count) ? "as captured" : "another than was captured");
     oncrpc_reply reply;
     uint32_t status = oncrpc_reply_read(answered, sizeof answered, &reply);
     if (status != ONCRPC_OK || reply.xid != 0x87f9b72a || reply.state != ONCRPC_SUCCESS || reply.results.count != 4) {

@@ -6,13 +6,16 @@
 
 static void show(const uint8_t *input, size_t count, uint32_t limit) {
     /* The normal form has no more bytes than its input. */
-    uint8_t *room = malloc(count + 1);
+    uint8_t *buffer = malloc(count + 1);
     size_t written;
     oncrpc_outcome outcome;
-    uint32_t status = room ? oncrpc_normalise(input, count, limit, room, count, &written, &outcome) : ONCRPC_NO_MEMORY;
+    uint32_t status = ONCRPC_NO_MEMORY;
+    if (buffer) {
+        status = oncrpc_normalise(input, count, limit, buffer, count, &written, &outcome);
+    }
     if (status == ONCRPC_OK || status == ONCRPC_REFUSED) {
         for (size_t i = 0; i < written; i++) {
-            printf("%02x", room[i]);
+            printf("%02x", buffer[i]);
         }
         printf("%s", written ? " " : "");
     }
@@ -21,7 +24,7 @@ static void show(const uint8_t *input, size_t count, uint32_t limit) {
     } else {
         printf("status %u\n", status);
     }
-    free(room);
+    free(buffer);
 }
 
 int main(void) {

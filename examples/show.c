@@ -29,25 +29,25 @@ static const uint8_t input[48] = "\0\0\0\11sillyprog\0\0\0"
                                  "\0\0\0\4john"
                                  "\0\0\0\6(quit)\0\0";
 
-static uint32_t show(oncrpc_declarations *declarations, size_t count, uint8_t *room, size_t room_count, size_t *written,
-                     oncrpc_outcome *outcome) {
+static uint32_t show(oncrpc_declarations *declarations, size_t count, uint8_t *buffer, size_t buffer_count,
+                     size_t *written, oncrpc_outcome *outcome) {
     return oncrpc_declarations_show(declarations, (const uint8_t *)"file", 4, ONCRPC_MOST_DEPTH, ONCRPC_MOST_BYTES,
-                                    input, count, room, room_count, written, outcome);
+                                    input, count, buffer, buffer_count, written, outcome);
 }
 
 int main(void) {
-    oncrpc_declarations declarations = {0};
+    oncrpc_declarations declarations = ONCRPC_NONE;
     oncrpc_outcome outcome;
-    uint8_t room[256];
+    uint8_t buffer[256];
     size_t written;
     if (oncrpc_declarations_read((const uint8_t *)text, sizeof text - 1, &declarations, &outcome) != ONCRPC_OK)
         return 1;
-    uint32_t status = show(&declarations, sizeof input, room, sizeof room, &written, &outcome);
-    fwrite(room, 1, written, stdout);
+    uint32_t status = show(&declarations, sizeof input, buffer, sizeof buffer, &written, &outcome);
+    fwrite(buffer, 1, written, stdout);
     printf("status %u, %zu bytes of input\n", status, outcome.at);
-    status = show(&declarations, sizeof input, room, 10, &written, &outcome);
-    printf("room for 10 bytes: status %u, %zu are needed\n", status, outcome.at);
-    status = show(&declarations, sizeof input - 1, room, sizeof room, &written, &outcome);
+    status = show(&declarations, sizeof input, buffer, 10, &written, &outcome);
+    printf("a buffer of 10 bytes: status %u, %zu are needed\n", status, outcome.at);
+    status = show(&declarations, sizeof input - 1, buffer, sizeof buffer, &written, &outcome);
     printf("47 bytes: status %u, %zu written\n", status, written);
     oncrpc_declarations_free(&declarations);
     return 0;

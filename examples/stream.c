@@ -10,22 +10,22 @@
 
 #include "oncrpc.h"
 
-static oncrpc_records records;
-static uint8_t *room;
-static size_t room_count = 64;
+static oncrpc_records records = ONCRPC_NONE;
+static uint8_t *buffer;
+static size_t buffer_count = 64;
 
-/* Takes the record that waits, which stands in the room until the next one. */
+/* Takes the record that waits, which stands in the buffer until the next one. */
 static uint32_t take(size_t *count) {
     oncrpc_outcome outcome;
-    uint32_t status = oncrpc_records_take(&records, room, room_count, &outcome);
+    uint32_t status = oncrpc_records_take(&records, buffer, buffer_count, &outcome);
     if (status == ONCRPC_NO_ROOM) {
-        uint8_t *larger = realloc(room, outcome.at);
+        uint8_t *larger = realloc(buffer, outcome.at);
         if (!larger) {
             return ONCRPC_NO_MEMORY;
         }
-        room = larger;
-        room_count = outcome.at;
-        status = oncrpc_records_take(&records, room, room_count, &outcome);
+        buffer = larger;
+        buffer_count = outcome.at;
+        status = oncrpc_records_take(&records, buffer, buffer_count, &outcome);
     }
     *count = outcome.at;
     return status;
@@ -52,9 +52,9 @@ int main(int count, char **words) {
     oncrpc_outcome outcome;
     uint32_t limit = count > 1 ? (uint32_t)strtoul(words[1], NULL, 10) : 65536;
     uint32_t status = oncrpc_records_start(&records, limit, &outcome);
-    room = malloc(room_count);
+    buffer = malloc(buffer_count);
     ssize_t got = -1;
-    while (room && (status == ONCRPC_OK || status == ONCRPC_MORE_WANTED)
+    while (buffer && (status == ONCRPC_OK || status == ONCRPC_MORE_WANTED)
         && (got = read(STDIN_FILENO, piece, sizeof piece)) > 0) {
         status = read_piece(piece, (size_t)got, &outcome);
     }
@@ -67,6 +67,6 @@ int main(int count, char **words) {
         printf("status %u\n", status);
     }
     oncrpc_records_free(&records);
-    free(room);
+    free(buffer);
     return status != ONCRPC_OK;
 }

@@ -12,7 +12,7 @@ static const uint8_t input[13] = "\0\0\0\3abc\0\0\0\0\1\7";
 /* Reads and checks again and again, and counts the answers that are not as they should be. */
 static void *run(void *count) {
     size_t *wrong = count;
-    oncrpc_declarations declarations = {0};
+    oncrpc_declarations declarations = ONCRPC_NONE;
     oncrpc_outcome outcome;
     for (int i = 0; i < 100; i++) {
         if (oncrpc_declarations_read((const uint8_t *)text, sizeof text - 1, &declarations, &outcome) != ONCRPC_OK) {

@@ -1,0 +1,77 @@
+/* The registry, and replies that wait. */
+#include "calls.h"
+
+/* Calls of version 2 of the registry, and what they are answered (RFC 1833 section 3): NULL, SET of program 300 in
+ * version 7 over tcp at port 2049, GETPORT of it, and of one that is not there. */
+#define ASKS(procedure) "\0\0\0\7\0\0\0\0\0\0\0\2\0\1\x86\xa0\0\0\0\2\0\0\0" procedure \
+    "\0\0\0\0\0\0\0\0\0\0\0\0\0\0\0\0"
+#define TELLS "\0\0\0\7\0\0\0\1\0\0\0\0\0\0\0\0\0\0\0\0\0\0\0\0"
+#define MAPPING(version) "\0\0\1\x2c\0\0\0" version "\0\0\0\6\0\0\x08\1"
+static const struct { const char *call; size_t count; const char *reply; size_t size; } asks[] = {
+    {ASKS("\0"), 40, TELLS, 24},
+    {ASKS("\1") MAPPING("\7"), 56, TELLS "\0\0\0\1", 28},
+    {ASKS("\3") MAPPING("\7"), 56, TELLS "\0\0\x08\1", 28},
+    {ASKS("\3") "\0\0\1\x2d\0\0\0\7\0\0\0\6\0\0\0\0", 56, TELLS "\0\0\0\0", 28},
+};
+
+/* Asks with too little room, and takes the reply that waits. Where a growth was refused the reply may be SYSTEM_ERR.
+ * Says whether it was not. */
+static int check_ask(oncrpc_registry *held, size_t i) {
+    uint8_t room[64], before[64];
+    oncrpc_outcome outcome = {9, 9, 9, 9, 9}, taken = {9, 9, 9, 9, 9};
+    memset(room, '.', sizeof room);
+    memset(before, '.', sizeof before);
+    const uint8_t *call = bytes(asks[i].call);
+    uint32_t status = oncrpc_registry_answer(held, bytes("tcp"), 3, call, asks[i].count, room, 23, &outcome);
+    judge(status == ONCRPC_NO_ROOM && tells(&outcome, outcome.at, 0) && !memcmp(room, before, 64), status);
+    status = oncrpc_registry_reply(held, room, sizeof room, &taken);
+    int is_refused = refused_growth() && taken.at == 24 && room[23] == 5;
+    int is_told = is_refused || (taken.at == asks[i].size && !memcmp(room, asks[i].reply, taken.at));
+    int is_kept = tells(&taken, outcome.at, 0) && !memcmp(room + taken.at, before, 32);
+    judge(status == ONCRPC_OK && is_told && is_kept, status);
+    status = oncrpc_registry_reply(held, room, sizeof room, &taken);
+    judge(status == ONCRPC_SILENCE && tells(&taken, 0, 0), status);
+    if (is_refused) {
+        count_wanting();
+    }
+    return !is_refused;
+}
+
+static void check_rows(oncrpc_registry *held) {
+    oncrpc_outcome outcome = {9, 9, 9, 9, 9};
+    const uint8_t *at = bytes("0.0.0.0.8.1"), *me = bytes("1000 and more");
+    uint32_t status = oncrpc_registry_set(held, 301, 7, bytes("udp"), 3, at, 11, me, 4, &outcome);
+    judge(status == ONCRPC_OK && tells(&outcome, 0, 0), status);
+    int is_set = status == ONCRPC_OK;
+    status = oncrpc_registry_set(held, 301, 7, bytes("udp"), 3, at, 11, me, 11, &outcome);
+    judge(status == ONCRPC_UNCHANGED && tells(&outcome, 0, 0), status);
+    status = oncrpc_registry_unset(held, 301, 7, bytes("udp"), 3, me, 3, &outcome);
+    judge(status == ONCRPC_UNCHANGED && tells(&outcome, 0, 0), status);
+    status = oncrpc_registry_unset(held, 301, 7, bytes(""), 0, me, 4, &outcome);
+    judge(status == (is_set ? ONCRPC_OK : ONCRPC_UNCHANGED) && tells(&outcome, 0, 0), status);
+}
+
+void check_registry(void) {
+    uint8_t room[64];
+    oncrpc_registry held = ONCRPC_NONE;
+    oncrpc_outcome outcome = {9, 9, 9, 9, 9};
+    uint32_t status = oncrpc_registry_start(&held, 111, bytes("0123456789abcdef"), 16, &outcome);
+    judge(status == ONCRPC_OK && tells(&outcome, 0, 0), status);
+    uint32_t none = status == ONCRPC_OK ? 0 : ONCRPC_NO_REGISTRY;
+    int is_set = 1;
+    for (size_t i = 0; !none && is_set && i < sizeof asks / sizeof *asks; i++) {
+        is_set = check_ask(&held, i);
+    }
+    if (!none) {
+        check_rows(&held);
+    }
+    status = oncrpc_registry_answer(&held, bytes("tcp6"), 4, asking, 76, room, sizeof room, &outcome);
+    judge(status == (none ? none : ONCRPC_NO_TRANSPORT) && tells(&outcome, 0, 0), status);
+    status = oncrpc_registry_answer(&held, bytes("udp"), 3, telling, 28, room, sizeof room, &outcome);
+    judge(status == (none ? none : ONCRPC_SILENCE) && tells(&outcome, 0, 0), status);
+    oncrpc_registry_free(&held);
+    oncrpc_registry_free(&held);
+    status = oncrpc_registry_unset(&held, 301, 7, bytes("udp"), 3, bytes("me"), 2, &outcome);
+    judge(status == ONCRPC_NO_REGISTRY && tells(&outcome, 0, 0), status);
+}
+

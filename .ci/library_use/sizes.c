@@ -1,0 +1,232 @@
+/* Each call at size, with all the memory that it asks for: 1 MiB of bytes where its input may have so many, and what it
+ * takes at most where it may not. Want of memory is wrong here. */
+#include <stdio.h>
+
+#include "calls.h"
+
+enum { MIB = 1 << 20, ITEMS = MIB / 4, TEXT = 262144, ROWS = 1024, OWN_ROWS = 6, ADDRESS = 256 };
+
+/* What the calls read, and a buffer of more than what they write. */
+static uint8_t input[2 * MIB], buffer[4 * MIB];
+static oncrpc_value_part parts[ITEMS + 2];
+
+static void put_number(uint8_t *at, uint32_t number) {
+    at[0] = (uint8_t)(number >> 24), at[1] = (uint8_t)(number >> 16), at[2] = (uint8_t)(number >> 8);
+    at[3] = (uint8_t)number;
+}
+
+/* Bytes that differ from place to place. */
+static void fill_input(size_t count) {
+    for (size_t i = 0; i < count; i++) {
+        input[i] = (uint8_t)(i * 7 + i / 251);
+    }
+}
+
+/* The greatest text: as many typedefs of one length as go into it, and spaces. */
+static void read_text(oncrpc_declarations *held) {
+    static char longest[TEXT + 32];
+    oncrpc_outcome outcome = {9, 9, 9, 9, 9};
+    size_t count = (size_t)snprintf(longest, sizeof longest, "typedef int list<>;\n");
+    for (int i = 0; count <= TEXT - 20; i++) {
+        count += (size_t)snprintf(longest + count, 21, "typedef int t%05d;\n", i);
+    }
+    memset(longest + count, ' ', TEXT - count);
+    uint32_t status = oncrpc_declarations_read(bytes(longest), TEXT, held, &outcome);
+    judge(status == ONCRPC_OK && tells(&outcome, 0, 0), status);
+    put_number(input, 7);
+    status = oncrpc_check(bytes(longest), TEXT, bytes("t00009"), 6, 1, 4, input, 4, &outcome);
+    judge(status == ONCRPC_OK && tells(&outcome, 4, 0), status);
+}
+
+/* An opaque and a list of 1 MiB. */
+static void check_value(oncrpc_declarations *held) {
+    oncrpc_outcome outcome = {9, 9, 9, 9, 9};
+    fill_input(MIB + 4);
+    put_number(input, MIB);
+    uint32_t status = oncrpc_check(NULL, 0, bytes("opaque"), 6, 1, ONCRPC_MOST_BYTES, input, MIB + 4, &outcome);
+    judge(status == ONCRPC_OK && tells(&outcome, MIB + 4, 0), status);
+    status = oncrpc_declarations_check(held, bytes("opaque"), 6, 1, ONCRPC_MOST_BYTES, input, MIB + 4, &outcome);
+    judge(status == ONCRPC_OK && tells(&outcome, MIB + 4, 0), status);
+    put_number(input, ITEMS);
+    status = oncrpc_declarations_check(held, bytes("list"), 4, 2, ONCRPC_MOST_BYTES, input, MIB + 4, &outcome);
+    judge(status == ONCRPC_OK && tells(&outcome, MIB + 4, 0), status);
+}
+
+/* The line of the opaque is 0x, two digits for each byte, and a newline. */
+static void show_value(oncrpc_declarations *held) {
+    static const char digits[] = "0123456789abcdef";
+    oncrpc_outcome outcome = {9, 9, 9, 9, 9};
+    size_t written = 9;
+    fill_input(MIB + 4);
+    put_number(input, MIB);
+    uint32_t status = oncrpc_declarations_show(held, bytes("opaque"), 6, 1, ONCRPC_MOST_BYTES, input, MIB + 4, buffer,
+        sizeof buffer, &written, &outcome);
+    int is_line = written == 2 * MIB + 3 && !memcmp(buffer, "0x", 2) && buffer[2 * MIB + 2] == '\n';
+    for (size_t i = 0; is_line && i < MIB; i++) {
+        is_line = buffer[2 + 2 * i] == digits[input[4 + i] >> 4] && buffer[3 + 2 * i] == digits[input[4 + i] & 15];
+    }
+    judge(status == ONCRPC_OK && tells(&outcome, MIB + 4, 0) && is_line, status);
+}
+
+/* The parts of the list: itself, and each item at its place. */
+static void list_value(oncrpc_declarations *held) {
+    oncrpc_parts_outcome found = {9, 9, 9, 9};
+    put_number(input, ITEMS);
+    uint32_t status = oncrpc_declarations_parts(held, bytes("list"), 4, 2, ONCRPC_MOST_BYTES, input, MIB + 4, NULL, 0,
+        NULL, 0, &found);
+    judge(status == ONCRPC_NO_ROOM && found.at == MIB + 4 && found.parts == ITEMS + 1 && !found.names, status);
+    status = oncrpc_declarations_parts(held, bytes("list"), 4, 2, ONCRPC_MOST_BYTES, input, MIB + 4, parts, ITEMS + 2,
+        NULL, 0, &found);
+    int are_right = found.parts == ITEMS + 1 && parts[0].xdr_type == ONCRPC_TYPE_ARRAY && parts[0].depth == 1;
+    for (size_t i = 1; are_right && i <= ITEMS; i++) {
+        are_right = parts[i].at == 4 * i && parts[i].count == 4 && parts[i].xdr_type == ONCRPC_TYPE_INT
+            && parts[i].depth == 2;
+    }
+    judge(status == ONCRPC_OK && found.at == MIB + 4 && are_right, status);
+}
+
+/* Records of 1000 bytes in two fragments each, some 2 MiB of them, whose fragments are joined. */
+static void normalise_records(void) {
+    enum { RECORDS = 2 * MIB / 1008 };
+    oncrpc_outcome outcome = {9, 9, 9, 9, 9};
+    size_t written = 9;
+    fill_input(sizeof input);
+    for (size_t i = 0; i < RECORDS; i++) {
+        put_number(input + 1008 * i, 400);
+        put_number(input + 1008 * i + 404, 0x80000000u | 600);
+    }
+    uint32_t status = oncrpc_normalise(input, 1008 * RECORDS, 1000, buffer, sizeof buffer, &written, &outcome);
+    int is_right = written == 1004 * (size_t)RECORDS;
+    for (size_t i = 0; is_right && i < RECORDS; i++) {
+        const uint8_t *from = input + 1008 * i, *to = buffer + 1004 * i;
+        is_right = !memcmp(to, "\x80\0\3\xe8", 4) && !memcmp(to + 4, from + 4, 400)
+            && !memcmp(to + 404, from + 408, 600);
+    }
+    judge(status == ONCRPC_OK && tells(&outcome, 1004 * (size_t)RECORDS, 0) && is_right, status);
+}
+
+/* A call and a reply with 1 MiB behind them, and 400 bytes of credential and verifier. */
+static void write_messages(void) {
+    oncrpc_call call = {7, 0, 8, 9, 10, 11, 12, {0, 0}, {0, 0}, {0, 0}}, read = {0};
+    oncrpc_reply reply = {0}, answered = {0};
+    size_t count = 9;
+    fill_input(MIB);
+    uint32_t status = oncrpc_call_write(&call, input, 400, input, 400, input, MIB, buffer, sizeof buffer, &count);
+    judge(status == ONCRPC_OK && count == 40 + 800 + MIB && !memcmp(buffer + 840, input, MIB), status);
+    status = oncrpc_call_read(buffer, count, &read);
+    judge(status == ONCRPC_OK && read.xid == 7 && read.arguments.at == 840 && read.arguments.count == MIB
+        && read.verifier.count == 400 && read.credential.count == 400, status);
+    reply.xid = 7;
+    status = oncrpc_reply_write(&reply, input, 400, input, MIB, buffer, sizeof buffer, &count);
+    judge(status == ONCRPC_OK && count == 24 + 400 + MIB && !memcmp(buffer + 424, input, MIB), status);
+    status = oncrpc_reply_read(buffer, count, &answered);
+    judge(status == ONCRPC_OK && answered.xid == 7 && answered.results.at == 424
+        && answered.results.count == MIB, status);
+}
+
+/* The greatest body of AUTH_SYS: 16 gids and 255 bytes of name. */
+static void write_credential(void) {
+    oncrpc_auth_sys auth = {1, 2, 3, 16, {4, 5, 6, 7, 8, 9, 10, 11, 12, 13, 14, 15, 16, 17, 18, 19}, {0, 0}};
+    oncrpc_auth_sys read = {0};
+    size_t count = 9;
+    uint32_t status = oncrpc_auth_sys_write(&auth, input, 255, buffer, sizeof buffer, &count);
+    judge(status == ONCRPC_OK && count == 8 + 256 + 12 + 64, status);
+    status = oncrpc_auth_sys_read(buffer, count, &read);
+    judge(status == ONCRPC_OK && read.machine.count == 255 && read.gid_count == 16 && read.gids[15] == 19
+        && read.uid == 2 && read.gid == 3, status);
+}
+
+/* A record of 1 MiB in fragments of 4096 bytes, in pieces of 5000, and at once. */
+static void read_record(size_t piece) {
+    enum { FRAGMENTS = MIB / 4096, COUNT = MIB + 4 * FRAGMENTS };
+    oncrpc_records held = ONCRPC_NONE;
+    oncrpc_outcome outcome = {9, 9, 9, 9, 9};
+    fill_input(COUNT);
+    for (size_t i = 0; i < FRAGMENTS; i++) {
+        put_number(input + 4100 * i, (i + 1 == FRAGMENTS ? 0x80000000u : 0) | 4096);
+    }
+    uint32_t status = oncrpc_records_start(&held, MIB, &outcome);
+    judge(status == ONCRPC_OK, status);
+    for (size_t at = 0; at < COUNT; at += piece) {
+        size_t size = COUNT - at < piece ? COUNT - at : piece;
+        status = oncrpc_records_feed(&held, input + at, size, &outcome);
+        int is_last = at + size == COUNT;
+        uint32_t wanted = is_last ? ONCRPC_OK : ONCRPC_MORE_WANTED;
+        judge(status == wanted && outcome.at == (is_last ? size : 0), status);
+    }
+    status = oncrpc_records_end(&held, &outcome);
+    judge(status == ONCRPC_OK, status);
+    status = oncrpc_records_take(&held, buffer, sizeof buffer, &outcome);
+    int is_right = outcome.at == MIB;
+    for (size_t i = 0; is_right && i < FRAGMENTS; i++) {
+        is_right = !memcmp(buffer + 4096 * i, input + 4100 * i + 4, 4096);
+    }
+    judge(status == ONCRPC_OK && is_right, status);
+    oncrpc_records_free(&held);
+}
+
+/* The greatest registry: 1024 rows, all but its own with 64 bytes of netid, 256 of address and 10 of owner. */
+static void fill_rows(oncrpc_registry *held) {
+    oncrpc_outcome outcome = {9, 9, 9, 9, 9};
+    fill_input(MIB);
+    uint32_t status = oncrpc_registry_start(held, 111, input, MIB, &outcome);
+    judge(status == ONCRPC_OK, status);
+    memset(input, 'a', ADDRESS);
+    for (uint32_t i = OWN_ROWS; i < ROWS; i++) {
+        status = oncrpc_registry_set(held, i, 1, input, 64, input, ADDRESS, input, 10, &outcome);
+        judge(status == ONCRPC_OK, status);
+    }
+    status = oncrpc_registry_set(held, ROWS, 1, input, 64, input, ADDRESS, input, 10, &outcome);
+    judge(status == ONCRPC_UNCHANGED, status);
+}
+
+/* DUMP of version 3 (RFC 1833 section 2.2.1) of the greatest registry. Each of its own rows has 56 bytes of results: a
+ * flag, two numbers, a netid of 8 bytes, an address of 20 and an owner of 16, each with its length. */
+static void list_rows(oncrpc_registry *held) {
+    enum { ROW = 4 + 8 + 4 + 64 + 4 + ADDRESS + 4 + 12, OWN_ROW = 4 + 8 + 8 + 20 + 16 };
+    static const size_t wanted = 24 + OWN_ROWS * OWN_ROW + (ROWS - OWN_ROWS) * ROW + 4;
+    oncrpc_call call = {7, 0, 100000, 3, 4, 0, 0, {0, 0}, {0, 0}, {0, 0}};
+    oncrpc_outcome outcome = {9, 9, 9, 9, 9};
+    size_t count = 9;
+    uint32_t status = oncrpc_call_write(&call, NULL, 0, NULL, 0, NULL, 0, input, sizeof input, &count);
+    judge(status == ONCRPC_OK && count == 40, status);
+    status = oncrpc_registry_answer(held, bytes("tcp"), 3, input, count, NULL, 0, &outcome);
+    judge(status == ONCRPC_NO_ROOM && outcome.at == wanted, status);
+    status = oncrpc_registry_reply(held, buffer, sizeof buffer, &outcome);
+    judge(status == ONCRPC_OK && outcome.at == wanted
+        && !memcmp(buffer + wanted - 16, "aaaaaaaaaa\0\0\0\0\0", 16), status);
+    status = oncrpc_registry_answer(held, bytes("tcp"), 3, input, count, buffer, sizeof buffer, &outcome);
+    judge(status == ONCRPC_OK && outcome.at == wanted, status);
+    memset(input, 0, MIB);
+    status = oncrpc_registry_answer(held, bytes("tcp"), 3, input, MIB, buffer, sizeof buffer, &outcome);
+    judge(status == ONCRPC_OK && outcome.at == 24
+        && !memcmp(buffer, "\0\0\0\0\0\0\0\1\0\0\0\1\0\0\0\0\0\0\0\2\0\0\0\2", 24), status);
+}
+
+static void drop_rows(oncrpc_registry *held) {
+    oncrpc_outcome outcome = {9, 9, 9, 9, 9};
+    memset(input, 'a', ADDRESS);
+    for (uint32_t i = OWN_ROWS; i < ROWS; i++) {
+        uint32_t status = oncrpc_registry_unset(held, i, 1, input, 64, input, 10, &outcome);
+        judge(status == ONCRPC_OK, status);
+    }
+    oncrpc_registry_free(held);
+}
+
+void check_sizes(void) {
+    oncrpc_declarations declarations = ONCRPC_NONE;
+    oncrpc_registry registry = ONCRPC_NONE;
+    read_text(&declarations);
+    check_value(&declarations);
+    show_value(&declarations);
+    list_value(&declarations);
+    oncrpc_declarations_free(&declarations);
+    normalise_records();
+    write_messages();
+    write_credential();
+    read_record(5000);
+    read_record(2 * MIB);
+    fill_rows(&registry);
+    list_rows(&registry);
+    drop_rows(&registry);
+}
