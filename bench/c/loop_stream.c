@@ -16,7 +16,7 @@ static int rd(void *h, void *b, int n) {
     return n;
 }
 static void ours(long count) {
-    oncrpc_records held = {0};
+    oncrpc_records held = ONCRPC_NONE;
     oncrpc_outcome outcome;
     uint8_t room[SIZE];
     size_t at = sizeof stream;

@@ -1,7 +1,8 @@
 /* The nearest to our codec_bench with rpcgen and libtirpc: one value, encoded or decoded (and freed) COUNT times.
  * usage: loop_xdr uint1M|list2000|file1M|opaque1M|opaque16M encode|decode COUNT
  * With -DLIBRARY, on liboncrpc too: check in place of decode, by the declarations on standard input, which are read
- * once; or read, which reads and frees them COUNT times. */
+ * once; parts, which puts the value's parts into an array that is large enough; asked, which asks first how large; or
+ * read, which reads and frees them COUNT times. */
 #include <stdio.h>
 #include <stdlib.h>
 #include <string.h>
@@ -12,7 +13,7 @@
 /* Reads the declarations on standard input so many times, and gives them back but for the last. */
 static oncrpc_declarations declared(long count) {
     static uint8_t text[4096];
-    oncrpc_declarations held = {0};
+    oncrpc_declarations held = ONCRPC_NONE;
     oncrpc_outcome outcome;
     size_t length = fread(text, 1, sizeof text, stdin);
     for (long i = 0; i < count; i++) {
@@ -30,6 +31,24 @@ static void check(const char *name, const char *wire, size_t length, long count)
             exit(1);
     oncrpc_declarations_free(&held);
 }
+static uint32_t into(oncrpc_declarations *held, const char *name, const char *wire, size_t length,
+                     oncrpc_value_part *parts, size_t part_count, uint8_t *names, size_t name_count,
+                     oncrpc_parts_outcome *found) {
+    return oncrpc_declarations_parts(held, (const uint8_t *)name, strlen(name), ONCRPC_MOST_DEPTH, ONCRPC_MOST_BYTES,
+                                     (const uint8_t *)wire, length, parts, part_count, names, name_count, found);
+}
+static void list(const char *name, const char *wire, size_t length, long count, int asked) {
+    oncrpc_declarations held = declared(1);
+    oncrpc_parts_outcome need, found;
+    if (into(&held, name, wire, length, NULL, 0, NULL, 0, &need) != ONCRPC_NO_ROOM) exit(1);
+    oncrpc_value_part *parts = malloc(need.parts * sizeof *parts);
+    uint8_t *names = malloc(need.names + 1);
+    for (long i = 0; i < count; i++) {
+        if (asked && into(&held, name, wire, length, NULL, 0, NULL, 0, &found) != ONCRPC_NO_ROOM) exit(2);
+        if (into(&held, name, wire, length, parts, need.parts, names, need.names, &found)) exit(3);
+    }
+    oncrpc_declarations_free(&held);
+}
 #endif
 static char *wire;
 static void loop(const char *name, xdrproc_t f, void *value, size_t size, const char *work, long count) {
@@ -43,6 +62,10 @@ static void loop(const char *name, xdrproc_t f, void *value, size_t size, const 
 #ifdef LIBRARY
     if (!strcmp(work, "check")) {
         check(name, wire, length, count);
+        return;
+    }
+    if (!strcmp(work, "parts") || !strcmp(work, "asked")) {
+        list(name, wire, length, count, *work == 'a');
         return;
     }
 #endif
