@@ -1,0 +1,36 @@
+"""Programs, as they are compiled and run here."""
+import os
+import shutil
+import subprocess
+
+ROOT = os.path.dirname(os.path.dirname(os.path.dirname(os.path.realpath(__file__))))
+C = ["cc", "-std=c11", "-O2", "-Wall", "-Wextra", "-Wpedantic", "-Werror"]
+CPP = ["c++", "-std=c++17", "-O2", "-Wall", "-Wextra", "-Wpedantic", "-Werror"]
+
+
+def run(words, **how):
+    return subprocess.run(words, capture_output=True, text=True, timeout=600, check=False, **how)
+
+
+def passed(name, is_well, said=""):
+    print(f"{name}: {'as it should be' if is_well else said}")
+    return is_well
+
+
+def compiled(library, source, to, *more):
+    """Compiles a program on the library's archive, and says why that failed, if it did."""
+    compiler = CPP if source.endswith(".cc") else C
+    ran = run([*compiler, f"-I{library}/include", source, f"{library}/liboncrpc.a", *more, "-o", to])
+    return ran.stderr
+
+
+def tools(check, kinds="all"):
+    """The ways to run a program: as it is, and under a check of valgrind, where that is there."""
+    yield []
+    if shutil.which("valgrind"):
+        leaks = (
+            ["--leak-check=full", f"--show-leak-kinds={kinds}", f"--errors-for-leak-kinds={kinds}"]
+            if check == "memcheck"
+            else []
+        )
+        yield ["valgrind", f"--tool={check}", "-q", "--error-exitcode=3", *leaks]
