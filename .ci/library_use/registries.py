@@ -110,3 +110,14 @@ def asked_from_afar(room):
     weak = struct.pack(">5I", 7, 1, 1, 1, 5)
     wanted = [weak, weak, reply(0), reply(0), reply(1), reply(2049), weak, weak, reply(2049)]
     yield passed("registry.c asked from afar", ran.stdout.split() == [it.hex() for it in wanted], ran)
+
+
+def asked_by_rpcinfo(room):
+    """The same at port 111, in a network of its own, asked by rpcinfo."""
+    inside = """ip link set lo up && for turn in 1 2 3 4 5 6 7 8 9 10; do
+        sleep 0.2; rpcinfo -p 127.0.0.1 >"$2" 2>&1 && break; done | "$1" 111"""
+    listed = f"{room}/listed"
+    ran = run(["unshare", "-n", "sh", "-c", inside, "sh", f"{room}/registry", listed])
+    with open(listed, encoding="utf-8") as got:
+        rows = [line.split() for line in got]
+    yield passed("rpcinfo -p of registry.c", (ran.returncode, rows) == (0, LISTED), (ran, rows))
