@@ -3,7 +3,8 @@
 //!
 //! Safe calls of `liboncrpc`, over std alone. What each call promises is the contract of the function of C that it
 //! makes, which a prover has accepted (`include/oncrpc.h` retells it); the code here only lends it the bytes and gives
-//! its statuses names. A status that it does not know is `Unknown`. No call panics on any input, and no length that the input declares reserves memory.
+//! its statuses names. A status that it does not know is `Unknown`. No call panics on any input, and no length that the
+//! input declares reserves memory.
 //!
 //! ```no_run
 //! use oncrpc::{Declarations, Limits};

@@ -14,7 +14,8 @@ const TEXT: &[u8] = b"
     typedef string name<3>;
     typedef int pair[2];
     typedef int list<2>;
-    struct all { unsigned u; hyper h; unsigned hyper v; bool b; shape s; three f; upto o; name n; pair p; list l; int *m; };
+    struct all { unsigned int u; hyper h; unsigned hyper v; bool b; shape s; three f; upto o; name n; pair p; list l;
+        int *m; };
     struct node { node *next; };
     union nothing switch (bool is) { case FALSE: void; case TRUE: int x; };
 ";
@@ -35,7 +36,7 @@ fn each_reason() {
         ("shape", most, &[3], Reason::BadNumbered, 0),
         ("name", most, &[4], Reason::TooLong, 0),
         ("name", most, &[1, 0x6100_0001], Reason::BadPadding, 4),
-        ("node", Limits { depth: 3, ..most }, &[1, 1, 1, 0], Reason::TooDeep, 8),
+        ("node", Limits { depth: 3, ..most }, &[1, 1, 1, 0], Reason::TooDeep, 4),
         ("pair", Limits { bytes: 4, ..most }, &[1, 1], Reason::TooLarge, 4),
         ("pair", most, &[1], Reason::Truncated, 4),
     ];
