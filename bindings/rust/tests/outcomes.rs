@@ -193,6 +193,23 @@ fn each_type_and_role() {
     assert_eq!(found, [(XdrType::Union, Role::Number), (XdrType::Void, Role::Group)]);
 }
 
+/// A value that a byte follows is told as one by each of the three calls, with its lines and its parts.
+#[test]
+fn a_value_that_bytes_follow() {
+    let mut declarations = Declarations::read(b"struct p { int x; string y<>; };").unwrap();
+    let input = b"\0\0\0\x05\0\0\0\x01a\0\0\0?";
+    let checked = Checked {
+        used: 12,
+        more_follows: true,
+    };
+    assert_eq!(declarations.check("p", Limits::MOST, input), Ok(checked));
+    let lines = "struct\n  x: 5\n  y: \"a\"\n".to_string();
+    assert_eq!(declarations.show("p", Limits::MOST, input), Ok((checked, lines)));
+    let (found, parts) = declarations.parts("p", Limits::MOST, input).unwrap();
+    let names: Vec<&[u8]> = parts.iter().map(|part| part.name).collect();
+    assert_eq!((found, names), (checked, vec![b"".as_slice(), b"x", b"y", b"y"]));
+}
+
 /// RFC 5531 sections 8 and 9: what is no call, no reply and no credential.
 #[test]
 fn each_fault_of_a_message() {
