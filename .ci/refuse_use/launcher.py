@@ -15,7 +15,7 @@ LEFT = rb"(, about \d+ minutes? left)?\n"
 SECONDS = rb", \d+ seconds" + LEFT
 KEPT = rb", kept from an earlier run\n"
 BEGUN = rb"oncrpc: proving the program; what the prover says goes to \S+/crates/oncrpc/out/build.log\n"
-BEGUN += rb"oncrpc: 6 crates, at most \d+ at once, about \d+ minutes? left\n"
+FROM = rb"oncrpc: %d crates to prove, at most %d at once, about \d+ minutes? left\n"
 TOOK = rb"oncrpc: [\d.]+ minutes, [\d.]+ processor minutes\n"
 BUILT = rb"oncrpc: built \S+/crates/oncrpc/out/oncrpc\n"
 NOT_BUILT = rb"oncrpc: not built; \S+/crates/oncrpc/out/build.log says why\n"
@@ -150,11 +150,12 @@ def in_turn(folder):
         ("fails", RTLIB.replace("flags, anew", "flags"), 0, ends),
         ("refuses", None, 9, TOOK + NOT_BUILT),
     ):
-        tree = Tree(folder, f"turn_{name}", STAND_RUN=str(status))
+        tree = Tree(folder, f"turn_{name}", STAND_RUN=str(status), RT_JOBS="2")
         if library:
             tree.write("bin/rtlib.py", library)
         got = tree.run("./oncrpc prove")
-        well = is_answer(got, 3 if status else 0, b"", BEGUN + IN_TURN + told + faults, 1)
+        begun = BEGUN + (FROM % (6, 2) if name == "fails" else b"")
+        well = is_answer(got, 3 if status else 0, b"", begun + IN_TURN + told + faults, 1)
         log = tree.read("crates/oncrpc/out/build.log")
         yield row(f"./oncrpc prove in turn, {name}", well and "what the prover says of oncrpc" in log, got, log)
 
@@ -203,6 +204,7 @@ def side_by_side(folder):
         log = tree.read("crates/oncrpc/out/build.log")
         well = well and re.search(ends + rb"\Z", got[2]) and (alone or "-9" not in fails)
         well = well and "prover says of left" in log and "Traceback" not in log
+        well = well and re.match(BEGUN + FROM % (6, jobs), got[2])
         yield row(f"./oncrpc prove, {jobs} at once, {fails or 'none'} fails", bool(well), got, order, log)
 
 
@@ -216,7 +218,7 @@ def kept(folder):
     tree.write("bin/waits", "".join(f"{it} {','.join(LIBRARY)}\n" for it in LIBRARY))
     tree.write("crates/low/out/stamp", "")
     got = tree.run("./oncrpc prove")
-    told = re.match(BEGUN + rb"oncrpc: 1 of 6, low" + KEPT, got[2])
+    told = re.match(BEGUN + rb"oncrpc: 1 of 6, low" + KEPT + FROM % (5, 4), got[2])
     order = tree.read("bin/order")
     well = told and got[0] == 0 and "begin low" not in order
     yield row("./oncrpc prove, one is kept", bool(well), got, order)
