@@ -60,6 +60,9 @@ def unproved(folder):
     yield row(f"{words} again", is_answer(got, 5, told, UNPROVED % b"" + b"unproved fault\n", 0), got)
     got = tree.run("./oncrpc")
     yield row("./oncrpc", is_answer(got, 5, output(b"unproved", b""), UNPROVED % b"" + b"unproved fault\n", 0), got)
+    tree.write("closed", "exec ./oncrpc show 2>&-\n")
+    got = tree.run("sh closed")
+    yield row("./oncrpc show 2>&-", is_answer(got, 5, output(b"unproved", b"show"), b"", 0), got)
     for name in (b"info", b"serve"):
         got = tree.run(f"./oncrpc {name.decode()} 127.0.0.1 111")
         yield row(f"./oncrpc {name.decode()} of no proved program", is_answer(got, 3, b"", SOCKETS % name, 0), got)
