@@ -24,11 +24,12 @@ IN_TURN = rb"oncrpc: the crates are proved in turn, since this toolchain does no
 NEEDED = {
     "rt": b"the Rattle toolchain's command, which proves and builds",
     "python3": b"rt and the scripts of this repository run on it",
+    "sha256sum": b"coreutils' command, which tells whether sources have changed",
     "cc": b"a C compiler, as gcc or clang, links the library",
     "ar": b"binutils' command, which makes the library's archive",
 }
 NEEDS = {
-    "./oncrpc records": ["rt", "python3"],
+    "./oncrpc records": ["rt", "python3", "sha256sum"],
     "./oncrpc prove": ["rt", "python3"],
     "./build-library made": ["rt", "python3", "cc", "ar"],
 }
@@ -63,6 +64,9 @@ def unproved(folder):
     tree.write("closed", "exec ./oncrpc show 2>&-\n")
     got = tree.run("sh closed")
     yield row("./oncrpc show 2>&-", is_answer(got, 5, output(b"unproved", b"show"), b"", 0), got)
+    tree.write("piped", "{ sleep 1; ./oncrpc show; echo $? >status; } | true\n")
+    got = tree.run("sh piped")
+    yield row("./oncrpc show | true", tree.read("status") == "141\n", got)
     for name in (b"info", b"serve"):
         got = tree.run(f"./oncrpc {name.decode()} 127.0.0.1 111")
         yield row(f"./oncrpc {name.decode()} of no proved program", is_answer(got, 3, b"", SOCKETS % name, 0), got)
