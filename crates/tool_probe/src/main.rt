@@ -1,5 +1,5 @@
 //! Hostile use, of memory, devices and bytes: the call that each line of the input asks for is made while reads, writes
-//! or growths of memory fail, and a line tells what it answered. `.ci/hostile` and `bench/fuzz` write such lines and
+//! or growths of memory fail, and a line tells what it answered. `tests/run` and `bench/fuzz` write such lines and
 //! judge what is told. Without a line nothing is called.
 #![tactic(auto)]
 

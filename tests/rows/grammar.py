@@ -1,6 +1,4 @@
 """The tokens of texts, and what the definitions that they spell declare (RFC 4506 section 6, RFC 5531 section 12)."""
-from .rows import Case
-from .written import nested
 
 # A text and its tokens, each with the count of bytes from it to the end.
 TEXT = b"const A_1 = 0x1F; /* * / */ -5 007<Const>\t18446744073709551615/**/-9223372036854775808"
@@ -104,27 +102,3 @@ INSIDE = [
     (b"union switch (struct { int a; } d) { case 1: void; } b;", 21, "NestedTooDeep"),
     (b"union { case 1: void; } b;", 6, "Unexpected"),
 ]
-
-
-def refused(wrong, left):
-    wanted = f"Err(Refused {{ wrong: {wrong}, left: {left} }})"
-    return lambda told: told.answer == wanted
-
-
-def grammar_cases():
-    """Texts and their tokens, and the texts of definitions."""
-    found = f"Ok([{', '.join(TOKENS)}])"
-    yield Case("tokens", text=TEXT), lambda told: told.answer == found
-    for wrong, rows in (("BadNumber", BAD_NUMBERS), ("BadCharacter", BAD_CHARACTERS)):
-        for text, left in rows:
-            yield Case("tokens", text=text), refused(wrong, left)
-    for text, counts in DECLARING:
-        yield Case("outline", text=text), lambda told, wanted=f"Ok({counts})": told.answer == wanted
-    for wrong, rows in (("Unexpected", UNEXPECTED), ("FloatingKind", FLOATING)):
-        for text, rest in rows:
-            yield Case("outline", text=text), refused(wrong, len(rest))
-    # What stands inside the bodies begins at byte 296.
-    for inside, at, wrong in INSIDE:
-        text = nested(inside, 32)
-        yield Case("outline", text=text), refused(wrong, len(text) - 296 - at)
-    yield Case("outline", text=nested(b"int a;", 32)), lambda told: told.answer.startswith("Ok([")

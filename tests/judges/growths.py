@@ -2,10 +2,8 @@
 import itertools
 import re
 
-from .directory import is_registry
-from .messages import message_cases
-from .registry import few_bytes_cases, is_missed, is_not_appended, is_unexchanged, swept_cases
-from .rows import (
+from rows.growths import CHAINED, LENGTHS, MESSAGES, TASKS
+from rows.shared import (
     ASKED,
     ASKED_AFTER,
     BY_RECORD,
@@ -34,8 +32,13 @@ from .rows import (
     marked,
     octets,
     reply,
+    told_after,
     word,
 )
+
+from .directory import is_registry
+from .messages import message_cases
+from .registry import few_bytes_cases, is_missed, is_not_appended, is_unexchanged, swept_cases
 from .running import run
 from .service import port_rows, port_wants_memory
 from .streams import (
@@ -48,7 +51,6 @@ from .streams import (
     records_in,
     replies_to,
     served,
-    told_after,
 )
 from .values import checked, fault_of, fed, records_over, typed
 
@@ -305,32 +307,11 @@ def value_rows():
             yield Case("task", setting=shows + in_hex, **kind), is_well
 
 
-# Tasks that are refused before any input is read or in the midst of a long one, and one of an argument.
-TASKS = [
-    (1, "file", PING, b"", "2", b"", b"no such name: file\n"),
-    (1, "file", b"typedef opaque x[0];", b"", "2", b"", b"declaration refused: 10 (2) at 1:9\n"),
-    (4, "536870912.1.1.1", PING, b"00000002 68690001", "1", b"refused BadPadding at 4\n", b""),
-    (4, "opaque", b"", b"00001194" + b"61" * 4500, "0", b"ok 4504\n", b""),
-]
-
-
 def task_rows():
     for setting, name, text, given, status, output, faults in TASKS:
         wanted = status, [output, faults]
         case = Case("task", setting=setting, name=name, text=text, given=given)
         yield case, lambda told, wanted=wanted: (told.answer, told.streams) == wanted
-
-
-MESSAGES = [
-    (
-        "call",
-        "00000001 00000000 00000002 000186a0 00000002 00000000 00000001 0000001c 00000000 00000003 626f7800 000003e8 "
-        "00000064 00000001 00000064 00000000 00000000 0000002a",
-    ),
-    ("reply", "00000001 00000001 00000000 00000002 00000001 61000000 00000000 0000002a"),
-    ("reply", "00000001 00000001 00000001 00000001 00000063"),
-    ("credential", "00000000 00000003 626f7800 000003e8 00000064 00000001 00000064"),
-]
 
 
 def message_rows():
@@ -406,12 +387,6 @@ def room_cases(heap):
         growths = first + len(case.given) // len(marked(NULL)) - 1
         yield case, lambda told, growths=growths: told.met == growths > 0
     yield from few_bytes_cases()
-
-
-# A type with parts of its own, and lengths of a chain of them, under some of which a block of the nodes at work is
-# full.
-CHAINED = b"struct t { t parts<>; };"
-LENGTHS = range(1, 64)
 
 
 def chain(length, leaves):

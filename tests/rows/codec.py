@@ -1,10 +1,6 @@
 """Values by each call of the codec and the lines that show them, bytes that are refused, and the parts that are lent of
 bytes (RFC 4506): rows as they stand, in pieces."""
-import itertools
-
-from .growths import decoded_well, joined_well
-from .rows import Case, FILE, LIST, MORE, PIECES, Refused, SILLYPROG, WHOLE, WIDEST, Whole, content, octets, word
-from .values import cut_well, fed, typed
+from .shared import FILE, LIST, MORE, SILLYPROG, WIDEST, content, word
 
 # Texts of one kind each, and more.
 ALIKE = b"enum alike { a = 5, b = 5 };"
@@ -193,126 +189,8 @@ LENT = [
         ],
     ),
 ]
-
-
-def behind_so(row):
-    """What a decoder and a checker answer to a value, to nothing and to a byte behind it, and to the end."""
-    given, cuts = octets(row.digits)[: row.used] + b"\7", (row.used, row.used)
-    wanted = cut_well(given, cuts, row, None)
-    yield Case("cut", cuts, given=given, **typed(row)), lambda told: told.answer == wanted
-
-
-def coded_so(row):
-    """A value by each call: decoded, whole and in pieces, lent, encoded and copied."""
-    given = octets(row.digits)[: row.used]
-    kind = {"given": given, **typed(row)}
-    yield Case("decode", **kind), decoded_well(row)
-    yield Case("parts", **kind), joined_well(row, given)
-    for engine, piece in itertools.product(("decoder", "checker"), PIECES):
-        yield Case(engine, (piece, 0), **kind), fed(row, given, piece, engine == "checker")
-    yield Case("encode", **kind), lambda told: (told.answer, told.streams) == ('"Ok"', [given])
-    taken = f"Ok({row.used})", [given]
-    yield Case("encode_to", writes=(3, 0), **kind), lambda told: (told.answer, told.streams) == taken
-    yield Case("copy", **kind), lambda told: told.answer == "true"
-
-
-def coded_cases():
-    for text, name, digits, value in CODED:
-        row = Whole(text, name, digits, len(octets(digits)), None, value)
-        yield from coded_so(row)
-        yield from behind_so(row)
-    for row in WHOLE:
-        yield from behind_so(row)
-    # A number of as many bytes as the limit, with one behind.
-    case = Case("decode", name="int", given=octets("00000005 09"), depth=1, bytes=4)
-    yield case, lambda told: told.answer == "Ok((Int(5), 4))"
-
-
-def refusal(text, name, digits, why, at, depth=4096, most=WIDEST):
-    """The row of a refusal. It stands once its unit is whole, for want of depth or of bytes before that, and never
-    where the bytes only end too early."""
-    stands = {"TooDeep": at, "TooLarge": at, "Truncated": len(octets(digits)) + 1}.get(why, at + 4)
-    return Refused(text, name, digits, most, why, at, stands, depth)
-
-
-def refused_value_cases():
-    rows = [refusal(*row) for row in WIDE]
-    rows += [refusal(*row, depth, most) for depth, most, *row in LIMITED]
-    for row in rows:
-        given = octets(row.digits)
-        kind = {"given": given, **typed(row)}
-        yield Case("decode", **kind), decoded_well(row)
-        yield Case("parts", **kind), joined_well(row, given)
-        for engine, piece in itertools.product(("decoder", "checker"), PIECES):
-            yield Case(engine, (piece, 0), **kind), fed(row, given, piece, engine == "checker")
-
-
-def shown_so(text, name, digits, lines):
-    """The lines of the value that the bytes encode, and of their digits, which are hexadecimal."""
-    given, kind = octets(digits), {"name": name, "text": text}
-    yield Case("show", given=given, **kind), lambda told: (told.answer, told.streams) == ('"Ok"', [lines])
-    printed = "0", [lines + b"ok %d\n" % len(given), b""]
-    case = Case("task", setting=5, given=digits.encode(), **kind)
-    yield case, lambda told: (told.answer, told.streams) == printed
-
-
-def shown_cases():
-    for row in SHOWN:
-        yield from shown_so(*row)
-    letters = "00010000" + "61" * 65536
-    yield from shown_so(b"", "string", letters, b'"' + b"a" * 65536 + b'"\n')
-    yield from shown_so(b"", "opaque", letters, b"0x" + b"61" * 65536 + b"\n")
-    yield from shown_so(MORE, "big", "000186a0" + "00000007" * 100000, b"list of 100000\n" + b"  7\n" * 100000)
-    # Each level is indented by two spaces more than the one before it.
-    lines = b"".join(b"  " * level + b"present\n" for level in range(4095)) + b"  " * 4095 + b"absent\n"
-    case = Case("show", name="nest", text=NEST, given=word(1) * 4095 + word(0))
-    yield case, lambda told: (told.answer, told.streams) == ('"Ok"', [lines])
-
-
-def part(at, depth, place, name, role, content_of):
-    """What is told of a part."""
-    kind = f"KindId {{ place: {place} }}"
-    return f'Lent {{ at: {at}, depth: {depth}, kind: {kind}, name: "{name}", role: {role}, bytes: {list(content_of)} }}'
-
-
-def lent_cases():
-    for text, name, digits, parts in LENT:
-        wanted = f"Ok([{', '.join(part(*each) for each in parts)}])"
-        case = Case("parts", name=name, text=text, given=octets(digits))
-        yield case, lambda told, wanted=wanted: told.answer == wanted
-
-
 # The numbers below 524288, a unit each, as content of two mebibytes; and those below 100,000 as items.
 UNITS = b"".join(map(word, range(524288)))
 CONTENT, CONTENT_VALUE = word(2097152) + UNITS, content(UNITS)
 ITEMS = word(100000) + UNITS[:400000]
 ITEMS_VALUE = "List([" + ", ".join(f"Int({number})" for number in range(100000)) + "])"
-
-
-def long_value_cases():
-    """Long values, encoded, decoded and copied."""
-    letters = b"a" * 65536
-    for text, name, given, value in (
-        (b"", "opaque", CONTENT, CONTENT_VALUE),
-        (b"", "opaque", word(65536) + letters, content(letters)),
-        (MORE, "big", ITEMS, ITEMS_VALUE),
-    ):
-        kind = {"name": name, "text": text, "given": given}
-        decoded = f"Ok(({value}, {len(given)}))"
-        yield Case("decode", **kind), lambda told, decoded=decoded: told.answer == decoded
-        encoded = '"Ok"', [given]
-        yield Case("encode", **kind), lambda told, encoded=encoded: (told.answer, told.streams) == encoded
-        yield Case("copy", **kind), lambda told: told.answer == "true"
-
-
-def handed_cases():
-    """What is decoded in pieces is handed out at the end without a growth."""
-    row = Whole(b"", "opaque", CONTENT.hex(), len(CONTENT), None, CONTENT_VALUE)
-    is_well = fed(row, CONTENT, 65536, False)
-    yield Case("decoder", (65536, 0), name="opaque", given=CONTENT), lambda told: told.met > 0 and is_well(told)
-
-
-def few_growths_cases():
-    """The parts of 4000 numbers take as many growths as powers of two are filled, and one for a frame."""
-    case = Case("parts", name="big", text=MORE, given=word(4000) + b"abcd" * 4000)
-    yield case, lambda told: told.answer.count("Lent {") == 4001 and 0 < told.met <= 14

@@ -1,6 +1,6 @@
 """A reply that rpcbind sent in three fragments: its answer to DUMP of version 2 with 1000 rows more, as it stood on the
 wire of a TCP connection."""
-from .rows import octets
+from .shared import octets
 
 DUMP = octets(
     """

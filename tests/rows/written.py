@@ -1,18 +1,11 @@
 """Rows that are run as they stand, by all that is told of each: streams that are served, answers that are printed,
 tasks of the program, and texts of declarations. A row has what the RFCs or the documents want of it."""
-import itertools
-import re
-
-from .large import refused_text
-from .rows import (
+from .shared import (
     AT_9,
-    Case,
     FILE,
     LIST,
-    NULL,
     OWNER,
     OWN_ROWS,
-    PIECES,
     PING,
     SILLYPROG,
     SILLYPROG_LINES,
@@ -22,7 +15,6 @@ from .rows import (
     marked,
     octets,
     reply,
-    word,
 )
 
 # A row that user 1001 sets, 1000 cannot remove, and the superuser removes once; and the checks in their order, with a
@@ -62,30 +54,6 @@ SERVED_SO = [
         (call(4, 1, f"00001388 00000001 00000040 {'74' * 64} {LONG_TEXT} 00000000"), reply("00000000 00000001")),
     ],
 ]
-
-
-def served_cases():
-    """Streams of calls, each with the reply to it."""
-    for rows, piece in itertools.product(SERVED_SO, PIECES):
-        given = b"".join(marked(record) for record, _ in rows)
-        sent = b"".join(marked(reply) for _, reply in rows)
-        wanted = f"Ok(Served {{ records: {len(rows)}, replies: {len(rows)} }})", sent
-        case = Case("serve", (piece, 0), given=given)
-        yield case, lambda told, wanted=wanted: (told.answer, told.streams[0]) == wanted
-    # A record has at most 65536 bytes; behind the arguments of the null call any bytes are ignored.
-    for count, wanted in (
-        (65536, ("Ok(Served { records: 1, replies: 1 })", marked(reply("00000000")))),
-        (65537, ("Err(Record(TooLong { at: 0 }))", b"")),
-    ):
-        case = Case("serve", given=marked(NULL.ljust(count, b"\xff")))
-        yield case, lambda told, wanted=wanted: (told.answer, told.streams[0]) == wanted
-    # So have arguments: 36 bytes stand before the owner's.
-    for owner, sent in ((65500, "00000000 00000001"), (65504, "00000004")):
-        args = f"00000007 00000001 00000003 74637000 {AT_9} {owner:08x}" + "61" * owner
-        wanted = f"Reply({list(reply(sent))})"
-        yield Case("answer", given=call(3, 1, args)), lambda told, wanted=wanted: told.answer == wanted
-
-
 # What comes for a call for all rows, by its version, the status and what is printed. The rows are the registry's own
 # and one more; and one whose texts are `a"b`, a backslash and a line feed, and none, with a byte behind that is left
 # out.
@@ -135,17 +103,6 @@ REFUSED_ANSWERS = [
     (ACCEPTED + "00000000", b"Truncated at 0"),
     (ACCEPTED + "00000000 00000001 00000001 00000001 00000001 61000001", b"BadPadding at 16"),
 ]
-
-
-def asked_cases():
-    """What is printed of an answer, and the call that was sent for it."""
-    rows = ANSWERS + [(4, marked(octets(digits)), 1, b"refused %s\n" % why) for digits, why in REFUSED_ANSWERS]
-    for (vers, given, status, printed), piece in itertools.product(rows, PIECES):
-        wanted = str(status), [marked(call(vers, 4, "")), printed, b""]
-        case = Case("info", (piece, 0), (piece, 0), setting=vers, given=given)
-        yield case, lambda told, wanted=wanted: (told.answer, told.streams) == wanted
-
-
 CHECK, SHOW, RECORDS, HEX = 0, 1, 2, 4
 UNION = b"union u switch (int n) { case 1: int x; };"
 PROGRAMS = b"""typedef int three[3];
@@ -273,52 +230,6 @@ READS = [
     (1048568, 1, 0, b"\x80\0\0\0", b""),
     (1048576, 1, 3, b"", b"too many reads\n"),
 ]
-
-
-def bodies(depth):
-    """A structure of so many bodies inside one another: the brace of the 33rd is the 298th byte."""
-    return b"struct a { " + b"struct { " * (depth - 1) + b"int x; " + b"} x; " * (depth - 1) + b"};"
-
-
-def task_rows():
-    """Tasks, each with its status, what it prints and what it says of faults."""
-    for (task, text, name, given, status, printed), piece in itertools.product(VALUES, PIECES):
-        case = Case("task", (piece, 0), (piece, 0), setting=task + HEX, name=name, text=text, given=given)
-        yield case, status, printed, b""
-    limited = Case("task", setting=HEX, name="opaque", given=b"00000008 61616161", bytes=8)
-    yield limited, 1, b"refused TooLarge at 8\n", b""
-    for task, name, byte, count, line in (
-        (CHECK, "opaque", b" ", 1048576, b"refused Truncated at 0\n"),
-        (CHECK, "opaque", b"x", 1048577, b"refused hex too long\n"),
-        (SHOW, "string", b" ", 1048577, b"refused hex too long\n"),
-    ):
-        yield Case("task", setting=task + HEX, name=name, given=byte * count), 1, line, b""
-    for text, fault in TEXTS:
-        case = Case("task", (4096, 1), (4096, 1), setting=HEX, name="nosuchkind", text=text, bytes=6)
-        yield case, 2, b"", b"declaration refused: %s\n" % fault
-    for (limit, in_hex, given, *ending), piece in itertools.product(STREAMS, PIECES):
-        yield Case("task", (piece, 0), (piece, 0), setting=RECORDS + in_hex + 8 * limit, given=given), *ending
-    for name, given, piece, failing, *ending in STOPS:
-        yield Case("task", (piece, failing), setting=CHECK, name=name, given=given), *ending
-    for most, failing, *ending in BYTES:
-        given = b"\0\0\0\x04abcd\0\0\0\0"
-        yield Case("task", (1, failing), setting=CHECK, name="opaque", given=given, bytes=most), *ending
-    for count, depth, status, line in DEPTHS:
-        given = (word(1) + word(0)) * count + word(0)
-        yield Case("task", setting=CHECK, name="list", text=LIST, given=given, depth=depth), status, line, b""
-    for depth, *ending in ((32, 0, b"ok 4\n", b""), (33, 2, b"", b"declaration refused: 12 at 1:298\n")):
-        yield Case("task", setting=CHECK, name="a", text=bodies(depth), given=bytes(4)), *ending
-    for zeros, piece, *ending in READS:
-        case = Case("task", (piece, 0), (piece, 0), setting=RECORDS + 8 * 4, zeros=zeros, given=b"\x80\0\0\0")
-        yield case, *ending
-
-
-def task_cases():
-    for case, status, printed, said in task_rows():
-        wanted = str(status), [printed, said]
-        yield case, lambda told, wanted=wanted: (told.answer, told.streams) == wanted
-
-
 # What stands inside bodies of structures, how many of them there are, and the number, inner number, line and column of
 # the fault, none where the text is read. A body in the switch declaration of a union is inside the union's (RFC 4506
 # section 6.3).
@@ -353,45 +264,3 @@ NESTED = [
     (b"unsigned struct { int a; } b;", 32, (3, 0, 1, 306)),
     (b"struct float b;", 32, (3, 0, 1, 304)),
 ]
-
-
-def nested(inside, depth):
-    return b"typedef " + b"struct { " * depth + inside + b" } x;" * depth
-
-
-def is_read(told):
-    return told.answer.startswith("Ok(Declared")
-
-
-def same_answers():
-    """Whether the first of two texts is read, and the second means the same."""
-    first = []
-
-    def is_same(told):
-        first.append(told.answer)
-        return is_read(told) and told.answer == first[0]
-
-    return is_same
-
-
-def has_each_number(told):
-    """Whether the names n, n1 and so on are declared as constants, each with its number, and all below 10,000."""
-    constants = told.answer.partition("constants: [")[2].partition("]")[0]
-    return re.findall(r'\("n(\d*)", (\d+)\)', constants) == [(str(n or ""), str(n)) for n in range(10000)]
-
-
-def declaration_cases():
-    """Texts that are long or nested, and what they declare."""
-    yield Case("declarations", text=b"@" * 262145), refused_text(11, 0, 1, 1)
-    for inside, depth, fault in NESTED:
-        yield Case("declarations", text=nested(inside, depth)), refused_text(*fault) if fault else is_read
-    # Inside 32 bodies `struct s` is what `s` is, and no body.
-    is_same = same_answers()
-    for field in (b"struct s y;", b"s y;"):
-        yield Case("declarations", text=nested(field, 32) + b" struct s { int x; };"), is_same
-    for name, before, after in (
-        (b", n%d = %d", b"enum e { n = 0", b" };"),
-        (b"; const n%d = %d", b"const n = 0", b";"),
-    ):
-        text = before + b"".join(name % (number, number) for number in range(1, 10000)) + after
-        yield Case("declarations", text=text), has_each_number

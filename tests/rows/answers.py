@@ -1,6 +1,6 @@
 """Records to the registry at port 111, one after another, each with the reply to it (RFC 5531 section 9, RFC 1833
 sections 2 and 3)."""
-from .rows import Case, PIECES, marked, octets, reply, word
+from .shared import octets, reply, word
 
 NOBODY = "00000000 00000000"
 ROOT, USER_1000, USER_1001, GREATEST_USER = (
@@ -461,18 +461,3 @@ CAPTURED = [
     ),
 ]
 TABLES = [NULLS, OTHERS, CHECKS, DENIALS, PORTS, OWNERS, PORT_OWNERS, CAPTURED]
-
-
-def table_cases():
-    """Each record, behind those before it in its table, alone and in a stream."""
-    for table in TABLES:
-        before = b""
-        for record, sent in table:
-            wanted = "Silent" if sent is None else f"Reply({list(sent)})"
-            yield Case("answer", given=record, before=before), lambda told, wanted=wanted: told.answer == wanted
-            before += marked(record)
-        replies = [sent for _, sent in table if sent is not None]
-        wanted = f"Ok(Served {{ records: {len(table)}, replies: {len(replies)} }})", b"".join(map(marked, replies))
-        for piece in PIECES:
-            case = Case("serve", (piece, 0), given=before)
-            yield case, lambda told, wanted=wanted: (told.answer, told.streams[0]) == wanted

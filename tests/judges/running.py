@@ -3,10 +3,10 @@ import collections
 import os
 import subprocess
 
-from .rows import octets
+from rows.shared import octets
 
 ROOT = os.path.dirname(os.path.dirname(os.path.dirname(os.path.realpath(__file__))))
-PROGRAM = os.environ.get("HOSTILE", f"{ROOT}/crates/tool_probe/out/tool_probe")
+PROGRAM = os.environ.get("PROBE", f"{ROOT}/crates/tool_probe/out/tool_probe")
 # How many streams an engine's line tells at its end.
 STREAMS_OF = {"normalise": 1, "reader": 1, "task": 2, "info": 3, "connections": 3, "serve": 2, "answer": 1}
 STREAMS_OF.update(datagrams=3, asking=3, exchange=1, encode_to=1, encode=1, show=1, mark=1)

@@ -1,7 +1,8 @@
 """Rows written out, large and deep inputs, and lengths that are only declared."""
 import itertools
 
-from .rows import (
+from rows.large import MANY, NULL_REPLY, WIDE
+from rows.shared import (
     ASKED_AFTER,
     Case,
     LIST,
@@ -16,14 +17,13 @@ from .rows import (
     call,
     marked,
     octets,
+    told_after,
     word,
 )
-from .streams import handed_out, normalised, told_after
-from .values import checked, fault_of, fed, typed
-from .growths import decoded_well, joined_well
 
-NULL_REPLY = octets("80000018 00000001 00000001 00000000 00000000 00000000 00000000")
-MANY = b"typedef int many[300000];"
+from .growths import decoded_well, joined_well
+from .streams import handed_out, normalised
+from .values import checked, fault_of, fed, typed
 
 
 def literal_cases():
@@ -146,9 +146,6 @@ def deep_cases():
         yield Case(engine, **kind), lambda told, wanted=wanted: (told.answer, told.streams) == wanted
     yield Case("copy", **kind), lambda told: told.answer == "true"
     yield Case("encode_to", writes=(1, 0), **kind), lambda told: (told.answer, told.streams) == ("Ok(16380)", [given])
-
-
-WIDE = b"struct s { s *next; " + b"".join(b"int a%d; " % number for number in range(1000)) + b"}; typedef s *wide;"
 
 
 def declared_cases():

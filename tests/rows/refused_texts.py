@@ -1,9 +1,5 @@
 """Texts of declarations that are refused, each with its fault: its number (docs/LANGUAGE.md), the schema's number or 0,
 and the line and the column of its place (RFC 4506 section 6, RFC 5531 section 12)."""
-import itertools
-
-from .large import refused_text
-from .rows import Case
 
 # A text, and the number, the schema's number, the line and the column.
 # Bytes that begin no token, and comments that do not end (RFC 4506 section 6.2).
@@ -444,9 +440,3 @@ TABLES = [
     LATER_FAULTS,
     LEFT_OUT,
 ]
-
-
-def refused_text_cases():
-    """Each text is refused with its fault."""
-    for text, *fault in itertools.chain.from_iterable(TABLES):
-        yield Case("declarations", text=text), refused_text(*fault)

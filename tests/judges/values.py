@@ -2,7 +2,8 @@
 import itertools
 import re
 
-from .rows import Case, PENDING, PIECES, REFUSED, Refused, STREAMS, WHOLE, WIDEST, octets, word
+from rows.shared import Case, PENDING, PIECES, REFUSED, Refused, STREAMS, WHOLE, WIDEST, octets, word
+
 from .streams import ended, failures, is_cut_well, is_printed_well, is_too_long, normal_form, records_in, seen_by
 
 

@@ -1,12 +1,9 @@
 """The registry over datagrams, with many rows, and with replies behind bytes that stand there; the rows of these whose
 growths are refused in turn; and calls exchanged for replies over datagrams."""
-import re
-
 from .answers import NOBODY, ROOT, USER_1001, called
-from .rows import (
+from .shared import (
     ASKED_AFTER,
     AT_9,
-    Case,
     DUMP,
     GETPORT,
     NO_AUTH,
@@ -20,9 +17,9 @@ from .rows import (
     marked,
     octets,
     reply,
+    told_after,
     word,
 )
-from .streams import told_after
 
 UDP = 17
 NULL_REPLY, IS_SET, PORT = reply("00000000"), reply("00000000 00000001"), reply("00000000 00000801")
@@ -101,19 +98,6 @@ APPENDED = [
 ]
 
 
-def append_cases():
-    for front, before, record, answer, behind in APPENDED:
-        wanted = answer, [behind, marked(WITH_7)]
-        case = Case("append", text=front, given=record, before=before, after=marked(DUMP_3))
-        yield case, lambda told, wanted=wanted: (told.answer, told.streams) == wanted
-
-
-def is_not_appended(told, case):
-    """Whether want of memory is told, and what stood there and the rows are as they were."""
-    rows = WITH_7 if case.before else WITHOUT_7
-    return (told.answer, told.streams) == ("OutOfMemory { xid: 1 }", [case.text, marked(rows)])
-
-
 def done(records, replies):
     return f"Ok(Served {{ records: {records}, replies: {replies} }})"
 
@@ -148,35 +132,6 @@ DATAGRAMS = [
     ([SET, GETPORT], (1, 1), 2, (no_send(0), done(1, 1)), [PORT], True),
     ([SET], (1, 0), 1, (no_receive(0), NONE), [], False),
 ]
-
-
-def behind_lengths(datagrams):
-    return b"".join(word(len(each)) + each for each in datagrams)
-
-
-def sent_so(answers, sent, after):
-    """Whether both runs answer so, and these datagrams are sent and no others."""
-
-    def is_well(told):
-        sizes = re.escape(str([len(each) for each in sent]))
-        is_told = re.fullmatch(rf"\({re.escape(', '.join(answers))}, \d+, {sizes}\)", told.answer)
-        return bool(is_told) and told.streams == [b"".join(sent), after]
-
-    return is_well
-
-
-def datagram_cases():
-    for waiting, (first, second), failing, answers, sent, has_row in DATAGRAMS:
-        case = Case(
-            "serve_datagrams",
-            (4096, failing),
-            setting=first + 256 * second,
-            given=behind_lengths(waiting),
-            after=ASKED_AFTER,
-        )
-        yield case, sent_so(answers, sent, told_after(has_row))
-
-
 # Rows over datagrams whose growths are refused: what was served before, the datagrams, the reply, what is asked
 # afterwards, and what it tells then and where the one call was missed. The last is of a registry of 306 rows: a DUMP
 # afterwards tells all as they were.
@@ -190,31 +145,6 @@ REFUSED_TO = [
     (b"", [GETPORT], NO_PORT, marked(GETPORT), marked(NO_PORT), marked(NO_PORT)),
     (CROWD, [SET], IS_SET, marked(DUMP), marked(dumped(OWN, ports_of(300), ROW)), marked(KEPT)),
 ]
-
-
-def refused_datagrams():
-    """These rows, each with its judge where nothing is refused."""
-    for before, waiting, sent, asked, told, _ in REFUSED_TO:
-        given = behind_lengths(waiting)
-        case = Case("serve_datagrams", setting=len(waiting), given=given, before=before, after=asked)
-        yield case, sent_so((done(len(waiting), 1), NONE), [sent], told)
-
-
-def is_missed(told, case):
-    """Whether SYSTEM_ERR is sent for the call, and the rows are as they were."""
-    for before, waiting, _, asked, _, kept in REFUSED_TO:
-        if (before, behind_lengths(waiting), asked) == (case.before, case.given, case.after):
-            return sent_so((done(len(waiting), 1), NONE), [SYSTEM_ERR], kept)(told)
-    return False
-
-
-def few_bytes_cases():
-    """A reply of 24 or 28 bytes wants a room of its own size, which may be doubled once; a datagram may have 65507."""
-    for datagram in (NULL, GETPORT):
-        case = Case("serve_datagrams", setting=1, given=behind_lengths([datagram]))
-        yield case, lambda told: 0 < int(told.answer.split(", ")[-2]) <= 128
-
-
 NULL_TOLD = f"Ok(Accepted {{ xid: 1, verf: {NO_AUTH}, status: Success([]) }})"
 PORT_TOLD = f"Ok(Accepted {{ xid: 1, verf: {NO_AUTH}, status: Success([0, 0, 8, 1]) }})"
 # The datagram that comes for the null call, if one does, the send or receive that fails, and what is told; the call is
@@ -236,38 +166,3 @@ EXCHANGED = [
     (NULL_REPLY, 3, NULL_TOLD),
     (None, 0, "Err(Read)"),
 ]
-
-
-def exchange_cases():
-    for datagram, failing, answer in EXCHANGED:
-        given = b"" if datagram is None else behind_lengths([datagram])
-        wanted = (f"({answer}, [])", [b""]) if failing == 1 else (f"({answer}, [40])", [NULL])
-        case = Case("exchange_datagram", (4096, failing), given=given)
-        yield case, lambda told, wanted=wanted: (told.answer, told.streams) == wanted
-
-
-def is_unexchanged(told):
-    """Whether want of memory is told, and the call was sent or not."""
-    wanted = ("(Err(NoMemory), [])", [b""]), ("(Err(NoMemory), [40])", [NULL])
-    return (told.answer, told.streams) in wanted
-
-
-def dump_cases():
-    for record, sent in OVER_UDP:
-        case = Case("answer", setting=UDP, given=record, before=marked(SET))
-        yield case, lambda told, wanted=f"Reply({list(sent)})": told.answer == wanted
-    for before, vers, transport, sent in DUMPS:
-        case = Case("answer", setting=transport, given=call(vers, 4, ""), before=before)
-        yield case, lambda told, wanted=f"Reply({list(sent)})": told.answer == wanted
-
-
-def swept_cases():
-    """Rows whose growths are refused in turn."""
-    for cases in (append_cases, refused_datagrams, exchange_cases):
-        yield from cases()
-
-
-def registry_cases():
-    """Datagrams, many rows, and replies behind what stands there."""
-    for cases in (dump_cases, append_cases, datagram_cases, refused_datagrams, exchange_cases):
-        yield from cases()

@@ -1,80 +1,8 @@
 """Tasks of the program, by all that is told of each: names that are refused, files of declarations, streams that are
 closed, and inputs and outputs of many bytes."""
-from .rows import Case, LIST, PING, WIDEST, octets
-from .written import CHECK, HEX, RECORDS, SHOW
-
-# No file of declarations is named; another than `a.x` is; the read that fails is one of the declarations; and the write
-# that fails is one of faults.
-BASIC, NAMED, OF_TEXT, OF_FAULTS = 8, 16, 32, 64
-# Names of no kind of PING, of its arguments and of its results (RFC 5531 section 12.3).
-UNKNOWN = [
-    "536870912.1.0.result",
-    "536870912.1.0.1",
-    "536870912.1.1.0",
-    "536870912.1.1.2",
-    "536870912.1.1.01",
-    "0536870912.1.1.1",
-    "536870912.01.1.1",
-    "536870912.1.01.1",
-    "536870912.1.1.4294967296",
-    "536870912.1.1.4294967297",
-    "4831838208.1.1.1",
-    "536870912.4294967297.1.1",
-    "536870912.1.2.1",
-    "536870912.2.1.1",
-    "536870911.1.1.1",
-    "536870912.1.1",
-    "536870912.1.1.",
-    "536870912.1.1.1.",
-    "536870912.1.1.1.1",
-    "536870912..1.1",
-    ".1.1.1",
-    "+536870912.1.1.1",
-    "536870912.1.1.+1",
-    "536870912.1.1.-1",
-    "536870912.1.1.Result",
-    "536870912.1.1.results",
-    " 536870912.1.1.1",
-    "536870912.1.1.1 ",
-    "0x20000000.1.1.1",
-    "PING",
-    "ECHO",
-    "void",
-    "",
-]
-# The name comes before the limits, and both before the input: whether PING is declared, a name, the limit on bytes, and
-# what is said.
-ORDER = [
-    (0, "list", 6, b"no such name: list\n"),
-    (0, "536870912.1.1.1", 6, b"limits refused\n"),
-    (0, "int", 0, b"limits refused\n"),
-    (BASIC, "void", WIDEST, b"no such name: void\n"),
-    (BASIC, "int", 6, b"limits refused\n"),
-    (BASIC, "void", 6, b"no such name: void\n"),
-    (BASIC, "", 4, b"no such name: \n"),
-    (BASIC, "536870912.1.1.1", 4, b"no such name: 536870912.1.1.1\n"),
-    (BASIC, "int", WIDEST + 4, b"limits refused\n"),
-]
-# A byte of declarations, how many of them there are, how many are read at once, the read of them that fails, and how a
-# check of four bytes ends. The 262145th byte is the last that is read.
-INT, TOO_LONG, UNREAD = (0, b"ok 4\n", b""), (2, b"", b"declaration refused: 11 at 1:1\n"), (3, b"", b"read fault\n")
-LONG_TEXTS = [
-    (b" ", 262144, 4096, 0, INT),
-    (b" ", 262145, 4096, 0, TOO_LONG),
-    (b"x", 400000, 1, 262146, TOO_LONG),
-]
-# What is done without declarations, whose first read would fail, the name, the input as hexadecimal, and how it ends.
-UNOPENED = [
-    (SHOW, "list", b"", (2, b"", b"no such name: list\n")),
-    (CHECK, "int", b"00000000", INT),
-]
-# The input of up to five bytes, the status and what is printed.
-FIVE = [
-    ("00000003 61626300", 0, b"ok 8\n"),
-    ("00000003 61626301", 1, b"refused BadPadding at 4\n"),
-    ("00000006", 1, b"refused TooLong at 0\n"),
-    ("00000001 61000000 62", 0, b"ok 8, more follows\n"),
-]
+from rows.shared import Case, LIST, PING, octets
+from rows.tasks import BASIC, FIVE, LONG_TEXTS, NAMED, OF_FAULTS, OF_TEXT, ORDER, UNKNOWN, UNOPENED, UNREAD
+from rows.written import CHECK, HEX, RECORDS, SHOW
 
 
 def named(setting, name, reads=(4096, 0), **others):

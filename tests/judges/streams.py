@@ -2,7 +2,7 @@
 import collections
 import itertools
 
-from .rows import (
+from rows.shared import (
     ASKED,
     ASKED_AFTER,
     BY_RECORD,
@@ -16,8 +16,10 @@ from .rows import (
     call,
     marked,
     octets,
+    told_after,
     word,
 )
+
 from .running import Told
 
 
@@ -159,10 +161,6 @@ def served(given, reads, writes):
         return is_cut_well(told.answer, written, whole, parts, writes) and after == told_after(has_row)
 
     return is_well
-
-
-def told_after(has_row):
-    return b"".join(marked(each) for each in replies_to(records_in(ASKED_AFTER, 65536)[0], has_row)[0])
 
 
 def serve_cases():

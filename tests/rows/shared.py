@@ -231,6 +231,13 @@ TAKING = [
     call(3, 4, ""),
 ]
 ASKED_AFTER = marked(GETPORT) + marked(DUMP)
+
+
+def told_after(has_row):
+    """What is replied to that without and with the row."""
+    return b"".join(marked(BY_RECORD[record][1 + has_row]) for record in (GETPORT, DUMP))
+
+
 # Streams for the registry: the null call in two fragments, twice too; a row that is set, found, told and removed, with
 # calls that are refused and one that is silence between; and one whose second record is too long.
 SERVED = [
