@@ -7,10 +7,9 @@ pub mod Places
 pub mod Readers
 pub mod Counting
 pub mod Sending
-pub mod Passing
 pub mod Gathering
-pub mod Progress
 pub mod Exact
 pub mod Long
 pub mod Told
 pub mod Singles
+pub mod Streaming

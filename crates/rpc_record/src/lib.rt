@@ -11,6 +11,7 @@ mod place;
 mod reader;
 mod single;
 mod steps;
+mod stream;
 
 pub use fault::{Count, RecordFault, RecordStep};
 pub use header::last_header;
@@ -20,4 +21,5 @@ pub use laws::{
 pub use marks::{mark, write_marked};
 pub use normal::normalise;
 pub use reader::RecordReader;
+pub use stream::RecordStream;
 pub use xdr_units::NoMemory;

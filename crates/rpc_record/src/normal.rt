@@ -1,91 +1,13 @@
 //! The normal form of a stream of records.
-ghost use Rattle.std.specs.Prelude.{◌≡◌, ◌≢◌, ◌≤◌, ℕ, List, [], IfOk, IfErr, OnOk, OnErr, IsErrOf};
+ghost use Rattle.std.specs.Prelude.{◌≢◌, ◌≤◌, IfOk, IfErr, OnOk, IsErrOf};
 ghost use Rattle.xdr_io.specs.Told.{Counts, CountsAtMost};
-ghost use Rattle.rpc_record.specs.Stands.{Stands, IsTaking, IsWaiting, limit_of};
 ghost use Rattle.rpc_record.specs.Normalised.{Normalised, Stops, WriteFails};
-ghost use Rattle.rpc_record.specs.Private.Passing.{Gathers, Lost, Passed, CutBy};
 
-use super::fault::{Count, RecordFault, RecordStep};
-use super::header::last_header;
+use super::fault::{Count, RecordFault};
 use super::outbox::Outbox;
-use super::reader::RecordReader;
+use super::stream::RecordStream;
 use std::alloc::Global;
-use xdr_io::{MOST_READS, ReadFault, Sink, Source};
-
-/// Hands the record that waits to the outbox.
-fn write_next<W: Sink>(
-    records: &mut RecordReader,
-    outbox: &mut Outbox,
-    writer: &mut W,
-) -> Result<(), RecordFault>
-    requires waiting { IsWaiting records.old }
-    requires limit { limit_of records.old ≤ 2147483647 }
-    requires stands { (bytes : List ℕ) × ((rs : List (List ℕ)) × Stands records.old bytes rs) }
-    ensures ok { OnOk result
-        (Gathers records.old records.new outbox.old outbox.new [] (W.taken writer.old) (W.taken writer.new)) }
-    ensures cut { IfErr result (λ f. Lost records.old outbox.old [] (W.taken writer.old) (W.taken writer.new) f) }
-    ensures none_failed { OnOk result (Counts 0 (W.failures writer.old) (W.failures writer.new)) }
-    ensures one_failed { OnErr result (Counts 1 (W.failures writer.old) (W.failures writer.new)) }
-{
-    let Some(content) = records.take() else {
-        return Ok(());
-    };
-    let header = last_header(content.len() as u32);
-    match outbox.put(writer, &header) {
-        Ok(()) => {}
-        Err(fault) => return Err(fault),
-    }
-    match outbox.put(writer, &content) {
-        Ok(()) => {
-            outbox.count.records = outbox.count.records.saturating_add(1);
-            Ok(())
-        }
-        Err(fault) => Err(fault),
-    }
-}
-
-/// Feeds a piece, and writes the records that are whole now.
-fn pass_on<W: Sink>(
-    records: &mut RecordReader,
-    outbox: &mut Outbox,
-    writer: &mut W,
-    piece: &[u8],
-) -> Result<(), RecordFault>
-    requires taking { IsTaking records.old }
-    requires limit { limit_of records.old ≤ 2147483647 }
-    requires stands { (bytes : List ℕ) × ((rs : List (List ℕ)) × Stands records.old bytes rs) }
-    requires empty { outbox.old.used ≡ 0 }
-    ensures ok { OnOk result (Passed records.old records.new outbox.old.count outbox.new.count piece.now
-        (W.taken writer.old) (W.taken writer.new)) }
-    ensures empty { OnOk result (outbox.new.used ≡ 0) }
-    ensures cut { IfErr result
-        (λ f. CutBy records.old outbox.old.count piece.now (W.taken writer.old) (W.taken writer.new) f) }
-    ensures none_failed { OnOk result (Counts 0 (W.failures writer.old) (W.failures writer.new)) }
-    ensures failed { IfErr result (λ f. WriteFails f (W.failures writer.old) (W.failures writer.new)) }
-{
-    let mut at = 0;
-    'records: loop {
-        match records.feed(&piece[at..]) {
-            Ok(RecordStep::Whole { used }) => at += used,
-            Ok(RecordStep::More) => {
-                return match outbox.flush(writer) {
-                    Ok(()) => Ok(()),
-                    Err(lost) => Err(lost),
-                };
-            }
-            Err(fault) => {
-                return match outbox.flush(writer) {
-                    Ok(()) => Err(fault),
-                    Err(lost) => Err(lost),
-                };
-            }
-        }
-        match write_next(records, outbox, writer) {
-            Ok(()) => {}
-            Err(lost) => return Err(lost),
-        }
-    }
-}
+use xdr_io::{Sink, Source};
 
 /// Writes each record of the reader as one last fragment, and counts them, once the reader has ended between two
 /// records. `TooLong`, `Truncated`, `Read` and `NoMemory` come after the records before were written, and so does
@@ -113,24 +35,33 @@ pub fn normalise<R: Source, W: Sink>(
     ensures none_failed { OnOk result (Counts 0 (R.failures reader.old) (R.failures reader.new)
         × Counts 0 (W.failures writer.old) (W.failures writer.new)) }
 {
-    let mut records = RecordReader::start(alloc, limit);
+    let mut records = RecordStream::start(alloc, limit);
     let mut outbox = Outbox::new();
-    let mut array = [0u8; 4096];
-    for _turn in 0..MOST_READS {
-        let n = match reader.read(&mut array) {
-            Ok(n) => n,
-            Err(ReadFault) => return Err(RecordFault::Read),
-        };
-        if n == 0 {
-            return match records.end() {
-                Ok(()) => Ok(outbox.count),
-                Err(fault) => Err(fault),
-            };
+    'records: loop {
+        match records.next_held() {
+            Ok(None) => {}
+            Ok(Some(record)) => match outbox.put_record(writer, &record) {
+                Ok(()) => continue,
+                Err(lost) => return Err(lost),
+            },
+            Err(fault) => {
+                return match outbox.flush(writer) {
+                    Ok(()) => Err(fault),
+                    Err(lost) => Err(lost),
+                };
+            }
         }
-        match pass_on(&mut records, &mut outbox, writer, &array[..n]) {
+        match outbox.flush(writer) {
             Ok(()) => {}
+            Err(lost) => return Err(lost),
+        }
+        match records.next_record(reader) {
+            Ok(None) => return Ok(outbox.count),
+            Ok(Some(record)) => match outbox.put_record(writer, &record) {
+                Ok(()) => {}
+                Err(lost) => return Err(lost),
+            },
             Err(fault) => return Err(fault),
         }
     }
-    Err(RecordFault::TooManyReads)
 }

@@ -1,8 +1,9 @@
 //! Output that is gathered, so that small records go out together.
-ghost use Rattle.std.specs.Prelude.{◌≡◌, ◌≤◌, [], IfErr, OnOk, OnErr};
+ghost use Rattle.std.specs.Prelude.{◌≡◌, ◌<◌, ◌≤◌, ◌+◌, ◌^◌, true, [], length, IfErr, OnOk, OnErr};
 ghost use Rattle.xdr_io.specs.Told.{Counts};
 
 use super::fault::{Count, RecordFault};
+use super::header::last_header;
 use xdr_io::{Sink, write_whole};
 
 /// How many bytes wait at most. What one read of 4096 bytes makes of records of up to 4092 bytes has room.
@@ -18,6 +19,8 @@ pub struct Outbox {
 }
 
 impl Outbox {
+    ghost use Rattle.rpc_record.specs.Marked.{fragment};
+    ghost use Rattle.rpc_record.specs.Reading.{capped};
     ghost use Rattle.rpc_record.specs.Private.Sending.{Sends, SendingCut};
 
     /// An outbox that nothing was handed to.
@@ -83,6 +86,31 @@ impl Outbox {
             Err(cut) => Err(RecordFault::Write {
                 written: self.count.bytes.saturating_add(cut.written as u64),
             }),
+        }
+    }
+
+    /// Hands over a record as one last fragment, and counts it.
+    pub fn put_record<W: Sink>(&mut self, writer: &mut W, content: &[u8]) -> Result<(), RecordFault>
+        requires { length content.now < 2 ^ 31 }
+        ensures ok { OnOk result
+            (Sends self.old self.new (W.taken writer.old) (W.taken writer.new) (fragment true content.now)) }
+        ensures records { OnOk result (self.new.count.records ≡ capped (self.old.count.records + 1)) }
+        ensures cut { IfErr result
+            (λ f. SendingCut self.old (W.taken writer.old) (W.taken writer.new) (fragment true content.now) f) }
+        ensures none_failed { OnOk result (Counts 0 (W.failures writer.old) (W.failures writer.new)) }
+        ensures one_failed { OnErr result (Counts 1 (W.failures writer.old) (W.failures writer.new)) }
+    {
+        let header = last_header(content.len() as u32);
+        match self.put(writer, &header) {
+            Ok(()) => {}
+            Err(fault) => return Err(fault),
+        }
+        match self.put(writer, content) {
+            Ok(()) => {
+                self.count.records = self.count.records.saturating_add(1);
+                Ok(())
+            }
+            Err(fault) => Err(fault),
         }
     }
 }

@@ -1,69 +1,214 @@
-use Rattle.std.proofs.Common.{◌+◌, refl, arith}
-use Rattle.std.proofs.lemmas.List.{length-take-le}
-use Rattle.xdr_io.proofs.Chained.{Counts-trans}
-use Rattle.rpc_record.proofs.Progress.{Progress-more, Progress-cut, Progress-read, Progress-many, Progress-truncated}
+use Rattle.std.proofs.Common.{true, [], ◌∷◌, ◌++◌, length, refl, sym, ap, subst, arith, Err}
+use Rattle.xdr_io.proofs.Chained.{Counts-trans, Counts-none}
+use Rattle.rpc_record.specs.Marked.{fragment}
+use Rattle.rpc_record.specs.Private.Sending.{Sends}
+use Rattle.rpc_record.proofs.Gathering.{handed_none, handed_record, handed_flushed, handed_all, lost_record, lost_waiting}
+use Rattle.rpc_record.proofs.Gathering.{stops_failed, writes_none, lost_writes, all_normalised, fits_header, same_err}
 use Rattle.rpc_record.proofs.normal.normalise.Goals as goal
-use Rattle.rpc_record.proofs.normal.normalise.Goals.{in-Ok-end, in-Err-end}
+use Rattle.rpc_record.proofs.normal.normalise.Goals.{in-Ok-flush, in-Err-flush}
+
+pub records-init : goal.records-init
+records-init g c = record {
+  rs = [];
+  read = c.start-records.ensures.read _;
+  handed = handed_none c.new-outbox.result _ c.new-outbox.ensures.empty c.new-outbox.ensures.records
+      c.new-outbox.ensures.bytes;
+  reads = Counts-trans _ _ _ 0 0 _ (sym c.start-records.ensures.unread) (Counts-none _) (Counts-none _);
+  reads_failed = Counts-none _;
+  writes_failed = Counts-none _;
+}
+
+-- ---- a record that was held
+
+pub put_record-requires : goal.put_record-requires
+put_record-requires g c =
+    let inv = c.records.invariant in
+    let next = rw c.in-Ok-Some.field-0-is at c.in-Ok-Some.ensures.next in
+    let read = next c.args.limit inv.rs _ _ inv.read in
+    omega (
+      arith,
+      ap length c.deref.ensures.value,
+      fits_header c.args.limit c.next_held.new.self.records _ inv.rs c.in-Ok-Some.record.items _ _ c.requires read,
+    )
+
+pub records-preserved-in-Ok : goal.records-preserved-in-Ok
+records-preserved-in-Ok g c =
+    let inv = c.records.invariant in
+    let next = rw c.in-Ok-Some.field-0-is at c.in-Ok-Some.ensures.next in
+    let read = next c.args.limit inv.rs _ _ inv.read in
+    record {
+      rs = inv.rs ++ c.in-Ok-Some.record.items ∷ [];
+      read = read;
+      handed = handed_record inv.rs c.records.outbox _ _ inv.handed c.in-Ok-Some.record.items c.put_record.new.self _
+          c.in-Ok.ensures.records
+          (subst (λ k. Sends c.records.outbox c.put_record.new.self (g.W.Sink.taken c.records.writer)
+          (g.W.Sink.taken c.put_record.new.writer) (fragment true k)) c.deref.ensures.value c.in-Ok.ensures.ok);
+      reads = Counts-trans _ _ _ c.records.records.reads 0 c.next_held.new.self.reads
+          (omega (arith, c.next_held.ensures.reads)) inv.reads (Counts-none _);
+      reads_failed = inv.reads_failed;
+      writes_failed = Counts-trans _ _ _ 0 0 0 refl inv.writes_failed c.in-Ok.ensures.none_failed;
+    }
+
+pub returns-in-Err-put_record-clause-fault : goal.returns-in-Err-put_record-clause-fault
+returns-in-Err-put_record-clause-fault g c =
+    let inv = c.records.invariant in
+    let next = rw c.in-Ok-Some.field-0-is at c.in-Ok-Some.ensures.next in
+    let read = next c.args.limit inv.rs _ _ inv.read in
+    lost_record inv.rs c.records.outbox _ _ inv.handed c.args.limit c.next_held.new.self.records _ _ _ _
+    c.in-Ok-Some.record.items c.deref.result.now c.in-Err-put_record.lost c.deref.ensures.value read
+    c.in-Err-put_record.ensures.cut
+
+-- ---- a fault among the bytes that were held
 
 pub returns-in-Err-clause-fault : goal.returns-in-Err-clause-fault
 returns-in-Err-clause-fault g c =
-    Progress-read c.args.limit c.loop-turn.records c.loop-turn.outbox.count _ _ _ _ _ c.loop-turn.invariant.progress
-    c.in-Err.ensures.bytes
-
-pub returns-then-n-eq0-clause-fault : goal.returns-then-n-eq0-clause-fault
-returns-then-n-eq0-clause-fault g c =
-    let bytes = c.in-Ok.ensures.bytes in
-    elim c.match-end.branch [
-      | in-Ok-end w ↦ rw w.result-is tt
-      | in-Err-end w ↦ rw w.result-is
-          (Progress-truncated c.args.limit c.loop-turn.records c.loop-turn.outbox.count _ _ _ _ _ c.read.new.array
-          c.in-Ok.n w.in-Err-end.fault c.loop-turn.invariant.progress c.if-n-eq0.true bytes.0
-          (bytes.1 c.if-n-eq0.true) w.in-Err-end.ensures.ends.2)
+    let inv = c.records.invariant in
+    let fails = c.in-Err.ensures.next c.args.limit inv.rs _ _ inv.read in
+    elim c.match-flush.branch [
+      | in-Ok-flush w ↦ rw w.result-is
+          (stops_failed c.args.limit inv.rs _ _ _ _ c.in-Err.fault fails
+          (handed_all inv.rs c.flush.new.self _ _
+          (handed_flushed inv.rs c.records.outbox _ _ inv.handed c.flush.new.self _ w.in-Ok-flush.ensures.records
+          w.in-Ok-flush.ensures.ok) w.in-Ok-flush.ensures.empty).0)
+      | in-Err-flush w ↦ rw w.result-is
+          (lost_waiting inv.rs c.records.outbox _ _ inv.handed c.args.limit c.records.records.records _ _ _ _
+          w.in-Err-flush.lost inv.read w.in-Err-flush.ensures.cut)
     ]
 
-pub returns-in-Err-pass_on-clause-fault : goal.returns-in-Err-pass_on-clause-fault
-returns-in-Err-pass_on-clause-fault g c =
-    Progress-cut c.args.limit c.loop-turn.records c.loop-turn.outbox.count _ _ _ _ _ c.loop-turn.invariant.progress
-    c.in-Err-pass_on.fault _ _
-    (omega (
+pub returns-in-Err-clause-write : goal.returns-in-Err-clause-write
+returns-in-Err-clause-write g c =
+    let inv = c.records.invariant in
+    let fails = c.in-Err.ensures.next c.args.limit inv.rs _ _ inv.read in
+    elim c.match-flush.branch [
+      | in-Ok-flush w ↦ rw w.result-is
+          (writes_none c.args.limit inv.rs _ _ _ _ c.in-Err.fault fails
+          (Counts-trans _ _ _ 0 0 0 refl inv.writes_failed w.in-Ok-flush.ensures.none_failed))
+      | in-Err-flush w ↦ rw w.result-is
+          (lost_writes c.records.outbox _ _ [] _ _ w.in-Err-flush.lost w.in-Err-flush.ensures.cut
+          (Counts-trans _ _ _ 0 1 1 refl inv.writes_failed w.in-Err-flush.ensures.one_failed))
+    ]
+
+-- ---- no more is held
+
+pub returns-in-Err-flush-2-clause-fault : goal.returns-in-Err-flush-2-clause-fault
+returns-in-Err-flush-2-clause-fault g c =
+    let inv = c.records.invariant in
+    let next = rw c.in-Ok-None.field-0-is at c.in-Ok-None.ensures.next in
+    let read = next.1 c.args.limit inv.rs _ _ inv.read in
+    lost_waiting inv.rs c.records.outbox _ _ inv.handed c.args.limit c.next_held.new.self.records _ _ _ _
+    c.in-Err-flush-2.lost read c.in-Err-flush-2.ensures.cut
+
+pub returns-in-Ok-None-next_record-clause-ok : goal.returns-in-Ok-None-next_record-clause-ok
+returns-in-Ok-None-next_record-clause-ok g c =
+    let inv = c.records.invariant in
+    let next = rw c.in-Ok-None.field-0-is at c.in-Ok-None.ensures.next in
+    let read = next.1 c.args.limit inv.rs _ _ inv.read in
+    let handed = handed_flushed inv.rs c.records.outbox _ _ inv.handed c.flush-in-records.new.self _
+    c.in-Ok-flush-2.ensures.records c.in-Ok-flush-2.ensures.ok in
+    let done = rw c.in-Ok-None-next_record.field-0-is
+    at (c.in-Ok-None-next_record.ensures.next c.args.limit inv.rs _ read) in
+    all_normalised c.args.limit inv.rs c.flush-in-records.new.self _ _ _ _ done
+    (handed_all inv.rs c.flush-in-records.new.self _ _ handed c.in-Ok-flush-2.ensures.empty)
+
+pub returns-in-Ok-None-next_record-clause-none_failed : goal.returns-in-Ok-None-next_record-clause-none_failed
+returns-in-Ok-None-next_record-clause-none_failed g c = (
+  Counts-trans _ _ _ 0 0 0 refl c.records.invariant.reads_failed c.in-Ok-None-next_record.ensures.none_failed,
+  Counts-trans _ _ _ 0 0 0 refl c.records.invariant.writes_failed c.in-Ok-flush-2.ensures.none_failed,
+)
+
+-- ---- a record that was read
+
+pub put_record-requires-in-Ok-Some-next_record : goal.put_record-requires-in-Ok-Some-next_record
+put_record-requires-in-Ok-Some-next_record g c =
+    let inv = c.records.invariant in
+    let next = rw c.in-Ok-None.field-0-is at c.in-Ok-None.ensures.next in
+    let read = next.1 c.args.limit inv.rs _ _ inv.read in
+    let more = rw c.in-Ok-Some-next_record.field-0-is
+    at (c.in-Ok-Some-next_record.ensures.next c.args.limit inv.rs _ read) in
+    omega (
       arith,
-      c.in-Ok.ensures.bound,
-      length-take-le c.in-Ok.n c.read.new.array (omega (arith, c.in-Ok.ensures.bound)),
-    )) c.in-Ok.ensures.bytes.0
-    c.in-Err-pass_on.ensures.cut
+      ap length c.deref-in-Ok-Some-next_record.ensures.value,
+      fits_header c.args.limit c.next_record.new.self.records _ inv.rs c.in-Ok-Some-next_record.record.items _ _
+          c.requires more,
+    )
 
-pub loop-turn-preserved : goal.loop-turn-preserved
-loop-turn-preserved g c = record {
-  progress = Progress-more c.args.limit c.loop-turn.records c.loop-turn.outbox.count _ _ _ _ _
-      c.loop-turn.invariant.progress c.pass_on.new.records c.pass_on.new.outbox.count _ _ c.in-Ok.ensures.bytes.0
-      c.in-Ok-pass_on.ensures.ok;
-  empty = c.in-Ok-pass_on.ensures.empty;
-  reads = Counts-trans _ _ _ c.loop-turn._turn 1 _ refl c.loop-turn.invariant.reads c.read.ensures.count;
-  reads_failed = Counts-trans _ _ _ 0 0 0 refl c.loop-turn.invariant.reads_failed c.in-Ok.ensures.failed;
-  writes_failed = Counts-trans _ _ _ 0 0 0 refl c.loop-turn.invariant.writes_failed c.in-Ok-pass_on.ensures.none_failed;
-}
+pub returns-in-Err-put_record-2-clause-fault : goal.returns-in-Err-put_record-2-clause-fault
+returns-in-Err-put_record-2-clause-fault g c =
+    let inv = c.records.invariant in
+    let next = rw c.in-Ok-None.field-0-is at c.in-Ok-None.ensures.next in
+    let read = next.1 c.args.limit inv.rs _ _ inv.read in
+    let handed = handed_flushed inv.rs c.records.outbox _ _ inv.handed c.flush-in-records.new.self _
+    c.in-Ok-flush-2.ensures.records c.in-Ok-flush-2.ensures.ok in
+    let more = rw c.in-Ok-Some-next_record.field-0-is
+    at (c.in-Ok-Some-next_record.ensures.next c.args.limit inv.rs _ read) in
+    lost_record inv.rs c.flush-in-records.new.self _ _ handed c.args.limit c.next_record.new.self.records _ _ _ _
+    c.in-Ok-Some-next_record.record.items c.deref-in-Ok-Some-next_record.result.now c.in-Err-put_record-2.lost
+    c.deref-in-Ok-Some-next_record.ensures.value more c.in-Err-put_record-2.ensures.cut
 
-pub returns-clause-fault : goal.returns-clause-fault
-returns-clause-fault g c = Progress-many c.args.limit c.loop-turn.records c.loop-turn.outbox.count _ _
-    (g.R.Source.left c.loop-turn.reader) _ _ c.loop-turn.invariant.progress
+pub returns-in-Err-put_record-2-clause-unfailed : goal.returns-in-Err-put_record-2-clause-unfailed
+returns-in-Err-put_record-2-clause-unfailed g c =
+    λ other. Counts-trans _ _ _ 0 0 0 refl c.records.invariant.reads_failed c.in-Ok-Some-next_record.ensures.none_failed
 
-pub returns-in-Err-clause-reads : goal.returns-in-Err-clause-reads
-returns-in-Err-clause-reads g c = record {
-  calls = c.loop-turn._turn + 1;
-  few = omega arith;
-  counted = Counts-trans _ _ _ c.loop-turn._turn 1 _ refl c.loop-turn.invariant.reads c.read.ensures.count;
-}
+pub returns-in-Err-put_record-2-clause-write : goal.returns-in-Err-put_record-2-clause-write
+returns-in-Err-put_record-2-clause-write g c =
+    let inv = c.records.invariant in
+    let flushed = Counts-trans _ _ _ 0 0 0 refl inv.writes_failed c.in-Ok-flush-2.ensures.none_failed in
+    lost_writes c.flush-in-records.new.self _ _ _ _ _ c.in-Err-put_record-2.lost c.in-Err-put_record-2.ensures.cut
+    (Counts-trans _ _ _ 0 1 1 refl flushed c.in-Err-put_record-2.ensures.one_failed)
 
-pub returns-then-n-eq0-clause-reads : goal.returns-then-n-eq0-clause-reads
-returns-then-n-eq0-clause-reads g c = record {
-  calls = c.loop-turn._turn + 1;
-  few = omega arith;
-  counted = Counts-trans _ _ _ c.loop-turn._turn 1 _ refl c.loop-turn.invariant.reads c.read.ensures.count;
-}
+pub records-preserved : goal.records-preserved
+records-preserved g c =
+    let inv = c.records.invariant in
+    let next = rw c.in-Ok-None.field-0-is at c.in-Ok-None.ensures.next in
+    let read = next.1 c.args.limit inv.rs _ _ inv.read in
+    let handed = handed_flushed inv.rs c.records.outbox _ _ inv.handed c.flush-in-records.new.self _
+    c.in-Ok-flush-2.ensures.records c.in-Ok-flush-2.ensures.ok in
+    let more = rw c.in-Ok-Some-next_record.field-0-is
+    at (c.in-Ok-Some-next_record.ensures.next c.args.limit inv.rs _ read) in
+    let flushed = Counts-trans _ _ _ 0 0 0 refl inv.writes_failed c.in-Ok-flush-2.ensures.none_failed in
+    let put = c.put_record-in-Ok-Some-next_record.new in
+    record {
+      rs = inv.rs ++ c.in-Ok-Some-next_record.record.items ∷ [];
+      read = more;
+      handed = handed_record inv.rs c.flush-in-records.new.self _ _ handed c.in-Ok-Some-next_record.record.items put.self
+          _ c.in-Ok-put_record.ensures.records
+          (subst (λ k. Sends c.flush-in-records.new.self put.self (g.W.Sink.taken c.flush-in-records.new.writer)
+          (g.W.Sink.taken put.writer) (fragment true k)) c.deref-in-Ok-Some-next_record.ensures.value
+          c.in-Ok-put_record.ensures.ok);
+      reads = c.next_record.ensures.reads _ (Counts-trans _ _ _ c.records.records.reads 0 c.next_held.new.self.reads
+          (omega (arith, c.next_held.ensures.reads)) inv.reads (Counts-none _));
+      reads_failed = Counts-trans _ _ _ 0 0 0 refl inv.reads_failed c.in-Ok-Some-next_record.ensures.none_failed;
+      writes_failed = Counts-trans _ _ _ 0 0 0 refl flushed c.in-Ok-put_record.ensures.none_failed;
+    }
 
-pub returns-in-Err-pass_on-clause-reads : goal.returns-in-Err-pass_on-clause-reads
-returns-in-Err-pass_on-clause-reads g c = record {
-  calls = c.loop-turn._turn + 1;
-  few = omega arith;
-  counted = Counts-trans _ _ _ c.loop-turn._turn 1 _ refl c.loop-turn.invariant.reads c.read.ensures.count;
-}
+-- ---- a fault of reading on
+
+pub returns-in-Err-next_record-clause-fault : goal.returns-in-Err-next_record-clause-fault
+returns-in-Err-next_record-clause-fault g c =
+    let inv = c.records.invariant in
+    let next = rw c.in-Ok-None.field-0-is at c.in-Ok-None.ensures.next in
+    let read = next.1 c.args.limit inv.rs _ _ inv.read in
+    let handed = handed_flushed inv.rs c.records.outbox _ _ inv.handed c.flush-in-records.new.self _
+    c.in-Ok-flush-2.ensures.records c.in-Ok-flush-2.ensures.ok in
+    stops_failed c.args.limit inv.rs _ _ _ _ c.in-Err-next_record.fault
+    (c.in-Err-next_record.ensures.next c.args.limit inv.rs _ read)
+    (handed_all inv.rs c.flush-in-records.new.self _ _ handed c.in-Ok-flush-2.ensures.empty).0
+
+pub returns-in-Err-next_record-clause-read : goal.returns-in-Err-next_record-clause-read
+returns-in-Err-next_record-clause-read g c =
+    λ is. Counts-trans _ _ _ 0 1 1 refl c.records.invariant.reads_failed
+    (c.in-Err-next_record.ensures.read (ap (λ k. Err k) (same_err _ _ is)))
+
+pub returns-in-Err-next_record-clause-unfailed : goal.returns-in-Err-next_record-clause-unfailed
+returns-in-Err-next_record-clause-unfailed g c =
+    λ other. Counts-trans _ _ _ 0 0 0 refl c.records.invariant.reads_failed
+    (c.in-Err-next_record.ensures.unfailed other)
+
+pub returns-in-Err-next_record-clause-write : goal.returns-in-Err-next_record-clause-write
+returns-in-Err-next_record-clause-write g c =
+    let inv = c.records.invariant in
+    let next = rw c.in-Ok-None.field-0-is at c.in-Ok-None.ensures.next in
+    let read = next.1 c.args.limit inv.rs _ _ inv.read in
+    writes_none c.args.limit inv.rs _ _ _ _ c.in-Err-next_record.fault
+    (c.in-Err-next_record.ensures.next c.args.limit inv.rs _ read)
+    (Counts-trans _ _ _ 0 0 0 refl inv.writes_failed c.in-Ok-flush-2.ensures.none_failed)

@@ -1,0 +1,119 @@
+//! The records of a source, one after another.
+ghost use Rattle.std.specs.Prelude.{◌≤◌};
+
+use super::fault::{RecordFault, RecordStep};
+use super::reader::RecordReader;
+use std::alloc::Global;
+use xdr_io::{MOST_READS, ReadFault, Source};
+
+/// How many bytes a read gives at most.
+const MOST_PIECE: usize = 4096;
+
+/// Reads a source of marked records, and hands them out one after another (RFC 5531, section 11).
+#[derive(Drop)]
+pub struct RecordStream {
+    records: RecordReader,
+    /// What the last read gave, at its front.
+    piece: [u8; 4096],
+    /// How many bytes that is.
+    size: usize,
+    /// How many of them were taken.
+    at: usize,
+    /// How many reads were made.
+    reads: u32,
+    ghost within: { at ≤ size },
+    ghost fits: { size ≤ 4096 },
+    ghost few: { reads ≤ 1048576 },
+}
+
+impl RecordStream {
+    ghost use Rattle.std.specs.Prelude.{◌≡◌, ◌≢◌, ◌<◌, ◌≤◌, ℕ, List, [], Option, Some, Ok, IfOk, IfErr, OnOk, IsErrOf};
+    ghost use Rattle.std.specs.Prelude.{IfSome};
+    ghost use Rattle.rpc_record.specs.Reading.{IsFeedFault};
+    ghost use Rattle.xdr_io.specs.Told.{Counts};
+    ghost use Rattle.rpc_record.specs.Streamed.{HasRead, HandsHeld, HandsNext, IsOpen, most_to_come, reads_of};
+
+    /// The records of a source, of at most `limit` bytes each, before the first read.
+    pub fn start(alloc: Global, limit: u32) -> Self
+        requires { limit ≤ 2147483647 }
+        ensures open { IsOpen result }
+        ensures unread { reads_of result ≡ 0 }
+        ensures read { (left : Option (List ℕ)) → HasRead limit result [] left left }
+    {
+        RecordStream {
+            records: RecordReader::start(alloc, limit),
+            piece: [0; MOST_PIECE],
+            size: 0,
+            at: 0,
+            reads: 0,
+        }
+    }
+
+    /// Hands out the next record that is whole in what was read, with no further read. None: no more is, and all that
+    /// was read is taken. `TooLong` comes at a header that brings its record above the limit, and `NoMemory` where
+    /// memory is refused for a record.
+    pub fn next_held(&mut self) -> Result<Option<Vec<u8>>, RecordFault>
+        requires { IsOpen self.old }
+        ensures open { OnOk result (IsOpen self.new) }
+        ensures reads { reads_of self.new ≡ reads_of self.old }
+        ensures fewer { IfOk result (λ r. IfSome r (λ v. most_to_come self.new < most_to_come self.old)) }
+        ensures no_more { most_to_come self.new ≤ most_to_come self.old }
+        ensures fault { IfErr result (λ f. IsFeedFault f) }
+        ensures next { HandsHeld self.old self.new result }
+    {
+        let read = &self.piece[..self.size];
+        match self.records.feed(&read[self.at..]) {
+            Ok(RecordStep::Whole { used }) => {
+                self.at += used;
+                Ok(self.records.take())
+            }
+            Ok(RecordStep::More) => {
+                self.at = self.size;
+                Ok(None)
+            }
+            Err(fault) => Err(fault),
+        }
+    }
+
+    /// Hands out the next record, and reads on where none is whole in what was read. None: the source has ended between
+    /// two records. `Truncated` comes where it has ended inside one, `Read` where a read failed, `TooManyReads` where
+    /// 1048576 reads since the start did not reach the end of a record, and `TooLong` and `NoMemory` as by `next_held`.
+    pub fn next_record<R: Source>(&mut self, source: &mut R) -> Result<Option<Vec<u8>>, RecordFault>
+        requires { IsOpen self.old }
+        ensures next { (limit : ℕ) (rs : List (List ℕ)) (left : Option (List ℕ))
+            → HasRead limit self.old rs left (R.left source.old)
+            → HandsNext limit self.new rs left (R.left source.new) result }
+        ensures fewer { IfOk result (λ r. IfSome r (λ v. most_to_come self.new < most_to_come self.old)) }
+        ensures reads { (start : Option ℕ) → Counts (reads_of self.old) start (R.reads source.old)
+            → Counts (reads_of self.new) start (R.reads source.new) }
+        ensures most { reads_of self.new ≤ 1048576 }
+        ensures many { IsErrOf result RecordFault.TooManyReads → reads_of self.new ≡ 1048576 }
+        ensures read { IsErrOf result RecordFault.Read → Counts 1 (R.failures source.old) (R.failures source.new) }
+        ensures unfailed { IfErr result (λ f.
+            f ≢ RecordFault.Read → Counts 0 (R.failures source.old) (R.failures source.new)) }
+        ensures none_failed { OnOk result (Counts 0 (R.failures source.old) (R.failures source.new)) }
+    {
+        'reads: loop {
+            match self.next_held() {
+                Ok(None) => {}
+                Ok(Some(record)) => return Ok(Some(record)),
+                Err(fault) => return Err(fault),
+            }
+            if self.reads == MOST_READS {
+                return Err(RecordFault::TooManyReads);
+            }
+            self.reads += 1;
+            self.at = 0;
+            match source.read(&mut self.piece) {
+                Ok(size) => self.size = size,
+                Err(ReadFault) => return Err(RecordFault::Read),
+            }
+            if self.size == 0 {
+                return match self.records.end() {
+                    Ok(()) => Ok(None),
+                    Err(fault) => Err(fault),
+                };
+            }
+        }
+    }
+}
