@@ -9,3 +9,4 @@ pub mod Listing
 pub mod Cases
 pub mod One
 pub mod Room
+pub mod Some

@@ -1,5 +1,5 @@
-//! The law of the definitions that the contracts name. A call of it does nothing.
-ghost use Rattle.registry_answer.specs.Laws.{OneAnswer};
+//! The laws of the definitions that the contracts name. No call of them does anything.
+ghost use Rattle.registry_answer.specs.Laws.{OneAnswer, SomeAnswer};
 
 use rpc_message::{auth_sys_bytes_are_exact, five_cases};
 use xdr_laws::one_outcome;
@@ -12,4 +12,11 @@ pub fn one_answer()
     five_cases();
     auth_sys_bytes_are_exact();
     one_outcome();
+}
+
+/// Each record has an answer with no memory refused: so SYSTEM_ERR for want of memory is never the only lawful one.
+pub fn each_record_has_an_answer()
+    ensures { SomeAnswer }
+{
+    five_cases();
 }

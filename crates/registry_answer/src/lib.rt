@@ -13,6 +13,6 @@ mod transport;
 mod versions;
 
 pub use answering::{Answered, Appended, answer, append_answer};
-pub use laws::one_answer;
+pub use laws::{each_record_has_an_answer, one_answer};
 pub use replies::system_error;
 pub use transport::Transport;
