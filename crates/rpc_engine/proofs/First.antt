@@ -1,148 +1,57 @@
--- Looking for the first record, one read further, and its ends.
-use Rattle.std.proofs.Common.{◌≡◌, ℕ, ◌≤◌, inr, List, [], ◌∷◌, ◌++◌, length, take, drop, true, Option, Some, None}
-use Rattle.std.proofs.Common.{Result, Ok, Err, refl, sym, ap, ◌∙◌, subst, append_assoc, arith}
+-- The first record of an input, and what the answer to a call says of it.
+use Rattle.std.proofs.Common.{◌≡◌, ℕ, inr, List, [], ◌∷◌, ◌++◌, length, true, Option, Result, Ok, Err, refl, sym, ap}
+use Rattle.std.proofs.Common.{◌∙◌, subst, append_assoc, arith}
 use Rattle.std.specs.declared.vec.Vec.{Vec}
 use Rattle.std.specs.declared.alloc.Global.{Global}
-use Rattle.std.proofs.lemmas.List.{append-nil, take-append-drop}
-use Rattle.std.specs.Io.KnownBytes.{Keeps, Consumes, Appends, IsAtEnd}
-use Rattle.xdr_io.proofs.Chained.{Consumes-trans, Consumes-none, Consumes-kept, Consumes-at_end}
+use Rattle.std.specs.Io.KnownBytes.{Appends}
 use Rattle.rpc_record.specs.declared.fault.RecordFault.{RecordFault}
 use Rattle.rpc_record.specs.declared.fault.RecordFault.TheVariants as flaw
 use Rattle.rpc_record.specs.declared.reader.RecordReader.{RecordReader}
-use Rattle.rpc_record.specs.Marked.{fragment, Longest, OneLongest}
-use Rattle.rpc_record.specs.Reading.{Begins, Faulty, FaultyIn, IsFeedFault, IsWhole, IsInside, WholeIsLongest}
-use Rattle.rpc_record.specs.Reading.{HasNoLong, capped}
-use Rattle.rpc_record.specs.Stands.{Stands, Always, After, IsTaking, IsWaiting, Takes, Hands, limit_of}
-use Rattle.rpc_record.proofs.Readers.{between_taking}
+use Rattle.rpc_record.specs.Marked.{fragment}
+use Rattle.rpc_record.specs.Reading.{Begins, capped}
+use Rattle.rpc_record.specs.Streamed.{HasTaken, IsRead, FailsAt, Fails}
 use Rattle.rpc_message.specs.declared.message.Reply.{Reply}
 use Rattle.rpc_engine.specs.declared.fault.ClientFault.{ClientFault}
 use Rattle.rpc_engine.specs.declared.fault.ClientFault.TheVariants as fault
 use Rattle.rpc_engine.specs.Exchanged.{most_reply, IsFirst, Exchanged, Wrote, write_failures}
 use Rattle.rpc_engine.specs.DatagramExchange.{Replies}
-use Rattle.rpc_engine.specs.Private.Looking.{Looks, EndsAt, Flawed, NextRecord, FirstRead, client_fault_of}
-pub use Rattle.rpc_record.proofs.Readers.{Begins-more as begins_more}
+use Rattle.rpc_engine.specs.Private.Looking.{FirstReads, FirstRead, client_fault_of}
 
-pub looks_first : (r : RecordReader) (l : Option (List ℕ)) → limit_of r ≡ most_reply → IsTaking r → Stands r [] []
-    → Always r (λ rs bytes. Longest (limit_of r) rs bytes) → Always r (λ rs bytes. HasNoLong (limit_of r) bytes)
-    → Looks r l l
-looks_first r l e i s a b = record {
-  input = [];
-  read = Consumes-none l;
-  same = e;
-  taking = i;
-  stands = s;
-  longest = subst (λ n. Longest n [] []) e (a [] [] s);
-  not_long = subst (λ n. HasNoLong n []) e (b [] [] s);
+-- whole records at the front stay there, however the bytes go on
+pub begins_more : (limit : ℕ) (rs : List (List ℕ)) (bytes more : List ℕ) → Begins limit rs bytes
+    → Begins limit rs (bytes ++ more)
+begins_more limit rs bytes more h = record {
+  whole = h.whole;
+  more = h.more ++ more;
+  stream = h.stream;
+  within = h.within;
+  spelled = ap (λ b. b ++ more) h.spelled ∙ append_assoc h.whole h.more more;
 }
 
-module _ (r : RecordReader) (l l' m : Option (List ℕ)) (p : Looks r l l') where
-  pub looks_on : (r' : RecordReader) (x : List ℕ) → Consumes l' m x → limit_of r' ≡ limit_of r
-      → IsTaking r' × Takes r r' x
-      × After r x (λ rs bytes. Longest (limit_of r) rs bytes × HasNoLong (limit_of r) bytes)
-      → Looks r' l m
-  looks_on r' x k e (i, t, h) =
-      let a = h p.input [] p.stands in
-      record {
-        input = p.input ++ x;
-        read = Consumes-trans l l' m p.input x (p.input ++ x) refl p.read k;
-        same = e ∙ p.same;
-        taking = i;
-        stands = t p.input [] p.stands;
-        longest = subst (λ n. Longest n [] (p.input ++ x)) p.same a.0;
-        not_long = subst (λ n. HasNoLong n (p.input ++ x)) p.same a.1;
-      }
+pub first_found : (reader : RecordReader) (held : List ℕ) (l m : Option (List ℕ)) (v : Vec ℕ Global)
+    → HasTaken most_reply reader held (v.items ∷ []) l m → FirstRead l m (Ok v)
+first_found reader held l m v h = record { input = h.input; read = h.read; reads = h.begins }
 
-  pub looks_found : (x : List ℕ) (v : Vec ℕ Global) → Consumes l' m x
-      → (used : ℕ) × After r (take used x) (λ rs bytes. Begins (limit_of r) (rs ++ v.items ∷ []) bytes)
-      → FirstRead l m (Ok v)
-  looks_found x v k (used, h) =
-      let first = begins_more most_reply (v.items ∷ []) (p.input ++ take used x) (drop used x)
-      (subst (λ n. Begins n (v.items ∷ []) (p.input ++ take used x)) p.same (h p.input [] p.stands)) in
-      record {
-        input = p.input ++ x;
-        read = Consumes-trans l l' m p.input x (p.input ++ x) refl p.read k;
-        reads = subst (λ b. Begins most_reply (v.items ∷ []) b) (append_assoc p.input (take used x) (drop used x)
-            ∙ ap (λ b. p.input ++ b) (take-append-drop used x)) first;
-      }
+pub first_failed : (l m : Option (List ℕ)) (f : RecordFault) → Fails most_reply [] l m f
+    → FirstRead l m (Err (client_fault_of f))
+first_failed l m f h = record { input = h.input; read = h.read; reads = by f h.fails }
+  where
+    by : (f : RecordFault) → FailsAt most_reply [] h.input m f → FirstReads h.input m (Err (client_fault_of f))
+    by (flaw.TooLong at) k = k.0
+    by (flaw.Truncated at) (e, inside, longest, end, none) = ((e, longest, none), end)
+    by flaw.NoMemory k = tt
+    by flaw.Read k = k
+    by flaw.TooManyReads k = k
+    by (flaw.Write written) k = absurd k
 
-  pub looks_cut : (x : List ℕ) (f : RecordFault) → Consumes l' m x
-      → After r x (λ rs bytes. Flawed (limit_of r) rs f bytes) → FirstRead l m (Err (client_fault_of f))
-  looks_cut x f k h = by f (subst (λ n. Flawed n [] f (p.input ++ x)) p.same (h p.input [] p.stands))
-    where
-      read : Consumes l m (p.input ++ x)
-      read = Consumes-trans l l' m p.input x (p.input ++ x) refl p.read k
-
-      by : (f : RecordFault) → Flawed most_reply [] f (p.input ++ x) → FirstRead l m (Err (client_fault_of f))
-      by (flaw.TooLong at) q = record { input = p.input ++ x; read = read; reads = q }
-      by flaw.NoMemory q = record { input = p.input ++ x; read = read; reads = tt }
-      by (flaw.Truncated at) q = absurd q
-      by flaw.Read q = absurd q
-      by (flaw.Write written) q = absurd q
-      by flaw.TooManyReads q = absurd q
-
-  pub looks_failed : Keeps l' m → FirstRead l m (Err fault.Read)
-  looks_failed k = record {
-    input = p.input;
-    read = Consumes-trans l l' m p.input [] p.input (append-nil p.input) p.read (Consumes-kept l' m k);
-    reads = (p.longest, p.not_long);
-  }
-
-  pub looks_many : FirstRead l l' (Err fault.TooManyReads)
-  looks_many = record { input = p.input; read = p.read; reads = (p.longest, p.not_long) }
-
-  pub looks_ended : (array : List ℕ) (n : ℕ) (f : RecordFault) → n ≡ 0 → Consumes l' m (take n array) → IsAtEnd m
-      → EndsAt r f → FirstRead l m (Err (fault.Record f))
-  looks_ended array n f e k end h =
-      subst (λ g. FirstRead l m (Err (fault.Record g)))
-      (sym (h p.input p.stands (subst (λ n. Longest n [] p.input) (sym p.same) p.longest)))
-      (record {
-        input = p.input;
-        read = Consumes-at_end l l' m p.input array n e p.read k;
-        reads = ((refl, p.longest, p.not_long), end);
-      })
-
--- whole records that have no longest front are none
-none_whole : (limit : ℕ) (bytes : List ℕ) (rs : List (List ℕ)) → OneLongest → WholeIsLongest → Longest limit [] bytes
-    → IsWhole limit rs bytes → bytes ≡ []
-none_whole limit bytes rs one whole h w =
-    (subst (λ x. IsWhole limit x bytes) (sym (one limit [] rs bytes h (whole limit rs bytes w))) w).stream
-
-pub ends_well : (r : RecordReader) → OneLongest → WholeIsLongest
-    → Always r (λ rs bytes. (waits : List (List ℕ))
-    × ((length waits ≤ 1) × IsWhole (limit_of r) (rs ++ waits) bytes × (IsTaking r → waits ≡ [])))
-    → EndsAt r (flaw.Truncated 0)
-ends_well r one whole h bytes s longest =
-    let w = h bytes [] s in
-    ap (λ b. flaw.Truncated (capped (length b)))
-    (sym (none_whole (limit_of r) bytes w.0 one whole longest w.1.1))
-
-pub ends_badly : (r : RecordReader) (f : RecordFault) → IsTaking r
-    → Always r (λ rs bytes. Faulty (limit_of r) rs f bytes
-    × (IsTaking r → (f ≡ flaw.Truncated (capped (length bytes))) × IsInside (limit_of r) rs bytes)) → EndsAt r f
-ends_badly r f i h bytes s longest = ((h bytes [] s).1 i).0
-
--- the record that waits is handed out
-pub next_taken : (old w c : RecordReader) (piece : List ℕ) (used : ℕ) (r : Option (Vec ℕ Global)) → IsWaiting w
-    → Takes old w (take used piece) → Hands w c r → limit_of c ≡ limit_of old
-    → (IsTaking c → Always c (λ rs bytes. Begins (limit_of c) rs bytes)) → NextRecord old c piece (Ok r)
-next_taken old w c piece used (Some v) i t (waiting, between, h) e begins = (
-  used,
-  λ bytes rs k. subst (λ n. Begins n (rs ++ v.items ∷ []) (bytes ++ take used piece)) e
-      (begins (between_taking c between) (bytes ++ take used piece) (rs ++ v.items ∷ [])
-      (h (bytes ++ take used piece) rs (t bytes rs k))),
-)
-next_taken old w c piece used None i t (never, same) e begins = absurd (never i)
-
--- the piece is refused
-pub next_refused : (old c : RecordReader) (piece : List ℕ) (f : RecordFault) → IsFeedFault f
-    → After old piece (λ rs bytes. Faulty (limit_of old) rs f bytes
-    × (IsTaking old → FaultyIn (limit_of old) rs f (length piece) bytes)) → NextRecord old c piece (Err f)
-next_refused old c piece (flaw.TooLong at) i h = λ bytes rs s. (h bytes rs s).0
-next_refused old c piece flaw.NoMemory i h = λ bytes rs s. tt
-next_refused old c piece (flaw.Truncated at) i h = absurd i
-next_refused old c piece flaw.Read i h = absurd i
-next_refused old c piece (flaw.Write written) i h = absurd i
-next_refused old c piece flaw.TooManyReads i h = absurd i
+-- the input has ended before its first byte
+pub first_ended : (l m : Option (List ℕ)) → IsRead most_reply [] l m
+    → FirstRead l m (Err (fault.Record (flaw.Truncated 0)))
+first_ended l m h = record {
+  input = h.input;
+  read = h.read;
+  reads = ((ap (λ k. capped (length k)) (sym h.whole.stream), h.longest, h.no_long), h.end);
+}
 
 -- ---- the answer
 

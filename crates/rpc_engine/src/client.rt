@@ -3,21 +3,18 @@ ghost use Rattle.std.specs.Prelude.{◌≡◌, ◌≢◌, ◌≤◌, true, [], �
 ghost use Rattle.std.specs.Prelude.{MatchResult};
 ghost use Rattle.xdr_io.specs.Told.{Counts, CountsAtMost};
 ghost use Rattle.rpc_record.specs.Marked.{fragment};
-ghost use Rattle.rpc_record.specs.Stands.{IsTaking, limit_of};
 ghost use Rattle.rpc_message.specs.Spelling.{call as call_bytes};
 ghost use Rattle.rpc_message.specs.View.{call_view, reply_view};
 ghost use Rattle.rpc_engine.specs.Exchanged.{Exchanged, IsExact, Wrote, xid_of, write_failures};
 ghost use Rattle.rpc_engine.specs.DatagramExchange.{Replies};
-ghost use Rattle.rpc_engine.specs.Private.Looking.{EndsAt, NextRecord, FirstRead, client_fault_of};
+ghost use Rattle.rpc_engine.specs.Private.Looking.{FirstRead, client_fault_of};
 ghost use Rattle.rpc_engine.specs.declared.fault.ClientFault.TheVariants as faults;
 
 use crate::fault::ClientFault;
 use rpc_message::{Call, Reply, ReplyFault, read_reply, write_call};
-use rpc_record::{
-    RecordFault, RecordReader, RecordStep, mark, no_record_begins_another, too_long_ends_the_stream,
-};
+use rpc_record::{RecordFault, RecordStream, mark, too_long_ends_the_stream};
 use std::alloc::Global;
-use xdr_io::{MOST_READS, ReadFault, Sink, Source, write_whole};
+use xdr_io::{Sink, Source, write_whole};
 
 /// The most bytes of a reply that is kept.
 const MOST_REPLY: u32 = 16777216;
@@ -44,25 +41,10 @@ fn record_fault(fault: RecordFault) -> ClientFault
     ensures { result ≡ client_fault_of fault }
 {
     match fault {
+        RecordFault::Read => ClientFault::Read,
+        RecordFault::TooManyReads => ClientFault::TooManyReads,
         RecordFault::NoMemory => ClientFault::NoMemory,
         other => ClientFault::Record(other),
-    }
-}
-
-/// Feeds a piece, and hands out the record that is whole then.
-fn next_record(records: &mut RecordReader, piece: &[u8]) -> Result<Option<Vec<u8>>, RecordFault>
-    requires { IsTaking records.old }
-    ensures limit { limit_of records.new ≡ limit_of records.old }
-    ensures next { NextRecord records.old records.new piece.now result }
-{
-    match records.feed(piece) {
-        Ok(RecordStep::More) => Ok(None),
-        Ok(RecordStep::Whole { used: _used }) => {
-            let record = records.take();
-            records.records_are_longest();
-            Ok(record)
-        }
-        Err(fault) => Err(fault),
     }
 }
 
@@ -76,35 +58,11 @@ fn first_record<R: Source>(alloc: Global, reader: &mut R) -> Result<Vec<u8>, Cli
     ensures unfailed { IfErr result (λ f.
         f ≢ ClientFault.Read → Counts 0 (R.failures reader.old) (R.failures reader.new)) }
 {
-    let mut records = RecordReader::start(alloc, MOST_REPLY);
-    let mut array = [0u8; 4096];
-    records.records_are_longest();
-    for _turn in 0..MOST_READS {
-        let n = match reader.read(&mut array) {
-            Ok(n) => n,
-            Err(ReadFault) => return Err(ClientFault::Read),
-        };
-        if n == 0 {
-            return Err(ClientFault::Record(ended(&mut records)));
-        }
-        match next_record(&mut records, &array[..n]) {
-            Ok(None) => {}
-            Ok(Some(record)) => return Ok(record),
-            Err(fault) => return Err(record_fault(fault)),
-        }
-    }
-    Err(ClientFault::TooManyReads)
-}
-
-/// What is wrong with an input that ends before its first record is whole.
-fn ended(records: &mut RecordReader) -> RecordFault
-    requires { IsTaking records.old }
-    ensures { EndsAt records.old result }
-{
-    no_record_begins_another();
-    match records.end() {
-        Ok(()) => RecordFault::Truncated { at: 0 },
-        Err(fault) => fault,
+    let mut records = RecordStream::start(alloc, MOST_REPLY);
+    match records.next_record(reader) {
+        Ok(Some(record)) => Ok(record),
+        Ok(None) => Err(ClientFault::Record(RecordFault::Truncated { at: 0 })),
+        Err(fault) => Err(record_fault(fault)),
     }
 }
 
@@ -148,6 +106,7 @@ fn receive<R: Source>(alloc: Global, reader: &mut R, xid: u32) -> Result<Reply, 
     ensures unfailed { IfErr result (λ f.
         f ≢ ClientFault.Read → Counts 0 (R.failures reader.old) (R.failures reader.new)) }
 {
+    // The law, for the proof: where a header passes the limit, whatever follows in the reader changes nothing.
     too_long_ends_the_stream();
     match first_record(alloc, reader) {
         Ok(record) => reply_to(alloc, xid, &record),

@@ -1,21 +1,18 @@
 //! The registry as a server over a stream of records.
-ghost use Rattle.std.specs.Prelude.{◌≡◌, ◌≢◌, [], IfOk, IfErr, OnOk, OnErr, IsErrOf};
+ghost use Rattle.std.specs.Prelude.{◌≡◌, ◌≢◌, IfOk, IfErr, OnOk, IsErrOf};
 ghost use Rattle.xdr_io.specs.Told.{Counts, CountsAtMost};
-ghost use Rattle.rpc_record.specs.Stands.{IsTaking, IsWaiting};
 ghost use Rattle.registry_answer.specs.Views.{netid_of};
 ghost use Rattle.rpc_engine.specs.Served.{Serves, Stops, WriteFails};
-ghost use Rattle.rpc_engine.specs.Private.Serving.{Answered as AnsweredPiece, CutBy, LostNext, fault_of};
+ghost use Rattle.rpc_engine.specs.Private.Serving.{fault_of};
 
 use crate::fault::{ServeFault, Served};
 use crate::session::Session;
 use registry_answer::Transport;
 use rpc_directory::Directory;
-use rpc_record::{
-    RecordFault, RecordReader, RecordStep, no_record_begins_another, too_long_ends_the_stream,
-};
+use rpc_record::{RecordFault, RecordStream};
 use std::alloc::Global;
 use std::hash::BuildHasher;
-use xdr_io::{MOST_READS, ReadFault, Sink, Source};
+use xdr_io::{Sink, Source};
 
 /// The most bytes of a record that is kept.
 const MOST_RECORD: u32 = 65536;
@@ -25,67 +22,10 @@ fn record_fault(fault: RecordFault) -> ServeFault
     ensures { result ≡ fault_of fault }
 {
     match fault {
+        RecordFault::Read => ServeFault::Read,
+        RecordFault::TooManyReads => ServeFault::TooManyReads,
         RecordFault::NoMemory => ServeFault::NoMemory,
         other => ServeFault::Record(other),
-    }
-}
-
-/// Answers the record that waits.
-fn answer_next<W: Sink, S: BuildHasher>(
-    alloc: Global,
-    records: &mut RecordReader,
-    session: &mut Session,
-    writer: &mut W,
-    directory: &mut Directory<S>,
-    transport: Transport,
-) -> Result<(), ServeFault>
-    requires waiting { IsWaiting records.old }
-    ensures ok { OnOk result (AnsweredPiece (netid_of transport) records.old records.new directory.old directory.new
-        session.old session.new [] (W.taken writer.old) (W.taken writer.new)) }
-    ensures cut { IfErr result (λ f. LostNext (netid_of transport) records.old directory.old directory.new
-        session.old (W.taken writer.old) (W.taken writer.new) f) }
-    ensures none_failed { OnOk result (Counts 0 (W.failures writer.old) (W.failures writer.new)) }
-    ensures one_failed { OnErr result (Counts 1 (W.failures writer.old) (W.failures writer.new)) }
-{
-    match records.take() {
-        Some(record) => {
-            records.records_are_longest();
-            session.answer_record(alloc, directory, transport, &record, writer)
-        }
-        None => Ok(()),
-    }
-}
-
-/// Feeds a piece, and answers the records that are whole now, each before the next.
-fn answer_piece<W: Sink, S: BuildHasher>(
-    alloc: Global,
-    records: &mut RecordReader,
-    session: &mut Session,
-    writer: &mut W,
-    directory: &mut Directory<S>,
-    transport: Transport,
-    piece: &[u8],
-) -> Result<(), ServeFault>
-    requires taking { IsTaking records.old }
-    ensures ok { OnOk result (AnsweredPiece (netid_of transport) records.old records.new directory.old directory.new
-        session.old session.new piece.now (W.taken writer.old) (W.taken writer.new)) }
-    ensures cut { IfErr result (λ f. CutBy (netid_of transport) records.old directory.old directory.new
-        session.old session.new piece.now (W.taken writer.old) (W.taken writer.new) f) }
-    ensures none_failed { OnOk result (Counts 0 (W.failures writer.old) (W.failures writer.new)) }
-    ensures failed { IfErr result (λ f. WriteFails f (W.failures writer.old) (W.failures writer.new)) }
-{
-    let mut at = 0;
-    too_long_ends_the_stream();
-    'records: loop {
-        match records.feed(&piece[at..]) {
-            Ok(RecordStep::Whole { used }) => at += used,
-            Ok(RecordStep::More) => return Ok(()),
-            Err(fault) => return Err(record_fault(fault)),
-        }
-        match answer_next(alloc, records, session, writer, directory, transport) {
-            Ok(()) => {}
-            Err(fault) => return Err(fault),
-        }
     }
 }
 
@@ -116,34 +56,18 @@ pub fn serve<R: Source, W: Sink, S: BuildHasher>(
     ensures none_failed { OnOk result (Counts 0 (R.failures reader.old) (R.failures reader.new)
         × Counts 0 (W.failures writer.old) (W.failures writer.new)) }
 {
-    let mut records = RecordReader::start(alloc, MOST_RECORD);
+    let mut records = RecordStream::start(alloc, MOST_RECORD);
     let mut session = Session::new(alloc);
-    let mut array = [0u8; 4096];
-    no_record_begins_another();
-    records.records_are_longest();
-    for _turn in 0..MOST_READS {
-        let n = match reader.read(&mut array) {
-            Ok(n) => n,
-            Err(ReadFault) => return Err(ServeFault::Read),
-        };
-        if n == 0 {
-            match records.end() {
-                Ok(()) => return Ok(session.served),
-                Err(fault) => return Err(ServeFault::Record(fault)),
+    'records: loop {
+        match records.next_record(reader) {
+            Ok(None) => return Ok(session.served),
+            Ok(Some(record)) => {
+                match session.answer_record(alloc, directory, transport, &record, writer) {
+                    Ok(()) => {}
+                    Err(lost) => return Err(lost),
+                }
             }
-        }
-        match answer_piece(
-            alloc,
-            &mut records,
-            &mut session,
-            writer,
-            directory,
-            transport,
-            &array[..n],
-        ) {
-            Ok(()) => records.records_are_longest(),
-            Err(fault) => return Err(fault),
+            Err(fault) => return Err(record_fault(fault)),
         }
     }
-    Err(ServeFault::TooManyReads)
 }

@@ -1,93 +1,91 @@
-use Rattle.std.proofs.Common.{◌+◌, refl, arith}
-use Rattle.std.proofs.lemmas.List.{length-take-le}
+use Rattle.std.proofs.Common.{◌≡◌, ◌+◌, ℕ, List, [], ◌∷◌, ◌++◌, refl, sym, ap, ◌∙◌, subst, Err}
 use Rattle.xdr_io.proofs.Chained.{Counts-trans, Counts-none}
 use Rattle.registry_answer.specs.Views.{netid_of}
-use Rattle.rpc_engine.proofs.Whole.{begins, goes_on, stops_cut, stops_read, stops_many, stops_truncated, ends}
 use Rattle.rpc_engine.specs.Served.{most_record}
+use Rattle.rpc_engine.specs.Private.Serving.{Does, fault_of}
+use Rattle.rpc_engine.proofs.Pieces.{does_none, does_trans}
+use Rattle.rpc_engine.proofs.Whole.{serves, stops_failed, stops_lost, fault_read, same_err, writes_none, lost_writes}
 use Rattle.rpc_engine.proofs.server.serve.Goals as goal
 
-pub returns-in-Err-clause-fault : goal.returns-in-Err-clause-fault
-returns-in-Err-clause-fault g c =
-    stops_read (netid_of c.args.transport) c.loop-turn.records _ _ c.loop-turn.session _ _ _ _ _
-    c.loop-turn.invariant.progress c.in-Err.ensures.bytes
-
-pub returns-in-Err-answer_piece-clause-fault : goal.returns-in-Err-answer_piece-clause-fault
-returns-in-Err-answer_piece-clause-fault g c =
-    stops_cut (netid_of c.args.transport) c.loop-turn.records _ _ c.loop-turn.session _ _ _ _ _
-    c.loop-turn.invariant.progress _ c.answer_piece.new.session _ _ c.in-Err-answer_piece.fault
-    (omega (
-      arith,
-      c.in-Ok.ensures.bound,
-      length-take-le c.in-Ok.n c.read.new.array (omega (arith, c.in-Ok.ensures.bound)),
-    )) c.in-Ok.ensures.bytes.0 c.in-Err-answer_piece.ensures.cut
-
-pub loop-turn-preserved : goal.loop-turn-preserved
-loop-turn-preserved g c = record {
-  progress = goes_on (netid_of c.args.transport) c.loop-turn.records _ _ c.loop-turn.session _ _ _ _ _
-      c.loop-turn.invariant.progress c.answer_piece.new.records _ c.answer_piece.new.session _ _
-      c.in-Ok.ensures.bytes.0 c.in-Ok-answer_piece.ensures.ok c.records_are_longest-in-Ok-answer_piece.ensures.taking
-      c.records_are_longest-in-Ok-answer_piece.ensures.not_long;
-  reads = Counts-trans _ _ _ c.loop-turn._turn 1 _ refl c.loop-turn.invariant.reads c.read.ensures.count;
-  reads_failed = Counts-trans _ _ _ 0 0 0 refl c.loop-turn.invariant.reads_failed c.in-Ok.ensures.failed;
-  writes_failed = Counts-trans _ _ _ 0 0 0 refl c.loop-turn.invariant.writes_failed
-      c.in-Ok-answer_piece.ensures.none_failed;
-}
-
-pub returns-clause-fault : goal.returns-clause-fault
-returns-clause-fault g c =
-    stops_many (netid_of c.args.transport) c.loop-turn.records _ _ c.loop-turn.session _ _
-    (g.R.Source.left c.loop-turn.reader) _ _ c.loop-turn.invariant.progress
-
-pub loop-turn-init : goal.loop-turn-init
-loop-turn-init g c = record {
-  progress = begins (netid_of c.args.transport) most_record c.start-records.result _ c.new-session.result _ _
-      c.start-records.ensures.limit c.start-records.ensures.taking c.start-records.ensures.stands
-      (c.records_are_longest.ensures.taking c.start-records.ensures.taking)
-      (c.records_are_longest.ensures.not_long c.start-records.ensures.taking) c.new-session.ensures;
-  reads = Counts-none _;
+pub records-init : goal.records-init
+records-init g c = record {
+  rs = [];
+  start = c.new-session.result;
+  begun = c.new-session.ensures;
+  read = c.start-records.ensures.read _;
+  does = does_none (netid_of c.args.transport) _ c.new-session.result _;
+  reads = Counts-trans _ _ _ 0 0 _ (sym c.start-records.ensures.unread) (Counts-none _) (Counts-none _);
   reads_failed = Counts-none _;
   writes_failed = Counts-none _;
 }
 
-pub returns-in-Err-clause-reads : goal.returns-in-Err-clause-reads
-returns-in-Err-clause-reads g c = record {
-  calls = c.loop-turn._turn + 1;
-  few = omega arith;
-  counted = Counts-trans _ _ _ c.loop-turn._turn 1 _ refl c.loop-turn.invariant.reads c.read.ensures.count;
-}
+-- ---- the input has ended
 
-pub returns-in-Err-answer_piece-clause-reads : goal.returns-in-Err-answer_piece-clause-reads
-returns-in-Err-answer_piece-clause-reads g c = record {
-  calls = c.loop-turn._turn + 1;
-  few = omega arith;
-  counted = Counts-trans _ _ _ c.loop-turn._turn 1 _ refl c.loop-turn.invariant.reads c.read.ensures.count;
-}
+pub returns-in-Ok-None-clause-ok : goal.returns-in-Ok-None-clause-ok
+returns-in-Ok-None-clause-ok g c =
+    let inv = c.records.invariant in
+    serves (netid_of c.args.transport) _ _ inv.start c.records.session inv.rs _ _ _ _ inv.begun inv.does
+    (rw c.in-Ok-None.field-0-is at (c.in-Ok-None.ensures.next most_record inv.rs _ inv.read))
 
-pub returns-in-Ok-end-clause-ok : goal.returns-in-Ok-end-clause-ok
-returns-in-Ok-end-clause-ok g c =
-    let bytes = c.in-Ok.ensures.bytes in
-    let laws = c.no_record_begins_another.ensures in
-    ends (netid_of c.args.transport) c.loop-turn.records _ _ c.loop-turn.session _ _ _ _ _
-    c.loop-turn.invariant.progress laws.longest laws.whole c.read.new.array c.in-Ok.n c.if-n-eq0.true bytes.0
-    (bytes.1 c.if-n-eq0.true) c.in-Ok-end.ensures.concludes
+-- ---- a record
 
-pub returns-in-Ok-end-clause-reads : goal.returns-in-Ok-end-clause-reads
-returns-in-Ok-end-clause-reads g c = record {
-  calls = c.loop-turn._turn + 1;
-  few = omega arith;
-  counted = Counts-trans _ _ _ c.loop-turn._turn 1 _ refl c.loop-turn.invariant.reads c.read.ensures.count;
-}
+pub records-preserved : goal.records-preserved
+records-preserved g c =
+    let inv = c.records.invariant in
+    let record_is = c.deref.ensures.value in
+    record {
+      rs = inv.rs ++ c.in-Ok-Some.record.items ∷ [];
+      start = inv.start;
+      begun = inv.begun;
+      read = rw c.in-Ok-Some.field-0-is at (c.in-Ok-Some.ensures.next most_record inv.rs _ inv.read);
+      does = does_trans (netid_of c.args.transport) _ _ _ inv.start c.records.session c.answer_record.new.self inv.rs
+          (c.in-Ok-Some.record.items ∷ []) _ _ _ inv.does
+          (subst (λ k. Does (netid_of c.args.transport) c.records.directory c.answer_record.new.directory
+          c.records.session c.answer_record.new.self (k ∷ []) (g.W.Sink.taken c.records.writer)
+          (g.W.Sink.taken c.answer_record.new.writer)) record_is c.in-Ok.ensures.ok);
+      reads = c.in-Ok-Some.ensures.reads _ inv.reads;
+      reads_failed = Counts-trans _ _ _ 0 0 0 refl inv.reads_failed c.in-Ok-Some.ensures.none_failed;
+      writes_failed = Counts-trans _ _ _ 0 0 0 refl inv.writes_failed c.in-Ok.ensures.none_failed;
+    }
 
-pub returns-in-Err-end-clause-fault : goal.returns-in-Err-end-clause-fault
-returns-in-Err-end-clause-fault g c =
-    let bytes = c.in-Ok.ensures.bytes in
-    stops_truncated (netid_of c.args.transport) c.loop-turn.records _ _ c.loop-turn.session _ _ _ _ _
-    c.loop-turn.invariant.progress c.read.new.array c.in-Ok.n c.in-Err-end.fault c.if-n-eq0.true bytes.0
-    (bytes.1 c.if-n-eq0.true) c.in-Err-end.ensures.concludes
+pub returns-in-Err-answer_record-clause-fault : goal.returns-in-Err-answer_record-clause-fault
+returns-in-Err-answer_record-clause-fault g c =
+    let inv = c.records.invariant in
+    stops_lost (netid_of c.args.transport) _ _ _ inv.start c.records.session inv.rs c.in-Ok-Some.record.items
+    c.deref.result.now _ _ _ _ _ c.next_record.new.self.records _ c.in-Err-answer_record.lost c.deref.ensures.value
+    (rw c.in-Ok-Some.field-0-is at (c.in-Ok-Some.ensures.next most_record inv.rs _ inv.read)) inv.begun inv.does
+    c.in-Err-answer_record.ensures.cut
 
-pub returns-in-Err-end-clause-reads : goal.returns-in-Err-end-clause-reads
-returns-in-Err-end-clause-reads g c = record {
-  calls = c.loop-turn._turn + 1;
-  few = omega arith;
-  counted = Counts-trans _ _ _ c.loop-turn._turn 1 _ refl c.loop-turn.invariant.reads c.read.ensures.count;
-}
+pub returns-in-Err-answer_record-clause-write : goal.returns-in-Err-answer_record-clause-write
+returns-in-Err-answer_record-clause-write g c =
+    let inv = c.records.invariant in
+    lost_writes (netid_of c.args.transport) _ _ c.records.session _ _ _ _ _ c.in-Err-answer_record.lost
+    c.in-Err-answer_record.ensures.cut
+    (Counts-trans _ _ _ 0 1 1 refl inv.writes_failed c.in-Err-answer_record.ensures.one_failed)
+
+-- ---- a fault of the reader
+
+pub returns-in-Err-clause-fault : goal.returns-in-Err-clause-fault
+returns-in-Err-clause-fault g c =
+    let inv = c.records.invariant in
+    rw c.record_fault.ensures
+    (stops_failed (netid_of c.args.transport) _ _ inv.start c.records.session inv.rs _ _ _ _ inv.begun inv.does
+    c.in-Err.fault (c.in-Err.ensures.next most_record inv.rs _ inv.read))
+
+pub returns-in-Err-clause-read : goal.returns-in-Err-clause-read
+returns-in-Err-clause-read g c =
+    λ is. Counts-trans _ _ _ 0 1 1 refl c.records.invariant.reads_failed
+    (c.in-Err.ensures.read (ap (λ k. Err k)
+    (fault_read c.in-Err.fault (sym c.record_fault.ensures ∙ same_err _ _ is))))
+
+pub returns-in-Err-clause-unfailed : goal.returns-in-Err-clause-unfailed
+returns-in-Err-clause-unfailed g c =
+    λ other. Counts-trans _ _ _ 0 0 0 refl c.records.invariant.reads_failed
+    (c.in-Err.ensures.unfailed (λ is. other (c.record_fault.ensures ∙ ap fault_of is)))
+
+pub returns-in-Err-clause-write : goal.returns-in-Err-clause-write
+returns-in-Err-clause-write g c =
+    let inv = c.records.invariant in
+    rw c.record_fault.ensures
+    (writes_none inv.rs _ _ _ _ c.in-Err.fault (c.in-Err.ensures.next most_record inv.rs _ inv.read)
+    inv.writes_failed)
