@@ -46,7 +46,7 @@ under_rows : (results : List ℕ) (status : ℕ) (text : List ℕ) → status �
     → UnderHeader text
 under_rows results _ _ zero (rows rs other begins) = (flat_map row_line rs, refl)
 under_rows results _ _ zero (mappings ms two begins) = (flat_map mapping_line ms, refl)
-under_rows results _ _ zero (refused f known none place cut) = absurd (omega (arith, zero))
+under_rows results _ _ zero (refused f known ends none place cut) = absurd (omega (arith, zero))
 
 under_status : (s : StatusView) (status : ℕ) (text : List ℕ) → status ≡ 0 → TellsStatus 2 s status text
     → UnderHeader text

@@ -35,15 +35,15 @@ printed_then port n os o e =
 
 -- ---- connections
 
-each_then : (rows mid new : List Row) (a b c : Option (List (List ℕ))) (os : List Outcome) (o : Outcome)
-    → ServesEach rows a os mid b → ServesNext mid new b c o → ServesEach rows a (os ++ o ∷ []) new c
-each_then rows mid new a b c [] o each next =
-    let first = subst (λ (r : List Row). ServesNext r new b c o) each.0 next in
-    (new, (c, (subst (λ (w : Option (List (List ℕ))). ServesNext rows new w c o) each.1 first, (refl, refl))))
-each_then rows mid new a b c (p ∷ os) o each next =
-    (each.0, (each.1.0, (each.1.1.0, each_then each.0 mid new each.1.0 b c os o each.1.1.1 next)))
+each_then : {W : Type 0} (went : W → Option (List ℕ)) (rows mid new : List Row) (a b c : Option (List (List ℕ))) (os : List Outcome) (o : Outcome)
+    → ServesEach went rows a os mid b → ServesNext went mid new b c o → ServesEach went rows a (os ++ o ∷ []) new c
+each_then went rows mid new a b c [] o each next =
+    let first = subst (λ (r : List Row). ServesNext went r new b c o) each.0 next in
+    (new, (c, (subst (λ (w : Option (List (List ℕ))). ServesNext went rows new w c o) each.1 first, (refl, refl))))
+each_then went rows mid new a b c (p ∷ os) o each next =
+    (each.0, (each.1.0, (each.1.1.0, each_then went each.0 mid new each.1.0 b c os o each.1.1.1 next)))
 
-pub begins : {L O : Type 0} (post : Post L O) (rows : List Row) (l : L) (o o' : O)
+pub begins : {L W O : Type 0} (post : Post L W O) (rows : List Row) (l : L) (o o' : O)
     → Appends (post.taken o) (post.taken o') (listening_line (post.port l)) → Counts 0 (post.lost o) (post.lost o')
     → HasServed 0 post rows rows l l o o'
 begins post rows l o o' line unlost = record {
@@ -55,7 +55,7 @@ begins post rows l o o' line unlost = record {
   unrefused = Counts-none (post.refused l);
 }
 
-pub begins_not : {L O : Type 0} (post : Post L O) (rows : List Row) (l : L) (o o' : O) (count : ℕ) (why : Stop)
+pub begins_not : {L W O : Type 0} (post : Post L W O) (rows : List Row) (l : L) (o o' : O) (count : ℕ) (why : Stop)
     → LinePrints (listening_line (post.port l)) (post.taken o) (post.taken o') (post.lost o) (post.lost o') (Err why)
     → HasStopped count post rows rows l l o o' why
 begins_not post rows l o o' count stop.NoConnection p = absurd p
@@ -79,7 +79,7 @@ begins_not post rows l o o' count (stop.Failed failure.NoMemory) p = record {
       (sym (append-nil (listening_line (post.port l)))) p;
 }
 
-pub goes_on : {L O : Type 0} (post : Post L O) (rows mid new : List Row) (l m k : L) (o p q : O) (n : ℕ)
+pub goes_on : {L W O : Type 0} (post : Post L W O) (rows mid new : List Row) (l m k : L) (o p q : O) (n : ℕ)
     → HasServed n post rows mid l m o p → HasServedOne (n + 1) post mid new m k p q
     → HasServed (n + 1) post rows new l k o q
 goes_on post rows mid new l m k o p q n done one =
@@ -88,7 +88,7 @@ goes_on post rows mid new l m k o p q n done one =
     length-append done.outcomes (one.outcome ∷ []) in
     record {
       outcomes = done.outcomes ++ one.outcome ∷ [];
-      served = each_then rows mid new _ _ _ done.outcomes one.outcome done.served one.served;
+      served = each_then post.went rows mid new _ _ _ done.outcomes one.outcome done.served one.served;
       counted = omega (arith, longer, counted);
       lines = Appends-trans _ _ _ _ _ _ (printed_then (post.port l) n done.outcomes one.outcome counted)
           done.lines one.line;
@@ -96,16 +96,16 @@ goes_on post rows mid new l m k o p q n done one =
       unrefused = Counts-trans _ _ _ 0 0 0 refl done.unrefused one.unrefused;
     }
 
-pub stops_on : {L O : Type 0} (post : Post L O) (rows mid new : List Row) (l m k : L) (o p q : O) (n count : ℕ)
+pub stops_on : {L W O : Type 0} (post : Post L W O) (rows mid new : List Row) (l m k : L) (o p q : O) (n count : ℕ)
     (why : Stop) → n < count → HasServed n post rows mid l m o p → StopsOne (n + 1) post mid new m k p q why
     → HasStopped count post rows new l k o q why
 stops_on {O = O} post rows mid new l m k o p q n count stop.NoConnection few done one =
     let counted = done.counted in
     record {
       outcomes = done.outcomes;
-      served = subst (λ (r : List Row). ServesEach rows (post.waiting l) done.outcomes r (post.waiting k))
+      served = subst (λ (r : List Row). ServesEach post.went rows (post.waiting l) done.outcomes r (post.waiting k))
           (sym one.same)
-          (subst (λ (w : Option (List (List ℕ))). ServesEach rows (post.waiting l) done.outcomes mid w)
+          (subst (λ (w : Option (List (List ℕ))). ServesEach post.went rows (post.waiting l) done.outcomes mid w)
           (sym one.waiting) done.served);
       few = omega (arith, counted, few);
       stops = (
@@ -123,7 +123,7 @@ stops_on post rows mid new l m k o p q n count (stop.Failed failure.Write) few d
     length-append done.outcomes (one.outcome ∷ []) in
     record {
       outcomes = done.outcomes ++ one.outcome ∷ [];
-      served = each_then rows mid new _ _ _ done.outcomes one.outcome done.served one.served;
+      served = each_then post.went rows mid new _ _ _ done.outcomes one.outcome done.served one.served;
       few = omega (arith, longer, counted, few);
       stops = (
         subst (λ (z : List ℕ). InPart z (post.taken o) (post.taken q))
@@ -138,7 +138,7 @@ stops_on post rows mid new l m k o p q n count (stop.Failed failure.NoMemory) fe
     length-append done.outcomes (one.outcome ∷ []) in
     record {
       outcomes = done.outcomes ++ one.outcome ∷ [];
-      served = each_then rows mid new _ _ _ done.outcomes one.outcome done.served one.served;
+      served = each_then post.went rows mid new _ _ _ done.outcomes one.outcome done.served one.served;
       few = omega (arith, longer, counted, few);
       stops = subst (λ (z : List ℕ). InPart z (post.taken o) (post.taken q))
           (printed_then (post.port l) n done.outcomes one.outcome counted)
@@ -147,17 +147,18 @@ stops_on post rows mid new l m k o p q n count (stop.Failed failure.NoMemory) fe
 
 -- ---- one connection
 
-pub next_served : (rows new : List Row) (waiting waiting' : Option (List (List ℕ)))
-    (left left' taken taken' : Option (List ℕ)) (o : Outcome) → Arrives waiting waiting' left
-    → IfOk o (λ s. Serves tcp rows new left left' taken taken' s)
-    → IfErr o (λ f. Stops tcp rows new left left' taken taken' f) → ServesNext rows new waiting waiting' o
-next_served rows new waiting waiting' left left' taken taken' (Ok s) arrived served stopped =
-    record { left = left; left' = left'; taken = taken; taken' = taken'; arrived = arrived; answered = served }
-next_served rows new waiting waiting' left left' taken taken' (Err f) arrived served stopped =
-    record { left = left; left' = left'; taken = taken; taken' = taken'; arrived = arrived; answered = stopped }
+pub next_served : {W : Type 0} (went : W → Option (List ℕ)) (rows new : List Row)
+    (waiting waiting' : Option (List (List ℕ))) (left left' : Option (List ℕ)) (writer writer' : W) (o : Outcome)
+    → Arrives waiting waiting' left → IfOk o (λ s. Serves tcp rows new left left' (went writer) (went writer') s)
+    → IfErr o (λ f. Stops tcp rows new left left' (went writer) (went writer') f)
+    → ServesNext went rows new waiting waiting' o
+next_served went rows new waiting waiting' left left' writer writer' (Ok s) arrived served stopped =
+    record { left = left; left' = left'; writer = writer; writer' = writer'; arrived = arrived; answered = served }
+next_served went rows new waiting waiting' left left' writer writer' (Err f) arrived served stopped =
+    record { left = left; left' = left'; writer = writer; writer' = writer'; arrived = arrived; answered = stopped }
 
-pub one_served : {L O : Type 0} (post : Post L O) (n : ℕ) (rows new : List Row) (l m : L) (o p : O) (x : Outcome)
-    (r : Result (Unit {0}) Stop) → ServesNext rows new (post.waiting l) (post.waiting m) x
+pub one_served : {L W O : Type 0} (post : Post L W O) (n : ℕ) (rows new : List Row) (l m : L) (o p : O) (x : Outcome)
+    (r : Result (Unit {0}) Stop) → ServesNext post.went rows new (post.waiting l) (post.waiting m) x
     → Counts 0 (post.refused l) (post.refused m)
     → LinePrints (connection_line n x) (post.taken o) (post.taken p) (post.lost o) (post.lost p) r
     → OnOk r (HasServedOne n post rows new l m o p)
@@ -165,8 +166,8 @@ one_served post n rows new l m o p x (Ok u) next unrefused line =
     record { outcome = x; served = next; line = line.0; unlost = line.1; unrefused = unrefused }
 one_served post n rows new l m o p x (Err why) next unrefused line = tt
 
-pub one_stopped : {L O : Type 0} (post : Post L O) (n : ℕ) (rows new : List Row) (l m : L) (o p : O) (x : Outcome)
-    (r : Result (Unit {0}) Stop) → ServesNext rows new (post.waiting l) (post.waiting m) x
+pub one_stopped : {L W O : Type 0} (post : Post L W O) (n : ℕ) (rows new : List Row) (l m : L) (o p : O) (x : Outcome)
+    (r : Result (Unit {0}) Stop) → ServesNext post.went rows new (post.waiting l) (post.waiting m) x
     → LinePrints (connection_line n x) (post.taken o) (post.taken p) (post.lost o) (post.lost p) r
     → IfErr r (λ why. StopsOne n post rows new l m o p why)
 one_stopped post n rows new l m o p x (Ok u) next line = tt

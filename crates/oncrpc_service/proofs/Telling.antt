@@ -12,6 +12,7 @@ use Rattle.oncrpc_service.specs.Rows.{header}
 use Rattle.oncrpc_service.specs.Private.Nodes.{list_lines}
 use Rattle.xdr_stream.specs.declared.fault.DecodeFault.{DecodeFault}
 use Rattle.xdr_stream.specs.declared.fault.Reason.TheVariants as reason
+use Rattle.xdr_stream.specs.Finish.{EndsWith}
 use Rattle.xdr_codec.specs.Refused.{HasNoneWithin, IsRefused}
 use Rattle.oncrpc_tasks.specs.declared.answer.Answer.TheVariants as answer
 use Rattle.oncrpc_tasks.specs.Lines.{line}
@@ -65,9 +66,10 @@ told_rows vers results t n status text fits e zero is =
 
 -- the line of why no rows begin results
 pub told_refusal : (vers : ℕ) (results : List ℕ) (f : DecodeFault) (status : ℕ) (text : List ℕ)
+    → EndsWith dir_kinds (list_place vers) dump_limits results f
     → IsRefused (HasNoneWithin dir_kinds (list_place vers) dump_limits) f.why results → f.at ≤ length results
     → (f.why ≡ reason.Truncated → f.at ≡ length results)
     → (f.why ≢ reason.NoMemory) × (status ≡ 1) × (text ≡ line (answer.Refused f)) → TellsRows vers results status text
-told_refusal vers results f status text none place cut (known, one, is) =
+told_refusal vers results f status text ends none place cut (known, one, is) =
     subst (λ (s : ℕ). TellsRows vers results s text) (sym one)
-    (subst (λ (z : List ℕ). TellsRows vers results 1 z) (sym is) (refused f known none place cut))
+    (subst (λ (z : List ℕ). TellsRows vers results 1 z) (sym is) (refused f known ends none place cut))

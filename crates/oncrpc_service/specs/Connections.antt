@@ -20,21 +20,23 @@ abbrev pub Answers : (rows new : List Row) → (left left' taken taken' : Option
 Answers rows new left left' taken taken' (Ok served) = Serves tcp rows new left left' taken taken' served
 Answers rows new left left' taken taken' (Err f) = Stops tcp rows new left left' taken taken' f
 
--- The next connection was served.
-pub record ServesNext (rows new : List Row) (waiting waiting' : Option (List (List ℕ))) (o : Outcome) : Type 0 where
+-- The next connection was served: what the client sent was answered, and the replies went to the client. A writer to a
+-- client tells by `went` what went there.
+pub record ServesNext {W : Type 0} (went : W → Option (List ℕ)) (rows new : List Row)
+    (waiting waiting' : Option (List (List ℕ))) (o : Outcome) : Type 0 where
   pub left : Option (List ℕ)
   pub left' : Option (List ℕ)
-  pub taken : Option (List ℕ)
-  pub taken' : Option (List ℕ)
+  pub writer : W
+  pub writer' : W
   pub arrived : Arrives waiting waiting' left
-  pub answered : Answers rows new left left' taken taken' o
+  pub answered : Answers rows new left left' (went writer) (went writer') o
 
 -- Connections were served one after another, each from the rows that the one before left.
-abbrev pub ServesEach : (rows : List Row) → (waiting : Option (List (List ℕ))) → List Outcome → (new : List Row)
-    → (waiting' : Option (List (List ℕ))) → Type 0
-ServesEach rows waiting [] new waiting' = (new ≡ rows) × (waiting' ≡ waiting)
-ServesEach rows waiting (o ∷ os) new waiting' = (mid : List Row) × ((next : Option (List (List ℕ)))
-    × (ServesNext rows mid waiting next o × ServesEach mid next os new waiting'))
+abbrev pub ServesEach : {W : Type 0} → (went : W → Option (List ℕ)) → (rows : List Row)
+    → (waiting : Option (List (List ℕ))) → List Outcome → (new : List Row) → (waiting' : Option (List (List ℕ))) → Type 0
+ServesEach went rows waiting [] new waiting' = (new ≡ rows) × (waiting' ≡ waiting)
+ServesEach went rows waiting (o ∷ os) new waiting' = (mid : List Row) × ((next : Option (List (List ℕ)))
+    × (ServesNext went rows mid waiting next o × ServesEach went mid next os new waiting'))
 
 -- the line of a connection that a fault of its stream of records ended: the fault's name and its place
 abbrev pub record_line : (number : ℕ) → RecordFault → List ℕ

@@ -6,6 +6,7 @@ use Rattle.xdr_types.specs.Spelling.{bytes_of}
 use Rattle.xdr_types.specs.Within.{FitsWithin}
 use Rattle.xdr_stream.specs.declared.fault.DecodeFault.{DecodeFault}
 use Rattle.xdr_stream.specs.declared.fault.Reason.TheVariants as reason
+use Rattle.xdr_stream.specs.Finish.{EndsWith}
 use Rattle.xdr_codec.specs.Refused.{HasNoneWithin, IsRefused}
 use Rattle.rpc_record.specs.declared.fault.RecordFault.{RecordFault}
 use Rattle.rpc_record.specs.declared.fault.RecordFault.TheVariants as flaw
@@ -48,13 +49,14 @@ BeginsWith kind bytes t =
     FitsWithin dir_kinds kind dump_limits t × ((rest : List ℕ) × (bytes ≡ bytes_of dir_kinds kind t ++ rest))
 
 -- The status and the text of results: a header and a line for each row with which they begin, or why they begin with
--- none.
+-- none, by the reason and the place of their outcome as the kind of the rows.
 pub data TellsRows (vers : ℕ) (results : List ℕ) : (status : ℕ) → (text : List ℕ) → Type 0 where
   rows : (rs : List Row) → vers ≢ 2 → BeginsWith 14 results (rpcb_list rs)
       → TellsRows vers results 0 (header vers ++ flat_map row_line rs)
   mappings : (ms : List Mapping) → vers ≡ 2 → BeginsWith 18 results (pmap_list ms)
       → TellsRows vers results 0 (header vers ++ flat_map mapping_line ms)
   refused : (f : DecodeFault) → f.why ≢ reason.NoMemory
+      → EndsWith dir_kinds (list_place vers) dump_limits results f
       → IsRefused (HasNoneWithin dir_kinds (list_place vers) dump_limits) f.why results → f.at ≤ length results
       → (f.why ≡ reason.Truncated → f.at ≡ length results)
       → TellsRows vers results 1 (line (answer.Refused f))

@@ -8,11 +8,13 @@ use Rattle.oncrpc_service.specs.declared.serving.Stop.TheVariants as stop
 use Rattle.oncrpc_service.specs.Connections.{Outcome, ServesEach, ServesNext, connection_line, printed}
 use Rattle.oncrpc_service.specs.Written.{InPart, IsCut}
 
--- What a listener and a writer tell: the port, what the clients that wait send, and what failed.
-pub record Post (L O : Type 0) : Type 0 where
+-- What a listener, the writers to its clients and the output tell: the port, what the clients that wait send, what went
+-- to a client, and what failed.
+pub record Post (L W O : Type 0) : Type 0 where
   pub port : L → ℕ
   pub waiting : L → Option (List (List ℕ))
   pub refused : L → Option ℕ
+  pub went : W → Option (List ℕ)
   pub taken : O → Option (List ℕ)
   pub lost : O → Option ℕ
 
@@ -24,15 +26,16 @@ Fails text fewer refused refused' taken taken' lost lost' =
 
 -- Connections were served, at most so many, and this is what the status says of them, of the output and of the writer
 -- for faults. At 4 the last line could not be made.
-pub record ServeEnds {L O F : Type 0} (count : ℕ) (post : Post L O) (rows new : List Row) (listener listener' : L)
+pub record ServeEnds {L W O F : Type 0} (count : ℕ) (post : Post L W O) (rows new : List Row) (listener listener' : L)
     (output output' : O) (faults faults' : F) (status : ℕ) : Type 0 where
   pub outcomes : List Outcome
-  pub served : ServesEach rows (post.waiting listener) outcomes new (post.waiting listener')
+  pub served : ServesEach post.went rows (post.waiting listener) outcomes new (post.waiting listener')
   pub few : length outcomes ≤ count
   pub known : (status ≡ 0) ⊎ ((status ≡ 3) ⊎ (status ≡ 4))
   pub all : status ≡ 0 → length outcomes ≡ count
   pub lines : status ≡ 0 → Appends (post.taken output) (post.taken output') (printed (post.port listener) outcomes)
   pub unlost : status ≡ 0 → Counts 0 (post.lost output) (post.lost output')
+  pub unrefused : status ≡ 0 → Counts 0 (post.refused listener) (post.refused listener')
   pub silent : status ≡ 0 → faults' ≡ faults
   pub device : status ≡ 3 → Fails (printed (post.port listener) outcomes) (length outcomes < count)
       (post.refused listener) (post.refused listener') (post.taken output) (post.taken output')
@@ -49,30 +52,30 @@ StopsUnder text fewer refused refused' taken taken' lost lost' stop.NoConnection
 StopsUnder text fewer refused refused' taken taken' lost lost' (stop.Failed f) = IsCut text taken taken' lost lost' f
 
 -- so many connections were served, and their lines written
-pub record HasServed {L O : Type 0} (count : ℕ) (post : Post L O) (rows new : List Row) (listener listener' : L)
+pub record HasServed {L W O : Type 0} (count : ℕ) (post : Post L W O) (rows new : List Row) (listener listener' : L)
     (output output' : O) : Type 0 where
   pub outcomes : List Outcome
-  pub served : ServesEach rows (post.waiting listener) outcomes new (post.waiting listener')
+  pub served : ServesEach post.went rows (post.waiting listener) outcomes new (post.waiting listener')
   pub counted : length outcomes ≡ count
   pub lines : Appends (post.taken output) (post.taken output') (printed (post.port listener) outcomes)
   pub unlost : Counts 0 (post.lost output) (post.lost output')
   pub unrefused : Counts 0 (post.refused listener) (post.refused listener')
 
 -- serving stopped before so many connections had their lines
-pub record HasStopped {L O : Type 0} (count : ℕ) (post : Post L O) (rows new : List Row) (listener listener' : L)
+pub record HasStopped {L W O : Type 0} (count : ℕ) (post : Post L W O) (rows new : List Row) (listener listener' : L)
     (output output' : O) (why : Stop) : Type 0 where
   pub outcomes : List Outcome
-  pub served : ServesEach rows (post.waiting listener) outcomes new (post.waiting listener')
+  pub served : ServesEach post.went rows (post.waiting listener) outcomes new (post.waiting listener')
   pub few : length outcomes ≤ count
   pub stops : StopsUnder (printed (post.port listener) outcomes) (length outcomes < count)
       (post.refused listener) (post.refused listener') (post.taken output) (post.taken output')
       (post.lost output) (post.lost output') why
 
 -- one connection was served, and its line written
-pub record HasServedOne {L O : Type 0} (number : ℕ) (post : Post L O) (rows new : List Row) (listener listener' : L)
+pub record HasServedOne {L W O : Type 0} (number : ℕ) (post : Post L W O) (rows new : List Row) (listener listener' : L)
     (output output' : O) : Type 0 where
   pub outcome : Outcome
-  pub served : ServesNext rows new (post.waiting listener) (post.waiting listener') outcome
+  pub served : ServesNext post.went rows new (post.waiting listener) (post.waiting listener') outcome
   pub line : Appends (post.taken output) (post.taken output') (connection_line number outcome)
   pub unlost : Counts 0 (post.lost output) (post.lost output')
   pub unrefused : Counts 0 (post.refused listener) (post.refused listener')
@@ -85,7 +88,7 @@ LinePrints line taken taken' lost lost' (Err stop.NoConnection) = ⊥
 LinePrints line taken taken' lost lost' (Err (stop.Failed f)) = IsCut line taken taken' lost lost' f
 
 -- no connection came
-pub record NoneCame {L O : Type 0} (post : Post L O) (rows new : List Row) (listener listener' : L)
+pub record NoneCame {L W O : Type 0} (post : Post L W O) (rows new : List Row) (listener listener' : L)
     (output output' : O) : Type 0 where
   pub same : new ≡ rows
   pub waiting : post.waiting listener' ≡ post.waiting listener
@@ -93,17 +96,17 @@ pub record NoneCame {L O : Type 0} (post : Post L O) (rows new : List Row) (list
   pub refused : Counts 1 (post.refused listener) (post.refused listener')
 
 -- one connection was served, and its line not written
-pub record LosesLine {L O : Type 0} (number : ℕ) (post : Post L O) (rows new : List Row) (listener listener' : L)
+pub record LosesLine {L W O : Type 0} (number : ℕ) (post : Post L W O) (rows new : List Row) (listener listener' : L)
     (output output' : O) (why : Stop) : Type 0 where
   pub outcome : Outcome
-  pub served : ServesNext rows new (post.waiting listener) (post.waiting listener') outcome
+  pub served : ServesNext post.went rows new (post.waiting listener) (post.waiting listener') outcome
   pub stops : LinePrints (connection_line number outcome) (post.taken output) (post.taken output')
       (post.lost output) (post.lost output') (Err why)
 
 -- why one connection has no line
-abbrev pub StopsOne : {L O : Type 0} → (number : ℕ) → Post L O → (rows new : List Row) → (listener listener' : L)
+abbrev pub StopsOne : {L W O : Type 0} → (number : ℕ) → Post L W O → (rows new : List Row) → (listener listener' : L)
     → (output output' : O) → Stop → Type 0
-StopsOne {L} {O} number post rows new listener listener' output output' stop.NoConnection =
+StopsOne {L} {W} {O} number post rows new listener listener' output output' stop.NoConnection =
     NoneCame post rows new listener listener' output output'
-StopsOne {L} {O} number post rows new listener listener' output output' (stop.Failed f) =
+StopsOne {L} {W} {O} number post rows new listener listener' output output' (stop.Failed f) =
     LosesLine number post rows new listener listener' output output' (stop.Failed f)

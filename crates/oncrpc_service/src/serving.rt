@@ -31,6 +31,7 @@ pub fn serve_on<L: Listener, S: BuildHasher, O: Sink, F: Sink>(
       port = L.port_of;
       waiting = L.waiting;
       refused = L.failures;
+      went = L.Writer.taken;
       taken = O.taken;
       lost = O.failures;
     })
@@ -67,10 +68,24 @@ fn serve_all<L: Listener, S: BuildHasher, O: Sink>(
     output: &mut O,
 ) -> Result<(), Stop>
     ensures served { OnOk result (HasServed count
-        (record { port = L.port_of; waiting = L.waiting; refused = L.failures; taken = O.taken; lost = O.failures })
+        (record {
+          port = L.port_of;
+          waiting = L.waiting;
+          refused = L.failures;
+          went = L.Writer.taken;
+          taken = O.taken;
+          lost = O.failures;
+        })
         directory.old directory.new listener.old listener.new output.old output.new) }
     ensures stopped { IfErr result (λ why. HasStopped count
-        (record { port = L.port_of; waiting = L.waiting; refused = L.failures; taken = O.taken; lost = O.failures })
+        (record {
+          port = L.port_of;
+          waiting = L.waiting;
+          refused = L.failures;
+          went = L.Writer.taken;
+          taken = O.taken;
+          lost = O.failures;
+        })
         directory.old directory.new listener.old listener.new output.old output.new why) }
 {
     match print(output, listening_line(alloc, listener.port())) {
@@ -95,10 +110,24 @@ fn serve_one<L: Listener, S: BuildHasher, O: Sink>(
     output: &mut O,
 ) -> Result<(), Stop>
     ensures served { OnOk result (HasServedOne number
-        (record { port = L.port_of; waiting = L.waiting; refused = L.failures; taken = O.taken; lost = O.failures })
+        (record {
+          port = L.port_of;
+          waiting = L.waiting;
+          refused = L.failures;
+          went = L.Writer.taken;
+          taken = O.taken;
+          lost = O.failures;
+        })
         directory.old directory.new listener.old listener.new output.old output.new) }
     ensures stopped { IfErr result (λ why. StopsOne number
-        (record { port = L.port_of; waiting = L.waiting; refused = L.failures; taken = O.taken; lost = O.failures })
+        (record {
+          port = L.port_of;
+          waiting = L.waiting;
+          refused = L.failures;
+          went = L.Writer.taken;
+          taken = O.taken;
+          lost = O.failures;
+        })
         directory.old directory.new listener.old listener.new output.old output.new why) }
 {
     match serve_next(alloc, listener, directory) {
@@ -114,7 +143,7 @@ fn serve_next<L: Listener, S: BuildHasher>(
     directory: &mut Directory<S>,
 ) -> Result<Result<Served, ServeFault>, Stop>
     ensures served { IfOk result (λ outcome.
-        ServesNext directory.old directory.new (L.waiting listener.old) (L.waiting listener.new) outcome) }
+        ServesNext L.Writer.taken directory.old directory.new (L.waiting listener.old) (L.waiting listener.new) outcome) }
     ensures none_failed { OnOk result (Counts 0 (L.failures listener.old) (L.failures listener.new)) }
     ensures none_came { IfErr result (λ why. (why ≡ Stop.NoConnection) × (directory.new ≡ directory.old)
         × (L.waiting listener.new ≡ L.waiting listener.old)

@@ -13,8 +13,10 @@ returns-in-Ok-clause-told c =
 
 pub returns-clause-told : goal.returns-clause-told
 returns-clause-told c =
+    let ends = rw (c.in_ok-schema.ensures.schema, c.list_kind.ensures, c.dump_limits.ensures)
+    at c.in-Err.ensures.fault in
     let none = rw (c.in_ok-schema.ensures.schema, c.list_kind.ensures, c.dump_limits.ensures)
     at c.in-Err.ensures.refused in
     if_ok c.refusal_page.result
-    (λ p told. told_refusal c.args.vers c.args.results.now c.in-Err.fault p.status p.text.items none
+    (λ p told. told_refusal c.args.vers c.args.results.now c.in-Err.fault p.status p.text.items ends none
     c.in-Err.ensures.place c.in-Err.ensures.truncated told) c.refusal_page.ensures.told
