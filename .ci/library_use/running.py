@@ -20,7 +20,7 @@ def passed(name, is_well, said=""):
 def compiled(library, source, to, *more):
     """Compiles a program on the library's archive, and says why that failed, if it did."""
     compiler = CPP if source.endswith(".cc") else C
-    ran = run([*compiler, f"-I{library}/include", source, f"{library}/liboncrpc.a", *more, "-o", to])
+    ran = run([*compiler, f"-I{library}/include", source, *more, f"{library}/liboncrpc.a", "-o", to])
     return ran.stderr
 
 

@@ -319,6 +319,10 @@ fn each_fault_of_a_stream() {
     assert_eq!(records.take(&mut record), Ok(true));
     assert_eq!((record.as_slice(), record.capacity() >= 40), (b"abc".as_slice(), true));
     assert_eq!(records.end(), Ok(()));
+    let mut larger = Vec::new();
+    assert_eq!(records.feed(marked), Ok(Some(11)));
+    assert_eq!(records.take(&mut larger), Ok(true), "a vector that is too small grows");
+    assert_eq!(larger, b"abc");
     let mut records = Records::start(3).unwrap();
     assert_eq!(records.feed(&marked[..6]), Ok(None));
     assert_eq!(records.end(), Err(StreamFault::Refused(cut)));
