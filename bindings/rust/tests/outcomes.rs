@@ -3,7 +3,7 @@
 use oncrpc::{
     normalise, Auth, AuthSys, AuthSysFault, Call, CallFault, CheckFault, Checked, Declarations, Limits, NormaliseFault,
     ReadFault, Reason, Records, Refusal, Reply, ReplyFault, Role, StreamFault, TextFault, TextFaultKind, WriteFault,
-    XdrType,
+    XdrType, MOST_RECORD,
 };
 
 const TEXT: &[u8] = b"
@@ -89,6 +89,26 @@ fn other_faults_of_a_check() {
         Ok(()),
         "an empty text has no error"
     );
+}
+
+/// The greatest depth and count of bytes of a value, and of bytes of a record (RFC 5531 section 11).
+#[test]
+fn the_greatest_limits() {
+    assert_eq!(
+        (Limits::MOST.depth, Limits::MOST.bytes, MOST_RECORD),
+        (4096, 16_777_216, 2_147_483_647)
+    );
+    let mut declarations = Declarations::read(TEXT).unwrap();
+    let above = [(4097, 4), (4096, 16_777_220)].map(|(depth, bytes)| Limits { depth, bytes });
+    for (limits, wanted) in [
+        (Limits::MOST, None),
+        (above[0], Some(CheckFault::BadLimits)),
+        (above[1], Some(CheckFault::BadLimits)),
+    ] {
+        assert_eq!(declarations.check("int", limits, &[0; 4]).err(), wanted);
+    }
+    assert_eq!(Records::start(MOST_RECORD).map(|_| ()), Ok(()));
+    assert_eq!(Records::start(MOST_RECORD + 1).map(|_| ()), Err(StreamFault::BadLimit));
 }
 
 /// Each error of a text, at its line and column (docs/LANGUAGE.md, "Refusals").
