@@ -82,22 +82,23 @@ static void check_types(oncrpc_declarations *held) {
     judge(parts[6].kind == parts[13].kind && parts[6].kind != parts[7].kind && parts[8].kind == parts[9].kind, 0);
 }
 
-/* docs/LANGUAGE.md, "Refusals". */
+/* docs/LANGUAGE.md, "Refusals". Of a schema: no finite value, 7, and a size of 0, 2. */
 static void check_faults(void) {
     static char nested[1024], longest[262145];
-    static const struct { const char *text; uint32_t why; size_t line, column; } faults[] = {
-        {"\n $", ONCRPC_BAD_CHARACTER, 2, 2},
-        {"\n\nconst a = 08;", ONCRPC_BAD_NUMBER, 3, 11},
-        {"const = 1;", ONCRPC_UNEXPECTED, 1, 7},
-        {"struct a { float x; };", ONCRPC_FLOATING_KIND, 1, 12},
-        {"struct a { int b; int b; };", ONCRPC_NAME_TWICE, 1, 23},
-        {"typedef b a;", ONCRPC_NAME_UNKNOWN, 1, 9},
-        {"enum e { A = 1 }; typedef int a[A];", ONCRPC_NOT_A_SIZE, 1, 33},
-        {"typedef int a[4294967296];", ONCRPC_OUT_OF_RANGE, 1, 15},
-        {"typedef a a;", ONCRPC_TYPEDEF_LOOP, 1, 11},
-        {"\n struct a { a b; };", ONCRPC_BAD_SCHEMA, 2, 2},
-        {longest, ONCRPC_TEXT_TOO_LONG, 1, 1},
-        {nested, ONCRPC_NESTED_TOO_DEEP, 33, 8},
+    static const struct { const char *text; uint32_t why; size_t line, column; uint32_t inner; } faults[] = {
+        {"\n $", ONCRPC_BAD_CHARACTER, 2, 2, 0},
+        {"\n\nconst a = 08;", ONCRPC_BAD_NUMBER, 3, 11, 0},
+        {"const = 1;", ONCRPC_UNEXPECTED, 1, 7, 0},
+        {"struct a { float x; };", ONCRPC_FLOATING_KIND, 1, 12, 0},
+        {"struct a { int b; int b; };", ONCRPC_NAME_TWICE, 1, 23, 0},
+        {"typedef b a;", ONCRPC_NAME_UNKNOWN, 1, 9, 0},
+        {"enum e { A = 1 }; typedef int a[A];", ONCRPC_NOT_A_SIZE, 1, 33, 0},
+        {"typedef int a[4294967296];", ONCRPC_OUT_OF_RANGE, 1, 15, 0},
+        {"typedef a a;", ONCRPC_TYPEDEF_LOOP, 1, 11, 0},
+        {"\n struct a { a b; };", ONCRPC_BAD_SCHEMA, 2, 2, 7},
+        {"typedef opaque none[0];", ONCRPC_BAD_SCHEMA, 1, 9, 2},
+        {longest, ONCRPC_TEXT_TOO_LONG, 1, 1, 0},
+        {nested, ONCRPC_NESTED_TOO_DEEP, 33, 8, 0},
     };
     memset(longest, ' ', sizeof longest);
     strcpy(nested, "struct a {\n");
@@ -109,9 +110,8 @@ static void check_faults(void) {
         oncrpc_outcome outcome = {9, 9, 9, 9, 9};
         size_t count = faults[i].text == longest ? sizeof longest : strlen(faults[i].text);
         uint32_t status = oncrpc_declarations_read(bytes(faults[i].text), count, &held, &outcome);
-        int has_inner = faults[i].why == ONCRPC_BAD_SCHEMA ? outcome.inner >= 1 && outcome.inner <= 11 : !outcome.inner;
         judge(status == ONCRPC_UNDECLARED && outcome.why == faults[i].why && outcome.line == faults[i].line
-            && outcome.column == faults[i].column && has_inner && !outcome.at, status);
+            && outcome.column == faults[i].column && outcome.inner == faults[i].inner && !outcome.at, status);
         oncrpc_declarations_free(&held);
     }
 }
