@@ -31,21 +31,21 @@ static void check(const char *name, const char *wire, size_t length, long count)
             exit(1);
     oncrpc_declarations_free(&held);
 }
-static uint32_t into(oncrpc_declarations *held, const char *name, const char *wire, size_t length,
+static uint32_t put_into(oncrpc_declarations *held, const char *name, const char *wire, size_t length,
                      oncrpc_value_part *parts, size_t part_count, uint8_t *names, size_t name_count,
                      oncrpc_parts_outcome *found) {
     return oncrpc_declarations_parts(held, (const uint8_t *)name, strlen(name), ONCRPC_MOST_DEPTH, ONCRPC_MOST_BYTES,
                                      (const uint8_t *)wire, length, parts, part_count, names, name_count, found);
 }
-static void list(const char *name, const char *wire, size_t length, long count, int asked) {
+static void put_parts(const char *name, const char *wire, size_t length, long count, int asked) {
     oncrpc_declarations held = declared(1);
     oncrpc_parts_outcome need, found;
-    if (into(&held, name, wire, length, NULL, 0, NULL, 0, &need) != ONCRPC_NO_ROOM) exit(1);
+    if (put_into(&held, name, wire, length, NULL, 0, NULL, 0, &need) != ONCRPC_NO_ROOM) exit(1);
     oncrpc_value_part *parts = malloc(need.parts * sizeof *parts);
     uint8_t *names = malloc(need.names + 1);
     for (long i = 0; i < count; i++) {
-        if (asked && into(&held, name, wire, length, NULL, 0, NULL, 0, &found) != ONCRPC_NO_ROOM) exit(2);
-        if (into(&held, name, wire, length, parts, need.parts, names, need.names, &found)) exit(3);
+        if (asked && put_into(&held, name, wire, length, NULL, 0, NULL, 0, &found) != ONCRPC_NO_ROOM) exit(2);
+        if (put_into(&held, name, wire, length, parts, need.parts, names, need.names, &found)) exit(3);
     }
     oncrpc_declarations_free(&held);
 }
@@ -65,7 +65,7 @@ static void loop(const char *name, xdrproc_t f, void *value, size_t size, const 
         return;
     }
     if (!strcmp(work, "parts") || !strcmp(work, "asked")) {
-        list(name, wire, length, count, *work == 'a');
+        put_parts(name, wire, length, count, *work == 'a');
         return;
     }
 #endif
