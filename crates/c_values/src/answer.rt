@@ -15,7 +15,7 @@ pub enum Answer {
     Followed { used: usize },
     /// Bytes that are refused.
     Refused(DecodeFault),
-    /// A text that declares nothing.
+    /// A text that has an error.
     Undeclared(LangFault),
     /// A name that names no kind.
     NoKind,

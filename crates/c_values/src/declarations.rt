@@ -35,7 +35,7 @@ fn read_into(alloc: Global, text: &[u8], handle: &mut Handle) -> Answer
 
 /// Reads a text of declarations into the handle. What that held before is freed.
 ///
-/// Status 0: the handle holds what the text declares. 3: the text declares nothing; `why` is the fault's number, 1 to
+/// Status 0: the handle holds what the text declares. 3: the text has an error; `why` is the fault's number, 1 to
 /// 12, at `line` and `column`, with `inner` for 10. 6: memory was refused. At 3 and 6 the handle holds none.
 #[unsafe(no_mangle)]
 pub extern "C" fn oncrpc_declarations_read(

@@ -10,7 +10,7 @@ use xdr_lang::{Declared, LangFault, read};
 /// Why a text was not read.
 #[derive(Clone, Copy)]
 pub enum Unread {
-    /// It declares nothing.
+    /// It has an error.
     Undeclared(LangFault),
     /// Memory was refused.
     NoMemory,
