@@ -196,6 +196,7 @@ def fields_of(spec, name, depth):
 
 
 def fields_cited(clauses, names):
-    """The fields of the records that clauses cite, and of those that these name, three deep."""
-    cited = {word for _, _, text in clauses for word in WORD.findall(text) if word in names}
+    """The fields of the records that clauses are, and of those that these name, three deep."""
+    first = [WORD.search(re.sub(r"^\{ *let\b.*?\bin\b", "{", it[2], flags=re.S)) for it in clauses]
+    cited = {it[0] for it in first if it and it[0] in names}
     return {field for word in cited for field in fields_of(names[word], word, 3)}
