@@ -35,7 +35,8 @@ printed_then port n os o e =
 
 -- ---- connections
 
-each_then : {W : Type 0} (went : W → Option (List ℕ)) (rows mid new : List Row) (a b c : Option (List (List ℕ))) (os : List Outcome) (o : Outcome)
+each_then : {W : Type 0} (went : W → Option (List ℕ)) (rows mid new : List Row) (a b c : Option (List (List ℕ)))
+    (os : List Outcome) (o : Outcome)
     → ServesEach went rows a os mid b → ServesNext went mid new b c o → ServesEach went rows a (os ++ o ∷ []) new c
 each_then went rows mid new a b c [] o each next =
     let first = subst (λ (r : List Row). ServesNext went r new b c o) each.0 next in

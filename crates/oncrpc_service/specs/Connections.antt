@@ -33,7 +33,9 @@ pub record ServesNext {W : Type 0} (went : W → Option (List ℕ)) (rows new : 
 
 -- Connections were served one after another, each from the rows that the one before left.
 abbrev pub ServesEach : {W : Type 0} → (went : W → Option (List ℕ)) → (rows : List Row)
-    → (waiting : Option (List (List ℕ))) → List Outcome → (new : List Row) → (waiting' : Option (List (List ℕ))) → Type 0
+    → (waiting : Option (List (List ℕ))) → List Outcome → (new : List Row)
+    → (waiting' : Option (List (List ℕ)))
+    → Type 0
 ServesEach went rows waiting [] new waiting' = (new ≡ rows) × (waiting' ≡ waiting)
 ServesEach went rows waiting (o ∷ os) new waiting' = (mid : List Row) × ((next : Option (List (List ℕ)))
     × (ServesNext went rows mid waiting next o × ServesEach went mid next os new waiting'))

@@ -143,7 +143,8 @@ fn serve_next<L: Listener, S: BuildHasher>(
     directory: &mut Directory<S>,
 ) -> Result<Result<Served, ServeFault>, Stop>
     ensures served { IfOk result (λ outcome.
-        ServesNext L.Writer.taken directory.old directory.new (L.waiting listener.old) (L.waiting listener.new) outcome) }
+        ServesNext L.Writer.taken directory.old directory.new (L.waiting listener.old) (L.waiting listener.new)
+        outcome) }
     ensures none_failed { OnOk result (Counts 0 (L.failures listener.old) (L.failures listener.new)) }
     ensures none_came { IfErr result (λ why. (why ≡ Stop.NoConnection) × (directory.new ≡ directory.old)
         × (L.waiting listener.new ≡ L.waiting listener.old)

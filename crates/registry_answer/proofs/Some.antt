@@ -1,17 +1,21 @@
 -- Each record has an answer where no memory is refused.
-use Rattle.std.proofs.Common.{◌≡◌, ◌≢◌, ◌⊎◌, inl, inr, ℕ, ◌<◌, ◌≤◌, Bool, true, false, List, [], Option, Some, None, length}
+use Rattle.std.proofs.Common.{◌≡◌, ◌≢◌, ◌⊎◌, inl, inr, ℕ, ◌<◌, ◌≤◌, Bool, true, false, List, []}
+use Rattle.std.proofs.Common.{Option, Some, None, length}
 use Rattle.std.proofs.Common.{refl, arith}
 use Rattle.std.proofs.lemmas.Bool.{cases_eq, cases_lt}
 use Rattle.xdr_units.specs.Numbers.{AreBytes, IsWord}
 use Rattle.rpc_message.specs.Message.{CallView, CaseView, Whole, OtherVersion, BadCred, BadVerf, NotACall, StatusView}
-use Rattle.rpc_message.specs.Message.{ReplyView, Success, ProgUnavail, ProgMismatch, ProcUnavail, GarbageArgs, SystemErr}
+use Rattle.rpc_message.specs.Message.{ReplyView, Success, ProgUnavail, ProgMismatch, ProcUnavail, GarbageArgs}
+use Rattle.rpc_message.specs.Message.{SystemErr}
 use Rattle.rpc_message.specs.Cases.{IsCase}
 use Rattle.rpc_message.specs.Spelling.{IsAuth, IsReply, IsStatus, reply}
 use Rattle.registry_rows.specs.Rows.{Row}
-use Rattle.registry_answer.specs.Callers.{Caller, Owner, Refused, owner_of, IsCaller, anyone, user, unreadable, other, unknown}
+use Rattle.registry_answer.specs.Callers.{Caller, Owner, Refused, owner_of, IsCaller, anyone, user, unreadable}
+use Rattle.registry_answer.specs.Callers.{other, unknown}
 use Rattle.registry_answer.specs.Procedures.{Procedure, procedure_at}
 use Rattle.registry_answer.specs.Answer.{program, IsVersion, IsCallOf, ComesTo, no_program, no_version, no_procedure}
-use Rattle.registry_answer.specs.Answer.{garbage, success, accepted, auth_error, is_too_long, AnswersCall, denies, accepts}
+use Rattle.registry_answer.specs.Answer.{garbage, success, accepted, auth_error, is_too_long}
+use Rattle.registry_answer.specs.Answer.{AnswersCall, denies, accepts}
 use Rattle.registry_answer.specs.Answer.{too_long, Answers, silence, other_version, bad_cred, bad_verf, call, Answer}
 use Rattle.registry_answer.specs.Laws.{SomeAnswer}
 
@@ -62,7 +66,8 @@ module _ (rows : List Row) (netid : List ℕ) (c : CallView) (xid : IsWord c.xid
 
       by : (new : List Row) (s : StatusView) → IsStatus s → ComesTo rows netid owner c new s → (b : Bool)
           → is_too_long netid (length (reply (accepted c.xid s))) ≡ b → ⊥
-      by new s fits comes true e = never rows (accepted c.xid SystemErr) (xid, empty, tt) (too_long owner new s is comes e)
+      by new s fits comes true e = never rows (accepted c.xid SystemErr) (xid, empty, tt)
+          (too_long owner new s is comes e)
       by new s fits comes false e = never new (accepted c.xid s) (xid, empty, fits) (accepts owner new s is comes e)
 
   none_called : (k : Caller) → IsCaller c.cred k → ⊥

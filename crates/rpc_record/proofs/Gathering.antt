@@ -1,5 +1,6 @@
 -- Records handed to an outbox, one after another, and what normalising comes to.
-use Rattle.std.proofs.Common.{◌≡◌, ℕ, ◌+◌, ◌<◌, ◌≤◌, ◌^◌, true, List, [], ◌∷◌, ◌++◌, length, take, Option, refl, sym, ap}
+use Rattle.std.proofs.Common.{◌≡◌, ℕ, ◌+◌, ◌<◌, ◌≤◌, ◌^◌, true, List, [], ◌∷◌, ◌++◌, length, take}
+use Rattle.std.proofs.Common.{Option, refl, sym, ap}
 use Rattle.std.proofs.Common.{◌∙◌, subst, append_assoc, length-append, arith, Result, Err}
 use Rattle.std.proofs.lemmas.List.{append-nil, length_push}
 use Rattle.std.proofs.Math.Seq.{get_or-append_seam}

@@ -103,7 +103,8 @@ module _ (limit : ℕ) (r : RecordReader) (w : List ℕ) (rs : List (List ℕ)) 
   longest = Longest-taking limit r p.input rs p.same p.taking stands
 
   has_no_long : HasNoLong limit p.input
-  has_no_long = subst (λ x. HasNoLong x p.input) p.same (λ others at t. not_long r at p.input rs others p.taking stands t)
+  has_no_long = subst (λ x. HasNoLong x p.input) p.same
+      (λ others at t. not_long r at p.input rs others p.taking stands t)
 
   pub taken_more : (x : List ℕ) (n : Option (List ℕ)) → Consumes m n x → HasTaken limit r x rs l n
   taken_more x n k = made limit r p.fed x (p.input ++ x) rs l n

@@ -9,7 +9,8 @@ use Rattle.oncrpc_tasks.proofs.check.lines_of.Goals as goal
 pub unreachable-requires : goal.unreachable-requires
 unreachable-requires c =
     let q = unshown (asked_of c.args.question.now) in
-    no_fault q c.depth-in_range.ensures.range.units c.args.bytes.now c.requires.whole c.in-Err.fault c.in-Err.ensures.fault
+    no_fault q c.depth-in_range.ensures.range.units c.args.bytes.now c.requires.whole c.in-Err.fault
+    c.in-Err.ensures.fault
     (λ e. let same = rw e at c.eq.ensures in false≢true (sym c.if-eq.false ∙ same))
 
 pub returns-in-Ok-clause-lines : goal.returns-in-Ok-clause-lines

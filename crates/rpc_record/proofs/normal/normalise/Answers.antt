@@ -2,7 +2,8 @@ use Rattle.std.proofs.Common.{true, [], ◌∷◌, ◌++◌, length, refl, sym, 
 use Rattle.xdr_io.proofs.Chained.{Counts-trans, Counts-none}
 use Rattle.rpc_record.specs.Marked.{fragment}
 use Rattle.rpc_record.specs.Private.Sending.{Sends}
-use Rattle.rpc_record.proofs.Gathering.{handed_none, handed_record, handed_flushed, handed_all, lost_record, lost_waiting}
+use Rattle.rpc_record.proofs.Gathering.{handed_none, handed_record, handed_flushed, handed_all}
+use Rattle.rpc_record.proofs.Gathering.{lost_record, lost_waiting}
 use Rattle.rpc_record.proofs.Gathering.{stops_failed, writes_none, lost_writes, all_normalised, fits_header, same_err}
 use Rattle.rpc_record.proofs.normal.normalise.Goals as goal
 use Rattle.rpc_record.proofs.normal.normalise.Goals.{in-Ok-flush, in-Err-flush}
@@ -170,7 +171,8 @@ records-preserved g c =
     record {
       rs = inv.rs ++ c.in-Ok-Some-next_record.record.items ∷ [];
       read = more;
-      handed = handed_record inv.rs c.flush-in-records.new.self _ _ handed c.in-Ok-Some-next_record.record.items put.self
+      handed = handed_record inv.rs c.flush-in-records.new.self _ _ handed
+          c.in-Ok-Some-next_record.record.items put.self
           _ c.in-Ok-put_record.ensures.records
           (subst (λ k. Sends c.flush-in-records.new.self put.self (g.W.Sink.taken c.flush-in-records.new.writer)
           (g.W.Sink.taken put.writer) (fragment true k)) c.deref-in-Ok-Some-next_record.ensures.value

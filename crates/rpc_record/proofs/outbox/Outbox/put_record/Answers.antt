@@ -18,7 +18,8 @@ returns-in-Ok-put-clause-ok g c =
     let head = c.last_header-header.result in
     let marked = c.last_header-header.ensures.spelled in
     let spelled : head ≡ header true (length content) = (cc) in
-    Sends-trans c.args.self.now c.put.new.self _ _ head c.in-Ok.ensures.ok _ _ content _ (ap (λ m. m ++ content) spelled)
+    Sends-trans c.args.self.now c.put.new.self _ _ head c.in-Ok.ensures.ok _ _ content _
+    (ap (λ m. m ++ content) spelled)
     (Sends-same c.put.new.self c.put-2.new.self _ _ _ content refl refl c.in-Ok-put.ensures.ok)
 
 pub returns-in-Err-put-clause-cut : goal.returns-in-Err-put-clause-cut
