@@ -24,7 +24,7 @@ use Rattle.xdr_types.specs.Laws.{EachKindHasAValue, EachPartIsKnown}
 use Rattle.xdr_laws.proofs.Owed.{begin_into}
 use Rattle.xdr_laws.proofs.Legal.{IsLegal, FitAll, fit_node, and, bytes_are}
 use Rattle.std.proofs.lemmas.Bool.{false≢true}
-use Rattle.xdr_laws.specs.Held.{first}
+use Rattle.xdr_laws.specs.Begun.{first}
 use Rattle.xdr_laws.specs.Laws.{IsUnfinished, GoesOn}
 use Rattle.xdr_laws.proofs.Content.{unit4_back, unit4_less, refuses_padding}
 use Rattle.xdr_laws.proofs.Reach.{step_unit, step_rest, accepted, Steps}

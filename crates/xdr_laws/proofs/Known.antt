@@ -21,7 +21,7 @@ use Rattle.xdr_laws.specs.Owed.{Due, Frame, Rest, Completes, Reads, lead_of, Has
 use Rattle.xdr_laws.proofs.Legal.{IsLegal, FitAll, fit_node, both, and}
 use Rattle.std.proofs.lemmas.Bool.{false≢true}
 use Rattle.xdr_laws.specs.Parts.{Join, up_to, AllFrom, AreKnown}
-use Rattle.xdr_laws.specs.Held.{first, begins_here}
+use Rattle.xdr_laws.specs.Begun.{first, begins_here}
 use Rattle.xdr_laws.proofs.Numbers.{unit_of, units_of, unit4-length, unit8-length}
 use Rattle.xdr_laws.proofs.Owed.{begin_into}
 use Rattle.xdr_laws.proofs.Content.{bytes8}

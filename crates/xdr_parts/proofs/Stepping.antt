@@ -15,7 +15,7 @@ use Rattle.xdr_units.specs.Numbers.{pad, gap, word}
 use Rattle.xdr_laws.specs.Owed.{Frame, Rest, Completes, Lead, UnitFirst, LengthFirst, FreeBytes, Silent, lead_of}
 use Rattle.xdr_laws.specs.Owed.{HasUnit, IsUnitFirst, IsLengthFirst, IsFreeBytes, IsSilent, free_size, silent_head}
 use Rattle.xdr_laws.specs.Owed.{Accepts, head_of, role_of}
-use Rattle.xdr_laws.specs.Held.{first}
+use Rattle.xdr_laws.specs.Begun.{first}
 use Rattle.xdr_laws.proofs.Owed.{begin_into, reads_end, reads_silent, reads_unit, refuses_unit}
 use Rattle.xdr_laws.proofs.Content.{counted, free_parts, reads_length, reads_free, refuses_length}
 use Rattle.xdr_laws.proofs.Known.{shows_first}

@@ -15,7 +15,8 @@ use Rattle.xdr_types.specs.Spelling.{own, spelling}
 use Rattle.xdr_types.specs.Within.{Bounds}
 use Rattle.xdr_types.specs.Layout.{Entry}
 use Rattle.xdr_laws.specs.Owed.{Due, Rest, lead_of, HasUnit, role_of}
-use Rattle.xdr_laws.specs.Held.{Holds, begins_here, content_before, count_bytes, bytes_in}
+use Rattle.xdr_laws.specs.Begun.{begins_here}
+use Rattle.xdr_laws.specs.Held.{Holds, content_before, count_bytes, bytes_in}
 use Rattle.xdr_laws.specs.Parts.{nodes, is_first, one_if}
 use Rattle.xdr_laws.proofs.Legal.{fit_node}
 use Rattle.xdr_laws.proofs.Holding.{nodes_append, held_by_frames}

@@ -23,7 +23,7 @@ use Rattle.xdr_types.specs.Outcome.{IsDeep, IsQuiet, IsReached, Outcome}
 use Rattle.xdr_laws.specs.Owed.{Due, Frame, Rest, Reads, lead_of, HasUnit, IsSilent, IsFreeBytes, IsUnitFirst}
 use Rattle.xdr_laws.specs.Owed.{IsLengthFirst, free_size, silent_head, Accepts, head_of, why_of, IsSettled}
 use Rattle.xdr_laws.specs.Owed.{AreFrames, EndsAt, IsOnTrack, AllUpTo, Reaches}
-use Rattle.xdr_laws.specs.Held.{first}
+use Rattle.xdr_laws.specs.Begun.{first}
 use Rattle.xdr_laws.specs.Laws.{IsUnfinished}
 use Rattle.xdr_laws.proofs.Legal.{bytes_are}
 use Rattle.xdr_laws.proofs.Numbers.{unit4-length}
