@@ -1,6 +1,6 @@
 -- Which bytes a checker has been given, and what its answers say of them: the outcome of decoding (RFC 4506).
 use Rattle.std.specs.Prelude.{◌≡◌, ℕ, List, Result}
-use Rattle.xdr_types.specs.Kinds.{Lists}
+use Rattle.xdr_types.specs.Kinds.{KindView, Lists}
 use Rattle.xdr_types.specs.Within.{Bounds}
 use Rattle.xdr_types.specs.declared.kind.KindId.{KindId}
 use Rattle.xdr_stream.specs.Finish as stream
@@ -13,6 +13,22 @@ use Rattle.xdr_stream.specs.declared.reader.State.TheVariants.{Finished, Failed}
 use Rattle.xdr_stream.specs.declared.reader.Progress.{Progress}
 use Rattle.xdr_codec.specs.declared.checker.Checker.{Checker}
 
+-- the lists of its schema
+abbrev pub schema_of : Checker → Lists
+schema_of c = c.reader.schema.now
+
+-- the kinds of its schema
+abbrev pub kinds_of : Checker → List KindView
+kinds_of c = c.reader.schema.now.kinds
+
+-- the kind of the value that it judges
+abbrev pub kind_of : Checker → KindId
+kind_of c = c.reader.kind
+
+-- its limits
+abbrev pub limits_of : Checker → Bounds
+limits_of c = c.reader.limits
+
 -- the checker's fields stand for these bytes, all that it was given up to the value's end
 abbrev pub StandsFor : Checker → (b : List ℕ) → Type 0
 StandsFor c b = stream.Checks c.reader b
@@ -20,12 +36,12 @@ StandsFor c b = stream.Checks c.reader b
 -- the answer to a piece is the outcome of the bytes b before it and all of its own: more to come where it is pending,
 -- done where a value is whole, a fault where it is one of this reason at this place, unless memory was refused
 abbrev pub HasOutcome : Checker → (b piece : List ℕ) → Result Progress DecodeFault → Type 0
-HasOutcome c b piece r = told.Answers c.reader.schema.now.kinds c.reader.kind.place c.reader.limits b piece r
+HasOutcome c b piece r = told.Answers (kinds_of c) (kind_of c).place (limits_of c) b piece r
 
 -- the answer to the end of the bytes b is their outcome: the count of the value that is whole, a fault of this reason
 -- at this place, and cut short at their count where it is pending
 abbrev pub CountsIn : Checker → (b : List ℕ) → Result ℕ DecodeFault → Type 0
-CountsIn c b r = Counts c.reader.schema.now.kinds c.reader.kind.place c.reader.limits b r
+CountsIn c b r = Counts (kinds_of c) (kind_of c).place (limits_of c) b r
 
 -- the settings of a new checker
 abbrev pub IsStarted : Checker → Lists → KindId → Bounds → Type 0
@@ -53,4 +69,4 @@ CountsFields c h = held.IsCount c.reader 0 0 h
 
 -- after the bytes b: a frame more than the limit on depth at most, and less than a unit
 abbrev pub IsHeldWithin : Checker → (b : List ℕ) → Held → Type 0
-IsHeldWithin c b h = held.IsWithin c.reader.schema.now.kinds c.reader.limits b h
+IsHeldWithin c b h = held.IsWithin (kinds_of c) (limits_of c) b h

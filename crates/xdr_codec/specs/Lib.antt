@@ -2,5 +2,6 @@ pub mod Checks
 pub mod Held
 pub mod Outcomes
 pub mod Refused
+pub mod Settings
 pub mod Stands
 pub mod Private

@@ -14,6 +14,7 @@ use Rattle.xdr_stream.specs.declared.reader.State.TheVariants.{Finished, Failed}
 use Rattle.xdr_stream.specs.declared.reader.Progress.{Progress}
 use Rattle.xdr_stream.specs.declared.reader.Progress.TheVariants.{More, Done}
 use Rattle.xdr_codec.specs.Refused.{HasNoneWithin, IsRefused}
+use Rattle.xdr_codec.specs.Settings.{schema_of, kinds_of, kind_of, limits_of}
 use Rattle.xdr_codec.specs.declared.decoder.Decoder.{Decoder}
 
 -- a value of the kind within the limits, whose encoding the bytes are
@@ -37,7 +38,7 @@ AnswersAs kinds place limits b (Ok (Done used)) = (t : Tree) × IsWhole kinds pl
 AnswersAs kinds place limits b (Err f) = Fails kinds place limits f b
 
 abbrev pub Answers : Decoder → List ℕ → Result Progress DecodeFault → Type 0
-Answers d b r = AnswersAs d.reader.schema.now.kinds d.reader.kind.place d.reader.limits b r
+Answers d b r = AnswersAs (kinds_of d) (kind_of d).place (limits_of d) b r
 
 -- what the end says of the bytes: they encode the value; or none begins them, and they end inside one or are broken
 abbrev pub FinishesAs : List KindView → ℕ → Bounds → List ℕ → Result Value DecodeFault → Type 0
@@ -46,19 +47,19 @@ FinishesAs kinds place limits b (Err f) = IsRefused (HasNoneWithin kinds place l
     × (f.why ≡ reason.Truncated → f.at ≡ length b)
 
 abbrev pub Finishes : Decoder → List ℕ → Result Value DecodeFault → Type 0
-Finishes d b r = FinishesAs d.reader.schema.now.kinds d.reader.kind.place d.reader.limits b r
+Finishes d b r = FinishesAs (kinds_of d) (kind_of d).place (limits_of d) b r
 
 -- the settings of a new decoder
 pub record IsStarted (d : Decoder) (schema : Lists) (kind : KindId) (limits : Bounds) : Type 0 where
-  pub schema_is : d.reader.schema.now ≡ schema
-  pub kind_is : d.reader.kind ≡ kind
-  pub limits_are : d.reader.limits ≡ limits
+  pub schema_is : schema_of d ≡ schema
+  pub kind_is : kind_of d ≡ kind
+  pub limits_are : limits_of d ≡ limits
 
 -- the settings stay
 pub record IsSame (a b : Decoder) : Type 0 where
-  pub schema_is : b.reader.schema.now ≡ a.reader.schema.now
-  pub kind_is : b.reader.kind ≡ a.reader.kind
-  pub limits_are : b.reader.limits ≡ a.reader.limits
+  pub schema_is : schema_of b ≡ schema_of a
+  pub kind_is : kind_of b ≡ kind_of a
+  pub limits_are : limits_of b ≡ limits_of a
 
 -- the value is whole
 abbrev pub IsDone : Decoder → Type 0

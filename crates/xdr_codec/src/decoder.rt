@@ -1,8 +1,10 @@
-//! Bytes in pieces as a value.
+//! Bytes in pieces as a value: a decoder, and what it is asked: the next piece, how much is held, the value.
 ghost use Rattle.std.specs.Prelude.{ℕ, List};
 ghost use Rattle.xdr_stream.specs.Finish.{Stands};
 
-use xdr_stream::{Reader, Values};
+use std::alloc::Global;
+use xdr_stream::{DecodeFault, Held, Progress, Reader, Values, decoder, holding};
+use xdr_types::{KindId, Limits, Schema, Value};
 
 /// Decodes a value from bytes that come in pieces. It keeps the part of the value that has come and at most three
 /// bytes of input.
@@ -10,4 +12,91 @@ use xdr_stream::{Reader, Values};
 pub struct Decoder<'s> {
     pub(crate) reader: Reader<'s, Values>,
     ghost given: { ∥ ((b : List ℕ) × Stands reader b) ∥₁ },
+}
+
+impl<'s> Decoder<'s> {
+    ghost use Rattle.std.specs.Prelude.{◌≡◌, ◌≤◌, ◌<◌, ◌%◌, ℕ, List, [], ◌++◌, length, IfOk, IfErr, IsOk, Ok, Err};
+    ghost use Rattle.xdr_stream.specs.Stands.{taken, used_of};
+    ghost use Rattle.xdr_stream.specs.declared.reader.Progress.TheVariants.{More, Done};
+    ghost use Rattle.xdr_stream.specs.declared.fault.Reason.TheVariants.{NoMemory};
+    ghost use Rattle.xdr_types.specs.Kinds.{kind_at};
+    ghost use Rattle.xdr_stream.specs.Spared.{IsFlat};
+    ghost use Rattle.xdr_codec.specs.Settings.{kinds_of, kind_of};
+    ghost use Rattle.xdr_codec.specs.Stands.{StandsFor, Answers, Finishes, IsSame, IsStarted, IsDone, HasFailed};
+    ghost use Rattle.xdr_codec.specs.Outcomes.{HasOutcome, EndsIn};
+    ghost use Rattle.xdr_codec.specs.Held.{GoesOn, IsWaiting, CountsFields, IsHeldWithin, IsHeldDue, IsHeldWhole};
+
+    /// A decoder that has been given no byte. It takes no memory.
+    pub fn start(alloc: Global, schema: &'s Schema, kind: KindId, limits: Limits) -> Decoder<'s>
+        requires { kind.place < length schema.now.kinds }
+        ensures stands { StandsFor result [] }
+        ensures settings { IsStarted result schema.now kind limits }
+        ensures open { GoesOn result }
+    {
+        Decoder {
+            reader: decoder::start(alloc, schema, kind, limits),
+        }
+    }
+
+    /// Takes the next piece, which may be empty. What it answers is the outcome of all bytes that came (RFC 4506):
+    /// `More` where it is pending, `Done` where a value is whole; `used` counts that value's bytes of this piece, and
+    /// later pieces are not looked at. A fault comes at the first unit after which no value goes on, at the node that
+    /// lies too deep, at the limit on bytes, each with its reason and place, or where memory was refused; it has taken
+    /// the whole piece, and comes again at each later call. That bytes have one outcome alone is
+    /// `xdr_laws::one_outcome`.
+    ///
+    /// What it holds is the value so far, a frame for each of its open nodes, and at most three bytes of input. It
+    /// takes no memory where the kind is a number, a boolean, an enumeration or void. Reading goes down by no calls;
+    /// the drop of a value does, one level a call.
+    pub fn feed(&mut self, piece: &[u8]) -> Result<Progress, DecodeFault>
+        ensures stands { (b : List ℕ) → StandsFor self.old b → StandsFor self.new (b ++ taken piece.now result) }
+        ensures outcome { (b : List ℕ) → StandsFor self.old b → HasOutcome self.old b piece.now result }
+        ensures answer { (b : List ℕ) → StandsFor self.old b → Answers self.old (b ++ taken piece.now result) result }
+        ensures used { IfOk result (λ p. used_of p ≤ length piece.now) }
+        ensures more { IfOk result (λ p. p ≡ More → IsWaiting self.new) }
+        ensures open { IfOk result (λ p. p ≡ More → GoesOn self.new) }
+        ensures done { IfOk result (λ p. (used : ℕ) → p ≡ Done used → IsDone self.new) }
+        ensures again { IsDone self.old → result ≡ Ok (Done 0) }
+        ensures failed { IfErr result (λ f. HasFailed self.new f) }
+        ensures granted { IsFlat (kind_at (kinds_of self.old) (kind_of self.old).place)
+            → IfErr result (λ f. f.why ≡ NoMemory → ⊥) }
+        ensures for_ever { (f : DecodeFault) → HasFailed self.old f → result ≡ Err f }
+        ensures same { IsSame self.old self.new }
+    {
+        let _range = self.reader.limits.depth();
+        self.reader.feed(piece)
+    }
+
+    /// How much is held, before any `feed` too. It takes no memory.
+    ///
+    /// `frames` counts the nodes that stand open, the one at work and its parents; `nodes` those of the value so far,
+    /// each as soon as it is due, so that a decoder that was given no byte has one; `bytes` those of content; `pending`
+    /// those of an unfinished unit. Whatever lengths the bytes declare, `frames` is at most one more than the limit on
+    /// depth, `nodes` at most (kinds + 1) times (u + 1) after u whole units, `bytes` at most the bytes given, `pending`
+    /// at most 3 (RFC 4506 section 3). After `Done` `nodes` and `bytes` are the value's, `frames` and `pending` 0.
+    /// After a fault nothing is held.
+    pub fn held(&self) -> Held
+        ensures counts { CountsFields self.now result }
+        ensures bounds { (b : List ℕ) → StandsFor self.now b → IsHeldWithin self.now b result }
+        ensures pending { (b : List ℕ) → StandsFor self.now b → GoesOn self.now → result.pending ≡ length b % 4 }
+        ensures due { (b : List ℕ) → StandsFor self.now b → IsWaiting self.now → IsHeldDue self.now b result }
+        ensures whole { (b : List ℕ) → StandsFor self.now b → IsDone self.now → IsHeldWhole self.now b result }
+    {
+        holding::held_by_decoder(&self.reader)
+    }
+
+    /// The value that the bytes encode. A fault of an earlier call comes again; where the value is not whole, it is
+    /// `Truncated` at the count of bytes given. Before any `feed` it answers as after an empty piece. It takes no
+    /// memory: after `Done` it gives the value, and it answers `NoMemory` only where an earlier call did.
+    pub fn finish(self) -> Result<Value, DecodeFault>
+        ensures outcome { (b : List ℕ) → StandsFor self.entry b → EndsIn self.entry b result }
+        ensures answer { (b : List ℕ) → StandsFor self.entry b → Finishes self.entry b result }
+        ensures for_ever { (f : DecodeFault) → HasFailed self.entry f → result ≡ Err f }
+        ensures whole { IsDone self.entry → IsOk result }
+        ensures granted { IfErr result (λ f. f.why ≡ NoMemory → HasFailed self.entry f) }
+    {
+        let reader = self.reader;
+        let _range = reader.limits.depth();
+        decoder::finish(reader)
+    }
 }

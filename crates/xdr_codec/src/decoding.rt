@@ -1,12 +1,14 @@
 //! Bytes as a value.
 ghost use Rattle.std.specs.Prelude.{◌≡◌, ℕ, ◌≤◌, ◌<◌, length, take, IfOk, IfErr};
+ghost use Rattle.xdr_types.specs.Kinds.{kind_at};
 ghost use Rattle.xdr_types.specs.Outcome.{Outcome, Whole};
 ghost use Rattle.xdr_types.specs.Spelling.{bytes_of};
 ghost use Rattle.xdr_types.specs.Tree.{Tree};
 ghost use Rattle.xdr_types.specs.View.{tree};
 ghost use Rattle.xdr_types.specs.Within.{FitsWithin};
 ghost use Rattle.xdr_stream.specs.Finish.{EndsWith};
-ghost use Rattle.xdr_stream.specs.declared.fault.Reason.TheVariants.{Truncated};
+ghost use Rattle.xdr_stream.specs.Spared.{IsFlat};
+ghost use Rattle.xdr_stream.specs.declared.fault.Reason.TheVariants.{Truncated, NoMemory};
 ghost use Rattle.xdr_codec.specs.Refused.{IsRefused, HasNoneWithin};
 
 use crate::decoder::Decoder;
@@ -42,6 +44,7 @@ pub fn decode(
         → bytes_of schema.now.kinds kind.place t ≡ take n input.now → (t ≡ tree r.0) × (n ≡ r.1)) }
     ensures refused { IfErr result (λ f. IsRefused (HasNoneWithin schema.now.kinds kind.place limits) f.why input.now) }
     ensures place { IfErr result (λ f. f.at ≤ length input.now) }
+    ensures granted { IsFlat (kind_at schema.now.kinds kind.place) → IfErr result (λ f. f.why ≡ NoMemory → ⊥) }
     ensures truncated { IfErr result (λ f. f.why ≡ Truncated → f.at ≡ length input.now) }
 {
     let _range = limits.depth();
@@ -49,7 +52,7 @@ pub fn decode(
     match decoder.feed(input) {
         Ok(Progress::Done { used }) => match decoder.finish() {
             Ok(value) => Ok((value, used)),
-            Err(fault) => Err(fault),
+            Err(_) => unreachable!(),
         },
         Ok(Progress::More) => Err(DecodeFault {
             why: Reason::Truncated,

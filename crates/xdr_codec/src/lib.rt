@@ -1,4 +1,10 @@
 //! The encoding of XDR values, and their decoding.
+//!
+//! - `encoding`: a value as bytes. `writing`: the same into a sink.
+//! - `pushing`: the bytes of a value, node by node. `put`: where they go. `gather`: bytes gathered on their way to a
+//!   sink.
+//! - `decoding`: bytes as a value. `decoder`: bytes in pieces as a value. `checker`: bytes in pieces without a value.
+//! - `laws`: the laws on which decoding stands.
 #![tactic(auto)]
 
 mod checker;
@@ -6,9 +12,7 @@ mod decoder;
 mod decoding;
 mod encoding;
 mod gather;
-mod judging;
 pub mod laws;
-mod pieces;
 mod pushing;
 mod put;
 mod writing;

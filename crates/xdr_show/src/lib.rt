@@ -1,4 +1,9 @@
 //! A value of XDR (RFC 4506) as lines of text: one for each part of its layout, in the order of its bytes.
+//!
+//! - `shown`: the lines of a value. `lent`: the same of parts that are lent from bytes. `reading`: what is read of
+//!   those.
+//! - `line`: what all lines have. `head`, `number`, `content`: what a line says of a node, of a number and of content.
+//! - `laws`: the lines are those of the layout.
 #![tactic(auto)]
 
 mod content;

@@ -149,6 +149,16 @@ impl<T: Drop, const MOST: usize> Blocks<T, MOST> {
         self.top.pop()
     }
 
+    /// Gives back the memory of blocks that have no items.
+    pub fn trim(&mut self)
+        ensures { self.new.items ≡ self.old.items }
+    {
+        self.spare = Chain::End;
+        if self.top.is_empty() {
+            self.top = Vec::new(self.alloc);
+        }
+    }
+
     /// Drops all items, and gives back their memory.
     pub fn clear(&mut self)
         ensures { self.new.items ≡ [] }

@@ -118,6 +118,13 @@ impl<T: MadeWith<Global> + Drop> Stack<T> {
         item
     }
 
+    /// Gives back the memory of blocks that have no items.
+    pub fn trim(&mut self)
+        ensures { self.new.items ≡ self.old.items }
+    {
+        self.far.trim();
+    }
+
     /// Drops all items, and gives back their memory.
     pub fn clear(&mut self)
         ensures { self.new.items ≡ [] }

@@ -31,18 +31,18 @@ fails_on s t l f b more e = (
 module _ (s : List KindView) (t : ℕ) (l : Bounds) (H : Trace → Type 0) (fs : List (List Part)) (read : ℕ)
     (room : List ℕ) (pending : ℕ) where
   -- a unit is needed
-  pub pending_on : (a : Awaits) (b : List ℕ) → StandsAs s t l H fs read room pending (Reading a) b
+  pub pending_on : (a : Awaits) (b : List ℕ) → StandsAs ⊥ s t l H fs read room pending (Reading a) b
       → Outcome s t l b Pending
   pending_on a b r =
       subst (λ (x : List ℕ). Outcome s t l x Pending) (sym r.1)
       (sees_pending s t l H r.0 a fs (take pending room) r.5 r.6 (omega (arith, length-take pending room, r.3)) r.4)
 
   -- the value is whole
-  whole_on : (b more : List ℕ) → StandsAs s t l H fs read room pending Finished b
+  whole_on : (b more : List ℕ) → StandsAs ⊥ s t l H fs read room pending Finished b
       → (v : Tree) × Outcome s t l (b ++ more) (Whole v (length b))
   whole_on b more r = let w = sees_whole s t l H b fs more r.1 r.2 in (w.0, w.2)
 
-module _ {B : Type 0} (tells : B → Trace → Type 0) (old new : Reader B)
+module _ {B : Type 0} (spares : Type 0) (tells : B → Trace → Type 0) (old new : Reader B)
     (same : IsSame old new) (b : List ℕ) where
   kinds_are : new.schema.now.kinds ≡ old.schema.now.kinds
   kinds_are = ap (λ (x : Lists). x.kinds) same.schema_is
@@ -50,25 +50,28 @@ module _ {B : Type 0} (tells : B → Trace → Type 0) (old new : Reader B)
   place_is : new.kind.place ≡ old.kind.place
   place_is = ap (λ (x : KindId). x.place) same.kind_is
 
-  stands_as : (st : State) → new.state ≡ st → StandsFor tells new b
-      → StandsAs old.schema.now.kinds old.kind.place old.limits (tells new.built)
+  stands_as : (st : State) → new.state ≡ st → StandsFor spares tells new b
+      → StandsAs spares old.schema.now.kinds old.kind.place old.limits (tells new.built)
       (stack_of new.work new.parents.items) new.read new.unit new.pending st b
   stands_as st is r =
       let H : Trace → Type 0 = tells new.built in
       let fs : List (List Part) = stack_of new.work new.parents.items in
-      subst (λ (x : List KindView). StandsAs x old.kind.place old.limits H fs new.read new.unit new.pending st b)
+      subst (λ (x : List KindView). StandsAs spares x old.kind.place old.limits H fs new.read new.unit new.pending st b)
       kinds_are
-      (subst (λ (x : ℕ). StandsAs new.schema.now.kinds x old.limits H fs new.read new.unit new.pending st b) place_is
-      (subst (λ (x : Bounds). StandsAs new.schema.now.kinds new.kind.place x H fs new.read new.unit new.pending st b)
+      (subst (λ (x : ℕ). StandsAs spares new.schema.now.kinds x old.limits H fs new.read new.unit new.pending st b)
+      place_is
+      (subst (λ (x : Bounds). StandsAs spares new.schema.now.kinds new.kind.place x H fs new.read new.unit
+      new.pending st b)
       same.limits_are
-      (subst (λ (x : State). StandsAs new.schema.now.kinds new.kind.place new.limits H fs new.read new.unit new.pending
+      (subst (λ (x : State). StandsAs spares new.schema.now.kinds new.kind.place new.limits H fs new.read new.unit
+      new.pending
       x b) is r)))
 
 -- the answers of a reader that stands for the bytes before a piece and those that were taken of it
-module _ {B : Type 0} (tells : B → Trace → Type 0) (old new : Reader B)
+module _ {B : Type 0} (spares : Type 0) (tells : B → Trace → Type 0) (old new : Reader B)
     (same : IsSame old new) (b piece : List ℕ)
     (used : ℕ)
-    (within : used ≤ length piece) (r : StandsFor tells new (b ++ take used piece)) where
+    (within : used ≤ length piece) (r : StandsFor spares tells new (b ++ take used piece)) where
   cut : (b ++ take used piece) ++ drop used piece ≡ b ++ piece
   cut = append_assoc b (take used piece) (drop used piece) ∙ ap (λ (x : List ℕ). b ++ x) (take-append-drop used piece)
 
@@ -79,14 +82,14 @@ module _ {B : Type 0} (tells : B → Trace → Type 0) (old new : Reader B)
       subst (λ (x : List ℕ). Outcome old.schema.now.kinds old.kind.place old.limits (b ++ x) Pending) all
       (pending_on old.schema.now.kinds old.kind.place old.limits (tells new.built) (stack_of new.work new.parents.items)
       new.read new.unit new.pending a (b ++ take used piece)
-      (stands_as tells old new same (b ++ take used piece) (Reading a) is r))
+      (stands_as spares tells old new same (b ++ take used piece) (Reading a) is r))
 
   pub answers_done : new.state ≡ Finished
       → Answers old.schema.now.kinds old.kind.place old.limits b piece (Ok (Done used))
   answers_done is =
       let w = whole_on old.schema.now.kinds old.kind.place old.limits (tells new.built)
       (stack_of new.work new.parents.items) new.read new.unit new.pending (b ++ take used piece) (drop used piece)
-      (stands_as tells old new same (b ++ take used piece) Finished is r) in
+      (stands_as spares tells old new same (b ++ take used piece) Finished is r) in
       let far : length (b ++ take used piece) ≡ length b + used =
       omega (arith, length-append b (take used piece), length-take used piece, within) in (
         w.0,
@@ -101,22 +104,25 @@ module _ {B : Type 0} (tells : B → Trace → Type 0) (old new : Reader B)
   answers_fault f is =
       subst (λ (x : List ℕ). Fails old.schema.now.kinds old.kind.place old.limits f x) cut
       (fails_on old.schema.now.kinds old.kind.place old.limits f (b ++ take used piece) (drop used piece)
-      (stands_as tells old new same (b ++ take used piece) (Failed f) is r).0)
+      (stands_as spares tells old new same (b ++ take used piece) (Failed f) is r).0)
 
   -- after a fault the whole piece is taken
-  pub stands_failed : (f : DecodeFault) → new.state ≡ Failed f → StandsFor tells new (b ++ piece)
+  pub stands_failed : (f : DecodeFault) → new.state ≡ Failed f → StandsFor spares tells new (b ++ piece)
   stands_failed f is =
       let K : List KindView = new.schema.now.kinds in
       let H : Trace → Type 0 = tells new.built in
       let fs : List (List Part) = stack_of new.work new.parents.items in
-      let before = subst (λ (x : State). StandsAs K new.kind.place new.limits H fs new.read new.unit new.pending x
+      let before = subst (λ (x : State). StandsAs spares K new.kind.place new.limits H fs new.read new.unit
+      new.pending x
       (b ++ take used piece)) is r in
-      subst (λ (x : State). StandsAs K new.kind.place new.limits H fs new.read new.unit new.pending x (b ++ piece))
+      subst (λ (x : State). StandsAs spares K new.kind.place new.limits H fs new.read new.unit new.pending x (b ++
+      piece))
       (sym is) (
         subst (λ (x : List ℕ). Fails K new.kind.place new.limits f x) cut
             (fails_on K new.kind.place new.limits f (b ++ take used piece) (drop used piece) before.0),
         before.1,
         before.2,
+        before.3,
       )
 
 -- what is the same twice is the same

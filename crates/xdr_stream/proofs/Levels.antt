@@ -1,5 +1,6 @@
 -- The nodes at work of a builder of values.
 use Rattle.std.proofs.Common.{◌≡◌, ℕ, List, [], ◌∷◌, ◌++◌, length, refl, sym, ap, subst, ◌∙◌, arith}
+use Rattle.xdr_types.specs.Tree as trees
 use Rattle.xdr_types.specs.Tree.{Head, Tree}
 use Rattle.xdr_types.specs.View.{tree}
 use Rattle.xdr_types.specs.declared.value.Value.{Value}
@@ -7,7 +8,9 @@ use Rattle.xdr_stream.specs.Trace as trace
 use Rattle.xdr_stream.specs.Trace.{Trace, level, added, open_in, close_in, close_levels, CanClose, CanCloseLevels}
 use Rattle.xdr_stream.specs.Trace.{IsOpen, IsFilled}
 use Rattle.xdr_stream.specs.Values.{level_of, levels_onto, closed_tree}
+use Rattle.xdr_stream.specs.Spared.{IsAlone, IsAloneIn, IsRoot}
 use Rattle.xdr_stream.specs.declared.values.Level.{Level}
+use Rattle.xdr_stream.specs.declared.values.Level.TheVariants.{Root, Items, Fields, Choice, Maybe}
 
 -- the innermost parent stands last in the list
 pub levels_last : (outer : List trace.Level) (ls : List Level) (l : Level)
@@ -64,3 +67,21 @@ pub not_closed : (content : List ℕ) (work : Level) (parents : List Level) (t :
     → told content work parents ≡ t → CanClose t → ⊥
 not_closed content work [] t n e can = subst (λ (r : Trace). CanClose r) (sym e) can
 not_closed content work (l ∷ ls) t n e can = absurd (omega arith)
+
+-- where no node is at work, what stands around the root is
+head_root : (l : Level) → (level_of l).head ≡ trees.nothing → IsRoot l
+head_root (Root part) e = tt
+head_root (Items count items) e = cc
+head_root (Fields items) e = cc
+head_root (Choice tag part) e = cc
+head_root (Maybe part) e = cc
+
+first_alone : (l : trace.Level) (ls : List trace.Level) → IsAloneIn (l ∷ ls) → l.head ≡ trees.nothing
+first_alone l [] a = a
+first_alone l (m ∷ ls) a = absurd a
+
+pub alone_root : (content : List ℕ) (work : Level) (parents : List Level) (t : Trace) → told content work parents ≡ t
+    → IsAlone t → IsRoot work
+alone_root content work parents t e alone =
+    head_root work (first_alone (level_of work) (levels_onto [] parents)
+    (subst (λ (r : Trace). IsAlone r) (sym e) alone))

@@ -46,7 +46,7 @@ pub record IsStored (most depth : ℕ) (b : List ℕ) (st : State) (pending fram
 
 -- where the value is whole it is all that is held
 pub whole_stored : (s : List KindView) (t : ℕ) (l : Bounds) (H : Trace → Type 0) (fs : List (List Part)) (read : ℕ)
-    (room : List ℕ) (pending : ℕ) (b : List ℕ) (r : StandsAs s t l H fs read room pending Finished b)
+    (room : List ℕ) (pending : ℕ) (b : List ℕ) (r : StandsAs ⊥ s t l H fs read room pending Finished b)
     → (v : Tree) × Outcome s t l b (outcome.Whole v (length b)) × Fits s t v × (bytes_of s t v ≡ b)
     × (nodes_in r.2.trace.levels ≡ 1 + node_count v) × (bytes_kept r.2.trace ≡ byte_count v)
 whole_stored s t l H fs read room pending b r =
@@ -101,22 +101,22 @@ module _ (x : Lists) (well : IsWellFormed x) (sure : sound.IsSound x.kinds) (t :
     exact = exact;
   }
 
-  pub stored : (H : Trace → Type 0) (fs : List (List Part)) (read : ℕ) (room : List ℕ) (pending : ℕ) (st : State)
-      (b : List ℕ) → length room ≡ 4 → StandsAs x.kinds t l H fs read room pending st b
+  pub stored : (spares : Type 0) (H : Trace → Type 0) (fs : List (List Part)) (read : ℕ) (room : List ℕ) (pending : ℕ)
+      (st : State) (b : List ℕ) → length room ≡ 4 → StandsAs spares x.kinds t l H fs read room pending st b
       → (y : Trace) × H y × IsStored (length x.kinds) l.depth b st pending (length fs) y
-  stored H fs read room pending Fresh b four r =
+  stored spares H fs read room pending Fresh b four r =
       let none : length b ≡ 0 = ap (λ (y : List ℕ). length y) r.0 in (
         at_start,
         r.4,
         start_stored Fresh b pending (length fs) (λ g. r.5) (omega (arith, r.2)) (λ g. omega (arith, r.2, none))
             (omega arith),
       )
-  stored H fs read room pending (Failed f) b four r = (
+  stored spares H fs read room pending (Failed f) b four r = (
     at_start,
     r.1,
     start_stored (Failed f) b pending (length fs) (λ g. absurd g) (omega arith) (λ g. absurd g) (omega arith),
   )
-  stored H fs read room pending (Reading a) b four r =
+  stored spares H fs read room pending (Reading a) b four r =
       let q : List ℕ = r.0 in
       let m = bounded x well sure t l H q a fs r.5 r.4 in
       let len : length b ≡ length q + pending =
@@ -142,7 +142,7 @@ module _ (x : Lists) (well : IsWellFormed x) (sure : sound.IsSound x.kinds) (t :
           exact = λ g. omega (arith, len, m.3, r.3);
         },
       )
-  stored H fs read room pending Finished b four r =
+  stored spares H fs read room pending Finished b four r =
       let w = whole_stored x.kinds t l H fs read room pending b r in
       let v : Tree = w.0 in
       let less : length b ≤ l.bytes = within_limit x.kinds t l _ b are.units r.2.reading in
@@ -182,15 +182,15 @@ parents_few st work parents l bounds h goes =
     omega (arith, h goes, onto_length [] parents, bounds.most_depth)
 
 -- the nodes after the whole units are those of the law, where a unit is needed
-pub due_stored : (s : List KindView) (t : ℕ) (l : Bounds) (H : Trace → Type 0) (fs : List (List Part)) (read : ℕ)
-    (room : List ℕ) (pending : ℕ) (st : State) (b : List ℕ) → length room ≡ 4 → IsWaiting st
-    → StandsAs s t l H fs read room pending st b
+pub due_stored : (spares : Type 0) (s : List KindView) (t : ℕ) (l : Bounds) (H : Trace → Type 0)
+    (fs : List (List Part)) (read : ℕ) (room : List ℕ) (pending : ℕ) (st : State) (b : List ℕ) → length room ≡ 4
+    → IsWaiting st → StandsAs spares s t l H fs read room pending st b
     → (y : Trace) × H y × ((h : Held) → h.nodes ≡ nodes_at st (nodes_in y.levels)
     → h.pending ≡ pending_at st pending → IsDue s t b h)
-due_stored s t l H fs read room pending Fresh b four w r = absurd w
-due_stored s t l H fs read room pending Finished b four w r = absurd w
-due_stored s t l H fs read room pending (Failed f) b four w r = absurd w
-due_stored s t l H fs read room pending (Reading a) b four w r =
+due_stored spares s t l H fs read room pending Fresh b four w r = absurd w
+due_stored spares s t l H fs read room pending Finished b four w r = absurd w
+due_stored spares s t l H fs read room pending (Failed f) b four w r = absurd w
+due_stored spares s t l H fs read room pending (Reading a) b four w r =
     let m = holds s t l H r.0 a fs r.5 r.4 in (
       r.4.trace,
       r.4.told,

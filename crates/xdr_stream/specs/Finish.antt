@@ -18,11 +18,11 @@ use Rattle.xdr_stream.specs.declared.values.Values.{Values}
 
 -- a decoder's fields stand for these bytes, all that it was given up to the value's end
 abbrev pub Stands : Reader Values → (b : List ℕ) → Type 0
-Stands r b = StandsFor (λ (v : Values) (t : Trace). Tells v t) r b
+Stands r b = StandsFor ⊥ (λ (v : Values) (t : Trace). Tells v t) r b
 
 -- a checker's fields stand for these bytes
 abbrev pub Checks : Reader Nothing → (b : List ℕ) → Type 0
-Checks r b = StandsFor (λ (n : Nothing) (t : Trace). ⊤) r b
+Checks r b = StandsFor ⊤ (λ (n : Nothing) (t : Trace). ⊤) r b
 
 -- what a fault at their end says of all of the bytes b: they end inside a value, at their count; or they are refused
 abbrev pub EndsWith : List KindView → (kind : ℕ) → Bounds → (b : List ℕ) → DecodeFault → Type 0

@@ -1,6 +1,6 @@
 -- Which bytes a reader has been given, and what its answers say of them.
 use Rattle.std.specs.Prelude.{◌≡◌, ℕ, ◌+◌, ◌<◌, ◌≤◌, List, [], ◌∷◌, ◌++◌, length, take, ⊤, Result, Ok, Err}
-use Rattle.xdr_types.specs.Kinds.{KindView, Part}
+use Rattle.xdr_types.specs.Kinds.{KindView, Part, kind_at}
 use Rattle.xdr_types.specs.Tree.{Tree}
 use Rattle.xdr_types.specs.Within.{Bounds}
 use Rattle.xdr_types.specs.Outcome as outcome
@@ -8,6 +8,7 @@ use Rattle.xdr_types.specs.Outcome.{Outcome}
 use Rattle.xdr_stream.specs.Trace.{Trace, at_start}
 use Rattle.xdr_stream.specs.Frames.{stack_of}
 use Rattle.xdr_stream.specs.Sees.{Sees, IsReady, Ends}
+use Rattle.xdr_stream.specs.Spared.{Spares}
 use Rattle.xdr_stream.specs.declared.fault.DecodeFault.{DecodeFault}
 use Rattle.xdr_stream.specs.declared.machine.Awaits.TheVariants.{Next}
 use Rattle.xdr_stream.specs.declared.reader.State.{State}
@@ -21,24 +22,26 @@ abbrev pub Fails : List KindView → (kind : ℕ) → Bounds → DecodeFault →
 Fails kinds kind limits f b = ((rest : List ℕ) → Ends kinds kind limits f.why (b ++ rest) f.at) × (f.at ≤ length b)
 
 -- The bytes b brought a reader to this state: the units that are read, and those of an unfinished unit, of which there
--- are so many in its room. One that has failed holds no more than a new one.
-abbrev pub StandsAs : List KindView → (kind : ℕ) → Bounds → (H : Trace → Type 0) → List (List Part) → (read : ℕ)
-    → (room : List ℕ) → (pending : ℕ) → State → (b : List ℕ) → Type 0
-StandsAs kinds kind limits H fs read room pending Fresh b =
+-- are so many in its room. One that has failed holds no more than a new one, and did not fail for want of memory where
+-- its kind takes none.
+abbrev pub StandsAs : (spares : Type 0) → List KindView → (kind : ℕ) → Bounds → (H : Trace → Type 0) → List (List Part)
+    → (read : ℕ) → (room : List ℕ) → (pending : ℕ) → State → (b : List ℕ) → Type 0
+StandsAs spares kinds kind limits H fs read room pending Fresh b =
     (b ≡ []) × (read ≡ 0) × (pending ≡ 0) × Sees kinds kind limits H Next fs [] × H at_start × (length fs ≡ 1)
-StandsAs kinds kind limits H fs read room pending (Reading a) b =
+StandsAs spares kinds kind limits H fs read room pending (Reading a) b =
     (q : List ℕ) × (b ≡ q ++ take pending room) × (length q ≡ read) × (pending < 4)
     × Sees kinds kind limits H a fs q × IsReady kinds limits a fs × (length q ≡ limits.bytes → ⊥)
-StandsAs kinds kind limits H fs read room pending Finished b =
+StandsAs spares kinds kind limits H fs read room pending Finished b =
     (length b ≡ read) × (fs ≡ [] ∷ []) × Sees kinds kind limits H Next fs b
-StandsAs kinds kind limits H fs read room pending (Failed f) b =
-    Fails kinds kind limits f b × H at_start × (length fs ≡ 1)
+StandsAs spares kinds kind limits H fs read room pending (Failed f) b =
+    Fails kinds kind limits f b × H at_start × (length fs ≡ 1) × Spares spares (kind_at kinds kind) f.why
 
 -- a reader's fields stand for these bytes, all that it was given up to the value's end
-abbrev pub StandsFor : {B : Type 0} → (tells : B → Trace → Type 0) → Reader B → (b : List ℕ) → Type 0
-StandsFor tells r b =
-    StandsAs r.schema.now.kinds r.kind.place r.limits (tells r.built) (stack_of r.work r.parents.items) r.read r.unit
-    r.pending r.state b
+abbrev pub StandsFor : {B : Type 0} → (spares : Type 0) → (tells : B → Trace → Type 0) → Reader B → (b : List ℕ)
+    → Type 0
+StandsFor spares tells r b =
+    StandsAs spares r.schema.now.kinds r.kind.place r.limits (tells r.built) (stack_of r.work r.parents.items) r.read
+    r.unit r.pending r.state b
 
 -- reading has begun
 abbrev pub IsAwake : State → Type 0

@@ -1,7 +1,8 @@
 //! What is made of the nodes that are read.
-ghost use Rattle.std.specs.Prelude.{◌≡◌, ◌%◌, List, ℕ, length, OnOk};
+ghost use Rattle.std.specs.Prelude.{◌≡◌, ◌%◌, List, ℕ, length, OnOk, IsOk};
 ghost use Rattle.xdr_stream.specs.Trace.{Trace, leaf_in, open_in, close_in, extend_in, content_in};
 ghost use Rattle.xdr_stream.specs.Trace.{CanClose, HasRoom, TakesMany, at_start};
+ghost use Rattle.xdr_stream.specs.Spared.{IsAlone};
 ghost use Rattle.xdr_stream.specs.Nodes.{head_of_leaf, head_of_node};
 ghost use Rattle.xdr_stream.specs.Runs.{numbers_in, hypers_in};
 
@@ -36,10 +37,14 @@ pub trait Build {
     /// What it was told: the nodes at work with their finished parts, and the content so far.
     ghost tells: { Self → Trace → Type 0 };
 
-    /// A node without parts.
+    /// Whether what it is told of content takes no memory.
+    ghost spares: { Type 0 };
+
+    /// A node without parts. The root takes no memory.
     fn leaf(&mut self, leaf: Leaf) -> Result<(), AllocError>
-        ensures { OnOk result ((t : Trace) → tells self.old t → HasRoom t
-            → tells self.new (leaf_in (head_of_leaf leaf) t)) };
+        ensures told { OnOk result ((t : Trace) → tells self.old t → HasRoom t
+            → tells self.new (leaf_in (head_of_leaf leaf) t)) }
+        ensures granted { (t : Trace) → tells self.old t → IsAlone t → IsOk result };
 
     /// Numbers of one unit each, signed or not, one after another.
     fn numbers(&mut self, signed: bool, units: &[u8]) -> Result<(), AllocError>
@@ -63,16 +68,23 @@ pub trait Build {
 
     /// Bytes of content.
     fn extend(&mut self, bytes: &[u8]) -> Result<(), AllocError>
-        ensures { OnOk result ((t : Trace) → tells self.old t → tells self.new (extend_in bytes.now t)) };
+        ensures told { OnOk result ((t : Trace) → tells self.old t → tells self.new (extend_in bytes.now t)) }
+        ensures granted { spares → IsOk result };
 
     /// The end of the content, which makes a node without parts.
     fn content(&mut self) -> Result<(), AllocError>
-        ensures { OnOk result ((t : Trace) → tells self.old t → HasRoom t → tells self.new (content_in t)) };
+        ensures told { OnOk result ((t : Trace) → tells self.old t → HasRoom t → tells self.new (content_in t)) }
+        ensures granted { spares → IsOk result };
 
     /// Bytes of content and its end, which make a node without parts.
     fn whole(&mut self, bytes: &[u8]) -> Result<(), AllocError>
-        ensures { OnOk result ((t : Trace) → tells self.old t → HasRoom t
-            → tells self.new (content_in (extend_in bytes.now t))) };
+        ensures told { OnOk result ((t : Trace) → tells self.old t → HasRoom t
+            → tells self.new (content_in (extend_in bytes.now t))) }
+        ensures granted { spares → IsOk result };
+
+    /// Gives back the memory that holds nothing.
+    fn trim(&mut self)
+        ensures { (t : Trace) → tells self.old t → tells self.new t };
 
     /// Lets all of it go, as before any byte. It takes no memory.
     fn clear(&mut self)

@@ -1,8 +1,9 @@
 //! What the end of the bytes says of a value that was not made.
-ghost use Rattle.std.specs.Prelude.{◌≡◌, ◌<◌, ℕ, List, [], length, Err};
+ghost use Rattle.std.specs.Prelude.{◌≡◌, ◌<◌, ℕ, List, [], length, Err, IfErr, IsOk};
+ghost use Rattle.xdr_stream.specs.declared.fault.Reason.TheVariants.{NoMemory};
 ghost use Rattle.xdr_stream.specs.Finish.{Checks};
 ghost use Rattle.xdr_stream.specs.Checked.{Counts};
-ghost use Rattle.xdr_stream.specs.declared.reader.State.TheVariants.{Failed};
+ghost use Rattle.xdr_stream.specs.declared.reader.State.TheVariants.{Failed, Finished};
 
 use crate::checker::Nothing;
 use crate::decoder::{finish_empty, truncated, unfinished};
@@ -19,6 +20,8 @@ pub fn finish_check<'s>(reader: Reader<'s, Nothing>) -> Result<u32, DecodeFault>
     ensures answer { (b : List ℕ) → Checks reader.entry b
         → Counts reader.entry.schema.now.kinds reader.entry.kind.place reader.entry.limits b result }
     ensures for_ever { (f : DecodeFault) → reader.entry.state ≡ Failed f → result ≡ Err f }
+    ensures whole { reader.entry.state ≡ Finished → IsOk result }
+    ensures granted { IfErr result (λ f. f.why ≡ NoMemory → reader.entry.state ≡ Failed f) }
 {
     let limits = reader.limits;
     let _range = limits.depth();
@@ -37,7 +40,8 @@ pub fn finish_check<'s>(reader: Reader<'s, Nothing>) -> Result<u32, DecodeFault>
 // How many bytes the value has that no bytes are, of a kind that the schema has.
 fn count_empty(schema: &Schema, kind: KindId, limits: Limits) -> Result<u32, DecodeFault>
     requires { kind.place < length schema.now.kinds }
-    ensures { Counts schema.now.kinds kind.place limits [] result }
+    ensures answer { Counts schema.now.kinds kind.place limits [] result }
+    ensures granted { IfErr result (λ f. f.why ≡ NoMemory → ⊥) }
 {
     match finish_empty(schema, kind, limits) {
         Ok(_) => Ok(0),

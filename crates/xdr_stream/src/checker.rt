@@ -16,6 +16,8 @@ pub struct Nothing;
 impl Build for Nothing {
     ghost tells = { λ _ _. ⊤ };
 
+    ghost spares = { ⊤ };
+
     #[inline(always)]
     fn leaf(&mut self, _: Leaf) -> Result<(), AllocError> {
         Ok(())
@@ -53,6 +55,8 @@ impl Build for Nothing {
     fn whole(&mut self, _: &[u8]) -> Result<(), AllocError> {
         Ok(())
     }
+
+    fn trim(&mut self) {}
 
     fn clear(&mut self) {}
 }

@@ -1,9 +1,9 @@
 //! Bytes in pieces as a value, with no input kept but an unfinished unit.
-ghost use Rattle.std.specs.Prelude.{◌≡◌, ◌<◌, ◌≤◌, ℕ, List, [], length, take, Err};
+ghost use Rattle.std.specs.Prelude.{◌≡◌, ◌<◌, ◌≤◌, ℕ, List, [], length, take, Err, IfErr, IsOk};
 ghost use Rattle.xdr_stream.specs.Held.{GoesOn};
 ghost use Rattle.xdr_stream.specs.Finish.{Stands, Finishes, IsStarted};
-ghost use Rattle.xdr_stream.specs.declared.fault.Reason.TheVariants.{Truncated};
-ghost use Rattle.xdr_stream.specs.declared.reader.State.TheVariants.{Failed};
+ghost use Rattle.xdr_stream.specs.declared.fault.Reason.TheVariants.{Truncated, NoMemory};
+ghost use Rattle.xdr_stream.specs.declared.reader.State.TheVariants.{Failed, Finished};
 
 use crate::fault::{DecodeFault, Reason};
 use crate::first::is_deep;
@@ -36,6 +36,8 @@ pub fn finish<'s>(reader: Reader<'s, Values>) -> Result<Value, DecodeFault>
     ensures answer { (b : List ℕ) → Stands reader.entry b
         → Finishes reader.entry.schema.now.kinds reader.entry.kind.place reader.entry.limits b result }
     ensures for_ever { (f : DecodeFault) → reader.entry.state ≡ Failed f → result ≡ Err f }
+    ensures whole { reader.entry.state ≡ Finished → IsOk result }
+    ensures granted { IfErr result (λ f. f.why ≡ NoMemory → reader.entry.state ≡ Failed f) }
 {
     let schema = reader.schema;
     let kind = reader.kind;
@@ -82,7 +84,8 @@ pub(crate) fn finish_empty(
     limits: Limits,
 ) -> Result<Value, DecodeFault>
     requires { kind.place < length schema.now.kinds }
-    ensures { Finishes schema.now.kinds kind.place limits [] result }
+    ensures answer { Finishes schema.now.kinds kind.place limits [] result }
+    ensures granted { IfErr result (λ f. f.why ≡ NoMemory → ⊥) }
 {
     let _known = schema.len();
     let _range = limits.depth();

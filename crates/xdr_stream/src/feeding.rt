@@ -1,10 +1,12 @@
 //! Pieces of bytes, read unit by unit.
 ghost use Rattle.std.specs.Prelude.{◌≡◌, ◌+◌, ◌≤◌, ◌<◌, ◌%◌, ◌*◌, ℕ, List, [], ◌∷◌, ◌++◌, length, take};
 ghost use Rattle.std.specs.Prelude.{IfOk, IfErr, Ok, Err};
+ghost use Rattle.xdr_types.specs.Kinds.{kind_at};
 ghost use Rattle.xdr_stream.specs.Frames.{left_of, stack_of};
 ghost use Rattle.xdr_stream.specs.Sees.{Sees, IsReady, Ends, reason_of};
 ghost use Rattle.xdr_stream.specs.Live.{IsLive};
 ghost use Rattle.xdr_stream.specs.Sound.{IsAwaited};
+ghost use Rattle.xdr_stream.specs.Spared.{Spares};
 ghost use Rattle.xdr_stream.specs.Stands.{StandsFor, IsAwake, IsWaiting, IsSame, Answers, taken, used_of};
 ghost use Rattle.xdr_stream.specs.Run.{IsHypers};
 ghost use Rattle.xdr_stream.specs.declared.machine.Awaits.TheVariants.{Next, Content, Wide};
@@ -56,7 +58,7 @@ impl<'s, B: Build + Drop> Reader<'s, B> {
         ensures stands { (q : List ℕ) → length q ≡ self.old.read → self.old.pending ≡ 0 → IsLive awaits
             → Sees self.old.schema.now.kinds self.old.kind.place self.old.limits (B.tells self.old.built) awaits
             (stack_of self.old.work self.old.parents.items) q
-            → StandsFor B.tells self.new q }
+            → StandsFor B.spares B.tells self.new q }
         ensures awake { IsAwake self.new.state }
         ensures pending { self.new.pending ≡ self.old.pending }
         ensures same { IsSame self.old self.new }
@@ -70,13 +72,30 @@ impl<'s, B: Build + Drop> Reader<'s, B> {
                 &mut self.built,
             ) {
                 Ok(Some(next)) => self.go_on(next),
-                Ok(None) => self.state = State::Finished,
+                Ok(None) => self.end(),
                 Err(trouble) => self.fail(reason_of(trouble)),
             },
             Awaits::Content(_) => self.go_on(awaits),
             Awaits::Wide(_) => self.go_on(awaits),
             Awaits::Low(_, _) => self.go_on(awaits),
         }
+    }
+
+    // The value is whole: nothing but it is held.
+    #[inline(never)]
+    fn end(&mut self)
+        ensures stands { (q : List ℕ) → length q ≡ self.old.read
+            → stack_of self.old.work self.old.parents.items ≡ [] ∷ []
+            → Sees self.old.schema.now.kinds self.old.kind.place self.old.limits (B.tells self.old.built) Next
+            (stack_of self.old.work self.old.parents.items) q
+            → StandsFor B.spares B.tells self.new q }
+        ensures awake { IsAwake self.new.state }
+        ensures pending { self.new.pending ≡ self.old.pending }
+        ensures same { IsSame self.old self.new }
+    {
+        self.parents.trim();
+        self.built.trim();
+        self.state = State::Finished;
     }
 
     // A unit is needed: it is asked for, unless the limit on bytes is reached.
@@ -87,7 +106,7 @@ impl<'s, B: Build + Drop> Reader<'s, B> {
             → Sees self.old.schema.now.kinds self.old.kind.place self.old.limits (B.tells self.old.built) awaits
             (stack_of self.old.work self.old.parents.items) q
             → IsReady self.old.schema.now.kinds self.old.limits awaits (stack_of self.old.work self.old.parents.items)
-            → StandsFor B.tells self.new q }
+            → StandsFor B.spares B.tells self.new q }
         ensures awake { IsAwake self.new.state }
         ensures pending { self.new.pending ≡ self.old.pending }
         ensures same { IsSame self.old self.new }
@@ -104,7 +123,9 @@ impl<'s, B: Build + Drop> Reader<'s, B> {
         ensures stands { (b : List ℕ)
             → ((rest : List ℕ) → Ends self.old.schema.now.kinds self.old.kind.place self.old.limits why
             (b ++ rest) self.old.read)
-            → self.old.read ≤ length b → StandsFor B.tells self.new b }
+            → self.old.read ≤ length b
+            → Spares B.spares (kind_at self.old.schema.now.kinds self.old.kind.place) why
+            → StandsFor B.spares B.tells self.new b }
         ensures awake { IsAwake self.new.state }
         ensures pending { self.new.pending ≡ self.old.pending }
         ensures same { IsSame self.old self.new }
@@ -123,7 +144,7 @@ impl<'s, B: Build + Drop> Reader<'s, B> {
             (stack_of self.old.work self.old.parents.items) q
             → IsReady self.old.schema.now.kinds self.old.limits awaits (stack_of self.old.work self.old.parents.items)
             → (length q ≡ self.old.limits.bytes → ⊥)
-            → StandsFor B.tells self.new (q ++ unit.now) }
+            → StandsFor B.spares B.tells self.new (q ++ unit.now) }
         ensures awake { IsAwake self.new.state }
         ensures pending { self.new.pending ≡ self.old.pending }
         ensures same { IsSame self.old self.new }
@@ -148,8 +169,8 @@ impl<'s, B: Build + Drop> Reader<'s, B> {
 
     fn take_byte(&mut self, awaits: Awaits, byte: u8)
         requires { IsAwaited self.old.schema.now.kinds (left_of self.old.work) awaits }
-        ensures stands { (b : List ℕ) → self.old.state ≡ Reading awaits → StandsFor B.tells self.old b
-            → StandsFor B.tells self.new (b ++ byte ∷ []) }
+        ensures stands { (b : List ℕ) → self.old.state ≡ Reading awaits → StandsFor B.spares B.tells self.old b
+            → StandsFor B.spares B.tells self.new (b ++ byte ∷ []) }
         ensures awake { self.old.state ≡ Reading awaits → IsAwake self.new.state }
         ensures same { IsSame self.old self.new }
     {
@@ -168,7 +189,7 @@ impl<'s, B: Build + Drop> Reader<'s, B> {
         requires there { 4 ≤ length bytes.now }
         requires awaited { IsAwaited self.old.schema.now.kinds (left_of self.old.work) awaits }
         ensures stands { (b : List ℕ) → self.old.state ≡ Reading awaits → self.old.pending ≡ 0
-            → StandsFor B.tells self.old b → StandsFor B.tells self.new (b ++ take result bytes.now) }
+            → StandsFor B.spares B.tells self.old b → StandsFor B.spares B.tells self.new (b ++ take result bytes.now) }
         ensures some { 0 < result }
         ensures within { result ≤ length bytes.now }
         ensures awake { self.old.state ≡ Reading awaits → IsAwake self.new.state }
@@ -195,7 +216,7 @@ impl<'s, B: Build + Drop> Reader<'s, B> {
         requires there { 4 ≤ length bytes.now }
         requires awaited { IsAwaited self.old.schema.now.kinds (left_of self.old.work) awaits }
         ensures stands { (b : List ℕ) → self.old.state ≡ Reading awaits → self.old.pending ≡ 0
-            → StandsFor B.tells self.old b → StandsFor B.tells self.new (b ++ take result bytes.now) }
+            → StandsFor B.spares B.tells self.old b → StandsFor B.spares B.tells self.new (b ++ take result bytes.now) }
         ensures some { 0 < result }
         ensures within { result ≤ length bytes.now }
         ensures awake { IsAwake self.new.state }
@@ -225,7 +246,7 @@ impl<'s, B: Build + Drop> Reader<'s, B> {
         requires there { n ≤ length bytes.now }
         ensures stands { (b : List ℕ) (left : ℕ) → left + 4 ≡ last + n → self.old.state ≡ Reading (Content left)
             → self.old.pending ≡ 0 → n + self.old.read ≤ self.old.limits.bytes
-            → StandsFor B.tells self.old b → StandsFor B.tells self.new (b ++ take n bytes.now) }
+            → StandsFor B.spares B.tells self.old b → StandsFor B.spares B.tells self.new (b ++ take n bytes.now) }
         ensures awake { IsAwake self.new.state }
         ensures same { IsSame self.old self.new }
     {
@@ -252,7 +273,7 @@ impl<'s, B: Build + Drop> Reader<'s, B> {
         requires deep { length self.old.parents.items < self.old.limits.depth }
         ensures stands { (b : List ℕ) → self.old.state ≡ Reading (Wide run.signed)
             → self.old.pending ≡ 0 → n + self.old.read < self.old.limits.bytes
-            → StandsFor B.tells self.old b → StandsFor B.tells self.new (b ++ take n bytes.now) }
+            → StandsFor B.spares B.tells self.old b → StandsFor B.spares B.tells self.new (b ++ take n bytes.now) }
         ensures awake { IsAwake self.new.state }
         ensures same { IsSame self.old self.new }
     {
@@ -273,7 +294,7 @@ impl<'s, B: Build + Drop> Reader<'s, B> {
 
     // Begins what takes no byte, where nothing has begun.
     fn wake(&mut self)
-        ensures stands { (b : List ℕ) → StandsFor B.tells self.old b → StandsFor B.tells self.new b }
+        ensures stands { (b : List ℕ) → StandsFor B.spares B.tells self.old b → StandsFor B.spares B.tells self.new b }
         ensures awake { IsAwake self.new.state }
         ensures same { IsSame self.old self.new }
     {
@@ -284,8 +305,8 @@ impl<'s, B: Build + Drop> Reader<'s, B> {
 
     // Takes a piece up to the value's end or a refusal, and tells how many bytes.
     fn take_piece(&mut self, piece: &[u8]) -> usize
-        ensures stands { (b : List ℕ) → StandsFor B.tells self.old b
-            → StandsFor B.tells self.new (b ++ take result piece.now) }
+        ensures stands { (b : List ℕ) → StandsFor B.spares B.tells self.old b
+            → StandsFor B.spares B.tells self.new (b ++ take result piece.now) }
         ensures within { result ≤ length piece.now }
         ensures whole { IsWaiting self.new.state → result ≡ length piece.now }
         ensures awake { IsAwake self.new.state }
@@ -312,9 +333,9 @@ impl<'s, B: Build + Drop> Reader<'s, B> {
     /// value goes on, at the node that is too deep, at the limit on bytes, or where memory was refused; it has taken
     /// the whole piece, and comes again at each later call.
     pub fn feed(&mut self, piece: &[u8]) -> Result<Progress, DecodeFault>
-        ensures stands { (b : List ℕ) → StandsFor B.tells self.old b
-            → StandsFor B.tells self.new (b ++ taken piece.now result) }
-        ensures answer { (b : List ℕ) → StandsFor B.tells self.old b
+        ensures stands { (b : List ℕ) → StandsFor B.spares B.tells self.old b
+            → StandsFor B.spares B.tells self.new (b ++ taken piece.now result) }
+        ensures answer { (b : List ℕ) → StandsFor B.spares B.tells self.old b
             → Answers self.old.schema.now.kinds self.old.kind.place self.old.limits b piece.now result }
         ensures used { IfOk result (λ p. used_of p ≤ length piece.now) }
         ensures more { IfOk result (λ p. p ≡ More → IsWaiting self.new.state) }
@@ -322,6 +343,8 @@ impl<'s, B: Build + Drop> Reader<'s, B> {
         ensures again { self.old.state ≡ Finished → result ≡ Ok (Done 0) }
         ensures failed { IfErr result (λ f. self.new.state ≡ Failed f) }
         ensures for_ever { (f : DecodeFault) → self.old.state ≡ Failed f → result ≡ Err f }
+        ensures spared { (b : List ℕ) → StandsFor B.spares B.tells self.old b
+            → IfErr result (λ f. Spares B.spares (kind_at self.old.schema.now.kinds self.old.kind.place) f.why) }
         ensures same { IsSame self.old self.new }
     {
         match self.state {

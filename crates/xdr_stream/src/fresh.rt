@@ -21,7 +21,7 @@ pub(crate) fn fresh<'s, B: Build + Drop>(
     built: B,
 ) -> Reader<'s, B>
     requires { kind.place < length schema.now.kinds }
-    ensures stands { B.tells built at_start → StandsFor B.tells result [] }
+    ensures stands { B.tells built at_start → StandsFor B.spares B.tells result [] }
     ensures settings { IsStarted result schema.now kind limits }
     ensures open { GoesOn result.state }
 {

@@ -1,13 +1,17 @@
 //! How reading goes on, whatever is made of the nodes.
 ghost use Rattle.std.specs.Prelude.{◌≡◌, ℕ, pos, List, [], ◌∷◌, ◌++◌, IfSome, IfOk, IfErr, OnOk, true, false};
 ghost use Rattle.xdr_types.specs.Kinds.{KindView};
+ghost use Rattle.xdr_types.specs.Within.{Bounds};
 ghost use Rattle.xdr_units.specs.Numbers.{num4};
 ghost use Rattle.xdr_stream.specs.Frames.{left_of, rest_of, stack_of, onto};
 ghost use Rattle.xdr_stream.specs.Trace.{Trace, open_in};
 ghost use Rattle.xdr_stream.specs.Nodes.{head_of_node};
 ghost use Rattle.xdr_stream.specs.Sees.{Sees, Follows, EndsAs, IsReady, GoesDeep, TakesUnit, RefusesUnit, Settles};
+ghost use Rattle.xdr_stream.specs.Sees.{reason_of};
 ghost use Rattle.xdr_stream.specs.Live.{IsLive};
+ghost use Rattle.xdr_stream.specs.Spared.{SparesSeen};
 ghost use Rattle.xdr_stream.specs.Sound.{IsSound, AreAllSolid, HasNext, Starts, IsAwaited};
+ghost use Rattle.xdr_stream.specs.declared.fault.Reason.TheVariants.{NoMemory};
 ghost use Rattle.xdr_stream.specs.declared.machine.Awaits.TheVariants.{Next};
 
 use crate::build::{Build, Leaf, Node};
@@ -73,6 +77,8 @@ pub(crate) fn end_nodes<'s, B: Build>(
         (stack_of work.new parents.new.items)
         × EndsAs whole (stack_of work.new parents.new.items)) }
     ensures next { IfOk result (λ whole. whole ≡ false → HasNext (left_of work.new)) }
+    ensures spared { IfErr result (λ _. (kinds : List KindView) (limits : Bounds)
+        → SparesSeen B.spares kinds limits (B.tells built.old) Next (stack_of work.old parents.old.items) NoMemory) }
     ensures solid { (kinds : List KindView) → AreAllSolid kinds (stack_of work.old parents.old.items)
         → AreAllSolid kinds (stack_of work.new parents.new.items) }
 {
@@ -100,6 +106,8 @@ pub(crate) fn pass_void<'s, B: Build>(
         → Sees schema.now.kinds kind limits (B.tells built.new) Next (stack_of work.new parents.now.items) q) }
     ensures deep { IfErr result (GoesDeep schema.now.kinds limits (B.tells built.old)
         (stack_of work.old parents.now.items)) }
+    ensures spared { IfErr result (λ e. SparesSeen B.spares schema.now.kinds limits (B.tells built.old) Next
+        (stack_of work.old parents.now.items) (reason_of e)) }
     ensures solid { OnOk result (AreAllSolid schema.now.kinds (stack_of work.new parents.now.items)) }
     ensures stays { IfErr result (λ _. work.new ≡ work.old) }
 {
@@ -155,6 +163,8 @@ pub(crate) fn begin<'s, B: Build>(
     ensures ready { IfOk result (λ a. IsReady schema.now.kinds limits a (stack_of work.new parents.new.items)) }
     ensures deep { IfErr result (GoesDeep schema.now.kinds limits (B.tells built.old)
         (stack_of work.old parents.old.items)) }
+    ensures spared { IfErr result (λ e. SparesSeen B.spares schema.now.kinds limits (B.tells built.old) Next
+        (stack_of work.old parents.old.items) (reason_of e)) }
     ensures solid { AreAllSolid schema.now.kinds (stack_of work.new parents.new.items) }
 {
     let _known = schema.len();
@@ -205,6 +215,8 @@ pub(crate) fn take_number<'s, B: Build>(
         (num4 (pos number))) }
     ensures refused { IfErr result (RefusesUnit schema.now.kinds (B.tells built.old) Next
         (stack_of work.old parents.old.items) (num4 (pos number))) }
+    ensures spared { IfErr result (λ e. (limits : Bounds) → SparesSeen B.spares schema.now.kinds limits
+        (B.tells built.old) Next (stack_of work.old parents.old.items) e) }
     ensures sound { IsSound schema.now.kinds (stack_of work.new parents.new.items) }
 {
     let _known = schema.len();
@@ -278,6 +290,8 @@ pub(crate) fn settle<'s, B: Build>(
         → Settles schema.now.kinds kind limits (B.tells built.new) (stack_of work.new parents.new.items) q o) }
     ensures deep { IfErr result (GoesDeep schema.now.kinds limits (B.tells built.old)
         (stack_of work.old parents.old.items)) }
+    ensures spared { IfErr result (λ e. SparesSeen B.spares schema.now.kinds limits (B.tells built.old) Next
+        (stack_of work.old parents.old.items) (reason_of e)) }
     ensures sound { IsSound schema.now.kinds (stack_of work.new parents.new.items) }
     ensures awaited { IfOk result (λ o. IfSome o (IsAwaited schema.now.kinds (left_of work.new))) }
 {

@@ -27,7 +27,7 @@ impl<'s, B: Build + Drop> Reader<'s, B> {
         requires there { 4 ≤ length bytes.now }
         requires awaited { IsAwaited self.old.schema.now.kinds (left_of self.old.work) Next }
         ensures stands { (b : List ℕ) → self.old.state ≡ Reading Next → self.old.pending ≡ 0
-            → StandsFor B.tells self.old b → StandsFor B.tells self.new (b ++ take result bytes.now) }
+            → StandsFor B.spares B.tells self.old b → StandsFor B.spares B.tells self.new (b ++ take result bytes.now) }
         ensures some { 0 < result }
         ensures within { result ≤ length bytes.now }
         ensures awake { self.old.state ≡ Reading Next → IsAwake self.new.state }
@@ -59,7 +59,8 @@ impl<'s, B: Build + Drop> Reader<'s, B> {
             bytes.now whole }
         requires starts { Starts self.old.schema.now.kinds (rest_of (left_of self.old.work)) }
         ensures stands { (b : List ℕ) → self.old.state ≡ Reading Next → self.old.pending ≡ 0
-            → StandsFor B.tells self.old b → StandsFor B.tells self.new (b ++ take whole.all bytes.now) }
+            → StandsFor B.spares B.tells self.old b
+            → StandsFor B.spares B.tells self.new (b ++ take whole.all bytes.now) }
         ensures awake { self.old.state ≡ Reading Next → IsAwake self.new.state }
         ensures same { IsSame self.old self.new }
     {
@@ -80,7 +81,8 @@ impl<'s, B: Build + Drop> Reader<'s, B> {
         requires { IsWholeAt self.old.schema.now.kinds (left_of self.old.work) self.old.limits self.old.read
             bytes.now whole }
         ensures stands { (b : List ℕ) → self.old.state ≡ Reading Next → self.old.pending ≡ 0
-            → StandsFor B.tells self.old b → StandsFor B.tells self.new (b ++ take whole.all bytes.now) }
+            → StandsFor B.spares B.tells self.old b
+            → StandsFor B.spares B.tells self.new (b ++ take whole.all bytes.now) }
         ensures awake { IsAwake self.new.state }
         ensures same { IsSame self.old self.new }
     {
@@ -108,7 +110,7 @@ impl<'s, B: Build + Drop> Reader<'s, B> {
         requires left { 4 * run.left + 4 ≡ 4 * last + n }
         ensures stands { (b : List ℕ) → self.old.state ≡ Reading Next
             → self.old.pending ≡ 0 → n + self.old.read ≤ self.old.limits.bytes
-            → StandsFor B.tells self.old b → StandsFor B.tells self.new (b ++ take n bytes.now) }
+            → StandsFor B.spares B.tells self.old b → StandsFor B.spares B.tells self.new (b ++ take n bytes.now) }
         ensures awake { IsAwake self.new.state }
         ensures same { IsSame self.old self.new }
     {
@@ -134,7 +136,7 @@ impl<'s, B: Build + Drop> Reader<'s, B> {
         requires there { 4 ≤ length bytes.now }
         requires awaited { IsAwaited self.old.schema.now.kinds (left_of self.old.work) Next }
         ensures stands { (b : List ℕ) → self.old.state ≡ Reading Next → self.old.pending ≡ 0
-            → StandsFor B.tells self.old b → StandsFor B.tells self.new (b ++ take result bytes.now) }
+            → StandsFor B.spares B.tells self.old b → StandsFor B.spares B.tells self.new (b ++ take result bytes.now) }
         ensures some { 0 < result }
         ensures within { result ≤ length bytes.now }
         ensures awake { IsAwake self.new.state }
@@ -170,7 +172,7 @@ impl<'s, B: Build + Drop> Reader<'s, B> {
         ensures stands { (q : List ℕ) → length q ≡ self.old.read → self.old.pending ≡ 0 → IsLive awaits
             → Sees self.old.schema.now.kinds self.old.kind.place self.old.limits (B.tells self.old.built) awaits
             (stack_of self.old.work self.old.parents.items) q
-            → StandsFor B.tells self.new (q ++ take result bytes.now) }
+            → StandsFor B.spares B.tells self.new (q ++ take result bytes.now) }
         ensures within { result ≤ length bytes.now }
         ensures awake { IsAwake self.new.state }
         ensures same { IsSame self.old self.new }

@@ -1,8 +1,10 @@
 //! What comes next after a whole unit, and what is read of it.
 ghost use Rattle.std.specs.Prelude.{◌≡◌, pos, length, IfOk, IfErr};
+ghost use Rattle.xdr_types.specs.Within.{Bounds};
 ghost use Rattle.xdr_units.specs.Numbers.{num4};
 ghost use Rattle.xdr_stream.specs.Frames.{left_of, stack_of};
 ghost use Rattle.xdr_stream.specs.Live.{IsLive};
+ghost use Rattle.xdr_stream.specs.Spared.{SparesSeen};
 ghost use Rattle.xdr_stream.specs.Sound.{IsSound, IsAwaited};
 ghost use Rattle.xdr_stream.specs.Sees.{TakesUnit, RefusesUnit, are_zeros};
 
@@ -47,6 +49,8 @@ pub(crate) fn take_unit<'s, B: Build>(
         (stack_of work.old parents.old.items) (B.tells built.new) a (stack_of work.new parents.new.items) unit.now) }
     ensures refused { IfErr result (RefusesUnit schema.now.kinds (B.tells built.old) awaits
         (stack_of work.old parents.old.items) unit.now) }
+    ensures spared { IfErr result (λ e. (limits : Bounds) → SparesSeen B.spares schema.now.kinds limits
+        (B.tells built.old) awaits (stack_of work.old parents.old.items) e) }
     ensures sound { IsSound schema.now.kinds (stack_of work.new parents.new.items) }
 {
     let number = number_of(unit);

@@ -1,5 +1,5 @@
 //! The value that the nodes make.
-ghost use Rattle.std.specs.Prelude.{◌≡◌, ◌+◌, ◌≤◌, ℕ, List, [], ◌∷◌, length, take, drop, OnOk, IfOk, MatchOption};
+ghost use Rattle.std.specs.Prelude.{◌≡◌, ◌+◌, ◌≤◌, ℕ, List, [], ◌∷◌, length, take, drop, OnOk, IfOk, IsOk, MatchOption};
 ghost use Rattle.std.specs.Int.{w32, w64, from_be_bytes};
 ghost use Rattle.xdr_types.specs.Tree.{Tree, bytes, nothing};
 ghost use Rattle.xdr_types.specs.View.{tree};
@@ -9,6 +9,7 @@ ghost use Rattle.xdr_stream.specs.Sees.{make_wide};
 ghost use Rattle.xdr_stream.specs.Trace.{level as told, added, IsOpen, IsFilled};
 ghost use Rattle.xdr_stream.specs.Trace.{Trace, HasRoom, at_start, leaf_in, content_in, extend_in};
 ghost use Rattle.xdr_stream.specs.Values.{Tells, level_of, closed_tree, leaf_tree};
+ghost use Rattle.xdr_stream.specs.Spared.{IsRoot};
 
 use crate::build::{Build, Leaf, Node};
 use std::alloc::{AllocError, Global};
@@ -46,8 +47,9 @@ pub struct Values {
 
 // One more finished part of any node.
 fn add_any(alloc: Global, level: &mut Level, value: Value) -> Result<(), AllocError>
-    ensures { OnOk result (level_of level.new ≡ told (level_of level.old).head
+    ensures added { OnOk result (level_of level.new ≡ told (level_of level.old).head
         (added (level_of level.old).head (level_of level.old).done (tree value))) }
+    ensures granted { IsRoot level.old → IsOk result }
 {
     match level {
         Level::Root(part) => *part = Some(value),
@@ -252,6 +254,8 @@ impl Values {
 impl Build for Values {
     ghost tells = { λ b t. Tells b t };
 
+    ghost spares = { ⊥ };
+
     #[inline(always)]
     fn leaf(&mut self, leaf: Leaf) -> Result<(), AllocError> {
         add_any(self.alloc, &mut self.work, value_of(self.alloc, leaf))?;
@@ -330,6 +334,10 @@ impl Build for Values {
         self.nodes = self.nodes.saturating_add(1);
         self.kept = self.kept.saturating_add(bytes.len());
         Ok(())
+    }
+
+    fn trim(&mut self) {
+        self.parents.trim();
     }
 
     fn clear(&mut self) {

@@ -36,34 +36,3 @@ returns-in-Ok-clause-only c = λ t n fit most spelled.
     let units = c.depth-range.ensures.range.units in
     alone s c.args.kind.place c.args.limits units input t (tree c.in-Ok.value) n used fit most spelled
     (whole s c.args.kind.place c.args.limits units input (tree c.in-Ok.value) used o)
-
-pub returns-in-Err-finish-clause-fault : goal.returns-in-Err-finish-clause-fault
-returns-in-Err-finish-clause-fault c =
-    let input : List ℕ = c.args.input.now in
-    let used : ℕ = c.in-Ok-Done.used in
-    let done = c.in-Ok-Done.ensures in
-    let stands = subst (λ (p : Progress). StandsFor c.feed.new.self ([] ++ taken input (Ok p))) c.in-Ok-Done.field-0-is
-    (done.stands [] c.start-decoder.ensures.stands) in
-    let low : used ≤ length input = subst (λ (p : Progress). used_of p ≤ length input) c.in-Ok-Done.field-0-is done.used
-    in
-    let o = subst (λ (p : Progress). HasOutcome c.start-decoder.result [] input (Ok p)) c.in-Ok-Done.field-0-is
-    (done.outcome [] c.start-decoder.ensures.stands) in
-    not_given c.args.schema.now c.args.kind c.args.limits c.start-decoder.result c.feed.new.self
-    c.start-decoder.ensures.settings done.same input used low c.in-Err-finish.fault c.depth-range.ensures.range.units o
-    (c.in-Err-finish.ensures.outcome (take used input) stands)
-
-pub returns-in-Err-finish-clause-truncated : goal.returns-in-Err-finish-clause-truncated
-returns-in-Err-finish-clause-truncated c = λ is.
-    let input : List ℕ = c.args.input.now in
-    let used : ℕ = c.in-Ok-Done.used in
-    let done = c.in-Ok-Done.ensures in
-    let stands = subst (λ (p : Progress). StandsFor c.feed.new.self ([] ++ taken input (Ok p))) c.in-Ok-Done.field-0-is
-    (done.stands [] c.start-decoder.ensures.stands) in
-    let low : used ≤ length input = subst (λ (p : Progress). used_of p ≤ length input) c.in-Ok-Done.field-0-is done.used
-    in
-    let o = subst (λ (p : Progress). HasOutcome c.start-decoder.result [] input (Ok p)) c.in-Ok-Done.field-0-is
-    (done.outcome [] c.start-decoder.ensures.stands) in
-    let end = not_given c.args.schema.now c.args.kind c.args.limits c.start-decoder.result c.feed.new.self
-    c.start-decoder.ensures.settings done.same input used low c.in-Err-finish.fault c.depth-range.ensures.range.units o
-    (c.in-Err-finish.ensures.outcome (take used input) stands) in
-    (end.0 is).1

@@ -12,7 +12,7 @@ pub returns-in-Failed-clause-answer : goal.returns-in-Failed-clause-answer
 returns-in-Failed-clause-answer c = λ b st.
     let r = c.args.reader in
     finish_failed r.schema.now.kinds r.kind.place r.limits c.in-Failed.fault b
-    (subst (λ (x : State). StandsAs r.schema.now.kinds r.kind.place r.limits (λ (t : Trace). ⊤)
+    (subst (λ (x : State). StandsAs ⊤ r.schema.now.kinds r.kind.place r.limits (λ (t : Trace). ⊤)
     (stack_of r.work r.parents.items) r.read r.unit r.pending x b) c.in-Failed.is st).0
 
 pub returns-in-Finished-clause-answer : goal.returns-in-Finished-clause-answer
@@ -20,7 +20,7 @@ returns-in-Finished-clause-answer c = λ b st.
     let r = c.args.reader in
     let w = counted_whole r.schema.now.kinds r.kind.place r.limits (λ (t : Trace). ⊤)
     (stack_of r.work r.parents.items) r.read r.unit r.pending b c.depth-range.ensures.range.units
-    (subst (λ (x : State). StandsAs r.schema.now.kinds r.kind.place r.limits (λ (t : Trace). ⊤)
+    (subst (λ (x : State). StandsAs ⊤ r.schema.now.kinds r.kind.place r.limits (λ (t : Trace). ⊤)
     (stack_of r.work r.parents.items) r.read r.unit r.pending x b) c.in-Finished.is st) in
     (w.0, omega (arith, w.1, w.2, c.min.ensures))
 
@@ -29,7 +29,7 @@ returns-in-Reading-clause-answer c = λ b st.
     let r = c.args.reader in
     let o = still_open r.schema.now.kinds r.kind.place r.limits (λ (t : Trace). ⊤)
     (stack_of r.work r.parents.items) r.read r.unit r.pending c.in-Reading.field-0 b
-    (subst (λ (x : State). StandsAs r.schema.now.kinds r.kind.place r.limits (λ (t : Trace). ⊤)
+    (subst (λ (x : State). StandsAs ⊤ r.schema.now.kinds r.kind.place r.limits (λ (t : Trace). ⊤)
     (stack_of r.work r.parents.items) r.read r.unit r.pending x b) c.in-Reading.is st)
     c.depth-range.ensures.range.units in
     finish_open r.schema.now.kinds r.kind.place r.limits c.truncated.result c.saturating_add-at.result b
@@ -48,5 +48,5 @@ returns-in-Reading-clause-answer c = λ b st.
 pub count_empty-requires : goal.count_empty-requires
 count_empty-requires c =
     let r = c.args.reader in
-    kind_known r.schema.now.kinds r.kind.place r.limits (λ (t : Trace). ⊤)
+    kind_known ⊤ r.schema.now.kinds r.kind.place r.limits (λ (t : Trace). ⊤)
     (stack_of r.work r.parents.items) r.read r.unit r.pending r.state c.in-Fresh.is c.requires.given

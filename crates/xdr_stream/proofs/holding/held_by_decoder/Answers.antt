@@ -14,7 +14,7 @@ pub returns-clause-counts : goal.returns-clause-counts
 returns-clause-counts c = λ b st.
     let r = c.args.reader.now in
     let w = stored r.schema.now c.len-known.ensures.well_formed c.len-known.ensures.sound r.kind.place r.limits
-    c.depth-range.ensures.range (λ (t : Trace). Tells r.built t) (stack_of r.work r.parents.items) r.read r.unit
+    c.depth-range.ensures.range ⊥ (λ (t : Trace). Tells r.built t) (stack_of r.work r.parents.items) r.read r.unit
     r.pending r.state b c.pending_of.ensures.room st in
     let n = w.1.nodes (omega (arith, w.2.few)) in
     let below : r.built.nodes + 1 < 2 ^ 64 = omega (arith, n, w.2.few) in
@@ -31,7 +31,7 @@ pub returns-clause-bounds : goal.returns-clause-bounds
 returns-clause-bounds c = λ b st.
     let r = c.args.reader.now in
     let w = stored r.schema.now c.len-known.ensures.well_formed c.len-known.ensures.sound r.kind.place r.limits
-    c.depth-range.ensures.range (λ (t : Trace). Tells r.built t) (stack_of r.work r.parents.items) r.read r.unit
+    c.depth-range.ensures.range ⊥ (λ (t : Trace). Tells r.built t) (stack_of r.work r.parents.items) r.read r.unit
     r.pending r.state b c.pending_of.ensures.room st in
     let n = w.1.nodes (omega (arith, w.2.few)) in
     let below : r.built.nodes + 1 < 2 ^ 64 = omega (arith, n, w.2.few) in
@@ -53,11 +53,11 @@ pub returns-clause-due : goal.returns-clause-due
 returns-clause-due c = λ b waits st.
     let r = c.args.reader.now in
     let w = stored r.schema.now c.len-known.ensures.well_formed c.len-known.ensures.sound r.kind.place r.limits
-    c.depth-range.ensures.range (λ (t : Trace). Tells r.built t) (stack_of r.work r.parents.items) r.read r.unit
+    c.depth-range.ensures.range ⊥ (λ (t : Trace). Tells r.built t) (stack_of r.work r.parents.items) r.read r.unit
     r.pending r.state b c.pending_of.ensures.room st in
     let n = w.1.nodes (omega (arith, w.2.few)) in
     let below : r.built.nodes + 1 < 2 ^ 64 = omega (arith, n, w.2.few) in
-    let d = due_stored r.schema.now.kinds r.kind.place r.limits (λ (t : Trace). Tells r.built t)
+    let d = due_stored ⊥ r.schema.now.kinds r.kind.place r.limits (λ (t : Trace). Tells r.built t)
     (stack_of r.work r.parents.items) r.read r.unit r.pending r.state b c.pending_of.ensures.room waits st in
     d.2 _ (c.nodes_of.ensures below ∙ ap (λ (m : ℕ). nodes_at r.state m) n
     ∙ ap (λ (t : Trace). nodes_at r.state (nodes_in t.levels)) (sym w.1.trace ∙ d.1.trace)) c.pending_of.ensures.count
@@ -68,10 +68,10 @@ returns-clause-whole c = λ b done st.
     let H : Trace → Type 0 = λ (t : Trace). Tells r.built t in
     let fs : List (List Part) = stack_of r.work r.parents.items in
     let w = stored r.schema.now c.len-known.ensures.well_formed c.len-known.ensures.sound r.kind.place r.limits
-    c.depth-range.ensures.range H fs r.read r.unit r.pending r.state b c.pending_of.ensures.room st in
+    c.depth-range.ensures.range ⊥ H fs r.read r.unit r.pending r.state b c.pending_of.ensures.room st in
     let n = w.1.nodes (omega (arith, w.2.few)) in
     let below : r.built.nodes + 1 < 2 ^ 64 = omega (arith, n, w.2.few) in
-    let at = subst (λ (x : State). StandsAs r.schema.now.kinds r.kind.place r.limits H fs r.read r.unit r.pending x b)
+    let at = subst (λ (x : State). StandsAs ⊥ r.schema.now.kinds r.kind.place r.limits H fs r.read r.unit r.pending x b)
     done st in
     let v = whole_stored r.schema.now.kinds r.kind.place r.limits H fs r.read r.unit r.pending b at in
     let same : w.0 ≡ at.2.trace = sym w.1.trace ∙ at.2.told.trace in

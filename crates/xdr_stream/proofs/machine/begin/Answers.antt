@@ -15,6 +15,11 @@ use Rattle.xdr_stream.proofs.Seeing.{is_next, code_deep, code_silent, code_free,
 use Rattle.xdr_stream.proofs.Seeing.{smaller_fixed, ready_next}
 use Rattle.xdr_stream.proofs.Sounding.{first_known, first_solid, solid_known, solid_rest, has_not_none}
 use Rattle.xdr_stream.proofs.Sounding.{fields_solid, items_solid}
+use Rattle.std.proofs.lemmas.Result.{err_from_is_err_and}
+use Rattle.std.proofs.Common.{[]}
+use Rattle.xdr_stream.specs.Frames.{onto}
+use Rattle.xdr_stream.specs.Spared.{TakesNone}
+use Rattle.xdr_stream.proofs.Sparing.{seen_root}
 use Rattle.xdr_stream.proofs.machine.begin.Goals as goal
 
 pub unreachable-requires : goal.unreachable-requires
@@ -160,3 +165,30 @@ returns-in-Content-clause-ready g c =
     ∙ subst (λ (t : Step). IsStep (kind_view c.kind.result.now) t) c.in-Content.is c.step_of.ensures in
     subst (λ (k : KindView). IsFormedKind s k) is
     (formed_of c.args.schema.now c.len-known.ensures.well_formed c.in-Some.id.place)
+
+pub returns-in_err-open-in-Fields-clause-spared : goal.returns-in_err-open-in-Fields-clause-spared
+returns-in_err-open-in-Fields-clause-spared g c =
+    let p = err_from_is_err_and c.from_residual.result c.from_residual.ensures.1 in
+    rw (p.1, p.2) (λ kind q h free.
+    let s : List KindView = c.args.schema.now.kinds in
+    let is : xdr.structure (map part_of_member c.in-Fields.fields.now) ≡ kind_at s c.in-Some.id.place =
+    sym (subst (λ (t : Step). IsStep (kind_view c.kind.result.now) t) c.in-Fields.is c.step_of.ensures)
+    ∙ c.kind.ensures in
+    let root = seen_root g.B.Build.spares s kind free c.args.limits (g.B.Build.tells c.loop-id.built)
+    (left_of c.loop-id.work) (onto [] c.loop-id.parents.items) q c.in-Some.id.place c.in-Some.ensures
+    (c.loop-id.invariant.0 kind q h) in
+    subst (λ (f : KindView). TakesNone g.B.Build.spares f) (sym is) root)
+
+pub returns-in_err-open-in-Items-clause-spared : goal.returns-in_err-open-in-Items-clause-spared
+returns-in_err-open-in-Items-clause-spared g c =
+    let p = err_from_is_err_and c.from_residual-in_err-open-in-Items.result
+    c.from_residual-in_err-open-in-Items.ensures.1 in
+    rw (p.1, p.2) (λ kind q h free.
+    let s : List KindView = c.args.schema.now.kinds in
+    let is : xdr.fixed c.in-Items.item.place c.in-Items.size ≡ kind_at s c.in-Some.id.place =
+    sym (subst (λ (t : Step). IsStep (kind_view c.kind.result.now) t) c.in-Items.is c.step_of.ensures)
+    ∙ c.kind.ensures in
+    let root = seen_root g.B.Build.spares s kind free c.args.limits (g.B.Build.tells c.loop-id.built)
+    (left_of c.loop-id.work) (onto [] c.loop-id.parents.items) q c.in-Some.id.place c.in-Some.ensures
+    (c.loop-id.invariant.0 kind q h) in
+    subst (λ (f : KindView). TakesNone g.B.Build.spares f) (sym is) root)

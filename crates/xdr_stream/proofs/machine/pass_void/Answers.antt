@@ -1,12 +1,16 @@
+use Rattle.std.proofs.lemmas.Bool.{false≢true}
 use Rattle.std.proofs.Common.{◌<◌, ◌≤◌, length, sym, ap, ◌∙◌, arith}
 use Rattle.xdr_types.specs.Kinds as xdr
-use Rattle.xdr_types.specs.Kinds.{KindView, Part}
 use Rattle.xdr_types.specs.KindViews.{kind_view}
 use Rattle.xdr_stream.specs.Frames.{left_of}
 use Rattle.xdr_stream.specs.Trace.{Trace, HasRoom}
 use Rattle.xdr_stream.proofs.Built.{With}
 use Rattle.xdr_stream.proofs.Seeing.{is_next, code_deep, code_void, room_next}
 use Rattle.xdr_stream.proofs.Sounding.{first_known}
+use Rattle.std.proofs.lemmas.Result.{err_from_is_err_and}
+use Rattle.xdr_stream.specs.Frames.{stack_of}
+use Rattle.xdr_stream.specs.declared.machine.Awaits.TheVariants.{Next}
+use Rattle.xdr_stream.proofs.Sparing.{seen_alone}
 use Rattle.xdr_stream.proofs.machine.pass_void.Goals as goal
 
 pub kind-requires : goal.kind-requires
@@ -32,5 +36,14 @@ returns-in_ok-leaf-clause-follows g c = λ kind q h.
     let H : Trace → Type 0 = g.B.Build.tells c.args.built.now in
     rw c.after.ensures (code_void c.args.schema.now.kinds kind c.args.limits (With H HasRoom)
     (g.B.Build.tells c.leaf.new.self) c.args.work.now c.args.parents.now.items q n
-    (λ a told. c.in_ok-leaf.ensures a told.0 told.1)
+    (λ a told. c.in_ok-leaf.ensures.told a told.0 told.1)
     (room_next c.args.schema.now.kinds kind c.args.limits H c.args.work.now c.args.parents.now.items q xdr.nothing n h))
+
+pub returns-in_err-leaf-clause-spared : goal.returns-in_err-leaf-clause-spared
+returns-in_err-leaf-clause-spared g c =
+    let p = err_from_is_err_and c.from_residual.result c.from_residual.ensures.1 in
+    rw (p.1, p.2) (λ kind q h free.
+    let a = seen_alone g.B.Build.spares c.args.schema.now.kinds kind free c.args.limits (g.B.Build.tells
+    c.args.built.now)
+    Next (stack_of c.args.work.now c.args.parents.now.items) q h in
+    false≢true (c.in_err-leaf.ensures.granted a.0 a.1 a.2))

@@ -3,6 +3,7 @@ use Rattle.xdr_stream.specs.Frames.{stack_of}
 use Rattle.xdr_stream.specs.Sees.{EndsAs}
 use Rattle.xdr_stream.proofs.Seeing.{goes_deep}
 use Rattle.xdr_stream.proofs.Sounding.{solid_sound}
+use Rattle.std.proofs.lemmas.Result.{err_from_is_err_and}
 use Rattle.xdr_stream.proofs.machine.settle.Goals as goal
 
 pub returns-in_err-end_nodes-clause-sound : goal.returns-in_err-end_nodes-clause-sound
@@ -47,3 +48,19 @@ returns-then-is_due-clause-follows g c = λ kind q h. (h, c.is_due.ensures.ready
 
 pub returns-then-is_due-clause-awaited : goal.returns-then-is_due-clause-awaited
 returns-then-is_due-clause-awaited g c = c.is_due.ensures.starts c.if-is_due.true
+
+pub returns-in_err-pass_void-clause-spared : goal.returns-in_err-pass_void-clause-spared
+returns-in_err-pass_void-clause-spared g c =
+    let p = err_from_is_err_and c.from_residual.result c.from_residual.ensures.1 in
+    rw (p.1, p.2) c.in_err-pass_void.ensures.spared
+
+pub returns-in_err-end_nodes-clause-spared : goal.returns-in_err-end_nodes-clause-spared
+returns-in_err-end_nodes-clause-spared g c =
+    let p = err_from_is_err_and c.from_residual-in_err-end_nodes.result c.from_residual-in_err-end_nodes.ensures.1 in
+    rw (p.1, p.2) (λ kind q h. c.in_err-end_nodes.ensures.spared c.args.schema.now.kinds c.args.limits kind q
+    (c.in_ok-pass_void.ensures.follows kind q h))
+
+pub returns-in-Err-clause-spared : goal.returns-in-Err-clause-spared
+returns-in-Err-clause-spared g c = λ kind q h.
+    c.in-Err.ensures.spared kind q ((c.in_ok-end_nodes.ensures.follows c.args.schema.now.kinds).0 kind c.args.limits q
+    (c.in_ok-pass_void.ensures.follows kind q h))

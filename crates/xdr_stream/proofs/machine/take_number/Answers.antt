@@ -1,3 +1,4 @@
+use Rattle.std.proofs.lemmas.Bool.{false≢true}
 use Rattle.std.proofs.Common.{◌≡◌, ◌<◌, ◌^◌, List, length, false, sym, subst, arith}
 use Rattle.std.specs.List.{AllByRecursion}
 use Rattle.xdr_types.specs.Kinds.{KindView, Part}
@@ -18,6 +19,13 @@ use Rattle.xdr_stream.proofs.Seeing.{next_ready, room_next}
 use Rattle.xdr_stream.proofs.Taking.{unit_refused, unit_leaf, unit_open, length_empty, length_some}
 use Rattle.xdr_stream.proofs.Cases.{cases_legal}
 use Rattle.xdr_stream.proofs.Sounding.{first_known, first_starts, known_rest, made_known}
+use Rattle.std.proofs.lemmas.Result.{err_from_is_err_and}
+use Rattle.xdr_types.specs.Kinds.{kind_at}
+use Rattle.xdr_stream.specs.Frames.{onto, stack_of}
+use Rattle.xdr_stream.specs.Spared.{TakesNone}
+use Rattle.xdr_stream.specs.declared.machine.Awaits.TheVariants.{Next}
+use Rattle.std.proofs.Common.{[]}
+use Rattle.xdr_stream.proofs.Sparing.{why_spares, head_closed, seen_alone, seen_root}
 use Rattle.xdr_stream.proofs.machine.take_number.Goals as goal
 
 pub kind-kind-requires : goal.kind-kind-requires
@@ -65,7 +73,8 @@ returns-in_ok-leaf-in-Leaf-clause-taken g c = λ kind limits q ready small h.
     (unit_leaf s c.len-known.ensures.valued c.len-known.ensures.known kind limits (With H HasRoom)
     (g.B.Build.tells c.leaf.new.self) c.args.work.now c.args.parents.now.items q k n c.args.number less small
     (room_next s kind limits H c.args.work.now c.args.parents.now.items q k n h)
-    unit t.1.0 t.0 (head_of_leaf c.in-Leaf.leaf) t.1.1 t.1.2 (λ a told. c.in_ok-leaf-in-Leaf.ensures a told.0 told.1))
+    unit t.1.0 t.0 (head_of_leaf c.in-Leaf.leaf) t.1.1 t.1.2 (λ a told. c.in_ok-leaf-in-Leaf.ensures.told a told.0
+    told.1))
 
 pub returns-in_ok-open-in-Open-clause-taken : goal.returns-in_ok-open-in-Open-clause-taken
 returns-in_ok-open-in-Open-clause-taken g c = λ kind limits q ready small h.
@@ -99,7 +108,7 @@ returns-then-size-eq0-clause-taken g c = λ kind limits q ready small h.
     (length_empty s c.len-known.ensures.valued c.len-known.ensures.known kind limits (With H HasRoom)
     (g.B.Build.tells c.leaf-then-size-eq0.new.self) c.args.work.now c.args.parents.now.items q k n c.args.number
     less small (room_next s kind limits H c.args.work.now c.args.parents.now.items q k n h)
-    unit t.1.0 t.0 none (λ a told. c.in_ok-leaf-in-Length.ensures a told.0 told.1))
+    unit t.1.0 t.0 none (λ a told. c.in_ok-leaf-in-Length.ensures.told a told.0 told.1))
 
 pub returns-else-size-eq0-clause-taken : goal.returns-else-size-eq0-clause-taken
 returns-else-size-eq0-clause-taken g c = λ kind limits q ready small h.
@@ -131,3 +140,38 @@ returns-in_ok-open-in-Open-clause-sound g c =
     (made_known s k (head_of s k c.args.number) all formed t.1.0) in
     subst (λ (fs : List (List Part)). IsSound s fs) (sym c.in_ok-open-in-Open.ensures.stack)
     (inner, (known_rest s (left_of c.args.work.now) c.requires.sound.0, c.requires.sound.1))
+
+pub returns-in-Err-clause-spared : goal.returns-in-Err-clause-spared
+returns-in-Err-clause-spared g c = λ limits kind q h.
+    why_spares g.B.Build.spares (kind_at c.args.schema.now.kinds kind) c.in-Err.why _ c.in-Err.ensures.1
+
+pub returns-in_err-leaf-in-Leaf-clause-spared : goal.returns-in_err-leaf-in-Leaf-clause-spared
+returns-in_err-leaf-in-Leaf-clause-spared g c =
+    let p = err_from_is_err_and c.from_residual.result c.from_residual.ensures.1 in
+    rw (p.1, p.2) (λ limits kind q h free.
+    let a = seen_alone g.B.Build.spares c.args.schema.now.kinds kind free limits (g.B.Build.tells c.args.built.now)
+    Next (stack_of c.args.work.now c.args.parents.now.items) q h in
+    false≢true (c.in_err-leaf-in-Leaf.ensures.granted a.0 a.1 a.2))
+
+pub returns-in_err-open-in-Open-clause-spared : goal.returns-in_err-open-in-Open-clause-spared
+returns-in_err-open-in-Open-clause-spared g c =
+    let p = err_from_is_err_and c.from_residual-in_err-open-in-Open.result
+    c.from_residual-in_err-open-in-Open.ensures.1 in
+    rw (p.1, p.2) (λ limits kind q h free.
+    let s : List KindView = c.args.schema.now.kinds in
+    let k : KindView = kind_view c.kind-kind.result.now in
+    let t = subst (λ (m : Made). Takes s k c.args.number m) c.in-Open.is c.in-Ok.ensures in
+    let root = seen_root g.B.Build.spares s kind free limits (g.B.Build.tells c.args.built.now)
+    (left_of c.args.work.now) (onto [] c.args.parents.now.items) q c.in-Some.id.place c.in-Some.ensures h in
+    head_closed g.B.Build.spares s k c.args.number
+    (subst (λ (f : KindView). TakesNone g.B.Build.spares f) (sym c.kind-kind.ensures) root)
+    t.1.2)
+
+pub returns-in_err-leaf-in-Length-clause-spared : goal.returns-in_err-leaf-in-Length-clause-spared
+returns-in_err-leaf-in-Length-clause-spared g c =
+    let p = err_from_is_err_and c.from_residual-in_err-leaf-in-Length.result
+    c.from_residual-in_err-leaf-in-Length.ensures.1 in
+    rw (p.1, p.2) (λ limits kind q h free.
+    let a = seen_alone g.B.Build.spares c.args.schema.now.kinds kind free limits (g.B.Build.tells c.args.built.now)
+    Next (stack_of c.args.work.now c.args.parents.now.items) q h in
+    false≢true (c.in_err-leaf-in-Length.ensures.granted a.0 a.1 a.2))

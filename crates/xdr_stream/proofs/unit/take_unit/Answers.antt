@@ -1,3 +1,4 @@
+use Rattle.std.proofs.lemmas.Bool.{false≢true}
 use Rattle.std.proofs.Common.{◌≡◌, ◌<◌, ◌^◌, rules, drop, ℕ, List, length, true, false, pos, sym, ap, subst, ◌∙◌}
 use Rattle.std.proofs.Common.{arith}
 use Rattle.xdr_units.proofs.Bytes.{AreBytes-append}
@@ -17,6 +18,10 @@ use Rattle.xdr_stream.proofs.Units.{first_of_two, second_of_two, two_units, to64
 use Rattle.xdr_stream.specs.Trace.{Trace, HasRoom}
 use Rattle.xdr_stream.proofs.Built.{With, seen_room}
 use Rattle.xdr_stream.proofs.Units.{bad_content}
+use Rattle.std.proofs.lemmas.Result.{err_from_is_err_and}
+use Rattle.std.proofs.Common.{[]}
+use Rattle.xdr_stream.specs.Frames.{onto, left_of}
+use Rattle.xdr_stream.proofs.Sparing.{seen_alone, seen_content}
 use Rattle.xdr_stream.proofs.unit.take_unit.Goals as goal
 
 pub returns-in-Wide-clause-taken : goal.returns-in-Wide-clause-taken
@@ -41,7 +46,7 @@ returns-then-left-gt4-clause-taken g c = λ kind limits q ready small h.
     more_content c.args.schema.now.kinds c.len-known.ensures.valued c.len-known.ensures.known kind limits
     (g.B.Build.tells c.args.built.now) (g.B.Build.tells c.extend.new.self)
     (stack_of c.args.work.now c.args.parents.now.items) q u len are small
-    c.in-Content.left (omega arith) c.in_ok-extend-in-Content.ensures (rw c.in-Content.is at h)
+    c.in-Content.left (omega arith) c.in_ok-extend-in-Content.ensures.told (rw c.in-Content.is at h)
 
 pub returns-then-not-are_zeros-clause-refused : goal.returns-then-not-are_zeros-clause-refused
 returns-then-not-are_zeros-clause-refused g c = λ kind limits q rest ready small h.
@@ -77,7 +82,7 @@ returns-in_ok-content-in-Content-clause-taken g c = λ kind limits q ready small
     (With H HasRoom) (g.B.Build.tells c.content.new.self)
     (stack_of c.args.work.now c.args.parents.now.items) q u len are small
     c.in-Content.left some (omega arith) zeros
-    (λ a told. c.in_ok-content-in-Content.ensures _ (c.in_ok-extend-in-Content-2.ensures a told.0) told.1)
+    (λ a told. c.in_ok-content-in-Content.ensures.told _ (c.in_ok-extend-in-Content-2.ensures.told a told.0) told.1)
     (seen_room c.args.schema.now.kinds kind limits H (Content c.in-Content.left)
     (stack_of c.args.work.now c.args.parents.now.items) q tt (rw c.in-Content.is at h))
 
@@ -106,7 +111,7 @@ returns-in_ok-leaf-in-Low-2-clause-taken g c = λ kind limits q ready small h.
     (With H HasRoom) (g.B.Build.tells c.leaf-else-signed.new.self)
     (stack_of c.args.work.now c.args.parents.now.items) q u len are small
     false x (value.unsigned_hyper (c.from.result * 4294967296 + c.from-in-Low.result)) head all
-    (λ a told. c.in_ok-leaf-in-Low-2.ensures a told.0 told.1)
+    (λ a told. c.in_ok-leaf-in-Low-2.ensures.told a told.0 told.1)
     (seen_room c.args.schema.now.kinds kind limits H (Low false x)
     (stack_of c.args.work.now c.args.parents.now.items) q tt (rw what at h))
 
@@ -141,6 +146,56 @@ returns-in_ok-leaf-in-Low-clause-taken g c = λ kind limits q ready small h.
     (With H HasRoom) (g.B.Build.tells c.leaf.new.self)
     (stack_of c.args.work.now c.args.parents.now.items) q u len are small
     true x (value.hyper (to_z w64 (of_z w64 c.cast_signed.result))) head all
-    (λ a told. c.in_ok-leaf-in-Low.ensures a told.0 told.1)
+    (λ a told. c.in_ok-leaf-in-Low.ensures.told a told.0 told.1)
     (seen_room c.args.schema.now.kinds kind limits H (Low true x)
     (stack_of c.args.work.now c.args.parents.now.items) q tt (rw what at h))
+
+pub returns-in-Next-clause-spared : goal.returns-in-Next-clause-spared
+returns-in-Next-clause-spared g c = rw c.in-Next.is c.take_number.ensures.spared
+
+pub returns-in_err-leaf-in-Low-clause-spared : goal.returns-in_err-leaf-in-Low-clause-spared
+returns-in_err-leaf-in-Low-clause-spared g c =
+    let p = err_from_is_err_and c.from_residual.result c.from_residual.ensures.1 in
+    rw (p.1, p.2) (λ limits kind q h free.
+    let a = seen_alone g.B.Build.spares c.args.schema.now.kinds kind free limits (g.B.Build.tells c.args.built.now)
+    c.args.awaits (stack_of c.args.work.now c.args.parents.now.items) q h in
+    false≢true (c.in_err-leaf-in-Low.ensures.granted a.0 a.1 a.2))
+
+pub returns-in_err-leaf-in-Low-2-clause-spared : goal.returns-in_err-leaf-in-Low-2-clause-spared
+returns-in_err-leaf-in-Low-2-clause-spared g c =
+    let p = err_from_is_err_and c.from_residual-in_err-leaf-in-Low-2.result
+    c.from_residual-in_err-leaf-in-Low-2.ensures.1 in
+    rw (p.1, p.2) (λ limits kind q h free.
+    let a = seen_alone g.B.Build.spares c.args.schema.now.kinds kind free limits (g.B.Build.tells c.args.built.now)
+    c.args.awaits (stack_of c.args.work.now c.args.parents.now.items) q h in
+    false≢true (c.in_err-leaf-in-Low-2.ensures.granted a.0 a.1 a.2))
+
+pub returns-in_err-extend-in-Content-clause-spared : goal.returns-in_err-extend-in-Content-clause-spared
+returns-in_err-extend-in-Content-clause-spared g c =
+    let p = err_from_is_err_and c.from_residual-in_err-extend-in-Content.result
+    c.from_residual-in_err-extend-in-Content.ensures.1 in
+    rw (p.1, p.2) (λ limits kind q h free.
+    false≢true (c.in_err-extend-in-Content.ensures.granted (seen_content g.B.Build.spares c.args.schema.now.kinds
+    kind free limits
+    (g.B.Build.tells c.args.built.now) c.in-Content.left (left_of c.args.work.now)
+    (onto [] c.args.parents.now.items) q (rw c.in-Content.is at h))))
+
+pub returns-in_err-extend-in-Content-2-clause-spared : goal.returns-in_err-extend-in-Content-2-clause-spared
+returns-in_err-extend-in-Content-2-clause-spared g c =
+    let p = err_from_is_err_and c.from_residual-in_err-extend-in-Content-2.result
+    c.from_residual-in_err-extend-in-Content-2.ensures.1 in
+    rw (p.1, p.2) (λ limits kind q h free.
+    false≢true (c.in_err-extend-in-Content-2.ensures.granted (seen_content g.B.Build.spares c.args.schema.now.kinds
+    kind free limits
+    (g.B.Build.tells c.args.built.now) c.in-Content.left (left_of c.args.work.now)
+    (onto [] c.args.parents.now.items) q (rw c.in-Content.is at h))))
+
+pub returns-in_err-content-in-Content-clause-spared : goal.returns-in_err-content-in-Content-clause-spared
+returns-in_err-content-in-Content-clause-spared g c =
+    let p = err_from_is_err_and c.from_residual-in_err-content-in-Content.result
+    c.from_residual-in_err-content-in-Content.ensures.1 in
+    rw (p.1, p.2) (λ limits kind q h free.
+    false≢true (c.in_err-content-in-Content.ensures.granted (seen_content g.B.Build.spares c.args.schema.now.kinds
+    kind free limits
+    (g.B.Build.tells c.args.built.now) c.in-Content.left (left_of c.args.work.now)
+    (onto [] c.args.parents.now.items) q (rw c.in-Content.is at h))))

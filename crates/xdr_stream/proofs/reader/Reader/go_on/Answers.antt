@@ -12,4 +12,4 @@ returns-then-self-bytes-clause-stands g c = λ q len none h ready.
     (λ rest. subst (λ (n : ℕ). Outcome a.schema.now.kinds a.kind.place a.limits (q ++ rest) (TooLarge n)) len
     (sees_large a.schema.now.kinds a.kind.place a.limits (g.B.Build.tells a.built) q c.args.awaits
     (stack_of a.work a.parents.items) rest ready full h))
-    (omega (arith, len))
+    (omega (arith, len)) tt

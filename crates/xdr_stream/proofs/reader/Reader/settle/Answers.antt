@@ -2,6 +2,8 @@ use Rattle.std.proofs.Common.{ℕ, ◌++◌, length, subst, sym, arith}
 use Rattle.std.specs.Prelude.{Option}
 use Rattle.xdr_stream.specs.Frames.{stack_of}
 use Rattle.xdr_stream.specs.Sees.{Ends, Settles}
+use Rattle.xdr_stream.specs.Spared.{Spares}
+use Rattle.xdr_types.specs.Kinds.{kind_at}
 use Rattle.xdr_stream.specs.declared.fault.Reason.{Reason}
 use Rattle.xdr_stream.specs.declared.machine.Awaits.{Awaits}
 use Rattle.xdr_stream.proofs.Standing.{ends_trouble}
@@ -21,7 +23,7 @@ returns-in-Ok-None-clause-stands g c = λ q len none live h.
     let s = subst (λ (o : Option Awaits). Settles a.schema.now.kinds a.kind.place a.limits
     (g.B.Build.tells c.settle.new.built) (stack_of c.settle.new.work c.settle.new.parents.items) q o)
     c.in-Ok-None.field-0-is (c.in-Ok-None.ensures.follows a.kind.place q (rw c.in-Next.is at h)) in
-    (len, s.0, s.1)
+    c.end.ensures.stands q len s.0 s.1
 
 pub returns-in-Err-clause-stands : goal.returns-in-Err-clause-stands
 returns-in-Err-clause-stands g c = λ q len none live h.
@@ -33,3 +35,6 @@ returns-in-Err-clause-stands g c = λ q len none live h.
     (ends_trouble a.schema.now.kinds a.kind.place a.limits (g.B.Build.tells a.built)
     (stack_of a.work a.parents.items) q rest c.in-Err.trouble c.in-Err.ensures.deep (rw c.in-Next.is at h))))
     (omega (arith, len))
+    (subst (λ (e : Reason). Spares g.B.Build.spares (kind_at a.schema.now.kinds a.kind.place) e) (sym
+    c.reason_of.ensures)
+    (c.in-Err.ensures.spared a.kind.place q (rw c.in-Next.is at h)))

@@ -32,3 +32,4 @@ returns-in-Err-clause-stands g c = λ q len none h ready small.
     (sym (append_assoc q c.args.unit.now rest))
     (c.in-Err.ensures.refused a.kind.place a.limits q rest ready small h)))
     (omega (arith, length-append q c.args.unit.now, len))
+    (c.in-Err.ensures.spared a.limits a.kind.place q h)

@@ -1,3 +1,4 @@
+use Rattle.std.proofs.lemmas.Bool.{false≢true}
 use Rattle.std.proofs.Common.{◌≡◌, ◌+◌, ◌-◌, ℕ, List, ◌++◌, [], ◌∷◌, length, take, drop, subst, sym, ap, ◌∙◌, true}
 use Rattle.std.proofs.Common.{append-nil, arith}
 use Rattle.std.proofs.lemmas.List.{length-append, length-take}
@@ -12,6 +13,8 @@ use Rattle.xdr_stream.specs.declared.machine.Awaits.TheVariants.{Next}
 use Rattle.xdr_stream.specs.declared.reader.State.{State}
 use Rattle.xdr_stream.proofs.Units.{bytes_taken}
 use Rattle.xdr_stream.proofs.Wholes.{whole_seen, sound_rest}
+use Rattle.xdr_stream.proofs.Sparing.{seen_root, length_spared}
+use Rattle.xdr_types.specs.Kinds.{kind_at}
 use Rattle.xdr_stream.proofs.reader.Reader.take_arm.Goals as goal
 
 pub invariant_of-self : goal.invariant_of-self
@@ -28,7 +31,8 @@ returns-in-Ok-clause-stands g c = λ b state none st.
     let w = c.args.whole in
     let H : Trace → Type 0 = g.B.Build.tells a.built in
     let I : Trace → Type 0 = g.B.Build.tells c.whole.new.self in
-    let r = subst (λ (x : State). StandsAs s a.kind.place a.limits H (stack_of a.work a.parents.items) a.read a.unit
+    let r = subst (λ (x : State). StandsAs g.B.Build.spares s a.kind.place a.limits H (stack_of a.work
+    a.parents.items) a.read a.unit
     a.pending x b) state st in
     let q : List ℕ = r.0 in
     let u : List ℕ = take w.all c.args.bytes.now in
@@ -40,7 +44,7 @@ returns-in-Ok-clause-stands g c = λ b state none st.
     let tells : (x : Trace) → H x → HasRoom x
     → I (content_in (extend_in (take w.size (drop 4 c.args.bytes.now)) x)) = λ x h o.
     subst (λ (k : ℕ). I (content_in (extend_in (take k (drop 4 c.args.bytes.now)) x))) same
-    (c.in-Ok.ensures x h o) in
+    (c.in-Ok.ensures.told x h o) in
     let next = whole_seen s c.len-known.ensures.valued c.len-known.ensures.known a.kind.place a.limits H I a.work
     a.parents.items q c.args.bytes.now w r.5 d are tells r.4 in
     let rest : List (List Part) = onto [] a.parents.items in
@@ -60,5 +64,25 @@ returns-in-Ok-clause-stands g c = λ b state none st.
     ) in
     let joined : q ++ u ≡ b ++ u = ap (λ (x : List ℕ). x ++ u)
     (sym (r.1 ∙ ap (λ (k : ℕ). q ++ take k a.unit) none ∙ append-nil q)) in
-    subst (λ (x : List ℕ). StandsFor g.B.Build.tells c.settle.new.self x) joined
+    subst (λ (x : List ℕ). StandsFor g.B.Build.spares g.B.Build.tells c.settle.new.self x) joined
     (c.settle.ensures.stands (q ++ u) far none tt seen)
+
+pub returns-in-Err-clause-stands : goal.returns-in-Err-clause-stands
+returns-in-Err-clause-stands g c = λ b state none st.
+    let a = c.args.self.now in
+    let z : Type 0 = g.B.Build.spares in
+    let H : Trace → Type 0 = g.B.Build.tells a.built in
+    let s = subst (λ (x : State). StandsAs z a.schema.now.kinds a.kind.place a.limits H
+    (stack_of a.work a.parents.items) a.read a.unit a.pending x b) state st in
+    let due = c.requires in
+    c.fail.ensures.stands (b ++ take c.args.whole.all c.args.bytes.now) (λ rest. tt)
+    (omega (
+      arith,
+      s.2,
+      ap (λ (x : List ℕ). length x) s.1,
+      length-append s.0 (take a.pending a.unit),
+      length-append b (take c.args.whole.all c.args.bytes.now),
+    ))
+    (λ free. false≢true (c.in-Err.ensures.granted (length_spared z (kind_at a.schema.now.kinds due.0)
+    (seen_root z a.schema.now.kinds a.kind.place free a.limits H (left_of a.work) (onto [] a.parents.items) s.0 due.0
+    due.1 s.4) due.2.first)))

@@ -1,20 +1,24 @@
+use Rattle.std.proofs.lemmas.Bool.{false≢true}
 use Rattle.std.proofs.Common.{◌≡◌, ◌+◌, ◌-◌, ◌<◌, ◌≤◌, ◌%◌, ℕ, List, ◌++◌, length, take, subst, sym, ap, ◌∙◌, true}
-use Rattle.std.proofs.Common.{append_assoc, append-nil, arith}
+use Rattle.std.proofs.Common.{[], append_assoc, append-nil, arith}
 use Rattle.std.proofs.lemmas.List.{length-append, length-take}
 use Rattle.std.proofs.Math.Seq.{take-add}
 use Rattle.xdr_types.specs.Fits.{are_bytes}
-use Rattle.xdr_stream.specs.Frames.{stack_of}
+use Rattle.xdr_stream.specs.Frames.{stack_of, onto, left_of}
 use Rattle.xdr_stream.specs.Sees.{Sees}
 use Rattle.xdr_stream.specs.Stands.{StandsAs, StandsFor}
 use Rattle.xdr_stream.specs.declared.machine.Awaits.TheVariants.{Content}
 use Rattle.xdr_stream.specs.declared.reader.State.{State}
 use Rattle.xdr_stream.proofs.Units.{many_units, bytes_taken}
+use Rattle.xdr_stream.specs.Trace.{Trace}
+use Rattle.xdr_stream.proofs.Sparing.{seen_content}
 use Rattle.xdr_stream.proofs.reader.Reader.take_content.Goals as goal
 
 pub returns-in-Ok-clause-stands : goal.returns-in-Ok-clause-stands
 returns-in-Ok-clause-stands g c = λ b left sum state none room st.
     let a = c.args.self.now in
-    let s = subst (λ (x : State). StandsAs a.schema.now.kinds a.kind.place a.limits (g.B.Build.tells a.built)
+    let s = subst (λ (x : State). StandsAs g.B.Build.spares a.schema.now.kinds a.kind.place a.limits (g.B.Build.tells
+    a.built)
     (stack_of a.work a.parents.items) a.read a.unit a.pending x b) state st in
     let m : ℕ = c.args.n - 4 in
     let u : List ℕ = take m c.args.bytes.now in
@@ -26,7 +30,7 @@ returns-in-Ok-clause-stands g c = λ b left sum state none room st.
     let next = many_units a.schema.now.kinds c.len-known.ensures.valued c.len-known.ensures.known a.kind.place a.limits
     (stack_of a.work a.parents.items) (g.B.Build.tells a.built)
     (g.B.Build.tells c.extend.new.self) u left s.0 units are less fits
-    c.in-Ok.ensures s.4 in
+    c.in-Ok.ensures.told s.4 in
     let rest : left - length u ≡ c.args.last = omega (arith, size, sum, c.requires.some) in
     let here = subst (λ (k : ℕ). Sees a.schema.now.kinds a.kind.place a.limits (g.B.Build.tells c.extend.new.self)
     (Content k)
@@ -49,6 +53,24 @@ returns-in-Ok-clause-stands g c = λ b left sum state none room st.
     append_assoc s.0 u c.unit_at.result ∙ ap (λ (x : List ℕ). s.0 ++ x) (sym four)
     ∙ ap (λ (x : List ℕ). x ++ take c.args.n c.args.bytes.now)
     (sym (s.1 ∙ ap (λ (k : ℕ). s.0 ++ take k a.unit) none ∙ append-nil s.0)) in
-    subst (λ (x : List ℕ). StandsFor g.B.Build.tells c.take.new.self x) joined
+    subst (λ (x : List ℕ). StandsFor g.B.Build.spares g.B.Build.tells c.take.new.self x) joined
     (c.take.ensures.stands (s.0 ++ u) far none here (omega (arith, c.requires.last))
     (omega (arith, length-append s.0 u, size, s.2, room, c.requires.some)))
+
+pub returns-in-Err-clause-stands : goal.returns-in-Err-clause-stands
+returns-in-Err-clause-stands g c = λ b left sum state none room st.
+    let a = c.args.self.now in
+    let z : Type 0 = g.B.Build.spares in
+    let H : Trace → Type 0 = g.B.Build.tells a.built in
+    let s = subst (λ (x : State). StandsAs z a.schema.now.kinds a.kind.place a.limits H
+    (stack_of a.work a.parents.items) a.read a.unit a.pending x b) state st in
+    c.fail.ensures.stands (b ++ take c.args.n c.args.bytes.now) (λ rest. tt)
+    (omega (
+      arith,
+      s.2,
+      ap (λ (x : List ℕ). length x) s.1,
+      length-append s.0 (take a.pending a.unit),
+      length-append b (take c.args.n c.args.bytes.now),
+    ))
+    (λ free. false≢true (c.in-Err.ensures.granted (seen_content z a.schema.now.kinds a.kind.place free a.limits H left
+    (left_of a.work) (onto [] a.parents.items) s.0 s.4)))

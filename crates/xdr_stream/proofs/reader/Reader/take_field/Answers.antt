@@ -1,4 +1,5 @@
-use Rattle.std.proofs.Common.{◌≡◌, ◌+◌, ◌-◌, ℕ, List, ◌++◌, [], ◌∷◌, length, take, drop, subst, sym, ap, ◌∙◌, true}
+use Rattle.std.proofs.Common.{◌≡◌, ◌+◌, ◌-◌, ◌≤◌, ℕ, List, ◌++◌, [], ◌∷◌, length, take, drop, subst, sym, ap, ◌∙◌}
+use Rattle.std.proofs.Common.{true}
 use Rattle.std.proofs.Common.{append-nil, arith}
 use Rattle.std.proofs.lemmas.List.{length-append, length-take}
 use Rattle.xdr_types.specs.Kinds.{KindView, Part}
@@ -13,6 +14,7 @@ use Rattle.xdr_stream.specs.declared.machine.Awaits.TheVariants.{Next}
 use Rattle.xdr_stream.specs.declared.reader.State.{State}
 use Rattle.xdr_stream.proofs.Units.{bytes_taken}
 use Rattle.xdr_stream.proofs.Wholes.{whole_seen, sound_rest, waits_rest, ready_rest}
+use Rattle.xdr_stream.proofs.Sparing.{seen_few, starts_some}
 use Rattle.xdr_stream.proofs.reader.Reader.take_field.Goals as goal
 
 pub invariant_of-self : goal.invariant_of-self
@@ -31,7 +33,8 @@ returns-in-Ok-clause-stands g c = λ b state none st.
     let w = c.args.whole in
     let H : Trace → Type 0 = g.B.Build.tells a.built in
     let I : Trace → Type 0 = g.B.Build.tells c.whole.new.self in
-    let r = subst (λ (x : State). StandsAs s a.kind.place a.limits H (stack_of a.work a.parents.items) a.read a.unit
+    let r = subst (λ (x : State). StandsAs g.B.Build.spares s a.kind.place a.limits H (stack_of a.work
+    a.parents.items) a.read a.unit
     a.pending x b) state st in
     let q : List ℕ = r.0 in
     let u : List ℕ = take w.all c.args.bytes.now in
@@ -43,7 +46,7 @@ returns-in-Ok-clause-stands g c = λ b state none st.
     let tells : (x : Trace) → H x → HasRoom x
     → I (content_in (extend_in (take w.size (drop 4 c.args.bytes.now)) x)) = λ x h o.
     subst (λ (k : ℕ). I (content_in (extend_in (take k (drop 4 c.args.bytes.now)) x))) same
-    (c.in-Ok.ensures x h o) in
+    (c.in-Ok.ensures.told x h o) in
     let next = whole_seen s c.len-known.ensures.valued c.len-known.ensures.known a.kind.place a.limits H I a.work
     a.parents.items q c.args.bytes.now w r.5 d are tells r.4 in
     let rest : List (List Part) = onto [] a.parents.items in
@@ -67,6 +70,33 @@ returns-in-Ok-clause-stands g c = λ b state none st.
     let joined : b ++ u ≡ (q ++ u) ++ take a.pending a.unit =
     ap (λ (x : List ℕ). x ++ u) (r.1 ∙ ap (λ (k : ℕ). q ++ take k a.unit) none ∙ append-nil q)
     ∙ sym (ap (λ (k : ℕ). (q ++ u) ++ take k a.unit) none ∙ append-nil (q ++ u)) in
-    subst (λ (x : State). StandsAs s a.kind.place a.limits I (stack_of c.after-self.result a.parents.items)
+    subst (λ (x : State). StandsAs g.B.Build.spares s a.kind.place a.limits I (stack_of c.after-self.result
+    a.parents.items)
     c.saturating_add-self.result a.unit a.pending x (b ++ u)) (sym state)
     (q ++ u, joined, far, r.3, seen, ready, λ is. omega (arith, is, length-append q u, size, e.room))
+
+pub returns-in-Err-clause-stands : goal.returns-in-Err-clause-stands
+returns-in-Err-clause-stands g c = λ b state none st.
+    let a = c.args.self.now in
+    let z : Type 0 = g.B.Build.spares in
+    let H : Trace → Type 0 = g.B.Build.tells a.built in
+    let s = subst (λ (x : State). StandsAs z a.schema.now.kinds a.kind.place a.limits H
+    (stack_of a.work a.parents.items) a.read a.unit a.pending x b) state st in
+    let begins = c.requires.due.1 in
+    let rest : List Part = rest_of (left_of a.work) in
+    let two : 2 ≤ length (left_of a.work) =
+    omega (arith, ap (λ (ps : List Part). length ps) begins.1, starts_some a.schema.now.kinds rest c.requires.starts) in
+    c.fail.ensures.stands (b ++ take c.args.whole.all c.args.bytes.now) (λ rest. tt)
+    (omega (
+      arith,
+      s.2,
+      ap (λ (x : List ℕ). length x) s.1,
+      length-append s.0 (take a.pending a.unit),
+      length-append b (take c.args.whole.all c.args.bytes.now),
+    ))
+    (λ free. absurd (omega (
+      arith,
+      two,
+      seen_few z a.schema.now.kinds a.kind.place free a.limits H
+          (left_of a.work) (onto [] a.parents.items) s.0 s.4,
+    )))

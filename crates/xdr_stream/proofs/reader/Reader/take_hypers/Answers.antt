@@ -17,6 +17,8 @@ use Rattle.xdr_stream.proofs.Built.{With, seen_many_wide}
 use Rattle.xdr_stream.proofs.Frames.{onto_length}
 use Rattle.xdr_stream.proofs.Units.{bytes_taken}
 use Rattle.xdr_stream.proofs.Hypers.{many_hypers, sound_hypers}
+use Rattle.xdr_stream.specs.Trace.{Trace}
+use Rattle.xdr_stream.proofs.Sparing.{seen_wide}
 use Rattle.xdr_stream.proofs.reader.Reader.take_hypers.Goals as goal
 
 pub invariant_of-self : goal.invariant_of-self
@@ -33,7 +35,8 @@ pub returns-in-Ok-clause-stands : goal.returns-in-Ok-clause-stands
 returns-in-Ok-clause-stands g c = λ b state none room st.
     let a = c.args.self.now in
     let due = c.requires.due in
-    let s = subst (λ (x : State). StandsAs a.schema.now.kinds a.kind.place a.limits (g.B.Build.tells a.built)
+    let s = subst (λ (x : State). StandsAs g.B.Build.spares a.schema.now.kinds a.kind.place a.limits (g.B.Build.tells
+    a.built)
     (stack_of a.work a.parents.items) a.read a.unit a.pending x b) state st in
     let u : List ℕ = take c.args.n c.args.bytes.now in
     let size : length u ≡ c.args.n = omega (arith, length-take c.args.n c.args.bytes.now, c.requires.there) in
@@ -73,3 +76,33 @@ returns-in-Ok-clause-stands g c = λ b state none room st.
     ap (λ (x : List ℕ). x ++ u) (s.1 ∙ ap (λ (k : ℕ). s.0 ++ take k a.unit) none ∙ append-nil s.0)
     ∙ sym (ap (λ (k : ℕ). (s.0 ++ u) ++ take k a.unit) none ∙ append-nil (s.0 ++ u)) in
     (s.0 ++ u, joined, far, s.3, next, tt, λ e. omega (arith, e, length-append s.0 u, fits))
+
+pub returns-in-Err-clause-stands : goal.returns-in-Err-clause-stands
+returns-in-Err-clause-stands g c = λ b state none room st.
+    let a = c.args.self.now in
+    let z : Type 0 = g.B.Build.spares in
+    let H : Trace → Type 0 = g.B.Build.tells a.built in
+    let s = subst (λ (x : State). StandsAs z a.schema.now.kinds a.kind.place a.limits H
+    (stack_of a.work a.parents.items) a.read a.unit a.pending x b) state st in
+    let due = c.requires.due in
+    let some : 1 ≤ length (left_of a.work) = subst (λ (w : Frame). 1 ≤ length (left_of w)) (sym due.node)
+    (omega (
+      arith,
+      length-replicate c.args.run.left (item_part c.args.run.item.place),
+      c.requires.left,
+      c.requires.some,
+    )) in
+    c.fail.ensures.stands (b ++ take c.args.n c.args.bytes.now) (λ rest. tt)
+    (omega (
+      arith,
+      s.2,
+      ap (λ (x : List ℕ). length x) s.1,
+      length-append s.0 (take a.pending a.unit),
+      length-append b (take c.args.n c.args.bytes.now),
+    ))
+    (λ free. absurd (omega (
+      arith,
+      some,
+      seen_wide z a.schema.now.kinds a.kind.place free a.limits H c.args.run.signed
+          (left_of a.work) (onto [] a.parents.items) s.0 s.4,
+    )))

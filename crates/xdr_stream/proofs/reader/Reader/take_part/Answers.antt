@@ -1,4 +1,5 @@
-use Rattle.std.proofs.Common.{◌≡◌, ◌+◌, ◌-◌, ◌≤◌, ℕ, List, ◌++◌, length, take, drop, subst, sym, ap, ◌∙◌, append_assoc}
+use Rattle.std.proofs.Common.{◌≡◌, ◌+◌, ◌-◌, ◌≤◌, ℕ, List, ◌++◌, length, take, drop, subst, sym, ap, ◌∙◌}
+use Rattle.std.proofs.Common.{append_assoc}
 use Rattle.std.proofs.Common.{append-nil, arith}
 use Rattle.std.proofs.lemmas.List.{length-append, take_rest}
 use Rattle.std.proofs.Math.Seq.{take-add}
@@ -12,7 +13,8 @@ use Rattle.xdr_stream.proofs.reader.Reader.take_part.Goals as goal
 pub returns-in-Ok-clause-stands : goal.returns-in-Ok-clause-stands
 returns-in-Ok-clause-stands g c = λ b state none st.
     let a = c.args.self.now in
-    let s = subst (λ (x : State). StandsAs a.schema.now.kinds a.kind.place a.limits (g.B.Build.tells a.built)
+    let s = subst (λ (x : State). StandsAs g.B.Build.spares a.schema.now.kinds a.kind.place a.limits (g.B.Build.tells
+    a.built)
     (stack_of a.work a.parents.items) a.read a.unit a.pending x b) state st in
     let q : List ℕ = s.0 in
     let u : List ℕ = c.unit_at-unit.result in
@@ -39,13 +41,14 @@ returns-in-Ok-clause-stands g c = λ b state none st.
     append_assoc q u (take n r) ∙ ap (λ (x : List ℕ). q ++ x) (sym all)
     ∙ ap (λ (x : List ℕ). x ++ take (4 + n) c.args.bytes.now)
     (sym (s.1 ∙ ap (λ (k : ℕ). q ++ take k a.unit) none ∙ append-nil q)) in
-    subst (λ (x : List ℕ). StandsFor g.B.Build.tells c.take_whole.new.self x) joined
+    subst (λ (x : List ℕ). StandsFor g.B.Build.spares g.B.Build.tells c.take_whole.new.self x) joined
     (c.take_whole.ensures.stands (q ++ u) far none c.in-Ok.ensures.live next)
 
 pub returns-in-Err-clause-stands : goal.returns-in-Err-clause-stands
 returns-in-Err-clause-stands g c = λ b state none st.
     let a = c.args.self.now in
-    let s = subst (λ (x : State). StandsAs a.schema.now.kinds a.kind.place a.limits (g.B.Build.tells a.built)
+    let s = subst (λ (x : State). StandsAs g.B.Build.spares a.schema.now.kinds a.kind.place a.limits (g.B.Build.tells
+    a.built)
     (stack_of a.work a.parents.items) a.read a.unit a.pending x b) state st in
     let q : List ℕ = s.0 in
     let u : List ℕ = c.unit_at-unit.result in
@@ -53,10 +56,11 @@ returns-in-Err-clause-stands g c = λ b state none st.
     ap (λ (x : List ℕ). q ++ x) c.unit_at-unit.ensures
     ∙ ap (λ (x : List ℕ). x ++ take 4 c.args.bytes.now)
     (sym (s.1 ∙ ap (λ (k : ℕ). q ++ take k a.unit) none ∙ append-nil q)) in
-    subst (λ (x : List ℕ). StandsFor g.B.Build.tells c.fail.new.self x) joined
+    subst (λ (x : List ℕ). StandsFor g.B.Build.spares g.B.Build.tells c.fail.new.self x) joined
     (c.fail.ensures.stands (q ++ u)
     (λ rest. subst (λ (n : ℕ). Ends a.schema.now.kinds a.kind.place a.limits c.in-Err.why ((q ++ u) ++ rest) n) s.2
     (subst (λ (x : List ℕ). Ends a.schema.now.kinds a.kind.place a.limits c.in-Err.why x (length q))
     (sym (append_assoc q u rest))
     (c.in-Err.ensures.refused a.kind.place a.limits q rest s.5 s.6 s.4)))
-    (omega (arith, length-append q u, s.2)))
+    (omega (arith, length-append q u, s.2))
+    (c.in-Err.ensures.spared a.limits a.kind.place q s.4))

@@ -21,6 +21,6 @@ loop-at-preserved-then-piece-at-ge4 g c =
           let joined : (b ++ take at p) ++ take n (take (length p - at) (drop at p)) ≡ b ++ take (at + n) p =
           ap (λ (x : List ℕ). (b ++ take at p) ++ take n x) all ∙ append_assoc b (take at p) (take n (drop at p))
           ∙ ap (λ (x : List ℕ). b ++ x) (sym (take-add at n p)) in
-          subst (λ (x : List ℕ). StandsFor g.B.Build.tells c.take_units-at.new.self x) joined
+          subst (λ (x : List ℕ). StandsFor g.B.Build.spares g.B.Build.tells c.take_units-at.new.self x) joined
           (c.take_units-at.ensures.stands (b ++ take at p) c.in-Reading.is c.if-self-eq0.true (i.3 b st)),
     )

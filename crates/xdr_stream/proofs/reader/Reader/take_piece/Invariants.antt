@@ -5,7 +5,8 @@ use Rattle.xdr_stream.proofs.reader.Reader.take_piece.Given as goal
 abbrev pub invariant-loop-at : goal.invariant-loop-at
 invariant-loop-at g l =
     (l.at ≤ length l.piece) × IsAwake l.self.state × IsSame l.fn.self l.self
-    × ((b : List ℕ) → StandsFor g.B.Build.tells l.fn.self b → StandsFor g.B.Build.tells l.self (b ++ take l.at l.piece))
+    × ((b : List ℕ) → StandsFor g.B.Build.spares g.B.Build.tells l.fn.self b
+    → StandsFor g.B.Build.spares g.B.Build.tells l.self (b ++ take l.at l.piece))
 
 abbrev pub decreases-loop-at : goal.decreases-loop-at
 decreases-loop-at g l = length l.piece - l.at

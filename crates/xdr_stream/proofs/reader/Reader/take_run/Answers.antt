@@ -1,4 +1,5 @@
-use Rattle.std.proofs.Common.{replicate, [], ◌≡◌, ◌+◌, ◌-◌, ◌*◌, ◌≤◌, ℕ, List, ◌++◌, length, take, subst, sym, ap, ◌∙◌}
+use Rattle.std.proofs.Common.{replicate, [], ◌≡◌, ◌+◌, ◌-◌, ◌*◌, ◌≤◌, ℕ, List, ◌++◌, length, take, subst, sym, ap}
+use Rattle.std.proofs.Common.{◌∙◌}
 use Rattle.std.proofs.Common.{true}
 use Rattle.std.proofs.Common.{append_assoc, append-nil, arith}
 use Rattle.std.proofs.lemmas.List.{length-append, length-take, length-replicate}
@@ -20,6 +21,8 @@ use Rattle.xdr_stream.specs.declared.reader.State.{State}
 use Rattle.xdr_stream.proofs.Units.{bytes_taken}
 use Rattle.xdr_stream.proofs.Running.{many_numbers, ready_numbers, deep_numbers, sound_numbers, waits_numbers}
 use Rattle.xdr_stream.proofs.Running.{awaited_numbers}
+use Rattle.xdr_stream.specs.Trace.{Trace}
+use Rattle.xdr_stream.proofs.Sparing.{seen_few}
 use Rattle.xdr_stream.proofs.reader.Reader.take_run.Goals as goal
 
 pub invariant_of-self : goal.invariant_of-self
@@ -41,7 +44,8 @@ pub returns-in-Ok-clause-stands : goal.returns-in-Ok-clause-stands
 returns-in-Ok-clause-stands g c = λ b state none room st.
     let a = c.args.self.now in
     let due = c.requires.due in
-    let s = subst (λ (x : State). StandsAs a.schema.now.kinds a.kind.place a.limits (g.B.Build.tells a.built)
+    let s = subst (λ (x : State). StandsAs g.B.Build.spares a.schema.now.kinds a.kind.place a.limits (g.B.Build.tells
+    a.built)
     (stack_of a.work a.parents.items) a.read a.unit a.pending x b) state st in
     let m : ℕ = c.args.n - 4 in
     let u : List ℕ = take m c.args.bytes.now in
@@ -89,8 +93,39 @@ returns-in-Ok-clause-stands g c = λ b state none room st.
     append_assoc s.0 u c.unit_at.result ∙ ap (λ (x : List ℕ). s.0 ++ x) (sym four)
     ∙ ap (λ (x : List ℕ). x ++ take c.args.n c.args.bytes.now)
     (sym (s.1 ∙ ap (λ (k : ℕ). s.0 ++ take k a.unit) none ∙ append-nil s.0)) in
-    subst (λ (x : List ℕ). StandsFor g.B.Build.tells c.take.new.self x) joined
+    subst (λ (x : List ℕ). StandsFor g.B.Build.spares g.B.Build.tells c.take.new.self x) joined
     (c.take.ensures.stands (s.0 ++ u) far none next
     (ready_numbers a.schema.now.kinds c.len-known.ensures.valued c.len-known.ensures.known a.kind.place a.limits
     c.args.run.item c.args.run.signed due.kind a.parents.items deep c.args.last c.requires.last)
     (omega (arith, length-append s.0 u, size, s.2, room, c.requires.some)))
+
+pub returns-in-Err-clause-stands : goal.returns-in-Err-clause-stands
+returns-in-Err-clause-stands g c = λ b state none room st.
+    let a = c.args.self.now in
+    let z : Type 0 = g.B.Build.spares in
+    let H : Trace → Type 0 = g.B.Build.tells a.built in
+    let s = subst (λ (x : State). StandsAs z a.schema.now.kinds a.kind.place a.limits H
+    (stack_of a.work a.parents.items) a.read a.unit a.pending x b) state st in
+    let due = c.requires.due in
+    let two : 2 ≤ length (left_of a.work) = subst (λ (w : Frame). 2 ≤ length (left_of w)) (sym due.node)
+    (omega (
+      arith,
+      length-replicate c.args.run.left (item_part c.args.run.item.place),
+      c.requires.left,
+      c.requires.some,
+      c.requires.last,
+    )) in
+    c.fail.ensures.stands (b ++ take c.args.n c.args.bytes.now) (λ rest. tt)
+    (omega (
+      arith,
+      s.2,
+      ap (λ (x : List ℕ). length x) s.1,
+      length-append s.0 (take a.pending a.unit),
+      length-append b (take c.args.n c.args.bytes.now),
+    ))
+    (λ free. absurd (omega (
+      arith,
+      two,
+      seen_few z a.schema.now.kinds a.kind.place free a.limits H
+          (left_of a.work) (onto [] a.parents.items) s.0 s.4,
+    )))

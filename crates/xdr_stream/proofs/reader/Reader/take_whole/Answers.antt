@@ -1,14 +1,16 @@
+use Rattle.std.proofs.lemmas.Bool.{false≢true}
 use Rattle.std.proofs.Common.{◌≡◌, ◌+◌, ◌-◌, ◌<◌, ◌≤◌, ◌%◌, ℕ, List, ◌++◌, length, take, drop, subst, sym, ap, ◌∙◌}
-use Rattle.std.proofs.Common.{true}
+use Rattle.std.proofs.Common.{true, []}
 use Rattle.std.proofs.Common.{arith}
 use Rattle.std.proofs.lemmas.List.{length-append, length-take, drop-take, take-take}
 use Rattle.xdr_types.specs.Fits.{are_bytes}
-use Rattle.xdr_stream.specs.Frames.{stack_of}
+use Rattle.xdr_stream.specs.Frames.{stack_of, onto, left_of}
 use Rattle.xdr_stream.specs.Trace.{Trace, HasRoom, content_in, extend_in}
 use Rattle.xdr_stream.specs.Sees.{are_zeros}
 use Rattle.xdr_stream.specs.declared.machine.Awaits.TheVariants.{Content}
 use Rattle.xdr_stream.proofs.Built.{With, seen_room}
 use Rattle.xdr_stream.proofs.Units.{whole_content, bytes_taken}
+use Rattle.xdr_stream.proofs.Sparing.{seen_content}
 use Rattle.xdr_stream.proofs.reader.Reader.take_whole.Goals as goal
 
 pub returns-in-Ok-clause-stands : goal.returns-in-Ok-clause-stands
@@ -33,7 +35,7 @@ returns-in-Ok-clause-stands g c = λ q len none live h.
     let first : take size u ≡ take size c.args.bytes.now = take-take size n c.args.bytes.now fits.0 in
     let room : length q + length u ≤ a.limits.bytes = omega (arith, many, e.room, len, some) in
     let told : (x : Trace) → With H HasRoom x → I (content_in (extend_in (take size u) x)) = λ x w.
-    subst (λ (z : List ℕ). I (content_in (extend_in z x))) (sym first) (c.in-Ok.ensures x w.0 w.1) in
+    subst (λ (z : List ℕ). I (content_in (extend_in z x))) (sym first) (c.in-Ok.ensures.told x w.0 w.1) in
     let next = whole_content a.schema.now.kinds c.len-known.ensures.valued c.len-known.ensures.known a.kind.place
     a.limits
     (stack_of a.work a.parents.items) (With H HasRoom) I u size q units are (omega (arith, many, fits.0))
@@ -52,3 +54,14 @@ returns-in-Ok-clause-stands g c = λ q len none live h.
       c.saturating_add-self.ensures,
     ) in
     c.settle.ensures.stands (q ++ u) far none tt next
+
+pub returns-in-Err-clause-stands : goal.returns-in-Err-clause-stands
+returns-in-Err-clause-stands g c = λ q len none live h.
+    let a = c.args.self.now in
+    let z : Type 0 = g.B.Build.spares in
+    let H : Trace → Type 0 = g.B.Build.tells a.built in
+    c.fail.ensures.stands (q ++ take c.whole_there-n.result c.args.bytes.now) (λ rest. tt)
+    (omega (arith, len, length-append q (take c.whole_there-n.result c.args.bytes.now)))
+    (λ free. false≢true (c.in-Err.ensures.granted (seen_content z a.schema.now.kinds a.kind.place free a.limits H
+    c.in-Content.size
+    (left_of a.work) (onto [] a.parents.items) q (rw c.in-Content.is at h))))

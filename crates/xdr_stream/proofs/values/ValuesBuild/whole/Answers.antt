@@ -5,8 +5,8 @@ use Rattle.xdr_stream.specs.declared.values.Values.{Values}
 use Rattle.xdr_stream.proofs.Told.{tells_whole, none_there}
 use Rattle.xdr_stream.proofs.values.ValuesBuild.whole.Goals as goal
 
-pub returns : goal.returns
-returns c = λ t told room.
+pub returns-clause-told : goal.returns-clause-told
+returns-clause-told c = λ t told room.
     let b : Values = c.args.self.now in
     let n : Values = record {
       alloc = b.alloc;

@@ -1,0 +1,14 @@
+use Rattle.std.proofs.Common.{List, ap, ◌∙◌}
+use Rattle.xdr_stream.specs.Values.{level_of, levels_onto}
+use Rattle.xdr_stream.specs.declared.values.Level.{Level}
+use Rattle.xdr_stream.proofs.Finishing.{trace_at}
+use Rattle.std.proofs.Common.{[], ◌∷◌}
+use Rattle.xdr_stream.proofs.values.ValuesBuild.trim.Goals as goal
+
+pub returns : goal.returns
+returns c = λ t told. record {
+  trace = ap (λ (ls : List Level). trace_at (level_of c.args.self.now.work ∷ levels_onto [] ls)
+      c.args.self.now.content.items) c.trim.ensures ∙ told.trace;
+  nodes = told.nodes;
+  kept = told.kept;
+}
