@@ -1,4 +1,5 @@
 pub mod First
 pub mod Accepted
 pub mod LentBytes
+pub mod Refusing
 pub mod Sound

@@ -1,3 +1,4 @@
 pub mod Lent
 pub mod Refusal
 pub mod Rfc
+pub mod Told

@@ -1,5 +1,7 @@
 //! Bytes that are judged without a value.
-ghost use Rattle.std.specs.Prelude.{◌≡◌, ◌<◌, length, IfOk, IfSome, Ok, Err};
+ghost use Rattle.std.specs.Prelude.{◌≡◌, ◌<◌, length, IfOk, IfErr, IfSome, IsOk, Ok, Err};
+ghost use Rattle.xdr_types.specs.Kinds.{kind_at, opaque_up_to};
+ghost use Rattle.xdr_stream.specs.declared.fault.Reason.TheVariants.{NoMemory};
 ghost use Rattle.xdr_codec.specs.Checks.{IsDone};
 ghost use Rattle.xdr_stream.specs.declared.reader.Progress.TheVariants.{Done};
 
@@ -61,4 +63,28 @@ pub fn looks_at_nothing_more(
     ensures { result ≡ Ok (Done 0) }
 {
     checker.feed(later)
+}
+
+/// And the end counts it: no memory is asked for.
+pub fn counts_what_is_whole(checker: Checker<'_>) -> Result<u32, DecodeFault>
+    requires { IsDone checker }
+    ensures { IsOk result }
+{
+    checker.finish()
+}
+
+/// Content is not kept, so that no memory is asked for where nothing else is there.
+pub fn is_sure_of_an_opaque(
+    alloc: Global,
+    schema: &Schema,
+    kind: KindId,
+    limits: Limits,
+    piece: &[u8],
+) -> Result<Progress, DecodeFault>
+    requires has { kind.place < length schema.now.kinds }
+    requires kind { kind_at schema.now.kinds kind.place ≡ opaque_up_to 4294967295 }
+    ensures { IfErr result (λ f. f.why ≡ NoMemory → ⊥) }
+{
+    let mut checker = Checker::start(alloc, schema, kind, limits);
+    checker.feed(piece)
 }

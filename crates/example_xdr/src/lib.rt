@@ -13,6 +13,7 @@ pub mod limits;
 pub mod lines;
 mod made;
 pub mod pieces;
+pub mod reasons;
 pub mod schemas;
 pub mod stacks;
 pub mod units;

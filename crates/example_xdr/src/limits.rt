@@ -60,7 +60,7 @@ pub fn depth_as_given() -> u32
 {
     match Limits::new(1, 8) {
         Some(limits) => limits.depth(),
-        None => 1,
+        None => 0,
     }
 }
 
@@ -70,6 +70,6 @@ pub fn bytes_as_given() -> u32
 {
     match Limits::new(1, 8) {
         Some(limits) => limits.bytes(),
-        None => 8,
+        None => 0,
     }
 }

@@ -1,7 +1,8 @@
 //! A value whose bytes come in pieces.
-ghost use Rattle.std.specs.Prelude.{◌≡◌, ◌≤◌, ◌<◌, [], ◌++◌, length, IfOk, IfErr, IfSome, IsErr, IsTrue, Ok};
+ghost use Rattle.std.specs.Prelude.{◌≡◌, ◌≤◌, ◌<◌, [], ◌++◌, length, IfOk, IfErr, IfSome, IsErr, IsOk, IsTrue, Ok};
 ghost use Rattle.xdr_types.specs.Kinds.{kind_at, hyper, int, opaque_up_to};
 ghost use Rattle.xdr_types.specs.View.{tree};
+ghost use Rattle.xdr_codec.specs.Settings.{kinds_of, kind_of, limits_of};
 ghost use Rattle.xdr_codec.specs.Stands.{StandsFor, IsDone, HasFailed};
 ghost use Rattle.xdr_stream.specs.declared.fault.Reason.TheVariants.{NoMemory};
 ghost use Rattle.xdr_stream.specs.declared.reader.Progress.TheVariants.{Done, More};
@@ -69,9 +70,9 @@ pub fn waits_for_the_rest(
 // The first half of a hyper integer, to a decoder that was given no byte.
 fn begins_a_hyper(decoder: &mut Decoder<'_>) -> Result<Progress, DecodeFault>
     requires fresh { StandsFor decoder.old [] }
-    requires kind { kind_at decoder.old.reader.schema.now.kinds decoder.old.reader.kind.place ≡ hyper }
-    requires limit { 8 ≤ decoder.old.reader.limits.bytes }
-    requires depth { 1 ≤ decoder.old.reader.limits.depth }
+    requires kind { kind_at (kinds_of decoder.old) (kind_of decoder.old).place ≡ hyper }
+    requires limit { 8 ≤ (limits_of decoder.old).bytes }
+    requires depth { 1 ≤ (limits_of decoder.old).depth }
     ensures answer { IfOk result (λ p. p ≡ More) }
     ensures fault { IfErr result (λ f. f.why ≡ NoMemory) }
 {
@@ -131,6 +132,30 @@ pub fn stays_whole(decoder: &mut Decoder<'_>, piece: &[u8]) -> Result<Progress, 
     requires { IsDone decoder.old }
     ensures { result ≡ Ok (Done 0) }
 {
+    decoder.feed(piece)
+}
+
+/// And the end gives it: no memory is asked for.
+pub fn gives_what_is_whole(decoder: Decoder<'_>) -> Result<Value, DecodeFault>
+    requires { IsDone decoder }
+    ensures { IsOk result }
+{
+    decoder.finish()
+}
+
+/// A number needs no memory: what its bytes are is answered for certain.
+pub fn is_sure_of_a_number(
+    alloc: Global,
+    schema: &Schema,
+    kind: KindId,
+    limits: Limits,
+    piece: &[u8],
+) -> Result<Progress, DecodeFault>
+    requires has { kind.place < length schema.now.kinds }
+    requires kind { kind_at schema.now.kinds kind.place ≡ hyper }
+    ensures { IfErr result (λ f. f.why ≡ NoMemory → ⊥) }
+{
+    let mut decoder = Decoder::start(alloc, schema, kind, limits);
     decoder.feed(piece)
 }
 
