@@ -8,6 +8,11 @@ use itoa::Buffer;
 use rpc_message::{LentAuth, NoMemory, read_auth_sys};
 use std::alloc::Global;
 
+// The flavors of credentials that are believed (RFC 5531 section 8.2).
+const AUTH_NONE: u32 = 0;
+
+const AUTH_SYS: u32 = 1;
+
 // The numbers of `auth_stat` (RFC 5531 section 9).
 pub const AUTH_BADCRED: u32 = 1;
 
@@ -53,8 +58,8 @@ pub fn caller_of(alloc: Global, cred: &LentAuth<'_>) -> Result<Caller, NoMemory>
     ensures { IfOk result (λ r. IsCaller (lent_view cred.now) (caller_view r)) }
 {
     match cred.flavor {
-        0 => Ok(Caller::Owner(Owner::Unknown)),
-        1 => match read_auth_sys(alloc, cred.body)? {
+        AUTH_NONE => Ok(Caller::Owner(Owner::Unknown)),
+        AUTH_SYS => match read_auth_sys(alloc, cred.body)? {
             Some(user) => Ok(Caller::Owner(Owner::User(user.uid))),
             None => Ok(Caller::Refused(AUTH_BADCRED)),
         },

@@ -14,7 +14,7 @@ ghost use Rattle.registry_answer.specs.Views.{netid_of};
 
 use crate::arguments::{Mapping, Rpcb};
 use crate::callers::Owner;
-use crate::replies::{push_head, push_text};
+use crate::replies::{SUCCESS, push_head, push_text};
 use crate::transport::Transport;
 use itoa::Buffer;
 use rpc_directory::Directory;
@@ -28,7 +28,7 @@ fn push_false(out: &mut Vec<u8>, xid: u32) -> Result<(), NoMemory>
     ensures ok { OnOk result (out.new.items ≡ out.old.items ++ (head xid 0 ++ num4 (number_of false))) }
     ensures begins { StartsWith out.new.items out.old.items }
 {
-    push_head(out, xid, 0)?;
+    push_head(out, xid, SUCCESS)?;
     push_word(out, 0)?;
     Ok(())
 }
@@ -106,7 +106,7 @@ pub fn push_port<S: BuildHasher>(
         OnOk result (out.new.items ≡ out.old.items ++ (head xid 0 ++ word port)) }
     ensures begins { StartsWith out.new.items out.old.items }
 {
-    push_head(out, xid, 0)?;
+    push_head(out, xid, SUCCESS)?;
     push_word(out, directory.get_port(m.prog, m.vers, m.prot))?;
     Ok(())
 }
@@ -176,7 +176,7 @@ pub fn push_address<S: BuildHasher>(
     ensures begins { StartsWith out.new.items out.old.items }
 {
     let address = directory.getaddr(r.prog, r.vers, transport.netid());
-    push_head(out, xid, 0)?;
+    push_head(out, xid, SUCCESS)?;
     push_text(out, address)?;
     Ok(())
 }
@@ -197,7 +197,7 @@ pub fn push_version_address<S: BuildHasher>(
     ensures begins { StartsWith out.new.items out.old.items }
 {
     let address = directory.getversaddr(r.prog, r.vers, transport.netid());
-    push_head(out, xid, 0)?;
+    push_head(out, xid, SUCCESS)?;
     push_text(out, address)?;
     Ok(())
 }

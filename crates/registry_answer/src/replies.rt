@@ -8,7 +8,24 @@ ghost use Rattle.registry_answer.specs.Answer.{accepted, auth_error};
 ghost use Rattle.registry_answer.specs.Private.Parsed.{text};
 ghost use Rattle.registry_answer.specs.Private.Pushes.{head};
 
+use rpc_message::{Reply, Why, append_reply};
 use xdr_units::{NoMemory, push_padded, push_word};
+
+// The numbers of `accept_stat` (RFC 5531 section 9).
+pub const SUCCESS: u32 = 0;
+
+pub const PROG_UNAVAIL: u32 = 1;
+
+pub const PROG_MISMATCH: u32 = 2;
+
+pub const PROC_UNAVAIL: u32 = 3;
+
+pub const GARBAGE_ARGS: u32 = 4;
+
+pub const SYSTEM_ERR: u32 = 5;
+
+/// The version of RPC that is spoken here (RFC 5531 section 9).
+const RPC_VERSION: u32 = 2;
 
 /// Writes the length of a text, its bytes, and zeros up to a multiple of four (RFC 4506 section 4.11). The text is
 /// shorter than 2^32 bytes.
@@ -39,7 +56,7 @@ fn accepted_head(xid: u32, stat: u32) -> [u8; 24]
 pub fn system_error(xid: u32) -> [u8; 24]
     ensures { result ≡ reply (accepted xid SystemErr) }
 {
-    accepted_head(xid, 5)
+    accepted_head(xid, SYSTEM_ERR)
 }
 
 /// Writes those words, in one piece.
@@ -53,33 +70,29 @@ pub fn push_head(out: &mut Vec<u8>, xid: u32, stat: u32) -> Result<(), NoMemory>
 }
 
 /// Writes a reply that denies a call for an `auth_stat` (RFC 5531 section 9).
-#[tactic(auto, using(crate::proofs::Chains::begins_then))]
+#[tactic(auto, using(crate::proofs::Chains::begins_added))]
 pub fn push_auth_error(out: &mut Vec<u8>, xid: u32, stat: u32) -> Result<(), NoMemory>
     ensures ok { OnOk result (out.new.items ≡ out.old.items ++ reply (auth_error xid stat)) }
     ensures fits { IsWord xid }
     ensures stat { IsWord stat }
     ensures begins { StartsWith out.new.items out.old.items }
 {
-    push_word(out, xid)?;
-    push_word(out, 1)?;
-    push_word(out, 1)?;
-    push_word(out, 1)?;
-    push_word(out, stat)
+    let why = Why::AuthError(stat);
+    append_reply(out, &Reply::Denied { xid, why })
 }
 
 /// Writes the reply to a call of another version of RPC: version 2 alone is spoken here (RFC 5531 section 9).
-#[tactic(auto, using(crate::proofs::Chains::begins_then))]
+#[tactic(auto, using(crate::proofs::Chains::begins_added))]
 pub fn push_rpc_mismatch(out: &mut Vec<u8>, xid: u32) -> Result<(), NoMemory>
     ensures ok { OnOk result (out.new.items ≡ out.old.items ++ reply (Denied xid (RpcMismatch 2 2))) }
     ensures fits { IsWord xid }
     ensures begins { StartsWith out.new.items out.old.items }
 {
-    push_word(out, xid)?;
-    push_word(out, 1)?;
-    push_word(out, 1)?;
-    push_word(out, 0)?;
-    push_word(out, 2)?;
-    push_word(out, 2)
+    let why = Why::RpcMismatch {
+        low: RPC_VERSION,
+        high: RPC_VERSION,
+    };
+    append_reply(out, &Reply::Denied { xid, why })
 }
 
 /// Makes a successful reply that stands behind so many bytes SYSTEM_ERR without results, where it stands (RFC 5531
@@ -90,5 +103,5 @@ pub fn cut_to_system_err(out: &mut Vec<u8>, before: usize)
         → out.old.items ≡ old ++ (head xid 0 ++ results) → out.new.items ≡ old ++ head xid 5 }
 {
     out.truncate(before + 24);
-    out[before + 23] = 5;
+    out[before + 23] = SYSTEM_ERR as u8;
 }

@@ -17,7 +17,7 @@ use crate::procedures::{
     push_address, push_port, push_set, push_set_port, push_unset, push_unset_port,
     push_version_address,
 };
-use crate::replies::push_head;
+use crate::replies::{GARBAGE_ARGS, PROC_UNAVAIL, PROG_MISMATCH, PROG_UNAVAIL, SUCCESS, push_head};
 use crate::transport::Transport;
 use rpc_directory::Directory;
 use rpc_message::LentCall;
@@ -28,16 +28,14 @@ use xdr_units::{NoMemory, push_word};
 /// The registry's program (RFC 1833 section 2).
 const PROGRAM: u32 = 100000;
 
-// The numbers of `accept_stat` (RFC 5531 section 9).
-const SUCCESS: u32 = 0;
+// The procedures of every version, by their numbers (RFC 1833 sections 2.2.1 and 3.2).
+const NULL: u32 = 0;
 
-const PROG_UNAVAIL: u32 = 1;
+const SET: u32 = 1;
 
-const PROG_MISMATCH: u32 = 2;
+const UNSET: u32 = 2;
 
-const PROC_UNAVAIL: u32 = 3;
-
-const GARBAGE_ARGS: u32 = 4;
+const DUMP: u32 = 4;
 
 /// The procedure that version 4 alone has (RFC 1833 section 2.2.1, RPCBPROC_GETVERSADDR).
 const GETVERSADDR: u32 = 9;
@@ -101,12 +99,12 @@ fn push_version_2<S: BuildHasher>(
     ensures begins { StartsWith out.new.items out.old.items }
 {
     match call.proc {
-        0 => push_head(out, call.xid, SUCCESS),
-        4 => {
+        NULL => push_head(out, call.xid, SUCCESS),
+        DUMP => {
             push_head(out, call.xid, SUCCESS)?;
             push_mappings(directory, out)
         }
-        proc if proc < 4 => match mapping_at(call.args) {
+        proc if proc < DUMP => match mapping_at(call.args) {
             Some(m) => push_on_mapping(alloc, directory, transport, owner, call, m, out),
             None => push_head(out, call.xid, GARBAGE_ARGS),
         },
@@ -136,10 +134,11 @@ fn push_on_mapping<S: BuildHasher>(
     ensures err { OnErr result (directory.new ≡ directory.old) }
     ensures begins { StartsWith out.new.items out.old.items }
 {
+    // For the proof: the netid of the transport is the text that the clause names.
     let _netid = transport.netid();
     match call.proc {
-        1 => push_set_port(alloc, directory, owner, call.xid, m, out),
-        2 => push_unset_port(directory, owner, call.xid, m, out),
+        SET => push_set_port(alloc, directory, owner, call.xid, m, out),
+        UNSET => push_unset_port(directory, owner, call.xid, m, out),
         _ => push_port(directory, call.xid, m, out),
     }
 }
@@ -192,12 +191,12 @@ fn push_version_3<S: BuildHasher>(
     ensures begins { StartsWith out.new.items out.old.items }
 {
     match call.proc {
-        0 => push_head(out, call.xid, SUCCESS),
-        4 => {
+        NULL => push_head(out, call.xid, SUCCESS),
+        DUMP => {
             push_head(out, call.xid, SUCCESS)?;
             push_rows(directory, out)
         }
-        proc if proc < 4 => match rpcb_at(call.args) {
+        proc if proc < DUMP => match rpcb_at(call.args) {
             Some(r) => push_on_rpcb(alloc, directory, transport, owner, call, r, out),
             None => push_head(out, call.xid, GARBAGE_ARGS),
         },
@@ -229,8 +228,8 @@ fn push_on_rpcb<S: BuildHasher>(
     ensures begins { StartsWith out.new.items out.old.items }
 {
     match call.proc {
-        1 => push_set(alloc, directory, owner, call.xid, r, out),
-        2 => push_unset(directory, owner, call.xid, r, out),
+        SET => push_set(alloc, directory, owner, call.xid, r, out),
+        UNSET => push_unset(directory, owner, call.xid, r, out),
         _ => push_address(directory, transport, call.xid, r, out),
     }
 }
