@@ -150,6 +150,7 @@ impl<'s, B: Build + Drop> Reader<'s, B> {
         ensures same { IsSame self.old self.new }
     {
         let _range = self.limits.depth();
+        // A state that asks nothing of the nodes at work, which change now: what they await is settled after.
         self.state = State::Fresh;
         match take_unit(
             self.schema,

@@ -90,6 +90,7 @@ impl<'s, B: Build + Drop> Reader<'s, B> {
         let _range = self.limits.depth();
         match self.built.whole(&bytes[4..4 + whole.size]) {
             Ok(()) => {
+                // A state that asks nothing of the nodes at work, which change now: what they await is settled after.
                 self.state = State::Fresh;
                 self.work = after(self.work);
                 self.read = self.read.saturating_add(whole.all);
@@ -143,6 +144,7 @@ impl<'s, B: Build + Drop> Reader<'s, B> {
         ensures same { IsSame self.old self.new }
     {
         let _range = self.limits.depth();
+        // A state that asks nothing of the nodes at work, which change now: what they await is settled after.
         self.state = State::Fresh;
         let unit = unit_at(bytes, 0);
         match take_unit(
