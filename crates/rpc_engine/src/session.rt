@@ -155,8 +155,8 @@ fn mark_front(room: &mut Vec<u8>)
 fn system_error(xid: u32) -> [u8; 28]
     ensures { result ≡ fragment true (reply (accepted xid SystemErr)) }
 {
-    let [a, b, c, d] = xid.to_be_bytes();
-    [
-        0x80, 0, 0, 24, a, b, c, d, 0, 0, 0, 1, 0, 0, 0, 0, 0, 0, 0, 0, 0, 0, 0, 0, 0, 0, 0, 5,
-    ]
+    let mut bytes = [0; 28];
+    bytes[..4].copy_from_slice(&last_header(24));
+    bytes[4..].copy_from_slice(&registry_answer::system_error(xid));
+    bytes
 }
