@@ -2,18 +2,18 @@
 bytes (RFC 4506): rows as they stand, in pieces."""
 import itertools
 
-from rows.codec import CODED, CONTENT, CONTENT_VALUE, ITEMS, ITEMS_VALUE, LENT, LIMITED, NEST, SHOWN, WIDE
-from rows.shared import Case, MORE, PIECES, Refused, WHOLE, WIDEST, Whole, content, octets, word
+from rows.codec import CODED, CONTENT, CONTENT_LINES, ITEMS, ITEMS_LINES, LENT, LIMITED, NEST, SHOWN, WIDE
+from rows.shared import Case, MORE, PIECES, Refused, WHOLE, WIDEST, Whole, octets, word
 
 from .growths import decoded_well, joined_well
-from .values import cut_well, fed, typed
+from .values import cut, cut_well, fed, typed, value_task
 
 
 def behind_so(row):
     """What a decoder and a checker answer to a value, to nothing and to a byte behind it, and to the end."""
     given, cuts = octets(row.digits)[: row.used] + b"\7", (row.used, row.used)
     wanted = cut_well(given, cuts, row, None)
-    yield Case("cut", cuts, given=given, **typed(row)), lambda told: told.answer == wanted
+    yield cut(cuts, given, typed(row)), lambda told: (told.answer, told.streams) == wanted
 
 
 def coded_so(row):
@@ -22,24 +22,24 @@ def coded_so(row):
     kind = {"given": given, **typed(row)}
     yield Case("decode", **kind), decoded_well(row)
     yield Case("parts", **kind), joined_well(row, given)
-    for engine, piece in itertools.product(("decoder", "checker"), PIECES):
-        yield Case(engine, (piece, 0), **kind), fed(row, given, piece, engine == "checker")
-    yield Case("encode", **kind), lambda told: (told.answer, told.streams) == ('"Ok"', [given])
-    taken = f"Ok({row.used})", [given]
+    for engine, piece in itertools.product(("Decoder", "Checker"), PIECES):
+        yield Case(engine, (piece, 0), **kind), fed(row, given, piece, engine == "Checker")
+    yield Case("encode", **kind), lambda told: (told.answer, told.streams) == ("ok", [given])
+    taken = f"ok {row.used}", [given]
     yield Case("encode_to", writes=(3, 0), **kind), lambda told: (told.answer, told.streams) == taken
-    yield Case("copy", **kind), lambda told: told.answer == "true"
+    yield Case("Value::copy", **kind), lambda told: told.answer == "equal"
 
 
 def coded_cases():
-    for text, name, digits, value in CODED:
-        row = Whole(text, name, digits, len(octets(digits)), None, value)
+    for text, name, digits, lines in CODED:
+        row = Whole(text, name, digits, len(octets(digits)), lines)
         yield from coded_so(row)
         yield from behind_so(row)
     for row in WHOLE:
         yield from behind_so(row)
     # A number of as many bytes as the limit, with one behind.
-    case = Case("decode", name="int", given=octets("00000005 09"), depth=1, bytes=4)
-    yield case, lambda told: told.answer == "Ok((Int(5), 4))"
+    case = Case("decode", kind="int", given=octets("00000005 09"), depth=1, bytes=4)
+    yield case, lambda told: (told.answer, told.streams) == ("ok 4", [b"5\n"])
 
 
 def refusal(text, name, digits, why, at, depth=4096, most=WIDEST):
@@ -57,16 +57,16 @@ def refused_value_cases():
         kind = {"given": given, **typed(row)}
         yield Case("decode", **kind), decoded_well(row)
         yield Case("parts", **kind), joined_well(row, given)
-        for engine, piece in itertools.product(("decoder", "checker"), PIECES):
-            yield Case(engine, (piece, 0), **kind), fed(row, given, piece, engine == "checker")
+        for engine, piece in itertools.product(("Decoder", "Checker"), PIECES):
+            yield Case(engine, (piece, 0), **kind), fed(row, given, piece, engine == "Checker")
 
 
 def shown_so(text, name, digits, lines):
     """The lines of the value that the bytes encode, and of their digits, which are hexadecimal."""
-    given, kind = octets(digits), {"name": name, "text": text}
-    yield Case("show", given=given, **kind), lambda told: (told.answer, told.streams) == ('"Ok"', [lines])
+    given, kind = octets(digits), {"kind": name, "text": text}
+    yield Case("show", given=given, **kind), lambda told: (told.answer, told.streams) == ("ok", [lines])
     printed = "0", [lines + b"ok %d\n" % len(given), b""]
-    case = Case("task", setting=5, given=digits.encode(), **kind)
+    case = value_task(True, True, digits.encode(), kind)
     yield case, lambda told: (told.answer, told.streams) == printed
 
 
@@ -79,47 +79,46 @@ def shown_cases():
     yield from shown_so(MORE, "big", "000186a0" + "00000007" * 100000, b"list of 100000\n" + b"  7\n" * 100000)
     # Each level is indented by two spaces more than the one before it.
     lines = b"".join(b"  " * level + b"present\n" for level in range(4095)) + b"  " * 4095 + b"absent\n"
-    case = Case("show", name="nest", text=NEST, given=word(1) * 4095 + word(0))
-    yield case, lambda told: (told.answer, told.streams) == ('"Ok"', [lines])
+    case = Case("show", kind="nest", text=NEST, given=word(1) * 4095 + word(0))
+    yield case, lambda told: (told.answer, told.streams) == ("ok", [lines])
 
 
 def part(at, depth, place, name, role, content_of):
     """What is told of a part."""
-    kind = f"KindId {{ place: {place} }}"
-    return f'Lent {{ at: {at}, depth: {depth}, kind: {kind}, name: "{name}", role: {role}, bytes: {list(content_of)} }}'
+    return f"{at} {depth} {place} {name or '-'} {role} {content_of.hex()}"
 
 
 def lent_cases():
     for text, name, digits, parts in LENT:
-        wanted = f"Ok([{', '.join(part(*each) for each in parts)}])"
-        case = Case("parts", name=name, text=text, given=octets(digits))
+        wanted = "; ".join(part(*each) for each in parts)
+        case = Case("parts", kind=name, text=text, given=octets(digits))
         yield case, lambda told, wanted=wanted: told.answer == wanted
 
 
 def long_value_cases():
     """Long values, encoded, decoded and copied."""
     letters = b"a" * 65536
-    for text, name, given, value in (
-        (b"", "opaque", CONTENT, CONTENT_VALUE),
-        (b"", "opaque", word(65536) + letters, content(letters)),
-        (MORE, "big", ITEMS, ITEMS_VALUE),
+    for text, name, given, lines in (
+        (b"", "opaque", CONTENT, CONTENT_LINES),
+        (b"", "opaque", word(65536) + letters, b"0x%s\n" % letters.hex().encode()),
+        (MORE, "big", ITEMS, ITEMS_LINES),
     ):
-        kind = {"name": name, "text": text, "given": given}
-        decoded = f"Ok(({value}, {len(given)}))"
-        yield Case("decode", **kind), lambda told, decoded=decoded: told.answer == decoded
-        encoded = '"Ok"', [given]
+        kind = {"kind": name, "text": text, "given": given}
+        decoded = f"ok {len(given)}", [lines]
+        yield Case("decode", **kind), lambda told, decoded=decoded: (told.answer, told.streams) == decoded
+        encoded = "ok", [given]
         yield Case("encode", **kind), lambda told, encoded=encoded: (told.answer, told.streams) == encoded
-        yield Case("copy", **kind), lambda told: told.answer == "true"
+        yield Case("Value::copy", **kind), lambda told: told.answer == "equal"
 
 
 def handed_cases():
     """What is decoded in pieces is handed out at the end without a growth."""
-    row = Whole(b"", "opaque", CONTENT.hex(), len(CONTENT), None, CONTENT_VALUE)
+    row = Whole(b"", "opaque", CONTENT.hex(), len(CONTENT), CONTENT_LINES)
     is_well = fed(row, CONTENT, 65536, False)
-    yield Case("decoder", (65536, 0), name="opaque", given=CONTENT), lambda told: told.met > 0 and is_well(told)
+    yield Case("Decoder", (65536, 0), kind="opaque", given=CONTENT), lambda told: told.met > 0 and is_well(told)
 
 
 def few_growths_cases():
     """The parts of 4000 numbers take as many growths as powers of two are filled, and one for a frame."""
-    case = Case("parts", name="big", text=MORE, given=word(4000) + b"abcd" * 4000)
-    yield case, lambda told: told.answer.count("Lent {") == 4001 and 0 < told.met <= 14
+    case = Case("parts", kind="big", text=MORE, given=word(4000) + b"abcd" * 4000)
+    yield case, lambda told: told.answer.count("; ") == 4000 and 0 < told.met <= 14

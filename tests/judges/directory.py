@@ -1,9 +1,6 @@
 """Calls of the registry, one after another: what each answers, and what is left where a growth is refused to it; its
 types; and the texts of addresses (RFC 1833 sections 2 and 3, RFC 5665 section 5.2.3.3)."""
-import re
-
 from rows.directory import (
-    BASIC,
     FILLS,
     FULL,
     KINDS,
@@ -18,67 +15,74 @@ from rows.directory import (
     TAKING_NONE,
     WRITTEN_UADDRS,
 )
-from rows.shared import Case
+from rows.shared import Case, word
 
 from .running import run
 
+NO_MEMORY = "out of memory"
+
 
 def field(content):
-    return f"Unsigned({content})" if isinstance(content, int) else f"Bytes({list(content.encode())})"
+    """A number or a text as XDR (RFC 4506 sections 4.2 and 4.11)."""
+    if isinstance(content, int):
+        return word(content)
+    return word(len(content)) + content.encode() + bytes(-len(content) % 4)
 
 
 def listed(rows):
-    """The list of these rows as a value."""
-    groups = ["Group([" + ", ".join(map(field, row)) + "])" for row in rows]
-    return "".join(f"Maybe(Some(Group([{group}, " for group in groups) + "Maybe(None)" + "])))" * len(groups)
+    """The bytes of the list of these rows (RFC 4506 section 4.19)."""
+    return (b"".join(word(1) + b"".join(map(field, row)) for row in rows) + word(0)).hex()
 
 
-def row_at(key, address, owner):
-    prog, vers, netid = key
-    texts = [list(text.encode()) for text in (netid, address, owner)]
-    return f"Row {{ prog: {prog}, vers: {vers}, netid: {texts[0]}, address: {texts[1]}, owner: {texts[2]} }}"
+def line(name, refused, **keys):
+    """A call as a case: what is empty or no growth is not written."""
+    words = {"call": name, **keys, "refuse": "" if refused == "0" else refused}
+    return " ".join(f"{key}={each}" for key, each in words.items() if each != "")
 
 
 def asked(row, refused="0"):
     """A call as a line, where this growth is refused, and what it answers where none is."""
     match row:
         case "start", port, count:
-            return f"start {port}    {refused}", f"Number({count})"
-        case "set" | "set_port" as name, (prog, vers, last), address, owner, is_done:
-            return f"{name} {prog} {vers} {last} {address} {refused} {owner}", f"Done(Ok({str(is_done).lower()}))"
-        case "unset", (prog, vers, netid), owner, is_done:
-            return f"unset {prog} {vers} {netid}  {refused} {owner}", f"Done(Ok({str(is_done).lower()}))"
-        case "unset_port", prog, vers, owner, is_done:
-            return f"unset_port {prog} {vers}   {refused} {owner}", f"Done(Ok({str(is_done).lower()}))"
+            return line("start", refused, port=port), str(count)
+        case "set" as name, (prog, vers, netid), address, owner, is_done:
+            keys = {"prog": prog, "vers": vers, "netid": netid, "address": address, "owner": owner}
+            return line(name, refused, **keys), str(is_done).lower()
+        case "set_port" as name, (prog, vers, prot), port, owner, is_done:
+            keys = {"prog": prog, "vers": vers, "prot": prot, "port": port, "owner": owner}
+            return line(name, refused, **keys), str(is_done).lower()
+        case "unset" as name, (prog, vers, netid), owner, is_done:
+            return line(name, refused, prog=prog, vers=vers, netid=netid, owner=owner), str(is_done).lower()
+        case "unset_port" as name, prog, vers, owner, is_done:
+            return line(name, refused, prog=prog, vers=vers, owner=owner), str(is_done).lower()
         case "getaddr" | "getversaddr" as name, (prog, vers, netid), address:
-            return f"{name} {prog} {vers} {netid}  {refused}", f"Text({list(address.encode())})"
-        case "get_port", (prog, vers, prot), port:
-            return f"get_port {prog} {vers} {prot}  {refused}", f"Number({port})"
-        case "rows", count:
-            return f"rows     {refused}", f"Number({count})"
-        case "row", index, None:
-            return f"row {index}    {refused}", "At(None)"
-        case "row", index, key, address, owner:
-            return f"row {index}    {refused}", f"At(Some({row_at(key, address, owner)}))"
+            return line(name, refused, prog=prog, vers=vers, netid=netid), f"address {address}"
+        case "get_port" as name, (prog, vers, prot), port:
+            return line(name, refused, prog=prog, vers=vers, prot=prot), str(port)
+        case "rows" as name, count:
+            return line(name, refused), str(count)
+        case "row" as name, index, None:
+            return line(name, refused, index=index), "no row"
+        case "row" as name, index, (prog, vers, netid), address, owner:
+            return line(name, refused, index=index), f"{prog} {vers} {netid} {address} {owner}"
         case "dump" | "dump_ports" as name, rows:
-            return f"{name}     {refused}", f"List(Ok({listed(rows)}))"
-        case "read_uaddr", text, host, port:
-            named = f"Some(Uaddr {{ host: {[*host]}, port: {port} }})" if host else "None"
-            return f"read_uaddr   {text}  {refused}", f"Named({named})"
-        case "write_uaddr", text, host, port:
-            number = int.from_bytes(bytes(host), "big")
-            return f"write_uaddr {number} {port}   {refused}", f"Written(Ok({list(text.encode())}))"
+            return line(name, refused), f"rows {listed(rows)}"
+        case "read_uaddr" as name, text, host, port:
+            named = f"host {'.'.join(map(str, host))} port {port}" if host else "no address"
+            return line(name, refused, address=text), named
+        case "write_uaddr" as name, text, host, port:
+            return line(name, refused, host=bytes(host).hex(), port=port), f"address {text}"
 
 
 def answers_of(told):
     """How many growths each call met, and what it answered."""
-    each = [answer.partition(" ") for answer in told.answer.removesuffix(";").split("; ")]
+    each = [answer.partition(" ") for answer in told.answer.split("; ")]
     return [int(met) if met.isdigit() else -1 for met, *_ in each], [answer for *_, answer in each]
 
 
 def calls(*pairs):
     """Calls on one registry, in order, each a line and its answer."""
-    return Case("directory", text="\n".join(line for line, _ in pairs).encode()), [answer for _, answer in pairs]
+    return Case("Directory", calls=[line for line, _ in pairs]), [answer for _, answer in pairs]
 
 
 def answered(*pairs):
@@ -96,15 +100,9 @@ def directory_cases():
         yield answered(*started(port), *map(asked, rows))
 
 
-def without_memory(line, whole):
-    """A call with its answer where there is no memory."""
-    kind = "Done" if whole.startswith("Number") else whole.partition("(")[0]
-    return line, f"{kind}(Err(NoMemory))"
-
-
 def none_cases():
     """Without any memory the calls that take some want it, and the others take none."""
-    taking = [without_memory(*asked(row, "1..")) for _, row, _ in TAKING]
+    taking = [(asked(row, "1..")[0], NO_MEMORY) for _, row, _ in TAKING]
     case, wanted = calls(*started(111), *taking, *(asked(row, "1..") for row in TAKING_NONE))
 
     def is_well(told):
@@ -112,20 +110,18 @@ def none_cases():
         return answers == wanted and not any(met[-len(TAKING_NONE) :])
 
     yield case, is_well
-    written = [without_memory(*asked(row, "1..")) for row in WRITTEN_UADDRS]
-    yield answered(*(asked(row, "1..") for row in READ_UADDRS), *written, ("rows     1..", "Number(0)"))
+    written = [(asked(row, "1..")[0], NO_MEMORY) for row in WRITTEN_UADDRS]
+    yield answered(*(asked(row, "1..") for row in READ_UADDRS), *written, asked(("rows", 0), "1.."))
 
 
 def is_refused_well(taken, found, left, number, met):
     """Want of memory with the rows as they were, or the whole answer: each call takes memory, and so misses the first
     growth, and it misses none past all of its own."""
-    missed = without_memory(*taken)[1]
-
     def is_well(told):
         answer, *after = answers_of(told)[1][-1 - len(found) - len(left) :]
         if answer == taken[1]:
             return after[: len(found)] == [wanted for _, wanted in found] and number > 1
-        return answer == missed and after[len(found) :] == [wanted for _, wanted in left] and number <= met
+        return answer == NO_MEMORY and after[len(found) :] == [wanted for _, wanted in left] and number <= met
 
     return is_well
 
@@ -144,20 +140,15 @@ def refused_call_cases(heap):
     yield from none_cases()
 
 
-def has_types(schema):
+def has_types(kinds, names):
     """Whether the types have these kinds behind the basic ones, and these names."""
-    kinds, _, names = schema.removeprefix("Schema { kinds: [").partition("], names: [")
-    basic = kinds.removesuffix(", " + ", ".join(KINDS))
-    is_named = [f'("{name}", KindId {{ place: {place} }})' in names for name, place in NAMES.items()]
-    count = len(re.findall(r"[A-Z]\w*(?: \{[^}]*\})?(?:, |$)", basic))
-    return basic != kinds and count == BASIC and all(is_named) and '"pmap"' not in names
+    is_named = [f'("{name}", {place})' in names for name, place in NAMES.items()]
+    return kinds.endswith("".join(f"\n{kind}" for kind in KINDS)) and all(is_named) and '"pmap"' not in names
 
 
 def is_registry(told, has_row):
     """Whether a registry is made with its own rows, and those and the row that was set before, if it was, are dumped as
-    values that fit the registry's types."""
+    values of the registry's types."""
     rows = RPCBS + [(2**29, 1, "tcp", "0.0.0.0.8.1", "unknown")] * has_row
     ports = MAPPINGS + [(2**29, 1, 6, 2049)] * has_row
-    before = f"(Some(Ok({listed(RPCBS)})), Ok({listed(rows)}), Ok({listed(ports)}), Ok("
-    schema = told.answer.removeprefix(before).removesuffix("), Some(true))")
-    return f"{before}{schema}), Some(true))" == told.answer and has_types(schema)
+    return told.answer == "; ".join(f"rows {listed(each)}" for each in (RPCBS, rows, ports))

@@ -6,24 +6,25 @@ from .written import nested
 
 
 def refused(wrong, left):
-    wanted = f"Err(Refused {{ wrong: {wrong}, left: {left} }})"
+    wanted = f"refused {wrong}, {left} left"
     return lambda told: told.answer == wanted
 
 
 def grammar_cases():
     """Texts and their tokens, and the texts of definitions."""
-    found = f"Ok([{', '.join(TOKENS)}])"
+    found = "; ".join(TOKENS)
     yield Case("tokens", text=TEXT), lambda told: told.answer == found
     for wrong, rows in (("BadNumber", BAD_NUMBERS), ("BadCharacter", BAD_CHARACTERS)):
         for text, left in rows:
             yield Case("tokens", text=text), refused(wrong, left)
     for text, counts in DECLARING:
-        yield Case("outline", text=text), lambda told, wanted=f"Ok({counts})": told.answer == wanted
+        wanted = "{} constants, {} kinds, {} types, {} programs".format(*counts)
+        yield Case("read_outline", text=text), lambda told, wanted=wanted: told.answer == wanted
     for wrong, rows in (("Unexpected", UNEXPECTED), ("FloatingKind", FLOATING)):
         for text, rest in rows:
-            yield Case("outline", text=text), refused(wrong, len(rest))
+            yield Case("read_outline", text=text), refused(wrong, len(rest))
     # What stands inside the bodies begins at byte 296.
     for inside, at, wrong in INSIDE:
         text = nested(inside, 32)
-        yield Case("outline", text=text), refused(wrong, len(text) - 296 - at)
-    yield Case("outline", text=nested(b"int a;", 32)), lambda told: told.answer.startswith("Ok([")
+        yield Case("read_outline", text=text), refused(wrong, len(text) - 296 - at)
+    yield Case("read_outline", text=nested(b"int a;", 32)), lambda told: told.answer.endswith("programs")

@@ -2,7 +2,7 @@
 import itertools
 import re
 
-from rows.growths import CHAINED, LENGTHS, MESSAGES, TASKS
+from rows.growths import CHAINED, LENGTHS, MESSAGES, REFUSED_WITHOUT, TASKS, WITHOUT_NODES
 from rows.shared import (
     ASKED,
     ASKED_AFTER,
@@ -52,10 +52,10 @@ from .streams import (
     replies_to,
     served,
 )
-from .values import checked, fault_of, fed, records_over, typed
+from .values import checked, fault_of, fed, records_over, typed, value_task
 
 # Growths of memory that are refused. What a case answers in place of its whole answer tells want of memory.
-NO_MEMORY = "Err(NoMemory)"
+NO_MEMORY = "out of memory"
 SYSTEM_ERR = "00000005"
 
 
@@ -90,8 +90,8 @@ def is_some_run(told, whole, case, most):
 
 def connection_lines(told, whole, most):
     """Whether each line is the whole run's, or tells want of memory; or status 4 stands behind some of the lines."""
-    output, faults = told.streams[1:]
-    lines, wanted = output.splitlines(), whole.streams[1].splitlines()
+    output, faults = told.streams
+    lines, wanted = output.splitlines(), whole.streams[0].splitlines()
     missed = sum(line != right for line, right in zip(lines, wanted))
     missing = re.compile(rb"connection \d+: (NoMemory|\d+ records, \d+ replies)")
     is_known = all(line == right or missing.fullmatch(line) for line, right in zip(lines, wanted))
@@ -102,55 +102,50 @@ def connection_lines(told, whole, most):
 
 def some_parts(told, whole):
     """Whether each part of what a registry's making and dumping tells is the whole run's, or tells want of memory."""
-    parts, rest = whole.answer[1:].removesuffix(", Some(true))").split(", Ok("), told.answer[1:]
-    wanted = [parts[0], *("Ok(" + part for part in parts[1:])]
-    for chosen in itertools.product(*zip(wanted, ("None", *[NO_MEMORY] * 3))):
-        is_fit = "None" if NO_MEMORY in chosen else "Some(true)"
-        if rest == ", ".join(chosen) + f", {is_fit})":
-            return True
-    return False
+    parts, wanted = told.answer.split("; "), whole.answer.split("; ")
+    return len(parts) == 3 and all(part in (NO_MEMORY, right) for part, right in zip(parts, wanted))
 
 
 def is_kept_before(told, case):
     """Whether the first growth that is refused leaves exactly the records before the first that has content."""
-    found, _ = records_in(case.given, case.setting >> 3 if case.engine == "task" else case.setting)
+    found, _ = records_in(case.given, case.limit)
     empty = len([*itertools.takewhile(lambda record: not record[1], found)])
-    one = word(0) if case.engine == "reader" else marked(b"")
-    return case.refused.removesuffix("..") != "1" or told.streams[0] == one * empty
+    one = word(0) if case.call == "RecordReader" else marked(b"")
+    return case.refuse.removesuffix("..") != "1" or told.streams[0] == one * empty
 
 
 def wants_memory(told, whole, case):
     """Whether the answer tells want of memory as the call's contract has it."""
-    most = 1 if not case.refused.endswith("..") else 10**9
-    fault = re.search(r"(Err\(DecodeFault \{ why: NoMemory, at: (\d+) \}\))", told.answer)
+    most = 1 if not case.refuse.endswith("..") else 10**9
+    fault = re.search(r"out of memory at (\d+)", told.answer)
     is_begun = all(right.startswith(got) for got, right in zip(told.streams, whole.streams))
-    match case.engine:
+    match case.call:
         case "serve":
             return is_some_run(told, whole, case, most)
-        case "connections":
+        case "serve_on":
             return connection_lines(told, whole, most)
-        case "registry":
+        case "dump":
             return some_parts(told, whole)
         case "normalise":
             written = told.streams[0]
             is_records = records_in(written, WIDEST)[1] is None
             return told.answer == NO_MEMORY and is_begun and is_records and is_kept_before(told, case)
-        case "reader":
-            return told.answer == f"({', '.join([NO_MEMORY] * 4)})" and is_begun and is_kept_before(told, case)
-        case "task":
-            in_hex = case.setting & 4
-            is_kept = not told.streams[0] or (case.setting & 3 == 2 and (in_hex or is_kept_before(told, case)))
+        case "RecordReader":
+            return told.answer == "; ".join([NO_MEMORY] * 4) and is_begun and is_kept_before(told, case)
+        case "Task::Check" | "Task::Show" | "Task::Records":
+            is_records = case.call == "Task::Records"
+            is_kept = not told.streams[0] or (is_records and (case.hex or is_kept_before(told, case)))
             is_cut = whole.streams[0].startswith(told.streams[0])
             return (told.answer, told.streams[1]) == ("4", b"out of memory\n") and is_cut and is_kept
-        case "info":
+        case "info_over":
             sent, printed, faults = told.streams
             return (told.answer, printed, faults) == ("4", b"", b"out of memory\n") and sent in (b"", whole.streams[0])
-        case "datagrams" | "asking":
+        case "datagrams_on" | "info_datagram":
             return port_wants_memory(told, whole, case)
         case "answer":
             xid = int.from_bytes(case.given[:4], "big")
-            return told.answer == f"OutOfMemory {{ xid: {xid} }}" and told.streams[0] == told_after(bool(case.before))
-        case "append":
+            return told.answer == f"out of memory, xid {xid}" and told.streams[0] == told_after(bool(case.before))
+        case "append_answer":
             return is_not_appended(told, case)
         case "serve_datagrams":
             return is_missed(told, case)
@@ -159,28 +154,27 @@ def wants_memory(told, whole, case):
         case "exchange":
             return told.answer == NO_MEMORY and told.streams[0] in (b"", whole.streams[0])
         case "decode" | "parts":
-            return bool(fault) and told.answer == fault[1] and int(fault[2]) <= len(case.given)
-        case "decoder" | "checker":
-            count = int(re.match(r"\(\((\d+)", told.answer)[1])
-            is_same = bool(fault) and told.answer == f"(({count}, {fault[1]}, {fault[1]}), {fault[1]}, 0)"
+            return bool(fault) and told.answer == fault[0] and int(fault[1]) <= len(case.given)
+        case "Decoder" | "Checker":
+            count = int(told.answer.partition(" ")[0])
+            is_same = bool(fault) and told.answer == "; ".join([f"{count} pieces", *[fault[0]] * 3, "0 growths"])
             read = min(count * case.reads[0], len(case.given))
-            return is_same and int(fault[2]) <= read < int(fault[2]) + case.reads[0] + 4
-        case "call" | "reply" | "credential":
-            is_read = whole.answer.split(", Some(")[0] + f", Some({NO_MEMORY}))"
-            return told.answer in (f"({NO_MEMORY}, None)", is_read)
-        case "declarations":
-            return told.answer == "Err(LangFault { number: 13, inner: 0, line: 1, column: 1 })"
-        case "mark" | "copy" | "encode" | "show":
-            return told.answer == "NoMemory"
+            return is_same and int(fault[1]) <= read < int(fault[1]) + case.reads[0] + 4
+        case "read_call" | "read_reply" | "read_auth_sys":
+            is_read = whole.answer.partition("; ")[0] + f"; {NO_MEMORY}"
+            return told.answer in (NO_MEMORY, is_read)
+        case "read":
+            return told.answer == "declaration refused: 13 at 1:1"
     return told.answer == NO_MEMORY
 
 
 # Calls that end at the first growth that is refused, and tell the same whether later ones are granted again.
-ENDING = "normalise reader exchange answer decode parts decoder checker encode show copy mark tokens outline".split()
-ENDING += ["append", "exchange_datagram"]
+ENDING = "normalise RecordReader exchange answer decode parts Decoder Checker encode show Value::copy mark".split()
+ENDING += ["append_answer", "exchange_datagram", "tokens", "read_outline"]
 # Those that take memory for each answer, so that the first growth is not done without.
-TAKING_ANY = "answer declarations mark exchange info datagrams asking encode show call credential".split()
-TAKING_ANY += "tokens outline directory_schema append exchange_datagram serve_datagrams".split()
+TAKING_ANY = "answer read mark exchange info_over datagrams_on info_datagram encode show read_call".split()
+TAKING_ANY += "read_auth_sys tokens read_outline directory_schema append_answer exchange_datagram".split()
+TAKING_ANY += ["serve_datagrams"]
 
 
 def is_granted_well(whole, case, number):
@@ -188,14 +182,14 @@ def is_granted_well(whole, case, number):
     first = {}
 
     def is_well(told, refused):
-        is_whole = (told.answer, told.streams) == (whole.answer, whole.streams)
+        is_whole = told[1:] == whole[1:]
         alone = first.setdefault(number, told)
-        is_same = case.engine not in ENDING or told[1:] == alone[1:]
-        if case.engine == "serve" and alone.answer != NO_MEMORY and not is_whole:
+        is_same = case.call not in ENDING or told[1:] == alone[1:]
+        if case.call == "serve" and alone.answer != NO_MEMORY and not is_whole:
             # The reply SYSTEM_ERR takes no memory: it is there with all later growths refused too.
             missed = octets(REPLY[8:] + SYSTEM_ERR)
             is_same = (missed in alone.streams[0]) <= (missed in told.streams[0])
-        is_done = number > 1 or not whole.met or case.engine not in TAKING_ANY
+        is_done = number > 1 or not whole.met or case.call not in TAKING_ANY
         return is_same and (is_done if is_whole else number <= whole.met and wants_memory(told, whole, refused))
 
     return is_well
@@ -204,7 +198,7 @@ def is_granted_well(whole, case, number):
 def answered(record, before):
     """The reply and the rows after it."""
     replies, rows = replies_to([(0, record)], before)
-    sent = "Silent" if replies[0] is None else f"Reply({list(replies[0])})"
+    sent = "no reply" if replies[0] is None else f"reply {replies[0].hex()}"
     return lambda told: (told.answer, told.streams) == (sent, [told_after(rows[0])])
 
 
@@ -215,28 +209,28 @@ def joined_well(row, given):
         return lambda told: told.answer == fault_of(row.why, row.at)
 
     def is_well(told):
-        found = re.findall(r"Lent { at: (\d+), [^[]*role: (\w+), bytes: \[([0-9, ]*)\] }", told.answer)
-        bytes_of = [bytes(map(int, filter(None, each.split(", ")))) for *_, each in found]
-        roles = [role for _, role, _ in found]
+        found = [part.split(" ") for part in told.answer.split("; ")]
+        bytes_of = [octets(digits) for *_, digits in found]
+        roles = [role for *_, role, _ in found]
         for role, following, length, content_of in zip(roles, roles[1:], bytes_of, bytes_of[1:]):
             if (role, following) == ("Length", "Content") and word(len(content_of)) != length:
                 return False
         padded = [each + bytes(-len(each) % 4) for each in bytes_of]
         places = [0, *itertools.accumulate(map(len, padded))]
-        return b"".join(padded) == given[: row.used] and [int(at) for at, *_ in found] == places[:-1]
+        return b"".join(padded) == given[: row.used] and [at for at, *_ in found] == [*map(str, places[:-1])]
 
     return is_well
 
 
 def told_again(given):
     """What is read is written again as the same bytes, or it is refused."""
-    return lambda told: f"Some(Ok({list(given)})))" in told.answer or ", None)" in told.answer
+    return lambda told: told.answer.endswith(f"; written {given.hex()}") or "; " not in told.answer
 
 
 def connection_line(number, given):
     found, why = records_in(given, 65536)
     sent = sum(row is not None for row in replies_to(found)[0])
-    ending = re.sub(r" \{ at: (\d+) \}", r" at \1", why) if why else f"{len(found)} records, {sent} replies"
+    ending = why or f"{len(found)} records, {sent} replies"
     return f"connection {number}: {ending}\n".encode()
 
 
@@ -249,7 +243,7 @@ def connected(streams, writes):
 
 def clients(*streams):
     """Clients none of whose reads fails."""
-    return {"setting": len(streams), "given": b"".join(word(len(given) + 1) + b"\0" + given for given in streams)}
+    return {"count": len(streams), "clients": streams}
 
 
 def connection_cases():
@@ -264,7 +258,7 @@ def connection_cases():
     ]
     for piece in PIECES:
         for failing in range(0, 240 // piece + 3):
-            case = Case("connections", (piece, 0), (piece, failing), **clients(*streams))
+            case = Case("serve_on", (piece, 0), (piece, failing), **clients(*streams))
             yield case, connected(streams, (piece, failing))
 
 
@@ -273,19 +267,19 @@ def stream_rows():
         given = octets(digits)
         for piece in PIECES:
             reads = piece, 0
-            yield Case("normalise", reads, setting=limit, given=given), normalised(limit, given, reads, (4096, 0))
-            yield Case("reader", reads, setting=limit, given=given), handed_out(limit, given)
-        for in_hex in (0, 4):
+            yield Case("normalise", reads, limit=limit, given=given), normalised(limit, given, reads, (4096, 0))
+            yield Case("RecordReader", reads, limit=limit, given=given), handed_out(limit, given)
+        for in_hex in (False, True):
             text = given.hex().encode() if in_hex else given
             is_well = records_over(limit, given, in_hex, (4096, 0), (4096, 0))
-            yield Case("task", setting=2 + in_hex + 8 * limit, given=text), is_well
-        wanted = '"Ok"', [marked(given)]
+            yield Case("Task::Records", hex=in_hex, limit=limit, given=text), is_well
+        wanted = "ok", [marked(given)]
         yield Case("mark", given=given), lambda told, wanted=wanted: (told.answer, told.streams) == wanted
 
 
 def decoded_well(row):
-    wanted = fault_of(row.why, row.at) if isinstance(row, Refused) else f"Ok(({row.value}, {row.used}))"
-    return lambda told: told.answer == wanted
+    wanted = (fault_of(row.why, row.at), [b""]) if isinstance(row, Refused) else (f"ok {row.used}", [row.lines])
+    return lambda told: (told.answer, told.streams) == wanted
 
 
 def value_rows():
@@ -294,36 +288,36 @@ def value_rows():
         kind = {"given": given, **typed(row)}
         yield Case("decode", **kind), decoded_well(row)
         yield Case("parts", **kind), joined_well(row, given)
-        for engine, piece in itertools.product(("decoder", "checker"), PIECES):
-            yield Case(engine, (piece, 0), **kind), fed(row, given, piece, engine == "checker")
+        for engine, piece in itertools.product(("Decoder", "Checker"), PIECES):
+            yield Case(engine, (piece, 0), **kind), fed(row, given, piece, engine == "Checker")
         if isinstance(row, Whole):
             for engine, output in (("encode", given[: row.used]), ("show", row.lines)):
-                wanted = '"Ok"', [output]
+                wanted = "ok", [output]
                 yield Case(engine, **kind), lambda told, wanted=wanted: (told.answer, told.streams) == wanted
-            yield Case("copy", **kind), lambda told: told.answer == "true"
-        for shows, in_hex in itertools.product((0, 1), (0, 4)):
-            kind["given"] = given.hex().encode() if in_hex else given
+            yield Case("Value::copy", **kind), lambda told: told.answer == "equal"
+        for shows, in_hex in itertools.product((False, True), (False, True)):
+            text = given.hex().encode() if in_hex else given
             is_well = checked(row, given, shows, in_hex, (4096, 0), (4096, 0))
-            yield Case("task", setting=shows + in_hex, **kind), is_well
+            yield value_task(shows, in_hex, text, typed(row)), is_well
 
 
 def task_rows():
-    for setting, name, text, given, status, output, faults in TASKS:
+    for shows, in_hex, name, text, given, status, output, faults in TASKS:
         wanted = status, [output, faults]
-        case = Case("task", setting=setting, name=name, text=text, given=given)
+        case = value_task(shows, in_hex, given, {"kind": name, "text": text})
         yield case, lambda told, wanted=wanted: (told.answer, told.streams) == wanted
 
 
 def message_rows():
     for engine, digits in MESSAGES:
-        wanted = f", Some(Ok({list(octets(digits))})))"
+        wanted = f"; written {octets(digits).hex()}"
         yield Case(engine, given=octets(digits)), lambda told, wanted=wanted: told.answer.endswith(wanted)
     yield from message_cases()
     for record, *_replies in CALLS + FURTHER:
-        yield Case("call", given=record), told_again(record)
+        yield Case("read_call", given=record), told_again(record)
     for stream, _ in EXCHANGED:
         for _, content in records_in(stream, WIDEST)[0]:
-            yield Case("reply", given=content), told_again(content)
+            yield Case("read_reply", given=content), told_again(content)
 
 
 def registry_rows():
@@ -332,31 +326,31 @@ def registry_rows():
     for given in (*SERVED[:3], *served_so):
         for reads in ((48, 0), (4096, 0)):
             yield Case("serve", reads, given=given, after=ASKED_AFTER), served(given, reads, (4096, 0))
-        yield Case("connections", **clients(given)), connected([given], (4096, 0))
+        yield Case("serve_on", **clients(given)), connected([given], (4096, 0))
     for has_row, before in enumerate((b"", marked(SET))):
         for record, *_replies in CALLS:
             yield Case("answer", given=record, before=before, after=ASKED_AFTER), answered(record, bool(has_row))
         for record, sent in FURTHER:
-            wanted = f"Reply({list(sent)})", [told_after(bool(has_row))]
+            wanted = f"reply {sent.hex()}", [told_after(bool(has_row))]
             case = Case("answer", given=record, before=before, after=ASKED_AFTER)
             yield case, lambda told, wanted=wanted: (told.answer, told.streams) == wanted
-        yield Case("registry", before=before), lambda told, has_row=bool(has_row): is_registry(told, has_row)
+        yield Case("dump", before=before), lambda told, has_row=bool(has_row): is_registry(told, has_row)
     for record in TAKING:
-        yield Case("answer", given=record, after=ASKED_AFTER), lambda told: told.answer.startswith("Reply([")
+        yield Case("answer", given=record, after=ASKED_AFTER), lambda told: told.answer.startswith("reply ")
     for (stream, told), piece in itertools.product(EXCHANGED, PIECES):
         yield Case("exchange", (piece, 0), given=stream), exchanged(stream, told, (piece, 0), (4096, 0))
     yield from swept_cases()
     for (stream, status, printed), piece in itertools.product(ASKED, PIECES):
         is_well = asked_of(stream, status, printed, (piece, 0), (4096, 0), False)
-        yield Case("info", (piece, 0), setting=4, given=stream), is_well
+        yield Case("info_over", (piece, 0), version=4, given=stream), is_well
 
 
 def text_rows():
     for number, text in enumerate(TEXTS):
-        begins = "Ok(Declared" if number < 8 else "Err(LangFault"
-        yield Case("declarations", text=text), lambda told, begins=begins: told.answer.startswith(begins)
-    for engine, text in (("tokens", FILE), ("outline", FILE), ("outline", PING), ("directory_schema", b"")):
-        yield Case(engine, text=text), lambda told: told.answer.startswith("Ok(")
+        begins = "ok" if number < 8 else "declaration refused: "
+        yield Case("read", text=text), lambda told, begins=begins: told.answer.startswith(begins)
+    for engine, text in (("tokens", FILE), ("read_outline", FILE), ("read_outline", PING), ("directory_schema", b"")):
+        yield Case(engine, text=text), lambda told: not told.answer.startswith(("refused", "out of memory"))
 
 
 def growth_cases():
@@ -375,7 +369,7 @@ def refused_cases(heap):
         for number in range(1, whole.met + 3):
             is_well = is_granted_well(whole, case, number)
             for refused in (str(number), f"{number}.."):
-                changed = case._replace(refused=refused)
+                changed = case._replace(refuse=refused)
                 yield changed, lambda told, changed=changed, is_well=is_well: is_well(told, changed)
 
 
@@ -397,15 +391,32 @@ def chain(length, leaves):
 def swing_cases(heap):
     """How often the nodes at work go down and up asks for no memory of theirs: none in a checker, and in a decoder what
     their values take, the same at each depth."""
-    for engine in ("checker", "decode"):
+    for engine in ("Checker", "decode"):
         made = {
-            leaves: [Case(engine, (4096, 0), name="t", text=CHAINED, given=chain(length, leaves)) for length in LENGTHS]
+            leaves: [Case(engine, kind="t", text=CHAINED, given=chain(length, leaves)) for length in LENGTHS]
             for leaves in (2, 200)
         }
         few, many = (run(made[leaves], LD_PRELOAD=heap) for leaves in (2, 200))
         more = {after.met - before.met for before, after in zip(few, many)}
-        is_well = more == {0} if engine == "checker" else len(more) == 1 and more.pop() >= 198
+        is_well = more == {0} if engine == "Checker" else len(more) == 1 and more.pop() >= 198
         yield made[200][0], lambda told, is_well=is_well: is_well and told.met > 0
+
+
+def without_nodes_cases():
+    """Kinds without nodes by `decode`, a decoder and a checker, where no growth is granted: the whole answer, and none
+    is asked for."""
+    for row in WITHOUT_NODES + REFUSED_WITHOUT:
+        given, refused = octets(row.digits), {"refuse": "1..", **typed(row)}
+        asked = [(Case("decode", given=given, **refused), decoded_well(row))]
+        for call, piece in itertools.product(("Decoder", "Checker"), PIECES):
+            asked.append((Case(call, (piece, 0), given=given, **refused), fed(row, given, piece, call == "Checker")))
+        for case, is_well in asked:
+            yield case, lambda told, is_well=is_well: told.met == 0 and is_well(told)
+    # The end before any byte: of void, which is whole, and of an integer.
+    cut = fault_of("Truncated", 0)
+    for kind, wanted in (("void", ("ok; ok 0", [b"void\n"])), ("int", (f"{cut}; {cut}", [b""]))):
+        case = Case("Decoder::finish", kind=kind, refuse="1..")
+        yield case, lambda told, wanted=wanted: (told.met, told.answer, told.streams) == (0, *wanted)
 
 
 def free_cases():
@@ -413,17 +424,17 @@ def free_cases():
     asked = [
         (b"", "hyper", "80000000 00000000", "decode"),
         (b"", "int", "00000003 61626300", "decode"),
-        (b"", "opaque", "00000003 61626300", "checker"),
+        (b"", "opaque", "00000003 61626300", "Checker"),
         (b"", "opaque", "ffffffff", "decode"),
         (MORE, "five", "00000005", "decode"),
-        (b"", "opaque", "ffffffff 61", "decoder"),
-        (b"", "string", "ffffffff 61", "decoder"),
+        (b"", "opaque", "ffffffff 61", "Decoder"),
+        (b"", "string", "ffffffff 61", "Decoder"),
         (FILE, "filekind", "00000002", "decode"),
-        (FILE, "file", SILLYPROG, "checker"),
-        (MORE, "six", "61626364 65660000", "checker"),
+        (FILE, "file", SILLYPROG, "Checker"),
+        (MORE, "six", "61626364 65660000", "Checker"),
         (MORE, "five", "00000003 61626300", "encode_to"),
     ]
-    asked += [(b"", "opaque", "00010000" + "61" * 65536, "checker"), (b"", "opaque", "00000008" + "61" * 8, "checker")]
+    asked += [(b"", "opaque", "00010000" + "61" * 65536, "Checker"), (b"", "opaque", "00000008" + "61" * 8, "Checker")]
     # Checked without memory: all kinds but those of a node.
     for text, name, digits in (
         (b"", "int", "80000000"),
@@ -434,23 +445,24 @@ def free_cases():
         (b"", "string", "00000003 61626300"),
         (FILE, "filekind", "00000002"),
     ):
-        asked.append((text, name, digits, "checker"))
+        asked.append((text, name, digits, "Checker"))
     for text, name, digits, engine in asked:
-        yield Case(engine, (1, 0), name=name, text=text, given=octets(digits)), lambda told: told.met == 0
+        yield Case(engine, (1, 0), kind=name, text=text, given=octets(digits)), lambda told: told.met == 0
     # The header of a record; an empty record, which is no call; bytes that are no call, and cases of none.
     for given in (b"", octets("81000000"), octets("80000000")):
-        yield Case("reader", (1, 0), given=given), lambda told: told.met == 0
+        yield Case("RecordReader", (1, 0), limit=WIDEST, given=given), lambda told: told.met == 0
     yield Case("serve", (1, 0), given=octets("81000000")), lambda told: told.met == 0
     for given in (octets("00000001"), NULL[:11], octets("00000002 00000000 00000003"), NULL[:24], NULL[:32]):
-        yield Case("call", given=given), lambda told: told.met == 0
-    yield Case("reply", given=octets("00000001 00000001 00000001 00000001 00000063")[:19]), lambda told: told.met == 0
-    yield Case("answer", given=octets("00000001")), lambda told: (told.met, told.answer) == (0, "Silent")
+        yield Case("read_call", given=given), lambda told: told.met == 0
+    given = octets("00000001 00000001 00000001 00000001 00000063")[:19]
+    yield Case("read_reply", given=given), lambda told: told.met == 0
+    yield Case("answer", given=octets("00000001")), lambda told: (told.met, told.answer) == (0, "no reply")
 
 
 def answer_cases():
     """The null call cut at each byte: silence, a credential and a verifier that cannot be read, and the reply."""
     for length in range(len(NULL) + 1):
         sent = None if length < 24 else denied(1) if length < 32 else denied(3) if length < 40 else reply("00000000")
-        wanted = "Silent" if sent is None else f"Reply({list(sent)})", [told_after(False)]
+        wanted = "no reply" if sent is None else f"reply {sent.hex()}", [told_after(False)]
         case = Case("answer", given=NULL[:length], after=ASKED_AFTER)
         yield case, lambda told, wanted=wanted: (told.answer, told.streams) == wanted

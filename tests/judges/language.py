@@ -14,61 +14,60 @@ from rows.language import (
     SHOWN,
     SIZES,
     VALUES,
-    kind,
-    pairs,
 )
 from rows.shared import Case, DIRECTORY
 
 from .codec import shown_so
-from .written import is_read, same_answers
+from .directory import has_types
+from .written import constants_of, is_read, same_answers
+
+
+def pairs(rows):
+    return ", ".join(f'("{name}", {place})' for name, place in rows)
+
+
+def values_of(rows):
+    return [f"{name} = {number}" for name, number in rows]
 
 
 def declared(kinds, names, constants, programs):
     """What is told of a text that declares these besides the basic ones."""
-    named = pairs([(name, kind(place)) for name, place in BASIC_NAMES + names])
-    schema = f"Schema {{ kinds: [{', '.join(BASIC_KINDS + kinds)}], names: {named} }}"
-    values = pairs(BASIC_CONSTANTS + constants)
-    return f"Ok(Declared {{ schema: {schema}, constants: {values}, programs: [{programs}] }})"
+    told = "".join(f"\n{each}" for each in BASIC_KINDS + kinds), pairs(BASIC_NAMES + names)
+    return [*told, "; ".join(values_of(BASIC_CONSTANTS + constants)), programs]
 
 
-def count_of(told, field):
-    """How many items the list of that name has."""
-    depth, items, has_one = 1, 0, False
-    for byte in told.answer.partition(f"{field}: [")[2]:
-        if byte in "]})":
-            depth -= 1
-        if not depth:
-            break
-        has_one = True
-        items += byte == "," and depth == 1
-        depth += byte in "[{("
-    return items + has_one
+def told_texts(told):
+    """The kinds, names, constants and programs that are told of a text, as texts."""
+    return [each.decode() for each in told.streams]
+
+
+def counts_of(told):
+    """How many kinds, constants and programs there are."""
+    kinds, _, _, programs = told_texts(told)
+    return [kinds.count("\n"), len(constants_of(told)), programs.count("\n")]
 
 
 def place_of(told, name):
     """The place that a name names, if it names one."""
-    found = re.search(rf'\("{name}", KindId {{ place: (\d+) }}\)', told.answer)
+    found = re.search(rf'\("{name}", (\d+)\)', told_texts(told)[1])
     return int(found[1]) if found else None
 
 
-HEAD = re.compile(
-    r'(Program|Version|Procedure) \{ name: "\w+", number: (\d+)'
-    r"(?:, arguments: \[([^\]]*)\], result: (?:None|Some\(KindId \{ place: (\d+) \}\)))?"
-)
+HEAD = re.compile(r"(program|version) \w+ = (\d+) \{|(\d+|void) \w+\(([^)]*)\) = (\d+);")
 
 
 def procedures_of(told):
     """By the numbers of program, version and procedure, what PROCEDURES has of each."""
     found, program, version = {}, None, None
-    for what, number, arguments, result in HEAD.findall(told.answer):
-        if what == "Program":
+    for what, number, result, arguments, procedure in HEAD.findall(told_texts(told)[3]):
+        if what == "program":
             program = int(number)
-        elif what == "Version":
+        elif what == "version":
             version = int(number)
         else:
-            places = [int(place) for place in re.findall(r"place: (\d+)", arguments)]
-            last, made = places[-1] if places else None, int(result) if result else None
-            found[program, version, int(number)] = len(places), last, made
+            places = [int(place) for place in arguments.split(", ") if place]
+            last, made = places[-1] if places else None, None if result == "void" else int(result)
+            found[program, version, int(procedure)] = len(places), last, made
     return found
 
 
@@ -85,42 +84,40 @@ def directory_cases():
     schema = []
 
     def is_schema(told):
-        schema.append(told.answer.removeprefix("Ok(").removesuffix(")"))
-        return told.answer.startswith("Ok(Schema") and count_of(told, "kinds") == 19
+        schema.append(told.streams)
+        return told.answer == "ok" and told_texts(told)[0].count("\n") == 19 and has_types(*told_texts(told))
 
     def is_same(told):
-        rest = f"constants: {pairs(BASIC_CONSTANTS)}, programs: []"
-        return told.answer == f"Ok(Declared {{ schema: {schema[0]}, {rest} }})"
+        rest = ["; ".join(values_of(BASIC_CONSTANTS)), ""]
+        return is_read(told) and told.streams[:2] == schema[0] and told_texts(told)[2:] == rest
 
     yield Case("directory_schema"), is_schema
     for text in (DIRECTORY, RPCB):
-        yield Case("declarations", text=text), is_same
+        yield Case("read", text=text), is_same
 
 
 def read_text_cases():
     """Texts that are read, each with what it declares."""
     for text, *lists in DECLARED:
         wanted = declared(*lists)
-        yield Case("declarations", text=text), lambda told, wanted=wanted: told.answer == wanted
-    constants = f"constants: {pairs(BASIC_CONSTANTS + NUMBERS)}"
-    yield Case("declarations", text=VALUES), lambda told: is_read(told) and constants in told.answer
-    for text, name, *wanted in NAMED:
-        yield Case("declarations", text=text), lambda told, name=name, wanted=wanted: is_read(told) and wanted == [
+        yield Case("read", text=text), lambda told, wanted=wanted: is_read(told) and told_texts(told) == wanted
+    constants = values_of(BASIC_CONSTANTS + NUMBERS)
+    yield Case("read", text=VALUES), lambda told: is_read(told) and constants_of(told) == constants
+    for text, name, place, *counts in NAMED:
+        wanted = place, *counts
+        yield Case("read", text=text), lambda told, name=name, wanted=wanted: is_read(told) and wanted == (
             place_of(told, name),
-            count_of(told, "kinds"),
-            count_of(told, "constants"),
-        ]
+            *counts_of(told)[:2],
+        )
     for text, *wanted in SIZES:
-        yield Case("declarations", text=text), lambda told, wanted=wanted: is_read(told) and wanted == [
-            count_of(told, field) for field in ("kinds", "constants", "programs")
-        ]
+        yield Case("read", text=text), lambda told, wanted=wanted: is_read(told) and wanted == counts_of(told)
     for text, versions in PROCEDURES:
         wanted = numbered(versions)
-        yield Case("declarations", text=text), lambda told, wanted=wanted: procedures_of(told) == wanted
+        yield Case("read", text=text), lambda told, wanted=wanted: procedures_of(told) == wanted
     for texts in SAME:
         is_same = same_answers()
         for text in texts:
-            yield Case("declarations", text=text), is_same
+            yield Case("read", text=text), is_same
     yield from directory_cases()
     for row in SHOWN:
         yield from shown_so(*row)

@@ -23,33 +23,33 @@ from rows.shared import (
 
 from .growths import decoded_well, joined_well
 from .streams import handed_out, normalised
-from .values import checked, fault_of, fed, typed
+from .values import checked, fault_of, fed, typed, value_task
 
 
 def literal_cases():
     """Rows written out: the engine, what it is given, and what is told."""
     twice = SERVED[1]
     silent = told_after(False)
-    rows = [(Case("serve", given=b""), "Ok(Served { records: 0, replies: 0 })", [b"", silent])]
+    rows = [(Case("serve", given=b""), "0 records, 0 replies", [b"", silent])]
     for length, piece in itertools.product(range(1, 48), PIECES):
         case = Case("serve", (piece, 0), given=SERVED[0][:length])
-        rows.append((case, f"Err(Record(Truncated {{ at: {length} }}))", [b"", silent]))
+        rows.append((case, f"refused Truncated at {length}", [b"", silent]))
     for count, piece in itertools.product(range(28), PIECES):
         case = Case("serve", (piece, 0), (1, count + 1), given=SERVED[0])
-        rows.append((case, f"Err(Write {{ written: {count} }})", [NULL_REPLY[:count], silent]))
-    rows.append((Case("serve", (48, 2), given=twice), "Err(Read)", [NULL_REPLY, silent]))
+        rows.append((case, f"write fault after {count}", [NULL_REPLY[:count], silent]))
+    rows.append((Case("serve", (48, 2), given=twice), "read fault", [NULL_REPLY, silent]))
     case = Case("serve", (4096, 0), (4096, 1), given=marked(SET))
-    rows.append((case, "Err(Write { written: 0 })", [b"", told_after(True)]))
-    rows.append((Case("serve", (4096, 0), (4096, 2), given=twice), "Err(Write { written: 28 })", [NULL_REPLY, silent]))
+    rows.append((case, "write fault after 0", [b"", told_after(True)]))
+    rows.append((Case("serve", (4096, 0), (4096, 2), given=twice), "write fault after 28", [NULL_REPLY, silent]))
     # Behind a null call: nothing, an empty record, a header and a record that are cut, one that is too long, and one as
     # long as the limit and cut.
     stops = [
-        ("", "Ok(Served { records: 1, replies: 1 })"),
-        ("80000000", "Ok(Served { records: 2, replies: 1 })"),
-        ("8000", "Err(Record(Truncated { at: 50 }))"),
-        ("0000000100", "Err(Record(Truncated { at: 53 }))"),
-        ("80010001", "Err(Record(TooLong { at: 48 }))"),
-        ("8001000000", "Err(Record(Truncated { at: 53 }))"),
+        ("", "1 records, 1 replies"),
+        ("80000000", "2 records, 1 replies"),
+        ("8000", "refused Truncated at 50"),
+        ("0000000100", "refused Truncated at 53"),
+        ("80010001", "refused TooLong at 48"),
+        ("8001000000", "refused Truncated at 53"),
     ]
     for (digits, answer), piece in itertools.product(stops, PIECES):
         rows.append((Case("serve", (piece, 0), given=SERVED[0] + octets(digits)), answer, [NULL_REPLY, silent]))
@@ -60,44 +60,45 @@ def literal_cases():
         ("00000001", 4, 2, (3, b"", b"read fault\n")),
         ("00000001 00", 5, 2, (0, b"ok 4, more follows\n", b"")),
     ]:
-        case = Case("task", (piece, failing), setting=0, name="bool", given=octets(digits))
+        case = value_task(False, False, octets(digits), {"kind": "bool"}, (piece, failing))
         rows.append((case, str(ending[0]), [*ending[1:]]))
-    case = Case("task", (4096, 0), (4096, 1), setting=4, name="opaque", given=b"00000003 61626300")
+    case = value_task(False, True, b"00000003 61626300", {"kind": "opaque"}, writes=(4096, 1))
     rows.append((case, "3", [b"", b"write fault\n"]))
     for case, answer, streams in rows:
         wanted = answer, streams
-        changed = case._replace(after=ASKED_AFTER) if case.engine == "serve" else case
+        changed = case._replace(after=ASKED_AFTER) if case.call == "serve" else case
         yield changed, lambda told, wanted=wanted: (told.answer, told.streams) == wanted
 
 
 def large_cases():
     """A million empty fragments, and 1048577 reads of a byte."""
     empty, zeros = octets("80000000"), {"zeros": 4000000, "given": octets("80000000")}
-    once, never = ("Ok(Count { records: 1, bytes: 4 })", [empty]), ("Err(TooManyReads)", [b""])
+    once, never = ("1 records, 4 bytes", [empty]), ("too many reads", [b""])
     unread = "3", [b"", b"too many reads\n"]
+    many = {"kind": "many", "text": MANY, "types": "a.x"}
     rows = [
-        (Case("normalise", **zeros), *once),
-        (Case("normalise", (1, 0), zeros=1048577), *never),
-        (Case("serve", **zeros), "Ok(Served { records: 1, replies: 0 })", [b"", b""]),
-        (Case("serve", (1, 0), zeros=1048577), "Err(TooManyReads)", [b"", b""]),
-        (Case("exchange", (1, 0), zeros=1048577), "Err(TooManyReads)", [marked(NULL)]),
-        (Case("info", (1, 0), setting=4, zeros=1048577), "3", [marked(call(4, 4, "")), b"", b"too many reads\n"]),
-        (Case("task", (1, 0), setting=2 + 8 * WIDEST, zeros=1048577), *unread),
-        (Case("task", (1, 0), setting=0, name="many", text=MANY, zeros=1200000), *unread),
-        (Case("task", (1, 0), setting=0, name="many", text=MANY, zeros=1048576), *unread),
+        (Case("normalise", limit=WIDEST, **zeros), *once),
+        (Case("normalise", (1, 0), limit=WIDEST, zeros=1048577), *never),
+        (Case("serve", **zeros), "1 records, 0 replies", [b"", b""]),
+        (Case("serve", (1, 0), zeros=1048577), "too many reads", [b"", b""]),
+        (Case("exchange", (1, 0), zeros=1048577), "too many reads", [marked(NULL)]),
+        (Case("info_over", (1, 0), version=4, zeros=1048577), "3", [marked(call(4, 4, "")), b"", b"too many reads\n"]),
+        (Case("Task::Records", (1, 0), limit=WIDEST, zeros=1048577), *unread),
+        (Case("Task::Check", (1, 0), zeros=1200000, **many), *unread),
+        (Case("Task::Check", (1, 0), zeros=1048576, **many), *unread),
         (
-            Case("task", (1, 0), setting=0, name="many", text=MANY, zeros=1048575),
+            Case("Task::Check", (1, 0), zeros=1048575, **many),
             "1",
             [b"refused Truncated at 1048575\n", b""],
         ),
-        (Case("task", setting=0, name="many", text=MANY, zeros=1200000), "0", [b"ok 1200000\n", b""]),
+        (Case("Task::Check", zeros=1200000, **many), "0", [b"ok 1200000\n", b""]),
     ]
     for case, *wanted in rows:
         yield case, lambda told, wanted=wanted: [told.answer, told.streams] == wanted
 
 
 def refused_text(number, inner, line, column):
-    wanted = f"Err(LangFault {{ number: {number}, inner: {inner}, line: {line}, column: {column} }})"
+    wanted = f"declaration refused: {number}{f' ({inner})' if inner else ''} at {line}:{column}"
     return lambda told: told.answer == wanted
 
 
@@ -107,7 +108,7 @@ def bodies(depth):
 
 def text_cases():
     """The longest text, the most kinds and the most bodies inside one another, and one more of each."""
-    is_read = lambda told: told.answer.startswith("Ok(Declared")
+    is_read = lambda told: told.answer == "ok"
     lines = [b"typedef opaque a%d[1];\n" % number for number in range(1017)]
     for text, is_well in [
         (b" " * 262144, is_read),
@@ -117,51 +118,56 @@ def text_cases():
         (b"struct s { " + bodies(32) + b"};", is_read),
         (b"struct s { " + bodies(33) + b"};", refused_text(12, 0, 1, 10 + 32 * 9)),
     ]:
-        yield Case("declarations", text=text), is_well
+        yield Case("read", text=text), is_well
+
+
+def typedef_cases():
+    """A chain of 12,000 typedefs, each of the next: what one of them names is learnt once for all."""
+    lines = (b"typedef t%x t%x;" % (number + 1, number) for number in range(12000))
+    text = b"\n".join(lines) + b"typedef hyper t%x;" % 12000
+    yield Case("read", text=text), lambda told: told.answer == "ok" and b'("t0", 2)' in told.streams[1]
 
 
 def deep_cases():
     """The list of 2047 empty strings, of depth 4096 and 16380 bytes, whole and byte by byte, and one string more."""
     given = (word(1) + word(0)) * 2047 + word(0)
     deeper = (word(1) + word(0)) * 2048 + word(0)
-    value = "Maybe(Some(Group([Bytes([]), " * 2047 + "Maybe(None)" + "])))" * 2047
     lines = ["present"]
     for depth in range(2047):
         margin = "    " * depth
         lines += [f"{margin}  struct", f'{margin}    item: ""']
         lines += [f"{margin}    next: {'absent' if depth == 2046 else 'present'}"]
     shown = "".join(line + "\n" for line in lines).encode()
-    whole = Whole(LIST, "list", given.hex(), 16380, shown, value)
+    whole = Whole(LIST, "list", given.hex(), 16380, shown)
     refused = Refused(LIST, "list", deeper.hex(), WIDEST, "TooDeep", 16380, 16380)
     for row, bytes_of in ((whole, given), (refused, deeper)):
         kind = {"given": bytes_of, **typed(row)}
         yield Case("decode", **kind), decoded_well(row)
         yield Case("parts", **kind), joined_well(row, bytes_of)
-        for engine, piece in itertools.product(("decoder", "checker"), PIECES):
-            yield Case(engine, (piece, 0), **kind), fed(row, bytes_of, piece, engine == "checker")
-        yield Case("task", setting=0, **kind), checked(row, bytes_of, 0, 0, (4096, 0), (4096, 0))
+        for engine, piece in itertools.product(("Decoder", "Checker"), PIECES):
+            yield Case(engine, (piece, 0), **kind), fed(row, bytes_of, piece, engine == "Checker")
+        yield value_task(False, False, bytes_of, typed(row)), checked(row, bytes_of, False, False, (4096, 0), (4096, 0))
     kind = {"given": given, **typed(whole)}
     for engine, streams in (("encode", [given]), ("show", [shown])):
-        wanted = '"Ok"', streams
+        wanted = "ok", streams
         yield Case(engine, **kind), lambda told, wanted=wanted: (told.answer, told.streams) == wanted
-    yield Case("copy", **kind), lambda told: told.answer == "true"
-    yield Case("encode_to", writes=(1, 0), **kind), lambda told: (told.answer, told.streams) == ("Ok(16380)", [given])
+    yield Case("Value::copy", **kind), lambda told: told.answer == "equal"
+    yield Case("encode_to", writes=(1, 0), **kind), lambda told: (told.answer, told.streams) == ("ok 16380", [given])
 
 
 def declared_cases():
     """Lengths and counts of gibibytes, and a byte behind them, and 2000 wide structures that have begun, where there
     are 64 MiB."""
     for text, name, piece in ((b"", "opaque", 1), (b"", "string", 4), (MORE, "big", 4), (MORE, "big", 1)):
-        for engine in ("decoder", "checker"):
-            case = Case(engine, (piece, 0), name=name, text=text, given=octets("ffffffff 61"))
-            cut = fault_of("Truncated", 5)
-            wanted = f"(({-(-5 // piece)}, Ok(More), Ok(More)), {cut}, 0)"
+        for engine in ("Decoder", "Checker"):
+            case = Case(engine, (piece, 0), kind=name, text=text, given=octets("ffffffff 61"))
+            wanted = f"{-(-5 // piece)} pieces; more; more; {fault_of('Truncated', 5)}; 0 growths"
             yield case, lambda told, wanted=wanted: told.answer == wanted
-    for engine, piece in itertools.product(("decoder", "checker"), (4, 4096)):
+    for engine, piece in itertools.product(("Decoder", "Checker"), (4, 4096)):
         given = word(1) * 2000
-        wanted = f"(({-(-8000 // piece)}, Ok(More), Ok(More)), {fault_of('Truncated', 8000)}, 0)"
-        case = Case(engine, (piece, 0), name="wide", text=WIDE, given=given)
+        wanted = f"{-(-8000 // piece)} pieces; more; more; {fault_of('Truncated', 8000)}; 0 growths"
+        case = Case(engine, (piece, 0), kind="wide", text=WIDE, given=given)
         yield case, lambda told, wanted=wanted: told.answer == wanted
     given = octets("ffffffff 61")
-    yield Case("reader", (1, 0), setting=2147483647, given=given), handed_out(2147483647, given)
-    yield Case("normalise", (1, 0), setting=2147483647, given=given), normalised(2147483647, given, (1, 0), (1, 0))
+    yield Case("RecordReader", (1, 0), limit=2147483647, given=given), handed_out(2147483647, given)
+    yield Case("normalise", (1, 0), limit=2147483647, given=given), normalised(2147483647, given, (1, 0), (1, 0))

@@ -2,25 +2,16 @@
 records that are marked."""
 from rows.captured import DUMP
 from rows.records import FILLED, LONG, TAKEN
-from rows.shared import Case, octets, word
+from rows.shared import Case, octets
 
 from .streams import handed_out
 
 
 def called(limit, calls):
-    """Calls on a reader, and whether each is answered so; a room that has no record may hold what it held."""
-    letters = "".join(letter for letter, _, _ in calls)
-    given = b"".join(word(len(part)) + part for letter, part, _ in calls if letter in "fi")
-    wanted = [answer for *_, answer in calls]
-
-    def is_well(told):
-        answers = told.answer.removesuffix(";").split("; ")
-        return [
-            answer if letter != "i" or "Whole" in answer else answer.rpartition(" ")[0]
-            for letter, answer in zip(letters, answers)
-        ] == wanted and len(answers) == len(wanted)
-
-    return Case("reader_calls", setting=limit, name=letters, given=given), is_well
+    """Calls on a reader, and whether each is answered so."""
+    steps = [f"{name}:{part.hex()}" if name.startswith("feed") else name for name, part, _ in calls]
+    wanted = "; ".join(answer for *_, answer in calls)
+    return Case("RecordReader::calls", limit=limit, steps=steps), lambda told: told.answer == wanted
 
 
 def whole_of_dump():
@@ -31,9 +22,9 @@ def whole_of_dump():
 def captured_cases():
     """Three fragments are one record, and become one."""
     for piece in (1, 4096, 8996, 20160):
-        yield Case("reader", (piece, 0), setting=20148, given=DUMP), handed_out(20148, DUMP)
-    wanted = "Ok(Count { records: 1, bytes: 20152 })", [octets("80004eb4") + whole_of_dump()]
-    case = Case("normalise", (1000, 0), setting=20148, given=DUMP)
+        yield Case("RecordReader", (piece, 0), limit=20148, given=DUMP), handed_out(20148, DUMP)
+    wanted = "1 records, 20152 bytes", [octets("80004eb4") + whole_of_dump()]
+    case = Case("normalise", (1000, 0), limit=20148, given=DUMP)
     yield case, lambda told: (told.answer, told.streams) == wanted
 
 
@@ -41,9 +32,9 @@ def long_cases():
     """A long record of which the header comes alone is handed out, and is marked."""
     for length, header in LONG:
         content = b"a" * length
-        answers = [("f", header, "Ok(More)"), ("f", content, f"Ok(Whole {{ used: {length} }})")]
-        yield called(16777216, answers + [("t", b"", content.hex())])
-        wanted = '"Ok"', [header + content]
+        answers = [("feed", header, "more"), ("feed", content, f"whole {length}")]
+        yield called(16777216, answers + [("take", b"", content.hex())])
+        wanted = "ok", [header + content]
         yield Case("mark", given=content), lambda told, wanted=wanted: (told.answer, told.streams) == wanted
 
 
@@ -51,7 +42,7 @@ def written_cases():
     """A record is written behind its header, in pieces, and each write fails in turn."""
     whole = octets("80000003 616263")
     for piece, failing, count in ((4096, 0, 7), (1, 0, 7), (3, 0, 7), *((1, each, each - 1) for each in range(1, 8))):
-        told_so = f"Err(Cut {{ written: {count} }})" if failing else "Ok(())", [whole[:count]]
+        told_so = f"write fault after {count}" if failing else "ok", [whole[:count]]
         case = Case("write_marked", writes=(piece, failing), given=b"abc")
         yield case, lambda told, wanted=told_so: (told.answer, told.streams) == wanted
 

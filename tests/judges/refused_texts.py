@@ -11,4 +11,4 @@ from .large import refused_text
 def refused_text_cases():
     """Each text is refused with its fault."""
     for text, *fault in itertools.chain.from_iterable(TABLES):
-        yield Case("declarations", text=text), refused_text(*fault)
+        yield Case("read", text=text), refused_text(*fault)

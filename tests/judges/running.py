@@ -1,50 +1,91 @@
-"""Cases as lines for 'tool_probe', and what it told of each."""
+"""Cases as lines for 'tool_probe', and what it told of each: words `key=value`, as README.md has them."""
 import collections
 import os
+import re
 import subprocess
 
 from rows.shared import octets
 
 ROOT = os.path.dirname(os.path.dirname(os.path.dirname(os.path.realpath(__file__))))
 PROGRAM = os.environ.get("PROBE", f"{ROOT}/crates/tool_probe/out/tool_probe")
-# How many streams an engine's line tells at its end.
-STREAMS_OF = {"normalise": 1, "reader": 1, "task": 2, "info": 3, "connections": 3, "serve": 2, "answer": 1}
-STREAMS_OF.update(datagrams=3, asking=3, exchange=1, encode_to=1, encode=1, show=1, mark=1)
-STREAMS_OF.update(append=2, serve_datagrams=2, exchange_datagram=1, write_marked=1)
+# The keys of a case's fields that are not theirs with `-` in place of `_`, in the order in which they are written.
+NAMED = {"reads": ("read", "read-fails"), "writes": ("write", "write-fails"), "given": ("input",)}
+# The fields that are texts to read: declarations, names, and digits.
+TEXTS = ("text", "kind", "types")
+WORD = re.compile(r'(\S+?)=("[^"]*"|[^ ]*)(?: |$)')
+
+
+def quoted(content):
+    """Bytes between quotation marks: `\\xHH` stands for one that is not printed."""
+    plain = {byte for byte in range(0x20, 0x7F)} - set(b'"\\')
+    return '"' + "".join(chr(byte) if byte in plain else f"\\x{byte:02x}" for byte in content) + '"'
+
+
+def unquoted(text):
+    return re.sub(rb"\\x(..)", lambda it: octets(it[1].decode()), text[1:-1].encode())
+
+
+def value_of(field, content, as_text):
+    """A value as it is written."""
+    if isinstance(content, (list, tuple)):
+        return ",".join(each.hex() if isinstance(each, bytes) else str(each) for each in content)
+    if isinstance(content, bytes):
+        return quoted(content) if as_text or field in TEXTS else content.hex()
+    if field in TEXTS and not re.fullmatch(r"[-.\w]+", content):
+        return quoted(content.encode())
+    return "yes" if content is True else str(content)
 
 
 def line_of(case):
-    words = [case.engine, *case.reads, *case.writes, case.refused, case.setting, case.name]
-    words += [each.hex() for each in (case.text, case.given, case.before, case.after)]
-    return " ".join(map(str, words + [case.zeros, case.depth, case.bytes]))
+    """A case as a line: what is as in all cases is not written."""
+    if case.calls is not None:
+        return " ; ".join(["call=Directory", *case.calls])
+    words = []
+    for field, content in case._asdict().items():
+        usual = case._field_defaults.get(field)
+        if content == usual and type(content) is type(usual):
+            continue
+        if field in ("reads", "writes"):
+            words += [f"{key}={each}" for key, each in zip(NAMED[field], content) if each]
+            continue
+        key = NAMED.get(field, (field.replace("_", "-"),))[0]
+        words.append(f"{key}={value_of(field, content, field == 'given' and case.hex)}")
+    return " ".join(words)
 
 
-Told = collections.namedtuple("Told", "met answer streams")
+# What is told: growths, the answer or the exit status, the bytes of the other words in their order, the datagrams that
+# were sent, and what else is counted.
+Told = collections.namedtuple("Told", "met answer streams sent counts", defaults=((), ()))
+COUNTS = ("left", "asked")
 
 
-def told_of(case, line):
-    met, _, rest = line.partition(" ")
-    count = STREAMS_OF.get(case.engine, 0)
-    answer, *streams = rest.rsplit(" ", count) if count else [rest]
-    return Told(int(met) if met.isdigit() else -1, answer, [octets(each) for each in streams])
+def told_of(line):
+    words = dict(WORD.findall(line))
+    met, answer = words.pop("growths", "-1"), words.pop("answer", None)
+    answer = unquoted(answer).decode() if answer else words.pop("status", line)
+    sent = [octets(each) for each in words.pop("sent", "").split(",")][: int(words.pop("count", 0))]
+    counts = [int(words.pop(each)) for each in COUNTS if each in words]
+    streams = [unquoted(each) if each[:1] == '"' else octets(each) for each in words.values()]
+    return Told(int(met), answer, streams, sent, counts)
 
 
-def run(cases, stack=None, room=None, **variables):
-    """What is told of each case, in one run of the program, in so many KiB of stack, and of addresses."""
+def run(cases, stack=None, room=None, seconds=None, **variables):
+    """What is told of each case, in one run of the program, in so many KiB of stack and of addresses, and so many
+    processor seconds."""
     given = "".join(line_of(case) + "\n" for case in cases).encode()
-    limits = "".join(f"ulimit -{flag} {size}; " for flag, size in (("s", stack), ("v", room)) if size)
+    limits = "".join(f"ulimit -{flag} {size}; " for flag, size in (("s", stack), ("v", room), ("t", seconds)) if size)
     words = ["sh", "-c", f"{limits}exec '{PROGRAM}'"]
     ended = subprocess.run(words, input=given, capture_output=True, env={**os.environ, **variables}, timeout=600)
     lines = ended.stdout.decode().split("\n")[:-1]
-    lines += [f"ended with {ended.returncode}" + " " * 4] * (len(cases) - len(lines))
-    return [told_of(case, line) for case, line in zip(cases, lines)]
+    lines += [f"ended with {ended.returncode}"] * (len(cases) - len(lines))
+    return [told_of(line) for line in lines]
 
 
-def judged(name, rows, stack=None, room=None, **variables):
+def judged(name, rows, stack=None, room=None, seconds=None, **variables):
     """Runs pairs of a case and a judge, and says whether all are well."""
     rows = list(rows)
     bad = []
-    for (case, is_well), told in zip(rows, run([case for case, _ in rows], stack, room, **variables)):
+    for (case, is_well), told in zip(rows, run([case for case, _ in rows], stack, room, seconds, **variables)):
         if not is_well(told):
             bad.append((line_of(case)[:600], str(told)[:600]))
     print(f"{name}: {len(rows)} runs, {len(bad)} wrong answers", *bad[:3], flush=True)

@@ -1,15 +1,9 @@
 """Connections and datagrams that are answered one after another, and a registry that is asked for its rows by datagram,
 by all that is told of each: the lines that are printed, and what goes out."""
 import itertools
-import re
 
 from rows.service import ASKING, CLIENTS, DATAGRAMS, ENDINGS, MOST_ROWS, NOTHING
 from rows.shared import BY_RECORD, Case, GETPORT, NULL, REPLY, SET, call, marked, octets, word
-
-
-def parts(each):
-    """Each behind its length."""
-    return b"".join(word(len(part)) + part for part in each)
 
 
 def lines_of(count):
@@ -19,13 +13,14 @@ def lines_of(count):
 
 def client_cases():
     """Connections one after another, of at most 24 bytes a read."""
-    sent = [bytes([failing]) + octets(digits) for digits, failing, *_ in CLIENTS]
-    taken = parts(octets(digits) for _, _, digits, _ in CLIENTS)
+    sent, fails = ([row[place] for row in CLIENTS] for place in (0, 1))
+    taken = [octets(digits) for _, _, digits, _ in CLIENTS]
     for come, count, failing, status, printed, said, left in ENDINGS:
         lines = b"" if printed is None else lines_of(printed)
-        wanted = str(status), [parts(sent[come - left : come]), lines, said]
-        case = Case("connections", (24, 0), (512, failing), setting=count, given=parts(sent[:come]), before=taken)
-        yield case, lambda told, wanted=wanted: (told.answer, told.streams) == wanted
+        wanted = str(status), [left], [lines, said]
+        keys = {"clients": [*map(octets, sent[:come])] or None, "clients_read_fails": fails[:come], "replies": taken}
+        case = Case("serve_on", (24, 0), (512, failing), count=count, **keys)
+        yield case, lambda told, wanted=wanted: (told.answer, told.counts, told.streams) == wanted
 
 
 def longest_cases():
@@ -34,21 +29,23 @@ def longest_cases():
     given = marked(octets(REPLY + "00000000") + rows + word(0))
     lines = b"program vers prot port\n" + b"100000 2 6 111\n" * MOST_ROWS
     wanted = "0", [marked(call(2, 4, "")), lines, b""]
-    yield Case("info", setting=2, given=given), lambda told: (told.answer, told.streams) == wanted
+    yield Case("info_over", version=2, given=given), lambda told: (told.answer, told.streams) == wanted
 
 
 def sends(status, sent, lines, said):
     """Whether it ends with the status, these datagrams are sent, and this is printed and said."""
-    wanted = f"({status}, {[len(each) for each in sent]})", [b"".join(sent), lines, said]
-    return lambda told: (told.answer, told.streams) == wanted
+    wanted = str(status), sent, [lines, said]
+    return lambda told: (told.answer, told.sent, told.streams) == wanted
 
 
 def datagram_cases():
     for come, count, call_failing, write_failing, status, lines, said, sent in DATAGRAMS:
-        case = Case("datagrams", (4096, call_failing), (64, write_failing), setting=count, given=parts(come))
+        keys = {"port_fails": call_failing, "count": count, "datagrams": come or None}
+        case = Case("datagrams_on", writes=(64, write_failing), **keys)
         yield case, sends(status, sent, lines, said)
     for come, vers, call_failing, write_failing, status, lines, said, is_sent in ASKING:
-        case = Case("asking", (4096, call_failing), (64, write_failing), setting=vers, given=parts(come))
+        keys = {"port_fails": call_failing, "version": vers, "datagrams": come or None}
+        case = Case("info_datagram", writes=(64, write_failing), **keys)
         yield case, sends(status, [call(vers, 4, "")] * is_sent, lines, said)
 
 
@@ -59,15 +56,10 @@ def service_cases():
 
 def port_rows():
     """The null call, and those in which nothing fails and each datagram is answered: their growths are refused."""
-    yield Case("datagrams", setting=1, given=parts([NULL])), sends(0, [NOTHING], b"datagram 1: reply\n", b"")
+    yield Case("datagrams_on", count=1, datagrams=[NULL]), sends(0, [NOTHING], b"datagram 1: reply\n", b"")
     for case, is_well in datagram_cases():
-        if case.reads[1] == case.writes[1] == 0 and case.given[:4] not in (b"", word(0)):
+        if case.port_fails == case.writes[1] == 0 and case.datagrams and case.datagrams[0]:
             yield case, is_well
-
-
-def in_sizes(sizes, bytes_of):
-    ends = [0, *itertools.accumulate(sizes)]
-    return [bytes_of[begin:end] for begin, end in zip(ends, ends[1:])]
 
 
 def missed_in(records, sent):
@@ -87,22 +79,20 @@ def missed_in(records, sent):
 def answers_so(told, whole, case, records):
     """Whether a growth that is refused makes a reply SYSTEM_ERR, or its line the first that is missing, and both where
     the later ones are refused too; no reply but SYSTEM_ERR and no line where none is granted."""
-    status, sizes = re.fullmatch(r"\((\d), \[(.*)\]\)", told.answer).groups()
-    sent = in_sizes([int(size) for size in sizes.split(", ") if size], told.streams[0])
-    missed, lines = missed_in(records, sent), whole.streams[1].splitlines(keepends=True)
-    ending = status, *told.streams[1:]
+    sent = told.sent
+    missed, lines = missed_in(records, sent), whole.streams[0].splitlines(keepends=True)
+    ending = told.answer, *told.streams
     cut = "4", b"".join(lines[: len(sent) - 1]), b"out of memory\n"
     if missed is None or len(sent) > len(records):
         return False
-    if not case.refused.endswith(".."):
-        return ending == (("0", whole.streams[1], b"") if missed else cut) and len(missed) <= 1
-    return ending == cut and missed in ([], sent[-1:]) and (case.refused != "1.." or missed == sent)
+    if not case.refuse.endswith(".."):
+        return ending == (("0", whole.streams[0], b"") if missed else cut) and len(missed) <= 1
+    return ending == cut and missed in ([], sent[-1:]) and (case.refuse != "1.." or missed == sent)
 
 
 def port_wants_memory(told, whole, case):
     """The same of the datagrams that come in a case, and that a registry that is asked tells want of memory."""
-    if case.engine == "datagrams":
-        return answers_so(told, whole, case, [each for each in (SET, GETPORT, NULL) if each in case.given])
-    sent, printed, said = told.streams
-    is_told = told.answer.startswith("(4, ") and (printed, said) == (b"", b"out of memory\n")
-    return is_told and sent in (b"", whole.streams[0])
+    if case.call == "datagrams_on":
+        return answers_so(told, whole, case, [each for each in (SET, GETPORT, NULL) if each in case.datagrams])
+    is_told = (told.answer, *told.streams) == ("4", b"", b"out of memory\n")
+    return is_told and told.sent in ([], whole.sent)

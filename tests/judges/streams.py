@@ -1,4 +1,8 @@
-"""Records, calls and connections over devices that fail, and inputs that end, judged by the definitions."""
+"""Records, calls and connections over devices that fail, and inputs that end, judged by the definitions.
+
+`records_in` is a second implementation, of the records of a stream (RFC 5531 section 11). The replies to them are a
+table, `BY_RECORD`; what else stands here compares.
+"""
 import collections
 import itertools
 
@@ -30,14 +34,14 @@ def records_in(stream, limit):
         head = int.from_bytes(stream[at : at + 4], "big")
         size = head & 0x7FFFFFFF
         if len(content) + size > limit:
-            return found, f"TooLong {{ at: {at} }}"
+            return found, f"TooLong at {at}"
         if at + 4 + size > len(stream):
-            return found, f"Truncated {{ at: {len(stream)} }}"
+            return found, f"Truncated at {len(stream)}"
         content, begun, at = content + stream[at + 4 : at + 4 + size], True, at + 4 + size
         if head >> 31:
             found.append((at, content))
             content, begun = b"", False
-    return found, f"Truncated {{ at: {len(stream)} }}" if begun or at < len(stream) else None
+    return found, f"Truncated at {len(stream)}" if begun or at < len(stream) else None
 
 
 def normal_form(found):
@@ -82,7 +86,7 @@ def is_cut_well(told, written, whole, chunks, writes, is_exact=True):
         begun = ends[-1]
         ends += [begun + min(at + piece, len(chunk)) for at in range(0, len(chunk), piece)]
     count = len(written)
-    is_cut = told == f"Err(Write {{ written: {count} }})" and output.startswith(written) and count < len(output)
+    is_cut = told == f"write fault after {count}" and output.startswith(written) and count < len(output)
     is_whole = told == whole and written == output
     if is_exact:
         return is_cut and count == ends[failing - 1] if 0 < failing < len(ends) else is_whole
@@ -113,8 +117,8 @@ def normalised(limit, given, reads, writes):
     chunks = collections.defaultdict(bytes)
     for end, content in found:
         chunks[(end - 1) // min(reads[0], 4096)] += marked(content)
-    count = f"Ok(Count {{ records: {len(found)}, bytes: {len(normal_form(found))} }})"
-    whole = "Err(Read)" if has_failed else f"Err({why})" if why else count
+    count = f"{len(found)} records, {len(normal_form(found))} bytes"
+    whole = "read fault" if has_failed else f"refused {why}" if why else count
     return lambda told: is_cut_well(told.answer, told.streams[0], whole, [*chunks.values()], writes)
 
 
@@ -122,17 +126,17 @@ def normalise_cases():
     for limit, digits in STREAMS:
         whole = octets(digits)
         for given, reads, writes in failures(whole, normal_form(records_in(whole, limit)[0])):
-            yield Case("normalise", reads, writes, setting=limit, given=given), normalised(limit, given, reads, writes)
+            yield Case("normalise", reads, writes, limit=limit, given=given), normalised(limit, given, reads, writes)
 
 
 def handed_out(limit, given):
     """What is answered to the input and its end, and then to a byte more, the first of a header, and to the end."""
     found, why = records_in(given, limit)
     kept = b"".join(word(len(content)) + content for _, content in found)
-    late = f"Err({why})"
-    fed = late if "TooLong" in (why or "") else "Ok(())"
-    cut = f"Err(Truncated {{ at: {len(given) + 1} }})"
-    wanted = f"({fed}, {late}, {late}, {late})" if why else f"(Ok(()), Ok(()), Ok(More), {cut})"
+    late = f"refused {why}"
+    fed = late if "TooLong" in (why or "") else "ok"
+    cut = f"refused Truncated at {len(given) + 1}"
+    wanted = f"{fed}; {late}; {late}; {late}" if why else f"ok; ok; more; {cut}"
     return lambda told: told.answer == wanted and told.streams == [kept]
 
 
@@ -140,7 +144,7 @@ def reader_cases():
     for limit, digits in STREAMS:
         for given in ended(octets(digits)):
             for piece in PIECES:
-                yield Case("reader", (piece, 0), setting=limit, given=given), handed_out(limit, given)
+                yield Case("RecordReader", (piece, 0), limit=limit, given=given), handed_out(limit, given)
 
 
 def served(given, reads, writes):
@@ -149,13 +153,13 @@ def served(given, reads, writes):
     replies, rows = replies_to(found)
     parts = [marked(each) if each else b"" for each in replies]
     sent = sum(each is not None for each in replies)
-    count = f"Ok(Served {{ records: {len(found)}, replies: {sent} }})"
-    whole = "Err(Read)" if has_failed else f"Err(Record({why}))" if why else count
+    count = f"{len(found)} records, {sent} replies"
+    whole = "read fault" if has_failed else f"refused {why}" if why else count
 
     def is_well(told):
         written, after = told.streams
         ends = list(itertools.accumulate(map(len, parts)))
-        at_work = [n for n, end in enumerate(ends) if len(written) < end] if "Write" in told.answer else []
+        at_work = [n for n, end in enumerate(ends) if len(written) < end] if "write" in told.answer else []
         made = at_work[0] + 1 if at_work else len(found)
         has_row = bool(made) and rows[made - 1]
         return is_cut_well(told.answer, written, whole, parts, writes) and after == told_after(has_row)
@@ -180,8 +184,8 @@ def is_first_whole(limit):
 def exchanged(given, told_whole, reads, writes):
     seen, has_failed = seen_by(given, reads, is_first_whole(WIDEST))
     is_whole = is_first_whole(WIDEST)(seen)
-    cut = f"Err(Record(Truncated {{ at: {len(seen)} }}))"
-    whole = told_whole if is_whole else "Err(Read)" if has_failed else cut
+    cut = f"refused Truncated at {len(seen)}"
+    whole = told_whole if is_whole else "read fault" if has_failed else cut
     return lambda told: is_cut_well(told.answer, told.streams[0], whole, [marked(NULL)], writes)
 
 
@@ -220,8 +224,8 @@ def asked_of(given, status, printed, reads, writes, sends):
 def info_cases():
     for stream, status, printed in ASKED:
         for given, reads, writes in failures(stream, printed):
-            case = Case("info", reads, writes, setting=4, given=given)
+            case = Case("info_over", reads, writes, version=4, given=given)
             yield case, asked_of(given, status, printed, reads, writes, False)
         for _, _, writes in failures(b"", marked(call(4, 4, ""))):
-            case = Case("info", (4096, 0), writes, setting=12, given=stream)
+            case = Case("info_over", writes=(writes[0], 0), version=4, call_write_fails=writes[1], given=stream)
             yield case, asked_of(stream, status, printed, (4096, 0), writes, True)

@@ -1,6 +1,9 @@
-"""Values over devices that fail, inputs that end and every cutting, judged by the outcome of their bytes."""
+"""Values over devices that fail, inputs that end and every cutting, judged by the outcome of their bytes.
+
+`outcome_line` is a second implementation, of the outcome of a row's bytes and of their beginnings (RFC 4506): a row
+says after how many bytes its value or its refusal stands. What else stands here compares.
+"""
 import itertools
-import re
 
 from rows.shared import Case, PENDING, PIECES, REFUSED, Refused, STREAMS, WHOLE, WIDEST, octets, word
 
@@ -20,7 +23,7 @@ def outcome_line(row, seen):
 
 def typed(row):
     limits = {"bytes": getattr(row, "bytes", WIDEST), "depth": getattr(row, "depth", 4096)}
-    return {"name": row.name, "text": row.text, **limits}
+    return {"kind": row.name, "text": row.text, **limits}
 
 
 def value_ending(row, shows, seen, has_failed):
@@ -42,15 +45,20 @@ def checked(row, given, shows, in_hex, reads, writes):
     return lambda told: any(is_printed_well(told, *ending, writes) for ending in endings)
 
 
+def value_task(shows, in_hex, given, kind, reads=(4096, 0), writes=(4096, 0)):
+    """A task of a value of a kind of the text `a.x`."""
+    return Case("Task::Show" if shows else "Task::Check", reads, writes, hex=in_hex, given=given, types="a.x", **kind)
+
+
 def value_cases():
-    for row, shows, in_hex in itertools.product(WHOLE + REFUSED, (0, 1), (0, 4)):
+    for row, shows, in_hex in itertools.product(WHOLE + REFUSED, (False, True), (False, True)):
         whole = octets(row.digits)
         text = whole.hex().encode() if in_hex else whole
         _, printed, _ = value_ending(row, shows, whole, False)
         for given, reads, writes in failures(text, printed):
             if in_hex and len(given) % 2:
                 continue
-            case = Case("task", reads, writes, setting=shows + in_hex, given=given, **typed(row))
+            case = value_task(shows, in_hex, given, typed(row), reads, writes)
             yield case, checked(row, octets(given.decode()) if in_hex else given, shows, in_hex, reads, writes)
 
 
@@ -59,81 +67,78 @@ def records_over(limit, given, in_hex, reads, writes):
     seen, has_failed = seen_by(text, reads, (lambda seen: False) if in_hex else is_too_long(limit))
     found, why = records_in(given if in_hex else seen, limit)
     output = normal_form(found).hex().encode() + b"\n" if in_hex else normal_form(found)
-    said = b"refused %s\n" % re.sub(r" \{ at: (\d+) \}", r" at \1", why).encode() if why else b""
+    said = b"refused %s\n" % why.encode() if why else b""
     if has_failed:
         return lambda told: is_printed_well(told, 3, b"" if in_hex else output, b"read fault\n", writes)
     return lambda told: is_printed_well(told, 1 if why else 0, output, said, writes)
 
 
 def records_cases():
-    for (limit, digits), in_hex in itertools.product(STREAMS, (0, 4)):
+    for (limit, digits), in_hex in itertools.product(STREAMS, (False, True)):
         whole = octets(digits)
         text = whole.hex().encode() if in_hex else whole
         output = normal_form(records_in(whole, limit)[0])
         for given, reads, writes in failures(text, output.hex() + "\n" if in_hex else output):
             if in_hex and len(given) % 2:
                 continue
-            case = Case("task", reads, writes, setting=2 + in_hex + 8 * limit, given=given)
+            case = Case("Task::Records", reads, writes, hex=in_hex, limit=limit, given=given)
             yield case, records_over(limit, octets(given.decode()) if in_hex else given, in_hex, reads, writes)
 
 
 def written_to(row, writes):
     output = octets(row.digits)[: row.used]
-    well = f"Ok({len(output)})"
-
-    def is_well(told):
-        answer = told.answer.replace("Err(WriteFault {", "Err(Write {")
-        return is_cut_well(answer, told.streams[0], well, [output], writes, False)
-
-    return is_well
+    well = f"ok {len(output)}"
+    return lambda told: is_cut_well(told.answer, told.streams[0], well, [output], writes, False)
 
 
 def encode_cases():
     for row in WHOLE:
         for _, _, writes in failures(b"", octets(row.digits)[: row.used]):
-            case = Case("encode_to", (4096, 0), writes, name=row.name, text=row.text, given=octets(row.digits))
+            case = Case("encode_to", writes=writes, kind=row.name, text=row.text, given=octets(row.digits))
             yield case, written_to(row, writes)
     # The fourth write of at most 1000 bytes is behind the four of the length and two of the content.
     long = word(10000) + b"".join(map(word, range(2500)))
-    cut = "Err(WriteFault { written: 2004 })", [long[:2004]]
-    case = Case("encode_to", (4096, 0), (1000, 4), name="opaque", given=long)
+    cut = "write fault after 2004", [long[:2004]]
+    case = Case("encode_to", writes=(1000, 4), kind="opaque", given=long)
     yield case, lambda told: (told.answer, told.streams) == cut
 
 
 def fault_of(why, at):
-    return f"Err(DecodeFault {{ why: {why}, at: {at} }})"
+    return f"refused {why} at {at}"
 
 
 def cut_well(given, cuts, whole, refused):
-    """What a decoder and a checker answer to each of three pieces and to the end, where the bytes begin with a whole
-    row's value, are refused as a row is, or neither."""
+    """What a decoder and a checker answer to each of three pieces and to the end, and the value's lines, where the
+    bytes begin with a whole row's value, are refused as a row is, or neither."""
     answers, before = [], 0
-    end, count = (fault_of("Truncated", len(given)),) * 2
+    end, count, lines = *(fault_of("Truncated", len(given)),) * 2, b""
     for place in (*cuts, len(given)):
         if refused and place >= refused.stands:
             answers.append(fault_of(refused.why, refused.at))
             end, count = (answers[-1],) * 2
         elif whole and place >= whole.used:
-            answers.append(f"Ok(Done {{ used: {max(whole.used - before, 0)} }})")
-            end, count = f"Ok({whole.value})", f"Ok({whole.used})"
+            answers.append(f"done {max(whole.used - before, 0)}")
+            end, count, lines = "ok", f"ok {whole.used}", whole.lines
         else:
-            answers.append("Ok(More)")
+            answers.append("more")
         before = place
-    told = f"({', '.join(answers)})"
-    return f"({told}, {told}, {end}, {count})"
+    answers = [answer for answer in answers for _ in range(2)]
+    return "; ".join([*answers, end, count]), [lines]
+
+
+def cut(cuts, given, kind):
+    return Case("Decoder::feed", first=cuts[0], second=cuts[1], given=given, **kind)
 
 
 def cutting_cases():
     rows = [(row.digits, typed(row), row, None) for row in WHOLE if len(row.digits) < 60]
     rows += [(row.digits, typed(row), None, row) for row in REFUSED]
-    rows += [(digits, {"text": text, "name": name}, None, None) for text, name, digits, _ in PENDING]
+    rows += [(digits, {"text": text, "kind": name}, None, None) for text, name, digits, _ in PENDING]
     for digits, kind, whole, refused in rows:
         given = octets(digits)
         for cuts in itertools.combinations_with_replacement(range(len(given) + 1), 2):
             wanted = cut_well(given, cuts, whole, refused)
-            yield Case(
-                "cut", (cuts[0], cuts[1]), given=given, **kind
-            ), lambda told, wanted=wanted: told.answer == wanted
+            yield cut(cuts, given, kind), lambda told, wanted=wanted: (told.answer, told.streams) == wanted
 
 
 def fed(row, given, piece, is_counted):
@@ -142,18 +147,19 @@ def fed(row, given, piece, is_counted):
     stands = row.stands if isinstance(row, Refused) else row.used
     pieces = -(-stands // piece)
     if len(given) < stands:
-        pieces, answer, again = -(-len(given) // piece), "Ok(More)", "Ok(More)"
-        end = fault_of("Truncated", len(given))
+        pieces, answer, again = -(-len(given) // piece), "more", "more"
+        end, lines = fault_of("Truncated", len(given)), b""
     elif isinstance(row, Refused):
         answer = again = end = fault_of(row.why, row.at)
+        lines = b""
     else:
-        answer, again = f"Ok(Done {{ used: {stands - max(pieces - 1, 0) * piece} }})", "Ok(Done { used: 0 })"
-        end = f"Ok({row.used if is_counted else row.value})"
-    wanted = f"(({pieces}, {answer}, {again}), {end}, 0)"
-    return lambda told: told.answer == wanted
+        answer, again = f"done {stands - max(pieces - 1, 0) * piece}", "done 0"
+        end, lines = f"ok {row.used}" if is_counted else "ok", row.lines
+    wanted = f"{pieces} pieces; {answer}; {again}; {end}; 0 growths", [] if is_counted else [lines]
+    return lambda told: (told.answer, told.streams) == wanted
 
 
 def feeding_cases():
     for row, piece in itertools.product(WHOLE + REFUSED, PIECES):
-        for given, engine in itertools.product(ended(octets(row.digits)), ("decoder", "checker")):
-            yield Case(engine, (piece, 0), given=given, **typed(row)), fed(row, given, piece, engine == "checker")
+        for given, engine in itertools.product(ended(octets(row.digits)), ("Decoder", "Checker")):
+            yield Case(engine, (piece, 0), given=given, **typed(row)), fed(row, given, piece, engine == "Checker")

@@ -1,7 +1,6 @@
 """Rows that are run as they stand, by all that is told of each: streams that are served, answers that are printed,
 tasks of the program, and texts of declarations. A row has what the RFCs or the documents want of it."""
 import itertools
-import re
 
 from rows.shared import AT_9, Case, LIST, NULL, PIECES, call, marked, octets, reply, word
 from rows.written import (
@@ -9,7 +8,6 @@ from rows.written import (
     BYTES,
     CHECK,
     DEPTHS,
-    HEX,
     NESTED,
     READS,
     RECORDS,
@@ -30,20 +28,20 @@ def served_cases():
     for rows, piece in itertools.product(SERVED_SO, PIECES):
         given = b"".join(marked(record) for record, _ in rows)
         sent = b"".join(marked(reply) for _, reply in rows)
-        wanted = f"Ok(Served {{ records: {len(rows)}, replies: {len(rows)} }})", sent
+        wanted = f"{len(rows)} records, {len(rows)} replies", sent
         case = Case("serve", (piece, 0), given=given)
         yield case, lambda told, wanted=wanted: (told.answer, told.streams[0]) == wanted
     # A record has at most 65536 bytes; behind the arguments of the null call any bytes are ignored.
     for count, wanted in (
-        (65536, ("Ok(Served { records: 1, replies: 1 })", marked(reply("00000000")))),
-        (65537, ("Err(Record(TooLong { at: 0 }))", b"")),
+        (65536, ("1 records, 1 replies", marked(reply("00000000")))),
+        (65537, ("refused TooLong at 0", b"")),
     ):
         case = Case("serve", given=marked(NULL.ljust(count, b"\xff")))
         yield case, lambda told, wanted=wanted: (told.answer, told.streams[0]) == wanted
     # So have arguments: 36 bytes stand before the owner's.
     for owner, sent in ((65500, "00000000 00000001"), (65504, "00000004")):
         args = f"00000007 00000001 00000003 74637000 {AT_9} {owner:08x}" + "61" * owner
-        wanted = f"Reply({list(reply(sent))})"
+        wanted = f"reply {reply(sent).hex()}"
         yield Case("answer", given=call(3, 1, args)), lambda told, wanted=wanted: told.answer == wanted
 
 
@@ -52,7 +50,7 @@ def asked_cases():
     rows = ANSWERS + [(4, marked(octets(digits)), 1, b"refused %s\n" % why) for digits, why in REFUSED_ANSWERS]
     for (vers, given, status, printed), piece in itertools.product(rows, PIECES):
         wanted = str(status), [marked(call(vers, 4, "")), printed, b""]
-        case = Case("info", (piece, 0), (piece, 0), setting=vers, given=given)
+        case = Case("info_over", (piece, 0), (piece, 0), version=vers, given=given)
         yield case, lambda told, wanted=wanted: (told.answer, told.streams) == wanted
 
 
@@ -64,33 +62,34 @@ def bodies(depth):
 def task_rows():
     """Tasks, each with its status, what it prints and what it says of faults."""
     for (task, text, name, given, status, printed), piece in itertools.product(VALUES, PIECES):
-        case = Case("task", (piece, 0), (piece, 0), setting=task + HEX, name=name, text=text, given=given)
+        case = Case(task, (piece, 0), (piece, 0), hex=True, kind=name, types="a.x", text=text, given=given)
         yield case, status, printed, b""
-    limited = Case("task", setting=HEX, name="opaque", given=b"00000008 61616161", bytes=8)
+    limited = Case(CHECK, hex=True, kind="opaque", types="a.x", given=b"00000008 61616161", bytes=8)
     yield limited, 1, b"refused TooLarge at 8\n", b""
     for task, name, byte, count, line in (
         (CHECK, "opaque", b" ", 1048576, b"refused Truncated at 0\n"),
         (CHECK, "opaque", b"x", 1048577, b"refused hex too long\n"),
         (SHOW, "string", b" ", 1048577, b"refused hex too long\n"),
     ):
-        yield Case("task", setting=task + HEX, name=name, given=byte * count), 1, line, b""
+        yield Case(task, hex=True, kind=name, types="a.x", given=byte * count), 1, line, b""
     for text, fault in TEXTS:
-        case = Case("task", (4096, 1), (4096, 1), setting=HEX, name="nosuchkind", text=text, bytes=6)
+        case = Case(CHECK, (4096, 1), (4096, 1), hex=True, kind="nosuchkind", types="a.x", text=text, bytes=6)
         yield case, 2, b"", b"declaration refused: %s\n" % fault
     for (limit, in_hex, given, *ending), piece in itertools.product(STREAMS, PIECES):
-        yield Case("task", (piece, 0), (piece, 0), setting=RECORDS + in_hex + 8 * limit, given=given), *ending
+        yield Case(RECORDS, (piece, 0), (piece, 0), hex=in_hex, limit=limit, given=given), *ending
     for name, given, piece, failing, *ending in STOPS:
-        yield Case("task", (piece, failing), setting=CHECK, name=name, given=given), *ending
+        yield Case(CHECK, (piece, failing), kind=name, types="a.x", given=given), *ending
     for most, failing, *ending in BYTES:
         given = b"\0\0\0\x04abcd\0\0\0\0"
-        yield Case("task", (1, failing), setting=CHECK, name="opaque", given=given, bytes=most), *ending
+        yield Case(CHECK, (1, failing), kind="opaque", types="a.x", given=given, bytes=most), *ending
     for count, depth, status, line in DEPTHS:
         given = (word(1) + word(0)) * count + word(0)
-        yield Case("task", setting=CHECK, name="list", text=LIST, given=given, depth=depth), status, line, b""
+        case = Case(CHECK, kind="list", types="a.x", text=LIST, given=given, depth=depth)
+        yield case, status, line, b""
     for depth, *ending in ((32, 0, b"ok 4\n", b""), (33, 2, b"", b"declaration refused: 12 at 1:298\n")):
-        yield Case("task", setting=CHECK, name="a", text=bodies(depth), given=bytes(4)), *ending
+        yield Case(CHECK, kind="a", types="a.x", text=bodies(depth), given=bytes(4)), *ending
     for zeros, piece, *ending in READS:
-        case = Case("task", (piece, 0), (piece, 0), setting=RECORDS + 8 * 4, zeros=zeros, given=b"\x80\0\0\0")
+        case = Case(RECORDS, (piece, 0), (piece, 0), limit=4, zeros=zeros, given=b"\x80\0\0\0")
         yield case, *ending
 
 
@@ -104,8 +103,13 @@ def nested(inside, depth):
     return b"typedef " + b"struct { " * depth + inside + b" } x;" * depth
 
 
+def constants_of(told):
+    """The constants that a text declares. The streams of `read` are its kinds, names, constants and programs."""
+    return told.streams[2].decode().split("; ")
+
+
 def is_read(told):
-    return told.answer.startswith("Ok(Declared")
+    return told.answer == "ok"
 
 
 def same_answers():
@@ -113,30 +117,30 @@ def same_answers():
     first = []
 
     def is_same(told):
-        first.append(told.answer)
-        return is_read(told) and told.answer == first[0]
+        first.append(told.streams)
+        return is_read(told) and told.streams == first[0]
 
     return is_same
 
 
 def has_each_number(told):
     """Whether the names n, n1 and so on are declared as constants, each with its number, and all below 10,000."""
-    constants = told.answer.partition("constants: [")[2].partition("]")[0]
-    return re.findall(r'\("n(\d*)", (\d+)\)', constants) == [(str(n or ""), str(n)) for n in range(10000)]
+    wanted = ["TRUE = 1", "FALSE = 0", *(f"n{number or ''} = {number}" for number in range(10000))]
+    return constants_of(told) == wanted
 
 
 def declaration_cases():
     """Texts that are long or nested, and what they declare."""
-    yield Case("declarations", text=b"@" * 262145), refused_text(11, 0, 1, 1)
+    yield Case("read", text=b"@" * 262145), refused_text(11, 0, 1, 1)
     for inside, depth, fault in NESTED:
-        yield Case("declarations", text=nested(inside, depth)), refused_text(*fault) if fault else is_read
+        yield Case("read", text=nested(inside, depth)), refused_text(*fault) if fault else is_read
     # Inside 32 bodies `struct s` is what `s` is, and no body.
     is_same = same_answers()
     for field in (b"struct s y;", b"s y;"):
-        yield Case("declarations", text=nested(field, 32) + b" struct s { int x; };"), is_same
+        yield Case("read", text=nested(field, 32) + b" struct s { int x; };"), is_same
     for name, before, after in (
         (b", n%d = %d", b"enum e { n = 0", b" };"),
         (b"; const n%d = %d", b"const n = 0", b";"),
     ):
         text = before + b"".join(name % (number, number) for number in range(1, 10000)) + after
-        yield Case("declarations", text=text), has_each_number
+        yield Case("read", text=text), has_each_number

@@ -1,6 +1,6 @@
 """Values by each call of the codec and the lines that show them, bytes that are refused, and the parts that are lent of
 bytes (RFC 4506): rows as they stand, in pieces."""
-from .shared import FILE, LIST, MORE, SILLYPROG, WIDEST, content, word
+from .shared import FILE, LIST, MORE, SILLYPROG, WIDEST, word
 
 # Texts of one kind each, and more.
 ALIKE = b"enum alike { a = 5, b = 5 };"
@@ -19,14 +19,14 @@ BOOL_CHOICE = b"union choice switch (bool d) { case FALSE: int x; };"
 FLAG_CHOICE = b"union choice switch (bool d) { case TRUE: int x; default: void; };"
 KIND_CHOICE = FILE + b"union choice switch (filekind kind) { case TEXT: int x; };"
 CHOICES = b"union u switch (int d) { case 1: int x; }; typedef u choices[2];"
-# A text, a kind, all bytes of a value, and the value.
+# A text, a kind, all bytes of a value, and its lines.
 CODED = [
-    (SIX, "six", "61626364 65660000", content(b"abcdef")),
-    (b"", "unsigned-hyper", "ffffffff ffffffff", "UnsignedHyper(18446744073709551615)"),
-    (ALIKE, "alike", "00000005", "Numbered(5)"),
-    (b"", "void", "", "Nothing"),
-    (PAIR, "pair", "ffffffff 7fffffff", "List([Int(-1), Int(2147483647)])"),
-    (VOID_CHOICE, "choice", "00000001", "Choice { tag: 1, part: Nothing }"),
+    (SIX, "six", "61626364 65660000", b"0x616263646566\n"),
+    (b"", "unsigned-hyper", "ffffffff ffffffff", b"18446744073709551615\n"),
+    (ALIKE, "alike", "00000005", b"a = 5\n"),
+    (b"", "void", "", b"void\n"),
+    (PAIR, "pair", "ffffffff 7fffffff", b"array of 2\n  -1\n  2147483647\n"),
+    (VOID_CHOICE, "choice", "00000001", b"case 1\n  void\n"),
 ]
 # A text, a kind, bytes, the reason of their refusal and its place.
 WIDE = [
@@ -191,6 +191,6 @@ LENT = [
 ]
 # The numbers below 524288, a unit each, as content of two mebibytes; and those below 100,000 as items.
 UNITS = b"".join(map(word, range(524288)))
-CONTENT, CONTENT_VALUE = word(2097152) + UNITS, content(UNITS)
+CONTENT, CONTENT_LINES = word(2097152) + UNITS, b"0x%s\n" % UNITS.hex().encode()
 ITEMS = word(100000) + UNITS[:400000]
-ITEMS_VALUE = "List([" + ", ".join(f"Int({number})" for number in range(100000)) + "])"
+ITEMS_LINES = b"list of 100000\n" + b"".join(b"  %d\n" % number for number in range(100000))

@@ -259,17 +259,16 @@ TAKING = [
 
 
 def structure(**fields):
-    members = [f'Member {{ name: "{name}", kind: KindId {{ place: {place} }} }}' for name, place in fields.items()]
-    return f"Structure {{ fields: [{', '.join(members)}] }}"
+    return f"struct ({'; '.join(f'{place} {name}' for name, place in fields.items())})"
 
 
 def maybe(place):
-    return f"Maybe {{ item: KindId {{ place: {place} }} }}"
+    return f"optional {place}"
 
 
 # The kinds after the basic ones, which end at place 7, and the places of names: RFC 1833 section 2.1 has the strings of
 # `rpcb`, `rpcb` and `rp__list`, section 3.1 `mapping` and `pm__list`.
-TEXT = "Text { max: 4294967295 }"
+TEXT = "string<4294967295>"
 KINDS = [
     TEXT,
     TEXT,
@@ -285,4 +284,3 @@ KINDS = [
 ]
 NAMES = {"int": 0, "string": 7, "rpcb": 11, "rp__list": 13, "rpcblist": 14}
 NAMES.update({"mapping": 15, "pm__list": 17, "pmaplist": 18})
-BASIC = 8

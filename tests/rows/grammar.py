@@ -3,18 +3,18 @@
 # A text and its tokens, each with the count of bytes from it to the end.
 TEXT = b"const A_1 = 0x1F; /* * / */ -5 007<Const>\t18446744073709551615/**/-9223372036854775808"
 TOKENS = [
-    "Word(Const, 86)",
-    'Name("A_1", 80)',
-    "Sign(Equal, 76)",
-    "Number(31, 74)",
-    "Sign(Semicolon, 70)",
-    "Number(-5, 58)",
-    "Number(7, 55)",
-    "Sign(Less, 52)",
-    'Name("Const", 51)',
-    "Sign(Greater, 46)",
-    "Number(18446744073709551615, 44)",
-    "Number(-9223372036854775808, 20)",
+    "word Const 86",
+    "name A_1 80",
+    "mark Equal 76",
+    "number 31 74",
+    "mark Semicolon 70",
+    "number -5 58",
+    "number 7 55",
+    "mark Less 52",
+    "name Const 51",
+    "mark Greater 46",
+    "number 18446744073709551615 44",
+    "number -9223372036854775808 20",
 ]
 # Texts that have none, and the count of bytes from the refused one to the end: constants that are no numbers, and
 # characters that begin no token.

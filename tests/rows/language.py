@@ -68,67 +68,54 @@ const PING_VERS = 2;"""
 PROGRAMS = b"""program P { version V { void N(void) = 0; } = 1; } = 7;
 program Q { version V { bool N(hyper, opaque_5) = 0; } = 2; } = 7; typedef opaque opaque_5[5];"""
 # The basic kinds in the order of their places, the names of all but void, and the constants without a text.
-BASIC_KINDS = ["Int", "Unsigned", "Hyper", "UnsignedHyper", "Bool", "Nothing"]
-BASIC_KINDS += ["OpaqueUpTo { max: 4294967295 }", "Text { max: 4294967295 }"]
+BASIC_KINDS = ["int", "unsigned int", "hyper", "unsigned hyper", "bool", "void"]
+BASIC_KINDS += ["opaque<4294967295>", "string<4294967295>"]
 BASIC_NAMES = [("int", 0), ("unsigned", 1), ("hyper", 2), ("unsigned-hyper", 3), ("bool", 4), ("opaque", 6)]
 BASIC_NAMES += [("string", 7)]
 BASIC_CONSTANTS = [("TRUE", 1), ("FALSE", 0)]
 
 
-def kind(place):
-    return f"KindId {{ place: {place} }}"
-
-
-def member(name, place):
-    return f'Member {{ name: "{name}", kind: {kind(place)} }}'
-
-
+# Kinds as they are told: in the words of the language, with the places of the kinds that they name.
 def text_up_to(most):
-    return f"Text {{ max: {most} }}"
+    return f"string<{most}>"
 
 
 def optional(place):
-    return f"Maybe {{ item: {kind(place)} }}"
+    return f"optional {place}"
 
 
 def structure(*fields):
-    return f"Structure {{ fields: [{', '.join(member(*field) for field in fields)}] }}"
-
-
-def pairs(rows):
-    return "[" + ", ".join(f'("{name}", {value})' for name, value in rows) + "]"
+    return f"struct ({'; '.join(f'{place} {name}' for name, place in fields)})"
 
 
 def union(over, *arms):
     """A union without a default, whose arms have a case, a name and a kind each."""
-    told = ", ".join(f"Arm {{ cases: [{case}], member: {member(*arm)} }}" for case, *arm in arms)
-    return f"Choice {{ tag: {kind(over)}, arms: [{told}], other: None }}"
+    told = "; ".join(f"case {case}: {place} {name}" for case, name, place in arms)
+    return f"union {over} ({told})"
 
 
 LIST_KINDS = [text_up_to(4294967295), optional(10), structure(("item", 8), ("next", 9)), optional(10)]
 FILE_KINDS = [
-    f"Numbered {{ members: {pairs([('TEXT', 0), ('DATA', 1), ('EXEC', 2)])} }}",
+    "enum (TEXT = 0; DATA = 1; EXEC = 2)",
     text_up_to(255),
     text_up_to(255),
     union(8, (0, "", 5), (1, "creator", 9), (2, "interpretor", 10)),
     text_up_to(255),
     text_up_to(32),
-    "OpaqueUpTo { max: 65535 }",
+    "opaque<65535>",
     structure(("filename", 12), ("type", 11), ("owner", 13), ("data", 14)),
 ]
 FILE_NAMES = [("filekind", 8), ("filetype", 11), ("file", 15)]
 FILE_CONSTANTS = [("MAXUSERNAME", 32), ("MAXFILELEN", 65535), ("MAXNAMELEN", 255)]
 FILE_CONSTANTS += [("TEXT", 0), ("DATA", 1), ("EXEC", 2)]
-PING_NULL = 'Procedure { name: "NIL", number: 0, arguments: [], result: None }'
-PING_ECHO = f'Procedure {{ name: "ECHO", number: 1, arguments: [{kind(7)}], result: Some({kind(7)}) }}'
-PING_ONE = f'Version {{ name: "ONE", number: 1, procedures: [{PING_NULL}, {PING_ECHO}] }}'
+PING_TOLD = "\nprogram PING = 536870912 { version ONE = 1 { void NIL() = 0; 7 ECHO(7) = 1; } }"
 # A text, and the kinds, names, constants and programs that it declares besides the basic ones.
 DECLARED = [
     (b"", [], [], [], ""),
     (LIST, LIST_KINDS, [("entry", 10), ("list", 11)], [], ""),
     (FILE, FILE_KINDS, FILE_NAMES, FILE_CONSTANTS, ""),
     (EXAMPLE, FILE_KINDS, FILE_NAMES, FILE_CONSTANTS, ""),
-    (PING, [], [], [], f'Program {{ name: "PING", number: 536870912, versions: [{PING_ONE}] }}'),
+    (PING, [], [], [], PING_TOLD),
 ]
 # The constants of VALUES.
 NUMBERS = [("A", 31), ("B", 8), ("C", 0), ("D", -9223372036854775808), ("E", 18446744073709551615)]

@@ -1,10 +1,10 @@
 """Messages of RPC worked by hand from RFC 5531: calls, replies and bodies of AUTH_SYS, each read and written again, and
 bytes that are none."""
-from .shared import NO_AUTH, NULL, octets, word
+from .shared import NO_AUTH, NULL, octets
 
 
 def auth(flavor, body):
-    return f"OpaqueAuth {{ flavor: {flavor}, body: {list(body)} }}"
+    return f"{flavor}:{body.hex()}"
 
 
 # The same call of procedure 0 of version 2 of program 100000, up to its credential, and up to its verifier.
@@ -32,40 +32,43 @@ CALLS = [
 # another version or version 2; another version; a credential of 401 bytes, and credentials and a verifier with padding
 # that is not zero. Where more than one case seems to apply, the first in the order of the bytes does.
 NO_CALLS = [
-    ("00000001 00000000 00000002 000186a0 00000002", "NotACall"),
-    ("00000001 00000000 000003", "NotACall"),
-    ("00000001 00000001 00000003", "NotACall"),
-    ("00000001 00000001 00000002 000186a0 00000002 00000000", "NotACall"),
-    ("00000002 00000000 00000003", "OtherVersion { xid: 2, version: 3 }"),
-    ("00000001 00000000 00000002 000186a0 00000002 00000000 00000000 00000191 0000", "BadCred { xid: 1 }"),
-    ("00000001 00000000 00000002 000186a0 00000002 00000000 00000000 00000001 61000001", "BadCred { xid: 1 }"),
+    ("00000001 00000000 00000002 000186a0 00000002", "not a call"),
+    ("00000001 00000000 000003", "not a call"),
+    ("00000001 00000001 00000003", "not a call"),
+    ("00000001 00000001 00000002 000186a0 00000002 00000000", "not a call"),
+    ("00000002 00000000 00000003", "call 2 of version 3 of RPC"),
+    ("00000001 00000000 00000002 000186a0 00000002 00000000 00000000 00000191 0000", "call 1 with a bad credential"),
+    (
+        "00000001 00000000 00000002 000186a0 00000002 00000000 00000000 00000001 61000001",
+        "call 1 with a bad credential",
+    ),
     (
         "00000001 00000000 00000002 000186a0 00000002 00000000 00000000 00000000 00000000 00000001 6100ff00",
-        "BadVerf { xid: 1 }",
+        "call 1 with a bad verifier",
     ),
 ]
 
 
 def accepted(status, verf=NO_AUTH, xid=3):
-    return f"Accepted {{ xid: {xid}, verf: {verf}, status: {status} }}"
+    return f"reply to {xid}, verifier {verf}, {status}"
 
 
 def denied_by(why, xid=1):
-    return f"Denied {{ xid: {xid}, why: {why} }}"
+    return f"denial to {xid}, {why}"
 
 
-ONE = f"Success({list(word(1))})"
-MISMATCH = "ProgMismatch { low: 2, high: 4 }"
+ONE = "SUCCESS 00000001"
+MISMATCH = "PROG_MISMATCH 2 4"
 # The bytes of a reply, and what it is. The last denial has a number that RFC 5531 does not name.
 REPLIES = [
     ("00000003 00000001 00000000 00000000 00000000 00000000 00000001", accepted(ONE)),
-    ("00000003 00000001 00000000 00000000 00000000 00000001", accepted("ProgUnavail")),
+    ("00000003 00000001 00000000 00000000 00000000 00000001", accepted("PROG_UNAVAIL")),
     ("00000003 00000001 00000000 00000000 00000000 00000002 00000002 00000004", accepted(MISMATCH)),
-    ("00000003 00000001 00000000 00000000 00000000 00000003", accepted("ProcUnavail")),
-    ("00000003 00000001 00000000 00000000 00000000 00000004", accepted("GarbageArgs")),
-    ("00000003 00000001 00000000 00000000 00000000 00000005", accepted("SystemErr")),
+    ("00000003 00000001 00000000 00000000 00000000 00000003", accepted("PROC_UNAVAIL")),
+    ("00000003 00000001 00000000 00000000 00000000 00000004", accepted("GARBAGE_ARGS")),
+    ("00000003 00000001 00000000 00000000 00000000 00000005", accepted("SYSTEM_ERR")),
     ("00000003 00000001 00000000 00000002 00000001 61000000 00000000 00000001", accepted(ONE, auth(2, b"a"))),
-    ("00000003 00000001 00000000 00000006 00000001 61000000 00000001", accepted("ProgUnavail", auth(6, b"a"))),
+    ("00000003 00000001 00000000 00000006 00000001 61000000 00000001", accepted("PROG_UNAVAIL", auth(6, b"a"))),
     (
         f"00000003 00000001 00000000 00000002 00000190 {SEVENS} 00000000 00000001",
         accepted(ONE, auth(2, octets(SEVENS))),
@@ -76,12 +79,12 @@ REPLIES = [
     ),
     (
         "00000003 00000001 00000000 00000000 00000000 00000000" + "07" * 65536,
-        accepted(f"Success({[7] * 65536})"),
+        accepted("SUCCESS " + "07" * 65536),
     ),
-    ("00000002 00000001 00000001 00000000 00000002 00000002", denied_by("RpcMismatch { low: 2, high: 2 }", 2)),
-    ("00000001 00000001 00000001 00000001 00000001", denied_by("AuthError(1)")),
-    ("00000001 00000001 00000001 00000001 00000002", denied_by("AuthError(2)")),
-    ("00000001 00000001 00000001 00000001 00000063", denied_by("AuthError(99)")),
+    ("00000002 00000001 00000001 00000000 00000002 00000002", denied_by("RPC_MISMATCH 2 2", 2)),
+    ("00000001 00000001 00000001 00000001 00000001", denied_by("AUTH_ERROR 1")),
+    ("00000001 00000001 00000001 00000001 00000002", denied_by("AUTH_ERROR 2")),
+    ("00000001 00000001 00000001 00000001 00000063", denied_by("AUTH_ERROR 99")),
 ]
 # What is refused, by the first fault in the order of the bytes: they end before any other fault stands in them, where a
 # number that is cut says nothing yet; another message and another status stand before the end, and before bytes that

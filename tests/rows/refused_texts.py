@@ -409,6 +409,15 @@ LEFT_OUT = [
     (b"typedef double identifier;", 4, 0, 1, 9),
     (b"typedef quadruple identifier;", 4, 0, 1, 9),
 ]
+# The first of two places where one could be missed: the second case of an arm, and names behind members without any;
+# and columns, which count bytes, where only a line feed begins a line.
+OTHER_PLACES = [
+    (b"union u switch (int d) { case 1: case N: t x; };", 6, 0, 1, 39),
+    (b"union u switch (int d) { case 1: void; case 2: void; }; typedef t x;", 6, 0, 1, 65),
+    (b"struct s { void; void; }; typedef t x;", 6, 0, 1, 35),
+    (b"/* \xc3\xa9 */ const a = 08;", 2, 0, 1, 20),
+    (b"\x0b\x0c const a = 08;", 2, 0, 1, 14),
+]
 TABLES = [
     STRAY,
     WRONG,
@@ -439,4 +448,5 @@ TABLES = [
     FIRST_OF_WORDS,
     LATER_FAULTS,
     LEFT_OUT,
+    OTHER_PLACES,
 ]

@@ -1,6 +1,17 @@
 """The registry over datagrams, with many rows, and with replies behind bytes that stand there; the rows of these whose
 growths are refused in turn; and calls exchanged for replies over datagrams."""
 from .answers import NOBODY, ROOT, USER_1001, called
+from .names import (
+    PMAPPROC_GETPORT,
+    RPCBPROC_DUMP,
+    RPCBPROC_GETADDR,
+    RPCBPROC_GETVERSADDR,
+    RPCBPROC_NULL,
+    RPCBPROC_SET,
+    RPCBPROC_UNSET,
+    SUCCESS,
+    SYSTEM_ERR,
+)
 from .shared import (
     ASKED_AFTER,
     AT_9,
@@ -21,16 +32,22 @@ from .shared import (
     word,
 )
 
-UDP = 17
-NULL_REPLY, IS_SET, PORT = reply("00000000"), reply("00000000 00000001"), reply("00000000 00000801")
-NO_PORT, SYSTEM_ERR = reply("00000000 00000000"), reply("00000005")
+TCP, UDP = "tcp", "udp"
+NULL_REPLY, IS_SET, PORT = reply(SUCCESS), reply(SUCCESS + "00000001"), reply(SUCCESS + "00000801")
+NO_PORT, FAILED = reply(SUCCESS + "00000000"), reply(SYSTEM_ERR)
 # What is asked over UDP where a port was set over `tcp`, and the reply from its status on: it is found at another
 # version by its transport, and not at the netid of UDP.
 OVER_UDP = [
-    called(NOBODY, 3, 3, "20000000 00000009 00000000 00000000 00000000", "00000000 00000000"),
-    called(NOBODY, 4, 9, "20000000 00000001 00000003 74637000 00000000 00000000", "00000000 00000000"),
-    called(NOBODY, 2, 3, "20000000 00000009 00000006 00000000", "00000000 00000801"),
-    called(NOBODY, 4, 0, "", "00000000"),
+    called(NOBODY, 3, RPCBPROC_GETADDR, "20000000 00000009 00000000 00000000 00000000", SUCCESS + "00000000"),
+    called(
+        NOBODY,
+        4,
+        RPCBPROC_GETVERSADDR,
+        "20000000 00000001 00000003 74637000 00000000 00000000",
+        SUCCESS + "00000000",
+    ),
+    called(NOBODY, 2, PMAPPROC_GETPORT, "20000000 00000009 00000006 00000000", SUCCESS + "00000801"),
+    called(NOBODY, 4, RPCBPROC_NULL, "", SUCCESS),
 ]
 
 
@@ -48,7 +65,7 @@ def key(prog):
 
 def sets(count, address, first=0):
     """Calls from nobody that set so many rows over `tcp` at an address: programs from the first on, in version 1."""
-    calls = [call(4, 1, f"{key(first + each)} {text(address)} 00000000") for each in range(count)]
+    calls = [call(4, RPCBPROC_SET, f"{key(first + each)} {text(address)} 00000000") for each in range(count)]
     return b"".join(map(marked, calls))
 
 
@@ -68,7 +85,8 @@ def dumped(*rows):
 
 # The registry's own rows are removed by the superuser, so that there is none.
 REMOVED = b"".join(
-    marked(called(ROOT, 4, 2, f"000186a0 {vers:08x} 00000000 00000000 00000000", "")[0]) for vers in (2, 3, 4)
+    marked(called(ROOT, 4, RPCBPROC_UNSET, f"000186a0 {vers:08x} 00000000 00000000 00000000", "")[0])
+    for vers in (2, 3, 4)
 )
 LONG = b"a" * 256
 FULL, LONG_FULL = sets(1018, EVERY_HOST), sets(1018, LONG)
@@ -77,37 +95,37 @@ ROWS_225 = rows_of(224, LONG) + rows_of(1, b"a" * 32, 224)
 # others at the longest address; of 306 rows, for which a datagram of 65507 bytes has no room and a record has; and a
 # reply is a multiple of four bytes: 65504 have room in a datagram, and 65508 have none.
 DUMPS = [
-    (FULL, 2, 0, dumped(OWN, ports_of(1018))),
-    (LONG_FULL, 3, 0, dumped(OWN_ROWS, rows_of(1018, LONG))),
-    (LONG_FULL, 4, 0, dumped(OWN_ROWS, rows_of(1018, LONG))),
-    (sets(300, LONG), 4, UDP, SYSTEM_ERR),
-    (sets(300, LONG), 4, 0, dumped(OWN_ROWS, rows_of(300, LONG))),
+    (FULL, 2, TCP, dumped(OWN, ports_of(1018))),
+    (LONG_FULL, 3, TCP, dumped(OWN_ROWS, rows_of(1018, LONG))),
+    (LONG_FULL, 4, TCP, dumped(OWN_ROWS, rows_of(1018, LONG))),
+    (sets(300, LONG), 4, UDP, FAILED),
+    (sets(300, LONG), 4, TCP, dumped(OWN_ROWS, rows_of(300, LONG))),
     (REMOVED + sets(224, LONG) + sets(1, b"a" * 32, 224), 4, UDP, dumped(ROWS_225)),
-    (REMOVED + sets(224, LONG) + sets(1, b"a" * 33, 224), 4, UDP, SYSTEM_ERR),
+    (REMOVED + sets(224, LONG) + sets(1, b"a" * 33, 224), 4, UDP, FAILED),
 ]
 # A row that user 1001 sets in the name of the superuser; all rows without it, and with it.
-SET_7, SET_7_REPLY = called(USER_1001, 3, 1, f"{TCP_7} {AT_9} {OWNER}", "00000000 00000001")
-DUMP_3 = call(3, 4, "")
+SET_7, SET_7_REPLY = called(USER_1001, 3, RPCBPROC_SET, f"{TCP_7} {AT_9} {OWNER}", SUCCESS + "00000001")
+DUMP_3 = call(3, RPCBPROC_DUMP, "")
 WITHOUT_7, WITH_7 = dumped(OWN_ROWS), dumped(OWN_ROWS, f"00000001 {TCP_7} {AT_9} {text(b'1001')}")
 # What stands there, what was served before, the record, what is answered, and what stands there then. A reply stands
 # behind what stood there, and silence leaves it.
 APPENDED = [
-    (b"\1\2", b"", SET_7, "Reply", b"\1\2" + SET_7_REPLY),
-    (b"", marked(SET_7), SET_7, "Reply", reply("00000000 00000000")),
-    (b"\1\2", marked(SET_7), octets("00000001"), "Nothing", b"\1\2"),
+    (b"\1\2", b"", SET_7, "reply", b"\1\2" + SET_7_REPLY),
+    (b"", marked(SET_7), SET_7, "reply", reply(SUCCESS + "00000000")),
+    (b"\1\2", marked(SET_7), octets("00000001"), "no reply", b"\1\2"),
 ]
 
 
 def done(records, replies):
-    return f"Ok(Served {{ records: {records}, replies: {replies} }})"
+    return f"{records} records, {replies} replies"
 
 
 def no_receive(count):
-    return f"Err(Read {{ done: {count} }})"
+    return f"read fault after {count}"
 
 
 def no_send(count):
-    return f"Err(Write {{ done: {count} }})"
+    return f"write fault after {count}"
 
 
 # Datagrams that wait, how many are served and how many then, the receive or send that fails, both answers, what is
@@ -145,24 +163,24 @@ REFUSED_TO = [
     (b"", [GETPORT], NO_PORT, marked(GETPORT), marked(NO_PORT), marked(NO_PORT)),
     (CROWD, [SET], IS_SET, marked(DUMP), marked(dumped(OWN, ports_of(300), ROW)), marked(KEPT)),
 ]
-NULL_TOLD = f"Ok(Accepted {{ xid: 1, verf: {NO_AUTH}, status: Success([]) }})"
-PORT_TOLD = f"Ok(Accepted {{ xid: 1, verf: {NO_AUTH}, status: Success([0, 0, 8, 1]) }})"
+NULL_TOLD = f"reply to 1, verifier {NO_AUTH}, SUCCESS "
+PORT_TOLD = f"reply to 1, verifier {NO_AUTH}, SUCCESS 00000801"
 # The datagram that comes for the null call, if one does, the send or receive that fails, and what is told; the call is
 # sent where its send does not fail. A reply with and without results, and one that denies; a reply with another xid; no
 # reply, by each of its faults; a send and a receive that fails, and a receive where no datagram comes.
 EXCHANGED = [
     (NULL_REPLY, 0, NULL_TOLD),
     (PORT, 0, PORT_TOLD),
-    (octets("00000001 00000001 00000001 00000001 00000005"), 0, "Ok(Denied { xid: 1, why: AuthError(5) })"),
-    (octets("00000002 00000001 00000000 00000000 00000000 00000000"), 0, "Err(WrongXid { got: 2 })"),
-    (b"", 0, "Err(Reply(Truncated))"),
-    (octets("00000001"), 0, "Err(Reply(Truncated))"),
-    (NULL, 0, "Err(Reply(NotAReply))"),
-    (octets("00000001 00000001 00000002"), 0, "Err(Reply(BadStatus))"),
-    (octets("00000001 00000001 00000000 00000000 00000191 00000000"), 0, "Err(Reply(BadAuth))"),
-    (octets("00000001 00000001 00000000 00000000 00000000 00000003 00"), 0, "Err(Reply(Rest))"),
-    (NULL_REPLY, 1, "Err(Write { written: 0 })"),
-    (NULL_REPLY, 2, "Err(Read)"),
+    (octets("00000001 00000001 00000001 00000001 00000005"), 0, "denial to 1, AUTH_ERROR 5"),
+    (octets("00000002 00000001 00000000 00000000 00000000 00000000"), 0, "refused WrongXid 2"),
+    (b"", 0, "refused Truncated"),
+    (octets("00000001"), 0, "refused Truncated"),
+    (NULL, 0, "refused NotAReply"),
+    (octets("00000001 00000001 00000002"), 0, "refused BadStatus"),
+    (octets("00000001 00000001 00000000 00000000 00000191 00000000"), 0, "refused BadAuth"),
+    (octets("00000001 00000001 00000000 00000000 00000000 00000003 00"), 0, "refused Rest"),
+    (NULL_REPLY, 1, "write fault after 0"),
+    (NULL_REPLY, 2, "read fault"),
     (NULL_REPLY, 3, NULL_TOLD),
-    (None, 0, "Err(Read)"),
+    (None, 0, "read fault"),
 ]

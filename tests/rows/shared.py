@@ -1,5 +1,24 @@
-"""Rows of hostile use: texts of declarations, values, calls and streams of records, with what the RFCs want of them."""
+"""Rows of more than one judge: texts of declarations, values, calls and streams of records, with what the RFCs want of
+them."""
 import collections
+
+from .names import (
+    GARBAGE_ARGS,
+    PMAPPROC_CALLIT,
+    PMAPPROC_DUMP,
+    PMAPPROC_GETPORT,
+    PMAPPROC_NULL,
+    PMAPPROC_SET,
+    PMAPPROC_UNSET,
+    PROC_UNAVAIL,
+    PROG_MISMATCH,
+    PROG_UNAVAIL,
+    RPCBPROC_DUMP,
+    RPCBPROC_GETADDR,
+    RPCBPROC_GETVERSADDR,
+    RPCBPROC_SET,
+    SUCCESS,
+)
 
 PIECES = (1, 3, 4096)
 WIDEST = 16777216
@@ -38,29 +57,22 @@ TWO_LINES = b"""present
 """
 
 
-def content(text):
-    return f"Bytes({list(text)})"
-
-
-SILLYPROG_VALUE = f"""Group([{content(b"sillyprog")}, Choice {{ tag: 2, part: {content(b"lisp")} }}, \
-{content(b"john")}, {content(b"(quit)")}])"""
-TWO_VALUE = f"""Maybe(Some(Group([{content(b"a")}, Maybe(Some(Group([{content(b"bc")}, Maybe(None)])))])))"""
-# Values: the text, the kind, the bytes, how many of them are the value's, its lines, and the value.
-Whole = collections.namedtuple("Whole", "text name digits used lines value")
+# Values: the text, the kind, the bytes, how many of them are the value's, and its lines.
+Whole = collections.namedtuple("Whole", "text name digits used lines")
 WHOLE = [
-    Whole(MORE, "five", "00000003 61626300", 8, b"0x616263\n", content(b"abc")),
-    Whole(b"", "opaque", "00000000 0000002a", 4, b"0x\n", content(b"")),
-    Whole(b"", "string", "00000003 22095c00 00", 8, b'"\\x22\\x09\\x5c"\n', content(b'"\t\\')),
-    Whole(FILE, "file", SILLYPROG, 48, SILLYPROG_LINES, SILLYPROG_VALUE),
-    Whole(LIST, "list", TWO_ENTRIES, 28, TWO_LINES, TWO_VALUE),
-    Whole(LIST, "list", "00000000", 4, b"absent\n", "Maybe(None)"),
-    Whole(b"", "hyper", "80000000 00000000", 8, b"-9223372036854775808\n", "Hyper(-9223372036854775808)"),
-    Whole(b"", "unsigned-hyper", "ffffffff ffffffff 00", 8, b"18446744073709551615\n", f"UnsignedHyper({2**64 - 1})"),
-    Whole(b"", "int", "ffffffff", 4, b"-1\n", "Int(-1)"),
-    Whole(b"", "int", "00000003 61626300", 4, b"3\n", "Int(3)"),
-    Whole(b"", "bool", "00000001", 4, b"TRUE\n", "Bool(true)"),
-    Whole(MORE, "u", "00000001 00000007", 8, b"case 1\n  x: 7\n", "Choice { tag: 1, part: Int(7) }"),
-    Whole(MORE, "few", "00000002 00000007 00000008 00000009", 12, b"list of 2\n  7\n  8\n", "List([Int(7), Int(8)])"),
+    Whole(MORE, "five", "00000003 61626300", 8, b"0x616263\n"),
+    Whole(b"", "opaque", "00000000 0000002a", 4, b"0x\n"),
+    Whole(b"", "string", "00000003 22095c00 00", 8, b'"\\x22\\x09\\x5c"\n'),
+    Whole(FILE, "file", SILLYPROG, 48, SILLYPROG_LINES),
+    Whole(LIST, "list", TWO_ENTRIES, 28, TWO_LINES),
+    Whole(LIST, "list", "00000000", 4, b"absent\n"),
+    Whole(b"", "hyper", "80000000 00000000", 8, b"-9223372036854775808\n"),
+    Whole(b"", "unsigned-hyper", "ffffffff ffffffff 00", 8, b"18446744073709551615\n"),
+    Whole(b"", "int", "ffffffff", 4, b"-1\n"),
+    Whole(b"", "int", "00000003 61626300", 4, b"3\n"),
+    Whole(b"", "bool", "00000001", 4, b"TRUE\n"),
+    Whole(MORE, "u", "00000001 00000007", 8, b"case 1\n  x: 7\n"),
+    Whole(MORE, "few", "00000002 00000007 00000008 00000009", 12, b"list of 2\n  7\n  8\n"),
 ]
 # Refusals: the bytes within a limit, the reason, its place, the count of bytes after which it stands, and the limit on
 # depth.
@@ -153,17 +165,17 @@ OWN_ROWS = " ".join(own_row(vers, netid) for vers in (2, 3, 4) for netid in ("74
 # A record, its replies without and with the row of version 1 of program 2^29, and whether the row is there afterwards:
 # None where that does not change. A reply of None is silence (RFC 1833 sections 2.2 and 3.2, RFC 5531 section 9).
 CALLS = [
-    (call(2, 0, ""), reply("00000000"), reply("00000000"), None),
-    (call(2, 1, MAPPING + "00000801"), reply("00000000 00000001"), reply("00000000 00000000"), True),
+    (call(2, PMAPPROC_NULL, ""), reply(SUCCESS), reply(SUCCESS), None),
+    (call(2, PMAPPROC_SET, MAPPING + "00000801"), reply(SUCCESS + "00000001"), reply(SUCCESS + "00000000"), True),
     (
-        call(3, 3, "20000000 00000001 00000003 74637000 00000000 00000000"),
-        reply("00000000 00000000"),
-        reply("00000000 0000000b 302e302e 302e302e 382e3100"),
+        call(3, RPCBPROC_GETADDR, "20000000 00000001 00000003 74637000 00000000 00000000"),
+        reply(SUCCESS + "00000000"),
+        reply(SUCCESS + "0000000b 302e302e 302e302e 382e3100"),
         None,
     ),
-    (call(2, 3, MAPPING + "00000000"), reply("00000000 00000000"), reply("00000000 00000801"), None),
+    (call(2, PMAPPROC_GETPORT, MAPPING + "00000000"), reply(SUCCESS + "00000000"), reply(SUCCESS + "00000801"), None),
     (
-        call(2, 4, ""),
+        call(2, PMAPPROC_DUMP, ""),
         reply("00000000" + OWN + "00000000"),
         reply("00000000" + OWN + "00000001" + MAPPING + "00000801 00000000"),
         None,
@@ -174,16 +186,16 @@ CALLS = [
         None,
     ),
     (octets("00000001 00000000 00000002 000186a0 00000002"), None, None, None),
-    (call(5, 0, "", 3), *[reply("00000002 00000002 00000004", 3)] * 2, None),
-    (call(2, 5, "", 3), *[reply("00000003", 3)] * 2, None),
-    (call(2, 0, "", 3, 100001), *[reply("00000001", 3)] * 2, None),
-    (call(2, 1, "20000000 00000001 00000006", 3), *[reply("00000004", 3)] * 2, None),
+    (call(5, 0, "", 3), *[reply(PROG_MISMATCH + "00000002 00000004", 3)] * 2, None),
+    (call(2, PMAPPROC_CALLIT, "", 3), *[reply(PROC_UNAVAIL, 3)] * 2, None),
+    (call(2, 0, "", 3, 100001), *[reply(PROG_UNAVAIL, 3)] * 2, None),
+    (call(2, PMAPPROC_SET, "20000000 00000001 00000006", 3), *[reply(GARBAGE_ARGS, 3)] * 2, None),
     (
         octets("00000001 00000000 00000002 000186a0 00000002 00000000 00000000 00000191"),
         *[octets("00000001 00000001 00000001 00000001 00000001")] * 2,
         None,
     ),
-    (call(2, 2, MAPPING + "00000000"), reply("00000000 00000000"), reply("00000000 00000001"), False),
+    (call(2, PMAPPROC_UNSET, MAPPING + "00000000"), reply(SUCCESS + "00000000"), reply(SUCCESS + "00000001"), False),
 ]
 NULL, SET, GETADDR, GETPORT, DUMP, *_others, UNSET = (row[0] for row in CALLS)
 BY_RECORD = {row[0]: row for row in CALLS}
@@ -196,7 +208,7 @@ def denied(number, xid=1):
 
 # Records that leave the rows as they are, and the reply: a verifier that is too long, a flavor that is not taken, 17
 # gids, and the port and the address of the registry itself.
-OWN_ADDRESS = reply("00000000 0000000d 302e302e 302e302e 302e3131 31000000")
+OWN_ADDRESS = reply(SUCCESS + "0000000d 302e302e 302e302e 302e3131 31000000")
 FURTHER = [
     (octets("00000001 00000000 00000002 000186a0 00000002 00000000 00000000 00000000 00000000 00000191"), denied(3)),
     (octets("00000001 00000000 00000002 000186a0 00000002 00000000 00000006 00000000 00000000 00000000"), denied(2)),
@@ -205,9 +217,9 @@ FURTHER = [
         + bytes(76),
         denied(1),
     ),
-    (call(2, 3, "000186a0 00000003 00000006 00000000"), reply("00000000 0000006f")),
-    (call(3, 3, "000186a0 00000004 00000000 00000000 00000000"), OWN_ADDRESS),
-    (call(4, 9, "000186a0 00000004 00000000 00000000 00000000"), OWN_ADDRESS),
+    (call(2, PMAPPROC_GETPORT, "000186a0 00000003 00000006 00000000"), reply(SUCCESS + "0000006f")),
+    (call(3, RPCBPROC_GETADDR, "000186a0 00000004 00000000 00000000 00000000"), OWN_ADDRESS),
+    (call(4, RPCBPROC_GETVERSADDR, "000186a0 00000004 00000000 00000000 00000000"), OWN_ADDRESS),
 ]
 # Further records that take memory: rows set and removed by uid 1001, in versions 3 and 4, and all rows in version 4.
 USER = "00000001 00000014 00000000 00000000 000003e9 00000000 00000000 00000000 00000000 "
@@ -226,9 +238,9 @@ TAKING = [
         + USER.replace("000003e9", "00000000")
         + "000186a0 00000003 00000000 00000000"
     ),
-    call(4, 1, ADDRESS),
-    call(4, 4, ""),
-    call(3, 4, ""),
+    call(4, RPCBPROC_SET, ADDRESS),
+    call(4, RPCBPROC_DUMP, ""),
+    call(3, RPCBPROC_DUMP, ""),
 ]
 ASKED_AFTER = marked(GETPORT) + marked(DUMP)
 
@@ -262,31 +274,32 @@ STREAMS = [
     (0, "80000001"),
     (0, "00000000 00000000 80000000"),
 ]
-NO_AUTH = "OpaqueAuth { flavor: 0, body: [] }"
+# An opaque_auth as it is told: its flavor, and the digits of its body.
+NO_AUTH = "0:"
 # What comes for a call that is exchanged, and what is told once its first record is whole.
 EXCHANGED = [
-    (marked(octets(REPLY + "00000000"), 8), f"Ok(Accepted {{ xid: 1, verf: {NO_AUTH}, status: Success([]) }})"),
+    (marked(octets(REPLY + "00000000"), 8), f"reply to 1, verifier {NO_AUTH}, SUCCESS "),
     (
         marked(octets(REPLY + "00000000 00000801")) + b"\x80",
-        f"Ok(Accepted {{ xid: 1, verf: {NO_AUTH}, status: Success([0, 0, 8, 1]) }})",
+        f"reply to 1, verifier {NO_AUTH}, SUCCESS 00000801",
     ),
-    (marked(octets(REPLY + "00000000")), f"Ok(Accepted {{ xid: 1, verf: {NO_AUTH}, status: Success([]) }})"),
+    (marked(octets(REPLY + "00000000")), f"reply to 1, verifier {NO_AUTH}, SUCCESS "),
     (
         octets("00000018" + REPLY + "00000000 80000004 00000801 80000001 00"),
-        f"Ok(Accepted {{ xid: 1, verf: {NO_AUTH}, status: Success([0, 0, 8, 1]) }})",
+        f"reply to 1, verifier {NO_AUTH}, SUCCESS 00000801",
     ),
-    (marked(octets("00000002 00000001 00000000 00000000 00000000 00000000")), "Err(WrongXid { got: 2 })"),
-    (marked(octets("00000001 00000001 00000001 00000001 00000005")), "Ok(Denied { xid: 1, why: AuthError(5) })"),
-    (marked(octets("00000000 00000001 00000001 00000001 00000001")) + b"\0", "Err(WrongXid { got: 0 })"),
-    (marked(octets("00000001")), "Err(Reply(Truncated))"),
-    (marked(b""), "Err(Reply(Truncated))"),
-    (marked(call(2, 0, "")), "Err(Reply(NotAReply))"),
-    (marked(octets("00000001 00000001 00000002")), "Err(Reply(BadStatus))"),
-    (marked(octets("00000001 00000001 00000000 00000000 00000191 00000000")) + bytes(4), "Err(Reply(BadAuth))"),
-    (marked(octets(REPLY + "00000003 00")), "Err(Reply(Rest))"),
-    (octets("81000001"), "Err(Record(TooLong { at: 0 }))"),
-    (octets("00000002 0000 ffffffff"), "Err(Record(TooLong { at: 6 }))"),
-    (word(2) + b"ab" + word(0x81000000), "Err(Record(TooLong { at: 6 }))"),
+    (marked(octets("00000002 00000001 00000000 00000000 00000000 00000000")), "refused WrongXid 2"),
+    (marked(octets("00000001 00000001 00000001 00000001 00000005")), "denial to 1, AUTH_ERROR 5"),
+    (marked(octets("00000000 00000001 00000001 00000001 00000001")) + b"\0", "refused WrongXid 0"),
+    (marked(octets("00000001")), "refused Truncated"),
+    (marked(b""), "refused Truncated"),
+    (marked(call(2, PMAPPROC_NULL, "")), "refused NotAReply"),
+    (marked(octets("00000001 00000001 00000002")), "refused BadStatus"),
+    (marked(octets("00000001 00000001 00000000 00000000 00000191 00000000")) + bytes(4), "refused BadAuth"),
+    (marked(octets(REPLY + "00000003 00")), "refused Rest"),
+    (octets("81000001"), "refused TooLong at 0"),
+    (octets("00000002 0000 ffffffff"), "refused TooLong at 6"),
+    (word(2) + b"ab" + word(0x81000000), "refused TooLong at 6"),
 ]
 # What comes for a call for all rows in version 4, the exit status and what is printed once the first record is whole.
 ASKED = [
@@ -295,8 +308,33 @@ ASKED = [
     (marked(octets(REPLY + "00000000 00000002")), 1, b"refused BadBool at 0\n"),
     (word(0x81000001), 1, b"refused TooLong at 0\n"),
 ]
+# A call of the probe: README.md has its keys. A read or a write has a piece, and the one that fails, or 0. A key that
+# is None, False or empty is not written.
 Case = collections.namedtuple(
     "Case",
-    "engine reads writes refused setting name text given before after zeros depth bytes",
-    defaults=((4096, 0), (4096, 0), "0", WIDEST, "", b"", b"", b"", b"", 0, 4096, WIDEST),
+    "call reads writes refuse kind text hex given zeros depth bytes limit first second steps version count count_again "
+    "transport before after front clients clients_read_fails replies datagrams port_fails types types_read_fails "
+    "faults_write_fails call_write_fails calls",
+    defaults=(
+        (4096, 0),
+        (4096, 0),
+        "0",
+        "",
+        b"",
+        False,
+        b"",
+        0,
+        4096,
+        WIDEST,
+        *[None] * 7,
+        "",
+        b"",
+        b"",
+        b"",
+        *[None] * 4,
+        0,
+        None,
+        *[0] * 3,
+        None,
+    ),
 )

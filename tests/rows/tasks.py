@@ -3,9 +3,6 @@ closed, and inputs and outputs of many bytes."""
 from .shared import WIDEST
 from .written import CHECK, SHOW
 
-# No file of declarations is named; another than `a.x` is; the read that fails is one of the declarations; and the write
-# that fails is one of faults.
-BASIC, NAMED, OF_TEXT, OF_FAULTS = 8, 16, 32, 64
 # Names of no kind of PING, of its arguments and of its results (RFC 5531 section 12.3).
 UNKNOWN = [
     "536870912.1.0.result",
@@ -42,18 +39,18 @@ UNKNOWN = [
     "void",
     "",
 ]
-# The name comes before the limits, and both before the input: whether PING is declared, a name, the limit on bytes, and
-# what is said.
+# The name comes before the limits, and both before the input: the file of PING, if it is named, a name, the limit on
+# bytes, and what is said.
 ORDER = [
-    (0, "list", 6, b"no such name: list\n"),
-    (0, "536870912.1.1.1", 6, b"limits refused\n"),
-    (0, "int", 0, b"limits refused\n"),
-    (BASIC, "void", WIDEST, b"no such name: void\n"),
-    (BASIC, "int", 6, b"limits refused\n"),
-    (BASIC, "void", 6, b"no such name: void\n"),
-    (BASIC, "", 4, b"no such name: \n"),
-    (BASIC, "536870912.1.1.1", 4, b"no such name: 536870912.1.1.1\n"),
-    (BASIC, "int", WIDEST + 4, b"limits refused\n"),
+    ("a.x", "list", 6, b"no such name: list\n"),
+    ("a.x", "536870912.1.1.1", 6, b"limits refused\n"),
+    ("a.x", "int", 0, b"limits refused\n"),
+    (None, "void", WIDEST, b"no such name: void\n"),
+    (None, "int", 6, b"limits refused\n"),
+    (None, "void", 6, b"no such name: void\n"),
+    (None, "", 4, b"no such name: \n"),
+    (None, "536870912.1.1.1", 4, b"no such name: 536870912.1.1.1\n"),
+    (None, "int", WIDEST + 4, b"limits refused\n"),
 ]
 # A byte of declarations, how many of them there are, how many are read at once, the read of them that fails, and how a
 # check of four bytes ends. The 262145th byte is the last that is read.

@@ -1,5 +1,16 @@
 """Rows that are run as they stand, by all that is told of each: streams that are served, answers that are printed,
 tasks of the program, and texts of declarations. A row has what the RFCs or the documents want of it."""
+from .names import (
+    GARBAGE_ARGS,
+    PMAPPROC_NULL,
+    PROG_MISMATCH,
+    RPCBPROC_DUMP,
+    RPCBPROC_GETADDR,
+    RPCBPROC_GETVERSADDR,
+    RPCBPROC_SET,
+    RPCBPROC_UNSET,
+    SUCCESS,
+)
 from .shared import (
     AT_9,
     FILE,
@@ -29,29 +40,35 @@ def called_by(caller, vers, proc, args):
 
 # The longest body of AUTH_SYS, 340 bytes, the longest address and the longest netid.
 LONG_CREDENTIAL = "00000001 000000ff" + "61" * 255 + "00 00000002 00000003 00000010" + "00" * 64
-LONG_NULL = called_by(f"00000001 00000154 {LONG_CREDENTIAL} 00000000 00000000", 2, 0, "")
+LONG_NULL = called_by(f"00000001 00000154 {LONG_CREDENTIAL} 00000000 00000000", 2, PMAPPROC_NULL, "")
 LONG_TEXT = "00000100" + "61" * 256
 SERVED_SO = [
     [
-        (called_by(BY_1001, 3, 1, f"{TCP_7} {AT_9} 00000000"), reply("00000000 00000001")),
-        (called_by(BY_1000, 3, 2, f"{TCP_7} 00000000 00000000"), reply("00000000 00000000")),
-        (called_by(BY_ROOT, 3, 2, f"{TCP_7} 00000000 00000000"), reply("00000000 00000001")),
-        (called_by(BY_ROOT, 3, 2, f"{TCP_7} 00000000 00000000"), reply("00000000 00000000")),
+        (called_by(BY_1001, 3, RPCBPROC_SET, f"{TCP_7} {AT_9} 00000000"), reply(SUCCESS + "00000001")),
+        (called_by(BY_1000, 3, RPCBPROC_UNSET, f"{TCP_7} 00000000 00000000"), reply(SUCCESS + "00000000")),
+        (called_by(BY_ROOT, 3, RPCBPROC_UNSET, f"{TCP_7} 00000000 00000000"), reply(SUCCESS + "00000001")),
+        (called_by(BY_ROOT, 3, RPCBPROC_UNSET, f"{TCP_7} 00000000 00000000"), reply(SUCCESS + "00000000")),
     ],
     [
-        (call(5, 9, ""), reply("00000002 00000002 00000004")),
-        (call(4, 9, ""), reply("00000004")),
-        (called_by(BY_1001, 3, 1, f"{TCP_7} {AT_9} {OWNER}"), reply("00000000 00000001")),
+        (call(5, 9, ""), reply(PROG_MISMATCH + "00000002 00000004")),
+        (call(4, RPCBPROC_GETVERSADDR, ""), reply(GARBAGE_ARGS)),
+        (called_by(BY_1001, 3, RPCBPROC_SET, f"{TCP_7} {AT_9} {OWNER}"), reply(SUCCESS + "00000001")),
         (
-            call(3, 4, ""),
-            reply(f"00000000 {OWN_ROWS} 00000001 {TCP_7} {AT_9} 00000004 31303031 00000000"),
+            call(3, RPCBPROC_DUMP, ""),
+            reply(SUCCESS + f"{OWN_ROWS} 00000001 {TCP_7} {AT_9} 00000004 31303031 00000000"),
         ),
     ],
     [
-        (LONG_NULL, reply("00000000")),
-        (call(4, 1, f"00001388 00000001 00000003 74637000 {LONG_TEXT} 00000000"), reply("00000000 00000001")),
-        (call(4, 3, "00001388 00000001 00000000 00000000 00000000"), reply(f"00000000 {LONG_TEXT}")),
-        (call(4, 1, f"00001388 00000001 00000040 {'74' * 64} {LONG_TEXT} 00000000"), reply("00000000 00000001")),
+        (LONG_NULL, reply(SUCCESS)),
+        (
+            call(4, RPCBPROC_SET, f"00001388 00000001 00000003 74637000 {LONG_TEXT} 00000000"),
+            reply(SUCCESS + "00000001"),
+        ),
+        (call(4, RPCBPROC_GETADDR, "00001388 00000001 00000000 00000000 00000000"), reply(SUCCESS + f"{LONG_TEXT}")),
+        (
+            call(4, RPCBPROC_SET, f"00001388 00000001 00000040 {'74' * 64} {LONG_TEXT} 00000000"),
+            reply(SUCCESS + "00000001"),
+        ),
     ],
 ]
 # What comes for a call for all rows, by its version, the status and what is printed. The rows are the registry's own
@@ -103,7 +120,7 @@ REFUSED_ANSWERS = [
     (ACCEPTED + "00000000", b"Truncated at 0"),
     (ACCEPTED + "00000000 00000001 00000001 00000001 00000001 61000001", b"BadPadding at 16"),
 ]
-CHECK, SHOW, RECORDS, HEX = 0, 1, 2, 4
+CHECK, SHOW, RECORDS, HEX = "Task::Check", "Task::Show", "Task::Records", True
 UNION = b"union u switch (int n) { case 1: int x; };"
 PROGRAMS = b"""typedef int three[3];
 program A {
@@ -183,9 +200,9 @@ STREAMS = [
     (0, HEX, b"80000001", 1, b"\n", b"refused TooLong at 0\n"),
     (9, HEX, b"80000001 4A 800000", 1, b"800000014a\n", b"refused Truncated at 8\n"),
     (9, HEX, b"8", 1, b"", b"refused bad hex\n"),
-    (4, 0, b"\0\0\0\x02ab\x80\0\0\x01c", 0, b"\x80\0\0\x03abc", b""),
-    (4, 0, b"\x80\0\0\x01a\0\0\0\x03abc\x80\0\0\x02de", 1, b"\x80\0\0\x01a", b"refused TooLong at 12\n"),
-    (4, 0, b"\x80\0\0\x03ab", 1, b"", b"refused Truncated at 6\n"),
+    (4, False, b"\0\0\0\x02ab\x80\0\0\x01c", 0, b"\x80\0\0\x03abc", b""),
+    (4, False, b"\x80\0\0\x01a\0\0\0\x03abc\x80\0\0\x02de", 1, b"\x80\0\0\x01a", b"refused TooLong at 12\n"),
+    (4, False, b"\x80\0\0\x03ab", 1, b"", b"refused Truncated at 6\n"),
 ]
 # Where a check stops: the kind, the input, how many bytes a read gives, the read that fails, the status, what is
 # printed and what is said. After a refusal no read is made, after a value one more byte or the end is seen.

@@ -1,146 +1,254 @@
-//! A call that is asked for, and what fails in it: the words of a line, with one space between two.
+//! A call that is asked for, and what fails in it: words `key=value`, with one space between two.
 //!
-//! `ENGINE READ_PIECE READ_FAILS WRITE_PIECE WRITE_FAILS REFUSED SETTING NAME TEXT INPUT BEFORE AFTER ZEROS DEPTH
-//! BYTES`:
-//! how many bytes a read gives and a write takes, and which of them fails, from 1, 0 for none; the growth that is
-//! refused, as N alone or N.. with all later ones, 0 for none; a number that the engine knows; the name of a kind; in
-//! hexadecimal a text of declarations, the bytes to read, and streams for the registry before and after; how many zero
-//! bytes are read before the bytes; and the limits on depth and bytes.
+//! A value is a number, a name, the hexadecimal digits of bytes, or a text between quotation marks, in which `\xHH`
+//! stands for a byte, as `show` prints it. `tests/README.md` has the keys. A key that is not there has no bytes, and 0
+//! as its number.
+ghost use Rattle.std.specs.Prelude.{◌≤◌};
+
 use std::alloc::Global;
 use std::env::Env;
 use xdr_types::Limits;
 
+/// A word: a key and its value, and whether that stands between quotation marks.
+#[derive(Clone, Copy)]
+pub struct Word<'a> {
+    key: &'a str,
+    value: &'a str,
+    is_text: bool,
+}
+
 /// The words of a line.
 #[derive(Drop)]
 pub struct Case<'a> {
-    words: Vec<&'a str>,
+    words: Vec<Word<'a>>,
+}
+
+// The word that begins the line, and what follows it.
+fn first_word(line: &str) -> (Word<'_>, &str) {
+    let (key, value) = line.split_once('=').unwrap_or((line, ""));
+    match value.strip_prefix('"') {
+        Some(text) => {
+            let (value, rest) = text.split_once('"').unwrap_or((text, ""));
+            let word = Word {
+                key,
+                value,
+                is_text: true,
+            };
+            (word, rest.strip_prefix(' ').unwrap_or(rest))
+        }
+        None => {
+            let (value, rest) = value.split_once(' ').unwrap_or((value, ""));
+            (
+                Word {
+                    key,
+                    value,
+                    is_text: false,
+                },
+                rest,
+            )
+        }
+    }
 }
 
 impl<'a> Case<'a> {
-    /// The case that a line holds; `None` for want of memory.
-    pub fn read(alloc: Global, line: &'a str) -> Option<Case<'a>> {
-        let words = line.split(' ').collect::<Vec<&str>>(alloc).ok()?;
-        Some(Case { words })
+    /// The case that a line holds, of at most 32 words.
+    pub fn read(alloc: Global, line: &'a str) -> Case<'a> {
+        let mut words = Vec::new(alloc);
+        let mut rest = line;
+        for _ in 0..32 {
+            if rest.is_empty() {
+                break;
+            }
+            let (word, behind) = first_word(rest);
+            let _pushed = words.push(word);
+            rest = behind;
+        }
+        Case { words }
     }
 
-    /// The word at a place, empty where there is none.
-    pub fn word(&self, place: usize) -> &'a str {
-        match self.words.get(place) {
-            Some(word) => word,
+    // The word with a key.
+    fn find(&self, key: &str) -> Option<Word<'a>> {
+        for word in &self.words {
+            if word.key == key {
+                return Some(*word);
+            }
+        }
+        None
+    }
+
+    /// Whether a key is there.
+    pub fn has(&self, key: &str) -> bool {
+        self.find(key).is_some()
+    }
+
+    /// The value of a key as it stands, empty where there is none.
+    pub fn word(&self, key: &str) -> &'a str {
+        match self.find(key) {
+            Some(word) => word.value,
             None => "",
         }
     }
 
-    // The number at a place, 0 where there is none.
-    fn number(&self, place: usize) -> u64 {
-        self.word(place).parse::<u64>().unwrap_or(0)
+    /// The text of a key, which may stand between quotation marks; empty for want of memory.
+    pub fn text(&self, alloc: Global, key: &str) -> String {
+        let made = match self.find(key) {
+            Some(word) if word.is_text => String::from_utf8(unescaped(alloc, word.value)).ok(),
+            Some(word) => String::from_str(alloc, word.value).ok(),
+            None => None,
+        };
+        match made {
+            Some(text) => text,
+            None => String::new(alloc),
+        }
+    }
+
+    // The number of a key, 0 where there is none.
+    fn number(&self, key: &str) -> u64 {
+        self.word(key).parse::<u64>().unwrap_or(0)
     }
 
     /// The same of 32 bits.
-    pub fn whole(&self, place: usize) -> u32 {
-        self.number(place).min(4294967295) as u32
+    pub fn whole(&self, key: &str) -> u32 {
+        self.number(key).min(4294967295) as u32
     }
 
-    // The call that fails, if one does.
-    fn failing(&self, place: usize) -> Option<u64> {
-        match self.number(place) {
+    /// How many bytes a read gives or a write takes, at least one: 4096 where the key is not there.
+    pub fn piece(&self, key: &str) -> usize
+        ensures { 1 ≤ result }
+    {
+        let piece = match self.number(key) {
+            0 => 4096,
+            piece => piece as usize,
+        };
+        piece.max(1)
+    }
+
+    /// Which call of a device fails, from 1, if one does.
+    pub fn failing(&self, key: &str) -> Option<u64> {
+        match self.number(key) {
             0 => None,
             call => Some(call),
         }
     }
 
     /// What is to be called.
-    pub fn engine(&self) -> &'a str {
-        self.word(0)
+    pub fn call(&self) -> &'a str {
+        self.word("call")
     }
 
-    /// How many bytes a read gives, at most.
-    pub fn read_piece(&self) -> usize {
-        self.number(1) as usize
+    /// The bytes of a key; none where they are no bytes, or for want of memory.
+    pub fn bytes(&self, alloc: Global, key: &str) -> Vec<u8> {
+        match self.find(key) {
+            Some(word) if word.is_text => unescaped(alloc, word.value),
+            Some(word) => digits(alloc, word.value),
+            None => Vec::new(alloc),
+        }
     }
 
-    /// The read that fails.
-    pub fn read_failing(&self) -> Option<u64> {
-        self.failing(2)
+    /// The bytes of a key, with a comma between two; none where the key is not there.
+    pub fn list(&self, alloc: Global, key: &str) -> Vec<Vec<u8>> {
+        let mut all = Vec::new(alloc);
+        if !self.has(key) {
+            return all;
+        }
+        for part in self.word(key).split(',') {
+            let _pushed = all.push(digits(alloc, part));
+        }
+        all
     }
 
-    /// How many bytes a write takes, at most.
-    pub fn write_piece(&self) -> usize {
-        self.number(3) as usize
-    }
-
-    /// The write that fails.
-    pub fn write_failing(&self) -> Option<u64> {
-        self.failing(4)
-    }
-
-    /// A number that the engine knows.
-    pub fn setting(&self) -> u32 {
-        self.whole(6)
-    }
-
-    /// The name of a kind.
-    pub fn name(&self) -> &'a str {
-        self.word(7)
-    }
-
-    /// The text of declarations.
-    pub fn text(&self, alloc: Global) -> Option<Vec<u8>> {
-        hex::decode(alloc, self.word(8)).ok()
-    }
-
-    /// The bytes to read.
-    pub fn input(&self, alloc: Global) -> Option<Vec<u8>> {
-        let bytes = hex::decode(alloc, self.word(9)).ok()?;
-        match self.number(12) {
-            0 => Some(bytes),
+    /// The bytes to read, behind so many zeros.
+    pub fn input(&self, alloc: Global) -> Vec<u8> {
+        let bytes = self.bytes(alloc, "input");
+        match self.number("zeros") {
+            0 => bytes,
             zeros => behind_zeros(alloc, zeros.min(16777216) as usize, &bytes),
         }
     }
 
-    /// What the registry is served before the call.
-    pub fn before(&self, alloc: Global) -> Option<Vec<u8>> {
-        hex::decode(alloc, self.word(10)).ok()
-    }
-
-    /// What the registry is served after the call.
-    pub fn after(&self, alloc: Global) -> Option<Vec<u8>> {
-        hex::decode(alloc, self.word(11)).ok()
+    /// The limits on depth and bytes, the greatest where they are not there, and none out of their range.
+    pub fn limits(&self) -> Option<Limits> {
+        Limits::new(self.depth(), self.most())
     }
 
     /// The limit on depth.
     pub fn depth(&self) -> u32 {
-        self.whole(13)
+        if self.has("depth") {
+            self.whole("depth")
+        } else {
+            4096
+        }
     }
 
     /// The limit on bytes.
-    pub fn bytes(&self) -> u32 {
-        self.whole(14)
-    }
-
-    /// Both limits, where they are in range.
-    pub fn limits(&self) -> Option<Limits> {
-        Limits::new(self.depth(), self.bytes())
+    pub fn most(&self) -> u32 {
+        if self.has("bytes") {
+            self.whole("bytes")
+        } else {
+            16777216
+        }
     }
 
     /// Refuses growths from here on, as the case asks, and gives how many there were before.
-    pub fn refuse(&self, alloc: Global, rt: &impl Env) -> Option<u64> {
-        let asked = self.word(5);
+    pub fn refuse(&self, alloc: Global, rt: &impl Env) -> u64 {
+        let asked = self.word("refuse");
         let _refuses = match asked.strip_suffix("..") {
-            Some(first) => test_growths::refuse_from(alloc, rt, first.parse::<u64>().ok()?).ok()?,
-            None => test_growths::refuse(alloc, rt, asked.parse::<u64>().ok()?).ok()?,
+            Some(first) => test_growths::refuse_from(alloc, rt, first.parse::<u64>().unwrap_or(0)),
+            None => test_growths::refuse(alloc, rt, asked.parse::<u64>().unwrap_or(0)),
         };
-        Some(test_growths::count(rt).unwrap_or(0))
+        test_growths::count(rt).unwrap_or(0)
     }
 }
 
-// The bytes behind so many zeros.
-fn behind_zeros(alloc: Global, zeros: usize, bytes: &[u8]) -> Option<Vec<u8>> {
-    let mut all = vec![in alloc; 0u8; zeros].ok()?;
-    match all.extend_from_slice(bytes) {
-        Ok(()) => Some(all),
-        Err(_) => None,
+// The bytes of hexadecimal digits.
+fn digits(alloc: Global, text: &str) -> Vec<u8> {
+    match hex::decode(alloc, text) {
+        Ok(bytes) => bytes,
+        Err(_) => Vec::new(alloc),
     }
+}
+
+// The number of a hexadecimal digit.
+fn digit(letter: Option<&u8>) -> u8 {
+    match letter {
+        Some(letter) => char::from(*letter).to_digit(16).unwrap_or(0) as u8,
+        None => 0,
+    }
+}
+
+// Adds what stands behind a reversed solidus: `x`, two digits of a byte, and bytes.
+fn push_behind(out: &mut Vec<u8>, piece: &[u8]) {
+    let byte = (digit(piece.get(1)) << 4) | digit(piece.get(2));
+    let _pushed = out.push(byte);
+    let _added = out.extend_from_slice(piece.get(3..).unwrap_or(&[]));
+}
+
+// The bytes of a text.
+fn unescaped(alloc: Global, text: &str) -> Vec<u8> {
+    let mut out = Vec::new(alloc);
+    for (number, piece) in text.split('\\').enumerate() {
+        if number == 0 {
+            let _added = out.extend_from_slice(piece.as_bytes());
+        } else {
+            push_behind(&mut out, piece.as_bytes());
+        }
+    }
+    out
+}
+
+// The bytes behind so many zeros.
+fn behind_zeros(alloc: Global, zeros: usize, bytes: &[u8]) -> Vec<u8> {
+    match vec![in alloc; 0u8; zeros] {
+        Ok(zeros) => joined(zeros, bytes),
+        Err(_) => Vec::new(alloc),
+    }
+}
+
+// Bytes with others behind them.
+fn joined(before: Vec<u8>, bytes: &[u8]) -> Vec<u8> {
+    let mut all = before;
+    let _added = all.extend_from_slice(bytes);
+    all
 }
 
 /// How many growths there were since that many.

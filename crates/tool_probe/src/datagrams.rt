@@ -1,27 +1,112 @@
-//! The parts of an input, as datagrams or clients, each behind its length in four bytes.
-ghost use Rattle.std.specs.Prelude.{◌<◌};
-
+//! Datagrams over a port in memory, of which the receive or send of number `port-fails` fails. `serve_datagrams` serves
+//! `count` of them and then `count-again`, `datagrams_on` serves `count`, `exchange_datagram` exchanges the null call
+//! of version 2 with xid 1, and `info_datagram` asks a registry in a version.
+use crate::case::{Case, allow};
+use crate::printed::{datagrams as datagrams_text, exchanged as exchanged_text};
+use crate::registry::{null_call, prepared, started, with_after};
+use crate::task::ending;
+use crate::told::{joined, line, with_number, with_parts, with_text};
+use oncrpc_service::{datagrams_on, info_datagram};
+use rpc_engine::{MemoryPort, exchange_datagram, serve_datagrams};
 use std::alloc::Global;
+use std::env::Env;
+use test_growths::bytes;
+use xdr_io::MemorySink;
 
-/// Takes the part at the front; `None` where no length is left. A part that is cut is empty, and the last.
-pub fn take<'a>(rest: &mut &'a [u8]) -> Option<&'a [u8]> {
-    let all = *rest;
-    let head = all.get(..4)?;
-    let length = u32::from_be_bytes([head[0], head[1], head[2], head[3]]) as usize;
-    let end = length.saturating_add(4);
-    *rest = all.get(end..).unwrap_or(&[]);
-    Some(all.get(4..end).unwrap_or(&[]))
+/// What is told of the case.
+pub fn told(rt: &HostRuntime, case: &Case<'_>) -> String {
+    let alloc = rt.alloc();
+    let all = case.list(alloc, "datagrams");
+    let waiting = lent(alloc, &all);
+    match case.call() {
+        "serve_datagrams" => served(alloc, rt, case, &waiting),
+        "exchange_datagram" => exchanged(alloc, rt, case, &waiting),
+        "datagrams_on" => answered(alloc, rt, case, &waiting),
+        _ => asked(alloc, rt, case, &waiting),
+    }
 }
 
-/// All parts of an input; `None` for want of memory.
-pub fn cut<'a>(alloc: Global, input: &'a [u8]) -> Option<Vec<&'a [u8]>> {
-    let mut rest = input;
+// The bytes of each.
+fn lent<'a>(alloc: Global, all: &'a [Vec<u8>]) -> Vec<&'a [u8]> {
     let mut parts = Vec::new(alloc);
-    for _ in 0..input.len() {
-        match take(&mut rest) {
-            Some(part) => parts.push(part).ok()?,
-            None => break,
-        }
+    for each in all {
+        let _pushed = parts.push(each.as_slice());
     }
-    Some(parts)
+    parts
+}
+
+// What both runs answer, how many bytes the first asked for, and what was sent.
+fn served(alloc: Global, rt: &impl Env, case: &Case<'_>, waiting: &[&[u8]]) -> String {
+    let mut directory = prepared(alloc, case);
+    let (mut room, mut sizes) = ([0u8; 8192], [0usize; 16]);
+    let mut port = MemoryPort::new(waiting, &mut room, &mut sizes, case.failing("port-fails"));
+    let before = case.refuse(alloc, rt);
+    let asked = bytes(rt).unwrap_or(0);
+    let one = serve_datagrams(
+        alloc,
+        &mut port,
+        u64::from(case.whole("count")),
+        &mut directory,
+    );
+    let asked = bytes(rt).unwrap_or(0).saturating_sub(asked);
+    let again = u64::from(case.whole("count-again"));
+    let two = serve_datagrams(alloc, &mut port, again, &mut directory);
+    let met = allow(rt, before);
+    let answer = joined(datagrams_text(alloc, one), "; ");
+    let answer = joined(answer, datagrams_text(alloc, two).as_str());
+    let told = line(alloc, met, answer.as_str());
+    let told = with_number(alloc, told, " asked=", asked);
+    let told = with_parts(alloc, told, port.sent_sizes(), port.sent_bytes());
+    with_after(alloc, &mut directory, told, case)
+}
+
+fn exchanged(alloc: Global, rt: &impl Env, case: &Case<'_>, waiting: &[&[u8]]) -> String {
+    let before = case.refuse(alloc, rt);
+    let call = null_call(alloc);
+    let (mut room, mut sizes) = ([0u8; 128], [0usize; 2]);
+    let mut port = MemoryPort::new(waiting, &mut room, &mut sizes, case.failing("port-fails"));
+    let answer = exchange_datagram(alloc, &mut port, &call);
+    let told = line(
+        alloc,
+        allow(rt, before),
+        exchanged_text(alloc, &answer).as_str(),
+    );
+    with_parts(alloc, told, port.sent_sizes(), port.sent_bytes())
+}
+
+fn answered(alloc: Global, rt: &impl Env, case: &Case<'_>, waiting: &[&[u8]]) -> String {
+    let mut directory = started(alloc);
+    let before = case.refuse(alloc, rt);
+    let (mut room, mut sizes) = ([0u8; 4096], [0usize; 64]);
+    let (mut lines, mut said) = ([0u8; 4096], [0u8; 128]);
+    let mut port = MemoryPort::new(waiting, &mut room, &mut sizes, case.failing("port-fails"));
+    let mut output = MemorySink::new(&mut lines, case.piece("write"), case.failing("write-fails"));
+    let mut faults = MemorySink::new(&mut said, 128, None);
+    let status = datagrams_on(
+        alloc,
+        &mut port,
+        case.whole("count"),
+        &mut directory,
+        &mut output,
+        &mut faults,
+    );
+    let told = ending(alloc, allow(rt, before), status);
+    let told = with_parts(alloc, told, port.sent_sizes(), port.sent_bytes());
+    let told = with_text(told, " output=", output.written());
+    with_text(told, " faults=", faults.written())
+}
+
+fn asked(alloc: Global, rt: &impl Env, case: &Case<'_>, waiting: &[&[u8]]) -> String {
+    let before = case.refuse(alloc, rt);
+    let (mut room, mut sizes) = ([0u8; 4096], [0usize; 64]);
+    let (mut lines, mut said) = ([0u8; 4096], [0u8; 128]);
+    let mut port = MemoryPort::new(waiting, &mut room, &mut sizes, case.failing("port-fails"));
+    let mut output = MemorySink::new(&mut lines, case.piece("write"), case.failing("write-fails"));
+    let mut faults = MemorySink::new(&mut said, 128, None);
+    let version = case.whole("version");
+    let status = info_datagram(alloc, &mut port, &mut output, &mut faults, version);
+    let told = ending(alloc, allow(rt, before), status);
+    let told = with_parts(alloc, told, port.sent_sizes(), port.sent_bytes());
+    let told = with_text(told, " output=", output.written());
+    with_text(told, " faults=", faults.written())
 }

@@ -1,14 +1,15 @@
-//! Hostile use, of memory, devices and bytes: the call that each line of the input asks for is made while reads, writes
-//! or growths of memory fail, and a line tells what it answered. `tests/run` and `bench/fuzz` write such lines and
-//! judge what is told. Without a line nothing is called.
+//! One call a line: the call that each line of the input asks for is made while reads, writes or growths of memory
+//! fail, and a line tells what it answered. `tests/run` and `bench/fuzz` write such lines and judge what is told, and
+//! `tests/README.md` says how they are written. Without a line nothing is called.
 #![tactic(auto)]
 
 mod case;
 mod datagrams;
+mod declared;
 mod directory;
 mod language;
 mod messages;
-mod ports;
+mod printed;
 mod program;
 mod records;
 mod registry;
@@ -22,31 +23,28 @@ use std::io::{self, BufRead, BufReader, BufWriter, Write};
 use std::process::ExitCode;
 
 // Makes the call of a case, and tells how many growths of memory it met and what it answered.
-fn called(rt: &HostRuntime, case: &Case<'_>) -> Option<String> {
-    match case.engine() {
-        "normalise" | "reader" | "reader_calls" | "mark" | "write_marked" => records::told(
-            rt, case,
-        ),
-        "task" => task::told(rt, case),
-        "info" | "connections" | "datagrams" | "asking" => program::told(rt, case),
-        "serve" | "answer" | "append" | "exchange" | "registry" => registry::told(rt, case),
-        "directory" => directory::told(rt, case),
-        "serve_datagrams" | "exchange_datagram" => ports::told(rt, case),
-        "call" | "reply" | "credential" => messages::told(rt, case),
-        "tokens" | "outline" | "declarations" | "directory_schema" => language::told(rt, case),
+fn called(rt: &HostRuntime, case: &Case<'_>) -> String {
+    match case.call() {
+        "normalise" | "RecordReader" | "RecordReader::calls" | "mark" | "write_marked" => {
+            records::told(rt, case)
+        }
+        "Task::Check" | "Task::Show" | "Task::Records" => task::told(rt, case),
+        "info_over" | "serve_on" => program::told(rt, case),
+        "serve_datagrams" | "exchange_datagram" | "datagrams_on" | "info_datagram" => {
+            datagrams::told(rt, case)
+        }
+        "serve" | "answer" | "append_answer" | "exchange" | "dump" => registry::told(rt, case),
+        "read_call" | "read_reply" | "read_auth_sys" => messages::told(rt, case),
+        "tokens" | "read_outline" | "read" | "directory_schema" => language::told(rt, case),
         _ => values::told(rt, case),
     }
 }
 
-// What is told of a line; nothing where it is no case.
+// What is told of a line: of calls of one registry, or of a case.
 fn answer_to(rt: &HostRuntime, alloc: Global, line: &str) -> String {
-    let answer = match Case::read(alloc, line) {
-        Some(case) => called(rt, &case),
-        None => None,
-    };
-    match answer {
-        Some(answer) => answer,
-        None => String::new(alloc),
+    match line.strip_prefix("call=Directory ; ") {
+        Some(calls) => directory::told(rt, calls),
+        None => called(rt, &Case::read(alloc, line)),
     }
 }
 

@@ -1,56 +1,47 @@
-//! The program's network engines over memory: `info` in the version SETTING, where 8 more says that the write of the
-//! call fails and not one of the lines; `connections`, SETTING of them, where INPUT has the clients, each behind its
-//! length and the number of the read that fails, 0 for none, and BEFORE the reply that each of them takes; `datagrams`,
-//! SETTING of them, and `asking` in the version SETTING, where INPUT has the datagrams that come, each behind its
-//! length, and READ_FAILS is the call of the port that fails.
+//! The program's network engines over memory: `info_over` in a version, and `serve_on` of `count` connections. Each of
+//! the `clients` sends bytes, takes the reply of `replies` alone, and its read of number `clients-read-fails` fails; 0
+//! stands for none.
 ghost use Rattle.std.specs.Prelude.{◌<◌};
 
 use crate::case::{Case, allow};
-use crate::datagrams::{cut, take};
 use crate::registry::started;
-use crate::told::{line, with_bytes};
-use oncrpc_service::{AcceptFault, Listener, datagrams_on, info_datagram, info_over, serve_on};
-use rpc_engine::MemoryPort;
+use crate::task::{ending, room_for};
+use crate::told::{with_bytes, with_number, with_text};
+use oncrpc_service::{AcceptFault, Listener, info_over, serve_on};
 use std::alloc::Global;
 use std::env::Env;
 use xdr_io::{MemorySink, MemorySource, Sink, SinkFault};
 
 /// What is told of the case.
-pub fn told(rt: &HostRuntime, case: &Case<'_>) -> Option<String> {
-    match case.engine() {
-        "info" => info(rt.alloc(), rt, case),
-        "datagrams" => datagrams(rt.alloc(), rt, case),
-        "asking" => asking(rt.alloc(), rt, case),
+pub fn told(rt: &HostRuntime, case: &Case<'_>) -> String {
+    match case.call() {
+        "info_over" => info(rt.alloc(), rt, case),
         _ => connections(rt.alloc(), rt, case),
     }
 }
 
-fn info(alloc: Global, rt: &impl Env, case: &Case<'_>) -> Option<String> {
-    let input = case.input(alloc)?;
-    let mut room = vec![in alloc; 0u8; input.len().saturating_add(4096)].ok()?;
-    let before = case.refuse(alloc, rt)?;
-    let (mut told, mut sent) = ([0u8; 128], [0u8; 128]);
-    let write = case.write_piece().max(1);
-    let (sends, prints) = match case.setting() & 8 {
-        0 => (None, case.write_failing()),
-        _ => (case.write_failing(), None),
-    };
-    let mut source = MemorySource::new(&input, case.read_piece().max(1), case.read_failing());
-    let mut call = MemorySink::new(&mut sent, write, sends);
-    let mut output = MemorySink::new(&mut room, write, prints);
-    let mut faults = MemorySink::new(&mut told, 128, None);
+fn info(alloc: Global, rt: &impl Env, case: &Case<'_>) -> String {
+    let input = case.input(alloc);
+    let mut room = room_for(alloc, input.len());
+    let before = case.refuse(alloc, rt);
+    let (mut said, mut sent) = ([0u8; 128], [0u8; 128]);
+    let write = case.piece("write");
+    let mut source = MemorySource::new(&input, case.piece("read"), case.failing("read-fails"));
+    let mut call = MemorySink::new(&mut sent, write, case.failing("call-write-fails"));
+    let mut output = MemorySink::new(&mut room, write, case.failing("write-fails"));
+    let mut faults = MemorySink::new(&mut said, 128, None);
     let status = info_over(
         alloc,
         &mut source,
         &mut call,
         &mut output,
         &mut faults,
-        case.setting() & 7,
+        case.whole("version"),
     );
-    let told = line(alloc, allow(rt, before), &status);
-    let told = with_bytes(alloc, told, call.written());
-    let told = with_bytes(alloc, told, output.written());
-    Some(with_bytes(alloc, told, faults.written()))
+    let told = ending(alloc, allow(rt, before), status);
+    let told = with_bytes(alloc, told, " call=", call.written());
+    let told = with_text(told, " output=", output.written());
+    with_text(told, " faults=", faults.written())
 }
 
 // What a client gets: these bytes in one write, where they are told, and else anything.
@@ -73,11 +64,12 @@ impl<'a> Sink for Taken<'a> {
     }
 }
 
-// Clients one after another, and what each of them wants. After the last none comes.
+// Clients one after another: what each sends, the read of it that fails, and what it takes. After the last none comes.
 #[derive(Drop)]
 struct Clients<'a> {
-    all: &'a [u8],
-    wanted: &'a [u8],
+    all: &'a [Vec<u8>],
+    failing: &'a str,
+    wanted: &'a [Vec<u8>],
     piece: usize,
 }
 
@@ -93,81 +85,49 @@ impl<'a> Listener for Clients<'a> {
     }
 
     fn accept(&mut self) -> Result<(MemorySource<'a>, Taken<'a>), AcceptFault> {
-        let client = take(&mut self.all).unwrap_or(&[]);
-        let Some((failing, sent)) = client.split_first() else {
+        let Some((sent, rest)) = self.all.split_first() else {
             return Err(AcceptFault);
         };
-        let wanted = take(&mut self.wanted);
-        let reader = MemorySource::new(sent, self.piece.max(1), Some(*failing as u64));
-        Ok((reader, Taken { wanted }))
+        self.all = rest;
+        let (number, rest) = self.failing.split_once(',').unwrap_or((self.failing, ""));
+        self.failing = rest;
+        let failing = Some(number.parse::<u64>().unwrap_or(0));
+        let mut wanted = None;
+        if let Some((first, rest)) = self.wanted.split_first() {
+            self.wanted = rest;
+            wanted = Some(first.as_slice());
+        }
+        Ok((
+            MemorySource::new(sent, self.piece.max(1), failing),
+            Taken { wanted },
+        ))
     }
 }
 
-fn connections(alloc: Global, rt: &impl Env, case: &Case<'_>) -> Option<String> {
-    let (input, wanted) = (case.input(alloc)?, case.before(alloc)?);
-    let mut directory = started(alloc)?;
-    let before = case.refuse(alloc, rt)?;
-    let mut room = [0u8; 4096];
-    let mut told = [0u8; 128];
+// The exit status, how many clients were not waited for, and what was printed.
+fn connections(alloc: Global, rt: &impl Env, case: &Case<'_>) -> String {
+    let (all, wanted) = (case.list(alloc, "clients"), case.list(alloc, "replies"));
+    let mut directory = started(alloc);
+    let before = case.refuse(alloc, rt);
+    let (mut room, mut said) = ([0u8; 4096], [0u8; 128]);
     let mut clients = Clients {
-        all: &input,
+        all: &all,
+        failing: case.word("clients-read-fails"),
         wanted: &wanted,
-        piece: case.read_piece(),
+        piece: case.piece("read"),
     };
-    let mut output = MemorySink::new(&mut room, case.write_piece().max(1), case.write_failing());
-    let mut faults = MemorySink::new(&mut told, 128, None);
+    let mut output = MemorySink::new(&mut room, case.piece("write"), case.failing("write-fails"));
+    let mut faults = MemorySink::new(&mut said, 128, None);
     let status = serve_on(
         alloc,
         &mut clients,
-        case.setting(),
+        case.whole("count"),
         &mut directory,
         &mut output,
         &mut faults,
     );
-    let told = line(alloc, allow(rt, before), &status);
-    let told = with_bytes(alloc, told, clients.all);
-    let told = with_bytes(alloc, told, output.written());
-    Some(with_bytes(alloc, told, faults.written()))
-}
-
-// The datagrams of the input are answered, SETTING of them.
-fn datagrams(alloc: Global, rt: &impl Env, case: &Case<'_>) -> Option<String> {
-    let input = case.input(alloc)?;
-    let waiting = cut(alloc, &input)?;
-    let mut directory = started(alloc)?;
-    let before = case.refuse(alloc, rt)?;
-    let (mut room, mut sizes) = ([0u8; 4096], [0usize; 64]);
-    let (mut lines, mut told) = ([0u8; 4096], [0u8; 128]);
-    let mut port = MemoryPort::new(&waiting, &mut room, &mut sizes, case.read_failing());
-    let mut output = MemorySink::new(&mut lines, case.write_piece().max(1), case.write_failing());
-    let mut faults = MemorySink::new(&mut told, 128, None);
-    let status = datagrams_on(
-        alloc,
-        &mut port,
-        case.setting(),
-        &mut directory,
-        &mut output,
-        &mut faults,
-    );
-    let told = line(alloc, allow(rt, before), &(status, port.sent_sizes()));
-    let told = with_bytes(alloc, told, port.sent_bytes());
-    let told = with_bytes(alloc, told, output.written());
-    Some(with_bytes(alloc, told, faults.written()))
-}
-
-// A registry is asked whose answers are the datagrams of the input.
-fn asking(alloc: Global, rt: &impl Env, case: &Case<'_>) -> Option<String> {
-    let input = case.input(alloc)?;
-    let waiting = cut(alloc, &input)?;
-    let before = case.refuse(alloc, rt)?;
-    let (mut room, mut sizes) = ([0u8; 4096], [0usize; 64]);
-    let (mut lines, mut told) = ([0u8; 4096], [0u8; 128]);
-    let mut port = MemoryPort::new(&waiting, &mut room, &mut sizes, case.read_failing());
-    let mut output = MemorySink::new(&mut lines, case.write_piece().max(1), case.write_failing());
-    let mut faults = MemorySink::new(&mut told, 128, None);
-    let status = info_datagram(alloc, &mut port, &mut output, &mut faults, case.setting());
-    let told = line(alloc, allow(rt, before), &(status, port.sent_sizes()));
-    let told = with_bytes(alloc, told, port.sent_bytes());
-    let told = with_bytes(alloc, told, output.written());
-    Some(with_bytes(alloc, told, faults.written()))
+    let told = ending(alloc, allow(rt, before), status);
+    let told = with_number(alloc, told, " left=", clients.all.len() as u64);
+    let told = with_text(told, " output=", output.written());
+    with_text(told, " faults=", faults.written())
 }

@@ -1,36 +1,55 @@
-//! Streams of records: `normalise` and `reader` with the limit SETTING, `reader_calls` on one reader, `mark` and
-//! `write_marked`.
-ghost use Rattle.std.specs.Prelude.{◌≤◌, ◌<◌};
+//! Streams of records: `normalise`, `RecordReader` fed the input in pieces, `RecordReader::calls`, which are the steps
+//! of a case on one reader, `mark` and `write_marked`.
+ghost use Rattle.std.specs.Prelude.{◌≤◌, ◌<◌, length};
 
 use crate::case::{Case, allow};
-use crate::datagrams::take;
-use crate::told::{bytes_line, line, with_bytes};
-use rpc_record::{RecordFault, RecordReader, RecordStep, mark, normalise, write_marked};
-use std::alloc::{AllocError, Global};
+use crate::printed::{ended, record_fault, step};
+use crate::told::{digits_of, joined, line, listed, numbered, plain, with_bytes, with_number};
+use rpc_record::{Count, RecordFault, RecordReader, RecordStep, mark, normalise, write_marked};
+use std::alloc::Global;
 use std::env::Env;
-use xdr_io::{MemorySink, MemorySource};
+use xdr_io::{Cut, MemorySink, MemorySource};
 
 /// What is told of the case.
-pub fn told(rt: &HostRuntime, case: &Case<'_>) -> Option<String> {
-    match case.engine() {
+pub fn told(rt: &HostRuntime, case: &Case<'_>) -> String {
+    match case.call() {
         "normalise" => normalised(rt.alloc(), rt, case),
-        "reader" => handed_out(rt.alloc(), rt, case),
-        "reader_calls" => called(rt.alloc(), case),
+        "RecordReader" => handed_out(rt.alloc(), rt, case),
+        "RecordReader::calls" => called(rt.alloc(), case),
         "write_marked" => written(rt.alloc(), rt, case),
         _ => marked(rt.alloc(), rt, case),
     }
 }
 
-fn normalised(alloc: Global, rt: &impl Env, case: &Case<'_>) -> Option<String> {
-    let input = case.input(alloc)?;
-    let before = case.refuse(alloc, rt)?;
+// The greatest record of a case.
+fn limit_of(case: &Case<'_>) -> u32
+    ensures { result ≤ 2147483647 }
+{
+    case.whole("limit").min(2147483647)
+}
+
+fn count_of(alloc: Global, answer: Result<Count, RecordFault>) -> String {
+    match answer {
+        Ok(count) => {
+            let records = numbered(alloc, "", count.records);
+            joined(
+                with_number(alloc, records, " records, ", count.bytes),
+                " bytes",
+            )
+        }
+        Err(fault) => record_fault(alloc, fault),
+    }
+}
+
+fn normalised(alloc: Global, rt: &impl Env, case: &Case<'_>) -> String {
+    let input = case.input(alloc);
+    let before = case.refuse(alloc, rt);
     let mut room = [0u8; 32768];
-    let limit = case.setting().min(2147483647);
-    let mut source = MemorySource::new(&input, case.read_piece().max(1), case.read_failing());
-    let mut sink = MemorySink::new(&mut room, case.write_piece().max(1), case.write_failing());
-    let answer = normalise(alloc, &mut source, &mut sink, limit);
-    let told = line(alloc, allow(rt, before), &answer);
-    Some(with_bytes(alloc, told, sink.written()))
+    let mut source = MemorySource::new(&input, case.piece("read"), case.failing("read-fails"));
+    let mut sink = MemorySink::new(&mut room, case.piece("write"), case.failing("write-fails"));
+    let answer = normalise(alloc, &mut source, &mut sink, limit_of(case));
+    let told = line(alloc, allow(rt, before), count_of(alloc, answer).as_str());
+    with_bytes(alloc, told, " output=", sink.written())
 }
 
 // Feeds a piece until it is taken whole, and keeps the records that come whole in it.
@@ -75,82 +94,116 @@ fn feed_all(
     Ok(())
 }
 
+// Room for the records of an input behind their lengths; none for want of memory.
+fn room_for(alloc: Global, input: &[u8]) -> Vec<u8> {
+    match Vec::with_capacity(alloc, input.len().saturating_mul(2).saturating_add(64)) {
+        Ok(room) => room,
+        Err(_) => Vec::new(alloc),
+    }
+}
+
 // What a reader answers to the input in pieces and to its end, and then, with memory again, to a byte and to the end.
-fn handed_out(alloc: Global, rt: &impl Env, case: &Case<'_>) -> Option<String> {
-    let input = case.input(alloc)?;
-    let mut out = Vec::with_capacity(alloc, input.len().saturating_mul(2).saturating_add(64)).ok()?;
-    let before = case.refuse(alloc, rt)?;
-    let mut reader = RecordReader::start(alloc, case.setting().min(2147483647));
-    let fed = feed_all(&mut reader, &input, case.read_piece(), &mut out);
+fn handed_out(alloc: Global, rt: &impl Env, case: &Case<'_>) -> String {
+    let input = case.input(alloc);
+    let mut out = room_for(alloc, &input);
+    let before = case.refuse(alloc, rt);
+    let mut reader = RecordReader::start(alloc, limit_of(case));
+    let fed = feed_all(&mut reader, &input, case.piece("read"), &mut out);
     let end = reader.end();
     let met = allow(rt, before);
     let again = reader.feed(&[0]);
-    let told = line(alloc, met, &(fed, end, again, reader.end()));
-    Some(with_bytes(alloc, told, &out))
+    let last = reader.end();
+    let answers = [
+        ended(alloc, fed),
+        ended(alloc, end),
+        step(alloc, again),
+        ended(alloc, last),
+    ];
+    let told = line(alloc, met, listed(alloc, &answers).as_str());
+    with_bytes(alloc, told, " records=", &out)
 }
 
-// What one call of a reader answers: `f` feeds the part, `i` feeds it with a room that had other bytes and then stands
-// behind the answer, `t` takes a record, and another letter ends.
-fn step(
-    alloc: Global,
-    reader: &mut RecordReader,
-    letter: u8,
-    part: &[u8],
-) -> Result<String, AllocError> {
-    match letter {
-        b'f' => format!(in alloc; "{:?}", reader.feed(part)),
-        b'i' => {
-            let mut room = vec![in alloc; 0x7au8; 3]?;
-            let answer = reader.feed_into(part, &mut room);
-            format!(in alloc; "{answer:?} {}", hex::encode(alloc, &room)?)
-        }
-        b't' => match reader.take() {
-            Some(record) => hex::encode(alloc, &record),
-            None => String::from_str(alloc, "none"),
-        },
-        _ => format!(in alloc; "{:?}", reader.end()),
+// What a reader answers to a part, and the record that is whole then, in a buffer that had other bytes.
+fn fed_into(alloc: Global, reader: &mut RecordReader, part: &[u8]) -> String {
+    let Ok(mut room) = vec![in alloc; 0x7au8; 3] else {
+        return String::new(alloc);
+    };
+    let answer = reader.feed_into(part, &mut room);
+    let is_whole = matches!(&answer, Ok(RecordStep::Whole { .. }));
+    let told = step(alloc, answer);
+    if is_whole {
+        joined(joined(told, " "), digits_of(alloc, &room).as_str())
+    } else {
+        told
     }
 }
 
-// The calls that NAME says by their letters, each fed the next part of INPUT, and their answers, each with a semicolon
-// behind it.
-fn called(alloc: Global, case: &Case<'_>) -> Option<String> {
-    let input = case.input(alloc)?;
-    let mut rest = input.as_slice();
-    let mut reader = RecordReader::start(alloc, case.setting().min(2147483647));
-    let mut told = String::from_str(alloc, "0").ok()?;
-    for letter in case.name().bytes() {
-        let part = match letter {
-            b'f' | b'i' => take(&mut rest)?,
-            _ => &[],
-        };
-        let answer = step(alloc, &mut reader, letter, part).ok()?;
-        told.push_str(" ").ok()?;
-        told.push_str(answer.as_str()).ok()?;
-        told.push_str(";").ok()?;
+// The record that is taken.
+fn taken(alloc: Global, reader: &mut RecordReader) -> String {
+    match reader.take() {
+        Some(record) => digits_of(alloc, &record),
+        None => plain(alloc, "none"),
     }
-    Some(told)
 }
 
-fn marked(alloc: Global, rt: &impl Env, case: &Case<'_>) -> Option<String> {
-    let input = case.input(alloc)?;
-    if input.len() > 16777216 {
-        return None;
+// What one call of a reader answers: `feed` and `feed_into` with a part behind a colon, `take` or `end`.
+fn stepped(alloc: Global, reader: &mut RecordReader, call: &str) -> String {
+    let (name, digits) = call.split_once(':').unwrap_or((call, ""));
+    let part = match hex::decode(alloc, digits) {
+        Ok(part) => part,
+        Err(_) => Vec::new(alloc),
+    };
+    match name {
+        "feed" => step(alloc, reader.feed(&part)),
+        "feed_into" => fed_into(alloc, reader, &part),
+        "take" => taken(alloc, reader),
+        _ => ended(alloc, reader.end()),
     }
-    let before = case.refuse(alloc, rt)?;
-    let answer = mark(alloc, &input);
-    Some(bytes_line(alloc, allow(rt, before), &answer))
 }
 
-fn written(alloc: Global, rt: &impl Env, case: &Case<'_>) -> Option<String> {
-    let input = case.input(alloc)?;
-    if input.len() > 16777216 {
-        return None;
+// The calls that the case lists, with a comma between two, and their answers.
+fn called(alloc: Global, case: &Case<'_>) -> String {
+    let mut reader = RecordReader::start(alloc, limit_of(case));
+    let mut answers = Vec::new(alloc);
+    for call in case.word("steps").split(',') {
+        let _pushed = answers.push(stepped(alloc, &mut reader, call));
     }
-    let before = case.refuse(alloc, rt)?;
+    line(alloc, 0, listed(alloc, &answers).as_str())
+}
+
+// A record that can be marked: the input, or nothing where it is too long.
+fn record_of(alloc: Global, case: &Case<'_>) -> Vec<u8>
+    ensures { length result.items ≤ 16777216 }
+{
+    let mut record = case.input(alloc);
+    record.truncate(16777216);
+    record
+}
+
+fn marked(alloc: Global, rt: &impl Env, case: &Case<'_>) -> String {
+    let record = record_of(alloc, case);
+    let before = case.refuse(alloc, rt);
+    let answer = mark(alloc, &record);
+    let met = allow(rt, before);
+    match answer {
+        Ok(marked) => with_bytes(alloc, line(alloc, met, "ok"), " output=", &marked),
+        Err(_) => line(alloc, met, "out of memory"),
+    }
+}
+
+fn cut_of(alloc: Global, answer: Result<(), Cut>) -> String {
+    match answer {
+        Ok(()) => plain(alloc, "ok"),
+        Err(cut) => numbered(alloc, "write fault after ", cut.written as u64),
+    }
+}
+
+fn written(alloc: Global, rt: &impl Env, case: &Case<'_>) -> String {
+    let record = record_of(alloc, case);
+    let before = case.refuse(alloc, rt);
     let mut room = [0u8; 128];
-    let mut sink = MemorySink::new(&mut room, case.write_piece().max(1), case.write_failing());
-    let answer = write_marked(&mut sink, &input);
-    let told = line(alloc, allow(rt, before), &answer);
-    Some(with_bytes(alloc, told, sink.written()))
+    let mut sink = MemorySink::new(&mut room, case.piece("write"), case.failing("write-fails"));
+    let answer = write_marked(&mut sink, &record);
+    let told = line(alloc, allow(rt, before), cut_of(alloc, answer).as_str());
+    with_bytes(alloc, told, " output=", sink.written())
 }

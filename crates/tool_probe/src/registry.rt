@@ -1,36 +1,41 @@
-//! The registry at port 111: it is served BEFORE, then the call is made, and then it is served AFTER with all its
-//! memory. `serve` serves INPUT, `answer` answers it as one record, over UDP where SETTING is 17, `append` does so
-//! behind TEXT, `exchange` reads it where the null call of version 2 with xid 1 is exchanged for a reply, and
-//! `registry` makes a registry and dumps it.
+//! The registry at port 111: it is served `before`, then the call is made, and then it is served `after` with all its
+//! memory. `serve` serves the input, `answer` answers it as one record, `append_answer` does so behind `front`,
+//! `exchange` reads it where the null call of version 2 with xid 1 is exchanged for a reply, and `dump` makes a
+//! registry and dumps it.
 ghost use Rattle.std.specs.Prelude.{◌≡◌, ◌<◌, []};
 ghost use Rattle.rpc_message.specs.View.{auth_view, call_view};
 
 use crate::case::{Case, allow};
-use crate::told::{line, with_bytes};
-use registry_answer::{Transport, answer, append_answer};
-use rpc_directory::{Directory, directory_schema};
+use crate::printed::{exchanged as exchanged_text, served as served_text};
+use crate::told::{line, listed, numbered, plain, with_bytes, with_digits};
+use registry_answer::{Answered, Appended, Transport, answer, append_answer};
+use rpc_directory::{Directory, NoMemory, directory_schema};
 use rpc_engine::{exchange, serve};
 use rpc_message::{Call, OpaqueAuth};
 use std::alloc::Global;
 use std::env::Env;
 use std::hash::{BuildHasherDefault, DefaultHasher};
+use xdr_codec::encode;
 use xdr_io::{IntoWrite, MemorySink, MemorySource};
-use xdr_types::{Limits, Schema, Value, fits};
+use xdr_types::{KindId, Limits, Schema, Value, fits};
 
 /// A registry whose order is the same in each run.
 pub type Registry = Directory<BuildHasherDefault<DefaultHasher>>;
 
-/// A registry at port 111 with its own rows alone.
-pub fn started(alloc: Global) -> Option<Registry> {
-    Directory::start(alloc, BuildHasherDefault::new(), 111).ok()
+/// A registry at port 111 with its own rows alone; without rows for want of memory.
+pub fn started(alloc: Global) -> Registry {
+    match Directory::start(alloc, BuildHasherDefault::new(), 111) {
+        Ok(directory) => directory,
+        Err(_) => Directory::new(alloc, BuildHasherDefault::new()),
+    }
 }
 
 /// What is told of the case.
-pub fn told(rt: &HostRuntime, case: &Case<'_>) -> Option<String> {
-    match case.engine() {
+pub fn told(rt: &HostRuntime, case: &Case<'_>) -> String {
+    match case.call() {
         "serve" => served(rt.alloc(), rt, case),
         "answer" => answered(rt.alloc(), rt, case),
-        "append" => appended(rt.alloc(), rt, case),
+        "append_answer" => appended(rt.alloc(), rt, case),
         "exchange" => exchanged(rt.alloc(), rt, case),
         _ => dumped(rt.alloc(), rt, case),
     }
@@ -46,66 +51,95 @@ fn serve_whole(alloc: Global, directory: &mut Registry, input: &[u8]) -> Vec<u8>
 }
 
 /// A registry that was served what comes before the call.
-pub fn prepared(alloc: Global, case: &Case<'_>) -> Option<Registry> {
-    let before = case.before(alloc)?;
-    let mut directory = started(alloc)?;
+pub fn prepared(alloc: Global, case: &Case<'_>) -> Registry {
+    let before = case.bytes(alloc, "before");
+    let mut directory = started(alloc);
     let _written = serve_whole(alloc, &mut directory, &before);
-    Some(directory)
+    directory
 }
 
-/// The line with what the registry, with all its memory, writes for a stream afterwards.
+/// The line with what the registry, with all its memory, writes afterwards for the stream of the case.
 pub fn with_after(
     alloc: Global,
     directory: &mut Registry,
-    before: String,
-    stream: &[u8],
+    line: String,
+    case: &Case<'_>,
 ) -> String {
-    let written = serve_whole(alloc, directory, stream);
-    with_bytes(alloc, before, &written)
+    let written = serve_whole(alloc, directory, &case.bytes(alloc, "after"));
+    with_bytes(alloc, line, " after=", &written)
 }
 
-fn served(alloc: Global, rt: &impl Env, case: &Case<'_>) -> Option<String> {
-    let (input, after) = (case.input(alloc)?, case.after(alloc)?);
-    let mut directory = prepared(alloc, case)?;
-    let before = case.refuse(alloc, rt)?;
+fn served(alloc: Global, rt: &impl Env, case: &Case<'_>) -> String {
+    let input = case.input(alloc);
+    let mut directory = prepared(alloc, case);
+    let before = case.refuse(alloc, rt);
     let mut room = [0u8; 4096];
-    let mut source = MemorySource::new(&input, case.read_piece().max(1), case.read_failing());
-    let mut sink = MemorySink::new(&mut room, case.write_piece().max(1), case.write_failing());
-    let told = serve(
+    let mut source = MemorySource::new(&input, case.piece("read"), case.failing("read-fails"));
+    let mut sink = MemorySink::new(&mut room, case.piece("write"), case.failing("write-fails"));
+    let answer = serve(
         alloc,
         &mut source,
         &mut sink,
         &mut directory,
         Transport::Tcp,
     );
-    let told = line(alloc, allow(rt, before), &told);
-    let told = with_bytes(alloc, told, sink.written());
-    Some(with_after(alloc, &mut directory, told, &after))
+    let told = line(
+        alloc,
+        allow(rt, before),
+        served_text(alloc, answer).as_str(),
+    );
+    let told = with_bytes(alloc, told, " output=", sink.written());
+    with_after(alloc, &mut directory, told, case)
 }
 
-fn answered(alloc: Global, rt: &impl Env, case: &Case<'_>) -> Option<String> {
-    let (input, after) = (case.input(alloc)?, case.after(alloc)?);
-    let mut directory = prepared(alloc, case)?;
-    let before = case.refuse(alloc, rt)?;
-    let transport = match case.setting() {
-        17 => Transport::Udp,
+// What a record is answered with.
+fn answer_text(alloc: Global, answer: &Answered) -> String {
+    match answer {
+        Answered::Silent => plain(alloc, "no reply"),
+        Answered::Reply(reply) => with_digits(alloc, plain(alloc, "reply "), reply),
+        Answered::OutOfMemory { xid } => numbered(alloc, "out of memory, xid ", u64::from(*xid)),
+    }
+}
+
+fn answered(alloc: Global, rt: &impl Env, case: &Case<'_>) -> String {
+    let input = case.input(alloc);
+    let mut directory = prepared(alloc, case);
+    let before = case.refuse(alloc, rt);
+    let transport = match case.word("transport") {
+        "udp" => Transport::Udp,
         _ => Transport::Tcp,
     };
-    let told = answer(alloc, &mut directory, transport, &input);
-    let told = line(alloc, allow(rt, before), &told);
-    Some(with_after(alloc, &mut directory, told, &after))
+    let answer = answer(alloc, &mut directory, transport, &input);
+    let told = line(
+        alloc,
+        allow(rt, before),
+        answer_text(alloc, &answer).as_str(),
+    );
+    with_after(alloc, &mut directory, told, case)
+}
+
+fn appended_text(alloc: Global, answer: Appended) -> String {
+    match answer {
+        Appended::Nothing => plain(alloc, "no reply"),
+        Appended::Reply => plain(alloc, "reply"),
+        Appended::OutOfMemory { xid } => numbered(alloc, "out of memory, xid ", u64::from(xid)),
+    }
 }
 
 // The same behind what stands there, with the bytes that stand there then.
-fn appended(alloc: Global, rt: &impl Env, case: &Case<'_>) -> Option<String> {
-    let (input, after) = (case.input(alloc)?, case.after(alloc)?);
-    let mut out = case.text(alloc)?;
-    let mut directory = prepared(alloc, case)?;
-    let before = case.refuse(alloc, rt)?;
-    let told = append_answer(alloc, &mut directory, Transport::Tcp, &input, &mut out);
-    let told = line(alloc, allow(rt, before), &told);
-    let told = with_bytes(alloc, told, &out);
-    Some(with_after(alloc, &mut directory, told, &after))
+fn appended(alloc: Global, rt: &impl Env, case: &Case<'_>) -> String {
+    let input = case.input(alloc);
+    let mut out = case.bytes(alloc, "front");
+    let mut directory = prepared(alloc, case);
+    let before = case.refuse(alloc, rt);
+    let answer = append_answer(alloc, &mut directory, Transport::Tcp, &input, &mut out);
+    let told = line(
+        alloc,
+        allow(rt, before),
+        appended_text(alloc, answer).as_str(),
+    );
+    let told = with_bytes(alloc, told, " output=", &out);
+    with_after(alloc, &mut directory, told, case)
 }
 
 // An opaque_auth of flavor 0 and no bytes.
@@ -141,41 +175,66 @@ pub fn null_call(alloc: Global) -> Call
     }
 }
 
-fn exchanged(alloc: Global, rt: &impl Env, case: &Case<'_>) -> Option<String> {
-    let input = case.input(alloc)?;
-    let before = case.refuse(alloc, rt)?;
+fn exchanged(alloc: Global, rt: &impl Env, case: &Case<'_>) -> String {
+    let input = case.input(alloc);
+    let before = case.refuse(alloc, rt);
     let call = null_call(alloc);
     let mut room = [0u8; 128];
-    let mut source = MemorySource::new(&input, case.read_piece().max(1), case.read_failing());
-    let mut sink = MemorySink::new(&mut room, case.write_piece().max(1), case.write_failing());
-    let told = exchange(alloc, &mut source, &mut sink, &call);
-    let told = line(alloc, allow(rt, before), &told);
-    Some(with_bytes(alloc, told, sink.written()))
+    let mut source = MemorySource::new(&input, case.piece("read"), case.failing("read-fails"));
+    let mut sink = MemorySink::new(&mut room, case.piece("write"), case.failing("write-fails"));
+    let answer = exchange(alloc, &mut source, &mut sink, &call);
+    let told = line(
+        alloc,
+        allow(rt, before),
+        exchanged_text(alloc, &answer).as_str(),
+    );
+    with_bytes(alloc, told, " output=", sink.written())
 }
 
-// Whether both dumps fit the kinds that their names name.
-fn fit(schema: &Schema, all: &Value, ports: &Value) -> Option<bool> {
-    let limits = Limits::new(4096, 16777216)?;
-    let (rows, mappings) = (schema.named("rpcblist")?, schema.named("pmaplist")?);
-    Some(fits(schema, rows, all, limits) && fits(schema, mappings, ports, limits))
+// The bytes of a value, if it is one of the type of this name.
+fn spelled(alloc: Global, schema: &Schema, kind: Option<KindId>, value: &Value) -> String {
+    let (Some(kind), Some(limits)) = (kind, Limits::new(4096, 16777216)) else {
+        return plain(alloc, "no kind");
+    };
+    if !fits(schema, kind, value, limits) {
+        return plain(alloc, "another type");
+    }
+    match encode(alloc, schema, kind, value, limits) {
+        Ok(bytes) => with_digits(alloc, plain(alloc, "rows "), &bytes),
+        Err(_) => plain(alloc, "not encoded"),
+    }
 }
 
-// The rows of a registry that is made, those that were served before as values of both kinds, the types, and whether
-// the values fit them.
-fn dumped(alloc: Global, rt: &impl Env, case: &Case<'_>) -> Option<String> {
-    let directory = prepared(alloc, case)?;
-    let before = case.refuse(alloc, rt)?;
-    let made = started(alloc);
+/// A dump as the bytes of its type in the registry's own declarations.
+pub fn rows_text(alloc: Global, name: &str, dump: &Result<Value, NoMemory>) -> String {
+    let Ok(value) = dump else {
+        return plain(alloc, "out of memory");
+    };
+    match directory_schema(alloc) {
+        Ok(schema) => spelled(alloc, &schema, schema.named(name), value),
+        Err(_) => plain(alloc, "no types"),
+    }
+}
+
+// The rows of a registry that was made.
+fn made_text(alloc: Global, made: &Result<Registry, NoMemory>) -> String {
+    match made {
+        Ok(made) => rows_text(alloc, "rpcblist", &made.dump(alloc)),
+        Err(_) => plain(alloc, "out of memory"),
+    }
+}
+
+// The rows of a registry that is made, and those that were served before as values of both types, as bytes of them.
+fn dumped(alloc: Global, rt: &impl Env, case: &Case<'_>) -> String {
+    let directory = prepared(alloc, case);
+    let before = case.refuse(alloc, rt);
+    let made = Directory::start(alloc, BuildHasherDefault::new(), 111);
     let (all, ports) = (directory.dump(alloc), directory.dump_ports(alloc));
-    let schema = directory_schema(alloc);
     let met = allow(rt, before);
-    let made = match &made {
-        Some(made) => Some(made.dump(alloc)),
-        None => None,
-    };
-    let is_fit = match (&schema, &all, &ports) {
-        (Ok(schema), Ok(all), Ok(ports)) => fit(schema, all, ports),
-        _ => None,
-    };
-    Some(line(alloc, met, &(made, all, ports, schema, is_fit)))
+    let answers = [
+        made_text(alloc, &made),
+        rows_text(alloc, "rpcblist", &all),
+        rows_text(alloc, "pmaplist", &ports),
+    ];
+    line(alloc, met, listed(alloc, &answers).as_str())
 }

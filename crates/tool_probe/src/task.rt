@@ -1,88 +1,86 @@
-//! Tasks of the program over memory: SETTING 0 is a check, 1 lines, 2 records; 4 more where the input is hexadecimal;
-//! then 8 times the limit on a record, and for a check and lines 8 where no file of declarations is named, 16 where it
-//! is BEFORE and not `a.x`, which has TEXT, 32 where the read that fails is one of TEXT, and 64 where the write that
-//! fails is one of faults. A `~` in NAME stands for a space.
+//! Tasks of the program over memory: `Task::Check`, `Task::Show` and `Task::Records`. Where `types` names a file, that
+//! of the name `a.x` has the text of the case.
 ghost use Rattle.std.specs.Prelude.{◌<◌};
 
 use crate::case::{Case, allow};
-use crate::told::{line, with_bytes};
+use crate::told::{numbered, with_number, with_text};
 use oncrpc_tasks::{MemoryOpener, RecordsTask, Task, ValueTask, task_over};
 use std::alloc::Global;
 use std::env::Env;
 use xdr_io::{MemorySink, MemorySource};
 
-// Whether the task is one of a value, and this part of the setting is there.
-fn has(case: &Case<'_>, part: u32) -> bool {
-    case.setting() & 3 < 2 && case.setting() & part != 0
-}
-
 // The file of declarations that is named, if one is.
-fn types(alloc: Global, case: &Case<'_>) -> Option<Option<String>> {
-    if has(case, 8) {
-        return Some(None);
+fn types(alloc: Global, case: &Case<'_>) -> Option<String> {
+    if case.has("types") {
+        return Some(case.text(alloc, "types"));
     }
-    if has(case, 16) {
-        return Some(Some(String::from_utf8(case.before(alloc)?).ok()?));
-    }
-    Some(Some(String::from_str(alloc, "a.x").ok()?))
+    None
 }
 
-fn value_task(alloc: Global, case: &Case<'_>) -> Option<ValueTask> {
-    Some(ValueTask {
-        name: case.name().replace(alloc, "~", " ").ok()?,
-        types: types(alloc, case)?,
-        hex: case.setting() & 4 != 0,
+fn value_task(alloc: Global, case: &Case<'_>) -> ValueTask {
+    ValueTask {
+        name: case.text(alloc, "kind"),
+        types: types(alloc, case),
+        hex: case.has("hex"),
         depth: case.depth(),
-        bytes: case.bytes(),
-    })
+        bytes: case.most(),
+    }
 }
 
-fn task(alloc: Global, case: &Case<'_>) -> Option<Task> {
-    match case.setting() & 3 {
-        0 => Some(Task::Check(value_task(alloc, case)?)),
-        1 => Some(Task::Show(value_task(alloc, case)?)),
-        _ => Some(Task::Records(RecordsTask {
-            limit: case.setting() / 8,
-            hex: case.setting() & 4 != 0,
-        })),
+fn task(alloc: Global, case: &Case<'_>) -> Task {
+    match case.call() {
+        "Task::Check" => Task::Check(value_task(alloc, case)),
+        "Task::Show" => Task::Show(value_task(alloc, case)),
+        _ => Task::Records(RecordsTask {
+            limit: case.whole("limit"),
+            hex: case.has("hex"),
+        }),
     }
+}
+
+/// Room for so many bytes, and some more.
+pub fn room_for(alloc: Global, count: usize) -> Vec<u8> {
+    match vec![in alloc; 0u8; count.saturating_add(4096)] {
+        Ok(room) => room,
+        Err(_) => Vec::new(alloc),
+    }
+}
+
+/// The line of an exit status.
+pub fn ending(alloc: Global, met: u64, status: u8) -> String {
+    with_number(
+        alloc,
+        numbered(alloc, "growths=", met),
+        " status=",
+        u64::from(status),
+    )
 }
 
 /// The exit status of the case, and what was written to each stream.
-pub fn told(rt: &HostRuntime, case: &Case<'_>) -> Option<String> {
+pub fn told(rt: &HostRuntime, case: &Case<'_>) -> String {
     let alloc = rt.alloc();
-    let (text, input) = (case.text(alloc)?, case.input(alloc)?);
-    let task = task(alloc, case)?;
-    ended(alloc, rt, case, &task, &text, &input)
+    let (text, input) = (case.bytes(alloc, "text"), case.input(alloc));
+    let task = task(alloc, case);
+    let mut room = room_for(alloc, input.len());
+    over(alloc, rt, case, &task, &text, &input, &mut room)
 }
 
-// The call that fails, first where the part of the setting is there, and then where it is not.
-fn failing(case: &Case<'_>, part: u32, call: Option<u64>) -> (Option<u64>, Option<u64>) {
-    if has(case, part) {
-        (call, None)
-    } else {
-        (None, call)
-    }
-}
-
-fn ended(
+fn over(
     alloc: Global,
     rt: &impl Env,
     case: &Case<'_>,
     task: &Task,
     text: &[u8],
     input: &[u8],
-) -> Option<String> {
-    let mut room = vec![in alloc; 0u8; input.len().saturating_add(4096)].ok()?;
-    let mut told = [0u8; 128];
-    let (read, write) = (case.read_piece().max(1), case.write_piece().max(1));
-    let (of_text, of_input) = failing(case, 32, case.read_failing());
-    let (of_faults, of_output) = failing(case, 64, case.write_failing());
-    let before = case.refuse(alloc, rt)?;
-    let mut opener = MemoryOpener::new("a.x", text, read, of_text);
-    let mut source = MemorySource::new(input, read, of_input);
-    let mut output = MemorySink::new(&mut room, write, of_output);
-    let mut faults = MemorySink::new(&mut told, write, of_faults);
+    room: &mut [u8],
+) -> String {
+    let mut said = [0u8; 128];
+    let (read, write) = (case.piece("read"), case.piece("write"));
+    let before = case.refuse(alloc, rt);
+    let mut opener = MemoryOpener::new("a.x", text, read, case.failing("types-read-fails"));
+    let mut source = MemorySource::new(input, read, case.failing("read-fails"));
+    let mut output = MemorySink::new(room, write, case.failing("write-fails"));
+    let mut faults = MemorySink::new(&mut said, write, case.failing("faults-write-fails"));
     let status = task_over(
         alloc,
         task,
@@ -91,7 +89,7 @@ fn ended(
         &mut output,
         &mut faults,
     );
-    let told = line(alloc, allow(rt, before), &status);
-    let told = with_bytes(alloc, told, output.written());
-    Some(with_bytes(alloc, told, faults.written()))
+    let told = ending(alloc, allow(rt, before), status);
+    let told = with_text(told, " output=", output.written());
+    with_text(told, " faults=", faults.written())
 }
