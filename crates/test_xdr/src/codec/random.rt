@@ -186,7 +186,8 @@ fn some_limits(rt: &impl Abort, random: &mut Pcg32) -> Limits {
     }
 }
 
-// What a decoder says of the bytes in pieces of this size.
+// What a decoder says of the bytes in pieces of this size, and how many it took: the pieces before the last whole, and
+// so many of that one as it said.
 fn in_pieces(
     rt: &impl Abort,
     alloc: Global,
@@ -195,14 +196,21 @@ fn in_pieces(
     limits: Limits,
     input: &[u8],
     size: u32,
-) -> Result<Value, DecodeFault> {
+) -> (usize, Result<Value, DecodeFault>) {
     let mut decoder = started(rt, alloc, schema, place, limits);
+    let mut taken = 0usize;
     for piece in input.chunks(size.max(1) as usize) {
-        if fed(&mut decoder, piece) != Ok(Progress::More) {
+        let (count, goes_on) = match fed(&mut decoder, piece) {
+            Ok(Progress::More) => (piece.len(), true),
+            Ok(Progress::Done { used }) => (used, false),
+            Err(_) => (0, false),
+        };
+        taken = taken.saturating_add(count);
+        if !goes_on {
             break;
         }
     }
-    finished(decoder)
+    (taken, finished(decoder))
 }
 
 // The checker counted so many bytes.
@@ -228,6 +236,73 @@ fn are_joined(parts: Result<Vec<Lent<'_>>, DecodeFault>, used: usize) -> bool {
     end == used
 }
 
+// Whether a part has the kind and the name of a member.
+fn is_member(member: &Member, part: &Lent<'_>) -> bool {
+    member.kind == part.kind && member.name.as_str() == part.name
+}
+
+fn is_field(fields: &[Member], part: &Lent<'_>) -> bool {
+    for field in fields {
+        if is_member(field, part) {
+            return true;
+        }
+    }
+    false
+}
+
+fn is_arm(arms: &[Arm], other: &Option<Member>, part: &Lent<'_>) -> bool {
+    for arm in arms {
+        if is_member(&arm.member, part) {
+            return true;
+        }
+    }
+    match other {
+        Some(member) => is_member(member, part),
+        None => false,
+    }
+}
+
+// Whether a node of this kind may stand right above a part.
+fn is_above(kind: &Kind, part: &Lent<'_>) -> bool {
+    match kind {
+        Kind::Structure { fields } => is_field(fields, part),
+        Kind::Choice { arms, other, .. } => is_arm(arms, other, part),
+        Kind::Fixed { item, .. } | Kind::UpTo { item, .. } | Kind::Maybe { item } => {
+            *item == part.kind && part.name.is_empty()
+        }
+        _ => false,
+    }
+}
+
+// Whether a part stands right: at the root, or below the last node of the depth above its own.
+fn is_placed(schema: &Schema, root: KindId, above: Option<&KindId>, part: &Lent<'_>) -> bool {
+    match above {
+        Some(above) => schema.has(*above) && is_above(schema.kind(*above), part),
+        None => part.kind == root && part.name.is_empty(),
+    }
+}
+
+// Whether each part has the kind and the name of a member of the one that it is a part of.
+fn are_placed(
+    alloc: Global,
+    schema: &Schema,
+    place: u32,
+    parts: Result<Vec<Lent<'_>>, DecodeFault>,
+) -> Result<bool, AllocError> {
+    let Ok(parts) = parts else {
+        return Ok(false);
+    };
+    let mut above = Vec::new(alloc);
+    for part in &parts {
+        above.truncate(part.depth.saturating_sub(1) as usize);
+        if !is_placed(schema, id(place), above.last(), part) {
+            return Ok(false);
+        }
+        above.push(part.kind)?;
+    }
+    Ok(true)
+}
+
 // Whether the bytes begin with a value, where all say one thing of them.
 fn agree(
     rt: &impl Abort,
@@ -238,7 +313,7 @@ fn agree(
 ) -> Option<bool> {
     let (place, limits) = (from(random, FIRST, 6), some_limits(rt, random));
     let (size, other) = (from(random, 1, 9), from(random, 1, 9));
-    let pieces = in_pieces(rt, alloc, schema, place, limits, input, size);
+    let (taken, pieces) = in_pieces(rt, alloc, schema, place, limits, input, size);
     let count = checked(rt, alloc, schema, place, limits, input, other);
     match decoded(rt, alloc, schema, place, limits, input) {
         Err(fault) => {
@@ -251,7 +326,15 @@ fn agree(
             let same = is_count(count, used)
                 && input.starts_with(&bytes)
                 && bytes.len() == used
+                && taken == used
                 && are_joined(lent(rt, alloc, schema, place, limits, input), used)
+                && are_placed(
+                    alloc,
+                    schema,
+                    place,
+                    lent(rt, alloc, schema, place, limits, input),
+                )
+                .ok()?
                 && pieces == Ok(value);
             if same { Some(true) } else { None }
         }
