@@ -71,7 +71,7 @@ def asked(row, refused="0"):
             named = f"host {'.'.join(map(str, host))} port {port}" if host else "no address"
             return line(name, refused, address=text), named
         case "write_uaddr" as name, text, host, port:
-            return line(name, refused, host=bytes(host).hex(), port=port), f"address {text}"
+            return line(name, refused, host=int.from_bytes(bytes(host), "big"), port=port), f"address {text}"
 
 
 def answers_of(told):

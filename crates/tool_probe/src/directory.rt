@@ -37,18 +37,10 @@ fn start<'a>(alloc: Global, directory: &'a mut Registry, port: u16) -> Answer<'a
 
 // The universal address of a call, as text.
 fn written(alloc: Global, call: &Case<'_>) -> Answer<'static> {
-    let host = call.bytes(alloc, "host");
+    // (the number is read without memory, so that what is refused is what the call takes)
+    let host = call.whole("host").to_be_bytes();
     let port = call.whole("port").min(65535) as u16;
-    match host.as_slice() {
-        [a, b, c, d] => Answer::Written(write_uaddr(
-            alloc,
-            Uaddr {
-                host: [*a, *b, *c, *d],
-                port,
-            },
-        )),
-        _ => Answer::Named(None),
-    }
+    Answer::Written(write_uaddr(alloc, Uaddr { host, port }))
 }
 
 // Makes a call that changes rows.
