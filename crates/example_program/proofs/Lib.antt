@@ -8,4 +8,4 @@ pub mod Asks
 pub mod Answered
 pub mod Normalised
 pub mod Arguments
-pub mod Words
+pub mod Endings

@@ -1,5 +1,5 @@
 use Rattle.example_program.proofs.Arguments.{one_is_asked}
-use Rattle.example_program.proofs.Words.{nothing_asked}
+use Rattle.example_program.proofs.Endings.{nothing_asked}
 use Rattle.example_program.proofs.tasks.arguments_count_from_1.Goals as goal
 
 pub returns : goal.returns

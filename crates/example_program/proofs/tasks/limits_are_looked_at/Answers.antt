@@ -1,5 +1,5 @@
 -- What is done was asked for, within limits in their ranges.
-use Rattle.example_program.proofs.Words.{looked_for}
+use Rattle.example_program.proofs.Endings.{looked_for}
 use Rattle.example_program.proofs.tasks.limits_are_looked_at.Goals as goal
 
 pub returns : goal.returns

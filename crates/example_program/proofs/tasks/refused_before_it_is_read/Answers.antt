@@ -1,5 +1,5 @@
 -- At 2 nothing was read or printed.
-use Rattle.example_program.proofs.Words.{unread}
+use Rattle.example_program.proofs.Endings.{unread}
 use Rattle.example_program.proofs.tasks.refused_before_it_is_read.Goals as goal
 
 pub returns : goal.returns

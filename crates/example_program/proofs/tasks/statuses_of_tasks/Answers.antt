@@ -1,5 +1,5 @@
 -- However a task ends, its reads are few.
-use Rattle.example_program.proofs.Words.{few_reads}
+use Rattle.example_program.proofs.Endings.{few_reads}
 use Rattle.example_program.proofs.tasks.statuses_of_tasks.Goals as goal
 
 pub returns-clause-reads : goal.returns-clause-reads
