@@ -8,20 +8,20 @@ use Rattle.oncrpc_service.specs.Listening.{Arrives}
 use Rattle.oncrpc_service.specs.Connections.{Outcome, ServesEach, printed}
 
 -- no connection leaves all as it was
-pub none_served : {W : Type 0} {went : W → Option (List ℕ)} (rows new : List Row) (w w' : Option (List (List ℕ)))
+pub none_served : {W : Type 0} (went : W → Option (List ℕ)) (rows new : List Row) (w w' : Option (List (List ℕ)))
     (os : List Outcome)
     → length os ≤ 0
     → ServesEach went rows w os new w' → (new ≡ rows) × (w' ≡ w)
-none_served rows new w w' [] few s = s
-none_served rows new w w' (o ∷ os) few s = absurd (omega (arith, few))
+none_served went rows new w w' [] few s = s
+none_served went rows new w w' (o ∷ os) few s = absurd (omega (arith, few))
 
 -- where no client comes none is served
-pub nobody_served : {W : Type 0} {went : W → Option (List ℕ)} (rows new : List Row) (w w' : Option (List (List ℕ)))
+pub nobody_served : {W : Type 0} (went : W → Option (List ℕ)) (rows new : List Row) (w w' : Option (List (List ℕ)))
     (os : List Outcome)
     → w ≡ Some []
     → ServesEach went rows w os new w' → (length os ≡ 0) × (new ≡ rows)
-nobody_served rows new w w' [] e s = (refl, s.0)
-nobody_served rows new w w' (o ∷ os) e s =
+nobody_served went rows new w w' [] e s = (refl, s.0)
+nobody_served went rows new w w' (o ∷ os) e s =
     absurd (subst (λ k. Arrives k s.1.0 s.1.1.0.left) e s.1.1.0.arrived)
 
 of_known : (text : List ℕ) (taken : Option (List ℕ)) → Appends (Some []) taken text → taken ≡ Some text
