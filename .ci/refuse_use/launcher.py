@@ -5,7 +5,7 @@ import time
 
 from refuse_use.standins import CRATES, RTLIB, Tree
 
-FIRST = rb", which takes a minute or two to compile"
+FIRST = rb", which takes about three minutes of one processor to compile"
 DO = rb"`./oncrpc prove` proves and builds it\n"
 UNPROVED = rb"oncrpc: not proved yet: this answer comes from the unproved program%s; " + DO
 SOCKETS = rb"oncrpc: `%s` opens sockets, and only the proved program does; " + DO

@@ -1,0 +1,119 @@
+"""Rows of what the scripts say of themselves and of words that they do not know, and of the unproved program: what it
+says of its version, of a long compilation, and of a standard input that it cannot read."""
+import itertools
+import re
+import shutil
+
+from refuse_use.launcher import DO, FIRST, UNPROVED, is_answer, output, row
+from refuse_use.standins import PROGRAM, ROOT, Tree
+
+NOT_PROVED = b"oncrpc: not proved yet; " + DO
+VERSION = "crates/oncrpc_words/src/help.rt"
+# What is asked for help, a line that it has, and how it begins.
+HELPS = {
+    "./oncrpc prove": (b"usage: ./oncrpc prove\n", b"usage: "),
+    "./oncrpc --prove": (b"usage: ./oncrpc prove\n", b"usage: "),
+    "./install": (b"usage: [DESTDIR=FOLDER] ./install [--library[=FOLDER]] [PREFIX]\n", b"Installs "),
+    "./uninstall": (b"usage: [DESTDIR=FOLDER] ./uninstall [PREFIX]", b"Takes back "),
+    "./build-library": (b"usage: ./build-library [FOLDER]\n", b"Proves and builds "),
+}
+# Words that are refused, and what is said of them.
+OTHERS = {
+    "./oncrpc prove --helps": b"prove takes no other word",
+    "./oncrpc prove --help it": b"prove takes no other word",
+    "./build-library --what": b"usage: ./build-library [FOLDER]",
+    "./build-library -l": b"usage: ./build-library [FOLDER]",
+    "./build-library made other": b"usage: ./build-library [FOLDER]",
+}
+
+
+def helps(folder):
+    """Asked for help, a script prints what it does, and does nothing; other words are refused."""
+    tree = Tree(folder, "helps")
+    for script, (line, begins) in HELPS.items():
+        for word in ("--help", "-h"):
+            got = tree.run(f"{script} {word}")
+            well = (got[0], got[2], got[3]) == (0, b"", []) and line in got[1] and got[1].startswith(begins)
+            yield row(f"{script} {word}", well and b"#" not in got[1] and b"umask" not in got[1], got)
+    for words, told in OTHERS.items():
+        got = tree.run(words)
+        yield row(words, is_answer(got, 2, b"", re.escape(b"oncrpc: %s\n" % told), 0), got)
+    tree.write("full", "exec ./build-library --help >/dev/full\n")
+    got = tree.run("sh full")
+    yield row("./build-library --help >/dev/full", got[0] == 3, got)
+
+
+def version(folder):
+    """Nothing unproved names a proof: the version comes from the sources, and nothing is compiled for it."""
+    tree = Tree(folder, "version", STAND_TRY="kept")
+    tree.write("crates/oncrpc_words/src/none", "")
+    shutil.copy(f"{ROOT}/{VERSION}", f"{tree.at}/{VERSION}")
+    for number in (b"0.1.0", b"9.8.7"):
+        got = tree.run("./oncrpc --version")
+        told = b"oncrpc %s\nnot proved\n" % number
+        yield row(f"./oncrpc --version, {number.decode()}", is_answer(got, 0, told, NOT_PROVED, 0), got)
+        tree.write(VERSION, tree.read(VERSION).replace('VERSION: &str = "0.1.0', 'VERSION: &str = "9.8.7'))
+    tree.write("full", "exec ./oncrpc --version >/dev/full\n")
+    got = tree.run("sh full")
+    yield row("./oncrpc --version >/dev/full", is_answer(got, 3, b"", NOT_PROVED + b"write fault\n", 0), got)
+    tree.run("./oncrpc prove")
+    got = tree.run("./oncrpc --version")
+    told = output(b"proved", b"--version")
+    yield row("./oncrpc --version, proved", is_answer(got, 7, told, b"proved fault\n", 0), got)
+
+
+def signs_of_life(folder):
+    """While the toolchain is at work, a line says so each half minute, which is here a part of a second."""
+    for try_, doing in (("kept", b"compiling"), ("silent", b"compiling and running")):
+        tree = Tree(folder, f"signs_{try_}", STAND_TRY=try_, STAND_SLEEP="1.5")
+        text = tree.read("scripts/unproved")
+        yield row("a sign of life each 30 seconds", text.count("\nEACH = 30\n") == 1, text)
+        tree.write("scripts/unproved", text.replace("\nEACH = 30\n", "\nEACH = 0.4\n"))
+        got = tree.run("./oncrpc show")
+        sign = rb"oncrpc: %s the unproved program, \d+ seconds so far\n"
+        signs = rb"(%s){2,}" % (sign % b"compiling")
+        signs += rb"(%s){2,}" % (sign % doing) if try_ == "silent" else b""
+        faults, calls = UNPROVED % FIRST + signs + b"unproved fault\n", 2 if try_ == "silent" else 1
+        yield row(f"./oncrpc show, {try_}, slow", is_answer(got, 5, output(b"unproved", b"show"), faults, calls), got)
+
+
+# How the toolchain's run goes and with what status the program ends, for each input that cannot be read.
+INPUTS = [(*it, given) for it in itertools.product(("kept", "silent"), (0, 1, 2)) for given in ("<.", "<&-", "<bin")]
+
+
+def tree_of(folder, name, how, status):
+    """A checkout whose unproved program, which ends with this status, was made before."""
+    tree = Tree(folder, name, STAND_TRY=how)
+    tree.write("bin/unproved", PROGRAM.format(kind="unproved", status=status), 0o755)
+    tree.run("./oncrpc show")
+    return tree
+
+
+def unreadable(folder):
+    """A standard input that is a folder or closed: what the program says of it, whether it can be kept or not."""
+    for at, (how, status, given) in enumerate(INPUTS):
+        tree = tree_of(folder, f"unreadable{at}", how, status)
+        tree.write("given", f"exec ./oncrpc show {given}\n")
+        got, first = tree.run("sh given"), FIRST if how == "silent" else b""
+        well = is_answer(got, 3, b"", UNPROVED % first + b"read fault\n", how == "silent")
+        # (a run of the toolchain says whether the words are refused, which they are before anything is read)
+        if how == "silent" and status == 2:
+            well = is_answer(got, 2, output(b"unproved", b"show"), UNPROVED % first + b"unproved fault\n", 1)
+        yield row(f"./oncrpc show {given}, {how}, {status}", well, got)
+
+
+def unread(folder):
+    """A standard input that cannot be read is nothing to words that read none."""
+    tree = tree_of(folder, "unread", "silent", 0)
+    tree.write(VERSION, 'pub const VERSION: &str = "1";\n')
+    for words in ("show --help", "help", "serve -h", "--version", "prove"):
+        tree.write("given", f"exec ./oncrpc {words} <.\n")
+        got = tree.run("sh given")
+        told = {"--version": b"oncrpc 1\nnot proved\n", "prove": b""}
+        wanted = told.get(words, output(b"unproved", words.split()[0].encode()))
+        yield row(f"./oncrpc {words} <.", (got[0], got[1]) == (0, wanted), got)
+
+
+def script_rows(folder):
+    for rows in (helps, version, signs_of_life, unreadable, unread):
+        yield from rows(folder)
