@@ -65,7 +65,7 @@ I:
    5  a case twice
    6  a case that is no value of the discriminant
    7  a type without a finite value
-   8  more than 1024 types
+   8  more than 1016 types of its own
    9  an enum, struct, union or arm without entries
   10  a name twice
   11  memory was refused
