@@ -46,7 +46,7 @@ fn info_by_connection<O: Sink, F: Sink>(
             faults,
             what.vers,
         ),
-        Err(_) => report_socket(faults),
+        Err(error) => report_unconnected(&error, faults),
     }
 }
 
@@ -60,7 +60,18 @@ fn info_by_datagram<O: Sink, F: Sink>(
 {
     match connect_port(rt, what) {
         Ok(mut port) => info_datagram(rt.alloc(), &mut port, output, faults, what.vers),
-        Err(_) => report_socket(faults),
+        Err(error) => report_unconnected(&error, faults),
+    }
+}
+
+// The status where there is no way to the host: 4 where memory was refused, else 3.
+fn report_unconnected<F: Sink>(error: &io::Error, faults: &mut F) -> u8
+    ensures { result ≤ 4 }
+{
+    if error.kind() == io::ErrorKind::OutOfMemory {
+        report(Failure::NoMemory, faults)
+    } else {
+        report_socket(faults)
     }
 }
 
