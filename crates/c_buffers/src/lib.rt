@@ -1,6 +1,6 @@
-//! What the crates for C share of the room that a caller lends.
+//! What the crates for C share of the buffer that a caller lends.
 #![tactic(auto)]
 
-mod room;
+mod buffer;
 
-pub use room::put;
+pub use buffer::put;

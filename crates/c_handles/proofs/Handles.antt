@@ -17,7 +17,7 @@ use denote.RawPtr.{Ptr, block_ptr, null_ptr, ptr_val, in_a_block}
 use denote.Steps.{nothing}
 use Rattle.libc.specs.Heap.{chunk}
 use Rattle.std.specs.Box.Ownership.{box_owns}
-use Rattle.c_handles.specs.Kept.{kept}
+use Rattle.c_handles.specs.Retained.{retained}
 use Rattle.c_handles.proofs.Values.{both}
 
 pub ptr_good : (p : Ptr) → T (has_ty ty_ptr (ptr_val p)) × WT (ptr_val p)
@@ -35,11 +35,11 @@ lies p l vs vss =
 module _ (R : RattleType) where
   -- what a handle owns
   abbrev pub handle_owns : Ptr → Bool → Option R.Denot → List Val → Fml
-  handle_owns p l x vs = fsep (fex (Valss cells) (lies p l vs)) (kept R l p x)
+  handle_owns p l x vs = fsep (fex (Valss cells) (lies p l vs)) (retained R l p x)
 
   module _ {M : Type 1} {𝓤 : Ura M} {𝓛 : Logic 𝓤} {K : Type 0} {Γ : List (Item 𝓤)} {G : Goal 𝓤 𝓛.H} where
     pub handle_out : K → (p : Ptr) (l : Bool) (x : Option R.Denot) (vs : List Val)
-        → (vs ≡ both (ptr_val p) (vbool l) ∷ [] → Seq K 𝓛 (‵ (kept R l p x) ∷ Γ) G)
+        → (vs ≡ both (ptr_val p) (vbool l) ∷ [] → Seq K 𝓛 (‵ (retained R l p x) ∷ Γ) G)
         → Seq K 𝓛 (‵ (handle_owns p l x vs) ∷ Γ) G
     handle_out t p l x vs k =
         fsplit t $ fpick t
@@ -48,17 +48,17 @@ module _ (R : RattleType) where
         (subst (λ (ps : List Val). vs ≡ vstruct (of_list (ps ++ (vss.1.0 ++ []))) ∷ []) ep ev))))))
 
     pub handle_in : K → (p : Ptr) (l : Bool) (x : Option R.Denot)
-        → Step K 𝓛 (‵ (handle_owns p l x (both (ptr_val p) (vbool l) ∷ [])) ∷ Γ) G (‵ (kept R l p x) ∷ Γ) G
+        → Step K 𝓛 (‵ (handle_owns p l x (both (ptr_val p) (vbool l) ∷ [])) ∷ Γ) G (‵ (retained R l p x) ∷ Γ) G
     handle_in t p l x = step (λ s. let v : Val = both (ptr_val p) (vbool l) in
         nothing t $ feq_i t (List Val) (vbool l ∷ []) (vbool l ∷ []) refl $ fjoin t $
         feq_i t (List Val) (ptr_val p ∷ []) (ptr_val p ∷ []) refl $ fjoin t $
         feq_i t (List Val) (v ∷ []) (v ∷ []) refl $ fjoin t $
         fpack t (Valss cells) (lies p l (v ∷ [])) (ptr_val p ∷ [], (vbool l ∷ [], tt)) $ fjoin t $ s)
 
-    pub kept_cases : K → (l : Bool) (p : Ptr) (x : Option R.Denot) → (l ≡ false → x ≡ None → Seq K 𝓛 Γ G)
+    pub retained_cases : K → (l : Bool) (p : Ptr) (x : Option R.Denot) → (l ≡ false → x ≡ None → Seq K 𝓛 Γ G)
         → ((b o : ℕ) (v : R.Denot) → l ≡ true → p ≡ block_ptr b o → x ≡ Some v
         → Seq K 𝓛 (‵ (box_owns chunk R (block_ptr b o) v) ∷ Γ) G)
-        → Seq K 𝓛 (‵ (kept R l p x) ∷ Γ) G
-    kept_cases t l p None n s = feq_l t (λ e. n e refl)
-    kept_cases t l p (Some v) n s = fsplit t $ feq_l t (λ e. in_a_block t p (λ q. box_owns chunk R q v)
+        → Seq K 𝓛 (‵ (retained R l p x) ∷ Γ) G
+    retained_cases t l p None n s = feq_l t (λ e. n e refl)
+    retained_cases t l p (Some v) n s = fsplit t $ feq_l t (λ e. in_a_block t p (λ q. box_owns chunk R q v)
         (fst∗ 𝓤 (never 𝓤) (sem 𝓛 (chunk (bare (lone R.mir)) null_ptr))) (λ b o eb. s b o v e eb refl))

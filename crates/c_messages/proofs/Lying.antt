@@ -12,7 +12,7 @@ use Rattle.rpc_message.specs.Spelling.{auth, AuthSysBytes, CallBytes, ReplyBytes
 use Rattle.rpc_message.specs.Cases.{IsCase}
 use Rattle.c_messages.specs.Parts.{LiesAt, part, none, padded_size}
 use Rattle.c_messages.specs.Replies.{results_of}
-use Rattle.c_messages.specs.Replies.{told_of as reply_told}
+use Rattle.c_messages.specs.Replies.{told_of as reply_reported}
 use Rattle.c_messages.specs.Calls.{AreShort}
 
 -- a part behind so many bytes
@@ -86,7 +86,7 @@ none_lies : (bytes : List ℕ) → LiesAt bytes none []
 none_lies bytes = record { within = omega arith; same = refl }
 
 pub results_lie : (r : ReplyView) (bytes : List ℕ) → ReplyBytes r bytes
-    → LiesAt bytes (reply_told r).results (results_of r)
+    → LiesAt bytes (reply_reported r).results (results_of r)
 results_lie (Accepted xid verf (Success results)) bytes h =
     let first = word xid ++ word 1 ++ word 0 ++ (word verf.flavor ++ word (length verf.body)) in
     let before = first ++ (padded verf.body ++ word 0) in

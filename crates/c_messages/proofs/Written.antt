@@ -1,4 +1,4 @@
--- What stands at the front of the room once a message is written.
+-- What stands at the front of the buffer once a message is written.
 use Rattle.std.proofs.Common.{◌≡◌, ℕ, List, length, take, drop, sym, subst, arith}
 use Rattle.std.proofs.Math.Seq.{take-append_seam}
 use Rattle.rpc_message.specs.Message.{CallView}
@@ -7,7 +7,7 @@ use Rattle.c_messages.specs.declared.answer.Answer.{Answer}
 use Rattle.c_messages.specs.declared.answer.Answer.TheVariants as answer
 use Rattle.c_messages.specs.declared.credentials.AuthSysParts.{AuthSysParts}
 use Rattle.c_messages.specs.Statuses.{status_of}
-use Rattle.c_messages.specs.Rooms.{IsPlaced}
+use Rattle.c_messages.specs.Buffers.{IsPlaced}
 use Rattle.c_messages.specs.Calls.{IsCallWritten}
 use Rattle.c_messages.specs.Credentials.{auth_sys_of, IsAuthSysWritten}
 

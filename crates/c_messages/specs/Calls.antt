@@ -6,8 +6,8 @@ use Rattle.c_messages.specs.declared.answer.Answer.{Answer}
 use Rattle.c_messages.specs.declared.answer.Answer.TheVariants as answer
 use Rattle.c_messages.specs.declared.calls.CallParts.{CallParts}
 use Rattle.c_messages.specs.Parts.{part, none, padded_size}
-use Rattle.c_buffers.specs.Rooms.{IsKept}
-use Rattle.c_messages.specs.Rooms.{IsPlaced}
+use Rattle.c_buffers.specs.Buffers.{IsRetained}
+use Rattle.c_messages.specs.Buffers.{IsPlaced}
 
 -- the status of each case
 abbrev pub case_status : CaseView → ℕ
@@ -48,7 +48,7 @@ whole c = record {
   arguments = part (40 + padded_size (length c.cred.body) + padded_size (length c.verf.body)) c.args;
 }
 
--- what is told of each case
+-- what is reported of each case
 abbrev pub told_of : CaseView → CallParts
 told_of (Whole c) = whole c
 told_of NotACall = front 0 0
@@ -73,14 +73,14 @@ call_of p credential verifier arguments = record {
   args = arguments;
 }
 
--- what writing a call came to, and what stands in the room
+-- what writing a call came to, and what stands in the buffer
 abbrev pub IsCallWritten : CallView → (old new : List ℕ) → (count : ℕ) → Answer → Type 0
 IsCallWritten c old new count answer.Whole =
     (bytes : List ℕ) × CallBytes c bytes × IsPlaced bytes old new count answer.Whole
 IsCallWritten c old new count answer.NoRoom =
     (bytes : List ℕ) × CallBytes c bytes × IsPlaced bytes old new count answer.NoRoom
-IsCallWritten c old new count answer.BadCredential = (400 < length c.cred.body) × IsKept old new count
+IsCallWritten c old new count answer.BadCredential = (400 < length c.cred.body) × IsRetained old new count
 IsCallWritten c old new count answer.BadVerifier =
-    (length c.cred.body ≤ 400) × (400 < length c.verf.body) × IsKept old new count
-IsCallWritten c old new count answer.NoMemory = IsKept old new count
+    (length c.cred.body ≤ 400) × (400 < length c.verf.body) × IsRetained old new count
+IsCallWritten c old new count answer.NoMemory = IsRetained old new count
 IsCallWritten c old new count _ = ⊥

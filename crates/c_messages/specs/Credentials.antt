@@ -6,14 +6,14 @@ use Rattle.c_messages.specs.declared.answer.Answer.{Answer}
 use Rattle.c_messages.specs.declared.answer.Answer.TheVariants as answer
 use Rattle.c_messages.specs.declared.credentials.AuthSysParts.{AuthSysParts}
 use Rattle.c_messages.specs.Parts.{part, none}
-use Rattle.c_buffers.specs.Rooms.{IsKept}
-use Rattle.c_messages.specs.Rooms.{IsPlaced}
+use Rattle.c_buffers.specs.Buffers.{IsRetained}
+use Rattle.c_messages.specs.Buffers.{IsPlaced}
 
 -- no body
 abbrev pub silent : AuthSysParts
 silent = record { stamp = 0; uid = 0; gid = 0; gid_count = 0; gids = replicate 16 0; machine = none }
 
--- What is told of a body: its gids are filled up with zeros to 16, and its machine name is behind two numbers.
+-- What is reported of a body: its gids are filled up with zeros to 16, and its machine name is behind two numbers.
 abbrev pub told_of : AuthSysView → AuthSysParts
 told_of a = record {
   stamp = a.stamp;
@@ -40,18 +40,18 @@ body_status (Whole a) = 0
 body_status NoBody = 17
 body_status Unknown = 6
 
--- what is told of each
-abbrev pub body_told : Body → AuthSysParts
-body_told (Whole a) = told_of a
-body_told NoBody = silent
-body_told Unknown = silent
+-- what is reported of each
+abbrev pub body_reported : Body → AuthSysParts
+body_reported (Whole a) = told_of a
+body_reported NoBody = silent
+body_reported Unknown = silent
 
 -- the body with these numbers and that machine name
 abbrev pub auth_sys_of : AuthSysParts → (machine : List ℕ) → AuthSysView
 auth_sys_of p machine =
     record { stamp = p.stamp; machine = machine; uid = p.uid; gid = p.gid; gids = take p.gid_count p.gids }
 
--- What writing a body came to, and what stands in the room. No body has more gids than 16, and none is left out.
+-- What writing a body came to, and what stands in the buffer. No body has more gids than 16, and none is left out.
 abbrev pub IsAuthSysWritten : AuthSysParts → (machine old new : List ℕ) → (count : ℕ) → Answer → Type 0
 IsAuthSysWritten p machine old new count answer.Whole =
     (p.gid_count ≤ 16) × (bytes : List ℕ) × AuthSysBytes (auth_sys_of p machine) bytes
@@ -60,6 +60,6 @@ IsAuthSysWritten p machine old new count answer.NoRoom =
     (p.gid_count ≤ 16) × (bytes : List ℕ) × AuthSysBytes (auth_sys_of p machine) bytes
     × IsPlaced bytes old new count answer.NoRoom
 IsAuthSysWritten p machine old new count answer.NoAuthSys =
-    ((16 < p.gid_count) ⊎ (255 < length machine)) × IsKept old new count
-IsAuthSysWritten p machine old new count answer.NoMemory = IsKept old new count
+    ((16 < p.gid_count) ⊎ (255 < length machine)) × IsRetained old new count
+IsAuthSysWritten p machine old new count answer.NoMemory = IsRetained old new count
 IsAuthSysWritten p machine old new count _ = ⊥

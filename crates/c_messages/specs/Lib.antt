@@ -1,6 +1,6 @@
 pub mod Parts
 pub mod Statuses
-pub mod Rooms
+pub mod Buffers
 pub mod Calls
 pub mod Replies
 pub mod Credentials

@@ -3,7 +3,7 @@ use Rattle.std.specs.Prelude.{◌≡◌, ◌≤◌, ◌+◌, ℕ, List, length, 
 use Rattle.xdr_units.specs.Numbers.{gap}
 use Rattle.c_messages.specs.declared.part.Part.{Part}
 
--- Behind so many bytes stand as many as are told, and they are these.
+-- Behind so many bytes stand as many as are reported, and they are these.
 pub record LiesAt (bytes : List ℕ) (p : Part) (these : List ℕ) : Type 0 where
   pub within : p.at + p.count ≤ length bytes
   pub same : take p.count (drop p.at bytes) ≡ these

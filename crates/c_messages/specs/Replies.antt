@@ -11,8 +11,8 @@ use Rattle.c_messages.specs.declared.answer.Answer.{Answer}
 use Rattle.c_messages.specs.declared.answer.Answer.TheVariants as answer
 use Rattle.c_messages.specs.declared.replies.ReplyParts.{ReplyParts}
 use Rattle.c_messages.specs.Parts.{part, none, padded_size}
-use Rattle.c_buffers.specs.Rooms.{IsKept}
-use Rattle.c_messages.specs.Rooms.{IsPlaced}
+use Rattle.c_buffers.specs.Buffers.{IsRetained}
+use Rattle.c_messages.specs.Buffers.{IsPlaced}
 
 -- a reply of this state, and nothing else
 abbrev pub bare : (xid state : ℕ) → ReplyParts
@@ -40,7 +40,7 @@ with_status p SystemErr at = record p { state = 5 }
 abbrev pub with_verifier : ReplyParts → AuthView → ReplyParts
 with_verifier p verf = record p { verifier_flavor = verf.flavor; verifier = part 20 verf.body }
 
--- What is told of a reply: the results are behind the verifier with its padding and one number.
+-- What is reported of a reply: the results are behind the verifier with its padding and one number.
 abbrev pub told_of : ReplyView → ReplyParts
 told_of (Accepted xid verf status) =
     with_status (with_verifier (bare xid 0) verf) status (24 + padded_size (length verf.body))
@@ -65,10 +65,10 @@ abbrev pub outcome_status : Result ReplyView ReplyFault → ℕ
 outcome_status (Ok r) = 0
 outcome_status (Err f) = fault_status f
 
--- nothing is told with a fault
-abbrev pub outcome_told : Result ReplyView ReplyFault → ReplyParts
-outcome_told (Ok r) = told_of r
-outcome_told (Err f) = bare 0 0
+-- nothing is reported with a fault
+abbrev pub outcome_reported : Result ReplyView ReplyFault → ReplyParts
+outcome_reported (Ok r) = told_of r
+outcome_reported (Err f) = bare 0 0
 
 -- the body of a reply's verifier, where it has one
 abbrev pub verifier_of : ReplyView → List ℕ
@@ -106,14 +106,14 @@ pub record HasReply (p : ReplyParts) (verifier results bytes : List ℕ) : Type 
   pub asked : IsAsked p verifier results reply
   pub spelled : ReplyBytes reply bytes
 
--- what writing a reply came to, and what stands in the room
+-- what writing a reply came to, and what stands in the buffer
 abbrev pub IsReplyWritten : ReplyParts → (verifier results old new : List ℕ) → (count : ℕ) → Answer → Type 0
 IsReplyWritten p verifier results old new count answer.Whole =
     (bytes : List ℕ) × HasReply p verifier results bytes × IsPlaced bytes old new count answer.Whole
 IsReplyWritten p verifier results old new count answer.NoRoom =
     (bytes : List ℕ) × HasReply p verifier results bytes × IsPlaced bytes old new count answer.NoRoom
-IsReplyWritten p verifier results old new count answer.BadStatus = (7 < p.state) × IsKept old new count
+IsReplyWritten p verifier results old new count answer.BadStatus = (7 < p.state) × IsRetained old new count
 IsReplyWritten p verifier results old new count answer.BadVerifier =
-    (p.state ≤ 5) × (400 < length verifier) × IsKept old new count
-IsReplyWritten p verifier results old new count answer.NoMemory = IsKept old new count
+    (p.state ≤ 5) × (400 < length verifier) × IsRetained old new count
+IsReplyWritten p verifier results old new count answer.NoMemory = IsRetained old new count
 IsReplyWritten p verifier results old new count _ = ⊥

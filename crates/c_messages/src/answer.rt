@@ -9,7 +9,7 @@ pub enum Answer {
     Whole,
     /// Memory was refused.
     NoMemory,
-    /// The room is too small.
+    /// The buffer is too small.
     NoRoom,
     /// The credential is too long.
     BadCredential,

@@ -10,8 +10,8 @@ ghost use Rattle.c_messages.specs.Statuses.{status_of};
 ghost use Rattle.c_messages.specs.declared.answer.Answer.{Answer as AnswerSpec};
 
 use super::answer::Answer;
+use super::buffer::place;
 use super::part::{Part, padded_size};
-use super::room::place;
 use rpc_message::{LentAuth, LentCall, LentRead, NoMemory, read_lent_call, write_call};
 use std::alloc::Global;
 
@@ -34,7 +34,7 @@ pub struct CallParts {
     pub arguments: Part,
 }
 
-/// A call of which no more can be told.
+/// A call of which no more can be reported.
 fn front(xid: u32, rpc_version: u32) -> CallParts
     ensures { result ≡ front xid rpc_version }
 {
@@ -83,8 +83,8 @@ fn whole(call: LentCall<'_>) -> CallParts
     }
 }
 
-/// The status of a case, and what is told of it.
-fn told(read: LentRead<'_>) -> (u32, CallParts)
+/// The status of a case, and what is reported of it.
+fn reported(read: LentRead<'_>) -> (u32, CallParts)
     requires { AreShort (lent_case_view read) }
     ensures status { result.0 ≡ case_status (lent_case_view read.entry) }
     ensures parts { result.1 ≡ told_of (lent_case_view read.entry) }
@@ -101,11 +101,11 @@ fn told(read: LentRead<'_>) -> (u32, CallParts)
 /// Reads the bytes as a call, and tells its numbers and where its parts lie (RFC 5531 sections 8.2 and 9).
 ///
 /// Status 0: they are a call of version 2 of RPC; all fields are filled. 9: they are no call, or less than its front.
-/// 10: a call of another version of RPC, which is told with the xid. 11: no credential can be read. 12: no verifier can
-/// be read. At 11 and 12 the xid and the version 2 of RPC are told.
+/// 10: a call of another version of RPC, which is reported with the xid. 11: no credential can be read. 12: no verifier can
+/// be read. At 11 and 12 the xid and the version 2 of RPC are reported.
 #[unsafe(no_mangle)]
 pub extern "C" fn oncrpc_call_read(input: &[u8], call: &mut CallParts) -> u32
-    // The status and what is told are those of the case that applies,
+    // The status and what is reported are those of the case that applies,
     ensures found { (k : CaseView) × IsCase input.now k × (result ≡ case_status k) × (call.new ≡ told_of k) }
     // of each one that applies.
     ensures only { (k : CaseView) → IsCase input.now k → (result ≡ case_status k) × (call.new ≡ told_of k) }
@@ -114,7 +114,7 @@ pub extern "C" fn oncrpc_call_read(input: &[u8], call: &mut CallParts) -> u32
     ensures verifier { (c : CallView) → CallBytes c input.now → LiesAt input.now call.new.verifier c.verf.body }
     ensures arguments { (c : CallView) → CallBytes c input.now → LiesAt input.now call.new.arguments c.args }
 {
-    let (status, parts) = told(read_lent_call(input));
+    let (status, parts) = reported(read_lent_call(input));
     *call = parts;
     status
 }
@@ -156,10 +156,10 @@ fn call_into(
     credential: &[u8],
     verifier: &[u8],
     arguments: &[u8],
-    room: &mut [u8],
+    buffer: &mut [u8],
     count: &mut usize,
 ) -> Answer
-    ensures { IsCallWritten (call_of call.now credential.now verifier.now arguments.now) room.old room.new count.new
+    ensures { IsCallWritten (call_of call.now credential.now verifier.now arguments.now) buffer.old buffer.new count.new
         result }
 {
     *count = 0;
@@ -170,17 +170,17 @@ fn call_into(
         return Answer::BadVerifier;
     }
     match call_bytes(alloc, call, credential, verifier, arguments) {
-        Ok(bytes) => place(&bytes, room, count),
+        Ok(bytes) => place(&bytes, buffer, count),
         Err(_) => Answer::NoMemory,
     }
 }
 
-/// Writes a call of version 2 of RPC into the room: of `call` the xid, program, version, procedure and the two flavors,
+/// Writes a call of version 2 of RPC into the buffer: of `call` the xid, program, version, procedure and the two flavors,
 /// with these bytes as bodies of credential and verifier and as arguments (RFC 5531 section 9).
 ///
-/// Status 0: `count` bytes are written, and the rest of the room is untouched. 8: the room is too small, `count` bytes
+/// Status 0: `count` bytes are written, and the rest of the buffer is untouched. 8: the buffer is too small, `count` bytes
 /// are needed. 11 and 12: the credential, and else the verifier, has more than 400 bytes. 6: memory was refused. At
-/// 6, 8, 11 and 12 the room is untouched, and at 6, 11 and 12 `count` is 0.
+/// 6, 8, 11 and 12 the buffer is untouched, and at 6, 11 and 12 `count` is 0.
 #[unsafe(no_mangle)]
 pub extern "C" fn oncrpc_call_write(
     alloc: Global,
@@ -188,12 +188,12 @@ pub extern "C" fn oncrpc_call_write(
     credential: &[u8],
     verifier: &[u8],
     arguments: &[u8],
-    room: &mut [u8],
+    buffer: &mut [u8],
     count: &mut usize,
 ) -> u32
     ensures { (a : AnswerSpec)
-        × IsCallWritten (call_of call.now credential.now verifier.now arguments.now) room.old room.new count.new a
+        × IsCallWritten (call_of call.now credential.now verifier.now arguments.now) buffer.old buffer.new count.new a
         × (result ≡ status_of a) }
 {
-    call_into(alloc, call, credential, verifier, arguments, room, count).status()
+    call_into(alloc, call, credential, verifier, arguments, buffer, count).status()
 }

@@ -3,15 +3,15 @@ ghost use Rattle.std.specs.Prelude.{◌≡◌, ◌≤◌, ◌⊎◌, length, IfO
 ghost use Rattle.rpc_message.specs.Message.{AuthSysView};
 ghost use Rattle.rpc_message.specs.Spelling.{AuthSysBytes};
 ghost use Rattle.rpc_message.specs.View.{auth_sys_view};
-ghost use Rattle.c_messages.specs.Credentials.{Body, IsBody, body_status, body_told, silent, told_of, auth_sys_of};
+ghost use Rattle.c_messages.specs.Credentials.{Body, IsBody, body_status, body_reported, silent, told_of, auth_sys_of};
 ghost use Rattle.c_messages.specs.Credentials.{IsAuthSysWritten};
 ghost use Rattle.c_messages.specs.Parts.{LiesAt};
 ghost use Rattle.c_messages.specs.Statuses.{status_of};
 ghost use Rattle.c_messages.specs.declared.answer.Answer.{Answer as AnswerSpec};
 
 use super::answer::Answer;
+use super::buffer::place;
 use super::part::Part;
-use super::room::place;
 use rpc_message::{AuthSys, NoMemory, read_auth_sys, write_auth_sys};
 use std::alloc::Global;
 
@@ -49,7 +49,7 @@ fn silent() -> AuthSysParts
 }
 
 /// All parts of a body.
-fn told(auth: &AuthSys) -> AuthSysParts
+fn reported(auth: &AuthSys) -> AuthSysParts
     requires { length auth.now.gids.items ≤ 16 }
     ensures { result ≡ told_of (auth_sys_view auth.now) }
 {
@@ -75,9 +75,9 @@ fn told(auth: &AuthSys) -> AuthSysParts
 /// At 6 and 17 each field is 0.
 #[unsafe(no_mangle)]
 pub extern "C" fn oncrpc_auth_sys_read(alloc: Global, input: &[u8], auth: &mut AuthSysParts) -> u32
-    // What is told is what the bytes are,
-    ensures found { (b : Body) × IsBody input.now b × (result ≡ body_status b) × (auth.new ≡ body_told b) }
-    // and a body that they are is told, unless memory was refused.
+    // What is reported is what the bytes are,
+    ensures found { (b : Body) × IsBody input.now b × (result ≡ body_status b) × (auth.new ≡ body_reported b) }
+    // and a body that they are is reported, unless memory was refused.
     ensures only { (a : AuthSysView) → AuthSysBytes a input.now
         → (result ≡ 6) ⊎ ((result ≡ 0) × (auth.new ≡ told_of a)) }
     // Its machine name lies where it is told to be.
@@ -86,7 +86,7 @@ pub extern "C" fn oncrpc_auth_sys_read(alloc: Global, input: &[u8], auth: &mut A
 {
     match read_auth_sys(alloc, input) {
         Ok(Some(body)) => {
-            *auth = told(&body);
+            *auth = reported(&body);
             0
         }
         Ok(None) => {
@@ -129,37 +129,37 @@ fn auth_sys_into(
     alloc: Global,
     auth: &AuthSysParts,
     machine: &[u8],
-    room: &mut [u8],
+    buffer: &mut [u8],
     count: &mut usize,
 ) -> Answer
-    ensures { IsAuthSysWritten auth.now machine.now room.old room.new count.new result }
+    ensures { IsAuthSysWritten auth.now machine.now buffer.old buffer.new count.new result }
 {
     *count = 0;
     if MOST_GIDS < auth.gid_count as usize || MOST_MACHINE < machine.len() {
         return Answer::NoAuthSys;
     }
     match auth_sys_bytes(alloc, auth, machine) {
-        Ok(bytes) => place(&bytes, room, count),
+        Ok(bytes) => place(&bytes, buffer, count),
         Err(_) => Answer::NoMemory,
     }
 }
 
-/// Writes the body of a credential of the flavor AUTH_SYS into the room: the numbers of `auth` and its first
+/// Writes the body of a credential of the flavor AUTH_SYS into the buffer: the numbers of `auth` and its first
 /// `gid_count` gids, with these bytes as its machine name (RFC 5531 appendix A).
 ///
-/// Status 0: `count` bytes are written, and the rest of the room is untouched. 8: the room is too small, `count` bytes
+/// Status 0: `count` bytes are written, and the rest of the buffer is untouched. 8: the buffer is too small, `count` bytes
 /// are needed. 17: there are more than 16 gids or 255 bytes of machine name. 6: memory was refused. At 6, 8 and 17
-/// the room is untouched, and at 6 and 17 `count` is 0.
+/// the buffer is untouched, and at 6 and 17 `count` is 0.
 #[unsafe(no_mangle)]
 pub extern "C" fn oncrpc_auth_sys_write(
     alloc: Global,
     auth: &AuthSysParts,
     machine: &[u8],
-    room: &mut [u8],
+    buffer: &mut [u8],
     count: &mut usize,
 ) -> u32
-    ensures { (a : AnswerSpec) × IsAuthSysWritten auth.now machine.now room.old room.new count.new a
+    ensures { (a : AnswerSpec) × IsAuthSysWritten auth.now machine.now buffer.old buffer.new count.new a
         × (result ≡ status_of a) }
 {
-    auth_sys_into(alloc, auth, machine, room, count).status()
+    auth_sys_into(alloc, auth, machine, buffer, count).status()
 }

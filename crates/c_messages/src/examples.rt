@@ -9,11 +9,11 @@ use super::credentials::{AuthSysParts, oncrpc_auth_sys_read, oncrpc_auth_sys_wri
 use super::replies::{ReplyParts, oncrpc_reply_read, oncrpc_reply_write};
 use std::alloc::Global;
 
-/// A call of version 3 of RPC is told with its xid and its version.
-pub fn tells_version_three(input: &[u8], call: &mut CallParts) -> u32
+/// A call of version 3 of RPC is reported with its xid and its version.
+pub fn reports_version_three(input: &[u8], call: &mut CallParts) -> u32
     requires { input.now ≡ 0 ∷ 0 ∷ 0 ∷ 2 ∷ 0 ∷ 0 ∷ 0 ∷ 0 ∷ 0 ∷ 0 ∷ 0 ∷ 3 ∷ [] }
     ensures status { result ≡ 10 }
-    ensures told { call.new ≡ front 2 3 }
+    ensures reported { call.new ≡ front 2 3 }
 {
     oncrpc_call_read(input, call)
 }
@@ -25,31 +25,31 @@ pub fn reads_the_call_that_was_written(
     credential: &[u8],
     verifier: &[u8],
     arguments: &[u8],
-    room: &mut [u8],
+    buffer: &mut [u8],
 ) -> (u32, u32)
     ensures { result.0 ≡ 0
         → (result.1 ≡ 0) × (call.new ≡ whole (call_of call.old credential.now verifier.now arguments.now)) }
 {
     let mut count = 0;
     let written = oncrpc_call_write(
-        alloc, call, credential, verifier, arguments, room, &mut count,
+        alloc, call, credential, verifier, arguments, buffer, &mut count,
     );
     if written != 0 {
         return (written, 0);
     }
-    (written, oncrpc_call_read(&room[..count], call))
+    (written, oncrpc_call_read(&buffer[..count], call))
 }
 
-/// Room that is too small stays as it was, and what is told is how much is needed.
-pub fn tells_the_room_that_is_needed(
+/// A buffer that is too small stays as it was, and what is reported is how much is needed.
+pub fn reports_the_buffer_that_is_needed(
     alloc: Global,
     call: &CallParts,
-    room: &mut [u8],
+    buffer: &mut [u8],
     count: &mut usize,
 ) -> u32
-    ensures { result ≡ 8 → (room.new ≡ room.old) × (length room.old < count.new) }
+    ensures { result ≡ 8 → (buffer.new ≡ buffer.old) × (length buffer.old < count.new) }
 {
-    oncrpc_call_write(alloc, call, b"", b"", b"", room, count)
+    oncrpc_call_write(alloc, call, b"", b"", b"", buffer, count)
 }
 
 /// A credential of 401 bytes is not written.
@@ -57,22 +57,22 @@ pub fn writes_no_long_credential(
     alloc: Global,
     call: &CallParts,
     credential: &[u8],
-    room: &mut [u8],
+    buffer: &mut [u8],
     count: &mut usize,
 ) -> u32
     requires { 400 < length credential.now }
     ensures status { (result ≡ 11) ⊎ (result ≡ 6) }
-    ensures kept { room.new ≡ room.old }
+    ensures retained { buffer.new ≡ buffer.old }
 {
-    oncrpc_call_write(alloc, call, credential, b"", b"", room, count)
+    oncrpc_call_write(alloc, call, credential, b"", b"", buffer, count)
 }
 
 /// The reply of a port mapper to GETPORT, port 2049, has four bytes of results behind the first 24.
-pub fn tells_where_the_port_lies(alloc: Global, input: &[u8], reply: &mut ReplyParts) -> u32
+pub fn reports_where_the_port_lies(alloc: Global, input: &[u8], reply: &mut ReplyParts) -> u32
     requires { input.now ≡ 0 ∷ 0 ∷ 0 ∷ 7 ∷ 0 ∷ 0 ∷ 0 ∷ 1 ∷ 0 ∷ 0 ∷ 0 ∷ 0 ∷ 0 ∷ 0 ∷ 0 ∷ 0 ∷ 0 ∷ 0 ∷ 0 ∷ 0 ∷
         0 ∷ 0 ∷ 0 ∷ 0 ∷ 0 ∷ 0 ∷ 8 ∷ 1 ∷ [] }
     ensures status { (result ≡ 0) ⊎ (result ≡ 6) }
-    ensures told { result ≡ 0 → (reply.new.xid ≡ 7) × (reply.new.state ≡ 0)
+    ensures reported { result ≡ 0 → (reply.new.xid ≡ 7) × (reply.new.state ≡ 0)
         × (reply.new.results ≡ record { at = 24; count = 4 }) }
 {
     oncrpc_reply_read(alloc, input, reply)
@@ -82,13 +82,13 @@ pub fn tells_where_the_port_lies(alloc: Global, input: &[u8], reply: &mut ReplyP
 pub fn writes_no_state_eight(
     alloc: Global,
     reply: &ReplyParts,
-    room: &mut [u8],
+    buffer: &mut [u8],
     count: &mut usize,
 ) -> u32
     requires { reply.now.state ≡ 8 }
     ensures { result ≡ 0 → ⊥ }
 {
-    oncrpc_reply_write(alloc, reply, b"", b"", room, count)
+    oncrpc_reply_write(alloc, reply, b"", b"", buffer, count)
 }
 
 /// Of more than 16 gids none is written.
@@ -96,14 +96,14 @@ pub fn writes_no_long_list_of_gids(
     alloc: Global,
     auth: &AuthSysParts,
     machine: &[u8],
-    room: &mut [u8],
+    buffer: &mut [u8],
     count: &mut usize,
 ) -> u32
     requires { 16 < auth.now.gid_count }
     ensures status { (result ≡ 17) ⊎ (result ≡ 6) }
-    ensures kept { (room.new ≡ room.old) × (count.new ≡ 0) }
+    ensures retained { (buffer.new ≡ buffer.old) × (count.new ≡ 0) }
 {
-    oncrpc_auth_sys_write(alloc, auth, machine, room, count)
+    oncrpc_auth_sys_write(alloc, auth, machine, buffer, count)
 }
 
 /// A body of AUTH_SYS that was written is read as what was asked for, unless memory was refused.
@@ -111,15 +111,15 @@ pub fn reads_the_body_that_was_written(
     alloc: Global,
     auth: &mut AuthSysParts,
     machine: &[u8],
-    room: &mut [u8],
+    buffer: &mut [u8],
 ) -> (u32, u32)
     ensures { result.0 ≡ 0
         → (result.1 ≡ 6) ⊎ ((result.1 ≡ 0) × (auth.new ≡ told_of (auth_sys_of auth.old machine.now))) }
 {
     let mut count = 0;
-    let written = oncrpc_auth_sys_write(alloc, auth, machine, room, &mut count);
+    let written = oncrpc_auth_sys_write(alloc, auth, machine, buffer, &mut count);
     if written != 0 {
         return (written, 0);
     }
-    (written, oncrpc_auth_sys_read(alloc, &room[..count], auth))
+    (written, oncrpc_auth_sys_read(alloc, &buffer[..count], auth))
 }

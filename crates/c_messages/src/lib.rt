@@ -6,12 +6,12 @@
 
 mod answer;
 mod asked;
+mod buffer;
 mod calls;
 mod credentials;
 mod examples;
 mod part;
 mod replies;
-mod room;
 
 pub use calls::{CallParts, oncrpc_call_read, oncrpc_call_write};
 pub use credentials::{AuthSysParts, oncrpc_auth_sys_read, oncrpc_auth_sys_write};

@@ -5,15 +5,15 @@ ghost use Rattle.rpc_message.specs.Spelling.{ReplyBytes};
 ghost use Rattle.rpc_message.specs.View.{reply_view, status_view, HasShortVerf};
 ghost use Rattle.rpc_message.specs.declared.fault.ReplyFault.{ReplyFault as FaultSpec};
 ghost use Rattle.c_messages.specs.Parts.{LiesAt};
-ghost use Rattle.c_messages.specs.Replies.{bare, with_status, told_of, fault_status, outcome_status, outcome_told};
+ghost use Rattle.c_messages.specs.Replies.{bare, with_status, told_of, fault_status, outcome_status, outcome_reported};
 ghost use Rattle.c_messages.specs.Replies.{IsOutcome, verifier_of, results_of, IsReplyWritten};
 ghost use Rattle.c_messages.specs.Statuses.{status_of};
 ghost use Rattle.c_messages.specs.declared.answer.Answer.{Answer as AnswerSpec};
 
 use super::answer::Answer;
 use super::asked::reply_asked;
+use super::buffer::place;
 use super::part::{Part, padded_size};
-use super::room::place;
 use rpc_message::{Reply, ReplyFault, Status, Why, read_reply, write_reply};
 use std::alloc::Global;
 
@@ -83,7 +83,7 @@ fn with_status(parts: ReplyParts, status: &Status, at: usize) -> ReplyParts
 }
 
 /// All parts of a reply.
-fn told(reply: &Reply) -> ReplyParts
+fn reported(reply: &Reply) -> ReplyParts
     requires { HasShortVerf reply.now }
     ensures { result ≡ told_of (reply_view reply.now) }
 {
@@ -139,10 +139,10 @@ fn fault_status(fault: ReplyFault) -> u32
 /// memory was refused. At all but 0 each field is 0.
 #[unsafe(no_mangle)]
 pub extern "C" fn oncrpc_reply_read(alloc: Global, input: &[u8], reply: &mut ReplyParts) -> u32
-    // A reply that is told has these bytes, and a fault names what stands in them.
+    // A reply that is reported has these bytes, and a fault names what stands in them.
     ensures found { (a : Result ReplyView FaultSpec) × IsOutcome input.now a × (result ≡ outcome_status a)
-        × (reply.new ≡ outcome_told a) }
-    // A reply that the bytes are is told, unless memory was refused.
+        × (reply.new ≡ outcome_reported a) }
+    // A reply that the bytes are is reported, unless memory was refused.
     ensures only { (r : ReplyView) → ReplyBytes r input.now
         → (result ≡ 6) ⊎ ((result ≡ 0) × (reply.new ≡ told_of r)) }
     // Its parts lie where they are told to be.
@@ -153,7 +153,7 @@ pub extern "C" fn oncrpc_reply_read(alloc: Global, input: &[u8], reply: &mut Rep
 {
     match read_reply(alloc, input) {
         Ok(value) => {
-            *reply = told(&value);
+            *reply = reported(&value);
             0
         }
         Err(fault) => {
@@ -168,10 +168,10 @@ fn reply_into(
     reply: &ReplyParts,
     verifier: &[u8],
     results: &[u8],
-    room: &mut [u8],
+    buffer: &mut [u8],
     count: &mut usize,
 ) -> Answer
-    ensures { IsReplyWritten reply.now verifier.now results.now room.old room.new count.new result }
+    ensures { IsReplyWritten reply.now verifier.now results.now buffer.old buffer.new count.new result }
 {
     *count = 0;
     if MOST_STATE < reply.state {
@@ -184,29 +184,29 @@ fn reply_into(
         return Answer::NoMemory;
     };
     match write_reply(alloc, &asked) {
-        Ok(bytes) => place(&bytes, room, count),
+        Ok(bytes) => place(&bytes, buffer, count),
         Err(_) => Answer::NoMemory,
     }
 }
 
-/// Writes a reply into the room: the xid and the state of `reply` and what that state speaks of, with these bytes as
+/// Writes a reply into the buffer: the xid and the state of `reply` and what that state speaks of, with these bytes as
 /// the body of an accepted reply's verifier and as the results of state 0 (RFC 5531 section 9).
 ///
-/// Status 0: `count` bytes are written, and the rest of the room is untouched. 8: the room is too small, `count` bytes
+/// Status 0: `count` bytes are written, and the rest of the buffer is untouched. 8: the buffer is too small, `count` bytes
 /// are needed. 15: the state is above 7. 12: the verifier of an accepted reply has more than 400 bytes. 6: memory was
-/// refused. At 6, 8, 12 and 15 the room is untouched, and at 6, 12 and 15 `count` is 0.
+/// refused. At 6, 8, 12 and 15 the buffer is untouched, and at 6, 12 and 15 `count` is 0.
 #[unsafe(no_mangle)]
 pub extern "C" fn oncrpc_reply_write(
     alloc: Global,
     reply: &ReplyParts,
     verifier: &[u8],
     results: &[u8],
-    room: &mut [u8],
+    buffer: &mut [u8],
     count: &mut usize,
 ) -> u32
     ensures { (a : AnswerSpec)
-        × IsReplyWritten reply.now verifier.now results.now room.old room.new count.new a
+        × IsReplyWritten reply.now verifier.now results.now buffer.old buffer.new count.new a
         × (result ≡ status_of a) }
 {
-    reply_into(alloc, reply, verifier, results, room, count).status()
+    reply_into(alloc, reply, verifier, results, buffer, count).status()
 }

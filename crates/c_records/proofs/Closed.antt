@@ -1,4 +1,4 @@
--- What a stream's end is told behind known bytes, and which pieces lead there.
+-- What a stream's end is reported behind known bytes, and which pieces lead there.
 use Rattle.std.proofs.Common.{◌≡◌, ℕ, ◌<◌, ◌⊎◌, inl, inr, List, [], ◌∷◌, length, take, refl}
 use Rattle.std.proofs.Common.{ap, ◌∙◌, subst, length-append, arith, Option, Some}
 use Rattle.std.proofs.lemmas.List.{length-take}
@@ -7,20 +7,20 @@ use Rattle.rpc_record.specs.declared.fault.RecordFault.TheVariants as fault
 use Rattle.rpc_record.specs.Marked.{Marked, NoneBeginsAnother}
 use Rattle.rpc_record.specs.Reading.{IsWhole, IsInside, capped}
 use Rattle.rpc_record.proofs.Long.{Marked-length, TooLongAt-length, only_memory}
-use Rattle.rpc_record.proofs.Told.{not_broken}
+use Rattle.rpc_record.proofs.Reported.{not_broken}
 use Rattle.c_records.specs.declared.answer.Answer.{Answer}
 use Rattle.c_records.specs.declared.answer.Answer.TheVariants as answer
 use Rattle.c_records.specs.Ended.{IsEndedAs, IsEndedTo, IsEndedBy, IsCut}
 use Rattle.c_records.specs.Fed.{IsFedAs, IsFedTo, IsFedBy, IsRefused}
-use Rattle.c_records.specs.Held.{Held, IsTaking, IsBroken, Stands, limit_of}
+use Rattle.c_records.specs.Held.{Held, IsTaking, IsBroken, Represents, limit_of}
 use Rattle.c_records.specs.Statuses.{status_of}
 use Rattle.c_records.proofs.Followed.{one_marked}
-use Rattle.c_records.proofs.Told.{IsAt, Waiting}
+use Rattle.c_records.proofs.Reported.{IsAt, Waiting}
 
 -- ---- the end of a reader that takes bytes
 
 module _ (limit : ℕ) (bytes : List ℕ) (rs : List (List ℕ)) (h : Held) (e : limit_of h ≡ limit) (i : IsTaking h)
-    (s : Stands h bytes rs) where
+    (s : Represents h bytes rs) where
   place : (f : RecordFault) → IsCut h f → (f ≡ fault.Truncated (capped (length bytes))) × IsInside limit rs bytes
   place (fault.Truncated at) c =
       let t = c bytes rs s in (ap fault.Truncated t.0, subst (λ n. IsInside n rs bytes) e t.1)
@@ -61,7 +61,7 @@ pub ends_well : (limit : ℕ) (bytes : List ℕ) (rs : List (List ℕ)) (held le
     → (IsInside limit rs bytes → ⊥) → IsEndedBy held left a → a ≡ answer.Whole 0
 ends_well limit bytes rs held left a at n e =
     let by = subst (λ (o : Option Held). IsEndedBy o left a) at.is e in
-    well limit bytes rs at.reader at.limit_is at.taking at.stands by.0 a n
+    well limit bytes rs at.reader at.limit_is at.taking at.represents by.0 a n
     (subst (λ (w : Option (List ℕ)). IsEndedAs w at.reader by.0 a) at.taking.0 by.2.ended)
 
 pub ends_cut : (limit : ℕ) (bytes : List ℕ) (rs : List (List ℕ)) (held left : Option Held) (a : Answer)
@@ -70,7 +70,7 @@ pub ends_cut : (limit : ℕ) (bytes : List ℕ) (rs : List (List ℕ)) (held lef
     → a ≡ answer.Refused (fault.Truncated (capped (length bytes)))
 ends_cut limit bytes rs held left a at n e =
     let by = subst (λ (o : Option Held). IsEndedBy o left a) at.is e in
-    cut limit bytes rs at.reader at.limit_is at.taking at.stands by.0 a n
+    cut limit bytes rs at.reader at.limit_is at.taking at.represents by.0 a n
     (subst (λ (w : Option (List ℕ)). IsEndedAs w at.reader by.0 a) at.taking.0 by.2.ended)
 
 pub not_inside : (limit : ℕ) → IsInside limit [] [] → ⊥
@@ -91,7 +91,7 @@ none_behind apart limit r bytes w i =
 -- ---- less than a header
 
 module _ (limit : ℕ) (piece : List ℕ) (short : length piece < 4) (h l : Held) (e : limit_of h ≡ limit) (i : IsTaking h)
-    (s : Stands h [] []) where
+    (s : Represents h [] []) where
   refused : (f : RecordFault) → IsRefused h piece l f → f ≡ fault.NoMemory
   refused f b =
       only_memory (limit_of h) (length piece) [] f piece
@@ -104,7 +104,7 @@ module _ (limit : ℕ) (piece : List ℕ) (short : length piece < 4) (h l : Held
       (one_marked (limit_of h) b.content (take count piece) (b.whole [] [] s)) in
       absurd (omega (arith, short, long, length-take count piece))
   fed_to left answer.More is m b =
-      inr (refl, record { reader = l; is = is; limit_is = m ∙ e; taking = b.taking; stands = b.takes [] [] s })
+      inr (refl, record { reader = l; is = is; limit_is = m ∙ e; taking = b.taking; represents = b.takes [] [] s })
   fed_to left (answer.Refused f) is m b = inl (ap (λ g. status_of (answer.Refused g)) (refused f b))
   fed_to left answer.BadLimit is m b = absurd b
   fed_to left answer.NoMemory is m b = absurd b
@@ -117,7 +117,7 @@ pub fed_short : (limit : ℕ) (piece : List ℕ) (held left : Option Held) (a : 
     → IsFedBy held piece left a → (status_of a ≡ 6) ⊎ ((a ≡ answer.More) × IsAt limit piece [] left)
 fed_short limit piece held left a short at f =
     let by = subst (λ (o : Option Held). IsFedBy o piece left a) at.is f in
-    fed_to limit piece short at.reader by.0 at.limit_is at.taking at.stands left a by.1 by.2.limit
+    fed_to limit piece short at.reader by.0 at.limit_is at.taking at.represents left a by.1 by.2.limit
     (subst (λ (w : Option (List ℕ)). IsFedAs w at.reader piece by.0 a) at.taking.0 by.2.fed)
 
 -- ---- a first record
@@ -130,12 +130,12 @@ pub record HasRead (limit : ℕ) (held : Option Held) : Type 0 where
   pub whole : IsWhole limit (content ∷ []) bytes
 
 read_to : (limit : ℕ) (piece : List ℕ) (h l : Held) (left : Option Held) (a : Answer) → limit_of h ≡ limit
-    → Stands h [] []
+    → Represents h [] []
     → left ≡ Some l → limit_of l ≡ limit_of h → IsFedTo h piece l a → 0 ≡ status_of a → HasRead limit left
 read_to limit piece h l left (answer.Whole count) e s is m b z = record {
   content = b.content;
   bytes = take count piece;
-  waiting = record { reader = l; is = is; limit_is = m ∙ e; waits = b.waits; stands = b.takes [] [] s };
+  waiting = record { reader = l; is = is; limit_is = m ∙ e; waits = b.waits; represents = b.takes [] [] s };
   whole = subst (λ n. IsWhole n (b.content ∷ []) (take count piece)) e (b.whole [] [] s);
 }
 read_to limit piece h l left (answer.Refused fault.NoMemory) e s is m b z = absurd (omega (arith, z))
@@ -156,5 +156,5 @@ pub has_read : (limit : ℕ) (piece : List ℕ) (held left : Option Held) (a : A
     → 0 ≡ status_of a → HasRead limit left
 has_read limit piece held left a at f z =
     let by = subst (λ (o : Option Held). IsFedBy o piece left a) at.is f in
-    read_to limit piece at.reader by.0 left a at.limit_is at.stands by.1 by.2.limit
+    read_to limit piece at.reader by.0 left a at.limit_is at.represents by.1 by.2.limit
     (subst (λ (w : Option (List ℕ)). IsFedAs w at.reader piece by.0 a) at.taking.0 by.2.fed) z

@@ -10,8 +10,8 @@ use Rattle.rpc_record.specs.declared.place.Place.TheVariants as place
 use Rattle.rpc_record.specs.declared.reader.RecordReader.{RecordReader}
 use Rattle.rpc_record.specs.Fields.{IsBrokenAt}
 use Rattle.rpc_record.specs.Reading.{IsWhole}
-use Rattle.rpc_record.proofs.Told.{not_broken}
-use Rattle.rpc_record.specs.Stands.{IsBetween, IsWaiting, IsTaking, IsBroken, TruncatedAt, Ends, Concludes, limit_of}
+use Rattle.rpc_record.proofs.Reported.{not_broken}
+use Rattle.rpc_record.specs.Represents.{IsBetween, IsWaiting, IsTaking, IsBroken, TruncatedAt, Ends, Concludes, limit_of}
 use Rattle.c_records.specs.declared.answer.Answer.TheVariants as answer
 use Rattle.c_records.specs.Ended.{IsEnded, IsCut}
 use Rattle.c_records.specs.Held as held
@@ -30,8 +30,8 @@ none_well reader f (inl e) b = subst (λ (p : Place). IsBrokenAt p f) e b
 none_well reader f (inr e) b = subst (λ (p : Place). IsBrokenAt p f) e b
 
 -- with that reader
-abbrev kept : Option (List ℕ) → RecordReader → Held
-kept waits reader = record { reader = reader; waits = waits }
+abbrev retained : Option (List ℕ) → RecordReader → Held
+retained waits reader = record { reader = reader; waits = waits }
 
 pub well : (old new : RecordReader) (w : Bool) (last : List ℕ) (u : Unit {0}) → w ≡ false
     → limit_of new ≡ limit_of old → Ends old new (Ok u) → Concludes old (Ok u)
@@ -42,7 +42,7 @@ well old new false last u e l ends says = record {
   limit = l;
   ended = (
     refl,
-    ap (kept None) ends.1,
+    ap (retained None) ends.1,
     λ i bytes rs s. let t = says bytes rs s in
         subst (λ (x : List (List ℕ)). IsWhole (limit_of old) x bytes)
         (ap (λ (x : List (List ℕ)). rs ++ x) (t.1.2 i.1) ∙ append-nil rs) t.1.1,

@@ -6,7 +6,7 @@ use Rattle.rpc_record.specs.declared.fault.RecordFault.{RecordFault}
 use Rattle.rpc_record.specs.declared.fault.RecordStep.{RecordStep}
 use Rattle.rpc_record.specs.declared.fault.RecordStep.TheVariants as step
 use Rattle.rpc_record.specs.declared.reader.RecordReader.{RecordReader}
-use Rattle.rpc_record.specs.Stands.{Fills, IsFilled, Tells, Stays, limit_of}
+use Rattle.rpc_record.specs.Represents.{Fills, IsFilled, Reports, Stays, limit_of}
 use Rattle.rpc_record.proofs.Readers.{between_taking}
 use Rattle.c_records.specs.declared.answer.Answer.TheVariants as answer
 use Rattle.c_records.specs.Fed.{IsFed}
@@ -19,20 +19,20 @@ refused_same : {f g : RecordFault} → ◌≡◌ {A = Result RecordStep RecordFa
     → answer.Refused f ≡ answer.Refused g
 refused_same e = cc
 
-pub more : (old new : RecordReader) (w : Bool) (last last' piece room : List ℕ) → w ≡ false
-    → limit_of new ≡ limit_of old → Fills old new piece room (Ok step.More) → Tells old piece (Ok step.More)
+pub more : (old new : RecordReader) (w : Bool) (last last' piece buffer : List ℕ) → w ≡ false
+    → limit_of new ≡ limit_of old → Fills old new piece buffer (Ok step.More) → Reports old piece (Ok step.More)
     → Stays old (Ok step.More)
     → IsFed (record { reader = old; waits = waiting_of w last }) piece
     (record { reader = new; waits = waiting_of w last' })
     answer.More
-more old new true last last' piece room e l feeds tells stays = absurd (false≢true (sym e))
-more old new false last last' piece room e l feeds tells stays = record {
+more old new true last last' piece buffer e l feeds reports stays = absurd (false≢true (sym e))
+more old new false last last' piece buffer e l feeds reports stays = record {
   limit = l;
   fed = record {
     taking = (refl, feeds.0);
     takes = feeds.1;
-    longest = λ bytes rs s. (tells bytes rs s).0;
-    short = λ bytes rs s. (tells bytes rs s).1;
+    longest = λ bytes rs s. (reports bytes rs s).0;
+    short = λ bytes rs s. (reports bytes rs s).1;
   };
   again = λ f b. absurd (well_bad (stays.broken f b.1));
 }
@@ -57,21 +57,21 @@ whole old new false last piece content used e l fills is stays = record {
   again = λ f b. absurd (well_bad (stays.broken f b.1));
 }
 
-pub refused : (old new : RecordReader) (w : Bool) (last last' piece room : List ℕ) (f : RecordFault)
-    → w ≡ false → limit_of new ≡ limit_of old → Fills old new piece room (Err f)
-    → Tells old piece (Err f) → Stays old (Err f)
+pub refused : (old new : RecordReader) (w : Bool) (last last' piece buffer : List ℕ) (f : RecordFault)
+    → w ≡ false → limit_of new ≡ limit_of old → Fills old new piece buffer (Err f)
+    → Reports old piece (Err f) → Stays old (Err f)
     → IsFed (record { reader = old; waits = waiting_of w last }) piece
     (record { reader = new; waits = waiting_of w last' })
     (answer.Refused f)
-refused old new true last last' piece room f e l feeds tells stays = absurd (false≢true (sym e))
-refused old new false last last' piece room f e l feeds tells stays = record {
+refused old new true last last' piece buffer f e l feeds reports stays = absurd (false≢true (sym e))
+refused old new false last last' piece buffer f e l feeds reports stays = record {
   limit = l;
   fed = record {
     broken = (refl, feeds.0);
     takes = feeds.1;
-    says = λ bytes rs s. (tells bytes rs s).0;
+    says = λ bytes rs s. (reports bytes rs s).0;
     kind = λ i. feeds.2 i.1;
-    here = λ i bytes rs s. (tells bytes rs s).1 i.1;
+    here = λ i bytes rs s. (reports bytes rs s).1 i.1;
   };
   again = λ g b. refused_same (stays.broken g b.1);
 }

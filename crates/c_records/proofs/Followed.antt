@@ -11,9 +11,9 @@ use Rattle.rpc_record.proofs.Streams.{Upto-none, Upto-first, Upto-last}
 use Rattle.c_records.specs.declared.answer.Answer.{Answer}
 use Rattle.c_records.specs.declared.answer.Answer.TheVariants as answer
 use Rattle.c_records.specs.Fed.{IsRead, IsRefused, IsFedAs, IsFedTo, IsFedBy}
-use Rattle.c_records.specs.Held.{Held, limit_of, IsTaking, Waits, Stands}
+use Rattle.c_records.specs.Held.{Held, limit_of, IsTaking, Waits, Represents}
 use Rattle.c_records.specs.Statuses.{status_of}
-use Rattle.c_records.proofs.Told.{IsAt, Waiting}
+use Rattle.c_records.proofs.Reported.{IsAt, Waiting}
 
 pub one_marked : (limit : ℕ) (r bytes : List ℕ) → IsWhole limit (r ∷ []) bytes → Marked r bytes
 one_marked limit r bytes w =
@@ -33,7 +33,7 @@ empty-is e = cc
 module _ (apart : NoneBeginsAnother) (one : OneLongest) (longest : WholeIsLongest) (ends : TooLongEnds)
     (none : WholeHasNoLong) (limit : ℕ) (r before piece after : List ℕ)
     (all : IsWhole limit (r ∷ []) ((before ++ piece) ++ after)) where
-  refused : (h l : Held) (f : RecordFault) → limit_of h ≡ limit → IsTaking h → Stands h before []
+  refused : (h l : Held) (f : RecordFault) → limit_of h ≡ limit → IsTaking h → Represents h before []
       → IsRefused h piece l f → f ≡ fault.NoMemory
   refused h l f e i s b =
       only_memory limit (length piece) [] f (before ++ piece)
@@ -42,7 +42,7 @@ module _ (apart : NoneBeginsAnother) (one : OneLongest) (longest : WholeIsLonges
       (b.kind i) (subst (λ n. FaultyIn n [] f (length piece) (before ++ piece)) e (b.here i before [] s))
 
   -- what is read whole is the record, and nothing is left behind it
-  read : (h l : Held) (count : ℕ) → Stands h before [] → (b : IsRead h piece l count)
+  read : (h l : Held) (count : ℕ) → Represents h before [] → (b : IsRead h piece l count)
       → (r ≡ b.content) × (drop count piece ++ after ≡ [])
   read h l count s b =
       apart b.content r (before ++ take count piece) (drop count piece ++ after)
@@ -50,7 +50,7 @@ module _ (apart : NoneBeginsAnother) (one : OneLongest) (longest : WholeIsLonges
       (subst (λ k. Marked r k) (split before piece after count)
       (one_marked limit r ((before ++ piece) ++ after) all))
 
-  module _ (h l : Held) (e : limit_of h ≡ limit) (i : IsTaking h) (s : Stands h before []) where
+  module _ (h l : Held) (e : limit_of h ≡ limit) (i : IsTaking h) (s : Represents h before []) where
     first_to : (left : Option Held) (a : Answer) → 0 < length after → status_of a ≢ 6 → left ≡ Some l
         → limit_of l ≡ limit_of h → IsFedTo h piece l a
         → (a ≡ answer.More) × IsAt limit (before ++ piece) [] left
@@ -58,7 +58,7 @@ module _ (apart : NoneBeginsAnother) (one : OneLongest) (longest : WholeIsLonges
         absurd (omega (arith, some, ap length (read h l count s b).1, length-append (drop count piece) after))
     first_to left answer.More some known is m b = (
       refl,
-      record { reader = l; is = is; limit_is = m ∙ e; taking = b.taking; stands = b.takes before [] s },
+      record { reader = l; is = is; limit_is = m ∙ e; taking = b.taking; represents = b.takes before [] s },
     )
     first_to left (answer.Refused f) some known is m b =
         absurd (known (ap (λ g. status_of (answer.Refused g)) (refused h l f e i s b)))
@@ -82,7 +82,7 @@ module _ (apart : NoneBeginsAnother) (one : OneLongest) (longest : WholeIsLonges
             is = is;
             limit_is = m ∙ e;
             waits = subst (λ k. Waits l k) (sym t.0) b.waits;
-            stands = subst (λ k. Stands l (before ++ k) []) (take_all count piece most) (b.takes before [] s);
+            represents = subst (λ k. Represents l (before ++ k) []) (take_all count piece most) (b.takes before [] s);
           },
         )
     last_to left answer.More ended known is m b =
@@ -105,7 +105,7 @@ module _ (apart : NoneBeginsAnother) (one : OneLongest) (longest : WholeIsLonges
       → (a ≡ answer.More) × IsAt limit (before ++ piece) [] left
   fed_first held left a some known at f =
       let by = subst (λ (o : Option Held). IsFedBy o piece left a) at.is f in
-      first_to at.reader by.0 at.limit_is at.taking at.stands left a some known by.1 by.2.limit
+      first_to at.reader by.0 at.limit_is at.taking at.represents left a some known by.1 by.2.limit
       (subst (λ (w : Option (List ℕ)). IsFedAs w at.reader piece by.0 a) at.taking.0 by.2.fed)
 
   pub fed_last : (held left : Option Held) (a : Answer) → after ≡ [] → status_of a ≢ 6 → IsAt limit before [] held
@@ -113,7 +113,7 @@ module _ (apart : NoneBeginsAnother) (one : OneLongest) (longest : WholeIsLonges
       → (a ≡ answer.Whole (length piece)) × Waiting limit (before ++ piece) [] r left
   fed_last held left a ended known at f =
       let by = subst (λ (o : Option Held). IsFedBy o piece left a) at.is f in
-      last_to at.reader by.0 at.limit_is at.taking at.stands left a ended known by.1 by.2.limit
+      last_to at.reader by.0 at.limit_is at.taking at.represents left a ended known by.1 by.2.limit
       (subst (λ (w : Option (List ℕ)). IsFedAs w at.reader piece by.0 a) at.taking.0 by.2.fed)
 
 abbrev pub abc : List ℕ

@@ -6,4 +6,4 @@ mod Long
 mod Next
 mod Past
 mod Slot
-mod Told
+mod Reported

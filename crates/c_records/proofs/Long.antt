@@ -34,13 +34,13 @@ module _ (h l : Held) (fresh : IsFresh 2 h) where
   fed_to : (a : Answer) → IsFedTo h three_bytes l a → IsRefusal a
   fed_to (answer.Whole count) b =
       absurd (none_whole 2 0 three_bytes is_long count b.content
-      (subst (λ (n : ℕ). IsWhole n (b.content ∷ []) (take count three_bytes)) fresh.limit (b.whole [] [] fresh.stands)))
+      (subst (λ (n : ℕ). IsWhole n (b.content ∷ []) (take count three_bytes)) fresh.limit (b.whole [] [] fresh.represents)))
   fed_to answer.More b =
-      absurd (b.short [] [] fresh.stands [] 0
+      absurd (b.short [] [] fresh.represents [] 0
       (subst (λ (n : ℕ). TooLongAt n [] 0 three_bytes) (sym fresh.limit) is_long))
   fed_to (answer.Refused f) b =
       seen f (refused_at 2 0 three_bytes is_long f 4 (b.kind fresh.taking)
-      (subst (λ (n : ℕ). FaultyIn n [] f 4 three_bytes) fresh.limit (b.here fresh.taking [] [] fresh.stands)))
+      (subst (λ (n : ℕ). FaultyIn n [] f 4 three_bytes) fresh.limit (b.here fresh.taking [] [] fresh.represents)))
   fed_to answer.BadLimit b = absurd b
   fed_to answer.NoMemory b = absurd b
   fed_to (answer.NoRoom needed) b = absurd b

@@ -14,9 +14,9 @@ use Rattle.rpc_record.proofs.Streams.{Stream-push, Marked-one, whole_none, whole
 use Rattle.c_records.specs.declared.answer.Answer.{Answer}
 use Rattle.c_records.specs.declared.answer.Answer.TheVariants as answer
 use Rattle.c_records.specs.Fed.{IsRead, IsRefused, IsFedAs, IsFedTo, IsFedBy}
-use Rattle.c_records.specs.Held.{Held, limit_of, IsTaking, Waits, Stands}
+use Rattle.c_records.specs.Held.{Held, limit_of, IsTaking, Waits, Represents}
 use Rattle.c_records.specs.Statuses.{status_of}
-use Rattle.c_records.proofs.Told.{IsAt, Waiting}
+use Rattle.c_records.proofs.Reported.{IsAt, Waiting}
 
 -- what follows whole records and makes one more is that one
 strip : (rs : List (List ℕ)) (c before more : List ℕ) → Stream rs before → Stream (rs ++ c ∷ []) (before ++ more)
@@ -34,13 +34,13 @@ module _ (limit : ℕ) (rs : List (List ℕ)) (r before front back : List ℕ) (
   abbrev piece : List ℕ
   piece = front ++ back
 
-  refused : (h l : Held) (f : RecordFault) → limit_of h ≡ limit → IsTaking h → Stands h before rs
+  refused : (h l : Held) (f : RecordFault) → limit_of h ≡ limit → IsTaking h → Represents h before rs
       → IsRefused h piece l f → f ≡ fault.NoMemory
   refused h l f e i s b =
       only_memory limit (length piece) rs f (before ++ piece) (short rs) (b.kind i)
       (subst (λ n. FaultyIn n rs f (length piece) (before ++ piece)) e (b.here i before rs s))
 
-  read : (h l : Held) (count : ℕ) → Stands h before rs → (b : IsRead h piece l count)
+  read : (h l : Held) (count : ℕ) → Represents h before rs → (b : IsRead h piece l count)
       → (b.content ≡ r) × (count ≡ length front)
   read h l count s b =
       let w = b.whole before rs s in
@@ -56,7 +56,7 @@ module _ (limit : ℕ) (rs : List (List ℕ)) (r before front back : List ℕ) (
       (Stream-push rs before front r begun.stream marked) (sym (append_assoc before front back)) in
       omega (arith, ap length t.1, length-append (rs ++ r ∷ []) t.0, length-append rs (r ∷ []))
 
-  module _ (h l : Held) (e : limit_of h ≡ limit) (i : IsTaking h) (s : Stands h before rs) where
+  module _ (h l : Held) (e : limit_of h ≡ limit) (i : IsTaking h) (s : Represents h before rs) where
     fed_to : (left : Option Held) (a : Answer) → status_of a ≢ 6 → left ≡ Some l → limit_of l ≡ limit_of h
         → IsFedTo h piece l a
         → (a ≡ answer.Whole (length front)) × Waiting limit (before ++ front) rs r left
@@ -69,7 +69,7 @@ module _ (limit : ℕ) (rs : List (List ℕ)) (r before front back : List ℕ) (
             is = is;
             limit_is = m ∙ e;
             waits = subst (λ k. Waits l k) t.0 b.waits;
-            stands = subst (λ k. Stands l (before ++ k) rs) front_is (b.takes before rs s);
+            represents = subst (λ k. Represents l (before ++ k) rs) front_is (b.takes before rs s);
           },
         )
     fed_to left answer.More known is m b =
@@ -87,7 +87,7 @@ module _ (limit : ℕ) (rs : List (List ℕ)) (r before front back : List ℕ) (
       → (a ≡ answer.Whole (length front)) × Waiting limit (before ++ front) rs r left
   fed_next held left a known at f =
       let by = subst (λ (o : Option Held). IsFedBy o piece left a) at.is f in
-      fed_to at.reader by.0 at.limit_is at.taking at.stands left a known by.1 by.2.limit
+      fed_to at.reader by.0 at.limit_is at.taking at.represents left a known by.1 by.2.limit
       (subst (λ (w : Option (List ℕ)). IsFedAs w at.reader piece by.0 a) at.taking.0 by.2.fed)
 
 -- 80000001 61, and 80000000

@@ -4,12 +4,12 @@ use Rattle.std.proofs.Common.{Option, Some, None}
 use Rattle.std.proofs.Math.Seq.{take-append_seam}
 use Rattle.c_records.specs.declared.answer.Answer.{Answer}
 use Rattle.c_records.specs.declared.answer.Answer.TheVariants as answer
-use Rattle.c_records.specs.Held.{Held, Stands}
+use Rattle.c_records.specs.Held.{Held, Represents}
 use Rattle.c_records.specs.Statuses.{status_of}
 use Rattle.c_records.specs.Taken.{IsTakenBy, IsGiven}
-use Rattle.c_records.proofs.Told.{IsAt, Waiting, same_held}
+use Rattle.c_records.proofs.Reported.{IsAt, Waiting, same_held}
 
--- it goes into a room that is large enough
+-- it goes into a buffer that is large enough
 given : (r old new : List ℕ) (waits : Option (List ℕ)) (a : Answer) → length r ≤ length old
     → IsGiven (Some r) waits old new a
     → (a ≡ answer.Whole (length r)) × (take (length r) new ≡ r)
@@ -56,7 +56,7 @@ module _ (limit : ℕ) (bytes : List ℕ) (rs : List (List ℕ)) (r : List ℕ) 
             (same_held next by.0 by.2.reader (waits_no_more r old new by.0.waits a as_given z));
         limit_is = w.limit_is;
         taking = (refl, w.waits.1);
-        stands = subst (λ (h : Held). Stands h bytes rs) is_whole w.stands;
+        represents = subst (λ (h : Held). Represents h bytes rs) is_whole w.represents;
       }
 
   pub taken : length r ≤ length old

@@ -1,6 +1,6 @@
 -- What a reader of records holds, and the bytes and records that it stands for.
 use Rattle.std.specs.Prelude.{◌≡◌, ℕ, Bool, true, false, List, [], ◌∷◌, ◌++◌, Option, Some, None}
-use Rattle.rpc_record.specs.Stands as reads
+use Rattle.rpc_record.specs.Represents as reads
 use Rattle.rpc_record.specs.declared.fault.RecordFault.{RecordFault}
 use Rattle.rpc_record.specs.declared.reader.RecordReader.{RecordReader}
 use Rattle.c_records.specs.declared.state.State.{State}
@@ -36,22 +36,22 @@ IsBroken h f = (h.waits ≡ None) × reads.IsBroken h.reader f
 
 -- a record that waits was read, and was not handed out
 abbrev pub StandsAs : (waits : Option (List ℕ)) → RecordReader → List ℕ → List (List ℕ) → Type 0
-StandsAs None reader bytes rs = reads.Stands reader bytes rs
-StandsAs (Some r) reader bytes rs = reads.Stands reader bytes (rs ++ r ∷ [])
+StandsAs None reader bytes rs = reads.Represents reader bytes rs
+StandsAs (Some r) reader bytes rs = reads.Represents reader bytes (rs ++ r ∷ [])
 
 -- It has taken these bytes and has handed out these records.
-abbrev pub Stands : Held → List ℕ → List (List ℕ) → Type 0
-Stands h bytes rs = StandsAs h.waits h.reader bytes rs
+abbrev pub Represents : Held → List ℕ → List (List ℕ) → Type 0
+Represents h bytes rs = StandsAs h.waits h.reader bytes rs
 
 -- Whatever it stood for, what is left stands for with these bytes taken.
 abbrev pub Takes : (h left : Held) → (more : List ℕ) → Type 0
-Takes h left more = (bytes : List ℕ) (rs : List (List ℕ)) → Stands h bytes rs → Stands left (bytes ++ more) rs
+Takes h left more = (bytes : List ℕ) (rs : List (List ℕ)) → Represents h bytes rs → Represents left (bytes ++ more) rs
 
 -- Whatever bytes it had taken and whatever records it had handed out, this holds of those records and of those bytes
 -- with these behind.
 abbrev pub After : Held → (more : List ℕ) → (List (List ℕ) → List ℕ → Type 0) → Type 0
-After h more P = (bytes : List ℕ) (rs : List (List ℕ)) → Stands h bytes rs → P rs (bytes ++ more)
+After h more P = (bytes : List ℕ) (rs : List (List ℕ)) → Represents h bytes rs → P rs (bytes ++ more)
 
 -- the same with none behind
 abbrev pub Always : Held → (List (List ℕ) → List ℕ → Type 0) → Type 0
-Always h P = (bytes : List ℕ) (rs : List (List ℕ)) → Stands h bytes rs → P rs bytes
+Always h P = (bytes : List ℕ) (rs : List (List ℕ)) → Represents h bytes rs → P rs bytes

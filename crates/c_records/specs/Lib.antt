@@ -1,7 +1,7 @@
 pub mod Ended
 pub mod Fed
 pub mod Held
-pub mod Rooms
+pub mod Buffers
 pub mod Started
 pub mod Statuses
 pub mod Taken

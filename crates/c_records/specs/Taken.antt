@@ -3,9 +3,9 @@ use Rattle.std.specs.Prelude.{◌≡◌, ℕ, List, Option, Some, None}
 use Rattle.c_records.specs.declared.answer.Answer.{Answer}
 use Rattle.c_records.specs.declared.answer.Answer.TheVariants as answer
 use Rattle.c_records.specs.Held.{Held}
-use Rattle.c_records.specs.Rooms.{IsPlaced}
+use Rattle.c_records.specs.Buffers.{IsPlaced}
 
--- a record goes into the room and waits no longer, or waits until there is enough
+-- a record goes into the buffer and waits no longer, or waits until there is enough
 abbrev pub IsGiven : (record_waits waits : Option (List ℕ)) → (old new : List ℕ) → Answer → Type 0
 IsGiven None waits old new a = (a ≡ answer.NoRecord) × (waits ≡ None) × (new ≡ old)
 IsGiven (Some r) waits old new (answer.Whole count) = IsPlaced r old new (answer.Whole count) × (waits ≡ None)

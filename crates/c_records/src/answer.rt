@@ -18,7 +18,7 @@ pub enum Answer {
     BadLimit,
     /// Memory for the reader was refused.
     NoMemory,
-    /// Room for fewer bytes than this.
+    /// The buffer has fewer bytes than this.
     NoRoom { needed: usize },
     /// The handle holds no reader.
     NoReader,

@@ -30,7 +30,7 @@ fn end_of(state: &mut State) -> Answer
 /// Status 0: they end with a record's last byte, or there are none. A record that waits waits on, and nothing changes.
 /// 2: they end inside a record, `why` 8, and `at` counts them; or the header at the place `at` had been refused before,
 /// `why` 4. 6: memory had been refused before. 2 and 6 are answered for ever after. 22: the handle holds no reader. A
-/// count or place above 18446744073709551615 is told as that. It takes no memory.
+/// count or place above 18446744073709551615 is reported as that. It takes no memory.
 #[unsafe(no_mangle)]
 pub extern "C" fn oncrpc_records_end(
     alloc: Global,

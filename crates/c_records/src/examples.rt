@@ -45,19 +45,19 @@ pub fn reads_nothing_after_free(
     alloc: Global,
     handle: &mut Records,
     piece: &[u8],
-    room: &mut [u8],
+    buffer: &mut [u8],
     outcome: &mut Outcome,
 ) -> (u32, u32, u32)
     ensures fed { result.0 ≡ 22 }
     ensures taken { result.1 ≡ 22 }
     ensures ended { result.2 ≡ 22 }
     ensures outcome { outcome.new ≡ at_count 0 }
-    ensures room { room.new ≡ room.old }
+    ensures buffer { buffer.new ≡ buffer.old }
     ensures held { handle.new.held ≡ None }
 {
     oncrpc_records_free(alloc, handle);
     let fed = oncrpc_records_feed(alloc, handle, piece, outcome);
-    let taken = oncrpc_records_take(alloc, handle, room, outcome);
+    let taken = oncrpc_records_take(alloc, handle, buffer, outcome);
     let ended = oncrpc_records_end(alloc, handle, outcome);
     oncrpc_records_free(alloc, handle);
     (fed, taken, ended)
@@ -67,13 +67,13 @@ pub fn reads_nothing_after_free(
 pub fn ends_well_before_the_first_byte(
     alloc: Global,
     handle: &mut Records,
-    room: &mut [u8],
+    buffer: &mut [u8],
     outcome: &mut Outcome,
 ) -> (u32, u32, u32)
-    ensures { result.0 ≡ 0 → (result.1 ≡ 24) × (room.new ≡ room.old) × (result.2 ≡ 0) × (outcome.new ≡ at_count 0) }
+    ensures { result.0 ≡ 0 → (result.1 ≡ 24) × (buffer.new ≡ buffer.old) × (result.2 ≡ 0) × (outcome.new ≡ at_count 0) }
 {
     let started = oncrpc_records_start(alloc, handle, 100, outcome);
-    let taken = oncrpc_records_take(alloc, handle, room, outcome);
+    let taken = oncrpc_records_take(alloc, handle, buffer, outcome);
     let ended = oncrpc_records_end(alloc, handle, outcome);
     (started, taken, ended)
 }
@@ -83,13 +83,13 @@ pub fn ends_well_before_the_first_byte(
 pub fn hands_out_a_record_of_two_fragments(
     alloc: Global,
     handle: &mut Records,
-    room: &mut [u8],
+    buffer: &mut [u8],
     outcome: &mut Outcome,
 ) -> (u32, u32, u32, usize, u32)
-    requires { 3 ≤ length room.old }
+    requires { 3 ≤ length buffer.old }
     ensures { result.0 ≡ 0 → result.1 ≢ 6 → result.2 ≢ 6
         → (result.1 ≡ 23) × (result.2 ≡ 0) × (result.3 ≡ 3) × (result.4 ≡ 0) × (outcome.new ≡ at_count 3)
-        × (take 3 room.new ≡ 97 ∷ 98 ∷ 99 ∷ []) }
+        × (take 3 buffer.new ≡ 97 ∷ 98 ∷ 99 ∷ []) }
 {
     no_record_begins_another();
     too_long_ends_the_stream();
@@ -97,7 +97,7 @@ pub fn hands_out_a_record_of_two_fragments(
     let begun = oncrpc_records_feed(alloc, handle, &[0, 0, 0, 2, 0x61, 0x62, 0x80, 0], outcome);
     let fed = oncrpc_records_feed(alloc, handle, &[0, 1, 0x63], outcome);
     let used = outcome.at;
-    let taken = oncrpc_records_take(alloc, handle, room, outcome);
+    let taken = oncrpc_records_take(alloc, handle, buffer, outcome);
     (started, begun, fed, used, taken)
 }
 
@@ -106,12 +106,12 @@ pub fn hands_out_a_record_of_two_fragments(
 pub fn hands_out_two_records_of_a_piece(
     alloc: Global,
     handle: &mut Records,
-    room: &mut [u8],
+    buffer: &mut [u8],
     outcome: &mut Outcome,
 ) -> (u32, u32, usize, u32, u32)
-    requires { 1 ≤ length room.old }
+    requires { 1 ≤ length buffer.old }
     ensures { result.0 ≡ 0 → result.1 ≢ 6 → result.4 ≢ 6
-        → (result.1 ≡ 0) × (result.2 ≡ 5) × (result.3 ≡ 0) × (take 1 room.new ≡ 97 ∷ []) × (result.4 ≡ 0)
+        → (result.1 ≡ 0) × (result.2 ≡ 5) × (result.3 ≡ 0) × (take 1 buffer.new ≡ 97 ∷ []) × (result.4 ≡ 0)
         × (outcome.new ≡ at_count 4) }
 {
     too_long_ends_the_stream();
@@ -123,7 +123,7 @@ pub fn hands_out_two_records_of_a_piece(
         outcome,
     );
     let used = outcome.at;
-    let taken = oncrpc_records_take(alloc, handle, room, outcome);
+    let taken = oncrpc_records_take(alloc, handle, buffer, outcome);
     let next = oncrpc_records_feed(alloc, handle, &[0x80, 0, 0, 0], outcome);
     (started, fed, used, taken, next)
 }
@@ -178,33 +178,33 @@ pub fn stays_refused(
     handle: &mut Records,
     piece: &[u8],
     more: &[u8],
-    room: &mut [u8],
+    buffer: &mut [u8],
     outcome: &mut Outcome,
     again: &mut Outcome,
     end: &mut Outcome,
 ) -> (u32, u32, u32, u32)
-    ensures { (result.0 ≡ 2) ⊎ (result.0 ≡ 6) → (result.1 ≡ 24) × (room.new ≡ room.old)
+    ensures { (result.0 ≡ 2) ⊎ (result.0 ≡ 6) → (result.1 ≡ 24) × (buffer.new ≡ buffer.old)
         × (result.2 ≡ result.0) × (again.new ≡ outcome.new) × (result.3 ≡ result.0) × (end.new ≡ outcome.new) }
 {
     let fed = oncrpc_records_feed(alloc, handle, piece, outcome);
-    let taken = oncrpc_records_take(alloc, handle, room, end);
+    let taken = oncrpc_records_take(alloc, handle, buffer, end);
     let fed_again = oncrpc_records_feed(alloc, handle, more, again);
     let ended = oncrpc_records_end(alloc, handle, end);
     (fed, taken, fed_again, ended)
 }
 
-/// A record that did not go into the room is not lost: it goes into one that is large enough.
-pub fn keeps_a_record_without_room(
+/// A record that did not go into the buffer is not lost: it goes into one that is large enough.
+pub fn keeps_a_record_without_buffer(
     alloc: Global,
     handle: &mut Records,
-    room: &mut [u8],
+    buffer: &mut [u8],
     more: &mut [u8],
     outcome: &mut Outcome,
 ) -> (u32, usize, u32)
-    ensures room { result.0 ≡ 8 → (room.new ≡ room.old) × (length room.old < result.1) }
-    ensures kept { result.0 ≡ 8 → result.1 ≤ length more.old → (result.2 ≡ 0) × (outcome.new ≡ at_count result.1) }
+    ensures buffer { result.0 ≡ 8 → (buffer.new ≡ buffer.old) × (length buffer.old < result.1) }
+    ensures retained { result.0 ≡ 8 → result.1 ≤ length more.old → (result.2 ≡ 0) × (outcome.new ≡ at_count result.1) }
 {
-    let first = oncrpc_records_take(alloc, handle, room, outcome);
+    let first = oncrpc_records_take(alloc, handle, buffer, outcome);
     let needed = outcome.at;
     let second = oncrpc_records_take(alloc, handle, more, outcome);
     (first, needed, second)
@@ -214,13 +214,13 @@ pub fn keeps_a_record_without_room(
 pub fn hands_out_once(
     alloc: Global,
     handle: &mut Records,
-    room: &mut [u8],
+    buffer: &mut [u8],
     outcome: &mut Outcome,
 ) -> (u32, u32)
     ensures { result.0 ≡ 0 → (result.1 ≡ 24) × (outcome.new ≡ at_count 0) }
 {
-    let first = oncrpc_records_take(alloc, handle, room, outcome);
-    let second = oncrpc_records_take(alloc, handle, room, outcome);
+    let first = oncrpc_records_take(alloc, handle, buffer, outcome);
+    let second = oncrpc_records_take(alloc, handle, buffer, outcome);
     (first, second)
 }
 
@@ -229,7 +229,7 @@ pub fn may_end_behind_a_record(
     alloc: Global,
     handle: &mut Records,
     piece: &[u8],
-    room: &mut [u8],
+    buffer: &mut [u8],
     outcome: &mut Outcome,
 ) -> (u32, u32, u32, u32)
     ensures { result.0 ≡ 0 → result.1 ≡ 0 → result.2 ≡ 0 → (result.3 ≡ 0) × (outcome.new ≡ at_count 0) }
@@ -237,13 +237,13 @@ pub fn may_end_behind_a_record(
     no_record_begins_another();
     let started = oncrpc_records_start(alloc, handle, 100, outcome);
     let fed = oncrpc_records_feed(alloc, handle, piece, outcome);
-    let taken = oncrpc_records_take(alloc, handle, room, outcome);
+    let taken = oncrpc_records_take(alloc, handle, buffer, outcome);
     let ended = oncrpc_records_end(alloc, handle, outcome);
     (started, fed, taken, ended)
 }
 
 /// A stream that ends inside a record, `800000`, is cut after the bytes that were taken.
-pub fn tells_where_a_stream_is_cut(
+pub fn reports_where_a_stream_is_cut(
     alloc: Global,
     handle: &mut Records,
     outcome: &mut Outcome,

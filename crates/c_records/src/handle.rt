@@ -16,10 +16,10 @@ pub struct Records {
 }
 
 impl Model for Records {
-    ghost use Rattle.c_handles.specs.Kept.{kept};
+    ghost use Rattle.c_handles.specs.Retained.{retained};
     ghost use Rattle.c_records.specs.contracts.state.State.{the_row};
 
-    ghost also_owns = { λ h. kept the_row h.live h.at h.held };
+    ghost also_owns = { λ h. retained the_row h.live h.at h.held };
 }
 
 impl Keeper<State> for Records {

@@ -5,12 +5,12 @@
 #![tactic(auto)]
 
 mod answer;
+mod buffer;
 mod ending;
 mod examples;
 mod feeding;
 mod handle;
 mod outcome;
-mod room;
 mod start;
 mod state;
 mod taking;

@@ -36,30 +36,30 @@ sent_said rows new true said sent d s =
 sent_said rows new false said sent d s =
     subst IsSent (sym (sends_is said sent s ∙ ap (λ (o : Option ReplyView). option_map reply o) d.1)) (inl refl)
 
-abbrev Stands : List ℕ → Type 0
-Stands room = (take 24 room ≡ reply mismatch) ⊎ (take 24 room ≡ reply (accepted 2 SystemErr))
+abbrev Represents : List ℕ → Type 0
+Represents buffer = (take 24 buffer ≡ reply mismatch) ⊎ (take 24 buffer ≡ reply (accepted 2 SystemErr))
 
 long : (bytes : List ℕ) → IsSent (Some bytes) → length bytes ≡ 24
 long bytes (inl e) = ap length e
 long bytes (inr e) = ap length e
 
-module _ (old new : List ℕ) (room : 24 ≤ length old) where
-  stands : (bytes : List ℕ) → IsSent (Some bytes) → new ≡ bytes ++ drop (length bytes) old → Stands new
-  stands bytes s e = by_case s
+module _ (old new : List ℕ) (buffer : 24 ≤ length old) where
+  represents : (bytes : List ℕ) → IsSent (Some bytes) → new ≡ bytes ++ drop (length bytes) old → Represents new
+  represents bytes s e = by_case s
     where
       front : take 24 new ≡ bytes
       front = rw (e, ← long bytes s) (take-append_seam bytes (drop (length bytes) old))
 
-      by_case : IsSent (Some bytes) → Stands new
+      by_case : IsSent (Some bytes) → Represents new
       by_case (inl is) = inl (front ∙ is)
       by_case (inr is) = inr (front ∙ is)
 
   given : (sent waits : Option (List ℕ)) (a : Answer) → IsSent sent → IsGiven sent waits old new a
-      → (status_of a ≡ 0) × (outcome_of a ≡ at_count 24) × Stands new
+      → (status_of a ≡ 0) × (outcome_of a ≡ at_count 24) × Represents new
   given None waits a s g = absurd s
   given (Some bytes) waits (answer.Whole count) s g =
-      (refl, ap at_count (g.0.0 ∙ long bytes s), stands bytes s g.0.1)
-  given (Some bytes) waits (answer.NoRoom needed) s g = absurd (omega (arith, g.0.1, long bytes s, room))
+      (refl, ap at_count (g.0.0 ∙ long bytes s), represents bytes s g.0.1)
+  given (Some bytes) waits (answer.NoRoom needed) s g = absurd (omega (arith, g.0.1, long bytes s, buffer))
   given (Some bytes) waits answer.NoMemory s g = absurd g.0
   given (Some bytes) waits answer.NoRegistry s g = absurd g.0
   given (Some bytes) waits answer.Silence s g = absurd g.0
@@ -85,17 +85,17 @@ read = record {
   parts = refl;
 }
 
-module _ (cases : NoTwoCases) (old new : List ℕ) (room : 24 ≤ length old) where
+module _ (cases : NoTwoCases) (old new : List ℕ) (buffer : 24 ≤ length old) where
   sent : (rows mid : List Row) (y : Bool) (s : Option (List ℕ)) → Answered rows tcp asked y mid s → IsSent s
   sent rows mid y s h =
       sent_said rows mid y h.said s (decided_by rows tcp cases asked bytes y mid s h (OtherVersion 2 3) read) h.sends
 
   answered : (h l : Held) (a : Answer) → IsAnswered h tcp asked l old new a
-      → (status_of a ≡ 0) × (outcome_of a ≡ at_count 24) × Stands new
-  answered h l a i = given old new room i.sent l.waits a (sent h.rows l.rows i.refused i.sent i.answer) i.given
+      → (status_of a ≡ 0) × (outcome_of a ≡ at_count 24) × Represents new
+  answered h l a i = given old new buffer i.sent l.waits a (sent h.rows l.rows i.refused i.sent i.answer) i.given
 
   pub denied : (h : Held) (left : Option Held) (a : Answer) → IsAnsweredBy (Some h) tcp asked left old new a
-      → (status_of a ≡ 0) × (outcome_of a ≡ at_count 24) × Stands new
+      → (status_of a ≡ 0) × (outcome_of a ≡ at_count 24) × Represents new
   denied h left answer.NoTransport i = absurd (i.0 (inl refl))
   denied h left (answer.Whole count) i = answered h i.1 (answer.Whole count) i.3
   denied h left (answer.NoRoom needed) i = answered h i.1 (answer.NoRoom needed) i.3

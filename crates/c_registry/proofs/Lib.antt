@@ -1,3 +1,3 @@
 mod Denied
 mod Slot
-mod Told
+mod Reported

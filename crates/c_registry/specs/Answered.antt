@@ -5,9 +5,9 @@ use Rattle.registry_answer.specs.Answer as registry
 use Rattle.c_registry.specs.declared.answer.Answer.{Answer}
 use Rattle.c_registry.specs.declared.answer.Answer.TheVariants as answer
 use Rattle.c_registry.specs.Held.{Held}
-use Rattle.c_registry.specs.Rooms.{IsPlaced}
+use Rattle.c_registry.specs.Buffers.{IsPlaced}
 
--- a reply goes into the room and waits no longer, or waits until there is enough; silence where there is none
+-- a reply goes into the buffer and waits no longer, or waits until there is enough; silence where there is none
 abbrev pub IsGiven : (reply waits : Option (List ℕ)) → (old new : List ℕ) → Answer → Type 0
 IsGiven None waits old new a = (a ≡ answer.Silence) × (waits ≡ None) × (new ≡ old)
 IsGiven (Some bytes) waits old new (answer.Whole count) = IsPlaced bytes old new (answer.Whole count) × (waits ≡ None)

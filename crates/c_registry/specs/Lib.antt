@@ -1,5 +1,5 @@
 pub mod Answered
 pub mod Held
-pub mod Rooms
+pub mod Buffers
 pub mod Rows
 pub mod Statuses

@@ -11,7 +11,7 @@ pub enum Answer {
     Whole { count: usize },
     /// Memory was refused.
     NoMemory,
-    /// Room for fewer bytes than this.
+    /// The buffer has fewer bytes than this.
     NoRoom { needed: usize },
     /// The handle holds no registry.
     NoRegistry,

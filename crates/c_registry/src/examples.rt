@@ -47,15 +47,15 @@ pub fn answers_nothing_after_free(
     alloc: Global,
     handle: &mut Registry,
     message: &[u8],
-    room: &mut [u8],
+    buffer: &mut [u8],
     outcome: &mut Outcome,
 ) -> u32
     ensures status { result ≡ 18 }
     ensures outcome { outcome.new ≡ at_count 0 }
-    ensures room { room.new ≡ room.old }
+    ensures buffer { buffer.new ≡ buffer.old }
 {
     oncrpc_registry_free(alloc, handle);
-    oncrpc_registry_answer(alloc, handle, b"tcp", message, room, outcome)
+    oncrpc_registry_answer(alloc, handle, b"tcp", message, buffer, outcome)
 }
 
 /// To free twice is well.
@@ -71,14 +71,14 @@ pub fn knows_no_third_transport(
     alloc: Global,
     handle: &mut Registry,
     message: &[u8],
-    room: &mut [u8],
+    buffer: &mut [u8],
     outcome: &mut Outcome,
 ) -> (u32, u32)
-    ensures { result.0 ≡ 0 → (result.1 ≡ 20) × (room.new ≡ room.old)
+    ensures { result.0 ≡ 0 → (result.1 ≡ 20) × (buffer.new ≡ buffer.old)
         × (option_map held_of handle.new.held ≡ Some (record { rows = own_rows 111; waits = None })) }
 {
     let started = oncrpc_registry_start(alloc, handle, 111, b"", outcome);
-    let answered = oncrpc_registry_answer(alloc, handle, b"tcp6", message, room, outcome);
+    let answered = oncrpc_registry_answer(alloc, handle, b"tcp6", message, buffer, outcome);
     (started, answered)
 }
 
@@ -86,63 +86,63 @@ pub fn knows_no_third_transport(
 pub fn is_silent_to_no_call(
     alloc: Global,
     handle: &mut Registry,
-    room: &mut [u8],
+    buffer: &mut [u8],
     outcome: &mut Outcome,
 ) -> (u32, u32)
-    ensures { result.0 ≡ 0 → (result.1 ≡ 19) × (room.new ≡ room.old)
+    ensures { result.0 ≡ 0 → (result.1 ≡ 19) × (buffer.new ≡ buffer.old)
         × (option_map held_of handle.new.held ≡ Some (record { rows = own_rows 111; waits = None })) }
 {
     five_cases();
     let started = oncrpc_registry_start(alloc, handle, 111, b"", outcome);
-    let answered = oncrpc_registry_answer(alloc, handle, b"udp", b"", room, outcome);
+    let answered = oncrpc_registry_answer(alloc, handle, b"udp", b"", buffer, outcome);
     (started, answered)
 }
 
-/// A call of version 3 of RPC, with xid 2, is told that version 2 alone is spoken, or that memory was refused.
+/// A call of version 3 of RPC, with xid 2, is reported that version 2 alone is spoken, or that memory was refused.
 pub fn speaks_version_two_alone(
     alloc: Global,
     handle: &mut Registry,
     message: &[u8],
-    room: &mut [u8],
+    buffer: &mut [u8],
     outcome: &mut Outcome,
 ) -> (u32, u32)
     requires call { message.now ≡ 0 ∷ 0 ∷ 0 ∷ 2 ∷ 0 ∷ 0 ∷ 0 ∷ 0 ∷ 0 ∷ 0 ∷ 0 ∷ 3 ∷ [] }
-    requires room { 24 ≤ length room.old }
-    ensures { let front = take 24 room.new in
+    requires buffer { 24 ≤ length buffer.old }
+    ensures { let front = take 24 buffer.new in
         result.0 ≡ 0 → (result.1 ≡ 0) × (outcome.new ≡ at_count 24)
         × ((front ≡ reply (Denied 2 (RpcMismatch 2 2))) ⊎ (front ≡ reply (accepted 2 SystemErr))) }
 {
     five_cases();
     let started = oncrpc_registry_start(alloc, handle, 111, b"", outcome);
-    let answered = oncrpc_registry_answer(alloc, handle, b"tcp", message, room, outcome);
+    let answered = oncrpc_registry_answer(alloc, handle, b"tcp", message, buffer, outcome);
     (started, answered)
 }
 
-/// Room that is too small stays as it was, and what is told is how much is needed.
-pub fn tells_the_room_that_is_needed(
+/// A buffer that is too small stays as it was, and what is reported is how much is needed.
+pub fn reports_the_buffer_that_is_needed(
     alloc: Global,
     handle: &mut Registry,
     message: &[u8],
-    room: &mut [u8],
+    buffer: &mut [u8],
     outcome: &mut Outcome,
 ) -> u32
-    ensures { result ≡ 8 → (room.new ≡ room.old) × (length room.old < outcome.new.at) }
+    ensures { result ≡ 8 → (buffer.new ≡ buffer.old) × (length buffer.old < outcome.new.at) }
 {
-    oncrpc_registry_answer(alloc, handle, b"tcp", message, room, outcome)
+    oncrpc_registry_answer(alloc, handle, b"tcp", message, buffer, outcome)
 }
 
-/// A reply that did not go into the room is not lost: it goes into one that is large enough.
+/// A reply that did not go into the buffer is not lost: it goes into one that is large enough.
 pub fn keeps_the_reply(
     alloc: Global,
     handle: &mut Registry,
     message: &[u8],
-    room: &mut [u8],
+    buffer: &mut [u8],
     more: &mut [u8],
     outcome: &mut Outcome,
 ) -> (u32, usize, u32)
     ensures { result.0 ≡ 8 → result.1 ≤ length more.old → (result.2 ≡ 0) × (outcome.new ≡ at_count result.1) }
 {
-    let answered = oncrpc_registry_answer(alloc, handle, b"tcp", message, room, outcome);
+    let answered = oncrpc_registry_answer(alloc, handle, b"tcp", message, buffer, outcome);
     let needed = outcome.at;
     let taken = oncrpc_registry_reply(alloc, handle, more, outcome);
     (answered, needed, taken)
@@ -152,13 +152,13 @@ pub fn keeps_the_reply(
 pub fn gives_a_reply_once(
     alloc: Global,
     handle: &mut Registry,
-    room: &mut [u8],
+    buffer: &mut [u8],
     outcome: &mut Outcome,
 ) -> (u32, u32)
     ensures { result.0 ≡ 0 → result.1 ≡ 19 }
 {
-    let first = oncrpc_registry_reply(alloc, handle, room, outcome);
-    let second = oncrpc_registry_reply(alloc, handle, room, outcome);
+    let first = oncrpc_registry_reply(alloc, handle, buffer, outcome);
+    let second = oncrpc_registry_reply(alloc, handle, buffer, outcome);
     (first, second)
 }
 

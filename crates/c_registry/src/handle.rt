@@ -16,10 +16,10 @@ pub struct Registry {
 }
 
 impl Model for Registry {
-    ghost use Rattle.c_handles.specs.Kept.{kept};
+    ghost use Rattle.c_handles.specs.Retained.{retained};
     ghost use Rattle.c_registry.specs.contracts.state.State.{the_row};
 
-    ghost also_owns = { λ h. kept the_row h.live h.at h.held };
+    ghost also_owns = { λ h. retained the_row h.live h.at h.held };
 }
 
 impl Keeper<State> for Registry {

@@ -6,12 +6,12 @@
 
 mod answer;
 mod answering;
+mod buffer;
 mod examples;
 mod handle;
 mod hasher;
 mod outcome;
 mod reply;
-mod room;
 mod rows;
 mod start;
 mod state;

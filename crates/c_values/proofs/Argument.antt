@@ -65,16 +65,16 @@ named d (p, place, there, only, known, none) = (
   },
 )
 
-pub argument_told : (held : Option Declared) → HasArgument held → (depth bytes : ℕ) (input : List ℕ) (a : Answer)
+pub argument_reported : (held : Option Declared) → HasArgument held → (depth bytes : ℕ) (input : List ℕ) (a : Answer)
     → IsRightByHeld held (codes "100003.3.16.1") depth bytes input a → 4 ≡ status_of a → ⊥
-argument_told None has depth bytes input a r e = has
-argument_told (Some d) has depth bytes input answer.NoKind r e =
+argument_reported None has depth bytes input a r e = has
+argument_reported (Some d) has depth bytes input answer.NoKind r e =
     let it = named d has in r.none is_text it.0 it.1
-argument_told (Some d) has depth bytes input (answer.Whole used) r e = absurd (omega (arith, e))
-argument_told (Some d) has depth bytes input (answer.Followed used) r e = absurd (omega (arith, e))
-argument_told (Some d) has depth bytes input (answer.Refused f) r e = absurd (omega (arith, e))
-argument_told (Some d) has depth bytes input (answer.Undeclared f) r e = absurd (omega (arith, e))
-argument_told (Some d) has depth bytes input answer.BadLimits r e = absurd (omega (arith, e))
-argument_told (Some d) has depth bytes input answer.NoMemory r e = absurd (omega (arith, e))
-argument_told (Some d) has depth bytes input answer.NoDeclarations r e = absurd (omega (arith, e))
-argument_told (Some d) has depth bytes input (answer.NoRoom n) r e = absurd (omega (arith, e))
+argument_reported (Some d) has depth bytes input (answer.Whole used) r e = absurd (omega (arith, e))
+argument_reported (Some d) has depth bytes input (answer.Followed used) r e = absurd (omega (arith, e))
+argument_reported (Some d) has depth bytes input (answer.Refused f) r e = absurd (omega (arith, e))
+argument_reported (Some d) has depth bytes input (answer.Undeclared f) r e = absurd (omega (arith, e))
+argument_reported (Some d) has depth bytes input answer.BadLimits r e = absurd (omega (arith, e))
+argument_reported (Some d) has depth bytes input answer.NoMemory r e = absurd (omega (arith, e))
+argument_reported (Some d) has depth bytes input answer.NoDeclarations r e = absurd (omega (arith, e))
+argument_reported (Some d) has depth bytes input (answer.NoRoom n) r e = absurd (omega (arith, e))

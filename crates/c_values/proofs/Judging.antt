@@ -6,7 +6,7 @@ use Rattle.xdr_types.specs.Outcome.{Outcome, Whole}
 use Rattle.xdr_types.specs.declared.kind.KindId.{KindId}
 use Rattle.xdr_stream.specs.Finish.{EndsWith}
 use Rattle.xdr_stream.specs.Reasons.{reason_number}
-use Rattle.xdr_stream.specs.Stands.{Answers}
+use Rattle.xdr_stream.specs.Represents.{Answers}
 use Rattle.xdr_stream.specs.declared.fault.DecodeFault.{DecodeFault}
 use Rattle.xdr_stream.specs.declared.fault.Reason.TheVariants as reason
 use Rattle.xdr_stream.specs.declared.reader.Progress.{Progress}

@@ -5,4 +5,4 @@ mod Parting
 mod Records
 mod Showing
 mod Slot
-mod Told
+mod Reported

@@ -20,7 +20,7 @@ use Rattle.c_values.specs.declared.part.ValuePart.{ValuePart}
 use Rattle.c_values.specs.Answers.{question}
 use Rattle.c_values.specs.Pair.{pair_kinds, HoldsPair, pair_bytes, pair_part, pair_parts, pair_outcome}
 use Rattle.c_values.specs.Parts.{AreEach, IsPart, count_in, names_of, role_number, type_number}
-use Rattle.c_values.specs.Parted.{Rooms, AreParts, ArePut, IsPartedByHeld, parts_status, parts_outcome}
+use Rattle.c_values.specs.Parted.{Buffers, AreParts, ArePut, IsPartedByHeld, parts_status, parts_outcome}
 use Rattle.c_values.specs.Private.Parting.{part_of, parts_from}
 
 -- a part of C is determined by the part that it is and the names before it
@@ -85,15 +85,15 @@ module _ (d : Declared) (is : d.schema.kinds ≡ pair_kinds) (place : ℕ) (at :
   listed_names : names ≡ codes "idnamename"
   listed_names = are.joined ∙ ap (λ (es : List Entry). names_of es) same_entries
 
-  pub told_counts : parts_outcome (listed.Whole c) ≡ pair_outcome
-  told_counts =
+  pub reported_counts : parts_outcome (listed.Whole c) ≡ pair_outcome
+  reported_counts =
       let parts : c.parts ≡ 4 = are.count ∙ ap (λ (x : List ValuePart). length x) listed_parts in
       let bytes : c.names ≡ 10 = are.bytes ∙ ap (λ (x : List ℕ). length x) listed_names in
       cc (whole, parts, bytes)
 
-  pub told_rooms : (old new : Rooms) → ArePut ps names old new
+  pub reported_buffers : (old new : Buffers) → ArePut ps names old new
       → (take 4 new.parts ≡ pair_parts) × (take 10 new.names ≡ codes "idnamename")
-  told_rooms old new put = (
+  reported_buffers old new put = (
     ap (λ (x : List ValuePart). take 4 x) put.parts_front
         ∙ ap (λ (x : List ValuePart). take 4 (x ++ drop (length x) old.parts)) listed_parts,
     ap (λ (x : List ℕ). take 10 x) put.names_front
@@ -106,15 +106,15 @@ named_two d place two (inl is) = cc (two, is)
 named_two d place two (inr part) = absurd (none-some 2 (sym part.0 ∙ two))
 
 -- what status 0 says of it
-pub pair_listed : (held : Option Declared) → HoldsPair held → (old new : Rooms) (a : Listed)
+pub pair_listed : (held : Option Declared) → HoldsPair held → (old new : Buffers) (a : Listed)
     → IsPartedByHeld held (codes "pair") 2 12 pair_bytes old new a → 0 ≡ parts_status a
     → (take 4 new.parts ≡ pair_parts) × (take 10 new.names ≡ codes "idnamename") × (parts_outcome a ≡ pair_outcome)
 pair_listed None holds old new a r e = absurd holds
 pair_listed (Some d) holds old new (listed.Whole c) r e =
     let at : r.place ≡ 2 = named_two d r.place holds.1 r.names.named in
     let list = r.parted.0 in
-    let rooms = told_rooms d holds.0 r.place at list.0 list.1 c r.parted.1 list.2 old new list.3 in
-    (rooms.0, rooms.1, told_counts d holds.0 r.place at list.0 list.1 c r.parted.1 list.2)
+    let buffers = reported_buffers d holds.0 r.place at list.0 list.1 c r.parted.1 list.2 old new list.3 in
+    (buffers.0, buffers.1, reported_counts d holds.0 r.place at list.0 list.1 c r.parted.1 list.2)
 pair_listed (Some d) holds old new (listed.Followed c) r e = absurd (omega (arith, e))
 pair_listed (Some d) holds old new (listed.Refused f) r e = absurd (omega (arith, e))
 pair_listed (Some d) holds old new listed.NoKind r e = absurd (omega (arith, e))

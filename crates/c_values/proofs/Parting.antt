@@ -22,16 +22,16 @@ use Rattle.c_values.specs.declared.listed.Listed.TheVariants as listed
 use Rattle.c_values.specs.declared.part.ValuePart.{ValuePart}
 use Rattle.c_values.specs.Answers.{Question, BeginsWithValue, Names, question}
 use Rattle.c_values.specs.Parts.{AreEach, count_in, names_of}
-use Rattle.c_values.specs.Parted.{Rooms, AreParts, IsParted, IsPartedBy, IsPartedByHeld}
+use Rattle.c_values.specs.Parted.{Buffers, AreParts, IsParted, IsPartedBy, IsPartedByHeld}
 use Rattle.c_values.specs.Private.Parting.{parts_from, AreKnown}
 
 -- a lent part has the bytes that it lends
-pub count_told : (r : Role) (n : ℕ) → count_in (role_in r n) (size_in r n) ≡ n
-count_told Number n = refl
-count_told Flag n = refl
-count_told Length n = refl
-count_told Content n = refl
-count_told Group n = refl
+pub count_reported : (r : Role) (n : ℕ) → count_in (role_in r n) (size_in r n) ≡ n
+count_reported Number n = refl
+count_reported Flag n = refl
+count_reported Length n = refl
+count_reported Content n = refl
+count_reported Group n = refl
 
 known_each : (kinds : List KindView) (ls : List Lent) → AllByRecursion (IsReadable kinds) ls → AreKnown kinds ls
 known_each kinds [] a = tt
@@ -57,7 +57,7 @@ module _ (kinds : List KindView) (input names : List ℕ) where
         record {
           at = refl;
           count = refl;
-          within = subst (λ (n : ℕ). l.at + n ≤ length input) (sym (count_told l.role (length l.bytes.now))) lent.0.0;
+          within = subst (λ (n : ℕ). l.at + n ≤ length input) (sym (count_reported l.role (length l.bytes.now))) lent.0.0;
           name_at = refl;
           name_count = refl;
           name = ap (λ (b : List ℕ). take (length word) (drop (length before) b)) e
@@ -99,7 +99,7 @@ are_parts_of q input ps names used n m begins each joined count bytes =
     record { begins = begins; each = each; joined = joined; count = count; bytes = bytes }
 
 -- what is listed by a kind that the name names
-module _ (d : Declared) (name : List ℕ) (depth bytes : ℕ) (input : List ℕ) (old new : Rooms) (place : ℕ)
+module _ (d : Declared) (name : List ℕ) (depth bytes : ℕ) (input : List ℕ) (old new : Buffers) (place : ℕ)
     (names : Names d name place) (in_range : AreBounds depth bytes) where
   by_name : (a : Listed) → IsParted (question d place depth bytes) input old new a
       → IsPartedBy d name depth bytes input old new a

@@ -18,10 +18,10 @@ use Rattle.c_values.specs.declared.answer.Answer.TheVariants as answer
 use Rattle.xdr_types.specs.Within.{AreBounds}
 use Rattle.xdr_lang.specs.Declarations.{Declared}
 use Rattle.c_values.specs.Answers.{Question, BeginsWithValue, IsJudged, Names, question}
-use Rattle.c_buffers.specs.Rooms.{IsKept}
-use Rattle.c_values.specs.Room.{IsPut}
+use Rattle.c_buffers.specs.Buffers.{IsRetained}
+use Rattle.c_values.specs.Buffer.{IsPut}
 use Rattle.c_values.specs.Shown.{IsShown, IsShownBy, IsShownByHeld, HaveNoRoom}
-use Rattle.c_values.specs.Statuses.{tells_value}
+use Rattle.c_values.specs.Statuses.{reports_value}
 
 -- one value begins the input
 pub same_value : (q : Question) (b : List ℕ) (used : ℕ) (begins : BeginsWithValue q b used) (v : Tree) (n : ℕ)
@@ -58,20 +58,20 @@ no_fault q units b used begins f ends known =
 
 module _ (q : Question) (b : List ℕ) where
   -- the value that an answer tells of
-  pub value_told : (a : Answer) → IsJudged q b a → tells_value a ≡ true → (used : ℕ) × BeginsWithValue q b used
-  value_told (answer.Whole used) j e = (used, j.0)
-  value_told (answer.Followed used) j e = (used, j.0)
-  value_told (answer.Refused f) j e = absurd (false≢true e)
-  value_told (answer.Undeclared f) j e = absurd j
-  value_told answer.NoKind j e = absurd j
-  value_told answer.BadLimits j e = absurd j
-  value_told answer.NoMemory j e = absurd (false≢true e)
-  value_told answer.NoDeclarations j e = absurd j
-  value_told (answer.NoRoom n) j e = absurd j
+  pub value_reported : (a : Answer) → IsJudged q b a → reports_value a ≡ true → (used : ℕ) × BeginsWithValue q b used
+  value_reported (answer.Whole used) j e = (used, j.0)
+  value_reported (answer.Followed used) j e = (used, j.0)
+  value_reported (answer.Refused f) j e = absurd (false≢true e)
+  value_reported (answer.Undeclared f) j e = absurd j
+  value_reported answer.NoKind j e = absurd j
+  value_reported answer.BadLimits j e = absurd j
+  value_reported answer.NoMemory j e = absurd (false≢true e)
+  value_reported answer.NoDeclarations j e = absurd j
+  value_reported (answer.NoRoom n) j e = absurd j
 
   -- nothing is shown of bytes that begin with no value
-  pub nothing_shown : (old new : List ℕ) (written : ℕ) (a : Answer) → IsJudged q b a → tells_value a ≡ false
-      → IsKept old new written → IsShown q b old new written a
+  pub nothing_shown : (old new : List ℕ) (written : ℕ) (a : Answer) → IsJudged q b a → reports_value a ≡ false
+      → IsRetained old new written → IsShown q b old new written a
   nothing_shown old new written (answer.Whole used) j e k = absurd (false≢true (sym e))
   nothing_shown old new written (answer.Followed used) j e k = absurd (false≢true (sym e))
   nothing_shown old new written (answer.Refused f) j e k = (j, k)
@@ -83,14 +83,14 @@ module _ (q : Question) (b : List ℕ) where
   nothing_shown old new written (answer.NoRoom n) j e k = absurd j
 
   module _ (lines : List ℕ)
-      (told : (used : ℕ) (begins : BeginsWithValue q b used) → lines ≡ show_text q.kinds q.place begins.value) where
-    -- the lines stand in the room
-    pub lines_shown : (old new : List ℕ) (written : ℕ) (a : Answer) → IsJudged q b a → tells_value a ≡ true
+      (reported : (used : ℕ) (begins : BeginsWithValue q b used) → lines ≡ show_text q.kinds q.place begins.value) where
+    -- the lines stand in the buffer
+    pub lines_shown : (old new : List ℕ) (written : ℕ) (a : Answer) → IsJudged q b a → reports_value a ≡ true
         → IsPut lines old new written → IsShown q b old new written a
     lines_shown old new written (answer.Whole used) j e p =
-        (lines, record { begins = j.0; shown = told used j.0 }, j.1, p)
+        (lines, record { begins = j.0; shown = reported used j.0 }, j.1, p)
     lines_shown old new written (answer.Followed used) j e p =
-        (lines, record { begins = j.0; shown = told used j.0 }, j.1, p)
+        (lines, record { begins = j.0; shown = reported used j.0 }, j.1, p)
     lines_shown old new written (answer.Refused f) j e p = absurd (false≢true e)
     lines_shown old new written (answer.Undeclared f) j e p = absurd j
     lines_shown old new written answer.NoKind j e p = absurd j
@@ -100,13 +100,13 @@ module _ (q : Question) (b : List ℕ) where
     lines_shown old new written (answer.NoRoom n) j e p = absurd j
 
     -- they do not go into it
-    pub no_room : (old : List ℕ) (a : Answer) → IsJudged q b a → tells_value a ≡ true → length old < length lines
+    pub no_room : (old : List ℕ) (a : Answer) → IsJudged q b a → reports_value a ≡ true → length old < length lines
         → HaveNoRoom q b old (length lines)
     no_room old a j e small =
-        let v = value_told a j e in record {
+        let v = value_reported a j e in record {
           lines = lines;
           used = v.0;
-          right = record { begins = v.1; shown = told v.0 v.1 };
+          right = record { begins = v.1; shown = reported v.0 v.1 };
           count = refl;
           more = small;
         }

@@ -6,7 +6,7 @@ pub mod Pair
 pub mod Parted
 pub mod Parts
 pub mod Private
-pub mod Room
+pub mod Buffer
 pub mod Shown
 pub mod Statuses
 pub mod Unread

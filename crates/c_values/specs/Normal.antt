@@ -7,8 +7,8 @@ use Rattle.xdr_stream.specs.declared.fault.Reason.{Reason}
 use Rattle.xdr_stream.specs.declared.fault.Reason.TheVariants as reason
 use Rattle.c_values.specs.declared.answer.Answer.{Answer}
 use Rattle.c_values.specs.declared.answer.Answer.TheVariants as answer
-use Rattle.c_buffers.specs.Rooms.{IsKept}
-use Rattle.c_values.specs.Room.{IsPut}
+use Rattle.c_buffers.specs.Buffers.{IsRetained}
+use Rattle.c_values.specs.Buffer.{IsPut}
 
 -- why the input is no stream of records within the limit, behind these records: a header that passes the limit, or the
 -- input's end inside the next record, where no header passes the limit
@@ -30,7 +30,7 @@ pub record IsForm (limit : ℕ) (input form : List ℕ) (end : Option DecodeFaul
   pub ends : EndsAs limit rs input end
   pub marked : form ≡ normal rs
 
--- The form does not go into the room.
+-- The form does not go into the buffer.
 pub record HasNoRoom (limit : ℕ) (input old : List ℕ) (needed : ℕ) : Type 0 where
   pub form : List ℕ
   pub end : Option DecodeFault
@@ -38,14 +38,14 @@ pub record HasNoRoom (limit : ℕ) (input old : List ℕ) (needed : ℕ) : Type 
   pub count : needed ≡ length form
   pub more : length old < needed
 
--- the answer to an input, and what stands in the room
+-- the answer to an input, and what stands in the buffer
 abbrev pub IsMarked : (limit : ℕ) → (input old new : List ℕ) → (written : ℕ) → Answer → Type 0
 IsMarked limit input old new written (answer.Whole used) =
     (form : List ℕ) × IsForm limit input form None × IsPut form old new written × (used ≡ written)
 IsMarked limit input old new written (answer.Refused f) =
     (form : List ℕ) × IsForm limit input form (Some f) × IsPut form old new written
-IsMarked limit input old new written answer.BadLimits = (2147483647 < limit) × IsKept old new written
-IsMarked limit input old new written answer.NoMemory = IsKept old new written
+IsMarked limit input old new written answer.BadLimits = (2147483647 < limit) × IsRetained old new written
+IsMarked limit input old new written answer.NoMemory = IsRetained old new written
 IsMarked limit input old new written (answer.NoRoom needed) =
-    HasNoRoom limit input old needed × IsKept old new written
+    HasNoRoom limit input old needed × IsRetained old new written
 IsMarked limit input old new written _ = ⊥

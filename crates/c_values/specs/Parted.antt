@@ -1,4 +1,4 @@
--- What listing the parts of the value that begins an input leaves in two rooms (RFC 4506 section 4).
+-- What listing the parts of the value that begins an input leaves in two buffers (RFC 4506 section 4).
 use Rattle.std.specs.Prelude.{◌≡◌, ◌<◌, ◌⊎◌, ℕ, List, [], ◌++◌, length, drop, Option, Some, None}
 use Rattle.xdr_types.specs.Layout.{entries}
 use Rattle.xdr_types.specs.Within.{AreBounds}
@@ -12,8 +12,8 @@ use Rattle.c_values.specs.declared.listed.PartsOutcome.{PartsOutcome}
 use Rattle.c_values.specs.Answers.{Question, BeginsWithValue, IsRefusal, Names, NamesNone, question}
 use Rattle.c_values.specs.Parts.{AreEach, names_of}
 
--- what C lends: room for parts, and room for the bytes of their names
-pub record Rooms : Type 0 where
+-- what C lends: a buffer for parts, and one for the bytes of their names
+pub record Buffers : Type 0 where
   pub parts : List ValuePart
   pub names : List ℕ
 
@@ -27,41 +27,41 @@ pub record AreParts (q : Question) (input : List ℕ) (parts : List ValuePart) (
     pub count : c.parts ≡ length parts
     pub bytes : c.names ≡ length names
 
--- they stand at the front of the rooms, whose other places stay
-pub record ArePut (parts : List ValuePart) (names : List ℕ) (old new : Rooms) : Type 0 where
+-- they stand at the front of the buffers, whose other places stay
+pub record ArePut (parts : List ValuePart) (names : List ℕ) (old new : Buffers) : Type 0 where
   pub parts_front : new.parts ≡ parts ++ drop (length parts) old.parts
   pub names_front : new.names ≡ names ++ drop (length names) old.names
 
 -- nothing is written
-pub record AreKept (old new : Rooms) : Type 0 where
+pub record AreRetained (old new : Buffers) : Type 0 where
   pub parts_stay : new.parts ≡ old.parts
   pub names_stay : new.names ≡ old.names
 
--- a room is too small
-abbrev pub IsSmall : Rooms → Counts → Type 0
+-- a buffer is too small
+abbrev pub IsSmall : Buffers → Counts → Type 0
 IsSmall old c = (length old.parts < c.parts) ⊎ (length old.names < c.names)
 
--- parts of a value that begins the input stand in the rooms
-abbrev pub IsListed : Question → (input : List ℕ) → (old new : Rooms) → Counts → Type 0
+-- parts of a value that begins the input stand in the buffers
+abbrev pub IsListed : Question → (input : List ℕ) → (old new : Buffers) → Counts → Type 0
 IsListed q input old new c =
     (parts : List ValuePart) × (names : List ℕ) × AreParts q input parts names c × ArePut parts names old new
 
--- parts of a value that begins the input do not go into the rooms
-abbrev pub HasNoRoom : Question → (input : List ℕ) → (old new : Rooms) → Counts → Type 0
+-- parts of a value that begins the input do not go into the buffers
+abbrev pub HasNoRoom : Question → (input : List ℕ) → (old new : Buffers) → Counts → Type 0
 HasNoRoom q input old new c = (parts : List ValuePart) × (names : List ℕ) × AreParts q input parts names c
-    × IsSmall old c × AreKept old new
+    × IsSmall old c × AreRetained old new
 
--- the answer is right for the bytes, and this stands in the rooms
-abbrev pub IsParted : Question → (input : List ℕ) → (old new : Rooms) → Listed → Type 0
+-- the answer is right for the bytes, and this stands in the buffers
+abbrev pub IsParted : Question → (input : List ℕ) → (old new : Buffers) → Listed → Type 0
 IsParted q input old new (listed.Whole c) = IsListed q input old new c × (c.used ≡ length input)
 IsParted q input old new (listed.Followed c) = IsListed q input old new c × (c.used < length input)
-IsParted q input old new (listed.Refused f) = IsRefusal q input f × AreKept old new
-IsParted q input old new listed.NoMemory = AreKept old new
+IsParted q input old new (listed.Refused f) = IsRefusal q input f × AreRetained old new
+IsParted q input old new listed.NoMemory = AreRetained old new
 IsParted q input old new (listed.NoRoom c) = HasNoRoom q input old new c
 IsParted q input old new _ = ⊥
 
 -- The answer is right for bytes as a value of the kind of that name within limits in range.
-pub record IsPartedBy (d : Declared) (name : List ℕ) (depth bytes : ℕ) (input : List ℕ) (old new : Rooms) (a : Listed)
+pub record IsPartedBy (d : Declared) (name : List ℕ) (depth bytes : ℕ) (input : List ℕ) (old new : Buffers) (a : Listed)
     : Type 0 where
   pub place : ℕ
   pub names : Names d name place
@@ -70,11 +70,11 @@ pub record IsPartedBy (d : Declared) (name : List ℕ) (depth bytes : ℕ) (inpu
 
 -- the answer is right by what is held; the name is looked at before the limits
 abbrev pub IsPartedByHeld : (held : Option Declared) → (name : List ℕ) → (depth bytes : ℕ) → (input : List ℕ)
-    → (old new : Rooms) → Listed → Type 0
-IsPartedByHeld None name depth bytes input old new a = (a ≡ listed.NoDeclarations) × AreKept old new
-IsPartedByHeld (Some d) name depth bytes input old new listed.NoKind = NamesNone d name × AreKept old new
+    → (old new : Buffers) → Listed → Type 0
+IsPartedByHeld None name depth bytes input old new a = (a ≡ listed.NoDeclarations) × AreRetained old new
+IsPartedByHeld (Some d) name depth bytes input old new listed.NoKind = NamesNone d name × AreRetained old new
 IsPartedByHeld (Some d) name depth bytes input old new listed.BadLimits =
-    ((place : ℕ) × Names d name place) × (AreBounds depth bytes → ⊥) × AreKept old new
+    ((place : ℕ) × Names d name place) × (AreBounds depth bytes → ⊥) × AreRetained old new
 IsPartedByHeld (Some d) name depth bytes input old new a = IsPartedBy d name depth bytes input old new a
 
 -- how C sees the answer: a status,
@@ -92,11 +92,11 @@ parts_status (listed.NoRoom c) = 8
 abbrev pub counted : Counts → PartsOutcome
 counted c = record { at = c.used; parts = c.parts; names = c.names; why = 0 }
 
--- no field is told
+-- no field is reported
 abbrev pub silent : PartsOutcome
 silent = record { at = 0; parts = 0; names = 0; why = 0 }
 
--- and the fields of an outcome, each 0 where nothing is told
+-- and the fields of an outcome, each 0 where nothing is reported
 abbrev pub parts_outcome : Listed → PartsOutcome
 parts_outcome (listed.Whole c) = counted c
 parts_outcome (listed.Followed c) = counted c

@@ -34,7 +34,7 @@ outcome_of answer.NoDeclarations = at_place 0
 outcome_of (answer.NoRoom needed) = at_place needed
 
 -- whether a value begins the bytes
-abbrev pub tells_value : Answer → Bool
-tells_value (answer.Whole used) = true
-tells_value (answer.Followed used) = true
-tells_value _ = false
+abbrev pub reports_value : Answer → Bool
+reports_value (answer.Whole used) = true
+reports_value (answer.Followed used) = true
+reports_value _ = false

@@ -1,6 +1,6 @@
 //! Answers, and how C sees them.
 ghost use Rattle.std.specs.Prelude.{◌≡◌};
-ghost use Rattle.c_values.specs.Statuses.{status_of, outcome_of, tells_value};
+ghost use Rattle.c_values.specs.Statuses.{status_of, outcome_of, reports_value};
 
 use super::outcome::Outcome;
 use xdr_codec::DecodeFault;
@@ -25,14 +25,14 @@ pub enum Answer {
     NoMemory,
     /// No declarations were read.
     NoDeclarations,
-    /// Room for fewer bytes than this.
+    /// The buffer has fewer bytes than this.
     NoRoom { needed: usize },
 }
 
 impl Answer {
     /// Whether it says that a value begins the bytes.
     pub fn has_value(&self) -> bool
-        ensures { result ≡ tells_value self.now }
+        ensures { result ≡ reports_value self.now }
     {
         match self {
             Answer::Whole { .. } | Answer::Followed { .. } => true,

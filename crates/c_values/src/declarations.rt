@@ -25,8 +25,8 @@ fn read_into(alloc: Global, text: &[u8], handle: &mut Handle) -> Answer
         Err(Unread::NoMemory) => return Answer::NoMemory,
     };
     match Box::new(alloc, State::of(declared)) {
-        Ok(kept) => {
-            keep(alloc, handle, kept);
+        Ok(retained) => {
+            keep(alloc, handle, retained);
             Answer::Whole { used: 0 }
         }
         Err(_) => Answer::NoMemory,

@@ -19,7 +19,7 @@ use super::show::oncrpc_declarations_show;
 use std::alloc::Global;
 
 /// Status 0 tells how many bytes the input has, and nothing else.
-pub fn tells_the_count_of_a_value(
+pub fn reports_the_count_of_a_value(
     alloc: Global,
     text: &[u8],
     input: &[u8],
@@ -30,8 +30,8 @@ pub fn tells_the_count_of_a_value(
     oncrpc_check(alloc, text, b"int", 1, 4, input, outcome)
 }
 
-/// Where memory was refused nothing is told.
-pub fn tells_nothing_without_memory(
+/// Where memory was refused nothing is reported.
+pub fn reports_nothing_without_memory(
     alloc: Global,
     text: &[u8],
     input: &[u8],
@@ -65,17 +65,17 @@ pub fn holds_nothing_after_free(alloc: Global, handle: &mut Handle, outcome: &mu
     oncrpc_declarations_check(alloc, handle, b"int", 1, 4, b"", outcome)
 }
 
-/// Room that is too small stays as it was.
-pub fn leaves_small_room(
+/// A buffer that is too small stays as it was.
+pub fn leaves_small_buffer(
     alloc: Global,
     input: &[u8],
-    room: &mut [u8],
+    buffer: &mut [u8],
     written: &mut usize,
     outcome: &mut Outcome,
 ) -> u32
-    ensures { result ≡ 8 → (room.new ≡ room.old) × (written.new ≡ 0) }
+    ensures { result ≡ 8 → (buffer.new ≡ buffer.old) × (written.new ≡ 0) }
 {
-    oncrpc_normalise(alloc, input, 65536, room, written, outcome)
+    oncrpc_normalise(alloc, input, 65536, buffer, written, outcome)
 }
 
 /// By a limit out of its range nothing is written, of whatever input.
@@ -83,30 +83,30 @@ pub fn marks_nothing_by_a_limit_out_of_range(
     alloc: Global,
     input: &[u8],
     limit: u32,
-    room: &mut [u8],
+    buffer: &mut [u8],
     written: &mut usize,
     outcome: &mut Outcome,
 ) -> u32
     requires { 2147483647 < limit }
     ensures status { (result ≡ 5) ⊎ (result ≡ 6) }
-    ensures kept { (room.new ≡ room.old) × (written.new ≡ 0) }
+    ensures retained { (buffer.new ≡ buffer.old) × (written.new ≡ 0) }
     ensures outcome { outcome.new ≡ at_place 0 }
 {
-    oncrpc_normalise(alloc, input, limit, room, written, outcome)
+    oncrpc_normalise(alloc, input, limit, buffer, written, outcome)
 }
 
-/// Room for too few lines stays as it was.
-pub fn shows_nothing_in_small_room(
+/// Buffer for too few lines stays as it was.
+pub fn shows_nothing_in_small_buffer(
     alloc: Global,
     handle: &mut Handle,
     input: &[u8],
-    room: &mut [u8],
+    buffer: &mut [u8],
     written: &mut usize,
     outcome: &mut Outcome,
 ) -> u32
-    ensures { result ≡ 8 → (room.new ≡ room.old) × (written.new ≡ 0) }
+    ensures { result ≡ 8 → (buffer.new ≡ buffer.old) × (written.new ≡ 0) }
 {
-    oncrpc_declarations_show(alloc, handle, b"int", 1, 4, input, room, written, outcome)
+    oncrpc_declarations_show(alloc, handle, b"int", 1, 4, input, buffer, written, outcome)
 }
 
 /// Lines are shown by declarations that were read.
@@ -114,14 +114,14 @@ pub fn shows_by_what_was_read(
     alloc: Global,
     text: &[u8],
     handle: &mut Handle,
-    room: &mut [u8],
+    buffer: &mut [u8],
     written: &mut usize,
     outcome: &mut Outcome,
 ) -> (u32, u32)
     ensures { result.0 ≡ 0 → result.1 ≢ 7 }
 {
     let read = oncrpc_declarations_read(alloc, text, handle, outcome);
-    let show = oncrpc_declarations_show(alloc, handle, b"int", 1, 4, b"", room, written, outcome);
+    let show = oncrpc_declarations_show(alloc, handle, b"int", 1, 4, b"", buffer, written, outcome);
     (read, show)
 }
 
@@ -138,8 +138,8 @@ pub fn names_an_argument(
     oncrpc_declarations_check(alloc, handle, b"100003.3.16.1", 1, 4, input, outcome)
 }
 
-/// Rooms of which one is too small stay as they were.
-pub fn lists_nothing_in_small_rooms(
+/// Buffers of which one is too small stay as they were.
+pub fn lists_nothing_in_small_buffers(
     alloc: Global,
     handle: &mut Handle,
     input: &[u8],
@@ -147,13 +147,13 @@ pub fn lists_nothing_in_small_rooms(
     names: &mut [u8],
     outcome: &mut PartsOutcome,
 ) -> u32
-    ensures kept { result ≡ 8 → (parts.new ≡ parts.old) × (names.new ≡ names.old) }
+    ensures retained { result ≡ 8 → (parts.new ≡ parts.old) × (names.new ≡ names.old) }
     ensures small { result ≡ 8 → (length parts.old < outcome.new.parts) ⊎ (length names.old < outcome.new.names) }
 {
     oncrpc_declarations_parts(alloc, handle, b"int", 1, 4, input, parts, names, outcome)
 }
 
-/// Of a refused input no part is told, and both rooms stay as they were.
+/// Of a refused input no part is reported, and both buffers stay as they were.
 pub fn lists_no_part_of_a_refusal(
     alloc: Global,
     handle: &mut Handle,
@@ -163,13 +163,13 @@ pub fn lists_no_part_of_a_refusal(
     outcome: &mut PartsOutcome,
 ) -> u32
     ensures none { result ≡ 2 → (outcome.new.parts ≡ 0) × (outcome.new.names ≡ 0) }
-    ensures kept { result ≡ 2 → (parts.new ≡ parts.old) × (names.new ≡ names.old) }
+    ensures retained { result ≡ 2 → (parts.new ≡ parts.old) × (names.new ≡ names.old) }
     ensures within { result ≡ 2 → outcome.new.at ≤ length input.now }
 {
     oncrpc_declarations_parts(alloc, handle, b"int", 1, 4, input, parts, names, outcome)
 }
 
-/// A structure of a number and a string has four parts, the string two of them, and content is told without the zero
+/// A structure of a number and a string has four parts, the string two of them, and content is reported without the zero
 /// after it. Each name stands behind those of the parts before.
 pub fn lists_a_structure(
     alloc: Global,

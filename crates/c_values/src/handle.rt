@@ -16,10 +16,10 @@ pub struct Handle {
 }
 
 impl Model for Handle {
-    ghost use Rattle.c_handles.specs.Kept.{kept};
+    ghost use Rattle.c_handles.specs.Retained.{retained};
     ghost use Rattle.c_values.specs.contracts.state.State.{the_row};
 
-    ghost also_owns = { λ h. kept the_row h.live h.at h.declared };
+    ghost also_owns = { λ h. retained the_row h.live h.at h.declared };
 }
 
 impl Keeper<State> for Handle {

@@ -6,6 +6,7 @@
 
 mod answer;
 mod asking;
+mod buffer;
 mod check;
 mod declarations;
 mod examples;
@@ -17,7 +18,6 @@ mod normal;
 mod outcome;
 mod part;
 mod parts;
-mod room;
 mod show;
 mod state;
 mod unread;

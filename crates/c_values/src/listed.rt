@@ -46,7 +46,7 @@ pub enum Listed {
     NoMemory,
     /// No declarations were read.
     NoDeclarations,
-    /// Room for fewer parts or bytes of names than this.
+    /// Buffer for fewer parts or bytes of names than this.
     NoRoom(Counts),
 }
 
@@ -97,7 +97,7 @@ fn counted(counts: Counts) -> PartsOutcome
     }
 }
 
-/// No field is told.
+/// No field is reported.
 fn silent() -> PartsOutcome
     ensures { result ≡ silent }
 {

@@ -82,7 +82,7 @@ pub fn list_parts(
 }
 
 impl PartList {
-    /// Puts the lists at the front of the rooms. Where one does not go into its room both stay as they are.
+    /// Puts the lists at the front of the buffers. Where one does not go into its buffer both stay as they are.
     pub fn put(&self, parts: &mut [ValuePart], names: &mut [u8]) -> bool
         ensures parts { result ≡ true → parts.new ≡ self.now.parts.items
             ++ drop (length self.now.parts.items) parts.old }

@@ -5,8 +5,8 @@ ghost use Rattle.c_values.specs.Statuses.{status_of, outcome_of};
 ghost use Rattle.c_values.specs.declared.answer.Answer.{Answer as AnswerSpec};
 
 use super::answer::Answer;
+use super::buffer::put;
 use super::outcome::Outcome;
-use super::room::put;
 use rpc_record::{NoMemory, RecordFault, normalise};
 use std::alloc::Global;
 use xdr_codec::{DecodeFault, Reason};
@@ -46,15 +46,15 @@ fn normal_form(
     }
 }
 
-/// Puts the normal form of the input's records into the room.
+/// Puts the normal form of the input's records into the buffer.
 fn mark_into(
     alloc: Global,
     input: &[u8],
     limit: u32,
-    room: &mut [u8],
+    buffer: &mut [u8],
     written: &mut usize,
 ) -> Answer
-    ensures { IsMarked limit input.now room.old room.new written.new result }
+    ensures { IsMarked limit input.now buffer.old buffer.new written.new result }
 {
     *written = 0;
     if limit > MOST_LIMIT {
@@ -63,7 +63,7 @@ fn mark_into(
     let Ok((end, form)) = normal_form(alloc, input, limit) else {
         return Answer::NoMemory;
     };
-    if !put(room, &form, written) {
+    if !put(buffer, &form, written) {
         return Answer::NoRoom { needed: form.len() };
     }
     match end {
@@ -72,27 +72,27 @@ fn mark_into(
     }
 }
 
-/// Writes each record of the input into the room as one final fragment (RFC 5531 section 11). A record may have `limit`
+/// Writes each record of the input into the buffer as one final fragment (RFC 5531 section 11). A record may have `limit`
 /// bytes, at most 2147483647.
 ///
 /// Status 0: the input is whole records. 2: after the records that are written, `why` 4, a record is too long by the
 /// header at the place `at`, or 8, the input ends inside a record. At 0 and 2 `written` counts the bytes that were
-/// written, and the rest of the room is untouched. 8: the room is too small, `at` bytes are needed. 5: the limit is out
-/// of range. 6: memory was refused, or the input has more than 4294963200 bytes. At 5, 6 and 8 the room is untouched,
+/// written, and the rest of the buffer is untouched. 8: the buffer is too small, `at` bytes are needed. 5: the limit is out
+/// of range. 6: memory was refused, or the input has more than 4294963200 bytes. At 5, 6 and 8 the buffer is untouched,
 /// and `written` is 0.
 #[unsafe(no_mangle)]
 pub extern "C" fn oncrpc_normalise(
     alloc: Global,
     input: &[u8],
     limit: u32,
-    room: &mut [u8],
+    buffer: &mut [u8],
     written: &mut usize,
     outcome: &mut Outcome,
 ) -> u32
-    ensures { (a : AnswerSpec) × IsMarked limit input.now room.old room.new written.new a
+    ensures { (a : AnswerSpec) × IsMarked limit input.now buffer.old buffer.new written.new a
         × (result ≡ status_of a) × (outcome.new ≡ outcome_of a) }
 {
-    let answer = mark_into(alloc, input, limit, room, written);
+    let answer = mark_into(alloc, input, limit, buffer, written);
     *outcome = answer.outcome();
     answer.status()
 }

@@ -17,7 +17,7 @@ use std::alloc::Global;
 use xdr_lang::Declared;
 use xdr_types::{KindId, Limits, Schema};
 
-/// Puts the parts of the value that begins the input into the rooms.
+/// Puts the parts of the value that begins the input into the buffers.
 fn list_into(
     alloc: Global,
     schema: &Schema,
@@ -52,7 +52,7 @@ fn list_into(
     }
 }
 
-/// Judges the input, and puts the parts of its value into the rooms.
+/// Judges the input, and puts the parts of its value into the buffers.
 fn parts_into(
     alloc: Global,
     schema: &Schema,
@@ -99,14 +99,14 @@ fn parts_by(
     parts_into(alloc, &declared.schema, kind, limits, input, parts, names)
 }
 
-/// Puts the parts of the value that begins the input into the rooms (RFC 4506 section 4), in the order of their bytes,
+/// Puts the parts of the value that begins the input into the buffers (RFC 4506 section 4), in the order of their bytes,
 /// a node before those inside it, and their names joined. The declarations that the handle holds stay.
 ///
 /// Status 0: the input is a value, and 1: a value and then more bytes. `at` counts the value's bytes, `parts` the parts
-/// and `names` the bytes of names that were written; the rest of the rooms is untouched. 2: no value within the limits
+/// and `names` the bytes of names that were written; the rest of the buffers is untouched. 2: no value within the limits
 /// begins the input; `why` is the reason's number, 1 to 8, at the place `at`. 4: no kind has the name. 5: the limits
-/// are out of range. 6: memory was refused. 7: the handle holds no declarations. 8: a room is too small; `at` counts
-/// the value's bytes, room for `parts` parts and `names` bytes is needed. Above 1 both rooms are untouched.
+/// are out of range. 6: memory was refused. 7: the handle holds no declarations. 8: a buffer is too small; `at` counts
+/// the value's bytes, buffer for `parts` parts and `names` bytes is needed. Above 1 both buffers are untouched.
 #[unsafe(no_mangle)]
 pub extern "C" fn oncrpc_declarations_parts(
     alloc: Global,

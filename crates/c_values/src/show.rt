@@ -9,10 +9,10 @@ ghost use Rattle.c_values.specs.declared.answer.Answer.{Answer as AnswerSpec};
 
 use super::answer::Answer;
 use super::asking::kind_asked;
+use super::buffer::put;
 use super::handle::Handle;
 use super::judge::judge;
 use super::outcome::Outcome;
-use super::room::put;
 use c_handles::{keep, taken};
 use std::alloc::Global;
 use xdr_codec::Reason;
@@ -43,19 +43,19 @@ fn lines_of(
     }
 }
 
-/// Judges the input, and puts the lines of its value into the room.
+/// Judges the input, and puts the lines of its value into the buffer.
 fn show_into(
     alloc: Global,
     schema: &Schema,
     kind: KindId,
     limits: Limits,
     input: &[u8],
-    room: &mut [u8],
+    buffer: &mut [u8],
     written: &mut usize,
 ) -> Answer
     requires { kind.place < length schema.now.kinds }
     ensures { IsShown (record { kinds = schema.now.kinds; place = kind.place; limits = limits })
-        input.now room.old room.new written.new result }
+        input.now buffer.old buffer.new written.new result }
 {
     *written = 0;
     let answer = judge(alloc, schema, kind, limits, input);
@@ -65,7 +65,7 @@ fn show_into(
     let Ok(lines) = lines_of(alloc, schema, kind, limits, input) else {
         return Answer::NoMemory;
     };
-    if put(room, &lines, written) {
+    if put(buffer, &lines, written) {
         answer
     } else {
         Answer::NoRoom {
@@ -82,10 +82,10 @@ fn show_by(
     depth: u32,
     bytes: u32,
     input: &[u8],
-    room: &mut [u8],
+    buffer: &mut [u8],
     written: &mut usize,
 ) -> Answer
-    ensures { IsShownByHeld (Some (declared_of declared.now)) name.now depth bytes input.now room.old room.new
+    ensures { IsShownByHeld (Some (declared_of declared.now)) name.now depth bytes input.now buffer.old buffer.new
         written.new result }
 {
     *written = 0;
@@ -95,14 +95,22 @@ fn show_by(
     let Some(limits) = Limits::new(depth, bytes) else {
         return Answer::BadLimits;
     };
-    show_into(alloc, &declared.schema, kind, limits, input, room, written)
+    show_into(
+        alloc,
+        &declared.schema,
+        kind,
+        limits,
+        input,
+        buffer,
+        written,
+    )
 }
 
-/// Puts the lines of the value that begins the input into the room, as `show` of the program prints them: one for each
+/// Puts the lines of the value that begins the input into the buffer, as `show` of the program prints them: one for each
 /// part, a node before those inside it, two spaces further in. The declarations that the handle holds stay.
 ///
-/// The statuses are those of `oncrpc_declarations_check`, and 8: the room is too small, `at` bytes are needed. At 0 and
-/// 1 `written` counts the bytes that were written, and the rest of the room is untouched. At any other status the room
+/// The statuses are those of `oncrpc_declarations_check`, and 8: the buffer is too small, `at` bytes are needed. At 0 and
+/// 1 `written` counts the bytes that were written, and the rest of the buffer is untouched. At any other status the buffer
 /// is untouched, and `written` is 0.
 #[unsafe(no_mangle)]
 pub extern "C" fn oncrpc_declarations_show(
@@ -112,19 +120,19 @@ pub extern "C" fn oncrpc_declarations_show(
     depth: u32,
     bytes: u32,
     input: &[u8],
-    room: &mut [u8],
+    buffer: &mut [u8],
     written: &mut usize,
     outcome: &mut Outcome,
 ) -> u32
     ensures stay { handle.new.declared ≡ handle.old.declared }
     ensures answer { (a : AnswerSpec) × IsShownByHeld (option_map declared_of handle.old.declared) name.now depth bytes
-        input.now room.old room.new written.new a × (result ≡ status_of a) × (outcome.new ≡ outcome_of a) }
+        input.now buffer.old buffer.new written.new a × (result ≡ status_of a) × (outcome.new ≡ outcome_of a) }
 {
     *written = 0;
     let answer = match taken(alloc, handle) {
         Some(state) => {
             let declared = state.declared();
-            let answer = show_by(alloc, declared, name, depth, bytes, input, room, written);
+            let answer = show_by(alloc, declared, name, depth, bytes, input, buffer, written);
             keep(alloc, handle, state);
             answer
         }

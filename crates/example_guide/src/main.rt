@@ -12,7 +12,7 @@ use std::string::String;
 use values::{counted_in_pieces, declared_value, fed_in_pieces, lent_in_place, structure_by_hand};
 
 /// What an example came to: a line, or none where memory was refused or a call answered otherwise.
-pub type Told = Option<String>;
+pub type Reported = Option<String>;
 
 // The lines of all examples.
 fn lines(alloc: Global) -> Option<[String; 8]> {

@@ -1,7 +1,7 @@
 //! Records, messages and the registry.
 ghost use Rattle.std.specs.Prelude.{◌≡◌, []};
 
-use crate::Told;
+use crate::Reported;
 use rpc_directory::Directory;
 use rpc_message::{
     Call, CallRead, OpaqueAuth, Reply, Status, read_call, read_reply, write_call, write_reply,
@@ -12,7 +12,7 @@ use std::hash::{BuildHasherDefault, DefaultHasher};
 use std::string::String;
 
 /// A record in two fragments, and the same as one.
-pub fn unmark(alloc: Global) -> Told {
+pub fn unmark(alloc: Global) -> Reported {
     let mut reader = RecordReader::start(alloc, 65536);
     let piece = b"\0\0\0\x02ab\x80\0\0\x01c";
     let Ok(RecordStep::Whole { used }) = reader.feed(piece) else {
@@ -42,7 +42,7 @@ fn no_auth(alloc: Global) -> OpaqueAuth
 }
 
 /// The call of the registry's procedure 0, as its server reads it, and the reply, as its client reads it.
-pub fn reply_to_a_call(alloc: Global) -> Told {
+pub fn reply_to_a_call(alloc: Global) -> Reported {
     let call = Call {
         xid: 7,
         prog: 100000,
@@ -73,7 +73,7 @@ pub fn reply_to_a_call(alloc: Global) -> Told {
 }
 
 /// A registry at port 111, a program that registers its port, and a client that asks for it.
-pub fn ask_for_a_port(alloc: Global) -> Told {
+pub fn ask_for_a_port(alloc: Global) -> Reported {
     let hasher = BuildHasherDefault::<DefaultHasher>::new();
     let mut directory = Directory::start(alloc, hasher, 111).ok()?;
     let is_set = directory

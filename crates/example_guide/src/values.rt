@@ -1,5 +1,5 @@
 //! Schemas, values, encoding and decoding.
-use crate::Told;
+use crate::Reported;
 use std::alloc::Global;
 use std::string::String;
 use xdr_codec::{Checker, Decoder, Progress, decode, encode, parts};
@@ -31,7 +31,7 @@ fn pair_schema(alloc: Global) -> Option<Schema> {
 }
 
 /// A schema by hand, a value of it, its bytes, and the value of the bytes.
-pub fn structure_by_hand(alloc: Global) -> Told {
+pub fn structure_by_hand(alloc: Global) -> Reported {
     let schema = pair_schema(alloc)?;
     let pair = schema.named("pair")?;
     let limits = Limits::new(4096, 16777216)?;
@@ -58,7 +58,7 @@ program FILES { version ONE { file READ(string) = 1; } = 1; } = 536870912;
 ";
 
 /// A text of declarations, bytes of one of its types, and the value as lines of text.
-pub fn declared_value(alloc: Global) -> Told {
+pub fn declared_value(alloc: Global) -> Reported {
     let declared = read(alloc, FILE.as_bytes()).ok()?;
     let file = declared.kind("file")?;
     let input = b"\0\0\0\x02ab\0\0\0\0\0\x01\0\0\0\x01\xff\0\0\0";
@@ -77,7 +77,7 @@ pub fn declared_value(alloc: Global) -> Told {
 }
 
 /// The same input in two pieces, of which the second has a byte more than the value.
-pub fn fed_in_pieces(alloc: Global) -> Told {
+pub fn fed_in_pieces(alloc: Global) -> Reported {
     let schema = Schema::basic(alloc).ok()?;
     let string = schema.named("string")?;
     let limits = Limits::new(1, 1024)?;
@@ -103,7 +103,7 @@ pub fn fed_in_pieces(alloc: Global) -> Told {
 }
 
 /// The same pieces, judged without a value.
-pub fn counted_in_pieces(alloc: Global) -> Told {
+pub fn counted_in_pieces(alloc: Global) -> Reported {
     let schema = Schema::basic(alloc).ok()?;
     let string = schema.named("string")?;
     let limits = Limits::new(1, 1024)?;
@@ -122,7 +122,7 @@ pub fn counted_in_pieces(alloc: Global) -> Told {
 }
 
 /// The same bytes where they lie: a length, and content that is lent.
-pub fn lent_in_place(alloc: Global) -> Told {
+pub fn lent_in_place(alloc: Global) -> Reported {
     let schema = Schema::basic(alloc).ok()?;
     let string = schema.named("string")?;
     let limits = Limits::new(1, 1024)?;

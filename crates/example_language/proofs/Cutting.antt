@@ -42,11 +42,11 @@ cut_again (suc n) (p ∷ ps) (b ∷ bs) ts le c =
 pub cut_is : (text : List ℕ) (ts : List Lexeme) → Tokens text ts → cut (length text) text ≡ Some ts
 cut_is text ts t = cut_again (length text) t.0 text ts (omega arith) t.1
 
-pub tells_tokens : (text : List ℕ) (ts : List Lexeme) (r : Result (Vec Token Global) Fault)
+pub reports_tokens : (text : List ℕ) (ts : List Lexeme) (r : Result (Vec Token Global) Fault)
     → cut (length text) text ≡ Some ts → IfOk r (λ v. Tokens text (lexemes v.items))
     → IfOk r (λ v. lexemes v.items ≡ ts)
-tells_tokens text ts (Ok v) is found = some_is (lexemes v.items) ts (sym (cut_is text (lexemes v.items) found) ∙ is)
-tells_tokens text ts (Err e) is found = tt
+reports_tokens text ts (Ok v) is found = some_is (lexemes v.items) ts (sym (cut_is text (lexemes v.items) found) ∙ is)
+reports_tokens text ts (Err e) is found = tt
 
 pub no_tokens : (text : List ℕ) (r : Result (Vec Token Global) Fault) → cut (length text) text ≡ None
     → IfOk r (λ v. Tokens text (lexemes v.items)) → is_ok r ≡ false

@@ -1,5 +1,5 @@
 pub mod Cutting
 pub mod Outlining
-pub mod Telling
+pub mod Reporting
 pub mod Schemas
 pub mod Meanings

@@ -26,7 +26,7 @@ use Rattle.xdr_lang.specs.Distinct.{pairs_of, pairs, has_twice}
 use Rattle.xdr_lang.specs.Meaning.{given_constants, meaning}
 use Rattle.xdr_lang.specs.Private.Meaning.{distinct_meaning}
 use Rattle.example_language.proofs.Cutting.{cut}
-use Rattle.example_language.proofs.Telling.{told, told_means}
+use Rattle.example_language.proofs.Reporting.{reported, reported_means}
 use Rattle.example_language.proofs.Schemas.{well, sound_eight, sound_nine, sound_ten}
 
 -- these kinds and names after the basic ones, and no program
@@ -77,21 +77,21 @@ pub record Meanings : Type 0 where
   pub linked_list : Means (codes "struct e{int n;e*next;};") entries
   pub list_of_structs : Means (codes "struct e{long n;struct e*next;};") entries
   pub string_argument : Means (codes "program P{version V{void N(string)=0;}=2;}=1;") takes_string
-  pub const_used_before_it_is_declared : told (codes "typedef int t<N>; const N = 3;") ≡ None
-  pub eight_is_no_octal_digit : told (codes "const N = 08;") ≡ None
-  pub long_as_a_name : told (codes "const long = 3;") ≡ None
-  pub struct_before_a_union : told (codes "union u switch(int d){case 1:void;};typedef struct u t;") ≡ None
-  pub struct_before_an_enumeration : told (codes "enum e{A=1};typedef struct e t;") ≡ None
-  pub struct_before_a_typedef : told (codes "typedef struct{int x;} s;typedef struct s t;") ≡ None
-  pub true_as_a_size : told (codes "typedef int t<TRUE>;") ≡ None
-  pub member_as_a_size : told (codes "enum e { A = 1 }; typedef int t[A];") ≡ None
-  pub field_name_there_twice : told (codes "struct s { int a; bool a; };") ≡ None
+  pub const_used_before_it_is_declared : reported (codes "typedef int t<N>; const N = 3;") ≡ None
+  pub eight_is_no_octal_digit : reported (codes "const N = 08;") ≡ None
+  pub long_as_a_name : reported (codes "const long = 3;") ≡ None
+  pub struct_before_a_union : reported (codes "union u switch(int d){case 1:void;};typedef struct u t;") ≡ None
+  pub struct_before_an_enumeration : reported (codes "enum e{A=1};typedef struct e t;") ≡ None
+  pub struct_before_a_typedef : reported (codes "typedef struct{int x;} s;typedef struct s t;") ≡ None
+  pub true_as_a_size : reported (codes "typedef int t<TRUE>;") ≡ None
+  pub member_as_a_size : reported (codes "enum e { A = 1 }; typedef int t[A];") ≡ None
+  pub field_name_there_twice : reported (codes "struct s { int a; bool a; };") ≡ None
   pub pair_of_numbers_there_twice :
-      told (codes "program P{version V{void N(void)=0;}=2;version W{void N(void)=0;}=2;}=1;") ≡ None
+      reported (codes "program P{version V{void N(void)=0;}=2;version W{void N(void)=0;}=2;}=1;") ≡ None
 
 -- so it is: each text is read by computing
 pub meanings : Meanings
-unfolding told cut run_length after_comment value_from number_of word_among word_or_name comment_at piece_at
+unfolding reported cut run_length after_comment value_from number_of word_among word_or_name comment_at piece_at
     after_word after_sign name_at number_at value_at size_at limit_at either_sign numbered_at repeat opaque_at text_at
     declared_at declaration_with content_with int_at basic_at member_at enum_at field_with struct_with case_at
     arm_with default_with switch_with union_with body_word_at inner_word_at body_with specifier_at passed_with
@@ -101,17 +101,17 @@ unfolding told cut run_length after_comment value_from number_of word_among word
     one_version one_program has_name repeats has_number repeats_number has_pair repeats_pair kind_repeats kinds_repeat
     version_repeats versions_repeat program_repeats programs_repeat pairs_of pairs has_twice meaning distinct_meaning
 meanings = record {
-  arrays = told_means _ (two_arrays 0) refl (lit≤ tt) (well _ (lit≤ tt) refl refl)
+  arrays = reported_means _ (two_arrays 0) refl (lit≤ tt) (well _ (lit≤ tt) refl refl)
       (sound_ten (xdr.fixed 0 2) (xdr.up_to 0 2) (0, refl, lit≤ tt) tt);
-  long_numbers = told_means _ (two_arrays 1) refl (lit≤ tt) (well _ (lit≤ tt) refl refl)
+  long_numbers = reported_means _ (two_arrays 1) refl (lit≤ tt) (well _ (lit≤ tt) refl refl)
       (sound_ten (xdr.fixed 0 2) (xdr.up_to 1 2) (0, refl, lit≤ tt) tt);
-  missing_size = told_means _ any_string refl (lit≤ tt) (well _ (lit≤ tt) refl refl)
+  missing_size = reported_means _ any_string refl (lit≤ tt) (well _ (lit≤ tt) refl refl)
       (sound_nine (xdr.text 4294967295) tt);
-  linked_list = told_means _ entries refl (lit≤ tt) (well _ (lit≤ tt) refl refl)
+  linked_list = reported_means _ entries refl (lit≤ tt) (well _ (lit≤ tt) refl refl)
       (sound_ten (xdr.maybe 9) (xdr.structure entry) tt ((0, refl, lit≤ tt), ((1, refl, lit≤ tt), tt)));
-  list_of_structs = told_means _ entries refl (lit≤ tt) (well _ (lit≤ tt) refl refl)
+  list_of_structs = reported_means _ entries refl (lit≤ tt) (well _ (lit≤ tt) refl refl)
       (sound_ten (xdr.maybe 9) (xdr.structure entry) tt ((0, refl, lit≤ tt), ((1, refl, lit≤ tt), tt)));
-  string_argument = told_means _ takes_string refl (lit≤ tt) (well _ (lit≤ tt) refl refl) sound_eight;
+  string_argument = reported_means _ takes_string refl (lit≤ tt) (well _ (lit≤ tt) refl refl) sound_eight;
   const_used_before_it_is_declared = refl;
   eight_is_no_octal_digit = refl;
   long_as_a_name = refl;

@@ -16,13 +16,13 @@ use Rattle.xdr_grammar.proofs.Outlining.{outline_again}
 use Rattle.example_language.proofs.Cutting.{present, no_refusal}
 pub use Rattle.xdr_grammar.proofs.Outlining.{outline_found}
 
-pub tells_outline : {A : Type 0} (ts us : List Lexeme) (f : Outline → A) (y : A) (r : Result Made Fault) → us ≡ ts
+pub reports_outline : {A : Type 0} (ts us : List Lexeme) (f : Outline → A) (y : A) (r : Result Made Fault) → us ≡ ts
     → option_map f (definitions_at (length ts) nothing ts) ≡ Some y → IfOk r (λ v. IsOutline us (outline_of v))
     → IfOk r (λ v. f (outline_of v) ≡ y)
-tells_outline ts us f y (Ok v) same is found =
+reports_outline ts us f y (Ok v) same is found =
     let read = outline_again ts (outline_of v) (subst (λ (x : List Lexeme). IsOutline x (outline_of v)) same found) in
     some_is (f (outline_of v)) y (sym (ap (λ (o : Option Outline). option_map f o) read) ∙ is)
-tells_outline ts us f y (Err e) same is found = tt
+reports_outline ts us f y (Err e) same is found = tt
 
 pub no_outline : (ts us : List Lexeme) (r : Result Made Fault) → us ≡ ts
     → definitions_at (length ts) nothing ts ≡ None → IfOk r (λ v. IsOutline us (outline_of v)) → is_ok r ≡ false

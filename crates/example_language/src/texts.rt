@@ -78,7 +78,7 @@ pub fn older_text(text: &[u8])
     older_texts_keep_their_meanings()
 }
 
-/// A text without `long` in which no type is told by `struct` and a name means nothing that it did not mean before.
+/// A text without `long` in which no type is reported by `struct` and a name means nothing that it did not mean before.
 pub fn text_without_the_words(text: &[u8])
     requires long { HasNoLong text.now }
     requires none { HasNoStructName text.now }

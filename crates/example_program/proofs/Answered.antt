@@ -15,16 +15,16 @@ use Rattle.rpc_engine.specs.declared.fault.ClientFault.TheVariants as fault
 use Rattle.rpc_engine.specs.declared.fault.DatagramFault.TheVariants as broken
 use Rattle.rpc_engine.specs.DatagramExchange.{ExchangesDatagram}
 use Rattle.rpc_engine.specs.Datagrams.{ServesDatagrams, NotSent}
-use Rattle.rpc_engine.specs.Ports.{Told, Receives, Sends as IsSent}
+use Rattle.rpc_engine.specs.Ports.{Reported, Receives, Sends as IsSent}
 use Rattle.rpc_engine.specs.Run.{Run}
 use Rattle.rpc_engine.proofs.Runs.{run_silent}
 use Rattle.rpc_engine.specs.declared.fault.Served.{Served}
 use Rattle.rpc_record.specs.Reading.{capped}
-use Rattle.oncrpc_service.specs.Datagrams.{Ended, FinishesEach, Telling, datagram_lines}
-use Rattle.oncrpc_service.specs.Infos.{Tells}
+use Rattle.oncrpc_service.specs.Datagrams.{Ended, FinishesEach, Reporting, datagram_lines}
+use Rattle.oncrpc_service.specs.Infos.{Reports}
 
 -- no datagram leaves all as it was
-pub none_answered : (rows new : List Row) (old now : Telling) (es : List Ended) → length es ≤ 0
+pub none_answered : (rows new : List Row) (old now : Reporting) (es : List Ended) → length es ≤ 0
     → FinishesEach rows old es new now → (new ≡ rows) × (now ≡ old)
 none_answered rows new old now [] few f = f
 none_answered rows new old now (e ∷ es) few f = absurd (omega (arith, few))
@@ -35,52 +35,52 @@ no_lines (e ∷ es) few = absurd (omega (arith, few))
 
 -- ---- what a port gives of which nothing, or one datagram without bytes, is left
 
-none_received : (left : Told) (d : List ℕ) (ds : List (List ℕ)) → Receives (Some []) left (d ∷ ds) → ⊥
+none_received : (left : Reported) (d : List ℕ) (ds : List (List ℕ)) → Receives (Some []) left (d ∷ ds) → ⊥
 none_received None d ds h = h
 none_received (Some rest) d ds h = let e : 0 ≡ suc (length (ds ++ rest)) = ap length h in omega (arith, e)
 
-empty_front : (left : Told) (ds : List (List ℕ)) → Receives (Some []) left ds → ds ≡ []
+empty_front : (left : Reported) (ds : List (List ℕ)) → Receives (Some []) left ds → ds ≡ []
 empty_front left [] h = refl
 empty_front left (d ∷ ds) h = absurd (none_received left d ds h)
 
-then_none : (mid left : Told) (d : List ℕ) → Receives (Some []) mid [] → Receives mid left (d ∷ []) → ⊥
+then_none : (mid left : Reported) (d : List ℕ) → Receives (Some []) mid [] → Receives mid left (d ∷ []) → ⊥
 then_none None left d h k = h
 then_none (Some rest) left d h k =
     none_received left d [] (subst (λ (r : List (List ℕ)). Receives (Some r) left (d ∷ [])) (sym h) k)
 
-one_front : (left : Told) (ds : List (List ℕ)) → length ds ≡ 1 → Receives (Some ([] ∷ [])) left ds → ds ≡ [] ∷ []
+one_front : (left : Reported) (ds : List (List ℕ)) → length ds ≡ 1 → Receives (Some ([] ∷ [])) left ds → ds ≡ [] ∷ []
 one_front None ds one h = absurd h
 one_front (Some rest) [] one h = absurd (omega (arith, one))
 one_front (Some rest) (d ∷ []) one h =
     ap (λ (x : List ℕ). x ∷ []) (sym (ap (λ (l : List (List ℕ)). get_or l 0 []) h))
 one_front (Some rest) (d ∷ c ∷ ds) one h = absurd (omega (arith, one))
 
-then_one : (mid left : Told) (d : List ℕ) → Receives (Some ([] ∷ [])) mid [] → Receives mid left (d ∷ []) → d ≡ []
+then_one : (mid left : Reported) (d : List ℕ) → Receives (Some ([] ∷ [])) mid [] → Receives mid left (d ∷ []) → d ≡ []
 then_one None left d h k = absurd h
 then_one (Some rest) left d h k =
     let front = one_front left (d ∷ []) refl
     (subst (λ (r : List (List ℕ)). Receives (Some r) left (d ∷ [])) (sym h) k) in
     ap (λ (l : List (List ℕ)). get_or l 0 []) front
 
-not_served_none : (rows new : List Row) (left left' sent sent' : Told) (s : Served) → left ≡ Some []
+not_served_none : (rows new : List Row) (left left' sent sent' : Reported) (s : Served) → left ≡ Some []
     → ServesDatagrams 1 rows new left left' sent sent' s → ⊥
 not_served_none rows new left left' sent sent' s none h =
     let no = empty_front left' h.datagrams
-    (subst (λ (t : Told). Receives t left' h.datagrams) none h.finished.received) in
+    (subst (λ (t : Reported). Receives t left' h.datagrams) none h.finished.received) in
     let n : length h.datagrams ≡ 0 = ap length no in
     let all = h.all in
     omega (arith, n, all)
 
-not_sent_none : (done : ℕ) (rows new : List Row) (left left' sent sent' : Told) → left ≡ Some []
+not_sent_none : (done : ℕ) (rows new : List Row) (left left' sent sent' : Reported) → left ≡ Some []
     → NotSent 1 done rows new left left' sent sent' → ⊥
 not_sent_none done rows new left left' sent sent' none h =
-    let first = subst (λ (t : Told). Receives t h.waiting h.datagrams) none h.finished.received in
+    let first = subst (λ (t : Reported). Receives t h.waiting h.datagrams) none h.finished.received in
     let no = empty_front h.waiting h.datagrams first in
     then_none h.waiting left' h.answering
     (subst (λ (ds : List (List ℕ)). Receives (Some []) h.waiting ds) no first) h.received
 
 -- where none is left the one that is to be answered is not received
-pub one_unreceived : (rows new : List Row) (old now : Telling) (es : List Ended) → old.left ≡ Some [] → length es ≡ 1
+pub one_unreceived : (rows new : List Row) (old now : Reporting) (es : List Ended) → old.left ≡ Some [] → length es ≡ 1
     → FinishesEach rows old es new now → datagram_lines es ≡ codes "datagram 1: Read\n"
 unfolding digits
 one_unreceived rows new old now [] none one f = absurd (omega (arith, one))
@@ -103,30 +103,30 @@ no_reply_line s zero =
     ap (λ (n : ℕ). (if n == 0 then codes "datagram " ++ decimal 1 ++ codes ": no reply\n"
     else codes "datagram " ++ decimal 1 ++ codes ": reply\n") ++ []) zero
 
-served_silent : NoTwoCases → (rows new : List Row) (left left' sent sent' : Told) (s : Served)
+served_silent : NoTwoCases → (rows new : List Row) (left left' sent sent' : Reported) (s : Served)
     → left ≡ Some ([] ∷ []) → ServesDatagrams 1 rows new left left' sent sent' s → s.replies ≡ 0
 served_silent cases rows new left left' sent sent' s is h =
     let front = one_front left' h.datagrams h.all
-    (subst (λ (t : Told). Receives t left' h.datagrams) is h.finished.received) in
+    (subst (λ (t : Reported). Receives t left' h.datagrams) is h.finished.received) in
     let none = run_silent cases rows new udp h.finished.refusals h.replies
     (subst (λ (ds : List (List ℕ)). Run rows udp ds h.finished.refusals new h.replies) front h.finished.run) in
     h.counted.answered ∙ ap (λ (rs : List (List ℕ)). capped (length rs)) none.1
 
-not_unsent_silent : NoTwoCases → (done : ℕ) (rows new : List Row) (left left' sent sent' : Told)
+not_unsent_silent : NoTwoCases → (done : ℕ) (rows new : List Row) (left left' sent sent' : Reported)
     → left ≡ Some ([] ∷ []) → NotSent 1 done rows new left left' sent sent' → ⊥
 not_unsent_silent cases done rows new left left' sent sent' is h =
     let few = h.few in
     let many = h.so_many in
     let no = nil_from_length h.datagrams (omega (arith, few, many)) in
     let first = subst (λ (ds : List (List ℕ)). Receives (Some ([] ∷ [])) h.waiting ds) no
-    (subst (λ (t : Told). Receives t h.waiting h.datagrams) is h.finished.received) in
+    (subst (λ (t : Reported). Receives t h.waiting h.datagrams) is h.finished.received) in
     let empty = then_one h.waiting left' h.answering first h.received in
     let none = silent h.mid udp cases [] tt h.refused new (Some h.unsent)
     (subst (λ (d : List ℕ). Answer h.mid udp d h.refused new (Some h.unsent)) empty h.answer) (inl (omega arith)) in
     subst (λ (o : Option (List ℕ)). HasOne o) none.1 tt
 
 -- where one that is no call is left, its line says that there is no reply, or that it was not received
-pub one_silent : NoTwoCases → (rows new : List Row) (old now : Telling) (es : List Ended)
+pub one_silent : NoTwoCases → (rows new : List Row) (old now : Reporting) (es : List Ended)
     → old.left ≡ Some ([] ∷ []) → length es ≡ 1 → FinishesEach rows old es new now
     → (datagram_lines es ≡ codes "datagram 1: no reply\n") ⊎ (datagram_lines es ≡ codes "datagram 1: Read\n")
 unfolding digits
@@ -141,8 +141,8 @@ one_silent cases rows new old now (e ∷ d ∷ es) is one f = absurd (omega (ari
 -- ---- asking by a datagram
 
 -- where an answer is printed the call was sent
-pub whole_datagram : (vers status : ℕ) (text bytes : List ℕ) (left left' sent sent' : Told)
-    (answer : Result Reply ClientFault) → Tells vers answer status text
+pub whole_datagram : (vers status : ℕ) (text bytes : List ℕ) (left left' sent sent' : Reported)
+    (answer : Result Reply ClientFault) → Reports vers answer status text
     → ExchangesDatagram 1 bytes left left' sent sent' answer → IsSent sent sent' (bytes ∷ [])
 whole_datagram vers status text bytes left left' sent sent' (Ok reply) t h = h.0
 whole_datagram vers status text bytes left left' sent sent' (Err (fault.Record f)) t h = h.0
@@ -153,22 +153,22 @@ whole_datagram vers status text bytes left left' sent sent' (Err (fault.WrongXid
 whole_datagram vers status text bytes left left' sent sent' (Err fault.TooManyReads) t h = absurd t.1
 whole_datagram vers status text bytes left left' sent sent' (Err fault.NoMemory) t h = absurd t.1
 
-pub all_sent : (d : List ℕ) (sent sent' : Told) → sent ≡ Some [] → IsSent sent sent' (d ∷ []) → sent' ≡ Some (d ∷ [])
-all_sent d sent None e h = absurd (subst (λ (t : Told). IsSent t None (d ∷ [])) e h)
-all_sent d sent (Some all) e h = ap Some (subst (λ (t : Told). IsSent t (Some all) (d ∷ [])) e h)
+pub all_sent : (d : List ℕ) (sent sent' : Reported) → sent ≡ Some [] → IsSent sent sent' (d ∷ []) → sent' ≡ Some (d ∷ [])
+all_sent d sent None e h = absurd (subst (λ (t : Reported). IsSent t None (d ∷ [])) e h)
+all_sent d sent (Some all) e h = ap Some (subst (λ (t : Reported). IsSent t (Some all) (d ∷ [])) e h)
 
 -- where none is left no answer is printed
-pub not_told : (vers status : ℕ) (text bytes : List ℕ) (left left' sent sent' : Told)
-    (answer : Result Reply ClientFault) → left ≡ Some [] → Tells vers answer status text
+pub not_reported : (vers status : ℕ) (text bytes : List ℕ) (left left' sent sent' : Reported)
+    (answer : Result Reply ClientFault) → left ≡ Some [] → Reports vers answer status text
     → ExchangesDatagram 1 bytes left left' sent sent' answer → ⊥
-not_told vers status text bytes left left' sent sent' (Ok reply) none t h =
-    none_received left' h.1.0 [] (subst (λ (l : Told). Receives l left' (h.1.0 ∷ [])) none h.1.1.0)
-not_told vers status text bytes left left' sent sent' (Err (fault.Record f)) none t h = h.1.1.1
-not_told vers status text bytes left left' sent sent' (Err fault.Read) none t h = t.1
-not_told vers status text bytes left left' sent sent' (Err (fault.Write written)) none t h = t.1
-not_told vers status text bytes left left' sent sent' (Err (fault.Reply f)) none t h =
-    none_received left' h.1.0 [] (subst (λ (l : Told). Receives l left' (h.1.0 ∷ [])) none h.1.1.0)
-not_told vers status text bytes left left' sent sent' (Err (fault.WrongXid got)) none t h =
-    none_received left' h.1.0 [] (subst (λ (l : Told). Receives l left' (h.1.0 ∷ [])) none h.1.1.0)
-not_told vers status text bytes left left' sent sent' (Err fault.TooManyReads) none t h = t.1
-not_told vers status text bytes left left' sent sent' (Err fault.NoMemory) none t h = t.1
+not_reported vers status text bytes left left' sent sent' (Ok reply) none t h =
+    none_received left' h.1.0 [] (subst (λ (l : Reported). Receives l left' (h.1.0 ∷ [])) none h.1.1.0)
+not_reported vers status text bytes left left' sent sent' (Err (fault.Record f)) none t h = h.1.1.1
+not_reported vers status text bytes left left' sent sent' (Err fault.Read) none t h = t.1
+not_reported vers status text bytes left left' sent sent' (Err (fault.Write written)) none t h = t.1
+not_reported vers status text bytes left left' sent sent' (Err (fault.Reply f)) none t h =
+    none_received left' h.1.0 [] (subst (λ (l : Reported). Receives l left' (h.1.0 ∷ [])) none h.1.1.0)
+not_reported vers status text bytes left left' sent sent' (Err (fault.WrongXid got)) none t h =
+    none_received left' h.1.0 [] (subst (λ (l : Reported). Receives l left' (h.1.0 ∷ [])) none h.1.1.0)
+not_reported vers status text bytes left left' sent sent' (Err fault.TooManyReads) none t h = t.1
+not_reported vers status text bytes left left' sent sent' (Err fault.NoMemory) none t h = t.1

@@ -13,7 +13,7 @@ use Rattle.oncrpc_names.specs.declared.reading.Part.TheVariants.{Argument}
 use Rattle.oncrpc_names.specs.declared.reading.PartName.{PartName}
 use Rattle.oncrpc_kinds.specs.Naming.{part_named, place_of_part}
 use Rattle.oncrpc_tasks.specs.Right.{Question}
-use Rattle.oncrpc_tasks.specs.Sources.{IsDeclared, IsTold, told_text}
+use Rattle.oncrpc_tasks.specs.Sources.{IsDeclared, IsReported, told_text}
 use Rattle.oncrpc_tasks.specs.Tasks.{Asks, AsksNothing}
 use Rattle.oncrpc_tasks.specs.declared.task.ValueTask.{ValueTask}
 
@@ -27,19 +27,19 @@ in_programs : (d : Declared) (name : PartName) (p : Procedure) (place : ℕ)
     → place_of_part p name.part ≡ Some place → part_named d name ≡ Some place
 in_programs d name p place there is = rw there is
 
-pub one_is_asked : (told : List ℕ → Option (List ℕ)) (what : ValueTask) (file : String Global)
+pub one_is_asked : (reported : List ℕ → Option (List ℕ)) (what : ValueTask) (file : String Global)
     → what.types ≡ Some file → AreBounds what.depth what.bytes
     → (text : List ℕ) × (d : Declared) × (name : PartName) × (p : Procedure) × (place : ℕ)
-    × (told (string_bytes file) ≡ Some text) × Means text d
+    × (reported (string_bytes file) ≡ Some text) × Means text d
     × IsPartName name × (name.part ≡ Argument 1) × (string_bytes what.name ≡ name_text name)
     × (place_named d.schema.names (string_bytes what.name) ≡ None)
     × (procedure_of_program name.program name.version name.procedure d.programs ≡ Some p)
     × (p.arguments ≡ place ∷ []) × (place < length d.schema.kinds)
-    → AsksNothing told what → ⊥
-one_is_asked told what file types limits
-    (text, d, name, p, place, is_told, means, unsigned, one, spelled, none, there, only, known) nothing =
-    let source : told_text told what.types ≡ Some text = ap (λ t. told_text told t) types ∙ is_told in
-    let same : nothing.text ≡ text = subst (λ t. IsTold t nothing.text) source nothing.is_told in
+    → AsksNothing reported what → ⊥
+one_is_asked reported what file types limits
+    (text, d, name, p, place, is_reported, means, unsigned, one, spelled, none, there, only, known) nothing =
+    let source : told_text reported what.types ≡ Some text = ap (λ t. told_text reported t) types ∙ is_reported in
+    let same : nothing.text ≡ text = subst (λ t. IsReported t nothing.text) source nothing.is_reported in
     let question : Question = record {
       kinds = d.schema.kinds;
       place = place;

@@ -1,9 +1,9 @@
 -- What was written of a stream of records before a read failed.
 use Rattle.std.proofs.Common.{◌≡◌, ℕ, ◌+◌, List, Option, Some, false, subst, arith}
 use Rattle.std.specs.Io.KnownBytes.{Appends, Consumes}
-use Rattle.xdr_io.specs.Told.{Counts}
+use Rattle.xdr_io.specs.Reported.{Counts}
 use Rattle.rpc_record.specs.Marked.{Longest, normal}
-use Rattle.oncrpc_tasks.specs.Devices.{Tells, Fails}
+use Rattle.oncrpc_tasks.specs.Devices.{Reports, Fails}
 use Rattle.oncrpc_tasks.specs.Records.{StopsFor}
 use Rattle.oncrpc_tasks.specs.RecordsEnd.{RecordsEnd}
 use Rattle.oncrpc_tasks.specs.declared.failure.Failure.{Failure}
@@ -20,19 +20,19 @@ no_more old new p q h =
     let one : 0 ≡ 0 + 1 = subst (λ x. Counts 1 (Some 0) x) q (subst (λ x. Counts 1 x new) p h) in
     omega (arith, one)
 
-module _ {I O : Type 0} (tells : Tells I O) (i i' : I) (o o' : O) (limit : ℕ) where
-  of_failure : (f : Failure) → Fails tells i i' o o' f
-      → StopsFor f limit (tells.left i) (tells.left i') (tells.taken o) (tells.taken o') → tells.lost o ≡ Some 0
-      → tells.lost o' ≡ Some 0
-      → WritesAll limit (tells.left i) (tells.left i') (tells.taken o) (tells.taken o')
+module _ {I O : Type 0} (reports : Reports I O) (i i' : I) (o o' : O) (limit : ℕ) where
+  of_failure : (f : Failure) → Fails reports i i' o o' f
+      → StopsFor f limit (reports.left i) (reports.left i') (reports.taken o) (reports.taken o') → reports.lost o ≡ Some 0
+      → reports.lost o' ≡ Some 0
+      → WritesAll limit (reports.left i) (reports.left i') (reports.taken o) (reports.taken o')
   of_failure failure.Read h s p q = (s.input, s.rs, s.read, s.stopped.0, s.stopped.1)
-  of_failure failure.Write h s p q = absurd (no_more (tells.lost o) (tells.lost o') p q h)
+  of_failure failure.Write h s p q = absurd (no_more (reports.lost o) (reports.lost o') p q h)
   of_failure failure.TooManyReads h s p q = (s.input, s.rs, s.read, s.stopped.0, s.stopped.1)
   of_failure failure.NoMemory h s p q = absurd h
 
   pub before_a_failure : {F : Type 0} (fs fs' : F) (status : ℕ)
-      → RecordsEnd limit false tells i i' o o' fs fs' status → status ≡ 3 → tells.lost o ≡ Some 0
-      → tells.lost o' ≡ Some 0
-      → WritesAll limit (tells.left i) (tells.left i') (tells.taken o) (tells.taken o')
+      → RecordsEnd limit false reports i i' o o' fs fs' status → status ≡ 3 → reports.lost o ≡ Some 0
+      → reports.lost o' ≡ Some 0
+      → WritesAll limit (reports.left i) (reports.left i') (reports.taken o) (reports.taken o')
   before_a_failure fs fs' status e three p q =
       let h = e.in_part three in of_failure h.0 h.1 h.2 p q

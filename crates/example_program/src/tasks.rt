@@ -1,7 +1,7 @@
 //! Tasks as the words ask for them, with the texts of declarations that they name.
 ghost use Rattle.std.specs.Prelude.{◌≡◌, ◌≢◌, ◌<◌, ◌≤◌, ◌∷◌, [], ℕ, List, None, Some, IfSome, string_bytes, true};
 ghost use Rattle.std.specs.Prelude.{length};
-ghost use Rattle.xdr_io.specs.Told.{CountsAtMost};
+ghost use Rattle.xdr_io.specs.Reported.{CountsAtMost};
 ghost use Rattle.xdr_types.specs.Named.{place_named};
 ghost use Rattle.xdr_types.specs.Within.{AreBounds};
 ghost use Rattle.oncrpc_names.specs.Names.{IsPartName, name_text};
@@ -57,7 +57,7 @@ pub fn a_named_file_declares<P: Opener, I: Source, O: Sink, F: Sink>(
 ) -> u8
     requires { what.types ≡ Some file.now }
     ensures { result ≤ 1
-        → IfSome (P.told opener.old (string_bytes file.now)) (λ text. (d : Declared) × Means text d) }
+        → IfSome (P.reported opener.old (string_bytes file.now)) (λ text. (d : Declared) × Means text d) }
 {
     task_over(alloc, &Task::Show(what), opener, input, output, faults)
 }
@@ -75,7 +75,7 @@ pub fn arguments_count_from_1<P: Opener, I: Source, O: Sink, F: Sink>(
     requires types { what.types ≡ Some file.now }
     requires limits { AreBounds what.depth what.bytes }
     requires only { (text : List ℕ) × (d : Declared) × (name : PartName) × (p : Procedure) × (place : ℕ)
-        × (P.told opener.old (string_bytes file.now) ≡ Some text) × Means text d
+        × (P.reported opener.old (string_bytes file.now) ≡ Some text) × Means text d
         × IsPartName name × (name.part ≡ Argument 1) × (string_bytes what.name ≡ name_text name)
         × (place_named d.schema.names (string_bytes what.name) ≡ None)
         × (procedure_of_program name.program name.version name.procedure d.programs ≡ Some p)

@@ -1,7 +1,7 @@
 //! One value: when something is printed, what stands before the line of its outcome, and how much is read.
 ghost use Rattle.std.specs.Prelude.{◌≡◌, ◌≢◌, ◌⊎◌, ◌<◌, ◌≤◌, ◌+◌, ◌++◌, ℕ, List, length, take, true, false};
 ghost use Rattle.std.specs.Io.KnownBytes.{Appends};
-ghost use Rattle.xdr_io.specs.Told.{Counts, MovesAtMost};
+ghost use Rattle.xdr_io.specs.Reported.{Counts, MovesAtMost};
 ghost use Rattle.oncrpc_tasks.specs.declared.answer.Answer.{Answer};
 ghost use Rattle.oncrpc_tasks.specs.declared.answer.Answer.TheVariants.{BadHex, Whole};
 ghost use Rattle.oncrpc_tasks.specs.Lines.{line, line_status};

@@ -35,10 +35,10 @@ stays : (rows new : List Row) (netid message : List ℕ) (sent : Option (List �
     → Answer rows netid message true new sent → new ≡ rows
 stays rows new netid message sent h = (decided rows netid h.answers).0
 
-pub kept : (rows new : List Row) (netid message : List ℕ) (result : Answered)
+pub retained : (rows new : List Row) (netid message : List ℕ) (result : Answered)
     → Answer rows netid message (is_refused result) new (sent_of result)
     → (xid : ℕ) → result ≡ answered.OutOfMemory xid → new ≡ rows
-kept rows new netid message result h xid e = stays rows new netid message (sent_of (answered.OutOfMemory xid))
+retained rows new netid message result h xid e = stays rows new netid message (sent_of (answered.OutOfMemory xid))
     (subst (λ (a : Answered). Answer rows netid message (is_refused a) new (sent_of a)) e h)
 
 -- silence alone sends nothing
@@ -61,11 +61,11 @@ silence cases rows new netid message fits none result h =
     (none_sent result s.1, s.0)
 
 -- what stood there stands there still
-pub stands : (rows new : List Row) (netid message old out : List ℕ) (p : Appended)
+pub represents : (rows new : List Row) (netid message old out : List ℕ) (p : Appended)
     → AppendsAnswer rows netid message old new out p → StartsWith out old
-stands rows new netid message old out appended.Nothing h = begins_added old [] out (h.1 ∙ sym (append-nil old))
-stands rows new netid message old out appended.Reply h = begins_added old h.0 out h.1.1.added
-stands rows new netid message old out (appended.OutOfMemory xid) h =
+represents rows new netid message old out appended.Nothing h = begins_added old [] out (h.1 ∙ sym (append-nil old))
+represents rows new netid message old out appended.Reply h = begins_added old h.0 out h.1.1.added
+represents rows new netid message old out (appended.OutOfMemory xid) h =
     begins_added old [] out (h.1 ∙ sym (append-nil old))
 
 pub nothing_added : (rows new : List Row) (netid message old out : List ℕ) (p : Appended)
@@ -116,7 +116,7 @@ abbrev no_credential : List ℕ
 no_credential =
     0 ∷ 0 ∷ 0 ∷ 1 ∷ 0 ∷ 0 ∷ 0 ∷ 0 ∷ 0 ∷ 0 ∷ 0 ∷ 2 ∷ 0 ∷ 1 ∷ 134 ∷ 160 ∷ 0 ∷ 0 ∷ 0 ∷ 2 ∷ 0 ∷ 0 ∷ 0 ∷ 0 ∷ []
 
--- a short reply has room
+-- a short reply has buffer
 has_room : (netid : List ℕ) (count : ℕ) → nat_lt most_datagram count ≡ false → is_too_long netid count ≡ false
 has_room netid count e = by (bytes_eq netid udp)
   where
@@ -126,13 +126,13 @@ has_room netid count e = by (bytes_eq netid udp)
 
 module _ (one : OneAnswer) (rows new : List Row) (netid : List ℕ) (refused : Bool) (sent : Option (List ℕ)) where
   -- the rows stay, and where memory is not refused this is the reply
-  abbrev Told : ReplyView → Type 0
-  Told r = (new ≡ rows) × (refused ≡ false → sent ≡ Some (reply r))
+  abbrev Reported : ReplyView → Type 0
+  Reported r = (new ≡ rows) × (refused ≡ false → sent ≡ Some (reply r))
 
-  told : (message : List ℕ) → AreBytes message → (k : CaseView) (r : ReplyView) → IsCase message k
+  reported : (message : List ℕ) → AreBytes message → (k : CaseView) (r : ReplyView) → IsCase message k
       → Answers rows netid k false rows (Some r) → ReplyBytes r (reply r)
-      → Answer rows netid message refused new sent → Told r
-  told message fits k r read answers spelled h = by refused h
+      → Answer rows netid message refused new sent → Reported r
+  reported message fits k r read answers spelled h = by refused h
     where
       by : (y : Bool) → Answer rows netid message y new sent → (new ≡ rows) × (y ≡ false → sent ≡ Some (reply r))
       by true a = (stays rows new netid message sent a, λ e. absurd (true≢false e))
@@ -146,8 +146,8 @@ module _ (one : OneAnswer) (rows new : List Row) (netid : List ℕ) (refused : B
           }) in
           (same.0, λ e. same.1)
 
-  pub mismatched : Answer rows netid version_3 refused new sent → Told (Denied 2 (RpcMismatch 2 2))
-  mismatched = told version_3 (checked version_3 refl) (OtherVersion 2 3) (Denied 2 (RpcMismatch 2 2)) (record {
+  pub mismatched : Answer rows netid version_3 refused new sent → Reported (Denied 2 (RpcMismatch 2 2))
+  mismatched = reported version_3 (checked version_3 refl) (OtherVersion 2 3) (Denied 2 (RpcMismatch 2 2)) (record {
     xid_fits = omega arith;
     version_fits = omega arith;
     other = λ (same : 3 ≡ 2). omega (arith, same);
@@ -155,8 +155,8 @@ module _ (one : OneAnswer) (rows new : List Row) (netid : List ℕ) (refused : B
     parts = refl;
   }) (other_version 2 3) (record { fits = (omega arith, (omega arith, omega arith)); parts = refl })
 
-  pub uncredited : Answer rows netid no_credential refused new sent → Told (auth_error 1 1)
-  uncredited = told no_credential (checked no_credential refl) (BadCred 1) (auth_error 1 1) (record {
+  pub uncredited : Answer rows netid no_credential refused new sent → Reported (auth_error 1 1)
+  uncredited = reported no_credential (checked no_credential refl) (BadCred 1) (auth_error 1 1) (record {
     prog = 100000;
     vers = 2;
     proc = 0;
@@ -169,8 +169,8 @@ module _ (one : OneAnswer) (rows new : List Row) (netid : List ℕ) (refused : B
       no_auth : NoAuth []
       no_auth = λ a rest fits e. let size : 0 ≡ length (auth a ++ rest) = ap length e in absurd cc
 
-  pub rejected : Answer rows netid (call_bytes (call_to 100000 2 0 6)) refused new sent → Told (auth_error 1 2)
-  rejected = told (call_bytes (call_to 100000 2 0 6)) (checked (call_bytes (call_to 100000 2 0 6)) refl)
+  pub rejected : Answer rows netid (call_bytes (call_to 100000 2 0 6)) refused new sent → Reported (auth_error 1 2)
+  rejected = reported (call_bytes (call_to 100000 2 0 6)) (checked (call_bytes (call_to 100000 2 0 6)) refl)
       (Whole (call_to 100000 2 0 6)) (auth_error 1 2)
       (whole 100000 2 0 6 (omega arith) (omega arith) (omega arith) (omega arith))
       (call (call_to 100000 2 0 6) rows (auth_error 1 2) (denies 2 (other (omega arith))))
@@ -181,8 +181,8 @@ module _ (one : OneAnswer) (rows new : List Row) (netid : List ℕ) (refused : B
       → ComesTo rows netid unknown (call_to prog vers proc 0) rows status
       → nat_lt most_datagram (length (reply (accepted 1 status))) ≡ false
       → are_bytes (call_bytes (call_to prog vers proc 0)) ≡ true
-      → Answer rows netid (call_bytes (call_to prog vers proc 0)) refused new sent → Told (accepted 1 status)
-  come prog vers proc p v n status fits comes few bytes = told (call_bytes (call_to prog vers proc 0))
+      → Answer rows netid (call_bytes (call_to prog vers proc 0)) refused new sent → Reported (accepted 1 status)
+  come prog vers proc p v n status fits comes few bytes = reported (call_bytes (call_to prog vers proc 0))
       (checked (call_bytes (call_to prog vers proc 0)) bytes) (Whole (call_to prog vers proc 0)) (accepted 1 status)
       (whole prog vers proc 0 p v n (omega arith))
       (call (call_to prog vers proc 0) rows (accepted 1 status)
@@ -190,16 +190,16 @@ module _ (one : OneAnswer) (rows new : List Row) (netid : List ℕ) (refused : B
       (record { fits = (omega arith, record { flavor = omega arith; short = omega arith }, fits); parts = refl })
 
   pub unavailable : Answer rows netid (call_bytes (call_to 100001 9 77 0)) refused new sent
-      → Told (accepted 1 ProgUnavail)
+      → Reported (accepted 1 ProgUnavail)
   unavailable = come 100001 9 77 (omega arith) (omega arith) (omega arith) ProgUnavail tt
       (no_program (λ e. omega (arith, e))) refl refl
 
   pub versions : Answer rows netid (call_bytes (call_to 100000 9 77 0)) refused new sent
-      → Told (accepted 1 (ProgMismatch 2 4))
+      → Reported (accepted 1 (ProgMismatch 2 4))
   versions = come 100000 9 77 (omega arith) (omega arith) (omega arith) (ProgMismatch 2 4) (omega arith, omega arith)
       (no_version refl (inr (omega arith))) refl refl
 
-  pub done : Answer rows netid (call_bytes (call_to 100000 2 0 0)) refused new sent → Told (accepted 1 (Success []))
+  pub done : Answer rows netid (call_bytes (call_to 100000 2 0 0)) refused new sent → Reported (accepted 1 (Success []))
   done = come 100000 2 0 (omega arith) (omega arith) (omega arith) (Success []) tt
       (success null void (record {
         program_is = refl;

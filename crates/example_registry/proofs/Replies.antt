@@ -21,10 +21,10 @@ none_case whole none xid =
     let nothing = whole_none most_reply in (refl, whole most_reply [] [] nothing, none most_reply [] [] nothing)
 
 module _ (one : OneOutcome) (whole : WholeIsLongest) (none : WholeHasNoLong) (xid : ℕ) (left : Option (List ℕ))
-    (told : left ≡ Some []) where
+    (reported : left ≡ Some []) where
   pub cut_at_once : (result : Result Reply ClientFault) → IsExact xid left result → IsErr result
   cut_at_once (Err f) h = refl
-  cut_at_once (Ok reply) h = absurd (apart (one xid [] _ (Truncated 0) (h [] told) (none_case whole none xid)))
+  cut_at_once (Ok reply) h = absurd (apart (one xid [] _ (Truncated 0) (h [] reported) (none_case whole none xid)))
     where
       apart : {v : ReplyView} → Replied v ≡ Truncated 0 → ⊥
       apart e = cc
@@ -32,7 +32,7 @@ module _ (one : OneOutcome) (whole : WholeIsLongest) (none : WholeHasNoLong) (xi
   pub no_xid : (result : Result Reply ClientFault) → IsExact xid left result → (got : ℕ)
       → result ≢ Err (fault.WrongXid got)
   no_xid result h got e =
-      apart (one xid [] (OtherXid got) (Truncated 0) (subst (λ r. IsExact xid left r) e h [] told)
+      apart (one xid [] (OtherXid got) (Truncated 0) (subst (λ r. IsExact xid left r) e h [] reported)
       (none_case whole none xid))
     where
       apart : OtherXid got ≡ Truncated 0 → ⊥
@@ -67,11 +67,11 @@ other_case = (two, (two_first, (two_reply, (two_spelled, refl)), λ e. omega (ar
 own_case : IsOutcome 2 two_bytes (Replied two_reply)
 own_case = (two, (two_first, two_spelled, refl))
 
-module _ (one : OneOutcome) (left : Option (List ℕ)) (told : left ≡ Some two_bytes) where
+module _ (one : OneOutcome) (left : Option (List ℕ)) (reported : left ≡ Some two_bytes) where
   pub not_handed_out : (xid : ℕ) (result : Result Reply ClientFault) → xid ≡ 1 → IsExact xid left result → IsErr result
   not_handed_out xid (Err f) x h = refl
   not_handed_out xid (Ok reply) x h =
-      absurd (apart (one 1 two_bytes _ (OtherXid 2) (subst (λ n. IsExact n left (Ok reply)) x h two_bytes told)
+      absurd (apart (one 1 two_bytes _ (OtherXid 2) (subst (λ n. IsExact n left (Ok reply)) x h two_bytes reported)
       other_case))
     where
       apart : {v : ReplyView} → Replied v ≡ OtherXid 2 → ⊥
@@ -81,7 +81,7 @@ module _ (one : OneOutcome) (left : Option (List ℕ)) (told : left ≡ Some two
       → result ≡ Err (fault.WrongXid got) → got ≡ 2
   other_is_two xid result x h got e =
       same (one 1 two_bytes (OtherXid got) (OtherXid 2)
-      (subst (λ n. IsExact n left (Err (fault.WrongXid got))) x (subst (λ r. IsExact xid left r) e h) two_bytes told)
+      (subst (λ n. IsExact n left (Err (fault.WrongXid got))) x (subst (λ r. IsExact xid left r) e h) two_bytes reported)
       other_case)
     where
       same : OtherXid got ≡ OtherXid 2 → got ≡ 2
@@ -93,7 +93,7 @@ module _ (one : OneOutcome) (left : Option (List ℕ)) (told : left ≡ Some two
 
     pub own_xid : (got : ℕ) → result ≢ Err (fault.WrongXid got)
     own_xid got e =
-        apart (one 2 two_bytes (OtherXid got) (Replied two_reply) (says (Err (fault.WrongXid got)) e two_bytes told)
+        apart (one 2 two_bytes (OtherXid got) (Replied two_reply) (says (Err (fault.WrongXid got)) e two_bytes reported)
         own_case)
       where
         apart : OtherXid got ≡ Replied two_reply → ⊥
@@ -101,7 +101,7 @@ module _ (one : OneOutcome) (left : Option (List ℕ)) (told : left ≡ Some two
 
     pub own_reply : (f : ReplyFault) → result ≢ Err (fault.Reply f)
     own_reply f e =
-        apart (one 2 two_bytes NoReply (Replied two_reply) (says (Err (fault.Reply f)) e two_bytes told) own_case)
+        apart (one 2 two_bytes NoReply (Replied two_reply) (says (Err (fault.Reply f)) e two_bytes reported) own_case)
       where
         apart : NoReply ≡ Replied two_reply → ⊥
         apart e = cc

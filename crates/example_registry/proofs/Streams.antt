@@ -15,10 +15,10 @@ use Rattle.rpc_engine.specs.Served.{Serves, Stops, most_record}
 use Rattle.xdr_io.proofs.Ended.{all_read}
 
 module _ (netid : List ℕ) (rows new : List Row) (l m t u : Option (List ℕ)) (served : Served)
-    (s : Serves netid rows new l m t u served) (bytes : List ℕ) (told : l ≡ Some bytes) where
+    (s : Serves netid rows new l m t u served) (bytes : List ℕ) (reported : l ≡ Some bytes) where
   whole_is : IsWhole most_record s.rs bytes
   whole_is = subst (λ b. IsWhole most_record s.rs b)
-      (sym (all_read bytes s.input m (subst (λ k. Consumes k m s.input) told s.read) s.end)) s.whole
+      (sym (all_read bytes s.input m (subst (λ k. Consumes k m s.input) reported s.read) s.end)) s.whole
 
   records_are : OneLongest → WholeIsLongest → (rs : List (List ℕ)) → IsWhole most_record rs bytes → s.rs ≡ rs
   records_are one whole rs w =
@@ -34,8 +34,8 @@ run_none rows new netid (y ∷ ys) replies h = absurd h
 pub nothing : OneLongest → WholeIsLongest → (netid : List ℕ) (rows new : List Row) (l m t u : Option (List ℕ))
     (served : Served) → Serves netid rows new l m t u served → l ≡ Some []
     → ((served.records ≡ 0) × (served.replies ≡ 0)) × (new ≡ rows)
-nothing one whole netid rows new l m t u served s told =
-    let none = records_are netid rows new l m t u served s [] told one whole [] (whole_none most_record) in
+nothing one whole netid rows new l m t u served s reported =
+    let none = records_are netid rows new l m t u served s [] reported one whole [] (whole_none most_record) in
     let run = run_none rows new netid s.refusals s.replies
     (subst (λ k. Run rows netid k s.refusals new s.replies) none s.run) in
     ((omega (arith, s.counted.records, ap length none), omega (arith, s.counted.answered, ap length run.1)), run.0)
@@ -51,8 +51,8 @@ written_is t u bytes more h begun now none =
 pub unwritten : OneLongest → WholeIsLongest → (netid : List ℕ) (rows new : List Row) (l m t u : Option (List ℕ))
     (served : Served) → Serves netid rows new l m t u served → l ≡ Some [] → t ≡ Some [] → (bytes : List ℕ)
     → u ≡ Some bytes → bytes ≡ []
-unwritten one whole netid rows new l m t u served s told begun bytes now =
-    let none = records_are netid rows new l m t u served s [] told one whole [] (whole_none most_record) in
+unwritten one whole netid rows new l m t u served s reported begun bytes now =
+    let none = records_are netid rows new l m t u served s [] reported one whole [] (whole_none most_record) in
     let run = run_none rows new netid s.refusals s.replies
     (subst (λ k. Run rows netid k s.refusals new s.replies) none s.run) in
     written_is t u bytes (normal s.replies) s.written begun now (ap normal run.1)
@@ -66,12 +66,12 @@ long_header = long_first most_record 65537 true [] (omega arith) (omega arith)
 pub too_long : {E : Type 0} → WholeHasNoLong → (netid : List ℕ) (rows new : List Row) (l m t u : Option (List ℕ))
     (result : Result Served E) → IfOk result (λ served. Serves netid rows new l m t u served)
     → l ≡ Some (128 ∷ 1 ∷ 0 ∷ 1 ∷ []) → IsErr result
-too_long none netid rows new l m t u (Err e) s told = refl
-too_long none netid rows new l m t u (Ok served) s told =
-    absurd (none most_record s.rs _ (whole_is netid rows new l m t u served s _ told) [] 0 long_header)
+too_long none netid rows new l m t u (Err e) s reported = refl
+too_long none netid rows new l m t u (Ok served) s reported =
+    absurd (none most_record s.rs _ (whole_is netid rows new l m t u served s _ reported) [] 0 long_header)
 
 pub not_cut : (netid : List ℕ) (rows new : List Row) (l m t u : Option (List ℕ)) (at : ℕ)
     → Stops netid rows new l m t u (fault.Record (flaw.Truncated at)) → l ≡ Some (128 ∷ 1 ∷ 0 ∷ 1 ∷ []) → ⊥
-not_cut netid rows new l m t u at s told =
-    let all = all_read _ s.input m (subst (λ k. Consumes k m s.input) told s.read) s.stopped.3 in
+not_cut netid rows new l m t u at s reported =
+    let all = all_read _ s.input m (subst (λ k. Consumes k m s.input) reported s.read) s.stopped.3 in
     s.stopped.5 [] 0 (subst (λ b. TooLongAt most_record [] 0 b) all long_header)

@@ -17,18 +17,18 @@ use Rattle.rpc_engine.specs.declared.fault.Served.{Served}
 use Rattle.rpc_engine.specs.Datagrams.{ServesDatagrams, StopsDatagrams}
 use Rattle.rpc_engine.specs.DatagramExchange.{ExchangesDatagram, OwnReply, OtherReply, NotReply, IsMessageCase}
 use Rattle.rpc_engine.specs.Laws.{OneCase}
-use Rattle.rpc_engine.specs.Ports.{Told, Receives, Sends, pieces, received_from}
+use Rattle.rpc_engine.specs.Ports.{Reported, Receives, Sends, pieces, received_from}
 use Rattle.rpc_engine.specs.declared.memory_port.MemoryPort.{MemoryPort}
 use Rattle.rpc_engine.specs.Run.{Run}
 use Rattle.rpc_engine.proofs.Runs.{run_silent}
 use Rattle.example_registry.proofs.Replies.{two, two_reply, two_spelled}
 
 -- what a port over memory tells
-abbrev pub left_of : MemoryPort → Told
+abbrev pub left_of : MemoryPort → Reported
 left_of port = Some (received_from port.next port.waiting.now)
 
-abbrev pub sent_of : MemoryPort → Told
-sent_of port = Some (pieces (take port.count port.sizes.now) port.room.now)
+abbrev pub sent_of : MemoryPort → Reported
+sent_of port = Some (pieces (take port.count port.sizes.now) port.buffer.now)
 
 -- ---- no datagram
 
@@ -38,10 +38,10 @@ none_run rows new [] replies h = h
 none_run rows new (y ∷ ys) replies h = absurd h
 
 -- nothing was received or sent, and the rows stay
-abbrev pub IsStill : List Row → List Row → Told → Told → Told → Told → Type 0
+abbrev pub IsStill : List Row → List Row → Reported → Reported → Reported → Reported → Type 0
 IsStill rows new l m s t = (new ≡ rows) × Receives l m [] × Sends s t []
 
-module _ (rows new : List Row) (l m s t : Told) where
+module _ (rows new : List Row) (l m s t : Reported) where
   still : (ds replies : List (List ℕ)) (ys : List Bool) → length ds ≡ 0 → Receives l m ds
       → Run rows udp ds ys new replies → Sends s t replies → IsStill rows new l m s t
   still ds replies ys e h run k =
@@ -71,18 +71,18 @@ module _ (rows new : List Row) (l m s t : Told) where
       let h = subst (λ r. IfErr r (λ f. StopsDatagrams 2 rows new l m s t f)) e k in
       still h.datagrams h.replies h.finished.refusals h.so_many h.finished.received h.finished.run h.finished.sends
 
--- ---- a datagram that is told
+-- ---- a datagram that is reported
 
-told_first : (l m : Told) (d : List ℕ) (more ds : List (List ℕ)) → l ≡ Some (d ∷ more) → length ds ≡ 1
+reported_first : (l m : Reported) (d : List ℕ) (more ds : List (List ℕ)) → l ≡ Some (d ∷ more) → length ds ≡ 1
     → Receives l m ds → ds ≡ d ∷ []
-told_first None m d more ds e n h = absurd (apart e)
+reported_first None m d more ds e n h = absurd (apart e)
   where
-    apart : ◌≡◌ {A = Told} None (Some (d ∷ more)) → ⊥
+    apart : ◌≡◌ {A = Reported} None (Some (d ∷ more)) → ⊥
     apart e = cc
-told_first (Some all) None d more ds e n h = absurd h
-told_first (Some all) (Some rest) d more [] e n h = absurd (omega (arith, n))
-told_first (Some all) (Some rest) d more (x ∷ y ∷ ds) e n h = absurd (omega (arith, n))
-told_first (Some all) (Some rest) d more (x ∷ []) e n h = ap (λ k. k ∷ []) (same (sym h ∙ inside e))
+reported_first (Some all) None d more ds e n h = absurd h
+reported_first (Some all) (Some rest) d more [] e n h = absurd (omega (arith, n))
+reported_first (Some all) (Some rest) d more (x ∷ y ∷ ds) e n h = absurd (omega (arith, n))
+reported_first (Some all) (Some rest) d more (x ∷ []) e n h = ap (λ k. k ∷ []) (same (sym h ∙ inside e))
   where
     inside : Some all ≡ Some (d ∷ more) → all ≡ d ∷ more
     inside e = cc
@@ -93,14 +93,14 @@ told_first (Some all) (Some rest) d more (x ∷ []) e n h = ap (λ k. k ∷ []) 
 -- ---- an empty datagram
 
 module _ (cases : NoTwoCases) where
-  module _ (rows new : List Row) (l m s t : Told) (told : l ≡ Some ([] ∷ [])) where
+  module _ (rows new : List Row) (l m s t : Reported) (reported : l ≡ Some ([] ∷ [])) where
     pub silent_served : (result : Result Served DatagramFault)
         → IfOk result (λ served. ServesDatagrams 1 rows new l m s t served)
         → IfOk result (λ served. (served.records ≡ 1) × (served.replies ≡ 0)) × OnOk result (new ≡ rows)
     silent_served (Err f) h = (tt, tt)
     silent_served (Ok served) h =
         let f = h.finished in
-        let one = told_first l m [] [] h.datagrams told h.all f.received in
+        let one = reported_first l m [] [] h.datagrams reported h.all f.received in
         let r = run_silent cases rows new udp f.refusals h.replies
         (subst (λ d. Run rows udp d f.refusals new h.replies) one f.run) in
         ((omega (arith, h.counted.records, h.all), omega (arith, h.counted.answered, ap length r.1)), r.0)
@@ -110,10 +110,10 @@ module _ (cases : NoTwoCases) where
 other_case : IsMessageCase 1 two (OtherReply 2)
 other_case = ((two_reply, (two_spelled, refl)), λ e. omega (arith, e))
 
-module _ (one : OneCase) (call : List ℕ) (l m s t : Told) (told : l ≡ Some (two ∷ [])) (xid : ℕ) (is : xid ≡ 1)
+module _ (one : OneCase) (call : List ℕ) (l m s t : Reported) (reported : l ≡ Some (two ∷ [])) (xid : ℕ) (is : xid ≡ 1)
     (result : Result Reply ClientFault) (h : ExchangesDatagram xid call l m s t result) where
   came : (message : List ℕ) → Receives l m (message ∷ []) → message ≡ two
-  came message h = same (told_first l m two [] (message ∷ []) told refl h)
+  came message h = same (reported_first l m two [] (message ∷ []) reported refl h)
     where
       same : message ∷ [] ≡ two ∷ [] → message ≡ two
       same e = cc

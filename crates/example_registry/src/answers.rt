@@ -1,5 +1,5 @@
 //! What the registry answers to one message (RFC 5531 section 9, RFC 1833 section 3): the first check that fails
-//! decides. Where memory is refused the answer is SYSTEM_ERR in place of the reply that is told here.
+//! decides. Where memory is refused the answer is SYSTEM_ERR in place of the reply that is reported here.
 ghost use Rattle.std.specs.Prelude.{◌≡◌, ℕ, false, [], ◌∷◌, Some};
 ghost use Rattle.std.specs.Io.{StartsWith};
 ghost use Rattle.rpc_message.specs.Cases.{IsNoCall};
@@ -40,7 +40,7 @@ pub fn keeps_the_rows_without_memory<S: BuildHasher>(
     answer(alloc, directory, transport, message)
 }
 
-/// A reply is written behind what stands there, as the room for a record's header. Where memory is refused nothing is.
+/// A reply is written behind what stands there, as the buffer for a record's header. Where memory is refused nothing is.
 pub fn keeps_what_stands_before<S: BuildHasher>(
     alloc: Global,
     directory: &mut Directory<S>,

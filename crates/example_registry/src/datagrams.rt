@@ -39,11 +39,11 @@ pub fn is_silent_to_an_empty_datagram<S: BuildHasher>(
     ensures rows { OnOk result (directory.new ≡ directory.old) }
 {
     five_cases();
-    let mut room = [0u8; 64];
+    let mut buffer = [0u8; 64];
     let mut sizes = [0usize; 1];
     let datagram: &[u8] = &[];
     let waiting = [datagram];
-    let mut port = MemoryPort::new(&waiting, &mut room, &mut sizes, None);
+    let mut port = MemoryPort::new(&waiting, &mut buffer, &mut sizes, None);
     serve_datagrams(alloc, &mut port, 1, directory)
 }
 
@@ -70,13 +70,13 @@ pub fn hands_out_no_other_datagram(alloc: Global, call: &Call) -> Result<Reply, 
     ensures reply { (f : ReplyFault) → result ≢ Err (fault.Reply f) }
 {
     messages_have_one_case();
-    let mut room = [0u8; 64];
+    let mut buffer = [0u8; 64];
     let mut sizes = [0usize; 1];
     let datagram: &[u8] = &[
         0, 0, 0, 2, 0, 0, 0, 1, 0, 0, 0, 0, 0, 0, 0, 0, 0, 0, 0, 0, 0, 0, 0, 0,
     ];
     let waiting = [datagram];
-    let mut port = MemoryPort::new(&waiting, &mut room, &mut sizes, None);
+    let mut port = MemoryPort::new(&waiting, &mut buffer, &mut sizes, None);
     exchange_datagram(alloc, &mut port, call)
 }
 
@@ -84,7 +84,7 @@ pub fn hands_out_no_other_datagram(alloc: Global, call: &Call) -> Result<Reply, 
 pub fn sends_one_datagram(
     alloc: Global,
     waiting: &[&[u8]],
-    room: &mut [u8],
+    buffer: &mut [u8],
     call: &Call,
 ) -> Result<(usize, usize), ClientFault>
     requires cred { length call.now.cred.body.items ≤ 400 }
@@ -93,7 +93,7 @@ pub fn sends_one_datagram(
     ensures { IfOk result (λ sent. sent ≡ (1, length (call_bytes (call_view call.now)))) }
 {
     let mut sizes = [0usize; 4];
-    let mut port = MemoryPort::new(waiting, room, &mut sizes, None);
+    let mut port = MemoryPort::new(waiting, buffer, &mut sizes, None);
     exchange_datagram(alloc, &mut port, call)?;
     Ok((port.sent_sizes().len(), port.sent_bytes().len()))
 }

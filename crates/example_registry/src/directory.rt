@@ -220,7 +220,7 @@ pub fn refused_adds_nothing<S: BuildHasher>(
     }
 }
 
-/// An address has room in 256 bytes, whatever was registered.
+/// An address has buffer in 256 bytes, whatever was registered.
 pub fn address_is_short<S: BuildHasher>(directory: &Directory<S>, netid: &[u8]) -> usize
     ensures { result ≤ 256 }
 {

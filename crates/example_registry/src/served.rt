@@ -43,7 +43,7 @@ pub fn writes_nothing_for_nothing<S: BuildHasher>(
     Ok(writer.into_bytes())
 }
 
-/// A header of more than 65536 bytes, `80010001`, is never served, and is not told as an input that is cut.
+/// A header of more than 65536 bytes, `80010001`, is never served, and is not reported as an input that is cut.
 pub fn refuses_a_record_above_the_limit<W: Sink, S: BuildHasher>(
     alloc: Global,
     writer: &mut W,

@@ -14,7 +14,7 @@ use Rattle.rpc_message.specs.Spelling.{auth, reply, status, IsAuth, IsReply, Rep
 use Rattle.rpc_message.specs.Faults.{Place, Xid, MessageType, ReplyStat, AcceptStat, AcceptLow, AcceptHigh, RejectStat}
 use Rattle.rpc_message.specs.Faults.{RejectLow, RejectHigh, AuthStat, before, IsPlace, IsNoStatus, IsCutAuth}
 use Rattle.rpc_message.specs.Faults.{IsOtherKind, StandsIn}
-use Rattle.example_rpc.proofs.Told.{long_is_no_auth}
+use Rattle.example_rpc.proofs.Reported.{long_is_no_auth}
 
 -- this fault, or want of memory
 abbrev pub Is : ReplyFault → ReplyFault → Type 0

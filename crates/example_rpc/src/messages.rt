@@ -71,10 +71,10 @@ pub fn credential_size(alloc: Global, bytes: &[u8]) -> Result<usize, NoMemory>
     }
 }
 
-/// A call of version 3 of RPC is told with its xid and its version. That takes no memory.
-pub fn tells_version_three(alloc: Global, bytes: &[u8]) -> Result<CallRead, NoMemory>
+/// A call of version 3 of RPC is reported with its xid and its version. That takes no memory.
+pub fn reports_version_three(alloc: Global, bytes: &[u8]) -> Result<CallRead, NoMemory>
     requires { bytes.now ≡ 0 ∷ 0 ∷ 0 ∷ 2 ∷ 0 ∷ 0 ∷ 0 ∷ 0 ∷ 0 ∷ 0 ∷ 0 ∷ 3 ∷ [] }
-    ensures told { IfOk result (λ read. case_view read ≡ OtherVersion 2 3) }
+    ensures reported { IfOk result (λ read. case_view read ≡ OtherVersion 2 3) }
     ensures no_memory { IsOk result }
 {
     read_call(alloc, bytes)
@@ -98,7 +98,7 @@ pub fn wants_the_procedure(alloc: Global, bytes: &[u8]) -> Result<CallRead, NoMe
 }
 
 /// With 24 bytes it is a call whose credential can not be read.
-pub fn tells_the_missing_credential(alloc: Global, bytes: &[u8]) -> Result<CallRead, NoMemory>
+pub fn reports_the_missing_credential(alloc: Global, bytes: &[u8]) -> Result<CallRead, NoMemory>
     requires { bytes.now ≡
         0 ∷ 0 ∷ 0 ∷ 1 ∷ 0 ∷ 0 ∷ 0 ∷ 0 ∷ 0 ∷ 0 ∷ 0 ∷ 2 ∷ 0 ∷ 1 ∷ 134 ∷ 160 ∷ 0 ∷ 0 ∷ 0 ∷ 2 ∷ 0 ∷ 0 ∷ 0 ∷ 0 ∷ [] }
     ensures { IfOk result (λ read. case_view read ≡ BadCred 1) }
@@ -107,7 +107,7 @@ pub fn tells_the_missing_credential(alloc: Global, bytes: &[u8]) -> Result<CallR
 }
 
 /// With a credential of 401 bytes too, and no byte of it is waited for.
-pub fn tells_the_long_credential(alloc: Global, bytes: &[u8]) -> Result<CallRead, NoMemory>
+pub fn reports_the_long_credential(alloc: Global, bytes: &[u8]) -> Result<CallRead, NoMemory>
     requires { bytes.now ≡
         0 ∷ 0 ∷ 0 ∷ 1 ∷ 0 ∷ 0 ∷ 0 ∷ 0 ∷ 0 ∷ 0 ∷ 0 ∷ 2 ∷ 0 ∷ 1 ∷ 134 ∷ 160 ∷ 0 ∷ 0 ∷ 0 ∷ 2 ∷ 0 ∷ 0 ∷ 0 ∷ 0 ∷
         0 ∷ 0 ∷ 0 ∷ 0 ∷ 0 ∷ 0 ∷ 1 ∷ 145 ∷ [] }
@@ -117,7 +117,7 @@ pub fn tells_the_long_credential(alloc: Global, bytes: &[u8]) -> Result<CallRead
 }
 
 /// After a whole credential it is the verifier that is missing.
-pub fn tells_the_missing_verifier(alloc: Global, bytes: &[u8]) -> Result<CallRead, NoMemory>
+pub fn reports_the_missing_verifier(alloc: Global, bytes: &[u8]) -> Result<CallRead, NoMemory>
     requires { bytes.now ≡
         0 ∷ 0 ∷ 0 ∷ 1 ∷ 0 ∷ 0 ∷ 0 ∷ 0 ∷ 0 ∷ 0 ∷ 0 ∷ 2 ∷ 0 ∷ 1 ∷ 134 ∷ 160 ∷ 0 ∷ 0 ∷ 0 ∷ 2 ∷ 0 ∷ 0 ∷ 0 ∷ 0 ∷
         0 ∷ 0 ∷ 0 ∷ 0 ∷ 0 ∷ 0 ∷ 0 ∷ 0 ∷ [] }
@@ -126,8 +126,8 @@ pub fn tells_the_missing_verifier(alloc: Global, bytes: &[u8]) -> Result<CallRea
     read_call(alloc, bytes)
 }
 
-/// A verifier of 401 bytes is told too.
-pub fn tells_the_long_verifier(alloc: Global, bytes: &[u8]) -> Result<CallRead, NoMemory>
+/// A verifier of 401 bytes is reported too.
+pub fn reports_the_long_verifier(alloc: Global, bytes: &[u8]) -> Result<CallRead, NoMemory>
     requires { bytes.now ≡
         0 ∷ 0 ∷ 0 ∷ 1 ∷ 0 ∷ 0 ∷ 0 ∷ 0 ∷ 0 ∷ 0 ∷ 0 ∷ 2 ∷ 0 ∷ 1 ∷ 134 ∷ 160 ∷ 0 ∷ 0 ∷ 0 ∷ 2 ∷ 0 ∷ 0 ∷ 0 ∷ 0 ∷
         0 ∷ 0 ∷ 0 ∷ 0 ∷ 0 ∷ 0 ∷ 0 ∷ 0 ∷ 0 ∷ 0 ∷ 0 ∷ 0 ∷ 0 ∷ 0 ∷ 1 ∷ 145 ∷ [] }
@@ -251,7 +251,7 @@ pub fn writes_the_reply_again(alloc: Global, bytes: &[u8]) -> Option<Vec<u8>>
 }
 
 /// Four bytes are cut: the type of the message is missing.
-pub fn tells_the_cut_reply(alloc: Global, bytes: &[u8]) -> Result<Reply, ReplyFault>
+pub fn reports_the_cut_reply(alloc: Global, bytes: &[u8]) -> Result<Reply, ReplyFault>
     requires { bytes.now ≡
         0 ∷ 0 ∷ 0 ∷ 1 ∷ [] }
     ensures { MatchResult result (λ _. ⊥) (λ f. (f ≡ faults.Truncated) ⊎ (f ≡ faults.NoMemory)) }
@@ -269,7 +269,7 @@ pub fn takes_no_call_for_a_reply(alloc: Global, bytes: &[u8]) -> Result<Reply, R
 }
 
 /// A reply is accepted, 0, or denied, 1; there is no status 2.
-pub fn tells_a_status_that_there_is_not(alloc: Global, bytes: &[u8]) -> Result<Reply, ReplyFault>
+pub fn reports_a_status_that_there_is_not(alloc: Global, bytes: &[u8]) -> Result<Reply, ReplyFault>
     requires { bytes.now ≡
         0 ∷ 0 ∷ 0 ∷ 1 ∷ 0 ∷ 0 ∷ 0 ∷ 1 ∷ 0 ∷ 0 ∷ 0 ∷ 2 ∷ [] }
     ensures { MatchResult result (λ _. ⊥) (λ f. (f ≡ faults.BadStatus) ⊎ (f ≡ faults.NoMemory)) }
@@ -277,8 +277,11 @@ pub fn tells_a_status_that_there_is_not(alloc: Global, bytes: &[u8]) -> Result<R
     read_reply(alloc, bytes)
 }
 
-/// A verifier of 401 bytes is told by its length, before any byte of it has come.
-pub fn tells_the_long_verifier_of_a_reply(alloc: Global, bytes: &[u8]) -> Result<Reply, ReplyFault>
+/// A verifier of 401 bytes is reported by its length, before any byte of it has come.
+pub fn reports_the_long_verifier_of_a_reply(
+    alloc: Global,
+    bytes: &[u8],
+) -> Result<Reply, ReplyFault>
     requires { bytes.now ≡
         0 ∷ 0 ∷ 0 ∷ 1 ∷ 0 ∷ 0 ∷ 0 ∷ 1 ∷ 0 ∷ 0 ∷ 0 ∷ 0 ∷ 0 ∷ 0 ∷ 0 ∷ 0 ∷ 0 ∷ 0 ∷ 1 ∷ 145 ∷ [] }
     ensures { MatchResult result (λ _. ⊥) (λ f. (f ≡ faults.BadAuth) ⊎ (f ≡ faults.NoMemory)) }
@@ -287,7 +290,7 @@ pub fn tells_the_long_verifier_of_a_reply(alloc: Global, bytes: &[u8]) -> Result
 }
 
 /// A byte after a denial belongs to no reply.
-pub fn tells_what_follows_a_denial(alloc: Global, bytes: &[u8]) -> Result<Reply, ReplyFault>
+pub fn reports_what_follows_a_denial(alloc: Global, bytes: &[u8]) -> Result<Reply, ReplyFault>
     requires { bytes.now ≡
         0 ∷ 0 ∷ 0 ∷ 1 ∷ 0 ∷ 0 ∷ 0 ∷ 1 ∷ 0 ∷ 0 ∷ 0 ∷ 1 ∷ 0 ∷ 0 ∷ 0 ∷ 1 ∷ 0 ∷ 0 ∷ 0 ∷ 1 ∷ 0 ∷ [] }
     ensures { MatchResult result (λ _. ⊥) (λ f. (f ≡ faults.Rest) ⊎ (f ≡ faults.NoMemory)) }

@@ -2,10 +2,10 @@
 ghost use Rattle.std.specs.Prelude.{◌≡◌, ◌≤◌, ◌⊎◌, ℕ, List, [], ◌∷◌, true, IfOk, IfErr, IfSome, OnOk, MatchResult};
 ghost use Rattle.std.specs.Prelude.{take, vec_len};
 ghost use Rattle.std.specs.Io.KnownBytes.{Appends, Consumes};
-ghost use Rattle.xdr_io.specs.Told.{Counts};
+ghost use Rattle.xdr_io.specs.Reported.{Counts};
 ghost use Rattle.rpc_record.specs.Marked.{normal};
 ghost use Rattle.rpc_record.specs.Reading.{IsWhole, RefusedIn};
-ghost use Rattle.rpc_record.specs.Stands.{Always, IsTaking, IsWaiting, IsBroken, limit_of};
+ghost use Rattle.rpc_record.specs.Represents.{Always, IsTaking, IsWaiting, IsBroken, limit_of};
 
 use rpc_record::{
     Count, NoMemory, RecordFault, RecordReader, RecordStep, last_header, mark,
@@ -47,7 +47,7 @@ pub fn writes_three_bytes<W: Sink>(writer: &mut W) -> Result<(), Cut>
     write_marked(writer, b"abc")
 }
 
-/// Where a write fails, what went out is told exactly: the first `written` bytes of header and content.
+/// Where a write fails, what went out is reported exactly: the first `written` bytes of header and content.
 #[tactic(auto, unfolding(rpc_record::specs::Marked::header))]
 pub fn writes_three_bytes_in_part<W: Sink>(writer: &mut W) -> Result<(), Cut>
     ensures { IfErr result (λ cut. Appends (W.taken writer.old) (W.taken writer.new)
@@ -71,23 +71,23 @@ pub fn hands_out_once(reader: &mut RecordReader) -> bool
     reader.take().is_none()
 }
 
-/// So it is where room for the next is given with the call.
-pub fn hands_out_once_with(reader: &mut RecordReader, room: Vec<u8>) -> bool
+/// So it is where buffer for the next is given with the call.
+pub fn hands_out_once_with(reader: &mut RecordReader, buffer: Vec<u8>) -> bool
     ensures { result ≡ true }
 {
-    let _first = reader.take_with(room);
+    let _first = reader.take_with(buffer);
     reader.take().is_none()
 }
 
-/// So it is where a record goes into a room with the piece that brings it: nothing waits after it.
-pub fn leaves_none_where_it_goes_into_a_room(
+/// So it is where a record goes into a buffer with the piece that brings it: nothing waits after it.
+pub fn leaves_none_where_it_goes_into_a_buffer(
     reader: &mut RecordReader,
     piece: &[u8],
-    room: &mut Vec<u8>,
+    buffer: &mut Vec<u8>,
 ) -> bool
     ensures { result ≡ true }
 {
-    match reader.feed_into(piece, room) {
+    match reader.feed_into(piece, buffer) {
         Ok(RecordStep::Whole { .. }) => reader.take().is_none(),
         Ok(RecordStep::More) => reader.take().is_none(),
         Err(_) => reader.take().is_none(),
@@ -125,18 +125,18 @@ pub fn hands_out_the_content(alloc: Global) -> Option<Vec<u8>>
     }
 }
 
-/// The record that goes into a room is the one that was marked, `80000001 61`, and ends with the fifth byte.
-pub fn puts_the_content_into_a_room(
+/// The record that goes into a buffer is the one that was marked, `80000001 61`, and ends with the fifth byte.
+pub fn puts_the_content_into_a_buffer(
     alloc: Global,
-    room: &mut Vec<u8>,
+    buffer: &mut Vec<u8>,
 ) -> Result<RecordStep, RecordFault>
-    ensures whole { IfOk result (λ step. (step ≡ RecordStep.Whole 5) × (room.new.items ≡ 97 ∷ [])) }
+    ensures whole { IfOk result (λ step. (step ≡ RecordStep.Whole 5) × (buffer.new.items ≡ 97 ∷ [])) }
     ensures refused { IfErr result (λ f. f ≡ RecordFault.NoMemory) }
 {
     no_record_begins_another();
     too_long_ends_the_stream();
     let mut reader = RecordReader::start(alloc, 100);
-    reader.feed_into(&[0x80, 0, 0, 1, 0x61], room)
+    reader.feed_into(&[0x80, 0, 0, 1, 0x61], buffer)
 }
 
 /// The bytes that are used end with the record's last: they are one record, whatever follows in the piece.
@@ -158,7 +158,7 @@ pub fn takes_a_record_of_the_limit(alloc: Global) -> Result<RecordStep, RecordFa
 }
 
 /// An input that ends inside a record is cut after the bytes that were taken: `800000` at 3.
-pub fn tells_where_it_was_cut(alloc: Global) -> Option<RecordFault>
+pub fn reports_where_it_was_cut(alloc: Global) -> Option<RecordFault>
     ensures { IfSome result (λ f. f ≡ RecordFault.Truncated 3) }
 {
     let mut reader = RecordReader::start(alloc, 100);
@@ -198,17 +198,17 @@ pub fn keeps_at_most_the_limit(alloc: Global, piece: &[u8]) -> usize
 {
     let mut reader = RecordReader::start(alloc, 100);
     let _fed = reader.feed(piece);
-    reader.kept()
+    reader.retained()
 }
 
 /// What is kept is the content of the record so far, all of it.
-pub fn counts_what_is_kept(reader: &RecordReader) -> usize
+pub fn counts_what_is_retained(reader: &RecordReader) -> usize
     ensures { result ≡ vec_len reader.now.content }
 {
-    reader.kept()
+    reader.retained()
 }
 
-/// A header that brings its record above the limit is refused at once, before any content, and its place is told:
+/// A header that brings its record above the limit is refused at once, before any content, and its place is reported:
 /// `80000001` where the limit is 0.
 pub fn refuses_a_header_above_the_limit(alloc: Global) -> Result<RecordStep, RecordFault>
     ensures { MatchResult result (λ _. ⊥) (λ f. (f ≡ RecordFault.TooLong 0) ⊎ (f ≡ RecordFault.NoMemory)) }
@@ -273,9 +273,9 @@ pub fn keeps_two_records_apart<W: Sink>(alloc: Global, writer: &mut W) -> Result
     Ok(count)
 }
 
-/// Where a header passes the limit the input is not told as cut, though it ends behind it: `80000001` where the limit
+/// Where a header passes the limit the input is not reported as cut, though it ends behind it: `80000001` where the limit
 /// is 0.
-pub fn tells_no_long_header_as_cut<W: Sink>(
+pub fn reports_no_long_header_as_cut<W: Sink>(
     alloc: Global,
     writer: &mut W,
     place: u64,
@@ -287,7 +287,7 @@ pub fn tells_no_long_header_as_cut<W: Sink>(
     normalise(alloc, &mut source, writer, 0)
 }
 
-/// Where memory is refused, the whole records before the one that no room was found for were written.
+/// Where memory is refused, the whole records before the one that no buffer was found for were written.
 pub fn writes_what_was_whole<R: Source, W: Sink>(
     alloc: Global,
     reader: &mut R,

@@ -10,8 +10,8 @@ use Rattle.xdr_types.specs.Within.{Bounds, FitsWithin}
 use Rattle.xdr_types.specs.declared.value.Value.{Value}
 use Rattle.xdr_types.proofs.Unique.{one}
 use Rattle.xdr_codec.specs.Refused.{IsRefused, HasNoneWithin}
-use Rattle.xdr_stream.specs.Stands.{taken, used_of}
-use Rattle.xdr_codec.specs.Stands.{AnswersAs, FinishesAs}
+use Rattle.xdr_stream.specs.Represents.{taken, used_of}
+use Rattle.xdr_codec.specs.Represents.{AnswersAs, FinishesAs}
 use Rattle.xdr_stream.specs.declared.fault.Reason.{Reason}
 use Rattle.xdr_stream.specs.declared.fault.Reason.TheVariants as reason
 use Rattle.xdr_stream.specs.declared.fault.DecodeFault.{DecodeFault}

@@ -30,13 +30,13 @@ use Rattle.xdr_types.specs.View.{tree}
 use Rattle.xdr_types.specs.declared.kind.KindId.{KindId}
 use Rattle.xdr_types.specs.declared.value.Value.{Value}
 use Rattle.xdr_stream.specs.Finish.{EndsWith, Finishes}
-use Rattle.xdr_stream.specs.Stands.{Fails, Answers, taken}
+use Rattle.xdr_stream.specs.Represents.{Fails, Answers, taken}
 use Rattle.xdr_stream.specs.declared.reader.Progress.{Progress}
 use Rattle.xdr_stream.specs.declared.reader.Progress.TheVariants.{More, Done}
 use Rattle.xdr_codec.specs.Settings.{kinds_of, kind_of, limits_of}
-use Rattle.xdr_codec.specs.Stands.{IsStarted}
+use Rattle.xdr_codec.specs.Represents.{IsStarted}
 use Rattle.xdr_codec.specs.declared.decoder.Decoder.{Decoder}
-use Rattle.example_xdr.specs.Told.{fault_of, IsNone, Says}
+use Rattle.example_xdr.specs.Reported.{fault_of, IsNone, Says}
 use Rattle.xdr_stream.specs.declared.fault.DecodeFault.{DecodeFault}
 use Rattle.xdr_stream.specs.declared.fault.Reason.{Reason}
 use Rattle.xdr_stream.specs.declared.fault.Reason.TheVariants as why
@@ -202,20 +202,20 @@ module _ (s : List KindView) (t : ℕ) (l : Bounds) (unique : EachSpellingIsOneV
 
 module _ (s : List KindView) (t : ℕ) (l : Bounds) (one : OneOutcome s) (b : List ℕ) (e : Ending) (none : IsNone e)
     (o : Outcome s t l b e) where
-  told : (x : Ending) → Outcome s t l (b ++ []) x → fault_of (length b) x ≡ fault_of (length b) e
-  told x h =
+  reported : (x : Ending) → Outcome s t l (b ++ []) x → fault_of (length b) x ≡ fault_of (length b) e
+  reported x h =
       ap (λ (y : Ending). fault_of (length b) y)
       (one t l b x e (subst (λ (y : List ℕ). Outcome s t l y x) (append-nil b) h) o)
 
   said : (r : Reason) (at : ℕ) → Fails s t l (record { why = r; at = at }) b
       → (record { why = r; at = at } ≡ fault_of (length b) e) ⊎ (r ≡ why.NoMemory)
-  said why.BadBool at h = inl (told (Broken outcome.bad_bool at) (h.0 []))
-  said why.BadNumbered at h = inl (told (Broken outcome.bad_numbered at) (h.0 []))
-  said why.BadCase at h = inl (told (Broken outcome.bad_case at) (h.0 []))
-  said why.TooLong at h = inl (told (Broken outcome.too_long at) (h.0 []))
-  said why.BadPadding at h = inl (told (Broken outcome.bad_padding at) (h.0 []))
-  said why.TooDeep at h = inl (told (TooDeep at) (h.0 []))
-  said why.TooLarge at h = inl (told (TooLarge at) (h.0 []))
+  said why.BadBool at h = inl (reported (Broken outcome.bad_bool at) (h.0 []))
+  said why.BadNumbered at h = inl (reported (Broken outcome.bad_numbered at) (h.0 []))
+  said why.BadCase at h = inl (reported (Broken outcome.bad_case at) (h.0 []))
+  said why.TooLong at h = inl (reported (Broken outcome.too_long at) (h.0 []))
+  said why.BadPadding at h = inl (reported (Broken outcome.bad_padding at) (h.0 []))
+  said why.TooDeep at h = inl (reported (TooDeep at) (h.0 []))
+  said why.TooLarge at h = inl (reported (TooLarge at) (h.0 []))
   said why.Truncated at h = absurd (h.0 [])
   said why.NoMemory at h = inr refl
 

@@ -1,4 +1,4 @@
 pub mod Lent
 pub mod Refusal
 pub mod Rfc
-pub mod Told
+pub mod Reported

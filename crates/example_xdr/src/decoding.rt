@@ -19,7 +19,7 @@ pub fn decodes_the_file(
 ) -> Result<(Value, usize), DecodeFault>
     requires kinds { schema.now.kinds ≡ file_kinds }
     requires deep { 3 ≤ limits.depth }
-    requires room { 48 ≤ limits.bytes }
+    requires buffer { 48 ≤ limits.bytes }
     requires input { input.now ≡ sillyprog_bytes }
     ensures value { IfOk result (λ r. (tree r.0 ≡ sillyprog) × (r.1 ≡ 48)) }
     ensures taken { IfErr result (λ f. f.why ≡ NoMemory) }

@@ -2,7 +2,7 @@
 ghost use Rattle.std.specs.Prelude.{◌≡◌, ◌<◌, [], ◌∷◌, true, false, length, IfOk, IfErr, IfSome, IsErr, Some, vec_len};
 ghost use Rattle.std.specs.Prelude.{OnOk, Ok};
 ghost use Rattle.std.specs.Io.KnownBytes.{Appends};
-ghost use Rattle.xdr_io.specs.Told.{Counts};
+ghost use Rattle.xdr_io.specs.Reported.{Counts};
 
 use std::alloc::{AllocError, Global};
 use std::io::Write;
@@ -28,7 +28,7 @@ pub fn reads_nothing_at_the_end() -> Result<usize, ReadFault>
 }
 
 /// The read that is to fail fails.
-pub fn fails_when_told() -> Result<usize, ReadFault>
+pub fn fails_when_reported() -> Result<usize, ReadFault>
     ensures { IsErr result }
 {
     let mut array = [0; 4096];
@@ -134,11 +134,11 @@ pub fn needs_no_more_reads<R: Source>(alloc: Global, source: &mut R) -> bool
 }
 
 /// A whole slice goes out in as many writes as it takes.
-pub fn writes_a_byte_a_time(room: &mut [u8]) -> Result<usize, Cut>
+pub fn writes_a_byte_a_time(buffer: &mut [u8]) -> Result<usize, Cut>
     ensures all { IfOk result (λ used. used ≡ 3) }
     ensures cut { IfErr result (λ cut. cut.written < 3) }
 {
-    let mut sink = MemorySink::new(room, 1, None);
+    let mut sink = MemorySink::new(buffer, 1, None);
     write_whole(&mut sink, b"abc")?;
     Ok(sink.used())
 }
@@ -166,10 +166,10 @@ pub fn counts_a_write_of_nothing<W: Sink>(sink: &mut &mut W) -> Result<usize, Si
 }
 
 /// A cut says exactly how many bytes went out.
-pub fn counts_what_went_out(room: &mut [u8], bytes: &[u8]) -> bool
+pub fn counts_what_went_out(buffer: &mut [u8], bytes: &[u8]) -> bool
     ensures { result ≡ true }
 {
-    let mut sink = MemorySink::new(room, 4096, None);
+    let mut sink = MemorySink::new(buffer, 4096, None);
     match write_whole(&mut sink, bytes) {
         Ok(()) => sink.used() == bytes.len(),
         Err(cut) => sink.used() == cut.written,
@@ -183,20 +183,20 @@ pub fn writes_nothing<W: Sink>(sink: &mut W) -> Result<(), Cut>
     write_whole(sink, &[])
 }
 
-/// A sink without room fails.
+/// A sink without buffer fails.
 pub fn fails_when_full() -> Result<usize, SinkFault>
     ensures { IsErr result }
 {
-    let mut room = [];
-    MemorySink::new(&mut room, 4096, None).write(b"a")
+    let mut buffer = [];
+    MemorySink::new(&mut buffer, 4096, None).write(b"a")
 }
 
-/// A sink takes what it has room for, and says how much: of three bytes into two, two.
-pub fn takes_what_has_room() -> Result<usize, SinkFault>
+/// A sink takes what it has buffer for, and says how much: of three bytes into two, two.
+pub fn takes_what_has_buffer() -> Result<usize, SinkFault>
     ensures { result ≡ Ok 2 }
 {
-    let mut room = [0; 2];
-    MemorySink::new(&mut room, 4096, None).write(b"abc")
+    let mut buffer = [0; 2];
+    MemorySink::new(&mut buffer, 4096, None).write(b"abc")
 }
 
 /// A failed read moves nothing: what is left is read by the next.
@@ -210,29 +210,29 @@ pub fn reads_on_after_a_failed_read() -> Result<usize, ReadFault>
 }
 
 /// A failed write takes nothing.
-pub fn takes_nothing_where_it_fails(room: &mut [u8]) -> usize
+pub fn takes_nothing_where_it_fails(buffer: &mut [u8]) -> usize
     ensures { result ≡ 0 }
 {
-    let mut sink = MemorySink::new(room, 4096, Some(1));
+    let mut sink = MemorySink::new(buffer, 4096, Some(1));
     let _failed = sink.write(b"abc");
     sink.used()
 }
 
 /// Writes are counted, and so are those that failed.
-pub fn counts_writes<'a>(room: &'a mut [u8]) -> MemorySink<'a>
-    requires { 0 < length room.old }
+pub fn counts_writes<'a>(buffer: &'a mut [u8]) -> MemorySink<'a>
+    requires { 0 < length buffer.old }
     ensures writes { ⟦<MemorySink<'a> as Sink>⟧.writes result ≡ Some 2 }
     ensures failures { ⟦<MemorySink<'a> as Sink>⟧.failures result ≡ Some 1 }
 {
-    let mut sink = MemorySink::new(room, 4096, Some(1));
+    let mut sink = MemorySink::new(buffer, 4096, Some(1));
     let _failed = sink.write(b"a");
     let _written = sink.write(b"a");
     sink
 }
 
-/// A sink before its first write shows nothing, however much room it has.
-pub fn shows_nothing_at_first(room: &mut [u8]) -> usize
+/// A sink before its first write shows nothing, however much buffer it has.
+pub fn shows_nothing_at_first(buffer: &mut [u8]) -> usize
     ensures { result ≡ 0 }
 {
-    MemorySink::new(room, 4096, None).written().len()
+    MemorySink::new(buffer, 4096, None).written().len()
 }

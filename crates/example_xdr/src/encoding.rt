@@ -25,7 +25,7 @@ pub fn encodes_the_file(
     requires kinds { schema.now.kinds ≡ file_kinds }
     requires value { tree value.now ≡ sillyprog }
     requires deep { 3 ≤ limits.depth }
-    requires room { 48 ≤ limits.bytes }
+    requires buffer { 48 ≤ limits.bytes }
     ensures { IfOk result (λ b. b.items ≡ sillyprog_bytes) }
 {
     encode(alloc, schema, KindId { place: 6 }, value, limits)
@@ -41,7 +41,7 @@ pub fn encodes_a_list(
     requires kinds { schema.now.kinds ≡ list_kinds }
     requires value { tree value.now ≡ strings }
     requires deep { 6 ≤ limits.depth }
-    requires room { 28 ≤ limits.bytes }
+    requires buffer { 28 ≤ limits.bytes }
     ensures { IfOk result (λ b. b.items ≡ strings_bytes) }
 {
     encode(alloc, schema, KindId { place: 1 }, value, limits)
@@ -92,16 +92,16 @@ pub fn writes_a_member_as_its_number(
 pub fn writes_all(
     schema: &Schema,
     value: &Value,
-    room: &mut [u8],
+    buffer: &mut [u8],
     limits: Limits,
 ) -> Option<(u32, bool)>
     requires kinds { schema.now.kinds ≡ file_kinds }
     requires value { tree value.now ≡ sillyprog }
     requires deep { 3 ≤ limits.depth }
-    requires room { 48 ≤ limits.bytes }
+    requires buffer { 48 ≤ limits.bytes }
     ensures { IfSome result (λ r. (r.0 ≡ 48) × (IsTrue r.1)) }
 {
-    let mut sink = MemorySink::new(room, 3, None);
+    let mut sink = MemorySink::new(buffer, 3, None);
     let count = encode_to(&mut sink, schema, KindId { place: 6 }, value, limits).ok()?;
     Some((count, sink.written() == SILLYPROG.as_slice()))
 }
@@ -110,16 +110,16 @@ pub fn writes_all(
 pub fn writes_the_first(
     schema: &Schema,
     value: &Value,
-    room: &mut [u8],
+    buffer: &mut [u8],
     limits: Limits,
 ) -> Option<(u32, bool)>
     requires kinds { schema.now.kinds ≡ file_kinds }
     requires value { tree value.now ≡ sillyprog }
     requires deep { 3 ≤ limits.depth }
-    requires room { 48 ≤ limits.bytes }
+    requires buffer { 48 ≤ limits.bytes }
     ensures { IfSome result (λ r. (r.0 < 48) × (IsTrue r.1)) }
 {
-    let mut sink = MemorySink::new(room, 3, Some(4));
+    let mut sink = MemorySink::new(buffer, 3, Some(4));
     let fault = encode_to(&mut sink, schema, KindId { place: 6 }, value, limits).err()?;
     let first = &SILLYPROG[..fault.written as usize];
     Some((fault.written, sink.written() == first))

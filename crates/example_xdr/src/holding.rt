@@ -1,7 +1,7 @@
 //! What a decoder and a checker hold.
 ghost use Rattle.std.specs.Prelude.{◌≡◌, ◌+◌, ◌*◌, ◌/◌, ◌≤◌, ◌<◌, ℕ, List, length, IfSome};
 ghost use Rattle.xdr_types.specs.Kinds.{kind_at, int, opaque_up_to, up_to};
-ghost use Rattle.xdr_codec.specs.Checks.{StandsFor as ChecksFor};
+ghost use Rattle.xdr_codec.specs.Checks.{RepresentsBytes as ChecksFor};
 
 use std::alloc::Global;
 use xdr_codec::laws::{each_spelling_is_one_value, held};

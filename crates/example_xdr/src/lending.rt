@@ -21,7 +21,7 @@ pub fn lends_the_file<'a>(
 ) -> Result<Vec<Lent<'a>>, DecodeFault>
     requires kinds { schema.now.kinds ≡ file_kinds }
     requires deep { 3 ≤ limits.depth }
-    requires room { 48 ≤ limits.bytes }
+    requires buffer { 48 ≤ limits.bytes }
     requires input { input.now ≡ sillyprog_bytes }
     ensures parts { IfOk result (λ ls. map entry_of ls.items ≡ sillyprog_entries) }
     ensures bytes { IfOk result (λ ls. bytes_of_each ls.items ≡ sillyprog_lent) }

@@ -26,7 +26,7 @@ pub fn too_deep() -> bool
     Limits::new(4097, 4).is_some()
 }
 
-/// A root has depth 1 already, so a depth of 0 would leave room for nothing.
+/// A root has depth 1 already, so a depth of 0 would leave buffer for nothing.
 pub fn no_depth() -> bool
     ensures { result ≡ false }
 {

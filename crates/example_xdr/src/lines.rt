@@ -22,7 +22,7 @@ pub fn shows_the_file(
     requires kinds { schema.now.kinds ≡ file_kinds }
     requires value { tree value.now ≡ sillyprog }
     requires deep { 3 ≤ limits.depth }
-    requires room { 48 ≤ limits.bytes }
+    requires buffer { 48 ≤ limits.bytes }
     ensures { IfOk result (λ b. b.items ≡ sillyprog_lines) }
 {
     show(alloc, schema, KindId { place: 6 }, value, limits)
@@ -37,7 +37,7 @@ pub fn shows_the_lent_file(
 ) -> Option<Vec<u8>>
     requires kinds { schema.now.kinds ≡ file_kinds }
     requires deep { 3 ≤ limits.depth }
-    requires room { 48 ≤ limits.bytes }
+    requires buffer { 48 ≤ limits.bytes }
     requires input { input.now ≡ sillyprog_bytes }
     ensures { IfSome result (λ b. b.items ≡ sillyprog_lines) }
 {

@@ -3,7 +3,7 @@ ghost use Rattle.std.specs.Prelude.{◌≡◌, ◌≤◌, ◌<◌, [], ◌++◌,
 ghost use Rattle.xdr_types.specs.Kinds.{kind_at, hyper, int, opaque_up_to};
 ghost use Rattle.xdr_types.specs.View.{tree};
 ghost use Rattle.xdr_codec.specs.Settings.{kinds_of, kind_of, limits_of};
-ghost use Rattle.xdr_codec.specs.Stands.{StandsFor, IsDone, HasFailed};
+ghost use Rattle.xdr_codec.specs.Represents.{RepresentsBytes, IsDone, HasFailed};
 ghost use Rattle.xdr_stream.specs.declared.fault.Reason.TheVariants.{NoMemory};
 ghost use Rattle.xdr_stream.specs.declared.reader.Progress.TheVariants.{Done, More};
 ghost use Rattle.example_xdr.specs.Rfc.{file_kinds, sillyprog, sillyprog_bytes};
@@ -22,7 +22,7 @@ pub fn joins_two_pieces(
 ) -> Result<Value, DecodeFault>
     requires kinds { schema.now.kinds ≡ file_kinds }
     requires deep { 3 ≤ limits.depth }
-    requires room { 48 ≤ limits.bytes }
+    requires buffer { 48 ≤ limits.bytes }
     requires input { first.now ++ second.now ≡ sillyprog_bytes }
     ensures value { IfOk result (λ v. tree v ≡ sillyprog) }
     ensures taken { IfErr result (λ f. f.why ≡ NoMemory) }
@@ -69,7 +69,7 @@ pub fn waits_for_the_rest(
 
 // The first half of a hyper integer, to a decoder that was given no byte.
 fn begins_a_hyper(decoder: &mut Decoder<'_>) -> Result<Progress, DecodeFault>
-    requires fresh { StandsFor decoder.old [] }
+    requires fresh { RepresentsBytes decoder.old [] }
     requires kind { kind_at (kinds_of decoder.old) (kind_of decoder.old).place ≡ hyper }
     requires limit { 8 ≤ (limits_of decoder.old).bytes }
     requires depth { 1 ≤ (limits_of decoder.old).depth }
@@ -174,8 +174,8 @@ fn refuses_twice(
     first: &[u8],
     second: &[u8],
 ) -> Option<(DecodeFault, bool)>
-    ensures failed { IfSome result (λ told. HasFailed decoder.new told.0) }
-    ensures same { IfSome result (λ told. IsTrue told.1) }
+    ensures failed { IfSome result (λ reported. HasFailed decoder.new reported.0) }
+    ensures same { IfSome result (λ reported. IsTrue reported.1) }
 {
     let fault = decoder.feed(first).err()?;
     let again = decoder.feed(second).err()?;

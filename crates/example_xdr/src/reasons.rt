@@ -8,7 +8,7 @@ ghost use Rattle.xdr_types.specs.Laws.{EachSpellingIsOneValue};
 ghost use Rattle.xdr_laws.specs.Laws.{OneOutcome, SameParts, GoesOn};
 ghost use Rattle.xdr_stream.specs.declared.fault.Reason.TheVariants as reason;
 ghost use Rattle.example_xdr.specs.Rfc.{file_kinds, arm, part};
-ghost use Rattle.example_xdr.specs.Told.{fault_of, IsNone, Says, EachSays};
+ghost use Rattle.example_xdr.specs.Reported.{fault_of, IsNone, Says, EachSays};
 
 use std::alloc::Global;
 use xdr_codec::laws::{each_spelling_is_one_value, goes_on, one_outcome, same_parts};
@@ -48,7 +48,7 @@ fn fed(
 }
 
 // The faults of all three calls. Where decoding ends without a value, each says how.
-fn told(alloc: Global, schema: &Schema, kind: KindId, limits: Limits, input: &[u8]) -> Faults
+fn reported(alloc: Global, schema: &Schema, kind: KindId, limits: Limits, input: &[u8]) -> Faults
     requires { kind.place < length schema.now.kinds }
     ensures { (e : Ending) → IsNone e → Outcome schema.now.kinds kind.place limits input.now e
         → EachSays (fault_of (length input.now) e) result }
@@ -77,7 +77,7 @@ fn laws(schema: &Schema, limits: Limits)
 }
 
 /// Two is no boolean: `BadBool` at its unit (RFC 4506 section 4.4).
-pub fn tells_a_bad_boolean(
+pub fn reports_a_bad_boolean(
     alloc: Global,
     schema: &Schema,
     kind: KindId,
@@ -90,11 +90,11 @@ pub fn tells_a_bad_boolean(
     ensures { EachSays (record { why = reason.BadBool; at = 0 }) result }
 {
     laws(schema, limits);
-    told(alloc, schema, kind, limits, input)
+    reported(alloc, schema, kind, limits, input)
 }
 
 /// Nor a flag of an optional (RFC 4506 section 4.19).
-pub fn tells_a_bad_flag(
+pub fn reports_a_bad_flag(
     alloc: Global,
     schema: &Schema,
     kind: KindId,
@@ -108,11 +108,11 @@ pub fn tells_a_bad_flag(
     ensures { EachSays (record { why = reason.BadBool; at = 0 }) result }
 {
     laws(schema, limits);
-    told(alloc, schema, kind, limits, input)
+    reported(alloc, schema, kind, limits, input)
 }
 
 /// A number that no member has, here 3 of the file's kinds: `BadNumbered` at its unit (RFC 4506 section 4.3).
-pub fn tells_a_number_without_a_name(
+pub fn reports_a_number_without_a_name(
     alloc: Global,
     schema: &Schema,
     limits: Limits,
@@ -123,11 +123,11 @@ pub fn tells_a_number_without_a_name(
     ensures { EachSays (record { why = reason.BadNumbered; at = 0 }) result }
 {
     laws(schema, limits);
-    told(alloc, schema, KindId { place: 0 }, limits, input)
+    reported(alloc, schema, KindId { place: 0 }, limits, input)
 }
 
 /// A discriminant without an arm, here 2 beside `case 1`: `BadCase` at its unit (RFC 4506 section 4.15).
-pub fn tells_a_discriminant_without_an_arm(
+pub fn reports_a_discriminant_without_an_arm(
     alloc: Global,
     schema: &Schema,
     kind: KindId,
@@ -143,11 +143,11 @@ pub fn tells_a_discriminant_without_an_arm(
     ensures { EachSays (record { why = reason.BadCase; at = 0 }) result }
 {
     laws(schema, limits);
-    told(alloc, schema, kind, limits, input)
+    reported(alloc, schema, kind, limits, input)
 }
 
 /// A discriminant that is no boolean, where the union asks for one: `BadBool` at its unit (RFC 4506 section 4.15).
-pub fn tells_a_bad_boolean_discriminant(
+pub fn reports_a_bad_boolean_discriminant(
     alloc: Global,
     schema: &Schema,
     kind: KindId,
@@ -164,11 +164,11 @@ pub fn tells_a_bad_boolean_discriminant(
     ensures { EachSays (record { why = reason.BadBool; at = 0 }) result }
 {
     laws(schema, limits);
-    told(alloc, schema, kind, limits, input)
+    reported(alloc, schema, kind, limits, input)
 }
 
 /// A length above its maximum: `TooLong` at its unit, from its fourth byte on (RFC 4506 section 4.10).
-pub fn tells_a_length_above_the_maximum(
+pub fn reports_a_length_above_the_maximum(
     alloc: Global,
     schema: &Schema,
     kind: KindId,
@@ -181,11 +181,11 @@ pub fn tells_a_length_above_the_maximum(
     ensures { EachSays (record { why = reason.TooLong; at = 0 }) result }
 {
     laws(schema, limits);
-    told(alloc, schema, kind, limits, input)
+    reported(alloc, schema, kind, limits, input)
 }
 
 /// A count above its maximum: the same (RFC 4506 section 4.13).
-pub fn tells_a_count_above_the_maximum(
+pub fn reports_a_count_above_the_maximum(
     alloc: Global,
     schema: &Schema,
     kind: KindId,
@@ -199,11 +199,11 @@ pub fn tells_a_count_above_the_maximum(
     ensures { EachSays (record { why = reason.TooLong; at = 0 }) result }
 {
     laws(schema, limits);
-    told(alloc, schema, kind, limits, input)
+    reported(alloc, schema, kind, limits, input)
 }
 
 /// Padding that is not zero: `BadPadding` at the unit in which it stands, here that of `abc` (RFC 4506 section 3).
-pub fn tells_other_padding(
+pub fn reports_other_padding(
     alloc: Global,
     schema: &Schema,
     kind: KindId,
@@ -217,11 +217,11 @@ pub fn tells_other_padding(
     ensures { EachSays (record { why = reason.BadPadding; at = 4 }) result }
 {
     laws(schema, limits);
-    told(alloc, schema, kind, limits, input)
+    reported(alloc, schema, kind, limits, input)
 }
 
 /// A field below the limit on depth: `TooDeep` at the place where it is due, before any byte here.
-pub fn tells_a_field_below_the_limit(
+pub fn reports_a_field_below_the_limit(
     alloc: Global,
     schema: &Schema,
     limits: Limits,
@@ -231,11 +231,11 @@ pub fn tells_a_field_below_the_limit(
     requires depth { limits.depth ≡ 1 }
     ensures { EachSays (record { why = reason.TooDeep; at = 0 }) result }
 {
-    told(alloc, schema, KindId { place: 6 }, limits, input)
+    reported(alloc, schema, KindId { place: 6 }, limits, input)
 }
 
 /// A value that is not whole at the limit on bytes: `TooLarge` at the limit, here with four of eight bytes missing.
-pub fn tells_more_than_the_limit(
+pub fn reports_more_than_the_limit(
     alloc: Global,
     schema: &Schema,
     kind: KindId,
@@ -249,11 +249,11 @@ pub fn tells_more_than_the_limit(
     ensures { EachSays (record { why = reason.TooLarge; at = 8 }) result }
 {
     laws(schema, limits);
-    told(alloc, schema, kind, limits, input)
+    reported(alloc, schema, kind, limits, input)
 }
 
 /// Bytes that end inside the value: `Truncated` at their count, here with four of nine characters missing.
-pub fn tells_a_cut_string(
+pub fn reports_a_cut_string(
     alloc: Global,
     schema: &Schema,
     kind: KindId,
@@ -267,5 +267,5 @@ pub fn tells_a_cut_string(
     ensures { EachSays (record { why = reason.Truncated; at = 9 }) result }
 {
     laws(schema, limits);
-    told(alloc, schema, kind, limits, input)
+    reported(alloc, schema, kind, limits, input)
 }

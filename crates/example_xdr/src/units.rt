@@ -89,7 +89,7 @@ pub fn reads_padding_of_zeros_only(alloc: Global, bytes: &[u8], size: u32) -> Op
 }
 
 /// One is no zero.
-pub fn tells_zeros() -> (bool, bool)
+pub fn reports_zeros() -> (bool, bool)
     ensures { result ≡ (true, false) }
 {
     (are_zeros(&[0, 0]), are_zeros(&[0, 1]))

@@ -1,13 +1,13 @@
 -- What the status of a failure says.
 use Rattle.std.proofs.Common.{◌≡◌, ◌≤◌, ◌⊎◌, inl, inr, ℕ, List, Option, Some, Result, ap, ◌∙◌, arith}
-use Rattle.xdr_io.specs.Told.{Counts}
+use Rattle.xdr_io.specs.Reported.{Counts}
 use Rattle.rpc_message.specs.declared.message.Reply.{Reply}
 use Rattle.rpc_engine.specs.declared.fault.ClientFault.{ClientFault}
 use Rattle.oncrpc_tasks.specs.declared.failure.Failure.{Failure}
 use Rattle.oncrpc_tasks.specs.declared.failure.Failure.TheVariants as failure
 use Rattle.oncrpc_tasks.specs.Status.{failure_status}
 use Rattle.oncrpc_service.specs.Infos.{failure_of}
-use Rattle.oncrpc_service.specs.InfoEnds.{DeviceFails, TellsInPart}
+use Rattle.oncrpc_service.specs.InfoEnds.{DeviceFails, ReportsInPart}
 
 -- what made a failure: the exchange, memory, or a write under what the answer says
 abbrev pub Made : (vers : ℕ) → Result Reply ClientFault → Failure → (unprinted : Type 0)
@@ -15,7 +15,7 @@ abbrev pub Made : (vers : ℕ) → Result Reply ClientFault → Failure → (unp
 Made vers answer f unprinted taken taken' lost lost' =
     ((failure_of answer ≡ Some f) × unprinted)
     ⊎ (((f ≡ failure.NoMemory) × unprinted)
-    ⊎ ((f ≡ failure.Write) × TellsInPart vers answer taken taken' × Counts 1 lost lost'))
+    ⊎ ((f ≡ failure.Write) × ReportsInPart vers answer taken taken' × Counts 1 lost lost'))
 
 pub not_done : (f : Failure) (s : ℕ) → s ≡ failure_status f → s ≤ 1 → ⊥
 not_done failure.Read s e low = omega (arith, e, low)
@@ -33,8 +33,8 @@ pub device_failed : (vers : ℕ) (answer : Result Reply ClientFault) (f : Failur
     (taken taken' : Option (List ℕ)) (lost lost' : Option ℕ) (s : ℕ) → s ≡ failure_status f
     → Made vers answer f unprinted taken taken' lost lost' → s ≡ 3
     → DeviceFails vers answer unprinted taken taken' lost lost'
-device_failed vers answer f unprinted taken taken' lost lost' s e (inl (is, kept)) three = inl ((f, is), kept)
-device_failed vers answer f unprinted taken taken' lost lost' s e (inr (inl (is, kept))) three =
+device_failed vers answer f unprinted taken taken' lost lost' s e (inl (is, retained)) three = inl ((f, is), retained)
+device_failed vers answer f unprinted taken taken' lost lost' s e (inr (inl (is, retained))) three =
     let four : s ≡ 4 = e ∙ ap failure_status is in absurd (omega (arith, four, three))
 device_failed vers answer f unprinted taken taken' lost lost' s e (inr (inr (is, part, count))) three =
     inr (part, count)
@@ -42,7 +42,7 @@ device_failed vers answer f unprinted taken taken' lost lost' s e (inr (inr (is,
 pub wanted : (vers : ℕ) (answer : Result Reply ClientFault) (f : Failure) (unprinted : Type 0)
     (taken taken' : Option (List ℕ)) (lost lost' : Option ℕ) (s : ℕ) → s ≡ failure_status f
     → Made vers answer f unprinted taken taken' lost lost' → s ≡ 4 → unprinted
-wanted vers answer f unprinted taken taken' lost lost' s e (inl (is, kept)) four = kept
-wanted vers answer f unprinted taken taken' lost lost' s e (inr (inl (is, kept))) four = kept
+wanted vers answer f unprinted taken taken' lost lost' s e (inl (is, retained)) four = retained
+wanted vers answer f unprinted taken taken' lost lost' s e (inr (inl (is, retained))) four = retained
 wanted vers answer f unprinted taken taken' lost lost' s e (inr (inr (is, part, count))) four =
     let three : s ≡ 3 = e ∙ ap failure_status is in absurd (omega (arith, three, four))

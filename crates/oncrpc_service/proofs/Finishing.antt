@@ -2,13 +2,13 @@
 use Rattle.std.proofs.Common.{◌≡◌, ℕ, ◌+◌, ◌<◌, List, [], ◌∷◌, ◌++◌, length, Result, Ok, Err}
 use Rattle.std.proofs.Common.{Bool, true, false, ◌==◌, if◌then◌else◌, IfOk, IfErr, OnOk, refl, ap, ◌∙◌, subst}
 use Rattle.std.proofs.Common.{arith, length-append, codes, decimal}
-use Rattle.xdr_io.specs.Told.{Counts}
+use Rattle.xdr_io.specs.Reported.{Counts}
 use Rattle.xdr_io.proofs.Chained.{Appends-none, Appends-trans, Counts-trans, Counts-none}
 use Rattle.registry_rows.specs.Rows.{Row}
 use Rattle.rpc_engine.specs.declared.fault.DatagramFault.TheVariants as fault
 use Rattle.rpc_engine.specs.Datagrams.{ServesDatagrams, StopsDatagrams, receives_failed, sends_failed}
 use Rattle.oncrpc_tasks.specs.declared.failure.Failure.{Failure}
-use Rattle.oncrpc_service.specs.Datagrams.{Ended, Finishes, FinishesEach, Telling, datagram_line, datagram_lines}
+use Rattle.oncrpc_service.specs.Datagrams.{Ended, Finishes, FinishesEach, Reporting, datagram_line, datagram_lines}
 use Rattle.oncrpc_service.specs.DatagramEnds.{Desk, HasFinished, HasBroken, HasFinishedOne, HasLostLine}
 use Rattle.oncrpc_service.specs.Written.{IsCut, IsPrinted}
 use Rattle.oncrpc_service.proofs.Texts.{begun, cut_then, numbered_then}
@@ -20,11 +20,11 @@ lines_then n es e counted =
     let number : n + 1 ≡ 1 + length es = omega (arith, counted) in
     ap (λ (k : ℕ). datagram_lines es ++ datagram_line k e) number ∙ numbered_then datagram_line 1 es e
 
-each_then : (rows mid new : List Row) (a b c : Telling) (es : List Ended) (e : Ended) → FinishesEach rows a es mid b
+each_then : (rows mid new : List Row) (a b c : Reporting) (es : List Ended) (e : Ended) → FinishesEach rows a es mid b
     → Finishes mid new b c e → FinishesEach rows a (es ++ e ∷ []) new c
 each_then rows mid new a b c [] e each next =
     let first = subst (λ (r : List Row). Finishes r new b c e) each.0 next in
-    (new, (c, (subst (λ (t : Telling). Finishes rows new t c e) each.1 first, (refl, refl))))
+    (new, (c, (subst (λ (t : Reporting). Finishes rows new t c e) each.1 first, (refl, refl))))
 each_then rows mid new a b c (d ∷ es) e each next =
     (each.0, (each.1.0, (each.1.1.0, each_then each.0 mid new each.1.0 b c es e each.1.1.1 next)))
 
@@ -70,7 +70,7 @@ breaks desk rows mid new p q r o x y n count why few done one =
 
 -- ---- one datagram
 
-pub finishes : (rows new : List Row) (old now : Telling) (e : Ended)
+pub finishes : (rows new : List Row) (old now : Reporting) (e : Ended)
     → IfOk e (λ s. ServesDatagrams 1 rows new old.left now.left old.sent now.sent s)
     → IfErr e (λ f. StopsDatagrams 1 rows new old.left now.left old.sent now.sent f)
     → OnOk e (Counts 0 old.unreceived now.unreceived × Counts 0 old.unsent now.unsent)
@@ -81,7 +81,7 @@ finishes rows new old now (Ok s) served stopped none one = (served, none.0, none
 finishes rows new old now (Err f) served stopped none one = (stopped, one.0, one.1)
 
 pub one_finished : {P O : Type 0} (desk : Desk P O) (n : ℕ) (rows new : List Row) (p q : P) (o x : O) (e : Ended)
-    (r : Result (Unit {0}) Failure) → Finishes rows new (desk.tells p) (desk.tells q) e
+    (r : Result (Unit {0}) Failure) → Finishes rows new (desk.reports p) (desk.reports q) e
     → IsPrinted (datagram_line n e) (desk.taken o) (desk.taken x) (desk.lost o) (desk.lost x) r
     → OnOk r (HasFinishedOne n desk rows new p q o x)
 one_finished desk n rows new p q o x e (Ok u) finished line =
@@ -89,7 +89,7 @@ one_finished desk n rows new p q o x e (Ok u) finished line =
 one_finished desk n rows new p q o x e (Err why) finished line = tt
 
 pub one_lost : {P O : Type 0} (desk : Desk P O) (n : ℕ) (rows new : List Row) (p q : P) (o x : O) (e : Ended)
-    (r : Result (Unit {0}) Failure) → Finishes rows new (desk.tells p) (desk.tells q) e
+    (r : Result (Unit {0}) Failure) → Finishes rows new (desk.reports p) (desk.reports q) e
     → IsPrinted (datagram_line n e) (desk.taken o) (desk.taken x) (desk.lost o) (desk.lost x) r
     → IfErr r (λ why. HasLostLine n desk rows new p q o x why)
 one_lost desk n rows new p q o x e (Ok u) finished line = tt

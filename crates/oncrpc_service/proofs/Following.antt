@@ -4,7 +4,7 @@ use Rattle.std.proofs.Common.{codes, decimal, Result, Ok, Err, IfOk, IfErr, OnOk
 use Rattle.std.proofs.Common.{append_assoc, length-append}
 use Rattle.std.proofs.lemmas.List.{append-nil}
 use Rattle.std.specs.Io.KnownBytes.{Appends}
-use Rattle.xdr_io.specs.Told.{Counts}
+use Rattle.xdr_io.specs.Reported.{Counts}
 use Rattle.xdr_io.proofs.Chained.{Appends-trans, Counts-trans, Counts-none}
 use Rattle.rpc_record.specs.declared.fault.RecordFault.TheVariants as flaw
 use Rattle.registry_rows.specs.Rows.{Row}

@@ -2,6 +2,6 @@ pub mod Ending
 pub mod Finishing
 pub mod Following
 pub mod Lists
-pub mod Telling
+pub mod Reporting
 pub mod Texts
 pub mod Walks

@@ -4,7 +4,7 @@ use Rattle.std.proofs.Common.{append_assoc, length-append, arith}
 use Rattle.std.proofs.lemmas.List.{append-nil}
 use Rattle.std.proofs.Math.Seq.{take-append-add}
 use Rattle.std.specs.Io.KnownBytes.{Appends}
-use Rattle.xdr_io.specs.Told.{Counts}
+use Rattle.xdr_io.specs.Reported.{Counts}
 use Rattle.xdr_io.proofs.Chained.{Appends-trans, Counts-trans}
 use Rattle.oncrpc_tasks.specs.declared.failure.Failure.{Failure}
 use Rattle.oncrpc_tasks.specs.declared.failure.Failure.TheVariants as failure

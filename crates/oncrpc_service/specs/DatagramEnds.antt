@@ -1,24 +1,24 @@
 -- How answering datagrams ends.
 use Rattle.std.specs.Prelude.{◌≡◌, ◌⊎◌, ℕ, ◌≤◌, List, length, Option}
 use Rattle.std.specs.Io.KnownBytes.{Appends}
-use Rattle.xdr_io.specs.Told.{Counts}
+use Rattle.xdr_io.specs.Reported.{Counts}
 use Rattle.registry_rows.specs.Rows.{Row}
-use Rattle.rpc_engine.specs.Ports.{Told}
+use Rattle.rpc_engine.specs.Ports.{Reported}
 use Rattle.oncrpc_tasks.specs.declared.failure.Failure.{Failure}
-use Rattle.oncrpc_service.specs.Datagrams.{Ended, Finishes, FinishesEach, Telling, datagram_line, datagram_lines}
+use Rattle.oncrpc_service.specs.Datagrams.{Ended, Finishes, FinishesEach, Reporting, datagram_line, datagram_lines}
 use Rattle.oncrpc_service.specs.Written.{InPart, IsCut}
 
 -- What a port and a writer tell, and what failed.
 pub record Desk (P O : Type 0) : Type 0 where
-  pub tells : P → Telling
+  pub reports : P → Reporting
   pub taken : O → Option (List ℕ)
   pub lost : O → Option ℕ
 
 -- the same by what each of them tells
-abbrev pub desk_of : {P O : Type 0} → (left sent : P → Told) → (unreceived unsent : P → Option ℕ)
+abbrev pub desk_of : {P O : Type 0} → (left sent : P → Reported) → (unreceived unsent : P → Option ℕ)
     → (taken : O → Option (List ℕ)) → (lost : O → Option ℕ) → Desk P O
 desk_of left sent unreceived unsent taken lost = record {
-  tells = λ p. record { left = left p; sent = sent p; unreceived = unreceived p; unsent = unsent p };
+  reports = λ p. record { left = left p; sent = sent p; unreceived = unreceived p; unsent = unsent p };
   taken = taken;
   lost = lost;
 }
@@ -28,7 +28,7 @@ desk_of left sent unreceived unsent taken lost = record {
 pub record DatagramsEnd {P O F : Type 0} (count : ℕ) (desk : Desk P O) (rows new : List Row) (port port' : P)
     (output output' : O) (faults faults' : F) (status : ℕ) : Type 0 where
   pub ended : List Ended
-  pub finished : FinishesEach rows (desk.tells port) ended new (desk.tells port')
+  pub finished : FinishesEach rows (desk.reports port) ended new (desk.reports port')
   pub few : length ended ≤ count
   pub known : (status ≡ 0) ⊎ ((status ≡ 3) ⊎ (status ≡ 4))
   pub all : status ≡ 0 → length ended ≡ count
@@ -45,7 +45,7 @@ pub record DatagramsEnd {P O F : Type 0} (count : ℕ) (desk : Desk P O) (rows n
 pub record HasFinished {P O : Type 0} (count : ℕ) (desk : Desk P O) (rows new : List Row) (port port' : P)
     (output output' : O) : Type 0 where
   pub ended : List Ended
-  pub finished : FinishesEach rows (desk.tells port) ended new (desk.tells port')
+  pub finished : FinishesEach rows (desk.reports port) ended new (desk.reports port')
   pub counted : length ended ≡ count
   pub lines : Appends (desk.taken output) (desk.taken output') (datagram_lines ended)
   pub unlost : Counts 0 (desk.lost output) (desk.lost output')
@@ -54,7 +54,7 @@ pub record HasFinished {P O : Type 0} (count : ℕ) (desk : Desk P O) (rows new 
 pub record HasBroken {P O : Type 0} (count : ℕ) (desk : Desk P O) (rows new : List Row) (port port' : P)
     (output output' : O) (why : Failure) : Type 0 where
   pub ended : List Ended
-  pub finished : FinishesEach rows (desk.tells port) ended new (desk.tells port')
+  pub finished : FinishesEach rows (desk.reports port) ended new (desk.reports port')
   pub few : length ended ≤ count
   pub cut : IsCut (datagram_lines ended) (desk.taken output) (desk.taken output') (desk.lost output)
       (desk.lost output') why
@@ -63,7 +63,7 @@ pub record HasBroken {P O : Type 0} (count : ℕ) (desk : Desk P O) (rows new : 
 pub record HasFinishedOne {P O : Type 0} (number : ℕ) (desk : Desk P O) (rows new : List Row) (port port' : P)
     (output output' : O) : Type 0 where
   pub ended : Ended
-  pub finished : Finishes rows new (desk.tells port) (desk.tells port') ended
+  pub finished : Finishes rows new (desk.reports port) (desk.reports port') ended
   pub line : Appends (desk.taken output) (desk.taken output') (datagram_line number ended)
   pub unlost : Counts 0 (desk.lost output) (desk.lost output')
 
@@ -71,6 +71,6 @@ pub record HasFinishedOne {P O : Type 0} (number : ℕ) (desk : Desk P O) (rows 
 pub record HasLostLine {P O : Type 0} (number : ℕ) (desk : Desk P O) (rows new : List Row) (port port' : P)
     (output output' : O) (why : Failure) : Type 0 where
   pub ended : Ended
-  pub finished : Finishes rows new (desk.tells port) (desk.tells port') ended
+  pub finished : Finishes rows new (desk.reports port) (desk.reports port') ended
   pub cut : IsCut (datagram_line number ended) (desk.taken output) (desk.taken output') (desk.lost output)
       (desk.lost output') why

@@ -1,7 +1,7 @@
 -- How asking a registry for its rows ends.
 use Rattle.std.specs.Prelude.{◌≡◌, ◌⊎◌, ℕ, ◌≤◌, List, Option, Some, Result, Err}
 use Rattle.std.specs.Io.KnownBytes.{Appends}
-use Rattle.xdr_io.specs.Told.{Counts, CountsAtMost}
+use Rattle.xdr_io.specs.Reported.{Counts, CountsAtMost}
 use Rattle.rpc_message.specs.declared.message.Reply.{Reply}
 use Rattle.rpc_message.specs.Spelling.{call}
 use Rattle.rpc_engine.specs.declared.fault.ClientFault.{ClientFault}
@@ -10,7 +10,7 @@ use Rattle.rpc_engine.specs.DatagramExchange.{ExchangesDatagram, read_failures}
 use Rattle.rpc_engine.specs.Exchanged.{Exchanged, Wrote, write_failures}
 use Rattle.oncrpc_tasks.specs.declared.failure.Failure.{Failure}
 use Rattle.oncrpc_service.specs.DatagramEnds.{Desk}
-use Rattle.oncrpc_service.specs.Infos.{Tells, dump_call, failure_of}
+use Rattle.oncrpc_service.specs.Infos.{Reports, dump_call, failure_of}
 use Rattle.oncrpc_service.specs.Written.{InPart}
 
 -- What a connection and a writer tell: what is left to be read and what was sent, the reads, and what failed.
@@ -24,10 +24,10 @@ pub record Line (I W O : Type 0) : Type 0 where
   pub lost : O → Option ℕ
 
 -- The beginning of what an answer says was printed, and not all of it.
-pub record TellsInPart (vers : ℕ) (answer : Result Reply ClientFault) (taken taken' : Option (List ℕ)) : Type 0 where
+pub record ReportsInPart (vers : ℕ) (answer : Result Reply ClientFault) (taken taken' : Option (List ℕ)) : Type 0 where
   pub ended : ℕ
   pub text : List ℕ
-  pub tells : Tells vers answer ended text
+  pub reports : Reports vers answer ended text
   pub begun : InPart text taken taken'
 
 -- What a device did: the exchange met it and nothing was printed, or the output failed under what the answer says.
@@ -35,13 +35,13 @@ abbrev pub DeviceFails : (vers : ℕ) → Result Reply ClientFault → (unprinte
     → (taken taken' : Option (List ℕ)) → (lost lost' : Option ℕ) → Type 0
 DeviceFails vers answer unprinted taken taken' lost lost' =
     (((f : Failure) × (failure_of answer ≡ Some f)) × unprinted)
-    ⊎ (TellsInPart vers answer taken taken' × Counts 1 lost lost')
+    ⊎ (ReportsInPart vers answer taken taken' × Counts 1 lost lost')
 
 -- What an answer says was printed, and this is what the status says of the output and of the writer for faults.
 pub record AnswerEnds {O F : Type 0} (vers : ℕ) (answer : Result Reply ClientFault) (taken : O → Option (List ℕ))
     (lost : O → Option ℕ) (output output' : O) (faults faults' : F) (status : ℕ) : Type 0 where
   pub known : (status ≤ 1) ⊎ ((status ≡ 3) ⊎ (status ≡ 4))
-  pub printed : status ≤ 1 → (text : List ℕ) × Tells vers answer status text
+  pub printed : status ≤ 1 → (text : List ℕ) × Reports vers answer status text
       × Appends (taken output) (taken output') text
   pub unlost : status ≤ 1 → Counts 0 (lost output) (lost output')
   pub silent : status ≤ 1 → faults' ≡ faults
@@ -65,8 +65,8 @@ pub record InfoEnds {I W O F : Type 0} (vers : ℕ) (line : Line I W O) (reader 
 pub record DatagramInfoEnds {P O F : Type 0} (vers : ℕ) (desk : Desk P O) (port port' : P)
     (output output' : O) (faults faults' : F) (status : ℕ) : Type 0 where
   pub answer : Result Reply ClientFault
-  pub exchanged : ExchangesDatagram 1 (call (dump_call vers)) (desk.tells port).left (desk.tells port').left
-      (desk.tells port).sent (desk.tells port').sent answer
-  pub unreceived : Counts (read_failures answer) (desk.tells port).unreceived (desk.tells port').unreceived
-  pub unsent : Counts (write_failures answer) (desk.tells port).unsent (desk.tells port').unsent
+  pub exchanged : ExchangesDatagram 1 (call (dump_call vers)) (desk.reports port).left (desk.reports port').left
+      (desk.reports port).sent (desk.reports port').sent answer
+  pub unreceived : Counts (read_failures answer) (desk.reports port).unreceived (desk.reports port').unreceived
+  pub unsent : Counts (write_failures answer) (desk.reports port).unsent (desk.reports port').unsent
   pub ends : AnswerEnds vers answer desk.taken desk.lost output output' faults faults' status

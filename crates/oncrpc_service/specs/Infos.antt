@@ -50,16 +50,16 @@ BeginsWith kind bytes t =
 
 -- The status and the text of results: a header and a line for each row with which they begin, or why they begin with
 -- none, by the reason and the place of their outcome as the kind of the rows.
-pub data TellsRows (vers : ℕ) (results : List ℕ) : (status : ℕ) → (text : List ℕ) → Type 0 where
+pub data ReportsRows (vers : ℕ) (results : List ℕ) : (status : ℕ) → (text : List ℕ) → Type 0 where
   rows : (rs : List Row) → vers ≢ 2 → BeginsWith 14 results (rpcb_list rs)
-      → TellsRows vers results 0 (header vers ++ flat_map row_line rs)
+      → ReportsRows vers results 0 (header vers ++ flat_map row_line rs)
   mappings : (ms : List Mapping) → vers ≡ 2 → BeginsWith 18 results (pmap_list ms)
-      → TellsRows vers results 0 (header vers ++ flat_map mapping_line ms)
+      → ReportsRows vers results 0 (header vers ++ flat_map mapping_line ms)
   refused : (f : DecodeFault) → f.why ≢ reason.NoMemory
       → EndsWith dir_kinds (list_place vers) dump_limits results f
       → IsRefused (HasNoneWithin dir_kinds (list_place vers) dump_limits) f.why results → f.at ≤ length results
       → (f.why ≡ reason.Truncated → f.at ≡ length results)
-      → TellsRows vers results 1 (line (answer.Refused f))
+      → ReportsRows vers results 1 (line (answer.Refused f))
 
 -- the line of a status without results: its name with its numbers (RFC 5531 section 9)
 abbrev pub status_line : StatusView → List ℕ
@@ -78,14 +78,14 @@ denied_line (RpcMismatch low high) =
 denied_line (AuthError stat) = codes "refused AUTH_ERROR " ++ decimal stat ++ codes "\n"
 
 -- what is printed of what an accepted call came to
-abbrev pub TellsStatus : (vers : ℕ) → StatusView → (status : ℕ) → (text : List ℕ) → Type 0
-TellsStatus vers (Success results) status text = TellsRows vers results status text
-TellsStatus vers s status text = (status ≡ 1) × (text ≡ status_line s)
+abbrev pub ReportsStatus : (vers : ℕ) → StatusView → (status : ℕ) → (text : List ℕ) → Type 0
+ReportsStatus vers (Success results) status text = ReportsRows vers results status text
+ReportsStatus vers s status text = (status ≡ 1) × (text ≡ status_line s)
 
 -- what is printed of a reply
-abbrev pub TellsReply : (vers : ℕ) → ReplyView → (status : ℕ) → (text : List ℕ) → Type 0
-TellsReply vers (Accepted xid verf s) status text = TellsStatus vers s status text
-TellsReply vers (Denied xid w) status text = (status ≡ 1) × (text ≡ denied_line w)
+abbrev pub ReportsReply : (vers : ℕ) → ReplyView → (status : ℕ) → (text : List ℕ) → Type 0
+ReportsReply vers (Accepted xid verf s) status text = ReportsStatus vers s status text
+ReportsReply vers (Denied xid w) status text = (status ≡ 1) × (text ≡ denied_line w)
 
 -- the name of why bytes are no reply
 abbrev pub reply_fault_name : ReplyFault → List ℕ
@@ -115,9 +115,9 @@ IsLine None text = ⊥
 IsLine (Some line) text = text ≡ line
 
 -- the status and the text of a registry's answer
-abbrev pub Tells : (vers : ℕ) → Result Reply ClientFault → (status : ℕ) → (text : List ℕ) → Type 0
-Tells vers (Ok reply) status text = TellsReply vers (reply_view reply) status text
-Tells vers (Err f) status text = (status ≡ 1) × IsLine (fault_line f) text
+abbrev pub Reports : (vers : ℕ) → Result Reply ClientFault → (status : ℕ) → (text : List ℕ) → Type 0
+Reports vers (Ok reply) status text = ReportsReply vers (reply_view reply) status text
+Reports vers (Err f) status text = (status ≡ 1) × IsLine (fault_line f) text
 
 -- what a device or memory did to an exchange, which then has no answer to print
 abbrev pub failure_of_record : RecordFault → Option Failure

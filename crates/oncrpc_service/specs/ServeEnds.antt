@@ -1,7 +1,7 @@
 -- How serving connections ends.
 use Rattle.std.specs.Prelude.{◌≡◌, ◌⊎◌, ℕ, ◌≤◌, ◌<◌, List, length, Option, Result, Ok, Err}
 use Rattle.std.specs.Io.KnownBytes.{Appends}
-use Rattle.xdr_io.specs.Told.{Counts}
+use Rattle.xdr_io.specs.Reported.{Counts}
 use Rattle.registry_rows.specs.Rows.{Row}
 use Rattle.oncrpc_service.specs.declared.serving.Stop.{Stop}
 use Rattle.oncrpc_service.specs.declared.serving.Stop.TheVariants as stop

@@ -2,13 +2,13 @@
 ghost use Rattle.std.specs.Prelude.{◌≡◌, ◌≢◌, ◌⊎◌, ◌++◌, ℕ, ◌≤◌, List, [], Some, IfOk, IfErr, OnOk, string_bytes};
 ghost use Rattle.std.specs.Io.KnownBytes.{Appends};
 ghost use Rattle.xdr_types.specs.View.{tree};
-ghost use Rattle.xdr_io.specs.Told.{Counts};
+ghost use Rattle.xdr_io.specs.Reported.{Counts};
 ghost use Rattle.rpc_message.specs.View.{auth_view, call_view, reply_view, status_view};
 ghost use Rattle.registry_dumps.specs.Dumps.{dump_limits};
 ghost use Rattle.oncrpc_tasks.specs.Lines.{line};
 ghost use Rattle.oncrpc_service.specs.DatagramEnds.{desk_of};
-ghost use Rattle.oncrpc_service.specs.InfoEnds.{AnswerEnds, DatagramInfoEnds, InfoEnds, TellsInPart};
-ghost use Rattle.oncrpc_service.specs.Infos.{Tells, TellsReply, TellsRows, TellsStatus, dump_call, failure_of};
+ghost use Rattle.oncrpc_service.specs.InfoEnds.{AnswerEnds, DatagramInfoEnds, InfoEnds, ReportsInPart};
+ghost use Rattle.oncrpc_service.specs.Infos.{Reports, ReportsReply, ReportsRows, ReportsStatus, dump_call, failure_of};
 ghost use Rattle.oncrpc_service.specs.Infos.{list_place};
 ghost use Rattle.oncrpc_service.specs.Rows.{header};
 ghost use Rattle.oncrpc_service.specs.Private.Nodes.{list_lines};
@@ -106,13 +106,13 @@ fn print_answer<O: Sink>(
     vers: u32,
     answer: Result<Reply, ClientFault>,
 ) -> Result<u8, Failure>
-    ensures told { IfOk result (λ status. (text : List ℕ) × Tells vers answer status text
+    ensures reported { IfOk result (λ status. (text : List ℕ) × Reports vers answer status text
         × Appends (O.taken output.old) (O.taken output.new) text) }
     ensures known { IfOk result (λ status. status ≤ 1) }
     ensures none_failed { OnOk result (Counts 0 (O.failures output.old) (O.failures output.new)) }
     ensures failed { IfErr result (λ f. ((failure_of answer ≡ Some f) × (output.new ≡ output.old))
         ⊎ (((f ≡ Failure.NoMemory) × (output.new ≡ output.old)) ⊎ ((f ≡ Failure.Write)
-        × TellsInPart vers answer (O.taken output.old) (O.taken output.new)
+        × ReportsInPart vers answer (O.taken output.old) (O.taken output.new)
         × Counts 1 (O.failures output.old) (O.failures output.new)))) }
 {
     let page = page_of(alloc, vers, answer)?;
@@ -147,7 +147,7 @@ fn no_auth(alloc: Global) -> OpaqueAuth
 
 // What is printed of the answer.
 fn page_of(alloc: Global, vers: u32, answer: Result<Reply, ClientFault>) -> Result<Page, Failure>
-    ensures told { IfOk result (λ p. Tells vers answer p.status p.text.items) }
+    ensures reported { IfOk result (λ p. Reports vers answer p.status p.text.items) }
     ensures known { IfOk result (λ p. p.status ≤ 1) }
     ensures failed { IfErr result (λ f. (failure_of answer ≡ Some f) ⊎ (f ≡ Failure.NoMemory)) }
 {
@@ -159,7 +159,7 @@ fn page_of(alloc: Global, vers: u32, answer: Result<Reply, ClientFault>) -> Resu
 
 // What is printed of a reply.
 fn reply_page(alloc: Global, vers: u32, reply: &Reply) -> Result<Page, Failure>
-    ensures told { IfOk result (λ p. TellsReply vers (reply_view reply.now) p.status p.text.items) }
+    ensures reported { IfOk result (λ p. ReportsReply vers (reply_view reply.now) p.status p.text.items) }
     ensures known { IfOk result (λ p. p.status ≤ 1) }
     ensures memory { IfErr result (λ f. f ≡ Failure.NoMemory) }
 {
@@ -175,7 +175,7 @@ fn reply_page(alloc: Global, vers: u32, reply: &Reply) -> Result<Page, Failure>
 
 // What is printed of an accepted call.
 fn status_page(alloc: Global, vers: u32, status: &Status) -> Result<Page, Failure>
-    ensures told { IfOk result (λ p. TellsStatus vers (status_view status.now) p.status p.text.items) }
+    ensures reported { IfOk result (λ p. ReportsStatus vers (status_view status.now) p.status p.text.items) }
     ensures known { IfOk result (λ p. p.status ≤ 1) }
     ensures memory { IfErr result (λ f. f ≡ Failure.NoMemory) }
 {
@@ -197,7 +197,7 @@ fn refused(line: String) -> Page
 
 // What is printed of results. What follows the rows is left out.
 fn rows_page(alloc: Global, vers: u32, results: &[u8]) -> Result<Page, Failure>
-    ensures told { IfOk result (λ p. TellsRows vers results.now p.status p.text.items) }
+    ensures reported { IfOk result (λ p. ReportsRows vers results.now p.status p.text.items) }
     ensures known { IfOk result (λ p. p.status ≤ 1) }
     ensures memory { IfErr result (λ f. f ≡ Failure.NoMemory) }
 {
@@ -210,7 +210,7 @@ fn rows_page(alloc: Global, vers: u32, results: &[u8]) -> Result<Page, Failure>
 
 // What is printed of results that begin with no rows.
 fn refusal_page(alloc: Global, fault: DecodeFault) -> Result<Page, Failure>
-    ensures told { IfOk result (λ p. (fault.why ≢ Reason.NoMemory) × (p.status ≡ 1)
+    ensures reported { IfOk result (λ p. (fault.why ≢ Reason.NoMemory) × (p.status ≡ 1)
         × (p.text.items ≡ line (Answer.Refused fault))) }
     ensures memory { IfErr result (λ f. f ≡ Failure.NoMemory) }
 {

@@ -1,6 +1,6 @@
 //! Where connections come from.
 ghost use Rattle.std.specs.Prelude.{◌≡◌, ℕ, List, Option, None, IfOk, OnErr, OnOk};
-ghost use Rattle.xdr_io.specs.Told.{Counts};
+ghost use Rattle.xdr_io.specs.Reported.{Counts};
 ghost use Rattle.oncrpc_service.specs.Listening.{Arrives};
 
 use thiserror::Error;
@@ -22,10 +22,10 @@ pub trait Listener {
     /// The port at which clients are waited for.
     ghost port_of: { Self → ℕ };
 
-    /// What the clients that still come send, each all of it, where that is told.
+    /// What the clients that still come send, each all of it, where that is reported.
     ghost waiting: { Self → Option (List (List ℕ)) } = { λ _. None };
 
-    /// How many times no connection could be had, where that is told.
+    /// How many times no connection could be had, where that is reported.
     ghost failures: { Self → Option ℕ } = { λ _. None };
 
     /// The port at which clients are waited for.

@@ -1,7 +1,7 @@
 //! Serves connections one after another, and prints a line for each.
 ghost use Rattle.std.specs.Prelude.{◌≡◌, ◌<◌, ℕ, List, IfOk, IfErr, OnOk, length};
 ghost use Rattle.std.specs.Prelude.{string_bytes};
-ghost use Rattle.xdr_io.specs.Told.{Counts};
+ghost use Rattle.xdr_io.specs.Reported.{Counts};
 ghost use Rattle.oncrpc_service.specs.Connections.{ServesNext, connection_line, listening_line, record_line};
 ghost use Rattle.oncrpc_service.specs.ServeEnds.{HasServed, HasServedOne, HasStopped, LinePrints, ServeEnds, StopsOne};
 

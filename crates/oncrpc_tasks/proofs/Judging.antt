@@ -7,12 +7,12 @@ use Rattle.xdr_types.specs.Tree.{Tree}
 use Rattle.xdr_types.specs.Outcome.{Whole}
 use Rattle.xdr_types.specs.Within.{Bounds}
 use Rattle.xdr_types.specs.declared.kind.KindId.{KindId}
-use Rattle.xdr_stream.specs.Stands.{taken, used_of, Answers}
+use Rattle.xdr_stream.specs.Represents.{taken, used_of, Answers}
 use Rattle.xdr_stream.specs.declared.fault.DecodeFault.{DecodeFault}
 use Rattle.xdr_stream.specs.declared.fault.Reason.TheVariants as reason
 use Rattle.xdr_stream.specs.declared.reader.Progress.{Progress}
 use Rattle.xdr_stream.specs.declared.reader.Progress.TheVariants.{More, Done}
-use Rattle.xdr_codec.specs.Checks.{StandsFor, HasOutcome, IsSame}
+use Rattle.xdr_codec.specs.Checks.{RepresentsBytes, HasOutcome, IsSame}
 use Rattle.xdr_codec.specs.declared.checker.Checker.{Checker}
 use Rattle.oncrpc_tasks.specs.declared.answer.Answer.TheVariants as answer
 use Rattle.oncrpc_tasks.specs.declared.judge.Verdict.TheVariants.{Open, Settled}
@@ -41,13 +41,13 @@ module _ (q : Question) (c d : Checker) (b piece : List ℕ) (f : Follows q c b)
       asked (λ (ks : List KindView) (p : ℕ) (l : Bounds). Answers ks p l b piece x)
       (subst (λ (y : Result Progress DecodeFault). HasOutcome c b piece y) is h)
 
-  stands_at : (r x : Result Progress DecodeFault) → r ≡ x → StandsFor d (b ++ taken piece r)
-      → StandsFor d (b ++ taken piece x)
-  stands_at r x is s = subst (λ (y : Result Progress DecodeFault). StandsFor d (b ++ taken piece y)) is s
+  stands_at : (r x : Result Progress DecodeFault) → r ≡ x → RepresentsBytes d (b ++ taken piece r)
+      → RepresentsBytes d (b ++ taken piece x)
+  stands_at r x is s = subst (λ (y : Result Progress DecodeFault). RepresentsBytes d (b ++ taken piece y)) is s
 
-  follows : StandsFor d (b ++ piece) → Follows q d (b ++ piece)
+  follows : RepresentsBytes d (b ++ piece) → Follows q d (b ++ piece)
   follows s = record {
-    stands = s;
+    represents = s;
     kinds_are = ap (λ (x : Lists). x.kinds) same.schema_is ∙ f.kinds_are;
     place_is = ap (λ (k : KindId). k.place) same.kind_is ∙ f.place_is;
     limits_are = same.limits_are ∙ f.limits_are;
@@ -55,7 +55,7 @@ module _ (q : Question) (c d : Checker) (b piece : List ℕ) (f : Follows q c b)
   }
 
   pub more : (r : Result Progress DecodeFault) (p : Progress) (at : ℕ) → r ≡ Ok p → p ≡ More
-      → at ≡ length b + length piece → StandsFor d (b ++ taken piece r) → HasOutcome c b piece r
+      → at ≡ length b + length piece → RepresentsBytes d (b ++ taken piece r) → HasOutcome c b piece r
       → Says q d (b ++ piece) (Open (answer.Refused (record { why = reason.Truncated; at = at })))
   more r p at ok is count s h =
       let same_answer : r ≡ Ok More = ok ∙ ap (λ (x : Progress). Ok x) is in
@@ -65,7 +65,7 @@ module _ (q : Question) (c d : Checker) (b piece : List ℕ) (f : Follows q c b)
 
   pub done : (r : Result Progress DecodeFault) (p : Progress) (used n : ℕ) → r ≡ Ok p → p ≡ Done used
       → IfOk r (λ x. used_of x ≤ length piece) → length piece ≤ used → n ≡ length b + length piece
-      → StandsFor d (b ++ taken piece r) → HasOutcome c b piece r
+      → RepresentsBytes d (b ++ taken piece r) → HasOutcome c b piece r
       → Says q d (b ++ piece) (Open (answer.Whole n))
   done r p used n ok is few high count s h =
       let same_answer : r ≡ Ok (Done used) = ok ∙ ap (λ (x : Progress). Ok x) is in
@@ -75,7 +75,7 @@ module _ (q : Question) (c d : Checker) (b piece : List ℕ) (f : Follows q c b)
       let all : n ≡ length (b ++ piece) = omega (arith, count, length-append b piece) in
       let here : length b + used ≡ length (b ++ piece) = omega (arith, low, high, length-append b piece) in
       let there : length b + used ≡ n = omega (arith, low, high, count) in (
-        follows (subst (λ (x : List ℕ). StandsFor d (b ++ x)) (take_all used piece high)
+        follows (subst (λ (x : List ℕ). RepresentsBytes d (b ++ x)) (take_all used piece high)
             (stands_at r (Ok (Done used)) same_answer s)),
         inr (o.0, subst (λ (k : ℕ). right.HasOutcome q (b ++ piece) (Whole o.0 k)) here o.1),
         whole_at_end q units (b ++ piece) [] o.0 n

@@ -6,22 +6,22 @@ use Rattle.std.specs.Io.KnownBytes.{Keeps, Consumes, IsAtEnd}
 use Rattle.xdr_types.specs.Kinds.{Lists}
 use Rattle.xdr_types.specs.Within.{AreBounds, Bounds}
 use Rattle.xdr_types.specs.declared.kind.KindId.{KindId}
-use Rattle.xdr_io.specs.Told.{Counts, CountsAtMost, MovesAtMost}
-use Rattle.xdr_io.proofs.Chained.{Counts-trans, Consumes-trans, Consumes-none, Consumes-then_kept}
+use Rattle.xdr_io.specs.Reported.{Counts, CountsAtMost, MovesAtMost}
+use Rattle.xdr_io.proofs.Chained.{Counts-trans, Consumes-trans, Consumes-none, Consumes-then_retained}
 use Rattle.xdr_io.proofs.Chained.{Consumes-at_end}
-use Rattle.xdr_codec.specs.Checks.{StandsFor, IsStarted}
+use Rattle.xdr_codec.specs.Checks.{RepresentsBytes, IsStarted}
 use Rattle.xdr_codec.specs.declared.checker.Checker.{Checker}
 use Rattle.oncrpc_tasks.specs.declared.answer.Answer.{Answer}
 use Rattle.oncrpc_tasks.specs.declared.judge.Verdict.{Verdict}
 use Rattle.oncrpc_tasks.specs.declared.judge.Verdict.TheVariants.{Open, Settled}
-use Rattle.oncrpc_tasks.specs.Private.Judged.{Follows, IsKept, Says}
+use Rattle.oncrpc_tasks.specs.Private.Judged.{Follows, IsRetained, Says}
 use Rattle.oncrpc_tasks.specs.Right.{Question, IsRight, IsRightFor}
 use Rattle.oncrpc_tasks.specs.Stopping.{IsUnsettled, ReadsUnsettled, LastRead}
 use Rattle.oncrpc_tasks.proofs.Rightly.{unsettled_within}
 
 -- What was read settles no answer; this one is right if the input ends here. All of it is kept, or nothing.
 pub record Progress (q : Question) (c : Checker) (count : ℕ) (at_end : Answer) (turn : ℕ) (left left' : Option (List ℕ))
-    (keeps : Bool) (kept : List ℕ) : Type 0 where
+    (keeps : Bool) (retained : List ℕ) : Type 0 where
   pub seen : List ℕ
   pub read : Consumes left left' seen
   pub counted : count ≡ length seen
@@ -29,14 +29,14 @@ pub record Progress (q : Question) (c : Checker) (count : ℕ) (at_end : Answer)
   pub follows : Follows q c seen
   pub unsettled : IsUnsettled q seen
   pub right : IsRight q seen at_end []
-  pub is_kept : kept ≡ (if keeps then seen else [])
+  pub is_kept : retained ≡ (if keeps then seen else [])
 
--- an answer that is right whatever follows is right for an input that is told
-for_told : (q : Question) (a : Answer) (b : List ℕ) (left left' : Option (List ℕ)) → Consumes left left' b
+-- an answer that is right whatever follows is right for an input that is reported
+for_reported : (q : Question) (a : Answer) (b : List ℕ) (left left' : Option (List ℕ)) → Consumes left left' b
     → ((more : List ℕ) → IsRight q (b ++ more) a []) → IsRightFor q false left a []
-for_told q a b None left' read each = tt
-for_told q a b (Some input) None read each = absurd read
-for_told q a b (Some input) (Some rest) read each =
+for_reported q a b None left' read each = tt
+for_reported q a b (Some input) None read each = absurd read
+for_reported q a b (Some input) (Some rest) read each =
     subst (λ (x : List ℕ). IsRight q x a []) (sym read) (each rest)
 
 at_its_end : (q : Question) (a : Answer) (b : List ℕ) (left left' : Option (List ℕ)) → Consumes left left' b
@@ -48,24 +48,24 @@ at_its_end q a b (Some input) (Some rest) read end right =
     (sym (read ∙ ap (λ (x : List ℕ). b ++ x) end ∙ append-nil b)) right
 
 -- a checker that was started follows no bytes yet
-pub started : (c : Checker) (s : Lists) (k : KindId) (l : Bounds) → StandsFor c [] → IsStarted c s k l
+pub started : (c : Checker) (s : Lists) (k : KindId) (l : Bounds) → RepresentsBytes c [] → IsStarted c s k l
     → Follows (record { kinds = s.kinds; place = k.place; limits = l; shows = false }) c []
-started c s k l stands set = record {
-  stands = stands;
+started c s k l represents set = record {
+  represents = represents;
   kinds_are = ap (λ (x : Lists). x.kinds) set.schema_is;
   place_is = ap (λ (x : KindId). x.place) set.kind_is;
   limits_are = set.limits_are;
   lines = refl;
 }
 
-none_kept : (keeps : Bool) (kept : List ℕ) → kept ≡ [] → kept ≡ (if keeps then [] else [])
-none_kept true kept none = none
-none_kept false kept none = none
+none_kept : (keeps : Bool) (retained : List ℕ) → retained ≡ [] → retained ≡ (if keeps then [] else [])
+none_kept true retained none = none
+none_kept false retained none = none
 
 -- before the first read
 pub begun : (q : Question) (d : Checker) (v : Verdict) (a : Answer) (left : Option (List ℕ)) (keeps : Bool)
-    (kept : List ℕ) → kept ≡ [] → v ≡ Open a → Says q d [] v → Progress q d 0 a 0 left left keeps kept
-begun q d v a left keeps kept none is says =
+    (retained : List ℕ) → retained ≡ [] → v ≡ Open a → Says q d [] v → Progress q d 0 a 0 left left keeps retained
+begun q d v a left keeps retained none is says =
     let h : Says q d [] (Open a) = subst (λ (x : Verdict). Says q d [] x) is says in
     record {
       seen = [];
@@ -75,7 +75,7 @@ begun q d v a left keeps kept none is says =
       follows = h.0;
       unsettled = h.1;
       right = h.2;
-      is_kept = none_kept keeps kept none;
+      is_kept = none_kept keeps retained none;
     }
 
 -- all bytes in one piece
@@ -94,25 +94,25 @@ pub settled_first : (q : Question) (d : Checker) (v : Verdict) (a : Answer) (lef
     → Says q d [] v → IsRightFor q false left a []
 settled_first q d v a left is says =
     let h : Says q d [] (Settled a) = subst (λ (x : Verdict). Says q d [] x) is says in
-    for_told q a [] left left (Consumes-none left) h
+    for_reported q a [] left left (Consumes-none left) h
 
 -- what is kept: all that was seen, or nothing
-kept_by : (keeps : Bool) (kept seen : List ℕ) (q : Question) (left left' : Option (List ℕ)) (a : Answer)
-    → kept ≡ (if keeps then seen else []) → Consumes left left' seen → IsRight q seen a []
-    → IsKept keeps q left left' a kept
-kept_by true kept seen q left left' a all read right =
-    subst (λ (x : List ℕ). IsKept true q left left' a x) (sym all) (read, right)
-kept_by false kept seen q left left' a all read right = all
+kept_by : (keeps : Bool) (retained seen : List ℕ) (q : Question) (left left' : Option (List ℕ)) (a : Answer)
+    → retained ≡ (if keeps then seen else []) → Consumes left left' seen → IsRight q seen a []
+    → IsRetained keeps q left left' a retained
+kept_by true retained seen q left left' a all read right =
+    subst (λ (x : List ℕ). IsRetained true q left left' a x) (sym all) (read, right)
+kept_by false retained seen q left left' a all read right = all
 
-more_kept : (keeps : Bool) (kept kept' seen page : List ℕ) → kept ≡ (if keeps then seen else [])
-    → kept' ≡ (if keeps then kept ++ page else kept) → kept' ≡ (if keeps then seen ++ page else [])
-more_kept true kept kept' seen page all grown = grown ∙ ap (λ (x : List ℕ). x ++ page) all
-more_kept false kept kept' seen page all grown = grown ∙ all
+more_retained : (keeps : Bool) (retained retained' seen page : List ℕ) → retained ≡ (if keeps then seen else [])
+    → retained' ≡ (if keeps then retained ++ page else retained) → retained' ≡ (if keeps then seen ++ page else [])
+more_retained true retained retained' seen page all grown = grown ∙ ap (λ (x : List ℕ). x ++ page) all
+more_retained false retained retained' seen page all grown = grown ∙ all
 
-pub kept_first : (q : Question) (d : Checker) (v : Verdict) (a : Answer) (left : Option (List ℕ)) (keeps : Bool)
-    (kept : List ℕ) → kept ≡ [] → v ≡ Settled a → Says q d [] v → IsKept keeps q left left a kept
-kept_first q d v a left keeps kept none is says =
-    kept_by keeps kept [] q left left a (none_kept keeps kept none) (Consumes-none left)
+pub retained_first : (q : Question) (d : Checker) (v : Verdict) (a : Answer) (left : Option (List ℕ)) (keeps : Bool)
+    (retained : List ℕ) → retained ≡ [] → v ≡ Settled a → Says q d [] v → IsRetained keeps q left left a retained
+retained_first q d v a left keeps retained none is says =
+    kept_by keeps retained [] q left left a (none_kept keeps retained none) (Consumes-none left)
     (all_settled q d [] v a is says)
 
 module _ (q : Question) (bounds : AreBounds q.limits.depth q.limits.bytes) where
@@ -128,22 +128,22 @@ module _ (q : Question) (bounds : AreBounds q.limits.depth q.limits.bytes) where
       }
 
 module _ (q : Question) (c : Checker) (count : ℕ) (at_end : Answer) (turn : ℕ) (left left' : Option (List ℕ))
-    (reads reads' reads'' : Option ℕ) {keeps : Bool} {kept : List ℕ}
-    (p : Progress q c count at_end turn left left' keeps kept) (counted : Counts turn reads reads') where
+    (reads reads' reads'' : Option ℕ) {keeps : Bool} {retained : List ℕ}
+    (p : Progress q c count at_end turn left left' keeps retained) (counted : Counts turn reads reads') where
   -- a read that failed
   pub unsettled_by : (left'' : Option (List ℕ)) → Keeps left' left'' → ReadsUnsettled q left left''
-  unsettled_by left'' kept =
-      record { bytes = p.seen; unsettled = p.unsettled; read = Consumes-then_kept _ _ _ p.seen p.read kept }
+  unsettled_by left'' retained =
+      record { bytes = p.seen; unsettled = p.unsettled; read = Consumes-then_retained _ _ _ p.seen p.read retained }
 
   pub failed_by : (left'' : Option (List ℕ)) → Keeps left' left'' → Counts 1 reads' reads''
       → LastRead q left left'' reads reads''
-  failed_by left'' kept one = record {
+  failed_by left'' retained one = record {
     before = p.seen;
     last = [];
     unsettled = p.unsettled;
     page = omega arith;
-    read = Consumes-then_kept _ _ _ (p.seen ++ [])
-        (subst (λ (x : List ℕ). Consumes left left' x) (sym (append-nil p.seen)) p.read) kept;
+    read = Consumes-then_retained _ _ _ (p.seen ++ [])
+        (subst (λ (x : List ℕ). Consumes left left' x) (sym (append-nil p.seen)) p.read) retained;
     few = record {
       calls = turn + 1;
       few = omega (arith, p.turns);
@@ -182,10 +182,10 @@ module _ (q : Question) (c : Checker) (count : ℕ) (at_end : Answer) (turn : �
   -- a read that gave some bytes
   pub goes_on : (left'' : Option (List ℕ)) (n : ℕ) (array : List ℕ) (d : Checker) (v : Verdict) (a : Answer)
       → length (take n array) ≡ n → (n ≡ 0 → ⊥) → Consumes left' left'' (take n array) → v ≡ Open a
-      → Says q d (p.seen ++ take n array) v → (kept' : List ℕ)
-      → kept' ≡ (if keeps then kept ++ take n array else kept)
-      → Progress q d (count + n) a (turn + 1) left left'' keeps kept'
-  goes_on left'' n array d v a size some read is says kept' grown_kept =
+      → Says q d (p.seen ++ take n array) v → (retained' : List ℕ)
+      → retained' ≡ (if keeps then retained ++ take n array else retained)
+      → Progress q d (count + n) a (turn + 1) left left'' keeps retained'
+  goes_on left'' n array d v a size some read is says retained' grown_retained =
       let h : Says q d (p.seen ++ take n array) (Open a) =
       subst (λ (x : Verdict). Says q d (p.seen ++ take n array) x) is says in
       let grown = length-append p.seen (take n array) in
@@ -198,7 +198,7 @@ module _ (q : Question) (c : Checker) (count : ℕ) (at_end : Answer) (turn : �
         follows = h.0;
         unsettled = h.1;
         right = h.2;
-        is_kept = more_kept keeps kept kept' p.seen (take n array) p.is_kept grown_kept;
+        is_kept = more_retained keeps retained retained' p.seen (take n array) p.is_kept grown_retained;
       }
 
   pub settled_by : (left'' : Option (List ℕ)) (n : ℕ) (array : List ℕ) (d : Checker) (v : Verdict) (a : Answer)
@@ -207,7 +207,7 @@ module _ (q : Question) (c : Checker) (count : ℕ) (at_end : Answer) (turn : �
   settled_by left'' n array d v a read is says =
       let h : Says q d (p.seen ++ take n array) (Settled a) =
       subst (λ (x : Verdict). Says q d (p.seen ++ take n array) x) is says in
-      for_told q a (p.seen ++ take n array) left left''
+      for_reported q a (p.seen ++ take n array) left left''
       (Consumes-trans _ _ _ p.seen (take n array) _ refl p.read read) h
 
   -- a read that gave some bytes, or none at the end
@@ -227,17 +227,17 @@ module _ (q : Question) (c : Checker) (count : ℕ) (at_end : Answer) (turn : �
   }
 
   -- what is kept at the end of the input, and where the answer is settled
-  pub kept_at_end : (left'' : Option (List ℕ)) (n : ℕ) (array : List ℕ) → n ≡ 0 → Consumes left' left'' (take n array)
-      → IsKept keeps q left left'' at_end kept
-  kept_at_end left'' n array none read =
-      kept_by keeps kept p.seen q left left'' at_end p.is_kept
+  pub retained_at_end : (left'' : Option (List ℕ)) (n : ℕ) (array : List ℕ) → n ≡ 0 → Consumes left' left'' (take n array)
+      → IsRetained keeps q left left'' at_end retained
+  retained_at_end left'' n array none read =
+      kept_by keeps retained p.seen q left left'' at_end p.is_kept
       (Consumes-at_end left left' left'' p.seen array n none p.read read) p.right
 
-  pub kept_settled : (left'' : Option (List ℕ)) (n : ℕ) (array : List ℕ) (d : Checker) (v : Verdict) (a : Answer)
+  pub retained_settled : (left'' : Option (List ℕ)) (n : ℕ) (array : List ℕ) (d : Checker) (v : Verdict) (a : Answer)
       → Consumes left' left'' (take n array) → v ≡ Settled a → Says q d (p.seen ++ take n array) v
-      → (kept' : List ℕ) → kept' ≡ (if keeps then kept ++ take n array else kept) → IsKept keeps q left left'' a kept'
-  kept_settled left'' n array d v a read is says kept' grown_kept =
-      kept_by keeps kept' (p.seen ++ take n array) q left left'' a
-      (more_kept keeps kept kept' p.seen (take n array) p.is_kept grown_kept)
+      → (retained' : List ℕ) → retained' ≡ (if keeps then retained ++ take n array else retained) → IsRetained keeps q left left'' a retained'
+  retained_settled left'' n array d v a read is says retained' grown_retained =
+      kept_by keeps retained' (p.seen ++ take n array) q left left'' a
+      (more_retained keeps retained retained' p.seen (take n array) p.is_kept grown_retained)
       (Consumes-trans _ _ _ p.seen (take n array) _ refl p.read read)
       (all_settled q d (p.seen ++ take n array) v a is says)

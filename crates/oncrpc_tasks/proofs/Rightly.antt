@@ -11,7 +11,7 @@ use Rattle.xdr_laws.proofs.Whole.{whole_exactly}
 use Rattle.xdr_stream.specs.Sees.{Ends}
 use Rattle.xdr_stream.specs.Finish.{EndsWith}
 use Rattle.xdr_stream.specs.Reasons.{reason_number}
-use Rattle.xdr_stream.specs.Stands as told
+use Rattle.xdr_stream.specs.Represents as reported
 use Rattle.xdr_stream.specs.declared.fault.DecodeFault.{DecodeFault}
 use Rattle.xdr_stream.specs.declared.fault.Reason.{Reason}
 use Rattle.xdr_stream.specs.declared.fault.Reason.TheVariants as reason
@@ -97,7 +97,7 @@ module _ (q : Question) (units : q.limits.bytes % 4 ≡ 0) where
       ((o, count, no_value q b (pending_none q.kinds q.place q.limits units b o)), refl)
 
   -- bytes that are refused, and then more of them
-  pub refused_for_all : (b rest : List ℕ) (f : DecodeFault) → told.Fails q.kinds q.place q.limits f b
+  pub refused_for_all : (b rest : List ℕ) (f : DecodeFault) → reported.Fails q.kinds q.place q.limits f b
       → (f.why ≡ reason.NoMemory → ⊥) → IsRight q (b ++ rest) (answer.Refused f) []
   refused_for_all b rest f e known =
       let none = fails q.kinds q.place q.limits units f b e in (

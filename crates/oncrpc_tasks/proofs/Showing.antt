@@ -20,7 +20,7 @@ use Rattle.oncrpc_tasks.specs.declared.failure.Failure.{Failure}
 use Rattle.oncrpc_tasks.specs.Right.{Question, BeginsWithValue, HasOutcome, HasNoValue, IsWhole, IsRefusal, IsRight}
 use Rattle.oncrpc_tasks.specs.Right.{IsRightFor, lines_of}
 use Rattle.oncrpc_tasks.specs.Stopping.{ReadsUnsettled, LastRead, IsUnread}
-use Rattle.oncrpc_tasks.specs.Private.Judged.{IsKept, Shows, unshown}
+use Rattle.oncrpc_tasks.specs.Private.Judged.{IsRetained, Shows, unshown}
 use Rattle.oncrpc_tasks.proofs.Rightly.{refused_at_end}
 
 same_value : (s : List KindView) (t : ℕ) (l : Bounds) (b more : List ℕ) (v w : Tree) (m n : ℕ)
@@ -172,16 +172,16 @@ module _ (q : Question) where
       (shows [] (subst (λ (x : List ℕ). IsRight (unshown q) x a []) (sym (append-nil b)) right))
 
   -- what is shown of the bytes that were kept of an input is right for the input
-  pub shows_kept : (keeps : Bool) (left left' : Option (List ℕ)) (b : List ℕ) (a : Answer) (text : List ℕ)
-      → IsKept keeps (unshown q) left left' a b → IsRightFor (unshown q) false left a [] → Shows q b a text
+  pub shows_retained : (keeps : Bool) (left left' : Option (List ℕ)) (b : List ℕ) (a : Answer) (text : List ℕ)
+      → IsRetained keeps (unshown q) left left' a b → IsRightFor (unshown q) false left a [] → Shows q b a text
       → IsRightFor q false left a text
-  shows_kept keeps None left' b a text kept right shows = tt
-  shows_kept true (Some input) None b a text kept right shows = absurd kept.0
-  shows_kept true (Some input) (Some rest) b a text kept right shows =
-      subst (λ (x : List ℕ). IsRight q x a text) (sym kept.0)
-      (shows rest (subst (λ (x : List ℕ). IsRight (unshown q) x a []) kept.0 right))
-  shows_kept false (Some input) left' b a text kept right shows =
-      (subst (λ (x : List ℕ). Shows q x a text) kept shows) input right
+  shows_retained keeps None left' b a text retained right shows = tt
+  shows_retained true (Some input) None b a text retained right shows = absurd retained.0
+  shows_retained true (Some input) (Some rest) b a text retained right shows =
+      subst (λ (x : List ℕ). IsRight q x a text) (sym retained.0)
+      (shows rest (subst (λ (x : List ℕ). IsRight (unshown q) x a []) retained.0 right))
+  shows_retained false (Some input) left' b a text retained right shows =
+      (subst (λ (x : List ℕ). Shows q x a text) retained shows) input right
 
   -- what was read is said of either question
   pub reads_shown : (left left' : Option (List ℕ)) → ReadsUnsettled (unshown q) left left' → ReadsUnsettled q left left'

@@ -1,15 +1,15 @@
 -- How a task ends: what its exit status says of what it read and printed, of a value that is asked for.
 use Rattle.std.specs.Prelude.{◌≡◌, ◌⊎◌, ℕ, ◌≤◌, Bool, true, false, List, Option}
-use Rattle.xdr_io.specs.Told.{Counts, CountsAtMost, MovesAtMost}
+use Rattle.xdr_io.specs.Reported.{Counts, CountsAtMost, MovesAtMost}
 use Rattle.oncrpc_tasks.specs.declared.task.Task.{Task}
 use Rattle.oncrpc_tasks.specs.declared.task.Task.TheVariants as task
 use Rattle.oncrpc_tasks.specs.declared.task.ValueTask.{ValueTask}
 use Rattle.oncrpc_tasks.specs.Checked.{Answers, AnswersInPart}
-use Rattle.oncrpc_tasks.specs.Devices.{Tells}
+use Rattle.oncrpc_tasks.specs.Devices.{Reports}
 use Rattle.oncrpc_tasks.specs.Input.{most_read}
 use Rattle.oncrpc_tasks.specs.RecordsEnd.{RecordsEnd}
 use Rattle.oncrpc_tasks.specs.Right.{Question}
-use Rattle.oncrpc_tasks.specs.Sources.{IsTold, told_text}
+use Rattle.oncrpc_tasks.specs.Sources.{IsReported, told_text}
 use Rattle.oncrpc_tasks.specs.Stopping.{ReadsUnsettled, LastRead, IsUnread, IsPlain}
 use Rattle.oncrpc_tasks.specs.Tasks.{Asks, AsksNothing}
 
@@ -19,15 +19,15 @@ abbrev pub NeedsMore : Question → (hex : Bool) → (left left' : Option (List 
 NeedsMore q hex left left' = IsPlain hex → ReadsUnsettled q left left'
 
 -- what failed: a read, a write, or as many reads were made as there may be
-abbrev pub DeviceFails : {I O : Type 0} → Question → (hex : Bool) → Tells I O → (input input' : I)
+abbrev pub DeviceFails : {I O : Type 0} → Question → (hex : Bool) → Reports I O → (input input' : I)
     → (output output' : O)
     → Type 0
-DeviceFails q hex tells input input' output output' =
-    (Counts 1 (tells.failures input) (tells.failures input')
-    × NeedsMore q hex (tells.left input) (tells.left input'))
-    ⊎ (Counts 1 (tells.lost output) (tells.lost output')
-    ⊎ (Counts 1048576 (tells.reads input) (tells.reads input')
-    × NeedsMore q hex (tells.left input) (tells.left input')))
+DeviceFails q hex reports input input' output output' =
+    (Counts 1 (reports.failures input) (reports.failures input')
+    × NeedsMore q hex (reports.left input) (reports.left input'))
+    ⊎ (Counts 1 (reports.lost output) (reports.lost output')
+    ⊎ (Counts 1048576 (reports.reads input) (reports.reads input')
+    × NeedsMore q hex (reports.left input) (reports.left input')))
 
 -- Where reading an input that is read as it is stops: nothing was read, or what came before the last read settles no
 -- answer.
@@ -37,58 +37,58 @@ StopsReading q hex left left' reads reads' =
 
 -- What the status says where a value is asked for: 0 and 1 the right lines were printed and nothing failed; 3 a device
 -- failed, and nothing was printed or the beginning of the right lines; 4 memory was refused, and nothing was printed.
-pub record ValueEnds {I O F : Type 0} (q : Question) (hex : Bool) (tells : Tells I O) (input input' : I)
+pub record ValueEnds {I O F : Type 0} (q : Question) (hex : Bool) (reports : Reports I O) (input input' : I)
     (output output' : O) (faults faults' : F) (status : ℕ) : Type 0 where
   pub known : status ≤ 4
   pub asked : status ≡ 2 → ⊥
-  pub printed : status ≤ 1 → Answers q hex (tells.left input) (tells.taken output) (tells.taken output') status
-  pub unfailed : status ≤ 1 → Counts 0 (tells.failures input) (tells.failures input')
-  pub unlost : status ≤ 1 → Counts 0 (tells.lost output) (tells.lost output')
+  pub printed : status ≤ 1 → Answers q hex (reports.left input) (reports.taken output) (reports.taken output') status
+  pub unfailed : status ≤ 1 → Counts 0 (reports.failures input) (reports.failures input')
+  pub unlost : status ≤ 1 → Counts 0 (reports.lost output) (reports.lost output')
   pub silent : status ≤ 1 → faults' ≡ faults
-  pub device : status ≡ 3 → DeviceFails q hex tells input input' output output'
+  pub device : status ≡ 3 → DeviceFails q hex reports input input' output output'
   pub in_part : status ≡ 3 → (output' ≡ output)
-      ⊎ AnswersInPart q hex (tells.left input) (tells.taken output) (tells.taken output')
+      ⊎ AnswersInPart q hex (reports.left input) (reports.taken output) (reports.taken output')
   pub wanting : status ≡ 4 → output' ≡ output
-  pub few_reads : CountsAtMost 1048576 (tells.reads input) (tells.reads input')
-  pub bounded : MovesAtMost (most_read hex q.limits.bytes) (tells.left input) (tells.left input')
-  pub stops : StopsReading q hex (tells.left input) (tells.left input') (tells.reads input) (tells.reads input')
+  pub few_reads : CountsAtMost 1048576 (reports.reads input) (reports.reads input')
+  pub bounded : MovesAtMost (most_read hex q.limits.bytes) (reports.left input) (reports.left input')
+  pub stops : StopsReading q hex (reports.left input) (reports.left input') (reports.reads input) (reports.reads input')
 
--- The value that words ask for, by a text of declarations that is told, was looked for.
-pub record IsLookedFor {I O F : Type 0} (told : List ℕ → Option (List ℕ)) (what : ValueTask) (shows : Bool)
-    (tells : Tells I O) (input input' : I) (output output' : O) (faults faults' : F) (status : ℕ) : Type 0 where
+-- The value that words ask for, by a text of declarations that is reported, was looked for.
+pub record IsLookedFor {I O F : Type 0} (reported : List ℕ → Option (List ℕ)) (what : ValueTask) (shows : Bool)
+    (reports : Reports I O) (input input' : I) (output output' : O) (faults faults' : F) (status : ℕ) : Type 0 where
   pub text : List ℕ
-  pub is_told : IsTold (told_text told what.types) text
+  pub is_reported : IsReported (told_text reported what.types) text
   pub question : Question
   pub asked : Asks text what shows question
-  pub ends : ValueEnds question what.hex tells input input' output output' faults faults' status
+  pub ends : ValueEnds question what.hex reports input input' output output' faults faults' status
 
 -- why nothing was looked for: 2 where nothing is asked, 3 where the declarations were not read, 4 where memory was
 -- refused
 abbrev pub IsUnasked : (List ℕ → Option (List ℕ)) → ValueTask → (file : Type 0) → ℕ → Type 0
-IsUnasked told what file status = ((status ≡ 2) × AsksNothing told what) ⊎ (((status ≡ 3) × file) ⊎ (status ≡ 4))
+IsUnasked reported what file status = ((status ≡ 2) × AsksNothing reported what) ⊎ (((status ≡ 3) × file) ⊎ (status ≡ 4))
 
 -- Words ask for a value: it was looked for; or not, and then nothing was read and nothing printed.
 abbrev pub WordsEnd : {I O F : Type 0} → (List ℕ → Option (List ℕ)) → ValueTask → (shows : Bool) → (file : Type 0)
-    → Tells I O
+    → Reports I O
     → (input input' : I)
     → (output output' : O)
     → (faults faults' : F)
     → ℕ
     → Type 0
-WordsEnd told what shows file tells input input' output output' faults faults' status =
-    IsLookedFor told what shows tells input input' output output' faults faults' status
-    ⊎ (IsUnasked told what file status × (input' ≡ input) × (output' ≡ output))
+WordsEnd reported what shows file reports input input' output output' faults faults' status =
+    IsLookedFor reported what shows reports input input' output output' faults faults' status
+    ⊎ (IsUnasked reported what file status × (input' ≡ input) × (output' ≡ output))
 
 -- What the status of a task says. `file` says that the declarations were not read.
-abbrev pub TaskEnds : {I O F : Type 0} → (List ℕ → Option (List ℕ)) → Task → (file : Type 0) → Tells I O
+abbrev pub TaskEnds : {I O F : Type 0} → (List ℕ → Option (List ℕ)) → Task → (file : Type 0) → Reports I O
     → (input input' : I)
     → (output output' : O)
     → (faults faults' : F)
     → ℕ
     → Type 0
-TaskEnds told (task.Check what) file tells input input' output output' faults faults' status =
-    WordsEnd told what false file tells input input' output output' faults faults' status
-TaskEnds told (task.Show what) file tells input input' output output' faults faults' status =
-    WordsEnd told what true file tells input input' output output' faults faults' status
-TaskEnds told (task.Records what) file tells input input' output output' faults faults' status =
-    RecordsEnd what.limit what.hex tells input input' output output' faults faults' status
+TaskEnds reported (task.Check what) file reports input input' output output' faults faults' status =
+    WordsEnd reported what false file reports input input' output output' faults faults' status
+TaskEnds reported (task.Show what) file reports input input' output output' faults faults' status =
+    WordsEnd reported what true file reports input input' output output' faults faults' status
+TaskEnds reported (task.Records what) file reports input input' output output' faults faults' status =
+    RecordsEnd what.limit what.hex reports input input' output output' faults faults' status

@@ -16,7 +16,7 @@ TextGives text given.HexTooLong = 1048576 < length text
 TextGives text given.BadHex = (length text ≤ 1048576) × IsBadHex text
 TextGives text (given.Bytes v) = (length text ≤ 1048576) × (decode_of (digits text) ≡ Ok v.items)
 
--- what the input gives, where its bytes are told
+-- what the input gives, where its bytes are reported
 abbrev pub InputGives : Option (List ℕ) → Given → Type 0
 InputGives None g = ⊤
 InputGives (Some text) g = TextGives text g

@@ -3,11 +3,11 @@ use Rattle.std.specs.Prelude.{◌≡◌, ◌⊎◌, ℕ, ◌≤◌, ◌<◌, Boo
 use Rattle.std.specs.Prelude.{None, Some, Ok, ⊤}
 use Rattle.std.specs.Io.KnownBytes.{Appends}
 use Rattle.hex.specs.Hex.{decode_of, encode_lower}
-use Rattle.xdr_io.specs.Told.{Counts, CountsAtMost, MovesAtMost}
+use Rattle.xdr_io.specs.Reported.{Counts, CountsAtMost, MovesAtMost}
 use Rattle.oncrpc_tasks.specs.declared.failure.Failure.{Failure}
 use Rattle.oncrpc_tasks.specs.declared.failure.Failure.TheVariants as failure
 use Rattle.oncrpc_tasks.specs.declared.records.Marking.{Marking}
-use Rattle.oncrpc_tasks.specs.Devices.{Tells, Fails}
+use Rattle.oncrpc_tasks.specs.Devices.{Reports, Fails}
 use Rattle.oncrpc_tasks.specs.Hexadecimal.{digits}
 use Rattle.oncrpc_tasks.specs.Input.{most_read}
 use Rattle.oncrpc_tasks.specs.Records.{Done, Marks, RefusedBytes, StopsFor}
@@ -25,13 +25,13 @@ pub record FormInPart (limit : ℕ) (text : List ℕ) (taken taken' : Option (Li
   pub cut : count < length (encode_lower form ++ 10 ∷ [])
   pub written : Appends taken taken' (take count (encode_lower form ++ 10 ∷ []))
 
--- the same where the text is told
+-- the same where the text is reported
 abbrev pub IsFormInPart : ℕ → (left taken taken' : Option (List ℕ)) → Type 0
 IsFormInPart limit None taken taken' = ⊤
 IsFormInPart limit (Some text) taken taken' = FormInPart limit text taken taken'
 
 -- What was written where a device failed. Of records that are read as they are: what came whole before the failure,
--- which is told. Of hexadecimal: nothing, or the beginning of what is right.
+-- which is reported. Of hexadecimal: nothing, or the beginning of what is right.
 abbrev pub WritesInPart : ℕ → (hex : Bool) → (unwritten : Type 0) → (fails : Failure → Type 0)
     → (left left' taken taken' : Option (List ℕ))
     → Type 0
@@ -55,23 +55,23 @@ ReadsAtMost false left left' = ⊤
 
 -- What the status says: 0 all records were written; 1 those before what is refused; 2 the limit is out of its range,
 -- and nothing was read or written; 3 a device failed; 4 memory was refused.
-pub record RecordsEnd {I O F : Type 0} (limit : ℕ) (hex : Bool) (tells : Tells I O) (input input' : I)
+pub record RecordsEnd {I O F : Type 0} (limit : ℕ) (hex : Bool) (reports : Reports I O) (input input' : I)
     (output output' : O) (faults faults' : F) (status : ℕ) : Type 0 where
   pub known : status ≤ 4
-  pub done : status ≡ 0 → Done limit hex (tells.left input) (tells.left input') (tells.taken output)
-      (tells.taken output')
-  pub refused : status ≡ 1 → RefusedBytes limit hex (tells.left input) (tells.left input') (tells.taken output)
-      (tells.taken output')
-  pub unfailed : status ≤ 1 → Counts 0 (tells.failures input) (tells.failures input')
-  pub unlost : status ≤ 1 → Counts 0 (tells.lost output) (tells.lost output')
+  pub done : status ≡ 0 → Done limit hex (reports.left input) (reports.left input') (reports.taken output)
+      (reports.taken output')
+  pub refused : status ≡ 1 → RefusedBytes limit hex (reports.left input) (reports.left input') (reports.taken output)
+      (reports.taken output')
+  pub unfailed : status ≤ 1 → Counts 0 (reports.failures input) (reports.failures input')
+  pub unlost : status ≤ 1 → Counts 0 (reports.lost output) (reports.lost output')
   pub silent : status ≡ 0 → faults' ≡ faults
   pub unasked : status ≡ 2 → (2147483647 < limit) × (input' ≡ input) × (output' ≡ output)
-  pub device : status ≡ 3 → Counts 1 (tells.failures input) (tells.failures input')
-      ⊎ (Counts 1 (tells.lost output) (tells.lost output')
-      ⊎ Counts 1048576 (tells.reads input) (tells.reads input'))
-  pub in_part : status ≡ 3 → WritesInPart limit hex (output' ≡ output) (Fails tells input input' output output')
-      (tells.left input) (tells.left input') (tells.taken output) (tells.taken output')
-  pub wanting : status ≡ 4 → WritesAtWant limit hex (output' ≡ output) (tells.left input) (tells.left input')
-      (tells.taken output) (tells.taken output')
-  pub few_reads : CountsAtMost 1048576 (tells.reads input) (tells.reads input')
-  pub bounded : ReadsAtMost hex (tells.left input) (tells.left input')
+  pub device : status ≡ 3 → Counts 1 (reports.failures input) (reports.failures input')
+      ⊎ (Counts 1 (reports.lost output) (reports.lost output')
+      ⊎ Counts 1048576 (reports.reads input) (reports.reads input'))
+  pub in_part : status ≡ 3 → WritesInPart limit hex (output' ≡ output) (Fails reports input input' output output')
+      (reports.left input) (reports.left input') (reports.taken output) (reports.taken output')
+  pub wanting : status ≡ 4 → WritesAtWant limit hex (output' ≡ output) (reports.left input) (reports.left input')
+      (reports.taken output) (reports.taken output')
+  pub few_reads : CountsAtMost 1048576 (reports.reads input) (reports.reads input')
+  pub bounded : ReadsAtMost hex (reports.left input) (reports.left input')

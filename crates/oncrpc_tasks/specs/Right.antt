@@ -80,7 +80,7 @@ IsRightForText q text answer.BadHex shown = (length text ≤ 1048576) × IsBadHe
 IsRightForText q text a shown =
     (length text ≤ 1048576) × ((bytes : List ℕ) × (decode_of (digits text) ≡ Ok bytes) × IsRight q bytes a shown)
 
--- the answer is right for an input, read as hexadecimal or as it is, where its bytes are told
+-- the answer is right for an input, read as hexadecimal or as it is, where its bytes are reported
 abbrev pub IsRightFor : Question → Bool → Option (List ℕ) → Answer → (shown : List ℕ) → Type 0
 IsRightFor q hex None a shown = ⊤
 IsRightFor q true (Some text) a shown = IsRightForText q text a shown

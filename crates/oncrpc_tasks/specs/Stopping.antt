@@ -3,7 +3,7 @@ use Rattle.std.specs.Prelude.{◌⊎◌, ℕ, ◌+◌, ◌≤◌, Bool, true, fa
 use Rattle.std.specs.Io.KnownBytes.{Keeps, Consumes}
 use Rattle.xdr_types.specs.Tree.{Tree}
 use Rattle.xdr_types.specs.Outcome.{Pending, Whole}
-use Rattle.xdr_io.specs.Told.{Counts, CountsAtMost}
+use Rattle.xdr_io.specs.Reported.{Counts, CountsAtMost}
 use Rattle.oncrpc_tasks.specs.Right.{Question, HasOutcome}
 
 -- The bytes settle no answer: they end inside a value, or with it, so that one byte more makes another answer.

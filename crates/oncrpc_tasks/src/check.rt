@@ -2,7 +2,7 @@
 ghost use Rattle.std.specs.Prelude.{◌≡◌, ◌≢◌, ◌⊎◌, ℕ, ◌++◌, ◌<◌, [], true, false, Option, List, length, IfOk, IfErr};
 ghost use Rattle.std.specs.Prelude.{OnOk, IsErrOf};
 ghost use Rattle.std.specs.Io.KnownBytes.{Appends};
-ghost use Rattle.xdr_io.specs.Told.{Counts, CountsAtMost, MovesAtMost};
+ghost use Rattle.xdr_io.specs.Reported.{Counts, CountsAtMost, MovesAtMost};
 ghost use Rattle.oncrpc_tasks.specs.Checked.{AnswersInPart};
 ghost use Rattle.oncrpc_tasks.specs.Ends.{ValueEnds};
 ghost use Rattle.xdr_types.specs.Tree.{Tree};
@@ -187,8 +187,8 @@ fn answer_given(
     given: &Given,
 ) -> Result<(Answer, Vec<u8>), Failure>
     requires { IsKnown question.now }
-    ensures right { IfOk result (λ r. (told : Option (List ℕ)) → InputGives told given.now
-        → IsRightFor (asked_of question.now) true told r.0 r.1.items) }
+    ensures right { IfOk result (λ r. (reported : Option (List ℕ)) → InputGives reported given.now
+        → IsRightFor (asked_of question.now) true reported r.0 r.1.items) }
     ensures memory { IfErr result (λ f. f ≡ Failure.NoMemory) }
 {
     match given {

@@ -18,10 +18,10 @@ pub fn declared<P: Opener>(
     types: &Option<String>,
     opener: &mut P,
 ) -> Result<Declared, Unusable>
-    ensures declares { IfOk result (λ d. Declares (told_text (P.told opener.old) types.now) types.now (declared_of d)) }
-    ensures refused { IfErr result (λ why. HasNone (told_text (P.told opener.old) types.now) types.now why) }
+    ensures declares { IfOk result (λ d. Declares (told_text (P.reported opener.old) types.now) types.now (declared_of d)) }
+    ensures refused { IfErr result (λ why. HasNone (told_text (P.reported opener.old) types.now) types.now why) }
     ensures failed { IsErrOf result (Unusable.Failed Failure.Read)
-        → FileFails P.Text.left P.Text.failures (P.told opener.old) types.now
+        → FileFails P.Text.left P.Text.failures (P.reported opener.old) types.now
         (P.failures opener.old) (P.failures opener.new) }
 {
     match types {
@@ -36,10 +36,10 @@ fn declared_in<P: Opener>(
     opener: &mut P,
 ) -> Result<Declared, Unusable>
     ensures declares { IfOk result (λ d.
-        Declares (P.told opener.old (string_bytes file.now)) (Some file.now) (declared_of d)) }
-    ensures refused { IfErr result (λ why. HasNone (P.told opener.old (string_bytes file.now)) (Some file.now) why) }
+        Declares (P.reported opener.old (string_bytes file.now)) (Some file.now) (declared_of d)) }
+    ensures refused { IfErr result (λ why. HasNone (P.reported opener.old (string_bytes file.now)) (Some file.now) why) }
     ensures failed { IsErrOf result (Unusable.Failed Failure.Read)
-        → FileFails P.Text.left P.Text.failures (P.told opener.old) (Some file.now)
+        → FileFails P.Text.left P.Text.failures (P.reported opener.old) (Some file.now)
         (P.failures opener.old) (P.failures opener.new) }
 {
     let mut source = opener.open(file)?;

@@ -1,6 +1,6 @@
 //! The bytes that a task is given as hexadecimal.
 ghost use Rattle.std.specs.Prelude.{◌≡◌, ◌+◌, IfOk, OnOk, IsErrOf};
-ghost use Rattle.xdr_io.specs.Told.{Counts, CountsAtMost, MovesAtMost};
+ghost use Rattle.xdr_io.specs.Reported.{Counts, CountsAtMost, MovesAtMost};
 ghost use Rattle.oncrpc_tasks.specs.Input.{InputGives};
 
 use super::failure::Failure;

@@ -2,11 +2,11 @@
 ghost use Rattle.std.specs.Prelude.{◌≡◌, ◌⊎◌, ◌≤◌, ◌<◌, ◌+◌, ◌++◌, ℕ, List, [], if◌then◌else◌, false, length, IfOk};
 ghost use Rattle.std.specs.Prelude.{IfErr, OnOk, IsErrOf};
 ghost use Rattle.xdr_types.specs.Within.{AreBounds};
-ghost use Rattle.xdr_io.specs.Told.{Counts, CountsAtMost, MovesAtMost};
+ghost use Rattle.xdr_io.specs.Reported.{Counts, CountsAtMost, MovesAtMost};
 ghost use Rattle.oncrpc_tasks.specs.Right as right;
 ghost use Rattle.oncrpc_tasks.specs.Right.{IsKnown, IsRight, IsRightFor, asked_of};
 ghost use Rattle.oncrpc_tasks.specs.Stopping.{LastRead, ReadsUnsettled, IsUnread};
-ghost use Rattle.oncrpc_tasks.specs.Private.Judged.{Follows, IsKept, Says, unshown};
+ghost use Rattle.oncrpc_tasks.specs.Private.Judged.{Follows, IsRetained, Says, unshown};
 
 use super::answer::Answer;
 use super::failure::Failure;
@@ -80,8 +80,8 @@ pub fn judge_over<I: Source>(
     requires { IsKnown question.now }
     ensures right { IfOk result (λ r.
         IsRightFor (unshown (asked_of question.now)) false (I.left input.old) r.0 []) }
-    ensures kept { IfOk result (λ r.
-        IsKept question.now.shows (unshown (asked_of question.now)) (I.left input.old) (I.left input.new) r.0
+    ensures retained { IfOk result (λ r.
+        IsRetained question.now.shows (unshown (asked_of question.now)) (I.left input.old) (I.left input.new) r.0
         r.1.items) }
     ensures none_failed { OnOk result (Counts 0 (I.failures input.old) (I.failures input.new)) }
     ensures failed { IsErrOf result Failure.Read → Counts 1 (I.failures input.old) (I.failures input.new)
@@ -104,10 +104,10 @@ pub fn judge_over<I: Source>(
     // The range of the limits, for the proof.
     let _in_range = limits.depth();
     let mut checker = Checker::start(alloc, schema, kind, limits);
-    let mut kept = Vec::new(alloc);
+    let mut retained = Vec::new(alloc);
     let mut at_end = match judge_piece(&mut checker, 0, &[])? {
         Verdict::Open(answer) => answer,
-        Verdict::Settled(answer) => return Ok((answer, kept)),
+        Verdict::Settled(answer) => return Ok((answer, retained)),
     };
     let mut array = [0u8; 4096];
     let mut count = 0;
@@ -117,13 +117,13 @@ pub fn judge_over<I: Source>(
             Err(_) => return Err(Failure::Read),
         };
         if n == 0 {
-            return Ok((at_end, kept));
+            return Ok((at_end, retained));
         }
         let verdict = judge_piece(&mut checker, count, &array[..n])?;
-        keep(&mut kept, question.shows, &array[..n])?;
+        keep(&mut retained, question.shows, &array[..n])?;
         at_end = match verdict {
             Verdict::Open(answer) => answer,
-            Verdict::Settled(answer) => return Ok((answer, kept)),
+            Verdict::Settled(answer) => return Ok((answer, retained)),
         };
         count += n;
     }
@@ -131,11 +131,11 @@ pub fn judge_over<I: Source>(
 }
 
 // Keeps a piece, where it is to be kept.
-fn keep(kept: &mut Vec<u8>, keeps: bool, piece: &[u8]) -> Result<(), AllocError>
-    ensures { OnOk result (kept.new.items ≡ (if keeps then kept.old.items ++ piece.now else kept.old.items)) }
+fn keep(retained: &mut Vec<u8>, keeps: bool, piece: &[u8]) -> Result<(), AllocError>
+    ensures { OnOk result (retained.new.items ≡ (if keeps then retained.old.items ++ piece.now else retained.old.items)) }
 {
     if keeps {
-        kept.extend_from_slice(piece)?;
+        retained.extend_from_slice(piece)?;
     }
     Ok(())
 }

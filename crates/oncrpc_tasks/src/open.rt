@@ -3,7 +3,7 @@ ghost use Rattle.std.specs.Prelude.{◌≡◌, ◌<◌, ℕ, List, Option, None,
 ghost use Rattle.std.specs.Prelude.{if◌then◌else◌};
 ghost use Rattle.std.specs.Str.{bytes_eq};
 ghost use Rattle.std.specs.Io.KnownBytes.{Keeps};
-ghost use Rattle.xdr_io.specs.Told.{Counts, told_count};
+ghost use Rattle.xdr_io.specs.Reported.{Counts, reported_count};
 
 use xdr_io::{MemorySource, ReadFault, Source};
 
@@ -12,15 +12,15 @@ pub trait Opener {
     /// A text that was opened.
     type Text: Source + Drop;
 
-    /// The bytes that stand under a name, where they are told.
-    ghost told: { Self → List ℕ → Option (List ℕ) } = { λ _ _. None };
+    /// The bytes that stand under a name, where they are reported.
+    ghost reported: { Self → List ℕ → Option (List ℕ) } = { λ _ _. None };
 
-    /// How many texts could not be opened, where that is told.
+    /// How many texts could not be opened, where that is reported.
     ghost failures: { Self → Option ℕ } = { λ _. None };
 
     /// Opens the text with this name, at its beginning. A fault opens none.
     fn open(&mut self, name: &str) -> Result<Self::Text, ReadFault>
-        ensures text { IfOk result (λ text. Keeps (told self.old name.now) (Self.Text.left text)) }
+        ensures text { IfOk result (λ text. Keeps (reported self.old name.now) (Self.Text.left text)) }
         ensures none_failed { OnOk result (Counts 0 (failures self.old) (failures self.new)) }
         ensures failed { OnErr result (Counts 1 (failures self.old) (failures self.new)) };
 }
@@ -41,7 +41,7 @@ impl<'a> MemoryOpener<'a> {
     /// An opener that has opened nothing yet.
     pub fn new(name: &'a str, text: &'a [u8], piece: usize, failing: Option<u64>) -> Self
         requires { 0 < piece }
-        ensures told { ⟦<MemoryOpener<'a> as Opener>⟧.told result name.now ≡ Some text.now }
+        ensures reported { ⟦<MemoryOpener<'a> as Opener>⟧.reported result name.now ≡ Some text.now }
         ensures failures { ⟦<MemoryOpener<'a> as Opener>⟧.failures result ≡ Some 0 }
         ensures piece { result.piece ≡ piece }
         ensures failing { result.failing ≡ failing }
@@ -59,9 +59,9 @@ impl<'a> MemoryOpener<'a> {
 impl<'a> Opener for MemoryOpener<'a> {
     type Text = MemorySource<'a>;
 
-    ghost told = { λ s name. if bytes_eq name s.name.now then Some s.text.now else None };
+    ghost reported = { λ s name. if bytes_eq name s.name.now then Some s.text.now else None };
 
-    ghost failures = { λ s. told_count s.failures };
+    ghost failures = { λ s. reported_count s.failures };
 
     #[tactic(auto, using(crate::proofs::Counts::no_reads))]
     fn open(&mut self, name: &str) -> Result<MemorySource<'a>, ReadFault>
@@ -70,8 +70,8 @@ impl<'a> Opener for MemoryOpener<'a> {
             (⟦<MemorySource<'a> as Source>⟧.left text)) }
         ensures own { IfOk result (λ _. bytes_eq name.now self.old.name.now ≡ true) }
         ensures other { IfErr result (λ _. bytes_eq name.now self.old.name.now ≡ false) }
-        ensures none_failed { OnOk result (Counts 0 (told_count self.old.failures) (told_count self.new.failures)) }
-        ensures failed { OnErr result (Counts 1 (told_count self.old.failures) (told_count self.new.failures)) }
+        ensures none_failed { OnOk result (Counts 0 (reported_count self.old.failures) (reported_count self.new.failures)) }
+        ensures failed { OnErr result (Counts 1 (reported_count self.old.failures) (reported_count self.new.failures)) }
         ensures gives { IfOk result (λ text. (text.piece ≡ self.old.piece) × (text.failing ≡ self.old.failing)
             × (text.reads ≡ 0)) }
         ensures same { (self.new.name ≡ self.old.name) × (self.new.text ≡ self.old.text)

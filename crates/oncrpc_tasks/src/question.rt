@@ -1,7 +1,7 @@
 //! What is asked of an input.
 use xdr_types::{KindId, Limits, Schema};
 
-/// A value of a kind that the schema has, within the limits, and how it is read and told.
+/// A value of a kind that the schema has, within the limits, and how it is read and reported.
 #[derive(Clone, Copy)]
 pub struct Question<'a> {
     pub schema: &'a Schema,

@@ -1,7 +1,7 @@
 //! Writes a stream of records in its normal form.
 ghost use Rattle.std.specs.Prelude.{◌≡◌, ◌≢◌, ◌⊎◌, ◌↔◌, ◌<◌, ◌≤◌, [], true, false, Option, List, ℕ, Some, IfOk, IfErr};
 ghost use Rattle.std.specs.Prelude.{OnOk, IsErrOf, string_bytes};
-ghost use Rattle.xdr_io.specs.Told.{Counts, CountsAtMost, MovesAtMost};
+ghost use Rattle.xdr_io.specs.Reported.{Counts, CountsAtMost, MovesAtMost};
 ghost use Rattle.oncrpc_tasks.specs.RecordsEnd.{RecordsEnd, IsFormInPart};
 ghost use Rattle.oncrpc_tasks.specs.Input.{most_read};
 ghost use Rattle.oncrpc_tasks.specs.Records.{Marks, MarksAsText, StopsFor, refusal_line};

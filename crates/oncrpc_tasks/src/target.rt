@@ -26,11 +26,11 @@ pub fn target_of<P: Opener>(
     what: &ValueTask,
     opener: &mut P,
 ) -> Result<Target, Unusable>
-    ensures asks { IfOk result (λ t. AsksFor (P.told opener.old) what.now t) }
+    ensures asks { IfOk result (λ t. AsksFor (P.reported opener.old) what.now t) }
     ensures known { IfOk result (λ t. t.kind.place < length t.schema.kinds) }
-    ensures none { IfErr result (λ why. HasNoQuestion (P.told opener.old) what.now why) }
+    ensures none { IfErr result (λ why. HasNoQuestion (P.reported opener.old) what.now why) }
     ensures failed { IsErrOf result (Unusable.Failed Failure.Read)
-        → FileFails P.Text.left P.Text.failures (P.told opener.old) what.now.types
+        → FileFails P.Text.left P.Text.failures (P.reported opener.old) what.now.types
         (P.failures opener.old) (P.failures opener.new) }
 {
     let declared = declared(alloc, &what.types, opener)?;

@@ -60,8 +60,8 @@ pub fn task_over<P: Opener, I: Source, O: Sink, F: Sink>(
     faults: &mut F,
 ) -> u8
     ensures known { result ≤ 4 }
-    ensures ends { TaskEnds (P.told opener.old) task.now
-        (FileFails P.Text.left P.Text.failures (P.told opener.old) (file_of task.now)
+    ensures ends { TaskEnds (P.reported opener.old) task.now
+        (FileFails P.Text.left P.Text.failures (P.reported opener.old) (file_of task.now)
         (P.failures opener.old) (P.failures opener.new))
         (record { left = I.left; reads = I.reads; failures = I.failures; taken = O.taken; lost = O.failures })
         input.old input.new output.old output.new faults.old faults.new result }
@@ -83,8 +83,8 @@ fn value_over<P: Opener, I: Source, O: Sink, F: Sink>(
     faults: &mut F,
 ) -> u8
     ensures known { result ≤ 4 }
-    ensures ends { WordsEnd (P.told opener.old) what.now shows
-        (FileFails P.Text.left P.Text.failures (P.told opener.old) what.now.types
+    ensures ends { WordsEnd (P.reported opener.old) what.now shows
+        (FileFails P.Text.left P.Text.failures (P.reported opener.old) what.now.types
         (P.failures opener.old) (P.failures opener.new))
         (record { left = I.left; reads = I.reads; failures = I.failures; taken = O.taken; lost = O.failures })
         input.old input.new output.old output.new faults.old faults.new result }

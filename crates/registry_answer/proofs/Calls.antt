@@ -18,15 +18,15 @@ use Rattle.registry_answer.specs.Private.Pushes.{PushesStatus, PushesCall, head}
 pub pushes_accepted : (rows : List Row) (netid owner : List ℕ) (c : CallView) (old out : List ℕ) (new : List Row)
     → IsWord c.xid → IsCaller c.cred (Owner owner) → (k : PushesStatus rows netid owner c old new out)
     → is_too_long netid (length (reply (accepted c.xid k.status))) ≡ false → PushesCall rows netid c old new out
-pushes_accepted rows netid owner c old out new word is k room = record {
+pushes_accepted rows netid owner c old out new word is k space = record {
   said = accepted c.xid k.status;
-  answers = accepts owner new k.status is k.comes room;
+  answers = accepts owner new k.status is k.comes space;
   fits = (word, record { flavor = omega arith; short = omega arith }, k.fits);
   added = k.added;
   short = k.short;
 }
 
--- and one that has no room
+-- and one that has no space
 pub pushes_too_long : (rows : List Row) (netid owner : List ℕ) (c : CallView) (old mid out : List ℕ) (new : List Row)
     → IsWord c.xid → IsCaller c.cred (Owner owner) → (k : PushesStatus rows netid owner c old new mid)
     → is_too_long netid (length (reply (accepted c.xid k.status))) ≡ true → new ≡ rows → out ≡ old ++ head c.xid 5

@@ -3,10 +3,10 @@ pub mod Fields
 pub mod Decoded
 pub mod Begun
 pub mod Statuses
-pub mod Telling
+pub mod Reporting
 pub mod Calls
 pub mod Listing
 pub mod Cases
 pub mod One
-pub mod Room
+pub mod Space
 pub mod Some

@@ -132,7 +132,7 @@ module _ (cases : NoTwoCases)
         let e : owner ≡ who = ap text_of (one_caller c.cred h k) in
         one_status who (subst (λ (x : List ℕ). ComesTo rows netid x c new s) e come) go
 
-    -- whether the transport has no room for the reply of a status
+    -- whether the transport has no space for the reply of a status
     abbrev room_for : StatusView → Bool
     room_for status = is_too_long netid (length (reply (accepted c.xid status)))
 
@@ -150,7 +150,7 @@ module _ (cases : NoTwoCases)
         absurd (true≢false (ap is_owner (one_caller c.cred k h)))
     one_reply (accepts owner new status h come fits) (denies t k) =
         absurd (true≢false (ap is_owner (one_caller c.cred h k)))
-    one_reply (accepts owner new status h come fits) (accepts who next mark k go room) =
+    one_reply (accepts owner new status h come fits) (accepts who next mark k go space) =
         let s = same_status owner who h k come go in
         (s.0, ap (accepted c.xid) s.1)
     one_reply (accepts owner new status h come fits) (too_long who next mark k go long) =
@@ -167,20 +167,20 @@ module _ (cases : NoTwoCases)
     both_are : {A : Type 0} (x a b : A) → a ≡ x → b ≡ x → a ≡ b
     both_are x a b e f = e ∙ sym f
 
-    agree : (k : CaseView) (refused : Bool) (new also : List Row) (said told : Option ReplyView)
-        → Decided rows netid k refused new said → Decided rows netid k refused also told → (new ≡ also) × (said ≡ told)
-    agree k true new also said told x y = (both_are _ new also x.0 y.0, both_are _ said told x.1 y.1)
-    agree NotACall false new also said told x y = (both_are _ new also x.0 y.0, both_are _ said told x.1 y.1)
-    agree (OtherVersion xid version) false new also said told x y =
-        (both_are _ new also x.0 y.0, both_are _ said told x.1 y.1)
-    agree (BadCred xid) false new also said told x y = (both_are _ new also x.0 y.0, both_are _ said told x.1 y.1)
-    agree (BadVerf xid) false new also said told x y = (both_are _ new also x.0 y.0, both_are _ said told x.1 y.1)
-    agree (Whole c) false new also said told x y =
+    agree : (k : CaseView) (refused : Bool) (new also : List Row) (said reported : Option ReplyView)
+        → Decided rows netid k refused new said → Decided rows netid k refused also reported → (new ≡ also) × (said ≡ reported)
+    agree k true new also said reported x y = (both_are _ new also x.0 y.0, both_are _ said reported x.1 y.1)
+    agree NotACall false new also said reported x y = (both_are _ new also x.0 y.0, both_are _ said reported x.1 y.1)
+    agree (OtherVersion xid version) false new also said reported x y =
+        (both_are _ new also x.0 y.0, both_are _ said reported x.1 y.1)
+    agree (BadCred xid) false new also said reported x y = (both_are _ new also x.0 y.0, both_are _ said reported x.1 y.1)
+    agree (BadVerf xid) false new also said reported x y = (both_are _ new also x.0 y.0, both_are _ said reported x.1 y.1)
+    agree (Whole c) false new also said reported x y =
         let h = one_reply rows netid c x.1.0 y.1.0 in
         (h.0, x.1.1 ∙ ap Some h.1 ∙ sym y.1.1)
 
   pub one_answer : OneAnswer
-  one_answer rows new also netid message refused sent told fits x y =
+  one_answer rows new also netid message refused sent reported fits x y =
       let same = cases message x.case y.case fits x.read y.read in
       let second : Answers rows netid x.case refused also y.said =
       subst (λ (k : CaseView). Answers rows netid k refused also y.said) (sym same) y.answers in
@@ -188,5 +188,5 @@ module _ (cases : NoTwoCases)
       (decided rows netid second) in (
         h.0,
         sends_is x.said sent x.sends ∙ ap (λ (o : Option ReplyView). option_map reply o) h.1
-            ∙ sym (sends_is y.said told y.sends),
+            ∙ sym (sends_is y.said reported y.sends),
       )

@@ -24,11 +24,11 @@ use Rattle.registry_answer.proofs.Fields.{length-padded}
 use Rattle.registry_answer.specs.Procedures.{Procedure, null, set_2, unset_2, getport_2, dump_2, set_3, unset_3}
 use Rattle.registry_answer.specs.Procedures.{getaddr_3}
 use Rattle.registry_answer.specs.Procedures.{dump_3, getversaddr_4, procedures_2, procedures_3, procedure_at}
-use Rattle.registry_answer.specs.Procedures.{void, told}
+use Rattle.registry_answer.specs.Procedures.{void, reported}
 use Rattle.registry_answer.specs.Answer.{AreArguments, AreGarbage, IsVersion, IsCallOf, ComesTo, no_program, no_version}
 use Rattle.registry_answer.specs.Answer.{no_procedure, garbage, success, accepted, program}
 use Rattle.registry_answer.specs.Answering.{most}
-use Rattle.registry_answer.specs.Private.Pushes.{PushesStatus, Tells, head}
+use Rattle.registry_answer.specs.Private.Pushes.{PushesStatus, Reports, head}
 
 -- any bytes begin with no arguments
 pub no_arguments : (args : List ℕ) → AreArguments 5 args void
@@ -61,10 +61,10 @@ module _ (rows : List Row) (netid owner : List ℕ) (c : CallView) (old out : Li
       (success p t of are)) tt e (omega (arith, long, few))
 
   -- a reply that tells of a step
-  pub pushes_told : (p : Procedure) (t : Tree) (new : List Row) (s : Step) → IsCallOf c p
-      → AreArguments p.takes c.args t → p.gives ≡ 4 → p.step rows netid owner t ≡ told s → Tells s c.xid old new out
+  pub pushes_reported : (p : Procedure) (t : Tree) (new : List Row) (s : Step) → IsCallOf c p
+      → AreArguments p.takes c.args t → p.gives ≡ 4 → p.step rows netid owner t ≡ reported s → Reports s c.xid old new out
       → PushesStatus rows netid owner c old new out
-  pushes_told p t new s of are gives is k =
+  pushes_reported p t new s of are gives is k =
       let moved : new ≡ (p.step rows netid owner t).0 = ap (λ (x : Step). x.0) k.stepped
       ∙ sym (ap (λ (x : List Row × Tree). x.0) is) in
       let result : num4 (number_of k.done) ≡ bytes_of dir_kinds p.gives (p.step rows netid owner t).1 =
@@ -192,14 +192,14 @@ module _ (rows : List Row) (netid owner : List ℕ) (c : CallView) (old out : Li
 
   module _ (prog vers prot port : ℕ) (are : AreArguments 15 c.args (mapping_of prog vers prot port)) where
     pub pushes_set_2 : (new : List Row) → IsCallOf c set_2
-        → Tells (set_port rows prog vers prot port owner) c.xid old new out
+        → Reports (set_port rows prog vers prot port owner) c.xid old new out
         → PushesStatus rows netid owner c old new out
-    pushes_set_2 new of k = pushes_told rows netid owner c old out set_2 (mapping_of prog vers prot port) new
+    pushes_set_2 new of k = pushes_reported rows netid owner c old out set_2 (mapping_of prog vers prot port) new
         (set_port rows prog vers prot port owner) of are refl refl k
 
     pub pushes_unset_2 : (new : List Row) → IsCallOf c unset_2
-        → Tells (unset_port rows prog vers owner) c.xid old new out → PushesStatus rows netid owner c old new out
-    pushes_unset_2 new of k = pushes_told rows netid owner c old out unset_2 (mapping_of prog vers prot port) new
+        → Reports (unset_port rows prog vers owner) c.xid old new out → PushesStatus rows netid owner c old new out
+    pushes_unset_2 new of k = pushes_reported rows netid owner c old out unset_2 (mapping_of prog vers prot port) new
         (unset_port rows prog vers owner) of are refl refl k
 
     pub pushes_getport_2 : IsCallOf c getport_2 → out ≡ old ++ (head c.xid 0 ++ word (get_port rows prog vers prot))
@@ -210,15 +210,15 @@ module _ (rows : List Row) (netid owner : List ℕ) (c : CallView) (old out : Li
   module _ (prog vers : ℕ) (id address someone : List ℕ) (are : AreArguments 11 c.args
       (rpcb_tree (row_of prog vers id address someone))) where
     pub pushes_set_3 : (new : List Row) → IsCallOf c set_3
-        → Tells (set rows (row_of prog vers id address owner)) c.xid old new out
+        → Reports (set rows (row_of prog vers id address owner)) c.xid old new out
         → PushesStatus rows netid owner c old new out
-    pushes_set_3 new of k = pushes_told rows netid owner c old out set_3
+    pushes_set_3 new of k = pushes_reported rows netid owner c old out set_3
         (rpcb_tree (row_of prog vers id address someone)) new
         (set rows (row_of prog vers id address owner)) of are refl refl k
 
     pub pushes_unset_3 : (new : List Row) → IsCallOf c unset_3
-        → Tells (unset rows prog vers id owner) c.xid old new out → PushesStatus rows netid owner c old new out
-    pushes_unset_3 new of k = pushes_told rows netid owner c old out unset_3
+        → Reports (unset rows prog vers id owner) c.xid old new out → PushesStatus rows netid owner c old new out
+    pushes_unset_3 new of k = pushes_reported rows netid owner c old out unset_3
         (rpcb_tree (row_of prog vers id address someone)) new (unset rows prog vers id owner) of are refl refl k
 
     pub pushes_getaddr_3 : IsCallOf c getaddr_3 → out ≡ old ++ (head c.xid 0 ++ text (getaddr rows prog vers netid))

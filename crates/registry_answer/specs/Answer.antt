@@ -78,12 +78,12 @@ auth_error xid stat = Denied xid (AuthError stat)
 abbrev pub most_datagram : ℕ
 most_datagram = 65507
 
--- a reply of so many bytes has no room in one message of the transport: only datagrams are bounded
+-- a reply of so many bytes has no space in one message of the transport: only datagrams are bounded
 abbrev pub is_too_long : (netid : List ℕ) → ℕ → Bool
 is_too_long netid count = bytes_eq netid udp && nat_lt most_datagram count
 
 -- The new rows and the reply to a whole call: denied where the caller is not believed, and SYSTEM_ERR with the rows as
--- they were where the reply has no room (this project's own).
+-- they were where the reply has no space (this project's own).
 pub data AnswersCall (rows : List Row) (netid : List ℕ) (c : CallView) : List Row → ReplyView → Type 0 where
   denies : (stat : ℕ) → IsCaller c.cred (Refused stat) → AnswersCall rows netid c rows (auth_error c.xid stat)
   accepts : (owner : List ℕ) (new : List Row) (status : StatusView) → IsCaller c.cred (Owner owner)

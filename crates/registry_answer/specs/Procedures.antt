@@ -49,8 +49,8 @@ abbrev pub void : Tree
 void = (value.nothing, value.none)
 
 -- the answer of a step as a bool (RFC 4506 section 4.4)
-abbrev pub told : Step → List Row × Tree
-told s = (s.0, (value.boolean s.1, value.none))
+abbrev pub reported : Step → List Row × Tree
+reported s = (s.0, (value.boolean s.1, value.none))
 
 -- procedure 0 of every version: no arguments and no results (RFC 5531 section 12.1)
 abbrev pub null : Procedure
@@ -63,7 +63,7 @@ abbrev pub set_2 : Procedure
 set_2 = record {
   takes = 15;
   gives = 4;
-  step = λ rows netid owner t. told
+  step = λ rows netid owner t. reported
       (set_port rows (number_at 0 t) (number_at 1 t) (number_at 2 t) (number_at 3 t) owner);
 }
 
@@ -72,7 +72,7 @@ abbrev pub unset_2 : Procedure
 unset_2 = record {
   takes = 15;
   gives = 4;
-  step = λ rows netid owner t. told (unset_port rows (number_at 0 t) (number_at 1 t) owner);
+  step = λ rows netid owner t. reported (unset_port rows (number_at 0 t) (number_at 1 t) owner);
 }
 
 -- looks a port up; the argument's port is ignored (PMAPPROC_GETPORT)
@@ -94,7 +94,7 @@ abbrev pub set_3 : Procedure
 set_3 = record {
   takes = 11;
   gives = 4;
-  step = λ rows netid owner t. told
+  step = λ rows netid owner t. reported
       (set rows (row_of (number_at 0 t) (number_at 1 t) (text_at 2 t) (text_at 3 t) owner));
 }
 
@@ -103,7 +103,7 @@ abbrev pub unset_3 : Procedure
 unset_3 = record {
   takes = 11;
   gives = 4;
-  step = λ rows netid owner t. told (unset rows (number_at 0 t) (number_at 1 t) (text_at 2 t) owner);
+  step = λ rows netid owner t. reported (unset rows (number_at 0 t) (number_at 1 t) (text_at 2 t) owner);
 }
 
 -- looks an address up over the call's own transport, of the greatest version where the argument's is not registered;

@@ -149,7 +149,7 @@ fn push_call<S: BuildHasher>(
 }
 
 /// Writes the reply to a call of a caller who is believed: SYSTEM_ERR, with the rows as they were, where the transport
-/// has no room for it.
+/// has no space for it.
 #[tactic(auto, using(crate::proofs::Chains::begins_then))]
 fn push_sendable<S: BuildHasher>(
     alloc: Global,

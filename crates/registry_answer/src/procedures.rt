@@ -9,7 +9,7 @@ ghost use Rattle.registry_rows.specs.LookUp.{getaddr};
 ghost use Rattle.registry_rows.specs.Ports.{set_port, unset_port, get_port};
 ghost use Rattle.registry_answer.specs.Owners.{owner_text};
 ghost use Rattle.registry_answer.specs.Private.Parsed.{text};
-ghost use Rattle.registry_answer.specs.Private.Pushes.{head, Tells};
+ghost use Rattle.registry_answer.specs.Private.Pushes.{head, Reports};
 ghost use Rattle.registry_answer.specs.Views.{netid_of};
 
 use crate::arguments::{Mapping, Rpcb};
@@ -56,7 +56,7 @@ pub fn push_set_port<S: BuildHasher>(
     out: &mut Vec<u8>,
 ) -> Result<(), NoMemory>
     ensures ok { let step = set_port directory.old m.prog m.vers m.prot m.port (owner_text owner) in
-        OnOk result (Tells step xid out.old.items directory.new out.new.items) }
+        OnOk result (Reports step xid out.old.items directory.new out.new.items) }
     ensures err { OnErr result (directory.new ≡ directory.old) }
     ensures begins { StartsWith out.new.items out.old.items }
 {
@@ -82,7 +82,7 @@ pub fn push_unset_port<S: BuildHasher>(
     out: &mut Vec<u8>,
 ) -> Result<(), NoMemory>
     ensures ok { let step = unset_port directory.old m.prog m.vers (owner_text owner) in
-        OnOk result (Tells step xid out.old.items directory.new out.new.items) }
+        OnOk result (Reports step xid out.old.items directory.new out.new.items) }
     ensures err { OnErr result (directory.new ≡ directory.old) }
     ensures begins { StartsWith out.new.items out.old.items }
 {
@@ -122,7 +122,7 @@ pub fn push_set<S: BuildHasher>(
     out: &mut Vec<u8>,
 ) -> Result<(), NoMemory>
     ensures ok { let row = row_of r.entry.prog r.entry.vers r.entry.netid.now r.entry.address.now (owner_text owner) in
-        OnOk result (Tells (set directory.old row) xid out.old.items directory.new out.new.items) }
+        OnOk result (Reports (set directory.old row) xid out.old.items directory.new out.new.items) }
     ensures err { OnErr result (directory.new ≡ directory.old) }
     ensures begins { StartsWith out.new.items out.old.items }
 {
@@ -148,7 +148,7 @@ pub fn push_unset<S: BuildHasher>(
     out: &mut Vec<u8>,
 ) -> Result<(), NoMemory>
     ensures ok { let step = unset directory.old r.entry.prog r.entry.vers r.entry.netid.now (owner_text owner) in
-        OnOk result (Tells step xid out.old.items directory.new out.new.items) }
+        OnOk result (Reports step xid out.old.items directory.new out.new.items) }
     ensures err { OnErr result (directory.new ≡ directory.old) }
     ensures begins { StartsWith out.new.items out.old.items }
 {

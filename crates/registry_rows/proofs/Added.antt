@@ -31,7 +31,7 @@ pub record Addable (rows : List plain.Row) (r : plain.Row) : Type 0 where
   pub some_address : 0 < length r.address
   pub netid : length r.netid ≤ 64
   pub address : length r.address ≤ 256
-  pub room : length rows < 1024
+  pub space : length rows < 1024
   pub absent : list_any (is_at r.prog r.vers r.netid) rows ≡ false
 
 pub addable : (rows : List plain.Row) (r : plain.Row) → may_add rows r ≡ true → Addable rows r
@@ -46,7 +46,7 @@ addable rows r e =
       some_address = some_byte r.address t.1;
       netid = le_true _ _ n.1;
       address = le_true _ _ a.1;
-      room = (Decides-ltb _ _).0 o.1;
+      space = (Decides-ltb _ _).0 o.1;
       absent = not_true _ f.1;
     }
 

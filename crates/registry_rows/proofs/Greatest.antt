@@ -109,10 +109,10 @@ all_looked_at rows None e = sym (ap greatest e)
 all_looked_at rows (Some r) e = sym e
 
 -- The rows that a test keeps keep to what all keep to.
-pub kept_rows : (test : Row → Bool) (rows : List Row) → AllByRecursion IsRow rows
+pub retained_rows : (test : Row → Bool) (rows : List Row) → AllByRecursion IsRow rows
     → AllByRecursion IsRow (filter test rows)
-kept_rows test [] h = tt
-kept_rows test (x ∷ xs) h = by (test x) (kept_rows test xs h.1)
+retained_rows test [] h = tt
+retained_rows test (x ∷ xs) h = by (test x) (retained_rows test xs h.1)
   where
     by : (b : Bool) → AllByRecursion IsRow (filter test xs)
         → AllByRecursion IsRow (cond b (x ∷ filter test xs) (filter test xs))
@@ -163,8 +163,8 @@ still_some (r ∷ rest) rows b h =
     by false e more = let le : r.vers ≤ b.vers = grind (arith, e) in more b (not_greater rows r b h le)
 
 -- There is a row of greatest version among those that a test keeps where it keeps one.
-some_kept : (test : Row → Bool) (rows : List Row) → is_some (greatest (filter test rows)) ≡ list_any test rows
-some_kept test rows = some (filter test rows) ∙ any test rows
+some_retained : (test : Row → Bool) (rows : List Row) → is_some (greatest (filter test rows)) ≡ list_any test rows
+some_retained test rows = some (filter test rows) ∙ any test rows
   where
     is_filled : List Row → Bool
     is_filled [] = false
@@ -188,7 +188,7 @@ pub some_looked_up : (rows : List Row) (prog vers : ℕ) (netid : List ℕ)
     → is_some (look_up rows prog vers netid) ≡ list_any (is_over prog netid) rows
 some_looked_up rows prog vers netid =
     either (row_at rows prog vers netid) (greatest (filter (is_over prog netid) rows))
-    ∙ (λ j. find_is_any (is_at prog vers netid) rows j || some_kept (is_over prog netid) rows j)
+    ∙ (λ j. find_is_any (is_at prog vers netid) rows j || some_retained (is_over prog netid) rows j)
     ∙ less rows
   where
     either : (a b : Option Row) → is_some (option_or a b) ≡ (is_some a || is_some b)

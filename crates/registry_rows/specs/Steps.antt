@@ -18,7 +18,7 @@ is_empty bs = nat_eq (length bs) 0
 abbrev pub superuser : List ℕ
 superuser = codes "superuser"
 
--- whether the row may be added: with a netid and an address, none too long, room for it, and no row of its key (RFC
+-- whether the row may be added: with a netid and an address, none too long, space for it, and no row of its key (RFC
 -- 1833 section 2.2.1, RPCBPROC_SET)
 abbrev pub may_add : List Row → Row → Bool
 may_add rows r =

@@ -34,7 +34,7 @@ pub fn find<'a, S: BuildHasher>(
 /// Adds a row, whose key no row has, at the end. `NoMemory` leaves the rows as they were.
 pub fn append<S: BuildHasher>(rows: &mut IndexMap<Key, Row, S>, row: Row) -> Result<(), NoMemory>
     requires entries { AreEntries rows.old.entries }
-    requires room { length rows.old.entries < 1024 }
+    requires space { length rows.old.entries < 1024 }
     requires row { IsRow (plain_row row) }
     requires absent { list_any (is_at row.prog row.vers row.netid.items) (plain_rows rows.old.entries) ≡ false }
     ensures entries { AreEntries rows.new.entries }

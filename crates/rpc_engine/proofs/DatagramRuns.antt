@@ -6,13 +6,13 @@ use Rattle.registry_rows.specs.Rows.{Row}
 use Rattle.registry_rows.specs.Ports.{udp}
 use Rattle.registry_answer.specs.Answer.{Answer}
 use Rattle.rpc_engine.specs.Run.{listed}
-use Rattle.rpc_engine.specs.Ports.{Told, Receives, Sends}
+use Rattle.rpc_engine.specs.Ports.{Reported, Receives, Sends}
 use Rattle.rpc_engine.specs.Datagrams.{Finishes, ServesDatagrams, NotReceived, NotSent}
 use Rattle.rpc_engine.specs.Private.Replying.{HasReply, RepliesTo, HasServed}
 use Rattle.rpc_engine.proofs.Ports.{Receives-trans, Receives-none, Sends-trans, Sends-none}
 use Rattle.rpc_engine.proofs.Runs.{run_none, run_one, runs_join}
 
-pub none_served : (rows : List Row) (l s : Told) → HasServed 0 0 rows rows l l s s
+pub none_served : (rows : List Row) (l s : Reported) → HasServed 0 0 rows rows l l s s
 none_served rows l s = record {
   datagrams = [];
   replies = [];
@@ -26,10 +26,10 @@ none_served rows l s = record {
   };
 }
 
-module _ (done replied count : ℕ) (rows mid : List Row) (l m s t : Told) (p : HasServed done replied rows mid l m s t)
+module _ (done replied count : ℕ) (rows mid : List Row) (l m s t : Reported) (p : HasServed done replied rows mid l m s t)
   where
     -- nothing more was received or sent
-    finished_still : (n u : Told) → Receives m n [] → Sends t u [] → Finishes rows mid l n s u p.datagrams p.replies
+    finished_still : (n u : Reported) → Receives m n [] → Sends t u [] → Finishes rows mid l n s u p.datagrams p.replies
     finished_still n u h k = record {
       refusals = p.finished.refusals;
       received = Receives-trans l m n p.datagrams [] p.datagrams (append-nil p.datagrams) p.finished.received h;
@@ -37,7 +37,7 @@ module _ (done replied count : ℕ) (rows mid : List Row) (l m s t : Told) (p : 
       sends = Sends-trans s t u p.replies [] p.replies (append-nil p.replies) p.finished.sends k;
     }
 
-    pub not_received : (n u : Told) → done < count → Receives m n [] → Sends t u []
+    pub not_received : (n u : Reported) → done < count → Receives m n [] → Sends t u []
         → NotReceived count done rows mid l n s u
     not_received n u few h k = record {
       datagrams = p.datagrams;
@@ -47,10 +47,10 @@ module _ (done replied count : ℕ) (rows mid : List Row) (l m s t : Told) (p : 
       finished = finished_still n u h k;
     }
 
-    module _ (x : List ℕ) (new : List Row) (n o u v : Told) (received : Receives m n (x ∷ [])) (unsent : Sends t u [])
-        (kept : Receives n o []) where
+    module _ (x : List ℕ) (new : List Row) (n o u v : Reported) (received : Receives m n (x ∷ [])) (unsent : Sends t u [])
+        (retained : Receives n o []) where
       came : Receives m o (x ∷ [])
-      came = Receives-trans m n o (x ∷ []) [] (x ∷ []) refl received kept
+      came = Receives-trans m n o (x ∷ []) [] (x ∷ []) refl received retained
 
       pub not_sent : done < count → (bytes : List ℕ) × (HasReply mid x new bytes × Sends u v [])
           → NotSent count done rows new l o s v
@@ -100,7 +100,7 @@ module _ (done replied count : ℕ) (rows mid : List Row) (l m s t : Told) (p : 
       more_answered E false n e h =
           subst (λ k. HasServed (done + 1) k rows new l o s v) (omega (arith, e)) (more_silent h)
 
-pub all_served : (count replied : ℕ) (rows new : List Row) (l m s t : Told) → count < 2 ^ 64 → replied < 2 ^ 64
+pub all_served : (count replied : ℕ) (rows new : List Row) (l m s t : Reported) → count < 2 ^ 64 → replied < 2 ^ 64
     → HasServed count replied rows new l m s t
     → ServesDatagrams count rows new l m s t (record { records = count; replies = replied })
 all_served count replied rows new l m s t few less p = record {

@@ -4,18 +4,18 @@ use Rattle.rpc_message.specs.declared.message.Reply.{Reply}
 use Rattle.rpc_engine.specs.declared.fault.ClientFault.{ClientFault}
 use Rattle.rpc_engine.specs.declared.fault.ClientFault.TheVariants as fault
 use Rattle.rpc_engine.specs.DatagramExchange.{Replies, ExchangesDatagram}
-use Rattle.rpc_engine.specs.Ports.{Told, Receives, Sends}
+use Rattle.rpc_engine.specs.Ports.{Reported, Receives, Sends}
 use Rattle.rpc_engine.proofs.Ports.{Receives-trans, Sends-trans}
 
-module _ (xid : ℕ) (call given message : List ℕ) (l m n s t u : Told) (is : given ≡ call)
-    (sent : Sends s t (given ∷ [])) (kept : Receives l m []) (received : Receives m n (message ∷ []))
+module _ (xid : ℕ) (call given message : List ℕ) (l m n s t u : Reported) (is : given ≡ call)
+    (sent : Sends s t (given ∷ [])) (retained : Receives l m []) (received : Receives m n (message ∷ []))
     (unsent : Sends t u []) where
   out : Sends s u (call ∷ [])
   out = Sends-trans s t u (call ∷ []) [] (call ∷ []) refl
       (subst (λ k. Sends s t (k ∷ [])) is sent) unsent
 
   came : Receives l n (message ∷ [])
-  came = Receives-trans l m n [] (message ∷ []) (message ∷ []) refl kept received
+  came = Receives-trans l m n [] (message ∷ []) (message ∷ []) refl retained received
 
   pub exchanged_datagram : (result : Result Reply ClientFault) → Replies xid message result
       → ExchangesDatagram xid call l n s u result

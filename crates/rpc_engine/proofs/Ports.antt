@@ -9,29 +9,29 @@ use Rattle.std.proofs.lemmas.List.{append-nil, length-take-le}
 use Rattle.std.proofs.lemmas.List.Sums.{sum_by-cons}
 use Rattle.std.specs.List.{concat}
 use Rattle.xdr_io.proofs.Chained.{take-add}
-use Rattle.rpc_engine.specs.Ports.{Told, Receives, Sends, pieces, received_from, most_received}
+use Rattle.rpc_engine.specs.Ports.{Reported, Receives, Sends, pieces, received_from, most_received}
 
 -- ---- one call after another
 
-pub Receives-trans : (a b c : Told) (ds es fs : List (List ℕ)) → ds ++ es ≡ fs → Receives a b ds → Receives b c es
+pub Receives-trans : (a b c : Reported) (ds es fs : List (List ℕ)) → ds ++ es ≡ fs → Receives a b ds → Receives b c es
     → Receives a c fs
 Receives-trans None b c ds es fs e p q = tt
 Receives-trans (Some x) None c ds es fs e p q = absurd p
 Receives-trans (Some x) (Some y) None ds es fs e p q = absurd q
 Receives-trans (Some x) (Some y) (Some z) ds es fs e p q = rw (p, q, ← append_assoc ds es z, e) refl
 
-pub Receives-none : (a : Told) → Receives a a []
+pub Receives-none : (a : Reported) → Receives a a []
 Receives-none None = tt
 Receives-none (Some x) = refl
 
-pub Sends-trans : (a b c : Told) (ds es fs : List (List ℕ)) → ds ++ es ≡ fs → Sends a b ds → Sends b c es
+pub Sends-trans : (a b c : Reported) (ds es fs : List (List ℕ)) → ds ++ es ≡ fs → Sends a b ds → Sends b c es
     → Sends a c fs
 Sends-trans None b c ds es fs e p q = tt
 Sends-trans (Some x) None c ds es fs e p q = absurd p
 Sends-trans (Some x) (Some y) None ds es fs e p q = absurd q
 Sends-trans (Some x) (Some y) (Some z) ds es fs e p q = rw (q, p, append_assoc x ds es, e) refl
 
-pub Sends-none : (a : Told) → Sends a a []
+pub Sends-none : (a : Reported) → Sends a a []
 Sends-none None = tt
 Sends-none (Some x) = sym (append-nil x)
 
@@ -70,14 +70,14 @@ pieces_more (n ∷ ns) bytes d rest h =
     (pieces_more ns (drop n bytes) d rest (omega (arith, few, length-drop n bytes)))
 
 -- a datagram is kept behind the others, and its size behind theirs
-pub kept_more : (count : ℕ) (sizes room d rest : List ℕ) (used : ℕ) → sum (take count sizes) ≡ used
-    → used ≤ length room → count < length sizes
-    → pieces (take (count + 1) (set sizes count (length d))) (take used room ++ (d ++ rest))
-    ≡ pieces (take count sizes) room ++ d ∷ []
-kept_more count sizes room d rest used e h few =
-    ap (λ k. pieces k (take used room ++ (d ++ rest))) (take_more_set sizes count (length d) few)
-    ∙ ap (λ k. pieces (take count sizes ++ length d ∷ []) (take k room ++ (d ++ rest))) (sym e)
-    ∙ pieces_more (take count sizes) room d rest (omega (arith, e, h))
+pub retained_more : (count : ℕ) (sizes buffer d rest : List ℕ) (used : ℕ) → sum (take count sizes) ≡ used
+    → used ≤ length buffer → count < length sizes
+    → pieces (take (count + 1) (set sizes count (length d))) (take used buffer ++ (d ++ rest))
+    ≡ pieces (take count sizes) buffer ++ d ∷ []
+retained_more count sizes buffer d rest used e h few =
+    ap (λ k. pieces k (take used buffer ++ (d ++ rest))) (take_more_set sizes count (length d) few)
+    ∙ ap (λ k. pieces (take count sizes ++ length d ∷ []) (take k buffer ++ (d ++ rest))) (sym e)
+    ∙ pieces_more (take count sizes) buffer d rest (omega (arith, e, h))
 
 -- the next lent datagram is at the front of the array
 pub next_received : (waiting : List (Bor (List ℕ))) (next n : ℕ) (none : Bor (List ℕ)) (copied rest : List ℕ)

@@ -100,7 +100,7 @@ module _ (netid : List ℕ) (rows new : List Row) (old mid now : Session) (r rep
   loses_reply (Err cut) (Err fault.TooManyReads) c w = absurd c
   loses_reply (Err cut) (Err fault.NoMemory) c w = absurd c
 
--- the room before a reply
+-- the buffer before a reply
 pub front_is : (b given : Bool) (x old : List ℕ) → x ≡ [] → old ≡ cond given (x ++ (0 ∷ 0 ∷ 0 ∷ 0 ∷ [])) x → b ≡ given
     → length old ≡ front_len b
 front_is true given x old e h s =
@@ -132,7 +132,7 @@ front_set front reply h e f =
     ∙ ap (λ z. with_front ((x.0 ∷ x.1.0 ∷ x.1.1.0 ∷ x.1.1.1.0 ∷ []) ++ reply) z) ys
     ∙ ap (λ z. z ++ reply) (sym ys)
 
--- a reply without room before it
+-- a reply without buffer before it
 pub send_plain : FragmentLength → (b : Bool) (front reply items given : List ℕ) (n : ℕ) (t u : Option (List ℕ))
     → b ≡ false → length front ≡ front_len b → items ≡ front ++ reply → given ≡ items → n ≡ length items
     → Appends t u (fragment true given) → IsSent (fragment true reply) t u (Ok (n + 4))

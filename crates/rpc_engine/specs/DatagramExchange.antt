@@ -9,7 +9,7 @@ use Rattle.rpc_message.specs.View.{reply_view}
 use Rattle.rpc_engine.specs.declared.fault.ClientFault.{ClientFault}
 use Rattle.rpc_engine.specs.declared.fault.ClientFault.TheVariants as fault
 use Rattle.rpc_engine.specs.Exchanged.{xid_of, IsNoReply}
-use Rattle.rpc_engine.specs.Ports.{Told, Receives, Sends}
+use Rattle.rpc_engine.specs.Ports.{Reported, Receives, Sends}
 
 -- What a message is to a call with this xid: its reply, a reply with another xid, or no reply.
 pub data MessageCase : Type 0 where
@@ -33,7 +33,7 @@ Replies xid r (Err _) = ⊥
 
 -- The call was sent in one datagram and one was received, of which the answer speaks. Where a send failed nothing was
 -- sent or received, where a receive failed nothing was received, and where memory was refused both were or neither.
-abbrev pub ExchangesDatagram : (xid : ℕ) → (call : List ℕ) → Told → Told → Told → Told → Result Reply ClientFault
+abbrev pub ExchangesDatagram : (xid : ℕ) → (call : List ℕ) → Reported → Reported → Reported → Reported → Result Reply ClientFault
     → Type 0
 ExchangesDatagram xid call left left' sent sent' (Err (fault.Write written)) =
     (written ≡ 0) × Sends sent sent' [] × Receives left left' []

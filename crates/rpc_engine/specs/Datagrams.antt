@@ -7,7 +7,7 @@ use Rattle.rpc_engine.specs.declared.fault.DatagramFault.{DatagramFault}
 use Rattle.rpc_engine.specs.declared.fault.DatagramFault.TheVariants as fault
 use Rattle.rpc_engine.specs.declared.fault.Served.{Served}
 use Rattle.rpc_engine.specs.Counted.{IsServed}
-use Rattle.rpc_engine.specs.Ports.{Told, Receives, Sends}
+use Rattle.rpc_engine.specs.Ports.{Reported, Receives, Sends}
 use Rattle.rpc_engine.specs.Run.{Run}
 
 -- A run of the registry along datagrams: each is answered over UDP, and each reply is a datagram by itself.
@@ -16,7 +16,7 @@ abbrev pub DatagramRun : List Row → (datagrams : List (List ℕ)) → (refusal
 DatagramRun rows datagrams refusals new replies = Run rows udp datagrams refusals new replies
 
 -- These datagrams were received and finished: the rows and what was sent are those of a run along them.
-pub record Finishes (rows new : List Row) (left left' sent sent' : Told) (datagrams replies : List (List ℕ))
+pub record Finishes (rows new : List Row) (left left' sent sent' : Reported) (datagrams replies : List (List ℕ))
     : Type 0 where
   pub refusals : List Bool
   pub received : Receives left left' datagrams
@@ -24,7 +24,7 @@ pub record Finishes (rows new : List Row) (left left' sent sent' : Told) (datagr
   pub sends : Sends sent sent' replies
 
 -- So many datagrams were received, each was finished, and they and their replies were counted.
-pub record ServesDatagrams (count : ℕ) (rows new : List Row) (left left' sent sent' : Told) (served : Served)
+pub record ServesDatagrams (count : ℕ) (rows new : List Row) (left left' sent sent' : Reported) (served : Served)
     : Type 0 where
   pub datagrams : List (List ℕ)
   pub replies : List (List ℕ)
@@ -33,7 +33,7 @@ pub record ServesDatagrams (count : ℕ) (rows new : List Row) (left left' sent 
   pub counted : IsServed served datagrams replies
 
 -- A receive failed where so many datagrams were finished, of which each reply was sent.
-pub record NotReceived (count done : ℕ) (rows new : List Row) (left left' sent sent' : Told) : Type 0 where
+pub record NotReceived (count done : ℕ) (rows new : List Row) (left left' sent sent' : Reported) : Type 0 where
   pub datagrams : List (List ℕ)
   pub replies : List (List ℕ)
   pub few : done < count
@@ -42,13 +42,13 @@ pub record NotReceived (count done : ℕ) (rows new : List Row) (left left' sent
 
 -- A send failed where so many datagrams were finished: one more was received and answered, and its reply was not sent.
 -- The rows are those after it.
-pub record NotSent (count done : ℕ) (rows new : List Row) (left left' sent sent' : Told) : Type 0 where
+pub record NotSent (count done : ℕ) (rows new : List Row) (left left' sent sent' : Reported) : Type 0 where
   pub datagrams : List (List ℕ)
   pub replies : List (List ℕ)
   pub few : done < count
   pub so_many : length datagrams ≡ done
   pub mid : List Row
-  pub waiting : Told
+  pub waiting : Reported
   pub finished : Finishes rows mid left waiting sent sent' datagrams replies
   pub answering : List ℕ
   pub refused : Bool
@@ -57,7 +57,7 @@ pub record NotSent (count done : ℕ) (rows new : List Row) (left left' sent sen
   pub answer : Answer mid udp answering refused new (Some unsent)
 
 -- what a fault says of the datagrams before it
-abbrev pub StopsDatagrams : (count : ℕ) → List Row → List Row → Told → Told → Told → Told → DatagramFault → Type 0
+abbrev pub StopsDatagrams : (count : ℕ) → List Row → List Row → Reported → Reported → Reported → Reported → DatagramFault → Type 0
 StopsDatagrams count rows new left left' sent sent' (fault.Read done) =
     NotReceived count done rows new left left' sent sent'
 StopsDatagrams count rows new left left' sent sent' (fault.Write done) =

@@ -7,22 +7,22 @@ use Rattle.rpc_engine.specs.declared.memory_port.MemoryPort.{MemoryPort}
 abbrev pub IsEmpty : MemoryPort → Type 0
 IsEmpty port = length port.waiting.now ≡ port.next
 
--- the slices have no room for the datagram
+-- the slices have no buffer for the datagram
 abbrev pub IsFull : MemoryPort → List ℕ → Type 0
-IsFull port datagram = (length port.room.now < port.used + length datagram) ⊎ (length port.sizes.now ≡ port.count)
+IsFull port datagram = (length port.buffer.now < port.used + length datagram) ⊎ (length port.sizes.now ≡ port.count)
 
 -- A receive fails exactly where it is the call that fails or no datagram is left.
 abbrev pub ReceiveAnswers : {E : Type 0} → MemoryPort → Result ℕ E → Type 0
 ReceiveAnswers old (Ok n) = (IsDue old.failing old.calls → ⊥) × (IsEmpty old → ⊥)
 ReceiveAnswers old (Err e) = IsDue old.failing old.calls ⊎ IsEmpty old
 
--- A send fails exactly where it is the call that fails or there is no room for the datagram.
+-- A send fails exactly where it is the call that fails or there is no buffer for the datagram.
 abbrev pub SendAnswers : {T E : Type 0} → MemoryPort → Result T E → List ℕ → Type 0
 SendAnswers old (Ok u) datagram = (IsDue old.failing old.calls → ⊥) × (IsFull old datagram → ⊥)
 SendAnswers old (Err e) datagram = IsDue old.failing old.calls ⊎ IsFull old datagram
 
--- the datagrams, the rooms and the call that fails stay
+-- the datagrams, the buffers and the call that fails stay
 abbrev pub SamePort : MemoryPort → MemoryPort → Type 0
 SamePort old new =
-    (new.waiting.now ≡ old.waiting.now) × (length new.room.now ≡ length old.room.now)
+    (new.waiting.now ≡ old.waiting.now) × (length new.buffer.now ≡ length old.buffer.now)
     × (length new.sizes.now ≡ length old.sizes.now) × (new.failing ≡ old.failing)

@@ -2,29 +2,29 @@
 use Rattle.std.specs.Prelude.{◌≡◌, ℕ, List, [], ◌∷◌, ◌++◌, take, drop, map, ⊤, None, Some, Ok, Err, Option, Result}
 use Rattle.std.specs.Borrow.{Bor}
 
--- datagrams, where they are told
-abbrev pub Told : Type 0
-Told = Option (List (List ℕ))
+-- datagrams, where they are reported
+abbrev pub Reported : Type 0
+Reported = Option (List (List ℕ))
 
 -- The datagrams that are left lose these at their front.
-abbrev pub Receives : Told → Told → List (List ℕ) → Type 0
+abbrev pub Receives : Reported → Reported → List (List ℕ) → Type 0
 Receives None new ds = ⊤
 Receives (Some all) None ds = ⊥
 Receives (Some all) (Some rest) ds = all ≡ ds ++ rest
 
 -- The datagrams that were sent gain these at their end.
-abbrev pub Sends : Told → Told → List (List ℕ) → Type 0
+abbrev pub Sends : Reported → Reported → List (List ℕ) → Type 0
 Sends None new ds = ⊤
 Sends (Some before) None ds = ⊥
 Sends (Some before) (Some all) ds = all ≡ before ++ ds
 
 -- Ok(n) receives the next datagram, the first n bytes of the array. An Err receives none.
-abbrev pub ReceiveMoves : {E : Type 0} → Told → Told → Result ℕ E → List ℕ → Type 0
+abbrev pub ReceiveMoves : {E : Type 0} → Reported → Reported → Result ℕ E → List ℕ → Type 0
 ReceiveMoves old new (Ok n) array = Receives old new (take n array ∷ [])
 ReceiveMoves old new (Err e) array = Receives old new []
 
 -- Ok sends the datagram whole. An Err sends none.
-abbrev pub SendMoves : {T E : Type 0} → Told → Told → Result T E → List ℕ → Type 0
+abbrev pub SendMoves : {T E : Type 0} → Reported → Reported → Result T E → List ℕ → Type 0
 SendMoves old new (Ok u) datagram = Sends old new (datagram ∷ [])
 SendMoves old new (Err e) datagram = Sends old new []
 

@@ -1,7 +1,7 @@
 -- What serving has read, done and written (RFC 5531 sections 9 and 11).
 use Rattle.std.specs.Prelude.{◌≡◌, ℕ, ◌<◌, ◌≤◌, List, [], ◌∷◌, ◌++◌, length, take, Bool, Option}
 use Rattle.std.specs.Io.KnownBytes.{Appends, Consumes, IsAtEnd}
-use Rattle.xdr_io.specs.Told.{Counts}
+use Rattle.xdr_io.specs.Reported.{Counts}
 use Rattle.rpc_record.specs.declared.fault.RecordFault.TheVariants as flaw
 use Rattle.rpc_record.specs.Marked.{normal, Longest}
 use Rattle.rpc_record.specs.Reading.{IsWhole, IsInside, Begins, TooLongAt, HasNoLong, RefusedIn, capped}

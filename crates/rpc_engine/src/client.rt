@@ -1,7 +1,7 @@
 //! The exchange of a call for a reply.
 ghost use Rattle.std.specs.Prelude.{◌≡◌, ◌≢◌, ◌≤◌, true, [], ◌∷◌, length, IfOk, IfErr, OnOk, OnErr, IsErrOf};
 ghost use Rattle.std.specs.Prelude.{MatchResult};
-ghost use Rattle.xdr_io.specs.Told.{Counts, CountsAtMost};
+ghost use Rattle.xdr_io.specs.Reported.{Counts, CountsAtMost};
 ghost use Rattle.rpc_record.specs.Marked.{fragment};
 ghost use Rattle.rpc_message.specs.Spelling.{call as call_bytes};
 ghost use Rattle.rpc_message.specs.View.{call_view, reply_view};

@@ -1,6 +1,6 @@
 //! The exchange of a call for a reply over datagrams.
 ghost use Rattle.std.specs.Prelude.{◌≡◌, ◌≤◌, length};
-ghost use Rattle.xdr_io.specs.Told.{Counts};
+ghost use Rattle.xdr_io.specs.Reported.{Counts};
 ghost use Rattle.rpc_message.specs.Spelling.{call as call_bytes};
 ghost use Rattle.rpc_message.specs.View.{call_view};
 ghost use Rattle.rpc_engine.specs.DatagramExchange.{ExchangesDatagram, read_failures};

@@ -1,6 +1,6 @@
 //! The registry as a server over datagrams.
 ghost use Rattle.std.specs.Prelude.{[], IfOk, IfErr, OnOk, OnErr};
-ghost use Rattle.xdr_io.specs.Told.{Counts};
+ghost use Rattle.xdr_io.specs.Reported.{Counts};
 ghost use Rattle.rpc_engine.specs.Datagrams.{ServesDatagrams, StopsDatagrams, receives_failed, sends_failed};
 ghost use Rattle.rpc_engine.specs.Ports.{Receives, failures_of};
 ghost use Rattle.rpc_engine.specs.Private.Replying.{RepliesTo};
@@ -12,24 +12,24 @@ use rpc_directory::Directory;
 use std::alloc::Global;
 use std::hash::BuildHasher;
 
-/// Answers a datagram, with the reply made in this room, and says whether it was a call, which wants a
+/// Answers a datagram, with the reply made in this buffer, and says whether it was a call, which wants a
 /// reply.
 fn answer_datagram<P: DatagramPort, S: BuildHasher>(
     alloc: Global,
     port: &mut P,
     directory: &mut Directory<S>,
     datagram: &[u8],
-    room: &mut Vec<u8>,
+    buffer: &mut Vec<u8>,
 ) -> Result<bool, PortFault>
     ensures replies { RepliesTo directory.old datagram.now directory.new (P.sent port.old) (P.sent port.new) result }
     ensures unreceived { Receives (P.left port.old) (P.left port.new) [] }
     ensures failed { Counts (failures_of result) (P.send_failures port.old) (P.send_failures port.new) }
     ensures none_failed { Counts 0 (P.receive_failures port.old) (P.receive_failures port.new) }
 {
-    room.clear();
-    match append_answer(alloc, directory, Transport::Udp, datagram, room) {
+    buffer.clear();
+    match append_answer(alloc, directory, Transport::Udp, datagram, buffer) {
         Appended::Nothing => return Ok(false),
-        Appended::Reply => port.send(room)?,
+        Appended::Reply => port.send(buffer)?,
         Appended::OutOfMemory { xid } => port.send(&system_error(xid))?,
     }
     Ok(true)
@@ -56,7 +56,7 @@ pub fn serve_datagrams<P: DatagramPort, S: BuildHasher>(
         Counts (receives_failed f) (P.receive_failures port.old) (P.receive_failures port.new)
         × Counts (sends_failed f) (P.send_failures port.old) (P.send_failures port.new)) }
 {
-    let mut room = Vec::new(alloc);
+    let mut buffer = Vec::new(alloc);
     let mut array = [0u8; 65536];
     let mut replies = 0u64;
     for done in 0..count {
@@ -64,7 +64,7 @@ pub fn serve_datagrams<P: DatagramPort, S: BuildHasher>(
             Ok(n) => n as usize,
             Err(PortFault) => return Err(DatagramFault::Read { done }),
         };
-        let is_call = match answer_datagram(alloc, port, directory, &array[..n], &mut room) {
+        let is_call = match answer_datagram(alloc, port, directory, &array[..n], &mut buffer) {
             Ok(is_call) => is_call,
             Err(PortFault) => return Err(DatagramFault::Write { done }),
         };

@@ -1,19 +1,19 @@
 //! A port over lent memory, which tells all.
 ghost use Rattle.std.specs.Prelude.{◌≡◌, ◌≤◌, [], Some, take, map, sum, length, IfOk, IfSome};
 ghost use Rattle.std.specs.List.{concat};
-ghost use Rattle.xdr_io.specs.Told.{Counts, told_count};
+ghost use Rattle.xdr_io.specs.Reported.{Counts, reported_count};
 ghost use Rattle.rpc_engine.specs.Ports.{Receives, Sends, ReceiveMoves, SendMoves, failures_of, pieces, received_from};
 
 use crate::port::{DatagramPort, PortFault};
 
 /// A port that gives lent datagrams in their order, each cut to 65536 bytes, and keeps what it sends one behind the
 /// other in a lent slice, with their sizes in another. The call of number `failing`, from 1, receives and sends counted
-/// together, fails; so does a receive where no datagram is left, and a send that a slice has no room for.
+/// together, fails; so does a receive where no datagram is left, and a send that a slice has no buffer for.
 #[derive(Drop)]
 pub struct MemoryPort<'a> {
     waiting: &'a [&'a [u8]],
     next: usize,
-    room: &'a mut [u8],
+    buffer: &'a mut [u8],
     sizes: &'a mut [usize],
     used: usize,
     count: usize,
@@ -22,7 +22,7 @@ pub struct MemoryPort<'a> {
     failed_receives: u64,
     failed_sends: u64,
     ghost left: { next ≤ length waiting.now },
-    ghost fits: { used ≤ length room.now },
+    ghost fits: { used ≤ length buffer.now },
     ghost few: { count ≤ length sizes.now },
     ghost joined: { sum (take count sizes.now) ≡ used },
 }
@@ -31,7 +31,7 @@ impl<'a> MemoryPort<'a> {
     /// A port before its first call.
     pub fn new(
         datagrams: &'a [&'a [u8]],
-        room: &'a mut [u8],
+        buffer: &'a mut [u8],
         sizes: &'a mut [usize],
         failing: Option<u64>,
     ) -> Self
@@ -40,7 +40,7 @@ impl<'a> MemoryPort<'a> {
         ensures sent { ⟦<MemoryPort<'a> as DatagramPort>⟧.sent result ≡ Some [] }
         ensures receives { ⟦<MemoryPort<'a> as DatagramPort>⟧.receive_failures result ≡ Some 0 }
         ensures sends { ⟦<MemoryPort<'a> as DatagramPort>⟧.send_failures result ≡ Some 0 }
-        ensures room { length result.room.now ≡ length room.old }
+        ensures buffer { length result.buffer.now ≡ length buffer.old }
         ensures sizes { length result.sizes.now ≡ length sizes.old }
         ensures failing { result.failing ≡ failing }
         ensures calls { result.calls ≡ 0 }
@@ -48,7 +48,7 @@ impl<'a> MemoryPort<'a> {
         MemoryPort {
             waiting: datagrams,
             next: 0,
-            room,
+            buffer,
             sizes,
             used: 0,
             count: 0,
@@ -70,7 +70,7 @@ impl<'a> MemoryPort<'a> {
     pub fn sent_bytes(&self) -> &[u8]
         ensures { IfSome (⟦<MemoryPort<'a> as DatagramPort>⟧.sent self.now) (λ ds. result.now ≡ concat ds) }
     {
-        &self.room[..self.used]
+        &self.buffer[..self.used]
     }
 }
 
@@ -79,21 +79,21 @@ impl<'a> DatagramPort for MemoryPort<'a> {
 
     ghost left = { λ p. Some (received_from p.next p.waiting.now) };
 
-    ghost sent = { λ p. Some (pieces (take p.count p.sizes.now) p.room.now) };
+    ghost sent = { λ p. Some (pieces (take p.count p.sizes.now) p.buffer.now) };
 
-    ghost receive_failures = { λ p. told_count p.failed_receives };
+    ghost receive_failures = { λ p. reported_count p.failed_receives };
 
-    ghost send_failures = { λ p. told_count p.failed_sends };
+    ghost send_failures = { λ p. reported_count p.failed_sends };
 
     fn receive(&mut self, array: &mut [u8; 65536]) -> Result<u32, PortFault>
         ensures bound { IfOk result (λ n. n ≤ 65536) }
         ensures received { ReceiveMoves (Some (received_from self.old.next self.old.waiting.now))
             (Some (received_from self.new.next self.new.waiting.now)) result array.new }
-        ensures unsent { Sends (Some (pieces (take self.old.count self.old.sizes.now) self.old.room.now))
-            (Some (pieces (take self.new.count self.new.sizes.now) self.new.room.now)) [] }
-        ensures failed { Counts (failures_of result) (told_count self.old.failed_receives)
-            (told_count self.new.failed_receives) }
-        ensures none_failed { Counts 0 (told_count self.old.failed_sends) (told_count self.new.failed_sends) }
+        ensures unsent { Sends (Some (pieces (take self.old.count self.old.sizes.now) self.old.buffer.now))
+            (Some (pieces (take self.new.count self.new.sizes.now) self.new.buffer.now)) [] }
+        ensures failed { Counts (failures_of result) (reported_count self.old.failed_receives)
+            (reported_count self.new.failed_receives) }
+        ensures none_failed { Counts 0 (reported_count self.old.failed_sends) (reported_count self.new.failed_sends) }
         ensures gives { ReceiveAnswers self.old result }
         ensures same { SamePort self.old self.new }
     {
@@ -110,25 +110,25 @@ impl<'a> DatagramPort for MemoryPort<'a> {
     }
 
     fn send(&mut self, datagram: &[u8]) -> Result<(), PortFault>
-        ensures sent { SendMoves (Some (pieces (take self.old.count self.old.sizes.now) self.old.room.now))
-            (Some (pieces (take self.new.count self.new.sizes.now) self.new.room.now)) result datagram.now }
+        ensures sent { SendMoves (Some (pieces (take self.old.count self.old.sizes.now) self.old.buffer.now))
+            (Some (pieces (take self.new.count self.new.sizes.now) self.new.buffer.now)) result datagram.now }
         ensures unreceived { Receives (Some (received_from self.old.next self.old.waiting.now))
             (Some (received_from self.new.next self.new.waiting.now)) [] }
-        ensures failed { Counts (failures_of result) (told_count self.old.failed_sends)
-            (told_count self.new.failed_sends) }
-        ensures none_failed { Counts 0 (told_count self.old.failed_receives) (told_count self.new.failed_receives) }
+        ensures failed { Counts (failures_of result) (reported_count self.old.failed_sends)
+            (reported_count self.new.failed_sends) }
+        ensures none_failed { Counts 0 (reported_count self.old.failed_receives) (reported_count self.new.failed_receives) }
         ensures takes { SendAnswers self.old result datagram.now }
         ensures same { SamePort self.old self.new }
     {
         self.calls = self.calls.saturating_add(1);
         let used = self.used;
-        let is_full = self.room.len() - used < datagram.len() || self.sizes.len() == self.count;
+        let is_full = self.buffer.len() - used < datagram.len() || self.sizes.len() == self.count;
         if self.failing == Some(self.calls) || is_full {
             self.failed_sends = self.failed_sends.saturating_add(1);
             return Err(PortFault);
         }
         let end = used + datagram.len();
-        self.room[used..end].copy_from_slice(datagram);
+        self.buffer[used..end].copy_from_slice(datagram);
         self.sizes[self.count] = datagram.len();
         self.count += 1;
         self.used = end;

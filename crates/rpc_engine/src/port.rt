@@ -1,7 +1,7 @@
 //! A port for datagrams, and what it tells.
 ghost use Rattle.std.specs.Prelude.{ℕ, ◌≤◌, [], Option, None, IfOk};
-ghost use Rattle.xdr_io.specs.Told.{Counts};
-ghost use Rattle.rpc_engine.specs.Ports.{Told, Receives, Sends, ReceiveMoves, SendMoves, failures_of};
+ghost use Rattle.xdr_io.specs.Reported.{Counts};
+ghost use Rattle.rpc_engine.specs.Ports.{Reported, Receives, Sends, ReceiveMoves, SendMoves, failures_of};
 
 use thiserror::Error;
 
@@ -12,16 +12,16 @@ pub struct PortFault;
 
 /// Where datagrams come from and where they go: a message is one datagram, without a mark (RFC 5531 section 11).
 pub trait DatagramPort {
-    /// The datagrams that are left to be received, where they are told.
-    ghost left: { Self → Told } = { λ _. None };
+    /// The datagrams that are left to be received, where they are reported.
+    ghost left: { Self → Reported } = { λ _. None };
 
-    /// The datagrams that were sent, where they are told.
-    ghost sent: { Self → Told } = { λ _. None };
+    /// The datagrams that were sent, where they are reported.
+    ghost sent: { Self → Reported } = { λ _. None };
 
-    /// How many receives failed, where that is told.
+    /// How many receives failed, where that is reported.
     ghost receive_failures: { Self → Option ℕ } = { λ _. None };
 
-    /// How many sends failed, where that is told.
+    /// How many sends failed, where that is reported.
     ghost send_failures: { Self → Option ℕ } = { λ _. None };
 
     /// Moves the next datagram to the front of the array, and says how many bytes it has: 65536 at most. What stands

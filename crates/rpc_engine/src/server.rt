@@ -1,6 +1,6 @@
 //! The registry as a server over a stream of records.
 ghost use Rattle.std.specs.Prelude.{◌≡◌, ◌≢◌, IfOk, IfErr, OnOk, IsErrOf};
-ghost use Rattle.xdr_io.specs.Told.{Counts, CountsAtMost};
+ghost use Rattle.xdr_io.specs.Reported.{Counts, CountsAtMost};
 ghost use Rattle.registry_answer.specs.Views.{netid_of};
 ghost use Rattle.rpc_engine.specs.Served.{Serves, Stops, WriteFails};
 ghost use Rattle.rpc_engine.specs.Private.Serving.{fault_of};

@@ -2,7 +2,7 @@
 ghost use Rattle.std.specs.Prelude.{◌≡◌, ◌+◌, ◌-◌, ◌<◌, ◌≤◌, ◌^◌, ◌++◌, ◌∷◌, [], ℕ, List, length, take, drop, true};
 ghost use Rattle.std.specs.Prelude.{vec_len, IfErr, OnOk, OnErr};
 ghost use Rattle.std.specs.Io.KnownBytes.{Appends};
-ghost use Rattle.xdr_io.specs.Told.{Counts};
+ghost use Rattle.xdr_io.specs.Reported.{Counts};
 ghost use Rattle.rpc_engine.specs.Private.Fronts.{front_len, IsSent};
 ghost use Rattle.rpc_message.specs.Message.{SystemErr};
 ghost use Rattle.rpc_message.specs.Spelling.{reply};
@@ -18,7 +18,7 @@ use std::alloc::Global;
 use std::hash::BuildHasher;
 use xdr_io::{Cut, Sink, write_whole};
 
-/// What was counted, and the room in which a reply is made: it is kept from one record to the next, so that it grows
+/// What was counted, and the buffer in which a reply is made: it is kept from one record to the next, so that it grows
 /// seldom.
 #[derive(Drop)]
 pub struct Session {
@@ -26,7 +26,7 @@ pub struct Session {
     pub served: Served,
     /// How many bytes went out.
     written: u64,
-    room: Vec<u8>,
+    buffer: Vec<u8>,
 }
 
 impl Session {
@@ -43,7 +43,7 @@ impl Session {
                 replies: 0,
             },
             written: 0,
-            room: Vec::new(alloc),
+            buffer: Vec::new(alloc),
         }
     }
 
@@ -64,13 +64,13 @@ impl Session {
         ensures one_failed { OnErr result (Counts 1 (W.failures writer.old) (W.failures writer.new)) }
     {
         self.begin();
-        let room = &mut self.room;
-        room.clear();
-        let has_front = room.extend_from_slice(&[0; 4]).is_ok();
-        match append_answer(alloc, directory, transport, message, room) {
+        let buffer = &mut self.buffer;
+        buffer.clear();
+        let has_front = buffer.extend_from_slice(&[0; 4]).is_ok();
+        match append_answer(alloc, directory, transport, message, buffer) {
             Appended::Nothing => Ok(()),
             Appended::Reply => {
-                let sent = send(room, has_front, writer);
+                let sent = send(buffer, has_front, writer);
                 self.count(sent)
             }
             Appended::OutOfMemory { xid } => {
@@ -117,38 +117,38 @@ fn send_whole<W: Sink>(writer: &mut W, bytes: &[u8]) -> Result<usize, Cut>
 }
 
 /// Writes a reply as one last fragment: in one piece where four bytes before it were left for the header.
-fn send<W: Sink>(room: &mut Vec<u8>, has_front: bool, writer: &mut W) -> Result<usize, Cut>
-    requires few { vec_len room.old < 2 ^ 31 }
-    requires front { front_len has_front ≤ vec_len room.old }
-    ensures sent { (front reply : List ℕ) → length front ≡ front_len has_front → room.old.items ≡ front ++ reply
+fn send<W: Sink>(buffer: &mut Vec<u8>, has_front: bool, writer: &mut W) -> Result<usize, Cut>
+    requires few { vec_len buffer.old < 2 ^ 31 }
+    requires front { front_len has_front ≤ vec_len buffer.old }
+    ensures sent { (front reply : List ℕ) → length front ≡ front_len has_front → buffer.old.items ≡ front ++ reply
         → IsSent (fragment true reply) (W.taken writer.old) (W.taken writer.new) result }
     ensures none_failed { OnOk result (Counts 0 (W.failures writer.old) (W.failures writer.new)) }
     ensures one_failed { OnErr result (Counts 1 (W.failures writer.old) (W.failures writer.new)) }
 {
     if has_front {
-        mark_front(room);
-        send_whole(writer, room)
+        mark_front(buffer);
+        send_whole(writer, buffer)
     } else {
         normal_forms_join();
-        match write_marked(writer, room) {
-            Ok(()) => Ok(room.len() + 4),
+        match write_marked(writer, buffer) {
+            Ok(()) => Ok(buffer.len() + 4),
             Err(cut) => Err(cut),
         }
     }
 }
 
 /// Makes the first four bytes the header of a last fragment with what follows them.
-fn mark_front(room: &mut Vec<u8>)
-    requires front { 4 ≤ vec_len room.old }
-    requires few { vec_len room.old < 2 ^ 31 }
-    ensures { (front reply : List ℕ) → length front ≡ 4 → room.old.items ≡ front ++ reply
-        → room.new.items ≡ fragment true reply }
+fn mark_front(buffer: &mut Vec<u8>)
+    requires front { 4 ≤ vec_len buffer.old }
+    requires few { vec_len buffer.old < 2 ^ 31 }
+    ensures { (front reply : List ℕ) → length front ≡ 4 → buffer.old.items ≡ front ++ reply
+        → buffer.new.items ≡ fragment true reply }
 {
-    let [a, b, c, d] = last_header((room.len() - 4) as u32);
-    room[0] = a;
-    room[1] = b;
-    room[2] = c;
-    room[3] = d;
+    let [a, b, c, d] = last_header((buffer.len() - 4) as u32);
+    buffer[0] = a;
+    buffer[1] = b;
+    buffer[2] = c;
+    buffer[3] = d;
 }
 
 /// The reply SYSTEM_ERR as one last fragment (RFC 5531 sections 9 and 11).

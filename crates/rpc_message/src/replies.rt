@@ -210,7 +210,7 @@ pub fn append_reply(out: &mut Vec<u8>, r: &Reply) -> Result<(), NoMemory>
     requires { HasShortVerf r.now }
     ensures ok { OnOk result (out.new.items ≡ out.old.items ++ reply (reply_view r.now)) }
     ensures fits { OnOk result (IsReply (reply_view r.now)) }
-    ensures kept { OnErr result (out.new.items ≡ out.old.items) }
+    ensures retained { OnErr result (out.new.items ≡ out.old.items) }
 {
     let before = out.len();
     match push_reply(out, r) {

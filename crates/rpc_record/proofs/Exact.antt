@@ -11,31 +11,31 @@ use Rattle.rpc_record.specs.declared.reader.RecordReader.{RecordReader}
 use Rattle.rpc_record.specs.Reading.{Upto, TooLongAt, WholeHasNoLong, OneTooLong}
 use Rattle.rpc_record.specs.Fields.{StandsAt, IsTakingAt, begun_bytes}
 use Rattle.rpc_record.specs.Reading.{capped}
-use Rattle.rpc_record.specs.Stands.{Stands, IsTaking, limit_of}
+use Rattle.rpc_record.specs.Represents.{Represents, IsTaking, limit_of}
 use Rattle.rpc_record.proofs.Headers.{length-header}
 use Rattle.rpc_record.proofs.Longest.{Marked-same, header-same, fragment-same}
 use Rattle.rpc_record.proofs.Partial.{HasNoFragment, HasNoFragment-short, HasNoFragment-part}
 use Rattle.rpc_record.proofs.Places.{Longest-at, Longest-long, Longest-whole, begun_short}
 
--- a header that begins the tail has room behind so many bytes
-abbrev HasRoom : ℕ → ℕ → List ℕ → Type 0
-HasRoom limit used tail = (l : Bool) (n : ℕ) (more : List ℕ) → n < 2 ^ 31 → tail ≡ header l n ++ more → used + n ≤ limit
+-- a header that begins the tail has space behind so many bytes
+abbrev HasSpace : ℕ → ℕ → List ℕ → Type 0
+HasSpace limit used tail = (l : Bool) (n : ℕ) (more : List ℕ) → n < 2 ^ 31 → tail ≡ header l n ++ more → used + n ≤ limit
 
 no_long : (limit used : ℕ) (firsts gs : List (List ℕ)) (tail more : List ℕ) (l : Bool) (n : ℕ) → All IsContent firsts
     → All IsContent gs → n < 2 ^ 31
-    → HasNoFragment limit (used + length (concat firsts)) tail → HasRoom limit (used + length (concat firsts)) tail
+    → HasNoFragment limit (used + length (concat firsts)) tail → HasSpace limit (used + length (concat firsts)) tail
     → used + length (concat firsts) ≤ limit → used + length (concat gs) ≤ limit → limit < used + length (concat gs) + n
     → flat_map (fragment false) firsts ++ tail ≡ flat_map (fragment false) gs ++ (header l n ++ more) → ⊥
-no_long limit used [] [] tail more l n p q i none room a b passes e = let fits = room l n more i e in omega arith
-no_long limit used [] (g ∷ gs) tail more l n p q i none room a b passes e =
+no_long limit used [] [] tail more l n p q i none space a b passes e = let fits = space l n more i e in omega arith
+no_long limit used [] (g ∷ gs) tail more l n p q i none space a b passes e =
     none false g _ (q 0 [] (omega arith)) (omega (arith, b, length-append g (concat gs)))
     (e ∙ append_assoc (fragment false g) _ _)
-no_long limit used (f ∷ fs) [] tail more l n p q i none room a b passes e =
+no_long limit used (f ∷ fs) [] tail more l n p q i none space a b passes e =
     let s = header-same false l (length f) n (f ++ (flat_map (fragment false) fs ++ tail)) more (p 0 [] (omega arith)) i
     (sym (append_assoc (fragment false f) (flat_map (fragment false) fs) tail
     ∙ append_assoc (header false (length f)) f _) ∙ e) in
     omega (arith, s.1, a, passes, length-append f (concat fs))
-no_long limit used (f ∷ fs) (g ∷ gs) tail more l n p q i none room a b passes e =
+no_long limit used (f ∷ fs) (g ∷ gs) tail more l n p q i none space a b passes e =
     let s = fragment-same false false f g _ _ (p 0 [] (omega arith)) (q 0 [] (omega arith))
     (sym (append_assoc (fragment false f) _ _) ∙ e ∙ append_assoc (fragment false g) _ _) in
     let same : length f ≡ length g = ap length s.1 in
@@ -43,10 +43,10 @@ no_long limit used (f ∷ fs) (g ∷ gs) tail more l n p q i none room a b passe
     let lg = length-append g (concat gs) in
     let none' : HasNoFragment limit (used + length f + length (concat fs)) tail = λ k c z j h t. none k c z j
     (omega (arith, h, lf)) t in
-    let room' : HasRoom limit (used + length f + length (concat fs)) tail = λ k m z j t. omega
-    (arith, room k m z j t, lf) in
+    let space' : HasSpace limit (used + length f + length (concat fs)) tail = λ k m z j t. omega
+    (arith, space k m z j t, lf) in
     no_long limit (used + length f) fs gs tail more l n (λ k d lt. p (suc k) d (omega arith))
-    (λ k d lt. q (suc k) d (omega arith)) i none' room'
+    (λ k d lt. q (suc k) d (omega arith)) i none' space'
     (omega (arith, a, lf)) (omega (arith, b, lg, same)) (omega (arith, passes, lg, same)) s.2
 
 Stream-rest : (rs : List (List ℕ)) (w v p q : List ℕ) → Stream rs w → Stream rs v → w ++ p ≡ v ++ q → p ≡ q
@@ -66,22 +66,22 @@ Longest-same limit rs others bytes h k =
 -- the same stream up to a header that passes the limit, and up to a tail that has none
 apart : (limit at : ℕ) (rs others : List (List ℕ)) (content bytes before tail : List ℕ)
     (u : Upto limit rs content before) → HasNoFragment limit (length (concat u.firsts)) tail
-    → HasRoom limit (length (concat u.firsts)) tail
+    → HasSpace limit (length (concat u.firsts)) tail
     → bytes ≡ before ++ tail → rs ≡ others → TooLongAt limit others at bytes → ⊥
-apart limit at rs others content bytes before tail u none room e same h =
+apart limit at rs others content bytes before tail u none space e same h =
     let rest = Stream-rest others u.whole h.upto.whole (flat_map (fragment false) u.firsts ++ tail)
     (flat_map (fragment false) h.upto.firsts ++ (header h.last h.count ++ h.more))
     (subst (λ x. Stream x u.whole) same u.stream) h.upto.stream
     (sym (e ∙ ap (λ b. b ++ tail) u.spelled ∙ append_assoc u.whole _ tail) ∙ h.spelled
     ∙ ap (λ b. b ++ (header h.last h.count ++ h.more)) h.upto.spelled ∙ append_assoc h.upto.whole _ _) in
     let none' : HasNoFragment limit (0 + length (concat u.firsts)) tail = λ k c z j b t. none k c z j (omega arith) t in
-    let room' : HasRoom limit (0 + length (concat u.firsts)) tail = λ k m z j t. omega (arith, room k m z j t) in
-    no_long limit 0 u.firsts h.upto.firsts tail h.more h.last h.count u.each h.upto.each h.counted none' room'
+    let space' : HasSpace limit (0 + length (concat u.firsts)) tail = λ k m z j t. omega (arith, space k m z j t) in
+    no_long limit 0 u.firsts h.upto.firsts tail h.more h.last h.count u.each h.upto.each h.counted none' space'
     (omega (arith, u.fits, ap length u.joined)) (omega (arith, h.upto.fits, ap length h.upto.joined))
     (omega (arith, h.passes, ap length h.upto.joined)) rest
 
-HasRoom-short : (limit used : ℕ) (tail : List ℕ) → length tail < 4 → HasRoom limit used tail
-HasRoom-short limit used tail h l n more i e = absurd
+HasSpace-short : (limit used : ℕ) (tail : List ℕ) → length tail < 4 → HasSpace limit used tail
+HasSpace-short limit used tail h l n more i e = absurd
     (omega (arith, h, ap length e, length-append (header l n) more, length-header l n))
 
 not_long_at : (limit at taken : ℕ) (p : Place) (content bytes : List ℕ) (rs others : List (List ℕ)) → IsTakingAt p
@@ -98,23 +98,23 @@ not_long_at limit at taken place.Between content bytes rs others i h same t =
       spelled = sym (append-nil bytes);
     } in
     apart limit at rs others [] bytes bytes [] u (HasNoFragment-short limit _ [] (omega arith))
-    (HasRoom-short limit _ [] (omega arith)) (sym (append-nil bytes)) same t
+    (HasSpace-short limit _ [] (omega arith)) (sym (append-nil bytes)) same t
 not_long_at limit at taken (place.Header start part) content bytes rs others i h same t =
     apart limit at rs others content bytes h.0.0.before (begun_bytes part) h.0.0.upto
     (HasNoFragment-short limit _ _ (begun_short part))
-    (HasRoom-short limit _ _ (begun_short part)) h.0.0.spelled same t
+    (HasSpace-short limit _ _ (begun_short part)) h.0.0.spelled same t
 not_long_at limit at taken (place.Content f) content bytes rs others i (h, k) same t =
-    let room : HasRoom limit (length (concat h.upto.firsts)) (header f.last (length h.part + f.left) ++ h.part) =
+    let space : HasSpace limit (length (concat h.upto.firsts)) (header f.last (length h.part + f.left) ++ h.part) =
     λ l n more j e.
     let s = header-same f.last l (length h.part + f.left) n h.part more h.counted j e in
     omega (arith, s.1, h.fits, ap length h.joined, length-append h.first h.part, ap length h.upto.joined) in
     apart limit at rs others h.first bytes h.before _ h.upto
-    (HasNoFragment-part limit _ f.left f.last h.part f.some h.counted) room h.spelled same t
+    (HasNoFragment-part limit _ f.left f.last h.part f.some h.counted) space h.spelled same t
 not_long_at limit at taken place.Whole content bytes rs others i h same t = absurd i
 not_long_at limit at taken (place.Broken f) content bytes rs others i h same t = absurd i
 
 pub not_long : (reader : RecordReader) (at : ℕ) (bytes : List ℕ) (rs others : List (List ℕ)) → IsTaking reader
-    → Stands reader bytes rs → TooLongAt (limit_of reader) others at bytes → ⊥
+    → Represents reader bytes rs → TooLongAt (limit_of reader) others at bytes → ⊥
 not_long reader at bytes rs others i h t =
     not_long_at reader.limit at reader.taken reader.place reader.content.items bytes rs others i h
     (Longest-same reader.limit rs others bytes

@@ -5,7 +5,7 @@ use Rattle.std.proofs.Common.{◌∙◌, subst, append_assoc, length-append, ari
 use Rattle.std.proofs.lemmas.List.{append-nil, length_push}
 use Rattle.std.proofs.Math.Seq.{get_or-append_seam}
 use Rattle.std.specs.Io.KnownBytes.{Appends, Consumes}
-use Rattle.xdr_io.specs.Told.{Counts}
+use Rattle.xdr_io.specs.Reported.{Counts}
 use Rattle.xdr_io.proofs.Chained.{Appends-trans, Appends-none, take_past}
 use Rattle.rpc_record.specs.declared.fault.RecordFault.{RecordFault}
 use Rattle.rpc_record.specs.declared.fault.RecordFault.TheVariants as fault

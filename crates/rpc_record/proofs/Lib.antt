@@ -10,6 +10,6 @@ pub mod Sending
 pub mod Gathering
 pub mod Exact
 pub mod Long
-pub mod Told
+pub mod Reported
 pub mod Singles
 pub mod Streaming

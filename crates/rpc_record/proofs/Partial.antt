@@ -6,7 +6,7 @@ use Rattle.rpc_record.specs.Marked.{header, fragment, IsContent, IsUnfinished, L
 use Rattle.rpc_record.proofs.Longest.{one_reading, header-same, fragment-same, true_false}
 use Rattle.rpc_record.proofs.Headers.{length-header}
 
--- no fragment begins the tail whose content has room behind so many bytes
+-- no fragment begins the tail whose content has space behind so many bytes
 abbrev pub HasNoFragment : ℕ → ℕ → List ℕ → Type 0
 HasNoFragment limit used tail = (l : Bool) (c z : List ℕ) → IsContent c → used + length c ≤ limit
     → tail ≡ fragment l c ++ z → ⊥
@@ -28,19 +28,19 @@ no_marked limit used (f ∷ fs) (g ∷ gs) d tail z p q i n h e =
     let s = fragment-same false false f g _ _ (p 0 [] (omega arith)) (q 0 [] (omega arith))
     (sym (append_assoc (fragment false f) _ _) ∙ e ∙ append_assoc (fragment false g) _ _) in
     let same : length f ≡ length g = ap length s.1 in
-    let room : used + length f + length (concat gs ++ d) ≤ limit = omega
+    let space : used + length f + length (concat gs ++ d) ≤ limit = omega
     (arith, h, same, length-append (g ++ concat gs) d, length-append g (concat gs), length-append (concat gs) d) in
     let rest : HasNoFragment limit (used + length f + length (concat fs)) tail = λ l c y k b t. n l c y k
     (omega (arith, b, length-append f (concat fs))) t in
     no_marked limit (used + length f) fs gs d tail z (λ k a lt. p (suc k) a (omega arith))
-    (λ k a lt. q (suc k) a (omega arith)) i rest room s.2
+    (λ k a lt. q (suc k) a (omega arith)) i rest space s.2
 
 pub IsUnfinished-fragments : (limit : ℕ) (firsts : List (List ℕ)) (tail : List ℕ) → All IsContent firsts
     → HasNoFragment limit (length (concat firsts)) tail → IsUnfinished limit (flat_map (fragment false) firsts ++ tail)
 IsUnfinished-fragments limit firsts tail p n r front back m b e =
     let rest : HasNoFragment limit (0 + length (concat firsts)) tail = λ l c y k a t. n l c y k (omega arith) t in
-    let room : 0 + length (concat m.firsts ++ m.last) ≤ limit = omega (arith, b, ap length m.content) in
-    no_marked limit 0 firsts m.firsts m.last tail back p m.each m.each_last rest room (e ∙ ap (λ k. k ++ back) m.spelled
+    let space : 0 + length (concat m.firsts ++ m.last) ≤ limit = omega (arith, b, ap length m.content) in
+    no_marked limit 0 firsts m.firsts m.last tail back p m.each m.each_last rest space (e ∙ ap (λ k. k ++ back) m.spelled
     ∙ append_assoc (flat_map (fragment false) m.firsts) (fragment true m.last) back)
 
 -- less than a header

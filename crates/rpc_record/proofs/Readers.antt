@@ -14,7 +14,7 @@ use Rattle.rpc_record.specs.Reading.{Begins, IsWhole, IsInside, capped, TooLongA
 use Rattle.rpc_record.specs.Fields.{IsTakingAt}
 use Rattle.rpc_record.specs.Reading.{FaultyIn, FaultsBegin}
 use Rattle.rpc_record.specs.Fields.{IsBrokenAt, StandsAt}
-use Rattle.rpc_record.specs.Stands.{Stands, IsTaking, IsBetween, IsWaiting, IsBroken, Takes, limit_of}
+use Rattle.rpc_record.specs.Represents.{Represents, IsTaking, IsBetween, IsWaiting, IsBroken, Takes, limit_of}
 use Rattle.rpc_record.proofs.Places.{IsInside-at, Longest-at, Longest-inside}
 
 pub Begins-more : (limit : ℕ) (rs : List (List ℕ)) (bytes more : List ℕ) → Begins limit rs bytes
@@ -111,16 +111,16 @@ pub RefusedIn-all : (limit n : ℕ) (rs : List (List ℕ)) (bytes : List ℕ) �
 RefusedIn-all limit n rs bytes h =
     RefusedIn-few limit n (length bytes) rs bytes h (omega (arith, ap length h.spelled, length-append h.here h.rest))
 
-pub FaultyIn-room : (limit n m : ℕ) (rs : List (List ℕ)) (f : RecordFault) (bytes : List ℕ) → n ≤ m
+pub FaultyIn-space : (limit n m : ℕ) (rs : List (List ℕ)) (f : RecordFault) (bytes : List ℕ) → n ≤ m
     → FaultyIn limit rs f n bytes → FaultyIn limit rs f m bytes
-FaultyIn-room limit n m rs f bytes e h =
+FaultyIn-space limit n m rs f bytes e h =
     FaultyIn-other limit n m rs f bytes
     (λ is. let r = subst (λ g. FaultyIn limit rs g n bytes) is h in
     RefusedIn-few limit n m rs bytes r (omega (arith, r.few, e))) h
 
-pub Stands-broken : (reader : RecordReader) (f : RecordFault) (bytes more : List ℕ) (rs : List (List ℕ))
-    → reader.place ≡ place.Broken f → Stands reader bytes rs → Stands reader (bytes ++ more) rs
-Stands-broken reader f bytes more rs e h =
+pub Represents-broken : (reader : RecordReader) (f : RecordFault) (bytes more : List ℕ) (rs : List (List ℕ))
+    → reader.place ≡ place.Broken f → Represents reader bytes rs → Represents reader (bytes ++ more) rs
+Represents-broken reader f bytes more rs e h =
     subst (λ p. StandsAt reader.limit p reader.content.items reader.taken (bytes ++ more) rs) (sym e)
     (Faulty-more reader.limit rs f bytes more
     (subst (λ p. StandsAt reader.limit p reader.content.items reader.taken bytes rs) e h))
@@ -129,25 +129,25 @@ Stands-broken reader f bytes more rs e h =
 pub Takes-broken : (old new : RecordReader) (f : RecordFault) (n : ℕ) (piece : List ℕ) → new.place ≡ place.Broken f
     → Takes old new (take n piece) → Takes old new piece
 Takes-broken old new f n piece e t bytes rs h =
-    subst (λ b. Stands new b rs) (append_assoc bytes (take n piece) (drop n piece)
+    subst (λ b. Represents new b rs) (append_assoc bytes (take n piece) (drop n piece)
     ∙ ap (λ p. bytes ++ p) (take-append-drop n piece))
-    (Stands-broken new f (bytes ++ take n piece) (drop n piece) rs e (t bytes rs h))
+    (Represents-broken new f (bytes ++ take n piece) (drop n piece) rs e (t bytes rs h))
 
 -- a piece from n on, as a call is given it
 pub Takes-piece : (a b c : RecordReader) (n m : ℕ) (piece : List ℕ) → Takes a b (take n piece)
     → Takes b c (take m (take (length piece - n) (drop n piece))) → Takes a c (take (n + m) piece)
 Takes-piece a b c n m piece p q bytes rs h =
-    subst (λ b. Stands c b rs) (append_assoc bytes (take n piece) _
+    subst (λ b. Represents c b rs) (append_assoc bytes (take n piece) _
     ∙ ap (λ k. bytes ++ (take n piece ++ take m k)) (take_rest piece n) ∙ ap (λ k. bytes ++ k) (take-add n m piece))
     (q (bytes ++ take n piece) rs (p bytes rs h))
 
 pub between_taking : (reader : RecordReader) → IsBetween reader → IsTaking reader
 between_taking reader e = subst (λ p. IsTakingAt p) (sym e) tt
 
-pub Stands-waiting : (reader : RecordReader) (bytes : List ℕ) (rs : List (List ℕ)) → IsWaiting reader
-    → Stands reader bytes rs → IsWhole reader.limit (rs ++ reader.content.items ∷ []) bytes
+pub Represents-waiting : (reader : RecordReader) (bytes : List ℕ) (rs : List (List ℕ)) → IsWaiting reader
+    → Represents reader bytes rs → IsWhole reader.limit (rs ++ reader.content.items ∷ []) bytes
     × (reader.taken ≡ capped (length bytes))
-Stands-waiting reader bytes rs e h = subst (λ p. StandsAt reader.limit p reader.content.items reader.taken bytes rs) e h
+Represents-waiting reader bytes rs e h = subst (λ p. StandsAt reader.limit p reader.content.items reader.taken bytes rs) e h
 
 pub Begins-inside : (limit : ℕ) (rs : List (List ℕ)) (bytes : List ℕ) → IsInside limit rs bytes
     → Begins limit rs (bytes ++ [])
@@ -227,17 +227,17 @@ Begins-at limit taken (place.Broken f) content bytes rs i h = absurd i
 
 -- a reader that takes bytes has met whole records
 pub Begins-taking : (limit : ℕ) (reader : RecordReader) (bytes : List ℕ) (rs : List (List ℕ)) → limit_of reader ≡ limit
-    → IsTaking reader → Stands reader bytes rs → Begins limit rs (bytes ++ [])
+    → IsTaking reader → Represents reader bytes rs → Begins limit rs (bytes ++ [])
 Begins-taking limit reader bytes rs e i h = subst (λ l. Begins l rs (bytes ++ [])) e
     (Begins-at reader.limit reader.taken reader.place reader.content.items bytes rs i h)
 
-pub Stands-same : (reader : RecordReader) (bytes : List ℕ) (rs : List (List ℕ)) → Stands reader bytes rs
-    → Stands reader (bytes ++ []) rs
-Stands-same reader bytes rs h = subst (λ b. Stands reader b rs) (sym (append-nil bytes)) h
+pub Represents-same : (reader : RecordReader) (bytes : List ℕ) (rs : List (List ℕ)) → Represents reader bytes rs
+    → Represents reader (bytes ++ []) rs
+Represents-same reader bytes rs h = subst (λ b. Represents reader b rs) (sym (append-nil bytes)) h
 
 -- the records of a reader that takes bytes are those of the longest front
 pub Longest-taking : (limit : ℕ) (reader : RecordReader) (bytes : List ℕ) (rs : List (List ℕ)) → limit_of reader ≡ limit
-    → IsTaking reader → Stands reader bytes rs → Longest limit rs bytes
+    → IsTaking reader → Represents reader bytes rs → Longest limit rs bytes
 Longest-taking limit reader bytes rs e i h = subst (λ l. Longest l rs bytes) e
     (Longest-at reader.limit reader.taken reader.place reader.content.items bytes rs i h)
 
@@ -249,7 +249,7 @@ Faulty-at limit taken (place.Header at part) f content bytes rs e h = absurd e
 Faulty-at limit taken (place.Content w) f content bytes rs e h = absurd e
 Faulty-at limit taken place.Whole f content bytes rs e h = absurd e
 
-pub Stands-faulty : (reader : RecordReader) (f : RecordFault) (bytes : List ℕ) (rs : List (List ℕ)) → IsBroken reader f
-    → Stands reader bytes rs → Faulty (limit_of reader) rs f bytes
-Stands-faulty reader f bytes rs e h =
+pub Represents-faulty : (reader : RecordReader) (f : RecordFault) (bytes : List ℕ) (rs : List (List ℕ)) → IsBroken reader f
+    → Represents reader bytes rs → Faulty (limit_of reader) rs f bytes
+Represents-faulty reader f bytes rs e h =
     Faulty-at reader.limit reader.taken reader.place f reader.content.items bytes rs e h

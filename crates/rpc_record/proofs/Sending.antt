@@ -72,12 +72,12 @@ SendingCut-more a t v s more fault.TooManyReads h = absurd h
 SendingCut-more a t v s more fault.NoMemory h = absurd h
 
 pub waiting-none : (a : Outbox) → a.used ≡ 0 → waiting a ≡ []
-waiting-none a e = ap (λ k. take k a.room) e
+waiting-none a e = ap (λ k. take k a.buffer) e
 
 -- the bytes wait too
-pub Sends-kept : (a b : Outbox) (t : Option (List ℕ)) (s : List ℕ) → waiting b ≡ waiting a ++ s
+pub Sends-retained : (a b : Outbox) (t : Option (List ℕ)) (s : List ℕ) → waiting b ≡ waiting a ++ s
     → b.count.bytes ≡ a.count.bytes → Sends a b t t s
-Sends-kept a b t s e f = record { out = []; joined = sym e; wrote = Appends-none t; counted = λ n h. omega arith }
+Sends-retained a b t s e f = record { out = []; joined = sym e; wrote = Appends-none t; counted = λ n h. omega arith }
 
 -- nothing waits, and the bytes went out
 pub Sends-out : (a b : Outbox) (t u : Option (List ℕ)) (s : List ℕ) → a.used ≡ 0 → b.used ≡ 0

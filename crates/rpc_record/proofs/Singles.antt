@@ -6,8 +6,8 @@ use Rattle.rpc_record.specs.Marked.{header, fragment, IsContent}
 use Rattle.rpc_record.specs.Reading.{IsWhole, IsInside, RefusedIn, capped}
 use Rattle.rpc_record.specs.Reading.{IsFeedFault}
 use Rattle.rpc_record.specs.Fields.{StandsAt, IsBrokenAt}
-use Rattle.rpc_record.specs.Stands.{Stands, IsBetween, IsWaiting, IsBroken, Takes, Feeds, Tells, limit_of}
-use Rattle.rpc_record.specs.Stands.{Moves, Fills, After}
+use Rattle.rpc_record.specs.Represents.{Represents, IsBetween, IsWaiting, IsBroken, Takes, Feeds, Reports, limit_of}
+use Rattle.rpc_record.specs.Represents.{Moves, Fills, After}
 use Rattle.rpc_record.specs.Private.Steps.{Refuses}
 use Rattle.rpc_record.specs.declared.fault.RecordFault.{RecordFault}
 use Rattle.rpc_record.specs.declared.fault.RecordFault.TheVariants as fault
@@ -19,12 +19,12 @@ use Rattle.rpc_record.specs.declared.reader.RecordReader.{RecordReader}
 use Rattle.rpc_record.proofs.Streams.{Upto-last}
 use Rattle.rpc_record.proofs.Places.{Upto-between, IsInside-at}
 use Rattle.rpc_record.proofs.Readers.{RefusedIn-now, Takes-broken}
-use Rattle.rpc_record.proofs.Told.{Tells-whole, Tells-broken}
+use Rattle.rpc_record.proofs.Reported.{Reports-whole, Reports-broken}
 
-pub Stands-between : (reader : RecordReader) (bytes : List ℕ) (rs : List (List ℕ)) → IsBetween reader
-    → Stands reader bytes rs → (reader.content.items ≡ []) × IsWhole reader.limit rs bytes
+pub Represents-between : (reader : RecordReader) (bytes : List ℕ) (rs : List (List ℕ)) → IsBetween reader
+    → Represents reader bytes rs → (reader.content.items ≡ []) × IsWhole reader.limit rs bytes
     × (reader.taken ≡ capped (length bytes))
-Stands-between reader bytes rs e h = subst (λ p. StandsAt reader.limit p reader.content.items reader.taken bytes rs) e h
+Represents-between reader bytes rs e h = subst (λ p. StandsAt reader.limit p reader.content.items reader.taken bytes rs) e h
 
 module _ (limit : ℕ) (rs : List (List ℕ)) (content bytes part : List ℕ) (none : content ≡ [])
     (w : IsWhole limit rs bytes) (counted : IsContent part) (fits : length content + length part ≤ limit) where
@@ -80,16 +80,16 @@ module _ (old new : RecordReader) (piece part : List ℕ) (same : limit_of new �
     λ taking. subst IsFeedFault (sym b.0) tt,
   )
 
-  pub Tells-single : (r : Result RecordStep RecordFault)
+  pub Reports-single : (r : Result RecordStep RecordFault)
       → IfOk r (λ s. (s ≡ step.Whole (4 + length part)) × IsWaiting new)
-      → IfErr r (λ f. (f ≡ fault.NoMemory) × (new.place ≡ place.Broken f)) → Tells old piece r
-  Tells-single (Ok s) a b = subst (λ k. Tells old piece (Ok k)) (sym a.0)
-      (Tells-whole old new (4 + length part) piece same a.1 takes_front)
-  Tells-single (Err f) a b = Tells-broken old new f (4 + length part) piece same (is_broken new f b.1)
+      → IfErr r (λ f. (f ≡ fault.NoMemory) × (new.place ≡ place.Broken f)) → Reports old piece r
+  Reports-single (Ok s) a b = subst (λ k. Reports old piece (Ok k)) (sym a.0)
+      (Reports-whole old new (4 + length part) piece same a.1 takes_front)
+  Reports-single (Err f) a b = Reports-broken old new f (4 + length part) piece same (is_broken new f b.1)
       (Takes-broken old new f (4 + length part) piece b.1 takes_front)
       (subst (λ b. Refuses old new b) (sym front) refuses)
 
--- the same, and it was put into a room
+-- the same, and it was put into a buffer
 module _ (old new : RecordReader) (piece part r : List ℕ) (same : limit_of new ≡ limit_of old)
     (front : take (4 + length part) piece ≡ fragment true part) (within : 4 + length part ≤ length piece)
     (refuses : Refuses old new (fragment true part)) where
@@ -114,7 +114,7 @@ module _ (old new : RecordReader) (piece part r : List ℕ) (same : limit_of new
   is_whole e m bytes rs h =
       let all = bytes ++ take (4 + length part) piece in
       subst (λ l. IsWhole l (rs ++ part ∷ []) all) same
-      (Stands-between new all (rs ++ part ∷ []) e (put part refl m bytes rs h)).1
+      (Represents-between new all (rs ++ part ∷ []) e (put part refl m bytes rs h)).1
 
   pub Fills-single : (k : Result RecordStep RecordFault) → IfOk k IsPut → IfErr k IsRefused
       → Fills old new piece r k
@@ -122,8 +122,8 @@ module _ (old new : RecordReader) (piece part r : List ℕ) (same : limit_of new
       (a.2, within, put r a.1 a.3, λ i. omega arith)
   Fills-single (Err f) a b = (is_broken new f b.1, all_taken f b.1 b.2, λ i. subst IsFeedFault (sym b.0) tt)
 
-  pub Tells-filled : (k : Result RecordStep RecordFault) → IfOk k IsPut → IfErr k IsRefused → Tells old piece k
-  Tells-filled (Ok s) a b = subst (λ k. Tells old piece (Ok k)) (sym a.0)
+  pub Reports-filled : (k : Result RecordStep RecordFault) → IfOk k IsPut → IfErr k IsRefused → Reports old piece k
+  Reports-filled (Ok s) a b = subst (λ k. Reports old piece (Ok k)) (sym a.0)
       (λ bytes rs h. (part, is_whole a.2 a.3 bytes rs h))
-  Tells-filled (Err f) a b = Tells-broken old new f (4 + length part) piece same (is_broken new f b.1)
+  Reports-filled (Err f) a b = Reports-broken old new f (4 + length part) piece same (is_broken new f b.1)
       (all_taken f b.1 b.2) (subst (λ x. Refuses old new x) (sym front) refuses)

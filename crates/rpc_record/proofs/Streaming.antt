@@ -5,38 +5,38 @@ use Rattle.std.proofs.lemmas.List.{append-nil, take-append-drop}
 use Rattle.std.specs.declared.vec.Vec.{Vec}
 use Rattle.std.specs.declared.alloc.Global.{Global}
 use Rattle.std.specs.Io.KnownBytes.{Keeps, Consumes, IsAtEnd}
-use Rattle.xdr_io.proofs.Chained.{Consumes-trans, Consumes-none, Consumes-kept, Consumes-at_end}
+use Rattle.xdr_io.proofs.Chained.{Consumes-trans, Consumes-none, Consumes-retained, Consumes-at_end}
 use Rattle.rpc_record.specs.declared.fault.RecordFault.{RecordFault}
 use Rattle.rpc_record.specs.declared.fault.RecordFault.TheVariants as fault
 use Rattle.rpc_record.specs.declared.reader.RecordReader.{RecordReader}
 use Rattle.rpc_record.specs.Marked.{Longest}
 use Rattle.rpc_record.specs.Reading.{IsWhole, IsInside, Begins, HasNoLong, Faulty, FaultyIn, IsFeedFault}
 use Rattle.rpc_record.specs.Fields.{IsTakingAt, StandsAt}
-use Rattle.rpc_record.specs.Stands.{Stands, IsTaking, IsBroken, IsBetween, IsWaiting, Takes, Tells, Hands}
-use Rattle.rpc_record.specs.Stands.{TruncatedAt, limit_of}
+use Rattle.rpc_record.specs.Represents.{Represents, IsTaking, IsBroken, IsBetween, IsWaiting, Takes, Reports, Hands}
+use Rattle.rpc_record.specs.Represents.{TruncatedAt, limit_of}
 use Rattle.rpc_record.specs.Streamed.{HasTaken, IsRead, FailsAt, Fails, HandsOf}
-use Rattle.rpc_record.proofs.Readers.{Begins-more, Begins-taking, Longest-taking, FaultyIn-room, faults_begin}
+use Rattle.rpc_record.proofs.Readers.{Begins-more, Begins-taking, Longest-taking, FaultyIn-space, faults_begin}
 use Rattle.rpc_record.proofs.Readers.{between_taking}
 use Rattle.rpc_record.proofs.Places.{Longest-long}
 use Rattle.rpc_record.proofs.Exact.{not_long}
-use Rattle.rpc_record.proofs.Told.{not_broken}
+use Rattle.rpc_record.proofs.Reported.{not_broken}
 
 made : (limit : ℕ) (r : RecordReader) (fed w input : List ℕ) (rs : List (List ℕ)) (l m : Option (List ℕ))
-    → Consumes l m input → input ≡ fed ++ w → limit_of r ≡ limit → IsTaking r → Stands r fed rs
+    → Consumes l m input → input ≡ fed ++ w → limit_of r ≡ limit → IsTaking r → Represents r fed rs
     → HasTaken limit r w rs l m
-made limit r fed w input rs l m read joined same taking stands = record {
+made limit r fed w input rs l m read joined same taking represents = record {
   input = input;
   fed = fed;
   read = read;
   joined = joined;
   same = same;
   taking = taking;
-  stands = stands;
+  represents = represents;
   begins = subst (λ b. Begins limit rs b) (sym joined) (Begins-more limit rs fed w
-      (subst (λ b. Begins limit rs b) (append-nil fed) (Begins-taking limit r fed rs same taking stands)));
+      (subst (λ b. Begins limit rs b) (append-nil fed) (Begins-taking limit r fed rs same taking represents)));
 }
 
-pub taken_none : (limit : ℕ) (r : RecordReader) (l : Option (List ℕ)) → limit_of r ≡ limit → IsTaking r → Stands r [] []
+pub taken_none : (limit : ℕ) (r : RecordReader) (l : Option (List ℕ)) → limit_of r ≡ limit → IsTaking r → Represents r [] []
     → HasTaken limit r [] [] l l
 taken_none limit r l e i s = made limit r [] [] [] [] l l (Consumes-none l) refl e i s
 
@@ -51,7 +51,7 @@ hands_record old fed new w piece rest used (Some v) is e i t d (waiting, between
     (p.joined ∙ ap (λ k. p.fed ++ k) (sym (take-append-drop used w) ∙ ap (λ k. take used w ++ k) (sym h))
     ∙ sym (append_assoc p.fed (take used w) rest)) (d ∙ e ∙ p.same) (between_taking new between)
     (hands (p.fed ++ take used w) rs
-    (subst (λ k. Stands fed (p.fed ++ take used k) rs) is (t p.fed rs p.stands)))
+    (subst (λ k. Represents fed (p.fed ++ take used k) rs) is (t p.fed rs p.represents)))
 hands_record old fed new w piece rest used None is e i t d (never, same) h = absurd (never i)
 
 -- no more record is whole
@@ -61,14 +61,14 @@ hands_none old new w piece rest is e i t none = (
   none,
   λ limit rs l m p. made limit new (p.fed ++ w) rest p.input rs l m p.read
       (p.joined ∙ sym (append-nil (p.fed ++ w)) ∙ ap (λ k. (p.fed ++ w) ++ k) (sym none)) (e ∙ p.same) i
-      (subst (λ k. Stands new (p.fed ++ k) rs) is (t p.fed rs p.stands)),
+      (subst (λ k. Represents new (p.fed ++ k) rs) is (t p.fed rs p.represents)),
 )
 
 fails_at : (limit : ℕ) (rs : List (List ℕ)) (n : ℕ) (input : List ℕ) (m : Option (List ℕ)) (f : RecordFault)
     → IsFeedFault f → n ≤ 4096 → Faulty limit rs f input → FaultyIn limit rs f n input → FailsAt limit rs input m f
 fails_at limit rs n input m (fault.TooLong at) i few h k = (h, Longest-long limit at rs input h)
 fails_at limit rs n input m fault.NoMemory i few h k =
-    (faults_begin limit rs fault.NoMemory input h, FaultyIn-room limit n 4096 rs fault.NoMemory input few k)
+    (faults_begin limit rs fault.NoMemory input h, FaultyIn-space limit n 4096 rs fault.NoMemory input few k)
 fails_at limit rs n input m (fault.Truncated at) i few h k = absurd i
 fails_at limit rs n input m fault.Read i few h k = absurd i
 fails_at limit rs n input m (fault.Write written) i few h k = absurd i
@@ -76,10 +76,10 @@ fails_at limit rs n input m fault.TooManyReads i few h k = absurd i
 
 -- a fault comes
 pub hands_fault : (old new : RecordReader) (w piece rest : List ℕ) (f : RecordFault) → piece ≡ w → length piece ≤ 4096
-    → IsFeedFault f → Tells old piece (Err f) → HandsOf old w new rest (Err f)
-hands_fault old new w piece rest f is few i tells limit rs l m p =
+    → IsFeedFault f → Reports old piece (Err f) → HandsOf old w new rest (Err f)
+hands_fault old new w piece rest f is few i reports limit rs l m p =
     let e : p.fed ++ piece ≡ p.input = ap (λ k. p.fed ++ k) is ∙ sym p.joined in
-    let h = tells p.fed rs p.stands in
+    let h = reports p.fed rs p.represents in
     let faulty = subst (λ n. Faulty n rs f (p.fed ++ piece)) p.same h.0 in
     let faulty_in = subst (λ n. FaultyIn n rs f (length piece) (p.fed ++ piece)) p.same (h.1 p.taking) in
     record {
@@ -96,19 +96,19 @@ module _ (limit : ℕ) (r : RecordReader) (w : List ℕ) (rs : List (List ℕ)) 
   all_fed : p.input ≡ p.fed
   all_fed = p.joined ∙ ap (λ k. p.fed ++ k) none ∙ append-nil p.fed
 
-  stands : Stands r p.input rs
-  stands = subst (λ b. Stands r b rs) (sym all_fed) p.stands
+  represents : Represents r p.input rs
+  represents = subst (λ b. Represents r b rs) (sym all_fed) p.represents
 
   longest : Longest limit rs p.input
-  longest = Longest-taking limit r p.input rs p.same p.taking stands
+  longest = Longest-taking limit r p.input rs p.same p.taking represents
 
   has_no_long : HasNoLong limit p.input
   has_no_long = subst (λ x. HasNoLong x p.input) p.same
-      (λ others at t. not_long r at p.input rs others p.taking stands t)
+      (λ others at t. not_long r at p.input rs others p.taking represents t)
 
   pub taken_more : (x : List ℕ) (n : Option (List ℕ)) → Consumes m n x → HasTaken limit r x rs l n
   taken_more x n k = made limit r p.fed x (p.input ++ x) rs l n
-      (Consumes-trans l m n p.input x (p.input ++ x) refl p.read k) (ap (λ b. b ++ x) all_fed) p.same p.taking p.stands
+      (Consumes-trans l m n p.input x (p.input ++ x) refl p.read k) (ap (λ b. b ++ x) all_fed) p.same p.taking p.represents
 
   pub fails_many : Fails limit rs l m fault.TooManyReads
   fails_many = record { input = p.input; read = p.read; fails = (longest, has_no_long) }
@@ -116,7 +116,7 @@ module _ (limit : ℕ) (r : RecordReader) (w : List ℕ) (rs : List (List ℕ)) 
   pub fails_read : (n : Option (List ℕ)) → Keeps m n → Fails limit rs l n fault.Read
   fails_read n k = record {
     input = p.input;
-    read = Consumes-trans l m n p.input [] p.input (append-nil p.input) p.read (Consumes-kept m n k);
+    read = Consumes-trans l m n p.input [] p.input (append-nil p.input) p.read (Consumes-retained m n k);
     fails = (longest, has_no_long);
   }
 
@@ -136,7 +136,7 @@ module _ (limit : ℕ) (r : RecordReader) (w : List ℕ) (rs : List (List ℕ)) 
     }
       where
         by : IsBetween r ⊎ IsWaiting r → IsWhole r.limit rs p.input
-        by (inl e) = (subst (λ q. StandsAt r.limit q r.content.items r.taken p.input rs) e stands).1
+        by (inl e) = (subst (λ q. StandsAt r.limit q r.content.items r.taken p.input rs) e represents).1
         by (inr e) = absurd (subst IsTakingAt e p.taking)
 
     pub fails_inside : (f : RecordFault) → IsBroken r f ⊎ (IsTaking r × TruncatedAt r f) → Fails limit rs l n f
@@ -145,8 +145,8 @@ module _ (limit : ℕ) (r : RecordReader) (w : List ℕ) (rs : List (List ℕ)) 
       input = p.input;
       read = read_all;
       fails = (
-        (h p.input rs stands).0,
-        subst (λ x. IsInside x rs p.input) p.same (h p.input rs stands).1,
+        (h p.input rs represents).0,
+        subst (λ x. IsInside x rs p.input) p.same (h p.input rs represents).1,
         longest,
         end,
         has_no_long,

@@ -9,8 +9,8 @@ use Rattle.rpc_record.proofs.Partial.{IsUnfinished-fragments, HasNoFragment-shor
 pub Stream-normal : (limit : ℕ) (rs : List (List ℕ)) → limit < 2 ^ 31 → Within limit rs → Stream rs (normal rs)
 Stream-normal limit [] h w = refl
 Stream-normal limit (r ∷ rs) h w =
-    let room : length r ≤ limit = w 0 [] (omega arith) in
-    let marked = Marked-one r (omega (arith, h, room)) in
+    let space : length r ≤ limit = w 0 [] (omega arith) in
+    let marked = Marked-one r (omega (arith, h, space)) in
     (fragment true r, (normal rs, (marked, Stream-normal limit rs h (λ k d lt. w (suc k) d (omega arith)), refl)))
 
 pub same_records : (limit : ℕ) (rs others : List (List ℕ)) (bytes : List ℕ) → Within limit rs → Within limit others

@@ -1,7 +1,7 @@
 pub mod Marked
 pub mod Reading
 pub mod Fields
-pub mod Stands
+pub mod Represents
 pub mod Streamed
 pub mod Normalised
 pub mod Private

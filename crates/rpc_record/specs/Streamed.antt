@@ -10,7 +10,7 @@ use Rattle.rpc_record.specs.declared.reader.RecordReader.{RecordReader}
 use Rattle.rpc_record.specs.declared.stream.RecordStream.{RecordStream}
 use Rattle.rpc_record.specs.Marked.{Longest}
 use Rattle.rpc_record.specs.Reading.{IsWhole, IsInside, Begins, TooLongAt, HasNoLong, RefusedIn, capped}
-use Rattle.rpc_record.specs.Stands.{Stands, IsTaking, limit_of}
+use Rattle.rpc_record.specs.Represents.{Represents, IsTaking, limit_of}
 
 -- the bytes that were read and not yet taken
 abbrev pub held : RecordStream → List ℕ
@@ -34,7 +34,7 @@ pub record HasTaken (limit : ℕ) (reader : RecordReader) (waiting : List ℕ) (
   pub joined : input ≡ fed ++ waiting
   pub same : limit_of reader ≡ limit
   pub taking : IsTaking reader
-  pub stands : Stands reader fed rs
+  pub represents : Represents reader fed rs
   pub begins : Begins limit rs input
 
 -- The stream has read some bytes of a source, and these are the records that it has handed out.

@@ -1,7 +1,7 @@
 //! A record as one last fragment.
 ghost use Rattle.std.specs.Prelude.{◌≡◌, ◌<◌, ◌≤◌, true, length, take, IfOk, IfErr, OnOk, OnErr};
 ghost use Rattle.std.specs.Io.KnownBytes.{Appends};
-ghost use Rattle.xdr_io.specs.Told.{Counts};
+ghost use Rattle.xdr_io.specs.Reported.{Counts};
 ghost use Rattle.rpc_record.specs.Marked.{fragment};
 
 use super::header::last_header;

@@ -1,6 +1,6 @@
 //! The normal form of a stream of records.
 ghost use Rattle.std.specs.Prelude.{◌≢◌, ◌≤◌, IfOk, IfErr, OnOk, IsErrOf};
-ghost use Rattle.xdr_io.specs.Told.{Counts, CountsAtMost};
+ghost use Rattle.xdr_io.specs.Reported.{Counts, CountsAtMost};
 ghost use Rattle.rpc_record.specs.Normalised.{Normalised, Stops, WriteFails};
 
 use super::fault::{Count, RecordFault};

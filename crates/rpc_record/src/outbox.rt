@@ -1,19 +1,19 @@
 //! Output that is gathered, so that small records go out together.
 ghost use Rattle.std.specs.Prelude.{◌≡◌, ◌<◌, ◌≤◌, ◌+◌, ◌^◌, true, [], length, IfErr, OnOk, OnErr};
-ghost use Rattle.xdr_io.specs.Told.{Counts};
+ghost use Rattle.xdr_io.specs.Reported.{Counts};
 
 use super::fault::{Count, RecordFault};
 use super::header::last_header;
 use xdr_io::{Sink, write_whole};
 
-/// How many bytes wait at most. What one read of 4096 bytes makes of records of up to 4092 bytes has room.
+/// How many bytes wait at most. What one read of 4096 bytes makes of records of up to 4092 bytes has buffer.
 const ROOM: usize = 8192;
 
 /// Bytes that wait to go out together, and the count of what went out before.
 #[derive(Drop)]
 pub struct Outbox {
     pub count: Count,
-    room: [u8; 8192],
+    buffer: [u8; 8192],
     used: usize,
     ghost fits: { used ≤ 8192 },
 }
@@ -34,7 +34,7 @@ impl Outbox {
                 records: 0,
                 bytes: 0,
             },
-            room: [0; ROOM],
+            buffer: [0; ROOM],
             used: 0,
         }
     }
@@ -48,7 +48,7 @@ impl Outbox {
         ensures none_failed { OnOk result (Counts 0 (W.failures writer.old) (W.failures writer.new)) }
         ensures one_failed { OnErr result (Counts 1 (W.failures writer.old) (W.failures writer.new)) }
     {
-        match write_whole(writer, &self.room[..self.used]) {
+        match write_whole(writer, &self.buffer[..self.used]) {
             Ok(()) => {
                 self.count.bytes = self.count.bytes.saturating_add(self.used as u64);
                 self.used = 0;
@@ -60,7 +60,7 @@ impl Outbox {
         }
     }
 
-    /// Hands over bytes, which go out after those that wait: together with them where there is room.
+    /// Hands over bytes, which go out after those that wait: together with them where there is buffer.
     pub fn put<W: Sink>(&mut self, writer: &mut W, bytes: &[u8]) -> Result<(), RecordFault>
         ensures ok { OnOk result (Sends self.old self.new (W.taken writer.old) (W.taken writer.new) bytes.now) }
         ensures records { self.new.count.records ≡ self.old.count.records }
@@ -70,7 +70,7 @@ impl Outbox {
     {
         let used = self.used;
         if bytes.len() <= ROOM - used {
-            self.room[used..used + bytes.len()].copy_from_slice(bytes);
+            self.buffer[used..used + bytes.len()].copy_from_slice(bytes);
             self.used = used + bytes.len();
             return Ok(());
         }

@@ -26,9 +26,9 @@ pub struct RecordReader {
 impl RecordReader {
     ghost use Rattle.std.specs.Prelude.{◌≡◌, ◌<◌, ◌^◌, ◌++◌, ◌↔◌, ℕ, List, [], ◌∷◌, length, take, true};
     ghost use Rattle.std.specs.Prelude.{IsTrue, Some, IfOk, IfErr};
-    ghost use Rattle.rpc_record.specs.Stands.{Stands, Always, IsTaking, IsWaiting, IsBroken, limit_of};
-    ghost use Rattle.rpc_record.specs.Stands.{Takes, Feeds, Tells, Stays, Hands, IsHanded, Ends, Concludes};
-    ghost use Rattle.rpc_record.specs.Stands.{IsBetween, Moves, Fills, IsFilled};
+    ghost use Rattle.rpc_record.specs.Represents.{Represents, Always, IsTaking, IsWaiting, IsBroken, limit_of};
+    ghost use Rattle.rpc_record.specs.Represents.{Takes, Feeds, Reports, Stays, Hands, IsHanded, Ends, Concludes};
+    ghost use Rattle.rpc_record.specs.Represents.{IsBetween, Moves, Fills, IsFilled};
     ghost use Rattle.rpc_record.specs.Private.Steps.{Refuses, IsFed, IsStepped};
     ghost use Rattle.rpc_record.specs.Marked.{Longest, header, fragment};
     ghost use Rattle.rpc_record.specs.Fields.{InHeader, begun_bytes};
@@ -40,7 +40,7 @@ impl RecordReader {
         requires { limit ≤ 2147483647 }
         ensures limit { limit_of result ≡ limit }
         ensures taking { IsTaking result }
-        ensures stands { Stands result [] [] }
+        ensures represents { Represents result [] [] }
     {
         RecordReader {
             limit,
@@ -58,12 +58,12 @@ impl RecordReader {
     pub fn feed(&mut self, piece: &[u8]) -> Result<RecordStep, RecordFault>
         ensures limit { limit_of self.new ≡ limit_of self.old }
         ensures feeds { Feeds self.old self.new piece.now result }
-        ensures tells { Tells self.old piece.now result }
+        ensures reports { Reports self.old piece.now result }
         ensures stays { Stays self.old result }
     {
         if let Place::Between = self.place {
-            let room = (self.limit as usize).saturating_sub(self.content.len()) as u32;
-            if let Some(record) = single_record(piece, &room) {
+            let space = (self.limit as usize).saturating_sub(self.content.len()) as u32;
+            if let Some(record) = single_record(piece, &space) {
                 return self.take_single(record);
             }
         }
@@ -95,40 +95,48 @@ impl RecordReader {
         }
     }
 
-    /// As `feed`, and a record that is whole then is handed out into the room, so that the next begins. `Whole`: the
-    /// bytes that the room had are dropped, and it holds the content of the record; its memory may be given to a record
-    /// to come. `More`, and a fault: the room's bytes are any.
-    pub fn feed_into(&mut self, piece: &[u8], room: &mut Vec<u8>) -> Result<RecordStep, RecordFault>
+    /// As `feed`, and a record that is whole then is handed out into the buffer, so that the next begins. `Whole`: the
+    /// bytes that the buffer had are dropped, and it holds the content of the record; its memory may be given to a record
+    /// to come. `More`, and a fault: the buffer's bytes are any.
+    pub fn feed_into(
+        &mut self,
+        piece: &[u8],
+        buffer: &mut Vec<u8>,
+    ) -> Result<RecordStep, RecordFault>
         ensures limit { limit_of self.new ≡ limit_of self.old }
-        ensures fills { Fills self.old self.new piece.now room.new.items result }
-        ensures tells { Tells self.old piece.now result }
-        ensures content { IsFilled self.old piece.now room.new.items result }
+        ensures fills { Fills self.old self.new piece.now buffer.new.items result }
+        ensures reports { Reports self.old piece.now result }
+        ensures content { IsFilled self.old piece.now buffer.new.items result }
         ensures stays { Stays self.old result }
     {
         if let Place::Between = self.place {
             if let Some(record) = single_record(piece, &self.limit) {
-                return self.put_single(record, room);
+                return self.put_single(record, buffer);
             }
         }
-        self.hand_into(piece, room)
+        self.hand_into(piece, buffer)
     }
 
-    /// Takes a record with this content that is one fragment, and puts it into the room. Where memory is refused for
+    /// Takes a record with this content that is one fragment, and puts it into the buffer. Where memory is refused for
     /// it, it is broken.
-    fn put_single(&mut self, content: &[u8], room: &mut Vec<u8>) -> Result<RecordStep, RecordFault>
+    fn put_single(
+        &mut self,
+        content: &[u8],
+        buffer: &mut Vec<u8>,
+    ) -> Result<RecordStep, RecordFault>
         requires between { IsBetween self.old }
         requires counted { length content.now < 2 ^ 31 }
         requires fits { length content.now ≤ limit_of self.old }
         ensures limit { limit_of self.new ≡ limit_of self.old }
         ensures whole { IfOk result (λ s. (s ≡ RecordStep.Whole (4 + length content.now))
-            × (room.new.items ≡ content.now) × IsBetween self.new
+            × (buffer.new.items ≡ content.now) × IsBetween self.new
             × Moves self.old self.new (fragment true content.now) (content.now ∷ [])) }
         ensures refused { IfErr result (λ f. (f ≡ RecordFault.NoMemory) × (self.new.place ≡ place.Broken f)
             × Takes self.old self.new (fragment true content.now)) }
         ensures refuses { Refuses self.old self.new (fragment true content.now) }
     {
-        room.clear();
-        match room.extend_from_slice(content) {
+        buffer.clear();
+        match buffer.extend_from_slice(content) {
             Ok(()) => {
                 let used = 4 + content.len();
                 self.taken = self.taken.saturating_add(used as u64);
@@ -143,17 +151,17 @@ impl RecordReader {
 
     /// As `feed_into`, with the record taken out of the reader where it is whole.
     #[inline(never)]
-    fn hand_into(&mut self, piece: &[u8], room: &mut Vec<u8>) -> Result<RecordStep, RecordFault>
+    fn hand_into(&mut self, piece: &[u8], buffer: &mut Vec<u8>) -> Result<RecordStep, RecordFault>
         ensures limit { limit_of self.new ≡ limit_of self.old }
-        ensures fills { Fills self.old self.new piece.now room.new.items result }
-        ensures tells { Tells self.old piece.now result }
-        ensures content { IsFilled self.old piece.now room.new.items result }
+        ensures fills { Fills self.old self.new piece.now buffer.new.items result }
+        ensures reports { Reports self.old piece.now result }
+        ensures content { IsFilled self.old piece.now buffer.new.items result }
         ensures stays { Stays self.old result }
     {
         let step = self.feed_on(piece)?;
         if let RecordStep::Whole { .. } = step {
-            let memory = mem::replace(room, Vec::new(self.alloc));
-            *room = self.hand_out(memory);
+            let memory = mem::replace(buffer, Vec::new(self.alloc));
+            *buffer = self.hand_out(memory);
         }
         Ok(step)
     }
@@ -163,7 +171,7 @@ impl RecordReader {
     fn feed_on(&mut self, piece: &[u8]) -> Result<RecordStep, RecordFault>
         ensures limit { limit_of self.new ≡ limit_of self.old }
         ensures feeds { Feeds self.old self.new piece.now result }
-        ensures tells { Tells self.old piece.now result }
+        ensures reports { Reports self.old piece.now result }
         ensures stays { Stays self.old result }
     {
         let mut used = 0;
@@ -215,10 +223,10 @@ impl RecordReader {
         ensures within { result ≤ length piece.now }
         ensures stepped { IsStepped self.new }
         ensures limit { limit_of self.new ≡ limit_of self.old }
-        ensures stands { (bytes : List ℕ) (rs : List (List ℕ))
+        ensures represents { (bytes : List ℕ) (rs : List (List ℕ))
             → InHeader (limit_of self.old) rs self.old.content.items at [] bytes
             → self.old.taken ≡ capped (length bytes)
-            → Stands self.new (bytes ++ take result piece.now) rs }
+            → Represents self.new (bytes ++ take result piece.now) rs }
     {
         match piece {
             [a, b, c, d, ..] => self.take_heading(at, heading_of(*a, *b, *c, *d)),
@@ -232,14 +240,14 @@ impl RecordReader {
         ensures four { result ≡ 4 }
         ensures stepped { IsStepped self.new }
         ensures limit { limit_of self.new ≡ limit_of self.old }
-        ensures stands { (bytes : List ℕ) (rs : List (List ℕ))
+        ensures represents { (bytes : List ℕ) (rs : List (List ℕ))
             → InHeader (limit_of self.old) rs self.old.content.items at [] bytes
             → self.old.taken ≡ capped (length bytes)
-            → Stands self.new (bytes ++ header heading.last heading.count) rs }
+            → Represents self.new (bytes ++ header heading.last heading.count) rs }
     {
-        let room = (self.limit as usize).saturating_sub(self.content.len()) as u32;
+        let space = (self.limit as usize).saturating_sub(self.content.len()) as u32;
         self.taken = self.taken.saturating_add(4);
-        self.place = after_heading(at, heading, self.taken, room);
+        self.place = after_heading(at, heading, self.taken, space);
         4
     }
 
@@ -248,14 +256,14 @@ impl RecordReader {
         ensures one { result ≡ 1 }
         ensures stepped { IsStepped self.new }
         ensures limit { limit_of self.new ≡ limit_of self.old }
-        ensures stands { (bytes : List ℕ) (rs : List (List ℕ))
+        ensures represents { (bytes : List ℕ) (rs : List (List ℕ))
             → InHeader (limit_of self.old) rs self.old.content.items at (begun_bytes begun) bytes
             → self.old.taken ≡ capped (length bytes)
-            → Stands self.new (bytes ++ byte ∷ []) rs }
+            → Represents self.new (bytes ++ byte ∷ []) rs }
     {
-        let room = (self.limit as usize).saturating_sub(self.content.len()) as u32;
+        let space = (self.limit as usize).saturating_sub(self.content.len()) as u32;
         self.taken = self.taken.saturating_add(1);
-        self.place = after_header(at, begun, byte, self.taken, room);
+        self.place = after_header(at, begun, byte, self.taken, space);
         1
     }
 
@@ -285,7 +293,7 @@ impl RecordReader {
     }
 
     /// How many bytes of a record are kept: never more than the limit.
-    pub fn kept(&self) -> usize
+    pub fn retained(&self) -> usize
         ensures count { result ≡ vec_len self.now.content }
         ensures within { result ≤ limit_of self.now }
     {
@@ -306,28 +314,28 @@ impl RecordReader {
         }
     }
 
-    /// As `take`, and the next record goes into this room's memory, whose bytes are dropped. Where no record is whole
+    /// As `take`, and the next record goes into this buffer's memory, whose bytes are dropped. Where no record is whole
     /// that memory is freed.
-    pub fn take_with(&mut self, room: Vec<u8>) -> Option<Vec<u8>>
+    pub fn take_with(&mut self, buffer: Vec<u8>) -> Option<Vec<u8>>
         ensures limit { limit_of self.new ≡ limit_of self.old }
         ensures hands { Hands self.old self.new result }
         ensures content { IsHanded self.old result }
     {
         if let Place::Whole = self.place {
-            Some(self.hand_out(room))
+            Some(self.hand_out(buffer))
         } else {
             None
         }
     }
 
-    /// Hands out the record that waits, and the next goes into this room's memory, whose bytes are dropped.
-    fn hand_out(&mut self, room: Vec<u8>) -> Vec<u8>
+    /// Hands out the record that waits, and the next goes into this buffer's memory, whose bytes are dropped.
+    fn hand_out(&mut self, buffer: Vec<u8>) -> Vec<u8>
         requires waiting { IsWaiting self.old }
         ensures limit { limit_of self.new ≡ limit_of self.old }
         ensures hands { Hands self.old self.new (Some result) }
         ensures content { IsHanded self.old (Some result) }
     {
-        let mut empty = room;
+        let mut empty = buffer;
         empty.clear();
         self.place = Place::Between;
         mem::replace(&mut self.content, empty)

@@ -9,12 +9,12 @@ use super::fault::RecordFault;
 use super::header::{Heading, heading_of};
 use super::place::{Begun, Fragment, Place};
 
-/// The place after the next byte of a header. There is room for so many bytes in the record.
-pub fn after_header(at: u64, begun: Begun, byte: u8, taken: u64, room: u32) -> Place
+/// The place after the next byte of a header. There is space for so many bytes in the record.
+pub fn after_header(at: u64, begun: Begun, byte: u8, taken: u64, space: u32) -> Place
     ensures stepped { IsSteppedAt result }
-    ensures left { left_of result ≤ room }
-    ensures stands { (limit : ℕ) (rs : List (List ℕ)) (content bytes : List ℕ)
-        → length content + room ≡ limit
+    ensures left { left_of result ≤ space }
+    ensures represents { (limit : ℕ) (rs : List (List ℕ)) (content bytes : List ℕ)
+        → length content + space ≡ limit
         → InHeader limit rs content at (begun_bytes begun) bytes
         → taken ≡ capped (length (bytes ++ byte ∷ []))
         → StandsAt limit result content taken (bytes ++ byte ∷ []) rs }
@@ -32,23 +32,23 @@ pub fn after_header(at: u64, begun: Begun, byte: u8, taken: u64, room: u32) -> P
             at,
             begun: Begun::Three(a, b, byte),
         },
-        Begun::Three(a, b, c) => after_heading(at, heading_of(a, b, c, byte), taken, room),
+        Begun::Three(a, b, c) => after_heading(at, heading_of(a, b, c, byte), taken, space),
     }
 }
 
-/// The place after a whole header. There is room for so many bytes in the record.
-pub fn after_heading(at: u64, heading: Heading, taken: u64, room: u32) -> Place
+/// The place after a whole header. There is space for so many bytes in the record.
+pub fn after_heading(at: u64, heading: Heading, taken: u64, space: u32) -> Place
     requires { heading.count < 2 ^ 31 }
     ensures stepped { IsSteppedAt result }
-    ensures left { left_of result ≤ room }
-    ensures stands { (limit : ℕ) (rs : List (List ℕ)) (content before : List ℕ)
-        → length content + room ≡ limit
+    ensures left { left_of result ≤ space }
+    ensures represents { (limit : ℕ) (rs : List (List ℕ)) (content before : List ℕ)
+        → length content + space ≡ limit
         → Upto limit rs content before
         → at ≡ capped (length before)
         → taken ≡ capped (length (before ++ header heading.last heading.count))
         → StandsAt limit result content taken (before ++ header heading.last heading.count) rs }
 {
-    if heading.count > room {
+    if heading.count > space {
         Place::Broken(RecordFault::TooLong { at })
     } else if heading.count > 0 {
         Place::Content(Fragment {
@@ -64,7 +64,7 @@ pub fn after_heading(at: u64, heading: Heading, taken: u64, room: u32) -> Place
 fn after_fragment(last: bool, taken: u64) -> Place
     ensures stepped { IsSteppedAt result }
     ensures left { left_of result ≡ 0 }
-    ensures stands { (limit : ℕ) (rs : List (List ℕ)) (first part before : List ℕ)
+    ensures represents { (limit : ℕ) (rs : List (List ℕ)) (first part before : List ℕ)
         → Upto limit rs first before
         → length part < 2 ^ 31
         → length (first ++ part) ≤ limit
@@ -86,7 +86,7 @@ pub fn after_content(at_work: Fragment, n: u32, taken: u64) -> Place
     requires { n ≤ at_work.left }
     ensures stepped { IsSteppedAt result }
     ensures left { left_of result + n ≤ at_work.left }
-    ensures stands { (limit : ℕ) (rs : List (List ℕ)) (content bytes more : List ℕ)
+    ensures represents { (limit : ℕ) (rs : List (List ℕ)) (content bytes more : List ℕ)
         → length more ≡ n
         → InContent limit rs content at_work.last at_work.left bytes
         → taken ≡ capped (length (bytes ++ more))

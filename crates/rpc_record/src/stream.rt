@@ -30,7 +30,7 @@ impl RecordStream {
     ghost use Rattle.std.specs.Prelude.{◌≡◌, ◌≢◌, ◌<◌, ◌≤◌, ℕ, List, [], Option, Some, Ok, IfOk, IfErr, OnOk, IsErrOf};
     ghost use Rattle.std.specs.Prelude.{IfSome};
     ghost use Rattle.rpc_record.specs.Reading.{IsFeedFault};
-    ghost use Rattle.xdr_io.specs.Told.{Counts};
+    ghost use Rattle.xdr_io.specs.Reported.{Counts};
     ghost use Rattle.rpc_record.specs.Streamed.{HasRead, HandsHeld, HandsNext, IsOpen, most_to_come, reads_of};
 
     /// The records of a source, of at most `limit` bytes each, before the first read.

@@ -17,7 +17,7 @@ pub fn bytes(rt: &impl Env) -> Option<u64> {
     asked(rt, "GROWTH_BYTES")
 }
 
-/// How many bytes are not given back, each block by all of its room, or `None` where nothing counts.
+/// How many bytes are not given back, each block by all of its buffer, or `None` where nothing counts.
 pub fn held(rt: &impl Env) -> Option<u64> {
     asked(rt, "HELD_BYTES")
 }
@@ -75,7 +75,7 @@ mod tests {
     fn nothing_is_left(rt: HostRuntime) -> Result<(), Fail> {
         let alloc = rt.alloc();
         {
-            let _kept = take_all(alloc)?;
+            let _retained = take_all(alloc)?;
             assert!(rt; String::from_str(alloc, "a").is_err());
             assert!(rt; format!(in alloc; "{}", 5).is_err());
         }

@@ -1,6 +1,6 @@
 //! What texts declare, as text: kinds in the words of the language, the kinds that they name by their places, and `; `
 //! between two.
-use crate::told::{joined, listed, named, numbered, plain, signed, text_of, with_number};
+use crate::reported::{joined, listed, named, numbered, plain, signed, text_of, with_number};
 use std::alloc::Global;
 use xdr_lang::{Procedure, Program, Version};
 use xdr_types::{Arm, Kind, KindId, Member, Schema};

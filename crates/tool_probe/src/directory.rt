@@ -4,7 +4,7 @@ ghost use Rattle.std.specs.Prelude.{◌≤◌, length};
 
 use crate::case::{Case, allow};
 use crate::registry::{Registry, rows_text};
-use crate::told::{joined, line, listed, numbered, plain, text_of, with_number};
+use crate::reported::{joined, line, listed, numbered, plain, text_of, with_number};
 use rpc_directory::{Directory, NoMemory, Row, Uaddr, read_uaddr, write_uaddr};
 use std::alloc::Global;
 use std::env::Env;
@@ -177,8 +177,8 @@ fn told_of(alloc: Global, rt: &impl Env, directory: &mut Registry, words: &str) 
     spaced(numbered(alloc, "", met), answer_text(alloc, &answer))
 }
 
-/// What is told of the calls.
-pub fn told(rt: &HostRuntime, calls: &str) -> String {
+/// What is reported of the calls.
+pub fn reported(rt: &HostRuntime, calls: &str) -> String {
     let alloc = rt.alloc();
     let mut directory = Directory::new(alloc, BuildHasherDefault::new());
     let mut answers = Vec::new(alloc);

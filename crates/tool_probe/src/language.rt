@@ -3,7 +3,9 @@
 //! text.
 use crate::case::{Case, allow};
 use crate::declared::{constants_text, kinds_text, names_text, programs_text};
-use crate::told::{joined, line, listed, named, numbered, plain, signed, with_number, with_text};
+use crate::reported::{
+    joined, line, listed, named, numbered, plain, signed, with_number, with_text,
+};
 use rpc_directory::directory_schema;
 use std::alloc::Global;
 use std::env::Env;
@@ -12,8 +14,8 @@ use xdr_lang::{Declared, LangFault, read};
 use xdr_tokens::{Fault, Token, tokens};
 use xdr_types::Schema;
 
-/// What is told of the case.
-pub fn told(rt: &HostRuntime, case: &Case<'_>) -> String {
+/// What is reported of the case.
+pub fn reported(rt: &HostRuntime, case: &Case<'_>) -> String {
     let alloc = rt.alloc();
     let text = case.bytes(alloc, "text");
     match case.call() {
@@ -105,8 +107,8 @@ fn outline_line(alloc: Global, rt: &impl Env, case: &Case<'_>, text: &[u8]) -> S
 
 // The line with the kinds of a schema and their names behind it.
 fn with_schema(alloc: Global, before: String, schema: &Schema) -> String {
-    let told = with_text(before, " kinds=", kinds_text(alloc, schema).as_bytes());
-    with_text(told, " names=", names_text(alloc, schema).as_bytes())
+    let reported = with_text(before, " kinds=", kinds_text(alloc, schema).as_bytes());
+    with_text(reported, " names=", names_text(alloc, schema).as_bytes())
 }
 
 fn schema_line(alloc: Global, rt: &impl Env, case: &Case<'_>) -> String {
@@ -132,14 +134,14 @@ fn refused_text(alloc: Global, fault: LangFault) -> String {
 
 // The line with all that a text declares behind it.
 fn with_declared(alloc: Global, before: String, declared: &Declared) -> String {
-    let told = with_schema(alloc, before, &declared.schema);
-    let told = with_text(
-        told,
+    let reported = with_schema(alloc, before, &declared.schema);
+    let reported = with_text(
+        reported,
         " constants=",
         constants_text(alloc, &declared.constants).as_bytes(),
     );
     with_text(
-        told,
+        reported,
         " programs=",
         programs_text(alloc, &declared.programs).as_bytes(),
     )

@@ -1,5 +1,5 @@
 //! One call a line: the call that each line of the input asks for is made while reads, writes or growths of memory
-//! fail, and a line tells what it answered. `tests/run` and `bench/fuzz` write such lines and judge what is told, and
+//! fail, and a line tells what it answered. `tests/run` and `bench/fuzz` write such lines and judge what is reported, and
 //! `tests/README.md` says how they are written. Without a line nothing is called.
 #![tactic(auto)]
 
@@ -13,8 +13,8 @@ mod printed;
 mod program;
 mod records;
 mod registry;
+mod reported;
 mod task;
-mod told;
 mod values;
 
 use case::Case;
@@ -26,24 +26,24 @@ use std::process::ExitCode;
 fn called(rt: &HostRuntime, case: &Case<'_>) -> String {
     match case.call() {
         "normalise" | "RecordReader" | "RecordReader::calls" | "mark" | "write_marked" => {
-            records::told(rt, case)
+            records::reported(rt, case)
         }
-        "Task::Check" | "Task::Show" | "Task::Records" => task::told(rt, case),
-        "info_over" | "serve_on" => program::told(rt, case),
+        "Task::Check" | "Task::Show" | "Task::Records" => task::reported(rt, case),
+        "info_over" | "serve_on" => program::reported(rt, case),
         "serve_datagrams" | "exchange_datagram" | "datagrams_on" | "info_datagram" => {
-            datagrams::told(rt, case)
+            datagrams::reported(rt, case)
         }
-        "serve" | "answer" | "append_answer" | "exchange" | "dump" => registry::told(rt, case),
-        "read_call" | "read_reply" | "read_auth_sys" => messages::told(rt, case),
-        "tokens" | "read_outline" | "read" | "directory_schema" => language::told(rt, case),
-        _ => values::told(rt, case),
+        "serve" | "answer" | "append_answer" | "exchange" | "dump" => registry::reported(rt, case),
+        "read_call" | "read_reply" | "read_auth_sys" => messages::reported(rt, case),
+        "tokens" | "read_outline" | "read" | "directory_schema" => language::reported(rt, case),
+        _ => values::reported(rt, case),
     }
 }
 
-// What is told of a line: of calls of one registry, or of a case.
+// What is reported of a line: of calls of one registry, or of a case.
 fn answer_to(rt: &HostRuntime, alloc: Global, line: &str) -> String {
     match line.strip_prefix("call=Directory ; ") {
-        Some(calls) => directory::told(rt, calls),
+        Some(calls) => directory::reported(rt, calls),
         None => called(rt, &Case::read(alloc, line)),
     }
 }

@@ -4,7 +4,7 @@ ghost use Rattle.std.specs.Prelude.{◌≤◌, length};
 
 use crate::case::{Case, allow};
 use crate::printed::{auth, reply as reply_text, reply_fault};
-use crate::told::{joined, line, numbered, plain, with_digits, with_number};
+use crate::reported::{joined, line, numbered, plain, with_digits, with_number};
 use rpc_message::{
     AuthSys, Call, CallRead, NoMemory, Reply, append_reply, read_auth_sys, read_call, read_reply,
     write_auth_sys, write_call, write_reply,
@@ -12,8 +12,8 @@ use rpc_message::{
 use std::alloc::Global;
 use std::env::Env;
 
-/// What is told of the case.
-pub fn told(rt: &HostRuntime, case: &Case<'_>) -> String {
+/// What is reported of the case.
+pub fn reported(rt: &HostRuntime, case: &Case<'_>) -> String {
     match case.call() {
         "read_call" => call(rt.alloc(), rt, case),
         "read_reply" => reply(rt.alloc(), rt, case),

@@ -1,5 +1,5 @@
 //! What the calls answer, in the words that the program prints where it prints them.
-use crate::told::{joined, named, numbered, plain, with_digits, with_number};
+use crate::reported::{joined, named, numbered, plain, with_digits, with_number};
 use rpc_engine::{ClientFault, DatagramFault, ServeFault, Served};
 use rpc_message::{OpaqueAuth, Reply, ReplyFault, Status, Why};
 use rpc_record::{RecordFault, RecordStep};

@@ -5,15 +5,15 @@ ghost use Rattle.std.specs.Prelude.{◌<◌};
 
 use crate::case::{Case, allow};
 use crate::registry::started;
+use crate::reported::{with_bytes, with_number, with_text};
 use crate::task::{ending, room_for};
-use crate::told::{with_bytes, with_number, with_text};
 use oncrpc_service::{AcceptFault, Listener, info_over, serve_on};
 use std::alloc::Global;
 use std::env::Env;
 use xdr_io::{MemorySink, MemorySource, Sink, SinkFault};
 
-/// What is told of the case.
-pub fn told(rt: &HostRuntime, case: &Case<'_>) -> String {
+/// What is reported of the case.
+pub fn reported(rt: &HostRuntime, case: &Case<'_>) -> String {
     match case.call() {
         "info_over" => info(rt.alloc(), rt, case),
         _ => connections(rt.alloc(), rt, case),
@@ -22,13 +22,13 @@ pub fn told(rt: &HostRuntime, case: &Case<'_>) -> String {
 
 fn info(alloc: Global, rt: &impl Env, case: &Case<'_>) -> String {
     let input = case.input(alloc);
-    let mut room = room_for(alloc, input.len());
+    let mut buffer = room_for(alloc, input.len());
     let before = case.refuse(alloc, rt);
     let (mut said, mut sent) = ([0u8; 128], [0u8; 128]);
     let write = case.piece("write");
     let mut source = MemorySource::new(&input, case.piece("read"), case.failing("read-fails"));
     let mut call = MemorySink::new(&mut sent, write, case.failing("call-write-fails"));
-    let mut output = MemorySink::new(&mut room, write, case.failing("write-fails"));
+    let mut output = MemorySink::new(&mut buffer, write, case.failing("write-fails"));
     let mut faults = MemorySink::new(&mut said, 128, None);
     let status = info_over(
         alloc,
@@ -38,13 +38,13 @@ fn info(alloc: Global, rt: &impl Env, case: &Case<'_>) -> String {
         &mut faults,
         case.whole("version"),
     );
-    let told = ending(alloc, allow(rt, before), status);
-    let told = with_bytes(alloc, told, " call=", call.written());
-    let told = with_text(told, " output=", output.written());
-    with_text(told, " faults=", faults.written())
+    let reported = ending(alloc, allow(rt, before), status);
+    let reported = with_bytes(alloc, reported, " call=", call.written());
+    let reported = with_text(reported, " output=", output.written());
+    with_text(reported, " faults=", faults.written())
 }
 
-// What a client gets: these bytes in one write, where they are told, and else anything.
+// What a client gets: these bytes in one write, where they are reported, and else anything.
 #[derive(Drop)]
 struct Taken<'a> {
     wanted: Option<&'a [u8]>,
@@ -109,14 +109,18 @@ fn connections(alloc: Global, rt: &impl Env, case: &Case<'_>) -> String {
     let (all, wanted) = (case.list(alloc, "clients"), case.list(alloc, "replies"));
     let mut directory = started(alloc);
     let before = case.refuse(alloc, rt);
-    let (mut room, mut said) = ([0u8; 4096], [0u8; 128]);
+    let (mut buffer, mut said) = ([0u8; 4096], [0u8; 128]);
     let mut clients = Clients {
         all: &all,
         failing: case.word("clients-read-fails"),
         wanted: &wanted,
         piece: case.piece("read"),
     };
-    let mut output = MemorySink::new(&mut room, case.piece("write"), case.failing("write-fails"));
+    let mut output = MemorySink::new(
+        &mut buffer,
+        case.piece("write"),
+        case.failing("write-fails"),
+    );
     let mut faults = MemorySink::new(&mut said, 128, None);
     let status = serve_on(
         alloc,
@@ -126,8 +130,8 @@ fn connections(alloc: Global, rt: &impl Env, case: &Case<'_>) -> String {
         &mut output,
         &mut faults,
     );
-    let told = ending(alloc, allow(rt, before), status);
-    let told = with_number(alloc, told, " left=", clients.all.len() as u64);
-    let told = with_text(told, " output=", output.written());
-    with_text(told, " faults=", faults.written())
+    let reported = ending(alloc, allow(rt, before), status);
+    let reported = with_number(alloc, reported, " left=", clients.all.len() as u64);
+    let reported = with_text(reported, " output=", output.written());
+    with_text(reported, " faults=", faults.written())
 }

@@ -4,14 +4,14 @@ ghost use Rattle.std.specs.Prelude.{◌≤◌, ◌<◌, length};
 
 use crate::case::{Case, allow};
 use crate::printed::{ended, record_fault, step};
-use crate::told::{digits_of, joined, line, listed, numbered, plain, with_bytes, with_number};
+use crate::reported::{digits_of, joined, line, listed, numbered, plain, with_bytes, with_number};
 use rpc_record::{Count, RecordFault, RecordReader, RecordStep, mark, normalise, write_marked};
 use std::alloc::Global;
 use std::env::Env;
 use xdr_io::{Cut, MemorySink, MemorySource};
 
-/// What is told of the case.
-pub fn told(rt: &HostRuntime, case: &Case<'_>) -> String {
+/// What is reported of the case.
+pub fn reported(rt: &HostRuntime, case: &Case<'_>) -> String {
     match case.call() {
         "normalise" => normalised(rt.alloc(), rt, case),
         "RecordReader" => handed_out(rt.alloc(), rt, case),
@@ -44,12 +44,16 @@ fn count_of(alloc: Global, answer: Result<Count, RecordFault>) -> String {
 fn normalised(alloc: Global, rt: &impl Env, case: &Case<'_>) -> String {
     let input = case.input(alloc);
     let before = case.refuse(alloc, rt);
-    let mut room = [0u8; 32768];
+    let mut buffer = [0u8; 32768];
     let mut source = MemorySource::new(&input, case.piece("read"), case.failing("read-fails"));
-    let mut sink = MemorySink::new(&mut room, case.piece("write"), case.failing("write-fails"));
+    let mut sink = MemorySink::new(
+        &mut buffer,
+        case.piece("write"),
+        case.failing("write-fails"),
+    );
     let answer = normalise(alloc, &mut source, &mut sink, limit_of(case));
-    let told = line(alloc, allow(rt, before), count_of(alloc, answer).as_str());
-    with_bytes(alloc, told, " output=", sink.written())
+    let reported = line(alloc, allow(rt, before), count_of(alloc, answer).as_str());
+    with_bytes(alloc, reported, " output=", sink.written())
 }
 
 // Feeds a piece until it is taken whole, and keeps the records that come whole in it.
@@ -71,7 +75,7 @@ fn feed_whole(
     Ok(())
 }
 
-// Keeps a record behind its length, in room that is there.
+// Keeps a record behind its length, in buffer that is there.
 fn keep(record: Option<Vec<u8>>, out: &mut Vec<u8>) {
     if let Some(record) = record {
         let _length = out.extend_from_slice(
@@ -94,10 +98,10 @@ fn feed_all(
     Ok(())
 }
 
-// Room for the records of an input behind their lengths; none for want of memory.
+// Buffer for the records of an input behind their lengths; none for want of memory.
 fn room_for(alloc: Global, input: &[u8]) -> Vec<u8> {
     match Vec::with_capacity(alloc, input.len().saturating_mul(2).saturating_add(64)) {
-        Ok(room) => room,
+        Ok(buffer) => buffer,
         Err(_) => Vec::new(alloc),
     }
 }
@@ -119,22 +123,22 @@ fn handed_out(alloc: Global, rt: &impl Env, case: &Case<'_>) -> String {
         step(alloc, again),
         ended(alloc, last),
     ];
-    let told = line(alloc, met, listed(alloc, &answers).as_str());
-    with_bytes(alloc, told, " records=", &out)
+    let reported = line(alloc, met, listed(alloc, &answers).as_str());
+    with_bytes(alloc, reported, " records=", &out)
 }
 
 // What a reader answers to a part, and the record that is whole then, in a buffer that had other bytes.
 fn fed_into(alloc: Global, reader: &mut RecordReader, part: &[u8]) -> String {
-    let Ok(mut room) = vec![in alloc; 0x7au8; 3] else {
+    let Ok(mut buffer) = vec![in alloc; 0x7au8; 3] else {
         return String::new(alloc);
     };
-    let answer = reader.feed_into(part, &mut room);
+    let answer = reader.feed_into(part, &mut buffer);
     let is_whole = matches!(&answer, Ok(RecordStep::Whole { .. }));
-    let told = step(alloc, answer);
+    let reported = step(alloc, answer);
     if is_whole {
-        joined(joined(told, " "), digits_of(alloc, &room).as_str())
+        joined(joined(reported, " "), digits_of(alloc, &buffer).as_str())
     } else {
-        told
+        reported
     }
 }
 
@@ -201,9 +205,13 @@ fn cut_of(alloc: Global, answer: Result<(), Cut>) -> String {
 fn written(alloc: Global, rt: &impl Env, case: &Case<'_>) -> String {
     let record = record_of(alloc, case);
     let before = case.refuse(alloc, rt);
-    let mut room = [0u8; 128];
-    let mut sink = MemorySink::new(&mut room, case.piece("write"), case.failing("write-fails"));
+    let mut buffer = [0u8; 128];
+    let mut sink = MemorySink::new(
+        &mut buffer,
+        case.piece("write"),
+        case.failing("write-fails"),
+    );
     let answer = write_marked(&mut sink, &record);
-    let told = line(alloc, allow(rt, before), cut_of(alloc, answer).as_str());
-    with_bytes(alloc, told, " output=", sink.written())
+    let reported = line(alloc, allow(rt, before), cut_of(alloc, answer).as_str());
+    with_bytes(alloc, reported, " output=", sink.written())
 }

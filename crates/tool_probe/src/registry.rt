@@ -7,7 +7,7 @@ ghost use Rattle.rpc_message.specs.View.{auth_view, call_view};
 
 use crate::case::{Case, allow};
 use crate::printed::{exchanged as exchanged_text, served as served_text};
-use crate::told::{line, listed, numbered, plain, with_bytes, with_digits};
+use crate::reported::{line, listed, numbered, plain, with_bytes, with_digits};
 use registry_answer::{Answered, Appended, Transport, answer, append_answer};
 use rpc_directory::{Directory, NoMemory, directory_schema};
 use rpc_engine::{exchange, serve};
@@ -30,8 +30,8 @@ pub fn started(alloc: Global) -> Registry {
     }
 }
 
-/// What is told of the case.
-pub fn told(rt: &HostRuntime, case: &Case<'_>) -> String {
+/// What is reported of the case.
+pub fn reported(rt: &HostRuntime, case: &Case<'_>) -> String {
     match case.call() {
         "serve" => served(rt.alloc(), rt, case),
         "answer" => answered(rt.alloc(), rt, case),
@@ -46,7 +46,7 @@ fn serve_whole(alloc: Global, directory: &mut Registry, input: &[u8]) -> Vec<u8>
     let mut out = Vec::new(alloc);
     let mut source = MemorySource::new(input, 4096, None);
     let mut sink = IntoWrite::new(&mut out);
-    let _told = serve(alloc, &mut source, &mut sink, directory, Transport::Tcp);
+    let _reported = serve(alloc, &mut source, &mut sink, directory, Transport::Tcp);
     out
 }
 
@@ -73,9 +73,13 @@ fn served(alloc: Global, rt: &impl Env, case: &Case<'_>) -> String {
     let input = case.input(alloc);
     let mut directory = prepared(alloc, case);
     let before = case.refuse(alloc, rt);
-    let mut room = [0u8; 4096];
+    let mut buffer = [0u8; 4096];
     let mut source = MemorySource::new(&input, case.piece("read"), case.failing("read-fails"));
-    let mut sink = MemorySink::new(&mut room, case.piece("write"), case.failing("write-fails"));
+    let mut sink = MemorySink::new(
+        &mut buffer,
+        case.piece("write"),
+        case.failing("write-fails"),
+    );
     let answer = serve(
         alloc,
         &mut source,
@@ -83,13 +87,13 @@ fn served(alloc: Global, rt: &impl Env, case: &Case<'_>) -> String {
         &mut directory,
         Transport::Tcp,
     );
-    let told = line(
+    let reported = line(
         alloc,
         allow(rt, before),
         served_text(alloc, answer).as_str(),
     );
-    let told = with_bytes(alloc, told, " output=", sink.written());
-    with_after(alloc, &mut directory, told, case)
+    let reported = with_bytes(alloc, reported, " output=", sink.written());
+    with_after(alloc, &mut directory, reported, case)
 }
 
 // What a record is answered with.
@@ -110,12 +114,12 @@ fn answered(alloc: Global, rt: &impl Env, case: &Case<'_>) -> String {
         _ => Transport::Tcp,
     };
     let answer = answer(alloc, &mut directory, transport, &input);
-    let told = line(
+    let reported = line(
         alloc,
         allow(rt, before),
         answer_text(alloc, &answer).as_str(),
     );
-    with_after(alloc, &mut directory, told, case)
+    with_after(alloc, &mut directory, reported, case)
 }
 
 fn appended_text(alloc: Global, answer: Appended) -> String {
@@ -133,13 +137,13 @@ fn appended(alloc: Global, rt: &impl Env, case: &Case<'_>) -> String {
     let mut directory = prepared(alloc, case);
     let before = case.refuse(alloc, rt);
     let answer = append_answer(alloc, &mut directory, Transport::Tcp, &input, &mut out);
-    let told = line(
+    let reported = line(
         alloc,
         allow(rt, before),
         appended_text(alloc, answer).as_str(),
     );
-    let told = with_bytes(alloc, told, " output=", &out);
-    with_after(alloc, &mut directory, told, case)
+    let reported = with_bytes(alloc, reported, " output=", &out);
+    with_after(alloc, &mut directory, reported, case)
 }
 
 // An opaque_auth of flavor 0 and no bytes.
@@ -179,16 +183,20 @@ fn exchanged(alloc: Global, rt: &impl Env, case: &Case<'_>) -> String {
     let input = case.input(alloc);
     let before = case.refuse(alloc, rt);
     let call = null_call(alloc);
-    let mut room = [0u8; 128];
+    let mut buffer = [0u8; 128];
     let mut source = MemorySource::new(&input, case.piece("read"), case.failing("read-fails"));
-    let mut sink = MemorySink::new(&mut room, case.piece("write"), case.failing("write-fails"));
+    let mut sink = MemorySink::new(
+        &mut buffer,
+        case.piece("write"),
+        case.failing("write-fails"),
+    );
     let answer = exchange(alloc, &mut source, &mut sink, &call);
-    let told = line(
+    let reported = line(
         alloc,
         allow(rt, before),
         exchanged_text(alloc, &answer).as_str(),
     );
-    with_bytes(alloc, told, " output=", sink.written())
+    with_bytes(alloc, reported, " output=", sink.written())
 }
 
 // The bytes of a value, if it is one of the type of this name.

@@ -3,7 +3,7 @@
 ghost use Rattle.std.specs.Prelude.{◌<◌};
 
 use crate::case::{Case, allow};
-use crate::told::{numbered, with_number, with_text};
+use crate::reported::{numbered, with_number, with_text};
 use oncrpc_tasks::{MemoryOpener, RecordsTask, Task, ValueTask, task_over};
 use std::alloc::Global;
 use std::env::Env;
@@ -38,10 +38,10 @@ fn task(alloc: Global, case: &Case<'_>) -> Task {
     }
 }
 
-/// Room for so many bytes, and some more.
+/// Buffer for so many bytes, and some more.
 pub fn room_for(alloc: Global, count: usize) -> Vec<u8> {
     match vec![in alloc; 0u8; count.saturating_add(4096)] {
-        Ok(room) => room,
+        Ok(buffer) => buffer,
         Err(_) => Vec::new(alloc),
     }
 }
@@ -57,12 +57,12 @@ pub fn ending(alloc: Global, met: u64, status: u8) -> String {
 }
 
 /// The exit status of the case, and what was written to each stream.
-pub fn told(rt: &HostRuntime, case: &Case<'_>) -> String {
+pub fn reported(rt: &HostRuntime, case: &Case<'_>) -> String {
     let alloc = rt.alloc();
     let (text, input) = (case.bytes(alloc, "text"), case.input(alloc));
     let task = task(alloc, case);
-    let mut room = room_for(alloc, input.len());
-    over(alloc, rt, case, &task, &text, &input, &mut room)
+    let mut buffer = room_for(alloc, input.len());
+    over(alloc, rt, case, &task, &text, &input, &mut buffer)
 }
 
 fn over(
@@ -72,14 +72,14 @@ fn over(
     task: &Task,
     text: &[u8],
     input: &[u8],
-    room: &mut [u8],
+    buffer: &mut [u8],
 ) -> String {
     let mut said = [0u8; 128];
     let (read, write) = (case.piece("read"), case.piece("write"));
     let before = case.refuse(alloc, rt);
     let mut opener = MemoryOpener::new("a.x", text, read, case.failing("types-read-fails"));
     let mut source = MemorySource::new(input, read, case.failing("read-fails"));
-    let mut output = MemorySink::new(room, write, case.failing("write-fails"));
+    let mut output = MemorySink::new(buffer, write, case.failing("write-fails"));
     let mut faults = MemorySink::new(&mut said, write, case.failing("faults-write-fails"));
     let status = task_over(
         alloc,
@@ -89,7 +89,7 @@ fn over(
         &mut output,
         &mut faults,
     );
-    let told = ending(alloc, allow(rt, before), status);
-    let told = with_text(told, " output=", output.written());
-    with_text(told, " faults=", faults.written())
+    let reported = ending(alloc, allow(rt, before), status);
+    let reported = with_text(reported, " output=", output.written());
+    with_text(reported, " faults=", faults.written())
 }

@@ -6,7 +6,7 @@ ghost use Rattle.std.specs.Prelude.{◌≤◌, ◌<◌, length};
 
 use crate::case::{Case, allow, since};
 use crate::printed::{counted, finished, progress, refusal};
-use crate::told::{
+use crate::reported::{
     joined, line, listed, named, numbered, plain, with_bytes, with_digits, with_number, with_text,
 };
 use std::alloc::Global;
@@ -27,8 +27,8 @@ fn kind_of(case: &Case<'_>, declared: &Declared) -> Option<KindId> {
     }
 }
 
-/// What is told of the case.
-pub fn told(rt: &HostRuntime, case: &Case<'_>) -> String {
+/// What is reported of the case.
+pub fn reported(rt: &HostRuntime, case: &Case<'_>) -> String {
     let alloc = rt.alloc();
     match read(alloc, &case.bytes(alloc, "text")) {
         Ok(declared) => of_text(alloc, rt, case, &declared),
@@ -36,7 +36,7 @@ pub fn told(rt: &HostRuntime, case: &Case<'_>) -> String {
     }
 }
 
-// What is told of a case with its declarations.
+// What is reported of a case with its declarations.
 fn of_text(alloc: Global, rt: &impl Env, case: &Case<'_>, declared: &Declared) -> String {
     match (kind_of(case, declared), case.limits()) {
         (Some(kind), Some(limits)) => over(alloc, rt, case, &declared.schema, kind, limits),
@@ -44,7 +44,7 @@ fn of_text(alloc: Global, rt: &impl Env, case: &Case<'_>, declared: &Declared) -
     }
 }
 
-// What is told of a case with a schema.
+// What is reported of a case with a schema.
 fn over(
     alloc: Global,
     rt: &impl Env,
@@ -128,8 +128,8 @@ fn decoded(
         Ok((value, used)) => (Ok(used), Ok(value)),
         Err(fault) => (Err(fault), Err(fault)),
     };
-    let told = line(alloc, met, counted(alloc, count).as_str());
-    with_value(alloc, told, schema, kind, limits, &value)
+    let reported = line(alloc, met, counted(alloc, count).as_str());
+    with_value(alloc, reported, schema, kind, limits, &value)
 }
 
 // A part: its place, its depth, its kind, its name, what stands in it, and its bytes.
@@ -252,8 +252,8 @@ fn fed(
     let again = decoder.feed(&[]);
     let end = decoder.finish();
     let late = since(rt, before).saturating_sub(met);
-    let told = fed_line(alloc, met, fed, again, ended(alloc, &end), late);
-    with_value(alloc, told, schema, kind, limits, &end)
+    let reported = fed_line(alloc, met, fed, again, ended(alloc, &end), late);
+    with_value(alloc, reported, schema, kind, limits, &end)
 }
 
 fn checked(
@@ -293,8 +293,8 @@ fn unfed(
     let count = Checker::start(alloc, schema, kind, limits).finish();
     let met = allow(rt, before);
     let answers = [ended(alloc, &value), finished(alloc, count)];
-    let told = line(alloc, met, listed(alloc, &answers).as_str());
-    with_value(alloc, told, schema, kind, limits, &value)
+    let reported = line(alloc, met, listed(alloc, &answers).as_str());
+    with_value(alloc, reported, schema, kind, limits, &value)
 }
 
 // The part of the input between two places.
@@ -329,11 +329,11 @@ fn cut(
     let value = decoder.finish();
     let _ended = answers.push(ended(alloc, &value));
     let _counted = answers.push(finished(alloc, checker.finish()));
-    let told = line(alloc, 0, listed(alloc, &answers).as_str());
-    with_value(alloc, told, schema, kind, limits, &value)
+    let reported = line(alloc, 0, listed(alloc, &answers).as_str());
+    with_value(alloc, reported, schema, kind, limits, &value)
 }
 
-// What is told of the value that begins the input.
+// What is reported of the value that begins the input.
 fn of_bytes(
     alloc: Global,
     rt: &impl Env,
@@ -443,11 +443,15 @@ fn sent(
         return plain(alloc, "the value does not fit");
     }
     let before = case.refuse(alloc, rt);
-    let mut room = [0u8; 16384];
-    let mut sink = MemorySink::new(&mut room, case.piece("write"), case.failing("write-fails"));
+    let mut buffer = [0u8; 16384];
+    let mut sink = MemorySink::new(
+        &mut buffer,
+        case.piece("write"),
+        case.failing("write-fails"),
+    );
     let answer = encode_to(&mut sink, schema, kind, value, limits);
-    let told = line(alloc, allow(rt, before), sent_text(alloc, answer).as_str());
-    with_bytes(alloc, told, " output=", sink.written())
+    let reported = line(alloc, allow(rt, before), sent_text(alloc, answer).as_str());
+    with_bytes(alloc, reported, " output=", sink.written())
 }
 
 // Whether the copy of a value is equal to it.

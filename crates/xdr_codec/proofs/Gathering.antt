@@ -4,7 +4,7 @@ use Rattle.std.proofs.Common.{sym, ap, subst, ◌∙◌, arith, Option}
 use Rattle.std.proofs.lemmas.List.{append-nil, length-append, length-drop, take_all, take-append-drop, take-append-le}
 use Rattle.std.proofs.lemmas.List.{drop-append-le}
 use Rattle.std.specs.Io.KnownBytes.{Appends}
-use Rattle.xdr_io.specs.Told.{Counts}
+use Rattle.xdr_io.specs.Reported.{Counts}
 use Rattle.xdr_io.proofs.Chained.{Appends-none, Appends-trans, Counts-trans, take-add, take_past}
 use Rattle.xdr_codec.specs.Private.Gathered.{Gathering, Holds, IsCut, Gathers, Breaks}
 use Rattle.xdr_codec.specs.Private.GatheredLaws.{breaks-after}

@@ -20,8 +20,8 @@ use Rattle.xdr_laws.proofs.Longer.{stays}
 use Rattle.xdr_laws.proofs.Refused.{refused_for_good}
 use Rattle.xdr_laws.proofs.Whole.{whole_exactly}
 use Rattle.xdr_stream.specs.Sees.{Ends}
-use Rattle.xdr_stream.specs.Stands as told
-use Rattle.xdr_stream.specs.Stands.{taken}
+use Rattle.xdr_stream.specs.Represents as reported
+use Rattle.xdr_stream.specs.Represents.{taken}
 use Rattle.xdr_stream.specs.Finish as stream
 use Rattle.xdr_stream.specs.declared.fault.Reason.{Reason}
 use Rattle.xdr_stream.specs.declared.fault.Reason.TheVariants as reason
@@ -30,7 +30,7 @@ use Rattle.xdr_stream.specs.declared.reader.Progress.{Progress}
 use Rattle.xdr_stream.specs.declared.reader.Progress.TheVariants.{More, Done}
 use Rattle.xdr_stream.proofs.Answering.{fails_on}
 use Rattle.xdr_codec.specs.Refused.{MayFollow, IsRefused, HasNoneWithin}
-use Rattle.xdr_codec.specs.Stands.{AnswersAs, FinishesAs, Fails, IsStarted, IsSame}
+use Rattle.xdr_codec.specs.Represents.{AnswersAs, FinishesAs, Fails, IsStarted, IsSame}
 use Rattle.xdr_codec.specs.Outcomes.{HasOutcome, EndsIn}
 use Rattle.xdr_codec.specs.declared.decoder.Decoder.{Decoder}
 
@@ -87,7 +87,7 @@ module _ (s : List KindView) (t : ℕ) (l : Bounds) (units : l.bytes % 4 ≡ 0) 
   ends_none reason.NoMemory b p known o = absurd (known refl)
 
   -- bytes that are refused begin with no value, however they go on
-  pub fails : (f : DecodeFault) (b : List ℕ) → told.Fails s t l f b → Fails s t l f b
+  pub fails : (f : DecodeFault) (b : List ℕ) → reported.Fails s t l f b → Fails s t l f b
   fails f b e = (
     (λ is. subst (λ (w : Reason). Ends s t l w (b ++ []) f.at) is (e.0 [])),
     (λ known y. ends_none f.why (b ++ y) f.at known (e.0 y)),
@@ -95,7 +95,7 @@ module _ (s : List KindView) (t : ℕ) (l : Bounds) (units : l.bytes % 4 ≡ 0) 
   )
 
   -- the answer to a piece
-  pub answers : (b piece : List ℕ) (r : Result Progress DecodeFault) → told.Answers s t l b piece r
+  pub answers : (b piece : List ℕ) (r : Result Progress DecodeFault) → reported.Answers s t l b piece r
       → AnswersAs s t l (b ++ taken piece r) r
   answers b piece (Ok More) o = pending_none (b ++ piece) o
   answers b piece (Ok (Done used)) o =
@@ -176,7 +176,7 @@ module _ (s : Lists) (k : KindId) (l : Bounds) (d e : Decoder) (set : IsStarted 
       → EndsIn e (take used b) (Err f) → stream.EndsWith s.kinds k.place l b f
   not_given f units done end =
       let whole_there = settled (λ (ks : List KindView) (t : ℕ) (x : Bounds).
-      told.Answers ks t x [] b (Ok (Done used))) s k l d set done in
+      reported.Answers ks t x [] b (Ok (Done used))) s k l d set done in
       let at_end : stream.EndsWith s.kinds k.place l (take used b) f =
       settled (λ (ks : List KindView) (t : ℕ) (x : Bounds). stream.EndsWith ks t x (take used b) f) s k l e
       (still s k l d e set same) end in
@@ -185,6 +185,6 @@ module _ (s : Lists) (k : KindId) (l : Bounds) (d e : Decoder) (set : IsStarted 
       (subst (λ (n : ℕ). Outcome s.kinds k.place l b (Whole whole_there.0 n)) count whole_there.1) in (
         (λ is. absurd (pending_none s.kinds k.place l units (take used b) (at_end.0 is).0 whole_there.0 [] w.0
             (append-nil (bytes_of s.kinds k.place whole_there.0) ∙ w.2))),
-        (λ other. subst (λ (x : List ℕ). told.Fails s.kinds k.place l f x) (take-append-drop used b)
+        (λ other. subst (λ (x : List ℕ). reported.Fails s.kinds k.place l f x) (take-append-drop used b)
             (fails_on s.kinds k.place l f (take used b) (drop used b) (at_end.1 other))),
       )

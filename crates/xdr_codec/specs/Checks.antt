@@ -4,7 +4,7 @@ use Rattle.xdr_types.specs.Kinds.{KindView, Lists}
 use Rattle.xdr_types.specs.Within.{Bounds}
 use Rattle.xdr_types.specs.declared.kind.KindId.{KindId}
 use Rattle.xdr_stream.specs.Finish as stream
-use Rattle.xdr_stream.specs.Stands as told
+use Rattle.xdr_stream.specs.Represents as reported
 use Rattle.xdr_stream.specs.Checked.{Counts}
 use Rattle.xdr_stream.specs.Held as held
 use Rattle.xdr_stream.specs.declared.holding.Held.{Held}
@@ -30,13 +30,13 @@ abbrev pub limits_of : Checker → Bounds
 limits_of c = c.reader.limits
 
 -- the checker's fields stand for these bytes, all that it was given up to the value's end
-abbrev pub StandsFor : Checker → (b : List ℕ) → Type 0
-StandsFor c b = stream.Checks c.reader b
+abbrev pub RepresentsBytes : Checker → (b : List ℕ) → Type 0
+RepresentsBytes c b = stream.Checks c.reader b
 
 -- the answer to a piece is the outcome of the bytes b before it and all of its own: more to come where it is pending,
 -- done where a value is whole, a fault where it is one of this reason at this place, unless memory was refused
 abbrev pub HasOutcome : Checker → (b piece : List ℕ) → Result Progress DecodeFault → Type 0
-HasOutcome c b piece r = told.Answers (kinds_of c) (kind_of c).place (limits_of c) b piece r
+HasOutcome c b piece r = reported.Answers (kinds_of c) (kind_of c).place (limits_of c) b piece r
 
 -- the answer to the end of the bytes b is their outcome: the count of the value that is whole, a fault of this reason
 -- at this place, and cut short at their count where it is pending
@@ -49,7 +49,7 @@ IsStarted c schema kind limits = stream.IsStarted c.reader schema kind limits
 
 -- the settings stay
 abbrev pub IsSame : (a b : Checker) → Type 0
-IsSame a b = told.IsSame a.reader b.reader
+IsSame a b = reported.IsSame a.reader b.reader
 
 -- the value is whole
 abbrev pub IsDone : Checker → Type 0

@@ -1,7 +1,7 @@
 -- What a decoder holds, and how much that may be.
 use Rattle.std.specs.Prelude.{ℕ, List}
 use Rattle.xdr_stream.specs.Held as stream
-use Rattle.xdr_stream.specs.Stands as told
+use Rattle.xdr_stream.specs.Represents as reported
 use Rattle.xdr_stream.specs.declared.holding.Held.{Held}
 use Rattle.xdr_codec.specs.Settings.{kinds_of, kind_of, limits_of}
 use Rattle.xdr_codec.specs.declared.decoder.Decoder.{Decoder}
@@ -12,7 +12,7 @@ GoesOn d = stream.GoesOn d.reader.state
 
 -- reading has begun, and a unit is needed
 abbrev pub IsWaiting : Decoder → Type 0
-IsWaiting d = told.IsWaiting d.reader.state
+IsWaiting d = reported.IsWaiting d.reader.state
 
 -- the counts are those of the decoder's own fields
 abbrev pub CountsFields : Decoder → Held → Type 0

@@ -3,5 +3,5 @@ pub mod Held
 pub mod Outcomes
 pub mod Refused
 pub mod Settings
-pub mod Stands
+pub mod Represents
 pub mod Private

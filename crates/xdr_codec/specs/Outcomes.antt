@@ -2,7 +2,7 @@
 use Rattle.std.specs.Prelude.{ℕ, List, Result}
 use Rattle.xdr_types.specs.declared.value.Value.{Value}
 use Rattle.xdr_stream.specs.Finish as stream
-use Rattle.xdr_stream.specs.Stands as told
+use Rattle.xdr_stream.specs.Represents as reported
 use Rattle.xdr_stream.specs.declared.fault.DecodeFault.{DecodeFault}
 use Rattle.xdr_stream.specs.declared.reader.Progress.{Progress}
 use Rattle.xdr_codec.specs.Settings.{kinds_of, kind_of, limits_of}
@@ -11,7 +11,7 @@ use Rattle.xdr_codec.specs.declared.decoder.Decoder.{Decoder}
 -- the answer to a piece is the outcome of the bytes b before it and all of its own: more to come where it is pending,
 -- done where a value is whole, a fault where it is one of this reason at this place, unless memory was refused
 abbrev pub HasOutcome : Decoder → (b piece : List ℕ) → Result Progress DecodeFault → Type 0
-HasOutcome d b piece r = told.Answers (kinds_of d) (kind_of d).place (limits_of d) b piece r
+HasOutcome d b piece r = reported.Answers (kinds_of d) (kind_of d).place (limits_of d) b piece r
 
 -- the answer to the end of the bytes b is their outcome: the value that is whole, a fault of this reason at this place,
 -- and cut short at their count where it is pending

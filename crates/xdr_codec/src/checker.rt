@@ -19,19 +19,19 @@ pub struct Checker<'s> {
 
 impl<'s> Checker<'s> {
     ghost use Rattle.std.specs.Prelude.{◌≡◌, ◌≤◌, ◌<◌, ◌%◌, ℕ, List, [], ◌++◌, length, IfOk, IfErr, IsOk, Ok, Err};
-    ghost use Rattle.xdr_stream.specs.Stands.{taken, used_of};
+    ghost use Rattle.xdr_stream.specs.Represents.{taken, used_of};
     ghost use Rattle.xdr_stream.specs.declared.reader.Progress.TheVariants.{More, Done};
     ghost use Rattle.xdr_stream.specs.declared.fault.Reason.TheVariants.{NoMemory};
     ghost use Rattle.xdr_types.specs.Kinds.{kind_at};
     ghost use Rattle.xdr_stream.specs.Spared.{HasNoParts};
     ghost use Rattle.xdr_codec.specs.Checks.{kinds_of, kind_of};
-    ghost use Rattle.xdr_codec.specs.Checks.{StandsFor, HasOutcome, CountsIn, IsSame, IsStarted, IsDone, HasFailed};
+    ghost use Rattle.xdr_codec.specs.Checks.{RepresentsBytes, HasOutcome, CountsIn, IsSame, IsStarted, IsDone, HasFailed};
     ghost use Rattle.xdr_codec.specs.Checks.{GoesOn, CountsFields, IsHeldWithin};
 
     /// A checker that has been given no byte. It takes no memory.
     pub fn start(alloc: Global, schema: &'s Schema, kind: KindId, limits: Limits) -> Checker<'s>
         requires { kind.place < length schema.now.kinds }
-        ensures stands { StandsFor result [] }
+        ensures represents { RepresentsBytes result [] }
         ensures settings { IsStarted result schema.now kind limits }
         ensures open { GoesOn result }
     {
@@ -43,8 +43,8 @@ impl<'s> Checker<'s> {
     /// Takes the next piece, which may be empty. What it answers is the outcome of all bytes that came (RFC 4506), as
     /// `Decoder::feed` answers it. It takes memory for frames alone, and none where the kind has no parts.
     pub fn feed(&mut self, piece: &[u8]) -> Result<Progress, DecodeFault>
-        ensures stands { (b : List ℕ) → StandsFor self.old b → StandsFor self.new (b ++ taken piece.now result) }
-        ensures outcome { (b : List ℕ) → StandsFor self.old b → HasOutcome self.old b piece.now result }
+        ensures represents { (b : List ℕ) → RepresentsBytes self.old b → RepresentsBytes self.new (b ++ taken piece.now result) }
+        ensures outcome { (b : List ℕ) → RepresentsBytes self.old b → HasOutcome self.old b piece.now result }
         ensures used { IfOk result (λ p. used_of p ≤ length piece.now) }
         ensures open { IfOk result (λ p. p ≡ More → GoesOn self.new) }
         ensures done { IfOk result (λ p. (used : ℕ) → p ≡ Done used → IsDone self.new) }
@@ -62,8 +62,8 @@ impl<'s> Checker<'s> {
     /// takes no memory.
     pub fn held(&self) -> Held
         ensures counts { CountsFields self.now result }
-        ensures bounds { (b : List ℕ) → StandsFor self.now b → IsHeldWithin self.now b result }
-        ensures pending { (b : List ℕ) → StandsFor self.now b → GoesOn self.now → result.pending ≡ length b % 4 }
+        ensures bounds { (b : List ℕ) → RepresentsBytes self.now b → IsHeldWithin self.now b result }
+        ensures pending { (b : List ℕ) → RepresentsBytes self.now b → GoesOn self.now → result.pending ≡ length b % 4 }
     {
         holding::held_by_checker(&self.reader)
     }
@@ -72,7 +72,7 @@ impl<'s> Checker<'s> {
     /// `Truncated` at the count of bytes given. Before any `feed` it answers as after an empty piece. It takes no
     /// memory: after `Done` it gives the count, and it answers `NoMemory` only where an earlier call did.
     pub fn finish(self) -> Result<u32, DecodeFault>
-        ensures outcome { (b : List ℕ) → StandsFor self.entry b → CountsIn self.entry b result }
+        ensures outcome { (b : List ℕ) → RepresentsBytes self.entry b → CountsIn self.entry b result }
         ensures for_ever { (f : DecodeFault) → HasFailed self.entry f → result ≡ Err f }
         ensures whole { IsDone self.entry → IsOk result }
         ensures granted { IfErr result (λ f. f.why ≡ NoMemory → HasFailed self.entry f) }

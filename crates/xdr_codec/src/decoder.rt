@@ -1,6 +1,6 @@
 //! Bytes in pieces as a value: a decoder, and what it is asked: the next piece, how much is held, the value.
 ghost use Rattle.std.specs.Prelude.{ℕ, List};
-ghost use Rattle.xdr_stream.specs.Finish.{Stands};
+ghost use Rattle.xdr_stream.specs.Finish.{Represents};
 
 use std::alloc::Global;
 use xdr_stream::{DecodeFault, Held, Progress, Reader, Values, decoder, holding};
@@ -11,25 +11,25 @@ use xdr_types::{KindId, Limits, Schema, Value};
 #[derive(Drop)]
 pub struct Decoder<'s> {
     pub(crate) reader: Reader<'s, Values>,
-    ghost given: { ∥ ((b : List ℕ) × Stands reader b) ∥₁ },
+    ghost given: { ∥ ((b : List ℕ) × Represents reader b) ∥₁ },
 }
 
 impl<'s> Decoder<'s> {
     ghost use Rattle.std.specs.Prelude.{◌≡◌, ◌≤◌, ◌<◌, ◌%◌, ℕ, List, [], ◌++◌, length, IfOk, IfErr, IsOk, Ok, Err};
-    ghost use Rattle.xdr_stream.specs.Stands.{taken, used_of};
+    ghost use Rattle.xdr_stream.specs.Represents.{taken, used_of};
     ghost use Rattle.xdr_stream.specs.declared.reader.Progress.TheVariants.{More, Done};
     ghost use Rattle.xdr_stream.specs.declared.fault.Reason.TheVariants.{NoMemory};
     ghost use Rattle.xdr_types.specs.Kinds.{kind_at};
     ghost use Rattle.xdr_stream.specs.Spared.{IsFlat};
     ghost use Rattle.xdr_codec.specs.Settings.{kinds_of, kind_of};
-    ghost use Rattle.xdr_codec.specs.Stands.{StandsFor, Answers, Finishes, IsSame, IsStarted, IsDone, HasFailed};
+    ghost use Rattle.xdr_codec.specs.Represents.{RepresentsBytes, Answers, Finishes, IsSame, IsStarted, IsDone, HasFailed};
     ghost use Rattle.xdr_codec.specs.Outcomes.{HasOutcome, EndsIn};
     ghost use Rattle.xdr_codec.specs.Held.{GoesOn, IsWaiting, CountsFields, IsHeldWithin, IsHeldDue, IsHeldWhole};
 
     /// A decoder that has been given no byte. It takes no memory.
     pub fn start(alloc: Global, schema: &'s Schema, kind: KindId, limits: Limits) -> Decoder<'s>
         requires { kind.place < length schema.now.kinds }
-        ensures stands { StandsFor result [] }
+        ensures represents { RepresentsBytes result [] }
         ensures settings { IsStarted result schema.now kind limits }
         ensures open { GoesOn result }
     {
@@ -49,9 +49,9 @@ impl<'s> Decoder<'s> {
     /// takes no memory where the kind is a number, a boolean, an enumeration or void. Reading goes down by no calls;
     /// the drop of a value does, one level a call.
     pub fn feed(&mut self, piece: &[u8]) -> Result<Progress, DecodeFault>
-        ensures stands { (b : List ℕ) → StandsFor self.old b → StandsFor self.new (b ++ taken piece.now result) }
-        ensures outcome { (b : List ℕ) → StandsFor self.old b → HasOutcome self.old b piece.now result }
-        ensures answer { (b : List ℕ) → StandsFor self.old b → Answers self.old (b ++ taken piece.now result) result }
+        ensures represents { (b : List ℕ) → RepresentsBytes self.old b → RepresentsBytes self.new (b ++ taken piece.now result) }
+        ensures outcome { (b : List ℕ) → RepresentsBytes self.old b → HasOutcome self.old b piece.now result }
+        ensures answer { (b : List ℕ) → RepresentsBytes self.old b → Answers self.old (b ++ taken piece.now result) result }
         ensures used { IfOk result (λ p. used_of p ≤ length piece.now) }
         ensures more { IfOk result (λ p. p ≡ More → IsWaiting self.new) }
         ensures open { IfOk result (λ p. p ≡ More → GoesOn self.new) }
@@ -77,10 +77,10 @@ impl<'s> Decoder<'s> {
     /// After a fault nothing is held.
     pub fn held(&self) -> Held
         ensures counts { CountsFields self.now result }
-        ensures bounds { (b : List ℕ) → StandsFor self.now b → IsHeldWithin self.now b result }
-        ensures pending { (b : List ℕ) → StandsFor self.now b → GoesOn self.now → result.pending ≡ length b % 4 }
-        ensures due { (b : List ℕ) → StandsFor self.now b → IsWaiting self.now → IsHeldDue self.now b result }
-        ensures whole { (b : List ℕ) → StandsFor self.now b → IsDone self.now → IsHeldWhole self.now b result }
+        ensures bounds { (b : List ℕ) → RepresentsBytes self.now b → IsHeldWithin self.now b result }
+        ensures pending { (b : List ℕ) → RepresentsBytes self.now b → GoesOn self.now → result.pending ≡ length b % 4 }
+        ensures due { (b : List ℕ) → RepresentsBytes self.now b → IsWaiting self.now → IsHeldDue self.now b result }
+        ensures whole { (b : List ℕ) → RepresentsBytes self.now b → IsDone self.now → IsHeldWhole self.now b result }
     {
         holding::held_by_decoder(&self.reader)
     }
@@ -89,8 +89,8 @@ impl<'s> Decoder<'s> {
     /// `Truncated` at the count of bytes given. Before any `feed` it answers as after an empty piece. It takes no
     /// memory: after `Done` it gives the value, and it answers `NoMemory` only where an earlier call did.
     pub fn finish(self) -> Result<Value, DecodeFault>
-        ensures outcome { (b : List ℕ) → StandsFor self.entry b → EndsIn self.entry b result }
-        ensures answer { (b : List ℕ) → StandsFor self.entry b → Finishes self.entry b result }
+        ensures outcome { (b : List ℕ) → RepresentsBytes self.entry b → EndsIn self.entry b result }
+        ensures answer { (b : List ℕ) → RepresentsBytes self.entry b → Finishes self.entry b result }
         ensures for_ever { (f : DecodeFault) → HasFailed self.entry f → result ≡ Err f }
         ensures whole { IsDone self.entry → IsOk result }
         ensures granted { IfErr result (λ f. f.why ≡ NoMemory → HasFailed self.entry f) }

@@ -86,7 +86,7 @@ impl<'w, W: Sink> Gather<'w, W> {
     }
 }
 
-// A count of bytes, as far as it can be told.
+// A count of bytes, as far as it can be reported.
 fn count(bytes: usize) -> u32
     ensures { bytes < 2 ^ 32 → result ≡ bytes }
 {

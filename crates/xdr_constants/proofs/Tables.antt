@@ -46,11 +46,11 @@ picked true f v h = rw (h refl) refl
 picked false None v h = refl
 picked false (Some a) v h = refl
 
-pub kept : {A : Type 0} (b : Bool) (f : Option A) (v : A) → (b ≡ true → is_some f ≡ true)
+pub retained : {A : Type 0} (b : Bool) (f : Option A) (v : A) → (b ≡ true → is_some f ≡ true)
     → f ≡ option_or f (cond b (Some v) None)
-kept b (Some a) v h = refl
-kept false None v h = refl
-kept true None v h = let no : false ≡ true = h refl in absurd cc
+retained b (Some a) v h = refl
+retained false None v h = refl
+retained true None v h = let no : false ≡ true = h refl in absurd cc
 
 pub option_or_cond : {A : Type 0} (b : Bool) (s x y : Option A) (v : A) → x ≡ option_or s y
     → cond b (Some v) x ≡ option_or (cond b (Some v) s) y
@@ -112,7 +112,7 @@ old_constant m ks k key has same there = record {
       let at : is_some (at_name q m) ≡ true = subst (λ (x : List ℕ). is_some (at_name x m) ≡ true) here there in
       rw (has.finds q) at at in
       has.finds q
-      ∙ kept (bytes_eq k.name q) (first_named q 0 ks) (length ks, k.value, k.by_const) present
+      ∙ retained (bytes_eq k.name q) (first_named q 0 ks) (length ks, k.value, k.by_const) present
       ∙ sym (first_pushed q ks k);
 }
 

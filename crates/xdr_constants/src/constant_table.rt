@@ -25,7 +25,7 @@ fn keep_first<'a>(
     place: usize,
     known: Known<'a>,
 ) -> Result<(), AllocError>
-    ensures kept { (ks : List KnownSpec) → HasFirst first.old ks → length ks ≡ place
+    ensures retained { (ks : List KnownSpec) → HasFirst first.old ks → length ks ≡ place
         → OnOk result (HasFirst first.new (ks ++ known_of known.entry ∷ [])) }
     ensures unchanged { OnErr result (first.new.entries ≡ first.old.entries) }
 {

@@ -8,7 +8,7 @@ use Rattle.xdr_grammar.specs.declared.misread.Misread.{Misread}
 use Rattle.xdr_grammar.specs.declared.misread.Misread.TheVariants as misread
 use Rattle.xdr_grammar.specs.Misreadings.{IsGrammarFault}
 use Rattle.xdr_grammar.specs.Private.Parsing as steps
-use Rattle.xdr_grammar.specs.Private.Parsing.{told}
+use Rattle.xdr_grammar.specs.Private.Parsing.{reported}
 use Rattle.xdr_grammar.specs.Grammar.{specification}
 use Rattle.xdr_grammar.specs.Outline.{Outline, nothing}
 use Rattle.xdr_grammar.specs.Spelled.{IsOutline}
@@ -31,12 +31,12 @@ outline_again ts v is =
 pub one_outline : (ts : List Lexeme) (v w : Outline) → IsOutline ts v → IsOutline ts w → v ≡ w
 one_outline ts v w is iw = some_is v w (sym (outline_again ts v is) ∙ outline_again ts w iw)
 
--- where something is due, memory ran out, and that is told
-pub told_fails : (e : Misread) (v : Outline) → steps.MisreadsRightly e (Some v) → RefusesRightly (told e) (Some v)
-told_fails misread.NoMemory v h = tt
-told_fails (misread.Token why left) v h = absurd cc
+-- where something is due, memory ran out, and that is reported
+pub reported_fails : (e : Misread) (v : Outline) → steps.MisreadsRightly e (Some v) → RefusesRightly (reported e) (Some v)
+reported_fails misread.NoMemory v h = tt
+reported_fails (misread.Token why left) v h = absurd cc
 
-pub told_is : (e : Misread) → IsGrammarFault (told e)
+pub told_is : (e : Misread) → IsGrammarFault (reported e)
 told_is misread.NoMemory = tt
 told_is (misread.Token misplaced.Unexpected left) = inl refl
 told_is (misread.Token misplaced.FloatingKind left) = inr (inl refl)

@@ -96,7 +96,7 @@ declare n v by_const o =
 abbrev pub place : Outline → Part
 place o = IsMade (length o.drafts)
 
--- what a definition with that body declares its name as: the kind of a struct's is told by "struct" too
+-- what a definition with that body declares its name as: the kind of a struct's is reported by "struct" too
 abbrev pub by_struct : Part → Part
 by_struct (IsMade k) = IsStructMade k
 by_struct p = p

@@ -11,7 +11,7 @@ use crate::outline::{BodyKind, Field, Late, Part};
 use crate::reading::{MAX_DEPTH, Parser};
 use xdr_tokens::{Keyword, Mark};
 
-/// What a definition with that body declares its name as. The kind of a struct is told by `struct` too.
+/// What a definition with that body declares its name as. The kind of a struct is reported by `struct` too.
 fn defined_part(kind: BodyKind, part: Part<'_>) -> Part<'_>
     ensures { part_of result ≡ defined_part kind (part_of part.entry) }
 {

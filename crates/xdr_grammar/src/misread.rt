@@ -1,7 +1,7 @@
 //! Why tokens spell no definitions.
 ghost use Rattle.std.specs.Prelude.{◌≡◌};
 ghost use Rattle.xdr_grammar.specs.declared.misread.Misread.TheVariants.{NoMemory};
-ghost use Rattle.xdr_grammar.specs.Private.Parsing.{told};
+ghost use Rattle.xdr_grammar.specs.Private.Parsing.{reported};
 
 use std::alloc::{AllocError, AllocFailed};
 use xdr_tokens::{Fault, Wrong};
@@ -42,7 +42,7 @@ impl<T: Drop> From<AllocFailed<T>> for Misread {
 
 /// The fault of a text whose tokens are refused so.
 pub(crate) fn fault_of(misread: Misread) -> Fault
-    ensures { result ≡ told misread }
+    ensures { result ≡ reported misread }
 {
     let (why, left) = match misread {
         Misread::Token { why, left } => (why, left),

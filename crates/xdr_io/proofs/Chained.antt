@@ -6,7 +6,7 @@ use Rattle.std.proofs.lemmas.List.{append-nil, take-append-drop, take-take, drop
 use Rattle.std.proofs.lemmas.List.{length-drop}
 use Rattle.std.proofs.lemmas.Bool.Decides.{nat_tests}
 use Rattle.std.specs.Io.KnownBytes.{Keeps, Appends, Consumes}
-use Rattle.xdr_io.specs.Told.{Counts, MovesAtMost}
+use Rattle.xdr_io.specs.Reported.{Counts, MovesAtMost}
 
 pub Counts-trans : (a b c : Option ℕ) (j k n : ℕ) → j + k ≡ n → Counts j a b → Counts k b c → Counts n a c
 Counts-trans None None None j k n e p q = tt
@@ -44,15 +44,15 @@ Appends-none None = tt
 Appends-none (Some x) = sym (append-nil x)
 
 -- kept bytes are bytes of which none are consumed, and to which none are appended
-pub Consumes-kept : (a b : Option (List ℕ)) → Keeps a b → Consumes a b []
-Consumes-kept None b p = tt
-Consumes-kept (Some x) None p = absurd p
-Consumes-kept (Some x) (Some y) p = sym p
+pub Consumes-retained : (a b : Option (List ℕ)) → Keeps a b → Consumes a b []
+Consumes-retained None b p = tt
+Consumes-retained (Some x) None p = absurd p
+Consumes-retained (Some x) (Some y) p = sym p
 
-pub Appends-kept : (a b : Option (List ℕ)) → Keeps a b → Appends a b []
-Appends-kept None b p = tt
-Appends-kept (Some x) None p = absurd p
-Appends-kept (Some x) (Some y) p = p ∙ sym (append-nil x)
+pub Appends-retained : (a b : Option (List ℕ)) → Keeps a b → Appends a b []
+Appends-retained None b p = tt
+Appends-retained (Some x) None p = absurd p
+Appends-retained (Some x) (Some y) p = p ∙ sym (append-nil x)
 
 -- n items, and then m more
 pub take-add : (n m : ℕ) (xs : List ℕ) → take n xs ++ take m (drop n xs) ≡ take (n + m) xs
@@ -66,11 +66,11 @@ pub Appends-step : (a b c : Option (List ℕ)) (n m k : ℕ) (xs : List ℕ) →
 Appends-step a b c n m k xs e p q = Appends-trans a b c (take n xs) (take m (drop n xs)) (take k xs)
     (take-add n m xs ∙ ap (λ i. take i xs) e) p q
 
-pub Appends-then_kept : (a b c : Option (List ℕ)) (s : List ℕ) → Appends a b s → Keeps b c → Appends a c s
-Appends-then_kept None b c s p q = tt
-Appends-then_kept (Some x) None c s p q = absurd p
-Appends-then_kept (Some x) (Some y) None s p q = absurd q
-Appends-then_kept (Some x) (Some y) (Some z) s p q = q ∙ p
+pub Appends-then_retained : (a b c : Option (List ℕ)) (s : List ℕ) → Appends a b s → Keeps b c → Appends a c s
+Appends-then_retained None b c s p q = tt
+Appends-then_retained (Some x) None c s p q = absurd p
+Appends-then_retained (Some x) (Some y) None s p q = absurd q
+Appends-then_retained (Some x) (Some y) (Some z) s p q = q ∙ p
 
 -- a piece of a slice from n on, as a write is given it
 pub Appends-piece : (a b c : Option (List ℕ)) (n m k : ℕ) (xs : List ℕ) → n + m ≡ k → Appends a b (take n xs)
@@ -100,11 +100,11 @@ pub Consumes-at_end : (a b c : Option (List ℕ)) (s array : List ℕ) (n : ℕ)
 Consumes-at_end a b c s array n e p q = Consumes-trans a b c s (take n array) s (ap (λ k. s ++ take k array) e
     ∙ append-nil s) p q
 
-pub Consumes-then_kept : (a b c : Option (List ℕ)) (s : List ℕ) → Consumes a b s → Keeps b c → Consumes a c s
-Consumes-then_kept None b c s p q = tt
-Consumes-then_kept (Some x) None c s p q = absurd p
-Consumes-then_kept (Some x) (Some y) None s p q = absurd q
-Consumes-then_kept (Some x) (Some y) (Some z) s p q = p ∙ ap (λ k. s ++ k) (sym q)
+pub Consumes-then_retained : (a b c : Option (List ℕ)) (s : List ℕ) → Consumes a b s → Keeps b c → Consumes a c s
+Consumes-then_retained None b c s p q = tt
+Consumes-then_retained (Some x) None c s p q = absurd p
+Consumes-then_retained (Some x) (Some y) None s p q = absurd q
+Consumes-then_retained (Some x) (Some y) (Some z) s p q = p ∙ ap (λ k. s ++ k) (sym q)
 
 pub Consumes-nothing : (a : Option (List ℕ)) (s : List ℕ) → s ≡ [] → Consumes a a s
 Consumes-nothing a s e = Consumes-trans a a a [] [] s (sym e) (Consumes-none a) (Consumes-none a)
@@ -115,8 +115,8 @@ take_past xs ys n =
     ap (λ k. k ++ take n ys) (sym (take_at xs ys (length xs) refl)) ∙ ap (λ k. take (length xs) (xs ++ ys) ++ take n k)
     (sym (drop_at xs ys (length xs) refl)) ∙ take-add (length xs) n (xs ++ ys)
 
-pub MovesAtMost-kept : (n : ℕ) (a b : Option (List ℕ)) → Keeps a b → MovesAtMost n a b
-MovesAtMost-kept n a b p = record { input = []; few = omega arith; read = Consumes-kept a b p }
+pub MovesAtMost-retained : (n : ℕ) (a b : Option (List ℕ)) → Keeps a b → MovesAtMost n a b
+MovesAtMost-retained n a b p = record { input = []; few = omega arith; read = Consumes-retained a b p }
 
 -- some bytes were moved, and then some more
 pub MovesAtMost-after : (n m : ℕ) (a b c : Option (List ℕ)) (s : List ℕ) → length s ≤ n → Consumes a b s

@@ -3,7 +3,7 @@ use Rattle.std.proofs.Common.{◌≡◌, ℕ, List, ◌++◌, Option, Some, None
 use Rattle.std.proofs.lemmas.List.{append-nil}
 use Rattle.std.specs.Io.KnownBytes.{Consumes, IsAtEnd}
 
--- a source that told its bytes and has ended gave all of them
+-- a source that reported its bytes and has ended gave all of them
 pub all_read : (bytes input : List ℕ) (left : Option (List ℕ)) → Consumes (Some bytes) left input → IsAtEnd left
     → bytes ≡ input
 all_read bytes input None c e = absurd c

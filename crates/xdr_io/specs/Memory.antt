@@ -18,15 +18,15 @@ SameSource old new = (new.piece ≡ old.piece) × (new.failing ≡ old.failing)
 
 -- the slice is full
 abbrev pub IsFull : MemorySink → Type 0
-IsFull sink = sink.used ≡ length sink.room.now
+IsFull sink = sink.used ≡ length sink.buffer.now
 
 -- A write fails exactly where it is the one that fails or the slice is full, and else takes a whole piece while it has
--- room.
+-- buffer.
 abbrev pub WriteAnswers : {E : Type 0} → MemorySink → Result ℕ E → List ℕ → Type 0
 WriteAnswers old (Ok n) piece = (IsDue old.failing old.writes → ⊥) × (IsFull old → ⊥)
-    × (n ≡ min (min (length piece) old.piece) (length old.room.now - old.used))
+    × (n ≡ min (min (length piece) old.piece) (length old.buffer.now - old.used))
 WriteAnswers old (Err e) piece = IsDue old.failing old.writes ⊎ IsFull old
 
--- the room, the pieces and the call that fails stay
+-- the buffer, the pieces and the call that fails stay
 abbrev pub SameSink : MemorySink → MemorySink → Type 0
-SameSink old new = (length new.room.now ≡ length old.room.now) × (new.piece ≡ old.piece) × (new.failing ≡ old.failing)
+SameSink old new = (length new.buffer.now ≡ length old.buffer.now) × (new.piece ≡ old.piece) × (new.failing ≡ old.failing)

@@ -1,7 +1,7 @@
 //! All of a source, in a bounded number of reads.
 ghost use Rattle.std.specs.Prelude.{◌≡◌, ◌≢◌, ◌+◌, ◌≤◌, ◌++◌, take, vec_len, IfOk, IfErr, OnOk, IsErrOf};
 ghost use Rattle.std.specs.Io.KnownBytes.{Consumes, IsAtEnd};
-ghost use Rattle.xdr_io.specs.Told.{Counts, CountsAtMost, MovesAtMost};
+ghost use Rattle.xdr_io.specs.Reported.{Counts, CountsAtMost, MovesAtMost};
 ghost use Rattle.xdr_io.specs.declared.input.InputFault.TheVariants.{Read, NoMemory};
 
 use super::traits::{ReadFault, Source};

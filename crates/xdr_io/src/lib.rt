@@ -1,7 +1,7 @@
 //! Where bytes come from and where they go, a piece at a time.
 //!
 //! A [`Source`] and a [`Sink`] may tell what they did: their bytes, their calls and the calls that failed. The
-//! contracts above speak of what is told. [`MemorySource`] and [`MemorySink`] tell all; [`Gathered`] tells the bytes
+//! contracts above speak of what is reported. [`MemorySource`] and [`MemorySink`] tell all; [`Gathered`] tells the bytes
 //! that it took; [`FromRead`] and [`IntoWrite`] over std's readers and writers tell nothing.
 #![tactic(auto)]
 

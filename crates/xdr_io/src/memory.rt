@@ -1,6 +1,6 @@
 //! A source and a sink over lent memory, which tell all.
 ghost use Rattle.std.specs.Prelude.{◌≡◌, ◌<◌, ◌≤◌, [], Some, take, length, IfOk, IfSome};
-ghost use Rattle.xdr_io.specs.Told.{Counts, ReadMoves, WriteMoves, read_failures, write_failures, told_count};
+ghost use Rattle.xdr_io.specs.Reported.{Counts, ReadMoves, WriteMoves, read_failures, write_failures, reported_count};
 
 use super::traits::{ReadFault, Sink, SinkFault, Source};
 
@@ -40,15 +40,15 @@ impl<'a> Source for MemorySource<'a> {
 
     ghost left = { λ s. Some s.rest.now };
 
-    ghost reads = { λ s. told_count s.reads };
+    ghost reads = { λ s. reported_count s.reads };
 
-    ghost failures = { λ s. told_count s.failures };
+    ghost failures = { λ s. reported_count s.failures };
 
     fn read(&mut self, array: &mut [u8; 4096]) -> Result<usize, ReadFault>
         ensures bound { IfOk result (λ n. n ≤ 4096) }
         ensures bytes { ReadMoves (Some self.old.rest.now) (Some self.new.rest.now) result array.new }
-        ensures count { Counts 1 (told_count self.old.reads) (told_count self.new.reads) }
-        ensures failed { Counts (read_failures result) (told_count self.old.failures) (told_count self.new.failures) }
+        ensures count { Counts 1 (reported_count self.old.reads) (reported_count self.new.reads) }
+        ensures failed { Counts (read_failures result) (reported_count self.old.failures) (reported_count self.new.failures) }
         ensures gives { ReadAnswers self.old result }
         ensures same { SameSource self.old self.new }
     {
@@ -69,29 +69,29 @@ impl<'a> Source for MemorySource<'a> {
 /// and so does one when the slice is full.
 #[derive(Drop)]
 pub struct MemorySink<'a> {
-    room: &'a mut [u8],
+    buffer: &'a mut [u8],
     used: usize,
     piece: usize,
     failing: Option<u64>,
     writes: u64,
     failures: u64,
     ghost some: { 0 < piece },
-    ghost fits: { used ≤ length room.now },
+    ghost fits: { used ≤ length buffer.now },
 }
 
 impl<'a> MemorySink<'a> {
     /// A sink before its first write.
-    pub fn new(room: &'a mut [u8], piece: usize, failing: Option<u64>) -> Self
+    pub fn new(buffer: &'a mut [u8], piece: usize, failing: Option<u64>) -> Self
         requires { 0 < piece }
         ensures taken { ⟦<MemorySink<'a> as Sink>⟧.taken result ≡ Some [] }
         ensures writes { ⟦<MemorySink<'a> as Sink>⟧.writes result ≡ Some 0 }
         ensures failures { ⟦<MemorySink<'a> as Sink>⟧.failures result ≡ Some 0 }
-        ensures room { length result.room.now ≡ length room.old }
+        ensures buffer { length result.buffer.now ≡ length buffer.old }
         ensures piece { result.piece ≡ piece }
         ensures failing { result.failing ≡ failing }
     {
         MemorySink {
-            room,
+            buffer,
             used: 0,
             piece,
             failing,
@@ -111,38 +111,38 @@ impl<'a> MemorySink<'a> {
     pub fn written(&self) -> &[u8]
         ensures { ⟦<MemorySink<'a> as Sink>⟧.taken self.now ≡ Some result.now }
     {
-        &self.room[..self.used]
+        &self.buffer[..self.used]
     }
 }
 
 impl<'a> Sink for MemorySink<'a> {
     ghost use Rattle.xdr_io.specs.Memory.{WriteAnswers, SameSink};
 
-    ghost taken = { λ s. Some (take s.used s.room.now) };
+    ghost taken = { λ s. Some (take s.used s.buffer.now) };
 
-    ghost writes = { λ s. told_count s.writes };
+    ghost writes = { λ s. reported_count s.writes };
 
-    ghost failures = { λ s. told_count s.failures };
+    ghost failures = { λ s. reported_count s.failures };
 
     fn write(&mut self, piece: &[u8]) -> Result<usize, SinkFault>
         ensures bound { IfOk result (λ n. n ≤ length piece.now) }
-        ensures bytes { WriteMoves (Some (take self.old.used self.old.room.now))
-            (Some (take self.new.used self.new.room.now)) result piece.now }
-        ensures count { Counts 1 (told_count self.old.writes) (told_count self.new.writes) }
+        ensures bytes { WriteMoves (Some (take self.old.used self.old.buffer.now))
+            (Some (take self.new.used self.new.buffer.now)) result piece.now }
+        ensures count { Counts 1 (reported_count self.old.writes) (reported_count self.new.writes) }
         ensures failed { Counts (write_failures result piece.now)
-            (told_count self.old.failures) (told_count self.new.failures) }
+            (reported_count self.old.failures) (reported_count self.new.failures) }
         ensures takes { WriteAnswers self.old result piece.now }
         ensures same { SameSink self.old self.new }
     {
         self.writes = self.writes.saturating_add(1);
         let used = self.used;
-        let room = &mut *self.room;
-        if self.failing == Some(self.writes) || used == room.len() {
+        let buffer = &mut *self.buffer;
+        if self.failing == Some(self.writes) || used == buffer.len() {
             self.failures = self.failures.saturating_add(1);
             return Err(SinkFault);
         }
-        let n = piece.len().min(self.piece).min(room.len() - used);
-        room[used..used + n].copy_from_slice(&piece[..n]);
+        let n = piece.len().min(self.piece).min(buffer.len() - used);
+        buffer[used..used + n].copy_from_slice(&piece[..n]);
         self.used = used + n;
         Ok(n)
     }

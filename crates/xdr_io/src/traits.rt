@@ -1,6 +1,6 @@
 //! A source and a sink, and what they tell.
 ghost use Rattle.std.specs.Prelude.{ℕ, ◌≤◌, List, Option, None, length, IfOk};
-ghost use Rattle.xdr_io.specs.Told.{Counts, ReadMoves, WriteMoves, read_failures, write_failures};
+ghost use Rattle.xdr_io.specs.Reported.{Counts, ReadMoves, WriteMoves, read_failures, write_failures};
 
 use thiserror::Error;
 
@@ -16,13 +16,13 @@ pub struct SinkFault;
 
 /// Where bytes come from.
 pub trait Source {
-    /// The bytes that are left, where they are told.
+    /// The bytes that are left, where they are reported.
     ghost left: { Self → Option (List ℕ) } = { λ _. None };
 
-    /// How many reads there were, where that is told.
+    /// How many reads there were, where that is reported.
     ghost reads: { Self → Option ℕ } = { λ _. None };
 
-    /// How many of them failed, where that is told.
+    /// How many of them failed, where that is reported.
     ghost failures: { Self → Option ℕ } = { λ _. None };
 
     /// Moves the next bytes to the front of the array, and says how many: 0 only where none is left. A fault moves
@@ -36,13 +36,13 @@ pub trait Source {
 
 /// Where bytes go.
 pub trait Sink {
-    /// The bytes that were taken, where they are told.
+    /// The bytes that were taken, where they are reported.
     ghost taken: { Self → Option (List ℕ) } = { λ _. None };
 
-    /// How many writes there were, where that is told.
+    /// How many writes there were, where that is reported.
     ghost writes: { Self → Option ℕ } = { λ _. None };
 
-    /// How many of them failed, where that is told.
+    /// How many of them failed, where that is reported.
     ghost failures: { Self → Option ℕ } = { λ _. None };
 
     /// Takes some bytes from the front of the piece, and says how many. A fault takes none, and to take none of a

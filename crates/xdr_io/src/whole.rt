@@ -1,7 +1,7 @@
 //! A whole slice through a sink.
 ghost use Rattle.std.specs.Prelude.{◌<◌, length, take, IfErr, OnOk, OnErr};
 ghost use Rattle.std.specs.Io.KnownBytes.{Appends};
-ghost use Rattle.xdr_io.specs.Told.{Counts};
+ghost use Rattle.xdr_io.specs.Reported.{Counts};
 
 use super::traits::{Sink, SinkFault};
 use thiserror::Error;

@@ -21,8 +21,8 @@ only_memory s e ok sound (inr first) = absurd (refused s e first ok sound)
 -- what is refused, but not for want of memory, is not due
 pub refused_is_not_due : {A : Type 0} (e : Fault) (n : ℕ) (a : A) → (e ≡ fault.NoMemory → n ≡ 13) → (n ≡ 13 → ⊥)
     → RefusesRightly e (Some a) → ⊥
-refused_is_not_due fault.NoMemory n a told not h = not (told refl)
-refused_is_not_due (fault.Refused wrong left) n a told not h = absurd cc
+refused_is_not_due fault.NoMemory n a reported not h = not (reported refl)
+refused_is_not_due (fault.Refused wrong left) n a reported not h = absurd cc
 
 -- what is refused in place of one thing is refused in place of another
 pub fails_same : {A B : Type 0} (e : Fault) (a : A) (b : B) → RefusesRightly e (Some a) → RefusesRightly e (Some b)

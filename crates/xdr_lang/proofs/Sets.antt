@@ -50,7 +50,7 @@ unfolding has_name
 has_more q n [] = one (bytes_eq n q)
 has_more q n (m ∷ b) = rw (has_more q n b) (regroup (bytes_eq m q) (has_name q b) (bytes_eq n q))
 
--- what repeats is told by what is among the names before
+-- what repeats is reported by what is among the names before
 repeats_along : (ns a b : List (List ℕ)) → ((q : List ℕ) → has_name q a ≡ has_name q b) → repeats a ns ≡ repeats b ns
 unfolding repeats
 repeats_along [] a b h = refl

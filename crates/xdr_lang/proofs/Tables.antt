@@ -14,7 +14,7 @@ use Rattle.xdr_grammar.specs.Outline as out
 use Rattle.xdr_tokens.proofs.Options.{some_is}
 use Rattle.xdr_tokens.specs.Options.{◌>>=◌}
 use Rattle.xdr_constants.specs.Tables.{key_texts, at_name}
-use Rattle.xdr_constants.proofs.Tables.{at_more, at_same, at_empty, none_from, picked, kept, option_or_cond}
+use Rattle.xdr_constants.proofs.Tables.{at_more, at_same, at_empty, none_from, picked, retained, option_or_cond}
 use Rattle.xdr_constants.proofs.Tables.{same_text}
 use Rattle.xdr_lang.specs.LookUp.{type_named, place_with, named_place}
 use Rattle.xdr_lang.specs.Private.Tables.{HasParts, IsPlacedAt, HasPlaces, HasNoPlaces}
@@ -64,7 +64,7 @@ old_part m ts t key has same there = record {
       let at : is_some (at_name q m) ≡ true = subst (λ (x : List ℕ). is_some (at_name x m) ≡ true) here there in
       ap (λ (o : Option out.Part). is_some o) (sym (has.finds q)) ∙ is_some-map part_of (at_name q m) ∙ at in
       has.finds q
-      ∙ kept (bytes_eq t.name q) (type_named q ts) t.part present
+      ∙ retained (bytes_eq t.name q) (type_named q ts) t.part present
       ∙ sym (named_more q ts t);
 }
 

@@ -34,8 +34,8 @@ fn rank(wrong: Wrong) -> u8 {
 impl First {
     /// Keeps the fault, where it comes before the one that is kept.
     fn note(&mut self, wrong: Wrong, left: usize) {
-        if let Some((kept, at)) = self.fault {
-            if at > left || (at == left && rank(kept) <= rank(wrong)) {
+        if let Some((retained, at)) = self.fault {
+            if at > left || (at == left && rank(retained) <= rank(wrong)) {
                 return;
             }
         }
@@ -439,7 +439,7 @@ fn earliest(alloc: Global, outline: &Outline<'_>, fault: Fault) -> Result<Fault,
     }
 }
 
-/// What is told of an outline that means nothing: of names and numbers, the fault that stands first in
+/// What is reported of an outline that means nothing: of names and numbers, the fault that stands first in
 /// the text; else the first typedef that never ends.
 pub fn first_fault(alloc: Global, outline: &Outline<'_>, fault: Fault) -> Fault
     ensures { fault ≡ Fault.NoMemory → result ≡ Fault.NoMemory }

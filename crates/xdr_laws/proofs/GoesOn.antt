@@ -214,7 +214,7 @@ module _ (s : List KindView) (has : EachKindHasAValue s) (known : EachPartIsKnow
       subst (λ (l : List Entry). Contains l e) (sym i.1)
       (Contains-append_left (begun ++ e ∷ []) i.0 e (Contains-append_right begun (e ∷ []) e (0, omega arith, refl)))
       in
-      let stands : HasNextUnit s t q e = (front.0, front.1, inside, omega arith, omega arith) in
+      let represents : HasNextUnit s t q e = (front.0, front.1, inside, omega arith, omega arith) in
       let to : Front s t (q ++ u) → Admits s k (role_of k) (length q - e.at) u = λ f.
       (let c = front_into s t q u begun owed r.reads f in
       admits_accepted s k (length q - e.at) u r.settled
@@ -227,7 +227,7 @@ module _ (s : List KindView) (has : EachKindHasAValue s) (known : EachPartIsKnow
       (subst (λ (b : List ℕ). Steps s (length q) begun owed b) is
       (step_unit s (length q) begun d t' ts ds x r.track r.settled
       (accepted_admits s k g.0 g.3 (length q - e.at) u r.settled less a))) in
-      (e, stands, (to, from))
+      (e, represents, (to, from))
 
   -- where content goes on
   goes_on_rest : (begun : List Entry) (n : ℕ) (ds : List Due) → Reaches s 0 [] (root t) q begun (Rest n ∷ ds)
@@ -246,7 +246,7 @@ module _ (s : List KindView) (has : EachKindHasAValue s) (known : EachPartIsKnow
       (All-from_recursion (λ (x : Entry). x.at % 4 ≡ 0) (entries s t front.0)
       (parts_units s 0 1 (item_part t ∷ []) (from_list (front.0 ∷ [])) refl)) inside in
       let c = rest_case s e (length q) n u len e.role track.3 r.settled units at track.4 in
-      let stands : HasNextUnit s t q e = (front.0, front.1, inside, track.3, c.0) in
+      let represents : HasNextUnit s t q e = (front.0, front.1, inside, track.3, c.0) in
       let to : Front s t (q ++ u) → Admits s (kind_at s e.kind) e.role (length q - e.at) u = λ f.
       (let g = front_into s t q u begun owed r.reads f in
       c.1 (λ few. refuses_padding s (length q) n ds u g.0 g.1 r.settled few len g.2)) in
@@ -254,7 +254,7 @@ module _ (s : List KindView) (has : EachKindHasAValue s) (known : EachPartIsKnow
       let from : Admits s (kind_at s e.kind) e.role (length q - e.at) u → Front s t (q ++ u) = λ a.
       front_by s has known t q u begun owed r.reads (completes_known s (length q) owed front.1.1 j.0 j.2)
       (step_rest s (length q) begun n ds u r.settled track len are (c.2 a)) in
-      (e, stands, (to, from))
+      (e, represents, (to, from))
 
   goes_on_at : (begun : List Entry) (ds : List Due) → Reaches s 0 [] (root t) q begun ds → IsUnfinished s t q
       → Continues s t q u

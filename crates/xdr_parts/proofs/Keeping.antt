@@ -71,10 +71,10 @@ module _ (w : Walk) (n : Next) (all : List Entry) (st : HasWalked w all) (next :
       st.low in
       omega (arith, level w.parents.items)
 
-  pub kept : (v : Walk) (new also : List Entry) (moved : ℕ) (fs : List (List Part)) → Wrote w v new moved fs
+  pub retained : (v : Walk) (new also : List Entry) (moved : ℕ) (fs : List (List Part)) → Wrote w v new moved fs
       → new ≡ also
       → Goes w.schema.now.kinds w.at w.bytes.now st.left also moved fs → HasWalked v all
-  kept v new also moved fs f same g =
+  retained v new also moved fs f same g =
       let owes : Completes w.schema.now.kinds (w.at + moved) (dues (stack_of v.work v.parents.items))
       (drop (w.at + moved) w.bytes.now) g.left =
       subst (λ (x : List (List Part)). Completes w.schema.now.kinds (w.at + moved) (dues x)
@@ -106,7 +106,7 @@ pub goes_on : {E : Type 0} (r : Result (Unit {0}) E) (w v : Walk) (n : Next) (ne
     → ((all : List Entry) (st : HasWalked w all) → Goes w.schema.now.kinds w.at w.bytes.now st.left also moved fs)
     → OnOk r (Wrote w v new moved fs) → OnOk r ((all : List Entry) → HasWalked w all → HasWalked v all)
 goes_on (Ok x) w v n new also moved fs next same goes f = λ all st.
-    kept w n all st next v new also moved fs f same (goes all st)
+    retained w n all st next v new also moved fs f same (goes all st)
 goes_on (Err e) w v n new also moved fs next same goes f = f
 
 -- before any byte all parts are owed

@@ -145,11 +145,11 @@ module _ (kinds : List KindView) (input : List ℕ) (place depth : ℕ) (p : Par
   -- its bytes are those that stand at its place
   bytes_at : (l : Lent) (at : ℕ) (q c : List ℕ) → l.at ≡ at → length l.bytes.now ≡ length q → IsLentFrom input l
       → drop at input ≡ q ++ c → l.bytes.now ≡ q
-  bytes_at l at q c place long lent stands =
+  bytes_at l at q c place long lent represents =
       lent.1 ∙ ap (λ (n : ℕ). take n (drop l.at input)) long ∙ ap (λ (n : ℕ). take (length q) (drop n input)) place
-      ∙ ap (λ (b : List ℕ). take (length q) b) stands ∙ take_at q c (length q) refl
+      ∙ ap (λ (b : List ℕ). take (length q) b) represents ∙ take_at q c (length q) refl
 
-  module _ (l : Lent) (at : ℕ) (q c : List ℕ) (lent : IsLentFrom input l) (stands : drop at input ≡ q ++ c) where
+  module _ (l : Lent) (at : ℕ) (q c : List ℕ) (lent : IsLentFrom input l) (represents : drop at input ≡ q ++ c) where
     -- a part of units
     units : (r : Role) (role : layout.Role) → entry_of l ≡ entry at (length q) depth p role → l.role ≡ r
         → ((n : ℕ) → size_in r n ≡ n) → Is l depth p r q
@@ -157,7 +157,7 @@ module _ (kinds : List KindView) (input : List ℕ) (place depth : ℕ) (p : Par
       role = is;
       bytes = bytes_at l at q c (ap (λ (x : Entry). x.at) e)
           (sym (plain (length l.bytes.now)) ∙ ap (λ (x : Role). size_in x (length l.bytes.now)) (sym is)
-          ∙ ap (λ (x : Entry). x.size) e) lent stands;
+          ∙ ap (λ (x : Entry). x.size) e) lent represents;
       deep = ap (λ (x : Entry). x.depth) e;
       kind = ap (λ (x : Entry). x.kind) e;
       name = ap (λ (x : Entry). x.name) e;
@@ -185,7 +185,7 @@ module _ (kinds : List KindView) (input : List ℕ) (place depth : ℕ) (p : Par
         let r = role_content l.role (length l.bytes.now) (length q) (ap (λ (x : Entry). x.role) e) in
         record {
           role = r.0;
-          bytes = bytes_at l at q c (ap (λ (x : Entry). x.at) e) r.1 lent stands;
+          bytes = bytes_at l at q c (ap (λ (x : Entry). x.at) e) r.1 lent represents;
           deep = ap (λ (x : Entry). x.depth) e;
           kind = ap (λ (x : Entry). x.kind) e;
           name = ap (λ (x : Entry). x.name) e;
@@ -218,19 +218,19 @@ module _ (kinds : List KindView) (input : List ℕ) (place depth : ℕ) (p : Par
     number_says : IsRead kinds f h → (c : List ℕ) → drop place input ≡ own f h ++ c → (ls : List Lent)
         → map entry_of ls ≡ entry place (length (own f h)) depth p layout.of_number ∷ [] → AreLentFrom input ls
         → Say ls (node_line kinds depth p h)
-    number_says read c stands [] e lent = absurd (cc e)
-    number_says read c stands (l ∷ m ∷ ls) e lent = absurd (cc e)
-    number_says read c stands (l ∷ []) e lent =
-        says l Number (own f h) (number_part l place (own f h) c lent.0 stands (cc e)) read.1 (ap Some read.0)
+    number_says read c represents [] e lent = absurd (cc e)
+    number_says read c represents (l ∷ m ∷ ls) e lent = absurd (cc e)
+    number_says read c represents (l ∷ []) e lent =
+        says l Number (own f h) (number_part l place (own f h) c lent.0 represents (cc e)) read.1 (ap Some read.0)
 
     flag_says : flag (from_be_bytes w32 (own f h)) ≡ h → length (own f h) ≡ 4 → (c : List ℕ)
         → drop place input ≡ own f h ++ c → (ls : List Lent)
         → map entry_of ls ≡ entry place (length (own f h)) depth p layout.of_flag ∷ [] → AreLentFrom input ls
         → Say ls (node_line kinds depth p h)
-    flag_says read long c stands [] e lent = absurd (cc e)
-    flag_says read long c stands (l ∷ m ∷ ls) e lent = absurd (cc e)
-    flag_says read long c stands (l ∷ []) e lent =
-        says l Flag (own f h) (flag_part l place (own f h) c lent.0 stands (cc e)) long (ap Some read)
+    flag_says read long c represents [] e lent = absurd (cc e)
+    flag_says read long c represents (l ∷ m ∷ ls) e lent = absurd (cc e)
+    flag_says read long c represents (l ∷ []) e lent =
+        says l Flag (own f h) (flag_part l place (own f h) c lent.0 represents (cc e)) long (ap Some read)
 
     group_says : silent_head f ≡ h → (ls : List Lent)
         → map entry_of ls ≡ entry place 0 depth p layout.of_group ∷ [] → AreLentFrom input ls
@@ -245,11 +245,11 @@ module _ (kinds : List KindView) (input : List ℕ) (place depth : ℕ) (p : Par
       → IsLegal kinds (xdr.up_to item max) (value.items n) → (c : List ℕ) → drop place input ≡ word n ++ c
       → (ls : List Lent) → map entry_of ls ≡ entry place 4 depth p layout.of_length ∷ [] → AreLentFrom input ls
       → Say ls (node_line kinds depth p (value.items n))
-  count_says item max n same legal c stands [] e lent = absurd (cc e)
-  count_says item max n same legal c stands (l ∷ m ∷ ls) e lent = absurd (cc e)
-  count_says item max n same legal c stands (l ∷ []) e lent =
+  count_says item max n same legal c represents [] e lent = absurd (cc e)
+  count_says item max n same legal c represents (l ∷ m ∷ ls) e lent = absurd (cc e)
+  count_says item max n same legal c represents (l ∷ []) e lent =
       says (xdr.up_to item max) same (value.items n) legal l Length (word n)
-      (length_part l place (word n) c lent.0 stands (cc e)) refl
+      (length_part l place (word n) c lent.0 represents (cc e)) refl
       (ap (λ (x : ℕ). Some (value.items x)) (word_back n legal.1))
 
   -- content, of a kind that has it
@@ -257,10 +257,10 @@ module _ (kinds : List KindView) (input : List ℕ) (place depth : ℕ) (p : Par
       → (at : ℕ) (c : List ℕ) → drop at input ≡ padded bs ++ c → (ls : List Lent)
       → map entry_of ls ≡ layout.content at depth p (length bs) → AreLentFrom input ls
       → Say ls (node_line kinds depth p (value.bytes bs))
-  content_says f same bs legal at c stands [] e lent = absurd (cc e)
-  content_says f same bs legal at c stands (l ∷ m ∷ ls) e lent = absurd (cc e)
-  content_says f same bs legal at c stands (l ∷ []) e lent =
-      let behind : drop at input ≡ bs ++ (pad (length bs) ++ c) = stands ∙ append_assoc bs (pad (length bs)) c in
+  content_says f same bs legal at c represents [] e lent = absurd (cc e)
+  content_says f same bs legal at c represents (l ∷ m ∷ ls) e lent = absurd (cc e)
+  content_says f same bs legal at c represents (l ∷ []) e lent =
+      let behind : drop at input ≡ bs ++ (pad (length bs) ++ c) = represents ∙ append_assoc bs (pad (length bs)) c in
       says f same (value.bytes bs) legal l Content bs
       (content_part l at bs (pad (length bs) ++ c) lent.0 behind (length bs + length (pad (length bs))) (cc e)) tt refl
 
@@ -270,10 +270,10 @@ module _ (kinds : List KindView) (input : List ℕ) (place depth : ℕ) (p : Par
       → (c : List ℕ) → drop place input ≡ (word (length bs) ++ padded bs) ++ c → (ls : List Lent)
       → map entry_of ls ≡ entry place 4 depth p layout.of_length ∷ layout.content (place + 4) depth p (length bs)
       → AreLentFrom input ls → Say ls (node_line kinds depth p (value.bytes bs))
-  counted_says f same none bs legal c stands [] e lent = absurd (cc e)
-  counted_says f same none bs legal c stands (l ∷ ls) e lent =
+  counted_says f same none bs legal c represents [] e lent = absurd (cc e)
+  counted_says f same none bs legal c represents (l ∷ ls) e lent =
       let u : List ℕ = word (length bs) in
-      let first : drop place input ≡ u ++ (padded bs ++ c) = stands ∙ append_assoc u (padded bs) c in
+      let first : drop place input ≡ u ++ (padded bs ++ c) = represents ∙ append_assoc u (padded bs) c in
       let behind : drop (place + 4) input ≡ padded bs ++ c =
       sym (drop-drop 4 place input) ∙ ap (λ (b : List ℕ). drop 4 b) first ∙ drop_at u (padded bs ++ c) 4 refl in
       let is : Is l depth p Length u = length_part l place u (padded bs ++ c) lent.0 first (cc e) in
@@ -298,40 +298,40 @@ module _ (kinds : List KindView) (input : List ℕ) (place depth : ℕ) (p : Par
   node_says : (f : KindView) (h : Head) → f ≡ kind_at kinds p.kind → IsLegal kinds f h → (c : List ℕ)
       → drop place input ≡ own f h ++ c → (ls : List Lent) → map entry_of ls ≡ shown place depth p f h
       → AreLentFrom input ls → Say ls (node_line kinds depth p h)
-  node_says xdr.int (value.int z) same l c stands ls e lent =
-      number_says xdr.int same (value.int z) l (read_int kinds z l) c stands ls e lent
-  node_says xdr.unsigned (value.unsigned n) same l c stands ls e lent =
-      number_says xdr.unsigned same (value.unsigned n) l (read_unsigned kinds n l) c stands ls e lent
-  node_says xdr.hyper (value.hyper z) same l c stands ls e lent =
-      number_says xdr.hyper same (value.hyper z) l (read_hyper kinds z l) c stands ls e lent
-  node_says xdr.unsigned_hyper (value.unsigned_hyper n) same l c stands ls e lent =
-      number_says xdr.unsigned_hyper same (value.unsigned_hyper n) l (read_unsigned_hyper kinds n l) c stands ls e lent
-  node_says xdr.boolean (value.boolean b) same l c stands ls e lent =
-      number_says xdr.boolean same (value.boolean b) l (read_boolean kinds b) c stands ls e lent
-  node_says (xdr.numbered members) (value.numbered z) same l c stands ls e lent =
-      number_says (xdr.numbered members) same (value.numbered z) l (read_numbered kinds members z l) c stands ls e lent
-  node_says (xdr.opaque size) (value.bytes bs) same l c stands ls e lent =
-      content_says (xdr.opaque size) same bs l place c stands ls e lent
-  node_says (xdr.opaque_up_to max) (value.bytes bs) same l c stands ls e lent =
-      counted_says (xdr.opaque_up_to max) same (λ b. refl) bs l c stands ls e lent
-  node_says (xdr.text max) (value.bytes bs) same l c stands ls e lent =
-      counted_says (xdr.text max) same (λ b. refl) bs l c stands ls e lent
-  node_says (xdr.fixed item size) (value.items n) same l c stands ls e lent =
+  node_says xdr.int (value.int z) same l c represents ls e lent =
+      number_says xdr.int same (value.int z) l (read_int kinds z l) c represents ls e lent
+  node_says xdr.unsigned (value.unsigned n) same l c represents ls e lent =
+      number_says xdr.unsigned same (value.unsigned n) l (read_unsigned kinds n l) c represents ls e lent
+  node_says xdr.hyper (value.hyper z) same l c represents ls e lent =
+      number_says xdr.hyper same (value.hyper z) l (read_hyper kinds z l) c represents ls e lent
+  node_says xdr.unsigned_hyper (value.unsigned_hyper n) same l c represents ls e lent =
+      number_says xdr.unsigned_hyper same (value.unsigned_hyper n) l (read_unsigned_hyper kinds n l) c represents ls e lent
+  node_says xdr.boolean (value.boolean b) same l c represents ls e lent =
+      number_says xdr.boolean same (value.boolean b) l (read_boolean kinds b) c represents ls e lent
+  node_says (xdr.numbered members) (value.numbered z) same l c represents ls e lent =
+      number_says (xdr.numbered members) same (value.numbered z) l (read_numbered kinds members z l) c represents ls e lent
+  node_says (xdr.opaque size) (value.bytes bs) same l c represents ls e lent =
+      content_says (xdr.opaque size) same bs l place c represents ls e lent
+  node_says (xdr.opaque_up_to max) (value.bytes bs) same l c represents ls e lent =
+      counted_says (xdr.opaque_up_to max) same (λ b. refl) bs l c represents ls e lent
+  node_says (xdr.text max) (value.bytes bs) same l c represents ls e lent =
+      counted_says (xdr.text max) same (λ b. refl) bs l c represents ls e lent
+  node_says (xdr.fixed item size) (value.items n) same l c represents ls e lent =
       group_says (xdr.fixed item size) same (value.items n) l (ap value.items (sym l)) ls e lent
-  node_says (xdr.up_to item max) (value.items n) same l c stands ls e lent =
-      count_says item max n same l c stands ls e lent
-  node_says (xdr.structure fields) value.fields same l c stands ls e lent =
+  node_says (xdr.up_to item max) (value.items n) same l c represents ls e lent =
+      count_says item max n same l c represents ls e lent
+  node_says (xdr.structure fields) value.fields same l c represents ls e lent =
       group_says (xdr.structure fields) same value.fields l refl ls e lent
-  node_says (xdr.choice tag arms other) (value.tag z) same l c stands ls e lent =
-      number_says (xdr.choice tag arms other) same (value.tag z) l (read_tag kinds tag arms other z l) c stands ls e
+  node_says (xdr.choice tag arms other) (value.tag z) same l c represents ls e lent =
+      number_says (xdr.choice tag arms other) same (value.tag z) l (read_tag kinds tag arms other z l) c represents ls e
       lent
-  node_says (xdr.maybe item) value.present same l c stands ls e lent =
-      flag_says (xdr.maybe item) same value.present l (ap flag (word_back 1 (lit< tt))) refl c stands ls e lent
-  node_says (xdr.maybe item) value.absent same l c stands ls e lent =
-      flag_says (xdr.maybe item) same value.absent l (ap flag (word_back 0 (lit< tt))) refl c stands ls e lent
-  node_says xdr.nothing value.nothing same l c stands ls e lent =
+  node_says (xdr.maybe item) value.present same l c represents ls e lent =
+      flag_says (xdr.maybe item) same value.present l (ap flag (word_back 1 (lit< tt))) refl c represents ls e lent
+  node_says (xdr.maybe item) value.absent same l c represents ls e lent =
+      flag_says (xdr.maybe item) same value.absent l (ap flag (word_back 0 (lit< tt))) refl c represents ls e lent
+  node_says xdr.nothing value.nothing same l c represents ls e lent =
       group_says xdr.nothing same value.nothing l refl ls e lent
-  node_says _ _ same l c stands ls e lent = absurd l
+  node_says _ _ same l c represents ls e lent = absurd l
 
 -- ---- the parts of values
 
@@ -345,9 +345,9 @@ lines_of_parts : (kinds : List KindView) (input : List ℕ) (place depth : ℕ) 
     → FitAll kinds ps vs → drop place input ≡ spelling kinds ps vs ++ c
     → map entry_of ls ≡ layout.layout kinds place depth ps vs → AreLentFrom input ls
     → AllByRecursion (IsReadable kinds) ls × (flat_map (line_lent kinds) ls ≡ lines kinds depth ps vs)
-lines_of_parts kinds input place depth [] vs ls c fits stands e lent = nothing_said kinds ls e
-lines_of_parts kinds input place depth (p ∷ ps) value.none ls c fits stands e lent = absurd (false≢true fits)
-lines_of_parts kinds input place depth (p ∷ ps) (value.node h inner rest) ls c fits stands e lent =
+lines_of_parts kinds input place depth [] vs ls c fits represents e lent = nothing_said kinds ls e
+lines_of_parts kinds input place depth (p ∷ ps) value.none ls c fits represents e lent = absurd (false≢true fits)
+lines_of_parts kinds input place depth (p ∷ ps) (value.node h inner rest) ls c fits represents e lent =
     let f : KindView = kind_at kinds p.kind in
     let o : List ℕ = own f h in
     let si : List ℕ = spelling kinds (parts f h) inner in
@@ -359,7 +359,7 @@ lines_of_parts kinds input place depth (p ∷ ps) (value.node h inner rest) ls c
     let lb : AreLentFrom input (b.0 ++ b.1) =
     subst (λ (x : List Lent). AreLentFrom input x) b.2 (all_right (IsLentFrom input) a.0 a.1 la) in
     let here : drop place input ≡ o ++ (si ++ (sr ++ c)) =
-    stands ∙ append_assoc (o ++ si) sr c ∙ append_assoc o si (sr ++ c) in
+    represents ∙ append_assoc (o ++ si) sr c ∙ append_assoc o si (sr ++ c) in
     let under : drop (place + length o) input ≡ si ++ (sr ++ c) =
     sym (drop-drop (length o) place input) ∙ ap (λ (x : List ℕ). drop (length o) x) here
     ∙ drop_at o (si ++ (sr ++ c)) (length o) refl in
@@ -388,10 +388,10 @@ pub says_value : (kinds : List KindView) (kind : ℕ) (v : Tree) (input : List �
     → ArePartsOf kinds kind v input ls
     → AllByRecursion (IsReadable kinds) ls × (flat_map (line_lent kinds) ls ≡ show_text kinds kind v)
 says_value kinds kind v input ls are =
-    let stands : input ≡ spelling kinds (item_part kind ∷ []) (from_list (v ∷ [])) ++ are.rest =
+    let represents : input ≡ spelling kinds (item_part kind ∷ []) (from_list (v ∷ [])) ++ are.rest =
     are.begins ∙ ap (λ (b : List ℕ). b ++ are.rest) (sym (root_spelling kinds kind v)) in
     let said = lines_of_parts kinds input 0 1 (item_part kind ∷ []) (from_list (v ∷ [])) ls are.rest
-    (root_fits kinds kind v are.fits) stands are.listed are.lent in
+    (root_fits kinds kind v are.fits) represents are.listed are.lent in
     (said.0, said.1 ∙ append-nil _ ∙ sym (show_is_lines kinds kind v))
 
 -- what `parts` tells of its list is what `show_parts` asks of it

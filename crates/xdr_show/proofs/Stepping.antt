@@ -26,11 +26,11 @@ pub lines-step : (kinds : List KindView) (depth : ℕ) (p : Part) (ps qs : List 
     (out new all : List ℕ) → qs ≡ p ∷ ps → ws ≡ node t.0 t.1 vs
     → out ++ lines kinds depth qs ws ≡ all → new ≡ out ++ value_lines kinds depth p t
     → new ++ lines kinds depth ps vs ≡ all
-lines-step kinds depth p ps qs t vs ws out new all qe we told e =
+lines-step kinds depth p ps qs t vs ws out new all qe we reported e =
     ap (λ (z : List ℕ). z ++ lines kinds depth ps vs) e
     ∙ append_assoc out (value_lines kinds depth p t) (lines kinds depth ps vs)
     ∙ ap (λ (z : Values). out ++ lines kinds depth (p ∷ ps) z) (sym we)
-    ∙ ap (λ (z : List Part). out ++ lines kinds depth z ws) (sym qe) ∙ told
+    ∙ ap (λ (z : List Part). out ++ lines kinds depth z ws) (sym qe) ∙ reported
 
 -- the first of values lies as deep as they do, and so do the rest
 pub deep-step : (most depth : ℕ) (t : Tree) (vs ws : Values) → ws ≡ node t.0 t.1 vs → depth + depth_of ws ≤ most + 1

@@ -46,7 +46,7 @@ fn empty_block<T: Drop>(alloc: Global, spare: &mut Chain<T>) -> Result<Box<Block
     Ok(Box::new(alloc, Block { items, below })?)
 }
 
-// How many items more the top is to have room for: the lowest block grows, each other one is made whole.
+// How many items more the top is to have space for: the lowest block grows, each other one is made whole.
 fn room_for<T>(most: usize, top: usize, full: &Chain<T>) -> usize
     requires { top < most }
     ensures { 0 < result }
@@ -57,7 +57,7 @@ fn room_for<T>(most: usize, top: usize, full: &Chain<T>) -> usize
     }
 }
 
-// Makes room for an item at the top: in a larger block, or in an empty one over the full ones.
+// Makes space for an item at the top: in a larger block, or in an empty one over the full ones.
 #[cold]
 #[inline(never)]
 fn make_room<T: Drop>(
@@ -69,7 +69,7 @@ fn make_room<T: Drop>(
 ) -> Result<(), AllocError>
     ensures items { chain_items full.new ++ top.new.items ≡ chain_items full.old ++ top.old.items }
     ensures filled { AreFilled full.old → AreFilled full.new }
-    ensures room { OnOk result (vec_len top.new < vec_capacity top.new) }
+    ensures space { OnOk result (vec_len top.new < vec_capacity top.new) }
 {
     let most = most.max(1);
     if top.len() >= most {

@@ -11,7 +11,7 @@ use Rattle.xdr_types.specs.Outcome.{Outcome, Pending, Whole}
 use Rattle.xdr_stream.specs.Trace.{Trace}
 use Rattle.xdr_stream.specs.Frames.{stack_of}
 use Rattle.xdr_stream.specs.Sees.{Ends}
-use Rattle.xdr_stream.specs.Stands.{Fails, StandsAs, StandsFor, IsSame, Answers}
+use Rattle.xdr_stream.specs.Represents.{Fails, StandsAs, RepresentsBytes, IsSame, Answers}
 use Rattle.xdr_stream.specs.declared.fault.DecodeFault.{DecodeFault}
 use Rattle.xdr_stream.specs.declared.machine.Awaits.{Awaits}
 use Rattle.xdr_stream.specs.declared.reader.State.{State}
@@ -29,20 +29,20 @@ fails_on s t l f b more e = (
 )
 
 module _ (s : List KindView) (t : ℕ) (l : Bounds) (H : Trace → Type 0) (fs : List (List Part)) (read : ℕ)
-    (room : List ℕ) (pending : ℕ) where
+    (space : List ℕ) (pending : ℕ) where
   -- a unit is needed
-  pub pending_on : (a : Awaits) (b : List ℕ) → StandsAs ⊥ s t l H fs read room pending (Reading a) b
+  pub pending_on : (a : Awaits) (b : List ℕ) → StandsAs ⊥ s t l H fs read space pending (Reading a) b
       → Outcome s t l b Pending
   pending_on a b r =
       subst (λ (x : List ℕ). Outcome s t l x Pending) (sym r.1)
-      (sees_pending s t l H r.0 a fs (take pending room) r.5 r.6 (omega (arith, length-take pending room, r.3)) r.4)
+      (sees_pending s t l H r.0 a fs (take pending space) r.5 r.6 (omega (arith, length-take pending space, r.3)) r.4)
 
   -- the value is whole
-  whole_on : (b more : List ℕ) → StandsAs ⊥ s t l H fs read room pending Finished b
+  whole_on : (b more : List ℕ) → StandsAs ⊥ s t l H fs read space pending Finished b
       → (v : Tree) × Outcome s t l (b ++ more) (Whole v (length b))
   whole_on b more r = let w = sees_whole s t l H b fs more r.1 r.2 in (w.0, w.2)
 
-module _ {B : Type 0} (spares : Type 0) (tells : B → Trace → Type 0) (old new : Reader B)
+module _ {B : Type 0} (spares : Type 0) (reports : B → Trace → Type 0) (old new : Reader B)
     (same : IsSame old new) (b : List ℕ) where
   kinds_are : new.schema.now.kinds ≡ old.schema.now.kinds
   kinds_are = ap (λ (x : Lists). x.kinds) same.schema_is
@@ -50,11 +50,11 @@ module _ {B : Type 0} (spares : Type 0) (tells : B → Trace → Type 0) (old ne
   place_is : new.kind.place ≡ old.kind.place
   place_is = ap (λ (x : KindId). x.place) same.kind_is
 
-  stands_as : (st : State) → new.state ≡ st → StandsFor spares tells new b
-      → StandsAs spares old.schema.now.kinds old.kind.place old.limits (tells new.built)
+  stands_as : (st : State) → new.state ≡ st → RepresentsBytes spares reports new b
+      → StandsAs spares old.schema.now.kinds old.kind.place old.limits (reports new.built)
       (stack_of new.work new.parents.items) new.read new.unit new.pending st b
   stands_as st is r =
-      let H : Trace → Type 0 = tells new.built in
+      let H : Trace → Type 0 = reports new.built in
       let fs : List (List Part) = stack_of new.work new.parents.items in
       subst (λ (x : List KindView). StandsAs spares x old.kind.place old.limits H fs new.read new.unit new.pending st b)
       kinds_are
@@ -68,10 +68,10 @@ module _ {B : Type 0} (spares : Type 0) (tells : B → Trace → Type 0) (old ne
       x b) is r)))
 
 -- the answers of a reader that stands for the bytes before a piece and those that were taken of it
-module _ {B : Type 0} (spares : Type 0) (tells : B → Trace → Type 0) (old new : Reader B)
+module _ {B : Type 0} (spares : Type 0) (reports : B → Trace → Type 0) (old new : Reader B)
     (same : IsSame old new) (b piece : List ℕ)
     (used : ℕ)
-    (within : used ≤ length piece) (r : StandsFor spares tells new (b ++ take used piece)) where
+    (within : used ≤ length piece) (r : RepresentsBytes spares reports new (b ++ take used piece)) where
   cut : (b ++ take used piece) ++ drop used piece ≡ b ++ piece
   cut = append_assoc b (take used piece) (drop used piece) ∙ ap (λ (x : List ℕ). b ++ x) (take-append-drop used piece)
 
@@ -80,16 +80,16 @@ module _ {B : Type 0} (spares : Type 0) (tells : B → Trace → Type 0) (old ne
   answers_more a is whole =
       let all : take used piece ≡ piece = take_all used piece (omega (arith, whole)) in
       subst (λ (x : List ℕ). Outcome old.schema.now.kinds old.kind.place old.limits (b ++ x) Pending) all
-      (pending_on old.schema.now.kinds old.kind.place old.limits (tells new.built) (stack_of new.work new.parents.items)
+      (pending_on old.schema.now.kinds old.kind.place old.limits (reports new.built) (stack_of new.work new.parents.items)
       new.read new.unit new.pending a (b ++ take used piece)
-      (stands_as spares tells old new same (b ++ take used piece) (Reading a) is r))
+      (stands_as spares reports old new same (b ++ take used piece) (Reading a) is r))
 
   pub answers_done : new.state ≡ Finished
       → Answers old.schema.now.kinds old.kind.place old.limits b piece (Ok (Done used))
   answers_done is =
-      let w = whole_on old.schema.now.kinds old.kind.place old.limits (tells new.built)
+      let w = whole_on old.schema.now.kinds old.kind.place old.limits (reports new.built)
       (stack_of new.work new.parents.items) new.read new.unit new.pending (b ++ take used piece) (drop used piece)
-      (stands_as spares tells old new same (b ++ take used piece) Finished is r) in
+      (stands_as spares reports old new same (b ++ take used piece) Finished is r) in
       let far : length (b ++ take used piece) ≡ length b + used =
       omega (arith, length-append b (take used piece), length-take used piece, within) in (
         w.0,
@@ -104,13 +104,13 @@ module _ {B : Type 0} (spares : Type 0) (tells : B → Trace → Type 0) (old ne
   answers_fault f is =
       subst (λ (x : List ℕ). Fails old.schema.now.kinds old.kind.place old.limits f x) cut
       (fails_on old.schema.now.kinds old.kind.place old.limits f (b ++ take used piece) (drop used piece)
-      (stands_as spares tells old new same (b ++ take used piece) (Failed f) is r).0)
+      (stands_as spares reports old new same (b ++ take used piece) (Failed f) is r).0)
 
   -- after a fault the whole piece is taken
-  pub stands_failed : (f : DecodeFault) → new.state ≡ Failed f → StandsFor spares tells new (b ++ piece)
-  stands_failed f is =
+  pub represents_failed : (f : DecodeFault) → new.state ≡ Failed f → RepresentsBytes spares reports new (b ++ piece)
+  represents_failed f is =
       let K : List KindView = new.schema.now.kinds in
-      let H : Trace → Type 0 = tells new.built in
+      let H : Trace → Type 0 = reports new.built in
       let fs : List (List Part) = stack_of new.work new.parents.items in
       let before = subst (λ (x : State). StandsAs spares K new.kind.place new.limits H fs new.read new.unit
       new.pending x

@@ -23,7 +23,7 @@ use Rattle.xdr_laws.proofs.Holding.{nodes_append, held_by_frames}
 use Rattle.xdr_laws.proofs.Nodes.{held_bounds}
 use Rattle.xdr_stream.specs.Frames.{dues}
 use Rattle.xdr_stream.specs.Trace.{Level, Trace}
-use Rattle.xdr_stream.specs.Kept.{nodes_in, bytes_in_parts, bytes_kept}
+use Rattle.xdr_stream.specs.Retained.{nodes_in, bytes_in_parts, bytes_retained}
 use Rattle.xdr_stream.specs.Sees.{Sees, Opens, Built, BuiltAs, BuiltInto, IsReady, owed, make_wide}
 use Rattle.xdr_stream.specs.declared.machine.Awaits.{Awaits}
 use Rattle.xdr_stream.specs.declared.machine.Awaits.TheVariants.{Next, Content, Wide, Low}
@@ -33,42 +33,42 @@ use Rattle.xdr_stream.proofs.Standing.{still}
 
 -- ---- content is among the bytes
 
-own_room : (k : KindView) (h : Head) → bytes_in h ≤ length (own k h)
-own_room (xdr.opaque size) (value.bytes bs) = omega (arith, length-append bs (pad (length bs)))
-own_room xdr.int (value.bytes bs) = omega (arith, length-append bs (pad (length bs)))
-own_room xdr.unsigned (value.bytes bs) = omega (arith, length-append bs (pad (length bs)))
-own_room xdr.hyper (value.bytes bs) = omega (arith, length-append bs (pad (length bs)))
-own_room xdr.unsigned_hyper (value.bytes bs) = omega (arith, length-append bs (pad (length bs)))
-own_room xdr.boolean (value.bytes bs) = omega (arith, length-append bs (pad (length bs)))
-own_room (xdr.numbered constants) (value.bytes bs) = omega (arith, length-append bs (pad (length bs)))
-own_room (xdr.opaque_up_to max) (value.bytes bs) = omega (arith, length-append bs (pad (length bs)))
-own_room (xdr.text max) (value.bytes bs) = omega (arith, length-append bs (pad (length bs)))
-own_room (xdr.fixed item size) (value.bytes bs) = omega (arith, length-append bs (pad (length bs)))
-own_room (xdr.up_to item max) (value.bytes bs) = omega (arith, length-append bs (pad (length bs)))
-own_room (xdr.structure ps) (value.bytes bs) = omega (arith, length-append bs (pad (length bs)))
-own_room (xdr.choice tag arms other) (value.bytes bs) = omega (arith, length-append bs (pad (length bs)))
-own_room (xdr.maybe item) (value.bytes bs) = omega (arith, length-append bs (pad (length bs)))
-own_room xdr.unknown (value.bytes bs) = omega (arith, length-append bs (pad (length bs)))
-own_room xdr.nothing (value.bytes bs) = omega (arith, length-append bs (pad (length bs)))
-own_room k (value.int z) = omega arith
-own_room k (value.unsigned n) = omega arith
-own_room k (value.hyper z) = omega arith
-own_room k (value.unsigned_hyper n) = omega arith
-own_room k (value.boolean b) = omega arith
-own_room k (value.numbered z) = omega arith
-own_room k (value.items n) = omega arith
-own_room k value.fields = omega arith
-own_room k (value.tag z) = omega arith
-own_room k value.present = omega arith
-own_room k value.absent = omega arith
-own_room k value.nothing = omega arith
+own_space : (k : KindView) (h : Head) → bytes_in h ≤ length (own k h)
+own_space (xdr.opaque size) (value.bytes bs) = omega (arith, length-append bs (pad (length bs)))
+own_space xdr.int (value.bytes bs) = omega (arith, length-append bs (pad (length bs)))
+own_space xdr.unsigned (value.bytes bs) = omega (arith, length-append bs (pad (length bs)))
+own_space xdr.hyper (value.bytes bs) = omega (arith, length-append bs (pad (length bs)))
+own_space xdr.unsigned_hyper (value.bytes bs) = omega (arith, length-append bs (pad (length bs)))
+own_space xdr.boolean (value.bytes bs) = omega (arith, length-append bs (pad (length bs)))
+own_space (xdr.numbered constants) (value.bytes bs) = omega (arith, length-append bs (pad (length bs)))
+own_space (xdr.opaque_up_to max) (value.bytes bs) = omega (arith, length-append bs (pad (length bs)))
+own_space (xdr.text max) (value.bytes bs) = omega (arith, length-append bs (pad (length bs)))
+own_space (xdr.fixed item size) (value.bytes bs) = omega (arith, length-append bs (pad (length bs)))
+own_space (xdr.up_to item max) (value.bytes bs) = omega (arith, length-append bs (pad (length bs)))
+own_space (xdr.structure ps) (value.bytes bs) = omega (arith, length-append bs (pad (length bs)))
+own_space (xdr.choice tag arms other) (value.bytes bs) = omega (arith, length-append bs (pad (length bs)))
+own_space (xdr.maybe item) (value.bytes bs) = omega (arith, length-append bs (pad (length bs)))
+own_space xdr.unknown (value.bytes bs) = omega (arith, length-append bs (pad (length bs)))
+own_space xdr.nothing (value.bytes bs) = omega (arith, length-append bs (pad (length bs)))
+own_space k (value.int z) = omega arith
+own_space k (value.unsigned n) = omega arith
+own_space k (value.hyper z) = omega arith
+own_space k (value.unsigned_hyper n) = omega arith
+own_space k (value.boolean b) = omega arith
+own_space k (value.numbered z) = omega arith
+own_space k (value.items n) = omega arith
+own_space k value.fields = omega arith
+own_space k (value.tag z) = omega arith
+own_space k value.present = omega arith
+own_space k value.absent = omega arith
+own_space k value.nothing = omega arith
 
-spelled_room : (s : List KindView) (ps : List Part) (v : Trees) → fit s ps v ≡ true
+spelled_space : (s : List KindView) (ps : List Part) (v : Trees) → fit s ps v ≡ true
     → count_bytes v ≤ length (spelling s ps v)
-spelled_room s [] value.none f = omega arith
-spelled_room s [] (value.node h inner rest) f = absurd (false≢true f)
-spelled_room s (p ∷ ps) value.none f = absurd (false≢true f)
-spelled_room s (p ∷ ps) (value.node h inner rest) f =
+spelled_space s [] value.none f = omega arith
+spelled_space s [] (value.node h inner rest) f = absurd (false≢true f)
+spelled_space s (p ∷ ps) value.none f = absurd (false≢true f)
+spelled_space s (p ∷ ps) (value.node h inner rest) f =
     let k : KindView = kind_at s p.kind in
     let g = fit_node s p ps h inner rest f in
     let o : List ℕ = own k h in
@@ -77,69 +77,69 @@ spelled_room s (p ∷ ps) (value.node h inner rest) f =
       arith,
       length-append (o ++ i) (spelling s ps rest),
       length-append o i,
-      own_room k h,
-      spelled_room s (parts k h) inner g.1,
-      spelled_room s ps rest g.2,
+      own_space k h,
+      spelled_space s (parts k h) inner g.1,
+      spelled_space s ps rest g.2,
     )
 
 module _ (s : List KindView) (t : ℕ) where
-  opens_room : (ls : List Level) (fs : List (List Part)) (h : Head) (ps : List Part) (o : List ℕ)
+  opens_space : (ls : List Level) (fs : List (List Part)) (h : Head) (ps : List Part) (o : List ℕ)
       → Opens s t ls fs h ps o → bytes_in_parts ls ≤ length o
-  opens_room [] [] h ps o a = omega arith
-  opens_room [] (left ∷ fs) h ps o a = absurd a
-  opens_room (l ∷ ls) [] h ps o a = absurd a
-  opens_room (l ∷ ls) (left ∷ fs) h ps o a =
+  opens_space [] [] h ps o a = omega arith
+  opens_space [] (left ∷ fs) h ps o a = absurd a
+  opens_space (l ∷ ls) [] h ps o a = absurd a
+  opens_space (l ∷ ls) (left ∷ fs) h ps o a =
       let done : List ℕ = spelling s a.0 (from_list l.done) in
-      let more = opens_room ls fs l.head (a.0 ++ a.1 ∷ left) a.2 a.3 in
+      let more = opens_space ls fs l.head (a.0 ++ a.1 ∷ left) a.2 a.3 in
       omega (
         arith,
         more,
-        spelled_room s a.0 (from_list l.done) a.4,
+        spelled_space s a.0 (from_list l.done) a.4,
         ap (λ (x : List ℕ). length x) a.8,
         length-append (a.2 ++ done) (own (kind_at s a.1.kind) h),
         length-append a.2 done,
       )
 
-  built_room : (ls : List Level) (fs : List (List Part)) (q : List ℕ) → Built s t ls fs q
+  built_space : (ls : List Level) (fs : List (List Part)) (q : List ℕ) → Built s t ls fs q
       → bytes_in_parts ls ≤ length q
-  built_room [] fs q b = absurd b
-  built_room (l ∷ ls) [] q b = absurd b
-  built_room (l ∷ ls) (left ∷ fs) q b =
+  built_space [] fs q b = absurd b
+  built_space (l ∷ ls) [] q b = absurd b
+  built_space (l ∷ ls) (left ∷ fs) q b =
       omega (
         arith,
-        opens_room ls fs l.head (b.0 ++ left) b.1 b.2,
-        spelled_room s b.0 (from_list l.done) b.3,
+        opens_space ls fs l.head (b.0 ++ left) b.1 b.2,
+        spelled_space s b.0 (from_list l.done) b.3,
         ap (λ (x : List ℕ). length x) b.4,
         length-append b.1 (spelling s b.0 (from_list l.done)),
       )
 
-  into_room : (ls : List Level) (fs : List (List Part)) (content : List ℕ) (make : List ℕ → Head) (n : ℕ)
+  into_space : (ls : List Level) (fs : List (List Part)) (content : List ℕ) (make : List ℕ → Head) (n : ℕ)
       (q : List ℕ) → BuiltInto s t ls fs content make n q → bytes_in_parts ls + length content ≤ length q
-  into_room [] fs content make n q b = absurd b
-  into_room (l ∷ ls) [] content make n q b = absurd b
-  into_room (l ∷ ls) (left ∷ fs) content make n q b =
+  into_space [] fs content make n q b = absurd b
+  into_space (l ∷ ls) [] content make n q b = absurd b
+  into_space (l ∷ ls) (left ∷ fs) content make n q b =
       let done : List ℕ = spelling s b.0 (from_list l.done) in
       omega (
         arith,
-        opens_room ls fs l.head (b.0 ++ b.1 ∷ left) b.2 b.4,
-        spelled_room s b.0 (from_list l.done) b.5,
+        opens_space ls fs l.head (b.0 ++ b.1 ∷ left) b.2 b.4,
+        spelled_space s b.0 (from_list l.done) b.5,
         ap (λ (x : List ℕ). length x) b.7,
         length-append (b.2 ++ done) (b.3 ++ content),
         length-append b.2 done,
         length-append b.3 content,
       )
 
-  kept_room : (a : Awaits) (fs : List (List Part)) (q : List ℕ) (x : Trace) → BuiltAs s t a x fs q
-      → bytes_kept x ≤ length q
-  kept_room Next fs q x b =
-      omega (arith, built_room x.levels fs q b.1, ap (λ (bs : List ℕ). length bs) b.0)
-  kept_room (Content n) fs q x b = into_room x.levels fs x.content value.bytes n q b
-  kept_room (Wide signed) fs q x b =
-      omega (arith, into_room x.levels fs [] (make_wide signed) 8 q b.1, ap (λ (bs : List ℕ). length bs) b.0)
-  kept_room (Low signed y) fs q x b =
+  retained_space : (a : Awaits) (fs : List (List Part)) (q : List ℕ) (x : Trace) → BuiltAs s t a x fs q
+      → bytes_retained x ≤ length q
+  retained_space Next fs q x b =
+      omega (arith, built_space x.levels fs q b.1, ap (λ (bs : List ℕ). length bs) b.0)
+  retained_space (Content n) fs q x b = into_space x.levels fs x.content value.bytes n q b
+  retained_space (Wide signed) fs q x b =
+      omega (arith, into_space x.levels fs [] (make_wide signed) 8 q b.1, ap (λ (bs : List ℕ). length bs) b.0)
+  retained_space (Low signed y) fs q x b =
       omega (
         arith,
-        into_room x.levels fs (num4 (pos y)) (make_wide signed) 4 q b.1,
+        into_space x.levels fs (num4 (pos y)) (make_wide signed) 4 q b.1,
         ap (λ (bs : List ℕ). length bs)
             b.0,
       )
@@ -197,43 +197,43 @@ module _ (s : List KindView) (t : ℕ) (l : Bounds) (H : Trace → Type 0) (q : 
   holds Next ([] ∷ fs) ready r = absurd ready
   holds Next ((p ∷ ps) ∷ fs) ready r =
       let ds : List Due = dues ((p ∷ ps) ∷ fs) in
-      let kept : ℕ = content_before (length q) r.reading.begun in
+      let retained : ℕ = content_before (length q) r.reading.begun in
       let h = held_by_frames s t l q r.reading.begun ds r.reading.front (reaches s t l ds q ready.0 r.reading) in (
-        (kept, subst (λ (n : ℕ). Holds s t q n kept) (counted Next ((p ∷ ps) ∷ fs) ready r) h.0),
+        (retained, subst (λ (n : ℕ). Holds s t q n retained) (counted Next ((p ∷ ps) ∷ fs) ready r) h.0),
         omega (arith, ready.1),
       )
   holds (Content n) fs ready r =
       let ds : List Due = Rest n ∷ dues fs in
-      let kept : ℕ = content_before (length q) r.reading.begun in
+      let retained : ℕ = content_before (length q) r.reading.begun in
       let h = held_by_frames s t l q r.reading.begun ds r.reading.front (reaches s t l ds q ready r.reading) in (
-        (kept, subst (λ (k : ℕ). Holds s t q k kept) (counted (Content n) fs ready r) h.0),
+        (retained, subst (λ (k : ℕ). Holds s t q k retained) (counted (Content n) fs ready r) h.0),
         omega (arith, h.1 (still s t l H q (Content n) fs ready r).0, dues_length fs),
       )
   holds (Wide signed) fs ready r =
       let ds : List Due = Rest 8 ∷ dues fs in
-      let kept : ℕ = content_before (length q) r.reading.begun in
+      let retained : ℕ = content_before (length q) r.reading.begun in
       let h = held_by_frames s t l q r.reading.begun ds r.reading.front
       (reaches s t l ds q (omega arith) r.reading) in (
-        (kept, subst (λ (k : ℕ). Holds s t q k kept) (counted (Wide signed) fs ready r) h.0),
+        (retained, subst (λ (k : ℕ). Holds s t q k retained) (counted (Wide signed) fs ready r) h.0),
         omega (arith, h.1 (still s t l H q (Wide signed) fs ready r).0, dues_length fs),
       )
   holds (Low signed x) fs ready r =
       let ds : List Due = Rest 4 ∷ dues fs in
-      let kept : ℕ = content_before (length q) r.reading.begun in
+      let retained : ℕ = content_before (length q) r.reading.begun in
       let h = held_by_frames s t l q r.reading.begun ds r.reading.front
       (reaches s t l ds q (omega arith) r.reading) in (
-        (kept, subst (λ (k : ℕ). Holds s t q k kept) (counted (Low signed x) fs ready r) h.0),
+        (retained, subst (λ (k : ℕ). Holds s t q k retained) (counted (Low signed x) fs ready r) h.0),
         omega (arith, h.1 (still s t l H q (Low signed x) fs ready r).0, dues_length fs),
       )
 
 -- and so they are bounded
 pub bounded : (x : Lists) → IsWellFormed x → sound.IsSound x.kinds → (t : ℕ) (l : Bounds) (H : Trace → Type 0)
     (q : List ℕ) (a : Awaits) (fs : List (List Part)) → IsReady x.kinds l a fs → (r : Sees x.kinds t l H a fs q)
-    → (nodes_in r.trace.levels ≤ (length x.kinds + 1) * (length q / 4 + 1)) × (bytes_kept r.trace ≤ length q)
+    → (nodes_in r.trace.levels ≤ (length x.kinds + 1) * (length q / 4 + 1)) × (bytes_retained r.trace ≤ length q)
     × (length fs ≤ l.depth) × (length q % 4 ≡ 0)
 bounded x well sure t l H q a fs ready r =
     let h = holds x.kinds t l H q a fs ready r in
     let units : length q % 4 ≡ 0 = (r.reading.reached []).units in
     let u : ℕ = length q / 4 in
     let most = held_bounds x well sure t q u (nodes_in r.trace.levels) h.0.0 (omega (arith, units)) h.0.1 in
-    (most.0, kept_room x.kinds t a fs q r.trace r.built, h.1, units)
+    (most.0, retained_space x.kinds t a fs q r.trace r.built, h.1, units)

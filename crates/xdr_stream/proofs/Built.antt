@@ -16,7 +16,7 @@ use Rattle.xdr_types.specs.Fits.{Fits, fit, fits, is_legal, parts, item_part, ar
 use Rattle.xdr_types.specs.Spelling.{own, spelling, bytes_of}
 use Rattle.xdr_laws.proofs.Legal.{both, and, IsLegal, legal_is, bytes_are, are_bytes_of}
 use Rattle.xdr_stream.specs.Trace.{Level, level, added, add, IsOpen, close_levels, IsFilled, CanCloseLevels, IsMany}
-use Rattle.xdr_stream.specs.Trace.{Trace, HasRoomAt, HasRoomIn, HasRoom, IsManyIn, TakesMany}
+use Rattle.xdr_stream.specs.Trace.{Trace, HasSpaceAt, HasSpaceIn, HasRoom, IsManyIn, TakesMany}
 use Rattle.xdr_types.specs.Within.{Bounds}
 use Rattle.xdr_stream.specs.Sees.{Sees, Opens, Built, BuiltAs, BuiltInto, Makes, make_wide}
 use Rattle.xdr_stream.specs.declared.machine.Awaits.{Awaits}
@@ -87,19 +87,19 @@ added_none value.fields v = refl
 added_none (value.items n) v = refl
 added_none _ v = refl
 
-many_room : (h : Head) (done : List Tree) → IsMany h → HasRoomAt h done
-many_room value.fields done m = tt
-many_room (value.items n) done m = tt
-many_room _ done m = absurd m
+many_space : (h : Head) (done : List Tree) → IsMany h → HasSpaceAt h done
+many_space value.fields done m = tt
+many_space (value.items n) done m = tt
+many_space _ done m = absurd m
 
-none_room : (h : Head) → HasRoomAt h []
-none_room value.fields = tt
-none_room (value.items n) = tt
-none_room _ = refl
+none_space : (h : Head) → HasSpaceAt h []
+none_space value.fields = tt
+none_space (value.items n) = tt
+none_space _ = refl
 
-few_room : (h : Head) (done : List Tree) → length done ≡ 0 → HasRoomAt h done
-few_room h [] e = none_room h
-few_room h (w ∷ done) e = absurd (omega arith)
+few_space : (h : Head) (done : List Tree) → length done ≡ 0 → HasSpaceAt h done
+few_space h [] e = none_space h
+few_space h (w ∷ done) e = absurd (omega arith)
 
 added_few : (h : Head) (done : List Tree) (v : Tree) → length done ≡ 0 → added h done v ≡ done ++ v ∷ []
 added_few h [] v e = added_none h v
@@ -156,21 +156,21 @@ added_opens s t (l ∷ ls) (f ∷ fs) h ts left p r done v o n =
 added_opens s t [] (f ∷ fs) h ts left p r done v o n = absurd o
 added_opens s t (l ∷ ls) [] h ts left p r done v o n = absurd o
 
--- and has room for it
-pub room_opens : (s : List KindView) (t : ℕ) (ls : List Level) (fs : List (List Part)) (h : Head) (ts left : List Part)
+-- and has space for it
+pub space_opens : (s : List KindView) (t : ℕ) (ls : List Level) (fs : List (List Part)) (h : Head) (ts left : List Part)
     (p : Part) (r : List ℕ) (done : List Tree)
-    → Opens s t ls fs h (ts ++ p ∷ left) r → length ts ≡ length done → HasRoomAt h done
-room_opens s t [] [] h ts left p r done o n =
+    → Opens s t ls fs h (ts ++ p ∷ left) r → length ts ≡ length done → HasSpaceAt h done
+space_opens s t [] [] h ts left p r done o n =
     let few : length (ts ++ p ∷ left) ≡ 1 = ap (λ (l : List Part). length l) o.1 in
-    few_room h done (omega (arith, length-append ts (p ∷ left)))
-room_opens s t (l ∷ ls) (f ∷ fs) h ts left p r done o n =
+    few_space h done (omega (arith, length-append ts (p ∷ left)))
+space_opens s t (l ∷ ls) (f ∷ fs) h ts left p r done o n =
     elim (many_or s (kind_at s o.1.kind) h (legal_is s (kind_at s o.1.kind) h o.6)) [
-      | inl many ↦ many_room h done many
-      | inr few ↦ few_room h done (omega
+      | inl many ↦ many_space h done many
+      | inr few ↦ few_space h done (omega
           (arith, few, ap (λ (x : List Part). length x) o.7, length-append ts (p ∷ left)))
     ]
-room_opens s t [] (f ∷ fs) h ts left p r done o n = absurd o
-room_opens s t (l ∷ ls) [] h ts left p r done o n = absurd o
+space_opens s t [] (f ∷ fs) h ts left p r done o n = absurd o
+space_opens s t (l ∷ ls) [] h ts left p r done o n = absurd o
 
 -- a value of the next part
 pub finish : (s : List KindView) (t : ℕ) (l : Level) (ls : List Level) (fs : List (List Part)) (ts left : List Part)
@@ -256,7 +256,7 @@ built_close s t (l ∷ m ∷ ls) left fs q b =
       (
         o.5,
         filled s k l.head l.done o.5 (legal_is s k l.head o.6) (as_many s (parts k l.head) l.done inside),
-        room_opens s t ls fs m.head o.0 left p o.2 m.done o.3 (as_many s o.0 m.done o.4),
+        space_opens s t ls fs m.head o.0 left p o.2 m.done o.3 (as_many s o.0 m.done o.4),
       ),
       subst (λ (x : List ℕ). Built s t (add v (m ∷ ls)) (left ∷ fs) x) far
           (finish s t m ls fs o.0 left p o.2 v o.3 o.4 fitting),
@@ -367,7 +367,7 @@ into_end s t (l ∷ ls) (left ∷ fs) content u make q are b =
           (finish s t l ls fs b.0 left p b.2 v b.4 b.5 fitting),
     )
 
--- ---- room for one more part
+-- ---- space for one more part
 
 -- a part or content is to come
 abbrev pub Gives : Awaits → List (List Part) → Type 0
@@ -375,17 +375,17 @@ Gives Next ((p ∷ ps) ∷ fs) = ⊤
 Gives Next _ = ⊥
 Gives _ fs = ⊤
 
-built_room : (s : List KindView) (t : ℕ) (ls : List Level) (p : Part) (ps : List Part) (fs : List (List Part))
-    (q : List ℕ) → Built s t ls ((p ∷ ps) ∷ fs) q → HasRoomIn ls
-built_room s t [] p ps fs q b = absurd b
-built_room s t (l ∷ ls) p ps fs q b = room_opens s t ls fs l.head b.0 ps p b.1 l.done b.2 (as_many s b.0 l.done b.3)
+built_space : (s : List KindView) (t : ℕ) (ls : List Level) (p : Part) (ps : List Part) (fs : List (List Part))
+    (q : List ℕ) → Built s t ls ((p ∷ ps) ∷ fs) q → HasSpaceIn ls
+built_space s t [] p ps fs q b = absurd b
+built_space s t (l ∷ ls) p ps fs q b = space_opens s t ls fs l.head b.0 ps p b.1 l.done b.2 (as_many s b.0 l.done b.3)
 
-into_room : (s : List KindView) (t : ℕ) (ls : List Level) (fs : List (List Part)) (content : List ℕ)
-    (make : List ℕ → Head) (n : ℕ) (q : List ℕ) → BuiltInto s t ls fs content make n q → HasRoomIn ls
-into_room s t [] fs content make n q b = absurd b
-into_room s t (l ∷ ls) [] content make n q b = absurd b
-into_room s t (l ∷ ls) (left ∷ fs) content make n q b =
-    room_opens s t ls fs l.head b.0 left b.1 b.2 l.done b.4 (as_many s b.0 l.done b.5)
+into_space : (s : List KindView) (t : ℕ) (ls : List Level) (fs : List (List Part)) (content : List ℕ)
+    (make : List ℕ → Head) (n : ℕ) (q : List ℕ) → BuiltInto s t ls fs content make n q → HasSpaceIn ls
+into_space s t [] fs content make n q b = absurd b
+into_space s t (l ∷ ls) [] content make n q b = absurd b
+into_space s t (l ∷ ls) (left ∷ fs) content make n q b =
+    space_opens s t ls fs l.head b.0 left b.1 b.2 l.done b.4 (as_many s b.0 l.done b.5)
 
 -- a part that may be one of many
 opens_many : (s : List KindView) (t : ℕ) (ls : List Level) (fs : List (List Part)) (h : Head) (qs : List Part)
@@ -413,7 +413,7 @@ into_many s t [] left fs content make n q some b = absurd b
 into_many s t (l ∷ ls) left fs content make n q some b =
     opens_many s t ls fs l.head (b.0 ++ b.1 ∷ left) b.2 (omega (arith, some, length-append b.0 (b.1 ∷ left))) b.4
 
--- a builder was told this, of which more is known
+-- a builder was reported this, of which more is known
 abbrev pub With : (H K : Trace → Type 0) → Trace → Type 0
 With H K a = H a × K a
 
@@ -423,22 +423,22 @@ module _ (s : List KindView) (t : ℕ) (l : Bounds) (H : Trace → Type 0) where
   seen_with K a fs q r k = record {
     reading = r.reading;
     trace = r.trace;
-    told = (r.told, k);
+    reported = (r.reported, k);
     built = r.built;
   }
 
-  -- the innermost node has room for what is to come
-  pub seen_room : (a : Awaits) (fs : List (List Part)) (q : List ℕ) → Gives a fs → Sees s t l H a fs q
+  -- the innermost node has space for what is to come
+  pub seen_space : (a : Awaits) (fs : List (List Part)) (q : List ℕ) → Gives a fs → Sees s t l H a fs q
       → Sees s t l (With H HasRoom) a fs q
-  seen_room a fs q g r = seen_with HasRoom a fs q r (room a fs g r.trace r.built)
+  seen_space a fs q g r = seen_with HasRoom a fs q r (space a fs g r.trace r.built)
     where
-      room : (a : Awaits) (fs : List (List Part)) → Gives a fs → (x : Trace) → BuiltAs s t a x fs q → HasRoom x
-      room Next [] g x b = absurd g
-      room Next ([] ∷ fs) g x b = absurd g
-      room Next ((p ∷ ps) ∷ fs) g x b = built_room s t x.levels p ps fs q b.1
-      room (Content n) fs g x b = into_room s t x.levels fs x.content value.bytes n q b
-      room (Wide signed) fs g x b = into_room s t x.levels fs [] (make_wide signed) 8 q b.1
-      room (Low signed y) fs g x b = into_room s t x.levels fs (num4 (pos y)) (make_wide signed) 4 q b.1
+      space : (a : Awaits) (fs : List (List Part)) → Gives a fs → (x : Trace) → BuiltAs s t a x fs q → HasRoom x
+      space Next [] g x b = absurd g
+      space Next ([] ∷ fs) g x b = absurd g
+      space Next ((p ∷ ps) ∷ fs) g x b = built_space s t x.levels p ps fs q b.1
+      space (Content n) fs g x b = into_space s t x.levels fs x.content value.bytes n q b
+      space (Wide signed) fs g x b = into_space s t x.levels fs [] (make_wide signed) 8 q b.1
+      space (Low signed y) fs g x b = into_space s t x.levels fs (num4 (pos y)) (make_wide signed) 4 q b.1
 
   -- and for many
   pub seen_many : (ps : List Part) (fs : List (List Part)) (q : List ℕ) → 2 ≤ length ps → Sees s t l H Next (ps ∷ fs) q

@@ -20,7 +20,7 @@ use Rattle.xdr_units.proofs.Bytes.{AreBytes-append}
 use Rattle.xdr_laws.proofs.Holding.{nodes_whole, nodes_append}
 use Rattle.xdr_stream.specs.Frames.{dues}
 use Rattle.xdr_stream.specs.Trace.{Level}
-use Rattle.xdr_stream.specs.Kept.{nodes_in}
+use Rattle.xdr_stream.specs.Retained.{nodes_in}
 use Rattle.xdr_types.specs.Within.{Bounds}
 use Rattle.xdr_stream.specs.Sees.{Reading, Opens, Built, BuiltInto}
 
@@ -96,11 +96,11 @@ module _ (s : List KindView) (t : ℕ) where
       let fine = one_more ls l a.0 left p h v u a.4 a.6 inside c.3 in
       let w = fills ls fs l.head (a.0 ++ p ∷ left) a.2 all (place + length (spelling s left u)) y c.2 a.3 fine c.6 in
       let done : List ℕ = spelling s a.0 (from_list l.done) in
-      let told : spelling s (a.0 ++ p ∷ left) all ≡ done ++ ((own k h ++ spelling s ps v) ++ spelling s left u) =
+      let reported : spelling s (a.0 ++ p ∷ left) all ≡ done ++ ((own k h ++ spelling s ps v) ++ spelling s left u) =
       spelling_join s a.0 (p ∷ left) l.done (value.node h v u) a.4
       ∙ ap (λ (qs : List Part). done ++ ((own k h ++ spelling s qs v) ++ spelling s left u)) (sym a.7) in
       let bytes : a.2 ++ (spelling s (a.0 ++ p ∷ left) all ++ y) ≡ o ++ (spelling s ps v ++ x) =
-      ap (λ (z : List ℕ). a.2 ++ (z ++ y)) told
+      ap (λ (z : List ℕ). a.2 ++ (z ++ y)) reported
       ∙ shuffle a.2 done (own k h) (spelling s ps v) (spelling s left u) y
       ∙ ap (λ (z : List ℕ). ((a.2 ++ done) ++ own k h) ++ (spelling s ps v ++ z)) (sym c.4)
       ∙ ap (λ (z : List ℕ). z ++ (spelling s ps v ++ x)) (sym a.8) in
@@ -205,11 +205,11 @@ module _ (s : List KindView) (t : ℕ) where
       let node : own k h ++ spelling s (parts k h) value.none ≡ b.3 ++ (bs ++ pad n) =
       ap (λ (qs : List Part). own k h ++ spelling s qs value.none) made.2 ∙ append-nil (own k h) ∙ made.1
       ∙ ap (λ (z : List ℕ). b.3 ++ (bs ++ z)) (same_pad (length content) n b.8) in
-      let told : spelling s (b.0 ++ p ∷ left) all ≡ done ++ ((b.3 ++ (bs ++ pad n)) ++ spelling s left o.0) =
+      let reported : spelling s (b.0 ++ p ∷ left) all ≡ done ++ ((b.3 ++ (bs ++ pad n)) ++ spelling s left o.0) =
       spelling_join s b.0 (p ∷ left) m.done u b.5
       ∙ ap (λ (z : List ℕ). done ++ (z ++ spelling s left o.0)) node in
       let bytes : b.2 ++ (spelling s (b.0 ++ p ∷ left) all ++ o.1) ≡ q ++ c =
-      ap (λ (z : List ℕ). b.2 ++ (z ++ o.1)) told
+      ap (λ (z : List ℕ). b.2 ++ (z ++ o.1)) reported
       ∙ shuffle b.2 done b.3 content a.0 (pad n) (spelling s left o.0) o.1
       ∙ ap (λ (z : List ℕ). z ++ (a.0 ++ (pad n ++ (spelling s left o.0 ++ o.1)))) (sym b.7)
       ∙ ap (λ (z : List ℕ). q ++ (a.0 ++ (pad n ++ z))) (sym o.4)

@@ -21,8 +21,8 @@ use Rattle.xdr_types.specs.declared.value.Value.{Value}
 use Rattle.xdr_stream.specs.Trace as trace
 use Rattle.xdr_stream.specs.Trace.{Trace, level, at_start}
 use Rattle.xdr_stream.specs.Sees.{Sees, Ends}
-use Rattle.xdr_stream.specs.Values.{level_of, levels_onto, Tells}
-use Rattle.xdr_stream.specs.Stands.{StandsAs, Fails}
+use Rattle.xdr_stream.specs.Values.{level_of, levels_onto, Reports}
+use Rattle.xdr_stream.specs.Represents.{StandsAs, Fails}
 use Rattle.xdr_stream.specs.Finish.{Finishes}
 use Rattle.xdr_stream.specs.declared.fault.Reason.{Reason}
 use Rattle.xdr_stream.specs.declared.fault.Reason.TheVariants as reason
@@ -42,18 +42,18 @@ use Rattle.xdr_stream.proofs.Reading.{reading_start}
 abbrev pub trace_at : List trace.Level → List ℕ → Trace
 trace_at levels content = record { levels = levels; content = content }
 
-pub told_start : (ls : List Level) (content : List ℕ) → ls ≡ [] → content ≡ []
+pub reported_start : (ls : List Level) (content : List ℕ) → ls ≡ [] → content ≡ []
     → ◌≡◌ {A = Trace} (record { levels = level value.nothing [] ∷ levels_onto [] ls; content = content }) at_start
-told_start ls content none empty =
+reported_start ls content none empty =
     ap (λ (xs : List Level). trace_at (level value.nothing [] ∷ levels_onto [] xs) content) none
     ∙ ap (λ (bs : List ℕ). trace_at (level value.nothing [] ∷ []) bs) empty
 
 pub sees_start : (s : List KindView) (t : ℕ) (l : Bounds) (H : Trace → Type 0) → EachKindHasAValue s → t < length s
     → H at_start → Sees s t l H Next ((item_part t ∷ []) ∷ []) []
-sees_start s t l H has known told = record {
+sees_start s t l H has known reported = record {
   reading = reading_start s t l has known;
   trace = at_start;
-  told = told;
+  reported = reported;
   built = (refl, built_start s t);
 }
 
@@ -66,15 +66,15 @@ abbrev first_level : List trace.Level → trace.Level → trace.Level
 first_level [] l = l
 first_level (m ∷ ms) l = m
 
-module _ (s : List KindView) (t : ℕ) (l : Bounds) (built : Values) (fs : List (List Part)) (read : ℕ) (room : List ℕ)
+module _ (s : List KindView) (t : ℕ) (l : Bounds) (built : Values) (fs : List (List Part)) (read : ℕ) (space : List ℕ)
     (pending : ℕ) (b : List ℕ)
-    (r : StandsAs ⊥ s t l (λ (x : Trace). Tells built x) fs read room pending Finished b) where
+    (r : StandsAs ⊥ s t l (λ (x : Trace). Reports built x) fs read space pending Finished b) where
   -- the root has its value
   rooted : (v : Tree) × (level_of built.work ≡ level value.nothing (v ∷ [])) × Outcome s t l b (Whole v (length b))
   rooted =
-      let w = sees_whole s t l (λ (x : Trace). Tells built x) b fs [] r.1 r.2 in
+      let w = sees_whole s t l (λ (x : Trace). Reports built x) b fs [] r.1 r.2 in
       let all : level_of built.work ∷ levels_onto [] built.parents.items ≡ level value.nothing (w.0 ∷ []) ∷ [] =
-      ap (λ (x : Trace). x.levels) r.2.told.trace ∙ w.1 in (
+      ap (λ (x : Trace). x.levels) r.2.reported.trace ∙ w.1 in (
         w.0,
         ap (λ (ls : List trace.Level). first_level ls (level_of built.work)) all,
         subst (λ (x : List ℕ). Outcome s t l x (Whole w.0 (length b))) (append-nil b) w.2,
@@ -91,12 +91,12 @@ module _ (s : List KindView) (t : ℕ) (l : Bounds) (built : Values) (fs : List 
 
 -- a unit is unfinished, or none is there
 pub still_open : (s : List KindView) (t : ℕ) (l : Bounds) (H : Trace → Type 0) (fs : List (List Part)) (read : ℕ)
-    (room : List ℕ) (pending : ℕ) (a : Awaits) (b : List ℕ) → StandsAs ⊥ s t l H fs read room pending (Reading a) b
+    (space : List ℕ) (pending : ℕ) (a : Awaits) (b : List ℕ) → StandsAs ⊥ s t l H fs read space pending (Reading a) b
     → l.bytes % 4 ≡ 0
-    → Outcome s t l b Pending × (length b ≡ read + length (take pending room)) × (read ≤ l.bytes)
-still_open s t l H fs read room pending a b r units = (
-  pending_on s t l H fs read room pending a b r,
-  omega (arith, ap (λ (x : List ℕ). length x) r.1, length-append r.0 (take pending room), r.2),
+    → Outcome s t l b Pending × (length b ≡ read + length (take pending space)) × (read ≤ l.bytes)
+still_open s t l H fs read space pending a b r units = (
+  pending_on s t l H fs read space pending a b r,
+  omega (arith, ap (λ (x : List ℕ). length x) r.1, length-append r.0 (take pending space), r.2),
   omega (arith, r.2, within_limit s t l _ r.0 units r.4.reading),
 )
 
@@ -114,18 +114,18 @@ ruled_out some each = ∥∥₁_elim some (λ x y. absurd x) each
 
 -- where nothing has begun, the kind is one of the list
 fresh_known : (s : List KindView) (t : ℕ) (l : Bounds) (H : Trace → Type 0) (fs : List (List Part)) (read : ℕ)
-    (room : List ℕ) (pending : ℕ) (b : List ℕ) → StandsAs ⊥ s t l H fs read room pending Fresh b → t < length s
-fresh_known s t l H fs read room pending b r = front_known s t [] r.3.reading.front
+    (space : List ℕ) (pending : ℕ) (b : List ℕ) → StandsAs ⊥ s t l H fs read space pending Fresh b → t < length s
+fresh_known s t l H fs read space pending b r = front_known s t [] r.3.reading.front
 
 pub kind_known : (spares : Type 0) (s : List KindView) (t : ℕ) (l : Bounds) (H : Trace → Type 0)
-    (fs : List (List Part)) (read : ℕ) (room : List ℕ) (pending : ℕ) (state : State) → state ≡ Fresh
-    → ∥ ((b : List ℕ) × StandsAs spares s t l H fs read room pending state b) ∥₁ → t < length s
-kind_known spares s t l H fs read room pending state is given = lt_of_not-le (λ more. ruled_out given (λ g.
+    (fs : List (List Part)) (read : ℕ) (space : List ℕ) (pending : ℕ) (state : State) → state ≡ Fresh
+    → ∥ ((b : List ℕ) × StandsAs spares s t l H fs read space pending state b) ∥₁ → t < length s
+kind_known spares s t l H fs read space pending state is given = lt_of_not-le (λ more. ruled_out given (λ g.
     omega (
       arith,
       more,
-      fresh_known s t l H fs read room pending g.0
-          (subst (λ (x : State). StandsAs spares s t l H fs read room pending x g.0) is g.1),
+      fresh_known s t l H fs read space pending g.0
+          (subst (λ (x : State). StandsAs spares s t l H fs read space pending x g.0) is g.1),
     )))
 
 -- ---- what the end answers

@@ -1,4 +1,4 @@
--- What is seen after hyper integers of an array, and what a builder was told of them.
+-- What is seen after hyper integers of an array, and what a builder was reported of them.
 use Rattle.std.proofs.Common.{◌≡◌, ℕ, suc, zero, ◌+◌, ◌*◌, ◌%◌, ◌<◌, ◌≤◌, Bool, true, false, pos, List, [], ◌∷◌}
 use Rattle.std.proofs.Common.{◌++◌, length, refl, sym, ap, subst, append-nil, append_assoc, arith, take, drop}
 use Rattle.std.specs.Int.{w32, from_be_bytes}
@@ -26,7 +26,7 @@ use Rattle.xdr_stream.specs.declared.step.Step.TheVariants as step
 use Rattle.xdr_stream.specs.declared.machine.Awaits.TheVariants.{Wide}
 use Rattle.xdr_stream.proofs.Seeing.{IsNext, code_free}
 use Rattle.xdr_stream.proofs.Sounding.{solid_known, solid_items}
-use Rattle.xdr_stream.proofs.Told.{many_room, many_stays}
+use Rattle.xdr_stream.proofs.Reported.{many_space, many_stays}
 use Rattle.xdr_stream.proofs.Units.{first_of_two, second_of_two}
 
 is_step : (sg : Bool) → IsStep (hyper_kind sg) (step.Wide sg)
@@ -42,17 +42,17 @@ module _ (s : List KindView) (has : EachKindHasAValue s) (known : EachPartIsKnow
       → ((a : Trace) → H a → I (leaf_in (make_wide sg (u ++ v)) a))
       → Sees s t l H (Wide sg) (stack_of (Items item (suc left)) parents) q
       → Sees s t l I (Wide sg) (stack_of (Items item left) parents) (q ++ (u ++ v))
-  one H I left q u v len more are too all room tells r =
+  one H I left q u v len more are too all space reports r =
       let x : ℕ = from_be_bytes w32 u in
       let back : num4 (pos x) ≡ u = unit4_back u len are in
       let work : Frame = Items item (suc left) in
       let fs = stack_of work parents in
-      let first = first_of_two s has known t l H H fs q u len (are_bytes_of u are) (λ e. omega (arith, e, room)) sg x
+      let first = first_of_two s has known t l H H fs q u len (are_bytes_of u are) (λ e. omega (arith, e, space)) sg x
       back r in
       let second = second_of_two s has known t l H I fs (q ++ u) v more (are_bytes_of v too)
-      (λ e. omega (arith, e, length-append q u, len, room)) sg x (make_wide sg (u ++ v))
+      (λ e. omega (arith, e, length-append q u, len, space)) sg x (make_wide sg (u ++ v))
       (ap (λ (b : List ℕ). make_wide sg (b ++ v)) (sym back))
-      (subst (λ (b : List ℕ). are_bytes (b ++ v) ≡ true) (sym back) all) tells first in
+      (subst (λ (b : List ℕ). are_bytes (b ++ v) ≡ true) (sym back) all) reports first in
       let n : IsNext s l work parents (hyper_kind sg) =
       record { part = item_part item.place; first = refl; kind = is; deep = deep } in
       subst (λ (y : List ℕ). Sees s t l I (Wide sg) (stack_of (Items item left) parents) y) (append_assoc q u v)
@@ -64,27 +64,27 @@ module _ (s : List KindView) (has : EachKindHasAValue s) (known : EachPartIsKnow
       → ((a : Trace) → H a → I (hypers_in sg u a))
       → Sees s t l H (Wide sg) (stack_of (Items item left) parents) q
       → Sees s t l I (Wide sg) (stack_of (Items item rest) parents) (q ++ u)
-  many_hypers [] H I m rest left q len sum are room tells r =
+  many_hypers [] H I m rest left q len sum are space reports r =
       let none : left ≡ rest = omega (arith, len, sum) in
       let there = subst (λ (n : ℕ). Sees s t l H (Wide sg) (stack_of (Items item n) parents) q) none r in
       subst (λ (x : List ℕ). Sees s t l I (Wide sg) (stack_of (Items item rest) parents) x) (sym (append-nil q))
       (record {
         reading = there.reading;
         trace = there.trace;
-        told = tells there.trace there.told;
+        reported = reports there.trace there.reported;
         built = there.built;
       })
-  many_hypers (a ∷ []) H I m rest left q len sum are room tells r = absurd (omega (arith, len))
-  many_hypers (a ∷ b ∷ []) H I m rest left q len sum are room tells r = absurd (omega (arith, len))
-  many_hypers (a ∷ b ∷ c ∷ []) H I m rest left q len sum are room tells r = absurd (omega (arith, len))
-  many_hypers (a ∷ b ∷ c ∷ d ∷ []) H I m rest left q len sum are room tells r = absurd (omega (arith, len))
-  many_hypers (a ∷ b ∷ c ∷ d ∷ e ∷ []) H I m rest left q len sum are room tells r = absurd (omega (arith, len))
-  many_hypers (a ∷ b ∷ c ∷ d ∷ e ∷ f ∷ []) H I m rest left q len sum are room tells r = absurd (omega (arith, len))
-  many_hypers (a ∷ b ∷ c ∷ d ∷ e ∷ f ∷ g ∷ []) H I m rest left q len sum are room tells r =
+  many_hypers (a ∷ []) H I m rest left q len sum are space reports r = absurd (omega (arith, len))
+  many_hypers (a ∷ b ∷ []) H I m rest left q len sum are space reports r = absurd (omega (arith, len))
+  many_hypers (a ∷ b ∷ c ∷ []) H I m rest left q len sum are space reports r = absurd (omega (arith, len))
+  many_hypers (a ∷ b ∷ c ∷ d ∷ []) H I m rest left q len sum are space reports r = absurd (omega (arith, len))
+  many_hypers (a ∷ b ∷ c ∷ d ∷ e ∷ []) H I m rest left q len sum are space reports r = absurd (omega (arith, len))
+  many_hypers (a ∷ b ∷ c ∷ d ∷ e ∷ f ∷ []) H I m rest left q len sum are space reports r = absurd (omega (arith, len))
+  many_hypers (a ∷ b ∷ c ∷ d ∷ e ∷ f ∷ g ∷ []) H I m rest left q len sum are space reports r =
       absurd (omega (arith, len))
-  many_hypers (a ∷ b ∷ c ∷ d ∷ e ∷ f ∷ g ∷ h ∷ v) H I zero rest left q len sum are room tells r =
+  many_hypers (a ∷ b ∷ c ∷ d ∷ e ∷ f ∷ g ∷ h ∷ v) H I zero rest left q len sum are space reports r =
       absurd (omega (arith, len))
-  many_hypers (a ∷ b ∷ c ∷ d ∷ e ∷ f ∷ g ∷ h ∷ v) H I (suc m) rest left q len sum are room tells r =
+  many_hypers (a ∷ b ∷ c ∷ d ∷ e ∷ f ∷ g ∷ h ∷ v) H I (suc m) rest left q len sum are space reports r =
       let u : List ℕ = a ∷ b ∷ c ∷ d ∷ [] in
       let w : List ℕ = e ∷ f ∷ g ∷ h ∷ [] in
       let x : List ℕ = u ++ w in
@@ -95,12 +95,12 @@ module _ (s : List KindView) (has : EachKindHasAValue s) (known : EachPartIsKnow
       let each : AreBytes x =
       (are.0, (are.1.0, (are.1.1.0, (are.1.1.1.0, (low.0, (low.1.0, (low.1.1.0, (low.1.1.1.0, tt)))))))) in
       let first = one H J (m + rest) q u w refl refl (are.0, (are.1.0, (are.1.1.0, (are.1.1.1.0, tt))))
-      (low.0, (low.1.0, (low.1.1.0, (low.1.1.1.0, tt)))) (are_bytes_of x each) (omega (arith, room))
+      (low.0, (low.1.0, (low.1.1.0, (low.1.1.1.0, tt)))) (are_bytes_of x each) (omega (arith, space))
       (λ z hz. (z, hz, refl))
       (subst (λ (n : ℕ). Sees s t l H (Wide sg) (stack_of (Items item n) parents) q) more r) in
       let all = many_hypers v J I m rest (m + rest) (q ++ x) (omega (arith, len)) refl low.1.1.1.1
-      (omega (arith, length-append q x, room))
-      (λ y hy. subst (λ (z : Trace). I (hypers_in sg v z)) (sym hy.2) (tells hy.0 hy.1)) first in
+      (omega (arith, length-append q x, space))
+      (λ y hy. subst (λ (z : Trace). I (hypers_in sg v z)) (sym hy.2) (reports hy.0 hy.1)) first in
       subst (λ (y : List ℕ). Sees s t l I (Wide sg) (stack_of (Items item rest) parents) y) (append_assoc q x v) all
 
 -- the hyper integers of some units, and of two units more
@@ -145,7 +145,7 @@ sound_hypers s item sg left last parents is within h = (
     solid true = tt
     solid false = tt
 
--- where many parts are taken, they are after some hyper integers too, so that there is room for one more
+-- where many parts are taken, they are after some hyper integers too, so that there is space for one more
 pub hypers_many : (sg : Bool) (us : List ℕ) (t : Trace) → TakesMany t → TakesMany (hypers_in sg us t)
 hypers_many sg (a ∷ b ∷ c ∷ d ∷ e ∷ f ∷ g ∷ h ∷ us) t m =
     hypers_many sg us (leaf_in (make_wide sg (a ∷ b ∷ c ∷ d ∷ e ∷ f ∷ g ∷ h ∷ [])) t)
@@ -159,5 +159,5 @@ hypers_many sg (a ∷ b ∷ c ∷ d ∷ e ∷ []) t m = m
 hypers_many sg (a ∷ b ∷ c ∷ d ∷ e ∷ f ∷ []) t m = m
 hypers_many sg (a ∷ b ∷ c ∷ d ∷ e ∷ f ∷ g ∷ []) t m = m
 
-pub hypers_room : (sg : Bool) (us : List ℕ) (t : Trace) → TakesMany t → HasRoom (hypers_in sg us t)
-hypers_room sg us t m = many_room (hypers_in sg us t).levels (hypers_many sg us t m)
+pub hypers_space : (sg : Bool) (us : List ℕ) (t : Trace) → TakesMany t → HasRoom (hypers_in sg us t)
+hypers_space sg us t m = many_space (hypers_in sg us t).levels (hypers_many sg us t m)

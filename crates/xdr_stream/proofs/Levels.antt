@@ -18,17 +18,17 @@ pub levels_last : (outer : List trace.Level) (ls : List Level) (l : Level)
 levels_last outer [] l = refl
 levels_last outer (m ∷ ls) l = levels_last (level_of m ∷ outer) ls l
 
-abbrev pub told : List ℕ → Level → List Level → Trace
-told content work parents = record { levels = level_of work ∷ levels_onto [] parents; content = content }
+abbrev pub reported : List ℕ → Level → List Level → Trace
+reported content work parents = record { levels = level_of work ∷ levels_onto [] parents; content = content }
 
 pub opened : (content : List ℕ) (work new parent : Level) (parents pushed : List Level) (h : Head) (t : Trace)
     → level_of new ≡ level h [] → parent ≡ work → pushed ≡ parents ++ parent ∷ []
-    → told content work parents ≡ t → told content new pushed ≡ open_in h t
+    → reported content work parents ≡ t → reported content new pushed ≡ open_in h t
 opened content work new parent parents pushed h t begun same last e =
     let inner : levels_onto [] pushed ≡ level_of work ∷ levels_onto [] parents =
     ap (λ (ls : List Level). levels_onto [] ls) last ∙ levels_last [] parents parent
     ∙ ap (λ (l : Level). level_of l ∷ levels_onto [] parents) same in
-    let first : told content new pushed ≡ open_in h (told content work parents) =
+    let first : reported content new pushed ≡ open_in h (reported content work parents) =
     ap (λ (l : trace.Level). let r : Trace = record { levels = l ∷ levels_onto [] pushed; content = content } in r)
     begun
     ∙ ap (λ (ls : List trace.Level). let r : Trace = record { levels = level h [] ∷ ls; content = content } in r)
@@ -40,7 +40,7 @@ pub closed : (content : List ℕ) (work new parent taken : Level) (parents rest 
     → (IsOpen (level_of taken).head → IsFilled (level_of taken).head (level_of taken).done
     → tree v ≡ closed_tree (level_of taken))
     → level_of new ≡ level (level_of parent).head (added (level_of parent).head (level_of parent).done (tree v))
-    → told content work parents ≡ t → CanClose t → told content new rest ≡ close_in t
+    → reported content work parents ≡ t → CanClose t → reported content new rest ≡ close_in t
 closed content work new parent taken parents rest v t last same makes grown e can =
     let inner : levels_onto [] parents ≡ level_of parent ∷ levels_onto [] rest =
     ap (λ (ls : List Level). levels_onto [] ls) last ∙ levels_last [] rest parent in
@@ -54,7 +54,7 @@ closed content work new parent taken parents rest v t last same makes grown e ca
     (added (level_of parent).head (level_of parent).done (closed_tree (level_of work))) =
     grown ∙ ap (λ (w : Tree). level (level_of parent).head (added (level_of parent).head (level_of parent).done w))
     value in
-    let first : told content new rest ≡ close_in (told content work parents) =
+    let first : reported content new rest ≡ close_in (reported content work parents) =
     ap (λ (l : trace.Level). let r : Trace = record { levels = l ∷ levels_onto [] rest; content = content } in r) made
     ∙ ap (λ (ls : List trace.Level). let r : Trace = record {
       levels = close_levels (level_of work ∷ ls);
@@ -64,7 +64,7 @@ closed content work new parent taken parents rest v t last same makes grown e ca
 
 -- the outermost stays
 pub not_closed : (content : List ℕ) (work : Level) (parents : List Level) (t : Trace) → length parents ≡ 0
-    → told content work parents ≡ t → CanClose t → ⊥
+    → reported content work parents ≡ t → CanClose t → ⊥
 not_closed content work [] t n e can = subst (λ (r : Trace). CanClose r) (sym e) can
 not_closed content work (l ∷ ls) t n e can = absurd (omega arith)
 
@@ -80,7 +80,7 @@ first_alone : (l : trace.Level) (ls : List trace.Level) → IsAloneIn (l ∷ ls)
 first_alone l [] a = a
 first_alone l (m ∷ ls) a = absurd a
 
-pub alone_root : (content : List ℕ) (work : Level) (parents : List Level) (t : Trace) → told content work parents ≡ t
+pub alone_root : (content : List ℕ) (work : Level) (parents : List Level) (t : Trace) → reported content work parents ≡ t
     → IsAlone t → IsRoot work
 alone_root content work parents t e alone =
     head_root work (first_alone (level_of work) (levels_onto [] parents)

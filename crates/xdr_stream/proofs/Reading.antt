@@ -204,7 +204,7 @@ module _ (s : List KindView) (t : ℕ) (l : Bounds) (has : EachKindHasAValue s) 
       → (accepts → Admits s (kind_at s e.kind) e.role (length q - e.at) u)
       → (Admits s (kind_at s e.kind) e.role (length q - e.at) u → accepts)
       → Decides s t l q u accepts (reason s (kind_at s e.kind) e.role (from_be_bytes w32 u))
-  by_part ds q u accepts e front reached unfinished shallow small len are stands to from = (
+  by_part ds q u accepts e front reached unfinished shallow small len are represents to from = (
     (λ a. (
       (good [] a).0,
       λ rest. reached_next s has known t l q u rest front unfinished shallow small len are
@@ -212,7 +212,7 @@ module _ (s : List KindView) (t : ℕ) (l : Bounds) (has : EachKindHasAValue s) 
     )),
     (λ n rest.
         let o = outcome_unit s has known t l q u rest front unfinished shallow small len are (reached (u ++ rest)) in
-        let same : o.0 ≡ e = one_stands s t q (reached []).units o.0 e o.1 stands in
+        let same : o.0 ≡ e = one_stands s t q (reached []).units o.0 e o.1 represents in
         subst (λ (x : Entry). Outcome s t l (q ++ (u ++ rest))
         (Broken (reason s (kind_at s x.kind) x.role (from_be_bytes w32 u)) (length q))) same
         (o.2 (λ a. n (from (subst (λ (x : Entry). Admits s (kind_at s x.kind) x.role (length q - x.at) u) same a))))),
@@ -221,7 +221,7 @@ module _ (s : List KindView) (t : ℕ) (l : Bounds) (has : EachKindHasAValue s) 
       good : (rest : List ℕ) → accepts → Front s t (q ++ u) × IsQuiet s t l (q ++ (u ++ rest)) (length q)
       good rest a =
           let o = outcome_unit s has known t l q u rest front unfinished shallow small len are (reached (u ++ rest)) in
-          let same : o.0 ≡ e = one_stands s t q (reached []).units o.0 e o.1 stands in
+          let same : o.0 ≡ e = one_stands s t q (reached []).units o.0 e o.1 represents in
           o.3 (subst (λ (x : Entry). Admits s (kind_at s x.kind) x.role (length q - x.at) u) (sym same) (to a))
 
   -- where a value is due

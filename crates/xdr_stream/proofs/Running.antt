@@ -1,4 +1,4 @@
--- What is seen after numbers of one unit each, and what a builder was told of them.
+-- What is seen after numbers of one unit each, and what a builder was reported of them.
 use Rattle.std.proofs.Common.{◌≡◌, ℕ, suc, zero, ◌+◌, ◌*◌, ◌%◌, ◌^◌, ◌<◌, ◌≤◌, Bool, true, false, List, [], ◌∷◌}
 use Rattle.std.proofs.Common.{◌++◌, length, refl, sym, subst, append-nil, append_assoc, arith, take, drop}
 use Rattle.std.specs.Int.{w32, from_be_bytes}
@@ -55,14 +55,14 @@ module _ (s : List KindView) (has : EachKindHasAValue s) (known : EachPartIsKnow
       → ((a : Trace) → H a → I (leaf_in (number_head sg (from_be_bytes w32 u)) a))
       → Sees s t l H Next (stack_of (Items item (suc left)) parents) q
       → Sees s t l I Next (stack_of (Items item left) parents) (q ++ u)
-  one H I left q u len are small tells r =
+  one H I left q u len are small reports r =
       let x : ℕ = from_be_bytes w32 u in
       let less : x < 2 ^ 32 = unit4_less u len are in
       let n : IsNext s l (Items item (suc left)) parents (number_kind sg) =
       record { part = item_part item.place; first = refl; kind = is; deep = deep } in
       subst (λ (y : List ℕ). Sees s t l I Next (stack_of (Items item left) parents) (q ++ y)) (unit4_back u len are)
       (unit_leaf s has known t l H I (Items item (suc left)) parents q (number_kind sg) n x less small r
-      (has_unit sg) (is_unit sg) (accepts s sg x less) (number_head sg x) (is_head s sg x) (no_part s sg x) tells)
+      (has_unit sg) (is_unit sg) (accepts s sg x less) (number_head sg x) (is_head s sg x) (no_part s sg x) reports)
 
   -- so many numbers
   pub many_numbers : (u : List ℕ) (H I : Trace → Type 0) (m rest left : ℕ) (q : List ℕ) → length u ≡ 4 * m
@@ -70,31 +70,31 @@ module _ (s : List KindView) (has : EachKindHasAValue s) (known : EachPartIsKnow
       → ((a : Trace) → H a → I (numbers_in sg u a))
       → Sees s t l H Next (stack_of (Items item left) parents) q
       → Sees s t l I Next (stack_of (Items item rest) parents) (q ++ u)
-  many_numbers [] H I m rest left q len sum are room tells r =
+  many_numbers [] H I m rest left q len sum are space reports r =
       let none : left ≡ rest = omega (arith, len, sum) in
       let there = subst (λ (n : ℕ). Sees s t l H Next (stack_of (Items item n) parents) q) none r in
       subst (λ (x : List ℕ). Sees s t l I Next (stack_of (Items item rest) parents) x) (sym (append-nil q))
       (record {
         reading = there.reading;
         trace = there.trace;
-        told = tells there.trace there.told;
+        reported = reports there.trace there.reported;
         built = there.built;
       })
-  many_numbers (a ∷ []) H I m rest left q len sum are room tells r = absurd (omega (arith, len))
-  many_numbers (a ∷ b ∷ []) H I m rest left q len sum are room tells r = absurd (omega (arith, len))
-  many_numbers (a ∷ b ∷ c ∷ []) H I m rest left q len sum are room tells r = absurd (omega (arith, len))
-  many_numbers (a ∷ b ∷ c ∷ d ∷ v) H I zero rest left q len sum are room tells r = absurd (omega (arith, len))
-  many_numbers (a ∷ b ∷ c ∷ d ∷ v) H I (suc m) rest left q len sum are room tells r =
+  many_numbers (a ∷ []) H I m rest left q len sum are space reports r = absurd (omega (arith, len))
+  many_numbers (a ∷ b ∷ []) H I m rest left q len sum are space reports r = absurd (omega (arith, len))
+  many_numbers (a ∷ b ∷ c ∷ []) H I m rest left q len sum are space reports r = absurd (omega (arith, len))
+  many_numbers (a ∷ b ∷ c ∷ d ∷ v) H I zero rest left q len sum are space reports r = absurd (omega (arith, len))
+  many_numbers (a ∷ b ∷ c ∷ d ∷ v) H I (suc m) rest left q len sum are space reports r =
       let u : List ℕ = a ∷ b ∷ c ∷ d ∷ [] in
       let h : Head = number_head sg (from_be_bytes w32 u) in
       let J : Trace → Type 0 = λ (y : Trace). (x : Trace) × H x × (y ≡ leaf_in h x) in
       let more : left ≡ suc (m + rest) = omega (arith, sum) in
       let first = one H J (m + rest) q u refl (are.0, (are.1.0, (are.1.1.0, (are.1.1.1.0, tt))))
-      (λ e. omega (arith, e, room)) (λ x hx. (x, hx, refl))
+      (λ e. omega (arith, e, space)) (λ x hx. (x, hx, refl))
       (subst (λ (n : ℕ). Sees s t l H Next (stack_of (Items item n) parents) q) more r) in
       let all = many_numbers v J I m rest (m + rest) (q ++ u) (omega (arith, len)) refl are.1.1.1.1
-      (omega (arith, length-append q u, room))
-      (λ y hy. subst (λ (z : Trace). I (numbers_in sg v z)) (sym hy.2) (tells hy.0 hy.1)) first in
+      (omega (arith, length-append q u, space))
+      (λ y hy. subst (λ (z : Trace). I (numbers_in sg v z)) (sym hy.2) (reports hy.0 hy.1)) first in
       subst (λ (x : List ℕ). Sees s t l I Next (stack_of (Items item rest) parents) x) (append_assoc q u v) all
 
   -- a number is due while one is left

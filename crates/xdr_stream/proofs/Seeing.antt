@@ -1,4 +1,4 @@
--- What is seen after a node or a unit, and what a builder was told.
+-- What is seen after a node or a unit, and what a builder was reported.
 use Rattle.std.proofs.Common.{◌≡◌, ℕ, zero, suc, ◌+◌, ◌<◌, ◌≤◌, Bool, true, false, List, [], ◌∷◌, ◌++◌}
 use Rattle.std.proofs.Common.{length, refl, sym, ap, subst, ◌∙◌, append-nil, arith}
 use Rattle.std.proofs.Common.{replicate}
@@ -27,7 +27,7 @@ use Rattle.xdr_stream.specs.declared.machine.Trouble.{Trouble}
 use Rattle.xdr_stream.specs.declared.machine.Trouble.TheVariants as trouble
 use Rattle.xdr_stream.specs.declared.machine.Awaits.TheVariants.{Next, Content, Wide}
 use Rattle.xdr_stream.proofs.Frames.{onto_last, onto_length}
-use Rattle.xdr_stream.proofs.Built.{built_leaf, built_open, built_close, into_start, With, Gives, seen_room}
+use Rattle.xdr_stream.proofs.Built.{built_leaf, built_open, built_close, into_start, With, Gives, seen_space}
 use Rattle.xdr_stream.proofs.Reading.{reading_close, reading_silent, reading_free, ends_deep}
 
 module _ (s : List KindView) (t : ℕ) (l : Bounds) (H I : Trace → Type 0) where
@@ -35,23 +35,23 @@ module _ (s : List KindView) (t : ℕ) (l : Bounds) (H I : Trace → Type 0) whe
   pub sees_close : (left : List Part) (fs : List (List Part)) (q : List ℕ)
       → ((a : Trace) → H a → CanClose a → I (close_in a))
       → Sees s t l H Next ([] ∷ left ∷ fs) q → Sees s t l I Next (left ∷ fs) q
-  sees_close left fs q tells r =
+  sees_close left fs q reports r =
       let b = built_close s t r.trace.levels left fs q r.built.1 in
       record {
         reading = reading_close s t l (left ∷ fs) q r.reading;
         trace = close_in r.trace;
-        told = tells r.trace r.told b.0;
+        reported = reports r.trace r.reported b.0;
         built = (r.built.0, b.1);
       }
 
   pub sees_popped : (work f : Frame) (parents rest : List Frame) (q : List ℕ) → left_of work ≡ []
       → parents ≡ rest ++ f ∷ [] → ((a : Trace) → H a → CanClose a → I (close_in a))
       → Sees s t l H Next (stack_of work parents) q → Sees s t l I Next (stack_of f rest) q
-  sees_popped work f parents rest q none last tells r =
+  sees_popped work f parents rest q none last reports r =
       let stack : stack_of work parents ≡ [] ∷ left_of f ∷ onto [] rest =
       ap (λ (ps : List Part). ps ∷ onto [] parents) none
       ∙ ap (λ (fs : List (List Part)). [] ∷ fs) (ap (λ (fs : List Frame). onto [] fs) last ∙ onto_last [] rest f) in
-      sees_close (left_of f) (onto [] rest) q tells (subst (λ (fs : List (List Part)). Sees s t l H Next fs q) stack r)
+      sees_close (left_of f) (onto [] rest) q reports (subst (λ (fs : List (List Part)). Sees s t l H Next fs q) stack r)
 
   -- a silent node begins, whose parts come next
   pub sees_silent : (p : Part) (ps : List Part) (fs : List (List Part)) (q : List ℕ) (k : KindView) (h : Head)
@@ -59,7 +59,7 @@ module _ (s : List KindView) (t : ℕ) (l : Bounds) (H I : Trace → Type 0) whe
       → length fs + 1 ≤ l.depth
       → ((a : Trace) → H a → I (open_in h a)) → Sees s t l H Next ((p ∷ ps) ∷ fs) q
       → Sees s t l I Next (parts k h ∷ ps ∷ fs) q
-  sees_silent p ps fs q k h is silent open_head head none deep tells r =
+  sees_silent p ps fs q k h is silent open_head head none deep reports r =
       let legal : is_legal s k h ≡ true =
       is_legal_of s k h (subst (λ (g : Head). IsLegal s k g) head (silent_legal s k silent)) in
       let b = built_open s t r.trace.levels fs p ps q h open_head
@@ -70,7 +70,7 @@ module _ (s : List KindView) (t : ℕ) (l : Bounds) (H I : Trace → Type 0) whe
         reading = subst (λ (g : Head). Reading s t l (dues (parts k g ∷ ps ∷ fs)) q) head
             (subst (λ (f : KindView). Reading s t l (dues (parts f (silent_head f) ∷ ps ∷ fs)) q) is read);
         trace = open_in h r.trace;
-        told = tells r.trace r.told;
+        reported = reports r.trace r.reported;
         built = (
           r.built.0,
           subst (λ (f : KindView). Built s t (open_in h r.trace).levels (parts f h ∷ ps ∷ fs) q) is
@@ -84,7 +84,7 @@ module _ (s : List KindView) (t : ℕ) (l : Bounds) (H I : Trace → Type 0) whe
       → length fs + 1 ≤ l.depth
       → ((a : Trace) → H a → I (leaf_in value.nothing a)) → Sees s t l H Next ((p ∷ ps) ∷ fs) q
       → Sees s t l I Next (ps ∷ fs) q
-  sees_void p ps fs q is deep tells r =
+  sees_void p ps fs q is deep reports r =
       let legal : is_legal s (kind_at s p.kind) value.nothing ≡ true =
       ap (λ (f : KindView). is_legal s f value.nothing) is in
       let none : parts (kind_at s p.kind) value.nothing ≡ [] = ap (λ (f : KindView). parts f value.nothing) is in
@@ -97,7 +97,7 @@ module _ (s : List KindView) (t : ℕ) (l : Bounds) (H I : Trace → Type 0) whe
         reading = reading_close s t l (ps ∷ fs) q
             (subst (λ (x : List Part). Reading s t l (dues (x ∷ ps ∷ fs)) q) inner read);
         trace = leaf_in value.nothing r.trace;
-        told = tells r.trace r.told;
+        reported = reports r.trace r.reported;
         built = (
           r.built.0,
           subst (λ (x : List ℕ). Built s t (leaf_in value.nothing r.trace).levels (ps ∷ fs) x)
@@ -159,7 +159,7 @@ module _ (s : List KindView) (t : ℕ) (l : Bounds) (H : Trace → Type 0) where
   sees_wide p ps fs q is deep r = record {
     reading = free_read p ps fs q xdr.hyper is tt deep r.reading;
     trace = r.trace;
-    told = r.told;
+    reported = r.reported;
     built = (r.built.0, free_built p ps fs q xdr.hyper (make_wide true) is (makes_wide s) r.trace.levels r.built.1);
   }
 
@@ -169,7 +169,7 @@ module _ (s : List KindView) (t : ℕ) (l : Bounds) (H : Trace → Type 0) where
   sees_unsigned p ps fs q is deep r = record {
     reading = free_read p ps fs q xdr.unsigned_hyper is tt deep r.reading;
     trace = r.trace;
-    told = r.told;
+    reported = r.reported;
     built = (
       r.built.0,
       free_built p ps fs q xdr.unsigned_hyper (make_wide false) is
@@ -183,7 +183,7 @@ module _ (s : List KindView) (t : ℕ) (l : Bounds) (H : Trace → Type 0) where
   sees_opaque p ps fs q size is deep r = record {
     reading = free_read p ps fs q (xdr.opaque size) is tt deep r.reading;
     trace = r.trace;
-    told = r.told;
+    reported = r.reported;
     built = subst (λ (c : List ℕ). BuiltInto s t r.trace.levels (ps ∷ fs) c value.bytes size q) (sym r.built.0)
         (free_built p ps fs q (xdr.opaque size) value.bytes is (makes_opaque s size) r.trace.levels r.built.1);
   }
@@ -217,13 +217,13 @@ module _ (s : List KindView) (t : ℕ) (l : Bounds) (H I : Trace → Type 0) (wo
       → silent_head k ≡ h → own k h ≡ [] → ((a : Trace) → H a → I (open_in h a))
       → Sees s t l H Next (stack_of work parents) q
       → Sees s t l I Next (parts k h ∷ rest_of (left_of work) ∷ onto [] parents) q
-  code_silent k h n silent open_head head none tells r =
+  code_silent k h n silent open_head head none reports r =
       sees_silent s t l H I n.part (rest_of (left_of work))
-      (onto [] parents) q k h n.kind silent open_head head none n.deep tells (opened_stack k n r)
+      (onto [] parents) q k h n.kind silent open_head head none n.deep reports (opened_stack k n r)
 
   pub code_void : IsNext s l work parents xdr.nothing → ((a : Trace) → H a → I (leaf_in value.nothing a))
       → Sees s t l H Next (stack_of work parents) q → Sees s t l I Next (rest_of (left_of work) ∷ onto [] parents) q
-  code_void n tells r = sees_void s t l H I n.part (rest_of (left_of work)) (onto [] parents) q n.kind n.deep tells
+  code_void n reports r = sees_void s t l H I n.part (rest_of (left_of work)) (onto [] parents) q n.kind n.deep reports
       (opened_stack xdr.nothing n r)
 
   pub code_wide : IsNext s l work parents xdr.hyper → Sees s t l H Next (stack_of work parents) q
@@ -253,12 +253,12 @@ module _ (s : List KindView) (t : ℕ) (l : Bounds) (H I : Trace → Type 0) (wo
       sees_deep s t l H H b.0 (rest_of (left_of work)) (onto [] parents) q rest (omega (arith, onto_length [] parents))
       (subst (λ (ps : List Part). Sees s t l H Next (ps ∷ onto [] parents) q) b.1 r)
 
--- the innermost node has room for the part that comes next
-pub room_next : (s : List KindView) (t : ℕ) (l : Bounds) (H : Trace → Type 0) (work : Frame) (parents : List Frame)
+-- the innermost node has space for the part that comes next
+pub space_next : (s : List KindView) (t : ℕ) (l : Bounds) (H : Trace → Type 0) (work : Frame) (parents : List Frame)
     (q : List ℕ) (k : KindView) → IsNext s l work parents k → Sees s t l H Next (stack_of work parents) q
     → Sees s t l (With H HasRoom) Next (stack_of work parents) q
-room_next s t l H work parents q k n r =
-    seen_room s t l H Next (stack_of work parents) q
+space_next s t l H work parents q k n r =
+    seen_space s t l H Next (stack_of work parents) q
     (subst (λ (ps : List Part). Gives Next (ps ∷ onto [] parents)) (sym n.first) tt) r
 
 -- ---- what comes next stands lower

@@ -197,17 +197,17 @@ module _ (z : Type 0) (s : List KindView) (t : ℕ) (free : TakesNone z (kind_at
   bytes_spared xdr.unknown bs f l = absurd f
 
   module _ (l : Bounds) (H : Trace → Type 0) where
-    -- a builder was told of no node at work
+    -- a builder was reported of no node at work
     pub seen_alone : (a : Awaits) (fs : List (List Part)) (q : List ℕ) → Sees s t l H a fs q
         → (x : Trace) × H x × IsAlone x × (length fs ≡ 1)
     seen_alone Next fs q r =
-        let b = built_alone r.trace.levels fs q r.built.1 in (r.trace, r.told, b.0, b.1)
+        let b = built_alone r.trace.levels fs q r.built.1 in (r.trace, r.reported, b.0, b.1)
     seen_alone (Content n) fs q r =
-        let b = into_alone r.trace.content value.bytes n r.trace.levels fs q r.built in (r.trace, r.told, b.0, b.1)
+        let b = into_alone r.trace.content value.bytes n r.trace.levels fs q r.built in (r.trace, r.reported, b.0, b.1)
     seen_alone (Wide g) fs q r =
-        let b = into_alone [] _ 8 r.trace.levels fs q r.built.1 in (r.trace, r.told, b.0, b.1)
+        let b = into_alone [] _ 8 r.trace.levels fs q r.built.1 in (r.trace, r.reported, b.0, b.1)
     seen_alone (Low g x) fs q r =
-        let b = into_alone _ _ 4 r.trace.levels fs q r.built.1 in (r.trace, r.told, b.0, b.1)
+        let b = into_alone _ _ 4 r.trace.levels fs q r.built.1 in (r.trace, r.reported, b.0, b.1)
 
     -- the next part is the root
     pub seen_root : (left : List Part) (fs : List (List Part)) (q : List ℕ) (place : ℕ) → Begins left place

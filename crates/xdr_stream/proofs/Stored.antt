@@ -20,13 +20,13 @@ use Rattle.xdr_laws.specs.Parts.{nodes, up_to}
 use Rattle.xdr_laws.proofs.Holding.{held_whole}
 use Rattle.xdr_laws.proofs.Nodes.{held_bounds}
 use Rattle.xdr_stream.specs.Trace.{Level, Trace, level, at_start}
-use Rattle.xdr_stream.specs.Kept.{nodes_in, bytes_in_parts, bytes_kept}
+use Rattle.xdr_stream.specs.Retained.{nodes_in, bytes_in_parts, bytes_retained}
 use Rattle.xdr_stream.specs.Held.{GoesOn, frames_at, nodes_at, pending_at, IsDue}
 use Rattle.xdr_stream.specs.Frames.{stack_of}
 use Rattle.xdr_stream.specs.declared.frame.Frame.{Frame}
 use Rattle.xdr_stream.specs.declared.holding.Held.{Held}
 use Rattle.xdr_stream.specs.Sees.{Built}
-use Rattle.xdr_stream.specs.Stands.{StandsAs, IsWaiting}
+use Rattle.xdr_stream.specs.Represents.{StandsAs, IsWaiting}
 use Rattle.xdr_stream.specs.declared.reader.State.{State}
 use Rattle.xdr_stream.specs.declared.reader.State.TheVariants.{Fresh, Reading, Finished, Failed}
 use Rattle.xdr_stream.proofs.Built.{built_whole}
@@ -34,22 +34,22 @@ use Rattle.xdr_stream.proofs.Frames.{onto_length}
 use Rattle.xdr_stream.proofs.Bounds.{bounded, holds}
 use Rattle.xdr_stream.proofs.Standing.{sees_whole, within_limit}
 
--- what a builder was told is within bounds, after the bytes b
+-- what a builder was reported is within bounds, after the bytes b
 pub record IsStored (most depth : ℕ) (b : List ℕ) (st : State) (pending frames : ℕ) (x : Trace) : Type 0 where
   pub nodes : nodes_at st (nodes_in x.levels) ≤ (most + 1) * (length b / 4 + 1)
   pub few : nodes_in x.levels < 2 ^ 64
-  pub bytes : bytes_kept x ≤ length b
-  pub short : bytes_kept x < 2 ^ 64
+  pub bytes : bytes_retained x ≤ length b
+  pub short : bytes_retained x < 2 ^ 64
   pub frames_are : GoesOn st → frames ≤ depth + 1
   pub pending_is : pending_at st pending ≤ 3
   pub exact : GoesOn st → pending_at st pending ≡ length b % 4
 
 -- where the value is whole it is all that is held
 pub whole_stored : (s : List KindView) (t : ℕ) (l : Bounds) (H : Trace → Type 0) (fs : List (List Part)) (read : ℕ)
-    (room : List ℕ) (pending : ℕ) (b : List ℕ) (r : StandsAs ⊥ s t l H fs read room pending Finished b)
+    (space : List ℕ) (pending : ℕ) (b : List ℕ) (r : StandsAs ⊥ s t l H fs read space pending Finished b)
     → (v : Tree) × Outcome s t l b (outcome.Whole v (length b)) × Fits s t v × (bytes_of s t v ≡ b)
-    × (nodes_in r.2.trace.levels ≡ 1 + node_count v) × (bytes_kept r.2.trace ≡ byte_count v)
-whole_stored s t l H fs read room pending b r =
+    × (nodes_in r.2.trace.levels ≡ 1 + node_count v) × (bytes_retained r.2.trace ≡ byte_count v)
+whole_stored s t l H fs read space pending b r =
     let x : Trace = r.2.trace in
     let at : Built s t x.levels ([] ∷ []) b =
     subst (λ (y : List (List Part)). Built s t x.levels y b) r.1 r.2.built.1 in
@@ -101,37 +101,37 @@ module _ (x : Lists) (well : IsWellFormed x) (sure : sound.IsSound x.kinds) (t :
     exact = exact;
   }
 
-  pub stored : (spares : Type 0) (H : Trace → Type 0) (fs : List (List Part)) (read : ℕ) (room : List ℕ) (pending : ℕ)
-      (st : State) (b : List ℕ) → length room ≡ 4 → StandsAs spares x.kinds t l H fs read room pending st b
+  pub stored : (spares : Type 0) (H : Trace → Type 0) (fs : List (List Part)) (read : ℕ) (space : List ℕ) (pending : ℕ)
+      (st : State) (b : List ℕ) → length space ≡ 4 → StandsAs spares x.kinds t l H fs read space pending st b
       → (y : Trace) × H y × IsStored (length x.kinds) l.depth b st pending (length fs) y
-  stored spares H fs read room pending Fresh b four r =
+  stored spares H fs read space pending Fresh b four r =
       let none : length b ≡ 0 = ap (λ (y : List ℕ). length y) r.0 in (
         at_start,
         r.4,
         start_stored Fresh b pending (length fs) (λ g. r.5) (omega (arith, r.2)) (λ g. omega (arith, r.2, none))
             (omega arith),
       )
-  stored spares H fs read room pending (Failed f) b four r = (
+  stored spares H fs read space pending (Failed f) b four r = (
     at_start,
     r.1,
     start_stored (Failed f) b pending (length fs) (λ g. absurd g) (omega arith) (λ g. absurd g) (omega arith),
   )
-  stored spares H fs read room pending (Reading a) b four r =
+  stored spares H fs read space pending (Reading a) b four r =
       let q : List ℕ = r.0 in
       let m = bounded x well sure t l H q a fs r.5 r.4 in
       let len : length b ≡ length q + pending =
       omega (
         arith,
         ap (λ (y : List ℕ). length y) r.1,
-        length-append q (take pending room),
-        length-take pending room,
+        length-append q (take pending space),
+        length-take pending space,
         four,
         r.3,
       ) in
       let less : length q ≤ l.bytes = within_limit x.kinds t l _ q are.units r.4.reading in
       let units : length q / 4 ≡ length b / 4 = omega (arith, len, m.3, r.3) in (
         r.4.trace,
-        r.4.told,
+        r.4.reported,
         record {
           nodes = subst (λ (n : ℕ). nodes_in r.4.trace.levels ≤ (length x.kinds + 1) * (n + 1)) units m.0;
           few = (let e = small (nodes_in r.4.trace.levels) (length q) less m.0 in omega (arith, e));
@@ -142,8 +142,8 @@ module _ (x : Lists) (well : IsWellFormed x) (sure : sound.IsSound x.kinds) (t :
           exact = λ g. omega (arith, len, m.3, r.3);
         },
       )
-  stored spares H fs read room pending Finished b four r =
-      let w = whole_stored x.kinds t l H fs read room pending b r in
+  stored spares H fs read space pending Finished b four r =
+      let w = whole_stored x.kinds t l H fs read space pending b r in
       let v : Tree = w.0 in
       let less : length b ≤ l.bytes = within_limit x.kinds t l _ b are.units r.2.reading in
       let units : length b % 4 ≡ 0 = (r.2.reading.reached []).units in
@@ -154,7 +154,7 @@ module _ (x : Lists) (well : IsWellFormed x) (sure : sound.IsSound x.kinds) (t :
       let count = held_whole x.kinds t v n j w.2 (subst (λ (y : List ℕ). Holds x.kinds t y n j) (sym w.3) h) in
       let most = held_bounds x well sure t b (length b / 4) n j (omega (arith, units)) h in (
         r.2.trace,
-        r.2.told,
+        r.2.reported,
         record {
           nodes = omega (arith, w.4, count.0, most.0);
           few = (let e = small n (length b) less most.0 in omega (arith, e, w.4, count.0));
@@ -183,23 +183,23 @@ parents_few st work parents l bounds h goes =
 
 -- the nodes after the whole units are those of the law, where a unit is needed
 pub due_stored : (spares : Type 0) (s : List KindView) (t : ℕ) (l : Bounds) (H : Trace → Type 0)
-    (fs : List (List Part)) (read : ℕ) (room : List ℕ) (pending : ℕ) (st : State) (b : List ℕ) → length room ≡ 4
-    → IsWaiting st → StandsAs spares s t l H fs read room pending st b
+    (fs : List (List Part)) (read : ℕ) (space : List ℕ) (pending : ℕ) (st : State) (b : List ℕ) → length space ≡ 4
+    → IsWaiting st → StandsAs spares s t l H fs read space pending st b
     → (y : Trace) × H y × ((h : Held) → h.nodes ≡ nodes_at st (nodes_in y.levels)
     → h.pending ≡ pending_at st pending → IsDue s t b h)
-due_stored spares s t l H fs read room pending Fresh b four w r = absurd w
-due_stored spares s t l H fs read room pending Finished b four w r = absurd w
-due_stored spares s t l H fs read room pending (Failed f) b four w r = absurd w
-due_stored spares s t l H fs read room pending (Reading a) b four w r =
+due_stored spares s t l H fs read space pending Fresh b four w r = absurd w
+due_stored spares s t l H fs read space pending Finished b four w r = absurd w
+due_stored spares s t l H fs read space pending (Failed f) b four w r = absurd w
+due_stored spares s t l H fs read space pending (Reading a) b four w r =
     let m = holds s t l H r.0 a fs r.5 r.4 in (
       r.4.trace,
-      r.4.told,
+      r.4.reported,
       λ h nodes_are pending_are. record {
         whole = r.0;
-        rest = take pending room;
+        rest = take pending space;
         parts = r.1;
         units = (r.4.reading.reached []).units;
-        pending = omega (arith, length-take pending room, four, r.3, pending_are);
+        pending = omega (arith, length-take pending space, four, r.3, pending_are);
         content = m.0.0;
         holds = subst (λ (n : ℕ). Holds s t r.0 n m.0.0) (sym nodes_are) m.0.1;
       },

@@ -99,7 +99,7 @@ module _ (s : List KindView) (has : EachKindHasAValue s) (known : EachPartIsKnow
   pub unit_leaf : HasUnit (lead_of k) → IsUnitFirst (lead_of k) → Accepts s k x → (h : Head) → h ≡ head_of s k x
       → parts k (head_of s k x) ≡ [] → ((a : Trace) → H a → I (leaf_in h a))
       → Sees s t l I Next (rest_of (left_of work) ∷ onto [] parents) (q ++ word x)
-  unit_leaf unit first accepts h is none tells =
+  unit_leaf unit first accepts h is none reports =
       let made = head_legal s k x first accepts in
       let g : Head = head_of s k x in
       let legal : is_legal s (kind_at s n.part.kind) g ≡ true =
@@ -108,14 +108,14 @@ module _ (s : List KindView) (has : EachKindHasAValue s) (known : EachPartIsKnow
       let bytes : own (kind_at s n.part.kind) g ≡ word x = ap (λ (f : KindView). own f g) n.kind ∙ made.1 in
       let b = built_leaf s t seen.trace.levels (onto [] parents) n.part
       (rest_of (left_of work)) q g legal empty seen.built.1 in
-      let told : I (leaf_in g seen.trace) =
-      subst (λ (y : Head). I (leaf_in y seen.trace)) is (tells seen.trace seen.told) in
+      let reported : I (leaf_in g seen.trace) =
+      subst (λ (y : Head). I (leaf_in y seen.trace)) is (reports seen.trace seen.reported) in
       record {
         reading = reading_close s t l (rest_of (left_of work) ∷ onto [] parents) (q ++ word x)
             (subst (λ (y : List Part). Reading s t l (dues (y ∷ rest_of (left_of work) ∷ onto [] parents))
             (q ++ word x)) none (unit_read unit first accepts));
         trace = leaf_in g seen.trace;
-        told = told;
+        reported = reported;
         built = (
           seen.built.0,
           subst (λ (y : List ℕ). Built s t (leaf_in g seen.trace).levels
@@ -127,7 +127,7 @@ module _ (s : List KindView) (has : EachKindHasAValue s) (known : EachPartIsKnow
   pub unit_open : HasUnit (lead_of k) → IsUnitFirst (lead_of k) → Accepts s k x → (h : Head) → h ≡ head_of s k x
       → IsOpen (head_of s k x) → ((a : Trace) → H a → I (open_in h a))
       → Sees s t l I Next (parts k (head_of s k x) ∷ rest_of (left_of work) ∷ onto [] parents) (q ++ word x)
-  unit_open unit first accepts h is open_head tells =
+  unit_open unit first accepts h is open_head reports =
       let made = head_legal s k x first accepts in
       let g : Head = head_of s k x in
       let legal : is_legal s (kind_at s n.part.kind) g ≡ true =
@@ -135,12 +135,12 @@ module _ (s : List KindView) (has : EachKindHasAValue s) (known : EachPartIsKnow
       let bytes : own (kind_at s n.part.kind) g ≡ word x = ap (λ (f : KindView). own f g) n.kind ∙ made.1 in
       let b = built_open s t seen.trace.levels (onto [] parents) n.part
       (rest_of (left_of work)) q g open_head legal seen.built.1 in
-      let told : I (open_in g seen.trace) =
-      subst (λ (y : Head). I (open_in y seen.trace)) is (tells seen.trace seen.told) in
+      let reported : I (open_in g seen.trace) =
+      subst (λ (y : Head). I (open_in y seen.trace)) is (reports seen.trace seen.reported) in
       record {
         reading = unit_read unit first accepts;
         trace = open_in g seen.trace;
-        told = told;
+        reported = reported;
         built = (
           seen.built.0,
           subst (λ (f : KindView). Built s t (open_in g seen.trace).levels
@@ -162,7 +162,7 @@ module _ (s : List KindView) (has : EachKindHasAValue s) (known : EachPartIsKnow
   pub length_empty : HasUnit (lead_of k) → IsLengthFirst (lead_of k) → Accepts s k x → x ≡ 0
       → ((a : Trace) → H a → I (leaf_in (value.bytes []) a))
       → Sees s t l I Next (rest_of (left_of work) ∷ onto [] parents) (q ++ word x)
-  length_empty unit first accepts none_left tells =
+  length_empty unit first accepts none_left reports =
       let made = counted_made s k x first accepts in
       let none : is_legal s k (value.bytes []) ≡ true = (made [] (sym none_left) refl).0 in
       let legal : is_legal s (kind_at s n.part.kind) (value.bytes []) ≡ true =
@@ -179,7 +179,7 @@ module _ (s : List KindView) (has : EachKindHasAValue s) (known : EachPartIsKnow
             (subst (λ (m : ℕ). Reading s t l (Rest m ∷ dues (rest_of (left_of work) ∷ onto [] parents)) (q ++ word x))
             none_left (length_read unit first accepts));
         trace = leaf_in (value.bytes []) seen.trace;
-        told = tells seen.trace seen.told;
+        reported = reports seen.trace seen.reported;
         built = (
           seen.built.0,
           subst (λ (y : List ℕ). Built s t (leaf_in (value.bytes []) seen.trace).levels
@@ -193,7 +193,7 @@ module _ (s : List KindView) (has : EachKindHasAValue s) (known : EachPartIsKnow
   length_some unit first accepts = record {
     reading = length_read unit first accepts;
     trace = seen.trace;
-    told = seen.told;
+    reported = seen.reported;
     built = subst (λ (c : List ℕ). BuiltInto s t seen.trace.levels
         (rest_of (left_of work) ∷ onto [] parents) c value.bytes x (q ++ word x)) (sym seen.built.0)
         (into_start s t seen.trace.levels (onto [] parents) n.part (rest_of (left_of work)) q (word x) x value.bytes

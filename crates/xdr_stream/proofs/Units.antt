@@ -67,7 +67,7 @@ module _ (s : List KindView) (has : EachKindHasAValue s) (known : EachPartIsKnow
   first_of_two signed x is r = record {
     reading = rest_more 8 (omega arith) r.reading;
     trace = r.trace;
-    told = r.told;
+    reported = r.reported;
     built = (
       r.built.0,
       subst (λ (b : List ℕ). BuiltInto s t r.trace.levels fs b (make_wide signed) 4 (q ++ u)) (sym is)
@@ -80,7 +80,7 @@ module _ (s : List KindView) (has : EachKindHasAValue s) (known : EachPartIsKnow
   pub second_of_two : (signed : Bool) (x : ℕ) (h : Head) → h ≡ make_wide signed (num4 (pos x) ++ u)
       → are_bytes (num4 (pos x) ++ u) ≡ true → ((a : Trace) → H a → I (leaf_in h a)) → Sees s t l H (Low signed x) fs q
       → Sees s t l I Next fs (q ++ u)
-  second_of_two signed x h is all tells r =
+  second_of_two signed x h is all reports r =
       let read : Reading s t l (dues fs) (q ++ u) =
       reading_over s t l fs (q ++ u) (rest_more 4 (omega arith) r.reading) in
       let b = into_end s t r.trace.levels fs (num4 (pos x)) u (make_wide signed) q all
@@ -92,17 +92,17 @@ module _ (s : List KindView) (has : EachKindHasAValue s) (known : EachPartIsKnow
       record {
         reading = read;
         trace = leaf_in g r.trace;
-        told = subst (λ (y : Head). I (leaf_in y r.trace)) is (tells r.trace r.told);
+        reported = subst (λ (y : Head). I (leaf_in y r.trace)) is (reports r.trace r.reported);
         built = (r.built.0, subst (λ (y : List ℕ). Built s t (leaf_in g r.trace).levels fs (q ++ y)) none b.2);
       }
 
   -- four bytes of content, which go on
   pub more_content : (n : ℕ) → 4 < n → ((a : Trace) → H a → I (extend_in u a)) → Sees s t l H (Content n) fs q
       → Sees s t l I (Content (n - 4)) fs (q ++ u)
-  more_content n many tells r = record {
+  more_content n many reports r = record {
     reading = rest_more n (omega arith) r.reading;
     trace = extend_in u r.trace;
-    told = tells r.trace r.told;
+    reported = reports r.trace r.reported;
     built = into_more s t r.trace.levels fs r.trace.content u value.bytes n (n - 4) q (omega (arith, len)) are
         (omega (arith, len)) r.built;
   }
@@ -111,7 +111,7 @@ module _ (s : List KindView) (has : EachKindHasAValue s) (known : EachPartIsKnow
   pub last_content : (n : ℕ) → 0 < n → n ≤ 4 → are_zeros (drop n u) ≡ true
       → ((a : Trace) → H a → I (content_in (extend_in (take n u) a))) → Sees s t l H (Content n) fs q
       → Sees s t l I Next fs (q ++ u)
-  last_content n some few zeros tells r =
+  last_content n some few zeros reports r =
       let fills : Fills n u = fill_zeros n u some len (zeros_are (drop n u) zeros) in
       let read : Reading s t l (dues fs) (q ++ u) = elim (cases_lt n 4) [
         | inl less ↦ (let d = rest_due s t l has known n fs q u some small len are r.reading in reading_last s t l n fs
@@ -134,7 +134,7 @@ module _ (s : List KindView) (has : EachKindHasAValue s) (known : EachPartIsKnow
       record {
         reading = read;
         trace = content_in (extend_in v r.trace);
-        told = tells r.trace r.told;
+        reported = reports r.trace r.reported;
         built = (
           refl,
           subst (λ (y : List ℕ). Built s t (content_in (extend_in v r.trace)).levels fs (q ++ y))
@@ -191,16 +191,16 @@ module _ (s : List KindView) (has : EachKindHasAValue s) (known : EachPartIsKnow
   content_run : (u : List ℕ) (n : ℕ) (q : List ℕ) → length u % 4 ≡ 0 → AreBytes u → length u < n
       → length q + length u ≤ l.bytes → Reading s t l (Rest n ∷ dues fs) q
       → Reading s t l (Rest (n - length u) ∷ dues fs) (q ++ u)
-  content_run [] n q units are less room r =
+  content_run [] n q units are less space r =
       subst (λ (x : List ℕ). Reading s t l (Rest (n - 0) ∷ dues fs) x) (sym (append-nil q))
       (subst (λ (m : ℕ). Reading s t l (Rest m ∷ dues fs) q) (all_left n) r)
     where
       all_left : (n : ℕ) → n ≡ n - 0
       all_left n = omega arith
-  content_run (a ∷ []) n q units are less room r = absurd (omega arith)
-  content_run (a ∷ b ∷ []) n q units are less room r = absurd (omega arith)
-  content_run (a ∷ b ∷ c ∷ []) n q units are less room r = absurd (omega arith)
-  content_run (a ∷ b ∷ c ∷ d ∷ v) n q units are less room r =
+  content_run (a ∷ []) n q units are less space r = absurd (omega arith)
+  content_run (a ∷ b ∷ []) n q units are less space r = absurd (omega arith)
+  content_run (a ∷ b ∷ c ∷ []) n q units are less space r = absurd (omega arith)
+  content_run (a ∷ b ∷ c ∷ d ∷ v) n q units are less space r =
       let u : List ℕ = a ∷ b ∷ c ∷ d ∷ [] in
       let bytes : are_bytes u ≡ true = are_bytes_of u (are.0, (are.1.0, (are.1.1.0, (are.1.1.1.0, tt)))) in
       let small : length q ≡ l.bytes → ⊥ = λ e. omega arith in
@@ -212,15 +212,15 @@ module _ (s : List KindView) (has : EachKindHasAValue s) (known : EachPartIsKnow
       subst (λ (m : ℕ). Reading s t l (Rest m ∷ dues fs) (q ++ (a ∷ b ∷ c ∷ d ∷ v))) left
       (subst (λ (x : List ℕ). Reading s t l (Rest (n - 4 - length v) ∷ dues fs) x) (append_assoc q u v) more)
 
-  -- and what a builder was told of them
+  -- and what a builder was reported of them
   pub many_units : (H I : Trace → Type 0) (u : List ℕ) (n : ℕ) (q : List ℕ) → length u % 4 ≡ 0 → are_bytes u ≡ true
       → length u < n → length q + length u ≤ l.bytes
       → ((a : Trace) → H a → I (extend_in u a)) → Sees s t l H (Content n) fs q
       → Sees s t l I (Content (n - length u)) fs (q ++ u)
-  many_units H I u n q units are less room tells r = record {
-    reading = content_run u n q units (bytes_are u are) less room r.reading;
+  many_units H I u n q units are less space reports r = record {
+    reading = content_run u n q units (bytes_are u are) less space r.reading;
     trace = extend_in u r.trace;
-    told = tells r.trace r.told;
+    reported = reports r.trace r.reported;
     built = into_more s t r.trace.levels fs r.trace.content u value.bytes n (n - length u) q units are
         (omega arith) r.built;
   }
@@ -235,7 +235,7 @@ pub whole_content : (s : List KindView) → EachKindHasAValue s → EachPartIsKn
     → are_bytes u ≡ true → n ≤ length u → length u < n + 4 → 0 < n → are_zeros (drop n u) ≡ true
     → length q + length u ≤ l.bytes → ((a : Trace) → H a → I (content_in (extend_in (take n u) a)))
     → Sees s t l H (Content n) fs q → Sees s t l I Next fs (q ++ u)
-whole_content s has known t l fs H I u n q units are most least some zeros room tells r =
+whole_content s has known t l fs H I u n q units are most least some zeros space reports r =
     let m : ℕ = length u - 4 in
     let k : ℕ = n - m in
     let v : List ℕ = take m u in
@@ -244,7 +244,7 @@ whole_content s has known t l fs H I u n q units are most least some zeros room 
     let size : length v ≡ m = omega (arith, length-take m u) in
     let four : length w ≡ 4 = omega (arith, length-drop m u, units, some, most) in
     let J : Trace → Type 0 = λ (b : Trace). (a : Trace) × H a × (b ≡ extend_in v a) in
-    let fits : length q + length v ≤ l.bytes = omega (arith, size, room) in
+    let fits : length q + length v ≤ l.bytes = omega (arith, size, space) in
     let more : Sees s t l J (Content (n - length v)) fs (q ++ v) =
     many_units s has known t l fs H J v n q (omega (arith, size, units))
     (are_bytes_of v (AreBytes-take m u (bytes_are u are))) (omega (arith, size, some, units, least)) fits
@@ -257,13 +257,13 @@ whole_content s has known t l fs H I u n q units are most least some zeros room 
     let same : (a : Trace) → extend_in (take k w) (extend_in v a) ≡ extend_in (take n u) a = λ a.
     ap (λ (c : List ℕ). record { levels = a.levels; content = c })
     (append_assoc a.content v (take k w) ∙ ap (λ (x : List ℕ). a.content ++ x) (sym last)) in
-    let told : (b : Trace) → J b → I (content_in (extend_in (take k w) b)) = λ b j.
+    let reported : (b : Trace) → J b → I (content_in (extend_in (take k w) b)) = λ b j.
     subst (λ (x : Trace). I (content_in (extend_in (take k w) x))) (sym j.2)
-    (subst (λ (x : Trace). I (content_in x)) (sym (same j.0)) (tells j.0 j.1)) in
+    (subst (λ (x : Trace). I (content_in x)) (sym (same j.0)) (reports j.0 j.1)) in
     let full : length (q ++ v) ≡ l.bytes
-    → ⊥ = λ e. omega (arith, e, length-append q v, size, room, units, some, most) in
+    → ⊥ = λ e. omega (arith, e, length-append q v, size, space, units, some, most) in
     let end : Sees s t l I Next fs ((q ++ v) ++ w) =
     last_content s has known t l J I fs (q ++ v) w four (are_bytes_of w (AreBytes-drop m u (bytes_are u are))) full k
-    (omega (arith, parts, least, units)) (omega (arith, most, parts)) zero told here in
+    (omega (arith, parts, least, units)) (omega (arith, most, parts)) zero reported here in
     subst (λ (x : List ℕ). Sees s t l I Next fs x)
     (append_assoc q v w ∙ ap (λ (x : List ℕ). q ++ x) (take-append-drop m u)) end

@@ -24,7 +24,7 @@ use Rattle.xdr_stream.specs.declared.machine.Awaits.TheVariants.{Next, Content, 
 use Rattle.xdr_stream.specs.declared.reader.State.{State}
 use Rattle.xdr_stream.specs.declared.reader.State.TheVariants.{Fresh, Reading, Finished, Failed}
 use Rattle.xdr_stream.specs.declared.whole.Whole.{Whole}
-use Rattle.xdr_stream.proofs.Built.{With, seen_room}
+use Rattle.xdr_stream.proofs.Built.{With, seen_space}
 use Rattle.xdr_stream.proofs.Seeing.{IsNext, next_ready}
 use Rattle.xdr_stream.proofs.Sounding.{known_rest, solid_known}
 use Rattle.xdr_stream.proofs.Taking.{length_some}
@@ -63,14 +63,14 @@ module _ (s : List KindView) (has : EachKindHasAValue s) (known : EachPartIsKnow
       → ((a : Trace) → H a → HasRoom a → I (content_in (extend_in (take w.size (drop 4 bytes)) a)))
       → Sees s t l H Next (stack_of work parents) q
       → Sees s t l I Next (rest_of (left_of work) ∷ onto [] parents) (q ++ take w.all bytes)
-  whole_seen ready d are tells r =
+  whole_seen ready d are reports r =
       let k : KindView = kind_at s d.0 in
       let e : IsWhole k l (length q) bytes w = d.2 in
       let fs : List (List Part) = rest_of (left_of work) ∷ onto [] parents in
       let m : ℕ = w.all - 4 in
       let u : List ℕ = take m (drop 4 bytes) in
       let n : IsNext s l work parents k = next_ready s l work parents d.0 k d.1 refl ready in
-      let small : length q ≡ l.bytes → ⊥ = λ is. omega (arith, is, e.room) in
+      let small : length q ≡ l.bytes → ⊥ = λ is. omega (arith, is, e.space) in
       let begun : Sees s t l H (Content w.size) fs (q ++ word w.size) =
       length_some s has known t l H H work parents q k n w.size e.narrow small r
       (counted_unit (lead_of k) e.first) e.first (e.accepts s) in
@@ -79,15 +79,15 @@ module _ (s : List KindView) (has : EachKindHasAValue s) (known : EachPartIsKnow
       let many : length u ≡ m = omega (arith, length-take m (drop 4 bytes), length-drop 4 bytes, e.there) in
       let first : take w.size u ≡ take w.size (drop 4 bytes) =
       take-take w.size m (drop 4 bytes) (omega (arith, e.least)) in
-      let told : (a : Trace) → With H HasRoom a → I (content_in (extend_in (take w.size u) a)) = λ a h.
-      subst (λ (z : List ℕ). I (content_in (extend_in z a))) (sym first) (tells a h.0 h.1) in
+      let reported : (a : Trace) → With H HasRoom a → I (content_in (extend_in (take w.size u) a)) = λ a h.
+      subst (λ (z : List ℕ). I (content_in (extend_in z a))) (sym first) (reports a h.0 h.1) in
       let seen : Sees s t l I Next fs ((q ++ word w.size) ++ u) =
       whole_content s has known t l fs (With H HasRoom) I u w.size (q ++ word w.size)
       (omega (arith, many, e.units, e.least)) (behind_bytes w.all bytes (omega (arith, e.least)) are)
       (omega (arith, many, e.least)) (omega (arith, many, e.most, e.least)) e.some
       (behind_zeros w.size w.all bytes e.least e.zeros)
-      (omega (arith, length-append q (word w.size), four, many, e.room, e.least)) told
-      (seen_room s t l H (Content w.size) fs (q ++ word w.size) tt begun) in
+      (omega (arith, length-append q (word w.size), four, many, e.space, e.least)) reported
+      (seen_space s t l H (Content w.size) fs (q ++ word w.size) tt begun) in
       let parts : w.all ≡ 4 + m = omega (arith, e.least) in
       let all : word w.size ++ u ≡ take w.all bytes =
       ap (λ (x : List ℕ). x ++ u) e.number ∙ sym (take-add 4 m bytes) ∙ ap (λ (x : ℕ). take x bytes) (sym parts) in

@@ -8,8 +8,8 @@ use Rattle.xdr_types.specs.Outcome.{Outcome}
 use Rattle.xdr_types.specs.declared.kind.KindId.{KindId}
 use Rattle.xdr_types.specs.declared.value.Value.{Value}
 use Rattle.xdr_stream.specs.Trace.{Trace}
-use Rattle.xdr_stream.specs.Values.{Tells}
-use Rattle.xdr_stream.specs.Stands.{Fails, StandsFor}
+use Rattle.xdr_stream.specs.Values.{Reports}
+use Rattle.xdr_stream.specs.Represents.{Fails, RepresentsBytes}
 use Rattle.xdr_stream.specs.declared.fault.DecodeFault.{DecodeFault}
 use Rattle.xdr_stream.specs.declared.fault.Reason.TheVariants.{Truncated}
 use Rattle.xdr_stream.specs.declared.reader.Reader.{Reader}
@@ -17,12 +17,12 @@ use Rattle.xdr_stream.specs.declared.checker.Nothing.{Nothing}
 use Rattle.xdr_stream.specs.declared.values.Values.{Values}
 
 -- a decoder's fields stand for these bytes, all that it was given up to the value's end
-abbrev pub Stands : Reader Values → (b : List ℕ) → Type 0
-Stands r b = StandsFor ⊥ (λ (v : Values) (t : Trace). Tells v t) r b
+abbrev pub Represents : Reader Values → (b : List ℕ) → Type 0
+Represents r b = RepresentsBytes ⊥ (λ (v : Values) (t : Trace). Reports v t) r b
 
 -- a checker's fields stand for these bytes
 abbrev pub Checks : Reader Nothing → (b : List ℕ) → Type 0
-Checks r b = StandsFor ⊤ (λ (n : Nothing) (t : Trace). ⊤) r b
+Checks r b = RepresentsBytes ⊤ (λ (n : Nothing) (t : Trace). ⊤) r b
 
 -- what a fault at their end says of all of the bytes b: they end inside a value, at their count; or they are refused
 abbrev pub EndsWith : List KindView → (kind : ℕ) → Bounds → (b : List ℕ) → DecodeFault → Type 0

@@ -7,7 +7,7 @@ use Rattle.xdr_types.specs.Outcome as outcome
 use Rattle.xdr_types.specs.Outcome.{Outcome}
 use Rattle.xdr_laws.specs.Held.{Holds, node_count, byte_count}
 use Rattle.xdr_stream.specs.Values.{trace_of}
-use Rattle.xdr_stream.specs.Kept.{nodes_in, bytes_kept}
+use Rattle.xdr_stream.specs.Retained.{nodes_in, bytes_retained}
 use Rattle.xdr_stream.specs.declared.frame.Frame.{Frame}
 use Rattle.xdr_stream.specs.declared.holding.Held.{Held}
 use Rattle.xdr_stream.specs.declared.reader.Reader.{Reader}
@@ -53,7 +53,7 @@ pub record IsCount {B : Type 0} (r : Reader B) (nodes bytes : ℕ) (h : Held) : 
 
 -- of a decoder's: its nodes and its bytes of content too
 abbrev pub Counts : Reader Values → Held → Type 0
-Counts r h = IsCount r (nodes_at r.state (nodes_in (trace_of r.built).levels)) (bytes_kept (trace_of r.built)) h
+Counts r h = IsCount r (nodes_at r.state (nodes_in (trace_of r.built).levels)) (bytes_retained (trace_of r.built)) h
 
 -- after the bytes b: with u whole units at most (kinds + 1) (u + 1) nodes, a frame more than the limit on depth, no
 -- more content than bytes, and less than a unit (RFC 4506 section 3)

@@ -19,7 +19,7 @@ abbrev pub number_head : (is_signed : Bool) → (unit : ℕ) → Head
 number_head true x = value.int (signed x)
 number_head false x = value.unsigned x
 
--- each unit of these bytes is told as a number, the first one first
+-- each unit of these bytes is reported as a number, the first one first
 abbrev pub numbers_in : (is_signed : Bool) → (units : List ℕ) → Trace → Trace
 numbers_in s (a ∷ b ∷ c ∷ d ∷ bs) t =
     numbers_in s bs (leaf_in (number_head s (from_be_bytes w32 (a ∷ b ∷ c ∷ d ∷ []))) t)
@@ -30,7 +30,7 @@ abbrev pub hyper_kind : (is_signed : Bool) → KindView
 hyper_kind true = xdr.hyper
 hyper_kind false = xdr.unsigned_hyper
 
--- each two units of these bytes are told as a hyper integer, the first one first
+-- each two units of these bytes are reported as a hyper integer, the first one first
 abbrev pub hypers_in : (is_signed : Bool) → (units : List ℕ) → Trace → Trace
 hypers_in sg (a ∷ b ∷ c ∷ d ∷ e ∷ f ∷ g ∷ h ∷ bs) t =
     hypers_in sg bs (leaf_in (make_wide sg (a ∷ b ∷ c ∷ d ∷ e ∷ f ∷ g ∷ h ∷ [])) t)

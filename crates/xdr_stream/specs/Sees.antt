@@ -94,12 +94,12 @@ BuiltAs kinds kind (Wide signed) t fs q = (t.content ≡ []) × BuiltInto kinds 
 BuiltAs kinds kind (Low signed x) t fs q = (t.content ≡ [])
     × BuiltInto kinds kind t.levels fs (num4 (pos x)) (make_wide signed) 4 q
 
--- the bytes q are read, this comes next, and a builder was told what they make
+-- the bytes q are read, this comes next, and a builder was reported what they make
 pub record Sees (kinds : List KindView) (kind : ℕ) (limits : Bounds) (H : Trace → Type 0) (awaits : Awaits)
     (fs : List (List Part)) (q : List ℕ) : Type 0 where
   pub reading : Reading kinds kind limits (owed awaits fs) q
   pub trace : Trace
-  pub told : H trace
+  pub reported : H trace
   pub built : BuiltAs kinds kind awaits trace fs q
 
 -- what was seen is seen still, when the nodes at work have changed so

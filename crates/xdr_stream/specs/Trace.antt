@@ -16,7 +16,7 @@ pub record Trace : Type 0 where
 abbrev pub level : Head → List Tree → Level
 level h done = record { head = h; done = done }
 
--- what was told before any byte: what stands around the root has no part
+-- what was reported before any byte: what stands around the root has no part
 abbrev pub at_start : Trace
 at_start = record { levels = level value.nothing [] ∷ []; content = [] }
 
@@ -27,18 +27,18 @@ IsMany (value.items n) = ⊤
 IsMany _ = ⊥
 
 -- a node may have one more part
-abbrev pub HasRoomAt : Head → List Tree → Type 0
-HasRoomAt value.fields done = ⊤
-HasRoomAt (value.items n) done = ⊤
-HasRoomAt _ done = done ≡ []
+abbrev pub HasSpaceAt : Head → List Tree → Type 0
+HasSpaceAt value.fields done = ⊤
+HasSpaceAt (value.items n) done = ⊤
+HasSpaceAt _ done = done ≡ []
 
-abbrev pub HasRoomIn : List Level → Type 0
-HasRoomIn [] = ⊥
-HasRoomIn (l ∷ ls) = HasRoomAt l.head l.done
+abbrev pub HasSpaceIn : List Level → Type 0
+HasSpaceIn [] = ⊥
+HasSpaceIn (l ∷ ls) = HasSpaceAt l.head l.done
 
 -- the innermost node may have one more part
 abbrev pub HasRoom : Trace → Type 0
-HasRoom t = HasRoomIn t.levels
+HasRoom t = HasSpaceIn t.levels
 
 abbrev pub IsManyIn : List Level → Type 0
 IsManyIn [] = ⊥
@@ -93,7 +93,7 @@ IsFilled value.fields done = ⊤
 IsFilled _ done = (v : Tree) × (done ≡ v ∷ [])
 
 abbrev pub CanCloseLevels : List Level → Type 0
-CanCloseLevels (l ∷ m ∷ ls) = IsOpen l.head × IsFilled l.head l.done × HasRoomAt m.head m.done
+CanCloseLevels (l ∷ m ∷ ls) = IsOpen l.head × IsFilled l.head l.done × HasSpaceAt m.head m.done
 CanCloseLevels _ = ⊥
 
 -- the innermost node has all its parts, and the one around it may have it

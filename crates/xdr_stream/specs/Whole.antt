@@ -25,7 +25,7 @@ pub record IsWhole (k : KindView) (limits : Bounds) (read : ℕ) (bytes : List �
   pub most : w.all < w.size + 8
   pub units : w.all % 4 ≡ 0
   pub there : w.all ≤ length bytes
-  pub room : w.all + read < limits.bytes
+  pub space : w.all + read < limits.bytes
   pub zeros : are_zeros (take (w.all - (w.size + 4)) (drop (4 + w.size) bytes)) ≡ true
 
 -- the next part is such content

@@ -34,59 +34,59 @@ pub enum Node {
 
 /// Takes the nodes as they are read, a parent before its parts.
 pub trait Build {
-    /// What it was told: the nodes at work with their finished parts, and the content so far.
-    ghost tells: { Self → Trace → Type 0 };
+    /// What it was reported: the nodes at work with their finished parts, and the content so far.
+    ghost reports: { Self → Trace → Type 0 };
 
-    /// Whether what it is told of content takes no memory.
+    /// Whether what it is reported of content takes no memory.
     ghost spares: { Type 0 };
 
     /// A node without parts. The root takes no memory.
     fn leaf(&mut self, leaf: Leaf) -> Result<(), AllocError>
-        ensures told { OnOk result ((t : Trace) → tells self.old t → HasRoom t
-            → tells self.new (leaf_in (head_of_leaf leaf) t)) }
-        ensures granted { (t : Trace) → tells self.old t → IsAlone t → IsOk result };
+        ensures reported { OnOk result ((t : Trace) → reports self.old t → HasRoom t
+            → reports self.new (leaf_in (head_of_leaf leaf) t)) }
+        ensures granted { (t : Trace) → reports self.old t → IsAlone t → IsOk result };
 
     /// Numbers of one unit each, signed or not, one after another.
     fn numbers(&mut self, signed: bool, units: &[u8]) -> Result<(), AllocError>
         requires { length units.now % 4 ≡ 0 }
-        ensures { OnOk result ((t : Trace) → tells self.old t → TakesMany t
-            → tells self.new (numbers_in signed units.now t)) };
+        ensures { OnOk result ((t : Trace) → reports self.old t → TakesMany t
+            → reports self.new (numbers_in signed units.now t)) };
 
     /// Hyper integers, signed or not, one after another.
     fn hypers(&mut self, signed: bool, units: &[u8]) -> Result<(), AllocError>
         requires { length units.now % 8 ≡ 0 }
-        ensures { OnOk result ((t : Trace) → tells self.old t → TakesMany t
-            → tells self.new (hypers_in signed units.now t)) };
+        ensures { OnOk result ((t : Trace) → reports self.old t → TakesMany t
+            → reports self.new (hypers_in signed units.now t)) };
 
     /// A node whose parts come next.
     fn open(&mut self, node: Node) -> Result<(), AllocError>
-        ensures { OnOk result ((t : Trace) → tells self.old t → tells self.new (open_in (head_of_node node) t)) };
+        ensures { OnOk result ((t : Trace) → reports self.old t → reports self.new (open_in (head_of_node node) t)) };
 
     /// The end of the node that was opened last.
     fn close(&mut self) -> Result<(), AllocError>
-        ensures { OnOk result ((t : Trace) → tells self.old t → CanClose t → tells self.new (close_in t)) };
+        ensures { OnOk result ((t : Trace) → reports self.old t → CanClose t → reports self.new (close_in t)) };
 
     /// Bytes of content.
     fn extend(&mut self, bytes: &[u8]) -> Result<(), AllocError>
-        ensures told { OnOk result ((t : Trace) → tells self.old t → tells self.new (extend_in bytes.now t)) }
+        ensures reported { OnOk result ((t : Trace) → reports self.old t → reports self.new (extend_in bytes.now t)) }
         ensures granted { spares → IsOk result };
 
     /// The end of the content, which makes a node without parts.
     fn content(&mut self) -> Result<(), AllocError>
-        ensures told { OnOk result ((t : Trace) → tells self.old t → HasRoom t → tells self.new (content_in t)) }
+        ensures reported { OnOk result ((t : Trace) → reports self.old t → HasRoom t → reports self.new (content_in t)) }
         ensures granted { spares → IsOk result };
 
     /// Bytes of content and its end, which make a node without parts.
     fn whole(&mut self, bytes: &[u8]) -> Result<(), AllocError>
-        ensures told { OnOk result ((t : Trace) → tells self.old t → HasRoom t
-            → tells self.new (content_in (extend_in bytes.now t))) }
+        ensures reported { OnOk result ((t : Trace) → reports self.old t → HasRoom t
+            → reports self.new (content_in (extend_in bytes.now t))) }
         ensures granted { spares → IsOk result };
 
     /// Gives back the memory that holds nothing.
     fn trim(&mut self)
-        ensures { (t : Trace) → tells self.old t → tells self.new t };
+        ensures { (t : Trace) → reports self.old t → reports self.new t };
 
     /// Lets all of it go, as before any byte. It takes no memory.
     fn clear(&mut self)
-        ensures { tells self.new at_start };
+        ensures { reports self.new at_start };
 }

@@ -14,7 +14,7 @@ use xdr_types::{KindId, Limits, Schema};
 pub struct Nothing;
 
 impl Build for Nothing {
-    ghost tells = { λ _ _. ⊤ };
+    ghost reports = { λ _ _. ⊤ };
 
     ghost spares = { ⊤ };
 
@@ -69,7 +69,7 @@ pub fn check<'s>(
     limits: Limits,
 ) -> Reader<'s, Nothing>
     requires { kind.place < length schema.now.kinds }
-    ensures stands { Checks result [] }
+    ensures represents { Checks result [] }
     ensures settings { IsStarted result schema.now kind limits }
     ensures open { GoesOn result.state }
 {

@@ -1,7 +1,7 @@
 //! Bytes in pieces as a value, with no input kept but an unfinished unit.
 ghost use Rattle.std.specs.Prelude.{◌≡◌, ◌<◌, ◌≤◌, ℕ, List, [], length, take, Err, IfErr, IsOk};
 ghost use Rattle.xdr_stream.specs.Held.{GoesOn};
-ghost use Rattle.xdr_stream.specs.Finish.{Stands, Finishes, IsStarted};
+ghost use Rattle.xdr_stream.specs.Finish.{Represents, Finishes, IsStarted};
 ghost use Rattle.xdr_stream.specs.declared.fault.Reason.TheVariants.{Truncated, NoMemory};
 ghost use Rattle.xdr_stream.specs.declared.reader.State.TheVariants.{Failed, Finished};
 
@@ -21,7 +21,7 @@ pub fn start<'s>(
     limits: Limits,
 ) -> Reader<'s, Values>
     requires { kind.place < length schema.now.kinds }
-    ensures stands { Stands result [] }
+    ensures represents { Represents result [] }
     ensures settings { IsStarted result schema.now kind limits }
     ensures open { GoesOn result.state }
 {
@@ -32,8 +32,8 @@ pub fn start<'s>(
 /// `Truncated` at the count of bytes given. Before any `feed` it answers as after an empty piece. It takes no memory.
 /// The reader's fields stand for the bytes that it was given.
 pub fn finish<'s>(reader: Reader<'s, Values>) -> Result<Value, DecodeFault>
-    requires given { ∥ ((b : List ℕ) × Stands reader b) ∥₁ }
-    ensures answer { (b : List ℕ) → Stands reader.entry b
+    requires given { ∥ ((b : List ℕ) × Represents reader b) ∥₁ }
+    ensures answer { (b : List ℕ) → Represents reader.entry b
         → Finishes reader.entry.schema.now.kinds reader.entry.kind.place reader.entry.limits b result }
     ensures for_ever { (f : DecodeFault) → reader.entry.state ≡ Failed f → result ≡ Err f }
     ensures whole { reader.entry.state ≡ Finished → IsOk result }

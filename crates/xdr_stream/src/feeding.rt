@@ -7,7 +7,7 @@ ghost use Rattle.xdr_stream.specs.Sees.{Sees, IsReady, Ends, reason_of};
 ghost use Rattle.xdr_stream.specs.Live.{IsLive};
 ghost use Rattle.xdr_stream.specs.Sound.{IsAwaited};
 ghost use Rattle.xdr_stream.specs.Spared.{Spares};
-ghost use Rattle.xdr_stream.specs.Stands.{StandsFor, IsAwake, IsWaiting, IsSame, Answers, taken, used_of};
+ghost use Rattle.xdr_stream.specs.Represents.{RepresentsBytes, IsAwake, IsWaiting, IsSame, Answers, taken, used_of};
 ghost use Rattle.xdr_stream.specs.Run.{IsHypers};
 ghost use Rattle.xdr_stream.specs.declared.machine.Awaits.TheVariants.{Next, Content, Wide};
 ghost use Rattle.xdr_stream.specs.declared.reader.State.TheVariants.{Fresh, Reading, Finished, Failed};
@@ -23,24 +23,24 @@ use crate::unit::take_unit;
 use crate::whole::unit_at;
 
 /// How many bytes of whole units are there: within what is left to read, the piece and the limit.
-pub fn units_there(left: usize, there: usize, room: usize) -> usize
+pub fn units_there(left: usize, there: usize, space: usize) -> usize
     ensures units { result % 4 ≡ 0 }
     ensures left { result ≤ left }
     ensures there { result ≤ there }
-    ensures room { result ≤ room }
+    ensures space { result ≤ space }
 {
-    let most = left.min(there).min(room);
+    let most = left.min(there).min(space);
     most - most % 4
 }
 
 // How many bytes of hyper integers are there: within what is left to read and the piece, and below the limit.
-fn hypers_there(left: usize, there: usize, room: usize) -> usize
+fn hypers_there(left: usize, there: usize, space: usize) -> usize
     ensures units { result % 8 ≡ 0 }
     ensures left { result ≤ left }
     ensures there { result ≤ there }
-    ensures room { 0 < result → result < room }
+    ensures space { 0 < result → result < space }
 {
-    let most = left.min(there).min(room.saturating_sub(1));
+    let most = left.min(there).min(space.saturating_sub(1));
     most - most % 8
 }
 
@@ -55,10 +55,10 @@ impl<'s, B: Build + Drop> Reader<'s, B> {
     #[inline(always)]
     pub(crate) fn settle(&mut self, awaits: Awaits)
         requires { self.old.state ≡ Fresh }
-        ensures stands { (q : List ℕ) → length q ≡ self.old.read → self.old.pending ≡ 0 → IsLive awaits
-            → Sees self.old.schema.now.kinds self.old.kind.place self.old.limits (B.tells self.old.built) awaits
+        ensures represents { (q : List ℕ) → length q ≡ self.old.read → self.old.pending ≡ 0 → IsLive awaits
+            → Sees self.old.schema.now.kinds self.old.kind.place self.old.limits (B.reports self.old.built) awaits
             (stack_of self.old.work self.old.parents.items) q
-            → StandsFor B.spares B.tells self.new q }
+            → RepresentsBytes B.spares B.reports self.new q }
         ensures awake { IsAwake self.new.state }
         ensures pending { self.new.pending ≡ self.old.pending }
         ensures same { IsSame self.old self.new }
@@ -84,11 +84,11 @@ impl<'s, B: Build + Drop> Reader<'s, B> {
     // The value is whole: nothing but it is held.
     #[inline(never)]
     fn end(&mut self)
-        ensures stands { (q : List ℕ) → length q ≡ self.old.read
+        ensures represents { (q : List ℕ) → length q ≡ self.old.read
             → stack_of self.old.work self.old.parents.items ≡ [] ∷ []
-            → Sees self.old.schema.now.kinds self.old.kind.place self.old.limits (B.tells self.old.built) Next
+            → Sees self.old.schema.now.kinds self.old.kind.place self.old.limits (B.reports self.old.built) Next
             (stack_of self.old.work self.old.parents.items) q
-            → StandsFor B.spares B.tells self.new q }
+            → RepresentsBytes B.spares B.reports self.new q }
         ensures awake { IsAwake self.new.state }
         ensures pending { self.new.pending ≡ self.old.pending }
         ensures same { IsSame self.old self.new }
@@ -102,11 +102,11 @@ impl<'s, B: Build + Drop> Reader<'s, B> {
     #[inline(always)]
     fn go_on(&mut self, awaits: Awaits)
         requires { IsAwaited self.old.schema.now.kinds (left_of self.old.work) awaits }
-        ensures stands { (q : List ℕ) → length q ≡ self.old.read → self.old.pending ≡ 0
-            → Sees self.old.schema.now.kinds self.old.kind.place self.old.limits (B.tells self.old.built) awaits
+        ensures represents { (q : List ℕ) → length q ≡ self.old.read → self.old.pending ≡ 0
+            → Sees self.old.schema.now.kinds self.old.kind.place self.old.limits (B.reports self.old.built) awaits
             (stack_of self.old.work self.old.parents.items) q
             → IsReady self.old.schema.now.kinds self.old.limits awaits (stack_of self.old.work self.old.parents.items)
-            → StandsFor B.spares B.tells self.new q }
+            → RepresentsBytes B.spares B.reports self.new q }
         ensures awake { IsAwake self.new.state }
         ensures pending { self.new.pending ≡ self.old.pending }
         ensures same { IsSame self.old self.new }
@@ -120,12 +120,12 @@ impl<'s, B: Build + Drop> Reader<'s, B> {
 
     // Refuses what comes after the units that are read, and lets go of what is held.
     pub(crate) fn fail(&mut self, why: Reason)
-        ensures stands { (b : List ℕ)
+        ensures represents { (b : List ℕ)
             → ((rest : List ℕ) → Ends self.old.schema.now.kinds self.old.kind.place self.old.limits why
             (b ++ rest) self.old.read)
             → self.old.read ≤ length b
             → Spares B.spares (kind_at self.old.schema.now.kinds self.old.kind.place) why
-            → StandsFor B.spares B.tells self.new b }
+            → RepresentsBytes B.spares B.reports self.new b }
         ensures awake { IsAwake self.new.state }
         ensures pending { self.new.pending ≡ self.old.pending }
         ensures same { IsSame self.old self.new }
@@ -139,12 +139,12 @@ impl<'s, B: Build + Drop> Reader<'s, B> {
     #[inline(always)]
     pub(crate) fn take(&mut self, awaits: Awaits, unit: &[u8; 4])
         requires { IsAwaited self.old.schema.now.kinds (left_of self.old.work) awaits }
-        ensures stands { (q : List ℕ) → length q ≡ self.old.read → self.old.pending ≡ 0
-            → Sees self.old.schema.now.kinds self.old.kind.place self.old.limits (B.tells self.old.built) awaits
+        ensures represents { (q : List ℕ) → length q ≡ self.old.read → self.old.pending ≡ 0
+            → Sees self.old.schema.now.kinds self.old.kind.place self.old.limits (B.reports self.old.built) awaits
             (stack_of self.old.work self.old.parents.items) q
             → IsReady self.old.schema.now.kinds self.old.limits awaits (stack_of self.old.work self.old.parents.items)
             → (length q ≡ self.old.limits.bytes → ⊥)
-            → StandsFor B.spares B.tells self.new (q ++ unit.now) }
+            → RepresentsBytes B.spares B.reports self.new (q ++ unit.now) }
         ensures awake { IsAwake self.new.state }
         ensures pending { self.new.pending ≡ self.old.pending }
         ensures same { IsSame self.old self.new }
@@ -170,8 +170,8 @@ impl<'s, B: Build + Drop> Reader<'s, B> {
 
     fn take_byte(&mut self, awaits: Awaits, byte: u8)
         requires { IsAwaited self.old.schema.now.kinds (left_of self.old.work) awaits }
-        ensures stands { (b : List ℕ) → self.old.state ≡ Reading awaits → StandsFor B.spares B.tells self.old b
-            → StandsFor B.spares B.tells self.new (b ++ byte ∷ []) }
+        ensures represents { (b : List ℕ) → self.old.state ≡ Reading awaits → RepresentsBytes B.spares B.reports self.old b
+            → RepresentsBytes B.spares B.reports self.new (b ++ byte ∷ []) }
         ensures awake { self.old.state ≡ Reading awaits → IsAwake self.new.state }
         ensures same { IsSame self.old self.new }
     {
@@ -189,8 +189,8 @@ impl<'s, B: Build + Drop> Reader<'s, B> {
     fn take_units(&mut self, awaits: Awaits, bytes: &[u8]) -> usize
         requires there { 4 ≤ length bytes.now }
         requires awaited { IsAwaited self.old.schema.now.kinds (left_of self.old.work) awaits }
-        ensures stands { (b : List ℕ) → self.old.state ≡ Reading awaits → self.old.pending ≡ 0
-            → StandsFor B.spares B.tells self.old b → StandsFor B.spares B.tells self.new (b ++ take result bytes.now) }
+        ensures represents { (b : List ℕ) → self.old.state ≡ Reading awaits → self.old.pending ≡ 0
+            → RepresentsBytes B.spares B.reports self.old b → RepresentsBytes B.spares B.reports self.new (b ++ take result bytes.now) }
         ensures some { 0 < result }
         ensures within { result ≤ length bytes.now }
         ensures awake { self.old.state ≡ Reading awaits → IsAwake self.new.state }
@@ -200,8 +200,8 @@ impl<'s, B: Build + Drop> Reader<'s, B> {
             return self.take_next(bytes);
         }
         if let Awaits::Content(left) = awaits {
-            let room = (self.limits.bytes() as usize).saturating_sub(self.read);
-            let n = units_there(left as usize + 3, bytes.len(), room);
+            let space = (self.limits.bytes() as usize).saturating_sub(self.read);
+            let n = units_there(left as usize + 3, bytes.len(), space);
             if n > 4 {
                 self.take_content(left - (n - 4) as u32, n, bytes);
                 return n;
@@ -216,8 +216,8 @@ impl<'s, B: Build + Drop> Reader<'s, B> {
     fn take_first(&mut self, awaits: Awaits, bytes: &[u8]) -> usize
         requires there { 4 ≤ length bytes.now }
         requires awaited { IsAwaited self.old.schema.now.kinds (left_of self.old.work) awaits }
-        ensures stands { (b : List ℕ) → self.old.state ≡ Reading awaits → self.old.pending ≡ 0
-            → StandsFor B.spares B.tells self.old b → StandsFor B.spares B.tells self.new (b ++ take result bytes.now) }
+        ensures represents { (b : List ℕ) → self.old.state ≡ Reading awaits → self.old.pending ≡ 0
+            → RepresentsBytes B.spares B.reports self.old b → RepresentsBytes B.spares B.reports self.new (b ++ take result bytes.now) }
         ensures some { 0 < result }
         ensures within { result ≤ length bytes.now }
         ensures awake { IsAwake self.new.state }
@@ -225,8 +225,8 @@ impl<'s, B: Build + Drop> Reader<'s, B> {
     {
         if let Awaits::Wide(signed) = awaits {
             if let Some(run) = hypers_due(self.schema, self.work, signed) {
-                let room = (self.limits.bytes() as usize).saturating_sub(self.read);
-                let n = hypers_there(run.left as usize * 8, bytes.len(), room);
+                let space = (self.limits.bytes() as usize).saturating_sub(self.read);
+                let n = hypers_there(run.left as usize * 8, bytes.len(), space);
                 if n > 0 && self.parents.len() < self.limits.depth() as usize {
                     self.take_hypers(run, run.left - (n / 8) as u32, n, bytes);
                     return n;
@@ -245,9 +245,9 @@ impl<'s, B: Build + Drop> Reader<'s, B> {
         requires some { 4 < n }
         requires last { 0 < last }
         requires there { n ≤ length bytes.now }
-        ensures stands { (b : List ℕ) (left : ℕ) → left + 4 ≡ last + n → self.old.state ≡ Reading (Content left)
+        ensures represents { (b : List ℕ) (left : ℕ) → left + 4 ≡ last + n → self.old.state ≡ Reading (Content left)
             → self.old.pending ≡ 0 → n + self.old.read ≤ self.old.limits.bytes
-            → StandsFor B.spares B.tells self.old b → StandsFor B.spares B.tells self.new (b ++ take n bytes.now) }
+            → RepresentsBytes B.spares B.reports self.old b → RepresentsBytes B.spares B.reports self.new (b ++ take n bytes.now) }
         ensures awake { IsAwake self.new.state }
         ensures same { IsSame self.old self.new }
     {
@@ -272,9 +272,9 @@ impl<'s, B: Build + Drop> Reader<'s, B> {
         requires due { IsHypers self.old.schema.now.kinds self.old.work run }
         requires left { 8 * run.left ≡ 8 * last + n }
         requires deep { length self.old.parents.items < self.old.limits.depth }
-        ensures stands { (b : List ℕ) → self.old.state ≡ Reading (Wide run.signed)
+        ensures represents { (b : List ℕ) → self.old.state ≡ Reading (Wide run.signed)
             → self.old.pending ≡ 0 → n + self.old.read < self.old.limits.bytes
-            → StandsFor B.spares B.tells self.old b → StandsFor B.spares B.tells self.new (b ++ take n bytes.now) }
+            → RepresentsBytes B.spares B.reports self.old b → RepresentsBytes B.spares B.reports self.new (b ++ take n bytes.now) }
         ensures awake { IsAwake self.new.state }
         ensures same { IsSame self.old self.new }
     {
@@ -295,7 +295,7 @@ impl<'s, B: Build + Drop> Reader<'s, B> {
 
     // Begins what takes no byte, where nothing has begun.
     fn wake(&mut self)
-        ensures stands { (b : List ℕ) → StandsFor B.spares B.tells self.old b → StandsFor B.spares B.tells self.new b }
+        ensures represents { (b : List ℕ) → RepresentsBytes B.spares B.reports self.old b → RepresentsBytes B.spares B.reports self.new b }
         ensures awake { IsAwake self.new.state }
         ensures same { IsSame self.old self.new }
     {
@@ -306,8 +306,8 @@ impl<'s, B: Build + Drop> Reader<'s, B> {
 
     // Takes a piece up to the value's end or a refusal, and tells how many bytes.
     fn take_piece(&mut self, piece: &[u8]) -> usize
-        ensures stands { (b : List ℕ) → StandsFor B.spares B.tells self.old b
-            → StandsFor B.spares B.tells self.new (b ++ take result piece.now) }
+        ensures represents { (b : List ℕ) → RepresentsBytes B.spares B.reports self.old b
+            → RepresentsBytes B.spares B.reports self.new (b ++ take result piece.now) }
         ensures within { result ≤ length piece.now }
         ensures whole { IsWaiting self.new.state → result ≡ length piece.now }
         ensures awake { IsAwake self.new.state }
@@ -334,9 +334,9 @@ impl<'s, B: Build + Drop> Reader<'s, B> {
     /// value goes on, at the node that is too deep, at the limit on bytes, or where memory was refused; it has taken
     /// the whole piece, and comes again at each later call.
     pub fn feed(&mut self, piece: &[u8]) -> Result<Progress, DecodeFault>
-        ensures stands { (b : List ℕ) → StandsFor B.spares B.tells self.old b
-            → StandsFor B.spares B.tells self.new (b ++ taken piece.now result) }
-        ensures answer { (b : List ℕ) → StandsFor B.spares B.tells self.old b
+        ensures represents { (b : List ℕ) → RepresentsBytes B.spares B.reports self.old b
+            → RepresentsBytes B.spares B.reports self.new (b ++ taken piece.now result) }
+        ensures answer { (b : List ℕ) → RepresentsBytes B.spares B.reports self.old b
             → Answers self.old.schema.now.kinds self.old.kind.place self.old.limits b piece.now result }
         ensures used { IfOk result (λ p. used_of p ≤ length piece.now) }
         ensures more { IfOk result (λ p. p ≡ More → IsWaiting self.new.state) }
@@ -344,7 +344,7 @@ impl<'s, B: Build + Drop> Reader<'s, B> {
         ensures again { self.old.state ≡ Finished → result ≡ Ok (Done 0) }
         ensures failed { IfErr result (λ f. self.new.state ≡ Failed f) }
         ensures for_ever { (f : DecodeFault) → self.old.state ≡ Failed f → result ≡ Err f }
-        ensures spared { (b : List ℕ) → StandsFor B.spares B.tells self.old b
+        ensures spared { (b : List ℕ) → RepresentsBytes B.spares B.reports self.old b
             → IfErr result (λ f. Spares B.spares (kind_at self.old.schema.now.kinds self.old.kind.place) f.why) }
         ensures same { IsSame self.old self.new }
     {

@@ -2,7 +2,7 @@
 ghost use Rattle.std.specs.Prelude.{◌<◌, [], length};
 ghost use Rattle.xdr_stream.specs.Finish.{IsStarted};
 ghost use Rattle.xdr_stream.specs.Held.{GoesOn};
-ghost use Rattle.xdr_stream.specs.Stands.{StandsFor};
+ghost use Rattle.xdr_stream.specs.Represents.{RepresentsBytes};
 ghost use Rattle.xdr_stream.specs.Trace.{at_start};
 
 use crate::build::Build;
@@ -12,7 +12,7 @@ use std::alloc::Global;
 use xdr_stack::Stack;
 use xdr_types::{KindId, Limits, Schema};
 
-/// A reader that has been given no byte, with a builder that was told nothing.
+/// A reader that has been given no byte, with a builder that was reported nothing.
 pub(crate) fn fresh<'s, B: Build + Drop>(
     alloc: Global,
     schema: &'s Schema,
@@ -21,7 +21,7 @@ pub(crate) fn fresh<'s, B: Build + Drop>(
     built: B,
 ) -> Reader<'s, B>
     requires { kind.place < length schema.now.kinds }
-    ensures stands { B.tells built at_start → StandsFor B.spares B.tells result [] }
+    ensures represents { B.reports built at_start → RepresentsBytes B.spares B.reports result [] }
     ensures settings { IsStarted result schema.now kind limits }
     ensures open { GoesOn result.state }
 {

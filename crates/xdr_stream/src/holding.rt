@@ -1,7 +1,7 @@
 //! What a reader holds.
 ghost use Rattle.std.specs.Prelude.{◌≡◌, ◌+◌, ◌%◌, ◌^◌, ◌<◌, ◌≤◌, ℕ, List, length};
-ghost use Rattle.xdr_stream.specs.Finish.{Stands, Checks};
-ghost use Rattle.xdr_stream.specs.Stands.{IsWaiting};
+ghost use Rattle.xdr_stream.specs.Finish.{Represents, Checks};
+ghost use Rattle.xdr_stream.specs.Represents.{IsWaiting};
 ghost use Rattle.xdr_stream.specs.Held.{Counts, IsCount, IsDue, IsWithin, IsWhole, GoesOn, frames_at, nodes_at};
 ghost use Rattle.xdr_stream.specs.Held.{pending_at};
 ghost use Rattle.xdr_stream.specs.declared.reader.State.TheVariants.{Finished};
@@ -40,7 +40,7 @@ fn frames_of<B: Drop>(reader: &Reader<'_, B>) -> usize
 // How many bytes of an unfinished unit are there.
 fn pending_of<B: Drop>(reader: &Reader<'_, B>) -> usize
     ensures count { result ≡ pending_at reader.now.state reader.now.pending }
-    ensures room { length reader.now.unit ≡ 4 }
+    ensures space { length reader.now.unit ≡ 4 }
 {
     match reader.state {
         State::Fresh => reader.pending,
@@ -65,14 +65,14 @@ fn nodes_of(reader: &Reader<'_, Values>) -> usize
 
 /// How much a decoder holds: after `Done` the value's nodes and content, after a refusal nothing. It takes no memory.
 pub fn held_by_decoder(reader: &Reader<'_, Values>) -> Held
-    ensures counts { (b : List ℕ) → Stands reader.now b → Counts reader.now result }
-    ensures bounds { (b : List ℕ) → Stands reader.now b
+    ensures counts { (b : List ℕ) → Represents reader.now b → Counts reader.now result }
+    ensures bounds { (b : List ℕ) → Represents reader.now b
         → IsWithin reader.now.schema.now.kinds reader.now.limits b result }
-    ensures pending { (b : List ℕ) → Stands reader.now b
+    ensures pending { (b : List ℕ) → Represents reader.now b
         → GoesOn reader.now.state → result.pending ≡ length b % 4 }
-    ensures due { (b : List ℕ) → IsWaiting reader.now.state → Stands reader.now b
+    ensures due { (b : List ℕ) → IsWaiting reader.now.state → Represents reader.now b
         → IsDue reader.now.schema.now.kinds reader.now.kind.place b result }
-    ensures whole { (b : List ℕ) → reader.now.state ≡ Finished → Stands reader.now b
+    ensures whole { (b : List ℕ) → reader.now.state ≡ Finished → Represents reader.now b
         → IsWhole reader.now.schema.now.kinds reader.now.kind.place reader.now.limits b result }
 {
     let _known = reader.schema.len();
@@ -80,7 +80,7 @@ pub fn held_by_decoder(reader: &Reader<'_, Values>) -> Held
     Held {
         frames: frames_of(reader),
         nodes: nodes_of(reader),
-        bytes: reader.built.kept,
+        bytes: reader.built.retained,
         pending: pending_of(reader),
     }
 }

@@ -73,12 +73,12 @@ pub(crate) fn end_nodes<'s, B: Build>(
     built: &mut B,
 ) -> Result<bool, AllocError>
     ensures follows { IfOk result (λ whole. (kinds : List KindView)
-        → Follows kinds (B.tells built.old) Next (stack_of work.old parents.old.items) (B.tells built.new) Next
+        → Follows kinds (B.reports built.old) Next (stack_of work.old parents.old.items) (B.reports built.new) Next
         (stack_of work.new parents.new.items)
         × EndsAs whole (stack_of work.new parents.new.items)) }
     ensures next { IfOk result (λ whole. whole ≡ false → HasNext (left_of work.new)) }
     ensures spared { IfErr result (λ _. (kinds : List KindView) (limits : Bounds)
-        → SparesSeen B.spares kinds limits (B.tells built.old) Next (stack_of work.old parents.old.items) NoMemory) }
+        → SparesSeen B.spares kinds limits (B.reports built.old) Next (stack_of work.old parents.old.items) NoMemory) }
     ensures solid { (kinds : List KindView) → AreAllSolid kinds (stack_of work.old parents.old.items)
         → AreAllSolid kinds (stack_of work.new parents.new.items) }
 {
@@ -102,11 +102,11 @@ pub(crate) fn pass_void<'s, B: Build>(
 ) -> Result<(), Trouble>
     requires { IsSound schema.now.kinds (stack_of work.old parents.now.items) }
     ensures follows { OnOk result ((kind : ℕ) (q : List ℕ)
-        → Sees schema.now.kinds kind limits (B.tells built.old) Next (stack_of work.old parents.now.items) q
-        → Sees schema.now.kinds kind limits (B.tells built.new) Next (stack_of work.new parents.now.items) q) }
-    ensures deep { IfErr result (GoesDeep schema.now.kinds limits (B.tells built.old)
+        → Sees schema.now.kinds kind limits (B.reports built.old) Next (stack_of work.old parents.now.items) q
+        → Sees schema.now.kinds kind limits (B.reports built.new) Next (stack_of work.new parents.now.items) q) }
+    ensures deep { IfErr result (GoesDeep schema.now.kinds limits (B.reports built.old)
         (stack_of work.old parents.now.items)) }
-    ensures spared { IfErr result (λ e. SparesSeen B.spares schema.now.kinds limits (B.tells built.old) Next
+    ensures spared { IfErr result (λ e. SparesSeen B.spares schema.now.kinds limits (B.reports built.old) Next
         (stack_of work.old parents.now.items) (reason_of e)) }
     ensures solid { OnOk result (AreAllSolid schema.now.kinds (stack_of work.new parents.now.items)) }
     ensures stays { IfErr result (λ _. work.new ≡ work.old) }
@@ -137,7 +137,7 @@ pub(crate) fn open<'s, B: Build>(
     ensures stack { OnOk result (stack_of work.new parents.new.items ≡ left_of frame.entry ∷ rest_of (left_of work.old)
         ∷ onto [] parents.old.items) }
     ensures work { OnOk result (left_of work.new ≡ left_of frame.entry) }
-    ensures told { OnOk result ((t : Trace) → B.tells built.old t → B.tells built.new (open_in (head_of_node node) t)) }
+    ensures reported { OnOk result ((t : Trace) → B.reports built.old t → B.reports built.new (open_in (head_of_node node) t)) }
     ensures stays { IfErr result (λ _. stack_of work.new parents.new.items ≡ stack_of work.old parents.old.items) }
 {
     built.open(node)?;
@@ -158,12 +158,12 @@ pub(crate) fn begin<'s, B: Build>(
     requires solid { AreAllSolid schema.now.kinds (stack_of work.old parents.old.items) }
     requires next { HasNext (left_of work.old) }
     ensures follows { IfOk result (λ a. (kind : ℕ) (q : List ℕ)
-        → Sees schema.now.kinds kind limits (B.tells built.old) Next (stack_of work.old parents.old.items) q
-        → Sees schema.now.kinds kind limits (B.tells built.new) a (stack_of work.new parents.new.items) q) }
+        → Sees schema.now.kinds kind limits (B.reports built.old) Next (stack_of work.old parents.old.items) q
+        → Sees schema.now.kinds kind limits (B.reports built.new) a (stack_of work.new parents.new.items) q) }
     ensures ready { IfOk result (λ a. IsReady schema.now.kinds limits a (stack_of work.new parents.new.items)) }
-    ensures deep { IfErr result (GoesDeep schema.now.kinds limits (B.tells built.old)
+    ensures deep { IfErr result (GoesDeep schema.now.kinds limits (B.reports built.old)
         (stack_of work.old parents.old.items)) }
-    ensures spared { IfErr result (λ e. SparesSeen B.spares schema.now.kinds limits (B.tells built.old) Next
+    ensures spared { IfErr result (λ e. SparesSeen B.spares schema.now.kinds limits (B.reports built.old) Next
         (stack_of work.old parents.old.items) (reason_of e)) }
     ensures solid { AreAllSolid schema.now.kinds (stack_of work.new parents.new.items) }
 {
@@ -210,13 +210,13 @@ pub(crate) fn take_number<'s, B: Build>(
     requires sound { IsSound schema.now.kinds (stack_of work.old parents.old.items) }
     requires starts { Starts schema.now.kinds (left_of work.old) }
     ensures live { IfOk result IsLive }
-    ensures taken { IfOk result (λ a. TakesUnit schema.now.kinds (B.tells built.old) Next
-        (stack_of work.old parents.old.items) (B.tells built.new) a (stack_of work.new parents.new.items)
+    ensures taken { IfOk result (λ a. TakesUnit schema.now.kinds (B.reports built.old) Next
+        (stack_of work.old parents.old.items) (B.reports built.new) a (stack_of work.new parents.new.items)
         (num4 (pos number))) }
-    ensures refused { IfErr result (RefusesUnit schema.now.kinds (B.tells built.old) Next
+    ensures refused { IfErr result (RefusesUnit schema.now.kinds (B.reports built.old) Next
         (stack_of work.old parents.old.items) (num4 (pos number))) }
     ensures spared { IfErr result (λ e. (limits : Bounds) → SparesSeen B.spares schema.now.kinds limits
-        (B.tells built.old) Next (stack_of work.old parents.old.items) e) }
+        (B.reports built.old) Next (stack_of work.old parents.old.items) e) }
     ensures sound { IsSound schema.now.kinds (stack_of work.new parents.new.items) }
 {
     let _known = schema.len();
@@ -286,11 +286,11 @@ pub(crate) fn settle<'s, B: Build>(
 ) -> Result<Option<Awaits>, Trouble>
     requires { IsSound schema.now.kinds (stack_of work.old parents.old.items) }
     ensures follows { IfOk result (λ o. (kind : ℕ) (q : List ℕ)
-        → Sees schema.now.kinds kind limits (B.tells built.old) Next (stack_of work.old parents.old.items) q
-        → Settles schema.now.kinds kind limits (B.tells built.new) (stack_of work.new parents.new.items) q o) }
-    ensures deep { IfErr result (GoesDeep schema.now.kinds limits (B.tells built.old)
+        → Sees schema.now.kinds kind limits (B.reports built.old) Next (stack_of work.old parents.old.items) q
+        → Settles schema.now.kinds kind limits (B.reports built.new) (stack_of work.new parents.new.items) q o) }
+    ensures deep { IfErr result (GoesDeep schema.now.kinds limits (B.reports built.old)
         (stack_of work.old parents.old.items)) }
-    ensures spared { IfErr result (λ e. SparesSeen B.spares schema.now.kinds limits (B.tells built.old) Next
+    ensures spared { IfErr result (λ e. SparesSeen B.spares schema.now.kinds limits (B.reports built.old) Next
         (stack_of work.old parents.old.items) (reason_of e)) }
     ensures sound { IsSound schema.now.kinds (stack_of work.new parents.new.items) }
     ensures awaited { IfOk result (λ o. IfSome o (IsAwaited schema.now.kinds (left_of work.new))) }

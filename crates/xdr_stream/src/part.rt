@@ -4,7 +4,7 @@ ghost use Rattle.xdr_stream.specs.Frames.{left_of, rest_of, stack_of};
 ghost use Rattle.xdr_stream.specs.Sees.{Sees};
 ghost use Rattle.xdr_stream.specs.Live.{IsLive};
 ghost use Rattle.xdr_stream.specs.Sound.{IsAwaited, Starts};
-ghost use Rattle.xdr_stream.specs.Stands.{StandsFor, IsAwake, IsSame};
+ghost use Rattle.xdr_stream.specs.Represents.{RepresentsBytes, IsAwake, IsSame};
 ghost use Rattle.xdr_stream.specs.Run.{IsRun};
 ghost use Rattle.xdr_stream.specs.Whole.{IsWholeAt};
 ghost use Rattle.xdr_stream.specs.declared.machine.Awaits.TheVariants.{Next};
@@ -26,8 +26,8 @@ impl<'s, B: Build + Drop> Reader<'s, B> {
     pub(crate) fn take_next(&mut self, bytes: &[u8]) -> usize
         requires there { 4 ≤ length bytes.now }
         requires awaited { IsAwaited self.old.schema.now.kinds (left_of self.old.work) Next }
-        ensures stands { (b : List ℕ) → self.old.state ≡ Reading Next → self.old.pending ≡ 0
-            → StandsFor B.spares B.tells self.old b → StandsFor B.spares B.tells self.new (b ++ take result bytes.now) }
+        ensures represents { (b : List ℕ) → self.old.state ≡ Reading Next → self.old.pending ≡ 0
+            → RepresentsBytes B.spares B.reports self.old b → RepresentsBytes B.spares B.reports self.new (b ++ take result bytes.now) }
         ensures some { 0 < result }
         ensures within { result ≤ length bytes.now }
         ensures awake { self.old.state ≡ Reading Next → IsAwake self.new.state }
@@ -42,8 +42,8 @@ impl<'s, B: Build + Drop> Reader<'s, B> {
             return whole.all;
         }
         if let Some(run) = run_due(self.schema, self.work) {
-            let room = (self.limits.bytes() as usize).saturating_sub(self.read);
-            let n = units_there(run.left as usize * 4, bytes.len(), room);
+            let space = (self.limits.bytes() as usize).saturating_sub(self.read);
+            let n = units_there(run.left as usize * 4, bytes.len(), space);
             if n > 4 {
                 self.take_run(run, run.left - ((n / 4) as u32 - 1), n, bytes);
                 return n;
@@ -58,9 +58,9 @@ impl<'s, B: Build + Drop> Reader<'s, B> {
         requires due { IsWholeAt self.old.schema.now.kinds (left_of self.old.work) self.old.limits self.old.read
             bytes.now whole }
         requires starts { Starts self.old.schema.now.kinds (rest_of (left_of self.old.work)) }
-        ensures stands { (b : List ℕ) → self.old.state ≡ Reading Next → self.old.pending ≡ 0
-            → StandsFor B.spares B.tells self.old b
-            → StandsFor B.spares B.tells self.new (b ++ take whole.all bytes.now) }
+        ensures represents { (b : List ℕ) → self.old.state ≡ Reading Next → self.old.pending ≡ 0
+            → RepresentsBytes B.spares B.reports self.old b
+            → RepresentsBytes B.spares B.reports self.new (b ++ take whole.all bytes.now) }
         ensures awake { self.old.state ≡ Reading Next → IsAwake self.new.state }
         ensures same { IsSame self.old self.new }
     {
@@ -80,9 +80,9 @@ impl<'s, B: Build + Drop> Reader<'s, B> {
     fn take_arm(&mut self, whole: Whole, bytes: &[u8])
         requires { IsWholeAt self.old.schema.now.kinds (left_of self.old.work) self.old.limits self.old.read
             bytes.now whole }
-        ensures stands { (b : List ℕ) → self.old.state ≡ Reading Next → self.old.pending ≡ 0
-            → StandsFor B.spares B.tells self.old b
-            → StandsFor B.spares B.tells self.new (b ++ take whole.all bytes.now) }
+        ensures represents { (b : List ℕ) → self.old.state ≡ Reading Next → self.old.pending ≡ 0
+            → RepresentsBytes B.spares B.reports self.old b
+            → RepresentsBytes B.spares B.reports self.new (b ++ take whole.all bytes.now) }
         ensures awake { IsAwake self.new.state }
         ensures same { IsSame self.old self.new }
     {
@@ -109,9 +109,9 @@ impl<'s, B: Build + Drop> Reader<'s, B> {
         requires last { 0 < last }
         requires due { IsRun self.old.schema.now.kinds self.old.work run }
         requires left { 4 * run.left + 4 ≡ 4 * last + n }
-        ensures stands { (b : List ℕ) → self.old.state ≡ Reading Next
+        ensures represents { (b : List ℕ) → self.old.state ≡ Reading Next
             → self.old.pending ≡ 0 → n + self.old.read ≤ self.old.limits.bytes
-            → StandsFor B.spares B.tells self.old b → StandsFor B.spares B.tells self.new (b ++ take n bytes.now) }
+            → RepresentsBytes B.spares B.reports self.old b → RepresentsBytes B.spares B.reports self.new (b ++ take n bytes.now) }
         ensures awake { IsAwake self.new.state }
         ensures same { IsSame self.old self.new }
     {
@@ -136,8 +136,8 @@ impl<'s, B: Build + Drop> Reader<'s, B> {
     fn take_part(&mut self, bytes: &[u8]) -> usize
         requires there { 4 ≤ length bytes.now }
         requires awaited { IsAwaited self.old.schema.now.kinds (left_of self.old.work) Next }
-        ensures stands { (b : List ℕ) → self.old.state ≡ Reading Next → self.old.pending ≡ 0
-            → StandsFor B.spares B.tells self.old b → StandsFor B.spares B.tells self.new (b ++ take result bytes.now) }
+        ensures represents { (b : List ℕ) → self.old.state ≡ Reading Next → self.old.pending ≡ 0
+            → RepresentsBytes B.spares B.reports self.old b → RepresentsBytes B.spares B.reports self.new (b ++ take result bytes.now) }
         ensures some { 0 < result }
         ensures within { result ≤ length bytes.now }
         ensures awake { IsAwake self.new.state }
@@ -171,10 +171,10 @@ impl<'s, B: Build + Drop> Reader<'s, B> {
     #[inline(always)]
     fn take_whole(&mut self, awaits: Awaits, bytes: &[u8]) -> usize
         requires { self.old.state ≡ Fresh }
-        ensures stands { (q : List ℕ) → length q ≡ self.old.read → self.old.pending ≡ 0 → IsLive awaits
-            → Sees self.old.schema.now.kinds self.old.kind.place self.old.limits (B.tells self.old.built) awaits
+        ensures represents { (q : List ℕ) → length q ≡ self.old.read → self.old.pending ≡ 0 → IsLive awaits
+            → Sees self.old.schema.now.kinds self.old.kind.place self.old.limits (B.reports self.old.built) awaits
             (stack_of self.old.work self.old.parents.items) q
-            → StandsFor B.spares B.tells self.new (q ++ take result bytes.now) }
+            → RepresentsBytes B.spares B.reports self.new (q ++ take result bytes.now) }
         ensures within { result ≤ length bytes.now }
         ensures awake { IsAwake self.new.state }
         ensures same { IsSame self.old self.new }
@@ -182,8 +182,8 @@ impl<'s, B: Build + Drop> Reader<'s, B> {
         let _known = self.schema.len();
         let _range = self.limits.depth();
         if let Awaits::Content(size) = awaits {
-            let room = (self.limits.bytes() as usize).saturating_sub(self.read);
-            let n = whole_there(size, bytes.len(), room);
+            let space = (self.limits.bytes() as usize).saturating_sub(self.read);
+            let n = whole_there(size, bytes.len(), space);
             if n > 0 && are_zeros(&bytes[size as usize..n]) {
                 match self.built.whole(&bytes[..size as usize]) {
                     Ok(()) => {

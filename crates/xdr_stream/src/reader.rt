@@ -43,7 +43,7 @@ pub struct Reader<'s, B: Drop> {
     pub built: B,
     /// How many bytes of whole units are read.
     pub read: usize,
-    /// Room for the bytes of an unfinished unit.
+    /// Space for the bytes of an unfinished unit.
     pub unit: [u8; 4],
     /// How many of them are there.
     pub pending: usize,

@@ -45,12 +45,12 @@ pub(crate) fn take_unit<'s, B: Build>(
     requires awaited { IsAwaited schema.now.kinds (left_of work.old) awaits }
     ensures size { length unit.now ≡ 4 }
     ensures live { IfOk result IsLive }
-    ensures taken { IfOk result (λ a. TakesUnit schema.now.kinds (B.tells built.old) awaits
-        (stack_of work.old parents.old.items) (B.tells built.new) a (stack_of work.new parents.new.items) unit.now) }
-    ensures refused { IfErr result (RefusesUnit schema.now.kinds (B.tells built.old) awaits
+    ensures taken { IfOk result (λ a. TakesUnit schema.now.kinds (B.reports built.old) awaits
+        (stack_of work.old parents.old.items) (B.reports built.new) a (stack_of work.new parents.new.items) unit.now) }
+    ensures refused { IfErr result (RefusesUnit schema.now.kinds (B.reports built.old) awaits
         (stack_of work.old parents.old.items) unit.now) }
     ensures spared { IfErr result (λ e. (limits : Bounds) → SparesSeen B.spares schema.now.kinds limits
-        (B.tells built.old) awaits (stack_of work.old parents.old.items) e) }
+        (B.reports built.old) awaits (stack_of work.old parents.old.items) e) }
     ensures sound { IsSound schema.now.kinds (stack_of work.new parents.new.items) }
 {
     let number = number_of(unit);

@@ -6,9 +6,9 @@ ghost use Rattle.xdr_types.specs.View.{tree};
 ghost use Rattle.xdr_stream.specs.Nodes.{head_of_leaf, head_of_node};
 ghost use Rattle.xdr_stream.specs.Runs.{number_head};
 ghost use Rattle.xdr_stream.specs.Sees.{make_wide};
-ghost use Rattle.xdr_stream.specs.Trace.{level as told, added, IsOpen, IsFilled};
+ghost use Rattle.xdr_stream.specs.Trace.{level as reported, added, IsOpen, IsFilled};
 ghost use Rattle.xdr_stream.specs.Trace.{Trace, HasRoom, at_start, leaf_in, content_in, extend_in};
-ghost use Rattle.xdr_stream.specs.Values.{Tells, level_of, closed_tree, leaf_tree};
+ghost use Rattle.xdr_stream.specs.Values.{Reports, level_of, closed_tree, leaf_tree};
 ghost use Rattle.xdr_stream.specs.Spared.{IsRoot};
 
 use crate::build::{Build, Leaf, Node};
@@ -16,8 +16,8 @@ use std::alloc::{AllocError, Global};
 use xdr_stack::Blocks;
 use xdr_types::Value;
 
-/// The most fields that a structure has room for when it begins, so that a node takes little memory before its bytes.
-const MOST_ROOM: usize = 16;
+/// The most fields that a structure has space for when it begins, so that a node takes little memory before its bytes.
+const MOST_SPACE: usize = 16;
 
 /// How many nodes at work lie in a block, so that a block of them is below a kibibyte.
 const BLOCK: usize = 16;
@@ -42,12 +42,12 @@ pub struct Values {
     /// How many nodes there are, finished or at work.
     pub nodes: usize,
     /// How many bytes of content.
-    pub kept: usize,
+    pub retained: usize,
 }
 
 // One more finished part of any node.
 fn add_any(alloc: Global, level: &mut Level, value: Value) -> Result<(), AllocError>
-    ensures added { OnOk result (level_of level.new ≡ told (level_of level.old).head
+    ensures added { OnOk result (level_of level.new ≡ reported (level_of level.old).head
         (added (level_of level.old).head (level_of level.old).done (tree value))) }
     ensures granted { IsRoot level.old → IsOk result }
 {
@@ -64,7 +64,7 @@ fn add_any(alloc: Global, level: &mut Level, value: Value) -> Result<(), AllocEr
 // The same, where it is mostly an item.
 #[inline(always)]
 fn add_item(alloc: Global, level: &mut Level, value: Value) -> Result<(), AllocError>
-    ensures { OnOk result (level_of level.new ≡ told (level_of level.old).head
+    ensures { OnOk result (level_of level.new ≡ reported (level_of level.old).head
         (added (level_of level.old).head (level_of level.old).done (tree value))) }
 {
     if let Level::Items { items, .. } = level {
@@ -77,7 +77,7 @@ fn add_item(alloc: Global, level: &mut Level, value: Value) -> Result<(), AllocE
 // The same, where it is mostly a field or an item.
 #[inline(always)]
 fn add(alloc: Global, level: &mut Level, value: Value) -> Result<(), AllocError>
-    ensures { OnOk result (level_of level.new ≡ told (level_of level.old).head
+    ensures { OnOk result (level_of level.new ≡ reported (level_of level.old).head
         (added (level_of level.old).head (level_of level.old).done (tree value))) }
 {
     if let Level::Fields(items) = level {
@@ -109,8 +109,8 @@ fn closed(level: Level) -> Value
 
 /// The value of the root, where it has one.
 pub fn root_of(work: Level) -> Option<Value>
-    ensures { MatchOption result ((v : Tree) → level_of work ≡ told nothing (v ∷ []) → ⊥)
-        (λ x. level_of work ≡ told nothing (tree x ∷ [])) }
+    ensures { MatchOption result ((v : Tree) → level_of work ≡ reported nothing (v ∷ []) → ⊥)
+        (λ x. level_of work ≡ reported nothing (tree x ∷ [])) }
 {
     match work {
         Level::Root(part) => part,
@@ -193,11 +193,11 @@ fn hyper_at(bytes: &[u8], at: usize) -> u64
     ])
 }
 
-// A node that has begun. A structure has room for its fields, or the first of many; an array has none for the items
+// A node that has begun. A structure has space for its fields, or the first of many; an array has none for the items
 // that bytes declare.
 #[inline(always)]
 fn begun(alloc: Global, node: Node) -> Result<Level, AllocError>
-    ensures { IfOk result (λ l. level_of l ≡ told (head_of_node node) []) }
+    ensures { IfOk result (λ l. level_of l ≡ reported (head_of_node node) []) }
 {
     match node {
         Node::Items(count) => Ok(Level::Items {
@@ -205,8 +205,8 @@ fn begun(alloc: Global, node: Node) -> Result<Level, AllocError>
             items: Vec::new(alloc),
         }),
         Node::Fields(count) => {
-            let room = count.min(MOST_ROOM);
-            Ok(Level::Fields(Vec::with_capacity(alloc, room)?))
+            let space = count.min(MOST_SPACE);
+            Ok(Level::Fields(Vec::with_capacity(alloc, space)?))
         }
         Node::Tag(tag) => Ok(Level::Choice { tag, part: None }),
         Node::Present => Ok(Level::Maybe(None)),
@@ -214,9 +214,9 @@ fn begun(alloc: Global, node: Node) -> Result<Level, AllocError>
 }
 
 impl Values {
-    /// A builder that was told nothing. It takes no memory.
+    /// A builder that was reported nothing. It takes no memory.
     pub(crate) fn new(alloc: Global) -> Values
-        ensures { Tells result at_start }
+        ensures { Reports result at_start }
     {
         Values {
             alloc,
@@ -224,15 +224,15 @@ impl Values {
             parents: Blocks::new(alloc),
             content: Vec::new(alloc),
             nodes: 0,
-            kept: 0,
+            retained: 0,
         }
     }
 
     // Bytes of content behind others, and its end.
     #[inline(never)]
     fn end(&mut self, bytes: &[u8]) -> Result<(), AllocError>
-        ensures { OnOk result ((t : Trace) → Tells self.old t → HasRoom t
-            → Tells self.new (content_in (extend_in bytes.now t))) }
+        ensures { OnOk result ((t : Trace) → Reports self.old t → HasRoom t
+            → Reports self.new (content_in (extend_in bytes.now t))) }
     {
         self.extend(bytes)?;
         self.content()?;
@@ -242,8 +242,8 @@ impl Values {
     // A node without parts, where it is mostly an item.
     #[inline(always)]
     fn item(&mut self, leaf: Leaf) -> Result<(), AllocError>
-        ensures { OnOk result ((t : Trace) → Tells self.old t → HasRoom t
-            → Tells self.new (leaf_in (head_of_leaf leaf) t)) }
+        ensures { OnOk result ((t : Trace) → Reports self.old t → HasRoom t
+            → Reports self.new (leaf_in (head_of_leaf leaf) t)) }
     {
         add_item(self.alloc, &mut self.work, value_of(self.alloc, leaf))?;
         self.nodes = self.nodes.saturating_add(1);
@@ -252,7 +252,7 @@ impl Values {
 }
 
 impl Build for Values {
-    ghost tells = { λ b t. Tells b t };
+    ghost reports = { λ b t. Reports b t };
 
     ghost spares = { ⊥ };
 
@@ -311,7 +311,7 @@ impl Build for Values {
             self.content.reserve(bytes.len().saturating_add(4))?;
         }
         self.content.extend_from_slice(bytes)?;
-        self.kept = self.kept.saturating_add(bytes.len());
+        self.retained = self.retained.saturating_add(bytes.len());
         Ok(())
     }
 
@@ -332,7 +332,7 @@ impl Build for Values {
         let copy = Vec::from_slice(self.alloc, bytes)?;
         add(self.alloc, &mut self.work, content_value(copy))?;
         self.nodes = self.nodes.saturating_add(1);
-        self.kept = self.kept.saturating_add(bytes.len());
+        self.retained = self.retained.saturating_add(bytes.len());
         Ok(())
     }
 

@@ -22,15 +22,15 @@ pub struct Whole {
 // How many bytes some bytes of content take with their padding, where these are there, and the limit is not reached
 // before their end; else 0.
 #[inline(always)]
-pub(crate) fn whole_there(size: u32, there: usize, room: usize) -> usize
+pub(crate) fn whole_there(size: u32, there: usize, space: usize) -> usize
     ensures units { result % 4 ≡ 0 }
     ensures size { 0 < result → (size ≤ result) × (result < size + 4) }
     ensures there { result ≤ there }
-    ensures room { result ≤ room }
+    ensures space { result ≤ space }
 {
     let most = size as usize + 3;
     let whole = most - most % 4;
-    if whole <= there && whole <= room {
+    if whole <= there && whole <= space {
         whole
     } else {
         0
@@ -71,8 +71,8 @@ fn whole_of(kind: &Kind, limits: Limits, read: usize, bytes: &[u8]) -> Option<Wh
     if number == 0 || number > most {
         return None;
     }
-    let room = (limits.bytes() as usize).saturating_sub(read);
-    let padded = whole_there(number, bytes.len() - 4, room.saturating_sub(5));
+    let space = (limits.bytes() as usize).saturating_sub(read);
+    let padded = whole_there(number, bytes.len() - 4, space.saturating_sub(5));
     let size = number as usize;
     if padded == 0 || !are_zeros(&bytes[4 + size..4 + padded]) {
         return None;

@@ -92,7 +92,7 @@ comment_again (a ∷ b ∷ inside) rest h = rw h.0 (comment_again (b ∷ inside)
 pub record IsPiece (text : List ℕ) (y : Option Lexeme × List ℕ) : Type 0 where
   pub piece : Piece
   pub spelled : text ≡ spelling piece y.1
-  pub stands : MayPrecede piece y.1
+  pub represents : MayPrecede piece y.1
   pub token : y.0 ≡ token_of piece
 
 with_piece : (text : List ℕ) (x y : Option Lexeme × List ℕ) → IsPiece text x → Some x ≡ Some y → IsPiece text y
@@ -204,7 +204,7 @@ numeral_found n bs y e is ends =
     with_piece bs _ y (record {
       piece = Constant (take n bs) v.0;
       spelled = sym (take-append-drop n bs);
-      stands = (is, v.1, ends);
+      represents = (is, v.1, ends);
       token = refl;
     }) v.2
 
@@ -234,7 +234,7 @@ unfolding piece_at
 piece_found [] y e = absurd cc
 piece_found (b ∷ bs) y e =
     elim (chosen (is_space b) _ _ _ e) [
-      | inl s ↦ with_piece (b ∷ bs) _ y (record { piece = Blank b; spelled = refl; stands = s.0; token = refl }) s.1
+      | inl s ↦ with_piece (b ∷ bs) _ y (record { piece = Blank b; spelled = refl; represents = s.0; token = refl }) s.1
       | inr e1 ↦ elim (chosen (eqb b 47) _ _ _ e1.1) [
         | inl s ↦
             let r = bind_some (comment_at bs) _ y s.1 in
@@ -245,7 +245,7 @@ piece_found (b ∷ bs) y e =
               piece = Comment c.inside;
               spelled = ap (λ (x : ℕ). x ∷ bs) slash
                   ∙ ap (λ (x : List ℕ). 47 ∷ x) c.all;
-              stands = c.no_end;
+              represents = c.no_end;
               token = refl;
             }) r.2
         | inr e2 ↦ elim (chosen (is_letter b) _ _ _ e2.1) [
@@ -255,7 +255,7 @@ piece_found (b ∷ bs) y e =
               (record {
                 piece = Run (take n (b ∷ bs));
                 spelled = sym (take-append-drop n (b ∷ bs));
-                stands = (word_begins b bs s.0, run_is (b ∷ bs), run_ends (b ∷ bs));
+                represents = (word_begins b bs s.0, run_is (b ∷ bs), run_ends (b ∷ bs));
                 token = refl;
               }) s.1
           | inr e3 ↦ elim (chosen (is_digit b) _ _ _ e3.1) [
@@ -268,7 +268,7 @@ piece_found (b ∷ bs) y e =
                   (record {
                     piece = Single m.0;
                     spelled = ap (λ (x : ℕ). x ∷ bs) (mark_found marks b m.0 m.1);
-                    stands = tt;
+                    represents = tt;
                     token = refl;
                   }) m.2
             ]

@@ -26,14 +26,14 @@ longer (Single m) rest h = omega arith
 pub shorter : (bs : List ℕ) (y : Option Lexeme × List ℕ) → piece_at bs ≡ Some y → length y.1 < length bs
 shorter bs y e =
     let p = piece_found bs y e in
-    rw p.spelled (longer p.piece y.1 p.stands)
+    rw p.spelled (longer p.piece y.1 p.represents)
 
 -- a piece in front of tokens
 pub more_tokens : (bs : List ℕ) (y : Option Lexeme × List ℕ) → piece_at bs ≡ Some y → (ts : List Lexeme) → Tokens y.1 ts
     → Tokens bs (with_token y.0 ts)
 more_tokens bs y e ts t =
     let p = piece_found bs y e in
-    (p.piece ∷ t.0, (y.1, ts, p.spelled, p.stands, ap (λ (x : Option Lexeme). with_token x ts) p.token, t.1))
+    (p.piece ∷ t.0, (y.1, ts, p.spelled, p.represents, ap (λ (x : Option Lexeme). with_token x ts) p.token, t.1))
 
 -- the tokens begin with the piece's
 pub less_tokens : (bs : List ℕ) (y : Option Lexeme × List ℕ) → 0 < length bs → piece_at bs ≡ Some y → (ts : List Lexeme)
@@ -87,7 +87,7 @@ pub fault_within : (e : Fault) (rest text : List ℕ) → length rest ≤ length
 fault_within fault.NoMemory rest text le h = tt
 fault_within (fault.Refused w n) rest text le h = (h.0, h.1, h.2, omega (arith, h.3))
 
-pub kept : (front : List Lexeme) (t : Option Lexeme) (ts : List Lexeme)
+pub retained : (front : List Lexeme) (t : Option Lexeme) (ts : List Lexeme)
     → front ++ with_token t ts ≡ (front ++ with_token t []) ++ ts
-kept front None ts = simp append_assoc
-kept front (Some t) ts = simp append_assoc
+retained front None ts = simp append_assoc
+retained front (Some t) ts = simp append_assoc

@@ -102,9 +102,9 @@ pub same_or_not : (a b : ℕ) (r : Bool) → eqb a b ≡ r → (a ≡ b) ⊎ (a 
 same_or_not a b true e = inl (eqb-true a b e)
 same_or_not a b false e = inr (λ h. eqb-false a b e h)
 
-kept : (hs : List (Option ℕ)) (place next q m : ℕ) → given hs place ≡ None → given hs q ≡ Some m
+retained : (hs : List (Option ℕ)) (place next q m : ℕ) → given hs place ≡ None → given hs q ≡ Some m
     → given (one_more hs place next) q ≡ Some m
-kept hs place next q m none e =
+retained hs place next q m none e =
     elim (same_or_not q place (eqb q place) refl) [
       | inl same ↦ absurd (none-some m (sym none ∙ ap (given hs) (sym same) ∙ e))
       | inr other ↦ get_or-set_other hs place q (Some next) None other ∙ e
@@ -136,10 +136,10 @@ one_more-proper kinds hs place next within proper below none asks q m e =
           (subst (λ z. Asks kinds (IsBelow (given (one_more hs place next)) next) (kind_at kinds z)) (sym here.0)
           (asks-mono kinds (IsMarked hs) (IsBelow (given (one_more hs place next)) next)
           (λ p marked. let found = number hs p marked in
-          (found.0, kept hs place next p found.0 none found.1, below p found.0 found.1))
+          (found.0, retained hs place next p found.0 none found.1, below p found.0 found.1))
           (kind_at kinds place) asks))
       | inr there ↦ asks-mono kinds (IsBelow (given hs) m) (IsBelow (given (one_more hs place next)) m)
-          (λ p b. (b.0, kept hs place next p b.0 none b.1, b.2)) (kind_at kinds q) (proper q m there)
+          (λ p b. (b.0, retained hs place next p b.0 none b.1, b.2)) (kind_at kinds q) (proper q m there)
     ]
 
 -- one number fewer is missing

@@ -35,12 +35,12 @@ first-fits kinds p ps qs t vs ws qe we h =
     (subst (λ (z : List Part). fit kinds z (node t.0 t.1 vs) ≡ true) qe
     (subst (λ (z : Values). fit kinds qs z ≡ true) we h))
 
-pub told-step : (kinds : List KindView) (p : Part) (ps qs : List Part) (t : Tree) (vs ws : Values)
+pub reported-step : (kinds : List KindView) (p : Part) (ps qs : List Part) (t : Tree) (vs ws : Values)
     (out new all : List ℕ) → qs ≡ p ∷ ps → ws ≡ node t.0 t.1 vs
     → out ++ spelling kinds qs ws ≡ all → new ≡ out ++ bytes_of kinds p.kind t → new ++ spelling kinds ps vs ≡ all
-told-step kinds p ps qs t vs ws out new all qe we told e =
+reported-step kinds p ps qs t vs ws out new all qe we reported e =
     ap (λ z. z ++ spelling kinds ps vs) e ∙ append_assoc out (bytes_of kinds p.kind t) (spelling kinds ps vs)
-    ∙ ap (λ z. out ++ spelling kinds (p ∷ ps) z) (sym we) ∙ ap (λ z. out ++ spelling kinds z ws) (sym qe) ∙ told
+    ∙ ap (λ z. out ++ spelling kinds (p ∷ ps) z) (sym we) ∙ ap (λ z. out ++ spelling kinds z ws) (sym qe) ∙ reported
 
 -- the part of a choice
 pub chosen-fits : (kinds : List KindView) (o : Option Part) (p : Part) (t : Tree) → o ≡ Some p

@@ -138,16 +138,16 @@ module _ (kinds : List KindView) where
       let ks = both (is_legal kinds f i && fit kinds (parts f i) inside) (fit kinds ps more) k in
       let gs = both (is_legal kinds f g) (fit kinds (parts f g) inner) hs.0 in
       let js = both (is_legal kinds f i) (fit kinds (parts f i) inside) ks.0 in
-      let told = sym (regroup (own f g) (spelling kinds (parts f g) inner) (spelling kinds ps rest) x) ∙ e
+      let reported = sym (regroup (own f g) (spelling kinds (parts f g) inner) (spelling kinds ps rest) x) ∙ e
       ∙ regroup (own f i) (spelling kinds (parts f i) inside) (spelling kinds ps more) y in
       let heads = one_head f g i (spelling kinds (parts f g) inner ++ (spelling kinds ps rest ++ x))
-      (spelling kinds (parts f i) inside ++ (spelling kinds ps more ++ y)) gs.0 js.0 told in
+      (spelling kinds (parts f i) inside ++ (spelling kinds ps more ++ y)) gs.0 js.0 reported in
       let fit_inside : fit kinds (parts f g) inside ≡ true =
       subst (λ (j : Head). fit kinds (parts f j) inside ≡ true) (sym heads.0) js.1 in
-      let told_inside = heads.1 ∙ ap (λ (j : Head). spelling kinds (parts f j) inside ++ (spelling kinds ps more ++ y))
+      let reported_inside = heads.1 ∙ ap (λ (j : Head). spelling kinds (parts f j) inside ++ (spelling kinds ps more ++ y))
       (sym heads.0) in
       let inners = one_each (parts f g) inner inside (spelling kinds ps rest ++ x)
-      (spelling kinds ps more ++ y) gs.1 fit_inside told_inside in
+      (spelling kinds ps more ++ y) gs.1 fit_inside reported_inside in
       let rests = one_each ps rest more x y hs.1 ks.1 inners.1 in
       let alike : value.node g inner rest ≡ value.node i inside more = cc (heads.0, inners.0, rests.0) in
       (alike, rests.1)
@@ -163,14 +163,14 @@ module _ (kinds : List KindView) where
       let f = kind_at kinds place in
       let hs = both (is_legal kinds f t.0) (fit kinds (parts f t.0) t.1) h in
       let ks = both (is_legal kinds f u.0) (fit kinds (parts f u.0) u.1) k in
-      let told = sym (append_assoc (own f t.0) (spelling kinds (parts f t.0) t.1) x) ∙ e
+      let reported = sym (append_assoc (own f t.0) (spelling kinds (parts f t.0) t.1) x) ∙ e
       ∙ append_assoc (own f u.0) (spelling kinds (parts f u.0) u.1) y in
       let heads = one_head f t.0 u.0 (spelling kinds (parts f t.0) t.1 ++ x)
-      (spelling kinds (parts f u.0) u.1 ++ y) hs.0 ks.0 told in
+      (spelling kinds (parts f u.0) u.1 ++ y) hs.0 ks.0 reported in
       let fit_inside : fit kinds (parts f t.0) u.1 ≡ true =
       subst (λ (j : Head). fit kinds (parts f j) u.1 ≡ true) (sym heads.0) ks.1 in
-      let told_inside = heads.1 ∙ ap (λ (j : Head). spelling kinds (parts f j) u.1 ++ y) (sym heads.0) in
-      let inners = one_each (parts f t.0) t.1 u.1 x y hs.1 fit_inside told_inside in (
+      let reported_inside = heads.1 ∙ ap (λ (j : Head). spelling kinds (parts f j) u.1 ++ y) (sym heads.0) in
+      let inners = one_each (parts f t.0) t.1 u.1 x y hs.1 fit_inside reported_inside in (
         ap (λ (j : Head). let v : Tree = (j, t.1) in v) heads.0
             ∙ ap (λ (vs : Values). let v : Tree = (u.0, vs) in v) inners.0,
         inners.1,

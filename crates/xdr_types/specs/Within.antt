@@ -26,6 +26,6 @@ IsWithin limits t bs = (depth t ≤ limits.depth) × (length bs ≤ limits.bytes
 abbrev pub FitsWithin : List KindView → ℕ → Bounds → Tree → Type 0
 FitsWithin kinds place limits t = Fits kinds place t × IsWithin limits t (bytes_of kinds place t)
 
--- what is left of room for bytes after n of them, where they have room
+-- what is left of space for bytes after n of them, where they have space
 abbrev pub IsLeft : ℕ → ℕ → Option ℕ → Type 0
-IsLeft room n left = MatchOption left (room < n) (λ (r : ℕ). r + n ≡ room)
+IsLeft space n left = MatchOption left (space < n) (λ (r : ℕ). r + n ≡ space)

@@ -25,68 +25,68 @@ pub fn size(schema: &Schema, kind: KindId, value: &Value, limits: Limits) -> u32
     }
 }
 
-/// Whether there is room for the bytes of a value of the kind.
-pub fn has_room(schema: &Schema, id: KindId, value: &Value, room: u32) -> bool
+/// Whether there is space for the bytes of a value of the kind.
+pub fn has_room(schema: &Schema, id: KindId, value: &Value, space: u32) -> bool
     requires { fits schema.now.kinds id.place (tree value.now) ≡ true }
-    ensures { IsTrue result ↔ length (bytes_of schema.now.kinds id.place (tree value.now)) ≤ room }
+    ensures { IsTrue result ↔ length (bytes_of schema.now.kinds id.place (tree value.now)) ≤ space }
 {
-    match left_after(schema, id, value, room) {
+    match left_after(schema, id, value, space) {
         Some(_) => true,
         None => false,
     }
 }
 
 #[cycle(left)]
-fn left_after(schema: &Schema, id: KindId, value: &Value, room: u32) -> Option<u32>
+fn left_after(schema: &Schema, id: KindId, value: &Value, space: u32) -> Option<u32>
     requires { fits schema.now.kinds id.place (tree value.now) ≡ true }
-    ensures { IsLeft room (length (bytes_of schema.now.kinds id.place (tree value.now))) result }
+    ensures { IsLeft space (length (bytes_of schema.now.kinds id.place (tree value.now))) result }
 {
     let kind = schema.kind(id);
-    let room = left_after_own(kind, value, room)?;
-    left_after_inner(schema, kind, value, room)
+    let space = left_after_own(kind, value, space)?;
+    left_after_inner(schema, kind, value, space)
 }
 
-fn left_after_own(kind: &Kind, value: &Value, room: u32) -> Option<u32>
-    ensures { IsLeft room (length (own (kind_view kind.now) (tree value.now).0)) result }
+fn left_after_own(kind: &Kind, value: &Value, space: u32) -> Option<u32>
+    ensures { IsLeft space (length (own (kind_view kind.now) (tree value.now).0)) result }
 {
     match value {
-        Value::Int(_) => take(room, 4),
-        Value::Unsigned(_) => take(room, 4),
-        Value::Hyper(_) => take(room, 8),
-        Value::UnsignedHyper(_) => take(room, 8),
-        Value::Bool(_) => take(room, 4),
-        Value::Numbered(_) => take(room, 4),
+        Value::Int(_) => take(space, 4),
+        Value::Unsigned(_) => take(space, 4),
+        Value::Hyper(_) => take(space, 8),
+        Value::UnsignedHyper(_) => take(space, 8),
+        Value::Bool(_) => take(space, 4),
+        Value::Numbered(_) => take(space, 4),
         Value::Bytes(bytes) => match kind {
-            Kind::Opaque { size: _ } => take_padded(room, bytes),
-            _ => take_counted(room, bytes),
+            Kind::Opaque { size: _ } => take_padded(space, bytes),
+            _ => take_counted(space, bytes),
         },
         Value::List(_) => match kind {
-            Kind::Fixed { item: _, size: _ } => take(room, 0),
-            _ => take(room, 4),
+            Kind::Fixed { item: _, size: _ } => take(space, 0),
+            _ => take(space, 4),
         },
-        Value::Group(_) => take(room, 0),
-        Value::Choice { tag: _, part: _ } => take(room, 4),
-        Value::Maybe(None) => take(room, 4),
-        Value::Maybe(Some(_)) => take(room, 4),
-        Value::Nothing => take(room, 0),
+        Value::Group(_) => take(space, 0),
+        Value::Choice { tag: _, part: _ } => take(space, 4),
+        Value::Maybe(None) => take(space, 4),
+        Value::Maybe(Some(_)) => take(space, 4),
+        Value::Nothing => take(space, 0),
     }
 }
 
 #[cycle(left)]
-fn left_after_inner(schema: &Schema, kind: &Kind, value: &Value, room: u32) -> Option<u32>
+fn left_after_inner(schema: &Schema, kind: &Kind, value: &Value, space: u32) -> Option<u32>
     requires { fit schema.now.kinds (parts (kind_view kind.now) (tree value.now).0) (tree value.now).1 ≡ true }
-    ensures { IsLeft room
+    ensures { IsLeft space
         (length (spelling schema.now.kinds (parts (kind_view kind.now) (tree value.now).0) (tree value.now).1)) result }
 {
     match (kind, value) {
         (Kind::Fixed { item, size: _ }, Value::List(items)) => left_after_items(
-            schema, *item, items, room,
+            schema, *item, items, space,
         ),
         (Kind::UpTo { item, max: _ }, Value::List(items)) => left_after_items(
-            schema, *item, items, room,
+            schema, *item, items, space,
         ),
         (Kind::Structure { fields }, Value::Group(parts)) => left_after_parts(
-            schema, fields, parts, room,
+            schema, fields, parts, space,
         ),
         (
             Kind::Choice {
@@ -97,24 +97,24 @@ fn left_after_inner(schema: &Schema, kind: &Kind, value: &Value, room: u32) -> O
             Value::Choice { tag, part },
         ) => {
             match part_under(arms, other, *tag) {
-                Some(member) => left_after(schema, member.kind, part, room),
-                None => take(room, 0),
+                Some(member) => left_after(schema, member.kind, part, space),
+                None => take(space, 0),
             }
         }
-        (Kind::Maybe { item }, Value::Maybe(Some(part))) => left_after(schema, *item, part, room),
-        _ => take(room, 0),
+        (Kind::Maybe { item }, Value::Maybe(Some(part))) => left_after(schema, *item, part, space),
+        _ => take(space, 0),
     }
 }
 
 #[cycle(left)]
-fn left_after_items(schema: &Schema, id: KindId, items: &Vec<Value>, room: u32) -> Option<u32>
+fn left_after_items(schema: &Schema, id: KindId, items: &Vec<Value>, space: u32) -> Option<u32>
     requires { fit schema.now.kinds (replicate (length items.now.items) (item_part id.place)) (values items.now.items)
         ≡ true }
-    ensures { IsLeft room
+    ensures { IsLeft space
         (length (spelling schema.now.kinds (replicate (length items.now.items) (item_part id.place))
         (values items.now.items))) result }
 {
-    let mut left = room;
+    let mut left = space;
     for value in items {
         left = left_after(schema, id, value, left)?;
     }
@@ -126,45 +126,45 @@ fn left_after_parts(
     schema: &Schema,
     fields: &Vec<Member>,
     parts: &Vec<Value>,
-    room: u32,
+    space: u32,
 ) -> Option<u32>
     requires { fit schema.now.kinds (map part_of_member fields.now.items) (values parts.now.items) ≡ true }
-    ensures { IsLeft room
+    ensures { IsLeft space
         (length (spelling schema.now.kinds (map part_of_member fields.now.items) (values parts.now.items))) result }
 {
-    let mut left = room;
+    let mut left = space;
     for (i, value) in parts.iter().enumerate() {
         left = left_after(schema, fields[i].kind, value, left)?;
     }
     Some(left)
 }
 
-fn take(room: u32, count: u32) -> Option<u32>
-    ensures { IsLeft room count result }
+fn take(space: u32, count: u32) -> Option<u32>
+    ensures { IsLeft space count result }
 {
-    if count <= room {
-        Some(room - count)
+    if count <= space {
+        Some(space - count)
     } else {
         None
     }
 }
 
-fn take_padded(room: u32, bytes: &Vec<u8>) -> Option<u32>
-    ensures { IsLeft room (length (padded bytes.now.items)) result }
+fn take_padded(space: u32, bytes: &Vec<u8>) -> Option<u32>
+    ensures { IsLeft space (length (padded bytes.now.items)) result }
 {
-    if bytes.len() > room as usize {
+    if bytes.len() > space as usize {
         return None;
     }
-    take(room - bytes.len() as u32, zeros(bytes.len()))
+    take(space - bytes.len() as u32, zeros(bytes.len()))
 }
 
-fn take_counted(room: u32, bytes: &Vec<u8>) -> Option<u32>
-    ensures { IsLeft room (4 + length (padded bytes.now.items)) result }
+fn take_counted(space: u32, bytes: &Vec<u8>) -> Option<u32>
+    ensures { IsLeft space (4 + length (padded bytes.now.items)) result }
 {
-    if room < 4 {
+    if space < 4 {
         return None;
     }
-    take_padded(room - 4, bytes)
+    take_padded(space - 4, bytes)
 }
 
 // How many zeros follow so many bytes.

@@ -88,7 +88,7 @@ pub fn first_content(bytes: &[u8], size: u32) -> Result<(&[u8], &[u8]), NoConten
 pub fn push_word(out: &mut Vec<u8>, number: u32) -> Result<(), NoMemory>
     ensures ok { OnOk result (out.new.items ≡ out.old.items ++ word number) }
     ensures fits { IsWord number }
-    ensures kept { OnErr result (out.new.items ≡ out.old.items) }
+    ensures retained { OnErr result (out.new.items ≡ out.old.items) }
     ensures begins { StartsWith out.new.items out.old.items }
 {
     let mut bytes = [0; 4];

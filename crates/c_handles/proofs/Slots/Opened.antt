@@ -38,7 +38,7 @@ use Rattle.std.proofs.alloc.Global.TheLaws as heap_laws
 use Rattle.std.specs.contracts.impls.GlobalAllocator.TheImpl.{ghosts}
 use Rattle.std.proofs.raw_atomic.Walks.{proved_at}
 use Rattle.c_handles.proofs.Values.{both, both_tt, loose_good, loose_in}
-use Rattle.c_handles.proofs.Handles.{handle_out, kept_cases, ptr_good}
+use Rattle.c_handles.proofs.Handles.{handle_out, retained_cases, ptr_good}
 use Rattle.c_handles.proofs.Slots.{Slot, Held, one_local, slot_local}
 
 -- behind the branch
@@ -77,7 +77,7 @@ module _ (R : RattleType) (S : Slot R) where
       params = plain (λ κs. S.row) ∷ plain (λ κs. heap.the_row) ∷ [];
       result = plain (λ κs. Out);
     };
-    kept = (yes, (yes, tt));
+    retained = (yes, (yes, tt));
   }
 
   abbrev pub clauses : {M : Type 1} (𝓤 : Ura M) → Clauses 𝓤 ended
@@ -93,7 +93,7 @@ module _ (R : RattleType) (S : Slot R) where
   opened_meets 𝓤 𝓛 𝓜 𝓡 k closed =
       let H = 𝓛.H in let 𝓣 = tables 𝓤 H 𝓜 𝓡 𝓡.env in let Z : RattleType = heap.the_row in
       let LZ = heap_laws.the_row_laws in let Lr : RattleType = Held R in let c = clauses 𝓤 in let fn = function in
-      let hs : Stays ended.signature.params ended.kept =
+      let hs : Stays ended.signature.params ended.retained =
       (stay_dropped (plain (λ _. S.row)) yes, (stay_dropped (plain (λ _. Z)) yes, tt)) in
       proved_at 𝓛 ended hs c 𝓜 𝓡 (
         Goes-dropped 𝓛 0 (plain (λ _. S.row)) yes (λ κs x f. S.silent x f),
@@ -107,12 +107,12 @@ module _ (R : RattleType) (S : Slot R) where
       ∷ []) ∵ split ! $ move ! (1 ∷ []) $ fsplit3 ! $
       rewrite ! 1 (λ (us : List Val). ‵ (Z.own_val a us)) h.1 refl $
       rewrite ! 0 (λ (F : Fml). ‵ F) (S.owns d z.0.4.0) refl $ handle_out R ! (S.at d) (S.live d) (S.held d) z.0.4.0
-      (λ ws. kept_cases R ! (S.live d) (S.at d) (S.held d)
+      (λ ws. retained_cases R ! (S.live d) (S.at d) (S.held d)
       -- [the allocator; nothing; no tokens; no requires], with the block before them where there is one
       (λ off none. let v : Val = both (ptr_val (S.at d)) (vbool false) in let v₀ : Val = live 0 vnil in
-      let told = subst (λ (l : Bool). z.0.4.0 ≡ both (ptr_val (S.at d)) (vbool l) ∷ []) off ws in
+      let reported = subst (λ (l : Bool). z.0.4.0 ≡ both (ptr_val (S.at d)) (vbool l) ∷ []) off ws in
       suffices ! (Run (v ∷ h.0 ∷ [])) (subst (λ (us : List Val). ent 𝓤 (Run (v ∷ h.0 ∷ [])) (Run us))
-      (sym (λ i. told i ++ (h.1 i ++ []))) (id⊢ 𝓤 (Run (v ∷ h.0 ∷ [])))) $
+      (sym (λ i. reported i ++ (h.1 i ++ []))) (id⊢ 𝓤 (Run (v ∷ h.0 ∷ [])))) $
       enter ! 𝓣.C 𝓣.Λ fn (v ∷ h.0 ∷ []) Post $ alloc_all !
       (λ l. pass_all ! refl ((both_tt _ true (ptr_good (S.at d)).0 tt, ((ptr_good (S.at d)).1, (tt, tt))), (h.2, tt)) $
       let Ev = env fn.locals l in
@@ -132,10 +132,10 @@ module _ (R : RattleType) (S : Slot R) where
       let held : Lr.Denot = record { at = block_ptr b o; alloc = a; value = x } in
       let good = loose_good R Z LZ ghosts b o h.0 h.2 in
       let fits : Good (layout Out) v₁ = (and_tt _ good.0, (record { fits = lit< tt }, (good.1, tt))) in
-      let told = subst (λ (p : Ptr). z.0.4.0 ≡ both (ptr_val p) (vbool true) ∷ []) at
+      let reported = subst (λ (p : Ptr). z.0.4.0 ≡ both (ptr_val p) (vbool true) ∷ []) at
       (subst (λ (l : Bool). z.0.4.0 ≡ both (ptr_val (S.at d)) (vbool l) ∷ []) on ws) in
       suffices ! (Run (v ∷ h.0 ∷ [])) (subst (λ (us : List Val). ent 𝓤 (Run (v ∷ h.0 ∷ [])) (Run us))
-      (sym (λ i. told i ++ (h.1 i ++ []))) (id⊢ 𝓤 (Run (v ∷ h.0 ∷ [])))) $
+      (sym (λ i. reported i ++ (h.1 i ++ []))) (id⊢ 𝓤 (Run (v ∷ h.0 ∷ [])))) $
       enter ! 𝓣.C 𝓣.Λ fn (v ∷ h.0 ∷ []) Post $ alloc_all ! (λ l. pass_all ! refl ((tt, (tt, (tt, tt))), (h.2, tt)) $
       sets ! (of_opd ! (get_in ! (fld ! refl (stop !)) (sub ! 0 refl (whole !)))) refl (tt, tt) $ sets !
       (of_opd ! (get_in ! (fld ! refl (stop !)) (sub ! 1 refl (whole !)))) refl (tt, tt) $ sets !

@@ -14,8 +14,8 @@ use Rattle.xdr_io.proofs.Ended.{all_read}
 pub counted : OneLongest → WholeIsLongest → (limit : ℕ) (rs : List (List ℕ)) (bytes : List ℕ) → IsWhole limit rs bytes
     → (left left' t u : Option (List ℕ)) (count : Count) → left ≡ Some bytes → Normalised limit left left' t u count
     → IsCount count rs × Appends t u (normal rs)
-counted one whole limit rs bytes w left left' t u count told n =
-    let same = all_read bytes n.input left' (subst (λ k. Consumes k left' n.input) told n.read) n.end in
+counted one whole limit rs bytes w left left' t u count reported n =
+    let same = all_read bytes n.input left' (subst (λ k. Consumes k left' n.input) reported n.read) n.end in
     let all = subst (λ b. IsWhole limit n.rs b) (sym same) n.whole in
     let others : n.rs ≡ rs = one limit n.rs rs bytes (whole limit n.rs bytes all) (whole limit rs bytes w) in
     (subst (λ k. IsCount count k) others n.counted, subst (λ k. Appends t u (normal k)) others n.written)

@@ -6,7 +6,7 @@ use Rattle.rpc_record.specs.declared.reader.RecordReader.{RecordReader}
 use Rattle.rpc_record.specs.Marked.{header, Marked, NoneBeginsAnother}
 use Rattle.rpc_record.specs.Reading.{IsWhole}
 use Rattle.rpc_record.proofs.Streams.{Marked-one}
-use Rattle.rpc_record.specs.Stands.{Always, Stands, Takes, limit_of}
+use Rattle.rpc_record.specs.Represents.{Always, Represents, Takes, limit_of}
 
 -- 80000001 61
 abbrev pub one_record : List ℕ
@@ -26,7 +26,7 @@ whole_is apart limit used r whole =
     ∙ ap (λ k. k ++ drop used one_record) all in
     apart r (97 ∷ []) w.0 (drop used one_record) w.1.1.0 (subst (λ b. Marked (97 ∷ []) b) split is_marked)
 
-pub handed : NoneBeginsAnother → (old new : RecordReader) (used : ℕ) (o : Option (Vec ℕ Global)) → Stands old [] []
+pub handed : NoneBeginsAnother → (old new : RecordReader) (used : ℕ) (o : Option (Vec ℕ Global)) → Represents old [] []
     → Takes old new (take used one_record)
     → IfSome o (λ v. Always new (λ rs bytes. IsWhole (limit_of new) (rs ++ v.items ∷ []) bytes))
     → IfSome o (λ v. v.items ≡ 97 ∷ [])

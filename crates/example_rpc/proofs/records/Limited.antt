@@ -6,7 +6,7 @@ use Rattle.rpc_record.specs.declared.fault.RecordStep.{RecordStep}
 use Rattle.rpc_record.specs.declared.reader.RecordReader.{RecordReader}
 use Rattle.rpc_record.specs.Marked.{header}
 use Rattle.rpc_record.specs.Reading.{TooLongAt, IsWhole, WholeHasNoLong}
-use Rattle.rpc_record.specs.Stands.{Stands, IsTaking, Feeds, Tells}
+use Rattle.rpc_record.specs.Represents.{Represents, IsTaking, Feeds, Reports}
 use Rattle.rpc_record.proofs.Long.{only_memory}
 use Rattle.rpc_record.proofs.Streams.{whole_none, whole_push}
 use Rattle.example_rpc.proofs.records.Handed.{one_record}
@@ -16,8 +16,8 @@ unfolding header
 is_whole = whole_push 1 [] [] (97 ∷ []) (whole_none 1) (omega arith) (omega arith)
 
 pub is_taken : WholeHasNoLong → (old new : RecordReader) (piece : List ℕ) (answer : Result RecordStep RecordFault)
-    → old.limit ≡ 1 → piece ≡ one_record → IsTaking old → Stands old [] [] → Feeds old new piece answer
-    → Tells old piece answer → IfErr answer (λ f. f ≡ fault.NoMemory)
+    → old.limit ≡ 1 → piece ≡ one_record → IsTaking old → Represents old [] [] → Feeds old new piece answer
+    → Reports old piece answer → IfErr answer (λ f. f ≡ fault.NoMemory)
 is_taken none old new piece (Err f) e p i s k t =
     only_memory old.limit (length piece) [] f piece
     (λ at h. none 1 ((97 ∷ []) ∷ []) one_record is_whole [] at (subst (λ b. TooLongAt 1 [] at b) p

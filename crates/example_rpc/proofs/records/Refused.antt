@@ -7,7 +7,7 @@ use Rattle.rpc_record.specs.declared.fault.RecordStep.TheVariants as step
 use Rattle.rpc_record.specs.declared.reader.RecordReader.{RecordReader}
 use Rattle.rpc_record.specs.Marked.{header}
 use Rattle.rpc_record.specs.Reading.{TooLongAt}
-use Rattle.rpc_record.specs.Stands.{Stands, IsTaking, Feeds, Tells}
+use Rattle.rpc_record.specs.Represents.{Represents, IsTaking, Feeds, Reports}
 use Rattle.rpc_record.proofs.Long.{long_first, none_whole, refused_at}
 
 -- 80000001
@@ -19,8 +19,8 @@ unfolding header
 is_long = long_first 0 1 true [] (omega arith) (omega arith)
 
 module _ (old new : RecordReader) (piece : List ℕ) (long : TooLongAt old.limit [] 0 piece) (i : IsTaking old)
-    (s : Stands old [] []) where
-  fed : (answer : Result RecordStep RecordFault) → Feeds old new piece answer → Tells old piece answer
+    (s : Represents old [] []) where
+  fed : (answer : Result RecordStep RecordFault) → Feeds old new piece answer → Reports old piece answer
       → MatchResult answer (λ x. ⊥) (λ f. (f ≡ fault.TooLong 0) ⊎ (f ≡ fault.NoMemory))
   fed (Err f) k t = refused_at old.limit 0 piece long f (length piece) (k.2 i) ((t [] [] s).1 i)
   fed (Ok step.More) k t = absurd ((t [] [] s).1 [] 0 long)
@@ -28,8 +28,8 @@ module _ (old new : RecordReader) (piece : List ℕ) (long : TooLongAt old.limit
       let w = t [] [] s in absurd (none_whole old.limit 0 piece long used w.0 w.1)
 
 pub is_refused : (old new : RecordReader) (piece : List ℕ) (answer : Result RecordStep RecordFault)
-    → old.limit ≡ 0 → piece ≡ one_byte → IsTaking old → Stands old [] [] → Feeds old new piece answer
-    → Tells old piece answer
+    → old.limit ≡ 0 → piece ≡ one_byte → IsTaking old → Represents old [] [] → Feeds old new piece answer
+    → Reports old piece answer
     → MatchResult answer (λ x. ⊥) (λ f. (f ≡ fault.TooLong 0) ⊎ (f ≡ fault.NoMemory))
 is_refused old new piece answer e p i s k t =
     fed old new piece

@@ -1,7 +1,7 @@
 -- A value that is judged while its bytes come.
 use Rattle.std.specs.Prelude.{◌≡◌, ℕ, List, [], ◌++◌, Bool, true, false, Option}
 use Rattle.std.specs.Io.KnownBytes.{Consumes}
-use Rattle.xdr_codec.specs.Checks.{StandsFor}
+use Rattle.xdr_codec.specs.Checks.{RepresentsBytes}
 use Rattle.xdr_codec.specs.declared.checker.Checker.{Checker}
 use Rattle.oncrpc_tasks.specs.declared.answer.Answer.{Answer}
 use Rattle.oncrpc_tasks.specs.declared.judge.Verdict.{Verdict}
@@ -11,7 +11,7 @@ use Rattle.oncrpc_tasks.specs.Stopping.{IsUnsettled}
 
 -- A checker was given these bytes to answer the question, of which nothing is to be shown.
 pub record Follows (q : Question) (checker : Checker) (bytes : List ℕ) : Type 0 where
-  pub stands : StandsFor checker bytes
+  pub represents : RepresentsBytes checker bytes
   pub kinds_are : checker.reader.schema.now.kinds ≡ q.kinds
   pub place_is : checker.reader.kind.place ≡ q.place
   pub limits_are : checker.reader.limits ≡ q.limits
@@ -27,9 +27,9 @@ abbrev pub unshown : Question → Question
 unshown q = record { kinds = q.kinds; place = q.place; limits = q.limits; shows = false }
 
 -- What is kept of an input: all that was read, and the answer is right if the input ends with it; else nothing.
-abbrev pub IsKept : (keeps : Bool) → Question → (left left' : Option (List ℕ)) → Answer → (bytes : List ℕ) → Type 0
-IsKept true q left left' a bytes = Consumes left left' bytes × IsRight q bytes a []
-IsKept false q left left' a bytes = bytes ≡ []
+abbrev pub IsRetained : (keeps : Bool) → Question → (left left' : Option (List ℕ)) → Answer → (bytes : List ℕ) → Type 0
+IsRetained true q left left' a bytes = Consumes left left' bytes × IsRight q bytes a []
+IsRetained false q left left' a bytes = bytes ≡ []
 
 -- This is shown of the bytes and of all that follows them: an answer that is right without lines is right with these.
 abbrev pub Shows : Question → (bytes : List ℕ) → Answer → (shown : List ℕ) → Type 0

@@ -55,7 +55,7 @@ mapping_bytes r =
     option_map_or (λ prot. option_map_or (mapping_at_bytes r prot) (uaddr_of r.address) []) (prot_of r.netid) []
 
 -- A step was made and the reply that tells of it was written.
-pub record Tells (step : Step) (xid : ℕ) (old : List ℕ) (new : List Row) (out : List ℕ) : Type 0 where
+pub record Reports (step : Step) (xid : ℕ) (old : List ℕ) (new : List Row) (out : List ℕ) : Type 0 where
   pub done : Bool
   pub stepped : (new, done) ≡ step
   pub added : out ≡ old ++ (head xid 0 ++ num4 (number_of done))

@@ -8,7 +8,7 @@ use Rattle.rpc_record.specs.Reading.{capped}
 
 -- the bytes that wait
 abbrev pub waiting : Outbox → List ℕ
-waiting box = take box.used box.room
+waiting box = take box.used box.buffer
 
 -- These bytes were handed over, after those that waited. Some of all these went out in order and were counted, and the
 -- rest waits.

@@ -5,7 +5,7 @@ use Rattle.rpc_record.specs.declared.place.Place.{Place}
 use Rattle.rpc_record.specs.declared.place.Place.TheVariants as place
 use Rattle.rpc_record.specs.declared.reader.RecordReader.{RecordReader}
 use Rattle.rpc_record.specs.Reading.{FaultyIn, IsFeedFault}
-use Rattle.rpc_record.specs.Stands.{Stands, IsTaking, IsBroken}
+use Rattle.rpc_record.specs.Represents.{Represents, IsTaking, IsBroken}
 
 -- a place that feeding bytes can lead to
 abbrev pub IsFedAt : Place → Type 0
@@ -21,7 +21,7 @@ IsSteppedAt _ = Unit {0}
 -- Where memory was refused now, it was for the record after those handed out, in these bytes.
 abbrev pub Refuses : RecordReader → RecordReader → List ℕ → Type 0
 Refuses old new more = IsBroken new fault.NoMemory → IsTaking old
-    → (bytes : List ℕ) (rs : List (List ℕ)) → Stands old bytes rs
+    → (bytes : List ℕ) (rs : List (List ℕ)) → Represents old bytes rs
     → FaultyIn old.limit rs fault.NoMemory (length more) (bytes ++ more)
 
 -- it isn't broken, or is so by a fault that feeding bytes can bring

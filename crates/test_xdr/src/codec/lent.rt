@@ -19,7 +19,7 @@ fn units(alloc: Global, first: u32, count: u32) -> Option<Vec<u8>> {
 fn are_lent_in_little(rt: &impl Abort, alloc: Global) -> Option<bool> {
     let schema = Schema::basic(alloc).ok()?;
     let input = units(alloc, 1048576, 262144)?;
-    let _kept = {
+    let _retained = {
         let _spare = Vec::<u8>::with_capacity(alloc, 65536).ok()?;
         take_all(alloc).ok()?
     };

@@ -11,7 +11,7 @@ fn reads(alloc: Global, source: &mut impl Source, enough: usize, wanted: &[u8]) 
 }
 
 /// Ten reads give a byte, and the 11th finds the end.
-fn tells_a_failed_read(alloc: Global, failing: u64) -> bool {
+fn reports_a_failed_read(alloc: Global, failing: u64) -> bool {
     let mut source = MemorySource::new(b"0123456789", 1, Some(failing));
     if failing <= 11 {
         read_past(alloc, &mut source, 10) == Err(InputFault::Read)
@@ -24,7 +24,7 @@ fn tells_a_failed_read(alloc: Global, failing: u64) -> bool {
 fn reads_fail_in_turn(rt: HostRuntime) {
     for failing in 1..13 {
         assert!(rt;
-            tells_a_failed_read(rt.alloc(), failing),
+            reports_a_failed_read(rt.alloc(), failing),
             "the read {failing} fails"
         );
     }

@@ -11,9 +11,9 @@ fn has_taken(sink: &MemorySink<'_>, count: usize) -> bool {
 }
 
 /// Three writes take a byte each. Where one fails the bytes before it went out.
-fn tells_a_failed_write(failing: u64) -> bool {
-    let mut room = [0u8; 8];
-    let mut sink = MemorySink::new(&mut room, 1, Some(failing));
+fn reports_a_failed_write(failing: u64) -> bool {
+    let mut buffer = [0u8; 8];
+    let mut sink = MemorySink::new(&mut buffer, 1, Some(failing));
     let written = failing.saturating_sub(1) as usize;
     let wanted = if failing < 4 {
         Err(Cut { written })
@@ -26,14 +26,17 @@ fn tells_a_failed_write(failing: u64) -> bool {
 #[test]
 fn writes_fail_in_turn(rt: HostRuntime) {
     for failing in 1..5 {
-        assert!(rt; tells_a_failed_write(failing), "the write {failing} fails");
+        assert!(rt;
+            reports_a_failed_write(failing),
+            "the write {failing} fails"
+        );
     }
 }
 
 #[test]
 fn a_full_sink_fails(rt: HostRuntime) {
-    let mut room = [0u8; 2];
-    let mut sink = MemorySink::new(&mut room, 4096, None);
+    let mut buffer = [0u8; 2];
+    let mut sink = MemorySink::new(&mut buffer, 4096, None);
     assert!(rt; write_abc(&mut sink) == Err(Cut { written: 2 }));
 }
 
@@ -49,7 +52,7 @@ fn writes_into_a_writer_of_std(rt: HostRuntime) {
 
 #[test]
 fn a_full_writer_of_std_fails(rt: HostRuntime) {
-    let mut room = [0u8; 2];
-    let got = write_abc(&mut IntoWrite::new(room.as_mut_slice()));
+    let mut buffer = [0u8; 2];
+    let got = write_abc(&mut IntoWrite::new(buffer.as_mut_slice()));
     assert!(rt; got == Err(Cut { written: 2 }));
 }

@@ -18,7 +18,7 @@ fn answers(basic: &Schema, abc: &Value) -> bool {
 fn answers_in_none(alloc: Global) -> Option<bool> {
     let basic = Schema::basic(alloc).ok()?;
     let abc = Value::Bytes(vec![in alloc; 97u8, 98, 99].ok()?);
-    let _kept = take_all(alloc).ok()?;
+    let _retained = take_all(alloc).ok()?;
     Some(answers(&basic, &abc) && abc.copy(alloc).is_err())
 }
 
@@ -81,7 +81,7 @@ fn kinds(alloc: Global, refused: Refused) -> Result<Vec<Kind>, AllocError> {
 // What is wrong with a row's kinds, found while every growth is refused.
 fn fault_in_none(alloc: Global, refused: Refused) -> Result<Option<(Flaw, usize)>, AllocError> {
     let kinds = kinds(alloc, refused)?;
-    let _kept = take_all(alloc)?;
+    let _retained = take_all(alloc)?;
     Ok(refusal(alloc, kinds))
 }
 
@@ -103,7 +103,7 @@ fn name_twice_in_none(alloc: Global) -> Option<(Flaw, usize)> {
         .push((String::from_str(alloc, "n").ok()?, id(0)))
         .ok()?;
     let kinds = vec![in alloc; Kind::Int].ok()?;
-    let _kept = take_all(alloc).ok()?;
+    let _retained = take_all(alloc).ok()?;
     match Schema::build(alloc, kinds, names) {
         Ok(_) => None,
         Err(fault) => Some((fault.why, fault.place)),

@@ -1,7 +1,7 @@
 -- Bytes gathered in an array on their way to a sink.
 use Rattle.std.specs.Prelude.{◌≡◌, ℕ, ◌+◌, ◌<◌, ◌^◌, List, ◌++◌, length, take, drop, Option}
 use Rattle.std.specs.Io.KnownBytes.{Appends}
-use Rattle.xdr_io.specs.Told.{Counts}
+use Rattle.xdr_io.specs.Reported.{Counts}
 
 -- where a gathering is: what its sink tells of bytes and of failures, the array and how many bytes of it wait, and how
 -- many went out
@@ -12,7 +12,7 @@ pub record Gathering : Type 0 where
   pub filled : ℕ
   pub written : ℕ
 
--- of the bytes so far the first went out to a sink that had told t, and the others wait in the array
+-- of the bytes so far the first went out to a sink that had reported t, and the others wait in the array
 pub record Holds (t : Option (List ℕ)) (g : Gathering) (done : List ℕ) : Type 0 where
   pub sent : Appends t g.taken (take g.written done)
   pub pending : drop g.written done ≡ take g.filled g.array

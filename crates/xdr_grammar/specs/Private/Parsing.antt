@@ -22,9 +22,9 @@ wrong_of misplaced.Unexpected = wrong.Unexpected
 wrong_of misplaced.FloatingKind = wrong.FloatingKind
 wrong_of misplaced.NestedTooDeep = wrong.NestedTooDeep
 
-abbrev pub told : Misread → Fault
-told (misread.Token why left) = fault.Refused (wrong_of why) left
-told misread.NoMemory = fault.NoMemory
+abbrev pub reported : Misread → Fault
+reported (misread.Token why left) = fault.Refused (wrong_of why) left
+reported misread.NoMemory = fault.NoMemory
 
 -- Nothing is due, where a token was refused. Want of memory may come at any time.
 abbrev pub MisreadsRightly : {Y : Type 0} → Misread → Option Y → Type 0

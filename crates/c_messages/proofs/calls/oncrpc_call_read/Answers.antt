@@ -7,25 +7,25 @@ use Rattle.c_messages.specs.declared.calls.CallParts.{CallParts}
 use Rattle.c_messages.proofs.Lying.{credential_lies, verifier_lies, arguments_lie, short_case}
 use Rattle.c_messages.proofs.calls.oncrpc_call_read.Goals as goal
 
-pub told-status-requires : goal.told-status-requires
-told-status-requires c = short_case _ _ c.read_lent_call.ensures.found
+pub reported-status-requires : goal.reported-status-requires
+reported-status-requires c = short_case _ _ c.read_lent_call.ensures.found
 
 pub returns-clause-only : goal.returns-clause-only
 returns-clause-only c = λ k h.
     let e = c.read_lent_call.ensures.only k h in
-    (c.told-status.ensures.status ∙ ap case_status e, c.told-status.ensures.parts ∙ ap told_of e)
+    (c.reported-status.ensures.status ∙ ap case_status e, c.reported-status.ensures.parts ∙ ap told_of e)
 
 pub returns-clause-credential : goal.returns-clause-credential
 returns-clause-credential c = λ k h.
-    let e = c.told-status.ensures.parts ∙ ap told_of (c.read_lent_call.ensures.only (Whole k) h) in
+    let e = c.reported-status.ensures.parts ∙ ap told_of (c.read_lent_call.ensures.only (Whole k) h) in
     subst (λ (p : CallParts). LiesAt c.args.input.now p.credential k.cred.body) (sym e) (credential_lies k _ h)
 
 pub returns-clause-verifier : goal.returns-clause-verifier
 returns-clause-verifier c = λ k h.
-    let e = c.told-status.ensures.parts ∙ ap told_of (c.read_lent_call.ensures.only (Whole k) h) in
+    let e = c.reported-status.ensures.parts ∙ ap told_of (c.read_lent_call.ensures.only (Whole k) h) in
     subst (λ (p : CallParts). LiesAt c.args.input.now p.verifier k.verf.body) (sym e) (verifier_lies k _ h)
 
 pub returns-clause-arguments : goal.returns-clause-arguments
 returns-clause-arguments c = λ k h.
-    let e = c.told-status.ensures.parts ∙ ap told_of (c.read_lent_call.ensures.only (Whole k) h) in
+    let e = c.reported-status.ensures.parts ∙ ap told_of (c.read_lent_call.ensures.only (Whole k) h) in
     subst (λ (p : CallParts). LiesAt c.args.input.now p.arguments k.args) (sym e) (arguments_lie k _ h)

@@ -1,4 +1,4 @@
--- What is told is the body that was read.
+-- What is reported is the body that was read.
 use Rattle.std.proofs.Common.{refl}
 use Rattle.rpc_message.specs.View.{auth_sys_view}
 use Rattle.c_messages.specs.Credentials.{Whole}
@@ -9,5 +9,5 @@ returns-in-Ok-Some-clause-found c = (
   Whole (auth_sys_view c.in-Ok-Some.body),
   rw c.in-Ok-Some.field-0-is at c.in-Ok-Some.ensures.found,
   refl,
-  c.told.ensures,
+  c.reported.ensures,
 )

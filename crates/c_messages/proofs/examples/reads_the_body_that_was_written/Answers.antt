@@ -1,4 +1,4 @@
--- What was written stands at the front of the room, and is the body that is read.
+-- What was written stands at the front of the buffer, and is the body that is read.
 use Rattle.std.proofs.Common.{sym, ◌∙◌}
 use Rattle.c_messages.proofs.Written.{body_written}
 use Rattle.c_messages.proofs.examples.reads_the_body_that_was_written.Goals as goal

@@ -1,4 +1,4 @@
--- What was written stands at the front of the room, and is the call that is read.
+-- What was written stands at the front of the buffer, and is the call that is read.
 use Rattle.std.proofs.Common.{sym, ◌∙◌}
 use Rattle.rpc_message.specs.Message.{Whole}
 use Rattle.c_messages.specs.Calls.{call_of}

@@ -2,7 +2,7 @@
 use Rattle.std.proofs.Common.{sym, ap, ◌∙◌, []}
 use Rattle.c_records.specs.Statuses.{status_of, outcome_of}
 use Rattle.c_records.proofs.Closed.{ends_well, not_inside}
-use Rattle.c_records.proofs.Told.{IsAt, started, none_taken}
+use Rattle.c_records.proofs.Reported.{IsAt, started, none_taken}
 use Rattle.c_records.proofs.examples.ends_well_before_the_first_byte.Goals as goal
 
 pub returns : goal.returns
@@ -17,7 +17,7 @@ returns c = λ e.
       is = k.held;
       limit_is = h.fresh.limit;
       taking = h.fresh.taking;
-      stands = h.fresh.stands;
+      represents = h.fresh.represents;
     } in
     let w = ends_well 100 [] [] _ _ d.0 at (not_inside 100) d.1 in
-    (t.2 ∙ ap status_of k.answer, k.room, d.2 ∙ ap status_of w, d.3 ∙ ap outcome_of w)
+    (t.2 ∙ ap status_of k.answer, k.buffer, d.2 ∙ ap status_of w, d.3 ∙ ap outcome_of w)

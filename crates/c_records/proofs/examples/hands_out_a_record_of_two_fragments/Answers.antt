@@ -4,7 +4,7 @@ use Rattle.c_records.specs.declared.outcome.Outcome.{Outcome}
 use Rattle.c_records.specs.Statuses.{status_of, outcome_of}
 use Rattle.c_records.proofs.Followed.{fed_first, fed_last, abc, bytes, abc_is_whole}
 use Rattle.c_records.proofs.Past.{taken}
-use Rattle.c_records.proofs.Told.{started, at_first}
+use Rattle.c_records.proofs.Reported.{started, at_first}
 use Rattle.c_records.proofs.examples.hands_out_a_record_of_two_fragments.Goals as goal
 
 pub returns : goal.returns

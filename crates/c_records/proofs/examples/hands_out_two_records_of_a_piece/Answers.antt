@@ -5,7 +5,7 @@ use Rattle.c_records.specs.declared.outcome.Outcome.{Outcome}
 use Rattle.c_records.specs.Statuses.{status_of, outcome_of}
 use Rattle.c_records.proofs.Next.{fed_next, one, empty, one_marked, empty_marked, one_whole, both_whole}
 use Rattle.c_records.proofs.Past.{taken}
-use Rattle.c_records.proofs.Told.{started, at_first}
+use Rattle.c_records.proofs.Reported.{started, at_first}
 use Rattle.c_records.proofs.examples.hands_out_two_records_of_a_piece.Goals as goal
 
 pub returns : goal.returns

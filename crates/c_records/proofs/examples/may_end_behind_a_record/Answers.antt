@@ -3,7 +3,7 @@ use Rattle.std.proofs.Common.{sym, ap, ◌∙◌, [], ◌∷◌}
 use Rattle.c_records.specs.Statuses.{status_of, outcome_of}
 use Rattle.c_records.proofs.Closed.{has_read, ends_well, none_behind}
 use Rattle.c_records.proofs.Past.{past}
-use Rattle.c_records.proofs.Told.{started, at_first}
+use Rattle.c_records.proofs.Reported.{started, at_first}
 use Rattle.c_records.proofs.examples.may_end_behind_a_record.Goals as goal
 
 pub returns : goal.returns

@@ -1,6 +1,6 @@
 use Rattle.std.proofs.Common.{sym, ◌∙◌}
 use Rattle.c_records.proofs.Long.{fed_long}
-use Rattle.c_records.proofs.Told.{started}
+use Rattle.c_records.proofs.Reported.{started}
 use Rattle.c_records.proofs.examples.refuses_a_header_above_the_limit.Goals as goal
 
 pub returns : goal.returns

@@ -1,5 +1,5 @@
 use Rattle.std.proofs.Common.{sym, ◌∙◌}
-use Rattle.c_records.proofs.Told.{started}
+use Rattle.c_records.proofs.Reported.{started}
 use Rattle.c_records.proofs.examples.starts_before_the_first_byte.Goals as goal
 
 pub returns-clause-held : goal.returns-clause-held

@@ -1,7 +1,7 @@
 -- The fault is followed through the three calls.
 use Rattle.std.proofs.Common.{sym, ap, ◌∙◌}
 use Rattle.c_records.specs.Statuses.{status_of, outcome_of}
-use Rattle.c_records.proofs.Told.{IsStuck, refuses, none_taken, fed_again, ended_again}
+use Rattle.c_records.proofs.Reported.{IsStuck, refuses, none_taken, fed_again, ended_again}
 use Rattle.c_records.proofs.examples.stays_refused.Goals as goal
 
 pub returns : goal.returns
@@ -16,7 +16,7 @@ returns c = λ which.
     let a = fed_again _ _ _ r.fault g.0 s g.1 in
     let b = ended_again _ _ r.fault d.0 a.1 d.1 in (
       t.2 ∙ ap status_of k.answer,
-      k.room,
+      k.buffer,
       g.2 ∙ ap status_of (a.0 ∙ sym r.answer) ∙ sym f.2,
       g.3 ∙ ap outcome_of (a.0 ∙ sym r.answer) ∙ sym f.3,
       d.2 ∙ ap status_of (b ∙ sym r.answer) ∙ sym f.2,

@@ -5,8 +5,8 @@ use Rattle.c_records.proofs.feeding.feed_to.Goals as goal
 pub returns-in-Ok-More : goal.returns-in-Ok-More
 returns-in-Ok-More c =
     let f = rw c.in-Ok-More.field-0-is at c.in-Ok-More.ensures in
-    let room = c.feed_into.new.room.items in
-    more _ _ c.args.state.now.waits c.args.state.now.last.items room _ room c.if-state.false f.limit f.fills f.tells
+    let buffer = c.feed_into.new.buffer.items in
+    more _ _ c.args.state.now.waits c.args.state.now.last.items buffer _ buffer c.if-state.false f.limit f.fills f.reports
     f.stays
 
 pub returns-in-Ok-Whole : goal.returns-in-Ok-Whole
@@ -18,6 +18,6 @@ returns-in-Ok-Whole c =
 pub returns-in-Err : goal.returns-in-Err
 returns-in-Err c =
     let f = c.in-Err.ensures in
-    let room = c.feed_into.new.room.items in
-    refused _ _ c.args.state.now.waits c.args.state.now.last.items room _ room c.in-Err.fault c.if-state.false f.limit
-    f.fills f.tells f.stays
+    let buffer = c.feed_into.new.buffer.items in
+    refused _ _ c.args.state.now.waits c.args.state.now.last.items buffer _ buffer c.in-Err.fault c.if-state.false f.limit
+    f.fills f.reports f.stays

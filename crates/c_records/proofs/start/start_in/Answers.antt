@@ -12,5 +12,5 @@ returns-in-Ok c =
       c.if-limit-gt-MOST_LIMIT.false,
       fresh,
       ap (λ (o : Option State). option_map held_of o) (c.keep.ensures ∙ ap (λ (t : State). Some t) c.in-Ok.ensures.ok),
-      record { limit = s.limit; taking = (refl, s.taking); stands = s.stands },
+      record { limit = s.limit; taking = (refl, s.taking); represents = s.represents },
     )

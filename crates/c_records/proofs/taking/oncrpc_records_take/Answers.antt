@@ -16,10 +16,10 @@ returns c = (
         let now : c.match-taken.handle.held ≡ Some w.take_into-answer.new.state =
         ap (λ (h : Records). h.held) w.handle-is
         ∙ w.keep.ensures in
-        rw (was, now, w.answer-is, w.room-is) (held_of w.take_into-answer.new.state, refl, w.take_into-answer.ensures)
+        rw (was, now, w.answer-is, w.buffer-is) (held_of w.take_into-answer.new.state, refl, w.take_into-answer.ensures)
     | in-None w ↦
         let now : c.match-taken.handle.held ≡ None = ap (λ (h : Records). h.held) w.handle-is ∙ c.taken.ensures.left in
-        rw (sym w.in-None.ensures.taken, now, w.answer-is) (refl, refl, w.room-is)
+        rw (sym w.in-None.ensures.taken, now, w.answer-is) (refl, refl, w.buffer-is)
   ],
   c.status.ensures,
   c.outcome.ensures,

@@ -1,6 +1,6 @@
 -- A row that was set is there to be removed.
 use Rattle.std.proofs.Common.{sym, ◌∙◌}
-use Rattle.c_registry.proofs.Told.{removed}
+use Rattle.c_registry.proofs.Reported.{removed}
 use Rattle.c_registry.proofs.examples.removes_what_it_set.Goals as goal
 
 pub returns : goal.returns

@@ -1,9 +1,9 @@
 -- The one answer with status 4 says that the name names nothing.
 use Rattle.std.proofs.Common.{sym, ◌∙◌}
-use Rattle.c_values.proofs.Argument.{argument_told}
+use Rattle.c_values.proofs.Argument.{argument_reported}
 use Rattle.c_values.proofs.examples.names_an_argument.Goals as goal
 
 pub returns : goal.returns
 returns c = λ e.
     let t = c.oncrpc_declarations_check.ensures.answer in
-    argument_told _ c.requires _ _ _ t.0 t.1 (sym e ∙ t.2)
+    argument_reported _ c.requires _ _ _ t.0 t.1 (sym e ∙ t.2)

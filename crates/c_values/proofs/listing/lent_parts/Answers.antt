@@ -20,9 +20,9 @@ pub returns-in-Ok-clause-listed : goal.returns-in-Ok-clause-listed
 returns-in-Ok-clause-listed c = λ used begins.
     let q : Question =
     record { kinds = c.args.schema.now.kinds; place = c.args.kind.place; limits = c.args.limits } in
-    let told = c.in-Ok.ensures.outcome in
-    told.3 ∙ ap (λ (v : Tree). entries q.kinds q.place v)
-    (same_value q c.args.input.now used begins told.0 told.1 told.2)
+    let reported = c.in-Ok.ensures.outcome in
+    reported.3 ∙ ap (λ (v : Tree). entries q.kinds q.place v)
+    (same_value q c.args.input.now used begins reported.0 reported.1 reported.2)
 
 pub returns-in-Ok-clause-known : goal.returns-in-Ok-clause-known
 returns-in-Ok-clause-known c =

@@ -1,4 +1,4 @@
--- The lists of the value's parts go into the rooms, or do not.
+-- The lists of the value's parts go into the buffers, or do not.
 use Rattle.std.proofs.Common.{◌≡◌, length, rules, arith}
 use Rattle.c_values.specs.Answers.{Question}
 use Rattle.c_values.proofs.Parting.{are_parts_of}

@@ -17,5 +17,5 @@ pub returns-in-Ok : goal.returns-in-Ok
 returns-in-Ok c = λ used begins.
     let q : Question =
     record { kinds = c.args.schema.now.kinds; place = c.args.kind.place; limits = c.args.limits } in
-    let told = c.in-Ok.ensures.lines in
-    same_lines q c.args.input.now used begins told.0 told.1 _ told.2 told.3
+    let reported = c.in-Ok.ensures.lines in
+    same_lines q c.args.input.now used begins reported.0 reported.1 _ reported.2 reported.3

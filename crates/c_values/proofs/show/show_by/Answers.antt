@@ -10,5 +10,5 @@ pub returns : goal.returns
 returns c =
     let within = c.in-Some-new.ensures in
     shown_by (declared_of c.args.declared.now) c.args.name.now c.args.depth c.args.bytes c.args.input.now
-    c.args.room.now c.show_into.new.room c.show_into.new.written c.in-Some.kind.place c.in-Some.ensures
+    c.args.buffer.now c.show_into.new.buffer c.show_into.new.written c.in-Some.kind.place c.in-Some.ensures
     within.0 c.show_into.result (rw within.1 at c.show_into.ensures)

@@ -1,7 +1,7 @@
--- The lines of the value that the answer tells of go into the room, or do not.
+-- The lines of the value that the answer tells of go into the buffer, or do not.
 use Rattle.std.proofs.Common.{◌≡◌, length, true, rules}
 use Rattle.c_values.specs.Answers.{Question}
-use Rattle.c_values.specs.Statuses.{tells_value}
+use Rattle.c_values.specs.Statuses.{reports_value}
 use Rattle.c_values.proofs.Showing.{lines_shown, no_room}
 use Rattle.c_values.proofs.show.show_into.Goals as goal
 
@@ -9,19 +9,19 @@ pub returns-then-put : goal.returns-then-put
 returns-then-put c =
     let q : Question =
     record { kinds = c.args.schema.now.kinds; place = c.args.kind.place; limits = c.args.limits } in
-    let tells : tells_value c.judge-answer.result ≡ true = search rules in
-    lines_shown q c.args.input.now c.deref.result.now (rw c.deref.ensures.value c.in-Ok.ensures) c.args.room.now
-    c.put.new.room c.put.new.written c.judge-answer.result c.judge-answer.ensures tells
+    let reports : reports_value c.judge-answer.result ≡ true = search rules in
+    lines_shown q c.args.input.now c.deref.result.now (rw c.deref.ensures.value c.in-Ok.ensures) c.args.buffer.now
+    c.put.new.buffer c.put.new.written c.judge-answer.result c.judge-answer.ensures reports
     (c.put.ensures.put (search rules))
 
 pub returns : goal.returns
 returns c =
     let q : Question =
     record { kinds = c.args.schema.now.kinds; place = c.args.kind.place; limits = c.args.limits } in
-    let tells : tells_value c.judge-answer.result ≡ true = search rules in
+    let reports : reports_value c.judge-answer.result ≡ true = search rules in
     let len : c.len.result ≡ length c.in-Ok.lines.items = search rules in (
-      rw len (no_room q c.args.input.now c.in-Ok.lines.items c.in-Ok.ensures c.args.room.now
-          c.judge-answer.result c.judge-answer.ensures tells
+      rw len (no_room q c.args.input.now c.in-Ok.lines.items c.in-Ok.ensures c.args.buffer.now
+          c.judge-answer.result c.judge-answer.ensures reports
           (rw c.deref.ensures.value at c.put.ensures.small (search rules))),
-      c.put.ensures.kept (search rules),
+      c.put.ensures.retained (search rules),
     )

@@ -9,7 +9,7 @@ use Rattle.xdr_grammar.specs.Private.Reading.{arguments_with, result_with, proce
 use Rattle.xdr_grammar.specs.Private.Reading.{const_at, typedef_with, defined_with, definition_at, definitions_at}
 use Rattle.xdr_grammar.specs.Private.Reading.{int_at, inner_word_at}
 use Rattle.example_language.specs.Spelled.{enumeration}
-use Rattle.example_language.proofs.Outlining.{tells_outline, memory_of_outline}
+use Rattle.example_language.proofs.Outlining.{reports_outline, memory_of_outline}
 use Rattle.example_language.proofs.outlines.member_is_no_const.Goals as goal
 
 pub returns-clause-found : goal.returns-clause-found
@@ -19,7 +19,7 @@ unfolding after_word after_sign name_at number_at value_at size_at limit_at eith
     argument_with arguments_with result_with procedure_with version_with program_with const_at typedef_with
     defined_with definition_at definitions_at
 returns-clause-found c =
-    tells_outline enumeration _
+    reports_outline enumeration _
     (λ (o : Outline). o.constants) _ c.read_outline.result c.requires refl c.read_outline.ensures.found
 
 pub returns-clause-taken : goal.returns-clause-taken

@@ -1,5 +1,5 @@
 use Rattle.std.proofs.Common.{◌∙◌}
-use Rattle.example_language.proofs.Telling.{too_long}
+use Rattle.example_language.proofs.Reporting.{too_long}
 use Rattle.example_language.proofs.refused.long_text.Goals as goal
 
 pub returns : goal.returns

@@ -1,5 +1,5 @@
 use Rattle.std.proofs.Common.{◌∙◌}
-use Rattle.example_language.proofs.Telling.{refuses}
+use Rattle.example_language.proofs.Reporting.{refuses}
 use Rattle.example_language.proofs.Meanings.{meanings}
 use Rattle.example_language.proofs.refused.member_as_a_size.Goals as goal
 

@@ -1,11 +1,11 @@
 use Rattle.std.proofs.Common.{drop}
 use Rattle.xdr_lang.specs.Declarations.{Declared}
-use Rattle.example_language.proofs.Telling.{tells, memory_of_text}
+use Rattle.example_language.proofs.Reporting.{reports, memory_of_text}
 use Rattle.example_language.proofs.Meanings.{meanings}
 use Rattle.example_language.proofs.texts.long_numbers.Goals as goal
 
 pub returns-clause-found : goal.returns-clause-found
-returns-clause-found c = tells _ _ (λ (d : Declared). drop 8 d.schema.kinds) c.read.result meanings.long_numbers
+returns-clause-found c = reports _ _ (λ (d : Declared). drop 8 d.schema.kinds) c.read.result meanings.long_numbers
     c.read.ensures.found
 
 pub returns-clause-taken : goal.returns-clause-taken

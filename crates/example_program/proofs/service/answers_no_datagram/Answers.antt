@@ -1,5 +1,5 @@
 use Rattle.std.proofs.Common.{ap, ◌∙◌, Some}
-use Rattle.oncrpc_service.specs.Datagrams.{Telling}
+use Rattle.oncrpc_service.specs.Datagrams.{Reporting}
 use Rattle.example_program.proofs.Serves.{all_written}
 use Rattle.example_program.proofs.Answered.{none_answered, no_lines}
 use Rattle.example_program.proofs.service.answers_no_datagram.Goals as goal
@@ -10,7 +10,7 @@ returns-clause-rows g c = let e = c.datagrams_on.ensures in (none_answered _ _ _
 pub returns-clause-left : goal.returns-clause-left
 returns-clause-left g c =
     let e = c.datagrams_on.ensures in
-    ap (λ (t : Telling). t.left) (none_answered _ _ _ _ e.ended e.few e.finished).1
+    ap (λ (t : Reporting). t.left) (none_answered _ _ _ _ e.ended e.few e.finished).1
 
 pub returns-clause-printed : goal.returns-clause-printed
 returns-clause-printed g c = λ zero.

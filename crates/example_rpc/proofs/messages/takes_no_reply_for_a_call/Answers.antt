@@ -1,5 +1,5 @@
 use Rattle.rpc_message.specs.Message.{NotACall}
-use Rattle.example_rpc.proofs.Told.{another_type}
+use Rattle.example_rpc.proofs.Reported.{another_type}
 use Rattle.example_rpc.proofs.messages.takes_no_reply_for_a_call.Goals as goal
 
 pub returns : goal.returns

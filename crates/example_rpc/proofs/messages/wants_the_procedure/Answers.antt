@@ -1,5 +1,5 @@
 use Rattle.rpc_message.specs.Message.{NotACall}
-use Rattle.example_rpc.proofs.Told.{no_procedure}
+use Rattle.example_rpc.proofs.Reported.{no_procedure}
 use Rattle.example_rpc.proofs.messages.wants_the_procedure.Goals as goal
 
 pub returns : goal.returns

@@ -5,4 +5,4 @@ pub returns-in-Ok-Whole : goal.returns-in-Ok-Whole
 returns-in-Ok-Whole c =
     let feeds = rw c.in-Ok-Whole.field-0-is at c.in-Ok-Whole.ensures.feeds in
     handed c.no_record_begins_another.ensures.apart c.start-reader.result c.feed.new.self c.in-Ok-Whole.field-0-0
-    c.take.result c.start-reader.ensures.stands feeds.2 c.take.ensures.content
+    c.take.result c.start-reader.ensures.represents feeds.2 c.take.ensures.content

@@ -7,4 +7,4 @@ returns c =
     let start = c.start.ensures in
     is_refused c.start.result c.feed.new.self _ c.feed.result
     start.limit refl start.taking
-    start.stands c.feed.ensures.feeds c.feed.ensures.tells
+    start.represents c.feed.ensures.feeds c.feed.ensures.reports

@@ -6,4 +6,4 @@ pub returns : goal.returns
 returns c =
     let start = c.start.ensures in
     is_taken c.too_long_ends_the_stream.ensures.none c.start.result c.feed.new.self _ c.feed.result
-    start.limit refl start.taking start.stands c.feed.ensures.feeds c.feed.ensures.tells
+    start.limit refl start.taking start.represents c.feed.ensures.feeds c.feed.ensures.reports

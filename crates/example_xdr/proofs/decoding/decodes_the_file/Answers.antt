@@ -10,7 +10,7 @@ pub returns-clause-value : goal.returns-clause-value
 returns-clause-value c =
     let fit : FitsWithin c.args.schema.now.kinds 6 c.args.limits sillyprog =
     subst (λ (k : List KindView). FitsWithin k 6 c.args.limits sillyprog) (sym c.requires.kinds)
-    (refl, (c.requires.deep, c.requires.room)) in
+    (refl, (c.requires.deep, c.requires.buffer)) in
     let bytes : bytes_of c.args.schema.now.kinds 6 sillyprog ≡ sillyprog_bytes =
     ap (λ (k : List KindView). bytes_of k 6 sillyprog) c.requires.kinds in
     alone c.args.schema.now.kinds 6 c.args.limits c.decode.result c.args.input.now sillyprog 48 c.decode.ensures.only
@@ -21,7 +21,7 @@ pub returns-clause-taken : goal.returns-clause-taken
 returns-clause-taken c =
     let fit : FitsWithin c.args.schema.now.kinds 6 c.args.limits sillyprog =
     subst (λ (k : List KindView). FitsWithin k 6 c.args.limits sillyprog) (sym c.requires.kinds)
-    (refl, (c.requires.deep, c.requires.room)) in
+    (refl, (c.requires.deep, c.requires.buffer)) in
     let bytes : bytes_of c.args.schema.now.kinds 6 sillyprog ++ [] ≡ sillyprog_bytes =
     ap (λ (k : List KindView). bytes_of k 6 sillyprog ++ []) c.requires.kinds in
     only_memory c.args.schema.now.kinds 6 c.args.limits c.decode.result c.args.input.now sillyprog []

@@ -7,11 +7,11 @@ use Rattle.xdr_types.specs.Fits.{Fits}
 use Rattle.xdr_types.specs.Spelling.{bytes_of}
 use Rattle.xdr_types.specs.declared.kind.KindId.{KindId}
 use Rattle.xdr_laws.specs.Held.{node_count, byte_count}
-use Rattle.xdr_stream.specs.Stands.{taken}
+use Rattle.xdr_stream.specs.Represents.{taken}
 use Rattle.xdr_stream.specs.declared.holding.Held.{Held}
 use Rattle.xdr_stream.specs.declared.reader.Progress.{Progress}
 use Rattle.xdr_codec.specs.Settings.{kinds_of, kind_of}
-use Rattle.xdr_codec.specs.Stands.{StandsFor}
+use Rattle.xdr_codec.specs.Represents.{RepresentsBytes}
 use Rattle.example_xdr.specs.Rfc.{content}
 use Rattle.example_xdr.proofs.Refusing.{take_self}
 use Rattle.example_xdr.proofs.holding.holds_the_whole_value.Goals as goal
@@ -32,9 +32,9 @@ returns c =
     let set = c.start-decoder.ensures.settings in
     let used : ℕ = c.in-Ok-Done.field-0-0 in
     let b : List ℕ = take used input in
-    let stands : StandsFor n b = subst (λ (p : Progress). StandsFor n ([] ++ taken input (Ok p)))
-    c.in-Ok-Done.field-0-is (done.stands [] c.start-decoder.ensures.stands) in
-    let w = c.held.ensures.whole b stands (done.done used c.in-Ok-Done.field-0-is) in
+    let represents : RepresentsBytes n b = subst (λ (p : Progress). RepresentsBytes n ([] ++ taken input (Ok p)))
+    c.in-Ok-Done.field-0-is (done.represents [] c.start-decoder.ensures.represents) in
+    let w = c.held.ensures.whole b represents (done.done used c.in-Ok-Done.field-0-is) in
     let s = kinds_of n in
     let t : ℕ = (kind_of n).place in
     let kind : kind_at s t ≡ opaque_up_to 4294967295 =

@@ -8,11 +8,11 @@ use Rattle.xdr_types.specs.Fits.{Fits}
 use Rattle.xdr_types.specs.Spelling.{bytes_of}
 use Rattle.xdr_types.specs.declared.kind.KindId.{KindId}
 use Rattle.xdr_laws.specs.Held.{Holds}
-use Rattle.xdr_stream.specs.Stands.{taken}
+use Rattle.xdr_stream.specs.Represents.{taken}
 use Rattle.xdr_stream.specs.declared.holding.Held.{Held}
 use Rattle.xdr_stream.specs.declared.reader.Progress.{Progress}
 use Rattle.xdr_codec.specs.Settings.{kinds_of, kind_of}
-use Rattle.xdr_codec.specs.Stands.{StandsFor}
+use Rattle.xdr_codec.specs.Represents.{RepresentsBytes}
 use Rattle.std.proofs.Common.{pos}
 use Rattle.example_xdr.proofs.holding.holds_two_nodes_of_an_array.Goals as goal
 
@@ -27,10 +27,10 @@ returns c =
     let more = c.in-Ok-More.ensures in
     let set = c.start-decoder.ensures.settings in
     let h : Held = c.held-2.result in
-    let stands : StandsFor n input = subst (λ (p : Progress). StandsFor n ([] ++ taken input (Ok p)))
-    c.in-Ok-More.field-0-is (more.stands [] c.start-decoder.ensures.stands) in
-    let w = c.held-2.ensures.due input stands (more.more c.in-Ok-More.field-0-is) in
-    let few = c.held-2.ensures.bounds input stands in
+    let represents : RepresentsBytes n input = subst (λ (p : Progress). RepresentsBytes n ([] ++ taken input (Ok p)))
+    c.in-Ok-More.field-0-is (more.represents [] c.start-decoder.ensures.represents) in
+    let w = c.held-2.ensures.due input represents (more.more c.in-Ok-More.field-0-is) in
+    let few = c.held-2.ensures.bounds input represents in
     let s = kinds_of n in
     let t : ℕ = (kind_of n).place in
     let schema = more.same.schema_is ∙ set.schema_is in

@@ -2,7 +2,7 @@ use Rattle.std.proofs.Common.{◌≡◌, ◌+◌, ◌/◌, ◌≤◌, ℕ, List,
 use Rattle.std.proofs.lemmas.List.{length-take}
 use Rattle.std.proofs.lemmas.Nat.{mul-le}
 use Rattle.xdr_types.specs.Kinds.{KindView, Lists}
-use Rattle.xdr_stream.specs.Stands.{taken}
+use Rattle.xdr_stream.specs.Represents.{taken}
 use Rattle.xdr_stream.specs.declared.fault.DecodeFault.{DecodeFault}
 use Rattle.xdr_stream.specs.declared.reader.Progress.{Progress}
 use Rattle.xdr_stream.specs.declared.reader.Progress.TheVariants.{More, Done}
@@ -16,7 +16,7 @@ taken_few piece (Err f) = omega arith
 pub returns-clause-nodes : goal.returns-clause-nodes
 returns-clause-nodes c =
     let b : List ℕ = taken c.args.piece.now c.feed.result in
-    let w = c.held.ensures.bounds b (c.feed.ensures.stands [] c.start-decoder.ensures.stands) in
+    let w = c.held.ensures.bounds b (c.feed.ensures.represents [] c.start-decoder.ensures.represents) in
     let kinds : c.feed.new.self.reader.schema.now.kinds ≡ c.args.schema.now.kinds =
     ap (λ (s : Lists). s.kinds) (c.feed.ensures.same.schema_is ∙ c.start-decoder.ensures.settings.schema_is) in
     let few = taken_few c.args.piece.now c.feed.result in
@@ -28,5 +28,5 @@ returns-clause-nodes c =
 pub returns-clause-bytes : goal.returns-clause-bytes
 returns-clause-bytes c =
     let b : List ℕ = taken c.args.piece.now c.feed.result in
-    let w = c.held.ensures.bounds b (c.feed.ensures.stands [] c.start-decoder.ensures.stands) in
+    let w = c.held.ensures.bounds b (c.feed.ensures.represents [] c.start-decoder.ensures.represents) in
     omega (arith, w.bytes, taken_few c.args.piece.now c.feed.result)

@@ -13,7 +13,7 @@ pub returns-clause-parts : goal.returns-clause-parts
 returns-clause-parts c =
     let fit : FitsWithin c.args.schema.now.kinds 6 c.args.limits sillyprog =
     subst (λ (k : List KindView). FitsWithin k 6 c.args.limits sillyprog) (sym c.requires.kinds)
-    (refl, (c.requires.deep, c.requires.room)) in
+    (refl, (c.requires.deep, c.requires.buffer)) in
     let bytes : bytes_of c.args.schema.now.kinds 6 sillyprog ++ [] ≡ sillyprog_bytes =
     ap (λ (k : List KindView). bytes_of k 6 sillyprog ++ []) c.requires.kinds in
     subst (λ (k : List KindView). IfOk c.parts.result (λ ls. map entry_of ls.items ≡ entries k 6 sillyprog))
@@ -25,7 +25,7 @@ pub returns-clause-bytes : goal.returns-clause-bytes
 returns-clause-bytes c =
     let fit : FitsWithin c.args.schema.now.kinds 6 c.args.limits sillyprog =
     subst (λ (k : List KindView). FitsWithin k 6 c.args.limits sillyprog) (sym c.requires.kinds)
-    (refl, (c.requires.deep, c.requires.room)) in
+    (refl, (c.requires.deep, c.requires.buffer)) in
     let bytes : bytes_of c.args.schema.now.kinds 6 sillyprog ++ [] ≡ sillyprog_bytes =
     ap (λ (k : List KindView). bytes_of k 6 sillyprog ++ []) c.requires.kinds in
     let parts = subst (λ (k : List KindView). IfOk c.parts.result (λ ls. map entry_of ls.items ≡ entries k 6 sillyprog))
@@ -40,7 +40,7 @@ pub returns-clause-taken : goal.returns-clause-taken
 returns-clause-taken c =
     let fit : FitsWithin c.args.schema.now.kinds 6 c.args.limits sillyprog =
     subst (λ (k : List KindView). FitsWithin k 6 c.args.limits sillyprog) (sym c.requires.kinds)
-    (refl, (c.requires.deep, c.requires.room)) in
+    (refl, (c.requires.deep, c.requires.buffer)) in
     let bytes : bytes_of c.args.schema.now.kinds 6 sillyprog ++ [] ≡ sillyprog_bytes =
     ap (λ (k : List KindView). bytes_of k 6 sillyprog ++ []) c.requires.kinds in
     only_memory c.args.schema.now.kinds 6 c.args.limits c.depth-range.ensures.range.units c.args.input.now sillyprog []

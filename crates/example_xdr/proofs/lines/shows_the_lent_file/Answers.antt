@@ -42,7 +42,7 @@ returns-in-Ok c =
     let h = c.in-Ok.ensures.outcome in
     let fit : FitsWithin kinds 6 c.args.limits sillyprog =
     subst (λ (k : List KindView). FitsWithin k 6 c.args.limits sillyprog) (sym c.requires.kinds)
-    (refl, (c.requires.deep, c.requires.room)) in
+    (refl, (c.requires.deep, c.requires.buffer)) in
     let bytes : bytes_of kinds 6 sillyprog ++ [] ≡ sillyprog_bytes =
     ap (λ (k : List KindView). bytes_of k 6 sillyprog ++ []) c.requires.kinds in
     let same : h.0 ≡ sillyprog =

@@ -23,4 +23,4 @@ returns-clause-fault c = λ low deep.
     let fit : FitsWithin S d.reader.kind.place d.reader.limits number = rw kind (refl, (depth, limit)) in
     let bytes : bytes_of S d.reader.kind.place number ++ [] ≡ [] ++ (0 ∷ 0 ∷ 0 ∷ 7 ∷ []) = rw kind refl in
     waits S d.reader.kind.place d.reader.limits [] (0 ∷ 0 ∷ 0 ∷ 7 ∷ []) number fit bytes
-    c.feed.result (c.feed.ensures.answer [] c.start-decoder.ensures.stands)
+    c.feed.result (c.feed.ensures.answer [] c.start-decoder.ensures.represents)

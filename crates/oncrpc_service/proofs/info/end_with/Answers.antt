@@ -8,7 +8,7 @@ returns-in-Ok g c =
     let known = c.in-Ok.ensures.known in
     record {
       known = inl known;
-      printed = λ low. c.in-Ok.ensures.told;
+      printed = λ low. c.in-Ok.ensures.reported;
       unlost = λ low. c.in-Ok.ensures.none_failed;
       silent = λ low. refl;
       device = λ three. absurd (omega (arith, three, known));

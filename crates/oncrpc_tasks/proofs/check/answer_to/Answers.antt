@@ -1,6 +1,6 @@
 -- What is read as it is, shown and not.
 use Rattle.oncrpc_tasks.specs.Right.{asked_of}
-use Rattle.oncrpc_tasks.proofs.Showing.{shows_kept, stops_shown}
+use Rattle.oncrpc_tasks.proofs.Showing.{shows_retained, stops_shown}
 use Rattle.oncrpc_tasks.proofs.check.answer_to.Goals as goal
 
 pub returns-in_err-answer-clause-stops : goal.returns-in_err-answer-clause-stops
@@ -16,7 +16,7 @@ returns-in_err-shown-clause-stops g c =
 pub returns-in_ok-shown-clause-right : goal.returns-in_ok-shown-clause-right
 returns-in_ok-shown-clause-right g c =
     let q = asked_of c.args.question.now in
-    rw c.if-question.false (shows_kept q q.shows _ _ c.in_ok-answer.bytes.items _ _ c.in_ok-answer.ensures.kept
+    rw c.if-question.false (shows_retained q q.shows _ _ c.in_ok-answer.bytes.items _ _ c.in_ok-answer.ensures.retained
     c.in_ok-answer.ensures.right
     (rw c.deref.ensures.value at c.in_ok-shown.ensures.right))
 

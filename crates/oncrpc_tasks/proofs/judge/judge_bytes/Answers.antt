@@ -8,7 +8,7 @@ returns-in-Open-clause-right c =
     all_open _ _ c.args.bytes.now _ c.in-Open.answer c.in-Open.is
     (c.in_ok-verdict.ensures.says _ [] (started c.start-checker.result c.args.question.now.schema.now
     c.args.question.now.kind c.args.question.now.limits
-    c.start-checker.ensures.stands
+    c.start-checker.ensures.represents
     c.start-checker.ensures.settings) c.depth-in_range.ensures.range refl)
 
 pub returns-clause-right : goal.returns-clause-right
@@ -16,5 +16,5 @@ returns-clause-right c =
     all_settled _ _ c.args.bytes.now _ c.in-Settled.answer c.in-Settled.is
     (c.in_ok-verdict.ensures.says _ [] (started c.start-checker.result c.args.question.now.schema.now
     c.args.question.now.kind c.args.question.now.limits
-    c.start-checker.ensures.stands
+    c.start-checker.ensures.represents
     c.start-checker.ensures.settings) c.depth-in_range.ensures.range refl)

@@ -2,12 +2,12 @@
 use Rattle.std.proofs.Common.{◌≡◌, ℕ, inr, [], refl, arith, subst}
 use Rattle.std.proofs.lemmas.List.{length-take-le}
 use Rattle.std.proofs.KnownBytes.{Keeps-refl}
-use Rattle.xdr_io.specs.Told.{Counts}
+use Rattle.xdr_io.specs.Reported.{Counts}
 use Rattle.xdr_io.proofs.Chained.{Counts-trans, Counts-none}
 use Rattle.oncrpc_tasks.proofs.Progress.{started, begun, settled_first, moved_by, unsettled_by, failed_by, many_by}
 use Rattle.oncrpc_tasks.proofs.Progress.{one_more}
 use Rattle.oncrpc_tasks.proofs.Progress.{count_within, at_end_by, goes_on, settled_by, read_by}
-use Rattle.oncrpc_tasks.proofs.Progress.{kept_first, kept_at_end, kept_settled}
+use Rattle.oncrpc_tasks.proofs.Progress.{retained_first, retained_at_end, retained_settled}
 use Rattle.oncrpc_tasks.proofs.judge.judge_over.Goals as goal
 
 pub returns-in-Settled-clause-right : goal.returns-in-Settled-clause-right
@@ -15,23 +15,23 @@ returns-in-Settled-clause-right g c =
     settled_first _ _ _ c.in-Settled.answer _ c.in-Settled.is
     (c.in_ok-answer.ensures.says _ [] (started c.start-checker.result c.args.question.now.schema.now
     c.args.question.now.kind c.args.question.now.limits
-    c.start-checker.ensures.stands
+    c.start-checker.ensures.represents
     c.start-checker.ensures.settings) c.depth-in_range.ensures.range refl)
 
-pub returns-in-Settled-clause-kept : goal.returns-in-Settled-clause-kept
-returns-in-Settled-clause-kept g c =
-    kept_first _ _ _ c.in-Settled.answer _ c.args.question.now.shows _ c.new-kept.ensures.items c.in-Settled.is
+pub returns-in-Settled-clause-retained : goal.returns-in-Settled-clause-retained
+returns-in-Settled-clause-retained g c =
+    retained_first _ _ _ c.in-Settled.answer _ c.args.question.now.shows _ c.new-retained.ensures.items c.in-Settled.is
     (c.in_ok-answer.ensures.says _ [] (started c.start-checker.result c.args.question.now.schema.now
     c.args.question.now.kind c.args.question.now.limits
-    c.start-checker.ensures.stands
+    c.start-checker.ensures.represents
     c.start-checker.ensures.settings) c.depth-in_range.ensures.range refl)
 
 pub loop-turn-init : goal.loop-turn-init
 loop-turn-init g c = record {
-  progress = begun _ _ _ c.in-Open.answer _ c.args.question.now.shows _ c.new-kept.ensures.items c.in-Open.is
+  progress = begun _ _ _ c.in-Open.answer _ c.args.question.now.shows _ c.new-retained.ensures.items c.in-Open.is
       (c.in_ok-answer.ensures.says _ [] (started c.start-checker.result c.args.question.now.schema.now
       c.args.question.now.kind c.args.question.now.limits
-      c.start-checker.ensures.stands
+      c.start-checker.ensures.represents
       c.start-checker.ensures.settings) c.depth-in_range.ensures.range refl);
   reads = Counts-none _;
   none_failed = Counts-none _;
@@ -68,9 +68,9 @@ returns-then-n-eq0-clause-right g c =
     c.loop-turn.invariant.reads _ c.in-Ok.n c.read.new.array c.if-n-eq0.true
     c.in-Ok.ensures.bytes.0 (c.in-Ok.ensures.bytes.1 c.if-n-eq0.true)
 
-pub returns-then-n-eq0-clause-kept : goal.returns-then-n-eq0-clause-kept
-returns-then-n-eq0-clause-kept g c =
-    kept_at_end _ _ _ _ _ _ _ _ _ (g.I.Source.reads c.loop-turn.input) c.loop-turn.invariant.progress
+pub returns-then-n-eq0-clause-retained : goal.returns-then-n-eq0-clause-retained
+returns-then-n-eq0-clause-retained g c =
+    retained_at_end _ _ _ _ _ _ _ _ _ (g.I.Source.reads c.loop-turn.input) c.loop-turn.invariant.progress
     c.loop-turn.invariant.reads _ c.in-Ok.n c.read.new.array c.if-n-eq0.true
     c.in-Ok.ensures.bytes.0
 
@@ -211,9 +211,9 @@ returns-in-Settled-verdict-clause-right g c =
     (c.in_ok-verdict.ensures.says _ c.loop-turn.invariant.progress.seen
     c.loop-turn.invariant.progress.follows c.depth-in_range.ensures.range c.loop-turn.invariant.progress.counted)
 
-pub returns-in-Settled-verdict-clause-kept : goal.returns-in-Settled-verdict-clause-kept
-returns-in-Settled-verdict-clause-kept g c =
-    kept_settled _ _ _ _ _ _ _ _ _ (g.I.Source.reads c.loop-turn.input) c.loop-turn.invariant.progress
+pub returns-in-Settled-verdict-clause-retained : goal.returns-in-Settled-verdict-clause-retained
+returns-in-Settled-verdict-clause-retained g c =
+    retained_settled _ _ _ _ _ _ _ _ _ (g.I.Source.reads c.loop-turn.input) c.loop-turn.invariant.progress
     c.loop-turn.invariant.reads _ c.in-Ok.n c.read.new.array _ _
     c.in-Settled-verdict.answer c.in-Ok.ensures.bytes.0 c.in-Settled-verdict.is
     (c.in_ok-verdict.ensures.says _ c.loop-turn.invariant.progress.seen

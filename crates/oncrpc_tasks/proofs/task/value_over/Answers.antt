@@ -7,7 +7,7 @@ returns-clause-ends g c =
     let asks = c.in-Ok.ensures.asks in
     inl (record {
       text = asks.text;
-      is_told = asks.is_told;
+      is_reported = asks.is_reported;
       question = _;
       asked = asks.asked c.args.shows;
       ends = c.answer_over.ensures;

@@ -5,7 +5,7 @@ use Rattle.registry_answer.specs.Private.Pushes.{head}
 use Rattle.registry_answer.specs.Views.{netid_of}
 use Rattle.registry_answer.proofs.Calls.{pushes_accepted}
 use Rattle.registry_answer.proofs.Chains.{begins_added}
-use Rattle.registry_answer.proofs.Room.{has_room, cut_behind, pushes_cut}
+use Rattle.registry_answer.proofs.Space.{has_room, cut_behind, pushes_cut}
 use Rattle.registry_answer.proofs.answering.push_sendable.Goals as goal
 
 pub returns-then-not-carries-clause-ok : goal.returns-then-not-carries-clause-ok

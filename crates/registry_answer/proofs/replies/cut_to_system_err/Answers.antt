@@ -7,11 +7,11 @@ use Rattle.registry_answer.proofs.replies.cut_to_system_err.Goals as goal
 pub returns : goal.returns
 returns c old results xid e f =
     let before : ℕ = c.args.before in
-    let kept : c.truncate.new.self.items ≡ old ++ head xid 0 =
+    let retained : c.truncate.new.self.items ≡ old ++ head xid 0 =
     c.truncate.ensures.items ∙ ap (take (c.args.before + 24)) f
     ∙ ap (λ (n : ℕ). take (n + 24) (old ++ (head xid 0 ++ results))) (sym e)
     ∙ take-append-add old (head xid 0 ++ results) 24 in
     let place : c.args.before + 23 - c.args.before ≡ 23 = omega arith in
-    ap (λ (l : List ℕ). slice_set l (c.args.before + 23) 5) kept
+    ap (λ (l : List ℕ). slice_set l (c.args.before + 23) 5) retained
     ∙ set-append_right old (head xid 0) c.args.before (c.args.before + 23) 5 e (omega arith)
     ∙ ap (λ (k : ℕ). old ++ slice_set (head xid 0) k 5) place

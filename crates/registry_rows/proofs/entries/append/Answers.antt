@@ -17,13 +17,13 @@ use Rattle.registry_rows.proofs.entries.append.Goals as goal
 entries_more : (es : List (Key × Row)) (k : Key) (r : Row) → AreEntries es → length es < 1024 → IsRow (plain_row r)
     → k ≡ key_of r.prog r.vers r.netid.items
     → list_any (is_at r.prog r.vers r.netid.items) (plain_rows es) ≡ false → AreEntries (es ++ (k, r) ∷ [])
-entries_more es k r h room row key absent =
+entries_more es k r h space row key absent =
     let n : length (es ++ (k, r) ∷ []) ≡ length es + 1 = length-append es ((k, r) ∷ []) in
     record {
       keyed = AreKeyed-push es (k, r) h.keyed (record { key = key; row = row });
       none_twice = subst NoneTwice (sym (plain_rows-push es (k, r)))
           (NoneTwice-push (plain_rows es) (plain_row r) h.none_twice absent);
-      few = omega (arith, n, room);
+      few = omega (arith, n, space);
     }
 
 pub returns-in-Ok-clause-entries : goal.returns-in-Ok-clause-entries
@@ -36,7 +36,7 @@ returns-in-Ok-clause-entries g c =
     c.requires.absent) in
     let entries = c.in-Ok.ensures.entries ∙ insert_entry-new key_eq c.args.rows.now c.new-key.result row none in
     subst AreEntries (sym entries)
-    (entries_more c.args.rows.now.entries c.new-key.result row c.requires.entries c.requires.room c.requires.row key
+    (entries_more c.args.rows.now.entries c.new-key.result row c.requires.entries c.requires.space c.requires.row key
     c.requires.absent)
 
 pub returns-in-Ok-clause-ok : goal.returns-in-Ok-clause-ok

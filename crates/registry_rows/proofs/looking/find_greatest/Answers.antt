@@ -11,7 +11,7 @@ use Rattle.registry_rows.specs.Rows as plain
 use Rattle.registry_rows.specs.LookUp.{is_over, none_greater, greatest}
 use Rattle.registry_rows.specs.Views.{plain_row, plain_rows}
 use Rattle.registry_rows.proofs.Bounds.{found_is_row, seen}
-use Rattle.registry_rows.proofs.Greatest.{IsGreatest, takes, leaves, skips, all_looked_at, kept_rows}
+use Rattle.registry_rows.proofs.Greatest.{IsGreatest, takes, leaves, skips, all_looked_at, retained_rows}
 use Rattle.registry_rows.proofs.Twice.{registry}
 use Rattle.registry_rows.proofs.looking.find_greatest.Goals as goal
 use Rattle.registry_rows.proofs.looking.find_greatest.Goals.{else-is_over-via-then-is_over+else-is_greater}
@@ -72,7 +72,7 @@ returns-clause-value g c =
 pub returns-clause-row : goal.returns-clause-row
 returns-clause-row g c =
     let over = filter (is_over c.args.prog c.args.netid.now) (plain_rows c.args.rows.now.entries) in
-    let rows = kept_rows (is_over c.args.prog c.args.netid.now) (plain_rows c.args.rows.now.entries)
+    let rows = retained_rows (is_over c.args.prog c.args.netid.now) (plain_rows c.args.rows.now.entries)
     (registry c.args.rows.now.entries c.requires).each in
     seen view c.loop-row.greatest (greatest over) (returns-clause-value g c)
     (λ r e. found_is_row (none_greater over) over rows r e)

@@ -1,5 +1,5 @@
 use Rattle.std.proofs.Common.{◌≤◌}
-use Rattle.xdr_io.specs.Told.{Counts}
+use Rattle.xdr_io.specs.Reported.{Counts}
 use Rattle.rpc_engine.specs.Private.Replying.{HasServed}
 use Rattle.rpc_engine.proofs.datagrams.serve_datagrams.Given as goal
 

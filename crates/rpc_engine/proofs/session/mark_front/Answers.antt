@@ -8,7 +8,7 @@ returns c = λ front reply four e.
     let count : c.len.result - 4 ≡ length reply = omega (
       arith,
       c.len.ensures,
-      c.args.room.now.ok.0,
+      c.args.buffer.now.ok.0,
       ap length e,
       length-append front reply,
       four,

@@ -1,5 +1,5 @@
 use Rattle.std.proofs.Common.{ℕ, List}
-use Rattle.xdr_io.specs.Told.{Counts}
+use Rattle.xdr_io.specs.Reported.{Counts}
 use Rattle.rpc_record.specs.Streamed.{HasRead, most_to_come, reads_of}
 use Rattle.rpc_record.proofs.Gathering.{Handed}
 use Rattle.rpc_record.proofs.normal.normalise.Given as goal

@@ -5,8 +5,8 @@ use Rattle.rpc_record.specs.Reading.{capped}
 use Rattle.rpc_record.proofs.Places.{StandsAt-same}
 use Rattle.rpc_record.proofs.steps.after_heading.Goals as goal
 
-pub returns-then-heading-room-clause-stands : goal.returns-then-heading-room-clause-stands
-returns-then-heading-room-clause-stands c limit rs content before room u at t = record {
+pub returns-then-heading-space-clause-represents : goal.returns-then-heading-space-clause-represents
+returns-then-heading-space-clause-represents c limit rs content before space u at t = record {
   before = before;
   content = content;
   last = c.args.heading.last;
@@ -19,12 +19,12 @@ returns-then-heading-room-clause-stands c limit rs content before room u at t = 
   spelled = ap (λ b. before ++ b) (sym (append-nil (header c.args.heading.last c.args.heading.count)));
 }
 
-pub returns-else-heading-gt0-clause-stands : goal.returns-else-heading-gt0-clause-stands
-returns-else-heading-gt0-clause-stands c limit rs content before room u at t =
+pub returns-else-heading-gt0-clause-represents : goal.returns-else-heading-gt0-clause-represents
+returns-else-heading-gt0-clause-represents c limit rs content before space u at t =
     let none : 0 ≡ c.args.heading.count = omega arith in
     let same = ap (λ b. before ++ b) (append-nil (header c.args.heading.last 0)
     ∙ ap (header c.args.heading.last) none) in
     let fits : length (content ++ []) ≤ limit = omega (arith, ap length (append-nil content), u.fits) in
     StandsAt-same limit c.args.taken _ rs _ _ _ _ (append-nil content) same
-    (c.after_fragment.ensures.stands limit rs content [] before u (omega arith) fits
+    (c.after_fragment.ensures.represents limit rs content [] before u (omega arith) fits
     (t ∙ ap (λ b. capped (length b)) (sym same)))

@@ -1,8 +1,8 @@
 use Rattle.std.proofs.Common.{◌≤◌, ℕ, List, [], ◌++◌, length, take, subst, Ok}
 use Rattle.xdr_types.specs.View.{tree}
-use Rattle.xdr_stream.specs.Stands.{taken, used_of}
+use Rattle.xdr_stream.specs.Represents.{taken, used_of}
 use Rattle.xdr_stream.specs.declared.reader.Progress.{Progress}
-use Rattle.xdr_codec.specs.Stands.{StandsFor}
+use Rattle.xdr_codec.specs.Represents.{RepresentsBytes}
 use Rattle.xdr_codec.specs.Outcomes.{HasOutcome}
 use Rattle.xdr_codec.proofs.Outcomes.{whole, alone, given, not_given}
 use Rattle.xdr_codec.proofs.decoding.decode.Goals as goal
@@ -12,13 +12,13 @@ returns-in-Ok-clause-outcome c =
     let input : List ℕ = c.args.input.now in
     let used : ℕ = c.in-Ok-Done.used in
     let done = c.in-Ok-Done.ensures in
-    let stands = subst (λ (p : Progress). StandsFor c.feed.new.self ([] ++ taken input (Ok p))) c.in-Ok-Done.field-0-is
-    (done.stands [] c.start-decoder.ensures.stands) in
+    let represents = subst (λ (p : Progress). RepresentsBytes c.feed.new.self ([] ++ taken input (Ok p))) c.in-Ok-Done.field-0-is
+    (done.represents [] c.start-decoder.ensures.represents) in
     let low : used ≤ length input = subst (λ (p : Progress). used_of p ≤ length input) c.in-Ok-Done.field-0-is done.used
     in
     given c.args.schema.now c.args.kind c.args.limits c.start-decoder.result c.feed.new.self
     c.start-decoder.ensures.settings done.same input used low c.in-Ok.value
-    (c.in-Ok.ensures.outcome (take used input) stands)
+    (c.in-Ok.ensures.outcome (take used input) represents)
 
 pub returns-in-Ok-clause-only : goal.returns-in-Ok-clause-only
 returns-in-Ok-clause-only c = λ t n fit most spelled.
@@ -26,13 +26,13 @@ returns-in-Ok-clause-only c = λ t n fit most spelled.
     let input : List ℕ = c.args.input.now in
     let used : ℕ = c.in-Ok-Done.used in
     let done = c.in-Ok-Done.ensures in
-    let stands = subst (λ (p : Progress). StandsFor c.feed.new.self ([] ++ taken input (Ok p))) c.in-Ok-Done.field-0-is
-    (done.stands [] c.start-decoder.ensures.stands) in
+    let represents = subst (λ (p : Progress). RepresentsBytes c.feed.new.self ([] ++ taken input (Ok p))) c.in-Ok-Done.field-0-is
+    (done.represents [] c.start-decoder.ensures.represents) in
     let low : used ≤ length input = subst (λ (p : Progress). used_of p ≤ length input) c.in-Ok-Done.field-0-is done.used
     in
     let o = given c.args.schema.now c.args.kind c.args.limits c.start-decoder.result c.feed.new.self
     c.start-decoder.ensures.settings done.same input used low c.in-Ok.value
-    (c.in-Ok.ensures.outcome (take used input) stands) in
+    (c.in-Ok.ensures.outcome (take used input) represents) in
     let units = c.depth-range.ensures.range.units in
     alone s c.args.kind.place c.args.limits units input t (tree c.in-Ok.value) n used fit most spelled
     (whole s c.args.kind.place c.args.limits units input (tree c.in-Ok.value) used o)

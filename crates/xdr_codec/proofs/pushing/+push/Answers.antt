@@ -8,7 +8,7 @@ use Rattle.xdr_types.specs.Fits.{fits, fit, parts, item_part, part_of}
 use Rattle.xdr_types.specs.Spelling.{bytes_of}
 use Rattle.xdr_types.specs.View.{tree}
 use Rattle.xdr_types.proofs.Views.{tree-List, tree-Choice}
-use Rattle.xdr_types.proofs.Joining.{values-at, items-at, fields-at, first-fits, told-step, chosen-fits}
+use Rattle.xdr_types.proofs.Joining.{values-at, items-at, fields-at, first-fits, reported-step, chosen-fits}
 use Rattle.xdr_types.proofs.Fitting.{fit-count}
 use Rattle.xdr_types.specs.declared.value.Value.{Value, the_lemmas}
 use Rattle.xdr_codec.proofs.pushing.+push.Goals as goal
@@ -36,8 +36,8 @@ push_items-loop-value-preserved g t c =
       sent = g.met.P.Put.trans c.args.out.now c.loop-value.out c.push_value.new.out c.loop-value.invariant.put
           (bytes_of c.args.schema.now.kinds c.args.id.place (tree c.value-item.result)) c.loop-value.invariant.sent
           c.in_ok-push_value.ensures;
-      told = told-step c.args.schema.now.kinds (item_part c.args.id.place) _ _ (tree c.value-item.result) _ _
-          c.loop-value.invariant.put _ _ more next c.loop-value.invariant.told refl;
+      reported = reported-step c.args.schema.now.kinds (item_part c.args.id.place) _ _ (tree c.value-item.result) _ _
+          c.loop-value.invariant.put _ _ more next c.loop-value.invariant.reported refl;
     }
 
 pub push_parts-push_value-requires : goal.push_parts-push_value-requires
@@ -78,8 +78,8 @@ push_parts-loop-i-preserved g t c =
       sent = g.met.P.Put.trans c.args.out.now c.loop-i.out c.push_value.new.out c.loop-i.invariant.put
           (bytes_of c.args.schema.now.kinds m.kind.place (tree c.value-item.result)) c.loop-i.invariant.sent
           c.in_ok-push_value.ensures;
-      told = told-step c.args.schema.now.kinds (part_of_member m) _ _ (tree c.value-item.result) _ _
-          c.loop-i.invariant.put _ _ more next c.loop-i.invariant.told refl;
+      reported = reported-step c.args.schema.now.kinds (part_of_member m) _ _ (tree c.value-item.result) _ _
+          c.loop-i.invariant.put _ _ more next c.loop-i.invariant.reported refl;
     }
 
 pub push_inner-returns-in-Fixed-List : goal.push_inner-returns-in-Fixed-List

@@ -13,7 +13,7 @@ invariant-push_items-loop-value g l =
       fit : fit l.schema.kinds (replicate (length rest) item) (values rest) ≡ true;
       put : List ℕ;
       sent : g.P.Put.sends l.initial.out l.out put;
-      told : put ++ spelling l.schema.kinds (replicate (length rest) item) (values rest)
+      reported : put ++ spelling l.schema.kinds (replicate (length rest) item) (values rest)
           ≡ spelling l.schema.kinds (replicate (length l.value-items) item) (values l.value-items);
     }
 
@@ -25,6 +25,6 @@ invariant-push_parts-loop-i g l =
       fit : fit l.schema.kinds ps rest ≡ true;
       put : List ℕ;
       sent : g.P.Put.sends l.initial.out l.out put;
-      told : put ++ spelling l.schema.kinds ps rest
+      reported : put ++ spelling l.schema.kinds ps rest
           ≡ spelling l.schema.kinds (map part_of_member l.fields.items) (values l.parts.items);
     }

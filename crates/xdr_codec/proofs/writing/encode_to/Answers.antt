@@ -10,9 +10,9 @@ returns-in-Err-clause-cut g c =
     let bs : List ℕ = bytes_of c.args.schema.now.kinds c.args.kind.place (tree c.args.value.now) in
     let small : length bs < 2 ^ 32 = omega (arith, c.requires.1.1, c.depth-depth.ensures.range.most_bytes) in
     let out = cut_out _ _ bs refl refl small c.in-Err.ensures.1 in
-    let told : Appends (g.W.Sink.taken c.args.writer.now) (g.W.Sink.taken c.push_value.new.out.sink.now)
+    let reported : Appends (g.W.Sink.taken c.args.writer.now) (g.W.Sink.taken c.push_value.new.out.sink.now)
     (take c.push_value.new.out.written bs) = out.0 in
-    search (rules, told)
+    search (rules, reported)
 
 pub returns-in-Err-clause-short : goal.returns-in-Err-clause-short
 returns-in-Err-clause-short g c =
@@ -26,8 +26,8 @@ returns-in-Ok-flush-clause-bytes g c =
     let small : length bs < 2 ^ 32 = omega (arith, c.requires.1.1, c.depth-depth.ensures.range.most_bytes) in
     let out = all_out _ _ _ bs refl refl c.in-Ok-flush.ensures.empty small c.in-Ok.ensures.1 c.in-Ok-flush.ensures.put
     in
-    let told : Appends (g.W.Sink.taken c.args.writer.now) (g.W.Sink.taken c.flush.new.self.sink.now) bs = out.0 in
-    search (rules, told)
+    let reported : Appends (g.W.Sink.taken c.args.writer.now) (g.W.Sink.taken c.flush.new.self.sink.now) bs = out.0 in
+    search (rules, reported)
 
 pub returns-in-Ok-flush-clause-count : goal.returns-in-Ok-flush-clause-count
 returns-in-Ok-flush-clause-count g c =
@@ -40,9 +40,9 @@ returns-in-Err-flush-clause-cut g c =
     let bs : List ℕ = bytes_of c.args.schema.now.kinds c.args.kind.place (tree c.args.value.now) in
     let small : length bs < 2 ^ 32 = omega (arith, c.requires.1.1, c.depth-depth.ensures.range.most_bytes) in
     let out = cut_late _ _ _ bs refl refl small c.in-Ok.ensures.1 c.in-Err-flush.ensures.put in
-    let told : Appends (g.W.Sink.taken c.args.writer.now) (g.W.Sink.taken c.flush.new.self.sink.now)
+    let reported : Appends (g.W.Sink.taken c.args.writer.now) (g.W.Sink.taken c.flush.new.self.sink.now)
     (take c.flush.new.self.written bs) = out.0 in
-    search (rules, told)
+    search (rules, reported)
 
 pub returns-in-Err-flush-clause-short : goal.returns-in-Err-flush-clause-short
 returns-in-Err-flush-clause-short g c =

@@ -4,7 +4,7 @@ use Rattle.xdr_grammar.specs.Outline.{nothing}
 use Rattle.xdr_grammar.specs.View.{outline_of}
 use Rattle.xdr_grammar.specs.Private.Reading.{definitions_at}
 use Rattle.xdr_grammar.proofs.Loop.{fails_along}
-use Rattle.xdr_grammar.proofs.Outlining.{outline_found, outline_again, told_fails, told_is}
+use Rattle.xdr_grammar.proofs.Outlining.{outline_found, outline_again, reported_fails, told_is}
 use Rattle.xdr_grammar.proofs.reading.read_outline.Goals as goal
 
 pub returns-clause-only : goal.returns-clause-only
@@ -17,7 +17,7 @@ returns-clause-only c = λ v is.
       c.new-4.ensures.items,
     ) at c.in-Err.ensures in
     rw c.fault_of.ensures
-    (told_fails c.in-Err.misread v (fails_along c.in-Err.misread (definitions_at (length ts) nothing ts) (Some v)
+    (reported_fails c.in-Err.misread v (fails_along c.in-Err.misread (definitions_at (length ts) nothing ts) (Some v)
     (λ none. sym (outline_again ts v is) ∙ none) failed))
 
 pub returns-clause-refused : goal.returns-clause-refused

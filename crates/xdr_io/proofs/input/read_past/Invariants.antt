@@ -1,6 +1,6 @@
 use Rattle.std.specs.Prelude.{◌≤◌, vec_len}
 use Rattle.std.specs.Io.KnownBytes.{Consumes}
-use Rattle.xdr_io.specs.Told.{Counts}
+use Rattle.xdr_io.specs.Reported.{Counts}
 use Rattle.xdr_io.proofs.input.read_past.Given as goal
 
 abbrev pub invariant-loop-turn : goal.invariant-loop-turn

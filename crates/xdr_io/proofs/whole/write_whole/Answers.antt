@@ -1,7 +1,7 @@
 use Rattle.std.proofs.Common.{◌<◌, ◌≤◌, ◌-◌, length, refl, arith}
 use Rattle.std.proofs.lemmas.List.{take_all}
 use Rattle.xdr_io.proofs.Chained.{Counts-trans, Counts-none, Counts-nothing, Counts-some, Appends-none, Appends-piece}
-use Rattle.xdr_io.proofs.Chained.{Appends-then_kept, length_rest}
+use Rattle.xdr_io.proofs.Chained.{Appends-then_retained, length_rest}
 use Rattle.xdr_io.proofs.whole.write_whole.Goals as goal
 
 pub loop-written-init : goal.loop-written-init
@@ -36,7 +36,7 @@ returns-in-Ok-eq0-clause-one_failed g c =
 
 pub returns-in-Err-clause-cut : goal.returns-in-Err-clause-cut
 returns-in-Err-clause-cut g c =
-    (omega arith, Appends-then_kept _ _ _ _ c.loop-written.invariant.wrote c.in-Err.ensures.bytes)
+    (omega arith, Appends-then_retained _ _ _ _ c.loop-written.invariant.wrote c.in-Err.ensures.bytes)
 
 pub returns-in-Err-clause-one_failed : goal.returns-in-Err-clause-one_failed
 returns-in-Err-clause-one_failed g c =

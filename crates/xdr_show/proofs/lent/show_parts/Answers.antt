@@ -12,7 +12,7 @@ loop-part-init c =
     let r = c.requires in
     record {
       ready = (says_value c.args.schema.now.kinds r.0 r.1 r.2 c.args.parts.now r.3).0;
-      told = ap (λ (z : List ℕ). z ++ flat_map (line_lent c.args.schema.now.kinds) c.args.parts.now)
+      reported = ap (λ (z : List ℕ). z ++ flat_map (line_lent c.args.schema.now.kinds) c.args.parts.now)
           c.new-out.ensures.items;
     }
 
@@ -22,5 +22,5 @@ returns c = λ kind v input are.
     let left : drop c.loop-part.part-index c.args.parts.now ≡ [] = search (rules, drop_all) in
     sym (append-nil c.loop-part.out.items)
     ∙ ap (λ (z : List Lent). c.loop-part.out.items ++ flat_map (line_lent kinds) z) (sym left)
-    ∙ c.loop-part.invariant.told
+    ∙ c.loop-part.invariant.reported
     ∙ (says_value kinds kind v input c.args.parts.now are).1

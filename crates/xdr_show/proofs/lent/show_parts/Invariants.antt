@@ -6,6 +6,6 @@ use Rattle.xdr_show.proofs.lent.show_parts.Given as goal
 abbrev pub invariant-loop-part : goal.invariant-loop-part
 invariant-loop-part l = record {
   ready : AllByRecursion (IsReadable l.schema.kinds) (drop l.part-index l.parts);
-  told : l.out.items ++ flat_map (line_lent l.schema.kinds) (drop l.part-index l.parts)
+  reported : l.out.items ++ flat_map (line_lent l.schema.kinds) (drop l.part-index l.parts)
       ≡ flat_map (line_lent l.schema.kinds) l.parts;
 }

@@ -36,8 +36,8 @@ push_items-loop-value-preserved t c =
     record {
       fit = (first-fits S item _ _ (tree c.value-item.result) _ _ more next c.loop-value.invariant.fit).1;
       deep = (deep-step 4096 c.args.depth (tree c.value-item.result) _ _ next c.loop-value.invariant.deep).1;
-      told = lines-step S c.args.depth item _ _ (tree c.value-item.result) _ _ c.loop-value.out.items
-          c.push_value.new.out.items _ more next c.loop-value.invariant.told c.in_ok-push_value.ensures;
+      reported = lines-step S c.args.depth item _ _ (tree c.value-item.result) _ _ c.loop-value.out.items
+          c.push_value.new.out.items _ more next c.loop-value.invariant.reported c.in_ok-push_value.ensures;
     }
 
 pub push_fields-push_value-requires : goal.push_fields-push_value-requires
@@ -77,8 +77,8 @@ push_fields-loop-i-preserved t c =
     record {
       fit = (first-fits S (part_of_member m) _ _ (tree c.value-item.result) _ _ more next c.loop-i.invariant.fit).1;
       deep = (deep-step 4096 c.args.depth (tree c.value-item.result) _ _ next c.loop-i.invariant.deep).1;
-      told = lines-step S c.args.depth (part_of_member m) _ _ (tree c.value-item.result) _ _ c.loop-i.out.items
-          c.push_value.new.out.items _ more next c.loop-i.invariant.told (rw (← named) c.in_ok-push_value.ensures);
+      reported = lines-step S c.args.depth (part_of_member m) _ _ (tree c.value-item.result) _ _ c.loop-i.out.items
+          c.push_value.new.out.items _ more next c.loop-i.invariant.reported (rw (← named) c.in_ok-push_value.ensures);
     }
 
 pub push_inner-returns-in-Fixed-List : goal.push_inner-returns-in-Fixed-List

@@ -13,7 +13,7 @@ invariant-push_items-loop-value l =
     record {
       fit : fit l.schema.kinds (replicate (length rest) item) (values rest) ≡ true;
       deep : l.depth + depth_of (values rest) ≤ 4097;
-      told : l.out.items ++ lines l.schema.kinds l.depth (replicate (length rest) item) (values rest)
+      reported : l.out.items ++ lines l.schema.kinds l.depth (replicate (length rest) item) (values rest)
           ≡ l.initial.out.items ++ lines l.schema.kinds l.depth (replicate (length l.value-items) item)
           (values l.value-items);
     }
@@ -25,7 +25,7 @@ invariant-push_fields-loop-i l =
     record {
       fit : fit l.schema.kinds ps rest ≡ true;
       deep : l.depth + depth_of rest ≤ 4097;
-      told : l.out.items ++ lines l.schema.kinds l.depth ps rest
+      reported : l.out.items ++ lines l.schema.kinds l.depth ps rest
           ≡ l.initial.out.items ++ lines l.schema.kinds l.depth (map part_of_member l.fields.items)
           (values l.parts.items);
     }

@@ -7,6 +7,6 @@ use Rattle.xdr_show.proofs.shown.show.Goals as goal
 
 pub returns : goal.returns
 returns c =
-    let told : c.push_value.new.out.items ≡ value_lines c.args.schema.now.kinds 1 (item_part c.args.kind.place)
+    let reported : c.push_value.new.out.items ≡ value_lines c.args.schema.now.kinds 1 (item_part c.args.kind.place)
     (tree c.args.value.now) = search (rules, c.in_ok-push_value.ensures) in
-    told ∙ sym (show_is_lines c.args.schema.now.kinds c.args.kind.place (tree c.args.value.now))
+    reported ∙ sym (show_is_lines c.args.schema.now.kinds c.args.kind.place (tree c.args.value.now))

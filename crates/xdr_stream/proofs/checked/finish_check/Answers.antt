@@ -2,7 +2,7 @@ use Rattle.std.proofs.Common.{subst, arith}
 use Rattle.std.specs.Prelude.{⊤}
 use Rattle.xdr_stream.specs.Trace.{Trace}
 use Rattle.xdr_stream.specs.Frames.{stack_of}
-use Rattle.xdr_stream.specs.Stands.{StandsAs}
+use Rattle.xdr_stream.specs.Represents.{StandsAs}
 use Rattle.xdr_stream.specs.declared.reader.State.{State}
 use Rattle.xdr_stream.proofs.Finishing.{finish_failed, finish_open, still_open, kind_known}
 use Rattle.xdr_stream.proofs.Counting.{counted_whole}

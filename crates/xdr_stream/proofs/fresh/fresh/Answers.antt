@@ -10,18 +10,18 @@ use Rattle.xdr_stream.specs.declared.machine.Awaits.TheVariants.{Next}
 use Rattle.xdr_stream.proofs.Finishing.{sees_start}
 use Rattle.xdr_stream.proofs.fresh.fresh.Goals as goal
 
-pub returns-clause-stands : goal.returns-clause-stands
-returns-clause-stands g c = λ told.
-    let tells : Trace → Type 0 = λ (t : Trace). g.B.Build.tells c.args.built t in (
+pub returns-clause-represents : goal.returns-clause-represents
+returns-clause-represents g c = λ reported.
+    let reports : Trace → Type 0 = λ (t : Trace). g.B.Build.reports c.args.built t in (
       refl,
       refl,
       refl,
-      subst (λ (fs : List (List Part)). Sees c.args.schema.now.kinds c.args.kind.place c.args.limits tells Next
+      subst (λ (fs : List (List Part)). Sees c.args.schema.now.kinds c.args.kind.place c.args.limits reports Next
           ((item_part c.args.kind.place ∷ []) ∷ fs) [])
           (ap (λ (fs : List Frame). onto [] fs) (sym c.new.ensures))
-          (sees_start c.args.schema.now.kinds c.args.kind.place c.args.limits tells c.len-known.ensures.valued
-          c.requires told),
-      told,
+          (sees_start c.args.schema.now.kinds c.args.kind.place c.args.limits reports c.len-known.ensures.valued
+          c.requires reported),
+      reported,
       ap (λ (fs : List Frame). length ((item_part c.args.kind.place ∷ []) ∷ onto [] fs)) c.new.ensures,
     )
 

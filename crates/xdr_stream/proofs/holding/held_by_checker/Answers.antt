@@ -10,7 +10,7 @@ returns-clause-counts c = λ b st.
     let r = c.args.reader.now in
     let w = stored r.schema.now c.len-known.ensures.well_formed c.len-known.ensures.sound r.kind.place r.limits
     c.depth-range.ensures.range ⊤ (λ (t : Trace). ⊤) (stack_of r.work r.parents.items) r.read r.unit
-    r.pending r.state b c.pending_of.ensures.room st in
+    r.pending r.state b c.pending_of.ensures.space st in
     record {
       frames = c.frames_of.ensures (parents_few r.state r.work r.parents.items r.limits c.depth-range.ensures.range
           w.2.frames_are);
@@ -24,7 +24,7 @@ returns-clause-bounds c = λ b st.
     let r = c.args.reader.now in
     let w = stored r.schema.now c.len-known.ensures.well_formed c.len-known.ensures.sound r.kind.place r.limits
     c.depth-range.ensures.range ⊤ (λ (t : Trace). ⊤) (stack_of r.work r.parents.items) r.read r.unit
-    r.pending r.state b c.pending_of.ensures.room st in
+    r.pending r.state b c.pending_of.ensures.space st in
     record {
       frames = omega (
         arith,

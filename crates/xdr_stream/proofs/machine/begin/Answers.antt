@@ -42,8 +42,8 @@ pub returns-then-len-depth-clause-deep : goal.returns-then-len-depth-clause-deep
 returns-then-len-depth-clause-deep g c = λ kind q rest h.
     let deep : c.args.limits.depth ≤ length c.loop-id.parents.items =
     omega (arith, c.if-len-depth.true, c.len.ensures, c.depth.ensures.value) in
-    code_deep c.args.schema.now.kinds kind c.args.limits (g.B.Build.tells c.loop-id.built)
-    (g.B.Build.tells c.loop-id.built) c.loop-id.work c.loop-id.parents.items q c.in-Some.id.place rest
+    code_deep c.args.schema.now.kinds kind c.args.limits (g.B.Build.reports c.loop-id.built)
+    (g.B.Build.reports c.loop-id.built) c.loop-id.work c.loop-id.parents.items q c.in-Some.id.place rest
     c.in-Some.ensures deep (c.loop-id.invariant.0 kind q h)
 
 pub returns-then-len-depth-clause-solid : goal.returns-then-len-depth-clause-solid
@@ -79,12 +79,12 @@ loop-id-preserved-in-Continue-1 g c =
     (formed_of c.args.schema.now c.len-known.ensures.well_formed c.in-Some.id.place) is in
     let stack = c.in_ok-open-in-Fields.ensures.stack in (
       (λ kind q h.
-          subst (λ (fs : List (List Part)). Sees s kind c.args.limits (g.B.Build.tells c.«open».new.built) Next fs q)
+          subst (λ (fs : List (List Part)). Sees s kind c.args.limits (g.B.Build.reports c.«open».new.built) Next fs q)
           (sym stack)
-          (code_silent s kind c.args.limits (g.B.Build.tells c.loop-id.built)
-          (g.B.Build.tells c.«open».new.built) c.loop-id.work c.loop-id.parents.items q
+          (code_silent s kind c.args.limits (g.B.Build.reports c.loop-id.built)
+          (g.B.Build.reports c.«open».new.built) c.loop-id.work c.loop-id.parents.items q
           (xdr.structure ps) value.fields n tt tt refl refl
-          c.in_ok-open-in-Fields.ensures.told (c.loop-id.invariant.0 kind q h))),
+          c.in_ok-open-in-Fields.ensures.reported (c.loop-id.invariant.0 kind q h))),
       subst (λ (fs : List (List Part)). AreAllSolid s fs) (sym stack)
           (inner.0, (solid_rest s (left_of c.loop-id.work) c.loop-id.invariant.1.0, c.loop-id.invariant.1.1)),
       subst (λ (qs : List Part). HasNext qs) (sym c.in_ok-open-in-Fields.ensures.work) inner.1,
@@ -120,12 +120,12 @@ loop-id-preserved g c =
     (formed_of c.args.schema.now c.len-known.ensures.well_formed c.in-Some.id.place) is in
     let stack = c.in_ok-open-in-Items.ensures.stack in (
       (λ kind q h.
-          subst (λ (fs : List (List Part)). Sees s kind c.args.limits (g.B.Build.tells c.open-in-Items.new.built)
+          subst (λ (fs : List (List Part)). Sees s kind c.args.limits (g.B.Build.reports c.open-in-Items.new.built)
           Next fs q) (sym stack)
-          (code_silent s kind c.args.limits (g.B.Build.tells c.loop-id.built)
-          (g.B.Build.tells c.open-in-Items.new.built) c.loop-id.work c.loop-id.parents.items q f
+          (code_silent s kind c.args.limits (g.B.Build.reports c.loop-id.built)
+          (g.B.Build.reports c.open-in-Items.new.built) c.loop-id.work c.loop-id.parents.items q f
           (value.items c.in-Items.size) n tt tt refl refl
-          c.in_ok-open-in-Items.ensures.told (c.loop-id.invariant.0 kind q h))),
+          c.in_ok-open-in-Items.ensures.reported (c.loop-id.invariant.0 kind q h))),
       subst (λ (fs : List (List Part)). AreAllSolid s fs) (sym stack)
           (inner.0, (solid_rest s (left_of c.loop-id.work) c.loop-id.invariant.1.0, c.loop-id.invariant.1.1)),
       subst (λ (qs : List Part). HasNext qs) (sym c.in_ok-open-in-Items.ensures.work) inner.1,
@@ -138,8 +138,8 @@ returns-in-Wide-clause-follows g c = λ kind q h.
     omega (arith, c.if-len-depth.false, c.len.ensures, c.depth.ensures.value) in
     let n = is_next s c.args.limits c.loop-id.work c.loop-id.parents.items c.in-Some.id.place
     (kind_view c.kind.result.now) c.in-Some.ensures c.kind.ensures shallow in
-    rw c.after.ensures (code_free s kind c.args.limits (g.B.Build.tells c.loop-id.built)
-    (g.B.Build.tells c.loop-id.built) c.loop-id.work c.loop-id.parents.items q (kind_view c.kind.result.now)
+    rw c.after.ensures (code_free s kind c.args.limits (g.B.Build.reports c.loop-id.built)
+    (g.B.Build.reports c.loop-id.built) c.loop-id.work c.loop-id.parents.items q (kind_view c.kind.result.now)
     c.in-Wide.signed (subst (λ (t : Step). IsStep (kind_view c.kind.result.now) t) c.in-Wide.is c.step_of.ensures)
     n (c.loop-id.invariant.0 kind q h))
 
@@ -153,8 +153,8 @@ returns-in-Content-clause-follows g c = λ kind q h.
     ∙ c.kind.ensures in
     let n = is_next s c.args.limits c.loop-id.work c.loop-id.parents.items c.in-Some.id.place
     (xdr.opaque c.in-Content.size) c.in-Some.ensures is shallow in
-    rw c.after-in-Content.ensures (code_opaque s kind c.args.limits (g.B.Build.tells c.loop-id.built)
-    (g.B.Build.tells c.loop-id.built) c.loop-id.work c.loop-id.parents.items q c.in-Content.size n
+    rw c.after-in-Content.ensures (code_opaque s kind c.args.limits (g.B.Build.reports c.loop-id.built)
+    (g.B.Build.reports c.loop-id.built) c.loop-id.work c.loop-id.parents.items q c.in-Content.size n
     (c.loop-id.invariant.0 kind q h))
 
 pub returns-in-Content-clause-ready : goal.returns-in-Content-clause-ready
@@ -174,7 +174,7 @@ returns-in_err-open-in-Fields-clause-spared g c =
     let is : xdr.structure (map part_of_member c.in-Fields.fields.now) ≡ kind_at s c.in-Some.id.place =
     sym (subst (λ (t : Step). IsStep (kind_view c.kind.result.now) t) c.in-Fields.is c.step_of.ensures)
     ∙ c.kind.ensures in
-    let root = seen_root g.B.Build.spares s kind free c.args.limits (g.B.Build.tells c.loop-id.built)
+    let root = seen_root g.B.Build.spares s kind free c.args.limits (g.B.Build.reports c.loop-id.built)
     (left_of c.loop-id.work) (onto [] c.loop-id.parents.items) q c.in-Some.id.place c.in-Some.ensures
     (c.loop-id.invariant.0 kind q h) in
     subst (λ (f : KindView). TakesNone g.B.Build.spares f) (sym is) root)
@@ -188,7 +188,7 @@ returns-in_err-open-in-Items-clause-spared g c =
     let is : xdr.fixed c.in-Items.item.place c.in-Items.size ≡ kind_at s c.in-Some.id.place =
     sym (subst (λ (t : Step). IsStep (kind_view c.kind.result.now) t) c.in-Items.is c.step_of.ensures)
     ∙ c.kind.ensures in
-    let root = seen_root g.B.Build.spares s kind free c.args.limits (g.B.Build.tells c.loop-id.built)
+    let root = seen_root g.B.Build.spares s kind free c.args.limits (g.B.Build.reports c.loop-id.built)
     (left_of c.loop-id.work) (onto [] c.loop-id.parents.items) q c.in-Some.id.place c.in-Some.ensures
     (c.loop-id.invariant.0 kind q h) in
     subst (λ (f : KindView). TakesNone g.B.Build.spares f) (sym is) root)

@@ -7,9 +7,9 @@ use Rattle.xdr_stream.proofs.machine.begin.Given as goal
 
 abbrev pub invariant-loop-id : goal.invariant-loop-id
 invariant-loop-id g l =
-    ((kind : ℕ) (q : List ℕ) → Sees l.schema.kinds kind l.limits (g.B.Build.tells l.initial.built) Next
+    ((kind : ℕ) (q : List ℕ) → Sees l.schema.kinds kind l.limits (g.B.Build.reports l.initial.built) Next
     (stack_of l.initial.work l.initial.parents.items) q
-    → Sees l.schema.kinds kind l.limits (g.B.Build.tells l.built) Next (stack_of l.work l.parents.items) q)
+    → Sees l.schema.kinds kind l.limits (g.B.Build.reports l.built) Next (stack_of l.work l.parents.items) q)
     × AreAllSolid l.schema.kinds (stack_of l.work l.parents.items) × HasNext (left_of l.work)
 
 abbrev pub decreases-loop-id : goal.decreases-loop-id

@@ -17,8 +17,8 @@ loop-parents-preserved g c = (
   (λ kinds kind limits q h.
       let none = none_of c.next.result (left_of c.loop-parents.work ≡ [])
       (λ k. Begins (left_of c.loop-parents.work) k.place) c.loop-parents-test.ensures c.next.ensures in
-      sees_popped kinds kind limits (g.B.Build.tells c.loop-parents.built)
-      (g.B.Build.tells c.close.new.self) c.loop-parents.work c.in-Some.parent c.loop-parents.parents.items
+      sees_popped kinds kind limits (g.B.Build.reports c.loop-parents.built)
+      (g.B.Build.reports c.close.new.self) c.loop-parents.work c.in-Some.parent c.loop-parents.parents.items
       c.pop.new.self.items q none
       c.in-Some.ensures.items c.in_ok-close.ensures (c.loop-parents.invariant.0 kinds kind limits q h)),
   λ kinds h.
@@ -38,7 +38,7 @@ pub returns-in_err-close-clause-spared : goal.returns-in_err-close-clause-spared
 returns-in_err-close-clause-spared g c =
     let p = err_from_is_err_and c.from_residual.result c.from_residual.ensures.1 in
     rw p.1 (λ kinds limits kind q h free.
-    let a = seen_alone g.B.Build.spares kinds kind free limits (g.B.Build.tells c.loop-parents.built) Next
+    let a = seen_alone g.B.Build.spares kinds kind free limits (g.B.Build.reports c.loop-parents.built) Next
     (stack_of c.loop-parents.work c.loop-parents.parents.items) q (c.loop-parents.invariant.0 kinds kind limits q h) in
     absurd (omega (
       arith,

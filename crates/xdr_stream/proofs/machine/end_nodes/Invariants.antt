@@ -8,8 +8,8 @@ use Rattle.xdr_stream.proofs.machine.end_nodes.Given as goal
 
 abbrev pub invariant-loop-parents : goal.invariant-loop-parents
 invariant-loop-parents g l =
-    ((kinds : List KindView) → Follows kinds (g.B.Build.tells l.initial.built) Next
-    (stack_of l.initial.work l.initial.parents.items) (g.B.Build.tells l.built) Next
+    ((kinds : List KindView) → Follows kinds (g.B.Build.reports l.initial.built) Next
+    (stack_of l.initial.work l.initial.parents.items) (g.B.Build.reports l.built) Next
     (stack_of l.work l.parents.items))
     × ((kinds : List KindView) → AreAllSolid kinds (stack_of l.initial.work l.initial.parents.items)
     → AreAllSolid kinds (stack_of l.work l.parents.items))

@@ -5,7 +5,7 @@ use Rattle.xdr_types.specs.KindViews.{kind_view}
 use Rattle.xdr_stream.specs.Frames.{left_of}
 use Rattle.xdr_stream.specs.Trace.{Trace, HasRoom}
 use Rattle.xdr_stream.proofs.Built.{With}
-use Rattle.xdr_stream.proofs.Seeing.{is_next, code_deep, code_void, room_next}
+use Rattle.xdr_stream.proofs.Seeing.{is_next, code_deep, code_void, space_next}
 use Rattle.xdr_stream.proofs.Sounding.{first_known}
 use Rattle.std.proofs.lemmas.Result.{err_from_is_err_and}
 use Rattle.xdr_stream.specs.Frames.{stack_of}
@@ -22,8 +22,8 @@ pub returns-then-len-depth-clause-deep : goal.returns-then-len-depth-clause-deep
 returns-then-len-depth-clause-deep g c = λ kind q rest h.
     let deep : c.args.limits.depth ≤ length c.args.parents.now.items =
     omega (arith, c.if-len-depth.true, c.len.ensures, c.depth.ensures.value) in
-    code_deep c.args.schema.now.kinds kind c.args.limits (g.B.Build.tells c.args.built.now)
-    (g.B.Build.tells c.args.built.now) c.args.work.now c.args.parents.now.items q c.in-Some.id.place rest
+    code_deep c.args.schema.now.kinds kind c.args.limits (g.B.Build.reports c.args.built.now)
+    (g.B.Build.reports c.args.built.now) c.args.work.now c.args.parents.now.items q c.in-Some.id.place rest
     c.in-Some.ensures deep h
 
 pub returns-in_ok-leaf-clause-follows : goal.returns-in_ok-leaf-clause-follows
@@ -33,17 +33,17 @@ returns-in_ok-leaf-clause-follows g c = λ kind q h.
     let is = sym (ap kind_view c.in-Nothing.is) ∙ c.kind.ensures in
     let n = is_next c.args.schema.now.kinds c.args.limits c.args.work.now c.args.parents.now.items c.in-Some.id.place
     xdr.nothing c.in-Some.ensures is shallow in
-    let H : Trace → Type 0 = g.B.Build.tells c.args.built.now in
+    let H : Trace → Type 0 = g.B.Build.reports c.args.built.now in
     rw c.after.ensures (code_void c.args.schema.now.kinds kind c.args.limits (With H HasRoom)
-    (g.B.Build.tells c.leaf.new.self) c.args.work.now c.args.parents.now.items q n
-    (λ a told. c.in_ok-leaf.ensures.told a told.0 told.1)
-    (room_next c.args.schema.now.kinds kind c.args.limits H c.args.work.now c.args.parents.now.items q xdr.nothing n h))
+    (g.B.Build.reports c.leaf.new.self) c.args.work.now c.args.parents.now.items q n
+    (λ a reported. c.in_ok-leaf.ensures.reported a reported.0 reported.1)
+    (space_next c.args.schema.now.kinds kind c.args.limits H c.args.work.now c.args.parents.now.items q xdr.nothing n h))
 
 pub returns-in_err-leaf-clause-spared : goal.returns-in_err-leaf-clause-spared
 returns-in_err-leaf-clause-spared g c =
     let p = err_from_is_err_and c.from_residual.result c.from_residual.ensures.1 in
     rw (p.1, p.2) (λ kind q h free.
-    let a = seen_alone g.B.Build.spares c.args.schema.now.kinds kind free c.args.limits (g.B.Build.tells
+    let a = seen_alone g.B.Build.spares c.args.schema.now.kinds kind free c.args.limits (g.B.Build.reports
     c.args.built.now)
     Next (stack_of c.args.work.now c.args.parents.now.items) q h in
     false≢true (c.in_err-leaf.ensures.granted a.0 a.1 a.2))

@@ -30,8 +30,8 @@ returns-then-branch-clause-follows g c = λ kind q h.
 
 pub returns-in-Err-clause-deep : goal.returns-in-Err-clause-deep
 returns-in-Err-clause-deep g c =
-    goes_deep c.args.schema.now.kinds c.args.limits (g.B.Build.tells c.args.built.now)
-    (g.B.Build.tells c.end_nodes.new.built) (stack_of c.args.work.now c.args.parents.now.items)
+    goes_deep c.args.schema.now.kinds c.args.limits (g.B.Build.reports c.args.built.now)
+    (g.B.Build.reports c.end_nodes.new.built) (stack_of c.args.work.now c.args.parents.now.items)
     (stack_of c.end_nodes.new.work c.end_nodes.new.parents.items) c.in-Err.trouble
     (λ kind q h. (c.in_ok-end_nodes.ensures.follows c.args.schema.now.kinds).0 kind c.args.limits q
     (c.in_ok-pass_void.ensures.follows kind q h)) c.in-Err.ensures.deep

@@ -15,7 +15,7 @@ use Rattle.xdr_stream.specs.Nodes.{head_of_leaf, head_of_node}
 use Rattle.xdr_stream.specs.declared.number.Made.{Made}
 use Rattle.xdr_stream.specs.Trace.{Trace, HasRoom}
 use Rattle.xdr_stream.proofs.Built.{With}
-use Rattle.xdr_stream.proofs.Seeing.{next_ready, room_next}
+use Rattle.xdr_stream.proofs.Seeing.{next_ready, space_next}
 use Rattle.xdr_stream.proofs.Taking.{unit_refused, unit_leaf, unit_open, length_empty, length_some}
 use Rattle.xdr_stream.proofs.Cases.{cases_legal}
 use Rattle.xdr_stream.proofs.Sounding.{first_known, first_starts, known_rest, made_known}
@@ -54,8 +54,8 @@ returns-in-Err-clause-refused g c = λ kind limits q rest ready small h.
     let less : c.args.number < 2 ^ 32 = omega (arith, c.ranges.number) in
     let n = next_ready s limits c.args.work.now c.args.parents.now.items c.in-Some.id.place k c.in-Some.ensures
     c.kind-kind.ensures ready in
-    unit_refused s c.len-known.ensures.valued c.len-known.ensures.known kind limits (g.B.Build.tells c.args.built.now)
-    (g.B.Build.tells c.args.built.now) c.args.work.now c.args.parents.now.items q k n c.args.number less small h
+    unit_refused s c.len-known.ensures.valued c.len-known.ensures.known kind limits (g.B.Build.reports c.args.built.now)
+    (g.B.Build.reports c.args.built.now) c.args.work.now c.args.parents.now.items q k n c.args.number less small h
     unit c.in-Err.why rest c.in-Err.ensures.0 c.in-Err.ensures.1
 
 pub returns-in_ok-leaf-in-Leaf-clause-taken : goal.returns-in_ok-leaf-in-Leaf-clause-taken
@@ -68,13 +68,13 @@ returns-in_ok-leaf-in-Leaf-clause-taken g c = λ kind limits q ready small h.
     let n = next_ready s limits c.args.work.now c.args.parents.now.items c.in-Some.id.place k c.in-Some.ensures
     c.kind-kind.ensures ready in
     let t = subst (λ (m : Made). Takes s k c.args.number m) c.in-Leaf.is c.in-Ok.ensures in
-    let H : Trace → Type 0 = g.B.Build.tells c.args.built.now in
+    let H : Trace → Type 0 = g.B.Build.reports c.args.built.now in
     rw c.after.ensures
     (unit_leaf s c.len-known.ensures.valued c.len-known.ensures.known kind limits (With H HasRoom)
-    (g.B.Build.tells c.leaf.new.self) c.args.work.now c.args.parents.now.items q k n c.args.number less small
-    (room_next s kind limits H c.args.work.now c.args.parents.now.items q k n h)
-    unit t.1.0 t.0 (head_of_leaf c.in-Leaf.leaf) t.1.1 t.1.2 (λ a told. c.in_ok-leaf-in-Leaf.ensures.told a told.0
-    told.1))
+    (g.B.Build.reports c.leaf.new.self) c.args.work.now c.args.parents.now.items q k n c.args.number less small
+    (space_next s kind limits H c.args.work.now c.args.parents.now.items q k n h)
+    unit t.1.0 t.0 (head_of_leaf c.in-Leaf.leaf) t.1.1 t.1.2 (λ a reported. c.in_ok-leaf-in-Leaf.ensures.reported a reported.0
+    reported.1))
 
 pub returns-in_ok-open-in-Open-clause-taken : goal.returns-in_ok-open-in-Open-clause-taken
 returns-in_ok-open-in-Open-clause-taken g c = λ kind limits q ready small h.
@@ -87,9 +87,9 @@ returns-in_ok-open-in-Open-clause-taken g c = λ kind limits q ready small h.
     c.kind-kind.ensures ready in
     let t = subst (λ (m : Made). Takes s k c.args.number m) c.in-Open.is c.in-Ok.ensures in
     let opened = unit_open s c.len-known.ensures.valued c.len-known.ensures.known kind limits
-    (g.B.Build.tells c.args.built.now)
-    (g.B.Build.tells c.«open».new.built) c.args.work.now c.args.parents.now.items q k n c.args.number less small h
-    unit t.1.0 t.0 (head_of_node c.in-Open.node) t.1.1 t.1.2 c.in_ok-open-in-Open.ensures.told in
+    (g.B.Build.reports c.args.built.now)
+    (g.B.Build.reports c.«open».new.built) c.args.work.now c.args.parents.now.items q k n c.args.number less small h
+    unit t.1.0 t.0 (head_of_node c.in-Open.node) t.1.1 t.1.2 c.in_ok-open-in-Open.ensures.reported in
     rw c.in_ok-open-in-Open.ensures.stack (rw (← t.1.3) opened)
 
 pub returns-then-size-eq0-clause-taken : goal.returns-then-size-eq0-clause-taken
@@ -103,12 +103,12 @@ returns-then-size-eq0-clause-taken g c = λ kind limits q ready small h.
     c.kind-kind.ensures ready in
     let t = subst (λ (m : Made). Takes s k c.args.number m) c.in-Length.is c.in-Ok.ensures in
     let none : c.args.number ≡ 0 = omega (arith, t.1.1, c.if-size-eq0.true) in
-    let H : Trace → Type 0 = g.B.Build.tells c.args.built.now in
+    let H : Trace → Type 0 = g.B.Build.reports c.args.built.now in
     rw c.after-then-size-eq0.ensures
     (length_empty s c.len-known.ensures.valued c.len-known.ensures.known kind limits (With H HasRoom)
-    (g.B.Build.tells c.leaf-then-size-eq0.new.self) c.args.work.now c.args.parents.now.items q k n c.args.number
-    less small (room_next s kind limits H c.args.work.now c.args.parents.now.items q k n h)
-    unit t.1.0 t.0 none (λ a told. c.in_ok-leaf-in-Length.ensures.told a told.0 told.1))
+    (g.B.Build.reports c.leaf-then-size-eq0.new.self) c.args.work.now c.args.parents.now.items q k n c.args.number
+    less small (space_next s kind limits H c.args.work.now c.args.parents.now.items q k n h)
+    unit t.1.0 t.0 none (λ a reported. c.in_ok-leaf-in-Length.ensures.reported a reported.0 reported.1))
 
 pub returns-else-size-eq0-clause-taken : goal.returns-else-size-eq0-clause-taken
 returns-else-size-eq0-clause-taken g c = λ kind limits q ready small h.
@@ -121,8 +121,8 @@ returns-else-size-eq0-clause-taken g c = λ kind limits q ready small h.
     c.kind-kind.ensures ready in
     let t = subst (λ (m : Made). Takes s k c.args.number m) c.in-Length.is c.in-Ok.ensures in
     rw (c.after-in-Length.ensures, t.1.1)
-    (length_some s c.len-known.ensures.valued c.len-known.ensures.known kind limits (g.B.Build.tells c.args.built.now)
-    (g.B.Build.tells c.args.built.now) c.args.work.now c.args.parents.now.items q k n c.args.number less small h
+    (length_some s c.len-known.ensures.valued c.len-known.ensures.known kind limits (g.B.Build.reports c.args.built.now)
+    (g.B.Build.reports c.args.built.now) c.args.work.now c.args.parents.now.items q k n c.args.number less small h
     unit t.1.0 t.0)
 
 pub returns-in_ok-open-in-Open-clause-sound : goal.returns-in_ok-open-in-Open-clause-sound
@@ -149,7 +149,7 @@ pub returns-in_err-leaf-in-Leaf-clause-spared : goal.returns-in_err-leaf-in-Leaf
 returns-in_err-leaf-in-Leaf-clause-spared g c =
     let p = err_from_is_err_and c.from_residual.result c.from_residual.ensures.1 in
     rw (p.1, p.2) (λ limits kind q h free.
-    let a = seen_alone g.B.Build.spares c.args.schema.now.kinds kind free limits (g.B.Build.tells c.args.built.now)
+    let a = seen_alone g.B.Build.spares c.args.schema.now.kinds kind free limits (g.B.Build.reports c.args.built.now)
     Next (stack_of c.args.work.now c.args.parents.now.items) q h in
     false≢true (c.in_err-leaf-in-Leaf.ensures.granted a.0 a.1 a.2))
 
@@ -161,7 +161,7 @@ returns-in_err-open-in-Open-clause-spared g c =
     let s : List KindView = c.args.schema.now.kinds in
     let k : KindView = kind_view c.kind-kind.result.now in
     let t = subst (λ (m : Made). Takes s k c.args.number m) c.in-Open.is c.in-Ok.ensures in
-    let root = seen_root g.B.Build.spares s kind free limits (g.B.Build.tells c.args.built.now)
+    let root = seen_root g.B.Build.spares s kind free limits (g.B.Build.reports c.args.built.now)
     (left_of c.args.work.now) (onto [] c.args.parents.now.items) q c.in-Some.id.place c.in-Some.ensures h in
     head_closed g.B.Build.spares s k c.args.number
     (subst (λ (f : KindView). TakesNone g.B.Build.spares f) (sym c.kind-kind.ensures) root)
@@ -172,6 +172,6 @@ returns-in_err-leaf-in-Length-clause-spared g c =
     let p = err_from_is_err_and c.from_residual-in_err-leaf-in-Length.result
     c.from_residual-in_err-leaf-in-Length.ensures.1 in
     rw (p.1, p.2) (λ limits kind q h free.
-    let a = seen_alone g.B.Build.spares c.args.schema.now.kinds kind free limits (g.B.Build.tells c.args.built.now)
+    let a = seen_alone g.B.Build.spares c.args.schema.now.kinds kind free limits (g.B.Build.reports c.args.built.now)
     Next (stack_of c.args.work.now c.args.parents.now.items) q h in
     false≢true (c.in_err-leaf-in-Length.ensures.granted a.0 a.1 a.2))

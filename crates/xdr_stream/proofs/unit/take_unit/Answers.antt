@@ -16,7 +16,7 @@ use Rattle.xdr_stream.specs.Sees.{are_zeros, make_wide}
 use Rattle.xdr_stream.specs.declared.machine.Awaits.TheVariants.{Content, Low}
 use Rattle.xdr_stream.proofs.Units.{first_of_two, second_of_two, two_units, to64, more_content, last_content}
 use Rattle.xdr_stream.specs.Trace.{Trace, HasRoom}
-use Rattle.xdr_stream.proofs.Built.{With, seen_room}
+use Rattle.xdr_stream.proofs.Built.{With, seen_space}
 use Rattle.xdr_stream.proofs.Units.{bad_content}
 use Rattle.std.proofs.lemmas.Result.{err_from_is_err_and}
 use Rattle.std.proofs.Common.{[]}
@@ -32,7 +32,7 @@ returns-in-Wide-clause-taken g c = λ kind limits q ready small h.
     let are : are_bytes u ≡ true = subst (λ (b : List ℕ). are_bytes b ≡ true) is
     (are_bytes_of (num4 (pos c.number_of-number.result)) (bytes4 c.number_of-number.result)) in
     first_of_two c.args.schema.now.kinds c.len-known.ensures.valued c.len-known.ensures.known kind limits
-    (g.B.Build.tells c.args.built.now) (g.B.Build.tells c.args.built.now)
+    (g.B.Build.reports c.args.built.now) (g.B.Build.reports c.args.built.now)
     (stack_of c.args.work.now c.args.parents.now.items) q u len are small
     c.in-Wide.signed c.number_of-number.result is (rw c.in-Wide.is at h)
 
@@ -44,9 +44,9 @@ returns-then-left-gt4-clause-taken g c = λ kind limits q ready small h.
     let are : are_bytes u ≡ true = subst (λ (b : List ℕ). are_bytes b ≡ true) is
     (are_bytes_of (num4 (pos c.number_of-number.result)) (bytes4 c.number_of-number.result)) in
     more_content c.args.schema.now.kinds c.len-known.ensures.valued c.len-known.ensures.known kind limits
-    (g.B.Build.tells c.args.built.now) (g.B.Build.tells c.extend.new.self)
+    (g.B.Build.reports c.args.built.now) (g.B.Build.reports c.extend.new.self)
     (stack_of c.args.work.now c.args.parents.now.items) q u len are small
-    c.in-Content.left (omega arith) c.in_ok-extend-in-Content.ensures.told (rw c.in-Content.is at h)
+    c.in-Content.left (omega arith) c.in_ok-extend-in-Content.ensures.reported (rw c.in-Content.is at h)
 
 pub returns-then-not-are_zeros-clause-refused : goal.returns-then-not-are_zeros-clause-refused
 returns-then-not-are_zeros-clause-refused g c = λ kind limits q rest ready small h.
@@ -61,13 +61,13 @@ returns-then-not-are_zeros-clause-refused g c = λ kind limits q rest ready smal
     (omega (arith, length-drop c.in-Content.left u, len)))) ∙ sym c.if-not-are_zeros.ensures in
     let some : 0 < c.in-Content.left = rw c.in-Content.is at ready in
     bad_content c.args.schema.now.kinds c.len-known.ensures.valued c.len-known.ensures.known kind limits
-    (g.B.Build.tells c.args.built.now) (g.B.Build.tells c.args.built.now)
+    (g.B.Build.reports c.args.built.now) (g.B.Build.reports c.args.built.now)
     (stack_of c.args.work.now c.args.parents.now.items) q u len are small
     c.in-Content.left some bad rest (rw c.in-Content.is at h)
 
 pub returns-in_ok-content-in-Content-clause-taken : goal.returns-in_ok-content-in-Content-clause-taken
 returns-in_ok-content-in-Content-clause-taken g c = λ kind limits q ready small h.
-    let H : Trace → Type 0 = g.B.Build.tells c.args.built.now in
+    let H : Trace → Type 0 = g.B.Build.reports c.args.built.now in
     let u : List ℕ = c.args.unit.now in
     let is : num4 (pos c.number_of-number.result) ≡ u = c.number_of-number.ensures in
     let len : length u ≡ 4 = ap (λ (b : List ℕ). length b) (sym is) in
@@ -79,16 +79,16 @@ returns-in_ok-content-in-Content-clause-taken g c = λ kind limits q ready small
     (omega (arith, length-drop c.in-Content.left u, len)))) ∙ sym c.if-not-are_zeros.ensures in
     let some : 0 < c.in-Content.left = rw c.in-Content.is at ready in
     last_content c.args.schema.now.kinds c.len-known.ensures.valued c.len-known.ensures.known kind limits
-    (With H HasRoom) (g.B.Build.tells c.content.new.self)
+    (With H HasRoom) (g.B.Build.reports c.content.new.self)
     (stack_of c.args.work.now c.args.parents.now.items) q u len are small
     c.in-Content.left some (omega arith) zeros
-    (λ a told. c.in_ok-content-in-Content.ensures.told _ (c.in_ok-extend-in-Content-2.ensures.told a told.0) told.1)
-    (seen_room c.args.schema.now.kinds kind limits H (Content c.in-Content.left)
+    (λ a reported. c.in_ok-content-in-Content.ensures.reported _ (c.in_ok-extend-in-Content-2.ensures.reported a reported.0) reported.1)
+    (seen_space c.args.schema.now.kinds kind limits H (Content c.in-Content.left)
     (stack_of c.args.work.now c.args.parents.now.items) q tt (rw c.in-Content.is at h))
 
 pub returns-in_ok-leaf-in-Low-2-clause-taken : goal.returns-in_ok-leaf-in-Low-2-clause-taken
 returns-in_ok-leaf-in-Low-2-clause-taken g c = λ kind limits q ready small h.
-    let H : Trace → Type 0 = g.B.Build.tells c.args.built.now in
+    let H : Trace → Type 0 = g.B.Build.reports c.args.built.now in
     let u : List ℕ = c.args.unit.now in
     let x : ℕ = c.in-Low.high in
     let y : ℕ = c.number_of-number.result in
@@ -108,16 +108,16 @@ returns-in_ok-leaf-in-Low-2-clause-taken g c = λ kind limits q ready small h.
     let head : value.unsigned_hyper (c.from.result * 4294967296 + c.from-in-Low.result) ≡ make_wide false
     (num4 (pos x) ++ u) = ap value.unsigned_hyper two in
     second_of_two c.args.schema.now.kinds c.len-known.ensures.valued c.len-known.ensures.known kind limits
-    (With H HasRoom) (g.B.Build.tells c.leaf-else-signed.new.self)
+    (With H HasRoom) (g.B.Build.reports c.leaf-else-signed.new.self)
     (stack_of c.args.work.now c.args.parents.now.items) q u len are small
     false x (value.unsigned_hyper (c.from.result * 4294967296 + c.from-in-Low.result)) head all
-    (λ a told. c.in_ok-leaf-in-Low-2.ensures.told a told.0 told.1)
-    (seen_room c.args.schema.now.kinds kind limits H (Low false x)
+    (λ a reported. c.in_ok-leaf-in-Low-2.ensures.reported a reported.0 reported.1)
+    (seen_space c.args.schema.now.kinds kind limits H (Low false x)
     (stack_of c.args.work.now c.args.parents.now.items) q tt (rw what at h))
 
 pub returns-in_ok-leaf-in-Low-clause-taken : goal.returns-in_ok-leaf-in-Low-clause-taken
 returns-in_ok-leaf-in-Low-clause-taken g c = λ kind limits q ready small h.
-    let H : Trace → Type 0 = g.B.Build.tells c.args.built.now in
+    let H : Trace → Type 0 = g.B.Build.reports c.args.built.now in
     let u : List ℕ = c.args.unit.now in
     let x : ℕ = c.in-Low.high in
     let y : ℕ = c.number_of-number.result in
@@ -143,11 +143,11 @@ returns-in_ok-leaf-in-Low-clause-taken g c = λ kind limits q ready small h.
     ∙ ap (λ (n : ℕ). value.hyper (cond (nat_lt n 9223372036854775808) (pos n) (negsuc (18446744073709551615 - n))))
     two in
     second_of_two c.args.schema.now.kinds c.len-known.ensures.valued c.len-known.ensures.known kind limits
-    (With H HasRoom) (g.B.Build.tells c.leaf.new.self)
+    (With H HasRoom) (g.B.Build.reports c.leaf.new.self)
     (stack_of c.args.work.now c.args.parents.now.items) q u len are small
     true x (value.hyper (to_z w64 (of_z w64 c.cast_signed.result))) head all
-    (λ a told. c.in_ok-leaf-in-Low.ensures.told a told.0 told.1)
-    (seen_room c.args.schema.now.kinds kind limits H (Low true x)
+    (λ a reported. c.in_ok-leaf-in-Low.ensures.reported a reported.0 reported.1)
+    (seen_space c.args.schema.now.kinds kind limits H (Low true x)
     (stack_of c.args.work.now c.args.parents.now.items) q tt (rw what at h))
 
 pub returns-in-Next-clause-spared : goal.returns-in-Next-clause-spared
@@ -157,7 +157,7 @@ pub returns-in_err-leaf-in-Low-clause-spared : goal.returns-in_err-leaf-in-Low-c
 returns-in_err-leaf-in-Low-clause-spared g c =
     let p = err_from_is_err_and c.from_residual.result c.from_residual.ensures.1 in
     rw (p.1, p.2) (λ limits kind q h free.
-    let a = seen_alone g.B.Build.spares c.args.schema.now.kinds kind free limits (g.B.Build.tells c.args.built.now)
+    let a = seen_alone g.B.Build.spares c.args.schema.now.kinds kind free limits (g.B.Build.reports c.args.built.now)
     c.args.awaits (stack_of c.args.work.now c.args.parents.now.items) q h in
     false≢true (c.in_err-leaf-in-Low.ensures.granted a.0 a.1 a.2))
 
@@ -166,7 +166,7 @@ returns-in_err-leaf-in-Low-2-clause-spared g c =
     let p = err_from_is_err_and c.from_residual-in_err-leaf-in-Low-2.result
     c.from_residual-in_err-leaf-in-Low-2.ensures.1 in
     rw (p.1, p.2) (λ limits kind q h free.
-    let a = seen_alone g.B.Build.spares c.args.schema.now.kinds kind free limits (g.B.Build.tells c.args.built.now)
+    let a = seen_alone g.B.Build.spares c.args.schema.now.kinds kind free limits (g.B.Build.reports c.args.built.now)
     c.args.awaits (stack_of c.args.work.now c.args.parents.now.items) q h in
     false≢true (c.in_err-leaf-in-Low-2.ensures.granted a.0 a.1 a.2))
 
@@ -177,7 +177,7 @@ returns-in_err-extend-in-Content-clause-spared g c =
     rw (p.1, p.2) (λ limits kind q h free.
     false≢true (c.in_err-extend-in-Content.ensures.granted (seen_content g.B.Build.spares c.args.schema.now.kinds
     kind free limits
-    (g.B.Build.tells c.args.built.now) c.in-Content.left (left_of c.args.work.now)
+    (g.B.Build.reports c.args.built.now) c.in-Content.left (left_of c.args.work.now)
     (onto [] c.args.parents.now.items) q (rw c.in-Content.is at h))))
 
 pub returns-in_err-extend-in-Content-2-clause-spared : goal.returns-in_err-extend-in-Content-2-clause-spared
@@ -187,7 +187,7 @@ returns-in_err-extend-in-Content-2-clause-spared g c =
     rw (p.1, p.2) (λ limits kind q h free.
     false≢true (c.in_err-extend-in-Content-2.ensures.granted (seen_content g.B.Build.spares c.args.schema.now.kinds
     kind free limits
-    (g.B.Build.tells c.args.built.now) c.in-Content.left (left_of c.args.work.now)
+    (g.B.Build.reports c.args.built.now) c.in-Content.left (left_of c.args.work.now)
     (onto [] c.args.parents.now.items) q (rw c.in-Content.is at h))))
 
 pub returns-in_err-content-in-Content-clause-spared : goal.returns-in_err-content-in-Content-clause-spared
@@ -197,5 +197,5 @@ returns-in_err-content-in-Content-clause-spared g c =
     rw (p.1, p.2) (λ limits kind q h free.
     false≢true (c.in_err-content-in-Content.ensures.granted (seen_content g.B.Build.spares c.args.schema.now.kinds
     kind free limits
-    (g.B.Build.tells c.args.built.now) c.in-Content.left (left_of c.args.work.now)
+    (g.B.Build.reports c.args.built.now) c.in-Content.left (left_of c.args.work.now)
     (onto [] c.args.parents.now.items) q (rw c.in-Content.is at h))))

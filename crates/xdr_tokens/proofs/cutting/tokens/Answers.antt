@@ -4,7 +4,7 @@ use Rattle.std.proofs.lemmas.List.{append-nil}
 use Rattle.std.proofs.lemmas.Grind.{common_steps}
 use Rattle.xdr_tokens.specs.Tokens.{Lexeme, lexeme, lexemes}
 use Rattle.xdr_tokens.specs.Text.{Tokens, with_token}
-use Rattle.xdr_tokens.proofs.Whole.{fault_within, shorter, more_tokens, less_tokens, no_more, all_done, fails_too, kept}
+use Rattle.xdr_tokens.proofs.Whole.{fault_within, shorter, more_tokens, less_tokens, no_more, all_done, fails_too, retained}
 use Rattle.xdr_tokens.proofs.cutting.tokens.Goals as goal
 
 pub returns-in_err-token-clause-only : goal.returns-in_err-token-clause-only
@@ -31,7 +31,7 @@ loop-rest-preserved c =
     let less = shorter rest (token, after) c.in_ok-token.ensures.read in
     record {
       sound = λ ts t. rw c.in_ok-keep.ensures.ok
-          (subst (λ (x : List Lexeme). Tokens c.args.text.now x) (kept front token ts)
+          (subst (λ (x : List Lexeme). Tokens c.args.text.now x) (retained front token ts)
           (c.loop-rest.invariant.sound (with_token token ts)
           (more_tokens rest (token, after) c.in_ok-token.ensures.read ts t)));
       complete = λ ts t.
@@ -40,7 +40,7 @@ loop-rest-preserved c =
             l.0,
             l.1,
             rw c.in_ok-keep.ensures.ok (o.2 ∙ ap (λ (x : List Lexeme). front ++ x) l.2
-                ∙ kept front token l.0),
+                ∙ retained front token l.0),
           );
       within = omega (arith, less, c.loop-rest.invariant.within);
     }

@@ -32,9 +32,9 @@ left_after_items-loop-value-preserved t c =
     record {
       fit = (first-fits c.args.schema.now.kinds (item_part c.args.id.place) _ _
           (tree c.value-item.result) _ _ more next c.loop-value.invariant.fit).1;
-      told = let step = length-step c.args.schema.now.kinds (item_part c.args.id.place) _ _
+      reported = let step = length-step c.args.schema.now.kinds (item_part c.args.id.place) _ _
           (tree c.value-item.result) _ _ more next in omega
-          (arith, step, c.loop-value.invariant.told, c.in_ok-left.ensures);
+          (arith, step, c.loop-value.invariant.reported, c.in_ok-left.ensures);
     }
 
 pub left_after_parts-left_after-requires : goal.left_after_parts-left_after-requires
@@ -71,9 +71,9 @@ left_after_parts-loop-i-preserved t c =
     record {
       fit = (first-fits c.args.schema.now.kinds (part_of_member m) _ _
           (tree c.value-item.result) _ _ more next c.loop-i.invariant.fit).1;
-      told = let step = length-step c.args.schema.now.kinds (part_of_member m) _ _
+      reported = let step = length-step c.args.schema.now.kinds (part_of_member m) _ _
           (tree c.value-item.result) _ _ more next in omega
-          (arith, step, c.loop-i.invariant.told, c.in_ok-left.ensures);
+          (arith, step, c.loop-i.invariant.reported, c.in_ok-left.ensures);
     }
 
 pub left_after_inner-returns-in-Fixed-List : goal.left_after_inner-returns-in-Fixed-List
@@ -113,6 +113,6 @@ left_after_parts-returns-in_err-left t c =
     (c.value-item.is ∙ ap (λ (z : List Value). get_or z c.loop-i.i c.value-item.result)
     c.deref-value-items.ensures.value) in
     let step = length-step c.args.schema.now.kinds (part_of_member m) _ _ (tree c.value-item.result) _ _ more next in
-    let short : c.args.room < length (spelling c.args.schema.now.kinds (map part_of_member fields.items)
-    (values inner.items)) = omega (arith, step, c.loop-i.invariant.told, c.in_err-left.ensures) in
+    let short : c.args.space < length (spelling c.args.schema.now.kinds (map part_of_member fields.items)
+    (values inner.items)) = omega (arith, step, c.loop-i.invariant.reported, c.in_err-left.ensures) in
     search (rules, short)

@@ -11,8 +11,8 @@ invariant-left_after_items-loop-value l =
     let item = item_part l.id.place in
     record {
       fit : fit l.schema.kinds (replicate (length rest) item) (values rest) ≡ true;
-      told : l.left + length (spelling l.schema.kinds (replicate (length l.value-items) item)
-          (values l.value-items)) ≡ l.room + length
+      reported : l.left + length (spelling l.schema.kinds (replicate (length l.value-items) item)
+          (values l.value-items)) ≡ l.space + length
           (spelling l.schema.kinds (replicate (length rest) item) (values rest));
     }
 
@@ -22,6 +22,6 @@ invariant-left_after_parts-loop-i l =
     let rest = values (drop l.i l.parts.items) in
     record {
       fit : fit l.schema.kinds ps rest ≡ true;
-      told : l.left + length (spelling l.schema.kinds (map part_of_member l.fields.items)
-          (values l.parts.items)) ≡ l.room + length (spelling l.schema.kinds ps rest);
+      reported : l.left + length (spelling l.schema.kinds (map part_of_member l.fields.items)
+          (values l.parts.items)) ≡ l.space + length (spelling l.schema.kinds ps rest);
     }

@@ -5,4 +5,4 @@ use Rattle.rpc_engine.proofs.memory_port.MemoryPort.sent_sizes.Goals as goal
 pub returns : goal.returns
 returns c =
     let port = c.args.self.now in
-    sym (pieces_sizes (take port.count port.sizes.now) port.room.now (omega (arith, port.joined, port.fits)))
+    sym (pieces_sizes (take port.count port.sizes.now) port.buffer.now (omega (arith, port.joined, port.fits)))

@@ -1,6 +1,6 @@
 use Rattle.std.proofs.Common.{◌≡◌, ◌<◌, ◌≤◌, ◌==◌, nat_lt, ℕ, false, length, sym, ◌∙◌, arith}
 use Rattle.std.proofs.lemmas.Bool.Decides.{nat_tests}
-use Rattle.rpc_engine.proofs.Ports.{kept_more}
+use Rattle.rpc_engine.proofs.Ports.{retained_more}
 use Rattle.rpc_engine.proofs.memory_port.MemoryPortDatagramPort.send.Goals as goal
 use Rattle.rpc_engine.proofs.memory_port.MemoryPortDatagramPort.send.Goals.{then-self-used, else-self-used}
 
@@ -20,4 +20,4 @@ returns-clause-sent c =
           place_left port.count (length port.sizes.now) (sym w.is_full-is ∙ c.if-is_full.false) port.few
     ] in
     rw c.copy_from_slice.ensures.after
-    (kept_more port.count port.sizes.now port.room.now c.args.datagram.now _ port.used port.joined port.fits place)
+    (retained_more port.count port.sizes.now port.buffer.now c.args.datagram.now _ port.used port.joined port.fits place)

@@ -21,7 +21,7 @@ returns-in-Reply-clause-ok g c =
     let mid : Session = record {
       served = c.begin.new.self.served;
       written = c.begin.new.self.written;
-      room = c.send-sent.new.room;
+      buffer = c.send-sent.new.buffer;
     } in
     does_reply (netid_of c.args.transport) c.args.directory.now c.append_answer.new.directory c.args.self.now mid
     c.count.new.self c.args.message.now p.0 false (g.W.Sink.taken c.args.writer.now)
@@ -40,7 +40,7 @@ returns-in-Reply-clause-cut g c =
     let mid : Session = record {
       served = c.begin.new.self.served;
       written = c.begin.new.self.written;
-      room = c.send-sent.new.room;
+      buffer = c.send-sent.new.buffer;
     } in
     loses_reply (netid_of c.args.transport) c.args.directory.now c.append_answer.new.directory c.args.self.now mid
     c.count.new.self c.args.message.now p.0 false (g.W.Sink.taken c.args.writer.now)
@@ -53,7 +53,7 @@ returns-in-OutOfMemory-clause-ok g c =
     let mid : Session = record {
       served = c.begin.new.self.served;
       written = c.begin.new.self.written;
-      room = c.append_answer.new.out;
+      buffer = c.append_answer.new.out;
     } in
     let t = g.W.Sink.taken c.args.writer.now in
     let u = g.W.Sink.taken c.send_whole-sent.new.writer in
@@ -68,7 +68,7 @@ returns-in-OutOfMemory-clause-cut g c =
     let mid : Session = record {
       served = c.begin.new.self.served;
       written = c.begin.new.self.written;
-      room = c.append_answer.new.out;
+      buffer = c.append_answer.new.out;
     } in
     let t = g.W.Sink.taken c.args.writer.now in
     let u = g.W.Sink.taken c.send_whole-sent.new.writer in

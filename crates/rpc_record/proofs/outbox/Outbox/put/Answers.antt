@@ -1,19 +1,19 @@
 use Rattle.std.proofs.Common.{◌≡◌, ◌+◌, ◌-◌, [], ◌++◌, length, take, refl, ap, ◌∙◌, arith}
 use Rattle.std.proofs.lemmas.Slice.{take-put_mid}
 use Rattle.rpc_record.specs.declared.fault.RecordFault.TheVariants as fault
-use Rattle.rpc_record.proofs.Sending.{Sends-kept, Sends-out, Sends-trans, SendingCut-out, SendingCut-after}
+use Rattle.rpc_record.proofs.Sending.{Sends-retained, Sends-out, Sends-trans, SendingCut-out, SendingCut-after}
 use Rattle.rpc_record.proofs.Sending.{SendingCut-more}
 use Rattle.rpc_record.proofs.outbox.Outbox.put.Goals as goal
 
 pub returns-then-bytes-used-clause-ok : goal.returns-then-bytes-used-clause-ok
 returns-then-bytes-used-clause-ok g c =
     let used = c.args.self.now.used in
-    let room = c.args.self.now.room in
+    let buffer = c.args.self.now.buffer in
     let bytes = c.args.bytes.now in
     let same : c.copy_from_slice.new.self ≡ bytes = c.copy_from_slice.ensures.after in
-    let joined = take-put_mid used (used + length bytes - used) room c.copy_from_slice.new.self (used + length bytes)
+    let joined = take-put_mid used (used + length bytes - used) buffer c.copy_from_slice.new.self (used + length bytes)
     (omega (arith, ap length same)) (omega arith) in
-    Sends-kept c.args.self.now _ _ bytes (joined ∙ ap (λ k. take used room ++ k) same) refl
+    Sends-retained c.args.self.now _ _ bytes (joined ∙ ap (λ k. take used buffer ++ k) same) refl
 
 pub returns-in-Err-clause-cut : goal.returns-in-Err-clause-cut
 returns-in-Err-clause-cut g c =

@@ -1,9 +1,9 @@
 use Rattle.std.proofs.Common.{refl, inr, rules}
 use Rattle.rpc_record.proofs.Places.{IsInsideAt}
-use Rattle.rpc_record.specs.Stands.{IsTaking}
+use Rattle.rpc_record.specs.Represents.{IsTaking}
 use Rattle.rpc_record.proofs.Places.{IsInside-at}
 use Rattle.rpc_record.proofs.Readers.{CutAt-end}
-use Rattle.rpc_record.proofs.Told.{Concludes-inside}
+use Rattle.rpc_record.proofs.Reported.{Concludes-inside}
 use Rattle.rpc_record.proofs.reader.RecordReader.end.Goals as goal
 
 pub returns-in-Header-clause-ends : goal.returns-in-Header-clause-ends

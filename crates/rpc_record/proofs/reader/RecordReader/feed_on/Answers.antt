@@ -1,9 +1,9 @@
 use Rattle.std.proofs.Common.{refl, ◌∙◌, subst, arith, rules}
 use Rattle.std.proofs.lemmas.Grind.{common_steps}
 use Rattle.xdr_io.proofs.Chained.{length_rest}
-use Rattle.rpc_record.specs.Stands.{IsTaking, Takes}
+use Rattle.rpc_record.specs.Represents.{IsTaking, Takes}
 use Rattle.rpc_record.proofs.Readers.{Takes-broken, Takes-piece}
-use Rattle.rpc_record.proofs.Told.{Refuses-piece, Tells-broken, Tells-more}
+use Rattle.rpc_record.proofs.Reported.{Refuses-piece, Reports-broken, Reports-more}
 use Rattle.rpc_record.proofs.reader.RecordReader.feed_on.Goals as goal
 
 pub loop-used-preserved : goal.loop-used-preserved
@@ -31,16 +31,16 @@ returns-in-Broken-clause-feeds c = (
   λ taking. rw c.in-Broken.is at (c.loop-used.invariant.fed taking),
 )
 
-pub returns-in-Broken-clause-tells : goal.returns-in-Broken-clause-tells
-returns-in-Broken-clause-tells c =
-    Tells-broken c.args.self.now c.loop-used.self c.in-Broken.fault c.loop-used.used c.args.piece.now
+pub returns-in-Broken-clause-reports : goal.returns-in-Broken-clause-reports
+returns-in-Broken-clause-reports c =
+    Reports-broken c.args.self.now c.loop-used.self c.in-Broken.fault c.loop-used.used c.args.piece.now
     c.loop-used.invariant.limit (rw c.in-Broken.is refl)
     (Takes-broken c.args.self.now c.loop-used.self c.in-Broken.fault c.loop-used.used c.args.piece.now c.in-Broken.is
     c.loop-used.invariant.takes) c.loop-used.invariant.refuses
 
-pub returns-in_default-clause-tells : goal.returns-in_default-clause-tells
-returns-in_default-clause-tells c =
+pub returns-in_default-clause-reports : goal.returns-in_default-clause-reports
+returns-in_default-clause-reports c =
     let taking : IsTaking c.loop-used.self = search rules in
     let takes : Takes c.args.self.now c.loop-used.self c.args.piece.now = first_of
     (search rules, grind (arith, common_steps)) in
-    Tells-more c.args.self.now c.loop-used.self c.args.piece.now c.loop-used.invariant.limit taking takes
+    Reports-more c.args.self.now c.loop-used.self c.args.piece.now c.loop-used.invariant.limit taking takes

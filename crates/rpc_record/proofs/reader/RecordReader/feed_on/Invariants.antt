@@ -1,5 +1,5 @@
 use Rattle.std.proofs.Common.{◌≡◌, ◌≤◌, ◌-◌, length, take}
-use Rattle.rpc_record.specs.Stands.{IsTaking, Takes, limit_of}
+use Rattle.rpc_record.specs.Represents.{IsTaking, Takes, limit_of}
 use Rattle.rpc_record.specs.Private.Steps.{IsFed, Refuses}
 use Rattle.rpc_record.proofs.reader.RecordReader.feed_on.Given as goal
 

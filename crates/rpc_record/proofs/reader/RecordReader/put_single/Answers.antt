@@ -3,7 +3,7 @@ use Rattle.rpc_record.specs.Marked.{header, fragment}
 use Rattle.rpc_record.specs.Reading.{capped}
 use Rattle.rpc_record.specs.Fields.{StandsAt}
 use Rattle.rpc_record.proofs.Headers.{length-header}
-use Rattle.rpc_record.proofs.Singles.{Stands-between, Whole-single, Refused-single}
+use Rattle.rpc_record.proofs.Singles.{Represents-between, Whole-single, Refused-single}
 use Rattle.rpc_record.proofs.reader.RecordReader.put_single.Goals as goal
 
 pub returns-in-Ok-clause-whole : goal.returns-in-Ok-clause-whole
@@ -14,7 +14,7 @@ returns-in-Ok-clause-whole c =
       c.in-Ok.ensures.items ∙ ap (λ k. k ++ part) c.clear.ensures.items,
       c.requires.between,
       λ bytes rs h.
-          let s = Stands-between self bytes rs c.requires.between h in
+          let s = Represents-between self bytes rs c.requires.between h in
           let whole = Whole-single self.limit rs [] bytes part refl s.1 c.requires.counted (omega
           (arith, c.requires.fits)) in
           let long : c.saturating_add-self.result ≡ capped (length (bytes ++ fragment true part)) = omega (
@@ -37,7 +37,7 @@ returns-in-Err-clause-refused c =
       refl,
       refl,
       λ bytes rs h.
-          let s = Stands-between self bytes rs c.requires.between h in
+          let s = Represents-between self bytes rs c.requires.between h in
           Refused-single self.limit rs [] bytes part refl s.1 c.requires.counted (omega (arith, c.requires.fits))
           (length (bytes ++ fragment true part)) some (omega (
             arith,
@@ -51,6 +51,6 @@ returns-in-Err-clause-refuses c broken taking bytes rs h =
     let self = c.args.self.now in
     let part = c.args.content.now in
     let some : 0 < length part = omega (arith, c.in-Err.ensures.full, c.clear.ensures.len) in
-    let s = Stands-between self bytes rs c.requires.between h in
+    let s = Represents-between self bytes rs c.requires.between h in
     Refused-single self.limit rs [] bytes part refl s.1 c.requires.counted (omega (arith, c.requires.fits))
     (length (fragment true part)) some (omega (arith, length-append (header true (length part)) part))

@@ -2,14 +2,14 @@ use Rattle.std.proofs.Common.{◌≡◌, ◌<◌, ◌++◌, ◌∷◌, [], true,
 use Rattle.rpc_record.specs.Marked.{header, fragment}
 use Rattle.rpc_record.specs.Reading.{IsWhole, capped}
 use Rattle.rpc_record.proofs.Headers.{length-header}
-use Rattle.rpc_record.proofs.Singles.{Stands-between, Whole-single, Refused-single}
+use Rattle.rpc_record.proofs.Singles.{Represents-between, Whole-single, Refused-single}
 use Rattle.rpc_record.proofs.reader.RecordReader.take_single.Goals as goal
 
 pub returns-in-Ok-clause-takes : goal.returns-in-Ok-clause-takes
 returns-in-Ok-clause-takes c bytes rs h =
     let self = c.args.self.now in
     let part = c.args.content.now in
-    let s = Stands-between self bytes rs c.requires.between h in
+    let s = Represents-between self bytes rs c.requires.between h in
     let items : c.extend_from_slice.new.self.items ≡ self.content.items ++ part = c.in-Ok.ensures.items in
     let whole = Whole-single self.limit rs self.content.items bytes part s.0 s.1 c.requires.counted (omega
     (arith, c.requires.fits)) in
@@ -27,7 +27,7 @@ pub returns-in-Err-clause-takes : goal.returns-in-Err-clause-takes
 returns-in-Err-clause-takes c bytes rs h =
     let self = c.args.self.now in
     let part = c.args.content.now in
-    let s = Stands-between self bytes rs c.requires.between h in
+    let s = Represents-between self bytes rs c.requires.between h in
     let some : 0 < length part = omega (arith, c.in-Err.ensures.full, ap length s.0) in
     Refused-single self.limit rs self.content.items bytes part s.0 s.1 c.requires.counted (omega
     (arith, c.requires.fits)) (length (bytes ++ fragment true part)) some (omega (
@@ -40,7 +40,7 @@ pub returns-in-Err-clause-refuses : goal.returns-in-Err-clause-refuses
 returns-in-Err-clause-refuses c broken taking bytes rs h =
     let self = c.args.self.now in
     let part = c.args.content.now in
-    let s = Stands-between self bytes rs c.requires.between h in
+    let s = Represents-between self bytes rs c.requires.between h in
     let some : 0 < length part = omega (arith, c.in-Err.ensures.full, ap length s.0) in
     Refused-single self.limit rs self.content.items bytes part s.0 s.1 c.requires.counted (omega
     (arith, c.requires.fits)) (length (fragment true part)) some

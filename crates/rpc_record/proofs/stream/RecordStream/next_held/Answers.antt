@@ -31,4 +31,4 @@ returns-in-Err-clause-next c =
     hands_fault old.records c.feed.new.self (drop old.at read) _ (drop old.at read) c.in-Err.fault
     (take_rest read old.at)
     (omega (arith, length_rest old.at read, length-take-le old.size old.piece (omega arith)))
-    (c.in-Err.ensures.feeds.2 c.requires) c.in-Err.ensures.tells
+    (c.in-Err.ensures.feeds.2 c.requires) c.in-Err.ensures.reports

@@ -1,5 +1,5 @@
 use Rattle.std.proofs.Common.{◌≤◌, ◌-◌, ℕ, List, Option}
-use Rattle.xdr_io.specs.Told.{Counts}
+use Rattle.xdr_io.specs.Reported.{Counts}
 use Rattle.rpc_record.specs.Streamed.{HasRead, IsOpen, most_to_come, reads_of}
 use Rattle.rpc_record.proofs.stream.RecordStream.next_record.Given as goal
 

@@ -15,17 +15,17 @@ invariant_of-self g c = record {
   waits = tt;
 }
 
-pub returns-clause-stands : goal.returns-clause-stands
-returns-clause-stands g c = λ q len whole h.
+pub returns-clause-represents : goal.returns-clause-represents
+returns-clause-represents g c = λ q len whole h.
     let a = c.args.self.now in
     let same = ap (λ (fs : List Frame). stack_of a.work fs) c.trim.ensures in (
       len,
       same ∙ whole,
       subst (λ (fs : List (List Part)). Sees a.schema.now.kinds a.kind.place a.limits
-          (g.B.Build.tells c.trim-2.new.self) Next fs q) (sym same) (record {
+          (g.B.Build.reports c.trim-2.new.self) Next fs q) (sym same) (record {
             reading = h.reading;
             trace = h.trace;
-            told = c.trim-2.ensures h.trace h.told;
+            reported = c.trim-2.ensures h.trace h.reported;
             built = h.built;
           }),
     )

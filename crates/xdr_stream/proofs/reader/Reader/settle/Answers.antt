@@ -9,30 +9,30 @@ use Rattle.xdr_stream.specs.declared.machine.Awaits.{Awaits}
 use Rattle.xdr_stream.proofs.Standing.{ends_trouble}
 use Rattle.xdr_stream.proofs.reader.Reader.settle.Goals as goal
 
-pub returns-in-Ok-Some-clause-stands : goal.returns-in-Ok-Some-clause-stands
-returns-in-Ok-Some-clause-stands g c = λ q len none live h.
+pub returns-in-Ok-Some-clause-represents : goal.returns-in-Ok-Some-clause-represents
+returns-in-Ok-Some-clause-represents g c = λ q len none live h.
     let a = c.args.self.now in
     let s = subst (λ (o : Option Awaits). Settles a.schema.now.kinds a.kind.place a.limits
-    (g.B.Build.tells c.settle.new.built) (stack_of c.settle.new.work c.settle.new.parents.items) q o)
+    (g.B.Build.reports c.settle.new.built) (stack_of c.settle.new.work c.settle.new.parents.items) q o)
     c.in-Ok-Some.field-0-is (c.in-Ok-Some.ensures.follows a.kind.place q (rw c.in-Next.is at h)) in
-    c.go_on.ensures.stands q len none s.0 s.1
+    c.go_on.ensures.represents q len none s.0 s.1
 
-pub returns-in-Ok-None-clause-stands : goal.returns-in-Ok-None-clause-stands
-returns-in-Ok-None-clause-stands g c = λ q len none live h.
+pub returns-in-Ok-None-clause-represents : goal.returns-in-Ok-None-clause-represents
+returns-in-Ok-None-clause-represents g c = λ q len none live h.
     let a = c.args.self.now in
     let s = subst (λ (o : Option Awaits). Settles a.schema.now.kinds a.kind.place a.limits
-    (g.B.Build.tells c.settle.new.built) (stack_of c.settle.new.work c.settle.new.parents.items) q o)
+    (g.B.Build.reports c.settle.new.built) (stack_of c.settle.new.work c.settle.new.parents.items) q o)
     c.in-Ok-None.field-0-is (c.in-Ok-None.ensures.follows a.kind.place q (rw c.in-Next.is at h)) in
-    c.end.ensures.stands q len s.0 s.1
+    c.end.ensures.represents q len s.0 s.1
 
-pub returns-in-Err-clause-stands : goal.returns-in-Err-clause-stands
-returns-in-Err-clause-stands g c = λ q len none live h.
+pub returns-in-Err-clause-represents : goal.returns-in-Err-clause-represents
+returns-in-Err-clause-represents g c = λ q len none live h.
     let a = c.args.self.now in
-    c.fail.ensures.stands q
+    c.fail.ensures.represents q
     (λ rest. subst (λ (n : ℕ). Ends a.schema.now.kinds a.kind.place a.limits c.reason_of.result (q ++ rest) n) len
     (subst (λ (e : Reason). Ends a.schema.now.kinds a.kind.place a.limits e (q ++ rest) (length q))
     (sym c.reason_of.ensures)
-    (ends_trouble a.schema.now.kinds a.kind.place a.limits (g.B.Build.tells a.built)
+    (ends_trouble a.schema.now.kinds a.kind.place a.limits (g.B.Build.reports a.built)
     (stack_of a.work a.parents.items) q rest c.in-Err.trouble c.in-Err.ensures.deep (rw c.in-Next.is at h))))
     (omega (arith, len))
     (subst (λ (e : Reason). Spares g.B.Build.spares (kind_at a.schema.now.kinds a.kind.place) e) (sym

@@ -4,8 +4,8 @@ use Rattle.xdr_stream.specs.Sees.{Ends}
 use Rattle.xdr_stream.proofs.Standing.{within_limit}
 use Rattle.xdr_stream.proofs.reader.Reader.take.Goals as goal
 
-pub returns-in-Ok-clause-stands : goal.returns-in-Ok-clause-stands
-returns-in-Ok-clause-stands g c = λ q len none h ready small.
+pub returns-in-Ok-clause-represents : goal.returns-in-Ok-clause-represents
+returns-in-Ok-clause-represents g c = λ q len none h ready small.
     let a = c.args.self.now in
     let next = c.in-Ok.ensures.taken a.kind.place a.limits q ready small h in
     let most : length q ≤ a.limits.bytes =
@@ -20,12 +20,12 @@ returns-in-Ok-clause-stands g c = λ q len none h ready small.
       c.depth-range.ensures.range.most_bytes,
       c.saturating_add-self.ensures,
     ) in
-    c.settle.ensures.stands (q ++ c.args.unit.now) far none c.in-Ok.ensures.live next
+    c.settle.ensures.represents (q ++ c.args.unit.now) far none c.in-Ok.ensures.live next
 
-pub returns-in-Err-clause-stands : goal.returns-in-Err-clause-stands
-returns-in-Err-clause-stands g c = λ q len none h ready small.
+pub returns-in-Err-clause-represents : goal.returns-in-Err-clause-represents
+returns-in-Err-clause-represents g c = λ q len none h ready small.
     let a = c.args.self.now in
-    c.fail.ensures.stands (q ++ c.args.unit.now)
+    c.fail.ensures.represents (q ++ c.args.unit.now)
     (λ rest. subst (λ (n : ℕ). Ends a.schema.now.kinds a.kind.place a.limits c.in-Err.why
     ((q ++ c.args.unit.now) ++ rest) n) len
     (subst (λ (b : List ℕ). Ends a.schema.now.kinds a.kind.place a.limits c.in-Err.why b (length q))

@@ -7,7 +7,7 @@ use Rattle.xdr_types.specs.Fits.{are_bytes}
 use Rattle.xdr_stream.specs.Frames.{left_of, onto, stack_of}
 use Rattle.xdr_stream.specs.Trace.{Trace, HasRoom, content_in, extend_in}
 use Rattle.xdr_stream.specs.Sees.{Sees}
-use Rattle.xdr_stream.specs.Stands.{StandsAs, StandsFor}
+use Rattle.xdr_stream.specs.Represents.{StandsAs, RepresentsBytes}
 use Rattle.xdr_stream.specs.Whole.{IsWholeAt}
 use Rattle.xdr_stream.specs.declared.machine.Awaits.TheVariants.{Next}
 use Rattle.xdr_stream.specs.declared.reader.State.{State}
@@ -24,13 +24,13 @@ invariant_of-self g c =
       waits = tt;
     }
 
-pub returns-in-Ok-clause-stands : goal.returns-in-Ok-clause-stands
-returns-in-Ok-clause-stands g c = λ b state none st.
+pub returns-in-Ok-clause-represents : goal.returns-in-Ok-clause-represents
+returns-in-Ok-clause-represents g c = λ b state none st.
     let a = c.args.self.now in
     let s : List KindView = a.schema.now.kinds in
     let w = c.args.whole in
-    let H : Trace → Type 0 = g.B.Build.tells a.built in
-    let I : Trace → Type 0 = g.B.Build.tells c.whole.new.self in
+    let H : Trace → Type 0 = g.B.Build.reports a.built in
+    let I : Trace → Type 0 = g.B.Build.reports c.whole.new.self in
     let r = subst (λ (x : State). StandsAs g.B.Build.spares s a.kind.place a.limits H (stack_of a.work
     a.parents.items) a.read a.unit
     a.pending x b) state st in
@@ -41,12 +41,12 @@ returns-in-Ok-clause-stands g c = λ b state none st.
     let e = d.2 in
     let are : are_bytes u ≡ true = bytes_taken w.all c.args.bytes.now (λ i. omega (arith, c.type_inv.bytes i)) in
     let same : (4 + w.size) - 4 ≡ w.size = omega arith in
-    let tells : (x : Trace) → H x → HasRoom x
+    let reports : (x : Trace) → H x → HasRoom x
     → I (content_in (extend_in (take w.size (drop 4 c.args.bytes.now)) x)) = λ x h o.
     subst (λ (k : ℕ). I (content_in (extend_in (take k (drop 4 c.args.bytes.now)) x))) same
-    (c.in-Ok.ensures.told x h o) in
+    (c.in-Ok.ensures.reported x h o) in
     let next = whole_seen s c.len-known.ensures.valued c.len-known.ensures.known a.kind.place a.limits H I a.work
-    a.parents.items q c.args.bytes.now w r.5 d are tells r.4 in
+    a.parents.items q c.args.bytes.now w r.5 d are reports r.4 in
     let rest : List (List Part) = onto [] a.parents.items in
     let seen : Sees s a.kind.place a.limits I Next (stack_of c.after-self.result a.parents.items) (q ++ u) =
     subst (λ (ps : List Part). Sees s a.kind.place a.limits I Next (ps ∷ rest) (q ++ u))
@@ -58,24 +58,24 @@ returns-in-Ok-clause-stands g c = λ b state none st.
       length-append q u,
       size,
       r.2,
-      e.room,
+      e.space,
       c.depth-range.ensures.range.most_bytes,
       c.saturating_add-self.ensures,
     ) in
     let joined : q ++ u ≡ b ++ u = ap (λ (x : List ℕ). x ++ u)
     (sym (r.1 ∙ ap (λ (k : ℕ). q ++ take k a.unit) none ∙ append-nil q)) in
-    subst (λ (x : List ℕ). StandsFor g.B.Build.spares g.B.Build.tells c.settle.new.self x) joined
-    (c.settle.ensures.stands (q ++ u) far none tt seen)
+    subst (λ (x : List ℕ). RepresentsBytes g.B.Build.spares g.B.Build.reports c.settle.new.self x) joined
+    (c.settle.ensures.represents (q ++ u) far none tt seen)
 
-pub returns-in-Err-clause-stands : goal.returns-in-Err-clause-stands
-returns-in-Err-clause-stands g c = λ b state none st.
+pub returns-in-Err-clause-represents : goal.returns-in-Err-clause-represents
+returns-in-Err-clause-represents g c = λ b state none st.
     let a = c.args.self.now in
     let z : Type 0 = g.B.Build.spares in
-    let H : Trace → Type 0 = g.B.Build.tells a.built in
+    let H : Trace → Type 0 = g.B.Build.reports a.built in
     let s = subst (λ (x : State). StandsAs z a.schema.now.kinds a.kind.place a.limits H
     (stack_of a.work a.parents.items) a.read a.unit a.pending x b) state st in
     let due = c.requires in
-    c.fail.ensures.stands (b ++ take c.args.whole.all c.args.bytes.now) (λ rest. tt)
+    c.fail.ensures.represents (b ++ take c.args.whole.all c.args.bytes.now) (λ rest. tt)
     (omega (
       arith,
       s.2,

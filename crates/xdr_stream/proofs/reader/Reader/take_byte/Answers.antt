@@ -1,13 +1,13 @@
 use Rattle.std.proofs.Common.{◌≡◌, ℕ, List, [], ◌∷◌, ◌++◌, take, refl, subst, sym, ap, ◌∙◌, append_assoc, arith}
 use Rattle.xdr_stream.specs.Frames.{stack_of}
-use Rattle.xdr_stream.specs.Stands.{StandsAs, StandsFor}
+use Rattle.xdr_stream.specs.Represents.{StandsAs, RepresentsBytes}
 use Rattle.xdr_stream.specs.declared.reader.State.{State}
 use Rattle.xdr_stream.proofs.reader.Reader.take_byte.Goals as goal
 
-pub returns-else-self-lt3-clause-stands : goal.returns-else-self-lt3-clause-stands
-returns-else-self-lt3-clause-stands g c = λ b state st.
+pub returns-else-self-lt3-clause-represents : goal.returns-else-self-lt3-clause-represents
+returns-else-self-lt3-clause-represents g c = λ b state st.
     let a = c.args.self.now in
-    let s = subst (λ (x : State). StandsAs g.B.Build.spares a.schema.now.kinds a.kind.place a.limits (g.B.Build.tells
+    let s = subst (λ (x : State). StandsAs g.B.Build.spares a.schema.now.kinds a.kind.place a.limits (g.B.Build.reports
     a.built)
     (stack_of a.work a.parents.items) a.read a.unit a.pending x b) state st in
     let three : a.pending ≡ 3 = omega (arith, s.3, c.if-self-lt3.false) in
@@ -16,5 +16,5 @@ returns-else-self-lt3-clause-stands g c = λ b state st.
     ∙ ap (λ (n : ℕ). take n a.unit ++ c.args.byte ∷ []) (sym three))
     ∙ sym (append_assoc s.0 (take a.pending a.unit) (c.args.byte ∷ []))
     ∙ ap (λ (x : List ℕ). x ++ c.args.byte ∷ []) (sym s.1) in
-    subst (λ (x : List ℕ). StandsFor g.B.Build.spares g.B.Build.tells c.take.new.self x) joined
-    (c.take.ensures.stands s.0 s.2 refl s.4 s.5 s.6)
+    subst (λ (x : List ℕ). RepresentsBytes g.B.Build.spares g.B.Build.reports c.take.new.self x) joined
+    (c.take.ensures.represents s.0 s.2 refl s.4 s.5 s.6)

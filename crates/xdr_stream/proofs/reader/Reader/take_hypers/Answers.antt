@@ -8,7 +8,7 @@ use Rattle.xdr_stream.specs.Frames.{left_of, onto, stack_of}
 use Rattle.xdr_stream.specs.Trace.{TakesMany}
 use Rattle.xdr_stream.specs.Sees.{Sees}
 use Rattle.xdr_stream.specs.Sound.{IsSoundAt}
-use Rattle.xdr_stream.specs.Stands.{StandsAs}
+use Rattle.xdr_stream.specs.Represents.{StandsAs}
 use Rattle.xdr_stream.specs.declared.frame.Frame.{Frame}
 use Rattle.xdr_stream.specs.declared.machine.Awaits.TheVariants.{Wide}
 use Rattle.xdr_stream.specs.declared.reader.State.{State}
@@ -31,18 +31,18 @@ invariant_of-self g c =
       waits = tt;
     }
 
-pub returns-in-Ok-clause-stands : goal.returns-in-Ok-clause-stands
-returns-in-Ok-clause-stands g c = λ b state none room st.
+pub returns-in-Ok-clause-represents : goal.returns-in-Ok-clause-represents
+returns-in-Ok-clause-represents g c = λ b state none space st.
     let a = c.args.self.now in
     let due = c.requires.due in
-    let s = subst (λ (x : State). StandsAs g.B.Build.spares a.schema.now.kinds a.kind.place a.limits (g.B.Build.tells
+    let s = subst (λ (x : State). StandsAs g.B.Build.spares a.schema.now.kinds a.kind.place a.limits (g.B.Build.reports
     a.built)
     (stack_of a.work a.parents.items) a.read a.unit a.pending x b) state st in
     let u : List ℕ = take c.args.n c.args.bytes.now in
     let size : length u ≡ c.args.n = omega (arith, length-take c.args.n c.args.bytes.now, c.requires.there) in
     let are : are_bytes u ≡ true = bytes_taken c.args.n c.args.bytes.now (λ i. omega (arith, c.type_inv.bytes i)) in
-    let fits : length s.0 + length u < a.limits.bytes = omega (arith, size, s.2, room) in
-    let seen = subst (λ (w : Frame). Sees a.schema.now.kinds a.kind.place a.limits (g.B.Build.tells a.built)
+    let fits : length s.0 + length u < a.limits.bytes = omega (arith, size, s.2, space) in
+    let seen = subst (λ (w : Frame). Sees a.schema.now.kinds a.kind.place a.limits (g.B.Build.reports a.built)
     (Wide c.args.run.signed) (stack_of w a.parents.items) s.0) due.node s.4 in
     let deep : length (onto [] a.parents.items) + 1 ≤ a.limits.depth =
     omega (arith, onto_length [] a.parents.items, c.requires.deep) in
@@ -57,10 +57,10 @@ returns-in-Ok-clause-stands g c = λ b state none room st.
     ) in
     let next = many_hypers a.schema.now.kinds c.len-known.ensures.valued c.len-known.ensures.known a.kind.place
     a.limits c.args.run.item c.args.run.signed due.kind a.parents.items deep u
-    (With (g.B.Build.tells a.built) TakesMany)
-    (g.B.Build.tells c.hypers.new.self) (c.args.run.left - c.args.last) c.args.last c.args.run.left s.0 count sum
-    (bytes_are u are) fits (λ x told. c.in-Ok.ensures x told.0 told.1)
-    (seen_many_wide a.schema.now.kinds a.kind.place a.limits (g.B.Build.tells a.built) c.args.run.signed
+    (With (g.B.Build.reports a.built) TakesMany)
+    (g.B.Build.reports c.hypers.new.self) (c.args.run.left - c.args.last) c.args.last c.args.run.left s.0 count sum
+    (bytes_are u are) fits (λ x reported. c.in-Ok.ensures x reported.0 reported.1)
+    (seen_many_wide a.schema.now.kinds a.kind.place a.limits (g.B.Build.reports a.built) c.args.run.signed
     (left_of (Items c.args.run.item c.args.run.left)) (onto [] a.parents.items) s.0 some seen) in
     let far : length (s.0 ++ u) ≡ c.saturating_add-self.result =
     omega (
@@ -68,7 +68,7 @@ returns-in-Ok-clause-stands g c = λ b state none room st.
       length-append s.0 u,
       size,
       s.2,
-      room,
+      space,
       c.depth-range.ensures.range.most_bytes,
       c.saturating_add-self.ensures,
     ) in
@@ -77,11 +77,11 @@ returns-in-Ok-clause-stands g c = λ b state none room st.
     ∙ sym (ap (λ (k : ℕ). (s.0 ++ u) ++ take k a.unit) none ∙ append-nil (s.0 ++ u)) in
     (s.0 ++ u, joined, far, s.3, next, tt, λ e. omega (arith, e, length-append s.0 u, fits))
 
-pub returns-in-Err-clause-stands : goal.returns-in-Err-clause-stands
-returns-in-Err-clause-stands g c = λ b state none room st.
+pub returns-in-Err-clause-represents : goal.returns-in-Err-clause-represents
+returns-in-Err-clause-represents g c = λ b state none space st.
     let a = c.args.self.now in
     let z : Type 0 = g.B.Build.spares in
-    let H : Trace → Type 0 = g.B.Build.tells a.built in
+    let H : Trace → Type 0 = g.B.Build.reports a.built in
     let s = subst (λ (x : State). StandsAs z a.schema.now.kinds a.kind.place a.limits H
     (stack_of a.work a.parents.items) a.read a.unit a.pending x b) state st in
     let due = c.requires.due in
@@ -92,7 +92,7 @@ returns-in-Err-clause-stands g c = λ b state none room st.
       c.requires.left,
       c.requires.some,
     )) in
-    c.fail.ensures.stands (b ++ take c.args.n c.args.bytes.now) (λ rest. tt)
+    c.fail.ensures.represents (b ++ take c.args.n c.args.bytes.now) (λ rest. tt)
     (omega (
       arith,
       s.2,

@@ -5,15 +5,15 @@ use Rattle.std.proofs.lemmas.List.{length-append, take_rest}
 use Rattle.std.proofs.Math.Seq.{take-add}
 use Rattle.xdr_stream.specs.Frames.{stack_of}
 use Rattle.xdr_stream.specs.Sees.{Ends}
-use Rattle.xdr_stream.specs.Stands.{StandsAs, StandsFor}
+use Rattle.xdr_stream.specs.Represents.{StandsAs, RepresentsBytes}
 use Rattle.xdr_stream.specs.declared.reader.State.{State}
 use Rattle.xdr_stream.proofs.Standing.{within_limit}
 use Rattle.xdr_stream.proofs.reader.Reader.take_part.Goals as goal
 
-pub returns-in-Ok-clause-stands : goal.returns-in-Ok-clause-stands
-returns-in-Ok-clause-stands g c = λ b state none st.
+pub returns-in-Ok-clause-represents : goal.returns-in-Ok-clause-represents
+returns-in-Ok-clause-represents g c = λ b state none st.
     let a = c.args.self.now in
-    let s = subst (λ (x : State). StandsAs g.B.Build.spares a.schema.now.kinds a.kind.place a.limits (g.B.Build.tells
+    let s = subst (λ (x : State). StandsAs g.B.Build.spares a.schema.now.kinds a.kind.place a.limits (g.B.Build.reports
     a.built)
     (stack_of a.work a.parents.items) a.read a.unit a.pending x b) state st in
     let q : List ℕ = s.0 in
@@ -41,13 +41,13 @@ returns-in-Ok-clause-stands g c = λ b state none st.
     append_assoc q u (take n r) ∙ ap (λ (x : List ℕ). q ++ x) (sym all)
     ∙ ap (λ (x : List ℕ). x ++ take (4 + n) c.args.bytes.now)
     (sym (s.1 ∙ ap (λ (k : ℕ). q ++ take k a.unit) none ∙ append-nil q)) in
-    subst (λ (x : List ℕ). StandsFor g.B.Build.spares g.B.Build.tells c.take_whole.new.self x) joined
-    (c.take_whole.ensures.stands (q ++ u) far none c.in-Ok.ensures.live next)
+    subst (λ (x : List ℕ). RepresentsBytes g.B.Build.spares g.B.Build.reports c.take_whole.new.self x) joined
+    (c.take_whole.ensures.represents (q ++ u) far none c.in-Ok.ensures.live next)
 
-pub returns-in-Err-clause-stands : goal.returns-in-Err-clause-stands
-returns-in-Err-clause-stands g c = λ b state none st.
+pub returns-in-Err-clause-represents : goal.returns-in-Err-clause-represents
+returns-in-Err-clause-represents g c = λ b state none st.
     let a = c.args.self.now in
-    let s = subst (λ (x : State). StandsAs g.B.Build.spares a.schema.now.kinds a.kind.place a.limits (g.B.Build.tells
+    let s = subst (λ (x : State). StandsAs g.B.Build.spares a.schema.now.kinds a.kind.place a.limits (g.B.Build.reports
     a.built)
     (stack_of a.work a.parents.items) a.read a.unit a.pending x b) state st in
     let q : List ℕ = s.0 in
@@ -56,8 +56,8 @@ returns-in-Err-clause-stands g c = λ b state none st.
     ap (λ (x : List ℕ). q ++ x) c.unit_at-unit.ensures
     ∙ ap (λ (x : List ℕ). x ++ take 4 c.args.bytes.now)
     (sym (s.1 ∙ ap (λ (k : ℕ). q ++ take k a.unit) none ∙ append-nil q)) in
-    subst (λ (x : List ℕ). StandsFor g.B.Build.spares g.B.Build.tells c.fail.new.self x) joined
-    (c.fail.ensures.stands (q ++ u)
+    subst (λ (x : List ℕ). RepresentsBytes g.B.Build.spares g.B.Build.reports c.fail.new.self x) joined
+    (c.fail.ensures.represents (q ++ u)
     (λ rest. subst (λ (n : ℕ). Ends a.schema.now.kinds a.kind.place a.limits c.in-Err.why ((q ++ u) ++ rest) n) s.2
     (subst (λ (x : List ℕ). Ends a.schema.now.kinds a.kind.place a.limits c.in-Err.why x (length q))
     (sym (append_assoc q u rest))

@@ -2,7 +2,7 @@ use Rattle.std.proofs.Common.{◌≡◌, ◌+◌, ◌-◌, ℕ, List, ◌++◌, 
 use Rattle.std.proofs.Common.{length-drop, length-take, arith}
 use Rattle.std.proofs.Math.Seq.{take-add}
 use Rattle.std.proofs.lemmas.List.{take_all}
-use Rattle.xdr_stream.specs.Stands.{StandsFor}
+use Rattle.xdr_stream.specs.Represents.{RepresentsBytes}
 use Rattle.xdr_stream.proofs.Answering.{same_then}
 use Rattle.xdr_stream.proofs.reader.Reader.take_piece.Goals as goal
 
@@ -21,6 +21,6 @@ loop-at-preserved-then-piece-at-ge4 g c =
           let joined : (b ++ take at p) ++ take n (take (length p - at) (drop at p)) ≡ b ++ take (at + n) p =
           ap (λ (x : List ℕ). (b ++ take at p) ++ take n x) all ∙ append_assoc b (take at p) (take n (drop at p))
           ∙ ap (λ (x : List ℕ). b ++ x) (sym (take-add at n p)) in
-          subst (λ (x : List ℕ). StandsFor g.B.Build.spares g.B.Build.tells c.take_units-at.new.self x) joined
-          (c.take_units-at.ensures.stands (b ++ take at p) c.in-Reading.is c.if-self-eq0.true (i.3 b st)),
+          subst (λ (x : List ℕ). RepresentsBytes g.B.Build.spares g.B.Build.reports c.take_units-at.new.self x) joined
+          (c.take_units-at.ensures.represents (b ++ take at p) c.in-Reading.is c.if-self-eq0.true (i.3 b st)),
     )

@@ -14,7 +14,7 @@ use Rattle.xdr_stream.proofs.Built.{With, seen_many}
 use Rattle.xdr_stream.specs.declared.frame.Frame.TheVariants.{Items}
 use Rattle.xdr_stream.specs.Sees.{Sees, IsReady}
 use Rattle.xdr_stream.specs.Sound.{IsSoundAt}
-use Rattle.xdr_stream.specs.Stands.{StandsAs, StandsFor}
+use Rattle.xdr_stream.specs.Represents.{StandsAs, RepresentsBytes}
 use Rattle.xdr_stream.specs.declared.frame.Frame.{Frame}
 use Rattle.xdr_stream.specs.declared.machine.Awaits.TheVariants.{Next}
 use Rattle.xdr_stream.specs.declared.reader.State.{State}
@@ -40,19 +40,19 @@ take-requires g c =
     awaited_numbers c.args.self.now.schema.now.kinds c.args.run.item c.args.run.signed c.args.last Next
     c.requires.due.kind c.requires.last
 
-pub returns-in-Ok-clause-stands : goal.returns-in-Ok-clause-stands
-returns-in-Ok-clause-stands g c = λ b state none room st.
+pub returns-in-Ok-clause-represents : goal.returns-in-Ok-clause-represents
+returns-in-Ok-clause-represents g c = λ b state none space st.
     let a = c.args.self.now in
     let due = c.requires.due in
-    let s = subst (λ (x : State). StandsAs g.B.Build.spares a.schema.now.kinds a.kind.place a.limits (g.B.Build.tells
+    let s = subst (λ (x : State). StandsAs g.B.Build.spares a.schema.now.kinds a.kind.place a.limits (g.B.Build.reports
     a.built)
     (stack_of a.work a.parents.items) a.read a.unit a.pending x b) state st in
     let m : ℕ = c.args.n - 4 in
     let u : List ℕ = take m c.args.bytes.now in
     let size : length u ≡ m = omega (arith, length-take m c.args.bytes.now, c.requires.there) in
     let are : are_bytes u ≡ true = bytes_taken m c.args.bytes.now (λ i. omega (arith, c.type_inv.bytes i)) in
-    let fits : length s.0 + length u ≤ a.limits.bytes = omega (arith, size, s.2, room, c.requires.some) in
-    let seen = subst (λ (w : Frame). Sees a.schema.now.kinds a.kind.place a.limits (g.B.Build.tells a.built) Next
+    let fits : length s.0 + length u ≤ a.limits.bytes = omega (arith, size, s.2, space, c.requires.some) in
+    let seen = subst (λ (w : Frame). Sees a.schema.now.kinds a.kind.place a.limits (g.B.Build.reports a.built) Next
     (stack_of w a.parents.items) s.0) due.node s.4 in
     let ready = subst (λ (w : Frame). IsReady a.schema.now.kinds a.limits Next (stack_of w a.parents.items)) due.node
     s.5 in
@@ -71,10 +71,10 @@ returns-in-Ok-clause-stands g c = λ b state none room st.
     ) in
     let next = many_numbers a.schema.now.kinds c.len-known.ensures.valued c.len-known.ensures.known a.kind.place
     a.limits c.args.run.item c.args.run.signed due.kind a.parents.items deep u
-    (With (g.B.Build.tells a.built) TakesMany)
-    (g.B.Build.tells c.numbers.new.self) (c.args.run.left - c.args.last) c.args.last c.args.run.left s.0 count sum
-    (bytes_are u are) fits (λ x told. c.in-Ok.ensures x told.0 told.1)
-    (seen_many a.schema.now.kinds a.kind.place a.limits (g.B.Build.tells a.built)
+    (With (g.B.Build.reports a.built) TakesMany)
+    (g.B.Build.reports c.numbers.new.self) (c.args.run.left - c.args.last) c.args.last c.args.run.left s.0 count sum
+    (bytes_are u are) fits (λ x reported. c.in-Ok.ensures x reported.0 reported.1)
+    (seen_many a.schema.now.kinds a.kind.place a.limits (g.B.Build.reports a.built)
     (left_of (Items c.args.run.item c.args.run.left)) (onto [] a.parents.items) s.0 two seen) in
     let far : length (s.0 ++ u) ≡ c.saturating_add-self.result =
     omega (
@@ -82,7 +82,7 @@ returns-in-Ok-clause-stands g c = λ b state none room st.
       length-append s.0 u,
       size,
       s.2,
-      room,
+      space,
       c.depth-range.ensures.range.most_bytes,
       c.saturating_add-self.ensures,
     ) in
@@ -93,17 +93,17 @@ returns-in-Ok-clause-stands g c = λ b state none room st.
     append_assoc s.0 u c.unit_at.result ∙ ap (λ (x : List ℕ). s.0 ++ x) (sym four)
     ∙ ap (λ (x : List ℕ). x ++ take c.args.n c.args.bytes.now)
     (sym (s.1 ∙ ap (λ (k : ℕ). s.0 ++ take k a.unit) none ∙ append-nil s.0)) in
-    subst (λ (x : List ℕ). StandsFor g.B.Build.spares g.B.Build.tells c.take.new.self x) joined
-    (c.take.ensures.stands (s.0 ++ u) far none next
+    subst (λ (x : List ℕ). RepresentsBytes g.B.Build.spares g.B.Build.reports c.take.new.self x) joined
+    (c.take.ensures.represents (s.0 ++ u) far none next
     (ready_numbers a.schema.now.kinds c.len-known.ensures.valued c.len-known.ensures.known a.kind.place a.limits
     c.args.run.item c.args.run.signed due.kind a.parents.items deep c.args.last c.requires.last)
-    (omega (arith, length-append s.0 u, size, s.2, room, c.requires.some)))
+    (omega (arith, length-append s.0 u, size, s.2, space, c.requires.some)))
 
-pub returns-in-Err-clause-stands : goal.returns-in-Err-clause-stands
-returns-in-Err-clause-stands g c = λ b state none room st.
+pub returns-in-Err-clause-represents : goal.returns-in-Err-clause-represents
+returns-in-Err-clause-represents g c = λ b state none space st.
     let a = c.args.self.now in
     let z : Type 0 = g.B.Build.spares in
-    let H : Trace → Type 0 = g.B.Build.tells a.built in
+    let H : Trace → Type 0 = g.B.Build.reports a.built in
     let s = subst (λ (x : State). StandsAs z a.schema.now.kinds a.kind.place a.limits H
     (stack_of a.work a.parents.items) a.read a.unit a.pending x b) state st in
     let due = c.requires.due in
@@ -115,7 +115,7 @@ returns-in-Err-clause-stands g c = λ b state none room st.
       c.requires.some,
       c.requires.last,
     )) in
-    c.fail.ensures.stands (b ++ take c.args.n c.args.bytes.now) (λ rest. tt)
+    c.fail.ensures.represents (b ++ take c.args.n c.args.bytes.now) (λ rest. tt)
     (omega (
       arith,
       s.2,

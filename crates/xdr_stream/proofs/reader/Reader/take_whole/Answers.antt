@@ -8,16 +8,16 @@ use Rattle.xdr_stream.specs.Frames.{stack_of, onto, left_of}
 use Rattle.xdr_stream.specs.Trace.{Trace, HasRoom, content_in, extend_in}
 use Rattle.xdr_stream.specs.Sees.{are_zeros}
 use Rattle.xdr_stream.specs.declared.machine.Awaits.TheVariants.{Content}
-use Rattle.xdr_stream.proofs.Built.{With, seen_room}
+use Rattle.xdr_stream.proofs.Built.{With, seen_space}
 use Rattle.xdr_stream.proofs.Units.{whole_content, bytes_taken}
 use Rattle.xdr_stream.proofs.Sparing.{seen_content}
 use Rattle.xdr_stream.proofs.reader.Reader.take_whole.Goals as goal
 
-pub returns-in-Ok-clause-stands : goal.returns-in-Ok-clause-stands
-returns-in-Ok-clause-stands g c = λ q len none live h.
+pub returns-in-Ok-clause-represents : goal.returns-in-Ok-clause-represents
+returns-in-Ok-clause-represents g c = λ q len none live h.
     let a = c.args.self.now in
-    let H : Trace → Type 0 = g.B.Build.tells a.built in
-    let I : Trace → Type 0 = g.B.Build.tells c.whole.new.self in
+    let H : Trace → Type 0 = g.B.Build.reports a.built in
+    let I : Trace → Type 0 = g.B.Build.reports c.whole.new.self in
     let size : ℕ = c.in-Content.size in
     let n : ℕ = c.whole_there-n.result in
     let e = c.whole_there-n.ensures in
@@ -33,14 +33,14 @@ returns-in-Ok-clause-stands g c = λ q len none live h.
     ∙ ap (λ (x : List ℕ). are_zeros x) (drop-take size (n - size) c.args.bytes.now)
     ∙ sym c.are_zeros.ensures ∙ c.if-are_zeros.true in
     let first : take size u ≡ take size c.args.bytes.now = take-take size n c.args.bytes.now fits.0 in
-    let room : length q + length u ≤ a.limits.bytes = omega (arith, many, e.room, len, some) in
-    let told : (x : Trace) → With H HasRoom x → I (content_in (extend_in (take size u) x)) = λ x w.
-    subst (λ (z : List ℕ). I (content_in (extend_in z x))) (sym first) (c.in-Ok.ensures.told x w.0 w.1) in
+    let space : length q + length u ≤ a.limits.bytes = omega (arith, many, e.space, len, some) in
+    let reported : (x : Trace) → With H HasRoom x → I (content_in (extend_in (take size u) x)) = λ x w.
+    subst (λ (z : List ℕ). I (content_in (extend_in z x))) (sym first) (c.in-Ok.ensures.reported x w.0 w.1) in
     let next = whole_content a.schema.now.kinds c.len-known.ensures.valued c.len-known.ensures.known a.kind.place
     a.limits
     (stack_of a.work a.parents.items) (With H HasRoom) I u size q units are (omega (arith, many, fits.0))
-    (omega (arith, many, fits.1)) (rw c.in-Content.is at live) zeros room told
-    (seen_room a.schema.now.kinds a.kind.place a.limits H (Content size)
+    (omega (arith, many, fits.1)) (rw c.in-Content.is at live) zeros space reported
+    (seen_space a.schema.now.kinds a.kind.place a.limits H (Content size)
     (stack_of a.work a.parents.items) q tt (rw c.in-Content.is at h)) in
     let far : length (q ++ u) ≡ c.saturating_add-self.result =
     omega (
@@ -48,19 +48,19 @@ returns-in-Ok-clause-stands g c = λ q len none live h.
       length-append q u,
       many,
       len,
-      e.room,
+      e.space,
       some,
       c.depth-range.ensures.range.most_bytes,
       c.saturating_add-self.ensures,
     ) in
-    c.settle.ensures.stands (q ++ u) far none tt next
+    c.settle.ensures.represents (q ++ u) far none tt next
 
-pub returns-in-Err-clause-stands : goal.returns-in-Err-clause-stands
-returns-in-Err-clause-stands g c = λ q len none live h.
+pub returns-in-Err-clause-represents : goal.returns-in-Err-clause-represents
+returns-in-Err-clause-represents g c = λ q len none live h.
     let a = c.args.self.now in
     let z : Type 0 = g.B.Build.spares in
-    let H : Trace → Type 0 = g.B.Build.tells a.built in
-    c.fail.ensures.stands (q ++ take c.whole_there-n.result c.args.bytes.now) (λ rest. tt)
+    let H : Trace → Type 0 = g.B.Build.reports a.built in
+    c.fail.ensures.represents (q ++ take c.whole_there-n.result c.args.bytes.now) (λ rest. tt)
     (omega (arith, len, length-append q (take c.whole_there-n.result c.args.bytes.now)))
     (λ free. false≢true (c.in-Err.ensures.granted (seen_content z a.schema.now.kinds a.kind.place free a.limits H
     c.in-Content.size

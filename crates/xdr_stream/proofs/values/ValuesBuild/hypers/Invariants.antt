@@ -1,13 +1,13 @@
 use Rattle.std.proofs.Common.{◌≡◌, ◌-◌, ◌%◌, ◌≤◌, length, take}
 use Rattle.xdr_stream.specs.Runs.{hypers_in}
 use Rattle.xdr_stream.specs.Trace.{Trace, TakesMany}
-use Rattle.xdr_stream.specs.Values.{Tells}
+use Rattle.xdr_stream.specs.Values.{Reports}
 use Rattle.xdr_stream.proofs.values.ValuesBuild.hypers.Given as goal
 
 abbrev pub invariant-loop-at : goal.invariant-loop-at
 invariant-loop-at l =
     (l.at % 8 ≡ 0) × (l.at ≤ length l.units)
-    × ((t : Trace) → Tells l.initial.self t → TakesMany t → Tells l.self (hypers_in l.signed (take l.at l.units) t))
+    × ((t : Trace) → Reports l.initial.self t → TakesMany t → Reports l.self (hypers_in l.signed (take l.at l.units) t))
 
 abbrev pub decreases-loop-at : goal.decreases-loop-at
 decreases-loop-at l = length l.units - l.at

@@ -7,7 +7,7 @@ use Rattle.xdr_stream.specs.Trace.{Trace, level, added, leaf_in}
 use Rattle.xdr_stream.specs.Values.{trace_of, level_of, levels_onto, leaf_tree}
 use Rattle.xdr_stream.proofs.Finishing.{trace_at}
 use Rattle.xdr_stream.proofs.Running.{numbers_more}
-use Rattle.xdr_stream.proofs.Told.{tells_numbers}
+use Rattle.xdr_stream.proofs.Reported.{reports_numbers}
 use Rattle.xdr_stream.proofs.values.ValuesBuild.numbers.Goals as goal
 
 pub loop-at-preserved : goal.loop-at-preserved
@@ -33,11 +33,11 @@ loop-at-preserved c =
     )
 
 pub returns : goal.returns
-returns c = λ t told many.
+returns c = λ t reported many.
     let i = c.loop-at.invariant in
     let us : List ℕ = c.args.units.now in
     let all : take c.loop-at.at us ≡ us = take_all c.loop-at.at us (omega (arith, c.loop-at-test.false)) in
     let len : length us ≡ 4 * (length us / 4) = omega (arith, c.requires) in
-    tells_numbers c.args.self.now _ c.args.signed us (length us / 4) t len
+    reports_numbers c.args.self.now _ c.args.signed us (length us / 4) t len
     (i.2 ∙ ap (λ (x : List ℕ). numbers_in c.args.signed x (trace_of c.args.self.now)) all)
-    (λ few. omega (arith, c.saturating_add-self.ensures, i.3, few)) i.4 told many
+    (λ few. omega (arith, c.saturating_add-self.ensures, i.3, few)) i.4 reported many

@@ -7,7 +7,7 @@ abbrev pub invariant-loop-at : goal.invariant-loop-at
 invariant-loop-at l =
     (l.at % 4 ≡ 0) × (l.at ≤ length l.units)
     × (trace_of l.self ≡ numbers_in l.signed (take l.at l.units) (trace_of l.initial.self))
-    × (l.self.nodes ≡ l.initial.self.nodes) × (l.self.kept ≡ l.initial.self.kept)
+    × (l.self.nodes ≡ l.initial.self.nodes) × (l.self.retained ≡ l.initial.self.retained)
 
 abbrev pub decreases-loop-at : goal.decreases-loop-at
 decreases-loop-at l = length l.units - l.at

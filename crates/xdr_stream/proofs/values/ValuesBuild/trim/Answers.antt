@@ -6,9 +6,9 @@ use Rattle.std.proofs.Common.{[], ◌∷◌}
 use Rattle.xdr_stream.proofs.values.ValuesBuild.trim.Goals as goal
 
 pub returns : goal.returns
-returns c = λ t told. record {
+returns c = λ t reported. record {
   trace = ap (λ (ls : List Level). trace_at (level_of c.args.self.now.work ∷ levels_onto [] ls)
-      c.args.self.now.content.items) c.trim.ensures ∙ told.trace;
-  nodes = told.nodes;
-  kept = told.kept;
+      c.args.self.now.content.items) c.trim.ensures ∙ reported.trace;
+  nodes = reported.nodes;
+  retained = reported.retained;
 }

@@ -1,7 +1,0 @@
--- The one answer with status 0 is a whole value.
-use Rattle.std.proofs.Common.{sym, ◌∙◌}
-use Rattle.c_values.proofs.Told.{whole_told}
-use Rattle.c_values.proofs.examples.tells_the_count_of_a_value.Goals as goal
-
-pub returns : goal.returns
-returns c = λ e. let t = c.oncrpc_check.ensures in t.3 ∙ whole_told _ _ _ _ _ t.0 t.1 (sym e ∙ t.2)

@@ -1,8 +1,0 @@
--- What a call leaves in the room that C lends.
-use Rattle.std.specs.Prelude.{◌≡◌, ℕ, List, length}
-use Rattle.c_buffers.specs.Rooms.{AreAtFront}
-
--- The bytes stand at the front of the room, whose other bytes stay.
-pub record IsPut (form old new : List ℕ) (written : ℕ) : Type 0 where
-  pub count : written ≡ length form
-  pub front : AreAtFront form old new
