@@ -50,7 +50,7 @@ module _ (R : RattleType) (S : Slot R) where
       params = plain (λ κs. RawPtr) ∷ [];
       result = plain (λ κs. S.row);
     };
-    retained = (yes, tt);
+    kept = (yes, tt);
   }
 
   abbrev pub clauses : {M : Type 1} (𝓤 : Ura M) → Clauses 𝓤 ended
@@ -60,7 +60,7 @@ module _ (R : RattleType) (S : Slot R) where
     ensures = λ g r end. fact 𝓤 (S.held r ≡ None);
   }
 
-  abbrev stayed : Stays ended.signature.params ended.retained
+  abbrev stayed : Stays ended.signature.params ended.kept
   stayed = (stay_dropped _ yes, tt)
 
   pub none_meets : {M : Type 1} (𝓤 : Ura M) (𝓛 : Logic 𝓤) (𝓜 : Model 𝓤 𝓛.H) (𝓡 : Running 𝓤 𝓛.H 𝓜) (k : Callee)

@@ -55,7 +55,7 @@ module _ (R : RattleType) (S : Slot R) where
       params = plain (λ κs. Held R) ∷ [];
       result = plain (λ κs. S.row);
     };
-    retained = (yes, tt);
+    kept = (yes, tt);
   }
 
   abbrev pub clauses : {M : Type 1} (𝓤 : Ura M) → Clauses 𝓤 ended
@@ -71,7 +71,7 @@ module _ (R : RattleType) (S : Slot R) where
   of_meets 𝓤 𝓛 𝓜 𝓡 k closed =
       let H = 𝓛.H in let 𝓣 = tables 𝓤 H 𝓜 𝓡 𝓡.env in let Z : RattleType = heap.the_row in
       let LZ = heap_laws.the_row_laws in let c = clauses 𝓤 in let fn = function in
-      let hs : Stays ended.signature.params ended.retained = (stay_dropped (plain (λ _. Held R)) yes, tt) in
+      let hs : Stays ended.signature.params ended.kept = (stay_dropped (plain (λ _. Held R)) yes, tt) in
       proved_at 𝓛 ended hs c 𝓜 𝓡 (Goes-dropped 𝓛 0 (plain (λ _. Held R)) yes (λ κs x f. refl), tt) k fn closed (λ z are.
       let κs = z.0.0 in let v = z.0.3.0 in let Post : Val → SProp 𝓤 = (walk_of 𝓛 ended hs c).post z in
       let Run : List Val → SProp 𝓤 = λ ws. WpFn 𝓤 H 𝓣.C 𝓣.Λ fn ws Post in

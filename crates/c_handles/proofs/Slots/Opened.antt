@@ -77,7 +77,7 @@ module _ (R : RattleType) (S : Slot R) where
       params = plain (λ κs. S.row) ∷ plain (λ κs. heap.the_row) ∷ [];
       result = plain (λ κs. Out);
     };
-    retained = (yes, (yes, tt));
+    kept = (yes, (yes, tt));
   }
 
   abbrev pub clauses : {M : Type 1} (𝓤 : Ura M) → Clauses 𝓤 ended
@@ -93,7 +93,7 @@ module _ (R : RattleType) (S : Slot R) where
   opened_meets 𝓤 𝓛 𝓜 𝓡 k closed =
       let H = 𝓛.H in let 𝓣 = tables 𝓤 H 𝓜 𝓡 𝓡.env in let Z : RattleType = heap.the_row in
       let LZ = heap_laws.the_row_laws in let Lr : RattleType = Held R in let c = clauses 𝓤 in let fn = function in
-      let hs : Stays ended.signature.params ended.retained =
+      let hs : Stays ended.signature.params ended.kept =
       (stay_dropped (plain (λ _. S.row)) yes, (stay_dropped (plain (λ _. Z)) yes, tt)) in
       proved_at 𝓛 ended hs c 𝓜 𝓡 (
         Goes-dropped 𝓛 0 (plain (λ _. S.row)) yes (λ κs x f. S.silent x f),
