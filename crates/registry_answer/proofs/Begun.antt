@@ -1,6 +1,7 @@
 -- Which values a `mapping` and an `rpcb` are, and where the arguments begin with one.
 use Rattle.std.proofs.Common.{◌≡◌, ℕ, ◌+◌, ◌-◌, ◌<◌, ◌≤◌, ◌^◌, List, [], ◌∷◌, ◌++◌, length, Bool, true, false, ◌&&◌}
-use Rattle.std.proofs.Common.{refl, ap, sym, ◌∙◌, subst, arith, append_assoc, append-nil, leb-true, le-leb, nat_le}
+use Rattle.std.proofs.Common.{refl, ap, sym, ◌∙◌, subst, arith, append_assoc, append-nil, nat_lt, nat_le}
+use Rattle.std.proofs.Common.{ltb-true, lt-ltb, le-leb}
 use Rattle.std.proofs.lemmas.Bool.{false≢true}
 use Rattle.std.proofs.lemmas.List.{length-append}
 use Rattle.xdr_types.specs.Kinds as xdr
@@ -8,7 +9,7 @@ use Rattle.xdr_types.specs.Kinds.{KindView, Part, kind_at}
 use Rattle.xdr_types.specs.Tree as value
 use Rattle.xdr_types.specs.Tree.{Head, Values, Tree, depth, from_list}
 use Rattle.xdr_units.specs.Numbers.{word, pad, padded}
-use Rattle.xdr_types.specs.Fits.{Fits, fits, fit, is_legal, parts, are_bytes}
+use Rattle.xdr_types.specs.Fits.{Fits, fits, fit, is_legal, is_length, parts, are_bytes}
 use Rattle.xdr_types.specs.Spelling.{bytes_of}
 use Rattle.registry_rows.specs.Rows.{row_of}
 use Rattle.registry_dumps.specs.Dir.{dir_kinds}
@@ -47,14 +48,20 @@ none_of value.none h = refl
 none_of (value.node head inner rest) h = absurd (false≢true h)
 
 a_word : (h : Head) → is_legal dir_kinds xdr.unsigned h ≡ true → (n : ℕ) × (h ≡ value.unsigned n) × (n < 2 ^ 32)
-a_word (value.unsigned n) e = let small = leb-true n 4294967295 e in (n, refl, omega arith)
+a_word (value.unsigned n) e = let small = ltb-true n (2 ^ 32) e in (n, refl, omega arith)
 a_word _ e = absurd (false≢true e)
 
 a_text : (h : Head) → is_legal dir_kinds (xdr.text 4294967295) h ≡ true → (bs : List ℕ) × (h ≡ value.bytes bs)
     × (length bs < 2 ^ 32)
 a_text (value.bytes bs) e = let a = both _ _ e in let b = both _ _ a.0 in let small =
-    leb-true (length bs) 4294967295 b.0 in (bs, refl, omega arith)
+    ltb-true (length bs) (2 ^ 32) b.0 in (bs, refl, omega arith)
 a_text _ e = absurd (false≢true e)
+
+short_enough : (n : ℕ) → n < 2 ^ 32 → is_length 4294967295 n ≡ true
+short_enough n h =
+    let most : nat_le n 4294967295 ≡ true = le-leb n 4294967295 (omega (arith, h)) in
+    let below : nat_lt n (2 ^ 32) ≡ true = lt-ltb n (2 ^ 32) h in
+    λ j. most j && below j
 
 -- a word is the first of values that fit
 record FirstWord (ps : List Part) (vs : Values) : Type 0 where
@@ -166,10 +173,10 @@ pub whole_mapping : (args : List ℕ) (prog vers prot port : ℕ) (a b c rest : 
     → args ≡ word prog ++ a → a ≡ word vers ++ b → b ≡ word prot ++ c → c ≡ word port ++ rest
     → AreArguments 15 args (mapping_of prog vers prot port)
 whole_mapping args prog vers prot port a b c rest p v n o e f g h =
-    let lp : nat_le prog 4294967295 ≡ true = le-leb _ _ (omega arith) in
-    let lv : nat_le vers 4294967295 ≡ true = le-leb _ _ (omega arith) in
-    let ln : nat_le prot 4294967295 ≡ true = le-leb _ _ (omega arith) in
-    let lo : nat_le port 4294967295 ≡ true = le-leb _ _ (omega arith) in
+    let lp : nat_lt prog (2 ^ 32) ≡ true = lt-ltb _ _ (omega arith) in
+    let lv : nat_lt vers (2 ^ 32) ≡ true = lt-ltb _ _ (omega arith) in
+    let ln : nat_lt prot (2 ^ 32) ≡ true = lt-ltb _ _ (omega arith) in
+    let lo : nat_lt port (2 ^ 32) ≡ true = lt-ltb _ _ (omega arith) in
     let fits : fits dir_kinds 15 (mapping_of prog vers prot port) ≡ true =
     λ j. (lp j && true) && ((lv j && true) && ((ln j && true) && ((lo j && true) && true))) in
     decoded 15 args (mapping_of prog vers prot port) (record {
@@ -347,14 +354,14 @@ module _ (args : List ℕ) (prog : ℕ) (x1 : List ℕ) (prog_small : prog < 2 ^
               let bn = b3.0 in
               let ba = b4.0 in
               let bo = b5.0 in
-              let lp : nat_le prog 4294967295 ≡ true = le-leb _ _ (omega arith) in
-              let lv : nat_le vers 4294967295 ≡ true = le-leb _ _ (omega arith) in
-              let ln : nat_le (length netid) 4294967295 ≡ true = le-leb _ _ (omega arith) in
-              let la : nat_le (length address) 4294967295 ≡ true = le-leb _ _ (omega arith) in
-              let lo : nat_le (length owner) 4294967295 ≡ true = le-leb _ _ (omega arith) in
+              let lp : nat_lt prog (2 ^ 32) ≡ true = lt-ltb _ _ (omega arith) in
+              let lv : nat_lt vers (2 ^ 32) ≡ true = lt-ltb _ _ (omega arith) in
+              let ln : is_length 4294967295 (length netid) ≡ true = short_enough (length netid) (omega arith) in
+              let la : is_length 4294967295 (length address) ≡ true = short_enough (length address) (omega arith) in
+              let lo : is_length 4294967295 (length owner) ≡ true = short_enough (length owner) (omega arith) in
               let legal : fits dir_kinds 11 (rpcb_tree (row_of prog vers netid address owner)) ≡ true =
-              λ j. (lp j && true) && ((lv j && true) && ((((ln j && ln j) && bn j) && true) &&
-              ((((la j && la j) && ba j) && true) && ((((lo j && lo j) && bo j) && true) && true)))) in
+              λ j. (lp j && true) && ((lv j && true) && (((ln j && bn j) && true) &&
+              (((la j && ba j) && true) && (((lo j && bo j) && true) && true)))) in
               let many : length args ≡ length
               (bytes_of dir_kinds 11 (rpcb_tree (row_of prog vers netid address owner))) + length x5 =
               ap length all ∙ length-append

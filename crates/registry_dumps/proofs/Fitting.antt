@@ -1,11 +1,11 @@
 -- The dumps of a registry fit their kinds within the limits.
 use Rattle.std.proofs.Common.{◌≡◌, ℕ, ◌+◌, ◌-◌, ◌*◌, ◌%◌, ◌≤◌, ◌<◌, Bool, true, false, ◌&&◌, cond, List, [], ◌∷◌, ◌++◌}
-use Rattle.std.proofs.Common.{length, map, filter_map, nat_le, refl, ap, sym, ◌∙◌, subst, arith, rules, pos}
+use Rattle.std.proofs.Common.{length, map, filter_map, nat_le, nat_lt, refl, ap, sym, ◌∙◌, subst, arith, rules, pos, ◌^◌}
 use Rattle.std.proofs.Common.{mod-lt, Option, Some, None, option_map, option_and_then, is_some, true≢false}
 use Rattle.std.specs.List.{AllByRecursion, cons_option}
 use Rattle.std.specs.Str.{bytes_eq}
 use Rattle.std.proofs.lemmas.List.{length-append, length-replicate, length-map}
-use Rattle.std.proofs.lemmas.Bool.{le-leb}
+use Rattle.std.proofs.lemmas.Bool.{le-leb, lt-ltb}
 use Rattle.xdr_types.specs.Tree.{Tree, depth}
 use Rattle.xdr_types.specs.Fits.{fits, is_length, are_bytes}
 use Rattle.xdr_units.specs.Numbers.{num4, pad, padded}
@@ -25,9 +25,10 @@ use Rattle.registry_dumps.specs.Dumps.{dump_limits}
 text_fits : (bs : List ℕ) (most : ℕ) → length bs ≤ most → most ≤ 4294967295 → AreBytes bs
     → (is_length 4294967295 (length bs) && are_bytes bs) ≡ true
 text_fits bs most h m b =
-    let e : nat_le (length bs) 4294967295 ≡ true = le-leb (length bs) 4294967295 (omega (arith, h, m)) in
+    let d : nat_le (length bs) 4294967295 ≡ true = le-leb (length bs) 4294967295 (omega (arith, h, m)) in
+    let e : nat_lt (length bs) (2 ^ 32) ≡ true = lt-ltb (length bs) (2 ^ 32) (omega (arith, h, m)) in
     let f = are_bytes_of bs b in
-    λ j. (e j && e j) && f j
+    λ j. (d j && e j) && f j
 
 -- what a value in a dump keeps to
 record Good (place : ℕ) (t : Tree) : Type 0 where
@@ -75,8 +76,8 @@ four p v n a = joined p _
 
 row_fits : (r : Row) → IsRow r → fits dir_kinds 11 (rpcb_tree r) ≡ true
 row_fits r h =
-    let prog : nat_le r.prog 4294967295 ≡ true = le-leb _ _ (omega (arith, h.prog)) in
-    let vers : nat_le r.vers 4294967295 ≡ true = le-leb _ _ (omega (arith, h.vers)) in
+    let prog : nat_lt r.prog (2 ^ 32) ≡ true = lt-ltb _ _ (omega (arith, h.prog)) in
+    let vers : nat_lt r.vers (2 ^ 32) ≡ true = lt-ltb _ _ (omega (arith, h.vers)) in
     let netid = text_fits r.netid 64 h.netid (omega arith) h.netid_bytes in
     let address = text_fits r.address 256 h.address (omega arith) h.address_bytes in
     let owner = text_fits r.owner 10 h.owner (omega arith) h.owner_bytes in
@@ -110,10 +111,10 @@ mapping_short r prot a =
 
 good_mapping : (r : Row) (prot : ℕ) (a : Uaddr) → IsRow r → prot ≤ 17 → a.port < 65536 → Good 15 (mapping_tree r prot a)
 good_mapping r n a h small port =
-    let prog : nat_le r.prog 4294967295 ≡ true = le-leb _ _ (omega (arith, h.prog)) in
-    let vers : nat_le r.vers 4294967295 ≡ true = le-leb _ _ (omega (arith, h.vers)) in
-    let prot : nat_le n 4294967295 ≡ true = le-leb _ _ (omega (arith, small)) in
-    let end : nat_le a.port 4294967295 ≡ true = le-leb _ _ (omega (arith, port)) in
+    let prog : nat_lt r.prog (2 ^ 32) ≡ true = lt-ltb _ _ (omega (arith, h.prog)) in
+    let vers : nat_lt r.vers (2 ^ 32) ≡ true = lt-ltb _ _ (omega (arith, h.vers)) in
+    let prot : nat_lt n (2 ^ 32) ≡ true = lt-ltb _ _ (omega (arith, small)) in
+    let end : nat_lt a.port (2 ^ 32) ≡ true = lt-ltb _ _ (omega (arith, port)) in
     record {
       legal = λ j. (prog j && true) &&
           ((vers j && true) && ((prot j && true) && ((end j && true) && true)));

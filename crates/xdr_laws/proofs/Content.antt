@@ -210,25 +210,25 @@ unit8_less (a ∷ b ∷ c ∷ d ∷ e ∷ f ∷ g ∷ h ∷ []) len are = omega 
 unit8_less (a ∷ b ∷ c ∷ d ∷ e ∷ f ∷ g ∷ h ∷ i ∷ u) len are = absurd (omega arith)
 unit8_less _ len are = absurd (omega arith)
 
-pub signed8_unit : (x : ℕ) → x < 2 ^ 64 → IsSigned 9223372036854775808 (signed8 x) × (units_of (signed8 x) ≡ x)
-signed8_unit x h = by_half x h (nat_lt x 9223372036854775808) refl
+pub signed8_unit : (x : ℕ) → x < 2 ^ 64 → IsSigned (2 ^ 63) (signed8 x) × (units_of (signed8 x) ≡ x)
+signed8_unit x h = by_half x h (nat_lt x (2 ^ 63)) refl
   where
-    low : (x : ℕ) → x < 9223372036854775808 → IsSigned 9223372036854775808 (pos x) × (units_of (pos x) ≡ x)
+    low : (x : ℕ) → x < 2 ^ 63 → IsSigned (2 ^ 63) (pos x) × (units_of (pos x) ≡ x)
     low x h = (h, refl)
 
-    high : (x : ℕ) → 9223372036854775808 ≤ x → x < 2 ^ 64
-        → IsSigned 9223372036854775808 (negsuc (18446744073709551615 - x))
-        × (units_of (negsuc (18446744073709551615 - x)) ≡ x)
+    high : (x : ℕ) → 2 ^ 63 ≤ x → x < 2 ^ 64
+        → IsSigned (2 ^ 63) (negsuc (2 ^ 64 - 1 - x))
+        × (units_of (negsuc (2 ^ 64 - 1 - x)) ≡ x)
     high x h less = (omega arith, omega arith)
 
-    by_half : (x : ℕ) → x < 2 ^ 64 → (b : Bool) → nat_lt x 9223372036854775808 ≡ b
-        → IsSigned 9223372036854775808 (signed8 x) × (units_of (signed8 x) ≡ x)
+    by_half : (x : ℕ) → x < 2 ^ 64 → (b : Bool) → nat_lt x (2 ^ 63) ≡ b
+        → IsSigned (2 ^ 63) (signed8 x) × (units_of (signed8 x) ≡ x)
     by_half x h true e =
-        let below = ltb-true x 9223372036854775808 e in
-        subst (λ (z : ℤ). IsSigned 9223372036854775808 z × (units_of z ≡ x)) (sym (signed8_low x below)) (low x below)
+        let below = ltb-true x (2 ^ 63) e in
+        subst (λ (z : ℤ). IsSigned (2 ^ 63) z × (units_of z ≡ x)) (sym (signed8_low x below)) (low x below)
     by_half x h false e =
-        let above : 9223372036854775808 ≤ x = grind arith in
-        subst (λ (z : ℤ). IsSigned 9223372036854775808 z × (units_of z ≡ x)) (sym (signed8_high x above))
+        let above : 2 ^ 63 ≤ x = grind arith in
+        subst (λ (z : ℤ). IsSigned (2 ^ 63) z × (units_of z ≡ x)) (sym (signed8_high x above))
         (high x above h)
 
 abbrev IsFreeBy : List KindView → KindView → Head → (place d : ℕ) (t : Part) → List ℕ → Type 0

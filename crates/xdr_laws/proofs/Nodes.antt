@@ -2,7 +2,7 @@
 use Rattle.std.proofs.Common.{◌≡◌, ℕ, zero, suc, ◌+◌, ◌<◌, ◌≤◌, ◌==◌, Bool, true, false, cond, nat_lt, List, [], ◌∷◌}
 use Rattle.std.proofs.Common.{◌++◌, length, Option, Some, None, refl, sym, ap, subst, ◌∙◌, arith, inl, inr, replicate}
 use Rattle.std.specs.Prelude.{◌⊎◌, ⊤, ◌*◌}
-use Rattle.std.specs.List.{AllByRecursion}
+use Rattle.std.specs.List.{list_any, AllByRecursion}
 use Rattle.std.proofs.lemmas.Bool.{cases_lt}
 use Rattle.std.proofs.lemmas.List.{length-append, length-replicate, get_or_past}
 use Rattle.xdr_types.specs.Kinds as xdr
@@ -17,7 +17,7 @@ use Rattle.xdr_types.specs.Kinds.{Lists}
 use Rattle.xdr_types.specs.Fits.{is_legal, optional_part}
 use Rattle.xdr_types.specs.Sound.{Heighting, IsProper, IsSound}
 use Rattle.xdr_types.specs.Height.{height_within, IsHigher}
-use Rattle.xdr_types.specs.Faults.{some_of, is_none, is_void, is_nothing, has_unknown, is_zero_size, has_void}
+use Rattle.xdr_types.specs.Faults.{is_none, is_void, is_nothing, has_unknown, is_zero_size, has_void}
 use Rattle.xdr_types.specs.Faults.{has_bad_tag, has_case_twice, has_illegal_case, has_empty_list, kind_flaw}
 use Rattle.xdr_types.specs.Faults.{IsWellFormed}
 use Rattle.xdr_types.specs.Laws.{EachPartIsKnown}
@@ -596,11 +596,11 @@ is_solid : (f : KindView) → is_nothing f ≡ false → IsSolid f
 is_solid xdr.nothing e = absurd (false≢true (sym e))
 is_solid _ e = tt
 
-solid_fields : (s : List KindView) (ps : List Part) → some_of (λ (p : Part). is_void s p.kind) ps ≡ false
+solid_fields : (s : List KindView) (ps : List Part) → list_any (λ (p : Part). is_void s p.kind) ps ≡ false
     → AreMembers s ps
 solid_fields s [] e = tt
 solid_fields s (p ∷ ps) e =
-    let c = or-false (is_void s p.kind) (some_of (λ (p : Part). is_void s p.kind) ps) e in
+    let c = or-false (is_void s p.kind) (list_any (λ (p : Part). is_void s p.kind) ps) e in
     (is_solid (kind_at s p.kind) c.0, solid_fields s ps c.1)
 
 some_fields : (ps : List Part) → is_none ps ≡ false → 0 < length ps

@@ -3,7 +3,7 @@ use Rattle.std.proofs.Common.{◌≡◌, ℕ, ◌-◌, ◌^◌, ◌<◌, ◌≤�
 use Rattle.std.proofs.Common.{take, drop, refl, ap, ◌∙◌, arith}
 use Rattle.std.specs.Int.{w32, w64, from_be_bytes, cast_unsigned}
 use Rattle.std.proofs.lemmas.Nat.{from_be_bytes-to_be_bytes_4, from_be_bytes-to_be_bytes_8}
-use Rattle.std.proofs.lemmas.Bool.{leb-true, le-ltb, lt-ltb}
+use Rattle.std.proofs.lemmas.Bool.{ltb-true, le-ltb, lt-ltb}
 use Rattle.xdr_types.specs.Kinds as xdr
 use Rattle.xdr_types.specs.Kinds.{KindView, Constant}
 use Rattle.xdr_types.specs.Fits.{is_tag_of}
@@ -45,40 +45,40 @@ drop8-unit8 n x = refl
 
 -- ---- signed numbers
 
-pub signed_low : (x : ℕ) → x < 2147483648 → signed x ≡ pos x
-signed_low x h = rw (lt-ltb x 2147483648 h) refl
+pub signed_low : (x : ℕ) → x < 2 ^ 31 → signed x ≡ pos x
+signed_low x h = rw (lt-ltb x (2 ^ 31) h) refl
 
-pub signed_high : (x : ℕ) → 2147483648 ≤ x → signed x ≡ negsuc (4294967295 - x)
-signed_high x h = rw (le-ltb x 2147483648 h) refl
+pub signed_high : (x : ℕ) → 2 ^ 31 ≤ x → signed x ≡ negsuc (2 ^ 32 - 1 - x)
+signed_high x h = rw (le-ltb x (2 ^ 31) h) refl
 
-pub signed_back : (z : ℤ) → IsSigned 2147483648 z → (unit_of z < 2 ^ 32) × (signed (unit_of z) ≡ z)
+pub signed_back : (z : ℤ) → IsSigned (2 ^ 31) z → (unit_of z < 2 ^ 32) × (signed (unit_of z) ≡ z)
 signed_back (pos n) h = (omega arith, signed_low n h)
 signed_back (negsuc n) h =
-    let e : unit_of (negsuc n) ≡ 4294967295 - n = omega arith in
-    let back : 4294967295 - (4294967295 - n) ≡ n = omega arith in
-    (omega arith, ap signed e ∙ signed_high (4294967295 - n) (omega arith) ∙ ap negsuc back)
+    let e : unit_of (negsuc n) ≡ 2 ^ 32 - 1 - n = omega arith in
+    let back : 2 ^ 32 - 1 - (2 ^ 32 - 1 - n) ≡ n = omega arith in
+    (omega arith, ap signed e ∙ signed_high (2 ^ 32 - 1 - n) (omega arith) ∙ ap negsuc back)
 
 -- the number in two units, as a signed one
 abbrev pub signed8 : ℕ → ℤ
-signed8 x = cond (nat_lt x 9223372036854775808) (pos x) (negsuc (18446744073709551615 - x))
+signed8 x = cond (nat_lt x (2 ^ 63)) (pos x) (negsuc (2 ^ 64 - 1 - x))
 
-pub signed8_low : (x : ℕ) → x < 9223372036854775808 → signed8 x ≡ pos x
-signed8_low x h = rw (lt-ltb x 9223372036854775808 h) refl
+pub signed8_low : (x : ℕ) → x < 2 ^ 63 → signed8 x ≡ pos x
+signed8_low x h = rw (lt-ltb x (2 ^ 63) h) refl
 
-pub signed8_high : (x : ℕ) → 9223372036854775808 ≤ x → signed8 x ≡ negsuc (18446744073709551615 - x)
-signed8_high x h = rw (le-ltb x 9223372036854775808 h) refl
+pub signed8_high : (x : ℕ) → 2 ^ 63 ≤ x → signed8 x ≡ negsuc (2 ^ 64 - 1 - x)
+signed8_high x h = rw (le-ltb x (2 ^ 63) h) refl
 
-pub signed8_back : (z : ℤ) → IsSigned 9223372036854775808 z → (units_of z < 2 ^ 64) × (signed8 (units_of z) ≡ z)
+pub signed8_back : (z : ℤ) → IsSigned (2 ^ 63) z → (units_of z < 2 ^ 64) × (signed8 (units_of z) ≡ z)
 signed8_back (pos n) h = (omega arith, signed8_low n h)
 signed8_back (negsuc n) h =
-    let e : units_of (negsuc n) ≡ 18446744073709551615 - n = omega arith in
-    let back : 18446744073709551615 - (18446744073709551615 - n) ≡ n = omega arith in
-    (omega arith, ap signed8 e ∙ signed8_high (18446744073709551615 - n) (omega arith) ∙ ap negsuc back)
+    let e : units_of (negsuc n) ≡ 2 ^ 64 - 1 - n = omega arith in
+    let back : 2 ^ 64 - 1 - (2 ^ 64 - 1 - n) ≡ n = omega arith in
+    (omega arith, ap signed8 e ∙ signed8_high (2 ^ 64 - 1 - n) (omega arith) ∙ ap negsuc back)
 
 pub number_back : (k : KindView) (z : ℤ) → is_tag_of k z ≡ true → (unit_of z < 2 ^ 32) × (number_in k (unit_of z) ≡ z)
-number_back xdr.int z h = signed_back z (signed_is 2147483648 z h)
-number_back xdr.unsigned (pos n) h = let low = leb-true n 4294967295 h in (omega arith, refl)
-number_back xdr.boolean (pos n) h = let low = leb-true n 1 h in (omega arith, refl)
+number_back xdr.int z h = signed_back z (signed_is (2 ^ 31) z h)
+number_back xdr.unsigned (pos n) h = let low = ltb-true n (2 ^ 32) h in (omega arith, refl)
+number_back xdr.boolean (pos n) h = let low = ltb-true n 2 h in (omega arith, refl)
 number_back (xdr.numbered constants) z h = signed_back z (numbered_signed constants z h)
 number_back xdr.unsigned (negsuc n) h = absurd (false≢true h)
 number_back xdr.boolean (negsuc n) h = absurd (false≢true h)

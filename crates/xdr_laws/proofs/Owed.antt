@@ -275,24 +275,24 @@ head_is s xdr.nothing g x c y u less l e = absurd u
 head_is s _ _ x c y u less l e = absurd l
 
 -- the number in a unit is in its range, and has that unit
-signed_unit : (x : ℕ) → x < 2 ^ 32 → IsSigned 2147483648 (signed x) × (unit_of (signed x) ≡ x)
-signed_unit x h = by_half x h (nat_lt x 2147483648) refl
+signed_unit : (x : ℕ) → x < 2 ^ 32 → IsSigned (2 ^ 31) (signed x) × (unit_of (signed x) ≡ x)
+signed_unit x h = by_half x h (nat_lt x (2 ^ 31)) refl
   where
-    low : (x : ℕ) → x < 2147483648 → IsSigned 2147483648 (pos x) × (unit_of (pos x) ≡ x)
+    low : (x : ℕ) → x < 2 ^ 31 → IsSigned (2 ^ 31) (pos x) × (unit_of (pos x) ≡ x)
     low x h = (h, refl)
 
-    high : (x : ℕ) → 2147483648 ≤ x → x < 2 ^ 32
-        → IsSigned 2147483648 (negsuc (4294967295 - x)) × (unit_of (negsuc (4294967295 - x)) ≡ x)
+    high : (x : ℕ) → 2 ^ 31 ≤ x → x < 2 ^ 32
+        → IsSigned (2 ^ 31) (negsuc (2 ^ 32 - 1 - x)) × (unit_of (negsuc (2 ^ 32 - 1 - x)) ≡ x)
     high x h less = (omega arith, omega arith)
 
-    by_half : (x : ℕ) → x < 2 ^ 32 → (b : Bool) → nat_lt x 2147483648 ≡ b
-        → IsSigned 2147483648 (signed x) × (unit_of (signed x) ≡ x)
+    by_half : (x : ℕ) → x < 2 ^ 32 → (b : Bool) → nat_lt x (2 ^ 31) ≡ b
+        → IsSigned (2 ^ 31) (signed x) × (unit_of (signed x) ≡ x)
     by_half x h true e =
-        let below = ltb-true x 2147483648 e in
-        subst (λ (z : ℤ). IsSigned 2147483648 z × (unit_of z ≡ x)) (sym (signed_low x below)) (low x below)
+        let below = ltb-true x (2 ^ 31) e in
+        subst (λ (z : ℤ). IsSigned (2 ^ 31) z × (unit_of z ≡ x)) (sym (signed_low x below)) (low x below)
     by_half x h false e =
-        let above : 2147483648 ≤ x = grind arith in
-        subst (λ (z : ℤ). IsSigned 2147483648 z × (unit_of z ≡ x)) (sym (signed_high x above)) (high x above h)
+        let above : 2 ^ 31 ≤ x = grind arith in
+        subst (λ (z : ℤ). IsSigned (2 ^ 31) z × (unit_of z ≡ x)) (sym (signed_high x above)) (high x above h)
 
 number_unit : (k : KindView) (x : ℕ) → x < 2 ^ 32 → unit_of (number_in k x) ≡ x
 number_unit xdr.int x h = (signed_unit x h).1

@@ -2,12 +2,13 @@
 use Rattle.std.proofs.Common.{◌≡◌, ℕ, ◌<◌, ℤ, List, [], ◌∷◌, length, Bool, true, false, not, ◌||◌, if◌then◌else◌}
 use Rattle.std.proofs.Common.{Option, Some, None, is_some, refl, sym, subst}
 use Rattle.std.specs.Prelude.{option_map}
+use Rattle.std.specs.List.{list_any}
 use Rattle.std.proofs.lemmas.Bool.{false≢true, not-false}
 use Rattle.std.specs.Ordering.{int_eq}
 use Rattle.std.proofs.lemmas.Bool.Decides.{Decides-int_eq}
 use Rattle.xdr_types.specs.Kinds.{KindView, Part, Branch, Lists, kind_at, choice}
 use Rattle.xdr_types.specs.Fits.{is_listed, is_tag_of, part_of}
-use Rattle.xdr_types.specs.Faults.{some_of, has_unknown, is_zero_size, has_void, has_bad_tag, has_case_twice}
+use Rattle.xdr_types.specs.Faults.{has_unknown, is_zero_size, has_void, has_bad_tag, has_case_twice}
 use Rattle.xdr_types.specs.Faults.{has_illegal_case, kind_flaw, IsWellFormed}
 use Rattle.xdr_types.specs.declared.fault.Flaw.TheVariants as flaw
 use Rattle.xdr_types.proofs.Inhabited.{or-false, if-none}
@@ -30,11 +31,11 @@ cases_legal s well place known = no_flaw s.kinds (kind_at s.kinds place) (well.k
 -- ---- a number that a case has
 
 module _ (legal : ℤ → Bool) where
-  listed_legal : (cs : List ℤ) (z : ℤ) → some_of (λ (c : ℤ). not (legal c)) cs ≡ false → is_listed cs z ≡ true
+  listed_legal : (cs : List ℤ) (z : ℤ) → list_any (λ (c : ℤ). not (legal c)) cs ≡ false → is_listed cs z ≡ true
       → legal z ≡ true
   listed_legal [] z h k = absurd (false≢true k)
   listed_legal (c ∷ cs) z h k =
-      let hs = or-false (not (legal c)) (some_of (λ (c : ℤ). not (legal c)) cs) h in
+      let hs = or-false (not (legal c)) (list_any (λ (c : ℤ). not (legal c)) cs) h in
       by_first (int_eq c z) refl k hs.0 (listed_legal cs z hs.1)
     where
       by_first : (b : Bool) → int_eq c z ≡ b → b || is_listed cs z ≡ true → not (legal c) ≡ false
@@ -45,12 +46,12 @@ module _ (legal : ℤ → Bool) where
 
   -- without a default, what has a part is a case
   part_legal : (arms : List Branch) (z : ℤ) (p : Part)
-      → some_of (λ (a : Branch). some_of (λ (c : ℤ). not (legal c)) a.cases) arms ≡ false
+      → list_any (λ (a : Branch). list_any (λ (c : ℤ). not (legal c)) a.cases) arms ≡ false
       → part_of arms None z ≡ Some p → legal z ≡ true
   part_legal [] z p h k = cc
   part_legal (a ∷ arms) z p h k =
-      let hs = or-false (some_of (λ (c : ℤ). not (legal c)) a.cases)
-      (some_of (λ (a : Branch). some_of (λ (c : ℤ). not (legal c)) a.cases) arms) h in
+      let hs = or-false (list_any (λ (c : ℤ). not (legal c)) a.cases)
+      (list_any (λ (a : Branch). list_any (λ (c : ℤ). not (legal c)) a.cases) arms) h in
       by_first (is_listed a.cases z) refl k (listed_legal a.cases z hs.0) (part_legal arms z p hs.1)
     where
       by_first : (b : Bool) → is_listed a.cases z ≡ b → (if b then Some a.part else part_of arms None z) ≡ Some p

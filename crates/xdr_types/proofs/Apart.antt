@@ -16,7 +16,7 @@ use denote.Ref.{Bor}
 pub use Rattle.xdr_units.proofs.Bytes.{bytes_eq-sym}
 use Rattle.xdr_types.specs.Kinds.{Constant, Part, Branch}
 use Rattle.xdr_types.specs.KindViews.{constant_of, part_of_member, branch_of}
-use Rattle.xdr_types.specs.Faults.{some_of, some_optional, is_none, constant_twice, part_twice, arm_twice}
+use Rattle.xdr_types.specs.Faults.{some_optional, is_none, constant_twice, part_twice, arm_twice}
 use Rattle.xdr_types.specs.declared.kind.Member.{Member}
 use Rattle.xdr_types.specs.declared.kind.Arm.{Arm}
 
@@ -30,7 +30,7 @@ pub record Naming (A K : Type 0) : Type 0 where
 
 -- the name is an element's, or there besides
 abbrev pub is_there : {A K : Type 0} → Naming A K → List A → K → Bool
-is_there {A} by xs q = some_of (λ (x : A). by.alike q (by.name x)) xs || by.besides q
+is_there {A} by xs q = list_any (λ (x : A). by.alike q (by.name x)) xs || by.besides q
 
 -- a name that counts is there again after its element
 abbrev pub repeats : {A K : Type 0} → Naming A K → List A → Bool
@@ -61,10 +61,10 @@ not_not false = refl
 pub was_again : (counts fresh there is : Bool) → fresh ≡ not there → counts && not fresh ≡ is → counts && there ≡ is
 was_again counts fresh there is e h = ap (λ b. counts && b) (sym (not_not there) ∙ ap not (sym e)) ∙ h
 
-pub some_of-map : {A B : Type 0} (f : A → B) (test : B → Bool) (xs : List A)
-    → some_of test (map f xs) ≡ some_of (λ (x : A). test (f x)) xs
-some_of-map f test [] = refl
-some_of-map f test (x ∷ xs) = ap (λ b. test (f x) || b) (some_of-map f test xs)
+pub list_any-map : {A B : Type 0} (f : A → B) (test : B → Bool) (xs : List A)
+    → list_any test (map f xs) ≡ list_any (λ (x : A). test (f x)) xs
+list_any-map f test [] = refl
+list_any-map f test (x ∷ xs) = ap (λ b. test (f x) || b) (list_any-map f test xs)
 
 one_more : {A K : Type 0} (by : Naming A K) (x : A) (xs : List A) (has new : K → Bool)
     → by.counts (by.name x) && has (by.name x) ≡ false → ((q : K) → new q ≡ by.alike q (by.name x) || has q)
@@ -74,7 +74,7 @@ one_more {A} by x xs has new not u h = record {
       let first : by.counts (by.name x) && is_there by xs (by.name x) ≡ false =
       ap (λ b. by.counts (by.name x) && b) (h.names (by.name x)) ∙ not in
       rw (first, h.apart) refl;
-  names = λ q. or_assoc (by.alike q (by.name x)) (some_of (λ (y : A). by.alike q (by.name y)) xs) (by.besides q)
+  names = λ q. or_assoc (by.alike q (by.name x)) (list_any (λ (y : A). by.alike q (by.name y)) xs) (by.besides q)
       ∙ ap (λ b. by.alike q (by.name x) || b) (h.names q) ∙ sym (u q);
 }
 
@@ -163,26 +163,26 @@ by_field = by_text (λ m. string_bytes m.name)
 pub constants : (ms : List (String Global × ℤ)) → repeats by_constant ms ≡ constant_twice (map constant_of ms)
 constants [] = refl
 constants (m ∷ ms) =
-    let later : some_of (λ (d : Constant). bytes_eq (string_bytes m.0) d.name) (map constant_of ms) ≡ some_of
+    let later : list_any (λ (d : Constant). bytes_eq (string_bytes m.0) d.name) (map constant_of ms) ≡ list_any
     (λ (d : String Global × ℤ). bytes_eq (string_bytes m.0) (string_bytes d.0)) ms =
-    some_of-map constant_of (λ (d : Constant). bytes_eq (string_bytes m.0) d.name) ms in
+    list_any-map constant_of (λ (d : Constant). bytes_eq (string_bytes m.0) d.name) ms in
     rw (
       later,
       constants ms,
-      or-false (some_of
+      or-false (list_any
           (λ (d : String Global × ℤ). bytes_eq (string_bytes m.0) (string_bytes d.0)) ms),
     ) refl
 
 pub fields : (ms : List Member) → repeats by_field ms ≡ part_twice (map part_of_member ms)
 fields [] = refl
 fields (m ∷ ms) =
-    let later : some_of (λ (p : Part). bytes_eq (string_bytes m.name) p.name) (map part_of_member ms) ≡ some_of
+    let later : list_any (λ (p : Part). bytes_eq (string_bytes m.name) p.name) (map part_of_member ms) ≡ list_any
     (λ (n : Member). bytes_eq (string_bytes m.name) (string_bytes n.name)) ms =
-    some_of-map part_of_member (λ (p : Part). bytes_eq (string_bytes m.name) p.name) ms in
+    list_any-map part_of_member (λ (p : Part). bytes_eq (string_bytes m.name) p.name) ms in
     rw (
       later,
       fields ms,
-      or-false (some_of
+      or-false (list_any
           (λ (n : Member). bytes_eq (string_bytes m.name) (string_bytes n.name)) ms),
     ) refl
 
@@ -199,9 +199,9 @@ by_arm other = record {
 pub arms : (other : Option Part) (xs : List Arm) → repeats (by_arm other) xs ≡ arm_twice (map branch_of xs) other
 arms other [] = refl
 arms other (a ∷ xs) =
-    let later : some_of (λ (b : Branch). bytes_eq (string_bytes a.member.name) b.part.name) (map branch_of xs) ≡ some_of
-    (λ (b : Arm). bytes_eq (string_bytes a.member.name) (string_bytes b.member.name)) xs =
-    some_of-map branch_of (λ (b : Branch). bytes_eq (string_bytes a.member.name) b.part.name) xs in
+    let later : list_any (λ (b : Branch). bytes_eq (string_bytes a.member.name) b.part.name) (map branch_of xs)
+    ≡ list_any (λ (b : Arm). bytes_eq (string_bytes a.member.name) (string_bytes b.member.name)) xs =
+    list_any-map branch_of (λ (b : Branch). bytes_eq (string_bytes a.member.name) b.part.name) xs in
     rw (later, arms other xs) refl
 
 pub besides_arms : (other now : Option Member) (s n : BTreeSet (Bor (List ℕ))) → other ≡ now → n ≡ s

@@ -4,11 +4,12 @@ use Rattle.std.proofs.Common.{drop, get_or, int_cmp, int_eq, refl, sym, ap, ◌�
 use Rattle.std.proofs.Math.Bool.{or-true}
 use Rattle.std.proofs.Math.Seq.{drop-length}
 use Rattle.std.specs.BTreeSet.{BTreeSet, contains, Updates}
+use Rattle.std.specs.List.{list_any}
 use Rattle.xdr_types.specs.Kinds.{Branch}
 use Rattle.xdr_types.specs.KindViews.{branch_of}
 use Rattle.xdr_types.specs.Fits.{is_listed}
 use Rattle.xdr_types.specs.Sound.{has_arm}
-use Rattle.xdr_types.specs.Faults.{some_of, case_twice, arms_case_twice}
+use Rattle.xdr_types.specs.Faults.{case_twice, arms_case_twice}
 use Rattle.xdr_types.specs.declared.kind.Arm.{Arm}
 use Rattle.xdr_types.proofs.Apart.{Naming, AreApart, repeats, or_cond, cut}
 
@@ -16,7 +17,7 @@ use Rattle.xdr_types.proofs.Apart.{Naming, AreApart, repeats, or_cond, cut}
 abbrev pub by_case : (ℤ → Bool) → Naming ℤ ℤ
 by_case besides = record { alike = λ q z. int_eq z q; name = λ z. z; counts = λ z. true; besides = besides }
 
-listed : (cs : List ℤ) (z : ℤ) → some_of (λ (c : ℤ). int_eq c z) cs ≡ is_listed cs z
+listed : (cs : List ℤ) (z : ℤ) → list_any (λ (c : ℤ). int_eq c z) cs ≡ is_listed cs z
 listed [] z = refl
 listed (c ∷ cs) z = ap (λ b. int_eq c z || b) (listed cs z)
 
@@ -26,9 +27,9 @@ shuffle false true true d = refl
 shuffle false true false d = refl
 shuffle false false c d = refl
 
-pub cases : (has : ℤ → Bool) (cs : List ℤ) → repeats (by_case has) cs ≡ case_twice cs || some_of has cs
+pub cases : (has : ℤ → Bool) (cs : List ℤ) → repeats (by_case has) cs ≡ case_twice cs || list_any has cs
 cases has [] = refl
-cases has (c ∷ cs) = rw (listed cs c, cases has cs) (shuffle (is_listed cs c) (has c) (case_twice cs) (some_of has cs))
+cases has (c ∷ cs) = rw (listed cs c, cases has cs) (shuffle (is_listed cs c) (has c) (case_twice cs) (list_any has cs))
 
 pub added_case : (s n : BTreeSet ℤ) (k c : ℤ) → k ≡ c → Updates int_cmp s n k true → (z : ℤ)
     → contains int_cmp n z ≡ int_eq c z || contains int_cmp s z
@@ -47,7 +48,7 @@ pub record AreOnce (arms : List Branch) (has : ℤ → Bool) : Type 0 where
   pub once : arms_case_twice arms ≡ false
   pub cases : (z : ℤ) → has_arm arms z ≡ has z
 
-some_same : (f g : ℤ → Bool) → ((z : ℤ) → f z ≡ g z) → (cs : List ℤ) → some_of f cs ≡ some_of g cs
+some_same : (f g : ℤ → Bool) → ((z : ℤ) → f z ≡ g z) → (cs : List ℤ) → list_any f cs ≡ list_any g cs
 some_same f g e [] = refl
 some_same f g e (c ∷ cs) = rw (e c, some_same f g e cs) refl
 
@@ -59,14 +60,14 @@ twice_from (a ∷ arms) (suc j) h = rw (twice_from arms j h) (or-true _)
 
 pub next_arm : (arms : List Arm) (i : ℕ) (a : Arm) (has new : ℤ → Bool) → i < length arms
     → a ≡ get_or arms (length arms - 1 - i) a
-    → false ≡ case_twice a.cases.items || some_of has a.cases.items
+    → false ≡ case_twice a.cases.items || list_any has a.cases.items
     → ((z : ℤ) → new z ≡ is_listed a.cases.items z || has z)
     → AreOnce (map branch_of (drop (length arms - i) arms)) has
     → AreOnce (map branch_of (drop (length arms - (i + 1)) arms)) new
 next_arm arms i a has new lt is not u h =
     let here : length arms - (i + 1) ≡ length arms - 1 - i = omega (arith, lt) in
     let later : List Branch = map branch_of (drop (length arms - i) arms) in
-    let first : case_twice a.cases.items || some_of (has_arm later) a.cases.items ≡ false =
+    let first : case_twice a.cases.items || list_any (has_arm later) a.cases.items ≡ false =
     ap (λ b. case_twice a.cases.items || b) (some_same (has_arm later) has h.cases a.cases.items) ∙ sym not in
     rw (here, cut arms i a a lt is) (record {
       once = rw (first, h.once) refl;
@@ -75,11 +76,11 @@ next_arm arms i a has new lt is not u h =
 
 pub found_arm : (arms : List Arm) (i : ℕ) (a : Arm) (has : ℤ → Bool) → i < length arms
     → a ≡ get_or arms (length arms - 1 - i) a
-    → true ≡ case_twice a.cases.items || some_of has a.cases.items
+    → true ≡ case_twice a.cases.items || list_any has a.cases.items
     → AreOnce (map branch_of (drop (length arms - i) arms)) has → true ≡ arms_case_twice (map branch_of arms)
 found_arm arms i a has lt is there h =
     let later : List Branch = map branch_of (drop (length arms - i) arms) in
-    let first : case_twice a.cases.items || some_of (has_arm later) a.cases.items ≡ true =
+    let first : case_twice a.cases.items || list_any (has_arm later) a.cases.items ≡ true =
     ap (λ b. case_twice a.cases.items || b) (some_same (has_arm later) has h.cases a.cases.items) ∙ sym there in
     let here : arms_case_twice (map branch_of (drop (length arms - 1 - i) arms)) ≡ true =
     rw (cut arms i a a lt is) (rw first refl) in

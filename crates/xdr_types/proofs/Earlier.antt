@@ -5,10 +5,11 @@ use Rattle.std.proofs.Math.Bool.{or-false, or_assoc}
 use Rattle.std.specs.declared.alloc.Global.{Global}
 use Rattle.std.specs.BTreeSet.{BTreeSet, Updates}
 use Rattle.std.specs.Str.{bytes_eq}
+use Rattle.std.specs.List.{list_any}
 use denote.Ref.{Bor}
 use Rattle.xdr_types.specs.Kinds.{KindView, Part}
 use Rattle.xdr_types.specs.KindViews.{name_of}
-use Rattle.xdr_types.specs.Faults.{some_of, name_flaw, name_flaw_at}
+use Rattle.xdr_types.specs.Faults.{name_flaw, name_flaw_at}
 use Rattle.xdr_types.specs.declared.kind.KindId.{KindId}
 use Rattle.xdr_types.proofs.Flawless.{flaw-here}
 use Rattle.xdr_units.proofs.Bytes.{bytes_eq-sym}
@@ -16,7 +17,7 @@ use Rattle.xdr_types.proofs.Apart.{texts_cmp, has_text, added_text, no_text, was
 
 -- the set has the names before a place
 abbrev pub HasNames : List (String Global × KindId) → ℕ → BTreeSet (Bor (List ℕ)) → Type 0
-HasNames names i s = (q : List ℕ) → some_of (λ (p : Part). bytes_eq p.name q)
+HasNames names i s = (q : List ℕ) → list_any (λ (p : Part). bytes_eq p.name q)
     (map name_of (take i names)) ≡ has_text s q
 
 or_swap : (a b : Bool) → a || b ≡ b || a
@@ -27,12 +28,12 @@ or_swap false false = refl
 
 some_taken : (test : Part → Bool) (names : List (String Global × KindId)) (i : ℕ) (n : String Global × KindId)
     → i < length names → n ≡ get_or names i n
-    → some_of test (map name_of (take (suc i) names)) ≡ some_of test (map name_of (take i names)) || test (name_of n)
+    → list_any test (map name_of (take (suc i) names)) ≡ list_any test (map name_of (take i names)) || test (name_of n)
 some_taken test [] i n lt is = absurd (omega arith)
 some_taken test (m ∷ names) zero n lt is = or-false (test (name_of m)) ∙ ap (λ k. test (name_of k)) (sym is)
 some_taken test (m ∷ names) (suc i) n lt is =
     ap (λ b. test (name_of m) || b) (some_taken test names i n (omega arith) is)
-    ∙ sym (or_assoc (test (name_of m)) (some_of test (map name_of (take i names))) (test (name_of n)))
+    ∙ sym (or_assoc (test (name_of m)) (list_any test (map name_of (take i names))) (test (name_of n)))
 
 pub no_names : (names : List (String Global × KindId)) (s : BTreeSet (Bor (List ℕ))) → s.keys ≡ [] → HasNames names 0 s
 no_names names s e = no_text s e
@@ -56,7 +57,7 @@ looked : (forms : List KindView) (names : List (String Global × KindId)) (i : �
     (map name_of (take i names)) (name_of n)
 looked forms names i n s false e h = refl
 looked forms names i n s true e h =
-    let absent : some_of (λ (p : Part). bytes_eq p.name (string_bytes n.0)) (map name_of (take i names)) ≡ false =
+    let absent : list_any (λ (p : Part). bytes_eq p.name (string_bytes n.0)) (map name_of (take i names)) ≡ false =
     h (string_bytes n.0) ∙ was_absent true (has_text s (string_bytes n.0)) e refl in
     rw absent refl
 

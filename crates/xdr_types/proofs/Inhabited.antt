@@ -1,8 +1,8 @@
 -- Every kind of a well formed and sound schema has a value.
 use Rattle.std.proofs.Common.{◌≡◌, ℕ, zero, suc, ◌+◌, ◌<◌, ℤ, pos, List, [], ◌∷◌, length, replicate, get_or, Bool, true}
 use Rattle.std.proofs.Common.{false, not, ◌&&◌, ◌||◌, if◌then◌else◌, Option, Some, None, is_some, refl, ap, sym, ◌∙◌}
-use Rattle.std.proofs.Common.{subst, arith, eq-eqb, le-leb, inl, inr}
-use Rattle.std.specs.List.{AllByRecursion}
+use Rattle.std.proofs.Common.{◌^◌, subst, arith, eq-eqb, le-leb, inl, inr}
+use Rattle.std.specs.List.{list_any, AllByRecursion}
 use Rattle.std.specs.Ordering.{int_eq}
 use Rattle.std.proofs.lemmas.Bool.{false≢true, not-false}
 use Rattle.std.proofs.lemmas.Bool.Decides.{Decides-int_eq}
@@ -15,7 +15,7 @@ use Rattle.xdr_types.specs.Tree.{Head, Values, Tree, from_list}
 use Rattle.xdr_types.specs.Fits.{fits, fit, is_legal, is_tag_of, is_listed, is_signed, is_constant, part_of, parts}
 use Rattle.xdr_types.specs.Fits.{optional_part, item_part, are_bytes}
 use Rattle.xdr_types.specs.Sound.{Heighting, IsBelow, Asks, IsProper, IsSound, has_arm}
-use Rattle.xdr_types.specs.Faults.{some_of, is_none, has_unknown, is_zero_size, has_void, has_bad_tag, has_case_twice}
+use Rattle.xdr_types.specs.Faults.{is_none, has_unknown, is_zero_size, has_void, has_bad_tag, has_case_twice}
 use Rattle.xdr_types.specs.Faults.{arms_case_twice, case_twice, has_illegal_case, has_empty_list, kind_flaw}
 use Rattle.xdr_types.specs.Faults.{IsWellFormed}
 use Rattle.xdr_types.specs.declared.fault.Flaw.{Flaw}
@@ -59,22 +59,22 @@ all-sane s well place h = sane s.kinds (kind_at s.kinds place) (well.kinds place
 
 -- ---- tags
 
-first-case : (legal : ℤ → Bool) (cs : List ℤ) → is_none cs ≡ false → some_of (λ (z : ℤ). not (legal z)) cs ≡ false
+first-case : (legal : ℤ → Bool) (cs : List ℤ) → is_none cs ≡ false → list_any (λ (z : ℤ). not (legal z)) cs ≡ false
     → (z : ℤ) × (is_listed cs z ≡ true) × (legal z ≡ true)
 first-case legal [] h k = absurd (false≢true (sym h))
 first-case legal (c ∷ cs) h k = (
   c,
   or-left (int_eq c c) (is_listed cs c) ((Decides-int_eq c c).1 refl),
   not-false (legal c)
-      (or-false (not (legal c)) (some_of (λ (z : ℤ). not (legal z)) cs) k).0,
+      (or-false (not (legal c)) (list_any (λ (z : ℤ). not (legal z)) cs) k).0,
 )
 
 -- a case of a later arm stands in no earlier one
-unlisted : (arms : List Branch) (cs : List ℤ) (z : ℤ) → some_of (has_arm arms) cs ≡ false → has_arm arms z ≡ true
+unlisted : (arms : List Branch) (cs : List ℤ) (z : ℤ) → list_any (has_arm arms) cs ≡ false → has_arm arms z ≡ true
     → is_listed cs z ≡ false
 unlisted arms [] z h k = refl
 unlisted arms (c ∷ cs) z h k =
-    let hs = or-false (has_arm arms c) (some_of (has_arm arms) cs) h in
+    let hs = or-false (has_arm arms c) (list_any (has_arm arms) cs) h in
     let rest : is_listed cs z ≡ false = unlisted arms cs z hs.1 k in
     differs (int_eq c z) refl hs.0 rest
   where
@@ -91,16 +91,16 @@ record Tagged (legal : ℤ → Bool) (arms : List Branch) (other : Option Part) 
 
 arm-tag : (legal : ℤ → Bool) (other : Option Part) (arms : List Branch) (k : ℕ) (a : Branch) → k < length arms
     → get_or arms k a ≡ a
-    → some_of (λ (b : Branch). is_none b.cases) arms ≡ false
-    → some_of (λ (b : Branch). some_of (λ (z : ℤ). not (legal z)) b.cases) arms ≡ false
+    → list_any (λ (b : Branch). is_none b.cases) arms ≡ false
+    → list_any (λ (b : Branch). list_any (λ (z : ℤ). not (legal z)) b.cases) arms ≡ false
     → arms_case_twice arms ≡ false
     → Tagged legal arms other a.part
 arm-tag legal other [] k a h is full fine once = absurd (omega arith)
 arm-tag legal other (b ∷ arms) zero a h is full fine once =
     let found = first-case legal b.cases
-    (or-false (is_none b.cases) (some_of (λ (b : Branch). is_none b.cases) arms) full).0
-    (or-false (some_of (λ (z : ℤ). not (legal z)) b.cases)
-    (some_of (λ (b : Branch). some_of (λ (z : ℤ). not (legal z)) b.cases) arms) fine).0 in
+    (or-false (is_none b.cases) (list_any (λ (b : Branch). is_none b.cases) arms) full).0
+    (or-false (list_any (λ (z : ℤ). not (legal z)) b.cases)
+    (list_any (λ (b : Branch). list_any (λ (z : ℤ). not (legal z)) b.cases) arms) fine).0 in
     let same : b.part ≡ a.part = ap (λ (x : Branch). x.part) is in
     let here : is_listed b.cases found.0 ≡ true = found.1 in
     record {
@@ -110,12 +110,12 @@ arm-tag legal other (b ∷ arms) zero a h is full fine once =
       picks = rw here (ap Some same);
     }
 arm-tag legal other (b ∷ arms) (suc k) a h is full fine once =
-    let twice = or-false (case_twice b.cases || some_of (has_arm arms) b.cases) (arms_case_twice arms) once in
-    let apart = or-false (case_twice b.cases) (some_of (has_arm arms) b.cases) twice.0 in
+    let twice = or-false (case_twice b.cases || list_any (has_arm arms) b.cases) (arms_case_twice arms) once in
+    let apart = or-false (case_twice b.cases) (list_any (has_arm arms) b.cases) twice.0 in
     let found = arm-tag legal other arms k a (omega arith) is
-    (or-false (is_none b.cases) (some_of (λ (b : Branch). is_none b.cases) arms) full).1
-    (or-false (some_of (λ (z : ℤ). not (legal z)) b.cases)
-    (some_of (λ (b : Branch). some_of (λ (z : ℤ). not (legal z)) b.cases) arms) fine).1 twice.1 in
+    (or-false (is_none b.cases) (list_any (λ (b : Branch). is_none b.cases) arms) full).1
+    (or-false (list_any (λ (z : ℤ). not (legal z)) b.cases)
+    (list_any (λ (b : Branch). list_any (λ (z : ℤ). not (legal z)) b.cases) arms) fine).1 twice.1 in
     let there : is_listed b.cases found.z ≡ false = unlisted arms b.cases found.z apart.1 found.listed in
     record {
       z = found.z;
@@ -131,11 +131,11 @@ other-part (b ∷ arms) other z h =
     let none : is_listed b.cases z ≡ false = hs.0 in
     rw none (other-part arms other z hs.1)
 
-a-number : (cs : List Constant) → some_of (λ (c : Constant). is_signed 2147483648 c.number) cs ≡ true
-    → (z : ℤ) × (is_signed 2147483648 z ≡ true) × (is_constant cs z ≡ true)
+a-number : (cs : List Constant) → list_any (λ (c : Constant). is_signed (2 ^ 31) c.number) cs ≡ true
+    → (z : ℤ) × (is_signed (2 ^ 31) z ≡ true) × (is_constant cs z ≡ true)
 a-number [] h = absurd (false≢true h)
 a-number (c ∷ cs) h =
-    elim (one_of (is_signed 2147483648 c.number) (some_of (λ (c : Constant). is_signed 2147483648 c.number) cs) h) [
+    elim (one_of (is_signed (2 ^ 31) c.number) (list_any (λ (c : Constant). is_signed (2 ^ 31) c.number) cs) h) [
       | inl here ↦ (
         c.number,
         here,
@@ -186,7 +186,7 @@ value_of kinds xdr.hyper s h = ((value.hyper (pos 0), value.none), refl)
 value_of kinds xdr.unsigned_hyper s h = ((value.unsigned_hyper 0, value.none), refl)
 value_of kinds xdr.boolean s h = ((value.boolean false, value.none), refl)
 value_of kinds (xdr.numbered cs) s h =
-    let found = a-number cs (not-false (some_of (λ (c : Constant). is_signed 2147483648 c.number) cs) s.full) in
+    let found = a-number cs (not-false (list_any (λ (c : Constant). is_signed (2 ^ 31) c.number) cs) s.full) in
     ((value.numbered found.0, value.none), all-true _ _ (all-true _ _ found.1 found.2) refl)
 value_of kinds (xdr.opaque size) s h = (
   (value.bytes (replicate size 0), value.none),
@@ -214,7 +214,7 @@ value_of kinds (xdr.structure ps) s h = let vs = each kinds ps h in ((value.fiel
 value_of kinds (xdr.choice tag arms other) s h =
     elim h.1 [
       | inl arm ↦
-          let empty = or-false (is_none arms) (some_of (λ (a : Branch). is_none a.cases) arms) s.full in
+          let empty = or-false (is_none arms) (list_any (λ (a : Branch). is_none a.cases) arms) s.full in
           let found = arm-tag (is_tag_of
           (kind_at kinds tag)) other arms arm.1.0 arm.0 arm.1.1 arm.1.2 empty.1 s.legal s.once in
           with_part kinds tag arms other h.0 found.z h.2 found.tag (found.picks ∙ ap Some arm.2)

@@ -1,6 +1,7 @@
 -- No spelling of a kind begins another, and the spelling determines the value.
 use Rattle.std.proofs.Common.{◌≡◌, ◌↔◌, ℕ, ℤ, pos, negsuc, List, [], ◌∷◌, ◌++◌, length, true, false, ◌&&◌, refl}
-use Rattle.std.proofs.Common.{ap, sym, ◌∙◌, subst, arith, append_assoc, append-nil, eqb-true, leb-true, le-leb, nat_le}
+use Rattle.std.proofs.Common.{ap, sym, ◌∙◌, subst, arith, append_assoc, append-nil, eqb-true, ltb-true, lt-ltb, nat_le}
+use Rattle.std.proofs.Common.{nat_lt, ◌^◌}
 use Rattle.std.proofs.lemmas.Bool.{false≢true}
 pub use Rattle.std.proofs.lemmas.Bool.{and_parts as both}
 use Rattle.xdr_units.proofs.Bytes.{same_front}
@@ -23,13 +24,13 @@ content a b x y n e =
     let second = same_front (pad (length a)) (pad (length b)) x y (ap (λ k. length (pad k)) n) first.1 in
     (first.0, second.1)
 
-pub lengths : (m n max : ℕ) → nat_le m max && nat_le m 4294967295 ≡ true → nat_le n max && nat_le n 4294967295 ≡ true
+pub lengths : (m n max : ℕ) → nat_le m max && nat_lt m (2 ^ 32) ≡ true → nat_le n max && nat_lt n (2 ^ 32) ≡ true
     → num4 (pos m) ≡ num4 (pos n) → m ≡ n
 lengths m n max h k e = unsigned4 m n (both _ _ h).1 (both _ _ k).1 e
 
 -- a length, bytes and their padding before anything
-counted : (max : ℕ) (a b x y : List ℕ) → nat_le (length a) max && nat_le (length a) 4294967295 ≡ true
-    → nat_le (length b) max && nat_le (length b) 4294967295 ≡ true
+counted : (max : ℕ) (a b x y : List ℕ) → nat_le (length a) max && nat_lt (length a) (2 ^ 32) ≡ true
+    → nat_le (length b) max && nat_lt (length b) (2 ^ 32) ≡ true
     → (num4 (pos (length a)) ++ (a ++ pad (length a))) ++ x ≡ (num4 (pos (length b)) ++ (b ++ pad (length b))) ++ y
     → (a ≡ b) × (x ≡ y)
 counted max a b x y h k e =
@@ -43,9 +44,9 @@ legal_tag xdr.unsigned (pos m) (pos n) h k e = ap pos (unsigned4 m n h k e)
 legal_tag xdr.unsigned (negsuc m) b h k e = absurd (false≢true h)
 legal_tag xdr.unsigned a (negsuc n) h k e = absurd (false≢true k)
 legal_tag xdr.boolean (pos m) (pos n) h k e =
-    let below = leb-true m 1 h in
-    let below2 = leb-true n 1 k in
-    ap pos (unsigned4 m n (le-leb m 4294967295 (omega arith)) (le-leb n 4294967295 (omega arith)) e)
+    let below = ltb-true m 2 h in
+    let below2 = ltb-true n 2 k in
+    ap pos (unsigned4 m n (lt-ltb m (2 ^ 32) (omega arith)) (lt-ltb n (2 ^ 32) (omega arith)) e)
 legal_tag xdr.boolean (negsuc m) b h k e = absurd (false≢true h)
 legal_tag xdr.boolean a (negsuc n) h k e = absurd (false≢true k)
 legal_tag (xdr.numbered cs) a b h k e = signed4 a b (both _ _ h).0 (both _ _ k).0 e
@@ -144,7 +145,8 @@ module _ (kinds : List KindView) where
       (spelling kinds (parts f i) inside ++ (spelling kinds ps more ++ y)) gs.0 js.0 reported in
       let fit_inside : fit kinds (parts f g) inside ≡ true =
       subst (λ (j : Head). fit kinds (parts f j) inside ≡ true) (sym heads.0) js.1 in
-      let reported_inside = heads.1 ∙ ap (λ (j : Head). spelling kinds (parts f j) inside ++ (spelling kinds ps more ++ y))
+      let reported_inside =
+      heads.1 ∙ ap (λ (j : Head). spelling kinds (parts f j) inside ++ (spelling kinds ps more ++ y))
       (sym heads.0) in
       let inners = one_each (parts f g) inner inside (spelling kinds ps rest ++ x)
       (spelling kinds ps more ++ y) gs.1 fit_inside reported_inside in

@@ -1,6 +1,7 @@
 -- What is wrong with the lists of a schema, and which of it is found first (RFC 4506 sections 4.3 to 4.19).
 use Rattle.std.specs.Prelude.{◌<◌, ◌≤◌, take, slice_index_or, ◌≡◌, ℕ, ℤ, List, [], ◌∷◌, length, Bool, true, false, not}
-use Rattle.std.specs.Prelude.{◌&&◌, ◌||◌, ◌==◌, nat_le, Option, Some, None, if◌then◌else◌}
+use Rattle.std.specs.Prelude.{◌^◌, ◌&&◌, ◌||◌, ◌==◌, nat_le, Option, Some, None, if◌then◌else◌}
+use Rattle.std.specs.List.{list_any}
 use Rattle.std.specs.Str.{bytes_eq}
 use Rattle.xdr_types.specs.Kinds as xdr
 use Rattle.xdr_types.specs.Kinds.{KindView, Part, Branch, Constant, Lists, kind_at}
@@ -9,11 +10,6 @@ use Rattle.xdr_types.specs.Sound.{has_arm}
 use Rattle.xdr_types.specs.declared.fault.Flaw.{Flaw}
 use Rattle.xdr_types.specs.declared.fault.Flaw.TheVariants as flaw
 use Rattle.xdr_types.specs.declared.fault.SchemaFault.{SchemaFault}
-
--- some element passes the test
-abbrev pub some_of : {A : Type 0} → (A → Bool) → List A → Bool
-some_of test [] = false
-some_of test (x ∷ xs) = test x || some_of test xs
 
 -- there is one, and it passes the test
 abbrev pub some_optional : {A : Type 0} → (A → Bool) → Option A → Bool
@@ -29,9 +25,9 @@ is_none (x ∷ xs) = false
 abbrev pub some_part : (ℕ → Bool) → KindView → Bool
 some_part test (xdr.fixed item size) = test item
 some_part test (xdr.up_to item max) = test item
-some_part test (xdr.structure ps) = some_of (λ (p : Part). test p.kind) ps
+some_part test (xdr.structure ps) = list_any (λ (p : Part). test p.kind) ps
 some_part test (xdr.choice tag arms other) =
-    some_of (λ (a : Branch). test a.part.kind) arms || some_optional (λ (p : Part). test p.kind) other
+    list_any (λ (a : Branch). test a.part.kind) arms || some_optional (λ (p : Part). test p.kind) other
 some_part test (xdr.maybe item) = test item
 some_part test _ = false
 
@@ -86,7 +82,7 @@ case_twice (c ∷ cs) = is_listed cs c || case_twice cs
 -- a case stands twice among the arms: within one, or in one and a later one
 abbrev pub arms_case_twice : List Branch → Bool
 arms_case_twice [] = false
-arms_case_twice (a ∷ arms) = (case_twice a.cases || some_of (has_arm arms) a.cases) || arms_case_twice arms
+arms_case_twice (a ∷ arms) = (case_twice a.cases || list_any (has_arm arms) a.cases) || arms_case_twice arms
 
 -- a union with a case that stands twice (fault 5; RFC 4506 section 4.15)
 abbrev pub has_case_twice : KindView → Bool
@@ -96,33 +92,33 @@ has_case_twice _ = false
 -- a union with a case that is no number of its discriminant (fault 6; RFC 4506 section 4.15)
 abbrev pub has_illegal_case : List KindView → KindView → Bool
 has_illegal_case kinds (xdr.choice tag arms other) =
-    some_of (λ (a : Branch). some_of (λ (z : ℤ). not (is_tag_of (kind_at kinds tag) z)) a.cases) arms
+    list_any (λ (a : Branch). list_any (λ (z : ℤ). not (is_tag_of (kind_at kinds tag) z)) a.cases) arms
 has_illegal_case kinds _ = false
 
 -- a kind or an arm without entries (fault 9; RFC 4506 sections 4.3, 4.14, 4.15); an entry of an enumeration is a member
 -- whose number is an int
 abbrev pub has_empty_list : KindView → Bool
-has_empty_list (xdr.numbered constants) = not (some_of (λ (c : Constant). is_signed 2147483648 c.number) constants)
+has_empty_list (xdr.numbered constants) = not (list_any (λ (c : Constant). is_signed (2 ^ 31) c.number) constants)
 has_empty_list (xdr.structure ps) = is_none ps
-has_empty_list (xdr.choice tag arms other) = is_none arms || some_of (λ (a : Branch). is_none a.cases) arms
+has_empty_list (xdr.choice tag arms other) = is_none arms || list_any (λ (a : Branch). is_none a.cases) arms
 has_empty_list _ = false
 
 -- two members with one name
 abbrev pub constant_twice : List Constant → Bool
 constant_twice [] = false
-constant_twice (c ∷ cs) = some_of (λ (d : Constant). bytes_eq c.name d.name) cs || constant_twice cs
+constant_twice (c ∷ cs) = list_any (λ (d : Constant). bytes_eq c.name d.name) cs || constant_twice cs
 
 -- two parts with one name
 abbrev pub part_twice : List Part → Bool
 part_twice [] = false
-part_twice (p ∷ ps) = some_of (λ (q : Part). bytes_eq p.name q.name) ps || part_twice ps
+part_twice (p ∷ ps) = list_any (λ (q : Part). bytes_eq p.name q.name) ps || part_twice ps
 
 -- two arms, or an arm and the default, with one name that is not empty
 abbrev pub arm_twice : List Branch → Option Part → Bool
 arm_twice [] other = false
 arm_twice (a ∷ arms) other =
     (not (is_none a.part.name)
-    && (some_of (λ (b : Branch). bytes_eq a.part.name b.part.name) arms
+    && (list_any (λ (b : Branch). bytes_eq a.part.name b.part.name) arms
     || some_optional (λ (q : Part). bytes_eq a.part.name q.name) other))
     || arm_twice arms other
 
@@ -164,7 +160,7 @@ abbrev pub name_flaw : List KindView → List Part → Part → Option Flaw
 name_flaw kinds before name =
     if is_outside kinds name.kind then Some flaw.UnknownKind else
     if is_void kinds name.kind then Some flaw.VoidMember else
-    if some_of (λ (p : Part). bytes_eq p.name name.name) before then Some flaw.NameTwice else None
+    if list_any (λ (p : Part). bytes_eq p.name name.name) before then Some flaw.NameTwice else None
 
 -- a fault at a place
 abbrev pub fault : Flaw → ℕ → SchemaFault

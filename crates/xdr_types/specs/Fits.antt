@@ -1,6 +1,6 @@
 -- Which trees are values of a kind (RFC 4506 sections 4.1 to 4.19).
 use Rattle.std.specs.Prelude.{ℕ, ℤ, pos, negsuc, List, [], ◌∷◌, length, replicate, Bool, true, false, ◌&&◌, ◌||◌, ◌==◌}
-use Rattle.std.specs.Prelude.{nat_lt, nat_le, Option, Some, None, is_some, if◌then◌else◌, IsTrue}
+use Rattle.std.specs.Prelude.{◌^◌, nat_lt, nat_le, Option, Some, None, is_some, if◌then◌else◌, IsTrue}
 use Rattle.std.specs.Ordering.{int_eq}
 use Rattle.xdr_types.specs.Kinds as xdr
 use Rattle.xdr_types.specs.Kinds.{KindView, Part, Branch, Constant, kind_at}
@@ -12,10 +12,10 @@ abbrev pub is_signed : ℕ → ℤ → Bool
 is_signed half (pos n) = nat_lt n half
 is_signed half (negsuc n) = nat_lt n half
 
--- a number from 0 to most (RFC 4506 sections 4.2, 4.4)
+-- a number from 0 to count - 1 (RFC 4506 sections 4.2, 4.4)
 abbrev pub is_unsigned : ℕ → ℤ → Bool
-is_unsigned most (pos n) = nat_le n most
-is_unsigned most (negsuc n) = false
+is_unsigned count (pos n) = nat_lt n count
+is_unsigned count (negsuc n) = false
 
 -- the number is a member's (RFC 4506 section 4.3)
 abbrev pub is_constant : List Constant → ℤ → Bool
@@ -29,7 +29,7 @@ is_listed (c ∷ cs) z = int_eq c z || is_listed cs z
 
 -- a length or count that is at most max and goes into one unit (RFC 4506 sections 4.10, 4.11, 4.13)
 abbrev pub is_length : ℕ → ℕ → Bool
-is_length max n = nat_le n max && nat_le n 4294967295
+is_length max n = nat_le n max && nat_lt n (2 ^ 32)
 
 -- content is bytes: each of its numbers is below 256 (RFC 4506 section 4.9)
 abbrev pub are_bytes : List ℕ → Bool
@@ -38,13 +38,13 @@ are_bytes (b ∷ bs) = nat_lt b 256 && are_bytes bs
 
 -- the number of a member of an enumeration (RFC 4506 section 4.3)
 abbrev pub is_numbered : List Constant → ℤ → Bool
-is_numbered constants z = is_signed 2147483648 z && is_constant constants z
+is_numbered constants z = is_signed (2 ^ 31) z && is_constant constants z
 
 -- the numbers that a discriminant of a kind may have (RFC 4506 section 4.15)
 abbrev pub is_tag_of : KindView → ℤ → Bool
-is_tag_of xdr.int z = is_signed 2147483648 z
-is_tag_of xdr.unsigned z = is_unsigned 4294967295 z
-is_tag_of xdr.boolean z = is_unsigned 1 z
+is_tag_of xdr.int z = is_signed (2 ^ 31) z
+is_tag_of xdr.unsigned z = is_unsigned (2 ^ 32) z
+is_tag_of xdr.boolean z = is_unsigned 2 z
 is_tag_of (xdr.numbered constants) z = is_numbered constants z
 is_tag_of _ z = false
 
@@ -65,10 +65,10 @@ item_part kind = record { name = []; kind = kind }
 -- what a value of a kind may show at its head: the right form, numbers in range, lengths exact or at most max (RFC 4506
 -- sections 4.1 to 4.19)
 abbrev pub is_legal : List KindView → KindView → Head → Bool
-is_legal kinds xdr.int (value.int z) = is_signed 2147483648 z
-is_legal kinds xdr.unsigned (value.unsigned n) = nat_le n 4294967295
-is_legal kinds xdr.hyper (value.hyper z) = is_signed 9223372036854775808 z
-is_legal kinds xdr.unsigned_hyper (value.unsigned_hyper n) = nat_le n 18446744073709551615
+is_legal kinds xdr.int (value.int z) = is_signed (2 ^ 31) z
+is_legal kinds xdr.unsigned (value.unsigned n) = nat_lt n (2 ^ 32)
+is_legal kinds xdr.hyper (value.hyper z) = is_signed (2 ^ 63) z
+is_legal kinds xdr.unsigned_hyper (value.unsigned_hyper n) = nat_lt n (2 ^ 64)
 is_legal kinds xdr.boolean (value.boolean b) = true
 is_legal kinds (xdr.numbered constants) (value.numbered z) = is_numbered constants z
 is_legal kinds (xdr.opaque size) (value.bytes bs) = length bs == size && are_bytes bs

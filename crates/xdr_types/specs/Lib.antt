@@ -8,7 +8,6 @@ pub mod Laws
 pub mod Layout
 pub mod Named
 pub use Rattle.xdr_units.specs.Numbers
-pub mod Rows
 pub mod Same
 pub mod Sound
 pub mod Spelling

@@ -1,5 +1,5 @@
 -- Look-ups of names, and the basic schema.
-use Rattle.std.specs.Prelude.{ℕ, List, [], ◌∷◌, Option, Some, None, if◌then◌else◌, codes}
+use Rattle.std.specs.Prelude.{ℕ, ◌^◌, ◌-◌, List, [], ◌∷◌, Option, Some, None, if◌then◌else◌, codes}
 use Rattle.std.specs.Str.{bytes_eq}
 use Rattle.xdr_types.specs.Kinds as xdr
 use Rattle.xdr_types.specs.Kinds.{KindView, Part, Lists}
@@ -17,7 +17,7 @@ named name place = record { name = name; kind = place }
 abbrev pub basic : Lists
 basic = record {
   kinds = xdr.int ∷ xdr.unsigned ∷ xdr.hyper ∷ xdr.unsigned_hyper ∷ xdr.boolean ∷ xdr.nothing
-      ∷ xdr.opaque_up_to 4294967295 ∷ xdr.text 4294967295 ∷ [];
+      ∷ xdr.opaque_up_to (2 ^ 32 - 1) ∷ xdr.text (2 ^ 32 - 1) ∷ [];
   names = named (codes "int") 0 ∷ named (codes "unsigned") 1 ∷ named (codes "hyper") 2 ∷ named
       (codes "unsigned-hyper") 3 ∷ named (codes "bool") 4 ∷ named (codes "opaque") 6 ∷ named (codes "string") 7 ∷ [];
 }

@@ -1,6 +1,6 @@
 -- The outcome of decoding a list of bytes: the first event at the least place that has one.
 use Rattle.std.specs.Prelude.{ℕ, ◌+◌, ◌-◌, ◌%◌, ◌<◌, ◌≤◌, ◌≡◌, ℤ, pos, negsuc, cond, List, length, ⊤, IsTrue, is_some}
-use Rattle.std.specs.Prelude.{take, drop, Contains, nat_lt}
+use Rattle.std.specs.Prelude.{take, drop, Contains, nat_lt, ◌^◌}
 use Rattle.std.specs.Int.{w32, from_be_bytes}
 use Rattle.std.specs.List.{AllByRecursion}
 use Rattle.xdr_types.specs.Kinds as xdr
@@ -42,7 +42,7 @@ IsEvent _ = ⊤
 
 -- the number that a unit stands for as two's complement (RFC 4506 section 4.1)
 abbrev pub signed : (unit : ℕ) → ℤ
-signed x = cond (nat_lt x 2147483648) (pos x) (negsuc (4294967295 - x))
+signed x = cond (nat_lt x (2 ^ 31)) (pos x) (negsuc (2 ^ 32 - 1 - x))
 
 -- the number that a unit stands for in a kind of numbers (RFC 4506 sections 4.1 to 4.4)
 abbrev pub number_in : KindView → (unit : ℕ) → ℤ

@@ -1,16 +1,17 @@
 //! Enumerations, structures, unions and arms without entries (RFC 4506 sections 4.3, 4.14, 4.15).
-ghost use Rattle.std.specs.Prelude.{◌≡◌, map};
+ghost use Rattle.std.specs.Prelude.{◌≡◌, ◌^◌, map};
+ghost use Rattle.std.specs.List.{list_any};
 ghost use Rattle.xdr_types.specs.Kinds.{Branch, Constant};
 ghost use Rattle.xdr_types.specs.KindViews.{kind_view, constant_of, branch_of};
 ghost use Rattle.xdr_types.specs.Fits.{is_signed};
-ghost use Rattle.xdr_types.specs.Faults.{some_of, is_none, has_empty_list};
+ghost use Rattle.xdr_types.specs.Faults.{is_none, has_empty_list};
 
 use crate::fit::every_i32_is_int;
 use crate::kind::{Arm, Kind};
 use std::string::String;
 
 fn has_member(members: &Vec<(String, i32)>) -> bool
-    ensures { result ≡ some_of (λ (c : Constant). is_signed 2147483648 c.number) (map constant_of members.now.items) }
+    ensures { result ≡ list_any (λ (c : Constant). is_signed (2 ^ 31) c.number) (map constant_of members.now.items) }
 {
     for member in members {
         if every_i32_is_int(member.1) {
@@ -27,7 +28,7 @@ fn has_no_case(arm: &Arm) -> bool
 }
 
 fn some_arm_empty(arms: &Vec<Arm>) -> bool
-    ensures { result ≡ some_of (λ (a : Branch). is_none a.cases) (map branch_of arms.now.items) }
+    ensures { result ≡ list_any (λ (a : Branch). is_none a.cases) (map branch_of arms.now.items) }
 {
     for arm in arms {
         if has_no_case(arm) {

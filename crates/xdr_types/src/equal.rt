@@ -3,7 +3,8 @@ ghost use Rattle.std.specs.Prelude.{◌≡◌, ◌↔◌, IsTrue};
 ghost use Rattle.std.specs.Cmp.{on_equiv, on_per, partial_equiv_from_equiv};
 ghost use Rattle.std.specs.Ordering.{on};
 ghost use Rattle.xdr_types.specs.View.{tree, values};
-ghost use Rattle.xdr_types.specs.Same.{same, same_values, same_equivalence};
+ghost use Rattle.xdr_types.specs.Same.{same, same_values};
+ghost use Rattle.xdr_types.specs.Private.Same.{same_equivalence};
 
 use crate::value::Value;
 

@@ -1,5 +1,5 @@
 //! Whether a value is one of a kind and within limits.
-ghost use Rattle.std.specs.Prelude.{◌≡◌, ◌↔◌, IsTrue, ◌<◌, ℕ, length, map, option_map, nat_le, replicate};
+ghost use Rattle.std.specs.Prelude.{◌≡◌, ◌↔◌, IsTrue, ◌<◌, ◌^◌, ℕ, length, map, option_map, nat_lt, replicate};
 ghost use Rattle.xdr_types.specs.Kinds.{kind_at, Part};
 ghost use Rattle.xdr_types.specs.KindViews.{kind_view, constant_of, part_of_member, branch_of};
 ghost use Rattle.xdr_types.specs.Fits.{fits, fit, item_part, is_numbered, is_length, is_signed, are_bytes};
@@ -101,25 +101,25 @@ fn each_is_value(schema: &Schema, fields: &Vec<Member>, parts: &Vec<Value>) -> b
 
 /// Whether the number is one of an int.
 pub fn every_i32_is_int(n: i32) -> bool
-    ensures { result ≡ is_signed 2147483648 n }
+    ensures { result ≡ is_signed (2 ^ 31) n }
 {
     true
 }
 
 fn every_i64_is_hyper(n: i64) -> bool
-    ensures { result ≡ is_signed 9223372036854775808 n }
+    ensures { result ≡ is_signed (2 ^ 63) n }
 {
     true
 }
 
 fn every_u32_is_unsigned(n: u32) -> bool
-    ensures { result ≡ nat_le n 4294967295 }
+    ensures { result ≡ nat_lt n (2 ^ 32) }
 {
     true
 }
 
 fn every_u64_is_unsigned_hyper(n: u64) -> bool
-    ensures { result ≡ nat_le n 18446744073709551615 }
+    ensures { result ≡ nat_lt n (2 ^ 64) }
 {
     true
 }

@@ -2,8 +2,8 @@
 ghost use Rattle.std.specs.Cmp.{on_equiv, on_per, partial_equiv_from_equiv};
 ghost use Rattle.std.specs.Ordering.{on};
 ghost use Rattle.xdr_types.specs.KindViews.{part_of_member, branch_of, kind_view};
-ghost use Rattle.xdr_types.specs.Alike.{same_part, same_branch, same_kind, part_equivalence, branch_equivalence};
-ghost use Rattle.xdr_types.specs.Alike.{kind_equivalence};
+ghost use Rattle.xdr_types.specs.Alike.{same_part, same_branch, same_kind};
+ghost use Rattle.xdr_types.specs.Private.Alike.{part_equivalence, branch_equivalence, kind_equivalence};
 
 use std::string::String;
 

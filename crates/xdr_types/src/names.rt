@@ -1,9 +1,10 @@
 //! The first flaw of a name of a schema: it names no kind or a void one, or stands there twice.
 ghost use Rattle.std.specs.Prelude.{◌≡◌, map, string_bytes, length, if◌then◌else◌, IfOk, MatchOption};
+ghost use Rattle.std.specs.List.{list_any};
 ghost use Rattle.std.specs.Str.{bytes_eq};
 ghost use Rattle.xdr_types.specs.Kinds.{Part};
 ghost use Rattle.xdr_types.specs.KindViews.{kind_view, name_of};
-ghost use Rattle.xdr_types.specs.Faults.{some_of, name_flaw, name_flaw_at, AreFlawless};
+ghost use Rattle.xdr_types.specs.Faults.{name_flaw, name_flaw_at, AreFlawless};
 ghost use Rattle.xdr_types.specs.Refused.{IsFirstFlaw};
 
 use crate::fault::{Flaw, SchemaFault};
@@ -15,7 +16,7 @@ use std::collections::BTreeSet;
 use std::string::String;
 
 fn is_named(names: &[(String, KindId)], name: &String) -> bool
-    ensures { result ≡ some_of (λ (p : Part). bytes_eq p.name (string_bytes name.now)) (map name_of names.now) }
+    ensures { result ≡ list_any (λ (p : Part). bytes_eq p.name (string_bytes name.now)) (map name_of names.now) }
 {
     for entry in names {
         if is_same_name(&entry.0, name) {

@@ -1,8 +1,9 @@
 //! Places that a kind names: outside the list, of a void kind, and an opaque or an array of size 0.
 ghost use Rattle.std.specs.Prelude.{◌≡◌, map, option_map};
+ghost use Rattle.std.specs.List.{list_any};
 ghost use Rattle.xdr_types.specs.Kinds.{Part, Branch};
 ghost use Rattle.xdr_types.specs.KindViews.{kind_view, part_of_member, branch_of};
-ghost use Rattle.xdr_types.specs.Faults.{some_of, some_optional, is_outside, has_unknown, is_zero_size, is_void};
+ghost use Rattle.xdr_types.specs.Faults.{some_optional, is_outside, has_unknown, is_zero_size, is_void};
 ghost use Rattle.xdr_types.specs.Faults.{has_void};
 
 use crate::kind::{Arm, Kind, KindId, Member};
@@ -30,7 +31,7 @@ pub fn is_void(kinds: &Vec<Kind>, id: KindId) -> bool
 
 fn some_field_outside(kinds: &Vec<Kind>, fields: &Vec<Member>) -> bool
     ensures { result
-        ≡ some_of (λ (p : Part). is_outside (map kind_view kinds.now.items) p.kind)
+        ≡ list_any (λ (p : Part). is_outside (map kind_view kinds.now.items) p.kind)
         (map part_of_member fields.now.items) }
 {
     for field in fields {
@@ -43,7 +44,8 @@ fn some_field_outside(kinds: &Vec<Kind>, fields: &Vec<Member>) -> bool
 
 fn some_field_void(kinds: &Vec<Kind>, fields: &Vec<Member>) -> bool
     ensures { result
-        ≡ some_of (λ (p : Part). is_void (map kind_view kinds.now.items) p.kind) (map part_of_member fields.now.items) }
+        ≡ list_any (λ (p : Part). is_void (map kind_view kinds.now.items) p.kind)
+        (map part_of_member fields.now.items) }
 {
     for field in fields {
         if is_void(kinds, field.kind) {
@@ -55,7 +57,7 @@ fn some_field_void(kinds: &Vec<Kind>, fields: &Vec<Member>) -> bool
 
 fn some_arm_outside(kinds: &Vec<Kind>, arms: &Vec<Arm>) -> bool
     ensures { result
-        ≡ some_of (λ (a : Branch). is_outside (map kind_view kinds.now.items) a.part.kind)
+        ≡ list_any (λ (a : Branch). is_outside (map kind_view kinds.now.items) a.part.kind)
         (map branch_of arms.now.items) }
 {
     for arm in arms {

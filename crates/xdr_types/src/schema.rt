@@ -8,7 +8,8 @@ ghost use Rattle.xdr_types.specs.Sound.{IsSound};
 ghost use Rattle.xdr_types.specs.Height.{AreHigher};
 ghost use Rattle.xdr_types.specs.Laws.{EachKindHasAValue, EachPartIsKnown};
 ghost use Rattle.std.specs.Cmp.{partial_equiv_from_equiv};
-ghost use Rattle.xdr_types.specs.Alike.{same_lists, lists_equivalence};
+ghost use Rattle.xdr_types.specs.Alike.{same_lists};
+ghost use Rattle.xdr_types.specs.Private.Alike.{lists_equivalence};
 ghost use Rattle.xdr_types.specs.Named.{basic, named, place_named};
 
 use crate::fault::{Flaw, SchemaFault};

@@ -1,5 +1,5 @@
 //! The numbers of enumerations and the cases of unions as sets, in which a number is found in few steps.
-ghost use Rattle.std.specs.Prelude.{◌≡◌, ◌||◌, ℤ, length, map, true, IfOk, OnOk};
+ghost use Rattle.std.specs.Prelude.{◌≡◌, ◌^◌, ◌||◌, ℤ, length, map, true, IfOk, OnOk};
 ghost use Rattle.std.specs.BTreeSet.{contains};
 ghost use Rattle.std.specs.Ordering.{int_cmp, int_eq};
 ghost use Rattle.xdr_types.specs.Kinds.{kind_at};
@@ -17,7 +17,7 @@ use std::string::String;
 // A member's number as a case.
 fn as_case(number: i32) -> i64
     ensures value { result ≡ number }
-    ensures int { is_signed 2147483648 result ≡ true }
+    ensures int { is_signed (2 ^ 31) result ≡ true }
 {
     i64::from(number)
 }

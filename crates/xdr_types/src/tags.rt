@@ -1,10 +1,11 @@
 //! Discriminants of a kind that can be none, and cases that are no number of their discriminant (RFC 4506 section
 //! 4.15).
 ghost use Rattle.std.specs.Prelude.{◌≡◌, ℤ, map, not};
+ghost use Rattle.std.specs.List.{list_any};
 ghost use Rattle.xdr_types.specs.Kinds.{Branch, kind_at};
 ghost use Rattle.xdr_types.specs.KindViews.{kind_view, branch_of};
 ghost use Rattle.xdr_types.specs.Fits.{is_tag_of};
-ghost use Rattle.xdr_types.specs.Faults.{some_of, is_tag, has_bad_tag, has_illegal_case};
+ghost use Rattle.xdr_types.specs.Faults.{is_tag, has_bad_tag, has_illegal_case};
 ghost use Rattle.xdr_types.specs.Private.Sets.{AreNumbers};
 
 use crate::kind::{Arm, Kind, KindId};
@@ -44,7 +45,7 @@ pub fn has_bad_tag(kinds: &Vec<Kind>, kind: &Kind) -> bool
 fn some_illegal(kinds: &Vec<Kind>, numbers: &[BTreeSet<i64>], tag: KindId, cases: &Vec<i64>) -> bool
     requires { AreNumbers (map kind_view kinds.now.items) numbers.now }
     ensures { result
-        ≡ some_of (λ (z : ℤ). not (is_tag_of (kind_at (map kind_view kinds.now.items) tag.place) z)) cases.now.items }
+        ≡ list_any (λ (z : ℤ). not (is_tag_of (kind_at (map kind_view kinds.now.items) tag.place) z)) cases.now.items }
 {
     for case in cases {
         if !is_legal_case(kinds, numbers, tag, *case) {
@@ -62,7 +63,7 @@ fn some_arm_illegal(
 ) -> bool
     requires { AreNumbers (map kind_view kinds.now.items) numbers.now }
     ensures { result
-        ≡ some_of (λ (a : Branch). some_of
+        ≡ list_any (λ (a : Branch). list_any
         (λ (z : ℤ). not (is_tag_of (kind_at (map kind_view kinds.now.items) tag.place) z)) a.cases)
         (map branch_of arms.now.items) }
 {

@@ -1,6 +1,7 @@
 //! Whether a name or a case is there twice, found by a set of those after one. Where memory for a set is refused, all
 //! pairs are looked at, which is slow and needs none.
 ghost use Rattle.std.specs.Prelude.{◌≡◌, ◌&&◌, ◌||◌, ℤ, false, not, string_bytes, IfOk, map, option_map};
+ghost use Rattle.std.specs.List.{list_any};
 ghost use Rattle.std.specs.BTreeSet.{contains};
 ghost use Rattle.std.specs.Ordering.{int_cmp};
 ghost use Rattle.std.specs.Str.{bytes_eq};
@@ -8,7 +9,7 @@ ghost use Rattle.xdr_types.specs.Kinds.{Part, Branch, Constant};
 ghost use Rattle.xdr_types.specs.KindViews.{kind_view, constant_of, part_of_member, branch_of};
 ghost use Rattle.xdr_types.specs.Fits.{is_listed};
 ghost use Rattle.xdr_types.specs.Sound.{has_arm};
-ghost use Rattle.xdr_types.specs.Faults.{some_of, some_optional, is_none, case_twice, arms_case_twice, has_case_twice};
+ghost use Rattle.xdr_types.specs.Faults.{some_optional, is_none, case_twice, arms_case_twice, has_case_twice};
 ghost use Rattle.xdr_types.specs.Faults.{constant_twice, part_twice, arm_twice, has_name_twice};
 
 use crate::choice::{has_no_arm, lists};
@@ -72,7 +73,7 @@ fn arm_repeats(alloc: Global, arms: &[Arm], other: &Option<Member>) -> Result<bo
 
 // Puts cases into a set, up to one that it has. Whether there is such a one.
 fn is_refilled(later: &mut BTreeSet<i64>, cases: &[i64]) -> Result<bool, AllocError>
-    ensures again { IfOk result (λ b. b ≡ (case_twice cases.now || some_of (contains int_cmp later.old) cases.now)) }
+    ensures again { IfOk result (λ b. b ≡ (case_twice cases.now || list_any (contains int_cmp later.old) cases.now)) }
     ensures added { IfOk result
         (λ b. b ≡ false → (z : ℤ)
         → contains int_cmp later.new z ≡ (is_listed cases.now z || contains int_cmp later.old z)) }
@@ -109,7 +110,7 @@ pub fn is_same_name(a: &String, b: &String) -> bool
 
 fn names_constant(members: &[(String, i32)], name: &String) -> bool
     ensures { result
-        ≡ some_of (λ (d : Constant). bytes_eq (string_bytes name.now) d.name) (map constant_of members.now) }
+        ≡ list_any (λ (d : Constant). bytes_eq (string_bytes name.now) d.name) (map constant_of members.now) }
 {
     for member in members {
         if is_same_name(name, &member.0) {
@@ -132,7 +133,8 @@ fn constant_in_pairs(members: &Vec<(String, i32)>) -> bool
 }
 
 fn names_field(fields: &[Member], name: &String) -> bool
-    ensures { result ≡ some_of (λ (q : Part). bytes_eq (string_bytes name.now) q.name) (map part_of_member fields.now) }
+    ensures { result
+        ≡ list_any (λ (q : Part). bytes_eq (string_bytes name.now) q.name) (map part_of_member fields.now) }
 {
     for field in fields {
         if is_same_name(name, &field.name) {
@@ -155,7 +157,8 @@ fn field_in_pairs(fields: &Vec<Member>) -> bool
 }
 
 fn names_arm(arms: &[Arm], name: &String) -> bool
-    ensures { result ≡ some_of (λ (b : Branch). bytes_eq (string_bytes name.now) b.part.name) (map branch_of arms.now) }
+    ensures { result
+        ≡ list_any (λ (b : Branch). bytes_eq (string_bytes name.now) b.part.name) (map branch_of arms.now) }
 {
     for arm in arms {
         if is_same_name(name, &arm.member.name) {
@@ -178,7 +181,7 @@ fn names_other(other: &Option<Member>, name: &String) -> bool
 // Whether a name that is not empty is one of later arms or of the other part.
 fn is_name_again(arms: &[Arm], other: &Option<Member>, name: &String) -> bool
     ensures { result ≡ not (is_none (string_bytes name.now))
-        && (some_of (λ (b : Branch). bytes_eq (string_bytes name.now) b.part.name) (map branch_of arms.now)
+        && (list_any (λ (b : Branch). bytes_eq (string_bytes name.now) b.part.name) (map branch_of arms.now)
         || some_optional (λ (q : Part). bytes_eq (string_bytes name.now) q.name)
         (option_map part_of_member other.now)) }
 {
@@ -220,7 +223,7 @@ fn case_twice(cases: &Vec<i64>) -> bool
 
 // Whether an arm has one of the cases.
 fn some_has_arm(arms: &[Arm], cases: &Vec<i64>) -> bool
-    ensures { result ≡ some_of (has_arm (map branch_of arms.now)) cases.now.items }
+    ensures { result ≡ list_any (has_arm (map branch_of arms.now)) cases.now.items }
 {
     for case in cases {
         if !has_no_arm(arms, *case) {
