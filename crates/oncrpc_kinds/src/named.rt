@@ -10,7 +10,9 @@ use xdr_types::KindId;
 /// The kind that a name names in what was declared: that of the schema's name, or else of the procedure's argument or
 /// result. It takes no memory.
 pub fn kind_named(declared: &Declared, name: &str) -> Option<KindId>
+    // The name names the kind that is answered,
     ensures found { IfSome result (λ kind. Names name.now (declared_of declared.now) kind.place) }
+    // and a name that names a kind is answered with it.
     ensures only { (place : ℕ) → Names name.now (declared_of declared.now) place
         → MatchOption result ⊥ (λ kind. kind.place ≡ place) }
 {

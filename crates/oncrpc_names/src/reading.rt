@@ -32,7 +32,9 @@ pub struct PartName {
 /// The name that this text is: `P.V.N.K` or `P.V.N.result`, of decimal numbers below 2^32 without leading zeros.
 /// `None` for every other text. It takes no memory.
 pub fn read_part_name(text: &[u8]) -> Option<PartName>
+    // What is answered is a name of a part, and the text is that name;
     ensures found { IfSome result (λ name. IsPartName name × (text.now ≡ name_text name)) }
+    // a text that is such a name is answered with it.
     ensures only { (name : PlainName) → IsPartName name → text.now ≡ name_text name → result ≡ Some name }
 {
     let (program, rest) = first_number(text)?;
@@ -48,7 +50,9 @@ pub fn read_part_name(text: &[u8]) -> Option<PartName>
 }
 
 fn part_of(text: &[u8]) -> Option<Part>
+    // The text is the part that is answered,
     ensures found { IfSome result (λ part. IsPart part × (text.now ≡ part_text part)) }
+    // and a text that is a part is answered with it.
     ensures only { (part : PlainPart) → IsPart part → text.now ≡ part_text part → result ≡ Some part }
 {
     match decimal_number(text) {

@@ -18,8 +18,11 @@ pub fn declared<P: Opener>(
     types: &Option<String>,
     opener: &mut P,
 ) -> Result<Declared, Unusable>
+    // What is answered is what the text that is reported declares,
     ensures declares { IfOk result (λ d. Declares (told_text (P.reported opener.old) types.now) types.now (declared_of d)) }
+    // a refusal says that it declares nothing,
     ensures refused { IfErr result (λ why. HasNone (told_text (P.reported opener.old) types.now) types.now why) }
+    // and the failure Read that it could not be read.
     ensures failed { IsErrOf result (Unusable.Failed Failure.Read)
         → FileFails P.Text.left P.Text.failures (P.reported opener.old) types.now
         (P.failures opener.old) (P.failures opener.new) }

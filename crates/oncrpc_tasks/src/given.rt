@@ -21,12 +21,19 @@ pub enum Given {
 
 /// Reads the input, a text of hexadecimal, until it ends or more than 1048576 bytes are there.
 pub fn given_over<I: Source>(alloc: Global, input: &mut I) -> Result<Given, Failure>
+    // Where it answers, what the input holds is told right,
     ensures gives { IfOk result (λ given. InputGives (I.left input.old) given) }
+    // and no read failed.
     ensures none_failed { OnOk result (Counts 0 (I.failures input.old) (I.failures input.new)) }
+    // The fault Read comes after a read that failed,
     ensures failed { IsErrOf result Failure.Read → Counts 1 (I.failures input.old) (I.failures input.new) }
+    // TooManyReads after as many reads as there may be,
     ensures many { IsErrOf result Failure.TooManyReads → Counts 1048576 (I.reads input.old) (I.reads input.new) }
+    // and Write never.
     ensures no_write { IsErrOf result Failure.Write → ⊥ }
+    // No more than the most reads are made,
     ensures reads { CountsAtMost 1048576 (I.reads input.old) (I.reads input.new) }
+    // and at most a page more than the limit on a text is read.
     ensures moved { MovesAtMost (1048576 + 4096) (I.left input.old) (I.left input.new) }
 {
     let text = read_past(alloc, input, MOST_TEXT)?;

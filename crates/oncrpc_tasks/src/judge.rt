@@ -50,7 +50,9 @@ fn judge_piece(checker: &mut Checker, count: usize, piece: &[u8]) -> Result<Verd
 /// What all bytes of an input say.
 pub fn judge_bytes(alloc: Global, question: &Question, bytes: &[u8]) -> Result<Answer, Failure>
     requires { IsKnown question.now }
+    // The answer is right for these bytes,
     ensures right { IfOk result (λ a. IsRight (unshown (asked_of question.now)) bytes.now a []) }
+    // and nothing but want of memory ends it early.
     ensures memory { IfErr result (λ f. f ≡ Failure.NoMemory) }
 {
     let Question {
@@ -78,19 +80,28 @@ pub fn judge_over<I: Source>(
     input: &mut I,
 ) -> Result<(Answer, Vec<u8>), Failure>
     requires { IsKnown question.now }
+    // The answer is right for the input;
     ensures right { IfOk result (λ r.
         IsRightFor (unshown (asked_of question.now)) false (I.left input.old) r.0 []) }
+    // what was read is handed on where it is to be shown.
     ensures retained { IfOk result (λ r.
         IsRetained question.now.shows (unshown (asked_of question.now)) (I.left input.old) (I.left input.new) r.0
         r.1.items) }
+    // Where it answers, no read failed.
     ensures none_failed { OnOk result (Counts 0 (I.failures input.old) (I.failures input.new)) }
+    // Read and TooManyReads come only where what was read settles no answer: after a read that failed,
     ensures failed { IsErrOf result Failure.Read → Counts 1 (I.failures input.old) (I.failures input.new)
         × ReadsUnsettled (unshown (asked_of question.now)) (I.left input.old) (I.left input.new) }
+    // and after as many reads as there may be.
     ensures many { IsErrOf result Failure.TooManyReads → Counts 1048576 (I.reads input.old) (I.reads input.new)
         × ReadsUnsettled (unshown (asked_of question.now)) (I.left input.old) (I.left input.new) }
+    // Write never comes.
     ensures no_write { IsErrOf result Failure.Write → ⊥ }
+    // No more than the most reads are made,
     ensures reads { CountsAtMost 1048576 (I.reads input.old) (I.reads input.new) }
+    // at most a page more than the limit on bytes is read,
     ensures moved { MovesAtMost (question.now.limits.bytes + 4096) (I.left input.old) (I.left input.new) }
+    // and no read follows one that settled the answer.
     ensures stops { IsUnread (I.left input.old) (I.left input.new) (I.reads input.old) (I.reads input.new)
         ⊎ LastRead (unshown (asked_of question.now)) (I.left input.old) (I.left input.new) (I.reads input.old)
         (I.reads input.new) }

@@ -41,9 +41,13 @@ impl<'a> MemoryOpener<'a> {
     /// An opener that has opened nothing yet.
     pub fn new(name: &'a str, text: &'a [u8], piece: usize, failing: Option<u64>) -> Self
         requires { 0 < piece }
+        // It has the one text under its name,
         ensures reported { ⟦<MemoryOpener<'a> as Opener>⟧.reported result name.now ≡ Some text.now }
+        // and has failed at no name.
         ensures failures { ⟦<MemoryOpener<'a> as Opener>⟧.failures result ≡ Some 0 }
+        // Reads of the text give so many bytes at most,
         ensures piece { result.piece ≡ piece }
+        // and the read of this number fails.
         ensures failing { result.failing ≡ failing }
     {
         MemoryOpener {

@@ -42,9 +42,11 @@ pub fn records_over<I: Source, O: Sink, F: Sink>(
     limit: u32,
     hex: bool,
 ) -> u8
+    // The status says what was read and written,
     ensures ends { RecordsEnd limit hex
         (record { left = I.left; reads = I.reads; failures = I.failures; taken = O.taken; lost = O.failures })
         input.old input.new output.old output.new faults.old faults.new result }
+    // and is 2 exactly where the limit is above 2^31 - 1.
     ensures limits { (result ≡ 2) ↔ (2147483647 < limit) }
 {
     if limit > MOST_LIMIT {

@@ -59,7 +59,9 @@ pub fn task_over<P: Opener, I: Source, O: Sink, F: Sink>(
     output: &mut O,
     faults: &mut F,
 ) -> u8
+    // The status is 0 to 4,
     ensures known { result ≤ 4 }
+    // and says what was read and printed.
     ensures ends { TaskEnds (P.reported opener.old) task.now
         (FileFails P.Text.left P.Text.failures (P.reported opener.old) (file_of task.now)
         (P.failures opener.old) (P.failures opener.new))

@@ -30,7 +30,9 @@ pub fn no_memory(alloc: Global) -> WordsFault
 
 /// What clap's error says, and the status that it ends with.
 pub fn fault_of(alloc: Global, error: &Error) -> WordsFault
+    // The status is 0, of help, 2 or 4,
     ensures status { (result.status ≡ 0) ⊎ (result.status ≡ 2) ⊎ (result.status ≡ 4) }
+    // and at 4 there is no text.
     ensures memory { result.status ≡ 4 → string_bytes result.text ≡ [] }
 {
     if matches!(error.kind(), ErrorKind::OutOfMemory) {
@@ -47,14 +49,22 @@ pub fn fault_of(alloc: Global, error: &Error) -> WordsFault
 /// the status is 3, after the first bytes of the text; what is wrong with the words, and want of memory, go to
 /// `faults`, where that can be done.
 pub fn print_words_fault<O: Sink, F: Sink>(fault: &WordsFault, output: &mut O, faults: &mut F) -> u8
+    // The status is 0 to 4.
     ensures some_status { result ≤ 4 }
+    // Help ends with 0, or 3 where it cannot be written;
     ensures helped { fault.now.status ≡ 0 → (result ≡ 0) ⊎ (result ≡ 3) }
+    // refused words end with 2,
     ensures refused { fault.now.status ≡ 2 → result ≡ 2 }
+    // and want of memory with 4.
     ensures wanting { fault.now.status ≡ 4 → result ≡ 4 }
+    // At 0 the whole text went to the output;
     ensures printed { result ≡ 0 → Appends (O.taken output.old) (O.taken output.new) (string_bytes fault.now.text) }
+    // at 3 a write failed,
     ensures device { result ≡ 3 → Counts 1 (O.failures output.old) (O.failures output.new) }
+    // and the beginning of the text went out before it.
     ensures in_part { result ≡ 3 → (count : ℕ) × (count < length (string_bytes fault.now.text))
         × Appends (O.taken output.old) (O.taken output.new) (take count (string_bytes fault.now.text)) }
+    // Nothing goes to the output where the text is no help.
     ensures unprinted { fault.now.status ≢ 0 → output.new ≡ output.old }
 {
     match fault.status {

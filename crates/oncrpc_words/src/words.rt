@@ -11,9 +11,13 @@ use std::alloc::{AllocError, Global};
 
 /// Reads the words that stand after the program's own name. No words at all check an opaque in hexadecimal.
 pub fn read_words(alloc: Global, words: Vec<String>) -> Result<Request, WordsFault>
+    // No words ask for a check of an opaque in hexadecimal.
     ensures first { words.items ≡ [] → IfOk result IsFirst }
+    // A fault has the status 0, of help, 2 or 4,
     ensures status { IfErr result (λ fault. (fault.status ≡ 0) ⊎ (fault.status ≡ 2) ⊎ (fault.status ≡ 4)) }
+    // at 4 there is no text,
     ensures memory { IfErr result (λ fault. fault.status ≡ 4 → string_bytes fault.text ≡ []) }
+    // and no words are refused for want of memory alone.
     ensures only_memory { words.items ≡ [] → IfErr result (λ fault. fault.status ≡ 4) }
 {
     if words.is_empty() {
