@@ -9,7 +9,7 @@ use Rattle.std.proofs.lemmas.List.{get_or-set_same, get_or-set_other, get_or_pas
 use Rattle.std.proofs.lemmas.Option.{none-some}
 use Rattle.xdr_types.specs.Kinds as xdr
 use Rattle.xdr_types.specs.Kinds.{KindView, Part, Branch, kind_at}
-use Rattle.xdr_types.specs.Private.Rounds.{given, IsMarked, AreBelow, IsClosed, missing, AreHeights}
+use Rattle.xdr_types.specs.Private.Rounds.{height_in, IsMarked, AreBelow, IsClosed, missing, AreHeights}
 use Rattle.xdr_types.specs.Sound.{Heighting, IsBelow, Asks, IsProper, HasHeight}
 
 pub some-is : (m n : ℕ) → Some m ≡ Some n → m ≡ n
@@ -59,15 +59,15 @@ decide : (o : Option ℕ) → ((n : ℕ) × (o ≡ Some n)) ⊎ (o ≡ None)
 decide None = inr refl
 decide (Some n) = inl (n, refl)
 
-marked-by : (hs : List (Option ℕ)) (place n : ℕ) → given hs place ≡ Some n → IsMarked hs place
+marked-by : (hs : List (Option ℕ)) (place n : ℕ) → height_in hs place ≡ Some n → IsMarked hs place
 marked-by hs place n e = ap is_some e
 
 number_of_some : (o : Option ℕ) → is_some o ≡ true → (n : ℕ) × (o ≡ Some n)
 number_of_some None h = absurd (false≢true h)
 number_of_some (Some n) h = (n, refl)
 
-pub number : (hs : List (Option ℕ)) (place : ℕ) → IsMarked hs place → (n : ℕ) × (given hs place ≡ Some n)
-number hs place h = number_of_some (given hs place) h
+pub number : (hs : List (Option ℕ)) (place : ℕ) → IsMarked hs place → (n : ℕ) × (height_in hs place ≡ Some n)
+number hs place h = number_of_some (height_in hs place) h
 
 -- a place that some proper heighting gives a number below bound is marked in a closed list
 marked_below : (kinds : List KindView) (hs : List (Option ℕ)) → IsClosed kinds hs → (height : Heighting)
@@ -75,7 +75,7 @@ marked_below : (kinds : List KindView) (hs : List (Option ℕ)) → IsClosed kin
     → (bound place n : ℕ) → n < bound → height place ≡ Some n → IsMarked hs place
 marked_below kinds hs closed height proper zero place n b e = absurd (omega arith)
 marked_below kinds hs closed height proper (suc bound) place n b e =
-    elim (decide (given hs place)) [
+    elim (decide (height_in hs place)) [
       | inl found ↦ marked-by hs place found.0 found.1
       | inr none ↦ absurd (closed place (known kinds place (IsBelow height n) (proper place n e)) none
           (asks-mono kinds (IsBelow height n) (IsMarked hs)
@@ -84,15 +84,15 @@ marked_below kinds hs closed height proper (suc bound) place n b e =
     ]
 
 -- a place without a number in a closed list has no height
-pub no-height : (kinds : List KindView) (hs : List (Option ℕ)) → IsClosed kinds hs → (place : ℕ) → given hs place ≡ None
-    → HasHeight kinds place → ⊥
+pub no-height : (kinds : List KindView) (hs : List (Option ℕ)) → IsClosed kinds hs → (place : ℕ)
+    → height_in hs place ≡ None → HasHeight kinds place → ⊥
 no-height kinds hs closed place none h =
     let found = number hs place (marked_below kinds hs closed h.0 h.2 (h.1 + 1) place h.1 (omega arith) h.3) in
     none-some found.0 (sym none ∙ found.1)
 
-pub has-height : (kinds : List KindView) (hs : List (Option ℕ)) → IsProper kinds (given hs) → (place : ℕ)
+pub has-height : (kinds : List KindView) (hs : List (Option ℕ)) → IsProper kinds (height_in hs) → (place : ℕ)
     → IsMarked hs place → HasHeight kinds place
-has-height kinds hs proper place marked = let found = number hs place marked in (given hs, found.0, proper, found.1)
+has-height kinds hs proper place marked = let found = number hs place marked in (height_in hs, found.0, proper, found.1)
 
 -- the numbers after one more
 abbrev one_more : List (Option ℕ) → ℕ → ℕ → List (Option ℕ)
@@ -102,19 +102,20 @@ pub same_or_not : (a b : ℕ) (r : Bool) → eqb a b ≡ r → (a ≡ b) ⊎ (a 
 same_or_not a b true e = inl (eqb-true a b e)
 same_or_not a b false e = inr (λ h. eqb-false a b e h)
 
-retained : (hs : List (Option ℕ)) (place next q m : ℕ) → given hs place ≡ None → given hs q ≡ Some m
-    → given (one_more hs place next) q ≡ Some m
+retained : (hs : List (Option ℕ)) (place next q m : ℕ) → height_in hs place ≡ None → height_in hs q ≡ Some m
+    → height_in (one_more hs place next) q ≡ Some m
 retained hs place next q m none e =
     elim (same_or_not q place (eqb q place) refl) [
-      | inl same ↦ absurd (none-some m (sym none ∙ ap (given hs) (sym same) ∙ e))
+      | inl same ↦ absurd (none-some m (sym none ∙ ap (height_in hs) (sym same) ∙ e))
       | inr other ↦ get_or-set_other hs place q (Some next) None other ∙ e
     ]
 
-new : (hs : List (Option ℕ)) (place next q m : ℕ) → place < length hs → given (one_more hs place next) q ≡ Some m
-    → ((q ≡ place) × (m ≡ next)) ⊎ (given hs q ≡ Some m)
+new : (hs : List (Option ℕ)) (place next q m : ℕ) → place < length hs → height_in (one_more hs place next) q ≡ Some m
+    → ((q ≡ place) × (m ≡ next)) ⊎ (height_in hs q ≡ Some m)
 new hs place next q m within e =
     elim (same_or_not q place (eqb q place) refl) [
-      | inl same ↦ let is : given (one_more hs place next) q ≡ Some next = ap (given (one_more hs place next)) same
+      | inl same ↦ let is : height_in (one_more hs place next) q ≡ Some next =
+          ap (height_in (one_more hs place next)) same
           ∙ get_or-set_same hs place (Some next) None within in inl (same, some-is m next (sym e ∙ is))
       | inr other ↦ inr (sym (get_or-set_other hs place q (Some next) None other) ∙ e)
     ]
@@ -128,22 +129,23 @@ one_more-below hs place next within below q m e =
     ]
 
 pub one_more-proper : (kinds : List KindView) (hs : List (Option ℕ)) (place next : ℕ) → place < length hs
-    → IsProper kinds (given hs) → AreBelow hs next → given hs place ≡ None
-    → Asks kinds (IsMarked hs) (kind_at kinds place) → IsProper kinds (given (one_more hs place next))
+    → IsProper kinds (height_in hs) → AreBelow hs next → height_in hs place ≡ None
+    → Asks kinds (IsMarked hs) (kind_at kinds place) → IsProper kinds (height_in (one_more hs place next))
 one_more-proper kinds hs place next within proper below none asks q m e =
     elim (new hs place next q m within e) [
-      | inl here ↦ subst (λ z. Asks kinds (IsBelow (given (one_more hs place next)) z) (kind_at kinds q)) (sym here.1)
-          (subst (λ z. Asks kinds (IsBelow (given (one_more hs place next)) next) (kind_at kinds z)) (sym here.0)
-          (asks-mono kinds (IsMarked hs) (IsBelow (given (one_more hs place next)) next)
+      | inl here ↦ subst (λ z. Asks kinds (IsBelow (height_in (one_more hs place next)) z) (kind_at kinds q))
+          (sym here.1)
+          (subst (λ z. Asks kinds (IsBelow (height_in (one_more hs place next)) next) (kind_at kinds z)) (sym here.0)
+          (asks-mono kinds (IsMarked hs) (IsBelow (height_in (one_more hs place next)) next)
           (λ p marked. let found = number hs p marked in
           (found.0, retained hs place next p found.0 none found.1, below p found.0 found.1))
           (kind_at kinds place) asks))
-      | inr there ↦ asks-mono kinds (IsBelow (given hs) m) (IsBelow (given (one_more hs place next)) m)
+      | inr there ↦ asks-mono kinds (IsBelow (height_in hs) m) (IsBelow (height_in (one_more hs place next)) m)
           (λ p b. (b.0, retained hs place next p b.0 none b.1, b.2)) (kind_at kinds q) (proper q m there)
     ]
 
 -- one number fewer is missing
-missing-set : (hs : List (Option ℕ)) (place n : ℕ) → place < length hs → given hs place ≡ None
+missing-set : (hs : List (Option ℕ)) (place n : ℕ) → place < length hs → height_in hs place ≡ None
     → missing (set hs place (Some n)) + 1 ≡ missing hs
 missing-set [] place n within none = absurd (omega arith)
 missing-set (None ∷ hs) zero n within none = refl
@@ -152,7 +154,7 @@ missing-set (None ∷ hs) (suc place) n within none = ap (λ k. k + 1) (missing-
 missing-set (Some m ∷ hs) (suc place) n within none = missing-set hs place n (omega arith) none
 
 pub step : (kinds : List KindView) (hs : List (Option ℕ)) (next place : ℕ) → AreHeights kinds hs next
-    → place < length kinds → given hs place ≡ None
+    → place < length kinds → height_in hs place ≡ None
     → Asks kinds (IsMarked hs) (kind_at kinds place) → AreHeights kinds (one_more hs place next) (next + 1)
 step kinds hs next place are within none asks =
     let inside : place < length hs = omega (arith, are.lengths) in

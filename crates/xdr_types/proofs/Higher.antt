@@ -6,7 +6,7 @@ use Rattle.std.specs.List.{AllByRecursion}
 use Rattle.xdr_types.specs.Kinds as xdr
 use Rattle.xdr_types.specs.Kinds.{KindView, Part, kind_at}
 use Rattle.xdr_types.specs.Sound.{Heighting, IsBelow, Asks, IsProper}
-use Rattle.xdr_types.specs.Private.Rounds.{given, IsMarked, AreHeights}
+use Rattle.xdr_types.specs.Private.Rounds.{height_in, IsMarked, AreHeights}
 use Rattle.xdr_types.specs.Height.{highest, over, height_within, IsHigher, AreHigher}
 use Rattle.xdr_types.proofs.Heighting.{asks-mono, number}
 
@@ -67,4 +67,4 @@ pub are-higher : (kinds : List KindView) (hs : List (Option ℕ)) (next : ℕ) �
 are-higher kinds hs next are all place within =
     let found = number hs place (all place within) in
     let below : found.0 < next = are.below place found.0 found.1 in
-    higher-at kinds (given hs) are.proper (length kinds) place found.0 found.1 (omega (arith, are.left))
+    higher-at kinds (height_in hs) are.proper (length kinds) place found.0 found.1 (omega (arith, are.left))

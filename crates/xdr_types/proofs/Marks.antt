@@ -15,7 +15,7 @@ use Rattle.xdr_types.specs.Kinds as xdr
 use Rattle.xdr_types.specs.Kinds.{KindView, Part, Branch, kind_at}
 use Rattle.xdr_types.specs.Faults.{some_optional}
 use Rattle.xdr_types.specs.Sound.{Asks, HasFreeTag}
-use Rattle.xdr_types.specs.Private.Rounds.{given, missing, AreHeights, is_marked, IsMarked, are_marked, some_marked}
+use Rattle.xdr_types.specs.Private.Rounds.{height_in, missing, AreHeights, is_marked, IsMarked, are_marked, some_marked}
 use Rattle.xdr_types.specs.Private.Sets.{IsReached}
 
 is_none_of : (o : Option ℕ) → is_some o ≡ false → o ≡ None
@@ -141,17 +141,17 @@ pub kind-read : (ks : List Kind) (i : ℕ) (k : Kind) → i < length ks → k �
 kind-read ks i k h e = get_or-map kind_view ks i k xdr.unknown h ∙ ap kind_view (sym e)
 
 pub none-read : (hs : List (Option ℕ)) (i : ℕ) (o : Option ℕ) → i < length hs → o ≡ get_or hs i o → is_some o ≡ false
-    → given hs i ≡ None
+    → height_in hs i ≡ None
 none-read hs i o h e n = sym (get_or_read hs i o h e None) ∙ is_none_of o n
 
 pub some-read : (hs : List (Option ℕ)) (i : ℕ) (o : Option ℕ) → i < length hs → o ≡ get_or hs i o → is_some o ≡ true
     → IsMarked hs i
 some-read hs i o h e n = ap is_some (sym (get_or_read hs i o h e None)) ∙ n
 
-no-given : (n place : ℕ) → given (replicate n None) place ≡ None
-no-given zero place = refl
-no-given (suc n) zero = refl
-no-given (suc n) (suc place) = no-given n place
+no-height-in : (n place : ℕ) → height_in (replicate n None) place ≡ None
+no-height-in zero place = refl
+no-height-in (suc n) zero = refl
+no-height-in (suc n) (suc place) = no-height-in n place
 
 all-missing : (n : ℕ) → missing (replicate n None) ≡ n
 all-missing zero = refl
@@ -161,7 +161,7 @@ all-missing (suc n) = rw (all-missing n) (omega arith)
 pub fresh : (kinds : List KindView) (hs : List (Option ℕ)) → hs ≡ replicate (length kinds) None → AreHeights kinds hs 0
 fresh kinds hs e = subst (λ (z : List (Option ℕ)). AreHeights kinds z 0) (sym e) record {
   lengths = length-replicate (length kinds) None;
-  proper = λ place n is. absurd (none-some n (sym (no-given (length kinds) place) ∙ is));
-  below = λ place n is. absurd (none-some n (sym (no-given (length kinds) place) ∙ is));
+  proper = λ place n is. absurd (none-some n (sym (no-height-in (length kinds) place) ∙ is));
+  below = λ place n is. absurd (none-some n (sym (no-height-in (length kinds) place) ∙ is));
   left = rw (all-missing (length kinds)) (omega arith);
 }

@@ -1,4 +1,4 @@
--- The kind that a `Kind` stands for, and the lists of a schema.
+-- The kind that a `Kind` represents, and the lists of a schema.
 use Rattle.std.specs.Prelude.{ℤ, List, map, option_map, String, string_bytes}
 use Rattle.std.specs.declared.alloc.Global.{Global}
 use Rattle.xdr_types.specs.Kinds as xdr

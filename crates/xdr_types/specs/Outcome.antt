@@ -40,11 +40,11 @@ IsEvent _ = ⊤
 
 -- ---- why a unit is refused
 
--- the number that a unit stands for as two's complement (RFC 4506 section 4.1)
+-- the number that a unit represents as two's complement (RFC 4506 section 4.1)
 abbrev pub signed : (unit : ℕ) → ℤ
 signed x = cond (nat_lt x (2 ^ 31)) (pos x) (negsuc (2 ^ 32 - 1 - x))
 
--- the number that a unit stands for in a kind of numbers (RFC 4506 sections 4.1 to 4.4)
+-- the number that a unit represents in a kind of numbers (RFC 4506 sections 4.1 to 4.4)
 abbrev pub number_in : KindView → (unit : ℕ) → ℤ
 number_in xdr.int x = signed x
 number_in (xdr.numbered constants) x = signed x

@@ -1,4 +1,4 @@
--- The tree that a `Value` stands for.
+-- The tree that a `Value` represents.
 use Rattle.std.specs.Prelude.{List, [], ◌∷◌, map, length, Option, Some, None}
 use Rattle.std.specs.declared.boxed.Box.{Box}
 use Rattle.std.specs.declared.alloc.Global.{Global}

@@ -6,7 +6,7 @@ ghost use Rattle.xdr_types.specs.KindViews.{kind_view, part_of_member, branch_of
 ghost use Rattle.xdr_types.specs.Faults.{some_optional};
 ghost use Rattle.xdr_types.specs.Sound.{IsSound, IsLowestWithout, Asks};
 ghost use Rattle.xdr_types.specs.Height.{AreHigher};
-ghost use Rattle.xdr_types.specs.Private.Rounds.{given, are_marked, some_marked, is_marked, IsMarked, IsClosed};
+ghost use Rattle.xdr_types.specs.Private.Rounds.{height_in, are_marked, some_marked, is_marked, IsMarked, IsClosed};
 ghost use Rattle.xdr_types.specs.Private.Rounds.{AreHeights};
 ghost use Rattle.xdr_types.specs.Private.Sets.{IsReached, AreReached};
 
@@ -78,7 +78,7 @@ fn settle(
     ensures heights { AreHeights (map kind_view kinds.now.items) heights.new.items next.new }
     ensures settled { IsTrue result → next.new ≡ next.old + 1 }
     ensures same { result ≡ false → (heights.new.items ≡ heights.old.items) × (next.new ≡ next.old) }
-    ensures open { result ≡ false → given heights.new.items place ≡ None
+    ensures open { result ≡ false → height_in heights.new.items place ≡ None
         → Asks (map kind_view kinds.now.items) (IsMarked heights.new.items)
         (kind_at (map kind_view kinds.now.items) place)
         → ⊥ }

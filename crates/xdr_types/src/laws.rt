@@ -8,8 +8,11 @@ ghost use Rattle.xdr_types.specs.Refused.{NoSchemaHasAFault};
 /// Two values of a kind are equal exactly if their encodings are, and no encoding of a kind begins another. So one
 /// value at most begins a list of bytes (RFC 4506 sections 3 and 4).
 pub fn each_spelling_is_one_value()
+    // Bytes begin with the encoding of one value at most.
     ensures one { (kinds : List KindView) → EachSpellingIsOneValue kinds }
+    // Two values are equal exactly if their encodings are.
     ensures equal { (kinds : List KindView) → EqualExactlyIfSpelledAlike kinds }
+    // No encoding begins another.
     ensures apart { (kinds : List KindView) → NoSpellingBeginsAnother kinds }
 {}
 

@@ -3,6 +3,16 @@
 //!
 //! The definitions that all crates stand on are in `specs/`: numbers and padding as bytes, schemas, values as trees,
 //! which of them fit, their encodings, and the outcome of decoding.
+//!
+//! - `kind`, `schema`: kinds, and lists of them that name one another. `value`: values, and their copies. `limits`: on
+//!   depth and bytes.
+//! - `fit`: whether a value is one of a kind and within limits. `depth`, `sizes`: how deep it is and how many bytes it
+//!   has. `choice`: tags and parts of a union. `equal`: `==` of values.
+//! - `faults`, `names`: the first flaw of a kind and of a name. `places`, `tags`, `empty`, `twice`: one flaw each.
+//!   `fault`: flaws, and their places.
+//! - `heights`: which kinds have a finite value. `reach`: which defaults can be reached. `sets`: numbers and cases as
+//!   sets.
+//! - `laws`: theorems about the definitions.
 #![tactic(auto)]
 
 mod choice;

@@ -38,6 +38,7 @@ impl Limits {
     /// The limit on depth.
     pub fn depth(self) -> u32
         ensures value { result ≡ self.depth }
+        // Both limits are in their ranges.
         ensures range { AreBounds self.depth self.bytes }
     {
         self.depth

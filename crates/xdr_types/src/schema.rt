@@ -116,10 +116,15 @@ impl Schema {
     /// How many kinds there are, 1024 at most. Its contract has what is known of every schema.
     pub fn len(&self) -> usize
         ensures value { result ≡ length self.now.kinds }
+        // No fault applies anywhere,
         ensures well_formed { IsWellFormed self.now }
+        // each kind has a finite value,
         ensures sound { IsSound self.now.kinds }
+        // each structure and each fixed array is higher than its parts,
         ensures higher { AreHigher self.now.kinds }
+        // the parts of all nodes are kinds of the schema,
         ensures known { EachPartIsKnown self.now.kinds }
+        // and each kind has a value.
         ensures valued { EachKindHasAValue self.now.kinds }
     {
         self.kinds.len()

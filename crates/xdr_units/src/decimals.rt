@@ -9,7 +9,9 @@ use std::str::from_utf8;
 /// The number below 2^32 whose decimal text this is, which has no leading zero. `None` for every other text. It takes
 /// no memory.
 pub fn decimal_number(text: &[u8]) -> Option<u32>
+    // The text is that of the number,
     ensures found { IfSome result (λ n. text.now ≡ decimal n) }
+    // and the text of a number gives it.
     ensures only { (n : ℕ) → n < 2 ^ 32 → text.now ≡ decimal n → result ≡ Some n }
 {
     let number: u32 = from_utf8(text).ok()?.parse().ok()?;

@@ -20,8 +20,10 @@ pub enum NoContent {
 /// The number that the four bytes at the front are, and what follows them. `None` where there are fewer bytes (RFC 4506
 /// section 4.2).
 pub fn first_word(bytes: &[u8]) -> Option<(u32, &[u8])>
+    // The number's four bytes come first, and then the rest;
     ensures found { MatchOption result (length bytes.now < 4) (λ r. bytes.now ≡ word r.0 ++ r.1.now) }
     ensures fits { IfSome result (λ r. IsWord r.0) }
+    // and a number whose bytes come first is found.
     ensures only { (n : ℕ) (rest : List ℕ) → n < 2 ^ 32 → bytes.now ≡ word n ++ rest
         → MatchOption result ⊥ (λ r. (r.0 ≡ n) × (r.1.now ≡ rest)) }
 {
@@ -35,7 +37,9 @@ pub fn first_word(bytes: &[u8]) -> Option<(u32, &[u8])>
 
 /// The same of eight bytes (RFC 4506 section 4.5).
 pub fn first_long_word(bytes: &[u8]) -> Option<(u64, &[u8])>
+    // The number's eight bytes come first, and then the rest;
     ensures found { MatchOption result (length bytes.now < 8) (λ r. bytes.now ≡ long_word r.0 ++ r.1.now) }
+    // and a number whose bytes come first is found.
     ensures only { (n : ℕ) (rest : List ℕ) → n < 2 ^ 64 → bytes.now ≡ long_word n ++ rest
         → MatchOption result ⊥ (λ r. (r.0 ≡ n) × (r.1.now ≡ rest)) }
 {
@@ -66,8 +70,10 @@ pub fn are_zeros(bytes: &[u8]) -> bool
 /// So many bytes at the front, and what follows their padding. Where both are wrong, a cut is named before the padding
 /// (RFC 4506 section 3). It takes no memory.
 pub fn first_content(bytes: &[u8], size: u32) -> Result<(&[u8], &[u8]), NoContent>
+    // The content and its padding come first, and then the rest;
     ensures found { MatchResult result (λ r. (length r.0.now ≡ size) × (bytes.now ≡ padded r.0.now ++ r.1.now))
         (λ why. IsNoContent why size bytes.now) }
+    // and content that comes first with its padding is found.
     ensures only { (content rest : List ℕ) → length content ≡ size → bytes.now ≡ padded content ++ rest
         → MatchResult result (λ r. (r.0.now ≡ content) × (r.1.now ≡ rest)) (λ _. ⊥) }
 {
@@ -86,9 +92,12 @@ pub fn first_content(bytes: &[u8], size: u32) -> Result<(&[u8], &[u8]), NoConten
 
 /// Writes the number's four bytes. Where memory is refused it writes none.
 pub fn push_word(out: &mut Vec<u8>, number: u32) -> Result<(), NoMemory>
+    // The number's bytes stand behind what stood there,
     ensures ok { OnOk result (out.new.items ≡ out.old.items ++ word number) }
     ensures fits { IsWord number }
+    // and after an error what stood there.
     ensures retained { OnErr result (out.new.items ≡ out.old.items) }
+    // Nothing of it is changed.
     ensures begins { StartsWith out.new.items out.old.items }
 {
     let mut bytes = [0; 4];
@@ -99,7 +108,9 @@ pub fn push_word(out: &mut Vec<u8>, number: u32) -> Result<(), NoMemory>
 
 /// Writes the bytes and their padding. Where memory is refused some of them may stand behind what stood there.
 pub fn push_padded(out: &mut Vec<u8>, bytes: &[u8]) -> Result<(), NoMemory>
+    // The bytes and their padding stand behind what stood there,
     ensures ok { OnOk result (out.new.items ≡ out.old.items ++ padded bytes.now) }
+    // of which nothing is changed.
     ensures begins { StartsWith out.new.items out.old.items }
 {
     out.extend_from_slice(bytes)?;
