@@ -1,4 +1,4 @@
--- How a source and a sink over lent memory answer a call.
+-- How a source and a sink over borrowed memory answer a call.
 use Rattle.std.specs.Prelude.{◌≡◌, ℕ, ◌+◌, ◌-◌, ◌^◌, ◌⊎◌, List, min, length, Some, Ok, Err, Option, Result}
 use Rattle.xdr_io.specs.declared.memory.MemorySource.{MemorySource}
 use Rattle.xdr_io.specs.declared.memory.MemorySink.{MemorySink}
@@ -29,4 +29,5 @@ WriteAnswers old (Err e) piece = IsDue old.failing old.writes ⊎ IsFull old
 
 -- the buffer, the pieces and the call that fails stay
 abbrev pub SameSink : MemorySink → MemorySink → Type 0
-SameSink old new = (length new.buffer.now ≡ length old.buffer.now) × (new.piece ≡ old.piece) × (new.failing ≡ old.failing)
+SameSink old new = (length new.buffer.now ≡ length old.buffer.now) × (new.piece ≡ old.piece)
+    × (new.failing ≡ old.failing)

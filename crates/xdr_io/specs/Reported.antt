@@ -1,4 +1,4 @@
--- What reads and writes do to the bytes and the counts that a source or a sink tells.
+-- What reads and writes do to the bytes and the counts that a source or a sink reports.
 use Rattle.std.specs.Prelude.{◌≡◌, ℕ, ◌+◌, ◌-◌, ◌^◌, ◌≤◌, ◌==◌, ◌&&◌, nat_lt, List, length, take, ⊤, None, Some, Ok}
 use Rattle.std.specs.Prelude.{Err, Option, Result, MatchResult, if◌then◌else◌}
 use Rattle.std.specs.Io.KnownBytes.{Keeps, Appends, Consumes, IsAtEnd}

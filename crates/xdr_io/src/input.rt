@@ -74,16 +74,23 @@ pub fn read_past<R: Source>(
     source: &mut R,
     enough: usize,
 ) -> Result<Vec<u8>, InputFault>
+    // What is answered are the next bytes of the source:
     ensures bytes { IfOk result (λ v. Consumes (R.left source.old) (R.left source.new) v.items) }
+    // all of them, or more than enough,
     ensures end { IfOk result (λ v. vec_len v ≤ enough → IsAtEnd (R.left source.new)) }
+    // by one read at most.
     ensures most { IfOk result (λ v. vec_len v ≤ enough + 4096) }
+    // No answer takes more of the source.
     ensures moved { MovesAtMost (enough + 4096) (R.left source.old) (R.left source.new) }
+    // A read failed exactly where the fault is `Read`, and then one.
     ensures none_failed { OnOk result (Counts 0 (R.failures source.old) (R.failures source.new)) }
     ensures failed { IsErrOf result InputFault.Read → Counts 1 (R.failures source.old) (R.failures source.new) }
     ensures unfailed { IfErr result (λ f.
         f ≢ InputFault.Read → Counts 0 (R.failures source.old) (R.failures source.new)) }
     ensures reads { CountsAtMost 1048576 (R.reads source.old) (R.reads source.new) }
+    // Too many reads are as many as are made at most,
     ensures many { IsErrOf result InputFault.TooManyReads → Counts 1048576 (R.reads source.old) (R.reads source.new) }
+    // each of which gave a byte or more.
     ensures plenty { IsErrOf result InputFault.TooManyReads → 1048576 ≤ enough }
 {
     let mut bytes = Vec::new(alloc);

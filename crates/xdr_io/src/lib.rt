@@ -1,8 +1,11 @@
 //! Where bytes come from and where they go, a piece at a time.
 //!
-//! A [`Source`] and a [`Sink`] may tell what they did: their bytes, their calls and the calls that failed. The
-//! contracts above speak of what is reported. [`MemorySource`] and [`MemorySink`] tell all; [`Gathered`] tells the bytes
-//! that it took; [`FromRead`] and [`IntoWrite`] over std's readers and writers tell nothing.
+//! A [`Source`] and a [`Sink`] may report what they did: their bytes, their calls and the calls that failed. The
+//! contracts above speak of what is reported.
+//!
+//! - `traits`: sources and sinks. `input`: all of a source, or more than enough. `whole`: a whole slice into a sink.
+//! - `memory`: over borrowed memory, which reports all. `gathered`: a sink that keeps its bytes and reports them.
+//!   `over_std`: over std's readers and writers, which reports nothing.
 #![tactic(auto)]
 
 mod gathered;

@@ -1,10 +1,11 @@
-//! A source and a sink over lent memory, which tell all.
+//! A source and a sink over borrowed memory, which report all.
 ghost use Rattle.std.specs.Prelude.{◌≡◌, ◌<◌, ◌≤◌, [], Some, take, length, IfOk, IfSome};
 ghost use Rattle.xdr_io.specs.Reported.{Counts, ReadMoves, WriteMoves, read_failures, write_failures, reported_count};
 
 use super::traits::{ReadFault, Sink, SinkFault, Source};
 
-/// A source over a lent slice. It gives at most `piece` bytes a read, and the read of number `failing`, from 1, fails.
+/// A source over a borrowed slice. It gives at most `piece` bytes a read, and the read of number `failing`, from 1,
+/// fails.
 #[derive(Drop)]
 pub struct MemorySource<'a> {
     rest: &'a [u8],
@@ -48,8 +49,11 @@ impl<'a> Source for MemorySource<'a> {
         ensures bound { IfOk result (λ n. n ≤ 4096) }
         ensures bytes { ReadMoves (Some self.old.rest.now) (Some self.new.rest.now) result array.new }
         ensures count { Counts 1 (reported_count self.old.reads) (reported_count self.new.reads) }
-        ensures failed { Counts (read_failures result) (reported_count self.old.failures) (reported_count self.new.failures) }
+        ensures failed { Counts (read_failures result)
+            (reported_count self.old.failures) (reported_count self.new.failures) }
+        // A whole piece is given while there is one, but for the read that fails.
         ensures gives { ReadAnswers self.old result }
+        // The pieces and the read that fails stay.
         ensures same { SameSource self.old self.new }
     {
         self.reads = self.reads.saturating_add(1);
@@ -65,7 +69,7 @@ impl<'a> Source for MemorySource<'a> {
     }
 }
 
-/// A sink into a lent slice. It takes at most `piece` bytes a write, the write of number `failing`, from 1, fails,
+/// A sink into a borrowed slice. It takes at most `piece` bytes a write, the write of number `failing`, from 1, fails,
 /// and so does one when the slice is full.
 #[derive(Drop)]
 pub struct MemorySink<'a> {
@@ -131,7 +135,9 @@ impl<'a> Sink for MemorySink<'a> {
         ensures count { Counts 1 (reported_count self.old.writes) (reported_count self.new.writes) }
         ensures failed { Counts (write_failures result piece.now)
             (reported_count self.old.failures) (reported_count self.new.failures) }
+        // A whole piece is taken while there is space, but for the write that fails.
         ensures takes { WriteAnswers self.old result piece.now }
+        // The buffer, the pieces and the write that fails stay.
         ensures same { SameSink self.old self.new }
     {
         self.writes = self.writes.saturating_add(1);

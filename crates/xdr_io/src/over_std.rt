@@ -1,4 +1,4 @@
-//! A source over std's readers and a sink over std's writers. They tell nothing.
+//! A source over std's readers and a sink over std's writers. They report nothing.
 ghost use Rattle.std.specs.Prelude.{◌≡◌, ◌≤◌, length, IfOk};
 ghost use Rattle.std.specs.Io.KnownBytes.{ReadConsumes, WriteAppends};
 

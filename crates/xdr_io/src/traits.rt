@@ -1,4 +1,4 @@
-//! A source and a sink, and what they tell.
+//! A source and a sink, and what they report.
 ghost use Rattle.std.specs.Prelude.{ℕ, ◌≤◌, List, Option, None, length, IfOk};
 ghost use Rattle.xdr_io.specs.Reported.{Counts, ReadMoves, WriteMoves, read_failures, write_failures};
 
@@ -29,8 +29,11 @@ pub trait Source {
     /// none.
     fn read(&mut self, array: &mut [u8; 4096]) -> Result<usize, ReadFault>
         ensures bound { IfOk result (λ n. n ≤ 4096) }
+        // The next bytes are moved to the front of the array.
         ensures bytes { ReadMoves (left self.old) (left self.new) result array.new }
+        // Each call is one read,
         ensures count { Counts 1 (reads self.old) (reads self.new) }
+        // which failed where the answer is a fault.
         ensures failed { Counts (read_failures result) (failures self.old) (failures self.new) };
 }
 
@@ -49,8 +52,11 @@ pub trait Sink {
     /// piece that has some counts as failed.
     fn write(&mut self, piece: &[u8]) -> Result<usize, SinkFault>
         ensures bound { IfOk result (λ n. n ≤ length piece.now) }
+        // The front of the piece is taken.
         ensures bytes { WriteMoves (taken self.old) (taken self.new) result piece.now }
+        // Each call is one write,
         ensures count { Counts 1 (writes self.old) (writes self.new) }
+        // which failed where it took nothing of a piece that has some.
         ensures failed { Counts (write_failures result piece.now) (failures self.old) (failures self.new) };
 }
 

@@ -16,7 +16,9 @@ pub struct Cut {
 /// Writes the whole slice, in as many writes as it takes; none where it is empty. A fault comes only where a write
 /// failed, the last that was made.
 pub fn write_whole<W: Sink>(sink: &mut W, bytes: &[u8]) -> Result<(), Cut>
+    // All bytes went out,
     ensures ok { OnOk result (Appends (W.taken sink.old) (W.taken sink.new) bytes.now) }
+    // or the first of them, fewer than all.
     ensures cut { IfErr result (λ e. (e.written < length bytes.now)
         × Appends (W.taken sink.old) (W.taken sink.new) (take e.written bytes.now)) }
     ensures none_failed { OnOk result (Counts 0 (W.failures sink.old) (W.failures sink.new)) }
