@@ -1,16 +1,18 @@
 -- Which bytes a checker has been given, and what its answers say of them: the outcome of decoding (RFC 4506).
-use Rattle.std.specs.Prelude.{◌≡◌, ℕ, List, Result}
+use Rattle.std.specs.Prelude.{◌≡◌, ◌≤◌, ℕ, List, length, Result, Ok, Err, IfOk, IfErr}
 use Rattle.xdr_types.specs.Kinds.{KindView, Lists}
 use Rattle.xdr_types.specs.Within.{Bounds}
 use Rattle.xdr_types.specs.declared.kind.KindId.{KindId}
 use Rattle.xdr_stream.specs.Finish as stream
 use Rattle.xdr_stream.specs.Represents as reported
+use Rattle.xdr_stream.specs.Represents.{used_of}
 use Rattle.xdr_stream.specs.Checked.{Counts}
 use Rattle.xdr_stream.specs.Held as held
 use Rattle.xdr_stream.specs.declared.holding.Held.{Held}
 use Rattle.xdr_stream.specs.declared.fault.DecodeFault.{DecodeFault}
 use Rattle.xdr_stream.specs.declared.reader.State.TheVariants.{Finished, Failed}
 use Rattle.xdr_stream.specs.declared.reader.Progress.{Progress}
+use Rattle.xdr_stream.specs.declared.reader.Progress.TheVariants.{More, Done}
 use Rattle.xdr_codec.specs.declared.checker.Checker.{Checker}
 
 -- the lists of its schema
@@ -62,6 +64,19 @@ HasFailed c f = c.reader.state ≡ Failed f
 -- no fault came, and the value is not whole
 abbrev pub GoesOn : Checker → Type 0
 GoesOn c = held.GoesOn c.reader.state
+
+-- what an answer to a piece leaves: no more of the piece was used than it has, and the checker's state is what was
+-- answered
+pub record Leaves (c : Checker) (piece : List ℕ) (answer : Result Progress DecodeFault) : Type 0 where
+  pub used : IfOk answer (λ p. used_of p ≤ length piece)
+  pub goes_on : IfOk answer (λ p. p ≡ More → GoesOn c)
+  pub done : IfOk answer (λ p. (used : ℕ) → p ≡ Done used → IsDone c)
+  pub failed : IfErr answer (λ f. HasFailed c f)
+
+-- an answer that was the last one comes again: nothing of a later piece is used after the value, a fault stays
+pub record Stays (c : Checker) (answer : Result Progress DecodeFault) : Type 0 where
+  pub again : IsDone c → answer ≡ Ok (Done 0)
+  pub for_ever : (f : DecodeFault) → HasFailed c f → answer ≡ Err f
 
 -- the counts are those of the checker's own fields, which have no node and no content
 abbrev pub CountsFields : Checker → Held → Type 0

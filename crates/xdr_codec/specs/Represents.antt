@@ -1,5 +1,5 @@
 -- Which bytes a decoder has been given, and what its answers say of the values that begin with them.
-use Rattle.std.specs.Prelude.{◌≡◌, ℕ, ◌≤◌, List, ◌++◌, length, Result, Ok, Err}
+use Rattle.std.specs.Prelude.{◌≡◌, ℕ, ◌≤◌, List, ◌++◌, length, Result, Ok, Err, IfOk, IfErr}
 use Rattle.xdr_types.specs.Kinds.{KindView, Lists}
 use Rattle.xdr_types.specs.Tree.{Tree}
 use Rattle.xdr_types.specs.Spelling.{bytes_of}
@@ -8,11 +8,13 @@ use Rattle.xdr_types.specs.Within.{Bounds, FitsWithin}
 use Rattle.xdr_types.specs.declared.kind.KindId.{KindId}
 use Rattle.xdr_types.specs.declared.value.Value.{Value}
 use Rattle.xdr_stream.specs.Finish as stream
+use Rattle.xdr_stream.specs.Represents.{used_of}
 use Rattle.xdr_stream.specs.declared.fault.Reason.TheVariants as reason
 use Rattle.xdr_stream.specs.declared.fault.DecodeFault.{DecodeFault}
 use Rattle.xdr_stream.specs.declared.reader.State.TheVariants.{Finished, Failed}
 use Rattle.xdr_stream.specs.declared.reader.Progress.{Progress}
 use Rattle.xdr_stream.specs.declared.reader.Progress.TheVariants.{More, Done}
+use Rattle.xdr_codec.specs.Held.{GoesOn, IsWaiting}
 use Rattle.xdr_codec.specs.Refused.{HasNoneWithin, IsRefused}
 use Rattle.xdr_codec.specs.Settings.{schema_of, kinds_of, kind_of, limits_of}
 use Rattle.xdr_codec.specs.declared.decoder.Decoder.{Decoder}
@@ -68,3 +70,17 @@ IsDone d = d.reader.state ≡ Finished
 -- this fault was answered
 abbrev pub HasFailed : Decoder → DecodeFault → Type 0
 HasFailed d f = d.reader.state ≡ Failed f
+
+-- what an answer to a piece leaves: no more of the piece was used than it has, and the decoder's state is what was
+-- answered
+pub record Leaves (d : Decoder) (piece : List ℕ) (answer : Result Progress DecodeFault) : Type 0 where
+  pub used : IfOk answer (λ p. used_of p ≤ length piece)
+  pub more : IfOk answer (λ p. p ≡ More → IsWaiting d)
+  pub goes_on : IfOk answer (λ p. p ≡ More → GoesOn d)
+  pub done : IfOk answer (λ p. (used : ℕ) → p ≡ Done used → IsDone d)
+  pub failed : IfErr answer (λ f. HasFailed d f)
+
+-- an answer that was the last one comes again: nothing of a later piece is used after the value, a fault stays
+pub record Stays (d : Decoder) (answer : Result Progress DecodeFault) : Type 0 where
+  pub again : IsDone d → answer ≡ Ok (Done 0)
+  pub for_ever : (f : DecodeFault) → HasFailed d f → answer ≡ Err f

@@ -15,22 +15,26 @@ pub struct Decoder<'s> {
 }
 
 impl<'s> Decoder<'s> {
-    ghost use Rattle.std.specs.Prelude.{◌≡◌, ◌≤◌, ◌<◌, ◌%◌, ℕ, List, [], ◌++◌, length, IfOk, IfErr, IsOk, Ok, Err};
-    ghost use Rattle.xdr_stream.specs.Represents.{taken, used_of};
-    ghost use Rattle.xdr_stream.specs.declared.reader.Progress.TheVariants.{More, Done};
+    ghost use Rattle.std.specs.Prelude.{◌≡◌, ◌<◌, ◌%◌, ℕ, List, [], ◌++◌, length, IfErr, IsOk, Err};
+    ghost use Rattle.xdr_stream.specs.Represents.{taken};
     ghost use Rattle.xdr_stream.specs.declared.fault.Reason.TheVariants.{NoMemory};
     ghost use Rattle.xdr_types.specs.Kinds.{kind_at};
     ghost use Rattle.xdr_stream.specs.Spared.{IsFlat};
     ghost use Rattle.xdr_codec.specs.Settings.{kinds_of, kind_of};
-    ghost use Rattle.xdr_codec.specs.Represents.{RepresentsBytes, Answers, Finishes, IsSame, IsStarted, IsDone, HasFailed};
+    ghost use Rattle.xdr_codec.specs.Represents.{RepresentsBytes, Answers, Finishes, IsSame, IsStarted, IsDone};
+    ghost use Rattle.xdr_codec.specs.Represents.{HasFailed};
+    ghost use Rattle.xdr_codec.specs.Represents.{Leaves, Stays};
     ghost use Rattle.xdr_codec.specs.Outcomes.{HasOutcome, EndsIn};
     ghost use Rattle.xdr_codec.specs.Held.{GoesOn, IsWaiting, CountsFields, IsHeldWithin, IsHeldDue, IsHeldWhole};
 
     /// A decoder that has been given no byte. It takes no memory.
     pub fn start(alloc: Global, schema: &'s Schema, kind: KindId, limits: Limits) -> Decoder<'s>
         requires { kind.place < length schema.now.kinds }
+        // The fields represent no byte.
         ensures represents { RepresentsBytes result [] }
+        // The schema, the kind and the limits are those that were given.
         ensures settings { IsStarted result schema.now kind limits }
+        // No fault came, and the value is not whole.
         ensures open { GoesOn result }
     {
         Decoder {
@@ -49,21 +53,25 @@ impl<'s> Decoder<'s> {
     /// takes no memory where the kind is a number, a boolean, an enumeration or void. Reading goes down by no calls;
     /// the drop of a value does, one level a call.
     pub fn feed(&mut self, piece: &[u8]) -> Result<Progress, DecodeFault>
-        ensures represents { (b : List ℕ) → RepresentsBytes self.old b → RepresentsBytes self.new (b ++ taken piece.now result) }
+        // With the bytes that were taken of the piece, the fields represent all bytes so far.
+        ensures represents { (b : List ℕ) → RepresentsBytes self.old b
+            → RepresentsBytes self.new (b ++ taken piece.now result) }
+        // The answer is the outcome of all bytes so far, unless memory was refused.
         ensures outcome { (b : List ℕ) → RepresentsBytes self.old b → HasOutcome self.old b piece.now result }
-        ensures answer { (b : List ℕ) → RepresentsBytes self.old b → Answers self.old (b ++ taken piece.now result) result }
-        ensures used { IfOk result (λ p. used_of p ≤ length piece.now) }
-        ensures more { IfOk result (λ p. p ≡ More → IsWaiting self.new) }
-        ensures open { IfOk result (λ p. p ≡ More → GoesOn self.new) }
-        ensures done { IfOk result (λ p. (used : ℕ) → p ≡ Done used → IsDone self.new) }
-        ensures again { IsDone self.old → result ≡ Ok (Done 0) }
-        ensures failed { IfErr result (λ f. HasFailed self.new f) }
+        // So they begin with no value, encode one, or none begins them however they go on.
+        ensures answer { (b : List ℕ) → RepresentsBytes self.old b
+            → Answers self.old (b ++ taken piece.now result) result }
+        // The state is what was answered, and no more was used than the piece has.
+        ensures leaves { Leaves self.new piece.now result }
+        // After `Done` nothing of a piece is used, and a fault comes again.
+        ensures stays { Stays self.old result }
+        // Want of memory is not answered where the kind is a number, a boolean, an enumeration or void.
         ensures granted { IsFlat (kind_at (kinds_of self.old) (kind_of self.old).place)
             → IfErr result (λ f. f.why ≡ NoMemory → ⊥) }
-        ensures for_ever { (f : DecodeFault) → HasFailed self.old f → result ≡ Err f }
+        // The schema, the kind and the limits stay.
         ensures same { IsSame self.old self.new }
     {
-        let _range = self.reader.limits.depth();
+        let _in_range = self.reader.limits.depth();
         self.reader.feed(piece)
     }
 
@@ -76,10 +84,15 @@ impl<'s> Decoder<'s> {
     /// at most 3 (RFC 4506 section 3). After `Done` `nodes` and `bytes` are the value's, `frames` and `pending` 0.
     /// After a fault nothing is held.
     pub fn held(&self) -> Held
+        // The counts are those of the decoder's own fields.
         ensures counts { CountsFields self.now result }
+        // They are within the bounds above, whatever bytes came.
         ensures bounds { (b : List ℕ) → RepresentsBytes self.now b → IsHeldWithin self.now b result }
+        // Until the value is whole, the bytes of the unfinished unit are pending.
         ensures pending { (b : List ℕ) → RepresentsBytes self.now b → GoesOn self.now → result.pending ≡ length b % 4 }
+        // Where a unit is needed, the nodes are those that the whole units begin.
         ensures due { (b : List ℕ) → RepresentsBytes self.now b → IsWaiting self.now → IsHeldDue self.now b result }
+        // After `Done` the value's nodes and its content are held, and nothing else.
         ensures whole { (b : List ℕ) → RepresentsBytes self.now b → IsDone self.now → IsHeldWhole self.now b result }
     {
         holding::held_by_decoder(&self.reader)
@@ -89,14 +102,19 @@ impl<'s> Decoder<'s> {
     /// `Truncated` at the count of bytes given. Before any `feed` it answers as after an empty piece. It takes no
     /// memory: after `Done` it gives the value, and it answers `NoMemory` only where an earlier call did.
     pub fn finish(self) -> Result<Value, DecodeFault>
+        // The answer is the outcome of the bytes, and `Truncated` where that is pending.
         ensures outcome { (b : List ℕ) → RepresentsBytes self.entry b → EndsIn self.entry b result }
+        // So the bytes encode the value, or no value begins them.
         ensures answer { (b : List ℕ) → RepresentsBytes self.entry b → Finishes self.entry b result }
+        // A fault that was answered comes again.
         ensures for_ever { (f : DecodeFault) → HasFailed self.entry f → result ≡ Err f }
+        // After `Done` the value comes.
         ensures whole { IsDone self.entry → IsOk result }
+        // Want of memory is answered only where an earlier call answered it.
         ensures granted { IfErr result (λ f. f.why ≡ NoMemory → HasFailed self.entry f) }
     {
         let reader = self.reader;
-        let _range = reader.limits.depth();
+        let _in_range = reader.limits.depth();
         decoder::finish(reader)
     }
 }

@@ -8,8 +8,8 @@ ghost use Rattle.xdr_types.specs.View.{tree};
 ghost use Rattle.xdr_types.specs.Within.{FitsWithin};
 ghost use Rattle.xdr_stream.specs.Finish.{EndsWith};
 ghost use Rattle.xdr_stream.specs.Spared.{IsFlat};
-ghost use Rattle.xdr_stream.specs.declared.fault.Reason.TheVariants.{Truncated, NoMemory};
-ghost use Rattle.xdr_codec.specs.Refused.{IsRefused, HasNoneWithin};
+ghost use Rattle.xdr_stream.specs.declared.fault.Reason.TheVariants.{NoMemory};
+ghost use Rattle.xdr_codec.specs.Refused.{Refuses};
 
 use crate::decoder::Decoder;
 use std::alloc::Global;
@@ -35,19 +35,23 @@ pub fn decode(
     input: &[u8],
 ) -> Result<(Value, usize), DecodeFault>
     requires { kind.place < length schema.now.kinds }
+    // The outcome of the input is this value with this count of bytes.
     ensures outcome { IfOk result (λ r. Outcome schema.now.kinds kind.place limits input.now (Whole (tree r.0) r.1)) }
+    // The outcome is this reason at this place, unless memory was refused; `Truncated` stands for a pending one.
     ensures fault { IfErr result (λ f. EndsWith schema.now.kinds kind.place limits input.now f) }
+    // The value fits the kind within the limits, and its encoding is the bytes that are counted.
     ensures value { IfOk result (λ r. FitsWithin schema.now.kinds kind.place limits (tree r.0)
         × (r.1 ≤ length input.now) × (bytes_of schema.now.kinds kind.place (tree r.0) ≡ take r.1 input.now)) }
+    // No other value within the limits begins the input.
     ensures only { IfOk result (λ r. (t : Tree) (n : ℕ) → FitsWithin schema.now.kinds kind.place limits t
         → n ≤ length input.now
         → bytes_of schema.now.kinds kind.place t ≡ take n input.now → (t ≡ tree r.0) × (n ≡ r.1)) }
-    ensures refused { IfErr result (λ f. IsRefused (HasNoneWithin schema.now.kinds kind.place limits) f.why input.now) }
-    ensures place { IfErr result (λ f. f.at ≤ length input.now) }
+    // A fault says that there is no such value, and its place lies within the input.
+    ensures refusal { Refuses schema.now.kinds kind.place limits input.now result }
+    // Want of memory is not answered where the kind is a number, a boolean, an enumeration or void.
     ensures granted { IsFlat (kind_at schema.now.kinds kind.place) → IfErr result (λ f. f.why ≡ NoMemory → ⊥) }
-    ensures truncated { IfErr result (λ f. f.why ≡ Truncated → f.at ≡ length input.now) }
 {
-    let _range = limits.depth();
+    let _in_range = limits.depth();
     let mut decoder = Decoder::start(alloc, schema, kind, limits);
     match decoder.feed(input) {
         Ok(Progress::Done { used }) => match decoder.finish() {

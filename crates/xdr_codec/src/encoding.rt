@@ -27,7 +27,9 @@ pub fn encode(
     limits: Limits,
 ) -> Result<Vec<u8>, NoMemory>
     requires { FitsWithin schema.now.kinds kind.place limits (tree value.now) }
+    // The bytes are the encoding of the value.
     ensures bytes { IfOk result (λ b. b.items ≡ bytes_of schema.now.kinds kind.place (tree value.now)) }
+    // No other value of the kind has them.
     ensures only { IfOk result (λ b. (t : Tree) → Fits schema.now.kinds kind.place t
         → bytes_of schema.now.kinds kind.place t ≡ b.items → t ≡ tree value.now) }
 {

@@ -8,9 +8,13 @@ use xdr_io::{Sink, write_whole};
 /// Bytes wait in an array until they fill it, and then go to the sink in one write.
 #[derive(Drop)]
 pub struct Gather<'w, W> {
+    /// Where the bytes go.
     pub sink: &'w mut W,
+    /// Space for those that wait.
     pub array: [u8; 4096],
+    /// How many wait.
     pub filled: usize,
+    /// How many went to the sink.
     pub written: u32,
     ghost within: { filled ≤ 4096 },
 }

@@ -71,16 +71,21 @@ pub fn encode_to<W: Sink>(
     limits: Limits,
 ) -> Result<u32, WriteFault>
     requires { FitsWithin schema.now.kinds kind.place limits (tree value.now) }
+    // The whole encoding went out,
     ensures bytes { OnOk result (Appends (W.taken writer.old) (W.taken writer.new)
         (bytes_of schema.now.kinds kind.place (tree value.now))) }
+    // and its bytes are counted.
     ensures count { IfOk result (λ n. n ≡ length (bytes_of schema.now.kinds kind.place (tree value.now))) }
+    // After a fault exactly the first `written` bytes went out,
     ensures cut { IfErr result (λ e. Appends (W.taken writer.old) (W.taken writer.new)
         (take e.written (bytes_of schema.now.kinds kind.place (tree value.now)))) }
+    // and these are not all of them.
     ensures short { IfErr result (λ e. e.written < length (bytes_of schema.now.kinds kind.place (tree value.now))) }
+    // No write failed, or one did.
     ensures none_failed { OnOk result (Counts 0 (W.failures writer.old) (W.failures writer.new)) }
     ensures one_failed { OnErr result (Counts 1 (W.failures writer.old) (W.failures writer.new)) }
 {
-    let _depth = limits.depth();
+    let _in_range = limits.depth();
     let mut out = Gather {
         sink: writer,
         array: [0; 4096],

@@ -14,7 +14,7 @@ use Rattle.xdr_types.specs.declared.kind.KindId.{KindId}
 use Rattle.xdr_stream.specs.Finish.{IsStarted, EndsWith}
 use Rattle.xdr_stream.specs.Sees.{Ends}
 use Rattle.xdr_stream.specs.Represents.{Answers}
-use Rattle.xdr_stream.specs.declared.checker.Nothing.{Nothing}
+use Rattle.xdr_stream.specs.declared.builder.nothing.Nothing.{Nothing}
 use Rattle.xdr_stream.specs.declared.fault.DecodeFault.{DecodeFault}
 use Rattle.xdr_stream.specs.declared.fault.Reason.{Reason}
 use Rattle.xdr_stream.specs.declared.reader.Progress.{Progress}

@@ -9,14 +9,14 @@ use Rattle.xdr_types.specs.Tree.{Tree}
 use Rattle.xdr_types.specs.Fits.{item_part}
 use Rattle.xdr_types.specs.declared.kind.KindId.{KindId}
 use Rattle.xdr_laws.proofs.Known.{completion_of}
-use Rattle.xdr_stream.specs.declared.frame.Frame.TheVariants.{Items}
+use Rattle.xdr_stream.specs.declared.machine.frame.Frame.TheVariants.{Items}
 use Rattle.xdr_parts.specs.declared.part.Lent.{Lent}
 use Rattle.xdr_laws.specs.Owed.{Completes}
 use Rattle.xdr_stream.specs.Frames.{left_of, rest_of, stack_of, onto, dues}
 use Rattle.xdr_stream.proofs.Frames.{onto_length}
 use Rattle.xdr_parts.specs.Lent.{entry_of, AreLentFrom}
 use Rattle.xdr_parts.specs.Private.Walking.{HasWalked, Wrote, IsNext, part_of, AreLow, IsSpelled}
-use Rattle.xdr_stream.specs.declared.frame.Frame.{Frame}
+use Rattle.xdr_stream.specs.declared.machine.frame.Frame.{Frame}
 use Rattle.xdr_parts.specs.declared.next.Next.{Next}
 use Rattle.xdr_parts.specs.declared.walk.Walk.{Walk}
 use Rattle.xdr_parts.proofs.Stepping.{Goes, known, shallow, nothing_left}

@@ -29,13 +29,16 @@ pub fn parts<'a>(
     input: &'a [u8],
 ) -> Result<Vec<Lent<'a>>, DecodeFault>
     requires { kind.place < length schema.now.kinds }
+    // The outcome of the input is a value, and the parts are those of its layout, each once and in order.
     ensures outcome { IfOk result (λ ls. (v : Tree) × (n : ℕ)
         × Outcome schema.now.kinds kind.place limits input.now (Whole v n)
         × (map entry_of ls.items ≡ entries schema.now.kinds kind.place v)) }
+    // The bytes of each part are those of the input at its place.
     ensures lent { IfOk result (λ ls. AreLentFrom input.now ls.items) }
+    // The outcome is this reason at this place, unless memory was refused; `Truncated` stands for a pending one.
     ensures fault { IfErr result (λ f. EndsWith schema.now.kinds kind.place limits input.now f) }
 {
-    let _range = limits.depth();
+    let _in_range = limits.depth();
     let used = match judge(alloc, schema, kind, limits, input) {
         Ok(used) => used,
         Err(fault) => return Err(fault),

@@ -3,7 +3,7 @@ ghost use Rattle.std.specs.Prelude.{◌≡◌, [], ◌∷◌, MatchOption};
 ghost use Rattle.xdr_stream.specs.Frames.{left_of, rest_of};
 ghost use Rattle.xdr_parts.specs.Private.Walking.{part_of};
 
-use xdr_stream::frame::Frame;
+use xdr_stream::machine::frame::Frame;
 use xdr_types::KindId;
 
 /// A named part: the name of a field or an arm, empty for items and the root.

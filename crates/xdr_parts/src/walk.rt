@@ -15,9 +15,9 @@ ghost use Rattle.xdr_parts.specs.Private.Walking.{part_of, HasWalked, Wrote, IsN
 use crate::next::{Next, first};
 use crate::part::{Lent, Role, part_at, unit_role};
 use std::alloc::{AllocError, Global};
-use xdr_stream::frame::{Frame, after};
-use xdr_stream::number::{Made, made_of};
-use xdr_stream::step::{Step, step_of};
+use xdr_stream::machine::frame::{Frame, after};
+use xdr_stream::machine::number::{Made, made_of};
+use xdr_stream::machine::step::{Step, step_of};
 use xdr_types::{Kind, KindId, Schema};
 
 /// Goes over the bytes of a value, and keeps its parts.

@@ -12,7 +12,7 @@ use Rattle.xdr_types.specs.Spelling.{own, spelling}
 use Rattle.xdr_types.specs.Layout.{Entry, shown, shown_bytes, shown_items, layout, entries}
 use Rattle.xdr_show.specs.Seen.{Seen, of_node, seen_layout, seen}
 use Rattle.xdr_show.specs.Line.{line, line_text, content_text}
-use Rattle.xdr_show.specs.Lines.{node_text, node_line, lines, value_lines}
+use Rattle.xdr_show.specs.Private.Lines.{node_text, node_line, lines, value_lines}
 use Rattle.xdr_show.specs.Shown.{show_text}
 
 -- without its head each part of a node is what it was

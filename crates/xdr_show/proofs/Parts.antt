@@ -27,7 +27,7 @@ use Rattle.xdr_parts.specs.Lent.{entry_of, size_in, role_in, IsLentFrom, AreLent
 use Rattle.xdr_parts.specs.declared.part.Lent.{Lent}
 use Rattle.xdr_parts.specs.declared.part.Role.{Role}
 use Rattle.xdr_parts.specs.declared.part.Role.TheVariants.{Number, Flag, Length, Content, Group}
-use Rattle.xdr_show.specs.Lines.{node_line, lines}
+use Rattle.xdr_show.specs.Private.Lines.{node_line, lines}
 use Rattle.xdr_show.specs.Lent.{ArePartsOf}
 use Rattle.xdr_show.specs.Shown.{show_text}
 use Rattle.xdr_show.specs.Private.Read.{shown_in, line_in, line_lent, IsSized, IsReadable}

@@ -5,7 +5,7 @@ use Rattle.std.proofs.lemmas.List.{replicate-append-replicate}
 use Rattle.hex.specs.Hex.{encode_lower, encode_with}
 use Rattle.xdr_types.specs.Kinds.{KindView, Part}
 use Rattle.xdr_types.specs.Tree.{Tree, Values, node, depth_of}
-use Rattle.xdr_show.specs.Lines.{lines, value_lines}
+use Rattle.xdr_show.specs.Private.Lines.{lines, value_lines}
 
 -- so many spaces, and then so many more
 pub spaces-more : (m n : ℕ) → n ≤ m → ◌++◌ {A = ℕ} (replicate n 32) (replicate (m - n) 32) ≡ replicate m 32

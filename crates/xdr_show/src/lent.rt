@@ -8,7 +8,7 @@ ghost use Rattle.xdr_show.specs.Shown.{show_text};
 ghost use Rattle.xdr_show.specs.Private.Read.{line_lent, IsReadable};
 
 use crate::line::push_line;
-use crate::reading::head_of_part;
+use crate::part_head::head_of_part;
 use std::alloc::Global;
 use xdr_parts::{Lent, parts};
 use xdr_stream::{DecodeFault, Reason};
@@ -30,9 +30,11 @@ pub fn show_bytes(
     input: &[u8],
 ) -> Result<Vec<u8>, DecodeFault>
     requires { kind.place < length schema.now.kinds }
+    // The lines are those of the value that begins the input.
     ensures lines { IfOk result (λ text. (v : Tree) × (n : ℕ)
         × Outcome schema.now.kinds kind.place limits input.now (Whole v n)
         × (text.items ≡ show_text schema.now.kinds kind.place v)) }
+    // The outcome is this reason at this place, unless memory was refused; `Truncated` stands for a pending one.
     ensures fault { IfErr result (λ f. EndsWith schema.now.kinds kind.place limits input.now f) }
 {
     match parts(alloc, schema, kind, limits, input) {

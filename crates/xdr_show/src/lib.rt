@@ -1,8 +1,8 @@
 //! A value of XDR (RFC 4506) as lines of text: one for each part of its layout, in the order of its bytes.
 //!
-//! - `shown`: the lines of a value. `lent`: the same of parts that are lent from bytes. `reading`: what is read of
-//!   those.
+//! - `shown`: the lines of a value. `lent`: the same of parts that are lent from bytes.
 //! - `line`: what all lines have. `head`, `number`, `content`: what a line says of a node, of a number and of content.
+//!   `part_head`: what a node shows, read back from the bytes of a part.
 //! - `laws`: the lines are those of the layout.
 #![tactic(auto)]
 
@@ -12,7 +12,7 @@ mod laws;
 mod lent;
 mod line;
 mod number;
-mod reading;
+mod part_head;
 mod shown;
 
 pub use content::push_escaped_bytes;

@@ -3,7 +3,7 @@ ghost use Rattle.std.specs.Prelude.{◌≡◌, ◌≤◌, ◌++◌, OnOk, true};
 ghost use Rattle.xdr_types.specs.KindViews.{kind_view};
 ghost use Rattle.xdr_types.specs.Fits.{is_legal};
 ghost use Rattle.xdr_show.specs.Line.{indent, label, line_text};
-ghost use Rattle.xdr_show.specs.Lines.{node_text};
+ghost use Rattle.xdr_show.specs.Private.Lines.{node_text};
 ghost use Rattle.xdr_show.specs.Private.Heads.{head_view};
 
 use crate::content::{push_hexadecimal, push_quoted};

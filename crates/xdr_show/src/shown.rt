@@ -5,7 +5,7 @@ ghost use Rattle.xdr_types.specs.Fits.{fits, fit, item_part, parts};
 ghost use Rattle.xdr_types.specs.Tree.{depth_of};
 ghost use Rattle.xdr_types.specs.View.{tree, values};
 ghost use Rattle.xdr_types.specs.Within.{FitsWithin};
-ghost use Rattle.xdr_show.specs.Lines.{lines, value_lines};
+ghost use Rattle.xdr_show.specs.Private.Lines.{lines, value_lines};
 ghost use Rattle.xdr_show.specs.Shown.{show_text};
 
 use crate::head::head_of_value;

@@ -2,7 +2,8 @@
 ghost use Rattle.std.specs.Prelude.{◌≡◌, ◌+◌, ◌-◌, ◌^◌, ◌<◌, [], ◌∷◌, ◌++◌, length, min};
 ghost use Rattle.std.specs.Prelude.{OnOk, OnErr, IfOk, MatchOption, vec_len, vec_capacity};
 ghost use Rattle.std.specs.Option.{option_to_list};
-ghost use Rattle.xdr_stack.specs.Chains.{chain_items, AreFilled, one_filled};
+ghost use Rattle.xdr_stack.specs.Chains.{chain_items, AreFilled};
+ghost use Rattle.xdr_stack.specs.Private.Filled.{one_filled};
 
 use crate::chain::{Block, Chain};
 use std::alloc::{AllocError, Global};

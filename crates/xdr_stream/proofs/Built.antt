@@ -15,8 +15,9 @@ use Rattle.xdr_units.specs.Numbers.{num4, pad}
 use Rattle.xdr_types.specs.Fits.{Fits, fit, fits, is_legal, parts, item_part, are_bytes, optional_part, part_of}
 use Rattle.xdr_types.specs.Spelling.{own, spelling, bytes_of}
 use Rattle.xdr_laws.proofs.Legal.{both, and, IsLegal, legal_is, bytes_are, are_bytes_of}
-use Rattle.xdr_stream.specs.Trace.{Level, level, added, add, IsOpen, close_levels, IsFilled, CanCloseLevels, IsMany}
-use Rattle.xdr_stream.specs.Trace.{Trace, HasSpaceAt, HasSpaceIn, HasRoom, IsManyIn, TakesMany}
+use Rattle.xdr_stream.specs.Trace.{Level, level, IsOpen, Trace}
+use Rattle.xdr_stream.specs.Private.Reported.{added, add, close_levels, IsFilled, CanCloseLevels, IsMany, HasSpaceAt}
+use Rattle.xdr_stream.specs.Private.Reported.{HasSpaceIn, HasSpace, IsManyIn, TakesMany}
 use Rattle.xdr_types.specs.Within.{Bounds}
 use Rattle.xdr_stream.specs.Sees.{Sees, Opens, Built, BuiltAs, BuiltInto, Makes, make_wide}
 use Rattle.xdr_stream.specs.declared.machine.Awaits.{Awaits}
@@ -429,10 +430,10 @@ module _ (s : List KindView) (t : ℕ) (l : Bounds) (H : Trace → Type 0) where
 
   -- the innermost node has space for what is to come
   pub seen_space : (a : Awaits) (fs : List (List Part)) (q : List ℕ) → Gives a fs → Sees s t l H a fs q
-      → Sees s t l (With H HasRoom) a fs q
-  seen_space a fs q g r = seen_with HasRoom a fs q r (space a fs g r.trace r.built)
+      → Sees s t l (With H HasSpace) a fs q
+  seen_space a fs q g r = seen_with HasSpace a fs q r (space a fs g r.trace r.built)
     where
-      space : (a : Awaits) (fs : List (List Part)) → Gives a fs → (x : Trace) → BuiltAs s t a x fs q → HasRoom x
+      space : (a : Awaits) (fs : List (List Part)) → Gives a fs → (x : Trace) → BuiltAs s t a x fs q → HasSpace x
       space Next [] g x b = absurd g
       space Next ([] ∷ fs) g x b = absurd g
       space Next ((p ∷ ps) ∷ fs) g x b = built_space s t x.levels p ps fs q b.1

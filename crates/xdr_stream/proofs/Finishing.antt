@@ -31,8 +31,8 @@ use Rattle.xdr_stream.specs.declared.fault.DecodeFault.{DecodeFault}
 use Rattle.xdr_stream.specs.declared.machine.Awaits.{Awaits}
 use Rattle.xdr_stream.specs.declared.reader.State.{State}
 use Rattle.xdr_stream.specs.declared.reader.State.TheVariants.{Fresh, Reading, Finished}
-use Rattle.xdr_stream.specs.declared.values.Level.{Level}
-use Rattle.xdr_stream.specs.declared.values.Values.{Values}
+use Rattle.xdr_stream.specs.declared.builder.level.Level.{Level}
+use Rattle.xdr_stream.specs.declared.builder.values.Values.{Values}
 use Rattle.xdr_stream.proofs.Standing.{sees_whole, within_limit}
 use Rattle.xdr_stream.proofs.Answering.{pending_on}
 use Rattle.xdr_stream.specs.declared.machine.Awaits.TheVariants.{Next}

@@ -16,7 +16,7 @@ use Rattle.xdr_laws.proofs.Events.{outcome_pending}
 use Rattle.xdr_laws.proofs.Nodes.{IsFormedKind}
 use Rattle.xdr_stream.specs.Frames.{dues, Begins, rest_of}
 use Rattle.xdr_stream.specs.Sees.{Reading}
-use Rattle.xdr_stream.specs.First.{IsDue}
+use Rattle.xdr_stream.proofs.Heights.{IsDue}
 use Rattle.xdr_stream.proofs.Reading.{reading_start, reading_silent, reading_close, reading_free, still_due, still_rest}
 use Rattle.xdr_stream.proofs.Reading.{ends_deep, ends_whole}
 

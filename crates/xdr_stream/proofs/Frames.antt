@@ -7,7 +7,7 @@ use Rattle.xdr_types.specs.Kinds.{Part}
 use Rattle.xdr_types.specs.KindViews.{part_of_member}
 use Rattle.xdr_types.specs.Fits.{item_part}
 use Rattle.xdr_types.specs.declared.kind.Member.{Member}
-use Rattle.xdr_stream.specs.declared.frame.Frame.{Frame}
+use Rattle.xdr_stream.specs.declared.machine.frame.Frame.{Frame}
 use Rattle.xdr_stream.specs.Frames.{Begins, left_of, onto}
 
 pub begins_map : (ms : List Member) (m : Member) → 1 ≤ length ms → m ≡ get_or ms 0 m

@@ -15,14 +15,15 @@ use Rattle.xdr_types.specs.declared.kind.KindId.{KindId}
 use Rattle.xdr_laws.proofs.Content.{unit4_back}
 use Rattle.xdr_laws.proofs.Legal.{are_bytes_of}
 use Rattle.xdr_stream.specs.Frames.{left_of, onto, stack_of}
-use Rattle.xdr_stream.specs.Trace.{Trace, leaf_in, HasRoom, TakesMany}
+use Rattle.xdr_stream.specs.Trace.{Trace}
+use Rattle.xdr_stream.specs.Private.Reported.{leaf_in, HasSpace, TakesMany}
 use Rattle.xdr_stream.specs.Sees.{Sees, make_wide}
-use Rattle.xdr_stream.specs.Runs.{hyper_kind, hypers_in}
+use Rattle.xdr_stream.specs.Private.Runs.{hyper_kind, hypers_in}
 use Rattle.xdr_stream.specs.Steps.{IsStep}
-use Rattle.xdr_stream.specs.Sound.{IsSound}
-use Rattle.xdr_stream.specs.declared.frame.Frame.{Frame}
-use Rattle.xdr_stream.specs.declared.frame.Frame.TheVariants.{Items}
-use Rattle.xdr_stream.specs.declared.step.Step.TheVariants as step
+use Rattle.xdr_stream.specs.Private.Sound.{IsSound}
+use Rattle.xdr_stream.specs.declared.machine.frame.Frame.{Frame}
+use Rattle.xdr_stream.specs.declared.machine.frame.Frame.TheVariants.{Items}
+use Rattle.xdr_stream.specs.declared.machine.step.Step.TheVariants as step
 use Rattle.xdr_stream.specs.declared.machine.Awaits.TheVariants.{Wide}
 use Rattle.xdr_stream.proofs.Seeing.{IsNext, code_free}
 use Rattle.xdr_stream.proofs.Sounding.{solid_known, solid_items}
@@ -159,5 +160,5 @@ hypers_many sg (a ∷ b ∷ c ∷ d ∷ e ∷ []) t m = m
 hypers_many sg (a ∷ b ∷ c ∷ d ∷ e ∷ f ∷ []) t m = m
 hypers_many sg (a ∷ b ∷ c ∷ d ∷ e ∷ f ∷ g ∷ []) t m = m
 
-pub hypers_space : (sg : Bool) (us : List ℕ) (t : Trace) → TakesMany t → HasRoom (hypers_in sg us t)
+pub hypers_space : (sg : Bool) (us : List ℕ) (t : Trace) → TakesMany t → HasSpace (hypers_in sg us t)
 hypers_space sg us t m = many_space (hypers_in sg us t).levels (hypers_many sg us t m)

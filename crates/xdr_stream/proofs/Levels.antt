@@ -5,12 +5,13 @@ use Rattle.xdr_types.specs.Tree.{Head, Tree}
 use Rattle.xdr_types.specs.View.{tree}
 use Rattle.xdr_types.specs.declared.value.Value.{Value}
 use Rattle.xdr_stream.specs.Trace as trace
-use Rattle.xdr_stream.specs.Trace.{Trace, level, added, open_in, close_in, close_levels, CanClose, CanCloseLevels}
-use Rattle.xdr_stream.specs.Trace.{IsOpen, IsFilled}
-use Rattle.xdr_stream.specs.Values.{level_of, levels_onto, closed_tree}
-use Rattle.xdr_stream.specs.Spared.{IsAlone, IsAloneIn, IsRoot}
-use Rattle.xdr_stream.specs.declared.values.Level.{Level}
-use Rattle.xdr_stream.specs.declared.values.Level.TheVariants.{Root, Items, Fields, Choice, Maybe}
+use Rattle.xdr_stream.specs.Trace.{Trace, level, IsOpen}
+use Rattle.xdr_stream.specs.Private.Reported.{added, open_in, close_in, close_levels, CanClose, CanCloseLevels}
+use Rattle.xdr_stream.specs.Private.Reported.{IsFilled, closed_tree}
+use Rattle.xdr_stream.specs.Values.{level_of, levels_onto}
+use Rattle.xdr_stream.specs.Private.Alone.{IsAlone, IsAloneIn, IsRoot}
+use Rattle.xdr_stream.specs.declared.builder.level.Level.{Level}
+use Rattle.xdr_stream.specs.declared.builder.level.Level.TheVariants.{Root, Items, Fields, Choice, Maybe}
 
 -- the innermost parent stands last in the list
 pub levels_last : (outer : List trace.Level) (ls : List Level) (l : Level)
@@ -80,7 +81,8 @@ first_alone : (l : trace.Level) (ls : List trace.Level) → IsAloneIn (l ∷ ls)
 first_alone l [] a = a
 first_alone l (m ∷ ls) a = absurd a
 
-pub alone_root : (content : List ℕ) (work : Level) (parents : List Level) (t : Trace) → reported content work parents ≡ t
+pub alone_root : (content : List ℕ) (work : Level) (parents : List Level) (t : Trace)
+    → reported content work parents ≡ t
     → IsAlone t → IsRoot work
 alone_root content work parents t e alone =
     head_root work (first_alone (level_of work) (levels_onto [] parents)

@@ -9,17 +9,18 @@ use Rattle.xdr_types.specs.View.{tree}
 use Rattle.xdr_types.specs.declared.value.Value.{Value}
 use Rattle.xdr_laws.specs.Held.{count_nodes, count_bytes, node_count, byte_count, bytes_in}
 use Rattle.xdr_stream.specs.Trace as trace
-use Rattle.xdr_stream.specs.Trace.{Trace, level, added, add, leaf_in, open_in, close_in, content_in, close_levels}
-use Rattle.xdr_stream.specs.Trace.{extend_in}
-use Rattle.xdr_stream.specs.Trace.{IsOpen, CanClose, CanCloseLevels, HasSpaceAt, HasSpaceIn, HasRoom, IsManyIn, TakesMany}
+use Rattle.xdr_stream.specs.Trace.{Trace, level, IsOpen}
+use Rattle.xdr_stream.specs.Private.Reported.{IsMany, added, add, leaf_in, open_in, close_in, content_in, close_levels}
+use Rattle.xdr_stream.specs.Private.Reported.{extend_in, CanClose, CanCloseLevels, HasSpaceAt, HasSpaceIn, HasSpace}
+use Rattle.xdr_stream.specs.Private.Reported.{IsManyIn, TakesMany, leaf_tree}
 use Rattle.xdr_stream.specs.Nodes.{head_of_leaf}
-use Rattle.xdr_stream.specs.Runs.{number_head, numbers_in}
-use Rattle.xdr_stream.specs.Values.{trace_of, level_of, levels_onto, leaf_tree, Reports}
+use Rattle.xdr_stream.specs.Private.Runs.{number_head, numbers_in}
+use Rattle.xdr_stream.specs.Values.{trace_of, level_of, levels_onto, Reports}
 use Rattle.xdr_stream.specs.Retained.{nodes_in, bytes_in_parts, bytes_retained}
-use Rattle.xdr_stream.specs.declared.build.Leaf.{Leaf}
-use Rattle.xdr_stream.specs.declared.build.Leaf.TheVariants as leaf
-use Rattle.xdr_stream.specs.declared.values.Level.{Level}
-use Rattle.xdr_stream.specs.declared.values.Values.{Values}
+use Rattle.xdr_stream.specs.declared.builder.Leaf.{Leaf}
+use Rattle.xdr_stream.specs.declared.builder.Leaf.TheVariants as leaf
+use Rattle.xdr_stream.specs.declared.builder.level.Level.{Level}
+use Rattle.xdr_stream.specs.declared.builder.values.Values.{Values}
 use Rattle.xdr_stream.proofs.Finishing.{trace_at}
 
 -- ---- one part more
@@ -95,7 +96,7 @@ pub many_space : (ls : List trace.Level) → IsManyIn ls → HasSpaceIn ls
 many_space [] m = absurd m
 many_space (l ∷ ls) m = space l.head l.done m
   where
-    space : (h : Head) (done : List Tree) → trace.IsMany h → HasSpaceAt h done
+    space : (h : Head) (done : List Tree) → IsMany h → HasSpaceAt h done
     space value.fields done m = tt
     space (value.items n) done m = tt
     space _ done m = absurd m
@@ -126,7 +127,8 @@ numbers_grow sg (a ∷ b ∷ c ∷ d ∷ us) (suc n) t e m =
 -- so many nodes more, and so many bytes of content
 reports_more : (b n : Values) (t u : Trace) (k j : ℕ) → trace_of n ≡ u → nodes_in u.levels ≡ nodes_in t.levels + k
     → bytes_retained u ≡ bytes_retained t + j
-    → (b.nodes + k < 2 ^ 64 → n.nodes ≡ b.nodes + k) → (b.retained + j < 2 ^ 64 → n.retained ≡ b.retained + j) → Reports b t
+    → (b.nodes + k < 2 ^ 64 → n.nodes ≡ b.nodes + k) → (b.retained + j < 2 ^ 64 → n.retained ≡ b.retained + j)
+    → Reports b t
     → Reports n u
 reports_more b n t u k j is nodes bytes grown longer reported = record {
   trace = is;
@@ -162,7 +164,7 @@ grown_level b work v t content is grown =
 pub reports_leaf : (b n : Values) (v : Value) (l : Leaf) (t : Trace) → tree v ≡ leaf_tree (head_of_leaf l)
     → level_of n.work ≡ level (level_of b.work).head (added (level_of b.work).head (level_of b.work).done (tree v))
     → n.parents.items ≡ b.parents.items → n.content.items ≡ b.content.items
-    → (b.nodes + 1 < 2 ^ 64 → n.nodes ≡ b.nodes + 1) → n.retained ≡ b.retained → Reports b t → HasRoom t
+    → (b.nodes + 1 < 2 ^ 64 → n.nodes ≡ b.nodes + 1) → n.retained ≡ b.retained → Reports b t → HasSpace t
     → Reports n (leaf_in (head_of_leaf l) t)
 reports_leaf b n v l t made grown parents content counted retained reported space =
     let h : Head = head_of_leaf l in
@@ -179,7 +181,7 @@ reports_leaf b n v l t made grown parents content counted retained reported spac
 pub reports_content : (b n : Values) (v : Value) (t : Trace) → tree v ≡ leaf_tree (value.bytes b.content.items)
     → level_of n.work ≡ level (level_of b.work).head (added (level_of b.work).head (level_of b.work).done (tree v))
     → n.parents.items ≡ b.parents.items → n.content.items ≡ []
-    → (b.nodes + 1 < 2 ^ 64 → n.nodes ≡ b.nodes + 1) → n.retained ≡ b.retained → Reports b t → HasRoom t
+    → (b.nodes + 1 < 2 ^ 64 → n.nodes ≡ b.nodes + 1) → n.retained ≡ b.retained → Reports b t → HasSpace t
     → Reports n (content_in t)
 reports_content b n v t made grown parents content counted retained reported space =
     let bytes : b.content.items ≡ t.content = ap (λ (x : Trace). x.content) reported.trace in
@@ -194,27 +196,23 @@ reports_content b n v t made grown parents content counted retained reported spa
     reports_more b n t (content_in t) 1 0 is (nodes_added w t.levels space)
     (omega (arith, bytes_added w t.levels space)) counted (λ few. omega (arith, retained)) reported
 
-pub none_there : (bs : List ℕ) → length bs ≡ 0 → bs ≡ []
-none_there [] e = refl
-none_there (b ∷ bs) e = absurd (omega (arith, e))
-
--- content that came whole, where none had come before
-pub reports_whole : (b n : Values) (v : Value) (bs : List ℕ) (t : Trace) → b.content.items ≡ []
-    → tree v ≡ leaf_tree (value.bytes bs)
+-- content that came whole, behind what had come of it before
+pub reports_whole : (b n : Values) (v : Value) (bs : List ℕ) (t : Trace)
+    → tree v ≡ leaf_tree (value.bytes (b.content.items ++ bs))
     → level_of n.work ≡ level (level_of b.work).head (added (level_of b.work).head (level_of b.work).done (tree v))
-    → n.parents.items ≡ b.parents.items → n.content.items ≡ b.content.items
+    → n.parents.items ≡ b.parents.items → n.content.items ≡ []
     → (b.nodes + 1 < 2 ^ 64 → n.nodes ≡ b.nodes + 1)
-    → (b.retained + length bs < 2 ^ 64 → n.retained ≡ b.retained + length bs) → Reports b t → HasRoom t
+    → (b.retained + length bs < 2 ^ 64 → n.retained ≡ b.retained + length bs) → Reports b t → HasSpace t
     → Reports n (content_in (extend_in bs t))
-reports_whole b n v bs t empty made grown parents content counted longer reported space =
-    let none : t.content ≡ [] = ap (λ (x : Trace). x.content) (sym reported.trace) ∙ empty in
+reports_whole b n v bs t made grown parents content counted longer reported space =
+    let before : b.content.items ≡ t.content = ap (λ (x : Trace). x.content) reported.trace in
     let w : Tree = leaf_tree (value.bytes (t.content ++ bs)) in
     let same = grown ∙ ap (λ (w : Tree). level (level_of b.work).head
     (added (level_of b.work).head (level_of b.work).done w))
-    (made ∙ ap (λ (x : List ℕ). leaf_tree (value.bytes (x ++ bs))) (sym none)) in
+    (made ∙ ap (λ (x : List ℕ). leaf_tree (value.bytes (x ++ bs))) before) in
     let is : trace_of n ≡ content_in (extend_in bs t) =
     ap (λ (ls : List Level). trace_at (level_of n.work ∷ levels_onto [] ls) n.content.items) parents
-    ∙ ap (λ (x : List ℕ). trace_at (level_of n.work ∷ levels_onto [] b.parents.items) x) (content ∙ empty)
+    ∙ ap (λ (x : List ℕ). trace_at (level_of n.work ∷ levels_onto [] b.parents.items) x) content
     ∙ grown_level b (level_of n.work) w t [] reported.trace same in
     reports_more b n t (content_in (extend_in bs t)) 1 (length bs) is (nodes_added w t.levels space)
     (omega (arith, bytes_added w t.levels space, length-append t.content bs)) counted longer reported
@@ -231,7 +229,8 @@ reports_close b n t can is nodes retained reported =
     (omega (arith, bytes_closed t.levels can)) (λ few. omega (arith, nodes)) (λ few. omega (arith, retained)) reported
 
 pub reports_numbers : (b n : Values) (sg : Bool) (us : List ℕ) (m : ℕ) (t : Trace) → length us ≡ 4 * m
-    → trace_of n ≡ numbers_in sg us (trace_of b) → (b.nodes + m < 2 ^ 64 → n.nodes ≡ b.nodes + m) → n.retained ≡ b.retained
+    → trace_of n ≡ numbers_in sg us (trace_of b) → (b.nodes + m < 2 ^ 64 → n.nodes ≡ b.nodes + m)
+    → n.retained ≡ b.retained
     → Reports b t → TakesMany t → Reports n (numbers_in sg us t)
 reports_numbers b n sg us m t len is counted retained reported many =
     let g = numbers_grow sg us m t len many in

@@ -13,12 +13,13 @@ use Rattle.xdr_types.specs.declared.kind.KindId.{KindId}
 use Rattle.xdr_laws.specs.Owed.{lead_of, HasUnit, IsUnitFirst, Accepts, head_of, IsSolid}
 use Rattle.xdr_laws.proofs.Content.{unit4_back, unit4_less}
 use Rattle.xdr_stream.specs.Frames.{left_of, onto, stack_of}
-use Rattle.xdr_stream.specs.Trace.{Trace, leaf_in}
+use Rattle.xdr_stream.specs.Trace.{Trace}
+use Rattle.xdr_stream.specs.Private.Reported.{leaf_in}
 use Rattle.xdr_stream.specs.Sees.{Sees, IsReady}
-use Rattle.xdr_stream.specs.Runs.{number_kind, number_head, numbers_in}
-use Rattle.xdr_stream.specs.declared.frame.Frame.{Frame}
-use Rattle.xdr_stream.specs.declared.frame.Frame.TheVariants.{Items}
-use Rattle.xdr_stream.specs.Sound.{IsSound, Starts, IsAwaited, Waits}
+use Rattle.xdr_stream.specs.Private.Runs.{number_kind, number_head, numbers_in}
+use Rattle.xdr_stream.specs.declared.machine.frame.Frame.{Frame}
+use Rattle.xdr_stream.specs.declared.machine.frame.Frame.TheVariants.{Items}
+use Rattle.xdr_stream.specs.Private.Sound.{IsSound, Starts, IsAwaited, Waits}
 use Rattle.xdr_stream.specs.declared.machine.Awaits.{Awaits}
 use Rattle.xdr_stream.specs.declared.machine.Awaits.TheVariants.{Next, Content, Wide, Low}
 use Rattle.xdr_stream.specs.declared.reader.State.{State}

@@ -18,11 +18,14 @@ use Rattle.xdr_laws.proofs.Legal.{IsLegal, is_legal_of, bytes_are}
 use Rattle.xdr_laws.proofs.Content.{signed8_unit, unit8_less, unit8_back}
 use Rattle.xdr_laws.proofs.Owed.{silent_legal}
 use Rattle.xdr_stream.specs.Frames.{left_of, rest_of, Begins, onto, stack_of, dues}
-use Rattle.xdr_stream.specs.Trace.{Level, Trace, IsOpen, leaf_in, open_in, close_in, CanClose, HasRoom}
-use Rattle.xdr_stream.specs.Sees.{Sees, Reading, Built, BuiltInto, Makes, make_wide, next_height, IsReady, GoesDeep}
+use Rattle.xdr_stream.specs.Trace.{Level, Trace, IsOpen}
+use Rattle.xdr_stream.specs.Private.Reported.{leaf_in, open_in, close_in, CanClose, HasSpace}
+use Rattle.xdr_stream.specs.Sees.{Sees, Reading, Built, BuiltInto, Makes, make_wide, IsReady}
+use Rattle.xdr_stream.proofs.Heights.{next_height}
+use Rattle.xdr_stream.specs.Private.Moves.{GoesDeep}
 use Rattle.xdr_stream.specs.Steps.{IsStep}
-use Rattle.xdr_stream.specs.declared.step.Step.TheVariants as step
-use Rattle.xdr_stream.specs.declared.frame.Frame.{Frame}
+use Rattle.xdr_stream.specs.declared.machine.step.Step.TheVariants as step
+use Rattle.xdr_stream.specs.declared.machine.frame.Frame.{Frame}
 use Rattle.xdr_stream.specs.declared.machine.Trouble.{Trouble}
 use Rattle.xdr_stream.specs.declared.machine.Trouble.TheVariants as trouble
 use Rattle.xdr_stream.specs.declared.machine.Awaits.TheVariants.{Next, Content, Wide}
@@ -256,7 +259,7 @@ module _ (s : List KindView) (t : ℕ) (l : Bounds) (H I : Trace → Type 0) (wo
 -- the innermost node has space for the part that comes next
 pub space_next : (s : List KindView) (t : ℕ) (l : Bounds) (H : Trace → Type 0) (work : Frame) (parents : List Frame)
     (q : List ℕ) (k : KindView) → IsNext s l work parents k → Sees s t l H Next (stack_of work parents) q
-    → Sees s t l (With H HasRoom) Next (stack_of work parents) q
+    → Sees s t l (With H HasSpace) Next (stack_of work parents) q
 space_next s t l H work parents q k n r =
     seen_space s t l H Next (stack_of work parents) q
     (subst (λ (ps : List Part). Gives Next (ps ∷ onto [] parents)) (sym n.first) tt) r

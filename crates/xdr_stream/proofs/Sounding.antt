@@ -12,8 +12,8 @@ use Rattle.xdr_types.specs.Laws.{EachPartIsKnown}
 use Rattle.xdr_laws.specs.Owed.{lead_of, IsUnitFirst, HasUnit, IsSolid}
 use Rattle.xdr_laws.proofs.Nodes.{IsFormedKind, AreMembers}
 use Rattle.xdr_stream.specs.Frames.{left_of, rest_of, Begins, onto, stack_of}
-use Rattle.xdr_stream.specs.Sound.{AreSolid, AreAllSolid, AreKnown, IsSound, HasNext, Starts}
-use Rattle.xdr_stream.specs.declared.frame.Frame.{Frame}
+use Rattle.xdr_stream.specs.Private.Sound.{AreSolid, AreAllSolid, AreKnown, IsSound, HasNext, Starts}
+use Rattle.xdr_stream.specs.declared.machine.frame.Frame.{Frame}
 use Rattle.xdr_stream.proofs.Frames.{onto_last}
 
 no_parts : (p : Part) → [] ≡ p ∷ rest_of [] → ⊥

@@ -15,8 +15,9 @@ use Rattle.xdr_laws.proofs.Legal.{IsLegal, legal_is}
 use Rattle.xdr_stream.specs.Frames.{rest_of, Begins}
 use Rattle.xdr_stream.specs.Trace.{Level, Trace, IsOpen}
 use Rattle.xdr_stream.specs.Sees.{Sees, Opens, Built, BuiltInto}
-use Rattle.xdr_stream.specs.Spared.{TakesNone, Spares, IsAlone, IsAloneIn}
-use Rattle.xdr_stream.specs.Sound.{Starts}
+use Rattle.xdr_stream.specs.Spared.{TakesNone, Spares}
+use Rattle.xdr_stream.specs.Private.Alone.{IsAlone, IsAloneIn}
+use Rattle.xdr_stream.specs.Private.Sound.{Starts}
 use Rattle.xdr_stream.specs.Taking.{IsWhy}
 use Rattle.xdr_stream.specs.declared.fault.Reason.{Reason}
 use Rattle.xdr_stream.specs.declared.fault.Reason.TheVariants as reason

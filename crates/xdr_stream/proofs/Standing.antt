@@ -10,7 +10,8 @@ use Rattle.xdr_laws.proofs.Events.{outcome_large, outcome_pending}
 use Rattle.xdr_stream.specs.Frames.{dues}
 use Rattle.xdr_stream.specs.Trace.{Trace, level}
 use Rattle.xdr_laws.specs.Owed.{Due}
-use Rattle.xdr_stream.specs.Sees.{Sees, Reading, Built, IsReady, GoesDeep, Ends, reason_of}
+use Rattle.xdr_stream.specs.Sees.{Sees, Reading, Built, IsReady, Ends}
+use Rattle.xdr_stream.specs.Private.Moves.{GoesDeep, reason_of}
 use Rattle.xdr_stream.specs.declared.machine.Trouble.{Trouble}
 use Rattle.xdr_stream.specs.declared.machine.Trouble.TheVariants.{TooDeep, NoMemory}
 use Rattle.std.proofs.Common.{◌%◌, ◌≤◌, inl, inr, refl}

@@ -23,7 +23,7 @@ use Rattle.xdr_stream.specs.Trace.{Level, Trace, level, at_start}
 use Rattle.xdr_stream.specs.Retained.{nodes_in, bytes_in_parts, bytes_retained}
 use Rattle.xdr_stream.specs.Held.{GoesOn, frames_at, nodes_at, pending_at, IsDue}
 use Rattle.xdr_stream.specs.Frames.{stack_of}
-use Rattle.xdr_stream.specs.declared.frame.Frame.{Frame}
+use Rattle.xdr_stream.specs.declared.machine.frame.Frame.{Frame}
 use Rattle.xdr_stream.specs.declared.holding.Held.{Held}
 use Rattle.xdr_stream.specs.Sees.{Built}
 use Rattle.xdr_stream.specs.Represents.{StandsAs, IsWaiting}

@@ -19,12 +19,13 @@ use Rattle.xdr_laws.proofs.Legal.{is_legal_of, bytes_are, are_bytes_of}
 use Rattle.xdr_laws.proofs.Known.{bytes4}
 use Rattle.xdr_laws.proofs.Owed.{head_legal}
 use Rattle.xdr_stream.specs.Frames.{left_of, rest_of, onto, stack_of, dues}
-use Rattle.xdr_stream.specs.Trace.{Trace, IsOpen, leaf_in, open_in}
+use Rattle.xdr_stream.specs.Trace.{Trace, IsOpen}
+use Rattle.xdr_stream.specs.Private.Reported.{leaf_in, open_in}
 use Rattle.xdr_stream.specs.Taking.{IsWhy}
 use Rattle.xdr_stream.specs.Sees.{Sees, Reading, Built, BuiltInto, Makes, Ends}
 use Rattle.xdr_stream.specs.declared.fault.Reason.{Reason}
 use Rattle.xdr_stream.specs.declared.fault.Reason.TheVariants as reason
-use Rattle.xdr_stream.specs.declared.frame.Frame.{Frame}
+use Rattle.xdr_stream.specs.declared.machine.frame.Frame.{Frame}
 use Rattle.xdr_stream.specs.declared.machine.Awaits.TheVariants.{Next, Content}
 use Rattle.xdr_stream.proofs.Built.{built_leaf, built_open, into_start}
 use Rattle.xdr_stream.proofs.Reading.{reading_close, reading_unit, reading_length, reading_over, unit_due, Decides}

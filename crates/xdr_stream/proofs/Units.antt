@@ -23,8 +23,10 @@ use Rattle.xdr_laws.specs.Owed.{Rest}
 use Rattle.xdr_laws.proofs.Legal.{both, and, bytes_are, are_bytes_of}
 use Rattle.xdr_laws.proofs.GoesOn.{Fills, AreZeros, fill_zeros, zeros_fill}
 use Rattle.xdr_stream.specs.Frames.{dues}
-use Rattle.xdr_stream.specs.Trace.{Trace, Level, leaf_in, extend_in, content_in}
-use Rattle.xdr_stream.specs.Sees.{Sees, Reading, Built, BuiltInto, make_wide, are_zeros}
+use Rattle.xdr_stream.specs.Trace.{Trace, Level}
+use Rattle.xdr_stream.specs.Private.Reported.{leaf_in, extend_in, content_in}
+use Rattle.xdr_stream.specs.Sees.{Sees, Reading, Built, BuiltInto, make_wide}
+use Rattle.xdr_stream.specs.Private.Moves.{are_zeros}
 use Rattle.xdr_stream.specs.declared.machine.Awaits.TheVariants.{Next, Content, Wide, Low}
 use Rattle.xdr_stream.proofs.Built.{into_more, into_end}
 use Rattle.xdr_stream.proofs.Reading.{rest_due, reading_more, reading_last, reading_over}

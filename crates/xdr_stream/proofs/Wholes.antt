@@ -14,16 +14,18 @@ use Rattle.xdr_types.specs.Laws.{EachKindHasAValue, EachPartIsKnown}
 use Rattle.xdr_laws.specs.Owed.{Lead, UnitFirst, LengthFirst, FreeBytes, Silent, lead_of, HasUnit, IsLengthFirst}
 use Rattle.xdr_laws.proofs.Legal.{bytes_are, are_bytes_of}
 use Rattle.xdr_stream.specs.Frames.{left_of, rest_of, onto, stack_of, Begins}
-use Rattle.xdr_stream.specs.Trace.{Trace, HasRoom, content_in, extend_in}
-use Rattle.xdr_stream.specs.Sees.{Sees, IsReady, are_zeros}
-use Rattle.xdr_stream.specs.Sound.{IsSound, IsSoundAt, Starts, IsAwaited, Waits}
-use Rattle.xdr_stream.specs.Whole.{IsWhole, IsWholeAt}
-use Rattle.xdr_stream.specs.declared.frame.Frame.{Frame}
+use Rattle.xdr_stream.specs.Trace.{Trace}
+use Rattle.xdr_stream.specs.Private.Reported.{HasSpace, content_in, extend_in}
+use Rattle.xdr_stream.specs.Sees.{Sees, IsReady}
+use Rattle.xdr_stream.specs.Private.Moves.{are_zeros}
+use Rattle.xdr_stream.specs.Private.Sound.{IsSound, IsSoundAt, Starts, IsAwaited, Waits}
+use Rattle.xdr_stream.specs.Private.Whole.{IsWhole, IsWholeAt}
+use Rattle.xdr_stream.specs.declared.machine.frame.Frame.{Frame}
 use Rattle.xdr_stream.specs.declared.machine.Awaits.{Awaits}
 use Rattle.xdr_stream.specs.declared.machine.Awaits.TheVariants.{Next, Content, Wide, Low}
 use Rattle.xdr_stream.specs.declared.reader.State.{State}
 use Rattle.xdr_stream.specs.declared.reader.State.TheVariants.{Fresh, Reading, Finished, Failed}
-use Rattle.xdr_stream.specs.declared.whole.Whole.{Whole}
+use Rattle.xdr_stream.specs.declared.runs.content.Whole.{Whole}
 use Rattle.xdr_stream.proofs.Built.{With, seen_space}
 use Rattle.xdr_stream.proofs.Seeing.{IsNext, next_ready}
 use Rattle.xdr_stream.proofs.Sounding.{known_rest, solid_known}
@@ -60,7 +62,7 @@ module _ (s : List KindView) (has : EachKindHasAValue s) (known : EachPartIsKnow
     (H I : Trace → Type 0) (work : Frame) (parents : List Frame) (q bytes : List ℕ) (w : Whole) where
   pub whole_seen : IsReady s l Next (stack_of work parents) → IsWholeAt s (left_of work) l (length q) bytes w
       → are_bytes (take w.all bytes) ≡ true
-      → ((a : Trace) → H a → HasRoom a → I (content_in (extend_in (take w.size (drop 4 bytes)) a)))
+      → ((a : Trace) → H a → HasSpace a → I (content_in (extend_in (take w.size (drop 4 bytes)) a)))
       → Sees s t l H Next (stack_of work parents) q
       → Sees s t l I Next (rest_of (left_of work) ∷ onto [] parents) (q ++ take w.all bytes)
   whole_seen ready d are reports r =
@@ -79,10 +81,10 @@ module _ (s : List KindView) (has : EachKindHasAValue s) (known : EachPartIsKnow
       let many : length u ≡ m = omega (arith, length-take m (drop 4 bytes), length-drop 4 bytes, e.there) in
       let first : take w.size u ≡ take w.size (drop 4 bytes) =
       take-take w.size m (drop 4 bytes) (omega (arith, e.least)) in
-      let reported : (a : Trace) → With H HasRoom a → I (content_in (extend_in (take w.size u) a)) = λ a h.
+      let reported : (a : Trace) → With H HasSpace a → I (content_in (extend_in (take w.size u) a)) = λ a h.
       subst (λ (z : List ℕ). I (content_in (extend_in z a))) (sym first) (reports a h.0 h.1) in
       let seen : Sees s t l I Next fs ((q ++ word w.size) ++ u) =
-      whole_content s has known t l fs (With H HasRoom) I u w.size (q ++ word w.size)
+      whole_content s has known t l fs (With H HasSpace) I u w.size (q ++ word w.size)
       (omega (arith, many, e.units, e.least)) (behind_bytes w.all bytes (omega (arith, e.least)) are)
       (omega (arith, many, e.least)) (omega (arith, many, e.most, e.least)) e.some
       (behind_zeros w.size w.all bytes e.least e.zeros)

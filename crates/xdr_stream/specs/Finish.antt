@@ -13,8 +13,8 @@ use Rattle.xdr_stream.specs.Represents.{Fails, RepresentsBytes}
 use Rattle.xdr_stream.specs.declared.fault.DecodeFault.{DecodeFault}
 use Rattle.xdr_stream.specs.declared.fault.Reason.TheVariants.{Truncated}
 use Rattle.xdr_stream.specs.declared.reader.Reader.{Reader}
-use Rattle.xdr_stream.specs.declared.checker.Nothing.{Nothing}
-use Rattle.xdr_stream.specs.declared.values.Values.{Values}
+use Rattle.xdr_stream.specs.declared.builder.nothing.Nothing.{Nothing}
+use Rattle.xdr_stream.specs.declared.builder.values.Values.{Values}
 
 -- a decoder's fields stand for these bytes, all that it was given up to the value's end
 abbrev pub Represents : Reader Values → (b : List ℕ) → Type 0

@@ -4,8 +4,8 @@ use Rattle.xdr_types.specs.Kinds.{Part}
 use Rattle.xdr_types.specs.KindViews.{part_of_member}
 use Rattle.xdr_types.specs.Fits.{item_part}
 use Rattle.xdr_laws.specs.Owed.{Due, Frame as Owes}
-use Rattle.xdr_stream.specs.declared.frame.Frame.{Frame}
-use Rattle.xdr_stream.specs.declared.frame.Frame.TheVariants.{Fields, Items, Arm}
+use Rattle.xdr_stream.specs.declared.machine.frame.Frame.{Frame}
+use Rattle.xdr_stream.specs.declared.machine.frame.Frame.TheVariants.{Fields, Items, Arm}
 
 -- the parts that a node at work has not begun
 abbrev pub left_of : Frame → List Part

@@ -8,12 +8,12 @@ use Rattle.xdr_types.specs.Outcome.{Outcome}
 use Rattle.xdr_laws.specs.Held.{Holds, node_count, byte_count}
 use Rattle.xdr_stream.specs.Values.{trace_of}
 use Rattle.xdr_stream.specs.Retained.{nodes_in, bytes_retained}
-use Rattle.xdr_stream.specs.declared.frame.Frame.{Frame}
+use Rattle.xdr_stream.specs.declared.machine.frame.Frame.{Frame}
 use Rattle.xdr_stream.specs.declared.holding.Held.{Held}
 use Rattle.xdr_stream.specs.declared.reader.Reader.{Reader}
 use Rattle.xdr_stream.specs.declared.reader.State.{State}
 use Rattle.xdr_stream.specs.declared.reader.State.TheVariants.{Fresh, Reading, Finished, Failed}
-use Rattle.xdr_stream.specs.declared.values.Values.{Values}
+use Rattle.xdr_stream.specs.declared.builder.values.Values.{Values}
 
 -- no fault came, and the value is not whole
 abbrev pub GoesOn : State → Type 0

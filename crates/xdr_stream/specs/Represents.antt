@@ -1,5 +1,6 @@
 -- Which bytes a reader has been given, and what its answers say of them.
 use Rattle.std.specs.Prelude.{◌≡◌, ℕ, ◌+◌, ◌<◌, ◌≤◌, List, [], ◌∷◌, ◌++◌, length, take, ⊤, Result, Ok, Err}
+use Rattle.std.specs.Prelude.{IfOk, IfErr}
 use Rattle.xdr_types.specs.Kinds.{KindView, Part, kind_at}
 use Rattle.xdr_types.specs.Tree.{Tree}
 use Rattle.xdr_types.specs.Within.{Bounds}
@@ -75,3 +76,15 @@ Answers kinds kind limits b piece (Ok More) = Outcome kinds kind limits (b ++ pi
 Answers kinds kind limits b piece (Ok (Done used)) =
     (v : Tree) × Outcome kinds kind limits (b ++ piece) (outcome.Whole v (length b + used))
 Answers kinds kind limits b piece (Err f) = Fails kinds kind limits f (b ++ piece)
+
+-- what an answer to a piece leaves: no more of the piece was used than it has, and the state says what was answered
+pub record Leaves {B : Type 0} (r : Reader B) (piece : List ℕ) (answer : Result Progress DecodeFault) : Type 0 where
+  pub used : IfOk answer (λ p. used_of p ≤ length piece)
+  pub more : IfOk answer (λ p. p ≡ More → IsWaiting r.state)
+  pub done : IfOk answer (λ p. (used : ℕ) → p ≡ Done used → r.state ≡ Finished)
+  pub failed : IfErr answer (λ f. r.state ≡ Failed f)
+
+-- an answer that was the last one comes again: nothing of a later piece is used after the value, a fault stays
+pub record Stays {B : Type 0} (r : Reader B) (answer : Result Progress DecodeFault) : Type 0 where
+  pub again : r.state ≡ Finished → answer ≡ Ok (Done 0)
+  pub for_ever : (f : DecodeFault) → r.state ≡ Failed f → answer ≡ Err f

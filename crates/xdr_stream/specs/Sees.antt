@@ -1,6 +1,6 @@
 -- What the fields of a reader stand for.
-use Rattle.std.specs.Prelude.{◌≡◌, ℕ, ◌+◌, ◌-◌, ◌%◌, ◌≤◌, ◌<◌, pos, negsuc, cond, nat_lt, Bool, true, false, ◌==◌}
-use Rattle.std.specs.Prelude.{◌&&◌, List, [], ◌∷◌, ◌++◌, length, ⊤, Option, Some, None}
+use Rattle.std.specs.Prelude.{◌≡◌, ℕ, ◌+◌, ◌-◌, ◌%◌, ◌≤◌, ◌<◌, pos, negsuc, cond, nat_lt, Bool, true, false}
+use Rattle.std.specs.Prelude.{List, [], ◌∷◌, ◌++◌, length, ⊤}
 use Rattle.std.specs.Int.{w64, from_be_bytes}
 use Rattle.std.specs.List.{AllByRecursion}
 use Rattle.xdr_types.specs.Kinds.{KindView, Part, kind_at}
@@ -12,7 +12,6 @@ use Rattle.xdr_types.specs.Spelling.{own, spelling}
 use Rattle.xdr_types.specs.Within.{Bounds}
 use Rattle.xdr_types.specs.Layout.{Entry}
 use Rattle.xdr_types.specs.Front.{Front}
-use Rattle.xdr_types.specs.Height.{height}
 use Rattle.xdr_types.specs.Outcome as outcome
 use Rattle.xdr_types.specs.Outcome.{IsReached, Outcome}
 use Rattle.xdr_laws.specs.Owed.{Due, Frame, Rest, lead_of, HasUnit, Reads, IsOnTrack, AllUpTo}
@@ -20,8 +19,6 @@ use Rattle.xdr_stream.specs.declared.fault.Reason.{Reason}
 use Rattle.xdr_stream.specs.declared.fault.Reason.TheVariants as reason
 use Rattle.xdr_stream.specs.declared.machine.Awaits.{Awaits}
 use Rattle.xdr_stream.specs.declared.machine.Awaits.TheVariants.{Next, Content, Wide, Low}
-use Rattle.xdr_stream.specs.declared.machine.Trouble.{Trouble}
-use Rattle.xdr_stream.specs.declared.machine.Trouble.TheVariants.{TooDeep, NoMemory}
 use Rattle.xdr_stream.specs.Frames.{dues}
 use Rattle.xdr_stream.specs.Trace.{Level, Trace, IsOpen}
 
@@ -102,17 +99,6 @@ pub record Sees (kinds : List KindView) (kind : ℕ) (limits : Bounds) (H : Trac
   pub reported : H trace
   pub built : BuiltAs kinds kind awaits trace fs q
 
--- what was seen is seen still, when the nodes at work have changed so
-abbrev pub Follows : List KindView → (H : Trace → Type 0) → Awaits → List (List Part) → (I : Trace → Type 0) → Awaits
-    → List (List Part) → Type 0
-Follows kinds H a fs I b gs = (kind : ℕ) (limits : Bounds) (q : List ℕ) → Sees kinds kind limits H a fs q
-    → Sees kinds kind limits I b gs q
-
--- the root has its value
-abbrev pub EndsAs : Bool → List (List Part) → Type 0
-EndsAs true fs = fs ≡ [] ∷ []
-EndsAs false fs = ⊤
-
 -- a unit is needed, and no node that is due is too deep
 abbrev pub IsReady : List KindView → Bounds → Awaits → List (List Part) → Type 0
 IsReady kinds limits Next ((p ∷ ps) ∷ fs) = HasUnit (lead_of (kind_at kinds p.kind)) × (length fs + 1 ≤ limits.depth)
@@ -120,22 +106,6 @@ IsReady kinds limits Next _ = ⊥
 IsReady kinds limits (Content n) fs = 0 < n
 IsReady kinds limits (Wide signed) fs = ⊤
 IsReady kinds limits (Low signed x) fs = ⊤
-
--- a node that is due is too deep
-abbrev pub GoesDeep : List KindView → Bounds → (H : Trace → Type 0) → List (List Part) → Trouble → Type 0
-GoesDeep kinds limits H fs TooDeep = (kind : ℕ) (q rest : List ℕ) → Sees kinds kind limits H Next fs q
-    → Outcome kinds kind limits (q ++ rest) (outcome.TooDeep (length q))
-GoesDeep kinds limits H fs NoMemory = ⊤
-
--- the reason that it is
-abbrev pub reason_of : Trouble → Reason
-reason_of TooDeep = reason.TooDeep
-reason_of NoMemory = reason.NoMemory
-
--- the height of what comes next, and one more
-abbrev pub next_height : List KindView → List Part → ℕ
-next_height kinds [] = 0
-next_height kinds (p ∷ ps) = height kinds p.kind + 1
 
 -- the outcome that a reason stands for, unless memory was refused
 abbrev pub Ends : List KindView → (kind : ℕ) → Bounds → Reason → (b : List ℕ) → (p : ℕ) → Type 0
@@ -148,28 +118,3 @@ Ends kinds kind limits reason.TooDeep b p = Outcome kinds kind limits b (outcome
 Ends kinds kind limits reason.TooLarge b p = Outcome kinds kind limits b (outcome.TooLarge p)
 Ends kinds kind limits reason.Truncated b p = ⊥
 Ends kinds kind limits reason.NoMemory b p = ⊤
-
--- a unit is taken: where reading was ready for it, it is read
-abbrev pub TakesUnit : List KindView → (H : Trace → Type 0) → Awaits → List (List Part) → (I : Trace → Type 0) → Awaits
-    → List (List Part) → (unit : List ℕ) → Type 0
-TakesUnit kinds H a fs I b gs u =
-    (kind : ℕ) (limits : Bounds) (q : List ℕ) → IsReady kinds limits a fs → (length q ≡ limits.bytes → ⊥)
-    → Sees kinds kind limits H a fs q → Sees kinds kind limits I b gs (q ++ u)
-
--- or refused
-abbrev pub RefusesUnit : List KindView → (H : Trace → Type 0) → Awaits → List (List Part) → (unit : List ℕ) → Reason
-    → Type 0
-RefusesUnit kinds H a fs u e =
-    (kind : ℕ) (limits : Bounds) (q rest : List ℕ) → IsReady kinds limits a fs → (length q ≡ limits.bytes → ⊥)
-    → Sees kinds kind limits H a fs q → Ends kinds kind limits e (q ++ (u ++ rest)) (length q)
-
--- where nothing more takes no byte: the value is whole, or a unit is needed
-abbrev pub Settles : List KindView → (kind : ℕ) → Bounds → (H : Trace → Type 0) → List (List Part) → (q : List ℕ)
-    → Option Awaits → Type 0
-Settles kinds kind limits H fs q None = (fs ≡ [] ∷ []) × Sees kinds kind limits H Next fs q
-Settles kinds kind limits H fs q (Some a) = Sees kinds kind limits H a fs q × IsReady kinds limits a fs
-
--- each is zero
-abbrev pub are_zeros : List ℕ → Bool
-are_zeros [] = true
-are_zeros (b ∷ bs) = b == 0 && are_zeros bs

@@ -1,17 +1,9 @@
 -- Which kinds take no memory while their values are read.
-use Rattle.std.specs.Prelude.{◌≡◌, ℕ, List, [], ◌∷◌, ⊤}
+use Rattle.std.specs.Prelude.{⊤}
 use Rattle.xdr_types.specs.Kinds as xdr
-use Rattle.xdr_types.specs.Kinds.{KindView, Part, kind_at}
-use Rattle.xdr_types.specs.Within.{Bounds}
-use Rattle.xdr_types.specs.Tree as value
-use Rattle.xdr_stream.specs.Trace as trace
-use Rattle.xdr_stream.specs.Trace.{Trace}
-use Rattle.xdr_stream.specs.Sees.{Sees}
+use Rattle.xdr_types.specs.Kinds.{KindView}
 use Rattle.xdr_stream.specs.declared.fault.Reason.{Reason}
 use Rattle.xdr_stream.specs.declared.fault.Reason.TheVariants as reason
-use Rattle.xdr_stream.specs.declared.machine.Awaits.{Awaits}
-use Rattle.xdr_stream.specs.declared.values.Level.{Level}
-use Rattle.xdr_stream.specs.declared.values.Level.TheVariants.{Root, Items, Fields, Choice, Maybe}
 
 -- A value of the kind is read without memory (RFC 4506 sections 4.1 to 4.11, 4.16): it has no parts, so that no node
 -- opens, and what content it has is spared, which no builder of values does.
@@ -52,26 +44,3 @@ Spares spares k reason.TooDeep = ⊤
 Spares spares k reason.TooLarge = ⊤
 Spares spares k reason.Truncated = ⊤
 Spares spares k reason.NoMemory = TakesNone spares k → ⊥
-
--- where reading stands so, the root's kind spares this reason
-abbrev pub SparesSeen : (spares : Type 0) → List KindView → Bounds → (H : Trace → Type 0) → Awaits → List (List Part)
-    → Reason → Type 0
-SparesSeen spares kinds limits H a fs why =
-    (kind : ℕ) (q : List ℕ) → Sees kinds kind limits H a fs q → Spares spares (kind_at kinds kind) why
-
-abbrev pub IsAloneIn : List trace.Level → Type 0
-IsAloneIn [] = ⊥
-IsAloneIn (l ∷ []) = l.head ≡ value.nothing
-IsAloneIn (l ∷ m ∷ ls) = ⊥
-
--- no node is at work but what stands around the root
-abbrev pub IsAlone : Trace → Type 0
-IsAlone t = IsAloneIn t.levels
-
--- and so in code
-abbrev pub IsRoot : Level → Type 0
-IsRoot (Root part) = ⊤
-IsRoot (Items count items) = ⊥
-IsRoot (Fields items) = ⊥
-IsRoot (Choice tag part) = ⊥
-IsRoot (Maybe part) = ⊥

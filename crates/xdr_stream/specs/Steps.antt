@@ -4,8 +4,8 @@ use Rattle.xdr_types.specs.Kinds as xdr
 use Rattle.xdr_types.specs.Kinds.{KindView}
 use Rattle.xdr_types.specs.KindViews.{part_of_member}
 use Rattle.xdr_laws.specs.Owed.{lead_of, HasUnit}
-use Rattle.xdr_stream.specs.declared.step.Step.{Step}
-use Rattle.xdr_stream.specs.declared.step.Step.TheVariants.{Unit, Fields, Items, Wide, Content, Void}
+use Rattle.xdr_stream.specs.declared.machine.step.Step.{Step}
+use Rattle.xdr_stream.specs.declared.machine.step.Step.TheVariants.{Unit, Fields, Items, Wide, Content, Void}
 
 -- a kind begins with a unit, with its parts, with free bytes or with nothing (RFC 4506 sections 4.1 to 4.19)
 abbrev pub IsStep : KindView → Step → Type 0

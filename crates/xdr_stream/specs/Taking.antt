@@ -11,8 +11,8 @@ use Rattle.xdr_stream.specs.Nodes.{head_of_leaf, head_of_node}
 use Rattle.xdr_stream.specs.Frames.{left_of}
 use Rattle.xdr_stream.specs.declared.fault.Reason.{Reason}
 use Rattle.xdr_stream.specs.declared.fault.Reason.TheVariants as reason
-use Rattle.xdr_stream.specs.declared.number.Made.{Made}
-use Rattle.xdr_stream.specs.declared.number.Made.TheVariants.{Leaf, Open, Length}
+use Rattle.xdr_stream.specs.declared.machine.number.Made.{Made}
+use Rattle.xdr_stream.specs.declared.machine.number.Made.TheVariants.{Leaf, Open, Length}
 
 -- the reason is this one
 abbrev pub IsWhy : Reason → Why → Type 0

@@ -1,65 +1,18 @@
-//! Reading without a value.
-ghost use Rattle.std.specs.Prelude.{⊤, ◌<◌, [], length};
-ghost use Rattle.xdr_stream.specs.Held.{GoesOn};
+//! Bytes in pieces, judged without a value.
+ghost use Rattle.std.specs.Prelude.{◌≡◌, ◌<◌, ℕ, List, [], length, Err, IfErr, IsOk};
+ghost use Rattle.xdr_stream.specs.declared.fault.Reason.TheVariants.{NoMemory};
 ghost use Rattle.xdr_stream.specs.Finish.{Checks, IsStarted};
+ghost use Rattle.xdr_stream.specs.Held.{GoesOn};
+ghost use Rattle.xdr_stream.specs.Checked.{Counts};
+ghost use Rattle.xdr_stream.specs.declared.reader.State.TheVariants.{Failed, Finished};
 
-use crate::build::{Build, Leaf, Node};
-use crate::fresh::fresh;
-use crate::reader::Reader;
-use std::alloc::{AllocError, Global};
+use crate::builder::nothing::Nothing;
+use crate::decoder::{finish_empty, truncated, unfinished};
+use crate::fault::DecodeFault;
+use crate::reader::start::fresh;
+use crate::reader::{Reader, State};
+use std::alloc::Global;
 use xdr_types::{KindId, Limits, Schema};
-
-/// Makes nothing of the nodes.
-#[derive(Clone, Copy)]
-pub struct Nothing;
-
-impl Build for Nothing {
-    ghost reports = { λ _ _. ⊤ };
-
-    ghost spares = { ⊤ };
-
-    #[inline(always)]
-    fn leaf(&mut self, _: Leaf) -> Result<(), AllocError> {
-        Ok(())
-    }
-
-    fn numbers(&mut self, _: bool, _: &[u8]) -> Result<(), AllocError> {
-        Ok(())
-    }
-
-    fn hypers(&mut self, _: bool, _: &[u8]) -> Result<(), AllocError> {
-        Ok(())
-    }
-
-    #[inline(always)]
-    fn open(&mut self, _: Node) -> Result<(), AllocError> {
-        Ok(())
-    }
-
-    #[inline(always)]
-    fn close(&mut self) -> Result<(), AllocError> {
-        Ok(())
-    }
-
-    #[inline(always)]
-    fn extend(&mut self, _: &[u8]) -> Result<(), AllocError> {
-        Ok(())
-    }
-
-    #[inline(always)]
-    fn content(&mut self) -> Result<(), AllocError> {
-        Ok(())
-    }
-
-    #[inline(always)]
-    fn whole(&mut self, _: &[u8]) -> Result<(), AllocError> {
-        Ok(())
-    }
-
-    fn trim(&mut self) {}
-
-    fn clear(&mut self) {}
-}
 
 /// A checker that has been given no byte.
 pub fn check<'s>(
@@ -74,4 +27,41 @@ pub fn check<'s>(
     ensures open { GoesOn result.state }
 {
     fresh(alloc, schema, kind, limits, Nothing)
+}
+
+/// How many bytes the value has that they encode. A fault of an earlier call comes again; where the value is not whole,
+/// it is `Truncated` at the count of bytes given. Before any `feed` it answers as after an empty piece. It takes no
+/// memory.
+/// The reader's fields stand for the bytes that it was given.
+pub fn finish_check<'s>(reader: Reader<'s, Nothing>) -> Result<u32, DecodeFault>
+    requires given { ∥ ((b : List ℕ) × Checks reader b) ∥₁ }
+    ensures answer { (b : List ℕ) → Checks reader.entry b
+        → Counts reader.entry.schema.now.kinds reader.entry.kind.place reader.entry.limits b result }
+    ensures for_ever { (f : DecodeFault) → reader.entry.state ≡ Failed f → result ≡ Err f }
+    ensures whole { reader.entry.state ≡ Finished → IsOk result }
+    ensures granted { IfErr result (λ f. f.why ≡ NoMemory → reader.entry.state ≡ Failed f) }
+{
+    let limits = reader.limits;
+    let _in_range = limits.depth();
+    let at = reader
+        .read
+        .saturating_add(unfinished(&reader.unit, reader.pending));
+    match reader.state {
+        State::Failed(fault) => Err(fault),
+        State::Finished => Ok(reader.read as u32),
+        State::Reading(_) => Err(truncated(at)),
+        State::Fresh => count_empty(reader.schema, reader.kind, limits),
+    }
+}
+
+// How many bytes the value has that no bytes are, of a kind that the schema has.
+fn count_empty(schema: &Schema, kind: KindId, limits: Limits) -> Result<u32, DecodeFault>
+    requires { kind.place < length schema.now.kinds }
+    ensures answer { Counts schema.now.kinds kind.place limits [] result }
+    ensures granted { IfErr result (λ f. f.why ≡ NoMemory → ⊥) }
+{
+    match finish_empty(schema, kind, limits) {
+        Ok(_) => Ok(0),
+        Err(fault) => Err(fault),
+    }
 }

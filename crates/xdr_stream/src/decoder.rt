@@ -5,11 +5,12 @@ ghost use Rattle.xdr_stream.specs.Finish.{Represents, Finishes, IsStarted};
 ghost use Rattle.xdr_stream.specs.declared.fault.Reason.TheVariants.{Truncated, NoMemory};
 ghost use Rattle.xdr_stream.specs.declared.reader.State.TheVariants.{Failed, Finished};
 
+use crate::builder::level::root_of;
+use crate::builder::values::Values;
 use crate::fault::{DecodeFault, Reason};
-use crate::first::is_deep;
-use crate::fresh::fresh;
+use crate::reader::due::is_deep;
+use crate::reader::start::fresh;
 use crate::reader::{Reader, State};
-use crate::values::{Values, root_of};
 use std::alloc::Global;
 use xdr_types::{Kind, KindId, Limits, Schema, Value};
 
@@ -42,7 +43,7 @@ pub fn finish<'s>(reader: Reader<'s, Values>) -> Result<Value, DecodeFault>
     let schema = reader.schema;
     let kind = reader.kind;
     let limits = reader.limits;
-    let _range = limits.depth();
+    let _in_range = limits.depth();
     let at = reader
         .read
         .saturating_add(unfinished(&reader.unit, reader.pending));
@@ -88,7 +89,7 @@ pub(crate) fn finish_empty(
     ensures granted { IfErr result (λ f. f.why ≡ NoMemory → ⊥) }
 {
     let _known = schema.len();
-    let _range = limits.depth();
+    let _in_range = limits.depth();
     if let Kind::Nothing = schema.kind(kind) {
         return Ok(Value::Nothing);
     }

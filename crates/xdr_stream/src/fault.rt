@@ -2,6 +2,7 @@
 ghost use Rattle.std.specs.Prelude.{◌≡◌};
 ghost use Rattle.xdr_stream.specs.Reasons.{reason_number};
 
+use std::alloc::AllocError;
 use thiserror::Error;
 
 /// Why bytes are not the encoding of a value (RFC 4506 sections 3 and 4).
@@ -34,6 +35,17 @@ pub enum Reason {
     /// Memory was refused.
     #[error("out of memory")]
     NoMemory,
+}
+
+impl From<AllocError> for Reason {
+    ghost use Rattle.std.specs.Prelude.{◌≡◌};
+    ghost use Rattle.xdr_stream.specs.declared.fault.Reason.TheVariants.{NoMemory};
+
+    ghost from_gives = { λ _ e. e ≡ NoMemory };
+
+    fn from(_: AllocError) -> Reason {
+        Reason::NoMemory
+    }
 }
 
 impl Reason {

@@ -6,10 +6,10 @@ ghost use Rattle.xdr_stream.specs.Held.{Counts, IsCount, IsDue, IsWithin, IsWhol
 ghost use Rattle.xdr_stream.specs.Held.{pending_at};
 ghost use Rattle.xdr_stream.specs.declared.reader.State.TheVariants.{Finished};
 
-use crate::build::Build;
-use crate::checker::Nothing;
+use crate::builder::Build;
+use crate::builder::nothing::Nothing;
+use crate::builder::values::Values;
 use crate::reader::{Reader, State};
-use crate::values::Values;
 
 /// How much a reader holds.
 #[derive(Clone, Copy, Debug, PartialEq, Eq)]
@@ -76,7 +76,7 @@ pub fn held_by_decoder(reader: &Reader<'_, Values>) -> Held
         → IsWhole reader.now.schema.now.kinds reader.now.kind.place reader.now.limits b result }
 {
     let _known = reader.schema.len();
-    let _range = reader.limits.depth();
+    let _in_range = reader.limits.depth();
     Held {
         frames: frames_of(reader),
         nodes: nodes_of(reader),
@@ -94,7 +94,7 @@ pub fn held_by_checker(reader: &Reader<'_, Nothing>) -> Held
         → GoesOn reader.now.state → result.pending ≡ length b % 4 }
 {
     let _known = reader.schema.len();
-    let _range = reader.limits.depth();
+    let _in_range = reader.limits.depth();
     Held {
         frames: frames_of(reader),
         nodes: 0,

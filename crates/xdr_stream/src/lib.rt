@@ -1,36 +1,25 @@
 //! A decoder of XDR that reads unit by unit and keeps no input.
 //!
-//! - `reader`: where reading stands. `fresh`: before any byte. `feeding`: pieces of bytes. `part`: what comes first at
-//!   a part. `whole`: content that is there whole. `run`: numbers one after another.
-//! - `machine`: how reading goes on, whatever is made of the nodes. `unit`: a whole unit. `number`: what the first unit
-//!   of a value makes. `step`: how a value of a kind begins. `frame`: a node at work. `first`: what is due before any
-//!   byte.
-//! - `build`: what is made of the nodes. `values`: a value. `checker`: nothing.
-//! - `decoder`, `checked`: what the end of the bytes says. `holding`: what a reader holds. `fault`: why bytes are
-//!   refused.
+//! - `machine`: how reading goes on, whatever is made of the nodes. In it are `nodes`, `frame`, `step`, `unit` and
+//!   `number`.
+//! - `builder`: what is made of the nodes. In it are `values`, `level` and `nothing`.
+//! - `runs`: what comes next as bytes that are taken at once. In it are `numbers` and `content`.
+//! - `reader`: where reading stands. In it are `start`, `due`, `pieces`, `parts`, `many` and `settling`.
+//! - `decoder`: bytes in pieces as a value. `checker`: bytes in pieces, judged without a value.
+//! - `holding`: what a reader holds. `fault`: why bytes are refused.
 #![tactic(auto)]
 
-pub mod build;
-pub mod checked;
+mod builder;
 pub mod checker;
 pub mod decoder;
-pub mod fault;
-pub mod feeding;
-pub mod first;
-pub mod frame;
-pub mod fresh;
+mod fault;
 pub mod holding;
 pub mod machine;
-pub mod number;
-pub mod part;
-pub mod reader;
-pub mod run;
-pub mod step;
-pub mod unit;
-pub mod values;
-pub mod whole;
+mod reader;
+mod runs;
 
+pub use builder::nothing::Nothing;
+pub use builder::values::Values;
 pub use fault::{DecodeFault, Reason};
 pub use holding::Held;
 pub use reader::{Progress, Reader};
-pub use values::Values;

@@ -13,7 +13,7 @@ use Rattle.xdr_parts.specs.declared.part.Lent.{Lent}
 use Rattle.xdr_parts.specs.declared.part.Role.{Role}
 use Rattle.xdr_parts.specs.declared.part.Role.TheVariants.{Number, Flag, Length, Content, Group}
 use Rattle.xdr_show.specs.Line.{line_text}
-use Rattle.xdr_show.specs.Lines.{node_text}
+use Rattle.xdr_show.specs.Private.Lines.{node_text}
 
 -- a number of the kind, of one unit or of two (RFC 4506 sections 4.1 to 4.5, 4.15)
 abbrev pub number_shown : List KindView → KindView → (bytes : List ℕ) → Head

@@ -25,5 +25,5 @@ returns-clause-taken c =
     ≡ 0 ∷ 0 ∷ 0 ∷ 3 ∷ 97 ∷ 98 ∷ 99 ∷ 0 ∷ 42 ∷ [] = rw c.requires.kind refl in
     let fit : FitsWithin S place c.args.limits t = rw c.requires.kind
     (refl, (c.requires.depth, omega (arith, c.requires.limit))) in
-    only_memory S place c.args.limits c.decode.result c.args.input.now t (42 ∷ []) c.decode.ensures.refused fit
+    only_memory S place c.args.limits c.decode.result c.args.input.now t (42 ∷ []) c.decode.ensures.refusal.refused fit
     (bytes ∙ sym c.requires.input)

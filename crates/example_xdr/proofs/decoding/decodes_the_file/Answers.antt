@@ -25,5 +25,5 @@ returns-clause-taken c =
     let bytes : bytes_of c.args.schema.now.kinds 6 sillyprog ++ [] ≡ sillyprog_bytes =
     ap (λ (k : List KindView). bytes_of k 6 sillyprog ++ []) c.requires.kinds in
     only_memory c.args.schema.now.kinds 6 c.args.limits c.decode.result c.args.input.now sillyprog []
-    c.decode.ensures.refused fit
+    c.decode.ensures.refusal.refused fit
     (bytes ∙ sym c.requires.input)

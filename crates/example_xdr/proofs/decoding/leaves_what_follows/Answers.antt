@@ -14,4 +14,4 @@ returns-clause-taken c =
     let fit : FitsWithin S place c.args.limits (content []) = rw c.requires.kind
     (refl, (c.requires.depth, c.requires.limit)) in
     only_memory S place c.args.limits c.decode.result (0 ∷ 0 ∷ 0 ∷ 0 ∷ 0 ∷ 0 ∷ 0 ∷ 42 ∷ []) (content [])
-    (0 ∷ 0 ∷ 0 ∷ 42 ∷ []) c.decode.ensures.refused fit bytes
+    (0 ∷ 0 ∷ 0 ∷ 42 ∷ []) c.decode.ensures.refusal.refused fit bytes

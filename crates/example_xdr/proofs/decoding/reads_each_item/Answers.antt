@@ -18,4 +18,4 @@ returns-clause-taken c =
     let fit : FitsWithin S place c.args.limits two = rw (c.requires.kind, c.requires.item)
     (refl, (c.requires.depth, c.requires.limit)) in
     only_memory S place c.args.limits c.decode.result (0 ∷ 0 ∷ 0 ∷ 7 ∷ 0 ∷ 0 ∷ 0 ∷ 8 ∷ 0 ∷ 0 ∷ 0 ∷ 9 ∷ []) two
-    (0 ∷ 0 ∷ 0 ∷ 9 ∷ []) c.decode.ensures.refused fit bytes
+    (0 ∷ 0 ∷ 0 ∷ 9 ∷ []) c.decode.ensures.refusal.refused fit bytes

@@ -15,4 +15,4 @@ returns-clause-second c =
     (one.represents [] c.start-decoder.ensures.represents) in
     let after = subst (λ (p : Progress). RepresentsBytes c.feed-2.new.self (first ++ taken second (Ok p)))
     c.in-Ok-More-feed.field-0-is (two.represents first before) in
-    c.held.ensures.pending (first ++ second) after (two.open c.in-Ok-More-feed.field-0-is)
+    c.held.ensures.pending (first ++ second) after (two.leaves.goes_on c.in-Ok-More-feed.field-0-is)

@@ -34,7 +34,7 @@ returns c =
     let b : List ℕ = take used input in
     let represents : RepresentsBytes n b = subst (λ (p : Progress). RepresentsBytes n ([] ++ taken input (Ok p)))
     c.in-Ok-Done.field-0-is (done.represents [] c.start-decoder.ensures.represents) in
-    let w = c.held.ensures.whole b represents (done.done used c.in-Ok-Done.field-0-is) in
+    let w = c.held.ensures.whole b represents (done.leaves.done used c.in-Ok-Done.field-0-is) in
     let s = kinds_of n in
     let t : ℕ = (kind_of n).place in
     let kind : kind_at s t ≡ opaque_up_to 4294967295 =

@@ -29,7 +29,7 @@ returns c =
     let h : Held = c.held-2.result in
     let represents : RepresentsBytes n input = subst (λ (p : Progress). RepresentsBytes n ([] ++ taken input (Ok p)))
     c.in-Ok-More.field-0-is (more.represents [] c.start-decoder.ensures.represents) in
-    let w = c.held-2.ensures.due input represents (more.more c.in-Ok-More.field-0-is) in
+    let w = c.held-2.ensures.due input represents (more.leaves.more c.in-Ok-More.field-0-is) in
     let few = c.held-2.ensures.bounds input represents in
     let s = kinds_of n in
     let t : ℕ = (kind_of n).place in

@@ -56,7 +56,7 @@ returns-clause-value c =
     (([] ++ taken c.args.first.now (Ok p)) ++ taken c.args.second.now (Ok q)) c.finish.result end
     (λ v fits reported. joined d.reader.schema.now.kinds d.reader.kind.place d.reader.limits sillyprog v c.args.first.now
     c.args.second.now p q
-    (λ used is. let again = c.feed-2.ensures.again (c.in_ok-feed.ensures.done used is) in let same : q
+    (λ used is. let again = c.feed-2.ensures.stays.again (c.in_ok-feed.ensures.leaves.done used is) in let same : q
     ≡ Done 0 = cc (again, c.in_ok-feed-2.was) in same)
     fit fits reported (bytes ∙ sym c.requires.input))
 
@@ -103,7 +103,7 @@ returns-in_err-feed-2-clause-taken c =
     (one.limits_are ∙ set.limits_are) (c.feed-2.ensures.answer ([] ++ taken first (Ok p)) represents) in
     let reported : IfErr r (λ f. f.why ≡ NoMemory) =
     waits_second file_kinds 6 l first second sillyprog p r
-    (λ used is. c.feed-2.ensures.again (c.in_ok-feed.ensures.done used is)) fit whole answer in
+    (λ used is. c.feed-2.ensures.stays.again (c.in_ok-feed.ensures.leaves.done used is)) fit whole answer in
     let why : c.in_err-feed-2.field-0.0.why ≡ NoMemory =
     subst (λ (x : Result Progress DecodeFault). IfErr x (λ f. f.why ≡ NoMemory)) c.in_err-feed-2.was reported in
     let p = err_from_is_err_and c.from_residual-in_err-feed-2.result c.from_residual-in_err-feed-2.ensures.1 in
@@ -137,6 +137,6 @@ returns-clause-taken c =
     (ap (λ (k : KindId). k.place) (two.kind_is ∙ one.kind_is ∙ set.kind_is))
     (two.limits_are ∙ one.limits_are ∙ set.limits_are) (c.finish.ensures.answer both after) in
     ended_whole file_kinds 6 l sillyprog first second p q
-    (λ used is. let again = c.feed-2.ensures.again (c.in_ok-feed.ensures.done used is) in let same : q
+    (λ used is. let again = c.feed-2.ensures.stays.again (c.in_ok-feed.ensures.leaves.done used is) in let same : q
     ≡ Done 0 = cc (again, c.in_ok-feed-2.was) in same)
     fit whole answer c.finish.result end

@@ -5,9 +5,9 @@ pub returns-clause-failed : goal.returns-clause-failed
 returns-clause-failed c =
     search (
       rules,
-      c.feed.ensures.failed,
-      c.feed-2.ensures.for_ever,
-      c.feed-2.ensures.failed,
+      c.feed.ensures.leaves.failed,
+      c.feed-2.ensures.stays.for_ever,
+      c.feed-2.ensures.leaves.failed,
       c.err.ensures,
       c.err-2.ensures,
       c.in_ok-fault,
@@ -20,8 +20,8 @@ pub returns-clause-same : goal.returns-clause-same
 returns-clause-same c =
     search (
       rules,
-      c.feed.ensures.failed,
-      c.feed-2.ensures.for_ever,
+      c.feed.ensures.leaves.failed,
+      c.feed-2.ensures.stays.for_ever,
       c.err.ensures,
       c.err-2.ensures,
       c.in_ok-fault,

@@ -24,7 +24,7 @@ returns-clause-answer c =
     subst (λ (n : ℕ). IfOk c.feed.result (λ (p : Progress). p ≡ Done n)) (ap length four)
     (done_at S d.reader.kind.place d.reader.limits (0 ∷ 0 ∷ 0 ∷ 0 ∷ 0 ∷ 0 ∷ 0 ∷ 42 ∷ []) (content [])
     (0 ∷ 0 ∷ 0 ∷ 42 ∷ []) fit bytes
-    c.feed.result (c.feed.ensures.answer [] c.start-decoder.ensures.represents) c.feed.ensures.used)
+    c.feed.result (c.feed.ensures.answer [] c.start-decoder.ensures.represents) c.feed.ensures.leaves.used)
 
 pub returns-clause-fault : goal.returns-clause-fault
 returns-clause-fault c =

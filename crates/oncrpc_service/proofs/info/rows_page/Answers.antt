@@ -16,7 +16,7 @@ returns-clause-reported c =
     let ends = rw (c.in_ok-schema.ensures.schema, c.list_kind.ensures, c.dump_limits.ensures)
     at c.in-Err.ensures.fault in
     let none = rw (c.in_ok-schema.ensures.schema, c.list_kind.ensures, c.dump_limits.ensures)
-    at c.in-Err.ensures.refused in
+    at c.in-Err.ensures.refusal.refused in
     if_ok c.refusal_page.result
     (λ p reported. reported_refusal c.args.vers c.args.results.now c.in-Err.fault p.status p.text.items ends none
-    c.in-Err.ensures.place c.in-Err.ensures.truncated reported) c.refusal_page.ensures.reported
+    c.in-Err.ensures.refusal.place c.in-Err.ensures.refusal.truncated reported) c.refusal_page.ensures.reported

@@ -19,7 +19,7 @@ returns-in-Ok-Done-clause-says c = λ q bytes f bounds count.
 pub returns-in-Ok-Done-2-clause-says : goal.returns-in-Ok-Done-2-clause-says
 returns-in-Ok-Done-2-clause-says c = λ q bytes f bounds count.
     done q c.args.checker.now c.feed.new.self bytes c.args.piece.now f c.feed.ensures.same bounds.units
-    c.feed.result _ c.in-Ok-Done.used _ c.in-Ok-Done.is c.in-Ok-Done.field-0-is c.feed.ensures.used (omega arith)
+    c.feed.result _ c.in-Ok-Done.used _ c.in-Ok-Done.is c.in-Ok-Done.field-0-is c.feed.ensures.leaves.used (omega arith)
     (omega (arith, count)) (c.feed.ensures.represents bytes f.represents) (c.feed.ensures.outcome bytes f.represents)
 
 pub returns-in-Err-2-clause-says : goal.returns-in-Err-2-clause-says

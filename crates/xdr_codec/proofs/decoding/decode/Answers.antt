@@ -14,7 +14,7 @@ returns-in-Ok-clause-outcome c =
     let done = c.in-Ok-Done.ensures in
     let represents = subst (λ (p : Progress). RepresentsBytes c.feed.new.self ([] ++ taken input (Ok p))) c.in-Ok-Done.field-0-is
     (done.represents [] c.start-decoder.ensures.represents) in
-    let low : used ≤ length input = subst (λ (p : Progress). used_of p ≤ length input) c.in-Ok-Done.field-0-is done.used
+    let low : used ≤ length input = subst (λ (p : Progress). used_of p ≤ length input) c.in-Ok-Done.field-0-is done.leaves.used
     in
     given c.args.schema.now c.args.kind c.args.limits c.start-decoder.result c.feed.new.self
     c.start-decoder.ensures.settings done.same input used low c.in-Ok.value
@@ -28,11 +28,11 @@ returns-in-Ok-clause-only c = λ t n fit most spelled.
     let done = c.in-Ok-Done.ensures in
     let represents = subst (λ (p : Progress). RepresentsBytes c.feed.new.self ([] ++ taken input (Ok p))) c.in-Ok-Done.field-0-is
     (done.represents [] c.start-decoder.ensures.represents) in
-    let low : used ≤ length input = subst (λ (p : Progress). used_of p ≤ length input) c.in-Ok-Done.field-0-is done.used
+    let low : used ≤ length input = subst (λ (p : Progress). used_of p ≤ length input) c.in-Ok-Done.field-0-is done.leaves.used
     in
     let o = given c.args.schema.now c.args.kind c.args.limits c.start-decoder.result c.feed.new.self
     c.start-decoder.ensures.settings done.same input used low c.in-Ok.value
     (c.in-Ok.ensures.outcome (take used input) represents) in
-    let units = c.depth-range.ensures.range.units in
+    let units = c.depth-in_range.ensures.range.units in
     alone s c.args.kind.place c.args.limits units input t (tree c.in-Ok.value) n used fit most spelled
     (whole s c.args.kind.place c.args.limits units input (tree c.in-Ok.value) used o)

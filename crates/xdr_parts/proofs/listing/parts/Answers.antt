@@ -4,7 +4,7 @@ use Rattle.xdr_parts.proofs.listing.parts.Goals as goal
 pub spelled_parts-requires : goal.spelled_parts-requires
 spelled_parts-requires c =
     let o = c.in-Ok.ensures.whole in
-    let range = c.depth-range.ensures.range in (
+    let range = c.depth-in_range.ensures.range in (
       o.0,
       spelled c.args.schema.now.kinds c.args.kind.place c.args.limits c.args.input.now o.0 c.in-Ok.used range.units
           range.most_depth o.1,
@@ -13,7 +13,7 @@ spelled_parts-requires c =
 pub returns-in-Ok-spelled_parts-clause-outcome : goal.returns-in-Ok-spelled_parts-clause-outcome
 returns-in-Ok-spelled_parts-clause-outcome c =
     let o = c.in-Ok.ensures.whole in
-    let range = c.depth-range.ensures.range in (
+    let range = c.depth-in_range.ensures.range in (
       o.0,
       c.in-Ok.used,
       o.1,

@@ -3,7 +3,7 @@ use Rattle.xdr_types.specs.KindViews.{part_of_member}
 use Rattle.xdr_types.specs.Fits.{fit, item_part}
 use Rattle.xdr_types.specs.Tree.{depth_of}
 use Rattle.xdr_types.specs.View.{values}
-use Rattle.xdr_show.specs.Lines.{lines}
+use Rattle.xdr_show.specs.Private.Lines.{lines}
 use Rattle.xdr_show.proofs.shown.+push.Given as goal
 
 abbrev pub invariant-push_items-loop-value : goal.invariant-push_items-loop-value

@@ -1,7 +1,7 @@
 use Rattle.std.proofs.Common.{◌≡◌, sym, ◌∙◌, rules}
 use Rattle.xdr_types.specs.View.{tree}
 use Rattle.xdr_types.specs.Fits.{item_part}
-use Rattle.xdr_show.specs.Lines.{value_lines}
+use Rattle.xdr_show.specs.Private.Lines.{value_lines}
 use Rattle.xdr_show.proofs.Joined.{show_is_lines}
 use Rattle.xdr_show.proofs.shown.show.Goals as goal
 

@@ -45,7 +45,7 @@ returns-in-Reading-clause-answer c = λ b st.
     (stack_of r.work r.parents.items) r.read r.unit r.pending c.in-Reading.field-0 b
     (subst (λ (x : State). StandsAs ⊥ r.schema.now.kinds r.kind.place r.limits (λ (t : Trace). Reports r.built t)
     (stack_of r.work r.parents.items) r.read r.unit r.pending x b) c.in-Reading.is st)
-    c.depth-range.ensures.range.units in
+    c.depth-in_range.ensures.range.units in
     finish_open r.schema.now.kinds r.kind.place r.limits c.truncated.result c.saturating_add-at.result b
     c.truncated.ensures
     (omega (
@@ -55,6 +55,6 @@ returns-in-Reading-clause-answer c = λ b st.
       c.unfinished.ensures.few,
       o.1,
       o.2,
-      c.depth-range.ensures.range.most_bytes,
+      c.depth-in_range.ensures.range.most_bytes,
     ))
     o.0

@@ -9,10 +9,10 @@ pub returns-clause-counts : goal.returns-clause-counts
 returns-clause-counts c = λ b st.
     let r = c.args.reader.now in
     let w = stored r.schema.now c.len-known.ensures.well_formed c.len-known.ensures.sound r.kind.place r.limits
-    c.depth-range.ensures.range ⊤ (λ (t : Trace). ⊤) (stack_of r.work r.parents.items) r.read r.unit
+    c.depth-in_range.ensures.range ⊤ (λ (t : Trace). ⊤) (stack_of r.work r.parents.items) r.read r.unit
     r.pending r.state b c.pending_of.ensures.space st in
     record {
-      frames = c.frames_of.ensures (parents_few r.state r.work r.parents.items r.limits c.depth-range.ensures.range
+      frames = c.frames_of.ensures (parents_few r.state r.work r.parents.items r.limits c.depth-in_range.ensures.range
           w.2.frames_are);
       nodes_are = refl;
       bytes_are = refl;
@@ -23,12 +23,12 @@ pub returns-clause-bounds : goal.returns-clause-bounds
 returns-clause-bounds c = λ b st.
     let r = c.args.reader.now in
     let w = stored r.schema.now c.len-known.ensures.well_formed c.len-known.ensures.sound r.kind.place r.limits
-    c.depth-range.ensures.range ⊤ (λ (t : Trace). ⊤) (stack_of r.work r.parents.items) r.read r.unit
+    c.depth-in_range.ensures.range ⊤ (λ (t : Trace). ⊤) (stack_of r.work r.parents.items) r.read r.unit
     r.pending r.state b c.pending_of.ensures.space st in
     record {
       frames = omega (
         arith,
-        c.frames_of.ensures (parents_few r.state r.work r.parents.items r.limits c.depth-range.ensures.range
+        c.frames_of.ensures (parents_few r.state r.work r.parents.items r.limits c.depth-in_range.ensures.range
             w.2.frames_are),
         frames_few r.state r.work r.parents.items r.limits.depth
             w.2.frames_are,

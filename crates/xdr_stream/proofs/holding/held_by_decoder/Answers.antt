@@ -14,12 +14,12 @@ pub returns-clause-counts : goal.returns-clause-counts
 returns-clause-counts c = λ b st.
     let r = c.args.reader.now in
     let w = stored r.schema.now c.len-known.ensures.well_formed c.len-known.ensures.sound r.kind.place r.limits
-    c.depth-range.ensures.range ⊥ (λ (t : Trace). Reports r.built t) (stack_of r.work r.parents.items) r.read r.unit
+    c.depth-in_range.ensures.range ⊥ (λ (t : Trace). Reports r.built t) (stack_of r.work r.parents.items) r.read r.unit
     r.pending r.state b c.pending_of.ensures.space st in
     let n = w.1.nodes (omega (arith, w.2.few)) in
     let below : r.built.nodes + 1 < 2 ^ 64 = omega (arith, n, w.2.few) in
     record {
-      frames = c.frames_of.ensures (parents_few r.state r.work r.parents.items r.limits c.depth-range.ensures.range
+      frames = c.frames_of.ensures (parents_few r.state r.work r.parents.items r.limits c.depth-in_range.ensures.range
           w.2.frames_are);
       nodes_are = c.nodes_of.ensures below ∙ ap (λ (m : ℕ). nodes_at r.state m) n
           ∙ ap (λ (t : Trace). nodes_at r.state (nodes_in t.levels)) (sym w.1.trace);
@@ -31,7 +31,7 @@ pub returns-clause-bounds : goal.returns-clause-bounds
 returns-clause-bounds c = λ b st.
     let r = c.args.reader.now in
     let w = stored r.schema.now c.len-known.ensures.well_formed c.len-known.ensures.sound r.kind.place r.limits
-    c.depth-range.ensures.range ⊥ (λ (t : Trace). Reports r.built t) (stack_of r.work r.parents.items) r.read r.unit
+    c.depth-in_range.ensures.range ⊥ (λ (t : Trace). Reports r.built t) (stack_of r.work r.parents.items) r.read r.unit
     r.pending r.state b c.pending_of.ensures.space st in
     let n = w.1.nodes (omega (arith, w.2.few)) in
     let below : r.built.nodes + 1 < 2 ^ 64 = omega (arith, n, w.2.few) in
@@ -39,7 +39,7 @@ returns-clause-bounds c = λ b st.
     record {
       frames = omega (
         arith,
-        c.frames_of.ensures (parents_few r.state r.work r.parents.items r.limits c.depth-range.ensures.range
+        c.frames_of.ensures (parents_few r.state r.work r.parents.items r.limits c.depth-in_range.ensures.range
             w.2.frames_are),
         frames_few r.state r.work r.parents.items r.limits.depth
             w.2.frames_are,
@@ -53,7 +53,7 @@ pub returns-clause-due : goal.returns-clause-due
 returns-clause-due c = λ b waits st.
     let r = c.args.reader.now in
     let w = stored r.schema.now c.len-known.ensures.well_formed c.len-known.ensures.sound r.kind.place r.limits
-    c.depth-range.ensures.range ⊥ (λ (t : Trace). Reports r.built t) (stack_of r.work r.parents.items) r.read r.unit
+    c.depth-in_range.ensures.range ⊥ (λ (t : Trace). Reports r.built t) (stack_of r.work r.parents.items) r.read r.unit
     r.pending r.state b c.pending_of.ensures.space st in
     let n = w.1.nodes (omega (arith, w.2.few)) in
     let below : r.built.nodes + 1 < 2 ^ 64 = omega (arith, n, w.2.few) in
@@ -68,7 +68,7 @@ returns-clause-whole c = λ b done st.
     let H : Trace → Type 0 = λ (t : Trace). Reports r.built t in
     let fs : List (List Part) = stack_of r.work r.parents.items in
     let w = stored r.schema.now c.len-known.ensures.well_formed c.len-known.ensures.sound r.kind.place r.limits
-    c.depth-range.ensures.range ⊥ H fs r.read r.unit r.pending r.state b c.pending_of.ensures.space st in
+    c.depth-in_range.ensures.range ⊥ H fs r.read r.unit r.pending r.state b c.pending_of.ensures.space st in
     let n = w.1.nodes (omega (arith, w.2.few)) in
     let below : r.built.nodes + 1 < 2 ^ 64 = omega (arith, n, w.2.few) in
     let at = subst (λ (x : State). StandsAs ⊥ r.schema.now.kinds r.kind.place r.limits H fs r.read r.unit r.pending x b)
@@ -78,7 +78,7 @@ returns-clause-whole c = λ b done st.
     record {
       value = v.0;
       outcome = v.1;
-      frames = c.frames_of.ensures (parents_few r.state r.work r.parents.items r.limits c.depth-range.ensures.range
+      frames = c.frames_of.ensures (parents_few r.state r.work r.parents.items r.limits c.depth-in_range.ensures.range
           w.2.frames_are)
           ∙ ap (λ (x : State). frames_at x r.parents.items) done;
       nodes = (let m = c.nodes_of.ensures below ∙ ap (λ (x : State). nodes_at x (r.built.nodes + 1)) done in

@@ -1,7 +1,7 @@
 use Rattle.std.proofs.Common.{◌≡◌, List, [], ◌∷◌, ap, ◌∙◌}
 use Rattle.xdr_types.specs.Kinds.{Part}
 use Rattle.xdr_stream.specs.Frames.{left_of, rest_of, onto}
-use Rattle.xdr_stream.specs.declared.frame.Frame.{Frame}
+use Rattle.xdr_stream.specs.declared.machine.frame.Frame.{Frame}
 use Rattle.xdr_stream.proofs.Frames.{onto_last}
 use Rattle.xdr_parts.proofs.walk.Walk.open.Goals as goal
 

@@ -7,7 +7,7 @@ use Rattle.xdr_laws.specs.Owed.{lead_of, HasUnit, role_of}
 use Rattle.xdr_laws.proofs.Content.{counted}
 use Rattle.xdr_stream.specs.Frames.{left_of, rest_of, onto}
 use Rattle.xdr_stream.specs.Taking.{Takes}
-use Rattle.xdr_stream.specs.declared.number.Made.{Made}
+use Rattle.xdr_stream.specs.declared.machine.number.Made.{Made}
 use Rattle.xdr_parts.specs.Lent.{size_in, role_in}
 use Rattle.xdr_parts.specs.Private.Walking.{HasWalked, IsNext, part_of}
 use Rattle.xdr_parts.specs.declared.next.Next.{Next}

@@ -2,9 +2,9 @@ use Rattle.std.proofs.Common.{List, sym, ap, subst}
 use Rattle.xdr_types.specs.Kinds.{Part}
 use Rattle.xdr_stream.specs.Frames.{stack_of}
 use Rattle.xdr_stream.specs.Sees.{Sees}
-use Rattle.xdr_stream.specs.Sound.{IsSoundAt}
+use Rattle.xdr_stream.specs.Private.Sound.{IsSoundAt}
 use Rattle.std.proofs.Common.{◌∙◌}
-use Rattle.xdr_stream.specs.declared.frame.Frame.{Frame}
+use Rattle.xdr_stream.specs.declared.machine.frame.Frame.{Frame}
 use Rattle.xdr_stream.specs.declared.machine.Awaits.TheVariants.{Next}
 use Rattle.xdr_stream.proofs.reader.Reader.end.Goals as goal
 

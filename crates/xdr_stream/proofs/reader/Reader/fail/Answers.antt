@@ -1,8 +1,8 @@
 use Rattle.std.proofs.Common.{List, [], sym, ap, subst}
 use Rattle.xdr_types.specs.Kinds.{Part}
 use Rattle.xdr_stream.specs.Frames.{onto}
-use Rattle.xdr_stream.specs.Sound.{AreAllSolid}
-use Rattle.xdr_stream.specs.declared.frame.Frame.{Frame}
+use Rattle.xdr_stream.specs.Private.Sound.{AreAllSolid}
+use Rattle.xdr_stream.specs.declared.machine.frame.Frame.{Frame}
 use Rattle.xdr_stream.proofs.reader.Reader.fail.Goals as goal
 
 pub invariant_of-self : goal.invariant_of-self

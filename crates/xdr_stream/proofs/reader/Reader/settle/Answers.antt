@@ -1,7 +1,8 @@
 use Rattle.std.proofs.Common.{ℕ, ◌++◌, length, subst, sym, arith}
 use Rattle.std.specs.Prelude.{Option}
 use Rattle.xdr_stream.specs.Frames.{stack_of}
-use Rattle.xdr_stream.specs.Sees.{Ends, Settles}
+use Rattle.xdr_stream.specs.Sees.{Ends}
+use Rattle.xdr_stream.specs.Private.Moves.{Settles}
 use Rattle.xdr_stream.specs.Spared.{Spares}
 use Rattle.xdr_types.specs.Kinds.{kind_at}
 use Rattle.xdr_stream.specs.declared.fault.Reason.{Reason}

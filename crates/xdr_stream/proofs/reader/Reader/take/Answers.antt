@@ -9,7 +9,7 @@ returns-in-Ok-clause-represents g c = λ q len none h ready small.
     let a = c.args.self.now in
     let next = c.in-Ok.ensures.taken a.kind.place a.limits q ready small h in
     let most : length q ≤ a.limits.bytes =
-    within_limit a.schema.now.kinds a.kind.place a.limits _ q c.depth-range.ensures.range.units h.reading in
+    within_limit a.schema.now.kinds a.kind.place a.limits _ q c.depth-in_range.ensures.range.units h.reading in
     let far : length (q ++ c.args.unit.now) ≡ c.saturating_add-self.result =
     omega (
       arith,
@@ -17,7 +17,7 @@ returns-in-Ok-clause-represents g c = λ q len none h ready small.
       c.take_unit.ensures.size,
       len,
       most,
-      c.depth-range.ensures.range.most_bytes,
+      c.depth-in_range.ensures.range.most_bytes,
       c.saturating_add-self.ensures,
     ) in
     c.settle.ensures.represents (q ++ c.args.unit.now) far none c.in-Ok.ensures.live next

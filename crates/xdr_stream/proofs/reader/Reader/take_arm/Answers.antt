@@ -5,10 +5,11 @@ use Rattle.std.proofs.lemmas.List.{length-append, length-take}
 use Rattle.xdr_types.specs.Kinds.{KindView, Part}
 use Rattle.xdr_types.specs.Fits.{are_bytes}
 use Rattle.xdr_stream.specs.Frames.{left_of, onto, stack_of}
-use Rattle.xdr_stream.specs.Trace.{Trace, HasRoom, content_in, extend_in}
+use Rattle.xdr_stream.specs.Trace.{Trace}
+use Rattle.xdr_stream.specs.Private.Reported.{HasSpace, content_in, extend_in}
 use Rattle.xdr_stream.specs.Sees.{Sees}
 use Rattle.xdr_stream.specs.Represents.{StandsAs, RepresentsBytes}
-use Rattle.xdr_stream.specs.Whole.{IsWholeAt}
+use Rattle.xdr_stream.specs.Private.Whole.{IsWholeAt}
 use Rattle.xdr_stream.specs.declared.machine.Awaits.TheVariants.{Next}
 use Rattle.xdr_stream.specs.declared.reader.State.{State}
 use Rattle.xdr_stream.proofs.Units.{bytes_taken}
@@ -41,7 +42,7 @@ returns-in-Ok-clause-represents g c = λ b state none st.
     let e = d.2 in
     let are : are_bytes u ≡ true = bytes_taken w.all c.args.bytes.now (λ i. omega (arith, c.type_inv.bytes i)) in
     let same : (4 + w.size) - 4 ≡ w.size = omega arith in
-    let reports : (x : Trace) → H x → HasRoom x
+    let reports : (x : Trace) → H x → HasSpace x
     → I (content_in (extend_in (take w.size (drop 4 c.args.bytes.now)) x)) = λ x h o.
     subst (λ (k : ℕ). I (content_in (extend_in (take k (drop 4 c.args.bytes.now)) x))) same
     (c.in-Ok.ensures.reported x h o) in
@@ -59,7 +60,7 @@ returns-in-Ok-clause-represents g c = λ b state none st.
       size,
       r.2,
       e.space,
-      c.depth-range.ensures.range.most_bytes,
+      c.depth-in_range.ensures.range.most_bytes,
       c.saturating_add-self.ensures,
     ) in
     let joined : q ++ u ≡ b ++ u = ap (λ (x : List ℕ). x ++ u)

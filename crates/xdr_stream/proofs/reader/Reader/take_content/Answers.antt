@@ -43,7 +43,7 @@ returns-in-Ok-clause-represents g c = λ b left sum state none space st.
       size,
       s.2,
       space,
-      c.depth-range.ensures.range.most_bytes,
+      c.depth-in_range.ensures.range.most_bytes,
       c.saturating_add-self.ensures,
     ) in
     let four : take c.args.n c.args.bytes.now ≡ u ++ c.unit_at.result =

@@ -21,7 +21,7 @@ returns-in-Ok-clause-represents g c = λ b state none st.
     let n : ℕ = c.take_whole.result in
     let next = c.in-Ok.ensures.taken a.kind.place a.limits q s.5 s.6 s.4 in
     let most : length q ≤ a.limits.bytes =
-    within_limit a.schema.now.kinds a.kind.place a.limits _ q c.depth-range.ensures.range.units s.4.reading in
+    within_limit a.schema.now.kinds a.kind.place a.limits _ q c.depth-in_range.ensures.range.units s.4.reading in
     let far : length (q ++ u) ≡ c.saturating_add-self.result =
     omega (
       arith,
@@ -29,7 +29,7 @@ returns-in-Ok-clause-represents g c = λ b state none st.
       c.take_unit.ensures.size,
       s.2,
       most,
-      c.depth-range.ensures.range.most_bytes,
+      c.depth-in_range.ensures.range.most_bytes,
       c.saturating_add-self.ensures,
     ) in
     let r : List ℕ = take (length c.args.bytes.now - 4) (drop 4 c.args.bytes.now) in

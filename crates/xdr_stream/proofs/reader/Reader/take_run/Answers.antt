@@ -9,13 +9,13 @@ use Rattle.xdr_types.specs.Fits.{are_bytes}
 use Rattle.xdr_laws.proofs.Legal.{bytes_are}
 use Rattle.xdr_types.specs.Fits.{item_part}
 use Rattle.xdr_stream.specs.Frames.{left_of, onto, stack_of}
-use Rattle.xdr_stream.specs.Trace.{TakesMany}
+use Rattle.xdr_stream.specs.Private.Reported.{TakesMany}
 use Rattle.xdr_stream.proofs.Built.{With, seen_many}
-use Rattle.xdr_stream.specs.declared.frame.Frame.TheVariants.{Items}
+use Rattle.xdr_stream.specs.declared.machine.frame.Frame.TheVariants.{Items}
 use Rattle.xdr_stream.specs.Sees.{Sees, IsReady}
-use Rattle.xdr_stream.specs.Sound.{IsSoundAt}
+use Rattle.xdr_stream.specs.Private.Sound.{IsSoundAt}
 use Rattle.xdr_stream.specs.Represents.{StandsAs, RepresentsBytes}
-use Rattle.xdr_stream.specs.declared.frame.Frame.{Frame}
+use Rattle.xdr_stream.specs.declared.machine.frame.Frame.{Frame}
 use Rattle.xdr_stream.specs.declared.machine.Awaits.TheVariants.{Next}
 use Rattle.xdr_stream.specs.declared.reader.State.{State}
 use Rattle.xdr_stream.proofs.Units.{bytes_taken}
@@ -83,7 +83,7 @@ returns-in-Ok-clause-represents g c = λ b state none space st.
       size,
       s.2,
       space,
-      c.depth-range.ensures.range.most_bytes,
+      c.depth-in_range.ensures.range.most_bytes,
       c.saturating_add-self.ensures,
     ) in
     let four : take c.args.n c.args.bytes.now ≡ u ++ c.unit_at.result =

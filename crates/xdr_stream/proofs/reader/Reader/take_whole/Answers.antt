@@ -5,8 +5,9 @@ use Rattle.std.proofs.Common.{arith}
 use Rattle.std.proofs.lemmas.List.{length-append, length-take, drop-take, take-take}
 use Rattle.xdr_types.specs.Fits.{are_bytes}
 use Rattle.xdr_stream.specs.Frames.{stack_of, onto, left_of}
-use Rattle.xdr_stream.specs.Trace.{Trace, HasRoom, content_in, extend_in}
-use Rattle.xdr_stream.specs.Sees.{are_zeros}
+use Rattle.xdr_stream.specs.Trace.{Trace}
+use Rattle.xdr_stream.specs.Private.Reported.{HasSpace, content_in, extend_in}
+use Rattle.xdr_stream.specs.Private.Moves.{are_zeros}
 use Rattle.xdr_stream.specs.declared.machine.Awaits.TheVariants.{Content}
 use Rattle.xdr_stream.proofs.Built.{With, seen_space}
 use Rattle.xdr_stream.proofs.Units.{whole_content, bytes_taken}
@@ -34,11 +35,11 @@ returns-in-Ok-clause-represents g c = λ q len none live h.
     ∙ sym c.are_zeros.ensures ∙ c.if-are_zeros.true in
     let first : take size u ≡ take size c.args.bytes.now = take-take size n c.args.bytes.now fits.0 in
     let space : length q + length u ≤ a.limits.bytes = omega (arith, many, e.space, len, some) in
-    let reported : (x : Trace) → With H HasRoom x → I (content_in (extend_in (take size u) x)) = λ x w.
+    let reported : (x : Trace) → With H HasSpace x → I (content_in (extend_in (take size u) x)) = λ x w.
     subst (λ (z : List ℕ). I (content_in (extend_in z x))) (sym first) (c.in-Ok.ensures.reported x w.0 w.1) in
     let next = whole_content a.schema.now.kinds c.len-known.ensures.valued c.len-known.ensures.known a.kind.place
     a.limits
-    (stack_of a.work a.parents.items) (With H HasRoom) I u size q units are (omega (arith, many, fits.0))
+    (stack_of a.work a.parents.items) (With H HasSpace) I u size q units are (omega (arith, many, fits.0))
     (omega (arith, many, fits.1)) (rw c.in-Content.is at live) zeros space reported
     (seen_space a.schema.now.kinds a.kind.place a.limits H (Content size)
     (stack_of a.work a.parents.items) q tt (rw c.in-Content.is at h)) in
@@ -50,7 +51,7 @@ returns-in-Ok-clause-represents g c = λ q len none live h.
       len,
       e.space,
       some,
-      c.depth-range.ensures.range.most_bytes,
+      c.depth-in_range.ensures.range.most_bytes,
       c.saturating_add-self.ensures,
     ) in
     c.settle.ensures.represents (q ++ u) far none tt next

@@ -1,0 +1,10 @@
+-- Definitions that only private functions cite: the steps of the code. No contract of a public call names any of it.
+pub mod Alone
+pub mod Live
+pub mod Moves
+pub mod OneProof
+pub mod Reported
+pub mod Run
+pub mod Runs
+pub mod Sound
+pub mod Whole

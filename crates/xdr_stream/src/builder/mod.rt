@@ -1,0 +1,107 @@
+//! What is made of the nodes that are read.
+//!
+//! - `values`: a value. `level`: a node of it at work. `nothing`: nothing.
+ghost use Rattle.std.specs.Prelude.{◌≡◌, ◌%◌, List, ℕ, length, OnOk, IsOk};
+ghost use Rattle.xdr_stream.specs.Trace.{Trace, at_start};
+ghost use Rattle.xdr_stream.specs.Private.Reported.{leaf_in, open_in, close_in, extend_in, content_in, CanClose};
+ghost use Rattle.xdr_stream.specs.Private.Reported.{HasSpace, TakesMany};
+ghost use Rattle.xdr_stream.specs.Private.Alone.{IsAlone};
+ghost use Rattle.xdr_stream.specs.Nodes.{head_of_leaf, head_of_node};
+ghost use Rattle.xdr_stream.specs.Private.Runs.{numbers_in, hypers_in};
+
+pub mod level;
+pub mod nothing;
+pub mod values;
+
+use std::alloc::AllocError;
+
+/// A node without parts.
+#[derive(Clone, Copy)]
+pub enum Leaf {
+    Int(i32),
+    Unsigned(u32),
+    Hyper(i64),
+    UnsignedHyper(u64),
+    Bool(bool),
+    /// The number of an enumeration's member.
+    Numbered(i32),
+    /// Content of no bytes.
+    Empty,
+    /// An optional that is not there.
+    Absent,
+    /// A void.
+    Nothing,
+}
+
+/// A node with parts.
+#[derive(Clone, Copy)]
+pub enum Node {
+    /// An array of so many items.
+    Items(u32),
+    /// A structure of so many fields, as the kind has.
+    Fields(usize),
+    /// A union with this discriminant.
+    Tag(i64),
+    /// An optional that is there.
+    Present,
+}
+
+/// Takes the nodes as they are read, a parent before its parts.
+pub trait Build {
+    /// What it was reported: the nodes at work with their finished parts, and the content so far.
+    ghost reports: { Self → Trace → Type 0 };
+
+    /// Whether what it is reported of content takes no memory.
+    ghost spares: { Type 0 };
+
+    /// A node without parts. The root takes no memory.
+    fn leaf(&mut self, leaf: Leaf) -> Result<(), AllocError>
+        ensures reported { OnOk result ((t : Trace) → reports self.old t → HasSpace t
+            → reports self.new (leaf_in (head_of_leaf leaf) t)) }
+        ensures granted { (t : Trace) → reports self.old t → IsAlone t → IsOk result };
+
+    /// Numbers of one unit each, signed or not, one after another.
+    fn numbers(&mut self, signed: bool, units: &[u8]) -> Result<(), AllocError>
+        requires { length units.now % 4 ≡ 0 }
+        ensures { OnOk result ((t : Trace) → reports self.old t → TakesMany t
+            → reports self.new (numbers_in signed units.now t)) };
+
+    /// Hyper integers, signed or not, one after another.
+    fn hypers(&mut self, signed: bool, units: &[u8]) -> Result<(), AllocError>
+        requires { length units.now % 8 ≡ 0 }
+        ensures { OnOk result ((t : Trace) → reports self.old t → TakesMany t
+            → reports self.new (hypers_in signed units.now t)) };
+
+    /// A node whose parts come next.
+    fn open(&mut self, node: Node) -> Result<(), AllocError>
+        ensures { OnOk result ((t : Trace) → reports self.old t → reports self.new (open_in (head_of_node node) t)) };
+
+    /// The end of the node that was opened last.
+    fn close(&mut self) -> Result<(), AllocError>
+        ensures { OnOk result ((t : Trace) → reports self.old t → CanClose t → reports self.new (close_in t)) };
+
+    /// Bytes of content.
+    fn extend(&mut self, bytes: &[u8]) -> Result<(), AllocError>
+        ensures reported { OnOk result ((t : Trace) → reports self.old t → reports self.new (extend_in bytes.now t)) }
+        ensures granted { spares → IsOk result };
+
+    /// The end of the content, which makes a node without parts.
+    fn content(&mut self) -> Result<(), AllocError>
+        ensures reported { OnOk result ((t : Trace) → reports self.old t → HasSpace t
+            → reports self.new (content_in t)) }
+        ensures granted { spares → IsOk result };
+
+    /// Bytes of content and its end, which make a node without parts.
+    fn whole(&mut self, bytes: &[u8]) -> Result<(), AllocError>
+        ensures reported { OnOk result ((t : Trace) → reports self.old t → HasSpace t
+            → reports self.new (content_in (extend_in bytes.now t))) }
+        ensures granted { spares → IsOk result };
+
+    /// Gives back the memory that holds nothing.
+    fn trim(&mut self)
+        ensures { (t : Trace) → reports self.old t → reports self.new t };
+
+    /// Lets all of it go, as before any byte. It takes no memory.
+    fn clear(&mut self)
+        ensures { reports self.new at_start };
+}

@@ -1,0 +1,57 @@
+//! Nothing is made of the nodes.
+ghost use Rattle.std.specs.Prelude.{⊤};
+
+use crate::builder::{Build, Leaf, Node};
+use std::alloc::AllocError;
+
+/// Makes nothing of the nodes.
+#[derive(Clone, Copy)]
+pub struct Nothing;
+
+impl Build for Nothing {
+    ghost reports = { λ _ _. ⊤ };
+
+    ghost spares = { ⊤ };
+
+    #[inline(always)]
+    fn leaf(&mut self, _: Leaf) -> Result<(), AllocError> {
+        Ok(())
+    }
+
+    fn numbers(&mut self, _: bool, _: &[u8]) -> Result<(), AllocError> {
+        Ok(())
+    }
+
+    fn hypers(&mut self, _: bool, _: &[u8]) -> Result<(), AllocError> {
+        Ok(())
+    }
+
+    #[inline(always)]
+    fn open(&mut self, _: Node) -> Result<(), AllocError> {
+        Ok(())
+    }
+
+    #[inline(always)]
+    fn close(&mut self) -> Result<(), AllocError> {
+        Ok(())
+    }
+
+    #[inline(always)]
+    fn extend(&mut self, _: &[u8]) -> Result<(), AllocError> {
+        Ok(())
+    }
+
+    #[inline(always)]
+    fn content(&mut self) -> Result<(), AllocError> {
+        Ok(())
+    }
+
+    #[inline(always)]
+    fn whole(&mut self, _: &[u8]) -> Result<(), AllocError> {
+        Ok(())
+    }
+
+    fn trim(&mut self) {}
+
+    fn clear(&mut self) {}
+}

@@ -1,0 +1,227 @@
+//! The value that the nodes make.
+ghost use Rattle.std.specs.Prelude.{◌≡◌, ◌+◌, ◌≤◌, ℕ, List, length, take, drop, OnOk};
+ghost use Rattle.std.specs.Int.{w32, w64, from_be_bytes};
+ghost use Rattle.xdr_types.specs.Tree.{bytes};
+ghost use Rattle.xdr_types.specs.View.{tree};
+ghost use Rattle.xdr_stream.specs.Nodes.{head_of_leaf};
+ghost use Rattle.xdr_stream.specs.Private.Runs.{number_head};
+ghost use Rattle.xdr_stream.specs.Sees.{make_wide};
+ghost use Rattle.xdr_stream.specs.Trace.{Trace, at_start};
+ghost use Rattle.xdr_stream.specs.Private.Reported.{HasSpace, leaf_in, leaf_tree};
+ghost use Rattle.xdr_stream.specs.Values.{Reports};
+
+use crate::builder::level::{Level, add, add_any, add_item, begun, closed};
+use crate::builder::{Build, Leaf, Node};
+use std::alloc::{AllocError, Global};
+use xdr_stack::Blocks;
+use xdr_types::Value;
+
+/// How many nodes at work lie in a block, so that a block of them is below a kibibyte.
+const BLOCK: usize = 16;
+
+/// The nodes at work, the innermost apart from its parents, and the content so far.
+#[derive(Drop)]
+pub struct Values {
+    pub alloc: Global,
+    pub work: Level,
+    pub parents: Blocks<Level, BLOCK>,
+    /// The bytes of content so far, of which the end has not come.
+    pub content: Vec<u8>,
+    /// How many nodes there are, finished or at work.
+    pub nodes: usize,
+    /// How many bytes of content.
+    pub retained: usize,
+}
+
+// The value of a node without parts.
+#[inline(always)]
+fn value_of(alloc: Global, leaf: Leaf) -> Value
+    ensures { tree result ≡ leaf_tree (head_of_leaf leaf) }
+{
+    match leaf {
+        Leaf::Int(n) => Value::Int(n),
+        Leaf::Unsigned(n) => Value::Unsigned(n),
+        Leaf::Hyper(n) => Value::Hyper(n),
+        Leaf::UnsignedHyper(n) => Value::UnsignedHyper(n),
+        Leaf::Bool(b) => Value::Bool(b),
+        Leaf::Numbered(n) => Value::Numbered(n),
+        Leaf::Empty => Value::Bytes(Vec::new(alloc)),
+        Leaf::Absent => Value::Maybe(None),
+        Leaf::Nothing => Value::Nothing,
+    }
+}
+
+// The value of content.
+fn content_value(content: Vec<u8>) -> Value
+    ensures { tree result ≡ leaf_tree (bytes content.items) }
+{
+    Value::Bytes(content)
+}
+
+// A number of one unit, signed or not.
+fn number_value(signed: bool, number: u32) -> Value
+    ensures { tree result ≡ leaf_tree (number_head signed number) }
+{
+    if signed {
+        Value::Int(number.cast_signed())
+    } else {
+        Value::Unsigned(number)
+    }
+}
+
+// The number in the unit at a place.
+fn number_at(bytes: &[u8], at: usize) -> u32
+    requires { at + 4 ≤ length bytes.now }
+    ensures { result ≡ from_be_bytes w32 (take 4 (drop at bytes.now)) }
+{
+    u32::from_be_bytes([bytes[at], bytes[at + 1], bytes[at + 2], bytes[at + 3]])
+}
+
+// A hyper integer, signed or not.
+#[inline(always)]
+fn hyper_leaf(signed: bool, number: u64) -> Leaf
+    ensures { (bs : List ℕ) → number ≡ from_be_bytes w64 bs → head_of_leaf result ≡ make_wide signed bs }
+{
+    if signed {
+        Leaf::Hyper(number.cast_signed())
+    } else {
+        Leaf::UnsignedHyper(number)
+    }
+}
+
+// The number in the two units at a place.
+#[inline(always)]
+fn hyper_at(bytes: &[u8], at: usize) -> u64
+    requires { at + 8 ≤ length bytes.now }
+    ensures { result ≡ from_be_bytes w64 (take 8 (drop at bytes.now)) }
+{
+    u64::from_be_bytes([
+        bytes[at],
+        bytes[at + 1],
+        bytes[at + 2],
+        bytes[at + 3],
+        bytes[at + 4],
+        bytes[at + 5],
+        bytes[at + 6],
+        bytes[at + 7],
+    ])
+}
+
+impl Values {
+    /// A builder that was reported nothing. It takes no memory.
+    pub(crate) fn new(alloc: Global) -> Values
+        ensures { Reports result at_start }
+    {
+        Values {
+            alloc,
+            work: Level::Root(None),
+            parents: Blocks::new(alloc),
+            content: Vec::new(alloc),
+            nodes: 0,
+            retained: 0,
+        }
+    }
+
+    // A node without parts, where it is mostly an item.
+    #[inline(always)]
+    fn item(&mut self, leaf: Leaf) -> Result<(), AllocError>
+        ensures { OnOk result ((t : Trace) → Reports self.old t → HasSpace t
+            → Reports self.new (leaf_in (head_of_leaf leaf) t)) }
+    {
+        add_item(self.alloc, &mut self.work, value_of(self.alloc, leaf))?;
+        self.nodes = self.nodes.saturating_add(1);
+        Ok(())
+    }
+}
+
+impl Build for Values {
+    ghost reports = { λ b t. Reports b t };
+
+    ghost spares = { ⊥ };
+
+    #[inline(always)]
+    fn leaf(&mut self, leaf: Leaf) -> Result<(), AllocError> {
+        add_any(self.alloc, &mut self.work, value_of(self.alloc, leaf))?;
+        self.nodes = self.nodes.saturating_add(1);
+        Ok(())
+    }
+
+    #[inline(never)]
+    fn numbers(&mut self, signed: bool, units: &[u8]) -> Result<(), AllocError> {
+        let mut at = 0;
+        while at < units.len() {
+            let value = number_value(signed, number_at(units, at));
+            add_item(self.alloc, &mut self.work, value)?;
+            at += 4;
+        }
+        self.nodes = self.nodes.saturating_add(units.len() / 4);
+        Ok(())
+    }
+
+    #[inline(never)]
+    fn hypers(&mut self, signed: bool, units: &[u8]) -> Result<(), AllocError> {
+        let mut at = 0;
+        while at < units.len() {
+            self.item(hyper_leaf(signed, hyper_at(units, at)))?;
+            at += 8;
+        }
+        Ok(())
+    }
+
+    // Where memory is refused the node at work is lost: the reader fails then, and lets go of all.
+    #[inline(always)]
+    fn open(&mut self, node: Node) -> Result<(), AllocError> {
+        let level = begun(self.alloc, node)?;
+        let parent = std::mem::replace(&mut self.work, level);
+        self.parents.push(parent)?;
+        self.nodes = self.nodes.saturating_add(1);
+        Ok(())
+    }
+
+    #[inline(always)]
+    fn close(&mut self) -> Result<(), AllocError> {
+        if let Some(parent) = self.parents.pop() {
+            let level = std::mem::replace(&mut self.work, parent);
+            add(self.alloc, &mut self.work, closed(level))?;
+        }
+        Ok(())
+    }
+
+    #[inline(always)]
+    fn extend(&mut self, bytes: &[u8]) -> Result<(), AllocError> {
+        if self.content.is_empty() {
+            // The last unit brings four bytes at most.
+            self.content.reserve(bytes.len().saturating_add(4))?;
+        }
+        self.content.extend_from_slice(bytes)?;
+        self.retained = self.retained.saturating_add(bytes.len());
+        Ok(())
+    }
+
+    #[inline(always)]
+    fn content(&mut self) -> Result<(), AllocError> {
+        let content = std::mem::replace(&mut self.content, Vec::new(self.alloc));
+        add_any(self.alloc, &mut self.work, content_value(content))?;
+        self.nodes = self.nodes.saturating_add(1);
+        Ok(())
+    }
+
+    #[inline(never)]
+    fn whole(&mut self, bytes: &[u8]) -> Result<(), AllocError> {
+        let mut content = std::mem::replace(&mut self.content, Vec::new(self.alloc));
+        content.reserve_exact(bytes.len())?;
+        content.extend_from_slice(bytes)?;
+        add(self.alloc, &mut self.work, content_value(content))?;
+        self.nodes = self.nodes.saturating_add(1);
+        self.retained = self.retained.saturating_add(bytes.len());
+        Ok(())
+    }
+
+    fn trim(&mut self) {
+        self.parents.trim();
+    }
+
+    fn clear(&mut self) {
+        *self = Values::new(self.alloc);
+    }
+}

@@ -1,0 +1,172 @@
+//! What the first unit of a value makes.
+ghost use Rattle.std.specs.Prelude.{◌≡◌, ℕ, pos, ℤ, map, option_map, IfOk, IfErr, MatchResult, Some, true, false};
+ghost use Rattle.xdr_types.specs.Kinds.{kind_at, choice};
+ghost use Rattle.xdr_types.specs.KindViews.{kind_view, branch_of, part_of_member};
+ghost use Rattle.xdr_types.specs.Fits.{is_tag_of, part_of};
+ghost use Rattle.xdr_types.specs.Faults.{has_illegal_case};
+ghost use Rattle.xdr_types.specs.Outcome.{number_in};
+ghost use Rattle.xdr_laws.specs.Owed.{lead_of, HasUnit};
+ghost use Rattle.xdr_stream.specs.Taking.{Takes, Refuses, IsWhy, tag_why};
+
+use crate::builder::{Leaf, Node};
+use crate::fault::Reason;
+use crate::machine::frame::Frame;
+use xdr_types::{Arm, Kind, KindId, Member, Schema, is_legal_tag, is_number_of, part_under};
+
+/// What a unit makes.
+#[derive(Clone, Copy)]
+pub enum Made<'s> {
+    /// A node without parts.
+    Leaf(Leaf),
+    /// A node whose parts come next.
+    Open(Node, Frame<'s>),
+    /// So many bytes of content come next.
+    Length(u32),
+}
+
+/// What the number in the first unit of a value makes of it.
+#[inline(always)]
+pub fn made_of<'s>(schema: &'s Schema, kind: &'s Kind, number: u32) -> Result<Made<'s>, Reason>
+    requires { HasUnit (lead_of (kind_view kind.now)) }
+    ensures { MatchResult result (Takes schema.now.kinds (kind_view kind.now) number)
+        (Refuses schema.now.kinds (kind_view kind.now) number) }
+{
+    match kind {
+        Kind::Int => Ok(Made::Leaf(Leaf::Int(number.cast_signed()))),
+        Kind::Unsigned => Ok(Made::Leaf(Leaf::Unsigned(number))),
+        Kind::Bool => match number {
+            0 => Ok(Made::Leaf(Leaf::Bool(false))),
+            1 => Ok(Made::Leaf(Leaf::Bool(true))),
+            _ => Err(Reason::BadBool),
+        },
+        Kind::Numbered { members } => {
+            let signed = number.cast_signed();
+            if is_number_of(members, i64::from(signed)) {
+                Ok(Made::Leaf(Leaf::Numbered(signed)))
+            } else {
+                Err(Reason::BadNumbered)
+            }
+        }
+        Kind::OpaqueUpTo { max } => {
+            if number > *max {
+                return Err(Reason::TooLong);
+            }
+            Ok(Made::Length(number))
+        }
+        Kind::Text { max } => {
+            if number > *max {
+                return Err(Reason::TooLong);
+            }
+            Ok(Made::Length(number))
+        }
+        Kind::UpTo { item, max } => {
+            if number > *max {
+                return Err(Reason::TooLong);
+            }
+            let frame = Frame::Items {
+                item: *item,
+                left: number,
+            };
+            Ok(Made::Open(Node::Items(number), frame))
+        }
+        Kind::Choice { tag, arms, other } => chosen(schema, *tag, arms, other, number),
+        Kind::Maybe { item } => match number {
+            0 => Ok(Made::Leaf(Leaf::Absent)),
+            1 => {
+                let frame = Frame::Items {
+                    item: *item,
+                    left: 1,
+                };
+                Ok(Made::Open(Node::Present, frame))
+            }
+            _ => Err(Reason::BadBool),
+        },
+        _ => unreachable!(),
+    }
+}
+
+/// The same for a kind whose cases are legal, as each kind of a schema is.
+#[inline(always)]
+pub(crate) fn made_in<'s>(
+    schema: &'s Schema,
+    kind: &'s Kind,
+    number: u32,
+) -> Result<Made<'s>, Reason>
+    requires unit { HasUnit (lead_of (kind_view kind.now)) }
+    requires legal { has_illegal_case schema.now.kinds (kind_view kind.now) ≡ false }
+    ensures { MatchResult result (Takes schema.now.kinds (kind_view kind.now) number)
+        (Refuses schema.now.kinds (kind_view kind.now) number) }
+{
+    match kind {
+        Kind::Choice { tag, arms, other } => picked(schema, *tag, arms, other, number),
+        _ => made_of(schema, kind, number),
+    }
+}
+
+// The part that a discriminant picks.
+#[inline(always)]
+fn chosen<'s>(
+    schema: &'s Schema,
+    tag: KindId,
+    arms: &'s Vec<Arm>,
+    other: &'s Option<Member>,
+    number: u32,
+) -> Result<Made<'s>, Reason>
+    ensures { MatchResult result
+        (Takes schema.now.kinds (choice tag.place (map branch_of arms.now.items) (option_map part_of_member other.now))
+        number)
+        (Refuses schema.now.kinds (choice tag.place (map branch_of arms.now.items)
+        (option_map part_of_member other.now)) number) }
+{
+    let (signed, why) = number_under(schema, tag, number);
+    if !is_legal_tag(schema, tag, signed) {
+        return Err(why);
+    }
+    match part_under(arms, other, signed) {
+        Some(member) => Ok(Made::Open(Node::Tag(signed), Frame::Arm { member })),
+        None => Err(Reason::BadCase),
+    }
+}
+
+// The part that a discriminant picks, where the cases are legal: without a default, what has a part is one of them.
+#[inline(always)]
+fn picked<'s>(
+    schema: &'s Schema,
+    tag: KindId,
+    arms: &'s Vec<Arm>,
+    other: &'s Option<Member>,
+    number: u32,
+) -> Result<Made<'s>, Reason>
+    requires { has_illegal_case schema.now.kinds (choice tag.place (map branch_of arms.now.items)
+        (option_map part_of_member other.now)) ≡ false }
+    ensures { MatchResult result
+        (Takes schema.now.kinds (choice tag.place (map branch_of arms.now.items) (option_map part_of_member other.now))
+        number)
+        (Refuses schema.now.kinds (choice tag.place (map branch_of arms.now.items)
+        (option_map part_of_member other.now)) number) }
+{
+    if other.is_none() {
+        let (signed, _) = number_under(schema, tag, number);
+        if let Some(member) = part_under(arms, other, signed) {
+            return Ok(Made::Open(Node::Tag(signed), Frame::Arm { member }));
+        }
+    }
+    chosen(schema, tag, arms, other, number)
+}
+
+// The number that a unit stands for as a discriminant, and the reason against it where it is no legal one.
+#[inline(always)]
+fn number_under(schema: &Schema, tag: KindId, number: u32) -> (i64, Reason)
+    ensures number { result.0 ≡ number_in (kind_at schema.now.kinds tag.place) number }
+    ensures why { IsWhy result.1 (tag_why (kind_at schema.now.kinds tag.place)) }
+{
+    if !schema.has(tag) {
+        return (i64::from(number), Reason::BadCase);
+    }
+    match schema.kind(tag) {
+        Kind::Int => (i64::from(number.cast_signed()), Reason::BadCase),
+        Kind::Numbered { .. } => (i64::from(number.cast_signed()), Reason::BadNumbered),
+        Kind::Bool => (i64::from(number), Reason::BadBool),
+        _ => (i64::from(number), Reason::BadCase),
+    }
+}

@@ -1,0 +1,93 @@
+//! What comes next after a whole unit, and what is read of it.
+ghost use Rattle.std.specs.Prelude.{◌≡◌, ◌+◌, ◌≤◌, pos, length, take, drop, IfOk, IfErr};
+ghost use Rattle.xdr_types.specs.Within.{Bounds};
+ghost use Rattle.xdr_units.specs.Numbers.{num4};
+ghost use Rattle.xdr_stream.specs.Frames.{left_of, stack_of};
+ghost use Rattle.xdr_stream.specs.Private.Live.{IsLive};
+ghost use Rattle.xdr_stream.specs.Private.Moves.{SparesSeen, TakesUnit, RefusesUnit, are_zeros};
+ghost use Rattle.xdr_stream.specs.Private.Sound.{IsSound, IsAwaited};
+
+use crate::builder::{Build, Leaf};
+use crate::fault::Reason;
+use crate::machine::Awaits;
+use crate::machine::frame::Frame;
+use crate::machine::nodes::take_number;
+use xdr_stack::Stack;
+use xdr_types::Schema;
+
+/// The number that a unit is, its highest byte first.
+pub(crate) fn number_of(unit: &[u8; 4]) -> u32
+    ensures { num4 (pos result) ≡ unit.now }
+{
+    u32::from_be_bytes(*unit)
+}
+
+/// Whether each byte is zero, as padding is.
+pub(crate) fn are_zeros(bytes: &[u8]) -> bool
+    ensures { result ≡ are_zeros bytes.now }
+{
+    match bytes {
+        [] => true,
+        [0, others @ ..] => are_zeros(others),
+        [_, ..] => false,
+    }
+}
+
+/// The unit at a place.
+pub(crate) fn unit_at(bytes: &[u8], at: usize) -> [u8; 4]
+    requires { at + 4 ≤ length bytes.now }
+    ensures { result ≡ take 4 (drop at bytes.now) }
+{
+    [bytes[at], bytes[at + 1], bytes[at + 2], bytes[at + 3]]
+}
+
+/// Takes a whole unit, and tells what comes next, before it is settled.
+#[inline(always)]
+pub(crate) fn take_unit<'s, B: Build>(
+    schema: &'s Schema,
+    awaits: Awaits,
+    work: &mut Frame<'s>,
+    parents: &mut Stack<Frame<'s>>,
+    built: &mut B,
+    unit: &[u8; 4],
+) -> Result<Awaits, Reason>
+    requires sound { IsSound schema.now.kinds (stack_of work.old parents.old.items) }
+    requires awaited { IsAwaited schema.now.kinds (left_of work.old) awaits }
+    ensures size { length unit.now ≡ 4 }
+    ensures live { IfOk result IsLive }
+    ensures taken { IfOk result (λ a. TakesUnit schema.now.kinds (B.reports built.old) awaits
+        (stack_of work.old parents.old.items) (B.reports built.new) a (stack_of work.new parents.new.items) unit.now) }
+    ensures refused { IfErr result (RefusesUnit schema.now.kinds (B.reports built.old) awaits
+        (stack_of work.old parents.old.items) unit.now) }
+    ensures spared { IfErr result (λ e. (limits : Bounds) → SparesSeen B.spares schema.now.kinds limits
+        (B.reports built.old) awaits (stack_of work.old parents.old.items) e) }
+    ensures sound { IsSound schema.now.kinds (stack_of work.new parents.new.items) }
+{
+    let number = number_of(unit);
+    let _known = schema.len();
+    match awaits {
+        Awaits::Next => take_number(schema, work, parents, built, number),
+        Awaits::Wide(signed) => Ok(Awaits::Low(signed, number)),
+        Awaits::Low(signed, high) => {
+            let whole = u64::from(high) * 4294967296 + u64::from(number);
+            if signed {
+                built.leaf(Leaf::Hyper(whole.cast_signed()))?;
+            } else {
+                built.leaf(Leaf::UnsignedHyper(whole))?;
+            }
+            Ok(Awaits::Next)
+        }
+        Awaits::Content(left) => {
+            if left > 4 {
+                built.extend(unit)?;
+                return Ok(Awaits::Content(left - 4));
+            }
+            if !are_zeros(&unit[left as usize..]) {
+                return Err(Reason::BadPadding);
+            }
+            built.extend(&unit[..left as usize])?;
+            built.content()?;
+            Ok(Awaits::Next)
+        }
+    }
+}

@@ -1,0 +1,105 @@
+//! Many units at once: content, and numbers one after another.
+ghost use Rattle.std.specs.Prelude.{◌≡◌, ◌+◌, ◌≤◌, ◌<◌, ◌%◌, ◌*◌, ℕ, List, ◌++◌, length, take};
+ghost use Rattle.xdr_stream.specs.Represents.{RepresentsBytes, IsAwake, IsSame};
+ghost use Rattle.xdr_stream.specs.Private.Run.{IsRun, IsHypers};
+ghost use Rattle.xdr_stream.specs.declared.machine.Awaits.TheVariants.{Next, Content, Wide};
+ghost use Rattle.xdr_stream.specs.declared.reader.State.TheVariants.{Reading};
+
+use crate::builder::Build;
+use crate::fault::Reason;
+use crate::machine::Awaits;
+use crate::machine::frame::Frame;
+use crate::machine::unit::unit_at;
+use crate::reader::{Reader, State};
+use crate::runs::numbers::Run;
+
+impl<'s, B: Build + Drop> Reader<'s, B> {
+    /// Takes so many bytes of content and its padding, units of a piece that has them; at the last of them so many
+    /// bytes of content are left.
+    #[inline(always)]
+    pub(crate) fn take_content(&mut self, last: u32, n: usize, bytes: &[u8])
+        requires units { n % 4 ≡ 0 }
+        requires some { 4 < n }
+        requires last { 0 < last }
+        requires there { n ≤ length bytes.now }
+        ensures represents { (b : List ℕ) (left : ℕ) → left + 4 ≡ last + n → self.old.state ≡ Reading (Content left)
+            → self.old.pending ≡ 0 → n + self.old.read ≤ self.old.limits.bytes
+            → RepresentsBytes B.spares B.reports self.old b
+            → RepresentsBytes B.spares B.reports self.new (b ++ take n bytes.now) }
+        ensures awake { IsAwake self.new.state }
+        ensures same { IsSame self.old self.new }
+    {
+        let _known = self.schema.len();
+        let _in_range = self.limits.depth();
+        match self.built.extend(&bytes[..n - 4]) {
+            Ok(()) => {
+                self.read = self.read.saturating_add(n - 4);
+                self.take(Awaits::Content(last), &unit_at(bytes, n - 4));
+            }
+            Err(_) => self.fail(Reason::NoMemory),
+        }
+    }
+
+    /// Takes so many bytes of hyper integers, that which has begun the first of them; one more has begun then, and so
+    /// many are left after it.
+    #[inline(always)]
+    pub(crate) fn take_hypers(&mut self, run: Run, last: u32, n: usize, bytes: &[u8])
+        requires units { n % 8 ≡ 0 }
+        requires some { 0 < n }
+        requires there { n ≤ length bytes.now }
+        requires due { IsHypers self.old.schema.now.kinds self.old.work run }
+        requires left { 8 * run.left ≡ 8 * last + n }
+        requires deep { length self.old.parents.items < self.old.limits.depth }
+        ensures represents { (b : List ℕ) → self.old.state ≡ Reading (Wide run.signed)
+            → self.old.pending ≡ 0 → n + self.old.read < self.old.limits.bytes
+            → RepresentsBytes B.spares B.reports self.old b
+            → RepresentsBytes B.spares B.reports self.new (b ++ take n bytes.now) }
+        ensures awake { IsAwake self.new.state }
+        ensures same { IsSame self.old self.new }
+    {
+        let _known = self.schema.len();
+        let _in_range = self.limits.depth();
+        match self.built.hypers(run.signed, &bytes[..n]) {
+            Ok(()) => {
+                self.state = State::Reading(Awaits::Wide(run.signed));
+                self.work = Frame::Items {
+                    item: run.item,
+                    left: last,
+                };
+                self.read = self.read.saturating_add(n);
+            }
+            Err(_) => self.fail(Reason::NoMemory),
+        }
+    }
+
+    /// Takes so many bytes of numbers of one unit, items of the array at work; so many are left at the last of them.
+    #[inline(always)]
+    pub(crate) fn take_run(&mut self, run: Run, last: u32, n: usize, bytes: &[u8])
+        requires units { n % 4 ≡ 0 }
+        requires some { 4 < n }
+        requires there { n ≤ length bytes.now }
+        requires last { 0 < last }
+        requires due { IsRun self.old.schema.now.kinds self.old.work run }
+        requires left { 4 * run.left + 4 ≡ 4 * last + n }
+        ensures represents { (b : List ℕ) → self.old.state ≡ Reading Next
+            → self.old.pending ≡ 0 → n + self.old.read ≤ self.old.limits.bytes
+            → RepresentsBytes B.spares B.reports self.old b
+            → RepresentsBytes B.spares B.reports self.new (b ++ take n bytes.now) }
+        ensures awake { IsAwake self.new.state }
+        ensures same { IsSame self.old self.new }
+    {
+        let _known = self.schema.len();
+        let _in_range = self.limits.depth();
+        match self.built.numbers(run.signed, &bytes[..n - 4]) {
+            Ok(()) => {
+                self.work = Frame::Items {
+                    item: run.item,
+                    left: last,
+                };
+                self.read = self.read.saturating_add(n - 4);
+                self.take(Awaits::Next, &unit_at(bytes, n - 4));
+            }
+            Err(_) => self.fail(Reason::NoMemory),
+        }
+    }
+}
