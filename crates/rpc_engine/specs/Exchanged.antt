@@ -80,7 +80,7 @@ IsAnswer xid input (Err (fault.Record (flaw.TooLong at))) = IsOutcome xid input 
 IsAnswer xid input (Err (fault.Record (flaw.Truncated at))) = IsOutcome xid input (Truncated at)
 IsAnswer xid input (Err _) = Unit {0}
 
--- where the reader tells all that it holds, that has this case
+-- where the reader reports all that it holds, that has this case
 abbrev pub IsExact : (xid : ℕ) → Option (List ℕ) → Result Reply ClientFault → Type 0
 IsExact xid left result = (input : List ℕ) → left ≡ Some input → IsAnswer xid input result
 

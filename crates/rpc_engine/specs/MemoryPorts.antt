@@ -1,4 +1,4 @@
--- What a port over lent memory tells, and how it answers a call.
+-- What a port over lent memory reports, and how it answers a call.
 use Rattle.std.specs.Prelude.{◌≡◌, ℕ, ◌+◌, ◌<◌, ◌⊎◌, List, length, Ok, Err, Result, Option}
 use Rattle.xdr_io.specs.Memory.{IsDue}
 use Rattle.rpc_engine.specs.declared.memory_port.MemoryPort.{MemoryPort}

@@ -1,9 +1,9 @@
-use Rattle.std.proofs.Common.{◌≡◌, ◌+◌, ℕ, List, [], ◌∷◌, ◌++◌, refl, sym, subst, arith}
+use Rattle.std.proofs.Common.{[], ◌∷◌, ◌++◌, refl, sym, subst, arith}
 use Rattle.xdr_io.proofs.Chained.{Counts-trans, Counts-none}
 use Rattle.registry_answer.specs.Views.{netid_of}
 use Rattle.rpc_engine.specs.Served.{most_record}
 use Rattle.rpc_record.specs.Failures.{reads_failed as flaw_reads}
-use Rattle.rpc_engine.specs.Private.Serving.{Does, fault_of}
+use Rattle.rpc_engine.specs.Private.Serving.{Does}
 use Rattle.rpc_engine.proofs.Pieces.{does_none, does_trans}
 use Rattle.rpc_engine.proofs.Whole.{serves, stops_failed, stops_lost, reads_same, fails_unwritten, lost_is}
 use Rattle.rpc_engine.proofs.server.serve.Goals as goal
