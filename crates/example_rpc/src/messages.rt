@@ -7,10 +7,11 @@ ghost use Rattle.rpc_message.specs.View.{call_view, case_view, lent_case_view, r
 ghost use Rattle.rpc_message.specs.declared.fault.ReplyFault.TheVariants as faults;
 
 use rpc_message::{
-    AuthSys, Call, CallRead, LentRead, NoMemory, OpaqueAuth, Reply, ReplyFault, Status, Why,
-    append_reply, auth_sys_bytes_are_exact, call_bytes_are_exact, five_cases, read_auth_sys,
-    read_call, read_lent_call, read_reply, reply_bytes_are_exact, write_auth_sys, write_call,
-    write_reply,
+    AUTH_BADCRED, AuthSys, Call, CallRead, LentRead, NoMemory, OpaqueAuth, PROC_UNAVAIL, Reply,
+    ReplyFault, SUCCESS, Status, Why, accepted_head, append_denial, append_head, append_reply,
+    auth_sys_bytes_are_exact, call_bytes_are_exact, cut_to_system_error, five_cases, read_auth_sys,
+    read_call, read_lent_call, read_reply, reply_bytes_are_exact, system_error, write_auth_sys,
+    write_call, write_reply,
 };
 use std::alloc::Global;
 
@@ -210,6 +211,49 @@ pub fn keeps_what_stood_there(out: &mut Vec<u8>, reply: &Reply) -> Result<(), No
     ensures { OnErr result (out.new.items ≡ out.old.items) }
 {
     append_reply(out, reply)
+}
+
+/// The head of an accepted reply has these 24 bytes: xid, REPLY, MSG_ACCEPTED, AUTH_NONE, no body, and the number, 3
+/// for PROC_UNAVAIL (RFC 5531 section 9, accept_stat).
+pub fn heads_a_reply() -> [u8; 24]
+    ensures { result ≡
+        0 ∷ 0 ∷ 0 ∷ 7 ∷ 0 ∷ 0 ∷ 0 ∷ 1 ∷ 0 ∷ 0 ∷ 0 ∷ 0 ∷ 0 ∷ 0 ∷ 0 ∷ 0 ∷ 0 ∷ 0 ∷ 0 ∷ 0 ∷ 0 ∷ 0 ∷ 0 ∷ 3 ∷ [] }
+{
+    accepted_head(7, PROC_UNAVAIL)
+}
+
+/// It is written behind what stands in a buffer; results follow it.
+pub fn appends_a_head(out: &mut Vec<u8>) -> Result<(), NoMemory>
+    ensures { OnOk result (out.new.items ≡ out.old.items ++
+        0 ∷ 0 ∷ 0 ∷ 7 ∷ 0 ∷ 0 ∷ 0 ∷ 1 ∷ 0 ∷ 0 ∷ 0 ∷ 0 ∷ 0 ∷ 0 ∷ 0 ∷ 0 ∷ 0 ∷ 0 ∷ 0 ∷ 0 ∷ 0 ∷ 0 ∷ 0 ∷ 0 ∷ []) }
+{
+    append_head(out, 7, SUCCESS)
+}
+
+/// SYSTEM_ERR has the number 5, and takes no memory.
+pub fn answers_a_system_error() -> [u8; 24]
+    ensures { result ≡
+        0 ∷ 0 ∷ 0 ∷ 7 ∷ 0 ∷ 0 ∷ 0 ∷ 1 ∷ 0 ∷ 0 ∷ 0 ∷ 0 ∷ 0 ∷ 0 ∷ 0 ∷ 0 ∷ 0 ∷ 0 ∷ 0 ∷ 0 ∷ 0 ∷ 0 ∷ 0 ∷ 5 ∷ [] }
+{
+    system_error(7)
+}
+
+/// A reply with one byte of results becomes SYSTEM_ERR where it stands.
+pub fn cuts_a_reply(out: &mut Vec<u8>)
+    requires { out.old.items ≡
+        0 ∷ 0 ∷ 0 ∷ 7 ∷ 0 ∷ 0 ∷ 0 ∷ 1 ∷ 0 ∷ 0 ∷ 0 ∷ 0 ∷ 0 ∷ 0 ∷ 0 ∷ 0 ∷ 0 ∷ 0 ∷ 0 ∷ 0 ∷ 0 ∷ 0 ∷ 0 ∷ 0 ∷ 9 ∷ [] }
+    ensures { out.new.items ≡
+        0 ∷ 0 ∷ 0 ∷ 7 ∷ 0 ∷ 0 ∷ 0 ∷ 1 ∷ 0 ∷ 0 ∷ 0 ∷ 0 ∷ 0 ∷ 0 ∷ 0 ∷ 0 ∷ 0 ∷ 0 ∷ 0 ∷ 0 ∷ 0 ∷ 0 ∷ 0 ∷ 5 ∷ [] }
+{
+    cut_to_system_error(out, 0)
+}
+
+/// A call whose credential cannot be read is denied with AUTH_BADCRED, the last number.
+pub fn denies_a_credential(out: &mut Vec<u8>) -> Result<(), NoMemory>
+    ensures { OnOk result (out.new.items ≡ out.old.items ++
+        0 ∷ 0 ∷ 0 ∷ 7 ∷ 0 ∷ 0 ∷ 0 ∷ 1 ∷ 0 ∷ 0 ∷ 0 ∷ 1 ∷ 0 ∷ 0 ∷ 0 ∷ 1 ∷ 0 ∷ 0 ∷ 0 ∷ 1 ∷ []) }
+{
+    append_denial(out, 7, Why::AuthError(AUTH_BADCRED))
 }
 
 /// A denied reply has these 20 bytes; the last number, 1 for AUTH_BADCRED, says why (RFC 5531 section 9, auth_stat).

@@ -71,7 +71,7 @@ pub fn hands_out_once(reader: &mut RecordReader) -> bool
     reader.take().is_none()
 }
 
-/// So it is where buffer for the next is given with the call.
+/// So it is where a buffer for the next is handed over with the call.
 pub fn hands_out_once_with(reader: &mut RecordReader, buffer: Vec<u8>) -> bool
     ensures { result ≡ true }
 {

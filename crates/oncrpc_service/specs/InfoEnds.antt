@@ -6,8 +6,8 @@ use Rattle.rpc_message.specs.declared.message.Reply.{Reply}
 use Rattle.rpc_message.specs.Spelling.{call}
 use Rattle.rpc_engine.specs.declared.fault.ClientFault.{ClientFault}
 use Rattle.rpc_engine.specs.declared.fault.ClientFault.TheVariants as fault
-use Rattle.rpc_engine.specs.DatagramExchange.{ExchangesDatagram, read_failures}
-use Rattle.rpc_engine.specs.Exchanged.{Exchanged, Wrote, write_failures}
+use Rattle.rpc_engine.specs.DatagramExchange.{ExchangesDatagram}
+use Rattle.rpc_engine.specs.Exchanged.{Exchanged, Wrote, read_failures, write_failures}
 use Rattle.oncrpc_tasks.specs.declared.failure.Failure.{Failure}
 use Rattle.oncrpc_service.specs.DatagramEnds.{Desk}
 use Rattle.oncrpc_service.specs.Infos.{Reports, dump_call, failure_of}
@@ -55,7 +55,7 @@ pub record InfoEnds {I W O F : Type 0} (vers : ℕ) (line : Line I W O) (reader 
   pub answer : Result Reply ClientFault
   pub wrote : Wrote (call (dump_call vers)) (line.sent writer) (line.sent writer') answer
   pub exchanged : Exchanged 1 (line.left reader) (line.left reader') answer
-  pub unread : answer ≡ Err fault.Read → Counts 1 (line.unread reader) (line.unread reader')
+  pub unread : Counts (read_failures answer) (line.unread reader) (line.unread reader')
   pub many : answer ≡ Err fault.TooManyReads → Counts 1048576 (line.reads reader) (line.reads reader')
   pub few_reads : CountsAtMost 1048576 (line.reads reader) (line.reads reader')
   pub unsent : Counts (write_failures answer) (line.unsent writer) (line.unsent writer')

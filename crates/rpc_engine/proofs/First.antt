@@ -9,11 +9,13 @@ use Rattle.rpc_record.specs.declared.fault.RecordFault.TheVariants as flaw
 use Rattle.rpc_record.specs.declared.reader.RecordReader.{RecordReader}
 use Rattle.rpc_record.specs.Marked.{fragment}
 use Rattle.rpc_record.specs.Reading.{Begins, capped}
+use Rattle.rpc_record.specs.Failures.{reads_failed as flaw_reads}
 use Rattle.rpc_record.specs.Streamed.{HasTaken, IsRead, FailsAt, Fails}
 use Rattle.rpc_message.specs.declared.message.Reply.{Reply}
 use Rattle.rpc_engine.specs.declared.fault.ClientFault.{ClientFault}
 use Rattle.rpc_engine.specs.declared.fault.ClientFault.TheVariants as fault
-use Rattle.rpc_engine.specs.Exchanged.{most_reply, IsFirst, Exchanged, Wrote, write_failures}
+use Rattle.rpc_engine.specs.Exchanged.{most_reply, IsFirst, Exchanged, Wrote, reads_failed, read_failures}
+use Rattle.rpc_engine.specs.Exchanged.{writes_failed, write_failures}
 use Rattle.rpc_engine.specs.DatagramExchange.{Replies}
 use Rattle.rpc_engine.specs.Private.Looking.{FirstReads, FirstRead, client_fault_of}
 
@@ -43,6 +45,15 @@ first_failed l m f h = record { input = h.input; read = h.read; reads = by f h.f
     by flaw.Read k = k
     by flaw.TooManyReads k = k
     by (flaw.Write written) k = absurd k
+
+-- it is as many failed reads
+pub reads_same : (f : RecordFault) → flaw_reads f ≡ reads_failed (client_fault_of f)
+reads_same flaw.Read = refl
+reads_same flaw.TooManyReads = refl
+reads_same flaw.NoMemory = refl
+reads_same (flaw.TooLong at) = refl
+reads_same (flaw.Truncated at) = refl
+reads_same (flaw.Write written) = refl
 
 -- the input has ended before its first byte
 pub first_ended : (l m : Option (List ℕ)) → IsRead most_reply [] l m
@@ -92,7 +103,7 @@ exchanged_err xid l m (fault.Write written) h = absurd h.reads
 exchanged_err xid l m (fault.Reply why) h = absurd h.reads
 exchanged_err xid l m (fault.WrongXid got) h = absurd h.reads
 
-pub unwritten_err : (l m : Option (List ℕ)) (f : ClientFault) → FirstRead l m (Err f) → write_failures (Err f) ≡ 0
+pub unwritten_err : (l m : Option (List ℕ)) (f : ClientFault) → FirstRead l m (Err f) → writes_failed f ≡ 0
 unwritten_err l m (fault.Write written) h = absurd h.reads
 unwritten_err l m (fault.Record g) h = refl
 unwritten_err l m fault.Read h = refl
@@ -111,6 +122,18 @@ unwritten_ok xid given (Err fault.TooManyReads) h = refl
 unwritten_ok xid given (Err fault.NoMemory) h = refl
 unwritten_ok xid given (Err (fault.Reply why)) h = refl
 unwritten_ok xid given (Err (fault.WrongXid got)) h = refl
+
+-- looking at the reply is no failed read
+pub unread_ok : (xid : ℕ) (given : List ℕ) (result : Result Reply ClientFault) → Replies xid given result
+    → 0 ≡ read_failures result
+unread_ok xid given (Ok reply) h = refl
+unread_ok xid given (Err fault.Read) h = absurd h
+unread_ok xid given (Err (fault.Record g)) h = refl
+unread_ok xid given (Err (fault.Write written)) h = refl
+unread_ok xid given (Err fault.NoMemory) h = refl
+unread_ok xid given (Err fault.TooManyReads) h = refl
+unread_ok xid given (Err (fault.Reply why)) h = refl
+unread_ok xid given (Err (fault.WrongXid got)) h = refl
 
 -- the call is written whole where no write failed
 pub wrote_all : (call : List ℕ) (t u : Option (List ℕ)) (result : Result Reply ClientFault) → write_failures result ≡ 0

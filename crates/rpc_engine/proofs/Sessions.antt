@@ -17,7 +17,11 @@ use Rattle.rpc_engine.specs.Private.Sending.{Counted}
 use Rattle.rpc_engine.specs.Private.Fronts.{front_len, IsSent}
 use Rattle.rpc_engine.specs.Private.Serving.{Does, LosesBy}
 use Rattle.rpc_engine.proofs.Runs.{run_none, run_one}
-pub use Rattle.rpc_record.proofs.Counting.{normal-append as normal_append}
+use Rattle.std.proofs.lemmas.List.Concat.{flat_map-append}
+
+-- the normal form of records and more
+pub normal_append : (rs more : List (List ℕ)) → normal (rs ++ more) ≡ normal rs ++ normal more
+normal_append rs more = flat_map-append (fragment true) rs more
 
 pub normal_one : (r : List ℕ) → normal (r ∷ []) ≡ fragment true r
 normal_one r = append-nil (fragment true r)
@@ -100,7 +104,7 @@ module _ (netid : List ℕ) (rows new : List Row) (old mid now : Session) (r rep
   loses_reply (Err cut) (Err fault.TooManyReads) c w = absurd c
   loses_reply (Err cut) (Err fault.NoMemory) c w = absurd c
 
--- the buffer before a reply
+-- the space before a reply
 pub front_is : (b given : Bool) (x old : List ℕ) → x ≡ [] → old ≡ cond given (x ++ (0 ∷ 0 ∷ 0 ∷ 0 ∷ [])) x → b ≡ given
     → length old ≡ front_len b
 front_is true given x old e h s =
@@ -132,7 +136,7 @@ front_set front reply h e f =
     ∙ ap (λ z. with_front ((x.0 ∷ x.1.0 ∷ x.1.1.0 ∷ x.1.1.1.0 ∷ []) ++ reply) z) ys
     ∙ ap (λ z. z ++ reply) (sym ys)
 
--- a reply without buffer before it
+-- a reply without space before it
 pub send_plain : FragmentLength → (b : Bool) (front reply items given : List ℕ) (n : ℕ) (t u : Option (List ℕ))
     → b ≡ false → length front ≡ front_len b → items ≡ front ++ reply → given ≡ items → n ≡ length items
     → Appends t u (fragment true given) → IsSent (fragment true reply) t u (Ok (n + 4))

@@ -1,20 +1,20 @@
 -- What serving comes to.
 use Rattle.std.proofs.Common.{◌≡◌, ℕ, ◌+◌, true, List, [], ◌∷◌, ◌++◌, length, take, Option, Some, refl, sym, ap, ◌∙◌}
-use Rattle.std.proofs.Common.{subst, length-append, arith, Result, Err}
+use Rattle.std.proofs.Common.{subst, length-append, arith}
 use Rattle.std.specs.Io.KnownBytes.{Appends}
-use Rattle.xdr_io.specs.Reported.{Counts}
 use Rattle.xdr_io.proofs.Chained.{take_past}
 use Rattle.registry_rows.specs.Rows.{Row}
 use Rattle.rpc_record.specs.declared.fault.RecordFault.{RecordFault}
 use Rattle.rpc_record.specs.declared.fault.RecordFault.TheVariants as flaw
 use Rattle.rpc_record.specs.declared.reader.RecordReader.{RecordReader}
 use Rattle.rpc_record.specs.Marked.{fragment, normal}
+use Rattle.rpc_record.specs.Failures.{reads_failed as flaw_reads}
 use Rattle.rpc_record.specs.Streamed.{HasTaken, IsRead, FailsAt, Fails}
 use Rattle.rpc_engine.specs.declared.fault.ServeFault.{ServeFault}
 use Rattle.rpc_engine.specs.declared.fault.ServeFault.TheVariants as fault
 use Rattle.rpc_engine.specs.declared.session.Session.{Session}
 use Rattle.rpc_engine.specs.Run.{Run}
-use Rattle.rpc_engine.specs.Served.{Serves, StopsBy, Stops, CutLast, WriteFails, most_record}
+use Rattle.rpc_engine.specs.Served.{Serves, StopsBy, Stops, CutLast, most_record, reads_failed, writes_failed}
 use Rattle.rpc_engine.specs.Private.Serving.{HasCounted, Does, Loses, LosesBy, fault_of}
 use Rattle.rpc_engine.proofs.Pieces.{loses_after}
 use Rattle.rpc_engine.proofs.Runs.{run_one, runs_join}
@@ -117,19 +117,7 @@ stops_lost netid rows mid new start s rs r given l m t u v reader held fault.Rea
 stops_lost netid rows mid new start s rs r given l m t u v reader held fault.TooManyReads e h begun p q = absurd q
 stops_lost netid rows mid new start s rs r given l m t u v reader held fault.NoMemory e h begun p q = absurd q
 
--- ---- a fault of the record reader as the server tells it
-
--- two answers are the same error
-pub same_err : {T E : Type 0} (f g : E) → ◌≡◌ {A = Result T E} (Err f) (Err g) → f ≡ g
-same_err f g e = cc
-
-pub fault_read : (f : RecordFault) → fault_of f ≡ fault.Read → f ≡ flaw.Read
-fault_read flaw.Read e = refl
-fault_read flaw.TooManyReads e = cc
-fault_read flaw.NoMemory e = cc
-fault_read (flaw.TooLong at) e = cc
-fault_read (flaw.Truncated at) e = cc
-fault_read (flaw.Write written) e = cc
+-- ---- a fault of the record reader as the server reports it
 
 pub fault_many : (f : RecordFault) → fault_of f ≡ fault.TooManyReads → f ≡ flaw.TooManyReads
 fault_many flaw.TooManyReads e = refl
@@ -139,21 +127,30 @@ fault_many (flaw.TooLong at) e = cc
 fault_many (flaw.Truncated at) e = cc
 fault_many (flaw.Write written) e = cc
 
--- it is no failed write
-pub writes_none : (rs : List (List ℕ)) (l m : Option (List ℕ)) (a b : Option ℕ) (f : RecordFault)
-    → Fails most_record rs l m f → Counts 0 a b → WriteFails (fault_of f) a b
-writes_none rs l m a b (flaw.TooLong at) h k = k
-writes_none rs l m a b (flaw.Truncated at) h k = k
-writes_none rs l m a b flaw.NoMemory h k = k
-writes_none rs l m a b flaw.Read h k = k
-writes_none rs l m a b flaw.TooManyReads h k = k
-writes_none rs l m a b (flaw.Write written) h k = absurd h.fails
+-- it is as many failed reads
+pub reads_same : (f : RecordFault) → flaw_reads f ≡ reads_failed (fault_of f)
+reads_same flaw.Read = refl
+reads_same flaw.TooManyReads = refl
+reads_same flaw.NoMemory = refl
+reads_same (flaw.TooLong at) = refl
+reads_same (flaw.Truncated at) = refl
+reads_same (flaw.Write written) = refl
 
--- and an answer's fault is one
-pub lost_writes : (netid : List ℕ) (rows new : List Row) (s : Session) (more : List (List ℕ)) (t u : Option (List ℕ))
-    (a b : Option ℕ) (f : ServeFault) → LosesBy netid rows new s more t u f → Counts 1 a b → WriteFails f a b
-lost_writes netid rows new s more t u a b (fault.Write written) h k = k
-lost_writes netid rows new s more t u a b (fault.Record f) h k = absurd h
-lost_writes netid rows new s more t u a b fault.Read h k = absurd h
-lost_writes netid rows new s more t u a b fault.TooManyReads h k = absurd h
-lost_writes netid rows new s more t u a b fault.NoMemory h k = absurd h
+-- and no failed write
+pub fails_unwritten : (rs : List (List ℕ)) (l m : Option (List ℕ)) (f : RecordFault) → Fails most_record rs l m f
+    → 0 ≡ writes_failed (fault_of f)
+fails_unwritten rs l m (flaw.TooLong at) h = refl
+fails_unwritten rs l m (flaw.Truncated at) h = refl
+fails_unwritten rs l m flaw.NoMemory h = refl
+fails_unwritten rs l m flaw.Read h = refl
+fails_unwritten rs l m flaw.TooManyReads h = refl
+fails_unwritten rs l m (flaw.Write written) h = absurd h.fails
+
+-- an answer's fault is one failed write, and no failed read
+pub lost_is : (netid : List ℕ) (rows new : List Row) (s : Session) (more : List (List ℕ)) (t u : Option (List ℕ))
+    (f : ServeFault) → LosesBy netid rows new s more t u f → (1 ≡ writes_failed f) × (0 ≡ reads_failed f)
+lost_is netid rows new s more t u (fault.Write written) h = (refl, refl)
+lost_is netid rows new s more t u (fault.Record f) h = absurd h
+lost_is netid rows new s more t u fault.Read h = absurd h
+lost_is netid rows new s more t u fault.TooManyReads h = absurd h
+lost_is netid rows new s more t u fault.NoMemory h = absurd h

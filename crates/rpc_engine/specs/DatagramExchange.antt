@@ -45,8 +45,3 @@ ExchangesDatagram xid call left left' sent sent' (Err fault.NoMemory) =
 ExchangesDatagram xid call left left' sent sent' result =
     Sends sent sent' (call ∷ [])
     × ((message : List ℕ) × (Receives left left' (message ∷ []) × Replies xid message result))
-
--- an exchange has one failed receive where it answers that, and else none
-abbrev pub read_failures : Result Reply ClientFault → ℕ
-read_failures (Err fault.Read) = 1
-read_failures _ = 0

@@ -80,7 +80,7 @@ IsAnswer xid input (Err (fault.Record (flaw.TooLong at))) = IsOutcome xid input 
 IsAnswer xid input (Err (fault.Record (flaw.Truncated at))) = IsOutcome xid input (Truncated at)
 IsAnswer xid input (Err _) = Unit {0}
 
--- where the reader tells all that it holds, that has this case
+-- where the reader reports all that it holds, that has this case
 abbrev pub IsExact : (xid : ℕ) → Option (List ℕ) → Result Reply ClientFault → Type 0
 IsExact xid left result = (input : List ℕ) → left ≡ Some input → IsAnswer xid input result
 
@@ -92,7 +92,22 @@ Wrote call taken taken' (Err (fault.Write written)) =
 Wrote call taken taken' (Err fault.NoMemory) = Appends taken taken' [] ⊎ Appends taken taken' (fragment true call)
 Wrote call taken taken' _ = Appends taken taken' (fragment true call)
 
--- an exchange has one failed write where it answers that, and else none
-abbrev pub write_failures : Result Reply ClientFault → ℕ
-write_failures (Err (fault.Write written)) = 1
-write_failures _ = 0
+-- `Read` is one failed read, and the other faults are none
+abbrev pub reads_failed : ClientFault → ℕ
+reads_failed fault.Read = 1
+reads_failed _ = 0
+
+-- how many reads, or receives, failed before an answer
+abbrev pub read_failures : {T : Type 0} → Result T ClientFault → ℕ
+read_failures (Ok x) = 0
+read_failures (Err f) = reads_failed f
+
+-- `Write` is one failed write, and the other faults are none
+abbrev pub writes_failed : ClientFault → ℕ
+writes_failed (fault.Write written) = 1
+writes_failed _ = 0
+
+-- how many writes, or sends, failed before an answer
+abbrev pub write_failures : {T : Type 0} → Result T ClientFault → ℕ
+write_failures (Ok x) = 0
+write_failures (Err f) = writes_failed f

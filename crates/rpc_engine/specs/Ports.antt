@@ -1,4 +1,4 @@
--- What a receive and a send do to the datagrams and the counts that a port tells.
+-- What a receive and a send do to the datagrams and the counts that a port reports.
 use Rattle.std.specs.Prelude.{◌≡◌, ℕ, List, [], ◌∷◌, ◌++◌, take, drop, map, ⊤, None, Some, Ok, Err, Option, Result}
 use Rattle.std.specs.Borrow.{Bor}
 

@@ -1,7 +1,6 @@
 -- What serving has read, done and written (RFC 5531 sections 9 and 11).
-use Rattle.std.specs.Prelude.{◌≡◌, ℕ, ◌<◌, ◌≤◌, List, [], ◌∷◌, ◌++◌, length, take, Bool, Option}
+use Rattle.std.specs.Prelude.{◌≡◌, ℕ, ◌<◌, ◌≤◌, List, [], ◌∷◌, ◌++◌, length, take, Bool, Option, Result, Ok, Err}
 use Rattle.std.specs.Io.KnownBytes.{Appends, Consumes, IsAtEnd}
-use Rattle.xdr_io.specs.Reported.{Counts}
 use Rattle.rpc_record.specs.declared.fault.RecordFault.TheVariants as flaw
 use Rattle.rpc_record.specs.Marked.{normal, Longest}
 use Rattle.rpc_record.specs.Reading.{IsWhole, IsInside, Begins, TooLongAt, HasNoLong, RefusedIn, capped}
@@ -74,7 +73,22 @@ pub record Stops (netid : List ℕ) (rows new : List Row) (left left' taken take
   pub run : Run rows netid rs refusals new replies
   pub stopped : StopsBy netid rows rs replies input left' taken taken' f
 
--- a write's fault is one failed write, and the others are none
-abbrev pub WriteFails : ServeFault → Option ℕ → Option ℕ → Type 0
-WriteFails (fault.Write written) old new = Counts 1 old new
-WriteFails _ old new = Counts 0 old new
+-- `Read` is one failed read, and the other faults are none
+abbrev pub reads_failed : ServeFault → ℕ
+reads_failed fault.Read = 1
+reads_failed _ = 0
+
+-- how many reads failed before an answer
+abbrev pub read_failures : {T : Type 0} → Result T ServeFault → ℕ
+read_failures (Ok x) = 0
+read_failures (Err f) = reads_failed f
+
+-- `Write` is one failed write, and the other faults are none
+abbrev pub writes_failed : ServeFault → ℕ
+writes_failed (fault.Write written) = 1
+writes_failed _ = 0
+
+-- how many writes failed before an answer
+abbrev pub write_failures : {T : Type 0} → Result T ServeFault → ℕ
+write_failures (Ok x) = 0
+write_failures (Err f) = writes_failed f

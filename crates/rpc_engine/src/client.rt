@@ -1,11 +1,11 @@
 //! The exchange of a call for a reply.
-ghost use Rattle.std.specs.Prelude.{◌≡◌, ◌≢◌, ◌≤◌, true, [], ◌∷◌, length, IfOk, IfErr, OnOk, OnErr, IsErrOf};
-ghost use Rattle.std.specs.Prelude.{MatchResult};
+ghost use Rattle.std.specs.Prelude.{◌≡◌, ◌≤◌, true, length, IsErrOf, MatchResult};
 ghost use Rattle.xdr_io.specs.Reported.{Counts, CountsAtMost};
+ghost use Rattle.xdr_io.specs.declared.input.TheConstants.{MOST_READS};
 ghost use Rattle.rpc_record.specs.Marked.{fragment};
 ghost use Rattle.rpc_message.specs.Spelling.{call as call_bytes};
 ghost use Rattle.rpc_message.specs.View.{call_view, reply_view};
-ghost use Rattle.rpc_engine.specs.Exchanged.{Exchanged, IsExact, Wrote, xid_of, write_failures};
+ghost use Rattle.rpc_engine.specs.Exchanged.{Exchanged, IsExact, Wrote, xid_of, read_failures, write_failures};
 ghost use Rattle.rpc_engine.specs.DatagramExchange.{Replies};
 ghost use Rattle.rpc_engine.specs.Private.Looking.{FirstRead, client_fault_of};
 ghost use Rattle.rpc_engine.specs.declared.fault.ClientFault.TheVariants as faults;
@@ -51,12 +51,10 @@ fn record_fault(fault: RecordFault) -> ClientFault
 /// The first record of a reader.
 fn first_record<R: Source>(alloc: Global, reader: &mut R) -> Result<Vec<u8>, ClientFault>
     ensures found { FirstRead (R.left reader.old) (R.left reader.new) result }
-    ensures read { IsErrOf result ClientFault.Read → Counts 1 (R.failures reader.old) (R.failures reader.new) }
-    ensures reads { CountsAtMost 1048576 (R.reads reader.old) (R.reads reader.new) }
-    ensures many { IsErrOf result ClientFault.TooManyReads → Counts 1048576 (R.reads reader.old) (R.reads reader.new) }
-    ensures none_failed { OnOk result (Counts 0 (R.failures reader.old) (R.failures reader.new)) }
-    ensures unfailed { IfErr result (λ f.
-        f ≢ ClientFault.Read → Counts 0 (R.failures reader.old) (R.failures reader.new)) }
+    ensures read { Counts (read_failures result) (R.failures reader.old) (R.failures reader.new) }
+    ensures reads { CountsAtMost MOST_READS (R.reads reader.old) (R.reads reader.new) }
+    ensures many { IsErrOf result ClientFault.TooManyReads
+        → Counts MOST_READS (R.reads reader.old) (R.reads reader.new) }
 {
     let mut records = RecordStream::start(alloc, MOST_REPLY);
     match records.next_record(reader) {
@@ -99,12 +97,10 @@ fn receive<R: Source>(alloc: Global, reader: &mut R, xid: u32) -> Result<Reply, 
     ensures answer { Exchanged xid (R.left reader.old) (R.left reader.new) result }
     ensures exact { IsExact xid (R.left reader.old) result }
     ensures unwritten { write_failures result ≡ 0 }
-    ensures read { IsErrOf result ClientFault.Read → Counts 1 (R.failures reader.old) (R.failures reader.new) }
-    ensures reads { CountsAtMost 1048576 (R.reads reader.old) (R.reads reader.new) }
-    ensures many { IsErrOf result ClientFault.TooManyReads → Counts 1048576 (R.reads reader.old) (R.reads reader.new) }
-    ensures none_failed { OnOk result (Counts 0 (R.failures reader.old) (R.failures reader.new)) }
-    ensures unfailed { IfErr result (λ f.
-        f ≢ ClientFault.Read → Counts 0 (R.failures reader.old) (R.failures reader.new)) }
+    ensures read { Counts (read_failures result) (R.failures reader.old) (R.failures reader.new) }
+    ensures reads { CountsAtMost MOST_READS (R.reads reader.old) (R.reads reader.new) }
+    ensures many { IsErrOf result ClientFault.TooManyReads
+        → Counts MOST_READS (R.reads reader.old) (R.reads reader.new) }
 {
     // The law, for the proof: where a header passes the limit, whatever follows in the reader changes nothing.
     too_long_ends_the_stream();
@@ -128,16 +124,19 @@ pub fn exchange<R: Source, W: Sink>(
     requires cred { length call.now.cred.body.items ≤ 400 }
     requires verf { length call.now.verf.body.items ≤ 400 }
     requires short { length (call_bytes (call_view call.now)) ≤ 2147483647 }
+    // What went out of the call's record,
     ensures wrote { Wrote (call_bytes (call_view call.now)) (W.taken writer.old) (W.taken writer.new) result }
+    // and that the answer is what the bytes that were read are to this call,
     ensures answer { Exchanged call.now.xid (R.left reader.old) (R.left reader.new) result }
+    // as is all that the reader holds, where it reports that.
     ensures exact { IsExact call.now.xid (R.left reader.old) result }
-    ensures read { IsErrOf result ClientFault.Read → Counts 1 (R.failures reader.old) (R.failures reader.new) }
-    ensures reads { CountsAtMost 1048576 (R.reads reader.old) (R.reads reader.new) }
-    ensures many { IsErrOf result ClientFault.TooManyReads → Counts 1048576 (R.reads reader.old) (R.reads reader.new) }
-    ensures none_failed { OnOk result (Counts 0 (R.failures reader.old) (R.failures reader.new)) }
-    ensures unfailed { IfErr result (λ f.
-        f ≢ ClientFault.Read → Counts 0 (R.failures reader.old) (R.failures reader.new)) }
+    // One read failed where the answer is `Read`, and else none; one write where it is `Write`, and else none.
+    ensures read { Counts (read_failures result) (R.failures reader.old) (R.failures reader.new) }
     ensures write { Counts (write_failures result) (W.failures writer.old) (W.failures writer.new) }
+    // So many reads are made at most, and all of them where there were too many.
+    ensures reads { CountsAtMost MOST_READS (R.reads reader.old) (R.reads reader.new) }
+    ensures many { IsErrOf result ClientFault.TooManyReads
+        → Counts MOST_READS (R.reads reader.old) (R.reads reader.new) }
 {
     let marked = match marked_call(alloc, call) {
         Ok(marked) => marked,

@@ -3,8 +3,8 @@ ghost use Rattle.std.specs.Prelude.{◌≡◌, ◌≤◌, length};
 ghost use Rattle.xdr_io.specs.Reported.{Counts};
 ghost use Rattle.rpc_message.specs.Spelling.{call as call_bytes};
 ghost use Rattle.rpc_message.specs.View.{call_view};
-ghost use Rattle.rpc_engine.specs.DatagramExchange.{ExchangesDatagram, read_failures};
-ghost use Rattle.rpc_engine.specs.Exchanged.{write_failures};
+ghost use Rattle.rpc_engine.specs.DatagramExchange.{ExchangesDatagram};
+ghost use Rattle.rpc_engine.specs.Exchanged.{read_failures, write_failures};
 
 use crate::client::reply_to;
 use crate::fault::ClientFault;
@@ -25,8 +25,10 @@ pub fn exchange_datagram<P: DatagramPort>(
     requires cred { length call.now.cred.body.items ≤ 400 }
     requires verf { length call.now.verf.body.items ≤ 400 }
     requires short { length (call_bytes (call_view call.now)) ≤ 65507 }
+    // What was sent, what was received, and that the answer is what that datagram is to this call.
     ensures answer { ExchangesDatagram call.now.xid (call_bytes (call_view call.now)) (P.left port.old)
         (P.left port.new) (P.sent port.old) (P.sent port.new) result }
+    // One receive failed where the answer is `Read`, and else none; one send where it is `Write`, and else none.
     ensures read { Counts (read_failures result) (P.receive_failures port.old) (P.receive_failures port.new) }
     ensures write { Counts (write_failures result) (P.send_failures port.old) (P.send_failures port.new) }
 {

@@ -7,8 +7,9 @@ ghost use Rattle.rpc_engine.specs.Private.Replying.{RepliesTo};
 
 use crate::fault::{DatagramFault, Served};
 use crate::port::{DatagramPort, PortFault};
-use registry_answer::{Appended, Transport, append_answer, system_error};
+use registry_answer::{Appended, Transport, append_answer};
 use rpc_directory::Directory;
+use rpc_message::system_error;
 use std::alloc::Global;
 use std::hash::BuildHasher;
 
@@ -46,12 +47,15 @@ pub fn serve_datagrams<P: DatagramPort, S: BuildHasher>(
     count: u64,
     directory: &mut Directory<S>,
 ) -> Result<Served, DatagramFault>
+    // All were received, and rows and replies are those of the registry's run along them.
     ensures ok { IfOk result (λ served. ServesDatagrams count directory.old directory.new
         (P.left port.old) (P.left port.new) (P.sent port.old) (P.sent port.new) served) }
+    // Fewer were, and the rows are those of a run along them.
     ensures fault { IfErr result (λ f. StopsDatagrams count directory.old directory.new
         (P.left port.old) (P.left port.new) (P.sent port.old) (P.sent port.new) f) }
     ensures none_failed { OnOk result (Counts 0 (P.receive_failures port.old) (P.receive_failures port.new)
         × Counts 0 (P.send_failures port.old) (P.send_failures port.new)) }
+    // `Read` is one failed receive, and `Write` one failed send.
     ensures one_failed { IfErr result (λ f.
         Counts (receives_failed f) (P.receive_failures port.old) (P.receive_failures port.new)
         × Counts (sends_failed f) (P.send_failures port.old) (P.send_failures port.new)) }

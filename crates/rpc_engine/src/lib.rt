@@ -1,5 +1,11 @@
 //! The registry as a server over a stream of records or over datagrams, and the exchange of a call for a reply (RFC
 //! 5531 sections 9 and 11, RFC 1833 sections 2 and 3).
+//!
+//! - `server` reads records and has each answered; `session` writes the reply to one and counts it.
+//! - `client` writes a call and reads its reply.
+//! - `port` is where datagrams come from and go to, and `memory_port` one over memory; `datagrams` serves and
+//!   `datagram_client` calls over a port.
+//! - `fault` has why any of these stops, and the counts; `laws` are theorems about the definitions.
 #![tactic(auto)]
 
 mod client;

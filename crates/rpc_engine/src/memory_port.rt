@@ -1,4 +1,4 @@
-//! A port over lent memory, which tells all.
+//! A port over lent memory, which reports all.
 ghost use Rattle.std.specs.Prelude.{◌≡◌, ◌≤◌, [], Some, take, map, sum, length, IfOk, IfSome};
 ghost use Rattle.std.specs.List.{concat};
 ghost use Rattle.xdr_io.specs.Reported.{Counts, reported_count};
@@ -8,7 +8,7 @@ use crate::port::{DatagramPort, PortFault};
 
 /// A port that gives lent datagrams in their order, each cut to 65536 bytes, and keeps what it sends one behind the
 /// other in a lent slice, with their sizes in another. The call of number `failing`, from 1, receives and sends counted
-/// together, fails; so does a receive where no datagram is left, and a send that a slice has no buffer for.
+/// together, fails; so does a receive where no datagram is left, and a send that a slice has no space for.
 #[derive(Drop)]
 pub struct MemoryPort<'a> {
     waiting: &'a [&'a [u8]],
@@ -28,6 +28,8 @@ pub struct MemoryPort<'a> {
 }
 
 impl<'a> MemoryPort<'a> {
+    ghost use Rattle.rpc_engine.specs.MemoryPorts.{IsFresh};
+
     /// A port before its first call.
     pub fn new(
         datagrams: &'a [&'a [u8]],
@@ -35,15 +37,13 @@ impl<'a> MemoryPort<'a> {
         sizes: &'a mut [usize],
         failing: Option<u64>,
     ) -> Self
+        // All datagrams are left, none was sent, and no call has failed.
         ensures left { ⟦<MemoryPort<'a> as DatagramPort>⟧.left result
             ≡ Some (received_from 0 datagrams.now) }
         ensures sent { ⟦<MemoryPort<'a> as DatagramPort>⟧.sent result ≡ Some [] }
         ensures receives { ⟦<MemoryPort<'a> as DatagramPort>⟧.receive_failures result ≡ Some 0 }
         ensures sends { ⟦<MemoryPort<'a> as DatagramPort>⟧.send_failures result ≡ Some 0 }
-        ensures buffer { length result.buffer.now ≡ length buffer.old }
-        ensures sizes { length result.sizes.now ≡ length sizes.old }
-        ensures failing { result.failing ≡ failing }
-        ensures calls { result.calls ≡ 0 }
+        ensures fresh { IsFresh result buffer.old sizes.old failing }
     {
         MemoryPort {
             waiting: datagrams,
@@ -94,7 +94,9 @@ impl<'a> DatagramPort for MemoryPort<'a> {
         ensures failed { Counts (failures_of result) (reported_count self.old.failed_receives)
             (reported_count self.new.failed_receives) }
         ensures none_failed { Counts 0 (reported_count self.old.failed_sends) (reported_count self.new.failed_sends) }
+        // It fails exactly where it is due to or no datagram is left,
         ensures gives { ReceiveAnswers self.old result }
+        // and what was lent stays lent.
         ensures same { SamePort self.old self.new }
     {
         self.calls = self.calls.saturating_add(1);
@@ -117,7 +119,9 @@ impl<'a> DatagramPort for MemoryPort<'a> {
         ensures failed { Counts (failures_of result) (reported_count self.old.failed_sends)
             (reported_count self.new.failed_sends) }
         ensures none_failed { Counts 0 (reported_count self.old.failed_receives) (reported_count self.new.failed_receives) }
+        // It fails exactly where it is due to or there is no space for the datagram,
         ensures takes { SendAnswers self.old result datagram.now }
+        // and what was lent stays lent.
         ensures same { SamePort self.old self.new }
     {
         self.calls = self.calls.saturating_add(1);

@@ -1,4 +1,4 @@
-//! A port for datagrams, and what it tells.
+//! A port for datagrams, and what it reports.
 ghost use Rattle.std.specs.Prelude.{ℕ, ◌≤◌, [], Option, None, IfOk};
 ghost use Rattle.xdr_io.specs.Reported.{Counts};
 ghost use Rattle.rpc_engine.specs.Ports.{Reported, Receives, Sends, ReceiveMoves, SendMoves, failures_of};
@@ -28,16 +28,22 @@ pub trait DatagramPort {
     /// behind them has no meaning. A fault moves none.
     fn receive(&mut self, array: &mut [u8; 65536]) -> Result<u32, PortFault>
         ensures bound { IfOk result (λ n. n ≤ 65536) }
+        // The next datagram is at the front of the array, or none was received;
         ensures received { ReceiveMoves (left self.old) (left self.new) result array.new }
+        // none was sent.
         ensures unsent { Sends (sent self.old) (sent self.new) [] }
+        // A fault is one failed receive, and no failed send.
         ensures failed { Counts (failures_of result) (receive_failures self.old) (receive_failures self.new) }
         ensures none_failed { Counts 0 (send_failures self.old) (send_failures self.new) };
 
     /// Sends the datagram: a server's port to the sender of the last one that was received, a client's to its peer. A
     /// fault sends none.
     fn send(&mut self, datagram: &[u8]) -> Result<(), PortFault>
+        // The datagram was sent whole, or not at all;
         ensures sent { SendMoves (sent self.old) (sent self.new) result datagram.now }
+        // none was received.
         ensures unreceived { Receives (left self.old) (left self.new) [] }
+        // A fault is one failed send, and no failed receive.
         ensures failed { Counts (failures_of result) (send_failures self.old) (send_failures self.new) }
         ensures none_failed { Counts 0 (receive_failures self.old) (receive_failures self.new) };
 }

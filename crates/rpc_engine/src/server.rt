@@ -1,8 +1,9 @@
 //! The registry as a server over a stream of records.
-ghost use Rattle.std.specs.Prelude.{◌≡◌, ◌≢◌, IfOk, IfErr, OnOk, IsErrOf};
+ghost use Rattle.std.specs.Prelude.{◌≡◌, IfOk, IfErr, IsErrOf};
 ghost use Rattle.xdr_io.specs.Reported.{Counts, CountsAtMost};
+ghost use Rattle.xdr_io.specs.declared.input.TheConstants.{MOST_READS};
 ghost use Rattle.registry_answer.specs.Views.{netid_of};
-ghost use Rattle.rpc_engine.specs.Served.{Serves, Stops, WriteFails};
+ghost use Rattle.rpc_engine.specs.Served.{Serves, Stops, read_failures, write_failures};
 ghost use Rattle.rpc_engine.specs.Private.Serving.{fault_of};
 
 use crate::fault::{ServeFault, Served};
@@ -43,18 +44,19 @@ pub fn serve<R: Source, W: Sink, S: BuildHasher>(
     directory: &mut Directory<S>,
     transport: Transport,
 ) -> Result<Served, ServeFault>
+    // All was read, and rows and replies are those of the registry's run along its records.
     ensures ok { IfOk result (λ served. Serves (netid_of transport) directory.old directory.new
         (R.left reader.old) (R.left reader.new) (W.taken writer.old) (W.taken writer.new) served) }
+    // Some was read, in which the fault is, and the rows are those of a run along the records before it.
     ensures fault { IfErr result (λ f. Stops (netid_of transport) directory.old directory.new
         (R.left reader.old) (R.left reader.new) (W.taken writer.old) (W.taken writer.new) f) }
-    ensures read { IsErrOf result ServeFault.Read → Counts 1 (R.failures reader.old) (R.failures reader.new) }
-    ensures unfailed { IfErr result (λ f.
-        f ≢ ServeFault.Read → Counts 0 (R.failures reader.old) (R.failures reader.new)) }
-    ensures reads { CountsAtMost 1048576 (R.reads reader.old) (R.reads reader.new) }
-    ensures many { IsErrOf result ServeFault.TooManyReads → Counts 1048576 (R.reads reader.old) (R.reads reader.new) }
-    ensures write { IfErr result (λ f. WriteFails f (W.failures writer.old) (W.failures writer.new)) }
-    ensures none_failed { OnOk result (Counts 0 (R.failures reader.old) (R.failures reader.new)
-        × Counts 0 (W.failures writer.old) (W.failures writer.new)) }
+    // One read failed where the answer is `Read`, and else none; one write where it is `Write`, and else none.
+    ensures read { Counts (read_failures result) (R.failures reader.old) (R.failures reader.new) }
+    ensures write { Counts (write_failures result) (W.failures writer.old) (W.failures writer.new) }
+    // So many reads are made at most, and all of them where there were too many.
+    ensures reads { CountsAtMost MOST_READS (R.reads reader.old) (R.reads reader.new) }
+    ensures many { IsErrOf result ServeFault.TooManyReads
+        → Counts MOST_READS (R.reads reader.old) (R.reads reader.new) }
 {
     let mut records = RecordStream::start(alloc, MOST_RECORD);
     let mut session = Session::new(alloc);

@@ -4,10 +4,10 @@ ghost use Rattle.std.specs.Prelude.{vec_len, IfErr, OnOk, OnErr};
 ghost use Rattle.std.specs.Io.KnownBytes.{Appends};
 ghost use Rattle.xdr_io.specs.Reported.{Counts};
 ghost use Rattle.rpc_engine.specs.Private.Fronts.{front_len, IsSent};
+ghost use Rattle.rpc_message.specs.Heads.{accepted};
 ghost use Rattle.rpc_message.specs.Message.{SystemErr};
 ghost use Rattle.rpc_message.specs.Spelling.{reply};
 ghost use Rattle.rpc_record.specs.Marked.{header, fragment};
-ghost use Rattle.registry_answer.specs.Answer.{accepted};
 ghost use Rattle.registry_answer.specs.Views.{netid_of};
 
 use crate::fault::{ServeFault, Served};
@@ -66,6 +66,7 @@ impl Session {
         self.begin();
         let buffer = &mut self.buffer;
         buffer.clear();
+        // Space for the header, so that header and reply go out in one piece.
         let has_front = buffer.extend_from_slice(&[0; 4]).is_ok();
         match append_answer(alloc, directory, transport, message, buffer) {
             Appended::Nothing => Ok(()),
@@ -129,6 +130,7 @@ fn send<W: Sink>(buffer: &mut Vec<u8>, has_front: bool, writer: &mut W) -> Resul
         mark_front(buffer);
         send_whole(writer, buffer)
     } else {
+        // The law, for the proof: a fragment has four bytes more than its content.
         normal_forms_join();
         match write_marked(writer, buffer) {
             Ok(()) => Ok(buffer.len() + 4),
@@ -157,6 +159,6 @@ fn system_error(xid: u32) -> [u8; 28]
 {
     let mut bytes = [0; 28];
     bytes[..4].copy_from_slice(&last_header(24));
-    bytes[4..].copy_from_slice(&registry_answer::system_error(xid));
+    bytes[4..].copy_from_slice(&rpc_message::system_error(xid));
     bytes
 }

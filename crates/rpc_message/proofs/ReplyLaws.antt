@@ -239,3 +239,10 @@ accepted_written old o1 o2 o3 o4 o5 xid verf s e1 e2 e3 e4 e5 =
     (e4 ∙ ap (λ (t : List ℕ). t ++ auth verf)
     (e3 ∙ ap (λ (t : List ℕ). t ++ word 0) (e2 ∙ ap (λ (t : List ℕ). t ++ word 1) e1)))
     ∙ assoc old (word xid) (word 1) (word 0) (auth verf) (status s)
+
+pub denied_written : (old o1 o2 o3 o4 : List ℕ) (xid : ℕ) (w : WhyView) → o1 ≡ old ++ word xid
+    → o2 ≡ o1 ++ word 1 → o3 ≡ o2 ++ word 1 → o4 ≡ o3 ++ why w → o4 ≡ old ++ reply (Denied xid w)
+denied_written old o1 o2 o3 o4 xid w e1 e2 e3 e4 =
+    e4 ∙ ap (λ (t : List ℕ). t ++ why w)
+    (e3 ∙ ap (λ (t : List ℕ). t ++ word 1) (e2 ∙ ap (λ (t : List ℕ). t ++ word 1) e1))
+    ∙ simp append_assoc refl

@@ -1,5 +1,6 @@
 -- The five cases of a message that is read as a call (RFC 5531 section 9).
 use Rattle.std.specs.Prelude.{◌≡◌, ◌⊎◌, ◌≢◌, ℕ, ◌<◌, List, ◌++◌, length}
+use Rattle.rpc_message.specs.Constants.{rpc_version, call_type}
 use Rattle.rpc_message.specs.Message.{AuthView, CaseView, Whole, OtherVersion, BadCred, BadVerf, NotACall}
 use Rattle.xdr_units.specs.Numbers.{word, AreBytes, IsWord}
 use Rattle.rpc_message.specs.Spelling.{auth, IsAuth, CallBytes}
@@ -12,9 +13,9 @@ NoAuth bytes = (a : AuthView) (rest : List ℕ) → IsAuth a → bytes ≢ auth 
 pub record IsOtherVersion (xid version : ℕ) (bytes : List ℕ) : Type 0 where
   pub xid_fits : IsWord xid
   pub version_fits : IsWord version
-  pub other : version ≢ 2
+  pub other : version ≢ rpc_version
   pub rest : List ℕ
-  pub parts : bytes ≡ word xid ++ word 0 ++ word version ++ rest
+  pub parts : bytes ≡ word xid ++ word call_type ++ word version ++ rest
 
 -- A call of version 2 up to its procedure, and then no credential.
 pub record IsBadCred (xid : ℕ) (bytes : List ℕ) : Type 0 where
@@ -23,7 +24,7 @@ pub record IsBadCred (xid : ℕ) (bytes : List ℕ) : Type 0 where
   pub proc : ℕ
   pub rest : List ℕ
   pub fits : IsWord xid × IsWord prog × IsWord vers × IsWord proc
-  pub parts : bytes ≡ word xid ++ word 0 ++ word 2 ++ word prog ++ word vers ++ word proc ++ rest
+  pub parts : bytes ≡ word xid ++ word call_type ++ word rpc_version ++ word prog ++ word vers ++ word proc ++ rest
   pub bad : NoAuth rest
 
 -- The same up to its credential, and then no verifier.
@@ -35,16 +36,17 @@ pub record IsBadVerf (xid : ℕ) (bytes : List ℕ) : Type 0 where
   pub rest : List ℕ
   pub fits : IsWord xid × IsWord prog × IsWord vers × IsWord proc
   pub cred_fits : IsAuth cred
-  pub parts : bytes ≡ word xid ++ word 0 ++ word 2 ++ word prog ++ word vers ++ word proc ++ (auth cred ++ rest)
+  pub parts : bytes ≡ word xid ++ word call_type ++ word rpc_version ++ word prog ++ word vers ++ word proc
+      ++ (auth cred ++ rest)
   pub bad : NoAuth rest
 
--- A second word that is not 0, CALL.
+-- A second word that is not CALL.
 pub record IsOfOtherKind (bytes : List ℕ) : Type 0 where
   pub xid : ℕ
   pub kind : ℕ
   pub rest : List ℕ
   pub fits : IsWord xid × IsWord kind
-  pub other : kind ≢ 0
+  pub other : kind ≢ call_type
   pub parts : bytes ≡ word xid ++ word kind ++ rest
 
 -- A call of version 2 with fewer than 24 bytes.
@@ -52,7 +54,7 @@ pub record IsShort (bytes : List ℕ) : Type 0 where
   pub xid : ℕ
   pub rest : List ℕ
   pub fits : IsWord xid
-  pub parts : bytes ≡ word xid ++ word 0 ++ word 2 ++ rest
+  pub parts : bytes ≡ word xid ++ word call_type ++ word rpc_version ++ rest
   pub short : length bytes < 24
 
 -- fewer than 12 bytes, or one of these two

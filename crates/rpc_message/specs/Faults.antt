@@ -2,6 +2,8 @@
 use Rattle.std.specs.Prelude.{◌≡◌, ◌⊎◌, ◌≢◌, ℕ, ◌<◌, ◌≤◌, List, [], ◌∷◌, ◌++◌, length, replicate}
 use Rattle.rpc_message.specs.declared.fault.ReplyFault.{ReplyFault}
 use Rattle.rpc_message.specs.declared.fault.ReplyFault.TheVariants as faults
+use Rattle.rpc_message.specs.Constants.{reply_type, msg_accepted, msg_denied, prog_mismatch, system_err}
+use Rattle.rpc_message.specs.Constants.{rpc_mismatch, auth_error}
 use Rattle.rpc_message.specs.Message.{AuthView, Success, ReplyView, Accepted}
 use Rattle.xdr_units.specs.Numbers.{word, gap, IsWord}
 use Rattle.rpc_message.specs.Spelling.{auth, reply, IsAuth, IsReply}
@@ -25,14 +27,15 @@ pub data Place : Type 0 where
 abbrev pub before : Place → List ℕ
 before Xid = []
 before (MessageType xid) = word xid
-before (ReplyStat xid) = word xid ++ word 1
-before (AcceptStat xid verf) = word xid ++ word 1 ++ word 0 ++ auth verf
-before (AcceptLow xid verf) = word xid ++ word 1 ++ word 0 ++ auth verf ++ word 2
-before (AcceptHigh xid verf low) = word xid ++ word 1 ++ word 0 ++ auth verf ++ word 2 ++ word low
-before (RejectStat xid) = word xid ++ word 1 ++ word 1
-before (RejectLow xid) = word xid ++ word 1 ++ word 1 ++ word 0
-before (RejectHigh xid low) = word xid ++ word 1 ++ word 1 ++ word 0 ++ word low
-before (AuthStat xid) = word xid ++ word 1 ++ word 1 ++ word 1
+before (ReplyStat xid) = word xid ++ word reply_type
+before (AcceptStat xid verf) = word xid ++ word reply_type ++ word msg_accepted ++ auth verf
+before (AcceptLow xid verf) = word xid ++ word reply_type ++ word msg_accepted ++ auth verf ++ word prog_mismatch
+before (AcceptHigh xid verf low) =
+    word xid ++ word reply_type ++ word msg_accepted ++ auth verf ++ word prog_mismatch ++ word low
+before (RejectStat xid) = word xid ++ word reply_type ++ word msg_denied
+before (RejectLow xid) = word xid ++ word reply_type ++ word msg_denied ++ word rpc_mismatch
+before (RejectHigh xid low) = word xid ++ word reply_type ++ word msg_denied ++ word rpc_mismatch ++ word low
+before (AuthStat xid) = word xid ++ word reply_type ++ word msg_denied ++ word auth_error
 
 -- the values before it have their ranges
 abbrev pub IsPlace : Place → Type 0
@@ -92,7 +95,7 @@ pub record EndsInVerifier (bytes : List ℕ) : Type 0 where
   pub xid : ℕ
   pub rest : List ℕ
   pub fits : IsWord xid
-  pub parts : bytes ≡ word xid ++ word 1 ++ word 0 ++ rest
+  pub parts : bytes ≡ word xid ++ word reply_type ++ word msg_accepted ++ rest
   pub cut : IsCutAuth rest
 
 abbrev pub IsCut : List ℕ → Type 0
@@ -100,22 +103,22 @@ IsCut bytes = EndsInNumber bytes ⊎ EndsInVerifier bytes
 
 -- ---- NotAReply
 
--- The second word is not 1, REPLY (section 9, msg_type).
+-- The second word is not REPLY (section 9, msg_type).
 pub record IsOtherKind (bytes : List ℕ) : Type 0 where
   pub xid : ℕ
   pub kind : ℕ
   pub rest : List ℕ
   pub fits : IsWord xid × IsWord kind
-  pub other : kind ≢ 1
+  pub other : kind ≢ reply_type
   pub parts : bytes ≡ word xid ++ word kind ++ rest
 
 -- ---- BadStatus
 
--- a number for which no status stands at this place (section 9, reply_stat, accept_stat, reject_stat)
+-- a number above those that stand at this place (section 9, reply_stat, accept_stat, reject_stat)
 abbrev pub IsNoStatus : Place → ℕ → Type 0
-IsNoStatus (ReplyStat xid) stat = 1 < stat
-IsNoStatus (AcceptStat xid verf) stat = 5 < stat
-IsNoStatus (RejectStat xid) stat = 1 < stat
+IsNoStatus (ReplyStat xid) stat = msg_denied < stat
+IsNoStatus (AcceptStat xid verf) stat = system_err < stat
+IsNoStatus (RejectStat xid) stat = auth_error < stat
 IsNoStatus _ stat = ⊥
 
 -- Such a number stands in its place.
@@ -153,7 +156,7 @@ pub record HasBadAuth (bytes : List ℕ) : Type 0 where
   pub xid : ℕ
   pub rest : List ℕ
   pub fits : IsWord xid
-  pub parts : bytes ≡ word xid ++ word 1 ++ word 0 ++ rest
+  pub parts : bytes ≡ word xid ++ word reply_type ++ word msg_accepted ++ rest
   pub bad : IsTooLong rest ⊎ IsPaddedWrong rest
 
 -- ---- Rest

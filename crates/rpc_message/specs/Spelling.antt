@@ -2,6 +2,9 @@
 use Rattle.std.specs.Prelude.{◌≡◌, ℕ, ◌≤◌, List, ◌++◌, length, All}
 use Rattle.std.specs.List.{flat_map}
 use Rattle.xdr_units.specs.Numbers.{word, padded, IsWord}
+use Rattle.rpc_message.specs.Constants.{rpc_version, call_type, reply_type, msg_accepted, msg_denied, success}
+use Rattle.rpc_message.specs.Constants.{prog_unavail, prog_mismatch, proc_unavail, garbage_args, system_err}
+use Rattle.rpc_message.specs.Constants.{rpc_mismatch, auth_error}
 use Rattle.rpc_message.specs.Message.{AuthView, AuthSysView, CallView, StatusView, Success, ProgUnavail, ProgMismatch}
 use Rattle.rpc_message.specs.Message.{ProcUnavail, GarbageArgs, SystemErr, WhyView, RpcMismatch, AuthError, ReplyView}
 use Rattle.rpc_message.specs.Message.{Accepted, Denied}
@@ -14,31 +17,31 @@ opaque bytes = word (length bytes) ++ padded bytes
 abbrev pub auth : AuthView → List ℕ
 auth a = word a.flavor ++ opaque a.body
 
--- xid, 0 for CALL, version 2 of RPC, program, version, procedure, credential, verifier, arguments
+-- xid, CALL, version 2 of RPC, program, version, procedure, credential, verifier, arguments
 -- (section 9, call_body)
 abbrev pub call : CallView → List ℕ
 call c =
-    word c.xid ++ word 0 ++ word 2 ++ word c.prog ++ word c.vers ++ word c.proc
+    word c.xid ++ word call_type ++ word rpc_version ++ word c.prog ++ word c.vers ++ word c.proc
     ++ (auth c.cred ++ (auth c.verf ++ c.args))
 
 -- the number of a status and what follows it (section 9, accept_stat)
 abbrev pub status : StatusView → List ℕ
-status (Success results) = word 0 ++ results
-status ProgUnavail = word 1
-status (ProgMismatch low high) = word 2 ++ word low ++ word high
-status ProcUnavail = word 3
-status GarbageArgs = word 4
-status SystemErr = word 5
+status (Success results) = word success ++ results
+status ProgUnavail = word prog_unavail
+status (ProgMismatch low high) = word prog_mismatch ++ word low ++ word high
+status ProcUnavail = word proc_unavail
+status GarbageArgs = word garbage_args
+status SystemErr = word system_err
 
 -- the number of a reason and what follows it (section 9, reject_stat)
 abbrev pub why : WhyView → List ℕ
-why (RpcMismatch low high) = word 0 ++ word low ++ word high
-why (AuthError stat) = word 1 ++ word stat
+why (RpcMismatch low high) = word rpc_mismatch ++ word low ++ word high
+why (AuthError stat) = word auth_error ++ word stat
 
--- xid, 1 for REPLY, 0 for MSG_ACCEPTED with verifier and status, or 1 for MSG_DENIED with the reason (section 9)
+-- xid, REPLY, and MSG_ACCEPTED with verifier and status, or MSG_DENIED with the reason (section 9)
 abbrev pub reply : ReplyView → List ℕ
-reply (Accepted xid verf s) = word xid ++ word 1 ++ word 0 ++ (auth verf ++ status s)
-reply (Denied xid w) = word xid ++ word 1 ++ word 1 ++ why w
+reply (Accepted xid verf s) = word xid ++ word reply_type ++ word msg_accepted ++ (auth verf ++ status s)
+reply (Denied xid w) = word xid ++ word reply_type ++ word msg_denied ++ why w
 
 -- stamp, machine name, uid, gid, and the gids after their number (appendix A)
 abbrev pub auth_sys : AuthSysView → List ℕ

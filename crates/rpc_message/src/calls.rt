@@ -10,6 +10,7 @@ ghost use Rattle.rpc_message.specs.Private.Reading.{Reads, call_head_at, target_
 use crate::fault::ReplyFault;
 use crate::fields::{auth_at, push_auth, word_at};
 use crate::message::{Call, CallRead, LentCall, LentRead};
+use crate::numbers::{CALL, RPC_VERSION};
 use std::alloc::Global;
 use xdr_units::{NoMemory, push_word};
 
@@ -21,7 +22,7 @@ fn call_head(bytes: &[u8]) -> Result<(u32, u32, &[u8]), ReplyFault>
     let (xid, rest) = word_at(bytes)?;
     let (kind, rest) = word_at(rest)?;
     let (version, rest) = word_at(rest)?;
-    if kind != 0 {
+    if kind != CALL {
         return Err(ReplyFault::NotAReply);
     }
     Ok((xid, version, rest))
@@ -46,7 +47,7 @@ fn case_of(bytes: &[u8]) -> LentRead<'_>
     let Ok((xid, version, rest)) = call_head(bytes) else {
         return LentRead::NotACall;
     };
-    if version != 2 {
+    if version != RPC_VERSION {
         return LentRead::OtherVersion { xid, version };
     }
     let Ok((prog, vers, proc, rest)) = target(rest) else {
@@ -99,8 +100,8 @@ pub fn read_call(alloc: Global, bytes: &[u8]) -> Result<CallRead, NoMemory>
     }
 }
 
-/// The bytes of the call: xid, 0, 2, program, version, procedure, credential, verifier, and the arguments. Credential
-/// and verifier have at most 400 bytes each. `NoMemory` comes where memory is refused (RFC 5531 section 9).
+/// The bytes of the call: xid, CALL, version 2, program, version, procedure, credential, verifier, and the arguments.
+/// Credential and verifier have at most 400 bytes each. `NoMemory` comes where memory is refused (RFC 5531 section 9).
 pub fn write_call(alloc: Global, c: &Call) -> Result<Vec<u8>, NoMemory>
     requires cred { length c.now.cred.body.items ≤ 400 }
     requires verf { length c.now.verf.body.items ≤ 400 }
@@ -108,8 +109,8 @@ pub fn write_call(alloc: Global, c: &Call) -> Result<Vec<u8>, NoMemory>
 {
     let mut out = Vec::new(alloc);
     push_word(&mut out, c.xid)?;
-    push_word(&mut out, 0)?;
-    push_word(&mut out, 2)?;
+    push_word(&mut out, CALL)?;
+    push_word(&mut out, RPC_VERSION)?;
     push_word(&mut out, c.prog)?;
     push_word(&mut out, c.vers)?;
     push_word(&mut out, c.proc)?;

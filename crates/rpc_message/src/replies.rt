@@ -14,6 +14,10 @@ ghost use Rattle.rpc_message.specs.Private.Reading.{reply_stat_at, reply_at};
 use crate::fault::ReplyFault;
 use crate::fields::{auth_at, push_auth, word_at};
 use crate::message::{Reply, Status, Why};
+use crate::numbers::{
+    AUTH_ERROR, GARBAGE_ARGS, MSG_ACCEPTED, MSG_DENIED, PROC_UNAVAIL, PROG_MISMATCH, PROG_UNAVAIL,
+    REPLY, RPC_MISMATCH, SUCCESS, SYSTEM_ERR,
+};
 use std::alloc::Global;
 use xdr_units::{NoMemory, push_word};
 
@@ -36,16 +40,18 @@ fn status_of(alloc: Global, stat: u32, bytes: &[u8]) -> Result<Status, ReplyFaul
     ensures { ReadsOrNoMemory status_view result (status_at stat bytes.now) }
 {
     match stat {
-        0 => Ok(Status::Success(Vec::from_slice(alloc, bytes)?)),
-        2 => {
+        SUCCESS => Ok(Status::Success(Vec::from_slice(alloc, bytes)?)),
+        PROG_MISMATCH => {
             let (low, high) = bounds(bytes)?;
             Ok(Status::ProgMismatch { low, high })
         }
-        1 | 3 | 4 | 5 if !bytes.is_empty() => Err(ReplyFault::Rest),
-        1 => Ok(Status::ProgUnavail),
-        3 => Ok(Status::ProcUnavail),
-        4 => Ok(Status::GarbageArgs),
-        5 => Ok(Status::SystemErr),
+        PROG_UNAVAIL | PROC_UNAVAIL | GARBAGE_ARGS | SYSTEM_ERR if !bytes.is_empty() => {
+            Err(ReplyFault::Rest)
+        }
+        PROG_UNAVAIL => Ok(Status::ProgUnavail),
+        PROC_UNAVAIL => Ok(Status::ProcUnavail),
+        GARBAGE_ARGS => Ok(Status::GarbageArgs),
+        SYSTEM_ERR => Ok(Status::SystemErr),
         _ => Err(ReplyFault::BadStatus),
     }
 }
@@ -56,11 +62,11 @@ fn why_of(stat: u32, bytes: &[u8]) -> Result<Why, ReplyFault>
     ensures { Reads why_view result (why_at stat bytes.now) }
 {
     match stat {
-        0 => {
+        RPC_MISMATCH => {
             let (low, high) = bounds(bytes)?;
             Ok(Why::RpcMismatch { low, high })
         }
-        1 => {
+        AUTH_ERROR => {
             let (stat, rest) = word_at(bytes)?;
             if !rest.is_empty() {
                 return Err(ReplyFault::Rest);
@@ -99,8 +105,8 @@ fn reply_stat(alloc: Global, xid: u32, stat: u32, bytes: &[u8]) -> Result<Reply,
     ensures { ReadsOrNoMemory reply_view result (reply_stat_at xid stat bytes.now) }
 {
     match stat {
-        0 => accepted(alloc, xid, bytes),
-        1 => denied(xid, bytes),
+        MSG_ACCEPTED => accepted(alloc, xid, bytes),
+        MSG_DENIED => denied(xid, bytes),
         _ => Err(ReplyFault::BadStatus),
     }
 }
@@ -112,7 +118,7 @@ fn reply_at(alloc: Global, bytes: &[u8]) -> Result<Reply, ReplyFault>
 {
     let (xid, rest) = word_at(bytes)?;
     let (kind, rest) = word_at(rest)?;
-    if kind != 1 {
+    if kind != REPLY {
         return Err(ReplyFault::NotAReply);
     }
     let (stat, rest) = word_at(rest)?;
@@ -143,18 +149,18 @@ fn push_status(out: &mut Vec<u8>, s: &Status) -> Result<(), NoMemory>
 {
     match s {
         Status::Success(results) => {
-            push_word(out, 0)?;
+            push_word(out, SUCCESS)?;
             Ok(out.extend_from_slice(results)?)
         }
-        Status::ProgUnavail => push_word(out, 1),
+        Status::ProgUnavail => push_word(out, PROG_UNAVAIL),
         Status::ProgMismatch { low, high } => {
-            push_word(out, 2)?;
+            push_word(out, PROG_MISMATCH)?;
             push_word(out, *low)?;
             push_word(out, *high)
         }
-        Status::ProcUnavail => push_word(out, 3),
-        Status::GarbageArgs => push_word(out, 4),
-        Status::SystemErr => push_word(out, 5),
+        Status::ProcUnavail => push_word(out, PROC_UNAVAIL),
+        Status::GarbageArgs => push_word(out, GARBAGE_ARGS),
+        Status::SystemErr => push_word(out, SYSTEM_ERR),
     }
 }
 
@@ -167,12 +173,12 @@ fn push_why(out: &mut Vec<u8>, w: Why) -> Result<(), NoMemory>
 {
     match w {
         Why::RpcMismatch { low, high } => {
-            push_word(out, 0)?;
+            push_word(out, RPC_MISMATCH)?;
             push_word(out, low)?;
             push_word(out, high)
         }
         Why::AuthError(stat) => {
-            push_word(out, 1)?;
+            push_word(out, AUTH_ERROR)?;
             push_word(out, stat)
         }
     }
@@ -189,17 +195,18 @@ fn push_reply(out: &mut Vec<u8>, r: &Reply) -> Result<(), NoMemory>
     match r {
         Reply::Accepted { xid, verf, status } => {
             push_word(out, *xid)?;
-            push_word(out, 1)?;
-            push_word(out, 0)?;
+            push_word(out, REPLY)?;
+            push_word(out, MSG_ACCEPTED)?;
             push_auth(out, verf)?;
             push_status(out, status)?;
             Ok(())
         }
         Reply::Denied { xid, why } => {
             push_word(out, *xid)?;
-            push_word(out, 1)?;
-            push_word(out, 1)?;
-            push_why(out, *why)
+            push_word(out, REPLY)?;
+            push_word(out, MSG_DENIED)?;
+            push_why(out, *why)?;
+            Ok(())
         }
     }
 }
@@ -209,6 +216,7 @@ fn push_reply(out: &mut Vec<u8>, r: &Reply) -> Result<(), NoMemory>
 pub fn append_reply(out: &mut Vec<u8>, r: &Reply) -> Result<(), NoMemory>
     requires { HasShortVerf r.now }
     ensures ok { OnOk result (out.new.items ≡ out.old.items ++ reply (reply_view r.now)) }
+    // Each number of the reply is a word of 32 bits, and its verifier has at most 400 bytes.
     ensures fits { OnOk result (IsReply (reply_view r.now)) }
     ensures retained { OnErr result (out.new.items ≡ out.old.items) }
 {
@@ -222,8 +230,8 @@ pub fn append_reply(out: &mut Vec<u8>, r: &Reply) -> Result<(), NoMemory>
     }
 }
 
-/// The bytes of the reply: xid, 1, and 0, verifier, status or 1, reason. The verifier has at most 400 bytes. `NoMemory`
-/// comes where memory is refused (RFC 5531 section 9).
+/// The bytes of the reply: xid, REPLY, and MSG_ACCEPTED, verifier, status or MSG_DENIED, reason. The verifier has at
+/// most 400 bytes. `NoMemory` comes where memory is refused (RFC 5531 section 9).
 pub fn write_reply(alloc: Global, r: &Reply) -> Result<Vec<u8>, NoMemory>
     requires { HasShortVerf r.now }
     ensures { IfOk result (λ v. ReplyBytes (reply_view r.now) v.items) }

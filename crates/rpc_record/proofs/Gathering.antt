@@ -1,11 +1,10 @@
 -- Records handed to an outbox, one after another, and what normalising comes to.
 use Rattle.std.proofs.Common.{◌≡◌, ℕ, ◌+◌, ◌<◌, ◌≤◌, ◌^◌, true, List, [], ◌∷◌, ◌++◌, length, take}
 use Rattle.std.proofs.Common.{Option, refl, sym, ap}
-use Rattle.std.proofs.Common.{◌∙◌, subst, append_assoc, length-append, arith, Result, Err}
+use Rattle.std.proofs.Common.{◌∙◌, subst, append_assoc, length-append, arith}
 use Rattle.std.proofs.lemmas.List.{append-nil, length_push}
 use Rattle.std.proofs.Math.Seq.{get_or-append_seam}
 use Rattle.std.specs.Io.KnownBytes.{Appends, Consumes}
-use Rattle.xdr_io.specs.Reported.{Counts}
 use Rattle.xdr_io.proofs.Chained.{Appends-trans, Appends-none, take_past}
 use Rattle.rpc_record.specs.declared.fault.RecordFault.{RecordFault}
 use Rattle.rpc_record.specs.declared.fault.RecordFault.TheVariants as fault
@@ -13,7 +12,8 @@ use Rattle.rpc_record.specs.declared.outbox.Outbox.{Outbox}
 use Rattle.rpc_record.specs.declared.reader.RecordReader.{RecordReader}
 use Rattle.rpc_record.specs.Marked.{header, fragment, normal}
 use Rattle.rpc_record.specs.Reading.{Begins, capped}
-use Rattle.rpc_record.specs.Normalised.{IsCount, Normalised, StopsBy, Stops, WriteFails}
+use Rattle.rpc_record.specs.Failures.{reads_failed, writes_failed}
+use Rattle.rpc_record.specs.Normalised.{IsCount, Normalised, StopsBy, Stops}
 use Rattle.rpc_record.specs.Streamed.{HasTaken, IsRead, FailsAt, Fails}
 use Rattle.rpc_record.specs.Private.Sending.{waiting, Sends, SendingCut}
 use Rattle.rpc_record.proofs.Counting.{normal-append}
@@ -117,10 +117,6 @@ module _ (rs : List (List ℕ)) (old : Outbox) (t u : Option (List ℕ)) (p : Ha
 
 -- ---- the ends of normalising
 
--- two answers are the same error
-pub same_err : {T E : Type 0} (f g : E) → ◌≡◌ {A = Result T E} (Err f) (Err g) → f ≡ g
-same_err f g e = cc
-
 -- a fault of the reader, where all before it went out
 pub stops_failed : (limit : ℕ) (rs : List (List ℕ)) (l m t u : Option (List ℕ)) (f : RecordFault)
     → Fails limit rs l m f → Appends t u (normal rs) → Stops limit l m t u f
@@ -134,24 +130,25 @@ stops_failed limit rs l m t u f h w = record { input = h.input; rs = rs; read = 
     by fault.TooManyReads k = (k.0, w)
     by (fault.Write written) k = absurd k
 
--- it is no failed write, and one of the outbox is
-pub writes_none : (limit : ℕ) (rs : List (List ℕ)) (l m : Option (List ℕ)) (a b : Option ℕ) (f : RecordFault)
-    → Fails limit rs l m f → Counts 0 a b → WriteFails f a b
-writes_none limit rs l m a b (fault.TooLong at) h k = k
-writes_none limit rs l m a b (fault.Truncated at) h k = k
-writes_none limit rs l m a b fault.NoMemory h k = k
-writes_none limit rs l m a b fault.Read h k = k
-writes_none limit rs l m a b fault.TooManyReads h k = k
-writes_none limit rs l m a b (fault.Write written) h k = absurd h.fails
+-- it is no failed write
+pub fails_unwritten : (limit : ℕ) (rs : List (List ℕ)) (l m : Option (List ℕ)) (f : RecordFault)
+    → Fails limit rs l m f → 0 ≡ writes_failed f
+fails_unwritten limit rs l m (fault.TooLong at) h = refl
+fails_unwritten limit rs l m (fault.Truncated at) h = refl
+fails_unwritten limit rs l m fault.NoMemory h = refl
+fails_unwritten limit rs l m fault.Read h = refl
+fails_unwritten limit rs l m fault.TooManyReads h = refl
+fails_unwritten limit rs l m (fault.Write written) h = absurd h.fails
 
-pub lost_writes : (box : Outbox) (t u : Option (List ℕ)) (bytes : List ℕ) (a b : Option ℕ) (f : RecordFault)
-    → SendingCut box t u bytes f → Counts 1 a b → WriteFails f a b
-lost_writes box t u bytes a b (fault.Write written) h k = k
-lost_writes box t u bytes a b (fault.TooLong at) h k = absurd h
-lost_writes box t u bytes a b (fault.Truncated at) h k = absurd h
-lost_writes box t u bytes a b fault.NoMemory h k = absurd h
-lost_writes box t u bytes a b fault.Read h k = absurd h
-lost_writes box t u bytes a b fault.TooManyReads h k = absurd h
+-- a fault of the outbox is one, and no failed read
+pub lost_is : (box : Outbox) (t u : Option (List ℕ)) (bytes : List ℕ) (f : RecordFault)
+    → SendingCut box t u bytes f → (1 ≡ writes_failed f) × (0 ≡ reads_failed f)
+lost_is box t u bytes (fault.Write written) h = (refl, refl)
+lost_is box t u bytes (fault.TooLong at) h = absurd h
+lost_is box t u bytes (fault.Truncated at) h = absurd h
+lost_is box t u bytes fault.Read h = absurd h
+lost_is box t u bytes fault.TooManyReads h = absurd h
+lost_is box t u bytes fault.NoMemory h = absurd h
 
 pub all_normalised : (limit : ℕ) (rs : List (List ℕ)) (box : Outbox) (l m t u : Option (List ℕ))
     → IsRead limit rs l m → Appends t u (normal rs) × IsCount box.count rs → Normalised limit l m t u box.count

@@ -14,6 +14,7 @@ use Rattle.rpc_record.specs.Reading.{IsWhole, IsInside, Begins, HasNoLong, Fault
 use Rattle.rpc_record.specs.Fields.{IsTakingAt, StandsAt}
 use Rattle.rpc_record.specs.Represents.{Represents, IsTaking, IsBroken, IsBetween, IsWaiting, Takes, Reports, Hands}
 use Rattle.rpc_record.specs.Represents.{TruncatedAt, limit_of}
+use Rattle.rpc_record.specs.Failures.{reads_failed}
 use Rattle.rpc_record.specs.Streamed.{HasTaken, IsRead, FailsAt, Fails, HandsOf}
 use Rattle.rpc_record.proofs.Readers.{Begins-more, Begins-taking, Longest-taking, FaultyIn-space, faults_begin}
 use Rattle.rpc_record.proofs.Readers.{between_taking}
@@ -157,3 +158,23 @@ module _ (limit : ℕ) (r : RecordReader) (w : List ℕ) (rs : List (List ℕ)) 
     fails_inside (fault.Write written) (inr (i, h)) = absurd h
     fails_inside fault.TooManyReads (inr (i, h)) = absurd h
     fails_inside fault.NoMemory (inr (i, h)) = absurd h
+
+-- ---- which faults are no failed read
+
+pub feed_unread : (f : RecordFault) → IsFeedFault f → 0 ≡ reads_failed f
+feed_unread (fault.TooLong at) h = refl
+feed_unread fault.NoMemory h = refl
+feed_unread (fault.Truncated at) h = refl
+feed_unread (fault.Write written) h = refl
+feed_unread fault.TooManyReads h = refl
+feed_unread fault.Read h = absurd h
+
+pub end_unread : (r : RecordReader) (f : RecordFault) → IsTaking r → IsBroken r f ⊎ (IsTaking r × TruncatedAt r f)
+    → 0 ≡ reads_failed f
+end_unread r (fault.TooLong at) i h = refl
+end_unread r fault.NoMemory i h = refl
+end_unread r (fault.Truncated at) i h = refl
+end_unread r (fault.Write written) i h = refl
+end_unread r fault.TooManyReads i h = refl
+end_unread r fault.Read i (inl b) = absurd (not_broken r.place fault.Read i b)
+end_unread r fault.Read i (inr (j, t)) = absurd t

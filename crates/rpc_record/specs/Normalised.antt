@@ -6,7 +6,6 @@ use Rattle.rpc_record.specs.declared.fault.RecordFault.TheVariants as fault
 use Rattle.rpc_record.specs.declared.fault.Count.{Count}
 use Rattle.rpc_record.specs.Marked.{normal, Longest}
 use Rattle.rpc_record.specs.Reading.{IsWhole, IsInside, Begins, TooLongAt, HasNoLong, RefusedIn, capped}
-use Rattle.xdr_io.specs.Reported.{Counts}
 
 -- the count of these records, and of the bytes of their normal form
 pub record IsCount (count : Count) (rs : List (List ℕ)) : Type 0 where
@@ -44,8 +43,3 @@ pub record Stops (limit : ℕ) (left left' taken taken' : Option (List ℕ)) (f 
   pub rs : List (List ℕ)
   pub read : Consumes left left' input
   pub stopped : StopsBy limit rs input left' taken taken' f
-
--- a write's fault is one failed write, and the others are none
-abbrev pub WriteFails : RecordFault → Option ℕ → Option ℕ → Type 0
-WriteFails (fault.Write written) old new = Counts 1 old new
-WriteFails _ old new = Counts 0 old new

@@ -70,7 +70,7 @@ pub record CutAt (limit : ℕ) (rs : List (List ℕ)) (at : ℕ) (bytes : List �
   pub spelled : bytes ≡ here ++ more
 
 -- In the last n bytes memory was refused for the record after these, which had begun before:
--- these are all the whole records of the bytes before those that no space was found for.
+-- these are all the whole records of the bytes before those that there was no memory for.
 pub record RefusedIn (limit : ℕ) (rs : List (List ℕ)) (n : ℕ) (bytes : List ℕ) : Type 0 where
   pub here : List ℕ
   pub rest : List ℕ

@@ -4,6 +4,7 @@ use Rattle.std.specs.Prelude.{Option, Some, None, Result, Ok, Err}
 use Rattle.std.specs.declared.vec.Vec.{Vec}
 use Rattle.std.specs.declared.alloc.Global.{Global}
 use Rattle.std.specs.Io.KnownBytes.{Consumes, IsAtEnd}
+use Rattle.xdr_io.specs.declared.input.TheConstants.{MOST_READS}
 use Rattle.rpc_record.specs.declared.fault.RecordFault.{RecordFault}
 use Rattle.rpc_record.specs.declared.fault.RecordFault.TheVariants as fault
 use Rattle.rpc_record.specs.declared.reader.RecordReader.{RecordReader}
@@ -43,7 +44,7 @@ HasRead limit stream rs left left' = HasTaken limit stream.records (held stream)
 
 -- a bound on the records that are still to come: the reads that are left, and the bytes that are held
 abbrev pub most_to_come : RecordStream → ℕ
-most_to_come stream = (1048576 - stream.reads) * 4097 + (stream.size - stream.at)
+most_to_come stream = (MOST_READS - stream.reads) * 4097 + (stream.size - stream.at)
 
 -- All was read, and it is these records: no more are whole in it, and no header passed the limit.
 pub record IsRead (limit : ℕ) (rs : List (List ℕ)) (left left' : Option (List ℕ)) : Type 0 where
@@ -84,6 +85,7 @@ HandsOf old waiting new waiting' (Ok None) =
 HandsOf old waiting new waiting' (Err f) = (limit : ℕ) (rs : List (List ℕ)) (left left' : Option (List ℕ))
     → HasTaken limit old waiting rs left left' → Fails limit rs left left' f
 
+-- the same for a stream
 abbrev pub HandsHeld : RecordStream → RecordStream → Result (Option (Vec ℕ Global)) RecordFault → Type 0
 HandsHeld old new result = HandsOf old.records (held old) new.records (held new) result
 

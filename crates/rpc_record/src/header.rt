@@ -36,6 +36,7 @@ pub fn heading_of(a: u8, b: u8, c: u8, d: u8) -> Heading
 /// The header of a record's last fragment.
 pub fn last_header(count: u32) -> [u8; 4]
     requires { count < 2 ^ 31 }
+    // The four bytes are the header.
     ensures spelled { result ≡ header true count }
     ensures len { length result ≡ 4 }
 {

@@ -23,6 +23,7 @@ pub fn mark(alloc: Global, content: &[u8]) -> Result<Vec<u8>, NoMemory>
 /// Writes the record as one last fragment. A fault comes only where a write failed, after `written` of its bytes.
 pub fn write_marked<W: Sink>(writer: &mut W, content: &[u8]) -> Result<(), Cut>
     requires { length content.now ≤ 2147483647 }
+    // All went out, or the first `written` bytes did.
     ensures ok { OnOk result (Appends (W.taken writer.old) (W.taken writer.new) (fragment true content.now)) }
     ensures cut { IfErr result (λ e. (e.written < length (fragment true content.now))
         × Appends (W.taken writer.old) (W.taken writer.new) (take e.written (fragment true content.now))) }

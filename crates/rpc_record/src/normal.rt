@@ -1,7 +1,9 @@
 //! The normal form of a stream of records.
-ghost use Rattle.std.specs.Prelude.{◌≢◌, ◌≤◌, IfOk, IfErr, OnOk, IsErrOf};
+ghost use Rattle.std.specs.Prelude.{◌≤◌, IfOk, IfErr, IsErrOf};
 ghost use Rattle.xdr_io.specs.Reported.{Counts, CountsAtMost};
-ghost use Rattle.rpc_record.specs.Normalised.{Normalised, Stops, WriteFails};
+ghost use Rattle.xdr_io.specs.declared.input.TheConstants.{MOST_READS};
+ghost use Rattle.rpc_record.specs.Failures.{read_failures, write_failures};
+ghost use Rattle.rpc_record.specs.Normalised.{Normalised, Stops};
 
 use super::fault::{Count, RecordFault};
 use super::outbox::Outbox;
@@ -22,18 +24,19 @@ pub fn normalise<R: Source, W: Sink>(
     limit: u32,
 ) -> Result<Count, RecordFault>
     requires { limit ≤ 2147483647 }
+    // All was read, and its normal form was written.
     ensures ok { IfOk result (λ count.
         Normalised limit (R.left reader.old) (R.left reader.new) (W.taken writer.old) (W.taken writer.new) count) }
+    // Some was read, in which the fault is, and the normal form of the records before it was written, or a front of it.
     ensures fault { IfErr result (λ f.
         Stops limit (R.left reader.old) (R.left reader.new) (W.taken writer.old) (W.taken writer.new) f) }
-    ensures read { IsErrOf result RecordFault.Read → Counts 1 (R.failures reader.old) (R.failures reader.new) }
-    ensures unfailed { IfErr result (λ f.
-        f ≢ RecordFault.Read → Counts 0 (R.failures reader.old) (R.failures reader.new)) }
-    ensures reads { CountsAtMost 1048576 (R.reads reader.old) (R.reads reader.new) }
-    ensures many { IsErrOf result RecordFault.TooManyReads → Counts 1048576 (R.reads reader.old) (R.reads reader.new) }
-    ensures write { IfErr result (λ f. WriteFails f (W.failures writer.old) (W.failures writer.new)) }
-    ensures none_failed { OnOk result (Counts 0 (R.failures reader.old) (R.failures reader.new)
-        × Counts 0 (W.failures writer.old) (W.failures writer.new)) }
+    // One read failed where the answer is `Read`, and else none; one write where it is `Write`, and else none.
+    ensures read { Counts (read_failures result) (R.failures reader.old) (R.failures reader.new) }
+    ensures write { Counts (write_failures result) (W.failures writer.old) (W.failures writer.new) }
+    // So many reads are made at most, and all of them where there were too many.
+    ensures reads { CountsAtMost MOST_READS (R.reads reader.old) (R.reads reader.new) }
+    ensures many { IsErrOf result RecordFault.TooManyReads
+        → Counts MOST_READS (R.reads reader.old) (R.reads reader.new) }
 {
     let mut records = RecordStream::start(alloc, limit);
     let mut outbox = Outbox::new();

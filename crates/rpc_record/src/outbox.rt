@@ -6,8 +6,8 @@ use super::fault::{Count, RecordFault};
 use super::header::last_header;
 use xdr_io::{Sink, write_whole};
 
-/// How many bytes wait at most. What one read of 4096 bytes makes of records of up to 4092 bytes has buffer.
-const ROOM: usize = 8192;
+/// How many bytes wait at most: there is space for what one read of 4096 bytes makes of records of up to 4092 bytes.
+const BUFFER_SIZE: usize = 8192;
 
 /// Bytes that wait to go out together, and the count of what went out before.
 #[derive(Drop)]
@@ -34,7 +34,7 @@ impl Outbox {
                 records: 0,
                 bytes: 0,
             },
-            buffer: [0; ROOM],
+            buffer: [0; BUFFER_SIZE],
             used: 0,
         }
     }
@@ -60,7 +60,7 @@ impl Outbox {
         }
     }
 
-    /// Hands over bytes, which go out after those that wait: together with them where there is buffer.
+    /// Hands over bytes, which go out after those that wait: together with them where there is space.
     pub fn put<W: Sink>(&mut self, writer: &mut W, bytes: &[u8]) -> Result<(), RecordFault>
         ensures ok { OnOk result (Sends self.old self.new (W.taken writer.old) (W.taken writer.new) bytes.now) }
         ensures records { self.new.count.records ≡ self.old.count.records }
@@ -69,7 +69,7 @@ impl Outbox {
         ensures one_failed { OnErr result (Counts 1 (W.failures writer.old) (W.failures writer.new)) }
     {
         let used = self.used;
-        if bytes.len() <= ROOM - used {
+        if bytes.len() <= BUFFER_SIZE - used {
             self.buffer[used..used + bytes.len()].copy_from_slice(bytes);
             self.used = used + bytes.len();
             return Ok(());

@@ -39,6 +39,7 @@ impl RecordReader {
     pub fn start(alloc: Global, limit: u32) -> Self
         requires { limit ≤ 2147483647 }
         ensures limit { limit_of result ≡ limit }
+        // It is between two records, has taken no bytes and handed out no records.
         ensures taking { IsTaking result }
         ensures represents { Represents result [] [] }
     {
@@ -57,13 +58,16 @@ impl RecordReader {
     /// the whole piece and are answered for ever after.
     pub fn feed(&mut self, piece: &[u8]) -> Result<RecordStep, RecordFault>
         ensures limit { limit_of self.new ≡ limit_of self.old }
+        // What was taken, and where the reader is then.
         ensures feeds { Feeds self.old self.new piece.now result }
+        // What the answer says of all bytes that were ever taken.
         ensures reports { Reports self.old piece.now result }
+        // After a fault, and while a record waits, nothing changes.
         ensures stays { Stays self.old result }
     {
+        // The shortcut for what comes most: a record that is one fragment, whole in the piece.
         if let Place::Between = self.place {
-            let space = (self.limit as usize).saturating_sub(self.content.len()) as u32;
-            if let Some(record) = single_record(piece, &space) {
+            if let Some(record) = single_record(piece, self.space()) {
                 return self.take_single(record);
             }
         }
@@ -104,13 +108,17 @@ impl RecordReader {
         buffer: &mut Vec<u8>,
     ) -> Result<RecordStep, RecordFault>
         ensures limit { limit_of self.new ≡ limit_of self.old }
+        // What was taken, and that the record in the buffer counts as handed out.
         ensures fills { Fills self.old self.new piece.now buffer.new.items result }
+        // What the answer says of all bytes that were ever taken.
         ensures reports { Reports self.old piece.now result }
+        // Where a record is whole, the buffer holds the one that the bytes end with.
         ensures content { IsFilled self.old piece.now buffer.new.items result }
+        // After a fault, and while a record waits, nothing changes.
         ensures stays { Stays self.old result }
     {
         if let Place::Between = self.place {
-            if let Some(record) = single_record(piece, &self.limit) {
+            if let Some(record) = single_record(piece, self.limit) {
                 return self.put_single(record, buffer);
             }
         }
@@ -185,6 +193,13 @@ impl RecordReader {
         }
     }
 
+    /// For how many more bytes of a record there is space.
+    fn space(&self) -> u32
+        ensures { vec_len self.now.content + result ≡ limit_of self.now }
+    {
+        (self.limit as usize).saturating_sub(self.content.len()) as u32
+    }
+
     fn is_taking(&self) -> bool
         ensures { IsTrue result ↔ IsTaking self.now }
     {
@@ -196,9 +211,10 @@ impl RecordReader {
 
     /// Takes some of the bytes, within a header or a fragment, and says how many.
     fn advance(&mut self, piece: &[u8]) -> usize
-        requires { 0 < length piece.now }
-        ensures some { IsTaking self.old → 0 < result }
-        ensures fed { IsTaking self.old → IsFed self.new }
+        requires some { 0 < length piece.now }
+        requires taking { IsTaking self.old }
+        ensures some { 0 < result }
+        ensures fed { IsFed self.new }
         ensures within { result ≤ length piece.now }
         ensures limit { limit_of self.new ≡ limit_of self.old }
         ensures takes { Takes self.old self.new (take result piece.now) }
@@ -212,7 +228,7 @@ impl RecordReader {
             } => self.begin_header(at, piece),
             Place::Header { at, begun } => self.take_header(at, begun, piece[0]),
             Place::Content(fragment) => self.take_content(fragment, piece),
-            Place::Whole | Place::Broken(_) => 0,
+            Place::Whole | Place::Broken(_) => unreachable!(),
         }
     }
 
@@ -245,9 +261,8 @@ impl RecordReader {
             → self.old.taken ≡ capped (length bytes)
             → Represents self.new (bytes ++ header heading.last heading.count) rs }
     {
-        let space = (self.limit as usize).saturating_sub(self.content.len()) as u32;
         self.taken = self.taken.saturating_add(4);
-        self.place = after_heading(at, heading, self.taken, space);
+        self.place = after_heading(at, heading, self.taken, self.space());
         4
     }
 
@@ -261,9 +276,8 @@ impl RecordReader {
             → self.old.taken ≡ capped (length bytes)
             → Represents self.new (bytes ++ byte ∷ []) rs }
     {
-        let space = (self.limit as usize).saturating_sub(self.content.len()) as u32;
         self.taken = self.taken.saturating_add(1);
-        self.place = after_header(at, begun, byte, self.taken, space);
+        self.place = after_header(at, begun, byte, self.taken, self.space());
         1
     }
 
@@ -304,21 +318,21 @@ impl RecordReader {
     /// none waits, which changes nothing.
     pub fn take(&mut self) -> Option<Vec<u8>>
         ensures limit { limit_of self.new ≡ limit_of self.old }
+        // The record counts as handed out, or none waits and nothing changes.
         ensures hands { Hands self.old self.new result }
+        // It is the one that the bytes taken end with.
         ensures content { IsHanded self.old result }
     {
-        if let Place::Whole = self.place {
-            Some(self.hand_out(Vec::new(self.alloc)))
-        } else {
-            None
-        }
+        self.take_with(Vec::new(self.alloc))
     }
 
     /// As `take`, and the next record goes into this buffer's memory, whose bytes are dropped. Where no record is whole
     /// that memory is freed.
     pub fn take_with(&mut self, buffer: Vec<u8>) -> Option<Vec<u8>>
         ensures limit { limit_of self.new ≡ limit_of self.old }
+        // The record counts as handed out, or none waits and nothing changes.
         ensures hands { Hands self.old self.new result }
+        // It is the one that the bytes taken end with.
         ensures content { IsHanded self.old result }
     {
         if let Place::Whole = self.place {
@@ -345,7 +359,9 @@ impl RecordReader {
     /// `Truncated` after the bytes taken, for ever after, and an earlier fault is answered again.
     pub fn end(&mut self) -> Result<(), RecordFault>
         ensures limit { limit_of self.new ≡ limit_of self.old }
+        // Where the reader was, and where it is then.
         ensures ends { Ends self.old self.new result }
+        // What the answer says of all bytes that were ever taken.
         ensures concludes { Concludes self.old result }
     {
         match self.place {
@@ -363,13 +379,16 @@ impl RecordReader {
     /// limit, and so are they with the one that waits. While bytes are taken no header has passed the limit. After
     /// `TooLong` a header did, at that place, where the longest such front ends.
     pub fn records_are_longest(&self)
+        // While bytes are taken: no header has passed the limit, and the records are those of the longest front.
         ensures not_long { IsTaking self.now → Always self.now (λ rs bytes. HasNoLong (limit_of self.now) bytes) }
         ensures taking { IsTaking self.now → Always self.now (λ rs bytes. Longest (limit_of self.now) rs bytes) }
         ensures begins { IsTaking self.now → Always self.now (λ rs bytes. Begins (limit_of self.now) rs bytes) }
+        // While a record waits: with it the records are those of the longest front, and all bytes are in records.
         ensures waiting { IsWaiting self.now
             → Always self.now (λ rs bytes. (r : List ℕ) × Longest (limit_of self.now) (rs ++ r ∷ []) bytes) }
         ensures whole { IsWaiting self.now → Always self.now (λ rs bytes.
             (r : List ℕ) × (IsWhole (limit_of self.now) (rs ++ r ∷ []) bytes × HasNoLong (limit_of self.now) bytes)) }
+        // After a fault: what it says of the bytes, and where a header passed the limit.
         ensures faulty { (f : RecordFault) → IsBroken self.now f
             → Always self.now (λ rs bytes. Faulty (limit_of self.now) rs f bytes) }
         ensures long { (at : ℕ) → IsBroken self.now (RecordFault.TooLong at)

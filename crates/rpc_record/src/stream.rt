@@ -1,5 +1,6 @@
 //! The records of a source, one after another.
 ghost use Rattle.std.specs.Prelude.{◌≤◌};
+ghost use Rattle.xdr_io.specs.declared.input.TheConstants.{MOST_READS};
 
 use super::fault::{RecordFault, RecordStep};
 use super::reader::RecordReader;
@@ -23,21 +24,23 @@ pub struct RecordStream {
     reads: u32,
     ghost within: { at ≤ size },
     ghost fits: { size ≤ 4096 },
-    ghost few: { reads ≤ 1048576 },
+    ghost few: { reads ≤ MOST_READS },
 }
 
 impl RecordStream {
-    ghost use Rattle.std.specs.Prelude.{◌≡◌, ◌≢◌, ◌<◌, ◌≤◌, ℕ, List, [], Option, Some, Ok, IfOk, IfErr, OnOk, IsErrOf};
+    ghost use Rattle.std.specs.Prelude.{◌≡◌, ◌<◌, ◌≤◌, ℕ, List, [], Option, Some, Ok, IfOk, IfErr, OnOk, IsErrOf};
     ghost use Rattle.std.specs.Prelude.{IfSome};
     ghost use Rattle.rpc_record.specs.Reading.{IsFeedFault};
     ghost use Rattle.xdr_io.specs.Reported.{Counts};
     ghost use Rattle.rpc_record.specs.Streamed.{HasRead, HandsHeld, HandsNext, IsOpen, most_to_come, reads_of};
+    ghost use Rattle.rpc_record.specs.Failures.{read_failures};
 
     /// The records of a source, of at most `limit` bytes each, before the first read.
     pub fn start(alloc: Global, limit: u32) -> Self
         requires { limit ≤ 2147483647 }
         ensures open { IsOpen result }
         ensures unread { reads_of result ≡ 0 }
+        // Nothing was read of the source and no record handed out.
         ensures read { (left : Option (List ℕ)) → HasRead limit result [] left left }
     {
         RecordStream {
@@ -55,10 +58,14 @@ impl RecordStream {
     pub fn next_held(&mut self) -> Result<Option<Vec<u8>>, RecordFault>
         requires { IsOpen self.old }
         ensures open { OnOk result (IsOpen self.new) }
+        // No read is made.
         ensures reads { reads_of self.new ≡ reads_of self.old }
+        // With each record fewer are still to come, and else not more, so that a loop over the records ends.
         ensures fewer { IfOk result (λ r. IfSome r (λ v. most_to_come self.new < most_to_come self.old)) }
         ensures no_more { most_to_come self.new ≤ most_to_come self.old }
+        // A fault is `TooLong` or `NoMemory`.
         ensures fault { IfErr result (λ f. IsFeedFault f) }
+        // The record, that there is none or the fault is what stands in the bytes that were read.
         ensures next { HandsHeld self.old self.new result }
     {
         let read = &self.piece[..self.size];
@@ -80,18 +87,21 @@ impl RecordStream {
     /// 1048576 reads since the start did not reach the end of a record, and `TooLong` and `NoMemory` as by `next_held`.
     pub fn next_record<R: Source>(&mut self, source: &mut R) -> Result<Option<Vec<u8>>, RecordFault>
         requires { IsOpen self.old }
+        // The record, the end or the fault is what stands behind the records that were handed out before.
         ensures next { (limit : ℕ) (rs : List (List ℕ)) (left : Option (List ℕ))
             → HasRead limit self.old rs left (R.left source.old)
             → HandsNext limit self.new rs left (R.left source.new) result }
+        // With each record fewer are still to come, so that a loop over the records ends.
         ensures fewer { IfOk result (λ r. IfSome r (λ v. most_to_come self.new < most_to_come self.old)) }
+        // The stream counts its reads as the source does,
         ensures reads { (start : Option ℕ) → Counts (reads_of self.old) start (R.reads source.old)
             → Counts (reads_of self.new) start (R.reads source.new) }
-        ensures most { reads_of self.new ≤ 1048576 }
-        ensures many { IsErrOf result RecordFault.TooManyReads → reads_of self.new ≡ 1048576 }
-        ensures read { IsErrOf result RecordFault.Read → Counts 1 (R.failures source.old) (R.failures source.new) }
-        ensures unfailed { IfErr result (λ f.
-            f ≢ RecordFault.Read → Counts 0 (R.failures source.old) (R.failures source.new)) }
-        ensures none_failed { OnOk result (Counts 0 (R.failures source.old) (R.failures source.new)) }
+        // makes so many at most,
+        ensures most { reads_of self.new ≤ MOST_READS }
+        // and has made all of them where it says that there were too many.
+        ensures many { IsErrOf result RecordFault.TooManyReads → reads_of self.new ≡ MOST_READS }
+        // One read failed where the answer is `Read`, and else none.
+        ensures read { Counts (read_failures result) (R.failures source.old) (R.failures source.new) }
     {
         'reads: loop {
             match self.next_held() {

@@ -10,8 +10,14 @@ use Rattle.registry_answer.specs.Answer.{Answer}
 use Rattle.rpc_engine.specs.declared.fault.ServeFault.{ServeFault}
 use Rattle.rpc_engine.specs.declared.fault.ServeFault.TheVariants as fault
 use Rattle.rpc_engine.specs.declared.session.Session.{Session}
-use Rattle.rpc_engine.specs.Counted.{IsCounted}
+use Rattle.rpc_engine.specs.declared.fault.Served.{Served}
+use Rattle.rpc_engine.specs.Counted.{IsServed}
 use Rattle.rpc_engine.specs.Run.{Run}
+
+-- the counts of these records and replies, and of the bytes of the replies as fragments
+pub record IsCounted (served : Served) (written : ℕ) (rs replies : List (List ℕ)) : Type 0 where
+  pub served_is : IsServed served rs replies
+  pub bytes : written ≡ capped (length (normal replies))
 
 -- the counts of a session are those of these records and replies
 abbrev pub HasCounted : Session → List (List ℕ) → List (List ℕ) → Type 0

@@ -5,6 +5,7 @@ use Rattle.std.specs.Prelude.{nat_lt, ◌==◌, if◌then◌else◌}
 use Rattle.std.specs.Int.{w32, from_be_bytes}
 use Rattle.rpc_message.specs.declared.fault.ReplyFault.{ReplyFault}
 use Rattle.rpc_message.specs.declared.fault.ReplyFault.TheVariants as faults
+use Rattle.rpc_message.specs.Constants.{rpc_version, call_type, reply_type}
 use Rattle.rpc_message.specs.Message.{AuthView, AuthSysView, CaseView, Whole, OtherVersion, BadCred, BadVerf, NotACall}
 use Rattle.rpc_message.specs.Message.{StatusView, Success, ProgUnavail, ProgMismatch, ProcUnavail, GarbageArgs}
 use Rattle.rpc_message.specs.Message.{SystemErr, WhyView, RpcMismatch, AuthError, ReplyView, Accepted, Denied}
@@ -77,7 +78,7 @@ call_head_at bytes = do
   xid ← word_at bytes
   kind ← word_at xid.1
   version ← word_at kind.1
-  if kind.0 == 0 then Ok (xid.0, version.0, version.1) else Err faults.NotAReply
+  if kind.0 == call_type then Ok (xid.0, version.0, version.1) else Err faults.NotAReply
 
 unfoldable pub target_at : List ℕ → Result (ℕ × ℕ × ℕ × List ℕ) ReplyFault
 target_at bytes = do
@@ -103,7 +104,7 @@ abbrev pub cred_case : Head → Target → CaseView
 cred_case h t = read_or (auth_at t.3) (BadCred h.0) (verf_case h t)
 
 abbrev pub version_case : Head → CaseView
-version_case h = if h.1 == 2 then read_or (target_at h.2) NotACall (cred_case h) else OtherVersion h.0 h.1
+version_case h = if h.1 == rpc_version then read_or (target_at h.2) NotACall (cred_case h) else OtherVersion h.0 h.1
 
 unfoldable pub case_of : List ℕ → CaseView
 case_of bytes = read_or (call_head_at bytes) NotACall version_case
@@ -120,7 +121,7 @@ bounds_at bytes = do
   high ← word_at low.1
   ended high.1 (low.0, high.0)
 
--- after the number of a status
+-- after the number of a status, in the order of accept_stat
 unfoldable pub status_at : ℕ → List ℕ → Result StatusView ReplyFault
 status_at zero bytes = Ok (Success bytes)
 status_at (suc zero) bytes = ended bytes ProgUnavail
@@ -130,6 +131,7 @@ status_at (suc (suc (suc (suc zero)))) bytes = ended bytes GarbageArgs
 status_at (suc (suc (suc (suc (suc zero))))) bytes = ended bytes SystemErr
 status_at (suc (suc (suc (suc (suc (suc n)))))) bytes = Err faults.BadStatus
 
+-- after the number of a reason, in the order of reject_stat
 unfoldable pub why_at : ℕ → List ℕ → Result WhyView ReplyFault
 why_at zero bytes = bounds_at bytes >>= λ b. Ok (RpcMismatch b.0 b.1)
 why_at (suc zero) bytes = word_at bytes >>= λ stat. ended stat.1 (AuthError stat.0)
@@ -148,6 +150,7 @@ denied_at xid bytes = do
   w ← why_at stat.0 stat.1
   Ok (Denied xid w)
 
+-- after the number of a reply, in the order of reply_stat
 unfoldable pub reply_stat_at : ℕ → ℕ → List ℕ → Result ReplyView ReplyFault
 reply_stat_at xid zero bytes = accepted_at xid bytes
 reply_stat_at xid (suc zero) bytes = denied_at xid bytes
@@ -157,7 +160,7 @@ unfoldable pub reply_at : List ℕ → Result ReplyView ReplyFault
 reply_at bytes = do
   xid ← word_at bytes
   kind ← word_at xid.1
-  if kind.0 == 1 then word_at kind.1 >>= (λ stat. reply_stat_at xid.0 stat.0 stat.1) else Err faults.NotAReply
+  if kind.0 == reply_type then word_at kind.1 >>= (λ stat. reply_stat_at xid.0 stat.0 stat.1) else Err faults.NotAReply
 
 -- ---- AUTH_SYS
 

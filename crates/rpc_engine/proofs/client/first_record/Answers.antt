@@ -1,7 +1,8 @@
-use Rattle.std.proofs.Common.{[], ◌∷◌}
+use Rattle.std.proofs.Common.{[], ◌∷◌, subst}
+use Rattle.xdr_io.specs.Reported.{Counts}
 use Rattle.xdr_io.proofs.Chained.{Counts-trans, Counts-none}
 use Rattle.rpc_engine.specs.Exchanged.{most_reply}
-use Rattle.rpc_engine.proofs.First.{first_found, first_failed, first_ended}
+use Rattle.rpc_engine.proofs.First.{first_found, first_failed, first_ended, reads_same}
 use Rattle.rpc_engine.proofs.client.first_record.Goals as goal
 
 pub returns-in-Ok-Some-clause-found : goal.returns-in-Ok-Some-clause-found
@@ -18,3 +19,9 @@ pub returns-clause-found : goal.returns-clause-found
 returns-clause-found g c =
     rw c.record_fault.ensures
     (first_failed _ _ c.in-Err.fault (c.in-Err.ensures.next most_reply [] _ (c.start-records.ensures.read _)))
+
+pub returns-clause-read : goal.returns-clause-read
+returns-clause-read g c =
+    rw c.record_fault.ensures
+    (subst (λ k. Counts k (g.R.Source.failures c.args.reader.now) (g.R.Source.failures c.next_record.new.source))
+    (reads_same c.in-Err.fault) c.in-Err.ensures.read)

@@ -1,10 +1,11 @@
-use Rattle.std.proofs.Common.{◌≡◌, ◌+◌, ℕ, List, [], ◌∷◌, ◌++◌, refl, sym, ap, ◌∙◌, subst, Err}
+use Rattle.std.proofs.Common.{[], ◌∷◌, ◌++◌, refl, sym, subst, arith}
 use Rattle.xdr_io.proofs.Chained.{Counts-trans, Counts-none}
 use Rattle.registry_answer.specs.Views.{netid_of}
 use Rattle.rpc_engine.specs.Served.{most_record}
-use Rattle.rpc_engine.specs.Private.Serving.{Does, fault_of}
+use Rattle.rpc_record.specs.Failures.{reads_failed as flaw_reads}
+use Rattle.rpc_engine.specs.Private.Serving.{Does}
 use Rattle.rpc_engine.proofs.Pieces.{does_none, does_trans}
-use Rattle.rpc_engine.proofs.Whole.{serves, stops_failed, stops_lost, fault_read, same_err, writes_none, lost_writes}
+use Rattle.rpc_engine.proofs.Whole.{serves, stops_failed, stops_lost, reads_same, fails_unwritten, lost_is}
 use Rattle.rpc_engine.proofs.server.serve.Goals as goal
 
 pub records-init : goal.records-init
@@ -44,7 +45,7 @@ records-preserved g c =
           c.records.session c.answer_record.new.self (k ∷ []) (g.W.Sink.taken c.records.writer)
           (g.W.Sink.taken c.answer_record.new.writer)) record_is c.in-Ok.ensures.ok);
       reads = c.in-Ok-Some.ensures.reads _ inv.reads;
-      reads_failed = Counts-trans _ _ _ 0 0 0 refl inv.reads_failed c.in-Ok-Some.ensures.none_failed;
+      reads_failed = Counts-trans _ _ _ 0 0 0 refl inv.reads_failed c.in-Ok-Some.ensures.read;
       writes_failed = Counts-trans _ _ _ 0 0 0 refl inv.writes_failed c.in-Ok.ensures.none_failed;
     }
 
@@ -58,10 +59,15 @@ returns-in-Err-answer_record-clause-fault g c =
 
 pub returns-in-Err-answer_record-clause-write : goal.returns-in-Err-answer_record-clause-write
 returns-in-Err-answer_record-clause-write g c =
-    let inv = c.records.invariant in
-    lost_writes (netid_of c.args.transport) _ _ c.records.session _ _ _ _ _ c.in-Err-answer_record.lost
-    c.in-Err-answer_record.ensures.cut
-    (Counts-trans _ _ _ 0 1 1 refl inv.writes_failed c.in-Err-answer_record.ensures.one_failed)
+    let lost = lost_is (netid_of c.args.transport) _ _ c.records.session _ _ _ c.in-Err-answer_record.lost
+    c.in-Err-answer_record.ensures.cut in
+    Counts-trans _ _ _ 0 1 _ lost.0 c.records.invariant.writes_failed c.in-Err-answer_record.ensures.one_failed
+
+pub returns-in-Err-answer_record-clause-read : goal.returns-in-Err-answer_record-clause-read
+returns-in-Err-answer_record-clause-read g c =
+    let lost = lost_is (netid_of c.args.transport) _ _ c.records.session _ _ _ c.in-Err-answer_record.lost
+    c.in-Err-answer_record.ensures.cut in
+    Counts-trans _ _ _ 0 0 _ lost.1 c.records.invariant.reads_failed c.in-Ok-Some.ensures.read
 
 -- ---- a fault of the reader
 
@@ -74,18 +80,14 @@ returns-in-Err-clause-fault g c =
 
 pub returns-in-Err-clause-read : goal.returns-in-Err-clause-read
 returns-in-Err-clause-read g c =
-    λ is. Counts-trans _ _ _ 0 1 1 refl c.records.invariant.reads_failed
-    (c.in-Err.ensures.read (ap (λ k. Err k)
-    (fault_read c.in-Err.fault (sym c.record_fault.ensures ∙ same_err _ _ is))))
-
-pub returns-in-Err-clause-unfailed : goal.returns-in-Err-clause-unfailed
-returns-in-Err-clause-unfailed g c =
-    λ other. Counts-trans _ _ _ 0 0 0 refl c.records.invariant.reads_failed
-    (c.in-Err.ensures.unfailed (λ is. other (c.record_fault.ensures ∙ ap fault_of is)))
+    rw c.record_fault.ensures
+    (Counts-trans _ _ _ 0 (flaw_reads c.in-Err.fault) _ (omega (arith, reads_same c.in-Err.fault))
+    c.records.invariant.reads_failed c.in-Err.ensures.read)
 
 pub returns-in-Err-clause-write : goal.returns-in-Err-clause-write
 returns-in-Err-clause-write g c =
     let inv = c.records.invariant in
     rw c.record_fault.ensures
-    (writes_none inv.rs _ _ _ _ c.in-Err.fault (c.in-Err.ensures.next most_record inv.rs _ inv.read)
-    inv.writes_failed)
+    (Counts-trans _ _ _ 0 0 _
+    (fails_unwritten inv.rs _ _ c.in-Err.fault (c.in-Err.ensures.next most_record inv.rs _ inv.read))
+    inv.writes_failed (Counts-none _))

@@ -1,10 +1,12 @@
-use Rattle.std.proofs.Common.{true, [], ◌∷◌, ◌++◌, length, refl, sym, ap, subst, arith, Err}
+use Rattle.std.proofs.Common.{true, [], ◌∷◌, ◌++◌, length, refl, sym, ap, subst, arith}
 use Rattle.xdr_io.proofs.Chained.{Counts-trans, Counts-none}
 use Rattle.rpc_record.specs.Marked.{fragment}
 use Rattle.rpc_record.specs.Private.Sending.{Sends}
+use Rattle.rpc_record.specs.Failures.{reads_failed}
 use Rattle.rpc_record.proofs.Gathering.{handed_none, handed_record, handed_flushed, handed_all}
 use Rattle.rpc_record.proofs.Gathering.{lost_record, lost_waiting}
-use Rattle.rpc_record.proofs.Gathering.{stops_failed, writes_none, lost_writes, all_normalised, fits_header, same_err}
+use Rattle.rpc_record.proofs.Gathering.{stops_failed, fails_unwritten, lost_is, all_normalised, fits_header}
+use Rattle.rpc_record.proofs.Streaming.{feed_unread}
 use Rattle.rpc_record.proofs.normal.normalise.Goals as goal
 use Rattle.rpc_record.proofs.normal.normalise.Goals.{in-Ok-flush, in-Err-flush}
 
@@ -59,6 +61,16 @@ returns-in-Err-put_record-clause-fault g c =
     c.in-Ok-Some.record.items c.deref.result.now c.in-Err-put_record.lost c.deref.ensures.value read
     c.in-Err-put_record.ensures.cut
 
+pub returns-in-Err-put_record-clause-read : goal.returns-in-Err-put_record-clause-read
+returns-in-Err-put_record-clause-read g c =
+    let lost = lost_is c.records.outbox _ _ _ c.in-Err-put_record.lost c.in-Err-put_record.ensures.cut in
+    Counts-trans _ _ _ 0 0 _ lost.1 c.records.invariant.reads_failed (Counts-none _)
+
+pub returns-in-Err-put_record-clause-write : goal.returns-in-Err-put_record-clause-write
+returns-in-Err-put_record-clause-write g c =
+    let lost = lost_is c.records.outbox _ _ _ c.in-Err-put_record.lost c.in-Err-put_record.ensures.cut in
+    Counts-trans _ _ _ 0 1 _ lost.0 c.records.invariant.writes_failed c.in-Err-put_record.ensures.one_failed
+
 -- ---- a fault among the bytes that were held
 
 pub returns-in-Err-clause-fault : goal.returns-in-Err-clause-fault
@@ -82,11 +94,25 @@ returns-in-Err-clause-write g c =
     let fails = c.in-Err.ensures.next c.args.limit inv.rs _ _ inv.read in
     elim c.match-flush.branch [
       | in-Ok-flush w ↦ rw w.result-is
-          (writes_none c.args.limit inv.rs _ _ _ _ c.in-Err.fault fails
-          (Counts-trans _ _ _ 0 0 0 refl inv.writes_failed w.in-Ok-flush.ensures.none_failed))
+          (Counts-trans _ _ _ 0 0 _ (fails_unwritten c.args.limit inv.rs _ _ c.in-Err.fault fails)
+          inv.writes_failed w.in-Ok-flush.ensures.none_failed)
       | in-Err-flush w ↦ rw w.result-is
-          (lost_writes c.records.outbox _ _ [] _ _ w.in-Err-flush.lost w.in-Err-flush.ensures.cut
-          (Counts-trans _ _ _ 0 1 1 refl inv.writes_failed w.in-Err-flush.ensures.one_failed))
+          (Counts-trans _ _ _ 0 1 _
+          (lost_is c.records.outbox _ _ [] w.in-Err-flush.lost w.in-Err-flush.ensures.cut).0
+          inv.writes_failed w.in-Err-flush.ensures.one_failed)
+    ]
+
+pub returns-in-Err-clause-read : goal.returns-in-Err-clause-read
+returns-in-Err-clause-read g c =
+    let inv = c.records.invariant in
+    elim c.match-flush.branch [
+      | in-Ok-flush w ↦ rw w.result-is
+          (Counts-trans _ _ _ 0 0 _ (feed_unread c.in-Err.fault c.in-Err.ensures.fault) inv.reads_failed
+          (Counts-none _))
+      | in-Err-flush w ↦ rw w.result-is
+          (Counts-trans _ _ _ 0 0 _
+          (lost_is c.records.outbox _ _ [] w.in-Err-flush.lost w.in-Err-flush.ensures.cut).1
+          inv.reads_failed (Counts-none _))
     ]
 
 -- ---- no more is held
@@ -98,6 +124,16 @@ returns-in-Err-flush-2-clause-fault g c =
     let read = next.1 c.args.limit inv.rs _ _ inv.read in
     lost_waiting inv.rs c.records.outbox _ _ inv.handed c.args.limit c.next_held.new.self.records _ _ _ _
     c.in-Err-flush-2.lost read c.in-Err-flush-2.ensures.cut
+
+pub returns-in-Err-flush-2-clause-read : goal.returns-in-Err-flush-2-clause-read
+returns-in-Err-flush-2-clause-read g c =
+    let lost = lost_is c.records.outbox _ _ [] c.in-Err-flush-2.lost c.in-Err-flush-2.ensures.cut in
+    Counts-trans _ _ _ 0 0 _ lost.1 c.records.invariant.reads_failed (Counts-none _)
+
+pub returns-in-Err-flush-2-clause-write : goal.returns-in-Err-flush-2-clause-write
+returns-in-Err-flush-2-clause-write g c =
+    let lost = lost_is c.records.outbox _ _ [] c.in-Err-flush-2.lost c.in-Err-flush-2.ensures.cut in
+    Counts-trans _ _ _ 0 1 _ lost.0 c.records.invariant.writes_failed c.in-Err-flush-2.ensures.one_failed
 
 pub returns-in-Ok-None-next_record-clause-ok : goal.returns-in-Ok-None-next_record-clause-ok
 returns-in-Ok-None-next_record-clause-ok g c =
@@ -111,11 +147,13 @@ returns-in-Ok-None-next_record-clause-ok g c =
     all_normalised c.args.limit inv.rs c.flush-in-records.new.self _ _ _ _ done
     (handed_all inv.rs c.flush-in-records.new.self _ _ handed c.in-Ok-flush-2.ensures.empty)
 
-pub returns-in-Ok-None-next_record-clause-none_failed : goal.returns-in-Ok-None-next_record-clause-none_failed
-returns-in-Ok-None-next_record-clause-none_failed g c = (
-  Counts-trans _ _ _ 0 0 0 refl c.records.invariant.reads_failed c.in-Ok-None-next_record.ensures.none_failed,
-  Counts-trans _ _ _ 0 0 0 refl c.records.invariant.writes_failed c.in-Ok-flush-2.ensures.none_failed,
-)
+pub returns-in-Ok-None-next_record-clause-read : goal.returns-in-Ok-None-next_record-clause-read
+returns-in-Ok-None-next_record-clause-read g c =
+    Counts-trans _ _ _ 0 0 0 refl c.records.invariant.reads_failed c.in-Ok-None-next_record.ensures.read
+
+pub returns-in-Ok-None-next_record-clause-write : goal.returns-in-Ok-None-next_record-clause-write
+returns-in-Ok-None-next_record-clause-write g c =
+    Counts-trans _ _ _ 0 0 0 refl c.records.invariant.writes_failed c.in-Ok-flush-2.ensures.none_failed
 
 -- ---- a record that was read
 
@@ -146,16 +184,19 @@ returns-in-Err-put_record-2-clause-fault g c =
     c.in-Ok-Some-next_record.record.items c.deref-in-Ok-Some-next_record.result.now c.in-Err-put_record-2.lost
     c.deref-in-Ok-Some-next_record.ensures.value more c.in-Err-put_record-2.ensures.cut
 
-pub returns-in-Err-put_record-2-clause-unfailed : goal.returns-in-Err-put_record-2-clause-unfailed
-returns-in-Err-put_record-2-clause-unfailed g c =
-    λ other. Counts-trans _ _ _ 0 0 0 refl c.records.invariant.reads_failed c.in-Ok-Some-next_record.ensures.none_failed
+pub returns-in-Err-put_record-2-clause-read : goal.returns-in-Err-put_record-2-clause-read
+returns-in-Err-put_record-2-clause-read g c =
+    let lost = lost_is c.flush-in-records.new.self _ _ _ c.in-Err-put_record-2.lost
+    c.in-Err-put_record-2.ensures.cut in
+    Counts-trans _ _ _ 0 0 _ lost.1 c.records.invariant.reads_failed c.in-Ok-Some-next_record.ensures.read
 
 pub returns-in-Err-put_record-2-clause-write : goal.returns-in-Err-put_record-2-clause-write
 returns-in-Err-put_record-2-clause-write g c =
     let inv = c.records.invariant in
     let flushed = Counts-trans _ _ _ 0 0 0 refl inv.writes_failed c.in-Ok-flush-2.ensures.none_failed in
-    lost_writes c.flush-in-records.new.self _ _ _ _ _ c.in-Err-put_record-2.lost c.in-Err-put_record-2.ensures.cut
-    (Counts-trans _ _ _ 0 1 1 refl flushed c.in-Err-put_record-2.ensures.one_failed)
+    let lost = lost_is c.flush-in-records.new.self _ _ _ c.in-Err-put_record-2.lost
+    c.in-Err-put_record-2.ensures.cut in
+    Counts-trans _ _ _ 0 1 _ lost.0 flushed c.in-Err-put_record-2.ensures.one_failed
 
 pub records-preserved : goal.records-preserved
 records-preserved g c =
@@ -179,7 +220,7 @@ records-preserved g c =
           c.in-Ok-put_record.ensures.ok);
       reads = c.next_record.ensures.reads _ (Counts-trans _ _ _ c.records.records.reads 0 c.next_held.new.self.reads
           (omega (arith, c.next_held.ensures.reads)) inv.reads (Counts-none _));
-      reads_failed = Counts-trans _ _ _ 0 0 0 refl inv.reads_failed c.in-Ok-Some-next_record.ensures.none_failed;
+      reads_failed = Counts-trans _ _ _ 0 0 0 refl inv.reads_failed c.in-Ok-Some-next_record.ensures.read;
       writes_failed = Counts-trans _ _ _ 0 0 0 refl flushed c.in-Ok-put_record.ensures.none_failed;
     }
 
@@ -198,19 +239,14 @@ returns-in-Err-next_record-clause-fault g c =
 
 pub returns-in-Err-next_record-clause-read : goal.returns-in-Err-next_record-clause-read
 returns-in-Err-next_record-clause-read g c =
-    λ is. Counts-trans _ _ _ 0 1 1 refl c.records.invariant.reads_failed
-    (c.in-Err-next_record.ensures.read (ap (λ k. Err k) (same_err _ _ is)))
-
-pub returns-in-Err-next_record-clause-unfailed : goal.returns-in-Err-next_record-clause-unfailed
-returns-in-Err-next_record-clause-unfailed g c =
-    λ other. Counts-trans _ _ _ 0 0 0 refl c.records.invariant.reads_failed
-    (c.in-Err-next_record.ensures.unfailed other)
+    Counts-trans _ _ _ 0 (reads_failed c.in-Err-next_record.fault) _ (omega arith) c.records.invariant.reads_failed
+    c.in-Err-next_record.ensures.read
 
 pub returns-in-Err-next_record-clause-write : goal.returns-in-Err-next_record-clause-write
 returns-in-Err-next_record-clause-write g c =
     let inv = c.records.invariant in
     let next = rw c.in-Ok-None.field-0-is at c.in-Ok-None.ensures.next in
     let read = next.1 c.args.limit inv.rs _ _ inv.read in
-    writes_none c.args.limit inv.rs _ _ _ _ c.in-Err-next_record.fault
-    (c.in-Err-next_record.ensures.next c.args.limit inv.rs _ read)
-    (Counts-trans _ _ _ 0 0 0 refl inv.writes_failed c.in-Ok-flush-2.ensures.none_failed)
+    let fails = c.in-Err-next_record.ensures.next c.args.limit inv.rs _ read in
+    Counts-trans _ _ _ 0 0 _ (fails_unwritten c.args.limit inv.rs _ _ c.in-Err-next_record.fault fails)
+    inv.writes_failed c.in-Ok-flush-2.ensures.none_failed

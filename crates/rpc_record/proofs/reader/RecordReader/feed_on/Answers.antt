@@ -9,7 +9,7 @@ use Rattle.rpc_record.proofs.reader.RecordReader.feed_on.Goals as goal
 pub loop-used-preserved : goal.loop-used-preserved
 loop-used-preserved c =
     let taking : IsTaking c.loop-used.self = search rules in
-    let some = c.advance-used.ensures.some taking in
+    let some = c.advance-used.ensures.some in
     record {
       within = omega (arith, c.advance-used.ensures.within, length_rest c.loop-used.used c.args.piece.now);
       limit = c.advance-used.ensures.limit ∙ c.loop-used.invariant.limit;
@@ -18,7 +18,7 @@ loop-used-preserved c =
       refuses = Refuses-piece c.args.self.now c.loop-used.self c.advance-used.new.self c.loop-used.used
           c.advance-used.result c.args.piece.now c.loop-used.invariant.limit taking c.loop-used.invariant.takes
           c.advance-used.ensures.refuses;
-      fed = λ _. c.advance-used.ensures.fed taking;
+      fed = λ _. c.advance-used.ensures.fed;
       idle = λ n. absurd (n (subst IsTaking (c.loop-used.invariant.begun (c.loop-used.invariant.idle n)) taking));
       begun = λ e. absurd (omega arith);
     }

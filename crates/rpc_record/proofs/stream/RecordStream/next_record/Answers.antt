@@ -1,6 +1,7 @@
 use Rattle.std.proofs.Common.{◌+◌, refl, arith}
-use Rattle.xdr_io.proofs.Chained.{Counts-trans}
+use Rattle.xdr_io.proofs.Chained.{Counts-trans, Counts-none}
 use Rattle.rpc_record.proofs.Streaming.{taken_more, fails_many, fails_read, is_read, fails_inside}
+use Rattle.rpc_record.proofs.Streaming.{feed_unread, end_unread}
 use Rattle.rpc_record.proofs.stream.RecordStream.next_record.Goals as goal
 
 pub returns-then-self-eq-MOST_READS-clause-next : goal.returns-then-self-eq-MOST_READS-clause-next
@@ -8,6 +9,17 @@ returns-then-self-eq-MOST_READS-clause-next g c =
     let next = rw c.in-Ok-None.field-0-is at c.in-Ok-None.ensures.next in
     λ limit rs left h. fails_many limit c.next_held.new.self.records _ rs left _ next.0
     (next.1 limit rs left _ (c.reads.invariant.read limit rs left h))
+
+pub returns-in-Err-clause-read : goal.returns-in-Err-clause-read
+returns-in-Err-clause-read g c =
+    Counts-trans _ _ _ 0 0 _ (feed_unread c.in-Err.fault c.in-Err.ensures.fault) c.reads.invariant.failures
+    (Counts-none _)
+
+pub returns-in-Err-end-clause-read : goal.returns-in-Err-end-clause-read
+returns-in-Err-end-clause-read g c =
+    let unread = end_unread c.next_held.new.self.records c.in-Err-end.fault c.in-Ok-None.ensures.open
+    c.in-Err-end.ensures.ends.2 in
+    Counts-trans _ _ _ 0 0 _ unread c.reads.invariant.failures c.in-Ok.ensures.failed
 
 pub returns-in-Err-read-clause-next : goal.returns-in-Err-read-clause-next
 returns-in-Err-read-clause-next g c =

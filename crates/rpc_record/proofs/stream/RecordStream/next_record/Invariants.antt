@@ -1,5 +1,6 @@
 use Rattle.std.proofs.Common.{◌≤◌, ◌-◌, ℕ, List, Option}
 use Rattle.xdr_io.specs.Reported.{Counts}
+use Rattle.xdr_io.specs.declared.input.TheConstants.{MOST_READS}
 use Rattle.rpc_record.specs.Streamed.{HasRead, IsOpen, most_to_come, reads_of}
 use Rattle.rpc_record.proofs.stream.RecordStream.next_record.Given as goal
 
@@ -16,4 +17,4 @@ invariant-reads g l = record {
 }
 
 abbrev pub decreases-reads : goal.decreases-reads
-decreases-reads g l = 1048576 - l.self.reads
+decreases-reads g l = MOST_READS - l.self.reads
