@@ -7,8 +7,8 @@ ghost use Rattle.xdr_lang.specs.Refusals.{IsInner};
 ghost use Rattle.xdr_lang.specs.Views.{declared_of};
 
 use crate::declarations::Declared;
-use crate::meaning::resolved;
-use crate::place::{LangFault, lang_fault};
+use crate::lang_fault::{LangFault, lang_fault};
+use crate::meaning::meaning;
 use std::alloc::Global;
 use xdr_grammar::read_outline;
 use xdr_tokens::{Fault, Wrong, tokens};
@@ -29,7 +29,7 @@ fn declared(alloc: Global, text: &[u8]) -> Result<Declared, Fault>
     }
     let cut = tokens(alloc, text)?;
     let outline = read_outline(alloc, &cut)?;
-    resolved(alloc, &outline)
+    meaning(alloc, &outline)
 }
 
 /// Reads a text of at most 262144 bytes: what it declares (RFC 4506 section 6, RFC 5531 section 12).
@@ -47,7 +47,7 @@ pub fn read(alloc: Global, text: &[u8]) -> Result<Declared, LangFault>
     ensures refused { IfErr result (λ e. e.number ≢ 13 → (d : DeclaredSpec) → Means text.now d → ⊥) }
     // The number of a refusal is 1 to 13.
     ensures number { IfErr result (λ e. (1 ≤ e.number) × (e.number ≤ 13)) }
-    // With number 10 the schema's is 1 to 11, else 0.
+    // With number 10 the schema's is 1 to 10, else 0: its 11, want of memory, is number 13.
     ensures inner { IfErr result (λ e. IsInner e.number e.inner) }
     // Lines and columns count from 1.
     ensures place { IfErr result (λ e. (1 ≤ e.line) × (1 ≤ e.column)) }

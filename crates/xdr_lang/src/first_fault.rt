@@ -2,115 +2,18 @@
 //! decided elsewhere; this finds the place.
 ghost use Rattle.std.specs.Prelude.{◌≡◌};
 
-use crate::distinct::add_names;
+use crate::names::add_names;
+use crate::noted::FirstFault;
 use crate::places::kind_of;
+use crate::type_names::{TypeNames, given, type_names};
 use crate::type_table::{TypeTable, type_table};
 use std::alloc::{AllocError, Global};
 use std::collections::{BTreeMap, BTreeSet};
-use xdr_constants::{
-    ConstantTable, Known, case_number, entry_number, looked_up, place_of_value, size, unsigned,
-};
-use xdr_grammar::{
-    Arm, Draft, Entry, Field, Late, Name, Number, Outline, Part, Procedure, Program, Shape, Version,
-};
+use xdr_constants::ConstantTable;
+use xdr_grammar::{Arm, Draft, Field, Name, Outline, Part, Procedure, Program, Shape};
 use xdr_tokens::{Fault, Wrong};
 
-/// The first fault so far.
-#[derive(Clone, Copy, Debug)]
-pub struct First {
-    fault: Option<(Wrong, usize)>,
-}
-
-/// At one token the lowest number comes first.
-fn rank(wrong: Wrong) -> u8 {
-    match wrong {
-        Wrong::NameTwice => 5,
-        Wrong::NameUnknown => 6,
-        Wrong::NotASize => 7,
-        _ => 8,
-    }
-}
-
-impl First {
-    /// Keeps the fault, where it comes before the one that is kept.
-    fn note(&mut self, wrong: Wrong, left: usize) {
-        if let Some((retained, at)) = self.fault {
-            if at > left || (at == left && rank(retained) <= rank(wrong)) {
-                return;
-            }
-        }
-        self.fault = Some((wrong, left));
-    }
-
-    /// Keeps the fault of a look-up.
-    fn note_fault(&mut self, fault: Fault) {
-        if let Fault::Refused { wrong, left } = fault {
-            self.note(wrong, left);
-        }
-    }
-
-    /// A number of a program, a version or a procedure.
-    fn number(&mut self, number: Number) {
-        if let Err(fault) = unsigned(number.value, number.left) {
-            self.note_fault(fault);
-        }
-    }
-
-    /// A size. One that is negative is no size.
-    fn size(&mut self, known: &ConstantTable<'_>, value: &Late<'_>) {
-        match looked_up(known, value) {
-            Ok(number) if number < 0 => self.note(Wrong::NotASize, place_of_value(value)),
-            _ => {
-                if let Err(fault) = size(known, value) {
-                    self.note_fault(fault);
-                }
-            }
-        }
-    }
-
-    /// A size, where there is one.
-    fn limit(&mut self, known: &ConstantTable<'_>, value: &Option<Late<'_>>) {
-        if let Some(value) = value {
-            self.size(known, value);
-        }
-    }
-
-    /// A case of a union.
-    fn case(&mut self, known: &ConstantTable<'_>, value: &Late<'_>) {
-        match looked_up(known, value) {
-            Ok(number) => {
-                if let Err(fault) = case_number(number, place_of_value(value)) {
-                    self.note_fault(fault);
-                }
-            }
-            Err(fault) => self.note_fault(fault),
-        }
-    }
-
-    /// The numbers of constants, as far as the first that has a fault. What uses a later one comes
-    /// after that fault.
-    fn constants<'a>(
-        &mut self,
-        alloc: Global,
-        entries: &[Entry<'a>],
-    ) -> Result<ConstantTable<'a>, AllocError> {
-        let mut known = ConstantTable::new(alloc);
-        for entry in entries {
-            match entry_number(&known, entry) {
-                Ok(value) => known.push(Known {
-                    name: entry.name,
-                    value,
-                    by_const: entry.by_const,
-                })?,
-                Err(fault) => {
-                    self.note_fault(fault);
-                    break;
-                }
-            }
-        }
-        Ok(known)
-    }
-
+impl FirstFault {
     /// The cases of an arm.
     fn cases(&mut self, known: &ConstantTable<'_>, arm: &Arm<'_>) {
         for value in &arm.cases {
@@ -302,14 +205,6 @@ impl First {
     }
 }
 
-/// A name that is declared before the text.
-fn given(text: &'static str) -> Name<'static> {
-    Name {
-        text,
-        left: usize::MAX,
-    }
-}
-
 /// The names of constants, types and programs, TRUE and FALSE before all.
 fn all_names<'a>(alloc: Global, outline: &Outline<'a>) -> Result<Vec<Name<'a>>, AllocError> {
     let mut names = Vec::new(alloc);
@@ -334,74 +229,6 @@ fn earliest_places<'a>(
     Ok(earliest)
 }
 
-/// What a name is declared as.
-#[derive(Clone, Copy, PartialEq, Eq)]
-enum Declares {
-    /// A constant or a program.
-    Other,
-    Type,
-    /// A type, by a definition `struct NAME {..}`.
-    Struct,
-}
-
-/// Where each name is declared first, and as what.
-#[derive(Drop)]
-struct TypeNames<'a> {
-    first: BTreeMap<&'a str, (usize, Declares)>,
-}
-
-impl<'a> TypeNames<'a> {
-    /// The first declaration of the name is a type's.
-    fn has(&self, name: &str) -> bool {
-        self.first
-            .get(name)
-            .is_some_and(|first| first.1 != Declares::Other)
-    }
-
-    /// The first declaration of the name is a struct's definition.
-    fn has_struct(&self, name: &str) -> bool {
-        self.first
-            .get(name)
-            .is_some_and(|first| first.1 == Declares::Struct)
-    }
-
-    /// A declaration.
-    fn add(&mut self, name: Name<'a>, declares: Declares) -> Result<(), AllocError> {
-        let left = self.first.get(name.text).map_or(0, |first| first.0);
-        if left < name.left {
-            self.first.insert(name.text, (name.left, declares))?;
-        }
-        Ok(())
-    }
-}
-
-/// What a type is declared as.
-fn declared_as(part: Part<'_>) -> Declares {
-    match part {
-        Part::StructMade(_) => Declares::Struct,
-        _ => Declares::Type,
-    }
-}
-
-/// The names of constants, types and programs, TRUE and FALSE before all, and which are types.
-fn type_names<'a>(alloc: Global, outline: &Outline<'a>) -> Result<TypeNames<'a>, AllocError> {
-    let mut names = TypeNames {
-        first: BTreeMap::new(alloc),
-    };
-    names.add(given("TRUE"), Declares::Other)?;
-    names.add(given("FALSE"), Declares::Other)?;
-    for entry in &outline.constants {
-        names.add(entry.name, Declares::Other)?;
-    }
-    for field in &outline.types {
-        names.add(field.name, declared_as(field.part))?;
-    }
-    for program in &outline.programs {
-        names.add(program.name, Declares::Other)?;
-    }
-    Ok(names)
-}
-
 /// The first typedef that never ends, at its new name.
 fn endless_typedef(types: &TypeTable<'_>) -> Option<usize> {
     for field in &types.list {
@@ -414,7 +241,7 @@ fn endless_typedef(types: &TypeTable<'_>) -> Option<usize> {
 
 /// The fault of names and numbers that stands first in the text.
 fn first_of(alloc: Global, outline: &Outline<'_>) -> Result<Option<(Wrong, usize)>, AllocError> {
-    let mut first = First { fault: None };
+    let mut first = FirstFault::new();
     let types = type_names(alloc, outline)?;
     let known = first.constants(alloc, &outline.constants)?;
     first.kinds(alloc, &types, &known, &outline.drafts)?;

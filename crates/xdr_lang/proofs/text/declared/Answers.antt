@@ -7,7 +7,7 @@ use Rattle.xdr_grammar.specs.Spelled.{IsOutline}
 use Rattle.xdr_tokens.proofs.Options.{some_is}
 use Rattle.xdr_lang.specs.Means.{IsMeant}
 use Rattle.xdr_lang.proofs.Refusing.{fails_same}
-use Rattle.xdr_lang.proofs.reading.declared.Goals as goal
+use Rattle.xdr_lang.proofs.text.declared.Goals as goal
 
 pub returns-in_err-cut-clause-only : goal.returns-in_err-cut-clause-only
 returns-in_err-cut-clause-only c = λ d m.
@@ -29,4 +29,4 @@ returns-clause-only c = λ d m.
     (same ∙ ap lexemes (sym c.deref.ensures.value)) m.spelled in
     let same_outline = some_is m.outline (outline_of c.in_ok-outline.outline)
     (c.in_ok-outline.ensures.only m.outline is) in
-    c.resolved.ensures.only d (subst (λ (o : Outline). IsMeant o d) same_outline m.meant)
+    c.meaning.ensures.only d (subst (λ (o : Outline). IsMeant o d) same_outline m.meant)
