@@ -17,7 +17,8 @@ use Rattle.xdr_grammar.specs.Grammar.{value, limit, member, members, cases, body
 use Rattle.xdr_grammar.specs.Grammar.{content, fields, arms, otherwise}
 use Rattle.xdr_grammar.specs.Outline.{Part, Field, Outline, late, declare, defined_as, members_in, specifier_in}
 use Rattle.xdr_grammar.specs.Outline.{body_in, declaration_in, content_in, fields_in, arms_in, default_in}
-use Rattle.xdr_grammar.specs.Private.Reading.{taken, Reader, repeat, after_word, after_sign, name_at, either_sign}
+use Rattle.xdr_grammar.specs.Private.Taking.{taken, after_word, after_sign, name_at, either_sign}
+use Rattle.xdr_grammar.specs.Private.Reading.{Reader, repeat}
 use Rattle.xdr_grammar.specs.Private.Reading.{opaque_at, text_at, declared_at, declaration_with, content_with, int_at}
 use Rattle.xdr_grammar.specs.Private.Reading.{basic_at, member_at, enum_at, field_with, struct_with, case_at, arm_with}
 use Rattle.xdr_grammar.specs.Private.Reading.{default_with, switch_with, union_with, body_word_at, inner_word_at}

@@ -20,8 +20,10 @@ use Rattle.xdr_grammar.specs.Outline.{DUpTo, DStructure, DChoice, Outline, late,
 use Rattle.xdr_grammar.specs.Outline.{members_in, specifier_in, body_in, declaration_in, content_in, fields_in, arms_in}
 use Rattle.xdr_grammar.specs.Outline.{default_in}
 use Rattle.xdr_tokens.specs.Options.{◌>>=◌}
-use Rattle.xdr_grammar.specs.Private.Reading.{taken, Reader, repeat, after_word, after_sign, name_at, value_at}
-use Rattle.xdr_grammar.specs.Private.Reading.{size_at, limit_at, either_sign, opaque_at, text_at, declared_at}
+use Rattle.xdr_grammar.specs.Private.Taking.{taken, after_word, after_sign, name_at, value_at}
+use Rattle.xdr_grammar.specs.Private.Reading.{Reader, repeat}
+use Rattle.xdr_grammar.specs.Private.Taking.{size_at, limit_at, either_sign}
+use Rattle.xdr_grammar.specs.Private.Reading.{opaque_at, text_at, declared_at}
 use Rattle.xdr_grammar.specs.Private.Reading.{declaration_with, content_with, int_at, basic_at, member_at, enum_at}
 use Rattle.xdr_grammar.specs.Private.Reading.{field_with, struct_with, case_at, arm_with, default_with, switch_with}
 use Rattle.xdr_grammar.specs.Private.Reading.{union_with, body_word_at, inner_word_at, body_with, defined_part}

@@ -14,7 +14,8 @@ use Rattle.xdr_grammar.specs.Grammar.{procedure, procedures, version, versions, 
 use Rattle.xdr_grammar.specs.Outline.{Part, IsText, Field, Procedure, Version, Program, Outline, defined_as, add_type}
 use Rattle.xdr_grammar.specs.Outline.{add_program, body_in, declaration_in, passed_in, arguments_in, result_in}
 use Rattle.xdr_grammar.specs.Outline.{procedure_in, procedures_in, version_in, versions_in, definition_in, outlined}
-use Rattle.xdr_grammar.specs.Private.Reading.{Reader, repeat, after_word, after_sign, name_at, numbered_at, either_sign}
+use Rattle.xdr_grammar.specs.Private.Taking.{after_word, after_sign, name_at, numbered_at, either_sign}
+use Rattle.xdr_grammar.specs.Private.Reading.{Reader, repeat}
 use Rattle.xdr_grammar.specs.Private.Reading.{declaration_with, body_word_at, body_with, specifier_at, passed_with}
 use Rattle.xdr_grammar.specs.Private.Reading.{argument_with, arguments_with, result_with, procedure_with, version_with}
 use Rattle.xdr_grammar.specs.Private.Reading.{program_with, const_at, typedef_with, defined_with, definition_at}

@@ -4,7 +4,7 @@ use Rattle.xdr_grammar.specs.Private.Reading.{repeat, arm_with, content_with, de
 use Rattle.xdr_grammar.specs.Private.Reading.{specifier_at}
 use Rattle.xdr_grammar.specs.Private.Parsing.{left, so_far}
 use Rattle.xdr_grammar.proofs.Loop.{with_front}
-use Rattle.xdr_grammar.proofs.reading.Parser.+declarations.Given as goal
+use Rattle.xdr_grammar.proofs.parser.Parser.+declarations.Given as goal
 
 abbrev pub decreases-specifier : goal.decreases-specifier
 decreases-specifier l = 8 * l.depth + 0

@@ -1,18 +1,12 @@
-//! Reading definitions from their tokens, from left to right.
-ghost use Rattle.std.specs.Prelude.{◌≡◌, true, false, Some, None, IfOk, IfErr};
-ghost use Rattle.xdr_tokens.specs.Tokens.{lexemes};
-ghost use Rattle.xdr_grammar.specs.Outline.{Outline as OutlineSpec};
-ghost use Rattle.xdr_grammar.specs.View.{outline_of};
-ghost use Rattle.xdr_tokens.specs.Due.{Gives};
-ghost use Rattle.xdr_grammar.specs.Private.Reading.{after_word, after_sign, either_sign};
-ghost use Rattle.xdr_grammar.specs.Spelled.{IsOutline};
-ghost use Rattle.xdr_grammar.specs.Misreadings.{IsGrammarFault};
+//! The parser: the tokens that are left, taken from left to right.
+ghost use Rattle.std.specs.Prelude.{◌≡◌, true, false, Some, None};
+ghost use Rattle.xdr_grammar.specs.Private.Taking.{after_word, after_sign, either_sign};
 ghost use Rattle.xdr_grammar.specs.Private.Parsing.{left, so_far, Parses, Takes, place_in};
 
-use crate::misread::{Misplaced, Misread, fault_of};
+use crate::misread::{Misplaced, Misread};
 use crate::outline::Outline;
 use std::alloc::Global;
-use xdr_tokens::{Fault, Keyword, Mark, Token};
+use xdr_tokens::{Keyword, Mark, Token};
 
 /// How many bodies of structs, unions and enums may stand inside one another.
 pub(crate) const MAX_DEPTH: u32 = 32;
@@ -58,7 +52,7 @@ impl<'t, 'a> Parser<'t, 'a> {
     }
 
     /// Takes the keyword, where it is in front.
-    #[tactic(auto, unfolding(crate::specs::Private::Reading::after_word))]
+    #[tactic(auto, unfolding(crate::specs::Private::Taking::after_word))]
     pub(crate) fn word(&mut self, wanted: Keyword) -> bool
         ensures yes { result ≡ true → after_word wanted (left self.old) ≡ Some (left self.new) }
         ensures no { result ≡ false → after_word wanted (left self.old) ≡ None }
@@ -75,7 +69,7 @@ impl<'t, 'a> Parser<'t, 'a> {
     }
 
     /// Takes the mark, where it is in front.
-    #[tactic(auto, unfolding(crate::specs::Private::Reading::after_sign))]
+    #[tactic(auto, unfolding(crate::specs::Private::Taking::after_sign))]
     pub(crate) fn sign(&mut self, wanted: Mark) -> bool
         ensures yes { result ≡ true → after_sign wanted (left self.old) ≡ Some (left self.new) }
         ensures no { result ≡ false → after_sign wanted (left self.old) ≡ None }
@@ -116,7 +110,7 @@ impl<'t, 'a> Parser<'t, 'a> {
     }
 
     /// Takes one of two marks, and says whether it is the first.
-    #[tactic(auto, unfolding(crate::specs::Private::Reading::either_sign))]
+    #[tactic(auto, unfolding(crate::specs::Private::Taking::either_sign))]
     pub(crate) fn either(&mut self, on: Mark, end: Mark) -> Result<bool, Misread>
         ensures read { Takes (λ x. x) result (either_sign on end) self.old self.new }
         ensures made { so_far self.new ≡ so_far self.old }
@@ -126,39 +120,5 @@ impl<'t, 'a> Parser<'t, 'a> {
         }
         self.expect(end)?;
         Ok(false)
-    }
-}
-
-/// What the definitions that the tokens spell declare, with names in place of what they stand for
-/// (RFC 4506 section 6.3, RFC 5531 section 12.2).
-///
-/// The first token that cannot continue the grammar is `Unexpected`, or `FloatingKind` at the word of a
-/// floating-point type where a type may begin; the `{` of a 33rd body inside others is `NestedTooDeep`;
-/// `NoMemory` comes where a growth was refused.
-pub fn read_outline<'a>(alloc: Global, tokens: &[Token<'a>]) -> Result<Outline<'a>, Fault>
-    // What is read are the tokens of definitions.
-    ensures found { IfOk result (λ v. IsOutline (lexemes tokens.now) (outline_of v)) }
-    // The tokens of all definitions are read, unless memory runs out.
-    ensures only { (v : OutlineSpec) → IsOutline (lexemes tokens.now) v → Gives outline_of result (Some v) }
-    // A refusal is want of memory, or number 3, 4 or 12.
-    ensures refused { IfErr result (λ e. IsGrammarFault e) }
-{
-    let mut parser = Parser {
-        alloc,
-        rest: tokens,
-        start: 0,
-        outline: Outline {
-            constants: Vec::new(alloc),
-            drafts: Vec::new(alloc),
-            types: Vec::new(alloc),
-            programs: Vec::new(alloc),
-        },
-    };
-    match parser.definitions() {
-        Ok(()) => {
-            let Parser { outline, .. } = parser;
-            Ok(outline)
-        }
-        Err(misread) => Err(fault_of(misread)),
     }
 }

@@ -5,7 +5,7 @@ use Rattle.xdr_grammar.specs.View.{version_of}
 use Rattle.xdr_grammar.specs.Private.Reading.{repeat, specifier_at, version_with}
 use Rattle.xdr_grammar.specs.Private.Parsing.{left, so_far}
 use Rattle.xdr_grammar.proofs.Loop.{fails_along, stops, ends, goes_on}
-use Rattle.xdr_grammar.proofs.reading.Parser.versions.Goals as goal
+use Rattle.xdr_grammar.proofs.parser.Parser.versions.Goals as goal
 
 pub returns-in_err-version : goal.returns-in_err-version
 returns-in_err-version c =

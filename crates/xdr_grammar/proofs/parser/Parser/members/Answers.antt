@@ -5,7 +5,7 @@ use Rattle.xdr_grammar.specs.View.{member_of}
 use Rattle.xdr_grammar.specs.Private.Reading.{repeat, member_at}
 use Rattle.xdr_grammar.specs.Private.Parsing.{left, so_far}
 use Rattle.xdr_grammar.proofs.Loop.{fails_along, stops, ends, goes_on}
-use Rattle.xdr_grammar.proofs.reading.Parser.members.Goals as goal
+use Rattle.xdr_grammar.proofs.parser.Parser.members.Goals as goal
 
 pub returns-in_err-member : goal.returns-in_err-member
 returns-in_err-member c =

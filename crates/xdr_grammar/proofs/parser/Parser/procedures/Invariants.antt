@@ -3,7 +3,7 @@ use Rattle.xdr_grammar.specs.View.{procedure_of}
 use Rattle.xdr_grammar.specs.Private.Reading.{repeat, procedure_with, specifier_at}
 use Rattle.xdr_grammar.specs.Private.Parsing.{left, so_far}
 use Rattle.xdr_grammar.proofs.Loop.{with_front}
-use Rattle.xdr_grammar.proofs.reading.Parser.procedures.Given as goal
+use Rattle.xdr_grammar.proofs.parser.Parser.procedures.Given as goal
 
 abbrev pub invariant-loop : goal.invariant-loop
 invariant-loop l = with_front (map procedure_of l.procedures.items)

@@ -3,7 +3,7 @@ use Rattle.xdr_grammar.specs.View.{version_of}
 use Rattle.xdr_grammar.specs.Private.Reading.{repeat, specifier_at, version_with}
 use Rattle.xdr_grammar.specs.Private.Parsing.{left, so_far}
 use Rattle.xdr_grammar.proofs.Loop.{with_front}
-use Rattle.xdr_grammar.proofs.reading.Parser.versions.Given as goal
+use Rattle.xdr_grammar.proofs.parser.Parser.versions.Given as goal
 
 abbrev pub invariant-loop : goal.invariant-loop
 invariant-loop l = with_front (map version_of l.versions.items)

@@ -5,7 +5,7 @@ use Rattle.xdr_grammar.specs.View.{part_of}
 use Rattle.xdr_grammar.specs.Private.Reading.{repeat, argument_with, specifier_at}
 use Rattle.xdr_grammar.specs.Private.Parsing.{left, so_far}
 use Rattle.xdr_grammar.proofs.Loop.{fails_along, stops, ends, goes_on}
-use Rattle.xdr_grammar.proofs.reading.Parser.some_arguments.Goals as goal
+use Rattle.xdr_grammar.proofs.parser.Parser.some_arguments.Goals as goal
 
 pub returns-in_err-part : goal.returns-in_err-part
 returns-in_err-part c =

@@ -6,7 +6,7 @@ use Rattle.xdr_grammar.specs.Private.Reading.{repeat, arm_with, content_with, de
 use Rattle.xdr_grammar.specs.Private.Reading.{specifier_at}
 use Rattle.xdr_grammar.specs.Private.Parsing.{left, so_far}
 use Rattle.xdr_grammar.proofs.Loop.{fails_along, stops, ends, goes_on}
-use Rattle.xdr_grammar.proofs.reading.Parser.+declarations.Goals as goal
+use Rattle.xdr_grammar.proofs.parser.Parser.+declarations.Goals as goal
 
 pub fields-returns-in_err-field : goal.fields-returns-in_err-field
 fields-returns-in_err-field t c =

@@ -5,7 +5,7 @@ use Rattle.xdr_grammar.specs.View.{procedure_of}
 use Rattle.xdr_grammar.specs.Private.Reading.{repeat, procedure_with, specifier_at}
 use Rattle.xdr_grammar.specs.Private.Parsing.{left, so_far}
 use Rattle.xdr_grammar.proofs.Loop.{fails_along, stops, ends, goes_on}
-use Rattle.xdr_grammar.proofs.reading.Parser.procedures.Goals as goal
+use Rattle.xdr_grammar.proofs.parser.Parser.procedures.Goals as goal
 
 pub returns-in_err-procedure : goal.returns-in_err-procedure
 returns-in_err-procedure c =

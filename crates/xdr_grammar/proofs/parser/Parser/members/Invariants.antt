@@ -3,7 +3,7 @@ use Rattle.xdr_grammar.specs.View.{member_of}
 use Rattle.xdr_grammar.specs.Private.Reading.{repeat, member_at}
 use Rattle.xdr_grammar.specs.Private.Parsing.{left, so_far}
 use Rattle.xdr_grammar.proofs.Loop.{with_front}
-use Rattle.xdr_grammar.proofs.reading.Parser.members.Given as goal
+use Rattle.xdr_grammar.proofs.parser.Parser.members.Given as goal
 
 abbrev pub invariant-loop : goal.invariant-loop
 invariant-loop l = with_front (map member_of l.members.items)

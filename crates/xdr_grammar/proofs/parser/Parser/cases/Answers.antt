@@ -5,7 +5,7 @@ use Rattle.xdr_grammar.specs.View.{late_of}
 use Rattle.xdr_grammar.specs.Private.Reading.{repeat, case_at}
 use Rattle.xdr_grammar.specs.Private.Parsing.{left, so_far}
 use Rattle.xdr_grammar.proofs.Loop.{fails_along, stops, ends, goes_on}
-use Rattle.xdr_grammar.proofs.reading.Parser.cases.Goals as goal
+use Rattle.xdr_grammar.proofs.parser.Parser.cases.Goals as goal
 
 pub returns-in_err-value : goal.returns-in_err-value
 returns-in_err-value c =

@@ -5,7 +5,7 @@ use Rattle.xdr_grammar.specs.View.{outline_of}
 use Rattle.xdr_grammar.specs.Private.Reading.{definitions_at}
 use Rattle.xdr_grammar.proofs.Loop.{fails_along}
 use Rattle.xdr_grammar.proofs.Outlining.{outline_found, outline_again, reported_fails, told_is}
-use Rattle.xdr_grammar.proofs.reading.read_outline.Goals as goal
+use Rattle.xdr_grammar.proofs.definitions.read_outline.Goals as goal
 
 pub returns-clause-only : goal.returns-clause-only
 returns-clause-only c = λ v is.
