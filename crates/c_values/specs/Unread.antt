@@ -3,7 +3,7 @@ use Rattle.std.specs.Prelude.{◌≤◌, ℕ, List, ⊤}
 use Rattle.xdr_lang.specs.Declarations.{Declared}
 use Rattle.xdr_lang.specs.Means.{Means}
 use Rattle.xdr_lang.specs.Refusals.{IsInner}
-use Rattle.xdr_lang.specs.declared.place.LangFault.{LangFault}
+use Rattle.xdr_lang.specs.declared.lang_fault.LangFault.{LangFault}
 use Rattle.c_values.specs.declared.unread.Unread.{Unread}
 use Rattle.c_values.specs.declared.unread.Unread.TheVariants as unread
 

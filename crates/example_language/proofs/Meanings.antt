@@ -8,8 +8,9 @@ use Rattle.xdr_lang.specs.Means.{Means}
 use Rattle.xdr_tokens.specs.Bytes.{run_length, after_comment, value_from, number_of}
 use Rattle.xdr_tokens.specs.Keywords.{word_among, word_or_name}
 use Rattle.xdr_tokens.specs.Private.Front.{comment_at, piece_at}
-use Rattle.xdr_grammar.specs.Private.Reading.{after_word, after_sign, name_at, number_at, value_at, size_at, limit_at}
-use Rattle.xdr_grammar.specs.Private.Reading.{either_sign, numbered_at, repeat, opaque_at, text_at, declared_at}
+use Rattle.xdr_grammar.specs.Private.Taking.{after_word, after_sign, name_at, number_at, value_at, size_at, limit_at}
+use Rattle.xdr_grammar.specs.Private.Taking.{either_sign, numbered_at}
+use Rattle.xdr_grammar.specs.Private.Reading.{repeat, opaque_at, text_at, declared_at}
 use Rattle.xdr_grammar.specs.Private.Reading.{declaration_with, content_with, basic_at, member_at, enum_at, field_with}
 use Rattle.xdr_grammar.specs.Private.Reading.{struct_with, case_at, arm_with, default_with, switch_with, union_with}
 use Rattle.xdr_grammar.specs.Private.Reading.{body_word_at, body_with, specifier_at, passed_with, argument_with}
@@ -20,9 +21,8 @@ use Rattle.xdr_constants.specs.Constants.{known, earlier, looked_up, size, limit
 use Rattle.xdr_lang.specs.LookUp.{type_named, named_place}
 use Rattle.xdr_lang.specs.Kinds.{each_onto, where_given, one_member, one_case, one_field, one_arm, one_kind}
 use Rattle.xdr_lang.specs.Programs.{signature, one_procedure, one_version, one_program}
-use Rattle.xdr_lang.specs.Distinct.{has_name, repeats, has_number, repeats_number, has_pair, repeats_pair, kind_repeats}
-use Rattle.xdr_lang.specs.Distinct.{kinds_repeat, version_repeats, versions_repeat, program_repeats, programs_repeat}
-use Rattle.xdr_lang.specs.Distinct.{pairs_of, pairs, has_twice}
+use Rattle.xdr_lang.specs.Distinct.{repeats, names_repeat, kind_repeats, version_repeats, program_repeats, pairs_of}
+use Rattle.xdr_lang.specs.Distinct.{pairs, has_twice}
 use Rattle.xdr_lang.specs.Meaning.{given_constants, meaning}
 use Rattle.xdr_lang.specs.Private.Meaning.{distinct_meaning}
 use Rattle.example_language.proofs.Cutting.{cut}
@@ -98,8 +98,7 @@ unfolding reported cut run_length after_comment value_from number_of word_among 
     argument_with arguments_with result_with procedure_with version_with program_with const_at typedef_with
     defined_with definition_at definitions_at known earlier looked_up size limit entry_number numbers type_named
     named_place each_onto where_given one_member one_case one_field one_arm one_kind signature one_procedure
-    one_version one_program has_name repeats has_number repeats_number has_pair repeats_pair kind_repeats kinds_repeat
-    version_repeats versions_repeat program_repeats programs_repeat pairs_of pairs has_twice meaning distinct_meaning
+    one_version one_program repeats names_repeat kind_repeats version_repeats program_repeats pairs_of pairs has_twice meaning distinct_meaning
 meanings = record {
   arrays = reported_means _ (two_arrays 0) refl (lit≤ tt) (well _ (lit≤ tt) refl refl)
       (sound_ten (xdr.fixed 0 2) (xdr.up_to 0 2) (0, refl, lit≤ tt) tt);

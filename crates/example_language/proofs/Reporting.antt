@@ -8,7 +8,7 @@ use Rattle.xdr_grammar.specs.Outline.{nothing}
 use Rattle.xdr_grammar.specs.Private.Reading.{definitions_at}
 use Rattle.xdr_grammar.proofs.Outlining.{outline_again}
 use Rattle.xdr_lang.specs.declared.declarations.Declared.{Declared as Made}
-use Rattle.xdr_lang.specs.declared.place.LangFault.{LangFault}
+use Rattle.xdr_lang.specs.declared.lang_fault.LangFault.{LangFault}
 use Rattle.xdr_lang.specs.Declarations.{Declared}
 use Rattle.xdr_lang.specs.Means.{Means}
 use Rattle.xdr_lang.specs.Views.{declared_of}

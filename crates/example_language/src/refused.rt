@@ -111,6 +111,16 @@ pub fn no_schema_number(alloc: Global, text: &[u8]) -> u8
     }
 }
 
+/// The number of a schema's fault is at most 10.
+pub fn number_of_a_schema_fault(alloc: Global, text: &[u8]) -> u8
+    ensures { result ≤ 10 }
+{
+    match read(alloc, text) {
+        Ok(_) => 0,
+        Err(fault) => fault.inner,
+    }
+}
+
 /// Columns count from 1.
 pub fn column_of_a_refusal(alloc: Global, text: &[u8]) -> usize
     ensures { 1 ≤ result }

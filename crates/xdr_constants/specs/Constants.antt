@@ -1,6 +1,6 @@
 -- What the values of a text stand for: its constants, and numbers in their ranges (RFC 4506 section 6.4).
-use Rattle.std.specs.Prelude.{ℕ, ℤ, pos, negsuc, ◌^◌, Bool, false, nat_lt, if◌then◌else◌, List, [], ◌∷◌, ◌++◌, take}
-use Rattle.std.specs.Prelude.{Option, Some, None, codes}
+use Rattle.std.specs.Prelude.{ℕ, ℤ, pos, negsuc, ◌-◌, ◌^◌, Bool, false, nat_lt, if◌then◌else◌, List, [], ◌∷◌, ◌++◌}
+use Rattle.std.specs.Prelude.{take, Option, Some, None, codes}
 use Rattle.std.specs.Str.{bytes_eq}
 use Rattle.xdr_tokens.specs.Options.{◌>>=◌}
 use Rattle.xdr_grammar.specs.Outline.{Late, Given, Earlier, Entry}
@@ -52,7 +52,7 @@ size ks (Earlier n before) = earlier n (take before ks) >>= λ k. if k.1 then un
 
 -- A missing size is the greatest one.
 unfoldable pub limit : List Known → Option Late → Option ℕ
-limit ks None = Some 4294967295
+limit ks None = Some (2 ^ 32 - 1)
 limit ks (Some v) = size ks v
 
 -- the number of one more constant; a member's is in its range

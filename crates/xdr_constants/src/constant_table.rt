@@ -47,7 +47,8 @@ impl<'a> ConstantTable<'a> {
         }
     }
 
-    /// One more constant. Where memory is refused, the constants stay.
+    /// One more constant. Its place in the list is reserved before its name is retained, so that the constants stay
+    /// where memory is refused at either.
     pub fn push(&mut self, known: Known<'a>) -> Result<(), AllocError>
         ensures added { OnOk result
             (knowns self.new.list.items ≡ knowns self.old.list.items ++ known_of known.entry ∷ []) }

@@ -17,7 +17,8 @@ use Rattle.xdr_grammar.specs.Grammar.{value, limit, member, members, cases, body
 use Rattle.xdr_grammar.specs.Grammar.{content, fields, arms, otherwise}
 use Rattle.xdr_grammar.specs.Outline.{Part, Field, Outline, late, declare, defined_as, members_in, specifier_in}
 use Rattle.xdr_grammar.specs.Outline.{body_in, declaration_in, content_in, fields_in, arms_in, default_in}
-use Rattle.xdr_grammar.specs.Private.Reading.{taken, Reader, repeat, after_word, after_sign, name_at, either_sign}
+use Rattle.xdr_grammar.specs.Private.Taking.{taken, after_word, after_sign, name_at, either_sign}
+use Rattle.xdr_grammar.specs.Private.Reading.{Reader, repeat}
 use Rattle.xdr_grammar.specs.Private.Reading.{opaque_at, text_at, declared_at, declaration_with, content_with, int_at}
 use Rattle.xdr_grammar.specs.Private.Reading.{basic_at, member_at, enum_at, field_with, struct_with, case_at, arm_with}
 use Rattle.xdr_grammar.specs.Private.Reading.{default_with, switch_with, union_with, body_word_at, inner_word_at}
@@ -46,92 +47,25 @@ pub record Begins (ts : List Lexeme) : Type 0 where
   pub not_case : after_word word.Case ts ≡ None
   pub not_close : after_sign mark.CloseBrace ts ≡ None
 
+begins : (ts : List Lexeme) → after_word word.Void ts ≡ None → after_word word.Opaque ts ≡ None
+    → after_word word.String ts ≡ None → after_word word.Case ts ≡ None → after_sign mark.CloseBrace ts ≡ None
+    → Begins ts
+begins ts v o s c b = record { not_void = v; not_opaque = o; not_string = s; not_case = c; not_close = b }
+
 pub specifier_begins : (s : Specifier) (ts : List Lexeme) → Begins (specifier s ts)
 unfolding after_word after_sign
-specifier_begins (Plain basic.Int) ts = record {
-  not_void = refl;
-  not_opaque = refl;
-  not_string = refl;
-  not_case = refl;
-  not_close = refl;
-}
-specifier_begins (Plain basic.Unsigned) ts = record {
-  not_void = refl;
-  not_opaque = refl;
-  not_string = refl;
-  not_case = refl;
-  not_close = refl;
-}
-specifier_begins (Plain basic.Hyper) ts = record {
-  not_void = refl;
-  not_opaque = refl;
-  not_string = refl;
-  not_case = refl;
-  not_close = refl;
-}
-specifier_begins (Plain basic.UnsignedHyper) ts = record {
-  not_void = refl;
-  not_opaque = refl;
-  not_string = refl;
-  not_case = refl;
-  not_close = refl;
-}
-specifier_begins (Plain basic.Bool) ts = record {
-  not_void = refl;
-  not_opaque = refl;
-  not_string = refl;
-  not_case = refl;
-  not_close = refl;
-}
-specifier_begins Long ts = record {
-  not_void = refl;
-  not_opaque = refl;
-  not_string = refl;
-  not_case = refl;
-  not_close = refl;
-}
-specifier_begins UnsignedLong ts = record {
-  not_void = refl;
-  not_opaque = refl;
-  not_string = refl;
-  not_case = refl;
-  not_close = refl;
-}
-specifier_begins (Named n) ts = record {
-  not_void = refl;
-  not_opaque = refl;
-  not_string = refl;
-  not_case = refl;
-  not_close = refl;
-}
-specifier_begins (StructNamed n) ts = record {
-  not_void = refl;
-  not_opaque = refl;
-  not_string = refl;
-  not_case = refl;
-  not_close = refl;
-}
-specifier_begins (Inline (EnumBody m ms)) ts = record {
-  not_void = refl;
-  not_opaque = refl;
-  not_string = refl;
-  not_case = refl;
-  not_close = refl;
-}
-specifier_begins (Inline (StructBody fs)) ts = record {
-  not_void = refl;
-  not_opaque = refl;
-  not_string = refl;
-  not_case = refl;
-  not_close = refl;
-}
-specifier_begins (Inline (UnionBody t cs d)) ts = record {
-  not_void = refl;
-  not_opaque = refl;
-  not_string = refl;
-  not_case = refl;
-  not_close = refl;
-}
+specifier_begins (Plain basic.Int) ts = begins _ refl refl refl refl refl
+specifier_begins (Plain basic.Unsigned) ts = begins _ refl refl refl refl refl
+specifier_begins (Plain basic.Hyper) ts = begins _ refl refl refl refl refl
+specifier_begins (Plain basic.UnsignedHyper) ts = begins _ refl refl refl refl refl
+specifier_begins (Plain basic.Bool) ts = begins _ refl refl refl refl refl
+specifier_begins Long ts = begins _ refl refl refl refl refl
+specifier_begins UnsignedLong ts = begins _ refl refl refl refl refl
+specifier_begins (Named n) ts = begins _ refl refl refl refl refl
+specifier_begins (StructNamed n) ts = begins _ refl refl refl refl refl
+specifier_begins (Inline (EnumBody m ms)) ts = begins _ refl refl refl refl refl
+specifier_begins (Inline (StructBody fs)) ts = begins _ refl refl refl refl refl
+specifier_begins (Inline (UnionBody t cs d)) ts = begins _ refl refl refl refl refl
 
 -- nor a declaration
 pub record BeginsDeclaration (ts : List Lexeme) : Type 0 where

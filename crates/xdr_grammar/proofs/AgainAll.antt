@@ -14,7 +14,8 @@ use Rattle.xdr_grammar.specs.Grammar.{procedure, procedures, version, versions, 
 use Rattle.xdr_grammar.specs.Outline.{Part, Outline, body_in, passed_in, arguments_in, result_in, procedure_in}
 use Rattle.xdr_grammar.specs.Outline.{procedures_in, version_in, versions_in, definition_in, outlined}
 use Rattle.xdr_tokens.specs.Options.{◌>>=◌}
-use Rattle.xdr_grammar.specs.Private.Reading.{taken, Reader, repeat, after_word, after_sign, name_at, either_sign}
+use Rattle.xdr_grammar.specs.Private.Taking.{taken, after_word, after_sign, name_at, either_sign}
+use Rattle.xdr_grammar.specs.Private.Reading.{Reader, repeat}
 use Rattle.xdr_grammar.specs.Private.Reading.{declaration_with, specifier_at, passed_with, argument_with}
 use Rattle.xdr_grammar.specs.Private.Reading.{arguments_with}
 use Rattle.xdr_grammar.specs.Private.Reading.{result_with, procedure_with, version_with, program_with, const_at}

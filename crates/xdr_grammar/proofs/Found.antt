@@ -20,31 +20,18 @@ use Rattle.xdr_grammar.specs.Outline.{DUpTo, DStructure, DChoice, Outline, late,
 use Rattle.xdr_grammar.specs.Outline.{members_in, specifier_in, body_in, declaration_in, content_in, fields_in, arms_in}
 use Rattle.xdr_grammar.specs.Outline.{default_in}
 use Rattle.xdr_tokens.specs.Options.{◌>>=◌}
-use Rattle.xdr_grammar.specs.Private.Reading.{taken, Reader, repeat, after_word, after_sign, name_at, value_at}
-use Rattle.xdr_grammar.specs.Private.Reading.{size_at, limit_at, either_sign, opaque_at, text_at, declared_at}
+use Rattle.xdr_grammar.specs.Private.Taking.{taken, after_word, after_sign, name_at, value_at}
+use Rattle.xdr_grammar.specs.Private.Reading.{Reader, repeat}
+use Rattle.xdr_grammar.specs.Private.Taking.{size_at, limit_at, either_sign}
+use Rattle.xdr_grammar.specs.Private.Reading.{opaque_at, text_at, declared_at}
 use Rattle.xdr_grammar.specs.Private.Reading.{declaration_with, content_with, int_at, basic_at, member_at, enum_at}
 use Rattle.xdr_grammar.specs.Private.Reading.{field_with, struct_with, case_at, arm_with, default_with, switch_with}
 use Rattle.xdr_grammar.specs.Private.Reading.{union_with, body_word_at, inner_word_at, body_with, defined_part}
 use Rattle.xdr_grammar.specs.Private.Reading.{specifier_at}
-use Rattle.xdr_tokens.proofs.Options.{bind_some, some_is, chosen}
+use Rattle.xdr_tokens.proofs.Options.{bind_some, some_is}
+use Rattle.xdr_grammar.proofs.Rows.{Found, Finds, with_found, FoundItem, FindsItems, AreRows, row_found}
 use Rattle.xdr_grammar.proofs.Leaves.{taken_some, word_found, sign_found, name_found, either_found, value_found}
 use Rattle.xdr_grammar.proofs.Leaves.{size_found, limit_found}
-
--- A tree stands in front, and gives what was read.
-pub record Found {A T : Type 0} (spelling : T → List Lexeme → List Lexeme) (outlined : T → Outline
-    → A × Outline) (depth : T → ℕ) (d : ℕ) (o : Outline) (ts : List Lexeme)
-    (y : A × Outline × List Lexeme) : Type 0 where
-  pub tree : T
-  pub spelled : ts ≡ spelling tree y.2
-  pub value : y.0 ≡ (outlined tree o).0
-  pub made : y.1 ≡ (outlined tree o).1
-  pub nested : depth tree ≤ d
-
--- All that the reader finds are trees.
-abbrev pub Finds : {A T : Type 0} → (T → List Lexeme → List Lexeme) → (T → Outline → A × Outline) → (T → ℕ) → ℕ
-    → Reader A → Type 0
-Finds {A = A} spelling outlined depth d reader = (o : Outline) (ts : List Lexeme) (y : A × Outline × List Lexeme)
-    → reader o ts ≡ Some y → Found spelling outlined depth d o ts y
 
 abbrev pub IsDeclaration : ℕ → Outline → List Lexeme → Field × Outline × List Lexeme → Type 0
 IsDeclaration d o ts y = Found declaration declaration_in depth_of_declaration d o ts y
@@ -54,11 +41,6 @@ IsSpecifier d o ts y = Found specifier specifier_in depth_of_specifier d o ts y
 
 abbrev pub IsContent : ℕ → Outline → List Lexeme → Field × Outline × List Lexeme → Type 0
 IsContent d o ts y = Found content content_in depth_of_content d o ts y
-
--- a tree that is read is one for whatever equals what was read
-with_field : (d : ℕ) (o : Outline) (ts : List Lexeme) (x y : Field × Outline × List Lexeme) → IsDeclaration d o ts x
-    → Some x ≡ Some y → IsDeclaration d o ts y
-with_field d o ts x y h e = subst (λ (z : Field × Outline × List Lexeme). IsDeclaration d o ts z) (some_is x y e) h
 
 opaque_found : (d : ℕ) (o : Outline) (ts : List Lexeme) (y : Field × Outline × List Lexeme) → opaque_at o ts ≡ Some y
     → IsDeclaration d o (Word word.Opaque ∷ ts) y
@@ -73,7 +55,7 @@ opaque_found d o ts y e =
           let sized : n.0.1 ≡ Sign mark.OpenBracket ∷ value s.tree ∷ Sign mark.CloseBracket ∷ v.0.1 =
           sign_found mark.OpenBracket n.0.1 a.0 a.1
           ∙ ap (λ (x : List Lexeme). Sign mark.OpenBracket ∷ x) s.spelled in
-          with_field d o (Word word.Opaque ∷ ts) _ y
+          with_found _ y
           (record {
             tree = Opaque n.0.0 s.tree;
             spelled = ap (λ (x : List Lexeme). Word word.Opaque ∷ x)
@@ -88,7 +70,7 @@ opaque_found d o ts y e =
           let s = limit_found o l.0 v.0 v.1 in
           let sized : n.0.1 ≡ Sign mark.Less ∷ limit s.tree (Sign mark.Greater ∷ v.0.1) =
           sign_found mark.Less n.0.1 l.0 l.1 ∙ ap (λ (x : List Lexeme). Sign mark.Less ∷ x) s.spelled in
-          with_field d o (Word word.Opaque ∷ ts) _ y
+          with_found _ y
           (record {
             tree = OpaqueUpTo n.0.0 s.tree;
             spelled = ap (λ (x : List Lexeme). Word word.Opaque ∷ x)
@@ -110,7 +92,7 @@ text_found d o ts y e =
     let named : ts ≡ Name n.0.0 ∷ n.0.1 = name_found ts n.0 n.1 in
     let sized : n.0.1 ≡ Sign mark.Less ∷ limit s.tree (Sign mark.Greater ∷ v.0.1) = sign_found mark.Less n.0.1 l.0 l.1
     ∙ ap (λ (x : List Lexeme). Sign mark.Less ∷ x) s.spelled in
-    with_field d o (Word word.String ∷ ts) _ y
+    with_found _ y
     (record {
       tree = Text n.0.0 s.tree;
       spelled = ap (λ (x : List Lexeme). Word word.String ∷ x)
@@ -131,7 +113,7 @@ declared_found d s o ts y fits e =
           let n = bind_some (name_at a.0) _ y a.2 in
           let all : ts ≡ Sign mark.Star ∷ Name n.0.0 ∷ n.0.1 = sign_found mark.Star ts a.0 a.1
           ∙ ap (λ (x : List Lexeme). Sign mark.Star ∷ x) (name_found a.0 n.0 n.1) in
-          with_field d o (specifier s ts) _ y
+          with_found _ y
           (record {
             tree = Pointer s n.0.0;
             spelled = ap (specifier s) all;
@@ -149,7 +131,7 @@ declared_found d s o ts y fits e =
                 let all : ts ≡ Name n.0.0 ∷ Sign mark.OpenBracket ∷ value z.tree ∷ Sign mark.CloseBracket ∷ v.0.1 =
                 named ∙ ap (λ (x : List Lexeme). Name n.0.0 ∷ x) (sign_found mark.OpenBracket n.0.1 a.0 a.1
                 ∙ ap (λ (x : List Lexeme). Sign mark.OpenBracket ∷ x) z.spelled) in
-                with_field d o (specifier s ts) _ y
+                with_found _ y
                 (record {
                   tree = Array s n.0.0 z.tree;
                   spelled = ap (specifier s) all;
@@ -164,7 +146,7 @@ declared_found d s o ts y fits e =
                   let all : ts ≡ Name n.0.0 ∷ Sign mark.Less ∷ limit z.tree (Sign mark.Greater ∷ v.0.1) = named
                   ∙ ap (λ (x : List Lexeme). Name n.0.0 ∷ x) (sign_found mark.Less n.0.1 a.0 a.1
                   ∙ ap (λ (x : List Lexeme). Sign mark.Less ∷ x) z.spelled) in
-                  with_field d o (specifier s ts) _ y
+                  with_found _ y
                   (record {
                     tree = ArrayUpTo s n.0.0 z.tree;
                     spelled = ap (specifier s) all;
@@ -172,7 +154,7 @@ declared_found d s o ts y fits e =
                     made = ap (λ (x : Option Late). add (DUpTo (specifier_in s o).0 x) (specifier_in s o).1) z.late;
                     nested = fits;
                   }) v.2
-              | inr f ↦ with_field d o (specifier s ts) _ y
+              | inr f ↦ with_found _ y
                   (record {
                     tree = One s n.0.0;
                     spelled = ap (specifier s) named;
@@ -218,15 +200,13 @@ pub content_found : (d : ℕ) (declaration : Reader Field) → FindsDeclarations
 unfolding content_with
 content_found d reader finds o ts y e =
     elim (taken_some (after_word word.Void ts) _ _ _ e) [
-      | inl a ↦ subst (λ (z : Field × Outline × List Lexeme). IsContent d o ts z)
-          (some_is (record { name = []; part = IsVoid }, o, a.0) y a.2)
-          (record {
-            tree = Void;
-            spelled = word_found word.Void ts a.0 a.1;
-            value = refl;
-            made = refl;
-            nested = omega arith;
-          })
+      | inl a ↦ with_found (record { name = []; part = IsVoid }, o, a.0) y (record {
+        tree = Void;
+        spelled = word_found word.Void ts a.0 a.1;
+        value = refl;
+        made = refl;
+        nested = omega arith;
+      }) a.2
       | inr n ↦ let f = finds o ts y n.1 in
           record { tree = Of f.tree; spelled = f.spelled; value = f.value; made = f.made; nested = f.nested }
     ]
@@ -291,16 +271,15 @@ basic_found d o ts y e =
 
 -- ---- enums
 
-record IsMember (o : Outline) (ts : List Lexeme) (y : ((List ℕ × Late) × Bool) × Outline × List Lexeme) : Type 0 where
-  tree : Member
-  spelled : ts ≡ member tree (Sign (cond y.0.1 mark.Comma mark.CloseBrace) ∷ y.2)
-  value : y.0.0 ≡ (tree.name, late o tree.value)
-  made : y.1 ≡ declare tree.name (late o tree.value) false o
+abbrev a_member : Member → Bool → List Lexeme → List Lexeme
+a_member m more ts = member m (Sign (cond more mark.Comma mark.CloseBrace) ∷ ts)
 
-member_found : (o : Outline) (ts : List Lexeme) (y : ((List ℕ × Late) × Bool) × Outline × List Lexeme)
-    → member_at o ts ≡ Some y → IsMember o ts y
+abbrev member_in : Member → Outline → (List ℕ × Late) × Outline
+member_in m o = ((m.name, late o m.value), declare m.name (late o m.value) false o)
+
+member_found : (d : ℕ) → FindsItems a_member member_in (λ m. 0) d member_at
 unfolding member_at
-member_found o ts y e =
+member_found d o ts y e =
     let n = bind_some (name_at ts) _ y e in
     let a = bind_some (after_sign mark.Equal n.0.1) _ y n.2 in
     let v = bind_some (value_at o a.0) _ y a.2 in
@@ -310,58 +289,29 @@ member_found o ts y e =
     let all = name_found ts n.0 n.1 ∙ ap (λ (x : List Lexeme). Name n.0.0 ∷ x) (sign_found mark.Equal n.0.1 a.0 a.1
     ∙ ap (λ (x : List Lexeme). Sign mark.Equal ∷ x) (w.spelled ∙ ap (λ (x : List Lexeme). value w.tree ∷ x) ends))
     in
-    subst (λ (z : ((List ℕ × Late) × Bool) × Outline × List Lexeme). IsMember o ts z)
+    subst (λ (z : ((List ℕ × Late) × Bool) × Outline × List Lexeme). FoundItem a_member member_in (λ m. 0) d o ts z)
     (some_is (((n.0.0, v.0.0), m.0.0), declare n.0.0 v.0.0 false o, m.0.1) y m.2)
     (record {
       tree = record { name = n.0.0; value = w.tree };
       spelled = all;
       value = ap (λ (x : Late). (n.0.0, x)) w.late;
       made = ap (λ (x : Late). declare n.0.0 x false o) w.late;
+      nested = omega arith;
     })
 
--- a first member, and more of them
-record AreMembers (o : Outline) (ts : List Lexeme) (y : List (List ℕ × Late) × Outline × List Lexeme) : Type 0 where
-  first : Member
-  others : List Member
-  spelled : ts ≡ member first (members others (Sign mark.CloseBrace ∷ y.2))
-  value : y.0 ≡ (members_in (first ∷ others) o).0
-  made : y.1 ≡ (members_in (first ∷ others) o).1
-
-members_found : (n : ℕ) (o : Outline) (ts : List Lexeme) (y : List (List ℕ × Late) × Outline × List Lexeme)
-    → repeat member_at n o ts ≡ Some y → AreMembers o ts y
-unfolding repeat
-members_found zero o ts y e = absurd cc
-members_found (suc n) o ts y e =
-    let m = bind_some (member_at o ts) _ y e in
-    let first = member_found o ts m.0 m.1 in
-    elim (chosen m.0.0.1 _ _ _ m.2) [
-      | inl on ↦
-          let r = bind_some (repeat member_at n m.0.1 m.0.2) _ y on.1 in
-          let rest = members_found n m.0.1 m.0.2 r.0 r.1 in
-          let here : ts ≡ member first.tree (Sign mark.Comma ∷ m.0.2) = first.spelled
-          ∙ ap (λ (b : Bool). member first.tree (Sign (cond b mark.Comma mark.CloseBrace) ∷ m.0.2)) on.0 in
-          subst (λ (z : List (List ℕ × Late) × Outline × List Lexeme). AreMembers o ts z)
-          (some_is (m.0.0.0 ∷ r.0.0, r.0.1, r.0.2) y r.2) (record {
-            first = first.tree;
-            others = rest.first ∷ rest.others;
-            spelled = here ∙ ap (λ (x : List Lexeme). member first.tree (Sign mark.Comma ∷ x)) rest.spelled;
-            value = ap (λ (x : List ℕ × Late). x ∷ r.0.0) first.value
-                ∙ ap (λ (xs : List (List ℕ × Late)). (first.tree.name, late o first.tree.value) ∷ xs)
-                (rest.value ∙ ap (λ (x : Outline). (members_in (rest.first ∷ rest.others) x).0) first.made);
-            made = rest.made ∙ ap (λ (x : Outline). (members_in (rest.first ∷ rest.others) x).1) first.made;
-          })
-      | inr off ↦
-          let here : ts ≡ member first.tree (Sign mark.CloseBrace ∷ m.0.2) = first.spelled
-          ∙ ap (λ (b : Bool). member first.tree (Sign (cond b mark.Comma mark.CloseBrace) ∷ m.0.2)) off.0 in
-          subst (λ (z : List (List ℕ × Late) × Outline × List Lexeme). AreMembers o ts z)
-          (some_is (m.0.0.0 ∷ [], m.0.1, m.0.2) y off.1) (record {
-            first = first.tree;
-            others = [];
-            spelled = here;
-            value = ap (λ (x : List ℕ × Late). x ∷ []) first.value;
-            made = first.made;
-          })
-    ]
+member_rows : AreRows a_member member_in (λ m. 0)
+    (λ (t : Member × List Member) ts. member t.0 (members t.1 (Sign mark.CloseBrace ∷ ts)))
+    (λ t o. members_in (t.0 ∷ t.1) o) (λ t. 0)
+member_rows = record {
+  last = λ m. (m, []);
+  more = λ m t. (m, t.0 ∷ t.1);
+  last_spelled = λ m ts. refl;
+  more_spelled = λ m t ts. refl;
+  last_given = λ m o. refl;
+  more_given = λ m t o. refl;
+  last_nested = λ m d h. h;
+  more_nested = λ m t d h k. h;
+}
 
 -- the word of a body
 abbrev pub word_of : BodyKind → Lexeme
@@ -386,17 +336,16 @@ unfolding enum_at
 enum_found d o ts y e =
     let i = bind_some (after_sign mark.OpenBrace ts) _ y e in
     let m = bind_some (repeat member_at (length i.0) o i.0) _ y i.2 in
-    let found = members_found (length i.0) o i.0 m.0 m.1 in
-    let all : List (List ℕ × Late) × Outline = members_in (found.first ∷ found.others) o in
+    let found = row_found member_rows d member_at (member_found d) (length i.0) o i.0 m.0 m.1 in
     subst (λ (z : Part × Outline × List Lexeme). IsBody d kind.Enum o ts z)
     (some_is (place m.0.1, add (DNumbered m.0.0) m.0.1, m.0.2) y m.2) (record {
-      tree = EnumBody found.first found.others;
+      tree = EnumBody found.tree.0 found.tree.1;
       word = refl;
       defined = λ p. refl;
       spelled = sign_found mark.OpenBrace ts i.0 i.1 ∙ ap (λ (x : List Lexeme). Sign mark.OpenBrace ∷ x) found.spelled;
       value = ap place found.made;
       made = ap (λ (x : List (List ℕ × Late)). add (DNumbered x) m.0.1) found.value
-          ∙ ap (λ (x : Outline). add (DNumbered (members_in (found.first ∷ found.others) o).0) x) found.made;
+          ∙ ap (λ (x : Outline). add (DNumbered (members_in (found.tree.0 ∷ found.tree.1) o).0) x) found.made;
       nested = omega arith;
     })
 
@@ -434,16 +383,11 @@ casing_found {A = A} a o ts y e =
           (some_is ((a, false), o, ts) y h.1) (refl, refl, refl)
     ]
 
-record IsField (d : ℕ) (o : Outline) (ts : List Lexeme) (y : (Field × Bool) × Outline × List Lexeme) : Type 0 where
-  tree : Content
-  spelled : ts ≡ content tree (Sign mark.Semicolon ∷ closing y.0.1 y.2)
-  value : y.0.0 ≡ (content_in tree o).0
-  made : y.1 ≡ (content_in tree o).1
-  nested : depth_of_content tree ≤ d
+abbrev a_field : Content → Bool → List Lexeme → List Lexeme
+a_field m more ts = content m (Sign mark.Semicolon ∷ closing more ts)
 
 field_found : (d : ℕ) (reader : Reader Field) → FindsContents d reader
-    → (o : Outline) (ts : List Lexeme) (y : (Field × Bool) × Outline × List Lexeme) → field_with reader o ts ≡ Some y
-    → IsField d o ts y
+    → FindsItems a_field content_in depth_of_content d (field_with reader)
 unfolding field_with
 field_found d reader finds o ts y e =
     let f = bind_some (reader o ts) _ y e in
@@ -463,41 +407,17 @@ field_found d reader finds o ts y e =
 abbrev closed_fields : Fields → List Lexeme → List Lexeme
 closed_fields fs ts = fields fs (Sign mark.CloseBrace ∷ ts)
 
-fields_found : (d : ℕ) (reader : Reader Field) → FindsContents d reader → (n : ℕ)
-    → Finds closed_fields fields_in depth_of_fields d (repeat (field_with reader) n)
-unfolding repeat
-fields_found d reader finds zero o ts y e = absurd cc
-fields_found d reader finds (suc n) o ts y e =
-    let f = bind_some (field_with reader o ts) _ y e in
-    let first = field_found d reader finds o ts f.0 f.1 in
-    elim (chosen f.0.0.1 _ _ _ f.2) [
-      | inl on ↦
-          let r = bind_some (repeat (field_with reader) n f.0.1 f.0.2) _ y on.1 in
-          let rest = fields_found d reader finds n f.0.1 f.0.2 r.0 r.1 in
-          let here : ts ≡ content first.tree (Sign mark.Semicolon ∷ f.0.2) = first.spelled
-          ∙ ap (λ (b : Bool). content first.tree (Sign mark.Semicolon ∷ closing b f.0.2)) on.0 in
-          subst (λ (z : List Field × Outline × List Lexeme). Found closed_fields fields_in depth_of_fields d o ts z)
-          (some_is (f.0.0.0 ∷ r.0.0, r.0.1, r.0.2) y r.2) (record {
-            tree = More first.tree rest.tree;
-            spelled = here ∙ ap (λ (x : List Lexeme). content first.tree (Sign mark.Semicolon ∷ x)) rest.spelled;
-            value = ap (λ (x : Field). x ∷ r.0.0) first.value
-                ∙ ap (λ (xs : List Field). (content_in first.tree o).0 ∷ xs)
-                (rest.value ∙ ap (λ (x : Outline). (fields_in rest.tree x).0) first.made);
-            made = rest.made ∙ ap (λ (x : Outline). (fields_in rest.tree x).1) first.made;
-            nested = omega (arith, first.nested, rest.nested);
-          })
-      | inr off ↦
-          let here : ts ≡ content first.tree (Sign mark.Semicolon ∷ Sign mark.CloseBrace ∷ f.0.2) = first.spelled
-          ∙ ap (λ (b : Bool). content first.tree (Sign mark.Semicolon ∷ closing b f.0.2)) off.0 in
-          subst (λ (z : List Field × Outline × List Lexeme). Found closed_fields fields_in depth_of_fields d o ts z)
-          (some_is (f.0.0.0 ∷ [], f.0.1, f.0.2) y off.1) (record {
-            tree = Last first.tree;
-            spelled = here;
-            value = ap (λ (x : Field). x ∷ []) first.value;
-            made = first.made;
-            nested = first.nested;
-          })
-    ]
+field_rows : AreRows a_field content_in depth_of_content closed_fields fields_in depth_of_fields
+field_rows = record {
+  last = λ m. Last m;
+  more = λ m fs. More m fs;
+  last_spelled = λ m ts. refl;
+  more_spelled = λ m fs ts. refl;
+  last_given = λ m o. refl;
+  more_given = λ m fs o. refl;
+  last_nested = λ m d h. h;
+  more_nested = λ m fs d h k. omega (arith, h, k);
+}
 
 struct_found : (d : ℕ) (reader : Reader Field) → FindsContents d reader
     → (o : Outline) (ts : List Lexeme) (y : Part × Outline × List Lexeme) → struct_with reader o ts ≡ Some y
@@ -506,7 +426,7 @@ unfolding struct_with
 struct_found d reader finds o ts y e =
     let i = bind_some (after_sign mark.OpenBrace ts) _ y e in
     let f = bind_some (repeat (field_with reader) (length i.0) o i.0) _ y i.2 in
-    let found = fields_found d reader finds (length i.0) o i.0 f.0 f.1 in
+    let found = row_found field_rows d (field_with reader) (field_found d reader finds) (length i.0) o i.0 f.0 f.1 in
     subst (λ (z : Part × Outline × List Lexeme). IsBody d kind.Struct o ts z)
     (some_is (place f.0.1, add (DStructure f.0.0) f.0.1, f.0.2) y f.2) (record {
       tree = StructBody found.tree;
@@ -521,16 +441,12 @@ struct_found d reader finds o ts y e =
 
 -- ---- unions
 
-record IsCase (o : Outline) (ts : List Lexeme) (y : (Late × Bool) × Outline × List Lexeme) : Type 0 where
-  tree : Value
-  spelled : ts ≡ value tree ∷ Sign mark.Colon ∷ casing y.0.1 y.2
-  value : y.0.0 ≡ late o tree
-  made : y.1 ≡ o
+abbrev a_case : Value → Bool → List Lexeme → List Lexeme
+a_case v more ts = value v ∷ Sign mark.Colon ∷ casing more ts
 
-case_found : (o : Outline) (ts : List Lexeme) (y : (Late × Bool) × Outline × List Lexeme) → case_at o ts ≡ Some y
-    → IsCase o ts y
+case_found : (d : ℕ) → FindsItems a_case (λ v o. (late o v, o)) (λ v. 0) d case_at
 unfolding case_at
-case_found o ts y e =
+case_found d o ts y e =
     let v = bind_some (value_at o ts) _ y e in
     let s = bind_some (after_sign mark.Colon v.0.1) _ y v.2 in
     let w = value_found o ts v.0 v.1 in
@@ -542,87 +458,56 @@ case_found o ts y e =
           ∙ ap (λ (x : List Lexeme). Sign mark.Colon ∷ x) c.2);
       value = c.0 ∙ w.late;
       made = c.1;
+      nested = omega arith;
     }
 
-record AreCases (o : Outline) (ts : List Lexeme) (y : List Late × Outline × List Lexeme) : Type 0 where
-  first : Value
-  others : List Value
-  spelled : ts ≡ value first ∷ Sign mark.Colon ∷ cases others y.2
-  value : y.0 ≡ map (late o) (first ∷ others)
-  made : y.1 ≡ o
+case_rows : AreRows a_case (λ v o. (late o v, o)) (λ v. 0)
+    (λ (t : Value × List Value) ts. value t.0 ∷ Sign mark.Colon ∷ cases t.1 ts)
+    (λ t o. (map (late o) (t.0 ∷ t.1), o)) (λ t. 0)
+case_rows = record {
+  last = λ v. (v, []);
+  more = λ v t. (v, t.0 ∷ t.1);
+  last_spelled = λ v ts. refl;
+  more_spelled = λ v t ts. refl;
+  last_given = λ v o. refl;
+  more_given = λ v t o. refl;
+  last_nested = λ v d h. h;
+  more_nested = λ v t d h k. h;
+}
 
-cases_found : (n : ℕ) (o : Outline) (ts : List Lexeme) (y : List Late × Outline × List Lexeme)
-    → repeat case_at n o ts ≡ Some y → AreCases o ts y
-unfolding repeat
-cases_found zero o ts y e = absurd cc
-cases_found (suc n) o ts y e =
-    let f = bind_some (case_at o ts) _ y e in
-    let first = case_found o ts f.0 f.1 in
-    elim (chosen f.0.0.1 _ _ _ f.2) [
-      | inl on ↦
-          let r = bind_some (repeat case_at n f.0.1 f.0.2) _ y on.1 in
-          let rest = cases_found n f.0.1 f.0.2 r.0 r.1 in
-          let here : ts ≡ value first.tree ∷ Sign mark.Colon ∷ Word word.Case ∷ f.0.2 = first.spelled
-          ∙ ap (λ (b : Bool). value first.tree ∷ Sign mark.Colon ∷ casing b f.0.2) on.0 in
-          subst (λ (z : List Late × Outline × List Lexeme). AreCases o ts z)
-          (some_is (f.0.0.0 ∷ r.0.0, r.0.1, r.0.2) y r.2) (record {
-            first = first.tree;
-            others = rest.first ∷ rest.others;
-            spelled = here ∙ ap (λ (x : List Lexeme). value first.tree ∷ Sign mark.Colon ∷ Word word.Case ∷ x)
-                rest.spelled;
-            value = ap (λ (x : Late). x ∷ r.0.0) first.value
-                ∙ ap (λ (xs : List Late). late o first.tree ∷ xs)
-                (rest.value ∙ ap (λ (x : Outline). map (late x) (rest.first ∷ rest.others)) first.made);
-            made = rest.made ∙ first.made;
-          })
-      | inr off ↦
-          let here : ts ≡ value first.tree ∷ Sign mark.Colon ∷ f.0.2 = first.spelled
-          ∙ ap (λ (b : Bool). value first.tree ∷ Sign mark.Colon ∷ casing b f.0.2) off.0 in
-          subst (λ (z : List Late × Outline × List Lexeme). AreCases o ts z)
-          (some_is (f.0.0.0 ∷ [], f.0.1, f.0.2) y off.1) (record {
-            first = first.tree;
-            others = [];
-            spelled = here;
-            value = ap (λ (x : Late). x ∷ []) first.value;
-            made = first.made;
-          })
-    ]
+-- the cases of an arm, and what it is
+abbrev Armed : Type 0
+Armed = (Value × List Value) × Content
 
-abbrev an_arm : List Late → Field → Arm
-an_arm vs m = record { cases = vs; member = m }
+abbrev an_arm : Armed → Bool → List Lexeme → List Lexeme
+an_arm a more ts = value a.0.0 ∷ Sign mark.Colon ∷ cases a.0.1 (content a.1 (Sign mark.Semicolon ∷ casing more ts))
 
-record IsArm (d : ℕ) (o : Outline) (ts : List Lexeme) (y : (Arm × Bool) × Outline × List Lexeme) : Type 0 where
-  first : Value
-  others : List Value
-  tree : Content
-  spelled : ts ≡ value first ∷ Sign mark.Colon ∷ cases others (content tree (Sign mark.Semicolon ∷ casing y.0.1 y.2))
-  value : y.0.0 ≡ record { cases = map (late o) (first ∷ others); member = (content_in tree o).0 }
-  made : y.1 ≡ (content_in tree o).1
-  nested : depth_of_content tree ≤ d
+abbrev arm_in : Armed → Outline → Arm × Outline
+arm_in a o = let m = content_in a.1 o in
+    (record { cases = map (late o) (a.0.0 ∷ a.0.1); member = m.0 }, m.1)
+
+abbrev arm_of : List Late → Field → Arm
+arm_of vs m = record { cases = vs; member = m }
 
 arm_found : (d : ℕ) (reader : Reader Field) → FindsContents d reader
-    → (o : Outline) (ts : List Lexeme) (y : (Arm × Bool) × Outline × List Lexeme) → arm_with reader o ts ≡ Some y
-    → IsArm d o ts y
+    → FindsItems an_arm arm_in (λ a. depth_of_content a.1) d (arm_with reader)
 unfolding arm_with
 arm_found d reader finds o ts y e =
     let v = bind_some (repeat case_at (length ts) o ts) _ y e in
-    let vs = cases_found (length ts) o ts v.0 v.1 in
+    let vs = row_found case_rows d case_at (case_found d) (length ts) o ts v.0 v.1 in
     let m = bind_some (reader v.0.1 v.0.2) _ y v.2 in
     let s = bind_some (after_sign mark.Semicolon m.0.2) _ y m.2 in
     let found = finds v.0.1 v.0.2 m.0 m.1 in
-    let arm : Arm = record { cases = v.0.0; member = m.0.0 } in
-    let c = casing_found arm m.0.1 s.0 y s.2 in
+    let c = casing_found (arm_of v.0.0 m.0.0) m.0.1 s.0 y s.2 in
     let member : m.0.0 ≡ (content_in found.tree o).0 = found.value
     ∙ ap (λ (x : Outline). (content_in found.tree x).0) vs.made in
     record {
-      first = vs.first;
-      others = vs.others;
-      tree = found.tree;
-      spelled = vs.spelled ∙ ap (λ (x : List Lexeme). value vs.first ∷ Sign mark.Colon ∷ cases vs.others x)
+      tree = (vs.tree, found.tree);
+      spelled = vs.spelled ∙ ap (λ (x : List Lexeme). value vs.tree.0 ∷ Sign mark.Colon ∷ cases vs.tree.1 x)
           (found.spelled ∙ ap (content found.tree) (sign_found mark.Semicolon m.0.2 s.0 s.1
           ∙ ap (λ (x : List Lexeme). Sign mark.Semicolon ∷ x) c.2));
-      value = c.0 ∙ ap (λ (x : List Late). an_arm x m.0.0) vs.value
-          ∙ ap (λ (x : Field). an_arm (map (late o) (vs.first ∷ vs.others)) x) member;
+      value = c.0 ∙ ap (λ (x : List Late). arm_of x m.0.0) vs.value
+          ∙ ap (λ (x : Field). arm_of (map (late o) (vs.tree.0 ∷ vs.tree.1)) x) member;
       made = c.1 ∙ found.made ∙ ap (λ (x : Outline). (content_in found.tree x).1) vs.made;
       nested = found.nested;
     }
@@ -637,48 +522,19 @@ pub begins_case : (cs : Cases) (ts : List Lexeme) → arms cs ts ≡ Word word.C
 begins_case (LastCase v vs m) ts = refl
 begins_case (MoreCases v vs m cs) ts = refl
 
-arms_found : (d : ℕ) (reader : Reader Field) → FindsContents d reader → (n : ℕ)
-    → Finds after_case arms_in depth_of_cases d (repeat (arm_with reader) n)
-unfolding repeat
-arms_found d reader finds zero o ts y e = absurd cc
-arms_found d reader finds (suc n) o ts y e =
-    let f = bind_some (arm_with reader o ts) _ y e in
-    let first = arm_found d reader finds o ts f.0 f.1 in
-    let begun : List Lexeme
-    → List Lexeme = λ x. value first.first ∷ Sign mark.Colon ∷ cases first.others
-    (content first.tree (Sign mark.Semicolon ∷ x)) in
-    let arm : Arm = record {
-      cases = map (late o) (first.first ∷ first.others);
-      member = (content_in first.tree o).0;
-    } in
-    elim (chosen f.0.0.1 _ _ _ f.2) [
-      | inl on ↦
-          let r = bind_some (repeat (arm_with reader) n f.0.1 f.0.2) _ y on.1 in
-          let rest = arms_found d reader finds n f.0.1 f.0.2 r.0 r.1 in
-          let here : ts ≡ begun (Word word.Case ∷ f.0.2) = first.spelled
-          ∙ ap (λ (b : Bool). begun (casing b f.0.2)) on.0 in
-          subst (λ (z : List Arm × Outline × List Lexeme). Found after_case arms_in depth_of_cases d o ts z)
-          (some_is (f.0.0.0 ∷ r.0.0, r.0.1, r.0.2) y r.2) (record {
-            tree = MoreCases first.first first.others first.tree rest.tree;
-            spelled = here ∙ ap begun (ap (λ (x : List Lexeme). Word word.Case ∷ x) rest.spelled
-                ∙ sym (begins_case rest.tree r.0.2));
-            value = ap (λ (x : Arm). x ∷ r.0.0) first.value
-                ∙ ap (λ (xs : List Arm). arm ∷ xs)
-                (rest.value ∙ ap (λ (x : Outline). (arms_in rest.tree x).0) first.made);
-            made = rest.made ∙ ap (λ (x : Outline). (arms_in rest.tree x).1) first.made;
-            nested = omega (arith, first.nested, rest.nested);
-          })
-      | inr off ↦
-          let here : ts ≡ begun f.0.2 = first.spelled ∙ ap (λ (b : Bool). begun (casing b f.0.2)) off.0 in
-          subst (λ (z : List Arm × Outline × List Lexeme). Found after_case arms_in depth_of_cases d o ts z)
-          (some_is (f.0.0.0 ∷ [], f.0.1, f.0.2) y off.1) (record {
-            tree = LastCase first.first first.others first.tree;
-            spelled = here;
-            value = ap (λ (x : Arm). x ∷ []) first.value;
-            made = first.made;
-            nested = first.nested;
-          })
-    ]
+arm_rows : AreRows an_arm arm_in (λ a. depth_of_content a.1) after_case arms_in depth_of_cases
+arm_rows = record {
+  last = λ a. LastCase a.0.0 a.0.1 a.1;
+  more = λ a cs. MoreCases a.0.0 a.0.1 a.1 cs;
+  last_spelled = λ a ts. refl;
+  more_spelled = λ a cs ts.
+      ap (λ (x : List Lexeme). value a.0.0 ∷ Sign mark.Colon ∷ cases a.0.1 (content a.1 (Sign mark.Semicolon ∷ x)))
+      (sym (begins_case cs ts));
+  last_given = λ a o. refl;
+  more_given = λ a cs o. refl;
+  last_nested = λ a d h. h;
+  more_nested = λ a cs d h k. omega (arith, h, k);
+}
 
 default_found : (d : ℕ) (reader : Reader Field) → FindsContents d reader
     → Finds otherwise default_in depth_of_default d (default_with reader)
@@ -690,8 +546,7 @@ default_found d reader finds o ts y e =
           let m = bind_some (reader o c.0) _ y c.2 in
           let s = bind_some (after_sign mark.Semicolon m.0.2) _ y m.2 in
           let found = finds o c.0 m.0 m.1 in
-          subst (λ (z : Option Field × Outline × List Lexeme). Found otherwise default_in depth_of_default d o ts z)
-          (some_is (Some m.0.0, m.0.1, s.0) y s.2) (record {
+          with_found (Some m.0.0, m.0.1, s.0) y (record {
             tree = Otherwise found.tree;
             spelled = word_found word.Default ts a.0 a.1
                 ∙ ap (λ (x : List Lexeme). Word word.Default ∷ x) (sign_found mark.Colon a.0 c.0 c.1
@@ -700,10 +555,9 @@ default_found d reader finds o ts y e =
             value = ap (λ (x : Field). Some x) found.value;
             made = found.made;
             nested = found.nested;
-          })
-      | inr b ↦ subst (λ (z : Option Field × Outline
-          × List Lexeme). Found otherwise default_in depth_of_default d o ts z) (some_is (None, o, ts) y b.1)
-          (record { tree = NoDefault; spelled = refl; value = refl; made = refl; nested = omega arith })
+          }) s.2
+      | inr b ↦ with_found (None, o, ts) y
+          (record { tree = NoDefault; spelled = refl; value = refl; made = refl; nested = omega arith }) b.1
     ]
 
 abbrev switched : Declaration → List Lexeme → List Lexeme
@@ -725,8 +579,7 @@ switch_found d reader finds o ts y e =
     sign_found mark.CloseRound t.0.2 c.0 c.1 ∙ ap (λ (x : List Lexeme). Sign mark.CloseRound ∷ x)
     (sign_found mark.OpenBrace c.0 g.0 g.1 ∙ ap (λ (x : List Lexeme). Sign mark.OpenBrace ∷ x)
     (word_found word.Case g.0 f.0 f.1)) in
-    subst (λ (z : Field × Outline × List Lexeme). Found switched declaration_in depth_of_declaration d o ts z)
-    (some_is (t.0.0, t.0.1, f.0) y f.2) (record {
+    with_found (t.0.0, t.0.1, f.0) y (record {
       tree = found.tree;
       spelled = word_found word.Switch ts a.0 a.1
           ∙ ap (λ (x : List Lexeme). Word word.Switch ∷ x) (sign_found mark.OpenRound a.0 b.0 b.1
@@ -734,7 +587,7 @@ switch_found d reader finds o ts y e =
       value = found.value;
       made = found.made;
       nested = found.nested;
-    })
+    }) f.2
 
 union_found : (d : ℕ) (reader : Reader Field) → FindsDeclarations d reader
     → (o : Outline) (ts : List Lexeme) (y : Part × Outline × List Lexeme) → union_with reader o ts ≡ Some y
@@ -745,7 +598,8 @@ union_found d reader finds o ts y e =
     let t = bind_some (switch_with reader o ts) _ y e in
     let tag = switch_found d reader finds o ts t.0 t.1 in
     let a = bind_some (repeat (arm_with (content_with reader)) (length t.0.2) t.0.1 t.0.2) _ y t.2 in
-    let all = arms_found d (content_with reader) contents (length t.0.2) t.0.1 t.0.2 a.0 a.1 in
+    let all = row_found arm_rows d (arm_with (content_with reader)) (arm_found d (content_with reader) contents)
+    (length t.0.2) t.0.1 t.0.2 a.0 a.1 in
     let b = bind_some (default_with (content_with reader) a.0.1 a.0.2) _ y a.2 in
     let other = default_found d (content_with reader) contents a.0.1 a.0.2 b.0 b.1 in
     let c = bind_some (after_sign mark.CloseBrace b.0.2) _ y b.2 in
@@ -820,8 +674,7 @@ basic_part : (d : ℕ) (o : Outline) (ts : List Lexeme) (y : Part × Outline × 
     → (basic_at ts >>= λ b. Some (b.0, o, b.1)) ≡ Some y → IsSpecifier d o ts y
 basic_part d o ts y e =
     let b = bind_some (basic_at ts) _ y e in
-    subst (λ (z : Part × Outline × List Lexeme). IsSpecifier d o ts z) (some_is (b.0.0, o, b.0.1) y b.2)
-    (basic_found d o ts b.0 b.1)
+    with_found (b.0.0, o, b.0.1) y (basic_found d o ts b.0 b.1) b.2
 
 pub specifier_found : (d : ℕ) → FindsSpecifiers d (specifier_at d)
 unfolding specifier_at

@@ -14,14 +14,16 @@ use Rattle.xdr_grammar.specs.Grammar.{procedure, procedures, version, versions, 
 use Rattle.xdr_grammar.specs.Outline.{Part, IsText, Field, Procedure, Version, Program, Outline, defined_as, add_type}
 use Rattle.xdr_grammar.specs.Outline.{add_program, body_in, declaration_in, passed_in, arguments_in, result_in}
 use Rattle.xdr_grammar.specs.Outline.{procedure_in, procedures_in, version_in, versions_in, definition_in, outlined}
-use Rattle.xdr_grammar.specs.Private.Reading.{Reader, repeat, after_word, after_sign, name_at, numbered_at, either_sign}
+use Rattle.xdr_grammar.specs.Private.Taking.{after_word, after_sign, name_at, numbered_at, either_sign}
+use Rattle.xdr_grammar.specs.Private.Reading.{Reader, repeat}
 use Rattle.xdr_grammar.specs.Private.Reading.{declaration_with, body_word_at, body_with, specifier_at, passed_with}
 use Rattle.xdr_grammar.specs.Private.Reading.{argument_with, arguments_with, result_with, procedure_with, version_with}
 use Rattle.xdr_grammar.specs.Private.Reading.{program_with, const_at, typedef_with, defined_with, definition_at}
 use Rattle.xdr_grammar.specs.Private.Reading.{definitions_at}
-use Rattle.xdr_tokens.proofs.Options.{bind_some, some_is, chosen}
+use Rattle.xdr_tokens.proofs.Options.{bind_some, some_is}
 use Rattle.xdr_grammar.proofs.Leaves.{taken_some, word_found, sign_found, name_found, numbered_found, either_found}
-use Rattle.xdr_grammar.proofs.Found.{Found, Finds, FindsSpecifiers, declaration_found, specifier_found, body_found}
+use Rattle.xdr_grammar.proofs.Rows.{Finds, with_found, FoundItem, FindsItems, AreRows, row_found}
+use Rattle.xdr_grammar.proofs.Found.{FindsSpecifiers, declaration_found, specifier_found, body_found}
 use Rattle.xdr_grammar.proofs.Found.{body_word_found, closing, closing_found}
 
 passed_found : (d : ℕ) (reader : Reader Part) → FindsSpecifiers d reader
@@ -29,35 +31,28 @@ passed_found : (d : ℕ) (reader : Reader Part) → FindsSpecifiers d reader
 unfolding passed_with
 passed_found d reader finds o ts y e =
     elim (taken_some (after_word word.String ts) _ _ _ e) [
-      | inl a ↦ subst (λ (z : Part × Outline × List Lexeme). Found passed passed_in depth_of_passed d o ts z)
-          (some_is (IsText, o, a.0) y a.2)
-          (record {
-            tree = AnyText;
-            spelled = word_found word.String ts a.0 a.1;
-            value = refl;
-            made = refl;
-            nested = omega arith;
-          })
+      | inl a ↦ with_found (IsText, o, a.0) y (record {
+        tree = AnyText;
+        spelled = word_found word.String ts a.0 a.1;
+        value = refl;
+        made = refl;
+        nested = omega arith;
+      }) a.2
       | inr n ↦ let s = finds o ts y n.1 in
           record { tree = OfType s.tree; spelled = s.spelled; value = s.value; made = s.made; nested = s.nested }
     ]
 
-record IsArgument (d : ℕ) (o : Outline) (ts : List Lexeme) (y : (Part × Bool) × Outline × List Lexeme) : Type 0 where
-  tree : Passed
-  spelled : ts ≡ passed tree (Sign (cond y.0.1 mark.Comma mark.CloseRound) ∷ y.2)
-  value : y.0.0 ≡ (passed_in tree o).0
-  made : y.1 ≡ (passed_in tree o).1
-  nested : depth_of_passed tree ≤ d
+abbrev an_argument : Passed → Bool → List Lexeme → List Lexeme
+an_argument p more ts = passed p (Sign (cond more mark.Comma mark.CloseRound) ∷ ts)
 
 argument_found : (d : ℕ) (reader : Reader Part) → FindsSpecifiers d reader
-    → (o : Outline) (ts : List Lexeme) (y : (Part × Bool) × Outline × List Lexeme) → argument_with reader o ts ≡ Some y
-    → IsArgument d o ts y
+    → FindsItems an_argument passed_in depth_of_passed d (argument_with reader)
 unfolding argument_with
 argument_found d reader finds o ts y e =
     let p = bind_some (passed_with reader o ts) _ y e in
     let m = bind_some (either_sign mark.Comma mark.CloseRound p.0.2) _ y p.2 in
     let found = passed_found d reader finds o ts p.0 p.1 in
-    subst (λ (z : (Part × Bool) × Outline × List Lexeme). IsArgument d o ts z)
+    subst (λ (z : (Part × Bool) × Outline × List Lexeme). FoundItem an_argument passed_in depth_of_passed d o ts z)
     (some_is ((p.0.0, m.0.0), p.0.1, m.0.1) y m.2)
     (record {
       tree = found.tree;
@@ -68,51 +63,19 @@ argument_found d reader finds o ts y e =
       nested = found.nested;
     })
 
-record AreArguments (d : ℕ) (o : Outline) (ts : List Lexeme) (y : List Part × Outline × List Lexeme) : Type 0 where
-  first : Passed
-  others : List Passed
-  spelled : ts ≡ passed first (more_arguments others (Sign mark.CloseRound ∷ y.2))
-  value : y.0 ≡ (arguments_in (first ∷ others) o).0
-  made : y.1 ≡ (arguments_in (first ∷ others) o).1
-  nested : depth_of_arguments (first ∷ others) ≤ d
-
-some_arguments_found : (d : ℕ) (reader : Reader Part) → FindsSpecifiers d reader
-    → (n : ℕ) (o : Outline) (ts : List Lexeme) (y : List Part × Outline × List Lexeme)
-    → repeat (argument_with reader) n o ts ≡ Some y → AreArguments d o ts y
-unfolding repeat
-some_arguments_found d reader finds zero o ts y e = absurd cc
-some_arguments_found d reader finds (suc n) o ts y e =
-    let f = bind_some (argument_with reader o ts) _ y e in
-    let first = argument_found d reader finds o ts f.0 f.1 in
-    elim (chosen f.0.0.1 _ _ _ f.2) [
-      | inl on ↦
-          let r = bind_some (repeat (argument_with reader) n f.0.1 f.0.2) _ y on.1 in
-          let rest = some_arguments_found d reader finds n f.0.1 f.0.2 r.0 r.1 in
-          let here : ts ≡ passed first.tree (Sign mark.Comma ∷ f.0.2) = first.spelled
-          ∙ ap (λ (b : Bool). passed first.tree (Sign (cond b mark.Comma mark.CloseRound) ∷ f.0.2)) on.0 in
-          subst (λ (z : List Part × Outline × List Lexeme). AreArguments d o ts z)
-          (some_is (f.0.0.0 ∷ r.0.0, r.0.1, r.0.2) y r.2) (record {
-            first = first.tree;
-            others = rest.first ∷ rest.others;
-            spelled = here ∙ ap (λ (x : List Lexeme). passed first.tree (Sign mark.Comma ∷ x)) rest.spelled;
-            value = ap (λ (x : Part). x ∷ r.0.0) first.value ∙ ap (λ (xs : List Part). (passed_in first.tree o).0 ∷ xs)
-                (rest.value ∙ ap (λ (x : Outline). (arguments_in (rest.first ∷ rest.others) x).0) first.made);
-            made = rest.made ∙ ap (λ (x : Outline). (arguments_in (rest.first ∷ rest.others) x).1) first.made;
-            nested = omega (arith, first.nested, rest.nested);
-          })
-      | inr off ↦
-          let here : ts ≡ passed first.tree (Sign mark.CloseRound ∷ f.0.2) = first.spelled
-          ∙ ap (λ (b : Bool). passed first.tree (Sign (cond b mark.Comma mark.CloseRound) ∷ f.0.2)) off.0 in
-          subst (λ (z : List Part × Outline × List Lexeme). AreArguments d o ts z)
-          (some_is (f.0.0.0 ∷ [], f.0.1, f.0.2) y off.1) (record {
-            first = first.tree;
-            others = [];
-            spelled = here;
-            value = ap (λ (x : Part). x ∷ []) first.value;
-            made = first.made;
-            nested = omega (arith, first.nested);
-          })
-    ]
+argument_rows : AreRows an_argument passed_in depth_of_passed
+    (λ (t : Passed × List Passed) ts. passed t.0 (more_arguments t.1 (Sign mark.CloseRound ∷ ts)))
+    (λ t o. arguments_in (t.0 ∷ t.1) o) (λ t. depth_of_arguments (t.0 ∷ t.1))
+argument_rows = record {
+  last = λ p. (p, []);
+  more = λ p t. (p, t.0 ∷ t.1);
+  last_spelled = λ p ts. refl;
+  more_spelled = λ p t ts. refl;
+  last_given = λ p o. refl;
+  more_given = λ p t o. refl;
+  last_nested = λ p d h. omega (arith, h);
+  more_nested = λ p t d h k. omega (arith, h, k);
+}
 
 abbrev closed_arguments : List Passed → List Lexeme → List Lexeme
 closed_arguments ps ts = arguments ps (Sign mark.CloseRound ∷ ts)
@@ -124,19 +87,24 @@ arguments_found d reader finds o ts y e =
     elim (taken_some (after_word word.Void ts) _ _ _ e) [
       | inl a ↦
           let c = bind_some (after_sign mark.CloseRound a.0) _ y a.2 in
-          subst (λ (z : List Part × Outline
-          × List Lexeme). Found closed_arguments arguments_in depth_of_arguments d o ts z)
-          (some_is ([], o, c.0) y c.2)
-          (record {
+          with_found ([], o, c.0) y (record {
             tree = [];
             spelled = word_found word.Void ts a.0 a.1
                 ∙ ap (λ (x : List Lexeme). Word word.Void ∷ x) (sign_found mark.CloseRound a.0 c.0 c.1);
             value = refl;
             made = refl;
             nested = omega arith;
-          })
-      | inr n ↦ let p = some_arguments_found d reader finds (length ts) o ts y n.1 in
-          record { tree = p.first ∷ p.others; spelled = p.spelled; value = p.value; made = p.made; nested = p.nested }
+          }) c.2
+      | inr n ↦
+          let p = row_found argument_rows d (argument_with reader) (argument_found d reader finds)
+          (length ts) o ts y n.1 in
+          record {
+            tree = p.tree.0 ∷ p.tree.1;
+            spelled = p.spelled;
+            value = p.value;
+            made = p.made;
+            nested = p.nested;
+          }
     ]
 
 result_found : (d : ℕ) (reader : Reader Part) → FindsSpecifiers d reader
@@ -144,27 +112,23 @@ result_found : (d : ℕ) (reader : Reader Part) → FindsSpecifiers d reader
 unfolding result_with
 result_found d reader finds o ts y e =
     elim (taken_some (after_word word.Void ts) _ _ _ e) [
-      | inl a ↦ subst (λ (z : Option Part × Outline × List Lexeme). Found result result_in depth_of_result d o ts z)
-          (some_is (None, o, a.0) y a.2)
-          (record {
-            tree = None;
-            spelled = word_found word.Void ts a.0 a.1;
-            value = refl;
-            made = refl;
-            nested = omega arith;
-          })
+      | inl a ↦ with_found (None, o, a.0) y (record {
+        tree = None;
+        spelled = word_found word.Void ts a.0 a.1;
+        value = refl;
+        made = refl;
+        nested = omega arith;
+      }) a.2
       | inr n ↦
           let p = bind_some (passed_with reader o ts) _ y n.1 in
           let found = passed_found d reader finds o ts p.0 p.1 in
-          subst (λ (z : Option Part × Outline × List Lexeme). Found result result_in depth_of_result d o ts z)
-          (some_is (Some p.0.0, p.0.1, p.0.2) y p.2)
-          (record {
+          with_found (Some p.0.0, p.0.1, p.0.2) y (record {
             tree = Some found.tree;
             spelled = found.spelled;
             value = ap (λ (x : Part). Some x) found.value;
             made = found.made;
             nested = found.nested;
-          })
+          }) p.2
     ]
 
 -- ---- procedures
@@ -175,17 +139,11 @@ a_procedure n v ps r = record { name = n; number = v; arguments = ps; result = r
 abbrev depth_of_procedure : tree.Procedure → ℕ
 depth_of_procedure p = max (depth_of_result p.result) (depth_of_arguments p.arguments)
 
-record IsProcedure (d : ℕ) (o : Outline) (ts : List Lexeme) (y : (Procedure × Bool) × Outline
-    × List Lexeme) : Type 0 where
-  tree : tree.Procedure
-  spelled : ts ≡ procedure tree (closing y.0.1 y.2)
-  value : y.0.0 ≡ (procedure_in tree o).0
-  made : y.1 ≡ (procedure_in tree o).1
-  nested : depth_of_procedure tree ≤ d
+abbrev a_closed_procedure : tree.Procedure → Bool → List Lexeme → List Lexeme
+a_closed_procedure p more ts = procedure p (closing more ts)
 
 procedure_found : (d : ℕ) (reader : Reader Part) → FindsSpecifiers d reader
-    → (o : Outline) (ts : List Lexeme) (y : (Procedure × Bool) × Outline × List Lexeme)
-    → procedure_with reader o ts ≡ Some y → IsProcedure d o ts y
+    → FindsItems a_closed_procedure procedure_in depth_of_procedure d (procedure_with reader)
 unfolding procedure_with
 procedure_found d reader finds o ts y e =
     let r = bind_some (result_with reader o ts) _ y e in
@@ -214,69 +172,33 @@ procedure_found d reader finds o ts y e =
       nested = omega (arith, res.nested, arg.nested);
     }
 
-record AreProcedures (d : ℕ) (o : Outline) (ts : List Lexeme) (y : List Procedure × Outline
-    × List Lexeme) : Type 0 where
-  first : tree.Procedure
-  others : List tree.Procedure
-  spelled : ts ≡ procedures (first ∷ others) (Sign mark.CloseBrace ∷ y.2)
-  value : y.0 ≡ (procedures_in (first ∷ others) o).0
-  made : y.1 ≡ (procedures_in (first ∷ others) o).1
-  nested : depth_of_procedures (first ∷ others) ≤ d
-
-procedures_found : (d : ℕ) (reader : Reader Part) → FindsSpecifiers d reader
-    → (n : ℕ) (o : Outline) (ts : List Lexeme) (y : List Procedure × Outline × List Lexeme)
-    → repeat (procedure_with reader) n o ts ≡ Some y → AreProcedures d o ts y
-unfolding repeat
-procedures_found d reader finds zero o ts y e = absurd cc
-procedures_found d reader finds (suc n) o ts y e =
-    let f = bind_some (procedure_with reader o ts) _ y e in
-    let first = procedure_found d reader finds o ts f.0 f.1 in
-    elim (chosen f.0.0.1 _ _ _ f.2) [
-      | inl on ↦
-          let r = bind_some (repeat (procedure_with reader) n f.0.1 f.0.2) _ y on.1 in
-          let rest = procedures_found d reader finds n f.0.1 f.0.2 r.0 r.1 in
-          let here : ts ≡ procedure first.tree f.0.2 = first.spelled
-          ∙ ap (λ (b : Bool). procedure first.tree (closing b f.0.2)) on.0 in
-          subst (λ (z : List Procedure × Outline × List Lexeme). AreProcedures d o ts z)
-          (some_is (f.0.0.0 ∷ r.0.0, r.0.1, r.0.2) y r.2) (record {
-            first = first.tree;
-            others = rest.first ∷ rest.others;
-            spelled = here ∙ ap (procedure first.tree) rest.spelled;
-            value = ap (λ (x : Procedure). x ∷ r.0.0) first.value
-                ∙ ap (λ (xs : List Procedure). (procedure_in first.tree o).0 ∷ xs)
-                (rest.value ∙ ap (λ (x : Outline). (procedures_in (rest.first ∷ rest.others) x).0) first.made);
-            made = rest.made ∙ ap (λ (x : Outline). (procedures_in (rest.first ∷ rest.others) x).1) first.made;
-            nested = omega (arith, first.nested, rest.nested);
-          })
-      | inr off ↦
-          let here : ts ≡ procedure first.tree (Sign mark.CloseBrace ∷ f.0.2) = first.spelled
-          ∙ ap (λ (b : Bool). procedure first.tree (closing b f.0.2)) off.0 in
-          subst (λ (z : List Procedure × Outline × List Lexeme). AreProcedures d o ts z)
-          (some_is (f.0.0.0 ∷ [], f.0.1, f.0.2) y off.1) (record {
-            first = first.tree;
-            others = [];
-            spelled = here;
-            value = ap (λ (x : Procedure). x ∷ []) first.value;
-            made = first.made;
-            nested = omega (arith, first.nested);
-          })
-    ]
+procedure_rows : AreRows a_closed_procedure procedure_in depth_of_procedure
+    (λ (t : tree.Procedure × List tree.Procedure) ts. procedures (t.0 ∷ t.1) (Sign mark.CloseBrace ∷ ts))
+    (λ t o. procedures_in (t.0 ∷ t.1) o) (λ t. depth_of_procedures (t.0 ∷ t.1))
+procedure_rows = record {
+  last = λ p. (p, []);
+  more = λ p t. (p, t.0 ∷ t.1);
+  last_spelled = λ p ts. refl;
+  more_spelled = λ p t ts. refl;
+  last_given = λ p o. refl;
+  more_given = λ p t o. refl;
+  last_nested = λ p d h. omega (arith, h);
+  more_nested = λ p t d h k. omega (arith, h, k);
+}
 
 -- ---- versions
 
 abbrev a_version : List ℕ → ℤ → List Procedure → Version
 a_version n v ps = record { name = n; number = v; procedures = ps }
 
-record IsVersion (d : ℕ) (o : Outline) (ts : List Lexeme) (y : (Version × Bool) × Outline × List Lexeme) : Type 0 where
-  tree : tree.Version
-  spelled : ts ≡ version tree (closing y.0.1 y.2)
-  value : y.0.0 ≡ (version_in tree o).0
-  made : y.1 ≡ (version_in tree o).1
-  nested : depth_of_procedures (tree.first ∷ tree.others) ≤ d
+abbrev a_closed_version : tree.Version → Bool → List Lexeme → List Lexeme
+a_closed_version v more ts = version v (closing more ts)
+
+abbrev depth_of_version : tree.Version → ℕ
+depth_of_version v = depth_of_procedures (v.first ∷ v.others)
 
 version_found : (d : ℕ) (reader : Reader Part) → FindsSpecifiers d reader
-    → (o : Outline) (ts : List Lexeme) (y : (Version × Bool) × Outline × List Lexeme)
-    → version_with reader o ts ≡ Some y → IsVersion d o ts y
+    → FindsItems a_closed_version version_in depth_of_version d (version_with reader)
 unfolding version_with
 version_found d reader finds o ts y e =
     let w = bind_some (after_word word.Version ts) _ y e in
@@ -285,67 +207,35 @@ version_found d reader finds o ts y e =
     let p = bind_some (repeat (procedure_with reader) (length i.0) o i.0) _ y i.2 in
     let v = bind_some (numbered_at p.0.2) _ y p.2 in
     let c = closing_found (a_version n.0.0 v.0.0 p.0.0) p.0.1 v.0.1 y v.2 in
-    let ps = procedures_found d reader finds (length i.0) o i.0 p.0 p.1 in
+    let ps = row_found procedure_rows d (procedure_with reader) (procedure_found d reader finds)
+    (length i.0) o i.0 p.0 p.1 in
     let number = numbered_found p.0.2 v.0 v.1 in
     record {
-      tree = record { name = n.0.0; first = ps.first; others = ps.others; number = v.0.0 };
+      tree = record { name = n.0.0; first = ps.tree.0; others = ps.tree.1; number = v.0.0 };
       spelled = word_found word.Version ts w.0 w.1
           ∙ ap (λ (x : List Lexeme). Word word.Version ∷ x)
           (name_found w.0 n.0 n.1 ∙ ap (λ (x : List Lexeme). Name n.0.0 ∷ x) (sign_found mark.OpenBrace n.0.1 i.0 i.1
           ∙ ap (λ (x : List Lexeme). Sign mark.OpenBrace ∷ x)
-          (ps.spelled ∙ ap (λ (x : List Lexeme). procedures (ps.first ∷ ps.others) (Sign mark.CloseBrace ∷ x))
+          (ps.spelled ∙ ap (λ (x : List Lexeme). procedures (ps.tree.0 ∷ ps.tree.1) (Sign mark.CloseBrace ∷ x))
           (number ∙ ap (λ (x : List Lexeme). Sign mark.Equal ∷ Number v.0.0 ∷ Sign mark.Semicolon ∷ x) c.2))));
       value = c.0 ∙ ap (λ (x : List Procedure). a_version n.0.0 v.0.0 x) ps.value;
       made = c.1 ∙ ps.made;
       nested = ps.nested;
     }
 
-record AreVersions (d : ℕ) (o : Outline) (ts : List Lexeme) (y : List Version × Outline × List Lexeme) : Type 0 where
-  first : tree.Version
-  others : List tree.Version
-  spelled : ts ≡ versions (first ∷ others) (Sign mark.CloseBrace ∷ y.2)
-  value : y.0 ≡ (versions_in (first ∷ others) o).0
-  made : y.1 ≡ (versions_in (first ∷ others) o).1
-  nested : depth_of_versions (first ∷ others) ≤ d
-
-versions_found : (d : ℕ) (reader : Reader Part) → FindsSpecifiers d reader
-    → (n : ℕ) (o : Outline) (ts : List Lexeme) (y : List Version × Outline × List Lexeme)
-    → repeat (version_with reader) n o ts ≡ Some y → AreVersions d o ts y
-unfolding repeat
-versions_found d reader finds zero o ts y e = absurd cc
-versions_found d reader finds (suc n) o ts y e =
-    let f = bind_some (version_with reader o ts) _ y e in
-    let first = version_found d reader finds o ts f.0 f.1 in
-    elim (chosen f.0.0.1 _ _ _ f.2) [
-      | inl on ↦
-          let r = bind_some (repeat (version_with reader) n f.0.1 f.0.2) _ y on.1 in
-          let rest = versions_found d reader finds n f.0.1 f.0.2 r.0 r.1 in
-          let here : ts ≡ version first.tree f.0.2 = first.spelled
-          ∙ ap (λ (b : Bool). version first.tree (closing b f.0.2)) on.0 in
-          subst (λ (z : List Version × Outline × List Lexeme). AreVersions d o ts z)
-          (some_is (f.0.0.0 ∷ r.0.0, r.0.1, r.0.2) y r.2) (record {
-            first = first.tree;
-            others = rest.first ∷ rest.others;
-            spelled = here ∙ ap (version first.tree) rest.spelled;
-            value = ap (λ (x : Version). x ∷ r.0.0) first.value
-                ∙ ap (λ (xs : List Version). (version_in first.tree o).0 ∷ xs)
-                (rest.value ∙ ap (λ (x : Outline). (versions_in (rest.first ∷ rest.others) x).0) first.made);
-            made = rest.made ∙ ap (λ (x : Outline). (versions_in (rest.first ∷ rest.others) x).1) first.made;
-            nested = omega (arith, first.nested, rest.nested);
-          })
-      | inr off ↦
-          let here : ts ≡ version first.tree (Sign mark.CloseBrace ∷ f.0.2) = first.spelled
-          ∙ ap (λ (b : Bool). version first.tree (closing b f.0.2)) off.0 in
-          subst (λ (z : List Version × Outline × List Lexeme). AreVersions d o ts z)
-          (some_is (f.0.0.0 ∷ [], f.0.1, f.0.2) y off.1) (record {
-            first = first.tree;
-            others = [];
-            spelled = here;
-            value = ap (λ (x : Version). x ∷ []) first.value;
-            made = first.made;
-            nested = omega (arith, first.nested);
-          })
-    ]
+version_rows : AreRows a_closed_version version_in depth_of_version
+    (λ (t : tree.Version × List tree.Version) ts. versions (t.0 ∷ t.1) (Sign mark.CloseBrace ∷ ts))
+    (λ t o. versions_in (t.0 ∷ t.1) o) (λ t. depth_of_versions (t.0 ∷ t.1))
+version_rows = record {
+  last = λ v. (v, []);
+  more = λ v t. (v, t.0 ∷ t.1);
+  last_spelled = λ v ts. refl;
+  more_spelled = λ v t ts. refl;
+  last_given = λ v o. refl;
+  more_given = λ v t o. refl;
+  last_nested = λ v d h. omega (arith, h);
+  more_nested = λ v t d h k. omega (arith, h, k);
+}
 
 -- ---- definitions
 
@@ -427,16 +317,17 @@ program_found o ts y e =
     let i = bind_some (after_sign mark.OpenBrace n.0.1) _ y n.2 in
     let w = bind_some (repeat (version_with (specifier_at 32)) (length i.0) o i.0) _ y i.2 in
     let v = bind_some (numbered_at w.0.2) _ y w.2 in
-    let vs = versions_found 32 (specifier_at 32) (specifier_found 32) (length i.0) o i.0 w.0 w.1 in
+    let vs = row_found version_rows 32 (version_with (specifier_at 32))
+    (version_found 32 (specifier_at 32) (specifier_found 32)) (length i.0) o i.0 w.0 w.1 in
     with_definition o (Word word.Program ∷ ts) _ y (record {
-      tree = ProgramOf (record { name = n.0.0; first = vs.first; others = vs.others; number = v.0.0 });
+      tree = ProgramOf (record { name = n.0.0; first = vs.tree.0; others = vs.tree.1; number = v.0.0 });
       spelled = ap (λ (x : List Lexeme). Word word.Program ∷ x)
           (name_found ts n.0 n.1 ∙ ap (λ (x : List Lexeme). Name n.0.0 ∷ x) (sign_found mark.OpenBrace n.0.1 i.0 i.1
           ∙ ap (λ (x : List Lexeme). Sign mark.OpenBrace ∷ x)
-          (vs.spelled ∙ ap (λ (x : List Lexeme). versions (vs.first ∷ vs.others) (Sign mark.CloseBrace ∷ x))
+          (vs.spelled ∙ ap (λ (x : List Lexeme). versions (vs.tree.0 ∷ vs.tree.1) (Sign mark.CloseBrace ∷ x))
           (numbered_found w.0.2 v.0 v.1))));
       made = ap (λ (x : List Version). add_program (a_program n.0.0 v.0.0 x) w.0.1) vs.value
-          ∙ ap (λ (x : Outline). add_program (a_program n.0.0 v.0.0 (versions_in (vs.first ∷ vs.others) o).0) x)
+          ∙ ap (λ (x : Outline). add_program (a_program n.0.0 v.0.0 (versions_in (vs.tree.0 ∷ vs.tree.1) o).0) x)
           vs.made;
       nested = vs.nested;
     }) v.2

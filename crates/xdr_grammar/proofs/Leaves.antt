@@ -11,8 +11,8 @@ use Rattle.xdr_tokens.proofs.Options.{some_is, bind_some}
 use Rattle.xdr_grammar.specs.Tree.{Value, Literal, Constant}
 use Rattle.xdr_grammar.specs.Grammar.{value, limit}
 use Rattle.xdr_grammar.specs.Outline.{Outline, Late, late}
-use Rattle.xdr_grammar.specs.Private.Reading.{taken, word_number, mark_number, after_word, after_sign, name_at}
-use Rattle.xdr_grammar.specs.Private.Reading.{number_at, value_at, size_at, limit_at, either_sign, numbered_at}
+use Rattle.xdr_grammar.specs.Private.Taking.{taken, word_number, mark_number, after_word, after_sign, name_at}
+use Rattle.xdr_grammar.specs.Private.Taking.{number_at, value_at, size_at, limit_at, either_sign, numbered_at}
 use Rattle.xdr_tokens.specs.Keywords.{keywords as words}
 use Rattle.xdr_tokens.specs.Text.{marks}
 

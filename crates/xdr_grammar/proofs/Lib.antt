@@ -1,5 +1,6 @@
 pub mod Loop
 pub mod Leaves
+pub mod Rows
 pub mod Found
 pub mod Again
 pub mod FoundAll

@@ -6,7 +6,7 @@ ghost use Rattle.xdr_grammar.specs.Private.Parsing.{left, so_far};
 
 use crate::misread::Misread;
 use crate::outline::{Draft, Entry, Field, Late, Name, Part, Program, Shape};
-use crate::reading::Parser;
+use crate::parser::Parser;
 
 impl<'t, 'a> Parser<'t, 'a> {
     /// Adds a constant.

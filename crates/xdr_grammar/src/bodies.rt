@@ -9,7 +9,7 @@ ghost use Rattle.xdr_grammar.specs.Private.Parsing.{left, Reads};
 
 use crate::misread::{Misplaced, Misread};
 use crate::outline::{Arm, BodyKind, Field, Late, Name, Part, Shape};
-use crate::reading::Parser;
+use crate::parser::Parser;
 use xdr_tokens::{Keyword, Mark};
 
 impl<'t, 'a> Parser<'t, 'a> {

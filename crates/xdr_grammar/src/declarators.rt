@@ -5,7 +5,7 @@ ghost use Rattle.xdr_grammar.specs.Private.Parsing.{Reads};
 
 use crate::misread::Misread;
 use crate::outline::{Field, Part, Shape};
-use crate::reading::Parser;
+use crate::parser::Parser;
 use xdr_tokens::Mark;
 
 impl<'t, 'a> Parser<'t, 'a> {

@@ -1,15 +1,21 @@
 //! Definitions, one after the other.
-ghost use Rattle.std.specs.Prelude.{◌≡◌, length};
-ghost use Rattle.xdr_grammar.specs.View.{part_of};
+ghost use Rattle.std.specs.Prelude.{◌≡◌, length, Some, IfOk, IfErr};
+ghost use Rattle.xdr_tokens.specs.Due.{Gives};
+ghost use Rattle.xdr_tokens.specs.Tokens.{lexemes};
+ghost use Rattle.xdr_grammar.specs.Misreadings.{IsGrammarFault};
+ghost use Rattle.xdr_grammar.specs.Outline.{Outline as OutlineSpec};
+ghost use Rattle.xdr_grammar.specs.Spelled.{IsOutline};
+ghost use Rattle.xdr_grammar.specs.View.{outline_of, part_of};
 ghost use Rattle.xdr_grammar.specs.Private.Reading.{declaration_with, specifier_at, const_at, typedef_with};
 ghost use Rattle.xdr_grammar.specs.Private.Reading.{defined_part};
 ghost use Rattle.xdr_grammar.specs.Private.Reading.{defined_with, definition_at, definitions_at};
 ghost use Rattle.xdr_grammar.specs.Private.Parsing.{left, so_far, Parses, Defines};
 
-use crate::misread::Misread;
-use crate::outline::{BodyKind, Field, Late, Part};
-use crate::reading::{MAX_DEPTH, Parser};
-use xdr_tokens::{Keyword, Mark};
+use crate::misread::{Misread, fault_of};
+use crate::outline::{BodyKind, Field, Late, Outline, Part};
+use crate::parser::{MAX_DEPTH, Parser};
+use std::alloc::Global;
+use xdr_tokens::{Fault, Keyword, Mark, Token};
 
 /// What a definition with that body declares its name as. The kind of a struct is reported by `struct` too.
 fn defined_part(kind: BodyKind, part: Part<'_>) -> Part<'_>
@@ -92,5 +98,39 @@ impl<'t, 'a> Parser<'t, 'a> {
         } else {
             Err(self.unexpected())
         }
+    }
+}
+
+/// What the definitions that the tokens spell declare, with names in place of what they stand for
+/// (RFC 4506 section 6.3, RFC 5531 section 12.2).
+///
+/// The first token that cannot continue the grammar is `Unexpected`, or `FloatingKind` at the word of a
+/// floating-point type where a type may begin; the `{` of a 33rd body inside others is `NestedTooDeep`;
+/// `NoMemory` comes where a growth was refused.
+pub fn read_outline<'a>(alloc: Global, tokens: &[Token<'a>]) -> Result<Outline<'a>, Fault>
+    // What is read are the tokens of definitions.
+    ensures found { IfOk result (λ v. IsOutline (lexemes tokens.now) (outline_of v)) }
+    // The tokens of all definitions are read, unless memory runs out.
+    ensures only { (v : OutlineSpec) → IsOutline (lexemes tokens.now) v → Gives outline_of result (Some v) }
+    // A refusal is want of memory, or number 3, 4 or 12.
+    ensures refused { IfErr result (λ e. IsGrammarFault e) }
+{
+    let mut parser = Parser {
+        alloc,
+        rest: tokens,
+        start: 0,
+        outline: Outline {
+            constants: Vec::new(alloc),
+            drafts: Vec::new(alloc),
+            types: Vec::new(alloc),
+            programs: Vec::new(alloc),
+        },
+    };
+    match parser.definitions() {
+        Ok(()) => {
+            let Parser { outline, .. } = parser;
+            Ok(outline)
+        }
+        Err(misread) => Err(fault_of(misread)),
     }
 }

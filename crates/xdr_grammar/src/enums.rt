@@ -6,7 +6,7 @@ ghost use Rattle.xdr_grammar.specs.Private.Parsing.{left, Reads};
 
 use crate::misread::Misread;
 use crate::outline::{Member, Part, Shape};
-use crate::reading::Parser;
+use crate::parser::Parser;
 use xdr_tokens::Mark;
 
 impl<'t, 'a> Parser<'t, 'a> {

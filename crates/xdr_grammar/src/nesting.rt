@@ -5,7 +5,7 @@ ghost use Rattle.xdr_grammar.specs.Private.Parsing.{left, so_far};
 
 use crate::misread::Misread;
 use crate::outline::BodyKind;
-use crate::reading::Parser;
+use crate::parser::Parser;
 use xdr_tokens::{Keyword, Mark, Token};
 
 impl<'t, 'a> Parser<'t, 'a> {
@@ -30,7 +30,7 @@ impl<'t, 'a> Parser<'t, 'a> {
     }
 
     // Whether `struct` and a name come first.
-    #[tactic(auto, unfolding(crate::specs::Private::Reading::after_word, crate::specs::Private::Reading::name_at))]
+    #[tactic(auto, unfolding(crate::specs::Private::Taking::after_word, crate::specs::Private::Taking::name_at))]
     fn names_a_struct(&self) -> bool
         ensures { is_some (named_struct_at (left self.now)) ≡ result }
     {

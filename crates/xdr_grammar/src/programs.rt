@@ -7,7 +7,7 @@ ghost use Rattle.xdr_grammar.specs.Private.Parsing.{left, Reads, Defines};
 
 use crate::misread::Misread;
 use crate::outline::{Part, Procedure, Program, Version};
-use crate::reading::{MAX_DEPTH, Parser};
+use crate::parser::{MAX_DEPTH, Parser};
 use xdr_tokens::{Keyword, Mark};
 
 impl<'t, 'a> Parser<'t, 'a> {

@@ -1,19 +1,19 @@
 //! Names, constants, sizes and the types that are there without a definition.
 ghost use Rattle.std.specs.Prelude.{◌≡◌, true, false, Some, None, option_map};
 ghost use Rattle.xdr_grammar.specs.View.{late_of, part_of};
-ghost use Rattle.xdr_grammar.specs.Private.Reading.{name_at, number_at, value_at, size_at, limit_at, numbered_at};
+ghost use Rattle.xdr_grammar.specs.Private.Taking.{name_at, number_at, value_at, size_at, limit_at, numbered_at};
 ghost use Rattle.xdr_grammar.specs.Private.Reading.{int_at};
 ghost use Rattle.xdr_grammar.specs.Private.Reading.{basic_at};
 ghost use Rattle.xdr_grammar.specs.Private.Parsing.{left, so_far, Takes};
 
 use crate::misread::{Misplaced, Misread};
 use crate::outline::{Basic, Late, Name, Number, Part};
-use crate::reading::Parser;
+use crate::parser::Parser;
 use xdr_tokens::{Keyword, Mark, Token};
 
 impl<'t, 'a> Parser<'t, 'a> {
     /// The name in front.
-    #[tactic(auto, unfolding(crate::specs::Private::Reading::name_at))]
+    #[tactic(auto, unfolding(crate::specs::Private::Taking::name_at))]
     pub(crate) fn name(&mut self) -> Result<Name<'a>, Misread>
         ensures read { Takes (λ x. x.text.now) result name_at self.old self.new }
         ensures made { so_far self.new ≡ so_far self.old }
@@ -28,7 +28,7 @@ impl<'t, 'a> Parser<'t, 'a> {
     }
 
     /// The constant in front.
-    #[tactic(auto, unfolding(crate::specs::Private::Reading::number_at))]
+    #[tactic(auto, unfolding(crate::specs::Private::Taking::number_at))]
     fn number(&mut self) -> Result<Number, Misread>
         ensures read { Takes (λ x. x.value) result number_at self.old self.new }
         ensures made { so_far self.new ≡ so_far self.old }
@@ -46,7 +46,7 @@ impl<'t, 'a> Parser<'t, 'a> {
     }
 
     /// The value in front.
-    #[tactic(auto, unfolding(crate::specs::Private::Reading::value_at))]
+    #[tactic(auto, unfolding(crate::specs::Private::Taking::value_at))]
     pub(crate) fn value(&mut self) -> Result<Late<'a>, Misread>
         ensures read { Takes late_of result (value_at (so_far self.old)) self.old self.new }
         ensures made { so_far self.new ≡ so_far self.old }
@@ -70,7 +70,7 @@ impl<'t, 'a> Parser<'t, 'a> {
     }
 
     /// A size and its closing bracket.
-    #[tactic(auto, unfolding(crate::specs::Private::Reading::size_at))]
+    #[tactic(auto, unfolding(crate::specs::Private::Taking::size_at))]
     pub(crate) fn size(&mut self) -> Result<Late<'a>, Misread>
         ensures read { Takes late_of result (size_at (so_far self.old)) self.old self.new }
         ensures made { so_far self.new ≡ so_far self.old }
@@ -81,7 +81,7 @@ impl<'t, 'a> Parser<'t, 'a> {
     }
 
     /// What stands between `<` and `>`, and the `>`.
-    #[tactic(auto, unfolding(crate::specs::Private::Reading::limit_at))]
+    #[tactic(auto, unfolding(crate::specs::Private::Taking::limit_at))]
     pub(crate) fn limit(&mut self) -> Result<Option<Late<'a>>, Misread>
         ensures read { Takes (λ x. option_map late_of x) result (limit_at (so_far self.old)) self.old self.new }
         ensures made { so_far self.new ≡ so_far self.old }
@@ -95,7 +95,7 @@ impl<'t, 'a> Parser<'t, 'a> {
     }
 
     /// What stands between `=` and `;`, and both.
-    #[tactic(auto, unfolding(crate::specs::Private::Reading::numbered_at))]
+    #[tactic(auto, unfolding(crate::specs::Private::Taking::numbered_at))]
     pub(crate) fn numbered(&mut self) -> Result<Number, Misread>
         ensures read { Takes (λ x. x.value) result numbered_at self.old self.new }
         ensures made { so_far self.new ≡ so_far self.old }
@@ -107,7 +107,7 @@ impl<'t, 'a> Parser<'t, 'a> {
     }
 
     /// The token in front is the word of a floating kind.
-    #[tactic(auto, unfolding(crate::specs::Private::Reading::name_at))]
+    #[tactic(auto, unfolding(crate::specs::Private::Taking::name_at))]
     fn is_floating(&self) -> bool
         ensures { result ≡ true → name_at (left self.now) ≡ None }
     {

@@ -1,13 +1,12 @@
 -- What is not refused, and what nothing is due for.
-use Rattle.std.proofs.Common.{◌≤◌, lit≤, ◌≡◌, inl, inr, ℕ, Some, refl, ap}
+use Rattle.std.proofs.Common.{◌≡◌, inl, inr, ℕ, Some, refl, ap}
 use Rattle.xdr_tokens.specs.declared.fault.Fault.{Fault}
 use Rattle.xdr_tokens.specs.declared.fault.Fault.TheVariants as fault
 use Rattle.xdr_tokens.specs.Due.{RefusesRightly}
 use Rattle.xdr_types.specs.Kinds.{Lists}
-use Rattle.xdr_types.specs.Faults.{fault_number, IsWellFormed}
+use Rattle.xdr_types.specs.Faults.{IsWellFormed}
 use Rattle.xdr_types.specs.Sound.{IsSound}
 use Rattle.xdr_types.specs.Refused.{IsRefused}
-use Rattle.xdr_types.specs.declared.fault.Flaw.{Flaw}
 use Rattle.xdr_types.specs.declared.fault.Flaw.TheVariants as flaw
 use Rattle.xdr_types.specs.declared.fault.SchemaFault.{SchemaFault}
 use Rattle.xdr_types.proofs.Refusing.{refused}
@@ -28,17 +27,3 @@ refused_is_not_due (fault.Refused wrong left) n a reported not h = absurd cc
 pub fails_same : {A B : Type 0} (e : Fault) (a : A) (b : B) → RefusesRightly e (Some a) → RefusesRightly e (Some b)
 fails_same fault.NoMemory a b h = tt
 fails_same (fault.Refused wrong left) a b h = absurd cc
-
--- the faults of schemas are numbered from 1 to 11
-pub flaw_within : (f : Flaw) → (1 ≤ fault_number f) × (fault_number f ≤ 11)
-flaw_within flaw.UnknownKind = (lit≤ tt, lit≤ tt)
-flaw_within flaw.ZeroSize = (lit≤ tt, lit≤ tt)
-flaw_within flaw.VoidMember = (lit≤ tt, lit≤ tt)
-flaw_within flaw.BadDiscriminant = (lit≤ tt, lit≤ tt)
-flaw_within flaw.CaseTwice = (lit≤ tt, lit≤ tt)
-flaw_within flaw.CaseNotLegal = (lit≤ tt, lit≤ tt)
-flaw_within flaw.NoFiniteValue = (lit≤ tt, lit≤ tt)
-flaw_within flaw.TooManyKinds = (lit≤ tt, lit≤ tt)
-flaw_within flaw.EmptyList = (lit≤ tt, lit≤ tt)
-flaw_within flaw.NameTwice = (lit≤ tt, lit≤ tt)
-flaw_within flaw.NoMemory = (lit≤ tt, lit≤ tt)

@@ -1,6 +1,7 @@
 -- A set of the names or numbers before one tells whether it is among them.
-use Rattle.std.proofs.Common.{◌≡◌, Ordering, ℕ, ℤ, Bool, true, false, cond, not, ◌||◌, ◌&&◌, List, [], ◌∷◌, ◌++◌, refl}
-use Rattle.std.proofs.Common.{sym, ap, ◌∙◌}
+use Rattle.std.proofs.Common.{◌≡◌, Ordering, ℕ, ℤ, Bool, true, false, cond, ◌||◌, ◌&&◌, List, [], ◌∷◌, ◌++◌, refl}
+use Rattle.std.proofs.Common.{sym, ap, subst, ◌∙◌}
+use Rattle.std.specs.Prelude.{filter}
 use Rattle.std.specs.declared.cmp.Ordering.TheVariants.{Less, Equal, Greater}
 use Rattle.std.specs.BTreeSet.{BTreeSet, contains, Updates}
 use Rattle.std.specs.BTreeMap.{is_at}
@@ -9,180 +10,155 @@ use Rattle.std.specs.Ordering.{nat_cmp, int_cmp, int_eq, is_eq, ordering_then}
 use Rattle.std.specs.Cmp.Lexicographic.{slice_cmp}
 use Rattle.std.specs.Str.{bytes_eq}
 use Rattle.std.proofs.lemmas.Map.Text.{is_eq-slice_cmp}
+use Rattle.std.proofs.lemmas.List.Folds.{list_any-append}
+use Rattle.std.proofs.Math.Bool.{or-false}
 use Rattle.std.proofs.lemmas.Bool.Decides.{same_from_decides, Decides-like, Decides-int_eq}
 use denote.Ref.{Bor}
 use Rattle.xdr_constants.specs.Tables.{key_texts}
-use Rattle.xdr_lang.specs.Distinct.{is_void, has_name, repeats, has_number, repeats_number, has_pair, repeats_pair}
+use Rattle.xdr_lang.specs.Distinct.{repeats, is_name, same_pair}
 pub use Rattle.xdr_types.proofs.Apart.{was_absent, was_there, bytes_eq-sym, texts_cmp as names_cmp}
 
-or_cond : (b x : Bool) → cond b true x ≡ (b || x)
-or_cond true x = refl
-or_cond false x = refl
+-- How the keys of a set stand for names or numbers, and that its order tells which are one.
+pub record Keyed (K A : Type 0) : Type 0 where
+  pub compare : K → K → Ordering
+  pub same : A → A → Bool
+  pub seen : K → A
+  pub key : A → K
+  pub all : List K → List A
+  pub seen_key : (a : A) → seen (key a) ≡ a
+  pub all_none : all [] ≡ []
+  pub all_more : (k : K) (ks : List K) → all (k ∷ ks) ≡ seen k ∷ all ks
+  pub agrees : (j k : K) → is_eq (compare j k) ≡ same (seen j) (seen k)
+  pub flips : (a b : A) → same a b ≡ same b a
 
-one : (b : Bool) → cond b true false ≡ b
-one true = refl
-one false = refl
+later : (a x : Bool) → cond a true x ≡ (x || a)
+later true true = refl
+later true false = refl
+later false true = refl
+later false false = refl
 
-regroup : (a b c : Bool) → cond a true (cond b true c) ≡ cond (cond a true b) true c
-regroup true b c = refl
-regroup false b c = refl
+module _ {K A : Type 0} (by : Keyed K A) where
+  -- what is among the keys is among what they stand for
+  pub among_keys : (k : K) (ks : List K)
+      → list_any (by.same (by.seen k)) (by.all ks) ≡ list_any (is_at (by.compare k)) ks
+  among_keys k [] = ap (list_any (by.same (by.seen k))) by.all_none
+  among_keys k (j ∷ ks) = ap (list_any (by.same (by.seen k))) (by.all_more j ks)
+      ∙ ap (λ (b : Bool). b || list_any (by.same (by.seen k)) (by.all ks)) (sym (by.agrees k j))
+      ∙ ap (λ (b : Bool). is_eq (by.compare k j) || b) (among_keys k ks)
 
-flip : (a b : Bool) → cond a true b ≡ cond b true a
-flip true true = refl
-flip true false = refl
-flip false true = refl
-flip false false = refl
+  one_more : (q n : A) (b : List A)
+      → list_any (by.same q) (b ++ n ∷ []) ≡ (list_any (by.same q) b || by.same q n)
+  one_more q n b = list_any-append (by.same q) b (n ∷ [])
+      ∙ ap (λ (x : Bool). list_any (by.same q) b || x) (or-false (by.same q n))
+
+  -- what repeats is told by what is among those before
+  along : (xs a b : List A) → ((q : A) → list_any (by.same q) a ≡ list_any (by.same q) b)
+      → repeats by.same a xs ≡ repeats by.same b xs
+  unfolding repeats
+  along [] a b h = refl
+  along (x ∷ xs) a b h =
+      let more : (q : A) → list_any (by.same q) (a ++ x ∷ []) ≡ list_any (by.same q) (b ++ x ∷ []) =
+      λ q. one_more q x a ∙ ap (λ (t : Bool). t || by.same q x) (h q) ∙ sym (one_more q x b) in
+      rw (h x, along xs (a ++ x ∷ []) (b ++ x ∷ []) more) refl
+
+  added_key : (s n : BTreeSet K) (k : K) → Updates by.compare s n k true → (q : K)
+      → list_any (by.same (by.seen q)) (by.all n.keys) ≡ list_any (by.same (by.seen q)) (by.all s.keys ++ by.seen k ∷ [])
+  added_key s n k u q =
+      let here : list_any (is_at (by.compare q)) n.keys ≡ cond (is_eq (by.compare k q)) true
+      (list_any (is_at (by.compare q)) s.keys) = u.0 q in
+      among_keys q n.keys ∙ here
+      ∙ ap (λ (b : Bool). cond b true (list_any (is_at (by.compare q)) s.keys))
+      (by.agrees k q ∙ by.flips (by.seen k) (by.seen q))
+      ∙ later (by.same (by.seen q) (by.seen k)) (list_any (is_at (by.compare q)) s.keys)
+      ∙ ap (λ (b : Bool). b || by.same (by.seen q) (by.seen k)) (sym (among_keys q s.keys))
+      ∙ sym (one_more (by.seen q) (by.seen k) (by.all s.keys))
+
+  added : (s n : BTreeSet K) (k : K) → Updates by.compare s n k true → (q : A)
+      → list_any (by.same q) (by.all n.keys) ≡ list_any (by.same q) (by.all s.keys ++ by.seen k ∷ [])
+  added s n k u q = subst
+      (λ (a : A). list_any (by.same a) (by.all n.keys) ≡ list_any (by.same a) (by.all s.keys ++ by.seen k ∷ []))
+      (by.seen_key q) (added_key s n k u (by.key q))
+
+  pub goes_on : (s n : BTreeSet K) (k : K) (xs : List A) (all : Bool) → contains by.compare s k ≡ false
+      → Updates by.compare s n k true → repeats by.same (by.all s.keys) (by.seen k ∷ xs) ≡ all
+      → repeats by.same (by.all n.keys) xs ≡ all
+  unfolding repeats
+  goes_on s n k xs all not u so_far =
+      let apart : list_any (by.same (by.seen k)) (by.all s.keys) ≡ false = among_keys k s.keys ∙ not in
+      along xs (by.all n.keys) (by.all s.keys ++ by.seen k ∷ []) (added s n k u) ∙ (rw apart at so_far)
+
+  pub is_twice : (s : BTreeSet K) (k : K) (xs : List A) (all : Bool) → contains by.compare s k ≡ true
+      → repeats by.same (by.all s.keys) (by.seen k ∷ xs) ≡ all → true ≡ all
+  unfolding repeats
+  is_twice s k xs all there so_far =
+      let here : list_any (by.same (by.seen k)) (by.all s.keys) ≡ true = among_keys k s.keys ∙ there in
+      rw here at so_far
+
+-- ---- names
+
+abbrev pub by_name : Keyed (Bor (List ℕ)) (List ℕ)
+by_name = record {
+  compare = names_cmp;
+  same = bytes_eq;
+  seen = λ k. k.now;
+  key = λ n. record { ref_ptr = (0, 0); now = n };
+  all = key_texts;
+  seen_key = λ n. refl;
+  all_none = refl;
+  all_more = λ k ks. refl;
+  agrees = λ j k. is_eq-slice_cmp j.now k.now;
+  flips = bytes_eq-sym;
+}
+
+-- a name that is no void, in front of others
+pub named : (n : List ℕ) (ns : List (List ℕ)) → bytes_eq n [] ≡ false
+    → filter is_name (n ∷ ns) ≡ n ∷ filter is_name ns
+named n ns e = rw e refl
+
+-- void is left out
+pub unnamed : (n : List ℕ) (ns : List (List ℕ)) → bytes_eq n [] ≡ true → filter is_name (n ∷ ns) ≡ filter is_name ns
+unnamed n ns e = rw e refl
+
+-- ---- numbers
 
 int_flip : (a b : ℤ) → int_eq a b ≡ int_eq b a
 int_flip a b = same_from_decides _ _ (Decides-int_eq a b) (Decides-like _ sym sym (Decides-int_eq b a))
 
--- ---- names
-
-pub has_keys : (q : List ℕ) (ks : List (Bor (List ℕ)))
-    → has_name q (key_texts ks) ≡ list_any (is_at (λ (k : Bor (List ℕ)). slice_cmp nat_cmp q k.now)) ks
-unfolding has_name
-has_keys q [] = refl
-has_keys q (k ∷ ks) = rw (is_eq-slice_cmp q k.now, bytes_eq-sym q k.now, ← has_keys q ks)
-    (or_cond (bytes_eq k.now q) (has_name q (key_texts ks)))
-
-has_more : (q n : List ℕ) (b : List (List ℕ)) → has_name q (b ++ n ∷ []) ≡ cond (has_name q b) true (bytes_eq n q)
-unfolding has_name
-has_more q n [] = one (bytes_eq n q)
-has_more q n (m ∷ b) = rw (has_more q n b) (regroup (bytes_eq m q) (has_name q b) (bytes_eq n q))
-
--- what repeats is reported by what is among the names before
-repeats_along : (ns a b : List (List ℕ)) → ((q : List ℕ) → has_name q a ≡ has_name q b) → repeats a ns ≡ repeats b ns
-unfolding repeats
-repeats_along [] a b h = refl
-repeats_along (n ∷ ns) a b h =
-    let more : (q : List ℕ) → has_name q (a ++ n ∷ []) ≡ has_name q (b ++ n ∷ []) = λ q. has_more q n a
-    ∙ ap (λ (x : Bool). cond x true (bytes_eq n q)) (h q) ∙ sym (has_more q n b) in
-    rw (h n, repeats_along ns a b h, repeats_along ns (a ++ n ∷ []) (b ++ n ∷ []) more) refl
-
-among : (s n : BTreeSet (Bor (List ℕ))) (k : Bor (List ℕ)) → Updates names_cmp s n k true → (q : List ℕ)
-    → has_name q (key_texts n.keys) ≡ has_name q (key_texts s.keys ++ k.now ∷ [])
-among s n k u q =
-    let here : list_any (is_at (λ (x : Bor (List ℕ)). slice_cmp nat_cmp q x.now)) n.keys ≡ cond
-    (is_eq (slice_cmp nat_cmp k.now q)) true
-    (list_any (is_at (λ (x : Bor (List ℕ)). slice_cmp nat_cmp q x.now)) s.keys) = u.0
-    (record { ref_ptr = (0, 0); now = q }) in
-    has_keys q n.keys ∙ here
-    ∙ (rw (is_eq-slice_cmp k.now q, ← has_keys q s.keys) (flip (bytes_eq k.now q) (has_name q (key_texts s.keys))))
-    ∙ sym (has_more q k.now (key_texts s.keys))
-
-pub next_name : (s n : BTreeSet (Bor (List ℕ))) (k : Bor (List ℕ)) (ns : List (List ℕ)) (all : Bool)
-    → is_void k.now ≡ false → contains names_cmp s k ≡ false → Updates names_cmp s n k true
-    → repeats (key_texts s.keys) (k.now ∷ ns) ≡ all → repeats (key_texts n.keys) ns ≡ all
-unfolding repeats
-next_name s n k ns all void not u so_far =
-    let apart : has_name k.now (key_texts s.keys) ≡ false = has_keys k.now s.keys ∙ not in
-    repeats_along ns (key_texts n.keys) (key_texts s.keys ++ k.now ∷ []) (among s n k u) ∙ (rw (void, apart) at so_far)
-
-pub name_twice : (s : BTreeSet (Bor (List ℕ))) (k : Bor (List ℕ)) (ns : List (List ℕ)) (all : Bool)
-    → is_void k.now ≡ false → contains names_cmp s k ≡ true → repeats (key_texts s.keys) (k.now ∷ ns) ≡ all → true ≡ all
-unfolding repeats
-name_twice s k ns all void there so_far =
-    let here : has_name k.now (key_texts s.keys) ≡ true = has_keys k.now s.keys ∙ there in
-    rw (void, here) at so_far
-
--- ---- numbers
-
-number_keys : (q : ℤ) (ks : List ℤ) → has_number q ks ≡ list_any (is_at (int_cmp q)) ks
-unfolding has_number
-number_keys q [] = refl
-number_keys q (k ∷ ks) = rw (int_flip k q, ← number_keys q ks) (or_cond (int_eq q k) (has_number q ks))
-
-number_more : (q n : ℤ) (b : List ℤ) → has_number q (b ++ n ∷ []) ≡ cond (has_number q b) true (int_eq n q)
-unfolding has_number
-number_more q n [] = one (int_eq n q)
-number_more q n (m ∷ b) = rw (number_more q n b) (regroup (int_eq m q) (has_number q b) (int_eq n q))
-
-numbers_along : (ns a b : List ℤ) → ((q : ℤ) → has_number q a ≡ has_number q b)
-    → repeats_number a ns ≡ repeats_number b ns
-unfolding repeats_number
-numbers_along [] a b h = refl
-numbers_along (n ∷ ns) a b h =
-    let more : (q : ℤ) → has_number q (a ++ n ∷ []) ≡ has_number q (b ++ n ∷ []) = λ q. number_more q n a
-    ∙ ap (λ (x : Bool). cond x true (int_eq n q)) (h q) ∙ sym (number_more q n b) in
-    rw (h n, numbers_along ns (a ++ n ∷ []) (b ++ n ∷ []) more) refl
-
-number_among : (s n : BTreeSet ℤ) (k : ℤ) → Updates int_cmp s n k true → (q : ℤ)
-    → has_number q n.keys ≡ has_number q (s.keys ++ k ∷ [])
-number_among s n k u q =
-    let here : list_any (is_at (int_cmp q)) n.keys ≡ cond (int_eq k q) true (list_any (is_at (int_cmp q)) s.keys) =
-    u.0 q in
-    number_keys q n.keys ∙ here ∙ (rw (← number_keys q s.keys) (flip (int_eq k q) (has_number q s.keys)))
-    ∙ sym (number_more q k s.keys)
-
-pub next_number : (s n : BTreeSet ℤ) (k : ℤ) (ns : List ℤ) (all : Bool) → contains int_cmp s k ≡ false
-    → Updates int_cmp s n k true → repeats_number s.keys (k ∷ ns) ≡ all → repeats_number n.keys ns ≡ all
-unfolding repeats_number
-next_number s n k ns all not u so_far =
-    let apart : has_number k s.keys ≡ false = number_keys k s.keys ∙ not in
-    numbers_along ns n.keys (s.keys ++ k ∷ []) (number_among s n k u) ∙ (rw apart at so_far)
-
-pub number_twice : (s : BTreeSet ℤ) (k : ℤ) (ns : List ℤ) (all : Bool) → contains int_cmp s k ≡ true
-    → repeats_number s.keys (k ∷ ns) ≡ all → true ≡ all
-unfolding repeats_number
-number_twice s k ns all there so_far =
-    let here : has_number k s.keys ≡ true = number_keys k s.keys ∙ there in
-    rw here at so_far
+abbrev pub by_number : Keyed ℤ ℤ
+by_number = record {
+  compare = int_cmp;
+  same = int_eq;
+  seen = λ k. k;
+  key = λ n. n;
+  all = λ ks. ks;
+  seen_key = λ n. refl;
+  all_none = refl;
+  all_more = λ k ks. refl;
+  agrees = λ j k. refl;
+  flips = int_flip;
+}
 
 -- ---- pairs of numbers
-
-abbrev pub pairs_cmp : ℤ × ℤ → ℤ × ℤ → Ordering
-pairs_cmp x y = ordering_then (int_cmp x.0 y.0) (int_cmp x.1 y.1)
 
 then_eq : (a b : Ordering) → is_eq (ordering_then a b) ≡ (is_eq a && is_eq b)
 then_eq Less b = refl
 then_eq Equal b = refl
 then_eq Greater b = refl
 
-pair_keys : (q : ℤ × ℤ) (ks : List (ℤ × ℤ)) → has_pair q.0 q.1 ks ≡ list_any (is_at (pairs_cmp q)) ks
-unfolding has_pair
-pair_keys q [] = refl
-pair_keys q (k ∷ ks) = rw (
-  then_eq (int_cmp q.0 k.0) (int_cmp q.1 k.1),
-  int_flip k.0 q.0,
-  int_flip k.1 q.1,
-  ← pair_keys q ks,
-) (or_cond (int_eq q.0 k.0 && int_eq q.1 k.1) (has_pair q.0 q.1 ks))
+pair_flip : (a b : ℤ × ℤ) → same_pair a b ≡ same_pair b a
+pair_flip a b = ap (λ (x : Bool). x && int_eq a.1 b.1) (int_flip a.0 b.0)
+    ∙ ap (λ (x : Bool). int_eq b.0 a.0 && x) (int_flip a.1 b.1)
 
-pair_more : (q n : ℤ × ℤ) (b : List (ℤ × ℤ))
-    → has_pair q.0 q.1 (b ++ n ∷ []) ≡ cond (has_pair q.0 q.1 b) true (int_eq n.0 q.0 && int_eq n.1 q.1)
-unfolding has_pair
-pair_more q n [] = one (int_eq n.0 q.0 && int_eq n.1 q.1)
-pair_more q n (m ∷ b) = rw (pair_more q n b)
-    (regroup (int_eq m.0 q.0 && int_eq m.1 q.1) (has_pair q.0 q.1 b) (int_eq n.0 q.0 && int_eq n.1 q.1))
-
-pairs_along : (ns a b : List (ℤ × ℤ)) → ((q : ℤ × ℤ) → has_pair q.0 q.1 a ≡ has_pair q.0 q.1 b)
-    → repeats_pair a ns ≡ repeats_pair b ns
-unfolding repeats_pair
-pairs_along [] a b h = refl
-pairs_along (n ∷ ns) a b h =
-    let more : (q : ℤ × ℤ) → has_pair q.0 q.1 (a ++ n ∷ []) ≡ has_pair q.0 q.1 (b ++ n ∷ []) = λ q. pair_more q n a
-    ∙ ap (λ (x : Bool). cond x true (int_eq n.0 q.0 && int_eq n.1 q.1)) (h q) ∙ sym (pair_more q n b) in
-    rw (h n, pairs_along ns (a ++ n ∷ []) (b ++ n ∷ []) more) refl
-
-pair_among : (s n : BTreeSet (ℤ × ℤ)) (k : ℤ × ℤ) → Updates pairs_cmp s n k true → (q : ℤ × ℤ)
-    → has_pair q.0 q.1 n.keys ≡ has_pair q.0 q.1 (s.keys ++ k ∷ [])
-pair_among s n k u q =
-    let here : list_any (is_at (pairs_cmp q)) n.keys ≡ cond (is_eq (pairs_cmp k q)) true
-    (list_any (is_at (pairs_cmp q)) s.keys) = u.0 q in
-    pair_keys q n.keys ∙ here
-    ∙ (rw (then_eq (int_cmp k.0 q.0) (int_cmp k.1 q.1), ← pair_keys q s.keys)
-    (flip (int_eq k.0 q.0 && int_eq k.1 q.1) (has_pair q.0 q.1 s.keys))) ∙ sym (pair_more q k s.keys)
-
-pub next_pair : (s n : BTreeSet (ℤ × ℤ)) (k : ℤ × ℤ) (ns : List (ℤ × ℤ)) (all : Bool) → contains pairs_cmp s k ≡ false
-    → Updates pairs_cmp s n k true → repeats_pair s.keys (k ∷ ns) ≡ all → repeats_pair n.keys ns ≡ all
-unfolding repeats_pair
-next_pair s n k ns all not u so_far =
-    let apart : has_pair k.0 k.1 s.keys ≡ false = pair_keys k s.keys ∙ not in
-    pairs_along ns n.keys (s.keys ++ k ∷ []) (pair_among s n k u) ∙ (rw apart at so_far)
-
-pub pair_twice : (s : BTreeSet (ℤ × ℤ)) (k : ℤ × ℤ) (ns : List (ℤ × ℤ)) (all : Bool) → contains pairs_cmp s k ≡ true
-    → repeats_pair s.keys (k ∷ ns) ≡ all → true ≡ all
-unfolding repeats_pair
-pair_twice s k ns all there so_far =
-    let here : has_pair k.0 k.1 s.keys ≡ true = pair_keys k s.keys ∙ there in
-    rw here at so_far
+abbrev pub by_pair : Keyed (ℤ × ℤ) (ℤ × ℤ)
+by_pair = record {
+  compare = λ x y. ordering_then (int_cmp x.0 y.0) (int_cmp x.1 y.1);
+  same = same_pair;
+  seen = λ k. k;
+  key = λ n. n;
+  all = λ ks. ks;
+  seen_key = λ n. refl;
+  all_none = refl;
+  all_more = λ k ks. refl;
+  agrees = λ j k. then_eq (int_cmp j.0 k.0) (int_cmp j.1 k.1);
+  flips = pair_flip;
+}

@@ -4,6 +4,7 @@ use Rattle.std.proofs.Common.{◌++◌, Option, Some, None, option_map, is_some,
 use Rattle.std.proofs.Common.{arith}
 use Rattle.std.specs.BTreeMap.{BTreeMap, Updates, IsUnchanged, IsEmpty}
 use Rattle.std.specs.BTreeSet.{BTreeSet}
+use Rattle.std.specs.List.{list_any}
 use Rattle.std.specs.Option.{option_or}
 use Rattle.std.specs.Str.{bytes_eq}
 use Rattle.xdr_units.proofs.Found.{is_some-map}
@@ -19,7 +20,6 @@ use Rattle.xdr_constants.proofs.Tables.{same_text}
 use Rattle.xdr_lang.specs.LookUp.{type_named, place_with, named_place}
 use Rattle.xdr_lang.specs.Private.Tables.{HasParts, IsPlacedAt, HasPlaces, HasNoPlaces}
 use Rattle.xdr_lang.specs.Private.Tables.{IsIn, leads_into, stays_in, all_stay}
-use Rattle.xdr_lang.specs.Distinct.{has_name}
 use Rattle.xdr_lang.proofs.Sets.{names_cmp}
 
 -- ---- types
@@ -192,10 +192,9 @@ found_endless s found types r e same h = record {
 }
 
 pub no_names : (s : BTreeSet (Bor (List ℕ))) (types : List out.Field) → s.keys ≡ [] → HasNoPlaces s types
-unfolding has_name
 no_names s types e = record {
   none = λ n is most.
-      let no : false ≡ true = sym (ap (λ (ks : List (Bor (List ℕ))). has_name n (key_texts ks)) e) ∙ is in
+      let no : false ≡ true = sym (ap (λ (ks : List (Bor (List ℕ))). list_any (bytes_eq n) (key_texts ks)) e) ∙ is in
       absurd cc;
 }
 

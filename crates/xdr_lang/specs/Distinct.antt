@@ -1,45 +1,28 @@
 -- Which names and numbers must differ (RFC 4506 section 6.4, RFC 5531 section 12.3).
-use Rattle.std.specs.Prelude.{ℕ, ℤ, Bool, true, false, ◌&&◌, List, [], ◌∷◌, ◌++◌, map, Option, Some, None}
-use Rattle.std.specs.Prelude.{if◌then◌else◌, codes}
+use Rattle.std.specs.Prelude.{ℕ, ℤ, Bool, false, not, ◌&&◌, ◌||◌, List, [], ◌∷◌, ◌++◌, map, filter, Option, Some, None}
+use Rattle.std.specs.Prelude.{codes}
+use Rattle.std.specs.List.{list_any}
 use Rattle.std.specs.Ordering.{int_eq}
 use Rattle.std.specs.Str.{bytes_eq}
 use Rattle.xdr_grammar.specs.Outline.{Field, Entry, Arm, Draft, DNumbered, DOpaque, DOpaqueUpTo, DText, DFixed, DUpTo}
 use Rattle.xdr_grammar.specs.Outline.{DStructure, DChoice, DMaybe, Procedure, Version, Program, Outline}
 
--- the name is in the list
-unfoldable pub has_name : List ℕ → List (List ℕ) → Bool
-has_name n [] = false
-has_name n (m ∷ ms) = if bytes_eq m n then true else has_name n ms
+-- Some element is one of those before it, where same tells which are one.
+unfoldable pub repeats : {A : Type 0} → (A → A → Bool) → List A → List A → Bool
+repeats same before [] = false
+repeats same before (x ∷ xs) = list_any (same x) before || repeats same (before ++ x ∷ []) xs
 
 -- The empty name, that of void, is no name.
-abbrev pub is_void : List ℕ → Bool
-is_void n = bytes_eq n []
+abbrev pub is_name : List ℕ → Bool
+is_name n = not (bytes_eq n [])
 
--- Some name is among those before it.
-unfoldable pub repeats : List (List ℕ) → List (List ℕ) → Bool
-repeats before [] = false
-repeats before (n ∷ ns) = if is_void n then repeats before ns else
-    (if has_name n before then true else repeats (before ++ n ∷ []) ns)
+-- Some name is there twice.
+unfoldable pub names_repeat : List (List ℕ) → Bool
+names_repeat ns = repeats bytes_eq [] (filter is_name ns)
 
--- the number is in the list
-unfoldable pub has_number : ℤ → List ℤ → Bool
-has_number n [] = false
-has_number n (m ∷ ms) = if int_eq m n then true else has_number n ms
-
--- Some number is among those before it.
-unfoldable pub repeats_number : List ℤ → List ℤ → Bool
-repeats_number before [] = false
-repeats_number before (n ∷ ns) = if has_number n before then true else repeats_number (before ++ n ∷ []) ns
-
--- the pair is in the list
-unfoldable pub has_pair : ℤ → ℤ → List (ℤ × ℤ) → Bool
-has_pair p v [] = false
-has_pair p v (x ∷ xs) = if int_eq x.0 p && int_eq x.1 v then true else has_pair p v xs
-
--- Some pair is among those before it.
-unfoldable pub repeats_pair : List (ℤ × ℤ) → List (ℤ × ℤ) → Bool
-repeats_pair before [] = false
-repeats_pair before (x ∷ xs) = if has_pair x.0 x.1 before then true else repeats_pair (before ++ x ∷ []) xs
+-- both numbers of a pair are the other's
+abbrev pub same_pair : ℤ × ℤ → ℤ × ℤ → Bool
+same_pair x y = int_eq x.0 y.0 && int_eq x.1 y.1
 
 -- TRUE, FALSE, constants, types and programs have one name space.
 abbrev pub declared_names : Outline → List (List ℕ)
@@ -53,8 +36,8 @@ other_name (Some f) = f.name ∷ []
 
 -- The fields of a struct have a name space of their own, and so have the arms of a union.
 unfoldable pub kind_repeats : Draft → Bool
-kind_repeats (DStructure fs) = repeats [] (map (λ (f : Field). f.name) fs)
-kind_repeats (DChoice t arms other) = repeats [] (other_name other ++ map (λ (a : Arm). a.member.name) arms)
+kind_repeats (DStructure fs) = names_repeat (map (λ (f : Field). f.name) fs)
+kind_repeats (DChoice t arms other) = names_repeat (other_name other ++ map (λ (a : Arm). a.member.name) arms)
 kind_repeats (DNumbered ms) = false
 kind_repeats (DOpaque v) = false
 kind_repeats (DOpaqueUpTo v) = false
@@ -63,29 +46,14 @@ kind_repeats (DFixed p v) = false
 kind_repeats (DUpTo p v) = false
 kind_repeats (DMaybe p) = false
 
--- in some kind
-unfoldable pub kinds_repeat : List Draft → Bool
-kinds_repeat [] = false
-kinds_repeat (d ∷ ds) = if kind_repeats d then true else kinds_repeat ds
-
 -- Procedures of a version differ in name and number.
 unfoldable pub version_repeats : Version → Bool
-version_repeats v = if repeats [] (map (λ (p : Procedure). p.name) v.procedures) then true else repeats_number []
-    (map (λ (p : Procedure). p.number) v.procedures)
-
--- in some version
-unfoldable pub versions_repeat : List Version → Bool
-versions_repeat [] = false
-versions_repeat (v ∷ vs) = if version_repeats v then true else versions_repeat vs
+version_repeats v = names_repeat (map (λ (p : Procedure). p.name) v.procedures)
+    || repeats int_eq [] (map (λ (p : Procedure). p.number) v.procedures)
 
 -- Versions of a program differ in name.
 unfoldable pub program_repeats : Program → Bool
-program_repeats p = if repeats [] (map (λ (v : Version). v.name) p.versions) then true else versions_repeat p.versions
-
--- in some program
-unfoldable pub programs_repeat : List Program → Bool
-programs_repeat [] = false
-programs_repeat (p ∷ ps) = if program_repeats p then true else programs_repeat ps
+program_repeats p = names_repeat (map (λ (v : Version). v.name) p.versions) || list_any version_repeats p.versions
 
 -- the numbers of a program with each of its versions'
 unfoldable pub pairs_of : List (ℤ × ℤ) → ℤ → List Version → List (ℤ × ℤ)
@@ -99,6 +67,6 @@ pairs before (p ∷ ps) = pairs (pairs_of before p.number p.versions) ps
 
 -- Some name, number of a procedure, or pair of a program's and a version's number is there twice.
 unfoldable pub has_twice : Outline → Bool
-has_twice o = if repeats [] (declared_names o) then true else
-    (if kinds_repeat o.drafts then true else
-    (if programs_repeat o.programs then true else repeats_pair [] (pairs [] o.programs)))
+has_twice o = names_repeat (declared_names o)
+    || (list_any kind_repeats o.drafts
+    || (list_any program_repeats o.programs || repeats same_pair [] (pairs [] o.programs)))

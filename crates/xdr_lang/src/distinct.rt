@@ -1,21 +1,22 @@
 //! Whether a name or a number is there twice.
-ghost use Rattle.std.specs.Prelude.{◌≡◌, ℕ, true, false, OnOk, IfOk, List, [], map, option_map, ◌++◌};
+ghost use Rattle.std.specs.Prelude.{◌≡◌, true, false, OnOk, IfOk, [], map, option_map};
+ghost use Rattle.std.specs.List.{list_any};
+ghost use Rattle.std.specs.Ordering.{int_eq};
 ghost use Rattle.xdr_grammar.specs.Outline as out;
-ghost use Rattle.xdr_grammar.specs.View.{entry_of, field_of, arm_of, draft_of, procedure_of, version_of, program_of};
-ghost use Rattle.xdr_grammar.specs.View.{outline_of};
+ghost use Rattle.xdr_grammar.specs.View.{field_of, draft_of, procedure_of, version_of, program_of, outline_of};
 ghost use Rattle.xdr_lang.specs.Views.{texts};
-ghost use Rattle.xdr_lang.specs.Distinct.{repeats, repeats_number, repeats_pair, declared_names, other_name};
-ghost use Rattle.xdr_lang.specs.Distinct.{kind_repeats, kinds_repeat, version_repeats, versions_repeat};
-ghost use Rattle.xdr_lang.specs.Distinct.{program_repeats, programs_repeat, pairs_of, pairs, has_twice};
+ghost use Rattle.xdr_lang.specs.Distinct.{repeats, names_repeat, same_pair, declared_names, other_name};
+ghost use Rattle.xdr_lang.specs.Distinct.{kind_repeats, version_repeats, program_repeats, pairs_of, pairs, has_twice};
 
+use crate::names::add_names;
 use std::alloc::{AllocError, Global};
 use std::collections::BTreeSet;
-use xdr_grammar::{Arm, Draft, Entry, Field, Name, Outline, Procedure, Program, Shape, Version};
+use xdr_grammar::{Draft, Field, Name, Outline, Procedure, Program, Shape, Version};
 
-/// Some name is among those before it. The empty name, that of void, is none.
-#[tactic(auto, unfolding(crate::specs::Distinct::repeats))]
-fn repeats(alloc: Global, names: &[Name<'_>]) -> Result<bool, AllocError>
-    ensures { IfOk result (λ b. b ≡ repeats [] (texts names.now)) }
+/// Some name is there twice. The empty name, that of void, is none.
+#[tactic(auto, unfolding(crate::specs::Distinct::repeats, crate::specs::Distinct::names_repeat))]
+fn names_repeat(alloc: Global, names: &[Name<'_>]) -> Result<bool, AllocError>
+    ensures { IfOk result (λ b. b ≡ names_repeat (texts names.now)) }
 {
     let mut before = BTreeSet::new(alloc);
     for name in names {
@@ -29,11 +30,11 @@ fn repeats(alloc: Global, names: &[Name<'_>]) -> Result<bool, AllocError>
     Ok(false)
 }
 
-/// Some procedure has the number of one before it.
-#[tactic(auto, unfolding(crate::specs::Distinct::repeats_number))]
+/// Some number of a procedure is there twice.
+#[tactic(auto, unfolding(crate::specs::Distinct::repeats))]
 fn numbers_repeat(alloc: Global, procedures: &[Procedure<'_>]) -> Result<bool, AllocError>
     ensures { IfOk result
-        (λ b. b ≡ repeats_number [] (map (λ (p : out.Procedure). p.number) (map procedure_of procedures.now))) }
+        (λ b. b ≡ repeats int_eq [] (map (λ (p : out.Procedure). p.number) (map procedure_of procedures.now))) }
 {
     let mut before = BTreeSet::new(alloc);
     for procedure in procedures {
@@ -44,10 +45,10 @@ fn numbers_repeat(alloc: Global, procedures: &[Procedure<'_>]) -> Result<bool, A
     Ok(false)
 }
 
-/// Some pair is among those before it.
-#[tactic(auto, unfolding(crate::specs::Distinct::repeats_pair))]
+/// Some pair is there twice.
+#[tactic(auto, unfolding(crate::specs::Distinct::repeats))]
 fn pairs_repeat(alloc: Global, pairs: &[(i128, i128)]) -> Result<bool, AllocError>
-    ensures { IfOk result (λ b. b ≡ repeats_pair [] pairs.now) }
+    ensures { IfOk result (λ b. b ≡ repeats same_pair [] pairs.now) }
 {
     let mut before = BTreeSet::new(alloc);
     for pair in pairs {
@@ -85,104 +86,6 @@ fn all_pairs(alloc: Global, programs: &[Program<'_>]) -> Result<Vec<(i128, i128)
     Ok(found)
 }
 
-/// What an outline declares by a name.
-pub trait Declaration<'a> {
-    ghost View: { Type 0 };
-
-    ghost view: { Self → View };
-
-    ghost name_of: { View → List ℕ };
-
-    /// The name.
-    fn name(&self) -> Name<'a>
-        ensures { result.text.now ≡ name_of (view self.now) };
-}
-
-impl<'a> Declaration<'a> for Entry<'a> {
-    ghost View = { out.Entry };
-
-    ghost view = { entry_of };
-
-    ghost name_of = { λ e. e.name };
-
-    fn name(&self) -> Name<'a> {
-        self.name
-    }
-}
-
-impl<'a> Declaration<'a> for Field<'a> {
-    ghost View = { out.Field };
-
-    ghost view = { field_of };
-
-    ghost name_of = { λ f. f.name };
-
-    fn name(&self) -> Name<'a> {
-        self.name
-    }
-}
-
-impl<'a> Declaration<'a> for Arm<'a> {
-    ghost View = { out.Arm };
-
-    ghost view = { arm_of };
-
-    ghost name_of = { λ a. a.member.name };
-
-    fn name(&self) -> Name<'a> {
-        self.member.name
-    }
-}
-
-impl<'a> Declaration<'a> for Procedure<'a> {
-    ghost View = { out.Procedure };
-
-    ghost view = { procedure_of };
-
-    ghost name_of = { λ p. p.name };
-
-    fn name(&self) -> Name<'a> {
-        self.name
-    }
-}
-
-impl<'a> Declaration<'a> for Version<'a> {
-    ghost View = { out.Version };
-
-    ghost view = { version_of };
-
-    ghost name_of = { λ v. v.name };
-
-    fn name(&self) -> Name<'a> {
-        self.name
-    }
-}
-
-impl<'a> Declaration<'a> for Program<'a> {
-    ghost View = { out.Program };
-
-    ghost view = { program_of };
-
-    ghost name_of = { λ p. p.name };
-
-    fn name(&self) -> Name<'a> {
-        self.name
-    }
-}
-
-/// Adds the names of all items.
-pub fn add_names<'a, T: Declaration<'a>>(
-    found: &mut Vec<Name<'a>>,
-    items: &[T],
-) -> Result<(), AllocError>
-    ensures { OnOk result (texts found.new.items ≡ texts found.old.items ++ map T.name_of (map T.view items.now)) }
-{
-    for item in items {
-        found.push(item.name())?;
-    }
-    Ok(())
-}
-
 /// The name of a union's default, where there is one.
 fn other_name<'a>(alloc: Global, other: &Option<Field<'a>>) -> Result<Vec<Name<'a>>, AllocError>
     ensures { IfOk result (λ v. texts v.items ≡ other_name (option_map field_of other.now)) }
@@ -204,21 +107,20 @@ fn kind_repeats(alloc: Global, draft: &Draft<'_>) -> Result<bool, AllocError>
         Shape::Structure(fields) => {
             let mut names = Vec::new(alloc);
             add_names(&mut names, fields)?;
-            repeats(alloc, &names)
+            names_repeat(alloc, &names)
         }
         Shape::Choice(_, arms, other) => {
             let mut names = other_name(alloc, other)?;
             add_names(&mut names, arms)?;
-            repeats(alloc, &names)
+            names_repeat(alloc, &names)
         }
         _ => Ok(false),
     }
 }
 
 /// The same in some kind.
-#[tactic(auto, unfolding(crate::specs::Distinct::kinds_repeat))]
 fn kinds_repeat(alloc: Global, drafts: &[Draft<'_>]) -> Result<bool, AllocError>
-    ensures { IfOk result (λ b. b ≡ kinds_repeat (map draft_of drafts.now)) }
+    ensures { IfOk result (λ b. b ≡ list_any kind_repeats (map draft_of drafts.now)) }
 {
     for draft in drafts {
         if kind_repeats(alloc, draft)? {
@@ -235,16 +137,15 @@ fn version_repeats(alloc: Global, version: &Version<'_>) -> Result<bool, AllocEr
 {
     let mut names = Vec::new(alloc);
     add_names(&mut names, &version.procedures)?;
-    if repeats(alloc, &names)? {
+    if names_repeat(alloc, &names)? {
         return Ok(true);
     }
     numbers_repeat(alloc, &version.procedures)
 }
 
 /// The same in some version.
-#[tactic(auto, unfolding(crate::specs::Distinct::versions_repeat))]
 fn versions_repeat(alloc: Global, versions: &[Version<'_>]) -> Result<bool, AllocError>
-    ensures { IfOk result (λ b. b ≡ versions_repeat (map version_of versions.now)) }
+    ensures { IfOk result (λ b. b ≡ list_any version_repeats (map version_of versions.now)) }
 {
     for version in versions {
         if version_repeats(alloc, version)? {
@@ -261,16 +162,15 @@ fn program_repeats(alloc: Global, program: &Program<'_>) -> Result<bool, AllocEr
 {
     let mut names = Vec::new(alloc);
     add_names(&mut names, &program.versions)?;
-    if repeats(alloc, &names)? {
+    if names_repeat(alloc, &names)? {
         return Ok(true);
     }
     versions_repeat(alloc, &program.versions)
 }
 
 /// The same in some program.
-#[tactic(auto, unfolding(crate::specs::Distinct::programs_repeat))]
 fn programs_repeat(alloc: Global, programs: &[Program<'_>]) -> Result<bool, AllocError>
-    ensures { IfOk result (λ b. b ≡ programs_repeat (map program_of programs.now)) }
+    ensures { IfOk result (λ b. b ≡ list_any program_repeats (map program_of programs.now)) }
 {
     for program in programs {
         if program_repeats(alloc, program)? {
@@ -305,7 +205,7 @@ pub fn has_twice(alloc: Global, outline: &Outline<'_>) -> Result<bool, AllocErro
     ensures { IfOk result (λ b. b ≡ has_twice (outline_of outline.now)) }
 {
     let names = declared_names(alloc, outline)?;
-    if repeats(alloc, &names)? {
+    if names_repeat(alloc, &names)? {
         return Ok(true);
     }
     if kinds_repeat(alloc, &outline.drafts)? {

@@ -13,11 +13,11 @@ ghost use Rattle.xdr_lang.specs.Views.{declared_of, listed_of};
 
 use crate::declarations::{Declared, Program};
 use crate::distinct::has_twice;
-use crate::faults::schema_fault;
-use crate::first::first_fault;
+use crate::first_fault::first_fault;
 use crate::kinds::all_kinds;
 use crate::lists::{all_constants, all_types};
 use crate::programs::all_programs;
+use crate::schema_fault::schema_fault;
 use crate::type_table::type_table;
 use std::alloc::Global;
 use std::string::String;
@@ -35,9 +35,9 @@ struct Listed {
     programs: Vec<Program>,
 }
 
-/// What the names of an outline stand for.
+/// What an outline declares, with what its names stand for.
 #[tactic(auto, unfolding(crate::specs::Meaning::meaning))]
-fn meaning(alloc: Global, outline: &Outline<'_>) -> Result<Listed, Fault>
+fn resolved(alloc: Global, outline: &Outline<'_>) -> Result<Listed, Fault>
     ensures { Gives listed_of result (meaning (outline_of outline.now)) }
 {
     let known = numbers(alloc, &outline.constants)?;
@@ -56,7 +56,7 @@ fn meaning(alloc: Global, outline: &Outline<'_>) -> Result<Listed, Fault>
 
 /// The same, where no name is there twice.
 #[tactic(auto, unfolding(crate::specs::Private::Meaning::distinct_meaning))]
-fn distinct_meaning(alloc: Global, outline: &Outline<'_>) -> Result<Listed, Fault>
+fn resolved_once(alloc: Global, outline: &Outline<'_>) -> Result<Listed, Fault>
     ensures { Gives listed_of result (distinct_meaning (outline_of outline.now)) }
 {
     if has_twice(alloc, outline)? {
@@ -65,7 +65,7 @@ fn distinct_meaning(alloc: Global, outline: &Outline<'_>) -> Result<Listed, Faul
             left: 0,
         });
     }
-    meaning(alloc, outline)
+    resolved(alloc, outline)
 }
 
 /// Builds the schema.
@@ -93,11 +93,11 @@ fn built(alloc: Global, outline: &Outline<'_>, listed: Listed) -> Result<Declare
 }
 
 /// What an outline means.
-pub fn resolved(alloc: Global, outline: &Outline<'_>) -> Result<Declared, Fault>
+pub fn meaning(alloc: Global, outline: &Outline<'_>) -> Result<Declared, Fault>
     ensures found { IfOk result (λ v. IsMeant (outline_of outline.now) (declared_of v)) }
     ensures only { (d : DeclaredSpec) → IsMeant (outline_of outline.now) d → Gives declared_of result (Some d) }
 {
-    match distinct_meaning(alloc, outline) {
+    match resolved_once(alloc, outline) {
         Ok(listed) => built(alloc, outline, listed),
         Err(fault) => Err(first_fault(alloc, outline, fault)),
     }

@@ -4,10 +4,8 @@ ghost use Rattle.xdr_grammar.specs.Outline as out;
 ghost use Rattle.xdr_grammar.specs.View.{part_of, field_of};
 ghost use Rattle.xdr_lang.specs.LookUp.{type_named, place_of};
 ghost use Rattle.xdr_lang.specs.Views.{types_of};
-ghost use Rattle.xdr_lang.specs.Distinct.{has_name};
-ghost use Rattle.xdr_constants.specs.Tables.{key_texts};
 ghost use Rattle.xdr_lang.specs.Private.Tables.{HasParts, HasPlaces, HasNoPlaces, IsPlacedAt, stays_in};
-ghost use Rattle.xdr_lang.specs.Private.Tables.{all_stay};
+ghost use Rattle.xdr_lang.specs.Private.Tables.{all_stay, is_in};
 
 use crate::places::{basic_place, own_place, struct_place};
 use std::alloc::{AllocError, Global};
@@ -217,7 +215,7 @@ impl<'a> TypeTable<'a> {
 
 /// The name is among these.
 fn is_in(names: &BTreeSet<&str>, name: &str) -> bool
-    ensures { result ≡ has_name name.now (key_texts names.now.keys) }
+    ensures { result ≡ is_in names.now name.now }
 {
     names.contains(name)
 }

@@ -10,11 +10,10 @@ use Rattle.xdr_tokens.specs.declared.token.Mark.TheVariants as mark
 use Rattle.xdr_tokens.specs.Bytes.{within, is_space, is_letter, is_digit, is_word, run_length, after_comment, number_of}
 use Rattle.xdr_tokens.specs.Bytes.{decimal}
 use Rattle.xdr_tokens.specs.Tokens.{Lexeme, Number, Sign}
-use Rattle.xdr_tokens.specs.Private.Front.{comment_at, numeral_at, piece_at}
+use Rattle.xdr_tokens.specs.Private.Front.{comment_at, numeral_at, piece_at, mark_code, mark_among, mark_of}
 use Rattle.xdr_tokens.proofs.Options.{some_is, bind_some, chosen}
 use Rattle.xdr_tokens.specs.Text.{Piece, Blank, Comment, Run, Constant, Single, spelling, IsRun, HasNoEnd, EndsRun}
-use Rattle.xdr_tokens.specs.Text.{BeginsWord, BeginsDigit, IsNumeral, MayPrecede, token_of, marks, mark_among, mark_of}
-use Rattle.xdr_tokens.specs.Text.{mark_code}
+use Rattle.xdr_tokens.specs.Text.{BeginsWord, BeginsDigit, IsNumeral, MayPrecede, token_of, marks, mark_text}
 use Rattle.std.proofs.Math.Bool.{and-false as and_false}
 
 -- ---- runs
@@ -104,7 +103,7 @@ letter_apart b h = (grind arith, grind arith)
 digit_apart : (b : ℕ) → is_digit b ≡ true → (is_space b ≡ false) × (eqb b 47 ≡ false) × (is_letter b ≡ false)
 digit_apart b h = (grind arith, grind arith, grind arith)
 
-single_again : (m : Mark) (rest : List ℕ) → piece_at (mark_code m ∷ rest) ≡ Some (Some (Sign m), rest)
+single_again : (m : Mark) (rest : List ℕ) → piece_at (mark_text m ++ rest) ≡ Some (Some (Sign m), rest)
 unfolding piece_at
 single_again mark.OpenBrace rest = refl
 single_again mark.CloseBrace rest = refl
@@ -221,6 +220,21 @@ minus_found b bs y minus e =
     (numeral_found (suc (run_length bs)) (45 ∷ bs) y e2
     (inr (refl, decimal_begins (take (run_length bs) bs) d.0 d.1, run_is bs)) (run_ends bs))
 
+pub one_byte : (m : Mark) → mark_text m ≡ mark_code m ∷ []
+one_byte mark.OpenBrace = refl
+one_byte mark.CloseBrace = refl
+one_byte mark.OpenRound = refl
+one_byte mark.CloseRound = refl
+one_byte mark.OpenBracket = refl
+one_byte mark.CloseBracket = refl
+one_byte mark.Less = refl
+one_byte mark.Greater = refl
+one_byte mark.Equal = refl
+one_byte mark.Comma = refl
+one_byte mark.Semicolon = refl
+one_byte mark.Colon = refl
+one_byte mark.Star = refl
+
 mark_found : (ms : List Mark) (b : ℕ) (m : Mark) → mark_among ms b ≡ Some m → b ≡ mark_code m
 mark_found [] b m e = absurd cc
 mark_found (k ∷ ms) b m e =
@@ -267,7 +281,8 @@ piece_found (b ∷ bs) y e =
                   with_piece (b ∷ bs) _ y
                   (record {
                     piece = Single m.0;
-                    spelled = ap (λ (x : ℕ). x ∷ bs) (mark_found marks b m.0 m.1);
+                    spelled = ap (λ (x : ℕ). x ∷ bs) (mark_found marks b m.0 m.1)
+                        ∙ ap (λ (x : List ℕ). x ++ bs) (sym (one_byte m.0));
                     represents = tt;
                     token = refl;
                   }) m.2

@@ -12,7 +12,7 @@ use Rattle.xdr_tokens.specs.Text.{Piece, Blank, Comment, Run, Constant, Single, 
 use Rattle.xdr_tokens.specs.Text.{with_token}
 use Rattle.xdr_tokens.specs.Text.{Cuts, Tokens}
 use Rattle.xdr_tokens.proofs.Options.{some_is, some_is_not}
-use Rattle.xdr_tokens.proofs.Pieces.{piece_found, piece_again}
+use Rattle.xdr_tokens.proofs.Pieces.{one_byte, piece_found, piece_again}
 
 longer : (p : Piece) (rest : List ℕ) → MayPrecede p rest → length rest < length (spelling p rest)
 longer (Blank b) rest h = omega arith
@@ -21,7 +21,7 @@ longer (Run []) rest h = absurd h.0
 longer (Run (b ∷ run)) rest h = omega (arith, length-append run rest)
 longer (Constant [] v) rest h = absurd h.0
 longer (Constant (b ∷ run) v) rest h = omega (arith, length-append run rest)
-longer (Single m) rest h = omega arith
+longer (Single m) rest h = rw (one_byte m) (omega arith)
 
 pub shorter : (bs : List ℕ) (y : Option Lexeme × List ℕ) → piece_at bs ≡ Some y → length y.1 < length bs
 shorter bs y e =

@@ -1,7 +1,6 @@
 -- The tokens of a text (RFC 4506 section 6.2): it is cut into pieces, each as long as it can be, and comments and white
 -- space are dropped.
-use Rattle.std.specs.Prelude.{◌≡◌, ◌⊎◌, ℕ, ℤ, true, false, ◌&&◌, ◌==◌, if◌then◌else◌, List, [], ◌∷◌, ◌++◌, Option, Some}
-use Rattle.std.specs.Prelude.{None}
+use Rattle.std.specs.Prelude.{◌≡◌, ◌⊎◌, ℕ, ℤ, true, false, ◌&&◌, ◌==◌, List, [], ◌∷◌, ◌++◌, Option, Some, None, codes}
 use Rattle.xdr_tokens.specs.declared.token.Mark.{Mark}
 use Rattle.xdr_tokens.specs.declared.token.Mark.TheVariants as mark
 use Rattle.xdr_tokens.specs.Tokens.{Lexeme, Number, Sign}
@@ -16,29 +15,29 @@ pub data Piece : Type 0 where
   Constant : (run : List ℕ) → (value : ℤ) → Piece
   Single : Mark → Piece
 
--- the byte of a mark
-abbrev pub mark_code : Mark → ℕ
-mark_code mark.OpenBrace = 123
-mark_code mark.CloseBrace = 125
-mark_code mark.OpenRound = 40
-mark_code mark.CloseRound = 41
-mark_code mark.OpenBracket = 91
-mark_code mark.CloseBracket = 93
-mark_code mark.Less = 60
-mark_code mark.Greater = 62
-mark_code mark.Equal = 61
-mark_code mark.Comma = 44
-mark_code mark.Semicolon = 59
-mark_code mark.Colon = 58
-mark_code mark.Star = 42
+-- how a mark is spelled
+abbrev pub mark_text : Mark → List ℕ
+mark_text mark.OpenBrace = codes "{"
+mark_text mark.CloseBrace = codes "}"
+mark_text mark.OpenRound = codes "("
+mark_text mark.CloseRound = codes ")"
+mark_text mark.OpenBracket = codes "["
+mark_text mark.CloseBracket = codes "]"
+mark_text mark.Less = codes "<"
+mark_text mark.Greater = codes ">"
+mark_text mark.Equal = codes "="
+mark_text mark.Comma = codes ","
+mark_text mark.Semicolon = codes ";"
+mark_text mark.Colon = codes ":"
+mark_text mark.Star = codes "*"
 
 -- the bytes of a piece, and those that follow it
 abbrev pub spelling : Piece → List ℕ → List ℕ
 spelling (Blank b) bs = b ∷ bs
-spelling (Comment inside) bs = 47 ∷ 42 ∷ inside ++ 42 ∷ 47 ∷ bs
+spelling (Comment inside) bs = codes "/*" ++ (inside ++ (codes "*/" ++ bs))
 spelling (Run run) bs = run ++ bs
 spelling (Constant run v) bs = run ++ bs
-spelling (Single m) bs = mark_code m ∷ bs
+spelling (Single m) bs = mark_text m ++ bs
 
 -- letters, digits and _ alone
 abbrev pub IsRun : List ℕ → Type 0
@@ -105,12 +104,3 @@ Tokens text ts = (ps : List Piece) × Cuts ps text ts
 abbrev pub marks : List Mark
 marks = mark.OpenBrace ∷ mark.CloseBrace ∷ mark.OpenRound ∷ mark.CloseRound ∷ mark.OpenBracket ∷ mark.CloseBracket ∷
     mark.Less ∷ mark.Greater ∷ mark.Equal ∷ mark.Comma ∷ mark.Semicolon ∷ mark.Colon ∷ mark.Star ∷ []
-
--- the mark of the list with that byte
-abbrev pub mark_among : List Mark → ℕ → Option Mark
-mark_among [] b = None
-mark_among (m ∷ ms) b = if b == mark_code m then Some m else mark_among ms b
-
--- the mark with that byte
-abbrev pub mark_of : ℕ → Option Mark
-mark_of b = mark_among marks b

@@ -4,8 +4,8 @@ ghost use Rattle.std.specs.Prelude.{option_map};
 ghost use Rattle.xdr_tokens.specs.Tokens.{Lexeme, lexeme, lexemes};
 ghost use Rattle.xdr_tokens.specs.Due.{Gives};
 ghost use Rattle.xdr_tokens.specs.Refusals.{IsTokenFault, wrong_number};
-ghost use Rattle.xdr_tokens.specs.Text.{Tokens, with_token, mark_of};
-ghost use Rattle.xdr_tokens.specs.Private.Front.{comment_at, numeral_at, piece_at};
+ghost use Rattle.xdr_tokens.specs.Text.{Tokens, with_token};
+ghost use Rattle.xdr_tokens.specs.Private.Front.{comment_at, mark_of, numeral_at, piece_at};
 
 use crate::bytes::{digit, letter, run_length, skip_comment, space};
 use crate::fault::{Fault, Wrong};
@@ -24,6 +24,7 @@ fn refused(wrong: Wrong, text: &[u8]) -> Fault
     }
 }
 
+/// The mark with that byte.
 fn mark_at(byte: u8) -> Option<Mark>
     ensures { result ≡ mark_of byte }
 {

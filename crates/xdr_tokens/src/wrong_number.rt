@@ -7,6 +7,7 @@ use crate::fault::Wrong;
 impl Wrong {
     /// The number, from 1 to 12 in the order in which the faults are listed. Want of memory is 13.
     pub fn number(self) -> u8
+        // Each wrong has a number of its own.
         ensures number { result ≡ wrong_number self }
         ensures from_1 { 1 ≤ result }
         ensures to_12 { result ≤ 12 }

@@ -6,7 +6,7 @@ use Rattle.xdr_tokens.specs.declared.fault.Wrong.{Wrong}
 use Rattle.xdr_tokens.specs.declared.fault.Wrong.TheVariants as wrong
 use Rattle.xdr_tokens.specs.declared.token.Token.{Token}
 use Rattle.xdr_tokens.specs.declared.token.Token.TheVariants as code
-use Rattle.xdr_grammar.specs.declared.reading.Parser.{Parser}
+use Rattle.xdr_grammar.specs.declared.parser.Parser.{Parser}
 use Rattle.xdr_grammar.specs.declared.misread.Misplaced.{Misplaced}
 use Rattle.xdr_grammar.specs.declared.misread.Misplaced.TheVariants as misplaced
 use Rattle.xdr_grammar.specs.declared.misread.Misread.{Misread}

@@ -3,6 +3,8 @@ use Rattle.std.specs.Prelude.{◌≡◌, ◌≤◌, ℕ, Bool, true, false, List
 use Rattle.std.specs.Prelude.{option_map}
 use Rattle.std.specs.Prelude.{if◌then◌else◌}
 use Rattle.std.specs.BTreeMap.{BTreeMap}
+use Rattle.std.specs.List.{list_any}
+use Rattle.std.specs.Str.{bytes_eq}
 use Rattle.std.specs.BTreeSet.{BTreeSet}
 use denote.Ref.{Bor}
 use Rattle.xdr_grammar.specs.declared.outline.Part.{Part}
@@ -11,7 +13,6 @@ use Rattle.xdr_grammar.specs.Outline.{Field, Part as Shown, IsBasic, IsNamed, Is
 use Rattle.xdr_grammar.specs.Outline.{IsVoid}
 use Rattle.xdr_constants.specs.Tables.{key_texts, at_name}
 use Rattle.xdr_lang.specs.LookUp.{type_named, named_place}
-use Rattle.xdr_lang.specs.Distinct.{has_name}
 
 -- The map has what each type is declared as.
 pub record HasParts (m : BTreeMap (Bor (List ℕ)) Part) (types : List Field) : Type 0 where
@@ -25,14 +26,17 @@ pub record IsPlacedAt (types : List Field) (n : List ℕ) (place steps : ℕ) : 
 pub record HasPlaces (m : BTreeMap (Bor (List ℕ)) (ℕ × ℕ)) (types : List Field) : Type 0 where
   pub right : (n : List ℕ) (place steps : ℕ) → at_name n m ≡ Some (place, steps) → IsPlacedAt types n place steps
 
--- The name is in the set.
+-- the name is in the set
+abbrev pub is_in : BTreeSet (Bor (List ℕ)) → List ℕ → Bool
+is_in s n = list_any (bytes_eq n) (key_texts s.keys)
+
 abbrev pub IsIn : List ℕ → BTreeSet (Bor (List ℕ)) → Type 0
-IsIn n s = has_name n (key_texts s.keys) ≡ true
+IsIn n s = is_in s n ≡ true
 
 -- another name, of the set
 abbrev pub leads_into : BTreeSet (Bor (List ℕ)) → Shown → Bool
 leads_into s (IsBasic b) = false
-leads_into s (IsNamed n) = has_name n (key_texts s.keys)
+leads_into s (IsNamed n) = is_in s n
 leads_into s (IsStruct n) = false
 leads_into s (IsMade k) = false
 leads_into s (IsStructMade k) = false
@@ -41,7 +45,7 @@ leads_into s IsVoid = false
 
 -- A type whose name is in the set is another name, of the set.
 unfoldable pub stays_in : BTreeSet (Bor (List ℕ)) → Field → Bool
-stays_in s f = if has_name f.name (key_texts s.keys) then leads_into s f.part else true
+stays_in s f = if is_in s f.name then leads_into s f.part else true
 
 -- the same of all types
 unfoldable pub all_stay : BTreeSet (Bor (List ℕ)) → List Field → Bool

@@ -1,10 +1,24 @@
 -- Reading one piece from the front of a text.
-use Rattle.std.specs.Prelude.{◌+◌, ℕ, ◌==◌, if◌then◌else◌, List, [], ◌∷◌, take, drop, Option, Some, None}
+use Rattle.std.specs.Prelude.{◌+◌, ℕ, ◌==◌, if◌then◌else◌, List, [], ◌∷◌, take, drop, get_or, Option, Some, None}
 use Rattle.std.specs.Prelude.{option_and_then}
 use Rattle.xdr_tokens.specs.Tokens.{Lexeme, Number, Sign}
 use Rattle.xdr_tokens.specs.Keywords.{word_or_name}
 use Rattle.xdr_tokens.specs.Bytes.{is_space, is_letter, is_digit, run_length, after_comment, number_of}
-use Rattle.xdr_tokens.specs.Text.{mark_of}
+use Rattle.xdr_tokens.specs.declared.token.Mark.{Mark}
+use Rattle.xdr_tokens.specs.Text.{mark_text, marks}
+
+-- the byte of a mark
+abbrev pub mark_code : Mark → ℕ
+mark_code m = get_or (mark_text m) 0 0
+
+-- the mark of the list with that byte
+abbrev pub mark_among : List Mark → ℕ → Option Mark
+mark_among [] b = None
+mark_among (m ∷ ms) b = if b == mark_code m then Some m else mark_among ms b
+
+-- the mark with that byte
+abbrev pub mark_of : ℕ → Option Mark
+mark_of b = mark_among marks b
 
 -- after /
 unfoldable pub comment_at : List ℕ → Option (List ℕ)

@@ -1,7 +1,8 @@
 use Rattle.std.proofs.Common.{refl}
 use Rattle.xdr_grammar.specs.Outline.{Outline}
-use Rattle.xdr_grammar.specs.Private.Reading.{after_word, after_sign, name_at, number_at, value_at, size_at, limit_at}
-use Rattle.xdr_grammar.specs.Private.Reading.{either_sign, numbered_at, repeat, opaque_at, text_at, declared_at}
+use Rattle.xdr_grammar.specs.Private.Taking.{after_word, after_sign, name_at, number_at, value_at, size_at, limit_at}
+use Rattle.xdr_grammar.specs.Private.Taking.{either_sign, numbered_at}
+use Rattle.xdr_grammar.specs.Private.Reading.{repeat, opaque_at, text_at, declared_at}
 use Rattle.xdr_grammar.specs.Private.Reading.{declaration_with, content_with, basic_at, member_at, enum_at, field_with}
 use Rattle.xdr_grammar.specs.Private.Reading.{struct_with, case_at, arm_with, default_with, switch_with, union_with}
 use Rattle.xdr_grammar.specs.Private.Reading.{body_word_at, body_with, specifier_at, passed_with, argument_with}
