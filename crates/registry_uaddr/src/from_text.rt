@@ -10,8 +10,11 @@ use xdr_units::{before_dot, decimal_number};
 /// between them, the last two the port's high and low octet (RFC 5665 section 5.2.3.3). `None` for every other text.
 /// It takes no memory.
 pub fn read_uaddr(text: &[u8]) -> Option<Uaddr>
+    // What is read is what the definition reads:
     ensures value { result ≡ uaddr_of text.now }
+    // the text is that of the address,
     ensures some { IfSome result (λ a. text.now ≡ uaddr_text a) }
+    // and a text that is refused is that of no address.
     ensures none { IfNone result ((a : PlainUaddr) → IsUaddr a → text.now ≡ uaddr_text a → ⊥) }
 {
     read_numbers(text)

@@ -1,6 +1,6 @@
 use Rattle.std.proofs.Common.{rules}
 use Rattle.registry_uaddr.proofs.Chain.{not_only, only_is, only_is_none}
-use Rattle.registry_uaddr.proofs.reading.only_octet.Goals as goal
+use Rattle.registry_uaddr.proofs.from_text.only_octet.Goals as goal
 
 pub returns-in-Some-clause-none : goal.returns-in-Some-clause-none
 returns-in-Some-clause-none c = search (rules, not_only)
