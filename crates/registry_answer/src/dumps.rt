@@ -10,7 +10,7 @@ ghost use Rattle.registry_dumps.specs.Dumps.{rpcb_list, mapping_list};
 ghost use Rattle.registry_answer.specs.Private.Parsed.{text};
 ghost use Rattle.registry_answer.specs.Private.Pushes.{row_bytes, front_bytes, mapping_bytes, mapping_at_bytes};
 
-use registry_dumps::prot_of;
+use registry_rows::prot_of_netid;
 use rpc_directory::{Directory, Row, Uaddr, read_uaddr};
 use std::hash::BuildHasher;
 use xdr_units::{NoMemory, push_word};
@@ -160,7 +160,7 @@ fn push_mapping(row: &Row, out: &mut Vec<u8>) -> Result<(), NoMemory>
     ensures ok { OnOk result (out.new.items ≡ out.old.items ++ mapping_bytes (plain_row row.now)) }
     ensures begins { StartsWith out.new.items out.old.items }
 {
-    match (prot_of(&row.netid), read_uaddr(&row.address)) {
+    match (prot_of_netid(&row.netid), read_uaddr(&row.address)) {
         (Some(prot), Some(address)) => push_mapping_at(row, prot, address, out),
         _ => Ok(()),
     }

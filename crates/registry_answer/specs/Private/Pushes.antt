@@ -8,7 +8,7 @@ use Rattle.rpc_message.specs.Message.{CallView, StatusView, ReplyView}
 use Rattle.rpc_message.specs.Spelling.{reply, IsReply, IsStatus}
 use Rattle.registry_rows.specs.Rows.{Row}
 use Rattle.registry_rows.specs.Steps.{Step}
-use Rattle.registry_dumps.specs.Dumps.{prot_of}
+use Rattle.registry_rows.specs.Ports.{prot_of_netid}
 use Rattle.registry_answer.specs.Private.Parsed.{text}
 use Rattle.registry_answer.specs.Answer.{ComesTo, AnswersCall, accepted}
 use Rattle.registry_answer.specs.Answering.{most}
@@ -52,7 +52,7 @@ mapping_at_bytes r prot a = word 1 ++ (word r.prog ++ (word r.vers ++ (word prot
 -- and of the mapping of a row, where it has one
 abbrev pub mapping_bytes : Row → List ℕ
 mapping_bytes r =
-    option_map_or (λ prot. option_map_or (mapping_at_bytes r prot) (uaddr_of r.address) []) (prot_of r.netid) []
+    option_map_or (λ prot. option_map_or (mapping_at_bytes r prot) (uaddr_of r.address) []) (prot_of_netid r.netid) []
 
 -- A step was made and the reply that tells of it was written.
 pub record Reports (step : Step) (xid : ℕ) (old : List ℕ) (new : List Row) (out : List ℕ) : Type 0 where

@@ -17,9 +17,9 @@ use Rattle.registry_uaddr.specs.Uaddrs.{uaddr_of}
 use Rattle.registry_uaddr.proofs.Inverse.{port_small}
 use Rattle.xdr_units.specs.Numbers.{AreBytes}
 use Rattle.registry_rows.specs.Rows.{Row, IsRow, IsRegistry}
-use Rattle.registry_rows.specs.Ports.{tcp, udp}
+use Rattle.registry_rows.specs.Ports.{tcp, udp, prot_of_netid}
 use Rattle.registry_dumps.specs.Dir.{dir_kinds}
-use Rattle.registry_dumps.specs.Dumps.{linked, rpcb_tree, rpcb_list, mapping_tree, mapping_row, mapping_list, prot_of}
+use Rattle.registry_dumps.specs.Dumps.{linked, rpcb_tree, rpcb_list, mapping_tree, mapping_row, mapping_list}
 use Rattle.registry_dumps.specs.Dumps.{dump_limits}
 
 text_fits : (bs : List ℕ) (most : ℕ) → length bs ≤ most → most ≤ 4294967295 → AreBytes bs
@@ -122,7 +122,7 @@ good_mapping r n a h small port =
           mapping_short r n a;
     }
 
-number_small : (netid : List ℕ) (n : ℕ) → prot_of netid ≡ Some n → n ≤ 17
+number_small : (netid : List ℕ) (n : ℕ) → prot_of_netid netid ≡ Some n → n ≤ 17
 number_small netid n = by (bytes_eq netid tcp) (bytes_eq netid udp)
   where
     is : (a : ℕ) → Some a ≡ Some n → a ≤ 17 → n ≤ 17
@@ -138,13 +138,13 @@ number_small netid n = by (bytes_eq netid tcp) (bytes_eq netid udp)
     by false false e = absurd (true≢false (sym (ap is_some e)))
 
 good_mapping_row : (r : Row) (t : Tree) → IsRow r → mapping_row r ≡ Some t → Good 15 t
-good_mapping_row r t h = by (prot_of r.netid) refl (uaddr_of r.address) refl
+good_mapping_row r t h = by (prot_of_netid r.netid) refl (uaddr_of r.address) refl
   where
     the : Option Tree → Tree
     the None = t
     the (Some u) = u
 
-    by : (n : Option ℕ) → prot_of r.netid ≡ n → (u : Option Uaddr) → uaddr_of r.address ≡ u
+    by : (n : Option ℕ) → prot_of_netid r.netid ≡ n → (u : Option Uaddr) → uaddr_of r.address ≡ u
         → option_and_then (λ prot. option_map (mapping_tree r prot) u) n ≡ Some t → Good 15 t
     by None p u q e = absurd (true≢false (sym (ap is_some e)))
     by (Some n) p None q e = absurd (true≢false (sym (ap is_some e)))
