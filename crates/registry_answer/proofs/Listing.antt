@@ -11,10 +11,10 @@ use Rattle.xdr_units.specs.Numbers.{word, pad, gap}
 use Rattle.xdr_types.specs.Spelling.{bytes_of}
 use Rattle.registry_uaddr.specs.declared.address.Uaddr.{Uaddr}
 use Rattle.registry_uaddr.specs.Uaddrs.{uaddr_of}
+use Rattle.registry_rows.specs.Ports.{prot_of_netid}
 use Rattle.registry_rows.specs.Rows.{Row}
 use Rattle.registry_dumps.specs.Dir.{dir_kinds}
 use Rattle.registry_dumps.specs.Dumps.{linked, rpcb_tree, rpcb_list, mapping_tree, mapping_row, mapping_list}
-use Rattle.registry_rows.specs.Ports.{prot_of_netid}
 use Rattle.registry_answer.specs.Private.Parsed.{text}
 use Rattle.registry_answer.specs.Private.Pushes.{row_bytes, front_bytes, mapping_bytes, mapping_at_bytes}
 
