@@ -1,16 +1,18 @@
 -- What the messages of the examples are answered with.
 use Rattle.std.proofs.Common.{◌≡◌, ℕ, Bool, true, false, ◌&&◌, List, [], ◌∷◌, ◌++◌, length, Option, Some, None, nat_lt}
-use Rattle.std.proofs.Common.{refl, ap, sym, ◌∙◌, subst, arith, append-nil, inr, true≢false}
+use Rattle.std.proofs.Common.{refl, ap, sym, ◌∙◌, subst, arith, append-nil, inr, take, true≢false}
 use Rattle.std.specs.Str.{bytes_eq}
 use Rattle.std.specs.Io.{StartsWith}
 use Rattle.std.proofs.lemmas.Bool.{and_parts}
 use Rattle.std.proofs.lemmas.Bool.Decides.{Decides-ltb}
+use Rattle.std.proofs.lemmas.List.{take_at}
 use Rattle.xdr_units.specs.Numbers.{AreBytes, IsWord}
 use Rattle.xdr_types.specs.Fits.{are_bytes}
 use Rattle.rpc_message.specs.Message.{CallView, CaseView, Whole, OtherVersion, BadCred, StatusView, Success}
 use Rattle.rpc_message.specs.Message.{ProgUnavail, ProgMismatch, ReplyView, Denied, RpcMismatch}
 use Rattle.rpc_message.specs.Spelling.{auth, call as call_bytes, reply, IsStatus, CallBytes, ReplyBytes}
 use Rattle.rpc_message.specs.Cases.{IsCase, IsNoCall, NoAuth, NoTwoCases}
+use Rattle.xdr_laws.specs.Laws.{WholeExactly}
 use Rattle.registry_rows.specs.Rows.{Row}
 use Rattle.registry_rows.specs.Ports.{udp}
 use Rattle.registry_answer.specs.declared.answering.Answered.{Answered}
@@ -23,10 +25,10 @@ use Rattle.registry_answer.specs.Callers.{unknown, anyone, other}
 use Rattle.registry_answer.specs.Procedures.{null, void}
 use Rattle.registry_answer.specs.Answer.{ComesTo, no_program, no_version, success, accepted, auth_error, most_datagram}
 use Rattle.registry_answer.specs.Answer.{is_too_long, denies, accepts, Answers, other_version, bad_cred, call, Answer}
+use Rattle.registry_answer.specs.Answer.{argument_limits}
 use Rattle.registry_answer.specs.Laws.{OneAnswer}
+use Rattle.registry_dumps.specs.Dir.{dir_kinds, void_kind}
 use Rattle.registry_answer.proofs.Cases.{decided, silent}
-use Rattle.registry_answer.proofs.Chains.{begins_added}
-use Rattle.registry_answer.proofs.Statuses.{no_arguments}
 
 -- ---- any message
 
@@ -59,6 +61,9 @@ pub silence : NoTwoCases → (rows new : List Row) (netid message : List ℕ) �
 silence cases rows new netid message fits none result h =
     let s = silent rows netid cases message fits (is_refused result) new (sent_of result) h none in
     (none_sent result s.1, s.0)
+
+begins_added : (a x b : List ℕ) → b ≡ a ++ x → StartsWith b a
+begins_added a x b e = ap (take (length a)) e ∙ take_at a x (length a) refl
 
 -- what stood there stands there still
 pub represents : (rows new : List Row) (netid message old out : List ℕ) (p : Appended)
@@ -199,10 +204,12 @@ module _ (one : OneAnswer) (rows new : List Row) (netid : List ℕ) (refused : B
   versions = come 100000 9 77 (omega arith) (omega arith) (omega arith) (ProgMismatch 2 4) (omega arith, omega arith)
       (no_version refl (inr (omega arith))) refl refl
 
-  pub done : Answer rows netid (call_bytes (call_to 100000 2 0 0)) refused new sent → Reported (accepted 1 (Success []))
-  done = come 100000 2 0 (omega arith) (omega arith) (omega arith) (Success []) tt
+  pub done : WholeExactly dir_kinds → Answer rows netid (call_bytes (call_to 100000 2 0 0)) refused new sent
+      → Reported (accepted 1 (Success []))
+  done exact = come 100000 2 0 (omega arith) (omega arith) (omega arith) (Success []) tt
       (success null void (record {
         program_is = refl;
         version = (omega arith, omega arith);
         procedure_is = refl;
-      }) (no_arguments [])) refl refl
+      }) (0, (exact void_kind argument_limits [] void 0 refl).1 ((refl, (omega arith, omega arith)), [], refl, refl)))
+      refl refl

@@ -12,6 +12,7 @@ use rpc_directory::Directory;
 use rpc_message::five_cases;
 use std::alloc::Global;
 use std::hash::BuildHasher;
+use xdr_laws::whole_exactly;
 
 /// Bytes that are no call get no reply, and the rows stay. Memory is never refused.
 pub fn is_silent_to_no_call<S: BuildHasher>(
@@ -154,6 +155,7 @@ pub fn answers_the_null_call<S: BuildHasher>(
     ensures rows { directory.new ≡ directory.old }
 {
     one_answer();
+    whole_exactly();
     let message = [
         0, 0, 0, 1, 0, 0, 0, 0, 0, 0, 0, 2, 0, 1, 134, 160, 0, 0, 0, 2, 0, 0, 0, 0, 0, 0, 0, 0, 0,
         0, 0, 0, 0, 0, 0, 0, 0, 0, 0, 0,

@@ -3,7 +3,7 @@ ghost use Rattle.std.specs.Prelude.{◌≡◌, ◌∷◌, [], codes, true, Some,
 ghost use Rattle.xdr_types.specs.View.{tree};
 ghost use Rattle.registry_dumps.specs.Dumps.{linked, group, number, content};
 
-use registry_dumps::prot_of;
+use registry_rows::prot_of_netid;
 use rpc_directory::{Directory, NoMemory, directory_schema};
 use std::alloc::Global;
 use std::hash::BuildHasher;
@@ -57,7 +57,11 @@ pub fn dump_without_ports<S: BuildHasher + Drop>(
 pub fn numbers_of_transports() -> (Option<u32>, Option<u32>, Option<u32>)
     ensures { result ≡ (Some 6, Some 17, None) }
 {
-    (prot_of(b"tcp"), prot_of(b"udp"), prot_of(b"tcp6"))
+    (
+        prot_of_netid(b"tcp"),
+        prot_of_netid(b"udp"),
+        prot_of_netid(b"tcp6"),
+    )
 }
 
 /// A dump is a value of its kind in the schema, within a server's limits.

@@ -1,4 +1,8 @@
 //! Worked examples of the registry for users of the libraries, each proved from the contracts alone.
+//!
+//! - `addresses`: universal addresses; `directory`: rows are set, removed and kept; `looking`: rows are looked up
+//! - `dumps`: the rows as values, and the schema of their kinds
+//! - `answers`: one message answered; `served`, `datagrams`: a stream and datagrams of them
 #![tactic(auto)]
 
 pub mod addresses;

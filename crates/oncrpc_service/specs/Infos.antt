@@ -16,6 +16,7 @@ use Rattle.rpc_message.specs.declared.fault.ReplyFault.TheVariants as why
 use Rattle.rpc_message.specs.Message.{CallView, ReplyView, StatusView, WhyView, Accepted, Denied, Success, ProgUnavail}
 use Rattle.rpc_message.specs.Message.{ProgMismatch, ProcUnavail, GarbageArgs, SystemErr, RpcMismatch, AuthError}
 use Rattle.rpc_message.specs.View.{reply_view}
+use Rattle.registry_rows.specs.Program.{program}
 use Rattle.registry_rows.specs.Rows.{Row}
 use Rattle.registry_dumps.specs.Dir.{dir_kinds}
 use Rattle.registry_dumps.specs.Dumps.{dump_limits, rpcb_list}
@@ -27,11 +28,11 @@ use Rattle.oncrpc_tasks.specs.declared.failure.Failure.TheVariants as failure
 use Rattle.oncrpc_tasks.specs.Lines.{line}
 use Rattle.oncrpc_service.specs.Rows.{Mapping, pmap_list, header, row_line, mapping_line}
 
--- the call for all rows: procedure DUMP of program 100000, by nobody (RFC 1833 sections 2.2.1 and 3.2)
+-- the call for all rows: procedure DUMP of its program, by nobody (RFC 1833 sections 2.2.1 and 3.2)
 abbrev pub dump_call : (vers : ℕ) → CallView
 dump_call vers = record {
   xid = 1;
-  prog = 100000;
+  prog = program;
   vers = vers;
   proc = 4;
   cred = record { flavor = 0; body = [] };

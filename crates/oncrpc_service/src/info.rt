@@ -16,6 +16,7 @@ ghost use Rattle.oncrpc_service.specs.Private.Nodes.{list_lines};
 use crate::refusal::{denied_line, fault_line, status_line};
 use crate::rows::push_rows;
 use oncrpc_tasks::{Answer, Failure, line_of, report};
+use registry_rows::PROGRAM;
 use rpc_directory::directory_schema;
 use rpc_engine::{ClientFault, DatagramPort, exchange, exchange_datagram};
 use rpc_message::{Call, OpaqueAuth, Reply, Status};
@@ -23,9 +24,6 @@ use std::alloc::Global;
 use xdr_codec::{DecodeFault, Reason, decode};
 use xdr_io::{Sink, Source, write_whole};
 use xdr_types::{KindId, Limits, NoMemory, Value};
-
-/// The registry's program (RFC 1833 section 2).
-const PROGRAM: u32 = 100000;
 
 /// The procedure that gives all rows (RFC 1833 sections 2.2.1 and 3.2).
 const DUMP: u32 = 4;

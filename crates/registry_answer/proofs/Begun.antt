@@ -11,6 +11,7 @@ use Rattle.xdr_types.specs.Tree.{Head, Values, Tree, depth, from_list}
 use Rattle.xdr_units.specs.Numbers.{word, pad, padded}
 use Rattle.xdr_types.specs.Fits.{Fits, fits, fit, is_legal, is_length, parts, are_bytes}
 use Rattle.xdr_types.specs.Spelling.{bytes_of}
+use Rattle.xdr_laws.specs.Laws.{WholeExactly}
 use Rattle.registry_rows.specs.Rows.{row_of}
 use Rattle.registry_dumps.specs.Dir.{dir_kinds}
 use Rattle.registry_dumps.specs.Dumps.{rpcb_tree, mapping_of}
@@ -155,36 +156,37 @@ a_mapping t h =
           ∙ ap (λ (vs : Values). value.node (value.unsigned d.number) value.none vs) e))));
     }
 
--- no mapping has fewer than 16 bytes
-pub no_mapping : (args : List ℕ) → length args < 16 → AreGarbage 15 args
-no_mapping args short t h =
-    let d = begins 15 args t h in
-    let rest = d.rest in
-    let m = a_mapping t d.fits.0 in
-    let bytes : args ≡ bytes_of dir_kinds 15 (mapping_of m.prog m.vers m.prot m.port) ++ rest = d.is
-    ∙ ap (λ (x : Tree). bytes_of dir_kinds 15 x ++ rest) m.is in
-    let long : length (bytes_of dir_kinds 15 (mapping_of m.prog m.vers m.prot m.port) ++ rest) ≡ 16 + length rest =
-    length-append (bytes_of dir_kinds 15 (mapping_of m.prog m.vers m.prot m.port)) rest in
-    omega (arith, ap length bytes, long, short)
+module _ (exact : WholeExactly dir_kinds) where
+  -- no mapping has fewer than 16 bytes
+  pub no_mapping : (args : List ℕ) → length args < 16 → AreGarbage 15 args
+  no_mapping args short t h =
+      let d = begins exact 15 args t h in
+      let rest = d.rest in
+      let m = a_mapping t d.fits.0 in
+      let bytes : args ≡ bytes_of dir_kinds 15 (mapping_of m.prog m.vers m.prot m.port) ++ rest = d.is
+      ∙ ap (λ (x : Tree). bytes_of dir_kinds 15 x ++ rest) m.is in
+      let long : length (bytes_of dir_kinds 15 (mapping_of m.prog m.vers m.prot m.port) ++ rest) ≡ 16 + length rest =
+      length-append (bytes_of dir_kinds 15 (mapping_of m.prog m.vers m.prot m.port)) rest in
+      omega (arith, ap length bytes, long, short)
 
--- four words are a mapping
-pub whole_mapping : (args : List ℕ) (prog vers prot port : ℕ) (a b c rest : List ℕ) → prog < 2 ^ 32 → vers < 2 ^ 32
-    → prot < 2 ^ 32 → port < 2 ^ 32
-    → args ≡ word prog ++ a → a ≡ word vers ++ b → b ≡ word prot ++ c → c ≡ word port ++ rest
-    → AreArguments 15 args (mapping_of prog vers prot port)
-whole_mapping args prog vers prot port a b c rest p v n o e f g h =
-    let lp : nat_lt prog (2 ^ 32) ≡ true = lt-ltb _ _ (omega arith) in
-    let lv : nat_lt vers (2 ^ 32) ≡ true = lt-ltb _ _ (omega arith) in
-    let ln : nat_lt prot (2 ^ 32) ≡ true = lt-ltb _ _ (omega arith) in
-    let lo : nat_lt port (2 ^ 32) ≡ true = lt-ltb _ _ (omega arith) in
-    let fits : fits dir_kinds 15 (mapping_of prog vers prot port) ≡ true =
-    λ j. (lp j && true) && ((lv j && true) && ((ln j && true) && ((lo j && true) && true))) in
-    decoded 15 args (mapping_of prog vers prot port) (record {
-      fits = (fits, (omega arith, omega arith));
-      rest = rest;
-      is = e ∙ ap (λ (x : List ℕ). word prog ++ x)
-          (f ∙ ap (λ (x : List ℕ). word vers ++ x) (g ∙ ap (λ (x : List ℕ). word prot ++ x) h));
-    })
+  -- four words are a mapping
+  pub whole_mapping : (args : List ℕ) (prog vers prot port : ℕ) (a b c rest : List ℕ) → prog < 2 ^ 32 → vers < 2 ^ 32
+      → prot < 2 ^ 32 → port < 2 ^ 32
+      → args ≡ word prog ++ a → a ≡ word vers ++ b → b ≡ word prot ++ c → c ≡ word port ++ rest
+      → AreArguments 15 args (mapping_of prog vers prot port)
+  whole_mapping args prog vers prot port a b c rest p v n o e f g h =
+      let lp : nat_lt prog (2 ^ 32) ≡ true = lt-ltb _ _ (omega arith) in
+      let lv : nat_lt vers (2 ^ 32) ≡ true = lt-ltb _ _ (omega arith) in
+      let ln : nat_lt prot (2 ^ 32) ≡ true = lt-ltb _ _ (omega arith) in
+      let lo : nat_lt port (2 ^ 32) ≡ true = lt-ltb _ _ (omega arith) in
+      let fits : fits dir_kinds 15 (mapping_of prog vers prot port) ≡ true =
+      λ j. (lp j && true) && ((lv j && true) && ((ln j && true) && ((lo j && true) && true))) in
+      decoded exact 15 args (mapping_of prog vers prot port) (record {
+        fits = (fits, (omega arith, omega arith));
+        rest = rest;
+        is = e ∙ ap (λ (x : List ℕ). word prog ++ x)
+            (f ∙ ap (λ (x : List ℕ). word vers ++ x) (g ∙ ap (λ (x : List ℕ). word prot ++ x) h));
+      })
 
 -- ---- rpcbs
 
@@ -268,103 +270,104 @@ record Begun (args : List ℕ) : Type 0 where
   is : args ≡ word prog ++ (word vers ++ (text netid ++ (text address ++ (text owner ++ rest))))
   within : length args ≤ 65536 + length rest
 
-begun_of : (args : List ℕ) (t : Tree) → AreArguments 11 args t → Begun args
-begun_of args t h =
-    let d = begins 11 args t h in
-    let rest = d.rest in
-    let r = an_rpcb t d.fits.0 in
-    let many : length args ≡ length (bytes_of dir_kinds 11 t) + length rest = ap length d.is
-    ∙ length-append (bytes_of dir_kinds 11 t) rest in
-    let few : length (bytes_of dir_kinds 11 t) ≤ 65536 = d.fits.1.1 in
-    record {
-      prog = r.prog;
-      vers = r.vers;
-      netid = r.netid;
-      address = r.address;
-      owner = r.owner;
-      rest = rest;
-      prog_small = r.prog_small;
-      vers_small = r.vers_small;
-      netid_small = r.netid_small;
-      address_small = r.address_small;
-      owner_small = r.owner_small;
-      is = d.is ∙ ap (λ (x : Tree). bytes_of dir_kinds 11 x ++ rest) r.is
-          ∙ spelled r.prog r.vers r.netid r.address r.owner rest;
-      within = omega (arith, many, few);
-    }
+module _ (exact : WholeExactly dir_kinds) where
+  begun_of : (args : List ℕ) (t : Tree) → AreArguments 11 args t → Begun args
+  begun_of args t h =
+      let d = begins exact 11 args t h in
+      let rest = d.rest in
+      let r = an_rpcb t d.fits.0 in
+      let many : length args ≡ length (bytes_of dir_kinds 11 t) + length rest = ap length d.is
+      ∙ length-append (bytes_of dir_kinds 11 t) rest in
+      let few : length (bytes_of dir_kinds 11 t) ≤ 65536 = d.fits.1.1 in
+      record {
+        prog = r.prog;
+        vers = r.vers;
+        netid = r.netid;
+        address = r.address;
+        owner = r.owner;
+        rest = rest;
+        prog_small = r.prog_small;
+        vers_small = r.vers_small;
+        netid_small = r.netid_small;
+        address_small = r.address_small;
+        owner_small = r.owner_small;
+        is = d.is ∙ ap (λ (x : Tree). bytes_of dir_kinds 11 x ++ rest) r.is
+            ∙ spelled r.prog r.vers r.netid r.address r.owner rest;
+        within = omega (arith, many, few);
+      }
 
--- no rpcb where there is no first word,
-pub no_prog : (args : List ℕ) → length args < 4 → AreGarbage 11 args
-no_prog args short t h = let b = begun_of args t h in short_word args b.prog _ short b.is
+  -- no rpcb where there is no first word,
+  pub no_prog : (args : List ℕ) → length args < 4 → AreGarbage 11 args
+  no_prog args short t h = let b = begun_of args t h in short_word args b.prog _ short b.is
 
-module _ (args : List ℕ) (prog : ℕ) (x1 : List ℕ) (prog_small : prog < 2 ^ 32) (e1 : args ≡ word prog ++ x1) where
-  after1 : (b : Begun args) → x1 ≡ word b.vers ++ (text b.netid ++ (text b.address ++ (text b.owner ++ b.rest)))
-  after1 b = (same_word prog b.prog x1 _ prog_small b.prog_small (sym e1 ∙ b.is)).1
+  module _ (args : List ℕ) (prog : ℕ) (x1 : List ℕ) (prog_small : prog < 2 ^ 32) (e1 : args ≡ word prog ++ x1) where
+    after1 : (b : Begun args) → x1 ≡ word b.vers ++ (text b.netid ++ (text b.address ++ (text b.owner ++ b.rest)))
+    after1 b = (same_word prog b.prog x1 _ prog_small b.prog_small (sym e1 ∙ b.is)).1
 
-  -- no second,
-  pub no_vers : length x1 < 4 → AreGarbage 11 args
-  no_vers short t h = let b = begun_of args t h in short_word x1 b.vers _ short (after1 b)
+    -- no second,
+    pub no_vers : length x1 < 4 → AreGarbage 11 args
+    no_vers short t h = let b = begun_of args t h in short_word x1 b.vers _ short (after1 b)
 
-  module _ (vers : ℕ) (x2 : List ℕ) (vers_small : vers < 2 ^ 32) (e2 : x1 ≡ word vers ++ x2) where
-    after2 : (b : Begun args) → x2 ≡ text b.netid ++ (text b.address ++ (text b.owner ++ b.rest))
-    after2 b = (same_word vers b.vers x2 _ vers_small b.vers_small (sym e2 ∙ after1 b)).1
+    module _ (vers : ℕ) (x2 : List ℕ) (vers_small : vers < 2 ^ 32) (e2 : x1 ≡ word vers ++ x2) where
+      after2 : (b : Begun args) → x2 ≡ text b.netid ++ (text b.address ++ (text b.owner ++ b.rest))
+      after2 b = (same_word vers b.vers x2 _ vers_small b.vers_small (sym e2 ∙ after1 b)).1
 
-    -- no netid,
-    pub no_netid : HasNoText x2 → AreGarbage 11 args
-    no_netid none t h = let b = begun_of args t h in none b.netid _ b.netid_small (after2 b)
+      -- no netid,
+      pub no_netid : HasNoText x2 → AreGarbage 11 args
+      no_netid none t h = let b = begun_of args t h in none b.netid _ b.netid_small (after2 b)
 
-    module _ (netid x3 : List ℕ) (netid_small : length netid < 2 ^ 32) (e3 : x2 ≡ text netid ++ x3) where
-      after3 : (b : Begun args) → x3 ≡ text b.address ++ (text b.owner ++ b.rest)
-      after3 b = (text_front netid b.netid x3 _ netid_small b.netid_small (sym e3 ∙ after2 b)).1
+      module _ (netid x3 : List ℕ) (netid_small : length netid < 2 ^ 32) (e3 : x2 ≡ text netid ++ x3) where
+        after3 : (b : Begun args) → x3 ≡ text b.address ++ (text b.owner ++ b.rest)
+        after3 b = (text_front netid b.netid x3 _ netid_small b.netid_small (sym e3 ∙ after2 b)).1
 
-      -- no address,
-      pub no_address : HasNoText x3 → AreGarbage 11 args
-      no_address none t h = let b = begun_of args t h in none b.address _ b.address_small (after3 b)
+        -- no address,
+        pub no_address : HasNoText x3 → AreGarbage 11 args
+        no_address none t h = let b = begun_of args t h in none b.address _ b.address_small (after3 b)
 
-      module _ (address x4 : List ℕ) (address_small : length address < 2 ^ 32) (e4 : x3 ≡ text address ++ x4) where
-        after4 : (b : Begun args) → x4 ≡ text b.owner ++ b.rest
-        after4 b = (text_front address b.address x4 _ address_small b.address_small (sym e4 ∙ after3 b)).1
+        module _ (address x4 : List ℕ) (address_small : length address < 2 ^ 32) (e4 : x3 ≡ text address ++ x4) where
+          after4 : (b : Begun args) → x4 ≡ text b.owner ++ b.rest
+          after4 b = (text_front address b.address x4 _ address_small b.address_small (sym e4 ∙ after3 b)).1
 
-        -- no owner,
-        pub no_owner : HasNoText x4 → AreGarbage 11 args
-        no_owner none t h = let b = begun_of args t h in none b.owner _ b.owner_small (after4 b)
+          -- no owner,
+          pub no_owner : HasNoText x4 → AreGarbage 11 args
+          no_owner none t h = let b = begun_of args t h in none b.owner _ b.owner_small (after4 b)
 
-        module _ (owner x5 : List ℕ) (owner_small : length owner < 2 ^ 32) (e5 : x4 ≡ text owner ++ x5) where
-          after5 : (b : Begun args) → x5 ≡ b.rest
-          after5 b = (text_front owner b.owner x5 b.rest owner_small b.owner_small (sym e5 ∙ after4 b)).1
+          module _ (owner x5 : List ℕ) (owner_small : length owner < 2 ^ 32) (e5 : x4 ≡ text owner ++ x5) where
+            after5 : (b : Begun args) → x5 ≡ b.rest
+            after5 b = (text_front owner b.owner x5 b.rest owner_small b.owner_small (sym e5 ∙ after4 b)).1
 
-          -- or too many bytes;
-          pub too_large : 65536 < length args - length x5 → AreGarbage 11 args
-          too_large long t h = let b = begun_of args t h in omega (arith, ap length (after5 b), b.within, long)
+            -- or too many bytes;
+            pub too_large : 65536 < length args - length x5 → AreGarbage 11 args
+            too_large long t h = let b = begun_of args t h in omega (arith, ap length (after5 b), b.within, long)
 
-          all : args ≡ bytes_of dir_kinds 11 (rpcb_tree (row_of prog vers netid address owner)) ++ x5
-          all = e1 ∙ ap (λ (x : List ℕ). word prog ++ x) (e2 ∙ ap (λ (x : List ℕ). word vers ++ x) (e3
-              ∙ ap (λ (x : List ℕ). text netid ++ x) (e4 ∙ ap (λ (x : List ℕ). text address ++ x) e5)))
-              ∙ sym (spelled prog vers netid address owner x5)
+            all : args ≡ bytes_of dir_kinds 11 (rpcb_tree (row_of prog vers netid address owner)) ++ x5
+            all = e1 ∙ ap (λ (x : List ℕ). word prog ++ x) (e2 ∙ ap (λ (x : List ℕ). word vers ++ x) (e3
+                ∙ ap (λ (x : List ℕ). text netid ++ x) (e4 ∙ ap (λ (x : List ℕ). text address ++ x) e5)))
+                ∙ sym (spelled prog vers netid address owner x5)
 
-          -- else an rpcb
-          pub whole_rpcb : are_bytes args ≡ true → length args - length x5 ≤ 65536
-              → AreArguments 11 args (rpcb_tree (row_of prog vers netid address owner))
-          whole_rpcb bytes few =
-              let b1 = bytes_append (word prog) x1 (subst (λ (x : List ℕ). are_bytes x ≡ true) e1 bytes) in
-              let b2 = bytes_append (word vers) x2 (subst (λ (x : List ℕ). are_bytes x ≡ true) e2 b1.1) in
-              let b3 = bytes_text netid x3 (subst (λ (x : List ℕ). are_bytes x ≡ true) e3 b2.1) in
-              let b4 = bytes_text address x4 (subst (λ (x : List ℕ). are_bytes x ≡ true) e4 b3.1) in
-              let b5 = bytes_text owner x5 (subst (λ (x : List ℕ). are_bytes x ≡ true) e5 b4.1) in
-              let bn = b3.0 in
-              let ba = b4.0 in
-              let bo = b5.0 in
-              let lp : nat_lt prog (2 ^ 32) ≡ true = lt-ltb _ _ (omega arith) in
-              let lv : nat_lt vers (2 ^ 32) ≡ true = lt-ltb _ _ (omega arith) in
-              let ln : is_length 4294967295 (length netid) ≡ true = short_enough (length netid) (omega arith) in
-              let la : is_length 4294967295 (length address) ≡ true = short_enough (length address) (omega arith) in
-              let lo : is_length 4294967295 (length owner) ≡ true = short_enough (length owner) (omega arith) in
-              let legal : fits dir_kinds 11 (rpcb_tree (row_of prog vers netid address owner)) ≡ true =
-              λ j. (lp j && true) && ((lv j && true) && (((ln j && bn j) && true) &&
-              (((la j && ba j) && true) && (((lo j && bo j) && true) && true)))) in
-              let many : length args ≡ length
-              (bytes_of dir_kinds 11 (rpcb_tree (row_of prog vers netid address owner))) + length x5 =
-              ap length all ∙ length-append
-              (bytes_of dir_kinds 11 (rpcb_tree (row_of prog vers netid address owner))) x5 in
-              decoded 11 args (rpcb_tree (row_of prog vers netid address owner))
-              (record { fits = (legal, (omega arith, omega (arith, many, few))); rest = x5; is = all })
+            -- else an rpcb
+            pub whole_rpcb : are_bytes args ≡ true → length args - length x5 ≤ 65536
+                → AreArguments 11 args (rpcb_tree (row_of prog vers netid address owner))
+            whole_rpcb bytes few =
+                let b1 = bytes_append (word prog) x1 (subst (λ (x : List ℕ). are_bytes x ≡ true) e1 bytes) in
+                let b2 = bytes_append (word vers) x2 (subst (λ (x : List ℕ). are_bytes x ≡ true) e2 b1.1) in
+                let b3 = bytes_text netid x3 (subst (λ (x : List ℕ). are_bytes x ≡ true) e3 b2.1) in
+                let b4 = bytes_text address x4 (subst (λ (x : List ℕ). are_bytes x ≡ true) e4 b3.1) in
+                let b5 = bytes_text owner x5 (subst (λ (x : List ℕ). are_bytes x ≡ true) e5 b4.1) in
+                let bn = b3.0 in
+                let ba = b4.0 in
+                let bo = b5.0 in
+                let lp : nat_lt prog (2 ^ 32) ≡ true = lt-ltb _ _ (omega arith) in
+                let lv : nat_lt vers (2 ^ 32) ≡ true = lt-ltb _ _ (omega arith) in
+                let ln : nat_le (length netid) 4294967295 ≡ true = le-leb _ _ (omega arith) in
+                let la : nat_le (length address) 4294967295 ≡ true = le-leb _ _ (omega arith) in
+                let lo : nat_le (length owner) 4294967295 ≡ true = le-leb _ _ (omega arith) in
+                let legal : fits dir_kinds 11 (rpcb_tree (row_of prog vers netid address owner)) ≡ true =
+                λ j. (lp j && true) && ((lv j && true) && ((((ln j && ln j) && bn j) && true) &&
+                ((((la j && la j) && ba j) && true) && ((((lo j && lo j) && bo j) && true) && true)))) in
+                let many : length args ≡ length
+                (bytes_of dir_kinds 11 (rpcb_tree (row_of prog vers netid address owner))) + length x5 =
+                ap length all ∙ length-append
+                (bytes_of dir_kinds 11 (rpcb_tree (row_of prog vers netid address owner))) x5 in
+                decoded exact 11 args (rpcb_tree (row_of prog vers netid address owner))
+                (record { fits = (legal, (omega arith, omega (arith, many, few))); rest = x5; is = all })

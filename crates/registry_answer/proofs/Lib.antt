@@ -1,6 +1,7 @@
 pub mod Chains
 pub mod Fields
 pub mod Decoded
+pub mod Entries
 pub mod Begun
 pub mod Statuses
 pub mod Reporting

@@ -11,9 +11,10 @@ use Rattle.xdr_units.specs.Numbers.{word, pad, gap}
 use Rattle.xdr_types.specs.Spelling.{bytes_of}
 use Rattle.registry_uaddr.specs.declared.address.Uaddr.{Uaddr}
 use Rattle.registry_uaddr.specs.Uaddrs.{uaddr_of}
+use Rattle.registry_rows.specs.Ports.{prot_of_netid}
 use Rattle.registry_rows.specs.Rows.{Row}
 use Rattle.registry_dumps.specs.Dir.{dir_kinds}
-use Rattle.registry_dumps.specs.Dumps.{linked, rpcb_tree, rpcb_list, mapping_tree, mapping_row, mapping_list, prot_of}
+use Rattle.registry_dumps.specs.Dumps.{linked, rpcb_tree, rpcb_list, mapping_tree, mapping_row, mapping_list}
 use Rattle.registry_answer.specs.Private.Parsed.{text}
 use Rattle.registry_answer.specs.Private.Pushes.{row_bytes, front_bytes, mapping_bytes, mapping_at_bytes}
 
@@ -38,7 +39,7 @@ rows_spelled (r ∷ rows) =
 pub mappings_spelled : (rows : List Row) → bytes_of dir_kinds 18 (mapping_list rows) ≡ flat_map mapping_bytes rows
     ++ word 0
 mappings_spelled [] = refl
-mappings_spelled (r ∷ rows) = by (prot_of r.netid) (uaddr_of r.address) (mappings_spelled rows)
+mappings_spelled (r ∷ rows) = by (prot_of_netid r.netid) (uaddr_of r.address) (mappings_spelled rows)
   where
     by : (n : Option ℕ) (u : Option Uaddr)
         → bytes_of dir_kinds 18 (linked (filter_map mapping_row rows)) ≡ flat_map mapping_bytes rows ++ word 0

@@ -9,11 +9,12 @@ use Rattle.rpc_message.specs.Message.{ReplyView, Success, ProgUnavail, ProgMisma
 use Rattle.rpc_message.specs.Message.{SystemErr}
 use Rattle.rpc_message.specs.Cases.{IsCase}
 use Rattle.rpc_message.specs.Spelling.{IsAuth, IsReply, IsStatus, reply}
+use Rattle.registry_rows.specs.Program.{program}
 use Rattle.registry_rows.specs.Rows.{Row}
 use Rattle.registry_answer.specs.Callers.{Caller, Owner, Refused, owner_of, IsCaller, anyone, user, unreadable}
 use Rattle.registry_answer.specs.Callers.{other, unknown}
 use Rattle.registry_answer.specs.Procedures.{Procedure, procedure_at}
-use Rattle.registry_answer.specs.Answer.{program, IsVersion, IsCallOf, ComesTo, no_program, no_version, no_procedure}
+use Rattle.registry_answer.specs.Answer.{IsVersion, IsCallOf, ComesTo, no_program, no_version, no_procedure}
 use Rattle.registry_answer.specs.Answer.{garbage, success, accepted, auth_error, is_too_long}
 use Rattle.registry_answer.specs.Answer.{AnswersCall, denies, accepts}
 use Rattle.registry_answer.specs.Answer.{too_long, Answers, silence, other_version, bad_cred, bad_verf, call, Answer}

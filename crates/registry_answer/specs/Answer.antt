@@ -1,6 +1,6 @@
 -- What the registry answers to a record (RFC 5531 section 9, RFC 1833 sections 2 and 3).
-use Rattle.std.specs.Prelude.{◌≡◌, ◌≢◌, ◌⊎◌, ℕ, ◌<◌, ◌≤◌, nat_lt, Bool, true, false, ◌&&◌, List, [], length, Option}
-use Rattle.std.specs.Prelude.{Some, None, ⊤}
+use Rattle.std.specs.Prelude.{◌≡◌, ◌≢◌, ◌⊎◌, ℕ, ◌<◌, ◌≤◌, ◌^◌, nat_lt, Bool, true, false, ◌&&◌, List, [], length}
+use Rattle.std.specs.Prelude.{Option, Some, None, ⊤}
 use Rattle.std.specs.Str.{bytes_eq}
 use Rattle.xdr_types.specs.Tree.{Tree}
 use Rattle.xdr_types.specs.Spelling.{bytes_of}
@@ -14,15 +14,16 @@ use Rattle.rpc_message.specs.Cases.{IsCase}
 use Rattle.rpc_message.specs.Spelling.{ReplyBytes, reply}
 use Rattle.registry_rows.specs.Rows.{Row}
 use Rattle.registry_rows.specs.Ports.{udp}
+use Rattle.registry_rows.specs.Program.{program, lowest_version, highest_version}
 use Rattle.registry_dumps.specs.Dir.{dir_kinds}
-use Rattle.registry_answer.specs.Callers.{Owner, Refused, IsCaller}
+use Rattle.registry_answer.specs.Callers.{Owner, Refused, IsCaller, auth_badcred, auth_badverf}
 use Rattle.registry_answer.specs.Procedures.{Procedure, procedure_at}
 
 -- ---- arguments
 
 -- the limits within which arguments are decoded (this project's own)
 abbrev pub argument_limits : Bounds
-argument_limits = record { depth = 4096; bytes = 65536 }
+argument_limits = record { depth = 4096; bytes = 2 ^ 16 }
 
 -- decoding the arguments ends with the whole value t of the kind; bytes after it are ignored
 abbrev pub AreArguments : (kind : ℕ) → List ℕ → Tree → Type 0
@@ -34,13 +35,9 @@ AreGarbage kind args = (t : Tree) → AreArguments kind args t → ⊥
 
 -- ---- what an accepted call comes to, by the first check that fails
 
--- the registry's program (RFC 1833 section 2)
-abbrev pub program : ℕ
-program = 100000
-
--- a version of it (RFC 1833 sections 2 and 3)
+-- a version of the registry's program (RFC 1833 sections 2 and 3)
 abbrev pub IsVersion : ℕ → Type 0
-IsVersion vers = (2 ≤ vers) × (vers ≤ 4)
+IsVersion vers = (lowest_version ≤ vers) × (vers ≤ highest_version)
 
 -- The call names the registry's program, one of its versions, and a procedure that this version has.
 pub record IsCallOf (c : CallView) (p : Procedure) : Type 0 where
@@ -53,7 +50,8 @@ pub data ComesTo (rows : List Row) (netid owner : List ℕ) (c : CallView) : Lis
   -- another program: PROG_UNAVAIL
   no_program : c.prog ≢ program → ComesTo rows netid owner c rows ProgUnavail
   -- another version: PROG_MISMATCH
-  no_version : c.prog ≡ program → (c.vers < 2) ⊎ (4 < c.vers) → ComesTo rows netid owner c rows (ProgMismatch 2 4)
+  no_version : c.prog ≡ program → (c.vers < lowest_version) ⊎ (highest_version < c.vers)
+      → ComesTo rows netid owner c rows (ProgMismatch lowest_version highest_version)
   -- no such procedure: PROC_UNAVAIL
   no_procedure : c.prog ≡ program → IsVersion c.vers → procedure_at c.vers c.proc ≡ None
       → ComesTo rows netid owner c rows ProcUnavail
@@ -110,9 +108,9 @@ pub data Answers (rows : List Row) (netid : List ℕ) : CaseView → (refused : 
   other_version : (xid version : ℕ)
       → Answers rows netid (OtherVersion xid version) false rows (Some (Denied xid (RpcMismatch 2 2)))
   -- no credential: AUTH_BADCRED
-  bad_cred : (xid : ℕ) → Answers rows netid (BadCred xid) false rows (Some (auth_error xid 1))
+  bad_cred : (xid : ℕ) → Answers rows netid (BadCred xid) false rows (Some (auth_error xid auth_badcred))
   -- no verifier: AUTH_BADVERF
-  bad_verf : (xid : ℕ) → Answers rows netid (BadVerf xid) false rows (Some (auth_error xid 3))
+  bad_verf : (xid : ℕ) → Answers rows netid (BadVerf xid) false rows (Some (auth_error xid auth_badverf))
   -- a call
   call : (c : CallView) (new : List Row) (r : ReplyView) → AnswersCall rows netid c new r
       → Answers rows netid (Whole c) false new (Some r)

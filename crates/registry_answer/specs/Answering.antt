@@ -1,5 +1,5 @@
 -- What writing an answer does.
-use Rattle.std.specs.Prelude.{◌≡◌, ℕ, ◌≤◌, true, false, List, ◌++◌, length, Some, None, Result, Ok, Err}
+use Rattle.std.specs.Prelude.{◌≡◌, ℕ, ◌+◌, ◌^◌, ◌≤◌, true, false, List, ◌++◌, length, Some, None, Result, Ok, Err}
 use Rattle.rpc_message.specs.Message.{SystemErr}
 use Rattle.rpc_message.specs.Spelling.{reply}
 use Rattle.registry_rows.specs.Rows.{Row}
@@ -12,9 +12,9 @@ abbrev pub appended_of : {E : Type 0} → ℕ → Result (Unit {0}) E → Append
 appended_of xid (Ok u) = appended.Reply
 appended_of xid (Err e) = appended.OutOfMemory xid
 
--- the most bytes of a reply: 24 before the results (RFC 5531 section 9), and 16777216 of these
+-- the most bytes of a reply: 24 before the results (RFC 5531 section 9), and 2 ^ 24 of these
 abbrev pub most : ℕ
-most = 16777240
+most = 24 + 2 ^ 24
 
 -- The bytes were written, and they are not too many for a record.
 pub record Adds (old out bytes : List ℕ) : Type 0 where

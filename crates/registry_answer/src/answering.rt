@@ -11,10 +11,10 @@ ghost use Rattle.registry_answer.specs.Owners.{owner_text};
 ghost use Rattle.registry_answer.specs.Private.Pushes.{PushesCall};
 ghost use Rattle.registry_answer.specs.Views.{netid_of, is_refused, sent_of};
 
-use crate::callers::{AUTH_BADCRED, AUTH_BADVERF, Caller, Owner, caller_of};
+use crate::accepted::{Asked, push_accepted};
+use crate::callers::{AUTH_BADCRED, AUTH_BADVERF, Caller, caller_of};
 use crate::replies::{cut_to_system_err, push_auth_error, push_rpc_mismatch};
 use crate::transport::Transport;
-use crate::versions::push_accepted;
 use rpc_directory::Directory;
 use rpc_message::{LentCall, LentRead, read_lent_call};
 use std::alloc::Global;
@@ -142,7 +142,14 @@ fn push_call<S: BuildHasher>(
     ensures begins { StartsWith out.new.items out.old.items }
 {
     match caller_of(alloc, &call.cred) {
-        Ok(Caller::Owner(owner)) => push_sendable(alloc, directory, transport, owner, call, out),
+        Ok(Caller::Owner(owner)) => {
+            let asked = Asked {
+                transport,
+                owner,
+                call: *call,
+            };
+            push_sendable(alloc, directory, &asked, out)
+        }
         Ok(Caller::Refused(stat)) => push_auth_error(out, call.xid, stat),
         Err(_) => Err(NoMemory),
     }
@@ -154,21 +161,19 @@ fn push_call<S: BuildHasher>(
 fn push_sendable<S: BuildHasher>(
     alloc: Global,
     directory: &mut Directory<S>,
-    transport: Transport,
-    owner: Owner,
-    call: &LentCall<'_>,
+    asked: &Asked<'_>,
     out: &mut Vec<u8>,
 ) -> Result<(), NoMemory>
-    requires word { IsWord call.now.xid }
-    requires caller { IsCaller (lent_call_view call.now).cred (Believed (owner_text owner)) }
-    ensures ok { let c = lent_call_view call.now in
-        OnOk result (PushesCall directory.old (netid_of transport) c out.old.items directory.new out.new.items) }
+    requires word { IsWord asked.now.call.xid }
+    requires caller { IsCaller (lent_call_view asked.now.call).cred (Believed (owner_text asked.now.owner)) }
+    ensures ok { let c = lent_call_view asked.now.call in OnOk result
+        (PushesCall directory.old (netid_of asked.now.transport) c out.old.items directory.new out.new.items) }
     ensures err { OnErr result (directory.new ≡ directory.old) }
     ensures begins { StartsWith out.new.items out.old.items }
 {
     let before = out.len();
-    push_accepted(alloc, directory, transport, owner, call, out)?;
-    if !transport.carries(out.len() - before) {
+    push_accepted(alloc, directory, asked, out)?;
+    if !asked.transport.carries(out.len() - before) {
         cut_to_system_err(out, before);
     }
     Ok(())

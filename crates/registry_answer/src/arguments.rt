@@ -1,8 +1,10 @@
 //! Arguments, as they lie in the bytes of a call. Nothing here takes memory.
 ghost use Rattle.std.specs.Prelude.{◌≡◌, ◌++◌, ◌<◌, ◌^◌, length, MatchOption};
+ghost use Rattle.registry_dumps.specs.Dir.{mapping_kind, rpcb_kind};
 ghost use Rattle.registry_answer.specs.Answer.{AreArguments, AreGarbage};
 ghost use Rattle.registry_answer.specs.Private.Parsed.{text, HasNoText, mapping_value, AreRpcb};
 
+use xdr_laws::whole_exactly;
 use xdr_units::{first_content, first_word};
 
 /// How many bytes arguments have at most.
@@ -41,8 +43,11 @@ fn first_text(bytes: &[u8]) -> Option<(&[u8], &[u8])>
 
 /// The `mapping` that the arguments begin with.
 pub fn mapping_at(args: &[u8]) -> Option<Mapping>
-    ensures { MatchOption result (AreGarbage 15 args.now) (λ m. AreArguments 15 args.now (mapping_value m)) }
+    ensures { MatchOption result (AreGarbage mapping_kind args.now)
+        (λ m. AreArguments mapping_kind args.now (mapping_value m)) }
 {
+    // For the proof: the law says which bytes begin with a value.
+    whole_exactly();
     let (prog, rest) = first_word(args)?;
     let (vers, rest) = first_word(rest)?;
     let (prot, rest) = first_word(rest)?;
@@ -57,8 +62,10 @@ pub fn mapping_at(args: &[u8]) -> Option<Mapping>
 
 /// The `rpcb` that the arguments begin with, where it has at most 65536 bytes.
 pub fn rpcb_at(args: &[u8]) -> Option<Rpcb<'_>>
-    ensures { MatchOption result (AreGarbage 11 args.now) (λ r. AreRpcb args.now r) }
+    ensures { MatchOption result (AreGarbage rpcb_kind args.now) (λ r. AreRpcb args.now r) }
 {
+    // For the proof: the law says which bytes begin with a value.
+    whole_exactly();
     let (prog, rest) = first_word(args)?;
     let (vers, rest) = first_word(rest)?;
     let (netid, rest) = first_text(rest)?;

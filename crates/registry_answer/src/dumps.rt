@@ -5,12 +5,12 @@ ghost use Rattle.xdr_units.specs.Numbers.{word, pad, gap};
 ghost use Rattle.xdr_types.specs.Spelling.{bytes_of};
 ghost use Rattle.registry_rows.specs.Rows.{IsRow};
 ghost use Rattle.registry_rows.specs.Views.{plain_row};
-ghost use Rattle.registry_dumps.specs.Dir.{dir_kinds};
-ghost use Rattle.registry_dumps.specs.Dumps.{rpcb_list, mapping_list};
+ghost use Rattle.registry_dumps.specs.Dir.{dir_kinds, rpcb_list_kind, mapping_list_kind};
+ghost use Rattle.registry_dumps.specs.Dumps.{rpcb_list, mapping_list, dump_limits};
 ghost use Rattle.registry_answer.specs.Private.Parsed.{text};
 ghost use Rattle.registry_answer.specs.Private.Pushes.{row_bytes, front_bytes, mapping_bytes, mapping_at_bytes};
 
-use registry_dumps::prot_of;
+use registry_rows::prot_of_netid;
 use rpc_directory::{Directory, Row, Uaddr, read_uaddr};
 use std::hash::BuildHasher;
 use xdr_units::{NoMemory, push_word};
@@ -21,8 +21,9 @@ pub fn push_rows<S: BuildHasher>(
     directory: &Directory<S>,
     out: &mut Vec<u8>,
 ) -> Result<(), NoMemory>
-    ensures ok { OnOk result (out.new.items ≡ out.old.items ++ bytes_of dir_kinds 14 (rpcb_list directory.now)) }
-    ensures few { length (bytes_of dir_kinds 14 (rpcb_list directory.now)) ≤ 16777216 }
+    ensures ok { let list = bytes_of dir_kinds rpcb_list_kind (rpcb_list directory.now) in
+        OnOk result (out.new.items ≡ out.old.items ++ list) }
+    ensures few { length (bytes_of dir_kinds rpcb_list_kind (rpcb_list directory.now)) ≤ dump_limits.bytes }
     ensures begins { StartsWith out.new.items out.old.items }
 {
     let rows = directory.rows();
@@ -34,7 +35,7 @@ pub fn push_rows<S: BuildHasher>(
                 let owner: &[u8] = &row.owner;
                 before = owner.len();
             }
-            None => {}
+            None => unreachable!(),
         }
     }
     push_between(out, before, 0)?;
@@ -139,15 +140,16 @@ pub fn push_mappings<S: BuildHasher>(
     directory: &Directory<S>,
     out: &mut Vec<u8>,
 ) -> Result<(), NoMemory>
-    ensures ok { OnOk result (out.new.items ≡ out.old.items ++ bytes_of dir_kinds 18 (mapping_list directory.now)) }
-    ensures few { length (bytes_of dir_kinds 18 (mapping_list directory.now)) ≤ 16777216 }
+    ensures ok { let list = bytes_of dir_kinds mapping_list_kind (mapping_list directory.now) in
+        OnOk result (out.new.items ≡ out.old.items ++ list) }
+    ensures few { length (bytes_of dir_kinds mapping_list_kind (mapping_list directory.now)) ≤ dump_limits.bytes }
     ensures begins { StartsWith out.new.items out.old.items }
 {
     let rows = directory.rows();
     for index in 0..rows {
         match directory.row(index) {
             Some(row) => push_mapping(row, out)?,
-            None => {}
+            None => unreachable!(),
         }
     }
     push_word(out, 0)?;
@@ -160,7 +162,7 @@ fn push_mapping(row: &Row, out: &mut Vec<u8>) -> Result<(), NoMemory>
     ensures ok { OnOk result (out.new.items ≡ out.old.items ++ mapping_bytes (plain_row row.now)) }
     ensures begins { StartsWith out.new.items out.old.items }
 {
-    match (prot_of(&row.netid), read_uaddr(&row.address)) {
+    match (prot_of_netid(&row.netid), read_uaddr(&row.address)) {
         (Some(prot), Some(address)) => push_mapping_at(row, prot, address, out),
         _ => Ok(()),
     }

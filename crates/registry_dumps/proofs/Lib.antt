@@ -1,3 +1,1 @@
 pub mod Legal
-pub mod Fitting
-pub mod Steps

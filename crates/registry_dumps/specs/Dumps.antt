@@ -1,14 +1,12 @@
 -- The rows of the registry as values (RFC 1833 sections 2.1 and 3.1).
-use Rattle.std.specs.Prelude.{ℕ, List, [], ◌∷◌, map, filter_map, Option, Some, None, option_map, option_and_then}
-use Rattle.std.specs.Prelude.{if◌then◌else◌}
-use Rattle.std.specs.Str.{bytes_eq}
+use Rattle.std.specs.Prelude.{ℕ, ◌^◌, List, [], ◌∷◌, map, filter_map, Option, option_map, option_and_then}
 use Rattle.xdr_types.specs.Tree as value
 use Rattle.xdr_types.specs.Tree.{Tree, from_list}
 use Rattle.xdr_types.specs.Within.{Bounds}
 use Rattle.registry_uaddr.specs.declared.address.Uaddr.{Uaddr}
 use Rattle.registry_uaddr.specs.Uaddrs.{uaddr_of}
 use Rattle.registry_rows.specs.Rows.{Row}
-use Rattle.registry_rows.specs.Ports.{tcp, udp}
+use Rattle.registry_rows.specs.Ports.{prot_of_netid}
 
 -- an unsigned integer (RFC 4506 section 4.2)
 abbrev pub number : ℕ → Tree
@@ -47,13 +45,9 @@ mapping_of prog vers prot port = group (number prog ∷ number vers ∷ number p
 abbrev pub mapping_tree : Row → ℕ → Uaddr → Tree
 mapping_tree r prot a = mapping_of r.prog r.vers prot a.port
 
--- the number of a transport that version 2 knows (RFC 1833 section 3.1: IPPROTO_TCP, IPPROTO_UDP)
-abbrev pub prot_of : List ℕ → Option ℕ
-prot_of netid = if bytes_eq netid tcp then Some 6 else if bytes_eq netid udp then Some 17 else None
-
 -- the mapping of a row over `tcp` or `udp` whose address is a universal address over IPv4; other rows have none
 abbrev pub mapping_row : Row → Option Tree
-mapping_row r = option_and_then (λ prot. option_map (mapping_tree r prot) (uaddr_of r.address)) (prot_of r.netid)
+mapping_row r = option_and_then (λ prot. option_map (mapping_tree r prot) (uaddr_of r.address)) (prot_of_netid r.netid)
 
 -- the mappings of all rows that have one, in order, as a `pmaplist`
 abbrev pub mapping_list : List Row → Tree
@@ -61,4 +55,4 @@ mapping_list rows = linked (filter_map mapping_row rows)
 
 -- the limits within which each dump is (this project's own)
 abbrev pub dump_limits : Bounds
-dump_limits = record { depth = 4096; bytes = 16777216 }
+dump_limits = record { depth = 4096; bytes = 2 ^ 24 }

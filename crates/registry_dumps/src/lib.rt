@@ -4,5 +4,5 @@
 mod listing;
 mod schema;
 
-pub use listing::{linked, mapping, prot_of, rpcb};
+pub use listing::{linked, mapping, rpcb};
 pub use schema::directory_schema;

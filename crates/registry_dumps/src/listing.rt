@@ -2,9 +2,9 @@
 ghost use Rattle.std.specs.Prelude.{◌≡◌, ◌∷◌, [], IfOk, option_map};
 ghost use Rattle.xdr_types.specs.View.{tree};
 ghost use Rattle.registry_rows.specs.Views.{plain_row};
-ghost use Rattle.registry_dumps.specs.Dumps.{rpcb_tree, mapping_tree, mapping_row, given, group, prot_of};
+ghost use Rattle.registry_dumps.specs.Dumps.{rpcb_tree, mapping_tree, mapping_row, given, group};
 
-use registry_rows::Row;
+use registry_rows::{Row, prot_of_netid};
 use registry_uaddr::{Uaddr, read_uaddr};
 use std::alloc::Global;
 use std::boxed::Box;
@@ -28,7 +28,7 @@ pub fn rpcb(alloc: Global, row: &Row) -> Result<Value, NoMemory>
 pub fn mapping(alloc: Global, row: &Row) -> Result<Option<Value>, NoMemory>
     ensures { IfOk result (λ v. option_map tree v ≡ mapping_row (plain_row row.now)) }
 {
-    let prot = match prot_of(&row.netid) {
+    let prot = match prot_of_netid(&row.netid) {
         Some(prot) => prot,
         None => return Ok(None),
     };
@@ -48,20 +48,6 @@ fn mapping_at(alloc: Global, row: &Row, prot: u32, address: Uaddr) -> Result<Val
     parts.push(Value::Unsigned(prot))?;
     parts.push(Value::Unsigned(u32::from(address.port)))?;
     Ok(Value::Group(parts))
-}
-
-/// The number of a transport that version 2 knows: 6 of the netid `tcp`, 17 of `udp`, none of another (RFC 1833 section
-/// 3.1).
-pub fn prot_of(netid: &[u8]) -> Option<u32>
-    ensures { result ≡ prot_of netid.now }
-{
-    if netid == b"tcp".as_slice() {
-        Some(6)
-    } else if netid == b"udp".as_slice() {
-        Some(17)
-    } else {
-        None
-    }
 }
 
 /// A chain of optional nodes with one more value at its front (RFC 4506 section 4.19).

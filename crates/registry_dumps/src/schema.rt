@@ -12,13 +12,41 @@ use std::alloc::Global;
 use std::string::String;
 use xdr_types::{Kind, KindId, Member, NoMemory, Schema, SchemaFault, basic_kinds, basic_names};
 
+// The places of the kinds that are named here: the basic ones, and then the registry's own.
+const UNSIGNED: u32 = 1;
+
+const NETID: u32 = 8;
+
+const ADDRESS: u32 = 9;
+
+const OWNER: u32 = 10;
+
+const RPCB: u32 = 11;
+
+const RPCB_NEXT: u32 = 12;
+
+const RPCB_NODE: u32 = 13;
+
+const RPCB_LIST: u32 = 14;
+
+const MAPPING: u32 = 15;
+
+const MAPPING_NEXT: u32 = 16;
+
+const MAPPING_NODE: u32 = 17;
+
+const MAPPING_LIST: u32 = 18;
+
 /// The schema of the registry's types (RFC 1833 sections 2.1 and 3.1), after the basic kinds: places 8 to 10 the
 /// strings of `rpcb`, 11 `rpcb`, 12 an optional node, 13 `rp__list`, 14 `rpcblist`, 15 `mapping`, 16 an optional node,
 /// 17 `pm__list`, 18 `pmaplist`. The lists are well formed and sound, so that the only error is want of memory.
 #[tactic(auto, using(crate::proofs::Legal::well_formed, crate::proofs::Legal::sound))]
 pub fn directory_schema(alloc: Global) -> Result<Schema, NoMemory>
+    // The schema has just these kinds and names,
     ensures schema { IfOk result (λ s. s ≡ dir_lists) }
+    // in which there is no fault,
     ensures well_formed { IsWellFormed dir_lists }
+    // and whose kinds have values.
     ensures sound { IsSound dir_kinds }
 {
     let kinds = dir_kinds(alloc)?;
@@ -46,12 +74,12 @@ fn dir_names(alloc: Global) -> Result<Vec<(String, KindId)>, NoMemory>
     ensures { IfOk result (λ v. map name_of v.items ≡ dir_lists.names) }
 {
     let mut names = basic_names(alloc)?;
-    push_name(&mut names, alloc, "rpcb", 11)?;
-    push_name(&mut names, alloc, "rp__list", 13)?;
-    push_name(&mut names, alloc, "rpcblist", 14)?;
-    push_name(&mut names, alloc, "mapping", 15)?;
-    push_name(&mut names, alloc, "pm__list", 17)?;
-    push_name(&mut names, alloc, "pmaplist", 18)?;
+    push_name(&mut names, alloc, "rpcb", RPCB)?;
+    push_name(&mut names, alloc, "rp__list", RPCB_NODE)?;
+    push_name(&mut names, alloc, "rpcblist", RPCB_LIST)?;
+    push_name(&mut names, alloc, "mapping", MAPPING)?;
+    push_name(&mut names, alloc, "pm__list", MAPPING_NODE)?;
+    push_name(&mut names, alloc, "pmaplist", MAPPING_LIST)?;
     Ok(names)
 }
 
@@ -69,15 +97,15 @@ fn push_name(
 }
 
 // A row of versions 3 and 4.
-fn rpcb_kind(alloc: Global) -> Result<Kind, NoMemory>
+fn row_kind(alloc: Global) -> Result<Kind, NoMemory>
     ensures { IfOk result (λ k. kind_view k ≡ rpcb) }
 {
     let mut fields = Vec::with_capacity(alloc, 5)?;
-    push_field(&mut fields, alloc, "r_prog", 1)?;
-    push_field(&mut fields, alloc, "r_vers", 1)?;
-    push_field(&mut fields, alloc, "r_netid", 8)?;
-    push_field(&mut fields, alloc, "r_addr", 9)?;
-    push_field(&mut fields, alloc, "r_owner", 10)?;
+    push_field(&mut fields, alloc, "r_prog", UNSIGNED)?;
+    push_field(&mut fields, alloc, "r_vers", UNSIGNED)?;
+    push_field(&mut fields, alloc, "r_netid", NETID)?;
+    push_field(&mut fields, alloc, "r_addr", ADDRESS)?;
+    push_field(&mut fields, alloc, "r_owner", OWNER)?;
     Ok(Kind::Structure { fields })
 }
 
@@ -103,20 +131,23 @@ fn dir_kinds(alloc: Global) -> Result<Vec<Kind>, NoMemory>
     ensures { IfOk result (λ v. map kind_view v.items ≡ dir_kinds) }
 {
     let mut kinds = basic_kinds(alloc)?;
-    push_kind(&mut kinds, Kind::Text { max: 4294967295 })?;
-    push_kind(&mut kinds, Kind::Text { max: 4294967295 })?;
-    push_kind(&mut kinds, Kind::Text { max: 4294967295 })?;
-    push_kind(&mut kinds, rpcb_kind(alloc)?)?;
-    push_kind(&mut kinds, maybe(13))?;
+    push_kind(&mut kinds, Kind::Text { max: u32::MAX })?;
+    push_kind(&mut kinds, Kind::Text { max: u32::MAX })?;
+    push_kind(&mut kinds, Kind::Text { max: u32::MAX })?;
+    push_kind(&mut kinds, row_kind(alloc)?)?;
+    push_kind(&mut kinds, maybe(RPCB_NODE))?;
     push_kind(
         &mut kinds,
-        node_kind(alloc, "rpcb_map", 11, "rpcb_next", 12)?,
+        node_kind(alloc, "rpcb_map", RPCB, "rpcb_next", RPCB_NEXT)?,
     )?;
-    push_kind(&mut kinds, maybe(13))?;
-    push_kind(&mut kinds, mapping_kind(alloc)?)?;
-    push_kind(&mut kinds, maybe(17))?;
-    push_kind(&mut kinds, node_kind(alloc, "map", 15, "next", 16)?)?;
-    push_kind(&mut kinds, maybe(17))?;
+    push_kind(&mut kinds, maybe(RPCB_NODE))?;
+    push_kind(&mut kinds, port_kind(alloc)?)?;
+    push_kind(&mut kinds, maybe(MAPPING_NODE))?;
+    push_kind(
+        &mut kinds,
+        node_kind(alloc, "map", MAPPING, "next", MAPPING_NEXT)?,
+    )?;
+    push_kind(&mut kinds, maybe(MAPPING_NODE))?;
     Ok(kinds)
 }
 
@@ -154,13 +185,13 @@ fn node_kind(
 }
 
 // A row of version 2.
-fn mapping_kind(alloc: Global) -> Result<Kind, NoMemory>
+fn port_kind(alloc: Global) -> Result<Kind, NoMemory>
     ensures { IfOk result (λ k. kind_view k ≡ mapping) }
 {
     let mut fields = Vec::with_capacity(alloc, 4)?;
-    push_field(&mut fields, alloc, "prog", 1)?;
-    push_field(&mut fields, alloc, "vers", 1)?;
-    push_field(&mut fields, alloc, "prot", 1)?;
-    push_field(&mut fields, alloc, "port", 1)?;
+    push_field(&mut fields, alloc, "prog", UNSIGNED)?;
+    push_field(&mut fields, alloc, "vers", UNSIGNED)?;
+    push_field(&mut fields, alloc, "prot", UNSIGNED)?;
+    push_field(&mut fields, alloc, "port", UNSIGNED)?;
     Ok(Kind::Structure { fields })
 }

@@ -101,6 +101,11 @@ find_is_any test (x ∷ xs) = by (test x) (find_is_any test xs)
     by true p = refl
     by false p = p
 
+-- What is found is there, whatever it is seen as.
+pub is_some-seen : {X Y : Type 0} (view : X → Y) (x : Option X) → is_some x ≡ is_some (option_map view x)
+is_some-seen view None = refl
+is_some-seen view (Some x) = refl
+
 pub seen_copied : (r : Option (Bor Row)) → option_map (λ r. plain_row r.now) r ≡ option_map plain_row (option_copied r)
 seen_copied None = refl
 seen_copied (Some r) = refl

@@ -2,9 +2,10 @@
 use Rattle.std.proofs.Common.{◌≡◌, ℕ, Bool, true, false, ◌&&◌, ◌||◌, cond, List, [], ◌∷◌, ◌++◌, length, nat_eq, refl}
 use Rattle.std.proofs.Common.{sym, ◌∙◌, filter, arith}
 use Rattle.std.specs.List.{list_any, AllByRecursion}
-use Rattle.std.proofs.lemmas.Bool.Decides.{Decides-eqb, same_from_decides}
+use Rattle.std.proofs.lemmas.Bool.Decides.{Decides-eqb, Decides-like, same_from_decides}
 use Rattle.std.proofs.lemmas.List.Folds.{list_any-append}
-use Rattle.xdr_units.proofs.Bytes.{bytes_eq-sym}
+use Rattle.std.proofs.lemmas.Slice.Eq.{bytes_eq-Decides}
+use Rattle.std.specs.Str.{bytes_eq}
 use Rattle.registry_rows.specs.declared.key.Key.{Key}
 use Rattle.registry_rows.specs.declared.row.Row.{Row}
 use Rattle.registry_rows.specs.Rows as plain
@@ -15,6 +16,9 @@ use Rattle.registry_rows.proofs.Filtered.{length-plain_rows, or_false}
 nat_eq-sym : (a b : ℕ) → nat_eq a b ≡ nat_eq b a
 nat_eq-sym a b = same_from_decides (nat_eq a b) (nat_eq b a) (Decides-eqb a b)
     (λ e. sym ((Decides-eqb b a).0 e), λ e. (Decides-eqb b a).1 (sym e))
+
+bytes_eq-sym : (a b : List ℕ) → bytes_eq a b ≡ bytes_eq b a
+bytes_eq-sym a b = same_from_decides _ _ (bytes_eq-Decides a b) (Decides-like _ sym sym (bytes_eq-Decides b a))
 
 is_at-sym : (a b : plain.Row) → is_at a.prog a.vers a.netid b ≡ is_at b.prog b.vers b.netid a
 is_at-sym a b = λ j. (nat_eq-sym a.prog b.prog j && nat_eq-sym a.vers b.vers j) && bytes_eq-sym a.netid b.netid j

@@ -3,4 +3,5 @@ pub mod Steps
 pub mod LookUp
 pub mod Keys
 pub mod Views
+pub mod Program
 pub mod Ports

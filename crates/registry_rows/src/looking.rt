@@ -21,9 +21,12 @@ pub fn look_up<'a, S: BuildHasher>(
     netid: &[u8],
 ) -> Option<&'a Row>
     requires { AreEntries rows.now.entries }
+    // What is found is the row that the definition finds;
     ensures value { let row = look_up (plain_rows rows.now.entries) prog vers netid.now in
         option_map (λ r. plain_row r.now) result ≡ row }
+    // one is found where the program has a row over the transport,
     ensures some { is_some result ≡ list_any (is_over prog netid.now) (plain_rows rows.now.entries) }
+    // and it keeps to the bounds of a row.
     ensures row { IfSome result (λ r. IsRow (plain_row r.now)) }
 {
     match find(rows, prog, vers, netid) {

@@ -1,5 +1,5 @@
 -- Universal addresses over IPv4 (RFC 5665 section 5.2.3.3).
-use Rattle.std.specs.Prelude.{◌≡◌, ℕ, ◌<◌, ◌/◌, ◌%◌, ◌*◌, ◌+◌, List, [], ◌∷◌, ◌++◌, length, decimal, codes, slice_index}
+use Rattle.std.specs.Prelude.{◌≡◌, ℕ, ◌<◌, ◌/◌, ◌%◌, ◌*◌, ◌+◌, ◌^◌, List, [], ◌∷◌, ◌++◌, length, decimal, codes, slice_index}
 use Rattle.std.specs.Prelude.{Option, Some, None, map, nat_eq, nat_lt, ◌&&◌, if◌then◌else◌}
 use Rattle.std.specs.Str.{bytes_eq}
 use Rattle.std.specs.Str.Parse.{digits_value}
@@ -26,17 +26,21 @@ uaddr_text a = dotted (numbers_of a)
 pub record IsUaddr (a : Uaddr) : Type 0 where
   pub four : length a.host ≡ 4
   pub octets : All (λ n. n < 256) a.host
-  pub port : a.port < 65536
+  pub port : a.port < 2 ^ 16
 
 -- the parts of a text with one more byte at the front of the first
 abbrev pub onto_first : ℕ → List (List ℕ) → List (List ℕ)
 onto_first b [] = []
 onto_first b (p ∷ ps) = (b ∷ p) ∷ ps
 
+-- the byte of a dot
+abbrev pub dot : ℕ
+dot = slice_index (codes ".") 0
+
 -- the parts of a text between its dots
 abbrev pub parts : List ℕ → List (List ℕ)
 parts [] = [] ∷ []
-parts (b ∷ bs) = if nat_eq b 46 then [] ∷ parts bs else onto_first b (parts bs)
+parts (b ∷ bs) = if nat_eq b dot then [] ∷ parts bs else onto_first b (parts bs)
 
 -- the number below 256 whose decimal text this is, which has no leading zero
 abbrev pub octet : List ℕ → Option ℕ

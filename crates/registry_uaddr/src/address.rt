@@ -1,5 +1,5 @@
 //! Universal addresses as texts.
-ghost use Rattle.std.specs.Prelude.{◌≡◌, ◌++◌, ◌∷◌, decimal, IfOk, OnOk};
+ghost use Rattle.std.specs.Prelude.{◌≡◌, ◌++◌, codes, decimal, IfOk, OnOk};
 ghost use Rattle.registry_uaddr.specs.Uaddrs.{uaddr_text};
 
 use std::alloc::Global;
@@ -31,7 +31,7 @@ pub fn write_uaddr(alloc: Global, address: Uaddr) -> Result<Vec<u8>, NoMemory>
 
 /// Adds a dot and a number.
 fn push_dotted(text: &mut Vec<u8>, number: u32) -> Result<(), NoMemory>
-    ensures { OnOk result (text.new.items ≡ text.old.items ++ (46 ∷ decimal number)) }
+    ensures { OnOk result (text.new.items ≡ text.old.items ++ (codes "." ++ decimal number)) }
 {
     text.push(b'.')?;
     push_decimal(text, number)

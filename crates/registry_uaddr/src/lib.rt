@@ -2,10 +2,10 @@
 #![tactic(auto)]
 
 mod address;
+mod from_text;
 mod laws;
-mod reading;
 
 pub use address::{Uaddr, write_uaddr};
+pub use from_text::read_uaddr;
 pub use laws::uaddr_reads_back;
-pub use reading::read_uaddr;
 pub use xdr_units::NoMemory;

@@ -4,7 +4,7 @@ use Rattle.std.proofs.Common.{true≢false}
 use Rattle.xdr_types.specs.Tree.{Tree}
 use Rattle.registry_rows.specs.Rows.{Row}
 use Rattle.registry_dumps.specs.Dumps.{given, group, rpcb_tree}
-use Rattle.registry_dumps.proofs.Steps.{rpcb_more, mapping_more, mapping_less}
+use Rattle.rpc_directory.proofs.Steps.{rpcb_more, mapping_more, mapping_less}
 use Rattle.rpc_directory.specs.Private.Listings.{item_of, list_of}
 use Rattle.rpc_directory.specs.declared.dumps.Listing.{Listing}
 use Rattle.rpc_directory.specs.declared.dumps.Listing.TheVariants.{Rpcbs, Mappings}

@@ -1,13 +1,20 @@
 -- The registry's own rows are set one after another.
-use Rattle.std.proofs.Common.{◌≡◌, ℕ, ◌<◌, ◌≤◌, ◌/◌, ◌%◌, true, false, List, [], ◌∷◌, ◌++◌, refl, ap, ◌∙◌, length}
-use Rattle.std.proofs.Common.{nat_le, decimal, arith, ◌+◌, ◌*◌, mod-lt}
+use Rattle.std.proofs.Common.{◌≡◌, ℕ, ◌<◌, ◌≤◌, ◌/◌, ◌%◌, Bool, true, false, List, [], ◌∷◌, ◌++◌, refl, ap, ◌∙◌, length}
+use Rattle.std.proofs.Common.{nat_eq, nat_le, decimal, arith, ◌+◌, ◌*◌, mod-lt}
+use Rattle.std.proofs.lemmas.Bool.Decides.{Decides-eqb}
 use Rattle.std.proofs.lemmas.List.{length-append}
 use Rattle.std.proofs.lemmas.Fmt.{length-decimal-le, decimal_nonempty}
 use Rattle.registry_rows.specs.Rows.{Row}
 use Rattle.registry_rows.specs.Steps.{Step, set, is_empty}
 use Rattle.registry_rows.specs.Ports.{at_port, tcp, udp}
 use Rattle.rpc_directory.specs.Private.Own.{own_row, set_both}
-pub use Rattle.registry_rows.proofs.Removed.{not_empty as is_empty-not}
+
+pub is_empty-not : (xs : List ℕ) → 0 < length xs → is_empty xs ≡ false
+is_empty-not xs h = by (nat_eq (length xs) 0) refl
+  where
+    by : (b : Bool) → nat_eq (length xs) 0 ≡ b → b ≡ false
+    by false e = refl
+    by true e = let z : length xs ≡ 0 = (Decides-eqb (length xs) 0).0 e in absurd (omega (arith, h, z))
 
 module _ (address : List ℕ) (some : is_empty address ≡ false) (fits : nat_le (length address) 256 ≡ true) where
   abbrev pub over_tcp : ℕ → Row

@@ -9,13 +9,13 @@ ghost use Rattle.registry_rows.specs.Ports as ports;
 ghost use Rattle.registry_rows.specs.Rows.{row_of, is_at, IsRow, IsRegistry};
 ghost use Rattle.registry_rows.specs.Views.{plain_row};
 ghost use Rattle.xdr_types.specs.Within.{FitsWithin};
-ghost use Rattle.registry_dumps.specs.Dir.{dir_kinds};
+ghost use Rattle.registry_dumps.specs.Dir.{dir_kinds, rpcb_list_kind, mapping_list_kind};
 ghost use Rattle.registry_dumps.specs.Dumps.{rpcb_list, mapping_list, dump_limits};
 ghost use Rattle.rpc_directory.specs.Private.Own.{set_both};
 
 use crate::ports::any_host;
 use indexmap::IndexMap;
-use registry_rows::{Key, Row, append, find, look_up, remove_all, remove_one};
+use registry_rows::{Key, PROGRAM, Row, append, count, find, look_up, remove_all, remove_one};
 use registry_uaddr::NoMemory;
 use std::alloc::Global;
 use std::hash::BuildHasher;
@@ -68,8 +68,8 @@ impl<S: BuildHasher> Directory<S> {
     fn set_own(&mut self, alloc: Global, vers: u32, address: &[u8]) -> Result<(), NoMemory>
         ensures { OnOk result (self.new ≡ set_both self.old vers address.now) }
     {
-        self.set(alloc, 100000, vers, b"tcp", address, b"superuser")?;
-        self.set(alloc, 100000, vers, b"udp", address, b"superuser")?;
+        self.set(alloc, PROGRAM, vers, b"tcp", address, b"superuser")?;
+        self.set(alloc, PROGRAM, vers, b"udp", address, b"superuser")?;
         Ok(())
     }
 
@@ -79,17 +79,23 @@ impl<S: BuildHasher> Directory<S> {
     pub fn rows(&self) -> u32
         ensures value { result ≡ length self.now }
         ensures few { result ≤ 1024 }
+        // They are the rows of a registry,
         ensures registry { IsRegistry self.now }
-        ensures dump { FitsWithin dir_kinds 14 dump_limits (rpcb_list self.now) }
-        ensures dump_ports { FitsWithin dir_kinds 18 dump_limits (mapping_list self.now) }
+        // and fit `rpcblist`
+        ensures dump { FitsWithin dir_kinds rpcb_list_kind dump_limits (rpcb_list self.now) }
+        // and `pmaplist` within the limits of a dump.
+        ensures dump_ports { FitsWithin dir_kinds mapping_list_kind dump_limits (mapping_list self.now) }
     {
-        self.rows.len() as u32
+        let rows = &self.rows;
+        count(rows)
     }
 
     /// The row at an index, in order of insertion from 0; `None` at `rows()` and past it. Its netid has 1 to 64 bytes,
     /// its address 1 to 256 and its owner at most 10. It takes no memory.
     pub fn row(&self, index: u32) -> Option<&Row>
+        // It is the row of the list,
         ensures value { option_map (λ r. plain_row r.now) result ≡ slice_get self.now index }
+        // and keeps to the bounds of a row.
         ensures row { IfSome result (λ r. IsRow (plain_row r.now)) }
     {
         match self.rows.get_index(index as usize) {
@@ -101,6 +107,7 @@ impl<S: BuildHasher> Directory<S> {
     // The row of a program, a version and a netid.
     fn find(&self, prog: u32, vers: u32, netid: &[u8]) -> Option<&Row>
         ensures value { option_map (λ r. plain_row r.now) result ≡ step.row_at self.now prog vers netid.now }
+        ensures some { is_some result ≡ list_any (is_at prog vers netid.now) self.now }
         ensures row { IfSome result (λ r. IsRow (plain_row r.now)) }
     {
         let rows = &self.rows;
@@ -130,8 +137,10 @@ impl<S: BuildHasher> Directory<S> {
     /// registered it is one look-up by the key's hash, so what it costs does not grow with the rows, unless the hasher
     /// puts many keys together; for another it is a pass over all rows besides. It takes no memory.
     pub fn getaddr(&self, prog: u32, vers: u32, netid: &[u8]) -> &[u8]
+        // It is the address that the definition finds,
         ensures value { result.now ≡ looking.getaddr self.now prog vers netid.now }
         ensures short { length result.now ≤ 256 }
+        // and empty exactly where the program has no row over the transport.
         ensures empty { (result.now ≡ []) ↔ (list_any (looking.is_over prog netid.now) self.now ≡ false) }
     {
         address_of(self.look_up(prog, vers, netid))
@@ -141,8 +150,10 @@ impl<S: BuildHasher> Directory<S> {
     /// empty exactly where there is none (RFC 1833 section 2.2.1, RPCBPROC_GETVERSADDR). It is one look-up by the key's
     /// hash, as `getaddr` of a version that is registered. It takes no memory.
     pub fn getversaddr(&self, prog: u32, vers: u32, netid: &[u8]) -> &[u8]
+        // It is the address that the definition finds,
         ensures value { result.now ≡ step.getversaddr self.now prog vers netid.now }
         ensures short { length result.now ≤ 256 }
+        // and empty exactly where the version has no row.
         ensures empty { (result.now ≡ []) ↔ (step.row_at self.now prog vers netid.now ≡ None) }
     {
         address_of(self.find(prog, vers, netid))
@@ -161,9 +172,12 @@ impl<S: BuildHasher> Directory<S> {
         owner: &[u8],
     ) -> Result<bool, NoMemory>
         requires { length owner.now ≤ 10 }
+        // Rows and answer are those of the step;
         ensures ok { let row = row_of prog vers netid.now address.now owner.now in
             IfOk result (λ done. (self.new, done) ≡ step.set self.old row) }
+        // false changes nothing,
         ensures refused { IfOk result (λ done. done ≡ false → self.new ≡ self.old) }
+        // nor does want of memory.
         ensures err { OnErr result (self.new ≡ self.old) }
     {
         if !self.may_add(prog, vers, netid, address) {
@@ -198,7 +212,9 @@ impl<S: BuildHasher> Directory<S> {
     /// it is one look-up and one removal, which moves the rows behind it up by one; without one it is a pass over all
     /// rows. It takes no memory.
     pub fn unset(&mut self, prog: u32, vers: u32, netid: &[u8], owner: &[u8]) -> bool
+        // Rows and answer are those of the step,
         ensures value { (self.new, result) ≡ step.unset self.old prog vers netid.now owner.now }
+        // and false changes nothing.
         ensures refused { result ≡ false → self.new ≡ self.old }
     {
         if netid.is_empty() {

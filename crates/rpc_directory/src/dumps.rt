@@ -4,7 +4,7 @@ ghost use Rattle.xdr_types.specs.View.{tree};
 ghost use Rattle.xdr_types.specs.Within.{FitsWithin};
 ghost use Rattle.registry_rows.specs.Rows.{IsRegistry};
 ghost use Rattle.registry_rows.specs.Views.{plain_row};
-ghost use Rattle.registry_dumps.specs.Dir.{dir_kinds};
+ghost use Rattle.registry_dumps.specs.Dir.{dir_kinds, rpcb_list_kind, mapping_list_kind};
 ghost use Rattle.registry_dumps.specs.Dumps.{rpcb_list, mapping_list, dump_limits};
 ghost use Rattle.rpc_directory.specs.Private.Listings.{item_of, list_of};
 
@@ -37,8 +37,10 @@ impl<S: BuildHasher> Directory<S> {
     /// All rows in order as an `rpcblist` (RFC 1833 section 2.2.1, RPCBPROC_DUMP): a value of the kind at place 14 of
     /// `directory_schema`, within depth 4096 and 16777216 bytes. Its only error is `NoMemory`.
     pub fn dump(&self, alloc: Global) -> Result<Value, NoMemory>
+        // It has all rows in their order,
         ensures all { IfOk result (λ v. tree v ≡ rpcb_list self.now) }
-        ensures fits { IfOk result (λ v. FitsWithin dir_kinds 14 dump_limits (tree v)) }
+        // and is a value of its kind.
+        ensures fits { IfOk result (λ v. FitsWithin dir_kinds rpcb_list_kind dump_limits (tree v)) }
     {
         let list = self.list(alloc, Listing::Rpcbs)?;
         Ok(list)
@@ -48,8 +50,10 @@ impl<S: BuildHasher> Directory<S> {
     /// 1833 section 3.2, PMAPPROC_DUMP): a value of the kind at place 18 of `directory_schema`, within depth 4096 and
     /// 16777216 bytes. Its only error is `NoMemory`.
     pub fn dump_ports(&self, alloc: Global) -> Result<Value, NoMemory>
+        // It has all mappings in their order,
         ensures all { IfOk result (λ v. tree v ≡ mapping_list self.now) }
-        ensures fits { IfOk result (λ v. FitsWithin dir_kinds 18 dump_limits (tree v)) }
+        // and is a value of its kind.
+        ensures fits { IfOk result (λ v. FitsWithin dir_kinds mapping_list_kind dump_limits (tree v)) }
     {
         let list = self.list(alloc, Listing::Mappings)?;
         Ok(list)
@@ -69,7 +73,7 @@ impl<S: BuildHasher> Directory<S> {
                     Some(first) => list = linked(alloc, first, list)?,
                     None => {}
                 },
-                None => {}
+                None => unreachable!(),
             }
         }
         Ok(list)

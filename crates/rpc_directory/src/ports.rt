@@ -1,8 +1,9 @@
 //! The calls of version 2, which name a transport by its number.
-ghost use Rattle.std.specs.Prelude.{◌≡◌, ◌≤◌, ◌<◌, length, false, OnErr, IfOk, option_map};
+ghost use Rattle.std.specs.Prelude.{◌≡◌, ◌≤◌, ◌<◌, ◌^◌, length, false, OnErr, IfOk};
 ghost use Rattle.registry_rows.specs.Ports as ports;
 
 use crate::directory::Directory;
+use registry_rows::netid_of_prot;
 use registry_uaddr::{NoMemory, Uaddr, read_uaddr, write_uaddr};
 use std::alloc::Global;
 use std::hash::BuildHasher;
@@ -21,11 +22,14 @@ impl<S: BuildHasher> Directory<S> {
         owner: &[u8],
     ) -> Result<bool, NoMemory>
         requires { length owner.now ≤ 10 }
+        // Rows and answer are those of the step;
         ensures ok { IfOk result (λ done. (self.new, done) ≡ ports.set_port self.old prog vers prot port owner.now) }
+        // false changes nothing,
         ensures refused { IfOk result (λ done. done ≡ false → self.new ≡ self.old) }
+        // nor does want of memory.
         ensures err { OnErr result (self.new ≡ self.old) }
     {
-        let netid = match netid_of(prot) {
+        let netid = match netid_of_prot(prot) {
             Some(netid) => netid,
             None => return Ok(false),
         };
@@ -39,7 +43,9 @@ impl<S: BuildHasher> Directory<S> {
     /// `unset` of the rows over `tcp` and over `udp` (RFC 1833 section 3.2, PMAPPROC_UNSET). True exactly where at
     /// least one was removed; the rest keep their order, and false changes nothing. It takes no memory.
     pub fn unset_port(&mut self, prog: u32, vers: u32, owner: &[u8]) -> bool
+        // Rows and answer are those of the step,
         ensures value { (self.new, result) ≡ ports.unset_port self.old prog vers owner.now }
+        // and false changes nothing.
         ensures refused { result ≡ false → self.new ≡ self.old }
     {
         let first = self.unset(prog, vers, b"tcp", owner);
@@ -52,9 +58,9 @@ impl<S: BuildHasher> Directory<S> {
     /// where its address is no universal address over IPv4. It costs what `getaddr` costs, and takes no memory.
     pub fn get_port(&self, prog: u32, vers: u32, prot: u32) -> u32
         ensures value { result ≡ ports.get_port self.now prog vers prot }
-        ensures port { result < 65536 }
+        ensures port { result < 2 ^ 16 }
     {
-        match netid_of(prot) {
+        match netid_of_prot(prot) {
             Some(netid) => self.port_over(prog, vers, netid),
             None => 0,
         }
@@ -63,7 +69,7 @@ impl<S: BuildHasher> Directory<S> {
     // The port of the row that is looked up over a transport.
     fn port_over(&self, prog: u32, vers: u32, netid: &[u8]) -> u32
         ensures value { result ≡ ports.port_over self.now prog vers netid.now }
-        ensures port { result < 65536 }
+        ensures port { result < 2 ^ 16 }
     {
         match self.look_up(prog, vers, netid) {
             Some(row) => port_in(&row.address),
@@ -75,22 +81,11 @@ impl<S: BuildHasher> Directory<S> {
 // The port of an address, 0 where it is no universal address over IPv4.
 fn port_in(text: &[u8]) -> u32
     ensures value { result ≡ ports.port_in text.now }
-    ensures port { result < 65536 }
+    ensures port { result < 2 ^ 16 }
 {
     match read_uaddr(text) {
         Some(address) => u32::from(address.port),
         None => 0,
-    }
-}
-
-// The netid of a transport's number.
-fn netid_of(prot: u32) -> Option<&'static [u8]>
-    ensures { option_map (λ b. b.now) result ≡ ports.netid_of prot }
-{
-    match prot {
-        6 => Some(b"tcp"),
-        17 => Some(b"udp"),
-        _ => None,
     }
 }
 

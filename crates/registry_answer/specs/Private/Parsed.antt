@@ -2,6 +2,7 @@
 use Rattle.std.specs.Prelude.{◌≡◌, ℕ, ◌<◌, ◌^◌, List, ◌++◌, length}
 use Rattle.xdr_units.specs.Numbers.{word, padded}
 use Rattle.xdr_types.specs.Tree.{Tree}
+use Rattle.registry_dumps.specs.Dir.{rpcb_kind}
 use Rattle.registry_dumps.specs.Dumps.{mapping_of, rpcb_tree}
 use Rattle.registry_rows.specs.Rows.{Row, row_of}
 use Rattle.registry_answer.specs.Answer.{AreArguments}
@@ -27,4 +28,4 @@ row_in r owner = row_of r.prog r.vers r.netid.now r.address.now owner
 -- The arguments begin with this `rpcb`.
 pub record AreRpcb (args : List ℕ) (r : Rpcb) : Type 0 where
   pub owner : List ℕ
-  pub are : AreArguments 11 args (rpcb_tree (row_in r owner))
+  pub are : AreArguments rpcb_kind args (rpcb_tree (row_in r owner))

@@ -6,12 +6,16 @@ use Rattle.registry_uaddr.specs.declared.address.Uaddr.{Uaddr}
 use Rattle.registry_uaddr.specs.Uaddrs.{uaddr_of}
 use Rattle.rpc_message.specs.Message.{CallView, StatusView, ReplyView}
 use Rattle.rpc_message.specs.Spelling.{reply, IsReply, IsStatus}
+use Rattle.rpc_message.specs.View.{lent_call_view}
+use Rattle.registry_rows.specs.Ports.{prot_of_netid}
 use Rattle.registry_rows.specs.Rows.{Row}
 use Rattle.registry_rows.specs.Steps.{Step}
-use Rattle.registry_dumps.specs.Dumps.{prot_of}
 use Rattle.registry_answer.specs.Private.Parsed.{text}
 use Rattle.registry_answer.specs.Answer.{ComesTo, AnswersCall, accepted}
 use Rattle.registry_answer.specs.Answering.{most}
+use Rattle.registry_answer.specs.Owners.{owner_text}
+use Rattle.registry_answer.specs.Views.{netid_of}
+use Rattle.registry_answer.specs.declared.accepted.Asked.{Asked}
 
 -- the words of an accepted reply up to its number: xid, REPLY, MSG_ACCEPTED, AUTH_NONE, no body, accept_stat
 abbrev pub head : ℕ → ℕ → List ℕ
@@ -25,6 +29,11 @@ pub record PushesStatus (rows : List Row) (netid owner : List ℕ) (c : CallView
   pub fits : IsStatus status
   pub added : out ≡ old ++ reply (accepted c.xid status)
   pub short : length out ≤ length old + most
+
+-- The call of a caller who is believed came to a status, and the accepted reply was written.
+abbrev pub Accepts : Asked → List Row → (old : List ℕ) → List Row → (out : List ℕ) → Type 0
+Accepts a rows old new out =
+    PushesStatus rows (netid_of a.transport) (owner_text a.owner) (lent_call_view a.call) old new out
 
 -- The call was answered, and the reply was written.
 pub record PushesCall (rows : List Row) (netid : List ℕ) (c : CallView) (old : List ℕ) (new : List Row)
@@ -52,7 +61,7 @@ mapping_at_bytes r prot a = word 1 ++ (word r.prog ++ (word r.vers ++ (word prot
 -- and of the mapping of a row, where it has one
 abbrev pub mapping_bytes : Row → List ℕ
 mapping_bytes r =
-    option_map_or (λ prot. option_map_or (mapping_at_bytes r prot) (uaddr_of r.address) []) (prot_of r.netid) []
+    option_map_or (λ prot. option_map_or (mapping_at_bytes r prot) (uaddr_of r.address) []) (prot_of_netid r.netid) []
 
 -- A step was made and the reply that tells of it was written.
 pub record Reports (step : Step) (xid : ℕ) (old : List ℕ) (new : List Row) (out : List ℕ) : Type 0 where

@@ -3,10 +3,11 @@ use Rattle.std.specs.Prelude.{ℕ, List}
 use Rattle.registry_rows.specs.Rows.{Row, row_of}
 use Rattle.registry_rows.specs.Steps.{set, superuser}
 use Rattle.registry_rows.specs.Ports.{tcp, udp}
+use Rattle.registry_rows.specs.Program.{program}
 
 -- a row of the registry's program
 abbrev pub own_row : (vers : ℕ) → (netid address : List ℕ) → Row
-own_row vers netid address = row_of 100000 vers netid address superuser
+own_row vers netid address = row_of program vers netid address superuser
 
 -- the rows after those of a version are set, over `tcp` and then over `udp`
 abbrev pub set_both : List Row → (vers : ℕ) → (address : List ℕ) → List Row

@@ -10,26 +10,26 @@ use Rattle.registry_answer.proofs.answering.push_sendable.Goals as goal
 
 pub returns-then-not-carries-clause-ok : goal.returns-then-not-carries-clause-ok
 returns-then-not-carries-clause-ok g c =
-    pushes_cut c.args.directory.now (netid_of c.args.transport) (owner_text c.args.owner)
-    (lent_call_view c.args.call.now) c.args.out.now.items _ _ _ _ _ c.in_ok-push_accepted.ensures.ok
+    pushes_cut c.args.directory.now (netid_of c.args.asked.now.transport) (owner_text c.args.asked.now.owner)
+    (lent_call_view c.args.asked.now.call) c.args.out.now.items _ _ _ _ _ c.in_ok-push_accepted.ensures.ok
     (c.len.ensures ∙ c.push_accepted.new.out.ok.0)
     (c.len-before.ensures ∙ c.args.out.now.ok.0) c.carries.ensures c.if-not-carries.true _
     c.cut_to_system_err.ensures c.requires.word c.requires.caller
 
 pub returns-then-not-carries-clause-begins : goal.returns-then-not-carries-clause-begins
 returns-then-not-carries-clause-begins g c =
-    begins_added c.args.out.now.items (head c.args.call.now.xid 5) _
-    (cut_behind c.args.directory.now (netid_of c.args.transport) (owner_text c.args.owner)
-    (lent_call_view c.args.call.now) c.args.out.now.items _ _ _ _ _ c.in_ok-push_accepted.ensures.ok
+    begins_added c.args.out.now.items (head c.args.asked.now.call.xid 5) _
+    (cut_behind c.args.directory.now (netid_of c.args.asked.now.transport) (owner_text c.args.asked.now.owner)
+    (lent_call_view c.args.asked.now.call) c.args.out.now.items _ _ _ _ _ c.in_ok-push_accepted.ensures.ok
     (c.len.ensures ∙ c.push_accepted.new.out.ok.0)
     (c.len-before.ensures ∙ c.args.out.now.ok.0) c.carries.ensures c.if-not-carries.true _ c.cut_to_system_err.ensures)
 
 pub returns-else-not-carries-clause-ok : goal.returns-else-not-carries-clause-ok
 returns-else-not-carries-clause-ok g c =
-    pushes_accepted c.args.directory.now (netid_of c.args.transport) (owner_text c.args.owner)
-    (lent_call_view c.args.call.now) c.args.out.now.items _ _ c.requires.word c.requires.caller
+    pushes_accepted c.args.directory.now (netid_of c.args.asked.now.transport) (owner_text c.args.asked.now.owner)
+    (lent_call_view c.args.asked.now.call) c.args.out.now.items _ _ c.requires.word c.requires.caller
     c.in_ok-push_accepted.ensures.ok
-    (has_room c.args.directory.now (netid_of c.args.transport) (owner_text c.args.owner)
-    (lent_call_view c.args.call.now) c.args.out.now.items _ _ _ _ _ c.in_ok-push_accepted.ensures.ok
+    (has_room c.args.directory.now (netid_of c.args.asked.now.transport) (owner_text c.args.asked.now.owner)
+    (lent_call_view c.args.asked.now.call) c.args.out.now.items _ _ _ _ _ c.in_ok-push_accepted.ensures.ok
     (c.len.ensures ∙ c.push_accepted.new.out.ok.0)
     (c.len-before.ensures ∙ c.args.out.now.ok.0) c.carries.ensures c.if-not-carries.false)

@@ -1,20 +1,23 @@
 use Rattle.std.proofs.Common.{length, ap, arith}
+use Rattle.registry_dumps.specs.Dir.{dir_kinds}
 use Rattle.registry_answer.proofs.Begun.{no_mapping, whole_mapping}
 use Rattle.registry_answer.proofs.arguments.mapping_at.Goals as goal
 
 pub returns-in_err-prog : goal.returns-in_err-prog
 returns-in_err-prog c =
-    rw c.from_residual.ensures (no_mapping c.args.args.now (omega (arith, c.in_err-prog.ensures.found)))
+    rw c.from_residual.ensures (no_mapping (c.whole_exactly.ensures dir_kinds) c.args.args.now
+    (omega (arith, c.in_err-prog.ensures.found)))
 
 pub returns-in_err-vers : goal.returns-in_err-vers
 returns-in_err-vers c =
     rw c.from_residual-in_err-vers.ensures
-    (no_mapping c.args.args.now (omega (arith, ap length c.in_ok-prog.ensures.found, c.in_err-vers.ensures.found)))
+    (no_mapping (c.whole_exactly.ensures dir_kinds) c.args.args.now
+    (omega (arith, ap length c.in_ok-prog.ensures.found, c.in_err-vers.ensures.found)))
 
 pub returns-in_err-prot : goal.returns-in_err-prot
 returns-in_err-prot c =
     rw c.from_residual-in_err-prot.ensures
-    (no_mapping c.args.args.now (omega (
+    (no_mapping (c.whole_exactly.ensures dir_kinds) c.args.args.now (omega (
       arith,
       ap length c.in_ok-prog.ensures.found,
       ap length c.in_ok-vers.ensures.found,
@@ -24,7 +27,7 @@ returns-in_err-prot c =
 pub returns-in_err-port : goal.returns-in_err-port
 returns-in_err-port c =
     rw c.from_residual-in_err-port.ensures
-    (no_mapping c.args.args.now (omega (
+    (no_mapping (c.whole_exactly.ensures dir_kinds) c.args.args.now (omega (
       arith,
       ap length c.in_ok-prog.ensures.found,
       ap length c.in_ok-vers.ensures.found,
@@ -38,7 +41,8 @@ returns c =
     let v = c.in_ok-vers in
     let t = c.in_ok-prot in
     let o = c.in_ok-port in
-    whole_mapping c.args.args.now p.prog v.vers t.prot o.port p.rest.now v.rest.now t.rest.now _
+    whole_mapping (c.whole_exactly.ensures dir_kinds) c.args.args.now p.prog v.vers t.prot o.port p.rest.now v.rest.now
+    t.rest.now _
     p.ensures.fits
     v.ensures.fits
     t.ensures.fits

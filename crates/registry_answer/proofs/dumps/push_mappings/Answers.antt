@@ -5,24 +5,22 @@ use Rattle.registry_answer.specs.Private.Pushes.{mapping_bytes}
 use Rattle.registry_answer.proofs.Listing.{spelled_more, spelled_all, some_within, mappings_spelled}
 use Rattle.registry_answer.proofs.Chains.{begins_then, begins_added}
 use Rattle.registry_answer.proofs.dumps.push_mappings.Goals as goal
-use Rattle.registry_answer.proofs.dumps.push_mappings.Goals.{in-Some+in_ok-push_mapping-in-Some, in-None}
 
 pub returns-in_err-push_mapping-in-Some-clause-few : goal.returns-in_err-push_mapping-in-Some-clause-few
 returns-in_err-push_mapping-in-Some-clause-few g c = c.rows-rows.ensures.dump_ports.1.1
 
 pub loop-index-preserved : goal.loop-index-preserved
 loop-index-preserved g c =
-    elim c.match-row.branch [
-      | in-Some+in_ok-push_mapping-in-Some w ↦
-          rw w.out-is (spelled_more mapping_bytes c.args.directory.now c.loop-index.index (c.loop-index.index + 1)
-          (plain_row w.in-Some.row.now) c.args.out.now.items c.loop-index.out.items _ (omega arith)
-          (sym c.row.ensures.value
-          ∙ ap (option_map (λ r. plain_row r.now)) w.in-Some.is) c.loop-index.invariant
-          w.in_ok-push_mapping-in-Some.ensures.ok)
-      | in-None w ↦ absurd (some_within c.args.directory.now c.loop-index.index
-          (omega (arith, c.loop-index-test.true, c.rows-rows.ensures.value)) (sym c.row.ensures.value
-          ∙ ap (option_map (λ r. plain_row r.now)) w.in-None.is))
-    ]
+    spelled_more mapping_bytes c.args.directory.now c.loop-index.index (c.loop-index.index + 1)
+    (plain_row c.in-Some.row.now) c.args.out.now.items c.loop-index.out.items _ (omega arith)
+    (sym c.row.ensures.value ∙ ap (option_map (λ r. plain_row r.now)) c.in-Some.is) c.loop-index.invariant
+    c.in_ok-push_mapping-in-Some.ensures.ok
+
+pub unreachable-requires : goal.unreachable-requires
+unreachable-requires g c =
+    some_within c.args.directory.now c.loop-index.index
+    (omega (arith, c.loop-index-test.true, c.rows-rows.ensures.value))
+    (sym c.row.ensures.value ∙ ap (option_map (λ r. plain_row r.now)) c.in-None.is)
 
 pub returns-in_err-push_word-clause-few : goal.returns-in_err-push_word-clause-few
 returns-in_err-push_word-clause-few g c = c.rows-rows.ensures.dump_ports.1.1

@@ -5,28 +5,27 @@ use Rattle.registry_answer.specs.Private.Pushes.{row_bytes}
 use Rattle.registry_answer.proofs.Listing.{spelled_more, spelled_all, some_within, rows_spelled}
 use Rattle.registry_answer.proofs.Chains.{begins_then}
 use Rattle.registry_answer.proofs.dumps.push_rows.Goals as goal
-use Rattle.registry_answer.proofs.dumps.push_rows.Goals.{in-Some+in_ok-push_row-in-Some, in-None}
 
 pub returns-in_err-push_row-in-Some-clause-few : goal.returns-in_err-push_row-in-Some-clause-few
 returns-in_err-push_row-in-Some-clause-few g c = c.rows-rows.ensures.dump.1.1
 
 pub loop-index-preserved : goal.loop-index-preserved
-loop-index-preserved g c =
-    elim c.match-row.branch [
-      | in-Some+in_ok-push_row-in-Some w ↦ rw w.out-is rw w.before-is (
-        spelled_more row_bytes c.args.directory.now c.loop-index.index (c.loop-index.index + 1)
-            (plain_row w.in-Some.row.now) c.args.out.now.items (c.loop-index.out.items ++ pad c.loop-index.before) _
-            (omega arith) (sym c.row.ensures.value
-            ∙ ap (option_map (λ r. plain_row r.now)) w.in-Some.is) c.loop-index.invariant.0
-            (ap (λ (x : List ℕ). w.push_row.new.out.items ++ pad (length x)) w.deref-owner.ensures.value
-            ∙ w.in_ok-push_row-in-Some.ensures.ok),
-        begins_then c.args.out.now.items c.loop-index.out.items _ c.loop-index.invariant.1
-            w.in_ok-push_row-in-Some.ensures.begins,
-      )
-      | in-None w ↦ absurd (some_within c.args.directory.now c.loop-index.index
-          (omega (arith, c.loop-index-test.true, c.rows-rows.ensures.value)) (sym c.row.ensures.value
-          ∙ ap (option_map (λ r. plain_row r.now)) w.in-None.is))
-    ]
+loop-index-preserved g c = (
+  spelled_more row_bytes c.args.directory.now c.loop-index.index (c.loop-index.index + 1)
+      (plain_row c.in-Some.row.now) c.args.out.now.items (c.loop-index.out.items ++ pad c.loop-index.before) _
+      (omega arith) (sym c.row.ensures.value ∙ ap (option_map (λ r. plain_row r.now)) c.in-Some.is)
+      c.loop-index.invariant.0
+      (ap (λ (x : List ℕ). c.push_row.new.out.items ++ pad (length x)) c.deref-owner.ensures.value
+      ∙ c.in_ok-push_row-in-Some.ensures.ok),
+  begins_then c.args.out.now.items c.loop-index.out.items _ c.loop-index.invariant.1
+      c.in_ok-push_row-in-Some.ensures.begins,
+)
+
+pub unreachable-requires : goal.unreachable-requires
+unreachable-requires g c =
+    some_within c.args.directory.now c.loop-index.index
+    (omega (arith, c.loop-index-test.true, c.rows-rows.ensures.value))
+    (sym c.row.ensures.value ∙ ap (option_map (λ r. plain_row r.now)) c.in-None.is)
 
 pub returns-clause-ok : goal.returns-clause-ok
 returns-clause-ok g c =

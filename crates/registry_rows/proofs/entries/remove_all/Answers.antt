@@ -6,6 +6,7 @@ use Rattle.indexmap.proofs.CallerLemmas.{filter-RetainsPairs}
 use Rattle.registry_rows.specs.Steps as step
 use Rattle.registry_rows.specs.Views.{plain_row, plain_rows, AreKeyed}
 use Rattle.registry_rows.proofs.Filtered.{plain_rows-filter, AreKeyed-filter, fewer_left, length-plain_rows}
+use Rattle.registry_rows.proofs.Filtered.{none_without}
 use Rattle.registry_rows.proofs.entries.remove_all.Goals as goal
 
 pub returns-clause-entries : goal.returns-clause-entries
@@ -37,3 +38,8 @@ returns-clause-step g c =
     let fewer : nat_lt c.len.result c.len-before.result ≡ list_any gone (plain_rows c.args.rows.now.entries) =
     (λ j. nat_lt (after j) (before j)) ∙ fewer_left gone (plain_rows c.args.rows.now.entries) in
     λ j. (rows j, fewer j)
+
+pub returns-clause-refused : goal.returns-clause-refused
+returns-clause-refused g c none =
+    let gone = step.is_unset c.args.prog c.args.vers c.args.netid.now c.args.owner.now in
+    none_without gone _ _ _ (returns-clause-step g c) none

@@ -3,8 +3,8 @@ use Rattle.std.specs.Option.{option_or}
 use Rattle.registry_rows.specs.Steps.{row_at}
 use Rattle.registry_rows.specs.LookUp.{is_over, greatest}
 use Rattle.registry_rows.specs.Views.{plain_row, plain_rows}
-use Rattle.xdr_units.proofs.Found.{is_some-map}
 use Rattle.registry_rows.proofs.Greatest.{some_looked_up}
+use Rattle.registry_rows.proofs.Keyed.{is_some-seen}
 use Rattle.registry_rows.proofs.looking.look_up.Goals as goal
 
 pub returns-in-Some-clause-some : goal.returns-in-Some-clause-some
@@ -21,6 +21,6 @@ returns-in-None-clause-some g c =
     let over = greatest (filter (is_over c.args.prog c.args.netid.now) rows) in
     let none : None ≡ row_at rows c.args.prog c.args.vers c.args.netid.now =
     sym (ap (option_map (λ r. plain_row r.now)) c.in-None.is) ∙ c.find.ensures.value in
-    sym (is_some-map (λ r. plain_row r.now) c.find_greatest.result) ∙ ap is_some c.find_greatest.ensures.value
+    is_some-seen (λ r. plain_row r.now) c.find_greatest.result ∙ ap is_some c.find_greatest.ensures.value
     ∙ ap (λ o. is_some (option_or o over)) none
     ∙ some_looked_up rows c.args.prog c.args.vers c.args.netid.now

@@ -2,7 +2,7 @@ use Rattle.std.proofs.Common.{subst, sym}
 use Rattle.xdr_types.specs.Within.{FitsWithin}
 use Rattle.registry_dumps.specs.Dir.{dir_kinds}
 use Rattle.registry_dumps.specs.Dumps.{dump_limits}
-use Rattle.registry_dumps.proofs.Fitting.{dump_fits}
+use Rattle.rpc_directory.proofs.Fitting.{dump_fits}
 use Rattle.rpc_directory.proofs.directory.Directory.dump.Goals as goal
 
 pub returns-clause-fits : goal.returns-clause-fits

@@ -1,7 +1,7 @@
 use Rattle.std.proofs.Common.{◌≡◌, ◌∙◌, ap, sym, arith, option_map, ◌-◌, drop, ℕ}
 use Rattle.xdr_types.specs.View.{tree}
 use Rattle.registry_rows.specs.Views.{plain_row}
-use Rattle.registry_dumps.proofs.Steps.{none_past}
+use Rattle.rpc_directory.proofs.Steps.{none_past}
 use Rattle.rpc_directory.specs.Private.Listings.{list_of}
 use Rattle.rpc_directory.proofs.Listed.{list_more, list_less}
 use Rattle.rpc_directory.proofs.directory.Directory.list.Goals as goal
@@ -19,8 +19,8 @@ loop-left-preserved-in-Some-2 g c =
           c.loop-left.invariant.listed;
     }
 
-pub loop-left-preserved-in-None-2 : goal.loop-left-preserved-in-None-2
-loop-left-preserved-in-None-2 g c =
+pub loop-left-preserved : goal.loop-left-preserved
+loop-left-preserved g c =
     let at = sym c.row.ensures.value ∙ ap (option_map (λ r. plain_row r.now)) c.in-Some.is in
     let has = sym (ap (option_map tree) c.in-None-2.is) ∙ c.in_ok-first-in-Some.ensures in
     record {
@@ -30,11 +30,11 @@ loop-left-preserved-in-None-2 g c =
           c.loop-left.invariant.listed;
     }
 
-pub loop-left-preserved : goal.loop-left-preserved
-loop-left-preserved g c =
+pub unreachable-requires : goal.unreachable-requires
+unreachable-requires g c =
     let none = sym c.row.ensures.value ∙ ap (option_map (λ r. plain_row r.now)) c.in-None.is in
     let past = none_past c.args.self.now (c.loop-left.left - 1) none in
-    absurd (omega (arith, past, c.loop-left.invariant.within, c.loop-left-test.true))
+    omega (arith, past, c.loop-left.invariant.within, c.loop-left-test.true)
 
 pub returns-clause-all : goal.returns-clause-all
 returns-clause-all g c =

@@ -2,7 +2,7 @@ use Rattle.std.proofs.Common.{◌≡◌, ◌≤◌, ◌<◌, ℕ, List, [], leng
 use Rattle.xdr_units.specs.Numbers.{AreBytes}
 use Rattle.xdr_units.proofs.Bytes.{bytes_at}
 use Rattle.registry_rows.specs.Rows.{row_of}
-use Rattle.registry_rows.proofs.Added.{addable}
+use Rattle.rpc_directory.proofs.Addable.{addable}
 use Rattle.rpc_directory.proofs.directory.Directory.set.Goals as goal
 
 pub append-requires-clause-row : goal.append-requires-clause-row
