@@ -359,12 +359,12 @@ module _ (exact : WholeExactly dir_kinds) where
                 let bo = b5.0 in
                 let lp : nat_lt prog (2 ^ 32) ≡ true = lt-ltb _ _ (omega arith) in
                 let lv : nat_lt vers (2 ^ 32) ≡ true = lt-ltb _ _ (omega arith) in
-                let ln : nat_le (length netid) 4294967295 ≡ true = le-leb _ _ (omega arith) in
-                let la : nat_le (length address) 4294967295 ≡ true = le-leb _ _ (omega arith) in
-                let lo : nat_le (length owner) 4294967295 ≡ true = le-leb _ _ (omega arith) in
+                let ln : is_length 4294967295 (length netid) ≡ true = short_enough (length netid) (omega arith) in
+                let la : is_length 4294967295 (length address) ≡ true = short_enough (length address) (omega arith) in
+                let lo : is_length 4294967295 (length owner) ≡ true = short_enough (length owner) (omega arith) in
                 let legal : fits dir_kinds 11 (rpcb_tree (row_of prog vers netid address owner)) ≡ true =
-                λ j. (lp j && true) && ((lv j && true) && ((((ln j && ln j) && bn j) && true) &&
-                ((((la j && la j) && ba j) && true) && ((((lo j && lo j) && bo j) && true) && true)))) in
+                λ j. (lp j && true) && ((lv j && true) && (((ln j && bn j) && true) &&
+                (((la j && ba j) && true) && (((lo j && bo j) && true) && true)))) in
                 let many : length args ≡ length
                 (bytes_of dir_kinds 11 (rpcb_tree (row_of prog vers netid address owner))) + length x5 =
                 ap length all ∙ length-append
