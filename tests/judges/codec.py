@@ -2,7 +2,7 @@
 bytes (RFC 4506): rows as they stand, in pieces."""
 import itertools
 
-from rows.codec import CODED, CONTENT, CONTENT_LINES, ITEMS, ITEMS_LINES, LENT, LIMITED, NEST, SHOWN, WIDE
+from rows.codec import CODED, CONTENT, CONTENT_LINES, HELD, ITEMS, ITEMS_LINES, LENT, LIMITED, NEST, SHOWN, WIDE
 from rows.shared import Case, MORE, PIECES, Refused, WHOLE, WIDEST, Whole, octets, word
 
 from .growths import decoded_well, joined_well
@@ -93,6 +93,22 @@ def lent_cases():
         wanted = "; ".join(part(*each) for each in parts)
         case = Case("parts", kind=name, text=text, given=octets(digits))
         yield case, lambda told, wanted=wanted: told.answer == wanted
+
+
+def held_words(frames, nodes, count, pending):
+    """What a decoder and a checker hold. Of a value a checker holds nothing."""
+    return [f"{frames} {nodes} {count} {pending}", f"{frames} 0 0 {pending}"]
+
+
+def held_cases():
+    for text, name, most, pieces in HELD:
+        wanted = held_words(1, 1, 0, 0)
+        for _, answer, held in pieces:
+            wanted += [answer, answer, *held_words(*held)]
+        given = [octets(digits) for digits, *_ in pieces]
+        cuts = {"first": len(given[0]), "second": len(given[0] + given[1])}
+        case = Case("Decoder::held", kind=name, text=text, bytes=most, given=b"".join(given), **cuts)
+        yield case, lambda told, wanted=wanted: told.answer == "; ".join(wanted)
 
 
 def long_value_cases():

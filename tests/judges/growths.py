@@ -12,6 +12,7 @@ from rows.shared import (
     EXCHANGED,
     FILE,
     FURTHER,
+    LIST,
     MORE,
     NULL,
     PIECES,
@@ -400,6 +401,18 @@ def swing_cases(heap):
         more = {after.met - before.met for before, after in zip(few, many)}
         is_well = more == {0} if engine == "Checker" else len(more) == 1 and more.pop() >= 198
         yield made[200][0], lambda told, is_well=is_well: is_well and told.met > 0
+
+
+def alone_cases():
+    """Behind a value's last byte its decoder holds the value alone: the end gives nothing back. In the midst of one it
+    holds more."""
+    for kind, given in (
+        ({"kind": "list", "text": LIST}, (word(1) + word(0)) * 2047 + word(0)),
+        ({"kind": "t", "text": CHAINED}, chain(300, 200)),
+        ({"kind": "opaque"}, word(65536) + b"a" * 65536),
+    ):
+        yield Case("Decoder", given=given, **kind), lambda told: "; ok; " in told.answer and told.counts == [0]
+        yield Case("Decoder", given=given[:-4], **kind), lambda told: "Truncated" in told.answer and told.counts[0] > 0
 
 
 def without_nodes_cases():

@@ -56,7 +56,7 @@ def line_of(case):
 # What is told: growths, the answer or the exit status, the bytes of the other words in their order, the datagrams that
 # were sent, and what else is counted.
 Told = collections.namedtuple("Told", "met answer streams sent counts", defaults=((), ()))
-COUNTS = ("left", "asked")
+COUNTS = ("left", "asked", "freed")
 
 
 def told_of(line):
@@ -81,12 +81,20 @@ def run(cases, stack=None, room=None, seconds=None, **variables):
     return [told_of(line) for line in lines]
 
 
+def is_told_well(is_well, told):
+    """Whether an answer is well. Where the program ended early there is none, or less than a judge looks at."""
+    try:
+        return is_well(told)
+    except (IndexError, ValueError):
+        return False
+
+
 def judged(name, rows, stack=None, room=None, seconds=None, **variables):
     """Runs pairs of a case and a judge, and says whether all are well."""
     rows = list(rows)
     bad = []
     for (case, is_well), told in zip(rows, run([case for case, _ in rows], stack, room, seconds, **variables)):
-        if not is_well(told):
+        if not is_told_well(is_well, told):
             bad.append((line_of(case)[:600], str(told)[:600]))
     print(f"{name}: {len(rows)} runs, {len(bad)} wrong answers", *bad[:3], flush=True)
     return bool(rows) and not bad

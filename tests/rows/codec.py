@@ -189,6 +189,18 @@ LENT = [
         ],
     ),
 ]
+# A text, a kind, the limit on bytes, and three pieces: each with what is answered to it, and what is held then, frames,
+# nodes, bytes of content, and bytes of a unit that is not whole. Content and an unfinished unit; a declared length; the
+# item that is due; a whole value, and what follows it; and what is refused.
+NOTHING, ALONE, WITH_UNIT, WITH_ITEM = (0, 0, 0, 0), (0, 1, 4, 0), (1, 1, 4, 2), (2, 2, 0, 0)
+BAD_BOOL = "refused BadBool at 0"
+HELD = [
+    (b"", "opaque", WIDEST, [("00000006 61626364 6566", "more", WITH_UNIT)] + [("", "more", WITH_UNIT)] * 2),
+    (b"", "opaque", WIDEST, [("", "more", (1, 1, 0, 0)), ("ffffffff", "more", (1, 1, 0, 0)), ("61", "more", (1, 1, 0, 1))]),
+    (MORE, "big", WIDEST, [("ffffffff", "more", WITH_ITEM)] + [("", "more", WITH_ITEM)] * 2),
+    (b"", "opaque", 8, [("00000004 61616161", "done 8", ALONE), ("", "done 0", ALONE), ("62", "done 0", ALONE)]),
+    (b"", "bool", WIDEST, [("000000", "more", (1, 1, 0, 3)), ("0205", BAD_BOOL, NOTHING), ("00000001", BAD_BOOL, NOTHING)]),
+]
 # The numbers below 524288, a unit each, as content of two mebibytes; and those below 100,000 as items.
 UNITS = b"".join(map(word, range(524288)))
 CONTENT, CONTENT_LINES = word(2097152) + UNITS, b"0x%s\n" % UNITS.hex().encode()

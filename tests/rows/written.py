@@ -94,6 +94,7 @@ ODD_LINES = b"program vers netid address owner\n4294967295 0 a\\x22b \\x5c\\x0a 
 ACCEPTED, DENIED = "00000001 00000001 00000000 00000000 00000000 ", "00000001 00000001 00000001 "
 ANSWERS = [
     (4, marked(octets(f"{ACCEPTED} 00000000 {OWN_ROWS} {ROW_4} 00000000")), 0, LINES_4),
+    (3, marked(octets(f"{ACCEPTED} 00000000 {OWN_ROWS} {ROW_4} 00000000")), 0, LINES_4),
     (2, marked(octets(f"{ACCEPTED} 00000000 {ROWS_2} {ROW_2} 00000000")), 0, LINES_2),
     (4, marked(octets(f"{ACCEPTED} 00000000 {ODD}")), 0, ODD_LINES),
     (4, b"", 1, b"refused Truncated at 0\n"),

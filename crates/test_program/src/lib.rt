@@ -1,7 +1,5 @@
-//! Tests of the words that the program reads, and of what it serves over loopback.
+//! Tests of the words that the program reads.
 #![tactic(auto)]
 
-#[cfg(test)]
-mod loopback;
 #[cfg(test)]
 mod words;

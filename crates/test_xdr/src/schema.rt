@@ -4,8 +4,6 @@ use std::process::Abort;
 use xdr_lang::read;
 use xdr_types::Schema;
 
-pub const BOOL: u32 = 4;
-
 pub const OPAQUE: u32 = 6;
 
 pub const LIST: u32 = 11;

@@ -17,9 +17,10 @@ pub struct Word<'a> {
     is_text: bool,
 }
 
-/// The words of a line.
+/// The words of a line, and the memory for what they say.
 #[derive(Drop)]
 pub struct Case<'a> {
+    pub alloc: Global,
     words: Vec<Word<'a>>,
 }
 
@@ -63,7 +64,7 @@ impl<'a> Case<'a> {
             let _pushed = words.push(word);
             rest = behind;
         }
-        Case { words }
+        Case { alloc, words }
     }
 
     // The word with a key.
@@ -90,15 +91,19 @@ impl<'a> Case<'a> {
     }
 
     /// The text of a key, which may stand between quotation marks; empty for want of memory.
-    pub fn text(&self, alloc: Global, key: &str) -> String {
-        let made = match self.find(key) {
-            Some(word) if word.is_text => String::from_utf8(unescaped(alloc, word.value)).ok(),
-            Some(word) => String::from_str(alloc, word.value).ok(),
-            None => None,
-        };
-        match made {
-            Some(text) => text,
-            None => String::new(alloc),
+    pub fn text(&self, key: &str) -> String {
+        match String::from_utf8(self.spelled(key)) {
+            Ok(text) => text,
+            Err(_) => String::new(self.alloc),
+        }
+    }
+
+    // The bytes of a key's text.
+    fn spelled(&self, key: &str) -> Vec<u8> {
+        match self.find(key) {
+            Some(word) if word.is_text => unescaped(self.alloc, word.value),
+            Some(word) => joined(Vec::new(self.alloc), word.value.as_bytes()),
+            None => Vec::new(self.alloc),
         }
     }
 
@@ -137,32 +142,31 @@ impl<'a> Case<'a> {
     }
 
     /// The bytes of a key; none where they are no bytes, or for want of memory.
-    pub fn bytes(&self, alloc: Global, key: &str) -> Vec<u8> {
+    pub fn bytes(&self, key: &str) -> Vec<u8> {
         match self.find(key) {
-            Some(word) if word.is_text => unescaped(alloc, word.value),
-            Some(word) => digits(alloc, word.value),
-            None => Vec::new(alloc),
+            Some(word) if word.is_text => unescaped(self.alloc, word.value),
+            Some(word) => digits(self.alloc, word.value),
+            None => Vec::new(self.alloc),
         }
     }
 
     /// The bytes of a key, with a comma between two; none where the key is not there.
-    pub fn list(&self, alloc: Global, key: &str) -> Vec<Vec<u8>> {
-        let mut all = Vec::new(alloc);
-        if !self.has(key) {
-            return all;
-        }
-        for part in self.word(key).split(',') {
-            let _pushed = all.push(digits(alloc, part));
+    pub fn list(&self, key: &str) -> Vec<Vec<u8>> {
+        let mut all = Vec::new(self.alloc);
+        if self.has(key) {
+            for part in self.word(key).split(',') {
+                let _pushed = all.push(digits(self.alloc, part));
+            }
         }
         all
     }
 
     /// The bytes to read, behind so many zeros.
-    pub fn input(&self, alloc: Global) -> Vec<u8> {
-        let bytes = self.bytes(alloc, "input");
+    pub fn input(&self) -> Vec<u8> {
+        let bytes = self.bytes("input");
         match self.number("zeros") {
             0 => bytes,
-            zeros => behind_zeros(alloc, zeros.min(16777216) as usize, &bytes),
+            zeros => behind_zeros(self.alloc, zeros.min(16777216) as usize, &bytes),
         }
     }
 
@@ -190,11 +194,13 @@ impl<'a> Case<'a> {
     }
 
     /// Refuses growths from here on, as the case asks, and gives how many there were before.
-    pub fn refuse(&self, alloc: Global, rt: &impl Env) -> u64 {
+    pub fn refuse(&self, rt: &impl Env) -> u64 {
         let asked = self.word("refuse");
         let _refuses = match asked.strip_suffix("..") {
-            Some(first) => test_growths::refuse_from(alloc, rt, first.parse::<u64>().unwrap_or(0)),
-            None => test_growths::refuse(alloc, rt, asked.parse::<u64>().unwrap_or(0)),
+            Some(first) => {
+                test_growths::refuse_from(self.alloc, rt, first.parse::<u64>().unwrap_or(0))
+            }
+            None => test_growths::refuse(self.alloc, rt, asked.parse::<u64>().unwrap_or(0)),
         };
         test_growths::count(rt).unwrap_or(0)
     }
@@ -208,19 +214,11 @@ fn digits(alloc: Global, text: &str) -> Vec<u8> {
     }
 }
 
-// The number of a hexadecimal digit.
-fn digit(letter: Option<&u8>) -> u8 {
-    match letter {
-        Some(letter) => char::from(*letter).to_digit(16).unwrap_or(0) as u8,
-        None => 0,
-    }
-}
-
 // Adds what stands behind a reversed solidus: `x`, two digits of a byte, and bytes.
-fn push_behind(out: &mut Vec<u8>, piece: &[u8]) {
-    let byte = (digit(piece.get(1)) << 4) | digit(piece.get(2));
+fn push_behind(out: &mut Vec<u8>, piece: &str) {
+    let byte = u8::from_str_radix(piece.get(1..3).unwrap_or("0"), 16).unwrap_or(0);
     let _pushed = out.push(byte);
-    let _added = out.extend_from_slice(piece.get(3..).unwrap_or(&[]));
+    let _added = out.extend_from_slice(piece.as_bytes().get(3..).unwrap_or(&[]));
 }
 
 // The bytes of a text.
@@ -230,7 +228,7 @@ fn unescaped(alloc: Global, text: &str) -> Vec<u8> {
         if number == 0 {
             let _added = out.extend_from_slice(piece.as_bytes());
         } else {
-            push_behind(&mut out, piece.as_bytes());
+            push_behind(&mut out, piece);
         }
     }
     out

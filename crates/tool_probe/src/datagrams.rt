@@ -2,10 +2,10 @@
 //! `count` of them and then `count-again`, `datagrams_on` serves `count`, `exchange_datagram` exchanges the null call
 //! of version 2 with xid 1, and `info_datagram` asks a registry in a version.
 use crate::case::{Case, allow};
-use crate::printed::{datagrams as datagrams_text, exchanged as exchanged_text};
-use crate::registry::{null_call, prepared, started, with_after};
-use crate::reported::{joined, line, with_number, with_parts, with_text};
-use crate::task::ending;
+use crate::printed::{datagrams as datagrams_words, exchanged as exchanged_words};
+use crate::registry::{after_word, null_call, prepared, started};
+use crate::reported::Report;
+use crate::task::streams;
 use oncrpc_service::{datagrams_on, info_datagram};
 use rpc_engine::{MemoryPort, exchange_datagram, serve_datagrams};
 use std::alloc::Global;
@@ -13,16 +13,15 @@ use std::env::Env;
 use test_growths::bytes;
 use xdr_io::MemorySink;
 
-/// What is reported of the case.
-pub fn reported(rt: &HostRuntime, case: &Case<'_>) -> String {
-    let alloc = rt.alloc();
-    let all = case.list(alloc, "datagrams");
-    let waiting = lent(alloc, &all);
+/// Reports the case.
+pub fn call(out: &mut Report, rt: &impl Env, case: &Case<'_>) {
+    let all = case.list("datagrams");
+    let waiting = lent(case.alloc, &all);
     match case.call() {
-        "serve_datagrams" => served(alloc, rt, case, &waiting),
-        "exchange_datagram" => exchanged(alloc, rt, case, &waiting),
-        "datagrams_on" => answered(alloc, rt, case, &waiting),
-        _ => asked(alloc, rt, case, &waiting),
+        "serve_datagrams" => served(out, rt, case, &waiting),
+        "exchange_datagram" => exchanged(out, rt, case, &waiting),
+        "datagrams_on" => answered(out, rt, case, &waiting),
+        _ => asked(out, rt, case, &waiting),
     }
 }
 
@@ -35,78 +34,78 @@ fn lent<'a>(alloc: Global, all: &'a [Vec<u8>]) -> Vec<&'a [u8]> {
     parts
 }
 
+// What was sent through a port.
+fn sent(out: &mut Report, port: &MemoryPort<'_>) {
+    out.parts(port.sent_sizes(), port.sent_bytes());
+}
+
 // What both runs answer, how many bytes the first asked for, and what was sent.
-fn served(alloc: Global, rt: &impl Env, case: &Case<'_>, waiting: &[&[u8]]) -> String {
-    let mut directory = prepared(alloc, case);
+fn served(out: &mut Report, rt: &impl Env, case: &Case<'_>, waiting: &[&[u8]]) {
+    let (one, two) = (
+        u64::from(case.whole("count")),
+        u64::from(case.whole("count-again")),
+    );
+    let mut directory = prepared(case);
     let (mut buffer, mut sizes) = ([0u8; 8192], [0usize; 16]);
     let mut port = MemoryPort::new(waiting, &mut buffer, &mut sizes, case.failing("port-fails"));
-    let before = case.refuse(alloc, rt);
+    let before = case.refuse(rt);
     let asked = bytes(rt).unwrap_or(0);
-    let one = serve_datagrams(
-        alloc,
-        &mut port,
-        u64::from(case.whole("count")),
-        &mut directory,
-    );
+    let first = serve_datagrams(case.alloc, &mut port, one, &mut directory);
     let asked = bytes(rt).unwrap_or(0).saturating_sub(asked);
-    let again = u64::from(case.whole("count-again"));
-    let two = serve_datagrams(alloc, &mut port, again, &mut directory);
-    let met = allow(rt, before);
-    let answer = joined(datagrams_text(alloc, one), "; ");
-    let answer = joined(answer, datagrams_text(alloc, two).as_str());
-    let reported = line(alloc, met, answer.as_str());
-    let reported = with_number(alloc, reported, " asked=", asked);
-    let reported = with_parts(alloc, reported, port.sent_sizes(), port.sent_bytes());
-    with_after(alloc, &mut directory, reported, case)
+    let second = serve_datagrams(case.alloc, &mut port, two, &mut directory);
+    out.answer(allow(rt, before));
+    datagrams_words(out, first);
+    out.text("; ");
+    datagrams_words(out, second);
+    out.end();
+    out.number(" asked=", asked);
+    sent(out, &port);
+    after_word(out, &mut directory, case);
 }
 
-fn exchanged(alloc: Global, rt: &impl Env, case: &Case<'_>, waiting: &[&[u8]]) -> String {
-    let before = case.refuse(alloc, rt);
-    let call = null_call(alloc);
+fn exchanged(out: &mut Report, rt: &impl Env, case: &Case<'_>, waiting: &[&[u8]]) {
+    let before = case.refuse(rt);
+    let call = null_call(case.alloc);
     let (mut buffer, mut sizes) = ([0u8; 128], [0usize; 2]);
     let mut port = MemoryPort::new(waiting, &mut buffer, &mut sizes, case.failing("port-fails"));
-    let answer = exchange_datagram(alloc, &mut port, &call);
-    let reported = line(
-        alloc,
-        allow(rt, before),
-        exchanged_text(alloc, &answer).as_str(),
-    );
-    with_parts(alloc, reported, port.sent_sizes(), port.sent_bytes())
+    let answer = exchange_datagram(case.alloc, &mut port, &call);
+    out.answer(allow(rt, before));
+    exchanged_words(out, &answer);
+    out.end();
+    sent(out, &port);
 }
 
-fn answered(alloc: Global, rt: &impl Env, case: &Case<'_>, waiting: &[&[u8]]) -> String {
-    let mut directory = started(alloc);
-    let before = case.refuse(alloc, rt);
+fn answered(out: &mut Report, rt: &impl Env, case: &Case<'_>, waiting: &[&[u8]]) {
+    let mut directory = started(case.alloc);
+    let before = case.refuse(rt);
     let (mut buffer, mut sizes) = ([0u8; 4096], [0usize; 64]);
     let (mut lines, mut said) = ([0u8; 4096], [0u8; 128]);
     let mut port = MemoryPort::new(waiting, &mut buffer, &mut sizes, case.failing("port-fails"));
     let mut output = MemorySink::new(&mut lines, case.piece("write"), case.failing("write-fails"));
     let mut faults = MemorySink::new(&mut said, 128, None);
     let status = datagrams_on(
-        alloc,
+        case.alloc,
         &mut port,
         case.whole("count"),
         &mut directory,
         &mut output,
         &mut faults,
     );
-    let reported = ending(alloc, allow(rt, before), status);
-    let reported = with_parts(alloc, reported, port.sent_sizes(), port.sent_bytes());
-    let reported = with_text(reported, " output=", output.written());
-    with_text(reported, " faults=", faults.written())
+    out.ended(allow(rt, before), status);
+    sent(out, &port);
+    streams(out, &output, &faults);
 }
 
-fn asked(alloc: Global, rt: &impl Env, case: &Case<'_>, waiting: &[&[u8]]) -> String {
-    let before = case.refuse(alloc, rt);
+fn asked(out: &mut Report, rt: &impl Env, case: &Case<'_>, waiting: &[&[u8]]) {
+    let version = case.whole("version");
+    let before = case.refuse(rt);
     let (mut buffer, mut sizes) = ([0u8; 4096], [0usize; 64]);
     let (mut lines, mut said) = ([0u8; 4096], [0u8; 128]);
     let mut port = MemoryPort::new(waiting, &mut buffer, &mut sizes, case.failing("port-fails"));
     let mut output = MemorySink::new(&mut lines, case.piece("write"), case.failing("write-fails"));
     let mut faults = MemorySink::new(&mut said, 128, None);
-    let version = case.whole("version");
-    let status = info_datagram(alloc, &mut port, &mut output, &mut faults, version);
-    let reported = ending(alloc, allow(rt, before), status);
-    let reported = with_parts(alloc, reported, port.sent_sizes(), port.sent_bytes());
-    let reported = with_text(reported, " output=", output.written());
-    with_text(reported, " faults=", faults.written())
+    let status = info_datagram(case.alloc, &mut port, &mut output, &mut faults, version);
+    out.ended(allow(rt, before), status);
+    sent(out, &port);
+    streams(out, &output, &faults);
 }

@@ -1,231 +1,184 @@
 //! What texts declare, as text: kinds in the words of the language, the kinds that they name by their places, and `; `
 //! between two.
-use crate::reported::{joined, listed, named, numbered, plain, signed, text_of, with_number};
-use std::alloc::Global;
+use crate::reported::Report;
 use xdr_lang::{Procedure, Program, Version};
 use xdr_types::{Arm, Kind, KindId, Member, Schema};
 
-// A text with another and a mark behind it.
-fn enclosed(before: String, text: &str, mark: &str) -> String {
-    joined(joined(before, text), mark)
-}
-
-// A text with a size between two marks behind it.
-fn sized(alloc: Global, before: String, mark: &str, size: u32, end: &str) -> String {
-    joined(with_number(alloc, before, mark, u64::from(size)), end)
+// Two marks and a size between them.
+fn sized(out: &mut Report, mark: &str, size: u32, end: &str) {
+    out.number(mark, u64::from(size));
+    out.text(end);
 }
 
 // A name and its number.
-fn number_of(alloc: Global, name: &String, number: i128) -> String {
-    let name = joined(plain(alloc, name.as_str()), " = ");
-    joined(name, signed(alloc, "", number).as_str())
-}
-
-// What stands before the parts of a program or a version.
-fn head_text(alloc: Global, word: &str, name: &String, number: u32) -> String {
-    let head = joined(plain(alloc, word), name.as_str());
-    joined(with_number(alloc, head, " = ", u64::from(number)), " {")
+fn number_of(out: &mut Report, name: &String, number: i128) {
+    out.text(name.as_str());
+    out.signed(" = ", number);
 }
 
 // The members of an enumeration.
-fn members_text(alloc: Global, members: &[(String, i32)]) -> String {
-    let mut texts = Vec::new(alloc);
-    for member in members {
-        let _pushed = texts.push(number_of(alloc, &member.0, i128::from(member.1)));
+fn members(out: &mut Report, members: &[(String, i32)]) {
+    for (number, member) in members.iter().enumerate() {
+        out.between(number, "; ");
+        number_of(out, &member.0, i128::from(member.1));
     }
-    listed(alloc, &texts)
 }
 
 // A field of a structure, or the part of an arm: its kind's place and its name.
-fn member_text(alloc: Global, member: &Member) -> String {
-    let place = joined(numbered(alloc, "", u64::from(member.kind.place)), " ");
-    joined(place, member.name.as_str())
+fn member(out: &mut Report, member: &Member) {
+    out.number("", u64::from(member.kind.place));
+    out.text(" ");
+    out.text(member.name.as_str());
 }
 
-fn fields_text(alloc: Global, fields: &[Member]) -> String {
-    let mut texts = Vec::new(alloc);
-    for field in fields {
-        let _pushed = texts.push(member_text(alloc, field));
+fn fields(out: &mut Report, fields: &[Member]) {
+    for (number, field) in fields.iter().enumerate() {
+        out.between(number, "; ");
+        member(out, field);
     }
-    listed(alloc, &texts)
 }
 
 // An arm: the cases that it stands under, and its part.
-fn arm_text(alloc: Global, arm: &Arm) -> String {
-    let mut text = String::new(alloc);
+fn arm(out: &mut Report, arm: &Arm) {
     for case in &arm.cases {
-        text = joined(
-            joined(text, signed(alloc, "case ", i128::from(*case)).as_str()),
-            ": ",
-        );
+        out.signed("case ", i128::from(*case));
+        out.text(": ");
     }
-    joined(text, member_text(alloc, &arm.member).as_str())
+    member(out, &arm.member);
 }
 
-fn arms_text(alloc: Global, arms: &[Arm]) -> String {
-    let mut texts = Vec::new(alloc);
-    for arm in arms {
-        let _pushed = texts.push(arm_text(alloc, arm));
+fn choice(out: &mut Report, tag: KindId, arms: &[Arm], other: &Option<Member>) {
+    sized(out, "union ", tag.place, " (");
+    for (number, each) in arms.iter().enumerate() {
+        out.between(number, "; ");
+        arm(out, each);
     }
-    listed(alloc, &texts)
-}
-
-fn choice_text(alloc: Global, tag: KindId, arms: &[Arm], other: &Option<Member>) -> String {
-    let head = joined(numbered(alloc, "union ", u64::from(tag.place)), " (");
-    let head = joined(head, arms_text(alloc, arms).as_str());
-    match other {
-        Some(member) => enclosed(
-            joined(head, "; default: "),
-            member_text(alloc, member).as_str(),
-            ")",
-        ),
-        None => joined(head, ")"),
+    if let Some(default) = other {
+        out.text("; default: ");
+        member(out, default);
     }
 }
 
-// A kind of numbers, or void.
-fn number_text(alloc: Global, kind: &Kind) -> String {
-    plain(
-        alloc,
-        match kind {
-            Kind::Int => "int",
-            Kind::Unsigned => "unsigned int",
-            Kind::Hyper => "hyper",
-            Kind::UnsignedHyper => "unsigned hyper",
-            Kind::Bool => "bool",
-            _ => "void",
-        },
-    )
+// An array of items: how many there are stands between two marks.
+fn array(out: &mut Report, item: KindId, mark: &str, size: u32, end: &str) {
+    out.number("array ", u64::from(item.place));
+    sized(out, mark, size, end);
 }
 
-// A kind that names others.
-fn holder_text(alloc: Global, kind: &Kind) -> String {
+// A kind that has parts.
+fn holder(out: &mut Report, kind: &Kind) {
     match kind {
-        Kind::Fixed { item, size } => sized(
-            alloc,
-            numbered(alloc, "array ", u64::from(item.place)),
-            "[",
-            *size,
-            "]",
-        ),
-        Kind::UpTo { item, max } => sized(
-            alloc,
-            numbered(alloc, "array ", u64::from(item.place)),
-            "<",
-            *max,
-            ">",
-        ),
-        Kind::Structure { fields } => enclosed(
-            plain(alloc, "struct ("),
-            fields_text(alloc, fields).as_str(),
-            ")",
-        ),
-        Kind::Choice { tag, arms, other } => choice_text(alloc, *tag, arms, other),
-        Kind::Maybe { item } => numbered(alloc, "optional ", u64::from(item.place)),
-        _ => number_text(alloc, kind),
+        Kind::Fixed { item, size } => array(out, *item, "[", *size, "]"),
+        Kind::UpTo { item, max } => array(out, *item, "<", *max, ">"),
+        Kind::Structure { fields: all } => {
+            out.text("struct (");
+            fields(out, all);
+            out.text(")");
+        }
+        Kind::Choice { tag, arms, other } => {
+            choice(out, *tag, arms, other);
+            out.text(")");
+        }
+        Kind::Maybe { item } => out.number("optional ", u64::from(item.place)),
+        _ => out.text("void"),
     }
 }
 
-fn kind_text(alloc: Global, kind: &Kind) -> String {
+fn kind(out: &mut Report, kind: &Kind) {
     match kind {
-        Kind::Numbered { members } => enclosed(
-            plain(alloc, "enum ("),
-            members_text(alloc, members).as_str(),
-            ")",
-        ),
-        Kind::Opaque { size } => sized(alloc, plain(alloc, "opaque"), "[", *size, "]"),
-        Kind::OpaqueUpTo { max } => sized(alloc, plain(alloc, "opaque"), "<", *max, ">"),
-        Kind::Text { max } => sized(alloc, plain(alloc, "string"), "<", *max, ">"),
-        _ => holder_text(alloc, kind),
+        Kind::Int => out.text("int"),
+        Kind::Unsigned => out.text("unsigned int"),
+        Kind::Hyper => out.text("hyper"),
+        Kind::UnsignedHyper => out.text("unsigned hyper"),
+        Kind::Bool => out.text("bool"),
+        Kind::Numbered { members: all } => {
+            out.text("enum (");
+            members(out, all);
+            out.text(")");
+        }
+        Kind::Opaque { size } => sized(out, "opaque[", *size, "]"),
+        Kind::OpaqueUpTo { max } => sized(out, "opaque<", *max, ">"),
+        Kind::Text { max } => sized(out, "string<", *max, ">"),
+        _ => holder(out, kind),
     }
 }
 
 /// The kinds of a schema, each behind a line feed.
-pub fn kinds_text(alloc: Global, schema: &Schema) -> String {
-    let mut text = String::new(alloc);
+pub fn kinds(out: &mut Report, schema: &Schema) {
     for place in 0..schema.len() {
-        let kind = KindId {
+        let id = KindId {
             place: place.min(4294967295) as u32,
         };
-        if schema.has(kind) {
-            text = joined(
-                joined(text, "\n"),
-                kind_text(alloc, schema.kind(kind)).as_str(),
-            );
+        if schema.has(id) {
+            out.text("\n");
+            kind(out, schema.kind(id));
         }
     }
-    text
 }
 
 /// The names of a schema with the places of their kinds, as `("int", 0)`. A schema hands out no list of them but in its
 /// text for debugging.
-pub fn names_text(alloc: Global, schema: &Schema) -> String {
-    let text = named(alloc, "", schema);
-    let names = match text.split_once("], names: [") {
-        Some((_, names)) => names.strip_suffix("] }").unwrap_or(names),
-        None => "",
-    };
-    let places = text_of(alloc, names.replace(alloc, "KindId { place: ", ""));
-    text_of(alloc, places.replace(alloc, " }", ""))
+pub fn names(out: &mut Report, schema: &Schema) {
+    let mut all = Report::new(out.alloc);
+    all.name("", schema);
+    let text = std::str::from_utf8(all.bytes()).unwrap_or("");
+    let (_, behind) = text.split_once(" names: [").unwrap_or(("", ""));
+    let (names, _) = behind.split_once(']').unwrap_or(("", ""));
+    for part in names.split("KindId { place: ") {
+        for piece in part.split(" }") {
+            out.text(piece);
+        }
+    }
 }
 
 /// Constants and their numbers.
-pub fn constants_text(alloc: Global, constants: &[(String, i128)]) -> String {
-    let mut texts = Vec::new(alloc);
-    for constant in constants {
-        let _pushed = texts.push(number_of(alloc, &constant.0, constant.1));
+pub fn constants(out: &mut Report, constants: &[(String, i128)]) {
+    for (number, constant) in constants.iter().enumerate() {
+        out.between(number, "; ");
+        number_of(out, &constant.0, constant.1);
     }
-    listed(alloc, &texts)
-}
-
-// The places of kinds, with a comma and a space between two.
-fn places_text(alloc: Global, kinds: &[KindId]) -> String {
-    let mut text = String::new(alloc);
-    for (number, kind) in kinds.iter().enumerate() {
-        if number > 0 {
-            text = joined(text, ", ");
-        }
-        text = with_number(alloc, text, "", u64::from(kind.place));
-    }
-    text
 }
 
 // A procedure: the place of its result's kind, its name, and the places of its arguments' kinds, as in the language.
-fn procedure_text(alloc: Global, procedure: &Procedure) -> String {
-    let result = match procedure.result {
-        Some(kind) => numbered(alloc, "", u64::from(kind.place)),
-        None => plain(alloc, "void"),
-    };
-    let head = joined(joined(plain(alloc, " "), result.as_str()), " ");
-    let head = joined(joined(head, procedure.name.as_str()), "(");
-    let head = joined(head, places_text(alloc, &procedure.arguments).as_str());
-    joined(
-        with_number(alloc, head, ") = ", u64::from(procedure.number)),
-        ";",
-    )
+fn procedure(out: &mut Report, procedure: &Procedure) {
+    match procedure.result {
+        Some(kind) => out.number(" ", u64::from(kind.place)),
+        None => out.text(" void"),
+    }
+    out.text(" ");
+    out.text(procedure.name.as_str());
+    out.text("(");
+    for (number, kind) in procedure.arguments.iter().enumerate() {
+        out.between(number, ", ");
+        out.number("", u64::from(kind.place));
+    }
+    out.number(") = ", u64::from(procedure.number));
+    out.text(";");
 }
 
-fn version_text(alloc: Global, version: &Version) -> String {
-    let mut text = head_text(alloc, " version ", &version.name, version.number);
-    for procedure in &version.procedures {
-        text = joined(text, procedure_text(alloc, procedure).as_str());
-    }
-    joined(text, " }")
+// What stands before the parts of a program or a version.
+fn head(out: &mut Report, word: &str, name: &String, number: u32) {
+    out.text(word);
+    out.text(name.as_str());
+    out.number(" = ", u64::from(number));
+    out.text(" {");
 }
 
-fn program_text(alloc: Global, program: &Program) -> String {
-    let mut text = head_text(alloc, "program ", &program.name, program.number);
-    for version in &program.versions {
-        text = joined(text, version_text(alloc, version).as_str());
+fn version(out: &mut Report, version: &Version) {
+    head(out, " version ", &version.name, version.number);
+    for each in &version.procedures {
+        procedure(out, each);
     }
-    joined(text, " }")
+    out.text(" }");
 }
 
 /// Programs with their versions and procedures, each behind a line feed.
-pub fn programs_text(alloc: Global, programs: &[Program]) -> String {
-    let mut text = String::new(alloc);
+pub fn programs(out: &mut Report, programs: &[Program]) {
     for program in programs {
-        text = joined(joined(text, "\n"), program_text(alloc, program).as_str());
+        head(out, "\nprogram ", &program.name, program.number);
+        for each in &program.versions {
+            version(out, each);
+        }
+        out.text(" }");
     }
-    text
 }

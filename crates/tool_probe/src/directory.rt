@@ -3,8 +3,8 @@
 ghost use Rattle.std.specs.Prelude.{◌≤◌, length};
 
 use crate::case::{Case, allow};
-use crate::registry::{Registry, rows_text};
-use crate::reported::{joined, line, listed, numbered, plain, text_of, with_number};
+use crate::registry::{Registry, rows};
+use crate::reported::Report;
 use rpc_directory::{Directory, NoMemory, Row, Uaddr, read_uaddr, write_uaddr};
 use std::alloc::Global;
 use std::env::Env;
@@ -104,86 +104,68 @@ fn found<'a>(directory: &'a Registry, call: &Case<'_>) -> Answer<'a> {
     }
 }
 
-// Bytes as text.
-fn shown(alloc: Global, bytes: &[u8]) -> String {
-    text_of(alloc, String::from_utf8_lossy(alloc, bytes))
-}
-
-// A text, a space and another.
-fn spaced(before: String, text: String) -> String {
-    joined(joined(before, " "), text.as_str())
-}
-
 // A row as the program prints it.
-fn row_text(alloc: Global, row: &Row) -> String {
-    let key = with_number(
-        alloc,
-        numbered(alloc, "", u64::from(row.prog)),
-        " ",
-        u64::from(row.vers),
-    );
-    spaced(
-        spaced(
-            spaced(key, shown(alloc, &row.netid)),
-            shown(alloc, &row.address),
-        ),
-        shown(alloc, &row.owner),
-    )
+fn row_words(out: &mut Report, row: &Row) {
+    out.number("", u64::from(row.prog));
+    out.number(" ", u64::from(row.vers));
+    for text in [&row.netid, &row.address, &row.owner] {
+        out.text(" ");
+        out.push(text);
+    }
 }
 
 // A host and a port.
-fn uaddr_text(alloc: Global, uaddr: Uaddr) -> String {
+fn uaddr_words(out: &mut Report, uaddr: Uaddr) {
     let host = uaddr.host;
     let [a, b, c, d] = host;
-    let text = with_number(
-        alloc,
-        numbered(alloc, "host ", u64::from(a)),
-        ".",
-        u64::from(b),
-    );
-    let text = with_number(
-        alloc,
-        with_number(alloc, text, ".", u64::from(c)),
-        ".",
-        u64::from(d),
-    );
-    with_number(alloc, text, " port ", u64::from(uaddr.port))
+    out.number("host ", u64::from(a));
+    out.number(".", u64::from(b));
+    out.number(".", u64::from(c));
+    out.number(".", u64::from(d));
+    out.number(" port ", u64::from(uaddr.port));
+}
+
+// An address.
+fn address_words(out: &mut Report, address: &[u8]) {
+    out.text("address ");
+    out.push(address);
 }
 
 // What a call answers, as text.
-fn answer_text(alloc: Global, answer: &Answer<'_>) -> String {
+fn answer_words(out: &mut Report, answer: &Answer<'_>) {
     match answer {
-        Answer::Done(Ok(true)) => plain(alloc, "true"),
-        Answer::Done(Ok(false)) => plain(alloc, "false"),
-        Answer::Rows(rows) => rows_text(alloc, "rpcblist", rows),
-        Answer::Ports(rows) => rows_text(alloc, "pmaplist", rows),
-        Answer::Number(number) => numbered(alloc, "", u64::from(*number)),
-        Answer::Text(address) => joined(plain(alloc, "address "), shown(alloc, address).as_str()),
-        Answer::At(Some(row)) => row_text(alloc, row),
-        Answer::At(None) => plain(alloc, "no row"),
-        Answer::Named(Some(uaddr)) => uaddr_text(alloc, *uaddr),
-        Answer::Named(None) => plain(alloc, "no address"),
-        Answer::Written(Ok(text)) => joined(plain(alloc, "address "), shown(alloc, text).as_str()),
-        Answer::Done(Err(_)) | Answer::Written(Err(_)) => plain(alloc, "out of memory"),
+        Answer::Done(Ok(true)) => out.text("true"),
+        Answer::Done(Ok(false)) => out.text("false"),
+        Answer::Rows(all) => rows(out, "rpcblist", all),
+        Answer::Ports(all) => rows(out, "pmaplist", all),
+        Answer::Number(number) => out.number("", u64::from(*number)),
+        Answer::Text(address) => address_words(out, address),
+        Answer::At(Some(row)) => row_words(out, row),
+        Answer::At(None) => out.text("no row"),
+        Answer::Named(Some(uaddr)) => uaddr_words(out, *uaddr),
+        Answer::Named(None) => out.text("no address"),
+        Answer::Written(Ok(text)) => address_words(out, text),
+        Answer::Done(Err(_)) | Answer::Written(Err(_)) => out.text("out of memory"),
     }
 }
 
 // How many growths a call met, and what it answered.
-fn told_of(alloc: Global, rt: &impl Env, directory: &mut Registry, words: &str) -> String {
-    let call = Case::read(alloc, words);
-    let before = call.refuse(alloc, rt);
-    let answer = made(alloc, directory, &call);
-    let met = allow(rt, before);
-    spaced(numbered(alloc, "", met), answer_text(alloc, &answer))
+fn call_words(out: &mut Report, rt: &impl Env, directory: &mut Registry, call: &Case<'_>) {
+    let before = call.refuse(rt);
+    let answer = made(call.alloc, directory, call);
+    out.number("", allow(rt, before));
+    out.text(" ");
+    answer_words(out, &answer);
 }
 
-/// What is reported of the calls.
-pub fn reported(rt: &HostRuntime, calls: &str) -> String {
-    let alloc = rt.alloc();
-    let mut directory = Directory::new(alloc, BuildHasherDefault::new());
-    let mut answers = Vec::new(alloc);
-    for words in calls.split(" ; ") {
-        let _pushed = answers.push(told_of(alloc, rt, &mut directory, words));
+/// Reports the calls.
+pub fn calls(out: &mut Report, rt: &impl Env, calls: &str) {
+    let mut directory = Directory::new(out.alloc, BuildHasherDefault::new());
+    out.answer(0);
+    for (number, words) in calls.split(" ; ").enumerate() {
+        out.between(number, "; ");
+        let call = Case::read(out.alloc, words);
+        call_words(out, rt, &mut directory, &call);
     }
-    line(alloc, 0, listed(alloc, &answers).as_str())
+    out.end();
 }

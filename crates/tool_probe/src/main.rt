@@ -1,6 +1,9 @@
 //! One call a line: the call that each line of the input asks for is made while reads, writes or growths of memory
 //! fail, and a line tells what it answered. `tests/run` and `bench/fuzz` write such lines and judge what is reported, and
 //! `tests/README.md` says how they are written. Without a line nothing is called.
+//!
+//! `case` reads what is asked for, `reported` writes the line of what is answered, and `printed` and `declared` have the
+//! words of answers. Each other module makes the calls of one subject.
 #![tactic(auto)]
 
 mod case;
@@ -18,33 +21,33 @@ mod task;
 mod values;
 
 use case::Case;
-use std::alloc::Global;
+use reported::Report;
 use std::io::{self, BufRead, BufReader, BufWriter, Write};
 use std::process::ExitCode;
 
-// Makes the call of a case, and tells how many growths of memory it met and what it answered.
-fn called(rt: &HostRuntime, case: &Case<'_>) -> String {
+// Makes the call of a case, and reports how many growths of memory it met and what it answered.
+fn call(out: &mut Report, rt: &HostRuntime, case: &Case<'_>) {
     match case.call() {
         "normalise" | "RecordReader" | "RecordReader::calls" | "mark" | "write_marked" => {
-            records::reported(rt, case)
+            records::call(out, rt, case)
         }
-        "Task::Check" | "Task::Show" | "Task::Records" => task::reported(rt, case),
-        "info_over" | "serve_on" => program::reported(rt, case),
+        "Task::Check" | "Task::Show" | "Task::Records" => task::call(out, rt, case),
+        "info_over" | "serve_on" => program::call(out, rt, case),
         "serve_datagrams" | "exchange_datagram" | "datagrams_on" | "info_datagram" => {
-            datagrams::reported(rt, case)
+            datagrams::call(out, rt, case)
         }
-        "serve" | "answer" | "append_answer" | "exchange" | "dump" => registry::reported(rt, case),
-        "read_call" | "read_reply" | "read_auth_sys" => messages::reported(rt, case),
-        "tokens" | "read_outline" | "read" | "directory_schema" => language::reported(rt, case),
-        _ => values::reported(rt, case),
+        "serve" | "answer" | "append_answer" | "exchange" | "dump" => registry::call(out, rt, case),
+        "read_call" | "read_reply" | "read_auth_sys" => messages::call(out, rt, case),
+        "tokens" | "read_outline" | "read" | "directory_schema" => language::call(out, rt, case),
+        _ => values::call(out, rt, case),
     }
 }
 
-// What is reported of a line: of calls of one registry, or of a case.
-fn answer_to(rt: &HostRuntime, alloc: Global, line: &str) -> String {
+// Reports a line: of calls of one registry, or of a case.
+fn report(out: &mut Report, rt: &HostRuntime, line: &str) {
     match line.strip_prefix("call=Directory ; ") {
-        Some(calls) => directory::reported(rt, calls),
-        None => called(rt, &Case::read(alloc, line)),
+        Some(calls) => directory::calls(out, rt, calls),
+        None => call(out, rt, &Case::read(rt.alloc(), line)),
     }
 }
 
@@ -54,9 +57,10 @@ fn cases(rt: &HostRuntime) -> io::Result<()> {
     let mut out = BufWriter::new(alloc, io::writer(rt))?;
     for line in BufReader::new(alloc, rt.reader())?.lines(alloc) {
         let line = line?;
-        let answer = answer_to(rt, alloc, line.as_str());
-        out.write_all(answer.as_bytes())?;
-        out.write_all(b"\n")?;
+        let mut told = Report::new(alloc);
+        report(&mut told, rt, line.as_str());
+        told.push(b"\n");
+        out.write_all(told.bytes())?;
     }
     out.flush()
 }

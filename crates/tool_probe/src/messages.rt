@@ -1,10 +1,8 @@
 //! Messages of RPC: the input as `read_call`, `read_reply` or `read_auth_sys` reads it, and what was read written
 //! again, a reply behind `front`.
-ghost use Rattle.std.specs.Prelude.{◌≤◌, length};
-
 use crate::case::{Case, allow};
-use crate::printed::{auth, reply as reply_text, reply_fault};
-use crate::reported::{joined, line, numbered, plain, with_digits, with_number};
+use crate::printed::{auth, reply as reply_words, reply_fault};
+use crate::reported::Report;
 use rpc_message::{
     AuthSys, Call, CallRead, NoMemory, Reply, append_reply, read_auth_sys, read_call, read_reply,
     write_auth_sys, write_call, write_reply,
@@ -12,75 +10,55 @@ use rpc_message::{
 use std::alloc::Global;
 use std::env::Env;
 
-/// What is reported of the case.
-pub fn reported(rt: &HostRuntime, case: &Case<'_>) -> String {
+/// Reports the case.
+pub fn call(out: &mut Report, rt: &impl Env, case: &Case<'_>) {
+    let input = case.input();
     match case.call() {
-        "read_call" => call(rt.alloc(), rt, case),
-        "read_reply" => reply(rt.alloc(), rt, case),
-        _ => credential(rt.alloc(), rt, case),
+        "read_call" => read_as_call(out, rt, case, &input),
+        "read_reply" => read_as_reply(out, rt, case, &input),
+        _ => read_as_credential(out, rt, case, &input),
     }
 }
 
-// What was written again.
-fn again_text(alloc: Global, again: Option<Result<Vec<u8>, NoMemory>>) -> String {
+// What was written again, and the end of the answer.
+fn written(out: &mut Report, again: &Option<Result<Vec<u8>, NoMemory>>) {
     match again {
-        Some(Ok(bytes)) => with_digits(alloc, plain(alloc, "; written "), &bytes),
-        Some(Err(_)) => plain(alloc, "; out of memory"),
-        None => String::new(alloc),
+        Some(Ok(bytes)) => out.digits("; written ", bytes),
+        Some(Err(_)) => out.text("; out of memory"),
+        None => {}
     }
-}
-
-// The line of what was read and written again.
-fn told_of(
-    alloc: Global,
-    met: u64,
-    read: String,
-    again: Option<Result<Vec<u8>, NoMemory>>,
-) -> String {
-    line(
-        alloc,
-        met,
-        joined(read, again_text(alloc, again).as_str()).as_str(),
-    )
+    out.end();
 }
 
 // The fields of a call.
-fn whole_text(alloc: Global, call: &Call) -> String {
-    let text = numbered(alloc, "call ", u64::from(call.xid));
-    let text = with_number(alloc, text, ", program ", u64::from(call.prog));
-    let text = with_number(alloc, text, ", version ", u64::from(call.vers));
-    let text = with_number(alloc, text, ", procedure ", u64::from(call.proc));
-    let text = joined(
-        joined(text, ", credential "),
-        auth(alloc, &call.cred).as_str(),
-    );
-    let text = joined(
-        joined(text, ", verifier "),
-        auth(alloc, &call.verf).as_str(),
-    );
-    with_digits(alloc, joined(text, ", arguments "), &call.args)
+fn whole(out: &mut Report, call: &Call) {
+    out.number("call ", u64::from(call.xid));
+    out.number(", program ", u64::from(call.prog));
+    out.number(", version ", u64::from(call.vers));
+    out.number(", procedure ", u64::from(call.proc));
+    auth(out, ", credential ", &call.cred);
+    auth(out, ", verifier ", &call.verf);
+    out.digits(", arguments ", &call.args);
+}
+
+// A number of a call, and what stands behind it.
+fn numbered(out: &mut Report, before: &str, number: u32, behind: &str) {
+    out.number(before, u64::from(number));
+    out.text(behind);
 }
 
 // What bytes are as a call.
-fn call_text(alloc: Global, read: &CallRead) -> String {
+fn call_words(out: &mut Report, read: &Result<CallRead, NoMemory>) {
     match read {
-        CallRead::Whole(call) => whole_text(alloc, call),
-        CallRead::OtherVersion { xid, version } => {
-            let call = numbered(alloc, "call ", u64::from(*xid));
-            joined(
-                with_number(alloc, call, " of version ", u64::from(*version)),
-                " of RPC",
-            )
+        Ok(CallRead::Whole(call)) => whole(out, call),
+        Ok(CallRead::OtherVersion { xid, version }) => {
+            out.number("call ", u64::from(*xid));
+            numbered(out, " of version ", *version, " of RPC");
         }
-        CallRead::BadCred { xid } => joined(
-            numbered(alloc, "call ", u64::from(*xid)),
-            " with a bad credential",
-        ),
-        CallRead::BadVerf { xid } => joined(
-            numbered(alloc, "call ", u64::from(*xid)),
-            " with a bad verifier",
-        ),
-        CallRead::NotACall => plain(alloc, "not a call"),
+        Ok(CallRead::BadCred { xid }) => numbered(out, "call ", *xid, " with a bad credential"),
+        Ok(CallRead::BadVerf { xid }) => numbered(out, "call ", *xid, " with a bad verifier"),
+        Ok(CallRead::NotACall) => out.text("not a call"),
+        Err(_) => out.text("out of memory"),
     }
 }
 
@@ -92,28 +70,16 @@ fn bytes_of_call(alloc: Global, call: &Call) -> Option<Result<Vec<u8>, NoMemory>
     Some(write_call(alloc, call))
 }
 
-// What is written again of what was read.
-fn call_again(
-    alloc: Global,
-    read: &Result<CallRead, NoMemory>,
-) -> Option<Result<Vec<u8>, NoMemory>> {
-    match read {
-        Ok(CallRead::Whole(call)) => bytes_of_call(alloc, call),
+fn read_as_call(out: &mut Report, rt: &impl Env, case: &Case<'_>, input: &[u8]) {
+    let before = case.refuse(rt);
+    let read = read_call(case.alloc, input);
+    let again = match &read {
+        Ok(CallRead::Whole(call)) => bytes_of_call(case.alloc, call),
         _ => None,
-    }
-}
-
-fn call(alloc: Global, rt: &impl Env, case: &Case<'_>) -> String {
-    let input = case.input(alloc);
-    let before = case.refuse(alloc, rt);
-    let read = read_call(alloc, &input);
-    let again = call_again(alloc, &read);
-    let met = allow(rt, before);
-    let read = match &read {
-        Ok(read) => call_text(alloc, read),
-        Err(_) => plain(alloc, "out of memory"),
     };
-    told_of(alloc, met, read, again)
+    out.answer(allow(rt, before));
+    call_words(out, &read);
+    written(out, &again);
 }
 
 // The bytes of a reply, where its verifier is short, behind those that stand there, if any do.
@@ -136,44 +102,40 @@ fn bytes_of_reply(
     }
 }
 
-fn reply(alloc: Global, rt: &impl Env, case: &Case<'_>) -> String {
-    let (input, front) = (case.input(alloc), case.bytes(alloc, "front"));
-    let before = case.refuse(alloc, rt);
-    let read = read_reply(alloc, &input);
+fn read_as_reply(out: &mut Report, rt: &impl Env, case: &Case<'_>, input: &[u8]) {
+    let front = case.bytes("front");
+    let before = case.refuse(rt);
+    let read = read_reply(case.alloc, input);
     let again = match &read {
-        Ok(reply) => bytes_of_reply(alloc, front, reply),
+        Ok(reply) => bytes_of_reply(case.alloc, front, reply),
         Err(_) => None,
     };
-    let met = allow(rt, before);
-    let read = match &read {
-        Ok(reply) => reply_text(alloc, reply),
-        Err(fault) => reply_fault(alloc, *fault),
-    };
-    told_of(alloc, met, read, again)
+    out.answer(allow(rt, before));
+    match &read {
+        Ok(reply) => reply_words(out, reply),
+        Err(fault) => reply_fault(out, *fault),
+    }
+    written(out, &again);
 }
 
 // The fields of a body of AUTH_SYS.
-fn credential_text(alloc: Global, credential: &AuthSys) -> String {
-    let text = joined(
-        numbered(alloc, "stamp ", u64::from(credential.stamp)),
-        ", machine ",
-    );
-    let text = with_digits(alloc, text, &credential.machine);
-    let text = with_number(alloc, text, ", uid ", u64::from(credential.uid));
-    let text = with_number(alloc, text, ", gid ", u64::from(credential.gid));
-    let mut text = joined(text, ", gids");
+fn fields(out: &mut Report, credential: &AuthSys) {
+    out.number("stamp ", u64::from(credential.stamp));
+    out.digits(", machine ", &credential.machine);
+    out.number(", uid ", u64::from(credential.uid));
+    out.number(", gid ", u64::from(credential.gid));
+    out.text(", gids");
     for gid in &credential.gids {
-        text = with_number(alloc, text, " ", u64::from(*gid));
+        out.number(" ", u64::from(*gid));
     }
-    text
 }
 
 // What bytes are as a body of AUTH_SYS.
-fn body_text(alloc: Global, read: &Result<Option<AuthSys>, NoMemory>) -> String {
+fn body(out: &mut Report, read: &Result<Option<AuthSys>, NoMemory>) {
     match read {
-        Ok(Some(credential)) => credential_text(alloc, credential),
-        Ok(None) => plain(alloc, "no credential"),
-        Err(_) => plain(alloc, "out of memory"),
+        Ok(Some(credential)) => fields(out, credential),
+        Ok(None) => out.text("no credential"),
+        Err(_) => out.text("out of memory"),
     }
 }
 
@@ -185,14 +147,14 @@ fn bytes_of_credential(alloc: Global, credential: &AuthSys) -> Option<Result<Vec
     Some(write_auth_sys(alloc, credential))
 }
 
-fn credential(alloc: Global, rt: &impl Env, case: &Case<'_>) -> String {
-    let input = case.input(alloc);
-    let before = case.refuse(alloc, rt);
-    let read = read_auth_sys(alloc, &input);
+fn read_as_credential(out: &mut Report, rt: &impl Env, case: &Case<'_>, input: &[u8]) {
+    let before = case.refuse(rt);
+    let read = read_auth_sys(case.alloc, input);
     let again = match &read {
-        Ok(Some(credential)) => bytes_of_credential(alloc, credential),
+        Ok(Some(credential)) => bytes_of_credential(case.alloc, credential),
         _ => None,
     };
-    let met = allow(rt, before);
-    told_of(alloc, met, body_text(alloc, &read), again)
+    out.answer(allow(rt, before));
+    body(out, &read);
+    written(out, &again);
 }

@@ -1,192 +1,164 @@
 //! What the calls answer, in the words that the program prints where it prints them.
-use crate::reported::{joined, named, numbered, plain, with_digits, with_number};
+use crate::reported::Report;
 use rpc_engine::{ClientFault, DatagramFault, ServeFault, Served};
 use rpc_message::{OpaqueAuth, Reply, ReplyFault, Status, Why};
 use rpc_record::{RecordFault, RecordStep};
-use std::alloc::Global;
 use xdr_codec::{DecodeFault, Progress, Reason};
 
 /// Why bytes are refused, and where.
-pub fn refusal(alloc: Global, fault: DecodeFault) -> String {
+pub fn refusal(out: &mut Report, fault: DecodeFault) {
     match fault.why {
-        Reason::NoMemory => numbered(alloc, "out of memory at ", fault.at as u64),
-        why => with_number(
-            alloc,
-            named(alloc, "refused ", &why),
-            " at ",
-            fault.at as u64,
-        ),
+        Reason::NoMemory => out.text("out of memory"),
+        why => out.name("refused ", &why),
     }
+    out.number(" at ", fault.at as u64);
 }
 
 /// How far a decoder or a checker has come.
-pub fn progress(alloc: Global, answer: Result<Progress, DecodeFault>) -> String {
+pub fn progress(out: &mut Report, answer: Result<Progress, DecodeFault>) {
     match answer {
-        Ok(Progress::More) => plain(alloc, "more"),
-        Ok(Progress::Done { used }) => numbered(alloc, "done ", used as u64),
-        Err(fault) => refusal(alloc, fault),
+        Ok(Progress::More) => out.text("more"),
+        Ok(Progress::Done { used }) => out.number("done ", used as u64),
+        Err(fault) => refusal(out, fault),
     }
 }
 
-/// The count of a value's bytes, or why they are refused.
-pub fn counted(alloc: Global, answer: Result<usize, DecodeFault>) -> String {
+/// The count of a value's bytes that a checker gives, or why they are refused.
+pub fn counted(out: &mut Report, answer: Result<u32, DecodeFault>) {
     match answer {
-        Ok(used) => numbered(alloc, "ok ", used as u64),
-        Err(fault) => refusal(alloc, fault),
-    }
-}
-
-/// The same of a checker.
-pub fn finished(alloc: Global, answer: Result<u32, DecodeFault>) -> String {
-    match answer {
-        Ok(used) => counted(alloc, Ok(used as usize)),
-        Err(fault) => refusal(alloc, fault),
+        Ok(used) => out.number("ok ", u64::from(used)),
+        Err(fault) => refusal(out, fault),
     }
 }
 
 /// Why a stream of records ended early.
-pub fn record_fault(alloc: Global, fault: RecordFault) -> String {
+pub fn record_fault(out: &mut Report, fault: RecordFault) {
     match fault {
-        RecordFault::TooLong { at } => numbered(alloc, "refused TooLong at ", at),
-        RecordFault::Truncated { at } => numbered(alloc, "refused Truncated at ", at),
-        RecordFault::Read => plain(alloc, "read fault"),
-        RecordFault::Write { written } => numbered(alloc, "write fault after ", written),
-        RecordFault::TooManyReads => plain(alloc, "too many reads"),
-        RecordFault::NoMemory => plain(alloc, "out of memory"),
+        RecordFault::TooLong { at } => out.number("refused TooLong at ", at),
+        RecordFault::Truncated { at } => out.number("refused Truncated at ", at),
+        RecordFault::Read => out.text("read fault"),
+        RecordFault::Write { written } => out.number("write fault after ", written),
+        RecordFault::TooManyReads => out.text("too many reads"),
+        RecordFault::NoMemory => out.text("out of memory"),
     }
 }
 
 /// Whether records ended well.
-pub fn ended(alloc: Global, answer: Result<(), RecordFault>) -> String {
+pub fn ended(out: &mut Report, answer: Result<(), RecordFault>) {
     match answer {
-        Ok(()) => plain(alloc, "ok"),
-        Err(fault) => record_fault(alloc, fault),
+        Ok(()) => out.text("ok"),
+        Err(fault) => record_fault(out, fault),
     }
 }
 
 /// How far a reader of records has come.
-pub fn step(alloc: Global, answer: Result<RecordStep, RecordFault>) -> String {
+pub fn step(out: &mut Report, answer: Result<RecordStep, RecordFault>) {
     match answer {
-        Ok(RecordStep::More) => plain(alloc, "more"),
-        Ok(RecordStep::Whole { used }) => numbered(alloc, "whole ", used as u64),
-        Err(fault) => record_fault(alloc, fault),
+        Ok(RecordStep::More) => out.text("more"),
+        Ok(RecordStep::Whole { used }) => out.number("whole ", used as u64),
+        Err(fault) => record_fault(out, fault),
     }
 }
 
-/// How many records were answered, and how many replies went out.
-pub fn served(alloc: Global, answer: Result<Served, ServeFault>) -> String {
+// How many records were answered, and how many replies went out.
+fn tally(out: &mut Report, count: Served) {
+    out.number("", count.records);
+    out.number(" records, ", count.replies);
+    out.text(" replies");
+}
+
+/// What was served, or why that ended.
+pub fn served(out: &mut Report, answer: Result<Served, ServeFault>) {
     match answer {
-        Ok(count) => tally(alloc, count),
-        Err(fault) => serve_fault(alloc, fault),
-    }
-}
-
-fn tally(alloc: Global, count: Served) -> String {
-    let records = numbered(alloc, "", count.records);
-    joined(
-        with_number(alloc, records, " records, ", count.replies),
-        " replies",
-    )
-}
-
-fn serve_fault(alloc: Global, fault: ServeFault) -> String {
-    match fault {
-        ServeFault::Record(fault) => record_fault(alloc, fault),
-        ServeFault::Read => plain(alloc, "read fault"),
-        ServeFault::Write { written } => numbered(alloc, "write fault after ", written),
-        ServeFault::TooManyReads => plain(alloc, "too many reads"),
-        ServeFault::NoMemory => plain(alloc, "out of memory"),
+        Ok(count) => tally(out, count),
+        Err(ServeFault::Record(fault)) => record_fault(out, fault),
+        Err(ServeFault::Read) => out.text("read fault"),
+        Err(ServeFault::Write { written }) => out.number("write fault after ", written),
+        Err(ServeFault::TooManyReads) => out.text("too many reads"),
+        Err(ServeFault::NoMemory) => out.text("out of memory"),
     }
 }
 
 /// The same of datagrams.
-pub fn datagrams(alloc: Global, answer: Result<Served, DatagramFault>) -> String {
+pub fn datagrams(out: &mut Report, answer: Result<Served, DatagramFault>) {
     match answer {
-        Ok(count) => tally(alloc, count),
-        Err(DatagramFault::Read { done }) => numbered(alloc, "read fault after ", done),
-        Err(DatagramFault::Write { done }) => numbered(alloc, "write fault after ", done),
+        Ok(count) => tally(out, count),
+        Err(DatagramFault::Read { done }) => out.number("read fault after ", done),
+        Err(DatagramFault::Write { done }) => out.number("write fault after ", done),
     }
 }
 
 /// A flavor of authentication and its body.
-pub fn auth(alloc: Global, auth: &OpaqueAuth) -> String {
-    let flavor = numbered(alloc, "", u64::from(auth.flavor));
-    with_digits(alloc, joined(flavor, ":"), &auth.body)
+pub fn auth(out: &mut Report, before: &str, auth: &OpaqueAuth) {
+    out.number(before, u64::from(auth.flavor));
+    out.digits(":", &auth.body);
 }
 
 // Two numbers behind a word.
-fn range(alloc: Global, word: &str, low: u32, high: u32) -> String {
-    with_number(
-        alloc,
-        numbered(alloc, word, u64::from(low)),
-        " ",
-        u64::from(high),
-    )
+fn range(out: &mut Report, word: &str, low: u32, high: u32) {
+    out.number(word, u64::from(low));
+    out.number(" ", u64::from(high));
 }
 
 // What an accepted call came to (RFC 5531 section 9).
-fn status(alloc: Global, status: &Status) -> String {
+fn status(out: &mut Report, status: &Status) {
     match status {
-        Status::Success(results) => with_digits(alloc, plain(alloc, "SUCCESS "), results),
-        Status::ProgUnavail => plain(alloc, "PROG_UNAVAIL"),
-        Status::ProgMismatch { low, high } => range(alloc, "PROG_MISMATCH ", *low, *high),
-        Status::ProcUnavail => plain(alloc, "PROC_UNAVAIL"),
-        Status::GarbageArgs => plain(alloc, "GARBAGE_ARGS"),
-        Status::SystemErr => plain(alloc, "SYSTEM_ERR"),
+        Status::Success(results) => out.digits("SUCCESS ", results),
+        Status::ProgUnavail => out.text("PROG_UNAVAIL"),
+        Status::ProgMismatch { low, high } => range(out, "PROG_MISMATCH ", *low, *high),
+        Status::ProcUnavail => out.text("PROC_UNAVAIL"),
+        Status::GarbageArgs => out.text("GARBAGE_ARGS"),
+        Status::SystemErr => out.text("SYSTEM_ERR"),
     }
 }
 
 // Why a call was denied (RFC 5531 section 9).
-fn denial(alloc: Global, why: Why) -> String {
+fn denial(out: &mut Report, why: Why) {
     match why {
-        Why::RpcMismatch { low, high } => range(alloc, "RPC_MISMATCH ", low, high),
-        Why::AuthError(stat) => numbered(alloc, "AUTH_ERROR ", u64::from(stat)),
+        Why::RpcMismatch { low, high } => range(out, "RPC_MISMATCH ", low, high),
+        Why::AuthError(stat) => out.number("AUTH_ERROR ", u64::from(stat)),
     }
 }
 
 /// A reply: its xid, its verifier and its status, or why it was denied.
-pub fn reply(alloc: Global, reply: &Reply) -> String {
+pub fn reply(out: &mut Report, reply: &Reply) {
     match reply {
         Reply::Accepted {
             xid,
             verf,
             status: came,
         } => {
-            let head = joined(numbered(alloc, "reply to ", u64::from(*xid)), ", verifier ");
-            let head = joined(joined(head, auth(alloc, verf).as_str()), ", ");
-            joined(head, status(alloc, came).as_str())
+            out.number("reply to ", u64::from(*xid));
+            auth(out, ", verifier ", verf);
+            out.text(", ");
+            status(out, came);
         }
         Reply::Denied { xid, why } => {
-            let head = joined(numbered(alloc, "denial to ", u64::from(*xid)), ", ");
-            joined(head, denial(alloc, *why).as_str())
+            out.number("denial to ", u64::from(*xid));
+            out.text(", ");
+            denial(out, *why);
         }
     }
 }
 
 /// Why bytes are no reply.
-pub fn reply_fault(alloc: Global, fault: ReplyFault) -> String {
+pub fn reply_fault(out: &mut Report, fault: ReplyFault) {
     match fault {
-        ReplyFault::NoMemory => plain(alloc, "out of memory"),
-        fault => named(alloc, "refused ", &fault),
+        ReplyFault::NoMemory => out.text("out of memory"),
+        fault => out.name("refused ", &fault),
     }
 }
 
 /// The reply to a call that was exchanged, or why there is none.
-pub fn exchanged(alloc: Global, answer: &Result<Reply, ClientFault>) -> String {
+pub fn exchanged(out: &mut Report, answer: &Result<Reply, ClientFault>) {
     match answer {
-        Ok(got) => reply(alloc, got),
-        Err(fault) => client_fault(alloc, *fault),
-    }
-}
-
-fn client_fault(alloc: Global, fault: ClientFault) -> String {
-    match fault {
-        ClientFault::Record(fault) => record_fault(alloc, fault),
-        ClientFault::Read => plain(alloc, "read fault"),
-        ClientFault::Write { written } => numbered(alloc, "write fault after ", written),
-        ClientFault::Reply(fault) => reply_fault(alloc, fault),
-        ClientFault::WrongXid { got } => numbered(alloc, "refused WrongXid ", u64::from(got)),
-        ClientFault::TooManyReads => plain(alloc, "too many reads"),
-        ClientFault::NoMemory => plain(alloc, "out of memory"),
+        Ok(got) => reply(out, got),
+        Err(ClientFault::Record(fault)) => record_fault(out, *fault),
+        Err(ClientFault::Read) => out.text("read fault"),
+        Err(ClientFault::Write { written }) => out.number("write fault after ", *written),
+        Err(ClientFault::Reply(fault)) => reply_fault(out, *fault),
+        Err(ClientFault::WrongXid { got }) => out.number("refused WrongXid ", u64::from(*got)),
+        Err(ClientFault::TooManyReads) => out.text("too many reads"),
+        Err(ClientFault::NoMemory) => out.text("out of memory"),
     }
 }

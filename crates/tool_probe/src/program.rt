@@ -5,25 +5,24 @@ ghost use Rattle.std.specs.Prelude.{◌<◌};
 
 use crate::case::{Case, allow};
 use crate::registry::started;
-use crate::reported::{with_bytes, with_number, with_text};
-use crate::task::{ending, room_for};
+use crate::reported::Report;
+use crate::task::{buffer_for, streams};
 use oncrpc_service::{AcceptFault, Listener, info_over, serve_on};
-use std::alloc::Global;
 use std::env::Env;
 use xdr_io::{MemorySink, MemorySource, Sink, SinkFault};
 
-/// What is reported of the case.
-pub fn reported(rt: &HostRuntime, case: &Case<'_>) -> String {
+/// Reports the case.
+pub fn call(out: &mut Report, rt: &impl Env, case: &Case<'_>) {
     match case.call() {
-        "info_over" => info(rt.alloc(), rt, case),
-        _ => connections(rt.alloc(), rt, case),
+        "info_over" => info(out, rt, case),
+        _ => connections(out, rt, case),
     }
 }
 
-fn info(alloc: Global, rt: &impl Env, case: &Case<'_>) -> String {
-    let input = case.input(alloc);
-    let mut buffer = room_for(alloc, input.len());
-    let before = case.refuse(alloc, rt);
+fn info(out: &mut Report, rt: &impl Env, case: &Case<'_>) {
+    let input = case.input();
+    let mut buffer = buffer_for(case.alloc, input.len());
+    let before = case.refuse(rt);
     let (mut said, mut sent) = ([0u8; 128], [0u8; 128]);
     let write = case.piece("write");
     let mut source = MemorySource::new(&input, case.piece("read"), case.failing("read-fails"));
@@ -31,17 +30,16 @@ fn info(alloc: Global, rt: &impl Env, case: &Case<'_>) -> String {
     let mut output = MemorySink::new(&mut buffer, write, case.failing("write-fails"));
     let mut faults = MemorySink::new(&mut said, 128, None);
     let status = info_over(
-        alloc,
+        case.alloc,
         &mut source,
         &mut call,
         &mut output,
         &mut faults,
         case.whole("version"),
     );
-    let reported = ending(alloc, allow(rt, before), status);
-    let reported = with_bytes(alloc, reported, " call=", call.written());
-    let reported = with_text(reported, " output=", output.written());
-    with_text(reported, " faults=", faults.written())
+    out.ended(allow(rt, before), status);
+    out.digits(" call=", call.written());
+    streams(out, &output, &faults);
 }
 
 // What a client gets: these bytes in one write, where they are reported, and else anything.
@@ -105,10 +103,10 @@ impl<'a> Listener for Clients<'a> {
 }
 
 // The exit status, how many clients were not waited for, and what was printed.
-fn connections(alloc: Global, rt: &impl Env, case: &Case<'_>) -> String {
-    let (all, wanted) = (case.list(alloc, "clients"), case.list(alloc, "replies"));
-    let mut directory = started(alloc);
-    let before = case.refuse(alloc, rt);
+fn connections(out: &mut Report, rt: &impl Env, case: &Case<'_>) {
+    let (all, wanted) = (case.list("clients"), case.list("replies"));
+    let mut directory = started(case.alloc);
+    let before = case.refuse(rt);
     let (mut buffer, mut said) = ([0u8; 4096], [0u8; 128]);
     let mut clients = Clients {
         all: &all,
@@ -123,15 +121,14 @@ fn connections(alloc: Global, rt: &impl Env, case: &Case<'_>) -> String {
     );
     let mut faults = MemorySink::new(&mut said, 128, None);
     let status = serve_on(
-        alloc,
+        case.alloc,
         &mut clients,
         case.whole("count"),
         &mut directory,
         &mut output,
         &mut faults,
     );
-    let reported = ending(alloc, allow(rt, before), status);
-    let reported = with_number(alloc, reported, " left=", clients.all.len() as u64);
-    let reported = with_text(reported, " output=", output.written());
-    with_text(reported, " faults=", faults.written())
+    out.ended(allow(rt, before), status);
+    out.number(" left=", clients.all.len() as u64);
+    streams(out, &output, &faults);
 }

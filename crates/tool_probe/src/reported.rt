@@ -1,126 +1,152 @@
-//! What is reported of a call: words of one line, in the form of a case's. For want of memory a text of them is empty.
+//! What is reported of a call: words of one line, in the form of a case's, each written behind the one before. What
+//! memory is refused for is left out.
 use std::alloc::{AllocError, Global};
 use std::fmt::Debug;
 
-/// A text that was made, or none.
-pub fn text_of(alloc: Global, made: Result<String, AllocError>) -> String {
-    match made {
-        Ok(text) => text,
-        Err(_) => String::new(alloc),
-    }
+/// A line so far.
+#[derive(Drop)]
+pub struct Report {
+    pub alloc: Global,
+    line: Vec<u8>,
+    is_quoted: bool,
 }
 
-/// A text and a number behind it.
-pub fn numbered(alloc: Global, before: &str, number: u64) -> String {
-    text_of(alloc, format!(in alloc; "{before}{number}"))
-}
-
-/// The same of a number that may be negative.
-pub fn signed(alloc: Global, before: &str, number: i128) -> String {
-    text_of(alloc, format!(in alloc; "{before}{number}"))
-}
-
-/// A text and a name behind it, as it stands in the source.
-pub fn named<T: Debug>(alloc: Global, before: &str, name: &T) -> String {
-    text_of(alloc, format!(in alloc; "{before}{name:?}"))
-}
-
-/// A text with another and a number behind it.
-pub fn with_number(alloc: Global, before: String, text: &str, number: u64) -> String {
-    joined(before, numbered(alloc, text, number).as_str())
-}
-
-/// The text of a word.
-pub fn plain(alloc: Global, text: &str) -> String {
-    text_of(alloc, String::from_str(alloc, text))
-}
-
-/// A text with another behind it.
-pub fn joined(before: String, text: &str) -> String {
-    let mut line = before;
-    let _added = line.push_str(text);
-    line
-}
-
-/// The hexadecimal digits of bytes.
-pub fn digits_of(alloc: Global, bytes: &[u8]) -> String {
-    text_of(alloc, hex::encode(alloc, bytes))
-}
-
-/// A text with the hexadecimal digits of bytes behind it.
-pub fn with_digits(alloc: Global, before: String, bytes: &[u8]) -> String {
-    joined(before, digits_of(alloc, bytes).as_str())
-}
-
-/// A list of texts, with a semicolon and a space between two.
-pub fn listed(alloc: Global, texts: &[String]) -> String {
-    let mut line = String::new(alloc);
-    for (number, text) in texts.iter().enumerate() {
-        if number > 0 {
-            let _added = line.push_str("; ");
+impl Report {
+    /// An empty line.
+    pub fn new(alloc: Global) -> Report {
+        Report {
+            alloc,
+            line: Vec::new(alloc),
+            is_quoted: false,
         }
-        let _added = line.push_str(text.as_str());
     }
-    line
+
+    /// The bytes of the line.
+    pub fn bytes(&self) -> &[u8] {
+        &self.line
+    }
+
+    /// Adds bytes: as they stand between quotation marks where a text was begun, and else as they are.
+    pub fn push(&mut self, bytes: &[u8]) {
+        if self.is_quoted {
+            for byte in bytes {
+                self.push_quoted(*byte);
+            }
+        } else {
+            let _added = self.line.extend_from_slice(bytes);
+        }
+    }
+
+    // Adds a byte as it stands between quotation marks.
+    fn push_quoted(&mut self, byte: u8) {
+        let _added = if byte < 0x20 || byte > 0x7e || byte == b'"' || byte == b'\\' {
+            let digits = [b'\\', b'x', digit(byte >> 4), digit(byte & 15)];
+            self.line.extend_from_slice(&digits)
+        } else {
+            self.line.extend_from_slice(&[byte])
+        };
+    }
+
+    /// Adds a text.
+    pub fn text(&mut self, text: &str) {
+        self.push(text.as_bytes());
+    }
+
+    // Adds a text that was made.
+    fn made(&mut self, made: Result<String, AllocError>) {
+        if let Ok(text) = made {
+            self.text(text.as_str());
+        }
+    }
+
+    /// Adds a text and a number behind it.
+    pub fn number(&mut self, before: &str, number: u64) {
+        let made = format!(in self.alloc; "{before}{number}");
+        self.made(made);
+    }
+
+    /// The same of a number that may be negative.
+    pub fn signed(&mut self, before: &str, number: i128) {
+        let made = format!(in self.alloc; "{before}{number}");
+        self.made(made);
+    }
+
+    /// Adds a text and a name behind it, as it stands in the source.
+    pub fn name<T: Debug>(&mut self, before: &str, name: &T) {
+        let made = format!(in self.alloc; "{before}{name:?}");
+        self.made(made);
+    }
+
+    /// Adds a text and the hexadecimal digits of bytes behind it.
+    pub fn digits(&mut self, before: &str, bytes: &[u8]) {
+        self.text(before);
+        let made = hex::encode(self.alloc, bytes);
+        self.made(made);
+    }
+
+    /// Adds what stands between two of a list, where others stand before.
+    pub fn between(&mut self, number: usize, mark: &str) {
+        if number > 0 {
+            self.text(mark);
+        }
+    }
+
+    /// Begins a word whose text stands between quotation marks. Its key has the space before it and the sign behind it.
+    pub fn begin(&mut self, key: &str) {
+        self.text(key);
+        self.text("\"");
+        self.is_quoted = true;
+    }
+
+    /// Ends that word.
+    pub fn end(&mut self) {
+        self.is_quoted = false;
+        self.text("\"");
+    }
+
+    /// Adds a word of a text.
+    pub fn word(&mut self, key: &str, text: &[u8]) {
+        self.begin(key);
+        self.push(text);
+        self.end();
+    }
+
+    /// Begins the line of an answer: how many growths were met, and then what was answered, up to its end.
+    pub fn answer(&mut self, met: u64) {
+        self.number("growths=", met);
+        self.begin(" answer=");
+    }
+
+    /// Adds the line of an answer that is a text.
+    pub fn answered(&mut self, met: u64, answer: &str) {
+        self.answer(met);
+        self.text(answer);
+        self.end();
+    }
+
+    /// The same of an exit status, and what was written to both streams.
+    pub fn ended(&mut self, met: u64, status: u8) {
+        self.number("growths=", met);
+        self.number(" status=", u64::from(status));
+    }
+
+    /// Adds a word of a list of bytes, a comma between two, and how many there are.
+    pub fn parts(&mut self, sizes: &[usize], bytes: &[u8]) {
+        self.number(" count=", sizes.len() as u64);
+        self.text(" sent=");
+        let mut rest = bytes;
+        for (number, size) in sizes.iter().enumerate() {
+            self.between(number, ",");
+            self.digits("", rest.get(..*size).unwrap_or(&[]));
+            rest = rest.get(*size..).unwrap_or(&[]);
+        }
+    }
 }
 
 // The hexadecimal digit of a number below 16.
-fn digit(number: u8) -> char {
-    char::from_digit(u32::from(number), 16).unwrap_or('0')
-}
-
-// Adds a byte as it stands between quotation marks.
-fn push_byte(out: &mut String, byte: u8) {
-    if byte < 0x20 || byte > 0x7e || byte == b'"' || byte == b'\\' {
-        let _added = out.push_str("\\x");
-        let _high = out.push(digit(byte >> 4));
-        let _low = out.push(digit(byte & 15));
-    } else {
-        let _added = out.push(char::from(byte));
+fn digit(number: u8) -> u8 {
+    match b"0123456789abcdef".get(number as usize) {
+        Some(digit) => *digit,
+        None => b'0',
     }
-}
-
-/// The line with a text between quotation marks behind it.
-fn with_quotes(before: String, bytes: &[u8]) -> String {
-    let mut line = joined(before, "\"");
-    for byte in bytes {
-        push_byte(&mut line, *byte);
-    }
-    joined(line, "\"")
-}
-
-/// The line of an answer: how many growths were met, and what was answered.
-pub fn line(alloc: Global, met: u64, answer: &str) -> String {
-    with_quotes(
-        joined(numbered(alloc, "growths=", met), " answer="),
-        answer.as_bytes(),
-    )
-}
-
-/// The line with a word of bytes behind it, whose key has the space before it and the sign behind it.
-pub fn with_bytes(alloc: Global, before: String, key: &str, bytes: &[u8]) -> String {
-    with_digits(alloc, joined(before, key), bytes)
-}
-
-/// The line with a word of a text behind it, as before.
-pub fn with_text(before: String, key: &str, bytes: &[u8]) -> String {
-    with_quotes(joined(before, key), bytes)
-}
-
-/// The line with a list of bytes behind it, a comma between two, and how many there are.
-pub fn with_parts(alloc: Global, before: String, sizes: &[usize], bytes: &[u8]) -> String {
-    let mut line = joined(
-        with_number(alloc, before, " count=", sizes.len() as u64),
-        " sent=",
-    );
-    let mut rest = bytes;
-    for (number, size) in sizes.iter().enumerate() {
-        if number > 0 {
-            let _added = line.push_str(",");
-        }
-        let part = rest.get(..*size).unwrap_or(&[]);
-        let _added = line.push_str(digits_of(alloc, part).as_str());
-        rest = rest.get(*size..).unwrap_or(&[]);
-    }
-    line
 }

@@ -1,23 +1,37 @@
 //! Values of a kind of the text, within the limits: `decode`, `parts`, and `Decoder` and `Checker`, in pieces as read,
-//! over the input; `Decoder::feed`, both of them fed three pieces, cut at `first` and `second`; `Decoder::finish`, both
-//! of them ended before they are fed anything; `encode`, `encode_to`, `show` and `Value::copy` of the value that begins
-//! the input. `void` is the kind without a value's bytes, which no text names.
-ghost use Rattle.std.specs.Prelude.{◌≤◌, ◌<◌, length};
-
+//! over the input; `Decoder::feed`, both of them fed three pieces, cut at `first` and `second`, and `Decoder::held`, what
+//! they hold between these; `Decoder::finish`, both of them ended before they are fed anything; `encode`, `encode_to`,
+//! `show` and `Value::copy` of the value that begins the input. `void` is the kind without a value's bytes, which no text
+//! names.
 use crate::case::{Case, allow, since};
-use crate::printed::{counted, finished, progress, refusal};
-use crate::reported::{
-    joined, line, listed, named, numbered, plain, with_bytes, with_digits, with_number, with_text,
-};
-use std::alloc::Global;
+use crate::printed::{counted, progress, refusal};
+use crate::reported::Report;
 use std::env::Env;
+use test_growths::held;
 use xdr_codec::{
-    Checker, DecodeFault, Decoder, Lent, Progress, WriteFault, decode, encode, encode_to, parts,
+    Checker, DecodeFault, Decoder, Held, Lent, Progress, WriteFault, decode, encode, encode_to,
+    parts,
 };
 use xdr_io::MemorySink;
 use xdr_lang::{Declared, read};
 use xdr_show::show;
 use xdr_types::{KindId, Limits, NoMemory, Schema, Value, fits};
+
+// What is asked for: a kind of a schema, within limits.
+#[derive(Clone, Copy)]
+struct Asked<'a> {
+    schema: &'a Schema,
+    kind: KindId,
+    limits: Limits,
+}
+
+/// Reports the case.
+pub fn call(out: &mut Report, rt: &impl Env, case: &Case<'_>) {
+    match read(case.alloc, &case.bytes("text")) {
+        Ok(declared) => of_text(out, rt, case, &declared),
+        Err(_) => out.text("the text is refused"),
+    }
+}
 
 // The kind of a case.
 fn kind_of(case: &Case<'_>, declared: &Declared) -> Option<KindId> {
@@ -27,154 +41,119 @@ fn kind_of(case: &Case<'_>, declared: &Declared) -> Option<KindId> {
     }
 }
 
-/// What is reported of the case.
-pub fn reported(rt: &HostRuntime, case: &Case<'_>) -> String {
-    let alloc = rt.alloc();
-    match read(alloc, &case.bytes(alloc, "text")) {
-        Ok(declared) => of_text(alloc, rt, case, &declared),
-        Err(_) => plain(alloc, "the text is refused"),
-    }
-}
-
-// What is reported of a case with its declarations.
-fn of_text(alloc: Global, rt: &impl Env, case: &Case<'_>, declared: &Declared) -> String {
+// Reports the case with its declarations.
+fn of_text(out: &mut Report, rt: &impl Env, case: &Case<'_>, declared: &Declared) {
     match (kind_of(case, declared), case.limits()) {
-        (Some(kind), Some(limits)) => over(alloc, rt, case, &declared.schema, kind, limits),
-        _ => plain(alloc, "no kind or no limits"),
+        (Some(kind), Some(limits)) => {
+            let schema = &declared.schema;
+            let asked = Asked {
+                schema,
+                kind,
+                limits,
+            };
+            over(out, rt, case, &asked, &case.input());
+        }
+        _ => out.text("no kind or no limits"),
     }
 }
 
-// What is reported of a case with a schema.
-fn over(
-    alloc: Global,
-    rt: &impl Env,
-    case: &Case<'_>,
-    schema: &Schema,
-    kind: KindId,
-    limits: Limits,
-) -> String {
-    if !schema.has(kind) {
-        return plain(alloc, "no kind");
-    }
-    let input = case.input(alloc);
+fn over(out: &mut Report, rt: &impl Env, case: &Case<'_>, asked: &Asked<'_>, input: &[u8]) {
     match case.call() {
-        "decode" => decoded(alloc, rt, case, schema, kind, limits, &input),
-        "parts" => lent(alloc, rt, case, schema, kind, limits, &input),
-        "Decoder" => fed(alloc, rt, case, schema, kind, limits, &input),
-        "Checker" => checked(alloc, rt, case, schema, kind, limits, &input),
-        "Decoder::finish" => unfed(alloc, rt, case, schema, kind, limits),
-        "Decoder::feed" => cut(alloc, case, schema, kind, limits, &input),
-        _ => of_bytes(alloc, rt, case, schema, kind, limits, &input),
+        "decode" => decoded(out, rt, case, asked, input),
+        "parts" => lent(out, rt, case, asked, input),
+        "Decoder" => fed(out, rt, case, asked, input),
+        "Checker" => checked(out, rt, case, asked, input),
+        "Decoder::finish" => unfed(out, rt, case, asked),
+        "Decoder::feed" => cut(out, case, asked, input),
+        "Decoder::held" => retained(out, case, asked, input),
+        _ => of_bytes(out, rt, case, asked, input),
     }
 }
 
-// The lines of a value.
-fn lines_of(alloc: Global, schema: &Schema, kind: KindId, limits: Limits, value: &Value) -> Vec<u8>
-    requires { kind.place < length schema.now.kinds }
-{
-    if !fits(schema, kind, value, limits) {
-        return Vec::new(alloc);
+// The word of a value's lines.
+fn value_word(out: &mut Report, asked: &Asked<'_>, value: &Value) {
+    let Asked {
+        schema,
+        kind,
+        limits,
+    } = *asked;
+    out.begin(" value=");
+    if fits(schema, kind, value, limits) {
+        if let Ok(lines) = show(out.alloc, schema, kind, value, limits) {
+            out.push(&lines);
+        }
     }
-    match show(alloc, schema, kind, value, limits) {
-        Ok(lines) => lines,
-        Err(_) => Vec::new(alloc),
-    }
+    out.end();
 }
 
-// The line with the lines of a value behind it, if there is one.
-fn with_value(
-    alloc: Global,
-    line: String,
-    schema: &Schema,
-    kind: KindId,
-    limits: Limits,
-    value: &Result<Value, DecodeFault>,
-) -> String
-    requires { kind.place < length schema.now.kinds }
-{
+// The end of an answer, and the lines of the value that it came to, if it came to one.
+fn ended(out: &mut Report, asked: &Asked<'_>, value: &Result<Value, DecodeFault>) {
+    out.end();
     match value {
-        Ok(value) => with_text(
-            line,
-            " value=",
-            &lines_of(alloc, schema, kind, limits, value),
-        ),
-        Err(_) => with_text(line, " value=", &[]),
+        Ok(value) => value_word(out, asked, value),
+        Err(_) => out.word(" value=", &[]),
     }
 }
 
 // Whether there is a value, or why its bytes are refused.
-fn ended(alloc: Global, value: &Result<Value, DecodeFault>) -> String {
+fn finished(out: &mut Report, value: &Result<Value, DecodeFault>) {
     match value {
-        Ok(_) => plain(alloc, "ok"),
-        Err(fault) => refusal(alloc, *fault),
+        Ok(_) => out.text("ok"),
+        Err(fault) => refusal(out, *fault),
     }
 }
 
-fn decoded(
-    alloc: Global,
-    rt: &impl Env,
-    case: &Case<'_>,
-    schema: &Schema,
-    kind: KindId,
-    limits: Limits,
-    input: &[u8],
-) -> String
-    requires { kind.place < length schema.now.kinds }
-{
-    let before = case.refuse(alloc, rt);
-    let answer = decode(alloc, schema, kind, limits, input);
-    let met = allow(rt, before);
-    let (count, value) = match answer {
-        Ok((value, used)) => (Ok(used), Ok(value)),
-        Err(fault) => (Err(fault), Err(fault)),
-    };
-    let reported = line(alloc, met, counted(alloc, count).as_str());
-    with_value(alloc, reported, schema, kind, limits, &value)
+fn decoded(out: &mut Report, rt: &impl Env, case: &Case<'_>, asked: &Asked<'_>, input: &[u8]) {
+    if !asked.schema.has(asked.kind) {
+        return out.text("no kind");
+    }
+    let before = case.refuse(rt);
+    let answer = decode(case.alloc, asked.schema, asked.kind, asked.limits, input);
+    out.answer(allow(rt, before));
+    match answer {
+        Ok((value, used)) => {
+            out.number("ok ", used as u64);
+            out.end();
+            value_word(out, asked, &value);
+        }
+        Err(fault) => {
+            refusal(out, fault);
+            out.end();
+            out.word(" value=", &[]);
+        }
+    }
 }
 
 // A part: its place, its depth, its kind, its name, what stands in it, and its bytes.
-fn part_text(alloc: Global, part: &Lent<'_>) -> String {
-    let name = match part.name {
-        "" => "-",
-        name => name,
-    };
-    let text = numbered(alloc, "", part.at as u64);
-    let text = with_number(alloc, text, " ", u64::from(part.depth));
-    let text = joined(
-        with_number(alloc, text, " ", u64::from(part.kind.place)),
-        " ",
-    );
-    let text = joined(joined(text, name), named(alloc, " ", &part.role).as_str());
-    with_digits(alloc, joined(text, " "), part.bytes)
+fn part_words(out: &mut Report, part: &Lent<'_>) {
+    out.number("", part.at as u64);
+    out.number(" ", u64::from(part.depth));
+    out.number(" ", u64::from(part.kind.place));
+    out.text(" ");
+    out.text(if part.name.is_empty() { "-" } else { part.name });
+    out.name(" ", &part.role);
+    out.digits(" ", part.bytes);
 }
 
-fn parts_text(alloc: Global, parts: &[Lent<'_>]) -> String {
-    let mut texts = Vec::new(alloc);
-    for part in parts {
-        let _pushed = texts.push(part_text(alloc, part));
+fn parts_words(out: &mut Report, parts: &[Lent<'_>]) {
+    for (number, part) in parts.iter().enumerate() {
+        out.between(number, "; ");
+        part_words(out, part);
     }
-    listed(alloc, &texts)
 }
 
-fn lent(
-    alloc: Global,
-    rt: &impl Env,
-    case: &Case<'_>,
-    schema: &Schema,
-    kind: KindId,
-    limits: Limits,
-    input: &[u8],
-) -> String
-    requires { kind.place < length schema.now.kinds }
-{
-    let before = case.refuse(alloc, rt);
-    let answer = parts(alloc, schema, kind, limits, input);
-    let met = allow(rt, before);
-    let answer = match &answer {
-        Ok(parts) => parts_text(alloc, parts),
-        Err(fault) => refusal(alloc, *fault),
-    };
-    line(alloc, met, answer.as_str())
+fn lent(out: &mut Report, rt: &impl Env, case: &Case<'_>, asked: &Asked<'_>, input: &[u8]) {
+    if !asked.schema.has(asked.kind) {
+        return out.text("no kind");
+    }
+    let before = case.refuse(rt);
+    let answer = parts(case.alloc, asked.schema, asked.kind, asked.limits, input);
+    out.answer(allow(rt, before));
+    match &answer {
+        Ok(parts) => parts_words(out, parts),
+        Err(fault) => refusal(out, *fault),
+    }
+    out.end();
 }
 
 // Feeds a decoder pieces of this size up to an answer that is not `More`, and gives how many it was fed and that
@@ -183,8 +162,8 @@ fn feed_decoder(
     decoder: &mut Decoder<'_>,
     input: &[u8],
     piece: usize,
-) -> (usize, Result<Progress, DecodeFault>) {
-    let mut pieces = 0usize;
+) -> (u64, Result<Progress, DecodeFault>) {
+    let mut pieces = 0u64;
     let mut answer = decoder.feed(&[]);
     for part in input.chunks(piece.max(1)) {
         if answer == Ok(Progress::More) {
@@ -200,8 +179,8 @@ fn feed_checker(
     checker: &mut Checker<'_>,
     input: &[u8],
     piece: usize,
-) -> (usize, Result<Progress, DecodeFault>) {
-    let mut pieces = 0usize;
+) -> (u64, Result<Progress, DecodeFault>) {
+    let mut pieces = 0u64;
     let mut answer = checker.feed(&[]);
     for part in input.chunks(piece.max(1)) {
         if answer == Ok(Progress::More) {
@@ -212,89 +191,79 @@ fn feed_checker(
     (pieces, answer)
 }
 
-// How many pieces were fed, the last answer, and with memory again what nothing more is answered, the end, and how many
-// growths both met.
-fn fed_line(
-    alloc: Global,
+// How many growths were met, how many pieces were fed, the last answer, and with memory again what nothing more is
+// answered.
+fn fed_words(
+    out: &mut Report,
     met: u64,
-    fed: (usize, Result<Progress, DecodeFault>),
+    fed: (u64, Result<Progress, DecodeFault>),
     again: Result<Progress, DecodeFault>,
-    end: String,
-    late: u64,
-) -> String {
-    let pieces = joined(numbered(alloc, "", fed.0 as u64), " pieces");
-    let late = joined(numbered(alloc, "", late), " growths");
-    let answers = [
-        pieces,
-        progress(alloc, fed.1),
-        progress(alloc, again),
-        end,
-        late,
-    ];
-    line(alloc, met, listed(alloc, &answers).as_str())
+) {
+    out.answer(met);
+    out.number("", fed.0);
+    out.text(" pieces; ");
+    progress(out, fed.1);
+    out.text("; ");
+    progress(out, again);
+    out.text("; ");
 }
 
-fn fed(
-    alloc: Global,
-    rt: &impl Env,
-    case: &Case<'_>,
-    schema: &Schema,
-    kind: KindId,
-    limits: Limits,
-    input: &[u8],
-) -> String
-    requires { kind.place < length schema.now.kinds }
-{
-    let before = case.refuse(alloc, rt);
-    let mut decoder = Decoder::start(alloc, schema, kind, limits);
+// How many growths nothing more and the end met.
+fn late_words(out: &mut Report, late: u64) {
+    out.number("; ", late);
+    out.text(" growths");
+}
+
+fn fed(out: &mut Report, rt: &impl Env, case: &Case<'_>, asked: &Asked<'_>, input: &[u8]) {
+    if !asked.schema.has(asked.kind) {
+        return out.text("no kind");
+    }
+    let before = case.refuse(rt);
+    let mut decoder = Decoder::start(case.alloc, asked.schema, asked.kind, asked.limits);
     let fed = feed_decoder(&mut decoder, input, case.piece("read"));
     let met = allow(rt, before);
     let again = decoder.feed(&[]);
-    let end = decoder.finish();
+    let retained = held(rt).unwrap_or(0);
+    let value = decoder.finish();
+    let freed = retained.saturating_sub(held(rt).unwrap_or(0));
     let late = since(rt, before).saturating_sub(met);
-    let reported = fed_line(alloc, met, fed, again, ended(alloc, &end), late);
-    with_value(alloc, reported, schema, kind, limits, &end)
+    fed_words(out, met, fed, again);
+    finished(out, &value);
+    late_words(out, late);
+    ended(out, asked, &value);
+    out.number(" freed=", freed);
 }
 
-fn checked(
-    alloc: Global,
-    rt: &impl Env,
-    case: &Case<'_>,
-    schema: &Schema,
-    kind: KindId,
-    limits: Limits,
-    input: &[u8],
-) -> String
-    requires { kind.place < length schema.now.kinds }
-{
-    let before = case.refuse(alloc, rt);
-    let mut checker = Checker::start(alloc, schema, kind, limits);
+fn checked(out: &mut Report, rt: &impl Env, case: &Case<'_>, asked: &Asked<'_>, input: &[u8]) {
+    if !asked.schema.has(asked.kind) {
+        return out.text("no kind");
+    }
+    let before = case.refuse(rt);
+    let mut checker = Checker::start(case.alloc, asked.schema, asked.kind, asked.limits);
     let fed = feed_checker(&mut checker, input, case.piece("read"));
     let met = allow(rt, before);
     let again = checker.feed(&[]);
-    let end = checker.finish();
+    let count = checker.finish();
     let late = since(rt, before).saturating_sub(met);
-    fed_line(alloc, met, fed, again, finished(alloc, end), late)
+    fed_words(out, met, fed, again);
+    counted(out, count);
+    late_words(out, late);
+    out.end();
 }
 
 // What a decoder and a checker answer to the end before they are fed anything.
-fn unfed(
-    alloc: Global,
-    rt: &impl Env,
-    case: &Case<'_>,
-    schema: &Schema,
-    kind: KindId,
-    limits: Limits,
-) -> String
-    requires { kind.place < length schema.now.kinds }
-{
-    let before = case.refuse(alloc, rt);
-    let value = Decoder::start(alloc, schema, kind, limits).finish();
-    let count = Checker::start(alloc, schema, kind, limits).finish();
-    let met = allow(rt, before);
-    let answers = [ended(alloc, &value), finished(alloc, count)];
-    let reported = line(alloc, met, listed(alloc, &answers).as_str());
-    with_value(alloc, reported, schema, kind, limits, &value)
+fn unfed(out: &mut Report, rt: &impl Env, case: &Case<'_>, asked: &Asked<'_>) {
+    if !asked.schema.has(asked.kind) {
+        return out.text("no kind");
+    }
+    let before = case.refuse(rt);
+    let value = Decoder::start(case.alloc, asked.schema, asked.kind, asked.limits).finish();
+    let count = Checker::start(case.alloc, asked.schema, asked.kind, asked.limits).finish();
+    out.answer(allow(rt, before));
+    finished(out, &value);
+    out.text("; ");
+    counted(out, count);
+    ended(out, asked, &value);
 }
 
 // The part of the input between two places.
@@ -302,147 +271,153 @@ fn between(input: &[u8], from: usize, to: usize) -> &[u8] {
     input.get(from..to).unwrap_or(&[])
 }
 
+// Feeds a piece to a decoder and to a checker.
+fn feed_both(out: &mut Report, decoder: &mut Decoder<'_>, checker: &mut Checker<'_>, piece: &[u8]) {
+    progress(out, decoder.feed(piece));
+    out.text("; ");
+    progress(out, checker.feed(piece));
+    out.text("; ");
+}
+
 // What a decoder and a checker answer to each of three pieces, and to the end.
-fn cut(
-    alloc: Global,
-    case: &Case<'_>,
-    schema: &Schema,
-    kind: KindId,
-    limits: Limits,
-    input: &[u8],
-) -> String
-    requires { kind.place < length schema.now.kinds }
-{
+fn cut(out: &mut Report, case: &Case<'_>, asked: &Asked<'_>, input: &[u8]) {
+    if !asked.schema.has(asked.kind) {
+        return out.text("no kind");
+    }
     let (one, two) = (case.whole("first") as usize, case.whole("second") as usize);
-    let pieces = [
-        between(input, 0, one),
-        between(input, one, two),
+    let mut decoder = Decoder::start(case.alloc, asked.schema, asked.kind, asked.limits);
+    let mut checker = Checker::start(case.alloc, asked.schema, asked.kind, asked.limits);
+    out.answer(0);
+    feed_both(out, &mut decoder, &mut checker, between(input, 0, one));
+    feed_both(out, &mut decoder, &mut checker, between(input, one, two));
+    feed_both(
+        out,
+        &mut decoder,
+        &mut checker,
         between(input, two, input.len()),
-    ];
-    let mut decoder = Decoder::start(alloc, schema, kind, limits);
-    let mut checker = Checker::start(alloc, schema, kind, limits);
-    let mut answers = Vec::new(alloc);
-    for piece in pieces {
-        let _pushed = answers.push(progress(alloc, decoder.feed(piece)));
-        let _again = answers.push(progress(alloc, checker.feed(piece)));
-    }
+    );
     let value = decoder.finish();
-    let _ended = answers.push(ended(alloc, &value));
-    let _counted = answers.push(finished(alloc, checker.finish()));
-    let reported = line(alloc, 0, listed(alloc, &answers).as_str());
-    with_value(alloc, reported, schema, kind, limits, &value)
+    finished(out, &value);
+    out.text("; ");
+    counted(out, checker.finish());
+    ended(out, asked, &value);
 }
 
-// What is reported of the value that begins the input.
-fn of_bytes(
-    alloc: Global,
-    rt: &impl Env,
-    case: &Case<'_>,
-    schema: &Schema,
-    kind: KindId,
-    limits: Limits,
-    input: &[u8],
-) -> String
-    requires { kind.place < length schema.now.kinds }
-{
-    match decode(alloc, schema, kind, limits, input) {
-        Ok((value, _used)) => of_value(alloc, rt, case, schema, kind, limits, &value),
-        Err(_) => plain(alloc, "no value"),
+// What is held: frames, nodes of values, bytes of content, and bytes of a unit that is not whole.
+fn held_words(out: &mut Report, held: Held) {
+    out.number("", held.frames as u64);
+    out.number(" ", held.nodes as u64);
+    out.number(" ", held.bytes as u64);
+    out.number(" ", held.pending as u64);
+}
+
+// What a decoder and a checker hold before and behind each of three pieces.
+fn retained(out: &mut Report, case: &Case<'_>, asked: &Asked<'_>, input: &[u8]) {
+    if !asked.schema.has(asked.kind) {
+        return out.text("no kind");
+    }
+    let (one, two) = (case.whole("first") as usize, case.whole("second") as usize);
+    let mut decoder = Decoder::start(case.alloc, asked.schema, asked.kind, asked.limits);
+    let mut checker = Checker::start(case.alloc, asked.schema, asked.kind, asked.limits);
+    out.answer(0);
+    held_words(out, decoder.held());
+    out.text("; ");
+    held_words(out, checker.held());
+    for (from, to) in [(0, one), (one, two), (two, input.len())] {
+        out.text("; ");
+        feed_both(out, &mut decoder, &mut checker, between(input, from, to));
+        held_words(out, decoder.held());
+        out.text("; ");
+        held_words(out, checker.held());
+    }
+    out.end();
+}
+
+// Reports the value that begins the input.
+fn of_bytes(out: &mut Report, rt: &impl Env, case: &Case<'_>, asked: &Asked<'_>, input: &[u8]) {
+    if !asked.schema.has(asked.kind) {
+        return out.text("no kind");
+    }
+    match decode(case.alloc, asked.schema, asked.kind, asked.limits, input) {
+        Ok((value, _used)) => of_value(out, rt, case, asked, &value),
+        Err(_) => out.text("no value"),
     }
 }
 
-fn of_value(
-    alloc: Global,
-    rt: &impl Env,
-    case: &Case<'_>,
-    schema: &Schema,
-    kind: KindId,
-    limits: Limits,
-    value: &Value,
-) -> String
-    requires { kind.place < length schema.now.kinds }
-{
+fn of_value(out: &mut Report, rt: &impl Env, case: &Case<'_>, asked: &Asked<'_>, value: &Value) {
     match case.call() {
-        "encode" => encoded(alloc, rt, case, schema, kind, limits, value),
-        "show" => shown(alloc, rt, case, schema, kind, limits, value),
-        "encode_to" => sent(alloc, rt, case, schema, kind, limits, value),
-        _ => copied(alloc, rt, case, value),
+        "encode" => encoded(out, rt, case, asked, value),
+        "show" => shown(out, rt, case, asked, value),
+        "encode_to" => sent(out, rt, case, asked, value),
+        _ => copied(out, rt, case, value),
     }
 }
 
-// The line of bytes, or of want of memory.
-fn bytes_line(alloc: Global, met: u64, answer: &Result<Vec<u8>, NoMemory>) -> String {
+fn encoded(out: &mut Report, rt: &impl Env, case: &Case<'_>, asked: &Asked<'_>, value: &Value) {
+    let Asked {
+        schema,
+        kind,
+        limits,
+    } = *asked;
+    if !fits(schema, kind, value, limits) {
+        return out.text("the value does not fit");
+    }
+    let before = case.refuse(rt);
+    let answer = encode(case.alloc, schema, kind, value, limits);
+    bytes_words(out, allow(rt, before), &answer);
+}
+
+/// The words of bytes, or of want of memory.
+pub fn bytes_words(out: &mut Report, met: u64, answer: &Result<Vec<u8>, NoMemory>) {
     match answer {
-        Ok(bytes) => with_bytes(alloc, line(alloc, met, "ok"), " output=", bytes),
-        Err(_) => line(alloc, met, "out of memory"),
+        Ok(bytes) => {
+            out.answered(met, "ok");
+            out.digits(" output=", bytes);
+        }
+        Err(_) => out.answered(met, "out of memory"),
     }
 }
 
-fn encoded(
-    alloc: Global,
-    rt: &impl Env,
-    case: &Case<'_>,
-    schema: &Schema,
-    kind: KindId,
-    limits: Limits,
-    value: &Value,
-) -> String
-    requires { kind.place < length schema.now.kinds }
-{
+fn shown(out: &mut Report, rt: &impl Env, case: &Case<'_>, asked: &Asked<'_>, value: &Value) {
+    let Asked {
+        schema,
+        kind,
+        limits,
+    } = *asked;
     if !fits(schema, kind, value, limits) {
-        return plain(alloc, "the value does not fit");
+        return out.text("the value does not fit");
     }
-    let before = case.refuse(alloc, rt);
-    let answer = encode(alloc, schema, kind, value, limits);
-    bytes_line(alloc, allow(rt, before), &answer)
-}
-
-fn shown(
-    alloc: Global,
-    rt: &impl Env,
-    case: &Case<'_>,
-    schema: &Schema,
-    kind: KindId,
-    limits: Limits,
-    value: &Value,
-) -> String
-    requires { kind.place < length schema.now.kinds }
-{
-    if !fits(schema, kind, value, limits) {
-        return plain(alloc, "the value does not fit");
-    }
-    let before = case.refuse(alloc, rt);
-    let answer = show(alloc, schema, kind, value, limits);
+    let before = case.refuse(rt);
+    let answer = show(case.alloc, schema, kind, value, limits);
     let met = allow(rt, before);
     match &answer {
-        Ok(lines) => with_text(line(alloc, met, "ok"), " output=", lines),
-        Err(_) => line(alloc, met, "out of memory"),
+        Ok(lines) => {
+            out.answered(met, "ok");
+            out.word(" output=", lines);
+        }
+        Err(_) => out.answered(met, "out of memory"),
     }
 }
 
 // How many bytes went out, or after how many a write failed.
-fn sent_text(alloc: Global, answer: Result<u32, WriteFault>) -> String {
+fn sent_words(out: &mut Report, answer: Result<u32, WriteFault>) {
     match answer {
-        Ok(used) => numbered(alloc, "ok ", u64::from(used)),
-        Err(fault) => numbered(alloc, "write fault after ", u64::from(fault.written)),
+        Ok(used) => out.number("ok ", u64::from(used)),
+        Err(fault) => out.number("write fault after ", u64::from(fault.written)),
     }
+    out.end();
 }
 
-fn sent(
-    alloc: Global,
-    rt: &impl Env,
-    case: &Case<'_>,
-    schema: &Schema,
-    kind: KindId,
-    limits: Limits,
-    value: &Value,
-) -> String
-    requires { kind.place < length schema.now.kinds }
-{
+fn sent(out: &mut Report, rt: &impl Env, case: &Case<'_>, asked: &Asked<'_>, value: &Value) {
+    let Asked {
+        schema,
+        kind,
+        limits,
+    } = *asked;
     if !fits(schema, kind, value, limits) {
-        return plain(alloc, "the value does not fit");
+        return out.text("the value does not fit");
     }
-    let before = case.refuse(alloc, rt);
+    let before = case.refuse(rt);
     let mut buffer = [0u8; 16384];
     let mut sink = MemorySink::new(
         &mut buffer,
@@ -450,18 +425,19 @@ fn sent(
         case.failing("write-fails"),
     );
     let answer = encode_to(&mut sink, schema, kind, value, limits);
-    let reported = line(alloc, allow(rt, before), sent_text(alloc, answer).as_str());
-    with_bytes(alloc, reported, " output=", sink.written())
+    out.answer(allow(rt, before));
+    sent_words(out, answer);
+    out.digits(" output=", sink.written());
 }
 
 // Whether the copy of a value is equal to it.
-fn copied(alloc: Global, rt: &impl Env, case: &Case<'_>, value: &Value) -> String {
-    let before = case.refuse(alloc, rt);
-    let answer = value.copy(alloc);
+fn copied(out: &mut Report, rt: &impl Env, case: &Case<'_>, value: &Value) {
+    let before = case.refuse(rt);
+    let answer = value.copy(case.alloc);
     let met = allow(rt, before);
     match &answer {
-        Ok(copy) if *copy == *value => line(alloc, met, "equal"),
-        Ok(_) => line(alloc, met, "not equal"),
-        Err(_) => line(alloc, met, "out of memory"),
+        Ok(copy) if *copy == *value => out.answered(met, "equal"),
+        Ok(_) => out.answered(met, "not equal"),
+        Err(_) => out.answered(met, "out of memory"),
     }
 }

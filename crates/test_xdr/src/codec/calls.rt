@@ -2,7 +2,7 @@
 //! tests are proved fast.
 use std::alloc::Global;
 use std::process::Abort;
-use xdr_codec::{Checker, DecodeFault, Decoder, Held, Lent, Progress, decode, encode, parts};
+use xdr_codec::{Checker, DecodeFault, Decoder, Lent, Progress, decode, encode, parts};
 use xdr_types::{KindId, Limits, NoMemory, Schema, Value, fits};
 
 /// Limits that are in range.
@@ -111,32 +111,4 @@ pub fn checked(
         }
     }
     checker.finish()
-}
-
-/// A checker for a kind that the schema has.
-pub fn checking<'s>(
-    rt: &impl Abort,
-    alloc: Global,
-    schema: &'s Schema,
-    place: u32,
-    limits: Limits,
-) -> Checker<'s> {
-    let kind = KindId { place };
-    assert!(*rt; schema.has(kind));
-    Checker::start(alloc, schema, kind, limits)
-}
-
-/// What a checker's `feed` answers.
-pub fn judged(checker: &mut Checker<'_>, piece: &[u8]) -> Result<Progress, DecodeFault> {
-    checker.feed(piece)
-}
-
-/// What a decoder holds.
-pub fn held(decoder: &Decoder<'_>) -> Held {
-    decoder.held()
-}
-
-/// What a checker holds.
-pub fn counted_held(checker: &Checker<'_>) -> Held {
-    checker.held()
 }
