@@ -10,7 +10,7 @@ use Rattle.xdr_types.specs.Kinds as xdr
 use Rattle.xdr_types.specs.Kinds.{KindView, Part, Lists, kind_at}
 use Rattle.xdr_types.specs.Faults.{IsWellFormed, kind_flaw_at, name_flaw_at, fault}
 use Rattle.xdr_types.specs.Refused.{IsRefused}
-use Rattle.xdr_types.specs.Private.Rounds.{given}
+use Rattle.xdr_types.specs.Private.Rounds.{height_in}
 use Rattle.xdr_types.specs.Sound.{IsBelow, Asks, IsSound}
 use Rattle.xdr_types.proofs.Flawless.{flawless}
 use Rattle.xdr_types.proofs.Heighting.{has-height}
@@ -39,7 +39,7 @@ is_below (Some m) n = nat_lt m n
 
 abbrev are_below : ℕ → List Part → Bool
 are_below n [] = true
-are_below n (p ∷ ps) = is_below (given heights p.kind) n && are_below n ps
+are_below n (p ∷ ps) = is_below (height_in heights p.kind) n && are_below n ps
 
 -- what a kind asks stands below n, as a test of the kinds that are there
 abbrev has_below : ℕ → KindView → Bool
@@ -65,13 +65,13 @@ below-is None n h = absurd (false≢true h)
 below-is (Some m) n h = (m, refl, ltb-true m n h)
 
 are-below : (n : ℕ) (ps : List Part) → are_below n ps ≡ true
-    → AllByRecursion (λ (p : Part). IsBelow (given heights) n p.kind) ps
+    → AllByRecursion (λ (p : Part). IsBelow (height_in heights) n p.kind) ps
 are-below n [] h = tt
 are-below n (p ∷ ps) h =
-    let tests = both (is_below (given heights p.kind) n) (are_below n ps) h in
-    (below-is (given heights p.kind) n tests.0, are-below n ps tests.1)
+    let tests = both (is_below (height_in heights p.kind) n) (are_below n ps) h in
+    (below-is (height_in heights p.kind) n tests.0, are-below n ps tests.1)
 
-asks : (kinds : List KindView) (n : ℕ) (f : KindView) → has_below n f ≡ true → Asks kinds (IsBelow (given heights) n) f
+asks : (kinds : List KindView) (n : ℕ) (f : KindView) → has_below n f ≡ true → Asks kinds (IsBelow (height_in heights) n) f
 asks kinds n (xdr.structure ps) h = are-below n ps h
 asks kinds n (xdr.maybe item) h = tt
 asks kinds n xdr.int h = tt
@@ -90,20 +90,20 @@ asks kinds n (xdr.choice tag arms other) h = absurd (false≢true h)
 asks kinds n xdr.unknown h = absurd (false≢true h)
 
 proper : (kinds fs : List KindView) (ns : List (Option ℕ)) → all_below fs ns ≡ true → (place n : ℕ)
-    → given ns place ≡ Some n
-    → Asks kinds (IsBelow (given heights) n) (kind_at fs place)
+    → height_in ns place ≡ Some n
+    → Asks kinds (IsBelow (height_in heights) n) (kind_at fs place)
 proper kinds [] [] h place n e = absurd (none-some n e)
 proper kinds [] (o ∷ ns) h place n e = absurd (false≢true h)
 proper kinds (f ∷ fs) [] h place n e = absurd (false≢true h)
 proper kinds (f ∷ fs) (None ∷ ns) h place n e = absurd (false≢true h)
 proper kinds (f ∷ fs) (Some m ∷ ns) h zero n e =
     let tests = both (has_below m f) (all_below fs ns) h in
-    subst (λ (k : ℕ). Asks kinds (IsBelow (given heights) k) f) (some-is m n e) (asks kinds m f tests.0)
+    subst (λ (k : ℕ). Asks kinds (IsBelow (height_in heights) k) f) (some-is m n e) (asks kinds m f tests.0)
 proper kinds (f ∷ fs) (Some m ∷ ns) h (suc place) n e =
     proper kinds fs ns (both (has_below m f) (all_below fs ns) h).1 place n e
 
 marked : (ns : List (Option ℕ)) (fs : List KindView) (place : ℕ) → all_below fs ns ≡ true → place < length fs
-    → is_some (given ns place) ≡ true
+    → is_some (height_in ns place) ≡ true
 marked [] [] place h within = absurd (omega (arith, within))
 marked (o ∷ ns) [] place h within = absurd (omega (arith, within))
 marked [] (f ∷ fs) place h within = absurd (false≢true h)
