@@ -10,7 +10,7 @@ ghost use Rattle.xdr_codec.specs.Private.PutAll.{PutAll};
 
 use crate::put::{NotPut, Put, put_nothing};
 use byteorder::{BigEndian, ByteOrder};
-use xdr_types::{Kind, KindId, Member, Schema, Value, part_under};
+use xdr_types::{Kind, KindId, Member, Schema, Value, part_in};
 
 /// The encoding of a value.
 #[cycle(push)]
@@ -25,7 +25,7 @@ pub fn push_value<P: Put>(
 {
     let kind = schema.kind(id);
     push_own(out, schema, kind, value)?;
-    push_inner(out, schema, kind, value)
+    push_inner(out, schema, id, kind, value)
 }
 
 // The bytes before those of the parts.
@@ -61,10 +61,12 @@ fn push_own<P: Put>(out: &mut P, _schema: &Schema, kind: &Kind, value: &Value) -
 fn push_inner<P: Put>(
     out: &mut P,
     schema: &Schema,
+    id: KindId,
     kind: &Kind,
     value: &Value,
 ) -> Result<(), NotPut>
-    requires { fit schema.now.kinds (parts (kind_view kind.now) (tree value.now).0) (tree value.now).1 ≡ true }
+    requires kind { kind_view kind.now ≡ kind_at schema.now.kinds id.place }
+    requires fits { fit schema.now.kinds (parts (kind_view kind.now) (tree value.now).0) (tree value.now).1 ≡ true }
     ensures { PutAll P.sends P.cuts out.old out.new
         (spelling schema.now.kinds (parts (kind_view kind.now) (tree value.now).0) (tree value.now).1) result }
 {
@@ -74,15 +76,8 @@ fn push_inner<P: Put>(
         ),
         (Kind::UpTo { item, max: _ }, Value::List(items)) => push_items(out, schema, *item, items),
         (Kind::Structure { fields }, Value::Group(parts)) => push_parts(out, schema, fields, parts),
-        (
-            Kind::Choice {
-                tag: _,
-                arms,
-                other,
-            },
-            Value::Choice { tag, part },
-        ) => {
-            match part_under(arms, other, *tag) {
+        (Kind::Choice { .. }, Value::Choice { tag, part }) => {
+            match part_in(schema, id, *tag) {
                 Some(member) => push_value(out, schema, member.kind, part),
                 None => put_nothing(out),
             }

@@ -129,7 +129,7 @@ impl<'a> Walk<'a> {
         ensures bytes { OnOk result (self.new.bytes.now ≡ self.old.bytes.now) }
     {
         let number = unit_at(self.bytes, self.at);
-        let Ok(made) = made_of(self.schema, kind, number) else {
+        let Ok(made) = made_of(self.schema, next.kind, kind, number) else {
             unreachable!();
         };
         let role = unit_role(kind);

@@ -1,4 +1,5 @@
 pub mod Heads
 pub mod Joined
+pub mod Named
 pub mod Parts
 pub mod Stepping

@@ -76,7 +76,15 @@ fn push_part(out: &mut Vec<u8>, schema: &Schema, part: &Lent) -> Result<(), NoMe
 {
     let kind = schema.kind(part.kind);
     match head_of_part(schema, kind, part.role, part.bytes) {
-        Some(head) => push_line(out, schema, part.name.as_bytes(), kind, part.depth, head),
+        Some(head) => push_line(
+            out,
+            schema,
+            part.name.as_bytes(),
+            part.kind,
+            kind,
+            part.depth,
+            head,
+        ),
         None => Ok(()),
     }
 }

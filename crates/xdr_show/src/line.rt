@@ -1,5 +1,6 @@
 //! What stands in a line before and around what its part says.
 ghost use Rattle.std.specs.Prelude.{◌≡◌, ◌≤◌, ◌++◌, OnOk, true};
+ghost use Rattle.xdr_types.specs.Kinds.{kind_at};
 ghost use Rattle.xdr_types.specs.KindViews.{kind_view};
 ghost use Rattle.xdr_types.specs.Fits.{is_legal};
 ghost use Rattle.xdr_show.specs.Line.{indent, label, line_text};
@@ -8,8 +9,10 @@ ghost use Rattle.xdr_show.specs.Private.Heads.{head_view};
 
 use crate::content::{push_hexadecimal, push_quoted};
 use crate::head::Head;
-use crate::number::{push_case, push_count, push_flag, push_numbered, push_signed, push_unsigned};
-use xdr_types::{Kind, NoMemory, Schema};
+use crate::number::{
+    name_of, push_case, push_count, push_flag, push_numbered, push_signed, push_unsigned,
+};
+use xdr_types::{Kind, KindId, NoMemory, Schema};
 
 // Spaces that go in at once.
 const SPACES: [u8; 64] = [b' '; 64];
@@ -19,17 +22,19 @@ pub fn push_line(
     out: &mut Vec<u8>,
     schema: &Schema,
     name: &[u8],
+    id: KindId,
     kind: &Kind,
     depth: u32,
     head: Head,
 ) -> Result<(), NoMemory>
-    requires { is_legal schema.now.kinds (kind_view kind.now) (head_view head) ≡ true }
+    requires kind { kind_view kind.now ≡ kind_at schema.now.kinds id.place }
+    requires legal { is_legal schema.now.kinds (kind_view kind.now) (head_view head) ≡ true }
     ensures { OnOk result (out.new.items ≡ out.old.items
         ++ line_text depth name.now (node_text schema.now.kinds (kind_view kind.now) (head_view head.entry))) }
 {
     push_indent(out, depth)?;
     push_label(out, name)?;
-    push_text(out, schema, kind, head)?;
+    push_text(out, schema, id, kind, head)?;
     out.extend_from_slice(b"\n")?;
     Ok(())
 }
@@ -60,8 +65,15 @@ fn push_label(out: &mut Vec<u8>, name: &[u8]) -> Result<(), NoMemory>
 }
 
 // What the line of a node says.
-fn push_text(out: &mut Vec<u8>, schema: &Schema, kind: &Kind, head: Head) -> Result<(), NoMemory>
-    requires { is_legal schema.now.kinds (kind_view kind.now) (head_view head) ≡ true }
+fn push_text(
+    out: &mut Vec<u8>,
+    schema: &Schema,
+    id: KindId,
+    kind: &Kind,
+    head: Head,
+) -> Result<(), NoMemory>
+    requires kind { kind_view kind.now ≡ kind_at schema.now.kinds id.place }
+    requires legal { is_legal schema.now.kinds (kind_view kind.now) (head_view head) ≡ true }
     ensures { OnOk result (out.new.items ≡ out.old.items
         ++ node_text schema.now.kinds (kind_view kind.now) (head_view head.entry)) }
 {
@@ -71,9 +83,9 @@ fn push_text(out: &mut Vec<u8>, schema: &Schema, kind: &Kind, head: Head) -> Res
         (_, Head::Hyper(n)) => push_signed(out, n),
         (_, Head::UnsignedHyper(n)) => push_unsigned(out, n),
         (_, Head::Bool(b)) => push_flag(out, b),
-        (Kind::Numbered { members }, Head::Numbered(n)) => push_numbered(
+        (Kind::Numbered { .. }, Head::Numbered(n)) => push_numbered(
             out,
-            members,
+            name_of(schema, id, i64::from(n)),
             i64::from(n),
         ),
         (Kind::Text { max: _ }, Head::Bytes(bytes)) => push_quoted(out, bytes),

@@ -1,14 +1,13 @@
 //! Numbers as texts.
-ghost use Rattle.std.specs.Prelude.{◌≡◌, ◌++◌, IsTrue, OnOk, codes, decimal, map, true};
+ghost use Rattle.std.specs.Prelude.{◌≡◌, ◌++◌, List, IsTrue, OnOk, codes, decimal, true};
 ghost use Rattle.std.specs.Fmt.{signed_decimal};
-ghost use Rattle.xdr_types.specs.Kinds.{kind_at};
-ghost use Rattle.xdr_types.specs.KindViews.{constant_of, kind_view};
+ghost use Rattle.xdr_types.specs.Kinds.{Constant, kind_at, numbered};
+ghost use Rattle.xdr_types.specs.KindViews.{kind_view};
 ghost use Rattle.xdr_types.specs.Fits.{is_tag_of};
-ghost use Rattle.xdr_show.specs.Line.{flag_text, name_of_number, numbered_text, tag_text};
+ghost use Rattle.xdr_show.specs.Line.{flag_text, name_of_number, tag_text};
 
 use itoa::Buffer;
-use std::string::String;
-use xdr_types::{Kind, KindId, NoMemory, Schema};
+use xdr_types::{Kind, KindId, NoMemory, Schema, member_in};
 
 /// A number in decimal, after a minus sign where it is negative.
 pub fn push_signed(out: &mut Vec<u8>, number: i64) -> Result<(), NoMemory>
@@ -49,29 +48,24 @@ pub fn push_flag(out: &mut Vec<u8>, flag: bool) -> Result<(), NoMemory>
     }
 }
 
-/// A number of an enumeration, after the name of the first member that has it.
-pub fn push_numbered(
-    out: &mut Vec<u8>,
-    members: &Vec<(String, i32)>,
-    number: i64,
-) -> Result<(), NoMemory>
-    ensures { OnOk result (out.new.items ≡ out.old.items ++ numbered_text (map constant_of members.now.items) number) }
+/// A number of an enumeration, after its name.
+pub fn push_numbered(out: &mut Vec<u8>, name: &[u8], number: i64) -> Result<(), NoMemory>
+    ensures { OnOk result (out.new.items ≡ out.old.items ++ (name.now ++ codes " = " ++ signed_decimal number)) }
 {
-    out.extend_from_slice(first_name(members, number))?;
+    out.extend_from_slice(name)?;
     out.extend_from_slice(b" = ")?;
     push_signed(out, number)
 }
 
-// The name of the first member that has the number.
-fn first_name(members: &Vec<(String, i32)>, number: i64) -> &[u8]
-    ensures { result.now ≡ name_of_number (map constant_of members.now.items) number }
+/// The name of the first member that has the number, of the enumeration at a place.
+pub fn name_of<'s>(schema: &'s Schema, id: KindId, number: i64) -> &'s [u8]
+    ensures { (members : List Constant) → kind_at schema.now.kinds id.place ≡ numbered members
+        → result.now ≡ name_of_number members number }
 {
-    for member in members {
-        if i64::from(member.1) == number {
-            return member.0.as_bytes();
-        }
+    match member_in(schema, id, number) {
+        Some(member) => member.0.as_bytes(),
+        None => &[],
     }
-    &[]
 }
 
 /// The discriminant of a union, after the word case.
@@ -86,16 +80,23 @@ pub fn push_case(
         ++ (codes "case " ++ tag_text (kind_at schema.now.kinds tag.place) number)) }
 {
     out.extend_from_slice(b"case ")?;
-    push_tag(out, schema.kind(tag), number)
+    push_tag(out, schema, tag, schema.kind(tag), number)
 }
 
 // The number of a discriminant of the kind.
-fn push_tag(out: &mut Vec<u8>, kind: &Kind, number: i64) -> Result<(), NoMemory>
+fn push_tag(
+    out: &mut Vec<u8>,
+    schema: &Schema,
+    tag: KindId,
+    kind: &Kind,
+    number: i64,
+) -> Result<(), NoMemory>
+    requires { kind_view kind.now ≡ kind_at schema.now.kinds tag.place }
     ensures { OnOk result (out.new.items ≡ out.old.items ++ tag_text (kind_view kind.now) number) }
 {
     match kind {
         Kind::Bool => push_flag(out, number == 1),
-        Kind::Numbered { members } => push_numbered(out, members, number),
+        Kind::Numbered { .. } => push_numbered(out, name_of(schema, tag, number), number),
         _ => push_signed(out, number),
     }
 }

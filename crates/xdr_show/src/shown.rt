@@ -1,5 +1,6 @@
 //! A value as lines.
 ghost use Rattle.std.specs.Prelude.{◌≡◌, ◌≤◌, ◌+◌, ◌++◌, [], length, map, replicate, IfOk, OnOk, true};
+ghost use Rattle.xdr_types.specs.Kinds.{kind_at};
 ghost use Rattle.xdr_types.specs.KindViews.{kind_view, part_of_member};
 ghost use Rattle.xdr_types.specs.Fits.{fits, fit, item_part, parts};
 ghost use Rattle.xdr_types.specs.Tree.{depth_of};
@@ -11,7 +12,7 @@ ghost use Rattle.xdr_show.specs.Shown.{show_text};
 use crate::head::head_of_value;
 use crate::line::push_line;
 use std::alloc::Global;
-use xdr_types::{Kind, KindId, Limits, Member, NoMemory, Schema, Value, part_under};
+use xdr_types::{Kind, KindId, Limits, Member, NoMemory, Schema, Value, part_in};
 
 /// The lines of a value (RFC 4506 section 4): one for each part of its layout in order, a node before those inside it,
 /// two spaces further in. The value fits the kind within the limits, as `fits` tells.
@@ -54,8 +55,8 @@ fn push_value(
         ++ value_lines schema.now.kinds depth (record { name = name.now; kind = id.place }) (tree value.now)) }
 {
     let kind = schema.kind(id);
-    push_line(out, schema, name, kind, depth, head_of_value(value))?;
-    push_inner(out, schema, kind, depth + 1, value)
+    push_line(out, schema, name, id, kind, depth, head_of_value(value))?;
+    push_inner(out, schema, id, kind, depth + 1, value)
 }
 
 // The lines of the parts of a node.
@@ -63,10 +64,12 @@ fn push_value(
 fn push_inner(
     out: &mut Vec<u8>,
     schema: &Schema,
+    id: KindId,
     kind: &Kind,
     depth: u32,
     value: &Value,
 ) -> Result<(), NoMemory>
+    requires kind { kind_view kind.now ≡ kind_at schema.now.kinds id.place }
     requires fits { fit schema.now.kinds (parts (kind_view kind.now) (tree value.now).0) (tree value.now).1 ≡ true }
     requires deep { depth + depth_of (tree value.now).1 ≤ 4097 }
     ensures { OnOk result (out.new.items ≡ out.old.items
@@ -82,8 +85,8 @@ fn push_inner(
         (Kind::Structure { fields }, Value::Group(parts)) => push_fields(
             out, schema, fields, depth, parts,
         ),
-        (Kind::Choice { arms, other, .. }, Value::Choice { tag, part }) => {
-            match part_under(arms, other, *tag) {
+        (Kind::Choice { .. }, Value::Choice { tag, part }) => {
+            match part_in(schema, id, *tag) {
                 Some(member) => push_value(
                     out,
                     schema,

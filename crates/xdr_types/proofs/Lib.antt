@@ -1,6 +1,7 @@
 pub mod Content
 pub mod Fitting
 pub mod Flawless
+pub mod Found
 pub mod Grown
 pub mod Heighting
 pub mod Known

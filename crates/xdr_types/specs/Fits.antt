@@ -1,6 +1,7 @@
 -- Which trees are values of a kind (RFC 4506 sections 4.1 to 4.19).
 use Rattle.std.specs.Prelude.{ℕ, ℤ, pos, negsuc, List, [], ◌∷◌, length, replicate, Bool, true, false, ◌&&◌, ◌||◌, ◌==◌}
 use Rattle.std.specs.Prelude.{◌^◌, nat_lt, nat_le, Option, Some, None, is_some, if◌then◌else◌, IsTrue}
+use Rattle.std.specs.List.{find}
 use Rattle.std.specs.Ordering.{int_eq}
 use Rattle.xdr_types.specs.Kinds as xdr
 use Rattle.xdr_types.specs.Kinds.{KindView, Part, Branch, Constant, kind_at}
@@ -52,6 +53,16 @@ is_tag_of _ z = false
 abbrev pub part_of : List Branch → Option Part → ℤ → Option Part
 part_of [] other tag = other
 part_of (a ∷ arms) other tag = if is_listed a.cases tag then Some a.part else part_of arms other tag
+
+-- the first member of an enumeration that has the number; none of another kind (RFC 4506 section 4.3)
+abbrev pub member_in : KindView → ℤ → Option Constant
+member_in (xdr.numbered constants) z = find (λ (c : Constant). int_eq c.number z) constants
+member_in _ z = None
+
+-- the part of a union under a discriminant; none of another kind (RFC 4506 section 4.15)
+abbrev pub part_in : KindView → ℤ → Option Part
+part_in (xdr.choice tag arms other) z = part_of arms other z
+part_in _ z = None
 
 -- the part, where there is one
 abbrev pub optional_part : Option Part → List Part

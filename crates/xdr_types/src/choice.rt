@@ -6,6 +6,7 @@ ghost use Rattle.xdr_types.specs.Sound.{has_arm};
 ghost use Rattle.xdr_types.specs.Fits.{is_numbered, is_listed, is_tag_of, part_of};
 
 use crate::kind::{Arm, Kind, KindId, Member};
+use crate::picked::has_number;
 use crate::schema::Schema;
 use std::string::String;
 
@@ -15,7 +16,18 @@ use std::string::String;
 pub fn is_legal_tag(schema: &Schema, id: KindId, number: i64) -> bool
     ensures { result ≡ is_tag_of (kind_at schema.now.kinds id.place) number }
 {
-    is_tag_number(schema.kinds(), id, number)
+    let kinds = schema.kinds();
+    let place = id.place as usize;
+    if place >= kinds.len() {
+        return false;
+    }
+    match &kinds[place] {
+        Kind::Numbered { members } => match schema.lookup(id) {
+            Some(found) => has_number(found, number),
+            None => is_number_of(members, number),
+        },
+        _ => is_tag_number(kinds, id, number),
+    }
 }
 
 /// The same, over the list of kinds.

@@ -1,19 +1,19 @@
 //! Whether a value is one of a kind and within limits.
 ghost use Rattle.std.specs.Prelude.{◌≡◌, ◌↔◌, IsTrue, ◌<◌, ◌^◌, ℕ, length, map, option_map, nat_lt, replicate};
 ghost use Rattle.xdr_types.specs.Kinds.{kind_at, Part};
-ghost use Rattle.xdr_types.specs.KindViews.{kind_view, constant_of, part_of_member, branch_of};
-ghost use Rattle.xdr_types.specs.Fits.{fits, fit, item_part, is_numbered, is_length, is_signed, are_bytes};
+ghost use Rattle.xdr_types.specs.KindViews.{kind_view, part_of_member, branch_of};
+ghost use Rattle.xdr_types.specs.Fits.{fits, fit, item_part, is_length, is_signed, are_bytes};
 ghost use Rattle.xdr_types.specs.View.{tree, values};
 ghost use Rattle.xdr_types.specs.Within.{FitsWithin};
 
-use crate::choice::{is_legal_tag, part_under};
+use crate::choice::is_legal_tag;
 use crate::depth::is_within;
 use crate::kind::{Kind, KindId, Member};
 use crate::limits::Limits;
+use crate::picked::part_in;
 use crate::schema::Schema;
 use crate::sizes::has_room;
 use crate::value::Value;
-use std::string::String;
 
 /// Whether the schema has the kind, the value is one of it, and its depth and its bytes are within the limits (RFC 4506
 /// sections 4.1 to 4.19).
@@ -39,7 +39,7 @@ fn is_value(schema: &Schema, id: KindId, value: &Value) -> bool
         (Kind::Hyper, Value::Hyper(n)) => every_i64_is_hyper(*n),
         (Kind::UnsignedHyper, Value::UnsignedHyper(n)) => every_u64_is_unsigned_hyper(*n),
         (Kind::Bool, Value::Bool(_)) => true,
-        (Kind::Numbered { members }, Value::Numbered(n)) => has_number(members, *n),
+        (Kind::Numbered { .. }, Value::Numbered(n)) => is_legal_tag(schema, id, i64::from(*n)),
         (Kind::Opaque { size }, Value::Bytes(bytes)) => bytes.len() == *size as usize
             && every_u8_is_a_byte(bytes),
         (Kind::OpaqueUpTo { max }, Value::Bytes(bytes)) => is_length(bytes.len(), *max)
@@ -53,11 +53,11 @@ fn is_value(schema: &Schema, id: KindId, value: &Value) -> bool
             is_length(items.len(), *max) && are_values(schema, *item, items)
         }
         (Kind::Structure { fields }, Value::Group(parts)) => each_is_value(schema, fields, parts),
-        (Kind::Choice { tag, arms, other }, Value::Choice { tag: number, part }) => {
+        (Kind::Choice { tag, .. }, Value::Choice { tag: number, part }) => {
             if !is_legal_tag(schema, *tag, *number) {
                 return false;
             }
-            match part_under(arms, other, *number) {
+            match part_in(schema, id, *number) {
                 Some(member) => is_value(schema, member.kind, part),
                 None => false,
             }
@@ -136,16 +136,4 @@ fn is_length(len: usize, max: u32) -> bool
     ensures { result ≡ is_length max len }
 {
     len <= max as usize
-}
-
-// Whether a member has the number.
-fn has_number(members: &Vec<(String, i32)>, number: i32) -> bool
-    ensures { result ≡ is_numbered (map constant_of members.now.items) number }
-{
-    for member in members {
-        if member.1 == number {
-            return true;
-        }
-    }
-    false
 }

@@ -1,5 +1,6 @@
 //! A schema: kinds that name one another by place, and names for some.
-ghost use Rattle.std.specs.Prelude.{◌≡◌, ◌<◌, ◌≤◌, ◌↔◌, IsTrue, length, map, option_map, IfOk, MatchResult};
+ghost use Rattle.std.specs.Prelude.{◌≡◌, ◌<◌, ◌≤◌, ◌↔◌, IsTrue, length, map, option_map, IfOk, IfSome};
+ghost use Rattle.std.specs.Prelude.{MatchResult};
 ghost use Rattle.xdr_types.specs.Kinds.{kind_at};
 ghost use Rattle.xdr_types.specs.KindViews.{kind_view, name_of, lists_of};
 ghost use Rattle.xdr_types.specs.Faults.{IsWellFormed};
@@ -11,13 +12,16 @@ ghost use Rattle.std.specs.Cmp.{partial_equiv_from_equiv};
 ghost use Rattle.xdr_types.specs.Alike.{same_lists};
 ghost use Rattle.xdr_types.specs.Private.Alike.{lists_equivalence};
 ghost use Rattle.xdr_types.specs.Named.{basic, named, place_named};
+ghost use Rattle.xdr_types.specs.Private.Lookups.{Finds};
 
 use crate::fault::{Flaw, SchemaFault};
 use crate::faults::first_in_kinds;
 use crate::heights::lowest_without_height;
 use crate::kind::{Kind, KindId};
+use crate::lookups::lookups_of;
 use crate::names::first_in_names;
 use std::alloc::Global;
+use std::collections::BTreeMap;
 use std::marker::Model;
 use std::string::String;
 use xdr_units::NoMemory;
@@ -26,6 +30,8 @@ use xdr_units::NoMemory;
 #[derive(Debug, Drop)]
 pub struct Schema {
     kinds: Vec<Kind>,
+    // Where a number of a long enumeration or union is, for each kind.
+    lookups: Vec<Option<BTreeMap<i64, usize>>>,
     names: Vec<(String, KindId)>,
 }
 
@@ -39,6 +45,7 @@ impl Model for Schema {
     ghost use Rattle.xdr_types.specs.Sound.{IsSound};
     ghost use Rattle.xdr_types.specs.Faults.{IsWellFormed};
     ghost use Rattle.xdr_types.specs.Height.{AreHigher};
+    ghost use Rattle.xdr_types.specs.Private.Lookups.{AreLookups};
 
     ghost view = { λ s. lists_of s.kinds.items s.names.items };
 
@@ -47,6 +54,7 @@ impl Model for Schema {
       sound : IsSound
           (map kind_view s.kinds.items);
       higher : AreHigher (map kind_view s.kinds.items);
+      lookups : AreLookups (map kind_view s.kinds.items) s.lookups.items;
     } };
 }
 
@@ -101,7 +109,17 @@ impl Schema {
             return Err(fault);
         }
         match lowest_without_height(alloc, &kinds) {
-            Ok(None) => Ok(Schema { kinds, names }),
+            Ok(None) => match lookups_of(alloc, &kinds) {
+                Ok(lookups) => Ok(Schema {
+                    kinds,
+                    lookups,
+                    names,
+                }),
+                Err(_) => Err(SchemaFault {
+                    why: Flaw::NoMemory,
+                    place: 0,
+                }),
+            },
             Ok(Some(place)) => Err(SchemaFault {
                 why: Flaw::NoFiniteValue,
                 place,
@@ -165,6 +183,17 @@ impl Schema {
         ensures { map kind_view result.now.items ≡ self.now.kinds }
     {
         &self.kinds
+    }
+
+    /// The map from the numbers of a long enumeration or union to its members or arms.
+    pub(crate) fn lookup(&self, id: KindId) -> Option<&BTreeMap<i64, usize>>
+        ensures { IfSome result (λ m. Finds (kind_at self.now.kinds id.place) m.now) }
+    {
+        let place = id.place as usize;
+        if place >= self.lookups.len() {
+            return None;
+        }
+        self.lookups[place].as_ref()
     }
 
     /// The kind at a place that the schema has.

@@ -14,8 +14,8 @@ use std::alloc::{AllocError, Global};
 use std::collections::BTreeSet;
 use std::string::String;
 
-// A member's number as a case.
-fn as_case(number: i32) -> i64
+/// A member's number as a case.
+pub fn as_case(number: i32) -> i64
     ensures value { result ≡ number }
     ensures int { is_signed (2 ^ 31) result ≡ true }
 {

@@ -8,9 +8,9 @@ ghost use Rattle.xdr_types.specs.Spelling.{spelling, own, bytes_of};
 ghost use Rattle.xdr_types.specs.View.{tree, values};
 ghost use Rattle.xdr_types.specs.Within.{IsLeft, FitsWithin};
 
-use crate::choice::part_under;
 use crate::kind::{Kind, KindId, Member};
 use crate::limits::Limits;
+use crate::picked::part_in;
 use crate::schema::Schema;
 use crate::value::Value;
 
@@ -43,7 +43,7 @@ fn left_after(schema: &Schema, id: KindId, value: &Value, space: u32) -> Option<
 {
     let kind = schema.kind(id);
     let space = left_after_own(kind, value, space)?;
-    left_after_inner(schema, kind, value, space)
+    left_after_inner(schema, id, kind, value, space)
 }
 
 fn left_after_own(kind: &Kind, value: &Value, space: u32) -> Option<u32>
@@ -73,8 +73,15 @@ fn left_after_own(kind: &Kind, value: &Value, space: u32) -> Option<u32>
 }
 
 #[cycle(left)]
-fn left_after_inner(schema: &Schema, kind: &Kind, value: &Value, space: u32) -> Option<u32>
-    requires { fit schema.now.kinds (parts (kind_view kind.now) (tree value.now).0) (tree value.now).1 ≡ true }
+fn left_after_inner(
+    schema: &Schema,
+    id: KindId,
+    kind: &Kind,
+    value: &Value,
+    space: u32,
+) -> Option<u32>
+    requires kind { kind_view kind.now ≡ kind_at schema.now.kinds id.place }
+    requires fits { fit schema.now.kinds (parts (kind_view kind.now) (tree value.now).0) (tree value.now).1 ≡ true }
     ensures { IsLeft space
         (length (spelling schema.now.kinds (parts (kind_view kind.now) (tree value.now).0) (tree value.now).1)) result }
 {
@@ -88,15 +95,8 @@ fn left_after_inner(schema: &Schema, kind: &Kind, value: &Value, space: u32) -> 
         (Kind::Structure { fields }, Value::Group(parts)) => left_after_parts(
             schema, fields, parts, space,
         ),
-        (
-            Kind::Choice {
-                tag: _,
-                arms,
-                other,
-            },
-            Value::Choice { tag, part },
-        ) => {
-            match part_under(arms, other, *tag) {
+        (Kind::Choice { .. }, Value::Choice { tag, part }) => {
+            match part_in(schema, id, *tag) {
                 Some(member) => left_after(schema, member.kind, part, space),
                 None => take(space, 0),
             }

@@ -186,7 +186,7 @@ pub(crate) fn take_number<'s, B: Build>(
         unreachable!();
     };
     let kind = schema.kind(id);
-    let made = match made_in(schema, kind, number) {
+    let made = match made_in(schema, id, kind, number) {
         Ok(made) => made,
         Err(why) => return Err(why),
     };

@@ -11,7 +11,7 @@ ghost use Rattle.xdr_stream.specs.Taking.{Takes, Refuses, IsWhy, tag_why};
 use crate::builder::{Leaf, Node};
 use crate::fault::Reason;
 use crate::machine::frame::Frame;
-use xdr_types::{Arm, Kind, KindId, Member, Schema, is_legal_tag, is_number_of, part_under};
+use xdr_types::{Arm, Kind, KindId, Member, Schema, is_legal_tag, part_in};
 
 /// What a unit makes.
 #[derive(Clone, Copy)]
@@ -24,10 +24,16 @@ pub enum Made<'s> {
     Length(u32),
 }
 
-/// What the number in the first unit of a value makes of it.
+/// What the number in the first unit of a value of the kind at a place makes of it.
 #[inline(always)]
-pub fn made_of<'s>(schema: &'s Schema, kind: &'s Kind, number: u32) -> Result<Made<'s>, Reason>
-    requires { HasUnit (lead_of (kind_view kind.now)) }
+pub fn made_of<'s>(
+    schema: &'s Schema,
+    id: KindId,
+    kind: &'s Kind,
+    number: u32,
+) -> Result<Made<'s>, Reason>
+    requires kind { kind_view kind.now ≡ kind_at schema.now.kinds id.place }
+    requires unit { HasUnit (lead_of (kind_view kind.now)) }
     ensures { MatchResult result (Takes schema.now.kinds (kind_view kind.now) number)
         (Refuses schema.now.kinds (kind_view kind.now) number) }
 {
@@ -39,9 +45,9 @@ pub fn made_of<'s>(schema: &'s Schema, kind: &'s Kind, number: u32) -> Result<Ma
             1 => Ok(Made::Leaf(Leaf::Bool(true))),
             _ => Err(Reason::BadBool),
         },
-        Kind::Numbered { members } => {
+        Kind::Numbered { .. } => {
             let signed = number.cast_signed();
-            if is_number_of(members, i64::from(signed)) {
+            if is_legal_tag(schema, id, i64::from(signed)) {
                 Ok(Made::Leaf(Leaf::Numbered(signed)))
             } else {
                 Err(Reason::BadNumbered)
@@ -69,7 +75,7 @@ pub fn made_of<'s>(schema: &'s Schema, kind: &'s Kind, number: u32) -> Result<Ma
             };
             Ok(Made::Open(Node::Items(number), frame))
         }
-        Kind::Choice { tag, arms, other } => chosen(schema, *tag, arms, other, number),
+        Kind::Choice { tag, arms, other } => chosen(schema, id, *tag, arms, other, number),
         Kind::Maybe { item } => match number {
             0 => Ok(Made::Leaf(Leaf::Absent)),
             1 => {
@@ -89,17 +95,19 @@ pub fn made_of<'s>(schema: &'s Schema, kind: &'s Kind, number: u32) -> Result<Ma
 #[inline(always)]
 pub(crate) fn made_in<'s>(
     schema: &'s Schema,
+    id: KindId,
     kind: &'s Kind,
     number: u32,
 ) -> Result<Made<'s>, Reason>
+    requires kind { kind_view kind.now ≡ kind_at schema.now.kinds id.place }
     requires unit { HasUnit (lead_of (kind_view kind.now)) }
     requires legal { has_illegal_case schema.now.kinds (kind_view kind.now) ≡ false }
     ensures { MatchResult result (Takes schema.now.kinds (kind_view kind.now) number)
         (Refuses schema.now.kinds (kind_view kind.now) number) }
 {
     match kind {
-        Kind::Choice { tag, arms, other } => picked(schema, *tag, arms, other, number),
-        _ => made_of(schema, kind, number),
+        Kind::Choice { tag, arms, other } => picked(schema, id, *tag, arms, other, number),
+        _ => made_of(schema, id, kind, number),
     }
 }
 
@@ -107,11 +115,14 @@ pub(crate) fn made_in<'s>(
 #[inline(always)]
 fn chosen<'s>(
     schema: &'s Schema,
+    id: KindId,
     tag: KindId,
     arms: &'s Vec<Arm>,
     other: &'s Option<Member>,
     number: u32,
 ) -> Result<Made<'s>, Reason>
+    requires { kind_at schema.now.kinds id.place
+        ≡ choice tag.place (map branch_of arms.now.items) (option_map part_of_member other.now) }
     ensures { MatchResult result
         (Takes schema.now.kinds (choice tag.place (map branch_of arms.now.items) (option_map part_of_member other.now))
         number)
@@ -122,7 +133,7 @@ fn chosen<'s>(
     if !is_legal_tag(schema, tag, signed) {
         return Err(why);
     }
-    match part_under(arms, other, signed) {
+    match part_in(schema, id, signed) {
         Some(member) => Ok(Made::Open(Node::Tag(signed), Frame::Arm { member })),
         None => Err(Reason::BadCase),
     }
@@ -132,12 +143,15 @@ fn chosen<'s>(
 #[inline(always)]
 fn picked<'s>(
     schema: &'s Schema,
+    id: KindId,
     tag: KindId,
     arms: &'s Vec<Arm>,
     other: &'s Option<Member>,
     number: u32,
 ) -> Result<Made<'s>, Reason>
-    requires { has_illegal_case schema.now.kinds (choice tag.place (map branch_of arms.now.items)
+    requires kind { kind_at schema.now.kinds id.place
+        ≡ choice tag.place (map branch_of arms.now.items) (option_map part_of_member other.now) }
+    requires legal { has_illegal_case schema.now.kinds (choice tag.place (map branch_of arms.now.items)
         (option_map part_of_member other.now)) ≡ false }
     ensures { MatchResult result
         (Takes schema.now.kinds (choice tag.place (map branch_of arms.now.items) (option_map part_of_member other.now))
@@ -147,11 +161,11 @@ fn picked<'s>(
 {
     if other.is_none() {
         let (signed, _) = number_under(schema, tag, number);
-        if let Some(member) = part_under(arms, other, signed) {
+        if let Some(member) = part_in(schema, id, signed) {
             return Ok(Made::Open(Node::Tag(signed), Frame::Arm { member }));
         }
     }
-    chosen(schema, tag, arms, other, number)
+    chosen(schema, id, tag, arms, other, number)
 }
 
 // The number that a unit stands for as a discriminant, and the reason against it where it is no legal one.

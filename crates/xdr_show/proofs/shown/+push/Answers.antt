@@ -1,10 +1,10 @@
-use Rattle.std.proofs.Common.{refl, ◌≡◌, ◌+◌, ◌≤◌, true, rules, length, map, arith, ap, ◌∙◌, List, option_map, get_or}
-use Rattle.std.proofs.Common.{subst, Some, [], ◌∷◌}
+use Rattle.std.proofs.Common.{refl, ◌≡◌, ◌+◌, ◌≤◌, true, rules, length, arith, ap, ◌∙◌, List, get_or}
+use Rattle.std.proofs.Common.{subst, sym, Some, [], ◌∷◌}
 use Rattle.std.proofs.lemmas.Int.{to_z-of_z}
-use Rattle.xdr_types.specs.Kinds.{KindView}
-use Rattle.xdr_types.specs.KindViews.{part_of_member, kind_view, branch_of}
+use Rattle.xdr_types.specs.Kinds.{KindView, kind_at}
+use Rattle.xdr_types.specs.KindViews.{part_of_member, kind_view}
 use Rattle.xdr_types.specs.Tree.{Tree, tag, none, from_list, depth_of}
-use Rattle.xdr_types.specs.Fits.{fits, fit, parts, item_part, part_of}
+use Rattle.xdr_types.specs.Fits.{fits, fit, parts, item_part, part_in}
 use Rattle.xdr_types.specs.View.{tree}
 use Rattle.xdr_types.proofs.Views.{tree-List, tree-Choice}
 use Rattle.xdr_types.proofs.Joining.{values-at, items-at, fields-at, first-fits, chosen-fits}
@@ -97,11 +97,12 @@ push_inner-push_value-requires t c =
     let chosen = subst (λ (g : KindView). fit S (parts g (tag c.in-Choice-Choice.tag))
     (from_list (tree part.value ∷ []))
     ≡ true) (ap kind_view c.in-Choice-Choice.is-0) whole in
-    let ours : part_of (map branch_of c.in-Choice-Choice.arms.items)
-    (option_map part_of_member c.in-Choice-Choice.other) c.in-Choice-Choice.tag
-    ≡ Some (part_of_member c.in-Some.member.now) = grind (arith, to_z-of_z, c.in-Some.ensures) in
+    let picked : Some (part_of_member c.in-Some.member.now)
+    ≡ part_in (kind_at S c.args.id.place) c.in-Choice-Choice.tag = grind (arith, to_z-of_z, c.in-Some.ensures) in
+    let ours = subst (λ (g : KindView). Some (part_of_member c.in-Some.member.now) ≡ part_in g c.in-Choice-Choice.tag)
+    (sym c.requires.kind ∙ ap kind_view c.in-Choice-Choice.is-0) picked in
     let fit : fits S c.in-Some.member.now.kind.place (tree part.value)
-    ≡ true = chosen-fits S _ (part_of_member c.in-Some.member.now) (tree part.value) ours chosen in
+    ≡ true = chosen-fits S _ (part_of_member c.in-Some.member.now) (tree part.value) (sym ours) chosen in
     let below = subst (λ (u : Tree). c.args.depth + depth_of u.1 ≤ 4097) view c.requires.deep in
     let deep : c.args.depth + depth_of (tree part.value).1 ≤ 4096 =
     (deep-step 4096 c.args.depth (tree part.value) none _ refl below).0 in

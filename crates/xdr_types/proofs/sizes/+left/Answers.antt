@@ -1,10 +1,10 @@
-use Rattle.std.proofs.Common.{◌≡◌, ◌<◌, true, rules, length, map, arith, ap, ◌∙◌, List, option_map, get_or, subst, Some}
-use Rattle.std.proofs.Common.{[], ◌∷◌}
+use Rattle.std.proofs.Common.{◌≡◌, ◌<◌, true, rules, length, map, arith, ap, ◌∙◌, List, get_or, subst, Some}
+use Rattle.std.proofs.Common.{[], ◌∷◌, sym}
 use Rattle.std.proofs.lemmas.Int.{to_z-of_z}
-use Rattle.xdr_types.specs.Kinds.{KindView}
-use Rattle.xdr_types.specs.KindViews.{part_of_member, kind_view, branch_of}
+use Rattle.xdr_types.specs.Kinds.{KindView, kind_at}
+use Rattle.xdr_types.specs.KindViews.{part_of_member, kind_view}
 use Rattle.xdr_types.specs.Tree.{Tree, tag, from_list}
-use Rattle.xdr_types.specs.Fits.{fits, fit, parts, item_part, part_of}
+use Rattle.xdr_types.specs.Fits.{fits, fit, parts, item_part, part_in}
 use Rattle.xdr_types.specs.Spelling.{spelling}
 use Rattle.xdr_types.specs.View.{tree, values}
 use Rattle.xdr_types.proofs.Views.{tree-List, tree-Choice}
@@ -86,17 +86,19 @@ pub left_after_inner-left_after-requires : goal.left_after_inner-left_after-requ
 left_after_inner-left_after-requires t c =
     let S = c.args.schema.now.kinds in
     let part = c.in-Choice-Choice.part in
+    let z = c.in-Choice-Choice.tag in
     let f = kind_view c.args.kind.now in
-    let at_tree : fit S (parts f (tree c.args.value.now).0) (tree c.args.value.now).1 ≡ true = c.requires in
+    let at_tree : fit S (parts f (tree c.args.value.now).0) (tree c.args.value.now).1 ≡ true = c.requires.fits in
     let whole = subst (λ (u : Tree). fit S (parts f u.0) u.1 ≡ true)
-    (ap tree c.in-Choice-Choice.is-1 ∙ tree-Choice c.in-Choice-Choice.tag part) at_tree in
-    let chosen = subst (λ (g : KindView). fit S (parts g (tag c.in-Choice-Choice.tag))
-    (from_list (tree part.value ∷ [])) ≡ true) (ap kind_view c.in-Choice-Choice.is-0) whole in
-    let ours : part_of (map branch_of c.in-Choice-Choice.arms.items)
-    (option_map part_of_member c.in-Choice-Choice.other) c.in-Choice-Choice.tag ≡ Some
-    (part_of_member c.in-Some.member.now) = grind (arith, to_z-of_z, c.in-Some.ensures) in
+    (ap tree c.in-Choice-Choice.is-1 ∙ tree-Choice z part) at_tree in
+    let chosen = subst (λ (g : KindView). fit S (parts g (tag z)) (from_list (tree part.value ∷ [])) ≡ true)
+    (ap kind_view c.in-Choice-Choice.is-0) whole in
+    let picked : Some (part_of_member c.in-Some.member.now) ≡ part_in (kind_at S c.args.id.place) z =
+    grind (arith, to_z-of_z, c.in-Some.ensures) in
+    let ours = subst (λ (g : KindView). Some (part_of_member c.in-Some.member.now) ≡ part_in g z)
+    (sym c.requires.kind ∙ ap kind_view c.in-Choice-Choice.is-0) picked in
     let fit : fits S c.in-Some.member.now.kind.place (tree part.value) ≡ true =
-    chosen-fits S _ (part_of_member c.in-Some.member.now) (tree part.value) ours chosen in
+    chosen-fits S _ (part_of_member c.in-Some.member.now) (tree part.value) (sym ours) chosen in
     search (rules, the_lemmas)
 
 pub left_after_parts-returns-in_err-left : goal.left_after_parts-returns-in_err-left

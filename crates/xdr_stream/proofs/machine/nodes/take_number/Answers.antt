@@ -39,6 +39,7 @@ made_in-requires g c =
     let s : List KindView = c.args.schema.now.kinds in
     let within = first_known s (left_of c.args.work.now) c.in-Some.id.place c.requires.sound.0 c.in-Some.ensures in
     record {
+      kind = c.kind-kind.ensures;
       unit = subst (λ (f : KindView). HasUnit (lead_of f)) (sym c.kind-kind.ensures)
           (first_starts s (left_of c.args.work.now) c.in-Some.id.place c.requires.starts c.in-Some.ensures);
       legal = subst (λ (f : KindView). has_illegal_case s f ≡ false) (sym c.kind-kind.ensures)
