@@ -251,15 +251,16 @@ module _ (q : Question) (c : Checker) (count : ℕ) (at_end : Answer) (turn : �
       (read_by left'' n array (omega (arith, page, length-take-le n array within)) moved one)
 
   -- what is kept at the end of the input, and where the answer is settled
-  pub retained_at_end : (left'' : Option (List ℕ)) (n : ℕ) (array : List ℕ) → n ≡ 0 → Consumes left' left'' (take n array)
-      → IsRetained keeps q left left'' at_end retained
+  pub retained_at_end : (left'' : Option (List ℕ)) (n : ℕ) (array : List ℕ) → n ≡ 0
+      → Consumes left' left'' (take n array) → IsRetained keeps q left left'' at_end retained
   retained_at_end left'' n array none read =
       kept_by keeps retained p.seen q left left'' at_end p.is_kept
       (Consumes-at_end left left' left'' p.seen array n none p.read read) p.right
 
   pub retained_settled : (left'' : Option (List ℕ)) (n : ℕ) (array : List ℕ) (d : Checker) (v : Verdict) (a : Answer)
       → Consumes left' left'' (take n array) → v ≡ Settled a → Says q d (p.seen ++ take n array) v
-      → (retained' : List ℕ) → retained' ≡ (if keeps then retained ++ take n array else retained) → IsRetained keeps q left left'' a retained'
+      → (retained' : List ℕ) → retained' ≡ (if keeps then retained ++ take n array else retained)
+      → IsRetained keeps q left left'' a retained'
   retained_settled left'' n array d v a read is says retained' grown_retained =
       kept_by keeps retained' (p.seen ++ take n array) q left left'' a
       (more_retained keeps retained retained' p.seen (take n array) p.is_kept grown_retained)

@@ -20,7 +20,7 @@ use Rattle.oncrpc_tasks.specs.declared.answer.Answer.TheVariants as answer
 use Rattle.oncrpc_tasks.specs.declared.failure.Failure.{Failure}
 use Rattle.oncrpc_tasks.specs.Right.{Question, BeginsWithValue, HasOutcome, HasNoValue, IsWhole, IsRefusal, IsRight}
 use Rattle.oncrpc_tasks.specs.Right.{IsRightFor, lines_of}
-use Rattle.oncrpc_tasks.specs.Stopping.{ReadsUnsettled, LastRead, IsUnread}
+use Rattle.oncrpc_tasks.specs.Stopping.{LastRead, IsUnread}
 use Rattle.oncrpc_tasks.specs.Private.Judged.{IsRetained, Shows, unshown}
 use Rattle.oncrpc_tasks.specs.Private.Reading.{ReadsInput}
 use Rattle.oncrpc_tasks.proofs.Rightly.{refused_at_end}
@@ -186,9 +186,6 @@ module _ (q : Question) where
       (subst (λ (x : List ℕ). Shows q x a text) retained shows) input right
 
   -- what was read is said of either question
-  pub reads_shown : (left left' : Option (List ℕ)) → ReadsUnsettled (unshown q) left left' → ReadsUnsettled q left left'
-  reads_shown left left' h = record { bytes = h.bytes; unsettled = h.unsettled; read = h.read }
-
   stops_shown : (left left' : Option (List ℕ)) (reads reads' : Option ℕ)
       → IsUnread left left' reads reads' ⊎ LastRead (unshown q) left left' reads reads'
       → IsUnread left left' reads reads' ⊎ LastRead q left left' reads reads'

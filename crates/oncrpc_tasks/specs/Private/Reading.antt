@@ -10,7 +10,8 @@ use Rattle.oncrpc_tasks.specs.Right.{Question}
 
 -- An input was read by no more than the most reads, to at most a page past the limit, and no further once the answer
 -- was settled.
-pub record ReadsInput (q : Question) (hex : Bool) (left left' : Option (List ℕ)) (reads reads' : Option ℕ) : Type 0 where
+pub record ReadsInput (q : Question) (hex : Bool) (left left' : Option (List ℕ)) (reads reads' : Option ℕ)
+    : Type 0 where
   pub few_reads : CountsAtMost 1048576 reads reads'
   pub bounded : MovesAtMost (most_read hex q.limits.bytes) left left'
   pub stops : StopsReading q hex left left' reads reads'
