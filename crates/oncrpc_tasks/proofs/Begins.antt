@@ -21,6 +21,7 @@ text_is_right q text v (answer.Refused f) shown right gives =
 
 -- an answer that is right for the bytes is right for the text that spells them
 pub given_is_right : (q : Question) (g : Given) (v : Vec ℕ Global) (a : Answer) (shown : List ℕ) → g ≡ given.Bytes v
-    → IsRight q v.items a shown → (reported : Option (List ℕ)) → InputGives reported g → IsRightFor q true reported a shown
+    → IsRight q v.items a shown → (reported : Option (List ℕ)) → InputGives reported g
+    → IsRightFor q true reported a shown
 given_is_right q g v a shown is right None gives = tt
 given_is_right q g v a shown is right (Some text) gives = text_is_right q text v a shown right (rw is at gives)

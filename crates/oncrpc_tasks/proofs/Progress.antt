@@ -1,7 +1,8 @@
 -- An input that is judged as it is read: where reading stands.
 use Rattle.std.proofs.Common.{◌≡◌, ℕ, ◌+◌, ◌<◌, ◌≤◌, List, [], ◌++◌, length, take, refl, sym, ap}
 use Rattle.std.proofs.Common.{subst, ◌∙◌, arith, append-nil, length-append, Option, Some, None, Bool, true, false}
-use Rattle.std.proofs.Common.{if◌then◌else◌}
+use Rattle.std.proofs.Common.{if◌then◌else◌, inr}
+use Rattle.std.proofs.lemmas.List.{length-take-le}
 use Rattle.std.specs.Io.KnownBytes.{Keeps, Consumes, IsAtEnd}
 use Rattle.xdr_types.specs.Kinds.{Lists}
 use Rattle.xdr_types.specs.Within.{AreBounds, Bounds}
@@ -15,6 +16,7 @@ use Rattle.oncrpc_tasks.specs.declared.answer.Answer.{Answer}
 use Rattle.oncrpc_tasks.specs.declared.judge.Verdict.{Verdict}
 use Rattle.oncrpc_tasks.specs.declared.judge.Verdict.TheVariants.{Open, Settled}
 use Rattle.oncrpc_tasks.specs.Private.Judged.{Follows, IsRetained, Says}
+use Rattle.oncrpc_tasks.specs.Private.Reading.{ReadsInput}
 use Rattle.oncrpc_tasks.specs.Right.{Question, IsRight, IsRightFor}
 use Rattle.oncrpc_tasks.specs.Stopping.{IsUnsettled, ReadsUnsettled, LastRead}
 use Rattle.oncrpc_tasks.proofs.Rightly.{unsettled_within}
@@ -127,6 +129,11 @@ module _ (q : Question) (bounds : AreBounds q.limits.depth q.limits.bytes) where
         read = h.read;
       }
 
+  pub stops_by : (left left' : Option (List ℕ)) (reads reads' : Option ℕ) → CountsAtMost 1048576 reads reads'
+      → LastRead q left left' reads reads' → ReadsInput q false left left' reads reads'
+  stops_by left left' reads reads' few h =
+      record { few_reads = few; bounded = moved_by left left' reads reads' h; stops = λ plain. inr h }
+
 module _ (q : Question) (c : Checker) (count : ℕ) (at_end : Answer) (turn : ℕ) (left left' : Option (List ℕ))
     (reads reads' reads'' : Option ℕ) {keeps : Bool} {retained : List ℕ}
     (p : Progress q c count at_end turn left left' keeps retained) (counted : Counts turn reads reads') where
@@ -226,16 +233,34 @@ module _ (q : Question) (c : Checker) (count : ℕ) (at_end : Answer) (turn : �
     };
   }
 
+  -- how the input was read: up to a read that failed, up to the last that is allowed, and up to one that gave bytes
+  pub stops_failed : AreBounds q.limits.depth q.limits.bytes → turn < 1048576 → (left'' : Option (List ℕ))
+      → Keeps left' left'' → Counts 1 reads' reads'' → ReadsInput q false left left'' reads reads''
+  stops_failed bounds low left'' same one =
+      stops_by q bounds left left'' reads reads'' (one_more one low) (failed_by left'' same one)
+
+  pub stops_last : AreBounds q.limits.depth q.limits.bytes → turn ≤ 1048576 → ReadsInput q false left left' reads reads'
+  stops_last bounds low =
+      stops_by q bounds left left' reads reads' (record { calls = turn; few = low; counted = counted }) many_by
+
+  pub stops_read : AreBounds q.limits.depth q.limits.bytes → turn < 1048576 → (left'' : Option (List ℕ)) (n : ℕ)
+      (array : List ℕ) → n ≤ 4096 → n ≤ length array → Consumes left' left'' (take n array) → Counts 1 reads' reads''
+      → ReadsInput q false left left'' reads reads''
+  stops_read bounds low left'' n array page within moved one =
+      stops_by q bounds left left'' reads reads'' (one_more one low)
+      (read_by left'' n array (omega (arith, page, length-take-le n array within)) moved one)
+
   -- what is kept at the end of the input, and where the answer is settled
-  pub retained_at_end : (left'' : Option (List ℕ)) (n : ℕ) (array : List ℕ) → n ≡ 0 → Consumes left' left'' (take n array)
-      → IsRetained keeps q left left'' at_end retained
+  pub retained_at_end : (left'' : Option (List ℕ)) (n : ℕ) (array : List ℕ) → n ≡ 0
+      → Consumes left' left'' (take n array) → IsRetained keeps q left left'' at_end retained
   retained_at_end left'' n array none read =
       kept_by keeps retained p.seen q left left'' at_end p.is_kept
       (Consumes-at_end left left' left'' p.seen array n none p.read read) p.right
 
   pub retained_settled : (left'' : Option (List ℕ)) (n : ℕ) (array : List ℕ) (d : Checker) (v : Verdict) (a : Answer)
       → Consumes left' left'' (take n array) → v ≡ Settled a → Says q d (p.seen ++ take n array) v
-      → (retained' : List ℕ) → retained' ≡ (if keeps then retained ++ take n array else retained) → IsRetained keeps q left left'' a retained'
+      → (retained' : List ℕ) → retained' ≡ (if keeps then retained ++ take n array else retained)
+      → IsRetained keeps q left left'' a retained'
   retained_settled left'' n array d v a read is says retained' grown_retained =
       kept_by keeps retained' (p.seen ++ take n array) q left left'' a
       (more_retained keeps retained retained' p.seen (take n array) p.is_kept grown_retained)

@@ -16,8 +16,8 @@ not_there : (o : Option KindId) (p n : ℕ) → MatchOption o ⊥ (λ (k : KindI
 not_there None p n h missing known = h
 not_there (Some k) p n h missing known = missing (subst (λ (m : ℕ). m < n) (sym h) known)
 
-pub nothing_asked : (reported : List ℕ → Option (List ℕ)) (what : ValueTask) (d : Declared) (o : Option KindId) → Declares
-    (told_text reported what.types) what.types d
+pub nothing_asked : (reported : List ℕ → Option (List ℕ)) (what : ValueTask) (d : Declared) (o : Option KindId)
+    → Declares (told_text reported what.types) what.types d
     → ((p : ℕ) → Names (string_bytes what.name) d p → MatchOption o ⊥ (λ (k : KindId). k.place ≡ p))
     → MatchOption o ⊤ (λ (k : KindId). k.place < length d.schema.kinds → ⊥) → AsksNothing reported what
 nothing_asked reported what d o declares only missing =

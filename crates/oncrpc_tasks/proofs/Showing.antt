@@ -2,6 +2,7 @@
 use Rattle.std.proofs.Common.{◌≡◌, ◌⊎◌, inl, inr, ℕ, ◌%◌, Bool, true, false, List, [], ◌++◌, refl, sym, ap, subst, ◌∙◌}
 use Rattle.std.proofs.Common.{Option, Some, None, Result, Ok, Err, IfOk, Vec, Global}
 use Rattle.std.proofs.lemmas.List.{append-nil}
+use Rattle.std.proofs.lemmas.Bool.{false≢true}
 use Rattle.xdr_types.specs.Kinds.{KindView}
 use Rattle.xdr_types.specs.Tree.{Tree}
 use Rattle.xdr_types.specs.Within.{Bounds}
@@ -19,8 +20,9 @@ use Rattle.oncrpc_tasks.specs.declared.answer.Answer.TheVariants as answer
 use Rattle.oncrpc_tasks.specs.declared.failure.Failure.{Failure}
 use Rattle.oncrpc_tasks.specs.Right.{Question, BeginsWithValue, HasOutcome, HasNoValue, IsWhole, IsRefusal, IsRight}
 use Rattle.oncrpc_tasks.specs.Right.{IsRightFor, lines_of}
-use Rattle.oncrpc_tasks.specs.Stopping.{ReadsUnsettled, LastRead, IsUnread}
+use Rattle.oncrpc_tasks.specs.Stopping.{LastRead, IsUnread}
 use Rattle.oncrpc_tasks.specs.Private.Judged.{IsRetained, Shows, unshown}
+use Rattle.oncrpc_tasks.specs.Private.Reading.{ReadsInput}
 use Rattle.oncrpc_tasks.proofs.Rightly.{refused_at_end}
 
 same_value : (s : List KindView) (t : ℕ) (l : Bounds) (b more : List ℕ) (v w : Tree) (m n : ℕ)
@@ -184,10 +186,7 @@ module _ (q : Question) where
       (subst (λ (x : List ℕ). Shows q x a text) retained shows) input right
 
   -- what was read is said of either question
-  pub reads_shown : (left left' : Option (List ℕ)) → ReadsUnsettled (unshown q) left left' → ReadsUnsettled q left left'
-  reads_shown left left' h = record { bytes = h.bytes; unsettled = h.unsettled; read = h.read }
-
-  pub stops_shown : (left left' : Option (List ℕ)) (reads reads' : Option ℕ)
+  stops_shown : (left left' : Option (List ℕ)) (reads reads' : Option ℕ)
       → IsUnread left left' reads reads' ⊎ LastRead (unshown q) left left' reads reads'
       → IsUnread left left' reads reads' ⊎ LastRead q left left' reads reads'
   stops_shown left left' reads reads' (inl unread) = inl unread
@@ -199,3 +198,12 @@ module _ (q : Question) where
     read = h.read;
     few = h.few;
   })
+
+  pub input_shown : (hex : Bool) → hex ≡ false → (left left' : Option (List ℕ)) (reads reads' : Option ℕ)
+      → ReadsInput (unshown q) false left left' reads reads' → ReadsInput q hex left left' reads reads'
+  input_shown true plain left left' reads reads' h = absurd (false≢true (sym plain))
+  input_shown false plain left left' reads reads' h = record {
+    few_reads = h.few_reads;
+    bounded = h.bounded;
+    stops = λ p. stops_shown left left' reads reads' (h.stops tt);
+  }

@@ -65,7 +65,8 @@ pub record IsLookedFor {I O F : Type 0} (reported : List ℕ → Option (List �
 -- why nothing was looked for: 2 where nothing is asked, 3 where the declarations were not read, 4 where memory was
 -- refused
 abbrev pub IsUnasked : (List ℕ → Option (List ℕ)) → ValueTask → (file : Type 0) → ℕ → Type 0
-IsUnasked reported what file status = ((status ≡ 2) × AsksNothing reported what) ⊎ (((status ≡ 3) × file) ⊎ (status ≡ 4))
+IsUnasked reported what file status =
+    ((status ≡ 2) × AsksNothing reported what) ⊎ (((status ≡ 3) × file) ⊎ (status ≡ 4))
 
 -- Words ask for a value: it was looked for; or not, and then nothing was read and nothing printed.
 abbrev pub WordsEnd : {I O F : Type 0} → (List ℕ → Option (List ℕ)) → ValueTask → (shows : Bool) → (file : Type 0)

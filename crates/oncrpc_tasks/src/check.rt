@@ -1,18 +1,15 @@
 //! Reads one value, and prints what the input holds, and the value's lines where they are asked for.
-ghost use Rattle.std.specs.Prelude.{◌≡◌, ◌≢◌, ◌⊎◌, ℕ, ◌++◌, ◌<◌, [], true, false, Option, List, length, IfOk, IfErr};
-ghost use Rattle.std.specs.Prelude.{OnOk, IsErrOf};
-ghost use Rattle.std.specs.Io.KnownBytes.{Appends};
-ghost use Rattle.xdr_io.specs.Reported.{Counts, CountsAtMost, MovesAtMost};
-ghost use Rattle.oncrpc_tasks.specs.Checked.{AnswersInPart};
+ghost use Rattle.std.specs.Prelude.{◌≡◌, ℕ, ◌++◌, ◌<◌, [], true, false, Option, List, length, IfOk, IfErr};
 ghost use Rattle.oncrpc_tasks.specs.Ends.{ValueEnds};
 ghost use Rattle.xdr_types.specs.Tree.{Tree};
 ghost use Rattle.xdr_types.specs.Outcome.{Outcome, Whole};
 ghost use Rattle.xdr_show.specs.Shown.{show_text};
-ghost use Rattle.oncrpc_tasks.specs.Input.{InputGives, most_read};
+ghost use Rattle.oncrpc_tasks.specs.Input.{InputGives};
 ghost use Rattle.oncrpc_tasks.specs.Private.Judged.{Shows, unshown};
+ghost use Rattle.oncrpc_tasks.specs.Private.Printed.{Prints};
+ghost use Rattle.oncrpc_tasks.specs.Private.Reading.{EndsReading, ReadsInput};
 ghost use Rattle.oncrpc_tasks.specs.Lines.{line};
 ghost use Rattle.oncrpc_tasks.specs.Right.{IsKnown, IsRight, IsRightFor, asked_of};
-ghost use Rattle.oncrpc_tasks.specs.Stopping.{IsPlain, IsUnread, LastRead, ReadsUnsettled};
 
 use super::answer::{Answer, line_of, status_of};
 use super::failure::{Failure, report};
@@ -92,6 +89,7 @@ pub fn show_over<I: Source, O: Sink, F: Sink>(
 
 /// Answers the question as `check_over` and, with its lines, `show_over` do, and gives the exit status. The question's
 /// kind must be one of its schema.
+#[tactic(auto, using(crate::proofs::Failed::cut_by))]
 pub fn answer_over<I: Source, O: Sink, F: Sink>(
     alloc: Global,
     question: &Question,
@@ -104,47 +102,30 @@ pub fn answer_over<I: Source, O: Sink, F: Sink>(
         (record { left = I.left; reads = I.reads; failures = I.failures; taken = O.taken; lost = O.failures })
         input.old input.new output.old output.new faults.old faults.new result }
 {
-    match print_answer(alloc, question, input, output) {
-        Ok(answer) => status_of(answer),
+    let (answer, shown) = match answer_to(alloc, question, input) {
+        Ok(answered) => answered,
+        Err(failure) => return report(failure, faults),
+    };
+    match print_answer(alloc, answer, shown, output) {
+        Ok(()) => status_of(answer),
         Err(failure) => report(failure, faults),
     }
 }
 
 // What is shown and the line of the answer go out as one piece.
-fn print_answer<I: Source, O: Sink>(
+fn print_answer<O: Sink>(
     alloc: Global,
-    question: &Question,
-    input: &mut I,
+    answer: Answer,
+    shown: Vec<u8>,
     output: &mut O,
-) -> Result<Answer, Failure>
-    requires { IsKnown question.now }
-    ensures right { IfOk result (λ a. (shown : List ℕ)
-        × IsRightFor (asked_of question.now) question.now.hex (I.left input.old) a shown
-        × Appends (O.taken output.old) (O.taken output.new) (shown ++ line a)) }
-    ensures none_failed { OnOk result (Counts 0 (I.failures input.old) (I.failures input.new)
-        × Counts 0 (O.failures output.old) (O.failures output.new)) }
-    ensures read { IsErrOf result Failure.Read → Counts 1 (I.failures input.old) (I.failures input.new)
-        × (IsPlain question.now.hex → ReadsUnsettled (asked_of question.now) (I.left input.old) (I.left input.new)) }
-    ensures many { IsErrOf result Failure.TooManyReads → Counts 1048576 (I.reads input.old) (I.reads input.new)
-        × (IsPlain question.now.hex → ReadsUnsettled (asked_of question.now) (I.left input.old) (I.left input.new)) }
-    ensures write { IsErrOf result Failure.Write → Counts 1 (O.failures output.old) (O.failures output.new) }
-    ensures in_part { IsErrOf result Failure.Write
-        → AnswersInPart (asked_of question.now) question.now.hex (I.left input.old) (O.taken output.old)
-        (O.taken output.new) }
-    ensures nothing { IfErr result (λ f. f ≢ Failure.Write → output.new ≡ output.old) }
-    ensures reads { CountsAtMost 1048576 (I.reads input.old) (I.reads input.new) }
-    ensures moved { MovesAtMost (most_read question.now.hex question.now.limits.bytes) (I.left input.old)
-        (I.left input.new) }
-    ensures stops { IsPlain question.now.hex
-        → IsUnread (I.left input.old) (I.left input.new) (I.reads input.old) (I.reads input.new)
-        ⊎ LastRead (asked_of question.now) (I.left input.old) (I.left input.new) (I.reads input.old)
-        (I.reads input.new) }
+) -> Result<(), Failure>
+    ensures { Prints O.taken O.failures output.old output.new (shown.items ++ line answer) result }
 {
-    let (answer, mut text) = answer_to(alloc, question, input)?;
+    let mut text = shown;
     let line = line_of(alloc, answer)?;
     text.extend_from_slice(line.as_bytes())?;
     write_whole(output, &text)?;
-    Ok(answer)
+    Ok(())
 }
 
 // The answer, and what is shown before its line. Hexadecimal is read to its end first; what is read as it is is judged
@@ -157,19 +138,10 @@ fn answer_to<I: Source>(
     requires { IsKnown question.now }
     ensures right { IfOk result (λ r.
         IsRightFor (asked_of question.now) question.now.hex (I.left input.old) r.0 r.1.items) }
-    ensures none_failed { OnOk result (Counts 0 (I.failures input.old) (I.failures input.new)) }
-    ensures read { IsErrOf result Failure.Read → Counts 1 (I.failures input.old) (I.failures input.new)
-        × (IsPlain question.now.hex → ReadsUnsettled (asked_of question.now) (I.left input.old) (I.left input.new)) }
-    ensures many { IsErrOf result Failure.TooManyReads → Counts 1048576 (I.reads input.old) (I.reads input.new)
-        × (IsPlain question.now.hex → ReadsUnsettled (asked_of question.now) (I.left input.old) (I.left input.new)) }
-    ensures no_write { IsErrOf result Failure.Write → ⊥ }
-    ensures reads { CountsAtMost 1048576 (I.reads input.old) (I.reads input.new) }
-    ensures moved { MovesAtMost (most_read question.now.hex question.now.limits.bytes) (I.left input.old)
-        (I.left input.new) }
-    ensures stops { IsPlain question.now.hex
-        → IsUnread (I.left input.old) (I.left input.new) (I.reads input.old) (I.reads input.new)
-        ⊎ LastRead (asked_of question.now) (I.left input.old) (I.left input.new) (I.reads input.old)
-        (I.reads input.new) }
+    ensures ends { EndsReading (asked_of question.now) question.now.hex (I.left input.old) (I.left input.new)
+        (I.reads input.old) (I.reads input.new) (I.failures input.old) (I.failures input.new) result }
+    ensures reads { ReadsInput (asked_of question.now) question.now.hex (I.left input.old) (I.left input.new)
+        (I.reads input.old) (I.reads input.new) }
 {
     if question.hex {
         let given = given_over(alloc, input)?;

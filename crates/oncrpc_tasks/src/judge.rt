@@ -1,12 +1,11 @@
 //! A value judged while its bytes come.
-ghost use Rattle.std.specs.Prelude.{◌≡◌, ◌⊎◌, ◌≤◌, ◌<◌, ◌+◌, ◌++◌, ℕ, List, [], if◌then◌else◌, false, length, IfOk};
-ghost use Rattle.std.specs.Prelude.{IfErr, OnOk, IsErrOf};
+ghost use Rattle.std.specs.Prelude.{◌≡◌, ◌≤◌, ◌<◌, ◌++◌, ℕ, List, [], if◌then◌else◌, false, length, IfOk};
+ghost use Rattle.std.specs.Prelude.{IfErr, OnOk};
 ghost use Rattle.xdr_types.specs.Within.{AreBounds};
-ghost use Rattle.xdr_io.specs.Reported.{Counts, CountsAtMost, MovesAtMost};
 ghost use Rattle.oncrpc_tasks.specs.Right as right;
 ghost use Rattle.oncrpc_tasks.specs.Right.{IsKnown, IsRight, IsRightFor, asked_of};
-ghost use Rattle.oncrpc_tasks.specs.Stopping.{LastRead, ReadsUnsettled, IsUnread};
 ghost use Rattle.oncrpc_tasks.specs.Private.Judged.{Follows, IsRetained, Says, unshown};
+ghost use Rattle.oncrpc_tasks.specs.Private.Reading.{EndsReading, ReadsInput};
 
 use super::answer::Answer;
 use super::failure::Failure;
@@ -87,24 +86,12 @@ pub fn judge_over<I: Source>(
     ensures retained { IfOk result (λ r.
         IsRetained question.now.shows (unshown (asked_of question.now)) (I.left input.old) (I.left input.new) r.0
         r.1.items) }
-    // Where it answers, no read failed.
-    ensures none_failed { OnOk result (Counts 0 (I.failures input.old) (I.failures input.new)) }
-    // Read and TooManyReads come only where what was read settles no answer: after a read that failed,
-    ensures failed { IsErrOf result Failure.Read → Counts 1 (I.failures input.old) (I.failures input.new)
-        × ReadsUnsettled (unshown (asked_of question.now)) (I.left input.old) (I.left input.new) }
-    // and after as many reads as there may be.
-    ensures many { IsErrOf result Failure.TooManyReads → Counts 1048576 (I.reads input.old) (I.reads input.new)
-        × ReadsUnsettled (unshown (asked_of question.now)) (I.left input.old) (I.left input.new) }
-    // Write never comes.
-    ensures no_write { IsErrOf result Failure.Write → ⊥ }
-    // No more than the most reads are made,
-    ensures reads { CountsAtMost 1048576 (I.reads input.old) (I.reads input.new) }
-    // at most a page more than the limit on bytes is read,
-    ensures moved { MovesAtMost (question.now.limits.bytes + 4096) (I.left input.old) (I.left input.new) }
-    // and no read follows one that settled the answer.
-    ensures stops { IsUnread (I.left input.old) (I.left input.new) (I.reads input.old) (I.reads input.new)
-        ⊎ LastRead (unshown (asked_of question.now)) (I.left input.old) (I.left input.new) (I.reads input.old)
-        (I.reads input.new) }
+    // Where it answers, no read failed; Read and TooManyReads come only where what was read settles no answer.
+    ensures ends { EndsReading (unshown (asked_of question.now)) false (I.left input.old) (I.left input.new)
+        (I.reads input.old) (I.reads input.new) (I.failures input.old) (I.failures input.new) result }
+    // No more than the most reads are made, and none follows one that settled the answer.
+    ensures reads { ReadsInput (unshown (asked_of question.now)) false (I.left input.old) (I.left input.new)
+        (I.reads input.old) (I.reads input.new) }
 {
     let Question {
         schema,

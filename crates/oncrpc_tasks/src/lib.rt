@@ -1,4 +1,12 @@
 //! The engines of the program `oncrpc`, over readers and writers: what is printed, and the exit status.
+//!
+//! - `task`: what the words ask for, and how it is done. `target`: the kind that they name. `declared`: the text that
+//!   declares it. `open`: how that text is opened. `unusable`: why words name nothing.
+//! - `check`: reads one value, and prints what the input holds. `question`: what is asked of the input. `judge`: judges
+//!   the bytes as they come. `answer`: the line that says what the input holds.
+//! - `records`: writes a stream of records in its normal form.
+//! - `given`: an input that is a text of hexadecimal. `hexadecimal`: the bytes that such a text spells.
+//! - `failure`: what stops a task, its line and its exit status.
 #![tactic(auto)]
 
 mod answer;

@@ -1,10 +1,11 @@
 //! Writes a stream of records in its normal form.
 ghost use Rattle.std.specs.Prelude.{◌≡◌, ◌≢◌, ◌⊎◌, ◌↔◌, ◌<◌, ◌≤◌, [], true, false, Option, List, ℕ, Some, IfOk, IfErr};
-ghost use Rattle.std.specs.Prelude.{OnOk, IsErrOf, string_bytes};
-ghost use Rattle.xdr_io.specs.Reported.{Counts, CountsAtMost, MovesAtMost};
+ghost use Rattle.std.specs.Prelude.{IsErrOf, string_bytes};
+ghost use Rattle.xdr_io.specs.Reported.{CountsAtMost, MovesAtMost};
 ghost use Rattle.oncrpc_tasks.specs.RecordsEnd.{RecordsEnd, IsFormInPart};
 ghost use Rattle.oncrpc_tasks.specs.Input.{most_read};
 ghost use Rattle.oncrpc_tasks.specs.Records.{Marks, MarksAsText, StopsFor, refusal_line};
+ghost use Rattle.oncrpc_tasks.specs.Private.Reading.{EndsByDevice};
 
 use super::failure::{Failure, report};
 use super::given::{Given, given_over};
@@ -112,13 +113,11 @@ fn mark_bytes<I: Source, O: Sink>(
     requires { limit ≤ 2147483647 }
     ensures marks { IfOk result (λ m.
         Marks limit (I.left input.old) (I.left input.new) (O.taken output.old) (O.taken output.new) m) }
-    ensures unfailed { OnOk result (Counts 0 (I.failures input.old) (I.failures input.new)) }
-    ensures unlost { OnOk result (Counts 0 (O.failures output.old) (O.failures output.new)) }
     ensures stopped { IfErr result (λ f.
         StopsFor f limit (I.left input.old) (I.left input.new) (O.taken output.old) (O.taken output.new)) }
-    ensures read { IsErrOf result Failure.Read → Counts 1 (I.failures input.old) (I.failures input.new) }
-    ensures many { IsErrOf result Failure.TooManyReads → Counts 1048576 (I.reads input.old) (I.reads input.new) }
-    ensures write { IsErrOf result Failure.Write → Counts 1 (O.failures output.old) (O.failures output.new) }
+    ensures ends { EndsByDevice
+        (record { left = I.left; reads = I.reads; failures = I.failures; taken = O.taken; lost = O.failures })
+        input.old input.new output.old output.new result }
     ensures reads { CountsAtMost 1048576 (I.reads input.old) (I.reads input.new) }
 {
     match normalise(alloc, input, output, limit) {
@@ -157,14 +156,12 @@ fn mark_text<I: Source, O: Sink>(
     requires { limit ≤ 2147483647 }
     ensures marks { IfOk result (λ m.
         MarksAsText limit (I.left input.old) (O.taken output.old) (O.taken output.new) m) }
-    ensures none_failed { OnOk result (Counts 0 (I.failures input.old) (I.failures input.new)
-        × Counts 0 (O.failures output.old) (O.failures output.new)) }
     ensures in_part { IsErrOf result Failure.Write
         → IsFormInPart limit (I.left input.old) (O.taken output.old) (O.taken output.new) }
     ensures nothing { IfErr result (λ f. f ≢ Failure.Write → output.new ≡ output.old) }
-    ensures read { IsErrOf result Failure.Read → Counts 1 (I.failures input.old) (I.failures input.new) }
-    ensures many { IsErrOf result Failure.TooManyReads → Counts 1048576 (I.reads input.old) (I.reads input.new) }
-    ensures write { IsErrOf result Failure.Write → Counts 1 (O.failures output.old) (O.failures output.new) }
+    ensures ends { EndsByDevice
+        (record { left = I.left; reads = I.reads; failures = I.failures; taken = O.taken; lost = O.failures })
+        input.old input.new output.old output.new result }
     ensures reads { CountsAtMost 1048576 (I.reads input.old) (I.reads input.new) }
     ensures moved { MovesAtMost (most_read true 0) (I.left input.old) (I.left input.new) }
 {

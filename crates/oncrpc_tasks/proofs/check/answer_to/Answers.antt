@@ -1,17 +1,17 @@
 -- What is read as it is, shown and not.
 use Rattle.oncrpc_tasks.specs.Right.{asked_of}
-use Rattle.oncrpc_tasks.proofs.Showing.{shows_retained, stops_shown}
+use Rattle.oncrpc_tasks.proofs.Showing.{input_shown, shows_retained}
 use Rattle.oncrpc_tasks.proofs.check.answer_to.Goals as goal
 
-pub returns-in_err-answer-clause-stops : goal.returns-in_err-answer-clause-stops
-returns-in_err-answer-clause-stops g c =
+pub returns-in_err-answer-clause-reads : goal.returns-in_err-answer-clause-reads
+returns-in_err-answer-clause-reads g c =
     let q = asked_of c.args.question.now in
-    λ plain. stops_shown q _ _ _ _ c.judge_over.ensures.stops
+    input_shown q _ c.if-question.false _ _ _ _ c.judge_over.ensures.reads
 
-pub returns-in_err-shown-clause-stops : goal.returns-in_err-shown-clause-stops
-returns-in_err-shown-clause-stops g c =
+pub returns-in_err-shown-clause-reads : goal.returns-in_err-shown-clause-reads
+returns-in_err-shown-clause-reads g c =
     let q = asked_of c.args.question.now in
-    λ plain. stops_shown q _ _ _ _ c.judge_over.ensures.stops
+    input_shown q _ c.if-question.false _ _ _ _ c.judge_over.ensures.reads
 
 pub returns-in_ok-shown-clause-right : goal.returns-in_ok-shown-clause-right
 returns-in_ok-shown-clause-right g c =
@@ -20,7 +20,7 @@ returns-in_ok-shown-clause-right g c =
     c.in_ok-answer.ensures.right
     (rw c.deref.ensures.value at c.in_ok-shown.ensures.right))
 
-pub returns-in_ok-shown-clause-stops : goal.returns-in_ok-shown-clause-stops
-returns-in_ok-shown-clause-stops g c =
+pub returns-in_ok-shown-clause-reads : goal.returns-in_ok-shown-clause-reads
+returns-in_ok-shown-clause-reads g c =
     let q = asked_of c.args.question.now in
-    λ plain. stops_shown q _ _ _ _ c.judge_over.ensures.stops
+    input_shown q _ c.if-question.false _ _ _ _ c.judge_over.ensures.reads

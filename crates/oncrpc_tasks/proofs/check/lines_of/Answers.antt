@@ -1,5 +1,5 @@
 -- The value that begins the bytes is the one whose lines are made.
-use Rattle.std.proofs.Common.{sym, ◌∙◌, false}
+use Rattle.std.proofs.Common.{sym, ◌∙◌}
 use Rattle.std.proofs.lemmas.Bool.{false≢true}
 use Rattle.oncrpc_tasks.specs.Right.{asked_of}
 use Rattle.oncrpc_tasks.specs.Private.Judged.{unshown}

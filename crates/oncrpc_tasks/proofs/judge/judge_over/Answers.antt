@@ -1,12 +1,12 @@
 -- Reading stops where the answer is settled.
-use Rattle.std.proofs.Common.{◌≡◌, ℕ, inr, [], refl, arith, subst}
+use Rattle.std.proofs.Common.{◌≡◌, ℕ, [], refl, arith, rules, subst}
 use Rattle.std.proofs.lemmas.List.{length-take-le}
 use Rattle.std.proofs.KnownBytes.{Keeps-refl}
 use Rattle.xdr_io.specs.Reported.{Counts}
 use Rattle.xdr_io.proofs.Chained.{Counts-trans, Counts-none}
-use Rattle.oncrpc_tasks.proofs.Progress.{started, begun, settled_first, moved_by, unsettled_by, failed_by, many_by}
-use Rattle.oncrpc_tasks.proofs.Progress.{one_more}
-use Rattle.oncrpc_tasks.proofs.Progress.{count_within, at_end_by, goes_on, settled_by, read_by}
+use Rattle.oncrpc_tasks.proofs.Progress.{started, begun, settled_first, unsettled_by}
+use Rattle.oncrpc_tasks.proofs.Progress.{stops_failed, stops_last, stops_read}
+use Rattle.oncrpc_tasks.proofs.Progress.{count_within, at_end_by, goes_on, settled_by}
 use Rattle.oncrpc_tasks.proofs.Progress.{retained_first, retained_at_end, retained_settled}
 use Rattle.oncrpc_tasks.proofs.judge.judge_over.Goals as goal
 
@@ -37,30 +37,23 @@ loop-turn-init g c = record {
   none_failed = Counts-none _;
 }
 
-pub returns-in-Err-clause-failed : goal.returns-in-Err-clause-failed
-returns-in-Err-clause-failed g c =
-    λ e. (
-      Counts-trans _ _ _ 0 1 1 refl c.loop-turn.invariant.none_failed c.in-Err.ensures.failed,
-      unsettled_by _ _ _ _ _ _ _ _ _ (g.I.Source.reads c.loop-turn.input) c.loop-turn.invariant.progress
-          c.loop-turn.invariant.reads _ c.in-Err.ensures.bytes,
-    )
+pub returns-in-Err-clause-ends : goal.returns-in-Err-clause-ends
+returns-in-Err-clause-ends g c =
+    record {
+      none_failed = search rules;
+      read = λ e. (
+        Counts-trans _ _ _ 0 1 1 refl c.loop-turn.invariant.none_failed c.in-Err.ensures.failed,
+        λ plain. unsettled_by _ _ _ _ _ _ _ _ _ (g.I.Source.reads c.loop-turn.input) c.loop-turn.invariant.progress
+            c.loop-turn.invariant.reads _ c.in-Err.ensures.bytes,
+      );
+      many = search rules;
+      no_write = search rules;
+    }
 
 pub returns-in-Err-clause-reads : goal.returns-in-Err-clause-reads
 returns-in-Err-clause-reads g c =
-    one_more _ _ _ _ _ _ _ _ _ _ c.loop-turn.invariant.progress c.loop-turn.invariant.reads c.read.ensures.count
-    (omega arith)
-
-pub returns-in-Err-clause-moved : goal.returns-in-Err-clause-moved
-returns-in-Err-clause-moved g c =
-    moved_by _ c.depth-in_range.ensures.range _ _ _ _ (failed_by _ _ _ _ _ _ _ _ _ _ c.loop-turn.invariant.progress
-    c.loop-turn.invariant.reads _ c.in-Err.ensures.bytes
-    c.read.ensures.count)
-
-pub returns-in-Err-clause-stops : goal.returns-in-Err-clause-stops
-returns-in-Err-clause-stops g c =
-    inr (failed_by _ _ _ _ _ _ _ _ _ _ c.loop-turn.invariant.progress c.loop-turn.invariant.reads _
-    c.in-Err.ensures.bytes
-    c.read.ensures.count)
+    stops_failed _ _ _ _ _ _ _ _ _ _ c.loop-turn.invariant.progress c.loop-turn.invariant.reads
+    c.depth-in_range.ensures.range (omega arith) _ c.in-Err.ensures.bytes c.read.ensures.count
 
 pub returns-then-n-eq0-clause-right : goal.returns-then-n-eq0-clause-right
 returns-then-n-eq0-clause-right g c =
@@ -74,129 +67,47 @@ returns-then-n-eq0-clause-retained g c =
     c.loop-turn.invariant.reads _ c.in-Ok.n c.read.new.array c.if-n-eq0.true
     c.in-Ok.ensures.bytes.0
 
-pub returns-then-n-eq0-clause-none_failed : goal.returns-then-n-eq0-clause-none_failed
-returns-then-n-eq0-clause-none_failed g c =
-    Counts-trans _ _ _ 0 0 0 refl c.loop-turn.invariant.none_failed c.in-Ok.ensures.failed
+pub returns-then-n-eq0-clause-ends : goal.returns-then-n-eq0-clause-ends
+returns-then-n-eq0-clause-ends g c =
+    record {
+      none_failed = Counts-trans _ _ _ 0 0 0 refl c.loop-turn.invariant.none_failed c.in-Ok.ensures.failed;
+      read = search rules;
+      many = search rules;
+      no_write = search rules;
+    }
 
 pub returns-then-n-eq0-clause-reads : goal.returns-then-n-eq0-clause-reads
 returns-then-n-eq0-clause-reads g c =
-    one_more _ _ _ _ _ _ _ _ _ _ c.loop-turn.invariant.progress c.loop-turn.invariant.reads c.read.ensures.count
-    (omega arith)
-
-pub returns-then-n-eq0-clause-moved : goal.returns-then-n-eq0-clause-moved
-returns-then-n-eq0-clause-moved g c =
-    moved_by _ c.depth-in_range.ensures.range _ _ _ _ (read_by _ _ _ _ _ _ _ _ _ _ c.loop-turn.invariant.progress
-    c.loop-turn.invariant.reads _ c.in-Ok.n c.read.new.array
-    (omega (
-      arith,
-      c.in-Ok.ensures.bound,
-      length-take-le c.in-Ok.n c.read.new.array
-          (omega (arith, c.in-Ok.ensures.bound, c.read.array_long)),
-    ))
-    c.in-Ok.ensures.bytes.0 c.read.ensures.count)
-
-pub returns-then-n-eq0-clause-stops : goal.returns-then-n-eq0-clause-stops
-returns-then-n-eq0-clause-stops g c =
-    inr (read_by _ _ _ _ _ _ _ _ _ _ c.loop-turn.invariant.progress c.loop-turn.invariant.reads _ c.in-Ok.n
-    c.read.new.array
-    (omega (
-      arith,
-      c.in-Ok.ensures.bound,
-      length-take-le c.in-Ok.n c.read.new.array
-          (omega (arith, c.in-Ok.ensures.bound, c.read.array_long)),
-    ))
-    c.in-Ok.ensures.bytes.0 c.read.ensures.count)
+    stops_read _ _ _ _ _ _ _ _ _ _ c.loop-turn.invariant.progress c.loop-turn.invariant.reads
+    c.depth-in_range.ensures.range (omega arith) _ c.in-Ok.n c.read.new.array (omega (arith, c.in-Ok.ensures.bound))
+    (omega (arith, c.in-Ok.ensures.bound, c.read.array_long)) c.in-Ok.ensures.bytes.0 c.read.ensures.count
 
 pub returns-in_err-verdict-clause-reads : goal.returns-in_err-verdict-clause-reads
 returns-in_err-verdict-clause-reads g c =
-    one_more _ _ _ _ _ _ _ _ _ _ c.loop-turn.invariant.progress c.loop-turn.invariant.reads c.read.ensures.count
-    (omega arith)
-
-pub returns-in_err-verdict-clause-moved : goal.returns-in_err-verdict-clause-moved
-returns-in_err-verdict-clause-moved g c =
-    moved_by _ c.depth-in_range.ensures.range _ _ _ _ (read_by _ _ _ _ _ _ _ _ _ _ c.loop-turn.invariant.progress
-    c.loop-turn.invariant.reads _ c.in-Ok.n c.read.new.array
-    (omega (
-      arith,
-      c.in-Ok.ensures.bound,
-      length-take-le c.in-Ok.n c.read.new.array
-          (omega (arith, c.in-Ok.ensures.bound, c.read.array_long)),
-    ))
-    c.in-Ok.ensures.bytes.0 c.read.ensures.count)
-
-pub returns-in_err-verdict-clause-stops : goal.returns-in_err-verdict-clause-stops
-returns-in_err-verdict-clause-stops g c =
-    inr (read_by _ _ _ _ _ _ _ _ _ _ c.loop-turn.invariant.progress c.loop-turn.invariant.reads _ c.in-Ok.n
-    c.read.new.array
-    (omega (
-      arith,
-      c.in-Ok.ensures.bound,
-      length-take-le c.in-Ok.n c.read.new.array
-          (omega (arith, c.in-Ok.ensures.bound, c.read.array_long)),
-    ))
-    c.in-Ok.ensures.bytes.0 c.read.ensures.count)
+    stops_read _ _ _ _ _ _ _ _ _ _ c.loop-turn.invariant.progress c.loop-turn.invariant.reads
+    c.depth-in_range.ensures.range (omega arith) _ c.in-Ok.n c.read.new.array (omega (arith, c.in-Ok.ensures.bound))
+    (omega (arith, c.in-Ok.ensures.bound, c.read.array_long)) c.in-Ok.ensures.bytes.0 c.read.ensures.count
 
 pub returns-in_err-keep-clause-reads : goal.returns-in_err-keep-clause-reads
 returns-in_err-keep-clause-reads g c =
-    one_more _ _ _ _ _ _ _ _ _ _ c.loop-turn.invariant.progress c.loop-turn.invariant.reads c.read.ensures.count
-    (omega arith)
+    stops_read _ _ _ _ _ _ _ _ _ _ c.loop-turn.invariant.progress c.loop-turn.invariant.reads
+    c.depth-in_range.ensures.range (omega arith) _ c.in-Ok.n c.read.new.array (omega (arith, c.in-Ok.ensures.bound))
+    (omega (arith, c.in-Ok.ensures.bound, c.read.array_long)) c.in-Ok.ensures.bytes.0 c.read.ensures.count
 
-pub returns-in_err-keep-clause-moved : goal.returns-in_err-keep-clause-moved
-returns-in_err-keep-clause-moved g c =
-    moved_by _ c.depth-in_range.ensures.range _ _ _ _ (read_by _ _ _ _ _ _ _ _ _ _ c.loop-turn.invariant.progress
-    c.loop-turn.invariant.reads _ c.in-Ok.n c.read.new.array
-    (omega (
-      arith,
-      c.in-Ok.ensures.bound,
-      length-take-le c.in-Ok.n c.read.new.array
-          (omega (arith, c.in-Ok.ensures.bound, c.read.array_long)),
-    ))
-    c.in-Ok.ensures.bytes.0 c.read.ensures.count)
-
-pub returns-in_err-keep-clause-stops : goal.returns-in_err-keep-clause-stops
-returns-in_err-keep-clause-stops g c =
-    inr (read_by _ _ _ _ _ _ _ _ _ _ c.loop-turn.invariant.progress c.loop-turn.invariant.reads _ c.in-Ok.n
-    c.read.new.array
-    (omega (
-      arith,
-      c.in-Ok.ensures.bound,
-      length-take-le c.in-Ok.n c.read.new.array
-          (omega (arith, c.in-Ok.ensures.bound, c.read.array_long)),
-    ))
-    c.in-Ok.ensures.bytes.0 c.read.ensures.count)
-
-pub returns-in-Settled-verdict-clause-none_failed : goal.returns-in-Settled-verdict-clause-none_failed
-returns-in-Settled-verdict-clause-none_failed g c =
-    Counts-trans _ _ _ 0 0 0 refl c.loop-turn.invariant.none_failed c.in-Ok.ensures.failed
+pub returns-in-Settled-verdict-clause-ends : goal.returns-in-Settled-verdict-clause-ends
+returns-in-Settled-verdict-clause-ends g c =
+    record {
+      none_failed = Counts-trans _ _ _ 0 0 0 refl c.loop-turn.invariant.none_failed c.in-Ok.ensures.failed;
+      read = search rules;
+      many = search rules;
+      no_write = search rules;
+    }
 
 pub returns-in-Settled-verdict-clause-reads : goal.returns-in-Settled-verdict-clause-reads
 returns-in-Settled-verdict-clause-reads g c =
-    one_more _ _ _ _ _ _ _ _ _ _ c.loop-turn.invariant.progress c.loop-turn.invariant.reads c.read.ensures.count
-    (omega arith)
-
-pub returns-in-Settled-verdict-clause-moved : goal.returns-in-Settled-verdict-clause-moved
-returns-in-Settled-verdict-clause-moved g c =
-    moved_by _ c.depth-in_range.ensures.range _ _ _ _ (read_by _ _ _ _ _ _ _ _ _ _ c.loop-turn.invariant.progress
-    c.loop-turn.invariant.reads _ c.in-Ok.n c.read.new.array
-    (omega (
-      arith,
-      c.in-Ok.ensures.bound,
-      length-take-le c.in-Ok.n c.read.new.array
-          (omega (arith, c.in-Ok.ensures.bound, c.read.array_long)),
-    ))
-    c.in-Ok.ensures.bytes.0 c.read.ensures.count)
-
-pub returns-in-Settled-verdict-clause-stops : goal.returns-in-Settled-verdict-clause-stops
-returns-in-Settled-verdict-clause-stops g c =
-    inr (read_by _ _ _ _ _ _ _ _ _ _ c.loop-turn.invariant.progress c.loop-turn.invariant.reads _ c.in-Ok.n
-    c.read.new.array
-    (omega (
-      arith,
-      c.in-Ok.ensures.bound,
-      length-take-le c.in-Ok.n c.read.new.array
-          (omega (arith, c.in-Ok.ensures.bound, c.read.array_long)),
-    ))
-    c.in-Ok.ensures.bytes.0 c.read.ensures.count)
+    stops_read _ _ _ _ _ _ _ _ _ _ c.loop-turn.invariant.progress c.loop-turn.invariant.reads
+    c.depth-in_range.ensures.range (omega arith) _ c.in-Ok.n c.read.new.array (omega (arith, c.in-Ok.ensures.bound))
+    (omega (arith, c.in-Ok.ensures.bound, c.read.array_long)) c.in-Ok.ensures.bytes.0 c.read.ensures.count
 
 pub judge_piece-requires-in-loop-turn : goal.judge_piece-requires-in-loop-turn
 judge_piece-requires-in-loop-turn g c =
@@ -242,25 +153,22 @@ loop-turn-preserved g c = record {
   none_failed = Counts-trans _ _ _ 0 0 0 refl c.loop-turn.invariant.none_failed c.in-Ok.ensures.failed;
 }
 
-pub returns-clause-many : goal.returns-clause-many
-returns-clause-many g c =
-    λ e. let all : c.loop-turn._turn ≡ 1048576 = omega arith in (
-      subst (λ (k : ℕ). Counts k (g.I.Source.reads c.args.input.now) (g.I.Source.reads c.loop-turn.input)) all
-          c.loop-turn.invariant.reads,
-      unsettled_by _ _ _ _ _ _ _ _ _ (g.I.Source.reads c.loop-turn.input) c.loop-turn.invariant.progress
-          c.loop-turn.invariant.reads _ (Keeps-refl _),
-    )
+pub returns-clause-ends : goal.returns-clause-ends
+returns-clause-ends g c =
+    let all : c.loop-turn._turn ≡ 1048576 = omega arith in
+    record {
+      none_failed = search rules;
+      read = search rules;
+      many = λ e. (
+        subst (λ (k : ℕ). Counts k (g.I.Source.reads c.args.input.now) (g.I.Source.reads c.loop-turn.input)) all
+            c.loop-turn.invariant.reads,
+        λ plain. unsettled_by _ _ _ _ _ _ _ _ _ (g.I.Source.reads c.loop-turn.input) c.loop-turn.invariant.progress
+            c.loop-turn.invariant.reads _ (Keeps-refl _),
+      );
+      no_write = search rules;
+    }
 
 pub returns-clause-reads : goal.returns-clause-reads
 returns-clause-reads g c =
-    record { calls = c.loop-turn._turn; few = omega arith; counted = c.loop-turn.invariant.reads }
-
-pub returns-clause-moved : goal.returns-clause-moved
-returns-clause-moved g c =
-    moved_by _ c.depth-in_range.ensures.range _ _ _ _ (many_by _ _ _ _ _ _ _ _ _ (g.I.Source.reads c.loop-turn.input)
-    c.loop-turn.invariant.progress c.loop-turn.invariant.reads)
-
-pub returns-clause-stops : goal.returns-clause-stops
-returns-clause-stops g c =
-    inr (many_by _ _ _ _ _ _ _ _ _ (g.I.Source.reads c.loop-turn.input) c.loop-turn.invariant.progress
-    c.loop-turn.invariant.reads)
+    stops_last _ _ _ _ _ _ _ _ _ (g.I.Source.reads c.loop-turn.input) c.loop-turn.invariant.progress
+    c.loop-turn.invariant.reads c.depth-in_range.ensures.range (omega arith)
