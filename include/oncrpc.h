@@ -2,8 +2,8 @@
  * 1833), for C and C++.
  *
  * Each function answers a status, one of the ONCRPC_ numbers below, and fills what the caller passes. What it promises
- * is the contract of the function of that name in the src of crates/c_values, crates/c_messages, crates/c_registry or
- * crates/c_records, which a prover has accepted. These comments retell it.
+ * is the contract of the function of that name in crates/c_library/src, which a prover has accepted. These comments
+ * retell it.
  *
  * SHOWN BY TESTS, and by no contract: that ONCRPC_NO_MEMORY comes only where malloc or realloc refused, or as
  * oncrpc_normalise says of its input. That no memory is lost. Which error of a text is told, and at which line and

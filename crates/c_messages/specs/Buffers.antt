@@ -1,6 +1,6 @@
 -- What writing leaves in the buffer that the caller lends.
 use Rattle.std.specs.Prelude.{◌≡◌, ℕ, List, length}
-use Rattle.c_buffers.specs.Buffers.{AreAtFront, HasTooFew}
+use Rattle.c_answers.specs.Buffers.{AreAtFront, HasTooFew}
 use Rattle.c_messages.specs.declared.answer.Answer.{Answer}
 use Rattle.c_messages.specs.declared.answer.Answer.TheVariants as answer
 

@@ -6,7 +6,7 @@ use Rattle.c_messages.specs.declared.answer.Answer.{Answer}
 use Rattle.c_messages.specs.declared.answer.Answer.TheVariants as answer
 use Rattle.c_messages.specs.declared.credentials.AuthSysParts.{AuthSysParts}
 use Rattle.c_messages.specs.Parts.{part, none}
-use Rattle.c_buffers.specs.Buffers.{IsRetained}
+use Rattle.c_answers.specs.Buffers.{IsRetained}
 use Rattle.c_messages.specs.Buffers.{IsPlaced}
 
 -- no body

@@ -11,7 +11,7 @@ use Rattle.c_messages.specs.declared.answer.Answer.{Answer}
 use Rattle.c_messages.specs.declared.answer.Answer.TheVariants as answer
 use Rattle.c_messages.specs.declared.replies.ReplyParts.{ReplyParts}
 use Rattle.c_messages.specs.Parts.{part, none, padded_size}
-use Rattle.c_buffers.specs.Buffers.{IsRetained}
+use Rattle.c_answers.specs.Buffers.{IsRetained}
 use Rattle.c_messages.specs.Buffers.{IsPlaced}
 
 -- a reply of this state, and nothing else

@@ -2,7 +2,7 @@
 ghost use Rattle.c_messages.specs.Buffers.{IsPlaced};
 
 use super::answer::Answer;
-use c_buffers::put;
+use c_answers::put;
 
 /// Puts the bytes at the front of the buffer where they fit into it, and tells how many they are.
 pub fn place(bytes: &[u8], buffer: &mut [u8], count: &mut usize) -> Answer

@@ -6,8 +6,7 @@ ghost use Rattle.rpc_message.specs.View.{auth_sys_view};
 ghost use Rattle.c_messages.specs.Credentials.{Body, IsBody, body_status, body_reported, silent, told_of, auth_sys_of};
 ghost use Rattle.c_messages.specs.Credentials.{IsAuthSysWritten};
 ghost use Rattle.c_messages.specs.Parts.{LiesAt};
-ghost use Rattle.c_messages.specs.Statuses.{status_of};
-ghost use Rattle.c_messages.specs.declared.answer.Answer.{Answer as AnswerSpec};
+ghost use Rattle.c_messages.specs.Statuses.{Reports};
 
 use super::answer::Answer;
 use super::buffer::place;
@@ -68,13 +67,8 @@ fn reported(auth: &AuthSys) -> AuthSysParts
     }
 }
 
-/// Reads the body of a credential of the flavor AUTH_SYS, and tells its numbers and where its machine name lies
-/// (RFC 5531 appendix A).
-///
-/// Status 0: the bytes are such a body, all of them; all fields are filled. 17: they are none. 6: memory was refused.
-/// At 6 and 17 each field is 0.
-#[unsafe(no_mangle)]
-pub extern "C" fn oncrpc_auth_sys_read(alloc: Global, input: &[u8], auth: &mut AuthSysParts) -> u32
+/// Reads the body of a credential of the flavor AUTH_SYS, as `oncrpc_auth_sys_read` says.
+pub fn read_auth_sys_parts(alloc: Global, input: &[u8], auth: &mut AuthSysParts) -> u32
     // What is reported is what the bytes are,
     ensures found { (b : Body) × IsBody input.now b × (result ≡ body_status b) × (auth.new ≡ body_reported b) }
     // and a body that they are is reported, unless memory was refused.
@@ -144,22 +138,15 @@ fn auth_sys_into(
     }
 }
 
-/// Writes the body of a credential of the flavor AUTH_SYS into the buffer: the numbers of `auth` and its first
-/// `gid_count` gids, with these bytes as its machine name (RFC 5531 appendix A).
-///
-/// Status 0: `count` bytes are written, and the rest of the buffer is untouched. 8: the buffer is too small, `count` bytes
-/// are needed. 17: there are more than 16 gids or 255 bytes of machine name. 6: memory was refused. At 6, 8 and 17
-/// the buffer is untouched, and at 6 and 17 `count` is 0.
-#[unsafe(no_mangle)]
-pub extern "C" fn oncrpc_auth_sys_write(
+/// Writes the body of a credential of the flavor AUTH_SYS into the buffer, as `oncrpc_auth_sys_write` says.
+pub fn write_auth_sys_parts(
     alloc: Global,
     auth: &AuthSysParts,
     machine: &[u8],
     buffer: &mut [u8],
     count: &mut usize,
 ) -> u32
-    ensures { (a : AnswerSpec) × IsAuthSysWritten auth.now machine.now buffer.old buffer.new count.new a
-        × (result ≡ status_of a) }
+    ensures { Reports (IsAuthSysWritten auth.now machine.now buffer.old buffer.new count.new) result }
 {
     auth_sys_into(alloc, auth, machine, buffer, count).status()
 }

@@ -4,9 +4,9 @@ ghost use Rattle.c_messages.specs.Parts.{part, none};
 ghost use Rattle.c_messages.specs.Calls.{front, whole, call_of};
 ghost use Rattle.c_messages.specs.Credentials.{auth_sys_of, told_of};
 
-use super::calls::{CallParts, oncrpc_call_read, oncrpc_call_write};
-use super::credentials::{AuthSysParts, oncrpc_auth_sys_read, oncrpc_auth_sys_write};
-use super::replies::{ReplyParts, oncrpc_reply_read, oncrpc_reply_write};
+use super::calls::{CallParts, read_call_parts, write_call_parts};
+use super::credentials::{AuthSysParts, read_auth_sys_parts, write_auth_sys_parts};
+use super::replies::{ReplyParts, read_reply_parts, write_reply_parts};
 use std::alloc::Global;
 
 /// A call of version 3 of RPC is reported with its xid and its version.
@@ -15,7 +15,7 @@ pub fn reports_version_three(input: &[u8], call: &mut CallParts) -> u32
     ensures status { result ≡ 10 }
     ensures reported { call.new ≡ front 2 3 }
 {
-    oncrpc_call_read(input, call)
+    read_call_parts(input, call)
 }
 
 /// A call that was written is read as what was asked for, with the same numbers and with parts of the same lengths.
@@ -31,13 +31,13 @@ pub fn reads_the_call_that_was_written(
         → (result.1 ≡ 0) × (call.new ≡ whole (call_of call.old credential.now verifier.now arguments.now)) }
 {
     let mut count = 0;
-    let written = oncrpc_call_write(
+    let written = write_call_parts(
         alloc, call, credential, verifier, arguments, buffer, &mut count,
     );
     if written != 0 {
         return (written, 0);
     }
-    (written, oncrpc_call_read(&buffer[..count], call))
+    (written, read_call_parts(&buffer[..count], call))
 }
 
 /// A buffer that is too small stays as it was, and what is reported is how much is needed.
@@ -49,7 +49,7 @@ pub fn reports_the_buffer_that_is_needed(
 ) -> u32
     ensures { result ≡ 8 → (buffer.new ≡ buffer.old) × (length buffer.old < count.new) }
 {
-    oncrpc_call_write(alloc, call, b"", b"", b"", buffer, count)
+    write_call_parts(alloc, call, b"", b"", b"", buffer, count)
 }
 
 /// A credential of 401 bytes is not written.
@@ -64,7 +64,7 @@ pub fn writes_no_long_credential(
     ensures status { (result ≡ 11) ⊎ (result ≡ 6) }
     ensures retained { buffer.new ≡ buffer.old }
 {
-    oncrpc_call_write(alloc, call, credential, b"", b"", buffer, count)
+    write_call_parts(alloc, call, credential, b"", b"", buffer, count)
 }
 
 /// The reply of a port mapper to GETPORT, port 2049, has four bytes of results behind the first 24.
@@ -75,7 +75,7 @@ pub fn reports_where_the_port_lies(alloc: Global, input: &[u8], reply: &mut Repl
     ensures reported { result ≡ 0 → (reply.new.xid ≡ 7) × (reply.new.state ≡ 0)
         × (reply.new.results ≡ record { at = 24; count = 4 }) }
 {
-    oncrpc_reply_read(alloc, input, reply)
+    read_reply_parts(alloc, input, reply)
 }
 
 /// There is no reply of state 8.
@@ -88,7 +88,7 @@ pub fn writes_no_state_eight(
     requires { reply.now.state ≡ 8 }
     ensures { result ≡ 0 → ⊥ }
 {
-    oncrpc_reply_write(alloc, reply, b"", b"", buffer, count)
+    write_reply_parts(alloc, reply, b"", b"", buffer, count)
 }
 
 /// Of more than 16 gids none is written.
@@ -103,7 +103,7 @@ pub fn writes_no_long_list_of_gids(
     ensures status { (result ≡ 17) ⊎ (result ≡ 6) }
     ensures retained { (buffer.new ≡ buffer.old) × (count.new ≡ 0) }
 {
-    oncrpc_auth_sys_write(alloc, auth, machine, buffer, count)
+    write_auth_sys_parts(alloc, auth, machine, buffer, count)
 }
 
 /// A body of AUTH_SYS that was written is read as what was asked for, unless memory was refused.
@@ -117,9 +117,9 @@ pub fn reads_the_body_that_was_written(
         → (result.1 ≡ 6) ⊎ ((result.1 ≡ 0) × (auth.new ≡ told_of (auth_sys_of auth.old machine.now))) }
 {
     let mut count = 0;
-    let written = oncrpc_auth_sys_write(alloc, auth, machine, buffer, &mut count);
+    let written = write_auth_sys_parts(alloc, auth, machine, buffer, &mut count);
     if written != 0 {
         return (written, 0);
     }
-    (written, oncrpc_auth_sys_read(alloc, &buffer[..count], auth))
+    (written, read_auth_sys_parts(alloc, &buffer[..count], auth))
 }

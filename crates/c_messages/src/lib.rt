@@ -1,7 +1,7 @@
-//! Messages of ONC RPC for C: `include/oncrpc.h` says it for who writes C.
+//! Messages of ONC RPC for C: what each such call does, and how C sees its answer.
 //!
-//! Each export answers a status, and tells the rest through what the caller lends. None wants anything but pointers
-//! that lead where their counts say.
+//! Each call answers a status, and reports the rest through what the caller lends. `c_library` exports it under the
+//! name that `include/oncrpc.h` gives it.
 #![tactic(auto)]
 
 mod answer;
@@ -13,7 +13,7 @@ mod examples;
 mod part;
 mod replies;
 
-pub use calls::{CallParts, oncrpc_call_read, oncrpc_call_write};
-pub use credentials::{AuthSysParts, oncrpc_auth_sys_read, oncrpc_auth_sys_write};
+pub use calls::{CallParts, read_call_parts, write_call_parts};
+pub use credentials::{AuthSysParts, read_auth_sys_parts, write_auth_sys_parts};
 pub use part::Part;
-pub use replies::{ReplyParts, oncrpc_reply_read, oncrpc_reply_write};
+pub use replies::{ReplyParts, read_reply_parts, write_reply_parts};

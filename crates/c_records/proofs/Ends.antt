@@ -11,7 +11,8 @@ use Rattle.rpc_record.specs.declared.reader.RecordReader.{RecordReader}
 use Rattle.rpc_record.specs.Fields.{IsBrokenAt}
 use Rattle.rpc_record.specs.Reading.{IsWhole}
 use Rattle.rpc_record.proofs.Reported.{not_broken}
-use Rattle.rpc_record.specs.Represents.{IsBetween, IsWaiting, IsTaking, IsBroken, TruncatedAt, Ends, Concludes, limit_of}
+use Rattle.rpc_record.specs.Represents.{IsBetween, IsWaiting, IsTaking, IsBroken, TruncatedAt}
+use Rattle.rpc_record.specs.Represents.{Ends, Concludes, limit_of}
 use Rattle.c_records.specs.declared.answer.Answer.TheVariants as answer
 use Rattle.c_records.specs.Ended.{IsEnded, IsCut}
 use Rattle.c_records.specs.Held as held

@@ -34,7 +34,8 @@ module _ (h l : Held) (fresh : IsFresh 2 h) where
   fed_to : (a : Answer) → IsFedTo h three_bytes l a → IsRefusal a
   fed_to (answer.Whole count) b =
       absurd (none_whole 2 0 three_bytes is_long count b.content
-      (subst (λ (n : ℕ). IsWhole n (b.content ∷ []) (take count three_bytes)) fresh.limit (b.whole [] [] fresh.represents)))
+      (subst (λ (n : ℕ). IsWhole n (b.content ∷ []) (take count three_bytes)) fresh.limit
+      (b.whole [] [] fresh.represents)))
   fed_to answer.More b =
       absurd (b.short [] [] fresh.represents [] 0
       (subst (λ (n : ℕ). TooLongAt n [] 0 three_bytes) (sym fresh.limit) is_long))

@@ -1,10 +1,11 @@
 -- How C sees an answer: a status, and the fields of an outcome.
-use Rattle.std.specs.Prelude.{ℕ}
+use Rattle.std.specs.Prelude.{◌≡◌, ℕ}
 use Rattle.rpc_record.specs.declared.fault.RecordFault.{RecordFault}
 use Rattle.rpc_record.specs.declared.fault.RecordFault.TheVariants as fault
 use Rattle.c_records.specs.declared.answer.Answer.{Answer}
 use Rattle.c_records.specs.declared.answer.Answer.TheVariants as answer
-use Rattle.c_records.specs.declared.outcome.Outcome.{Outcome}
+use Rattle.c_answers.specs.Outcomes.{only_at}
+use Rattle.c_answers.specs.declared.outcome.Outcome.{Outcome}
 
 -- the number of a fault's reason; 0 of those that no reader of pieces answers
 abbrev pub why_of : RecordFault → ℕ
@@ -29,17 +30,17 @@ status_of answer.NoReader = 22
 status_of answer.More = 23
 status_of answer.NoRecord = 24
 
--- a count, and nothing else
-abbrev pub at_count : ℕ → Outcome
-at_count at = record { at = at; line = 0; column = 0; why = 0; inner = 0 }
-
 -- each field is 0 where nothing is counted or refused
 abbrev pub outcome_of : Answer → Outcome
-outcome_of (answer.Whole count) = at_count count
+outcome_of (answer.Whole count) = only_at count
 outcome_of (answer.Refused f) = record { at = place_of f; line = 0; column = 0; why = why_of f; inner = 0 }
-outcome_of (answer.NoRoom needed) = at_count needed
-outcome_of answer.BadLimit = at_count 0
-outcome_of answer.NoMemory = at_count 0
-outcome_of answer.NoReader = at_count 0
-outcome_of answer.More = at_count 0
-outcome_of answer.NoRecord = at_count 0
+outcome_of (answer.NoRoom needed) = only_at needed
+outcome_of answer.BadLimit = only_at 0
+outcome_of answer.NoMemory = only_at 0
+outcome_of answer.NoReader = only_at 0
+outcome_of answer.More = only_at 0
+outcome_of answer.NoRecord = only_at 0
+
+-- a status and an outcome that are those of an answer of which this holds
+abbrev pub Reports : (Answer → Type 0) → (status : ℕ) → Outcome → Type 0
+Reports Is status outcome = (a : Answer) × Is a × (status ≡ status_of a) × (outcome ≡ outcome_of a)

@@ -2,7 +2,7 @@
 ghost use Rattle.std.specs.Prelude.{◌≡◌};
 ghost use Rattle.c_records.specs.Statuses.{status_of, outcome_of, why_of, place_of};
 
-use super::outcome::Outcome;
+use c_answers::Outcome;
 use rpc_record::RecordFault;
 
 /// What a call answers.
@@ -68,28 +68,14 @@ impl Answer {
     pub fn outcome(&self) -> Outcome
         ensures { result ≡ outcome_of self.now }
     {
-        let silent = Outcome {
-            at: 0,
-            line: 0,
-            column: 0,
-            why: 0,
-            inner: 0,
-        };
         match self {
-            Answer::Whole { count } => Outcome {
-                at: *count,
-                ..silent
-            },
+            Answer::Whole { count } => Outcome::only_at(*count),
             Answer::Refused(fault) => Outcome {
-                at: place(*fault),
                 why: why(*fault),
-                ..silent
+                ..Outcome::only_at(place(*fault))
             },
-            Answer::NoRoom { needed } => Outcome {
-                at: *needed,
-                ..silent
-            },
-            _ => silent,
+            Answer::NoRoom { needed } => Outcome::only_at(*needed),
+            _ => Outcome::only_at(0),
         }
     }
 }

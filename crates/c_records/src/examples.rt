@@ -3,14 +3,14 @@ ghost use Rattle.std.specs.Prelude.{◌≡◌, ◌≢◌, ◌<◌, ◌≤◌, �
 ghost use Rattle.rpc_record.specs.Reading.{IsWhole};
 ghost use Rattle.c_records.specs.Held.{Held, held_of};
 ghost use Rattle.c_records.specs.Started.{IsFresh};
-ghost use Rattle.c_records.specs.Statuses.{at_count};
+ghost use Rattle.c_answers.specs.Outcomes.{only_at};
 
-use super::ending::oncrpc_records_end;
-use super::feeding::oncrpc_records_feed;
+use super::ending::end_records;
+use super::feeding::feed_records;
 use super::handle::Records;
-use super::outcome::Outcome;
-use super::start::{oncrpc_records_free, oncrpc_records_start};
-use super::taking::oncrpc_records_take;
+use super::start::{free_records, start_records};
+use super::taking::take_record;
+use c_answers::Outcome;
 use rpc_record::{no_record_begins_another, too_long_ends_the_stream};
 use std::alloc::Global;
 
@@ -22,9 +22,9 @@ pub fn starts_before_the_first_byte(
 ) -> u32
     ensures held { result ≡ 0
         → (h : Held) × (option_map held_of handle.new.held ≡ Some h) × IsFresh 2147483647 h }
-    ensures outcome { outcome.new ≡ at_count 0 }
+    ensures outcome { outcome.new ≡ only_at 0 }
 {
-    oncrpc_records_start(alloc, handle, 2147483647, outcome)
+    start_records(alloc, handle, 2147483647, outcome)
 }
 
 /// A limit above the greatest starts no reader, and what the handle held is freed.
@@ -35,9 +35,9 @@ pub fn starts_none_above_the_greatest_limit(
 ) -> u32
     ensures status { result ≡ 5 }
     ensures held { option_map held_of handle.new.held ≡ None }
-    ensures outcome { outcome.new ≡ at_count 0 }
+    ensures outcome { outcome.new ≡ only_at 0 }
 {
-    oncrpc_records_start(alloc, handle, 2147483648, outcome)
+    start_records(alloc, handle, 2147483648, outcome)
 }
 
 /// After `free` there is no reader, and a second `free` is well.
@@ -51,15 +51,15 @@ pub fn reads_nothing_after_free(
     ensures fed { result.0 ≡ 22 }
     ensures taken { result.1 ≡ 22 }
     ensures ended { result.2 ≡ 22 }
-    ensures outcome { outcome.new ≡ at_count 0 }
+    ensures outcome { outcome.new ≡ only_at 0 }
     ensures buffer { buffer.new ≡ buffer.old }
     ensures held { handle.new.held ≡ None }
 {
-    oncrpc_records_free(alloc, handle);
-    let fed = oncrpc_records_feed(alloc, handle, piece, outcome);
-    let taken = oncrpc_records_take(alloc, handle, buffer, outcome);
-    let ended = oncrpc_records_end(alloc, handle, outcome);
-    oncrpc_records_free(alloc, handle);
+    free_records(alloc, handle);
+    let fed = feed_records(alloc, handle, piece, outcome);
+    let taken = take_record(alloc, handle, buffer, outcome);
+    let ended = end_records(alloc, handle, outcome);
+    free_records(alloc, handle);
     (fed, taken, ended)
 }
 
@@ -70,11 +70,11 @@ pub fn ends_well_before_the_first_byte(
     buffer: &mut [u8],
     outcome: &mut Outcome,
 ) -> (u32, u32, u32)
-    ensures { result.0 ≡ 0 → (result.1 ≡ 24) × (buffer.new ≡ buffer.old) × (result.2 ≡ 0) × (outcome.new ≡ at_count 0) }
+    ensures { result.0 ≡ 0 → (result.1 ≡ 24) × (buffer.new ≡ buffer.old) × (result.2 ≡ 0) × (outcome.new ≡ only_at 0) }
 {
-    let started = oncrpc_records_start(alloc, handle, 100, outcome);
-    let taken = oncrpc_records_take(alloc, handle, buffer, outcome);
-    let ended = oncrpc_records_end(alloc, handle, outcome);
+    let started = start_records(alloc, handle, 100, outcome);
+    let taken = take_record(alloc, handle, buffer, outcome);
+    let ended = end_records(alloc, handle, outcome);
     (started, taken, ended)
 }
 
@@ -88,16 +88,16 @@ pub fn hands_out_a_record_of_two_fragments(
 ) -> (u32, u32, u32, usize, u32)
     requires { 3 ≤ length buffer.old }
     ensures { result.0 ≡ 0 → result.1 ≢ 6 → result.2 ≢ 6
-        → (result.1 ≡ 23) × (result.2 ≡ 0) × (result.3 ≡ 3) × (result.4 ≡ 0) × (outcome.new ≡ at_count 3)
+        → (result.1 ≡ 23) × (result.2 ≡ 0) × (result.3 ≡ 3) × (result.4 ≡ 0) × (outcome.new ≡ only_at 3)
         × (take 3 buffer.new ≡ 97 ∷ 98 ∷ 99 ∷ []) }
 {
     no_record_begins_another();
     too_long_ends_the_stream();
-    let started = oncrpc_records_start(alloc, handle, 3, outcome);
-    let begun = oncrpc_records_feed(alloc, handle, &[0, 0, 0, 2, 0x61, 0x62, 0x80, 0], outcome);
-    let fed = oncrpc_records_feed(alloc, handle, &[0, 1, 0x63], outcome);
+    let started = start_records(alloc, handle, 3, outcome);
+    let begun = feed_records(alloc, handle, &[0, 0, 0, 2, 0x61, 0x62, 0x80, 0], outcome);
+    let fed = feed_records(alloc, handle, &[0, 1, 0x63], outcome);
     let used = outcome.at;
-    let taken = oncrpc_records_take(alloc, handle, buffer, outcome);
+    let taken = take_record(alloc, handle, buffer, outcome);
     (started, begun, fed, used, taken)
 }
 
@@ -112,19 +112,19 @@ pub fn hands_out_two_records_of_a_piece(
     requires { 1 ≤ length buffer.old }
     ensures { result.0 ≡ 0 → result.1 ≢ 6 → result.4 ≢ 6
         → (result.1 ≡ 0) × (result.2 ≡ 5) × (result.3 ≡ 0) × (take 1 buffer.new ≡ 97 ∷ []) × (result.4 ≡ 0)
-        × (outcome.new ≡ at_count 4) }
+        × (outcome.new ≡ only_at 4) }
 {
     too_long_ends_the_stream();
-    let started = oncrpc_records_start(alloc, handle, 1, outcome);
-    let fed = oncrpc_records_feed(
+    let started = start_records(alloc, handle, 1, outcome);
+    let fed = feed_records(
         alloc,
         handle,
         &[0x80, 0, 0, 1, 0x61, 0x80, 0, 0, 0],
         outcome,
     );
     let used = outcome.at;
-    let taken = oncrpc_records_take(alloc, handle, buffer, outcome);
-    let next = oncrpc_records_feed(alloc, handle, &[0x80, 0, 0, 0], outcome);
+    let taken = take_record(alloc, handle, buffer, outcome);
+    let next = feed_records(alloc, handle, &[0x80, 0, 0, 0], outcome);
     (started, fed, used, taken, next)
 }
 
@@ -138,8 +138,8 @@ pub fn takes_one_record_of_a_piece(
     ensures { result.0 ≡ 0 → result.1 ≡ 0
         → (r : List ℕ) × IsWhole 100 (r ∷ []) (take outcome.new.at piece.now) }
 {
-    let started = oncrpc_records_start(alloc, handle, 100, outcome);
-    let fed = oncrpc_records_feed(alloc, handle, piece, outcome);
+    let started = start_records(alloc, handle, 100, outcome);
+    let fed = feed_records(alloc, handle, piece, outcome);
     (started, fed)
 }
 
@@ -151,10 +151,10 @@ pub fn takes_nothing_while_a_record_waits(
     more: &[u8],
     outcome: &mut Outcome,
 ) -> (u32, u32)
-    ensures { result.0 ≡ 0 → (result.1 ≡ 0) × (outcome.new ≡ at_count 0) }
+    ensures { result.0 ≡ 0 → (result.1 ≡ 0) × (outcome.new ≡ only_at 0) }
 {
-    let first = oncrpc_records_feed(alloc, handle, piece, outcome);
-    let second = oncrpc_records_feed(alloc, handle, more, outcome);
+    let first = feed_records(alloc, handle, piece, outcome);
+    let second = feed_records(alloc, handle, more, outcome);
     (first, second)
 }
 
@@ -167,8 +167,8 @@ pub fn refuses_a_header_above_the_limit(
     ensures { result.0 ≡ 0 → (result.1 ≡ 6)
         ⊎ ((result.1 ≡ 2) × (outcome.new ≡ record { at = 0; line = 0; column = 0; why = 4; inner = 0 })) }
 {
-    let started = oncrpc_records_start(alloc, handle, 2, outcome);
-    let fed = oncrpc_records_feed(alloc, handle, &[0x80, 0, 0, 3], outcome);
+    let started = start_records(alloc, handle, 2, outcome);
+    let fed = feed_records(alloc, handle, &[0x80, 0, 0, 3], outcome);
     (started, fed)
 }
 
@@ -186,10 +186,10 @@ pub fn stays_refused(
     ensures { (result.0 ≡ 2) ⊎ (result.0 ≡ 6) → (result.1 ≡ 24) × (buffer.new ≡ buffer.old)
         × (result.2 ≡ result.0) × (again.new ≡ outcome.new) × (result.3 ≡ result.0) × (end.new ≡ outcome.new) }
 {
-    let fed = oncrpc_records_feed(alloc, handle, piece, outcome);
-    let taken = oncrpc_records_take(alloc, handle, buffer, end);
-    let fed_again = oncrpc_records_feed(alloc, handle, more, again);
-    let ended = oncrpc_records_end(alloc, handle, end);
+    let fed = feed_records(alloc, handle, piece, outcome);
+    let taken = take_record(alloc, handle, buffer, end);
+    let fed_again = feed_records(alloc, handle, more, again);
+    let ended = end_records(alloc, handle, end);
     (fed, taken, fed_again, ended)
 }
 
@@ -202,11 +202,11 @@ pub fn keeps_a_record_without_buffer(
     outcome: &mut Outcome,
 ) -> (u32, usize, u32)
     ensures buffer { result.0 ≡ 8 → (buffer.new ≡ buffer.old) × (length buffer.old < result.1) }
-    ensures retained { result.0 ≡ 8 → result.1 ≤ length more.old → (result.2 ≡ 0) × (outcome.new ≡ at_count result.1) }
+    ensures retained { result.0 ≡ 8 → result.1 ≤ length more.old → (result.2 ≡ 0) × (outcome.new ≡ only_at result.1) }
 {
-    let first = oncrpc_records_take(alloc, handle, buffer, outcome);
+    let first = take_record(alloc, handle, buffer, outcome);
     let needed = outcome.at;
-    let second = oncrpc_records_take(alloc, handle, more, outcome);
+    let second = take_record(alloc, handle, more, outcome);
     (first, needed, second)
 }
 
@@ -217,10 +217,10 @@ pub fn hands_out_once(
     buffer: &mut [u8],
     outcome: &mut Outcome,
 ) -> (u32, u32)
-    ensures { result.0 ≡ 0 → (result.1 ≡ 24) × (outcome.new ≡ at_count 0) }
+    ensures { result.0 ≡ 0 → (result.1 ≡ 24) × (outcome.new ≡ only_at 0) }
 {
-    let first = oncrpc_records_take(alloc, handle, buffer, outcome);
-    let second = oncrpc_records_take(alloc, handle, buffer, outcome);
+    let first = take_record(alloc, handle, buffer, outcome);
+    let second = take_record(alloc, handle, buffer, outcome);
     (first, second)
 }
 
@@ -232,13 +232,13 @@ pub fn may_end_behind_a_record(
     buffer: &mut [u8],
     outcome: &mut Outcome,
 ) -> (u32, u32, u32, u32)
-    ensures { result.0 ≡ 0 → result.1 ≡ 0 → result.2 ≡ 0 → (result.3 ≡ 0) × (outcome.new ≡ at_count 0) }
+    ensures { result.0 ≡ 0 → result.1 ≡ 0 → result.2 ≡ 0 → (result.3 ≡ 0) × (outcome.new ≡ only_at 0) }
 {
     no_record_begins_another();
-    let started = oncrpc_records_start(alloc, handle, 100, outcome);
-    let fed = oncrpc_records_feed(alloc, handle, piece, outcome);
-    let taken = oncrpc_records_take(alloc, handle, buffer, outcome);
-    let ended = oncrpc_records_end(alloc, handle, outcome);
+    let started = start_records(alloc, handle, 100, outcome);
+    let fed = feed_records(alloc, handle, piece, outcome);
+    let taken = take_record(alloc, handle, buffer, outcome);
+    let ended = end_records(alloc, handle, outcome);
     (started, fed, taken, ended)
 }
 
@@ -251,8 +251,8 @@ pub fn reports_where_a_stream_is_cut(
     ensures { result.0 ≡ 0 → (result.1 ≡ 6) ⊎ ((result.1 ≡ 23) × (result.2 ≡ 2)
         × (outcome.new ≡ record { at = 3; line = 0; column = 0; why = 8; inner = 0 })) }
 {
-    let started = oncrpc_records_start(alloc, handle, 100, outcome);
-    let fed = oncrpc_records_feed(alloc, handle, &[0x80, 0, 0], outcome);
-    let ended = oncrpc_records_end(alloc, handle, outcome);
+    let started = start_records(alloc, handle, 100, outcome);
+    let fed = feed_records(alloc, handle, &[0x80, 0, 0], outcome);
+    let ended = end_records(alloc, handle, outcome);
     (started, fed, ended)
 }

@@ -2,13 +2,12 @@
 ghost use Rattle.std.specs.Prelude.{◌≡◌, option_map};
 ghost use Rattle.c_records.specs.Fed.{IsFed, IsFedBy};
 ghost use Rattle.c_records.specs.Held.{held_of};
-ghost use Rattle.c_records.specs.Statuses.{status_of, outcome_of};
-ghost use Rattle.c_records.specs.declared.answer.Answer.{Answer as AnswerSpec};
+ghost use Rattle.c_records.specs.Statuses.{Reports};
 
 use super::answer::Answer;
 use super::handle::Records;
-use super::outcome::Outcome;
 use super::state::State;
+use c_answers::Outcome;
 use c_handles::{keep, taken};
 use rpc_record::RecordStep;
 use std::alloc::Global;
@@ -30,22 +29,10 @@ fn feed_to(state: &mut State, piece: &[u8]) -> Answer
     }
 }
 
-/// Takes the bytes of a piece of the stream, which may be empty, up to the end of a record (RFC 5531 section 11).
-///
-/// Status 0: a record is whole and waits for `oncrpc_records_take`. The first `at` bytes of the piece were taken, which
-/// end with its last byte, and no other; while it waits none is taken. 23: all were taken, and more are wanted. 2: the
-/// header at the place `at` in the stream would bring its record above the limit, `why` 4, or the stream ended inside a
-/// record before, `why` 8. 6: memory for a record was refused. 2 and 6 are answered for ever after. 22: the handle
-/// holds no reader. A place is the count of the stream's bytes before it, 18446744073709551615 for every greater one.
-#[unsafe(no_mangle)]
-pub extern "C" fn oncrpc_records_feed(
-    alloc: Global,
-    handle: &mut Records,
-    piece: &[u8],
-    outcome: &mut Outcome,
-) -> u32
-    ensures { (a : AnswerSpec) × IsFedBy (option_map held_of handle.old.held) piece.now
-        (option_map held_of handle.new.held) a × (result ≡ status_of a) × (outcome.new ≡ outcome_of a) }
+/// Takes the bytes of a piece of the stream up to the end of a record, as `oncrpc_records_feed` says.
+pub fn feed_records(alloc: Global, handle: &mut Records, piece: &[u8], outcome: &mut Outcome) -> u32
+    ensures { Reports (IsFedBy (option_map held_of handle.old.held) piece.now (option_map held_of handle.new.held))
+        result outcome.new }
 {
     let answer = match taken(alloc, handle) {
         Some(mut state) => {

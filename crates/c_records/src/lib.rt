@@ -1,7 +1,7 @@
-//! A reader of records in fragments (RFC 5531 section 11) for C: `include/oncrpc.h` says it for who writes C.
+//! A reader of records in fragments (RFC 5531 section 11) for C: what each such call does, and how C sees its answer.
 //!
-//! Each export answers a status, and tells the rest through what the caller lends. None wants anything but pointers
-//! that lead where their counts say.
+//! Each call answers a status, and reports the rest through what the caller lends. `c_library` exports it under the
+//! name that `include/oncrpc.h` gives it.
 #![tactic(auto)]
 
 mod answer;
@@ -10,14 +10,12 @@ mod ending;
 mod examples;
 mod feeding;
 mod handle;
-mod outcome;
 mod start;
 mod state;
 mod taking;
 
-pub use ending::oncrpc_records_end;
-pub use feeding::oncrpc_records_feed;
+pub use ending::end_records;
+pub use feeding::feed_records;
 pub use handle::Records;
-pub use outcome::Outcome;
-pub use start::{oncrpc_records_free, oncrpc_records_start};
-pub use taking::oncrpc_records_take;
+pub use start::{free_records, start_records};
+pub use taking::take_record;

@@ -2,13 +2,12 @@
 ghost use Rattle.std.specs.Prelude.{◌≡◌, None, option_map};
 ghost use Rattle.c_records.specs.Held.{held_of};
 ghost use Rattle.c_records.specs.Started.{IsStarted};
-ghost use Rattle.c_records.specs.Statuses.{status_of, outcome_of};
-ghost use Rattle.c_records.specs.declared.answer.Answer.{Answer as AnswerSpec};
+ghost use Rattle.c_records.specs.Statuses.{Reports};
 
 use super::answer::Answer;
 use super::handle::Records;
-use super::outcome::Outcome;
 use super::state::State;
+use c_answers::Outcome;
 use c_handles::{keep, taken};
 use rpc_record::RecordReader;
 use std::alloc::Global;
@@ -38,30 +37,17 @@ fn start_in(alloc: Global, handle: &mut Records, limit: u32) -> Answer
     }
 }
 
-/// Starts a reader of a stream of records of at most `limit` bytes each, 0 to 2147483647 (RFC 5531 section 11), in the
-/// handle. What the handle held before is freed.
-///
-/// Status 0: the handle holds the reader, before the first byte. 5: the limit is out of range. 6: memory was refused.
-/// At 5 and 6 the handle holds none.
-#[unsafe(no_mangle)]
-pub extern "C" fn oncrpc_records_start(
-    alloc: Global,
-    handle: &mut Records,
-    limit: u32,
-    outcome: &mut Outcome,
-) -> u32
-    ensures { (a : AnswerSpec) × IsStarted limit (option_map held_of handle.new.held) a
-        × (result ≡ status_of a) × (outcome.new ≡ outcome_of a) }
+/// Starts a reader of a stream of records in the handle, as `oncrpc_records_start` says.
+pub fn start_records(alloc: Global, handle: &mut Records, limit: u32, outcome: &mut Outcome) -> u32
+    ensures { Reports (IsStarted limit (option_map held_of handle.new.held)) result outcome.new }
 {
     let answer = start_in(alloc, handle, limit);
     *outcome = answer.outcome();
     answer.status()
 }
 
-/// Frees the reader that the handle holds, if any, with a record that waits. The handle then holds none, so that a
-/// second call does nothing.
-#[unsafe(no_mangle)]
-pub extern "C" fn oncrpc_records_free(alloc: Global, handle: &mut Records)
+/// Frees the reader that the handle holds, if any, with a record that waits.
+pub fn free_records(alloc: Global, handle: &mut Records)
     ensures { handle.new.held ≡ None }
 {
     let _gone = taken(alloc, handle);

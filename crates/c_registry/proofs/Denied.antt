@@ -15,7 +15,8 @@ use Rattle.c_registry.specs.declared.answer.Answer.TheVariants as answer
 use Rattle.c_registry.specs.Answered.{IsGiven, IsAnswered, IsAnsweredBy}
 use Rattle.c_registry.specs.Held.{Held}
 use Rattle.c_registry.specs.Rows.{IsStarted}
-use Rattle.c_registry.specs.Statuses.{status_of, outcome_of, at_count}
+use Rattle.c_answers.specs.Outcomes.{only_at}
+use Rattle.c_registry.specs.Statuses.{status_of, outcome_of}
 
 -- a call of version 3, with xid 2
 abbrev pub asked : List ℕ
@@ -55,10 +56,10 @@ module _ (old new : List ℕ) (buffer : 24 ≤ length old) where
       by_case (inr is) = inr (front ∙ is)
 
   given : (sent waits : Option (List ℕ)) (a : Answer) → IsSent sent → IsGiven sent waits old new a
-      → (status_of a ≡ 0) × (outcome_of a ≡ at_count 24) × Represents new
+      → (status_of a ≡ 0) × (outcome_of a ≡ only_at 24) × Represents new
   given None waits a s g = absurd s
   given (Some bytes) waits (answer.Whole count) s g =
-      (refl, ap at_count (g.0.0 ∙ long bytes s), represents bytes s g.0.1)
+      (refl, ap only_at (g.0.0 ∙ long bytes s), represents bytes s g.0.1)
   given (Some bytes) waits (answer.NoRoom needed) s g = absurd (omega (arith, g.0.1, long bytes s, buffer))
   given (Some bytes) waits answer.NoMemory s g = absurd g.0
   given (Some bytes) waits answer.NoRegistry s g = absurd g.0
@@ -91,11 +92,11 @@ module _ (cases : NoTwoCases) (old new : List ℕ) (buffer : 24 ≤ length old) 
       sent_said rows mid y h.said s (decided_by rows tcp cases asked bytes y mid s h (OtherVersion 2 3) read) h.sends
 
   answered : (h l : Held) (a : Answer) → IsAnswered h tcp asked l old new a
-      → (status_of a ≡ 0) × (outcome_of a ≡ at_count 24) × Represents new
+      → (status_of a ≡ 0) × (outcome_of a ≡ only_at 24) × Represents new
   answered h l a i = given old new buffer i.sent l.waits a (sent h.rows l.rows i.refused i.sent i.answer) i.given
 
   pub denied : (h : Held) (left : Option Held) (a : Answer) → IsAnsweredBy (Some h) tcp asked left old new a
-      → (status_of a ≡ 0) × (outcome_of a ≡ at_count 24) × Represents new
+      → (status_of a ≡ 0) × (outcome_of a ≡ only_at 24) × Represents new
   denied h left answer.NoTransport i = absurd (i.0 (inl refl))
   denied h left (answer.Whole count) i = answered h i.1 (answer.Whole count) i.3
   denied h left (answer.NoRoom needed) i = answered h i.1 (answer.NoRoom needed) i.3

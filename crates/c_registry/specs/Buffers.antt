@@ -1,6 +1,6 @@
 -- What a call leaves in the buffer that C lends.
 use Rattle.std.specs.Prelude.{◌≡◌, ℕ, List, length}
-use Rattle.c_buffers.specs.Buffers.{AreAtFront, HasTooFew}
+use Rattle.c_answers.specs.Buffers.{AreAtFront, HasTooFew}
 use Rattle.c_registry.specs.declared.answer.Answer.{Answer}
 use Rattle.c_registry.specs.declared.answer.Answer.TheVariants as answer
 

@@ -2,7 +2,7 @@
 ghost use Rattle.std.specs.Prelude.{◌≡◌};
 ghost use Rattle.c_registry.specs.Statuses.{status_of, outcome_of};
 
-use super::outcome::Outcome;
+use c_answers::Outcome;
 
 /// What a call answers.
 #[derive(Clone, Copy, Debug, PartialEq, Eq)]
@@ -43,23 +43,10 @@ impl Answer {
     pub fn outcome(&self) -> Outcome
         ensures { result ≡ outcome_of self.now }
     {
-        let silent = Outcome {
-            at: 0,
-            line: 0,
-            column: 0,
-            why: 0,
-            inner: 0,
-        };
         match self {
-            Answer::Whole { count } => Outcome {
-                at: *count,
-                ..silent
-            },
-            Answer::NoRoom { needed } => Outcome {
-                at: *needed,
-                ..silent
-            },
-            _ => silent,
+            Answer::Whole { count } => Outcome::only_at(*count),
+            Answer::NoRoom { needed } => Outcome::only_at(*needed),
+            _ => Outcome::only_at(0),
         }
     }
 }

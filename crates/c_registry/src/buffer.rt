@@ -2,7 +2,7 @@
 ghost use Rattle.c_registry.specs.Buffers.{IsPlaced};
 
 use super::answer::Answer;
-use c_buffers::put;
+use c_answers::put;
 
 /// Puts the bytes at the front of the buffer where they fit into it.
 pub fn place(bytes: &[u8], buffer: &mut [u8]) -> Answer

@@ -5,14 +5,14 @@ ghost use Rattle.rpc_message.specs.Spelling.{reply};
 ghost use Rattle.registry_answer.specs.Answer.{accepted};
 ghost use Rattle.registry_rows.specs.Ports.{own_rows};
 ghost use Rattle.c_registry.specs.Held.{held_of};
-ghost use Rattle.c_registry.specs.Statuses.{at_count};
+ghost use Rattle.c_answers.specs.Outcomes.{only_at};
 
-use super::answering::oncrpc_registry_answer;
+use super::answering::answer_record;
 use super::handle::Registry;
-use super::outcome::Outcome;
-use super::reply::oncrpc_registry_reply;
-use super::rows::{oncrpc_registry_set, oncrpc_registry_unset};
-use super::start::{oncrpc_registry_free, oncrpc_registry_start};
+use super::reply::take_reply;
+use super::rows::{set_row, unset_rows};
+use super::start::{free_registry, start_registry};
+use c_answers::Outcome;
 use rpc_message::five_cases;
 use std::alloc::Global;
 
@@ -25,9 +25,9 @@ pub fn holds_its_own_rows(
 ) -> u32
     ensures held { result ≡ 0
         → option_map held_of handle.new.held ≡ Some (record { rows = own_rows 111; waits = None }) }
-    ensures outcome { outcome.new ≡ at_count 0 }
+    ensures outcome { outcome.new ≡ only_at 0 }
 {
-    oncrpc_registry_start(alloc, handle, 111, seed, outcome)
+    start_registry(alloc, handle, 111, seed, outcome)
 }
 
 /// Where memory was refused nothing is held.
@@ -39,7 +39,7 @@ pub fn holds_nothing_without_memory(
 ) -> u32
     ensures { result ≡ 6 → option_map held_of handle.new.held ≡ None }
 {
-    oncrpc_registry_start(alloc, handle, 111, seed, outcome)
+    start_registry(alloc, handle, 111, seed, outcome)
 }
 
 /// After `free` nothing is answered.
@@ -51,19 +51,19 @@ pub fn answers_nothing_after_free(
     outcome: &mut Outcome,
 ) -> u32
     ensures status { result ≡ 18 }
-    ensures outcome { outcome.new ≡ at_count 0 }
+    ensures outcome { outcome.new ≡ only_at 0 }
     ensures buffer { buffer.new ≡ buffer.old }
 {
-    oncrpc_registry_free(alloc, handle);
-    oncrpc_registry_answer(alloc, handle, b"tcp", message, buffer, outcome)
+    free_registry(alloc, handle);
+    answer_record(alloc, handle, b"tcp", message, buffer, outcome)
 }
 
 /// To free twice is well.
 pub fn is_freed_twice(alloc: Global, handle: &mut Registry)
     ensures { handle.new.held ≡ None }
 {
-    oncrpc_registry_free(alloc, handle);
-    oncrpc_registry_free(alloc, handle);
+    free_registry(alloc, handle);
+    free_registry(alloc, handle);
 }
 
 /// Over another transport nothing is answered, and the rows stay.
@@ -77,8 +77,8 @@ pub fn knows_no_third_transport(
     ensures { result.0 ≡ 0 → (result.1 ≡ 20) × (buffer.new ≡ buffer.old)
         × (option_map held_of handle.new.held ≡ Some (record { rows = own_rows 111; waits = None })) }
 {
-    let started = oncrpc_registry_start(alloc, handle, 111, b"", outcome);
-    let answered = oncrpc_registry_answer(alloc, handle, b"tcp6", message, buffer, outcome);
+    let started = start_registry(alloc, handle, 111, b"", outcome);
+    let answered = answer_record(alloc, handle, b"tcp6", message, buffer, outcome);
     (started, answered)
 }
 
@@ -93,8 +93,8 @@ pub fn is_silent_to_no_call(
         × (option_map held_of handle.new.held ≡ Some (record { rows = own_rows 111; waits = None })) }
 {
     five_cases();
-    let started = oncrpc_registry_start(alloc, handle, 111, b"", outcome);
-    let answered = oncrpc_registry_answer(alloc, handle, b"udp", b"", buffer, outcome);
+    let started = start_registry(alloc, handle, 111, b"", outcome);
+    let answered = answer_record(alloc, handle, b"udp", b"", buffer, outcome);
     (started, answered)
 }
 
@@ -109,12 +109,12 @@ pub fn speaks_version_two_alone(
     requires call { message.now ≡ 0 ∷ 0 ∷ 0 ∷ 2 ∷ 0 ∷ 0 ∷ 0 ∷ 0 ∷ 0 ∷ 0 ∷ 0 ∷ 3 ∷ [] }
     requires buffer { 24 ≤ length buffer.old }
     ensures { let front = take 24 buffer.new in
-        result.0 ≡ 0 → (result.1 ≡ 0) × (outcome.new ≡ at_count 24)
+        result.0 ≡ 0 → (result.1 ≡ 0) × (outcome.new ≡ only_at 24)
         × ((front ≡ reply (Denied 2 (RpcMismatch 2 2))) ⊎ (front ≡ reply (accepted 2 SystemErr))) }
 {
     five_cases();
-    let started = oncrpc_registry_start(alloc, handle, 111, b"", outcome);
-    let answered = oncrpc_registry_answer(alloc, handle, b"tcp", message, buffer, outcome);
+    let started = start_registry(alloc, handle, 111, b"", outcome);
+    let answered = answer_record(alloc, handle, b"tcp", message, buffer, outcome);
     (started, answered)
 }
 
@@ -128,7 +128,7 @@ pub fn reports_the_buffer_that_is_needed(
 ) -> u32
     ensures { result ≡ 8 → (buffer.new ≡ buffer.old) × (length buffer.old < outcome.new.at) }
 {
-    oncrpc_registry_answer(alloc, handle, b"tcp", message, buffer, outcome)
+    answer_record(alloc, handle, b"tcp", message, buffer, outcome)
 }
 
 /// A reply that did not go into the buffer is not lost: it goes into one that is large enough.
@@ -140,11 +140,11 @@ pub fn keeps_the_reply(
     more: &mut [u8],
     outcome: &mut Outcome,
 ) -> (u32, usize, u32)
-    ensures { result.0 ≡ 8 → result.1 ≤ length more.old → (result.2 ≡ 0) × (outcome.new ≡ at_count result.1) }
+    ensures { result.0 ≡ 8 → result.1 ≤ length more.old → (result.2 ≡ 0) × (outcome.new ≡ only_at result.1) }
 {
-    let answered = oncrpc_registry_answer(alloc, handle, b"tcp", message, buffer, outcome);
+    let answered = answer_record(alloc, handle, b"tcp", message, buffer, outcome);
     let needed = outcome.at;
-    let taken = oncrpc_registry_reply(alloc, handle, more, outcome);
+    let taken = take_reply(alloc, handle, more, outcome);
     (answered, needed, taken)
 }
 
@@ -157,8 +157,8 @@ pub fn gives_a_reply_once(
 ) -> (u32, u32)
     ensures { result.0 ≡ 0 → result.1 ≡ 19 }
 {
-    let first = oncrpc_registry_reply(alloc, handle, buffer, outcome);
-    let second = oncrpc_registry_reply(alloc, handle, buffer, outcome);
+    let first = take_reply(alloc, handle, buffer, outcome);
+    let second = take_reply(alloc, handle, buffer, outcome);
     (first, second)
 }
 
@@ -173,8 +173,8 @@ pub fn removes_what_it_set(
 ) -> (u32, u32)
     ensures { result.0 ≡ 0 → result.1 ≡ 0 }
 {
-    let set = oncrpc_registry_set(alloc, handle, 300, 7, netid, address, owner, outcome);
-    let unset = oncrpc_registry_unset(alloc, handle, 300, 7, netid, owner, outcome);
+    let set = set_row(alloc, handle, 300, 7, netid, address, owner, outcome);
+    let unset = unset_rows(alloc, handle, 300, 7, netid, owner, outcome);
     (set, unset)
 }
 
@@ -183,8 +183,8 @@ pub fn keeps_its_own_rows(alloc: Global, handle: &mut Registry, outcome: &mut Ou
     ensures { result.0 ≡ 0 → (result.1 ≡ 21)
         × (option_map held_of handle.new.held ≡ Some (record { rows = own_rows 111; waits = None })) }
 {
-    let started = oncrpc_registry_start(alloc, handle, 111, b"", outcome);
-    let unset = oncrpc_registry_unset(alloc, handle, 100000, 2, b"tcp", b"1000", outcome);
+    let started = start_registry(alloc, handle, 111, b"", outcome);
+    let unset = unset_rows(alloc, handle, 100000, 2, b"tcp", b"1000", outcome);
     (started, unset)
 }
 
@@ -200,5 +200,5 @@ pub fn sets_no_long_owner(
     ensures status { result ≡ 0 → ⊥ }
     ensures stays { option_map held_of handle.new.held ≡ option_map held_of handle.old.held }
 {
-    oncrpc_registry_set(alloc, handle, 300, 7, b"tcp", address, owner, outcome)
+    set_row(alloc, handle, 300, 7, b"tcp", address, owner, outcome)
 }

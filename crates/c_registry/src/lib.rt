@@ -1,7 +1,7 @@
-//! The registry of rpcbind for C: `include/oncrpc.h` says it for who writes C.
+//! The registry of rpcbind for C: what each such call does, and how C sees its answer.
 //!
-//! Each export answers a status, and tells the rest through what the caller lends. None wants anything but pointers
-//! that lead where their counts say.
+//! Each call answers a status, and reports the rest through what the caller lends. `c_library` exports it under the
+//! name that `include/oncrpc.h` gives it.
 #![tactic(auto)]
 
 mod answer;
@@ -10,16 +10,14 @@ mod buffer;
 mod examples;
 mod handle;
 mod hasher;
-mod outcome;
 mod reply;
 mod rows;
 mod start;
 mod state;
 mod transport;
 
-pub use answering::oncrpc_registry_answer;
+pub use answering::answer_record;
 pub use handle::Registry;
-pub use outcome::Outcome;
-pub use reply::oncrpc_registry_reply;
-pub use rows::{oncrpc_registry_set, oncrpc_registry_unset};
-pub use start::{oncrpc_registry_free, oncrpc_registry_start};
+pub use reply::take_reply;
+pub use rows::{set_row, unset_rows};
+pub use start::{free_registry, start_registry};

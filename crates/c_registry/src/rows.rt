@@ -3,13 +3,12 @@ ghost use Rattle.std.specs.Prelude.{◌≡◌, option_map};
 ghost use Rattle.registry_rows.specs.Rows.{row_of};
 ghost use Rattle.c_registry.specs.Held.{held_of};
 ghost use Rattle.c_registry.specs.Rows.{IsSet, IsSetBy, IsUnset, IsUnsetBy};
-ghost use Rattle.c_registry.specs.Statuses.{status_of, outcome_of};
-ghost use Rattle.c_registry.specs.declared.answer.Answer.{Answer as AnswerSpec};
+ghost use Rattle.c_registry.specs.Statuses.{Reports};
 
 use super::answer::Answer;
 use super::handle::Registry;
-use super::outcome::Outcome;
 use super::state::State;
+use c_answers::Outcome;
 use c_handles::{keep, taken};
 use std::alloc::Global;
 
@@ -40,14 +39,8 @@ fn set_in(
     }
 }
 
-/// Adds a row at the end, as RPCBPROC_SET does (RFC 1833 section 2.2.1).
-///
-/// Status 0: it is added. 21: it is not, since the netid or the address is empty, the netid has more than 64 bytes, the
-/// address more than 256 or the owner more than 10, there is a row of this program, version and netid, or there are
-/// 1024 rows. 6: memory was refused. 18: the handle holds no registry. At all but 0 the rows stay, and at each a reply
-/// that waits stays.
-#[unsafe(no_mangle)]
-pub extern "C" fn oncrpc_registry_set(
+/// Adds a row at the end, as `oncrpc_registry_set` says.
+pub fn set_row(
     alloc: Global,
     handle: &mut Registry,
     program: u32,
@@ -57,9 +50,9 @@ pub extern "C" fn oncrpc_registry_set(
     owner: &[u8],
     outcome: &mut Outcome,
 ) -> u32
-    ensures { (a : AnswerSpec) × IsSetBy (option_map held_of handle.old.held)
-        (row_of program version netid.now address.now owner.now) (option_map held_of handle.new.held) a
-        × (result ≡ status_of a) × (outcome.new ≡ outcome_of a) }
+    ensures { Reports (IsSetBy (option_map held_of handle.old.held)
+        (row_of program version netid.now address.now owner.now) (option_map held_of handle.new.held))
+        result outcome.new }
 {
     let answer = match taken(alloc, handle) {
         Some(mut state) => {
@@ -85,13 +78,8 @@ fn unset_in(state: &mut State, program: u32, version: u32, netid: &[u8], owner: 
     }
 }
 
-/// Removes the row of a program, a version and a netid, or with an empty netid every row of the program and version, as
-/// RPCBPROC_UNSET does: where the row's owner is `owner`, or `owner` is `superuser` (RFC 1833 section 2.2.1).
-///
-/// Status 0: at least one was removed; the rest keep their order. 21: there is none to remove, and the rows stay. 18:
-/// the handle holds no registry. A reply that waits stays. It takes no memory.
-#[unsafe(no_mangle)]
-pub extern "C" fn oncrpc_registry_unset(
+/// Removes rows, as `oncrpc_registry_unset` says.
+pub fn unset_rows(
     alloc: Global,
     handle: &mut Registry,
     program: u32,
@@ -100,8 +88,8 @@ pub extern "C" fn oncrpc_registry_unset(
     owner: &[u8],
     outcome: &mut Outcome,
 ) -> u32
-    ensures { (a : AnswerSpec) × IsUnsetBy (option_map held_of handle.old.held) program version netid.now owner.now
-        (option_map held_of handle.new.held) a × (result ≡ status_of a) × (outcome.new ≡ outcome_of a) }
+    ensures { Reports (IsUnsetBy (option_map held_of handle.old.held) program version netid.now owner.now
+        (option_map held_of handle.new.held)) result outcome.new }
 {
     let answer = match taken(alloc, handle) {
         Some(mut state) => {

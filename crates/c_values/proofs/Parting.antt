@@ -57,7 +57,8 @@ module _ (kinds : List KindView) (input names : List ℕ) where
         record {
           at = refl;
           count = refl;
-          within = subst (λ (n : ℕ). l.at + n ≤ length input) (sym (count_reported l.role (length l.bytes.now))) lent.0.0;
+          within = subst (λ (n : ℕ). l.at + n ≤ length input) (sym (count_reported l.role (length l.bytes.now)))
+              lent.0.0;
           name_at = refl;
           name_count = refl;
           name = ap (λ (b : List ℕ). take (length word) (drop (length before) b)) e

@@ -10,11 +10,12 @@ use Rattle.c_values.specs.Shown.{IsShownByHeld}
 use Rattle.c_values.specs.Parted.{Buffers, AreRetained, IsPartedByHeld, parts_status, parts_outcome}
 use Rattle.c_values.specs.declared.listed.Listed.{Listed}
 use Rattle.c_values.specs.declared.listed.Listed.TheVariants as listed
-use Rattle.c_values.specs.Statuses.{status_of, outcome_of, at_place}
+use Rattle.c_answers.specs.Outcomes.{only_at}
+use Rattle.c_values.specs.Statuses.{status_of, outcome_of}
 
 pub whole_reported : (text name : List ℕ) (depth bytes : ℕ) (input : List ℕ) (a : Answer)
-    → IsRightByText text name depth bytes input a → 0 ≡ status_of a → outcome_of a ≡ at_place (length input)
-whole_reported text name depth bytes input (answer.Whole used) r e = ap at_place r.2.judged.1
+    → IsRightByText text name depth bytes input a → 0 ≡ status_of a → outcome_of a ≡ only_at (length input)
+whole_reported text name depth bytes input (answer.Whole used) r e = ap only_at r.2.judged.1
 whole_reported text name depth bytes input (answer.Followed used) r e = absurd (omega (arith, e))
 whole_reported text name depth bytes input (answer.Refused f) r e = absurd (omega (arith, e))
 whole_reported text name depth bytes input (answer.Undeclared f) r e = absurd (omega (arith, e))
@@ -24,7 +25,7 @@ whole_reported text name depth bytes input answer.NoMemory r e = absurd (omega (
 whole_reported text name depth bytes input answer.NoDeclarations r e = absurd (omega (arith, e))
 whole_reported text name depth bytes input (answer.NoRoom n) r e = absurd (omega (arith, e))
 
-pub memory_reported : (a : Answer) → 6 ≡ status_of a → outcome_of a ≡ at_place 0
+pub memory_reported : (a : Answer) → 6 ≡ status_of a → outcome_of a ≡ only_at 0
 memory_reported (answer.Whole used) e = absurd (omega (arith, e))
 memory_reported (answer.Followed used) e = absurd (omega (arith, e))
 memory_reported (answer.Refused f) e = absurd (omega (arith, e))
@@ -97,7 +98,8 @@ shown_reported (Some d) name depth bytes input old new written (answer.NoRoom n)
 -- what status 8 says of a call for parts
 pub small_reported : (held : Option Declared) (name : List ℕ) (depth bytes : ℕ) (input : List ℕ) (old new : Buffers)
     (a : Listed) → IsPartedByHeld held name depth bytes input old new a → 8 ≡ parts_status a
-    → AreRetained old new × ((length old.parts < (parts_outcome a).parts) ⊎ (length old.names < (parts_outcome a).names))
+    → AreRetained old new
+    × ((length old.parts < (parts_outcome a).parts) ⊎ (length old.names < (parts_outcome a).names))
 small_reported None name depth bytes input old new a r e = absurd (omega (arith, e, ap parts_status r.0))
 small_reported (Some d) name depth bytes input old new (listed.Whole c) r e = absurd (omega (arith, e))
 small_reported (Some d) name depth bytes input old new (listed.Followed c) r e = absurd (omega (arith, e))

@@ -18,7 +18,7 @@ use Rattle.c_values.specs.declared.answer.Answer.TheVariants as answer
 use Rattle.xdr_types.specs.Within.{AreBounds}
 use Rattle.xdr_lang.specs.Declarations.{Declared}
 use Rattle.c_values.specs.Answers.{Question, BeginsWithValue, IsJudged, Names, question}
-use Rattle.c_buffers.specs.Buffers.{IsRetained}
+use Rattle.c_answers.specs.Buffers.{IsRetained}
 use Rattle.c_values.specs.Buffer.{IsPut}
 use Rattle.c_values.specs.Shown.{IsShown, IsShownBy, IsShownByHeld, HaveNoRoom}
 use Rattle.c_values.specs.Statuses.{reports_value}

@@ -7,7 +7,7 @@ use Rattle.xdr_stream.specs.declared.fault.Reason.{Reason}
 use Rattle.xdr_stream.specs.declared.fault.Reason.TheVariants as reason
 use Rattle.c_values.specs.declared.answer.Answer.{Answer}
 use Rattle.c_values.specs.declared.answer.Answer.TheVariants as answer
-use Rattle.c_buffers.specs.Buffers.{IsRetained}
+use Rattle.c_answers.specs.Buffers.{IsRetained}
 use Rattle.c_values.specs.Buffer.{IsPut}
 
 -- why the input is no stream of records within the limit, behind these records: a header that passes the limit, or the

@@ -106,3 +106,8 @@ parts_outcome listed.BadLimits = silent
 parts_outcome listed.NoMemory = silent
 parts_outcome listed.NoDeclarations = silent
 parts_outcome (listed.NoRoom c) = counted c
+
+-- a status and an outcome that are those of an answer of which this holds
+abbrev pub ReportsParts : (Listed → Type 0) → (status : ℕ) → PartsOutcome → Type 0
+ReportsParts Is status outcome =
+    (a : Listed) × Is a × (status ≡ parts_status a) × (outcome ≡ parts_outcome a)

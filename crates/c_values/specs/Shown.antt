@@ -6,7 +6,7 @@ use Rattle.xdr_lang.specs.Declarations.{Declared}
 use Rattle.c_values.specs.declared.answer.Answer.{Answer}
 use Rattle.c_values.specs.declared.answer.Answer.TheVariants as answer
 use Rattle.c_values.specs.Answers.{Question, BeginsWithValue, IsRefusal, Names, NamesNone, question}
-use Rattle.c_buffers.specs.Buffers.{IsRetained}
+use Rattle.c_answers.specs.Buffers.{IsRetained}
 use Rattle.c_values.specs.Buffer.{IsPut}
 
 -- The lines are those of the value whose encoding is the first bytes.

@@ -2,7 +2,7 @@
 ghost use Rattle.std.specs.Prelude.{◌≡◌};
 ghost use Rattle.c_values.specs.Statuses.{status_of, outcome_of, reports_value};
 
-use super::outcome::Outcome;
+use c_answers::Outcome;
 use xdr_codec::DecodeFault;
 use xdr_lang::LangFault;
 
@@ -61,35 +61,21 @@ impl Answer {
     pub fn outcome(&self) -> Outcome
         ensures { result ≡ outcome_of self.now }
     {
-        let silent = Outcome {
-            at: 0,
-            line: 0,
-            column: 0,
-            why: 0,
-            inner: 0,
-        };
         match self {
-            Answer::Whole { used } | Answer::Followed { used } => Outcome {
-                at: *used,
-                ..silent
-            },
+            Answer::Whole { used } | Answer::Followed { used } => Outcome::only_at(*used),
             Answer::Refused(fault) => Outcome {
-                at: fault.at,
                 why: fault.why.number() as u32,
-                ..silent
+                ..Outcome::only_at(fault.at)
             },
             Answer::Undeclared(fault) => Outcome {
                 line: fault.line,
                 column: fault.column,
                 why: fault.number as u32,
                 inner: fault.inner as u32,
-                ..silent
+                ..Outcome::only_at(0)
             },
-            Answer::NoRoom { needed } => Outcome {
-                at: *needed,
-                ..silent
-            },
-            _ => silent,
+            Answer::NoRoom { needed } => Outcome::only_at(*needed),
+            _ => Outcome::only_at(0),
         }
     }
 }

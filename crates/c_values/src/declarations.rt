@@ -2,15 +2,14 @@
 ghost use Rattle.std.specs.Prelude.{◌≡◌, None, option_map};
 ghost use Rattle.xdr_lang.specs.Views.{declared_of};
 ghost use Rattle.c_values.specs.Held.{IsReading, IsRightByHeld};
-ghost use Rattle.c_values.specs.Statuses.{status_of, outcome_of};
-ghost use Rattle.c_values.specs.declared.answer.Answer.{Answer as AnswerSpec};
+ghost use Rattle.c_values.specs.Statuses.{Reports};
 
 use super::answer::Answer;
 use super::asking::answer_by;
 use super::handle::Handle;
-use super::outcome::Outcome;
 use super::state::State;
 use super::unread::{Unread, read_text};
+use c_answers::Outcome;
 use c_handles::{keep, taken};
 use std::alloc::Global;
 
@@ -33,31 +32,23 @@ fn read_into(alloc: Global, text: &[u8], handle: &mut Handle) -> Answer
     }
 }
 
-/// Reads a text of declarations into the handle. What that held before is freed.
-///
-/// Status 0: the handle holds what the text declares. 3: the text has an error; `why` is the fault's number, 1 to
-/// 12, at `line` and `column`, with `inner` for 10. 6: memory was refused. At 3 and 6 the handle holds none.
-#[unsafe(no_mangle)]
-pub extern "C" fn oncrpc_declarations_read(
+/// Reads a text of declarations into the handle, as `oncrpc_declarations_read` says.
+pub fn read_declarations(
     alloc: Global,
     text: &[u8],
     handle: &mut Handle,
     outcome: &mut Outcome,
 ) -> u32
-    ensures { (a : AnswerSpec) × IsReading text.now (option_map declared_of handle.new.declared) a
-        × (result ≡ status_of a) × (outcome.new ≡ outcome_of a) }
+    ensures { Reports (IsReading text.now (option_map declared_of handle.new.declared)) result outcome.new }
 {
     let answer = read_into(alloc, text, handle);
     *outcome = answer.outcome();
     answer.status()
 }
 
-/// Answers whether the input is a value of the kind with that name, by the declarations that the handle holds. They
-/// stay.
-///
-/// The statuses are those of `oncrpc_check`. In place of 3 comes 7: the handle holds no declarations.
-#[unsafe(no_mangle)]
-pub extern "C" fn oncrpc_declarations_check(
+/// Answers whether the input is a value by the declarations that the handle holds, as `oncrpc_declarations_check`
+/// says.
+pub fn check_by_declarations(
     alloc: Global,
     handle: &mut Handle,
     name: &[u8],
@@ -66,10 +57,11 @@ pub extern "C" fn oncrpc_declarations_check(
     input: &[u8],
     outcome: &mut Outcome,
 ) -> u32
+    // What the handle holds stays.
     ensures stay { handle.new.declared ≡ handle.old.declared }
-    ensures answer { (a : AnswerSpec)
-        × IsRightByHeld (option_map declared_of handle.old.declared) name.now depth bytes input.now a
-        × (result ≡ status_of a) × (outcome.new ≡ outcome_of a) }
+    // The status and the outcome are those of an answer that is right by it.
+    ensures answer { Reports (IsRightByHeld (option_map declared_of handle.old.declared) name.now depth bytes input.now)
+        result outcome.new }
 {
     let answer = match taken(alloc, handle) {
         Some(mut state) => {
@@ -83,9 +75,8 @@ pub extern "C" fn oncrpc_declarations_check(
     answer.status()
 }
 
-/// Frees the declarations that the handle holds, if any. It then holds none, so that a second call does nothing.
-#[unsafe(no_mangle)]
-pub extern "C" fn oncrpc_declarations_free(alloc: Global, handle: &mut Handle)
+/// Frees the declarations that the handle holds, if any.
+pub fn free_declarations(alloc: Global, handle: &mut Handle)
     ensures { handle.new.declared ≡ None }
 {
     let _gone = taken(alloc, handle);

@@ -3,19 +3,17 @@ ghost use Rattle.std.specs.Prelude.{◌≡◌, ◌≢◌, ◌<◌, ◌≤◌, �
 ghost use Rattle.xdr_lang.specs.Views.{declared_of};
 ghost use Rattle.c_values.specs.Argument.{HasArgument};
 ghost use Rattle.c_values.specs.Pair.{HoldsPair, pair_bytes, pair_parts, pair_outcome};
-ghost use Rattle.c_values.specs.Statuses.{at_place};
+ghost use Rattle.c_answers.specs.Outcomes.{only_at};
 
-use super::check::oncrpc_check;
-use super::declarations::{
-    oncrpc_declarations_check, oncrpc_declarations_free, oncrpc_declarations_read,
-};
+use super::check::check_by_text;
+use super::declarations::{check_by_declarations, free_declarations, read_declarations};
 use super::handle::Handle;
 use super::listed::PartsOutcome;
-use super::normal::oncrpc_normalise;
-use super::outcome::Outcome;
+use super::normal::normalise_records;
 use super::part::ValuePart;
-use super::parts::oncrpc_declarations_parts;
-use super::show::oncrpc_declarations_show;
+use super::parts::parts_by_declarations;
+use super::show::show_by_declarations;
+use c_answers::Outcome;
 use std::alloc::Global;
 
 /// Status 0 tells how many bytes the input has, and nothing else.
@@ -25,9 +23,9 @@ pub fn reports_the_count_of_a_value(
     input: &[u8],
     outcome: &mut Outcome,
 ) -> u32
-    ensures { result ≡ 0 → outcome.new ≡ at_place (length input.now) }
+    ensures { result ≡ 0 → outcome.new ≡ only_at (length input.now) }
 {
-    oncrpc_check(alloc, text, b"int", 1, 4, input, outcome)
+    check_by_text(alloc, text, b"int", 1, 4, input, outcome)
 }
 
 /// Where memory was refused nothing is reported.
@@ -37,9 +35,9 @@ pub fn reports_nothing_without_memory(
     input: &[u8],
     outcome: &mut Outcome,
 ) -> u32
-    ensures { result ≡ 6 → outcome.new ≡ at_place 0 }
+    ensures { result ≡ 6 → outcome.new ≡ only_at 0 }
 {
-    oncrpc_check(alloc, text, b"int", 1, 4, input, outcome)
+    check_by_text(alloc, text, b"int", 1, 4, input, outcome)
 }
 
 /// Declarations that were read are there for a check.
@@ -51,18 +49,18 @@ pub fn holds_what_was_read(
 ) -> (u32, u32)
     ensures { result.0 ≡ 0 → result.1 ≢ 7 }
 {
-    let read = oncrpc_declarations_read(alloc, text, handle, outcome);
-    let check = oncrpc_declarations_check(alloc, handle, b"int", 1, 4, b"", outcome);
+    let read = read_declarations(alloc, text, handle, outcome);
+    let check = check_by_declarations(alloc, handle, b"int", 1, 4, b"", outcome);
     (read, check)
 }
 
 /// After `free` there are none.
 pub fn holds_nothing_after_free(alloc: Global, handle: &mut Handle, outcome: &mut Outcome) -> u32
     ensures status { result ≡ 7 }
-    ensures outcome { outcome.new ≡ at_place 0 }
+    ensures outcome { outcome.new ≡ only_at 0 }
 {
-    oncrpc_declarations_free(alloc, handle);
-    oncrpc_declarations_check(alloc, handle, b"int", 1, 4, b"", outcome)
+    free_declarations(alloc, handle);
+    check_by_declarations(alloc, handle, b"int", 1, 4, b"", outcome)
 }
 
 /// A buffer that is too small stays as it was.
@@ -75,7 +73,7 @@ pub fn leaves_small_buffer(
 ) -> u32
     ensures { result ≡ 8 → (buffer.new ≡ buffer.old) × (written.new ≡ 0) }
 {
-    oncrpc_normalise(alloc, input, 65536, buffer, written, outcome)
+    normalise_records(alloc, input, 65536, buffer, written, outcome)
 }
 
 /// By a limit out of its range nothing is written, of whatever input.
@@ -90,9 +88,9 @@ pub fn marks_nothing_by_a_limit_out_of_range(
     requires { 2147483647 < limit }
     ensures status { (result ≡ 5) ⊎ (result ≡ 6) }
     ensures retained { (buffer.new ≡ buffer.old) × (written.new ≡ 0) }
-    ensures outcome { outcome.new ≡ at_place 0 }
+    ensures outcome { outcome.new ≡ only_at 0 }
 {
-    oncrpc_normalise(alloc, input, limit, buffer, written, outcome)
+    normalise_records(alloc, input, limit, buffer, written, outcome)
 }
 
 /// Buffer for too few lines stays as it was.
@@ -106,7 +104,7 @@ pub fn shows_nothing_in_small_buffer(
 ) -> u32
     ensures { result ≡ 8 → (buffer.new ≡ buffer.old) × (written.new ≡ 0) }
 {
-    oncrpc_declarations_show(alloc, handle, b"int", 1, 4, input, buffer, written, outcome)
+    show_by_declarations(alloc, handle, b"int", 1, 4, input, buffer, written, outcome)
 }
 
 /// Lines are shown by declarations that were read.
@@ -120,8 +118,8 @@ pub fn shows_by_what_was_read(
 ) -> (u32, u32)
     ensures { result.0 ≡ 0 → result.1 ≢ 7 }
 {
-    let read = oncrpc_declarations_read(alloc, text, handle, outcome);
-    let show = oncrpc_declarations_show(alloc, handle, b"int", 1, 4, b"", buffer, written, outcome);
+    let read = read_declarations(alloc, text, handle, outcome);
+    let show = show_by_declarations(alloc, handle, b"int", 1, 4, b"", buffer, written, outcome);
     (read, show)
 }
 
@@ -135,7 +133,7 @@ pub fn names_an_argument(
     requires { HasArgument (option_map declared_of handle.old.declared) }
     ensures { result ≢ 4 }
 {
-    oncrpc_declarations_check(alloc, handle, b"100003.3.16.1", 1, 4, input, outcome)
+    check_by_declarations(alloc, handle, b"100003.3.16.1", 1, 4, input, outcome)
 }
 
 /// Buffers of which one is too small stay as they were.
@@ -150,7 +148,7 @@ pub fn lists_nothing_in_small_buffers(
     ensures retained { result ≡ 8 → (parts.new ≡ parts.old) × (names.new ≡ names.old) }
     ensures small { result ≡ 8 → (length parts.old < outcome.new.parts) ⊎ (length names.old < outcome.new.names) }
 {
-    oncrpc_declarations_parts(alloc, handle, b"int", 1, 4, input, parts, names, outcome)
+    parts_by_declarations(alloc, handle, b"int", 1, 4, input, parts, names, outcome)
 }
 
 /// Of a refused input no part is reported, and both buffers stay as they were.
@@ -166,11 +164,11 @@ pub fn lists_no_part_of_a_refusal(
     ensures retained { result ≡ 2 → (parts.new ≡ parts.old) × (names.new ≡ names.old) }
     ensures within { result ≡ 2 → outcome.new.at ≤ length input.now }
 {
-    oncrpc_declarations_parts(alloc, handle, b"int", 1, 4, input, parts, names, outcome)
+    parts_by_declarations(alloc, handle, b"int", 1, 4, input, parts, names, outcome)
 }
 
-/// A structure of a number and a string has four parts, the string two of them, and content is reported without the zero
-/// after it. Each name stands behind those of the parts before.
+/// A structure of a number and a string has four parts, the string two of them, and content is reported without the
+/// zero after it. Each name stands behind those of the parts before.
 pub fn lists_a_structure(
     alloc: Global,
     handle: &mut Handle,
@@ -185,5 +183,5 @@ pub fn lists_a_structure(
     ensures names { result ≡ 0 → take 10 names.new ≡ codes "idnamename" }
     ensures outcome { result ≡ 0 → outcome.new ≡ pair_outcome }
 {
-    oncrpc_declarations_parts(alloc, handle, b"pair", 2, 12, input, parts, names, outcome)
+    parts_by_declarations(alloc, handle, b"pair", 2, 12, input, parts, names, outcome)
 }

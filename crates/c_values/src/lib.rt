@@ -1,7 +1,7 @@
-//! What C can call: `include/oncrpc.h` says it for who writes C.
+//! Values by their declarations for C, and records marked anew: what each such call does, and how C sees its answer.
 //!
-//! Each export answers a status, and tells the rest through what the caller lends. None wants anything but pointers
-//! that lead where their counts say.
+//! Each call answers a status, and reports the rest through what the caller lends. `c_library` exports it under the
+//! name that `include/oncrpc.h` gives it.
 #![tactic(auto)]
 
 mod answer;
@@ -15,21 +15,17 @@ mod judge;
 mod listed;
 mod listing;
 mod normal;
-mod outcome;
 mod part;
 mod parts;
 mod show;
 mod state;
 mod unread;
 
-pub use check::oncrpc_check;
-pub use declarations::{
-    oncrpc_declarations_check, oncrpc_declarations_free, oncrpc_declarations_read,
-};
+pub use check::check_by_text;
+pub use declarations::{check_by_declarations, free_declarations, read_declarations};
 pub use handle::Handle;
 pub use listed::PartsOutcome;
-pub use normal::oncrpc_normalise;
-pub use outcome::Outcome;
+pub use normal::normalise_records;
 pub use part::ValuePart;
-pub use parts::oncrpc_declarations_parts;
-pub use show::oncrpc_declarations_show;
+pub use parts::parts_by_declarations;
+pub use show::show_by_declarations;

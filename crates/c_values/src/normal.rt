@@ -1,12 +1,11 @@
 //! Records of one buffer, marked anew into another.
 ghost use Rattle.std.specs.Prelude.{◌≡◌, ◌≤◌, IfOk};
 ghost use Rattle.c_values.specs.Normal.{IsForm, IsMarked};
-ghost use Rattle.c_values.specs.Statuses.{status_of, outcome_of};
-ghost use Rattle.c_values.specs.declared.answer.Answer.{Answer as AnswerSpec};
+ghost use Rattle.c_values.specs.Statuses.{Reports};
 
 use super::answer::Answer;
 use super::buffer::put;
-use super::outcome::Outcome;
+use c_answers::Outcome;
 use rpc_record::{NoMemory, RecordFault, normalise};
 use std::alloc::Global;
 use xdr_codec::{DecodeFault, Reason};
@@ -72,16 +71,8 @@ fn mark_into(
     }
 }
 
-/// Writes each record of the input into the buffer as one final fragment (RFC 5531 section 11). A record may have `limit`
-/// bytes, at most 2147483647.
-///
-/// Status 0: the input is whole records. 2: after the records that are written, `why` 4, a record is too long by the
-/// header at the place `at`, or 8, the input ends inside a record. At 0 and 2 `written` counts the bytes that were
-/// written, and the rest of the buffer is untouched. 8: the buffer is too small, `at` bytes are needed. 5: the limit is out
-/// of range. 6: memory was refused, or the input has more than 4294963200 bytes. At 5, 6 and 8 the buffer is untouched,
-/// and `written` is 0.
-#[unsafe(no_mangle)]
-pub extern "C" fn oncrpc_normalise(
+/// Writes each record of the input into the buffer as one final fragment, as `oncrpc_normalise` says.
+pub fn normalise_records(
     alloc: Global,
     input: &[u8],
     limit: u32,
@@ -89,8 +80,7 @@ pub extern "C" fn oncrpc_normalise(
     written: &mut usize,
     outcome: &mut Outcome,
 ) -> u32
-    ensures { (a : AnswerSpec) × IsMarked limit input.now buffer.old buffer.new written.new a
-        × (result ≡ status_of a) × (outcome.new ≡ outcome_of a) }
+    ensures { Reports (IsMarked limit input.now buffer.old buffer.new written.new) result outcome.new }
 {
     let answer = mark_into(alloc, input, limit, buffer, written);
     *outcome = answer.outcome();

@@ -2,8 +2,7 @@
 ghost use Rattle.std.specs.Prelude.{◌≡◌, ◌<◌, length, option_map, Some};
 ghost use Rattle.xdr_lang.specs.Views.{declared_of};
 ghost use Rattle.c_values.specs.Answers.{BeginsWithValue};
-ghost use Rattle.c_values.specs.Parted.{IsParted, IsPartedByHeld, parts_status, parts_outcome};
-ghost use Rattle.c_values.specs.declared.listed.Listed.{Listed as ListedSpec};
+ghost use Rattle.c_values.specs.Parted.{IsParted, IsPartedByHeld, ReportsParts};
 
 use super::answer::Answer;
 use super::asking::kind_asked;
@@ -99,16 +98,8 @@ fn parts_by(
     parts_into(alloc, &declared.schema, kind, limits, input, parts, names)
 }
 
-/// Puts the parts of the value that begins the input into the buffers (RFC 4506 section 4), in the order of their bytes,
-/// a node before those inside it, and their names joined. The declarations that the handle holds stay.
-///
-/// Status 0: the input is a value, and 1: a value and then more bytes. `at` counts the value's bytes, `parts` the parts
-/// and `names` the bytes of names that were written; the rest of the buffers is untouched. 2: no value within the limits
-/// begins the input; `why` is the reason's number, 1 to 8, at the place `at`. 4: no kind has the name. 5: the limits
-/// are out of range. 6: memory was refused. 7: the handle holds no declarations. 8: a buffer is too small; `at` counts
-/// the value's bytes, buffer for `parts` parts and `names` bytes is needed. Above 1 both buffers are untouched.
-#[unsafe(no_mangle)]
-pub extern "C" fn oncrpc_declarations_parts(
+/// Puts the parts of the value that begins the input into the buffers, as `oncrpc_declarations_parts` says.
+pub fn parts_by_declarations(
     alloc: Global,
     handle: &mut Handle,
     name: &[u8],
@@ -119,10 +110,12 @@ pub extern "C" fn oncrpc_declarations_parts(
     names: &mut [u8],
     outcome: &mut PartsOutcome,
 ) -> u32
+    // What the handle holds stays.
     ensures stay { handle.new.declared ≡ handle.old.declared }
-    ensures answer { (a : ListedSpec) × IsPartedByHeld (option_map declared_of handle.old.declared) name.now depth bytes
-        input.now (record { parts = parts.old; names = names.old }) (record { parts = parts.new; names = names.new }) a
-        × (result ≡ parts_status a) × (outcome.new ≡ parts_outcome a) }
+    // The status and the outcome are those of an answer that is right by it.
+    ensures answer { ReportsParts (IsPartedByHeld (option_map declared_of handle.old.declared) name.now depth bytes
+        input.now (record { parts = parts.old; names = names.old }) (record { parts = parts.new; names = names.new }))
+        result outcome.new }
 {
     let answer = match taken(alloc, handle) {
         Some(state) => {

@@ -4,15 +4,14 @@ ghost use Rattle.xdr_lang.specs.Views.{declared_of};
 ghost use Rattle.xdr_show.specs.Shown.{show_text};
 ghost use Rattle.c_values.specs.Answers.{BeginsWithValue};
 ghost use Rattle.c_values.specs.Shown.{IsShown, IsShownByHeld};
-ghost use Rattle.c_values.specs.Statuses.{status_of, outcome_of};
-ghost use Rattle.c_values.specs.declared.answer.Answer.{Answer as AnswerSpec};
+ghost use Rattle.c_values.specs.Statuses.{Reports};
 
 use super::answer::Answer;
 use super::asking::kind_asked;
 use super::buffer::put;
 use super::handle::Handle;
 use super::judge::judge;
-use super::outcome::Outcome;
+use c_answers::Outcome;
 use c_handles::{keep, taken};
 use std::alloc::Global;
 use xdr_codec::Reason;
@@ -106,14 +105,8 @@ fn show_by(
     )
 }
 
-/// Puts the lines of the value that begins the input into the buffer, as `show` of the program prints them: one for each
-/// part, a node before those inside it, two spaces further in. The declarations that the handle holds stay.
-///
-/// The statuses are those of `oncrpc_declarations_check`, and 8: the buffer is too small, `at` bytes are needed. At 0 and
-/// 1 `written` counts the bytes that were written, and the rest of the buffer is untouched. At any other status the buffer
-/// is untouched, and `written` is 0.
-#[unsafe(no_mangle)]
-pub extern "C" fn oncrpc_declarations_show(
+/// Puts the lines of the value that begins the input into the buffer, as `oncrpc_declarations_show` says.
+pub fn show_by_declarations(
     alloc: Global,
     handle: &mut Handle,
     name: &[u8],
@@ -124,9 +117,11 @@ pub extern "C" fn oncrpc_declarations_show(
     written: &mut usize,
     outcome: &mut Outcome,
 ) -> u32
+    // What the handle holds stays.
     ensures stay { handle.new.declared ≡ handle.old.declared }
-    ensures answer { (a : AnswerSpec) × IsShownByHeld (option_map declared_of handle.old.declared) name.now depth bytes
-        input.now buffer.old buffer.new written.new a × (result ≡ status_of a) × (outcome.new ≡ outcome_of a) }
+    // The status and the outcome are those of an answer that is right by it.
+    ensures answer { Reports (IsShownByHeld (option_map declared_of handle.old.declared) name.now depth bytes input.now
+        buffer.old buffer.new written.new) result outcome.new }
 {
     *written = 0;
     let answer = match taken(alloc, handle) {

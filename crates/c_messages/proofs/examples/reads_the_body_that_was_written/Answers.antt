@@ -5,5 +5,5 @@ use Rattle.c_messages.proofs.examples.reads_the_body_that_was_written.Goals as g
 
 pub returns : goal.returns
 returns c = λ e.
-    let w = c.oncrpc_auth_sys_write-written.ensures in
-    c.oncrpc_auth_sys_read.ensures.only _ (body_written c.args.auth.now _ _ _ _ w.0 w.1 (sym e ∙ w.2))
+    let w = c.write_auth_sys_parts-written.ensures in
+    c.read_auth_sys_parts.ensures.only _ (body_written c.args.auth.now _ _ _ _ w.0 w.1 (sym e ∙ w.2))

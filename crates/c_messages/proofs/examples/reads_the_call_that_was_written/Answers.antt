@@ -7,7 +7,7 @@ use Rattle.c_messages.proofs.examples.reads_the_call_that_was_written.Goals as g
 
 pub returns : goal.returns
 returns c = λ e.
-    let w = c.oncrpc_call_write-written.ensures in
+    let w = c.write_call_parts-written.ensures in
     let a = c.args in
     let asked = call_of a.call.now a.credential.now a.verifier.now a.arguments.now in
-    c.oncrpc_call_read.ensures.only (Whole asked) (call_written asked _ _ _ w.0 w.1 (sym e ∙ w.2))
+    c.read_call_parts.ensures.only (Whole asked) (call_written asked _ _ _ w.0 w.1 (sym e ∙ w.2))

@@ -7,9 +7,9 @@ use Rattle.c_records.proofs.examples.ends_well_before_the_first_byte.Goals as go
 
 pub returns : goal.returns
 returns c = λ e.
-    let s = c.oncrpc_records_start-started.ensures in
-    let t = c.oncrpc_records_take-taken.ensures in
-    let d = c.oncrpc_records_end-ended.ensures in
+    let s = c.start_records-started.ensures in
+    let t = c.take_record-taken.ensures in
+    let d = c.end_records-ended.ensures in
     let h = started 100 _ s.0 s.1 (sym e ∙ s.2) in
     let k = none_taken _ _ h.held _ _ t.0 h.is h.fresh.taking.0 t.1 in
     let at : IsAt 100 [] [] _ = record {

@@ -1,6 +1,6 @@
 -- The stream is followed over its pieces.
 use Rattle.std.proofs.Common.{[], ◌∷◌, refl, sym, ap, ◌∙◌, arith}
-use Rattle.c_records.specs.declared.outcome.Outcome.{Outcome}
+use Rattle.c_answers.specs.declared.outcome.Outcome.{Outcome}
 use Rattle.c_records.specs.Statuses.{status_of, outcome_of}
 use Rattle.c_records.proofs.Followed.{fed_first, fed_last, abc, bytes, abc_is_whole}
 use Rattle.c_records.proofs.Past.{taken}
@@ -11,10 +11,10 @@ pub returns : goal.returns
 returns c = λ e first last.
     let n = c.no_record_begins_another.ensures in
     let l = c.too_long_ends_the_stream.ensures in
-    let s = c.oncrpc_records_start-started.ensures in
-    let f = c.oncrpc_records_feed-begun.ensures in
-    let g = c.oncrpc_records_feed-fed.ensures in
-    let t = c.oncrpc_records_take-taken.ensures in
+    let s = c.start_records-started.ensures in
+    let f = c.feed_records-begun.ensures in
+    let g = c.feed_records-fed.ensures in
+    let t = c.take_record-taken.ensures in
     let h = started 3 _ s.0 s.1 (sym e ∙ s.2) in
     let a = fed_first n.apart n.longest n.whole l.ends l.none 3 abc [] (0 ∷ 0 ∷ 0 ∷ 2 ∷ 97 ∷ 98 ∷ 128 ∷ 0 ∷ [])
     (0 ∷ 1 ∷ 99 ∷ []) abc_is_whole _ _ f.0 (omega arith) (λ is. first (f.2 ∙ is))

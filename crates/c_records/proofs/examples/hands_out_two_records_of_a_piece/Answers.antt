@@ -1,7 +1,7 @@
 -- The stream is followed from record to record.
 use Rattle.std.proofs.Common.{[], ◌∷◌, ◌++◌, sym, ap, ◌∙◌, arith}
 use Rattle.rpc_record.proofs.Streams.{whole_none}
-use Rattle.c_records.specs.declared.outcome.Outcome.{Outcome}
+use Rattle.c_answers.specs.declared.outcome.Outcome.{Outcome}
 use Rattle.c_records.specs.Statuses.{status_of, outcome_of}
 use Rattle.c_records.proofs.Next.{fed_next, one, empty, one_marked, empty_marked, one_whole, both_whole}
 use Rattle.c_records.proofs.Past.{taken}
@@ -10,10 +10,10 @@ use Rattle.c_records.proofs.examples.hands_out_two_records_of_a_piece.Goals as g
 
 pub returns : goal.returns
 returns c = λ e first second.
-    let s = c.oncrpc_records_start-started.ensures in
-    let f = c.oncrpc_records_feed-fed.ensures in
-    let t = c.oncrpc_records_take-taken.ensures in
-    let g = c.oncrpc_records_feed-next.ensures in
+    let s = c.start_records-started.ensures in
+    let f = c.feed_records-fed.ensures in
+    let t = c.take_record-taken.ensures in
+    let g = c.feed_records-next.ensures in
     let short = c.too_long_ends_the_stream.ensures.none 1 ((97 ∷ []) ∷ [] ∷ []) (one ++ empty) both_whole in
     let h = started 1 _ s.0 s.1 (sym e ∙ s.2) in
     let a = fed_next 1 [] (97 ∷ []) [] one empty (whole_none 1) one_marked (omega arith) short _ _ f.0

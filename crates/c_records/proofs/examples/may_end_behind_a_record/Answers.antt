@@ -8,10 +8,10 @@ use Rattle.c_records.proofs.examples.may_end_behind_a_record.Goals as goal
 
 pub returns : goal.returns
 returns c = λ e fed taken.
-    let s = c.oncrpc_records_start-started.ensures in
-    let f = c.oncrpc_records_feed-fed.ensures in
-    let t = c.oncrpc_records_take-taken.ensures in
-    let d = c.oncrpc_records_end-ended.ensures in
+    let s = c.start_records-started.ensures in
+    let f = c.feed_records-fed.ensures in
+    let t = c.take_record-taken.ensures in
+    let d = c.end_records-ended.ensures in
     let h = started 100 _ s.0 s.1 (sym e ∙ s.2) in
     let w = has_read 100 _ _ _ f.0 (at_first h) f.1 (sym fed ∙ f.2) in
     let p = past 100 w.bytes [] w.content _ _ _ _ t.0 w.waiting t.1 (sym taken ∙ t.2) in

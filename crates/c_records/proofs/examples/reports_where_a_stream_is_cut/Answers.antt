@@ -28,8 +28,8 @@ reported held left a b (inr t) d =
 
 pub returns : goal.returns
 returns c = λ e.
-    let s = c.oncrpc_records_start-started.ensures in
-    let f = c.oncrpc_records_feed-fed.ensures in
-    let d = c.oncrpc_records_end-ended.ensures in
+    let s = c.start_records-started.ensures in
+    let f = c.feed_records-fed.ensures in
+    let d = c.end_records-ended.ensures in
     let h = started 100 _ s.0 s.1 (sym e ∙ s.2) in
     rw (f.2, d.2, d.3) (reported _ _ f.0 d.0 (fed_short 100 bytes _ _ f.0 (omega arith) (at_first h) f.1) d.1)

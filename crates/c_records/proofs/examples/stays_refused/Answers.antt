@@ -6,10 +6,10 @@ use Rattle.c_records.proofs.examples.stays_refused.Goals as goal
 
 pub returns : goal.returns
 returns c = λ which.
-    let f = c.oncrpc_records_feed-fed.ensures in
-    let t = c.oncrpc_records_take-taken.ensures in
-    let g = c.oncrpc_records_feed-fed_again.ensures in
-    let d = c.oncrpc_records_end-ended.ensures in
+    let f = c.feed_records-fed.ensures in
+    let t = c.take_record-taken.ensures in
+    let g = c.feed_records-fed_again.ensures in
+    let d = c.end_records-ended.ensures in
     let r = refuses _ _ _ f.0 f.1 (rw f.2 at which) in
     let k = none_taken _ _ r.stuck.reader _ _ t.0 r.stuck.is r.stuck.broken.0 t.1 in
     let s : IsStuck _ r.fault = record { reader = r.stuck.reader; is = k.held; broken = r.stuck.broken } in

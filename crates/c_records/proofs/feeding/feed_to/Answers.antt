@@ -6,8 +6,8 @@ pub returns-in-Ok-More : goal.returns-in-Ok-More
 returns-in-Ok-More c =
     let f = rw c.in-Ok-More.field-0-is at c.in-Ok-More.ensures in
     let buffer = c.feed_into.new.buffer.items in
-    more _ _ c.args.state.now.waits c.args.state.now.last.items buffer _ buffer c.if-state.false f.limit f.fills f.reports
-    f.stays
+    more _ _ c.args.state.now.waits c.args.state.now.last.items buffer _ buffer c.if-state.false f.limit f.fills
+    f.reports f.stays
 
 pub returns-in-Ok-Whole : goal.returns-in-Ok-Whole
 returns-in-Ok-Whole c =
@@ -19,5 +19,5 @@ pub returns-in-Err : goal.returns-in-Err
 returns-in-Err c =
     let f = c.in-Err.ensures in
     let buffer = c.feed_into.new.buffer.items in
-    refused _ _ c.args.state.now.waits c.args.state.now.last.items buffer _ buffer c.in-Err.fault c.if-state.false f.limit
-    f.fills f.reports f.stays
+    refused _ _ c.args.state.now.waits c.args.state.now.last.items buffer _ buffer c.in-Err.fault c.if-state.false
+    f.limit f.fills f.reports f.stays

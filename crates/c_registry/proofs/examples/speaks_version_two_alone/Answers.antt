@@ -5,8 +5,8 @@ use Rattle.c_registry.proofs.examples.speaks_version_two_alone.Goals as goal
 
 pub returns : goal.returns
 returns c = λ e.
-    let s = c.oncrpc_registry_start-started.ensures in
-    let a = c.oncrpc_registry_answer-answered.ensures in
+    let s = c.start_registry-started.ensures in
+    let a = c.answer_record-answered.ensures in
     let held = started 111 _ s.0 s.1 (sym e ∙ s.2) in
     let d = denied c.five_cases.ensures.exclusive _ _ c.requires.buffer _ _ a.0 (rw (held, c.requires.call) at a.1) in
     (a.2 ∙ d.0, a.3 ∙ d.1, d.2)

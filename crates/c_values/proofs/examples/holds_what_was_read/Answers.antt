@@ -5,6 +5,6 @@ use Rattle.c_values.proofs.examples.holds_what_was_read.Goals as goal
 
 pub returns : goal.returns
 returns c = λ e f.
-    let r = c.oncrpc_declarations_read-read.ensures in
-    let k = c.oncrpc_declarations_check-check.ensures.answer in
+    let r = c.read_declarations-read.ensures in
+    let k = c.check_by_declarations-check.ensures.answer in
     held_reported _ _ r.0 r.1 (sym e ∙ r.2) _ _ _ _ k.0 k.1 (sym f ∙ k.2)

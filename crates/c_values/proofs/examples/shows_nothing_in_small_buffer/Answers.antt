@@ -5,5 +5,5 @@ use Rattle.c_values.proofs.examples.shows_nothing_in_small_buffer.Goals as goal
 
 pub returns : goal.returns
 returns c = λ e.
-    let t = c.oncrpc_declarations_show.ensures.answer in
+    let t = c.show_by_declarations.ensures.answer in
     shown_reported _ _ _ _ _ _ _ _ t.0 t.1 (sym e ∙ t.2)

@@ -3,8 +3,8 @@ use Rattle.std.proofs.Common.{◌≡◌, refl, sym, ap, ◌∙◌, Some, None}
 use Rattle.c_records.specs.declared.handle.Records.{Records}
 use Rattle.c_records.specs.declared.state.State.{State}
 use Rattle.c_records.specs.Held.{held_of}
-use Rattle.c_records.proofs.ending.oncrpc_records_end.Goals as goal
-use Rattle.c_records.proofs.ending.oncrpc_records_end.Goals.{in-Some, in-None}
+use Rattle.c_records.proofs.ending.end_records.Goals as goal
+use Rattle.c_records.proofs.ending.end_records.Goals.{in-Some, in-None}
 
 pub returns : goal.returns
 returns c = (

@@ -5,7 +5,7 @@ use Rattle.c_messages.specs.Calls.{told_of, case_status}
 use Rattle.c_messages.specs.Parts.{LiesAt}
 use Rattle.c_messages.specs.declared.calls.CallParts.{CallParts}
 use Rattle.c_messages.proofs.Lying.{credential_lies, verifier_lies, arguments_lie, short_case}
-use Rattle.c_messages.proofs.calls.oncrpc_call_read.Goals as goal
+use Rattle.c_messages.proofs.calls.read_call_parts.Goals as goal
 
 pub reported-status-requires : goal.reported-status-requires
 reported-status-requires c = short_case _ _ c.read_lent_call.ensures.found

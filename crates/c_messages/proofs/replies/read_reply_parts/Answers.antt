@@ -5,7 +5,7 @@ use Rattle.c_messages.specs.Replies.{told_of, results_of}
 use Rattle.c_messages.specs.Parts.{LiesAt}
 use Rattle.c_messages.specs.declared.replies.ReplyParts.{ReplyParts}
 use Rattle.c_messages.proofs.Lying.{results_lie}
-use Rattle.c_messages.proofs.replies.oncrpc_reply_read.Goals as goal
+use Rattle.c_messages.proofs.replies.read_reply_parts.Goals as goal
 
 pub returns-in-Ok-clause-found : goal.returns-in-Ok-clause-found
 returns-in-Ok-clause-found c = (Ok (reply_view c.in-Ok.value), c.in-Ok.ensures.found, refl, c.reported.ensures)

@@ -2,7 +2,7 @@
 use Rattle.std.proofs.Common.{refl}
 use Rattle.rpc_message.specs.View.{auth_sys_view}
 use Rattle.c_messages.specs.Credentials.{Whole}
-use Rattle.c_messages.proofs.credentials.oncrpc_auth_sys_read.Goals as goal
+use Rattle.c_messages.proofs.credentials.read_auth_sys_parts.Goals as goal
 
 pub returns-in-Ok-Some-clause-found : goal.returns-in-Ok-Some-clause-found
 returns-in-Ok-Some-clause-found c = (

@@ -1,0 +1,28 @@
+//! The library for C: `include/oncrpc.h` says it for who writes C.
+//!
+//! Each export answers a status, and reports the rest through what the caller lends. None wants anything but pointers
+//! that lead where their counts say. What it does is the function that it calls, proved in the crate of that function.
+#![tactic(auto)]
+
+mod calls;
+mod credentials;
+mod records;
+mod registry;
+mod replies;
+mod values;
+
+pub use calls::{oncrpc_call_read, oncrpc_call_write};
+pub use credentials::{oncrpc_auth_sys_read, oncrpc_auth_sys_write};
+pub use records::{
+    oncrpc_records_end, oncrpc_records_feed, oncrpc_records_free, oncrpc_records_start,
+    oncrpc_records_take,
+};
+pub use registry::{
+    oncrpc_registry_answer, oncrpc_registry_free, oncrpc_registry_reply, oncrpc_registry_set,
+    oncrpc_registry_start, oncrpc_registry_unset,
+};
+pub use replies::{oncrpc_reply_read, oncrpc_reply_write};
+pub use values::{
+    oncrpc_check, oncrpc_declarations_check, oncrpc_declarations_free, oncrpc_declarations_parts,
+    oncrpc_declarations_read, oncrpc_declarations_show, oncrpc_normalise,
+};

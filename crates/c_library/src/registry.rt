@@ -1,0 +1,125 @@
+//! A registry that a program of C keeps (RFC 1833).
+ghost use Rattle.std.specs.Prelude.{◌≡◌, None, option_map};
+ghost use Rattle.c_registry.specs.Held.{held_of};
+ghost use Rattle.c_registry.specs.Rows.{IsStarted, IsSetBy, IsUnsetBy};
+ghost use Rattle.c_registry.specs.Statuses.{Reports};
+ghost use Rattle.c_registry.specs.Answered.{IsAnsweredBy, IsTakenBy};
+ghost use Rattle.registry_rows.specs.Rows.{row_of};
+
+use c_answers::Outcome;
+use c_registry::Registry;
+use std::alloc::Global;
+
+/// Starts a registry in the handle, whose rows are its own: program 100000 in versions 2, 3 and 4, each over `tcp` and
+/// then over `udp`, at every host and this port, owned by `superuser` (RFC 1833 sections 2 and 3). What the handle held
+/// before is freed. Rows are hashed behind the seed, which the peers should not know.
+///
+/// Status 0: the handle holds the registry. 6: memory was refused, and the handle holds none.
+#[unsafe(no_mangle)]
+pub extern "C" fn oncrpc_registry_start(
+    alloc: Global,
+    handle: &mut Registry,
+    port: u16,
+    seed: &[u8],
+    outcome: &mut Outcome,
+) -> u32
+    ensures { Reports (IsStarted port (option_map held_of handle.new.held)) result outcome.new }
+{
+    c_registry::start_registry(alloc, handle, port, seed, outcome)
+}
+
+/// Answers a record that came over the transport with this netid, `tcp` or `udp`, and puts the reply into the buffer
+/// (RFC 5531 section 9, RFC 1833 sections 2 and 3). The record stands without the headers of its fragments. A reply
+/// that still waited for a buffer is given up. Where memory is refused the reply is SYSTEM_ERR, and the rows stay.
+///
+/// Status 0: the `at` bytes of the reply are written, and the rest of the buffer is untouched. 8: the buffer is too
+/// small, `at` bytes are needed, and the reply waits for `oncrpc_registry_reply`: the rows are changed already. 19:
+/// the record is no call, and there is no reply. 20: no transport has this netid. 18: the handle holds no registry. At
+/// 8 and above the buffer is untouched; at 18 and 20 the registry is too.
+#[unsafe(no_mangle)]
+pub extern "C" fn oncrpc_registry_answer(
+    alloc: Global,
+    handle: &mut Registry,
+    netid: &[u8],
+    message: &[u8],
+    buffer: &mut [u8],
+    outcome: &mut Outcome,
+) -> u32
+    ensures { Reports (IsAnsweredBy (option_map held_of handle.old.held) netid.now message.now
+        (option_map held_of handle.new.held) buffer.old buffer.new) result outcome.new }
+{
+    c_registry::answer_record(alloc, handle, netid, message, buffer, outcome)
+}
+
+/// Puts the reply that waits for a buffer into the buffer, and then it waits no longer.
+///
+/// Status 0: the `at` bytes of the reply are written, and the rest of the buffer is untouched. 8: the buffer is too
+/// small, `at` bytes are needed, and the reply waits on. 19: no reply waits. 18: the handle holds no registry. At 8,
+/// 18 and 19 the buffer is untouched. The rows stay.
+#[unsafe(no_mangle)]
+pub extern "C" fn oncrpc_registry_reply(
+    alloc: Global,
+    handle: &mut Registry,
+    buffer: &mut [u8],
+    outcome: &mut Outcome,
+) -> u32
+    ensures { Reports (IsTakenBy (option_map held_of handle.old.held) (option_map held_of handle.new.held)
+        buffer.old buffer.new) result outcome.new }
+{
+    c_registry::take_reply(alloc, handle, buffer, outcome)
+}
+
+/// Adds a row at the end, as RPCBPROC_SET does (RFC 1833 section 2.2.1).
+///
+/// Status 0: it is added. 21: it is not, since the netid or the address is empty, the netid has more than 64 bytes, the
+/// address more than 256 or the owner more than 10, there is a row of this program, version and netid, or there are
+/// 1024 rows. 6: memory was refused. 18: the handle holds no registry. At all but 0 the rows stay, and at each a reply
+/// that waits stays.
+#[unsafe(no_mangle)]
+pub extern "C" fn oncrpc_registry_set(
+    alloc: Global,
+    handle: &mut Registry,
+    program: u32,
+    version: u32,
+    netid: &[u8],
+    address: &[u8],
+    owner: &[u8],
+    outcome: &mut Outcome,
+) -> u32
+    ensures { Reports (IsSetBy (option_map held_of handle.old.held)
+        (row_of program version netid.now address.now owner.now) (option_map held_of handle.new.held))
+        result outcome.new }
+{
+    c_registry::set_row(
+        alloc, handle, program, version, netid, address, owner, outcome,
+    )
+}
+
+/// Removes the row of a program, a version and a netid, or with an empty netid every row of the program and version, as
+/// RPCBPROC_UNSET does: where the row's owner is `owner`, or `owner` is `superuser` (RFC 1833 section 2.2.1).
+///
+/// Status 0: at least one was removed; the rest keep their order. 21: there is none to remove, and the rows stay. 18:
+/// the handle holds no registry. A reply that waits stays. It takes no memory.
+#[unsafe(no_mangle)]
+pub extern "C" fn oncrpc_registry_unset(
+    alloc: Global,
+    handle: &mut Registry,
+    program: u32,
+    version: u32,
+    netid: &[u8],
+    owner: &[u8],
+    outcome: &mut Outcome,
+) -> u32
+    ensures { Reports (IsUnsetBy (option_map held_of handle.old.held) program version netid.now owner.now
+        (option_map held_of handle.new.held)) result outcome.new }
+{
+    c_registry::unset_rows(alloc, handle, program, version, netid, owner, outcome)
+}
+
+/// Frees the registry that the handle holds, if any. It then holds none, so that a second call does nothing.
+#[unsafe(no_mangle)]
+pub extern "C" fn oncrpc_registry_free(alloc: Global, handle: &mut Registry)
+    ensures { handle.new.held ≡ None }
+{
+    c_registry::free_registry(alloc, handle);
+}
