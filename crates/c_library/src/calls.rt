@@ -3,7 +3,7 @@ ghost use Rattle.std.specs.Prelude.{◌≡◌};
 ghost use Rattle.rpc_message.specs.Message.{CallView, CaseView};
 ghost use Rattle.rpc_message.specs.Cases.{IsCase};
 ghost use Rattle.rpc_message.specs.Spelling.{CallBytes};
-ghost use Rattle.c_messages.specs.Calls.{told_of, call_of, case_status, IsCallWritten};
+ghost use Rattle.c_messages.specs.Calls.{reported_of, call_of, case_status, IsCallWritten};
 ghost use Rattle.c_messages.specs.Parts.{LiesAt};
 ghost use Rattle.c_messages.specs.Statuses.{Reports};
 
@@ -18,9 +18,9 @@ use std::alloc::Global;
 #[unsafe(no_mangle)]
 pub extern "C" fn oncrpc_call_read(input: &[u8], call: &mut CallParts) -> u32
     // The status and what is reported are those of the case that applies,
-    ensures found { (k : CaseView) × IsCase input.now k × (result ≡ case_status k) × (call.new ≡ told_of k) }
+    ensures found { (k : CaseView) × IsCase input.now k × (result ≡ case_status k) × (call.new ≡ reported_of k) }
     // of each one that applies.
-    ensures only { (k : CaseView) → IsCase input.now k → (result ≡ case_status k) × (call.new ≡ told_of k) }
+    ensures only { (k : CaseView) → IsCase input.now k → (result ≡ case_status k) × (call.new ≡ reported_of k) }
     // The parts of a call lie where they are told to be.
     ensures credential { (c : CallView) → CallBytes c input.now → LiesAt input.now call.new.credential c.cred.body }
     ensures verifier { (c : CallView) → CallBytes c input.now → LiesAt input.now call.new.verifier c.verf.body }

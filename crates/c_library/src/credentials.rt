@@ -2,7 +2,7 @@
 ghost use Rattle.std.specs.Prelude.{◌≡◌, ◌⊎◌};
 ghost use Rattle.rpc_message.specs.Message.{AuthSysView};
 ghost use Rattle.rpc_message.specs.Spelling.{AuthSysBytes};
-ghost use Rattle.c_messages.specs.Credentials.{Body, IsBody, body_status, body_reported, told_of, IsAuthSysWritten};
+ghost use Rattle.c_messages.specs.Credentials.{Body, IsBody, body_status, body_reported, reported_of, IsAuthSysWritten};
 ghost use Rattle.c_messages.specs.Parts.{LiesAt};
 ghost use Rattle.c_messages.specs.Statuses.{Reports};
 
@@ -20,7 +20,7 @@ pub extern "C" fn oncrpc_auth_sys_read(alloc: Global, input: &[u8], auth: &mut A
     ensures found { (b : Body) × IsBody input.now b × (result ≡ body_status b) × (auth.new ≡ body_reported b) }
     // and a body that they are is reported, unless memory was refused.
     ensures only { (a : AuthSysView) → AuthSysBytes a input.now
-        → (result ≡ 6) ⊎ ((result ≡ 0) × (auth.new ≡ told_of a)) }
+        → (result ≡ 6) ⊎ ((result ≡ 0) × (auth.new ≡ reported_of a)) }
     // Its machine name lies where it is told to be.
     ensures machine { (a : AuthSysView) → AuthSysBytes a input.now → result ≡ 0
         → LiesAt input.now auth.new.machine a.machine }

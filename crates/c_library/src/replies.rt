@@ -4,7 +4,7 @@ ghost use Rattle.rpc_message.specs.Message.{ReplyView};
 ghost use Rattle.rpc_message.specs.Spelling.{ReplyBytes};
 ghost use Rattle.rpc_message.specs.declared.fault.ReplyFault.{ReplyFault as FaultSpec};
 ghost use Rattle.c_messages.specs.Parts.{LiesAt};
-ghost use Rattle.c_messages.specs.Replies.{told_of, outcome_status, outcome_reported, IsOutcome};
+ghost use Rattle.c_messages.specs.Replies.{reported_of, outcome_status, outcome_reported, IsOutcome};
 ghost use Rattle.c_messages.specs.Replies.{verifier_of, results_of, IsReplyWritten};
 ghost use Rattle.c_messages.specs.Statuses.{Reports};
 
@@ -24,7 +24,7 @@ pub extern "C" fn oncrpc_reply_read(alloc: Global, input: &[u8], reply: &mut Rep
         × (reply.new ≡ outcome_reported a) }
     // A reply that the bytes are is reported, unless memory was refused.
     ensures only { (r : ReplyView) → ReplyBytes r input.now
-        → (result ≡ 6) ⊎ ((result ≡ 0) × (reply.new ≡ told_of r)) }
+        → (result ≡ 6) ⊎ ((result ≡ 0) × (reply.new ≡ reported_of r)) }
     // Its parts lie where they are told to be.
     ensures verifier { (r : ReplyView) → ReplyBytes r input.now → result ≡ 0
         → LiesAt input.now reply.new.verifier (verifier_of r) }

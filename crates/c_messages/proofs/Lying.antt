@@ -12,7 +12,7 @@ use Rattle.rpc_message.specs.Spelling.{auth, AuthSysBytes, CallBytes, ReplyBytes
 use Rattle.rpc_message.specs.Cases.{IsCase}
 use Rattle.c_messages.specs.Parts.{LiesAt, part, none, padded_size}
 use Rattle.c_messages.specs.Replies.{results_of}
-use Rattle.c_messages.specs.Replies.{told_of as reply_reported}
+use Rattle.c_messages.specs.Replies.{reported_of as reply_reported}
 use Rattle.c_messages.specs.Calls.{AreShort}
 
 -- a part behind so many bytes

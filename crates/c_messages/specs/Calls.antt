@@ -49,12 +49,12 @@ whole c = record {
 }
 
 -- what is reported of each case
-abbrev pub told_of : CaseView → CallParts
-told_of (Whole c) = whole c
-told_of NotACall = front 0 0
-told_of (OtherVersion xid version) = front xid version
-told_of (BadCred xid) = front xid 2
-told_of (BadVerf xid) = front xid 2
+abbrev pub reported_of : CaseView → CallParts
+reported_of (Whole c) = whole c
+reported_of NotACall = front 0 0
+reported_of (OtherVersion xid version) = front xid version
+reported_of (BadCred xid) = front xid 2
+reported_of (BadVerf xid) = front xid 2
 
 -- a call has at most 400 bytes of credential and of verifier (section 8.2)
 abbrev pub AreShort : CaseView → Type 0

@@ -14,8 +14,8 @@ abbrev pub silent : AuthSysParts
 silent = record { stamp = 0; uid = 0; gid = 0; gid_count = 0; gids = replicate 16 0; machine = none }
 
 -- What is reported of a body: its gids are filled up with zeros to 16, and its machine name is behind two numbers.
-abbrev pub told_of : AuthSysView → AuthSysParts
-told_of a = record {
+abbrev pub reported_of : AuthSysView → AuthSysParts
+reported_of a = record {
   stamp = a.stamp;
   uid = a.uid;
   gid = a.gid;
@@ -42,7 +42,7 @@ body_status Unknown = 6
 
 -- what is reported of each
 abbrev pub body_reported : Body → AuthSysParts
-body_reported (Whole a) = told_of a
+body_reported (Whole a) = reported_of a
 body_reported NoBody = silent
 body_reported Unknown = silent
 

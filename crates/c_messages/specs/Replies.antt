@@ -41,11 +41,11 @@ abbrev pub with_verifier : ReplyParts → AuthView → ReplyParts
 with_verifier p verf = record p { verifier_flavor = verf.flavor; verifier = part 20 verf.body }
 
 -- What is reported of a reply: the results are behind the verifier with its padding and one number.
-abbrev pub told_of : ReplyView → ReplyParts
-told_of (Accepted xid verf status) =
+abbrev pub reported_of : ReplyView → ReplyParts
+reported_of (Accepted xid verf status) =
     with_status (with_verifier (bare xid 0) verf) status (24 + padded_size (length verf.body))
-told_of (Denied xid (RpcMismatch low high)) = record (bare xid 6) { low = low; high = high }
-told_of (Denied xid (AuthError stat)) = record (bare xid 7) { auth_stat = stat }
+reported_of (Denied xid (RpcMismatch low high)) = record (bare xid 6) { low = low; high = high }
+reported_of (Denied xid (AuthError stat)) = record (bare xid 7) { auth_stat = stat }
 
 -- the status of each fault
 abbrev pub fault_status : ReplyFault → ℕ
@@ -67,7 +67,7 @@ outcome_status (Err f) = fault_status f
 
 -- nothing is reported with a fault
 abbrev pub outcome_reported : Result ReplyView ReplyFault → ReplyParts
-outcome_reported (Ok r) = told_of r
+outcome_reported (Ok r) = reported_of r
 outcome_reported (Err f) = bare 0 0
 
 -- the body of a reply's verifier, where it has one

@@ -4,7 +4,7 @@ ghost use Rattle.rpc_message.specs.Message.{CallView, CaseView, Whole};
 ghost use Rattle.rpc_message.specs.Cases.{IsCase};
 ghost use Rattle.rpc_message.specs.Spelling.{CallBytes};
 ghost use Rattle.rpc_message.specs.View.{lent_call_view, lent_case_view};
-ghost use Rattle.c_messages.specs.Calls.{told_of, call_of, case_status, front, AreShort, IsCallWritten};
+ghost use Rattle.c_messages.specs.Calls.{reported_of, call_of, case_status, front, AreShort, IsCallWritten};
 ghost use Rattle.c_messages.specs.Parts.{LiesAt};
 ghost use Rattle.c_messages.specs.Statuses.{Reports};
 
@@ -55,7 +55,7 @@ fn front(xid: u32, rpc_version: u32) -> CallParts
 fn whole(call: LentCall<'_>) -> CallParts
     requires cred { length call.cred.body.now ≤ 400 }
     requires verf { length call.verf.body.now ≤ 400 }
-    ensures { result ≡ told_of (Whole (lent_call_view call.entry)) }
+    ensures { result ≡ reported_of (Whole (lent_call_view call.entry)) }
 {
     let verifier = 40 + padded_size(call.cred.body.len());
     let arguments = verifier + padded_size(call.verf.body.len());
@@ -86,7 +86,7 @@ fn whole(call: LentCall<'_>) -> CallParts
 fn reported(read: LentRead<'_>) -> (u32, CallParts)
     requires { AreShort (lent_case_view read) }
     ensures status { result.0 ≡ case_status (lent_case_view read.entry) }
-    ensures parts { result.1 ≡ told_of (lent_case_view read.entry) }
+    ensures parts { result.1 ≡ reported_of (lent_case_view read.entry) }
 {
     match read {
         LentRead::Whole(call) => (0, whole(call)),
@@ -100,9 +100,9 @@ fn reported(read: LentRead<'_>) -> (u32, CallParts)
 /// Reads the bytes as a call, as `oncrpc_call_read` says.
 pub fn read_call_parts(input: &[u8], call: &mut CallParts) -> u32
     // The status and what is reported are those of the case that applies,
-    ensures found { (k : CaseView) × IsCase input.now k × (result ≡ case_status k) × (call.new ≡ told_of k) }
+    ensures found { (k : CaseView) × IsCase input.now k × (result ≡ case_status k) × (call.new ≡ reported_of k) }
     // of each one that applies.
-    ensures only { (k : CaseView) → IsCase input.now k → (result ≡ case_status k) × (call.new ≡ told_of k) }
+    ensures only { (k : CaseView) → IsCase input.now k → (result ≡ case_status k) × (call.new ≡ reported_of k) }
     // The parts of a call lie where they are told to be.
     ensures credential { (c : CallView) → CallBytes c input.now → LiesAt input.now call.new.credential c.cred.body }
     ensures verifier { (c : CallView) → CallBytes c input.now → LiesAt input.now call.new.verifier c.verf.body }

@@ -3,7 +3,7 @@ ghost use Rattle.std.specs.Prelude.{◌≡◌, ◌≤◌, ◌⊎◌, length, IfO
 ghost use Rattle.rpc_message.specs.Message.{AuthSysView};
 ghost use Rattle.rpc_message.specs.Spelling.{AuthSysBytes};
 ghost use Rattle.rpc_message.specs.View.{auth_sys_view};
-ghost use Rattle.c_messages.specs.Credentials.{Body, IsBody, body_status, body_reported, silent, told_of, auth_sys_of};
+ghost use Rattle.c_messages.specs.Credentials.{Body, IsBody, body_status, body_reported, silent, reported_of, auth_sys_of};
 ghost use Rattle.c_messages.specs.Credentials.{IsAuthSysWritten};
 ghost use Rattle.c_messages.specs.Parts.{LiesAt};
 ghost use Rattle.c_messages.specs.Statuses.{Reports};
@@ -50,7 +50,7 @@ fn silent() -> AuthSysParts
 /// All parts of a body.
 fn reported(auth: &AuthSys) -> AuthSysParts
     requires { length auth.now.gids.items ≤ 16 }
-    ensures { result ≡ told_of (auth_sys_view auth.now) }
+    ensures { result ≡ reported_of (auth_sys_view auth.now) }
 {
     let mut gids = [0; 16];
     gids[..auth.gids.len()].copy_from_slice(&auth.gids);
@@ -73,7 +73,7 @@ pub fn read_auth_sys_parts(alloc: Global, input: &[u8], auth: &mut AuthSysParts)
     ensures found { (b : Body) × IsBody input.now b × (result ≡ body_status b) × (auth.new ≡ body_reported b) }
     // and a body that they are is reported, unless memory was refused.
     ensures only { (a : AuthSysView) → AuthSysBytes a input.now
-        → (result ≡ 6) ⊎ ((result ≡ 0) × (auth.new ≡ told_of a)) }
+        → (result ≡ 6) ⊎ ((result ≡ 0) × (auth.new ≡ reported_of a)) }
     // Its machine name lies where it is told to be.
     ensures machine { (a : AuthSysView) → AuthSysBytes a input.now → result ≡ 0
         → LiesAt input.now auth.new.machine a.machine }

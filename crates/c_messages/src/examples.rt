@@ -2,7 +2,7 @@
 ghost use Rattle.std.specs.Prelude.{◌≡◌, ◌<◌, ◌≤◌, ◌⊎◌, [], ◌∷◌, length};
 ghost use Rattle.c_messages.specs.Parts.{part, none};
 ghost use Rattle.c_messages.specs.Calls.{front, whole, call_of};
-ghost use Rattle.c_messages.specs.Credentials.{auth_sys_of, told_of};
+ghost use Rattle.c_messages.specs.Credentials.{auth_sys_of, reported_of};
 
 use super::calls::{CallParts, read_call_parts, write_call_parts};
 use super::credentials::{AuthSysParts, read_auth_sys_parts, write_auth_sys_parts};
@@ -114,7 +114,7 @@ pub fn reads_the_body_that_was_written(
     buffer: &mut [u8],
 ) -> (u32, u32)
     ensures { result.0 ≡ 0
-        → (result.1 ≡ 6) ⊎ ((result.1 ≡ 0) × (auth.new ≡ told_of (auth_sys_of auth.old machine.now))) }
+        → (result.1 ≡ 6) ⊎ ((result.1 ≡ 0) × (auth.new ≡ reported_of (auth_sys_of auth.old machine.now))) }
 {
     let mut count = 0;
     let written = write_auth_sys_parts(alloc, auth, machine, buffer, &mut count);

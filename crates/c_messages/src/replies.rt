@@ -5,7 +5,7 @@ ghost use Rattle.rpc_message.specs.Spelling.{ReplyBytes};
 ghost use Rattle.rpc_message.specs.View.{reply_view, status_view, HasShortVerf};
 ghost use Rattle.rpc_message.specs.declared.fault.ReplyFault.{ReplyFault as FaultSpec};
 ghost use Rattle.c_messages.specs.Parts.{LiesAt};
-ghost use Rattle.c_messages.specs.Replies.{bare, with_status, told_of, fault_status, outcome_status, outcome_reported};
+ghost use Rattle.c_messages.specs.Replies.{bare, with_status, reported_of, fault_status, outcome_status, outcome_reported};
 ghost use Rattle.c_messages.specs.Replies.{IsOutcome, verifier_of, results_of, IsReplyWritten};
 ghost use Rattle.c_messages.specs.Statuses.{Reports};
 
@@ -84,7 +84,7 @@ fn with_status(parts: ReplyParts, status: &Status, at: usize) -> ReplyParts
 /// All parts of a reply.
 fn reported(reply: &Reply) -> ReplyParts
     requires { HasShortVerf reply.now }
-    ensures { result ≡ told_of (reply_view reply.now) }
+    ensures { result ≡ reported_of (reply_view reply.now) }
 {
     match reply {
         Reply::Accepted { xid, verf, status } => {
@@ -137,7 +137,7 @@ pub fn read_reply_parts(alloc: Global, input: &[u8], reply: &mut ReplyParts) -> 
         × (reply.new ≡ outcome_reported a) }
     // A reply that the bytes are is reported, unless memory was refused.
     ensures only { (r : ReplyView) → ReplyBytes r input.now
-        → (result ≡ 6) ⊎ ((result ≡ 0) × (reply.new ≡ told_of r)) }
+        → (result ≡ 6) ⊎ ((result ≡ 0) × (reply.new ≡ reported_of r)) }
     // Its parts lie where they are told to be.
     ensures verifier { (r : ReplyView) → ReplyBytes r input.now → result ≡ 0
         → LiesAt input.now reply.new.verifier (verifier_of r) }

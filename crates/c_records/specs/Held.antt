@@ -35,13 +35,13 @@ abbrev pub IsBroken : Held → RecordFault → Type 0
 IsBroken h f = (h.waits ≡ None) × reads.IsBroken h.reader f
 
 -- a record that waits was read, and was not handed out
-abbrev pub StandsAs : (waits : Option (List ℕ)) → RecordReader → List ℕ → List (List ℕ) → Type 0
-StandsAs None reader bytes rs = reads.Represents reader bytes rs
-StandsAs (Some r) reader bytes rs = reads.Represents reader bytes (rs ++ r ∷ [])
+abbrev pub RepresentsAs : (waits : Option (List ℕ)) → RecordReader → List ℕ → List (List ℕ) → Type 0
+RepresentsAs None reader bytes rs = reads.Represents reader bytes rs
+RepresentsAs (Some r) reader bytes rs = reads.Represents reader bytes (rs ++ r ∷ [])
 
 -- It has taken these bytes and has handed out these records.
 abbrev pub Represents : Held → List ℕ → List (List ℕ) → Type 0
-Represents h bytes rs = StandsAs h.waits h.reader bytes rs
+Represents h bytes rs = RepresentsAs h.waits h.reader bytes rs
 
 -- Whatever it stood for, what is left stands for with these bytes taken.
 abbrev pub Takes : (h left : Held) → (more : List ℕ) → Type 0

@@ -100,9 +100,9 @@ module _ (q : Question) (b : List ℕ) where
     lines_shown old new written (answer.NoRoom n) j e p = absurd j
 
     -- they do not go into it
-    pub no_room : (old : List ℕ) (a : Answer) → IsJudged q b a → reports_value a ≡ true → length old < length lines
+    pub no_space : (old : List ℕ) (a : Answer) → IsJudged q b a → reports_value a ≡ true → length old < length lines
         → HaveNoRoom q b old (length lines)
-    no_room old a j e small =
+    no_space old a j e small =
         let v = value_reported a j e in record {
           lines = lines;
           used = v.0;

@@ -27,9 +27,9 @@ reported text =
     (λ ts. option_and_then (λ o. distinct_meaning o) (definitions_at (length ts) nothing ts))
     (cut (length text) text)
 
-pub told_is : (text : List ℕ) (d : Declared) → Means text d → reported text ≡ Some d
+pub reported_is : (text : List ℕ) (d : Declared) → Means text d → reported text ≡ Some d
 unfolding reported
-told_is text d m =
+reported_is text d m =
     rw (cut_is text m.tokens m.cut, outline_again m.tokens m.outline m.spelled)
     (joined m.outline d m.meant.distinct m.meant.meant)
 
@@ -37,12 +37,12 @@ told_is text d m =
 pub reports : {A : Type 0} (text : List ℕ) (d : Declared) (f : Declared → A) (r : Result Made LangFault) → Means text d
     → IfOk r (λ v. Means text (declared_of v)) → IfOk r (λ v. f (declared_of v) ≡ f d)
 reports text d f (Ok v) means found =
-    ap f (some_is (declared_of v) d (sym (told_is text (declared_of v) found) ∙ told_is text d means))
+    ap f (some_is (declared_of v) d (sym (reported_is text (declared_of v) found) ∙ reported_is text d means))
 reports text d f (Err e) means found = tt
 
 pub refuses : (text : List ℕ) (r : Result Made LangFault) → reported text ≡ None
     → IfOk r (λ v. Means text (declared_of v)) → is_ok r ≡ false
-refuses text (Ok v) none found = absurd (some_is_not (declared_of v) (sym (told_is text (declared_of v) found) ∙ none))
+refuses text (Ok v) none found = absurd (some_is_not (declared_of v) (sym (reported_is text (declared_of v) found) ∙ none))
 refuses text (Err e) none found = refl
 
 pub too_long : (text : List ℕ) (r : Result Made LangFault) → 262144 < length text

@@ -13,7 +13,7 @@ use Rattle.oncrpc_names.specs.declared.reading.Part.TheVariants.{Argument}
 use Rattle.oncrpc_names.specs.declared.reading.PartName.{PartName}
 use Rattle.oncrpc_kinds.specs.Naming.{part_named, place_of_part}
 use Rattle.oncrpc_tasks.specs.Right.{Question}
-use Rattle.oncrpc_tasks.specs.Sources.{IsDeclared, IsReported, told_text}
+use Rattle.oncrpc_tasks.specs.Sources.{IsDeclared, IsReported, reported_text}
 use Rattle.oncrpc_tasks.specs.Tasks.{Asks, AsksNothing}
 use Rattle.oncrpc_tasks.specs.declared.task.ValueTask.{ValueTask}
 
@@ -38,7 +38,7 @@ pub one_is_asked : (reported : List ℕ → Option (List ℕ)) (what : ValueTask
     → AsksNothing reported what → ⊥
 one_is_asked reported what file types limits
     (text, d, name, p, place, is_reported, means, unsigned, one, spelled, none, there, only, known) nothing =
-    let source : told_text reported what.types ≡ Some text = ap (λ t. told_text reported t) types ∙ is_reported in
+    let source : reported_text reported what.types ≡ Some text = ap (λ t. reported_text reported t) types ∙ is_reported in
     let same : nothing.text ≡ text = subst (λ t. IsReported t nothing.text) source nothing.is_reported in
     let question : Question = record {
       kinds = d.schema.kinds;

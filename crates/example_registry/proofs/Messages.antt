@@ -122,8 +122,8 @@ no_credential =
     0 ∷ 0 ∷ 0 ∷ 1 ∷ 0 ∷ 0 ∷ 0 ∷ 0 ∷ 0 ∷ 0 ∷ 0 ∷ 2 ∷ 0 ∷ 1 ∷ 134 ∷ 160 ∷ 0 ∷ 0 ∷ 0 ∷ 2 ∷ 0 ∷ 0 ∷ 0 ∷ 0 ∷ []
 
 -- a short reply has buffer
-has_room : (netid : List ℕ) (count : ℕ) → nat_lt most_datagram count ≡ false → is_too_long netid count ≡ false
-has_room netid count e = by (bytes_eq netid udp)
+has_space : (netid : List ℕ) (count : ℕ) → nat_lt most_datagram count ≡ false → is_too_long netid count ≡ false
+has_space netid count e = by (bytes_eq netid udp)
   where
     by : (b : Bool) → (b && nat_lt most_datagram count) ≡ false
     by true = e
@@ -191,7 +191,7 @@ module _ (one : OneAnswer) (rows new : List Row) (netid : List ℕ) (refused : B
       (checked (call_bytes (call_to prog vers proc 0)) bytes) (Whole (call_to prog vers proc 0)) (accepted 1 status)
       (whole prog vers proc 0 p v n (omega arith))
       (call (call_to prog vers proc 0) rows (accepted 1 status)
-      (accepts unknown rows status (anyone refl) comes (has_room netid _ few)))
+      (accepts unknown rows status (anyone refl) comes (has_space netid _ few)))
       (record { fits = (omega arith, record { flavor = omega arith; short = omega arith }, fits); parts = refl })
 
   pub unavailable : Answer rows netid (call_bytes (call_to 100001 9 77 0)) refused new sent

@@ -31,7 +31,7 @@ pub record Progress (q : Question) (c : Checker) (count : ℕ) (at_end : Answer)
   pub follows : Follows q c seen
   pub unsettled : IsUnsettled q seen
   pub right : IsRight q seen at_end []
-  pub is_kept : retained ≡ (if keeps then seen else [])
+  pub is_retained : retained ≡ (if keeps then seen else [])
 
 -- an answer that is right whatever follows is right for an input that is reported
 for_reported : (q : Question) (a : Answer) (b : List ℕ) (left left' : Option (List ℕ)) → Consumes left left' b
@@ -60,9 +60,9 @@ started c s k l represents set = record {
   lines = refl;
 }
 
-none_kept : (keeps : Bool) (retained : List ℕ) → retained ≡ [] → retained ≡ (if keeps then [] else [])
-none_kept true retained none = none
-none_kept false retained none = none
+none_retained : (keeps : Bool) (retained : List ℕ) → retained ≡ [] → retained ≡ (if keeps then [] else [])
+none_retained true retained none = none
+none_retained false retained none = none
 
 -- before the first read
 pub begun : (q : Question) (d : Checker) (v : Verdict) (a : Answer) (left : Option (List ℕ)) (keeps : Bool)
@@ -77,7 +77,7 @@ begun q d v a left keeps retained none is says =
       follows = h.0;
       unsettled = h.1;
       right = h.2;
-      is_kept = none_kept keeps retained none;
+      is_retained = none_retained keeps retained none;
     }
 
 -- all bytes in one piece
@@ -99,12 +99,12 @@ settled_first q d v a left is says =
     for_reported q a [] left left (Consumes-none left) h
 
 -- what is kept: all that was seen, or nothing
-kept_by : (keeps : Bool) (retained seen : List ℕ) (q : Question) (left left' : Option (List ℕ)) (a : Answer)
+retained_by : (keeps : Bool) (retained seen : List ℕ) (q : Question) (left left' : Option (List ℕ)) (a : Answer)
     → retained ≡ (if keeps then seen else []) → Consumes left left' seen → IsRight q seen a []
     → IsRetained keeps q left left' a retained
-kept_by true retained seen q left left' a all read right =
+retained_by true retained seen q left left' a all read right =
     subst (λ (x : List ℕ). IsRetained true q left left' a x) (sym all) (read, right)
-kept_by false retained seen q left left' a all read right = all
+retained_by false retained seen q left left' a all read right = all
 
 more_retained : (keeps : Bool) (retained retained' seen page : List ℕ) → retained ≡ (if keeps then seen else [])
     → retained' ≡ (if keeps then retained ++ page else retained) → retained' ≡ (if keeps then seen ++ page else [])
@@ -114,7 +114,7 @@ more_retained false retained retained' seen page all grown = grown ∙ all
 pub retained_first : (q : Question) (d : Checker) (v : Verdict) (a : Answer) (left : Option (List ℕ)) (keeps : Bool)
     (retained : List ℕ) → retained ≡ [] → v ≡ Settled a → Says q d [] v → IsRetained keeps q left left a retained
 retained_first q d v a left keeps retained none is says =
-    kept_by keeps retained [] q left left a (none_kept keeps retained none) (Consumes-none left)
+    retained_by keeps retained [] q left left a (none_retained keeps retained none) (Consumes-none left)
     (all_settled q d [] v a is says)
 
 module _ (q : Question) (bounds : AreBounds q.limits.depth q.limits.bytes) where
@@ -205,7 +205,7 @@ module _ (q : Question) (c : Checker) (count : ℕ) (at_end : Answer) (turn : �
         follows = h.0;
         unsettled = h.1;
         right = h.2;
-        is_kept = more_retained keeps retained retained' p.seen (take n array) p.is_kept grown_retained;
+        is_retained = more_retained keeps retained retained' p.seen (take n array) p.is_retained grown_retained;
       }
 
   pub settled_by : (left'' : Option (List ℕ)) (n : ℕ) (array : List ℕ) (d : Checker) (v : Verdict) (a : Answer)
@@ -254,7 +254,7 @@ module _ (q : Question) (c : Checker) (count : ℕ) (at_end : Answer) (turn : �
   pub retained_at_end : (left'' : Option (List ℕ)) (n : ℕ) (array : List ℕ) → n ≡ 0
       → Consumes left' left'' (take n array) → IsRetained keeps q left left'' at_end retained
   retained_at_end left'' n array none read =
-      kept_by keeps retained p.seen q left left'' at_end p.is_kept
+      retained_by keeps retained p.seen q left left'' at_end p.is_retained
       (Consumes-at_end left left' left'' p.seen array n none p.read read) p.right
 
   pub retained_settled : (left'' : Option (List ℕ)) (n : ℕ) (array : List ℕ) (d : Checker) (v : Verdict) (a : Answer)
@@ -262,7 +262,7 @@ module _ (q : Question) (c : Checker) (count : ℕ) (at_end : Answer) (turn : �
       → (retained' : List ℕ) → retained' ≡ (if keeps then retained ++ take n array else retained)
       → IsRetained keeps q left left'' a retained'
   retained_settled left'' n array d v a read is says retained' grown_retained =
-      kept_by keeps retained' (p.seen ++ take n array) q left left'' a
-      (more_retained keeps retained retained' p.seen (take n array) p.is_kept grown_retained)
+      retained_by keeps retained' (p.seen ++ take n array) q left left'' a
+      (more_retained keeps retained retained' p.seen (take n array) p.is_retained grown_retained)
       (Consumes-trans _ _ _ p.seen (take n array) _ refl p.read read)
       (all_settled q d (p.seen ++ take n array) v a is says)

@@ -9,7 +9,7 @@ use Rattle.oncrpc_tasks.specs.Devices.{Reports}
 use Rattle.oncrpc_tasks.specs.Input.{most_read}
 use Rattle.oncrpc_tasks.specs.RecordsEnd.{RecordsEnd}
 use Rattle.oncrpc_tasks.specs.Right.{Question}
-use Rattle.oncrpc_tasks.specs.Sources.{IsReported, told_text}
+use Rattle.oncrpc_tasks.specs.Sources.{IsReported, reported_text}
 use Rattle.oncrpc_tasks.specs.Stopping.{ReadsUnsettled, LastRead, IsUnread, IsPlain}
 use Rattle.oncrpc_tasks.specs.Tasks.{Asks, AsksNothing}
 
@@ -57,7 +57,7 @@ pub record ValueEnds {I O F : Type 0} (q : Question) (hex : Bool) (reports : Rep
 pub record IsLookedFor {I O F : Type 0} (reported : List ℕ → Option (List ℕ)) (what : ValueTask) (shows : Bool)
     (reports : Reports I O) (input input' : I) (output output' : O) (faults faults' : F) (status : ℕ) : Type 0 where
   pub text : List ℕ
-  pub is_reported : IsReported (told_text reported what.types) text
+  pub is_reported : IsReported (reported_text reported what.types) text
   pub question : Question
   pub asked : Asks text what shows question
   pub ends : ValueEnds question what.hex reports input input' output output' faults faults' status

@@ -15,9 +15,9 @@ abbrev pub bare : Declared
 bare = record { schema = basic; constants = []; programs = [] }
 
 -- the text that is reported of the file that is named
-abbrev pub told_text : (List ℕ → Option (List ℕ)) → Option (String Global) → Option (List ℕ)
-told_text reported None = None
-told_text reported (Some file) = reported (string_bytes file)
+abbrev pub reported_text : (List ℕ → Option (List ℕ)) → Option (String Global) → Option (List ℕ)
+reported_text reported None = None
+reported_text reported (Some file) = reported (string_bytes file)
 
 -- the text is the one that is reported, where one is
 abbrev pub IsReported : Option (List ℕ) → List ℕ → Type 0

@@ -12,7 +12,7 @@ use Rattle.oncrpc_tasks.specs.declared.unusable.Unusable.{Unusable}
 use Rattle.oncrpc_tasks.specs.declared.unusable.Unusable.TheVariants as unusable
 use Rattle.oncrpc_kinds.specs.Naming.{Names}
 use Rattle.oncrpc_tasks.specs.Right.{Question}
-use Rattle.oncrpc_tasks.specs.Sources.{IsDeclared, IsReported, told_text}
+use Rattle.oncrpc_tasks.specs.Sources.{IsDeclared, IsReported, reported_text}
 
 -- With this text of declarations the name has a kind, the question is of that kind, and the limits are in their ranges.
 pub record Asks (text : List ℕ) (what : ValueTask) (shows : Bool) (q : Question) : Type 0 where
@@ -28,13 +28,13 @@ pub record Asks (text : List ℕ) (what : ValueTask) (shows : Bool) (q : Questio
 -- No question is asked, by a text that is reported.
 pub record AsksNothing (reported : List ℕ → Option (List ℕ)) (what : ValueTask) : Type 0 where
   pub text : List ℕ
-  pub is_reported : IsReported (told_text reported what.types) text
+  pub is_reported : IsReported (reported_text reported what.types) text
   pub none : (shows : Bool) (q : Question) → Asks text what shows q → ⊥
 
 -- The question is asked, by a text that is reported.
 pub record AsksFor (reported : List ℕ → Option (List ℕ)) (what : ValueTask) (target : Target) : Type 0 where
   pub text : List ℕ
-  pub is_reported : IsReported (told_text reported what.types) text
+  pub is_reported : IsReported (reported_text reported what.types) text
   pub asked : (shows : Bool) → Asks text what shows
       (record { kinds = target.schema.kinds; place = target.kind.place; limits = target.limits; shows = shows })
 

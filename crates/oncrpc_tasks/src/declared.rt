@@ -1,7 +1,7 @@
 //! The declarations in which a task's name is looked up.
 ghost use Rattle.std.specs.Prelude.{◌≡◌, IfOk, IfErr, IsErrOf, Some, string_bytes};
 ghost use Rattle.xdr_lang.specs.Views.{declared_of};
-ghost use Rattle.oncrpc_tasks.specs.Sources.{bare, Declares, FileFails, HasNone, told_text};
+ghost use Rattle.oncrpc_tasks.specs.Sources.{bare, Declares, FileFails, HasNone, reported_text};
 
 use super::failure::Failure;
 use super::open::Opener;
@@ -19,9 +19,9 @@ pub fn declared<P: Opener>(
     opener: &mut P,
 ) -> Result<Declared, Unusable>
     // What is answered is what the text that is reported declares,
-    ensures declares { IfOk result (λ d. Declares (told_text (P.reported opener.old) types.now) types.now (declared_of d)) }
+    ensures declares { IfOk result (λ d. Declares (reported_text (P.reported opener.old) types.now) types.now (declared_of d)) }
     // a refusal says that it declares nothing,
-    ensures refused { IfErr result (λ why. HasNone (told_text (P.reported opener.old) types.now) types.now why) }
+    ensures refused { IfErr result (λ why. HasNone (reported_text (P.reported opener.old) types.now) types.now why) }
     // and the failure Read that it could not be read.
     ensures failed { IsErrOf result (Unusable.Failed Failure.Read)
         → FileFails P.Text.left P.Text.failures (P.reported opener.old) types.now

@@ -133,8 +133,8 @@ module _ (cases : NoTwoCases)
         one_status who (subst (λ (x : List ℕ). ComesTo rows netid x c new s) e come) go
 
     -- whether the transport has no space for the reply of a status
-    abbrev room_for : StatusView → Bool
-    room_for status = is_too_long netid (length (reply (accepted c.xid status)))
+    abbrev space_for : StatusView → Bool
+    space_for status = is_too_long netid (length (reply (accepted c.xid status)))
 
     -- a whole call has one reply
     one_reply : {new also : List Row} {q r : ReplyView} → AnswersCall rows netid c new q
@@ -155,12 +155,12 @@ module _ (cases : NoTwoCases)
         (s.0, ap (accepted c.xid) s.1)
     one_reply (accepts owner new status h come fits) (too_long who next mark k go long) =
         let s = same_status owner who h k come go in
-        absurd (true≢false (sym long ∙ sym (ap room_for s.1) ∙ fits))
+        absurd (true≢false (sym long ∙ sym (ap space_for s.1) ∙ fits))
     one_reply (too_long owner new status h come long) (denies t k) =
         absurd (true≢false (ap is_owner (one_caller c.cred h k)))
     one_reply (too_long owner new status h come long) (accepts who next mark k go fits) =
         let s = same_status owner who h k come go in
-        absurd (true≢false (sym long ∙ ap room_for s.1 ∙ fits))
+        absurd (true≢false (sym long ∙ ap space_for s.1 ∙ fits))
     one_reply (too_long owner new status h come long) (too_long who next mark k go also) = (refl, refl)
 
   module _ (rows : List Row) (netid : List ℕ) where

@@ -88,9 +88,9 @@ not_not true t e u f = sym (ap not (sym f ∙ e))
 not_not false t e u f = sym (ap not (sym f ∙ e))
 
 -- what is known of a reply by its count of bytes
-pub room_of : (netid old mid said : List ℕ) (n m : ℕ) (b t : Bool) → mid ≡ old ++ said → n ≡ length mid → m ≡ length old
+pub space_of : (netid old mid said : List ℕ) (n m : ℕ) (b t : Bool) → mid ≡ old ++ said → n ≡ length mid → m ≡ length old
     → b ≡ not (is_too_long netid (n - m)) → b ≡ t → is_too_long netid (length said) ≡ not t
-room_of netid old mid said n m b t added len before e f =
+space_of netid old mid said n m b t added len before e f =
     let joined : length (old ++ said) ≡ length old + length said = length-append old said in
     let count : n - m ≡ length said = omega (arith, ap length added, joined, len, before) in
     ap (is_too_long netid) (sym count) ∙ not_not (is_too_long netid (n - m)) b e t f
@@ -102,12 +102,12 @@ module _ (rows : List Row) (netid owner : List ℕ) (c : CallView) (old mid : Li
     (b : Bool)
     (k : PushesStatus rows netid owner c old new mid) (len : n ≡ length mid) (before : m ≡ length old)
     (carries : b ≡ not (is_too_long netid (n - m))) where
-  pub has_room : b ≡ true → is_too_long netid (length (reply (accepted c.xid k.status))) ≡ false
-  has_room f = room_of netid old mid (reply (accepted c.xid k.status)) n m b true k.added len before carries f
+  pub has_space : b ≡ true → is_too_long netid (length (reply (accepted c.xid k.status))) ≡ false
+  has_space f = space_of netid old mid (reply (accepted c.xid k.status)) n m b true k.added len before carries f
 
   module _ (f : b ≡ false) where
     pub has_none : is_too_long netid (length (reply (accepted c.xid k.status))) ≡ true
-    has_none = room_of netid old mid (reply (accepted c.xid k.status)) n m b false k.added len before carries f
+    has_none = space_of netid old mid (reply (accepted c.xid k.status)) n m b false k.added len before carries f
 
     leaves : (new ≡ rows) × ((results : List ℕ) × (k.status ≡ Success results))
     leaves = long_leaves rows netid owner c k.comes (too_long_is_long netid _ has_none)

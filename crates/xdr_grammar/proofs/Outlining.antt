@@ -36,8 +36,8 @@ pub reported_fails : (e : Misread) (v : Outline) → steps.MisreadsRightly e (So
 reported_fails misread.NoMemory v h = tt
 reported_fails (misread.Token why left) v h = absurd cc
 
-pub told_is : (e : Misread) → IsGrammarFault (reported e)
-told_is misread.NoMemory = tt
-told_is (misread.Token misplaced.Unexpected left) = inl refl
-told_is (misread.Token misplaced.FloatingKind left) = inr (inl refl)
-told_is (misread.Token misplaced.NestedTooDeep left) = inr (inr refl)
+pub reported_is : (e : Misread) → IsGrammarFault (reported e)
+reported_is misread.NoMemory = tt
+reported_is (misread.Token misplaced.Unexpected left) = inl refl
+reported_is (misread.Token misplaced.FloatingKind left) = inr (inl refl)
+reported_is (misread.Token misplaced.NestedTooDeep left) = inr (inr refl)

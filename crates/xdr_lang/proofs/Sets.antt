@@ -121,7 +121,7 @@ unnamed n ns e = rw e refl
 
 -- ---- numbers
 
-int_flip : (a b : ℤ) → int_eq a b ≡ int_eq b a
+pub int_flip : (a b : ℤ) → int_eq a b ≡ int_eq b a
 int_flip a b = same_from_decides _ _ (Decides-int_eq a b) (Decides-like _ sym sym (Decides-int_eq b a))
 
 abbrev pub by_number : Keyed ℤ ℤ
@@ -140,12 +140,12 @@ by_number = record {
 
 -- ---- pairs of numbers
 
-then_eq : (a b : Ordering) → is_eq (ordering_then a b) ≡ (is_eq a && is_eq b)
+pub then_eq : (a b : Ordering) → is_eq (ordering_then a b) ≡ (is_eq a && is_eq b)
 then_eq Less b = refl
 then_eq Equal b = refl
 then_eq Greater b = refl
 
-pair_flip : (a b : ℤ × ℤ) → same_pair a b ≡ same_pair b a
+pub pair_flip : (a b : ℤ × ℤ) → same_pair a b ≡ same_pair b a
 pair_flip a b = ap (λ (x : Bool). x && int_eq a.1 b.1) (int_flip a.0 b.0)
     ∙ ap (λ (x : Bool). int_eq b.0 a.0 && x) (int_flip a.1 b.1)
 

@@ -48,7 +48,7 @@ fn empty_block<T: Drop>(alloc: Global, spare: &mut Chain<T>) -> Result<Box<Block
 }
 
 // How many items more the top is to have space for: the lowest block grows, each other one is made whole.
-fn room_for<T>(most: usize, top: usize, full: &Chain<T>) -> usize
+fn space_for<T>(most: usize, top: usize, full: &Chain<T>) -> usize
     requires { top < most }
     ensures { 0 < result }
 {
@@ -61,7 +61,7 @@ fn room_for<T>(most: usize, top: usize, full: &Chain<T>) -> usize
 // Makes space for an item at the top: in a larger block, or in an empty one over the full ones.
 #[cold]
 #[inline(never)]
-fn make_room<T: Drop>(
+fn make_space<T: Drop>(
     alloc: Global,
     most: usize,
     top: &mut Vec<T>,
@@ -78,7 +78,7 @@ fn make_room<T: Drop>(
         mem::swap(top, &mut block.items);
         full.push(block);
     }
-    top.reserve_exact(room_for(most, top.len(), full))
+    top.reserve_exact(space_for(most, top.len(), full))
 }
 
 // Makes the highest full block the top, which has no items.
@@ -124,7 +124,7 @@ impl<T: Drop, const MOST: usize> Blocks<T, MOST> {
         ensures stays { OnErr result (self.new.items ≡ self.old.items) }
     {
         if self.top.len() == self.top.capacity() {
-            make_room(
+            make_space(
                 self.alloc,
                 MOST,
                 &mut self.top,

@@ -11,7 +11,7 @@ use Rattle.xdr_types.specs.Outcome.{Outcome, Pending, Whole}
 use Rattle.xdr_stream.specs.Trace.{Trace}
 use Rattle.xdr_stream.specs.Frames.{stack_of}
 use Rattle.xdr_stream.specs.Sees.{Ends}
-use Rattle.xdr_stream.specs.Represents.{Fails, StandsAs, RepresentsBytes, IsSame, Answers}
+use Rattle.xdr_stream.specs.Represents.{Fails, RepresentsAs, RepresentsBytes, IsSame, Answers}
 use Rattle.xdr_stream.specs.declared.fault.DecodeFault.{DecodeFault}
 use Rattle.xdr_stream.specs.declared.machine.Awaits.{Awaits}
 use Rattle.xdr_stream.specs.declared.reader.State.{State}
@@ -31,14 +31,14 @@ fails_on s t l f b more e = (
 module _ (s : List KindView) (t : ℕ) (l : Bounds) (H : Trace → Type 0) (fs : List (List Part)) (read : ℕ)
     (space : List ℕ) (pending : ℕ) where
   -- a unit is needed
-  pub pending_on : (a : Awaits) (b : List ℕ) → StandsAs ⊥ s t l H fs read space pending (Reading a) b
+  pub pending_on : (a : Awaits) (b : List ℕ) → RepresentsAs ⊥ s t l H fs read space pending (Reading a) b
       → Outcome s t l b Pending
   pending_on a b r =
       subst (λ (x : List ℕ). Outcome s t l x Pending) (sym r.1)
       (sees_pending s t l H r.0 a fs (take pending space) r.5 r.6 (omega (arith, length-take pending space, r.3)) r.4)
 
   -- the value is whole
-  whole_on : (b more : List ℕ) → StandsAs ⊥ s t l H fs read space pending Finished b
+  whole_on : (b more : List ℕ) → RepresentsAs ⊥ s t l H fs read space pending Finished b
       → (v : Tree) × Outcome s t l (b ++ more) (Whole v (length b))
   whole_on b more r = let w = sees_whole s t l H b fs more r.1 r.2 in (w.0, w.2)
 
@@ -50,20 +50,20 @@ module _ {B : Type 0} (spares : Type 0) (reports : B → Trace → Type 0) (old 
   place_is : new.kind.place ≡ old.kind.place
   place_is = ap (λ (x : KindId). x.place) same.kind_is
 
-  stands_as : (st : State) → new.state ≡ st → RepresentsBytes spares reports new b
-      → StandsAs spares old.schema.now.kinds old.kind.place old.limits (reports new.built)
+  represents_as : (st : State) → new.state ≡ st → RepresentsBytes spares reports new b
+      → RepresentsAs spares old.schema.now.kinds old.kind.place old.limits (reports new.built)
       (stack_of new.work new.parents.items) new.read new.unit new.pending st b
-  stands_as st is r =
+  represents_as st is r =
       let H : Trace → Type 0 = reports new.built in
       let fs : List (List Part) = stack_of new.work new.parents.items in
-      subst (λ (x : List KindView). StandsAs spares x old.kind.place old.limits H fs new.read new.unit new.pending st b)
+      subst (λ (x : List KindView). RepresentsAs spares x old.kind.place old.limits H fs new.read new.unit new.pending st b)
       kinds_are
-      (subst (λ (x : ℕ). StandsAs spares new.schema.now.kinds x old.limits H fs new.read new.unit new.pending st b)
+      (subst (λ (x : ℕ). RepresentsAs spares new.schema.now.kinds x old.limits H fs new.read new.unit new.pending st b)
       place_is
-      (subst (λ (x : Bounds). StandsAs spares new.schema.now.kinds new.kind.place x H fs new.read new.unit
+      (subst (λ (x : Bounds). RepresentsAs spares new.schema.now.kinds new.kind.place x H fs new.read new.unit
       new.pending st b)
       same.limits_are
-      (subst (λ (x : State). StandsAs spares new.schema.now.kinds new.kind.place new.limits H fs new.read new.unit
+      (subst (λ (x : State). RepresentsAs spares new.schema.now.kinds new.kind.place new.limits H fs new.read new.unit
       new.pending
       x b) is r)))
 
@@ -82,14 +82,14 @@ module _ {B : Type 0} (spares : Type 0) (reports : B → Trace → Type 0) (old 
       subst (λ (x : List ℕ). Outcome old.schema.now.kinds old.kind.place old.limits (b ++ x) Pending) all
       (pending_on old.schema.now.kinds old.kind.place old.limits (reports new.built) (stack_of new.work new.parents.items)
       new.read new.unit new.pending a (b ++ take used piece)
-      (stands_as spares reports old new same (b ++ take used piece) (Reading a) is r))
+      (represents_as spares reports old new same (b ++ take used piece) (Reading a) is r))
 
   pub answers_done : new.state ≡ Finished
       → Answers old.schema.now.kinds old.kind.place old.limits b piece (Ok (Done used))
   answers_done is =
       let w = whole_on old.schema.now.kinds old.kind.place old.limits (reports new.built)
       (stack_of new.work new.parents.items) new.read new.unit new.pending (b ++ take used piece) (drop used piece)
-      (stands_as spares reports old new same (b ++ take used piece) Finished is r) in
+      (represents_as spares reports old new same (b ++ take used piece) Finished is r) in
       let far : length (b ++ take used piece) ≡ length b + used =
       omega (arith, length-append b (take used piece), length-take used piece, within) in (
         w.0,
@@ -104,7 +104,7 @@ module _ {B : Type 0} (spares : Type 0) (reports : B → Trace → Type 0) (old 
   answers_fault f is =
       subst (λ (x : List ℕ). Fails old.schema.now.kinds old.kind.place old.limits f x) cut
       (fails_on old.schema.now.kinds old.kind.place old.limits f (b ++ take used piece) (drop used piece)
-      (stands_as spares reports old new same (b ++ take used piece) (Failed f) is r).0)
+      (represents_as spares reports old new same (b ++ take used piece) (Failed f) is r).0)
 
   -- after a fault the whole piece is taken
   pub represents_failed : (f : DecodeFault) → new.state ≡ Failed f → RepresentsBytes spares reports new (b ++ piece)
@@ -112,10 +112,10 @@ module _ {B : Type 0} (spares : Type 0) (reports : B → Trace → Type 0) (old 
       let K : List KindView = new.schema.now.kinds in
       let H : Trace → Type 0 = reports new.built in
       let fs : List (List Part) = stack_of new.work new.parents.items in
-      let before = subst (λ (x : State). StandsAs spares K new.kind.place new.limits H fs new.read new.unit
+      let before = subst (λ (x : State). RepresentsAs spares K new.kind.place new.limits H fs new.read new.unit
       new.pending x
       (b ++ take used piece)) is r in
-      subst (λ (x : State). StandsAs spares K new.kind.place new.limits H fs new.read new.unit new.pending x (b ++
+      subst (λ (x : State). RepresentsAs spares K new.kind.place new.limits H fs new.read new.unit new.pending x (b ++
       piece))
       (sym is) (
         subst (λ (x : List ℕ). Fails K new.kind.place new.limits f x) cut

@@ -5,14 +5,14 @@ use Rattle.xdr_types.specs.Tree.{Tree}
 use Rattle.xdr_types.specs.Within.{Bounds}
 use Rattle.xdr_types.specs.Outcome.{Outcome, Whole}
 use Rattle.xdr_stream.specs.Trace.{Trace}
-use Rattle.xdr_stream.specs.Represents.{StandsAs}
+use Rattle.xdr_stream.specs.Represents.{RepresentsAs}
 use Rattle.xdr_stream.specs.declared.reader.State.TheVariants.{Finished}
 use Rattle.xdr_stream.proofs.Standing.{sees_whole, within_limit}
 
 -- the value is whole in the bytes, and they are those of the units that are read, no more than the limit
 pub counted_whole : (s : List KindView) (t : ℕ) (l : Bounds) (H : Trace → Type 0) (fs : List (List Part)) (read : ℕ)
     (space : List ℕ) (pending : ℕ) (b : List ℕ) → l.bytes % 4 ≡ 0
-    → StandsAs ⊥ s t l H fs read space pending Finished b
+    → RepresentsAs ⊥ s t l H fs read space pending Finished b
     → ((v : Tree) × Outcome s t l b (Whole v (length b))) × (length b ≡ read) × (length b ≤ l.bytes)
 counted_whole s t l H fs read space pending b units r =
     let w = sees_whole s t l H b fs [] r.1 r.2 in (

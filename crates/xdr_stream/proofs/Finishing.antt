@@ -22,7 +22,7 @@ use Rattle.xdr_stream.specs.Trace as trace
 use Rattle.xdr_stream.specs.Trace.{Trace, level, at_start}
 use Rattle.xdr_stream.specs.Sees.{Sees, Ends}
 use Rattle.xdr_stream.specs.Values.{level_of, levels_onto, Reports}
-use Rattle.xdr_stream.specs.Represents.{StandsAs, Fails}
+use Rattle.xdr_stream.specs.Represents.{RepresentsAs, Fails}
 use Rattle.xdr_stream.specs.Finish.{Finishes}
 use Rattle.xdr_stream.specs.declared.fault.Reason.{Reason}
 use Rattle.xdr_stream.specs.declared.fault.Reason.TheVariants as reason
@@ -68,7 +68,7 @@ first_level (m ∷ ms) l = m
 
 module _ (s : List KindView) (t : ℕ) (l : Bounds) (built : Values) (fs : List (List Part)) (read : ℕ) (space : List ℕ)
     (pending : ℕ) (b : List ℕ)
-    (r : StandsAs ⊥ s t l (λ (x : Trace). Reports built x) fs read space pending Finished b) where
+    (r : RepresentsAs ⊥ s t l (λ (x : Trace). Reports built x) fs read space pending Finished b) where
   -- the root has its value
   rooted : (v : Tree) × (level_of built.work ≡ level value.nothing (v ∷ [])) × Outcome s t l b (Whole v (length b))
   rooted =
@@ -91,7 +91,7 @@ module _ (s : List KindView) (t : ℕ) (l : Bounds) (built : Values) (fs : List 
 
 -- a unit is unfinished, or none is there
 pub still_open : (s : List KindView) (t : ℕ) (l : Bounds) (H : Trace → Type 0) (fs : List (List Part)) (read : ℕ)
-    (space : List ℕ) (pending : ℕ) (a : Awaits) (b : List ℕ) → StandsAs ⊥ s t l H fs read space pending (Reading a) b
+    (space : List ℕ) (pending : ℕ) (a : Awaits) (b : List ℕ) → RepresentsAs ⊥ s t l H fs read space pending (Reading a) b
     → l.bytes % 4 ≡ 0
     → Outcome s t l b Pending × (length b ≡ read + length (take pending space)) × (read ≤ l.bytes)
 still_open s t l H fs read space pending a b r units = (
@@ -114,18 +114,18 @@ ruled_out some each = ∥∥₁_elim some (λ x y. absurd x) each
 
 -- where nothing has begun, the kind is one of the list
 fresh_known : (s : List KindView) (t : ℕ) (l : Bounds) (H : Trace → Type 0) (fs : List (List Part)) (read : ℕ)
-    (space : List ℕ) (pending : ℕ) (b : List ℕ) → StandsAs ⊥ s t l H fs read space pending Fresh b → t < length s
+    (space : List ℕ) (pending : ℕ) (b : List ℕ) → RepresentsAs ⊥ s t l H fs read space pending Fresh b → t < length s
 fresh_known s t l H fs read space pending b r = front_known s t [] r.3.reading.front
 
 pub kind_known : (spares : Type 0) (s : List KindView) (t : ℕ) (l : Bounds) (H : Trace → Type 0)
     (fs : List (List Part)) (read : ℕ) (space : List ℕ) (pending : ℕ) (state : State) → state ≡ Fresh
-    → ∥ ((b : List ℕ) × StandsAs spares s t l H fs read space pending state b) ∥₁ → t < length s
+    → ∥ ((b : List ℕ) × RepresentsAs spares s t l H fs read space pending state b) ∥₁ → t < length s
 kind_known spares s t l H fs read space pending state is given = lt_of_not-le (λ more. ruled_out given (λ g.
     omega (
       arith,
       more,
       fresh_known s t l H fs read space pending g.0
-          (subst (λ (x : State). StandsAs spares s t l H fs read space pending x g.0) is g.1),
+          (subst (λ (x : State). RepresentsAs spares s t l H fs read space pending x g.0) is g.1),
     )))
 
 -- ---- what the end answers

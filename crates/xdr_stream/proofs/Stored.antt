@@ -26,7 +26,7 @@ use Rattle.xdr_stream.specs.Frames.{stack_of}
 use Rattle.xdr_stream.specs.declared.machine.frame.Frame.{Frame}
 use Rattle.xdr_stream.specs.declared.holding.Held.{Held}
 use Rattle.xdr_stream.specs.Sees.{Built}
-use Rattle.xdr_stream.specs.Represents.{StandsAs, IsWaiting}
+use Rattle.xdr_stream.specs.Represents.{RepresentsAs, IsWaiting}
 use Rattle.xdr_stream.specs.declared.reader.State.{State}
 use Rattle.xdr_stream.specs.declared.reader.State.TheVariants.{Fresh, Reading, Finished, Failed}
 use Rattle.xdr_stream.proofs.Built.{built_whole}
@@ -46,7 +46,7 @@ pub record IsStored (most depth : ℕ) (b : List ℕ) (st : State) (pending fram
 
 -- where the value is whole it is all that is held
 pub whole_stored : (s : List KindView) (t : ℕ) (l : Bounds) (H : Trace → Type 0) (fs : List (List Part)) (read : ℕ)
-    (space : List ℕ) (pending : ℕ) (b : List ℕ) (r : StandsAs ⊥ s t l H fs read space pending Finished b)
+    (space : List ℕ) (pending : ℕ) (b : List ℕ) (r : RepresentsAs ⊥ s t l H fs read space pending Finished b)
     → (v : Tree) × Outcome s t l b (outcome.Whole v (length b)) × Fits s t v × (bytes_of s t v ≡ b)
     × (nodes_in r.2.trace.levels ≡ 1 + node_count v) × (bytes_retained r.2.trace ≡ byte_count v)
 whole_stored s t l H fs read space pending b r =
@@ -102,7 +102,7 @@ module _ (x : Lists) (well : IsWellFormed x) (sure : sound.IsSound x.kinds) (t :
   }
 
   pub stored : (spares : Type 0) (H : Trace → Type 0) (fs : List (List Part)) (read : ℕ) (space : List ℕ) (pending : ℕ)
-      (st : State) (b : List ℕ) → length space ≡ 4 → StandsAs spares x.kinds t l H fs read space pending st b
+      (st : State) (b : List ℕ) → length space ≡ 4 → RepresentsAs spares x.kinds t l H fs read space pending st b
       → (y : Trace) × H y × IsStored (length x.kinds) l.depth b st pending (length fs) y
   stored spares H fs read space pending Fresh b four r =
       let none : length b ≡ 0 = ap (λ (y : List ℕ). length y) r.0 in (
@@ -184,7 +184,7 @@ parents_few st work parents l bounds h goes =
 -- the nodes after the whole units are those of the law, where a unit is needed
 pub due_stored : (spares : Type 0) (s : List KindView) (t : ℕ) (l : Bounds) (H : Trace → Type 0)
     (fs : List (List Part)) (read : ℕ) (space : List ℕ) (pending : ℕ) (st : State) (b : List ℕ) → length space ≡ 4
-    → IsWaiting st → StandsAs spares s t l H fs read space pending st b
+    → IsWaiting st → RepresentsAs spares s t l H fs read space pending st b
     → (y : Trace) × H y × ((h : Held) → h.nodes ≡ nodes_at st (nodes_in y.levels)
     → h.pending ≡ pending_at st pending → IsDue s t b h)
 due_stored spares s t l H fs read space pending Fresh b four w r = absurd w

@@ -12,7 +12,7 @@ use crate::kind::{Kind, KindId, Member};
 use crate::limits::Limits;
 use crate::picked::part_in;
 use crate::schema::Schema;
-use crate::sizes::has_room;
+use crate::sizes::has_space;
 use crate::value::Value;
 
 /// Whether the schema has the kind, the value is one of it, and its depth and its bytes are within the limits (RFC 4506
@@ -22,7 +22,7 @@ pub fn fits(schema: &Schema, kind: KindId, value: &Value, limits: Limits) -> boo
 {
     is_within(value, limits.depth())
         && is_value(schema, kind, value)
-        && has_room(schema, kind, value, limits.bytes())
+        && has_space(schema, kind, value, limits.bytes())
 }
 
 // Whether the value is one of the schema's kind.

@@ -26,7 +26,7 @@ pub fn size(schema: &Schema, kind: KindId, value: &Value, limits: Limits) -> u32
 }
 
 /// Whether there is space for the bytes of a value of the kind.
-pub fn has_room(schema: &Schema, id: KindId, value: &Value, space: u32) -> bool
+pub fn has_space(schema: &Schema, id: KindId, value: &Value, space: u32) -> bool
     requires { fits schema.now.kinds id.place (tree value.now) ≡ true }
     ensures { IsTrue result ↔ length (bytes_of schema.now.kinds id.place (tree value.now)) ≤ space }
 {

@@ -2,7 +2,7 @@
 use Rattle.std.proofs.Common.{◌≡◌, length, true, rules}
 use Rattle.c_values.specs.Answers.{Question}
 use Rattle.c_values.specs.Statuses.{reports_value}
-use Rattle.c_values.proofs.Showing.{lines_shown, no_room}
+use Rattle.c_values.proofs.Showing.{lines_shown, no_space}
 use Rattle.c_values.proofs.show.show_into.Goals as goal
 
 pub returns-then-put : goal.returns-then-put
@@ -20,7 +20,7 @@ returns c =
     record { kinds = c.args.schema.now.kinds; place = c.args.kind.place; limits = c.args.limits } in
     let reports : reports_value c.judge-answer.result ≡ true = search rules in
     let len : c.len.result ≡ length c.in-Ok.lines.items = search rules in (
-      rw len (no_room q c.args.input.now c.in-Ok.lines.items c.in-Ok.ensures c.args.buffer.now
+      rw len (no_space q c.args.input.now c.in-Ok.lines.items c.in-Ok.ensures c.args.buffer.now
           c.judge-answer.result c.judge-answer.ensures reports
           (rw c.deref.ensures.value at c.put.ensures.small (search rules))),
       c.put.ensures.retained (search rules),

@@ -4,7 +4,7 @@ use Rattle.xdr_grammar.specs.Outline.{nothing}
 use Rattle.xdr_grammar.specs.View.{outline_of}
 use Rattle.xdr_grammar.specs.Private.Reading.{definitions_at}
 use Rattle.xdr_grammar.proofs.Loop.{fails_along}
-use Rattle.xdr_grammar.proofs.Outlining.{outline_found, outline_again, reported_fails, told_is}
+use Rattle.xdr_grammar.proofs.Outlining.{outline_found, outline_again, reported_fails, reported_is}
 use Rattle.xdr_grammar.proofs.definitions.read_outline.Goals as goal
 
 pub returns-clause-only : goal.returns-clause-only
@@ -21,7 +21,7 @@ returns-clause-only c = λ v is.
     (λ none. sym (outline_again ts v is) ∙ none) failed))
 
 pub returns-clause-refused : goal.returns-clause-refused
-returns-clause-refused c = rw c.fault_of.ensures (told_is c.in-Err.misread)
+returns-clause-refused c = rw c.fault_of.ensures (reported_is c.in-Err.misread)
 
 pub returns-in-Ok-clause-found : goal.returns-in-Ok-clause-found
 returns-in-Ok-clause-found c =

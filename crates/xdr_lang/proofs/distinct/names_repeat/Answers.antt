@@ -1,6 +1,7 @@
 use Rattle.std.specs.Prelude.{filter}
 use Rattle.std.specs.Str.{bytes_eq}
-use Rattle.std.proofs.Common.{◌≡◌, ◌<◌, ◌+◌, [], ◌∷◌, length, drop, drop-cons, add-one, get_or, refl, sym, ◌∙◌, arith}
+use Rattle.std.proofs.Common.{◌≡◌, ◌<◌, ◌+◌, [], ◌∷◌, length, drop, drop-cons, add-one, get_or, refl, sym, ap, ◌∙◌}
+use Rattle.std.proofs.Common.{arith}
 use Rattle.xdr_grammar.specs.declared.outline.Name.{Name}
 use Rattle.xdr_lang.specs.Views.{texts}
 use Rattle.xdr_constants.specs.Tables.{key_texts}

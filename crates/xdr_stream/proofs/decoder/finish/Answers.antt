@@ -2,7 +2,7 @@ use Rattle.std.proofs.Common.{subst, arith}
 use Rattle.xdr_stream.specs.Trace.{Trace}
 use Rattle.xdr_stream.specs.Frames.{stack_of}
 use Rattle.xdr_stream.specs.Values.{Reports}
-use Rattle.xdr_stream.specs.Represents.{StandsAs}
+use Rattle.xdr_stream.specs.Represents.{RepresentsAs}
 use Rattle.xdr_stream.specs.declared.reader.State.{State}
 use Rattle.xdr_stream.proofs.Finishing.{finish_failed, finish_open, still_open, root_whole, root_not_none}
 use Rattle.xdr_stream.proofs.Finishing.{ruled_out, kind_known}
@@ -12,7 +12,7 @@ pub returns-in-Failed-clause-answer : goal.returns-in-Failed-clause-answer
 returns-in-Failed-clause-answer c = λ b st.
     let r = c.args.reader in
     finish_failed r.schema.now.kinds r.kind.place r.limits c.in-Failed.fault b
-    (subst (λ (x : State). StandsAs ⊥ r.schema.now.kinds r.kind.place r.limits (λ (t : Trace). Reports r.built t)
+    (subst (λ (x : State). RepresentsAs ⊥ r.schema.now.kinds r.kind.place r.limits (λ (t : Trace). Reports r.built t)
     (stack_of r.work r.parents.items) r.read r.unit r.pending x b) c.in-Failed.is st).0
 
 pub returns-in-Some-clause-answer : goal.returns-in-Some-clause-answer
@@ -20,7 +20,7 @@ returns-in-Some-clause-answer c = λ b st.
     let r = c.args.reader in
     root_whole r.schema.now.kinds r.kind.place r.limits r.built
     (stack_of r.work r.parents.items) r.read r.unit r.pending b
-    (subst (λ (x : State). StandsAs ⊥ r.schema.now.kinds r.kind.place r.limits (λ (t : Trace). Reports r.built t)
+    (subst (λ (x : State). RepresentsAs ⊥ r.schema.now.kinds r.kind.place r.limits (λ (t : Trace). Reports r.built t)
     (stack_of r.work r.parents.items) r.read r.unit r.pending x b) c.in-Finished.is st) c.in-Some.value
     c.in-Some.ensures
 
@@ -29,7 +29,7 @@ unreachable-requires c =
     let r = c.args.reader in
     ruled_out c.requires.given (λ g. root_not_none r.schema.now.kinds r.kind.place r.limits r.built
     (stack_of r.work r.parents.items) r.read r.unit r.pending g.0
-    (subst (λ (x : State). StandsAs ⊥ r.schema.now.kinds r.kind.place r.limits (λ (t : Trace). Reports r.built t)
+    (subst (λ (x : State). RepresentsAs ⊥ r.schema.now.kinds r.kind.place r.limits (λ (t : Trace). Reports r.built t)
     (stack_of r.work r.parents.items) r.read r.unit r.pending x g.0) c.in-Finished.is g.1) c.in-None.ensures)
 
 pub finish_empty-requires : goal.finish_empty-requires
@@ -43,7 +43,7 @@ returns-in-Reading-clause-answer c = λ b st.
     let r = c.args.reader in
     let o = still_open r.schema.now.kinds r.kind.place r.limits (λ (t : Trace). Reports r.built t)
     (stack_of r.work r.parents.items) r.read r.unit r.pending c.in-Reading.field-0 b
-    (subst (λ (x : State). StandsAs ⊥ r.schema.now.kinds r.kind.place r.limits (λ (t : Trace). Reports r.built t)
+    (subst (λ (x : State). RepresentsAs ⊥ r.schema.now.kinds r.kind.place r.limits (λ (t : Trace). Reports r.built t)
     (stack_of r.work r.parents.items) r.read r.unit r.pending x b) c.in-Reading.is st)
     c.depth-in_range.ensures.range.units in
     finish_open r.schema.now.kinds r.kind.place r.limits c.truncated.result c.saturating_add-at.result b

@@ -5,7 +5,7 @@ use Rattle.xdr_stream.specs.Frames.{stack_of}
 use Rattle.xdr_stream.specs.Values.{Reports}
 use Rattle.xdr_stream.specs.Retained.{nodes_in, bytes_retained}
 use Rattle.xdr_stream.specs.Held.{frames_at, nodes_at, pending_at}
-use Rattle.xdr_stream.specs.Represents.{StandsAs}
+use Rattle.xdr_stream.specs.Represents.{RepresentsAs}
 use Rattle.xdr_stream.specs.declared.reader.State.{State}
 use Rattle.xdr_stream.proofs.Stored.{stored, frames_few, parents_few, whole_stored, due_stored}
 use Rattle.xdr_stream.proofs.holding.held_by_decoder.Goals as goal
@@ -71,7 +71,7 @@ returns-clause-whole c = λ b done st.
     c.depth-in_range.ensures.range ⊥ H fs r.read r.unit r.pending r.state b c.pending_of.ensures.space st in
     let n = w.1.nodes (omega (arith, w.2.few)) in
     let below : r.built.nodes + 1 < 2 ^ 64 = omega (arith, n, w.2.few) in
-    let at = subst (λ (x : State). StandsAs ⊥ r.schema.now.kinds r.kind.place r.limits H fs r.read r.unit r.pending x b)
+    let at = subst (λ (x : State). RepresentsAs ⊥ r.schema.now.kinds r.kind.place r.limits H fs r.read r.unit r.pending x b)
     done st in
     let v = whole_stored r.schema.now.kinds r.kind.place r.limits H fs r.read r.unit r.pending b at in
     let same : w.0 ≡ at.2.trace = sym w.1.trace ∙ at.2.reported.trace in

@@ -8,7 +8,7 @@ use Rattle.xdr_stream.specs.Frames.{left_of, onto, stack_of}
 use Rattle.xdr_stream.specs.Trace.{Trace}
 use Rattle.xdr_stream.specs.Private.Reported.{HasSpace, content_in, extend_in}
 use Rattle.xdr_stream.specs.Sees.{Sees}
-use Rattle.xdr_stream.specs.Represents.{StandsAs, RepresentsBytes}
+use Rattle.xdr_stream.specs.Represents.{RepresentsAs, RepresentsBytes}
 use Rattle.xdr_stream.specs.Private.Whole.{IsWholeAt}
 use Rattle.xdr_stream.specs.declared.machine.Awaits.TheVariants.{Next}
 use Rattle.xdr_stream.specs.declared.reader.State.{State}
@@ -32,7 +32,7 @@ returns-in-Ok-clause-represents g c = λ b state none st.
     let w = c.args.whole in
     let H : Trace → Type 0 = g.B.Build.reports a.built in
     let I : Trace → Type 0 = g.B.Build.reports c.whole.new.self in
-    let r = subst (λ (x : State). StandsAs g.B.Build.spares s a.kind.place a.limits H (stack_of a.work
+    let r = subst (λ (x : State). RepresentsAs g.B.Build.spares s a.kind.place a.limits H (stack_of a.work
     a.parents.items) a.read a.unit
     a.pending x b) state st in
     let q : List ℕ = r.0 in
@@ -73,7 +73,7 @@ returns-in-Err-clause-represents g c = λ b state none st.
     let a = c.args.self.now in
     let z : Type 0 = g.B.Build.spares in
     let H : Trace → Type 0 = g.B.Build.reports a.built in
-    let s = subst (λ (x : State). StandsAs z a.schema.now.kinds a.kind.place a.limits H
+    let s = subst (λ (x : State). RepresentsAs z a.schema.now.kinds a.kind.place a.limits H
     (stack_of a.work a.parents.items) a.read a.unit a.pending x b) state st in
     let due = c.requires in
     c.fail.ensures.represents (b ++ take c.args.whole.all c.args.bytes.now) (λ rest. tt)

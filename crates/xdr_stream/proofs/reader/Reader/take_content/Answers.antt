@@ -6,7 +6,7 @@ use Rattle.std.proofs.Math.Seq.{take-add}
 use Rattle.xdr_types.specs.Fits.{are_bytes}
 use Rattle.xdr_stream.specs.Frames.{stack_of, onto, left_of}
 use Rattle.xdr_stream.specs.Sees.{Sees}
-use Rattle.xdr_stream.specs.Represents.{StandsAs, RepresentsBytes}
+use Rattle.xdr_stream.specs.Represents.{RepresentsAs, RepresentsBytes}
 use Rattle.xdr_stream.specs.declared.machine.Awaits.TheVariants.{Content}
 use Rattle.xdr_stream.specs.declared.reader.State.{State}
 use Rattle.xdr_stream.proofs.Units.{many_units, bytes_taken}
@@ -17,7 +17,7 @@ use Rattle.xdr_stream.proofs.reader.Reader.take_content.Goals as goal
 pub returns-in-Ok-clause-represents : goal.returns-in-Ok-clause-represents
 returns-in-Ok-clause-represents g c = λ b left sum state none space st.
     let a = c.args.self.now in
-    let s = subst (λ (x : State). StandsAs g.B.Build.spares a.schema.now.kinds a.kind.place a.limits (g.B.Build.reports
+    let s = subst (λ (x : State). RepresentsAs g.B.Build.spares a.schema.now.kinds a.kind.place a.limits (g.B.Build.reports
     a.built)
     (stack_of a.work a.parents.items) a.read a.unit a.pending x b) state st in
     let m : ℕ = c.args.n - 4 in
@@ -62,7 +62,7 @@ returns-in-Err-clause-represents g c = λ b left sum state none space st.
     let a = c.args.self.now in
     let z : Type 0 = g.B.Build.spares in
     let H : Trace → Type 0 = g.B.Build.reports a.built in
-    let s = subst (λ (x : State). StandsAs z a.schema.now.kinds a.kind.place a.limits H
+    let s = subst (λ (x : State). RepresentsAs z a.schema.now.kinds a.kind.place a.limits H
     (stack_of a.work a.parents.items) a.read a.unit a.pending x b) state st in
     c.fail.ensures.represents (b ++ take c.args.n c.args.bytes.now) (λ rest. tt)
     (omega (

@@ -9,7 +9,7 @@ use Rattle.xdr_stream.specs.Trace.{Trace}
 use Rattle.xdr_stream.specs.Private.Reported.{HasSpace, content_in, extend_in}
 use Rattle.xdr_stream.specs.Sees.{Sees, IsReady}
 use Rattle.xdr_stream.specs.Private.Sound.{Starts}
-use Rattle.xdr_stream.specs.Represents.{StandsAs}
+use Rattle.xdr_stream.specs.Represents.{RepresentsAs}
 use Rattle.xdr_stream.specs.Private.Whole.{IsWholeAt}
 use Rattle.xdr_stream.specs.declared.machine.Awaits.TheVariants.{Next}
 use Rattle.xdr_stream.specs.declared.reader.State.{State}
@@ -34,7 +34,7 @@ returns-in-Ok-clause-represents g c = λ b state none st.
     let w = c.args.whole in
     let H : Trace → Type 0 = g.B.Build.reports a.built in
     let I : Trace → Type 0 = g.B.Build.reports c.whole.new.self in
-    let r = subst (λ (x : State). StandsAs g.B.Build.spares s a.kind.place a.limits H (stack_of a.work
+    let r = subst (λ (x : State). RepresentsAs g.B.Build.spares s a.kind.place a.limits H (stack_of a.work
     a.parents.items) a.read a.unit
     a.pending x b) state st in
     let q : List ℕ = r.0 in
@@ -71,7 +71,7 @@ returns-in-Ok-clause-represents g c = λ b state none st.
     let joined : b ++ u ≡ (q ++ u) ++ take a.pending a.unit =
     ap (λ (x : List ℕ). x ++ u) (r.1 ∙ ap (λ (k : ℕ). q ++ take k a.unit) none ∙ append-nil q)
     ∙ sym (ap (λ (k : ℕ). (q ++ u) ++ take k a.unit) none ∙ append-nil (q ++ u)) in
-    subst (λ (x : State). StandsAs g.B.Build.spares s a.kind.place a.limits I (stack_of c.after-self.result
+    subst (λ (x : State). RepresentsAs g.B.Build.spares s a.kind.place a.limits I (stack_of c.after-self.result
     a.parents.items)
     c.saturating_add-self.result a.unit a.pending x (b ++ u)) (sym state)
     (q ++ u, joined, far, r.3, seen, ready, λ is. omega (arith, is, length-append q u, size, e.space))
@@ -81,7 +81,7 @@ returns-in-Err-clause-represents g c = λ b state none st.
     let a = c.args.self.now in
     let z : Type 0 = g.B.Build.spares in
     let H : Trace → Type 0 = g.B.Build.reports a.built in
-    let s = subst (λ (x : State). StandsAs z a.schema.now.kinds a.kind.place a.limits H
+    let s = subst (λ (x : State). RepresentsAs z a.schema.now.kinds a.kind.place a.limits H
     (stack_of a.work a.parents.items) a.read a.unit a.pending x b) state st in
     let begins = c.requires.due.1 in
     let rest : List Part = rest_of (left_of a.work) in

@@ -8,7 +8,7 @@ use Rattle.xdr_stream.specs.Frames.{left_of, onto, stack_of}
 use Rattle.xdr_stream.specs.Private.Reported.{TakesMany}
 use Rattle.xdr_stream.specs.Sees.{Sees}
 use Rattle.xdr_stream.specs.Private.Sound.{IsSoundAt}
-use Rattle.xdr_stream.specs.Represents.{StandsAs}
+use Rattle.xdr_stream.specs.Represents.{RepresentsAs}
 use Rattle.xdr_stream.specs.declared.machine.frame.Frame.{Frame}
 use Rattle.xdr_stream.specs.declared.machine.Awaits.TheVariants.{Wide}
 use Rattle.xdr_stream.specs.declared.reader.State.{State}
@@ -35,7 +35,7 @@ pub returns-in-Ok-clause-represents : goal.returns-in-Ok-clause-represents
 returns-in-Ok-clause-represents g c = λ b state none space st.
     let a = c.args.self.now in
     let due = c.requires.due in
-    let s = subst (λ (x : State). StandsAs g.B.Build.spares a.schema.now.kinds a.kind.place a.limits (g.B.Build.reports
+    let s = subst (λ (x : State). RepresentsAs g.B.Build.spares a.schema.now.kinds a.kind.place a.limits (g.B.Build.reports
     a.built)
     (stack_of a.work a.parents.items) a.read a.unit a.pending x b) state st in
     let u : List ℕ = take c.args.n c.args.bytes.now in
@@ -82,7 +82,7 @@ returns-in-Err-clause-represents g c = λ b state none space st.
     let a = c.args.self.now in
     let z : Type 0 = g.B.Build.spares in
     let H : Trace → Type 0 = g.B.Build.reports a.built in
-    let s = subst (λ (x : State). StandsAs z a.schema.now.kinds a.kind.place a.limits H
+    let s = subst (λ (x : State). RepresentsAs z a.schema.now.kinds a.kind.place a.limits H
     (stack_of a.work a.parents.items) a.read a.unit a.pending x b) state st in
     let due = c.requires.due in
     let some : 1 ≤ length (left_of a.work) = subst (λ (w : Frame). 1 ≤ length (left_of w)) (sym due.node)

@@ -14,7 +14,7 @@ use Rattle.xdr_stream.proofs.Built.{With, seen_many}
 use Rattle.xdr_stream.specs.declared.machine.frame.Frame.TheVariants.{Items}
 use Rattle.xdr_stream.specs.Sees.{Sees, IsReady}
 use Rattle.xdr_stream.specs.Private.Sound.{IsSoundAt}
-use Rattle.xdr_stream.specs.Represents.{StandsAs, RepresentsBytes}
+use Rattle.xdr_stream.specs.Represents.{RepresentsAs, RepresentsBytes}
 use Rattle.xdr_stream.specs.declared.machine.frame.Frame.{Frame}
 use Rattle.xdr_stream.specs.declared.machine.Awaits.TheVariants.{Next}
 use Rattle.xdr_stream.specs.declared.reader.State.{State}
@@ -44,7 +44,7 @@ pub returns-in-Ok-clause-represents : goal.returns-in-Ok-clause-represents
 returns-in-Ok-clause-represents g c = λ b state none space st.
     let a = c.args.self.now in
     let due = c.requires.due in
-    let s = subst (λ (x : State). StandsAs g.B.Build.spares a.schema.now.kinds a.kind.place a.limits (g.B.Build.reports
+    let s = subst (λ (x : State). RepresentsAs g.B.Build.spares a.schema.now.kinds a.kind.place a.limits (g.B.Build.reports
     a.built)
     (stack_of a.work a.parents.items) a.read a.unit a.pending x b) state st in
     let m : ℕ = c.args.n - 4 in
@@ -104,7 +104,7 @@ returns-in-Err-clause-represents g c = λ b state none space st.
     let a = c.args.self.now in
     let z : Type 0 = g.B.Build.spares in
     let H : Trace → Type 0 = g.B.Build.reports a.built in
-    let s = subst (λ (x : State). StandsAs z a.schema.now.kinds a.kind.place a.limits H
+    let s = subst (λ (x : State). RepresentsAs z a.schema.now.kinds a.kind.place a.limits H
     (stack_of a.work a.parents.items) a.read a.unit a.pending x b) state st in
     let due = c.requires.due in
     let two : 2 ≤ length (left_of a.work) = subst (λ (w : Frame). 2 ≤ length (left_of w)) (sym due.node)
