@@ -4,11 +4,12 @@ use Rattle.std.proofs.Common.{drop, refl, ap, sym, ◌∙◌, subst, arith, Opti
 use Rattle.std.proofs.Math.Seq.{take-append_seam}
 use Rattle.xdr_units.specs.Numbers.{AreBytes}
 use Rattle.rpc_message.specs.Cases.{IsCase, NoTwoCases}
+use Rattle.rpc_message.specs.Heads.{accepted}
 use Rattle.rpc_message.specs.Message.{OtherVersion, ReplyView, Denied, RpcMismatch, SystemErr}
 use Rattle.rpc_message.specs.Spelling.{reply}
 use Rattle.registry_rows.specs.Rows.{Row}
 use Rattle.registry_rows.specs.Ports.{tcp, own_rows}
-use Rattle.registry_answer.specs.Answer.{Answer as Answered, Sends, accepted}
+use Rattle.registry_answer.specs.Answer.{Answer as Answered, Sends}
 use Rattle.registry_answer.proofs.Cases.{Decided, sends_is, decided_by}
 use Rattle.c_registry.specs.declared.answer.Answer.{Answer}
 use Rattle.c_registry.specs.declared.answer.Answer.TheVariants as answer

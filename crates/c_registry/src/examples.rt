@@ -1,8 +1,8 @@
 //! What the exports' contracts force on telling inputs, each proved from the contracts alone.
 ghost use Rattle.std.specs.Prelude.{◌≡◌, ◌<◌, ◌≤◌, ◌⊎◌, [], ◌∷◌, length, take, Some, None, option_map};
+ghost use Rattle.rpc_message.specs.Heads.{accepted};
 ghost use Rattle.rpc_message.specs.Message.{Denied, RpcMismatch, SystemErr};
 ghost use Rattle.rpc_message.specs.Spelling.{reply};
-ghost use Rattle.registry_answer.specs.Answer.{accepted};
 ghost use Rattle.registry_rows.specs.Ports.{own_rows};
 ghost use Rattle.c_registry.specs.Held.{held_of};
 ghost use Rattle.c_answers.specs.Outcomes.{only_at};

@@ -10,7 +10,8 @@ use super::handle::Registry;
 use super::state::State;
 use c_answers::Outcome;
 use c_handles::{keep, taken};
-use registry_answer::{Answered, system_error};
+use registry_answer::Answered;
+use rpc_message::system_error;
 use std::alloc::Global;
 
 /// Puts the reply that waits into the buffer. It waits on where it does not go into it.

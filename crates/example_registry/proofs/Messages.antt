@@ -8,6 +8,7 @@ use Rattle.std.proofs.lemmas.Bool.Decides.{Decides-ltb}
 use Rattle.std.proofs.lemmas.List.{take_at}
 use Rattle.xdr_units.specs.Numbers.{AreBytes, IsWord}
 use Rattle.xdr_types.specs.Fits.{are_bytes}
+use Rattle.rpc_message.specs.Heads.{accepted}
 use Rattle.rpc_message.specs.Message.{CallView, CaseView, Whole, OtherVersion, BadCred, StatusView, Success}
 use Rattle.rpc_message.specs.Message.{ProgUnavail, ProgMismatch, ReplyView, Denied, RpcMismatch}
 use Rattle.rpc_message.specs.Spelling.{auth, call as call_bytes, reply, IsStatus, CallBytes, ReplyBytes}
@@ -23,7 +24,7 @@ use Rattle.registry_answer.specs.Views.{is_refused, sent_of}
 use Rattle.registry_answer.specs.Answering.{AppendsAnswer}
 use Rattle.registry_answer.specs.Callers.{unknown, anyone, other}
 use Rattle.registry_answer.specs.Procedures.{null, void}
-use Rattle.registry_answer.specs.Answer.{ComesTo, no_program, no_version, success, accepted, auth_error, most_datagram}
+use Rattle.registry_answer.specs.Answer.{ComesTo, no_program, no_version, success, auth_error, most_datagram}
 use Rattle.registry_answer.specs.Answer.{is_too_long, denies, accepts, Answers, other_version, bad_cred, call, Answer}
 use Rattle.registry_answer.specs.Answer.{argument_limits}
 use Rattle.registry_answer.specs.Laws.{OneAnswer}

@@ -2,17 +2,18 @@
 use Rattle.std.proofs.Common.{◌≡◌, ℕ, ◌+◌, ◌≤◌, ◌<◌, ◌^◌, Bool, true, false, List, ◌++◌, length, Option, Some, None}
 use Rattle.std.proofs.Common.{refl, ap, sym, subst, arith, Result, Ok, Err, OnOk, OnErr}
 use Rattle.std.proofs.lemmas.List.{length-append}
+use Rattle.rpc_message.specs.Heads.{accepted}
 use Rattle.rpc_message.specs.Message.{CallView, CaseView, NotACall, SystemErr, ReplyView}
 use Rattle.xdr_units.specs.Numbers.{IsWord}
 use Rattle.rpc_message.specs.Spelling.{reply, IsReply}
 use Rattle.rpc_message.specs.Cases.{IsCase}
 use Rattle.registry_rows.specs.Rows.{Row}
-use Rattle.registry_answer.specs.Callers.{Owner, Refused, IsCaller}
-use Rattle.registry_answer.specs.Answer.{denies, accepts, too_long, is_too_long, accepted, auth_error, Answers, silence}
+use Rattle.registry_answer.specs.Callers.{Owner, Refused, IsCaller, unreadable, other}
+use Rattle.registry_answer.specs.Answer.{denies, accepts, too_long, is_too_long, auth_error, Answers, silence}
 use Rattle.registry_answer.specs.Answer.{no_memory, xid_in, Answer}
 use Rattle.registry_answer.specs.Answering.{PushesAnswer, Adds, appended_of, most}
 use Rattle.registry_answer.specs.declared.answering.Appended.{Appended}
-use Rattle.registry_answer.specs.Private.Pushes.{PushesStatus, PushesCall, head}
+use Rattle.registry_answer.specs.Private.Pushes.{PushesStatus, PushesCall}
 
 -- a caller who is believed, and a reply that can be sent
 pub pushes_accepted : (rows : List Row) (netid owner : List ℕ) (c : CallView) (old out : List ℕ) (new : List Row)
@@ -29,28 +30,32 @@ pushes_accepted rows netid owner c old out new word is k space = record {
 -- and one that has no space
 pub pushes_too_long : (rows : List Row) (netid owner : List ℕ) (c : CallView) (old mid out : List ℕ) (new : List Row)
     → IsWord c.xid → IsCaller c.cred (Owner owner) → (k : PushesStatus rows netid owner c old new mid)
-    → is_too_long netid (length (reply (accepted c.xid k.status))) ≡ true → new ≡ rows → out ≡ old ++ head c.xid 5
-    → PushesCall rows netid c old new out
+    → is_too_long netid (length (reply (accepted c.xid k.status))) ≡ true → new ≡ rows
+    → out ≡ old ++ reply (accepted c.xid SystemErr) → PushesCall rows netid c old new out
 pushes_too_long rows netid owner c old mid out new word is k long same e = subst
     (λ (x : List Row). PushesCall rows netid c old x out) (sym same) (record {
       said = accepted c.xid SystemErr;
       answers = too_long owner new k.status is k.comes long;
       fits = (word, record { flavor = omega arith; short = omega arith }, tt);
       added = e;
-      short = omega (arith, ap length e, length-append old (head c.xid 5));
+      short = omega (arith, ap length e, length-append old (reply (accepted c.xid SystemErr)));
     })
 
 -- a caller who is not
 pub pushes_auth_error : (rows : List Row) (netid : List ℕ) (c : CallView) (old out : List ℕ) (stat : ℕ) → IsWord c.xid
-    → stat < 2 ^ 32 → IsCaller c.cred (Refused stat) → out ≡ old ++ reply (auth_error c.xid stat)
+    → IsCaller c.cred (Refused stat) → out ≡ old ++ reply (auth_error c.xid stat)
     → PushesCall rows netid c old rows out
-pushes_auth_error rows netid c old out stat word small is e = record {
+pushes_auth_error rows netid c old out stat word is e = record {
   said = auth_error c.xid stat;
   answers = denies stat is;
-  fits = (word, small);
+  fits = (word, small stat is);
   added = e;
   short = omega (arith, ap length e, length-append old (reply (auth_error c.xid stat)));
 }
+  where
+    small : (stat : ℕ) → IsCaller c.cred (Refused stat) → stat < 2 ^ 32
+    small stat (unreadable e n) = omega arith
+    small stat (other lt) = omega arith
 
 module _ (rows : List Row) (netid message : List ℕ) where
   -- the answer to a message of a case

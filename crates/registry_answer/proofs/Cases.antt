@@ -2,12 +2,13 @@
 use Rattle.std.proofs.Common.{◌≡◌, ℕ, Bool, true, false, List, Option, Some, None, option_map, refl, ap, sym, ◌∙◌}
 use Rattle.std.proofs.Common.{subst}
 use Rattle.xdr_units.specs.Numbers.{AreBytes}
+use Rattle.rpc_message.specs.Heads.{accepted}
 use Rattle.rpc_message.specs.Message.{CaseView, Whole, OtherVersion, BadCred, BadVerf, NotACall, SystemErr, RpcMismatch}
 use Rattle.rpc_message.specs.Message.{ReplyView, Denied}
 use Rattle.rpc_message.specs.Spelling.{reply}
 use Rattle.rpc_message.specs.Cases.{IsCase, IsNoCall, NoTwoCases}
 use Rattle.registry_rows.specs.Rows.{Row}
-use Rattle.registry_answer.specs.Answer.{accepted, auth_error, AnswersCall, xid_in, Answers, silence, other_version}
+use Rattle.registry_answer.specs.Answer.{auth_error, AnswersCall, xid_in, Answers, silence, other_version}
 use Rattle.registry_answer.specs.Answer.{bad_cred, bad_verf, call, no_memory, Sends, Answer}
 
 -- what is sent is the bytes of what is said

@@ -7,6 +7,7 @@ use Rattle.xdr_types.specs.Spelling.{bytes_of}
 use Rattle.xdr_types.specs.Outcome as decoding
 use Rattle.xdr_types.specs.Outcome.{Ending}
 use Rattle.xdr_laws.specs.Laws.{OneOutcome}
+use Rattle.rpc_message.specs.Heads.{accepted}
 use Rattle.rpc_message.specs.Message.{AuthView, AuthSysView, CallView, CaseView, Whole, OtherVersion, BadCred, BadVerf}
 use Rattle.rpc_message.specs.Message.{NotACall, StatusView, Success, ReplyView}
 use Rattle.rpc_message.specs.Spelling.{AuthSysBytes, reply}
@@ -17,7 +18,7 @@ use Rattle.registry_answer.specs.Callers.{Caller, Owner, Refused, owner_of, IsCa
 use Rattle.registry_answer.specs.Procedures.{Procedure}
 use Rattle.registry_answer.specs.Answer.{argument_limits, AreArguments, IsVersion, IsCallOf, ComesTo}
 use Rattle.registry_answer.specs.Answer.{no_program, no_version}
-use Rattle.registry_answer.specs.Answer.{no_procedure, garbage, success, accepted, auth_error, AnswersCall}
+use Rattle.registry_answer.specs.Answer.{no_procedure, garbage, success, auth_error, AnswersCall}
 use Rattle.registry_answer.specs.Answer.{denies, accepts, too_long, is_too_long}
 use Rattle.registry_answer.specs.Answer.{Answers}
 use Rattle.registry_answer.specs.Laws.{OneAnswer}
@@ -168,13 +169,16 @@ module _ (cases : NoTwoCases)
     both_are x a b e f = e ∙ sym f
 
     agree : (k : CaseView) (refused : Bool) (new also : List Row) (said reported : Option ReplyView)
-        → Decided rows netid k refused new said → Decided rows netid k refused also reported → (new ≡ also) × (said ≡ reported)
+        → Decided rows netid k refused new said → Decided rows netid k refused also reported
+        → (new ≡ also) × (said ≡ reported)
     agree k true new also said reported x y = (both_are _ new also x.0 y.0, both_are _ said reported x.1 y.1)
     agree NotACall false new also said reported x y = (both_are _ new also x.0 y.0, both_are _ said reported x.1 y.1)
     agree (OtherVersion xid version) false new also said reported x y =
         (both_are _ new also x.0 y.0, both_are _ said reported x.1 y.1)
-    agree (BadCred xid) false new also said reported x y = (both_are _ new also x.0 y.0, both_are _ said reported x.1 y.1)
-    agree (BadVerf xid) false new also said reported x y = (both_are _ new also x.0 y.0, both_are _ said reported x.1 y.1)
+    agree (BadCred xid) false new also said reported x y =
+        (both_are _ new also x.0 y.0, both_are _ said reported x.1 y.1)
+    agree (BadVerf xid) false new also said reported x y =
+        (both_are _ new also x.0 y.0, both_are _ said reported x.1 y.1)
     agree (Whole c) false new also said reported x y =
         let h = one_reply rows netid c x.1.0 y.1.0 in
         (h.0, x.1.1 ∙ ap Some h.1 ∙ sym y.1.1)

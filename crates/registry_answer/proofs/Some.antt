@@ -4,6 +4,7 @@ use Rattle.std.proofs.Common.{Option, Some, None, length}
 use Rattle.std.proofs.Common.{refl, arith}
 use Rattle.std.proofs.lemmas.Bool.{cases_eq, cases_lt}
 use Rattle.xdr_units.specs.Numbers.{AreBytes, IsWord}
+use Rattle.rpc_message.specs.Heads.{accepted}
 use Rattle.rpc_message.specs.Message.{CallView, CaseView, Whole, OtherVersion, BadCred, BadVerf, NotACall, StatusView}
 use Rattle.rpc_message.specs.Message.{ReplyView, Success, ProgUnavail, ProgMismatch, ProcUnavail, GarbageArgs}
 use Rattle.rpc_message.specs.Message.{SystemErr}
@@ -15,7 +16,7 @@ use Rattle.registry_answer.specs.Callers.{Caller, Owner, Refused, owner_of, IsCa
 use Rattle.registry_answer.specs.Callers.{other, unknown}
 use Rattle.registry_answer.specs.Procedures.{Procedure, procedure_at}
 use Rattle.registry_answer.specs.Answer.{IsVersion, IsCallOf, ComesTo, no_program, no_version, no_procedure}
-use Rattle.registry_answer.specs.Answer.{garbage, success, accepted, auth_error, is_too_long}
+use Rattle.registry_answer.specs.Answer.{garbage, success, auth_error, is_too_long}
 use Rattle.registry_answer.specs.Answer.{AnswersCall, denies, accepts}
 use Rattle.registry_answer.specs.Answer.{too_long, Answers, silence, other_version, bad_cred, bad_verf, call, Answer}
 use Rattle.registry_answer.specs.Laws.{SomeAnswer}

@@ -9,17 +9,18 @@ use Rattle.std.specs.List.{AllByRecursion}
 use Rattle.std.proofs.lemmas.List.{length-append}
 use Rattle.xdr_types.specs.Tree.{Tree}
 use Rattle.xdr_types.specs.Spelling.{bytes_of}
-use Rattle.rpc_message.specs.Message.{CallView, StatusView, Success}
+use Rattle.rpc_message.specs.Heads.{accepted, accepted_head}
+use Rattle.rpc_message.specs.Message.{CallView, StatusView, Success, SystemErr}
 use Rattle.rpc_message.specs.Spelling.{reply}
 use Rattle.xdr_units.specs.Numbers.{IsWord}
 use Rattle.registry_rows.specs.Rows.{Row}
 use Rattle.registry_rows.specs.Ports.{udp}
 use Rattle.registry_dumps.specs.Dir.{dir_kinds}
 use Rattle.registry_answer.specs.Procedures.{Procedure, procedures_2, procedures_3, getversaddr_4, procedure_at}
-use Rattle.registry_answer.specs.Answer.{ComesTo, no_program, no_version, no_procedure, garbage, success, accepted}
+use Rattle.registry_answer.specs.Answer.{ComesTo, no_program, no_version, no_procedure, garbage, success}
 use Rattle.registry_answer.specs.Answer.{is_too_long}
 use Rattle.registry_answer.specs.Callers.{Owner, IsCaller}
-use Rattle.registry_answer.specs.Private.Pushes.{head, PushesStatus, PushesCall}
+use Rattle.registry_answer.specs.Private.Pushes.{PushesStatus, PushesCall}
 use Rattle.registry_answer.proofs.Calls.{pushes_too_long}
 
 -- the procedure leaves the rows, or its results are one unit
@@ -75,7 +76,8 @@ long_leaves rows netid owner c (no_procedure e v n) long = absurd (omega (arith,
 long_leaves rows netid owner c (garbage p is g) long = absurd (omega (arith, long))
 long_leaves rows netid owner c (success p t is are) long =
     let results = bytes_of dir_kinds p.gives (p.step rows netid owner t).1 in
-    let count : length (head c.xid 0 ++ results) ≡ 24 + length results = length-append (head c.xid 0) results in
+    let count : length (accepted_head c.xid 0 ++ results) ≡ 24 + length results =
+    length-append (accepted_head c.xid 0) results in
     let same : (p.step rows netid owner t).0 ≡ rows =
     elim (each c.vers c.proc p is.procedure_is rows netid owner t) [
       | inl e ↦ e
@@ -88,8 +90,8 @@ not_not true t e u f = sym (ap not (sym f ∙ e))
 not_not false t e u f = sym (ap not (sym f ∙ e))
 
 -- what is known of a reply by its count of bytes
-pub space_of : (netid old mid said : List ℕ) (n m : ℕ) (b t : Bool) → mid ≡ old ++ said → n ≡ length mid → m ≡ length old
-    → b ≡ not (is_too_long netid (n - m)) → b ≡ t → is_too_long netid (length said) ≡ not t
+pub space_of : (netid old mid said : List ℕ) (n m : ℕ) (b t : Bool) → mid ≡ old ++ said → n ≡ length mid
+    → m ≡ length old → b ≡ not (is_too_long netid (n - m)) → b ≡ t → is_too_long netid (length said) ≡ not t
 space_of netid old mid said n m b t added len before e f =
     let joined : length (old ++ said) ≡ length old + length said = length-append old said in
     let count : n - m ≡ length said = omega (arith, ap length added, joined, len, before) in
@@ -114,8 +116,8 @@ module _ (rows : List Row) (netid owner : List ℕ) (c : CallView) (old mid : Li
 
     -- The reply is cut to SYSTEM_ERR.
     module _ (out : List ℕ) (cut : (old results : List ℕ) (xid : ℕ) → length old ≡ m
-        → mid ≡ old ++ (head xid 0 ++ results) → out ≡ old ++ head xid 5) where
-      pub cut_behind : out ≡ old ++ head c.xid 5
+        → mid ≡ old ++ (accepted_head xid 0 ++ results) → out ≡ old ++ reply (accepted xid SystemErr)) where
+      pub cut_behind : out ≡ old ++ reply (accepted c.xid SystemErr)
       cut_behind = cut old leaves.1.0 c.xid (sym before)
           (k.added ∙ ap (λ (s : StatusView). old ++ reply (accepted c.xid s)) leaves.1.1)
 

@@ -1,5 +1,5 @@
 -- What the registry answers to a record (RFC 5531 section 9, RFC 1833 sections 2 and 3).
-use Rattle.std.specs.Prelude.{◌≡◌, ◌≢◌, ◌⊎◌, ℕ, ◌<◌, ◌≤◌, ◌^◌, nat_lt, Bool, true, false, ◌&&◌, List, [], length}
+use Rattle.std.specs.Prelude.{◌≡◌, ◌≢◌, ◌⊎◌, ℕ, ◌<◌, ◌≤◌, ◌^◌, nat_lt, Bool, true, false, ◌&&◌, List, length}
 use Rattle.std.specs.Prelude.{Option, Some, None, ⊤}
 use Rattle.std.specs.Str.{bytes_eq}
 use Rattle.xdr_types.specs.Tree.{Tree}
@@ -9,14 +9,16 @@ use Rattle.xdr_types.specs.Outcome as decoding
 use Rattle.xdr_types.specs.Outcome.{Outcome}
 use Rattle.rpc_message.specs.Message.{CallView, CaseView, Whole, OtherVersion, BadCred, BadVerf, NotACall, StatusView}
 use Rattle.rpc_message.specs.Message.{Success, ProgUnavail, ProgMismatch, ProcUnavail, GarbageArgs, SystemErr}
-use Rattle.rpc_message.specs.Message.{RpcMismatch, AuthError, ReplyView, Accepted, Denied}
+use Rattle.rpc_message.specs.Message.{RpcMismatch, AuthError, ReplyView, Denied}
+use Rattle.rpc_message.specs.Constants.{rpc_version, auth_badcred, auth_badverf}
+use Rattle.rpc_message.specs.Heads.{accepted}
 use Rattle.rpc_message.specs.Cases.{IsCase}
 use Rattle.rpc_message.specs.Spelling.{ReplyBytes, reply}
 use Rattle.registry_rows.specs.Rows.{Row}
 use Rattle.registry_rows.specs.Ports.{udp}
 use Rattle.registry_rows.specs.Program.{program, lowest_version, highest_version}
 use Rattle.registry_dumps.specs.Dir.{dir_kinds}
-use Rattle.registry_answer.specs.Callers.{Owner, Refused, IsCaller, auth_badcred, auth_badverf}
+use Rattle.registry_answer.specs.Callers.{Owner, Refused, IsCaller}
 use Rattle.registry_answer.specs.Procedures.{Procedure, procedure_at}
 
 -- ---- arguments
@@ -64,10 +66,6 @@ pub data ComesTo (rows : List Row) (netid owner : List ℕ) (c : CallView) : Lis
 
 -- ---- replies
 
--- an accepted reply, whose verifier is AUTH_NONE with an empty body (RFC 5531 section 9)
-abbrev pub accepted : ℕ → StatusView → ReplyView
-accepted xid status = Accepted xid (record { flavor = 0; body = [] }) status
-
 -- a denied reply with an auth_stat (RFC 5531 section 9)
 abbrev pub auth_error : ℕ → ℕ → ReplyView
 auth_error xid stat = Denied xid (AuthError stat)
@@ -106,7 +104,8 @@ pub data Answers (rows : List Row) (netid : List ℕ) : CaseView → (refused : 
   silence : (refused : Bool) → Answers rows netid NotACall refused rows None
   -- a version of RPC other than 2: RPC_MISMATCH
   other_version : (xid version : ℕ)
-      → Answers rows netid (OtherVersion xid version) false rows (Some (Denied xid (RpcMismatch 2 2)))
+      → Answers rows netid (OtherVersion xid version) false rows
+      (Some (Denied xid (RpcMismatch rpc_version rpc_version)))
   -- no credential: AUTH_BADCRED
   bad_cred : (xid : ℕ) → Answers rows netid (BadCred xid) false rows (Some (auth_error xid auth_badcred))
   -- no verifier: AUTH_BADVERF

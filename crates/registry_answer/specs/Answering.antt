@@ -1,9 +1,10 @@
 -- What writing an answer does.
 use Rattle.std.specs.Prelude.{◌≡◌, ℕ, ◌+◌, ◌^◌, ◌≤◌, true, false, List, ◌++◌, length, Some, None, Result, Ok, Err}
+use Rattle.rpc_message.specs.Heads.{accepted}
 use Rattle.rpc_message.specs.Message.{SystemErr}
 use Rattle.rpc_message.specs.Spelling.{reply}
 use Rattle.registry_rows.specs.Rows.{Row}
-use Rattle.registry_answer.specs.Answer.{Answer, accepted}
+use Rattle.registry_answer.specs.Answer.{Answer}
 use Rattle.registry_answer.specs.declared.answering.Appended.{Appended}
 use Rattle.registry_answer.specs.declared.answering.Appended.TheVariants as appended
 

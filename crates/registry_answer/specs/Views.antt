@@ -1,9 +1,9 @@
 -- What the code's own types stand for.
 use Rattle.std.specs.Prelude.{ℕ, List, Bool, true, false, Option, Some, None}
+use Rattle.rpc_message.specs.Heads.{accepted}
 use Rattle.rpc_message.specs.Message.{SystemErr}
 use Rattle.rpc_message.specs.Spelling.{reply}
 use Rattle.registry_rows.specs.Ports.{tcp, udp}
-use Rattle.registry_answer.specs.Answer.{accepted}
 use Rattle.registry_answer.specs.declared.transport.Transport.{Transport}
 use Rattle.registry_answer.specs.declared.transport.Transport.TheVariants as transport
 use Rattle.registry_answer.specs.declared.answering.Answered.{Answered}

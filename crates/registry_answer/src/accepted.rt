@@ -1,11 +1,12 @@
 //! The order of the checks of a call that is accepted.
 ghost use Rattle.std.specs.Prelude.{◌≡◌, ◌++◌, ◌&&◌, nat_le, OnOk, OnErr};
 ghost use Rattle.std.specs.Io.{StartsWith};
+ghost use Rattle.rpc_message.specs.Heads.{accepted};
 ghost use Rattle.rpc_message.specs.Message.{ProgMismatch};
 ghost use Rattle.rpc_message.specs.Spelling.{reply};
 ghost use Rattle.rpc_message.specs.View.{lent_call_view};
 ghost use Rattle.registry_rows.specs.Program.{lowest_version, highest_version};
-ghost use Rattle.registry_answer.specs.Answer.{accepted, IsCallOf};
+ghost use Rattle.registry_answer.specs.Answer.{IsCallOf};
 ghost use Rattle.registry_answer.specs.Private.Pushes.{Accepts};
 ghost use Rattle.registry_answer.specs.Private.Table.{procedure_of, of_mapping, of_rpcb};
 
@@ -16,12 +17,13 @@ use crate::procedures::{
     push_address, push_port, push_set, push_set_port, push_unset, push_unset_port,
     push_version_address,
 };
-use crate::replies::{GARBAGE_ARGS, PROC_UNAVAIL, PROG_MISMATCH, PROG_UNAVAIL, SUCCESS, push_head};
 use crate::table::{OnMapping, OnRpcb, Procedure, procedure_at};
 use crate::transport::Transport;
 use registry_rows::{HIGHEST_VERSION, LOWEST_VERSION, PROGRAM};
 use rpc_directory::Directory;
-use rpc_message::LentCall;
+use rpc_message::{
+    GARBAGE_ARGS, LentCall, PROC_UNAVAIL, PROG_MISMATCH, PROG_UNAVAIL, SUCCESS, append_head,
+};
 use std::alloc::Global;
 use std::hash::BuildHasher;
 use xdr_laws::whole_exactly;
@@ -40,7 +42,7 @@ pub struct Asked<'a> {
 
 /// Writes the reply to a call of a caller who is believed: program, version, procedure and arguments are looked at in
 /// this order (RFC 5531 section 9). Where memory is refused the rows are as they were.
-#[tactic(auto, using(crate::proofs::Chains::begins_then))]
+#[tactic(auto, using(crate::proofs::Chains::begins_then, crate::proofs::Chains::begins_added))]
 pub fn push_accepted<S: BuildHasher>(
     alloc: Global,
     directory: &mut Directory<S>,
@@ -52,14 +54,14 @@ pub fn push_accepted<S: BuildHasher>(
     ensures begins { StartsWith out.new.items out.old.items }
 {
     if asked.call.prog != PROGRAM {
-        return push_head(out, asked.call.xid, PROG_UNAVAIL);
+        return append_head(out, asked.call.xid, PROG_UNAVAIL);
     }
     if !is_version(asked.call.vers) {
         return push_prog_mismatch(out, asked.call.xid);
     }
     match procedure_at(asked.call.vers, asked.call.proc) {
         Some(procedure) => push_procedure(alloc, directory, asked, procedure, out),
-        None => push_head(out, asked.call.xid, PROC_UNAVAIL),
+        None => append_head(out, asked.call.xid, PROC_UNAVAIL),
     }
 }
 
@@ -71,20 +73,20 @@ fn is_version(vers: u32) -> bool
 }
 
 /// Writes the reply to a call of a version that is not here, with the lowest and the highest that are.
-#[tactic(auto, using(crate::proofs::Chains::begins_then))]
+#[tactic(auto, using(crate::proofs::Chains::begins_then, crate::proofs::Chains::begins_added))]
 fn push_prog_mismatch(out: &mut Vec<u8>, xid: u32) -> Result<(), NoMemory>
     ensures ok { let status = ProgMismatch lowest_version highest_version in
         OnOk result (out.new.items ≡ out.old.items ++ reply (accepted xid status)) }
     ensures begins { StartsWith out.new.items out.old.items }
 {
-    push_head(out, xid, PROG_MISMATCH)?;
+    append_head(out, xid, PROG_MISMATCH)?;
     push_word(out, LOWEST_VERSION)?;
     push_word(out, HIGHEST_VERSION)?;
     Ok(())
 }
 
 /// Writes the reply to a call of a procedure.
-#[tactic(auto, using(crate::proofs::Chains::begins_then))]
+#[tactic(auto, using(crate::proofs::Chains::begins_then, crate::proofs::Chains::begins_added))]
 fn push_procedure<S: BuildHasher>(
     alloc: Global,
     directory: &mut Directory<S>,
@@ -100,13 +102,13 @@ fn push_procedure<S: BuildHasher>(
     // For the proof: the law says that any bytes begin with no arguments.
     whole_exactly();
     match procedure {
-        Procedure::Null => push_head(out, asked.call.xid, SUCCESS),
+        Procedure::Null => append_head(out, asked.call.xid, SUCCESS),
         Procedure::DumpPorts => {
-            push_head(out, asked.call.xid, SUCCESS)?;
+            append_head(out, asked.call.xid, SUCCESS)?;
             push_mappings(directory, out)
         }
         Procedure::Dump => {
-            push_head(out, asked.call.xid, SUCCESS)?;
+            append_head(out, asked.call.xid, SUCCESS)?;
             push_rows(directory, out)
         }
         Procedure::OnMapping(step) => push_on_mapping(alloc, directory, asked, step, out),
@@ -115,7 +117,7 @@ fn push_procedure<S: BuildHasher>(
 }
 
 /// Writes the reply to SET, UNSET or GETPORT of version 2 (RFC 1833 section 3.2).
-#[tactic(auto, using(crate::proofs::Chains::begins_then))]
+#[tactic(auto, using(crate::proofs::Chains::begins_then, crate::proofs::Chains::begins_added))]
 fn push_on_mapping<S: BuildHasher>(
     alloc: Global,
     directory: &mut Directory<S>,
@@ -132,7 +134,7 @@ fn push_on_mapping<S: BuildHasher>(
     let owner = asked.owner;
     let m = match mapping_at(asked.call.args) {
         Some(m) => m,
-        None => return push_head(out, xid, GARBAGE_ARGS),
+        None => return append_head(out, xid, GARBAGE_ARGS),
     };
     match step {
         OnMapping::Set => push_set_port(alloc, directory, owner, xid, m, out),
@@ -142,7 +144,7 @@ fn push_on_mapping<S: BuildHasher>(
 }
 
 /// Writes the reply to SET, UNSET, GETADDR or GETVERSADDR of version 3 or 4 (RFC 1833 section 2.2.1).
-#[tactic(auto, using(crate::proofs::Chains::begins_then))]
+#[tactic(auto, using(crate::proofs::Chains::begins_then, crate::proofs::Chains::begins_added))]
 fn push_on_rpcb<S: BuildHasher>(
     alloc: Global,
     directory: &mut Directory<S>,
@@ -159,7 +161,7 @@ fn push_on_rpcb<S: BuildHasher>(
     let owner = asked.owner;
     let r = match rpcb_at(asked.call.args) {
         Some(r) => r,
-        None => return push_head(out, xid, GARBAGE_ARGS),
+        None => return append_head(out, xid, GARBAGE_ARGS),
     };
     match step {
         OnRpcb::Set => push_set(alloc, directory, owner, xid, r, out),

@@ -12,11 +12,13 @@ ghost use Rattle.registry_answer.specs.Private.Pushes.{PushesCall};
 ghost use Rattle.registry_answer.specs.Views.{netid_of, is_refused, sent_of};
 
 use crate::accepted::{Asked, push_accepted};
-use crate::callers::{AUTH_BADCRED, AUTH_BADVERF, Caller, caller_of};
-use crate::replies::{cut_to_system_err, push_auth_error, push_rpc_mismatch};
+use crate::callers::{Caller, caller_of};
 use crate::transport::Transport;
 use rpc_directory::Directory;
-use rpc_message::{LentCall, LentRead, read_lent_call};
+use rpc_message::{
+    AUTH_BADCRED, AUTH_BADVERF, LentCall, LentRead, RPC_VERSION, Why, append_denial,
+    cut_to_system_error, read_lent_call,
+};
 use std::alloc::Global;
 use std::hash::BuildHasher;
 use xdr_units::NoMemory;
@@ -89,7 +91,7 @@ pub fn append_answer<S: BuildHasher>(
 }
 
 /// The same, but where memory is refused some of a reply may stand behind what stood in `out`.
-#[tactic(auto, using(crate::proofs::Chains::begins_then))]
+#[tactic(auto, using(crate::proofs::Chains::begins_then, crate::proofs::Chains::begins_added))]
 fn push_answer<S: BuildHasher>(
     alloc: Global,
     directory: &mut Directory<S>,
@@ -106,9 +108,19 @@ fn push_answer<S: BuildHasher>(
         LentRead::OtherVersion {
             xid,
             version: _version,
-        } => written(xid, push_rpc_mismatch(out, xid)),
-        LentRead::BadCred { xid } => written(xid, push_auth_error(out, xid, AUTH_BADCRED)),
-        LentRead::BadVerf { xid } => written(xid, push_auth_error(out, xid, AUTH_BADVERF)),
+        } => {
+            let why = Why::RpcMismatch {
+                low: RPC_VERSION,
+                high: RPC_VERSION,
+            };
+            written(xid, append_denial(out, xid, why))
+        }
+        LentRead::BadCred { xid } => {
+            written(xid, append_denial(out, xid, Why::AuthError(AUTH_BADCRED)))
+        }
+        LentRead::BadVerf { xid } => {
+            written(xid, append_denial(out, xid, Why::AuthError(AUTH_BADVERF)))
+        }
         LentRead::Whole(call) => {
             let added = push_call(alloc, directory, transport, &call, out);
             written(call.xid, added)
@@ -127,7 +139,7 @@ fn written(xid: u32, added: Result<(), NoMemory>) -> Appended
 }
 
 /// Writes the reply to a whole call.
-#[tactic(auto, using(crate::proofs::Chains::begins_then))]
+#[tactic(auto, using(crate::proofs::Chains::begins_then, crate::proofs::Chains::begins_added))]
 fn push_call<S: BuildHasher>(
     alloc: Global,
     directory: &mut Directory<S>,
@@ -150,7 +162,7 @@ fn push_call<S: BuildHasher>(
             };
             push_sendable(alloc, directory, &asked, out)
         }
-        Ok(Caller::Refused(stat)) => push_auth_error(out, call.xid, stat),
+        Ok(Caller::Refused(stat)) => append_denial(out, call.xid, Why::AuthError(stat)),
         Err(_) => Err(NoMemory),
     }
 }
@@ -174,7 +186,7 @@ fn push_sendable<S: BuildHasher>(
     let before = out.len();
     push_accepted(alloc, directory, asked, out)?;
     if !asked.transport.carries(out.len() - before) {
-        cut_to_system_err(out, before);
+        cut_to_system_error(out, before);
     }
     Ok(())
 }

@@ -5,20 +5,10 @@ ghost use Rattle.registry_answer.specs.Callers.{IsCaller};
 ghost use Rattle.registry_answer.specs.Owners.{owner_text, caller_view};
 
 use itoa::Buffer;
-use rpc_message::{LentAuth, NoMemory, read_auth_sys};
+use rpc_message::{
+    AUTH_BADCRED, AUTH_NONE, AUTH_REJECTEDCRED, AUTH_SYS, LentAuth, NoMemory, read_auth_sys,
+};
 use std::alloc::Global;
-
-// The flavors of credentials that are believed (RFC 5531 section 8.2).
-const AUTH_NONE: u32 = 0;
-
-const AUTH_SYS: u32 = 1;
-
-// The numbers of `auth_stat` (RFC 5531 section 9).
-pub const AUTH_BADCRED: u32 = 1;
-
-pub const AUTH_REJECTEDCRED: u32 = 2;
-
-pub const AUTH_BADVERF: u32 = 3;
 
 /// The owner of the rows that a caller sets.
 #[derive(Clone, Copy, Debug)]

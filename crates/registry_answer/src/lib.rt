@@ -5,7 +5,7 @@
 //! - `callers`: who calls; `accepted`: the checks of a call of a caller who is believed
 //! - `table`: the procedures by their numbers; `arguments`: what they are called with
 //! - `procedures`: the steps on rows, each with its reply; `dumps`: the lists of rows
-//! - `replies`: the heads of replies; `laws`: a record has one answer
+//! - `laws`: a record has one answer
 #![tactic(auto)]
 
 mod accepted;
@@ -15,11 +15,10 @@ mod callers;
 mod dumps;
 mod laws;
 mod procedures;
-mod replies;
 mod table;
 mod transport;
 
 pub use answering::{Answered, Appended, answer, append_answer};
 pub use laws::{each_record_has_an_answer, one_answer};
-pub use replies::system_error;
+pub use rpc_message::system_error;
 pub use transport::Transport;

@@ -4,6 +4,8 @@ use Rattle.std.specs.Option.{option_map_or}
 use Rattle.xdr_units.specs.Numbers.{word, num4, number_of}
 use Rattle.registry_uaddr.specs.declared.address.Uaddr.{Uaddr}
 use Rattle.registry_uaddr.specs.Uaddrs.{uaddr_of}
+use Rattle.rpc_message.specs.Constants.{success}
+use Rattle.rpc_message.specs.Heads.{accepted, accepted_head}
 use Rattle.rpc_message.specs.Message.{CallView, StatusView, ReplyView}
 use Rattle.rpc_message.specs.Spelling.{reply, IsReply, IsStatus}
 use Rattle.rpc_message.specs.View.{lent_call_view}
@@ -11,15 +13,11 @@ use Rattle.registry_rows.specs.Ports.{prot_of_netid}
 use Rattle.registry_rows.specs.Rows.{Row}
 use Rattle.registry_rows.specs.Steps.{Step}
 use Rattle.registry_answer.specs.Private.Parsed.{text}
-use Rattle.registry_answer.specs.Answer.{ComesTo, AnswersCall, accepted}
+use Rattle.registry_answer.specs.Answer.{ComesTo, AnswersCall}
 use Rattle.registry_answer.specs.Answering.{most}
 use Rattle.registry_answer.specs.Owners.{owner_text}
 use Rattle.registry_answer.specs.Views.{netid_of}
 use Rattle.registry_answer.specs.declared.accepted.Asked.{Asked}
-
--- the words of an accepted reply up to its number: xid, REPLY, MSG_ACCEPTED, AUTH_NONE, no body, accept_stat
-abbrev pub head : ℕ → ℕ → List ℕ
-head xid stat = word xid ++ word 1 ++ word 0 ++ word 0 ++ word 0 ++ word stat
 
 -- The call came to a status, and the accepted reply was written.
 pub record PushesStatus (rows : List Row) (netid owner : List ℕ) (c : CallView) (old : List ℕ) (new : List Row)
@@ -67,4 +65,4 @@ mapping_bytes r =
 pub record Reports (step : Step) (xid : ℕ) (old : List ℕ) (new : List Row) (out : List ℕ) : Type 0 where
   pub done : Bool
   pub stepped : (new, done) ≡ step
-  pub added : out ≡ old ++ (head xid 0 ++ num4 (number_of done))
+  pub added : out ≡ old ++ (accepted_head xid success ++ num4 (number_of done))

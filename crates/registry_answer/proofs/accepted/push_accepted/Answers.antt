@@ -12,8 +12,8 @@ use Rattle.registry_answer.proofs.accepted.push_accepted.Goals as goal
 pub returns-then-asked-ne-PROGRAM-clause-ok : goal.returns-then-asked-ne-PROGRAM-clause-ok
 returns-then-asked-ne-PROGRAM-clause-ok g c =
     let a = c.args.asked.now in
-    on_ok c.push_head.result _ _ (pushes_no_program _ (netid_of a.transport) (owner_text a.owner)
-    (lent_call_view a.call) _ _ (λ (e : a.call.prog ≡ program). omega arith)) c.push_head.ensures.ok
+    on_ok c.append_head.result _ _ (pushes_no_program _ (netid_of a.transport) (owner_text a.owner)
+    (lent_call_view a.call) _ _ (λ (e : a.call.prog ≡ program). omega arith)) c.append_head.ensures.ok
 
 pub returns-then-not-is_version-clause-ok : goal.returns-then-not-is_version-clause-ok
 returns-then-not-is_version-clause-ok g c =
@@ -33,7 +33,7 @@ push_procedure-requires g c = record {
 pub returns-in-None-clause-ok : goal.returns-in-None-clause-ok
 returns-in-None-clause-ok g c =
     let a = c.args.asked.now in
-    on_ok c.push_head-in-None.result _ _ (pushes_no_procedure _ (netid_of a.transport) (owner_text a.owner)
+    on_ok c.append_head-in-None.result _ _ (pushes_no_procedure _ (netid_of a.transport) (owner_text a.owner)
     (lent_call_view a.call) _ _ (omega arith)
     (version_is c.is_version.result a.call.vers c.is_version.ensures c.if-not-is_version.false)
-    (sym c.procedure_at.ensures ∙ ap (option_map procedure_of) c.in-None.is)) c.push_head-in-None.ensures.ok
+    (sym c.procedure_at.ensures ∙ ap (option_map procedure_of) c.in-None.is)) c.append_head-in-None.ensures.ok

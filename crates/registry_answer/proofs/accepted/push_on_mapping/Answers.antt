@@ -13,10 +13,10 @@ pub returns-in-None-clause-ok : goal.returns-in-None-clause-ok
 returns-in-None-clause-ok g c =
     let a = c.args.asked.now in
     let call = lent_call_view a.call in
-    on_ok c.push_head.result _ _
+    on_ok c.append_head.result _ _
     (pushes_garbage _ (netid_of a.transport) (owner_text a.owner) call _ _ (of_mapping c.args.step) c.requires
     (subst (λ (n : ℕ). AreGarbage n call.args) (takes_mapping c.args.step) c.in-None.ensures))
-    c.push_head.ensures.ok
+    c.append_head.ensures.ok
 
 pub returns-in-Set-clause-ok : goal.returns-in-Set-clause-ok
 returns-in-Set-clause-ok g c =

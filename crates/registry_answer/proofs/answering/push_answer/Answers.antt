@@ -21,11 +21,11 @@ returns-in-OtherVersion-clause-answer g c =
     let rows = c.args.directory.now in
     let netid = netid_of c.args.transport in
     let message = c.args.message.now in
-    pushes_by rows netid message _ _ _ c.push_rpc_mismatch.result c.written.result xid c.written.ensures
-    (on_ok c.push_rpc_mismatch.result _ _ (λ e. adds_short rows netid message (OtherVersion xid version) rows
+    pushes_by rows netid message _ _ _ c.append_denial.result c.written.result xid c.written.ensures
+    (on_ok c.append_denial.result _ _ (λ e. adds_short rows netid message (OtherVersion xid version) rows
     (Denied xid (RpcMismatch 2 2)) _ _ is (other_version xid version) (is.xid_fits, (omega arith, omega arith)) e
-    (omega arith)) c.push_rpc_mismatch.ensures.ok)
-    (any_err c.push_rpc_mismatch.result _
+    (omega arith)) c.append_denial.ensures.ok)
+    (any_err c.append_denial.result _
     (answers_no_memory rows netid message (OtherVersion xid version) xid is refl is.xid_fits))
 
 pub returns-in-BadCred-clause-answer : goal.returns-in-BadCred-clause-answer
@@ -35,11 +35,13 @@ returns-in-BadCred-clause-answer g c =
     let rows = c.args.directory.now in
     let netid = netid_of c.args.transport in
     let message = c.args.message.now in
-    pushes_by rows netid message _ _ _ c.push_auth_error.result c.written-in-BadCred.result xid
+    pushes_by rows netid message _ _ _ c.append_denial-in-BadCred.result c.written-in-BadCred.result xid
     c.written-in-BadCred.ensures
-    (on_ok c.push_auth_error.result _ _ (λ e. adds_short rows netid message (BadCred xid) rows (auth_error xid 1) _ _ is
-    (bad_cred xid) (is.fits.0, omega arith) e (omega arith)) c.push_auth_error.ensures.ok)
-    (any_err c.push_auth_error.result _ (answers_no_memory rows netid message (BadCred xid) xid is refl is.fits.0))
+    (on_ok c.append_denial-in-BadCred.result _ _ (λ e. adds_short rows netid message (BadCred xid) rows
+    (auth_error xid 1) _ _ is (bad_cred xid) (is.fits.0, omega arith) e (omega arith))
+    c.append_denial-in-BadCred.ensures.ok)
+    (any_err c.append_denial-in-BadCred.result _
+    (answers_no_memory rows netid message (BadCred xid) xid is refl is.fits.0))
 
 pub returns-in-BadVerf-clause-answer : goal.returns-in-BadVerf-clause-answer
 returns-in-BadVerf-clause-answer g c =
@@ -48,12 +50,12 @@ returns-in-BadVerf-clause-answer g c =
     let rows = c.args.directory.now in
     let netid = netid_of c.args.transport in
     let message = c.args.message.now in
-    pushes_by rows netid message _ _ _ c.push_auth_error-in-BadVerf.result c.written-in-BadVerf.result xid
+    pushes_by rows netid message _ _ _ c.append_denial-in-BadVerf.result c.written-in-BadVerf.result xid
     c.written-in-BadVerf.ensures
-    (on_ok c.push_auth_error-in-BadVerf.result _ _ (λ e. adds_short rows netid message (BadVerf xid) rows
+    (on_ok c.append_denial-in-BadVerf.result _ _ (λ e. adds_short rows netid message (BadVerf xid) rows
     (auth_error xid 3) _ _ is (bad_verf xid) (is.fits.0, omega arith) e (omega arith))
-    c.push_auth_error-in-BadVerf.ensures.ok)
-    (any_err c.push_auth_error-in-BadVerf.result _
+    c.append_denial-in-BadVerf.ensures.ok)
+    (any_err c.append_denial-in-BadVerf.result _
     (answers_no_memory rows netid message (BadVerf xid) xid is refl is.fits.0))
 
 pub push_call-added-requires : goal.push_call-added-requires

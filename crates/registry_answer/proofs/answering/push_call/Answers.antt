@@ -10,6 +10,6 @@ push_sendable-requires-clause-caller g c = rw c.in-Ok-Owner.field-0-is at c.in-O
 pub returns-in-Ok-Refused-clause-ok : goal.returns-in-Ok-Refused-clause-ok
 returns-in-Ok-Refused-clause-ok g c =
     let is = rw c.in-Ok-Refused.field-0-is at c.in-Ok-Refused.ensures in
-    on_ok c.push_auth_error.result _ _ (pushes_auth_error c.args.directory.now (netid_of c.args.transport)
-    (lent_call_view c.args.call.now) _ _ c.in-Ok-Refused.stat c.requires c.push_auth_error.ensures.stat is)
-    c.push_auth_error.ensures.ok
+    on_ok c.append_denial.result _ _ (pushes_auth_error c.args.directory.now (netid_of c.args.transport)
+    (lent_call_view c.args.call.now) _ _ c.in-Ok-Refused.stat c.requires is)
+    c.append_denial.ensures.ok

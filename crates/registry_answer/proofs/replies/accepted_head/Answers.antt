@@ -1,5 +1,0 @@
-use Rattle.std.proofs.Common.{refl}
-use Rattle.registry_answer.proofs.replies.accepted_head.Goals as goal
-
-pub returns : goal.returns
-returns c = rw c.to_be_bytes.ensures rw c.to_be_bytes-2.ensures refl
