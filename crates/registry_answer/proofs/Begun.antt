@@ -54,10 +54,8 @@ a_word _ e = absurd (false≢true e)
 
 a_text : (h : Head) → is_legal dir_kinds (xdr.text 4294967295) h ≡ true → (bs : List ℕ) × (h ≡ value.bytes bs)
     × (length bs < 2 ^ 32)
-a_text (value.bytes bs) e =
-    let a = both (is_length 4294967295 (length bs)) (are_bytes bs) e in
-    let b = both (nat_le (length bs) 4294967295) (nat_lt (length bs) (2 ^ 32)) a.0 in
-    let small = ltb-true (length bs) (2 ^ 32) b.1 in (bs, refl, omega arith)
+a_text (value.bytes bs) e = let a = both _ _ e in let b = both _ _ a.0 in let small =
+    ltb-true (length bs) (2 ^ 32) b.1 in (bs, refl, omega arith)
 a_text _ e = absurd (false≢true e)
 
 short_enough : (n : ℕ) → n < 2 ^ 32 → is_length 4294967295 n ≡ true

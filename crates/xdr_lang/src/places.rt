@@ -57,7 +57,8 @@ fn named_within<'a>(types: &TypeTable<'a>, steps: usize, first: Name<'a>) -> Res
     for step in 0..steps {
         match types.named(name.text) {
             Some(Part::Basic(basic)) => return Ok(basic_place(basic)),
-            Some(Part::Made(made) | Part::StructMade(made)) => return own_place(made),
+            Some(Part::Made(made)) => return own_place(made),
+            Some(Part::StructMade(made)) => return own_place(made),
             Some(Part::Struct(named)) => return struct_place(types, named),
             Some(Part::Text) => return Ok(7),
             Some(Part::Void) => return Ok(5),
