@@ -46,7 +46,8 @@ def picked(_base, folder):
             begun, _ = wall(words, nothing, 3)
             first = None
             for mega in (1, 4, 16):
-                given = values(f"{folder}/items", (mega << 20) // size, size, entries)
+                # (with its count the list has as many bytes as a value may have)
+                given = values(f"{folder}/items", (mega << 20) // size - 1, size, entries)
                 taken = wall(words, given, 3)[0] - begun
                 first = first or taken / mega
                 print(
