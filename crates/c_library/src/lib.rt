@@ -2,6 +2,9 @@
 //!
 //! Each export answers a status, and reports the rest through what the caller lends. None wants anything but pointers
 //! that lead where their counts say. What it does is the function that it calls, proved in the crate of that function.
+//!
+//! - `values`: values by their declarations, and records marked anew. `records`: a stream of records.
+//! - `calls`, `replies`, `credentials`: messages. `registry`: a registry that a program of C keeps.
 #![tactic(auto)]
 
 mod calls;

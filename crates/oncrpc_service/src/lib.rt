@@ -1,5 +1,9 @@
 //! The registry asked and served: what a server's rows are printed as, and how connections are served, and datagrams
 //! answered, one after another.
+//!
+//! - `info`, `rows`, `refusal`: a registry is asked, its rows are printed, or why there are none. `printing`: a line.
+//! - `serving`, `datagrams`: connections served, and datagrams answered, a line for each. `listener`: where connections come
+//!   from. `loopback`, `udp`: those of this host over TCP, and ports of datagrams over UDP.
 #![tactic(auto)]
 
 mod datagrams;
