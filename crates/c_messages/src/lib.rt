@@ -4,7 +4,8 @@
 //! name that `include/oncrpc.h` gives it.
 //!
 //! - `calls`, `replies`, `credentials`: messages read and written. `asked`: the reply that C asks for.
-//! - `answer`: answers, and how C sees them. `part`: where a part of a message lies. `buffer`: bytes put into what C lends.
+//! - `answer`: answers, and how C sees them. `part`: where a part of a message lies. `buffer`: bytes put into what C
+//!   lends.
 //! - `examples`: what the contracts force on telling inputs.
 #![tactic(auto)]
 

@@ -4,8 +4,8 @@
 //! name that `include/oncrpc.h` gives it.
 //!
 //! - `start`, `feeding`, `taking`, `ending`: a reader begins and is freed, gets pieces, hands records out, and ends.
-//! - `handle`, `state`: the reader that C keeps, and what it holds. `answer`: answers, and how C sees them. `buffer`: bytes
-//!   put into what C lends.
+//! - `handle`, `state`: the reader that C keeps, and what it holds. `answer`: answers, and how C sees them. `buffer`:
+//!   bytes put into what C lends.
 //! - `examples`: what the contracts force on telling inputs.
 #![tactic(auto)]
 

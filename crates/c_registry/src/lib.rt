@@ -3,12 +3,12 @@
 //! Each call answers a status, and reports the rest through what the caller lends. `c_library` exports it under the
 //! name that `include/oncrpc.h` gives it.
 //!
-//! - `start`, `rows`, `answering`, `reply`: a registry begins and is freed, has rows set and removed, answers a record, and
-//!   hands out a reply that waits.
+//! - `start`, `rows`, `answering`, `reply`: a registry begins and is freed, has rows set and removed, answers a record,
+//!   and hands out a reply that waits.
 //! - `handle`, `state`, `hasher`: the registry that C keeps, what it holds, and how its rows are hashed. `transport`:
 //!   transports by their netids.
-//! - `answer`: answers, and how C sees them. `buffer`: bytes put into what C lends. `examples`: what the contracts force on
-//!   telling inputs.
+//! - `answer`: answers, and how C sees them. `buffer`: bytes put into what C lends. `examples`: what the contracts
+//!   force on telling inputs.
 #![tactic(auto)]
 
 mod answer;

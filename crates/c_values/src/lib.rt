@@ -4,10 +4,10 @@
 //! name that `include/oncrpc.h` gives it.
 //!
 //! - `check`, `declarations`: bytes checked by a text, or by declarations that were read. `unread`: a text is read.
-//! - `show`: the lines of a value. `parts`, `listing`, `part`, `listed`: its parts, how they are listed, how C sees a part,
-//!   and the answers. `normal`: records marked anew.
-//! - `handle`, `state`: the declarations that C keeps, and what they hold. `asking`, `judge`: what is asked of bytes, and
-//!   what they come to. `answer`: answers, and how C sees them. `buffer`: bytes put into what C lends.
+//! - `show`: the lines of a value. `parts`, `listing`, `part`, `listed`: its parts, how they are listed, how C sees a
+//!   part, and the answers. `normal`: records marked anew.
+//! - `handle`, `state`: the declarations that C keeps, and what they hold. `asking`, `judge`: what is asked of bytes,
+//!   and what they come to. `answer`: answers, and how C sees them. `buffer`: bytes put into what C lends.
 //! - `examples`: what the contracts force on telling inputs.
 #![tactic(auto)]
 

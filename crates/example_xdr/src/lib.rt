@@ -1,12 +1,12 @@
 //! Worked examples of XDR for users of the libraries, each proved from the contracts alone: schemas, values and limits,
 //! encoding and decoding, the lines of a value.
 //!
-//! - `schemas`, `answers`, `limits`, `values`: what makes a schema, what it answers, limits, and values. `made`: what these
-//!   examples share.
+//! - `schemas`, `answers`, `limits`, `values`: what makes a schema, what it answers, limits, and values. `made`: what
+//!   these examples share.
 //! - `encoding`, `decoding`, `checking`, `pieces`: bytes of values, values of bytes, whole, unkept, and piece by piece.
 //!   `reasons`: the reason and the place of each refusal. `holding`: what a decoder and a checker hold.
-//! - `lending`, `lines`: parts, and what is shown. `units`, `stacks`, `devices`: numbers and padding, the stack of nodes,
-//!   sources and sinks.
+//! - `lending`, `lines`: parts, and what is shown. `units`, `stacks`, `devices`: numbers and padding, the stack of
+//!   nodes, sources and sinks.
 #![tactic(auto)]
 
 pub mod answers;

@@ -2,8 +2,8 @@
 //! answered, one after another.
 //!
 //! - `info`, `rows`, `refusal`: a registry is asked, its rows are printed, or why there are none. `printing`: a line.
-//! - `serving`, `datagrams`: connections served, and datagrams answered, a line for each. `listener`: where connections come
-//!   from. `loopback`, `udp`: those of this host over TCP, and ports of datagrams over UDP.
+//! - `serving`, `datagrams`: connections served, and datagrams answered, a line for each. `listener`: where connections
+//!   come from. `loopback`, `udp`: those of this host over TCP, and ports of datagrams over UDP.
 #![tactic(auto)]
 
 mod datagrams;

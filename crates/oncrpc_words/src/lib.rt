@@ -1,7 +1,8 @@
 //! The program's words: what they ask for, what its help says, and what is printed where they ask for no task.
 //!
 //! - `words`, `command`, `request`: the words are read, by which commands and options, into what they ask for.
-//! - `help`, `after`: what help says of the program, before the options and behind them. `fault`: words that ask for no task.
+//! - `help`, `after`: what help says of the program, before the options and behind them. `fault`: words that ask for no
+//!   task.
 #![tactic(auto)]
 
 mod after;
