@@ -15,7 +15,7 @@ use Rattle.oncrpc_kinds.specs.Naming.{part_named, place_of_part}
 use Rattle.oncrpc_tasks.specs.Right.{Question}
 use Rattle.oncrpc_tasks.specs.Sources.{IsDeclared, IsReported, reported_text}
 use Rattle.oncrpc_tasks.specs.Tasks.{Asks, AsksNothing}
-use Rattle.oncrpc_tasks.specs.declared.task.ValueTask.{ValueTask}
+use Rattle.oncrpc_answers.specs.declared.task.ValueTask.{ValueTask}
 
 -- the only argument is found under the number 1
 found : (p : Procedure) (part : Part) (place : ℕ) → part ≡ Argument 1 → p.arguments ≡ place ∷ []

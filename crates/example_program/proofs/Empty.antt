@@ -3,10 +3,10 @@ use Rattle.std.proofs.Common.{◌≡◌, ℕ, ◌+◌, ◌<◌, false, List, [],
 use Rattle.std.proofs.Common.{length-append, subst}
 use Rattle.std.specs.Io.KnownBytes.{Appends}
 use Rattle.xdr_types.specs.Spelling.{bytes_of}
-use Rattle.oncrpc_tasks.specs.declared.answer.Answer.{Answer}
-use Rattle.oncrpc_tasks.specs.declared.answer.Answer.TheVariants as answer
+use Rattle.oncrpc_answers.specs.declared.answer.Answer.{Answer}
+use Rattle.oncrpc_answers.specs.declared.answer.Answer.TheVariants as answer
 use Rattle.oncrpc_tasks.specs.Checked.{Answers}
-use Rattle.oncrpc_tasks.specs.Lines.{line, line_status}
+use Rattle.oncrpc_answers.specs.Lines.{line, line_status}
 use Rattle.oncrpc_tasks.specs.Right.{Question, IsRight, IsRightFor, BeginsWithValue}
 
 -- no byte follows a value in it

@@ -2,9 +2,9 @@
 use Rattle.std.proofs.Common.{◌≡◌, ◌⊎◌, inl, inr, ℕ, ◌≤◌, Bool, List, Option, refl, subst, sym, arith}
 use Rattle.xdr_io.specs.Reported.{CountsAtMost}
 use Rattle.xdr_io.proofs.Chained.{Counts-none}
-use Rattle.oncrpc_tasks.specs.declared.task.Task.{Task}
-use Rattle.oncrpc_tasks.specs.declared.task.Task.TheVariants as task
-use Rattle.oncrpc_tasks.specs.declared.task.ValueTask.{ValueTask}
+use Rattle.oncrpc_answers.specs.declared.task.Task.{Task}
+use Rattle.oncrpc_answers.specs.declared.task.Task.TheVariants as task
+use Rattle.oncrpc_answers.specs.declared.task.ValueTask.{ValueTask}
 use Rattle.oncrpc_tasks.specs.Devices.{Reports}
 use Rattle.oncrpc_tasks.specs.Ends.{TaskEnds, WordsEnd, IsLookedFor, IsUnasked}
 use Rattle.oncrpc_tasks.specs.Tasks.{AsksNothing}

@@ -1,8 +1,8 @@
 -- What a text of hexadecimal spells.
 use Rattle.std.proofs.Common.{◌≡◌, ℕ, ◌∷◌, true, List, [], Some, Ok, refl, subst}
 use Rattle.hex.specs.Hex.{decode_of, decode_pairs}
-use Rattle.oncrpc_tasks.specs.declared.answer.Answer.{Answer}
-use Rattle.oncrpc_tasks.specs.declared.answer.Answer.TheVariants as answer
+use Rattle.oncrpc_answers.specs.declared.answer.Answer.{Answer}
+use Rattle.oncrpc_answers.specs.declared.answer.Answer.TheVariants as answer
 use Rattle.oncrpc_tasks.specs.Hexadecimal.{digits}
 use Rattle.oncrpc_tasks.specs.Right.{Question, IsRightFor, IsRightForText}
 

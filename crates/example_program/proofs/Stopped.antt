@@ -6,8 +6,8 @@ use Rattle.rpc_record.specs.Marked.{Longest, normal}
 use Rattle.oncrpc_tasks.specs.Devices.{Reports, Fails}
 use Rattle.oncrpc_tasks.specs.Records.{StopsFor}
 use Rattle.oncrpc_tasks.specs.RecordsEnd.{RecordsEnd}
-use Rattle.oncrpc_tasks.specs.declared.failure.Failure.{Failure}
-use Rattle.oncrpc_tasks.specs.declared.failure.Failure.TheVariants as failure
+use Rattle.oncrpc_answers.specs.declared.failure.Failure.{Failure}
+use Rattle.oncrpc_answers.specs.declared.failure.Failure.TheVariants as failure
 
 -- all whole records of what was read were written, whole
 abbrev pub WritesAll : ℕ → (left left' taken taken' : Option (List ℕ)) → Type 0

@@ -12,7 +12,8 @@ ghost use Rattle.oncrpc_tasks.specs.Sources.{bare};
 ghost use Rattle.xdr_lang.specs.Declarations.{Declared, Procedure, procedure_of_program};
 ghost use Rattle.xdr_lang.specs.Means.{Means};
 
-use oncrpc_tasks::{MemoryOpener, Opener, Task, ValueTask, task_over};
+use oncrpc_answers::{Task, ValueTask};
+use oncrpc_tasks::{MemoryOpener, Opener, task_over};
 use std::alloc::Global;
 use xdr_io::{Sink, Source};
 

@@ -2,12 +2,13 @@
 ghost use Rattle.std.specs.Prelude.{◌≡◌, ◌≢◌, ◌⊎◌, ◌<◌, ◌≤◌, ◌+◌, ◌++◌, ℕ, List, length, take, true, false};
 ghost use Rattle.std.specs.Io.KnownBytes.{Appends};
 ghost use Rattle.xdr_io.specs.Reported.{Counts, MovesAtMost};
-ghost use Rattle.oncrpc_tasks.specs.declared.answer.Answer.{Answer};
-ghost use Rattle.oncrpc_tasks.specs.declared.answer.Answer.TheVariants.{BadHex, Whole};
-ghost use Rattle.oncrpc_tasks.specs.Lines.{line, line_status};
+ghost use Rattle.oncrpc_answers.specs.declared.answer.Answer.{Answer};
+ghost use Rattle.oncrpc_answers.specs.declared.answer.Answer.TheVariants.{BadHex, Whole};
+ghost use Rattle.oncrpc_answers.specs.Lines.{line, line_status};
 ghost use Rattle.oncrpc_tasks.specs.Stopping.{ReadsUnsettled};
 
-use oncrpc_tasks::{Failure, check_over, report, show_over};
+use oncrpc_answers::{Failure, report};
+use oncrpc_tasks::{check_over, show_over};
 use std::alloc::Global;
 use xdr_io::{MemorySource, Sink, Source};
 use xdr_types::{KindId, Limits, Schema};

@@ -3,7 +3,8 @@ ghost use Rattle.std.specs.Prelude.{◌≤◌};
 
 use crate::files::FileOpener;
 use crate::network::{info, serve};
-use oncrpc_tasks::{Task, task_over};
+use oncrpc_answers::Task;
+use oncrpc_tasks::task_over;
 use oncrpc_words::{Request, WordsFault, no_memory, print_words_fault, read_words};
 use std::alloc::Global;
 use std::{env, io};

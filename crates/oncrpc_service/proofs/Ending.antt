@@ -3,9 +3,9 @@ use Rattle.std.proofs.Common.{◌≡◌, ◌≤◌, ◌⊎◌, inl, inr, ℕ, Li
 use Rattle.xdr_io.specs.Reported.{Counts}
 use Rattle.rpc_message.specs.declared.message.Reply.{Reply}
 use Rattle.rpc_engine.specs.declared.fault.ClientFault.{ClientFault}
-use Rattle.oncrpc_tasks.specs.declared.failure.Failure.{Failure}
-use Rattle.oncrpc_tasks.specs.declared.failure.Failure.TheVariants as failure
-use Rattle.oncrpc_tasks.specs.Status.{failure_status}
+use Rattle.oncrpc_answers.specs.declared.failure.Failure.{Failure}
+use Rattle.oncrpc_answers.specs.declared.failure.Failure.TheVariants as failure
+use Rattle.oncrpc_answers.specs.Status.{failure_status}
 use Rattle.oncrpc_service.specs.Infos.{failure_of}
 use Rattle.oncrpc_service.specs.InfoEnds.{DeviceFails, ReportsInPart}
 

@@ -7,7 +7,7 @@ use Rattle.xdr_io.proofs.Chained.{Appends-none, Appends-trans, Counts-trans, Cou
 use Rattle.registry_rows.specs.Rows.{Row}
 use Rattle.rpc_engine.specs.declared.fault.DatagramFault.TheVariants as fault
 use Rattle.rpc_engine.specs.Datagrams.{ServesDatagrams, StopsDatagrams, receives_failed, sends_failed}
-use Rattle.oncrpc_tasks.specs.declared.failure.Failure.{Failure}
+use Rattle.oncrpc_answers.specs.declared.failure.Failure.{Failure}
 use Rattle.oncrpc_service.specs.Datagrams.{Ended, Finishes, FinishesEach, Reporting, datagram_line, datagram_lines}
 use Rattle.oncrpc_service.specs.DatagramEnds.{Desk, HasFinished, HasBroken, HasFinishedOne, HasLostLine}
 use Rattle.oncrpc_service.specs.Written.{IsCut, IsPrinted}

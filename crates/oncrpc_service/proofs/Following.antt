@@ -12,7 +12,7 @@ use Rattle.registry_rows.specs.Ports.{tcp}
 use Rattle.rpc_engine.specs.declared.fault.ServeFault.TheVariants as fault
 use Rattle.rpc_engine.specs.Served.{Serves, Stops}
 use Rattle.oncrpc_service.specs.Listening.{Arrives}
-use Rattle.oncrpc_tasks.specs.declared.failure.Failure.TheVariants as failure
+use Rattle.oncrpc_answers.specs.declared.failure.Failure.TheVariants as failure
 use Rattle.oncrpc_service.specs.declared.serving.Stop.{Stop}
 use Rattle.oncrpc_service.specs.declared.serving.Stop.TheVariants as stop
 use Rattle.oncrpc_service.specs.Connections.{Outcome, ServesEach, ServesNext, connection_line, connection_lines}

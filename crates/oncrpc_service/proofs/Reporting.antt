@@ -14,8 +14,8 @@ use Rattle.xdr_stream.specs.declared.fault.DecodeFault.{DecodeFault}
 use Rattle.xdr_stream.specs.declared.fault.Reason.TheVariants as reason
 use Rattle.xdr_stream.specs.Finish.{EndsWith}
 use Rattle.xdr_codec.specs.Refused.{HasNoneWithin, IsRefused}
-use Rattle.oncrpc_tasks.specs.declared.answer.Answer.TheVariants as answer
-use Rattle.oncrpc_tasks.specs.Lines.{line}
+use Rattle.oncrpc_answers.specs.declared.answer.Answer.TheVariants as answer
+use Rattle.oncrpc_answers.specs.Lines.{line}
 use Rattle.oncrpc_service.specs.Infos.{BeginsWith, ReportsRows, rows, mappings, refused, list_place}
 use Rattle.oncrpc_service.proofs.Lists.{are_rows, are_mappings, row_lines, mapping_lines}
 

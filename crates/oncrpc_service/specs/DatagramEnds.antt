@@ -4,7 +4,7 @@ use Rattle.std.specs.Io.KnownBytes.{Appends}
 use Rattle.xdr_io.specs.Reported.{Counts}
 use Rattle.registry_rows.specs.Rows.{Row}
 use Rattle.rpc_engine.specs.Ports.{Reported}
-use Rattle.oncrpc_tasks.specs.declared.failure.Failure.{Failure}
+use Rattle.oncrpc_answers.specs.declared.failure.Failure.{Failure}
 use Rattle.oncrpc_service.specs.Datagrams.{Ended, Finishes, FinishesEach, Reporting, datagram_line, datagram_lines}
 use Rattle.oncrpc_service.specs.Written.{InPart, IsCut}
 

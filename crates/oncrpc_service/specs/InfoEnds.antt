@@ -8,7 +8,7 @@ use Rattle.rpc_engine.specs.declared.fault.ClientFault.{ClientFault}
 use Rattle.rpc_engine.specs.declared.fault.ClientFault.TheVariants as fault
 use Rattle.rpc_engine.specs.DatagramExchange.{ExchangesDatagram}
 use Rattle.rpc_engine.specs.Exchanged.{Exchanged, Wrote, read_failures, write_failures}
-use Rattle.oncrpc_tasks.specs.declared.failure.Failure.{Failure}
+use Rattle.oncrpc_answers.specs.declared.failure.Failure.{Failure}
 use Rattle.oncrpc_service.specs.DatagramEnds.{Desk}
 use Rattle.oncrpc_service.specs.Infos.{Reports, dump_call, failure_of}
 use Rattle.oncrpc_service.specs.Written.{InPart}

@@ -22,10 +22,10 @@ use Rattle.registry_dumps.specs.Dir.{dir_kinds}
 use Rattle.registry_dumps.specs.Dumps.{dump_limits, rpcb_list}
 use Rattle.rpc_engine.specs.declared.fault.ClientFault.{ClientFault}
 use Rattle.rpc_engine.specs.declared.fault.ClientFault.TheVariants as fault
-use Rattle.oncrpc_tasks.specs.declared.answer.Answer.TheVariants as answer
-use Rattle.oncrpc_tasks.specs.declared.failure.Failure.{Failure}
-use Rattle.oncrpc_tasks.specs.declared.failure.Failure.TheVariants as failure
-use Rattle.oncrpc_tasks.specs.Lines.{line}
+use Rattle.oncrpc_answers.specs.declared.answer.Answer.TheVariants as answer
+use Rattle.oncrpc_answers.specs.declared.failure.Failure.{Failure}
+use Rattle.oncrpc_answers.specs.declared.failure.Failure.TheVariants as failure
+use Rattle.oncrpc_answers.specs.Lines.{line}
 use Rattle.oncrpc_service.specs.Rows.{Mapping, pmap_list, header, row_line, mapping_line}
 
 -- the call for all rows: procedure DUMP of its program, by nobody (RFC 1833 sections 2.2.1 and 3.2)

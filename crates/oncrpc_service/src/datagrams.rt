@@ -5,7 +5,7 @@ ghost use Rattle.oncrpc_service.specs.DatagramEnds.{desk_of};
 ghost use Rattle.oncrpc_service.specs.Datagrams.{datagram_line};
 
 use crate::printing::print_line;
-use oncrpc_tasks::{Failure, report};
+use oncrpc_answers::{Failure, report};
 use rpc_directory::Directory;
 use rpc_engine::{DatagramFault, DatagramPort, Served, serve_datagrams};
 use std::alloc::{AllocError, Global};

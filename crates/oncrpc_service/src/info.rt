@@ -5,7 +5,7 @@ ghost use Rattle.xdr_types.specs.View.{tree};
 ghost use Rattle.xdr_io.specs.Reported.{Counts};
 ghost use Rattle.rpc_message.specs.View.{auth_view, call_view, reply_view, status_view};
 ghost use Rattle.registry_dumps.specs.Dumps.{dump_limits};
-ghost use Rattle.oncrpc_tasks.specs.Lines.{line};
+ghost use Rattle.oncrpc_answers.specs.Lines.{line};
 ghost use Rattle.oncrpc_service.specs.DatagramEnds.{desk_of};
 ghost use Rattle.oncrpc_service.specs.InfoEnds.{AnswerEnds, DatagramInfoEnds, InfoEnds, ReportsInPart};
 ghost use Rattle.oncrpc_service.specs.Infos.{Reports, ReportsReply, ReportsRows, ReportsStatus, dump_call, failure_of};
@@ -15,7 +15,7 @@ ghost use Rattle.oncrpc_service.specs.Private.Nodes.{list_lines};
 
 use crate::refusal::{denied_line, fault_line, status_line};
 use crate::rows::push_rows;
-use oncrpc_tasks::{Answer, Failure, line_of, report};
+use oncrpc_answers::{Answer, Failure, line_of, report};
 use registry_rows::PROGRAM;
 use rpc_directory::directory_schema;
 use rpc_engine::{ClientFault, DatagramPort, exchange, exchange_datagram};

@@ -2,7 +2,7 @@
 ghost use Rattle.std.specs.Prelude.{◌≡◌, ◌<◌, ℕ, List, IfOk, length, string_bytes};
 ghost use Rattle.oncrpc_service.specs.Written.{IsPrinted};
 
-use oncrpc_tasks::Failure;
+use oncrpc_answers::Failure;
 use std::alloc::AllocError;
 use xdr_io::{Sink, write_whole};
 

@@ -4,7 +4,7 @@ ghost use Rattle.rpc_message.specs.View.{status_view, why_view};
 ghost use Rattle.oncrpc_service.specs.Infos.{IsLine, denied_line, failure_of_fault, failure_of_record, fault_line};
 ghost use Rattle.oncrpc_service.specs.Infos.{record_line, reply_fault_name, status_line};
 
-use oncrpc_tasks::Failure;
+use oncrpc_answers::Failure;
 use rpc_engine::ClientFault;
 use rpc_message::{ReplyFault, Status, Why};
 use rpc_record::RecordFault;

@@ -7,7 +7,7 @@ ghost use Rattle.oncrpc_service.specs.ServeEnds.{HasServed, HasServedOne, HasSto
 
 use crate::listener::Listener;
 use crate::printing::print_line;
-use oncrpc_tasks::{Failure, report};
+use oncrpc_answers::{Failure, report};
 use rpc_directory::Directory;
 use rpc_engine::{ServeFault, Served, Transport, serve};
 use rpc_record::RecordFault;

@@ -1,7 +1,7 @@
 -- From the bytes that a text of hexadecimal spells to the text.
 use Rattle.std.proofs.Common.{◌≡◌, ℕ, true, Option, None, Some, Vec, Global, List}
-use Rattle.oncrpc_tasks.specs.declared.answer.Answer.{Answer}
-use Rattle.oncrpc_tasks.specs.declared.answer.Answer.TheVariants as answer
+use Rattle.oncrpc_answers.specs.declared.answer.Answer.{Answer}
+use Rattle.oncrpc_answers.specs.declared.answer.Answer.TheVariants as answer
 use Rattle.oncrpc_tasks.specs.declared.given.Given.{Given}
 use Rattle.oncrpc_tasks.specs.declared.given.Given.TheVariants as given
 use Rattle.oncrpc_tasks.specs.Input.{InputGives, TextGives}

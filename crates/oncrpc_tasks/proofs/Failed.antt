@@ -1,16 +1,16 @@
 -- How the failure of a device is reported.
 use Rattle.std.proofs.Common.{◌≡◌, ℕ, Bool, List, ◌++◌, Option, Result, Err, arith}
-use Rattle.oncrpc_tasks.specs.declared.answer.Answer.{Answer}
-use Rattle.oncrpc_tasks.specs.declared.failure.Failure.{Failure}
-use Rattle.oncrpc_tasks.specs.declared.failure.Failure.TheVariants as failure
+use Rattle.oncrpc_answers.specs.declared.answer.Answer.{Answer}
+use Rattle.oncrpc_answers.specs.declared.failure.Failure.{Failure}
+use Rattle.oncrpc_answers.specs.declared.failure.Failure.TheVariants as failure
 use Rattle.oncrpc_tasks.specs.declared.records.Marking.{Marking}
 use Rattle.oncrpc_tasks.specs.Devices.{Reports, Fails}
 use Rattle.oncrpc_tasks.specs.Private.Reading.{EndsByDevice}
 use Rattle.oncrpc_tasks.specs.Checked.{AnswersInPart}
-use Rattle.oncrpc_tasks.specs.Lines.{line}
+use Rattle.oncrpc_answers.specs.Lines.{line}
 use Rattle.oncrpc_tasks.specs.Private.Printed.{IsCut}
 use Rattle.oncrpc_tasks.specs.Right.{Question, IsRightFor}
-use Rattle.oncrpc_tasks.specs.Status.{failure_status}
+use Rattle.oncrpc_answers.specs.Status.{failure_status}
 
 pub failed_by : {I O : Type 0} (reports : Reports I O) (i i' : I) (o o' : O) (r : Result Marking Failure) (f : Failure)
     → r ≡ Err f → EndsByDevice reports i i' o o' r → failure_status f ≡ 3 → Fails reports i i' o o' f

@@ -14,7 +14,7 @@ use Rattle.xdr_stream.specs.declared.reader.Progress.{Progress}
 use Rattle.xdr_stream.specs.declared.reader.Progress.TheVariants.{More, Done}
 use Rattle.xdr_codec.specs.Checks.{RepresentsBytes, HasOutcome, IsSame}
 use Rattle.xdr_codec.specs.declared.checker.Checker.{Checker}
-use Rattle.oncrpc_tasks.specs.declared.answer.Answer.TheVariants as answer
+use Rattle.oncrpc_answers.specs.declared.answer.Answer.TheVariants as answer
 use Rattle.oncrpc_tasks.specs.declared.judge.Verdict.TheVariants.{Open, Settled}
 use Rattle.oncrpc_tasks.specs.Private.Judged.{Follows, Says}
 use Rattle.oncrpc_tasks.specs.Right as right

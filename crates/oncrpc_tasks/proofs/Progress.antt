@@ -12,7 +12,7 @@ use Rattle.xdr_io.proofs.Chained.{Counts-trans, Consumes-trans, Consumes-none, C
 use Rattle.xdr_io.proofs.Chained.{Consumes-at_end}
 use Rattle.xdr_codec.specs.Checks.{RepresentsBytes, IsStarted}
 use Rattle.xdr_codec.specs.declared.checker.Checker.{Checker}
-use Rattle.oncrpc_tasks.specs.declared.answer.Answer.{Answer}
+use Rattle.oncrpc_answers.specs.declared.answer.Answer.{Answer}
 use Rattle.oncrpc_tasks.specs.declared.judge.Verdict.{Verdict}
 use Rattle.oncrpc_tasks.specs.declared.judge.Verdict.TheVariants.{Open, Settled}
 use Rattle.oncrpc_tasks.specs.Private.Judged.{Follows, IsRetained, Says}

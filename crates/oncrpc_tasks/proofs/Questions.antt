@@ -6,7 +6,7 @@ use Rattle.std.proofs.lemmas.Bool.{false≢true}
 use Rattle.xdr_types.specs.Kinds.{KindView}
 use Rattle.xdr_types.specs.declared.kind.KindId.{KindId}
 use Rattle.xdr_lang.specs.Declarations.{Declared}
-use Rattle.oncrpc_tasks.specs.declared.task.ValueTask.{ValueTask}
+use Rattle.oncrpc_answers.specs.declared.task.ValueTask.{ValueTask}
 use Rattle.oncrpc_kinds.specs.Naming.{Names}
 use Rattle.oncrpc_tasks.specs.Sources.{Declares, reported_text}
 use Rattle.oncrpc_tasks.specs.Tasks.{AsksNothing}

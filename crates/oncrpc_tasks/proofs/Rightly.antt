@@ -17,7 +17,7 @@ use Rattle.xdr_stream.specs.declared.fault.Reason.{Reason}
 use Rattle.xdr_stream.specs.declared.fault.Reason.TheVariants as reason
 use Rattle.xdr_codec.specs.Refused.{HasNoneWithin}
 use Rattle.xdr_codec.proofs.Outcomes.{pending_none, fails}
-use Rattle.oncrpc_tasks.specs.declared.answer.Answer.TheVariants as answer
+use Rattle.oncrpc_answers.specs.declared.answer.Answer.TheVariants as answer
 use Rattle.oncrpc_tasks.specs.Right.{Question, HasOutcome, HasNoValue, IsWhole, IsRefusal, IsRight, lines_of}
 use Rattle.oncrpc_tasks.specs.Stopping.{IsUnsettled}
 

@@ -1,8 +1,8 @@
 -- What reading one value writes, and the status that it ends with.
 use Rattle.std.specs.Prelude.{◌≡◌, ℕ, ◌<◌, Bool, List, ◌++◌, length, take, Option}
 use Rattle.std.specs.Io.KnownBytes.{Appends}
-use Rattle.oncrpc_tasks.specs.declared.answer.Answer.{Answer}
-use Rattle.oncrpc_tasks.specs.Lines.{line, line_status}
+use Rattle.oncrpc_answers.specs.declared.answer.Answer.{Answer}
+use Rattle.oncrpc_answers.specs.Lines.{line, line_status}
 use Rattle.oncrpc_tasks.specs.Right.{Question, IsRightFor}
 
 -- What is shown and then the line of the right answer were written, and the status is that answer's.

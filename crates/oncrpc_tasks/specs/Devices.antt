@@ -1,8 +1,8 @@
 -- What the reader and the writer of a task tell, and how it is reported that one of them failed.
 use Rattle.std.specs.Prelude.{ℕ, List, Option}
 use Rattle.xdr_io.specs.Reported.{Counts}
-use Rattle.oncrpc_tasks.specs.declared.failure.Failure.{Failure}
-use Rattle.oncrpc_tasks.specs.declared.failure.Failure.TheVariants as failure
+use Rattle.oncrpc_answers.specs.declared.failure.Failure.{Failure}
+use Rattle.oncrpc_answers.specs.declared.failure.Failure.TheVariants as failure
 
 -- What a reader and a writer tell: the bytes that are left, the reads, and those that failed; the bytes that were
 -- taken, and the writes that failed.

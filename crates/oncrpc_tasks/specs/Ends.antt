@@ -1,9 +1,9 @@
 -- How a task ends: what its exit status says of what it read and printed, of a value that is asked for.
 use Rattle.std.specs.Prelude.{◌≡◌, ◌⊎◌, ℕ, ◌≤◌, Bool, true, false, List, Option}
 use Rattle.xdr_io.specs.Reported.{Counts, CountsAtMost, MovesAtMost}
-use Rattle.oncrpc_tasks.specs.declared.task.Task.{Task}
-use Rattle.oncrpc_tasks.specs.declared.task.Task.TheVariants as task
-use Rattle.oncrpc_tasks.specs.declared.task.ValueTask.{ValueTask}
+use Rattle.oncrpc_answers.specs.declared.task.Task.{Task}
+use Rattle.oncrpc_answers.specs.declared.task.Task.TheVariants as task
+use Rattle.oncrpc_answers.specs.declared.task.ValueTask.{ValueTask}
 use Rattle.oncrpc_tasks.specs.Checked.{Answers, AnswersInPart}
 use Rattle.oncrpc_tasks.specs.Devices.{Reports}
 use Rattle.oncrpc_tasks.specs.Input.{most_read}

@@ -3,7 +3,6 @@ pub mod Devices
 pub mod Ends
 pub mod Hexadecimal
 pub mod Input
-pub mod Lines
 pub mod Private
 pub mod Records
 pub mod RecordsEnd

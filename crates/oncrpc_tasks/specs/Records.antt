@@ -6,8 +6,8 @@ use Rattle.hex.specs.Hex.{decode_of, encode_lower}
 use Rattle.rpc_record.specs.declared.fault.Count.{Count}
 use Rattle.rpc_record.specs.declared.fault.RecordFault.TheVariants as fault
 use Rattle.rpc_record.specs.Normalised.{Normalised, Stops}
-use Rattle.oncrpc_tasks.specs.declared.failure.Failure.{Failure}
-use Rattle.oncrpc_tasks.specs.declared.failure.Failure.TheVariants as failure
+use Rattle.oncrpc_answers.specs.declared.failure.Failure.{Failure}
+use Rattle.oncrpc_answers.specs.declared.failure.Failure.TheVariants as failure
 use Rattle.oncrpc_tasks.specs.declared.records.Marking.{Marking}
 use Rattle.oncrpc_tasks.specs.declared.records.Marking.TheVariants as marking
 use Rattle.oncrpc_tasks.specs.Hexadecimal.{digits, IsBadHex}

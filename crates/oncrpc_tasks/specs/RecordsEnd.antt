@@ -4,8 +4,8 @@ use Rattle.std.specs.Prelude.{None, Some, Ok, ⊤}
 use Rattle.std.specs.Io.KnownBytes.{Appends}
 use Rattle.hex.specs.Hex.{decode_of, encode_lower}
 use Rattle.xdr_io.specs.Reported.{Counts, CountsAtMost, MovesAtMost}
-use Rattle.oncrpc_tasks.specs.declared.failure.Failure.{Failure}
-use Rattle.oncrpc_tasks.specs.declared.failure.Failure.TheVariants as failure
+use Rattle.oncrpc_answers.specs.declared.failure.Failure.{Failure}
+use Rattle.oncrpc_answers.specs.declared.failure.Failure.TheVariants as failure
 use Rattle.oncrpc_tasks.specs.declared.records.Marking.{Marking}
 use Rattle.oncrpc_tasks.specs.Devices.{Reports, Fails}
 use Rattle.oncrpc_tasks.specs.Hexadecimal.{digits}

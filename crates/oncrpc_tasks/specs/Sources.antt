@@ -6,7 +6,7 @@ use Rattle.xdr_io.specs.Reported.{Counts}
 use Rattle.xdr_types.specs.Named.{basic}
 use Rattle.xdr_lang.specs.Declarations.{Declared}
 use Rattle.xdr_lang.specs.Means.{Means}
-use Rattle.oncrpc_tasks.specs.declared.failure.Failure.TheVariants as failure
+use Rattle.oncrpc_answers.specs.declared.failure.Failure.TheVariants as failure
 use Rattle.oncrpc_tasks.specs.declared.unusable.Unusable.{Unusable}
 use Rattle.oncrpc_tasks.specs.declared.unusable.Unusable.TheVariants as unusable
 

@@ -3,10 +3,10 @@ use Rattle.std.specs.Prelude.{◌≡◌, ◌⊎◌, ℕ, ◌<◌, Bool, List, le
 use Rattle.std.specs.declared.alloc.Global.{Global}
 use Rattle.xdr_types.specs.Within.{AreBounds}
 use Rattle.xdr_lang.specs.Declarations.{Declared}
-use Rattle.oncrpc_tasks.specs.declared.task.Task.{Task}
-use Rattle.oncrpc_tasks.specs.declared.task.Task.TheVariants as task
-use Rattle.oncrpc_tasks.specs.declared.task.ValueTask.{ValueTask}
-use Rattle.oncrpc_tasks.specs.declared.failure.Failure.TheVariants as failure
+use Rattle.oncrpc_answers.specs.declared.task.Task.{Task}
+use Rattle.oncrpc_answers.specs.declared.task.Task.TheVariants as task
+use Rattle.oncrpc_answers.specs.declared.task.ValueTask.{ValueTask}
+use Rattle.oncrpc_answers.specs.declared.failure.Failure.TheVariants as failure
 use Rattle.oncrpc_tasks.specs.declared.target.Target.{Target}
 use Rattle.oncrpc_tasks.specs.declared.unusable.Unusable.{Unusable}
 use Rattle.oncrpc_tasks.specs.declared.unusable.Unusable.TheVariants as unusable

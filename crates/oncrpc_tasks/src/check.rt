@@ -8,14 +8,13 @@ ghost use Rattle.oncrpc_tasks.specs.Input.{InputGives};
 ghost use Rattle.oncrpc_tasks.specs.Private.Judged.{Shows, unshown};
 ghost use Rattle.oncrpc_tasks.specs.Private.Printed.{Prints};
 ghost use Rattle.oncrpc_tasks.specs.Private.Reading.{EndsReading, ReadsInput};
-ghost use Rattle.oncrpc_tasks.specs.Lines.{line};
+ghost use Rattle.oncrpc_answers.specs.Lines.{line};
 ghost use Rattle.oncrpc_tasks.specs.Right.{IsKnown, IsRight, IsRightFor, asked_of};
 
-use super::answer::{Answer, line_of, status_of};
-use super::failure::{Failure, report};
 use super::given::{Given, given_over};
 use super::judge::{judge_bytes, judge_over};
 use super::question::Question;
+use oncrpc_answers::{Answer, Failure, line_of, report, status_of};
 use std::alloc::Global;
 use xdr_codec::Reason;
 use xdr_io::{Sink, Source, write_whole};

@@ -3,9 +3,9 @@ ghost use Rattle.std.specs.Prelude.{◌≡◌, IfOk, IfErr, IsErrOf, Some, strin
 ghost use Rattle.xdr_lang.specs.Views.{declared_of};
 ghost use Rattle.oncrpc_tasks.specs.Sources.{bare, Declares, FileFails, HasNone, reported_text};
 
-use super::failure::Failure;
 use super::open::Opener;
 use super::unusable::Unusable;
+use oncrpc_answers::Failure;
 use std::alloc::Global;
 use xdr_io::read_past;
 use xdr_lang::{Declared, MAX_TEXT, read};

@@ -3,8 +3,8 @@ ghost use Rattle.std.specs.Prelude.{◌≡◌, ◌+◌, IfOk, OnOk, IsErrOf};
 ghost use Rattle.xdr_io.specs.Reported.{Counts, CountsAtMost, MovesAtMost};
 ghost use Rattle.oncrpc_tasks.specs.Input.{InputGives};
 
-use super::failure::Failure;
 use super::hexadecimal::{MOST_TEXT, bytes_of_text};
+use oncrpc_answers::Failure;
 use std::alloc::Global;
 use xdr_io::{Source, read_past};
 

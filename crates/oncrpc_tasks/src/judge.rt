@@ -7,9 +7,8 @@ ghost use Rattle.oncrpc_tasks.specs.Right.{IsKnown, IsRight, IsRightFor, asked_o
 ghost use Rattle.oncrpc_tasks.specs.Private.Judged.{Follows, IsRetained, Says, unshown};
 ghost use Rattle.oncrpc_tasks.specs.Private.Reading.{EndsReading, ReadsInput};
 
-use super::answer::Answer;
-use super::failure::Failure;
 use super::question::Question;
+use oncrpc_answers::{Answer, Failure};
 use std::alloc::{AllocError, Global};
 use xdr_codec::{Checker, DecodeFault, Progress, Reason};
 use xdr_io::{MOST_READS, Source};

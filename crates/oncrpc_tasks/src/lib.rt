@@ -1,18 +1,15 @@
 //! The engines of the program `oncrpc`, over readers and writers: what is printed, and the exit status.
 //!
-//! - `task`: what the words ask for, and how it is done. `target`: the kind that they name. `declared`: the text that
+//! - `task`: how what the words ask for is done. `target`: the kind that they name. `declared`: the text that
 //!   declares it. `open`: how that text is opened. `unusable`: why words name nothing.
 //! - `check`: reads one value, and prints what the input holds. `question`: what is asked of the input. `judge`: judges
-//!   the bytes as they come. `answer`: the line that says what the input holds.
+//!   the bytes as they come.
 //! - `records`: writes a stream of records in its normal form.
 //! - `given`: an input that is a text of hexadecimal. `hexadecimal`: the bytes that such a text spells.
-//! - `failure`: what stops a task, its line and its exit status.
 #![tactic(auto)]
 
-mod answer;
 mod check;
 mod declared;
-mod failure;
 mod given;
 mod hexadecimal;
 mod judge;
@@ -23,10 +20,8 @@ mod target;
 mod task;
 mod unusable;
 
-pub use answer::{Answer, line_of};
 pub use check::{answer_over, check_over, show_over};
-pub use failure::{Failure, report};
 pub use open::{MemoryOpener, Opener};
 pub use question::Question;
 pub use records::{MOST_LIMIT, Marking, records_over};
-pub use task::{RecordsTask, Task, ValueTask, task_over};
+pub use task::task_over;

@@ -7,8 +7,8 @@ ghost use Rattle.oncrpc_tasks.specs.Input.{most_read};
 ghost use Rattle.oncrpc_tasks.specs.Records.{Marks, MarksAsText, StopsFor, refusal_line};
 ghost use Rattle.oncrpc_tasks.specs.Private.Reading.{EndsByDevice};
 
-use super::failure::{Failure, report};
 use super::given::{Given, given_over};
+use oncrpc_answers::{Failure, report};
 use rpc_record::{RecordFault, normalise};
 use std::alloc::{AllocError, Global};
 use xdr_io::{Gathered, MemorySource, Sink, Source, write_whole};

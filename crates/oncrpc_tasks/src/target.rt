@@ -4,10 +4,9 @@ ghost use Rattle.oncrpc_tasks.specs.Sources.{FileFails};
 ghost use Rattle.oncrpc_tasks.specs.Tasks.{AsksFor, HasNoQuestion};
 
 use super::declared::declared;
-use super::failure::Failure;
 use super::open::Opener;
-use super::task::ValueTask;
 use super::unusable::Unusable;
+use oncrpc_answers::{Failure, ValueTask};
 use oncrpc_kinds::kind_named;
 use std::alloc::Global;
 use xdr_types::{KindId, Limits, Schema};

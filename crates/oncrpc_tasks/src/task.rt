@@ -1,4 +1,4 @@
-//! A task that needs no network: what the words ask for, and how it is done.
+//! How a task that needs no network is done.
 ghost use Rattle.std.specs.Prelude.{◌≤◌};
 ghost use Rattle.oncrpc_tasks.specs.Ends.{TaskEnds, WordsEnd};
 ghost use Rattle.oncrpc_tasks.specs.Sources.{FileFails};
@@ -10,43 +10,9 @@ use super::question::Question;
 use super::records::records_over;
 use super::target::target_of;
 use super::unusable::refuse;
+use oncrpc_answers::{Task, ValueTask};
 use std::alloc::Global;
 use xdr_io::{Sink, Source};
-
-/// What the words ask for.
-#[derive(Debug, PartialEq, Eq, Drop)]
-pub enum Task {
-    /// Read one value, and print what the input holds.
-    Check(ValueTask),
-    /// Read one value, and print its lines and what the input holds.
-    Show(ValueTask),
-    /// Write a stream of records in its normal form.
-    Records(RecordsTask),
-}
-
-/// One value to be read from the input.
-#[derive(Debug, PartialEq, Eq, Drop)]
-pub struct ValueTask {
-    /// The name of its kind.
-    pub name: String,
-    /// The name of the text that declares it; none for the basic kinds alone.
-    pub types: Option<String>,
-    /// Whether the input is a text of hexadecimal.
-    pub hex: bool,
-    /// The limit on depth.
-    pub depth: u32,
-    /// The limit on bytes.
-    pub bytes: u32,
-}
-
-/// Records to be read from the input.
-#[derive(Debug, PartialEq, Eq, Drop)]
-pub struct RecordsTask {
-    /// The limit on the bytes of a record.
-    pub limit: u32,
-    /// Whether the input is a text of hexadecimal, and the output too.
-    pub hex: bool,
-}
 
 /// Does the task, and gives the exit status. 2 is a text of declarations, a name or limits that are refused, in this
 /// order, before any input is read. A text that cannot be opened or read is 3. The others are those of `check_over`,

@@ -1,10 +1,11 @@
 //! Why a task asks nothing of its input.
 ghost use Rattle.std.specs.Prelude.{◌≡◌};
-ghost use Rattle.oncrpc_tasks.specs.Status.{Ends, failure_of_input};
-ghost use Rattle.oncrpc_tasks.specs.declared.failure.Failure.TheVariants.{Read, NoMemory};
+ghost use Rattle.oncrpc_answers.specs.Status.{failure_of_input};
+ghost use Rattle.oncrpc_tasks.specs.Status.{Ends};
+ghost use Rattle.oncrpc_answers.specs.declared.failure.Failure.TheVariants.{Read, NoMemory};
 ghost use Rattle.oncrpc_tasks.specs.declared.unusable.Unusable.TheVariants.{Failed};
 
-use super::failure::{Failure, report};
+use oncrpc_answers::{Failure, report};
 use std::alloc::{AllocError, Global};
 use xdr_io::{InputFault, ReadFault, Sink, write_whole};
 use xdr_lang::LangFault;

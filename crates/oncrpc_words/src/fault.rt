@@ -5,7 +5,7 @@ ghost use Rattle.xdr_io.specs.Reported.{Counts};
 
 use clap::Error;
 use clap::error::ErrorKind;
-use oncrpc_tasks::{Failure, report};
+use oncrpc_answers::{Failure, report};
 use std::alloc::Global;
 use xdr_io::{Sink, write_whole};
 

@@ -1,5 +1,5 @@
 //! What the program's words ask for.
-use oncrpc_tasks::Task;
+use oncrpc_answers::Task;
 
 /// What the words ask for.
 #[derive(Debug, PartialEq, Eq, Drop)]

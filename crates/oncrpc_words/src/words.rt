@@ -6,7 +6,7 @@ use super::command::{BYTES, DEPTH, VERS, command};
 use super::fault::{WordsFault, fault_of, no_memory};
 use super::request::{InfoTask, Request, ServeTask};
 use clap::{ArgMatches, Error};
-use oncrpc_tasks::{RecordsTask, Task, ValueTask};
+use oncrpc_answers::{RecordsTask, Task, ValueTask};
 use std::alloc::{AllocError, Global};
 
 /// Reads the words that stand after the program's own name. No words at all check an opaque in hexadecimal.

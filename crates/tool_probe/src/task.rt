@@ -2,7 +2,8 @@
 //! of the name `a.x` has the text of the case.
 use crate::case::{Case, allow};
 use crate::reported::Report;
-use oncrpc_tasks::{MemoryOpener, RecordsTask, Task, ValueTask, task_over};
+use oncrpc_answers::{RecordsTask, Task, ValueTask};
+use oncrpc_tasks::{MemoryOpener, task_over};
 use std::alloc::Global;
 use std::env::Env;
 use xdr_io::{MemorySink, MemorySource};

@@ -4,7 +4,7 @@ ghost use Rattle.xdr_grammar.specs.Private.Reading.{named_struct_at, body_word_a
 ghost use Rattle.xdr_grammar.specs.Private.Parsing.{left, so_far};
 
 use crate::misread::Misread;
-use crate::outline::BodyKind;
+use crate::outline::{BodyKind, Field};
 use crate::parser::Parser;
 use xdr_tokens::{Keyword, Mark, Token};
 
@@ -55,19 +55,16 @@ impl<'t, 'a> Parser<'t, 'a> {
     }
 
     /// The switch declaration of a union whose body is one too many, where no body stands in it.
-    fn flat_declaration(&mut self) -> Result<(), Misread> {
+    fn flat_declaration(&mut self) -> Result<Field<'a>, Misread> {
         let start = self.here();
         if self.word(Keyword::Opaque) {
-            self.opaque(start)?;
-            return Ok(());
+            return self.opaque(start);
         }
         if self.word(Keyword::String) {
-            self.text(start)?;
-            return Ok(());
+            return self.text(start);
         }
         let part = self.basic()?;
-        self.declared(part, start)?;
-        Ok(())
+        self.declared(part, start)
     }
 
     /// The mark in front has to be a `{`, which stays.

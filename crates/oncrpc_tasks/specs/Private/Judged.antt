@@ -3,7 +3,7 @@ use Rattle.std.specs.Prelude.{◌≡◌, ℕ, List, [], ◌++◌, Bool, true, fa
 use Rattle.std.specs.Io.KnownBytes.{Consumes}
 use Rattle.xdr_codec.specs.Checks.{RepresentsBytes}
 use Rattle.xdr_codec.specs.declared.checker.Checker.{Checker}
-use Rattle.oncrpc_tasks.specs.declared.answer.Answer.{Answer}
+use Rattle.oncrpc_answers.specs.declared.answer.Answer.{Answer}
 use Rattle.oncrpc_tasks.specs.declared.judge.Verdict.{Verdict}
 use Rattle.oncrpc_tasks.specs.declared.judge.Verdict.TheVariants.{Open, Settled}
 use Rattle.oncrpc_tasks.specs.Right.{Question, IsRight}

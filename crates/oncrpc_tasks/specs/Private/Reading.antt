@@ -1,8 +1,8 @@
 -- How an input was read, and why reading it gave no answer.
 use Rattle.std.specs.Prelude.{ℕ, Bool, List, Option, Result, OnOk, IsErrOf}
 use Rattle.xdr_io.specs.Reported.{Counts, CountsAtMost, MovesAtMost}
-use Rattle.oncrpc_tasks.specs.declared.failure.Failure.{Failure}
-use Rattle.oncrpc_tasks.specs.declared.failure.Failure.TheVariants as failure
+use Rattle.oncrpc_answers.specs.declared.failure.Failure.{Failure}
+use Rattle.oncrpc_answers.specs.declared.failure.Failure.TheVariants as failure
 use Rattle.oncrpc_tasks.specs.Devices.{Reports}
 use Rattle.oncrpc_tasks.specs.Ends.{NeedsMore, StopsReading}
 use Rattle.oncrpc_tasks.specs.Input.{most_read}

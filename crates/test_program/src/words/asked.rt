@@ -1,6 +1,6 @@
 //! The tasks that words ask for, and words that ask for none.
 use crate::words::reading::{Words, read};
-use oncrpc_tasks::{RecordsTask, Task, ValueTask};
+use oncrpc_answers::{RecordsTask, Task, ValueTask};
 use oncrpc_words::{InfoTask, Request, ServeTask, WordsFault};
 use std::alloc::{AllocError, Global};
 

@@ -2,8 +2,8 @@
 use Rattle.std.specs.Prelude.{ℕ, List, ◌++◌, codes, decimal}
 use Rattle.xdr_stream.specs.declared.fault.Reason.{Reason}
 use Rattle.xdr_stream.specs.declared.fault.Reason.TheVariants as reason
-use Rattle.oncrpc_tasks.specs.declared.answer.Answer.{Answer}
-use Rattle.oncrpc_tasks.specs.declared.answer.Answer.TheVariants as answer
+use Rattle.oncrpc_answers.specs.declared.answer.Answer.{Answer}
+use Rattle.oncrpc_answers.specs.declared.answer.Answer.TheVariants as answer
 
 -- 0 where there is a value, 1 where the bytes are refused
 abbrev pub line_status : Answer → ℕ

@@ -1,7 +1,7 @@
 //! What ends a task before its answer is there.
 ghost use Rattle.std.specs.Prelude.{◌≡◌};
-ghost use Rattle.oncrpc_tasks.specs.Status.{failure_status, failure_of_input};
-ghost use Rattle.oncrpc_tasks.specs.declared.failure.Failure.TheVariants.{Write, NoMemory};
+ghost use Rattle.oncrpc_answers.specs.Status.{failure_status, failure_of_input};
+ghost use Rattle.oncrpc_answers.specs.declared.failure.Failure.TheVariants.{Write, NoMemory};
 
 use std::alloc::{AllocError, AllocFailed};
 use thiserror::Error;

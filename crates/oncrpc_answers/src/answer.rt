@@ -1,9 +1,9 @@
 //! The line that says what an input holds.
 ghost use Rattle.std.specs.Prelude.{◌≡◌, IfOk, string_bytes};
-ghost use Rattle.oncrpc_tasks.specs.Lines.{line, line_status, name};
+ghost use Rattle.oncrpc_answers.specs.Lines.{line, line_status, name};
 
 use std::alloc::{AllocError, Global};
-use xdr_codec::{DecodeFault, Reason};
+use xdr_stream::{DecodeFault, Reason};
 
 /// What an input holds.
 #[derive(Clone, Copy, Debug, PartialEq, Eq)]
