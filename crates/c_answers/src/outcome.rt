@@ -4,7 +4,7 @@ ghost use Rattle.c_answers.specs.Outcomes.{only_at};
 
 /// What a call found: the `oncrpc_outcome` of the header. Each field that a status does not speak of is 0.
 #[repr(C)]
-#[derive(Clone, Copy, Debug, PartialEq, Eq)]
+#[derive(Clone, Copy)]
 pub struct Outcome {
     /// How many bytes a value, a record or a reply has, were taken or are needed; or the place of a refusal, which is
     /// the count of bytes before it.

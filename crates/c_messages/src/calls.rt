@@ -19,7 +19,7 @@ const MOST_BODY: usize = 400;
 
 /// What C sees of a call. Each field that a status does not speak of is 0.
 #[repr(C)]
-#[derive(Clone, Copy, Debug, PartialEq, Eq)]
+#[derive(Clone, Copy)]
 pub struct CallParts {
     pub xid: u32,
     pub rpc_version: u32,

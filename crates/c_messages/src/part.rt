@@ -4,7 +4,7 @@ ghost use Rattle.c_messages.specs.Parts.{part, none, padded_size};
 
 /// So many bytes, behind so many bytes of the message.
 #[repr(C)]
-#[derive(Clone, Copy, Debug, PartialEq, Eq)]
+#[derive(Clone, Copy)]
 pub struct Part {
     pub at: usize,
     pub count: usize,

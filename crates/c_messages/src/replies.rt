@@ -27,7 +27,7 @@ const MOST_STATE: u32 = 7;
 
 /// What C sees of a reply. Each field that the state does not speak of is 0.
 #[repr(C)]
-#[derive(Clone, Copy, Debug, PartialEq, Eq)]
+#[derive(Clone, Copy)]
 pub struct ReplyParts {
     pub xid: u32,
     /// The number of an accepted reply's status, 0 to 5, or 6 for RPC_MISMATCH, or 7 for AUTH_ERROR.

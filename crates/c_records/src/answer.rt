@@ -6,7 +6,7 @@ use c_answers::Outcome;
 use rpc_record::RecordFault;
 
 /// What a call answers.
-#[derive(Clone, Copy, Debug, PartialEq, Eq)]
+#[derive(Clone, Copy)]
 pub enum Answer {
     /// It is done: a record waits and so many bytes of the piece were taken, or so many bytes of a record were written.
     Whole { count: usize },

@@ -5,7 +5,7 @@ ghost use Rattle.c_registry.specs.Statuses.{status_of, outcome_of};
 use c_answers::Outcome;
 
 /// What a call answers.
-#[derive(Clone, Copy, Debug, PartialEq, Eq)]
+#[derive(Clone, Copy)]
 pub enum Answer {
     /// It is done, and so many bytes of a reply were written.
     Whole { count: usize },

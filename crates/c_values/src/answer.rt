@@ -7,7 +7,7 @@ use xdr_codec::DecodeFault;
 use xdr_lang::LangFault;
 
 /// What a call answers.
-#[derive(Clone, Copy, Debug, PartialEq, Eq)]
+#[derive(Clone, Copy)]
 pub enum Answer {
     /// All was done: a value of so many bytes and no more, or so many bytes written.
     Whole { used: usize },

@@ -5,7 +5,7 @@ ghost use Rattle.c_values.specs.Parted.{parts_status, parts_outcome, counted, si
 use xdr_codec::DecodeFault;
 
 /// How large a value and the list of its parts are.
-#[derive(Clone, Copy, Debug, PartialEq, Eq)]
+#[derive(Clone, Copy)]
 pub struct Counts {
     /// How many bytes the value has.
     pub used: usize,
@@ -17,7 +17,7 @@ pub struct Counts {
 
 /// What a call for parts found. Each field that a status does not speak of is 0.
 #[repr(C)]
-#[derive(Clone, Copy, Debug, PartialEq, Eq)]
+#[derive(Clone, Copy)]
 pub struct PartsOutcome {
     /// How many bytes the value has, or the place of a refusal: the count of bytes before it.
     pub at: usize,
@@ -30,7 +30,7 @@ pub struct PartsOutcome {
 }
 
 /// What a call for parts answers.
-#[derive(Clone, Copy, Debug, PartialEq, Eq)]
+#[derive(Clone, Copy)]
 pub enum Listed {
     /// The parts of a value that is all of the input.
     Whole(Counts),

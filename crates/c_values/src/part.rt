@@ -10,7 +10,7 @@ use xdr_types::{Kind, Schema};
 
 /// A part of a value (RFC 4506 section 4).
 #[repr(C)]
-#[derive(Clone, Copy, Debug, PartialEq, Eq)]
+#[derive(Clone, Copy)]
 pub struct ValuePart {
     /// How many bytes of the input are before it.
     pub at: usize,

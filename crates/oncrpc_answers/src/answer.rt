@@ -6,7 +6,7 @@ use std::alloc::{AllocError, Global};
 use xdr_stream::{DecodeFault, Reason};
 
 /// What an input holds.
-#[derive(Clone, Copy, Debug, PartialEq, Eq)]
+#[derive(Clone, Copy, PartialEq, Eq)]
 pub enum Answer {
     /// A value of so many bytes, and no more.
     Whole { used: usize },

@@ -1,7 +1,7 @@
 //! What the words ask for.
 
 /// What the words ask for.
-#[derive(Debug, PartialEq, Eq, Drop)]
+#[derive(PartialEq, Eq, Drop)]
 pub enum Task {
     /// Read one value, and print what the input holds.
     Check(ValueTask),
@@ -12,7 +12,7 @@ pub enum Task {
 }
 
 /// One value to be read from the input.
-#[derive(Debug, PartialEq, Eq, Drop)]
+#[derive(PartialEq, Eq, Drop)]
 pub struct ValueTask {
     /// The name of its kind.
     pub name: String,
@@ -27,7 +27,7 @@ pub struct ValueTask {
 }
 
 /// Records to be read from the input.
-#[derive(Debug, PartialEq, Eq, Drop)]
+#[derive(PartialEq, Eq, Drop)]
 pub struct RecordsTask {
     /// The limit on the bytes of a record.
     pub limit: u32,

@@ -8,7 +8,7 @@ use crate::numbers::first_number;
 use xdr_units::decimal_number;
 
 /// A part of a procedure that has a kind.
-#[derive(Clone, Copy, Debug, PartialEq, Eq)]
+#[derive(Clone, Copy, PartialEq, Eq)]
 pub enum Part {
     /// The argument with this number, from 1.
     Argument(u32),
@@ -17,7 +17,7 @@ pub enum Part {
 }
 
 /// The name of an argument or of the result of a procedure.
-#[derive(Clone, Copy, Debug, PartialEq, Eq)]
+#[derive(Clone, Copy, PartialEq, Eq)]
 pub struct PartName {
     /// The program's number.
     pub program: u32,

@@ -17,7 +17,7 @@ use xdr_io::{Gathered, MemorySource, Sink, Source, write_whole};
 pub const MOST_LIMIT: u32 = 2147483647;
 
 /// What an input holds, read as a stream of records.
-#[derive(Clone, Copy, Debug, PartialEq, Eq)]
+#[derive(Clone, Copy, PartialEq, Eq)]
 pub enum Marking {
     /// Records within the limit, to its end.
     Whole,

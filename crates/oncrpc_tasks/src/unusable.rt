@@ -11,7 +11,7 @@ use xdr_io::{InputFault, ReadFault, Sink, write_whole};
 use xdr_lang::LangFault;
 
 /// Why there is no question.
-#[derive(Clone, Copy, Debug, PartialEq, Eq)]
+#[derive(Clone, Copy, PartialEq, Eq)]
 pub enum Unusable {
     /// The text of declarations is refused.
     Declaration(LangFault),

@@ -11,7 +11,7 @@ use xdr_io::{Sink, write_whole};
 
 /// Why there is no task: clap's text with status 2, or 0 for help; an empty text with status 4 where memory was
 /// refused.
-#[derive(Debug, PartialEq, Eq, Drop)]
+#[derive(PartialEq, Eq, Drop)]
 pub struct WordsFault {
     pub text: String,
     pub status: u8,

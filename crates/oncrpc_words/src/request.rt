@@ -2,7 +2,7 @@
 use oncrpc_answers::Task;
 
 /// What the words ask for.
-#[derive(Debug, PartialEq, Eq, Drop)]
+#[derive(PartialEq, Eq, Drop)]
 pub enum Request {
     /// A task that needs no network.
     Offline(Task),
@@ -13,7 +13,7 @@ pub enum Request {
 }
 
 /// A registry that is asked for its rows.
-#[derive(Debug, PartialEq, Eq, Drop)]
+#[derive(PartialEq, Eq, Drop)]
 pub struct InfoTask {
     /// The name or address of its host.
     pub host: String,
@@ -26,7 +26,7 @@ pub struct InfoTask {
 }
 
 /// A registry to be served.
-#[derive(Debug, PartialEq, Eq, Drop)]
+#[derive(PartialEq, Eq, Drop)]
 pub struct ServeTask {
     /// The port to listen at, over TCP and over UDP; 0 takes one that is free over TCP.
     pub port: u16,

@@ -30,7 +30,7 @@ use xdr_laws::whole_exactly;
 use xdr_units::{NoMemory, push_word};
 
 /// A call of a caller who is believed.
-#[derive(Clone, Copy, Debug)]
+#[derive(Clone, Copy)]
 pub struct Asked<'a> {
     /// The transport over which it came.
     pub transport: Transport,

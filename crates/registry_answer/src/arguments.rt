@@ -11,7 +11,7 @@ use xdr_units::{first_content, first_word};
 const MOST_BYTES: usize = 65536;
 
 /// The argument of version 2 (RFC 1833 section 3.1).
-#[derive(Clone, Copy, Debug)]
+#[derive(Clone, Copy)]
 pub struct Mapping {
     pub prog: u32,
     pub vers: u32,
@@ -20,7 +20,7 @@ pub struct Mapping {
 }
 
 /// The argument of versions 3 and 4, without its owner (RFC 1833 section 2.1).
-#[derive(Clone, Copy, Debug)]
+#[derive(Clone, Copy)]
 pub struct Rpcb<'a> {
     pub prog: u32,
     pub vers: u32,

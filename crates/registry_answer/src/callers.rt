@@ -11,7 +11,7 @@ use rpc_message::{
 use std::alloc::Global;
 
 /// The owner of the rows that a caller sets.
-#[derive(Clone, Copy, Debug)]
+#[derive(Clone, Copy)]
 pub enum Owner {
     /// A caller without a name.
     Unknown,
@@ -20,7 +20,7 @@ pub enum Owner {
 }
 
 /// The caller that a credential names.
-#[derive(Clone, Copy, Debug)]
+#[derive(Clone, Copy)]
 pub enum Caller {
     /// A caller who is believed.
     Owner(Owner),

@@ -19,7 +19,7 @@ const DUMP: u32 = 4;
 const GETVERSADDR: u32 = 9;
 
 /// A procedure.
-#[derive(Clone, Copy, Debug)]
+#[derive(Clone, Copy)]
 pub enum Procedure {
     /// Nothing is done.
     Null,
@@ -34,7 +34,7 @@ pub enum Procedure {
 }
 
 /// What is done with a `mapping`.
-#[derive(Clone, Copy, Debug)]
+#[derive(Clone, Copy)]
 pub enum OnMapping {
     Set,
     Unset,
@@ -42,7 +42,7 @@ pub enum OnMapping {
 }
 
 /// What is done with an `rpcb`.
-#[derive(Clone, Copy, Debug)]
+#[derive(Clone, Copy)]
 pub enum OnRpcb {
     Set,
     Unset,

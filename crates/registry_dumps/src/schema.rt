@@ -6,7 +6,7 @@ ghost use Rattle.xdr_types.specs.Faults.{IsWellFormed, fault};
 ghost use Rattle.xdr_types.specs.Sound.{IsSound};
 ghost use Rattle.xdr_types.specs.declared.fault.Flaw.TheVariants as flaw;
 ghost use Rattle.xdr_types.specs.Named.{named};
-ghost use Rattle.registry_dumps.specs.Dir.{dir_kinds, dir_lists, rpcb, mapping};
+ghost use Rattle.registry_dumps.specs.Dir.{any_text, dir_kinds, dir_lists, rpcb, mapping};
 
 use std::alloc::Global;
 use std::string::String;
@@ -73,26 +73,30 @@ fn build_lists(
 fn dir_names(alloc: Global) -> Result<Vec<(String, KindId)>, NoMemory>
     ensures { IfOk result (λ v. map name_of v.items ≡ dir_lists.names) }
 {
+    let own = [
+        ("rpcb", RPCB),
+        ("rp__list", RPCB_NODE),
+        ("rpcblist", RPCB_LIST),
+        ("mapping", MAPPING),
+        ("pm__list", MAPPING_NODE),
+        ("pmaplist", MAPPING_LIST),
+    ];
     let mut names = basic_names(alloc)?;
-    push_name(&mut names, alloc, "rpcb", RPCB)?;
-    push_name(&mut names, alloc, "rp__list", RPCB_NODE)?;
-    push_name(&mut names, alloc, "rpcblist", RPCB_LIST)?;
-    push_name(&mut names, alloc, "mapping", MAPPING)?;
-    push_name(&mut names, alloc, "pm__list", MAPPING_NODE)?;
-    push_name(&mut names, alloc, "pmaplist", MAPPING_LIST)?;
+    push_names(alloc, &mut names, &own)?;
     Ok(names)
 }
 
-// Adds a name and the place that it names.
-fn push_name(
-    names: &mut Vec<(String, KindId)>,
+// Adds names and the places that they name.
+fn push_names(
     alloc: Global,
-    name: &str,
-    place: u32,
+    names: &mut Vec<(String, KindId)>,
+    own: &[(&str, u32)],
 ) -> Result<(), NoMemory>
-    ensures { OnOk result (map name_of names.new.items ≡ map name_of names.old.items ++ named name.now place ∷ []) }
+    ensures { OnOk result (map name_of names.new.items ≡ map name_of names.old.items ++ map (λ r. named r.0.now r.1) own.now) }
 {
-    names.push((String::from_str(alloc, name)?, KindId { place }))?;
+    for row in own {
+        names.push((String::from_str(alloc, row.0)?, KindId { place: row.1 }))?;
+    }
     Ok(())
 }
 
@@ -100,30 +104,28 @@ fn push_name(
 fn row_kind(alloc: Global) -> Result<Kind, NoMemory>
     ensures { IfOk result (λ k. kind_view k ≡ rpcb) }
 {
-    let mut fields = Vec::with_capacity(alloc, 5)?;
-    push_field(&mut fields, alloc, "r_prog", UNSIGNED)?;
-    push_field(&mut fields, alloc, "r_vers", UNSIGNED)?;
-    push_field(&mut fields, alloc, "r_netid", NETID)?;
-    push_field(&mut fields, alloc, "r_addr", ADDRESS)?;
-    push_field(&mut fields, alloc, "r_owner", OWNER)?;
-    Ok(Kind::Structure { fields })
+    let fields = [
+        ("r_prog", UNSIGNED),
+        ("r_vers", UNSIGNED),
+        ("r_netid", NETID),
+        ("r_addr", ADDRESS),
+        ("r_owner", OWNER),
+    ];
+    structure_of(alloc, &fields)
 }
 
-// Adds a field.
-fn push_field(
-    fields: &mut Vec<Member>,
-    alloc: Global,
-    name: &str,
-    place: u32,
-) -> Result<(), NoMemory>
-    ensures { let part = named name.now place in
-        OnOk result (map part_of_member fields.new.items ≡ map part_of_member fields.old.items ++ part ∷ []) }
+// A structure of these fields, each a name and the place of its kind.
+fn structure_of(alloc: Global, rows: &[(&str, u32)]) -> Result<Kind, NoMemory>
+    ensures { IfOk result (λ k. kind_view k ≡ xdr.structure (map (λ r. named r.0.now r.1) rows.now)) }
 {
-    fields.push(Member {
-        name: String::from_str(alloc, name)?,
-        kind: KindId { place },
-    })?;
-    Ok(())
+    let mut fields = Vec::with_capacity(alloc, rows.len())?;
+    for row in rows {
+        fields.push(Member {
+            name: String::from_str(alloc, row.0)?,
+            kind: KindId { place: row.1 },
+        })?;
+    }
+    Ok(Kind::Structure { fields })
 }
 
 // The kinds, the basic ones first.
@@ -131,24 +133,48 @@ fn dir_kinds(alloc: Global) -> Result<Vec<Kind>, NoMemory>
     ensures { IfOk result (λ v. map kind_view v.items ≡ dir_kinds) }
 {
     let mut kinds = basic_kinds(alloc)?;
-    push_kind(&mut kinds, Kind::Text { max: u32::MAX })?;
-    push_kind(&mut kinds, Kind::Text { max: u32::MAX })?;
-    push_kind(&mut kinds, Kind::Text { max: u32::MAX })?;
-    push_kind(&mut kinds, row_kind(alloc)?)?;
-    push_kind(&mut kinds, maybe(RPCB_NODE))?;
-    push_kind(
+    push_texts(&mut kinds)?;
+    let rpcb_node = [("rpcb_map", RPCB), ("rpcb_next", RPCB_NEXT)];
+    push_list(
         &mut kinds,
-        node_kind(alloc, "rpcb_map", RPCB, "rpcb_next", RPCB_NEXT)?,
+        row_kind(alloc)?,
+        structure_of(alloc, &rpcb_node)?,
+        RPCB_NODE,
     )?;
-    push_kind(&mut kinds, maybe(RPCB_NODE))?;
-    push_kind(&mut kinds, port_kind(alloc)?)?;
-    push_kind(&mut kinds, maybe(MAPPING_NODE))?;
-    push_kind(
+    let mapping_node = [("map", MAPPING), ("next", MAPPING_NEXT)];
+    push_list(
         &mut kinds,
-        node_kind(alloc, "map", MAPPING, "next", MAPPING_NEXT)?,
+        port_kind(alloc)?,
+        structure_of(alloc, &mapping_node)?,
+        MAPPING_NODE,
     )?;
-    push_kind(&mut kinds, maybe(MAPPING_NODE))?;
     Ok(kinds)
+}
+
+// How many strings a row has.
+const STRINGS: usize = 3;
+
+// Adds the strings of a row: its netid, its address and its owner.
+fn push_texts(kinds: &mut Vec<Kind>) -> Result<(), NoMemory>
+    ensures { OnOk result (map kind_view kinds.new.items ≡ map kind_view kinds.old.items
+        ++ any_text ∷ any_text ∷ any_text ∷ []) }
+{
+    for _ in 0..STRINGS {
+        kinds.push(Kind::Text { max: u32::MAX })?;
+    }
+    Ok(())
+}
+
+// Adds a row, what follows a node, the node, which stands at a place, and the list.
+fn push_list(kinds: &mut Vec<Kind>, row: Kind, node: Kind, place: u32) -> Result<(), NoMemory>
+    ensures { OnOk result (map kind_view kinds.new.items ≡ map kind_view kinds.old.items
+        ++ kind_view row ∷ xdr.maybe place ∷ kind_view node ∷ xdr.maybe place ∷ []) }
+{
+    kinds.push(row)?;
+    kinds.push(maybe(place))?;
+    kinds.push(node)?;
+    kinds.push(maybe(place))?;
+    Ok(())
 }
 
 // An optional value.
@@ -160,38 +186,15 @@ fn maybe(place: u32) -> Kind
     }
 }
 
-// Adds a kind.
-fn push_kind(kinds: &mut Vec<Kind>, kind: Kind) -> Result<(), NoMemory>
-    ensures { OnOk result (map kind_view kinds.new.items ≡ map kind_view kinds.old.items ++ kind_view kind ∷ []) }
-{
-    kinds.push(kind)?;
-    Ok(())
-}
-
-// A node of a list: its item and the rest.
-fn node_kind(
-    alloc: Global,
-    item: &str,
-    place: u32,
-    next: &str,
-    after: u32,
-) -> Result<Kind, NoMemory>
-    ensures { IfOk result (λ k. kind_view k ≡ xdr.structure (named item.now place ∷ named next.now after ∷ [])) }
-{
-    let mut fields = Vec::with_capacity(alloc, 2)?;
-    push_field(&mut fields, alloc, item, place)?;
-    push_field(&mut fields, alloc, next, after)?;
-    Ok(Kind::Structure { fields })
-}
-
 // A row of version 2.
 fn port_kind(alloc: Global) -> Result<Kind, NoMemory>
     ensures { IfOk result (λ k. kind_view k ≡ mapping) }
 {
-    let mut fields = Vec::with_capacity(alloc, 4)?;
-    push_field(&mut fields, alloc, "prog", UNSIGNED)?;
-    push_field(&mut fields, alloc, "vers", UNSIGNED)?;
-    push_field(&mut fields, alloc, "prot", UNSIGNED)?;
-    push_field(&mut fields, alloc, "port", UNSIGNED)?;
-    Ok(Kind::Structure { fields })
+    let fields = [
+        ("prog", UNSIGNED),
+        ("vers", UNSIGNED),
+        ("prot", UNSIGNED),
+        ("port", UNSIGNED),
+    ];
+    structure_of(alloc, &fields)
 }

@@ -13,7 +13,7 @@ use xdr_grammar::{Entry, Late, Name};
 use xdr_tokens::{Fault, Wrong};
 
 /// A constant with its number.
-#[derive(Clone, Copy, Debug)]
+#[derive(Clone, Copy)]
 pub struct Known<'a> {
     /// Its spelling, and the place where it is declared.
     pub name: Name<'a>,

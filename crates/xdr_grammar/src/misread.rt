@@ -7,7 +7,7 @@ use std::alloc::{AllocError, AllocFailed};
 use xdr_tokens::{Fault, Wrong};
 
 /// What is wrong with a token.
-#[derive(Clone, Copy, Debug)]
+#[derive(Clone, Copy)]
 pub(crate) enum Misplaced {
     /// It cannot continue the grammar.
     Unexpected,
@@ -18,7 +18,7 @@ pub(crate) enum Misplaced {
 }
 
 /// What is wrong with a token, and how many bytes there are from it to the end; or want of memory.
-#[derive(Clone, Copy, Debug)]
+#[derive(Clone, Copy)]
 pub(crate) enum Misread {
     Token { why: Misplaced, left: usize },
     NoMemory,

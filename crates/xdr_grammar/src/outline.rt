@@ -1,7 +1,7 @@
 //! What definitions declare, with names in place of what they stand for.
 
 /// A type that is there without a definition.
-#[derive(Clone, Copy, Debug, PartialEq, Eq)]
+#[derive(Clone, Copy, PartialEq, Eq)]
 pub enum Basic {
     Int,
     Unsigned,
@@ -11,7 +11,7 @@ pub enum Basic {
 }
 
 /// Which body a struct, a union or an enum has.
-#[derive(Clone, Copy, Debug, PartialEq, Eq)]
+#[derive(Clone, Copy, PartialEq, Eq)]
 pub(crate) enum BodyKind {
     Enum,
     Struct,
@@ -19,28 +19,28 @@ pub(crate) enum BodyKind {
 }
 
 /// A name of the text, and its place: how many bytes there are from it to the end.
-#[derive(Clone, Copy, Debug)]
+#[derive(Clone, Copy)]
 pub struct Name<'a> {
     pub text: &'a str,
     pub left: usize,
 }
 
 /// A constant of the text, and its place: how many bytes there are from it to the end.
-#[derive(Clone, Copy, Debug)]
+#[derive(Clone, Copy)]
 pub struct Number {
     pub value: i128,
     pub left: usize,
 }
 
 /// A number, or the name of one among the constants before it.
-#[derive(Clone, Copy, Debug)]
+#[derive(Clone, Copy)]
 pub enum Late<'a> {
     Given(Number),
     Earlier { name: Name<'a>, before: usize },
 }
 
 /// What a type specifier or a declaration stands for.
-#[derive(Clone, Copy, Debug)]
+#[derive(Clone, Copy)]
 pub enum Part<'a> {
     Basic(Basic),
     Named(Name<'a>),
@@ -55,14 +55,14 @@ pub enum Part<'a> {
 }
 
 /// A declaration: what it declares, and as what. Void has the empty name.
-#[derive(Clone, Copy, Debug)]
+#[derive(Clone, Copy)]
 pub struct Field<'a> {
     pub name: Name<'a>,
     pub part: Part<'a>,
 }
 
 /// A constant: one that `const` declares, or a member of an enum.
-#[derive(Clone, Copy, Debug)]
+#[derive(Clone, Copy)]
 pub struct Entry<'a> {
     pub name: Name<'a>,
     pub value: Late<'a>,
@@ -70,21 +70,21 @@ pub struct Entry<'a> {
 }
 
 /// A member of an enum.
-#[derive(Clone, Copy, Debug)]
+#[derive(Clone, Copy)]
 pub struct Member<'a> {
     pub name: Name<'a>,
     pub value: Late<'a>,
 }
 
 /// The numbers of an arm of a union, and what it is.
-#[derive(Debug, Drop)]
+#[derive(Drop)]
 pub struct Arm<'a> {
     pub cases: Vec<Late<'a>>,
     pub member: Field<'a>,
 }
 
 /// A kind whose names are not looked up.
-#[derive(Debug, Drop)]
+#[derive(Drop)]
 pub enum Shape<'a> {
     Numbered(Vec<Member<'a>>),
     Opaque(Late<'a>),
@@ -98,14 +98,14 @@ pub enum Shape<'a> {
 }
 
 /// A shape, and the place of the declaration or definition that spells it.
-#[derive(Debug, Drop)]
+#[derive(Drop)]
 pub struct Draft<'a> {
     pub shape: Shape<'a>,
     pub left: usize,
 }
 
 /// A procedure.
-#[derive(Debug, Drop)]
+#[derive(Drop)]
 pub struct Procedure<'a> {
     pub name: Name<'a>,
     pub number: Number,
@@ -114,7 +114,7 @@ pub struct Procedure<'a> {
 }
 
 /// A version of a program.
-#[derive(Debug, Drop)]
+#[derive(Drop)]
 pub struct Version<'a> {
     pub name: Name<'a>,
     pub number: Number,
@@ -122,7 +122,7 @@ pub struct Version<'a> {
 }
 
 /// A program.
-#[derive(Debug, Drop)]
+#[derive(Drop)]
 pub struct Program<'a> {
     pub name: Name<'a>,
     pub number: Number,
@@ -130,7 +130,7 @@ pub struct Program<'a> {
 }
 
 /// What the definitions declare, with names in place of what they stand for.
-#[derive(Debug, Drop)]
+#[derive(Drop)]
 pub struct Outline<'a> {
     pub constants: Vec<Entry<'a>>,
     pub drafts: Vec<Draft<'a>>,

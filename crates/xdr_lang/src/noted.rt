@@ -8,7 +8,7 @@ use xdr_grammar::{Entry, Late, Number};
 use xdr_tokens::{Fault, Wrong};
 
 /// The first fault so far.
-#[derive(Clone, Copy, Debug)]
+#[derive(Clone, Copy)]
 pub struct FirstFault {
     /// What is wrong, and how many bytes there are from there to the end.
     pub fault: Option<(Wrong, usize)>,
