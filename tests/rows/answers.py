@@ -130,7 +130,8 @@ DENIALS = [
     ),
 ]
 # A port that is set is found by both versions, and is not set again; netid and port of a look-up are ignored. A
-# version that is not registered is looked up as the greatest that is, but not by procedure 9 of version 4.
+# version that is not registered is looked up as the greatest that is, but not by procedure 9 of version 4. Last, what
+# adds no row: SET of a protocol that is neither 6 nor 17, of a port above 65535, and without a netid.
 PORTS = [
     called(NOBODY, 2, PMAPPROC_SET, "20000000 00000001 00000006 00000801", SUCCESS + "00000001"),
     called(
