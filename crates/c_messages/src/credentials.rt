@@ -3,8 +3,8 @@ ghost use Rattle.std.specs.Prelude.{◌≡◌, ◌≤◌, ◌⊎◌, length, IfO
 ghost use Rattle.rpc_message.specs.Message.{AuthSysView};
 ghost use Rattle.rpc_message.specs.Spelling.{AuthSysBytes};
 ghost use Rattle.rpc_message.specs.View.{auth_sys_view};
-ghost use Rattle.c_messages.specs.Credentials.{Body, IsBody, body_status, body_reported, silent, reported_of, auth_sys_of};
-ghost use Rattle.c_messages.specs.Credentials.{IsAuthSysWritten};
+ghost use Rattle.c_messages.specs.Credentials.{Body, IsBody, body_status, body_reported, silent, reported_of};
+ghost use Rattle.c_messages.specs.Credentials.{auth_sys_of, IsAuthSysWritten};
 ghost use Rattle.c_messages.specs.Parts.{LiesAt};
 ghost use Rattle.c_messages.specs.Statuses.{Reports};
 

@@ -5,8 +5,8 @@ ghost use Rattle.rpc_message.specs.Spelling.{ReplyBytes};
 ghost use Rattle.rpc_message.specs.View.{reply_view, status_view, HasShortVerf};
 ghost use Rattle.rpc_message.specs.declared.fault.ReplyFault.{ReplyFault as FaultSpec};
 ghost use Rattle.c_messages.specs.Parts.{LiesAt};
-ghost use Rattle.c_messages.specs.Replies.{bare, with_status, reported_of, fault_status, outcome_status, outcome_reported};
-ghost use Rattle.c_messages.specs.Replies.{IsOutcome, verifier_of, results_of, IsReplyWritten};
+ghost use Rattle.c_messages.specs.Replies.{bare, with_status, reported_of, fault_status, outcome_status};
+ghost use Rattle.c_messages.specs.Replies.{outcome_reported, IsOutcome, verifier_of, results_of, IsReplyWritten};
 ghost use Rattle.c_messages.specs.Statuses.{Reports};
 
 use super::answer::Answer;

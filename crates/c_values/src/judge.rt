@@ -12,7 +12,7 @@ pub fn judge(alloc: Global, schema: &Schema, kind: KindId, limits: Limits, input
     requires { kind.place < length schema.now.kinds }
     ensures { IsJudged (record { kinds = schema.now.kinds; place = kind.place; limits = limits }) input.now result }
 {
-    let _range = limits.depth();
+    let _in_range = limits.depth();
     let mut checker = Checker::start(alloc, schema, kind, limits);
     match checker.feed(input) {
         Ok(Progress::Done { used }) if used < input.len() => Answer::Followed { used },

@@ -35,7 +35,7 @@ fn lent_parts<'a>(
     ensures known { IfOk result (λ ls. AreKnown schema.now.kinds ls.items) }
     ensures lent { IfOk result (λ ls. AreLentFrom input.now ls.items) }
 {
-    let _range = limits.depth();
+    let _in_range = limits.depth();
     match parts(alloc, schema, kind, limits, input) {
         Ok(lent) => Ok(lent),
         Err(fault) if fault.why == Reason::NoMemory => Err(NoMemory),

@@ -34,7 +34,7 @@ fn lines_of(
         (record { kinds = schema.now.kinds; place = kind.place; limits = limits }) input.now used)
         → text.items ≡ show_text schema.now.kinds kind.place begins.value) }
 {
-    let _range = limits.depth();
+    let _in_range = limits.depth();
     match show_bytes(alloc, schema, kind, limits, input) {
         Ok(lines) => Ok(lines),
         Err(fault) if fault.why == Reason::NoMemory => Err(NoMemory),

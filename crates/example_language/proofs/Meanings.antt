@@ -98,7 +98,8 @@ unfolding reported cut run_length after_comment value_from number_of word_among 
     argument_with arguments_with result_with procedure_with version_with program_with const_at typedef_with
     defined_with definition_at definitions_at known earlier looked_up size limit entry_number numbers type_named
     named_place each_onto where_given one_member one_case one_field one_arm one_kind signature one_procedure
-    one_version one_program repeats names_repeat kind_repeats version_repeats program_repeats pairs_of pairs has_twice meaning distinct_meaning
+    one_version one_program repeats names_repeat kind_repeats version_repeats program_repeats pairs_of pairs has_twice
+    meaning distinct_meaning
 meanings = record {
   arrays = reported_means _ (two_arrays 0) refl (lit≤ tt) (well _ (lit≤ tt) refl refl)
       (sound_ten (xdr.fixed 0 2) (xdr.up_to 0 2) (0, refl, lit≤ tt) tt);

@@ -42,7 +42,8 @@ reports text d f (Err e) means found = tt
 
 pub refuses : (text : List ℕ) (r : Result Made LangFault) → reported text ≡ None
     → IfOk r (λ v. Means text (declared_of v)) → is_ok r ≡ false
-refuses text (Ok v) none found = absurd (some_is_not (declared_of v) (sym (reported_is text (declared_of v) found) ∙ none))
+refuses text (Ok v) none found =
+    absurd (some_is_not (declared_of v) (sym (reported_is text (declared_of v) found) ∙ none))
 refuses text (Err e) none found = refl
 
 pub too_long : (text : List ℕ) (r : Result Made LangFault) → 262144 < length text
@@ -51,8 +52,8 @@ too_long text (Ok v) lt found = absurd (omega (arith, lt, found.short))
 too_long text (Err e) lt found = refl
 
 -- a text that is reported means it, where its kinds are a schema
-pub reported_means : (text : List ℕ) (d : Declared) → reported text ≡ Some d → length text ≤ 262144 → IsWellFormed d.schema
-    → IsSound d.schema.kinds → Means text d
+pub reported_means : (text : List ℕ) (d : Declared) → reported text ≡ Some d → length text ≤ 262144
+    → IsWellFormed d.schema → IsSound d.schema.kinds → Means text d
 unfolding reported
 reported_means text d e short ok sound =
     let ts = bind_some (cut (length text) text) _ d e in

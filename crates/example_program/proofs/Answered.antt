@@ -153,7 +153,8 @@ whole_datagram vers status text bytes left left' sent sent' (Err (fault.WrongXid
 whole_datagram vers status text bytes left left' sent sent' (Err fault.TooManyReads) t h = absurd t.1
 whole_datagram vers status text bytes left left' sent sent' (Err fault.NoMemory) t h = absurd t.1
 
-pub all_sent : (d : List ℕ) (sent sent' : Reported) → sent ≡ Some [] → IsSent sent sent' (d ∷ []) → sent' ≡ Some (d ∷ [])
+pub all_sent : (d : List ℕ) (sent sent' : Reported) → sent ≡ Some [] → IsSent sent sent' (d ∷ [])
+    → sent' ≡ Some (d ∷ [])
 all_sent d sent None e h = absurd (subst (λ (t : Reported). IsSent t None (d ∷ [])) e h)
 all_sent d sent (Some all) e h = ap Some (subst (λ (t : Reported). IsSent t (Some all) (d ∷ [])) e h)
 

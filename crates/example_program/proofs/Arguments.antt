@@ -38,7 +38,8 @@ pub one_is_asked : (reported : List ℕ → Option (List ℕ)) (what : ValueTask
     → AsksNothing reported what → ⊥
 one_is_asked reported what file types limits
     (text, d, name, p, place, is_reported, means, unsigned, one, spelled, none, there, only, known) nothing =
-    let source : reported_text reported what.types ≡ Some text = ap (λ t. reported_text reported t) types ∙ is_reported in
+    let source : reported_text reported what.types ≡ Some text =
+    ap (λ t. reported_text reported t) types ∙ is_reported in
     let same : nothing.text ≡ text = subst (λ t. IsReported t nothing.text) source nothing.is_reported in
     let question : Question = record {
       kinds = d.schema.kinds;

@@ -11,7 +11,8 @@ use Rattle.rpc_engine.specs.declared.fault.ClientFault.{ClientFault}
 use Rattle.rpc_engine.specs.declared.fault.ClientFault.TheVariants as fault
 use Rattle.rpc_engine.specs.Exchanged.{Wrote}
 use Rattle.oncrpc_service.specs.Rows.{row_line, mapping_line}
-use Rattle.oncrpc_service.specs.Infos.{Reports, ReportsReply, ReportsStatus, ReportsRows, rows, mappings, refused, dump_call}
+use Rattle.oncrpc_service.specs.Infos.{Reports, ReportsReply, ReportsStatus, ReportsRows, rows, mappings}
+use Rattle.oncrpc_service.specs.Infos.{refused, dump_call}
 
 -- where an answer is printed the whole call went out
 pub whole_call : (bytes : List ℕ) (vers status : ℕ) (text : List ℕ) (taken taken' : Option (List ℕ))

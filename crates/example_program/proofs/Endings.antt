@@ -21,8 +21,8 @@ none_asked reported what file status (inl h) two = h.1
 none_asked reported what file status (inr (inl h)) two = let three = h.0 in absurd (omega (arith, two, three))
 none_asked reported what file status (inr (inr four)) two = absurd (omega (arith, two, four))
 
-module _ {I O F : Type 0} (reported : List ℕ → Option (List ℕ)) (file : Type 0) (reports : Reports I O) (i i' : I) (o o' : O)
-    (fs fs' : F) (status : ℕ) where
+module _ {I O F : Type 0} (reported : List ℕ → Option (List ℕ)) (file : Type 0) (reports : Reports I O) (i i' : I)
+    (o o' : O) (fs fs' : F) (status : ℕ) where
   -- what is done was asked for
   pub looked_for : (what : ValueTask) (shows : Bool) → WordsEnd reported what shows file reports i i' o o' fs fs' status
       → status ≤ 1 → IsLookedFor reported what shows reports i i' o o' fs fs' status
@@ -30,8 +30,8 @@ module _ {I O F : Type 0} (reported : List ℕ → Option (List ℕ)) (file : Ty
   looked_for what shows (inr h) done = absurd (not_done reported what file status h.0 done)
 
   -- at 2 nothing is asked
-  pub nothing_asked : (what : ValueTask) (shows : Bool) → WordsEnd reported what shows file reports i i' o o' fs fs' status
-      → status ≡ 2 → AsksNothing reported what
+  pub nothing_asked : (what : ValueTask) (shows : Bool)
+      → WordsEnd reported what shows file reports i i' o o' fs fs' status → status ≡ 2 → AsksNothing reported what
   nothing_asked what shows (inl h) two = absurd (h.ends.asked two)
   nothing_asked what shows (inr h) two = none_asked reported what file status h.0 two
 

@@ -22,8 +22,8 @@ no_more old new p q h =
 
 module _ {I O : Type 0} (reports : Reports I O) (i i' : I) (o o' : O) (limit : ℕ) where
   of_failure : (f : Failure) → Fails reports i i' o o' f
-      → StopsFor f limit (reports.left i) (reports.left i') (reports.taken o) (reports.taken o') → reports.lost o ≡ Some 0
-      → reports.lost o' ≡ Some 0
+      → StopsFor f limit (reports.left i) (reports.left i') (reports.taken o) (reports.taken o')
+      → reports.lost o ≡ Some 0 → reports.lost o' ≡ Some 0
       → WritesAll limit (reports.left i) (reports.left i') (reports.taken o) (reports.taken o')
   of_failure failure.Read h s p q = (s.input, s.rs, s.read, s.stopped.0, s.stopped.1)
   of_failure failure.Write h s p q = absurd (no_more (reports.lost o) (reports.lost o') p q h)

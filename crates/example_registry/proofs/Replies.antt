@@ -81,8 +81,8 @@ module _ (one : OneOutcome) (left : Option (List ℕ)) (reported : left ≡ Some
       → result ≡ Err (fault.WrongXid got) → got ≡ 2
   other_is_two xid result x h got e =
       same (one 1 two_bytes (OtherXid got) (OtherXid 2)
-      (subst (λ n. IsExact n left (Err (fault.WrongXid got))) x (subst (λ r. IsExact xid left r) e h) two_bytes reported)
-      other_case)
+      (subst (λ n. IsExact n left (Err (fault.WrongXid got))) x (subst (λ r. IsExact xid left r) e h) two_bytes
+      reported) other_case)
     where
       same : OtherXid got ≡ OtherXid 2 → got ≡ 2
       same e = cc

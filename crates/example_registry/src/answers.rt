@@ -41,7 +41,8 @@ pub fn keeps_the_rows_without_memory<S: BuildHasher>(
     answer(alloc, directory, transport, message)
 }
 
-/// A reply is written behind what stands there, as the buffer for a record's header. Where memory is refused nothing is.
+/// A reply is written behind what stands there, as the buffer for a record's header. Where memory is refused nothing
+/// is.
 pub fn keeps_what_stands_before<S: BuildHasher>(
     alloc: Global,
     directory: &mut Directory<S>,

@@ -273,8 +273,8 @@ pub fn keeps_two_records_apart<W: Sink>(alloc: Global, writer: &mut W) -> Result
     Ok(count)
 }
 
-/// Where a header passes the limit the input is not reported as cut, though it ends behind it: `80000001` where the limit
-/// is 0.
+/// Where a header passes the limit the input is not reported as cut, though it ends behind it: `80000001` where the
+/// limit is 0.
 pub fn reports_no_long_header_as_cut<W: Sink>(
     alloc: Global,
     writer: &mut W,

@@ -30,7 +30,8 @@ Finishes rows new old now (Err f) =
     × Counts (receives_failed f) old.unreceived now.unreceived × Counts (sends_failed f) old.unsent now.unsent
 
 -- Datagrams were answered one after another, each from the rows that the one before left, whatever became of that.
-abbrev pub FinishesEach : (rows : List Row) → (old : Reporting) → List Ended → (new : List Row) → (now : Reporting) → Type 0
+abbrev pub FinishesEach : (rows : List Row) → (old : Reporting) → List Ended → (new : List Row)
+    → (now : Reporting) → Type 0
 FinishesEach rows old [] new now = (new ≡ rows) × (now ≡ old)
 FinishesEach rows old (e ∷ es) new now =
     (mid : List Row) × ((next : Reporting) × (Finishes rows mid old next e × FinishesEach mid next es new now))

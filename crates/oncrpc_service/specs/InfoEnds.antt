@@ -2,6 +2,7 @@
 use Rattle.std.specs.Prelude.{◌≡◌, ◌⊎◌, ℕ, ◌≤◌, List, Option, Some, Result, Err}
 use Rattle.std.specs.Io.KnownBytes.{Appends}
 use Rattle.xdr_io.specs.Reported.{Counts, CountsAtMost}
+use Rattle.xdr_io.specs.declared.input.TheConstants.{MOST_READS}
 use Rattle.rpc_message.specs.declared.message.Reply.{Reply}
 use Rattle.rpc_message.specs.Spelling.{call}
 use Rattle.rpc_engine.specs.declared.fault.ClientFault.{ClientFault}
@@ -56,8 +57,8 @@ pub record InfoEnds {I W O F : Type 0} (vers : ℕ) (line : Line I W O) (reader 
   pub wrote : Wrote (call (dump_call vers)) (line.sent writer) (line.sent writer') answer
   pub exchanged : Exchanged 1 (line.left reader) (line.left reader') answer
   pub unread : Counts (read_failures answer) (line.unread reader) (line.unread reader')
-  pub many : answer ≡ Err fault.TooManyReads → Counts 1048576 (line.reads reader) (line.reads reader')
-  pub few_reads : CountsAtMost 1048576 (line.reads reader) (line.reads reader')
+  pub many : answer ≡ Err fault.TooManyReads → Counts MOST_READS (line.reads reader) (line.reads reader')
+  pub few_reads : CountsAtMost MOST_READS (line.reads reader) (line.reads reader')
   pub unsent : Counts (write_failures answer) (line.unsent writer) (line.unsent writer')
   pub ends : AnswerEnds vers answer line.taken line.lost output output' faults faults' status
 

@@ -1,6 +1,7 @@
 -- What the reader and the writer of a task tell, and how it is reported that one of them failed.
 use Rattle.std.specs.Prelude.{ℕ, List, Option}
 use Rattle.xdr_io.specs.Reported.{Counts}
+use Rattle.xdr_io.specs.declared.input.TheConstants.{MOST_READS}
 use Rattle.oncrpc_answers.specs.declared.failure.Failure.{Failure}
 use Rattle.oncrpc_answers.specs.declared.failure.Failure.TheVariants as failure
 
@@ -18,5 +19,5 @@ abbrev pub Fails : {I O : Type 0} → Reports I O → (input input' : I) → (ou
 Fails reports input input' output output' failure.Read = Counts 1 (reports.failures input) (reports.failures input')
 Fails reports input input' output output' failure.Write = Counts 1 (reports.lost output) (reports.lost output')
 Fails reports input input' output output' failure.TooManyReads =
-    Counts 1048576 (reports.reads input) (reports.reads input')
+    Counts MOST_READS (reports.reads input) (reports.reads input')
 Fails reports input input' output output' failure.NoMemory = ⊥

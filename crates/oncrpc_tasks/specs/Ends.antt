@@ -1,6 +1,7 @@
 -- How a task ends: what its exit status says of what it read and printed, of a value that is asked for.
 use Rattle.std.specs.Prelude.{◌≡◌, ◌⊎◌, ℕ, ◌≤◌, Bool, true, false, List, Option}
 use Rattle.xdr_io.specs.Reported.{Counts, CountsAtMost, MovesAtMost}
+use Rattle.xdr_io.specs.declared.input.TheConstants.{MOST_READS}
 use Rattle.oncrpc_answers.specs.declared.task.Task.{Task}
 use Rattle.oncrpc_answers.specs.declared.task.Task.TheVariants as task
 use Rattle.oncrpc_answers.specs.declared.task.ValueTask.{ValueTask}
@@ -26,7 +27,7 @@ DeviceFails q hex reports input input' output output' =
     (Counts 1 (reports.failures input) (reports.failures input')
     × NeedsMore q hex (reports.left input) (reports.left input'))
     ⊎ (Counts 1 (reports.lost output) (reports.lost output')
-    ⊎ (Counts 1048576 (reports.reads input) (reports.reads input')
+    ⊎ (Counts MOST_READS (reports.reads input) (reports.reads input')
     × NeedsMore q hex (reports.left input) (reports.left input')))
 
 -- Where reading an input that is read as it is stops: nothing was read, or what came before the last read settles no
@@ -49,7 +50,7 @@ pub record ValueEnds {I O F : Type 0} (q : Question) (hex : Bool) (reports : Rep
   pub in_part : status ≡ 3 → (output' ≡ output)
       ⊎ AnswersInPart q hex (reports.left input) (reports.taken output) (reports.taken output')
   pub wanting : status ≡ 4 → output' ≡ output
-  pub few_reads : CountsAtMost 1048576 (reports.reads input) (reports.reads input')
+  pub few_reads : CountsAtMost MOST_READS (reports.reads input) (reports.reads input')
   pub bounded : MovesAtMost (most_read hex q.limits.bytes) (reports.left input) (reports.left input')
   pub stops : StopsReading q hex (reports.left input) (reports.left input') (reports.reads input) (reports.reads input')
 

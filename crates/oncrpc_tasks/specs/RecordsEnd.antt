@@ -4,6 +4,7 @@ use Rattle.std.specs.Prelude.{None, Some, Ok, ⊤}
 use Rattle.std.specs.Io.KnownBytes.{Appends}
 use Rattle.hex.specs.Hex.{decode_of, encode_lower}
 use Rattle.xdr_io.specs.Reported.{Counts, CountsAtMost, MovesAtMost}
+use Rattle.xdr_io.specs.declared.input.TheConstants.{MOST_READS}
 use Rattle.oncrpc_answers.specs.declared.failure.Failure.{Failure}
 use Rattle.oncrpc_answers.specs.declared.failure.Failure.TheVariants as failure
 use Rattle.oncrpc_tasks.specs.declared.records.Marking.{Marking}
@@ -68,10 +69,10 @@ pub record RecordsEnd {I O F : Type 0} (limit : ℕ) (hex : Bool) (reports : Rep
   pub unasked : status ≡ 2 → (2147483647 < limit) × (input' ≡ input) × (output' ≡ output)
   pub device : status ≡ 3 → Counts 1 (reports.failures input) (reports.failures input')
       ⊎ (Counts 1 (reports.lost output) (reports.lost output')
-      ⊎ Counts 1048576 (reports.reads input) (reports.reads input'))
+      ⊎ Counts MOST_READS (reports.reads input) (reports.reads input'))
   pub in_part : status ≡ 3 → WritesInPart limit hex (output' ≡ output) (Fails reports input input' output output')
       (reports.left input) (reports.left input') (reports.taken output) (reports.taken output')
   pub wanting : status ≡ 4 → WritesAtWant limit hex (output' ≡ output) (reports.left input) (reports.left input')
       (reports.taken output) (reports.taken output')
-  pub few_reads : CountsAtMost 1048576 (reports.reads input) (reports.reads input')
+  pub few_reads : CountsAtMost MOST_READS (reports.reads input) (reports.reads input')
   pub bounded : ReadsAtMost hex (reports.left input) (reports.left input')

@@ -19,7 +19,8 @@ pub fn declared<P: Opener>(
     opener: &mut P,
 ) -> Result<Declared, Unusable>
     // What is answered is what the text that is reported declares,
-    ensures declares { IfOk result (λ d. Declares (reported_text (P.reported opener.old) types.now) types.now (declared_of d)) }
+    ensures declares { IfOk result (λ d.
+        Declares (reported_text (P.reported opener.old) types.now) types.now (declared_of d)) }
     // a refusal says that it declares nothing,
     ensures refused { IfErr result (λ why. HasNone (reported_text (P.reported opener.old) types.now) types.now why) }
     // and the failure Read that it could not be read.
@@ -40,7 +41,8 @@ fn declared_in<P: Opener>(
 ) -> Result<Declared, Unusable>
     ensures declares { IfOk result (λ d.
         Declares (P.reported opener.old (string_bytes file.now)) (Some file.now) (declared_of d)) }
-    ensures refused { IfErr result (λ why. HasNone (P.reported opener.old (string_bytes file.now)) (Some file.now) why) }
+    ensures refused { IfErr result (λ why.
+        HasNone (P.reported opener.old (string_bytes file.now)) (Some file.now) why) }
     ensures failed { IsErrOf result (Unusable.Failed Failure.Read)
         → FileFails P.Text.left P.Text.failures (P.reported opener.old) (Some file.now)
         (P.failures opener.old) (P.failures opener.new) }

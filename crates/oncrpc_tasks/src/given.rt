@@ -1,6 +1,7 @@
 //! The bytes that a task is given as hexadecimal.
 ghost use Rattle.std.specs.Prelude.{◌≡◌, ◌+◌, IfOk, OnOk, IsErrOf};
 ghost use Rattle.xdr_io.specs.Reported.{Counts, CountsAtMost, MovesAtMost};
+ghost use Rattle.xdr_io.specs.declared.input.TheConstants.{MOST_READS};
 ghost use Rattle.oncrpc_tasks.specs.Input.{InputGives};
 
 use super::hexadecimal::{MOST_TEXT, bytes_of_text};
@@ -28,11 +29,11 @@ pub fn given_over<I: Source>(alloc: Global, input: &mut I) -> Result<Given, Fail
     // The fault Read comes after a read that failed,
     ensures failed { IsErrOf result Failure.Read → Counts 1 (I.failures input.old) (I.failures input.new) }
     // TooManyReads after as many reads as there may be,
-    ensures many { IsErrOf result Failure.TooManyReads → Counts 1048576 (I.reads input.old) (I.reads input.new) }
+    ensures many { IsErrOf result Failure.TooManyReads → Counts MOST_READS (I.reads input.old) (I.reads input.new) }
     // and Write never.
     ensures no_write { IsErrOf result Failure.Write → ⊥ }
     // No more than the most reads are made,
-    ensures reads { CountsAtMost 1048576 (I.reads input.old) (I.reads input.new) }
+    ensures reads { CountsAtMost MOST_READS (I.reads input.old) (I.reads input.new) }
     // and at most a page more than the limit on a text is read.
     ensures moved { MovesAtMost (1048576 + 4096) (I.left input.old) (I.left input.new) }
 {

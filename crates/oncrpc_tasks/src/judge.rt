@@ -129,7 +129,8 @@ pub fn judge_over<I: Source>(
 
 // Keeps a piece, where it is to be kept.
 fn keep(retained: &mut Vec<u8>, keeps: bool, piece: &[u8]) -> Result<(), AllocError>
-    ensures { OnOk result (retained.new.items ≡ (if keeps then retained.old.items ++ piece.now else retained.old.items)) }
+    ensures { OnOk result
+        (retained.new.items ≡ (if keeps then retained.old.items ++ piece.now else retained.old.items)) }
 {
     if keeps {
         retained.extend_from_slice(piece)?;

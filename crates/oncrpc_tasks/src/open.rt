@@ -74,7 +74,8 @@ impl<'a> Opener for MemoryOpener<'a> {
             (⟦<MemorySource<'a> as Source>⟧.left text)) }
         ensures own { IfOk result (λ _. bytes_eq name.now self.old.name.now ≡ true) }
         ensures other { IfErr result (λ _. bytes_eq name.now self.old.name.now ≡ false) }
-        ensures none_failed { OnOk result (Counts 0 (reported_count self.old.failures) (reported_count self.new.failures)) }
+        ensures none_failed { OnOk result
+            (Counts 0 (reported_count self.old.failures) (reported_count self.new.failures)) }
         ensures failed { OnErr result (Counts 1 (reported_count self.old.failures) (reported_count self.new.failures)) }
         ensures gives { IfOk result (λ text. (text.piece ≡ self.old.piece) × (text.failing ≡ self.old.failing)
             × (text.reads ≡ 0)) }

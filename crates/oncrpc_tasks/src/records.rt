@@ -2,6 +2,7 @@
 ghost use Rattle.std.specs.Prelude.{◌≡◌, ◌≢◌, ◌⊎◌, ◌↔◌, ◌<◌, ◌≤◌, [], true, false, Option, List, ℕ, Some, IfOk, IfErr};
 ghost use Rattle.std.specs.Prelude.{IsErrOf, string_bytes};
 ghost use Rattle.xdr_io.specs.Reported.{CountsAtMost, MovesAtMost};
+ghost use Rattle.xdr_io.specs.declared.input.TheConstants.{MOST_READS};
 ghost use Rattle.oncrpc_tasks.specs.RecordsEnd.{RecordsEnd, IsFormInPart};
 ghost use Rattle.oncrpc_tasks.specs.Input.{most_read};
 ghost use Rattle.oncrpc_tasks.specs.Records.{Marks, MarksAsText, StopsFor, refusal_line};
@@ -118,7 +119,7 @@ fn mark_bytes<I: Source, O: Sink>(
     ensures ends { EndsByDevice
         (record { left = I.left; reads = I.reads; failures = I.failures; taken = O.taken; lost = O.failures })
         input.old input.new output.old output.new result }
-    ensures reads { CountsAtMost 1048576 (I.reads input.old) (I.reads input.new) }
+    ensures reads { CountsAtMost MOST_READS (I.reads input.old) (I.reads input.new) }
 {
     match normalise(alloc, input, output, limit) {
         Ok(_) => Ok(Marking::Whole),
@@ -162,7 +163,7 @@ fn mark_text<I: Source, O: Sink>(
     ensures ends { EndsByDevice
         (record { left = I.left; reads = I.reads; failures = I.failures; taken = O.taken; lost = O.failures })
         input.old input.new output.old output.new result }
-    ensures reads { CountsAtMost 1048576 (I.reads input.old) (I.reads input.new) }
+    ensures reads { CountsAtMost MOST_READS (I.reads input.old) (I.reads input.new) }
     ensures moved { MovesAtMost (most_read true 0) (I.left input.old) (I.left input.new) }
 {
     let bytes = match given_over(alloc, input)? {

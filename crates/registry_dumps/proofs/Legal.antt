@@ -71,7 +71,8 @@ are-below n (p ∷ ps) h =
     let tests = both (is_below (height_in heights p.kind) n) (are_below n ps) h in
     (below-is (height_in heights p.kind) n tests.0, are-below n ps tests.1)
 
-asks : (kinds : List KindView) (n : ℕ) (f : KindView) → has_below n f ≡ true → Asks kinds (IsBelow (height_in heights) n) f
+asks : (kinds : List KindView) (n : ℕ) (f : KindView) → has_below n f ≡ true
+    → Asks kinds (IsBelow (height_in heights) n) f
 asks kinds n (xdr.structure ps) h = are-below n ps h
 asks kinds n (xdr.maybe item) h = tt
 asks kinds n xdr.int h = tt

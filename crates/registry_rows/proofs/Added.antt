@@ -1,6 +1,6 @@
 -- A row that may be added goes last.
-use Rattle.std.proofs.Common.{◌≡◌, ℕ, false, List, [], ◌∷◌, ◌++◌, refl, ap, ◌∙◌, Option, None, Some, is_some, option_map}
-use Rattle.std.proofs.Common.{true≢false}
+use Rattle.std.proofs.Common.{◌≡◌, ℕ, false, List, [], ◌∷◌, ◌++◌, refl, ap, ◌∙◌, Option, None, Some}
+use Rattle.std.proofs.Common.{is_some, option_map, true≢false}
 use Rattle.std.specs.List.{list_any}
 use Rattle.std.specs.Map.{lookup}
 pub use Rattle.std.proofs.lemmas.Bool.{and_parts as both}

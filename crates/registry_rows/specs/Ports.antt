@@ -1,6 +1,6 @@
 -- The calls of version 2, which name a transport by its number (RFC 1833 section 3).
-use Rattle.std.specs.Prelude.{ℕ, ◌/◌, ◌%◌, ◌^◌, ◌-◌, Bool, false, ◌||◌, List, [], ◌∷◌, nat_eq, nat_le, Option, Some, None}
-use Rattle.std.specs.Prelude.{if◌then◌else◌, codes, flat_map}
+use Rattle.std.specs.Prelude.{ℕ, ◌/◌, ◌%◌, ◌^◌, ◌-◌, Bool, false, ◌||◌, List, [], ◌∷◌, nat_eq, nat_le}
+use Rattle.std.specs.Prelude.{Option, Some, None, if◌then◌else◌, codes, flat_map}
 use Rattle.std.specs.Option.{option_map_or}
 use Rattle.std.specs.Str.{bytes_eq}
 use Rattle.registry_rows.specs.Rows.{Row, row_of}

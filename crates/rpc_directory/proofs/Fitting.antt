@@ -1,7 +1,7 @@
 -- The dumps of a registry fit their kinds within the limits.
 use Rattle.std.proofs.Common.{◌≡◌, ℕ, ◌+◌, ◌-◌, ◌*◌, ◌%◌, ◌≤◌, ◌<◌, Bool, true, false, ◌&&◌, cond, List, [], ◌∷◌, ◌++◌}
-use Rattle.std.proofs.Common.{length, map, filter_map, nat_le, nat_lt, refl, ap, sym, ◌∙◌, subst, arith, rules, pos, ◌^◌}
-use Rattle.std.proofs.Common.{mod-lt, Option, Some, None, option_map, option_and_then, is_some, true≢false}
+use Rattle.std.proofs.Common.{length, map, filter_map, nat_le, nat_lt, refl, ap, sym, ◌∙◌, subst, arith, rules, pos}
+use Rattle.std.proofs.Common.{◌^◌, mod-lt, Option, Some, None, option_map, option_and_then, is_some, true≢false}
 use Rattle.std.specs.List.{AllByRecursion, cons_option}
 use Rattle.std.specs.Str.{bytes_eq}
 use Rattle.std.proofs.lemmas.List.{length-append, length-replicate, length-map}

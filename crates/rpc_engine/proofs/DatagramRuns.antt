@@ -26,7 +26,8 @@ none_served rows l s = record {
   };
 }
 
-module _ (done replied count : ℕ) (rows mid : List Row) (l m s t : Reported) (p : HasServed done replied rows mid l m s t)
+module _ (done replied count : ℕ) (rows mid : List Row) (l m s t : Reported)
+    (p : HasServed done replied rows mid l m s t)
   where
     -- nothing more was received or sent
     finished_still : (n u : Reported) → Receives m n [] → Sends t u [] → Finishes rows mid l n s u p.datagrams p.replies
@@ -47,8 +48,8 @@ module _ (done replied count : ℕ) (rows mid : List Row) (l m s t : Reported) (
       finished = finished_still n u h k;
     }
 
-    module _ (x : List ℕ) (new : List Row) (n o u v : Reported) (received : Receives m n (x ∷ [])) (unsent : Sends t u [])
-        (retained : Receives n o []) where
+    module _ (x : List ℕ) (new : List Row) (n o u v : Reported) (received : Receives m n (x ∷ []))
+        (unsent : Sends t u []) (retained : Receives n o []) where
       came : Receives m o (x ∷ [])
       came = Receives-trans m n o (x ∷ []) [] (x ∷ []) refl received retained
 

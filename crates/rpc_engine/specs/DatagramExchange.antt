@@ -33,8 +33,8 @@ Replies xid r (Err _) = ⊥
 
 -- The call was sent in one datagram and one was received, of which the answer speaks. Where a send failed nothing was
 -- sent or received, where a receive failed nothing was received, and where memory was refused both were or neither.
-abbrev pub ExchangesDatagram : (xid : ℕ) → (call : List ℕ) → Reported → Reported → Reported → Reported → Result Reply ClientFault
-    → Type 0
+abbrev pub ExchangesDatagram : (xid : ℕ) → (call : List ℕ) → Reported → Reported → Reported → Reported
+    → Result Reply ClientFault → Type 0
 ExchangesDatagram xid call left left' sent sent' (Err (fault.Write written)) =
     (written ≡ 0) × Sends sent sent' [] × Receives left left' []
 ExchangesDatagram xid call left left' sent sent' (Err fault.Read) =

@@ -57,7 +57,8 @@ pub record NotSent (count done : ℕ) (rows new : List Row) (left left' sent sen
   pub answer : Answer mid udp answering refused new (Some unsent)
 
 -- what a fault says of the datagrams before it
-abbrev pub StopsDatagrams : (count : ℕ) → List Row → List Row → Reported → Reported → Reported → Reported → DatagramFault → Type 0
+abbrev pub StopsDatagrams : (count : ℕ) → List Row → List Row → Reported → Reported → Reported → Reported
+    → DatagramFault → Type 0
 StopsDatagrams count rows new left left' sent sent' (fault.Read done) =
     NotReceived count done rows new left left' sent sent'
 StopsDatagrams count rows new left left' sent sent' (fault.Write done) =

@@ -118,7 +118,8 @@ impl<'a> DatagramPort for MemoryPort<'a> {
             (Some (received_from self.new.next self.new.waiting.now)) [] }
         ensures failed { Counts (failures_of result) (reported_count self.old.failed_sends)
             (reported_count self.new.failed_sends) }
-        ensures none_failed { Counts 0 (reported_count self.old.failed_receives) (reported_count self.new.failed_receives) }
+        ensures none_failed { Counts 0 (reported_count self.old.failed_receives)
+            (reported_count self.new.failed_receives) }
         // It fails exactly where it is due to or there is no space for the datagram,
         ensures takes { SendAnswers self.old result datagram.now }
         // and what was lent stays lent.

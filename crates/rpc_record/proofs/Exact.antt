@@ -19,7 +19,8 @@ use Rattle.rpc_record.proofs.Places.{Longest-at, Longest-long, Longest-whole, be
 
 -- a header that begins the tail has space behind so many bytes
 abbrev HasSpace : ℕ → ℕ → List ℕ → Type 0
-HasSpace limit used tail = (l : Bool) (n : ℕ) (more : List ℕ) → n < 2 ^ 31 → tail ≡ header l n ++ more → used + n ≤ limit
+HasSpace limit used tail =
+    (l : Bool) (n : ℕ) (more : List ℕ) → n < 2 ^ 31 → tail ≡ header l n ++ more → used + n ≤ limit
 
 no_long : (limit used : ℕ) (firsts gs : List (List ℕ)) (tail more : List ℕ) (l : Bool) (n : ℕ) → All IsContent firsts
     → All IsContent gs → n < 2 ^ 31

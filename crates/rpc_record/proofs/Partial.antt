@@ -40,8 +40,8 @@ pub IsUnfinished-fragments : (limit : ℕ) (firsts : List (List ℕ)) (tail : Li
 IsUnfinished-fragments limit firsts tail p n r front back m b e =
     let rest : HasNoFragment limit (0 + length (concat firsts)) tail = λ l c y k a t. n l c y k (omega arith) t in
     let space : 0 + length (concat m.firsts ++ m.last) ≤ limit = omega (arith, b, ap length m.content) in
-    no_marked limit 0 firsts m.firsts m.last tail back p m.each m.each_last rest space (e ∙ ap (λ k. k ++ back) m.spelled
-    ∙ append_assoc (flat_map (fragment false) m.firsts) (fragment true m.last) back)
+    no_marked limit 0 firsts m.firsts m.last tail back p m.each m.each_last rest space
+    (e ∙ ap (λ k. k ++ back) m.spelled ∙ append_assoc (flat_map (fragment false) m.firsts) (fragment true m.last) back)
 
 -- less than a header
 pub HasNoFragment-short : (limit used : ℕ) (tail : List ℕ) → length tail < 4 → HasNoFragment limit used tail

@@ -147,7 +147,8 @@ between_taking reader e = subst (λ p. IsTakingAt p) (sym e) tt
 pub Represents-waiting : (reader : RecordReader) (bytes : List ℕ) (rs : List (List ℕ)) → IsWaiting reader
     → Represents reader bytes rs → IsWhole reader.limit (rs ++ reader.content.items ∷ []) bytes
     × (reader.taken ≡ capped (length bytes))
-Represents-waiting reader bytes rs e h = subst (λ p. StandsAt reader.limit p reader.content.items reader.taken bytes rs) e h
+Represents-waiting reader bytes rs e h =
+    subst (λ p. StandsAt reader.limit p reader.content.items reader.taken bytes rs) e h
 
 pub Begins-inside : (limit : ℕ) (rs : List (List ℕ)) (bytes : List ℕ) → IsInside limit rs bytes
     → Begins limit rs (bytes ++ [])
@@ -249,7 +250,7 @@ Faulty-at limit taken (place.Header at part) f content bytes rs e h = absurd e
 Faulty-at limit taken (place.Content w) f content bytes rs e h = absurd e
 Faulty-at limit taken place.Whole f content bytes rs e h = absurd e
 
-pub Represents-faulty : (reader : RecordReader) (f : RecordFault) (bytes : List ℕ) (rs : List (List ℕ)) → IsBroken reader f
-    → Represents reader bytes rs → Faulty (limit_of reader) rs f bytes
+pub Represents-faulty : (reader : RecordReader) (f : RecordFault) (bytes : List ℕ) (rs : List (List ℕ))
+    → IsBroken reader f → Represents reader bytes rs → Faulty (limit_of reader) rs f bytes
 Represents-faulty reader f bytes rs e h =
     Faulty-at reader.limit reader.taken reader.place f reader.content.items bytes rs e h

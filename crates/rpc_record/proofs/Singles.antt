@@ -24,7 +24,8 @@ use Rattle.rpc_record.proofs.Reported.{Reports-whole, Reports-broken}
 pub Represents-between : (reader : RecordReader) (bytes : List ℕ) (rs : List (List ℕ)) → IsBetween reader
     → Represents reader bytes rs → (reader.content.items ≡ []) × IsWhole reader.limit rs bytes
     × (reader.taken ≡ capped (length bytes))
-Represents-between reader bytes rs e h = subst (λ p. StandsAt reader.limit p reader.content.items reader.taken bytes rs) e h
+Represents-between reader bytes rs e h =
+    subst (λ p. StandsAt reader.limit p reader.content.items reader.taken bytes rs) e h
 
 module _ (limit : ℕ) (rs : List (List ℕ)) (content bytes part : List ℕ) (none : content ≡ [])
     (w : IsWhole limit rs bytes) (counted : IsContent part) (fits : length content + length part ≤ limit) where

@@ -37,8 +37,8 @@ made limit r fed w input rs l m read joined same taking represents = record {
       (subst (λ b. Begins limit rs b) (append-nil fed) (Begins-taking limit r fed rs same taking represents)));
 }
 
-pub taken_none : (limit : ℕ) (r : RecordReader) (l : Option (List ℕ)) → limit_of r ≡ limit → IsTaking r → Represents r [] []
-    → HasTaken limit r [] [] l l
+pub taken_none : (limit : ℕ) (r : RecordReader) (l : Option (List ℕ)) → limit_of r ≡ limit → IsTaking r
+    → Represents r [] [] → HasTaken limit r [] [] l l
 taken_none limit r l e i s = made limit r [] [] [] [] l l (Consumes-none l) refl e i s
 
 -- ---- the bytes that are held
@@ -109,7 +109,8 @@ module _ (limit : ℕ) (r : RecordReader) (w : List ℕ) (rs : List (List ℕ)) 
 
   pub taken_more : (x : List ℕ) (n : Option (List ℕ)) → Consumes m n x → HasTaken limit r x rs l n
   taken_more x n k = made limit r p.fed x (p.input ++ x) rs l n
-      (Consumes-trans l m n p.input x (p.input ++ x) refl p.read k) (ap (λ b. b ++ x) all_fed) p.same p.taking p.represents
+      (Consumes-trans l m n p.input x (p.input ++ x) refl p.read k) (ap (λ b. b ++ x) all_fed) p.same p.taking
+      p.represents
 
   pub fails_many : Fails limit rs l m fault.TooManyReads
   fails_many = record { input = p.input; read = p.read; fails = (longest, has_no_long) }

@@ -100,8 +100,8 @@ impl RecordReader {
     }
 
     /// As `feed`, and a record that is whole then is handed out into the buffer, so that the next begins. `Whole`: the
-    /// bytes that the buffer had are dropped, and it holds the content of the record; its memory may be given to a record
-    /// to come. `More`, and a fault: the buffer's bytes are any.
+    /// bytes that the buffer had are dropped, and it holds the content of the record; its memory may be given to a
+    /// record to come. `More`, and a fault: the buffer's bytes are any.
     pub fn feed_into(
         &mut self,
         piece: &[u8],

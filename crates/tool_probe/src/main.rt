@@ -1,9 +1,9 @@
 //! One call a line: the call that each line of the input asks for is made while reads, writes or growths of memory
-//! fail, and a line tells what it answered. `tests/run` and `bench/fuzz` write such lines and judge what is reported, and
-//! `tests/README.md` says how they are written. Without a line nothing is called.
+//! fail, and a line tells what it answered. `tests/run` and `bench/fuzz` write such lines and judge what is reported,
+//! and `tests/README.md` says how they are written. Without a line nothing is called.
 //!
-//! `case` reads what is asked for, `reported` writes the line of what is answered, and `printed` and `declared` have the
-//! words of answers. Each other module makes the calls of one subject.
+//! `case` reads what is asked for, `reported` writes the line of what is answered, and `printed` and `declared` have
+//! the words of answers. Each other module makes the calls of one subject.
 #![tactic(auto)]
 
 mod case;

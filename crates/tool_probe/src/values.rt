@@ -1,8 +1,8 @@
 //! Values of a kind of the text, within the limits: `decode`, `parts`, and `Decoder` and `Checker`, in pieces as read,
-//! over the input; `Decoder::feed`, both of them fed three pieces, cut at `first` and `second`, and `Decoder::held`, what
-//! they hold between these; `Decoder::finish`, both of them ended before they are fed anything; `encode`, `encode_to`,
-//! `show` and `Value::copy` of the value that begins the input. `void` is the kind without a value's bytes, which no text
-//! names.
+//! over the input; `Decoder::feed`, both of them fed three pieces, cut at `first` and `second`, and `Decoder::held`,
+//! what they hold between these; `Decoder::finish`, both of them ended before they are fed anything; `encode`,
+//! `encode_to`, `show` and `Value::copy` of the value that begins the input. `void` is the kind without a value's
+//! bytes, which no text names.
 use crate::case::{Case, allow, since};
 use crate::printed::{counted, progress, refusal};
 use crate::reported::Report;

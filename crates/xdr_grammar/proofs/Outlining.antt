@@ -32,7 +32,8 @@ pub one_outline : (ts : List Lexeme) (v w : Outline) → IsOutline ts v → IsOu
 one_outline ts v w is iw = some_is v w (sym (outline_again ts v is) ∙ outline_again ts w iw)
 
 -- where something is due, memory ran out, and that is reported
-pub reported_fails : (e : Misread) (v : Outline) → steps.MisreadsRightly e (Some v) → RefusesRightly (reported e) (Some v)
+pub reported_fails : (e : Misread) (v : Outline) → steps.MisreadsRightly e (Some v)
+    → RefusesRightly (reported e) (Some v)
 reported_fails misread.NoMemory v h = tt
 reported_fails (misread.Token why left) v h = absurd cc
 

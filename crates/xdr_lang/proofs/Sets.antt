@@ -62,7 +62,8 @@ module _ {K A : Type 0} (by : Keyed K A) where
       rw (h x, along xs (a ++ x ∷ []) (b ++ x ∷ []) more) refl
 
   added_key : (s n : BTreeSet K) (k : K) → Updates by.compare s n k true → (q : K)
-      → list_any (by.same (by.seen q)) (by.all n.keys) ≡ list_any (by.same (by.seen q)) (by.all s.keys ++ by.seen k ∷ [])
+      → list_any (by.same (by.seen q)) (by.all n.keys)
+      ≡ list_any (by.same (by.seen q)) (by.all s.keys ++ by.seen k ∷ [])
   added_key s n k u q =
       let here : list_any (is_at (by.compare q)) n.keys ≡ cond (is_eq (by.compare k q)) true
       (list_any (is_at (by.compare q)) s.keys) = u.0 q in

@@ -1,7 +1,8 @@
 //! The XDR language: what a text declares (RFC 4506 section 6, RFC 5531 section 12).
 //!
 //! - `text`: the public call, `read`; `declarations`: what it gives; `laws`: what follows from a text's meaning
-//! - `meaning`: what an outline means, by `distinct` (no name or number twice, of `names`), `kinds`, `lists` and `programs`
+//! - `meaning`: what an outline means, by `distinct` (no name or number twice, of `names`), `kinds`, `lists` and
+//!   `programs`
 //! - `places`, `type_table`: the kinds that the names of types stand for
 //! - `lang_fault`: why a text is refused, with its line and column
 //! - `first_fault`, `noted`, `type_names`: which fault of names and numbers stands first; `schema_fault`: a schema's

@@ -56,8 +56,8 @@ module _ {B : Type 0} (spares : Type 0) (reports : B → Trace → Type 0) (old 
   represents_as st is r =
       let H : Trace → Type 0 = reports new.built in
       let fs : List (List Part) = stack_of new.work new.parents.items in
-      subst (λ (x : List KindView). RepresentsAs spares x old.kind.place old.limits H fs new.read new.unit new.pending st b)
-      kinds_are
+      subst (λ (x : List KindView). RepresentsAs spares x old.kind.place old.limits H fs new.read new.unit new.pending
+      st b) kinds_are
       (subst (λ (x : ℕ). RepresentsAs spares new.schema.now.kinds x old.limits H fs new.read new.unit new.pending st b)
       place_is
       (subst (λ (x : Bounds). RepresentsAs spares new.schema.now.kinds new.kind.place x H fs new.read new.unit
@@ -80,8 +80,8 @@ module _ {B : Type 0} (spares : Type 0) (reports : B → Trace → Type 0) (old 
   answers_more a is whole =
       let all : take used piece ≡ piece = take_all used piece (omega (arith, whole)) in
       subst (λ (x : List ℕ). Outcome old.schema.now.kinds old.kind.place old.limits (b ++ x) Pending) all
-      (pending_on old.schema.now.kinds old.kind.place old.limits (reports new.built) (stack_of new.work new.parents.items)
-      new.read new.unit new.pending a (b ++ take used piece)
+      (pending_on old.schema.now.kinds old.kind.place old.limits (reports new.built)
+      (stack_of new.work new.parents.items) new.read new.unit new.pending a (b ++ take used piece)
       (represents_as spares reports old new same (b ++ take used piece) (Reading a) is r))
 
   pub answers_done : new.state ≡ Finished

@@ -91,8 +91,8 @@ module _ (s : List KindView) (t : ℕ) (l : Bounds) (built : Values) (fs : List 
 
 -- a unit is unfinished, or none is there
 pub still_open : (s : List KindView) (t : ℕ) (l : Bounds) (H : Trace → Type 0) (fs : List (List Part)) (read : ℕ)
-    (space : List ℕ) (pending : ℕ) (a : Awaits) (b : List ℕ) → RepresentsAs ⊥ s t l H fs read space pending (Reading a) b
-    → l.bytes % 4 ≡ 0
+    (space : List ℕ) (pending : ℕ) (a : Awaits) (b : List ℕ)
+    → RepresentsAs ⊥ s t l H fs read space pending (Reading a) b → l.bytes % 4 ≡ 0
     → Outcome s t l b Pending × (length b ≡ read + length (take pending space)) × (read ≤ l.bytes)
 still_open s t l H fs read space pending a b r units = (
   pending_on s t l H fs read space pending a b r,

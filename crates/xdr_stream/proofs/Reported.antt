@@ -176,7 +176,8 @@ reports_leaf b n v l t made grown parents content counted retained reported spac
     (content ∙ ap (λ (x : Trace). x.content) reported.trace)
     ∙ grown_level b (level_of n.work) (leaf_tree h) t t.content reported.trace same in
     reports_more b n t (leaf_in h t) 1 0 is (nodes_added (leaf_tree h) t.levels space)
-    (omega (arith, bytes_added (leaf_tree h) t.levels space, leaf_bytes l)) counted (λ few. omega (arith, retained)) reported
+    (omega (arith, bytes_added (leaf_tree h) t.levels space, leaf_bytes l)) counted (λ few. omega (arith, retained))
+    reported
 
 pub reports_content : (b n : Values) (v : Value) (t : Trace) → tree v ≡ leaf_tree (value.bytes b.content.items)
     → level_of n.work ≡ level (level_of b.work).head (added (level_of b.work).head (level_of b.work).done (tree v))
@@ -220,7 +221,8 @@ reports_whole b n v bs t made grown parents content counted longer reported spac
 pub reports_open : (b n : Values) (h : Head) (t : Trace) → trace_of n ≡ open_in h t
     → (b.nodes + 1 < 2 ^ 64 → n.nodes ≡ b.nodes + 1) → n.retained ≡ b.retained → Reports b t → Reports n (open_in h t)
 reports_open b n h t is counted retained reported =
-    reports_more b n t (open_in h t) 1 0 is (omega arith) (omega arith) counted (λ few. omega (arith, retained)) reported
+    reports_more b n t (open_in h t) 1 0 is (omega arith) (omega arith) counted (λ few. omega (arith, retained))
+    reported
 
 pub reports_close : (b n : Values) (t : Trace) → CanClose t → trace_of n ≡ close_in t → n.nodes ≡ b.nodes
     → n.retained ≡ b.retained → Reports b t → Reports n (close_in t)

@@ -54,7 +54,8 @@ module _ (s : List KindView) (t : ℕ) (l : Bounds) (H I : Trace → Type 0) whe
       let stack : stack_of work parents ≡ [] ∷ left_of f ∷ onto [] rest =
       ap (λ (ps : List Part). ps ∷ onto [] parents) none
       ∙ ap (λ (fs : List (List Part)). [] ∷ fs) (ap (λ (fs : List Frame). onto [] fs) last ∙ onto_last [] rest f) in
-      sees_close (left_of f) (onto [] rest) q reports (subst (λ (fs : List (List Part)). Sees s t l H Next fs q) stack r)
+      sees_close (left_of f) (onto [] rest) q reports
+      (subst (λ (fs : List (List Part)). Sees s t l H Next fs q) stack r)
 
   -- a silent node begins, whose parts come next
   pub sees_silent : (p : Part) (ps : List Part) (fs : List (List Part)) (q : List ℕ) (k : KindView) (h : Head)

@@ -25,8 +25,8 @@ Fails kinds kind limits f b = ((rest : List ℕ) → Ends kinds kind limits f.wh
 -- The bytes b brought a reader to this state: the units that are read, and those of an unfinished unit, of which there
 -- are so many in its space. One that has failed holds no more than a new one, and did not fail for want of memory where
 -- its kind takes none.
-abbrev pub RepresentsAs : (spares : Type 0) → List KindView → (kind : ℕ) → Bounds → (H : Trace → Type 0) → List (List Part)
-    → (read : ℕ) → (space : List ℕ) → (pending : ℕ) → State → (b : List ℕ) → Type 0
+abbrev pub RepresentsAs : (spares : Type 0) → List KindView → (kind : ℕ) → Bounds → (H : Trace → Type 0)
+    → List (List Part) → (read : ℕ) → (space : List ℕ) → (pending : ℕ) → State → (b : List ℕ) → Type 0
 RepresentsAs spares kinds kind limits H fs read space pending Fresh b =
     (b ≡ []) × (read ≡ 0) × (pending ≡ 0) × Sees kinds kind limits H Next fs [] × H at_start × (length fs ≡ 1)
 RepresentsAs spares kinds kind limits H fs read space pending (Reading a) b =
@@ -41,8 +41,8 @@ RepresentsAs spares kinds kind limits H fs read space pending (Failed f) b =
 abbrev pub RepresentsBytes : {B : Type 0} → (spares : Type 0) → (reports : B → Trace → Type 0) → Reader B → (b : List ℕ)
     → Type 0
 RepresentsBytes spares reports r b =
-    RepresentsAs spares r.schema.now.kinds r.kind.place r.limits (reports r.built) (stack_of r.work r.parents.items) r.read
-    r.unit r.pending r.state b
+    RepresentsAs spares r.schema.now.kinds r.kind.place r.limits (reports r.built) (stack_of r.work r.parents.items)
+    r.read r.unit r.pending r.state b
 
 -- reading has begun
 abbrev pub IsAwake : State → Type 0

@@ -1,6 +1,7 @@
 -- How an input was read, and why reading it gave no answer.
 use Rattle.std.specs.Prelude.{ℕ, Bool, List, Option, Result, OnOk, IsErrOf}
 use Rattle.xdr_io.specs.Reported.{Counts, CountsAtMost, MovesAtMost}
+use Rattle.xdr_io.specs.declared.input.TheConstants.{MOST_READS}
 use Rattle.oncrpc_answers.specs.declared.failure.Failure.{Failure}
 use Rattle.oncrpc_answers.specs.declared.failure.Failure.TheVariants as failure
 use Rattle.oncrpc_tasks.specs.Devices.{Reports}
@@ -12,7 +13,7 @@ use Rattle.oncrpc_tasks.specs.Right.{Question}
 -- was settled.
 pub record ReadsInput (q : Question) (hex : Bool) (left left' : Option (List ℕ)) (reads reads' : Option ℕ)
     : Type 0 where
-  pub few_reads : CountsAtMost 1048576 reads reads'
+  pub few_reads : CountsAtMost MOST_READS reads reads'
   pub bounded : MovesAtMost (most_read hex q.limits.bytes) left left'
   pub stops : StopsReading q hex left left' reads reads'
 
@@ -22,7 +23,7 @@ pub record EndsReading {R : Type 0} (q : Question) (hex : Bool) (left left' : Op
     (reads reads' failures failures' : Option ℕ) (result : Result R Failure) : Type 0 where
   pub none_failed : OnOk result (Counts 0 failures failures')
   pub read : IsErrOf result failure.Read → Counts 1 failures failures' × NeedsMore q hex left left'
-  pub many : IsErrOf result failure.TooManyReads → Counts 1048576 reads reads' × NeedsMore q hex left left'
+  pub many : IsErrOf result failure.TooManyReads → Counts MOST_READS reads reads' × NeedsMore q hex left left'
   pub no_write : IsErrOf result failure.Write → ⊥
 
 -- A failure that ends the work is its device's, and where the work is done no device failed.

@@ -11,7 +11,8 @@ abbrev pub HasReply : List Row → List ℕ → List Row → List ℕ → Type 0
 HasReply rows datagram new bytes = (refused : Bool) × Answer rows udp datagram refused new (Some bytes)
 
 -- The datagram was answered: its reply was sent, it wants none, or its reply was not sent.
-abbrev pub RepliesTo : {E : Type 0} → List Row → (datagram : List ℕ) → List Row → Reported → Reported → Result Bool E → Type 0
+abbrev pub RepliesTo : {E : Type 0} → List Row → (datagram : List ℕ) → List Row → Reported → Reported
+    → Result Bool E → Type 0
 RepliesTo rows datagram new sent sent' (Ok true) =
     (bytes : List ℕ) × (HasReply rows datagram new bytes × Sends sent sent' (bytes ∷ []))
 RepliesTo rows datagram new sent sent' (Ok false) = Answer rows udp datagram false new None × Sends sent sent' []

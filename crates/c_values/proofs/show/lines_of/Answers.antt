@@ -9,7 +9,7 @@ pub unreachable-requires : goal.unreachable-requires
 unreachable-requires c =
     let q : Question =
     record { kinds = c.args.schema.now.kinds; place = c.args.kind.place; limits = c.args.limits } in
-    no_fault q c.depth-range.ensures.range.units c.args.input.now c.requires.begins.0 c.requires.begins.1
+    no_fault q c.depth-in_range.ensures.range.units c.args.input.now c.requires.begins.0 c.requires.begins.1
     c.in-Err.fault c.in-Err.ensures.fault
     (λ e. let same = rw e at c.eq.ensures in false≢true (sym c.if-eq.false ∙ same))
 

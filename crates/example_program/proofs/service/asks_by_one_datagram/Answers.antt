@@ -9,5 +9,6 @@ pub returns : goal.returns
 returns g c = λ printed.
     let e = c.info_datagram.ensures in
     let reported = e.ends.printed printed in
-    all_sent _ _ _ c.requires.fresh (whole_datagram 4 _ reported.0 (call (dump_call 4)) _ _ _ _ e.answer reported.1 e.exchanged)
+    all_sent _ _ _ c.requires.fresh
+    (whole_datagram 4 _ reported.0 (call (dump_call 4)) _ _ _ _ e.answer reported.1 e.exchanged)
     ∙ ap (λ (d : List ℕ). Some (d ∷ [])) datagram_bytes

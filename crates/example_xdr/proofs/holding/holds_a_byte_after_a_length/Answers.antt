@@ -11,8 +11,8 @@ returns-clause-second c =
     let second : List ℕ = 97 ∷ [] in
     let one = c.in-Ok-More.ensures in
     let two = c.in-Ok-More-feed.ensures in
-    let before = subst (λ (p : Progress). RepresentsBytes c.feed.new.self ([] ++ taken first (Ok p))) c.in-Ok-More.field-0-is
-    (one.represents [] c.start-decoder.ensures.represents) in
+    let before = subst (λ (p : Progress). RepresentsBytes c.feed.new.self ([] ++ taken first (Ok p)))
+    c.in-Ok-More.field-0-is (one.represents [] c.start-decoder.ensures.represents) in
     let after = subst (λ (p : Progress). RepresentsBytes c.feed-2.new.self (first ++ taken second (Ok p)))
     c.in-Ok-More-feed.field-0-is (two.represents first before) in
     c.held.ensures.pending (first ++ second) after (two.leaves.goes_on c.in-Ok-More-feed.field-0-is)

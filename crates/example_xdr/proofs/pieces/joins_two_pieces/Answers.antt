@@ -54,8 +54,8 @@ returns-clause-value c =
     in
     ended d.reader.schema.now.kinds d.reader.kind.place d.reader.limits sillyprog
     (([] ++ taken c.args.first.now (Ok p)) ++ taken c.args.second.now (Ok q)) c.finish.result end
-    (λ v fits reported. joined d.reader.schema.now.kinds d.reader.kind.place d.reader.limits sillyprog v c.args.first.now
-    c.args.second.now p q
+    (λ v fits reported. joined d.reader.schema.now.kinds d.reader.kind.place d.reader.limits sillyprog v
+    c.args.first.now c.args.second.now p q
     (λ used is. let again = c.feed-2.ensures.stays.again (c.in_ok-feed.ensures.leaves.done used is) in let same : q
     ≡ Done 0 = cc (again, c.in_ok-feed-2.was) in same)
     fit fits reported (bytes ∙ sym c.requires.input))

@@ -29,7 +29,8 @@ returns-in-Ok c = λ e none o.
       kind_is = same.kind_is ∙ set.kind_is;
       limits_are = same.limits_are ∙ set.limits_are;
     })
-    (c.finish.ensures.outcome ([] ++ taken b (Ok p)) (c.in-Ok.ensures.represents [] c.start-decoder.ensures.represents)) in
+    (c.finish.ensures.outcome ([] ++ taken b (Ok p))
+    (c.in-Ok.ensures.represents [] c.start-decoder.ensures.represents)) in
     subst (λ (y : Option DecodeFault). Says (fault_of (length b) e) y) (sym c.err.ensures.value)
     (says_fed x.kinds k.place l (c.one_outcome.ensures x.kinds) b e none o p answer c.finish.result end)
 

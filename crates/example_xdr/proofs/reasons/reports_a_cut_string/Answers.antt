@@ -27,5 +27,6 @@ returns c =
     rw c.requires.kind (low.least_depth, (low.least_depth, tt)) in
     let o = pending s t l c.laws.ensures.unique c.laws.ensures.same v fit q more is (omega arith) shallow
     (omega (arith, c.requires.limit)) in
-    subst (λ (n : ℕ). EachSays (record { why = reason.Truncated; at = n }) c.reported.result) (ap length c.requires.input)
+    subst (λ (n : ℕ). EachSays (record { why = reason.Truncated; at = n }) c.reported.result)
+    (ap length c.requires.input)
     (c.reported.ensures Pending tt (subst (λ (b : List ℕ). Outcome s t l b Pending) (sym c.requires.input) o))

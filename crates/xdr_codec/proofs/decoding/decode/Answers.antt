@@ -12,10 +12,10 @@ returns-in-Ok-clause-outcome c =
     let input : List ℕ = c.args.input.now in
     let used : ℕ = c.in-Ok-Done.used in
     let done = c.in-Ok-Done.ensures in
-    let represents = subst (λ (p : Progress). RepresentsBytes c.feed.new.self ([] ++ taken input (Ok p))) c.in-Ok-Done.field-0-is
-    (done.represents [] c.start-decoder.ensures.represents) in
-    let low : used ≤ length input = subst (λ (p : Progress). used_of p ≤ length input) c.in-Ok-Done.field-0-is done.leaves.used
-    in
+    let represents = subst (λ (p : Progress). RepresentsBytes c.feed.new.self ([] ++ taken input (Ok p)))
+    c.in-Ok-Done.field-0-is (done.represents [] c.start-decoder.ensures.represents) in
+    let low : used ≤ length input =
+    subst (λ (p : Progress). used_of p ≤ length input) c.in-Ok-Done.field-0-is done.leaves.used in
     given c.args.schema.now c.args.kind c.args.limits c.start-decoder.result c.feed.new.self
     c.start-decoder.ensures.settings done.same input used low c.in-Ok.value
     (c.in-Ok.ensures.outcome (take used input) represents)
@@ -26,10 +26,10 @@ returns-in-Ok-clause-only c = λ t n fit most spelled.
     let input : List ℕ = c.args.input.now in
     let used : ℕ = c.in-Ok-Done.used in
     let done = c.in-Ok-Done.ensures in
-    let represents = subst (λ (p : Progress). RepresentsBytes c.feed.new.self ([] ++ taken input (Ok p))) c.in-Ok-Done.field-0-is
-    (done.represents [] c.start-decoder.ensures.represents) in
-    let low : used ≤ length input = subst (λ (p : Progress). used_of p ≤ length input) c.in-Ok-Done.field-0-is done.leaves.used
-    in
+    let represents = subst (λ (p : Progress). RepresentsBytes c.feed.new.self ([] ++ taken input (Ok p)))
+    c.in-Ok-Done.field-0-is (done.represents [] c.start-decoder.ensures.represents) in
+    let low : used ≤ length input =
+    subst (λ (p : Progress). used_of p ≤ length input) c.in-Ok-Done.field-0-is done.leaves.used in
     let o = given c.args.schema.now c.args.kind c.args.limits c.start-decoder.result c.feed.new.self
     c.start-decoder.ensures.settings done.same input used low c.in-Ok.value
     (c.in-Ok.ensures.outcome (take used input) represents) in

@@ -53,7 +53,8 @@ loop-procedure-preserved c =
     (numbers_of c.args.procedures.now) = c.loop-procedure.invariant in
     let same : to_z w128 (of_z w128 c.procedure-item.result.number.value) ≡ c.procedure-item.result.number.value =
     search rules in
-    goes_on by_number c.loop-procedure.before c.insert.new.self (to_z w128 (of_z w128 c.procedure-item.result.number.value))
+    goes_on by_number c.loop-procedure.before c.insert.new.self
+    (to_z w128 (of_z w128 c.procedure-item.result.number.value))
     (numbers_of (drop (c.loop-procedure.procedure-index + 1) c.args.procedures.now))
     (repeats int_eq [] (numbers_of c.args.procedures.now))
     (was_absent _ _ c.in_ok-insert.ensures.added c.if-not-branch.false) c.in_ok-insert.ensures.updates

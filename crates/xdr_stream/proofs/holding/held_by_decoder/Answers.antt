@@ -71,8 +71,8 @@ returns-clause-whole c = λ b done st.
     c.depth-in_range.ensures.range ⊥ H fs r.read r.unit r.pending r.state b c.pending_of.ensures.space st in
     let n = w.1.nodes (omega (arith, w.2.few)) in
     let below : r.built.nodes + 1 < 2 ^ 64 = omega (arith, n, w.2.few) in
-    let at = subst (λ (x : State). RepresentsAs ⊥ r.schema.now.kinds r.kind.place r.limits H fs r.read r.unit r.pending x b)
-    done st in
+    let at = subst (λ (x : State). RepresentsAs ⊥ r.schema.now.kinds r.kind.place r.limits H fs r.read r.unit r.pending
+    x b) done st in
     let v = whole_stored r.schema.now.kinds r.kind.place r.limits H fs r.read r.unit r.pending b at in
     let same : w.0 ≡ at.2.trace = sym w.1.trace ∙ at.2.reported.trace in
     record {

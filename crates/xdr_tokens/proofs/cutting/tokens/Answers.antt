@@ -4,7 +4,8 @@ use Rattle.std.proofs.lemmas.List.{append-nil}
 use Rattle.std.proofs.lemmas.Grind.{common_steps}
 use Rattle.xdr_tokens.specs.Tokens.{Lexeme, lexeme, lexemes}
 use Rattle.xdr_tokens.specs.Text.{Tokens, with_token}
-use Rattle.xdr_tokens.proofs.Whole.{fault_within, shorter, more_tokens, less_tokens, no_more, all_done, fails_too, retained}
+use Rattle.xdr_tokens.proofs.Whole.{fault_within, shorter, more_tokens, less_tokens, no_more, all_done}
+use Rattle.xdr_tokens.proofs.Whole.{fails_too, retained}
 use Rattle.xdr_tokens.proofs.cutting.tokens.Goals as goal
 
 pub returns-in_err-token-clause-only : goal.returns-in_err-token-clause-only

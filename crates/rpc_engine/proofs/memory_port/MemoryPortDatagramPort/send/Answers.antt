@@ -20,4 +20,5 @@ returns-clause-sent c =
           place_left port.count (length port.sizes.now) (sym w.is_full-is ∙ c.if-is_full.false) port.few
     ] in
     rw c.copy_from_slice.ensures.after
-    (retained_more port.count port.sizes.now port.buffer.now c.args.datagram.now _ port.used port.joined port.fits place)
+    (retained_more port.count port.sizes.now port.buffer.now c.args.datagram.now _ port.used port.joined port.fits
+    place)

@@ -9,8 +9,8 @@ use Rattle.xdr_codec.proofs.decoder.Decoder.feed.Goals as goal
 pub returns-clause-answer : goal.returns-clause-answer
 returns-clause-answer c = λ b represents.
     let r = c.args.self.now.reader in
-    answers r.schema.now.kinds r.kind.place r.limits c.depth-in_range.ensures.range.units b c.args.piece.now c.feed.result
-    (c.feed.ensures.answer b represents)
+    answers r.schema.now.kinds r.kind.place r.limits c.depth-in_range.ensures.range.units b c.args.piece.now
+    c.feed.result (c.feed.ensures.answer b represents)
 
 pub invariant_of-self : goal.invariant_of-self
 invariant_of-self c = record {

@@ -37,7 +37,8 @@ returns-in_ok-leaf-clause-follows g c = λ kind q h.
     rw c.after.ensures (code_void c.args.schema.now.kinds kind c.args.limits (With H HasSpace)
     (g.B.Build.reports c.leaf.new.self) c.args.work.now c.args.parents.now.items q n
     (λ a reported. c.in_ok-leaf.ensures.reported a reported.0 reported.1)
-    (space_next c.args.schema.now.kinds kind c.args.limits H c.args.work.now c.args.parents.now.items q xdr.nothing n h))
+    (space_next c.args.schema.now.kinds kind c.args.limits H c.args.work.now c.args.parents.now.items q xdr.nothing n
+    h))
 
 pub returns-in_err-leaf-clause-spared : goal.returns-in_err-leaf-clause-spared
 returns-in_err-leaf-clause-spared g c =

@@ -74,8 +74,8 @@ returns-in_ok-leaf-in-Leaf-clause-taken g c = λ kind limits q ready small h.
     (unit_leaf s c.len-known.ensures.valued c.len-known.ensures.known kind limits (With H HasSpace)
     (g.B.Build.reports c.leaf.new.self) c.args.work.now c.args.parents.now.items q k n c.args.number less small
     (space_next s kind limits H c.args.work.now c.args.parents.now.items q k n h)
-    unit t.1.0 t.0 (head_of_leaf c.in-Leaf.leaf) t.1.1 t.1.2 (λ a reported. c.in_ok-leaf-in-Leaf.ensures.reported a reported.0
-    reported.1))
+    unit t.1.0 t.0 (head_of_leaf c.in-Leaf.leaf) t.1.1 t.1.2
+    (λ a reported. c.in_ok-leaf-in-Leaf.ensures.reported a reported.0 reported.1))
 
 pub returns-in_ok-open-in-Open-clause-taken : goal.returns-in_ok-open-in-Open-clause-taken
 returns-in_ok-open-in-Open-clause-taken g c = λ kind limits q ready small h.

@@ -83,7 +83,8 @@ returns-in_ok-content-in-Content-clause-taken g c = λ kind limits q ready small
     (With H HasSpace) (g.B.Build.reports c.content.new.self)
     (stack_of c.args.work.now c.args.parents.now.items) q u len are small
     c.in-Content.left some (omega arith) zeros
-    (λ a reported. c.in_ok-content-in-Content.ensures.reported _ (c.in_ok-extend-in-Content-2.ensures.reported a reported.0) reported.1)
+    (λ a reported. c.in_ok-content-in-Content.ensures.reported _
+    (c.in_ok-extend-in-Content-2.ensures.reported a reported.0) reported.1)
     (seen_space c.args.schema.now.kinds kind limits H (Content c.in-Content.left)
     (stack_of c.args.work.now c.args.parents.now.items) q tt (rw c.in-Content.is at h))
 

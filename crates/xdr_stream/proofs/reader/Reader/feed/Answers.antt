@@ -9,21 +9,22 @@ returns-in-Finished-clause-answer g c = λ b st.
     answers_done g.B.Build.spares g.B.Build.reports c.args.self.now c.args.self.now
     (record { schema_is = refl; kind_is = refl; limits_are = refl })
     b c.args.piece.now 0 (omega arith)
-    (subst (λ (x : List ℕ). RepresentsBytes g.B.Build.spares g.B.Build.reports c.args.self.now x) (sym (append-nil b)) st)
+    (subst (λ (x : List ℕ). RepresentsBytes g.B.Build.spares g.B.Build.reports c.args.self.now x)
+    (sym (append-nil b)) st)
     c.in-Finished.is
 
 pub returns-in-Failed-state-clause-represents : goal.returns-in-Failed-state-clause-represents
 returns-in-Failed-state-clause-represents g c = λ b st.
     let e = c.take_piece-used.ensures in
-    represents_failed g.B.Build.spares g.B.Build.reports c.args.self.now c.take_piece-used.new.self e.same b c.args.piece.now
-    c.take_piece-used.result
+    represents_failed g.B.Build.spares g.B.Build.reports c.args.self.now c.take_piece-used.new.self e.same b
+    c.args.piece.now c.take_piece-used.result
     e.within (e.represents b st) c.in-Failed-state.fault c.in-Failed-state.is
 
 pub returns-in-Failed-state-clause-answer : goal.returns-in-Failed-state-clause-answer
 returns-in-Failed-state-clause-answer g c = λ b st.
     let e = c.take_piece-used.ensures in
-    answers_fault g.B.Build.spares g.B.Build.reports c.args.self.now c.take_piece-used.new.self e.same b c.args.piece.now
-    c.take_piece-used.result
+    answers_fault g.B.Build.spares g.B.Build.reports c.args.self.now c.take_piece-used.new.self e.same b
+    c.args.piece.now c.take_piece-used.result
     e.within (e.represents b st) c.in-Failed-state.fault c.in-Failed-state.is
 
 pub returns-in-Finished-state-clause-answer : goal.returns-in-Finished-state-clause-answer

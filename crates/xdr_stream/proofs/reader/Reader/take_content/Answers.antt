@@ -17,9 +17,8 @@ use Rattle.xdr_stream.proofs.reader.Reader.take_content.Goals as goal
 pub returns-in-Ok-clause-represents : goal.returns-in-Ok-clause-represents
 returns-in-Ok-clause-represents g c = λ b left sum state none space st.
     let a = c.args.self.now in
-    let s = subst (λ (x : State). RepresentsAs g.B.Build.spares a.schema.now.kinds a.kind.place a.limits (g.B.Build.reports
-    a.built)
-    (stack_of a.work a.parents.items) a.read a.unit a.pending x b) state st in
+    let s = subst (λ (x : State). RepresentsAs g.B.Build.spares a.schema.now.kinds a.kind.place a.limits
+    (g.B.Build.reports a.built) (stack_of a.work a.parents.items) a.read a.unit a.pending x b) state st in
     let m : ℕ = c.args.n - 4 in
     let u : List ℕ = take m c.args.bytes.now in
     let size : length u ≡ m = omega (arith, length-take m c.args.bytes.now, c.requires.there) in

@@ -35,9 +35,8 @@ pub returns-in-Ok-clause-represents : goal.returns-in-Ok-clause-represents
 returns-in-Ok-clause-represents g c = λ b state none space st.
     let a = c.args.self.now in
     let due = c.requires.due in
-    let s = subst (λ (x : State). RepresentsAs g.B.Build.spares a.schema.now.kinds a.kind.place a.limits (g.B.Build.reports
-    a.built)
-    (stack_of a.work a.parents.items) a.read a.unit a.pending x b) state st in
+    let s = subst (λ (x : State). RepresentsAs g.B.Build.spares a.schema.now.kinds a.kind.place a.limits
+    (g.B.Build.reports a.built) (stack_of a.work a.parents.items) a.read a.unit a.pending x b) state st in
     let u : List ℕ = take c.args.n c.args.bytes.now in
     let size : length u ≡ c.args.n = omega (arith, length-take c.args.n c.args.bytes.now, c.requires.there) in
     let are : are_bytes u ≡ true = bytes_taken c.args.n c.args.bytes.now (λ i. omega (arith, c.type_inv.bytes i)) in

@@ -13,9 +13,8 @@ use Rattle.xdr_stream.proofs.reader.Reader.take_part.Goals as goal
 pub returns-in-Ok-clause-represents : goal.returns-in-Ok-clause-represents
 returns-in-Ok-clause-represents g c = λ b state none st.
     let a = c.args.self.now in
-    let s = subst (λ (x : State). RepresentsAs g.B.Build.spares a.schema.now.kinds a.kind.place a.limits (g.B.Build.reports
-    a.built)
-    (stack_of a.work a.parents.items) a.read a.unit a.pending x b) state st in
+    let s = subst (λ (x : State). RepresentsAs g.B.Build.spares a.schema.now.kinds a.kind.place a.limits
+    (g.B.Build.reports a.built) (stack_of a.work a.parents.items) a.read a.unit a.pending x b) state st in
     let q : List ℕ = s.0 in
     let u : List ℕ = c.unit_at-unit.result in
     let n : ℕ = c.take_whole.result in
@@ -47,9 +46,8 @@ returns-in-Ok-clause-represents g c = λ b state none st.
 pub returns-in-Err-clause-represents : goal.returns-in-Err-clause-represents
 returns-in-Err-clause-represents g c = λ b state none st.
     let a = c.args.self.now in
-    let s = subst (λ (x : State). RepresentsAs g.B.Build.spares a.schema.now.kinds a.kind.place a.limits (g.B.Build.reports
-    a.built)
-    (stack_of a.work a.parents.items) a.read a.unit a.pending x b) state st in
+    let s = subst (λ (x : State). RepresentsAs g.B.Build.spares a.schema.now.kinds a.kind.place a.limits
+    (g.B.Build.reports a.built) (stack_of a.work a.parents.items) a.read a.unit a.pending x b) state st in
     let q : List ℕ = s.0 in
     let u : List ℕ = c.unit_at-unit.result in
     let joined : q ++ u ≡ b ++ take 4 c.args.bytes.now =

@@ -44,9 +44,8 @@ pub returns-in-Ok-clause-represents : goal.returns-in-Ok-clause-represents
 returns-in-Ok-clause-represents g c = λ b state none space st.
     let a = c.args.self.now in
     let due = c.requires.due in
-    let s = subst (λ (x : State). RepresentsAs g.B.Build.spares a.schema.now.kinds a.kind.place a.limits (g.B.Build.reports
-    a.built)
-    (stack_of a.work a.parents.items) a.read a.unit a.pending x b) state st in
+    let s = subst (λ (x : State). RepresentsAs g.B.Build.spares a.schema.now.kinds a.kind.place a.limits
+    (g.B.Build.reports a.built) (stack_of a.work a.parents.items) a.read a.unit a.pending x b) state st in
     let m : ℕ = c.args.n - 4 in
     let u : List ℕ = take m c.args.bytes.now in
     let size : length u ≡ m = omega (arith, length-take m c.args.bytes.now, c.requires.there) in

@@ -20,7 +20,8 @@ loop-at-preserved c =
           subst (λ (x : Trace). Reports c.item.new.self x)
           (ap (λ (k : Head). leaf_in k before) (c.hyper_leaf.ensures (take 8 (drop c.loop-at.at us)) c.hyper_at.ensures)
           ∙ sym (hypers_more c.args.signed c.loop-at.at us t i.0 there))
-          (c.in_ok-item.ensures before (i.2 t reported many) (hypers_space c.args.signed (take c.loop-at.at us) t many)),
+          (c.in_ok-item.ensures before (i.2 t reported many)
+          (hypers_space c.args.signed (take c.loop-at.at us) t many)),
     )
 
 pub returns : goal.returns

@@ -14,4 +14,5 @@ pub returns-in_err-add_any-clause-granted : goal.returns-in_err-add_any-clause-g
 returns-in_err-add_any-clause-granted c = λ t reported alone.
     let p = err_from_is_err_and c.from_residual.result c.from_residual.ensures.1 in
     rw p.1 (c.in_err-add_any.ensures.granted
-    (alone_root c.args.self.now.content.items c.args.self.now.work c.args.self.now.parents.items t reported.trace alone))
+    (alone_root c.args.self.now.content.items c.args.self.now.work c.args.self.now.parents.items t reported.trace
+    alone))
