@@ -92,7 +92,8 @@ fn push_names(
     names: &mut Vec<(String, KindId)>,
     own: &[(&str, u32)],
 ) -> Result<(), NoMemory>
-    ensures { OnOk result (map name_of names.new.items ≡ map name_of names.old.items ++ map (λ r. named r.0.now r.1) own.now) }
+    ensures { OnOk result (map name_of names.new.items
+        ≡ map name_of names.old.items ++ map (λ r. named r.0.now r.1) own.now) }
 {
     for row in own {
         names.push((String::from_str(alloc, row.0)?, KindId { place: row.1 }))?;
