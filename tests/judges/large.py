@@ -121,11 +121,15 @@ def text_cases():
         yield Case("read", text=text), is_well
 
 
+def chained(count):
+    """A chain of so many typedefs, each of the next, and the last of hyper."""
+    lines = (b"typedef t%x t%x;" % (number + 1, number) for number in range(count))
+    return b"\n".join(lines) + b"typedef hyper t%x;" % count
+
+
 def typedef_cases():
-    """A chain of 12,000 typedefs, each of the next: what one of them names is learnt once for all."""
-    lines = (b"typedef t%x t%x;" % (number + 1, number) for number in range(12000))
-    text = b"\n".join(lines) + b"typedef hyper t%x;" % 12000
-    yield Case("read", text=text), lambda told: told.answer == "ok" and b'("t0", 2)' in told.streams[1]
+    """A chain of 12,000 typedefs: what one of them names is learnt once for all."""
+    yield Case("read", text=chained(12000)), lambda told: told.answer == "ok" and b'("t0", 2)' in told.streams[1]
 
 
 def deep_cases():

@@ -1,5 +1,6 @@
 pub mod First
 pub mod Accepted
 pub mod LentBytes
+pub mod LookUps
 pub mod Refusing
 pub mod Sound

@@ -18,6 +18,7 @@ pub mod holding;
 pub mod lending;
 pub mod limits;
 pub mod lines;
+pub mod look_ups;
 mod made;
 pub mod pieces;
 pub mod reasons;
