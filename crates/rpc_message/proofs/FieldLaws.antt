@@ -1,84 +1,20 @@
 -- A field that is read is the field that was written, and what was written is read again.
-use Rattle.std.proofs.Common.{◌≡◌, ◌≢◌, ℕ, zero, suc, ◌+◌, ◌^◌, ◌<◌, ◌≤◌, Bool, true, false, cond, ltb, List, [], ◌∷◌}
-use Rattle.std.proofs.Common.{◌++◌, length, take, drop, replicate, Result, Ok, Err, refl, sym, ap, subst, ◌∙◌}
-use Rattle.std.proofs.Common.{append_assoc, arith, inl, inr, ◌⊎◌}
+use Rattle.std.proofs.Common.{◌≡◌, ℕ, zero, suc, ◌^◌, ◌<◌, ◌≤◌, Bool, true, false, cond, ltb, List, [], ◌∷◌, ◌++◌}
+use Rattle.std.proofs.Common.{length, take, drop, replicate, Result, Ok, Err, refl, sym, ap, subst, ◌∙◌, append_assoc}
+use Rattle.std.proofs.Common.{arith}
 use Rattle.std.specs.Int.{w32, from_be_bytes}
-use Rattle.std.proofs.lemmas.Bool.{cases_lt, ltb-false, ltb-true, le-ltb, lt-ltb}
-use Rattle.std.proofs.lemmas.List.{take_at, drop_at, take-append-drop, length-append, length-drop, nil_from_length}
-use Rattle.std.proofs.lemmas.List.{length-take, length-replicate}
+use Rattle.std.proofs.lemmas.Bool.{ltb-false, ltb-true, le-ltb}
+use Rattle.std.proofs.lemmas.List.{take_at, drop_at, take-append-drop, length-append, length-take, length-replicate}
 use Rattle.std.proofs.lemmas.Nat.{be_bytes_4, from_be_bytes-to_be_bytes_4}
 use Rattle.rpc_message.specs.declared.fault.ReplyFault.{ReplyFault}
 use Rattle.rpc_message.specs.declared.fault.ReplyFault.TheVariants.{Truncated, BadAuth}
 use Rattle.rpc_message.specs.Message.{AuthView}
-use Rattle.xdr_units.specs.Fronts.{HasBadPadding}
 use Rattle.xdr_units.proofs.Bytes.{byte_at, AreBytes-drop, AreBytes-take}
-use Rattle.xdr_units.specs.Numbers.{AreBytes, word, gap, pad, padded, IsWord}
+use Rattle.xdr_units.specs.Numbers.{AreBytes, word, gap, pad, IsWord}
 use Rattle.rpc_message.specs.Spelling.{opaque, auth, IsAuth}
 use Rattle.rpc_message.specs.Private.Reading.{◌>>=◌, are_zeros, word_at, padding_at, opaque_at, auth_at}
-
--- the value of a step that did not fail
-pub bind_ok : {A B : Type 0} (r : Result A ReplyFault) (f : A → Result B ReplyFault) (y : B) → (r >>= f) ≡ Ok y
-    → (x : A) × (r ≡ Ok x) × (f x ≡ Ok y)
-bind_ok (Ok x) f y e = (x, refl, e)
-bind_ok (Err d) f y e = absurd cc
-
-abbrev pub failed : {A : Type 0} → ReplyFault → Result A ReplyFault
-failed d = Err d
-
-pub err_is : {A : Type 0} (c d : ReplyFault) → failed {A = A} c ≡ failed {A = A} d → c ≡ d
-err_is c d e = cc
-
--- a step that failed, or the next one that did
-pub bind_err : {A B : Type 0} (r : Result A ReplyFault) (f : A → Result B ReplyFault) (d : ReplyFault)
-    → (r >>= f) ≡ Err d → (r ≡ Err d) ⊎ ((x : A) × (r ≡ Ok x) × (f x ≡ Err d))
-bind_err (Ok x) f d e = inr (x, refl, e)
-bind_err {B = B} (Err c) f d e = inl (ap (λ (x : ReplyFault). Err x) (err_is {A = B} c d e))
-
--- a test that did not fail
-pub guard_ok : {A : Type 0} (b : Bool) (d : ReplyFault) (x : Result A ReplyFault) (y : A) → cond b (Err d) x ≡ Ok y
-    → (b ≡ false) × (x ≡ Ok y)
-guard_ok true d x y e = absurd cc
-guard_ok false d x y e = (refl, e)
-
--- a test that held
-pub guard_then : {A : Type 0} (b : Bool) (d : ReplyFault) (x : Result A ReplyFault) (y : A) → cond b x (Err d) ≡ Ok y
-    → (b ≡ true) × (x ≡ Ok y)
-guard_then true d x y e = (refl, e)
-guard_then false d x y e = absurd cc
-
-abbrev done : {A : Type 0} → A → Result A ReplyFault
-done x = Ok x
-
-pub ok_is : {A : Type 0} (x y : A) → done x ≡ done y → x ≡ y
-ok_is x y e = cc
-
-pub ok_no_err : {A : Type 0} (x : A) (d : ReplyFault) → done x ≡ failed d → ⊥
-ok_no_err x d e = absurd cc
-
--- a test that held, and so failed
-pub guard_cut : {A : Type 0} (b : Bool) (d : ReplyFault) (x : A) (f : ReplyFault) → cond b (Err d) (Ok x) ≡ Err f
-    → (b ≡ true) × (f ≡ d)
-guard_cut {A} true d x f e = (refl, sym (err_is {A = A} d f e))
-guard_cut false d x f e = absurd (ok_no_err x f e)
-
--- a test that failed
-pub guard_fails : {A : Type 0} (b : Bool) (d : ReplyFault) (x : A) (f : ReplyFault) → cond b (Ok x) (Err d) ≡ Err f
-    → (b ≡ false) × (f ≡ d)
-guard_fails true d x f e = absurd (ok_no_err x f e)
-guard_fails {A} false d x f e = (refl, sym (err_is {A = A} d f e))
-
--- what a reader took from the front
-pub record Takes (bytes text rest : List ℕ) : Type 0 where
-  pub parts : bytes ≡ text ++ rest
-  pub rest_fits : AreBytes rest
-
-pub Takes-then : (a x b y c : List ℕ) → Takes a x b → Takes b y c → Takes a (x ++ y) c
-Takes-then a x b y c p q = record {
-  parts = p.parts ∙ ap (λ (t : List ℕ). x ++ t) q.parts ∙ sym (append_assoc x y c);
-  rest_fits = q.rest_fits;
-}
-
--- ---- words
+use Rattle.rpc_message.proofs.StepLaws.{bind_ok, failed, guard_ok, guard_then, ok_is, ok_no_err, guard_cut, Takes}
+use Rattle.rpc_message.proofs.StepLaws.{Takes-then}
 
 pub word_takes : (bytes : List ℕ) (x : ℕ × List ℕ) → AreBytes bytes → word_at bytes ≡ Ok x
     → Takes bytes (word x.0) x.1 × IsWord x.0
@@ -157,7 +93,7 @@ padding_takes n bytes rest fits e =
     } in
     subst (λ (y : List ℕ). Takes bytes (pad n) y) (ok_is (drop (gap n) bytes) rest h.1) taken
 
-padding_again : (n : ℕ) (rest : List ℕ) → padding_at n (pad n ++ rest) ≡ Ok rest
+pub padding_again : (n : ℕ) (rest : List ℕ) → padding_at n (pad n ++ rest) ≡ Ok rest
 unfolding padding_at
 padding_again n rest =
     let size = length-replicate {A = ℕ} (gap n) 0 in
@@ -215,99 +151,6 @@ opaque_again most body rest short small =
       drop_at body (pad n ++ rest) n refl,
       padding_again n rest,
     ) refl
-
--- ---- a word and content that the readers of units found
-
-pub word_found : (bytes rest : List ℕ) (n : ℕ) → IsWord n → bytes ≡ word n ++ rest → word_at bytes ≡ Ok (n, rest)
-word_found bytes rest n fits parts = ap word_at parts ∙ word_again n rest fits
-
-pub no_word : (bytes : List ℕ) → length bytes < 4 → word_at bytes ≡ Err Truncated
-unfolding word_at
-no_word bytes short = rw (lt-ltb (length bytes) 4 short) refl
-
-front_found : (most : ℕ) (bytes body rest : List ℕ)
-    → word_at bytes ≡ Ok (length body, body ++ (pad (length body) ++ rest))
-    → length body ≤ most → opaque_at most bytes ≡ Ok (body, rest)
-unfolding opaque_at
-front_found most bytes body rest w few =
-    let n = length body in
-    let behind = pad n ++ rest in
-    let fits : ltb most n ≡ false = le-ltb _ _ few in
-    let long : ltb (length (body ++ behind)) n ≡ false = le-ltb _ _ (omega (arith, length-append body behind)) in
-    rw (w, fits, long, take_at body behind n refl, drop_at body behind n refl, padding_again n rest) refl
-
-pub content_found : (most count : ℕ) (bytes rest body after : List ℕ) → word_at bytes ≡ Ok (count, rest) → count ≤ most
-    → length body ≡ count → rest ≡ padded body ++ after → opaque_at most bytes ≡ Ok (body, after)
-content_found most count bytes rest body after w few size parts =
-    let regrouped : rest ≡ body ++ (pad (length body) ++ after) = parts ∙ append_assoc body (pad (length body)) after in
-    front_found most bytes body after (w ∙ (λ j. Ok (sym size j, regrouped j))) (omega (arith, size, few))
-
-not_zero : (bytes : List ℕ) → bytes ≢ replicate (length bytes) 0 → are_zeros bytes ≡ false
-not_zero bytes other = by (are_zeros bytes) refl
-  where
-    by : (b : Bool) → are_zeros bytes ≡ b → b ≡ false
-    by false e = refl
-    by true e = absurd (other (zeros_are bytes e))
-
-pub padding_wrong : (most count : ℕ) (bytes rest : List ℕ) → word_at bytes ≡ Ok (count, rest) → count ≤ most
-    → HasBadPadding count rest → opaque_at most bytes ≡ Err BadAuth
-unfolding opaque_at padding_at
-padding_wrong most count bytes rest w few h =
-    let behind = h.filling ++ h.rest in
-    let size : length rest ≡ count + length behind = ap length h.parts ∙ length-append h.content behind
-    ∙ ap (λ (k : ℕ). k + length behind) h.sized in
-    let dropped : drop count rest ≡ behind = ap (drop count) h.parts ∙ drop_at h.content behind count h.sized in
-    let fits : ltb most count ≡ false = le-ltb _ _ few in
-    let long : ltb (length rest) count ≡ false = le-ltb _ _ (omega (arith, size)) in
-    let filled : ltb (length behind) (gap count) ≡ false =
-    le-ltb _ _ (omega (arith, length-append h.filling h.rest, h.filled)) in
-    let other : h.filling ≢ replicate (length h.filling) 0 =
-    λ e. h.other (e ∙ ap (λ (k : ℕ). replicate k 0) h.filled) in
-    rw (w, fits, long, dropped, filled, take_at h.filling h.rest (gap count) h.filled, not_zero h.filling other) refl
-
--- what is there of the padding
-abbrev behind_of : ℕ → List ℕ → List ℕ
-behind_of count bytes = drop count bytes
-
-none_behind : (count : ℕ) (bytes : List ℕ) → length bytes ≤ count → drop count bytes ≡ []
-none_behind count bytes short = nil_from_length (drop count bytes) (omega (arith, length-drop count bytes))
-
-pub zero_behind : (count : ℕ) (bytes : List ℕ) → length bytes ≤ count
-    → drop count bytes ≡ replicate (length (drop count bytes)) 0
-zero_behind count bytes short = let e = none_behind count bytes short in e
-    ∙ ap (λ (t : List ℕ). replicate (length t) 0) (sym e)
-
-pub content_cut : (most count : ℕ) (bytes rest : List ℕ) → word_at bytes ≡ Ok (count, rest) → count ≤ most
-    → length rest < count + gap count → behind_of count rest ≡ replicate (length (behind_of count rest)) 0
-    → opaque_at most bytes ≡ Err Truncated
-unfolding opaque_at padding_at
-content_cut most count bytes rest w few short zeros =
-    let fits : ltb most count ≡ false = le-ltb _ _ few in
-    elim (cases_lt (length rest) count) [
-      | inl lt ↦ rw (w, fits, lt-ltb (length rest) count lt) refl
-      | inr le ↦
-          let cut : ltb (length (drop count rest)) (gap count) ≡ true =
-          lt-ltb _ _ (omega (arith, length-drop count rest)) in
-          let all : are_zeros (drop count rest) ≡ true = ap are_zeros zeros
-          ∙ are_zeros-replicate (length (drop count rest)) in
-          rw (w, fits, le-ltb (length rest) count le, cut, all) refl
-    ]
-
-pub padding_cut_wrong : (most count : ℕ) (bytes rest : List ℕ) → word_at bytes ≡ Ok (count, rest) → count ≤ most
-    → length rest < count + gap count → behind_of count rest ≢ replicate (length (behind_of count rest)) 0
-    → opaque_at most bytes ≡ Err BadAuth
-unfolding opaque_at padding_at
-padding_cut_wrong most count bytes rest w few short other =
-    let fits : ltb most count ≡ false = le-ltb _ _ few in
-    elim (cases_lt (length rest) count) [
-      | inl lt ↦ absurd (other (zero_behind count rest (omega (arith, lt))))
-      | inr le ↦
-          let cut : ltb (length (drop count rest)) (gap count) ≡ true =
-          lt-ltb _ _ (omega (arith, length-drop count rest)) in
-          rw (w, fits, le-ltb (length rest) count le, cut, not_zero (drop count rest) other) refl
-    ]
-
--- ---- opaque_auth
 
 pub auth_takes : (bytes : List ℕ) (x : AuthView × List ℕ) → AreBytes bytes → auth_at bytes ≡ Ok x
     → Takes bytes (auth x.0) x.1 × IsAuth x.0

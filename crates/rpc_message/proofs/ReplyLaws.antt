@@ -16,7 +16,8 @@ use Rattle.rpc_message.specs.View.{reply_view}
 use Rattle.rpc_message.specs.Private.Reading.{◌>>=◌, ReadsOrNoMemory, ended, word_at, auth_at, bounds_at, status_at}
 use Rattle.rpc_message.specs.Private.Reading.{why_at, accepted_at}
 use Rattle.rpc_message.specs.Private.Reading.{denied_at, reply_stat_at, reply_at}
-use Rattle.rpc_message.proofs.FieldLaws.{bind_ok, guard_then, ok_is, ok_no_err, word_takes, word_again, auth_takes}
+use Rattle.rpc_message.proofs.StepLaws.{bind_ok, guard_then, ok_is, ok_no_err}
+use Rattle.rpc_message.proofs.FieldLaws.{word_takes, word_again, auth_takes}
 use Rattle.rpc_message.proofs.FieldLaws.{auth_again}
 
 pub ended_ok : {A : Type 0} (rest : List ℕ) (x y : A) → ended rest x ≡ Ok y → (rest ≡ []) × (x ≡ y)

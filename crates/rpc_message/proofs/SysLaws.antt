@@ -13,7 +13,8 @@ use Rattle.xdr_units.specs.Numbers.{AreBytes, word, IsWord}
 use Rattle.rpc_message.specs.Spelling.{opaque, auth_sys, IsAuthSys, AuthSysBytes}
 use Rattle.rpc_message.specs.Private.Reading.{◌>>=◌, Fails, is_memory, ended, word_at, opaque_at, words_at, gids_at}
 use Rattle.rpc_message.specs.Private.Reading.{auth_sys_at}
-use Rattle.rpc_message.proofs.FieldLaws.{Takes, Takes-then, bind_ok, guard_ok, ok_is, ok_no_err, word_takes, word_again}
+use Rattle.rpc_message.proofs.StepLaws.{Takes, Takes-then, bind_ok, guard_ok, ok_is, ok_no_err}
+use Rattle.rpc_message.proofs.FieldLaws.{word_takes, word_again}
 use Rattle.rpc_message.proofs.FieldLaws.{opaque_takes, opaque_again}
 use Rattle.rpc_message.proofs.ReplyLaws.{ended_ok}
 

@@ -13,8 +13,8 @@ use Rattle.xdr_grammar.specs.Grammar.{specification}
 use Rattle.xdr_grammar.specs.Outline.{Outline, nothing}
 use Rattle.xdr_grammar.specs.Spelled.{IsOutline}
 use Rattle.xdr_grammar.specs.Private.Reading.{definitions_at}
-use Rattle.xdr_grammar.proofs.FoundAll.{definitions_found}
-use Rattle.xdr_grammar.proofs.AgainAll.{definitions_again}
+use Rattle.xdr_grammar.proofs.Found.Definitions.{definitions_found}
+use Rattle.xdr_grammar.proofs.Again.Definitions.{definitions_again}
 
 pub outline_found : (ts : List Lexeme) (v : Outline) → definitions_at (length ts) nothing ts ≡ Some v → IsOutline ts v
 outline_found ts v e =

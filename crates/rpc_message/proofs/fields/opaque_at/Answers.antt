@@ -1,7 +1,7 @@
 use Rattle.std.proofs.Common.{rules, arith, subst}
 use Rattle.xdr_units.specs.declared.units.NoContent.{NoContent}
 use Rattle.xdr_units.specs.Fronts.{IsNoContent}
-use Rattle.rpc_message.proofs.FieldLaws.{content_found, padding_wrong, content_cut, padding_cut_wrong}
+use Rattle.rpc_message.proofs.ContentLaws.{content_found, padding_wrong, content_cut, padding_cut_wrong}
 use Rattle.rpc_message.proofs.fields.opaque_at.Goals as goal
 
 pub returns-in-Ok : goal.returns-in-Ok

@@ -1,5 +1,5 @@
 use Rattle.std.proofs.Common.{rules}
-use Rattle.rpc_message.proofs.FieldLaws.{word_found, no_word}
+use Rattle.rpc_message.proofs.ContentLaws.{word_found, no_word}
 use Rattle.rpc_message.proofs.fields.word_at.Goals as goal
 
 pub returns-in-Some : goal.returns-in-Some

@@ -1,31 +1,23 @@
--- Completeness for programs and whole texts.
+-- Completeness of programs, their versions and procedures.
 use Rattle.std.proofs.Common.{◌≡◌, ℕ, zero, suc, ◌≤◌, ◌+◌, ◌<◌, max, true, false, ℤ, List, [], ◌∷◌, length, Option}
-use Rattle.std.proofs.Common.{Some, None, refl, ◌∙◌, arith}
+use Rattle.std.proofs.Common.{Some, None, refl, arith}
 use Rattle.xdr_tokens.specs.declared.token.Keyword.TheVariants as word
 use Rattle.xdr_tokens.specs.declared.token.Mark.TheVariants as mark
 use Rattle.xdr_tokens.specs.Tokens.{Lexeme, Name, Number, Sign}
 use Rattle.xdr_grammar.specs.Tree as tree
-use Rattle.xdr_grammar.specs.Tree.{Specifier, Body, Declaration, Passed, AnyText, OfType, Definition, ConstantOf}
-use Rattle.xdr_grammar.specs.Tree.{Typedef, Defined, ProgramOf, depth_of_specifier, depth_of_body, depth_of_declaration}
-use Rattle.xdr_grammar.specs.Tree.{depth_of_passed, depth_of_arguments, depth_of_result, depth_of_procedures}
-use Rattle.xdr_grammar.specs.Tree.{depth_of_versions, depth_of_definition, depth, EnumBody, StructBody, UnionBody}
-use Rattle.xdr_grammar.specs.Grammar.{body_word, body, declaration, passed, result, more_arguments, arguments}
-use Rattle.xdr_grammar.specs.Grammar.{procedure, procedures, version, versions, definition, specification}
-use Rattle.xdr_grammar.specs.Outline.{Part, Outline, body_in, passed_in, arguments_in, result_in, procedure_in}
-use Rattle.xdr_grammar.specs.Outline.{procedures_in, version_in, versions_in, definition_in, outlined}
-use Rattle.xdr_tokens.specs.Options.{◌>>=◌}
+use Rattle.xdr_grammar.specs.Tree.{Passed, AnyText, OfType, depth_of_passed, depth_of_arguments, depth_of_result}
+use Rattle.xdr_grammar.specs.Tree.{depth_of_procedures, depth_of_versions}
+use Rattle.xdr_grammar.specs.Grammar.{passed, result, more_arguments, arguments, procedure, procedures, version}
+use Rattle.xdr_grammar.specs.Grammar.{versions}
+use Rattle.xdr_grammar.specs.Outline.{Part, Outline, passed_in, arguments_in, result_in, procedure_in, procedures_in}
+use Rattle.xdr_grammar.specs.Outline.{version_in, versions_in}
 use Rattle.xdr_grammar.specs.Private.Taking.{taken, after_word, after_sign, name_at, either_sign}
-use Rattle.xdr_grammar.specs.Private.Reading.{Reader, repeat}
-use Rattle.xdr_grammar.specs.Private.Reading.{declaration_with, specifier_at, passed_with, argument_with}
-use Rattle.xdr_grammar.specs.Private.Reading.{arguments_with}
-use Rattle.xdr_grammar.specs.Private.Reading.{result_with, procedure_with, version_with, program_with, const_at}
-use Rattle.xdr_grammar.specs.Private.Reading.{typedef_with, defined_with, definition_at, definitions_at}
+use Rattle.xdr_grammar.specs.Private.Reading.{Reader, repeat, passed_with, argument_with, arguments_with, result_with}
+use Rattle.xdr_grammar.specs.Private.Reading.{procedure_with, version_with}
 use Rattle.xdr_grammar.proofs.Leaves.{numbered_again}
-use Rattle.xdr_grammar.proofs.Again.{RereadsSpecifiers, RereadsDeclarations, specifier_begins, specifier_long}
-use Rattle.xdr_grammar.proofs.Again.{body_long, declaration_long, declaration_again, specifier_again, body_again}
-use Rattle.xdr_grammar.proofs.Again.{body_word_again, part_again, ends_semicolon, semicolon_again, close_again}
-
--- ---- how a type doesn't begin, and that it has a token
+use Rattle.xdr_grammar.proofs.Again.Declarations.{RereadsSpecifiers}
+use Rattle.xdr_grammar.proofs.Again.Begins.{specifier_begins, close_again}
+use Rattle.xdr_grammar.proofs.Again.Long.{specifier_long}
 
 passed_not_void : (p : Passed) (ts : List Lexeme) → after_word word.Void (passed p ts) ≡ None
 unfolding after_word
@@ -53,7 +45,7 @@ arguments_long : (ps : List Passed) (ts : List Lexeme) → length ts ≤ length 
 arguments_long [] ts = omega arith
 arguments_long (p ∷ ps) ts = omega (arith, passed_long p (more_arguments ps ts), more_arguments_long ps ts)
 
-abbrev ended : ℤ → List Lexeme → List Lexeme
+abbrev pub ended : ℤ → List Lexeme → List Lexeme
 ended n ts = Sign mark.Equal ∷ Number n ∷ Sign mark.Semicolon ∷ ts
 
 procedure_long : (p : tree.Procedure) (ts : List Lexeme) → suc (length ts) ≤ length (procedure p ts)
@@ -72,7 +64,7 @@ procedures_long (p ∷ ps) ts = omega (arith, procedure_long p (procedures ps ts
 version_long : (v : tree.Version) (ts : List Lexeme) → suc (length ts) ≤ length (version v ts)
 version_long v ts = omega (arith, procedures_long (v.first ∷ v.others) (Sign mark.CloseBrace ∷ ended v.number ts))
 
-versions_long : (vs : List tree.Version) (ts : List Lexeme) → length vs + length ts ≤ length (versions vs ts)
+pub versions_long : (vs : List tree.Version) (ts : List Lexeme) → length vs + length ts ≤ length (versions vs ts)
 versions_long [] ts = omega arith
 versions_long (v ∷ vs) ts = omega (arith, version_long v (versions vs ts), versions_long vs ts)
 
@@ -191,7 +183,7 @@ module _ (d : ℕ) (reader : Reader Part) (rereads : RereadsSpecifiers d reader)
   unfolding after_sign
   version_not_close v ts = refl
 
-  versions_again : (n : ℕ) (v : tree.Version) (vs : List tree.Version) (o : Outline) (ts : List Lexeme) → length vs < n
+  pub versions_again : (n : ℕ) (v : tree.Version) (vs : List tree.Version) (o : Outline) (ts : List Lexeme) → length vs < n
       → depth_of_versions (v ∷ vs) ≤ d
       → repeat (version_with reader) n o (versions (v ∷ vs) (Sign mark.CloseBrace ∷ ts)) ≡ Some
       ((versions_in (v ∷ vs) o).0, (versions_in (v ∷ vs) o).1, ts)
@@ -206,90 +198,3 @@ module _ (d : ℕ) (reader : Reader Part) (rereads : RereadsSpecifiers d reader)
       let first = version_begun v o next (omega arith) in
       let rest = versions_again n w vs (version_in v o).1 ts (omega arith) (omega arith) in
       rw (first, version_not_close w (versions vs (Sign mark.CloseBrace ∷ ts)), rest) refl
-
--- ---- definitions
-
-declarations_again : (d : ℕ) → RereadsDeclarations d (declaration_with (specifier_at d))
-declarations_again d = declaration_again d (specifier_at d) (specifier_again d)
-
-typedef_again : (t : Declaration) (o : Outline) (ts : List Lexeme) → depth_of_declaration t ≤ 32
-    → typedef_with (declaration_with (specifier_at 32)) o (declaration t (Sign mark.Semicolon ∷ ts)) ≡ Some
-    (definition_in (Typedef t) o, ts)
-unfolding typedef_with
-typedef_again t o ts fits = rw (
-  declarations_again 32 t o (Sign mark.Semicolon ∷ ts) fits (ends_semicolon ts),
-  semicolon_again ts,
-) refl
-
-named_again : (n : List ℕ) (ts : List Lexeme) → name_at (Name n ∷ ts) ≡ Some (n, ts)
-unfolding name_at
-named_again n ts = refl
-
-defined_again : (n : List ℕ) (b : Body) (o : Outline) (ts : List Lexeme) → depth_of_body b ≤ 32
-    → defined_with (declaration_with (specifier_at 31)) o
-    (body_word b ∷ Name n ∷ body b (Sign mark.Semicolon ∷ ts)) ≡ Some (definition_in (Defined n b) o, ts)
-unfolding defined_with
-defined_again n b o ts fits =
-    let inner = body b (Sign mark.Semicolon ∷ ts) in
-    let all = body_again 31 (declaration_with (specifier_at 31)) (declarations_again 31) b o
-    (Sign mark.Semicolon ∷ ts) fits in
-    rw (
-      body_word_again b (Name n ∷ inner),
-      named_again n inner,
-      all,
-      semicolon_again ts,
-      part_again b (body_in b o).0,
-    ) refl
-
-program_again : (p : tree.Program) (o : Outline) (ts : List Lexeme) → depth_of_versions (p.first ∷ p.others) ≤ 32
-    → program_with (specifier_at 32) o
-    (Name p.name ∷ Sign mark.OpenBrace ∷ versions (p.first ∷ p.others) (Sign mark.CloseBrace ∷ ended p.number ts)) ≡
-    Some (definition_in (ProgramOf p) o, ts)
-unfolding program_with name_at after_sign
-program_again p o ts fits =
-    let inner = versions (p.first ∷ p.others) (Sign mark.CloseBrace ∷ ended p.number ts) in
-    let all = versions_again 32 (specifier_at 32) (specifier_again 32) (length inner) p.first p.others o
-    (ended p.number ts) (omega
-    (arith, versions_long (p.first ∷ p.others) (Sign mark.CloseBrace ∷ ended p.number ts))) fits in
-    rw (all, numbered_again p.number ts) refl
-
-const_again : (n : List ℕ) (v : ℤ) (o : Outline) (ts : List Lexeme)
-    → const_at o (Name n ∷ ended v ts) ≡ Some (definition_in (ConstantOf n v) o, ts)
-unfolding const_at name_at
-const_again n v o ts = rw (numbered_again v ts) refl
-
-definition_again : (t : Definition) (o : Outline) (ts : List Lexeme) → depth_of_definition t ≤ 32
-    → definition_at o (definition t ts) ≡ Some (definition_in t o, ts)
-unfolding definition_at after_word
-definition_again (ConstantOf n v) o ts fits = const_again n v o ts
-definition_again (Typedef t) o ts fits = typedef_again t o ts fits
-definition_again (Defined n (EnumBody m ms)) o ts fits = defined_again n (EnumBody m ms) o ts fits
-definition_again (Defined n (StructBody fs)) o ts fits = defined_again n (StructBody fs) o ts fits
-definition_again (Defined n (UnionBody t cs e)) o ts fits = defined_again n (UnionBody t cs e) o ts fits
-definition_again (ProgramOf p) o ts fits = program_again p o ts fits
-
-definition_long : (t : Definition) (ts : List Lexeme) → suc (length ts) ≤ length (definition t ts)
-definition_long (ConstantOf n v) ts = omega arith
-definition_long (Typedef t) ts = omega (arith, declaration_long t (Sign mark.Semicolon ∷ ts))
-definition_long (Defined n b) ts = omega (arith, body_long b (Sign mark.Semicolon ∷ ts))
-definition_long (ProgramOf p) ts = omega
-    (arith, versions_long (p.first ∷ p.others) (Sign mark.CloseBrace ∷ ended p.number ts))
-
-step_of : (n : ℕ) (o : Outline) (ts : List Lexeme) → 0 < length ts
-    → definitions_at (suc n) o ts ≡ (definition_at o ts >>= λ x. definitions_at n x.0 x.1)
-unfolding definitions_at
-step_of n o [] some = absurd (omega arith)
-step_of n o (t ∷ ts) some = refl
-
-pub definitions_again : (n : ℕ) (ds : List Definition) (o : Outline) → length (specification ds) ≤ n → depth ds ≤ 32
-    → definitions_at n o (specification ds) ≡ Some (outlined ds o)
-unfolding definitions_at
-definitions_again zero [] o few fits = refl
-definitions_again (suc n) [] o few fits = refl
-definitions_again zero (t ∷ ds) o few fits = absurd (omega (arith, definition_long t (specification ds)))
-definitions_again (suc n) (t ∷ ds) o few fits =
-    let long = definition_long t (specification ds) in
-    let step = step_of n o (definition t (specification ds)) (omega (arith, long)) in
-    let first = definition_again t o (specification ds) (omega arith) in
-    let rest = definitions_again n ds (definition_in t o) (omega (arith, long)) (omega arith) in
-    step ∙ rw first rest
