@@ -8,6 +8,7 @@ use Rattle.xdr_types.specs.Kinds.{Lists}
 use Rattle.xdr_types.specs.Within.{AreBounds, Bounds}
 use Rattle.xdr_types.specs.declared.kind.KindId.{KindId}
 use Rattle.xdr_io.specs.Reported.{Counts, CountsAtMost, MovesAtMost}
+use Rattle.xdr_io.specs.declared.input.TheConstants.{MOST_READS}
 use Rattle.xdr_io.proofs.Chained.{Counts-trans, Consumes-trans, Consumes-none, Consumes-then_retained}
 use Rattle.xdr_io.proofs.Chained.{Consumes-at_end}
 use Rattle.xdr_codec.specs.Checks.{RepresentsBytes, IsStarted}
@@ -129,7 +130,7 @@ module _ (q : Question) (bounds : AreBounds q.limits.depth q.limits.bytes) where
         read = h.read;
       }
 
-  pub stops_by : (left left' : Option (List ℕ)) (reads reads' : Option ℕ) → CountsAtMost 1048576 reads reads'
+  pub stops_by : (left left' : Option (List ℕ)) (reads reads' : Option ℕ) → CountsAtMost MOST_READS reads reads'
       → LastRead q left left' reads reads' → ReadsInput q false left left' reads reads'
   stops_by left left' reads reads' few h =
       record { few_reads = few; bounded = moved_by left left' reads reads' h; stops = λ plain. inr h }
@@ -169,7 +170,7 @@ module _ (q : Question) (c : Checker) (count : ℕ) (at_end : Answer) (turn : �
     few = record { calls = turn; few = omega (arith, p.turns); counted = counted };
   }
 
-  pub one_more : Counts 1 reads' reads'' → turn < 1048576 → CountsAtMost 1048576 reads reads''
+  pub one_more : Counts 1 reads' reads'' → turn < MOST_READS → CountsAtMost MOST_READS reads reads''
   one_more one low = record {
     calls = turn + 1;
     few = omega (arith, low);
@@ -234,16 +235,17 @@ module _ (q : Question) (c : Checker) (count : ℕ) (at_end : Answer) (turn : �
   }
 
   -- how the input was read: up to a read that failed, up to the last that is allowed, and up to one that gave bytes
-  pub stops_failed : AreBounds q.limits.depth q.limits.bytes → turn < 1048576 → (left'' : Option (List ℕ))
+  pub stops_failed : AreBounds q.limits.depth q.limits.bytes → turn < MOST_READS → (left'' : Option (List ℕ))
       → Keeps left' left'' → Counts 1 reads' reads'' → ReadsInput q false left left'' reads reads''
   stops_failed bounds low left'' same one =
       stops_by q bounds left left'' reads reads'' (one_more one low) (failed_by left'' same one)
 
-  pub stops_last : AreBounds q.limits.depth q.limits.bytes → turn ≤ 1048576 → ReadsInput q false left left' reads reads'
+  pub stops_last : AreBounds q.limits.depth q.limits.bytes → turn ≤ MOST_READS
+      → ReadsInput q false left left' reads reads'
   stops_last bounds low =
       stops_by q bounds left left' reads reads' (record { calls = turn; few = low; counted = counted }) many_by
 
-  pub stops_read : AreBounds q.limits.depth q.limits.bytes → turn < 1048576 → (left'' : Option (List ℕ)) (n : ℕ)
+  pub stops_read : AreBounds q.limits.depth q.limits.bytes → turn < MOST_READS → (left'' : Option (List ℕ)) (n : ℕ)
       (array : List ℕ) → n ≤ 4096 → n ≤ length array → Consumes left' left'' (take n array) → Counts 1 reads' reads''
       → ReadsInput q false left left'' reads reads''
   stops_read bounds low left'' n array page within moved one =

@@ -1,4 +1,7 @@
-//! The first fault so far, and the numbers that may be one.
+//! The first fault so far, and the numbers that may be one. Which fault is found is shown by tests alone. So a function
+//! that looks for faults in a number or a list has no contract. It notes them by `note`, which says which stays.
+ghost use Rattle.std.specs.Prelude.{◌≡◌, None};
+ghost use Rattle.xdr_lang.specs.Private.Noted.{first_with, first_with_fault};
 
 use std::alloc::{AllocError, Global};
 use xdr_constants::{
@@ -16,13 +19,17 @@ pub struct FirstFault {
 
 impl FirstFault {
     /// No fault so far.
-    pub fn new() -> FirstFault {
+    pub fn new() -> FirstFault
+        ensures { result.fault ≡ None }
+    {
         FirstFault { fault: None }
     }
 
     /// Keeps the fault, where it stands before the one that is kept. At one token the first that is noted stays: a
     /// number that is there twice and out of its range is out of its range at an earlier token.
-    pub fn note(&mut self, wrong: Wrong, left: usize) {
+    pub fn note(&mut self, wrong: Wrong, left: usize)
+        ensures { self.new.fault ≡ first_with self.old.fault wrong left }
+    {
         if let Some((_, at)) = self.fault {
             if at >= left {
                 return;
@@ -32,7 +39,9 @@ impl FirstFault {
     }
 
     /// Keeps the fault of a look-up.
-    pub fn note_fault(&mut self, fault: Fault) {
+    pub fn note_fault(&mut self, fault: Fault)
+        ensures { self.new.fault ≡ first_with_fault self.old.fault fault }
+    {
         if let Fault::Refused { wrong, left } = fault {
             self.note(wrong, left);
         }

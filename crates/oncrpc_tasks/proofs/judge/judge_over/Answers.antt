@@ -3,6 +3,7 @@ use Rattle.std.proofs.Common.{◌≡◌, ℕ, [], refl, arith, rules, subst}
 use Rattle.std.proofs.lemmas.List.{length-take-le}
 use Rattle.std.proofs.KnownBytes.{Keeps-refl}
 use Rattle.xdr_io.specs.Reported.{Counts}
+use Rattle.xdr_io.specs.declared.input.TheConstants.{MOST_READS}
 use Rattle.xdr_io.proofs.Chained.{Counts-trans, Counts-none}
 use Rattle.oncrpc_tasks.proofs.Progress.{started, begun, settled_first, unsettled_by}
 use Rattle.oncrpc_tasks.proofs.Progress.{stops_failed, stops_last, stops_read}
@@ -155,7 +156,7 @@ loop-turn-preserved g c = record {
 
 pub returns-clause-ends : goal.returns-clause-ends
 returns-clause-ends g c =
-    let all : c.loop-turn._turn ≡ 1048576 = omega arith in
+    let all : c.loop-turn._turn ≡ MOST_READS = omega arith in
     record {
       none_failed = search rules;
       read = search rules;
