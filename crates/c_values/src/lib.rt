@@ -17,6 +17,7 @@ mod listing;
 mod normal;
 mod part;
 mod parts;
+mod room;
 mod show;
 mod state;
 mod unread;
