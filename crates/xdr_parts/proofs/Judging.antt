@@ -1,6 +1,5 @@
 -- What a checker's answer to the whole input says of it.
 use Rattle.std.proofs.Common.{◌≡◌, ℕ, ◌+◌, List, [], ◌++◌, length, sym, ap, subst, ◌∙◌, zero-add, Result, Ok, Err, ◌≤◌}
-use Rattle.std.proofs.Common.{◌%◌}
 use Rattle.std.proofs.Common.{◌∷◌, take, drop, arith, inl, inr}
 use Rattle.std.specs.List.{AllByRecursion}
 use Rattle.std.proofs.lemmas.List.{length-drop, length-take, take-append-drop, take-append-le, drop-append-le}

@@ -2,7 +2,7 @@
 use Rattle.std.proofs.Common.{◌≡◌, ◌+◌, List, [], ◌∷◌, ◌++◌, true, length, sym, ap, ◌∙◌, arith}
 use Rattle.std.proofs.lemmas.List.{length-append}
 use Rattle.xdr_parts.specs.Counted.{capped}
-use Rattle.xdr_parts.specs.Private.Taking.{HasTaken, TookOne}
+use Rattle.xdr_parts.specs.Private.Taking.{TookOne}
 use Rattle.xdr_parts.specs.declared.part.Lent.{Lent}
 use Rattle.xdr_parts.specs.declared.taken.Taken.{Taken}
 use Rattle.xdr_parts.proofs.Amounts.{names_more}

@@ -1,5 +1,5 @@
 -- What has been taken of the parts of a value.
-use Rattle.std.specs.Prelude.{◌≡◌, ℕ, ◌+◌, List, [], ◌∷◌, ◌++◌, Bool, true, length, map}
+use Rattle.std.specs.Prelude.{◌≡◌, ℕ, ◌+◌, List, [], ◌∷◌, ◌++◌, true, length, map}
 use Rattle.xdr_types.specs.Layout.{Entry}
 use Rattle.xdr_parts.specs.Lent.{entry_of, AreLentFrom}
 use Rattle.xdr_parts.specs.Counted.{names_of, capped}

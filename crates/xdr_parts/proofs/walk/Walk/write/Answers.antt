@@ -1,4 +1,4 @@
-use Rattle.std.proofs.Common.{◌≡◌, ◌+◌, [], ◌∷◌, length, refl, ap, arith, rules}
+use Rattle.std.proofs.Common.{◌≡◌, [], ◌∷◌, length, refl, ap, arith, rules}
 use Rattle.xdr_types.specs.Layout.{Entry}
 use Rattle.xdr_parts.proofs.walk.Walk.write.Goals as goal
 
