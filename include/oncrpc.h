@@ -306,7 +306,8 @@ uint32_t oncrpc_declarations_show(
  * many parts and bytes of names were written, each from the first on; the others are as they were. ONCRPC_NO_ROOM: `at`
  * says how many bytes the value has. An array of `parts` parts and a buffer for `names` bytes are needed, both.
  * ONCRPC_REFUSED: `why` and `at`, as oncrpc_declarations_check tells them. At any status but the first two both are as
- * they were, so a count of 0 for both asks how much they need.
+ * they were, so a count of 0 for both asks how much they need. They are counted first, and ONCRPC_NO_ROOM takes memory
+ * for a frame for each open node alone, until it returns.
  * ONCRPC_OK, _MORE_FOLLOWS, _REFUSED, _NO_KIND, _BAD_LIMITS, _NO_MEMORY, _NO_DECLARATIONS, _NO_ROOM. */
 uint32_t oncrpc_declarations_parts(
     oncrpc_declarations *declarations,

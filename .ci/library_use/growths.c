@@ -8,21 +8,22 @@ extern void *__real_realloc(void *, size_t);
 extern void __real_free(void *);
 
 static long asked, refused_at, onward, live;
+static size_t asked_bytes;
 static unsigned long whole, wanting, wrong;
 
-static int refuses(void) {
-    asked++;
+static int refuses(size_t count) {
+    asked++, asked_bytes += count;
     return refused_at && (asked == refused_at || (onward && asked > refused_at));
 }
 
 void *__wrap_malloc(size_t count) {
-    void *made = refuses() ? NULL : __real_malloc(count);
+    void *made = refuses(count) ? NULL : __real_malloc(count);
     live += made != NULL;
     return made;
 }
 
 void *__wrap_realloc(void *at, size_t count) {
-    void *made = refuses() ? NULL : __real_realloc(at, count);
+    void *made = refuses(count) ? NULL : __real_realloc(at, count);
     live += made && !at;
     return made;
 }
@@ -35,6 +36,7 @@ void __wrap_free(void *at) {
 void refuse_growth(long number, int all_later) { asked = 0, refused_at = number, onward = all_later; }
 long refused_growth(void) { return refused_at; }
 long growths(void) { return asked; }
+size_t growth_bytes(void) { return asked_bytes; }
 long live_blocks(void) { return live; }
 void count_wanting(void) { wanting++; }
 

@@ -14,6 +14,9 @@ void refuse_growth(long number, int all_later);
 long refused_growth(void);
 long growths(void);
 
+/* How many bytes all growths asked for. */
+size_t growth_bytes(void);
+
 /* How many blocks are not given back. */
 long live_blocks(void);
 

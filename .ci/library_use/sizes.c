@@ -4,7 +4,7 @@
 
 #include "calls.h"
 
-enum { MIB = 1 << 20, ITEMS = MIB / 4, TEXT = 262144, ROWS = 1024, OWN_ROWS = 6, ADDRESS = 256 };
+enum { MIB = 1 << 20, ITEMS = MIB / 4, TEXT = 262144, ROWS = 1024, OWN_ROWS = 6, ADDRESS = 256, FRAMES = 1024 };
 
 /* What the calls read, and a buffer of more than what they write. */
 static uint8_t input[2 * MIB], buffer[4 * MIB];
@@ -68,13 +68,19 @@ static void show_value(oncrpc_declarations *held) {
     judge(status == ONCRPC_OK && tells(&outcome, MIB + 4, 0) && is_line, status);
 }
 
-/* The parts of the list: itself, and each item at its place. */
+/* The parts of the list: itself, and each item at its place. Where they do not fit they are counted, and no list of them
+ * is made: what is asked for is a few frames. */
 static void list_value(oncrpc_declarations *held) {
     oncrpc_parts_outcome found = {9, 9, 9, 9};
     put_number(input, ITEMS);
+    size_t before = growth_bytes();
     uint32_t status = oncrpc_declarations_parts(held, bytes("list"), 4, 2, ONCRPC_MOST_BYTES, input, MIB + 4, NULL, 0,
         NULL, 0, &found);
-    judge(status == ONCRPC_NO_ROOM && found.at == MIB + 4 && found.parts == ITEMS + 1 && !found.names, status);
+    judge(status == ONCRPC_NO_ROOM && found.at == MIB + 4 && found.parts == ITEMS + 1 && !found.names
+        && growth_bytes() - before < FRAMES, status);
+    status = oncrpc_declarations_parts(held, bytes("list"), 4, 2, ONCRPC_MOST_BYTES, input, MIB + 4, parts, ITEMS,
+        NULL, 0, &found);
+    judge(status == ONCRPC_NO_ROOM && found.parts == ITEMS + 1 && growth_bytes() - before < 2 * FRAMES, status);
     status = oncrpc_declarations_parts(held, bytes("list"), 4, 2, ONCRPC_MOST_BYTES, input, MIB + 4, parts, ITEMS + 2,
         NULL, 0, &found);
     int are_right = found.parts == ITEMS + 1 && parts[0].xdr_type == ONCRPC_TYPE_ARRAY && parts[0].depth == 1;

@@ -1,5 +1,6 @@
 mod Argument
 mod Judging
+mod Lacking
 mod Pair
 mod Parting
 mod Records

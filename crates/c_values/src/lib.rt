@@ -24,6 +24,7 @@ mod listing;
 mod normal;
 mod part;
 mod parts;
+mod room;
 mod show;
 mod state;
 mod unread;

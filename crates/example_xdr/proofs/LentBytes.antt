@@ -19,7 +19,9 @@ use Rattle.xdr_stream.specs.Finish.{EndsWith}
 use Rattle.xdr_stream.specs.declared.fault.DecodeFault.{DecodeFault}
 use Rattle.xdr_stream.specs.declared.fault.Reason.{Reason}
 use Rattle.xdr_stream.specs.declared.fault.Reason.TheVariants as reason
+use Rattle.xdr_parts.specs.Counted.{AreCounted, capped, names_of}
 use Rattle.xdr_parts.specs.Lent.{entry_of, size_in, role_in, AreLentFrom}
+use Rattle.xdr_parts.specs.declared.counting.PartCounts.{PartCounts}
 use Rattle.xdr_parts.specs.declared.part.Lent.{Lent}
 use Rattle.xdr_parts.specs.declared.part.Role.TheVariants.{Number, Flag, Length, Content, Group}
 use Rattle.xdr_parts.specs.declared.part.Role as rust
@@ -109,10 +111,23 @@ module _ (kinds : List KindView) (place : ℕ) (limits : Bounds) (units : limits
     given (Ok ls) h = h.3 ∙ ap (λ (v : Tree). entries kinds place v) (that_value b h.0 t h.1 x h.2 fit e)
     given (Err f) h = tt
 
+    -- the counts are those of that value
+    pub counted : (r : Result PartCounts DecodeFault) → IfOk r (λ c. AreCounted kinds place limits b c)
+        → IfOk r (λ c. (c.used ≡ length (bytes_of kinds place t)) × (c.parts ≡ length (entries kinds place t))
+        × (c.names ≡ capped (length (names_of (entries kinds place t)))))
+    counted (Ok c) h =
+        let same = that_value b h.value t c.used x h.whole fit e in (
+          ((whole_exactly kinds place limits b h.value c.used units).0 h.whole).3
+              ∙ ap (λ (v : Tree). length (bytes_of kinds place v)) same,
+          h.parts ∙ ap (λ (v : Tree). length (entries kinds place v)) same,
+          h.names ∙ ap (λ (v : Tree). capped (length (names_of (entries kinds place v)))) same,
+        )
+    counted (Err f) h = tt
+
     -- and nothing but want of memory stands against them
-    pub only_memory : (r : Result (Vec Lent Global) DecodeFault) → IfErr r (λ f. EndsWith kinds place limits b f)
+    pub only_memory : {A : Type 0} (r : Result A DecodeFault) → IfErr r (λ f. EndsWith kinds place limits b f)
         → IfErr r (λ f. f.why ≡ reason.NoMemory)
-    only_memory (Ok ls) h = tt
+    only_memory (Ok x) h = tt
     only_memory (Err f) h =
         let n : ℕ = length (bytes_of kinds place t) in
         no_reason b t n f.at f.why ((whole_exactly kinds place limits b t n units).1 (fit, x, e, refl)) h.0 h.1

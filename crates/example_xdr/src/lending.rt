@@ -8,7 +8,7 @@ ghost use Rattle.example_xdr.specs.Rfc.{file_kinds, part, sillyprog_bytes};
 ghost use Rattle.example_xdr.specs.Lent.{bytes_of_each, sillyprog_entries, sillyprog_lent};
 
 use std::alloc::Global;
-use xdr_codec::{DecodeFault, Lent, parts};
+use xdr_codec::{DecodeFault, Lent, PartCounts, count_parts, parts};
 use xdr_types::{KindId, Limits, Schema};
 
 /// The 48 bytes of RFC 4506 section 7 have ten parts, and the content of each string is lent without the zeros after
@@ -29,6 +29,24 @@ pub fn lends_the_file<'a>(
 {
     let _range = limits.depth();
     parts(alloc, schema, KindId { place: 6 }, limits, input)
+}
+
+/// They are counted alike: 48 bytes, ten parts, and 60 bytes of their names.
+pub fn counts_the_file(
+    alloc: Global,
+    schema: &Schema,
+    limits: Limits,
+    input: &[u8],
+) -> Result<PartCounts, DecodeFault>
+    requires kinds { schema.now.kinds ≡ file_kinds }
+    requires deep { 3 ≤ limits.depth }
+    requires buffer { 48 ≤ limits.bytes }
+    requires input { input.now ≡ sillyprog_bytes }
+    ensures counts { IfOk result (λ c. (c.used ≡ 48) × (c.parts ≡ 10) × (c.names ≡ 60)) }
+    ensures taken { IfErr result (λ f. f.why ≡ NoMemory) }
+{
+    let _range = limits.depth();
+    count_parts(alloc, schema, KindId { place: 6 }, limits, input)
 }
 
 /// An empty string has a length and content of no bytes, and what follows it is no part.

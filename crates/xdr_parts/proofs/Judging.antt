@@ -1,13 +1,14 @@
 -- What a checker's answer to the whole input says of it.
 use Rattle.std.proofs.Common.{◌≡◌, ℕ, ◌+◌, List, [], ◌++◌, length, sym, ap, subst, ◌∙◌, zero-add, Result, Ok, Err, ◌≤◌}
-use Rattle.std.proofs.Common.{◌%◌}
 use Rattle.std.proofs.Common.{◌∷◌, take, drop, arith, inl, inr}
 use Rattle.std.specs.List.{AllByRecursion}
 use Rattle.std.proofs.lemmas.List.{length-drop, length-take, take-append-drop, take-append-le, drop-append-le}
 use Rattle.xdr_types.specs.Kinds.{KindView, Lists}
 use Rattle.xdr_types.specs.Layout.{Entry, entries}
 use Rattle.xdr_types.specs.Tree.{Tree}
-use Rattle.xdr_types.specs.Within.{Bounds}
+use Rattle.xdr_types.specs.Within.{Bounds, AreBounds}
+use Rattle.xdr_types.specs.Faults.{IsWellFormed}
+use Rattle.xdr_types.specs.Sound.{IsSound}
 use Rattle.xdr_types.specs.Outcome as outcome
 use Rattle.xdr_types.specs.Outcome.{Outcome}
 use Rattle.xdr_types.specs.declared.kind.KindId.{KindId}
@@ -23,8 +24,11 @@ use Rattle.xdr_stream.specs.declared.reader.Reader.{Reader}
 use Rattle.xdr_laws.proofs.SomeOutcome.{deep_or}
 use Rattle.xdr_laws.proofs.Whole.{whole_exactly, entries_low}
 use Rattle.xdr_parts.specs.Lent.{AreLentFrom}
+use Rattle.xdr_parts.specs.Private.Taking.{HasAll}
 use Rattle.xdr_parts.specs.Private.Walking.{IsSpelled}
 use Rattle.xdr_parts.specs.declared.part.Lent.{Lent}
+use Rattle.xdr_parts.specs.declared.taken.Taken.{Taken}
+use Rattle.xdr_parts.proofs.Amounts.{parts_few}
 
 module _ (schema : Lists) (kind : KindId) (limits : Bounds) (r : Reader Nothing) (is : IsStarted r schema kind limits)
     (input : List ℕ) where
@@ -61,23 +65,25 @@ lower : (low high : ℕ) (es : List Entry) → low ≤ high → AllByRecursion (
 lower low high [] h a = tt
 lower low high (e ∷ es) h a = (omega (arith, a.0), lower low high es h a.1)
 
--- its bytes spell it, and it is not too deep
-pub spelled : (s : List KindView) (t : ℕ) (l : Bounds) (b : List ℕ) (v : Tree) (p : ℕ) → l.bytes % 4 ≡ 0
-    → l.depth ≤ 4096
-    → Outcome s t l b (outcome.Whole v p) → IsSpelled s t (take p b) v
-spelled s t l b v p units most o =
-    let within = (whole_exactly s t l b v p units).0 o in
+-- its bytes spell it, it is not too deep, and its parts can be counted
+pub spelled : (schema : Lists) → IsWellFormed schema → IsSound schema.kinds → (t : ℕ) (l : Bounds) (b : List ℕ)
+    (v : Tree) (p : ℕ) → AreBounds l.depth l.bytes
+    → Outcome schema.kinds t l b (outcome.Whole v p) → IsSpelled schema.kinds t (take p b) v
+spelled schema well sound t l b v p range o =
+    let s : List KindView = schema.kinds in
+    let within = (whole_exactly s t l b v p range.units).0 o in
     record {
       fits = o.2.fits;
       spelled = o.2.spelled;
       low = elim (deep_or l (entries s t v)) [
-        | inl low ↦ lower l.depth 4096 (entries s t v) most low
+        | inl low ↦ lower l.depth 4096 (entries s t v) range.most_depth low
         | inr d ↦ absurd (omega (arith, entries_low s t v d.0 d.1, d.2, within.0.1.0))
       ];
+      few = omega (arith, parts_few schema well sound t v within.0.0 (omega (arith, within.0.1.1, range.most_bytes)));
     }
 
 -- what is lent from the first bytes is lent from all
-pub lent_of_first : (p : ℕ) (b : List ℕ) (ls : List Lent) → AreLentFrom (take p b) ls → AreLentFrom b ls
+lent_of_first : (p : ℕ) (b : List ℕ) (ls : List Lent) → AreLentFrom (take p b) ls → AreLentFrom b ls
 lent_of_first p b [] a = tt
 lent_of_first p b (l ∷ ls) a =
     let n : ℕ = length l.bytes.now in
@@ -89,3 +95,11 @@ lent_of_first p b (l ∷ ls) a =
     ap (λ (x : List ℕ). take n x) same
     ∙ take-append-le n (drop l.at (take p b)) (drop p b) (omega (arith, short, length-drop l.at (take p b))) in
     ((omega (arith, short, length-take p b), a.0.1 ∙ sym cut), lent_of_first p b ls a.1)
+
+pub all_of_first : (p : ℕ) (b : List ℕ) (es : List Entry) (t : Taken) → HasAll (take p b) es t → HasAll b es t
+all_of_first p b es t h = record {
+  lent = h.lent;
+  each = h.each;
+  from = lent_of_first p b h.lent h.from;
+  taken = h.taken;
+}

@@ -1,10 +1,11 @@
--- A walk that has kept parts stands where it did, further on.
-use Rattle.std.proofs.Common.{◌≡◌, ℕ, ◌+◌, ◌<◌, List, [], ◌∷◌, ◌++◌, length, map, drop, sym, ap, subst, ◌∙◌}
-use Rattle.std.proofs.Common.{append_assoc, append-nil, arith}
+-- A walk that has taken parts stands where it did, further on.
+use Rattle.std.proofs.Common.{◌≡◌, ℕ, ◌+◌, ◌<◌, ◌^◌, List, [], ◌∷◌, ◌++◌, Bool, length, map, drop, sym, ap, subst, ◌∙◌}
+use Rattle.std.proofs.Common.{append_assoc, append-nil, arith, refl}
 use Rattle.xdr_types.specs.Kinds.{KindView, Part, Lists}
-use Rattle.std.proofs.lemmas.List.{length-append}
+use Rattle.std.proofs.lemmas.List.{length-append, length-map, map-append}
 use Rattle.std.specs.Prelude.{Result, Ok, Err, OnOk}
-use Rattle.xdr_types.specs.Layout.{Entry, entry, entries, Role}
+use Rattle.xdr_types.specs.Layout.{Entry, content, entry, entries, of_length, Role}
+use Rattle.xdr_units.specs.Numbers.{gap}
 use Rattle.xdr_types.specs.Tree.{Tree}
 use Rattle.xdr_types.specs.Fits.{item_part}
 use Rattle.xdr_types.specs.declared.kind.KindId.{KindId}
@@ -15,7 +16,8 @@ use Rattle.xdr_laws.specs.Owed.{Completes}
 use Rattle.xdr_stream.specs.Frames.{left_of, rest_of, stack_of, onto, dues}
 use Rattle.xdr_stream.proofs.Frames.{onto_length}
 use Rattle.xdr_parts.specs.Lent.{entry_of, AreLentFrom}
-use Rattle.xdr_parts.specs.Private.Walking.{HasWalked, Wrote, IsNext, part_of, AreLow, IsSpelled}
+use Rattle.xdr_parts.specs.Private.Taking.{HasTaken, HasAll}
+use Rattle.xdr_parts.specs.Private.Walking.{Aim, HasWalked, Wrote, IsNext, part_of, AreLow, IsSpelled}
 use Rattle.xdr_stream.specs.declared.machine.frame.Frame.{Frame}
 use Rattle.xdr_parts.specs.declared.next.Next.{Next}
 use Rattle.xdr_parts.specs.declared.walk.Walk.{Walk}
@@ -36,7 +38,12 @@ entry_same at to m n d e p r q place size depth role =
 pub level : (parents : List Frame) → length parents + 1 ≡ length (onto [] parents) + 1
 level parents = omega (arith, onto_length [] parents)
 
--- after what was kept comes more that is kept
+-- parts after parts are lent from the same bytes
+pub lent_append : (b : List ℕ) (xs ys : List Lent) → AreLentFrom b xs → AreLentFrom b ys → AreLentFrom b (xs ++ ys)
+lent_append b [] ys h k = k
+lent_append b (x ∷ xs) ys h k = (h.0, lent_append b xs ys h.1 k)
+
+-- after what was taken comes more that is taken
 pub wrote_then : (a b c : Walk) (new more : List Entry) (m n : ℕ) (fs gs : List (List Part)) → Wrote a b new m fs
     → Wrote b c more n gs → Wrote a c (new ++ more) (m + n) gs
 wrote_then a b c new more m n fs gs f g = record {
@@ -44,14 +51,51 @@ wrote_then a b c new more m n fs gs f g = record {
   bytes_are = g.bytes_are ∙ f.bytes_are;
   at_is = omega (arith, g.at_is, f.at_is);
   stack_is = g.stack_is;
-  parts_are = g.parts_are ∙ ap (λ (x : List Entry). x ++ more) f.parts_are
-      ∙ append_assoc (map entry_of a.parts.items) new more;
-  lent = λ l. subst (λ (x : List ℕ). AreLentFrom x c.parts.items) f.bytes_are
-      (g.lent (subst (λ (x : List ℕ). AreLentFrom x b.parts.items) (sym f.bytes_are) (f.lent l)));
+  lists_is = g.lists_is ∙ f.lists_is;
   more = omega (arith, length-append new more, f.more, g.more);
+  begun = f.begun ++ g.begun;
+  parts_are = map-append entry_of f.begun g.begun ∙ ap (λ (x : List Entry). x ++ map entry_of g.begun) f.parts_are
+      ∙ ap (λ (x : List Entry). new ++ x) g.parts_are;
+  lent = lent_append a.bytes.now f.begun g.begun f.lent
+      (subst (λ (x : List ℕ). AreLentFrom x g.begun) f.bytes_are g.lent);
+  taken = λ ls h. subst (λ (x : List Lent). HasTaken c.taken x) (append_assoc ls f.begun g.begun)
+      (g.taken (ls ++ f.begun) (f.taken ls h));
 }
 
-module _ (w : Walk) (n : Next) (all : List Entry) (st : HasWalked w all) (next : IsNext w n) where
+-- content after its length
+pub counted_then : {E : Type 0} (r : Result (Unit {0}) E) (a b c : Walk) (n : Next) (size moved : ℕ)
+    (fs : List (List Part)) → Wrote a b (entry a.at 4 (length a.parents.items + 1) (part_of n) of_length ∷ []) 4 fs
+    → b.work ≡ a.work → b.parents.items ≡ a.parents.items → moved ≡ size + gap size
+    → OnOk r (Wrote b c (content b.at (length b.parents.items + 1) (part_of n) size) moved
+    (rest_of (left_of b.work) ∷ onto [] b.parents.items))
+    → OnOk r (Wrote a c (entry a.at 4 (length a.parents.items + 1) (part_of n) of_length
+    ∷ content (a.at + 4) (length a.parents.items + 1) (part_of n) size) (4 + (size + gap size))
+    (rest_of (left_of a.work) ∷ onto [] a.parents.items))
+counted_then (Ok x) a b c n size moved fs f work parents far g =
+    let gs : List (List Part) = rest_of (left_of a.work) ∷ onto [] a.parents.items in
+    let here = subst (λ (m : ℕ). Wrote b c (content b.at (length b.parents.items + 1) (part_of n) size) m
+    (rest_of (left_of b.work) ∷ onto [] b.parents.items)) far g in
+    let worked = subst (λ (w : Frame). Wrote b c (content b.at (length b.parents.items + 1) (part_of n) size)
+    (size + gap size) (rest_of (left_of w) ∷ onto [] b.parents.items)) work here in
+    let deep = subst (λ (ps : List Frame). Wrote b c (content b.at (length ps + 1) (part_of n) size)
+    (size + gap size) (rest_of (left_of a.work) ∷ onto [] ps)) parents worked in
+    wrote_then a b c _ _ 4 (size + gap size) fs gs f
+    (subst (λ (m : ℕ). Wrote b c (content m (length a.parents.items + 1) (part_of n) size) (size + gap size) gs) f.at_is
+    deep)
+counted_then (Err e) a b c n size moved fs f work parents far g = g
+
+-- the parts taken so far and two more can be counted
+pub is_few : (w : Walk) (all : Aim) → HasWalked w all → w.taken.parts + 2 < 2 ^ 64
+is_few w all st = omega (
+  arith,
+  st.few,
+  st.taken.parts,
+  ap (λ (x : List Entry). length x) st.joined,
+  length-append (map entry_of st.begun) st.left,
+  length-map st.begun entry_of,
+)
+
+module _ (w : Walk) (n : Next) (all : Aim) (st : HasWalked w all) (next : IsNext w n) where
   abbrev F : List (List Part)
   F = onto [] w.parents.items
 
@@ -92,28 +136,34 @@ module _ (w : Walk) (n : Next) (all : List Entry) (st : HasWalked w all) (next :
         owes = subst (λ (x : List ℕ). Completes v.schema.now.kinds v.at (dues (stack_of v.work v.parents.items))
             (drop v.at x) g.left) (sym f.bytes_are) known_kinds;
         within = omega (arith, f.at_is, g.within, ap (λ (x : List ℕ). length x) f.bytes_are);
-        joined = st.joined ∙ ap (λ (x : List Entry). map entry_of w.parts.items ++ x) g.parted
-            ∙ sym (append_assoc (map entry_of w.parts.items) also g.left)
-            ∙ ap (λ (x : List Entry). (map entry_of w.parts.items ++ x) ++ g.left) (sym same)
-            ∙ ap (λ (x : List Entry). x ++ g.left) (sym f.parts_are);
+        begun = st.begun ++ f.begun;
+        joined = st.joined ∙ ap (λ (x : List Entry). map entry_of st.begun ++ x) g.parted
+            ∙ sym (append_assoc (map entry_of st.begun) also g.left)
+            ∙ ap (λ (x : List Entry). (map entry_of st.begun ++ x) ++ g.left) (sym (f.parts_are ∙ same))
+            ∙ ap (λ (x : List Entry). x ++ g.left) (sym (map-append entry_of st.begun f.begun));
         low = low_right also g.left (subst (λ (x : List Entry). AreLow x) g.parted st.low);
-        lent = subst (λ (x : List ℕ). AreLentFrom x v.parts.items) (sym f.bytes_are) (f.lent st.lent);
+        lent = subst (λ (x : List ℕ). AreLentFrom x (st.begun ++ f.begun)) (sym f.bytes_are)
+            (lent_append w.bytes.now st.begun f.begun st.lent f.lent);
+        taken = f.taken st.begun st.taken;
+        lists = f.lists_is ∙ st.lists;
+        few = st.few;
       }
 
--- a call that keeps parts that are the next ones keeps the stand
+-- a call that takes parts that are the next ones keeps the stand
 pub goes_on : {E : Type 0} (r : Result (Unit {0}) E) (w v : Walk) (n : Next) (new also : List Entry) (moved : ℕ)
     (fs : List (List Part)) → IsNext w n → new ≡ also
-    → ((all : List Entry) (st : HasWalked w all) → Goes w.schema.now.kinds w.at w.bytes.now st.left also moved fs)
-    → OnOk r (Wrote w v new moved fs) → OnOk r ((all : List Entry) → HasWalked w all → HasWalked v all)
+    → ((all : Aim) (st : HasWalked w all) → Goes w.schema.now.kinds w.at w.bytes.now st.left also moved fs)
+    → OnOk r (Wrote w v new moved fs) → OnOk r ((all : Aim) → HasWalked w all → HasWalked v all)
 goes_on (Ok x) w v n new also moved fs next same goes f = λ all st.
     retained w n all st next v new also moved fs f same (goes all st)
 goes_on (Err e) w v n new also moved fs next same goes f = f
 
 -- before any byte all parts are owed
-pub starts : (w : Walk) (kind : KindId) (v : Tree) → w.at ≡ 0 → w.work ≡ Items kind 1 → w.parents.items ≡ []
-    → w.parts.items ≡ []
-    → IsSpelled w.schema.now.kinds kind.place w.bytes.now v → HasWalked w (entries w.schema.now.kinds kind.place v)
-starts w kind v at work parents none f =
+pub starts : (w : Walk) (kind : KindId) (v : Tree) (lists : Bool) → w.at ≡ 0 → w.work ≡ Items kind 1
+    → w.parents.items ≡ [] → HasTaken w.taken [] → w.taken.lists ≡ lists
+    → IsSpelled w.schema.now.kinds kind.place w.bytes.now v
+    → HasWalked w (record { parts = entries w.schema.now.kinds kind.place v; lists = lists })
+starts w kind v lists at work parents none same f =
     let s : List KindView = w.schema.now.kinds in
     let es : List Entry = entries s kind.place v in
     let stack : stack_of w.work w.parents.items ≡ (item_part kind.place ∷ []) ∷ [] =
@@ -126,17 +176,26 @@ starts w kind v at work parents none f =
       owes = subst (λ (x : ℕ). Completes s x (dues (stack_of w.work w.parents.items)) (drop x w.bytes.now) es) (sym at)
           (subst (λ (x : List (List Part)). Completes s 0 (dues x) (drop 0 w.bytes.now) es) (sym stack) whole);
       within = omega (arith, at);
-      joined = ap (λ (x : List Lent). map entry_of x ++ es) (sym none);
+      begun = [];
+      joined = refl;
       low = f.low;
-      lent = subst (λ (x : List Lent). AreLentFrom w.bytes.now x) (sym none) tt;
+      lent = tt;
+      taken = none;
+      lists = same;
+      few = f.few;
     }
 
 -- after all frames have ended no part is left
-pub finished : (w : Walk) (all : List Entry) → HasWalked w all → stack_of w.work w.parents.items ≡ [] ∷ []
-    → map entry_of w.parts.items ≡ all
+pub finished : (w : Walk) (all : Aim) → HasWalked w all → stack_of w.work w.parents.items ≡ [] ∷ []
+    → HasAll w.bytes.now all.parts w.taken
 finished w all st none =
     let s : List KindView = w.schema.now.kinds in
     let rest : st.left ≡ [] = nothing_left s w.at (drop w.at w.bytes.now) st.left
     (subst (λ (x : List (List Part)). Completes s w.at (dues x) (drop w.at w.bytes.now) st.left) none st.owes) in
-    sym (st.joined ∙ ap (λ (x : List Entry). map entry_of w.parts.items ++ x) rest
-    ∙ append-nil (map entry_of w.parts.items))
+    record {
+      lent = st.begun;
+      each = sym (st.joined ∙ ap (λ (x : List Entry). map entry_of st.begun ++ x) rest
+          ∙ append-nil (map entry_of st.begun));
+      from = st.lent;
+      taken = st.taken;
+    }

@@ -1,3 +1,5 @@
+pub mod Amounts
 pub mod Stepping
 pub mod Keeping
 pub mod Judging
+pub mod Taking

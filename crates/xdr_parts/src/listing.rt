@@ -6,11 +6,10 @@ ghost use Rattle.xdr_types.specs.Tree.{Tree};
 ghost use Rattle.xdr_stream.specs.Finish.{EndsWith};
 ghost use Rattle.xdr_parts.specs.Lent.{entry_of, AreLentFrom};
 
-use crate::judge::judge;
 use crate::part::Lent;
-use crate::walk::spelled_parts;
+use crate::whole::whole_parts;
 use std::alloc::Global;
-use xdr_stream::{DecodeFault, Reason};
+use xdr_stream::DecodeFault;
 use xdr_types::{KindId, Limits, Schema};
 
 /// The parts of the value whose encoding begins the input (RFC 4506 section 4), in the order of their bytes, a parent
@@ -38,16 +37,6 @@ pub fn parts<'a>(
     // The outcome is this reason at this place, unless memory was refused; `Truncated` stands for a pending one.
     ensures fault { IfErr result (λ f. EndsWith schema.now.kinds kind.place limits input.now f) }
 {
-    let _in_range = limits.depth();
-    let used = match judge(alloc, schema, kind, limits, input) {
-        Ok(used) => used,
-        Err(fault) => return Err(fault),
-    };
-    match spelled_parts(alloc, schema, kind, &input[..used]) {
-        Ok(parts) => Ok(parts),
-        Err(_) => Err(DecodeFault {
-            why: Reason::NoMemory,
-            at: used,
-        }),
-    }
+    let whole = whole_parts(alloc, schema, kind, limits, input, true)?;
+    Ok(whole.1.list)
 }

@@ -1,26 +1,28 @@
 //! The parts of a value whose bytes are known to spell one.
-ghost use Rattle.std.specs.Prelude.{◌≡◌, ◌+◌, ◌≤◌, ◌<◌, pos, List, [], ◌∷◌, length, map, take, drop};
+ghost use Rattle.std.specs.Prelude.{◌≡◌, ◌+◌, ◌≤◌, ◌<◌, ◌^◌, pos, [], ◌∷◌, length, take, drop};
 ghost use Rattle.std.specs.Prelude.{IfOk, OnOk, MatchOption};
 ghost use Rattle.xdr_types.specs.Kinds.{kind_at};
 ghost use Rattle.xdr_types.specs.KindViews.{kind_view};
 ghost use Rattle.xdr_types.specs.Tree.{Tree};
 ghost use Rattle.xdr_types.specs.Fits.{parts};
-ghost use Rattle.xdr_types.specs.Layout.{Entry, content, entry, entries, of_length};
+ghost use Rattle.xdr_types.specs.Layout.{content, entry, entries, of_length};
 ghost use Rattle.xdr_units.specs.Numbers.{num4, gap};
 ghost use Rattle.xdr_laws.specs.Owed.{lead_of, HasUnit, IsSilent, silent_head};
 ghost use Rattle.xdr_stream.specs.Frames.{left_of, rest_of, stack_of, onto};
-ghost use Rattle.xdr_parts.specs.Lent.{entry_of, size_in, role_in, AreLentFrom};
-ghost use Rattle.xdr_parts.specs.Private.Walking.{part_of, HasWalked, Wrote, IsNext, IsFree, IsSpelled};
+ghost use Rattle.xdr_parts.specs.Lent.{size_in, role_in};
+ghost use Rattle.xdr_parts.specs.Private.Taking.{HasAll};
+ghost use Rattle.xdr_parts.specs.Private.Walking.{part_of, Aim, HasWalked, Wrote, IsNext, IsFree, IsSpelled};
 
 use crate::next::{Next, first};
-use crate::part::{Lent, Role, part_at, unit_role};
+use crate::part::{Role, part_at, unit_role};
+use crate::taken::Taken;
 use std::alloc::{AllocError, Global};
 use xdr_stream::machine::frame::{Frame, after};
 use xdr_stream::machine::number::{Made, made_of};
 use xdr_stream::machine::step::{Step, step_of};
 use xdr_types::{Kind, KindId, Schema};
 
-/// Goes over the bytes of a value, and keeps its parts.
+/// Goes over the bytes of a value, and takes its parts.
 #[derive(Drop)]
 pub struct Walk<'a> {
     pub schema: &'a Schema,
@@ -33,20 +35,21 @@ pub struct Walk<'a> {
     /// The nodes around it, the root first.
     pub parents: Vec<Frame<'a>>,
     /// The parts so far.
-    pub parts: Vec<Lent<'a>>,
+    pub taken: Taken<'a>,
 }
 
-/// The parts of the value that these bytes spell.
+/// The parts of the value that these bytes spell, listed or only counted.
 pub fn spelled_parts<'a>(
     alloc: Global,
     schema: &'a Schema,
     kind: KindId,
     bytes: &'a [u8],
-) -> Result<Vec<Lent<'a>>, AllocError>
+    lists: bool,
+) -> Result<Taken<'a>, AllocError>
     requires { (v : Tree) × IsSpelled schema.now.kinds kind.place bytes.now v }
-    ensures parts { IfOk result (λ ls. (v : Tree) → IsSpelled schema.now.kinds kind.place bytes.now v
-        → map entry_of ls.items ≡ entries schema.now.kinds kind.place v) }
-    ensures lent { IfOk result (λ ls. AreLentFrom bytes.now ls.items) }
+    ensures parts { IfOk result (λ t. (v : Tree) → IsSpelled schema.now.kinds kind.place bytes.now v
+        → HasAll bytes.now (entries schema.now.kinds kind.place v) t) }
+    ensures lists { IfOk result (λ t. t.lists ≡ lists) }
 {
     let mut walk = Walk {
         schema,
@@ -57,12 +60,12 @@ pub fn spelled_parts<'a>(
             left: 1,
         },
         parents: Vec::new(alloc),
-        parts: Vec::new(alloc),
+        taken: Taken::none(alloc, lists),
     };
     while let Some(next) = walk.next() {
         walk.take(next)?;
     }
-    Ok(walk.parts)
+    Ok(walk.taken)
 }
 
 fn unit_at(bytes: &[u8], at: usize) -> u32
@@ -75,9 +78,9 @@ fn unit_at(bytes: &[u8], at: usize) -> u32
 impl<'a> Walk<'a> {
     // Ends the nodes that have all their parts, and tells which part comes next; none, where the value has ended.
     fn next(&mut self) -> Option<Next<'a>>
-        ensures walked { (all : List Entry) → HasWalked self.old all → HasWalked self.new all }
+        ensures walked { (all : Aim) → HasWalked self.old all → HasWalked self.new all }
         ensures next { MatchOption result (stack_of self.new.work self.new.parents.items ≡ [] ∷ []) (IsNext self.new) }
-        ensures parts { self.new.parts ≡ self.old.parts }
+        ensures taken { self.new.taken ≡ self.old.taken }
         ensures bytes { self.new.bytes.now ≡ self.old.bytes.now }
     {
         loop {
@@ -93,10 +96,10 @@ impl<'a> Walk<'a> {
 
     // Takes the part that comes next.
     fn take(&mut self, next: Next<'a>) -> Result<(), AllocError>
-        requires walked { (all : List Entry) × HasWalked self.old all }
+        requires walked { (all : Aim) × HasWalked self.old all }
         requires next { IsNext self.old next }
-        ensures walked { OnOk result ((all : List Entry) → HasWalked self.old all → HasWalked self.new all) }
-        ensures more { OnOk result (length self.old.parts.items < length self.new.parts.items) }
+        ensures walked { OnOk result ((all : Aim) → HasWalked self.old all → HasWalked self.new all) }
+        ensures more { OnOk result (self.old.taken.parts < self.new.taken.parts) }
         ensures bytes { OnOk result (self.new.bytes.now ≡ self.old.bytes.now) }
     {
         let kind = self.schema.kind(next.kind);
@@ -120,12 +123,12 @@ impl<'a> Walk<'a> {
 
     // Takes a part that begins with a unit.
     fn take_unit(&mut self, next: Next<'a>, kind: &'a Kind) -> Result<(), AllocError>
-        requires walked { (all : List Entry) × HasWalked self.old all }
+        requires walked { (all : Aim) × HasWalked self.old all }
         requires next { IsNext self.old next }
         requires kind { kind_view kind.now ≡ kind_at self.old.schema.now.kinds next.kind.place }
         requires unit { HasUnit (lead_of (kind_view kind.now)) }
-        ensures walked { OnOk result ((all : List Entry) → HasWalked self.old all → HasWalked self.new all) }
-        ensures more { OnOk result (length self.old.parts.items < length self.new.parts.items) }
+        ensures walked { OnOk result ((all : Aim) → HasWalked self.old all → HasWalked self.new all) }
+        ensures more { OnOk result (self.old.taken.parts < self.new.taken.parts) }
         ensures bytes { OnOk result (self.new.bytes.now ≡ self.old.bytes.now) }
     {
         let number = unit_at(self.bytes, self.at);
@@ -148,12 +151,12 @@ impl<'a> Walk<'a> {
         role: Role,
         size: u32,
     ) -> Result<(), AllocError>
-        requires walked { (all : List Entry) × HasWalked self.old all }
+        requires walked { (all : Aim) × HasWalked self.old all }
         requires next { IsNext self.old next }
         requires kind { kind_view kind.now ≡ kind_at self.old.schema.now.kinds next.kind.place }
         requires free { IsFree (kind_view kind.now) role size }
-        ensures walked { OnOk result ((all : List Entry) → HasWalked self.old all → HasWalked self.new all) }
-        ensures more { OnOk result (length self.old.parts.items < length self.new.parts.items) }
+        ensures walked { OnOk result ((all : Aim) → HasWalked self.old all → HasWalked self.new all) }
+        ensures more { OnOk result (self.old.taken.parts < self.new.taken.parts) }
         ensures bytes { OnOk result (self.new.bytes.now ≡ self.old.bytes.now) }
     {
         self.leaf(next, role, size as usize, whole_units(size))
@@ -166,22 +169,23 @@ impl<'a> Walk<'a> {
         kind: &'a Kind,
         frame: Frame<'a>,
     ) -> Result<(), AllocError>
-        requires walked { (all : List Entry) × HasWalked self.old all }
+        requires walked { (all : Aim) × HasWalked self.old all }
         requires next { IsNext self.old next }
         requires kind { kind_view kind.now ≡ kind_at self.old.schema.now.kinds next.kind.place }
         requires silent { IsSilent (lead_of (kind_view kind.now)) }
         requires frame { parts (kind_view kind.now) (silent_head (kind_view kind.now)) ≡ left_of frame }
-        ensures walked { OnOk result ((all : List Entry) → HasWalked self.old all → HasWalked self.new all) }
-        ensures more { OnOk result (length self.old.parts.items < length self.new.parts.items) }
+        ensures walked { OnOk result ((all : Aim) → HasWalked self.old all → HasWalked self.new all) }
+        ensures more { OnOk result (self.old.taken.parts < self.new.taken.parts) }
         ensures bytes { OnOk result (self.new.bytes.now ≡ self.old.bytes.now) }
     {
         self.open(next, Role::Group, 0, frame)
     }
 
-    // Keeps a length and as many bytes of content.
+    // Takes a length and as many bytes of content.
     fn counted(&mut self, next: Next<'a>, size: u32) -> Result<(), AllocError>
         requires there { self.old.at + (4 + (size + gap size)) ≤ length self.old.bytes.now }
         requires deep { length self.old.parents.items < 4096 }
+        requires few { self.old.taken.parts + 2 < 2 ^ 64 }
         ensures { OnOk result (Wrote self.old self.new
             (entry self.old.at 4 (length self.old.parents.items + 1) (part_of next.entry) of_length
             ∷ content (self.old.at + 4) (length self.old.parents.items + 1) (part_of next.entry) size)
@@ -191,7 +195,7 @@ impl<'a> Walk<'a> {
         self.leaf(next, Role::Content, size as usize, whole_units(size))
     }
 
-    // Keeps a part of so many bytes that has none inside it, and goes so many bytes on.
+    // Takes a part of so many bytes that has none inside it, and goes so many bytes on.
     fn leaf(
         &mut self,
         next: Next<'a>,
@@ -202,6 +206,7 @@ impl<'a> Walk<'a> {
         requires there { self.old.at + size ≤ length self.old.bytes.now }
         requires moved { self.old.at + moved ≤ length self.old.bytes.now }
         requires deep { length self.old.parents.items < 4096 }
+        requires few { self.old.taken.parts + 1 < 2 ^ 64 }
         ensures { OnOk result (Wrote self.old self.new
             (entry self.old.at (size_in role size) (length self.old.parents.items + 1) (part_of next.entry)
             (role_in role size) ∷ []) moved
@@ -212,7 +217,7 @@ impl<'a> Walk<'a> {
         Ok(())
     }
 
-    // Keeps a part of so many bytes, inside which the parts of a frame come next.
+    // Takes a part of so many bytes, inside which the parts of a frame come next.
     fn open(
         &mut self,
         next: Next<'a>,
@@ -222,6 +227,7 @@ impl<'a> Walk<'a> {
     ) -> Result<(), AllocError>
         requires there { self.old.at + size ≤ length self.old.bytes.now }
         requires deep { length self.old.parents.items < 4096 }
+        requires few { self.old.taken.parts + 1 < 2 ^ 64 }
         ensures { OnOk result (Wrote self.old self.new
             (entry self.old.at (size_in role size) (length self.old.parents.items + 1) (part_of next.entry)
             (role_in role size) ∷ []) size
@@ -233,7 +239,7 @@ impl<'a> Walk<'a> {
         Ok(())
     }
 
-    // Keeps a part of so many bytes, and goes so many bytes on.
+    // Takes a part of so many bytes, and goes so many bytes on.
     fn write(
         &mut self,
         next: Next<'a>,
@@ -244,6 +250,7 @@ impl<'a> Walk<'a> {
         requires there { self.old.at + size ≤ length self.old.bytes.now }
         requires moved { self.old.at + moved ≤ length self.old.bytes.now }
         requires deep { length self.old.parents.items < 4096 }
+        requires few { self.old.taken.parts + 1 < 2 ^ 64 }
         ensures wrote { OnOk result (Wrote self.old self.new
             (entry self.old.at (size_in role size) (length self.old.parents.items + 1) (part_of next.entry)
             (role_in role size) ∷ []) moved (stack_of self.old.work self.old.parents.items)) }
@@ -252,7 +259,7 @@ impl<'a> Walk<'a> {
     {
         let depth = self.parents.len() as u32 + 1;
         let part = part_at(self.bytes, self.at, depth, next, role, size);
-        self.parts.push(part)?;
+        self.taken.take(part)?;
         self.at += moved;
         Ok(())
     }

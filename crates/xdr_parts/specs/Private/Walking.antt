@@ -1,5 +1,5 @@
 -- Where a walk over the bytes of a value stands.
-use Rattle.std.specs.Prelude.{◌≡◌, ℕ, ◌+◌, ◌≤◌, List, ◌∷◌, ◌++◌, length, map, drop}
+use Rattle.std.specs.Prelude.{◌≡◌, ℕ, ◌+◌, ◌≤◌, ◌<◌, ◌^◌, List, ◌∷◌, ◌++◌, Bool, length, map, drop}
 use Rattle.std.specs.List.{AllByRecursion}
 use Rattle.xdr_types.specs.Kinds as xdr
 use Rattle.xdr_types.specs.Kinds.{KindView, Part}
@@ -10,6 +10,8 @@ use Rattle.xdr_types.specs.Layout.{Entry, entries}
 use Rattle.xdr_laws.specs.Owed.{Completes}
 use Rattle.xdr_stream.specs.Frames.{left_of, rest_of, stack_of, dues}
 use Rattle.xdr_parts.specs.Lent.{entry_of, AreLentFrom}
+use Rattle.xdr_parts.specs.Private.Taking.{HasTaken}
+use Rattle.xdr_parts.specs.declared.part.Lent.{Lent}
 use Rattle.xdr_parts.specs.declared.part.Role.{Role}
 use Rattle.xdr_parts.specs.declared.part.Role.TheVariants.{Number, Content}
 use Rattle.xdr_parts.specs.declared.next.Next.{Next}
@@ -23,14 +25,23 @@ part_of n = record { name = n.name.now; kind = n.kind.place }
 abbrev pub AreLow : List Entry → Type 0
 AreLow es = AllByRecursion (λ (e : Entry). e.depth ≤ 4096) es
 
--- a walk has come so far in the list of all parts of a value: those that it has, and those of what is owed
-pub record HasWalked (w : Walk) (all : List Entry) : Type 0 where
+-- all parts of a value, and whether a walk over its bytes lists them
+pub record Aim : Type 0 where
+  pub parts : List Entry
+  pub lists : Bool
+
+-- a walk has come so far in the list of all parts of a value: those that it has taken, and those of what is owed
+pub record HasWalked (w : Walk) (all : Aim) : Type 0 where
   pub left : List Entry
   pub owes : Completes w.schema.now.kinds w.at (dues (stack_of w.work w.parents.items)) (drop w.at w.bytes.now) left
   pub within : w.at ≤ length w.bytes.now
-  pub joined : all ≡ map entry_of w.parts.items ++ left
+  pub begun : List Lent
+  pub joined : all.parts ≡ map entry_of begun ++ left
   pub low : AreLow left
-  pub lent : AreLentFrom w.bytes.now w.parts.items
+  pub lent : AreLentFrom w.bytes.now begun
+  pub taken : HasTaken w.taken begun
+  pub lists : w.taken.lists ≡ all.lists
+  pub few : length all.parts + 2 < 2 ^ 64
 
 -- the innermost node has this part to begin
 abbrev pub IsNext : Walk → Next → Type 0
@@ -43,18 +54,22 @@ IsFree xdr.unsigned_hyper Number size = size ≡ 8
 IsFree (xdr.opaque n) Content size = n ≡ size
 IsFree _ _ size = ⊥
 
--- a walk has kept these parts, has gone so many bytes on, and owes this then
+-- a walk has taken these parts, has gone so many bytes on, and owes this then
 pub record Wrote (w w' : Walk) (new : List Entry) (moved : ℕ) (fs : List (List Part)) : Type 0 where
   pub schema_is : w'.schema.now ≡ w.schema.now
   pub bytes_are : w'.bytes.now ≡ w.bytes.now
   pub at_is : w'.at ≡ w.at + moved
   pub stack_is : stack_of w'.work w'.parents.items ≡ fs
-  pub parts_are : map entry_of w'.parts.items ≡ map entry_of w.parts.items ++ new
-  pub lent : AreLentFrom w.bytes.now w.parts.items → AreLentFrom w.bytes.now w'.parts.items
-  pub more : length w.parts.items + length new ≤ length w'.parts.items
+  pub lists_is : w'.taken.lists ≡ w.taken.lists
+  pub more : w'.taken.parts ≡ w.taken.parts + length new
+  pub begun : List Lent
+  pub parts_are : map entry_of begun ≡ new
+  pub lent : AreLentFrom w.bytes.now begun
+  pub taken : (ls : List Lent) → HasTaken w.taken ls → HasTaken w'.taken (ls ++ begun)
 
--- the bytes spell a value of the kind that is not deeper than limits allow
+-- the bytes spell a value of the kind that is not deeper than limits allow, and has not more parts than can be counted
 pub record IsSpelled (kinds : List KindView) (kind : ℕ) (bytes : List ℕ) (v : Tree) : Type 0 where
   pub fits : Fits kinds kind v
   pub spelled : bytes_of kinds kind v ≡ bytes
   pub low : AreLow (entries kinds kind v)
+  pub few : length (entries kinds kind v) + 2 < 2 ^ 64

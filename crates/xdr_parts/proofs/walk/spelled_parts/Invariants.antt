@@ -1,13 +1,12 @@
-use Rattle.std.proofs.Common.{◌≡◌, ◌-◌, ◌^◌, List, length}
-use Rattle.xdr_types.specs.Layout.{Entry}
-use Rattle.xdr_parts.specs.Private.Walking.{HasWalked}
+use Rattle.std.proofs.Common.{◌≡◌, ◌-◌, ◌^◌}
+use Rattle.xdr_parts.specs.Private.Walking.{Aim, HasWalked}
 use Rattle.xdr_parts.proofs.walk.spelled_parts.Given as goal
 
 abbrev pub invariant-loop-next : goal.invariant-loop-next
 invariant-loop-next l =
-    ((all : List Entry) → HasWalked l.initial.walk all → HasWalked l.walk all)
+    ((all : Aim) → HasWalked l.initial.walk all → HasWalked l.walk all)
     × (l.walk.bytes.now ≡ l.initial.walk.bytes.now)
 
--- each part takes memory
+-- each part is counted
 abbrev pub decreases-loop-next : goal.decreases-loop-next
-decreases-loop-next l = 2 ^ 64 - length l.walk.parts.items
+decreases-loop-next l = 2 ^ 64 - l.walk.taken.parts

@@ -24,9 +24,13 @@ loop-next-preserved c = (
             (subst (λ (x : List Part). Completes w.schema.now.kinds w.at (dues (x ∷ onto [] w.parents.items))
             (drop w.at w.bytes.now) st.left) none st.owes));
         within = st.within;
+        begun = st.begun;
         joined = st.joined;
         low = st.low;
         lent = st.lent;
+        taken = st.taken;
+        lists = st.lists;
+        few = st.few;
       }),
   c.loop-next.invariant.1,
   c.loop-next.invariant.2,

@@ -21,7 +21,10 @@ returns c =
       bytes_are = f.bytes_are;
       at_is = f.at_is;
       stack_is = ap (λ (x : List (List Part)). left_of c.args.frame ∷ x) outer;
+      lists_is = f.lists_is;
+      more = f.more;
+      begun = f.begun;
       parts_are = f.parts_are;
       lent = f.lent;
-      more = f.more;
+      taken = f.taken;
     }

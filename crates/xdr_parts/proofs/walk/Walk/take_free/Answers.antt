@@ -4,7 +4,7 @@ use Rattle.xdr_stream.specs.Frames.{left_of, rest_of, onto}
 use Rattle.xdr_parts.specs.Lent.{size_in, role_in}
 use Rattle.xdr_parts.specs.Private.Walking.{part_of}
 use Rattle.xdr_parts.proofs.Stepping.{Goes, free_of}
-use Rattle.xdr_parts.proofs.Keeping.{due, entry_same, goes_on, is_shallow, level}
+use Rattle.xdr_parts.proofs.Keeping.{due, entry_same, goes_on, is_few, is_shallow, level}
 use Rattle.xdr_parts.proofs.walk.Walk.take_free.Goals as goal
 
 pub leaf-requires-clause-there : goal.leaf-requires-clause-there
@@ -28,6 +28,10 @@ leaf-requires-clause-moved c =
 pub leaf-requires-clause-deep : goal.leaf-requires-clause-deep
 leaf-requires-clause-deep c =
     is_shallow c.args.self.now c.args.next c.requires.walked.0 c.requires.walked.1 c.requires.next
+
+pub leaf-requires-clause-few : goal.leaf-requires-clause-few
+leaf-requires-clause-few c =
+    omega (arith, is_few c.args.self.now c.requires.walked.0 c.requires.walked.1)
 
 pub returns-clause-walked : goal.returns-clause-walked
 returns-clause-walked c =

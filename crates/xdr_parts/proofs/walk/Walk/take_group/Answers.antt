@@ -1,14 +1,18 @@
-use Rattle.std.proofs.Common.{◌+◌, [], ◌∷◌, length, refl, ap}
+use Rattle.std.proofs.Common.{◌+◌, [], ◌∷◌, length, refl, ap, arith}
 use Rattle.xdr_types.specs.Layout.{Entry, entry, of_group}
 use Rattle.xdr_stream.specs.Frames.{left_of, rest_of, onto}
 use Rattle.xdr_parts.specs.Private.Walking.{part_of}
 use Rattle.xdr_parts.proofs.Stepping.{group_of}
-use Rattle.xdr_parts.proofs.Keeping.{due, entry_same, goes_on, is_shallow, level}
+use Rattle.xdr_parts.proofs.Keeping.{due, entry_same, goes_on, is_few, is_shallow, level}
 use Rattle.xdr_parts.proofs.walk.Walk.take_group.Goals as goal
 
 pub open-requires-clause-deep : goal.open-requires-clause-deep
 open-requires-clause-deep c =
     is_shallow c.args.self.now c.args.next c.requires.walked.0 c.requires.walked.1 c.requires.next
+
+pub open-requires-clause-few : goal.open-requires-clause-few
+open-requires-clause-few c =
+    omega (arith, is_few c.args.self.now c.requires.walked.0 c.requires.walked.1)
 
 pub returns-clause-walked : goal.returns-clause-walked
 returns-clause-walked c =

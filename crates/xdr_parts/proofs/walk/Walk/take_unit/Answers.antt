@@ -1,4 +1,4 @@
-use Rattle.std.proofs.Common.{◌≡◌, ℕ, ◌+◌, ◌≤◌, List, [], ◌∷◌, length, refl, sym, ap, subst}
+use Rattle.std.proofs.Common.{◌≡◌, ℕ, ◌+◌, ◌≤◌, [], ◌∷◌, length, refl, sym, ap, subst, arith}
 use Rattle.xdr_types.specs.Kinds.{KindView, kind_at}
 use Rattle.xdr_types.specs.KindViews.{kind_view}
 use Rattle.xdr_types.specs.Layout.{Entry, entry}
@@ -9,15 +9,15 @@ use Rattle.xdr_stream.specs.Frames.{left_of, rest_of, onto}
 use Rattle.xdr_stream.specs.Taking.{Takes}
 use Rattle.xdr_stream.specs.declared.machine.number.Made.{Made}
 use Rattle.xdr_parts.specs.Lent.{size_in, role_in}
-use Rattle.xdr_parts.specs.Private.Walking.{HasWalked, IsNext, part_of}
+use Rattle.xdr_parts.specs.Private.Walking.{Aim, HasWalked, IsNext, part_of}
 use Rattle.xdr_parts.specs.declared.next.Next.{Next}
 use Rattle.xdr_parts.specs.declared.walk.Walk.{Walk}
 use Rattle.xdr_parts.proofs.Stepping.{Goes, unit_there_of, accepted_of, leaf_of, open_of, length_of}
-use Rattle.xdr_parts.proofs.Keeping.{due, entry_same, goes_on, is_shallow, level}
+use Rattle.xdr_parts.proofs.Keeping.{due, entry_same, goes_on, is_few, is_shallow, level}
 use Rattle.xdr_parts.proofs.walk.Walk.take_unit.Goals as goal
 
 -- the first unit is there
-is_there : (w : Walk) (n : Next) (k : KindView) → (all : List Entry) × HasWalked w all → IsNext w n
+is_there : (w : Walk) (n : Next) (k : KindView) → (all : Aim) × HasWalked w all → IsNext w n
     → k ≡ kind_at w.schema.now.kinds n.kind.place → HasUnit (lead_of k) → w.at + 4 ≤ length w.bytes.now
 is_there w n k some next same unit =
     unit_there_of w.schema.now.kinds w.at w.bytes.now (part_of n) (rest_of (left_of w.work)) (onto [] w.parents.items)
@@ -48,6 +48,10 @@ pub leaf-requires-clause-deep : goal.leaf-requires-clause-deep
 leaf-requires-clause-deep c =
     is_shallow c.args.self.now c.args.next c.requires.walked.0 c.requires.walked.1 c.requires.next
 
+pub leaf-requires-clause-few : goal.leaf-requires-clause-few
+leaf-requires-clause-few c =
+    omega (arith, is_few c.args.self.now c.requires.walked.0 c.requires.walked.1)
+
 pub open-requires-clause-there : goal.open-requires-clause-there
 open-requires-clause-there c = is_there c.args.self.now c.args.next _ c.requires.walked c.requires.next c.requires.kind
     c.requires.unit
@@ -55,6 +59,10 @@ open-requires-clause-there c = is_there c.args.self.now c.args.next _ c.requires
 pub open-requires-clause-deep : goal.open-requires-clause-deep
 open-requires-clause-deep c =
     is_shallow c.args.self.now c.args.next c.requires.walked.0 c.requires.walked.1 c.requires.next
+
+pub open-requires-clause-few : goal.open-requires-clause-few
+open-requires-clause-few c =
+    omega (arith, is_few c.args.self.now c.requires.walked.0 c.requires.walked.1)
 
 pub counted-requires-clause-there : goal.counted-requires-clause-there
 counted-requires-clause-there c =
@@ -71,6 +79,10 @@ counted-requires-clause-there c =
 pub counted-requires-clause-deep : goal.counted-requires-clause-deep
 counted-requires-clause-deep c =
     is_shallow c.args.self.now c.args.next c.requires.walked.0 c.requires.walked.1 c.requires.next
+
+pub counted-requires-clause-few : goal.counted-requires-clause-few
+counted-requires-clause-few c =
+    omega (arith, is_few c.args.self.now c.requires.walked.0 c.requires.walked.1)
 
 pub returns-in-Leaf-clause-walked : goal.returns-in-Leaf-clause-walked
 returns-in-Leaf-clause-walked c =

@@ -1,0 +1,41 @@
+//! The parts of the value that begins an input, listed or only counted.
+ghost use Rattle.std.specs.Prelude.{◌≡◌, ◌<◌, length, IfOk, IfErr};
+ghost use Rattle.xdr_types.specs.Layout.{entries};
+ghost use Rattle.xdr_types.specs.Outcome.{Outcome, Whole};
+ghost use Rattle.xdr_types.specs.Tree.{Tree};
+ghost use Rattle.xdr_stream.specs.Finish.{EndsWith};
+ghost use Rattle.xdr_parts.specs.Private.Taking.{HasAll};
+
+use crate::judge::judge;
+use crate::taken::Taken;
+use crate::walk::spelled_parts;
+use std::alloc::Global;
+use xdr_stream::{DecodeFault, Reason};
+use xdr_types::{KindId, Limits, Schema};
+
+/// The count of bytes of the value that begins the input, and its parts; or why there is none.
+pub fn whole_parts<'a>(
+    alloc: Global,
+    schema: &'a Schema,
+    kind: KindId,
+    limits: Limits,
+    input: &'a [u8],
+    lists: bool,
+) -> Result<(usize, Taken<'a>), DecodeFault>
+    requires { kind.place < length schema.now.kinds }
+    ensures whole { IfOk result (λ r. (v : Tree) × Outcome schema.now.kinds kind.place limits input.now (Whole v r.0)
+        × HasAll input.now (entries schema.now.kinds kind.place v) r.1) }
+    ensures lists { IfOk result (λ r. r.1.lists ≡ lists) }
+    ensures fault { IfErr result (λ f. EndsWith schema.now.kinds kind.place limits input.now f) }
+{
+    let _in_range = limits.depth();
+    let _known = schema.len();
+    let used = judge(alloc, schema, kind, limits, input)?;
+    match spelled_parts(alloc, schema, kind, &input[..used], lists) {
+        Ok(taken) => Ok((used, taken)),
+        Err(_) => Err(DecodeFault {
+            why: Reason::NoMemory,
+            at: used,
+        }),
+    }
+}
