@@ -1,7 +1,6 @@
 //! Words that ask for no task: refused ones, and those that ask for help.
-ghost use Rattle.std.specs.Prelude.{◌≡◌, ◌≢◌, ◌<◌, ◌≤◌, ◌⊎◌, ℕ, [], length, take, string_bytes};
-ghost use Rattle.std.specs.Io.KnownBytes.{Appends};
-ghost use Rattle.xdr_io.specs.Reported.{Counts};
+ghost use Rattle.std.specs.Prelude.{◌≡◌, ◌≢◌, ◌⊎◌, [], string_bytes};
+ghost use Rattle.oncrpc_words.specs.Printed.{EndsWords, PrintsWords};
 
 use clap::Error;
 use clap::error::ErrorKind;
@@ -49,21 +48,9 @@ pub fn fault_of(alloc: Global, error: &Error) -> WordsFault
 /// the status is 3, after the first bytes of the text; what is wrong with the words, and want of memory, go to
 /// `faults`, where that can be done.
 pub fn print_words_fault<O: Sink, F: Sink>(fault: &WordsFault, output: &mut O, faults: &mut F) -> u8
-    // The status is 0 to 4.
-    ensures some_status { result ≤ 4 }
-    // Help ends with 0, or 3 where it cannot be written;
-    ensures helped { fault.now.status ≡ 0 → (result ≡ 0) ⊎ (result ≡ 3) }
-    // refused words end with 2,
-    ensures refused { fault.now.status ≡ 2 → result ≡ 2 }
-    // and want of memory with 4.
-    ensures wanting { fault.now.status ≡ 4 → result ≡ 4 }
-    // At 0 the whole text went to the output;
-    ensures printed { result ≡ 0 → Appends (O.taken output.old) (O.taken output.new) (string_bytes fault.now.text) }
-    // at 3 a write failed,
-    ensures device { result ≡ 3 → Counts 1 (O.failures output.old) (O.failures output.new) }
-    // and the beginning of the text went out before it.
-    ensures in_part { result ≡ 3 → (count : ℕ) × (count < length (string_bytes fault.now.text))
-        × Appends (O.taken output.old) (O.taken output.new) (take count (string_bytes fault.now.text)) }
+    ensures ends { EndsWords fault.now.status result }
+    ensures prints { PrintsWords (string_bytes fault.now.text) (O.taken output.old) (O.taken output.new)
+        (O.failures output.old) (O.failures output.new) result }
     // Nothing goes to the output where the text is no help.
     ensures unprinted { fault.now.status ≢ 0 → output.new ≡ output.old }
 {

@@ -1,2 +1,4 @@
-pub mod Reported
 pub mod Memory
+pub mod Past
+pub mod Private
+pub mod Reported

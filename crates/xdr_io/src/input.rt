@@ -1,7 +1,8 @@
 //! All of a source, in a bounded number of reads.
-ghost use Rattle.std.specs.Prelude.{◌≡◌, ◌≢◌, ◌+◌, ◌≤◌, ◌++◌, take, vec_len, IfOk, IfErr, OnOk, IsErrOf};
-ghost use Rattle.std.specs.Io.KnownBytes.{Consumes, IsAtEnd};
-ghost use Rattle.xdr_io.specs.Reported.{Counts, CountsAtMost, MovesAtMost};
+ghost use Rattle.std.specs.Prelude.{◌≡◌, IfOk};
+ghost use Rattle.xdr_io.specs.Past.{ReadsPast, FailsByRead, NeedsTooMany};
+ghost use Rattle.xdr_io.specs.Private.Once.{Adds, ReadsOnce};
+ghost use Rattle.xdr_io.specs.Reported.{CountsAtMost};
 ghost use Rattle.xdr_io.specs.declared.input.InputFault.TheVariants.{Read, NoMemory};
 
 use super::traits::{ReadFault, Source};
@@ -47,18 +48,10 @@ fn read_more<R: Source>(
     bytes: &mut Vec<u8>,
     array: &mut [u8; 4096],
 ) -> Result<usize, InputFault>
-    ensures bound { IfOk result (λ n. n ≤ 4096) }
-    ensures read { IfOk result (λ n. Consumes (R.left source.old) (R.left source.new) (take n array.new)) }
-    ensures end { IfOk result (λ n. n ≡ 0 → IsAtEnd (R.left source.new)) }
-    ensures added { IfOk result (λ n. bytes.new.items ≡ bytes.old.items ++ take n array.new) }
-    ensures moved { MovesAtMost 4096 (R.left source.old) (R.left source.new) }
-    ensures count { Counts 1 (R.reads source.old) (R.reads source.new) }
-    ensures none_failed { OnOk result (Counts 0 (R.failures source.old) (R.failures source.new)) }
-    ensures failed { IfErr result (λ f.
-        f ≡ InputFault.Read → Counts 1 (R.failures source.old) (R.failures source.new)) }
-    ensures unfailed { IfErr result (λ f.
-        f ≢ InputFault.Read → Counts 0 (R.failures source.old) (R.failures source.new)) }
-    ensures few { IfErr result (λ f. f ≢ InputFault.TooManyReads) }
+    ensures added { IfOk result (λ n.
+        Adds n array.new (R.left source.old) (R.left source.new) bytes.old.items bytes.new.items) }
+    ensures once { ReadsOnce (R.left source.old) (R.left source.new) (R.reads source.old) (R.reads source.new) result }
+    ensures failures { FailsByRead (R.failures source.old) (R.failures source.new) result }
 {
     let n = source.read(array)?;
     bytes.extend_from_slice(&array[..n])?;
@@ -74,24 +67,13 @@ pub fn read_past<R: Source>(
     source: &mut R,
     enough: usize,
 ) -> Result<Vec<u8>, InputFault>
-    // What is answered are the next bytes of the source:
-    ensures bytes { IfOk result (λ v. Consumes (R.left source.old) (R.left source.new) v.items) }
-    // all of them, or more than enough,
-    ensures end { IfOk result (λ v. vec_len v ≤ enough → IsAtEnd (R.left source.new)) }
-    // by one read at most.
-    ensures most { IfOk result (λ v. vec_len v ≤ enough + 4096) }
-    // No answer takes more of the source.
-    ensures moved { MovesAtMost (enough + 4096) (R.left source.old) (R.left source.new) }
-    // A read failed exactly where the fault is `Read`, and then one.
-    ensures none_failed { OnOk result (Counts 0 (R.failures source.old) (R.failures source.new)) }
-    ensures failed { IsErrOf result InputFault.Read → Counts 1 (R.failures source.old) (R.failures source.new) }
-    ensures unfailed { IfErr result (λ f.
-        f ≢ InputFault.Read → Counts 0 (R.failures source.old) (R.failures source.new)) }
+    // What is answered are the next bytes: all of them, or more than enough.
+    ensures read { ReadsPast enough (R.left source.old) (R.left source.new) result }
     ensures reads { CountsAtMost 1048576 (R.reads source.old) (R.reads source.new) }
-    // Too many reads are as many as are made at most,
-    ensures many { IsErrOf result InputFault.TooManyReads → Counts 1048576 (R.reads source.old) (R.reads source.new) }
-    // each of which gave a byte or more.
-    ensures plenty { IsErrOf result InputFault.TooManyReads → 1048576 ≤ enough }
+    // A read failed exactly where the fault is `Read`.
+    ensures failures { FailsByRead (R.failures source.old) (R.failures source.new) result }
+    // Too many reads are as many as there may be, and gave a byte each.
+    ensures too_many { NeedsTooMany enough (R.reads source.old) (R.reads source.new) result }
 {
     let mut bytes = Vec::new(alloc);
     let mut array = [0u8; 4096];
