@@ -70,7 +70,14 @@ parts_few s well sound t v f long =
     let all = (held_whole s.kinds t v _ _ f h).0 in
     let two = layout_few s.kinds 0 1 (item_part t ∷ []) (from_list (v ∷ [])) in
     let nodes_are : count_nodes (from_list (v ∷ [])) ≡ node_count v = omega arith in
-    omega (arith, most, all, two, nodes_are, product (length s.kinds + 1) (u + 1) (omega (arith, well.few)) (omega arith))
+    omega (
+      arith,
+      most,
+      all,
+      two,
+      nodes_are,
+      product (length s.kinds + 1) (u + 1) (omega (arith, well.few)) (omega arith),
+    )
 
 -- ---- the names of one part more
 

@@ -17,8 +17,8 @@ names_of es = flat_map (λ e. e.name) es
 abbrev pub capped : ℕ → ℕ
 capped n = min n (2 ^ 64 - 1)
 
--- The outcome of the input is a value of so many bytes (RFC 4506 section 4). Its layout has so many parts, each of which
--- can be lent from the input, and their names have so many bytes.
+-- The outcome of the input is a value of so many bytes (RFC 4506 section 4). Its layout has so many parts, each of
+-- which can be lent from the input, and their names have so many bytes.
 pub record AreCounted (kinds : List KindView) (kind : ℕ) (limits : Bounds) (input : List ℕ) (c : PartCounts) : Type 0
   where
     pub value : Tree

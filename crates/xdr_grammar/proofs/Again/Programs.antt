@@ -183,7 +183,8 @@ module _ (d : ℕ) (reader : Reader Part) (rereads : RereadsSpecifiers d reader)
   unfolding after_sign
   version_not_close v ts = refl
 
-  pub versions_again : (n : ℕ) (v : tree.Version) (vs : List tree.Version) (o : Outline) (ts : List Lexeme) → length vs < n
+  pub versions_again : (n : ℕ) (v : tree.Version) (vs : List tree.Version) (o : Outline) (ts : List Lexeme)
+      → length vs < n
       → depth_of_versions (v ∷ vs) ≤ d
       → repeat (version_with reader) n o (versions (v ∷ vs) (Sign mark.CloseBrace ∷ ts)) ≡ Some
       ((versions_in (v ∷ vs) o).0, (versions_in (v ∷ vs) o).1, ts)
