@@ -24,15 +24,13 @@ pub struct RecordReader {
 }
 
 impl RecordReader {
-    ghost use Rattle.std.specs.Prelude.{◌≡◌, ◌<◌, ◌^◌, ◌++◌, ◌↔◌, ℕ, List, [], ◌∷◌, length, take, true};
-    ghost use Rattle.std.specs.Prelude.{IsTrue, Some, IfOk, IfErr};
+    ghost use Rattle.std.specs.Prelude.{◌≡◌, ◌<◌, ◌^◌, ◌++◌, ℕ, List, [], ◌∷◌, length, true, Some, IfOk, IfErr};
     ghost use Rattle.rpc_record.specs.Represents.{Represents, Always, IsTaking, IsWaiting, IsBroken, limit_of};
     ghost use Rattle.rpc_record.specs.Represents.{Takes, Feeds, Reports, Stays, Hands, IsHanded, Ends, Concludes};
     ghost use Rattle.rpc_record.specs.Represents.{IsBetween, Moves, Fills, IsFilled};
-    ghost use Rattle.rpc_record.specs.Private.Steps.{Refuses, IsFed, IsStepped};
-    ghost use Rattle.rpc_record.specs.Marked.{Longest, header, fragment};
-    ghost use Rattle.rpc_record.specs.Fields.{InHeader, begun_bytes};
-    ghost use Rattle.rpc_record.specs.Reading.{TooLongAt, IsWhole, Begins, Faulty, HasNoLong, capped};
+    ghost use Rattle.rpc_record.specs.Private.Steps.{Refuses};
+    ghost use Rattle.rpc_record.specs.Marked.{Longest, fragment};
+    ghost use Rattle.rpc_record.specs.Reading.{TooLongAt, IsWhole, Begins, Faulty, HasNoLong};
     ghost use Rattle.rpc_record.specs.declared.place.Place.TheVariants as place;
 
     /// A reader of records of at most `limit` bytes, before the first byte.
