@@ -28,7 +28,7 @@ pub fn lacking(
         (record { kinds = schema.now.kinds; place = kind.place; limits = limits }) input.now
         (record { parts = parts.now; names = names.now }) (record { parts = parts.now; names = names.now }))) }
 {
-    let _range = limits.depth();
+    let _in_range = limits.depth();
     let counts = match count_parts(alloc, schema, kind, limits, input) {
         Ok(counts) => counts,
         Err(fault) if fault.why == Reason::NoMemory => return Err(NoMemory),

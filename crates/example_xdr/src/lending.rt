@@ -27,7 +27,7 @@ pub fn lends_the_file<'a>(
     ensures bytes { IfOk result (λ ls. bytes_of_each ls.items ≡ sillyprog_lent) }
     ensures taken { IfErr result (λ f. f.why ≡ NoMemory) }
 {
-    let _range = limits.depth();
+    let _in_range = limits.depth();
     parts(alloc, schema, KindId { place: 6 }, limits, input)
 }
 
@@ -45,7 +45,7 @@ pub fn counts_the_file(
     ensures counts { IfOk result (λ c. (c.used ≡ 48) × (c.parts ≡ 10) × (c.names ≡ 60)) }
     ensures taken { IfErr result (λ f. f.why ≡ NoMemory) }
 {
-    let _range = limits.depth();
+    let _in_range = limits.depth();
     count_parts(alloc, schema, KindId { place: 6 }, limits, input)
 }
 
@@ -67,6 +67,6 @@ pub fn lends_an_empty_opaque<'a>(
     ensures bytes { IfOk result (λ ls. bytes_of_each ls.items ≡ (0 ∷ 0 ∷ 0 ∷ 0 ∷ []) ∷ [] ∷ []) }
     ensures taken { IfErr result (λ f. f.why ≡ NoMemory) }
 {
-    let _range = limits.depth();
+    let _in_range = limits.depth();
     parts(alloc, schema, kind, limits, input)
 }

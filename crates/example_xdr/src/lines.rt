@@ -41,7 +41,7 @@ pub fn shows_the_lent_file(
     requires input { input.now ≡ sillyprog_bytes }
     ensures { IfSome result (λ b. b.items ≡ sillyprog_lines) }
 {
-    let _range = limits.depth();
+    let _in_range = limits.depth();
     match parts(alloc, schema, KindId { place: 6 }, limits, input) {
         Ok(lent) => show_parts(alloc, schema, &lent).ok(),
         Err(_) => None,

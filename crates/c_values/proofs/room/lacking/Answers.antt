@@ -10,6 +10,6 @@ pub unreachable-requires : goal.unreachable-requires
 unreachable-requires c =
     let q : Question =
     record { kinds = c.args.schema.now.kinds; place = c.args.kind.place; limits = c.args.limits } in
-    no_fault q c.depth-range.ensures.range.units c.args.input.now c.args.used c.requires.begins
+    no_fault q c.depth-in_range.ensures.range.units c.args.input.now c.args.used c.requires.begins
     c.in-Err.fault c.in-Err.ensures.fault
     (λ e. let same = rw e at c.eq.ensures in false≢true (sym c.if-eq.false ∙ same))

@@ -18,7 +18,7 @@ returns-clause-counts c =
     subst (λ (k : List KindView). IfOk c.count_parts.result (λ n. (n.used ≡ length (bytes_of k 6 sillyprog))
     × (n.parts ≡ length (entries k 6 sillyprog)) × (n.names ≡ capped (length (names_of (entries k 6 sillyprog))))))
     c.requires.kinds
-    (counted c.args.schema.now.kinds 6 c.args.limits c.depth-range.ensures.range.units c.args.input.now sillyprog []
+    (counted c.args.schema.now.kinds 6 c.args.limits c.depth-in_range.ensures.range.units c.args.input.now sillyprog []
     fit (c.requires.input ∙ sym bytes) c.count_parts.result c.count_parts.ensures.outcome)
 
 pub returns-clause-taken : goal.returns-clause-taken
@@ -28,5 +28,5 @@ returns-clause-taken c =
     (refl, (c.requires.deep, c.requires.buffer)) in
     let bytes : bytes_of c.args.schema.now.kinds 6 sillyprog ++ [] ≡ sillyprog_bytes =
     ap (λ (k : List KindView). bytes_of k 6 sillyprog ++ []) c.requires.kinds in
-    only_memory c.args.schema.now.kinds 6 c.args.limits c.depth-range.ensures.range.units c.args.input.now sillyprog []
+    only_memory c.args.schema.now.kinds 6 c.args.limits c.depth-in_range.ensures.range.units c.args.input.now sillyprog []
     fit (c.requires.input ∙ sym bytes) c.count_parts.result c.count_parts.ensures.fault

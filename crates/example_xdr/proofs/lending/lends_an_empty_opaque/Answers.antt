@@ -20,7 +20,7 @@ returns-clause-parts c =
     ≡ entry 0 4 1 (part [] place) of_length ∷ entry 4 0 1 (part [] place) (of_content 0) ∷ [] =
     rw c.requires.kind refl in
     subst (λ (es : List Entry). IfOk c.parts.result (λ ls. map entry_of ls.items ≡ es)) all
-    (given S place c.args.limits c.depth-range.ensures.range.units c.args.input.now (content [])
+    (given S place c.args.limits c.depth-in_range.ensures.range.units c.args.input.now (content [])
     (0 ∷ 0 ∷ 0 ∷ 42 ∷ []) fit (c.requires.input ∙ sym bytes) c.parts.result c.parts.ensures.outcome)
 
 pub returns-clause-bytes : goal.returns-clause-bytes
@@ -34,7 +34,7 @@ returns-clause-bytes c =
     (refl, (c.requires.depth, c.requires.limit)) in
     let all : entries S place (content []) ≡ es = rw c.requires.kind refl in
     let parts = subst (λ (x : List Entry). IfOk c.parts.result (λ ls. map entry_of ls.items ≡ x)) all
-    (given S place c.args.limits c.depth-range.ensures.range.units c.args.input.now (content [])
+    (given S place c.args.limits c.depth-in_range.ensures.range.units c.args.input.now (content [])
     (0 ∷ 0 ∷ 0 ∷ 42 ∷ []) fit (c.requires.input ∙ sym bytes) c.parts.result c.parts.ensures.outcome) in
     subst (λ (b : List ℕ). IfOk c.parts.result (λ ls. bytes_of_each ls.items ≡ cut b es)) c.requires.input
     (lent_bytes c.args.input.now es c.parts.result parts c.parts.ensures.lent)
@@ -47,5 +47,5 @@ returns-clause-taken c =
     ≡ 0 ∷ 0 ∷ 0 ∷ 0 ∷ 0 ∷ 0 ∷ 0 ∷ 42 ∷ [] = rw c.requires.kind refl in
     let fit : FitsWithin S place c.args.limits (content []) = rw c.requires.kind
     (refl, (c.requires.depth, c.requires.limit)) in
-    only_memory S place c.args.limits c.depth-range.ensures.range.units c.args.input.now (content [])
+    only_memory S place c.args.limits c.depth-in_range.ensures.range.units c.args.input.now (content [])
     (0 ∷ 0 ∷ 0 ∷ 42 ∷ []) fit (c.requires.input ∙ sym bytes) c.parts.result c.parts.ensures.fault

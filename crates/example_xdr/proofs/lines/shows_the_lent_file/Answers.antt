@@ -46,7 +46,7 @@ returns-in-Ok c =
     let bytes : bytes_of kinds 6 sillyprog ++ [] ≡ sillyprog_bytes =
     ap (λ (k : List KindView). bytes_of k 6 sillyprog ++ []) c.requires.kinds in
     let same : h.0 ≡ sillyprog =
-    that_value kinds 6 c.args.limits c.depth-range.ensures.range.units input h.0 sillyprog h.1 [] h.2 fit
+    that_value kinds 6 c.args.limits c.depth-in_range.ensures.range.units input h.0 sillyprog h.1 [] h.2 fit
     (c.requires.input ∙ sym bytes) in
     let lines : show_text kinds 6 h.0 ≡ sillyprog_lines =
     ap (λ (v : Tree). show_text kinds 6 v) same ∙ ap (λ (k : List KindView). show_text k 6 sillyprog) c.requires.kinds
