@@ -28,5 +28,5 @@ returns-clause-taken c =
     (refl, (c.requires.deep, c.requires.buffer)) in
     let bytes : bytes_of c.args.schema.now.kinds 6 sillyprog ++ [] ≡ sillyprog_bytes =
     ap (λ (k : List KindView). bytes_of k 6 sillyprog ++ []) c.requires.kinds in
-    only_memory c.args.schema.now.kinds 6 c.args.limits c.depth-in_range.ensures.range.units c.args.input.now sillyprog []
-    fit (c.requires.input ∙ sym bytes) c.count_parts.result c.count_parts.ensures.fault
+    only_memory c.args.schema.now.kinds 6 c.args.limits c.depth-in_range.ensures.range.units c.args.input.now sillyprog
+    [] fit (c.requires.input ∙ sym bytes) c.count_parts.result c.count_parts.ensures.fault

@@ -18,8 +18,8 @@ returns-clause-parts c =
     ap (λ (k : List KindView). bytes_of k 6 sillyprog ++ []) c.requires.kinds in
     subst (λ (k : List KindView). IfOk c.parts.result (λ ls. map entry_of ls.items ≡ entries k 6 sillyprog))
     c.requires.kinds
-    (given c.args.schema.now.kinds 6 c.args.limits c.depth-in_range.ensures.range.units c.args.input.now sillyprog [] fit
-    (c.requires.input ∙ sym bytes) c.parts.result c.parts.ensures.outcome)
+    (given c.args.schema.now.kinds 6 c.args.limits c.depth-in_range.ensures.range.units c.args.input.now sillyprog []
+    fit (c.requires.input ∙ sym bytes) c.parts.result c.parts.ensures.outcome)
 
 pub returns-clause-bytes : goal.returns-clause-bytes
 returns-clause-bytes c =
@@ -30,8 +30,8 @@ returns-clause-bytes c =
     ap (λ (k : List KindView). bytes_of k 6 sillyprog ++ []) c.requires.kinds in
     let parts = subst (λ (k : List KindView). IfOk c.parts.result (λ ls. map entry_of ls.items ≡ entries k 6 sillyprog))
     c.requires.kinds
-    (given c.args.schema.now.kinds 6 c.args.limits c.depth-in_range.ensures.range.units c.args.input.now sillyprog [] fit
-    (c.requires.input ∙ sym bytes) c.parts.result c.parts.ensures.outcome) in
+    (given c.args.schema.now.kinds 6 c.args.limits c.depth-in_range.ensures.range.units c.args.input.now sillyprog []
+    fit (c.requires.input ∙ sym bytes) c.parts.result c.parts.ensures.outcome) in
     subst (λ (b : List ℕ). IfOk c.parts.result (λ ls. bytes_of_each ls.items ≡ cut b sillyprog_entries))
     c.requires.input
     (lent_bytes c.args.input.now sillyprog_entries c.parts.result parts c.parts.ensures.lent)
@@ -43,5 +43,5 @@ returns-clause-taken c =
     (refl, (c.requires.deep, c.requires.buffer)) in
     let bytes : bytes_of c.args.schema.now.kinds 6 sillyprog ++ [] ≡ sillyprog_bytes =
     ap (λ (k : List KindView). bytes_of k 6 sillyprog ++ []) c.requires.kinds in
-    only_memory c.args.schema.now.kinds 6 c.args.limits c.depth-in_range.ensures.range.units c.args.input.now sillyprog []
-    fit (c.requires.input ∙ sym bytes) c.parts.result c.parts.ensures.fault
+    only_memory c.args.schema.now.kinds 6 c.args.limits c.depth-in_range.ensures.range.units c.args.input.now sillyprog
+    [] fit (c.requires.input ∙ sym bytes) c.parts.result c.parts.ensures.fault
