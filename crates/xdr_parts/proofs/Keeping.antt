@@ -19,7 +19,8 @@ use Rattle.xdr_parts.specs.Private.Walking.{HasWalked, Wrote, IsNext, part_of, A
 use Rattle.xdr_stream.specs.declared.machine.frame.Frame.{Frame}
 use Rattle.xdr_parts.specs.declared.next.Next.{Next}
 use Rattle.xdr_parts.specs.declared.walk.Walk.{Walk}
-use Rattle.xdr_parts.proofs.Stepping.{Goes, known, shallow, nothing_left}
+use Rattle.xdr_parts.proofs.Showing.{Goes, nothing_left}
+use Rattle.xdr_parts.proofs.Stepping.{known, shallow}
 
 pub low_right : (xs ys : List Entry) → AreLow (xs ++ ys) → AreLow ys
 low_right [] ys a = a

@@ -1,3 +1,4 @@
+pub mod Showing
 pub mod Stepping
 pub mod Keeping
 pub mod Judging

@@ -4,7 +4,7 @@ use Rattle.xdr_laws.specs.Owed.{Completes}
 use Rattle.xdr_stream.specs.Frames.{left_of, onto, dues}
 use Rattle.xdr_stream.specs.declared.machine.frame.Frame.{Frame}
 use Rattle.xdr_stream.proofs.Frames.{onto_last}
-use Rattle.xdr_parts.proofs.Stepping.{ended}
+use Rattle.xdr_parts.proofs.Showing.{ended}
 use Rattle.xdr_parts.proofs.walk.Walk.next.Goals as goal
 
 pub loop-next-preserved : goal.loop-next-preserved

@@ -3,7 +3,8 @@ use Rattle.xdr_types.specs.Layout.{Entry, entry}
 use Rattle.xdr_stream.specs.Frames.{left_of, rest_of, onto}
 use Rattle.xdr_parts.specs.Lent.{size_in, role_in}
 use Rattle.xdr_parts.specs.Private.Walking.{part_of}
-use Rattle.xdr_parts.proofs.Stepping.{Goes, free_of}
+use Rattle.xdr_parts.proofs.Showing.{Goes}
+use Rattle.xdr_parts.proofs.Stepping.{free_of}
 use Rattle.xdr_parts.proofs.Keeping.{due, entry_same, goes_on, is_shallow, level}
 use Rattle.xdr_parts.proofs.walk.Walk.take_free.Goals as goal
 

@@ -4,7 +4,7 @@ use Rattle.xdr_types.specs.KindViews.{kind_view}
 use Rattle.xdr_types.specs.Layout.{Entry, entry}
 use Rattle.xdr_units.specs.Numbers.{gap}
 use Rattle.xdr_laws.specs.Owed.{lead_of, HasUnit, role_of}
-use Rattle.xdr_laws.proofs.Content.{counted}
+use Rattle.xdr_laws.proofs.Counted.{counted}
 use Rattle.xdr_stream.specs.Frames.{left_of, rest_of, onto}
 use Rattle.xdr_stream.specs.Taking.{Takes}
 use Rattle.xdr_stream.specs.declared.machine.number.Made.{Made}
@@ -12,7 +12,8 @@ use Rattle.xdr_parts.specs.Lent.{size_in, role_in}
 use Rattle.xdr_parts.specs.Private.Walking.{HasWalked, IsNext, part_of}
 use Rattle.xdr_parts.specs.declared.next.Next.{Next}
 use Rattle.xdr_parts.specs.declared.walk.Walk.{Walk}
-use Rattle.xdr_parts.proofs.Stepping.{Goes, unit_there_of, accepted_of, leaf_of, open_of, length_of}
+use Rattle.xdr_parts.proofs.Showing.{Goes}
+use Rattle.xdr_parts.proofs.Stepping.{unit_there_of, accepted_of, leaf_of, open_of, length_of}
 use Rattle.xdr_parts.proofs.Keeping.{due, entry_same, goes_on, is_shallow, level}
 use Rattle.xdr_parts.proofs.walk.Walk.take_unit.Goals as goal
 
