@@ -1,8 +1,8 @@
 //! Records in fragments: a reader that takes them in any pieces, and their normal form (RFC 5531, section 11).
 //!
-//! - `reader` takes bytes in any pieces, by its module `taking`, and hands records out. `place` has where in a record it
-//!   is, `steps` where a byte leads, `header` what a fragment's header says, and `single` the shortcut for a record of
-//!   one fragment.
+//! - `reader` takes bytes in any pieces, by its module `taking`, and hands records out. `place` has where in a record
+//!   it is, `steps` where a byte leads, `header` what a fragment's header says, and `single` the shortcut for a record
+//!   of one fragment.
 //! - `stream` reads a source and hands out its records, one after another; `normal` writes their normal form through
 //!   `outbox`, which gathers output; `marks` writes one record.
 //! - `fault` has why records cannot be had, and the counts; `laws` are theorems about the definitions.

@@ -14,8 +14,8 @@ pub record Adds (n : ℕ) (array : List ℕ) (left left' : Option (List ℕ)) (b
   pub added : bytes' ≡ bytes ++ take n array
 
 -- It was one read, of an array at most, and is never one too many.
-pub record ReadsOnce {A : Type 0} (left left' : Option (List ℕ)) (reads reads' : Option ℕ) (result : Result A InputFault)
-    : Type 0 where
+pub record ReadsOnce {A : Type 0} (left left' : Option (List ℕ)) (reads reads' : Option ℕ)
+    (result : Result A InputFault) : Type 0 where
   pub count : Counts 1 reads reads'
   pub moved : MovesAtMost 4096 left left'
   pub few : IfErr result (λ f. f ≢ fault.TooManyReads)
