@@ -1,11 +1,11 @@
 //! The registry over TCP and UDP.
 ghost use Rattle.std.specs.Prelude.{◌≤◌};
 
+use oncrpc_answers::{Failure, report};
 use oncrpc_service::{
     ClientPort, Listener, Loopback, LoopbackPort, datagrams_on, info_datagram, info_over,
     report_socket, serve_on,
 };
-use oncrpc_answers::{Failure, report};
 use oncrpc_words::{InfoTask, ServeTask};
 use rpc_directory::Directory;
 use std::collections::hash_map::RandomState;

@@ -1,5 +1,7 @@
 pub mod Heads
 pub mod Joined
 pub mod Named
+pub mod OnePart
+pub mod NodeParts
 pub mod Parts
 pub mod Stepping

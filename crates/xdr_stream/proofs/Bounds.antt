@@ -20,7 +20,7 @@ use Rattle.xdr_laws.specs.Held.{Holds, content_before, count_bytes, bytes_in}
 use Rattle.xdr_laws.specs.Parts.{nodes, is_first, one_if}
 use Rattle.xdr_laws.proofs.Legal.{fit_node}
 use Rattle.xdr_laws.proofs.Holding.{nodes_append, held_by_frames}
-use Rattle.xdr_laws.proofs.Nodes.{held_bounds}
+use Rattle.xdr_laws.proofs.FewNodes.{held_bounds}
 use Rattle.xdr_stream.specs.Frames.{dues}
 use Rattle.xdr_stream.specs.Trace.{Level, Trace}
 use Rattle.xdr_stream.specs.Retained.{nodes_in, bytes_in_parts, bytes_retained}

@@ -15,7 +15,8 @@ use Rattle.xdr_laws.specs.Owed.{Due, Rest, Completes}
 use Rattle.xdr_laws.specs.Held.{count_nodes}
 use Rattle.xdr_laws.specs.Parts.{nodes}
 use Rattle.xdr_laws.proofs.Legal.{both, and, are_bytes_of, bytes_are}
-use Rattle.xdr_laws.proofs.Known.{root, root_fits, completion_of}
+use Rattle.xdr_laws.proofs.Known.{root, completion_of}
+use Rattle.xdr_laws.proofs.WholeUnits.{root_fits}
 use Rattle.xdr_units.proofs.Bytes.{AreBytes-append}
 use Rattle.xdr_laws.proofs.Holding.{nodes_whole, nodes_append}
 use Rattle.xdr_stream.specs.Frames.{dues}

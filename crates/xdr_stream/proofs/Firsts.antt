@@ -17,8 +17,9 @@ use Rattle.xdr_laws.proofs.Nodes.{IsFormedKind}
 use Rattle.xdr_stream.specs.Frames.{dues, Begins, rest_of}
 use Rattle.xdr_stream.specs.Sees.{Reading}
 use Rattle.xdr_stream.proofs.Heights.{IsDue}
-use Rattle.xdr_stream.proofs.Reading.{reading_start, reading_silent, reading_close, reading_free, still_due, still_rest}
-use Rattle.xdr_stream.proofs.Reading.{ends_deep, ends_whole}
+use Rattle.xdr_stream.proofs.Reading.{reading_start, reading_silent, reading_close, reading_free}
+use Rattle.xdr_stream.proofs.UnitRead.{still_due, still_rest}
+use Rattle.xdr_stream.proofs.UnitRead.{ends_deep, ends_whole}
 
 -- a unit is needed where a part of the kind is due
 abbrev NeedsUnit : KindView → Type 0

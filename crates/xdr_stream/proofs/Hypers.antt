@@ -25,7 +25,7 @@ use Rattle.xdr_stream.specs.declared.machine.frame.Frame.{Frame}
 use Rattle.xdr_stream.specs.declared.machine.frame.Frame.TheVariants.{Items}
 use Rattle.xdr_stream.specs.declared.machine.step.Step.TheVariants as step
 use Rattle.xdr_stream.specs.declared.machine.Awaits.TheVariants.{Wide}
-use Rattle.xdr_stream.proofs.Seeing.{IsNext, code_free}
+use Rattle.xdr_stream.proofs.SeeingNodes.{IsNext, code_free}
 use Rattle.xdr_stream.proofs.Sounding.{solid_known, solid_items}
 use Rattle.xdr_stream.proofs.Reported.{many_space, many_stays}
 use Rattle.xdr_stream.proofs.Units.{first_of_two, second_of_two}

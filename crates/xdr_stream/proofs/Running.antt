@@ -24,7 +24,7 @@ use Rattle.xdr_stream.specs.declared.machine.Awaits.{Awaits}
 use Rattle.xdr_stream.specs.declared.machine.Awaits.TheVariants.{Next, Content, Wide, Low}
 use Rattle.xdr_stream.specs.declared.reader.State.{State}
 use Rattle.xdr_stream.specs.declared.reader.State.TheVariants.{Fresh, Reading, Finished, Failed}
-use Rattle.xdr_stream.proofs.Seeing.{IsNext}
+use Rattle.xdr_stream.proofs.SeeingNodes.{IsNext}
 use Rattle.xdr_stream.proofs.Sounding.{solid_known, solid_items}
 use Rattle.xdr_stream.proofs.Taking.{unit_leaf}
 

@@ -19,7 +19,8 @@ use Rattle.std.proofs.lemmas.Bool.{cases_lt}
 use Rattle.xdr_stream.specs.declared.machine.Awaits.{Awaits}
 use Rattle.xdr_stream.specs.declared.machine.Awaits.TheVariants.{Next, Content, Wide, Low}
 use Rattle.xdr_stream.proofs.Built.{built_whole}
-use Rattle.xdr_stream.proofs.Reading.{reading_close, still_due, still_rest, ends_whole}
+use Rattle.xdr_stream.proofs.Reading.{reading_close}
+use Rattle.xdr_stream.proofs.UnitRead.{still_due, still_rest, ends_whole}
 
 module _ (s : List KindView) (t : ℕ) (l : Bounds) (H : Trace → Type 0) (q : List ℕ) where
   -- no node is too deep, and the value is not whole

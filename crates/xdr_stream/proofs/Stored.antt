@@ -18,7 +18,7 @@ use Rattle.xdr_types.specs.Outcome.{Outcome}
 use Rattle.xdr_laws.specs.Held.{Holds, node_count, byte_count, content_before}
 use Rattle.xdr_laws.specs.Parts.{nodes, up_to}
 use Rattle.xdr_laws.proofs.Holding.{held_whole}
-use Rattle.xdr_laws.proofs.Nodes.{held_bounds}
+use Rattle.xdr_laws.proofs.FewNodes.{held_bounds}
 use Rattle.xdr_stream.specs.Trace.{Level, Trace, level, at_start}
 use Rattle.xdr_stream.specs.Retained.{nodes_in, bytes_in_parts, bytes_retained}
 use Rattle.xdr_stream.specs.Held.{GoesOn, frames_at, nodes_at, pending_at, IsDue}

@@ -16,8 +16,8 @@ use Rattle.xdr_types.specs.Outcome as outcome
 use Rattle.xdr_types.specs.Outcome.{Outcome, Why, IsReached}
 use Rattle.xdr_laws.specs.Owed.{Rest, lead_of, HasUnit, IsUnitFirst, IsLengthFirst, Accepts, head_of, why_of}
 use Rattle.xdr_laws.proofs.Legal.{is_legal_of, bytes_are, are_bytes_of}
-use Rattle.xdr_laws.proofs.Known.{bytes4}
-use Rattle.xdr_laws.proofs.Owed.{head_legal}
+use Rattle.xdr_laws.proofs.WholeUnits.{bytes4}
+use Rattle.xdr_laws.proofs.UnitOwed.{head_legal}
 use Rattle.xdr_stream.specs.Frames.{left_of, rest_of, onto, stack_of, dues}
 use Rattle.xdr_stream.specs.Trace.{Trace, IsOpen}
 use Rattle.xdr_stream.specs.Private.Reported.{leaf_in, open_in}
@@ -27,9 +27,11 @@ use Rattle.xdr_stream.specs.declared.fault.Reason.{Reason}
 use Rattle.xdr_stream.specs.declared.fault.Reason.TheVariants as reason
 use Rattle.xdr_stream.specs.declared.machine.frame.Frame.{Frame}
 use Rattle.xdr_stream.specs.declared.machine.Awaits.TheVariants.{Next, Content}
-use Rattle.xdr_stream.proofs.Built.{built_leaf, built_open, into_start}
-use Rattle.xdr_stream.proofs.Reading.{reading_close, reading_unit, reading_length, reading_over, unit_due, Decides}
-use Rattle.xdr_stream.proofs.Seeing.{IsNext}
+use Rattle.xdr_stream.proofs.Built.{built_leaf, built_open}
+use Rattle.xdr_stream.proofs.BuiltContent.{into_start}
+use Rattle.xdr_stream.proofs.Reading.{reading_close, reading_over}
+use Rattle.xdr_stream.proofs.UnitRead.{reading_unit, reading_length, unit_due, Decides}
+use Rattle.xdr_stream.proofs.SeeingNodes.{IsNext}
 
 -- the reason that a refusal stands for
 pub ends_why : (s : List KindView) (t : ℕ) (l : Bounds) (e : Reason) (why : Why) (b : List ℕ) (p : ℕ) → IsWhy e why

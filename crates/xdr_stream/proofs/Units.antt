@@ -28,8 +28,9 @@ use Rattle.xdr_stream.specs.Private.Reported.{leaf_in, extend_in, content_in}
 use Rattle.xdr_stream.specs.Sees.{Sees, Reading, Built, BuiltInto, make_wide}
 use Rattle.xdr_stream.specs.Private.Moves.{are_zeros}
 use Rattle.xdr_stream.specs.declared.machine.Awaits.TheVariants.{Next, Content, Wide, Low}
-use Rattle.xdr_stream.proofs.Built.{into_more, into_end}
-use Rattle.xdr_stream.proofs.Reading.{rest_due, reading_more, reading_last, reading_over}
+use Rattle.xdr_stream.proofs.BuiltContent.{into_more, into_end}
+use Rattle.xdr_stream.proofs.UnitRead.{rest_due, reading_more, reading_last}
+use Rattle.xdr_stream.proofs.Reading.{reading_over}
 
 zeros_are : (bs : List ℕ) → are_zeros bs ≡ true → AreZeros bs
 zeros_are [] e = tt

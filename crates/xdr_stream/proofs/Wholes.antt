@@ -26,8 +26,8 @@ use Rattle.xdr_stream.specs.declared.machine.Awaits.TheVariants.{Next, Content, 
 use Rattle.xdr_stream.specs.declared.reader.State.{State}
 use Rattle.xdr_stream.specs.declared.reader.State.TheVariants.{Fresh, Reading, Finished, Failed}
 use Rattle.xdr_stream.specs.declared.runs.content.Whole.{Whole}
-use Rattle.xdr_stream.proofs.Built.{With, seen_space}
-use Rattle.xdr_stream.proofs.Seeing.{IsNext, next_ready}
+use Rattle.xdr_stream.proofs.BuiltContent.{With, seen_space}
+use Rattle.xdr_stream.proofs.SeeingNodes.{IsNext, next_ready}
 use Rattle.xdr_stream.proofs.Sounding.{known_rest, solid_known}
 use Rattle.xdr_stream.proofs.Taking.{length_some}
 use Rattle.xdr_stream.proofs.Units.{whole_content}

@@ -1,5 +1,5 @@
 -- Which parts the nodes at work of a reader may have, whatever bytes it was given.
-use Rattle.std.specs.Prelude.{ℕ, ◌<◌, List, [], ◌∷◌, length, ⊤}
+use Rattle.std.specs.Prelude.{◌<◌, List, [], ◌∷◌, length, ⊤}
 use Rattle.xdr_types.specs.Kinds.{KindView, Part, kind_at}
 use Rattle.xdr_laws.specs.Owed.{lead_of, HasUnit, IsSolid}
 use Rattle.xdr_stream.specs.Frames.{stack_of}

@@ -1,5 +1,5 @@
 -- The counts are those of the value that begins the input, which no fault but want of memory stands against.
-use Rattle.std.proofs.Common.{◌<◌, ◌-◌, ◌^◌, length, rules, arith, sym, ◌∙◌}
+use Rattle.std.proofs.Common.{◌<◌, ◌-◌, ◌^◌, rules, arith, sym, ◌∙◌}
 use Rattle.std.proofs.lemmas.Bool.{false≢true}
 use Rattle.c_values.specs.Answers.{Question}
 use Rattle.c_values.specs.Parted.{Buffers, IsSmall}
@@ -20,7 +20,9 @@ returns c =
     let q : Question =
     record { kinds = c.args.schema.now.kinds; place = c.args.kind.place; limits = c.args.limits } in
     let old : Buffers = record { parts = c.args.parts.now; names = c.args.names.now } in
-    let exact : c.in-Ok.counts.names < 2 ^ 64 - 1 = search (rules, arith, c.if-counts.false, c.in-Ok.ensures.outcome.names) in
+    let exact : c.in-Ok.counts.names < 2 ^ 64 - 1 =
+    search (rules, arith, c.if-counts.false, c.in-Ok.ensures.outcome.names) in
     let small : IsSmall old
-        (record { used = c.args.used; parts = c.in-Ok.counts.parts; names = c.in-Ok.counts.names }) = search (rules, arith, c.else-counts-parts.branch) in
+    (record { used = c.args.used; parts = c.in-Ok.counts.parts; names = c.in-Ok.counts.names }) =
+    search (rules, arith, c.else-counts-parts.branch) in
     no_room q c.args.input.now old c.args.used c.requires.begins c.in-Ok.counts c.in-Ok.ensures.outcome exact small

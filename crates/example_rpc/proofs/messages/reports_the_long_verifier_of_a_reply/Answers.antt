@@ -1,4 +1,4 @@
-use Rattle.example_rpc.proofs.Faults.{is_bad_auth}
+use Rattle.example_rpc.proofs.LongFaults.{is_bad_auth}
 use Rattle.example_rpc.proofs.messages.reports_the_long_verifier_of_a_reply.Goals as goal
 
 pub returns : goal.returns

@@ -1,4 +1,4 @@
-use Rattle.example_rpc.proofs.Faults.{is_rest}
+use Rattle.example_rpc.proofs.LongFaults.{is_rest}
 use Rattle.example_rpc.proofs.messages.reports_what_follows_a_denial.Goals as goal
 
 pub returns : goal.returns

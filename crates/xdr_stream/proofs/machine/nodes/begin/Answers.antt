@@ -4,15 +4,16 @@ use Rattle.xdr_types.specs.Kinds as xdr
 use Rattle.xdr_types.specs.Kinds.{KindView, Part, kind_at}
 use Rattle.xdr_types.specs.Tree as value
 use Rattle.xdr_types.specs.KindViews.{kind_view, part_of_member}
-use Rattle.xdr_laws.proofs.Nodes.{IsFormedKind, formed_of}
+use Rattle.xdr_laws.proofs.Nodes.{IsFormedKind}
+use Rattle.xdr_laws.proofs.FewNodes.{formed_of}
 use Rattle.xdr_stream.specs.Frames.{left_of, onto}
 use Rattle.xdr_stream.specs.Sees.{Sees}
 use Rattle.xdr_stream.specs.Private.Sound.{AreAllSolid, HasNext}
 use Rattle.xdr_stream.specs.Steps.{IsStep}
 use Rattle.xdr_stream.specs.declared.machine.step.Step.{Step}
 use Rattle.xdr_stream.specs.declared.machine.Awaits.TheVariants.{Next}
-use Rattle.xdr_stream.proofs.Seeing.{is_next, code_deep, code_silent, code_free, code_opaque}
-use Rattle.xdr_stream.proofs.Seeing.{smaller_fixed, ready_next}
+use Rattle.xdr_stream.proofs.SeeingNodes.{is_next, code_deep, code_silent, code_free, code_opaque}
+use Rattle.xdr_stream.proofs.SeeingNodes.{smaller_fixed, ready_next}
 use Rattle.xdr_stream.proofs.Sounding.{first_known, first_solid, solid_known, solid_rest, has_not_none}
 use Rattle.xdr_stream.proofs.Sounding.{fields_solid, items_solid}
 use Rattle.std.proofs.lemmas.Result.{err_from_is_err_and}

@@ -5,7 +5,7 @@ use Rattle.xdr_laws.specs.Owed.{lead_of, HasUnit}
 use Rattle.xdr_stream.specs.Frames.{left_of}
 use Rattle.xdr_stream.specs.Steps.{IsStep}
 use Rattle.xdr_stream.specs.declared.machine.step.Step.{Step}
-use Rattle.xdr_stream.proofs.Seeing.{is_next, ready_next}
+use Rattle.xdr_stream.proofs.SeeingNodes.{is_next, ready_next}
 use Rattle.xdr_stream.proofs.Sounding.{first_known, starts_first}
 use Rattle.xdr_stream.proofs.machine.nodes.is_due.Goals as goal
 

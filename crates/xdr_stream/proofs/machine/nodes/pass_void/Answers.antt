@@ -5,8 +5,8 @@ use Rattle.xdr_types.specs.KindViews.{kind_view}
 use Rattle.xdr_stream.specs.Frames.{left_of, stack_of}
 use Rattle.xdr_stream.specs.Trace.{Trace}
 use Rattle.xdr_stream.specs.Private.Reported.{HasSpace}
-use Rattle.xdr_stream.proofs.Built.{With}
-use Rattle.xdr_stream.proofs.Seeing.{is_next, code_deep, code_void, space_next}
+use Rattle.xdr_stream.proofs.BuiltContent.{With}
+use Rattle.xdr_stream.proofs.SeeingNodes.{is_next, code_deep, code_void, space_next}
 use Rattle.xdr_stream.proofs.Sounding.{first_known}
 use Rattle.std.proofs.lemmas.Result.{err_from_is_err_and}
 use Rattle.xdr_stream.specs.declared.machine.Awaits.TheVariants.{Next}

@@ -1,7 +1,7 @@
 use Rattle.std.proofs.Common.{Bool, subst}
 use Rattle.xdr_stream.specs.Frames.{stack_of}
 use Rattle.xdr_stream.specs.Private.Moves.{EndsAs}
-use Rattle.xdr_stream.proofs.Seeing.{goes_deep}
+use Rattle.xdr_stream.proofs.SeeingNodes.{goes_deep}
 use Rattle.xdr_stream.proofs.Sounding.{solid_sound}
 use Rattle.std.proofs.lemmas.Result.{err_from_is_err_and}
 use Rattle.xdr_stream.proofs.machine.nodes.settle.Goals as goal

@@ -5,7 +5,8 @@ use Rattle.xdr_types.specs.Kinds.{KindView, Part}
 use Rattle.xdr_types.specs.Tree.{Head}
 use Rattle.xdr_types.specs.Fits.{parts}
 use Rattle.xdr_types.specs.Faults.{has_illegal_case}
-use Rattle.xdr_laws.proofs.Nodes.{IsFormedKind, formed_of}
+use Rattle.xdr_laws.proofs.Nodes.{IsFormedKind}
+use Rattle.xdr_laws.proofs.FewNodes.{formed_of}
 use Rattle.xdr_types.specs.KindViews.{kind_view}
 use Rattle.xdr_laws.specs.Owed.{lead_of, HasUnit, head_of}
 use Rattle.xdr_stream.specs.Frames.{left_of, onto, stack_of}
@@ -15,8 +16,8 @@ use Rattle.xdr_stream.specs.Nodes.{head_of_leaf, head_of_node}
 use Rattle.xdr_stream.specs.declared.machine.number.Made.{Made}
 use Rattle.xdr_stream.specs.Trace.{Trace}
 use Rattle.xdr_stream.specs.Private.Reported.{HasSpace}
-use Rattle.xdr_stream.proofs.Built.{With}
-use Rattle.xdr_stream.proofs.Seeing.{next_ready, space_next}
+use Rattle.xdr_stream.proofs.BuiltContent.{With}
+use Rattle.xdr_stream.proofs.SeeingNodes.{next_ready, space_next}
 use Rattle.xdr_stream.proofs.Taking.{unit_refused, unit_leaf, unit_open, length_empty, length_some}
 use Rattle.xdr_stream.proofs.Cases.{cases_legal}
 use Rattle.xdr_stream.proofs.Sounding.{first_known, first_starts, known_rest, made_known}

@@ -10,7 +10,7 @@ use Rattle.std.proofs.Math.Facts.{of_z-to_z}
 use Rattle.std.proofs.Common.{to_z, of_z, Fits, ℤ, ◌+◌, ◌-◌, ◌*◌, ◌++◌, Bool, negsuc, cond, nat_lt}
 use Rattle.xdr_types.specs.Tree as value
 use Rattle.xdr_laws.proofs.Legal.{are_bytes_of, bytes_are}
-use Rattle.xdr_laws.proofs.Known.{bytes4}
+use Rattle.xdr_laws.proofs.WholeUnits.{bytes4}
 use Rattle.xdr_stream.specs.Frames.{stack_of, onto, left_of}
 use Rattle.xdr_stream.specs.Private.Moves.{are_zeros}
 use Rattle.xdr_stream.specs.Sees.{make_wide}
@@ -18,7 +18,7 @@ use Rattle.xdr_stream.specs.declared.machine.Awaits.TheVariants.{Content, Low}
 use Rattle.xdr_stream.proofs.Units.{first_of_two, second_of_two, two_units, to64, more_content, last_content}
 use Rattle.xdr_stream.specs.Trace.{Trace}
 use Rattle.xdr_stream.specs.Private.Reported.{HasSpace}
-use Rattle.xdr_stream.proofs.Built.{With, seen_space}
+use Rattle.xdr_stream.proofs.BuiltContent.{With, seen_space}
 use Rattle.xdr_stream.proofs.Units.{bad_content}
 use Rattle.std.proofs.lemmas.Result.{err_from_is_err_and}
 use Rattle.std.proofs.Common.{[]}

@@ -13,7 +13,7 @@ use Rattle.xdr_stream.specs.declared.machine.frame.Frame.{Frame}
 use Rattle.xdr_stream.specs.declared.machine.Awaits.TheVariants.{Wide}
 use Rattle.xdr_stream.specs.declared.reader.State.{State}
 use Rattle.xdr_stream.specs.declared.machine.frame.Frame.TheVariants.{Items}
-use Rattle.xdr_stream.proofs.Built.{With, seen_many_wide}
+use Rattle.xdr_stream.proofs.BuiltContent.{With, seen_many_wide}
 use Rattle.xdr_stream.proofs.Frames.{onto_length}
 use Rattle.xdr_stream.proofs.Units.{bytes_taken}
 use Rattle.xdr_stream.proofs.Hypers.{many_hypers, sound_hypers}

@@ -10,7 +10,7 @@ use Rattle.xdr_laws.proofs.Legal.{bytes_are}
 use Rattle.xdr_types.specs.Fits.{item_part}
 use Rattle.xdr_stream.specs.Frames.{left_of, onto, stack_of}
 use Rattle.xdr_stream.specs.Private.Reported.{TakesMany}
-use Rattle.xdr_stream.proofs.Built.{With, seen_many}
+use Rattle.xdr_stream.proofs.BuiltContent.{With, seen_many}
 use Rattle.xdr_stream.specs.declared.machine.frame.Frame.TheVariants.{Items}
 use Rattle.xdr_stream.specs.Sees.{Sees, IsReady}
 use Rattle.xdr_stream.specs.Private.Sound.{IsSoundAt}

@@ -9,7 +9,7 @@ use Rattle.xdr_stream.specs.Trace.{Trace}
 use Rattle.xdr_stream.specs.Private.Reported.{HasSpace, content_in, extend_in}
 use Rattle.xdr_stream.specs.Private.Moves.{are_zeros}
 use Rattle.xdr_stream.specs.declared.machine.Awaits.TheVariants.{Content}
-use Rattle.xdr_stream.proofs.Built.{With, seen_space}
+use Rattle.xdr_stream.proofs.BuiltContent.{With, seen_space}
 use Rattle.xdr_stream.proofs.Units.{whole_content, bytes_taken}
 use Rattle.xdr_stream.proofs.Sparing.{seen_content}
 use Rattle.xdr_stream.proofs.reader.Reader.take_whole.Goals as goal

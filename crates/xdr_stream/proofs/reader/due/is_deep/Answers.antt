@@ -2,7 +2,7 @@ use Rattle.std.proofs.Common.{◌≡◌, List, [], subst, arith}
 use Rattle.xdr_types.specs.Kinds.{KindView, kind_at}
 use Rattle.xdr_types.specs.Fits.{parts}
 use Rattle.xdr_laws.specs.Owed.{lead_of, IsSilent, silent_head}
-use Rattle.xdr_laws.proofs.Nodes.{formed_of}
+use Rattle.xdr_laws.proofs.FewNodes.{formed_of}
 use Rattle.xdr_stream.specs.Frames.{Begins}
 use Rattle.xdr_stream.proofs.Firsts.{due_root, due_first, due_deep, due_pending, known_first, solid_first}
 use Rattle.xdr_stream.proofs.reader.due.is_deep.Goals as goal
