@@ -197,12 +197,12 @@ module _ (kinds : List KindView) (input : List ℕ) (place depth : ℕ) (p : Par
       number_says xdr.hyper same (value.hyper z) l (read_hyper kinds z l) c represents ls e lent
   node_says xdr.unsigned_hyper (value.unsigned_hyper n) same l c represents ls e lent =
       number_says xdr.unsigned_hyper same (value.unsigned_hyper n) l (read_unsigned_hyper kinds n l) c represents ls e
-          lent
+      lent
   node_says xdr.boolean (value.boolean b) same l c represents ls e lent =
       number_says xdr.boolean same (value.boolean b) l (read_boolean kinds b) c represents ls e lent
   node_says (xdr.numbered members) (value.numbered z) same l c represents ls e lent =
       number_says (xdr.numbered members) same (value.numbered z) l (read_numbered kinds members z l) c represents ls e
-          lent
+      lent
   node_says (xdr.opaque size) (value.bytes bs) same l c represents ls e lent =
       content_says (xdr.opaque size) same bs l place c represents ls e lent
   node_says (xdr.opaque_up_to max) (value.bytes bs) same l c represents ls e lent =
