@@ -241,7 +241,8 @@ module _ (s : List KindView) (formed : IsFormed s) where
   ]
 
   -- one void part
-  pub void_one : (p place d : ℕ) (ts : List Part) (v : Values) → IsVoid s ts → FitAll s ts v → count s p place d ts v ≤ 1
+  pub void_one : (p place d : ℕ) (ts : List Part) (v : Values) → IsVoid s ts → FitAll s ts v
+      → count s p place d ts v ≤ 1
   void_one p place d ts v void f =
       subst (λ (l : List Part). FitAll s l v → count s p place d l v ≤ 1) (sym void.1)
       (void_at p place d void.0 void.2 v) f
