@@ -15,8 +15,8 @@ use Rattle.xdr_types.specs.Layout.{Entry, layout, entries, shown, shown_bytes, s
 use Rattle.xdr_laws.specs.Parts.{nodes, up_to}
 use Rattle.xdr_laws.specs.Held.{Holds, content_before, count_nodes, node_count}
 use Rattle.xdr_laws.proofs.Holding.{held_whole}
-use Rattle.xdr_laws.proofs.Known.{value_units}
-use Rattle.xdr_laws.proofs.Nodes.{held_bounds}
+use Rattle.xdr_laws.proofs.WholeUnits.{value_units}
+use Rattle.xdr_laws.proofs.FewNodes.{held_bounds}
 use Rattle.xdr_parts.specs.Counted.{names_of}
 use Rattle.xdr_parts.specs.Lent.{entry_of}
 use Rattle.xdr_parts.specs.declared.part.Lent.{Lent}

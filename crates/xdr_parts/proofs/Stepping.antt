@@ -16,8 +16,10 @@ use Rattle.xdr_laws.specs.Owed.{Frame, Rest, Completes, Lead, UnitFirst, LengthF
 use Rattle.xdr_laws.specs.Owed.{HasUnit, IsUnitFirst, IsLengthFirst, IsFreeBytes, IsSilent, free_size, silent_head}
 use Rattle.xdr_laws.specs.Owed.{Accepts, head_of, role_of}
 use Rattle.xdr_laws.specs.Begun.{first}
-use Rattle.xdr_laws.proofs.Owed.{begin_into, reads_end, reads_silent, reads_unit, refuses_unit}
-use Rattle.xdr_laws.proofs.Content.{counted, free_parts, reads_length, reads_free, refuses_length}
+use Rattle.xdr_laws.proofs.Owed.{begin_into, reads_end}
+use Rattle.xdr_laws.proofs.UnitOwed.{reads_silent, reads_unit, refuses_unit}
+use Rattle.xdr_laws.proofs.Content.{free_parts, reads_free}
+use Rattle.xdr_laws.proofs.Counted.{counted, reads_length, refuses_length}
 use Rattle.xdr_laws.proofs.Known.{shows_first}
 use Rattle.xdr_laws.proofs.GoesOn.{legal_known}
 use Rattle.xdr_stream.specs.Frames.{dues}

@@ -4,7 +4,7 @@ use Rattle.xdr_types.specs.KindViews.{kind_view}
 use Rattle.xdr_types.specs.Layout.{Entry, entry}
 use Rattle.xdr_units.specs.Numbers.{gap}
 use Rattle.xdr_laws.specs.Owed.{lead_of, HasUnit, role_of}
-use Rattle.xdr_laws.proofs.Content.{counted}
+use Rattle.xdr_laws.proofs.Counted.{counted}
 use Rattle.xdr_stream.specs.Frames.{left_of, rest_of, onto}
 use Rattle.xdr_stream.specs.Taking.{Takes}
 use Rattle.xdr_stream.specs.declared.machine.number.Made.{Made}
