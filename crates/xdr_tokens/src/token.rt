@@ -1,7 +1,7 @@
 //! A token of the language.
 
 /// A keyword (RFC 4506 section 6.4, RFC 5531 section 12.3), or `long`, which the text of RFC 1833 has.
-#[derive(Clone, Copy, PartialEq, Eq)]
+#[derive(Clone, Copy, Debug, PartialEq, Eq)]
 pub enum Keyword {
     Bool,
     Case,
@@ -27,7 +27,7 @@ pub enum Keyword {
 }
 
 /// A mark: a token of one byte (RFC 4506 section 6.3).
-#[derive(Clone, Copy, PartialEq, Eq)]
+#[derive(Clone, Copy, Debug, PartialEq, Eq)]
 pub enum Mark {
     OpenBrace,
     CloseBrace,
