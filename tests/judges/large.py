@@ -1,6 +1,7 @@
 """Rows written out, large and deep inputs, and lengths that are only declared."""
 import itertools
 
+from rows.growths import CHAINED
 from rows.large import MANY, NULL_REPLY, WIDE
 from rows.shared import (
     ASKED_AFTER,
@@ -132,6 +133,19 @@ def typedef_cases():
     yield Case("read", text=chained(12000)), lambda told: told.answer == "ok" and b'("t0", 2)' in told.streams[1]
 
 
+def picked_cases():
+    """A million numbers, each that of the last among thousands of members or arms: it is found in few steps. One by one
+    they take some ten seconds and more."""
+    members = b"".join(b"e%d=%d," % (number, number) for number in range(1, 15000))
+    arms = b"".join(b"case %d:void;" % number for number in range(1, 11250))
+    for text in (
+        b"enum e{%slast=0};typedef e many[1000000];" % members,
+        b"union u switch(int d){%scase 0:void;};typedef u many[1000000];" % arms,
+    ):
+        case = Case("Task::Check", zeros=4000000, kind="many", text=text, types="a.x")
+        yield case, lambda told: (told.answer, told.streams) == ("0", [b"ok 4000000\n", b""])
+
+
 def deep_cases():
     """The list of 2047 empty strings, of depth 4096 and 16380 bytes, whole and byte by byte, and one string more."""
     given = (word(1) + word(0)) * 2047 + word(0)
@@ -160,8 +174,8 @@ def deep_cases():
 
 
 def declared_cases():
-    """Lengths and counts of gibibytes, and a byte behind them, and 2000 wide structures that have begun, where there
-    are 64 MiB."""
+    """Lengths and counts of gibibytes, and a byte behind them, 2000 wide structures that have begun, and 1000 arrays of
+    gibibytes with an item each, where there are 64 MiB."""
     for text, name, piece in ((b"", "opaque", 1), (b"", "string", 4), (MORE, "big", 4), (MORE, "big", 1)):
         for engine in ("Decoder", "Checker"):
             case = Case(engine, (piece, 0), kind=name, text=text, given=octets("ffffffff 61"))
@@ -171,6 +185,12 @@ def declared_cases():
         given = word(1) * 2000
         wanted = f"{-(-8000 // piece)} pieces; more; more; {fault_of('Truncated', 8000)}; 0 growths"
         case = Case(engine, (piece, 0), kind="wide", text=WIDE, given=given)
+        yield case, lambda told, wanted=wanted: told.answer == wanted
+    # A thousand arrays inside one another, each of 2^32 - 1 items, of which the first has come.
+    given = octets("ffffffff 00000000") * 1000
+    for engine, piece in itertools.product(("Decoder", "Checker"), (4, 4096)):
+        case = Case(engine, (piece, 0), kind="t", text=CHAINED, given=given)
+        wanted = f"{-(-8000 // piece)} pieces; more; more; {fault_of('Truncated', 8000)}; 0 growths"
         yield case, lambda told, wanted=wanted: told.answer == wanted
     given = octets("ffffffff 61")
     yield Case("RecordReader", (1, 0), limit=2147483647, given=given), handed_out(2147483647, given)
