@@ -28,8 +28,8 @@
  * to ONCRPC_NONE holds whatever was there, and a start or a read would free that.
  *
  * THREADS. There is no state outside of the handles and no initialisation, so calls may run on several threads at once
- * where they share nothing that one of them fills. A handle stays on one thread, with one call at a time: a check
- * writes to it. Nothing here may be called from a signal handler, nor in the forked child of a process with threads.
+ * where they share nothing that one of them fills. A handle stays on the thread that made it, under a lock too, since
+ * a check writes to it: no proof covers another thread. Nothing here may be called from a signal handler, nor in the forked child of a process with threads.
  *
  * STACK. No call goes down by the depth of its input: 64 KiB are enough for every call, at the greatest limits too, as
  * was measured on x86-64 Linux.
@@ -59,7 +59,8 @@ enum {
     ONCRPC_BAD_LIMITS = 5,      /* a limit is out of its range */
     ONCRPC_NO_MEMORY = 6,       /* out of memory: malloc or realloc refused */
     ONCRPC_NO_DECLARATIONS = 7, /* the handle holds no declarations */
-    ONCRPC_NO_ROOM = 8,         /* the buffer is too small. `at`, or `count` of a writer: how many bytes are needed */
+    ONCRPC_NO_ROOM = 8,         /* a buffer is too small. `at`, or `count` of a writer: how many bytes are needed; of
+                                   oncrpc_declarations_parts `parts` and `names` */
 
     /* Of messages alone. */
     ONCRPC_NOT_A_CALL = 9,      /* no call, or less than the front of one */
@@ -306,8 +307,8 @@ uint32_t oncrpc_declarations_show(
  * many parts and bytes of names were written, each from the first on; the others are as they were. ONCRPC_NO_ROOM: `at`
  * says how many bytes the value has. An array of `parts` parts and a buffer for `names` bytes are needed, both.
  * ONCRPC_REFUSED: `why` and `at`, as oncrpc_declarations_check tells them. At any status but the first two both are as
- * they were, so a count of 0 for both asks how much they need. They are counted first, and ONCRPC_NO_ROOM takes memory
- * for a frame for each open node alone, until it returns.
+ * they were, so a count of 0 for both asks how much they need. Where `parts_count` is 0 they are counted alone, in
+ * memory for a frame for each open node; else the parts are listed twice and their names once, until the call returns.
  * ONCRPC_OK, _MORE_FOLLOWS, _REFUSED, _NO_KIND, _BAD_LIMITS, _NO_MEMORY, _NO_DECLARATIONS, _NO_ROOM. */
 uint32_t oncrpc_declarations_parts(
     oncrpc_declarations *declarations,

@@ -17,7 +17,8 @@ use std::alloc::Global;
 use xdr_lang::Declared;
 use xdr_types::{KindId, Limits, Schema};
 
-/// Puts the parts of the value that begins the input into the buffers. Where they do not go in, no list is made.
+/// Puts the parts of the value that begins the input into the buffers. Where there is no buffer for a part, which is
+/// how a caller asks for the counts, no list is made.
 fn list_into(
     alloc: Global,
     schema: &Schema,
@@ -34,10 +35,12 @@ fn list_into(
     ensures { IsParted (record { kinds = schema.now.kinds; place = kind.place; limits = limits }) input.now
         (record { parts = parts.old; names = names.old }) (record { parts = parts.new; names = names.new }) result }
 {
-    match lacking(alloc, schema, kind, limits, input, used, parts, names) {
-        Ok(None) => {}
-        Ok(Some(counts)) => return Listed::NoRoom(counts),
-        Err(_) => return Listed::NoMemory,
+    if parts.is_empty() {
+        match lacking(alloc, schema, kind, limits, input, used, parts, names) {
+            Ok(None) => {}
+            Ok(Some(counts)) => return Listed::NoRoom(counts),
+            Err(_) => return Listed::NoMemory,
+        }
     }
     let Ok(list) = list_parts(alloc, schema, kind, limits, input) else {
         return Listed::NoMemory;

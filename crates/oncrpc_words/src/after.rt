@@ -28,10 +28,10 @@ pub const AFTER_CHECK: &str = "Output, one line:
   ok N, more follows  the input begins with a value of N bytes, and goes on
   refused WHY at N    no value begins the input; N is the place, the count of
                       bytes before it
-With --hex N counts the bytes that the text represents for, and the line may also be
+With --hex N counts the bytes that the text stands for, and the line may also be
 'refused bad hex' or 'refused hex too long'.
 
-WHY, by what represents at the place:
+WHY, by what stands at the place:
   BadBool      four bytes of a bool, or of the flag of optional data, that are
                neither 0 nor 1
   BadNumbered  a number that no member of the enum has

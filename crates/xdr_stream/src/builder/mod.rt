@@ -51,7 +51,7 @@ pub trait Build {
     /// What it was reported: the nodes at work with their finished parts, and the content so far.
     ghost reports: { Self → Trace → Type 0 };
 
-    /// Whether what it is reported of content takes no memory.
+    /// Whether what it makes of content takes no memory.
     ghost spares: { Type 0 };
 
     /// A node without parts. The root takes no memory.
