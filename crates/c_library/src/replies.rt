@@ -28,6 +28,7 @@ pub extern "C" fn oncrpc_reply_read(alloc: Global, input: &[u8], reply: &mut Rep
     // Its parts lie where they are told to be.
     ensures verifier { (r : ReplyView) → ReplyBytes r input.now → result ≡ 0
         → LiesAt input.now reply.new.verifier (verifier_of r) }
+    // Where the bytes are a reply with results, these lie where the answer says.
     ensures results { (r : ReplyView) → ReplyBytes r input.now → result ≡ 0
         → LiesAt input.now reply.new.results (results_of r) }
 {

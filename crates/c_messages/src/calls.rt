@@ -105,6 +105,7 @@ pub fn read_call_parts(input: &[u8], call: &mut CallParts) -> u32
     ensures only { (k : CaseView) → IsCase input.now k → (result ≡ case_status k) × (call.new ≡ reported_of k) }
     // The parts of a call lie where they are told to be.
     ensures credential { (c : CallView) → CallBytes c input.now → LiesAt input.now call.new.credential c.cred.body }
+    // Where the bytes are a call, its verifier's body and its arguments lie where the answer says.
     ensures verifier { (c : CallView) → CallBytes c input.now → LiesAt input.now call.new.verifier c.verf.body }
     ensures arguments { (c : CallView) → CallBytes c input.now → LiesAt input.now call.new.arguments c.args }
 {

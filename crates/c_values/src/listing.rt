@@ -84,12 +84,15 @@ pub fn list_parts(
 impl PartList {
     /// Puts the lists at the front of the buffers. Where one does not go into its buffer both stay as they are.
     pub fn put(&self, parts: &mut [ValuePart], names: &mut [u8]) -> bool
+        // True: both lists stand at the front of their buffers.
         ensures parts { result ≡ true → parts.new ≡ self.now.parts.items
             ++ drop (length self.now.parts.items) parts.old }
         ensures names { result ≡ true → names.new ≡ self.now.names.items
             ++ drop (length self.now.names.items) names.old }
+        // False: neither buffer is changed,
         ensures parts_stay { result ≡ false → parts.new ≡ parts.old }
         ensures names_stay { result ≡ false → names.new ≡ names.old }
+        // since one of them is too small.
         ensures small { result ≡ false → (length parts.old < length self.now.parts.items)
             ⊎ (length names.old < length self.now.names.items) }
     {

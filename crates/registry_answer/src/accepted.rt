@@ -49,8 +49,11 @@ pub fn push_accepted<S: BuildHasher>(
     asked: &Asked<'_>,
     out: &mut Vec<u8>,
 ) -> Result<(), NoMemory>
+    // The reply stands behind what stood there, and the rows are those after the call.
     ensures ok { OnOk result (Accepts asked.now directory.old out.old.items directory.new out.new.items) }
+    // Where memory is refused the rows stay,
     ensures err { OnErr result (directory.new ≡ directory.old) }
+    // and in either case what stood there stays.
     ensures begins { StartsWith out.new.items out.old.items }
 {
     if asked.call.prog != PROGRAM {

@@ -23,7 +23,9 @@ pub fn push_rows<S: BuildHasher>(
 ) -> Result<(), NoMemory>
     ensures ok { let list = bytes_of dir_kinds rpcb_list_kind (rpcb_list directory.now) in
         OnOk result (out.new.items ≡ out.old.items ++ list) }
+    // The list keeps to the limits of a dump.
     ensures few { length (bytes_of dir_kinds rpcb_list_kind (rpcb_list directory.now)) ≤ dump_limits.bytes }
+    // What stood there stays.
     ensures begins { StartsWith out.new.items out.old.items }
 {
     let rows = directory.rows();
@@ -142,7 +144,9 @@ pub fn push_mappings<S: BuildHasher>(
 ) -> Result<(), NoMemory>
     ensures ok { let list = bytes_of dir_kinds mapping_list_kind (mapping_list directory.now) in
         OnOk result (out.new.items ≡ out.old.items ++ list) }
+    // The list keeps to the limits of a dump.
     ensures few { length (bytes_of dir_kinds mapping_list_kind (mapping_list directory.now)) ≤ dump_limits.bytes }
+    // What stood there stays.
     ensures begins { StartsWith out.new.items out.old.items }
 {
     let rows = directory.rows();

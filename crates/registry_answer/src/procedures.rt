@@ -59,7 +59,9 @@ pub fn push_set_port<S: BuildHasher>(
 ) -> Result<(), NoMemory>
     ensures ok { let step = set_port directory.old m.prog m.vers m.prot m.port (owner_text owner) in
         OnOk result (Reports step xid out.old.items directory.new out.new.items) }
+    // Where memory is refused the rows stay,
     ensures err { OnErr result (directory.new ≡ directory.old) }
+    // and in either case what stood there stays.
     ensures begins { StartsWith out.new.items out.old.items }
 {
     push_false(out, xid)?;
@@ -85,7 +87,9 @@ pub fn push_unset_port<S: BuildHasher>(
 ) -> Result<(), NoMemory>
     ensures ok { let step = unset_port directory.old m.prog m.vers (owner_text owner) in
         OnOk result (Reports step xid out.old.items directory.new out.new.items) }
+    // Where memory is refused the rows stay,
     ensures err { OnErr result (directory.new ≡ directory.old) }
+    // and in either case what stood there stays.
     ensures begins { StartsWith out.new.items out.old.items }
 {
     push_false(out, xid)?;
@@ -125,7 +129,9 @@ pub fn push_set<S: BuildHasher>(
 ) -> Result<(), NoMemory>
     ensures ok { let row = row_of r.entry.prog r.entry.vers r.entry.netid.now r.entry.address.now (owner_text owner) in
         OnOk result (Reports (set directory.old row) xid out.old.items directory.new out.new.items) }
+    // Where memory is refused the rows stay,
     ensures err { OnErr result (directory.new ≡ directory.old) }
+    // and in either case what stood there stays.
     ensures begins { StartsWith out.new.items out.old.items }
 {
     push_false(out, xid)?;
@@ -151,7 +157,9 @@ pub fn push_unset<S: BuildHasher>(
 ) -> Result<(), NoMemory>
     ensures ok { let step = unset directory.old r.entry.prog r.entry.vers r.entry.netid.now (owner_text owner) in
         OnOk result (Reports step xid out.old.items directory.new out.new.items) }
+    // Where memory is refused the rows stay,
     ensures err { OnErr result (directory.new ≡ directory.old) }
+    // and in either case what stood there stays.
     ensures begins { StartsWith out.new.items out.old.items }
 {
     push_false(out, xid)?;
@@ -174,7 +182,9 @@ pub fn push_address<S: BuildHasher>(
 ) -> Result<(), NoMemory>
     ensures ok { let address = getaddr directory.now r.entry.prog r.entry.vers (netid_of transport) in
         OnOk result (out.new.items ≡ out.old.items ++ (accepted_head xid success ++ text address)) }
+    // An address has at most 256 bytes.
     ensures few { length (getaddr directory.now r.entry.prog r.entry.vers (netid_of transport)) ≤ 256 }
+    // What stood there stays.
     ensures begins { StartsWith out.new.items out.old.items }
 {
     let address = directory.getaddr(r.prog, r.vers, transport.netid());
@@ -195,7 +205,9 @@ pub fn push_version_address<S: BuildHasher>(
 ) -> Result<(), NoMemory>
     ensures ok { let address = getversaddr directory.now r.entry.prog r.entry.vers (netid_of transport) in
         OnOk result (out.new.items ≡ out.old.items ++ (accepted_head xid success ++ text address)) }
+    // An address has at most 256 bytes.
     ensures few { length (getversaddr directory.now r.entry.prog r.entry.vers (netid_of transport)) ≤ 256 }
+    // What stood there stays.
     ensures begins { StartsWith out.new.items out.old.items }
 {
     let address = directory.getversaddr(r.prog, r.vers, transport.netid());

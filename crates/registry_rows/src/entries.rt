@@ -17,7 +17,9 @@ use std::hash::BuildHasher;
 /// version and netid is there twice.
 pub fn count<S: BuildHasher>(rows: &IndexMap<Key, Row, S>) -> u32
     requires { AreEntries rows.now.entries }
+    // How many rows the list has,
     ensures value { result ≡ length (plain_rows rows.now.entries) }
+    // 1024 at most.
     ensures few { result ≤ 1024 }
     // The rows are those of a registry.
     ensures registry { IsRegistry (plain_rows rows.now.entries) }

@@ -77,7 +77,9 @@ impl<S: BuildHasher> Directory<S> {
     /// keeps to its bounds, no program, version and netid is there twice, and as a dump they fit the kinds at places 14
     /// and 18 of `directory_schema` within depth 4096 and 16777216 bytes.
     pub fn rows(&self) -> u32
+        // How many rows the list has,
         ensures value { result ≡ length self.now }
+        // 1024 at most.
         ensures few { result ≤ 1024 }
         // They are the rows of a registry,
         ensures registry { IsRegistry self.now }
@@ -139,6 +141,7 @@ impl<S: BuildHasher> Directory<S> {
     pub fn getaddr(&self, prog: u32, vers: u32, netid: &[u8]) -> &[u8]
         // It is the address that the definition finds,
         ensures value { result.now ≡ looking.getaddr self.now prog vers netid.now }
+        // has at most 256 bytes,
         ensures short { length result.now ≤ 256 }
         // and empty exactly where the program has no row over the transport.
         ensures empty { (result.now ≡ []) ↔ (list_any (looking.is_over prog netid.now) self.now ≡ false) }
@@ -152,6 +155,7 @@ impl<S: BuildHasher> Directory<S> {
     pub fn getversaddr(&self, prog: u32, vers: u32, netid: &[u8]) -> &[u8]
         // It is the address that the definition finds,
         ensures value { result.now ≡ step.getversaddr self.now prog vers netid.now }
+        // has at most 256 bytes,
         ensures short { length result.now ≤ 256 }
         // and empty exactly where the version has no row.
         ensures empty { (result.now ≡ []) ↔ (step.row_at self.now prog vers netid.now ≡ None) }

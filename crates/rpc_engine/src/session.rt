@@ -56,10 +56,13 @@ impl Session {
         message: &[u8],
         writer: &mut W,
     ) -> Result<(), ServeFault>
+        // The reply went out, and rows and counts are those after the record.
         ensures ok { OnOk result (Does (netid_of transport) directory.old directory.new self.old self.new
             (message.now ∷ []) (W.taken writer.old) (W.taken writer.new)) }
+        // A write failed inside the reply; the rows are those after the record.
         ensures cut { IfErr result (λ f. LosesBy (netid_of transport) directory.old directory.new self.old
             (message.now ∷ []) (W.taken writer.old) (W.taken writer.new) f) }
+        // No write failed where the answer is Ok, and else one.
         ensures none_failed { OnOk result (Counts 0 (W.failures writer.old) (W.failures writer.new)) }
         ensures one_failed { OnErr result (Counts 1 (W.failures writer.old) (W.failures writer.new)) }
     {

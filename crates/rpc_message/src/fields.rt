@@ -80,7 +80,9 @@ pub fn push_opaque(out: &mut Vec<u8>, bytes: &[u8]) -> Result<(), NoMemory>
 pub fn push_auth(out: &mut Vec<u8>, a: &OpaqueAuth) -> Result<(), NoMemory>
     requires { length a.now.body.items ≤ 400 }
     ensures ok { OnOk result (out.new.items ≡ out.old.items ++ auth (auth_view a.now)) }
+    // A body has at most 400 bytes.
     ensures fits { OnOk result (IsAuth (auth_view a.now)) }
+    // In either case what stood there stays.
     ensures begins { StartsWith out.new.items out.old.items }
 {
     push_word(out, a.flavor)?;

@@ -5,6 +5,7 @@ ghost use Rattle.rpc_record.specs.Reading.{TooLongEnds, OneTooLong, WholeIsLonge
 
 /// Normalising twice gives what normalising once does, and bytes have one reading as records.
 pub fn twice_as_once()
+    // The normal form of a normal form is itself.
     ensures twice { TwiceAsOnce }
     // Whole records and something unfinished are read in one way.
     ensures reading { OneReading }

@@ -27,6 +27,7 @@ pub fn write_marked<W: Sink>(writer: &mut W, content: &[u8]) -> Result<(), Cut>
     ensures ok { OnOk result (Appends (W.taken writer.old) (W.taken writer.new) (fragment true content.now)) }
     ensures cut { IfErr result (λ e. (e.written < length (fragment true content.now))
         × Appends (W.taken writer.old) (W.taken writer.new) (take e.written (fragment true content.now))) }
+    // No write failed where the answer is Ok, and else one.
     ensures none_failed { OnOk result (Counts 0 (W.failures writer.old) (W.failures writer.new)) }
     ensures one_failed { OnErr result (Counts 1 (W.failures writer.old) (W.failures writer.new)) }
 {

@@ -41,10 +41,14 @@ impl Outbox {
 
     /// Writes what waits.
     pub fn flush<W: Sink>(&mut self, writer: &mut W) -> Result<(), RecordFault>
+        // All that waited went out, and nothing waits.
         ensures ok { OnOk result (Sends self.old self.new (W.taken writer.old) (W.taken writer.new) []) }
         ensures empty { OnOk result (self.new.used ≡ 0) }
+        // No record is counted.
         ensures records { self.new.count.records ≡ self.old.count.records }
+        // A front of what waited went out, as the fault counts.
         ensures cut { IfErr result (λ f. SendingCut self.old (W.taken writer.old) (W.taken writer.new) [] f) }
+        // No write failed where the answer is Ok, and else one.
         ensures none_failed { OnOk result (Counts 0 (W.failures writer.old) (W.failures writer.new)) }
         ensures one_failed { OnErr result (Counts 1 (W.failures writer.old) (W.failures writer.new)) }
     {
@@ -62,9 +66,13 @@ impl Outbox {
 
     /// Hands over bytes, which go out after those that wait: together with them where there is space.
     pub fn put<W: Sink>(&mut self, writer: &mut W, bytes: &[u8]) -> Result<(), RecordFault>
+        // What waited and these bytes went out or wait, in this order.
         ensures ok { OnOk result (Sends self.old self.new (W.taken writer.old) (W.taken writer.new) bytes.now) }
+        // No record is counted.
         ensures records { self.new.count.records ≡ self.old.count.records }
+        // A front of what waited and of these bytes went out, as the fault counts.
         ensures cut { IfErr result (λ f. SendingCut self.old (W.taken writer.old) (W.taken writer.new) bytes.now f) }
+        // No write failed where the answer is Ok, and else one.
         ensures none_failed { OnOk result (Counts 0 (W.failures writer.old) (W.failures writer.new)) }
         ensures one_failed { OnErr result (Counts 1 (W.failures writer.old) (W.failures writer.new)) }
     {
@@ -92,11 +100,15 @@ impl Outbox {
     /// Hands over a record as one last fragment, and counts it.
     pub fn put_record<W: Sink>(&mut self, writer: &mut W, content: &[u8]) -> Result<(), RecordFault>
         requires { length content.now < 2 ^ 31 }
+        // What waited and the record went out or wait, in this order.
         ensures ok { OnOk result
             (Sends self.old self.new (W.taken writer.old) (W.taken writer.new) (fragment true content.now)) }
+        // One more record is counted, 2^64 - 1 at most.
         ensures records { OnOk result (self.new.count.records ≡ capped (self.old.count.records + 1)) }
+        // A front of what waited and of the record went out, as the fault counts.
         ensures cut { IfErr result
             (λ f. SendingCut self.old (W.taken writer.old) (W.taken writer.new) (fragment true content.now) f) }
+        // No write failed where the answer is Ok, and else one.
         ensures none_failed { OnOk result (Counts 0 (W.failures writer.old) (W.failures writer.new)) }
         ensures one_failed { OnErr result (Counts 1 (W.failures writer.old) (W.failures writer.new)) }
     {

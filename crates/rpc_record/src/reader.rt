@@ -39,6 +39,7 @@ impl RecordReader {
         ensures limit { limit_of result ≡ limit }
         // It is between two records, has taken no bytes and handed out no records.
         ensures taking { IsTaking result }
+        // So it stands for no bytes and no records.
         ensures represents { Represents result [] [] }
     {
         RecordReader {

@@ -11,8 +11,11 @@ use super::place::{Begun, Fragment, Place};
 
 /// The place after the next byte of a header. There is space for so many bytes in the record.
 pub fn after_header(at: u64, begun: Begun, byte: u8, taken: u64, space: u32) -> Place
+    // It is no refusal, or `TooLong`.
     ensures stepped { IsSteppedAt result }
+    // No more content is to come than there is space for.
     ensures left { left_of result ≤ space }
+    // It stands for the records and the bytes before, and this byte.
     ensures represents { (limit : ℕ) (rs : List (List ℕ)) (content bytes : List ℕ)
         → length content + space ≡ limit
         → InHeader limit rs content at (begun_bytes begun) bytes
@@ -39,8 +42,11 @@ pub fn after_header(at: u64, begun: Begun, byte: u8, taken: u64, space: u32) -> 
 /// The place after a whole header. There is space for so many bytes in the record.
 pub fn after_heading(at: u64, heading: Heading, taken: u64, space: u32) -> Place
     requires { heading.count < 2 ^ 31 }
+    // It is no refusal, or `TooLong`.
     ensures stepped { IsSteppedAt result }
+    // No more content is to come than there is space for.
     ensures left { left_of result ≤ space }
+    // It stands for the records and the bytes before, and this header.
     ensures represents { (limit : ℕ) (rs : List (List ℕ)) (content before : List ℕ)
         → length content + space ≡ limit
         → Upto limit rs content before
@@ -84,8 +90,11 @@ fn after_fragment(last: bool, taken: u64) -> Place
 /// The place after n more bytes of a fragment.
 pub fn after_content(at_work: Fragment, n: u32, taken: u64) -> Place
     requires { n ≤ at_work.left }
+    // It is no refusal, or `TooLong`.
     ensures stepped { IsSteppedAt result }
+    // At most what was left of the fragment, less these bytes, is to come.
     ensures left { left_of result + n ≤ at_work.left }
+    // It stands for the records and the bytes before, and these.
     ensures represents { (limit : ℕ) (rs : List (List ℕ)) (content bytes more : List ℕ)
         → length more ≡ n
         → InContent limit rs content at_work.last at_work.left bytes

@@ -38,6 +38,7 @@ impl RecordStream {
     /// The records of a source, of at most `limit` bytes each, before the first read.
     pub fn start(alloc: Global, limit: u32) -> Self
         requires { limit ≤ 2147483647 }
+        // Records can be asked for, and no read was made.
         ensures open { IsOpen result }
         ensures unread { reads_of result ≡ 0 }
         // Nothing was read of the source and no record handed out.
@@ -57,6 +58,7 @@ impl RecordStream {
     /// memory is refused for a record.
     pub fn next_held(&mut self) -> Result<Option<Vec<u8>>, RecordFault>
         requires { IsOpen self.old }
+        // After a record, or none, more can be asked for.
         ensures open { OnOk result (IsOpen self.new) }
         // No read is made.
         ensures reads { reads_of self.new ≡ reads_of self.old }

@@ -22,8 +22,11 @@ pub struct Gather<'w, W> {
 impl<'w, W: Sink> Gather<'w, W> {
     /// Writes what waits.
     pub fn flush(&mut self) -> Result<(), NotPut>
+        // The sink is the same one.
         ensures same_reference { self.new.sink.ghost_name ≡ self.old.sink.ghost_name }
+        // After Ok nothing waits.
         ensures empty { MatchResult result (λ _. self.new.filled ≡ 0) (λ _. ⊤) }
+        // What waited went out, or a front of it, as is counted.
         ensures put { MatchResult result
             (λ _. Gathers (gathering (W.taken self.old.sink.now) (W.failures self.old.sink.now) self.old.array
             self.old.filled self.old.written)
@@ -52,9 +55,11 @@ impl<'w, W: Sink> Gather<'w, W> {
     /// Adds bytes to those that wait.
     pub fn gather(&mut self, bytes: &[u8])
         requires { self.old.filled + length bytes.now ≤ 4096 }
+        // The sink is the same one, nothing was written to it, and the count stays.
         ensures same_reference { self.new.sink.ghost_name ≡ self.old.sink.ghost_name }
         ensures sink { self.new.sink.now ≡ self.old.sink.now }
         ensures written { self.new.written ≡ self.old.written }
+        // The bytes wait behind those that waited.
         ensures filled { self.new.filled ≡ self.old.filled + length bytes.now }
         ensures array { take self.new.filled self.new.array ≡ take self.old.filled self.old.array ++ bytes.now }
     {

@@ -69,6 +69,7 @@ pub fn read_past<R: Source>(
 ) -> Result<Vec<u8>, InputFault>
     // What is answered are the next bytes: all of them, or more than enough.
     ensures read { ReadsPast enough (R.left source.old) (R.left source.new) result }
+    // So many reads are made at most.
     ensures reads { CountsAtMost 1048576 (R.reads source.old) (R.reads source.new) }
     // A read failed exactly where the fault is `Read`.
     ensures failures { FailsByRead (R.failures source.old) (R.failures source.new) result }

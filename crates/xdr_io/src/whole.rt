@@ -21,6 +21,7 @@ pub fn write_whole<W: Sink>(sink: &mut W, bytes: &[u8]) -> Result<(), Cut>
     // or the first of them, fewer than all.
     ensures cut { IfErr result (λ e. (e.written < length bytes.now)
         × Appends (W.taken sink.old) (W.taken sink.new) (take e.written bytes.now)) }
+    // No write failed where the answer is Ok, and else one.
     ensures none_failed { OnOk result (Counts 0 (W.failures sink.old) (W.failures sink.new)) }
     ensures one_failed { OnErr result (Counts 1 (W.failures sink.old) (W.failures sink.new)) }
 {

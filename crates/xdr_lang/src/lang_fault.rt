@@ -59,6 +59,7 @@ pub fn lang_fault(text: &[u8], fault: Fault) -> LangFault
     ensures memory { fault ≡ Fault.NoMemory → result.number ≡ 13 }
     ensures from_1 { 1 ≤ result.number }
     ensures to_13 { result.number ≤ 13 }
+    // Number 10 has the number of the schema's fault, and else 0 stands there.
     ensures inner { IsInner result.number result.inner }
     ensures line { 1 ≤ result.line }
     ensures column { 1 ≤ result.column }

@@ -23,9 +23,12 @@ pub fn whole_parts<'a>(
     lists: bool,
 ) -> Result<(usize, Taken<'a>), DecodeFault>
     requires { kind.place < length schema.now.kinds }
+    // The bytes begin with a value, and these are all its parts.
     ensures whole { IfOk result (λ r. (v : Tree) × Outcome schema.now.kinds kind.place limits input.now (Whole v r.0)
         × HasAll input.now (entries schema.now.kinds kind.place v) r.1) }
+    // The parts are listed, or only counted, as was asked.
     ensures lists { IfOk result (λ r. r.1.lists ≡ lists) }
+    // The fault is the outcome of the bytes, or memory was refused.
     ensures fault { IfErr result (λ f. EndsWith schema.now.kinds kind.place limits input.now f) }
 {
     let _in_range = limits.depth();

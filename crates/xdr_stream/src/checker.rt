@@ -22,8 +22,11 @@ pub fn check<'s>(
     limits: Limits,
 ) -> Reader<'s, Nothing>
     requires { kind.place < length schema.now.kinds }
+    // It was given nothing,
     ensures represents { Checks result [] }
+    // is one of this schema, kind and limits,
     ensures settings { IsStarted result schema.now kind limits }
+    // and takes bytes.
     ensures open { GoesOn result.state }
 {
     fresh(alloc, schema, kind, limits, Nothing)
@@ -35,10 +38,14 @@ pub fn check<'s>(
 /// The reader's fields stand for the bytes that it was given.
 pub fn finish_check<'s>(reader: Reader<'s, Nothing>) -> Result<u32, DecodeFault>
     requires given { ∥ ((b : List ℕ) × Checks reader b) ∥₁ }
+    // It answers the outcome of all bytes given.
     ensures answer { (b : List ℕ) → Checks reader.entry b
         → Counts reader.entry.schema.now.kinds reader.entry.kind.place reader.entry.limits b result }
+    // A fault of an earlier call comes again.
     ensures for_ever { (f : DecodeFault) → reader.entry.state ≡ Failed f → result ≡ Err f }
+    // A value that is whole is accepted.
     ensures whole { reader.entry.state ≡ Finished → IsOk result }
+    // It takes no memory: only an earlier call's want of it comes again.
     ensures granted { IfErr result (λ f. f.why ≡ NoMemory → reader.entry.state ≡ Failed f) }
 {
     let limits = reader.limits;

@@ -22,8 +22,11 @@ pub fn start<'s>(
     limits: Limits,
 ) -> Reader<'s, Values>
     requires { kind.place < length schema.now.kinds }
+    // It was given nothing,
     ensures represents { Represents result [] }
+    // is one of this schema, kind and limits,
     ensures settings { IsStarted result schema.now kind limits }
+    // and takes bytes.
     ensures open { GoesOn result.state }
 {
     fresh(alloc, schema, kind, limits, Values::new(alloc))
@@ -34,10 +37,14 @@ pub fn start<'s>(
 /// The reader's fields stand for the bytes that it was given.
 pub fn finish<'s>(reader: Reader<'s, Values>) -> Result<Value, DecodeFault>
     requires given { ∥ ((b : List ℕ) × Represents reader b) ∥₁ }
+    // It answers the outcome of all bytes given.
     ensures answer { (b : List ℕ) → Represents reader.entry b
         → Finishes reader.entry.schema.now.kinds reader.entry.kind.place reader.entry.limits b result }
+    // A fault of an earlier call comes again.
     ensures for_ever { (f : DecodeFault) → reader.entry.state ≡ Failed f → result ≡ Err f }
+    // A value that is whole is handed out.
     ensures whole { reader.entry.state ≡ Finished → IsOk result }
+    // It takes no memory: only an earlier call's want of it comes again.
     ensures granted { IfErr result (λ f. f.why ≡ NoMemory → reader.entry.state ≡ Failed f) }
 {
     let schema = reader.schema;
@@ -85,7 +92,9 @@ pub(crate) fn finish_empty(
     limits: Limits,
 ) -> Result<Value, DecodeFault>
     requires { kind.place < length schema.now.kinds }
+    // It answers the outcome of all bytes given.
     ensures answer { Finishes schema.now.kinds kind.place limits [] result }
+    // It takes no memory: only an earlier call's want of it comes again.
     ensures granted { IfErr result (λ f. f.why ≡ NoMemory → ⊥) }
 {
     let _known = schema.len();

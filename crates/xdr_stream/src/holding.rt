@@ -65,13 +65,18 @@ fn nodes_of(reader: &Reader<'_, Values>) -> usize
 
 /// How much a decoder holds: after `Done` the value's nodes and content, after a refusal nothing. It takes no memory.
 pub fn held_by_decoder(reader: &Reader<'_, Values>) -> Held
+    // These are the counts of frames, nodes, bytes and pending bytes.
     ensures counts { (b : List ℕ) → Represents reader.now b → Counts reader.now result }
+    // They keep to the limits and to what was given.
     ensures bounds { (b : List ℕ) → Represents reader.now b
         → IsWithin reader.now.schema.now.kinds reader.now.limits b result }
+    // While bytes are taken, those of a unit that is not whole are pending.
     ensures pending { (b : List ℕ) → Represents reader.now b
         → GoesOn reader.now.state → result.pending ≡ length b % 4 }
+    // Where a unit is needed the nodes and the content are those that the whole units bring.
     ensures due { (b : List ℕ) → IsWaiting reader.now.state → Represents reader.now b
         → IsDue reader.now.schema.now.kinds reader.now.kind.place b result }
+    // After the last byte they are the value's nodes and content.
     ensures whole { (b : List ℕ) → reader.now.state ≡ Finished → Represents reader.now b
         → IsWhole reader.now.schema.now.kinds reader.now.kind.place reader.now.limits b result }
 {
@@ -87,9 +92,12 @@ pub fn held_by_decoder(reader: &Reader<'_, Values>) -> Held
 
 /// How much a checker holds: no node and no content. It takes no memory.
 pub fn held_by_checker(reader: &Reader<'_, Nothing>) -> Held
+    // No node and no content is held.
     ensures counts { (b : List ℕ) → Checks reader.now b → IsCount reader.now 0 0 result }
+    // The frames keep to the limits and to what was given.
     ensures bounds { (b : List ℕ) → Checks reader.now b
         → IsWithin reader.now.schema.now.kinds reader.now.limits b result }
+    // While bytes are taken, those of a unit that is not whole are pending.
     ensures pending { (b : List ℕ) → Checks reader.now b
         → GoesOn reader.now.state → result.pending ≡ length b % 4 }
 {

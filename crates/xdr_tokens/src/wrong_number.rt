@@ -9,6 +9,7 @@ impl Wrong {
     pub fn number(self) -> u8
         // Each wrong has a number of its own.
         ensures number { result ≡ wrong_number self }
+        // It is 1 to 12.
         ensures from_1 { 1 ≤ result }
         ensures to_12 { result ≤ 12 }
     {

@@ -94,6 +94,7 @@ pub fn first_content(bytes: &[u8], size: u32) -> Result<(&[u8], &[u8]), NoConten
 pub fn push_word(out: &mut Vec<u8>, number: u32) -> Result<(), NoMemory>
     // The number's bytes stand behind what stood there,
     ensures ok { OnOk result (out.new.items ≡ out.old.items ++ word number) }
+    // A number of 32 bits is a unit,
     ensures fits { IsWord number }
     // and after an error what stood there.
     ensures retained { OnErr result (out.new.items ≡ out.old.items) }
