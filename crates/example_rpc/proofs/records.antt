@@ -1,5 +1,3 @@
-pub mod Counted
-pub mod Cut
 pub mod Refused
 pub mod Handed
 pub mod Limited

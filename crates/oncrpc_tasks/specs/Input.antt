@@ -5,6 +5,7 @@ use Rattle.hex.specs.Hex.{decode_of}
 use Rattle.oncrpc_tasks.specs.declared.given.Given.{Given}
 use Rattle.oncrpc_tasks.specs.declared.given.Given.TheVariants as given
 use Rattle.oncrpc_tasks.specs.Hexadecimal.{digits, IsBadHex}
+use Rattle.oncrpc_tasks.specs.declared.hexadecimal.TheConstants.{MOST_TEXT}
 
 -- The bytes begin the input, and are all of it where they are no more than enough.
 abbrev pub BeginsInput : ℕ → List ℕ → List ℕ → Type 0
@@ -12,15 +13,15 @@ BeginsInput enough input bytes = (rest : List ℕ) × (input ≡ bytes ++ rest) 
 
 -- what a text of hexadecimal gives; too long is decided first
 abbrev pub TextGives : List ℕ → Given → Type 0
-TextGives text given.HexTooLong = 1048576 < length text
-TextGives text given.BadHex = (length text ≤ 1048576) × IsBadHex text
-TextGives text (given.Bytes v) = (length text ≤ 1048576) × (decode_of (digits text) ≡ Ok v.items)
+TextGives text given.HexTooLong = MOST_TEXT < length text
+TextGives text given.BadHex = (length text ≤ MOST_TEXT) × IsBadHex text
+TextGives text (given.Bytes v) = (length text ≤ MOST_TEXT) × (decode_of (digits text) ≡ Ok v.items)
 
 -- what the input gives, where its bytes are reported
 abbrev pub InputGives : Option (List ℕ) → Given → Type 0
 InputGives None g = ⊤
 InputGives (Some text) g = TextGives text g
 
--- how many bytes are read at most: a page of 4096 past the limit, which for a text of hexadecimal is 1048576
+-- how many bytes are read at most: a page of 4096 past the limit, which for a text of hexadecimal is MOST_TEXT
 abbrev pub most_read : Bool → ℕ → ℕ
-most_read hex enough = (if hex then 1048576 else enough) + 4096
+most_read hex enough = (if hex then MOST_TEXT else enough) + 4096

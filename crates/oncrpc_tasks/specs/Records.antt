@@ -11,6 +11,7 @@ use Rattle.oncrpc_answers.specs.declared.failure.Failure.TheVariants as failure
 use Rattle.oncrpc_tasks.specs.declared.records.Marking.{Marking}
 use Rattle.oncrpc_tasks.specs.declared.records.Marking.TheVariants as marking
 use Rattle.oncrpc_tasks.specs.Hexadecimal.{digits, IsBadHex}
+use Rattle.oncrpc_tasks.specs.declared.hexadecimal.TheConstants.{MOST_TEXT}
 
 -- the line of a refusal, which ends with a line feed
 abbrev pub refusal_line : Marking → List ℕ
@@ -40,15 +41,15 @@ pub record MarksSpelled (limit : ℕ) (text : List ℕ) (taken taken' : Option (
   pub bytes : List ℕ
   pub rest : Option (List ℕ)
   pub form : List ℕ
-  pub short : length text ≤ 1048576
+  pub short : length text ≤ MOST_TEXT
   pub spelled : decode_of (digits text) ≡ Ok bytes
   pub marks : Marks limit (Some bytes) rest (Some []) (Some form) m
   pub written : Appends taken taken' (encode_lower form ++ 10 ∷ [])
 
 -- what a text of hexadecimal gives; where it spells no bytes nothing is written
 abbrev pub MarksText : ℕ → List ℕ → (taken taken' : Option (List ℕ)) → Marking → Type 0
-MarksText limit text taken taken' marking.HexTooLong = (1048576 < length text) × Appends taken taken' []
-MarksText limit text taken taken' marking.BadHex = (length text ≤ 1048576) × IsBadHex text × Appends taken taken' []
+MarksText limit text taken taken' marking.HexTooLong = (MOST_TEXT < length text) × Appends taken taken' []
+MarksText limit text taken taken' marking.BadHex = (length text ≤ MOST_TEXT) × IsBadHex text × Appends taken taken' []
 MarksText limit text taken taken' m = MarksSpelled limit text taken taken' m
 
 abbrev pub MarksAsText : ℕ → (left taken taken' : Option (List ℕ)) → Marking → Type 0

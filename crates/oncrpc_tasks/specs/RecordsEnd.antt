@@ -1,6 +1,6 @@
 -- How writing a stream of records in its normal form ends (RFC 5531 section 11).
-use Rattle.std.specs.Prelude.{◌≡◌, ◌⊎◌, ℕ, ◌≤◌, ◌<◌, Bool, true, false, List, ◌++◌, ◌∷◌, [], length, take, Option}
-use Rattle.std.specs.Prelude.{None, Some, Ok, ⊤}
+use Rattle.std.specs.Prelude.{◌≡◌, ◌⊎◌, ℕ, ◌≤◌, ◌<◌, ◌^◌, Bool, true, false, List, ◌++◌, ◌∷◌, [], length}
+use Rattle.std.specs.Prelude.{take, Option, None, Some, Ok, ⊤}
 use Rattle.std.specs.Io.KnownBytes.{Appends}
 use Rattle.hex.specs.Hex.{decode_of, encode_lower}
 use Rattle.xdr_io.specs.Reported.{Counts, CountsAtMost, MovesAtMost}
@@ -10,6 +10,7 @@ use Rattle.oncrpc_answers.specs.declared.failure.Failure.TheVariants as failure
 use Rattle.oncrpc_tasks.specs.declared.records.Marking.{Marking}
 use Rattle.oncrpc_tasks.specs.Devices.{Reports, Fails}
 use Rattle.oncrpc_tasks.specs.Hexadecimal.{digits}
+use Rattle.oncrpc_tasks.specs.declared.hexadecimal.TheConstants.{MOST_TEXT}
 use Rattle.oncrpc_tasks.specs.Input.{most_read}
 use Rattle.oncrpc_tasks.specs.Records.{Done, Marks, RefusedBytes, StopsFor}
 
@@ -20,7 +21,7 @@ pub record FormInPart (limit : ℕ) (text : List ℕ) (taken taken' : Option (Li
   pub rest : Option (List ℕ)
   pub form : List ℕ
   pub count : ℕ
-  pub short : length text ≤ 1048576
+  pub short : length text ≤ MOST_TEXT
   pub spelled : decode_of (digits text) ≡ Ok bytes
   pub marks : Marks limit (Some bytes) rest (Some []) (Some form) marking
   pub cut : count < length (encode_lower form ++ 10 ∷ [])
@@ -66,7 +67,7 @@ pub record RecordsEnd {I O F : Type 0} (limit : ℕ) (hex : Bool) (reports : Rep
   pub unfailed : status ≤ 1 → Counts 0 (reports.failures input) (reports.failures input')
   pub unlost : status ≤ 1 → Counts 0 (reports.lost output) (reports.lost output')
   pub silent : status ≡ 0 → faults' ≡ faults
-  pub unasked : status ≡ 2 → (2147483647 < limit) × (input' ≡ input) × (output' ≡ output)
+  pub unasked : status ≡ 2 → (2 ^ 31 ≤ limit) × (input' ≡ input) × (output' ≡ output)
   pub device : status ≡ 3 → Counts 1 (reports.failures input) (reports.failures input')
       ⊎ (Counts 1 (reports.lost output) (reports.lost output')
       ⊎ Counts MOST_READS (reports.reads input) (reports.reads input'))

@@ -15,6 +15,7 @@ use Rattle.oncrpc_tasks.specs.declared.question.Question as declared
 use Rattle.oncrpc_answers.specs.declared.answer.Answer.{Answer}
 use Rattle.oncrpc_answers.specs.declared.answer.Answer.TheVariants as answer
 use Rattle.oncrpc_tasks.specs.Hexadecimal.{digits, IsBadHex}
+use Rattle.oncrpc_tasks.specs.declared.hexadecimal.TheConstants.{MOST_TEXT}
 
 -- what is asked: the kinds, the place of the value's kind, the limits, and whether the value's lines are to be shown
 pub record Question : Type 0 where
@@ -75,10 +76,10 @@ IsRight q bytes _ shown = ⊥
 
 -- The answer is right for a text of hexadecimal. Too long is decided first, white space counted.
 abbrev pub IsRightForText : Question → List ℕ → Answer → (shown : List ℕ) → Type 0
-IsRightForText q text answer.HexTooLong shown = (1048576 < length text) × (shown ≡ [])
-IsRightForText q text answer.BadHex shown = (length text ≤ 1048576) × IsBadHex text × (shown ≡ [])
+IsRightForText q text answer.HexTooLong shown = (MOST_TEXT < length text) × (shown ≡ [])
+IsRightForText q text answer.BadHex shown = (length text ≤ MOST_TEXT) × IsBadHex text × (shown ≡ [])
 IsRightForText q text a shown =
-    (length text ≤ 1048576) × ((bytes : List ℕ) × (decode_of (digits text) ≡ Ok bytes) × IsRight q bytes a shown)
+    (length text ≤ MOST_TEXT) × ((bytes : List ℕ) × (decode_of (digits text) ≡ Ok bytes) × IsRight q bytes a shown)
 
 -- the answer is right for an input, read as hexadecimal or as it is, where its bytes are reported
 abbrev pub IsRightFor : Question → Bool → Option (List ℕ) → Answer → (shown : List ℕ) → Type 0

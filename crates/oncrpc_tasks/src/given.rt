@@ -3,6 +3,7 @@ ghost use Rattle.std.specs.Prelude.{◌≡◌, ◌+◌, IfOk, OnOk, IsErrOf};
 ghost use Rattle.xdr_io.specs.Reported.{Counts, CountsAtMost, MovesAtMost};
 ghost use Rattle.xdr_io.specs.declared.input.TheConstants.{MOST_READS};
 ghost use Rattle.oncrpc_tasks.specs.Input.{InputGives};
+ghost use Rattle.oncrpc_tasks.specs.declared.hexadecimal.TheConstants.{MOST_TEXT};
 
 use super::hexadecimal::{MOST_TEXT, bytes_of_text};
 use oncrpc_answers::Failure;
@@ -35,7 +36,7 @@ pub fn given_over<I: Source>(alloc: Global, input: &mut I) -> Result<Given, Fail
     // No more than the most reads are made,
     ensures reads { CountsAtMost MOST_READS (I.reads input.old) (I.reads input.new) }
     // and at most a page more than the limit on a text is read.
-    ensures moved { MovesAtMost (1048576 + 4096) (I.left input.old) (I.left input.new) }
+    ensures moved { MovesAtMost (MOST_TEXT + 4096) (I.left input.old) (I.left input.new) }
 {
     let text = read_past(alloc, input, MOST_TEXT)?;
     if text.len() > MOST_TEXT {

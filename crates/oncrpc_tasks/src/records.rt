@@ -1,5 +1,5 @@
 //! Writes a stream of records in its normal form.
-ghost use Rattle.std.specs.Prelude.{◌≡◌, ◌≢◌, ◌⊎◌, ◌↔◌, ◌<◌, ◌≤◌, [], true, false, Option, List, ℕ, Some, IfOk, IfErr};
+ghost use Rattle.std.specs.Prelude.{◌≡◌, ◌≢◌, ◌⊎◌, ◌↔◌, ◌≤◌, ◌^◌, [], true, false, Option, List, ℕ, Some, IfOk, IfErr};
 ghost use Rattle.std.specs.Prelude.{IsErrOf, string_bytes};
 ghost use Rattle.xdr_io.specs.Reported.{CountsAtMost, MovesAtMost};
 ghost use Rattle.xdr_io.specs.declared.input.TheConstants.{MOST_READS};
@@ -49,7 +49,7 @@ pub fn records_over<I: Source, O: Sink, F: Sink>(
         (record { left = I.left; reads = I.reads; failures = I.failures; taken = O.taken; lost = O.failures })
         input.old input.new output.old output.new faults.old faults.new result }
     // and is 2 exactly where the limit is above 2^31 - 1.
-    ensures limits { (result ≡ 2) ↔ (2147483647 < limit) }
+    ensures limits { (result ≡ 2) ↔ (2 ^ 31 ≤ limit) }
 {
     if limit > MOST_LIMIT {
         let _ = write_whole(faults, b"limits refused\n");

@@ -32,5 +32,5 @@ pub record EndsByDevice {I O R : Type 0} (reports : Reports I O) (input input' :
   pub unfailed : OnOk result (Counts 0 (reports.failures input) (reports.failures input'))
   pub unlost : OnOk result (Counts 0 (reports.lost output) (reports.lost output'))
   pub read : IsErrOf result failure.Read → Counts 1 (reports.failures input) (reports.failures input')
-  pub many : IsErrOf result failure.TooManyReads → Counts 1048576 (reports.reads input) (reports.reads input')
+  pub many : IsErrOf result failure.TooManyReads → Counts MOST_READS (reports.reads input) (reports.reads input')
   pub write : IsErrOf result failure.Write → Counts 1 (reports.lost output) (reports.lost output')

@@ -1,6 +1,0 @@
-use Rattle.rpc_message.specs.Message.{BadCred}
-use Rattle.example_rpc.proofs.Reported.{missing_credential}
-use Rattle.example_rpc.proofs.messages.reports_the_missing_credential.Goals as goal
-
-pub returns : goal.returns
-returns c = c.read_call.ensures.only (BadCred 1) (missing_credential c.args.bytes.now c.requires)

@@ -1,6 +1,0 @@
-use Rattle.rpc_message.specs.Message.{BadVerf}
-use Rattle.example_rpc.proofs.Reported.{missing_verifier}
-use Rattle.example_rpc.proofs.messages.reports_the_missing_verifier.Goals as goal
-
-pub returns : goal.returns
-returns c = c.read_call.ensures.only (BadVerf 1) (missing_verifier c.args.bytes.now c.requires)
