@@ -4,14 +4,13 @@ ghost use Rattle.std.specs.Prelude.{IfOk, OnOk, MatchOption};
 ghost use Rattle.xdr_types.specs.Kinds.{kind_at};
 ghost use Rattle.xdr_types.specs.KindViews.{kind_view};
 ghost use Rattle.xdr_types.specs.Tree.{Tree};
-ghost use Rattle.xdr_types.specs.Fits.{parts};
 ghost use Rattle.xdr_types.specs.Layout.{content, entry, entries, of_length};
 ghost use Rattle.xdr_units.specs.Numbers.{num4, gap};
-ghost use Rattle.xdr_laws.specs.Owed.{lead_of, HasUnit, IsSilent, silent_head};
+ghost use Rattle.xdr_laws.specs.Owed.{lead_of, HasUnit};
 ghost use Rattle.xdr_stream.specs.Frames.{left_of, rest_of, stack_of, onto};
 ghost use Rattle.xdr_parts.specs.Lent.{size_in, role_in};
 ghost use Rattle.xdr_parts.specs.Private.Taking.{HasAll};
-ghost use Rattle.xdr_parts.specs.Private.Walking.{part_of, Aim, HasWalked, Wrote, IsNext, IsFree, IsSpelled};
+ghost use Rattle.xdr_parts.specs.Private.Walking.{part_of, Aim, HasWalked, Wrote, IsNext, IsFree, IsGroup, IsSpelled};
 
 use crate::next::{Next, first};
 use crate::part::{Role, part_at, unit_role};
@@ -169,11 +168,7 @@ impl<'a> Walk<'a> {
         kind: &'a Kind,
         frame: Frame<'a>,
     ) -> Result<(), AllocError>
-        requires walked { (all : Aim) × HasWalked self.old all }
-        requires next { IsNext self.old next }
-        requires kind { kind_view kind.now ≡ kind_at self.old.schema.now.kinds next.kind.place }
-        requires silent { IsSilent (lead_of (kind_view kind.now)) }
-        requires frame { parts (kind_view kind.now) (silent_head (kind_view kind.now)) ≡ left_of frame }
+        requires { IsGroup self.old next (kind_view kind.now) frame }
         ensures walked { OnOk result ((all : Aim) → HasWalked self.old all → HasWalked self.new all) }
         ensures more { OnOk result (self.old.taken.parts < self.new.taken.parts) }
         ensures bytes { OnOk result (self.new.bytes.now ≡ self.old.bytes.now) }

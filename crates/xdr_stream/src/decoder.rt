@@ -1,5 +1,9 @@
 //! Bytes in pieces as a value, with no input kept but an unfinished unit.
-ghost use Rattle.std.specs.Prelude.{◌≡◌, ◌<◌, ◌≤◌, ℕ, List, [], length, take, Err, IfErr, IsOk};
+ghost use Rattle.std.specs.Prelude.{◌≡◌, ◌<◌, ◌≤◌, ℕ, List, [], ◌∷◌, length, take, Err, IfErr, IsOk, MatchOption};
+ghost use Rattle.xdr_types.specs.Tree.{Tree, nothing};
+ghost use Rattle.xdr_types.specs.View.{tree};
+ghost use Rattle.xdr_stream.specs.Trace.{level};
+ghost use Rattle.xdr_stream.specs.Values.{level_of};
 ghost use Rattle.xdr_stream.specs.Held.{GoesOn};
 ghost use Rattle.xdr_stream.specs.Finish.{Represents, Finishes, IsStarted};
 ghost use Rattle.xdr_stream.specs.declared.fault.Reason.TheVariants.{Truncated, NoMemory};
@@ -47,23 +51,44 @@ pub fn finish<'s>(reader: Reader<'s, Values>) -> Result<Value, DecodeFault>
     // It takes no memory: only an earlier call's want of it comes again.
     ensures granted { IfErr result (λ f. f.why ≡ NoMemory → reader.entry.state ≡ Failed f) }
 {
-    let schema = reader.schema;
-    let kind = reader.kind;
+    if let State::Finished = reader.state {
+        return match root_in(reader) {
+            Some(value) => Ok(value),
+            None => unreachable!(),
+        };
+    }
+    finish_early(&reader)
+}
+
+// The value of the root that a reader has made, where it has one.
+#[inline(always)]
+fn root_in(reader: Reader<'_, Values>) -> Option<Value>
+    ensures { MatchOption result ((v : Tree) → level_of reader.entry.built.work ≡ level nothing (v ∷ []) → ⊥)
+        (λ x. level_of reader.entry.built.work ≡ level nothing (tree x ∷ [])) }
+{
+    let built = reader.built;
+    root_of(built.work)
+}
+
+// What the end of the bytes answers where the value is not whole.
+fn finish_early(reader: &Reader<'_, Values>) -> Result<Value, DecodeFault>
+    requires given { ∥ ((b : List ℕ) × Represents reader.now b) ∥₁ }
+    requires early { reader.now.state ≡ Finished → ⊥ }
+    ensures answer { (b : List ℕ) → Represents reader.now b
+        → Finishes reader.now.schema.now.kinds reader.now.kind.place reader.now.limits b result }
+    ensures for_ever { (f : DecodeFault) → reader.now.state ≡ Failed f → result ≡ Err f }
+    ensures granted { IfErr result (λ f. f.why ≡ NoMemory → reader.now.state ≡ Failed f) }
+{
     let limits = reader.limits;
     let _in_range = limits.depth();
     let at = reader
         .read
         .saturating_add(unfinished(&reader.unit, reader.pending));
-    let state = reader.state;
-    let built = reader.built;
-    match state {
+    match reader.state {
         State::Failed(fault) => Err(fault),
-        State::Finished => match root_of(built.work) {
-            Some(value) => Ok(value),
-            None => unreachable!(),
-        },
+        State::Finished => unreachable!(),
         State::Reading(_) => Err(truncated(at)),
-        State::Fresh => finish_empty(schema, kind, limits),
+        State::Fresh => finish_empty(reader.schema, reader.kind, limits),
     }
 }
 

@@ -2,13 +2,14 @@
 use Rattle.std.specs.Prelude.{◌≡◌, ℕ, ◌+◌, ◌≤◌, ◌<◌, ◌^◌, List, ◌∷◌, ◌++◌, Bool, length, map, drop}
 use Rattle.std.specs.List.{AllByRecursion}
 use Rattle.xdr_types.specs.Kinds as xdr
-use Rattle.xdr_types.specs.Kinds.{KindView, Part}
+use Rattle.xdr_types.specs.Kinds.{KindView, Part, kind_at}
 use Rattle.xdr_types.specs.Tree.{Tree}
-use Rattle.xdr_types.specs.Fits.{Fits}
+use Rattle.xdr_types.specs.Fits.{Fits, parts}
 use Rattle.xdr_types.specs.Spelling.{bytes_of}
 use Rattle.xdr_types.specs.Layout.{Entry, entries}
-use Rattle.xdr_laws.specs.Owed.{Completes}
+use Rattle.xdr_laws.specs.Owed.{Completes, lead_of, IsSilent, silent_head}
 use Rattle.xdr_stream.specs.Frames.{left_of, rest_of, stack_of, dues}
+use Rattle.xdr_stream.specs.declared.machine.frame.Frame.{Frame}
 use Rattle.xdr_parts.specs.Lent.{entry_of, AreLentFrom}
 use Rattle.xdr_parts.specs.Private.Taking.{HasTaken}
 use Rattle.xdr_parts.specs.declared.part.Lent.{Lent}
@@ -73,3 +74,11 @@ pub record IsSpelled (kinds : List KindView) (kind : ℕ) (bytes : List ℕ) (v 
   pub spelled : bytes_of kinds kind v ≡ bytes
   pub low : AreLow (entries kinds kind v)
   pub few : length (entries kinds kind v) + 2 < 2 ^ 64
+
+-- the part that comes next has no bytes of its own, and its parts are those of this frame
+pub record IsGroup (w : Walk) (n : Next) (k : KindView) (f : Frame) : Type 0 where
+  pub walked : (all : Aim) × HasWalked w all
+  pub next : IsNext w n
+  pub kind : k ≡ kind_at w.schema.now.kinds n.kind.place
+  pub silent : IsSilent (lead_of k)
+  pub frame : parts k (silent_head k) ≡ left_of f

@@ -7,6 +7,7 @@ use Rattle.xdr_types.specs.Outcome.{Outcome}
 use Rattle.xdr_stream.specs.Trace.{Trace}
 use Rattle.xdr_stream.specs.Sees.{Sees, IsReady, Ends}
 use Rattle.xdr_stream.specs.Spared.{Spares}
+use Rattle.xdr_stream.specs.Private.Live.{IsLive}
 use Rattle.xdr_stream.specs.declared.fault.Reason.{Reason}
 use Rattle.xdr_stream.specs.declared.fault.Reason.TheVariants as reason
 use Rattle.xdr_stream.specs.declared.machine.Awaits.{Awaits}
@@ -66,3 +67,15 @@ abbrev pub SparesSeen : (spares : Type 0) → List KindView → Bounds → (H : 
     → Reason → Type 0
 SparesSeen spares kinds limits H a fs why =
     (kind : ℕ) (q : List ℕ) → Sees kinds kind limits H a fs q → Spares spares (kind_at kinds kind) why
+
+-- a unit is taken, and content that comes next has bytes to come
+pub record TookUnit (kinds : List KindView) (H : Trace → Type 0) (a : Awaits) (fs : List (List Part))
+    (I : Trace → Type 0) (gs : List (List Part)) (unit : List ℕ) (b : Awaits) : Type 0 where
+  pub live : IsLive b
+  pub taken : TakesUnit kinds H a fs I b gs unit
+
+-- a unit is refused, and the root's kind spares the reason, whatever the limits
+pub record RefusedUnit (spares : Type 0) (kinds : List KindView) (H : Trace → Type 0) (a : Awaits)
+    (fs : List (List Part)) (unit : List ℕ) (why : Reason) : Type 0 where
+  pub refused : RefusesUnit kinds H a fs unit why
+  pub spared : (limits : Bounds) → SparesSeen spares kinds limits H a fs why

@@ -1,6 +1,7 @@
 -- Which numbers come one after another.
-use Rattle.std.specs.Prelude.{◌≡◌, ◌<◌, List, length}
+use Rattle.std.specs.Prelude.{◌≡◌, ℕ, ◌+◌, ◌*◌, ◌%◌, ◌<◌, ◌≤◌, List, length}
 use Rattle.xdr_types.specs.Kinds.{KindView, kind_at}
+use Rattle.xdr_types.specs.Within.{Bounds}
 use Rattle.xdr_stream.specs.Private.Runs.{number_kind, hyper_kind}
 use Rattle.xdr_stream.specs.declared.machine.frame.Frame.{Frame}
 use Rattle.xdr_stream.specs.declared.machine.frame.Frame.TheVariants.{Items}
@@ -17,3 +18,23 @@ pub record IsHypers (kinds : List KindView) (work : Frame) (r : Run) : Type 0 wh
   pub node : work ≡ Items r.item r.left
   pub kind : kind_at kinds r.item.place ≡ hyper_kind r.signed
   pub known : r.item.place < length kinds
+
+-- so many bytes of a piece are numbers of this run, and so many are left at the last of them
+pub record TakesRun (kinds : List KindView) (work : Frame) (r : Run) (last n : ℕ) (bytes : List ℕ) : Type 0 where
+  pub units : n % 4 ≡ 0
+  pub some : 4 < n
+  pub there : n ≤ length bytes
+  pub last_some : 0 < last
+  pub due : IsRun kinds work r
+  pub left : 4 * r.left + 4 ≡ 4 * last + n
+
+-- so many bytes of a piece are hyper integers, the one that has begun first; one more begins after them, and so many
+-- are left after it; the array is not too deep
+pub record TakesHypers (kinds : List KindView) (limits : Bounds) (work : Frame) (parents : List Frame) (r : Run)
+    (last n : ℕ) (bytes : List ℕ) : Type 0 where
+  pub units : n % 8 ≡ 0
+  pub some : 0 < n
+  pub there : n ≤ length bytes
+  pub due : IsHypers kinds work r
+  pub left : 8 * r.left ≡ 8 * last + n
+  pub deep : length parents < limits.depth

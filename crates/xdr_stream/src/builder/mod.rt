@@ -2,7 +2,9 @@
 //!
 //! - `values`: a value. `level`: a node of it at work. `nothing`: nothing.
 ghost use Rattle.std.specs.Prelude.{◌≡◌, ◌%◌, List, ℕ, length, OnOk, IsOk};
+ghost use Rattle.std.specs.Int.{w64, from_be_bytes};
 ghost use Rattle.xdr_stream.specs.Trace.{Trace, at_start};
+ghost use Rattle.xdr_stream.specs.Sees.{make_wide};
 ghost use Rattle.xdr_stream.specs.Private.Reported.{leaf_in, open_in, close_in, extend_in, content_in, CanClose};
 ghost use Rattle.xdr_stream.specs.Private.Reported.{HasSpace, TakesMany};
 ghost use Rattle.xdr_stream.specs.Private.Alone.{IsAlone};
@@ -31,6 +33,18 @@ pub enum Leaf {
     Absent,
     /// A void.
     Nothing,
+}
+
+/// A hyper integer, signed or not.
+#[inline(always)]
+pub(crate) fn hyper_leaf(signed: bool, number: u64) -> Leaf
+    ensures { (bs : List ℕ) → number ≡ from_be_bytes w64 bs → head_of_leaf result ≡ make_wide signed bs }
+{
+    if signed {
+        Leaf::Hyper(number.cast_signed())
+    } else {
+        Leaf::UnsignedHyper(number)
+    }
 }
 
 /// A node with parts.

@@ -5,13 +5,12 @@ ghost use Rattle.xdr_types.specs.Tree.{bytes};
 ghost use Rattle.xdr_types.specs.View.{tree};
 ghost use Rattle.xdr_stream.specs.Nodes.{head_of_leaf};
 ghost use Rattle.xdr_stream.specs.Private.Runs.{number_head};
-ghost use Rattle.xdr_stream.specs.Sees.{make_wide};
 ghost use Rattle.xdr_stream.specs.Trace.{Trace, at_start};
 ghost use Rattle.xdr_stream.specs.Private.Reported.{HasSpace, leaf_in, leaf_tree};
 ghost use Rattle.xdr_stream.specs.Values.{Reports};
 
 use crate::builder::level::{Level, add, add_any, add_item, begun, closed};
-use crate::builder::{Build, Leaf, Node};
+use crate::builder::{Build, Leaf, Node, hyper_leaf};
 use std::alloc::{AllocError, Global};
 use xdr_stack::Blocks;
 use xdr_types::Value;
@@ -75,18 +74,6 @@ fn number_at(bytes: &[u8], at: usize) -> u32
     ensures { result ≡ from_be_bytes w32 (take 4 (drop at bytes.now)) }
 {
     u32::from_be_bytes([bytes[at], bytes[at + 1], bytes[at + 2], bytes[at + 3]])
-}
-
-// A hyper integer, signed or not.
-#[inline(always)]
-fn hyper_leaf(signed: bool, number: u64) -> Leaf
-    ensures { (bs : List ℕ) → number ≡ from_be_bytes w64 bs → head_of_leaf result ≡ make_wide signed bs }
-{
-    if signed {
-        Leaf::Hyper(number.cast_signed())
-    } else {
-        Leaf::UnsignedHyper(number)
-    }
 }
 
 // The number in the two units at a place.

@@ -1,13 +1,13 @@
 //! What comes next after a whole unit, and what is read of it.
-ghost use Rattle.std.specs.Prelude.{◌≡◌, ◌+◌, ◌≤◌, pos, length, take, drop, IfOk, IfErr};
-ghost use Rattle.xdr_types.specs.Within.{Bounds};
+ghost use Rattle.std.specs.Prelude.{◌≡◌, ◌+◌, ◌≤◌, pos, List, ◌∷◌, length, take, drop, IfOk, IfErr};
+ghost use Rattle.xdr_types.specs.Kinds.{Part};
 ghost use Rattle.xdr_units.specs.Numbers.{num4};
 ghost use Rattle.xdr_stream.specs.Frames.{left_of, stack_of};
-ghost use Rattle.xdr_stream.specs.Private.Live.{IsLive};
-ghost use Rattle.xdr_stream.specs.Private.Moves.{SparesSeen, TakesUnit, RefusesUnit, are_zeros};
+ghost use Rattle.xdr_stream.specs.Private.Moves.{TookUnit, RefusedUnit, are_zeros};
 ghost use Rattle.xdr_stream.specs.Private.Sound.{IsSound, IsAwaited};
+ghost use Rattle.xdr_stream.specs.declared.machine.Awaits.TheVariants.{Content};
 
-use crate::builder::{Build, Leaf};
+use crate::builder::{Build, hyper_leaf};
 use crate::fault::Reason;
 use crate::machine::Awaits;
 use crate::machine::frame::Frame;
@@ -41,6 +41,36 @@ pub(crate) fn unit_at(bytes: &[u8], at: usize) -> [u8; 4]
     [bytes[at], bytes[at + 1], bytes[at + 2], bytes[at + 3]]
 }
 
+// Takes a unit of content, so many bytes of which are left, and tells what comes next.
+#[inline(always)]
+fn take_bytes<B: Build>(
+    schema: &Schema,
+    left: u32,
+    built: &mut B,
+    unit: &[u8; 4],
+) -> Result<Awaits, Reason>
+    ensures taken { (fs : List (List Part)) → IfOk result (TookUnit schema.now.kinds (B.reports built.old)
+        (Content left) fs (B.reports built.new) fs unit.now) }
+    ensures refused { (ps : List Part) (fs : List (List Part)) → IfErr result (RefusedUnit B.spares schema.now.kinds
+        (B.reports built.old) (Content left) (ps ∷ fs) unit.now) }
+{
+    let _number = number_of(unit);
+    let _known = schema.len();
+    if left > 4 {
+        return match built.extend(unit) {
+            Ok(()) => Ok(Awaits::Content(left - 4)),
+            Err(_) => Err(Reason::NoMemory),
+        };
+    }
+    if !are_zeros(&unit[left as usize..]) {
+        return Err(Reason::BadPadding);
+    }
+    match built.whole(&unit[..left as usize]) {
+        Ok(()) => Ok(Awaits::Next),
+        Err(_) => Err(Reason::NoMemory),
+    }
+}
+
 /// Takes a whole unit, and tells what comes next, before it is settled.
 #[inline(always)]
 pub(crate) fn take_unit<'s, B: Build>(
@@ -54,13 +84,10 @@ pub(crate) fn take_unit<'s, B: Build>(
     requires sound { IsSound schema.now.kinds (stack_of work.old parents.old.items) }
     requires awaited { IsAwaited schema.now.kinds (left_of work.old) awaits }
     ensures size { length unit.now ≡ 4 }
-    ensures live { IfOk result IsLive }
-    ensures taken { IfOk result (λ a. TakesUnit schema.now.kinds (B.reports built.old) awaits
-        (stack_of work.old parents.old.items) (B.reports built.new) a (stack_of work.new parents.new.items) unit.now) }
-    ensures refused { IfErr result (RefusesUnit schema.now.kinds (B.reports built.old) awaits
+    ensures taken { IfOk result (TookUnit schema.now.kinds (B.reports built.old) awaits
+        (stack_of work.old parents.old.items) (B.reports built.new) (stack_of work.new parents.new.items) unit.now) }
+    ensures refused { IfErr result (RefusedUnit B.spares schema.now.kinds (B.reports built.old) awaits
         (stack_of work.old parents.old.items) unit.now) }
-    ensures spared { IfErr result (λ e. (limits : Bounds) → SparesSeen B.spares schema.now.kinds limits
-        (B.reports built.old) awaits (stack_of work.old parents.old.items) e) }
     ensures sound { IsSound schema.now.kinds (stack_of work.new parents.new.items) }
 {
     let number = number_of(unit);
@@ -70,24 +97,11 @@ pub(crate) fn take_unit<'s, B: Build>(
         Awaits::Wide(signed) => Ok(Awaits::Low(signed, number)),
         Awaits::Low(signed, high) => {
             let whole = u64::from(high) * 4294967296 + u64::from(number);
-            if signed {
-                built.leaf(Leaf::Hyper(whole.cast_signed()))?;
-            } else {
-                built.leaf(Leaf::UnsignedHyper(whole))?;
+            match built.leaf(hyper_leaf(signed, whole)) {
+                Ok(()) => Ok(Awaits::Next),
+                Err(_) => Err(Reason::NoMemory),
             }
-            Ok(Awaits::Next)
         }
-        Awaits::Content(left) => {
-            if left > 4 {
-                built.extend(unit)?;
-                return Ok(Awaits::Content(left - 4));
-            }
-            if !are_zeros(&unit[left as usize..]) {
-                return Err(Reason::BadPadding);
-            }
-            built.extend(&unit[..left as usize])?;
-            built.content()?;
-            Ok(Awaits::Next)
-        }
+        Awaits::Content(left) => take_bytes(schema, left, built, unit),
     }
 }

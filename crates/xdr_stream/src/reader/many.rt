@@ -1,7 +1,7 @@
 //! Many units at once: content, and numbers one after another.
-ghost use Rattle.std.specs.Prelude.{◌≡◌, ◌+◌, ◌≤◌, ◌<◌, ◌%◌, ◌*◌, ℕ, List, ◌++◌, length, take};
+ghost use Rattle.std.specs.Prelude.{◌≡◌, ◌+◌, ◌≤◌, ◌<◌, ◌%◌, ℕ, List, ◌++◌, length, take};
 ghost use Rattle.xdr_stream.specs.Represents.{RepresentsBytes, IsAwake, IsSame};
-ghost use Rattle.xdr_stream.specs.Private.Run.{IsRun, IsHypers};
+ghost use Rattle.xdr_stream.specs.Private.Run.{TakesRun, TakesHypers};
 ghost use Rattle.xdr_stream.specs.declared.machine.Awaits.TheVariants.{Next, Content, Wide};
 ghost use Rattle.xdr_stream.specs.declared.reader.State.TheVariants.{Reading};
 
@@ -44,12 +44,8 @@ impl<'s, B: Build + Drop> Reader<'s, B> {
     /// many are left after it.
     #[inline(always)]
     pub(crate) fn take_hypers(&mut self, run: Run, last: u32, n: usize, bytes: &[u8])
-        requires units { n % 8 ≡ 0 }
-        requires some { 0 < n }
-        requires there { n ≤ length bytes.now }
-        requires due { IsHypers self.old.schema.now.kinds self.old.work run }
-        requires left { 8 * run.left ≡ 8 * last + n }
-        requires deep { length self.old.parents.items < self.old.limits.depth }
+        requires { TakesHypers self.old.schema.now.kinds self.old.limits self.old.work self.old.parents.items run last n
+            bytes.now }
         ensures represents { (b : List ℕ) → self.old.state ≡ Reading (Wide run.signed)
             → self.old.pending ≡ 0 → n + self.old.read < self.old.limits.bytes
             → RepresentsBytes B.spares B.reports self.old b
@@ -75,12 +71,7 @@ impl<'s, B: Build + Drop> Reader<'s, B> {
     /// Takes so many bytes of numbers of one unit, items of the array at work; so many are left at the last of them.
     #[inline(always)]
     pub(crate) fn take_run(&mut self, run: Run, last: u32, n: usize, bytes: &[u8])
-        requires units { n % 4 ≡ 0 }
-        requires some { 4 < n }
-        requires there { n ≤ length bytes.now }
-        requires last { 0 < last }
-        requires due { IsRun self.old.schema.now.kinds self.old.work run }
-        requires left { 4 * run.left + 4 ≡ 4 * last + n }
+        requires { TakesRun self.old.schema.now.kinds self.old.work run last n bytes.now }
         ensures represents { (b : List ℕ) → self.old.state ≡ Reading Next
             → self.old.pending ≡ 0 → n + self.old.read ≤ self.old.limits.bytes
             → RepresentsBytes B.spares B.reports self.old b

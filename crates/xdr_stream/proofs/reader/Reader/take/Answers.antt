@@ -7,7 +7,7 @@ use Rattle.xdr_stream.proofs.reader.Reader.take.Goals as goal
 pub returns-in-Ok-clause-represents : goal.returns-in-Ok-clause-represents
 returns-in-Ok-clause-represents g c = λ q len none h ready small.
     let a = c.args.self.now in
-    let next = c.in-Ok.ensures.taken a.kind.place a.limits q ready small h in
+    let next = c.in-Ok.ensures.taken.taken a.kind.place a.limits q ready small h in
     let most : length q ≤ a.limits.bytes =
     within_limit a.schema.now.kinds a.kind.place a.limits _ q c.depth-in_range.ensures.range.units h.reading in
     let far : length (q ++ c.args.unit.now) ≡ c.saturating_add-self.result =
@@ -20,7 +20,7 @@ returns-in-Ok-clause-represents g c = λ q len none h ready small.
       c.depth-in_range.ensures.range.most_bytes,
       c.saturating_add-self.ensures,
     ) in
-    c.settle.ensures.represents (q ++ c.args.unit.now) far none c.in-Ok.ensures.live next
+    c.settle.ensures.represents (q ++ c.args.unit.now) far none c.in-Ok.ensures.taken.live next
 
 pub returns-in-Err-clause-represents : goal.returns-in-Err-clause-represents
 returns-in-Err-clause-represents g c = λ q len none h ready small.
@@ -30,6 +30,6 @@ returns-in-Err-clause-represents g c = λ q len none h ready small.
     ((q ++ c.args.unit.now) ++ rest) n) len
     (subst (λ (b : List ℕ). Ends a.schema.now.kinds a.kind.place a.limits c.in-Err.why b (length q))
     (sym (append_assoc q c.args.unit.now rest))
-    (c.in-Err.ensures.refused a.kind.place a.limits q rest ready small h)))
+    (c.in-Err.ensures.refused.refused a.kind.place a.limits q rest ready small h)))
     (omega (arith, length-append q c.args.unit.now, len))
-    (c.in-Err.ensures.spared a.limits a.kind.place q h)
+    (c.in-Err.ensures.refused.spared a.limits a.kind.place q h)

@@ -18,7 +18,7 @@ returns-in-Ok-clause-represents g c = λ b state none st.
     let q : List ℕ = s.0 in
     let u : List ℕ = c.unit_at-unit.result in
     let n : ℕ = c.take_whole.result in
-    let next = c.in-Ok.ensures.taken a.kind.place a.limits q s.5 s.6 s.4 in
+    let next = c.in-Ok.ensures.taken.taken a.kind.place a.limits q s.5 s.6 s.4 in
     let most : length q ≤ a.limits.bytes =
     within_limit a.schema.now.kinds a.kind.place a.limits _ q c.depth-in_range.ensures.range.units s.4.reading in
     let far : length (q ++ u) ≡ c.saturating_add-self.result =
@@ -41,7 +41,7 @@ returns-in-Ok-clause-represents g c = λ b state none st.
     ∙ ap (λ (x : List ℕ). x ++ take (4 + n) c.args.bytes.now)
     (sym (s.1 ∙ ap (λ (k : ℕ). q ++ take k a.unit) none ∙ append-nil q)) in
     subst (λ (x : List ℕ). RepresentsBytes g.B.Build.spares g.B.Build.reports c.take_whole.new.self x) joined
-    (c.take_whole.ensures.represents (q ++ u) far none c.in-Ok.ensures.live next)
+    (c.take_whole.ensures.represents (q ++ u) far none c.in-Ok.ensures.taken.live next)
 
 pub returns-in-Err-clause-represents : goal.returns-in-Err-clause-represents
 returns-in-Err-clause-represents g c = λ b state none st.
@@ -59,6 +59,6 @@ returns-in-Err-clause-represents g c = λ b state none st.
     (λ rest. subst (λ (n : ℕ). Ends a.schema.now.kinds a.kind.place a.limits c.in-Err.why ((q ++ u) ++ rest) n) s.2
     (subst (λ (x : List ℕ). Ends a.schema.now.kinds a.kind.place a.limits c.in-Err.why x (length q))
     (sym (append_assoc q u rest))
-    (c.in-Err.ensures.refused a.kind.place a.limits q rest s.5 s.6 s.4)))
+    (c.in-Err.ensures.refused.refused a.kind.place a.limits q rest s.5 s.6 s.4)))
     (omega (arith, length-append q u, s.2))
-    (c.in-Err.ensures.spared a.limits a.kind.place q s.4))
+    (c.in-Err.ensures.refused.spared a.limits a.kind.place q s.4))

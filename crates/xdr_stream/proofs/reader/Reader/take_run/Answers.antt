@@ -32,13 +32,13 @@ invariant_of-self g c =
     let due = c.requires.due in record {
       sound = sound_numbers s c.args.run.item c.args.run.signed c.args.run.left c.args.last a.parents.items due.kind
           due.known (subst (λ (w : Frame). IsSoundAt s w a.parents.items) due.node a.sound);
-      waits = waits_numbers s c.args.run.item c.args.run.signed c.args.last a.state due.kind c.requires.last;
+      waits = waits_numbers s c.args.run.item c.args.run.signed c.args.last a.state due.kind c.requires.last_some;
     }
 
 pub take-requires : goal.take-requires
 take-requires g c =
     awaited_numbers c.args.self.now.schema.now.kinds c.args.run.item c.args.run.signed c.args.last Next
-    c.requires.due.kind c.requires.last
+    c.requires.due.kind c.requires.last_some
 
 pub returns-in-Ok-clause-represents : goal.returns-in-Ok-clause-represents
 returns-in-Ok-clause-represents g c = λ b state none space st.
@@ -66,7 +66,7 @@ returns-in-Ok-clause-represents g c = λ b state none space st.
       length-replicate c.args.run.left (item_part c.args.run.item.place),
       c.requires.left,
       c.requires.some,
-      c.requires.last,
+      c.requires.last_some,
     ) in
     let next = many_numbers a.schema.now.kinds c.len-known.ensures.valued c.len-known.ensures.known a.kind.place
     a.limits c.args.run.item c.args.run.signed due.kind a.parents.items deep u
@@ -95,7 +95,7 @@ returns-in-Ok-clause-represents g c = λ b state none space st.
     subst (λ (x : List ℕ). RepresentsBytes g.B.Build.spares g.B.Build.reports c.take.new.self x) joined
     (c.take.ensures.represents (s.0 ++ u) far none next
     (ready_numbers a.schema.now.kinds c.len-known.ensures.valued c.len-known.ensures.known a.kind.place a.limits
-    c.args.run.item c.args.run.signed due.kind a.parents.items deep c.args.last c.requires.last)
+    c.args.run.item c.args.run.signed due.kind a.parents.items deep c.args.last c.requires.last_some)
     (omega (arith, length-append s.0 u, size, s.2, space, c.requires.some)))
 
 pub returns-in-Err-clause-represents : goal.returns-in-Err-clause-represents
@@ -112,7 +112,7 @@ returns-in-Err-clause-represents g c = λ b state none space st.
       length-replicate c.args.run.left (item_part c.args.run.item.place),
       c.requires.left,
       c.requires.some,
-      c.requires.last,
+      c.requires.last_some,
     )) in
     c.fail.ensures.represents (b ++ take c.args.n c.args.bytes.now) (λ rest. tt)
     (omega (
