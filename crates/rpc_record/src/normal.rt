@@ -4,6 +4,7 @@ ghost use Rattle.xdr_io.specs.Reported.{Counts, CountsAtMost};
 ghost use Rattle.xdr_io.specs.declared.input.TheConstants.{MOST_READS};
 ghost use Rattle.rpc_record.specs.Failures.{read_failures, write_failures};
 ghost use Rattle.rpc_record.specs.Normalised.{Normalised, Stops};
+ghost use Rattle.rpc_record.specs.Private.Passing.{IsStarted, ReadsAtMost};
 
 use super::fault::{Count, RecordFault};
 use super::outbox::Outbox;
@@ -40,6 +41,25 @@ pub fn normalise<R: Source, W: Sink>(
 {
     let mut records = RecordStream::start(alloc, limit);
     let mut outbox = Outbox::new();
+    pass_on(&mut records, &mut outbox, reader, writer)
+}
+
+// Hands on all records of a stream that has read nothing, through an outbox that nothing was handed to.
+fn pass_on<R: Source, W: Sink>(
+    records: &mut RecordStream,
+    outbox: &mut Outbox,
+    reader: &mut R,
+    writer: &mut W,
+) -> Result<Count, RecordFault>
+    requires { IsStarted records.old outbox.old }
+    ensures ok { IfOk result (λ count. Normalised records.old.records.limit
+        (R.left reader.old) (R.left reader.new) (W.taken writer.old) (W.taken writer.new) count) }
+    ensures fault { IfErr result (λ f. Stops records.old.records.limit
+        (R.left reader.old) (R.left reader.new) (W.taken writer.old) (W.taken writer.new) f) }
+    ensures read { Counts (read_failures result) (R.failures reader.old) (R.failures reader.new) }
+    ensures write { Counts (write_failures result) (W.failures writer.old) (W.failures writer.new) }
+    ensures reads { ReadsAtMost (R.reads reader.old) (R.reads reader.new) result }
+{
     'records: loop {
         match records.next_held() {
             Ok(None) => {}

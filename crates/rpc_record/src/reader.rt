@@ -28,7 +28,7 @@ impl RecordReader {
     ghost use Rattle.rpc_record.specs.Represents.{Represents, Always, IsTaking, IsWaiting, IsBroken, limit_of};
     ghost use Rattle.rpc_record.specs.Represents.{Takes, Feeds, Reports, Stays, Hands, IsHanded, Ends, Concludes};
     ghost use Rattle.rpc_record.specs.Represents.{IsBetween, Moves, Fills, IsFilled};
-    ghost use Rattle.rpc_record.specs.Private.Steps.{Refuses};
+    ghost use Rattle.rpc_record.specs.Private.Steps.{Refuses, TakesSingle};
     ghost use Rattle.rpc_record.specs.Marked.{Longest, fragment};
     ghost use Rattle.rpc_record.specs.Reading.{TooLongAt, IsWhole, Begins, Faulty, HasNoLong};
     ghost use Rattle.rpc_record.specs.declared.place.Place.TheVariants as place;
@@ -78,11 +78,7 @@ impl RecordReader {
         requires between { IsBetween self.old }
         requires counted { length content.now < 2 ^ 31 }
         requires fits { vec_len self.old.content + length content.now ≤ limit_of self.old }
-        ensures limit { limit_of self.new ≡ limit_of self.old }
-        ensures whole { IfOk result (λ s. (s ≡ RecordStep.Whole (4 + length content.now)) × IsWaiting self.new) }
-        ensures refused { IfErr result (λ f. (f ≡ RecordFault.NoMemory) × (self.new.place ≡ place.Broken f)) }
-        ensures takes { Takes self.old self.new (fragment true content.now) }
-        ensures refuses { Refuses self.old self.new (fragment true content.now) }
+        ensures { TakesSingle self.old self.new content.now result }
     {
         match self.content.extend_from_slice(content) {
             Ok(()) => {

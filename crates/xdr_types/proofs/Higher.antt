@@ -1,14 +1,14 @@
 -- The function `height` agrees with what the rounds found.
-use Rattle.std.proofs.Common.{◌≡◌, ℕ, zero, suc, ◌+◌, ◌<◌, ◌≤◌, max, List, [], ◌∷◌, length, Option, Some, refl, ap}
-use Rattle.std.proofs.Common.{arith}
+use Rattle.std.proofs.Common.{◌≡◌, ℕ, zero, suc, ◌+◌, ◌<◌, ◌≤◌, max, List, [], ◌∷◌, length, Option, Some, None, refl}
+use Rattle.std.proofs.Common.{ap, MatchOption, arith}
 use Rattle.std.proofs.Math.Nat.{le-max_left, le-max_right}
 use Rattle.std.specs.List.{AllByRecursion}
 use Rattle.xdr_types.specs.Kinds as xdr
 use Rattle.xdr_types.specs.Kinds.{KindView, Part, kind_at}
-use Rattle.xdr_types.specs.Sound.{Heighting, IsBelow, Asks, IsProper}
-use Rattle.xdr_types.specs.Private.Rounds.{height_in, IsMarked, AreHeights}
+use Rattle.xdr_types.specs.Sound.{Heighting, IsBelow, Asks, IsProper, IsSound, IsLowestWithout}
+use Rattle.xdr_types.specs.Private.Rounds.{height_in, IsMarked, AreHeights, IsClosed, AreAllMarked, IsFirstUnmarked}
 use Rattle.xdr_types.specs.Height.{highest, over, height_within, IsHigher, AreHigher}
-use Rattle.xdr_types.proofs.Heighting.{asks-mono, number}
+use Rattle.xdr_types.proofs.Heighting.{asks-mono, number, no-height, has-height}
 
 highest-same : (f g : ℕ → ℕ) (ps : List Part) → AllByRecursion (λ (p : Part). f p.kind ≡ g p.kind) ps
     → highest f ps ≡ highest g ps
@@ -68,3 +68,17 @@ are-higher kinds hs next are all place within =
     let found = number hs place (all place within) in
     let below : found.0 < next = are.below place found.0 found.1 in
     higher-at kinds (height_in hs) are.proper (length kinds) place found.0 found.1 (omega (arith, are.left))
+
+-- where the rounds have ended, the first place without a number is the lowest without a height
+pub lowest-found : (kinds : List KindView) (hs : List (Option ℕ)) (next : ℕ) → AreHeights kinds hs next
+    → IsClosed kinds hs → (r : Option ℕ) → MatchOption r (AreAllMarked hs) (IsFirstUnmarked hs)
+    → MatchOption r (IsSound kinds × AreHigher kinds) (IsLowestWithout kinds)
+lowest-found kinds hs next are closed None all =
+    let marked : (place : ℕ) → place < length kinds → IsMarked hs place =
+    λ place h. all place (omega (arith, h, are.lengths)) in
+    (λ place h. has-height kinds hs are.proper place (marked place h), are-higher kinds hs next are marked)
+lowest-found kinds hs next are closed (Some place) first = record {
+  within = omega (arith, first.within, are.lengths);
+  none = no-height kinds hs closed place first.none;
+  lower = λ q h. has-height kinds hs are.proper q (first.before q h);
+}

@@ -1,14 +1,14 @@
 //! Heights of kinds, found in rounds.
-ghost use Rattle.std.specs.Prelude.{◌≡◌, ◌+◌, ◌<◌, ◌≤◌, ◌↔◌, length, map, option_map, None, IsTrue, IfOk, MatchOption};
-ghost use Rattle.std.specs.Prelude.{true, false, replicate};
-ghost use Rattle.xdr_types.specs.Kinds.{Part, kind_at};
+ghost use Rattle.std.specs.Prelude.{◌≡◌, ◌<◌, ◌≤◌, ◌↔◌, length, map, option_map, None, IsTrue, IfOk, MatchOption};
+ghost use Rattle.std.specs.Prelude.{false, replicate};
+ghost use Rattle.xdr_types.specs.Kinds.{Part};
 ghost use Rattle.xdr_types.specs.KindViews.{kind_view, part_of_member, branch_of};
 ghost use Rattle.xdr_types.specs.Faults.{some_optional};
 ghost use Rattle.xdr_types.specs.Sound.{IsSound, IsLowestWithout, Asks};
 ghost use Rattle.xdr_types.specs.Height.{AreHigher};
-ghost use Rattle.xdr_types.specs.Private.Rounds.{height_in, are_marked, some_marked, is_marked, IsMarked, IsClosed};
-ghost use Rattle.xdr_types.specs.Private.Rounds.{AreHeights};
-ghost use Rattle.xdr_types.specs.Private.Sets.{IsReached, AreReached};
+ghost use Rattle.xdr_types.specs.Private.Rounds.{are_marked, some_marked, is_marked, IsMarked, IsClosed};
+ghost use Rattle.xdr_types.specs.Private.Rounds.{BetweenSteps, Settles, AreAllMarked, IsFirstUnmarked};
+ghost use Rattle.xdr_types.specs.Private.Sets.{IsReached};
 
 use crate::kind::{Arm, Kind, KindId, Member};
 use crate::reach::reached_defaults;
@@ -69,19 +69,11 @@ fn settle(
     next: &mut u32,
     place: usize,
 ) -> bool
-    requires few { length kinds.now.items ≤ 1024 }
     requires within { place < length kinds.now.items }
-    requires reached { AreReached (map kind_view kinds.now.items) reached.now.items }
-    requires waits { length waits.old.items ≡ length kinds.now.items }
-    requires heights { AreHeights (map kind_view kinds.now.items) heights.old.items next.old }
-    ensures waits { length waits.new.items ≡ length kinds.now.items }
-    ensures heights { AreHeights (map kind_view kinds.now.items) heights.new.items next.new }
-    ensures settled { IsTrue result → next.new ≡ next.old + 1 }
-    ensures same { result ≡ false → (heights.new.items ≡ heights.old.items) × (next.new ≡ next.old) }
-    ensures open { result ≡ false → height_in heights.new.items place ≡ None
-        → Asks (map kind_view kinds.now.items) (IsMarked heights.new.items)
-        (kind_at (map kind_view kinds.now.items) place)
-        → ⊥ }
+    requires between { BetweenSteps kinds.now.items reached.now.items waits.old.items heights.old.items next.old }
+    ensures between { BetweenSteps kinds.now.items reached.now.items waits.new.items heights.new.items next.new }
+    ensures settles { Settles (map kind_view kinds.now.items) place heights.old.items next.old heights.new.items
+        next.new result }
 {
     if heights[place].is_some()
         || !is_met(
@@ -107,12 +99,8 @@ fn round(
     heights: &mut Vec<Option<u32>>,
     next: &mut u32,
 ) -> bool
-    requires few { length kinds.now.items ≤ 1024 }
-    requires reached { AreReached (map kind_view kinds.now.items) reached.now.items }
-    requires waits { length waits.old.items ≡ length kinds.now.items }
-    requires heights { AreHeights (map kind_view kinds.now.items) heights.old.items next.old }
-    ensures waits { length waits.new.items ≡ length kinds.now.items }
-    ensures heights { AreHeights (map kind_view kinds.now.items) heights.new.items next.new }
+    requires { BetweenSteps kinds.now.items reached.now.items waits.old.items heights.old.items next.old }
+    ensures between { BetweenSteps kinds.now.items reached.now.items waits.new.items heights.new.items next.new }
     ensures grows { IsTrue result → next.old < next.new }
     ensures closed { result ≡ false → IsClosed (map kind_view kinds.now.items) heights.new.items }
 {
@@ -137,12 +125,19 @@ pub fn lowest_without_height(alloc: Global, kinds: &Vec<Kind>) -> Result<Option<
     let mut heights = no_heights(alloc, kinds.len())?;
     let mut next = 0;
     while round(kinds, &reached, &mut waits, &mut heights, &mut next) {}
-    for place in 0..kinds.len() {
+    Ok(first_unmarked(&heights))
+}
+
+// The first place without a number, where there is one.
+fn first_unmarked(heights: &Vec<Option<u32>>) -> Option<usize>
+    ensures { MatchOption result (AreAllMarked heights.now.items) (IsFirstUnmarked heights.now.items) }
+{
+    for place in 0..heights.len() {
         if heights[place].is_none() {
-            return Ok(Some(place));
+            return Some(place);
         }
     }
-    Ok(None)
+    None
 }
 
 // For so many places, that their first member is to be asked first.

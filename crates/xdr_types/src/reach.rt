@@ -84,9 +84,22 @@ pub fn reached_defaults(alloc: Global, kinds: &Vec<Kind>) -> Result<Vec<bool>, A
     ensures { IfOk result (λ v. AreReached (map kind_view kinds.now.items) v.items) }
 {
     let numbers = numbers_of_kinds(alloc, kinds)?;
+    reached_by(alloc, kinds, &numbers)
+}
+
+// The same, by the numbers of each enumeration.
+fn reached_by(
+    alloc: Global,
+    kinds: &Vec<Kind>,
+    numbers: &Vec<BTreeSet<i64>>,
+) -> Result<Vec<bool>, AllocError>
+    requires numbers { AreNumbers (map kind_view kinds.now.items) numbers.now.items }
+    requires all { length numbers.now.items ≡ length kinds.now.items }
+    ensures { IfOk result (λ v. AreReached (map kind_view kinds.now.items) v.items) }
+{
     let mut reached = Vec::with_capacity(alloc, kinds.len())?;
     for kind in kinds {
-        reached.push(is_default_reached(alloc, kinds, &numbers, kind)?)?;
+        reached.push(is_default_reached(alloc, kinds, numbers, kind)?)?;
     }
     Ok(reached)
 }

@@ -1,6 +1,6 @@
 //! A schema: kinds that name one another by place, and names for some.
 ghost use Rattle.std.specs.Prelude.{◌≡◌, ◌<◌, ◌≤◌, ◌↔◌, IsTrue, length, map, option_map, IfOk, IfSome};
-ghost use Rattle.std.specs.Prelude.{MatchResult};
+ghost use Rattle.std.specs.Prelude.{MatchOption, MatchResult};
 ghost use Rattle.xdr_types.specs.Kinds.{kind_at};
 ghost use Rattle.xdr_types.specs.KindViews.{kind_view, name_of, lists_of};
 ghost use Rattle.xdr_types.specs.Faults.{IsWellFormed};
@@ -27,7 +27,7 @@ use std::string::String;
 use xdr_units::NoMemory;
 
 /// Kinds that name one another by place, and names for some of them: well formed and sound.
-#[derive(Debug, Drop)]
+#[derive(Drop)]
 pub struct Schema {
     kinds: Vec<Kind>,
     // Where a number of a long enumeration or union is, for each kind.
@@ -79,6 +79,40 @@ pub fn is_same_schema(a: &Schema, b: &Schema) -> bool
     a == b
 }
 
+// The first fault of the two lists, or want of memory; none of lists that are well formed and sound.
+fn first_fault(
+    alloc: Global,
+    kinds: &Vec<Kind>,
+    names: &Vec<(String, KindId)>,
+) -> Option<SchemaFault>
+    ensures { let lists = lists_of kinds.now.items names.now.items in
+        MatchOption result (IsWellFormed lists × IsSound lists.kinds × AreHigher lists.kinds) (IsRefused lists) }
+{
+    if kinds.len() > 1024 {
+        return Some(SchemaFault {
+            why: Flaw::TooManyKinds,
+            place: 0,
+        });
+    }
+    if let Some(fault) = first_in_kinds(alloc, kinds) {
+        return Some(fault);
+    }
+    if let Some(fault) = first_in_names(alloc, kinds, names) {
+        return Some(fault);
+    }
+    match lowest_without_height(alloc, kinds) {
+        Ok(None) => None,
+        Ok(Some(place)) => Some(SchemaFault {
+            why: Flaw::NoFiniteValue,
+            place,
+        }),
+        Err(_) => Some(SchemaFault {
+            why: Flaw::NoMemory,
+            place: 0,
+        }),
+    }
+}
+
 impl Schema {
     /// The schema of the two lists, where they are well formed and sound: each kind is a legal one, and has a finite
     /// value (RFC 4506 sections 4.3 to 4.19).
@@ -96,33 +130,14 @@ impl Schema {
             (λ s. (s ≡ lists_of kinds.items names.items) × IsWellFormed s × IsSound s.kinds)
             (λ e. IsRefused (lists_of kinds.items names.items) e) }
     {
-        if kinds.len() > 1024 {
-            return Err(SchemaFault {
-                why: Flaw::TooManyKinds,
-                place: 0,
-            });
-        }
-        if let Some(fault) = first_in_kinds(alloc, &kinds) {
+        if let Some(fault) = first_fault(alloc, &kinds, &names) {
             return Err(fault);
         }
-        if let Some(fault) = first_in_names(alloc, &kinds, &names) {
-            return Err(fault);
-        }
-        match lowest_without_height(alloc, &kinds) {
-            Ok(None) => match lookups_of(alloc, &kinds) {
-                Ok(lookups) => Ok(Schema {
-                    kinds,
-                    lookups,
-                    names,
-                }),
-                Err(_) => Err(SchemaFault {
-                    why: Flaw::NoMemory,
-                    place: 0,
-                }),
-            },
-            Ok(Some(place)) => Err(SchemaFault {
-                why: Flaw::NoFiniteValue,
-                place,
+        match lookups_of(alloc, &kinds) {
+            Ok(lookups) => Ok(Schema {
+                kinds,
+                lookups,
+                names,
             }),
             Err(_) => Err(SchemaFault {
                 why: Flaw::NoMemory,
@@ -156,7 +171,10 @@ impl Schema {
     {
         let kinds = basic_kinds(alloc)?;
         let names = basic_names(alloc)?;
-        Schema::build(alloc, kinds, names).map_err(|_| NoMemory)
+        match Schema::build(alloc, kinds, names) {
+            Ok(schema) => Ok(schema),
+            Err(_) => Err(NoMemory),
+        }
     }
 
     /// The kind that a name names; none where the schema does not have the name.
@@ -227,16 +245,25 @@ pub fn basic_kinds(alloc: Global) -> Result<Vec<Kind>, NoMemory>
 pub fn basic_names(alloc: Global) -> Result<Vec<(String, KindId)>, NoMemory>
     ensures { IfOk result (λ v. map name_of v.items ≡ basic.names) }
 {
+    let rows = [
+        ("int", 0),
+        ("unsigned", 1),
+        ("hyper", 2),
+        ("unsigned-hyper", 3),
+        ("bool", 4),
+        ("opaque", 6),
+        ("string", 7),
+    ];
+    names_of(alloc, &rows)
+}
+
+// Names and the places that they name, of these rows.
+fn names_of(alloc: Global, rows: &[(&str, u32)]) -> Result<Vec<(String, KindId)>, NoMemory>
+    ensures { IfOk result (λ v. map name_of v.items ≡ map (λ r. named r.0.now r.1) rows.now) }
+{
     let mut names = Vec::new(alloc);
-    names.push((String::from_str(alloc, "int")?, KindId { place: 0 }))?;
-    names.push((String::from_str(alloc, "unsigned")?, KindId { place: 1 }))?;
-    names.push((String::from_str(alloc, "hyper")?, KindId { place: 2 }))?;
-    names.push((
-        String::from_str(alloc, "unsigned-hyper")?,
-        KindId { place: 3 },
-    ))?;
-    names.push((String::from_str(alloc, "bool")?, KindId { place: 4 }))?;
-    names.push((String::from_str(alloc, "opaque")?, KindId { place: 6 }))?;
-    names.push((String::from_str(alloc, "string")?, KindId { place: 7 }))?;
+    for row in rows {
+        names.push((String::from_str(alloc, row.0)?, KindId { place: row.1 }))?;
+    }
     Ok(names)
 }

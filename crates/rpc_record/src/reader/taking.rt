@@ -7,8 +7,8 @@ use crate::steps::{after_content, after_header, after_heading};
 
 impl RecordReader {
     ghost use Rattle.std.specs.Prelude.{◌≡◌, ◌≤◌, ◌<◌, ◌^◌, ◌++◌, ◌↔◌, ℕ, List, [], ◌∷◌, length, take, IsTrue};
-    ghost use Rattle.rpc_record.specs.Represents.{Represents, IsTaking, limit_of, Takes, Feeds, Reports, Stays};
-    ghost use Rattle.rpc_record.specs.Private.Steps.{Refuses, IsFed, IsStepped};
+    ghost use Rattle.rpc_record.specs.Represents.{Represents, IsTaking, limit_of, Feeds, Reports, Stays};
+    ghost use Rattle.rpc_record.specs.Private.Steps.{Advances, IsStepped};
     ghost use Rattle.rpc_record.specs.Marked.{header};
     ghost use Rattle.rpc_record.specs.Fields.{InHeader, begun_bytes};
     ghost use Rattle.rpc_record.specs.Reading.{capped};
@@ -46,12 +46,7 @@ impl RecordReader {
     fn advance(&mut self, piece: &[u8]) -> usize
         requires some { 0 < length piece.now }
         requires taking { IsTaking self.old }
-        ensures some { 0 < result }
-        ensures fed { IsFed self.new }
-        ensures within { result ≤ length piece.now }
-        ensures limit { limit_of self.new ≡ limit_of self.old }
-        ensures takes { Takes self.old self.new (take result piece.now) }
-        ensures refuses { Refuses self.old self.new (take result piece.now) }
+        ensures { Advances self.old self.new piece.now result }
     {
         match self.place {
             Place::Between => self.begin_header(self.taken, piece),
@@ -118,12 +113,7 @@ impl RecordReader {
     fn take_content(&mut self, fragment: Fragment, piece: &[u8]) -> usize
         requires some { 0 < length piece.now }
         requires here { self.old.place ≡ place.Content fragment }
-        ensures some { 0 < result }
-        ensures fed { IsFed self.new }
-        ensures within { result ≤ length piece.now }
-        ensures limit { limit_of self.new ≡ limit_of self.old }
-        ensures takes { Takes self.old self.new (take result piece.now) }
-        ensures refuses { Refuses self.old self.new (take result piece.now) }
+        ensures { Advances self.old self.new piece.now result }
     {
         let n = piece.len().min(fragment.left as usize);
         match self.content.extend_from_slice(&piece[..n]) {

@@ -1,8 +1,11 @@
 -- What is retained while heights are found: the numbers so far.
-use Rattle.std.specs.Prelude.{◌≡◌, ℕ, ◌+◌, ◌<◌, List, [], ◌∷◌, length, Option, Some, None, slice_index_or, Bool, true}
-use Rattle.std.specs.Prelude.{false, ◌&&◌, ◌||◌, is_some, IsTrue}
+use Rattle.std.specs.Prelude.{◌≡◌, ℕ, ◌+◌, ◌<◌, ◌≤◌, List, [], ◌∷◌, length, map, Option, Some, None, Bool}
+use Rattle.std.specs.Prelude.{slice_index_or, true, false, ◌&&◌, ◌||◌, is_some, IsTrue}
 use Rattle.xdr_types.specs.Kinds.{KindView, Part, Branch, kind_at}
+use Rattle.xdr_types.specs.KindViews.{kind_view}
+use Rattle.xdr_types.specs.declared.kind.Kind.{Kind}
 use Rattle.xdr_types.specs.Sound.{Heighting, Asks, IsProper}
+use Rattle.xdr_types.specs.Private.Sets.{AreReached}
 
 -- the number of a place in a list, where it has one
 abbrev pub height_in : List (Option ℕ) → Heighting
@@ -35,6 +38,16 @@ abbrev pub IsClosed : List KindView → List (Option ℕ) → Type 0
 IsClosed kinds hs = (place : ℕ) → place < length kinds → height_in hs place ≡ None
     → Asks kinds (IsMarked hs) (kind_at kinds place) → ⊥
 
+-- every place has got a number
+abbrev pub AreAllMarked : List (Option ℕ) → Type 0
+AreAllMarked hs = (place : ℕ) → place < length hs → IsMarked hs place
+
+-- the first place without a number
+pub record IsFirstUnmarked (hs : List (Option ℕ)) (place : ℕ) : Type 0 where
+  pub within : place < length hs
+  pub none : height_in hs place ≡ None
+  pub before : (q : ℕ) → q < place → IsMarked hs q
+
 -- how many places have no number
 abbrev pub missing : List (Option ℕ) → ℕ
 missing [] = 0
@@ -47,3 +60,20 @@ pub record AreHeights (kinds : List KindView) (hs : List (Option ℕ)) (next : �
   pub proper : IsProper kinds (height_in hs)
   pub below : AreBelow hs next
   pub left : next + missing hs ≡ length kinds
+
+-- What holds between the steps of a round: there are at most 1024 kinds, rs says which defaults can be reached, ws has
+-- an index for each kind, and hs are the numbers so far.
+pub record BetweenSteps (kinds : List Kind) (rs : List Bool) (ws : List ℕ) (hs : List (Option ℕ))
+    (next : ℕ) : Type 0 where
+  pub few : length kinds ≤ 1024
+  pub reached : AreReached (map kind_view kinds) rs
+  pub waits : length ws ≡ length kinds
+  pub heights : AreHeights (map kind_view kinds) hs next
+
+-- What one step does at a place: it gives it the next number, or it gives none, where the place has one or has not what
+-- it asks.
+pub record Settles (kinds : List KindView) (place : ℕ) (old : List (Option ℕ)) (before : ℕ) (new : List (Option ℕ))
+    (after : ℕ) (r : Bool) : Type 0 where
+  pub settled : IsTrue r → after ≡ before + 1
+  pub same : r ≡ false → (new ≡ old) × (after ≡ before)
+  pub unmet : r ≡ false → height_in new place ≡ None → Asks kinds (IsMarked new) (kind_at kinds place) → ⊥

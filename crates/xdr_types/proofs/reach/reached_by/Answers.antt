@@ -6,7 +6,7 @@ use Rattle.xdr_types.specs.Private.Sets.{IsReached}
 use Rattle.xdr_types.specs.declared.kind.Kind.{Kind}
 use Rattle.xdr_types.proofs.InSets.{pushed}
 use Rattle.xdr_types.proofs.Marks.{kind-read}
-use Rattle.xdr_types.proofs.reach.reached_defaults.Goals as goal
+use Rattle.xdr_types.proofs.reach.reached_by.Goals as goal
 
 pub loop-kind-preserved : goal.loop-kind-preserved
 loop-kind-preserved c =

@@ -2,7 +2,7 @@ use Rattle.std.proofs.Common.{◌≡◌, ℕ, ◌<◌, Bool, length, map, get_or
 use Rattle.xdr_types.specs.Kinds.{kind_at}
 use Rattle.xdr_types.specs.KindViews.{kind_view}
 use Rattle.xdr_types.specs.Private.Sets.{IsReached}
-use Rattle.xdr_types.proofs.reach.reached_defaults.Given as goal
+use Rattle.xdr_types.proofs.reach.reached_by.Given as goal
 
 abbrev pub invariant-loop-kind : goal.invariant-loop-kind
 invariant-loop-kind l =
