@@ -12,8 +12,101 @@ pub const BYTES: u32 = 16777216;
 /// The version of the registry's program where none is given.
 pub const VERS: u32 = 4;
 
+// What the value of a word has to be.
+enum Taken {
+    Text,
+    Port,
+    Number,
+    Version,
+}
+
+// A word by its id, what help calls its value, what help says of it, and what the value has to be.
+enum Word {
+    // It stands at its place, without an option before it.
+    Placed(&'static str, &'static str, &'static str, Taken),
+    // An option that has to be there.
+    Required(&'static str, &'static str, &'static str, Taken),
+    // An option, and its value where it is not there, if it has one then.
+    Optional(&'static str, &'static str, &'static str, Taken, &'static [&'static str]),
+    // An option without a value.
+    Flag(&'static str, &'static str),
+}
+
+// A command: its name, what help says before and behind its options, and its words.
+struct Part {
+    name: &'static str,
+    about: &'static str,
+    after: &'static str,
+    words: &'static [Word],
+}
+
+const OF_A_VALUE: [Word; 5] = [
+    Word::Required("name", "NAME", help::NAME, Taken::Text),
+    Word::Optional("types", "FILE", help::TYPES, Taken::Text, &[]),
+    Word::Flag("hex", help::HEX),
+    Word::Optional("depth", "N", help::DEPTH, Taken::Number, &["4096"]),
+    Word::Optional("bytes", "N", help::BYTES, Taken::Number, &["16777216"]),
+];
+
+const OF_RECORDS: [Word; 2] = [
+    Word::Optional("limit", "N", help::LIMIT, Taken::Number, &["16777216"]),
+    Word::Flag("hex", help::HEX),
+];
+
+const OF_INFO: [Word; 4] = [
+    Word::Placed("host", "HOST", help::HOST, Taken::Text),
+    Word::Placed("port", "PORT", help::REGISTRY_PORT, Taken::Port),
+    Word::Optional("vers", "N", help::VERS, Taken::Version, &["4"]),
+    Word::Flag("udp", help::UDP),
+];
+
+const OF_SERVE: [Word; 3] = [
+    Word::Required("port", "N", help::PORT, Taken::Port),
+    Word::Required("count", "C", help::COUNT, Taken::Number),
+    Word::Optional("datagrams", "D", help::DATAGRAMS, Taken::Number, &["0"]),
+];
+
+const PARTS: [Part; 5] = [
+    Part {
+        name: "check",
+        about: help::CHECK,
+        after: after::AFTER_CHECK,
+        words: &OF_A_VALUE,
+    },
+    Part {
+        name: "show",
+        about: help::SHOW,
+        after: after::AFTER_SHOW,
+        words: &OF_A_VALUE,
+    },
+    Part {
+        name: "records",
+        about: help::RECORDS,
+        after: after::AFTER_RECORDS,
+        words: &OF_RECORDS,
+    },
+    Part {
+        name: "info",
+        about: help::INFO,
+        after: after::AFTER_INFO,
+        words: &OF_INFO,
+    },
+    Part {
+        name: "serve",
+        about: help::SERVE,
+        after: after::AFTER_SERVE,
+        words: &OF_SERVE,
+    },
+];
+
 /// The program with its subcommands.
 pub fn command<'a>(alloc: Global) -> Result<Command<'a>, AllocError> {
+    let parts = parts(alloc)?;
+    whole(alloc).bin_name("oncrpc")?.subcommands(parts)
+}
+
+// The program without a subcommand.
+fn whole<'a>(alloc: Global) -> Command<'a> {
     Command::new(alloc, "oncrpc")
         .about(help::ABOUT)
         .long_about(help::LONG_ABOUT)
@@ -21,113 +114,69 @@ pub fn command<'a>(alloc: Global) -> Result<Command<'a>, AllocError> {
         .version(help::VERSION)
         .long_version(help::LONG_VERSION)
         .no_binary_name(true)
-        .bin_name("oncrpc")?
         .subcommand_required(true)
-        .subcommand(check_command(alloc)?)?
-        .subcommand(show_command(alloc)?)?
-        .subcommand(records_command(alloc)?)?
-        .subcommand(info_command(alloc)?)?
-        .subcommand(serve_command(alloc)?)
 }
 
-fn check_command<'a>(alloc: Global) -> Result<Command<'a>, AllocError> {
-    let check = Command::new(alloc, "check")
-        .about(help::CHECK)
-        .after_help(after::AFTER_CHECK);
-    with_value_options(alloc, check)
+fn parts<'a>(alloc: Global) -> Result<Vec<Command<'a>>, AllocError> {
+    let mut parts = Vec::new(alloc);
+    for part in &PARTS {
+        parts.push(part_command(alloc, part)?)?;
+    }
+    Ok(parts)
 }
 
-fn show_command<'a>(alloc: Global) -> Result<Command<'a>, AllocError> {
-    let show = Command::new(alloc, "show")
-        .about(help::SHOW)
-        .after_help(after::AFTER_SHOW);
-    with_value_options(alloc, show)
+fn part_command<'a>(alloc: Global, part: &Part) -> Result<Command<'a>, AllocError> {
+    let args = args(alloc, part.words)?;
+    Command::new(alloc, part.name)
+        .about(part.about)
+        .after_help(part.after)
+        .args(args)
 }
 
-// The options of a value that is read.
-fn with_value_options<'a>(alloc: Global, command: Command<'a>) -> Result<Command<'a>, AllocError> {
-    let name = option(alloc, "name", "NAME", help::NAME).required(true);
-    let types = option(alloc, "types", "FILE", help::TYPES);
-    let depth = number(alloc, "depth", help::DEPTH).default_value("4096");
-    let bytes = number(alloc, "bytes", help::BYTES).default_value("16777216");
-    command
-        .arg(name)?
-        .arg(types)?
-        .arg(hex_flag(alloc))?
-        .arg(depth)?
-        .arg(bytes)
+fn args<'a>(alloc: Global, words: &[Word]) -> Result<Vec<Arg<'a>>, AllocError> {
+    let mut args = Vec::new(alloc);
+    for word in words {
+        args.push(arg(alloc, word))?;
+    }
+    Ok(args)
 }
 
-fn records_command<'a>(alloc: Global) -> Result<Command<'a>, AllocError> {
-    let limit = number(alloc, "limit", help::LIMIT).default_value("16777216");
-    Command::new(alloc, "records")
-        .about(help::RECORDS)
-        .after_help(after::AFTER_RECORDS)
-        .arg(limit)?
-        .arg(hex_flag(alloc))
+fn arg<'a>(alloc: Global, word: &Word) -> Arg<'a> {
+    match word {
+        Word::Placed(id, value, help, taken) => {
+            parsed(setting(alloc, *id, *value, *help).required(true), taken)
+        }
+        Word::Required(id, value, help, taken) => parsed(
+            setting(alloc, *id, *value, *help).long(*id).required(true),
+            taken,
+        ),
+        Word::Optional(id, value, help, taken, defaults) => parsed(
+            setting(alloc, *id, *value, *help)
+                .long(*id)
+                .default_values(*defaults),
+            taken,
+        ),
+        Word::Flag(id, help) => Arg::new(alloc, *id)
+            .long(*id)
+            .help(*help)
+            .action(ArgAction::SetTrue),
+    }
 }
 
-fn info_command<'a>(alloc: Global) -> Result<Command<'a>, AllocError> {
-    let host = word(alloc, "host", "HOST", help::HOST);
-    let port = word(alloc, "port", "PORT", help::REGISTRY_PORT).value_parser(value_parser!(u16));
-    let vers = option(alloc, "vers", "N", help::VERS)
-        .value_parser(value_parser!(u32).range(2..=4))
-        .default_value("4");
-    Command::new(alloc, "info")
-        .about(help::INFO)
-        .after_help(after::AFTER_INFO)
-        .arg(host)?
-        .arg(port)?
-        .arg(vers)?
-        .arg(flag(alloc, "udp", help::UDP))
-}
-
-fn serve_command<'a>(alloc: Global) -> Result<Command<'a>, AllocError> {
-    let port = option(alloc, "port", "N", help::PORT)
-        .required(true)
-        .value_parser(value_parser!(u16));
-    let count = option(alloc, "count", "C", help::COUNT)
-        .required(true)
-        .value_parser(value_parser!(u32));
-    let datagrams = option(alloc, "datagrams", "D", help::DATAGRAMS)
-        .value_parser(value_parser!(u32))
-        .default_value("0");
-    Command::new(alloc, "serve")
-        .about(help::SERVE)
-        .after_help(after::AFTER_SERVE)
-        .arg(port)?
-        .arg(count)?
-        .arg(datagrams)
-}
-
-// A word that stands at its place, without an option before it.
-fn word<'a>(alloc: Global, id: &'a str, value: &'a str, help: &'a str) -> Arg<'a> {
+// A word with a value.
+fn setting<'a>(alloc: Global, id: &'a str, value: &'a str, help: &'a str) -> Arg<'a> {
     Arg::new(alloc, id)
         .help(help)
         .action(ArgAction::Set)
         .value_name(value)
-        .required(true)
 }
 
-fn option<'a>(alloc: Global, id: &'a str, value: &'a str, help: &'a str) -> Arg<'a> {
-    Arg::new(alloc, id)
-        .long(id)
-        .help(help)
-        .action(ArgAction::Set)
-        .value_name(value)
-}
-
-fn number<'a>(alloc: Global, id: &'a str, help: &'a str) -> Arg<'a> {
-    option(alloc, id, "N", help).value_parser(value_parser!(u32))
-}
-
-fn hex_flag<'a>(alloc: Global) -> Arg<'a> {
-    flag(alloc, "hex", help::HEX)
-}
-
-fn flag<'a>(alloc: Global, id: &'a str, help: &'a str) -> Arg<'a> {
-    Arg::new(alloc, id)
-        .long(id)
-        .help(help)
-        .action(ArgAction::SetTrue)
+// The same, whose value has to be what is taken.
+fn parsed<'a>(arg: Arg<'a>, taken: &Taken) -> Arg<'a> {
+    match taken {
+        Taken::Text => arg,
+        Taken::Port => arg.value_parser(value_parser!(u16)),
+        Taken::Number => arg.value_parser(value_parser!(u32)),
+        Taken::Version => arg.value_parser(value_parser!(u32).range(2..=4)),
+    }
 }

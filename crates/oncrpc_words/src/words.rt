@@ -21,7 +21,10 @@ pub fn read_words(alloc: Global, words: Vec<String>) -> Result<Request, WordsFau
     ensures only_memory { words.items ≡ [] → IfErr result (λ fault. fault.status ≡ 4) }
 {
     if words.is_empty() {
-        return first_request(alloc).map_err(|_| no_memory(alloc));
+        return match first_request(alloc) {
+            Ok(request) => Ok(request),
+            Err(_) => Err(no_memory(alloc)),
+        };
     }
     match request_of(alloc, words.as_slice()) {
         Ok(request) => Ok(request),
@@ -45,37 +48,51 @@ fn first_request(alloc: Global) -> Result<Request, AllocError>
 fn request_of(alloc: Global, words: &[String]) -> Result<Request, Error> {
     let matches = command(alloc)?.try_get_matches_from(words)?;
     match matches.subcommand() {
-        Some(("info", options)) => Ok(Request::Info(info_task(alloc, options)?)),
-        Some(("serve", options)) => Ok(Request::Serve(serve_task(options))),
-        Some((name, options)) => Ok(Request::Offline(offline_task(alloc, name, options)?)),
+        Some((name, options)) => Ok(asked(alloc, name, options)?),
         None => Ok(first_request(alloc)?),
     }
 }
 
-fn offline_task(alloc: Global, name: &str, options: &ArgMatches<'_>) -> Result<Task, AllocError> {
+fn asked(alloc: Global, name: &str, options: &ArgMatches<'_>) -> Result<Request, AllocError> {
     match name {
-        "check" => Ok(Task::Check(value_task(alloc, options)?)),
-        "show" => Ok(Task::Show(value_task(alloc, options)?)),
-        _ => Ok(Task::Records(records_task(options))),
+        "check" => Ok(Request::Offline(Task::Check(value_task(alloc, options)?))),
+        "show" => Ok(Request::Offline(Task::Show(value_task(alloc, options)?))),
+        "info" => Ok(Request::Info(info_task(alloc, options)?)),
+        "serve" => Ok(Request::Serve(serve_task(options))),
+        _ => Ok(Request::Offline(Task::Records(records_task(options)))),
+    }
+}
+
+// The number that an option has.
+fn number(options: &ArgMatches<'_>, id: &str, otherwise: u32) -> u32 {
+    options.get_one::<u32>(id).unwrap_or(otherwise)
+}
+
+fn port(options: &ArgMatches<'_>) -> u16 {
+    options.get_one::<u16>("port").unwrap_or(0)
+}
+
+fn file(alloc: Global, options: &ArgMatches<'_>) -> Result<Option<String>, AllocError> {
+    match options.get_str("types") {
+        Some(file) => Ok(Some(String::from_str(alloc, file)?)),
+        None => Ok(None),
     }
 }
 
 fn value_task(alloc: Global, options: &ArgMatches<'_>) -> Result<ValueTask, AllocError> {
+    let types = file(alloc, options)?;
     Ok(ValueTask {
         name: String::from_str(alloc, options.get_str("name").unwrap_or("opaque"))?,
-        types: match options.get_str("types") {
-            Some(file) => Some(String::from_str(alloc, file)?),
-            None => None,
-        },
+        types,
         hex: options.get_flag("hex"),
-        depth: options.get_one::<u32>("depth").unwrap_or(DEPTH),
-        bytes: options.get_one::<u32>("bytes").unwrap_or(BYTES),
+        depth: number(options, "depth", DEPTH),
+        bytes: number(options, "bytes", BYTES),
     })
 }
 
 fn records_task(options: &ArgMatches<'_>) -> RecordsTask {
     RecordsTask {
-        limit: options.get_one::<u32>("limit").unwrap_or(BYTES),
+        limit: number(options, "limit", BYTES),
         hex: options.get_flag("hex"),
     }
 }
@@ -83,16 +100,16 @@ fn records_task(options: &ArgMatches<'_>) -> RecordsTask {
 fn info_task(alloc: Global, options: &ArgMatches<'_>) -> Result<InfoTask, AllocError> {
     Ok(InfoTask {
         host: String::from_str(alloc, options.get_str("host").unwrap_or(""))?,
-        port: options.get_one::<u16>("port").unwrap_or(0),
-        vers: options.get_one::<u32>("vers").unwrap_or(VERS),
+        port: port(options),
+        vers: number(options, "vers", VERS),
         udp: options.get_flag("udp"),
     })
 }
 
 fn serve_task(options: &ArgMatches<'_>) -> ServeTask {
     ServeTask {
-        port: options.get_one::<u16>("port").unwrap_or(0),
-        count: options.get_one::<u32>("count").unwrap_or(0),
-        datagrams: options.get_one::<u32>("datagrams").unwrap_or(0),
+        port: port(options),
+        count: number(options, "count", 0),
+        datagrams: number(options, "datagrams", 0),
     }
 }
