@@ -4,6 +4,7 @@ pub mod Spelled
 pub mod Stopped
 pub mod Opened
 pub mod Serves
+pub mod Silent
 pub mod Asks
 pub mod Answered
 pub mod Normalised

@@ -55,6 +55,22 @@ pub fn serves_nobody<L: Listener, S: BuildHasher, O: Sink, F: Sink>(
     serve_on(alloc, listener, count, directory, output, faults)
 }
 
+/// To a client that sends nothing goes nothing: no byte before the replies, of which there are none, and none after
+/// them. The listener reports what went to each client.
+pub fn sends_nothing_to_a_silent_client<L: Listener, S: BuildHasher, O: Sink, F: Sink>(
+    alloc: Global,
+    listener: &mut L,
+    directory: &mut Directory<S>,
+    output: &mut O,
+    faults: &mut F,
+) -> u8
+    requires silent { L.waiting listener.old ≡ Some ([] ∷ []) }
+    requires first { L.sent listener.old ≡ Some [] }
+    ensures { result ≡ 0 → L.sent listener.new ≡ Some ([] ∷ []) }
+{
+    serve_on(alloc, listener, 1, directory, output, faults)
+}
+
 /// Where an answer is printed, what went out is DUMP of version 4 with xid 1 and no credentials, as one last fragment.
 pub fn asks_for_all_rows<R: Source, W: Sink, O: Sink, F: Sink>(
     alloc: Global,

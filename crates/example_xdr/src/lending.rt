@@ -1,5 +1,5 @@
 //! The parts of values, lent from their bytes.
-ghost use Rattle.std.specs.Prelude.{◌≡◌, ◌≤◌, ◌<◌, [], ◌∷◌, length, map, IfOk, IfErr};
+ghost use Rattle.std.specs.Prelude.{◌≡◌, ◌≤◌, [], ◌∷◌, map, IfOk, IfErr};
 ghost use Rattle.xdr_types.specs.Kinds.{kind_at, opaque_up_to};
 ghost use Rattle.xdr_types.specs.Layout.{entry, of_content, of_length};
 ghost use Rattle.xdr_stream.specs.declared.fault.Reason.TheVariants.{NoMemory};
@@ -57,10 +57,7 @@ pub fn lends_an_empty_opaque<'a>(
     limits: Limits,
     input: &'a [u8],
 ) -> Result<Vec<Lent<'a>>, DecodeFault>
-    requires has { kind.place < length schema.now.kinds }
     requires kind { kind_at schema.now.kinds kind.place ≡ opaque_up_to 4294967295 }
-    requires limit { 4 ≤ limits.bytes }
-    requires depth { 1 ≤ limits.depth }
     requires input { input.now ≡ 0 ∷ 0 ∷ 0 ∷ 0 ∷ 0 ∷ 0 ∷ 0 ∷ 42 ∷ [] }
     ensures parts { IfOk result (λ ls. map entry_of ls.items
         ≡ entry 0 4 1 (part [] kind.place) of_length ∷ entry 4 0 1 (part [] kind.place) (of_content 0) ∷ []) }

@@ -11,13 +11,13 @@ use Rattle.registry_rows.specs.Rows.{Row}
 use Rattle.registry_rows.specs.Ports.{tcp}
 use Rattle.rpc_engine.specs.declared.fault.ServeFault.TheVariants as fault
 use Rattle.rpc_engine.specs.Served.{Serves, Stops}
-use Rattle.oncrpc_service.specs.Listening.{Arrives}
+use Rattle.oncrpc_service.specs.Listening.{Clients, clients_of, Arrives, IsFresh, Leaves}
 use Rattle.oncrpc_answers.specs.declared.failure.Failure.TheVariants as failure
 use Rattle.oncrpc_service.specs.declared.serving.Stop.{Stop}
 use Rattle.oncrpc_service.specs.declared.serving.Stop.TheVariants as stop
-use Rattle.oncrpc_service.specs.Connections.{Outcome, ServesEach, ServesNext, connection_line, connection_lines}
-use Rattle.oncrpc_service.specs.Connections.{listening_line, printed}
-use Rattle.oncrpc_service.specs.ServeEnds.{Post, HasServed, HasStopped, HasServedOne, LinePrints}
+use Rattle.oncrpc_service.specs.Connections.{Outcome, Answers, ServesEach, ServesNext, connection_line}
+use Rattle.oncrpc_service.specs.Connections.{connection_lines, listening_line, printed}
+use Rattle.oncrpc_service.specs.ServeEnds.{Post, clients, HasServed, HasStopped, HasServedOne, LinePrints}
 use Rattle.oncrpc_service.specs.ServeEnds.{StopsOne}
 use Rattle.oncrpc_service.specs.Written.{InPart}
 use Rattle.oncrpc_service.proofs.Texts.{begun, in_part_then, numbered_then}
@@ -35,14 +35,21 @@ printed_then port n os o e =
 
 -- ---- connections
 
-each_then : {W : Type 0} (went : W → Option (List ℕ)) (rows mid new : List Row) (a b c : Option (List (List ℕ)))
+each_then : {W : Type 0} (went : W → Option (List ℕ)) (rows mid new : List Row) (a b c : Clients)
     (os : List Outcome) (o : Outcome)
     → ServesEach went rows a os mid b → ServesNext went mid new b c o → ServesEach went rows a (os ++ o ∷ []) new c
 each_then went rows mid new a b c [] o each next =
     let first = subst (λ (r : List Row). ServesNext went r new b c o) each.0 next in
-    (new, (c, (subst (λ (w : Option (List (List ℕ))). ServesNext went rows new w c o) each.1 first, (refl, refl))))
+    (new, (c, (subst (λ (w : Clients). ServesNext went rows new w c o) each.1 first, (refl, refl))))
 each_then went rows mid new a b c (p ∷ os) o each next =
     (each.0, (each.1.0, (each.1.1.0, each_then went each.0 mid new each.1.0 b c os o each.1.1.1 next)))
+
+-- where what waits and what was sent stay, so do the clients
+same_clients : {L W O : Type 0} (post : Post L W O) (m k : L) → post.waiting k ≡ post.waiting m
+    → post.sent k ≡ post.sent m → clients post k ≡ clients post m
+same_clients post m k waits sends =
+    ap (λ (w : Option (List (List ℕ))). clients_of w (post.sent k)) waits
+    ∙ ap (λ (s : Option (List (List ℕ))). clients_of (post.waiting m) s) sends
 
 pub begins : {L W O : Type 0} (post : Post L W O) (rows : List Row) (l : L) (o o' : O)
     → Appends (post.taken o) (post.taken o') (listening_line (post.port l)) → Counts 0 (post.lost o) (post.lost o')
@@ -104,10 +111,10 @@ stops_on {O = O} post rows mid new l m k o p q n count stop.NoConnection few don
     let counted = done.counted in
     record {
       outcomes = done.outcomes;
-      served = subst (λ (r : List Row). ServesEach post.went rows (post.waiting l) done.outcomes r (post.waiting k))
+      served = subst (λ (r : List Row). ServesEach post.went rows (clients post l) done.outcomes r (clients post k))
           (sym one.same)
-          (subst (λ (w : Option (List (List ℕ))). ServesEach post.went rows (post.waiting l) done.outcomes mid w)
-          (sym one.waiting) done.served);
+          (subst (λ (w : Clients). ServesEach post.went rows (clients post l) done.outcomes mid w)
+          (sym (same_clients post m k one.waiting one.sent)) done.served);
       few = omega (arith, counted, few);
       stops = (
         omega (arith, counted, few),
@@ -149,17 +156,37 @@ stops_on post rows mid new l m k o p q n count (stop.Failed failure.NoMemory) fe
 -- ---- one connection
 
 pub next_served : {W : Type 0} (went : W → Option (List ℕ)) (rows new : List Row)
-    (waiting waiting' : Option (List (List ℕ))) (left left' : Option (List ℕ)) (writer writer' : W) (o : Outcome)
-    → Arrives waiting waiting' left → IfOk o (λ s. Serves tcp rows new left left' (went writer) (went writer') s)
+    (waiting came waiting' sent began sent' : Option (List (List ℕ))) (left left' : Option (List ℕ))
+    (writer writer' : W) (o : Outcome) → Arrives waiting came left → IsFresh sent (went writer) → began ≡ sent
+    → waiting' ≡ came → Leaves began sent' (went writer')
+    → IfOk o (λ s. Serves tcp rows new left left' (went writer) (went writer') s)
     → IfErr o (λ f. Stops tcp rows new left left' (went writer) (went writer') f)
-    → ServesNext went rows new waiting waiting' o
-next_served went rows new waiting waiting' left left' writer writer' (Ok s) arrived served stopped =
-    record { left = left; left' = left'; writer = writer; writer' = writer'; arrived = arrived; answered = served }
-next_served went rows new waiting waiting' left left' writer writer' (Err f) arrived served stopped =
-    record { left = left; left' = left'; writer = writer; writer' = writer'; arrived = arrived; answered = stopped }
+    → ServesNext went rows new (clients_of waiting sent) (clients_of waiting' sent') o
+next_served went rows new waiting came waiting' sent began sent' left left' writer writer' o arrived fresh same stays
+    leaves served stopped =
+    by o served stopped
+  where
+    next : (o : Outcome) → Answers rows new left left' (went writer) (went writer') o
+        → ServesNext went rows new (clients_of waiting sent) (clients_of waiting' sent') o
+    next o answered = record {
+      left = left;
+      left' = left';
+      writer = writer;
+      writer' = writer';
+      arrived = subst (λ (w : Option (List (List ℕ))). Arrives waiting w left) (sym stays) arrived;
+      fresh = fresh;
+      answered = answered;
+      ended = subst (λ (s : Option (List (List ℕ))). Leaves s sent' (went writer')) same leaves;
+    }
+
+    by : (o : Outcome) → IfOk o (λ s. Serves tcp rows new left left' (went writer) (went writer') s)
+        → IfErr o (λ f. Stops tcp rows new left left' (went writer) (went writer') f)
+        → ServesNext went rows new (clients_of waiting sent) (clients_of waiting' sent') o
+    by (Ok s) served stopped = next (Ok s) served
+    by (Err f) served stopped = next (Err f) stopped
 
 pub one_served : {L W O : Type 0} (post : Post L W O) (n : ℕ) (rows new : List Row) (l m : L) (o p : O) (x : Outcome)
-    (r : Result (Unit {0}) Stop) → ServesNext post.went rows new (post.waiting l) (post.waiting m) x
+    (r : Result (Unit {0}) Stop) → ServesNext post.went rows new (clients post l) (clients post m) x
     → Counts 0 (post.refused l) (post.refused m)
     → LinePrints (connection_line n x) (post.taken o) (post.taken p) (post.lost o) (post.lost p) r
     → OnOk r (HasServedOne n post rows new l m o p)
@@ -168,7 +195,7 @@ one_served post n rows new l m o p x (Ok u) next unrefused line =
 one_served post n rows new l m o p x (Err why) next unrefused line = tt
 
 pub one_stopped : {L W O : Type 0} (post : Post L W O) (n : ℕ) (rows new : List Row) (l m : L) (o p : O) (x : Outcome)
-    (r : Result (Unit {0}) Stop) → ServesNext post.went rows new (post.waiting l) (post.waiting m) x
+    (r : Result (Unit {0}) Stop) → ServesNext post.went rows new (clients post l) (clients post m) x
     → LinePrints (connection_line n x) (post.taken o) (post.taken p) (post.lost o) (post.lost p) r
     → IfErr r (λ why. StopsOne n post rows new l m o p why)
 one_stopped post n rows new l m o p x (Ok u) next line = tt

@@ -8,7 +8,7 @@ use Rattle.rpc_engine.specs.declared.fault.ServeFault.{ServeFault}
 use Rattle.rpc_engine.specs.declared.fault.ServeFault.TheVariants as fault
 use Rattle.rpc_engine.specs.declared.fault.Served.{Served}
 use Rattle.rpc_engine.specs.Served.{Serves, Stops}
-use Rattle.oncrpc_service.specs.Listening.{Arrives}
+use Rattle.oncrpc_service.specs.Listening.{Clients, Arrives, IsFresh, Leaves}
 use Rattle.oncrpc_service.specs.Written.{numbered}
 
 -- how a connection ended: what was counted, or what was wrong with it
@@ -20,25 +20,25 @@ abbrev pub Answers : (rows new : List Row) → (left left' taken taken' : Option
 Answers rows new left left' taken taken' (Ok served) = Serves tcp rows new left left' taken taken' served
 Answers rows new left left' taken taken' (Err f) = Stops tcp rows new left left' taken taken' f
 
--- The next connection was served: what the client sent was answered, and the replies went to the client. A writer to a
--- client tells by `went` what went there.
-pub record ServesNext {W : Type 0} (went : W → Option (List ℕ)) (rows new : List Row)
-    (waiting waiting' : Option (List (List ℕ))) (o : Outcome) : Type 0 where
+-- The next connection was served: what the client sent was answered, and nothing went to the client before the replies
+-- or after them. A writer to a client tells by `went` what went there.
+pub record ServesNext {W : Type 0} (went : W → Option (List ℕ)) (rows new : List Row) (clients clients' : Clients)
+    (o : Outcome) : Type 0 where
   pub left : Option (List ℕ)
   pub left' : Option (List ℕ)
   pub writer : W
   pub writer' : W
-  pub arrived : Arrives waiting waiting' left
+  pub arrived : Arrives clients.waiting clients'.waiting left
+  pub fresh : IsFresh clients.sent (went writer)
   pub answered : Answers rows new left left' (went writer) (went writer') o
+  pub ended : Leaves clients.sent clients'.sent (went writer')
 
 -- Connections were served one after another, each from the rows that the one before left.
-abbrev pub ServesEach : {W : Type 0} → (went : W → Option (List ℕ)) → (rows : List Row)
-    → (waiting : Option (List (List ℕ))) → List Outcome → (new : List Row)
-    → (waiting' : Option (List (List ℕ)))
-    → Type 0
-ServesEach went rows waiting [] new waiting' = (new ≡ rows) × (waiting' ≡ waiting)
-ServesEach went rows waiting (o ∷ os) new waiting' = (mid : List Row) × ((next : Option (List (List ℕ)))
-    × (ServesNext went rows mid waiting next o × ServesEach went mid next os new waiting'))
+abbrev pub ServesEach : {W : Type 0} → (went : W → Option (List ℕ)) → (rows : List Row) → (clients : Clients)
+    → List Outcome → (new : List Row) → (clients' : Clients) → Type 0
+ServesEach went rows clients [] new clients' = (new ≡ rows) × (clients' ≡ clients)
+ServesEach went rows clients (o ∷ os) new clients' = (mid : List Row) × ((next : Clients)
+    × (ServesNext went rows mid clients next o × ServesEach went mid next os new clients'))
 
 -- the line of a connection that a fault of its stream of records ended: the fault's name and its place
 abbrev pub record_line : (number : ℕ) → RecordFault → List ℕ

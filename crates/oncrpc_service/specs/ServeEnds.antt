@@ -6,17 +6,23 @@ use Rattle.registry_rows.specs.Rows.{Row}
 use Rattle.oncrpc_service.specs.declared.serving.Stop.{Stop}
 use Rattle.oncrpc_service.specs.declared.serving.Stop.TheVariants as stop
 use Rattle.oncrpc_service.specs.Connections.{Outcome, ServesEach, ServesNext, connection_line, printed}
+use Rattle.oncrpc_service.specs.Listening.{Clients, clients_of}
 use Rattle.oncrpc_service.specs.Written.{InPart, IsCut}
 
 -- What a listener, the writers to its clients and the output tell: the port, what the clients that wait send, what went
--- to a client, and what failed.
+-- to those that were served and to each of them, and what failed.
 pub record Post (L W O : Type 0) : Type 0 where
   pub port : L → ℕ
   pub waiting : L → Option (List (List ℕ))
+  pub sent : L → Option (List (List ℕ))
   pub refused : L → Option ℕ
   pub went : W → Option (List ℕ)
   pub taken : O → Option (List ℕ)
   pub lost : O → Option ℕ
+
+-- what a listener tells of its clients
+abbrev pub clients : {L W O : Type 0} → Post L W O → L → Clients
+clients post listener = clients_of (post.waiting listener) (post.sent listener)
 
 -- What a device did: no connection came, after the lines of those before, or a write failed under these lines.
 abbrev pub Fails : (text : List ℕ) → (fewer : Type 0) → (refused refused' : Option ℕ)
@@ -29,7 +35,7 @@ Fails text fewer refused refused' taken taken' lost lost' =
 pub record ServeEnds {L W O F : Type 0} (count : ℕ) (post : Post L W O) (rows new : List Row) (listener listener' : L)
     (output output' : O) (faults faults' : F) (status : ℕ) : Type 0 where
   pub outcomes : List Outcome
-  pub served : ServesEach post.went rows (post.waiting listener) outcomes new (post.waiting listener')
+  pub served : ServesEach post.went rows (clients post listener) outcomes new (clients post listener')
   pub few : length outcomes ≤ count
   pub known : (status ≡ 0) ⊎ ((status ≡ 3) ⊎ (status ≡ 4))
   pub all : status ≡ 0 → length outcomes ≡ count
@@ -55,7 +61,7 @@ StopsUnder text fewer refused refused' taken taken' lost lost' (stop.Failed f) =
 pub record HasServed {L W O : Type 0} (count : ℕ) (post : Post L W O) (rows new : List Row) (listener listener' : L)
     (output output' : O) : Type 0 where
   pub outcomes : List Outcome
-  pub served : ServesEach post.went rows (post.waiting listener) outcomes new (post.waiting listener')
+  pub served : ServesEach post.went rows (clients post listener) outcomes new (clients post listener')
   pub counted : length outcomes ≡ count
   pub lines : Appends (post.taken output) (post.taken output') (printed (post.port listener) outcomes)
   pub unlost : Counts 0 (post.lost output) (post.lost output')
@@ -65,7 +71,7 @@ pub record HasServed {L W O : Type 0} (count : ℕ) (post : Post L W O) (rows ne
 pub record HasStopped {L W O : Type 0} (count : ℕ) (post : Post L W O) (rows new : List Row) (listener listener' : L)
     (output output' : O) (why : Stop) : Type 0 where
   pub outcomes : List Outcome
-  pub served : ServesEach post.went rows (post.waiting listener) outcomes new (post.waiting listener')
+  pub served : ServesEach post.went rows (clients post listener) outcomes new (clients post listener')
   pub few : length outcomes ≤ count
   pub stops : StopsUnder (printed (post.port listener) outcomes) (length outcomes < count)
       (post.refused listener) (post.refused listener') (post.taken output) (post.taken output')
@@ -75,7 +81,7 @@ pub record HasStopped {L W O : Type 0} (count : ℕ) (post : Post L W O) (rows n
 pub record HasServedOne {L W O : Type 0} (number : ℕ) (post : Post L W O) (rows new : List Row) (listener listener' : L)
     (output output' : O) : Type 0 where
   pub outcome : Outcome
-  pub served : ServesNext post.went rows new (post.waiting listener) (post.waiting listener') outcome
+  pub served : ServesNext post.went rows new (clients post listener) (clients post listener') outcome
   pub line : Appends (post.taken output) (post.taken output') (connection_line number outcome)
   pub unlost : Counts 0 (post.lost output) (post.lost output')
   pub unrefused : Counts 0 (post.refused listener) (post.refused listener')
@@ -92,6 +98,7 @@ pub record NoneCame {L W O : Type 0} (post : Post L W O) (rows new : List Row) (
     (output output' : O) : Type 0 where
   pub same : new ≡ rows
   pub waiting : post.waiting listener' ≡ post.waiting listener
+  pub sent : post.sent listener' ≡ post.sent listener
   pub unprinted : output' ≡ output
   pub refused : Counts 1 (post.refused listener) (post.refused listener')
 
@@ -99,7 +106,7 @@ pub record NoneCame {L W O : Type 0} (post : Post L W O) (rows new : List Row) (
 pub record LosesLine {L W O : Type 0} (number : ℕ) (post : Post L W O) (rows new : List Row) (listener listener' : L)
     (output output' : O) (why : Stop) : Type 0 where
   pub outcome : Outcome
-  pub served : ServesNext post.went rows new (post.waiting listener) (post.waiting listener') outcome
+  pub served : ServesNext post.went rows new (clients post listener) (clients post listener') outcome
   pub stops : LinePrints (connection_line number outcome) (post.taken output) (post.taken output')
       (post.lost output) (post.lost output') (Err why)
 

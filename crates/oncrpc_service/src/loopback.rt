@@ -40,6 +40,8 @@ impl Listener for Loopback {
             Err(_) => Err(AcceptFault),
         }
     }
+
+    fn close(&mut self, _reader: FromRead<TcpStream>, _writer: IntoWrite<TcpStream>) {}
 }
 
 fn accepted(listener: &TcpListener) -> io::Result<(FromRead<TcpStream>, IntoWrite<TcpStream>)> {

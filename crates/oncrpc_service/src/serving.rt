@@ -3,6 +3,7 @@ ghost use Rattle.std.specs.Prelude.{◌≡◌, ◌<◌, ℕ, List, IfOk, IfErr, 
 ghost use Rattle.std.specs.Prelude.{string_bytes};
 ghost use Rattle.xdr_io.specs.Reported.{Counts};
 ghost use Rattle.oncrpc_service.specs.Connections.{ServesNext, connection_line, listening_line, record_line};
+ghost use Rattle.oncrpc_service.specs.Listening.{clients_of};
 ghost use Rattle.oncrpc_service.specs.ServeEnds.{HasServed, HasServedOne, HasStopped, LinePrints, ServeEnds, StopsOne};
 
 use crate::listener::Listener;
@@ -30,6 +31,7 @@ pub fn serve_on<L: Listener, S: BuildHasher, O: Sink, F: Sink>(
     ensures { ServeEnds count (record {
       port = L.port_of;
       waiting = L.waiting;
+      sent = L.sent;
       refused = L.failures;
       went = L.Writer.taken;
       taken = O.taken;
@@ -71,6 +73,7 @@ fn serve_all<L: Listener, S: BuildHasher, O: Sink>(
         (record {
           port = L.port_of;
           waiting = L.waiting;
+          sent = L.sent;
           refused = L.failures;
           went = L.Writer.taken;
           taken = O.taken;
@@ -81,6 +84,7 @@ fn serve_all<L: Listener, S: BuildHasher, O: Sink>(
         (record {
           port = L.port_of;
           waiting = L.waiting;
+          sent = L.sent;
           refused = L.failures;
           went = L.Writer.taken;
           taken = O.taken;
@@ -113,6 +117,7 @@ fn serve_one<L: Listener, S: BuildHasher, O: Sink>(
         (record {
           port = L.port_of;
           waiting = L.waiting;
+          sent = L.sent;
           refused = L.failures;
           went = L.Writer.taken;
           taken = O.taken;
@@ -123,6 +128,7 @@ fn serve_one<L: Listener, S: BuildHasher, O: Sink>(
         (record {
           port = L.port_of;
           waiting = L.waiting;
+          sent = L.sent;
           refused = L.failures;
           went = L.Writer.taken;
           taken = O.taken;
@@ -143,21 +149,20 @@ fn serve_next<L: Listener, S: BuildHasher>(
     directory: &mut Directory<S>,
 ) -> Result<Result<Served, ServeFault>, Stop>
     ensures served { IfOk result (λ outcome.
-        ServesNext L.Writer.taken directory.old directory.new (L.waiting listener.old) (L.waiting listener.new)
-        outcome) }
+        ServesNext L.Writer.taken directory.old directory.new
+        (clients_of (L.waiting listener.old) (L.sent listener.old))
+        (clients_of (L.waiting listener.new) (L.sent listener.new)) outcome) }
     ensures none_failed { OnOk result (Counts 0 (L.failures listener.old) (L.failures listener.new)) }
     ensures none_came { IfErr result (λ why. (why ≡ Stop.NoConnection) × (directory.new ≡ directory.old)
-        × (L.waiting listener.new ≡ L.waiting listener.old)
+        × (L.waiting listener.new ≡ L.waiting listener.old) × (L.sent listener.new ≡ L.sent listener.old)
         × Counts 1 (L.failures listener.old) (L.failures listener.new)) }
 {
     match listener.accept() {
-        Ok((mut reader, mut writer)) => Ok(serve(
-            alloc,
-            &mut reader,
-            &mut writer,
-            directory,
-            Transport::Tcp,
-        )),
+        Ok((mut reader, mut writer)) => {
+            let outcome = serve(alloc, &mut reader, &mut writer, directory, Transport::Tcp);
+            listener.close(reader, writer);
+            Ok(outcome)
+        }
         Err(_) => Err(Stop::NoConnection),
     }
 }

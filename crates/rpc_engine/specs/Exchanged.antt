@@ -1,14 +1,16 @@
 -- What an exchange has written and read (RFC 5531 sections 9 and 11).
 use Rattle.std.specs.Prelude.{◌≡◌, ◌≢◌, ◌⊎◌, ℕ, ◌<◌, true, List, [], ◌∷◌, length, take, Option}
-use Rattle.std.specs.Prelude.{Some, Result, Ok, Err}
+use Rattle.std.specs.Prelude.{Some, Result, Ok, Err, IsErrOf}
 use Rattle.std.specs.Io.KnownBytes.{Appends, Consumes, IsAtEnd}
+use Rattle.xdr_io.specs.Reported.{Counts, CountsAtMost}
+use Rattle.xdr_io.specs.declared.input.TheConstants.{MOST_READS}
 use Rattle.rpc_record.specs.declared.fault.RecordFault.TheVariants as flaw
 use Rattle.rpc_record.specs.Marked.{fragment, Longest}
 use Rattle.rpc_record.specs.Reading.{Begins, TooLongAt, HasNoLong, capped}
 use Rattle.rpc_message.specs.declared.message.Reply.{Reply}
 use Rattle.rpc_message.specs.declared.fault.ReplyFault.TheVariants as why
-use Rattle.rpc_message.specs.Message.{ReplyView, Accepted, Denied}
-use Rattle.rpc_message.specs.Spelling.{ReplyBytes}
+use Rattle.rpc_message.specs.Message.{CallView, ReplyView, Accepted, Denied}
+use Rattle.rpc_message.specs.Spelling.{call, ReplyBytes}
 use Rattle.rpc_message.specs.Faults.{StandsIn}
 use Rattle.rpc_message.specs.View.{reply_view}
 use Rattle.rpc_engine.specs.declared.fault.ClientFault.{ClientFault}
@@ -86,11 +88,11 @@ IsExact xid left result = (input : List ℕ) → left ≡ Some input → IsAnswe
 
 -- What was written: the call as one last fragment; after a failed write a front of it; where memory was refused all of
 -- it or nothing.
-abbrev pub Wrote : (call : List ℕ) → Option (List ℕ) → Option (List ℕ) → Result Reply ClientFault → Type 0
-Wrote call taken taken' (Err (fault.Write written)) =
-    (written < length (fragment true call)) × Appends taken taken' (take written (fragment true call))
-Wrote call taken taken' (Err fault.NoMemory) = Appends taken taken' [] ⊎ Appends taken taken' (fragment true call)
-Wrote call taken taken' _ = Appends taken taken' (fragment true call)
+abbrev pub Wrote : (bytes : List ℕ) → Option (List ℕ) → Option (List ℕ) → Result Reply ClientFault → Type 0
+Wrote bytes taken taken' (Err (fault.Write written)) =
+    (written < length (fragment true bytes)) × Appends taken taken' (take written (fragment true bytes))
+Wrote bytes taken taken' (Err fault.NoMemory) = Appends taken taken' [] ⊎ Appends taken taken' (fragment true bytes)
+Wrote bytes taken taken' _ = Appends taken taken' (fragment true bytes)
 
 -- `Read` is one failed read, and the other faults are none
 abbrev pub reads_failed : ClientFault → ℕ
@@ -111,3 +113,20 @@ writes_failed _ = 0
 abbrev pub write_failures : {T : Type 0} → Result T ClientFault → ℕ
 write_failures (Ok x) = 0
 write_failures (Err f) = writes_failed f
+
+-- What an exchange of this call wrote and read: what went out of the call's record, and that the answer is what the
+-- bytes that were read are to this call, as is all that the reader holds, where it reports that.
+pub record Exchanges (c : CallView) (left left' taken taken' : Option (List ℕ)) (result : Result Reply ClientFault)
+    : Type 0 where
+  pub wrote : Wrote (call c) taken taken' result
+  pub answer : Exchanged c.xid left left' result
+  pub exact : IsExact c.xid left result
+
+-- One read failed where the answer is `Read`, and else none; one write where it is `Write`, and else none. So many
+-- reads are made at most, and all of them where there were too many.
+pub record CountsExchange (made made' unread unread' unsent unsent' : Option ℕ) (result : Result Reply ClientFault)
+    : Type 0 where
+  pub read : Counts (read_failures result) unread unread'
+  pub write : Counts (write_failures result) unsent unsent'
+  pub reads : CountsAtMost MOST_READS made made'
+  pub many : IsErrOf result fault.TooManyReads → Counts MOST_READS made made'

@@ -5,7 +5,8 @@ ghost use Rattle.xdr_io.specs.declared.input.TheConstants.{MOST_READS};
 ghost use Rattle.rpc_record.specs.Marked.{fragment};
 ghost use Rattle.rpc_message.specs.Spelling.{call as call_bytes};
 ghost use Rattle.rpc_message.specs.View.{call_view, reply_view};
-ghost use Rattle.rpc_engine.specs.Exchanged.{Exchanged, IsExact, Wrote, xid_of, read_failures, write_failures};
+ghost use Rattle.rpc_engine.specs.Exchanged.{CountsExchange, Exchanged, Exchanges, IsExact, xid_of, read_failures};
+ghost use Rattle.rpc_engine.specs.Exchanged.{write_failures};
 ghost use Rattle.rpc_engine.specs.DatagramExchange.{Replies};
 ghost use Rattle.rpc_engine.specs.Private.Looking.{FirstRead, client_fault_of};
 ghost use Rattle.rpc_engine.specs.declared.fault.ClientFault.TheVariants as faults;
@@ -124,19 +125,12 @@ pub fn exchange<R: Source, W: Sink>(
     requires cred { length call.now.cred.body.items ≤ 400 }
     requires verf { length call.now.verf.body.items ≤ 400 }
     requires short { length (call_bytes (call_view call.now)) ≤ 2147483647 }
-    // What went out of the call's record,
-    ensures wrote { Wrote (call_bytes (call_view call.now)) (W.taken writer.old) (W.taken writer.new) result }
-    // and that the answer is what the bytes that were read are to this call,
-    ensures answer { Exchanged call.now.xid (R.left reader.old) (R.left reader.new) result }
-    // as is all that the reader holds, where it reports that.
-    ensures exact { IsExact call.now.xid (R.left reader.old) result }
-    // One read failed where the answer is `Read`, and else none; one write where it is `Write`, and else none.
-    ensures read { Counts (read_failures result) (R.failures reader.old) (R.failures reader.new) }
-    ensures write { Counts (write_failures result) (W.failures writer.old) (W.failures writer.new) }
-    // So many reads are made at most, and all of them where there were too many.
-    ensures reads { CountsAtMost MOST_READS (R.reads reader.old) (R.reads reader.new) }
-    ensures many { IsErrOf result ClientFault.TooManyReads
-        → Counts MOST_READS (R.reads reader.old) (R.reads reader.new) }
+    // What went out of the call's record, and that the answer is what the bytes that were read are to this call.
+    ensures exchanged { Exchanges (call_view call.now) (R.left reader.old) (R.left reader.new)
+        (W.taken writer.old) (W.taken writer.new) result }
+    // What failed where the answer is `Read` or `Write`, and how many reads were made.
+    ensures counted { CountsExchange (R.reads reader.old) (R.reads reader.new)
+        (R.failures reader.old) (R.failures reader.new) (W.failures writer.old) (W.failures writer.new) result }
 {
     let marked = match marked_call(alloc, call) {
         Ok(marked) => marked,

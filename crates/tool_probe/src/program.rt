@@ -42,7 +42,7 @@ fn info(out: &mut Report, rt: &impl Env, case: &Case<'_>) {
     streams(out, &output, &faults);
 }
 
-// What a client gets: these bytes in one write, where they are reported, and else anything.
+// What a client gets: these bytes in its first write and none after it, where they are wanted, and else anything.
 #[derive(Drop)]
 struct Taken<'a> {
     wanted: Option<&'a [u8]>,
@@ -50,14 +50,14 @@ struct Taken<'a> {
 
 impl<'a> Sink for Taken<'a> {
     fn write(&mut self, piece: &[u8]) -> Result<usize, SinkFault> {
-        let wanted = self.wanted;
-        match wanted {
-            Some(wanted) if wanted != piece => Err(SinkFault),
-            Some(_) => {
-                self.wanted = Some(&[]);
-                Ok(piece.len())
-            }
-            None => Ok(piece.len()),
+        let Some(wanted) = self.wanted else {
+            return Ok(piece.len());
+        };
+        self.wanted = Some(&[]);
+        if wanted == piece {
+            Ok(piece.len())
+        } else {
+            Err(SinkFault)
         }
     }
 }
@@ -100,6 +100,8 @@ impl<'a> Listener for Clients<'a> {
             Taken { wanted },
         ))
     }
+
+    fn close(&mut self, _reader: MemorySource<'a>, _writer: Taken<'a>) {}
 }
 
 // The exit status, how many clients were not waited for, and what was printed.

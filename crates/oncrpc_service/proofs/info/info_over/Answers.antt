@@ -12,11 +12,11 @@ returns g c =
       answer = c.exchange-answer.result;
       wrote = subst (λ (v : CallView). Wrote (call v) (g.W.Sink.taken c.args.writer.now)
           (g.W.Sink.taken c.exchange-answer.new.writer) c.exchange-answer.result) c.dump_call.ensures
-          c.exchange-answer.ensures.wrote;
-      exchanged = rw xid at c.exchange-answer.ensures.answer;
-      unread = c.exchange-answer.ensures.read;
-      many = c.exchange-answer.ensures.many;
-      few_reads = c.exchange-answer.ensures.reads;
-      unsent = c.exchange-answer.ensures.write;
+          c.exchange-answer.ensures.exchanged.wrote;
+      exchanged = rw xid at c.exchange-answer.ensures.exchanged.answer;
+      unread = c.exchange-answer.ensures.counted.read;
+      many = c.exchange-answer.ensures.counted.many;
+      few_reads = c.exchange-answer.ensures.counted.reads;
+      unsent = c.exchange-answer.ensures.counted.write;
       ends = c.end_with.ensures;
     }

@@ -6,6 +6,7 @@ invariant-loop-before g l = HasServed {L = g.row.L.Denot} {W = g.row.L-Writer.De
     (record {
       port = g.L.Listener.port_of;
       waiting = g.L.Listener.waiting;
+      sent = g.L.Listener.sent;
       refused = g.L.Listener.failures;
       went = g.L.Writer.Sink.taken;
       taken = g.O.Sink.taken;
