@@ -45,7 +45,7 @@ pub struct Program {
 
 /// What a text declares: its kinds and types after the basic ones, its constants after TRUE and FALSE,
 /// and its programs, each in text order.
-#[derive(Drop)]
+#[derive(Debug, Drop)]
 pub struct Declared {
     /// The kinds, and the types' names with their kinds.
     pub schema: Schema,

@@ -3,39 +3,39 @@ ghost use Rattle.std.specs.Prelude.{◌≡◌};
 ghost use Rattle.xdr_stream.specs.Reasons.{reason_number};
 
 use std::alloc::AllocError;
-use std::fmt;
 use thiserror::Error;
 
 /// Why bytes are not the encoding of a value (RFC 4506 sections 3 and 4).
-#[derive(Clone, Copy, Debug, PartialEq, Eq)]
+#[derive(Clone, Copy, Debug, PartialEq, Eq, Error)]
 pub enum Reason {
     /// A boolean, the flag of an optional or a boolean discriminant that is neither 0 nor 1.
+    #[error("neither 0 nor 1")]
     BadBool,
     /// An enumeration, or a discriminant of one, without a member of that number.
+    #[error("no member has this number")]
     BadNumbered,
     /// A legal discriminant without an arm or a default.
+    #[error("no arm for this discriminant")]
     BadCase,
     /// A length or a count above its maximum.
+    #[error("longer than the maximum")]
     TooLong,
     /// Padding that is not zero.
+    #[error("padding that is not zero")]
     BadPadding,
     /// A node lies deeper than the limit on depth.
+    #[error("deeper than the limit")]
     TooDeep,
     /// The value is not whole at the limit on bytes.
+    #[error("larger than the limit")]
     TooLarge,
     /// The bytes end inside the value.
+    #[error("cut short")]
     Truncated,
     /// Memory was refused.
+    #[error("out of memory")]
     NoMemory,
 }
-
-impl fmt::Display for Reason {
-    fn fmt<W: fmt::Write>(&self, f: &mut fmt::Formatter<W>) -> fmt::Result {
-        f.write_str(self.text())
-    }
-}
-
-impl std::error::Error for Reason {}
 
 impl From<AllocError> for Reason {
     ghost use Rattle.std.specs.Prelude.{◌≡◌};
@@ -63,21 +63,6 @@ impl Reason {
             Reason::TooLarge => 7,
             Reason::Truncated => 8,
             Reason::NoMemory => 9,
-        }
-    }
-
-    // What the reason is, in words.
-    fn text(self) -> &'static str {
-        match self {
-            Reason::BadBool => "neither 0 nor 1",
-            Reason::BadNumbered => "no member has this number",
-            Reason::BadCase => "no arm for this discriminant",
-            Reason::TooLong => "longer than the maximum",
-            Reason::BadPadding => "padding that is not zero",
-            Reason::TooDeep => "deeper than the limit",
-            Reason::TooLarge => "larger than the limit",
-            Reason::Truncated => "cut short",
-            Reason::NoMemory => "out of memory",
         }
     }
 }

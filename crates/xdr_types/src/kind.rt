@@ -14,14 +14,14 @@ pub struct KindId {
 }
 
 /// A field of a structure, or the part of a union's arm (RFC 4506 sections 4.14, 4.15). The name may be empty.
-#[derive(Drop)]
+#[derive(Debug, Drop)]
 pub struct Member {
     pub name: String,
     pub kind: KindId,
 }
 
 /// An arm of a union: the values of the discriminant that it stands under, and its part (RFC 4506 section 4.15).
-#[derive(Drop)]
+#[derive(Debug, Drop)]
 pub struct Arm {
     pub cases: Vec<i64>,
     pub member: Member,
@@ -29,7 +29,7 @@ pub struct Arm {
 
 /// A kind of XDR (RFC 4506 sections 4.1 to 4.19). Sizes and bounds count bytes of an opaque or a string, and items of
 /// an array.
-#[derive(Drop)]
+#[derive(Debug, Drop)]
 pub enum Kind {
     Int,
     Unsigned,

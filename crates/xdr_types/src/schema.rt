@@ -27,7 +27,7 @@ use std::string::String;
 use xdr_units::NoMemory;
 
 /// Kinds that name one another by place, and names for some of them: well formed and sound.
-#[derive(Drop)]
+#[derive(Debug, Drop)]
 pub struct Schema {
     kinds: Vec<Kind>,
     // Where a number of a long enumeration or union is, for each kind.
@@ -171,10 +171,7 @@ impl Schema {
     {
         let kinds = basic_kinds(alloc)?;
         let names = basic_names(alloc)?;
-        match Schema::build(alloc, kinds, names) {
-            Ok(schema) => Ok(schema),
-            Err(_) => Err(NoMemory),
-        }
+        Schema::build(alloc, kinds, names).map_err(|_| NoMemory)
     }
 
     /// The kind that a name names; none where the schema does not have the name.

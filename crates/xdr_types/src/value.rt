@@ -7,7 +7,7 @@ use xdr_units::NoMemory;
 
 /// A value of XDR (RFC 4506 sections 4.1 to 4.19). `Bytes` are of an opaque or a string, `List` has the items of an
 /// array, `Group` one value for each field of a structure.
-#[derive(Drop)]
+#[derive(Debug, Drop)]
 pub enum Value {
     Int(i32),
     Unsigned(u32),
@@ -43,38 +43,19 @@ fn copy(value: &Value, alloc: Global) -> Result<Value, NoMemory>
         Value::UnsignedHyper(n) => Ok(Value::UnsignedHyper(*n)),
         Value::Bool(b) => Ok(Value::Bool(*b)),
         Value::Numbered(n) => Ok(Value::Numbered(*n)),
-        Value::Bytes(bytes) => match bytes.to_vec(alloc) {
-            Ok(bytes) => Ok(Value::Bytes(bytes)),
-            Err(_) => Err(NoMemory),
-        },
-        Value::List(items) => match copy_items(items, alloc) {
-            Ok(items) => Ok(Value::List(items)),
-            Err(_) => Err(NoMemory),
-        },
-        Value::Group(items) => match copy_items(items, alloc) {
-            Ok(items) => Ok(Value::Group(items)),
-            Err(_) => Err(NoMemory),
-        },
-        Value::Choice { tag, part } => match copy_boxed(part, alloc) {
-            Ok(part) => Ok(Value::Choice { tag: *tag, part }),
-            Err(_) => Err(NoMemory),
-        },
+        Value::Bytes(bytes) => Ok(Value::Bytes(bytes.to_vec(alloc)?)),
+        Value::List(items) => Ok(Value::List(copy_items(items, alloc)?)),
+        Value::Group(items) => Ok(Value::Group(copy_items(items, alloc)?)),
+        Value::Choice { tag, part } => {
+            let part = Box::new(alloc, copy(part, alloc)?)?;
+            Ok(Value::Choice { tag: *tag, part })
+        }
         Value::Maybe(None) => Ok(Value::Maybe(None)),
-        Value::Maybe(Some(item)) => match copy_boxed(item, alloc) {
-            Ok(item) => Ok(Value::Maybe(Some(item))),
-            Err(_) => Err(NoMemory),
-        },
+        Value::Maybe(Some(item)) => {
+            let item = Box::new(alloc, copy(item, alloc)?)?;
+            Ok(Value::Maybe(Some(item)))
+        }
         Value::Nothing => Ok(Value::Nothing),
-    }
-}
-
-#[cycle(copy)]
-fn copy_boxed(value: &Value, alloc: Global) -> Result<Box<Value>, NoMemory>
-    ensures { IfOk result (λ b. tree b.value ≡ tree value.now) }
-{
-    match copy(value, alloc) {
-        Ok(copy) => Ok(Box::new(alloc, copy)?),
-        Err(_) => Err(NoMemory),
     }
 }
 
