@@ -1,4 +1,6 @@
 // The same handle as a C++ class that gives back what it holds.
+//
+//   ./build-library library && c++ -Ilibrary/include examples/check.cc library/liboncrpc.a -o check && ./check
 #include <cstdio>
 #include <string_view>
 

@@ -1,4 +1,6 @@
-/* Writes a stream of records in its normal form: each record as one final fragment (RFC 5531 section 11). */
+/* Writes a stream of records in its normal form: each record as one final fragment (RFC 5531 section 11).
+ *
+ *   ./build-library library && cc -Ilibrary/include examples/records.c library/liboncrpc.a -o records && ./records */
 #include <stdio.h>
 #include <stdlib.h>
 

@@ -1,4 +1,7 @@
-/* Four threads at once, each with a handle of its own. */
+/* Four threads at once, each with a handle of its own.
+ *
+ *   ./build-library library && cc -Ilibrary/include examples/threads.c -pthread library/liboncrpc.a -o threads
+ *   ./threads */
 #include <pthread.h>
 #include <stdint.h>
 #include <stdio.h>

@@ -34,3 +34,34 @@ pub(crate) unsafe fn fill<T>(
 
 /// The statuses of a call that has one status for all that it wrote.
 pub(crate) const AT_OK: &[u32] = &[sys::OK];
+
+#[cfg(test)]
+mod tests {
+    use super::*;
+
+    /// A call that writes so many of these bytes at the front of what it is lent, and says so.
+    fn writes(byte: u8, count: usize) -> impl FnOnce(*mut u8, usize) -> (u32, usize) {
+        move |to, capacity| {
+            assert!(count <= capacity);
+            // SAFETY: so many bytes were lent.
+            unsafe { to.write_bytes(byte, count) };
+            (sys::OK, count)
+        }
+    }
+
+    /// What a call does not write stays as an earlier one left it.
+    #[test]
+    fn nothing_is_cleared() {
+        let mut items = with_capacity(1 << 20).unwrap();
+        // SAFETY: each call writes as many bytes as it says, but for the last, which reports another status.
+        unsafe {
+            assert_eq!(fill(&mut items, AT_OK, writes(7, 1 << 20)), (sys::OK, 1 << 20));
+            assert_eq!(fill(&mut items, AT_OK, writes(9, 4)), (sys::OK, 4));
+            assert_eq!(fill(&mut items, AT_OK, |_, _| (sys::NO_ROOM, 5)), (sys::NO_ROOM, 5));
+        }
+        assert!(items.is_empty());
+        // SAFETY: the first call wrote all of them.
+        unsafe { items.set_len(1 << 20) };
+        assert!(items[..4] == [9; 4] && items[4..].iter().all(|byte| *byte == 7));
+    }
+}

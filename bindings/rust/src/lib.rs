@@ -14,6 +14,20 @@
 //! assert_eq!((checked.used, checked.more_follows), (8, false));
 //! # Ok::<(), Box<dyn std::error::Error>>(())
 //! ```
+//!
+//! # Linking
+//!
+//! `./build-library` at the top of the repository leaves `liboncrpc.a` in `library/`, and `./build-library FOLDER`
+//! leaves it in FOLDER. The build script of this crate links it: from the folder that ONCRPC_LIBRARY names when cargo
+//! runs, else from `library/`. Nothing else is linked, and no RUSTFLAGS are needed. A program names this folder:
+//!
+//! ```text
+//! [dependencies]
+//! oncrpc = { path = "../REPOSITORY/bindings/rust" }
+//! ```
+//!
+//! Then `cargo build` is enough, or `ONCRPC_LIBRARY=FOLDER cargo build`, with the whole path of the folder. What is
+//! built wants a processor with x86-64-v2.
 #![deny(missing_docs)]
 
 mod buffer;

@@ -345,3 +345,21 @@ fn each_fault_of_a_stream() {
     assert_eq!(records.feed(&marked[..6]), Ok(None));
     assert_eq!(records.end(), Err(StreamFault::Refused(cut)));
 }
+
+/// The vector that a record is taken into is not cleared: behind a short record stands the long one before it.
+#[test]
+fn a_short_record_after_a_long_one() {
+    const LONG: usize = 1 << 20;
+    let mut records = Records::start(MOST_RECORD).unwrap();
+    let mut record = Vec::new();
+    for (byte, count) in [(7, LONG), (9, 4)] {
+        let content = vec![byte; count];
+        assert_eq!(records.feed(&(1 << 31 | count as u32).to_be_bytes()), Ok(None));
+        assert_eq!(records.feed(&content), Ok(Some(count)));
+        assert_eq!(records.take(&mut record), Ok(true));
+        assert_eq!(record, content);
+    }
+    // SAFETY: so many bytes were written by the first of the two.
+    unsafe { record.set_len(LONG) };
+    assert!(record[4..].iter().all(|byte| *byte == 7));
+}

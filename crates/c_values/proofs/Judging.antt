@@ -1,6 +1,7 @@
 -- What a checker's answer to all bytes says of them.
 use Rattle.std.proofs.Common.{◌≡◌, ℕ, ◌+◌, ◌%◌, List, [], length, refl, ap, subst, ◌∙◌, arith, Result, Ok, Err}
 use Rattle.xdr_types.specs.Kinds.{KindView, Lists}
+use Rattle.xdr_types.specs.Tree.{Tree}
 use Rattle.xdr_types.specs.Within.{Bounds}
 use Rattle.xdr_types.specs.Outcome.{Outcome, Whole}
 use Rattle.xdr_types.specs.declared.kind.KindId.{KindId}
@@ -15,6 +16,20 @@ use Rattle.xdr_codec.specs.Checks.{HasOutcome, IsStarted}
 use Rattle.xdr_codec.specs.declared.checker.Checker.{Checker}
 use Rattle.xdr_codec.proofs.Outcomes.{whole, refused, fails}
 use Rattle.c_values.specs.Answers.{Question, BeginsWithValue, IsRefusal}
+
+-- a value that is the outcome of an input begins it
+pub begins_of : (q : Question) → q.limits.bytes % 4 ≡ 0 → (b : List ℕ) (v : Tree) (used : ℕ)
+    → Outcome q.kinds q.place q.limits b (Whole v used) → BeginsWithValue q b used
+begins_of q units b v used o =
+    let w = whole q.kinds q.place q.limits units b v used o in
+    record { value = v; outcome = o; fits = w.0; within = w.1; spelled = w.2 }
+
+-- a fault that is not want of memory refuses the input
+pub refusal_of : (q : Question) → q.limits.bytes % 4 ≡ 0 → (b : List ℕ) (f : DecodeFault)
+    → (f.why ≡ reason.NoMemory → ⊥) → EndsWith q.kinds q.place q.limits b f → IsRefusal q b f
+refusal_of q units b f known e =
+    let w = refused q.kinds q.place q.limits units f b e in
+    record { known = known; outcome = e; none = w.0; within = w.1 }
 
 abbrev question : Lists → KindId → Bounds → Question
 question s k l = record { kinds = s.kinds; place = k.place; limits = l }
@@ -42,14 +57,11 @@ module _ (s : Lists) (k : KindId) (l : Bounds) (c : Checker) (set : IsStarted c 
       let count : length {A = ℕ} [] + used ≡ used = omega arith in
       let there : Outcome s.kinds k.place l b (Whole o.0 used) =
       subst (λ (n : ℕ). Outcome s.kinds k.place l b (Whole o.0 n)) count o.1 in
-      let w = whole s.kinds k.place l units b o.0 used there in
-      record { value = o.0; outcome = there; fits = w.0; within = w.1; spelled = w.2 }
+      begins_of (question s k l) units b o.0 used there
 
   refusal : (f : DecodeFault) → (f.why ≡ reason.NoMemory → ⊥) → EndsWith s.kinds k.place l b f
       → IsRefusal (question s k l) b f
-  refusal f known e =
-      let w = refused s.kinds k.place l units f b e in
-      record { known = known; outcome = e; none = w.0; within = w.1 }
+  refusal f known e = refusal_of (question s k l) units b f known e
 
   pub cut : (r : Result Progress DecodeFault) (p : Progress) → r ≡ Ok p → p ≡ More → HasOutcome c [] b r
       → IsRefusal (question s k l) b (record { why = reason.Truncated; at = length b })

@@ -11,15 +11,16 @@ use Rattle.xdr_types.specs.Tree as value
 use Rattle.xdr_types.specs.Tree.{Tree, from_list}
 use Rattle.xdr_types.proofs.Unique.{one}
 use Rattle.xdr_types.specs.Named.{place_named}
+use Rattle.xdr_parts.specs.Counted.{names_of}
+use Rattle.xdr_parts.specs.declared.counting.PartCounts.{PartCounts}
 use Rattle.xdr_lang.specs.Declarations.{Declared}
 use Rattle.oncrpc_kinds.specs.Naming as naming
-use Rattle.c_values.specs.declared.listed.Counts.{Counts}
 use Rattle.c_values.specs.declared.listed.Listed.{Listed}
 use Rattle.c_values.specs.declared.listed.Listed.TheVariants as listed
 use Rattle.c_values.specs.declared.part.ValuePart.{ValuePart}
 use Rattle.c_values.specs.Answers.{question}
 use Rattle.c_values.specs.Pair.{pair_kinds, HoldsPair, pair_bytes, pair_part, pair_parts, pair_outcome}
-use Rattle.c_values.specs.Parts.{AreEach, IsPart, count_in, names_of, role_number, type_number}
+use Rattle.c_values.specs.Parts.{AreEach, IsPart, count_in, role_number, type_number}
 use Rattle.c_values.specs.Parted.{Buffers, AreParts, ArePut, IsPartedByHeld, parts_status, parts_outcome}
 use Rattle.c_values.specs.Private.Parting.{part_of, parts_from}
 
@@ -66,7 +67,7 @@ that_pair kinds place v is at fits spelled =
 
 -- the lists of its parts
 module _ (d : Declared) (is : d.schema.kinds ≡ pair_kinds) (place : ℕ) (at : place ≡ 2) (ps : List ValuePart)
-    (names : List ℕ) (c : Counts) (whole : c.used ≡ 12)
+    (names : List ℕ) (c : PartCounts) (whole : c.used ≡ 12)
     (are : AreParts (question d place 2 12) pair_bytes ps names c) where
   same_entries : entries d.schema.kinds place are.begins.value ≡ entries pair_kinds 2 pair
   same_entries =

@@ -1,7 +1,6 @@
 -- Lent parts are the parts that C sees.
-use Rattle.std.proofs.Common.{◌≡◌, ℕ, ◌+◌, ◌≤◌, List, [], ◌∷◌, ◌++◌, length, map, take, drop, refl, sym, ap}
-use Rattle.std.proofs.Common.{◌∙◌, subst, append_assoc, length-append, Some, Result, Ok, Err}
-use Rattle.std.specs.Prelude.{IfOk}
+use Rattle.std.proofs.Common.{◌≡◌, ℕ, ◌+◌, ◌%◌, ◌≤◌, List, [], ◌∷◌, ◌++◌, length, map, take, drop, refl, sym, ap}
+use Rattle.std.proofs.Common.{◌∙◌, subst, append_assoc, length-append, Some}
 use Rattle.std.specs.List.{AllByRecursion}
 use Rattle.std.proofs.lemmas.List.{take_at, drop_at}
 use Rattle.xdr_types.specs.Kinds.{KindView}
@@ -9,10 +8,13 @@ use Rattle.xdr_types.specs.Layout.{Entry, entries}
 use Rattle.xdr_types.specs.Tree.{Tree}
 use Rattle.xdr_types.specs.Within.{Bounds}
 use Rattle.xdr_types.specs.Outcome.{Outcome, Whole}
+use Rattle.xdr_parts.specs.Counted.{AreListed, names_of}
 use Rattle.xdr_parts.specs.Lent.{entry_of, size_in, role_in, AreLentFrom}
+use Rattle.xdr_parts.specs.declared.counting.PartCounts.{PartCounts}
 use Rattle.xdr_parts.specs.declared.part.Lent.{Lent}
 use Rattle.xdr_parts.specs.declared.part.Role.{Role}
 use Rattle.xdr_parts.specs.declared.part.Role.TheVariants.{Number, Flag, Length, Content, Group}
+use Rattle.xdr_codec.proofs.Outcomes.{whole}
 use Rattle.xdr_show.specs.Private.Read.{IsReadable}
 use Rattle.xdr_show.proofs.Parts.{are_parts, says_value}
 use Rattle.xdr_lang.specs.Declarations.{Declared}
@@ -21,7 +23,7 @@ use Rattle.c_values.specs.declared.listed.Listed.{Listed}
 use Rattle.c_values.specs.declared.listed.Listed.TheVariants as listed
 use Rattle.c_values.specs.declared.part.ValuePart.{ValuePart}
 use Rattle.c_values.specs.Answers.{Question, BeginsWithValue, Names, question}
-use Rattle.c_values.specs.Parts.{AreEach, count_in, names_of}
+use Rattle.c_values.specs.Parts.{AreEach, count_in}
 use Rattle.c_values.specs.Parted.{Buffers, AreParts, IsParted, IsPartedBy, IsPartedByHeld}
 use Rattle.c_values.specs.Private.Parting.{parts_from, AreKnown}
 
@@ -84,12 +86,6 @@ each_listed kinds input names ls es ps listed lent parts joined =
     (subst (λ (x : List ValuePart). AreEach kinds input names [] (map entry_of ls) x) (sym parts)
     (each_lent kinds input names [] ls joined lent))
 
--- what holds of a list that was made
-pub if_made : {A E : Type 0} {P Q R : A → Type 0} (r : Result A E) → IfOk r P → IfOk r Q
-    → ((x : A) → P x → Q x → R x) → IfOk r R
-if_made (Ok x) p q both = both x p q
-if_made (Err e) p q both = tt
-
 -- parts with their counts
 pub are_parts_of : (q : Question) (input : List ℕ) (ps : List ValuePart) (names : List ℕ) (used n m : ℕ)
     (begins : BeginsWithValue q input used)
@@ -98,6 +94,22 @@ pub are_parts_of : (q : Question) (input : List ℕ) (ps : List ValuePart) (name
     → AreParts q input ps names (record { used = used; parts = n; names = m })
 are_parts_of q input ps names used n m begins each joined count bytes =
     record { begins = begins; each = each; joined = joined; count = count; bytes = bytes }
+
+-- the lists of parts that were counted
+pub are_made : (q : Question) → q.limits.bytes % 4 ≡ 0 → (input : List ℕ) (ls : List Lent) (c : PartCounts)
+    → AreListed q.kinds q.place q.limits input ls c → (ps : List ValuePart) (names : List ℕ) (used : ℕ)
+    → used ≡ c.used → ps ≡ parts_from q.kinds 0 (map entry_of ls) → names ≡ names_of (map entry_of ls)
+    → AreParts q input ps names (record { used = used; parts = length ps; names = length names })
+are_made q units input ls c are ps names used same made joined =
+    let w = whole q.kinds q.place q.limits units input are.value c.used are.whole in
+    let begins : BeginsWithValue q input c.used =
+    record { value = are.value; outcome = are.whole; fits = w.0; within = w.1; spelled = w.2 } in
+    let counted : AreParts q input ps names (record { used = c.used; parts = length ps; names = length names }) =
+    are_parts_of q input ps names c.used (length ps) (length names) begins
+    (each_listed q.kinds input names ls (entries q.kinds q.place are.value) ps are.each are.from made joined)
+    (joined ∙ ap (λ (es : List Entry). names_of es) are.each) refl refl in
+    subst (λ (n : ℕ). AreParts q input ps names (record { used = n; parts = length ps; names = length names }))
+    (sym same) counted
 
 -- what is listed by a kind that the name names
 module _ (d : Declared) (name : List ℕ) (depth bytes : ℕ) (input : List ℕ) (old new : Buffers) (place : ℕ)

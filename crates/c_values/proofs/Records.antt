@@ -1,5 +1,5 @@
 -- What normalising a buffer says of all of it.
-use Rattle.std.proofs.Common.{◌≡◌, ℕ, ◌≤◌, List, [], ◌++◌, length, refl, sym, subst, Option, None, Some}
+use Rattle.std.proofs.Common.{◌≡◌, ℕ, ◌<◌, ◌^◌, List, [], ◌++◌, length, refl, sym, subst, Option, None, Some}
 use Rattle.std.specs.Io.KnownBytes.{Consumes}
 use Rattle.xdr_io.proofs.Ended.{all_read}
 use Rattle.rpc_record.specs.declared.fault.Count.{Count}
@@ -19,7 +19,7 @@ front_read input None read took = absurd took
 front_read input (Some rest) read took = (rest, took)
 
 pub form_whole : (limit : ℕ) (input form : List ℕ) (left : Option (List ℕ)) (count : Count)
-    → limit ≤ 2147483647 → Normalised limit (Some input) left (Some []) (Some form) count → IsForm limit input form None
+    → limit < 2 ^ 31 → Normalised limit (Some input) left (Some []) (Some form) count → IsForm limit input form None
 form_whole limit input form left count i n = record {
   in_range = i;
   rs = n.rs;
@@ -28,7 +28,7 @@ form_whole limit input form left count i n = record {
 }
 
 pub form_long : (limit at : ℕ) (input form : List ℕ) (left : Option (List ℕ))
-    → limit ≤ 2147483647 → Stops limit (Some input) left (Some []) (Some form) (fault.TooLong at)
+    → limit < 2 ^ 31 → Stops limit (Some input) left (Some []) (Some form) (fault.TooLong at)
     → IsForm limit input form (Some (record { why = reason.TooLong; at = at }))
 form_long limit at input form left i s =
     let front = front_read input left s.input s.read in
@@ -43,7 +43,7 @@ form_long limit at input form left i s =
     }
 
 pub form_cut : (limit at : ℕ) (input form : List ℕ) (left : Option (List ℕ))
-    → limit ≤ 2147483647 → Stops limit (Some input) left (Some []) (Some form) (fault.Truncated at)
+    → limit < 2 ^ 31 → Stops limit (Some input) left (Some []) (Some form) (fault.Truncated at)
     → IsForm limit input form (Some (record { why = reason.Truncated; at = length input }))
 form_cut limit at input form left i s =
     let all = all_read input s.input left s.read s.stopped.3 in

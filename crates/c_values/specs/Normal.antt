@@ -1,5 +1,5 @@
 -- What marking the records of a buffer anew leaves in another (RFC 5531 section 11).
-use Rattle.std.specs.Prelude.{◌≡◌, ℕ, ◌≤◌, ◌<◌, List, length, Option, None, Some}
+use Rattle.std.specs.Prelude.{◌≡◌, ℕ, ◌≤◌, ◌<◌, ◌^◌, List, length, Option, None, Some}
 use Rattle.rpc_record.specs.Marked.{normal, Longest}
 use Rattle.rpc_record.specs.Reading.{IsWhole, IsInside, TooLongAt, HasNoLong}
 use Rattle.xdr_stream.specs.declared.fault.DecodeFault.{DecodeFault}
@@ -25,7 +25,7 @@ EndsAs limit rs input (Some f) = StopsAs limit rs input f.why f.at
 
 -- The bytes are the normal form of the records at the front of the input, by a limit in its range.
 pub record IsForm (limit : ℕ) (input form : List ℕ) (end : Option DecodeFault) : Type 0 where
-  pub in_range : limit ≤ 2147483647
+  pub in_range : limit < 2 ^ 31
   pub rs : List (List ℕ)
   pub ends : EndsAs limit rs input end
   pub marked : form ≡ normal rs
@@ -44,7 +44,7 @@ IsMarked limit input old new written (answer.Whole used) =
     (form : List ℕ) × IsForm limit input form None × IsPut form old new written × (used ≡ written)
 IsMarked limit input old new written (answer.Refused f) =
     (form : List ℕ) × IsForm limit input form (Some f) × IsPut form old new written
-IsMarked limit input old new written answer.BadLimits = (2147483647 < limit) × IsRetained old new written
+IsMarked limit input old new written answer.BadLimits = (2 ^ 31 ≤ limit) × IsRetained old new written
 IsMarked limit input old new written answer.NoMemory = IsRetained old new written
 IsMarked limit input old new written (answer.NoRoom needed) =
     HasNoRoom limit input old needed × IsRetained old new written

@@ -3,14 +3,15 @@ use Rattle.std.specs.Prelude.{◌≡◌, ◌<◌, ◌⊎◌, ℕ, List, [], ◌+
 use Rattle.xdr_types.specs.Layout.{entries}
 use Rattle.xdr_types.specs.Within.{AreBounds}
 use Rattle.xdr_stream.specs.Reasons.{reason_number}
+use Rattle.xdr_parts.specs.Counted.{names_of}
+use Rattle.xdr_parts.specs.declared.counting.PartCounts.{PartCounts}
 use Rattle.xdr_lang.specs.Declarations.{Declared}
 use Rattle.c_values.specs.declared.part.ValuePart.{ValuePart}
-use Rattle.c_values.specs.declared.listed.Counts.{Counts}
 use Rattle.c_values.specs.declared.listed.Listed.{Listed}
 use Rattle.c_values.specs.declared.listed.Listed.TheVariants as listed
 use Rattle.c_values.specs.declared.listed.PartsOutcome.{PartsOutcome}
 use Rattle.c_values.specs.Answers.{Question, BeginsWithValue, IsRefusal, Names, NamesNone, question}
-use Rattle.c_values.specs.Parts.{AreEach, names_of}
+use Rattle.c_values.specs.Parts.{AreEach}
 
 -- what C lends: a buffer for parts, and one for the bytes of their names
 pub record Buffers : Type 0 where
@@ -19,7 +20,7 @@ pub record Buffers : Type 0 where
 
 -- The parts are those of the value whose encoding is the first bytes, in their order, and the names theirs, joined. The
 -- counts tell the bytes of the value, the parts, and the bytes of the names.
-pub record AreParts (q : Question) (input : List ℕ) (parts : List ValuePart) (names : List ℕ) (c : Counts) : Type 0
+pub record AreParts (q : Question) (input : List ℕ) (parts : List ValuePart) (names : List ℕ) (c : PartCounts) : Type 0
   where
     pub begins : BeginsWithValue q input c.used
     pub each : AreEach q.kinds input names [] (entries q.kinds q.place begins.value) parts
@@ -38,16 +39,16 @@ pub record AreRetained (old new : Buffers) : Type 0 where
   pub names_stay : new.names ≡ old.names
 
 -- a buffer is too small
-abbrev pub IsSmall : Buffers → Counts → Type 0
+abbrev pub IsSmall : Buffers → PartCounts → Type 0
 IsSmall old c = (length old.parts < c.parts) ⊎ (length old.names < c.names)
 
 -- parts of a value that begins the input stand in the buffers
-abbrev pub IsListed : Question → (input : List ℕ) → (old new : Buffers) → Counts → Type 0
+abbrev pub IsListed : Question → (input : List ℕ) → (old new : Buffers) → PartCounts → Type 0
 IsListed q input old new c =
     (parts : List ValuePart) × (names : List ℕ) × AreParts q input parts names c × ArePut parts names old new
 
 -- parts of a value that begins the input do not go into the buffers
-abbrev pub HasNoRoom : Question → (input : List ℕ) → (old new : Buffers) → Counts → Type 0
+abbrev pub HasNoRoom : Question → (input : List ℕ) → (old new : Buffers) → PartCounts → Type 0
 HasNoRoom q input old new c = (parts : List ValuePart) × (names : List ℕ) × AreParts q input parts names c
     × IsSmall old c × AreRetained old new
 
@@ -89,7 +90,7 @@ parts_status listed.NoDeclarations = 7
 parts_status (listed.NoRoom c) = 8
 
 -- the counts, and nothing else
-abbrev pub counted : Counts → PartsOutcome
+abbrev pub counted : PartCounts → PartsOutcome
 counted c = record { at = c.used; parts = c.parts; names = c.names; why = 0 }
 
 -- no field is reported

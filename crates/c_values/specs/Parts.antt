@@ -1,5 +1,5 @@
 -- A part of a value as C sees it (RFC 4506 section 4).
-use Rattle.std.specs.Prelude.{◌≡◌, ℕ, ◌+◌, ◌≤◌, List, [], ◌∷◌, ◌++◌, length, take, drop, flat_map, ⊤}
+use Rattle.std.specs.Prelude.{◌≡◌, ℕ, ◌+◌, ◌≤◌, List, [], ◌∷◌, ◌++◌, length, take, drop, ⊤}
 use Rattle.xdr_types.specs.Kinds as xdr
 use Rattle.xdr_types.specs.Kinds.{KindView, kind_at}
 use Rattle.xdr_types.specs.Layout.{Entry, Role, of_number, of_flag, of_length, of_content, of_group}
@@ -60,7 +60,3 @@ AreEach kinds input names before [] [] = ⊤
 AreEach kinds input names before (e ∷ es) (p ∷ ps) =
     IsPart kinds input names before e p × AreEach kinds input names (before ++ e.name) es ps
 AreEach kinds input names before _ _ = ⊥
-
--- the names of parts, joined
-abbrev pub names_of : List Entry → List ℕ
-names_of es = flat_map (λ e. e.name) es

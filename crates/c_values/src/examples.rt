@@ -1,5 +1,5 @@
 //! What the exports' contracts force on telling inputs, each proved from the contracts alone.
-ghost use Rattle.std.specs.Prelude.{◌≡◌, ◌≢◌, ◌<◌, ◌≤◌, ◌⊎◌, codes, length, option_map, take};
+ghost use Rattle.std.specs.Prelude.{◌≡◌, ◌≢◌, ◌<◌, ◌≤◌, ◌⊎◌, ◌^◌, codes, length, option_map, take};
 ghost use Rattle.xdr_lang.specs.Views.{declared_of};
 ghost use Rattle.c_values.specs.Argument.{HasArgument};
 ghost use Rattle.c_values.specs.Pair.{HoldsPair, pair_bytes, pair_parts, pair_outcome};
@@ -85,7 +85,7 @@ pub fn marks_nothing_by_a_limit_out_of_range(
     written: &mut usize,
     outcome: &mut Outcome,
 ) -> u32
-    requires { 2147483647 < limit }
+    requires { 2 ^ 31 ≤ limit }
     ensures status { (result ≡ 5) ⊎ (result ≡ 6) }
     ensures retained { (buffer.new ≡ buffer.old) × (written.new ≡ 0) }
     ensures outcome { outcome.new ≡ only_at 0 }

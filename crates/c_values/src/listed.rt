@@ -1,19 +1,9 @@
 //! Answers about parts, and how C sees them.
 ghost use Rattle.std.specs.Prelude.{◌≡◌};
 ghost use Rattle.c_values.specs.Parted.{parts_status, parts_outcome, counted, silent};
+ghost use Rattle.c_values.specs.Private.Parting.{IsUnlisted};
 
-use xdr_codec::DecodeFault;
-
-/// How large a value and the list of its parts are.
-#[derive(Clone, Copy)]
-pub struct Counts {
-    /// How many bytes the value has.
-    pub used: usize,
-    /// How many parts there are.
-    pub parts: usize,
-    /// How many bytes their names have.
-    pub names: usize,
-}
+use xdr_codec::{DecodeFault, PartCounts, Reason};
 
 /// What a call for parts found. Each field that a status does not speak of is 0.
 #[repr(C)]
@@ -33,9 +23,9 @@ pub struct PartsOutcome {
 #[derive(Clone, Copy)]
 pub enum Listed {
     /// The parts of a value that is all of the input.
-    Whole(Counts),
+    Whole(PartCounts),
     /// The parts of a value that at least one more byte follows.
-    Followed(Counts),
+    Followed(PartCounts),
     /// Bytes that are refused.
     Refused(DecodeFault),
     /// A name that names no kind.
@@ -47,7 +37,7 @@ pub enum Listed {
     /// No declarations were read.
     NoDeclarations,
     /// Buffer for fewer parts or bytes of names than this.
-    NoRoom(Counts),
+    NoRoom(PartCounts),
 }
 
 impl Listed {
@@ -85,8 +75,19 @@ impl Listed {
     }
 }
 
+/// The answer to an input of which nothing is listed: it is refused, or memory was.
+pub fn unlisted(fault: DecodeFault) -> Listed
+    ensures { IsUnlisted fault result }
+{
+    if fault.why == Reason::NoMemory {
+        Listed::NoMemory
+    } else {
+        Listed::Refused(fault)
+    }
+}
+
 /// The counts, and nothing else.
-fn counted(counts: Counts) -> PartsOutcome
+fn counted(counts: PartCounts) -> PartsOutcome
     ensures { result ≡ counted counts }
 {
     PartsOutcome {

@@ -1,84 +1,73 @@
 //! The parts of a value, listed for C.
-ghost use Rattle.std.specs.Prelude.{◌≡◌, ◌<◌, ◌⊎◌, ◌++◌, ℕ, [], IfOk, drop, false, length, map, true};
-ghost use Rattle.xdr_types.specs.Layout.{entries};
-ghost use Rattle.xdr_parts.specs.Lent.{entry_of, AreLentFrom};
-ghost use Rattle.c_values.specs.Answers.{BeginsWithValue};
-ghost use Rattle.c_values.specs.Parts.{AreEach, names_of};
+ghost use Rattle.std.specs.Prelude.{◌≡◌, ◌<◌, ◌⊎◌, ◌++◌, IfErr, IfOk, drop, false, length, map, true};
+ghost use Rattle.xdr_parts.specs.Counted.{names_of};
+ghost use Rattle.xdr_parts.specs.Lent.{entry_of};
+ghost use Rattle.c_values.specs.Parted.{Buffers, AreParts, IsParted};
 ghost use Rattle.c_values.specs.Private.Parting.{parts_from, AreKnown};
 
+use super::listed::{Listed, unlisted};
 use super::part::{ValuePart, part_of};
 use std::alloc::Global;
-use xdr_codec::{Lent, Reason, parts};
+use xdr_codec::{Lent, PartCounts, sized_parts};
 use xdr_types::{KindId, Limits, NoMemory, Schema};
 
-/// Parts, and their names joined.
+/// How many bytes a value has, its parts, and their names joined.
 #[derive(Drop)]
 pub struct PartList {
+    pub used: usize,
     pub parts: Vec<ValuePart>,
     pub names: Vec<u8>,
 }
 
-/// The parts of the value that begins the input, lent from it.
-fn lent_parts<'a>(
+/// The list of lent parts for C, which have these counts.
+fn listing_of(
     alloc: Global,
-    schema: &'a Schema,
-    kind: KindId,
-    limits: Limits,
-    input: &'a [u8],
-) -> Result<Vec<Lent<'a>>, NoMemory>
-    requires known { kind.place < length schema.now.kinds }
-    requires begins { (used : ℕ) × BeginsWithValue
-        (record { kinds = schema.now.kinds; place = kind.place; limits = limits }) input.now used }
-    ensures listed { IfOk result (λ ls. (used : ℕ) (begins : BeginsWithValue
-        (record { kinds = schema.now.kinds; place = kind.place; limits = limits }) input.now used)
-        → map entry_of ls.items ≡ entries schema.now.kinds kind.place begins.value) }
-    ensures known { IfOk result (λ ls. AreKnown schema.now.kinds ls.items) }
-    ensures lent { IfOk result (λ ls. AreLentFrom input.now ls.items) }
-{
-    let _in_range = limits.depth();
-    match parts(alloc, schema, kind, limits, input) {
-        Ok(lent) => Ok(lent),
-        Err(fault) if fault.why == Reason::NoMemory => Err(NoMemory),
-        Err(_) => unreachable!(),
-    }
-}
-
-/// The list of lent parts for C.
-fn listing_of(alloc: Global, schema: &Schema, lent: &[Lent]) -> Result<PartList, NoMemory>
+    schema: &Schema,
+    lent: &[Lent],
+    counts: PartCounts,
+) -> Result<PartList, NoMemory>
     requires { AreKnown schema.now.kinds lent.now }
+    ensures used { IfOk result (λ r. r.used ≡ counts.used) }
     ensures parts { IfOk result (λ r. r.parts.items ≡ parts_from schema.now.kinds 0 (map entry_of lent.now)) }
     ensures names { IfOk result (λ r. r.names.items ≡ names_of (map entry_of lent.now)) }
 {
-    let mut parts = Vec::new(alloc);
-    let mut names = Vec::new(alloc);
+    let mut parts = Vec::with_capacity(alloc, counts.parts)?;
+    let mut names = Vec::with_capacity(alloc, counts.names)?;
     for part in lent {
         parts.push(part_of(schema, part, names.len()))?;
         names.extend_from_slice(part.name.as_bytes())?;
     }
-    Ok(PartList { parts, names })
+    Ok(PartList {
+        used: counts.used,
+        parts,
+        names,
+    })
 }
 
-/// The list of the parts of the value that begins the input.
+/// The list of the parts of the value that begins the input, or the answer where there is none.
 pub fn list_parts(
     alloc: Global,
     schema: &Schema,
     kind: KindId,
     limits: Limits,
     input: &[u8],
-) -> Result<PartList, NoMemory>
-    requires known { kind.place < length schema.now.kinds }
-    requires begins { (used : ℕ) × BeginsWithValue
-        (record { kinds = schema.now.kinds; place = kind.place; limits = limits }) input.now used }
-    ensures parts { IfOk result (λ r. (used : ℕ) (begins : BeginsWithValue
-        (record { kinds = schema.now.kinds; place = kind.place; limits = limits }) input.now used)
-        → AreEach schema.now.kinds input.now r.names.items [] (entries schema.now.kinds kind.place begins.value)
-        r.parts.items) }
-    ensures names { IfOk result (λ r. (used : ℕ) (begins : BeginsWithValue
-        (record { kinds = schema.now.kinds; place = kind.place; limits = limits }) input.now used)
-        → r.names.items ≡ names_of (entries schema.now.kinds kind.place begins.value)) }
+) -> Result<PartList, Listed>
+    requires { kind.place < length schema.now.kinds }
+    ensures list { IfOk result (λ r. AreParts
+        (record { kinds = schema.now.kinds; place = kind.place; limits = limits }) input.now r.parts.items r.names.items
+        (record { used = r.used; parts = length r.parts.items; names = length r.names.items })) }
+    ensures none { IfErr result (λ a. (bs : Buffers)
+        → IsParted (record { kinds = schema.now.kinds; place = kind.place; limits = limits }) input.now bs bs a) }
 {
-    let lent = lent_parts(alloc, schema, kind, limits, input)?;
-    listing_of(alloc, schema, &lent)
+    let _in_range = limits.depth();
+    let sized = match sized_parts(alloc, schema, kind, limits, input) {
+        Ok(sized) => sized,
+        Err(fault) => return Err(unlisted(fault)),
+    };
+    match listing_of(alloc, schema, &sized.list, sized.counts) {
+        Ok(list) => Ok(list),
+        Err(_) => Err(Listed::NoMemory),
+    }
 }
 
 impl PartList {

@@ -1,5 +1,5 @@
 //! Records of one buffer, marked anew into another.
-ghost use Rattle.std.specs.Prelude.{◌≡◌, ◌≤◌, IfOk};
+ghost use Rattle.std.specs.Prelude.{◌≡◌, ◌<◌, ◌^◌, IfOk};
 ghost use Rattle.c_values.specs.Normal.{IsForm, IsMarked};
 ghost use Rattle.c_values.specs.Statuses.{Reports};
 
@@ -20,7 +20,7 @@ fn normal_form(
     input: &[u8],
     limit: u32,
 ) -> Result<(Option<DecodeFault>, Vec<u8>), NoMemory>
-    requires { limit ≤ 2147483647 }
+    requires { limit < 2 ^ 31 }
     ensures { IfOk result (λ r. IsForm limit input.now r.1.items r.0) }
 {
     let mut source = MemorySource::new(input, 4096, None);

@@ -1,66 +1,55 @@
 //! The parts of a value, by declarations that were read.
 ghost use Rattle.std.specs.Prelude.{◌≡◌, ◌<◌, length, option_map, Some};
 ghost use Rattle.xdr_lang.specs.Views.{declared_of};
-ghost use Rattle.c_values.specs.Answers.{BeginsWithValue};
 ghost use Rattle.c_values.specs.Parted.{IsParted, IsPartedByHeld, ReportsParts};
 
-use super::answer::Answer;
 use super::asking::kind_asked;
 use super::handle::Handle;
-use super::judge::judge;
-use super::listed::{Counts, Listed, PartsOutcome};
+use super::listed::{Listed, PartsOutcome};
 use super::listing::list_parts;
 use super::part::ValuePart;
 use super::room::lacking;
 use c_handles::{keep, taken};
 use std::alloc::Global;
+use xdr_codec::PartCounts;
 use xdr_lang::Declared;
 use xdr_types::{KindId, Limits, Schema};
 
-/// Puts the parts of the value that begins the input into the buffers. Where there is no buffer for a part, which is
-/// how a caller asks for the counts, no list is made.
+/// Puts the parts of the value that begins the input into the buffers.
 fn list_into(
     alloc: Global,
     schema: &Schema,
     kind: KindId,
     limits: Limits,
     input: &[u8],
-    used: usize,
     parts: &mut [ValuePart],
     names: &mut [u8],
 ) -> Listed
-    requires known { kind.place < length schema.now.kinds }
-    requires begins { BeginsWithValue
-        (record { kinds = schema.now.kinds; place = kind.place; limits = limits }) input.now used }
+    requires { kind.place < length schema.now.kinds }
     ensures { IsParted (record { kinds = schema.now.kinds; place = kind.place; limits = limits }) input.now
         (record { parts = parts.old; names = names.old }) (record { parts = parts.new; names = names.new }) result }
 {
-    if parts.is_empty() {
-        match lacking(alloc, schema, kind, limits, input, used, parts, names) {
-            Ok(None) => {}
-            Ok(Some(counts)) => return Listed::NoRoom(counts),
-            Err(_) => return Listed::NoMemory,
-        }
-    }
-    let Ok(list) = list_parts(alloc, schema, kind, limits, input) else {
-        return Listed::NoMemory;
+    let list = match list_parts(alloc, schema, kind, limits, input) {
+        Ok(list) => list,
+        Err(answer) => return answer,
     };
-    let counts = Counts {
-        used,
+    let counts = PartCounts {
+        used: list.used,
         parts: list.parts.len(),
         names: list.names.len(),
     };
     if !list.put(parts, names) {
         return Listed::NoRoom(counts);
     }
-    if used < input.len() {
+    if counts.used < input.len() {
         Listed::Followed(counts)
     } else {
         Listed::Whole(counts)
     }
 }
 
-/// Judges the input, and puts the parts of its value into the buffers.
+/// The same where no list is made if there is no buffer for a part, which is how a caller asks for the counts. The
+/// input is judged once.
 fn parts_into(
     alloc: Global,
     schema: &Schema,
@@ -74,14 +63,12 @@ fn parts_into(
     ensures { IsParted (record { kinds = schema.now.kinds; place = kind.place; limits = limits }) input.now
         (record { parts = parts.old; names = names.old }) (record { parts = parts.new; names = names.new }) result }
 {
-    match judge(alloc, schema, kind, limits, input) {
-        Answer::Whole { used } | Answer::Followed { used } => {
-            list_into(alloc, schema, kind, limits, input, used, parts, names)
+    if parts.is_empty() {
+        if let Some(answer) = lacking(alloc, schema, kind, limits, input, parts, names) {
+            return answer;
         }
-        Answer::Refused(fault) => Listed::Refused(fault),
-        Answer::NoMemory => Listed::NoMemory,
-        _ => unreachable!(),
     }
+    list_into(alloc, schema, kind, limits, input, parts, names)
 }
 
 /// The same by declarations. The name is looked at before the limits.

@@ -1,49 +1,40 @@
 //! Whether the parts of a value go into the buffers.
-ghost use Rattle.std.specs.Prelude.{◌<◌, length, IfOk, IfSome};
-ghost use Rattle.c_values.specs.Answers.{BeginsWithValue};
-ghost use Rattle.c_values.specs.Parted.{HasNoRoom};
+ghost use Rattle.std.specs.Prelude.{◌<◌, length, IfSome};
+ghost use Rattle.c_values.specs.Parted.{IsParted};
 
-use super::listed::Counts;
+use super::listed::{Listed, unlisted};
 use super::part::ValuePart;
 use std::alloc::Global;
-use xdr_codec::{Reason, count_parts};
-use xdr_types::{KindId, Limits, NoMemory, Schema};
+use xdr_codec::count_parts;
+use xdr_types::{KindId, Limits, Schema};
 
-/// What the buffers would have to have, where they are too small for the parts of the value that begins the input. The
-/// parts are counted, and no list of them is made.
+/// The answer that calls for no list: buffers that are too small for the parts of the value that begins the input, or
+/// no such value. The parts are counted while the input is judged.
 pub fn lacking(
     alloc: Global,
     schema: &Schema,
     kind: KindId,
     limits: Limits,
     input: &[u8],
-    used: usize,
     parts: &[ValuePart],
     names: &[u8],
-) -> Result<Option<Counts>, NoMemory>
-    requires known { kind.place < length schema.now.kinds }
-    requires begins { BeginsWithValue
-        (record { kinds = schema.now.kinds; place = kind.place; limits = limits }) input.now used }
-    ensures { IfOk result (λ needed. IfSome needed (HasNoRoom
+) -> Option<Listed>
+    requires { kind.place < length schema.now.kinds }
+    ensures { IfSome result (IsParted
         (record { kinds = schema.now.kinds; place = kind.place; limits = limits }) input.now
-        (record { parts = parts.now; names = names.now }) (record { parts = parts.now; names = names.now }))) }
+        (record { parts = parts.now; names = names.now }) (record { parts = parts.now; names = names.now })) }
 {
     let _in_range = limits.depth();
     let counts = match count_parts(alloc, schema, kind, limits, input) {
         Ok(counts) => counts,
-        Err(fault) if fault.why == Reason::NoMemory => return Err(NoMemory),
-        Err(_) => unreachable!(),
+        Err(fault) => return Some(unlisted(fault)),
     };
     // Names of more bytes than can be counted go into no memory: the list is left to say so.
     if counts.names == usize::MAX {
-        return Ok(None);
+        return None;
     }
     if counts.parts <= parts.len() && counts.names <= names.len() {
-        return Ok(None);
+        return None;
     }
-    Ok(Some(Counts {
-        used,
-        parts: counts.parts,
-        names: counts.names,
-    }))
+    Some(Listed::NoRoom(counts))
 }

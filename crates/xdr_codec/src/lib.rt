@@ -22,5 +22,5 @@ pub use decoder::Decoder;
 pub use decoding::decode;
 pub use encoding::encode;
 pub use writing::{WriteFault, encode_to};
-pub use xdr_parts::{Lent, PartCounts, Role, count_parts, parts};
+pub use xdr_parts::{Lent, PartCounts, Role, SizedParts, count_parts, parts, sized_parts};
 pub use xdr_stream::{DecodeFault, Held, Progress, Reason};

@@ -28,3 +28,13 @@ pub record AreCounted (kinds : List KindView) (kind : ℕ) (limits : Bounds) (in
     pub from : AreLentFrom input lent
     pub parts : c.parts ≡ length (entries kinds kind value)
     pub names : c.names ≡ capped (length (names_of (entries kinds kind value)))
+
+-- These are the parts of the value that the outcome of the input is, each lent from it, and the counts are theirs.
+pub record AreListed (kinds : List KindView) (kind : ℕ) (limits : Bounds) (input : List ℕ) (ls : List Lent)
+    (c : PartCounts) : Type 0 where
+  pub value : Tree
+  pub whole : Outcome kinds kind limits input (Whole value c.used)
+  pub each : map entry_of ls ≡ entries kinds kind value
+  pub from : AreLentFrom input ls
+  pub parts : c.parts ≡ length (entries kinds kind value)
+  pub names : c.names ≡ capped (length (names_of (entries kinds kind value)))

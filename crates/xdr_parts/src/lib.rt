@@ -17,5 +17,5 @@ mod walk;
 mod whole;
 
 pub use counting::{PartCounts, count_parts};
-pub use listing::parts;
+pub use listing::{SizedParts, parts, sized_parts};
 pub use part::{Lent, Role};

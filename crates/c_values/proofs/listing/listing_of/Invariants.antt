@@ -1,6 +1,6 @@
 use Rattle.std.proofs.Common.{◌≡◌, ◌++◌, drop, length, map}
 use Rattle.xdr_parts.specs.Lent.{entry_of}
-use Rattle.c_values.specs.Parts.{names_of}
+use Rattle.xdr_parts.specs.Counted.{names_of}
 use Rattle.c_values.specs.Private.Parting.{parts_from, AreKnown}
 use Rattle.c_values.proofs.listing.listing_of.Given as goal
 

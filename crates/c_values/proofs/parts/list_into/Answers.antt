@@ -4,16 +4,19 @@ use Rattle.c_values.specs.Answers.{Question}
 use Rattle.c_values.proofs.Parting.{are_parts_of}
 use Rattle.c_values.proofs.parts.list_into.Goals as goal
 
+pub returns-in-Err : goal.returns-in-Err
+returns-in-Err c = c.in-Err.ensures.none (record { parts = c.args.parts.now; names = c.args.names.now })
+
 pub returns-then-not-put : goal.returns-then-not-put
 returns-then-not-put c =
     let q : Question =
     record { kinds = c.args.schema.now.kinds; place = c.args.kind.place; limits = c.args.limits } in
+    let are = c.in-Ok.ensures.list in
     let parts : c.len.result ≡ length c.in-Ok.list.parts.items = search rules in
     let names : c.len-2.result ≡ length c.in-Ok.list.names.items = search rules in (
       c.in-Ok.list.parts.items,
       c.in-Ok.list.names.items,
-      are_parts_of q c.args.input.now _ _ c.args.used c.len.result c.len-2.result c.requires.begins
-          (c.in-Ok.ensures.parts c.args.used c.requires.begins) (c.in-Ok.ensures.names c.args.used c.requires.begins)
+      are_parts_of q c.args.input.now _ _ c.in-Ok.list.used c.len.result c.len-2.result are.begins are.each are.joined
           parts names,
       rw (parts, names) (c.put.ensures.small (search rules)),
       record {
@@ -22,18 +25,18 @@ returns-then-not-put c =
       },
     )
 
-pub returns-then-used-input : goal.returns-then-used-input
-returns-then-used-input c =
+pub returns-then-counts-input : goal.returns-then-counts-input
+returns-then-counts-input c =
     let q : Question =
     record { kinds = c.args.schema.now.kinds; place = c.args.kind.place; limits = c.args.limits } in
+    let are = c.in-Ok.ensures.list in
     let parts : c.len.result ≡ length c.in-Ok.list.parts.items = search rules in
     let names : c.len-2.result ≡ length c.in-Ok.list.names.items = search rules in (
       (
         c.in-Ok.list.parts.items,
         c.in-Ok.list.names.items,
-        are_parts_of q c.args.input.now _ _ c.args.used c.len.result c.len-2.result c.requires.begins
-            (c.in-Ok.ensures.parts c.args.used c.requires.begins)
-            (c.in-Ok.ensures.names c.args.used c.requires.begins) parts names,
+        are_parts_of q c.args.input.now _ _ c.in-Ok.list.used c.len.result c.len-2.result are.begins are.each
+            are.joined parts names,
         record {
           parts_front = c.put.ensures.parts (search rules);
           names_front = c.put.ensures.names (search rules);
@@ -46,18 +49,18 @@ pub returns : goal.returns
 returns c =
     let q : Question =
     record { kinds = c.args.schema.now.kinds; place = c.args.kind.place; limits = c.args.limits } in
+    let are = c.in-Ok.ensures.list in
     let parts : c.len.result ≡ length c.in-Ok.list.parts.items = search rules in
     let names : c.len-2.result ≡ length c.in-Ok.list.names.items = search rules in (
       (
         c.in-Ok.list.parts.items,
         c.in-Ok.list.names.items,
-        are_parts_of q c.args.input.now _ _ c.args.used c.len.result c.len-2.result c.requires.begins
-            (c.in-Ok.ensures.parts c.args.used c.requires.begins)
-            (c.in-Ok.ensures.names c.args.used c.requires.begins) parts names,
+        are_parts_of q c.args.input.now _ _ c.in-Ok.list.used c.len.result c.len-2.result are.begins are.each
+            are.joined parts names,
         record {
           parts_front = c.put.ensures.parts (search rules);
           names_front = c.put.ensures.names (search rules);
         },
       ),
-      omega (arith, c.requires.begins.within),
+      omega (arith, are.begins.within),
     )
