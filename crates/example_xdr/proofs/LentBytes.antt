@@ -19,9 +19,10 @@ use Rattle.xdr_stream.specs.Finish.{EndsWith}
 use Rattle.xdr_stream.specs.declared.fault.DecodeFault.{DecodeFault}
 use Rattle.xdr_stream.specs.declared.fault.Reason.{Reason}
 use Rattle.xdr_stream.specs.declared.fault.Reason.TheVariants as reason
-use Rattle.xdr_parts.specs.Counted.{AreCounted, capped, names_of}
+use Rattle.xdr_parts.specs.Counted.{AreCounted, AreListed, capped, names_of}
 use Rattle.xdr_parts.specs.Lent.{entry_of, size_in, role_in, AreLentFrom}
 use Rattle.xdr_parts.specs.declared.counting.PartCounts.{PartCounts}
+use Rattle.xdr_parts.specs.declared.listing.SizedParts.{SizedParts}
 use Rattle.xdr_parts.specs.declared.part.Lent.{Lent}
 use Rattle.xdr_parts.specs.declared.part.Role.TheVariants.{Number, Flag, Length, Content, Group}
 use Rattle.xdr_parts.specs.declared.part.Role as rust
@@ -123,6 +124,30 @@ module _ (kinds : List KindView) (place : ℕ) (limits : Bounds) (units : limits
           h.names ∙ ap (λ (v : Tree). capped (length (names_of (entries kinds place v)))) same,
         )
     counted (Err f) h = tt
+
+    -- both where they are reported together
+    pub sized : (r : Result SizedParts DecodeFault)
+        → IfOk r (λ s. AreListed kinds place limits b s.list.items s.counts)
+        → IfOk r (λ s. (s.counts.used ≡ length (bytes_of kinds place t))
+        × (s.counts.parts ≡ length (entries kinds place t))
+        × (s.counts.names ≡ capped (length (names_of (entries kinds place t)))))
+    sized (Ok s) h = counted (Ok s.counts) (record {
+      value = h.value;
+      whole = h.whole;
+      lent = s.list.items;
+      each = h.each;
+      from = h.from;
+      parts = h.parts;
+      names = h.names;
+    })
+    sized (Err f) h = tt
+
+    pub listed : (r : Result SizedParts DecodeFault)
+        → IfOk r (λ s. AreListed kinds place limits b s.list.items s.counts)
+        → IfOk r (λ s. map entry_of s.list.items ≡ entries kinds place t)
+    listed (Ok s) h =
+        h.each ∙ ap (λ (v : Tree). entries kinds place v) (that_value b h.value t s.counts.used x h.whole fit e)
+    listed (Err f) h = tt
 
     -- and nothing but want of memory stands against them
     pub only_memory : {A : Type 0} (r : Result A DecodeFault) → IfErr r (λ f. EndsWith kinds place limits b f)

@@ -8,7 +8,7 @@ ghost use Rattle.example_xdr.specs.Rfc.{file_kinds, part, sillyprog_bytes};
 ghost use Rattle.example_xdr.specs.Lent.{bytes_of_each, sillyprog_entries, sillyprog_lent};
 
 use std::alloc::Global;
-use xdr_codec::{DecodeFault, Lent, PartCounts, count_parts, parts};
+use xdr_codec::{DecodeFault, Lent, PartCounts, SizedParts, count_parts, parts, sized_parts};
 use xdr_types::{KindId, Limits, Schema};
 
 /// The 48 bytes of RFC 4506 section 7 have ten parts, and the content of each string is lent without the zeros after
@@ -47,6 +47,25 @@ pub fn counts_the_file(
 {
     let _in_range = limits.depth();
     count_parts(alloc, schema, KindId { place: 6 }, limits, input)
+}
+
+/// `sized_parts` reports both of one look at the bytes: the ten parts, and the counts.
+pub fn sizes_the_file<'a>(
+    alloc: Global,
+    schema: &'a Schema,
+    limits: Limits,
+    input: &'a [u8],
+) -> Result<SizedParts<'a>, DecodeFault>
+    requires kinds { schema.now.kinds ≡ file_kinds }
+    requires deep { 3 ≤ limits.depth }
+    requires buffer { 48 ≤ limits.bytes }
+    requires input { input.now ≡ sillyprog_bytes }
+    ensures counts { IfOk result (λ s. (s.counts.used ≡ 48) × (s.counts.parts ≡ 10) × (s.counts.names ≡ 60)) }
+    ensures parts { IfOk result (λ s. map entry_of s.list.items ≡ sillyprog_entries) }
+    ensures taken { IfErr result (λ f. f.why ≡ NoMemory) }
+{
+    let _in_range = limits.depth();
+    sized_parts(alloc, schema, KindId { place: 6 }, limits, input)
 }
 
 /// An empty string has a length and content of no bytes, and what follows it is no part.
