@@ -29,7 +29,8 @@
  *
  * THREADS. There is no state outside of the handles and no initialisation, so calls may run on several threads at once
  * where they share nothing that one of them fills. A handle stays on the thread that made it, under a lock too, since
- * a check writes to it: no proof covers another thread. Nothing here may be called from a signal handler, nor in the forked child of a process with threads.
+ * a check writes to it: no proof covers another thread. Nothing here may be called from a signal handler, nor in the
+ * forked child of a process with threads.
  *
  * STACK. No call goes down by the depth of its input: 64 KiB are enough for every call, at the greatest limits too, as
  * was measured on x86-64 Linux.
@@ -308,7 +309,8 @@ uint32_t oncrpc_declarations_show(
  * says how many bytes the value has. An array of `parts` parts and a buffer for `names` bytes are needed, both.
  * ONCRPC_REFUSED: `why` and `at`, as oncrpc_declarations_check tells them. At any status but the first two both are as
  * they were, so a count of 0 for both asks how much they need. Where `parts_count` is 0 they are counted alone, in
- * memory for a frame for each open node; else the parts are listed twice and their names once, until the call returns.
+ * memory for a frame for each open node; else the parts are listed twice and their names once, before the buffers are
+ * filled.
  * ONCRPC_OK, _MORE_FOLLOWS, _REFUSED, _NO_KIND, _BAD_LIMITS, _NO_MEMORY, _NO_DECLARATIONS, _NO_ROOM. */
 uint32_t oncrpc_declarations_parts(
     oncrpc_declarations *declarations,

@@ -68,8 +68,8 @@ static void show_value(oncrpc_declarations *held) {
     judge(status == ONCRPC_OK && tells(&outcome, MIB + 4, 0) && is_line, status);
 }
 
-/* The parts of the list: itself, and each item at its place. Where there is no array they are counted, and no list of
- * them is made: what is asked for is a few frames. */
+/* The parts of the list: itself, and each item at its place. Where there is no array they are counted, with or
+ * without a buffer for names, and no list of them is made: what is asked for is a few frames. */
 static void list_value(oncrpc_declarations *held) {
     oncrpc_parts_outcome found = {9, 9, 9, 9};
     put_number(input, ITEMS);
@@ -78,6 +78,10 @@ static void list_value(oncrpc_declarations *held) {
         NULL, 0, &found);
     judge(status == ONCRPC_NO_ROOM && found.at == MIB + 4 && found.parts == ITEMS + 1 && !found.names
         && growth_bytes() - before < FRAMES, status);
+    before = growth_bytes();
+    status = oncrpc_declarations_parts(held, bytes("list"), 4, 2, ONCRPC_MOST_BYTES, input, MIB + 4, NULL, 0,
+        buffer, 1, &found);
+    judge(status == ONCRPC_NO_ROOM && found.parts == ITEMS + 1 && growth_bytes() - before < FRAMES, status);
     status = oncrpc_declarations_parts(held, bytes("list"), 4, 2, ONCRPC_MOST_BYTES, input, MIB + 4, parts, ITEMS,
         NULL, 0, &found);
     judge(status == ONCRPC_NO_ROOM && found.parts == ITEMS + 1, status);

@@ -135,7 +135,7 @@ def typedef_cases():
 
 def picked_cases():
     """A million numbers, each that of the last among thousands of members or arms: it is found in few steps. One by one
-    they take some ten seconds and more."""
+    they take some ten seconds and more. `show` of a tenth of them, whose lines are more than the output takes."""
     members = b"".join(b"e%d=%d," % (number, number) for number in range(1, 15000))
     arms = b"".join(b"case %d:void;" % number for number in range(1, 11250))
     for text in (
@@ -144,6 +144,8 @@ def picked_cases():
     ):
         case = Case("Task::Check", zeros=4000000, kind="many", text=text, types="a.x")
         yield case, lambda told: (told.answer, told.streams) == ("0", [b"ok 4000000\n", b""])
+        case = Case("Task::Show", zeros=400000, kind="many", text=text.replace(b"1000000", b"100000"), types="a.x")
+        yield case, lambda told: (told.answer, told.streams[1]) == ("3", b"write fault\n")
 
 
 def deep_cases():

@@ -23,6 +23,15 @@ def client_cases():
         yield case, lambda told, wanted=wanted: (told.answer, told.counts, told.streams) == wanted
 
 
+def endless_cases():
+    """A client of empty fragments and of one byte a read, until its end is read by the last read and just not."""
+    for count, line in ((1048575, b"Truncated at 1048575"), (1048576, b"TooManyReads"), (1048577, b"TooManyReads")):
+        lines = b"listening on 127.0.0.1 111\nconnection 1: %s\n" % line
+        keys = {"count": 1, "clients": [bytes(count)], "clients_read_fails": [0], "replies": [b""]}
+        case = Case("serve_on", (1, 0), (512, 0), **keys)
+        yield case, lambda told, lines=lines: (told.answer, told.streams) == ("0", [lines, b""])
+
+
 def longest_cases():
     """The longest list of rows that is printed."""
     rows = octets("00000001 000186a0 00000002 00000006 0000006f") * MOST_ROWS
@@ -50,8 +59,8 @@ def datagram_cases():
 
 
 def service_cases():
-    """Clients, the longest list, and datagrams."""
-    yield from itertools.chain(client_cases(), longest_cases(), datagram_cases())
+    """Clients, those without end, the longest list, and datagrams."""
+    yield from itertools.chain(client_cases(), endless_cases(), longest_cases(), datagram_cases())
 
 
 def port_rows():

@@ -20,6 +20,26 @@ fn rpcb(program: u32, version: u32, netid: &[u8], address: &[u8], owner: &[u8]) 
     [numbers, string(netid), string(address), string(owner)].concat()
 }
 
+/// The vector that a reply is written into is not cleared first: behind the reply stands what stood there.
+#[test]
+fn a_reply_into_a_long_vector() {
+    const LONG: usize = 1 << 20;
+    let mut registry = started();
+    let call = Call {
+        xid: 5,
+        program: 100_000,
+        version: 2,
+        ..Call::default()
+    };
+    let mut reply = vec![7; LONG];
+    assert_eq!(registry.answer(Transport::Tcp, &call.write().unwrap(), &mut reply), Ok(true));
+    let count = reply.len();
+    assert_eq!(count, 24);
+    // SAFETY: so many bytes were written when the vector was made.
+    unsafe { reply.set_len(LONG) };
+    assert!(reply[count..].iter().all(|byte| *byte == 7));
+}
+
 /// The results of a call of the registry.
 fn asked(registry: &mut Registry, over: Transport, version: u32, procedure: u32, arguments: &[u8]) -> Option<Vec<u8>> {
     let call = Call {
