@@ -17,7 +17,7 @@ _oncrpc() {
         --types) compopt -o filenames && mapfile -t COMPREPLY < <(compgen -f -- "$word") ;;
         --depth) : ;;
         --bytes) : ;;
-        *) mapfile -t COMPREPLY < <(compgen -W "--name --types --depth --bytes --hex --help" -- "$word") ;;
+        *) mapfile -t COMPREPLY < <(compgen -W "--name --types --hex --depth --bytes --help" -- "$word") ;;
         esac
         ;;
     show)
@@ -26,7 +26,7 @@ _oncrpc() {
         --types) compopt -o filenames && mapfile -t COMPREPLY < <(compgen -f -- "$word") ;;
         --depth) : ;;
         --bytes) : ;;
-        *) mapfile -t COMPREPLY < <(compgen -W "--name --types --depth --bytes --hex --help" -- "$word") ;;
+        *) mapfile -t COMPREPLY < <(compgen -W "--name --types --hex --depth --bytes --help" -- "$word") ;;
         esac
         ;;
     records)
