@@ -9,6 +9,8 @@ use Rattle.xdr_stream.specs.Represents.{used_of}
 use Rattle.xdr_stream.specs.Checked.{Counts}
 use Rattle.xdr_stream.specs.Held as held
 use Rattle.xdr_stream.specs.declared.holding.Held.{Held}
+use Rattle.xdr_due.specs.Due.{IsDue}
+use Rattle.xdr_due.specs.declared.due.Due.{Due}
 use Rattle.xdr_stream.specs.declared.fault.DecodeFault.{DecodeFault}
 use Rattle.xdr_stream.specs.declared.reader.State.TheVariants.{Finished, Failed}
 use Rattle.xdr_stream.specs.declared.reader.Progress.{Progress}
@@ -65,10 +67,15 @@ HasFailed c f = c.reader.state ≡ Failed f
 abbrev pub GoesOn : Checker → Type 0
 GoesOn c = held.GoesOn c.reader.state
 
+-- a unit is needed
+abbrev pub IsWaiting : Checker → Type 0
+IsWaiting c = reported.IsWaiting c.reader.state
+
 -- what an answer to a piece leaves: no more of the piece was used than it has, and the checker's state is what was
 -- answered
 pub record Leaves (c : Checker) (piece : List ℕ) (answer : Result Progress DecodeFault) : Type 0 where
   pub used : IfOk answer (λ p. used_of p ≤ length piece)
+  pub more : IfOk answer (λ p. p ≡ More → IsWaiting c)
   pub goes_on : IfOk answer (λ p. p ≡ More → GoesOn c)
   pub done : IfOk answer (λ p. (used : ℕ) → p ≡ Done used → IsDone c)
   pub failed : IfErr answer (λ f. HasFailed c f)
@@ -85,3 +92,7 @@ CountsFields c h = held.IsCount c.reader 0 0 h
 -- after the bytes b: a frame more than the limit on depth at most, and less than a unit
 abbrev pub IsHeldWithin : Checker → (b : List ℕ) → Held → Type 0
 IsHeldWithin c b h = held.IsWithin (kinds_of c) (limits_of c) b h
+
+-- what comes next after the bytes b
+abbrev pub HasDue : Checker → (b : List ℕ) → Due → Type 0
+HasDue c b d = IsDue (kinds_of c) (kind_of c).place (limits_of c) b d

@@ -4,6 +4,7 @@ ghost use Rattle.std.specs.Prelude.{ℕ, List};
 ghost use Rattle.xdr_stream.specs.Finish.{Checks};
 
 use std::alloc::Global;
+use xdr_due::{Due, due_of};
 use xdr_stream::checker::{check, finish_check};
 use xdr_stream::{DecodeFault, Held, Nothing, Progress, Reader, holding};
 use xdr_types::{KindId, Limits, Schema};
@@ -26,6 +27,8 @@ impl<'s> Checker<'s> {
     ghost use Rattle.xdr_codec.specs.Checks.{RepresentsBytes, HasOutcome, CountsIn, IsSame, IsStarted, IsDone};
     ghost use Rattle.xdr_codec.specs.Checks.{HasFailed};
     ghost use Rattle.xdr_codec.specs.Checks.{GoesOn, CountsFields, IsHeldWithin, Leaves, Stays};
+    ghost use Rattle.xdr_codec.specs.Checks.{IsWaiting, HasDue};
+    ghost use Rattle.xdr_due.specs.Due.{IsNothing};
 
     /// A checker that has been given no byte. It takes no memory.
     pub fn start(alloc: Global, schema: &'s Schema, kind: KindId, limits: Limits) -> Checker<'s>
@@ -61,6 +64,19 @@ impl<'s> Checker<'s> {
         ensures same { IsSame self.old self.new }
     {
         self.reader.feed(piece)
+    }
+
+    /// What comes next after the bytes that were given: the part in which the next unit stands, in each value that
+    /// begins with them (RFC 4506 section 4). Before any `feed`, within a unit, after the value and after a fault it is
+    /// nothing. It takes no memory.
+    pub fn due(&self) -> Due
+        // The next unit stands there.
+        ensures due { (b : List ℕ) → RepresentsBytes self.now b → HasDue self.now b result }
+        // Where a unit is needed and whole units came, it is something.
+        ensures some { (b : List ℕ) → RepresentsBytes self.now b → IsWaiting self.now → length b % 4 ≡ 0
+            → IsNothing result → ⊥ }
+    {
+        due_of(&self.reader)
     }
 
     /// How much is held, as `Decoder::held` counts it: no node and no byte of content. After a fault nothing is. It

@@ -22,5 +22,6 @@ pub use decoder::Decoder;
 pub use decoding::decode;
 pub use encoding::encode;
 pub use writing::{WriteFault, encode_to};
+pub use xdr_due::Due;
 pub use xdr_parts::{Lent, PartCounts, Role, SizedParts, count_parts, parts, sized_parts};
 pub use xdr_stream::{DecodeFault, Held, Progress, Reason};

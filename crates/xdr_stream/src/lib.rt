@@ -22,4 +22,4 @@ pub use builder::nothing::Nothing;
 pub use builder::values::Values;
 pub use fault::{DecodeFault, Reason};
 pub use holding::Held;
-pub use reader::{Progress, Reader};
+pub use reader::{Progress, Reader, State};

@@ -1,0 +1,11 @@
+pub mod Outcomes
+pub mod Joined
+pub mod ItemsOf
+pub mod Placed
+pub mod SameItem
+pub mod Begin
+pub mod Putting
+pub mod Settings
+pub mod Becoming
+pub mod Taking
+pub mod Coding

@@ -1,0 +1,90 @@
+-- What a writer's answers say of the items that it has taken and of the next.
+use Rattle.std.specs.Prelude.{◌≡◌, ℕ, ◌<◌, ◌⊎◌, List, [], ◌∷◌, ◌++◌, length, take, ⊤}
+use Rattle.xdr_types.specs.Kinds.{KindView, kind_at}
+use Rattle.xdr_types.specs.Tree.{Tree}
+use Rattle.xdr_types.specs.Fits.{Fits}
+use Rattle.xdr_types.specs.Spelling.{bytes_of}
+use Rattle.xdr_types.specs.Within.{Bounds, FitsWithin}
+use Rattle.xdr_types.specs.Layout.{Entry}
+use Rattle.xdr_types.specs.Outcome as outcome
+use Rattle.xdr_types.specs.Outcome.{Outcome}
+use Rattle.xdr_stream.specs.Represents as reported
+use Rattle.xdr_stream.specs.declared.fault.Reason.{Reason}
+use Rattle.xdr_stream.specs.declared.fault.Reason.TheVariants as reason
+use Rattle.xdr_writer.specs.Items.{ItemView, NodeItem, of_node, spelled_as, all_spelled, items}
+use Rattle.xdr_writer.specs.ItemsOf.{node_items_of, items_of}
+use Rattle.xdr_writer.specs.Forms.{HasForm, IsInRange, IsNext}
+use Rattle.xdr_writer.specs.Represents.{RepresentsItems, kinds_of, kind_of}
+use Rattle.xdr_writer.specs.declared.refusal.Why.{Why}
+use Rattle.xdr_writer.specs.declared.refusal.Why.TheVariants as why
+use Rattle.xdr_writer.specs.declared.writer.Step.{Step}
+use Rattle.xdr_writer.specs.declared.writer.Step.TheVariants as step
+use Rattle.xdr_writer.specs.declared.writer.Writer.{Writer}
+
+-- some value begins with the items and has more, none has these alone, and decoding their bytes has not ended
+pub record IsBegun (kinds : List KindView) (kind : ℕ) (limits : Bounds) (is : List NodeItem) : Type 0 where
+  pub begins : (v : Tree) × Fits kinds kind v × (next : NodeItem) × (rest : List NodeItem)
+      × (node_items_of kinds kind v ≡ is ++ next ∷ rest)
+  pub unfinished : (v : Tree) → Fits kinds kind v → items_of kinds kind v ≡ items is → ⊥
+  pub outcome : Outcome kinds kind limits (all_spelled is) outcome.Pending
+
+-- the bytes are the encoding of a value of the kind within the limits
+abbrev pub IsEncoding : List KindView → (kind : ℕ) → Bounds → (b : List ℕ) → Type 0
+IsEncoding kinds kind limits b = (v : Tree) × FitsWithin kinds kind limits v × (bytes_of kinds kind v ≡ b)
+
+-- the items are those of a value of the kind within the limits, and their bytes are its encoding
+abbrev pub IsWritten : List KindView → (kind : ℕ) → Bounds → (is : List NodeItem) → Type 0
+IsWritten kinds kind limits is =
+    (v : Tree) × FitsWithin kinds kind limits v × (node_items_of kinds kind v ≡ is)
+    × (bytes_of kinds kind v ≡ all_spelled is)
+
+-- what an answer that takes an item says of all items with it
+abbrev pub Takes : List KindView → (kind : ℕ) → Bounds → (is : List NodeItem) → Step → Type 0
+Takes kinds kind limits is step.More = IsBegun kinds kind limits is
+Takes kinds kind limits is step.Done = IsWritten kinds kind limits is
+
+-- what a call that takes an item leaves: the item is of a node of this kind, its bytes stand behind those before
+pub record Took (a b : Writer) (is : List NodeItem) (i : ItemView) (before after : List ℕ) (s : Step) : Type 0 where
+  pub kind : KindView
+  pub represents : RepresentsItems b (is ++ of_node kind i ∷ [])
+  pub bytes : after ≡ before ++ spelled_as kind i
+  pub takes : Takes (kinds_of a) (kind_of a) a.limits (is ++ of_node kind i ∷ []) s
+
+-- the bytes of an item where it comes next, at an entry
+abbrev pub NextBytes : List KindView → (kind : ℕ) → (b : List ℕ) → ItemView → (Said : List ℕ → Type 0) → Type 0
+NextBytes kinds kind b i Said = (e : Entry) × IsNext kinds kind b e × Said (spelled_as (kind_at kinds e.kind) i)
+
+-- what a refusal says of the items so far and the next
+abbrev pub Refuses : List KindView → (kind : ℕ) → Bounds → (is : List NodeItem) → ItemView → Why → Type 0
+Refuses kinds kind limits is i why.WrongItem =
+    (e : Entry) × IsNext kinds kind (all_spelled is) e × (HasForm (kind_at kinds e.kind) e.role i → ⊥)
+Refuses kinds kind limits is i why.NotInRange =
+    (e : Entry) × IsNext kinds kind (all_spelled is) e × HasForm (kind_at kinds e.kind) e.role i
+    × (IsInRange kinds (kind_at kinds e.kind) i → ⊥)
+Refuses kinds kind limits is i (why.Refused f) =
+    reported.Fails kinds kind limits f (all_spelled is)
+    ⊎ NextBytes kinds kind (all_spelled is) i (λ u. reported.Fails kinds kind limits f (all_spelled is ++ u))
+Refuses kinds kind limits is i why.PastEnd =
+    IsEncoding kinds kind limits (all_spelled is)
+    ⊎ NextBytes kinds kind (all_spelled is) i
+    (λ u. (n : ℕ) × (n < length u) × IsEncoding kinds kind limits (all_spelled is ++ take n u))
+Refuses kinds kind limits is i why.PastLimit =
+    NextBytes kinds kind (all_spelled is) i (λ u. limits.bytes < length (all_spelled is ++ u))
+Refuses kinds kind limits is i why.Unfinished = ⊥
+Refuses kinds kind limits is i why.NoMemory = ⊤
+
+-- the reason is not that memory was refused
+abbrev pub IsOfBytes : Reason → Type 0
+IsOfBytes reason.NoMemory = ⊥
+IsOfBytes _ = ⊤
+
+abbrev pub IsKnown : Why → Type 0
+IsKnown (why.Refused f) = IsOfBytes f.why
+IsKnown why.NoMemory = ⊥
+IsKnown _ = ⊤
+
+-- no value of the kind within the limits has the items so far and then this one
+abbrev pub HasNoValue : List KindView → (kind : ℕ) → Bounds → (is : List NodeItem) → ItemView → Type 0
+HasNoValue kinds kind limits is i =
+    (v : Tree) (rest : List ItemView) → FitsWithin kinds kind limits v
+    → items_of kinds kind v ≡ items is ++ i ∷ rest → ⊥

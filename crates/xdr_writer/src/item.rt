@@ -1,0 +1,16 @@
+//! The items of a value, which are put one after another.
+
+/// An item of a value (RFC 4506 section 4): what stands in the bytes of a part, in the order of the layout. Structures,
+/// arrays of fixed size and voids have no bytes of their own, and so no item; nor has the length of content.
+#[derive(Clone, Copy, Drop)]
+pub enum Item<'a> {
+    /// An integer, a hyper integer, a boolean, an enumeration's number or a discriminant (sections 4.1 to 4.5, 4.15).
+    Number(i128),
+    /// Whether an optional item is there (section 4.19).
+    Flag(bool),
+    /// How many items of an array follow; an array of fixed size has none such (section 4.13).
+    Count(u32),
+    /// The bytes of an opaque or a string, without a length and without the zeros after them (sections 4.9 to 4.11).
+    /// An opaque of fixed size has all of them in one item.
+    Content(&'a [u8]),
+}
