@@ -7,3 +7,4 @@ pub mod Judging
 pub mod Progress
 pub mod Rightly
 pub mod Showing
+pub mod Hexed
