@@ -55,3 +55,8 @@ length-step kinds p ps qs t vs ws qe we =
     ap (λ (z : Values). length (spelling kinds qs z)) we
     ∙ ap (λ (z : List Part). length (spelling kinds z (node t.0 t.1 vs))) qe
     ∙ length-append (bytes_of kinds p.kind t) (spelling kinds ps vs)
+
+-- no values have no bytes, whatever the parts are
+pub nothing_spelled : (kinds : List KindView) (ps : List Part) → length (spelling kinds ps none) ≡ 0
+nothing_spelled kinds [] = refl
+nothing_spelled kinds (p ∷ ps) = refl

@@ -36,8 +36,27 @@ pub fn has_space(schema: &Schema, id: KindId, value: &Value, space: u32) -> bool
     }
 }
 
+// What is left of the space after the bytes of a value. Most values are numbers, whose kind does not matter here.
 #[cycle(left)]
+#[tactic(auto, using(crate::proofs::Joining::nothing_spelled))]
 fn left_after(schema: &Schema, id: KindId, value: &Value, space: u32) -> Option<u32>
+    requires { fits schema.now.kinds id.place (tree value.now) ≡ true }
+    ensures { IsLeft space (length (bytes_of schema.now.kinds id.place (tree value.now))) result }
+{
+    match value {
+        Value::Int(_) => take(space, 4),
+        Value::Unsigned(_) => take(space, 4),
+        Value::Hyper(_) => take(space, 8),
+        Value::UnsignedHyper(_) => take(space, 8),
+        Value::Bool(_) => take(space, 4),
+        Value::Numbered(_) => take(space, 4),
+        _ => left_after_node(schema, id, value, space),
+    }
+}
+
+// The same, whatever the value is.
+#[cycle(left)]
+fn left_after_node(schema: &Schema, id: KindId, value: &Value, space: u32) -> Option<u32>
     requires { fits schema.now.kinds id.place (tree value.now) ≡ true }
     ensures { IsLeft space (length (bytes_of schema.now.kinds id.place (tree value.now))) result }
 {
