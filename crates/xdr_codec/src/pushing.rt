@@ -12,14 +12,30 @@ use crate::put::{NotPut, Put, put_nothing};
 use byteorder::{BigEndian, ByteOrder};
 use xdr_types::{Kind, KindId, Member, Schema, Value, part_in};
 
-/// The encoding of a value.
+/// The encoding of a value. Most values are numbers, whose kind does not matter here.
 #[cycle(push)]
+#[tactic(auto, using(crate::proofs::Putting::own_alone))]
 pub fn push_value<P: Put>(
     out: &mut P,
     schema: &Schema,
     id: KindId,
     value: &Value,
 ) -> Result<(), NotPut>
+    requires { fits schema.now.kinds id.place (tree value.now) ≡ true }
+    ensures { PutAll P.sends P.cuts out.old out.new (bytes_of schema.now.kinds id.place (tree value.now)) result }
+{
+    match value {
+        Value::Int(number) => push_int(out, *number),
+        Value::Unsigned(number) => push_unsigned(out, *number),
+        Value::Hyper(number) => push_hyper(out, *number),
+        Value::UnsignedHyper(number) => push_unsigned_hyper(out, *number),
+        _ => push_node(out, schema, id, value),
+    }
+}
+
+// The same, whatever the value is.
+#[cycle(push)]
+fn push_node<P: Put>(out: &mut P, schema: &Schema, id: KindId, value: &Value) -> Result<(), NotPut>
     requires { fits schema.now.kinds id.place (tree value.now) ≡ true }
     ensures { PutAll P.sends P.cuts out.old out.new (bytes_of schema.now.kinds id.place (tree value.now)) result }
 {

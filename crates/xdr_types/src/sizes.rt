@@ -44,12 +44,9 @@ fn left_after(schema: &Schema, id: KindId, value: &Value, space: u32) -> Option<
     ensures { IsLeft space (length (bytes_of schema.now.kinds id.place (tree value.now))) result }
 {
     match value {
-        Value::Int(_) => take(space, 4),
-        Value::Unsigned(_) => take(space, 4),
-        Value::Hyper(_) => take(space, 8),
-        Value::UnsignedHyper(_) => take(space, 8),
-        Value::Bool(_) => take(space, 4),
-        Value::Numbered(_) => take(space, 4),
+        Value::Int(_) | Value::Unsigned(_) => take(space, 4),
+        Value::Hyper(_) | Value::UnsignedHyper(_) => take(space, 8),
+        Value::Bool(_) | Value::Numbered(_) => take(space, 4),
         _ => left_after_node(schema, id, value, space),
     }
 }
