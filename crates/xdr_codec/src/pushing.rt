@@ -12,8 +12,9 @@ use crate::put::{NotPut, Put, put_nothing};
 use byteorder::{BigEndian, ByteOrder};
 use xdr_types::{Kind, KindId, Member, Schema, Value, part_in};
 
-/// The encoding of a value. Most values are numbers, whose kind does not matter here.
+/// The encoding of a value. Most values are numbers, whose kind does not matter here, and for which nothing is called.
 #[cycle(push)]
+#[inline(always)]
 #[tactic(auto, using(crate::proofs::Putting::own_alone))]
 pub fn push_value<P: Put>(
     out: &mut P,
@@ -35,6 +36,7 @@ pub fn push_value<P: Put>(
 
 // The same, whatever the value is.
 #[cycle(push)]
+#[inline(never)]
 fn push_node<P: Put>(out: &mut P, schema: &Schema, id: KindId, value: &Value) -> Result<(), NotPut>
     requires { fits schema.now.kinds id.place (tree value.now) ≡ true }
     ensures { PutAll P.sends P.cuts out.old out.new (bytes_of schema.now.kinds id.place (tree value.now)) result }

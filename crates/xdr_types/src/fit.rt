@@ -25,8 +25,9 @@ pub fn fits(schema: &Schema, kind: KindId, value: &Value, limits: Limits) -> boo
         && has_space(schema, kind, value, limits.bytes())
 }
 
-// Whether the value is one of the schema's kind.
+// Whether the value is one of the schema's kind. For most numbers nothing is called.
 #[cycle(fits)]
+#[inline(always)]
 fn is_value(schema: &Schema, id: KindId, value: &Value) -> bool
     ensures { result ≡ fits schema.now.kinds id.place (tree value.now) }
 {
@@ -34,6 +35,23 @@ fn is_value(schema: &Schema, id: KindId, value: &Value) -> bool
         return false;
     }
     match (schema.kind(id), value) {
+        (Kind::Int, Value::Int(n)) => every_i32_is_int(*n),
+        (Kind::Unsigned, Value::Unsigned(n)) => every_u32_is_unsigned(*n),
+        (Kind::Hyper, Value::Hyper(n)) => every_i64_is_hyper(*n),
+        (Kind::UnsignedHyper, Value::UnsignedHyper(n)) => every_u64_is_unsigned_hyper(*n),
+        (Kind::Bool, Value::Bool(_)) => true,
+        (kind, _) => is_node(schema, id, kind, value),
+    }
+}
+
+// The same for a kind of the schema, but for those numbers and booleans.
+#[cycle(fits)]
+#[inline(never)]
+fn is_node(schema: &Schema, id: KindId, kind: &Kind, value: &Value) -> bool
+    requires kind { kind_view kind.now ≡ kind_at schema.now.kinds id.place }
+    ensures { result ≡ fits schema.now.kinds id.place (tree value.now) }
+{
+    match (kind, value) {
         (Kind::Int, Value::Int(n)) => every_i32_is_int(*n),
         (Kind::Unsigned, Value::Unsigned(n)) => every_u32_is_unsigned(*n),
         (Kind::Hyper, Value::Hyper(n)) => every_i64_is_hyper(*n),

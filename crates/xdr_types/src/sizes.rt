@@ -36,8 +36,10 @@ pub fn has_space(schema: &Schema, id: KindId, value: &Value, space: u32) -> bool
     }
 }
 
-// What is left of the space after the bytes of a value. Most values are numbers, whose kind does not matter here.
+// What is left of the space after the bytes of a value. Most values are numbers, whose kind does not matter here, and
+// for which nothing is called.
 #[cycle(left)]
+#[inline(always)]
 #[tactic(auto, using(crate::proofs::Joining::nothing_spelled))]
 fn left_after(schema: &Schema, id: KindId, value: &Value, space: u32) -> Option<u32>
     requires { fits schema.now.kinds id.place (tree value.now) ≡ true }
@@ -53,6 +55,7 @@ fn left_after(schema: &Schema, id: KindId, value: &Value, space: u32) -> Option<
 
 // The same, whatever the value is.
 #[cycle(left)]
+#[inline(never)]
 fn left_after_node(schema: &Schema, id: KindId, value: &Value, space: u32) -> Option<u32>
     requires { fits schema.now.kinds id.place (tree value.now) ≡ true }
     ensures { IsLeft space (length (bytes_of schema.now.kinds id.place (tree value.now))) result }
