@@ -2,3 +2,4 @@ pub mod Inverse
 pub mod Back
 pub mod Chain
 pub mod Octets
+pub mod Digits

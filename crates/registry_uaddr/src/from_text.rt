@@ -1,5 +1,6 @@
 //! Universal addresses out of texts. Nothing here takes memory.
-ghost use Rattle.std.specs.Prelude.{◌≡◌, ◌∷◌, [], ℕ, List, Option, Some, IfSome, IfNone};
+ghost use Rattle.std.specs.Prelude.{◌≡◌, ◌∷◌, [], ℕ, List, Option, Some, IfSome, IfNone, length, slice_index};
+ghost use Rattle.std.specs.Int.{IsInRange};
 ghost use Rattle.registry_uaddr.specs.declared.address.Uaddr.{Uaddr as PlainUaddr};
 ghost use Rattle.registry_uaddr.specs.Uaddrs.{uaddr_of, uaddr_text, IsUaddr, octet, octets};
 
@@ -59,6 +60,50 @@ fn only_octet(text: &[u8]) -> Option<u8>
 
 /// The number below 256 whose decimal text this is.
 fn octet(text: &[u8]) -> Option<u8>
+    ensures { result ≡ octet text.now }
+{
+    match short_octet(text) {
+        Some(number) => Some(number),
+        None => any_octet(text),
+    }
+}
+
+/// The same for a text of one to three digits without a leading zero, where that is read.
+#[inline(always)]
+#[tactic(auto, using(crate::proofs::Digits::one_digit, crate::proofs::Digits::two_digits))]
+fn short_octet(text: &[u8]) -> Option<u8>
+    ensures { IfSome result (λ n. octet text.now ≡ Some n) }
+{
+    match text {
+        [a @ b'0'..=b'9'] => Some(*a - 48),
+        [a @ b'1'..=b'9', b @ b'0'..=b'9'] => Some((*a - 48) * 10 + (*b - 48)),
+        [b'1'..=b'2', b'0'..=b'9', b'0'..=b'9'] => long_octet(text),
+        _ => None,
+    }
+}
+
+/// The same for three digits, the first 1 or 2.
+#[inline(always)]
+#[tactic(auto, using(crate::proofs::Digits::three_digits))]
+fn long_octet(text: &[u8]) -> Option<u8>
+    requires three { length text.now ≡ 3 }
+    requires first { IsInRange 49 50 (slice_index text.now 0) }
+    requires second { IsInRange 48 57 (slice_index text.now 1) }
+    requires third { IsInRange 48 57 (slice_index text.now 2) }
+    ensures { IfSome result (λ n. octet text.now ≡ Some n) }
+{
+    let (high, middle, low) = (text[0] - 48, text[1] - 48, text[2] - 48);
+    let number = u16::from(high) * 100 + u16::from(middle) * 10 + u16::from(low);
+    if number < 256 {
+        Some(number as u8)
+    } else {
+        None
+    }
+}
+
+/// The same for any text.
+#[inline(never)]
+fn any_octet(text: &[u8]) -> Option<u8>
     ensures { result ≡ octet text.now }
 {
     u8::try_from(decimal_number(text)?).ok()

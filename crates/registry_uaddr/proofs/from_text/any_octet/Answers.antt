@@ -1,6 +1,6 @@
 use Rattle.std.proofs.Common.{◌∙◌}
 use Rattle.registry_uaddr.proofs.Octets.{narrowed}
-use Rattle.registry_uaddr.proofs.from_text.octet.Goals as goal
+use Rattle.registry_uaddr.proofs.from_text.any_octet.Goals as goal
 
 pub returns : goal.returns
 returns c = c.ok.ensures.value ∙ narrowed c.try_from.result c.args.text.now c.in_ok-decimal_number.field-0
