@@ -6,30 +6,6 @@ ghost use Rattle.xdr_tokens.specs.Keywords.{keyword, word_among, word_or_name};
 
 use crate::token::{Keyword, Token};
 
-const KEYWORDS: [Keyword; 21] = [
-    Keyword::Bool,
-    Keyword::Case,
-    Keyword::Const,
-    Keyword::Default,
-    Keyword::Double,
-    Keyword::Enum,
-    Keyword::Float,
-    Keyword::Hyper,
-    Keyword::Int,
-    Keyword::Long,
-    Keyword::Opaque,
-    Keyword::Program,
-    Keyword::Quadruple,
-    Keyword::String,
-    Keyword::Struct,
-    Keyword::Switch,
-    Keyword::Typedef,
-    Keyword::Union,
-    Keyword::Unsigned,
-    Keyword::Version,
-    Keyword::Void,
-];
-
 /// How the keyword is spelled.
 fn spelling(word: Keyword) -> &'static [u8]
     ensures { result.now ≡ keyword word }
@@ -81,11 +57,32 @@ fn among<'a>(words: &[Keyword], run: &'a [u8], left: usize) -> Token<'a>
     Token::Name(text_of(run), left)
 }
 
-/// A keyword, or a name.
-#[tactic(auto, unfolding(crate::specs::Keywords::word_or_name))]
+/// A keyword, or a name: the first letter says which keywords it may be.
+#[tactic(auto, unfolding(crate::specs::Keywords::word_or_name, crate::specs::Keywords::word_among))]
 pub fn word_or_name(run: &[u8], left: usize) -> Token<'_>
     requires { IsRun run.now }
     ensures { lexeme result ≡ word_or_name run.now }
 {
-    among(&KEYWORDS, run, left)
+    match run {
+        [b'b', ..] => among(&[Keyword::Bool], run, left),
+        [b'c', ..] => among(&[Keyword::Case, Keyword::Const], run, left),
+        [b'd', ..] => among(&[Keyword::Default, Keyword::Double], run, left),
+        [b'e', ..] => among(&[Keyword::Enum], run, left),
+        [b'f', ..] => among(&[Keyword::Float], run, left),
+        [b'h', ..] => among(&[Keyword::Hyper], run, left),
+        [b'i', ..] => among(&[Keyword::Int], run, left),
+        [b'l', ..] => among(&[Keyword::Long], run, left),
+        [b'o', ..] => among(&[Keyword::Opaque], run, left),
+        [b'p', ..] => among(&[Keyword::Program], run, left),
+        [b'q', ..] => among(&[Keyword::Quadruple], run, left),
+        [b's', ..] => among(
+            &[Keyword::String, Keyword::Struct, Keyword::Switch],
+            run,
+            left,
+        ),
+        [b't', ..] => among(&[Keyword::Typedef], run, left),
+        [b'u', ..] => among(&[Keyword::Union, Keyword::Unsigned], run, left),
+        [b'v', ..] => among(&[Keyword::Version, Keyword::Void], run, left),
+        _ => Token::Name(text_of(run), left),
+    }
 }
