@@ -143,7 +143,7 @@ pub fn tokens(alloc: Global, text: &[u8]) -> Result<Vec<Token<'_>>, Fault>
     // A refusal is want of memory, or number 1 or 2 at a byte of the text.
     ensures refused { IfErr result (λ e. IsTokenFault text.now e) }
 {
-    let mut found = Vec::new(alloc);
+    let mut found = Vec::with_capacity(alloc, text.len() / 8)?;
     let mut rest = text;
     while !rest.is_empty() {
         let (token, after) = piece(rest)?;
