@@ -1,7 +1,8 @@
 -- What a table of names holds, as it grows and as it is asked.
 use Rattle.std.proofs.Common.{◌≡◌, ◌≤◌, ◌<◌, ◌+◌, ℕ, zero, suc, ℤ, Bool, true, false, cond, nat_lt, List, [], ◌∷◌}
-use Rattle.std.proofs.Common.{◌++◌, length, take, Option, Some, None, is_some, refl, sym, ap, subst, ◌∙◌, arith}
-use Rattle.std.proofs.lemmas.Bool.{lt-ltb, le-ltb}
+use Rattle.std.proofs.Common.{◌++◌, length, take, Option, Some, None, is_some, refl, sym, ap, subst, ◌∙◌}
+use Rattle.std.proofs.Common.{arith, inl, inr}
+use Rattle.std.proofs.lemmas.Bool.{lt-ltb, le-ltb, cases_Bool as test}
 use Rattle.std.specs.BTreeMap.{BTreeMap, Updates, IsUnchanged, IsEmpty, is_at}
 use Rattle.std.specs.Map.{lookup}
 use Rattle.std.specs.Option.{option_or}
@@ -35,6 +36,21 @@ pub at_empty : {X : Type 0} (m : BTreeMap (Bor (List ℕ)) X) → IsEmpty m → 
 at_empty {X = X} m e q = ap
     (λ (es : List (Bor (List ℕ) × X)). lookup (is_at (λ (k : Bor (List ℕ)). slice_cmp nat_cmp q k.now)) es) e
 
+pub same_text : (a b : List ℕ) → bytes_eq a b ≡ true → a ≡ b
+same_text a b e = (bytes_eq-Decides a b).0 e
+
+-- a name that gets back what the map had at it
+pub restored : {X : Type 0} (m n o : BTreeMap (Bor (List ℕ)) X) (k : Bor (List ℕ)) (v w : X)
+    → Updates names_cmp m n k (Some v) → Updates names_cmp n o k (Some w) → at_name k.now m ≡ Some w → (q : List ℕ)
+    → at_name q o ≡ at_name q m
+restored m n o k v w u t e q =
+    let last = at_more n o k w t q in
+    let first = at_more m n k v u q in
+    elim (test (bytes_eq k.now q)) [
+      | inl on ↦ (rw on at last) ∙ sym (rw (same_text k.now q on) at e)
+      | inr off ↦ (rw off at last) ∙ (rw off at first)
+    ]
+
 pub none_from : {A : Type 0} (o : Option A) → is_some o ≡ false → o ≡ None
 none_from None e = refl
 none_from (Some a) e = absurd cc
@@ -56,9 +72,6 @@ pub option_or_cond : {A : Type 0} (b : Bool) (s x y : Option A) (v : A) → x �
     → cond b (Some v) x ≡ option_or (cond b (Some v) s) y
 option_or_cond true s x y v e = refl
 option_or_cond false s x y v e = e
-
-pub same_text : (a b : List ℕ) → bytes_eq a b ≡ true → a ≡ b
-same_text a b e = (bytes_eq-Decides a b).0 e
 
 -- ---- constants
 
@@ -115,6 +128,13 @@ old_constant m ks k key has same there = record {
       ∙ retained (bytes_eq k.name q) (first_named q 0 ks) (length ks, k.value, k.by_const) present
       ∙ sym (first_pushed q ks k);
 }
+
+pub earlier_constant : (m n o : BTreeMap (Bor (List ℕ)) (ℕ × ℤ × Bool)) (ks : List Known) (k : Known)
+    (key : Bor (List ℕ)) (v w : ℕ × ℤ × Bool) → HasFirst m ks → key.now ≡ k.name → Updates names_cmp m n key (Some v)
+    → Updates names_cmp n o key (Some w) → at_name key.now m ≡ Some w → HasFirst o (ks ++ k ∷ [])
+earlier_constant m n o ks k key v w has same u t e =
+    let all = old_constant m ks k key has same (ap (λ (x : Option (ℕ × ℤ × Bool)). is_some x) e) in
+    record { finds = λ q. restored m n o key v w u t e q ∙ all.finds q }
 
 pub same_constants : (m n : BTreeMap (Bor (List ℕ)) (ℕ × ℤ × Bool)) (ks : List Known) → HasFirst m ks → IsUnchanged m n
     → HasFirst n ks

@@ -19,7 +19,8 @@ pub struct ConstantTable<'a> {
     ghost is_first: { HasFirst first (knowns list.items) },
 }
 
-/// Keeps the constant after `place` others, where it is the first with its name.
+/// Keeps the constant after `place` others, where it is the first with its name. An earlier one comes out, and is
+/// put back.
 fn keep_first<'a>(
     first: &mut BTreeMap<&'a str, (usize, i128, bool)>,
     place: usize,
@@ -29,10 +30,10 @@ fn keep_first<'a>(
         → OnOk result (HasFirst first.new (ks ++ known_of known.entry ∷ [])) }
     ensures unchanged { OnErr result (first.new.entries ≡ first.old.entries) }
 {
-    if first.contains_key(known.name.text) {
-        return Ok(());
+    let one = (place, known.value, known.by_const);
+    if let Some(earlier) = first.insert(known.name.text, one)? {
+        first.insert(known.name.text, earlier)?;
     }
-    first.insert(known.name.text, (place, known.value, known.by_const))?;
     Ok(())
 }
 
