@@ -1,4 +1,5 @@
 pub mod Distinctly
+pub mod Few
 pub mod Older
 pub mod Refusing
 pub mod Sets

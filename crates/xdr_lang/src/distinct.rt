@@ -1,11 +1,12 @@
 //! Whether a name or a number is there twice.
-ghost use Rattle.std.specs.Prelude.{◌≡◌, true, false, OnOk, IfOk, [], map, option_map};
+ghost use Rattle.std.specs.Prelude.{◌≡◌, true, false, ◌&&◌, OnOk, IfOk, [], map, option_map};
 ghost use Rattle.std.specs.List.{list_any};
 ghost use Rattle.std.specs.Ordering.{int_eq};
+ghost use Rattle.std.specs.Str.{bytes_eq};
 ghost use Rattle.xdr_grammar.specs.Outline as out;
 ghost use Rattle.xdr_grammar.specs.View.{field_of, draft_of, procedure_of, version_of, program_of, outline_of};
 ghost use Rattle.xdr_lang.specs.Views.{texts};
-ghost use Rattle.xdr_lang.specs.Distinct.{repeats, names_repeat, same_pair, declared_names, other_name};
+ghost use Rattle.xdr_lang.specs.Distinct.{repeats, is_name, names_repeat, same_pair, declared_names, other_name};
 ghost use Rattle.xdr_lang.specs.Distinct.{kind_repeats, version_repeats, program_repeats, pairs_of, pairs, has_twice};
 
 use crate::names::add_names;
@@ -13,9 +14,51 @@ use std::alloc::{AllocError, Global};
 use std::collections::BTreeSet;
 use xdr_grammar::{Draft, Field, Name, Outline, Procedure, Program, Shape, Version};
 
-/// Some name is there twice. The empty name, that of void, is none.
+/// Up to so many names are compared with one another; more are put into a set.
+const FEW: usize = 16;
+
+/// The name is among these.
+fn is_among(names: &[Name<'_>], name: &str) -> bool
+    ensures { result ≡ list_any (bytes_eq name.now) (texts names.now) }
+{
+    for other in names {
+        if name == other.text {
+            return true;
+        }
+    }
+    false
+}
+
+/// The name is among those before it. The empty name, that of void, is none.
+fn is_again(before: &[Name<'_>], name: &str) -> bool
+    ensures { result ≡ (is_name name.now && list_any (bytes_eq name.now) (texts before.now)) }
+{
+    name != "" && is_among(before, name)
+}
+
+/// Some of few names is there twice: each is compared with those before it.
 #[tactic(auto, unfolding(crate::specs::Distinct::repeats, crate::specs::Distinct::names_repeat))]
-fn names_repeat(alloc: Global, names: &[Name<'_>]) -> Result<bool, AllocError>
+fn few_repeat(names: &[Name<'_>]) -> bool
+    ensures { result ≡ names_repeat (texts names.now) }
+{
+    for at in 0..names.len() {
+        if is_again(&names[..at], names[at].text) {
+            return true;
+        }
+    }
+    false
+}
+
+/// The names are few, and none is there twice.
+pub fn are_few_and_apart(names: &[Name<'_>]) -> bool
+    ensures { result ≡ true → names_repeat (texts names.now) ≡ false }
+{
+    names.len() <= FEW && !few_repeat(names)
+}
+
+/// Some of many names is there twice. The empty name, that of void, is none.
+#[tactic(auto, unfolding(crate::specs::Distinct::repeats, crate::specs::Distinct::names_repeat))]
+fn many_repeat(alloc: Global, names: &[Name<'_>]) -> Result<bool, AllocError>
     ensures { IfOk result (λ b. b ≡ names_repeat (texts names.now)) }
 {
     let mut before = BTreeSet::new(alloc);
@@ -28,6 +71,17 @@ fn names_repeat(alloc: Global, names: &[Name<'_>]) -> Result<bool, AllocError>
         }
     }
     Ok(false)
+}
+
+/// Some name is there twice.
+fn names_repeat(alloc: Global, names: &[Name<'_>]) -> Result<bool, AllocError>
+    ensures { IfOk result (λ b. b ≡ names_repeat (texts names.now)) }
+{
+    if names.len() <= FEW {
+        Ok(few_repeat(names))
+    } else {
+        many_repeat(alloc, names)
+    }
 }
 
 /// Some number of a procedure is there twice.

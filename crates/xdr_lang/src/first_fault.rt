@@ -2,6 +2,7 @@
 //! decided elsewhere; this finds the place.
 ghost use Rattle.std.specs.Prelude.{◌≡◌};
 
+use crate::distinct::are_few_and_apart;
 use crate::names::add_names;
 use crate::noted::FirstFault;
 use crate::places::kind_of;
@@ -75,16 +76,19 @@ impl FirstFault {
         }
     }
 
-    /// A name is there twice at the second.
+    /// A name is there twice at the second. An earlier one of two comes out, or goes back in.
     fn names(&mut self, alloc: Global, names: &[Name<'_>]) -> Result<(), AllocError> {
-        let earliest = earliest_places(alloc, names)?;
+        if are_few_and_apart(names) {
+            return Ok(());
+        }
+        let mut earliest = BTreeMap::new(alloc);
         for name in names {
-            if name.text != ""
-                && earliest
-                    .get(name.text)
-                    .is_some_and(|left| *left > name.left)
-            {
-                self.note(Wrong::NameTwice, name.left);
+            if name.text == "" {
+                continue;
+            }
+            if let Some(left) = earliest.insert(name.text, name.left)? {
+                earliest.insert(name.text, left.max(name.left))?;
+                self.note(Wrong::NameTwice, left.min(name.left));
             }
         }
         Ok(())
@@ -214,19 +218,6 @@ fn all_names<'a>(alloc: Global, outline: &Outline<'a>) -> Result<Vec<Name<'a>>, 
     add_names(&mut names, &outline.types)?;
     add_names(&mut names, &outline.programs)?;
     Ok(names)
-}
-
-/// Where each name stands first in the text.
-fn earliest_places<'a>(
-    alloc: Global,
-    names: &[Name<'a>],
-) -> Result<BTreeMap<&'a str, usize>, AllocError> {
-    let mut earliest = BTreeMap::new(alloc);
-    for name in names {
-        let left = earliest.get(name.text).copied().unwrap_or(0);
-        earliest.insert(name.text, left.max(name.left))?;
-    }
-    Ok(earliest)
 }
 
 /// The first typedef that never ends, at its new name.

@@ -7,7 +7,7 @@ use Rattle.xdr_lang.specs.Views.{texts}
 use Rattle.xdr_constants.specs.Tables.{key_texts}
 use Rattle.xdr_lang.specs.Distinct.{repeats, is_name, names_repeat}
 use Rattle.xdr_lang.proofs.Sets.{was_absent, was_there, by_name, named, goes_on, is_twice}
-use Rattle.xdr_lang.proofs.distinct.names_repeat.Goals as goal
+use Rattle.xdr_lang.proofs.distinct.many_repeat.Goals as goal
 
 pub returns-then-not-branch : goal.returns-then-not-branch
 returns-then-not-branch c =
