@@ -16,6 +16,7 @@ use Rattle.xdr_tokens.proofs.Options.{some_is}
 use Rattle.xdr_tokens.specs.Options.{◌>>=◌}
 use Rattle.xdr_constants.specs.Tables.{key_texts, at_name}
 use Rattle.xdr_constants.proofs.Tables.{at_more, at_same, at_empty, none_from, picked, retained, option_or_cond}
+use Rattle.xdr_constants.proofs.Tables.{restored}
 use Rattle.xdr_constants.proofs.Tables.{same_text}
 use Rattle.xdr_lang.specs.LookUp.{type_named, place_with, named_place}
 use Rattle.xdr_lang.specs.Private.Tables.{HasParts, IsPlacedAt, HasPlaces, HasNoPlaces}
@@ -67,6 +68,15 @@ old_part m ts t key has same there = record {
       ∙ retained (bytes_eq t.name q) (type_named q ts) t.part present
       ∙ sym (named_more q ts t);
 }
+
+pub earlier_part : (m n o : BTreeMap (Bor (List ℕ)) Part) (ts : List out.Field) (t : out.Field) (key : Bor (List ℕ))
+    (v w : Part) → HasParts m ts → key.now ≡ t.name → Updates names_cmp m n key (Some v)
+    → Updates names_cmp n o key (Some w) → at_name key.now m ≡ Some w → HasParts o (ts ++ t ∷ [])
+earlier_part m n o ts t key v w has same u r e =
+    let all = old_part m ts t key has same (ap (λ (x : Option Part). is_some x) e) in
+    record {
+      finds = λ q. ap (λ (x : Option Part). option_map part_of x) (restored m n o key v w u r e q) ∙ all.finds q;
+    }
 
 -- ---- places
 

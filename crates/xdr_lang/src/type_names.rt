@@ -43,11 +43,12 @@ impl<'a> TypeNames<'a> {
             .is_some_and(|first| first.1 == Declares::Struct)
     }
 
-    /// A declaration.
+    /// A declaration. One that stands before it in the text comes out, and is put back.
     fn add(&mut self, name: Name<'a>, declares: Declares) -> Result<(), AllocError> {
-        let left = self.first.get(name.text).map_or(0, |first| first.0);
-        if left < name.left {
-            self.first.insert(name.text, (name.left, declares))?;
+        if let Some(known) = self.first.insert(name.text, (name.left, declares))? {
+            if known.0 >= name.left {
+                self.first.insert(name.text, known)?;
+            }
         }
         Ok(())
     }

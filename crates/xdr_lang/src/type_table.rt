@@ -27,7 +27,8 @@ pub struct TypeTable<'a> {
     ghost has_none: { HasNoPlaces endless (types_of list.items) },
 }
 
-/// Keeps what the type is declared as, where it is the first with its name.
+/// Keeps what the type is declared as, where it is the first with its name. What an earlier one is declared as
+/// comes out, and is put back.
 fn keep_part<'a>(
     parts: &mut BTreeMap<&'a str, Part<'a>>,
     field: &Field<'a>,
@@ -35,10 +36,9 @@ fn keep_part<'a>(
     ensures { (ts : List out.Field) → HasParts parts.old ts
         → OnOk result (HasParts parts.new (ts ++ field_of field.now ∷ [])) }
 {
-    if parts.contains_key(field.name.text) {
-        return Ok(());
+    if let Some(earlier) = parts.insert(field.name.text, field.part)? {
+        parts.insert(field.name.text, earlier)?;
     }
-    parts.insert(field.name.text, field.part)?;
     Ok(())
 }
 
@@ -60,11 +60,7 @@ fn parts_of<'a>(
 fn copied<'a>(alloc: Global, types: &[Field<'a>]) -> Result<Vec<Field<'a>>, AllocError>
     ensures { IfOk result (λ v. types_of v.items ≡ types_of types.now) }
 {
-    let mut list = Vec::new(alloc);
-    for field in types {
-        list.push(*field)?;
-    }
-    Ok(list)
+    Vec::from_slice(alloc, types)
 }
 
 /// Keeps the place that a name stands for.
@@ -119,7 +115,7 @@ impl<'a> TypeTable<'a> {
         Ok(())
     }
 
-    /// The names that lead from one to a place, as far as none of them was met before.
+    /// The names that lead from one to a place, as far as none of them was met before or has its place.
     fn path(
         &self,
         alloc: Global,
@@ -129,7 +125,7 @@ impl<'a> TypeTable<'a> {
         let mut path = Vec::new(alloc);
         let mut name = name;
         for _ in 0..self.list.len().saturating_add(1) {
-            if !met.insert(name)? {
+            if self.places.contains_key(name) || !met.insert(name)? {
                 break;
             }
             path.push(name)?;
@@ -161,16 +157,35 @@ impl<'a> TypeTable<'a> {
         Ok(())
     }
 
-    /// Keeps the place of each type that has one, and the names that have none.
+    /// Keeps the place of a type, through the names that lead to it, or adds these to the lost ones.
+    fn follow(
+        &mut self,
+        alloc: Global,
+        field: &Field<'a>,
+        met: &mut BTreeSet<&'a str>,
+        lost: &mut BTreeSet<&'a str>,
+    ) -> Result<(), AllocError>
+        ensures { types_of self.new.list.items ≡ types_of self.old.list.items }
+    {
+        let path = self.path(alloc, field.name.text, met)?;
+        self.learn_path(&path)?;
+        self.add_lost(lost, &path)
+    }
+
+    /// Keeps the place of each type that has one, and the names that have none. A type that is no other name has
+    /// its place at once.
     fn learn_all(&mut self, alloc: Global, types: &[Field<'a>]) -> Result<(), AllocError>
         ensures { types_of self.new.list.items ≡ types_of self.old.list.items }
     {
         let mut met = BTreeSet::new(alloc);
         let mut lost = BTreeSet::new(alloc);
         for field in types {
-            let path = self.path(alloc, field.name.text, &mut met)?;
-            self.learn_path(&path)?;
-            self.add_lost(&mut lost, &path)?;
+            match field.part {
+                Part::Named(_) | Part::Struct(_) => {
+                    self.follow(alloc, field, &mut met, &mut lost)?
+                }
+                _ => self.learn(field.name.text)?,
+            }
         }
         self.keep_endless(lost);
         Ok(())
