@@ -146,7 +146,7 @@ fn all_members(
     ensures { Gives (λ x. map constant_of x.items) result
         (each (one_member (knowns constants.now.list.items)) (map member_of items.now)) }
 {
-    let mut found = Vec::new(alloc);
+    let mut found = Vec::with_capacity(alloc, items.len())?;
     for member in items {
         let one = one_member(alloc, constants, member)?;
         found.push(one)?;
@@ -163,7 +163,7 @@ fn all_cases(
 ) -> Result<Vec<i64>, Fault>
     ensures { Gives (λ x. x.items) result (each (one_case (knowns constants.now.list.items)) (map late_of items.now)) }
 {
-    let mut found = Vec::new(alloc);
+    let mut found = Vec::with_capacity(alloc, items.len())?;
     for value in items {
         let one = one_case(constants, value)?;
         found.push(one)?;
@@ -181,7 +181,7 @@ fn all_fields(
     ensures { Gives (λ x. map part_of_member x.items) result
         (each (one_field (types_of types.now.list.items)) (map field_of items.now)) }
 {
-    let mut found = Vec::new(alloc);
+    let mut found = Vec::with_capacity(alloc, items.len())?;
     for field in items {
         let one = one_field(alloc, types, field)?;
         found.push(one)?;
@@ -200,7 +200,7 @@ fn all_arms(
     ensures { Gives (λ x. map branch_of x.items) result
         (each (one_arm (knowns constants.now.list.items) (types_of types.now.list.items)) (map arm_of items.now)) }
 {
-    let mut found = Vec::new(alloc);
+    let mut found = Vec::with_capacity(alloc, items.len())?;
     for arm in items {
         let one = one_arm(alloc, constants, types, arm)?;
         found.push(one)?;

@@ -40,6 +40,7 @@ pub fn all_types(alloc: Global, types: &TypeTable<'_>) -> Result<Vec<(String, Ki
         (each_onto (one_field (types_of types.now.list.items)) (types_of types.now.list.items) basic.names) }
 {
     let mut found = basic_names(alloc).map_err(|_| Fault::NoMemory)?;
+    found.reserve(types.list.len())?;
     for field in &types.list {
         let one = one_type(alloc, types, field)?;
         found.push(one)?;
@@ -66,6 +67,7 @@ pub fn all_constants(
         (λ v. map constant_of v.items ≡ given_constants ++ map said.constant_of (knowns constants.now)) }
 {
     let mut found = given_constants(alloc)?;
+    found.reserve(constants.len())?;
     for constant in constants {
         let name = String::from_str(alloc, constant.name.text)?;
         found.push((name, constant.value))?;

@@ -99,6 +99,7 @@ pub fn add_names<'a, T: Declaration<'a>>(
 ) -> Result<(), AllocError>
     ensures { OnOk result (texts found.new.items ≡ texts found.old.items ++ map T.name_of (map T.view items.now)) }
 {
+    found.reserve(items.len())?;
     for item in items {
         found.push(item.name())?;
     }
