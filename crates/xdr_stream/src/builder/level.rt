@@ -49,8 +49,9 @@ pub(crate) fn add_any(alloc: Global, level: &mut Level, value: Value) -> Result<
 /// The same, where it is mostly an item.
 #[inline(always)]
 pub(crate) fn add_item(alloc: Global, level: &mut Level, value: Value) -> Result<(), AllocError>
-    ensures { OnOk result (level_of level.new ≡ reported (level_of level.old).head
+    ensures added { OnOk result (level_of level.new ≡ reported (level_of level.old).head
         (added (level_of level.old).head (level_of level.old).done (tree value))) }
+    ensures granted { IsRoot level.old → IsOk result }
 {
     if let Level::Items { items, .. } = level {
         items.push(value)?;
@@ -62,8 +63,9 @@ pub(crate) fn add_item(alloc: Global, level: &mut Level, value: Value) -> Result
 /// The same, where it is mostly a field or an item.
 #[inline(always)]
 pub(crate) fn add(alloc: Global, level: &mut Level, value: Value) -> Result<(), AllocError>
-    ensures { OnOk result (level_of level.new ≡ reported (level_of level.old).head
+    ensures added { OnOk result (level_of level.new ≡ reported (level_of level.old).head
         (added (level_of level.old).head (level_of level.old).done (tree value))) }
+    ensures granted { IsRoot level.old → IsOk result }
 {
     if let Level::Fields(items) = level {
         items.push(value)?;

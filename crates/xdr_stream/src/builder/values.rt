@@ -9,7 +9,7 @@ ghost use Rattle.xdr_stream.specs.Trace.{Trace, at_start};
 ghost use Rattle.xdr_stream.specs.Private.Reported.{HasSpace, leaf_in, leaf_tree};
 ghost use Rattle.xdr_stream.specs.Values.{Reports};
 
-use crate::builder::level::{Level, add, add_any, add_item, begun, closed};
+use crate::builder::level::{Level, add, add_item, begun, closed};
 use crate::builder::{Build, Leaf, Node, hyper_leaf};
 use std::alloc::{AllocError, Global};
 use xdr_stack::Blocks;
@@ -128,7 +128,7 @@ impl Build for Values {
 
     #[inline(always)]
     fn leaf(&mut self, leaf: Leaf) -> Result<(), AllocError> {
-        add_any(self.alloc, &mut self.work, value_of(self.alloc, leaf))?;
+        add(self.alloc, &mut self.work, value_of(self.alloc, leaf))?;
         self.nodes = self.nodes.saturating_add(1);
         Ok(())
     }
@@ -188,7 +188,7 @@ impl Build for Values {
     #[inline(always)]
     fn content(&mut self) -> Result<(), AllocError> {
         let content = std::mem::replace(&mut self.content, Vec::new(self.alloc));
-        add_any(self.alloc, &mut self.work, content_value(content))?;
+        add(self.alloc, &mut self.work, content_value(content))?;
         self.nodes = self.nodes.saturating_add(1);
         Ok(())
     }

@@ -12,7 +12,7 @@ pub returns-in_ok-add : goal.returns-in_ok-add
 returns-in_ok-add c = λ t reported can.
     let grown : level_of c.add.new.level ≡ level (level_of c.in-Some.parent).head
     (added (level_of c.in-Some.parent).head (level_of c.in-Some.parent).done (tree c.closed.result)) =
-    c.in_ok-add.ensures ∙ ap (λ (l : Level). level (level_of l).head
+    c.in_ok-add.ensures.added ∙ ap (λ (l : Level). level (level_of l).head
     (added (level_of l).head (level_of l).done (tree c.closed.result))) c.replace-level.ensures.after in
     reports_close c.args.self.now _ t can
     (closed c.args.self.now.content.items c.args.self.now.work c.add.new.level c.in-Some.parent c.replace-level.result

@@ -8,5 +8,5 @@ pub returns-clause-reported : goal.returns-clause-reported
 returns-clause-reported c = λ t reported space.
     reports_content c.args.self.now _ c.content_value.result t
     (c.content_value.ensures ∙ ap (λ x. leaf_tree (value.bytes x.items)) c.replace-content.ensures.value)
-    c.in_ok-add_any.ensures.added refl (ap (λ x. x.items) c.replace-content.ensures.after ∙ c.new.ensures.items)
+    c.in_ok-add.ensures.added refl (ap (λ x. x.items) c.replace-content.ensures.after ∙ c.new.ensures.items)
     (λ few. omega (arith, c.saturating_add-self.ensures, few)) refl reported space

@@ -17,7 +17,7 @@ loop-at-preserved c =
     let b = c.loop-at.self in
     let grown : level_of c.add_item.new.level ≡ level (level_of b.work).head
     (added (level_of b.work).head (level_of b.work).done (leaf_tree (number_head c.args.signed c.number_at.result))) =
-    c.in_ok-add_item.ensures
+    c.in_ok-add_item.ensures.added
     ∙ ap (λ (v : Tree). level (level_of b.work).head (added (level_of b.work).head (level_of b.work).done v))
     c.number_value-value.ensures in (
       omega (arith, i.0),

@@ -13,6 +13,6 @@ returns-clause-reported c = λ t reported space.
     (c.reserve_exact.ensures.items ∙ ap (λ x. x.items) c.replace-content.ensures.value) in
     reports_whole c.args.self.now _ c.content_value.result c.args.bytes.now t
     (c.content_value.ensures ∙ ap (λ (x : List ℕ). leaf_tree (value.bytes x)) all)
-    c.in_ok-add.ensures refl (ap (λ x. x.items) c.replace-content.ensures.after ∙ c.new.ensures.items)
+    c.in_ok-add.ensures.added refl (ap (λ x. x.items) c.replace-content.ensures.after ∙ c.new.ensures.items)
     (λ few. omega (arith, c.saturating_add-self.ensures, few))
     (λ few. omega (arith, c.saturating_add-self-2.ensures, few)) reported space
