@@ -5,7 +5,7 @@ use Rattle.std.specs.Int.{w32, from_be_bytes}
 use Rattle.std.proofs.lemmas.List.{length-append}
 use Rattle.xdr_laws.specs.Owed.{IsSolid}
 use Rattle.xdr_units.specs.Numbers.{num4, AreBytes}
-use Rattle.xdr_types.specs.Kinds.{KindView, kind_at}
+use Rattle.xdr_types.specs.Kinds.{KindView, Part, kind_at}
 use Rattle.xdr_types.specs.Tree as value
 use Rattle.xdr_types.specs.Tree.{Head}
 use Rattle.xdr_types.specs.Fits.{item_part, are_bytes}
@@ -24,7 +24,7 @@ use Rattle.xdr_stream.specs.Private.Sound.{IsSound}
 use Rattle.xdr_stream.specs.declared.machine.frame.Frame.{Frame}
 use Rattle.xdr_stream.specs.declared.machine.frame.Frame.TheVariants.{Items}
 use Rattle.xdr_stream.specs.declared.machine.step.Step.TheVariants as step
-use Rattle.xdr_stream.specs.declared.machine.Awaits.TheVariants.{Wide}
+use Rattle.xdr_stream.specs.declared.machine.Awaits.TheVariants.{Wide, Next}
 use Rattle.xdr_stream.proofs.SeeingNodes.{IsNext, code_free}
 use Rattle.xdr_stream.proofs.Sounding.{solid_known, solid_items}
 use Rattle.xdr_stream.proofs.Reported.{many_space, many_stays}
@@ -33,6 +33,22 @@ use Rattle.xdr_stream.proofs.Units.{first_of_two, second_of_two}
 is_step : (sg : Bool) → IsStep (hyper_kind sg) (step.Wide sg)
 is_step true = refl
 is_step false = refl
+
+-- two units of one that has begun
+pub both_units : (s : List KindView) → EachKindHasAValue s → EachPartIsKnown s → (t : ℕ) (l : Bounds)
+    (H I : Trace → Type 0) (fs : List (List Part)) (sg : Bool) (q u v : List ℕ) → length u ≡ 4 → length v ≡ 4
+    → AreBytes u → AreBytes v → are_bytes (u ++ v) ≡ true → length q + 8 ≤ l.bytes
+    → ((a : Trace) → H a → I (leaf_in (make_wide sg (u ++ v)) a)) → Sees s t l H (Wide sg) fs q
+    → Sees s t l I Next fs ((q ++ u) ++ v)
+both_units s has known t l H I fs sg q u v len more are too all space reports r =
+    let x : ℕ = from_be_bytes w32 u in
+    let back : num4 (pos x) ≡ u = unit4_back u len are in
+    let first = first_of_two s has known t l H H fs q u len (are_bytes_of u are) (λ e. omega (arith, e, space)) sg x
+    back r in
+    second_of_two s has known t l H I fs (q ++ u) v more (are_bytes_of v too)
+    (λ e. omega (arith, e, length-append q u, len, space)) sg x (make_wide sg (u ++ v))
+    (ap (λ (b : List ℕ). make_wide sg (b ++ v)) (sym back))
+    (subst (λ (b : List ℕ). are_bytes (b ++ v) ≡ true) (sym back) all) reports first
 
 module _ (s : List KindView) (has : EachKindHasAValue s) (known : EachPartIsKnown s) (t : ℕ) (l : Bounds)
     (item : KindId) (sg : Bool) (is : kind_at s item.place ≡ hyper_kind sg) (parents : List Frame)
@@ -44,16 +60,9 @@ module _ (s : List KindView) (has : EachKindHasAValue s) (known : EachPartIsKnow
       → Sees s t l H (Wide sg) (stack_of (Items item (suc left)) parents) q
       → Sees s t l I (Wide sg) (stack_of (Items item left) parents) (q ++ (u ++ v))
   one H I left q u v len more are too all space reports r =
-      let x : ℕ = from_be_bytes w32 u in
-      let back : num4 (pos x) ≡ u = unit4_back u len are in
       let work : Frame = Items item (suc left) in
-      let fs = stack_of work parents in
-      let first = first_of_two s has known t l H H fs q u len (are_bytes_of u are) (λ e. omega (arith, e, space)) sg x
-      back r in
-      let second = second_of_two s has known t l H I fs (q ++ u) v more (are_bytes_of v too)
-      (λ e. omega (arith, e, length-append q u, len, space)) sg x (make_wide sg (u ++ v))
-      (ap (λ (b : List ℕ). make_wide sg (b ++ v)) (sym back))
-      (subst (λ (b : List ℕ). are_bytes (b ++ v) ≡ true) (sym back) all) reports first in
+      let second = both_units s has known t l H I (stack_of work parents) sg q u v len more are too all
+      (omega (arith, space)) reports r in
       let n : IsNext s l work parents (hyper_kind sg) =
       record { part = item_part item.place; first = refl; kind = is; deep = deep } in
       subst (λ (y : List ℕ). Sees s t l I (Wide sg) (stack_of (Items item left) parents) y) (append_assoc q u v)

@@ -1,6 +1,6 @@
 //! The value that the nodes make.
 ghost use Rattle.std.specs.Prelude.{◌≡◌, ◌+◌, ◌≤◌, ℕ, List, length, take, drop, OnOk};
-ghost use Rattle.std.specs.Int.{w32, w64, from_be_bytes};
+ghost use Rattle.std.specs.Int.{w32, from_be_bytes};
 ghost use Rattle.xdr_types.specs.Tree.{bytes};
 ghost use Rattle.xdr_types.specs.View.{tree};
 ghost use Rattle.xdr_stream.specs.Nodes.{head_of_leaf};
@@ -11,6 +11,7 @@ ghost use Rattle.xdr_stream.specs.Values.{Reports};
 
 use crate::builder::level::{Level, add, add_item, begun, closed};
 use crate::builder::{Build, Leaf, Node, hyper_leaf};
+use crate::machine::unit::hyper_at;
 use std::alloc::{AllocError, Global};
 use xdr_stack::Blocks;
 use xdr_types::Value;
@@ -74,24 +75,6 @@ fn number_at(bytes: &[u8], at: usize) -> u32
     ensures { result ≡ from_be_bytes w32 (take 4 (drop at bytes.now)) }
 {
     u32::from_be_bytes([bytes[at], bytes[at + 1], bytes[at + 2], bytes[at + 3]])
-}
-
-// The number in the two units at a place.
-#[inline(always)]
-fn hyper_at(bytes: &[u8], at: usize) -> u64
-    requires { at + 8 ≤ length bytes.now }
-    ensures { result ≡ from_be_bytes w64 (take 8 (drop at bytes.now)) }
-{
-    u64::from_be_bytes([
-        bytes[at],
-        bytes[at + 1],
-        bytes[at + 2],
-        bytes[at + 3],
-        bytes[at + 4],
-        bytes[at + 5],
-        bytes[at + 6],
-        bytes[at + 7],
-    ])
 }
 
 impl Values {

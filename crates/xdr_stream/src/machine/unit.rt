@@ -1,5 +1,6 @@
 //! What comes next after a whole unit, and what is read of it.
 ghost use Rattle.std.specs.Prelude.{◌≡◌, ◌+◌, ◌≤◌, pos, List, ◌∷◌, length, take, drop, IfOk, IfErr};
+ghost use Rattle.std.specs.Int.{w64, from_be_bytes};
 ghost use Rattle.xdr_types.specs.Kinds.{Part};
 ghost use Rattle.xdr_units.specs.Numbers.{num4};
 ghost use Rattle.xdr_stream.specs.Frames.{left_of, stack_of};
@@ -39,6 +40,24 @@ pub(crate) fn unit_at(bytes: &[u8], at: usize) -> [u8; 4]
     ensures { result ≡ take 4 (drop at bytes.now) }
 {
     [bytes[at], bytes[at + 1], bytes[at + 2], bytes[at + 3]]
+}
+
+/// The number in the two units at a place.
+#[inline(always)]
+pub(crate) fn hyper_at(bytes: &[u8], at: usize) -> u64
+    requires { at + 8 ≤ length bytes.now }
+    ensures { result ≡ from_be_bytes w64 (take 8 (drop at bytes.now)) }
+{
+    u64::from_be_bytes([
+        bytes[at],
+        bytes[at + 1],
+        bytes[at + 2],
+        bytes[at + 3],
+        bytes[at + 4],
+        bytes[at + 5],
+        bytes[at + 6],
+        bytes[at + 7],
+    ])
 }
 
 // Takes a unit of content, so many bytes of which are left, and tells what comes next.

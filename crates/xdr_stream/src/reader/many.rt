@@ -5,11 +5,11 @@ ghost use Rattle.xdr_stream.specs.Private.Run.{TakesRun, TakesHypers};
 ghost use Rattle.xdr_stream.specs.declared.machine.Awaits.TheVariants.{Next, Content, Wide};
 ghost use Rattle.xdr_stream.specs.declared.reader.State.TheVariants.{Reading};
 
-use crate::builder::Build;
+use crate::builder::{Build, hyper_leaf};
 use crate::fault::Reason;
 use crate::machine::Awaits;
 use crate::machine::frame::Frame;
-use crate::machine::unit::unit_at;
+use crate::machine::unit::{hyper_at, unit_at};
 use crate::reader::{Reader, State};
 use crate::runs::numbers::Run;
 
@@ -37,6 +37,33 @@ impl<'s, B: Build + Drop> Reader<'s, B> {
                 self.take(Awaits::Content(last), &unit_at(bytes, n - 4));
             }
             Err(_) => self.fail(Reason::NoMemory),
+        }
+    }
+
+    /// Takes a hyper integer that has begun, of which both units are there, and begins what comes next.
+    #[inline(always)]
+    pub(crate) fn take_hyper(&mut self, signed: bool, bytes: &[u8])
+        requires { 8 ≤ length bytes.now }
+        ensures represents { (b : List ℕ) → self.old.state ≡ Reading (Wide signed)
+            → self.old.pending ≡ 0 → 8 + self.old.read ≤ self.old.limits.bytes
+            → RepresentsBytes B.spares B.reports self.old b
+            → RepresentsBytes B.spares B.reports self.new (b ++ take 8 bytes.now) }
+        ensures awake { IsAwake self.new.state }
+        ensures same { IsSame self.old self.new }
+    {
+        let _known = self.schema.len();
+        let _in_range = self.limits.depth();
+        // A state that asks nothing of the nodes at work, which change now: what they await is settled after.
+        self.state = State::Fresh;
+        match self.built.leaf(hyper_leaf(signed, hyper_at(bytes, 0))) {
+            Ok(()) => {
+                self.read = self.read.saturating_add(8);
+                self.settle(Awaits::Next);
+            }
+            Err(_) => {
+                self.read = self.read.saturating_add(4);
+                self.fail(Reason::NoMemory);
+            }
         }
     }
 

@@ -122,7 +122,7 @@ impl<'s, B: Build + Drop> Reader<'s, B> {
         self.take_first(awaits, bytes)
     }
 
-    // Takes the unit that comes first, or all hyper integers of an array where one begins with it, and tells how many
+    // Takes the unit that comes first, or the hyper integer that begins with it, or all of an array; tells how many
     // bytes.
     #[inline(always)]
     fn take_first(&mut self, awaits: Awaits, bytes: &[u8]) -> usize
@@ -137,13 +137,17 @@ impl<'s, B: Build + Drop> Reader<'s, B> {
         ensures same { IsSame self.old self.new }
     {
         if let Awaits::Wide(signed) = awaits {
+            let space = (self.limits.bytes() as usize).saturating_sub(self.read);
             if let Some(run) = hypers_due(self.schema, self.work, signed) {
-                let space = (self.limits.bytes() as usize).saturating_sub(self.read);
                 let n = hypers_there(run.left as usize * 8, bytes.len(), space);
                 if n > 0 && self.parents.len() < self.limits.depth() as usize {
                     self.take_hypers(run, run.left - (n / 8) as u32, n, bytes);
                     return n;
                 }
+            }
+            if bytes.len() >= 8 && space >= 8 {
+                self.take_hyper(signed, bytes);
+                return 8;
             }
         }
         self.take(awaits, &unit_at(bytes, 0));
