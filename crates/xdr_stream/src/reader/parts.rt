@@ -1,4 +1,4 @@
-//! What comes first at a part: content that is there whole, numbers, or a unit.
+//! What comes first at a part: numbers, content that is there whole, or a unit.
 ghost use Rattle.std.specs.Prelude.{◌≡◌, ◌≤◌, ◌<◌, ℕ, List, ◌++◌, length, take};
 ghost use Rattle.xdr_stream.specs.Frames.{left_of, rest_of, stack_of};
 ghost use Rattle.xdr_stream.specs.Sees.{Sees};
@@ -20,8 +20,8 @@ use crate::runs::numbers::run_due;
 use crate::runs::{units_there, whole_there};
 
 impl<'s, B: Build + Drop> Reader<'s, B> {
-    /// Takes what comes first at a part: content that is there whole, a run of numbers, or a unit; tells how many
-    /// bytes.
+    /// Takes what comes first at a part: numbers that are fields, content that is there whole, a run of numbers, or a
+    /// unit; tells how many bytes.
     #[inline(always)]
     pub(crate) fn take_next(&mut self, bytes: &[u8]) -> usize
         requires there { 4 ≤ length bytes.now }
@@ -34,6 +34,10 @@ impl<'s, B: Build + Drop> Reader<'s, B> {
         ensures awake { self.old.state ≡ Reading Next → IsAwake self.new.state }
         ensures same { IsSame self.old self.new }
     {
+        let n = self.take_leaves(bytes);
+        if n > 0 {
+            return n;
+        }
         if let Some(whole) = field_due(self.schema, self.work, self.limits, self.read, bytes) {
             self.take_field(whole, bytes);
             return whole.all;

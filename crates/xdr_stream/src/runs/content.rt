@@ -1,17 +1,14 @@
 //! Content that is there whole, with its length and its padding.
-ghost use Rattle.std.specs.Prelude.{◌≡◌, ◌+◌, ◌≤◌, ◌<◌, ◌%◌, length, take, drop, IfSome, true};
-ghost use Rattle.xdr_types.specs.Kinds.{kind_at};
+ghost use Rattle.std.specs.Prelude.{◌≡◌, ◌+◌, ◌≤◌, ◌<◌, ◌%◌, length, take, drop, IfSome};
 ghost use Rattle.xdr_types.specs.KindViews.{kind_view};
-ghost use Rattle.xdr_laws.specs.Owed.{lead_of, HasUnit};
 ghost use Rattle.xdr_stream.specs.Frames.{left_of, rest_of};
 ghost use Rattle.xdr_stream.specs.Private.Sound.{AreKnown, Starts};
 ghost use Rattle.xdr_stream.specs.Private.Whole.{IsCounted, IsWhole, IsWholeAt};
 
 use crate::machine::frame::Frame;
-use crate::machine::step::{Step, step_of};
 use crate::machine::unit::{are_zeros, number_of, unit_at};
-use crate::runs::whole_there;
-use xdr_types::{Kind, KindId, Limits, Schema};
+use crate::runs::{is_unit, whole_there};
+use xdr_types::{Kind, Limits, Schema};
 
 /// Content that is there whole.
 #[derive(Clone, Copy)]
@@ -57,18 +54,6 @@ fn whole_of(kind: &Kind, limits: Limits, read: usize, bytes: &[u8]) -> Option<Wh
     }
     let all = padded + 4;
     Some(Whole { size, all })
-}
-
-// Whether a value of the kind begins with a unit.
-#[inline(always)]
-fn is_unit(schema: &Schema, kind: KindId) -> bool
-    requires { kind.place < length schema.now.kinds }
-    ensures { result ≡ true → HasUnit (lead_of (kind_at schema.now.kinds kind.place)) }
-{
-    match step_of(schema.kind(kind)) {
-        Step::Unit => true,
-        _ => false,
-    }
 }
 
 /// Content that is a field, where it is there whole, and the next field begins with a unit.

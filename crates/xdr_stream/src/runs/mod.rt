@@ -1,10 +1,29 @@
 //! What comes next as a run: bytes of a piece that are taken at once, without a state between their units.
 //!
 //! - `numbers`: numbers one after another. `content`: content with its length and its padding.
-ghost use Rattle.std.specs.Prelude.{◌≡◌, ◌+◌, ◌≤◌, ◌<◌, ◌%◌};
+//! - `leaf`: a number that is a field.
+ghost use Rattle.std.specs.Prelude.{◌≡◌, ◌+◌, ◌≤◌, ◌<◌, ◌%◌, length, true};
+ghost use Rattle.xdr_types.specs.Kinds.{kind_at};
+ghost use Rattle.xdr_laws.specs.Owed.{lead_of, HasUnit};
 
 pub mod content;
+pub mod leaf;
 pub mod numbers;
+
+use crate::machine::step::{Step, step_of};
+use xdr_types::{KindId, Schema};
+
+/// Whether a value of the kind begins with a unit.
+#[inline(always)]
+pub(crate) fn is_unit(schema: &Schema, kind: KindId) -> bool
+    requires { kind.place < length schema.now.kinds }
+    ensures { result ≡ true → HasUnit (lead_of (kind_at schema.now.kinds kind.place)) }
+{
+    match step_of(schema.kind(kind)) {
+        Step::Unit => true,
+        _ => false,
+    }
+}
 
 /// How many bytes of whole units are there: within what is left to read, the piece and the limit.
 pub(crate) fn units_there(left: usize, there: usize, space: usize) -> usize

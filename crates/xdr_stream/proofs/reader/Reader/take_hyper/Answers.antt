@@ -39,7 +39,8 @@ returns-in-Ok-clause-represents g c = λ b state none space st.
     subst (λ (x : List ℕ). are_bytes x ≡ true) both (bytes_taken 8 bs (λ i. omega (arith, c.type_inv.bytes i))) in
     let first : are_bytes u ≡ true = bytes_taken 4 bs (λ i. omega (arith, c.type_inv.bytes i)) in
     let second : are_bytes v ≡ true =
-    are_bytes_of v (AreBytes-take 4 (drop 4 bs) (AreBytes-drop 4 bs (bytes_at bs (λ i. omega (arith, c.type_inv.bytes i))))) in
+    are_bytes_of v (AreBytes-take 4 (drop 4 bs) (AreBytes-drop 4 bs
+    (bytes_at bs (λ i. omega (arith, c.type_inv.bytes i))))) in
     let len : length u ≡ 4 = omega (arith, length-take 4 bs, c.requires) in
     let more : length v ≡ 4 = omega (arith, length-take 4 (drop 4 bs), length-drop 4 bs, c.requires) in
     let reports : (x : Trace) → With H HasSpace x → I (leaf_in (make_wide c.args.signed (u ++ v)) x) = λ x w.
