@@ -1,5 +1,6 @@
--- What is seen after a number that is a field.
+-- What is seen after a number that is a field or an item.
 use Rattle.std.proofs.Common.{ℕ, List, ◌∷◌, ◌++◌, [], length, take, refl, subst, arith}
+use Rattle.std.proofs.Common.{◌≤◌, zero, suc, replicate}
 use Rattle.xdr_types.specs.Kinds.{KindView, kind_at}
 use Rattle.xdr_types.specs.Within.{Bounds}
 use Rattle.xdr_types.specs.Laws.{EachKindHasAValue, EachPartIsKnown}
@@ -9,6 +10,8 @@ use Rattle.xdr_stream.specs.Nodes.{head_of_leaf}
 use Rattle.xdr_stream.specs.Trace.{Trace}
 use Rattle.xdr_stream.specs.Private.Reported.{HasSpace, leaf_in}
 use Rattle.xdr_stream.specs.Private.Leaf.{IsLeaf, IsLeafAt}
+use Rattle.xdr_types.specs.Fits.{item_part}
+use Rattle.xdr_stream.specs.Private.Sound.{Starts}
 use Rattle.xdr_stream.specs.Sees.{Sees, IsReady}
 use Rattle.xdr_stream.specs.declared.builder.Leaf.{Leaf}
 use Rattle.xdr_stream.specs.declared.machine.frame.Frame.{Frame}
@@ -39,3 +42,10 @@ leaf_seen s has known t l H I work parents q bytes leaf ready d reports r =
     (λ is. omega (arith, is, e.space)) (space_next s t l H work parents q k n r)
     (first_unit (lead_of k) made.1.0) made.1.0 made.0 (head_of_leaf leaf) made.1.1 made.1.2
     (λ a reported. reports a reported.0 reported.1))
+
+-- an item before another one
+pub starts_items : (s : List KindView) (item n : ℕ) → 2 ≤ n → HasUnit (lead_of (kind_at s item))
+    → Starts s (rest_of (replicate n (item_part item)))
+starts_items s item zero two h = absurd (omega (arith, two))
+starts_items s item (suc zero) two h = absurd (omega (arith, two))
+starts_items s item (suc (suc n)) two h = h

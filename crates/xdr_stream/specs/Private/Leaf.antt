@@ -1,4 +1,4 @@
--- Numbers that are fields.
+-- Numbers that are fields or items.
 use Rattle.std.specs.Prelude.{◌≡◌, ℕ, ◌+◌, ◌<◌, ◌^◌, pos, List, take}
 use Rattle.xdr_types.specs.Kinds.{KindView, Part, kind_at}
 use Rattle.xdr_types.specs.Within.{Bounds}

@@ -1,4 +1,4 @@
-//! Numbers that are fields.
+//! Numbers that are fields or items.
 ghost use Rattle.std.specs.Prelude.{◌≡◌, ◌≤◌, ℕ, List, ◌++◌, length, take, true};
 ghost use Rattle.xdr_stream.specs.Frames.{left_of, rest_of};
 ghost use Rattle.xdr_stream.specs.Private.Sound.{Starts};
@@ -14,7 +14,8 @@ use crate::reader::Reader;
 use crate::runs::leaf::leaf_due;
 
 impl<'s, B: Build + Drop> Reader<'s, B> {
-    // Takes a number that is a field; what comes next after it begins with a unit. Tells whether reading goes on.
+    // Takes a number that is a field or an item; what comes next after it begins with a unit. Tells whether reading
+    // goes on.
     #[inline(always)]
     fn take_leaf(&mut self, leaf: Leaf, bytes: &[u8]) -> bool
         requires due { IsLeafAt self.old.schema.now.kinds (left_of self.old.work) self.old.limits self.old.read
@@ -42,8 +43,8 @@ impl<'s, B: Build + Drop> Reader<'s, B> {
         }
     }
 
-    /// Takes the numbers that come first as fields, each before a field that begins with a unit, and tells how many
-    /// bytes.
+    /// Takes the numbers that come first as fields or items, each before a part that begins with a unit, and tells how
+    /// many bytes.
     #[inline(always)]
     pub(crate) fn take_leaves(&mut self, bytes: &[u8]) -> usize
         ensures represents { (b : List ℕ) → self.old.state ≡ Reading Next → self.old.pending ≡ 0

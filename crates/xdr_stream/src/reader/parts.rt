@@ -20,8 +20,8 @@ use crate::runs::numbers::run_due;
 use crate::runs::{units_there, whole_there};
 
 impl<'s, B: Build + Drop> Reader<'s, B> {
-    /// Takes what comes first at a part: numbers that are fields, content that is there whole, a run of numbers, or a
-    /// unit; tells how many bytes.
+    /// Takes what comes first at a part: numbers that are fields or items, content that is there whole, a run of
+    /// numbers, or a unit; tells how many bytes.
     #[inline(always)]
     pub(crate) fn take_next(&mut self, bytes: &[u8]) -> usize
         requires there { 4 ≤ length bytes.now }

@@ -1,8 +1,9 @@
-//! A number that is a field: a node without parts that one unit makes.
-ghost use Rattle.std.specs.Prelude.{◌≡◌, ◌≤◌, length, IfSome};
+//! A number that is a field or an item: a node without parts that one unit makes.
+ghost use Rattle.std.specs.Prelude.{◌≡◌, ◌≤◌, ◌<◌, length, IfSome, true};
 ghost use Rattle.xdr_types.specs.Kinds.{kind_at};
 ghost use Rattle.xdr_types.specs.KindViews.{kind_view};
-ghost use Rattle.xdr_stream.specs.Frames.{left_of, rest_of};
+ghost use Rattle.xdr_laws.specs.Owed.{lead_of, HasUnit};
+ghost use Rattle.xdr_stream.specs.Frames.{left_of, rest_of, Begins};
 ghost use Rattle.xdr_stream.specs.Private.Leaf.{IsTaken, IsLeafAt};
 ghost use Rattle.xdr_stream.specs.Private.Sound.{AreKnown, Starts};
 
@@ -38,8 +39,48 @@ fn leaf_of(schema: &Schema, id: KindId, kind: &Kind, number: u32) -> Option<Leaf
     }
 }
 
-/// What the first unit of some bytes makes of a field of one unit, where it makes a node without parts, the next field
-/// begins with a unit, and the limit is not reached before it.
+// Whether a value of the kind is a boolean or a number with a name.
+#[inline(always)]
+fn is_named(schema: &Schema, kind: KindId) -> bool
+    requires { kind.place < length schema.now.kinds }
+    ensures { result ≡ true → HasUnit (lead_of (kind_at schema.now.kinds kind.place)) }
+{
+    match schema.kind(kind) {
+        Kind::Bool => true,
+        Kind::Numbered { .. } => true,
+        _ => false,
+    }
+}
+
+// The kind of a field, or of an item that is no plain number, where the part after it begins with a unit.
+#[inline(always)]
+fn first_due(schema: &Schema, work: Frame<'_>) -> Option<KindId>
+    requires { AreKnown schema.now.kinds (left_of work) }
+    ensures first { IfSome result (λ k. Begins (left_of work.entry) k.place) }
+    ensures starts { IfSome result (λ _. Starts schema.now.kinds (rest_of (left_of work.entry))) }
+{
+    let _known = schema.len();
+    if let Frame::Items { item, left } = work {
+        if left >= 2 && is_named(schema, item) {
+            return Some(item);
+        }
+        return None;
+    }
+    let Frame::Fields { fields } = work else {
+        return None;
+    };
+    let [first, second, ..] = fields else {
+        return None;
+    };
+    if is_unit(schema, second.kind) {
+        Some(first.kind)
+    } else {
+        None
+    }
+}
+
+/// What the first unit of some bytes makes of a field, or of an item that is no plain number, where it makes a node
+/// without parts, the part after it begins with a unit, and the limit is not reached before that.
 #[inline(always)]
 pub(crate) fn leaf_due(
     schema: &Schema,
@@ -55,18 +96,14 @@ pub(crate) fn leaf_due(
 {
     let _known = schema.len();
     let _in_range = limits.depth();
-    let Frame::Fields { fields } = work else {
-        return None;
-    };
-    let [first, second, ..] = fields else {
-        return None;
-    };
-    if (limits.bytes() as usize).saturating_sub(read) <= 4 || !is_unit(schema, second.kind) {
+    if (limits.bytes() as usize).saturating_sub(read) <= 4 {
         return None;
     }
+    let Some(id) = first_due(schema, work) else {
+        return None;
+    };
     let number = number_of(&unit_at(bytes, 0));
-    let kind = schema.kind(first.kind);
-    if let Some(leaf) = leaf_of(schema, first.kind, kind, number) {
+    if let Some(leaf) = leaf_of(schema, id, schema.kind(id), number) {
         Some(leaf)
     } else {
         None

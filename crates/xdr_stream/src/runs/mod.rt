@@ -1,7 +1,7 @@
 //! What comes next as a run: bytes of a piece that are taken at once, without a state between their units.
 //!
 //! - `numbers`: numbers one after another. `content`: content with its length and its padding.
-//! - `leaf`: a number that is a field.
+//! - `leaf`: a number that is a field or an item.
 ghost use Rattle.std.specs.Prelude.{◌≡◌, ◌+◌, ◌≤◌, ◌<◌, ◌%◌, length, true};
 ghost use Rattle.xdr_types.specs.Kinds.{kind_at};
 ghost use Rattle.xdr_laws.specs.Owed.{lead_of, HasUnit};
