@@ -35,7 +35,9 @@ pub fn look_up<'a, S: BuildHasher>(
     }
 }
 
-// The row of greatest version of a program over a transport.
+// The row of greatest version of a program over a transport. It is kept out of its callers, so that the program that
+// each row is compared with stays in a register.
+#[inline(never)]
 fn find_greatest<'a, S: BuildHasher>(
     rows: &'a IndexMap<Key, Row, S>,
     prog: u32,
