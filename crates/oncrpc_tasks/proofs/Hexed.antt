@@ -1,7 +1,11 @@
 -- Bytes spelled by digits, two after two.
 use Rattle.std.proofs.Common.{◌≡◌, ℕ, ◌+◌, ◌*◌, ◌%◌, List, [], ◌∷◌, ◌++◌, length, Option, Some, None}
-use Rattle.std.proofs.Common.{Result, Ok, Err, refl, sym, ap, ◌∙◌, arith, suc, zero}
+use Rattle.std.proofs.Common.{Result, Ok, Err, Bool, true, nat_eq, slice_index_or, refl, sym, ap, ◌∙◌, arith, suc, zero}
+use Rattle.std.proofs.Common.{◌<◌}
 use Rattle.std.proofs.lemmas.List.{append_assoc}
+use Rattle.std.specs.Option.{unwrap_or}
+use Rattle.std.proofs.lemmas.Bool.{agree_below_at}
+use Rattle.std.proofs.lemmas.Bool.Decides.{Decides-eqb}
 use Rattle.hex.specs.Hex.{decode_of, decode_pairs, digit_or_error, hex_digit_value, ◌>>=◌}
 use Rattle.hex.proofs.HexLemmas.{decode_of-even, decode_of-odd}
 use Rattle.hex.specs.declared.error.FromHexError.{FromHexError}
@@ -73,3 +77,45 @@ spelled ds bs e = found-ok (decode_of ds) bs (found-by ds (length ds % 2) refl �
 -- and others to none
 pub unspelled : (ds bs : List ℕ) → pairs ds ≡ None → decode_of ds ≡ Ok bs → ⊥
 unspelled ds bs e d = found-none (decode_of ds) bs (found-by ds (length ds % 2) refl ∙ e) d
+
+-- the values of digits, and 255 for each byte that is none
+abbrev pub table : List ℕ
+table =
+    255 ∷ 255 ∷ 255 ∷ 255 ∷ 255 ∷ 255 ∷ 255 ∷ 255 ∷ 255 ∷ 255 ∷ 255 ∷ 255 ∷ 255 ∷ 255 ∷ 255 ∷ 255 ∷
+    255 ∷ 255 ∷ 255 ∷ 255 ∷ 255 ∷ 255 ∷ 255 ∷ 255 ∷ 255 ∷ 255 ∷ 255 ∷ 255 ∷ 255 ∷ 255 ∷ 255 ∷ 255 ∷
+    255 ∷ 255 ∷ 255 ∷ 255 ∷ 255 ∷ 255 ∷ 255 ∷ 255 ∷ 255 ∷ 255 ∷ 255 ∷ 255 ∷ 255 ∷ 255 ∷ 255 ∷ 255 ∷
+    0 ∷ 1 ∷ 2 ∷ 3 ∷ 4 ∷ 5 ∷ 6 ∷ 7 ∷ 8 ∷ 9 ∷ 255 ∷ 255 ∷ 255 ∷ 255 ∷ 255 ∷ 255 ∷
+    255 ∷ 10 ∷ 11 ∷ 12 ∷ 13 ∷ 14 ∷ 15 ∷ 255 ∷ 255 ∷ 255 ∷ 255 ∷ 255 ∷ 255 ∷ 255 ∷ 255 ∷ 255 ∷
+    255 ∷ 255 ∷ 255 ∷ 255 ∷ 255 ∷ 255 ∷ 255 ∷ 255 ∷ 255 ∷ 255 ∷ 255 ∷ 255 ∷ 255 ∷ 255 ∷ 255 ∷ 255 ∷
+    255 ∷ 10 ∷ 11 ∷ 12 ∷ 13 ∷ 14 ∷ 15 ∷ 255 ∷ 255 ∷ 255 ∷ 255 ∷ 255 ∷ 255 ∷ 255 ∷ 255 ∷ 255 ∷
+    255 ∷ 255 ∷ 255 ∷ 255 ∷ 255 ∷ 255 ∷ 255 ∷ 255 ∷ 255 ∷ 255 ∷ 255 ∷ 255 ∷ 255 ∷ 255 ∷ 255 ∷ 255 ∷
+    255 ∷ 255 ∷ 255 ∷ 255 ∷ 255 ∷ 255 ∷ 255 ∷ 255 ∷ 255 ∷ 255 ∷ 255 ∷ 255 ∷ 255 ∷ 255 ∷ 255 ∷ 255 ∷
+    255 ∷ 255 ∷ 255 ∷ 255 ∷ 255 ∷ 255 ∷ 255 ∷ 255 ∷ 255 ∷ 255 ∷ 255 ∷ 255 ∷ 255 ∷ 255 ∷ 255 ∷ 255 ∷
+    255 ∷ 255 ∷ 255 ∷ 255 ∷ 255 ∷ 255 ∷ 255 ∷ 255 ∷ 255 ∷ 255 ∷ 255 ∷ 255 ∷ 255 ∷ 255 ∷ 255 ∷ 255 ∷
+    255 ∷ 255 ∷ 255 ∷ 255 ∷ 255 ∷ 255 ∷ 255 ∷ 255 ∷ 255 ∷ 255 ∷ 255 ∷ 255 ∷ 255 ∷ 255 ∷ 255 ∷ 255 ∷
+    255 ∷ 255 ∷ 255 ∷ 255 ∷ 255 ∷ 255 ∷ 255 ∷ 255 ∷ 255 ∷ 255 ∷ 255 ∷ 255 ∷ 255 ∷ 255 ∷ 255 ∷ 255 ∷
+    255 ∷ 255 ∷ 255 ∷ 255 ∷ 255 ∷ 255 ∷ 255 ∷ 255 ∷ 255 ∷ 255 ∷ 255 ∷ 255 ∷ 255 ∷ 255 ∷ 255 ∷ 255 ∷
+    255 ∷ 255 ∷ 255 ∷ 255 ∷ 255 ∷ 255 ∷ 255 ∷ 255 ∷ 255 ∷ 255 ∷ 255 ∷ 255 ∷ 255 ∷ 255 ∷ 255 ∷ 255 ∷
+    255 ∷ 255 ∷ 255 ∷ 255 ∷ 255 ∷ 255 ∷ 255 ∷ 255 ∷ 255 ∷ 255 ∷ 255 ∷ 255 ∷ 255 ∷ 255 ∷ 255 ∷ 255 ∷ []
+
+abbrev agrees : ℕ → Bool
+agrees c = nat_eq (slice_index_or table c 0) (unwrap_or (hex_digit_value c) 255)
+
+-- each entry of the table is right
+pub values_are : (c : ℕ) → c < 256 → slice_index_or table c 0 ≡ unwrap_or (hex_digit_value c) 255
+values_are c lt = (Decides-eqb _ _).0 (agree_below_at agrees (λ _. true) 256 c refl lt)
+
+small : (c : ℕ) (o : Option ℕ) → hex_digit_value c ≡ o → (v : ℕ) → o ≡ Some v → v < 16
+small c o is v e = grind (arith, is, e)
+
+-- a value below 16 is that of a digit, and any other that of none
+pub digits_are : (c v : ℕ) → v ≡ unwrap_or (hex_digit_value c) 255
+    → (v < 16 → hex_digit_value c ≡ Some v) × ((v < 16 → ⊥) → hex_digit_value c ≡ None)
+digits_are c v e = by (hex_digit_value c) refl
+  where
+    by : (o : Option ℕ) → hex_digit_value c ≡ o
+        → (v < 16 → hex_digit_value c ≡ Some v) × ((v < 16 → ⊥) → hex_digit_value c ≡ None)
+    by None is = (λ lt. absurd (omega (arith, lt, e, ap (λ (o : Option ℕ). unwrap_or o 255) is)), λ _. is)
+    by (Some x) is =
+        let same : v ≡ x = e ∙ ap (λ (o : Option ℕ). unwrap_or o 255) is in
+        (λ lt. is ∙ ap Some (sym same), λ no. absurd (no (omega (arith, same, small c (Some x) is x refl))))

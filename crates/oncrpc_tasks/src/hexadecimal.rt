@@ -1,5 +1,6 @@
 //! Bytes written as hexadecimal text.
 ghost use Rattle.std.specs.Prelude.{◌≡◌, ◌≤◌, ◌<◌, [], ◌∷◌, IfOk, IfSome, MatchOption, length, take, option_map};
+ghost use Rattle.std.specs.Option.{unwrap_or};
 ghost use Rattle.hex.specs.Hex.{decode_of, hex_digit_value};
 ghost use Rattle.oncrpc_tasks.specs.Private.Hexed.{pairs, joined};
 ghost use Rattle.oncrpc_tasks.specs.Hexadecimal.{is_space, digits, IsBadHex};
@@ -52,18 +53,42 @@ fn digits_of(alloc: Global, text: &[u8]) -> Result<Vec<u8>, AllocError>
     }
 }
 
-/// The value of a digit of either case.
+/// The value of each byte that is a digit of either case, and else 255.
+const VALUES: [u8; 256] = [
+    255, 255, 255, 255, 255, 255, 255, 255, 255, 255, 255, 255, 255, 255, 255, 255, 255, 255, 255,
+    255, 255, 255, 255, 255, 255, 255, 255, 255, 255, 255, 255, 255, 255, 255, 255, 255, 255, 255,
+    255, 255, 255, 255, 255, 255, 255, 255, 255, 255, 0, 1, 2, 3, 4, 5, 6, 7, 8, 9, 255, 255, 255,
+    255, 255, 255, 255, 10, 11, 12, 13, 14, 15, 255, 255, 255, 255, 255, 255, 255, 255, 255, 255,
+    255, 255, 255, 255, 255, 255, 255, 255, 255, 255, 255, 255, 255, 255, 255, 255, 10, 11, 12, 13,
+    14, 15, 255, 255, 255, 255, 255, 255, 255, 255, 255, 255, 255, 255, 255, 255, 255, 255, 255,
+    255, 255, 255, 255, 255, 255, 255, 255, 255, 255, 255, 255, 255, 255, 255, 255, 255, 255, 255,
+    255, 255, 255, 255, 255, 255, 255, 255, 255, 255, 255, 255, 255, 255, 255, 255, 255, 255, 255,
+    255, 255, 255, 255, 255, 255, 255, 255, 255, 255, 255, 255, 255, 255, 255, 255, 255, 255, 255,
+    255, 255, 255, 255, 255, 255, 255, 255, 255, 255, 255, 255, 255, 255, 255, 255, 255, 255, 255,
+    255, 255, 255, 255, 255, 255, 255, 255, 255, 255, 255, 255, 255, 255, 255, 255, 255, 255, 255,
+    255, 255, 255, 255, 255, 255, 255, 255, 255, 255, 255, 255, 255, 255, 255, 255, 255, 255, 255,
+    255, 255, 255, 255, 255, 255, 255, 255, 255, 255, 255, 255, 255, 255, 255, 255, 255, 255, 255,
+    255, 255, 255,
+];
+
+/// The value of a digit of either case; 255 where it is none.
 #[inline(always)]
+#[tactic(auto, using(crate::proofs::Hexed::values_are))]
+fn value_or_255(digit: u8) -> u8
+    ensures { result ≡ unwrap_or (hex_digit_value digit) 255 }
+{
+    VALUES[usize::from(digit)]
+}
+
+/// The value of a digit of either case, without a branch for its case.
+#[inline(always)]
+#[tactic(auto, using(crate::proofs::Hexed::digits_are))]
 fn digit_value(digit: u8) -> Option<u8>
     ensures value { result ≡ hex_digit_value digit }
     ensures few { IfSome result (λ v. v < 16) }
 {
-    match digit {
-        b'A'..=b'F' => Some(digit - 55),
-        b'a'..=b'f' => Some(digit - 87),
-        b'0'..=b'9' => Some(digit - 48),
-        _ => None,
-    }
+    let value = value_or_255(digit);
+    if value < 16 { Some(value) } else { None }
 }
 
 /// The byte that the first two digits spell, and what follows them; None where they spell none.
