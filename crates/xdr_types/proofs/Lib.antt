@@ -18,3 +18,4 @@ pub mod Apart
 pub mod Cases
 pub mod InSets
 pub mod Earlier
+pub mod Extents

@@ -17,4 +17,5 @@ pub mod View
 pub mod Within
 pub mod Front
 pub mod Outcome
+pub mod Extent
 pub mod Private

@@ -12,6 +12,8 @@
 //!   `fault`: flaws, and their places.
 //! - `heights`: which kinds have a finite value. `reach`: which defaults can be reached. `sets`: numbers and cases as
 //!   sets.
+//! - `extent`: what all values of a kind share, where their size does not vary. `lookups`: maps of numbers. `notes`:
+//!   both, noted of each kind when a schema is built.
 //! - `laws`: theorems about the definitions.
 #![tactic(auto)]
 
@@ -19,6 +21,7 @@ mod choice;
 mod depth;
 mod empty;
 mod equal;
+mod extent;
 mod fault;
 mod faults;
 mod fit;
@@ -28,6 +31,7 @@ mod laws;
 mod limits;
 mod lookups;
 mod names;
+mod notes;
 mod picked;
 mod places;
 mod reach;
@@ -40,6 +44,7 @@ mod value;
 
 pub use choice::{is_legal_tag, is_number_of, part_under};
 pub use equal::is_equal;
+pub use extent::Extent;
 pub use fault::{Flaw, SchemaFault};
 pub use fit::fits;
 pub use kind::{Arm, Kind, KindId, Member};

@@ -5,7 +5,7 @@ ghost use Rattle.std.specs.BTreeMap.{get};
 ghost use Rattle.std.specs.Ordering.{int_cmp, int_eq};
 ghost use Rattle.xdr_types.specs.KindViews.{kind_view, constant_of, branch_of};
 ghost use Rattle.xdr_types.specs.Fits.{is_listed};
-ghost use Rattle.xdr_types.specs.Private.Lookups.{member_from, arm_from, MayFind, AreLookups};
+ghost use Rattle.xdr_types.specs.Private.Lookups.{member_from, arm_from, MayFind};
 
 use crate::kind::{Arm, Kind};
 use crate::sets::as_case;
@@ -87,8 +87,8 @@ fn are_few(arms: &[Arm]) -> bool {
     true
 }
 
-// The map of an enumeration or a union whose numbers are many.
-fn lookup_of(alloc: Global, kind: &Kind) -> Result<Option<BTreeMap<i64, usize>>, AllocError>
+/// The map of an enumeration or a union whose numbers are many. An error is want of memory.
+pub fn lookup_of(alloc: Global, kind: &Kind) -> Result<Option<BTreeMap<i64, usize>>, AllocError>
     ensures { IfOk result (MayFind (kind_view kind.now)) }
 {
     match kind {
@@ -106,19 +106,4 @@ fn lookup_of(alloc: Global, kind: &Kind) -> Result<Option<BTreeMap<i64, usize>>,
         }
         _ => Ok(None),
     }
-}
-
-/// The maps of the enumerations and unions whose numbers are many, each at the place of its kind. An error is want of
-/// memory.
-pub fn lookups_of(
-    alloc: Global,
-    kinds: &Vec<Kind>,
-) -> Result<Vec<Option<BTreeMap<i64, usize>>>, AllocError>
-    ensures { IfOk result (λ v. AreLookups (map kind_view kinds.now.items) v.items) }
-{
-    let mut lookups = Vec::with_capacity(alloc, kinds.len())?;
-    for kind in kinds {
-        lookups.push(lookup_of(alloc, kind)?)?;
-    }
-    Ok(lookups)
 }

@@ -12,14 +12,16 @@ ghost use Rattle.std.specs.Cmp.{partial_equiv_from_equiv};
 ghost use Rattle.xdr_types.specs.Alike.{same_lists};
 ghost use Rattle.xdr_types.specs.Private.Alike.{lists_equivalence};
 ghost use Rattle.xdr_types.specs.Named.{basic, named, place_named};
+ghost use Rattle.xdr_types.specs.Extent.{IsExtent};
 ghost use Rattle.xdr_types.specs.Private.Lookups.{Finds};
 
+use crate::extent::Extent;
 use crate::fault::{Flaw, SchemaFault};
 use crate::faults::first_in_kinds;
 use crate::heights::lowest_without_height;
 use crate::kind::{Kind, KindId};
-use crate::lookups::lookups_of;
 use crate::names::first_in_names;
+use crate::notes::{Noted, notes_of};
 use std::alloc::Global;
 use std::collections::BTreeMap;
 use std::marker::Model;
@@ -30,8 +32,8 @@ use xdr_units::NoMemory;
 #[derive(Debug, Drop)]
 pub struct Schema {
     kinds: Vec<Kind>,
-    // Where a number of a long enumeration or union is, for each kind.
-    lookups: Vec<Option<BTreeMap<i64, usize>>>,
+    // What is known of each kind beside it.
+    notes: Vec<Noted>,
     names: Vec<(String, KindId)>,
 }
 
@@ -45,7 +47,7 @@ impl Model for Schema {
     ghost use Rattle.xdr_types.specs.Sound.{IsSound};
     ghost use Rattle.xdr_types.specs.Faults.{IsWellFormed};
     ghost use Rattle.xdr_types.specs.Height.{AreHigher};
-    ghost use Rattle.xdr_types.specs.Private.Lookups.{AreLookups};
+    ghost use Rattle.xdr_types.specs.Private.Notes.{AreNotes};
 
     ghost view = { λ s. lists_of s.kinds.items s.names.items };
 
@@ -54,7 +56,7 @@ impl Model for Schema {
       sound : IsSound
           (map kind_view s.kinds.items);
       higher : AreHigher (map kind_view s.kinds.items);
-      lookups : AreLookups (map kind_view s.kinds.items) s.lookups.items;
+      notes : AreNotes (map kind_view s.kinds.items) s.notes.items;
     } };
 }
 
@@ -133,10 +135,10 @@ impl Schema {
         if let Some(fault) = first_fault(alloc, &kinds, &names) {
             return Err(fault);
         }
-        match lookups_of(alloc, &kinds) {
-            Ok(lookups) => Ok(Schema {
+        match notes_of(alloc, &kinds) {
+            Ok(notes) => Ok(Schema {
                 kinds,
-                lookups,
+                notes,
                 names,
             }),
             Err(_) => Err(SchemaFault {
@@ -205,10 +207,22 @@ impl Schema {
         ensures { IfSome result (λ m. Finds (kind_at self.now.kinds id.place) m.now) }
     {
         let place = id.place as usize;
-        if place >= self.lookups.len() {
+        if place >= self.notes.len() {
             return None;
         }
-        self.lookups[place].as_ref()
+        self.notes[place].numbers.as_ref()
+    }
+
+    /// What all values of the kind share, where they have one count of bytes; none of a kind that the schema does not
+    /// have.
+    pub fn extent(&self, id: KindId) -> Option<Extent>
+        ensures { IfSome result (IsExtent self.now.kinds id.place) }
+    {
+        let place = id.place as usize;
+        if place >= self.notes.len() {
+            return None;
+        }
+        self.notes[place].extent
     }
 
     /// The kind at a place that the schema has.

@@ -1,10 +1,10 @@
 -- Where a number is found first, among the members of an enumeration or the arms of a union, and the maps that say so.
-use Rattle.std.specs.Prelude.{◌≡◌, ℕ, ◌<◌, ℤ, List, length, Option, Some, None, ⊤, slice_index_or}
+use Rattle.std.specs.Prelude.{◌≡◌, ℕ, ℤ, List, Option, Some, None, ⊤}
 use Rattle.std.specs.List.{position_from}
 use Rattle.std.specs.BTreeMap.{BTreeMap, get}
 use Rattle.std.specs.Ordering.{int_cmp, int_eq}
 use Rattle.xdr_types.specs.Kinds as xdr
-use Rattle.xdr_types.specs.Kinds.{KindView, Branch, Constant, kind_at}
+use Rattle.xdr_types.specs.Kinds.{KindView, Branch, Constant}
 use Rattle.xdr_types.specs.Fits.{is_listed}
 
 -- the index of the first member that has the number, in a list that starts at an index (RFC 4506 section 4.3)
@@ -29,9 +29,3 @@ Finds f m = (z : ℤ) → get int_cmp m z ≡ index_of f z
 abbrev pub MayFind : KindView → Option (BTreeMap ℤ ℕ) → Type 0
 MayFind f None = ⊤
 MayFind f (Some m) = Finds f m
-
--- each map is one of the kind at its place
-abbrev pub AreLookups : List KindView → List (Option (BTreeMap ℤ ℕ)) → Type 0
-AreLookups kinds lookups =
-    (place : ℕ) (o : Option (BTreeMap ℤ ℕ)) → place < length lookups → o ≡ slice_index_or lookups place o
-    → MayFind (kind_at kinds place) o
