@@ -1,5 +1,6 @@
 -- Definitions that only private functions cite: the steps of the code. No contract of a public call names any of it.
 pub mod Alone
+pub mod Entire
 pub mod Leaf
 pub mod Live
 pub mod Moves

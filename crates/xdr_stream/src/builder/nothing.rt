@@ -2,7 +2,9 @@
 ghost use Rattle.std.specs.Prelude.{⊤};
 
 use crate::builder::{Build, Leaf, Node};
+use crate::runs::judge::is_value;
 use std::alloc::AllocError;
+use xdr_types::{Extent, KindId, Schema};
 
 /// Makes nothing of the nodes.
 #[derive(Clone, Copy)]
@@ -49,6 +51,17 @@ impl Build for Nothing {
     #[inline(always)]
     fn whole(&mut self, _: &[u8]) -> Result<(), AllocError> {
         Ok(())
+    }
+
+    #[inline(always)]
+    fn part(
+        &mut self,
+        schema: &Schema,
+        kind: KindId,
+        extent: Extent,
+        bytes: &[u8],
+    ) -> Result<bool, AllocError> {
+        Ok(is_value(schema, kind, extent, bytes))
     }
 
     fn trim(&mut self) {}

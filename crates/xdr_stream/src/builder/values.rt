@@ -14,7 +14,7 @@ use crate::builder::{Build, Leaf, Node, hyper_leaf};
 use crate::machine::unit::hyper_at;
 use std::alloc::{AllocError, Global};
 use xdr_stack::Blocks;
-use xdr_types::Value;
+use xdr_types::{Extent, KindId, Schema, Value};
 
 /// How many nodes at work lie in a block, so that a block of them is below a kibibyte.
 const BLOCK: usize = 16;
@@ -185,6 +185,10 @@ impl Build for Values {
         self.nodes = self.nodes.saturating_add(1);
         self.retained = self.retained.saturating_add(bytes.len());
         Ok(())
+    }
+
+    fn part(&mut self, _: &Schema, _: KindId, _: Extent, _: &[u8]) -> Result<bool, AllocError> {
+        Ok(false)
     }
 
     fn trim(&mut self) {

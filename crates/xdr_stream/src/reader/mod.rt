@@ -2,14 +2,14 @@
 //!
 //! - `start`: a reader before any byte. `due`: what is due then.
 //! - `pieces`: pieces of bytes, unit by unit. `parts`: what comes first at a part. `many`: many units at once.
-//! - `leaves`: numbers that are fields or items.
+//! - `entire`: parts that are there whole.
 //! - `settling`: how reading goes on after what was taken.
 ghost use Rattle.xdr_stream.specs.Frames.{left_of};
 ghost use Rattle.xdr_stream.specs.Private.OneProof.{one_sound, one_wait};
 ghost use Rattle.xdr_stream.specs.Private.Sound.{IsSoundAt, Waits};
 
 pub(crate) mod due;
-pub(crate) mod leaves;
+pub(crate) mod entire;
 pub(crate) mod many;
 pub(crate) mod parts;
 pub(crate) mod pieces;

@@ -1,4 +1,4 @@
-//! What comes first at a part: numbers, content that is there whole, or a unit.
+//! What comes first at a part: numbers, a part or content that is there whole, or a unit.
 ghost use Rattle.std.specs.Prelude.{◌≡◌, ◌≤◌, ◌<◌, ℕ, List, ◌++◌, length, take};
 ghost use Rattle.xdr_stream.specs.Frames.{left_of, rest_of, stack_of};
 ghost use Rattle.xdr_stream.specs.Sees.{Sees};
@@ -20,8 +20,8 @@ use crate::runs::numbers::run_due;
 use crate::runs::{units_there, whole_there};
 
 impl<'s, B: Build + Drop> Reader<'s, B> {
-    /// Takes what comes first at a part: numbers that are fields or items, content that is there whole, a run of
-    /// numbers, or a unit; tells how many bytes.
+    /// Takes what comes first at a part: a run of numbers, parts or content that are there whole, or a unit; tells how
+    /// many bytes.
     #[inline(always)]
     pub(crate) fn take_next(&mut self, bytes: &[u8]) -> usize
         requires there { 4 ≤ length bytes.now }
@@ -34,7 +34,15 @@ impl<'s, B: Build + Drop> Reader<'s, B> {
         ensures awake { self.old.state ≡ Reading Next → IsAwake self.new.state }
         ensures same { IsSame self.old self.new }
     {
-        let n = self.take_leaves(bytes);
+        if let Some(run) = run_due(self.schema, self.work) {
+            let space = (self.limits.bytes() as usize).saturating_sub(self.read);
+            let n = units_there(run.left as usize * 4, bytes.len(), space);
+            if n > 4 {
+                self.take_run(run, run.left - ((n / 4) as u32 - 1), n, bytes);
+                return n;
+            }
+        }
+        let n = self.take_ready(bytes);
         if n > 0 {
             return n;
         }
@@ -45,14 +53,6 @@ impl<'s, B: Build + Drop> Reader<'s, B> {
         if let Some(whole) = arm_due(self.schema, self.work, self.limits, self.read, bytes) {
             self.take_arm(whole, bytes);
             return whole.all;
-        }
-        if let Some(run) = run_due(self.schema, self.work) {
-            let space = (self.limits.bytes() as usize).saturating_sub(self.read);
-            let n = units_there(run.left as usize * 4, bytes.len(), space);
-            if n > 4 {
-                self.take_run(run, run.left - ((n / 4) as u32 - 1), n, bytes);
-                return n;
-            }
         }
         self.take_part(bytes)
     }

@@ -1,0 +1,120 @@
+use Rattle.std.proofs.Common.{◌≡◌, ◌+◌, ◌-◌, ◌≤◌, ℕ, List, [], ◌∷◌, ◌++◌, length, take, drop, refl, subst, sym, ap, ◌∙◌}
+use Rattle.std.proofs.Common.{append_assoc, arith}
+use Rattle.std.proofs.lemmas.List.{length-append, length-take, length-drop}
+use Rattle.std.proofs.Math.Seq.{take-add}
+use Rattle.xdr_types.specs.Kinds.{KindView, Part, Lists}
+use Rattle.xdr_types.specs.Laws.{EachKindHasAValue}
+use Rattle.xdr_stream.specs.Frames.{left_of, onto, stack_of}
+use Rattle.xdr_stream.specs.Trace.{Trace}
+use Rattle.xdr_stream.specs.Sees.{Sees}
+use Rattle.xdr_stream.specs.Private.Entire.{WentAs}
+use Rattle.xdr_stream.specs.declared.machine.Awaits.TheVariants.{Next}
+use Rattle.xdr_stream.specs.declared.reader.State.{State}
+use Rattle.xdr_stream.proofs.Answering.{same_then}
+use Rattle.xdr_stream.proofs.Entire.{entire_seen, went_awake}
+use Rattle.xdr_stream.proofs.Frames.{onto_length}
+use Rattle.xdr_stream.proofs.Sparing.{seen_alone}
+use Rattle.xdr_stream.proofs.reader.Reader.take_entire.Goals as goal
+
+-- the bytes before a place, and some behind it
+joined : (b p : List ℕ) (at n : ℕ) → (b ++ take at p) ++ take (at + n - at) (drop at p) ≡ b ++ take (at + n) p
+joined b p at n =
+    ap (λ (k : ℕ). (b ++ take at p) ++ take k (drop at p)) (omega arith)
+    ∙ append_assoc b (take at p) (take n (drop at p))
+    ∙ ap (λ (x : List ℕ). b ++ x) (sym (take-add at n p))
+
+pub loop-at-preserved : goal.loop-at-preserved
+loop-at-preserved g c =
+    let i = c.loop-at.invariant in
+    let r = c.loop-at.self in
+    let d = c.in-Some.ensures in
+    let s : List KindView = r.schema.now.kinds in
+    let bs : List ℕ = c.args.bytes.now in
+    let n : ℕ = c.in-Some.part.extent.bytes in
+    let within : c.loop-at.at + n ≤ length bs = omega (arith, d.enough, i.0, c.loop-at-test.true) in (
+      within,
+      record { schema_is = i.1.schema_is; kind_is = i.1.kind_is; limits_are = i.1.limits_are },
+      λ none. absurd (omega (arith, none, d.extent.bounded.some)),
+      i.3,
+      λ q len none seen.
+          let w = subst (λ (x : State). WentAs g.B.Build.spares s r.kind.place r.limits
+          (g.B.Build.reports r.built) (stack_of r.work r.parents.items) r.read r.unit r.pending x
+          (q ++ take c.loop-at.at bs)) i.3
+          (i.4 q len none seen) in
+          let t = c.in-Ok-true.ensures.taken c.in-Ok-true.field-0-test in
+          let u : List ℕ = take (c.loop-at.at + n - c.loop-at.at) (drop c.loop-at.at bs) in
+          let size : length u ≡ n = omega (
+            arith,
+            length-take (c.loop-at.at + n - c.loop-at.at) (drop c.loop-at.at bs),
+            length-drop c.loop-at.at bs,
+            within,
+          ) in
+          let far : length ((q ++ take c.loop-at.at bs) ++ u) ≡ c.saturating_add-self.result = omega (
+            arith,
+            length-append (q ++ take c.loop-at.at bs) u,
+            size,
+            w.0,
+            d.space,
+            c.depth-in_range.ensures.range.most_bytes,
+            ap (λ l. l.bytes) i.1.limits_are,
+            c.saturating_add-self.ensures,
+          ) in
+          let around : length r.parents.items ≡ c.len-outside.result = omega (
+            arith,
+            c.len-outside.ensures.exact,
+            d.low,
+            c.depth-in_range.ensures.range.most_depth,
+            ap (λ l. l.depth) i.1.limits_are,
+          ) in
+          let has : EachKindHasAValue s =
+          subst (λ (x : Lists). EachKindHasAValue x.kinds) (sym i.1.schema_is) c.len-known.ensures.valued in
+          let next = entire_seen s has r.kind.place r.limits (g.B.Build.reports r.built)
+          (g.B.Build.reports c.part.new.self) r.work c.after-self.result r.parents.items (q ++ take c.loop-at.at bs) u
+          c.len-outside.result r.read (length bs - c.loop-at.at) c.in-Some.part t.0 d around w.0 t.1 t.2
+          c.after-self.ensures t.3 w.2 in
+          let all : (q ++ take c.loop-at.at bs) ++ u ≡ q ++ take (c.loop-at.at + n) bs = joined q bs c.loop-at.at n in
+          let I : Trace → Type 0 = g.B.Build.reports c.part.new.self in
+          let fs : List (List Part) = stack_of c.after-self.result r.parents.items in
+          subst (λ (x : State). WentAs g.B.Build.spares s r.kind.place r.limits I fs c.saturating_add-self.result r.unit
+          r.pending x (q ++ take (c.loop-at.at + n) bs)) (sym i.3) (
+            sym (ap (λ (x : List ℕ). length x) all) ∙ far,
+            w.1,
+            subst (λ (x : List ℕ). Sees s r.kind.place r.limits I Next fs x) all next,
+          ),
+    )
+
+pub returns-in-Err-clause-went : goal.returns-in-Err-clause-went
+returns-in-Err-clause-went g c = λ q len none seen.
+    let i = c.loop-at.invariant in
+    let r = c.loop-at.self in
+    let d = c.in-Some.ensures in
+    let z : Type 0 = g.B.Build.spares in
+    let H : Trace → Type 0 = g.B.Build.reports r.built in
+    let bs : List ℕ = c.args.bytes.now in
+    let n : ℕ = c.in-Some.part.extent.bytes in
+    let w = subst (λ (x : State). WentAs z r.schema.now.kinds r.kind.place r.limits H
+    (stack_of r.work r.parents.items) r.read r.unit r.pending x (q ++ take c.loop-at.at bs)) i.3
+    (i.4 q len none seen) in
+    let more : take (c.loop-at.at + n) bs ≡ take c.loop-at.at bs ++ take n (drop c.loop-at.at bs) =
+    take-add c.loop-at.at n bs in
+    let f = c.fail.new.self in
+    went_awake z f.schema.now.kinds f.kind.place f.limits (g.B.Build.reports f.built) (stack_of f.work f.parents.items)
+    f.read f.unit f.pending (q ++ take (c.loop-at.at + n) bs) f.state
+    c.fail.ensures.awake
+    (c.fail.ensures.represents (q ++ take (c.loop-at.at + n) bs) (λ rest. tt)
+    (omega (
+      arith,
+      w.0,
+      length-append q (take c.loop-at.at bs),
+      length-append q (take (c.loop-at.at + n) bs),
+      ap (λ (x : List ℕ). length x) more,
+      length-append (take c.loop-at.at bs) (take n (drop c.loop-at.at bs)),
+    ))
+    (λ free. absurd (omega (
+      arith,
+      (seen_alone z r.schema.now.kinds r.kind.place free r.limits H Next (stack_of r.work r.parents.items)
+          (q ++ take c.loop-at.at bs) w.2).3,
+      onto_length [] r.parents.items,
+      c.len-outside.ensures.most,
+      d.nested,
+    ))))

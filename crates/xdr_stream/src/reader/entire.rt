@@ -1,0 +1,126 @@
+//! Parts that are there whole, of kinds whose values have one size.
+ghost use Rattle.std.specs.Prelude.{◌≡◌, ◌≤◌, ℕ, List, ◌++◌, length, take};
+ghost use Rattle.xdr_stream.specs.Frames.{left_of, stack_of};
+ghost use Rattle.xdr_stream.specs.Sees.{Sees};
+ghost use Rattle.xdr_stream.specs.Private.Entire.{Went, IsStill};
+ghost use Rattle.xdr_stream.specs.Private.Sound.{IsAwaited};
+ghost use Rattle.xdr_stream.specs.Represents.{RepresentsBytes, IsAwake, IsSame};
+ghost use Rattle.xdr_stream.specs.declared.machine.Awaits.TheVariants.{Next};
+ghost use Rattle.xdr_stream.specs.declared.reader.State.TheVariants.{Fresh, Reading};
+
+use crate::builder::Build;
+use crate::fault::Reason;
+use crate::machine::Awaits;
+use crate::machine::frame::{after, next};
+use crate::machine::nodes::end_nodes;
+use crate::reader::{Reader, State};
+use crate::runs::entire::entire_due;
+
+impl<'s, B: Build + Drop> Reader<'s, B> {
+    // Takes the parts of the node at work that come first, as long as they are there whole; tells how many bytes. What
+    // comes next is not settled then.
+    #[inline(always)]
+    fn take_entire(&mut self, bytes: &[u8]) -> usize
+        requires { self.old.state ≡ Fresh }
+        ensures went { (q : List ℕ) → length q ≡ self.old.read → self.old.pending ≡ 0
+            → Sees self.old.schema.now.kinds self.old.kind.place self.old.limits (B.reports self.old.built) Next
+            (stack_of self.old.work self.old.parents.items) q
+            → Went B.spares B.reports self.new (q ++ take result bytes.now) }
+        ensures still { result ≡ 0 → IsStill self.old self.new }
+        ensures within { result ≤ length bytes.now }
+        ensures same { IsSame self.old self.new }
+    {
+        let _in_range = self.limits.depth();
+        let _known = self.schema.len();
+        let mut at = 0;
+        while at < bytes.len() {
+            let outside = self.parents.len();
+            let there = bytes.len() - at;
+            let due = entire_due(
+                self.schema,
+                self.work,
+                self.limits,
+                outside,
+                self.read,
+                there,
+            );
+            let Some(part) = due else {
+                return at;
+            };
+            let n = part.extent.bytes as usize;
+            match self
+                .built
+                .part(self.schema, part.kind, part.extent, &bytes[at..at + n])
+            {
+                Ok(true) => {
+                    self.work = after(self.work);
+                    self.read = self.read.saturating_add(n);
+                    at += n;
+                }
+                Ok(false) => return at,
+                Err(_) => {
+                    self.fail(Reason::NoMemory);
+                    return at + n;
+                }
+            }
+        }
+        at
+    }
+
+    // Ends the nodes that have all their parts, takes what comes first then, as above, and begins what comes next; tells
+    // how many bytes.
+    fn settle_entire(&mut self, bytes: &[u8]) -> usize
+        requires { self.old.state ≡ Fresh }
+        ensures represents { (q : List ℕ) → length q ≡ self.old.read → self.old.pending ≡ 0
+            → Sees self.old.schema.now.kinds self.old.kind.place self.old.limits (B.reports self.old.built) Next
+            (stack_of self.old.work self.old.parents.items) q
+            → RepresentsBytes B.spares B.reports self.new (q ++ take result bytes.now) }
+        ensures within { result ≤ length bytes.now }
+        ensures awake { IsAwake self.new.state }
+        ensures same { IsSame self.old self.new }
+    {
+        if next(&self.work).is_some() {
+            self.settle(Awaits::Next);
+            return 0;
+        }
+        match end_nodes(&mut self.work, &mut self.parents, &mut self.built) {
+            Ok(_) => {
+                let n = self.take_entire(bytes);
+                if let State::Fresh = self.state {
+                    self.settle(Awaits::Next);
+                }
+                n
+            }
+            Err(_) => {
+                self.fail(Reason::NoMemory);
+                0
+            }
+        }
+    }
+
+    /// Takes the parts that come first, as long as they are there whole, and begins what comes next after them; tells
+    /// how many bytes.
+    #[inline(always)]
+    pub(crate) fn take_ready(&mut self, bytes: &[u8]) -> usize
+        requires { IsAwaited self.old.schema.now.kinds (left_of self.old.work) Next }
+        ensures represents { (b : List ℕ) → self.old.state ≡ Reading Next → self.old.pending ≡ 0
+            → RepresentsBytes B.spares B.reports self.old b
+            → RepresentsBytes B.spares B.reports self.new (b ++ take result bytes.now) }
+        ensures still { result ≡ 0 → (self.new.work ≡ self.old.work)
+            × (self.old.state ≡ Reading Next → IsStill self.old self.new) }
+        ensures taken { (result ≤ length bytes.now) × (self.old.state ≡ Reading Next → IsAwake self.new.state) }
+        ensures same { IsSame self.old self.new }
+    {
+        // A state that asks nothing of the nodes at work, which change now: what they await is settled after.
+        self.state = State::Fresh;
+        let n = self.take_entire(bytes);
+        if n == 0 {
+            self.state = State::Reading(Awaits::Next);
+            return 0;
+        }
+        match self.state {
+            State::Fresh => n + self.settle_entire(&bytes[n..]),
+            _ => n,
+        }
+    }
+}
