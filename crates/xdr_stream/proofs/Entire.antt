@@ -1,8 +1,7 @@
 -- What is seen after a part whose value is there whole.
-use Rattle.std.proofs.Common.{◌≡◌, ℕ, ◌+◌, ◌%◌, ◌<◌, ◌≤◌, max, true, List, [], ◌∷◌, ◌++◌, length, take, drop, refl, sym}
+use Rattle.std.proofs.Common.{◌≡◌, ℕ, ◌+◌, ◌%◌, ◌<◌, ◌≤◌, true, List, [], ◌∷◌, ◌++◌, length, take, drop, refl, sym}
 use Rattle.std.proofs.Common.{ap, subst, ◌∙◌, append_assoc, append-nil, zero-add, arith, inl, inr}
 use Rattle.std.specs.Prelude.{Contains}
-use Rattle.std.specs.List.{AllByRecursion}
 use Rattle.std.proofs.Math.Nat.{max-eq_right}
 use Rattle.std.proofs.lemmas.Bool.{cases_lt, false≢true}
 use Rattle.std.proofs.lemmas.List.{length-append, length-take, take-append-drop, take-append-le}
@@ -15,20 +14,20 @@ use Rattle.xdr_types.specs.Fits.{Fits, fits, fit, parts}
 use Rattle.xdr_types.specs.Spelling.{own, spelling, bytes_of}
 use Rattle.xdr_types.specs.Within.{Bounds}
 use Rattle.xdr_types.specs.Layout.{Entry, layout, entries, shown}
-use Rattle.xdr_types.specs.Front.{Front, BeginsWith}
-use Rattle.xdr_types.specs.Outcome.{IsDeep, IsQuiet, IsReached}
+use Rattle.xdr_types.specs.Front.{BeginsWith}
+use Rattle.xdr_types.specs.Outcome.{IsDeep, IsQuiet}
 use Rattle.xdr_types.specs.Laws.{EachKindHasAValue}
 use Rattle.xdr_types.proofs.Unique.{one}
-use Rattle.xdr_laws.specs.Owed.{Due, Frame, Completes, Reads, AllUpTo, AreOfList}
+use Rattle.xdr_laws.specs.Owed.{Due, Frame, Completes, Reads, AllUpTo}
 use Rattle.xdr_laws.specs.Parts.{AllFrom}
-use Rattle.xdr_laws.proofs.Legal.{FitAll, fit_node, both, and}
+use Rattle.xdr_laws.proofs.Legal.{FitAll, both, and}
 use Rattle.xdr_laws.proofs.Owed.{reads_then, regroup}
 use Rattle.xdr_laws.proofs.Parts.{all_append, parts_join, completes_from}
 use Rattle.xdr_laws.proofs.Entered.{low_less}
 use Rattle.xdr_laws.proofs.Known.{root, known, begins_into, begins_back}
 use Rattle.xdr_laws.proofs.GoesOn.{completes_known, alive}
 use Rattle.xdr_laws.proofs.Longer.{unit_apart}
-use Rattle.xdr_laws.proofs.Whole.{all_more, depth_high, join_to, AllIn, AllLow as AreAt}
+use Rattle.xdr_laws.proofs.Whole.{all_more, depth_high, join_to, AllLow as AreAt}
 use Rattle.xdr_laws.proofs.WholeUnits.{value_units}
 use Rattle.xdr_stream.specs.Frames.{dues, left_of, rest_of, onto, stack_of}
 use Rattle.xdr_stream.specs.Private.Entire.{IsEntire, WentAs}
@@ -44,7 +43,7 @@ use Rattle.xdr_stream.specs.Sees.{Sees, Built}
 use Rattle.xdr_stream.specs.Sees as sees
 use Rattle.xdr_stream.specs.declared.machine.Awaits.TheVariants.{Next}
 use Rattle.xdr_stream.proofs.Built.{finish}
-use Rattle.xdr_stream.proofs.BuiltContent.{With, seen_space}
+use Rattle.xdr_stream.proofs.BuiltContent.{seen_space}
 use Rattle.xdr_stream.proofs.Reading.{dues_track}
 
 -- the parts of one value for a named part

@@ -1,8 +1,8 @@
 -- Which bytes are a value's, of a kind whose values have one size.
-use Rattle.std.proofs.Common.{◌≡◌, ℕ, zero, suc, ◌+◌, ◌-◌, ◌%◌, ◌<◌, ◌≤◌, ◌==◌, ◌&&◌, Bool, true, false, List, [], ◌∷◌, ◌++◌, length}
+use Rattle.std.proofs.Common.{◌≡◌, ℕ, suc, ◌+◌, ◌-◌, ◌%◌, ◌<◌, ◌≤◌, ◌==◌, ◌&&◌, Bool, true, false, List, [], ◌∷◌, ◌++◌, length}
 use Rattle.std.proofs.Common.{take, drop, refl, sym, ap, subst, ◌∙◌, append-nil, arith, replicate, map, get_or}
 use Rattle.std.proofs.lemmas.List.{take-append-drop, length-drop, length-take, drop-drop, take_all}
-use Rattle.xdr_units.specs.Numbers.{pad, padded, gap, word, AreBytes}
+use Rattle.xdr_units.specs.Numbers.{pad, gap, word, AreBytes}
 use Rattle.xdr_units.proofs.Bytes.{AreBytes-before}
 use Rattle.xdr_types.specs.Kinds as xdr
 use Rattle.xdr_types.specs.Kinds.{KindView, Part, kind_at}
@@ -75,28 +75,41 @@ each_item s p size i n at bytes within o e =
     (subst (λ (x : List ℕ). AreEach s (replicate (size - (i + 1)) p) x) (sym (drop-drop n at bytes)) e))
 
 -- a head whose parts are these
-one_node : (s : List KindView) (place : ℕ) (k : KindView) (h : Head) (ps : List Part) (bytes : List ℕ)
-    → kind_at s place ≡ k → is_legal s k h ≡ true → own k h ≡ [] → parts k h ≡ ps → AreEach s ps bytes
-    → IsOne s place bytes
-one_node s place k h ps bytes is legal none with e = (
-  (h, e.0),
-  subst (λ (f : KindView). is_legal s f h && fit s (parts f h) e.0 ≡ true) (sym is)
-      (and (is_legal s k h) (fit s (parts k h) e.0) legal
-      (subst (λ (x : List Part). fit s x e.0 ≡ true) (sym with) e.1)),
-  subst (λ (f : KindView). own f h ++ spelling s (parts f h) e.0 ≡ bytes) (sym is)
-      (ap (λ (x : List ℕ). x ++ spelling s (parts k h) e.0) none
-      ∙ ap (λ (x : List Part). spelling s x e.0) with ∙ e.2),
+node_one : (s : List KindView) (place : ℕ) (k : KindView) (h : Head) (ps : List Part) (bytes : List ℕ) (vs : Values)
+    → kind_at s place ≡ k → is_legal s k h ≡ true → own k h ≡ [] → parts k h ≡ ps → fit s ps vs ≡ true
+    → spelling s ps vs ≡ bytes → Fits s place (h, vs) × (bytes_of s place (h, vs) ≡ bytes)
+node_one s place k h ps bytes vs is legal none with fitting spelled = (
+  subst (λ (f : KindView). is_legal s f h && fit s (parts f h) vs ≡ true) (sym is)
+      (and (is_legal s k h) (fit s (parts k h) vs) legal
+      (subst (λ (x : List Part). fit s x vs ≡ true) (sym with) fitting)),
+  subst (λ (f : KindView). own f h ++ spelling s (parts f h) vs ≡ bytes) (sym is)
+      (ap (λ (x : List ℕ). x ++ spelling s (parts k h) vs) none
+      ∙ ap (λ (x : List Part). spelling s x vs) with ∙ spelled),
 )
+
+pub node_structure : (s : List KindView) (place : ℕ) (ps : List Part) (bytes : List ℕ) (vs : Values)
+    → xdr.structure ps ≡ kind_at s place → fit s ps vs ≡ true → spelling s ps vs ≡ bytes
+    → Fits s place (value.fields, vs) × (bytes_of s place (value.fields, vs) ≡ bytes)
+node_structure s place ps bytes vs is fitting spelled =
+    node_one s place (xdr.structure ps) value.fields ps bytes vs (sym is) refl refl refl fitting spelled
+
+pub node_fixed : (s : List KindView) (place item size : ℕ) (bytes : List ℕ) (vs : Values)
+    → xdr.fixed item size ≡ kind_at s place → fit s (replicate size (item_part item)) vs ≡ true
+    → spelling s (replicate size (item_part item)) vs ≡ bytes
+    → Fits s place (value.items size, vs) × (bytes_of s place (value.items size, vs) ≡ bytes)
+node_fixed s place item size bytes vs is fitting spelled =
+    node_one s place (xdr.fixed item size) (value.items size) (replicate size (item_part item)) bytes vs (sym is)
+    (is_legal_of s (xdr.fixed item size) (value.items size) refl) refl refl fitting spelled
 
 pub one_structure : (s : List KindView) (place : ℕ) (ps : List Part) (bytes : List ℕ)
     → xdr.structure ps ≡ kind_at s place → AreEach s ps bytes → IsOne s place bytes
-one_structure s place ps bytes is e = one_node s place (xdr.structure ps) value.fields ps bytes (sym is) refl refl refl e
+one_structure s place ps bytes is e =
+    let n = node_structure s place ps bytes e.0 is e.1 e.2 in ((value.fields, e.0), n.0, n.1)
 
 pub one_fixed : (s : List KindView) (place item size : ℕ) (bytes : List ℕ) → xdr.fixed item size ≡ kind_at s place
     → AreEach s (replicate size (item_part item)) bytes → IsOne s place bytes
 one_fixed s place item size bytes is e =
-    one_node s place (xdr.fixed item size) (value.items size) (replicate size (item_part item)) bytes (sym is)
-    (is_legal_of s (xdr.fixed item size) (value.items size) refl) refl refl e
+    let n = node_fixed s place item size bytes e.0 is e.1 e.2 in ((value.items size, e.0), n.0, n.1)
 
 -- a head without parts
 alone : (s : List KindView) (place : ℕ) (k : KindView) (h : Head) (bytes : List ℕ)

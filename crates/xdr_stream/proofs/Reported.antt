@@ -10,6 +10,7 @@ use Rattle.xdr_types.specs.declared.value.Value.{Value}
 use Rattle.xdr_laws.specs.Held.{count_nodes, count_bytes, node_count, byte_count, bytes_in}
 use Rattle.xdr_stream.specs.Trace as trace
 use Rattle.xdr_stream.specs.Trace.{Trace, level, IsOpen}
+use Rattle.xdr_stream.specs.Private.Reported.{part_in}
 use Rattle.xdr_stream.specs.Private.Reported.{IsMany, added, add, leaf_in, open_in, close_in, content_in, close_levels}
 use Rattle.xdr_stream.specs.Private.Reported.{extend_in, CanClose, CanCloseLevels, HasSpaceAt, HasSpaceIn, HasSpace}
 use Rattle.xdr_stream.specs.Private.Reported.{IsManyIn, TakesMany, leaf_tree}
@@ -142,7 +143,7 @@ reports_more b n t u k j is nodes bytes grown longer reported = record {
       omega (arith, bytes, before, now);
 }
 
-leaf_bytes : (l : Leaf) → bytes_in (head_of_leaf l) ≡ 0
+pub leaf_bytes : (l : Leaf) → bytes_in (head_of_leaf l) ≡ 0
 leaf_bytes (leaf.Int n) = refl
 leaf_bytes (leaf.Unsigned n) = refl
 leaf_bytes (leaf.Hyper n) = refl
@@ -217,6 +218,22 @@ reports_whole b n v bs t made grown parents content counted longer reported spac
     ∙ grown_level b (level_of n.work) w t [] reported.trace same in
     reports_more b n t (content_in (extend_in bs t)) 1 (length bs) is (nodes_added w t.levels space)
     (omega (arith, bytes_added w t.levels space, length-append t.content bs)) counted longer reported
+
+-- a part of many nodes
+pub reports_part : (b n : Values) (v : Value) (t : Trace)
+    → level_of n.work ≡ level (level_of b.work).head (added (level_of b.work).head (level_of b.work).done (tree v))
+    → n.parents.items ≡ b.parents.items → n.content.items ≡ b.content.items
+    → (b.nodes + node_count (tree v) < 2 ^ 64 → n.nodes ≡ b.nodes + node_count (tree v))
+    → (b.retained + byte_count (tree v) < 2 ^ 64 → n.retained ≡ b.retained + byte_count (tree v)) → Reports b t
+    → HasSpace t → Reports n (part_in (tree v) t)
+reports_part b n v t grown parents content counted longer reported space =
+    let is : trace_of n ≡ part_in (tree v) t =
+    ap (λ (ls : List Level). trace_at (level_of n.work ∷ levels_onto [] ls) n.content.items) parents
+    ∙ ap (λ (bs : List ℕ). trace_at (level_of n.work ∷ levels_onto [] b.parents.items) bs)
+    (content ∙ ap (λ (x : Trace). x.content) reported.trace)
+    ∙ grown_level b (level_of n.work) (tree v) t t.content reported.trace grown in
+    reports_more b n t (part_in (tree v) t) (node_count (tree v)) (byte_count (tree v)) is
+    (nodes_added (tree v) t.levels space) (omega (arith, bytes_added (tree v) t.levels space)) counted longer reported
 
 pub reports_open : (b n : Values) (h : Head) (t : Trace) → trace_of n ≡ open_in h t
     → (b.nodes + 1 < 2 ^ 64 → n.nodes ≡ b.nodes + 1) → n.retained ≡ b.retained → Reports b t → Reports n (open_in h t)

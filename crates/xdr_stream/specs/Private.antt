@@ -3,6 +3,7 @@ pub mod Alone
 pub mod Entire
 pub mod Leaf
 pub mod Live
+pub mod Made
 pub mod Moves
 pub mod OneProof
 pub mod Reported

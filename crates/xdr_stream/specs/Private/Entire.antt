@@ -1,6 +1,6 @@
 -- Parts that are there whole, of kinds whose values have one size.
 use Rattle.std.specs.Prelude.{◌≡◌, ℕ, ◌+◌, ◌<◌, ◌≤◌, true, List, length}
-use Rattle.xdr_types.specs.Kinds.{KindView, Part, kind_at}
+use Rattle.xdr_types.specs.Kinds.{KindView, Part}
 use Rattle.xdr_types.specs.Tree.{Values, Tree}
 use Rattle.xdr_types.specs.Fits.{Fits, fit}
 use Rattle.xdr_types.specs.Spelling.{spelling, bytes_of}

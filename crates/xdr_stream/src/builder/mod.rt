@@ -1,6 +1,6 @@
 //! What is made of the nodes that are read.
 //!
-//! - `values`: a value. `level`: a node of it at work. `nothing`: nothing.
+//! - `values`: a value. `level`: a node of it at work. `made`: a part of it at once. `nothing`: nothing.
 ghost use Rattle.std.specs.Prelude.{◌≡◌, ◌%◌, List, ℕ, true, false, length, OnOk, IfOk, IsOk};
 ghost use Rattle.std.specs.Int.{w64, from_be_bytes};
 ghost use Rattle.xdr_stream.specs.Trace.{Trace, at_start};
@@ -16,6 +16,7 @@ ghost use Rattle.xdr_stream.specs.Nodes.{head_of_leaf, head_of_node};
 ghost use Rattle.xdr_stream.specs.Private.Runs.{numbers_in, hypers_in};
 
 pub mod level;
+pub mod made;
 pub mod nothing;
 pub mod values;
 

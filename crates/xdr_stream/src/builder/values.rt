@@ -10,6 +10,7 @@ ghost use Rattle.xdr_stream.specs.Private.Reported.{HasSpace, leaf_in, leaf_tree
 ghost use Rattle.xdr_stream.specs.Values.{Reports};
 
 use crate::builder::level::{Level, add, add_item, begun, closed};
+use crate::builder::made::{Tally, value_in};
 use crate::builder::{Build, Leaf, Node, hyper_leaf};
 use crate::machine::unit::hyper_at;
 use std::alloc::{AllocError, Global};
@@ -33,9 +34,9 @@ pub struct Values {
     pub retained: usize,
 }
 
-// The value of a node without parts.
+/// The value of a node without parts.
 #[inline(always)]
-fn value_of(alloc: Global, leaf: Leaf) -> Value
+pub(crate) fn value_of(alloc: Global, leaf: Leaf) -> Value
     ensures { tree result ≡ leaf_tree (head_of_leaf leaf) }
 {
     match leaf {
@@ -51,8 +52,8 @@ fn value_of(alloc: Global, leaf: Leaf) -> Value
     }
 }
 
-// The value of content.
-fn content_value(content: Vec<u8>) -> Value
+/// The value of content.
+pub(crate) fn content_value(content: Vec<u8>) -> Value
     ensures { tree result ≡ leaf_tree (bytes content.items) }
 {
     Value::Bytes(content)
@@ -187,8 +188,25 @@ impl Build for Values {
         Ok(())
     }
 
-    fn part(&mut self, _: &Schema, _: KindId, _: Extent, _: &[u8]) -> Result<bool, AllocError> {
-        Ok(false)
+    fn part(
+        &mut self,
+        schema: &Schema,
+        kind: KindId,
+        extent: Extent,
+        bytes: &[u8],
+    ) -> Result<bool, AllocError> {
+        let mut tally = Tally {
+            nodes: self.nodes,
+            content: self.retained,
+        };
+        let made = value_in(self.alloc, schema, kind, bytes, extent.depth, &mut tally)?;
+        let Some(value) = made else {
+            return Ok(false);
+        };
+        add(self.alloc, &mut self.work, value)?;
+        self.nodes = tally.nodes;
+        self.retained = tally.content;
+        Ok(true)
     }
 
     fn trim(&mut self) {

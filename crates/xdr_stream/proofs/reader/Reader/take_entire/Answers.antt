@@ -1,16 +1,15 @@
-use Rattle.std.proofs.Common.{◌≡◌, ◌+◌, ◌-◌, ◌≤◌, ℕ, List, [], ◌∷◌, ◌++◌, length, take, drop, refl, subst, sym, ap, ◌∙◌}
+use Rattle.std.proofs.Common.{◌≡◌, ◌+◌, ◌-◌, ◌≤◌, ℕ, List, [], ◌++◌, length, take, drop, subst, sym, ap, ◌∙◌}
 use Rattle.std.proofs.Common.{append_assoc, arith}
 use Rattle.std.proofs.lemmas.List.{length-append, length-take, length-drop}
 use Rattle.std.proofs.Math.Seq.{take-add}
 use Rattle.xdr_types.specs.Kinds.{KindView, Part, Lists}
 use Rattle.xdr_types.specs.Laws.{EachKindHasAValue}
-use Rattle.xdr_stream.specs.Frames.{left_of, onto, stack_of}
+use Rattle.xdr_stream.specs.Frames.{stack_of}
 use Rattle.xdr_stream.specs.Trace.{Trace}
 use Rattle.xdr_stream.specs.Sees.{Sees}
 use Rattle.xdr_stream.specs.Private.Entire.{WentAs}
 use Rattle.xdr_stream.specs.declared.machine.Awaits.TheVariants.{Next}
 use Rattle.xdr_stream.specs.declared.reader.State.{State}
-use Rattle.xdr_stream.proofs.Answering.{same_then}
 use Rattle.xdr_stream.proofs.Entire.{entire_seen, went_awake}
 use Rattle.xdr_stream.proofs.Frames.{onto_length}
 use Rattle.xdr_stream.proofs.Sparing.{seen_alone}

@@ -1,4 +1,4 @@
-use Rattle.std.proofs.Common.{ap, sym, ◌∙◌, ◌-◌, arith, length, drop, take, replicate}
+use Rattle.std.proofs.Common.{ap, sym, ◌∙◌, ◌-◌, arith, length, drop, take}
 use Rattle.std.proofs.lemmas.List.{length-drop, length-take}
 use Rattle.std.proofs.lemmas.Bool.{eqb-true}
 use Rattle.xdr_types.specs.KindViews.{kind_view, part_of_member}
@@ -6,7 +6,7 @@ use Rattle.xdr_types.specs.Fits.{item_part}
 use Rattle.xdr_types.specs.declared.kind.Kind.{Kind}
 use Rattle.std.proofs.Common.{map}
 use Rattle.xdr_types.proofs.Content.{bytes-by-index}
-use Rattle.xdr_stream.proofs.Judged.{each_none, each_field, each_item, one_structure, one_fixed, one_padded, one_leaf}
+use Rattle.xdr_stream.proofs.Judged.{each_none, each_field, each_item, one_structure, one_fixed, one_padded}
 use Rattle.xdr_stream.proofs.Units.{bytes_taken}
 use Rattle.xdr_stream.proofs.runs.judge.+judge.Goals as goal
 

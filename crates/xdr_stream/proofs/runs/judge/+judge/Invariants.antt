@@ -1,4 +1,4 @@
-use Rattle.std.proofs.Common.{◌≤◌, ℕ, ◌+◌, ◌*◌, ◌-◌, length, map, replicate, drop}
+use Rattle.std.proofs.Common.{◌≤◌, ◌+◌, ◌*◌, ◌-◌, length, map, replicate, drop}
 use Rattle.xdr_types.specs.KindViews.{part_of_member}
 use Rattle.xdr_types.specs.Fits.{item_part}
 use Rattle.xdr_stream.specs.Private.Entire.{AreEach}

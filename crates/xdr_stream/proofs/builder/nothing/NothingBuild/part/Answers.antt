@@ -1,4 +1,3 @@
-use Rattle.std.proofs.Common.{sym, ◌∙◌}
 use Rattle.xdr_stream.proofs.builder.nothing.NothingBuild.part.Goals as goal
 
 pub returns-clause-taken : goal.returns-clause-taken
