@@ -6,7 +6,7 @@ use Rattle.std.specs.Int.{w32, w64, from_be_bytes, cast_unsigned}
 use Rattle.std.proofs.lemmas.Nat.{be_bytes_4, be_bytes_8, mul-mod}
 use Rattle.std.proofs.lemmas.Bool.{false≢true, and_parts as both, and_from as both_of}
 use Rattle.std.proofs.lemmas.List.{length-append, length-drop, length-take-le, take-append-drop, length-replicate}
-use Rattle.std.proofs.Math.Nat.{mul-suc, zero-mul}
+use Rattle.std.proofs.Math.Nat.{mul-suc, mul-zero, zero-mul}
 use Rattle.xdr_units.specs.Numbers.{word, long_word, pad, gap, AreBytes}
 use Rattle.xdr_units.proofs.Bytes.{byte_at, AreBytes-take, AreBytes-drop}
 use Rattle.xdr_types.proofs.Content.{are_bytes_of}
@@ -465,3 +465,11 @@ of_fixed kinds place item (suc n) a e within is of by = of_kind kinds place (xdr
     each is_free bs len are =
         let vs = shares.free (sym by.free ∙ is_free) bs len are in
         (value.items (suc n), vs.0, eq-eqb (suc n) (suc n) refl, vs.1, vs.2)
+
+-- the count of bytes of so many items
+pub items_sized : (kinds : List KindView) (item : ℕ) (a : Extent) → IsExtent kinds item a → (n : ℕ) (vs : Values)
+    → fit kinds (replicate n (item_part item)) vs ≡ true
+    → length (spelling kinds (replicate n (item_part item)) vs) ≡ a.bytes * n
+items_sized kinds item a of zero vs f = (no_parts kinds).shares.bytes vs f ∙ sym (mul-zero a.bytes)
+items_sized kinds item a of (suc n) vs f =
+    (many_shares kinds (item_part item) n a (extent (a.bytes * suc n) a.depth a.free) of refl refl refl).bytes vs f

@@ -1,5 +1,5 @@
 //! How many bytes a value has, and whether they are within a limit.
-ghost use Rattle.std.specs.Prelude.{◌≡◌, ◌+◌, ◌<◌, ◌≤◌, ◌↔◌, length, map, replicate, IsTrue, true};
+ghost use Rattle.std.specs.Prelude.{◌≡◌, ◌+◌, ◌*◌, ◌<◌, ◌≤◌, ◌↔◌, length, map, replicate, IsTrue, true};
 ghost use Rattle.xdr_types.specs.Kinds.{kind_at};
 ghost use Rattle.xdr_types.specs.KindViews.{kind_view, part_of_member};
 ghost use Rattle.xdr_types.specs.Fits.{Fits, fits, fit, item_part, parts};
@@ -53,13 +53,18 @@ fn left_after(schema: &Schema, id: KindId, value: &Value, space: u32) -> Option<
     }
 }
 
-// The same, whatever the value is.
+// The same, whatever the value is. A structure whose kind has an extent is not looked into.
 #[cycle(left)]
 #[inline(never)]
 fn left_after_node(schema: &Schema, id: KindId, value: &Value, space: u32) -> Option<u32>
     requires { fits schema.now.kinds id.place (tree value.now) ≡ true }
     ensures { IsLeft space (length (bytes_of schema.now.kinds id.place (tree value.now))) result }
 {
+    if let Value::Group(_) = value {
+        if let Some(extent) = schema.extent(id) {
+            return take(space, extent.bytes);
+        }
+    }
     let kind = schema.kind(id);
     let space = left_after_own(kind, value, space)?;
     left_after_inner(schema, id, kind, value, space)
@@ -125,6 +130,7 @@ fn left_after_inner(
     }
 }
 
+// Items of a kind that has an extent are not looked at.
 #[cycle(left)]
 fn left_after_items(schema: &Schema, id: KindId, items: &Vec<Value>, space: u32) -> Option<u32>
     requires { fit schema.now.kinds (replicate (length items.now.items) (item_part id.place)) (values items.now.items)
@@ -133,6 +139,9 @@ fn left_after_items(schema: &Schema, id: KindId, items: &Vec<Value>, space: u32)
         (length (spelling schema.now.kinds (replicate (length items.now.items) (item_part id.place))
         (values items.now.items))) result }
 {
+    if let Some(extent) = schema.extent(id) {
+        return take_times(space, extent.bytes, items.len());
+    }
     let mut left = space;
     for value in items {
         left = left_after(schema, id, value, left)?;
@@ -166,6 +175,17 @@ fn take(space: u32, count: u32) -> Option<u32>
     } else {
         None
     }
+}
+
+// What is left of the space after so many times this count.
+fn take_times(space: u32, count: u32, times: usize) -> Option<u32>
+    ensures { IsLeft space (count * times) result }
+{
+    let all = u64::from(count).checked_mul(times as u64)?;
+    if all > u64::from(space) {
+        return None;
+    }
+    Some(space - all as u32)
 }
 
 fn take_padded(space: u32, bytes: &Vec<u8>) -> Option<u32>

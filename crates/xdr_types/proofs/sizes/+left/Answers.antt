@@ -1,5 +1,7 @@
 use Rattle.std.proofs.Common.{◌≡◌, ◌<◌, true, rules, length, map, arith, ap, ◌∙◌, List, get_or, subst, Some}
-use Rattle.std.proofs.Common.{[], ◌∷◌, sym}
+use Rattle.std.proofs.Common.{[], ◌∷◌, sym, ℕ, ◌*◌}
+use Rattle.xdr_types.specs.Within.{IsLeft}
+use Rattle.xdr_types.proofs.Extents.{items_sized}
 use Rattle.std.proofs.lemmas.Int.{to_z-of_z}
 use Rattle.xdr_types.specs.Kinds.{KindView, kind_at}
 use Rattle.xdr_types.specs.KindViews.{part_of_member, kind_view}
@@ -12,6 +14,16 @@ use Rattle.xdr_types.proofs.Joining.{values-at, items-at, fields-at, first-fits,
 use Rattle.xdr_types.proofs.Fitting.{fit-count}
 use Rattle.xdr_types.specs.declared.value.Value.{Value, the_lemmas}
 use Rattle.xdr_types.proofs.sizes.+left.Goals as goal
+
+pub left_after_items-returns-in-Some : goal.left_after_items-returns-in-Some
+left_after_items-returns-in-Some t c =
+    let n = length c.args.items.now.items in
+    let sized = items_sized c.args.schema.now.kinds c.args.id.place c.in-Some.extent c.in-Some.ensures n
+    (values c.args.items.now.items) c.requires in
+    let count : c.len.result ≡ n = omega (arith, c.len.ensures, c.args.items.now.ok.0) in
+    subst (λ (k : ℕ). IsLeft c.args.space k c.take_times.result) (sym sized)
+    (subst (λ (k : ℕ). IsLeft c.args.space (c.in-Some.extent.bytes * k) c.take_times.result) count
+    c.take_times.ensures)
 
 pub left_after_items-left_after-requires : goal.left_after_items-left_after-requires
 left_after_items-left_after-requires t c =
