@@ -19,3 +19,4 @@ pub mod Cases
 pub mod InSets
 pub mod Earlier
 pub mod Extents
+pub mod Judging

@@ -6,8 +6,8 @@
 //!
 //! - `kind`, `schema`: kinds, and lists of them that name one another. `value`: values, and their copies. `limits`: on
 //!   depth and bytes.
-//! - `fit`: whether a value is one of a kind and within limits. `depth`, `sizes`: how deep it is and how many bytes it
-//!   has. `choice`: tags and parts of a union. `equal`: `==` of values.
+//! - `fit`: whether a value is one of a kind and within limits. `sizes`: how many bytes it has. `choice`: tags and
+//!   parts of a union. `equal`: `==` of values.
 //! - `faults`, `names`: the first flaw of a kind and of a name. `places`, `tags`, `empty`, `twice`: one flaw each.
 //!   `fault`: flaws, and their places.
 //! - `heights`: which kinds have a finite value. `reach`: which defaults can be reached. `sets`: numbers and cases as
@@ -18,7 +18,6 @@
 #![tactic(auto)]
 
 mod choice;
-mod depth;
 mod empty;
 mod equal;
 mod extent;
