@@ -5,3 +5,5 @@ pub mod Twice
 pub mod Removed
 pub mod Bounds
 pub mod Greatest
+pub mod Columns
+pub mod Takings

@@ -13,7 +13,7 @@ use Rattle.registry_rows.specs.Rows.{is_at, NoneTwice, IsRow, IsRegistry}
 use Rattle.registry_rows.specs.Views.{plain_rows, AreKeyed, AreEntries}
 use Rattle.registry_rows.proofs.Filtered.{length-plain_rows, or_false}
 
-nat_eq-sym : (a b : ℕ) → nat_eq a b ≡ nat_eq b a
+pub nat_eq-sym : (a b : ℕ) → nat_eq a b ≡ nat_eq b a
 nat_eq-sym a b = same_from_decides (nat_eq a b) (nat_eq b a) (Decides-eqb a b)
     (λ e. sym ((Decides-eqb b a).0 e), λ e. (Decides-eqb b a).1 (sym e))
 

@@ -15,7 +15,10 @@ ghost use Rattle.rpc_directory.specs.Private.Own.{set_both};
 
 use crate::ports::any_host;
 use indexmap::IndexMap;
-use registry_rows::{Key, PROGRAM, Row, append, count, find, look_up, remove_all, remove_one};
+use registry_rows::{
+    Key, PROGRAM, Programs, Row, append_beside, count, find, look_up_beside, remove_all_beside,
+    remove_one_beside,
+};
 use registry_uaddr::NoMemory;
 use std::alloc::Global;
 use std::hash::BuildHasher;
@@ -25,18 +28,22 @@ use std::marker::Model;
 #[derive(Drop)]
 pub struct Directory<S: BuildHasher> {
     rows: IndexMap<Key, Row, S>,
+    // The program of each row, side by side.
+    programs: Programs,
 }
 
 impl<S: BuildHasher> Model for Directory<S> {
     ghost use Rattle.std.specs.Prelude.{List};
     ghost use Rattle.registry_rows.specs.Rows.{Row as PlainRow};
     ghost use Rattle.registry_rows.specs.Views.{plain_rows, AreEntries};
+    ghost use Rattle.registry_rows.specs.Columns.{IsColumn};
 
     ghost Value = { List PlainRow };
 
     ghost view = { λ d. plain_rows d.rows.entries };
 
-    ghost invariant = { λ d. AreEntries d.rows.entries };
+    ghost invariant = { λ d. AreEntries d.rows.entries
+        × IsColumn d.programs.items (plain_rows d.rows.entries) };
 }
 
 impl<S: BuildHasher> Directory<S> {
@@ -46,6 +53,7 @@ impl<S: BuildHasher> Directory<S> {
     {
         Directory {
             rows: IndexMap::with_hasher(alloc, hasher),
+            programs: Programs::new(),
         }
     }
 
@@ -123,7 +131,7 @@ impl<S: BuildHasher> Directory<S> {
         ensures row { IfSome result (λ r. IsRow (plain_row r.now)) }
     {
         let rows = &self.rows;
-        look_up(rows, prog, vers, netid)
+        look_up_beside(rows, self.programs.as_slice(), prog, vers, netid)
     }
 
     // Whether there is a row of a program, a version and a netid.
@@ -137,7 +145,7 @@ impl<S: BuildHasher> Directory<S> {
     /// RPCBPROC_GETADDR): the registered one; where that version is not registered, the address of the greatest version
     /// of the program that is registered over the transport; and empty exactly where none is. For a version that is
     /// registered it is one look-up by the key's hash, so what it costs does not grow with the rows, unless the hasher
-    /// puts many keys together; for another it is a pass over all rows besides. It takes no memory.
+    /// puts many keys together; for another it is a pass over the programs of all rows besides. It takes no memory.
     pub fn getaddr(&self, prog: u32, vers: u32, netid: &[u8]) -> &[u8]
         // It is the address that the definition finds,
         ensures value { result.now ≡ looking.getaddr self.now prog vers netid.now }
@@ -194,7 +202,7 @@ impl<S: BuildHasher> Directory<S> {
             address: Vec::from_slice(alloc, address)?,
             owner: Vec::from_slice(alloc, owner)?,
         };
-        append(&mut self.rows, row)?;
+        append_beside(&mut self.rows, &mut self.programs, row)?;
         Ok(true)
     }
 
@@ -222,9 +230,9 @@ impl<S: BuildHasher> Directory<S> {
         ensures refused { result ≡ false → self.new ≡ self.old }
     {
         if netid.is_empty() {
-            remove_all(&mut self.rows, prog, vers, netid, owner)
+            remove_all_beside(&mut self.rows, &mut self.programs, prog, vers, netid, owner)
         } else {
-            remove_one(&mut self.rows, prog, vers, netid, owner)
+            remove_one_beside(&mut self.rows, &mut self.programs, prog, vers, netid, owner)
         }
     }
 }

@@ -5,8 +5,8 @@ use Rattle.registry_rows.specs.Rows.{row_of}
 use Rattle.rpc_directory.proofs.Addable.{addable}
 use Rattle.rpc_directory.proofs.directory.Directory.set.Goals as goal
 
-pub append-requires-clause-row : goal.append-requires-clause-row
-append-requires-clause-row g c =
+pub append_beside-requires-clause-row : goal.append_beside-requires-clause-row
+append_beside-requires-clause-row g c =
     let may = addable _ (row_of c.args.prog c.args.vers c.args.netid.now c.args.address.now [])
     (sym c.may_add.ensures ∙ c.if-not-may_add.false) in
     let netid : c.in_ok-from_slice.field-0.items ≡ c.args.netid.now = c.in_ok-from_slice.ensures.items in

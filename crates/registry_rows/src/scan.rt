@@ -1,0 +1,57 @@
+//! Where a program stands in a column of programs.
+ghost use Rattle.std.specs.Prelude.{◌≡◌, ◌+◌, ◌≤◌, length, drop, map, nat_eq};
+ghost use Rattle.std.specs.List.{prefix_len};
+ghost use Rattle.std.specs.Simd.Lanes.{mask_l};
+ghost use Rattle.registry_rows.specs.Columns.{is_other};
+
+use std::simd::prelude::*;
+
+/// Which of sixteen programs are this one, a bit for each, the first lowest.
+#[inline(always)]
+fn marks(programs: u32x16, prog: u32) -> u64
+    ensures { result ≡ mask_l (map (λ p. nat_eq p prog) programs) }
+{
+    programs.simd_eq(u32x16::splat(prog)).to_bitmask()
+}
+
+/// The same as `next_place`, a program at a time.
+#[inline(always)]
+fn next_slowly(column: &[u32], prog: u32, from: usize) -> usize
+    requires { from ≤ length column.now }
+    ensures { result ≡ from + prefix_len (is_other prog) (drop from column.now) }
+{
+    let mut at = from;
+    while at < column.len() && column[at] != prog {
+        at += 1;
+    }
+    at
+}
+
+/// The same, sixteen programs at a time.
+#[inline(always)]
+fn next_marked(column: &[u32], prog: u32, from: usize) -> usize
+    requires { from ≤ length column.now }
+    ensures { result ≡ from + prefix_len (is_other prog) (drop from column.now) }
+{
+    let mut at = from;
+    while column.len() - at >= 16 {
+        let found = marks(u32x16::from_slice(&column[at..]), prog);
+        if found != 0 {
+            return at + found.trailing_zeros() as usize;
+        }
+        at += 16;
+    }
+    next_slowly(column, prog, at)
+}
+
+/// The first place from one on where the program stands, or the end of the column. Rows of a program are often set one
+/// after another, so the next place is looked at alone.
+pub fn next_place(column: &[u32], prog: u32, from: usize) -> usize
+    requires { from ≤ length column.now }
+    ensures { result ≡ from + prefix_len (is_other prog) (drop from column.now) }
+{
+    if from < column.len() && column[from] == prog {
+        return from;
+    }
+    next_marked(column, prog, from)
+}
