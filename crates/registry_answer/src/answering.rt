@@ -153,8 +153,8 @@ fn push_call<S: BuildHasher>(
     ensures err { OnErr result (directory.new ≡ directory.old) }
     ensures begins { StartsWith out.new.items out.old.items }
 {
-    match caller_of(alloc, &call.cred) {
-        Ok(Caller::Owner(owner)) => {
+    match caller_of(&call.cred) {
+        Caller::Owner(owner) => {
             let asked = Asked {
                 transport,
                 owner,
@@ -162,8 +162,7 @@ fn push_call<S: BuildHasher>(
             };
             push_sendable(alloc, directory, &asked, out)
         }
-        Ok(Caller::Refused(stat)) => append_denial(out, call.xid, Why::AuthError(stat)),
-        Err(_) => Err(NoMemory),
+        Caller::Refused(stat) => append_denial(out, call.xid, Why::AuthError(stat)),
     }
 }
 

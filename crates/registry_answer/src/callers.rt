@@ -1,14 +1,13 @@
 //! Who calls.
-ghost use Rattle.std.specs.Prelude.{◌≡◌, ◌≤◌, length, IfOk};
+ghost use Rattle.std.specs.Prelude.{◌≡◌, ◌≤◌, length};
 ghost use Rattle.rpc_message.specs.View.{lent_view};
 ghost use Rattle.registry_answer.specs.Callers.{IsCaller};
 ghost use Rattle.registry_answer.specs.Owners.{owner_text, caller_view};
 
 use itoa::Buffer;
 use rpc_message::{
-    AUTH_BADCRED, AUTH_NONE, AUTH_REJECTEDCRED, AUTH_SYS, LentAuth, NoMemory, read_auth_sys,
+    AUTH_BADCRED, AUTH_NONE, AUTH_REJECTEDCRED, AUTH_SYS, LentAuth, read_auth_sys_uid,
 };
-use std::alloc::Global;
 
 /// The owner of the rows that a caller sets.
 #[derive(Clone, Copy)]
@@ -43,16 +42,16 @@ impl Owner {
 }
 
 /// The caller that a credential names: AUTH_NONE with any body, or AUTH_SYS with a body that reads (RFC 5531 sections
-/// 8.2, 9 and appendix A). Memory is taken for AUTH_SYS alone.
-pub fn caller_of(alloc: Global, cred: &LentAuth<'_>) -> Result<Caller, NoMemory>
-    ensures { IfOk result (λ r. IsCaller (lent_view cred.now) (caller_view r)) }
+/// 8.2, 9 and appendix A). It takes no memory.
+pub fn caller_of(cred: &LentAuth<'_>) -> Caller
+    ensures { IsCaller (lent_view cred.now) (caller_view result) }
 {
     match cred.flavor {
-        AUTH_NONE => Ok(Caller::Owner(Owner::Unknown)),
-        AUTH_SYS => match read_auth_sys(alloc, cred.body)? {
-            Some(user) => Ok(Caller::Owner(Owner::User(user.uid))),
-            None => Ok(Caller::Refused(AUTH_BADCRED)),
+        AUTH_NONE => Caller::Owner(Owner::Unknown),
+        AUTH_SYS => match read_auth_sys_uid(cred.body) {
+            Some(uid) => Caller::Owner(Owner::User(uid)),
+            None => Caller::Refused(AUTH_BADCRED),
         },
-        _ => Ok(Caller::Refused(AUTH_REJECTEDCRED)),
+        _ => Caller::Refused(AUTH_REJECTEDCRED),
     }
 }

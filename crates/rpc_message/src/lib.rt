@@ -4,6 +4,7 @@
 //! - `message` has the values, `fault` why bytes are no reply, `numbers` what RFC 5531 calls the numbers.
 //! - `calls`, `replies` and `credentials` read and write a call, a reply and the body of AUTH_SYS; `fields` has the
 //!   parts of which these are made.
+//! - `uid` reads the uid of such a body alone, without memory.
 //! - `heads` writes replies word by word, where there is no memory for a value.
 //! - `laws` are theorems about the definitions.
 #![tactic(auto)]
@@ -17,6 +18,7 @@ mod laws;
 mod message;
 mod numbers;
 mod replies;
+mod uid;
 
 pub use calls::{read_call, read_lent_call, write_call};
 pub use credentials::{read_auth_sys, write_auth_sys};
@@ -32,4 +34,5 @@ pub use numbers::{
     RPC_MISMATCH, RPC_VERSION, SUCCESS, SYSTEM_ERR,
 };
 pub use replies::{append_reply, read_reply, write_reply};
+pub use uid::read_auth_sys_uid;
 pub use xdr_units::NoMemory;
