@@ -3,3 +3,4 @@ pub mod Back
 pub mod Chain
 pub mod Octets
 pub mod Digits
+pub mod Fronts

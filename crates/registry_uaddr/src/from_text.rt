@@ -1,5 +1,5 @@
 //! Universal addresses out of texts. Nothing here takes memory.
-ghost use Rattle.std.specs.Prelude.{◌≡◌, ◌∷◌, [], ℕ, List, Option, Some, IfSome, IfNone, length, slice_index};
+ghost use Rattle.std.specs.Prelude.{◌≡◌, ◌≤◌, ◌∷◌, [], ℕ, List, Option, Some, IfSome, IfNone, length, slice_index};
 ghost use Rattle.std.specs.Int.{IsInRange};
 ghost use Rattle.registry_uaddr.specs.declared.address.Uaddr.{Uaddr as PlainUaddr};
 ghost use Rattle.registry_uaddr.specs.Uaddrs.{uaddr_of, uaddr_text, IsUaddr, octet, octets};
@@ -38,7 +38,57 @@ fn read_numbers(text: &[u8]) -> Option<Uaddr>
 }
 
 /// The number before the first dot, and the text after that dot.
+#[inline(always)]
 fn first_octet(text: &[u8]) -> Option<(u8, &[u8])>
+    ensures found { IfSome result (λ r. octets text.now ≡ Some r.0 ∷ octets r.1.now) }
+    ensures none { IfNone result
+        ((n : ℕ) (m : Option ℕ) (ns : List (Option ℕ)) → octets text.now ≡ Some n ∷ m ∷ ns → ⊥) }
+{
+    match short_front(text) {
+        Some(front) => Some(front),
+        None => any_front(text),
+    }
+}
+
+/// The same for a number of one to three digits without a leading zero and the dot behind it, where these are read.
+#[inline(always)]
+#[tactic(auto, using(crate::proofs::Fronts::one_front, crate::proofs::Fronts::two_front))]
+fn short_front(text: &[u8]) -> Option<(u8, &[u8])>
+    ensures { IfSome result (λ r. octets text.now ≡ Some r.0 ∷ octets r.1.now) }
+{
+    match text {
+        [a @ b'0'..=b'9', b'.', rest @ ..] => Some((*a - 48, rest)),
+        [a @ b'1'..=b'9', b @ b'0'..=b'9', b'.', rest @ ..] => {
+            Some(((*a - 48) * 10 + (*b - 48), rest))
+        }
+        [b'1'..=b'2', b'0'..=b'9', b'0'..=b'9', b'.', ..] => long_front(text),
+        _ => None,
+    }
+}
+
+/// The same for three digits, the first 1 or 2.
+#[inline(always)]
+#[tactic(auto, using(crate::proofs::Fronts::three_front))]
+fn long_front(text: &[u8]) -> Option<(u8, &[u8])>
+    requires four { 4 ≤ length text.now }
+    requires first { IsInRange 49 50 (slice_index text.now 0) }
+    requires second { IsInRange 48 57 (slice_index text.now 1) }
+    requires third { IsInRange 48 57 (slice_index text.now 2) }
+    requires dot { slice_index text.now 3 ≡ 46 }
+    ensures { IfSome result (λ r. octets text.now ≡ Some r.0 ∷ octets r.1.now) }
+{
+    let (high, middle, low) = (text[0] - 48, text[1] - 48, text[2] - 48);
+    let number = u16::from(high) * 100 + u16::from(middle) * 10 + u16::from(low);
+    if number < 256 {
+        Some((number as u8, &text[4..]))
+    } else {
+        None
+    }
+}
+
+/// The same for any text.
+#[inline(never)]
+fn any_front(text: &[u8]) -> Option<(u8, &[u8])>
     ensures found { IfSome result (λ r. octets text.now ≡ Some r.0 ∷ octets r.1.now) }
     ensures none { IfNone result
         ((n : ℕ) (m : Option ℕ) (ns : List (Option ℕ)) → octets text.now ≡ Some n ∷ m ∷ ns → ⊥) }
