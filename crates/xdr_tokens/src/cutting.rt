@@ -1,6 +1,6 @@
 //! The tokens of a text, cut from its front one by one.
 ghost use Rattle.std.specs.Prelude.{◌≡◌, MatchOption, None, Some, ◌<◌, ◌≤◌, length, IfOk, OnOk, IfErr, List, [], ◌++◌};
-ghost use Rattle.std.specs.Prelude.{option_map};
+ghost use Rattle.std.specs.Prelude.{option_map, IfSome};
 ghost use Rattle.xdr_tokens.specs.Tokens.{Lexeme, lexeme, lexemes};
 ghost use Rattle.xdr_tokens.specs.Due.{Gives};
 ghost use Rattle.xdr_tokens.specs.Refusals.{IsTokenFault, wrong_number};
@@ -83,6 +83,17 @@ fn numeral(text: &[u8], len: usize) -> Result<(Option<Token<'_>>, &[u8]), Fault>
     }
 }
 
+/// What follows white space in front.
+#[tactic(auto, unfolding(crate::specs::Private::Front::piece_at))]
+fn after_blank(text: &[u8]) -> Option<&[u8]>
+    ensures { IfSome result (λ rest. piece_at text.now ≡ Some (None, rest.now)) }
+{
+    match text {
+        [first, others @ ..] if space(*first) => Some(others),
+        _ => None,
+    }
+}
+
 /// The token in front, or none at white space and comments, and what follows.
 #[tactic(auto, unfolding(crate::specs::Private::Front::piece_at))]
 fn piece(text: &[u8]) -> Result<(Option<Token<'_>>, &[u8]), Fault>
@@ -146,6 +157,10 @@ pub fn tokens(alloc: Global, text: &[u8]) -> Result<Vec<Token<'_>>, Fault>
     let mut found = Vec::with_capacity(alloc, text.len() / 8)?;
     let mut rest = text;
     while !rest.is_empty() {
+        if let Some(after) = after_blank(rest) {
+            rest = after;
+            continue;
+        }
         let (token, after) = piece(rest)?;
         keep(&mut found, token)?;
         rest = after;

@@ -1,4 +1,4 @@
-use Rattle.std.proofs.Common.{◌≡◌, ◌<◌, List, [], ◌++◌, length, subst, ap, ◌∙◌, arith, option_map, Some}
+use Rattle.std.proofs.Common.{◌≡◌, ◌<◌, List, [], ◌++◌, length, subst, ap, ◌∙◌, arith, option_map, None, Some}
 use Rattle.std.proofs.lemmas.Result.{err_from_is_err_and}
 use Rattle.std.proofs.lemmas.List.{append-nil}
 use Rattle.std.proofs.lemmas.Grind.{common_steps}
@@ -67,3 +67,22 @@ returns-in_err-token-clause-refused c =
     let p = err_from_is_err_and c.from_residual-in_err-token.result c.from_residual-in_err-token.ensures.1 in
     rw (p.1, p.2) (fault_within c.in_err-token.field-0.0 c.loop-rest.rest.now c.args.text.now
     c.loop-rest.invariant.within c.in_err-token.ensures.refused)
+
+pub loop-rest-preserved-in-Some : goal.loop-rest-preserved-in-Some
+loop-rest-preserved-in-Some c =
+    let rest = c.loop-rest.rest.now in
+    let lt : 0 < length rest = grind (arith, common_steps) in
+    let front = lexemes c.loop-rest.found.items in
+    let after = c.in-Some.after.now in
+    let less = shorter rest (None, after) c.in-Some.ensures in
+    record {
+      sound = λ ts t. c.loop-rest.invariant.sound ts (more_tokens rest (None, after) c.in-Some.ensures ts t);
+      complete = λ ts t.
+          let o = c.loop-rest.invariant.complete ts t in
+          let l = less_tokens rest (None, after) lt c.in-Some.ensures o.0 o.1 in
+          (l.0, l.1, o.2 ∙ ap (λ (x : List Lexeme). front ++ x) l.2);
+      within = omega (arith, less, c.loop-rest.invariant.within);
+    }
+
+pub loop-rest-smaller-in-Some : goal.loop-rest-smaller-in-Some
+loop-rest-smaller-in-Some c = shorter c.loop-rest.rest.now (None, c.in-Some.after.now) c.in-Some.ensures
