@@ -1,7 +1,10 @@
 -- What a table of names holds, as it grows and as it is asked.
 use Rattle.std.proofs.Common.{◌≡◌, ◌≤◌, ◌<◌, ◌+◌, ℕ, zero, suc, ℤ, Bool, true, false, cond, nat_lt, List, [], ◌∷◌}
 use Rattle.std.proofs.Common.{◌++◌, length, take, Option, Some, None, is_some, refl, sym, ap, subst, ◌∙◌}
-use Rattle.std.proofs.Common.{arith, inl, inr}
+use Rattle.std.proofs.Common.{arith, inl, inr, ◌||◌, map}
+use Rattle.std.proofs.Math.Bool.{or-false, or_assoc}
+use Rattle.std.proofs.lemmas.List.{append_assoc, append-nil}
+use Rattle.std.specs.List.{list_any}
 use Rattle.std.proofs.lemmas.Bool.{lt-ltb, le-ltb, cases_Bool as test}
 use Rattle.std.specs.BTreeMap.{BTreeMap, Updates, IsUnchanged, IsEmpty, is_at}
 use Rattle.std.specs.Map.{lookup}
@@ -12,10 +15,12 @@ use Rattle.std.specs.Str.{bytes_eq}
 use Rattle.std.proofs.lemmas.Map.Text.{is_eq-slice_cmp}
 use Rattle.std.proofs.lemmas.Slice.Eq.{bytes_eq-Decides}
 use denote.Ref.{Bor}
-use Rattle.xdr_types.proofs.Apart.{texts_cmp as names_cmp}
+use Rattle.xdr_types.proofs.Apart.{texts_cmp as names_cmp, bytes_eq-sym}
 use Rattle.xdr_tokens.specs.Options.{◌>>=◌}
+use Rattle.xdr_tokens.proofs.Options.{some_is_not}
 use Rattle.xdr_constants.specs.Constants.{Known, known}
 use Rattle.xdr_constants.specs.Tables.{at_name, first_named, HasFirst}
+use Rattle.xdr_constants.specs.Names.{repeat_after}
 
 -- ---- one more name in a map
 
@@ -177,3 +182,35 @@ known_before m ks q before has =
     let z : before ≡ 0 + before = omega arith in
     ap (λ (o : Option (ℕ × ℤ × Bool)). o >>= within before) (has.finds q)
     ∙ ap (λ (p : ℕ). first_named q 0 ks >>= within p) z ∙ sym (known_within q ks 0 before)
+
+-- ---- names that are there once
+
+none_named : (n : List ℕ) (ks : List Known) (i : ℕ) → first_named n i ks ≡ None
+    → list_any (bytes_eq n) (map (λ (k : Known). k.name) ks) ≡ false
+unfolding first_named
+none_named n [] i e = refl
+none_named n (k ∷ ks) i e =
+    elim (test (bytes_eq k.name n)) [
+      | inl on ↦ absurd (some_is_not (i, k.value, k.by_const) (rw on at e))
+      | inr off ↦ rw (bytes_eq-sym n k.name, off) (none_named n ks (suc i) (rw off at e))
+    ]
+
+-- a map that has nothing at a name, where no constant has it
+pub has_no_other : (m : BTreeMap (Bor (List ℕ)) (ℕ × ℤ × Bool)) (ks : List Known) (n : List ℕ) → HasFirst m ks
+    → is_some (at_name n m) ≡ false → list_any (bytes_eq n) (map (λ (k : Known). k.name) ks) ≡ false
+has_no_other m ks n has not = none_named n ks 0 (sym (has.finds n) ∙ none_from (at_name n m) not)
+
+append_one : (b : List (List ℕ)) (x : List ℕ) (xs : List (List ℕ)) → (b ++ x ∷ []) ++ xs ≡ b ++ x ∷ xs
+append_one b x xs = append_assoc b (x ∷ []) xs
+
+-- one more name
+pub repeat_more : (b ns : List (List ℕ)) (n : List ℕ)
+    → repeat_after b (ns ++ n ∷ []) ≡ (repeat_after b ns || list_any (bytes_eq n) (b ++ ns))
+unfolding repeat_after
+repeat_more b [] n = rw append-nil (or-false (list_any (bytes_eq n) b))
+repeat_more b (x ∷ xs) n =
+    ap (λ (t : Bool). list_any (bytes_eq x) b || t)
+    (repeat_more (b ++ x ∷ []) xs n
+    ∙ ap (λ (ys : List (List ℕ)). repeat_after (b ++ x ∷ []) xs || list_any (bytes_eq n) ys) (append_one b x xs))
+    ∙ sym (or_assoc (list_any (bytes_eq x) b) (repeat_after (b ++ x ∷ []) xs)
+    (list_any (bytes_eq n) (b ++ x ∷ xs)))

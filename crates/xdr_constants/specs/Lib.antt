@@ -4,3 +4,4 @@ pub use Rattle.xdr_grammar.specs.Outline
 pub mod Constants
 pub mod Views
 pub mod Tables
+pub mod Names

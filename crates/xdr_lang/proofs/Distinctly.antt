@@ -1,5 +1,7 @@
 -- A meaning with distinct names, in its parts.
-use Rattle.std.proofs.Common.{◌≡◌, inl, inr, false, Option, Some, None, refl, sym, ap, ◌∙◌}
+use Rattle.std.proofs.Common.{◌≡◌, ℕ, inl, inr, Bool, true, false, cond, List, [], ◌∷◌, ◌++◌, map}
+use Rattle.std.proofs.Common.{Option, Some, None, refl, sym, ap, ◌∙◌}
+use Rattle.std.specs.Prelude.{codes}
 use Rattle.std.proofs.Common.{Result, Ok, Err, IfOk}
 use Rattle.xdr_tokens.specs.declared.fault.Fault.{Fault}
 use Rattle.xdr_tokens.specs.declared.fault.Fault.TheVariants as fault
@@ -7,14 +9,15 @@ use Rattle.xdr_tokens.specs.Due.{RefusesRightly}
 use Rattle.xdr_tokens.proofs.Options.{chosen}
 use Rattle.xdr_types.specs.Faults.{IsWellFormed}
 use Rattle.xdr_types.specs.Sound.{IsSound}
-use Rattle.xdr_grammar.specs.Outline.{Outline}
+use Rattle.xdr_grammar.specs.Outline.{Outline, Entry, Field, Program}
+use Rattle.xdr_constants.specs.Constants.{Known, numbers}
 use Rattle.xdr_lang.specs.Declarations.{Declared}
-use Rattle.xdr_lang.specs.Distinct.{has_twice}
+use Rattle.xdr_lang.specs.Distinct.{has_twice, names_repeat, declared_names}
 use Rattle.xdr_lang.specs.Means.{IsMeant}
 use Rattle.xdr_lang.specs.Views.{declared_of}
 use Rattle.xdr_lang.specs.declared.declarations.Declared.{Declared as Made}
 use Rattle.xdr_lang.specs.Meaning.{meaning}
-use Rattle.xdr_lang.specs.Private.Meaning.{distinct_meaning}
+use Rattle.xdr_lang.specs.Private.Meaning.{distinct_meaning, meaning_with}
 
 none_is_not : {A : Type 0} (x : A) → None ≡ Some x → ⊥
 none_is_not x e = absurd cc
@@ -44,3 +47,30 @@ pub fails_on : {A : Type 0} (e f : Fault) (due : Option A) (d : A) → due ≡ S
     → (e ≡ fault.NoMemory → f ≡ fault.NoMemory) → RefusesRightly f (Some d)
 fails_on fault.NoMemory f due d is h reported = rw (reported refl) tt
 fails_on (fault.Refused wrong left) f due d is h reported = absurd (none_is_not d (sym h ∙ is))
+
+-- ---- in the order of the code
+
+none_anyway : {A : Type 0} (b : Bool) (o : Option A) → o ≡ None → cond b None o ≡ None
+none_anyway true o e = refl
+none_anyway false o e = e
+
+-- where the numbers of constants are refused, there is no meaning
+pub no_numbers : (e : Fault) (o : Outline) → RefusesRightly e (numbers o.constants [])
+    → RefusesRightly e (distinct_meaning o)
+unfolding distinct_meaning meaning
+no_numbers fault.NoMemory o r = tt
+no_numbers (fault.Refused wrong left) o r = none_anyway (has_twice o) (meaning o) (rw r refl)
+
+-- where no name is there twice, the meaning is that with the constants and types
+pub once : (o : Outline) (ks : List Known) (ts : List Field) → numbers o.constants [] ≡ Some ks → ts ≡ o.types
+    → has_twice o ≡ false → distinct_meaning o ≡ meaning_with ks ts o
+unfolding distinct_meaning meaning meaning_with
+once o ks ts e t h = rw (h, e, t) refl
+
+-- the names of what is declared
+pub declared_once : (o : Outline) (ns : List (List ℕ)) (ts : List Field) (ps : List Program)
+    → ns ≡ map (λ (e : Entry). e.name) o.constants → ts ≡ o.types → ps ≡ o.programs
+    → names_repeat (((codes "TRUE" ∷ codes "FALSE" ∷ ns) ++ map (λ (t : Field). t.name) ts)
+    ++ map (λ (p : Program). p.name) ps) ≡ false
+    → names_repeat (declared_names o) ≡ false
+declared_once o ns ts ps a b c h = rw (← a, ← b, ← c) h

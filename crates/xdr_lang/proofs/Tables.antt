@@ -20,7 +20,8 @@ use Rattle.xdr_constants.proofs.Tables.{restored}
 use Rattle.xdr_constants.proofs.Tables.{same_text}
 use Rattle.xdr_lang.specs.LookUp.{type_named, place_with, named_place}
 use Rattle.xdr_lang.specs.Private.Tables.{HasParts, IsPlacedAt, HasPlaces, HasNoPlaces}
-use Rattle.xdr_lang.specs.Private.Tables.{IsIn, leads_into, stays_in, all_stay}
+use Rattle.xdr_lang.specs.Private.Tables.{IsIn, leads_into, stays_in, all_stay, type_names}
+use Rattle.xdr_lang.proofs.Sharing.{type_any}
 use Rattle.xdr_lang.proofs.Sets.{names_cmp}
 
 -- ---- types
@@ -77,6 +78,13 @@ earlier_part m n o ts t key v w has same u r e =
     record {
       finds = λ q. ap (λ (x : Option Part). option_map part_of x) (restored m n o key v w u r e q) ∙ all.finds q;
     }
+
+-- a map that has nothing at a name, where no type has it
+pub has_no_other : (m : BTreeMap (Bor (List ℕ)) Part) (ts : List out.Field) (n : List ℕ) → HasParts m ts
+    → is_some (at_name n m) ≡ false → list_any (bytes_eq n) (type_names ts) ≡ false
+has_no_other m ts n has not =
+    sym (type_any n ts) ∙ ap (λ (o : Option out.Part). is_some o) (sym (has.finds n))
+    ∙ is_some-map part_of (at_name n m) ∙ not
 
 -- ---- places
 

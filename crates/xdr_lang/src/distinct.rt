@@ -74,7 +74,7 @@ fn many_repeat(alloc: Global, names: &[Name<'_>]) -> Result<bool, AllocError>
 }
 
 /// Some name is there twice.
-fn names_repeat(alloc: Global, names: &[Name<'_>]) -> Result<bool, AllocError>
+pub fn names_repeat(alloc: Global, names: &[Name<'_>]) -> Result<bool, AllocError>
     ensures { IfOk result (λ b. b ≡ names_repeat (texts names.now)) }
 {
     if names.len() <= FEW {
@@ -253,13 +253,26 @@ fn declared_names<'a>(alloc: Global, outline: &Outline<'a>) -> Result<Vec<Name<'
     Ok(names)
 }
 
-/// Some name, number of a procedure, or pair of a program's and a version's number is there twice.
+/// Some name of constants, types and programs is there twice. They may be known to be apart.
+fn declared_repeat(alloc: Global, outline: &Outline<'_>, apart: bool) -> Result<bool, AllocError>
+    requires { apart ≡ true → names_repeat (declared_names (outline_of outline.now)) ≡ false }
+    ensures { IfOk result (λ b. b ≡ names_repeat (declared_names (outline_of outline.now))) }
+{
+    if apart {
+        return Ok(false);
+    }
+    let names = declared_names(alloc, outline)?;
+    names_repeat(alloc, &names)
+}
+
+/// Some name, number of a procedure, or pair of a program's and a version's number is there twice. The names of
+/// constants, types and programs may be known to be apart.
 #[tactic(auto, unfolding(crate::specs::Distinct::has_twice))]
-pub fn has_twice(alloc: Global, outline: &Outline<'_>) -> Result<bool, AllocError>
+pub fn has_twice(alloc: Global, outline: &Outline<'_>, apart: bool) -> Result<bool, AllocError>
+    requires { apart ≡ true → names_repeat (declared_names (outline_of outline.now)) ≡ false }
     ensures { IfOk result (λ b. b ≡ has_twice (outline_of outline.now)) }
 {
-    let names = declared_names(alloc, outline)?;
-    if names_repeat(alloc, &names)? {
+    if declared_repeat(alloc, outline, apart)? {
         return Ok(true);
     }
     if kinds_repeat(alloc, &outline.drafts)? {

@@ -3,11 +3,12 @@
 //! - `text`: the public call, `read`; `declarations`: what it gives; `laws`: what follows from a text's meaning
 //! - `meaning`: what an outline means, by `distinct` (no name or number twice, of `names`), `kinds`, `lists` and
 //!   `programs`
-//! - `places`, `type_table`: the kinds that the names of types stand for
+//! - `places`, `type_table`: the kinds that the names of types stand for; `apart`: names that these tables know apart
 //! - `lang_fault`: why a text is refused, with its line and column
 //! - `first_fault`, `noted`, `type_names`: which fault of names and numbers stands first; `schema_fault`: a schema's
 #![tactic(auto)]
 
+mod apart;
 mod declarations;
 mod distinct;
 mod first_fault;

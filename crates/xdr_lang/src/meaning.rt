@@ -7,10 +7,12 @@ ghost use Rattle.xdr_types.specs.Sound.{IsSound};
 ghost use Rattle.xdr_types.specs.declared.fault.Flaw.TheVariants as flaw;
 ghost use Rattle.xdr_lang.specs.Declarations.{Declared as DeclaredSpec};
 ghost use Rattle.xdr_lang.specs.Meaning.{meaning};
-ghost use Rattle.xdr_lang.specs.Private.Meaning.{distinct_meaning};
+ghost use Rattle.xdr_constants.specs.Views.{knowns};
+ghost use Rattle.xdr_lang.specs.Private.Meaning.{distinct_meaning, meaning_with};
 ghost use Rattle.xdr_lang.specs.Means.{IsMeant};
-ghost use Rattle.xdr_lang.specs.Views.{declared_of, listed_of};
+ghost use Rattle.xdr_lang.specs.Views.{declared_of, listed_of, types_of};
 
+use crate::apart::are_apart;
 use crate::declarations::{Declared, Program};
 use crate::distinct::has_twice;
 use crate::first_fault::first_fault;
@@ -18,10 +20,10 @@ use crate::kinds::all_kinds;
 use crate::lists::{all_constants, all_types};
 use crate::programs::all_programs;
 use crate::schema_fault::schema_fault;
-use crate::type_table::type_table;
+use crate::type_table::{TypeTable, type_table};
 use std::alloc::Global;
 use std::string::String;
-use xdr_constants::numbers;
+use xdr_constants::{ConstantTable, numbers};
 use xdr_grammar::Outline;
 use xdr_tokens::{Fault, Wrong};
 use xdr_types::{Kind, KindId, Schema};
@@ -35,16 +37,20 @@ struct Listed {
     programs: Vec<Program>,
 }
 
-/// What an outline declares, with what its names stand for.
-#[tactic(auto, unfolding(crate::specs::Meaning::meaning))]
-fn resolved(alloc: Global, outline: &Outline<'_>) -> Result<Listed, Fault>
-    ensures { Gives listed_of result (meaning (outline_of outline.now)) }
+/// What an outline declares, with what the names of its constants and types stand for.
+#[tactic(auto, unfolding(crate::specs::Private::Meaning::meaning_with))]
+fn resolved(
+    alloc: Global,
+    known: &ConstantTable<'_>,
+    types: &TypeTable<'_>,
+    outline: &Outline<'_>,
+) -> Result<Listed, Fault>
+    ensures { Gives listed_of result
+        (meaning_with (knowns known.now.list.items) (types_of types.now.list.items) (outline_of outline.now)) }
 {
-    let known = numbers(alloc, &outline.constants)?;
-    let types = type_table(alloc, &outline.types)?;
-    let kinds = all_kinds(alloc, &known, &types, &outline.drafts)?;
-    let names = all_types(alloc, &types)?;
-    let programs = all_programs(alloc, &types, &outline.programs)?;
+    let kinds = all_kinds(alloc, known, types, &outline.drafts)?;
+    let names = all_types(alloc, types)?;
+    let programs = all_programs(alloc, types, &outline.programs)?;
     let constants = all_constants(alloc, &known.list)?;
     Ok(Listed {
         kinds,
@@ -59,13 +65,16 @@ fn resolved(alloc: Global, outline: &Outline<'_>) -> Result<Listed, Fault>
 fn resolved_once(alloc: Global, outline: &Outline<'_>) -> Result<Listed, Fault>
     ensures { Gives listed_of result (distinct_meaning (outline_of outline.now)) }
 {
-    if has_twice(alloc, outline)? {
+    let known = numbers(alloc, &outline.constants)?;
+    let types = type_table(alloc, &outline.types)?;
+    let apart = are_apart(alloc, &known, &types, &outline.programs)?;
+    if has_twice(alloc, outline, apart)? {
         return Err(Fault::Refused {
             wrong: Wrong::NameTwice,
             left: 0,
         });
     }
-    resolved(alloc, outline)
+    resolved(alloc, &known, &types, outline)
 }
 
 /// Builds the schema.

@@ -1,59 +1,70 @@
 //! The types, what each name is declared as, and the places of kinds that are known.
-ghost use Rattle.std.specs.Prelude.{◌≡◌, true, Some, None, List, [], ◌∷◌, ◌++◌, option_map, IfOk, IfSome, OnOk};
+ghost use Rattle.std.specs.Prelude.{◌≡◌, true, false, Some, None, List, [], ◌∷◌, ◌++◌, option_map, IfOk, IfSome, OnOk};
+ghost use Rattle.std.specs.List.{list_any};
+ghost use Rattle.std.specs.Str.{bytes_eq};
 ghost use Rattle.xdr_grammar.specs.Outline as out;
 ghost use Rattle.xdr_grammar.specs.View.{part_of, field_of};
+ghost use Rattle.xdr_lang.specs.Distinct.{repeats};
 ghost use Rattle.xdr_lang.specs.LookUp.{type_named, place_of};
 ghost use Rattle.xdr_lang.specs.Views.{types_of};
 ghost use Rattle.xdr_lang.specs.Private.Tables.{HasParts, HasPlaces, HasNoPlaces, IsPlacedAt, stays_in};
-ghost use Rattle.xdr_lang.specs.Private.Tables.{all_stay, is_in};
+ghost use Rattle.xdr_lang.specs.Private.Tables.{all_stay, is_in, type_names};
 
 use crate::places::{basic_place, own_place, struct_place};
 use std::alloc::{AllocError, Global};
 use std::collections::{BTreeMap, BTreeSet};
 use xdr_grammar::{Field, Part};
 
-/// The types, and for each name what the first type with that name is declared as. `places` has the
-/// places of kinds that names stand for, as far as they are known, and through how many names. The names
-/// of `endless` lead to one another alone, and so to no place.
+/// The types in text order, and what the first with each name is declared as. `places` has the places that names stand
+/// for, as far as they are known, and through how many names. The names of `endless` lead to one another alone. `apart`
+/// is false where a name came again.
 #[derive(Drop)]
 pub struct TypeTable<'a> {
-    /// The types, in text order.
     pub list: Vec<Field<'a>>,
     parts: BTreeMap<&'a str, Part<'a>>,
     places: BTreeMap<&'a str, (u32, usize)>,
     endless: BTreeSet<&'a str>,
+    apart: bool,
     ghost has_parts: { HasParts parts (types_of list.items) },
     ghost has_places: { HasPlaces places (types_of list.items) },
     ghost has_none: { HasNoPlaces endless (types_of list.items) },
+    ghost are_apart: { apart ≡ true → repeats bytes_eq [] (type_names (types_of list.items)) ≡ false },
 }
 
-/// Keeps what the type is declared as, where it is the first with its name. What an earlier one is declared as
-/// comes out, and is put back.
+/// Keeps what the type is declared as, where it is the first with its name, and tells whether it is. What an earlier
+/// one is declared as comes out, and is put back.
 fn keep_part<'a>(
     parts: &mut BTreeMap<&'a str, Part<'a>>,
     field: &Field<'a>,
-) -> Result<(), AllocError>
-    ensures { (ts : List out.Field) → HasParts parts.old ts
+) -> Result<bool, AllocError>
+    ensures retained { (ts : List out.Field) → HasParts parts.old ts
         → OnOk result (HasParts parts.new (ts ++ field_of field.now ∷ [])) }
+    // Where it is the first, no other has its name.
+    ensures alone { (ts : List out.Field) → HasParts parts.old ts
+        → IfOk result (λ b. b ≡ true → list_any (bytes_eq (field_of field.now).name) (type_names ts) ≡ false) }
 {
     if let Some(earlier) = parts.insert(field.name.text, field.part)? {
         parts.insert(field.name.text, earlier)?;
+        return Ok(false);
     }
-    Ok(())
+    Ok(true)
 }
 
-/// What each name is declared as first.
+/// What each name is declared as first. False where a name came again.
 fn parts_of<'a>(
     alloc: Global,
     types: &[Field<'a>],
-) -> Result<BTreeMap<&'a str, Part<'a>>, AllocError>
-    ensures { IfOk result (λ m. HasParts m (types_of types.now)) }
+) -> Result<(BTreeMap<&'a str, Part<'a>>, bool), AllocError>
+    ensures parts { IfOk result (λ x. HasParts x.0 (types_of types.now)) }
+    ensures apart { IfOk result (λ x. x.1 ≡ true → repeats bytes_eq [] (type_names (types_of types.now)) ≡ false) }
 {
     let mut parts = BTreeMap::new(alloc);
+    let mut apart = true;
     for field in types {
-        keep_part(&mut parts, field)?;
+        let is_first = keep_part(&mut parts, field)?;
+        apart = apart && is_first;
     }
-    Ok(parts)
+    Ok((parts, apart))
 }
 
 /// The same types.
@@ -200,6 +211,13 @@ impl<'a> TypeTable<'a> {
         }
     }
 
+    /// Each type has a name of its own.
+    pub fn are_apart(&self) -> bool
+        ensures { result ≡ true → repeats bytes_eq [] (type_names (types_of self.now.list.items)) ≡ false }
+    {
+        self.apart
+    }
+
     /// What the type with that name was declared as.
     pub fn named(&self, name: &str) -> Option<Part<'a>>
         ensures { option_map part_of result ≡ type_named name.now (types_of self.now.list.items) }
@@ -267,11 +285,14 @@ pub fn type_table<'a>(alloc: Global, types: &[Field<'a>]) -> Result<TypeTable<'a
     ensures { IfOk result (λ t. types_of t.list.items ≡ types_of types.now) }
 {
     let endless = BTreeSet::new(alloc);
+    let list = copied(alloc, types)?;
+    let (parts, apart) = parts_of(alloc, types)?;
     let mut table = TypeTable {
-        list: copied(alloc, types)?,
-        parts: parts_of(alloc, types)?,
+        list,
+        parts,
         places: BTreeMap::new(alloc),
         endless,
+        apart,
     };
     table.learn_all(alloc, types)?;
     Ok(table)

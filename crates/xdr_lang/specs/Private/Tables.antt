@@ -1,6 +1,6 @@
 -- What the tables of names hold, for look-ups (the names of RFC 4506 section 6.4).
 use Rattle.std.specs.Prelude.{◌≡◌, ◌≤◌, ℕ, Bool, true, false, List, [], ◌∷◌, Some, None}
-use Rattle.std.specs.Prelude.{option_map}
+use Rattle.std.specs.Prelude.{option_map, map}
 use Rattle.std.specs.Prelude.{if◌then◌else◌}
 use Rattle.std.specs.BTreeMap.{BTreeMap}
 use Rattle.std.specs.List.{list_any}
@@ -55,3 +55,11 @@ all_stay s (f ∷ fs) = if stays_in s f then all_stay s fs else false
 -- No name in the set denotes a place, through however many names.
 pub record HasNoPlaces (s : BTreeSet (Bor (List ℕ))) (types : List Field) : Type 0 where
   pub none : (n : List ℕ) → IsIn n s → (most : ℕ) → named_place most types n ≡ None
+
+-- the names of types
+abbrev pub type_names : List Field → List (List ℕ)
+type_names ts = map (λ (t : Field). t.name) ts
+
+-- Some name of the first is one of the others.
+abbrev pub share : List (List ℕ) → List (List ℕ) → Bool
+share ns others = list_any (λ (n : List ℕ). list_any (bytes_eq n) others) ns
