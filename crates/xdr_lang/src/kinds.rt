@@ -221,6 +221,7 @@ pub fn all_kinds(
         (map draft_of items.now) basic.kinds) }
 {
     let mut found = basic_kinds(alloc).map_err(|_| Fault::NoMemory)?;
+    found.reserve(items.len())?;
     for draft in items {
         let one = one_kind(alloc, constants, types, draft)?;
         found.push(one)?;
