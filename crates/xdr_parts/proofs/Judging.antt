@@ -6,7 +6,8 @@ use Rattle.std.proofs.lemmas.List.{length-drop, length-take, take-append-drop, t
 use Rattle.xdr_types.specs.Kinds.{KindView, Lists}
 use Rattle.xdr_types.specs.Layout.{Entry, entries}
 use Rattle.xdr_types.specs.Tree.{Tree}
-use Rattle.xdr_types.specs.Within.{Bounds, AreBounds}
+use Rattle.xdr_types.specs.Spelling.{bytes_of}
+use Rattle.xdr_types.specs.Within.{Bounds, AreBounds, FitsWithin}
 use Rattle.xdr_types.specs.Faults.{IsWellFormed}
 use Rattle.xdr_types.specs.Sound.{IsSound}
 use Rattle.xdr_types.specs.Outcome as outcome
@@ -65,22 +66,29 @@ lower : (low high : ℕ) (es : List Entry) → low ≤ high → AllByRecursion (
 lower low high [] h a = tt
 lower low high (e ∷ es) h a = (omega (arith, a.0), lower low high es h a.1)
 
+-- a value within the limits is not too deep, and its parts can be counted
+pub spelled_within : (schema : Lists) → IsWellFormed schema → IsSound schema.kinds → (t : ℕ) (l : Bounds) (b : List ℕ)
+    (v : Tree) → AreBounds l.depth l.bytes → FitsWithin schema.kinds t l v → bytes_of schema.kinds t v ≡ b
+    → IsSpelled schema.kinds t b v
+spelled_within schema well sound t l b v range within represents =
+    let s : List KindView = schema.kinds in
+    record {
+      fits = within.0;
+      spelled = represents;
+      low = elim (deep_or l (entries s t v)) [
+        | inl low ↦ lower l.depth 4096 (entries s t v) range.most_depth low
+        | inr d ↦ absurd (omega (arith, entries_low s t v d.0 d.1, d.2, within.1.0))
+      ];
+      few = omega (arith, parts_few schema well sound t v within.0 (omega (arith, within.1.1, range.most_bytes)));
+    }
+
 -- its bytes spell it, it is not too deep, and its parts can be counted
 pub spelled : (schema : Lists) → IsWellFormed schema → IsSound schema.kinds → (t : ℕ) (l : Bounds) (b : List ℕ)
     (v : Tree) (p : ℕ) → AreBounds l.depth l.bytes
     → Outcome schema.kinds t l b (outcome.Whole v p) → IsSpelled schema.kinds t (take p b) v
 spelled schema well sound t l b v p range o =
-    let s : List KindView = schema.kinds in
-    let within = (whole_exactly s t l b v p range.units).0 o in
-    record {
-      fits = o.2.fits;
-      spelled = o.2.spelled;
-      low = elim (deep_or l (entries s t v)) [
-        | inl low ↦ lower l.depth 4096 (entries s t v) range.most_depth low
-        | inr d ↦ absurd (omega (arith, entries_low s t v d.0 d.1, d.2, within.0.1.0))
-      ];
-      few = omega (arith, parts_few schema well sound t v within.0.0 (omega (arith, within.0.1.1, range.most_bytes)));
-    }
+    spelled_within schema well sound t l (take p b) v range
+    ((whole_exactly schema.kinds t l b v p range.units).0 o).0 o.2.spelled
 
 -- what is lent from the first bytes is lent from all
 lent_of_first : (p : ℕ) (b : List ℕ) (ls : List Lent) → AreLentFrom (take p b) ls → AreLentFrom b ls

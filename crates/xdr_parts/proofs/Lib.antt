@@ -3,3 +3,5 @@ pub mod Stepping
 pub mod Keeping
 pub mod Judging
 pub mod Taking
+pub mod Lending
+pub mod Handing

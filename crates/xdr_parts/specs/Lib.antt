@@ -1,3 +1,4 @@
 pub mod Lent
+pub mod Coming
 pub mod Counted
 pub mod Private

@@ -4,9 +4,11 @@
 //!   the input.
 //! - `judge`: whether a value begins the input, and how many bytes it has. `walk`: its parts, one after another.
 //!   `whole`: the two together.
+//! - `coming`: the parts of a value whose bytes were judged before, a few at a time.
 //! - `taken`: what a walk takes of the parts. `next`: the kind of the part that comes next.
 #![tactic(auto)]
 
+mod coming;
 mod counting;
 mod judge;
 mod listing;
@@ -16,6 +18,7 @@ mod taken;
 mod walk;
 mod whole;
 
+pub use coming::PartWalk;
 pub use counting::{PartCounts, count_parts};
 pub use listing::{SizedParts, parts, sized_parts};
 pub use part::{Lent, Role};

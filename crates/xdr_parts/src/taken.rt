@@ -32,6 +32,16 @@ impl<'a> Taken<'a> {
         }
     }
 
+    /// Forgets the parts so far, and keeps the memory of their list.
+    pub fn clear(&mut self)
+        ensures taken { HasTaken self.new [] }
+        ensures lists { self.new.lists ≡ self.old.lists }
+    {
+        self.list.clear();
+        self.parts = 0;
+        self.names = 0;
+    }
+
     /// Takes one part more. It takes memory only where it lists.
     pub fn take(&mut self, part: Lent<'a>) -> Result<(), AllocError>
         requires few { self.old.parts + 1 < 2 ^ 64 }

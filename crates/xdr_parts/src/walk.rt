@@ -50,20 +50,8 @@ pub fn spelled_parts<'a>(
         → HasAll bytes.now (entries schema.now.kinds kind.place v) t) }
     ensures lists { IfOk result (λ t. t.lists ≡ lists) }
 {
-    let mut walk = Walk {
-        schema,
-        bytes,
-        at: 0,
-        work: Frame::Items {
-            item: kind,
-            left: 1,
-        },
-        parents: Vec::new(alloc),
-        taken: Taken::none(alloc, lists),
-    };
-    while let Some(next) = walk.next() {
-        walk.take(next)?;
-    }
+    let mut walk = Walk::start(alloc, schema, kind, bytes, lists);
+    walk.take_up_to(usize::MAX)?;
     Ok(walk.taken)
 }
 
@@ -75,6 +63,50 @@ fn unit_at(bytes: &[u8], at: usize) -> u32
 }
 
 impl<'a> Walk<'a> {
+    /// A walk over the bytes of a value, before its first part. It takes no memory.
+    pub fn start(
+        alloc: Global,
+        schema: &'a Schema,
+        kind: KindId,
+        bytes: &'a [u8],
+        lists: bool,
+    ) -> Walk<'a>
+        ensures walked { (v : Tree) → IsSpelled schema.now.kinds kind.place bytes.now v
+            → HasWalked result (record { parts = entries schema.now.kinds kind.place v; lists = lists }) }
+        ensures bytes { result.bytes.now ≡ bytes.now }
+        ensures none { result.taken.parts ≡ 0 }
+    {
+        Walk {
+            schema,
+            bytes,
+            at: 0,
+            work: Frame::Items {
+                item: kind,
+                left: 1,
+            },
+            parents: Vec::new(alloc),
+            taken: Taken::none(alloc, lists),
+        }
+    }
+
+    /// Takes parts until so many are taken, or one more, or none is left.
+    pub fn take_up_to(&mut self, most: usize) -> Result<(), AllocError>
+        requires { (all : Aim) × HasWalked self.old all }
+        ensures walked { OnOk result ((all : Aim) → HasWalked self.old all → HasWalked self.new all) }
+        // Where fewer are taken, the value has ended.
+        ensures ended { OnOk result (self.new.taken.parts < most
+            → stack_of self.new.work self.new.parents.items ≡ [] ∷ []) }
+        ensures bytes { OnOk result (self.new.bytes.now ≡ self.old.bytes.now) }
+    {
+        while self.taken.parts < most {
+            let Some(next) = self.next() else {
+                return Ok(());
+            };
+            self.take(next)?;
+        }
+        Ok(())
+    }
+
     // Ends the nodes that have all their parts, and tells which part comes next; none, where the value has ended.
     fn next(&mut self) -> Option<Next<'a>>
         ensures walked { (all : Aim) → HasWalked self.old all → HasWalked self.new all }
