@@ -4,4 +4,5 @@ pub mod Named
 pub mod OnePart
 pub mod NodeParts
 pub mod Parts
+pub mod Batches
 pub mod Stepping

@@ -1,8 +1,10 @@
 //! The parts of a value as lines.
-ghost use Rattle.std.specs.Prelude.{◌≡◌, ◌<◌, ◌++◌, ℕ, List, length, IfOk, IfErr, OnOk};
+ghost use Rattle.std.specs.Prelude.{◌≡◌, ◌<◌, ◌++◌, ℕ, List, length, flat_map, IfOk, IfErr, OnOk};
+ghost use Rattle.std.specs.List.{AllByRecursion};
 ghost use Rattle.xdr_types.specs.Tree.{Tree};
 ghost use Rattle.xdr_types.specs.Outcome.{Outcome, Whole};
 ghost use Rattle.xdr_stream.specs.Finish.{EndsWith};
+ghost use Rattle.xdr_parts.specs.Coming.{IsOneValue};
 ghost use Rattle.xdr_show.specs.Lent.{ArePartsOf};
 ghost use Rattle.xdr_show.specs.Shown.{show_text};
 ghost use Rattle.xdr_show.specs.Private.Read.{line_lent, IsReadable};
@@ -10,7 +12,7 @@ ghost use Rattle.xdr_show.specs.Private.Read.{line_lent, IsReadable};
 use crate::line::push_line;
 use crate::part_head::head_of_part;
 use std::alloc::Global;
-use xdr_parts::{Lent, parts};
+use xdr_parts::{Lent, PartWalk, parts};
 use xdr_stream::{DecodeFault, Reason};
 use xdr_types::{KindId, Limits, NoMemory, Schema};
 
@@ -63,10 +65,44 @@ pub fn show_parts<'a>(
         → ArePartsOf schema.now.kinds kind v input parts.now → text.items ≡ show_text schema.now.kinds kind v) }
 {
     let mut out = Vec::new(alloc);
-    for part in parts {
-        push_part(&mut out, schema, part)?;
+    push_parts(&mut out, schema, parts)?;
+    Ok(out)
+}
+
+/// The lines of the value whose encoding these bytes are, all of them (RFC 4506 section 4): the same that `show`
+/// prints. No value is made, and the bytes are not judged again: that they are the encoding of a value of the kind
+/// within the limits has to be known.
+///
+/// It takes no stack for a level of the value, and memory for the lines, some 256 parts and a frame for each open node.
+pub fn show_whole(
+    alloc: Global,
+    schema: &Schema,
+    kind: KindId,
+    limits: Limits,
+    bytes: &[u8],
+) -> Result<Vec<u8>, NoMemory>
+    requires { (v : Tree) × IsOneValue schema.now.kinds kind.place limits bytes.now v }
+    ensures { IfOk result (λ text. (v : Tree) → IsOneValue schema.now.kinds kind.place limits bytes.now v
+        → text.items ≡ show_text schema.now.kinds kind.place v) }
+{
+    let mut out = Vec::new(alloc);
+    let mut walk = PartWalk::start(alloc, schema, kind, limits, bytes);
+    while walk.advance()? {
+        push_parts(&mut out, schema, walk.list())?;
     }
     Ok(out)
+}
+
+// The lines of parts, one after another.
+fn push_parts(out: &mut Vec<u8>, schema: &Schema, parts: &[Lent]) -> Result<(), NoMemory>
+    requires { AllByRecursion (IsReadable schema.now.kinds) parts.now }
+    ensures { OnOk result (out.new.items
+        ≡ out.old.items ++ flat_map (line_lent schema.now.kinds) parts.now) }
+{
+    for part in parts {
+        push_part(out, schema, part)?;
+    }
+    Ok(())
 }
 
 // The line of a part, where it has one.

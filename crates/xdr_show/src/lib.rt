@@ -17,5 +17,5 @@ mod shown;
 
 pub use content::push_escaped_bytes;
 pub use laws::lines_are_of_the_layout;
-pub use lent::{show_bytes, show_parts};
+pub use lent::{show_bytes, show_parts, show_whole};
 pub use shown::show;
