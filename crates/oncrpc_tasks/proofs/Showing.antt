@@ -1,7 +1,7 @@
 -- What is shown of bytes whose answer is known without lines.
-use Rattle.std.proofs.Common.{◌≡◌, ◌⊎◌, inl, inr, ℕ, ◌%◌, Bool, true, false, List, [], ◌++◌, refl, sym, ap, subst, ◌∙◌}
-use Rattle.std.proofs.Common.{Option, Some, None, Result, Ok, Err, IfOk, Vec, Global}
-use Rattle.std.proofs.lemmas.List.{append-nil}
+use Rattle.std.proofs.Common.{◌≡◌, ◌⊎◌, inl, inr, ℕ, ◌≤◌, Bool, true, false, List, [], ◌++◌, length, take, refl, sym}
+use Rattle.std.proofs.Common.{ap, subst, ◌∙◌, arith, Option, Some, None, Result, Ok, Err, IfOk, Vec, Global}
+use Rattle.std.proofs.lemmas.List.{append-nil, length-append, take_at}
 use Rattle.std.proofs.lemmas.Bool.{false≢true}
 use Rattle.xdr_types.specs.Kinds.{KindView}
 use Rattle.xdr_types.specs.Tree.{Tree}
@@ -10,8 +10,8 @@ use Rattle.xdr_types.specs.Outcome.{Outcome, Whole}
 use Rattle.xdr_show.specs.Shown.{show_text}
 use Rattle.xdr_laws.proofs.Longer.{stays}
 use Rattle.xdr_laws.proofs.OneOutcome.{one_whole}
-use Rattle.xdr_laws.proofs.Whole.{whole_exactly}
-use Rattle.xdr_stream.specs.Finish.{EndsWith}
+use Rattle.xdr_parts.specs.Coming.{IsOneValue}
+use Rattle.xdr_types.specs.Spelling.{bytes_of}
 use Rattle.xdr_stream.specs.declared.fault.DecodeFault.{DecodeFault}
 use Rattle.xdr_stream.specs.declared.fault.Reason.{Reason}
 use Rattle.xdr_stream.specs.declared.fault.Reason.TheVariants as reason
@@ -23,56 +23,30 @@ use Rattle.oncrpc_tasks.specs.Right.{IsRightFor, lines_of}
 use Rattle.oncrpc_tasks.specs.Stopping.{LastRead, IsUnread}
 use Rattle.oncrpc_tasks.specs.Private.Judged.{IsRetained, Shows, unshown}
 use Rattle.oncrpc_tasks.specs.Private.Reading.{ReadsInput}
-use Rattle.oncrpc_tasks.proofs.Rightly.{refused_at_end}
 
 same_value : (s : List KindView) (t : ℕ) (l : Bounds) (b more : List ℕ) (v w : Tree) (m n : ℕ)
     → Outcome s t l b (Whole v m) → Outcome s t l (b ++ more) (Whole w n) → v ≡ w
 same_value s t l b more v w m n o p =
     one_whole s t l (b ++ more) v w m n (stays s t l b more (Whole v m) tt o) p
 
--- the value of an answer that has one
-pub whole_value : (q : Question) (b : List ℕ) (used : ℕ) → IsRight q b (answer.Whole used) []
-    → (v : Tree) × (n : ℕ) × HasOutcome q b (Whole v n)
-whole_value q b used h = (h.0.value, used, h.1)
+-- the bytes of an answer that has a value are its encoding, all of them
+pub whole_value : (q : Question) (b : List ℕ) (used : ℕ) (h : IsRight q b (answer.Whole used) [])
+    → IsOneValue q.kinds q.place q.limits b h.0.value
+whole_value q b used h = (h.0.fits, h.0.joined ∙ append-nil (bytes_of q.kinds q.place h.0.value))
 
-pub value_before : (q : Question) (b : List ℕ) (used : ℕ) → IsRight q b (answer.MoreFollows used) []
-    → (v : Tree) × (n : ℕ) × HasOutcome q b (Whole v n)
-value_before q b used h = (h.2.0.value, used, h.2.1)
+-- and so are those before what follows it
+pub value_before : (q : Question) (b : List ℕ) (used : ℕ) (h : IsRight q b (answer.MoreFollows used) [])
+    → IsOneValue q.kinds q.place q.limits (take used b) h.2.0.value
+value_before q b used h =
+    let w = h.2.0 in
+    let own : List ℕ = bytes_of q.kinds q.place w.value in
+    (w.fits, ap (λ (x : List ℕ). take used x) w.joined ∙ take_at own h.0 used (sym w.counted))
 
--- where a value begins the bytes, no refusal of them is right
-no_value_of : (q : Question) (b : List ℕ) (why : Reason) (at : ℕ) → IsRefusal q b why at → HasNoValue q b
-no_value_of q b reason.NoMemory at h = absurd h
-no_value_of q b reason.Truncated at h = h.2
-no_value_of q b reason.BadBool at h = subst (λ (x : List ℕ). HasNoValue q x) (append-nil b) (h []).1
-no_value_of q b reason.BadNumbered at h = subst (λ (x : List ℕ). HasNoValue q x) (append-nil b) (h []).1
-no_value_of q b reason.BadCase at h = subst (λ (x : List ℕ). HasNoValue q x) (append-nil b) (h []).1
-no_value_of q b reason.TooLong at h = subst (λ (x : List ℕ). HasNoValue q x) (append-nil b) (h []).1
-no_value_of q b reason.BadPadding at h = subst (λ (x : List ℕ). HasNoValue q x) (append-nil b) (h []).1
-no_value_of q b reason.TooDeep at h = subst (λ (x : List ℕ). HasNoValue q x) (append-nil b) (h []).1
-no_value_of q b reason.TooLarge at h = subst (λ (x : List ℕ). HasNoValue q x) (append-nil b) (h []).1
-
--- so no fault but want of memory stands against a value
-pub no_fault : (q : Question) → q.limits.bytes % 4 ≡ 0 → (b : List ℕ) → (v : Tree) × (n : ℕ)
-    × HasOutcome q b (Whole v n)
-    → (f : DecodeFault) → EndsWith q.kinds q.place q.limits b f → (f.why ≡ reason.NoMemory → ⊥) → ⊥
-no_fault q units b whole f ends known =
-    let exact = (whole_exactly q.kinds q.place q.limits b whole.0 whole.1 units).0 whole.2 in
-    let begins : BeginsWithValue q b whole.1 exact.1 (lines_of q whole.0) = record {
-      value = whole.0;
-      fits = exact.0;
-      joined = exact.2;
-      counted = exact.3;
-      lines = refl;
-    } in
-    no_value_of q b f.why f.at (refused_at_end q units b f ends known).0 whole.1 exact.1 (lines_of q whole.0) begins
-
--- the lines of the value are those of each value that the bytes are the outcome of
-pub those_lines : (s : List KindView) (t : ℕ) (l : Bounds) (b : List ℕ) (v : Tree) (n : ℕ) (text : List ℕ)
-    → Outcome s t l b (Whole v n) → text ≡ show_text s t v
-    → (w : Tree) (m : ℕ) → Outcome s t l b (Whole w m) → text ≡ show_text s t w
-those_lines s t l b v n text o is w m p =
-    is ∙ ap (λ (x : Tree). show_text s t x)
-    (same_value s t l b [] v w n m o (subst (λ (y : List ℕ). Outcome s t l y (Whole w m)) (sym (append-nil b)) p))
+pub used_within : (q : Question) (b : List ℕ) (used : ℕ) → IsRight q b (answer.MoreFollows used) [] → used ≤ length b
+used_within q b used h =
+    let w = h.2.0 in
+    let own : List ℕ = bytes_of q.kinds q.place w.value in
+    omega (arith, w.counted, ap (λ (x : List ℕ). length x) w.joined, length-append own h.0)
 
 -- ---- the same question with lines and without
 
@@ -131,13 +105,13 @@ module _ (q : Question) where
   shows_nothing none b answer.HexTooLong = λ more h. absurd h
 
   -- the lines of a value that begins the bytes
-  module _ (asked : q.shows ≡ true) (b text : List ℕ) (whole : (v : Tree) × (n : ℕ) × HasOutcome q b (Whole v n))
-      (lines : (v : Tree) (n : ℕ) → HasOutcome q b (Whole v n) → text ≡ show_text q.kinds q.place v) where
+  module _ (asked : q.shows ≡ true) (b text : List ℕ) (v : Tree) (n : ℕ) (whole : HasOutcome q b (Whole v n))
+      (lines : text ≡ show_text q.kinds q.place v) where
     of_value : (more : List ℕ) (w : Tree) (m : ℕ) → HasOutcome q (b ++ more) (Whole w m) → text ≡ lines_of q w
     of_value more w m o =
-        let same : whole.0 ≡ w = same_value q.kinds q.place q.limits b more whole.0 w whole.1 m whole.2 o in
+        let same : v ≡ w = same_value q.kinds q.place q.limits b more v w n m whole o in
         let said : text ≡ show_text q.kinds q.place w =
-        lines whole.0 whole.1 whole.2 ∙ ap (λ (x : Tree). show_text q.kinds q.place x) same in
+        lines ∙ ap (λ (x : Tree). show_text q.kinds q.place x) same in
         rw asked said
 
     pub shows_whole : (used : ℕ) → Shows q b (answer.Whole used) text
@@ -150,20 +124,25 @@ module _ (q : Question) where
   -- the same of the answer to making them
   pub lines_whole : q.shows ≡ true → (b : List ℕ) (a : Answer) (used : ℕ) → a ≡ answer.Whole used
       → IsRight (unshown q) b a [] → (r : Result (Vec ℕ Global) Failure)
-      → IfOk r (λ text. (v : Tree) (n : ℕ) → HasOutcome q b (Whole v n) → text.items ≡ show_text q.kinds q.place v)
+      → IfOk r (λ text. (v : Tree) → IsOneValue q.kinds q.place q.limits b v
+      → text.items ≡ show_text q.kinds q.place v)
       → IfOk r (λ text. Shows q b a text.items)
   lines_whole asked b a used is right (Ok text) lines =
-      let whole = whole_value (unshown q) b used (subst (λ (x : Answer). IsRight (unshown q) b x []) is right) in
-      subst (λ (x : Answer). Shows q b x text.items) (sym is) (shows_whole asked b text.items whole lines used)
+      let h = subst (λ (x : Answer). IsRight (unshown q) b x []) is right in
+      subst (λ (x : Answer). Shows q b x text.items) (sym is)
+      (shows_whole asked b text.items h.0.value used h.1 (lines h.0.value (whole_value (unshown q) b used h)) used)
   lines_whole asked b a used is right (Err f) lines = tt
 
   pub lines_before : q.shows ≡ true → (b : List ℕ) (a : Answer) (used : ℕ) → a ≡ answer.MoreFollows used
       → IsRight (unshown q) b a [] → (r : Result (Vec ℕ Global) Failure)
-      → IfOk r (λ text. (v : Tree) (n : ℕ) → HasOutcome q b (Whole v n) → text.items ≡ show_text q.kinds q.place v)
+      → IfOk r (λ text. (v : Tree) → IsOneValue q.kinds q.place q.limits (take used b) v
+      → text.items ≡ show_text q.kinds q.place v)
       → IfOk r (λ text. Shows q b a text.items)
   lines_before asked b a used is right (Ok text) lines =
-      let whole = value_before (unshown q) b used (subst (λ (x : Answer). IsRight (unshown q) b x []) is right) in
-      subst (λ (x : Answer). Shows q b x text.items) (sym is) (shows_value asked b text.items whole lines used)
+      let h = subst (λ (x : Answer). IsRight (unshown q) b x []) is right in
+      let v : Tree = h.2.0.value in
+      subst (λ (x : Answer). Shows q b x text.items) (sym is)
+      (shows_value asked b text.items v used h.2.1 (lines v (value_before (unshown q) b used h)) used)
   lines_before asked b a used is right (Err f) lines = tt
 
   -- what is shown of all bytes

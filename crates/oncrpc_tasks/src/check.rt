@@ -2,7 +2,7 @@
 ghost use Rattle.std.specs.Prelude.{◌≡◌, ℕ, ◌++◌, ◌<◌, [], true, false, Option, List, length, IfOk, IfErr};
 ghost use Rattle.oncrpc_tasks.specs.Ends.{ValueEnds};
 ghost use Rattle.xdr_types.specs.Tree.{Tree};
-ghost use Rattle.xdr_types.specs.Outcome.{Outcome, Whole};
+ghost use Rattle.xdr_parts.specs.Coming.{IsOneValue};
 ghost use Rattle.xdr_show.specs.Shown.{show_text};
 ghost use Rattle.oncrpc_tasks.specs.Input.{InputGives};
 ghost use Rattle.oncrpc_tasks.specs.Private.Judged.{Shows, unshown};
@@ -16,9 +16,8 @@ use super::judge::{judge_bytes, judge_over};
 use super::question::Question;
 use oncrpc_answers::{Answer, Failure, line_of, report, status_of};
 use std::alloc::Global;
-use xdr_codec::Reason;
 use xdr_io::{Sink, Source, write_whole};
-use xdr_show::show_bytes;
+use xdr_show::show_whole;
 use xdr_types::{KindId, Limits, Schema};
 
 /// Checks that the input begins with a value of the kind, and prints one line: `ok N`, or `ok N, more follows` where
@@ -190,18 +189,17 @@ fn shown_of(
     }
     match answer {
         Answer::Whole { .. } => lines_of(alloc, question, bytes),
-        Answer::MoreFollows { .. } => lines_of(alloc, question, bytes),
+        Answer::MoreFollows { used } => lines_of(alloc, question, &bytes[..used]),
         Answer::Refused(_) | Answer::BadHex | Answer::HexTooLong => Ok(Vec::new(alloc)),
     }
 }
 
-// The lines of the value that these bytes begin with.
+// The lines of the value whose encoding these bytes are, all of them.
 fn lines_of(alloc: Global, question: &Question, bytes: &[u8]) -> Result<Vec<u8>, Failure>
-    requires known { IsKnown question.now }
-    requires whole { (v : Tree) × (n : ℕ)
-        × Outcome question.now.schema.now.kinds question.now.kind.place question.now.limits bytes.now (Whole v n) }
-    ensures lines { IfOk result (λ text. (v : Tree) (n : ℕ)
-        → Outcome question.now.schema.now.kinds question.now.kind.place question.now.limits bytes.now (Whole v n)
+    requires whole { (v : Tree) × IsOneValue question.now.schema.now.kinds question.now.kind.place question.now.limits
+        bytes.now v }
+    ensures lines { IfOk result (λ text. (v : Tree) → IsOneValue question.now.schema.now.kinds question.now.kind.place
+        question.now.limits bytes.now v
         → text.items ≡ show_text question.now.schema.now.kinds question.now.kind.place v) }
     ensures memory { IfErr result (λ f. f ≡ Failure.NoMemory) }
 {
@@ -211,11 +209,5 @@ fn lines_of(alloc: Global, question: &Question, bytes: &[u8]) -> Result<Vec<u8>,
         limits,
         ..
     } = *question;
-    // The range of the limits, for the proof.
-    let _in_range = limits.depth();
-    match show_bytes(alloc, schema, kind, limits, bytes) {
-        Ok(lines) => Ok(lines),
-        Err(fault) if fault.why == Reason::NoMemory => Err(Failure::NoMemory),
-        Err(_) => unreachable!(),
-    }
+    Ok(show_whole(alloc, schema, kind, limits, bytes)?)
 }
