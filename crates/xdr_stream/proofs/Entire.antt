@@ -139,8 +139,9 @@ own_deep s place d most p h inner deep =
 
 -- ---- no event stands inside it
 
-module _ (s : List KindView) (t : ℕ) (l : Bounds) (x rest : List ℕ) (begun later : List Entry) (v : Tree) (more : List ℕ)
-    (fitting : Fits s t v) (spelled : bytes_of s t v ≡ x ++ more) (parts_are : entries s t v ≡ begun ++ later)
+module _ (s : List KindView) (t : ℕ) (l : Bounds) (x rest : List ℕ) (begun later : List Entry) (v : Tree)
+    (more : List ℕ) (fitting : Fits s t v) (spelled : bytes_of s t v ≡ x ++ more)
+    (parts_are : entries s t v ≡ begun ++ later)
     (shallow : AreAt l.depth begun) (late : AllFrom (length x) later) (space : length x ≤ l.bytes)
     (units : length x % 4 ≡ 0) where
   front_in : (r : ℕ) → r ≤ length x → BeginsWith s t (take r (x ++ rest)) v

@@ -42,11 +42,13 @@ as_long : (vs : List Value) → length (map tree vs) ≡ length vs
 as_long [] = refl
 as_long (v ∷ vs) = omega (arith, as_long vs)
 
-nodes_snoc : (vs : List Value) (v : Value) → count_nodes (values (vs ++ v ∷ [])) ≡ count_nodes (values vs) + node_count (tree v)
+nodes_snoc : (vs : List Value) (v : Value)
+    → count_nodes (values (vs ++ v ∷ [])) ≡ count_nodes (values vs) + node_count (tree v)
 nodes_snoc [] v = omega arith
 nodes_snoc (w ∷ vs) v = omega (arith, nodes_snoc vs v)
 
-bytes_snoc : (vs : List Value) (v : Value) → count_bytes (values (vs ++ v ∷ [])) ≡ count_bytes (values vs) + byte_count (tree v)
+bytes_snoc : (vs : List Value) (v : Value)
+    → count_bytes (values (vs ++ v ∷ [])) ≡ count_bytes (values vs) + byte_count (tree v)
 bytes_snoc [] v = omega arith
 bytes_snoc (w ∷ vs) v = omega (arith, bytes_snoc vs v)
 
@@ -84,7 +86,8 @@ made_field s ms i m x y z a b c vs v within is all made one =
     map_more part_of_member ms i m within
     ∙ ap (λ (w : Member). map part_of_member (take i ms) ++ part_of_member w ∷ []) (sym is) in
     subst (λ (ps : List Part). AreMade s ps z a c (vs ++ v ∷ [])) (sym parts)
-    (subst (λ (w : List ℕ). AreMade s (map part_of_member (take i ms) ++ part_of_member m ∷ []) w a c (vs ++ v ∷ [])) all
+    (subst (λ (w : List ℕ). AreMade s (map part_of_member (take i ms) ++ part_of_member m ∷ []) w a c
+    (vs ++ v ∷ [])) all
     (made_last s (map part_of_member (take i ms)) (part_of_member m) x y a b c vs v made one))
 
 pub made_item : (s : List KindView) (p : Part) (i : ℕ) (x y z : List ℕ) (a b c : Tally) (vs : List Value) (v : Value)

@@ -23,7 +23,8 @@ pub record IsMade (kinds : List KindView) (place : ℕ) (bytes : List ℕ) (a b 
   pub adds : Adds a b (node_count (tree v)) (byte_count (tree v))
 
 -- the same of one value for each part (RFC 4506 sections 4.12, 4.14)
-pub record AreMade (kinds : List KindView) (ps : List Part) (bytes : List ℕ) (a b : Tally) (vs : List Value) : Type 0 where
+pub record AreMade (kinds : List KindView) (ps : List Part) (bytes : List ℕ) (a b : Tally) (vs : List Value)
+    : Type 0 where
   pub fits : fit kinds ps (values vs) ≡ true
   pub spelled : spelling kinds ps (values vs) ≡ bytes
   pub adds : Adds a b (count_nodes (values vs)) (count_bytes (values vs))

@@ -134,8 +134,8 @@ fn items_in(
     levels: u32,
     tally: &mut Tally,
 ) -> Result<Option<Vec<Value>>, AllocError>
-    ensures { IfOk result (λ o. IfSome o (λ vs. AreMade schema.now.kinds (replicate size (item_part item.place)) bytes.now
-        tally.old tally.new vs.items)) }
+    ensures { IfOk result (λ o. IfSome o (λ vs. AreMade schema.now.kinds (replicate size (item_part item.place))
+        bytes.now tally.old tally.new vs.items)) }
 {
     let mut values = Vec::with_capacity(alloc, bytes.len().min(size as usize))?;
     let mut at = 0;

@@ -67,8 +67,8 @@ impl<'s, B: Build + Drop> Reader<'s, B> {
         at
     }
 
-    // Ends the nodes that have all their parts, takes what comes first then, as above, and begins what comes next; tells
-    // how many bytes.
+    // Ends the nodes that have all their parts, takes what comes first then, as above, and begins what comes next;
+    // tells how many bytes.
     fn settle_entire(&mut self, bytes: &[u8]) -> usize
         requires { self.old.state ≡ Fresh }
         ensures represents { (q : List ℕ) → length q ≡ self.old.read → self.old.pending ≡ 0

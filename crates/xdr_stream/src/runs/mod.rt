@@ -1,8 +1,8 @@
 //! What comes next as a run: bytes of a piece that are taken at once, without a state between their units.
 //!
 //! - `numbers`: numbers one after another. `content`: content with its length and its padding.
-//! - `leaf`: a number. `entire`: a part that is there whole, of a kind whose values have one size. `judge`: whether bytes
-//!   are such a value.
+//! - `leaf`: a number. `entire`: a part that is there whole, of a kind whose values have one size. `judge`: whether
+//!   bytes are such a value.
 ghost use Rattle.std.specs.Prelude.{◌≡◌, ◌+◌, ◌≤◌, ◌<◌, ◌%◌, length, true};
 ghost use Rattle.xdr_types.specs.Kinds.{kind_at};
 ghost use Rattle.xdr_laws.specs.Owed.{lead_of, HasUnit};

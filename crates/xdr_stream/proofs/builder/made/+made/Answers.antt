@@ -91,5 +91,6 @@ value_in-returns-in-Some-2 t c =
     made_list s c.args.id.place item c.in-Fixed.size bs c.args.tally.now c.items_in.new.tally
     c.count_node-in-Fixed.new.tally c.list_value.result vs
     (ap (λ (x : Kind). kind_view x) (sym c.in-Fixed.is) ∙ c.kind.ensures)
-    (c.list_value.ensures ∙ ap (λ (n : ℕ). (value.items n, values vs)) (made_length s (item_part item) c.in-Fixed.size bs c.args.tally.now
-    c.items_in.new.tally vs made)) made c.count_node-in-Fixed.ensures
+    (c.list_value.ensures ∙ ap (λ (n : ℕ). (value.items n, values vs))
+    (made_length s (item_part item) c.in-Fixed.size bs c.args.tally.now c.items_in.new.tally vs made)) made
+    c.count_node-in-Fixed.ensures

@@ -11,7 +11,8 @@ returns c =
     let size : ℕ = c.args.size in
     record {
       padded = p;
-      is = c.content_value.ensures ∙ ap (λ (x : List ℕ). leaf_tree (value.bytes x)) (c.in_ok-extend_from_slice.ensures.items
+      is = c.content_value.ensures ∙ ap (λ (x : List ℕ). leaf_tree (value.bytes x))
+          (c.in_ok-extend_from_slice.ensures.items
           ∙ ap (λ (x : List ℕ). x ++ take size c.args.bytes.now) c.in_ok-content.ensures.items
           ∙ ap (λ (x : List ℕ). take size x) p.2 ∙ take_at p.0 (pad (length p.0)) size p.1);
       adds = record {

@@ -43,7 +43,8 @@ returns-in_default g c =
       represents = λ q len none seen.
           let after = (c.in-Ok.ensures.follows a.schema.now.kinds).0 a.kind.place a.limits q seen in
           went_on g.B.Build.spares r.schema.now.kinds r.kind.place r.limits (g.B.Build.reports r.built)
-          (stack_of r.work r.parents.items) r.read r.unit r.pending (q ++ take n c.args.bytes.now) r.state c.in_default.not-Fresh (c.take_entire-n.ensures.went q len none after);
+          (stack_of r.work r.parents.items) r.read r.unit r.pending (q ++ take n c.args.bytes.now) r.state
+          c.in_default.not-Fresh (c.take_entire-n.ensures.went q len none after);
       within = c.take_entire-n.ensures.within;
       awake = awake_of c.take_entire-n.new.self.state c.in_default.not-Fresh;
       same =

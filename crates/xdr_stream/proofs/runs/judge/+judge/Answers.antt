@@ -13,7 +13,13 @@ use Rattle.xdr_stream.proofs.runs.judge.+judge.Goals as goal
 pub are_fields-loop-i-preserved : goal.are_fields-loop-i-preserved
 are_fields-loop-i-preserved t c =
     let i = c.loop-i.invariant in (
-      omega (arith, i.0, c.in-Some.ensures.within, length-take (length c.args.bytes.now - c.loop-i.at) (drop c.loop-i.at c.args.bytes.now), length-drop c.loop-i.at c.args.bytes.now),
+      omega (
+        arith,
+        i.0,
+        c.in-Some.ensures.within,
+        length-take (length c.args.bytes.now - c.loop-i.at) (drop c.loop-i.at c.args.bytes.now),
+        length-drop c.loop-i.at c.args.bytes.now,
+      ),
       λ e. i.1 (each_field c.args.schema.now.kinds c.args.fields.now.items c.loop-i.i c.index.result.now c.in-Some.n
           c.loop-i.at c.args.bytes.now (omega (arith)) c.index.ensures c.in-Some.ensures.one e),
     )
@@ -21,7 +27,13 @@ are_fields-loop-i-preserved t c =
 pub are_items-loop-i-preserved : goal.are_items-loop-i-preserved
 are_items-loop-i-preserved t c =
     let i = c.loop-i.invariant in (
-      omega (arith, i.0, c.in-Some.ensures.within, length-take (length c.args.bytes.now - c.loop-i.at) (drop c.loop-i.at c.args.bytes.now), length-drop c.loop-i.at c.args.bytes.now),
+      omega (
+        arith,
+        i.0,
+        c.in-Some.ensures.within,
+        length-take (length c.args.bytes.now - c.loop-i.at) (drop c.loop-i.at c.args.bytes.now),
+        length-drop c.loop-i.at c.args.bytes.now,
+      ),
       λ e. i.1 (each_item c.args.schema.now.kinds (item_part c.args.item.place) c.args.size c.loop-i._i c.in-Some.n
           c.loop-i.at c.args.bytes.now (omega (arith)) c.in-Some.ensures.one e),
     )
@@ -52,4 +64,5 @@ pub part_in-returns-then-extent-clause-one : goal.part_in-returns-then-extent-cl
 part_in-returns-then-extent-clause-one t c =
     let n = c.in_ok-extent.extent.bytes in
     c.in_ok-extent.ensures.free c.if-extent.true (take n c.args.bytes.now)
-    (omega (arith, length-take n c.args.bytes.now)) (bytes_taken n c.args.bytes.now (λ i. omega (arith, c.type_inv.bytes i)))
+    (omega (arith, length-take n c.args.bytes.now))
+    (bytes_taken n c.args.bytes.now (λ i. omega (arith, c.type_inv.bytes i)))
