@@ -12,7 +12,7 @@ lines_of-requires c =
     let q = unshown (asked_of c.args.question.now) in
     let asked : c.args.question.now.shows ≡ true = search rules in
     let h = subst (λ (x : Answer). IsRight q c.args.bytes.now x []) c.in-Whole.is (c.requires.right asked) in
-    record { whole = (h.0.value, whole_value q c.args.bytes.now c.in-Whole.used h); }
+    record { whole = (h.0.value, whole_value q c.args.bytes.now c.in-Whole.used h) }
 
 pub slice_bounds-lines_of-end : goal.slice_bounds-lines_of-end
 slice_bounds-lines_of-end c =
@@ -27,7 +27,7 @@ lines_of-requires-in-MoreFollows c =
     let q = unshown (asked_of c.args.question.now) in
     let asked : c.args.question.now.shows ≡ true = search rules in
     let h = subst (λ (x : Answer). IsRight q c.args.bytes.now x []) c.in-MoreFollows.is (c.requires.right asked) in
-    record { whole = (h.2.0.value, value_before q c.args.bytes.now c.in-MoreFollows.used h); }
+    record { whole = (h.2.0.value, value_before q c.args.bytes.now c.in-MoreFollows.used h) }
 
 pub returns-in-Whole-clause-right : goal.returns-in-Whole-clause-right
 returns-in-Whole-clause-right c =
