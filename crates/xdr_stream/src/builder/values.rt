@@ -13,6 +13,7 @@ use crate::builder::level::{Level, add, add_item, begun, closed};
 use crate::builder::made::{Tally, value_in};
 use crate::builder::{Build, Leaf, Node, hyper_leaf};
 use crate::machine::unit::hyper_at;
+use crate::runs::judge::{is_value, leaf_in};
 use std::alloc::{AllocError, Global};
 use xdr_stack::Blocks;
 use xdr_types::{Extent, KindId, Schema, Value};
@@ -195,6 +196,14 @@ impl Build for Values {
         extent: Extent,
         bytes: &[u8],
     ) -> Result<bool, AllocError> {
+        if let Some(leaf) = leaf_in(schema, kind, bytes) {
+            self.leaf(leaf)?;
+            return Ok(true);
+        }
+        // Nothing is made of bytes that are refused.
+        if !is_value(schema, kind, extent, bytes) {
+            return Ok(false);
+        }
         let mut tally = Tally {
             nodes: self.nodes,
             content: self.retained,

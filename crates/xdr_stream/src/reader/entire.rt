@@ -123,4 +123,23 @@ impl<'s, B: Build + Drop> Reader<'s, B> {
             _ => n,
         }
     }
+
+    /// The same where what comes next is not settled yet.
+    #[inline(always)]
+    pub(crate) fn take_settled(&mut self, bytes: &[u8]) -> usize
+        requires { self.old.state ≡ Fresh }
+        ensures represents { (q : List ℕ) → length q ≡ self.old.read → self.old.pending ≡ 0
+            → Sees self.old.schema.now.kinds self.old.kind.place self.old.limits (B.reports self.old.built) Next
+            (stack_of self.old.work self.old.parents.items) q
+            → RepresentsBytes B.spares B.reports self.new (q ++ take result bytes.now) }
+        ensures within { result ≤ length bytes.now }
+        ensures awake { IsAwake self.new.state }
+        ensures same { IsSame self.old self.new }
+    {
+        let n = self.take_entire(bytes);
+        match self.state {
+            State::Fresh => n + self.settle_entire(&bytes[n..]),
+            _ => n,
+        }
+    }
 }

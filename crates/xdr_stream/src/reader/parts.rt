@@ -34,6 +34,10 @@ impl<'s, B: Build + Drop> Reader<'s, B> {
         ensures awake { self.old.state ≡ Reading Next → IsAwake self.new.state }
         ensures same { IsSame self.old self.new }
     {
+        if let Some(whole) = field_due(self.schema, self.work, self.limits, self.read, bytes) {
+            self.take_field(whole, bytes);
+            return whole.all;
+        }
         if let Some(run) = run_due(self.schema, self.work) {
             let space = (self.limits.bytes() as usize).saturating_sub(self.read);
             let n = units_there(run.left as usize * 4, bytes.len(), space);
@@ -45,10 +49,6 @@ impl<'s, B: Build + Drop> Reader<'s, B> {
         let n = self.take_ready(bytes);
         if n > 0 {
             return n;
-        }
-        if let Some(whole) = field_due(self.schema, self.work, self.limits, self.read, bytes) {
-            self.take_field(whole, bytes);
-            return whole.all;
         }
         if let Some(whole) = arm_due(self.schema, self.work, self.limits, self.read, bytes) {
             self.take_arm(whole, bytes);
@@ -142,8 +142,8 @@ impl<'s, B: Build + Drop> Reader<'s, B> {
         }
     }
 
-    // Takes content that comes next where all of it and its padding are there, and begins what comes next; tells how
-    // many bytes.
+    // Takes content that comes next where all of it and its padding are there, and then the parts that are there whole,
+    // and begins what comes next; tells how many bytes.
     #[inline(always)]
     fn take_whole(&mut self, awaits: Awaits, bytes: &[u8]) -> usize
         requires { self.old.state ≡ Fresh }
@@ -164,8 +164,7 @@ impl<'s, B: Build + Drop> Reader<'s, B> {
                 match self.built.whole(&bytes[..size as usize]) {
                     Ok(()) => {
                         self.read = self.read.saturating_add(n);
-                        self.settle(Awaits::Next);
-                        return n;
+                        return n + self.take_settled(&bytes[n..]);
                     }
                     Err(_) => {
                         self.fail(Reason::NoMemory);
@@ -173,6 +172,9 @@ impl<'s, B: Build + Drop> Reader<'s, B> {
                     }
                 }
             }
+        }
+        if let Awaits::Next = awaits {
+            return self.take_settled(bytes);
         }
         self.settle(awaits);
         0

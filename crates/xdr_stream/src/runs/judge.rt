@@ -21,6 +21,9 @@ pub(crate) fn is_value(schema: &Schema, id: KindId, extent: Extent, bytes: &[u8]
     if extent.free {
         return true;
     }
+    if let Some(_) = leaf_in(schema, id, bytes) {
+        return true;
+    }
     is_node(schema, id, bytes, extent.depth)
 }
 

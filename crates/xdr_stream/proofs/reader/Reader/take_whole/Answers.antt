@@ -1,6 +1,9 @@
 use Rattle.std.proofs.lemmas.Bool.{false≢true}
 use Rattle.std.proofs.Common.{◌≡◌, ◌+◌, ◌-◌, ◌<◌, ◌≤◌, ◌%◌, ℕ, List, ◌++◌, length, take, drop, subst, sym, ap, ◌∙◌}
-use Rattle.std.proofs.Common.{true, []}
+use Rattle.std.proofs.Common.{true, [], append_assoc}
+use Rattle.std.proofs.Math.Seq.{take-add}
+use Rattle.xdr_stream.specs.Represents.{RepresentsBytes}
+use Rattle.xdr_stream.proofs.Judged.{behind}
 use Rattle.std.proofs.Common.{arith}
 use Rattle.std.proofs.lemmas.List.{length-append, length-take, drop-take, take-take}
 use Rattle.xdr_types.specs.Fits.{are_bytes}
@@ -54,7 +57,14 @@ returns-in-Ok-clause-represents g c = λ q len none live h.
       c.depth-in_range.ensures.range.most_bytes,
       c.saturating_add-self.ensures,
     ) in
-    c.settle.ensures.represents (q ++ u) far none tt next
+    let bs : List ℕ = c.args.bytes.now in
+    let m : ℕ = c.take_settled.result in
+    let joined : (q ++ u) ++ take m (take (length bs - n) (drop n bs)) ≡ q ++ take (n + m) bs =
+    ap (λ (x : List ℕ). (q ++ u) ++ take m x) (behind n bs)
+    ∙ append_assoc q u (take m (drop n bs))
+    ∙ ap (λ (x : List ℕ). q ++ x) (sym (take-add n m bs)) in
+    subst (λ (x : List ℕ). RepresentsBytes g.B.Build.spares g.B.Build.reports c.take_settled.new.self x) joined
+    (c.take_settled.ensures.represents (q ++ u) far none next)
 
 pub returns-in-Err-clause-represents : goal.returns-in-Err-clause-represents
 returns-in-Err-clause-represents g c = λ q len none live h.

@@ -12,12 +12,12 @@ returns-clause-taken c = λ _.
     let b = c.args.self.now in
     let before : Tally = record { nodes = b.nodes; content = b.retained } in
     let made : IsMade c.args.schema.now.kinds c.args.kind.place c.args.bytes.now before c.value_in.new.tally
-    c.in-Some.value =
+    c.in-Some-made.value =
     subst (λ (o : Option Value). IfSome o (IsMade c.args.schema.now.kinds c.args.kind.place c.args.bytes.now before
-    c.value_in.new.tally)) c.in-Some.is c.in_ok-made.ensures in (
-      tree c.in-Some.value,
+    c.value_in.new.tally)) c.in-Some-made.is c.in_ok-made.ensures in (
+      tree c.in-Some-made.value,
       made.fits,
       made.spelled,
-      λ t reported space. reports_part b _ c.in-Some.value t c.in_ok-add.ensures.added refl refl made.adds.nodes_are
+      λ t reported space. reports_part b _ c.in-Some-made.value t c.in_ok-add.ensures.added refl refl made.adds.nodes_are
           made.adds.content_is reported space,
     )
