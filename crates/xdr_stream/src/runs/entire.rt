@@ -15,8 +15,17 @@ pub struct Entire {
     pub extent: Extent,
 }
 
+// Whether the part is an item as small as a number: numbers of an array are taken many at once.
+#[inline(always)]
+fn is_run(work: Frame<'_>, extent: Extent) -> bool {
+    match work {
+        Frame::Items { .. } => extent.free && extent.depth == 1 && extent.bytes <= 8,
+        _ => false,
+    }
+}
+
 /// The part that comes next, where all values of its kind have one size, so many bytes are there, and neither limit is
-/// passed inside it. So many nodes stand around the one at work.
+/// passed inside it; no number of an array. So many nodes stand around the one at work.
 #[inline(always)]
 pub(crate) fn entire_due(
     schema: &Schema,
@@ -31,6 +40,9 @@ pub(crate) fn entire_due(
     let _in_range = limits.depth();
     let kind = next(&work)?;
     let extent = schema.extent(kind)?;
+    if is_run(work, extent) {
+        return None;
+    }
     let bytes = extent.bytes as usize;
     let space = (limits.bytes() as usize).saturating_sub(read);
     let levels = (limits.depth() as usize).saturating_sub(outside);

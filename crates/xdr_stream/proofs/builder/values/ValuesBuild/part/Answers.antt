@@ -18,6 +18,6 @@ returns-clause-taken c = λ _.
       tree c.in-Some-made.value,
       made.fits,
       made.spelled,
-      λ t reported space. reports_part b _ c.in-Some-made.value t c.in_ok-add.ensures.added refl refl made.adds.nodes_are
-          made.adds.content_is reported space,
+      λ t reported space. reports_part b _ c.in-Some-made.value t c.in_ok-add.ensures.added refl refl
+          made.adds.nodes_are made.adds.content_is reported space,
     )
