@@ -19,4 +19,5 @@ pub mod Cases
 pub mod InSets
 pub mod Earlier
 pub mod Extents
+pub mod Leveled
 pub mod Judging

@@ -18,4 +18,5 @@ pub mod Within
 pub mod Front
 pub mod Outcome
 pub mod Extent
+pub mod Levels
 pub mod Private

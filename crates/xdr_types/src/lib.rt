@@ -12,8 +12,8 @@
 //!   `fault`: flaws, and their places.
 //! - `heights`: which kinds have a finite value. `reach`: which defaults can be reached. `sets`: numbers and cases as
 //!   sets.
-//! - `extent`: what all values of a kind share, where their size does not vary. `lookups`: maps of numbers. `notes`:
-//!   both, noted of each kind when a schema is built.
+//! - `extent`: what all values of a kind share, where their size does not vary. `levels`: how deep they are at most.
+//!   `lookups`: maps of numbers. `notes`: all three, noted of each kind when a schema is built.
 //! - `laws`: theorems about the definitions.
 #![tactic(auto)]
 
@@ -27,6 +27,7 @@ mod fit;
 mod heights;
 mod kind;
 mod laws;
+mod levels;
 mod limits;
 mod lookups;
 mod names;

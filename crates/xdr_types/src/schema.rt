@@ -13,6 +13,7 @@ ghost use Rattle.xdr_types.specs.Alike.{same_lists};
 ghost use Rattle.xdr_types.specs.Private.Alike.{lists_equivalence};
 ghost use Rattle.xdr_types.specs.Named.{basic, named, place_named};
 ghost use Rattle.xdr_types.specs.Extent.{IsExtent};
+ghost use Rattle.xdr_types.specs.Levels.{IsMostLevels};
 ghost use Rattle.xdr_types.specs.Private.Lookups.{Finds};
 
 use crate::extent::Extent;
@@ -223,6 +224,19 @@ impl Schema {
             return None;
         }
         self.notes[place].extent
+    }
+
+    /// How many levels a value of the kind has at most (RFC 4506 sections 4.1 to 4.19), where that is 1 to 16 and no
+    /// array of varying length is among its parts. None of a kind whose values go deeper, as those of a linked list do,
+    /// of one with such an array, and of one that the schema does not have.
+    pub fn levels(&self, id: KindId) -> Option<u32>
+        ensures { IfSome result (IsMostLevels self.now.kinds id.place) }
+    {
+        let place = id.place as usize;
+        if place >= self.notes.len() {
+            return None;
+        }
+        self.notes[place].levels
     }
 
     /// The kind at a place that the schema has.

@@ -19,7 +19,7 @@ pub fn size(schema: &Schema, kind: KindId, value: &Value, limits: Limits) -> u32
     requires { FitsWithin schema.now.kinds kind.place limits (tree value.now) }
     ensures { result ≡ length (bytes_of schema.now.kinds kind.place (tree value.now)) }
 {
-    match left_after(schema, kind, value, limits.bytes()) {
+    match left_after_node(schema, kind, value, limits.bytes()) {
         Some(left) => limits.bytes() - left,
         None => 0,
     }
@@ -30,7 +30,7 @@ pub fn has_space(schema: &Schema, id: KindId, value: &Value, space: u32) -> bool
     requires { fits schema.now.kinds id.place (tree value.now) ≡ true }
     ensures { IsTrue result ↔ length (bytes_of schema.now.kinds id.place (tree value.now)) ≤ space }
 {
-    match left_after(schema, id, value, space) {
+    match left_after_node(schema, id, value, space) {
         Some(_) => true,
         None => false,
     }
@@ -53,7 +53,8 @@ fn left_after(schema: &Schema, id: KindId, value: &Value, space: u32) -> Option<
     }
 }
 
-// The same, whatever the value is. A structure whose kind has an extent is not looked into.
+// The same, whatever the value is. A structure whose kind has an extent is not looked into. Callers that ask of a whole
+// value ask here, so that one call in place of two serves who asks twice of the same value.
 #[cycle(left)]
 #[inline(never)]
 fn left_after_node(schema: &Schema, id: KindId, value: &Value, space: u32) -> Option<u32>

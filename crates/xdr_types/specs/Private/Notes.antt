@@ -1,14 +1,13 @@
--- What is noted of each kind when a schema is built, and what is retained while extents are found.
-use Rattle.std.specs.Prelude.{◌≡◌, ℕ, ◌+◌, ◌<◌, ◌≤◌, ◌%◌, ◌*◌, ◌==◌, List, length, Bool, ◌&&◌, max, IsTrue}
-use Rattle.std.specs.Prelude.{slice_index_or, IfSome, true, false, nat_lt}
-use Rattle.std.specs.List.{list_any}
+-- What is noted of each kind when a schema is built, and what is retained while extents and levels are found.
+use Rattle.std.specs.Prelude.{◌≡◌, ℕ, ◌+◌, ◌<◌, ◌≤◌, ◌%◌, ◌*◌, ◌==◌, List, length, ◌&&◌, max, IsTrue}
+use Rattle.std.specs.Prelude.{slice_index_or, IfSome, true}
 use Rattle.xdr_units.specs.Numbers.{gap}
-use Rattle.xdr_types.specs.Kinds as xdr
 use Rattle.xdr_types.specs.Kinds.{KindView, Part, kind_at}
-use Rattle.xdr_types.specs.Tree.{Values, depth_of}
-use Rattle.xdr_types.specs.Fits.{fit, are_bytes}
+use Rattle.xdr_types.specs.Tree.{Head, Values, depth_of}
+use Rattle.xdr_types.specs.Fits.{fit, parts, are_bytes}
 use Rattle.xdr_types.specs.Spelling.{spelling}
 use Rattle.xdr_types.specs.Extent.{IsExtent}
+use Rattle.xdr_types.specs.Levels.{IsMostLevels}
 use Rattle.xdr_types.specs.Private.Lookups.{MayFind}
 use Rattle.xdr_types.specs.declared.extent.Extent.{Extent}
 use Rattle.xdr_types.specs.declared.notes.Noted.{Noted}
@@ -17,6 +16,7 @@ use Rattle.xdr_types.specs.declared.notes.Noted.{Noted}
 pub record IsNoted (kinds : List KindView) (place : ℕ) (n : Noted) : Type 0 where
   pub numbers : MayFind (kind_at kinds place) n.numbers
   pub extent : IfSome n.extent (IsExtent kinds place)
+  pub levels : IfSome n.levels (IsMostLevels kinds place)
 
 -- the same at each place
 abbrev pub AreNoted : List KindView → List Noted → Type 0
@@ -75,8 +75,10 @@ pub record IsOver (fields r : Extent) : Type 0 where
   pub depth : r.depth ≡ fields.depth + 1
   pub free : r.free ≡ fields.free
 
--- a structure or a fixed array has a part that stands behind a place (RFC 4506 sections 4.12, 4.14)
-abbrev pub has_part_behind : ℕ → KindView → Bool
-has_part_behind place (xdr.fixed item size) = nat_lt place item
-has_part_behind place (xdr.structure ps) = list_any (λ (p : Part). nat_lt place p.kind) ps
-has_part_behind place _ = false
+-- values one after another, one for each part, have no more levels
+abbrev pub AreWithin : List KindView → List Part → ℕ → Type 0
+AreWithin kinds ps most = (vs : Values) → fit kinds ps vs ≡ true → depth_of vs ≤ most
+
+-- the parts of a value of a kind have no more levels
+abbrev pub IsUnder : List KindView → KindView → ℕ → Type 0
+IsUnder kinds f most = (h : Head) → AreWithin kinds (parts f h) most

@@ -1,0 +1,23 @@
+use Rattle.std.proofs.Common.{◌≡◌, ℕ, ◌+◌, ◌-◌, ◌<◌, List, length, map, drop, get_or, sym, ap, ◌∙◌, subst, arith}
+use Rattle.xdr_types.specs.Kinds.{Part}
+use Rattle.xdr_types.specs.KindViews.{part_of_member}
+use Rattle.xdr_types.specs.Private.Notes.{AreWithin}
+use Rattle.xdr_types.proofs.Joining.{fields-at}
+use Rattle.xdr_types.proofs.Leveled.{first_within}
+use Rattle.xdr_types.proofs.levels.levels_of_fields.Goals as goal
+
+pub loop-done-preserved : goal.loop-done-preserved
+loop-done-preserved c = λ kinds are.
+    let ms = c.args.fields.now.items in
+    let m = c.index-field.result.now in
+    let i : ℕ = length ms - (c.loop-done.done + 1) in
+    let here : i < length ms = omega arith in
+    let next : i + 1 ≡ length ms - c.loop-done.done = omega arith in
+    let place : c.len.result - 1 - c.loop-done.done ≡ i = omega arith in
+    let is : m ≡ get_or ms i m = c.index-field.ensures ∙ ap (λ (j : ℕ). get_or ms j m) place in
+    let rest : AreWithin kinds (map part_of_member (drop (i + 1) ms)) c.loop-done.most =
+    subst (λ (j : ℕ). AreWithin kinds (map part_of_member (drop j ms)) c.loop-done.most) (sym next)
+    (c.loop-done.invariant kinds are) in
+    subst (λ (ps : List Part). AreWithin kinds ps c.higher-most.result) (sym (fields-at ms i m here is))
+    (first_within kinds (part_of_member m) (map part_of_member (drop (i + 1) ms)) c.in_ok-noted_levels.field-0
+    c.loop-done.most c.higher-most.result (c.in_ok-noted_levels.ensures kinds are) rest c.higher-most.ensures)

@@ -1,7 +1,0 @@
-use Rattle.std.proofs.Common.{map}
-use Rattle.xdr_types.specs.KindViews.{kind_view}
-use Rattle.xdr_types.specs.Private.Notes.{AreNotes}
-use Rattle.xdr_types.proofs.notes.note_extents.Given as goal
-
-abbrev pub invariant-loop-place : goal.invariant-loop-place
-invariant-loop-place l = AreNotes (map kind_view l.kinds.items) l.notes.items
