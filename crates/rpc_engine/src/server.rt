@@ -18,6 +18,16 @@ use xdr_io::{Sink, Source};
 /// The most bytes of a record that is kept.
 const MOST_RECORD: u32 = 65536;
 
+/// How much memory is kept for the record to come: more than one takes that is whole in a read of 4096 bytes.
+const MOST_KEPT: usize = 8192;
+
+/// Drops a record that was answered. Its memory serves the next, but what a long record took is given back.
+fn drop_record(alloc: Global, record: &mut Vec<u8>) {
+    if record.capacity() > MOST_KEPT {
+        *record = Vec::new(alloc);
+    }
+}
+
 /// What a fault of the record reader is to the server.
 fn record_fault(fault: RecordFault) -> ServeFault
     ensures { result ≡ fault_of fault }
@@ -60,12 +70,13 @@ pub fn serve<R: Source, W: Sink, S: BuildHasher>(
 {
     let mut records = RecordStream::start(alloc, MOST_RECORD);
     let mut session = Session::new(alloc);
+    let mut record = Vec::new(alloc);
     'records: loop {
-        match records.next_record(reader) {
-            Ok(None) => return Ok(session.served),
-            Ok(Some(record)) => {
+        match records.next_record_into(reader, &mut record) {
+            Ok(false) => return Ok(session.served),
+            Ok(true) => {
                 match session.answer_record(alloc, directory, transport, &record, writer) {
-                    Ok(()) => {}
+                    Ok(()) => drop_record(alloc, &mut record),
                     Err(lost) => return Err(lost),
                 }
             }

@@ -12,7 +12,7 @@ use Rattle.rpc_record.specs.declared.reader.RecordReader.{RecordReader}
 use Rattle.rpc_record.specs.Marked.{Longest}
 use Rattle.rpc_record.specs.Reading.{IsWhole, IsInside, Begins, HasNoLong, Faulty, FaultyIn, IsFeedFault}
 use Rattle.rpc_record.specs.Fields.{IsTakingAt, StandsAt}
-use Rattle.rpc_record.specs.Represents.{Represents, IsTaking, IsBroken, IsBetween, IsWaiting, Takes, Reports, Hands}
+use Rattle.rpc_record.specs.Represents.{Represents, IsTaking, IsBroken, IsBetween, IsWaiting, Takes, Moves, Reports}
 use Rattle.rpc_record.specs.Represents.{TruncatedAt, limit_of}
 use Rattle.rpc_record.specs.Failures.{reads_failed}
 use Rattle.rpc_record.specs.Streamed.{HasTaken, IsRead, FailsAt, Fails, HandsOf}
@@ -43,17 +43,15 @@ taken_none limit r l e i s = made limit r [] [] [] [] l l (Consumes-none l) refl
 
 -- ---- the bytes that are held
 
--- the record that waits is handed out
-pub hands_record : (old fed new : RecordReader) (w piece rest : List ℕ) (used : ℕ) (result : Option (Vec ℕ Global))
-    → piece ≡ w → limit_of fed ≡ limit_of old → IsWaiting fed → Takes old fed (take used piece)
-    → limit_of new ≡ limit_of fed → Hands fed new result → rest ≡ drop used w → HandsOf old w new rest (Ok result)
-hands_record old fed new w piece rest used (Some v) is e i t d (waiting, between, hands) h =
-    λ limit rs l m p. made limit new (p.fed ++ take used w) rest p.input (rs ++ v.items ∷ []) l m p.read
+-- a record is handed out
+pub hands_filled : (old new : RecordReader) (w piece rest : List ℕ) (used : ℕ) (buffer : Vec ℕ Global) → piece ≡ w
+    → limit_of new ≡ limit_of old → IsBetween new → Moves old new (take used piece) (buffer.items ∷ [])
+    → rest ≡ drop used w → HandsOf old w new rest (Ok (Some buffer))
+hands_filled old new w piece rest used buffer is e between moves h =
+    λ limit rs l m p. made limit new (p.fed ++ take used w) rest p.input (rs ++ buffer.items ∷ []) l m p.read
     (p.joined ∙ ap (λ k. p.fed ++ k) (sym (take-append-drop used w) ∙ ap (λ k. take used w ++ k) (sym h))
-    ∙ sym (append_assoc p.fed (take used w) rest)) (d ∙ e ∙ p.same) (between_taking new between)
-    (hands (p.fed ++ take used w) rs
-    (subst (λ k. Represents fed (p.fed ++ take used k) rs) is (t p.fed rs p.represents)))
-hands_record old fed new w piece rest used None is e i t d (never, same) h = absurd (never i)
+    ∙ sym (append_assoc p.fed (take used w) rest)) (e ∙ p.same) (between_taking new between)
+    (subst (λ k. Represents new (p.fed ++ take used k) (rs ++ buffer.items ∷ [])) is (moves p.fed rs p.represents))
 
 -- no more record is whole
 pub hands_none : (old new : RecordReader) (w piece rest : List ℕ) → piece ≡ w → limit_of new ≡ limit_of old

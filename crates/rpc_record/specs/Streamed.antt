@@ -1,6 +1,6 @@
 -- What a stream of records has read and handed out.
 use Rattle.std.specs.Prelude.{◌≡◌, ℕ, ◌+◌, ◌-◌, ◌*◌, List, [], ◌∷◌, ◌++◌, length, take, drop}
-use Rattle.std.specs.Prelude.{Option, Some, None, Result, Ok, Err}
+use Rattle.std.specs.Prelude.{Option, Some, None, Result, Ok, Err, Bool, true, false}
 use Rattle.std.specs.declared.vec.Vec.{Vec}
 use Rattle.std.specs.declared.alloc.Global.{Global}
 use Rattle.std.specs.Io.KnownBytes.{Consumes, IsAtEnd}
@@ -84,6 +84,12 @@ HandsOf old waiting new waiting' (Ok None) =
     → HasTaken limit old waiting rs left left' → HasTaken limit new waiting' rs left left')
 HandsOf old waiting new waiting' (Err f) = (limit : ℕ) (rs : List (List ℕ)) (left left' : Option (List ℕ))
     → HasTaken limit old waiting rs left left' → Fails limit rs left left' f
+
+-- what was handed out where the record, if there is one, stands in this buffer
+abbrev pub handed : Result Bool RecordFault → Vec ℕ Global → Result (Option (Vec ℕ Global)) RecordFault
+handed (Ok true) buffer = Ok (Some buffer)
+handed (Ok false) buffer = Ok None
+handed (Err f) buffer = Err f
 
 -- the same for a stream
 abbrev pub HandsHeld : RecordStream → RecordStream → Result (Option (Vec ℕ Global)) RecordFault → Type 0

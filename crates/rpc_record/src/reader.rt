@@ -169,6 +169,11 @@ impl RecordReader {
         Ok(step)
     }
 
+    /// An empty buffer of the reader's memory.
+    pub(super) fn buffer(&self) -> Vec<u8> {
+        Vec::new(self.alloc)
+    }
+
     /// For how many more bytes of a record there is space.
     fn space(&self) -> u32
         ensures { vec_len self.now.content + result ≡ limit_of self.now }

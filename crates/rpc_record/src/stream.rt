@@ -29,10 +29,10 @@ pub struct RecordStream {
 
 impl RecordStream {
     ghost use Rattle.std.specs.Prelude.{◌≡◌, ◌<◌, ◌≤◌, ℕ, List, [], Option, Some, Ok, IfOk, IfErr, OnOk, IsErrOf};
-    ghost use Rattle.std.specs.Prelude.{IfSome};
+    ghost use Rattle.std.specs.Prelude.{IfSome, true};
     ghost use Rattle.rpc_record.specs.Reading.{IsFeedFault};
     ghost use Rattle.xdr_io.specs.Reported.{Counts};
-    ghost use Rattle.rpc_record.specs.Streamed.{HasRead, HandsHeld, HandsNext, IsOpen, most_to_come, reads_of};
+    ghost use Rattle.rpc_record.specs.Streamed.{HasRead, HandsHeld, HandsNext, IsOpen, handed, most_to_come, reads_of};
     ghost use Rattle.rpc_record.specs.Failures.{read_failures};
 
     /// The records of a source, of at most `limit` bytes each, before the first read.
@@ -70,15 +70,33 @@ impl RecordStream {
         // The record, that there is none or the fault is what stands in the bytes that were read.
         ensures next { HandsHeld self.old self.new result }
     {
+        let mut record = self.records.buffer();
+        match self.held_into(&mut record) {
+            Ok(true) => Ok(Some(record)),
+            Ok(false) => Ok(None),
+            Err(fault) => Err(fault),
+        }
+    }
+
+    /// As `next_held`, with the record in the buffer. True: there is one.
+    fn held_into(&mut self, buffer: &mut Vec<u8>) -> Result<bool, RecordFault>
+        requires { IsOpen self.old }
+        ensures open { OnOk result (IsOpen self.new) }
+        ensures reads { reads_of self.new ≡ reads_of self.old }
+        ensures fewer { IfOk result (λ b. b ≡ true → most_to_come self.new < most_to_come self.old) }
+        ensures no_more { most_to_come self.new ≤ most_to_come self.old }
+        ensures fault { IfErr result (λ f. IsFeedFault f) }
+        ensures next { HandsHeld self.old self.new (handed result buffer.new) }
+    {
         let read = &self.piece[..self.size];
-        match self.records.feed(&read[self.at..]) {
+        match self.records.feed_into(&read[self.at..], buffer) {
             Ok(RecordStep::Whole { used }) => {
                 self.at += used;
-                Ok(self.records.take())
+                Ok(true)
             }
             Ok(RecordStep::More) => {
                 self.at = self.size;
-                Ok(None)
+                Ok(false)
             }
             Err(fault) => Err(fault),
         }
@@ -105,10 +123,42 @@ impl RecordStream {
         // One read failed where the answer is `Read`, and else none.
         ensures read { Counts (read_failures result) (R.failures source.old) (R.failures source.new) }
     {
+        let mut record = self.records.buffer();
+        match self.next_record_into(source, &mut record) {
+            Ok(true) => Ok(Some(record)),
+            Ok(false) => Ok(None),
+            Err(fault) => Err(fault),
+        }
+    }
+
+    /// As `next_record`, with the record in the buffer, whose bytes are dropped: its memory serves again, or is given
+    /// to a record to come. True: there is one. But for a record, the buffer's bytes are any.
+    pub fn next_record_into<R: Source>(
+        &mut self,
+        source: &mut R,
+        buffer: &mut Vec<u8>,
+    ) -> Result<bool, RecordFault>
+        requires { IsOpen self.old }
+        // The record, the end or the fault is what stands behind the records that were handed out before.
+        ensures next { (limit : ℕ) (rs : List (List ℕ)) (left : Option (List ℕ))
+            → HasRead limit self.old rs left (R.left source.old)
+            → HandsNext limit self.new rs left (R.left source.new) (handed result buffer.new) }
+        // With each record fewer are still to come, so that a loop over the records ends.
+        ensures fewer { IfOk result (λ b. b ≡ true → most_to_come self.new < most_to_come self.old) }
+        // The stream counts its reads as the source does,
+        ensures reads { (start : Option ℕ) → Counts (reads_of self.old) start (R.reads source.old)
+            → Counts (reads_of self.new) start (R.reads source.new) }
+        // makes so many at most,
+        ensures most { reads_of self.new ≤ MOST_READS }
+        // and has made all of them where it says that there were too many.
+        ensures many { IsErrOf result RecordFault.TooManyReads → reads_of self.new ≡ MOST_READS }
+        // One read failed where the answer is `Read`, and else none.
+        ensures read { Counts (read_failures result) (R.failures source.old) (R.failures source.new) }
+    {
         'reads: loop {
-            match self.next_held() {
-                Ok(None) => {}
-                Ok(Some(record)) => return Ok(Some(record)),
+            match self.held_into(buffer) {
+                Ok(false) => {}
+                Ok(true) => return Ok(true),
                 Err(fault) => return Err(fault),
             }
             if self.reads == MOST_READS {
@@ -122,7 +172,7 @@ impl RecordStream {
             }
             if self.size == 0 {
                 return match self.records.end() {
-                    Ok(()) => Ok(None),
+                    Ok(()) => Ok(false),
                     Err(fault) => Err(fault),
                 };
             }

@@ -22,11 +22,11 @@ records-init g c = record {
 
 -- ---- the input has ended
 
-pub returns-in-Ok-None-clause-ok : goal.returns-in-Ok-None-clause-ok
-returns-in-Ok-None-clause-ok g c =
+pub returns-in-Ok-false-clause-ok : goal.returns-in-Ok-false-clause-ok
+returns-in-Ok-false-clause-ok g c =
     let inv = c.records.invariant in
     serves (netid_of c.args.transport) _ _ inv.start c.records.session inv.rs _ _ _ _ inv.begun inv.does
-    (rw c.in-Ok-None.field-0-is at (c.in-Ok-None.ensures.next most_record inv.rs _ inv.read))
+    (rw c.in-Ok-false.field-0-test at (c.in-Ok-false.ensures.next most_record inv.rs _ inv.read))
 
 -- ---- a record
 
@@ -35,26 +35,26 @@ records-preserved g c =
     let inv = c.records.invariant in
     let record_is = c.deref.ensures.value in
     record {
-      rs = inv.rs ++ c.in-Ok-Some.record.items ∷ [];
+      rs = inv.rs ++ c.next_record_into.new.buffer.items ∷ [];
       start = inv.start;
       begun = inv.begun;
-      read = rw c.in-Ok-Some.field-0-is at (c.in-Ok-Some.ensures.next most_record inv.rs _ inv.read);
+      read = rw c.in-Ok-true.field-0-test at (c.in-Ok-true.ensures.next most_record inv.rs _ inv.read);
       does = does_trans (netid_of c.args.transport) _ _ _ inv.start c.records.session c.answer_record.new.self inv.rs
-          (c.in-Ok-Some.record.items ∷ []) _ _ _ inv.does
+          (c.next_record_into.new.buffer.items ∷ []) _ _ _ inv.does
           (subst (λ k. Does (netid_of c.args.transport) c.records.directory c.answer_record.new.directory
           c.records.session c.answer_record.new.self (k ∷ []) (g.W.Sink.taken c.records.writer)
           (g.W.Sink.taken c.answer_record.new.writer)) record_is c.in-Ok.ensures.ok);
-      reads = c.in-Ok-Some.ensures.reads _ inv.reads;
-      reads_failed = Counts-trans _ _ _ 0 0 0 refl inv.reads_failed c.in-Ok-Some.ensures.read;
+      reads = c.in-Ok-true.ensures.reads _ inv.reads;
+      reads_failed = Counts-trans _ _ _ 0 0 0 refl inv.reads_failed c.in-Ok-true.ensures.read;
       writes_failed = Counts-trans _ _ _ 0 0 0 refl inv.writes_failed c.in-Ok.ensures.none_failed;
     }
 
 pub returns-in-Err-answer_record-clause-fault : goal.returns-in-Err-answer_record-clause-fault
 returns-in-Err-answer_record-clause-fault g c =
     let inv = c.records.invariant in
-    stops_lost (netid_of c.args.transport) _ _ _ inv.start c.records.session inv.rs c.in-Ok-Some.record.items
-    c.deref.result.now _ _ _ _ _ c.next_record.new.self.records _ c.in-Err-answer_record.lost c.deref.ensures.value
-    (rw c.in-Ok-Some.field-0-is at (c.in-Ok-Some.ensures.next most_record inv.rs _ inv.read)) inv.begun inv.does
+    stops_lost (netid_of c.args.transport) _ _ _ inv.start c.records.session inv.rs c.next_record_into.new.buffer.items
+    c.deref.result.now _ _ _ _ _ c.next_record_into.new.self.records _ c.in-Err-answer_record.lost c.deref.ensures.value
+    (rw c.in-Ok-true.field-0-test at (c.in-Ok-true.ensures.next most_record inv.rs _ inv.read)) inv.begun inv.does
     c.in-Err-answer_record.ensures.cut
 
 pub returns-in-Err-answer_record-clause-write : goal.returns-in-Err-answer_record-clause-write
@@ -67,7 +67,7 @@ pub returns-in-Err-answer_record-clause-read : goal.returns-in-Err-answer_record
 returns-in-Err-answer_record-clause-read g c =
     let lost = lost_is (netid_of c.args.transport) _ _ c.records.session _ _ _ c.in-Err-answer_record.lost
     c.in-Err-answer_record.ensures.cut in
-    Counts-trans _ _ _ 0 0 _ lost.1 c.records.invariant.reads_failed c.in-Ok-Some.ensures.read
+    Counts-trans _ _ _ 0 0 _ lost.1 c.records.invariant.reads_failed c.in-Ok-true.ensures.read
 
 -- ---- a fault of the reader
 

@@ -2,7 +2,7 @@ use Rattle.std.proofs.Common.{◌≤◌, ◌-◌, ℕ, List, Option}
 use Rattle.xdr_io.specs.Reported.{Counts}
 use Rattle.xdr_io.specs.declared.input.TheConstants.{MOST_READS}
 use Rattle.rpc_record.specs.Streamed.{HasRead, IsOpen, most_to_come, reads_of}
-use Rattle.rpc_record.proofs.stream.RecordStream.next_record.Given as goal
+use Rattle.rpc_record.proofs.stream.RecordStream.next_record_into.Given as goal
 
 abbrev pub invariant-reads : goal.invariant-reads
 invariant-reads g l = record {
