@@ -3,3 +3,4 @@ pub mod Numbers
 pub mod Options
 pub mod Pieces
 pub mod Whole
+pub mod Words

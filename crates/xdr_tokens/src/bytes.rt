@@ -23,11 +23,35 @@ pub fn digit(byte: u8) -> bool
     b'0' <= byte && byte <= b'9'
 }
 
-/// A letter, a digit or `_`.
+/// Which bytes are letters, digits and `_`.
+const WORDS: [bool; 256] = [
+    false, false, false, false, false, false, false, false, false, false, false, false, false,
+    false, false, false, false, false, false, false, false, false, false, false, false, false,
+    false, false, false, false, false, false, false, false, false, false, false, false, false,
+    false, false, false, false, false, false, false, false, false, true, true, true, true, true,
+    true, true, true, true, true, false, false, false, false, false, false, false, true, true,
+    true, true, true, true, true, true, true, true, true, true, true, true, true, true, true, true,
+    true, true, true, true, true, true, true, true, false, false, false, false, true, false, true,
+    true, true, true, true, true, true, true, true, true, true, true, true, true, true, true, true,
+    true, true, true, true, true, true, true, true, true, false, false, false, false, false, false,
+    false, false, false, false, false, false, false, false, false, false, false, false, false,
+    false, false, false, false, false, false, false, false, false, false, false, false, false,
+    false, false, false, false, false, false, false, false, false, false, false, false, false,
+    false, false, false, false, false, false, false, false, false, false, false, false, false,
+    false, false, false, false, false, false, false, false, false, false, false, false, false,
+    false, false, false, false, false, false, false, false, false, false, false, false, false,
+    false, false, false, false, false, false, false, false, false, false, false, false, false,
+    false, false, false, false, false, false, false, false, false, false, false, false, false,
+    false, false, false, false, false, false, false, false, false, false, false, false, false,
+    false, false, false, false, false, false, false, false, false, false,
+];
+
+/// A letter, a digit or `_`: most bytes of a text are asked for this, so that it is a look-up.
+#[tactic(auto, using(crate::proofs::Words::words_are))]
 pub fn in_word(byte: u8) -> bool
     ensures { result ≡ is_word byte }
 {
-    letter(byte) || digit(byte) || byte == b'_'
+    WORDS[usize::from(byte)]
 }
 
 /// How many letters, digits and `_` stand in front.
