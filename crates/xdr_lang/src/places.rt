@@ -92,9 +92,9 @@ fn place_within<'a>(types: &TypeTable<'a>, steps: usize, part: Part<'a>) -> Resu
     }
 }
 
-/// The place of the kind that a name stands for.
+/// The place of the kind that a name stands for, through names whose places are known or that lead to one another.
 #[tactic(auto, unfolding(crate::specs::LookUp::named_place))]
-fn named_place(types: &TypeTable<'_>, name: Name<'_>) -> Result<u32, Fault>
+fn place_through_names(types: &TypeTable<'_>, name: Name<'_>) -> Result<u32, Fault>
     ensures { Gives (λ x. x) result
         (named_place (length (types_of types.now.list.items)) (types_of types.now.list.items) name.entry.text.now) }
 {
@@ -109,6 +109,23 @@ fn named_place(types: &TypeTable<'_>, name: Name<'_>) -> Result<u32, Fault>
     }
     let steps = types.list.len();
     match types.named(name.text) {
+        Some(part) if steps > 0 => place_within(types, steps - 1, part),
+        _ => Err(Fault::Refused {
+            wrong: Wrong::NameUnknown,
+            left: name.left,
+        }),
+    }
+}
+
+/// The place of the kind that a name stands for. Most names are no others, and need one look-up.
+#[tactic(auto, unfolding(crate::specs::LookUp::named_place))]
+fn named_place(types: &TypeTable<'_>, name: Name<'_>) -> Result<u32, Fault>
+    ensures { Gives (λ x. x) result
+        (named_place (length (types_of types.now.list.items)) (types_of types.now.list.items) name.entry.text.now) }
+{
+    let steps = types.list.len();
+    match types.named(name.text) {
+        Some(Part::Named(_)) => place_through_names(types, name),
         Some(part) if steps > 0 => place_within(types, steps - 1, part),
         _ => Err(Fault::Refused {
             wrong: Wrong::NameUnknown,

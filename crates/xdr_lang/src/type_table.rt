@@ -183,8 +183,8 @@ impl<'a> TypeTable<'a> {
         self.add_lost(lost, &path)
     }
 
-    /// Keeps the place of each type that has one, and the names that have none. A type that is no other name has
-    /// its place at once.
+    /// Keeps the place of each type that is another name and has one, and the names that have none. A type that is no
+    /// other name has its place where it is looked up, so that it is kept only where another name leads to it.
     fn learn_all(&mut self, alloc: Global, types: &[Field<'a>]) -> Result<(), AllocError>
         ensures { types_of self.new.list.items ≡ types_of self.old.list.items }
     {
@@ -195,7 +195,7 @@ impl<'a> TypeTable<'a> {
                 Part::Named(_) | Part::Struct(_) => {
                     self.follow(alloc, field, &mut met, &mut lost)?
                 }
-                _ => self.learn(field.name.text)?,
+                _ => {}
             }
         }
         self.keep_endless(lost);
