@@ -1,3 +1,4 @@
+pub mod Alone
 pub mod Amounts
 pub mod Stepping
 pub mod Keeping

@@ -9,7 +9,7 @@ use Rattle.xdr_types.specs.Tree as value
 use Rattle.xdr_types.specs.Tree.{Head}
 use Rattle.xdr_types.specs.Fits.{parts}
 use Rattle.xdr_types.specs.Spelling.{own}
-use Rattle.xdr_types.specs.Layout.{Entry, entry, shown, shown_bytes, shown_items, content, of_number, of_length}
+use Rattle.xdr_types.specs.Layout.{Entry, entry, shown, shown_bytes, shown_items, of_number, of_length}
 use Rattle.xdr_types.specs.Layout.{of_group}
 use Rattle.xdr_units.specs.Numbers.{pad, gap, word}
 use Rattle.xdr_laws.specs.Owed.{Frame, Rest, Completes, Lead, UnitFirst, LengthFirst, FreeBytes, Silent, lead_of}
@@ -26,7 +26,7 @@ use Rattle.xdr_stream.specs.Frames.{dues}
 use Rattle.xdr_parts.specs.Private.Walking.{AreLow, IsFree}
 use Rattle.xdr_parts.specs.Lent.{size_in, role_in}
 use Rattle.xdr_parts.specs.declared.part.Role.{Role}
-use Rattle.xdr_parts.specs.declared.part.Role.TheVariants.{Number, Content}
+use Rattle.xdr_parts.proofs.Alone.{IsUnitAs, free_as}
 
 -- ---- bytes behind a place
 
@@ -131,17 +131,6 @@ length_role : (k : KindView) → IsLengthFirst (lead_of k) → role_of k ≡ of_
 length_role (xdr.opaque_up_to max) u = refl
 length_role (xdr.text max) u = refl
 length_role _ u = absurd u
-
--- bytes of any value as one part
-abbrev IsFreeAs : KindView → Role → ℕ → Type 0
-IsFreeAs k role size = IsFreeBytes (lead_of k) × (free_size k ≡ size)
-    × ((at d : ℕ) (p : Part) → free_parts at d p k ≡ entry at (size_in role size) d p (role_in role size) ∷ [])
-
-pub free_as : (k : KindView) (role : Role) (size : ℕ) → IsFree k role size → IsFreeAs k role size
-free_as xdr.hyper Number size f = (tt, sym f, λ at d p. ap (λ (n : ℕ). entry at n d p of_number ∷ []) (sym f))
-free_as xdr.unsigned_hyper Number size f = (tt, sym f, λ at d p. ap (λ (n : ℕ). entry at n d p of_number ∷ []) (sym f))
-free_as (xdr.opaque n) Content size f = (tt, f, λ at d p. ap (λ (n : ℕ). content at d p n) f)
-free_as _ _ size f = absurd f
 
 -- a unit and the bytes behind it
 pub unit_spelled : (bytes : List ℕ) (at x : ℕ) → word x ≡ take 4 (drop at bytes)
@@ -253,6 +242,31 @@ module _ (s : List KindView) (at : ℕ) (bytes : List ℕ) (p : Part) (ps : List
       let g = content_goes s at n (ps ∷ fs) bytes i.0 within here in
       record { left = i.0; parted = i.1; owes = g.0; within = g.1 }
 
+  -- a number of one unit
+  pub goes_number : (role : Role) (size : ℕ) → IsUnitAs K role size
+      → Goes s at bytes es (entry at (size_in role size) D p (role_in role size) ∷ []) (size + gap size) (ps ∷ fs)
+  goes_number role size u =
+      let b = begin_into s at D p ps (dues fs) (drop at bytes) es r in
+      let n = u.2 s at D p b.0 b.3 in
+      let far : D + 1 ≡ length (ps ∷ fs) + 1 = omega arith in
+      let behind : drop (at + 4) bytes ≡ b.1 = drop_behind bytes (own K b.0) b.1 at 4 b.4 n.1 in
+      let first : Completes s (at + 4) (Frame (D + 1) (parts K b.0) ∷ dues (ps ∷ fs)) b.1 b.2 =
+      subst (λ (m : ℕ). Completes s (at + m) (Frame (D + 1) (parts K b.0) ∷ dues (ps ∷ fs)) b.1 b.2) n.1 b.6 in
+      let none : Completes s (at + 4) (Frame (D + 1) [] ∷ dues (ps ∷ fs)) b.1 b.2 =
+      subst (λ (y : List Part). Completes s (at + 4) (Frame (D + 1) y ∷ dues (ps ∷ fs)) b.1 b.2) n.2 first in
+      let level : Completes s (at + 4) (dues ([] ∷ ps ∷ fs)) b.1 b.2 =
+      subst (λ (m : ℕ). Completes s (at + 4) (Frame m [] ∷ dues (ps ∷ fs)) b.1 b.2) far none in
+      let goes : Goes s at bytes es (entry at 4 D p of_number ∷ []) 4 (ps ∷ fs) = record {
+        left = b.2;
+        parted = b.5 ∙ ap (λ (x : List Entry). x ++ b.2) n.0;
+        owes = ended s (at + 4) (ps ∷ fs) (drop (at + 4) bytes) b.2
+            (subst (λ (x : List ℕ). Completes s (at + 4) (dues ([] ∷ ps ∷ fs)) x b.2) (sym behind) level);
+        within = there bytes (own K b.0 ++ b.1) at 4 b.4 (omega (arith, n.1, length-append (own K b.0) b.1)) within;
+      } in
+      subst (λ (x : Role). Goes s at bytes es (entry at (size_in x size) D p (role_in x size) ∷ []) (size + gap size)
+      (ps ∷ fs)) (sym u.0)
+      (subst (λ (m : ℕ). Goes s at bytes es (entry at m D p of_number ∷ []) (m + gap m) (ps ∷ fs)) (sym u.1) goes)
+
   -- no bytes of its own
   pub goes_group : (inner : List Part) → IsSilent (lead_of K) → parts K (silent_head K) ≡ inner
       → Goes s at bytes es (entry at 0 D p of_group ∷ []) 0 (inner ∷ ps ∷ fs)
@@ -310,9 +324,10 @@ module _ (s : List KindView) (at : ℕ) (bytes : List ℕ) (p : Part) (ps : List
     pub free_of : (role : Role) (size : ℕ) → IsFree k role size
         → Goes s at bytes es (entry at (size_in role size) D p (role_in role size) ∷ []) (size + gap size) (ps ∷ fs)
     free_of role size f =
-        let g = free_as K role size (subst (λ (f : KindView). IsFree f role size) same f) in
-        subst (λ (l : List Entry). Goes s at bytes es l (size + gap size) (ps ∷ fs)) (g.2 at D p)
-        (subst (λ (n : ℕ). Goes s at bytes es (free_parts at D p K) (n + gap n) (ps ∷ fs)) g.1 (goes_free g.0))
+        free_as K role size (subst (λ (f : KindView). IsFree f role size) same f)
+        (λ g. subst (λ (l : List Entry). Goes s at bytes es l (size + gap size) (ps ∷ fs)) (g.2 at D p)
+        (subst (λ (n : ℕ). Goes s at bytes es (free_parts at D p K) (n + gap n) (ps ∷ fs)) g.1 (goes_free g.0)))
+        (goes_number role size)
 
     pub group_of : (inner : List Part) → IsSilent (lead_of k) → parts k (silent_head k) ≡ inner
         → Goes s at bytes es (entry at 0 D p of_group ∷ []) 0 (inner ∷ ps ∷ fs)

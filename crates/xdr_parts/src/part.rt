@@ -1,10 +1,12 @@
 //! A part of a value, lent from the bytes that spell it.
-ghost use Rattle.std.specs.Prelude.{◌≡◌, ◌+◌, ◌≤◌, length};
+ghost use Rattle.std.specs.Prelude.{◌≡◌, ◌+◌, ◌≤◌, length, IfSome};
 ghost use Rattle.xdr_types.specs.Layout.{entry};
 ghost use Rattle.xdr_laws.specs.Owed.{lead_of, HasUnit, role_of};
 ghost use Rattle.xdr_types.specs.KindViews.{kind_view};
 ghost use Rattle.xdr_parts.specs.Lent.{entry_of, size_in, role_in, IsLentFrom};
-ghost use Rattle.xdr_parts.specs.Private.Walking.{part_of};
+ghost use Rattle.xdr_units.specs.Numbers.{gap};
+ghost use Rattle.xdr_parts.specs.declared.part.Role.TheVariants.{Number};
+ghost use Rattle.xdr_parts.specs.Private.Walking.{part_of, IsFree};
 
 use crate::next::Next;
 use xdr_types::{Kind, KindId};
@@ -79,4 +81,24 @@ pub fn unit_role(kind: &Kind) -> Role
         Kind::Maybe { .. } => Role::Flag,
         _ => Role::Number,
     }
+}
+
+/// How many bytes the number has that is all of a value of the kind (RFC 4506 sections 4.1 to 4.5); none, where a value
+/// has no number or other parts behind it.
+pub fn number_size(kind: &Kind) -> Option<u32>
+    ensures { IfSome result (λ size. IsFree (kind_view kind.now) Number size) }
+{
+    match kind {
+        Kind::Int | Kind::Unsigned | Kind::Bool | Kind::Numbered { .. } => Some(4),
+        Kind::Hyper | Kind::UnsignedHyper => Some(8),
+        _ => None,
+    }
+}
+
+/// So many bytes, and those that bring them to whole units.
+pub fn whole_units(size: u32) -> usize
+    ensures { result ≡ size + gap size }
+{
+    let size = size as usize;
+    size + (4 - size % 4) % 4
 }

@@ -13,7 +13,7 @@ ghost use Rattle.xdr_parts.specs.Private.Taking.{HasAll};
 ghost use Rattle.xdr_parts.specs.Private.Walking.{part_of, Aim, HasWalked, Wrote, IsNext, IsFree, IsGroup, IsSpelled};
 
 use crate::next::{Next, first};
-use crate::part::{Role, part_at, unit_role};
+use crate::part::{Role, number_size, part_at, unit_role, whole_units};
 use crate::taken::Taken;
 use std::alloc::{AllocError, Global};
 use xdr_stream::machine::frame::{Frame, after};
@@ -134,6 +134,10 @@ impl<'a> Walk<'a> {
         ensures bytes { OnOk result (self.new.bytes.now ≡ self.old.bytes.now) }
     {
         let kind = self.schema.kind(next.kind);
+        if let Some(size) = number_size(kind) {
+            // That its number is one of the kind is known, and is not asked again.
+            return self.take_free(next, kind, Role::Number, size);
+        }
         match step_of(kind) {
             Step::Unit => self.take_unit(next, kind),
             Step::Fields(fields) => self.take_group(next, kind, Frame::Fields { fields }),
@@ -290,12 +294,4 @@ impl<'a> Walk<'a> {
         self.at += moved;
         Ok(())
     }
-}
-
-// So many bytes, and those that bring them to whole units.
-fn whole_units(size: u32) -> usize
-    ensures { result ≡ size + gap size }
-{
-    let size = size as usize;
-    size + (4 - size % 4) % 4
 }

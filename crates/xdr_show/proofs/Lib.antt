@@ -1,3 +1,4 @@
+pub mod Puts
 pub mod Heads
 pub mod Joined
 pub mod Named

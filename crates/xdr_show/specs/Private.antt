@@ -1,4 +1,5 @@
 -- Definitions that only private functions cite: the steps of the code. No contract of a public call names any of it.
+pub mod Backwards
 pub mod Heads
 pub mod Lines
 pub mod Read

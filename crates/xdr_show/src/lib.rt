@@ -6,6 +6,7 @@
 //! - `laws`: the lines are those of the layout.
 #![tactic(auto)]
 
+mod backwards;
 mod content;
 mod head;
 mod laws;
@@ -13,6 +14,7 @@ mod lent;
 mod line;
 mod number;
 mod part_head;
+mod short;
 mod shown;
 
 pub use content::push_escaped_bytes;

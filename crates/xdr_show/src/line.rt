@@ -1,5 +1,5 @@
 //! What stands in a line before and around what its part says.
-ghost use Rattle.std.specs.Prelude.{◌≡◌, ◌≤◌, ◌++◌, OnOk, true};
+ghost use Rattle.std.specs.Prelude.{◌≡◌, ◌+◌, ◌≤◌, ◌++◌, IfOk, OnOk, codes, length, replicate, true, if◌then◌else◌};
 ghost use Rattle.xdr_types.specs.Kinds.{kind_at};
 ghost use Rattle.xdr_types.specs.KindViews.{kind_view};
 ghost use Rattle.xdr_types.specs.Fits.{is_legal};
@@ -7,15 +7,20 @@ ghost use Rattle.xdr_show.specs.Line.{indent, label, line_text};
 ghost use Rattle.xdr_show.specs.Private.Lines.{node_text};
 ghost use Rattle.xdr_show.specs.Private.Heads.{head_view};
 
+use crate::backwards::{ROOM, write_before};
 use crate::content::{push_hexadecimal, push_quoted};
 use crate::head::Head;
 use crate::number::{
     name_of, push_case, push_count, push_flag, push_numbered, push_signed, push_unsigned,
 };
+use crate::short::{push_written, write_text};
 use xdr_types::{Kind, KindId, NoMemory, Schema};
 
 // Spaces that go in at once.
 const SPACES: [u8; 64] = [b' '; 64];
+
+// How many bytes the indentation and the name of a short line have at most.
+const SHORT: usize = 40;
 
 /// The line of a node.
 pub fn push_line(
@@ -32,11 +37,43 @@ pub fn push_line(
     ensures { OnOk result (out.new.items ≡ out.old.items
         ++ line_text depth name.now (node_text schema.now.kinds (kind_view kind.now) (head_view head.entry))) }
 {
+    let spaces = 2 * depth.saturating_sub(1) as usize;
+    if spaces + name.len() <= SHORT {
+        if push_near(out, schema, spaces, name, id, kind, head)? {
+            return Ok(());
+        }
+    }
     push_indent(out, depth)?;
     push_label(out, name)?;
     push_text(out, schema, id, kind, head)?;
     out.extend_from_slice(b"\n")?;
     Ok(())
+}
+
+// The line of a node behind so many spaces, where it is short: it is written from its end, so that it is appended at
+// once. Tells whether it is; where not, nothing is appended.
+fn push_near(
+    out: &mut Vec<u8>,
+    schema: &Schema,
+    spaces: usize,
+    name: &[u8],
+    id: KindId,
+    kind: &Kind,
+    head: Head,
+) -> Result<bool, NoMemory>
+    requires short { spaces + length name.now ≤ 40 }
+    requires kind { kind_view kind.now ≡ kind_at schema.now.kinds id.place }
+    requires legal { is_legal schema.now.kinds (kind_view kind.now) (head_view head) ≡ true }
+    ensures { IfOk result (λ done. out.new.items ≡ (if done then out.old.items ++ (replicate spaces 32 ++ label name.now
+        ++ node_text schema.now.kinds (kind_view kind.now) (head_view head.entry) ++ codes "\n") else out.old.items)) }
+{
+    let mut line = [b' '; ROOM];
+    let end = write_before(b"\n", &mut line, ROOM);
+    let Some(start) = write_text(schema, id, kind, head, &mut line, end) else {
+        return Ok(false);
+    };
+    push_written(out, spaces, name, &mut line, start)?;
+    Ok(true)
 }
 
 // Two spaces for each level below the first.

@@ -48,8 +48,13 @@ pub record HasWalked (w : Walk) (all : Aim) : Type 0 where
 abbrev pub IsNext : Walk → Next → Type 0
 IsNext w n = left_of w.work ≡ part_of n ∷ rest_of (left_of w.work)
 
--- a value of the kind is so many bytes, whatever they are, as one part of this role (RFC 4506 sections 4.5, 4.9)
+-- a value of the kind that is there is so many bytes, whatever they are, as one part of this role (RFC 4506 sections
+-- 4.1 to 4.5, 4.9)
 abbrev pub IsFree : KindView → Role → (size : ℕ) → Type 0
+IsFree xdr.int Number size = size ≡ 4
+IsFree xdr.unsigned Number size = size ≡ 4
+IsFree xdr.boolean Number size = size ≡ 4
+IsFree (xdr.numbered constants) Number size = size ≡ 4
 IsFree xdr.hyper Number size = size ≡ 8
 IsFree xdr.unsigned_hyper Number size = size ≡ 8
 IsFree (xdr.opaque n) Content size = n ≡ size
