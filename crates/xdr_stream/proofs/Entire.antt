@@ -30,6 +30,7 @@ use Rattle.xdr_laws.proofs.Longer.{unit_apart}
 use Rattle.xdr_laws.proofs.Whole.{all_more, depth_high, join_to, AllLow as AreAt}
 use Rattle.xdr_laws.proofs.WholeUnits.{value_units}
 use Rattle.xdr_stream.specs.Frames.{dues, left_of, rest_of, onto, stack_of}
+use Rattle.xdr_stream.specs.Private.Ahead.{IsAhead}
 use Rattle.xdr_stream.specs.Private.Entire.{IsEntire, WentAs}
 use Rattle.xdr_stream.specs.Represents.{RepresentsAs, IsAwake}
 use Rattle.xdr_stream.specs.declared.machine.frame.Frame as node
@@ -293,22 +294,22 @@ module _ (s : List KindView) (has : EachKindHasAValue s) (t : ℕ) (l : Bounds) 
 
 -- the next part of the nodes at work in code
 pub entire_seen : (s : List KindView) → EachKindHasAValue s → (t : ℕ) (l : Bounds) (H I : Trace → Type 0)
-    (work next : node.Frame) (parents : List node.Frame) (q u : List ℕ) (outside read there : ℕ) (e : Entire) (v : Tree)
+    (work next : node.Frame) (parents : List node.Frame) (q u : List ℕ) (outside read there : ℕ) (e : Entire)
     → IsEntire s (left_of work) l outside read there e → length parents ≡ outside → length q ≡ read
-    → Fits s e.kind.place v → bytes_of s e.kind.place v ≡ u → left_of next ≡ rest_of (left_of work)
-    → ((a : Trace) → H a → HasSpace a → I (part_in v a))
+    → (o : IsAhead s e.kind.place e.levels u) → 0 < length u → length u ≤ e.most
+    → left_of next ≡ rest_of (left_of work) → ((a : Trace) → H a → HasSpace a → I (part_in o.value a))
     → Sees s t l H Next (stack_of work parents) q → Sees s t l I Next (stack_of next parents) (q ++ u)
-entire_seen s has t l H I work next parents q u outside read there e v d around far fitting spelled after reports r =
+entire_seen s has t l H I work next parents q u outside read there e d around far o some most after reports r =
     let p : Part = d.first.0 in
     let ps : List Part = rest_of (left_of work) in
     let fs : List (List Part) = onto [] parents in
-    let fits_here : Fits s p.kind v = subst (λ (k : ℕ). Fits s k v) (sym d.first.2) fitting in
-    let here : bytes_of s p.kind v ≡ u = ap (λ (k : ℕ). bytes_of s k v) d.first.2 ∙ spelled in
-    let size : length u ≡ e.extent.bytes = ap (λ (x : List ℕ). length x) (sym spelled) ∙ d.extent.bytes v fitting in
+    let v : Tree = o.value in
+    let fits_here : Fits s p.kind v = subst (λ (k : ℕ). Fits s k v) (sym d.first.2) o.fits in
+    let here : bytes_of s p.kind v ≡ u = ap (λ (k : ℕ). bytes_of s k v) d.first.2 ∙ o.spelled in
     let seen : Sees s t l I Next (ps ∷ fs) (q ++ bytes_of s p.kind v) =
     sees_part s has t l H I p ps fs q v fits_here
-    (omega (arith, onto_length [] parents, around, d.low, d.extent.levels v fitting))
-    (omega (arith, far, size, d.space, ap (λ (x : List ℕ). length x) here)) reports
+    (omega (arith, onto_length [] parents, around, d.low, o.shallow))
+    (omega (arith, far, most, some, d.space (omega (arith, some, most)), ap (λ (x : List ℕ). length x) here)) reports
     (subst (λ (x : List Part). Sees s t l H Next (x ∷ fs) q) d.first.1 r) in
     subst (λ (x : List Part). Sees s t l I Next (x ∷ fs) (q ++ u)) (sym after)
     (subst (λ (x : List ℕ). Sees s t l I Next (ps ∷ fs) (q ++ x)) here seen)

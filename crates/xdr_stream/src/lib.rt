@@ -3,8 +3,8 @@
 //! - `machine`: how reading goes on, whatever is made of the nodes. In it are `nodes`, `frame`, `step`, `unit` and
 //!   `number`.
 //! - `builder`: what is made of the nodes. In it are `values`, `level` and `nothing`.
-//! - `runs`: what comes next as bytes that are taken at once. In it are `numbers`, `content`, `leaf`, `entire` and
-//!   `judge`.
+//! - `runs`: what comes next as bytes that are taken at once. In it are `numbers`, `content`, `leaf`,
+//!   `entire` and `ahead`.
 //! - `reader`: where reading stands. In it are `start`, `due`, `pieces`, `parts`, `entire`, `many` and `settling`.
 //! - `decoder`: bytes in pieces as a value. `checker`: bytes in pieces, judged without a value.
 //! - `holding`: what a reader holds. `fault`: why bytes are refused.

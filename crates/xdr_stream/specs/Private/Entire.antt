@@ -1,12 +1,10 @@
--- Parts that are there whole, of kinds whose values have one size.
-use Rattle.std.specs.Prelude.{◌≡◌, ℕ, ◌+◌, ◌<◌, ◌≤◌, true, List, length}
+-- Parts that are there whole.
+use Rattle.std.specs.Prelude.{◌≡◌, ℕ, ◌+◌, ◌<◌, ◌≤◌, List, length}
 use Rattle.xdr_types.specs.Kinds.{KindView, Part}
-use Rattle.xdr_types.specs.Tree.{Values, Tree}
-use Rattle.xdr_types.specs.Fits.{Fits, fit}
-use Rattle.xdr_types.specs.Spelling.{spelling, bytes_of}
+use Rattle.xdr_types.specs.Fits.{Fits}
+use Rattle.xdr_types.specs.Spelling.{bytes_of}
 use Rattle.xdr_types.specs.Within.{Bounds}
 use Rattle.xdr_units.specs.Numbers.{padded}
-use Rattle.xdr_types.specs.Extent.{IsExtent}
 use Rattle.xdr_stream.specs.Frames.{Begins, stack_of}
 use Rattle.xdr_stream.specs.Nodes.{head_of_leaf}
 use Rattle.xdr_stream.specs.Private.Reported.{leaf_tree}
@@ -20,33 +18,25 @@ use Rattle.xdr_stream.specs.declared.reader.State.TheVariants.{Fresh}
 use Rattle.xdr_stream.specs.declared.reader.Reader.{Reader}
 use Rattle.xdr_stream.specs.declared.runs.entire.Entire.{Entire}
 
--- these are the bytes of a value of the kind at the place (RFC 4506 section 4)
-abbrev pub IsOne : List KindView → (place : ℕ) → List ℕ → Type 0
-IsOne kinds place bytes = (v : Tree) × Fits kinds place v × (bytes_of kinds place v ≡ bytes)
-
 -- these are the bytes of a value of the kind without parts (RFC 4506 sections 4.1 to 4.5)
 abbrev pub IsOneLeaf : List KindView → (place : ℕ) → List ℕ → Leaf → Type 0
 IsOneLeaf kinds place bytes leaf = Fits kinds place (leaf_tree (head_of_leaf leaf))
     × (bytes_of kinds place (leaf_tree (head_of_leaf leaf)) ≡ bytes)
 
--- these are the bytes of one value for each part (RFC 4506 sections 4.12, 4.14)
-abbrev pub AreEach : List KindView → List Part → List ℕ → Type 0
-AreEach kinds ps bytes = (vs : Values) × (fit kinds ps vs ≡ true) × (spelling kinds ps vs ≡ bytes)
-
 -- these are so many bytes of content, and zeros up to a whole unit (RFC 4506 section 4.9)
 abbrev pub IsPadded : (size : ℕ) → List ℕ → Type 0
 IsPadded size bytes = (content : List ℕ) × (length content ≡ size) × (bytes ≡ padded content)
 
--- the next part is of this kind, so many bytes are enough for it, and it is within the limits, where so many nodes
--- stand around the one at work, and the root is none of them
+-- the next part is of this kind, and it may have so many levels and bytes: they are there, and within the limits, where
+-- so many nodes stand around the one at work, and the root is none of them
 pub record IsEntire (kinds : List KindView) (ps : List Part) (limits : Bounds) (outside read there : ℕ) (e : Entire)
     : Type 0 where
   pub first : Begins ps e.kind.place
-  pub extent : IsExtent kinds e.kind.place e.extent
-  pub enough : e.extent.bytes ≤ there
-  pub space : e.extent.bytes + read ≤ limits.bytes
+  pub known : e.kind.place < length kinds
+  pub enough : e.most ≤ there
+  pub space : 0 < e.most → e.most + read ≤ limits.bytes
   pub nested : 0 < outside
-  pub low : e.extent.depth + outside ≤ limits.depth
+  pub low : e.levels + outside ≤ limits.depth
 
 -- a reader that took parts has read the bytes b, and what comes next is not settled; or memory was refused
 abbrev pub WentAs : (spares : Type 0) → List KindView → (kind : ℕ) → Bounds → (H : Trace → Type 0) → List (List Part)

@@ -1,33 +1,49 @@
-//! The value that bytes are, of a kind whose values have one size.
-ghost use Rattle.std.specs.Prelude.{◌≡◌, ◌≤◌, ◌<◌, length, map, replicate, IfOk, IfSome};
-ghost use Rattle.xdr_types.specs.KindViews.{part_of_member};
-ghost use Rattle.xdr_types.specs.Fits.{item_part};
+//! The value that bytes begin with, made at once.
+ghost use Rattle.std.specs.Prelude.{◌≡◌, ◌≤◌, ◌<◌, ◌+◌, length, map, IfOk, IfSome};
+ghost use Rattle.xdr_types.specs.Kinds.{kind_at};
+ghost use Rattle.xdr_types.specs.KindViews.{kind_view};
 ghost use Rattle.xdr_types.specs.Tree as value;
 ghost use Rattle.xdr_types.specs.View.{tree, values};
-ghost use Rattle.xdr_stream.specs.Private.Made.{Adds, IsMade, AreMade, IsContent};
+ghost use Rattle.xdr_laws.specs.Owed.{lead_of, HasUnit};
+ghost use Rattle.xdr_stream.specs.Frames.{left_of};
+ghost use Rattle.xdr_stream.specs.Nodes.{head_of_node};
+ghost use Rattle.xdr_stream.specs.Private.Sound.{AreKnown};
+ghost use Rattle.xdr_stream.specs.Private.Made.{Adds, IsMade, AreMade, IsNode, IsOnly, IsContent, IsWide, Counts};
+ghost use Rattle.xdr_stream.specs.Private.Made.{IsHanded};
 
 use crate::builder::values::{content_value, value_of};
-use crate::runs::judge::{is_padded, leaf_in};
+use crate::builder::{Node, hyper_leaf};
+use crate::machine::frame::{Frame, after, next};
+use crate::machine::number::{Made, made_in};
+use crate::machine::step::{Step, step_of};
+use crate::machine::unit::{hyper_at, number_of, unit_at};
+use crate::runs::ahead::content_ahead;
+use crate::runs::content::{Whole, whole_ahead};
+use crate::runs::leaf::leaf_ahead;
 use std::alloc::{AllocError, Global};
-use xdr_types::{Kind, KindId, Member, Schema, Value};
+use xdr_types::{Kind, KindId, Schema, Value};
 
-/// How many nodes there are, and how many bytes of content.
+/// How many nodes there are, how many bytes of content, and how many bytes of the input they took.
 #[derive(Clone, Copy)]
 pub struct Tally {
     pub nodes: usize,
     pub content: usize,
+    pub at: usize,
 }
 
 // One node more.
 fn count_node(tally: &mut Tally)
-    ensures { Adds tally.old tally.new 1 0 }
+    ensures adds { Adds tally.old tally.new 1 0 }
+    ensures at { tally.new.at ≡ tally.old.at }
 {
     tally.nodes = tally.nodes.saturating_add(1);
 }
 
-/// The value that bytes are, where they are one of the kind, which has at most so many levels. It is counted.
+/// The value that the bytes have next, where they have one of the kind, of at most so many levels. It is counted. For a
+/// number nothing is called, and for a string it does not go into the kind.
 #[cycle(made)]
-pub(crate) fn value_in(
+#[inline(always)]
+pub(crate) fn part_in(
     alloc: Global,
     schema: &Schema,
     id: KindId,
@@ -35,34 +51,233 @@ pub(crate) fn value_in(
     levels: u32,
     tally: &mut Tally,
 ) -> Result<Option<Value>, AllocError>
-    requires { id.place < length schema.now.kinds }
+    requires known { id.place < length schema.now.kinds }
+    requires within { tally.old.at ≤ length bytes.now }
     ensures { IfOk result (λ o. IfSome o (IsMade schema.now.kinds id.place bytes.now tally.old tally.new)) }
 {
-    match schema.kind(id) {
-        Kind::Opaque { size } => content_in(alloc, *size, bytes, tally),
-        Kind::Structure { fields } if levels > 0 => {
-            let Some(values) = fields_in(alloc, schema, fields, bytes, levels - 1, tally)? else {
-                return Ok(None);
-            };
-            count_node(tally);
-            Ok(Some(Value::Group(values)))
+    if let Some((leaf, size)) = leaf_ahead(schema, id, &bytes[tally.at..]) {
+        tally.at += size;
+        count_node(tally);
+        return Ok(Some(value_of(alloc, leaf)));
+    }
+    if let Some(whole) = whole_ahead(schema, id, &bytes[tally.at..]) {
+        let content = whole_in(alloc, whole, bytes, tally)?;
+        return Ok(Some(content));
+    }
+    value_in(alloc, schema, id, bytes, levels, tally)
+}
+
+// The content that the bytes have next, behind its length.
+#[inline(never)]
+fn whole_in(
+    alloc: Global,
+    whole: Whole,
+    bytes: &[u8],
+    tally: &mut Tally,
+) -> Result<Value, AllocError>
+    requires within { tally.old.at ≤ length bytes.now }
+    requires there { (4 + whole.size ≤ whole.all) × (tally.old.at + whole.all ≤ length bytes.now) }
+    ensures { IfOk result (IsHanded whole bytes.now tally.old tally.new) }
+{
+    let start = tally.at + 4;
+    let mut content = Vec::with_capacity(alloc, whole.size)?;
+    content.extend_from_slice(&bytes[start..start + whole.size])?;
+    tally.at += whole.all;
+    count_node(tally);
+    tally.content = tally.content.saturating_add(whole.size);
+    Ok(content_value(content))
+}
+
+// The same, whatever the kind is.
+#[cycle(made)]
+fn value_in(
+    alloc: Global,
+    schema: &Schema,
+    id: KindId,
+    bytes: &[u8],
+    levels: u32,
+    tally: &mut Tally,
+) -> Result<Option<Value>, AllocError>
+    requires known { id.place < length schema.now.kinds }
+    requires within { tally.old.at ≤ length bytes.now }
+    ensures { IfOk result (λ o. IfSome o (IsMade schema.now.kinds id.place bytes.now tally.old tally.new)) }
+{
+    if levels == 0 {
+        return Ok(None);
+    }
+    let _known = schema.len();
+    let kind = schema.kind(id);
+    match step_of(kind) {
+        Step::Unit => unit_in(alloc, schema, id, kind, bytes, levels, tally),
+        Step::Fields(fields) => {
+            let frame = Frame::Fields { fields };
+            node_in(
+                alloc,
+                schema,
+                Node::Fields(fields.len()),
+                frame,
+                bytes,
+                levels - 1,
+                tally,
+            )
         }
-        Kind::Fixed { item, size } if levels > 0 => {
-            let Some(values) = items_in(alloc, schema, *item, *size, bytes, levels - 1, tally)?
-            else {
-                return Ok(None);
-            };
-            count_node(tally);
-            Ok(Some(list_value(values)))
+        Step::Items { item, size } => {
+            let frame = Frame::Items { item, left: size };
+            node_in(
+                alloc,
+                schema,
+                Node::Items(size),
+                frame,
+                bytes,
+                levels - 1,
+                tally,
+            )
         }
-        _ => {
-            let Some(leaf) = leaf_in(schema, id, bytes) else {
-                return Ok(None);
-            };
+        Step::Wide(signed) => Ok(wide_in(alloc, signed, bytes, tally)),
+        Step::Content(size) => content_in(alloc, size, bytes, tally),
+        Step::Void => {
+            count_node(tally);
+            Ok(Some(Value::Nothing))
+        }
+    }
+}
+
+// The same of a kind that begins with a unit.
+#[cycle(made)]
+fn unit_in<'s>(
+    alloc: Global,
+    schema: &'s Schema,
+    id: KindId,
+    kind: &'s Kind,
+    bytes: &[u8],
+    levels: u32,
+    tally: &mut Tally,
+) -> Result<Option<Value>, AllocError>
+    requires known { (id.place < length schema.now.kinds) × (tally.old.at ≤ length bytes.now) × (0 < levels) }
+    requires kind { kind_view kind.now ≡ kind_at schema.now.kinds id.place }
+    requires unit { HasUnit (lead_of (kind_view kind.now)) }
+    ensures { IfOk result (λ o. IfSome o (IsMade schema.now.kinds id.place bytes.now tally.old tally.new)) }
+{
+    if bytes.len() - tally.at < 4 {
+        return Ok(None);
+    }
+    let _known = schema.len();
+    let Ok(made) = made_in(schema, id, kind, number_of(&unit_at(bytes, tally.at))) else {
+        return Ok(None);
+    };
+    tally.at += 4;
+    match made {
+        Made::Leaf(leaf) => {
             count_node(tally);
             Ok(Some(value_of(alloc, leaf)))
         }
+        Made::Open(node, frame) => {
+            let value = node_in(alloc, schema, node, frame, bytes, levels - 1, tally)?;
+            Ok(value)
+        }
+        Made::Length(size) => {
+            let value = content_in(alloc, size, bytes, tally)?;
+            Ok(value)
+        }
     }
+}
+
+// The value of a node that has the parts of a frame, which the bytes have next.
+#[cycle(made)]
+fn node_in(
+    alloc: Global,
+    schema: &Schema,
+    node: Node,
+    frame: Frame<'_>,
+    bytes: &[u8],
+    levels: u32,
+    tally: &mut Tally,
+) -> Result<Option<Value>, AllocError>
+    requires known { AreKnown schema.now.kinds (left_of frame) }
+    requires within { tally.old.at ≤ length bytes.now }
+    requires counts { Counts (head_of_node node) (left_of frame) }
+    ensures { IfOk result (λ o. IfSome o (IsNode schema.now.kinds (head_of_node node) (left_of frame.entry)
+        bytes.now tally.old tally.new)) }
+{
+    match node {
+        Node::Items(_) => match values_in(alloc, schema, frame, bytes, levels, tally)? {
+            Some(items) => {
+                count_node(tally);
+                Ok(Some(list_value(items)))
+            }
+            None => Ok(None),
+        },
+        Node::Fields(_) => match values_in(alloc, schema, frame, bytes, levels, tally)? {
+            Some(fields) => {
+                count_node(tally);
+                Ok(Some(Value::Group(fields)))
+            }
+            None => Ok(None),
+        },
+        Node::Tag(tag) => match only_in(alloc, schema, frame, bytes, levels, tally)? {
+            Some(part) => Ok(Some(Value::Choice { tag, part })),
+            None => Ok(None),
+        },
+        Node::Present => match only_in(alloc, schema, frame, bytes, levels, tally)? {
+            Some(part) => Ok(Some(Value::Maybe(Some(part)))),
+            None => Ok(None),
+        },
+    }
+}
+
+// The value of the only part of a frame, and the node around it is counted.
+#[cycle(made)]
+fn only_in(
+    alloc: Global,
+    schema: &Schema,
+    frame: Frame<'_>,
+    bytes: &[u8],
+    levels: u32,
+    tally: &mut Tally,
+) -> Result<Option<Box<Value>>, AllocError>
+    requires known { AreKnown schema.now.kinds (left_of frame) }
+    requires within { tally.old.at ≤ length bytes.now }
+    requires one { length (left_of frame) ≡ 1 }
+    ensures { IfOk result (λ o. IfSome o (λ b. IsOnly schema.now.kinds (left_of frame.entry) bytes.now tally.old
+        tally.new b.value)) }
+{
+    let Some(id) = next(&frame) else {
+        return Ok(None);
+    };
+    let Some(value) = part_in(alloc, schema, id, bytes, levels, tally)? else {
+        return Ok(None);
+    };
+    count_node(tally);
+    Ok(Some(Box::new(alloc, value)?))
+}
+
+// The values that the bytes have next, one for each part of a frame.
+#[cycle(made)]
+fn values_in(
+    alloc: Global,
+    schema: &Schema,
+    frame: Frame<'_>,
+    bytes: &[u8],
+    levels: u32,
+    tally: &mut Tally,
+) -> Result<Option<Vec<Value>>, AllocError>
+    requires known { AreKnown schema.now.kinds (left_of frame) }
+    requires within { tally.old.at ≤ length bytes.now }
+    ensures { IfOk result (λ o. IfSome o (λ vs. AreMade schema.now.kinds (left_of frame.entry) bytes.now tally.old
+        tally.new (values vs.items))) }
+{
+    // Each part has a unit at least.
+    let space = parts_of(&frame).min((bytes.len() - tally.at) / 4);
+    let mut values = Vec::with_capacity(alloc, space)?;
+    let mut frame = frame;
+    while let Some(id) = next(&frame) {
+        let Some(value) = part_in(alloc, schema, id, bytes, levels, tally)? else {
+            return Ok(None);
+        };
+        values.push(value)?;
+        frame = after(frame);
+    }
+    Ok(Some(values))
 }
 
 // The value of an array.
@@ -72,104 +287,47 @@ fn list_value(items: Vec<Value>) -> Value
     Value::List(items)
 }
 
-// How many bytes the values of the kind have, where they have one size, and so many bytes are there.
-fn size_of(schema: &Schema, id: KindId, there: usize) -> Option<usize>
-    ensures { IfSome result (λ n. (n ≤ there) × (id.place < length schema.now.kinds)) }
+// How many parts a frame has.
+fn parts_of(frame: &Frame) -> usize {
+    match frame {
+        Frame::Fields { fields } => fields.len(),
+        Frame::Items { left, .. } => *left as usize,
+        Frame::Arm { .. } => 1,
+    }
+}
+
+// The hyper integer that the bytes have next.
+fn wide_in(alloc: Global, signed: bool, bytes: &[u8], tally: &mut Tally) -> Option<Value>
+    requires { tally.old.at ≤ length bytes.now }
+    ensures { IfSome result (IsWide signed bytes.now tally.old tally.new) }
 {
-    let extent = schema.extent(id)?;
-    let size = extent.bytes as usize;
-    if size > there {
+    if bytes.len() - tally.at < 8 {
         return None;
     }
-    Some(size)
+    let leaf = hyper_leaf(signed, hyper_at(bytes, tally.at));
+    tally.at += 8;
+    count_node(tally);
+    Some(value_of(alloc, leaf))
 }
 
-// The values that bytes are, one for each field.
-#[cycle(made)]
-fn fields_in(
-    alloc: Global,
-    schema: &Schema,
-    fields: &Vec<Member>,
-    bytes: &[u8],
-    levels: u32,
-    tally: &mut Tally,
-) -> Result<Option<Vec<Value>>, AllocError>
-    ensures { IfOk result (λ o. IfSome o (λ vs. AreMade schema.now.kinds (map part_of_member fields.now.items) bytes.now
-        tally.old tally.new vs.items)) }
-{
-    let mut values = Vec::with_capacity(alloc, fields.len().min(bytes.len()))?;
-    let mut at = 0;
-    for i in 0..fields.len() {
-        let Some(n) = size_of(schema, fields[i].kind, bytes.len() - at) else {
-            return Ok(None);
-        };
-        let Some(value) = value_in(
-            alloc,
-            schema,
-            fields[i].kind,
-            &bytes[at..at + n],
-            levels,
-            tally,
-        )?
-        else {
-            return Ok(None);
-        };
-        values.push(value)?;
-        at += n;
-    }
-    if at < bytes.len() {
-        return Ok(None);
-    }
-    Ok(Some(values))
-}
-
-// The values that bytes are, so many items.
-#[cycle(made)]
-fn items_in(
-    alloc: Global,
-    schema: &Schema,
-    item: KindId,
-    size: u32,
-    bytes: &[u8],
-    levels: u32,
-    tally: &mut Tally,
-) -> Result<Option<Vec<Value>>, AllocError>
-    ensures { IfOk result (λ o. IfSome o (λ vs. AreMade schema.now.kinds (replicate size (item_part item.place))
-        bytes.now tally.old tally.new vs.items)) }
-{
-    let mut values = Vec::with_capacity(alloc, bytes.len().min(size as usize))?;
-    let mut at = 0;
-    for _i in 0..size {
-        let Some(n) = size_of(schema, item, bytes.len() - at) else {
-            return Ok(None);
-        };
-        let Some(value) = value_in(alloc, schema, item, &bytes[at..at + n], levels, tally)? else {
-            return Ok(None);
-        };
-        values.push(value)?;
-        at += n;
-    }
-    if at < bytes.len() {
-        return Ok(None);
-    }
-    Ok(Some(values))
-}
-
-// The content that bytes are, and zeros after it.
+// The content that the bytes have next, and zeros after it.
 fn content_in(
     alloc: Global,
     size: u32,
     bytes: &[u8],
     tally: &mut Tally,
 ) -> Result<Option<Value>, AllocError>
-    ensures { IfOk result (λ o. IfSome o (λ v. IsContent size bytes.now tally.old tally.new v)) }
+    requires { tally.old.at ≤ length bytes.now }
+    ensures { IfOk result (λ o. IfSome o (IsContent size bytes.now tally.old tally.new)) }
 {
-    if !is_padded(size, bytes) {
+    let behind = &bytes[tally.at..];
+    let Some(padded) = content_ahead(size, behind) else {
         return Ok(None);
-    }
+    };
     let size = size as usize;
     let mut content = Vec::with_capacity(alloc, size)?;
-    content.extend_from_slice(&bytes[..size])?;
+    content.extend_from_slice(&behind[..size])?;
+    tally.at += padded;
     count_node(tally);
     tally.content = tally.content.saturating_add(size);
     Ok(Some(content_value(content)))

@@ -1,16 +1,13 @@
 //! What is made of the nodes that are read.
 //!
 //! - `values`: a value. `level`: a node of it at work. `made`: a part of it at once. `nothing`: nothing.
-ghost use Rattle.std.specs.Prelude.{◌≡◌, ◌%◌, List, ℕ, true, false, length, OnOk, IfOk, IsOk};
+ghost use Rattle.std.specs.Prelude.{◌≡◌, ◌<◌, ◌≤◌, ◌%◌, List, ℕ, length, take, OnOk, IfOk, IsOk};
 ghost use Rattle.std.specs.Int.{w64, from_be_bytes};
 ghost use Rattle.xdr_stream.specs.Trace.{Trace, at_start};
 ghost use Rattle.xdr_stream.specs.Sees.{make_wide};
 ghost use Rattle.xdr_stream.specs.Private.Reported.{leaf_in, open_in, close_in, extend_in, content_in, CanClose};
 ghost use Rattle.xdr_stream.specs.Private.Reported.{HasSpace, TakesMany, part_in};
-ghost use Rattle.xdr_types.specs.Extent.{IsExtent};
-ghost use Rattle.xdr_types.specs.Fits.{Fits};
-ghost use Rattle.xdr_types.specs.Spelling.{bytes_of};
-ghost use Rattle.xdr_types.specs.Tree.{Tree};
+ghost use Rattle.xdr_stream.specs.Private.Ahead.{IsAhead};
 ghost use Rattle.xdr_stream.specs.Private.Alone.{IsAlone};
 ghost use Rattle.xdr_stream.specs.Nodes.{head_of_leaf, head_of_node};
 ghost use Rattle.xdr_stream.specs.Private.Runs.{numbers_in, hypers_in};
@@ -21,7 +18,7 @@ pub mod nothing;
 pub mod values;
 
 use std::alloc::AllocError;
-use xdr_types::{Extent, KindId, Schema};
+use xdr_types::{KindId, Schema};
 
 /// A node without parts.
 #[derive(Clone, Copy)]
@@ -117,21 +114,20 @@ pub trait Build {
             → reports self.new (content_in (extend_in bytes.now t))) }
         ensures granted { spares → IsOk result };
 
-    /// A part, where so many bytes as its kind's extent has are its value; whether they are. It has taken nothing where
-    /// they are not.
+    /// A part, where bytes begin with its value, of at most so many levels; how many of them it has, and 0 where they
+    /// do not. It has taken nothing then.
     fn part(
         &mut self,
         schema: &Schema,
         kind: KindId,
-        extent: Extent,
+        levels: u32,
         bytes: &[u8],
-    ) -> Result<bool, AllocError>
-        requires extent { IsExtent schema.now.kinds kind.place extent }
-        requires size { length bytes.now ≡ extent.bytes }
-        ensures taken { IfOk result (λ is. is ≡ true → (v : Tree) × Fits schema.now.kinds kind.place v
-            × (bytes_of schema.now.kinds kind.place v ≡ bytes.now)
-            × ((t : Trace) → reports self.old t → HasSpace t → reports self.new (part_in v t))) }
-        ensures stays { IfOk result (λ is. is ≡ false → (t : Trace) → reports self.old t → reports self.new t) }
+    ) -> Result<usize, AllocError>
+        requires { kind.place < length schema.now.kinds }
+        ensures within { IfOk result (λ n. n ≤ length bytes.now) }
+        ensures taken { IfOk result (λ n. 0 < n → (o : IsAhead schema.now.kinds kind.place levels (take n bytes.now))
+            × ((t : Trace) → reports self.old t → HasSpace t → reports self.new (part_in o.value t))) }
+        ensures stays { IfOk result (λ n. n ≡ 0 → (t : Trace) → reports self.old t → reports self.new t) }
         ensures granted { spares → IsOk result };
 
     /// Gives back the memory that holds nothing.

@@ -2,9 +2,9 @@
 ghost use Rattle.std.specs.Prelude.{⊤};
 
 use crate::builder::{Build, Leaf, Node};
-use crate::runs::judge::is_value;
+use crate::runs::ahead::part_ahead;
 use std::alloc::AllocError;
-use xdr_types::{Extent, KindId, Schema};
+use xdr_types::{KindId, Schema};
 
 /// Makes nothing of the nodes.
 #[derive(Clone, Copy)]
@@ -58,10 +58,13 @@ impl Build for Nothing {
         &mut self,
         schema: &Schema,
         kind: KindId,
-        extent: Extent,
+        levels: u32,
         bytes: &[u8],
-    ) -> Result<bool, AllocError> {
-        Ok(is_value(schema, kind, extent, bytes))
+    ) -> Result<usize, AllocError> {
+        match part_ahead(schema, kind, bytes, levels) {
+            Some(n) => Ok(n),
+            None => Ok(0),
+        }
     }
 
     fn trim(&mut self) {}

@@ -10,13 +10,14 @@ ghost use Rattle.xdr_stream.specs.Private.Reported.{HasSpace, leaf_in, leaf_tree
 ghost use Rattle.xdr_stream.specs.Values.{Reports};
 
 use crate::builder::level::{Level, add, add_item, begun, closed};
-use crate::builder::made::{Tally, value_in};
+use crate::builder::made::{Tally, part_in};
 use crate::builder::{Build, Leaf, Node, hyper_leaf};
 use crate::machine::unit::hyper_at;
-use crate::runs::judge::{is_value, leaf_in};
+use crate::runs::ahead::part_ahead;
+use crate::runs::leaf::leaf_ahead;
 use std::alloc::{AllocError, Global};
 use xdr_stack::Blocks;
-use xdr_types::{Extent, KindId, Schema, Value};
+use xdr_types::{KindId, Schema, Value};
 
 /// How many nodes at work lie in a block, so that a block of them is below a kibibyte.
 const BLOCK: usize = 16;
@@ -94,6 +95,17 @@ impl Values {
         }
     }
 
+    // Space for so many items, where the node at work is an array: those that are there, and the one behind them.
+    #[inline(always)]
+    fn make_room(&mut self, count: usize) -> Result<(), AllocError>
+        ensures { OnOk result ((t : Trace) → Reports self.old t → Reports self.new t) }
+    {
+        if let Level::Items { items, .. } = &mut self.work {
+            items.reserve(count)?;
+        }
+        Ok(())
+    }
+
     // A node without parts, where it is mostly an item.
     #[inline(always)]
     fn item(&mut self, leaf: Leaf) -> Result<(), AllocError>
@@ -120,6 +132,7 @@ impl Build for Values {
 
     #[inline(never)]
     fn numbers(&mut self, signed: bool, units: &[u8]) -> Result<(), AllocError> {
+        self.make_room(units.len() / 4 + 1)?;
         let mut at = 0;
         while at < units.len() {
             let value = number_value(signed, number_at(units, at));
@@ -132,6 +145,7 @@ impl Build for Values {
 
     #[inline(never)]
     fn hypers(&mut self, signed: bool, units: &[u8]) -> Result<(), AllocError> {
+        self.make_room(units.len() / 8 + 1)?;
         let mut at = 0;
         while at < units.len() {
             self.item(hyper_leaf(signed, hyper_at(units, at)))?;
@@ -193,29 +207,35 @@ impl Build for Values {
         &mut self,
         schema: &Schema,
         kind: KindId,
-        extent: Extent,
+        levels: u32,
         bytes: &[u8],
-    ) -> Result<bool, AllocError> {
-        if let Some(leaf) = leaf_in(schema, kind, bytes) {
-            self.leaf(leaf)?;
-            return Ok(true);
+    ) -> Result<usize, AllocError> {
+        if levels == 0 {
+            return Ok(0);
         }
-        // Nothing is made of bytes that are refused.
-        if !is_value(schema, kind, extent, bytes) {
-            return Ok(false);
+        if let Some((leaf, size)) = leaf_ahead(schema, kind, bytes) {
+            self.leaf(leaf)?;
+            return Ok(size);
+        }
+        // Nothing is made of bytes that are refused, or that are not all there.
+        let Some(n) = part_ahead(schema, kind, bytes, levels) else {
+            return Ok(0);
+        };
+        if n == 0 {
+            return Ok(0);
         }
         let mut tally = Tally {
             nodes: self.nodes,
             content: self.retained,
+            at: 0,
         };
-        let made = value_in(self.alloc, schema, kind, bytes, extent.depth, &mut tally)?;
-        let Some(value) = made else {
-            return Ok(false);
+        let Some(value) = part_in(self.alloc, schema, kind, bytes, levels, &mut tally)? else {
+            return Ok(0);
         };
         add(self.alloc, &mut self.work, value)?;
         self.nodes = tally.nodes;
         self.retained = tally.content;
-        Ok(true)
+        Ok(n)
     }
 
     fn trim(&mut self) {

@@ -160,6 +160,66 @@ pub(crate) fn begin<'s, B: Build>(
     }
 }
 
+/// Ends the nodes that have all their parts, or begins the structure that comes next, unless it is too deep. Whether it
+/// did, and a part comes next.
+#[inline(always)]
+pub(crate) fn enter<'s, B: Build>(
+    schema: &'s Schema,
+    limits: Limits,
+    work: &mut Frame<'s>,
+    parents: &mut Stack<Frame<'s>>,
+    built: &mut B,
+) -> Result<bool, AllocError>
+    requires { IsSound schema.now.kinds (stack_of work.old parents.old.items) }
+    ensures follows { OnOk result ((kind : ℕ) (q : List ℕ)
+        → Sees schema.now.kinds kind limits (B.reports built.old) Next (stack_of work.old parents.old.items) q
+        → Sees schema.now.kinds kind limits (B.reports built.new) Next (stack_of work.new parents.new.items) q) }
+    ensures spared { IfErr result (λ _. SparesSeen B.spares schema.now.kinds limits (B.reports built.old) Next
+        (stack_of work.old parents.old.items) NoMemory) }
+    ensures sound { IsSound schema.now.kinds (stack_of work.new parents.new.items) }
+{
+    if next(work).is_some() {
+        return enter_fields(schema, limits, work, parents, built);
+    }
+    let whole = end_nodes(work, parents, built)?;
+    Ok(!whole)
+}
+
+// Begins the structure that comes next, unless it is too deep; whether it did.
+#[inline(always)]
+fn enter_fields<'s, B: Build>(
+    schema: &'s Schema,
+    limits: Limits,
+    work: &mut Frame<'s>,
+    parents: &mut Stack<Frame<'s>>,
+    built: &mut B,
+) -> Result<bool, AllocError>
+    requires { IsSound schema.now.kinds (stack_of work.old parents.old.items) }
+    ensures follows { OnOk result ((kind : ℕ) (q : List ℕ)
+        → Sees schema.now.kinds kind limits (B.reports built.old) Next (stack_of work.old parents.old.items) q
+        → Sees schema.now.kinds kind limits (B.reports built.new) Next (stack_of work.new parents.new.items) q) }
+    ensures spared { IfErr result (λ _. SparesSeen B.spares schema.now.kinds limits (B.reports built.old) Next
+        (stack_of work.old parents.old.items) NoMemory) }
+    ensures sound { IsSound schema.now.kinds (stack_of work.new parents.new.items) }
+{
+    let _known = schema.len();
+    let Some(id) = next(work) else {
+        return Ok(false);
+    };
+    let deepest = limits.depth() as usize;
+    if parents.len() >= deepest {
+        return Ok(false);
+    }
+    match step_of(schema.kind(id)) {
+        Step::Fields(fields) => {
+            let node = Node::Fields(fields.len());
+            open(work, parents, built, node, Frame::Fields { fields })?;
+            Ok(true)
+        }
+        _ => Ok(false),
+    }
+}
+
 /// Takes the first unit of the part that comes next.
 #[inline(always)]
 pub(crate) fn take_number<'s, B: Build>(

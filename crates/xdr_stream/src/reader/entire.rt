@@ -1,4 +1,4 @@
-//! Parts that are there whole, of kinds whose values have one size.
+//! Parts that are there whole.
 ghost use Rattle.std.specs.Prelude.{◌≡◌, ◌≤◌, ℕ, List, ◌++◌, length, take};
 ghost use Rattle.xdr_stream.specs.Frames.{left_of, stack_of};
 ghost use Rattle.xdr_stream.specs.Sees.{Sees};
@@ -11,8 +11,8 @@ ghost use Rattle.xdr_stream.specs.declared.reader.State.TheVariants.{Fresh, Read
 use crate::builder::Build;
 use crate::fault::Reason;
 use crate::machine::Awaits;
-use crate::machine::frame::{after, next};
-use crate::machine::nodes::end_nodes;
+use crate::machine::frame::after;
+use crate::machine::nodes::enter;
 use crate::reader::{Reader, State};
 use crate::runs::entire::entire_due;
 
@@ -47,28 +47,27 @@ impl<'s, B: Build + Drop> Reader<'s, B> {
             let Some(part) = due else {
                 return at;
             };
-            let n = part.extent.bytes as usize;
-            match self
-                .built
-                .part(self.schema, part.kind, part.extent, &bytes[at..at + n])
-            {
-                Ok(true) => {
+            let given = &bytes[at..at + part.most];
+            match self.built.part(self.schema, part.kind, part.levels, given) {
+                Ok(n) => {
+                    if n == 0 {
+                        return at;
+                    }
                     self.work = after(self.work);
                     self.read = self.read.saturating_add(n);
                     at += n;
                 }
-                Ok(false) => return at,
                 Err(_) => {
                     self.fail(Reason::NoMemory);
-                    return at + n;
+                    return bytes.len();
                 }
             }
         }
         at
     }
 
-    // Ends the nodes that have all their parts, takes what comes first then, as above, and begins what comes next;
-    // tells how many bytes.
+    // Ends the nodes that have all their parts and begins structures, as long as parts follow that are there whole, and
+    // begins what comes next; tells how many bytes.
     fn settle_entire(&mut self, bytes: &[u8]) -> usize
         requires { self.old.state ≡ Fresh }
         ensures represents { (q : List ℕ) → length q ≡ self.old.read → self.old.pending ≡ 0
@@ -79,23 +78,34 @@ impl<'s, B: Build + Drop> Reader<'s, B> {
         ensures awake { IsAwake self.new.state }
         ensures same { IsSame self.old self.new }
     {
-        if next(&self.work).is_some() {
-            self.settle(Awaits::Next);
-            return 0;
-        }
-        match end_nodes(&mut self.work, &mut self.parents, &mut self.built) {
-            Ok(_) => {
-                let n = self.take_entire(bytes);
-                if let State::Fresh = self.state {
-                    self.settle(Awaits::Next);
+        let mut at = 0;
+        while at < bytes.len() {
+            match enter(
+                self.schema,
+                self.limits,
+                &mut self.work,
+                &mut self.parents,
+                &mut self.built,
+            ) {
+                Ok(true) => {}
+                Ok(false) => break,
+                Err(_) => {
+                    self.fail(Reason::NoMemory);
+                    return at;
                 }
-                n
             }
-            Err(_) => {
-                self.fail(Reason::NoMemory);
-                0
+            let n = self.take_entire(&bytes[at..]);
+            at += n;
+            match self.state {
+                State::Fresh => {}
+                _ => return at,
+            }
+            if n == 0 {
+                break;
             }
         }
+        self.settle(Awaits::Next);
+        at
     }
 
     /// Takes the parts that come first, as long as they are there whole, and begins what comes next after them; tells

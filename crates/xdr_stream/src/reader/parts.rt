@@ -1,21 +1,18 @@
 //! What comes first at a part: numbers, a part or content that is there whole, or a unit.
 ghost use Rattle.std.specs.Prelude.{◌≡◌, ◌≤◌, ◌<◌, ℕ, List, ◌++◌, length, take};
-ghost use Rattle.xdr_stream.specs.Frames.{left_of, rest_of, stack_of};
+ghost use Rattle.xdr_stream.specs.Frames.{left_of, stack_of};
 ghost use Rattle.xdr_stream.specs.Sees.{Sees};
 ghost use Rattle.xdr_stream.specs.Private.Live.{IsLive};
-ghost use Rattle.xdr_stream.specs.Private.Sound.{IsAwaited, Starts};
+ghost use Rattle.xdr_stream.specs.Private.Sound.{IsAwaited};
 ghost use Rattle.xdr_stream.specs.Represents.{RepresentsBytes, IsAwake, IsSame};
-ghost use Rattle.xdr_stream.specs.Private.Whole.{IsWholeAt};
 ghost use Rattle.xdr_stream.specs.declared.machine.Awaits.TheVariants.{Next};
 ghost use Rattle.xdr_stream.specs.declared.reader.State.TheVariants.{Fresh, Reading};
 
 use crate::builder::Build;
 use crate::fault::Reason;
 use crate::machine::Awaits;
-use crate::machine::frame::after;
 use crate::machine::unit::{are_zeros, take_unit, unit_at};
 use crate::reader::{Reader, State};
-use crate::runs::content::{Whole, arm_due, field_due};
 use crate::runs::numbers::run_due;
 use crate::runs::{units_there, whole_there};
 
@@ -34,10 +31,6 @@ impl<'s, B: Build + Drop> Reader<'s, B> {
         ensures awake { self.old.state ≡ Reading Next → IsAwake self.new.state }
         ensures same { IsSame self.old self.new }
     {
-        if let Some(whole) = field_due(self.schema, self.work, self.limits, self.read, bytes) {
-            self.take_field(whole, bytes);
-            return whole.all;
-        }
         if let Some(run) = run_due(self.schema, self.work) {
             let space = (self.limits.bytes() as usize).saturating_sub(self.read);
             let n = units_there(run.left as usize * 4, bytes.len(), space);
@@ -50,59 +43,7 @@ impl<'s, B: Build + Drop> Reader<'s, B> {
         if n > 0 {
             return n;
         }
-        if let Some(whole) = arm_due(self.schema, self.work, self.limits, self.read, bytes) {
-            self.take_arm(whole, bytes);
-            return whole.all;
-        }
         self.take_part(bytes)
-    }
-
-    // Takes content that is there whole; what comes next after it begins with a unit.
-    #[inline(always)]
-    fn take_field(&mut self, whole: Whole, bytes: &[u8])
-        requires due { IsWholeAt self.old.schema.now.kinds (left_of self.old.work) self.old.limits self.old.read
-            bytes.now whole }
-        requires starts { Starts self.old.schema.now.kinds (rest_of (left_of self.old.work)) }
-        ensures represents { (b : List ℕ) → self.old.state ≡ Reading Next → self.old.pending ≡ 0
-            → RepresentsBytes B.spares B.reports self.old b
-            → RepresentsBytes B.spares B.reports self.new (b ++ take whole.all bytes.now) }
-        ensures awake { self.old.state ≡ Reading Next → IsAwake self.new.state }
-        ensures same { IsSame self.old self.new }
-    {
-        let _known = self.schema.len();
-        let _in_range = self.limits.depth();
-        match self.built.whole(&bytes[4..4 + whole.size]) {
-            Ok(()) => {
-                self.work = after(self.work);
-                self.read = self.read.saturating_add(whole.all);
-            }
-            Err(_) => self.fail(Reason::NoMemory),
-        }
-    }
-
-    // Takes content that is there whole, and begins what comes next.
-    #[inline(always)]
-    fn take_arm(&mut self, whole: Whole, bytes: &[u8])
-        requires { IsWholeAt self.old.schema.now.kinds (left_of self.old.work) self.old.limits self.old.read
-            bytes.now whole }
-        ensures represents { (b : List ℕ) → self.old.state ≡ Reading Next → self.old.pending ≡ 0
-            → RepresentsBytes B.spares B.reports self.old b
-            → RepresentsBytes B.spares B.reports self.new (b ++ take whole.all bytes.now) }
-        ensures awake { IsAwake self.new.state }
-        ensures same { IsSame self.old self.new }
-    {
-        let _known = self.schema.len();
-        let _in_range = self.limits.depth();
-        match self.built.whole(&bytes[4..4 + whole.size]) {
-            Ok(()) => {
-                // A state that asks nothing of the nodes at work, which change now: what they await is settled after.
-                self.state = State::Fresh;
-                self.work = after(self.work);
-                self.read = self.read.saturating_add(whole.all);
-                self.settle(Awaits::Next);
-            }
-            Err(_) => self.fail(Reason::NoMemory),
-        }
     }
 
     // Takes the unit that comes first at a part, and the content behind it where all of it is there, and tells how many

@@ -1,31 +1,42 @@
-//! A part that is there whole, of a kind whose values have one size.
-ghost use Rattle.std.specs.Prelude.{IfSome, length};
+//! A part that may be there whole.
+ghost use Rattle.std.specs.Prelude.{◌<◌, IfSome, length};
 ghost use Rattle.xdr_stream.specs.Frames.{left_of};
 ghost use Rattle.xdr_stream.specs.Private.Entire.{IsEntire};
 
 use crate::machine::frame::{Frame, next};
-use xdr_types::{Extent, KindId, Limits, Schema};
+use xdr_types::{Kind, KindId, Limits, Schema};
 
-/// A part whose bytes are all there.
+/// How many bytes are looked at for a part at most, so that what is looked at in vain is bounded.
+const MOST_BYTES: usize = 65536;
+
+/// A part that may be there whole.
 #[derive(Clone, Copy)]
 pub struct Entire {
     /// Its kind.
     pub kind: KindId,
-    /// What all values of the kind share.
-    pub extent: Extent,
+    /// How many levels its values have at most.
+    pub levels: u32,
+    /// How many of the bytes it may have.
+    pub most: usize,
 }
 
-// Whether the part is an item as small as a number: numbers of an array are taken many at once.
+// Whether the part is a number that is an item: numbers of an array are taken many at once.
 #[inline(always)]
-fn is_run(work: Frame<'_>, extent: Extent) -> bool {
+fn is_run(schema: &Schema, work: Frame<'_>, kind: KindId) -> bool
+    requires { kind.place < length schema.now.kinds }
+{
     match work {
-        Frame::Items { .. } => extent.free && extent.depth == 1 && extent.bytes <= 8,
+        Frame::Items { .. } => match schema.kind(kind) {
+            Kind::Int | Kind::Unsigned | Kind::Hyper | Kind::UnsignedHyper => true,
+            _ => false,
+        },
         _ => false,
     }
 }
 
-/// The part that comes next, where all values of its kind have one size, so many bytes are there, and neither limit is
-/// passed inside it; no number of an array. So many nodes stand around the one at work.
+/// The part that comes next, where the levels of its kind's values are bounded, and the limit on depth is not passed
+/// inside it; no number of an array. So many nodes stand around the one at work. It may have no bytes behind those that
+/// are there, nor behind the limit on bytes.
 #[inline(always)]
 pub(crate) fn entire_due(
     schema: &Schema,
@@ -39,15 +50,15 @@ pub(crate) fn entire_due(
 {
     let _in_range = limits.depth();
     let kind = next(&work)?;
-    let extent = schema.extent(kind)?;
-    if is_run(work, extent) {
+    let levels = schema.levels(kind)?;
+    if is_run(schema, work, kind) {
         return None;
     }
-    let bytes = extent.bytes as usize;
     let space = (limits.bytes() as usize).saturating_sub(read);
-    let levels = (limits.depth() as usize).saturating_sub(outside);
-    if outside == 0 || bytes > there || bytes > space || extent.depth as usize > levels {
+    let left = (limits.depth() as usize).saturating_sub(outside);
+    if outside == 0 || levels as usize > left {
         return None;
     }
-    Some(Entire { kind, extent })
+    let most = there.min(space).min(MOST_BYTES);
+    Some(Entire { kind, levels, most })
 }

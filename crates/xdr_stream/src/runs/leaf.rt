@@ -1,10 +1,12 @@
-//! A number: a node without parts that one unit makes.
-ghost use Rattle.std.specs.Prelude.{◌≡◌, IfSome};
+//! A number: a node without parts that one unit makes, or two.
+ghost use Rattle.std.specs.Prelude.{◌≡◌, ◌≤◌, ◌<◌, length, take, IfSome};
 ghost use Rattle.xdr_types.specs.Kinds.{kind_at};
 ghost use Rattle.xdr_types.specs.KindViews.{kind_view};
 ghost use Rattle.xdr_stream.specs.Private.Leaf.{IsTaken};
+ghost use Rattle.xdr_stream.specs.Private.Entire.{IsOneLeaf};
 
-use crate::builder::Leaf;
+use crate::builder::{Leaf, hyper_leaf};
+use crate::machine::unit::{hyper_at, number_of, unit_at};
 use xdr_types::{Kind, KindId, Schema, is_legal_tag};
 
 /// What a number makes of a kind whose values are numbers of one unit, where it is one of them.
@@ -28,6 +30,28 @@ pub(crate) fn leaf_of(schema: &Schema, id: KindId, kind: &Kind, number: u32) -> 
             } else {
                 None
             }
+        }
+        _ => None,
+    }
+}
+
+/// The number, the boolean or the hyper integer that the bytes begin with, where the kind has such values, and how many
+/// bytes it has.
+#[inline(always)]
+pub(crate) fn leaf_ahead(schema: &Schema, id: KindId, bytes: &[u8]) -> Option<(Leaf, usize)>
+    requires { id.place < length schema.now.kinds }
+    ensures { IfSome result (λ r. (0 < r.1) × (r.1 ≤ length bytes.now)
+        × IsOneLeaf schema.now.kinds id.place (take r.1 bytes.now) r.0) }
+{
+    let kind = schema.kind(id);
+    match kind {
+        Kind::Hyper if bytes.len() >= 8 => Some((hyper_leaf(true, hyper_at(bytes, 0)), 8)),
+        Kind::UnsignedHyper if bytes.len() >= 8 => {
+            Some((hyper_leaf(false, hyper_at(bytes, 0)), 8))
+        }
+        _ if bytes.len() >= 4 => {
+            let leaf = leaf_of(schema, id, kind, number_of(&unit_at(bytes, 0)))?;
+            Some((leaf, 4))
         }
         _ => None,
     }

@@ -1,32 +1,14 @@
 //! What comes next as a run: bytes of a piece that are taken at once, without a state between their units.
 //!
-//! - `numbers`: numbers one after another. `content`: content with its length and its padding.
-//! - `leaf`: a number. `entire`: a part that is there whole, of a kind whose values have one size. `judge`: whether
-//!   bytes are such a value.
-ghost use Rattle.std.specs.Prelude.{◌≡◌, ◌+◌, ◌≤◌, ◌<◌, ◌%◌, length, true};
-ghost use Rattle.xdr_types.specs.Kinds.{kind_at};
-ghost use Rattle.xdr_laws.specs.Owed.{lead_of, HasUnit};
+//! - `numbers`: numbers one after another. `entire`: a part that may be there whole. `ahead`: whether bytes begin with
+//!   a value. `leaf`: a number. `content`: content behind its length.
+ghost use Rattle.std.specs.Prelude.{◌≡◌, ◌+◌, ◌≤◌, ◌<◌, ◌%◌, length};
 
+pub(crate) mod ahead;
 pub mod content;
 pub mod entire;
-pub(crate) mod judge;
 pub mod leaf;
 pub mod numbers;
-
-use crate::machine::step::{Step, step_of};
-use xdr_types::{KindId, Schema};
-
-/// Whether a value of the kind begins with a unit.
-#[inline(always)]
-pub(crate) fn is_unit(schema: &Schema, kind: KindId) -> bool
-    requires { kind.place < length schema.now.kinds }
-    ensures { result ≡ true → HasUnit (lead_of (kind_at schema.now.kinds kind.place)) }
-{
-    match step_of(schema.kind(kind)) {
-        Step::Unit => true,
-        _ => false,
-    }
-}
 
 /// How many bytes of whole units are there: within what is left to read, the piece and the limit.
 pub(crate) fn units_there(left: usize, there: usize, space: usize) -> usize

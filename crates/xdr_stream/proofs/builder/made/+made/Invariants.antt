@@ -1,26 +1,31 @@
-use Rattle.std.proofs.Common.{◌≤◌, ◌+◌, ◌*◌, length, map, replicate, take}
-use Rattle.xdr_types.specs.KindViews.{part_of_member}
-use Rattle.xdr_types.specs.Fits.{item_part}
-use Rattle.xdr_stream.specs.Private.Made.{AreMade}
+use Rattle.std.proofs.Common.{◌+◌, ◌*◌, length}
+use Rattle.xdr_stream.specs.Frames.{left_of}
+use Rattle.xdr_stream.specs.Private.Sound.{AreKnown}
+use Rattle.xdr_stream.proofs.Made.{AreMadeOf}
 use Rattle.xdr_stream.proofs.builder.made.+made.Given as goal
 
+abbrev pub decreases-node_in : goal.decreases-node_in
+decreases-node_in l = 6 * l.levels + 4
+
+abbrev pub decreases-only_in : goal.decreases-only_in
+decreases-only_in l = 6 * l.levels + 3
+
+abbrev pub decreases-unit_in : goal.decreases-unit_in
+decreases-unit_in l = 6 * l.levels
+
 abbrev pub decreases-value_in : goal.decreases-value_in
-decreases-value_in l = 2 * l.levels
+decreases-value_in l = 6 * l.levels + 1
 
-abbrev pub decreases-fields_in : goal.decreases-fields_in
-decreases-fields_in l = 2 * l.levels + 1
+abbrev pub decreases-part_in : goal.decreases-part_in
+decreases-part_in l = 6 * l.levels + 2
 
-abbrev pub decreases-items_in : goal.decreases-items_in
-decreases-items_in l = 2 * l.levels + 1
+abbrev pub decreases-values_in : goal.decreases-values_in
+decreases-values_in l = 6 * l.levels + 3
 
-abbrev pub invariant-fields_in-loop-i : goal.invariant-fields_in-loop-i
-invariant-fields_in-loop-i l =
-    (l.at ≤ length l.bytes)
-    × AreMade l.schema.kinds (map part_of_member (take l.i l.fields.items)) (take l.at l.bytes) l.fn.tally l.tally
-    l.values.items
+abbrev pub invariant-values_in-loop-id : goal.invariant-values_in-loop-id
+invariant-values_in-loop-id l =
+    AreKnown l.schema.kinds (left_of l.frame)
+    × AreMadeOf l.schema.kinds (left_of l.fn.frame) (left_of l.frame) l.bytes l.fn.tally l.tally l.values.items
 
-abbrev pub invariant-items_in-loop-i : goal.invariant-items_in-loop-i
-invariant-items_in-loop-i l =
-    (l.at ≤ length l.bytes)
-    × AreMade l.schema.kinds (replicate l._i (item_part l.item.place)) (take l.at l.bytes) l.fn.tally l.tally
-    l.values.items
+abbrev pub decreases-values_in-loop-id : goal.decreases-values_in-loop-id
+decreases-values_in-loop-id l = length (left_of l.frame)

@@ -1,59 +1,95 @@
-use Rattle.std.proofs.Common.{◌≡◌, ℕ, List, [], ◌++◌, take, subst, sym, ◌∙◌, arith}
-use Rattle.std.proofs.lemmas.List.{length-append}
-use Rattle.xdr_types.specs.Kinds.{KindView, Part}
-use Rattle.xdr_stream.specs.Frames.{left_of, stack_of, Begins}
-use Rattle.xdr_stream.specs.Private.Sound.{AreSolid, AreAllSolid, Waits}
-use Rattle.xdr_stream.proofs.Frames.{none_of}
-use Rattle.xdr_stream.proofs.Sounding.{solid_known}
-use Rattle.xdr_stream.specs.Private.Entire.{WentAs}
+use Rattle.std.proofs.Common.{◌≡◌, ◌+◌, ◌-◌, ℕ, List, ◌++◌, length, take, drop, subst, sym, ap, ◌∙◌, append_assoc}
+use Rattle.std.proofs.Common.{arith}
+use Rattle.std.proofs.lemmas.List.{length-take, length-drop}
+use Rattle.std.proofs.Math.Seq.{take-add}
+use Rattle.xdr_stream.specs.Frames.{stack_of}
+use Rattle.xdr_stream.specs.Private.Entire.{Went, WentAs}
+use Rattle.xdr_stream.specs.Represents.{RepresentsBytes}
 use Rattle.xdr_stream.specs.declared.reader.State.{State}
 use Rattle.xdr_stream.proofs.Entire.{went_on, awake_of}
+use Rattle.xdr_stream.proofs.Judged.{behind}
 use Rattle.xdr_stream.proofs.reader.Reader.settle_entire.Goals as goal
-
-pub invariant_of-self : goal.invariant_of-self
-invariant_of-self g c =
-    let a = c.args.self.now in
-    let s : List KindView = a.schema.now.kinds in
-    let empty : left_of a.work ≡ [] = none_of c.next.result (left_of a.work ≡ [])
-    (λ k. Begins (left_of a.work) k.place) (sym c.is_some.ensures ∙ c.if-is_some.false) c.next.ensures in
-    let before : AreAllSolid s (stack_of a.work a.parents.items) =
-    (subst (λ (ps : List Part). AreSolid s ps) (sym empty) tt, a.sound.1) in
-    let after = c.end_nodes.ensures.solid s before in record {
-      sound = (solid_known s (left_of c.end_nodes.new.work) after.0, after.1);
-      waits = subst (λ (x : State). Waits s (left_of c.end_nodes.new.work) x) (sym c.requires) tt;
-    }
-
-pub returns-in-Fresh-clause-represents : goal.returns-in-Fresh-clause-represents
-returns-in-Fresh-clause-represents g c = λ q len none seen.
-    let a = c.args.self.now in
-    let n : ℕ = c.take_entire-n.result in
-    let r = c.take_entire-n.new.self in
-    let after = (c.in-Ok.ensures.follows a.schema.now.kinds).0 a.kind.place a.limits q seen in
-    let w = subst (λ (x : State). WentAs g.B.Build.spares r.schema.now.kinds r.kind.place r.limits
-    (g.B.Build.reports r.built) (stack_of r.work r.parents.items) r.read r.unit r.pending x
-    (q ++ take n c.args.bytes.now)) c.in-Fresh.is
-    (c.take_entire-n.ensures.went q len none after) in
-    c.settle-in-Fresh.ensures.represents (q ++ take n c.args.bytes.now) w.0 w.1 tt w.2
-
-pub returns-in_default : goal.returns-in_default
-returns-in_default g c =
-    let a = c.args.self.now in
-    let r = c.take_entire-n.new.self in
-    let n : ℕ = c.take_entire-n.result in record {
-      represents = λ q len none seen.
-          let after = (c.in-Ok.ensures.follows a.schema.now.kinds).0 a.kind.place a.limits q seen in
-          went_on g.B.Build.spares r.schema.now.kinds r.kind.place r.limits (g.B.Build.reports r.built)
-          (stack_of r.work r.parents.items) r.read r.unit r.pending (q ++ take n c.args.bytes.now) r.state
-          c.in_default.not-Fresh (c.take_entire-n.ensures.went q len none after);
-      within = c.take_entire-n.ensures.within;
-      awake = awake_of c.take_entire-n.new.self.state c.in_default.not-Fresh;
-      same =
-          let e = c.take_entire-n.ensures.same in
-          record { schema_is = e.schema_is; kind_is = e.kind_is; limits_are = e.limits_are };
-    }
 
 pub returns-in-Err-clause-represents : goal.returns-in-Err-clause-represents
 returns-in-Err-clause-represents g c = λ q len none seen.
-    let a = c.args.self.now in
-    c.fail.ensures.represents (q ++ []) (λ rest. tt) (omega (arith, len, length-append q []))
-    (c.in-Err.ensures.spared a.schema.now.kinds a.limits a.kind.place q seen)
+    let i = c.loop-at.invariant in
+    let r = c.loop-at.self in
+    let bs : List ℕ = c.args.bytes.now in
+    let w = subst (λ (x : State). WentAs g.B.Build.spares r.schema.now.kinds r.kind.place r.limits
+    (g.B.Build.reports r.built) (stack_of r.work r.parents.items) r.read r.unit r.pending x
+    (q ++ take c.loop-at.at bs)) i.2 (i.3 q len none seen) in
+    c.fail.ensures.represents (q ++ take c.loop-at.at bs) (λ rest. tt) (omega (arith, w.0))
+    (c.in-Err.ensures.spared r.kind.place (q ++ take c.loop-at.at bs) w.2)
+
+-- the bytes before a place, and some behind it
+joined : (b p : List ℕ) (at n : ℕ)
+    → (b ++ take at p) ++ take n (take (length p - at) (drop at p)) ≡ b ++ take (at + n) p
+joined b p at n =
+    ap (λ (x : List ℕ). (b ++ take at p) ++ take n x) (behind at p)
+    ∙ append_assoc b (take at p) (take n (drop at p))
+    ∙ ap (λ (x : List ℕ). b ++ x) (sym (take-add at n p))
+
+pub returns-in_default : goal.returns-in_default
+returns-in_default g c =
+    let i = c.loop-at.invariant in
+    let r = c.loop-at.self in
+    let e = c.take_entire-n.new.self in
+    let bs : List ℕ = c.args.bytes.now in
+    let at : ℕ = c.loop-at.at in
+    let n : ℕ = c.take_entire-n.result in
+    let same = c.take_entire-n.ensures.same in record {
+      represents = λ q len none seen.
+          let w = subst (λ (x : State). WentAs g.B.Build.spares r.schema.now.kinds r.kind.place r.limits
+          (g.B.Build.reports r.built) (stack_of r.work r.parents.items) r.read r.unit r.pending x
+          (q ++ take at bs)) i.2 (i.3 q len none seen) in
+          let after = c.in-Ok-true.ensures.follows r.kind.place (q ++ take at bs) w.2 in
+          subst (λ (x : List ℕ). RepresentsBytes g.B.Build.spares g.B.Build.reports e x) (joined q bs at n)
+          (went_on g.B.Build.spares e.schema.now.kinds e.kind.place e.limits (g.B.Build.reports e.built)
+          (stack_of e.work e.parents.items) e.read e.unit e.pending
+          ((q ++ take at bs) ++ take n (take (length bs - at) (drop at bs))) e.state
+          c.in_default.not-Fresh (c.take_entire-n.ensures.went (q ++ take at bs) w.0 w.1 after));
+      within = omega (
+        arith,
+        i.0,
+        c.take_entire-n.ensures.within,
+        length-take (length bs - at) (drop at bs),
+        length-drop at bs,
+      );
+      awake = awake_of e.state c.in_default.not-Fresh;
+      same = record {
+        schema_is = same.schema_is ∙ i.1.schema_is;
+        kind_is = same.kind_is ∙ i.1.kind_is;
+        limits_are = same.limits_are ∙ i.1.limits_are;
+      };
+    }
+
+pub loop-at-preserved : goal.loop-at-preserved
+loop-at-preserved g c =
+    let i = c.loop-at.invariant in
+    let r = c.loop-at.self in
+    let e = c.take_entire-n.new.self in
+    let bs : List ℕ = c.args.bytes.now in
+    let at : ℕ = c.loop-at.at in
+    let n : ℕ = c.take_entire-n.result in
+    let same = c.take_entire-n.ensures.same in (
+      omega (
+        arith,
+        i.0,
+        c.take_entire-n.ensures.within,
+        length-take (length bs - at) (drop at bs),
+        length-drop at bs,
+      ),
+      record {
+        schema_is = same.schema_is ∙ i.1.schema_is;
+        kind_is = same.kind_is ∙ i.1.kind_is;
+        limits_are = same.limits_are ∙ i.1.limits_are;
+      },
+      c.in-Fresh.is,
+      λ q len none seen.
+          let w = subst (λ (x : State). WentAs g.B.Build.spares r.schema.now.kinds r.kind.place r.limits
+          (g.B.Build.reports r.built) (stack_of r.work r.parents.items) r.read r.unit r.pending x
+          (q ++ take at bs)) i.2 (i.3 q len none seen) in
+          let after = c.in-Ok-true.ensures.follows r.kind.place (q ++ take at bs) w.2 in
+          subst (λ (x : List ℕ). Went g.B.Build.spares g.B.Build.reports e x) (joined q bs at n)
+          (c.take_entire-n.ensures.went (q ++ take at bs) w.0 w.1 after),
+    )

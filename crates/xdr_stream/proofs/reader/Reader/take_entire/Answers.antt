@@ -1,6 +1,6 @@
-use Rattle.std.proofs.Common.{◌≡◌, ◌+◌, ◌-◌, ◌≤◌, ℕ, List, [], ◌++◌, length, take, drop, subst, sym, ap, ◌∙◌}
+use Rattle.std.proofs.Common.{◌≡◌, ◌+◌, ◌-◌, ◌<◌, ◌≤◌, ℕ, List, [], ◌++◌, length, take, drop, subst, sym, ap, ◌∙◌}
 use Rattle.std.proofs.Common.{append_assoc, arith}
-use Rattle.std.proofs.lemmas.List.{length-append, length-take, length-drop}
+use Rattle.std.proofs.lemmas.List.{length-append, length-take, length-drop, take-take}
 use Rattle.std.proofs.Math.Seq.{take-add}
 use Rattle.xdr_types.specs.Kinds.{KindView, Part, Lists}
 use Rattle.xdr_types.specs.Laws.{EachKindHasAValue}
@@ -22,6 +22,11 @@ joined b p at n =
     ∙ append_assoc b (take at p) (take n (drop at p))
     ∙ ap (λ (x : List ℕ). b ++ x) (sym (take-add at n p))
 
+-- fewer of the bytes that were looked at
+take_of : (n most at : ℕ) (p : List ℕ) → n ≤ most → take n (take (at + most - at) p) ≡ take (at + n - at) p
+take_of n most at p fewer =
+    ap (λ (k : ℕ). take n (take k p)) (omega arith) ∙ take-take n most p fewer ∙ ap (λ (k : ℕ). take k p) (omega arith)
+
 pub loop-at-preserved : goal.loop-at-preserved
 loop-at-preserved g c =
     let i = c.loop-at.invariant in
@@ -29,31 +34,43 @@ loop-at-preserved g c =
     let d = c.in-Some.ensures in
     let s : List KindView = r.schema.now.kinds in
     let bs : List ℕ = c.args.bytes.now in
-    let n : ℕ = c.in-Some.part.extent.bytes in
-    let within : c.loop-at.at + n ≤ length bs = omega (arith, d.enough, i.0, c.loop-at-test.true) in (
+    let n : ℕ = c.in-Ok.n in
+    let most : ℕ = c.in-Some.part.most in
+    let given : List ℕ = take (c.loop-at.at + most - c.loop-at.at) (drop c.loop-at.at bs) in
+    let fewer : n ≤ most = omega (
+      arith,
+      c.in-Ok.ensures.within,
+      length-take (c.loop-at.at + most - c.loop-at.at) (drop c.loop-at.at bs),
+    ) in
+    let within : c.loop-at.at + n ≤ length bs = omega (arith, d.enough, i.0, c.loop-at-test.true, fewer) in
+    let some : 0 < n = omega (arith, c.if-n-eq0.false) in (
       within,
       record { schema_is = i.1.schema_is; kind_is = i.1.kind_is; limits_are = i.1.limits_are },
-      λ none. absurd (omega (arith, none, d.extent.bounded.some)),
+      λ none. absurd (omega (arith, none, some)),
       i.3,
       λ q len none seen.
           let w = subst (λ (x : State). WentAs g.B.Build.spares s r.kind.place r.limits
           (g.B.Build.reports r.built) (stack_of r.work r.parents.items) r.read r.unit r.pending x
           (q ++ take c.loop-at.at bs)) i.3
           (i.4 q len none seen) in
-          let t = c.in-Ok-true.ensures.taken c.in-Ok-true.field-0-test in
-          let u : List ℕ = take (c.loop-at.at + n - c.loop-at.at) (drop c.loop-at.at bs) in
+          let t = c.in-Ok.ensures.taken some in
+          let u : List ℕ = take n given in
+          let here : u ≡ take (c.loop-at.at + n - c.loop-at.at) (drop c.loop-at.at bs) =
+          take_of n most c.loop-at.at (drop c.loop-at.at bs) fewer in
           let size : length u ≡ n = omega (
             arith,
-            length-take (c.loop-at.at + n - c.loop-at.at) (drop c.loop-at.at bs),
+            length-take n given,
+            length-take (c.loop-at.at + most - c.loop-at.at) (drop c.loop-at.at bs),
             length-drop c.loop-at.at bs,
-            within,
+            c.in-Ok.ensures.within,
           ) in
           let far : length ((q ++ take c.loop-at.at bs) ++ u) ≡ c.saturating_add-self.result = omega (
             arith,
             length-append (q ++ take c.loop-at.at bs) u,
             size,
             w.0,
-            d.space,
+            fewer,
+            d.space (omega (arith, some, fewer)),
             c.depth-in_range.ensures.range.most_bytes,
             ap (λ l. l.bytes) i.1.limits_are,
             c.saturating_add-self.ensures,
@@ -69,9 +86,11 @@ loop-at-preserved g c =
           subst (λ (x : Lists). EachKindHasAValue x.kinds) (sym i.1.schema_is) c.len-known.ensures.valued in
           let next = entire_seen s has r.kind.place r.limits (g.B.Build.reports r.built)
           (g.B.Build.reports c.part.new.self) r.work c.after-self.result r.parents.items (q ++ take c.loop-at.at bs) u
-          c.len-outside.result r.read (length bs - c.loop-at.at) c.in-Some.part t.0 d around w.0 t.1 t.2
-          c.after-self.ensures t.3 w.2 in
-          let all : (q ++ take c.loop-at.at bs) ++ u ≡ q ++ take (c.loop-at.at + n) bs = joined q bs c.loop-at.at n in
+          c.len-outside.result r.read (length bs - c.loop-at.at) c.in-Some.part d around w.0 t.0
+          (omega (arith, size, some)) (omega (arith, size, fewer))
+          c.after-self.ensures t.1 w.2 in
+          let all : (q ++ take c.loop-at.at bs) ++ u ≡ q ++ take (c.loop-at.at + n) bs =
+          ap (λ (x : List ℕ). (q ++ take c.loop-at.at bs) ++ x) here ∙ joined q bs c.loop-at.at n in
           let I : Trace → Type 0 = g.B.Build.reports c.part.new.self in
           let fs : List (List Part) = stack_of c.after-self.result r.parents.items in
           subst (λ (x : State). WentAs g.B.Build.spares s r.kind.place r.limits I fs c.saturating_add-self.result r.unit
@@ -90,24 +109,22 @@ returns-in-Err-clause-went g c = λ q len none seen.
     let z : Type 0 = g.B.Build.spares in
     let H : Trace → Type 0 = g.B.Build.reports r.built in
     let bs : List ℕ = c.args.bytes.now in
-    let n : ℕ = c.in-Some.part.extent.bytes in
+    let n : ℕ = length bs in
     let w = subst (λ (x : State). WentAs z r.schema.now.kinds r.kind.place r.limits H
     (stack_of r.work r.parents.items) r.read r.unit r.pending x (q ++ take c.loop-at.at bs)) i.3
     (i.4 q len none seen) in
-    let more : take (c.loop-at.at + n) bs ≡ take c.loop-at.at bs ++ take n (drop c.loop-at.at bs) =
-    take-add c.loop-at.at n bs in
     let f = c.fail.new.self in
     went_awake z f.schema.now.kinds f.kind.place f.limits (g.B.Build.reports f.built) (stack_of f.work f.parents.items)
-    f.read f.unit f.pending (q ++ take (c.loop-at.at + n) bs) f.state
+    f.read f.unit f.pending (q ++ take n bs) f.state
     c.fail.ensures.awake
-    (c.fail.ensures.represents (q ++ take (c.loop-at.at + n) bs) (λ rest. tt)
+    (c.fail.ensures.represents (q ++ take n bs) (λ rest. tt)
     (omega (
       arith,
       w.0,
       length-append q (take c.loop-at.at bs),
-      length-append q (take (c.loop-at.at + n) bs),
-      ap (λ (x : List ℕ). length x) more,
-      length-append (take c.loop-at.at bs) (take n (drop c.loop-at.at bs)),
+      length-append q (take n bs),
+      length-take c.loop-at.at bs,
+      length-take n bs,
     ))
     (λ free. absurd (omega (
       arith,

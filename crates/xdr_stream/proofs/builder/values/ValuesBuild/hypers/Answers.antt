@@ -28,4 +28,5 @@ pub returns : goal.returns
 returns c = λ t reported many.
     let us : List ℕ = c.args.units.now in
     subst (λ (x : List ℕ). Reports c.loop-at.self (hypers_in c.args.signed x t))
-    (take_all c.loop-at.at us (omega (arith, c.loop-at-test.false))) (c.loop-at.invariant.2 t reported many)
+    (take_all c.loop-at.at us (omega (arith, c.loop-at-test.false))) (c.loop-at.invariant.2 t
+    (c.in_ok-make_room.ensures t reported) many)

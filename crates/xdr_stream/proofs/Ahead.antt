@@ -1,0 +1,196 @@
+-- Which bytes begin with a value that is there whole, or with one for each part.
+use Rattle.std.proofs.Common.{◌≡◌, ℕ, ◌+◌, ◌-◌, ◌<◌, ◌≤◌, ◌&&◌, true, pos, List, [], ◌++◌}
+use Rattle.std.proofs.Common.{length, take, drop, refl, sym, ap, subst, ◌∙◌, append-nil, arith, max}
+use Rattle.std.specs.Prelude.{Option, Some, None, IfSome, Bool, false, IsTrue}
+use Rattle.std.proofs.lemmas.List.{drop-drop}
+use Rattle.std.proofs.Math.Seq.{take-add}
+use Rattle.xdr_units.specs.Numbers.{word, num4, pad, padded, AreBytes}
+use Rattle.xdr_units.proofs.Bytes.{AreBytes-before, AreBytes-take, AreBytes-drop}
+use Rattle.xdr_types.specs.Kinds as xdr
+use Rattle.xdr_types.specs.Kinds.{KindView, Part, kind_at}
+use Rattle.xdr_types.specs.Tree as value
+use Rattle.xdr_types.specs.Tree.{Head, Values, Tree, depth, depth_of}
+use Rattle.xdr_types.specs.Fits.{Fits, fits, fit, is_legal, parts, are_bytes}
+use Rattle.xdr_types.specs.Spelling.{own, spelling, bytes_of}
+use Rattle.xdr_types.specs.Extent.{IsExtent}
+use Rattle.xdr_types.specs.declared.extent.Extent.{Extent}
+use Rattle.xdr_laws.specs.Owed.{lead_of, IsLengthFirst, Accepts, head_of}
+use Rattle.xdr_laws.proofs.Legal.{and, is_legal_of, bytes_are}
+use Rattle.xdr_laws.proofs.UnitOwed.{head_legal}
+use Rattle.xdr_stream.specs.Frames.{left_of, rest_of, Begins}
+use Rattle.xdr_stream.specs.Taking.{Takes}
+use Rattle.xdr_stream.specs.Steps.{IsStep}
+use Rattle.xdr_stream.specs.Sees.{make_wide}
+use Rattle.xdr_stream.specs.declared.machine.step.Step.TheVariants.{Wide}
+use Rattle.xdr_stream.proofs.Seeing.{makes_wide, makes_unsigned}
+use Rattle.xdr_stream.specs.Nodes.{head_of_leaf}
+use Rattle.xdr_stream.specs.Private.Ahead.{IsAhead, AreAhead}
+use Rattle.xdr_stream.specs.Private.Entire.{IsOneLeaf, IsPadded}
+use Rattle.xdr_stream.specs.Private.Reported.{leaf_tree}
+use Rattle.xdr_stream.specs.declared.builder.Leaf.{Leaf}
+use Rattle.xdr_stream.specs.declared.builder.Node.{Node}
+use Rattle.xdr_stream.specs.declared.machine.frame.Frame.{Frame}
+use Rattle.xdr_stream.specs.declared.machine.number.Made.TheVariants as made
+use Rattle.xdr_stream.proofs.Judged.{leaf_taken, behind, alone}
+
+-- ---- a value
+
+-- a head and its parts
+pub ahead_node : (s : List KindView) (place levels : ℕ) (k : KindView) (h : Head) (o rest bytes : List ℕ)
+    → 0 < levels → k ≡ kind_at s place → is_legal s k h ≡ true → own k h ≡ o
+    → AreAhead s (parts k h) (levels - 1) rest → o ++ rest ≡ bytes → IsAhead s place levels bytes
+ahead_node s place levels k h o rest bytes some is legal spelled r all = record {
+  value = (h, r.values);
+  fits = subst (λ (f : KindView). is_legal s f h && fit s (parts f h) r.values ≡ true) is
+      (and (is_legal s k h) (fit s (parts k h) r.values) legal r.fits);
+  spelled = subst (λ (f : KindView). own f h ++ spelling s (parts f h) r.values ≡ bytes) is
+      (ap (λ (x : List ℕ). x ++ spelling s (parts k h) r.values) spelled
+      ∙ ap (λ (x : List ℕ). o ++ x) r.spelled ∙ all);
+  shallow = omega (arith, r.shallow, some);
+}
+
+-- no parts
+pub ahead_none : (s : List KindView) (levels : ℕ) → AreAhead s [] levels []
+ahead_none s levels = record { values = value.none; fits = refl; spelled = refl; shallow = omega arith }
+
+-- a head without parts
+pub ahead_alone : (s : List KindView) (place levels : ℕ) (h : Head) (bytes : List ℕ) → 0 < levels
+    → Fits s place (leaf_tree h) × (bytes_of s place (leaf_tree h) ≡ bytes) → IsAhead s place levels bytes
+ahead_alone s place levels h bytes some r = record {
+  value = leaf_tree h;
+  fits = r.0;
+  spelled = r.1;
+  shallow = omega (arith, some);
+}
+
+pub ahead_leaf : (s : List KindView) (place levels : ℕ) (leaf : Leaf) (bytes : List ℕ) → 0 < levels
+    → IsOneLeaf s place bytes leaf → IsAhead s place levels bytes
+ahead_leaf s place levels leaf bytes some r = ahead_alone s place levels (head_of_leaf leaf) bytes some r
+
+-- what the first unit makes, and what stands behind it
+module _ (s : List KindView) (place levels : ℕ) (k : KindView) (x n : ℕ) (bytes : List ℕ) (some : 0 < levels)
+    (is : k ≡ kind_at s place) (unit : word x ≡ take 4 bytes) where
+  both_parts : word x ++ take n (take (length bytes - 4) (drop 4 bytes)) ≡ take (4 + n) bytes
+  both_parts = ap (λ (y : List ℕ). y ++ take n (take (length bytes - 4) (drop 4 bytes))) unit
+      ∙ ap (λ (y : List ℕ). take 4 bytes ++ take n y) (behind 4 bytes)
+      ∙ sym (take-add 4 n bytes)
+
+  pub unit_leaf : (leaf : Leaf) → Takes s k x (made.Leaf leaf) → IsAhead s place levels (take 4 bytes)
+  unit_leaf leaf taken = ahead_leaf s place levels leaf (take 4 bytes) some
+      (leaf_taken s place k x leaf (take 4 bytes) is taken unit)
+
+  pub unit_open : (node : Node) (frame : Frame) → Takes s k x (made.Open node frame)
+      → AreAhead s (left_of frame) (levels - 1) (take n (take (length bytes - 4) (drop 4 bytes)))
+      → IsAhead s place levels (take (4 + n) bytes)
+  unit_open node frame taken r =
+      let l = head_legal s k x taken.1.0 taken.0 in
+      ahead_node s place levels k (head_of s k x) (word x) (take n (take (length bytes - 4) (drop 4 bytes)))
+      (take (4 + n) bytes) some is (is_legal_of s k (head_of s k x) l.0) l.1
+      (subst (λ (ps : List Part). AreAhead s ps (levels - 1) (take n (take (length bytes - 4) (drop 4 bytes))))
+      (sym taken.1.3) r) both_parts
+
+  -- content behind its length
+  pub counted_one : IsLengthFirst (lead_of k) → Accepts s k x → are_bytes bytes ≡ true
+      → (p : IsPadded x (take n (take (length bytes - 4) (drop 4 bytes))))
+      → Fits s place (leaf_tree (value.bytes p.0))
+      × (bytes_of s place (leaf_tree (value.bytes p.0)) ≡ take (4 + n) bytes)
+  counted_one length_first accepted are p = of k refl length_first accepted
+    where
+      front_are : AreBytes p.0
+      front_are = AreBytes-before p.0 (pad (length p.0))
+          (subst (λ (y : List ℕ). AreBytes y) (ap (λ (y : List ℕ). take n y) (sym (behind 4 bytes)) ∙ p.2)
+          (AreBytes-take n (drop 4 bytes) (AreBytes-drop 4 bytes (bytes_are bytes are))))
+
+      all : num4 (pos (length p.0)) ++ padded p.0 ≡ take (4 + n) bytes
+      all = ap (λ (m : ℕ). word m ++ padded p.0) p.1 ∙ ap (λ (y : List ℕ). word x ++ y) (sym p.2) ∙ both_parts
+
+      of : (f : KindView) → f ≡ k → IsLengthFirst (lead_of f) → Accepts s f x
+          → Fits s place (leaf_tree (value.bytes p.0))
+          × (bytes_of s place (leaf_tree (value.bytes p.0)) ≡ take (4 + n) bytes)
+      of (xdr.opaque_up_to max) same first a =
+          alone s place (xdr.opaque_up_to max) (value.bytes p.0) (take (4 + n) bytes) (sym (same ∙ is))
+          (is_legal_of s (xdr.opaque_up_to max) (value.bytes p.0)
+          (omega (arith, a.0, p.1), omega (arith, a.1, p.1), front_are)) all refl
+      of (xdr.text max) same first a =
+          alone s place (xdr.text max) (value.bytes p.0) (take (4 + n) bytes) (sym (same ∙ is))
+          (is_legal_of s (xdr.text max) (value.bytes p.0)
+          (omega (arith, a.0, p.1), omega (arith, a.1, p.1), front_are)) all refl
+      of _ same first a = absurd first
+
+  pub unit_length : (size : ℕ) → Takes s k x (made.Length size) → are_bytes bytes ≡ true
+      → IsPadded size (take n (take (length bytes - 4) (drop 4 bytes))) → IsAhead s place levels (take (4 + n) bytes)
+  unit_length size taken are p =
+      let q : IsPadded x (take n (take (length bytes - 4) (drop 4 bytes))) = (p.0, p.1 ∙ taken.1.1, p.2) in
+      ahead_alone s place levels (value.bytes p.0) (take (4 + n) bytes) some (counted_one taken.1.0 taken.0 are q)
+
+-- any so many bytes as the extent of a kind has, where it is free
+pub ahead_free : (s : List KindView) (place levels : ℕ) (e : Extent) (bytes : List ℕ) → IsExtent s place e
+    → IsTrue e.free → e.depth ≤ levels → length bytes ≡ e.bytes → are_bytes bytes ≡ true → IsAhead s place levels bytes
+ahead_free s place levels e bytes r free low size are =
+    let v = r.free free bytes size are in record {
+      value = v.0;
+      fits = v.1;
+      spelled = v.2;
+      shallow = omega (arith, low, r.levels v.0 v.1);
+    }
+
+-- a hyper integer
+pub ahead_wide : (s : List KindView) (place levels : ℕ) (signed : Bool) (bytes : List ℕ) (k : KindView) → 0 < levels
+    → IsStep k (Wide signed) → k ≡ kind_at s place → length bytes ≡ 8 → are_bytes bytes ≡ true
+    → IsAhead s place levels bytes
+ahead_wide s place levels true bytes k some step is len are =
+    let m = makes_wide s bytes len are in
+    ahead_node s place levels xdr.hyper (make_wide true bytes) bytes [] bytes some (sym step ∙ is) m.0
+    (m.1 ∙ append-nil bytes)
+    (subst (λ (ps : List Part). AreAhead s ps (levels - 1) []) (sym m.2) (ahead_none s (levels - 1)))
+    (append-nil bytes)
+ahead_wide s place levels false bytes k some step is len are =
+    let m = makes_unsigned s bytes len are in
+    ahead_node s place levels xdr.unsigned_hyper (make_wide false bytes) bytes [] bytes some (sym step ∙ is) m.0
+    (m.1 ∙ append-nil bytes)
+    (subst (λ (ps : List Part). AreAhead s ps (levels - 1) []) (sym m.2) (ahead_none s (levels - 1)))
+    (append-nil bytes)
+
+-- what stands for a count stands for what it is turned into
+pub if_some : (o : Option ℕ) (P Q : ℕ → Type 0) → ((n : ℕ) → P n → Q n) → IfSome o P → IfSome o Q
+if_some None P Q f h = tt
+if_some (Some n) P Q f h = f n h
+
+-- ---- values one after another
+
+-- one more, in front
+pub ahead_more : (s : List KindView) (ps : List Part) (place levels : ℕ) (x y : List ℕ) → Begins ps place
+    → IsAhead s place levels x → AreAhead s (rest_of ps) levels y → AreAhead s ps levels (x ++ y)
+ahead_more s ps place levels x y b o r =
+    let p : Part = b.0 in
+    let h : Head = o.value.0 in
+    let inner : Values = o.value.1 in
+    subst (λ (qs : List Part). AreAhead s qs levels (x ++ y)) (sym b.1) (record {
+      values = value.node h inner r.values;
+      fits = and (fits s p.kind o.value) (fit s (rest_of ps) r.values)
+          (subst (λ (k : ℕ). Fits s k o.value) (sym b.2) o.fits) r.fits;
+      spelled = ap (λ (z : List ℕ). z ++ spelling s (rest_of ps) r.values)
+          (ap (λ (k : ℕ). bytes_of s k o.value) b.2 ∙ o.spelled) ∙ ap (λ (z : List ℕ). x ++ z) r.spelled;
+      shallow = most (depth_of r.values) (depth_of inner + 1) o.shallow r.shallow;
+    })
+  where
+    most : (a c : ℕ) → c ≤ levels → a ≤ levels → max a c ≤ levels
+    most a c first second = grind arith
+
+-- one more, of bytes from a place on
+pub ahead_then : (s : List KindView) (ps before qs : List Part) (place levels at n m : ℕ) (bytes : List ℕ)
+    → Begins ps place → qs ≡ rest_of ps
+    → IsAhead s place levels (take n (take (length bytes - at) (drop at bytes)))
+    → ((k : ℕ) → AreAhead s ps levels (take k (drop at bytes)) → AreAhead s before levels (take (at + k) bytes))
+    → AreAhead s qs levels (take m (drop (at + n) bytes)) → AreAhead s before levels (take (at + n + m) bytes)
+ahead_then s ps before qs place levels at n m bytes b rest o before_is r =
+    let one : IsAhead s place levels (take n (drop at bytes)) =
+    subst (λ (y : List ℕ). IsAhead s place levels (take n y)) (behind at bytes) o in
+    let more : AreAhead s (rest_of ps) levels (take m (drop n (drop at bytes))) =
+    subst (λ (y : List ℕ). AreAhead s (rest_of ps) levels (take m y)) (sym (drop-drop n at bytes))
+    (subst (λ (z : List Part). AreAhead s z levels (take m (drop (at + n) bytes))) rest r) in
+    let all : AreAhead s ps levels (take (n + m) (drop at bytes)) =
+    subst (λ (y : List ℕ). AreAhead s ps levels y) (sym (take-add n m (drop at bytes)))
+    (ahead_more s ps place levels (take n (drop at bytes)) (take m (drop n (drop at bytes))) b one more) in
+    let joined : at + (n + m) ≡ at + n + m = omega arith in
+    subst (λ (k : ℕ). AreAhead s before levels (take k bytes)) joined (before_is (n + m) all)
