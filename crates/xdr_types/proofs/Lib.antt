@@ -16,6 +16,8 @@ pub mod Worked
 pub mod Refusing
 pub mod Apart
 pub mod Cases
+pub mod Once
+pub mod FromEnd
 pub mod InSets
 pub mod Earlier
 pub mod Extents

@@ -3,6 +3,7 @@
 pub mod Lookups
 pub mod Notes
 pub mod Judged
+pub mod Rising
 pub mod Rounds
 pub mod Sets
 pub mod Same

@@ -9,7 +9,7 @@
 //! - `fit`: whether a value is one of a kind and within limits. `sizes`: how many bytes it has. `choice`: tags and
 //!   parts of a union. `equal`: `==` of values.
 //! - `faults`, `names`: the first flaw of a kind and of a name. `places`, `tags`, `empty`, `twice`: one flaw each.
-//!   `fault`: flaws, and their places.
+//!   `rising`: cases of which none is there twice. `fault`: flaws, and their places.
 //! - `heights`: which kinds have a finite value. `reach`: which defaults can be reached. `sets`: numbers and cases as
 //!   sets.
 //! - `extent`: what all values of a kind share, where their size does not vary. `levels`: how deep they are at most.
@@ -35,6 +35,7 @@ mod notes;
 mod picked;
 mod places;
 mod reach;
+mod rising;
 mod schema;
 mod sets;
 mod sizes;

@@ -1,6 +1,5 @@
 //! Maps from numbers to the members of an enumeration and the arms of a union, in which a number is found in few steps.
 ghost use Rattle.std.specs.Prelude.{◌≡◌, ℤ, map, Some, None, if◌then◌else◌, IfOk, OnOk};
-ghost use Rattle.std.specs.Option.{option_or};
 ghost use Rattle.std.specs.BTreeMap.{get};
 ghost use Rattle.std.specs.Ordering.{int_cmp, int_eq};
 ghost use Rattle.xdr_types.specs.KindViews.{kind_view, constant_of, branch_of};
@@ -23,18 +22,17 @@ pub fn index_in(found: &BTreeMap<i64, usize>, number: i64) -> Option<usize>
     found.get(&number).copied()
 }
 
-// Gives a number an index, where it has none yet.
-fn add_number(found: &mut BTreeMap<i64, usize>, number: i64, index: usize) -> Result<(), AllocError>
+// Gives a number an index, in place of any that it has.
+fn set_number(found: &mut BTreeMap<i64, usize>, number: i64, index: usize) -> Result<(), AllocError>
     ensures { OnOk result ((z : ℤ) → get int_cmp found.new z
-        ≡ option_or (get int_cmp found.old z) (if int_eq number z then Some index else None)) }
+        ≡ (if int_eq number z then Some index else get int_cmp found.old z)) }
 {
-    if index_in(found, number).is_none() {
-        found.insert(number, index)?;
-    }
+    found.insert(number, index)?;
     Ok(())
 }
 
-// The first member that has a number, for each number of an enumeration.
+// The first member that has a number, for each number of an enumeration. They are taken from the last one on, so that
+// the first of one number stays.
 fn members_by_number(
     alloc: Global,
     members: &[(String, i32)],
@@ -42,34 +40,37 @@ fn members_by_number(
     ensures { IfOk result (λ m. (z : ℤ) → get int_cmp m z ≡ member_from 0 (map constant_of members.now) z) }
 {
     let mut found = BTreeMap::new(alloc);
-    for (index, member) in members.iter().enumerate() {
-        add_number(&mut found, as_case(member.1), index)?;
+    for i in 0..members.len() {
+        let index = members.len() - 1 - i;
+        set_number(&mut found, as_case(members[index].1), index)?;
     }
     Ok(found)
 }
 
-// Gives each of the cases an index, where it has none yet.
-fn add_numbers(
+// Gives each of the cases an index, in place of any that it has.
+fn set_numbers(
     found: &mut BTreeMap<i64, usize>,
     cases: &[i64],
     index: usize,
 ) -> Result<(), AllocError>
     ensures { OnOk result ((z : ℤ) → get int_cmp found.new z
-        ≡ option_or (get int_cmp found.old z) (if is_listed cases.now z then Some index else None)) }
+        ≡ (if is_listed cases.now z then Some index else get int_cmp found.old z)) }
 {
-    for case in cases {
-        add_number(found, *case, index)?;
+    for i in 0..cases.len() {
+        set_number(found, cases[cases.len() - 1 - i], index)?;
     }
     Ok(())
 }
 
-// The first arm that lists a case, for each case of a union.
+// The first arm that lists a case, for each case of a union. They are taken from the last one on, so that the first
+// with one case stays.
 fn arms_by_case(alloc: Global, arms: &[Arm]) -> Result<BTreeMap<i64, usize>, AllocError>
     ensures { IfOk result (λ m. (z : ℤ) → get int_cmp m z ≡ arm_from 0 (map branch_of arms.now) z) }
 {
     let mut found = BTreeMap::new(alloc);
-    for (index, arm) in arms.iter().enumerate() {
-        add_numbers(&mut found, &arm.cases, index)?;
+    for i in 0..arms.len() {
+        let index = arms.len() - 1 - i;
+        set_numbers(&mut found, &arms[index].cases, index)?;
     }
     Ok(found)
 }

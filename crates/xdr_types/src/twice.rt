@@ -14,6 +14,7 @@ ghost use Rattle.xdr_types.specs.Faults.{constant_twice, part_twice, arm_twice, 
 
 use crate::choice::{has_no_arm, lists};
 use crate::kind::{Arm, Kind, Member};
+use crate::rising::cases_rise;
 use std::alloc::{AllocError, Global};
 use std::collections::BTreeSet;
 use std::string::String;
@@ -247,6 +248,9 @@ fn case_in_pairs(arms: &Vec<Arm>) -> bool
 fn arms_case_twice(alloc: Global, arms: &Vec<Arm>) -> bool
     ensures { result ≡ arms_case_twice (map branch_of arms.now.items) }
 {
+    if cases_rise(arms) {
+        return false;
+    }
     match case_repeats(alloc, arms) {
         Ok(twice) => twice,
         Err(_) => case_in_pairs(arms),
