@@ -1,8 +1,11 @@
 -- What a set of numbers says of the enumeration that it was made of.
 use Rattle.std.proofs.Common.{◌≡◌, ℕ, ◌+◌, ◌<◌, ◌≤◌, ◌++◌, length, get_or, ltb, ltb-true, ltb-false, arith, rules, ℤ}
 use Rattle.std.proofs.Common.{Bool, true, false, List, [], ◌∷◌, int_cmp, refl, sym, ap, ◌∙◌, subst, ◌⊎◌, inl, inr}
-use Rattle.std.proofs.Common.{IsTrue, not, ◌↔◌}
-use Rattle.std.specs.BTreeSet.{BTreeSet, contains, IsSubset}
+use Rattle.std.proofs.Common.{IsTrue, not, ◌↔◌, String, zero, suc, map, int_eq}
+use Rattle.std.specs.declared.alloc.Global.{Global}
+use Rattle.std.proofs.lemmas.Bool.Decides.{Decides-int_eq}
+use Rattle.xdr_types.specs.KindViews.{constant_of}
+use Rattle.std.specs.BTreeSet.{BTreeSet, contains, btree_set_len, IsSubset}
 use Rattle.std.specs.BTreeMap.{is_at}
 use Rattle.std.specs.List.{list_any}
 use Rattle.std.proofs.lemmas.Bool.{false≢true}
@@ -13,7 +16,7 @@ use Rattle.std.proofs.lemmas.Bool.{or_right as or_later, or_left as or_first, or
 use Rattle.std.proofs.lemmas.Bool.{not-true as not_true}
 use Rattle.xdr_types.specs.Kinds as xdr
 use Rattle.xdr_types.specs.Kinds.{KindView, Constant, Branch}
-use Rattle.xdr_types.specs.Fits.{is_tag_of, is_numbered}
+use Rattle.xdr_types.specs.Fits.{is_tag_of, is_numbered, is_constant}
 use Rattle.xdr_types.specs.Private.Sets.{HasNumbers, HasNumberOutside}
 
 -- the tags of an enumeration are those of the set of its numbers
@@ -24,6 +27,15 @@ numbered-tag f members s z r is has e =
     let numbers : (y : ℤ) → contains int_cmp s y ≡ is_numbered members y =
     subst (λ (g : KindView). HasNumbers g s) is has in
     subst (λ (g : KindView). r ≡ is_tag_of g z) (sym is) (e ∙ numbers z)
+
+-- what a set has that is not empty
+pub where_some : (P : Type 0) (s : BTreeSet ℤ) (r : Bool) → (IsTrue r ↔ (btree_set_len s ≡ 0)) → r ≡ false
+    → (btree_set_len s ≡ 0) ⊎ P → P
+where_some P s r empty filled of =
+    elim of [
+      | inl none ↦ absurd (false≢true (sym filled ∙ empty.1 none))
+      | inr there ↦ there
+    ]
 
 -- the number is among the keys
 abbrev has : List ℤ → ℤ → Bool
@@ -84,3 +96,13 @@ pushed {A} P xs ys y e each new i x lt is =
           (sym (is ∙ ap (λ (zs : List A). get_or zs i x) e ∙ ap (λ (j : ℕ). get_or (xs ++ y ∷ []) j x) last
           ∙ get_or-append_seam xs y [] x)) new)
     ]
+
+-- the number of a member is one of the enumeration's
+pub number_at : (members : List (String Global × ℤ)) (i : ℕ) (m : String Global × ℤ) → i < length members
+    → m ≡ get_or members i m → is_constant (map constant_of members) m.1 ≡ true
+number_at [] i m lt is = absurd (omega arith)
+number_at (n ∷ members) zero m lt is =
+    or_first (int_eq n.1 m.1) (is_constant (map constant_of members) m.1)
+    ((Decides-int_eq n.1 m.1).1 (ap (λ (x : String Global × ℤ). x.1) (sym is)))
+number_at (n ∷ members) (suc i) m lt is =
+    or_later (int_eq n.1 m.1) (is_constant (map constant_of members) m.1) (number_at members i m (omega arith) is)

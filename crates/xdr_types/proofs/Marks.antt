@@ -114,8 +114,7 @@ some-part-is p q e = cc
 
 -- a default is met where it can be reached and its part has a number
 reached-met : (kinds : List KindView) (hs : List (Option ℕ)) (tag : ℕ) (arms : List Branch) (other : Option Part)
-    (reached : Bool)
-    → (IsTrue reached ↔ HasFreeTag (kind_at kinds tag) arms)
+    (reached : Bool) → IsReached kinds (xdr.choice tag arms other) reached
     → IsTrue (reached && some_optional (λ (p : Part). is_marked hs p.kind) other) ↔ OtherMet kinds hs tag arms other
 reached-met kinds hs tag arms None reached by = (
   λ h. absurd (false≢true (both reached false h).1),

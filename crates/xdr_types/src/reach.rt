@@ -1,14 +1,18 @@
 //! Which defaults of unions can be reached: those of a union where some legal discriminant has no arm (RFC 4506 section
 //! 4.15).
-ghost use Rattle.std.specs.Prelude.{◌≡◌, ◌≤ℤ◌, ◌<ℤ◌, ℤ, ◌↔◌, length, map, IsTrue, IfOk, false};
+ghost use Rattle.std.specs.Prelude.{◌≡◌, ◌≤ℤ◌, ◌<ℤ◌, ℤ, ◌↔◌, length, map, IsTrue, IfOk, IfSome, true, false};
 ghost use Rattle.std.specs.BTreeSet.{contains};
 ghost use Rattle.std.specs.Ordering.{int_cmp};
 ghost use Rattle.xdr_types.specs.Kinds.{kind_at};
-ghost use Rattle.xdr_types.specs.KindViews.{kind_view};
-ghost use Rattle.xdr_types.specs.Private.Sets.{AreNumbers, HasNumberOutside, HasFreeNumber, IsReached, AreReached};
+ghost use Rattle.xdr_types.specs.KindViews.{kind_view, branch_of};
+ghost use Rattle.xdr_types.specs.Fits.{is_tag_of};
+ghost use Rattle.xdr_types.specs.Sound.{HasFreeTag};
+ghost use Rattle.xdr_types.specs.Private.Sets.{AreNumbers, IsFilled, HasNumberOutside, HasFreeNumber, IsReached};
+ghost use Rattle.xdr_types.specs.Private.Sets.{AreReached};
 
-use crate::kind::{Kind, KindId};
-use crate::sets::{cases_of, has_case, numbers_of_kinds};
+use crate::choice::has_no_arm;
+use crate::kind::{Arm, Kind, KindId};
+use crate::sets::{cases_of, fill_numbers, has_case, last_of, no_numbers};
 use std::alloc::{AllocError, Global};
 use std::collections::BTreeSet;
 
@@ -31,6 +35,32 @@ fn has_number_outside(numbers: &BTreeSet<i64>, cases: &BTreeSet<i64>) -> bool
     !numbers.is_subset(cases)
 }
 
+// A number that a discriminant may have and that is seldom a case: the highest one, or that of the last member.
+fn last_number(kinds: &Vec<Kind>, tag: KindId) -> Option<i64>
+    ensures { IfSome result (λ z. is_tag_of (kind_at (map kind_view kinds.now.items) tag.place) z ≡ true) }
+{
+    let place = tag.place as usize;
+    if place >= kinds.len() {
+        return None;
+    }
+    match &kinds[place] {
+        Kind::Int => Some(2147483647),
+        Kind::Unsigned => Some(4294967295),
+        Kind::Numbered { members } => last_of(members),
+        _ => None,
+    }
+}
+
+// Whether that number is no arm's, so that no other need be looked at.
+fn is_last_free(kinds: &Vec<Kind>, tag: KindId, arms: &[Arm]) -> bool
+    ensures { IsTrue result → HasFreeTag (kind_at (map kind_view kinds.now.items) tag.place) (map branch_of arms.now) }
+{
+    match last_number(kinds, tag) {
+        Some(number) => has_no_arm(arms, number),
+        None => false,
+    }
+}
+
 // Whether some legal discriminant is none of the cases.
 fn has_free_number(
     kinds: &Vec<Kind>,
@@ -38,7 +68,7 @@ fn has_free_number(
     tag: KindId,
     cases: &BTreeSet<i64>,
 ) -> bool
-    requires numbers { AreNumbers (map kind_view kinds.now.items) numbers.now.items }
+    requires filled { IsFilled (map kind_view kinds.now.items) numbers.now.items tag.place }
     requires all { length numbers.now.items ≡ length kinds.now.items }
     ensures { IsTrue result ↔ HasFreeNumber (kind_at (map kind_view kinds.now.items) tag.place) cases.now }
 {
@@ -55,26 +85,49 @@ fn has_free_number(
     }
 }
 
-// Whether a default of the kind can be reached; false of a kind that is no union.
+// Whether some legal discriminant of a union has no arm. The numbers of an enumeration are put into its set where the
+// set is asked for. An error is want of memory.
+fn has_free_tag(
+    alloc: Global,
+    kinds: &Vec<Kind>,
+    numbers: &mut Vec<BTreeSet<i64>>,
+    tag: KindId,
+    arms: &[Arm],
+) -> Result<bool, AllocError>
+    requires numbers { AreNumbers (map kind_view kinds.now.items) numbers.old.items }
+    requires all { length numbers.old.items ≡ length kinds.now.items }
+    ensures numbers { AreNumbers (map kind_view kinds.now.items) numbers.new.items }
+    ensures all { length numbers.new.items ≡ length kinds.now.items }
+    ensures free { IfOk result (λ r. IsTrue r
+        ↔ HasFreeTag (kind_at (map kind_view kinds.now.items) tag.place) (map branch_of arms.now)) }
+{
+    if is_last_free(kinds, tag, arms) {
+        return Ok(true);
+    }
+    fill_numbers(alloc, kinds, numbers, tag)?;
+    let cases = cases_of(alloc, arms)?;
+    Ok(has_free_number(kinds, numbers, tag, &cases))
+}
+
+// Whether the default of a union can be reached, where it has one; false of any other kind.
 fn is_default_reached(
     alloc: Global,
     kinds: &Vec<Kind>,
-    numbers: &Vec<BTreeSet<i64>>,
+    numbers: &mut Vec<BTreeSet<i64>>,
     kind: &Kind,
 ) -> Result<bool, AllocError>
-    requires numbers { AreNumbers (map kind_view kinds.now.items) numbers.now.items }
-    requires all { length numbers.now.items ≡ length kinds.now.items }
-    ensures { IfOk result (IsReached (map kind_view kinds.now.items) (kind_view kind.now)) }
+    requires numbers { AreNumbers (map kind_view kinds.now.items) numbers.old.items }
+    requires all { length numbers.old.items ≡ length kinds.now.items }
+    ensures numbers { AreNumbers (map kind_view kinds.now.items) numbers.new.items }
+    ensures all { length numbers.new.items ≡ length kinds.now.items }
+    ensures reached { IfOk result (IsReached (map kind_view kinds.now.items) (kind_view kind.now)) }
 {
     match kind {
         Kind::Choice {
             tag,
             arms,
-            other: _,
-        } => {
-            let cases = cases_of(alloc, arms)?;
-            Ok(has_free_number(kinds, numbers, *tag, &cases))
-        }
+            other: Some(_),
+        } => has_free_tag(alloc, kinds, numbers, *tag, arms),
         _ => Ok(false),
     }
 }
@@ -83,23 +136,10 @@ fn is_default_reached(
 pub fn reached_defaults(alloc: Global, kinds: &Vec<Kind>) -> Result<Vec<bool>, AllocError>
     ensures { IfOk result (λ v. AreReached (map kind_view kinds.now.items) v.items) }
 {
-    let numbers = numbers_of_kinds(alloc, kinds)?;
-    reached_by(alloc, kinds, &numbers)
-}
-
-// The same, by the numbers of each enumeration.
-fn reached_by(
-    alloc: Global,
-    kinds: &Vec<Kind>,
-    numbers: &Vec<BTreeSet<i64>>,
-) -> Result<Vec<bool>, AllocError>
-    requires numbers { AreNumbers (map kind_view kinds.now.items) numbers.now.items }
-    requires all { length numbers.now.items ≡ length kinds.now.items }
-    ensures { IfOk result (λ v. AreReached (map kind_view kinds.now.items) v.items) }
-{
+    let mut numbers = no_numbers(alloc, kinds.len())?;
     let mut reached = Vec::with_capacity(alloc, kinds.len())?;
     for kind in kinds {
-        reached.push(is_default_reached(alloc, kinds, numbers, kind)?)?;
+        reached.push(is_default_reached(alloc, kinds, &mut numbers, kind)?)?;
     }
     Ok(reached)
 }

@@ -1,12 +1,13 @@
 //! The numbers of enumerations and the cases of unions as sets, in which a number is found in few steps.
-ghost use Rattle.std.specs.Prelude.{◌≡◌, ◌^◌, ◌||◌, ℤ, length, map, true, IfOk, OnOk};
-ghost use Rattle.std.specs.BTreeSet.{contains};
+ghost use Rattle.std.specs.Prelude.{◌≡◌, ◌^◌, ◌||◌, ℤ, length, map, true, IfOk, OnOk, IfSome};
+ghost use Rattle.std.specs.BTreeSet.{contains, btree_set_len};
+ghost use Rattle.std.specs.List.{All};
 ghost use Rattle.std.specs.Ordering.{int_cmp, int_eq};
 ghost use Rattle.xdr_types.specs.Kinds.{kind_at};
 ghost use Rattle.xdr_types.specs.KindViews.{kind_view, constant_of, branch_of};
 ghost use Rattle.xdr_types.specs.Fits.{is_numbered, is_listed, is_signed, is_tag_of};
 ghost use Rattle.xdr_types.specs.Sound.{has_arm};
-ghost use Rattle.xdr_types.specs.Private.Sets.{AreNumbers, HasNumbers};
+ghost use Rattle.xdr_types.specs.Private.Sets.{AreNumbers, HasNumbers, IsFilled};
 
 use crate::choice::is_tag_number;
 use crate::kind::{Arm, Kind, KindId};
@@ -14,12 +15,25 @@ use std::alloc::{AllocError, Global};
 use std::collections::BTreeSet;
 use std::string::String;
 
+// So many members are as soon looked at one by one.
+const FEW: usize = 16;
+
 /// A member's number as a case.
 pub fn as_case(number: i32) -> i64
     ensures value { result ≡ number }
     ensures int { is_signed (2 ^ 31) result ≡ true }
 {
     i64::from(number)
+}
+
+/// The number of the last member, as a case.
+pub fn last_of(members: &[(String, i32)]) -> Option<i64>
+    ensures { IfSome result (λ z. is_numbered (map constant_of members.now) z ≡ true) }
+{
+    if members.is_empty() {
+        return None;
+    }
+    Some(as_case(members[members.len() - 1].1))
 }
 
 // Puts a case into a set.
@@ -58,30 +72,78 @@ fn numbers_of(alloc: Global, kind: &Kind) -> Result<BTreeSet<i64>, AllocError>
     }
 }
 
-/// The numbers of each enumeration, at its place. An error is want of memory.
-pub fn numbers_of_kinds(alloc: Global, kinds: &Vec<Kind>) -> Result<Vec<BTreeSet<i64>>, AllocError>
-    ensures numbers { IfOk result (λ v. AreNumbers (map kind_view kinds.now.items) v.items) }
-    ensures all { IfOk result (λ v. length v.items ≡ length kinds.now.items) }
+/// So many sets without numbers. An error is want of memory.
+pub fn no_numbers(alloc: Global, count: usize) -> Result<Vec<BTreeSet<i64>>, AllocError>
+    ensures all { IfOk result (λ v. length v.items ≡ count) }
+    ensures none { IfOk result (λ v. All (λ s. btree_set_len s ≡ 0) v.items) }
 {
-    let mut numbers = Vec::with_capacity(alloc, kinds.len())?;
-    for kind in kinds {
-        numbers.push(numbers_of(alloc, kind)?)?;
+    let mut numbers = Vec::with_capacity(alloc, count)?;
+    for _i in 0..count {
+        numbers.push(BTreeSet::new(alloc))?;
     }
     Ok(numbers)
 }
 
-/// The numbers of each enumeration, at its place, or no list where memory for them was refused.
+/// Puts the numbers of the enumeration at a place into its set, where that has none yet. An error is want of memory.
+pub fn fill_numbers(
+    alloc: Global,
+    kinds: &Vec<Kind>,
+    numbers: &mut Vec<BTreeSet<i64>>,
+    id: KindId,
+) -> Result<(), AllocError>
+    requires all { length numbers.old.items ≡ length kinds.now.items }
+    requires numbers { AreNumbers (map kind_view kinds.now.items) numbers.old.items }
+    ensures all { length numbers.new.items ≡ length kinds.now.items }
+    ensures numbers { AreNumbers (map kind_view kinds.now.items) numbers.new.items }
+    ensures filled { OnOk result (IsFilled (map kind_view kinds.now.items) numbers.new.items id.place) }
+{
+    let place = id.place as usize;
+    if place < kinds.len() && numbers[place].is_empty() {
+        numbers[place] = numbers_of(alloc, &kinds[place])?;
+    }
+    Ok(())
+}
+
+// Whether an enumeration of many members stands at a place.
+fn is_long(kinds: &Vec<Kind>, id: KindId) -> bool {
+    let place = id.place as usize;
+    if place >= kinds.len() {
+        return false;
+    }
+    match &kinds[place] {
+        Kind::Numbered { members } => members.len() > FEW,
+        _ => false,
+    }
+}
+
+// The numbers of each enumeration of many members that is the discriminant of a union, at its place, and no numbers at
+// the others. An error is want of memory.
+fn numbers_of_tags(alloc: Global, kinds: &Vec<Kind>) -> Result<Vec<BTreeSet<i64>>, AllocError>
+    ensures { IfOk result (λ v. AreNumbers (map kind_view kinds.now.items) v.items) }
+{
+    let mut numbers = no_numbers(alloc, kinds.len())?;
+    for kind in kinds {
+        if let Kind::Choice { tag, .. } = kind {
+            if is_long(kinds, *tag) {
+                fill_numbers(alloc, kinds, &mut numbers, *tag)?;
+            }
+        }
+    }
+    Ok(numbers)
+}
+
+/// The numbers of enumerations that are discriminants, each at its place, or no list where memory for them was refused.
 pub fn numbers_or_none(alloc: Global, kinds: &Vec<Kind>) -> Vec<BTreeSet<i64>>
     ensures { AreNumbers (map kind_view kinds.now.items) result.items }
 {
-    match numbers_of_kinds(alloc, kinds) {
+    match numbers_of_tags(alloc, kinds) {
         Ok(numbers) => numbers,
         Err(_) => Vec::new(alloc),
     }
 }
 
-/// Whether a discriminant of the kind may have the number. Members are looked at one by one only where there is no set
-/// of their numbers.
+/// Whether a discriminant of the kind may have the number. Members are looked at one by one where there is no set of
+/// their numbers.
 pub fn is_legal_case(kinds: &Vec<Kind>, numbers: &[BTreeSet<i64>], tag: KindId, number: i64) -> bool
     requires { AreNumbers (map kind_view kinds.now.items) numbers.now }
     ensures { result ≡ is_tag_of (kind_at (map kind_view kinds.now.items) tag.place) number }
@@ -90,8 +152,9 @@ pub fn is_legal_case(kinds: &Vec<Kind>, numbers: &[BTreeSet<i64>], tag: KindId, 
     if place >= kinds.len() || place >= numbers.len() {
         return is_tag_number(kinds, tag, number);
     }
+    let listed = &numbers[place];
     match &kinds[place] {
-        Kind::Numbered { members: _ } => has_case(&numbers[place], number),
+        Kind::Numbered { members: _ } if !listed.is_empty() => has_case(listed, number),
         _ => is_tag_number(kinds, tag, number),
     }
 }

@@ -1,6 +1,6 @@
 -- The numbers of enumerations and the cases of unions as sets, and which defaults can be reached.
-use Rattle.std.specs.Prelude.{◌≡◌, ℕ, ◌<◌, ℤ, List, length, Bool, true, false, ⊤, IsTrue, ◌↔◌, slice_index_or}
-use Rattle.std.specs.BTreeSet.{BTreeSet, contains}
+use Rattle.std.specs.Prelude.{◌≡◌, ℕ, ◌<◌, ℤ, List, length, Bool, true, false, ⊤, IsTrue, ◌↔◌, ◌⊎◌, Some, slice_index_or}
+use Rattle.std.specs.BTreeSet.{BTreeSet, contains, btree_set_len}
 use Rattle.std.specs.Ordering.{int_cmp}
 use Rattle.xdr_types.specs.Kinds as xdr
 use Rattle.xdr_types.specs.Kinds.{KindView, kind_at}
@@ -12,11 +12,16 @@ abbrev pub HasNumbers : KindView → BTreeSet ℤ → Type 0
 HasNumbers (xdr.numbered members) s = (z : ℤ) → contains int_cmp s z ≡ is_numbered members z
 HasNumbers _ s = ⊤
 
--- each set has the numbers of the enumeration at its place
+-- the set at the place has the numbers of the enumeration there
+abbrev pub IsFilled : List KindView → List (BTreeSet ℤ) → ℕ → Type 0
+IsFilled kinds sets place =
+    (s : BTreeSet ℤ) → place < length sets → s ≡ slice_index_or sets place s → HasNumbers (kind_at kinds place) s
+
+-- each set has no number yet, or those of the enumeration at its place
 abbrev pub AreNumbers : List KindView → List (BTreeSet ℤ) → Type 0
 AreNumbers kinds sets =
     (place : ℕ) (s : BTreeSet ℤ) → place < length sets → s ≡ slice_index_or sets place s
-    → HasNumbers (kind_at kinds place) s
+    → (btree_set_len s ≡ 0) ⊎ HasNumbers (kind_at kinds place) s
 
 -- some number of the first set is not in the second
 abbrev pub HasNumberOutside : BTreeSet ℤ → BTreeSet ℤ → Type 0
@@ -26,9 +31,10 @@ HasNumberOutside numbers cases = (z : ℤ) × (contains int_cmp numbers z ≡ tr
 abbrev pub HasFreeNumber : KindView → BTreeSet ℤ → Type 0
 HasFreeNumber tag cases = (z : ℤ) × IsTrue (is_tag_of tag z) × (contains int_cmp cases z ≡ false)
 
--- whether some legal discriminant of a union has no arm, so that a default can be reached (RFC 4506 section 4.15)
+-- whether some legal discriminant of a union has no arm, so that its default, where it has one, can be reached (RFC 4506
+-- section 4.15)
 abbrev pub IsReached : List KindView → KindView → Bool → Type 0
-IsReached kinds (xdr.choice tag arms other) r = IsTrue r ↔ HasFreeTag (kind_at kinds tag) arms
+IsReached kinds (xdr.choice tag arms (Some p)) r = IsTrue r ↔ HasFreeTag (kind_at kinds tag) arms
 IsReached kinds _ r = ⊤
 
 -- the same for the kind at each place

@@ -6,7 +6,7 @@ use Rattle.xdr_types.specs.Private.Sets.{IsReached}
 use Rattle.xdr_types.specs.declared.kind.Kind.{Kind}
 use Rattle.xdr_types.proofs.InSets.{pushed}
 use Rattle.xdr_types.proofs.Marks.{kind-read}
-use Rattle.xdr_types.proofs.reach.reached_by.Goals as goal
+use Rattle.xdr_types.proofs.reach.reached_defaults.Goals as goal
 
 pub loop-kind-preserved : goal.loop-kind-preserved
 loop-kind-preserved c =
@@ -21,8 +21,10 @@ loop-kind-preserved c =
     ∙ ap (λ (z : List Kind). get_or z place k) c.deref-kind-items.ensures.value in
     let here : IsReached all (kind_at all place) r =
     subst (λ (f : KindView). IsReached all f r)
-    (sym (kind-read ks place k within is)) c.in_ok-is_default_reached.ensures in
+    (sym (kind-read ks place k within is)) c.in_ok-is_default_reached.ensures.reached in
     record {
+      all = c.in_ok-is_default_reached.ensures.all;
+      numbers = c.in_ok-is_default_reached.ensures.numbers;
       lengths = omega (
         arith,
         ap length c.in_ok-push.ensures.items,
