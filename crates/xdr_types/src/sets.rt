@@ -51,13 +51,14 @@ pub fn has_case(cases: &BTreeSet<i64>, case: i64) -> bool
     cases.contains(&case)
 }
 
-// The numbers of an enumeration's members.
+// The numbers of an enumeration's members. They mostly rise, and the least of a set is found soonest, so they are taken
+// from the last one on.
 fn numbers_of_members(alloc: Global, members: &[(String, i32)]) -> Result<BTreeSet<i64>, AllocError>
     ensures { IfOk result (λ s. (z : ℤ) → contains int_cmp s z ≡ is_numbered (map constant_of members.now) z) }
 {
     let mut numbers = BTreeSet::new(alloc);
-    for member in members {
-        add_case(&mut numbers, as_case(member.1))?;
+    for i in 0..members.len() {
+        add_case(&mut numbers, as_case(members[members.len() - 1 - i].1))?;
     }
     Ok(numbers)
 }
@@ -159,24 +160,24 @@ pub fn is_legal_case(kinds: &Vec<Kind>, numbers: &[BTreeSet<i64>], tag: KindId, 
     }
 }
 
-// Puts cases into a set.
+// Puts cases into a set, from the last one on.
 fn add_cases(cases: &mut BTreeSet<i64>, more: &[i64]) -> Result<(), AllocError>
     ensures { OnOk result
         ((z : ℤ) → contains int_cmp cases.new z ≡ (is_listed more.now z || contains int_cmp cases.old z)) }
 {
-    for case in more {
-        add_case(cases, *case)?;
+    for i in 0..more.len() {
+        add_case(cases, more[more.len() - 1 - i])?;
     }
     Ok(())
 }
 
-/// The cases of all the arms. An error is want of memory.
+/// The cases of all the arms, which are taken from the last one on as well. An error is want of memory.
 pub fn cases_of(alloc: Global, arms: &[Arm]) -> Result<BTreeSet<i64>, AllocError>
     ensures { IfOk result (λ s. (z : ℤ) → contains int_cmp s z ≡ has_arm (map branch_of arms.now) z) }
 {
     let mut cases = BTreeSet::new(alloc);
-    for arm in arms {
-        add_cases(&mut cases, &arm.cases)?;
+    for i in 0..arms.len() {
+        add_cases(&mut cases, &arms[arms.len() - 1 - i].cases)?;
     }
     Ok(cases)
 }

@@ -1,5 +1,6 @@
 -- The numbers of enumerations and the cases of unions as sets, and which defaults can be reached.
-use Rattle.std.specs.Prelude.{◌≡◌, ℕ, ◌<◌, ℤ, List, length, Bool, true, false, ⊤, IsTrue, ◌↔◌, ◌⊎◌, Some, slice_index_or}
+use Rattle.std.specs.Prelude.{◌≡◌, ℕ, ◌<◌, ℤ, List, length, Bool, true, false, ⊤, IsTrue, ◌↔◌, ◌⊎◌, Some}
+use Rattle.std.specs.Prelude.{slice_index_or}
 use Rattle.std.specs.BTreeSet.{BTreeSet, contains, btree_set_len}
 use Rattle.std.specs.Ordering.{int_cmp}
 use Rattle.xdr_types.specs.Kinds as xdr
@@ -31,8 +32,8 @@ HasNumberOutside numbers cases = (z : ℤ) × (contains int_cmp numbers z ≡ tr
 abbrev pub HasFreeNumber : KindView → BTreeSet ℤ → Type 0
 HasFreeNumber tag cases = (z : ℤ) × IsTrue (is_tag_of tag z) × (contains int_cmp cases z ≡ false)
 
--- whether some legal discriminant of a union has no arm, so that its default, where it has one, can be reached (RFC 4506
--- section 4.15)
+-- whether some legal discriminant of a union has no arm, so that its default can be reached (RFC 4506 section 4.15);
+-- nothing of one without a default
 abbrev pub IsReached : List KindView → KindView → Bool → Type 0
 IsReached kinds (xdr.choice tag arms (Some p)) r = IsTrue r ↔ HasFreeTag (kind_at kinds tag) arms
 IsReached kinds _ r = ⊤

@@ -13,5 +13,6 @@ returns-in-Numbered c =
     numbered-tag _ _ s c.args.number c.has_case.result
     (kind-read ks.items c.args.tag.place c.index.result.now
     (omega (arith, c.if-place-len.false, c.len.ensures, ks.ok.0)) c.index.ensures ∙ ap kind_view c.in-Numbered.is)
-    (where_some _ s c.is_empty.result c.is_empty.ensures c.if-not-is_empty.true (c.requires c.args.tag.place s (omega arith) c.index-numbers-place.is))
+    (where_some _ s c.is_empty.result c.is_empty.ensures c.if-not-is_empty.true
+    (c.requires c.args.tag.place s (omega arith) c.index-numbers-place.is))
     (c.has_case.ensures ∙ ap (contains int_cmp s) same)
