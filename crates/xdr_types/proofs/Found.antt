@@ -3,18 +3,17 @@ use Rattle.std.proofs.Common.{◌≡◌, ℕ, suc, ◌+◌, ◌-◌, ◌<◌, �
 use Rattle.std.proofs.Common.{Option, Some, None, refl, sym, ap, ◌∙◌, arith, is_some, inl, inr, w64, to_z, of_z}
 use Rattle.std.proofs.Common.{FitsSigned, int_cmp, rules}
 use Rattle.std.specs.List.{find, position_from}
-use Rattle.std.specs.BTreeMap.{BTreeMap, get}
 use Rattle.std.specs.Ordering.{int_eq}
 use Rattle.std.proofs.lemmas.Bool.{cases_Bool as tested}
 use Rattle.std.proofs.lemmas.Option.{none-some}
 use Rattle.xdr_types.specs.Kinds.{Branch, Constant, Part}
 use Rattle.xdr_types.specs.Fits.{is_constant, is_listed, part_of}
-use Rattle.xdr_types.specs.Private.Lookups.{member_from}
+use Rattle.xdr_types.specs.Private.Lookups.{member_from, first_at}
 
--- what a map has for a number, read as the machine's word of it
-pub indexed : (m : BTreeMap ℤ ℕ) (z : ℤ) (r : Option ℕ) → FitsSigned w64 z → r ≡ get int_cmp m (to_z w64 (of_z w64 z))
-    → r ≡ get int_cmp m z
-indexed m z r fits e = let same : to_z w64 (of_z w64 z) ≡ z = search rules in e ∙ ap (get int_cmp m) same
+-- what entries have for a number, read as the machine's word of it
+pub indexed : (es : List (ℤ × ℕ)) (z : ℤ) (r : Option ℕ) → FitsSigned w64 z
+    → r ≡ first_at es (to_z w64 (of_z w64 z)) → r ≡ first_at es z
+indexed es z r fits e = let same : to_z w64 (of_z w64 z) ≡ z = search rules in e ∙ ap (first_at es) same
 
 some-is : {A : Type 0} (x y : A) → Some x ≡ Some y → x ≡ y
 some-is x y e = cc

@@ -18,6 +18,7 @@ pub mod Apart
 pub mod Cases
 pub mod Once
 pub mod FromEnd
+pub mod Entries
 pub mod InSets
 pub mod Earlier
 pub mod Extents

@@ -13,7 +13,7 @@
 //! - `heights`: which kinds have a finite value. `reach`: which defaults can be reached. `sets`: numbers and cases as
 //!   sets.
 //! - `extent`: what all values of a kind share, where their size does not vary. `levels`: how deep they are at most.
-//!   `lookups`: maps of numbers. `notes`: all three, noted of each kind when a schema is built.
+//!   `lookups`: numbers in order. `notes`: all three, noted of each kind when a schema is built.
 //! - `laws`: theorems about the definitions.
 #![tactic(auto)]
 

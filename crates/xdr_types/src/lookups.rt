@@ -1,76 +1,109 @@
-//! Maps from numbers to the members of an enumeration and the arms of a union, in which a number is found in few steps.
-ghost use Rattle.std.specs.Prelude.{◌≡◌, ℤ, map, Some, None, if◌then◌else◌, IfOk, OnOk};
-ghost use Rattle.std.specs.BTreeMap.{get};
-ghost use Rattle.std.specs.Ordering.{int_cmp, int_eq};
+//! The numbers of the members of an enumeration and of the arms of a union in order, so that one is found in few steps.
+ghost use Rattle.std.specs.Prelude.{◌≡◌, ◌<◌, ◌≤◌, ◌<ℤ◌, ◌≤ℤ◌, ℕ, ℤ, length, map, Some, None, if◌then◌else◌, IfOk, OnOk};
+ghost use Rattle.std.specs.Option.{option_or};
+ghost use Rattle.std.specs.Ordering.{int_eq};
 ghost use Rattle.xdr_types.specs.KindViews.{kind_view, constant_of, branch_of};
 ghost use Rattle.xdr_types.specs.Fits.{is_listed};
-ghost use Rattle.xdr_types.specs.Private.Lookups.{member_from, arm_from, MayFind};
+ghost use Rattle.xdr_types.specs.Private.Lookups.{member_from, arm_from, number_at, first_at, AreInOrder, MayFind};
 
 use crate::kind::{Arm, Kind};
 use crate::sets::as_case;
 use std::alloc::{AllocError, Global};
-use std::collections::BTreeMap;
 use std::string::String;
 
 // So many numbers are as soon looked at one by one.
 const FEW: usize = 8;
 
-/// The index that a map has for a number.
-pub fn index_in(found: &BTreeMap<i64, usize>, number: i64) -> Option<usize>
-    ensures { result ≡ get int_cmp found.now number }
+// How many entries have lower numbers, by halves.
+fn count_lower(found: &Vec<(i64, usize)>, number: i64) -> usize
+    requires { AreInOrder found.now.items }
+    ensures below { (i : ℕ) → i < result → number_at found.now.items i <ℤ number }
+    ensures above { (i : ℕ) → result ≤ i → i < length found.now.items → number ≤ℤ number_at found.now.items i }
 {
-    found.get(&number).copied()
+    let mut low = 0;
+    let mut high = found.len();
+    while low < high {
+        let middle = low + (high - low) / 2;
+        if found[middle].0 < number {
+            low = middle + 1;
+        } else {
+            high = middle;
+        }
+    }
+    low
 }
 
-// Gives a number an index, in place of any that it has.
-fn set_number(found: &mut BTreeMap<i64, usize>, number: i64, index: usize) -> Result<(), AllocError>
-    ensures { OnOk result ((z : ℤ) → get int_cmp found.new z
-        ≡ (if int_eq number z then Some index else get int_cmp found.old z)) }
+/// The index of the first entry with a number.
+pub fn index_in(found: &Vec<(i64, usize)>, number: i64) -> Option<usize>
+    requires { AreInOrder found.now.items }
+    ensures { result ≡ first_at found.now.items number }
 {
-    found.insert(number, index)?;
+    let place = count_lower(found, number);
+    if place >= found.len() {
+        return None;
+    }
+    let (lowest, index) = found[place];
+    if lowest == number { Some(index) } else { None }
+}
+
+// One more entry at the end.
+fn add_number(found: &mut Vec<(i64, usize)>, number: i64, index: usize) -> Result<(), AllocError>
+    ensures { OnOk result ((z : ℤ) → first_at found.new.items z
+        ≡ option_or (first_at found.old.items z) (if int_eq number z then Some index else None)) }
+{
+    found.push((number, index))?;
     Ok(())
 }
 
-// The first member that has a number, for each number of an enumeration. They are taken from the last one on, so that
-// the first of one number stays.
+// Puts entries in order. Those with one number stay in turn. An error is want of memory.
+fn put_in_order(found: &mut Vec<(i64, usize)>) -> Result<(), AllocError>
+    ensures { OnOk result (AreInOrder found.new.items
+        × ((z : ℤ) → first_at found.new.items z ≡ first_at found.old.items z)) }
+{
+    found.sort_by_key(|entry| entry.0)
+}
+
+// The first member that has a number, for each number of an enumeration.
 fn members_by_number(
     alloc: Global,
     members: &[(String, i32)],
-) -> Result<BTreeMap<i64, usize>, AllocError>
-    ensures { IfOk result (λ m. (z : ℤ) → get int_cmp m z ≡ member_from 0 (map constant_of members.now) z) }
+) -> Result<Vec<(i64, usize)>, AllocError>
+    ensures { IfOk result (λ v. (z : ℤ) → first_at v.items z ≡ member_from 0 (map constant_of members.now) z) }
 {
-    let mut found = BTreeMap::new(alloc);
-    for i in 0..members.len() {
-        let index = members.len() - 1 - i;
-        set_number(&mut found, as_case(members[index].1), index)?;
+    let mut found = Vec::with_capacity(alloc, members.len())?;
+    for (index, member) in members.iter().enumerate() {
+        add_number(&mut found, as_case(member.1), index)?;
     }
     Ok(found)
 }
 
-// Gives each of the cases an index, in place of any that it has.
-fn set_numbers(
-    found: &mut BTreeMap<i64, usize>,
-    cases: &[i64],
-    index: usize,
-) -> Result<(), AllocError>
-    ensures { OnOk result ((z : ℤ) → get int_cmp found.new z
-        ≡ (if is_listed cases.now z then Some index else get int_cmp found.old z)) }
+// One more entry for each of the cases.
+fn add_numbers(found: &mut Vec<(i64, usize)>, cases: &[i64], index: usize) -> Result<(), AllocError>
+    ensures { OnOk result ((z : ℤ) → first_at found.new.items z
+        ≡ option_or (first_at found.old.items z) (if is_listed cases.now z then Some index else None)) }
 {
-    for i in 0..cases.len() {
-        set_number(found, cases[cases.len() - 1 - i], index)?;
+    for case in cases {
+        add_number(found, *case, index)?;
     }
     Ok(())
 }
 
-// The first arm that lists a case, for each case of a union. They are taken from the last one on, so that the first
-// with one case stays.
-fn arms_by_case(alloc: Global, arms: &[Arm]) -> Result<BTreeMap<i64, usize>, AllocError>
-    ensures { IfOk result (λ m. (z : ℤ) → get int_cmp m z ≡ arm_from 0 (map branch_of arms.now) z) }
+// How many cases the arms have.
+fn count_cases(arms: &[Arm]) -> usize {
+    let mut count: usize = 0;
+    for arm in arms {
+        count = count.saturating_add(arm.cases.len());
+    }
+    count
+}
+
+// The first arm that lists a case, for each case of a union.
+fn arms_by_case(alloc: Global, arms: &[Arm]) -> Result<Vec<(i64, usize)>, AllocError>
+    ensures { IfOk result (λ v. (z : ℤ) → first_at v.items z ≡ arm_from 0 (map branch_of arms.now) z) }
 {
-    let mut found = BTreeMap::new(alloc);
-    for i in 0..arms.len() {
-        let index = arms.len() - 1 - i;
-        set_numbers(&mut found, &arms[index].cases, index)?;
+    let mut found = Vec::with_capacity(alloc, count_cases(arms))?;
+    for (index, arm) in arms.iter().enumerate() {
+        add_numbers(&mut found, &arm.cases, index)?;
     }
     Ok(found)
 }
@@ -88,23 +121,15 @@ fn are_few(arms: &[Arm]) -> bool {
     true
 }
 
-/// The map of an enumeration or a union whose numbers are many. An error is want of memory.
-pub fn lookup_of(alloc: Global, kind: &Kind) -> Result<Option<BTreeMap<i64, usize>>, AllocError>
+/// The entries of an enumeration or a union whose numbers are many. An error is want of memory.
+pub fn lookup_of(alloc: Global, kind: &Kind) -> Result<Option<Vec<(i64, usize)>>, AllocError>
     ensures { IfOk result (MayFind (kind_view kind.now)) }
 {
-    match kind {
-        Kind::Numbered { members } => {
-            if members.len() <= FEW {
-                return Ok(None);
-            }
-            Ok(Some(members_by_number(alloc, members)?))
-        }
-        Kind::Choice { arms, .. } => {
-            if are_few(arms) {
-                return Ok(None);
-            }
-            Ok(Some(arms_by_case(alloc, arms)?))
-        }
-        _ => Ok(None),
-    }
+    let mut found = match kind {
+        Kind::Numbered { members } if members.len() > FEW => members_by_number(alloc, members)?,
+        Kind::Choice { arms, .. } if !are_few(arms) => arms_by_case(alloc, arms)?,
+        _ => return Ok(None),
+    };
+    put_in_order(&mut found)?;
+    Ok(Some(found))
 }

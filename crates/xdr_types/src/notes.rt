@@ -8,13 +8,12 @@ use crate::kind::Kind;
 use crate::levels::levels_of;
 use crate::lookups::lookup_of;
 use std::alloc::{AllocError, Global};
-use std::collections::BTreeMap;
 
 /// What is noted of a kind.
 #[derive(Debug, Drop)]
 pub struct Noted {
-    /// Where a number of a long enumeration or union is.
-    pub numbers: Option<BTreeMap<i64, usize>>,
+    /// The numbers of a long enumeration or union in order, with the indices of its members or arms.
+    pub numbers: Option<Vec<(i64, usize)>>,
     /// What its values share, where their size does not vary.
     pub extent: Option<Extent>,
     /// How many levels its values have at most, where these are few.

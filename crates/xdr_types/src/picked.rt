@@ -1,18 +1,16 @@
 //! The member of an enumeration and the part of a union that a number picks, found in few steps.
 ghost use Rattle.std.specs.Prelude.{◌≡◌, ℤ, List, map, option_map};
-ghost use Rattle.std.specs.BTreeMap.{get};
 ghost use Rattle.std.specs.List.{find};
-ghost use Rattle.std.specs.Ordering.{int_cmp, int_eq};
+ghost use Rattle.std.specs.Ordering.{int_eq};
 ghost use Rattle.xdr_types.specs.Kinds.{Constant, kind_at};
 ghost use Rattle.xdr_types.specs.KindViews.{constant_of, part_of_member, branch_of};
 ghost use Rattle.xdr_types.specs.Fits.{is_numbered, member_in, part_in, part_of};
-ghost use Rattle.xdr_types.specs.Private.Lookups.{member_from, arm_from};
+ghost use Rattle.xdr_types.specs.Private.Lookups.{member_from, arm_from, first_at, AreInOrder};
 
 use crate::choice::part_under;
 use crate::kind::{Arm, Kind, KindId, Member};
 use crate::lookups::index_in;
 use crate::schema::Schema;
-use std::collections::BTreeMap;
 use std::string::String;
 
 /// The first member that has the number, of the enumeration at a place of the schema (RFC 4506 section 4.3); none of
@@ -58,9 +56,10 @@ pub fn part_in<'s>(schema: &'s Schema, id: KindId, number: i64) -> Option<&'s Me
     }
 }
 
-/// Whether an enumeration has a number, by the map of its members.
-pub fn has_number(found: &BTreeMap<i64, usize>, number: i64) -> bool
-    ensures { (constants : List Constant) → ((z : ℤ) → get int_cmp found.now z ≡ member_from 0 constants z)
+/// Whether an enumeration has a number, by the entries of its members.
+pub fn has_number(found: &Vec<(i64, usize)>, number: i64) -> bool
+    requires { AreInOrder found.now.items }
+    ensures { (constants : List Constant) → ((z : ℤ) → first_at found.now.items z ≡ member_from 0 constants z)
         → result ≡ is_numbered constants number }
 {
     if number < -2147483648 || number > 2147483647 {
@@ -69,13 +68,14 @@ pub fn has_number(found: &BTreeMap<i64, usize>, number: i64) -> bool
     index_in(found, number).is_some()
 }
 
-// The first member that has the number, by a map.
+// The first member that has the number, by entries.
 fn member_found<'s>(
-    found: &BTreeMap<i64, usize>,
+    found: &Vec<(i64, usize)>,
     members: &'s Vec<(String, i32)>,
     number: i64,
 ) -> Option<&'s (String, i32)>
-    requires { (z : ℤ) → get int_cmp found.now z ≡ member_from 0 (map constant_of members.now.items) z }
+    requires ordered { AreInOrder found.now.items }
+    requires finds { (z : ℤ) → first_at found.now.items z ≡ member_from 0 (map constant_of members.now.items) z }
     ensures { option_map (λ m. constant_of m.now) result
         ≡ find (λ (c : Constant). int_eq c.number number) (map constant_of members.now.items) }
 {
@@ -98,14 +98,15 @@ fn member_in_turn<'s>(members: &'s Vec<(String, i32)>, number: i64) -> Option<&'
     None
 }
 
-// The part under a discriminant, by a map.
+// The part under a discriminant, by entries.
 fn part_found<'s>(
-    found: &BTreeMap<i64, usize>,
+    found: &Vec<(i64, usize)>,
     arms: &'s Vec<Arm>,
     other: &'s Option<Member>,
     number: i64,
 ) -> Option<&'s Member>
-    requires { (z : ℤ) → get int_cmp found.now z ≡ arm_from 0 (map branch_of arms.now.items) z }
+    requires ordered { AreInOrder found.now.items }
+    requires finds { (z : ℤ) → first_at found.now.items z ≡ arm_from 0 (map branch_of arms.now.items) z }
     ensures { option_map (λ m. part_of_member m.now) result
         ≡ part_of (map branch_of arms.now.items) (option_map part_of_member other.now) number }
 {

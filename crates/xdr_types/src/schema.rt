@@ -24,7 +24,6 @@ use crate::kind::{Kind, KindId};
 use crate::names::first_in_names;
 use crate::notes::{Noted, notes_of};
 use std::alloc::Global;
-use std::collections::BTreeMap;
 use std::marker::Model;
 use std::string::String;
 use xdr_units::NoMemory;
@@ -203,9 +202,9 @@ impl Schema {
         &self.kinds
     }
 
-    /// The map from the numbers of a long enumeration or union to its members or arms.
-    pub(crate) fn lookup(&self, id: KindId) -> Option<&BTreeMap<i64, usize>>
-        ensures { IfSome result (λ m. Finds (kind_at self.now.kinds id.place) m.now) }
+    /// The numbers of a long enumeration or union in order, with the indices of its members or arms.
+    pub(crate) fn lookup(&self, id: KindId) -> Option<&Vec<(i64, usize)>>
+        ensures { IfSome result (λ v. Finds (kind_at self.now.kinds id.place) v.now.items) }
     {
         let place = id.place as usize;
         if place >= self.notes.len() {

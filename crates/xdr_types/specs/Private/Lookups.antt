@@ -1,8 +1,9 @@
--- Where a number is found first, among the members of an enumeration or the arms of a union, and the maps that say so.
-use Rattle.std.specs.Prelude.{◌≡◌, ℕ, ℤ, List, Option, Some, None, ⊤}
+-- Where a number is found first, among the members of an enumeration or the arms of a union, and the lists of entries that say so.
+use Rattle.std.specs.Prelude.{◌≡◌, ℕ, ◌≤◌, ◌<◌, ℤ, pos, ◌≤ℤ◌, List, [], ◌∷◌, length, Option, Some}
+use Rattle.std.specs.Prelude.{None, if◌then◌else◌, slice_index_or, Vec, ⊤}
 use Rattle.std.specs.List.{position_from}
-use Rattle.std.specs.BTreeMap.{BTreeMap, get}
-use Rattle.std.specs.Ordering.{int_cmp, int_eq}
+use Rattle.std.specs.declared.alloc.Global.{Global}
+use Rattle.std.specs.Ordering.{int_eq}
 use Rattle.xdr_types.specs.Kinds as xdr
 use Rattle.xdr_types.specs.Kinds.{KindView, Branch, Constant}
 use Rattle.xdr_types.specs.Fits.{is_listed}
@@ -21,11 +22,25 @@ index_of (xdr.numbered constants) z = member_from 0 constants z
 index_of (xdr.choice tag arms other) z = arm_from 0 arms z
 index_of _ z = None
 
--- the map gives the index of each number of the kind
-abbrev pub Finds : KindView → BTreeMap ℤ ℕ → Type 0
-Finds f m = (z : ℤ) → get int_cmp m z ≡ index_of f z
+-- the number of the entry at an index
+abbrev pub number_at : List (ℤ × ℕ) → ℕ → ℤ
+number_at entries i = (slice_index_or entries i (pos 0, 0)).0
 
--- the same, where there is a map
-abbrev pub MayFind : KindView → Option (BTreeMap ℤ ℕ) → Type 0
+-- the numbers of entries stand in order
+abbrev pub AreInOrder : List (ℤ × ℕ) → Type 0
+AreInOrder entries = (i j : ℕ) → i ≤ j → j < length entries → number_at entries i ≤ℤ number_at entries j
+
+-- what the first entry with a number has
+unfoldable pub first_at : List (ℤ × ℕ) → ℤ → Option ℕ
+first_at [] z = None
+first_at (e ∷ entries) z = if int_eq e.0 z then Some e.1 else first_at entries z
+
+-- the entries stand in order, and give the index of each number of the kind
+pub record Finds (f : KindView) (entries : List (ℤ × ℕ)) : Type 0 where
+  pub ordered : AreInOrder entries
+  pub finds : (z : ℤ) → first_at entries z ≡ index_of f z
+
+-- the same, where there are entries
+abbrev pub MayFind : KindView → Option (Vec (ℤ × ℕ) Global) → Type 0
 MayFind f None = ⊤
-MayFind f (Some m) = Finds f m
+MayFind f (Some v) = Finds f v.items

@@ -9,8 +9,8 @@ pub index-requires : goal.index-requires
 index-requires c =
     let items = c.args.members.now.items in
     let found = found-first constant_of (λ (m : Constant). int_eq m.number c.args.number) items c.in-Some.index
-    (sym (c.requires c.args.number)
-    ∙ sym (indexed c.args.found.now c.args.number c.index_in.result c.ranges.number c.index_in.ensures)
+    (sym (c.requires.finds c.args.number)
+    ∙ sym (indexed c.args.found.now.items c.args.number c.index_in.result c.ranges.number c.index_in.ensures)
     ∙ c.in-Some.is) in
     omega (arith, found.0, c.args.members.now.ok.0)
 
@@ -18,14 +18,14 @@ pub returns-in-Some : goal.returns-in-Some
 returns-in-Some c =
     let items = c.args.members.now.items in
     let found = found-first constant_of (λ (m : Constant). int_eq m.number c.args.number) items c.in-Some.index
-    (sym (c.requires c.args.number)
-    ∙ sym (indexed c.args.found.now c.args.number c.index_in.result c.ranges.number c.index_in.ensures)
+    (sym (c.requires.finds c.args.number)
+    ∙ sym (indexed c.args.found.now.items c.args.number c.index_in.result c.ranges.number c.index_in.ensures)
     ∙ c.in-Some.is) in
     sym (found.1 c.index.result.now c.index.ensures)
 
 pub returns-in-None : goal.returns-in-None
 returns-in-None c =
     sym (found-nowhere (λ (m : Constant). int_eq m.number c.args.number) 0 (map constant_of c.args.members.now.items)
-    (sym (c.requires c.args.number)
-    ∙ sym (indexed c.args.found.now c.args.number c.index_in.result c.ranges.number c.index_in.ensures)
+    (sym (c.requires.finds c.args.number)
+    ∙ sym (indexed c.args.found.now.items c.args.number c.index_in.result c.ranges.number c.index_in.ensures)
     ∙ c.in-None.is))
