@@ -131,6 +131,11 @@ NAMED = [
     (b"union u switch (int d) { case 1: int d; case 2: void; default: void; };", "u", 8, 9, 2),
     (b"union u switch (enum { A = 5, B = 5 } d) { case A: int a; }; const C = 1;", "u", 9, 10, 5),
     (b"union u switch (unsigned int d) { case 4294967295: int a; };", "u", 8, 9, 2),
+    (b"union u switch (unsigned int d) { case 4294967295: u a; default: void; };", "u", 8, 9, 2),
+    (b"union u switch (int d) { case 2147483647: u a; default: void; };", "u", 8, 9, 2),
+    (b"union u switch (bool d) { case TRUE: u a; default: void; };", "u", 8, 9, 2),
+    (b"enum e { A = 0, B = 1 }; union u switch (e d) { case A: u a; default: void; };", "u", 9, 10, 4),
+    (b"enum e { A = 0, B = 1 }; union u switch (e d) { case B: u a; default: void; };", "u", 9, 10, 4),
 ]
 # How many kinds, constants and programs the standards declare, the basic ones counted.
 SIZES = [

@@ -108,6 +108,7 @@ ENDLESS_KINDS = [
     (b"struct a { b x; }; struct b { a x; };", 10, 7, 1, 1),
     (b"struct a { a x[2]; };", 10, 7, 1, 12),
     (b"union u switch (bool b) { case TRUE: u x; case FALSE: u y; default: void; };", 10, 7, 1, 1),
+    (b"enum e { A = 0, B = 1 }; union u switch (e d) { case A: u x; case B: u y; default: void; };", 10, 7, 1, 26),
     (b"typedef union switch (int d) { case 1: u x; } u;", 10, 7, 1, 9),
 ]
 # Constants, members of enums, types and programs that are there twice (RFC 4506 section 6.4, RFC 5531 section 12.3).

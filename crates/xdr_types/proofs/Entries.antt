@@ -1,6 +1,7 @@
 -- Entries of numbers and indices, and the first one that has a number.
-use Rattle.std.proofs.Common.{◌≡◌, ◌<◌, ◌≤◌, ◌+◌, ◌++◌, ◌≤ℤ◌, ◌<ℤ◌, ℕ, zero, suc, ℤ, pos, Bool, true, false, not, ◌&&◌}
-use Rattle.std.proofs.Common.{List, [], ◌∷◌, length, filter, get_or, Option, Some, None, cond, if◌then◌else◌, int_eq, int_cmp}
+use Rattle.std.proofs.Common.{◌≡◌, ◌<◌, ◌≤◌, ◌+◌, ◌++◌, ◌≤ℤ◌, ◌<ℤ◌, ℕ, zero, suc, ℤ, pos, Bool, true, false}
+use Rattle.std.proofs.Common.{List, [], ◌∷◌, length, filter, get_or, Option, Some, None, cond, if◌then◌else◌}
+use Rattle.std.proofs.Common.{int_eq, int_cmp}
 use Rattle.std.proofs.Common.{inl, inr, refl, sym, ap, ◌∙◌, arith, rules}
 use Rattle.std.specs.Option.{option_or}
 use Rattle.std.proofs.Common.{Result, Ok, Err}
@@ -87,7 +88,8 @@ not_above a b h = search (rules, ints)
 pub in_order : (es : List (ℤ × ℕ)) → IsSortedByKey number int_cmp es → AreInOrder es
 in_order es up i j le lt =
     not_above (number_at es i) (number_at es j)
-    (sorted_far (λ x y. is_lt (int_cmp (number x) (number y))) (ranks_by int_cmp_total number) es up i j (pos 0, 0) le lt)
+    (sorted_far (λ x y. is_lt (int_cmp (number x) (number y))) (ranks_by int_cmp_total number) es up i j (pos 0, 0) le
+    lt)
 
 -- the index of the first of some entries
 head : List (ℤ × ℕ) → Option ℕ

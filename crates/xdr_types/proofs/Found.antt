@@ -1,7 +1,7 @@
 -- What an index says of the entry that it was found at.
 use Rattle.std.proofs.Common.{◌≡◌, ℕ, suc, ◌+◌, ◌-◌, ◌<◌, ◌≤◌, ℤ, List, [], ◌∷◌, length, get_or, map, Bool}
 use Rattle.std.proofs.Common.{Option, Some, None, refl, sym, ap, ◌∙◌, arith, is_some, inl, inr, w64, to_z, of_z}
-use Rattle.std.proofs.Common.{FitsSigned, int_cmp, rules}
+use Rattle.std.proofs.Common.{FitsSigned, rules}
 use Rattle.std.specs.List.{find, position_from}
 use Rattle.std.specs.Ordering.{int_eq}
 use Rattle.std.proofs.lemmas.Bool.{cases_Bool as tested}

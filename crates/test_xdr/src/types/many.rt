@@ -16,9 +16,11 @@ enum Many {
     Names(u32, &'static str),
     // So many structures that each hold the next, and an int at the end.
     Chain(u32),
+    // An enumeration of so many members, numbered from 0, and a union over it with an arm of two cases.
+    Tagged(i32, [i64; 2]),
 }
 
-const ROWS: [(Many, Option<(Flaw, usize)>); 15] = [
+const ROWS: [(Many, Option<(Flaw, usize)>); 21] = [
     (Many::Fields(1999, "x"), None),
     (Many::Fields(1999, "n0"), Some((Flaw::NameTwice, 1))),
     (Many::Arms(1999, true, [9000, 9001], "x"), None),
@@ -46,6 +48,12 @@ const ROWS: [(Many, Option<(Flaw, usize)>); 15] = [
     (Many::Names(1999, "n0"), Some((Flaw::NameTwice, 1999))),
     (Many::Chain(1023), None),
     (Many::Chain(1024), Some((Flaw::TooManyKinds, 0))),
+    (Many::Tagged(16, [0, 15]), None),
+    (Many::Tagged(16, [0, 16]), Some((Flaw::CaseNotLegal, 1))),
+    (Many::Tagged(17, [0, 16]), None),
+    (Many::Tagged(17, [16, 0]), None),
+    (Many::Tagged(17, [0, 17]), Some((Flaw::CaseNotLegal, 1))),
+    (Many::Tagged(17, [5, 5]), Some((Flaw::CaseTwice, 1))),
 ];
 
 // A name for each number.
@@ -122,6 +130,20 @@ fn of_chain(alloc: Global, count: u32) -> Result<Option<(Flaw, usize)>, AllocErr
     Ok(refusal(alloc, kinds))
 }
 
+// What is wrong with an enumeration of so many members, and a union over it with an arm of two cases.
+fn of_tagged(
+    alloc: Global,
+    count: i32,
+    cases: [i64; 2],
+) -> Result<Option<(Flaw, usize)>, AllocError> {
+    let mut members = Vec::new(alloc);
+    for number in 0..count {
+        members.push((format!(in alloc; "n{number}")?, number))?;
+    }
+    let union = choice(vec![in alloc; arm(alloc, cases, "x", 0)?]?, None);
+    Ok(refusal(alloc, vec![in alloc; Kind::Numbered { members }, union]?))
+}
+
 // What is wrong with a long list.
 fn fault(alloc: Global, many: &Many) -> Result<Option<(Flaw, usize)>, AllocError> {
     match many {
@@ -137,6 +159,7 @@ fn fault(alloc: Global, many: &Many) -> Result<Option<(Flaw, usize)>, AllocError
         }
         Many::Names(count, last) => of_names(alloc, names(alloc, *count, last)?),
         Many::Chain(count) => of_chain(alloc, *count),
+        Many::Tagged(count, cases) => of_tagged(alloc, *count, *cases),
     }
 }
 

@@ -1,4 +1,5 @@
--- Where a number is found first, among the members of an enumeration or the arms of a union, and the lists of entries that say so.
+-- Where a number is found first, among the members of an enumeration or the arms of a union, and the lists of entries
+-- that say so.
 use Rattle.std.specs.Prelude.{◌≡◌, ℕ, ◌≤◌, ◌<◌, ℤ, pos, ◌≤ℤ◌, List, [], ◌∷◌, length, Option, Some}
 use Rattle.std.specs.Prelude.{None, if◌then◌else◌, slice_index_or, Vec, ⊤}
 use Rattle.std.specs.List.{position_from}

@@ -1,4 +1,4 @@
-use Rattle.std.proofs.Common.{◌≡◌, ◌∙◌, ℤ, ℕ, List, Option, w64, to_z, of_z, Some, None, if◌then◌else◌, int_eq, ap, rules}
+use Rattle.std.proofs.Common.{◌≡◌, ◌∙◌, ℤ, ℕ, List, w64, to_z, of_z, Some, None, if◌then◌else◌, int_eq, ap, rules}
 use Rattle.std.specs.Option.{option_or}
 use Rattle.xdr_types.specs.Private.Lookups.{first_at}
 use Rattle.xdr_types.proofs.Entries.{first_of_more}
@@ -9,4 +9,5 @@ returns c z =
     let same : to_z w64 (of_z w64 c.args.number) ≡ c.args.number = search rules in
     ap (λ (es : List (ℤ × ℕ)). first_at es z) c.in_ok-push.ensures.items
     ∙ first_of_more c.args.found.now.items _ c.args.index z
-    ∙ ap (λ (n : ℤ). option_or (first_at c.args.found.now.items z) (if int_eq n z then Some c.args.index else None)) same
+    ∙ ap (λ (n : ℤ). option_or (first_at c.args.found.now.items z) (if int_eq n z then Some c.args.index else None))
+    same

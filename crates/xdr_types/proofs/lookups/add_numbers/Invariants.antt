@@ -6,5 +6,6 @@ use Rattle.xdr_types.proofs.lookups.add_numbers.Given as goal
 
 abbrev pub invariant-loop-case : goal.invariant-loop-case
 invariant-loop-case l =
-    (z : ℤ) → option_or (first_at l.found.items z) (if is_listed (drop l.case-index l.cases) z then Some l.index else None)
+    (z : ℤ) → option_or (first_at l.found.items z)
+    (if is_listed (drop l.case-index l.cases) z then Some l.index else None)
     ≡ option_or (first_at l.initial.found.items z) (if is_listed l.cases z then Some l.index else None)

@@ -1,4 +1,4 @@
-use Rattle.std.proofs.Common.{◌≡◌, ◌∙◌, ℤ, ℕ, List, Option, map, ap}
+use Rattle.std.proofs.Common.{◌∙◌, ℤ, ℕ, List, Option, map, ap}
 use Rattle.std.specs.Option.{option_or}
 use Rattle.xdr_types.specs.KindViews.{branch_of}
 use Rattle.xdr_types.specs.Private.Lookups.{arm_from, first_at}

@@ -1,4 +1,4 @@
-use Rattle.std.proofs.Common.{◌≡◌, ◌∙◌, ◌<◌, ◌≤◌, ℕ, ℤ, pos, List, Some, length, get_or, w64, to_z, of_z, sym, ap, arith, rules}
+use Rattle.std.proofs.Common.{◌≡◌, ◌∙◌, ◌<◌, ℕ, ℤ, List, Some, length, w64, to_z, of_z, sym, ap, arith, rules}
 use Rattle.xdr_types.specs.Private.Lookups.{number_at, first_at}
 use Rattle.xdr_types.proofs.Entries.{first_here, first_nowhere, nowhere, entry_number, entry_index}
 use Rattle.xdr_types.proofs.lookups.index_in.Goals as goal

@@ -1,4 +1,4 @@
-use Rattle.std.proofs.Common.{◌≡◌, ◌∙◌, ◌+◌, ℤ, ℕ, suc, w32, w64, to_z, of_z, List, ◌∷◌, [], Option, Some, None, String}
+use Rattle.std.proofs.Common.{◌≡◌, ◌∙◌, ◌+◌, ℤ, ℕ, suc, w32, w64, to_z, of_z, List, ◌∷◌, Option, Some, None, String}
 use Rattle.std.proofs.Common.{cond, map, length, drop, drop-cons, int_eq, sym, ap, arith, rules}
 use Rattle.std.proofs.Math.Seq.{drop-length}
 use Rattle.std.specs.declared.alloc.Global.{Global}

@@ -1,5 +1,5 @@
 use Rattle.std.proofs.Common.{◌≡◌, ℤ, ℕ, List, int_cmp, rules}
-use Rattle.std.specs.List.Sorted.{IsSortedByKey, IsStableByKey}
+use Rattle.std.specs.List.Sorted.{IsStableByKey}
 use Rattle.std.proofs.lemmas.List.Sorted.{answers_always}
 use Rattle.xdr_types.specs.Private.Lookups.{AreInOrder, first_at}
 use Rattle.xdr_types.proofs.Entries.{in_order, stays_first, where_ok}

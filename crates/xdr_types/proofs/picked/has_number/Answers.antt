@@ -1,4 +1,4 @@
-use Rattle.std.proofs.Common.{◌≡◌, w64, to_z, of_z, ap, ◌∙◌, is_some, int_cmp, rules}
+use Rattle.std.proofs.Common.{◌≡◌, w64, to_z, of_z, ap, ◌∙◌, is_some, rules}
 use Rattle.xdr_types.specs.Private.Lookups.{first_at}
 use Rattle.xdr_types.proofs.Found.{member-constant}
 use Rattle.xdr_types.proofs.picked.has_number.Goals as goal
