@@ -14,7 +14,9 @@ use Rattle.std.proofs.lemmas.Cmp.{int_cmp_total}
 use Rattle.std.proofs.lemmas.Int.{ints}
 use Rattle.std.proofs.lemmas.List.{get_or_default}
 use Rattle.std.proofs.lemmas.List.Sorted.{sorted_far, ranks_by}
-use Rattle.std.specs.Int.Signed.{lt_z}
+use Rattle.std.specs.Int.Signed.{lt_z, ≤ℤ_refl}
+use Rattle.std.specs.List.{dedup, dedup_from}
+use Rattle.std.specs.Prelude.{⊤}
 use Rattle.xdr_types.specs.Private.Lookups.{number_at, AreInOrder, first_at}
 
 pub first_of_none : (z : ℤ) → first_at [] z ≡ None
@@ -177,3 +179,79 @@ nowhere es k z order lt below le ne =
     let over : z <ℤ number_at es k = strict z (number_at es k) le ne in
     let up : number_at es k ≤ℤ number_at es i = order k i h within in
     omega (arith, ints))
+
+-- ---- one entry of each number
+
+abbrev pub alike : ℤ × ℕ → ℤ × ℕ → Bool
+alike x y = int_eq x.0 y.0
+
+first_of_kept : (k : ℤ × ℕ) (xs : List (ℤ × ℕ)) (z : ℤ) → first_at (dedup_from alike k xs) z ≡ first_at (k ∷ xs) z
+unfolding first_at
+first_of_kept k [] z = refl
+first_of_kept k (x ∷ xs) z =
+    elim (tested (int_eq x.0 k.0)) [
+      | inl h ↦
+          let one : x.0 ≡ k.0 = same x.0 k.0 h in
+          rw h (first_of_kept k xs z ∙ elim (tested (int_eq k.0 z)) [
+            | inl g ↦ rw g refl
+            | inr g ↦ let other : int_eq x.0 z ≡ false = ap (λ (n : ℤ). int_eq n z) one ∙ g in rw (g, other) refl
+          ])
+      | inr h ↦ rw h (ap (λ (o : Option ℕ). cond (int_eq k.0 z) (Some k.1) o) (first_of_kept x xs z))
+    ]
+
+pub first_of_firsts : (es : List (ℤ × ℕ)) (z : ℤ) → first_at (dedup alike es) z ≡ first_at es z
+first_of_firsts [] z = refl
+first_of_firsts (e ∷ es) z = first_of_kept e es z
+
+-- no entry has a lower number
+abbrev IsUnder : ℤ → List (ℤ × ℕ) → Type 0
+IsUnder n [] = ⊤
+IsUnder n (x ∷ xs) = (n ≤ℤ x.0) × IsUnder n xs
+
+-- no entry has a lower number than one before it
+abbrev Rise : List (ℤ × ℕ) → Type 0
+Rise [] = ⊤
+Rise (e ∷ es) = IsUnder e.0 es × Rise es
+
+under : (n : ℤ) (es : List (ℤ × ℕ)) → ((i : ℕ) → i < length es → n ≤ℤ number_at es i) → IsUnder n es
+under n [] h = tt
+under n (x ∷ xs) h = (h 0 (omega arith), under n xs (λ i lt. h (suc i) (omega arith)))
+
+rise : (es : List (ℤ × ℕ)) → AreInOrder es → Rise es
+rise [] order = tt
+rise (e ∷ es) order = (
+  under e.0 es (λ i lt. order 0 (suc i) (omega arith) (omega arith)),
+  rise es (λ i j le lt. order (suc i) (suc j) (omega arith) (omega arith)),
+)
+
+under_at : (n : ℤ) (es : List (ℤ × ℕ)) (i : ℕ) → IsUnder n es → i < length es → n ≤ℤ number_at es i
+under_at n [] i h lt = absurd (omega arith)
+under_at n (x ∷ xs) zero h lt = h.0
+under_at n (x ∷ xs) (suc i) h lt = under_at n xs i h.1 (omega arith)
+
+ordered : (es : List (ℤ × ℕ)) → Rise es → AreInOrder es
+ordered [] h i j le lt = absurd (omega arith)
+ordered (e ∷ es) h zero zero le lt = ≤ℤ_refl e.0
+ordered (e ∷ es) h zero (suc j) le lt = under_at e.0 es j h.0 (omega arith)
+ordered (e ∷ es) h (suc i) zero le lt = absurd (omega arith)
+ordered (e ∷ es) h (suc i) (suc j) le lt = ordered es h.1 i j (omega arith) (omega arith)
+
+under_kept : (n : ℤ) (k : ℤ × ℕ) (xs : List (ℤ × ℕ)) → IsUnder n (k ∷ xs) → IsUnder n (dedup_from alike k xs)
+under_kept n k [] h = h
+under_kept n k (x ∷ xs) h =
+    elim (tested (int_eq x.0 k.0)) [
+      | inl g ↦ rw g (under_kept n k xs (h.0, h.1.1))
+      | inr g ↦ rw g (h.0, under_kept n x xs h.1)
+    ]
+
+rise_kept : (k : ℤ × ℕ) (xs : List (ℤ × ℕ)) → Rise (k ∷ xs) → Rise (dedup_from alike k xs)
+rise_kept k [] h = h
+rise_kept k (x ∷ xs) h =
+    elim (tested (int_eq x.0 k.0)) [
+      | inl g ↦ rw g (rise_kept k xs (h.0.1, h.1.1))
+      | inr g ↦ rw g (under_kept k.0 x xs h.0, rise_kept x xs h.1)
+    ]
+
+pub firsts_in_order : (es : List (ℤ × ℕ)) → AreInOrder es → AreInOrder (dedup alike es)
+firsts_in_order [] order = order
+firsts_in_order (e ∷ es) order = ordered (dedup_from alike e es) (rise_kept e es (rise (e ∷ es) order))

@@ -64,6 +64,16 @@ fn put_in_order(found: &mut Vec<(i64, usize)>) -> Result<(), AllocError>
     found.sort_by_key(|entry| entry.0)
 }
 
+// Leaves the first entry of each number, and gives back the memory of the others.
+fn keep_firsts(found: &mut Vec<(i64, usize)>)
+    requires { AreInOrder found.old.items }
+    ensures ordered { AreInOrder found.new.items }
+    ensures firsts { (z : ℤ) → first_at found.new.items z ≡ first_at found.old.items z }
+{
+    found.dedup_by_key(|entry| entry.0);
+    found.shrink_to_fit();
+}
+
 // The first member that has a number, for each number of an enumeration.
 fn members_by_number(
     alloc: Global,
@@ -132,5 +142,6 @@ pub fn lookup_of(alloc: Global, kind: &Kind) -> Result<Option<Vec<(i64, usize)>>
         _ => return Ok(None),
     };
     put_in_order(&mut found)?;
+    keep_firsts(&mut found);
     Ok(Some(found))
 }
