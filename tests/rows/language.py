@@ -214,11 +214,22 @@ PROCEDURES = [
         (1, 1, 0, [NONE]),
     ]),
 ]
+# More than eight numbers that do not rise, two of them of two members each: the first member is shown.
+MANY_NUMBERS = b"""enum e { A = 9, B = 3, C = 7, D = 1, E = 3, F = 5, G = 9, H = 2, I = 8, J = 0 };
+typedef e es<>;
+union u switch (int d) {
+  case 9: int a; case 3: void; case 7: int c; case 1: int e; case 5: int f;
+  case -2: int g; case 8: int h; case 0: int i; case 4: int j;
+};
+"""
 # By the declarations of a text, the name of a type, the bytes of a value of it and its lines: replies of MNT with a
 # file handle of eight bytes for AUTH_SYS and AUTH_NONE, and with none for want of permission; replies of GETATTR with a
 # file of 13 bytes and mode 644, octal, and of a stale handle; and a call of procedure 0 of the port mapper, and the
 # reply of a server that has versions 2 to 4 of it alone.
 SHOWN = [
+    (MANY_NUMBERS, "es", "00000004 00000003 00000009 00000000 00000008", b"list of 4\n  B = 3\n  A = 9\n  J = 0\n  I = 8\n"),
+    (MANY_NUMBERS, "u", "00000003", b"case 3\n  void\n"),
+    (MANY_NUMBERS, "u", "fffffffe 00000007", b"case -2\n  g: 7\n"),
     (MOUNT_3, "mountres3",
      "00000000 00000008 01020304 05060708 00000002 00000001 00000000",
      b"""case MNT3_OK = 0
