@@ -12,7 +12,7 @@ use crate::put::{NotPut, Put, put_nothing};
 use byteorder::{BigEndian, ByteOrder};
 use xdr_types::{Kind, KindId, Member, Schema, Value, part_in};
 
-/// The encoding of a value. Most values are numbers, whose kind does not matter here, and for which nothing is called.
+/// The encoding of a value. Most values are numbers, whose kind does not matter here, or content: these have no parts.
 #[cycle(push)]
 #[inline(always)]
 #[tactic(auto, using(crate::proofs::Putting::own_alone))]
@@ -30,6 +30,9 @@ pub fn push_value<P: Put>(
         Value::Unsigned(number) => push_unsigned(out, *number),
         Value::Hyper(number) => push_hyper(out, *number),
         Value::UnsignedHyper(number) => push_unsigned_hyper(out, *number),
+        Value::Bool(flag) => push_bool(out, *flag),
+        Value::Numbered(number) => push_int(out, *number),
+        Value::Bytes(_) => push_own(out, schema, schema.kind(id), value),
         _ => push_node(out, schema, id, value),
     }
 }

@@ -23,8 +23,8 @@ pub fn fits(schema: &Schema, kind: KindId, value: &Value, limits: Limits) -> boo
     is_value(schema, kind, value, limits.depth()) && has_space(schema, kind, value, limits.bytes())
 }
 
-// Whether the value is one of the schema's kind, and at most so deep. It goes no deeper itself. For most numbers
-// nothing is called.
+// Whether the value is one of the schema's kind, and at most so deep. It goes no deeper itself. For numbers and strings
+// no node is gone into.
 #[cycle(fits)]
 #[inline(always)]
 fn is_value(schema: &Schema, id: KindId, value: &Value, most: u32) -> bool
@@ -39,11 +39,14 @@ fn is_value(schema: &Schema, id: KindId, value: &Value, most: u32) -> bool
         (Kind::Hyper, Value::Hyper(n)) => every_i64_is_hyper(*n),
         (Kind::UnsignedHyper, Value::UnsignedHyper(n)) => every_u64_is_unsigned_hyper(*n),
         (Kind::Bool, Value::Bool(_)) => true,
+        (Kind::Numbered { .. }, Value::Numbered(n)) => is_legal_tag(schema, id, i64::from(*n)),
+        (Kind::Text { max }, Value::Bytes(bytes)) => is_length(bytes.len(), *max)
+            && every_u8_is_a_byte(bytes),
         (kind, _) => is_node(schema, id, kind, value, most),
     }
 }
 
-// The same for a kind of the schema, but for those numbers and booleans.
+// The same for a kind of the schema, but for those numbers, booleans and strings.
 #[cycle(fits)]
 #[inline(never)]
 fn is_node(schema: &Schema, id: KindId, kind: &Kind, value: &Value, most: u32) -> bool

@@ -5,6 +5,7 @@ ghost use Rattle.xdr_types.specs.KindViews.{kind_view, part_of_member};
 ghost use Rattle.xdr_types.specs.Fits.{Fits, fits, fit, item_part, parts};
 ghost use Rattle.xdr_units.specs.Numbers.{pad, padded};
 ghost use Rattle.xdr_types.specs.Spelling.{spelling, own, bytes_of};
+ghost use Rattle.xdr_types.specs.Tree.{bytes};
 ghost use Rattle.xdr_types.specs.View.{tree, values};
 ghost use Rattle.xdr_types.specs.Within.{IsLeft, FitsWithin};
 
@@ -36,8 +37,8 @@ pub fn has_space(schema: &Schema, id: KindId, value: &Value, space: u32) -> bool
     }
 }
 
-// What is left of the space after the bytes of a value. Most values are numbers, whose kind does not matter here, and
-// for which nothing is called.
+// What is left of the space after the bytes of a value. Most values are numbers, whose kind does not matter here, or
+// content, and for these no node is gone into.
 #[cycle(left)]
 #[inline(always)]
 #[tactic(auto, using(crate::proofs::Joining::nothing_spelled))]
@@ -49,6 +50,7 @@ fn left_after(schema: &Schema, id: KindId, value: &Value, space: u32) -> Option<
         Value::Int(_) | Value::Unsigned(_) => take(space, 4),
         Value::Hyper(_) | Value::UnsignedHyper(_) => take(space, 8),
         Value::Bool(_) | Value::Numbered(_) => take(space, 4),
+        Value::Bytes(bytes) => left_after_content(schema.kind(id), bytes, space),
         _ => left_after_node(schema, id, value, space),
     }
 }
@@ -81,10 +83,7 @@ fn left_after_own(kind: &Kind, value: &Value, space: u32) -> Option<u32>
         Value::UnsignedHyper(_) => take(space, 8),
         Value::Bool(_) => take(space, 4),
         Value::Numbered(_) => take(space, 4),
-        Value::Bytes(bytes) => match kind {
-            Kind::Opaque { size: _ } => take_padded(space, bytes),
-            _ => take_counted(space, bytes),
-        },
+        Value::Bytes(bytes) => left_after_content(kind, bytes, space),
         Value::List(_) => match kind {
             Kind::Fixed { item: _, size: _ } => take(space, 0),
             _ => take(space, 4),
@@ -94,6 +93,16 @@ fn left_after_own(kind: &Kind, value: &Value, space: u32) -> Option<u32>
         Value::Maybe(None) => take(space, 4),
         Value::Maybe(Some(_)) => take(space, 4),
         Value::Nothing => take(space, 0),
+    }
+}
+
+// What is left after a string or opaque data, whose length goes before it where it varies.
+fn left_after_content(kind: &Kind, content: &Vec<u8>, space: u32) -> Option<u32>
+    ensures { IsLeft space (length (own (kind_view kind.now) (bytes content.now.items))) result }
+{
+    match kind {
+        Kind::Opaque { size: _ } => take_padded(space, content),
+        _ => take_counted(space, content),
     }
 }
 
