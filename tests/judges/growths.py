@@ -375,11 +375,16 @@ def refused_cases(heap):
 
 
 def room_cases(heap):
-    """A stream of calls meets a growth more for each call more, that of its record: a reply's room is kept."""
-    streams = [Case("serve", (4096, 0), given=marked(NULL) * count, after=ASKED_AFTER) for count in (1, 2, 3, 32, 64)]
-    first = run(streams[:1], LD_PRELOAD=heap)[0].met
-    for case in streams:
-        growths = first + len(case.given) // len(marked(NULL)) - 1
+    """A stream of calls meets no growth more than its first: a record's room and a reply's are kept. What a long record
+    took is given back, and the record behind it takes memory again."""
+    counts = {}
+    for length in (0, 4000, 20000):
+        long = marked(NULL + bytes(length))
+        for more in (0, 1, 2, 31, 63):
+            case = Case("serve", (4096, 0), given=long + marked(NULL) * more, after=ASKED_AFTER)
+            counts[length, more] = case, run([case], LD_PRELOAD=heap)[0].met
+    for (length, more), (case, _) in counts.items():
+        growths = counts[length, 0][1] + (length == 20000 and more > 0)
         yield case, lambda told, growths=growths: told.met == growths > 0
     yield from few_bytes_cases()
 
