@@ -3,7 +3,7 @@
 //! - `listing`: the parts of the value that begins an input. `counting`: how many they are. `part`: a part, lent from
 //!   the input.
 //! - `judge`: whether a value begins the input, and how many bytes it has. `walk`: its parts, one after another.
-//!   `whole`: the two together.
+//!   `numbers`: those of them that are numbers. `whole`: all together.
 //! - `coming`: the parts of a value whose bytes were judged before, a few at a time.
 //! - `taken`: what a walk takes of the parts. `next`: the kind of the part that comes next.
 #![tactic(auto)]
@@ -13,6 +13,7 @@ mod counting;
 mod judge;
 mod listing;
 mod next;
+mod numbers;
 mod part;
 mod taken;
 mod walk;

@@ -1,5 +1,5 @@
 //! The part of a node that comes next.
-ghost use Rattle.std.specs.Prelude.{◌≡◌, [], ◌∷◌, MatchOption};
+ghost use Rattle.std.specs.Prelude.{◌≡◌, [], ◌∷◌, MatchOption, IfSome};
 ghost use Rattle.xdr_stream.specs.Frames.{left_of, rest_of};
 ghost use Rattle.xdr_parts.specs.Private.Walking.{part_of};
 
@@ -40,5 +40,46 @@ pub fn first<'a>(frame: Frame<'a>) -> Option<Next<'a>>
             kind: member.kind,
             name: member.name.as_str(),
         }),
+    }
+}
+
+/// The field of a node at work that comes next, and the node after it; none of an array.
+#[inline(always)]
+pub fn first_field<'a>(frame: Frame<'a>) -> Option<(Next<'a>, Frame<'a>)>
+    ensures { IfSome result (λ r. left_of frame.entry ≡ part_of r.0 ∷ left_of r.1) }
+{
+    match frame {
+        Frame::Fields { fields } => match fields {
+            [field, others @ ..] => {
+                let next = Next {
+                    kind: field.kind,
+                    name: field.name.as_str(),
+                };
+                Some((next, Frame::Fields { fields: others }))
+            }
+            [] => None,
+        },
+        _ => None,
+    }
+}
+
+/// The item of a node at work that comes next, and the node after it; none of a structure.
+#[inline(always)]
+pub fn first_item<'a>(frame: Frame<'a>) -> Option<(Next<'a>, Frame<'a>)>
+    ensures { IfSome result (λ r. left_of frame.entry ≡ part_of r.0 ∷ left_of r.1) }
+{
+    match frame {
+        Frame::Items { item, left } => {
+            if left == 0 {
+                return None;
+            }
+            let next = Next {
+                kind: item,
+                name: "",
+            };
+            let left = left - 1;
+            Some((next, Frame::Items { item, left }))
+        }
+        _ => None,
     }
 }

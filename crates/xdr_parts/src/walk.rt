@@ -1,6 +1,6 @@
 //! The parts of a value whose bytes are known to spell one.
 ghost use Rattle.std.specs.Prelude.{◌≡◌, ◌+◌, ◌≤◌, ◌<◌, ◌^◌, pos, [], ◌∷◌, length, take, drop};
-ghost use Rattle.std.specs.Prelude.{IfOk, OnOk, MatchOption};
+ghost use Rattle.std.specs.Prelude.{OnOk, MatchOption};
 ghost use Rattle.xdr_types.specs.Kinds.{kind_at};
 ghost use Rattle.xdr_types.specs.KindViews.{kind_view};
 ghost use Rattle.xdr_types.specs.Tree.{Tree};
@@ -9,7 +9,6 @@ ghost use Rattle.xdr_units.specs.Numbers.{num4, gap};
 ghost use Rattle.xdr_laws.specs.Owed.{lead_of, HasUnit};
 ghost use Rattle.xdr_stream.specs.Frames.{left_of, rest_of, stack_of, onto};
 ghost use Rattle.xdr_parts.specs.Lent.{size_in, role_in};
-ghost use Rattle.xdr_parts.specs.Private.Taking.{HasAll};
 ghost use Rattle.xdr_parts.specs.Private.Walking.{part_of, Aim, HasWalked, Wrote, IsNext, IsFree, IsGroup, IsSpelled};
 
 use crate::next::{Next, first};
@@ -35,24 +34,6 @@ pub struct Walk<'a> {
     pub parents: Vec<Frame<'a>>,
     /// The parts so far.
     pub taken: Taken<'a>,
-}
-
-/// The parts of the value that these bytes spell, listed or only counted.
-pub fn spelled_parts<'a>(
-    alloc: Global,
-    schema: &'a Schema,
-    kind: KindId,
-    bytes: &'a [u8],
-    lists: bool,
-) -> Result<Taken<'a>, AllocError>
-    requires { (v : Tree) × IsSpelled schema.now.kinds kind.place bytes.now v }
-    ensures parts { IfOk result (λ t. (v : Tree) → IsSpelled schema.now.kinds kind.place bytes.now v
-        → HasAll bytes.now (entries schema.now.kinds kind.place v) t) }
-    ensures lists { IfOk result (λ t. t.lists ≡ lists) }
-{
-    let mut walk = Walk::start(alloc, schema, kind, bytes, lists);
-    walk.take_up_to(usize::MAX)?;
-    Ok(walk.taken)
 }
 
 fn unit_at(bytes: &[u8], at: usize) -> u32
@@ -103,6 +84,8 @@ impl<'a> Walk<'a> {
                 return Ok(());
             };
             self.take(next)?;
+            self.take_fields(most)?;
+            self.take_items(most)?;
         }
         Ok(())
     }
@@ -136,7 +119,7 @@ impl<'a> Walk<'a> {
         let kind = self.schema.kind(next.kind);
         if let Some(size) = number_size(kind) {
             // That its number is one of the kind is known, and is not asked again.
-            return self.take_free(next, kind, Role::Number, size);
+            return self.take_free(next, kind, Role::Number, size, after(self.work));
         }
         match step_of(kind) {
             Step::Unit => self.take_unit(next, kind),
@@ -151,8 +134,10 @@ impl<'a> Walk<'a> {
                 };
                 self.take_group(next, kind, none)
             }
-            Step::Wide(_) => self.take_free(next, kind, Role::Number, 8),
-            Step::Content(size) => self.take_free(next, kind, Role::Content, size),
+            Step::Wide(_) => self.take_free(next, kind, Role::Number, 8, after(self.work)),
+            Step::Content(size) => {
+                self.take_free(next, kind, Role::Content, size, after(self.work))
+            }
         }
     }
 
@@ -172,29 +157,32 @@ impl<'a> Walk<'a> {
         };
         let role = unit_role(kind);
         match made {
-            Made::Leaf(_) => self.leaf(next, role, 4, 4),
+            Made::Leaf(_) => self.leaf(next, role, 4, 4, after(self.work)),
             Made::Open(_, frame) => self.open(next, role, 4, frame),
             Made::Length(size) => self.counted(next, size),
         }
     }
 
-    // Takes a part of so many bytes, whatever they are.
-    fn take_free(
+    // Takes a part of so many bytes, whatever they are. Then comes the rest.
+    #[inline(always)]
+    pub(crate) fn take_free(
         &mut self,
         next: Next<'a>,
         kind: &'a Kind,
         role: Role,
         size: u32,
+        rest: Frame<'a>,
     ) -> Result<(), AllocError>
         requires walked { (all : Aim) × HasWalked self.old all }
         requires next { IsNext self.old next }
+        requires rest { left_of rest ≡ rest_of (left_of self.old.work) }
         requires kind { kind_view kind.now ≡ kind_at self.old.schema.now.kinds next.kind.place }
         requires free { IsFree (kind_view kind.now) role size }
         ensures walked { OnOk result ((all : Aim) → HasWalked self.old all → HasWalked self.new all) }
         ensures more { OnOk result (self.old.taken.parts < self.new.taken.parts) }
         ensures bytes { OnOk result (self.new.bytes.now ≡ self.old.bytes.now) }
     {
-        self.leaf(next, role, size as usize, whole_units(size))
+        self.leaf(next, role, size as usize, whole_units(size), rest)
     }
 
     // Takes a part of no bytes of its own.
@@ -223,17 +211,21 @@ impl<'a> Walk<'a> {
             (4 + (size + gap size)) (rest_of (left_of self.old.work) ∷ onto [] self.old.parents.items)) }
     {
         self.write(next, Role::Length, 4, 4)?;
-        self.leaf(next, Role::Content, size as usize, whole_units(size))
+        let rest = after(self.work);
+        self.leaf(next, Role::Content, size as usize, whole_units(size), rest)
     }
 
-    // Takes a part of so many bytes that has none inside it, and goes so many bytes on.
+    // Takes a part of so many bytes that has none inside it, and goes so many bytes on. Then comes the rest.
+    #[inline(always)]
     fn leaf(
         &mut self,
         next: Next<'a>,
         role: Role,
         size: usize,
         moved: usize,
+        rest: Frame<'a>,
     ) -> Result<(), AllocError>
+        requires rest { left_of rest ≡ rest_of (left_of self.old.work) }
         requires there { self.old.at + size ≤ length self.old.bytes.now }
         requires moved { self.old.at + moved ≤ length self.old.bytes.now }
         requires deep { length self.old.parents.items < 4096 }
@@ -244,7 +236,7 @@ impl<'a> Walk<'a> {
             (rest_of (left_of self.old.work) ∷ onto [] self.old.parents.items)) }
     {
         self.write(next, role, size, moved)?;
-        self.work = after(self.work);
+        self.work = rest;
         Ok(())
     }
 
@@ -271,6 +263,7 @@ impl<'a> Walk<'a> {
     }
 
     // Takes a part of so many bytes, and goes so many bytes on.
+    #[inline(always)]
     fn write(
         &mut self,
         next: Next<'a>,

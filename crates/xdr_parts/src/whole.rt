@@ -5,11 +5,12 @@ ghost use Rattle.xdr_types.specs.Outcome.{Outcome, Whole};
 ghost use Rattle.xdr_types.specs.Tree.{Tree};
 ghost use Rattle.xdr_stream.specs.Finish.{EndsWith};
 ghost use Rattle.xdr_parts.specs.Private.Taking.{HasAll};
+ghost use Rattle.xdr_parts.specs.Private.Walking.{IsSpelled};
 
 use crate::judge::judge;
 use crate::taken::Taken;
-use crate::walk::spelled_parts;
-use std::alloc::Global;
+use crate::walk::Walk;
+use std::alloc::{AllocError, Global};
 use xdr_stream::{DecodeFault, Reason};
 use xdr_types::{KindId, Limits, Schema};
 
@@ -41,4 +42,22 @@ pub fn whole_parts<'a>(
             at: used,
         }),
     }
+}
+
+// The parts of the value that these bytes spell, listed or only counted.
+fn spelled_parts<'a>(
+    alloc: Global,
+    schema: &'a Schema,
+    kind: KindId,
+    bytes: &'a [u8],
+    lists: bool,
+) -> Result<Taken<'a>, AllocError>
+    requires { (v : Tree) × IsSpelled schema.now.kinds kind.place bytes.now v }
+    ensures parts { IfOk result (λ t. (v : Tree) → IsSpelled schema.now.kinds kind.place bytes.now v
+        → HasAll bytes.now (entries schema.now.kinds kind.place v) t) }
+    ensures lists { IfOk result (λ t. t.lists ≡ lists) }
+{
+    let mut walk = Walk::start(alloc, schema, kind, bytes, lists);
+    walk.take_up_to(usize::MAX)?;
+    Ok(walk.taken)
 }

@@ -3,7 +3,7 @@ use Rattle.xdr_types.specs.Layout.{entries}
 use Rattle.xdr_parts.specs.Private.Taking.{HasAll}
 use Rattle.xdr_parts.specs.Private.Walking.{Aim}
 use Rattle.xdr_parts.proofs.Keeping.{finished, is_few}
-use Rattle.xdr_parts.proofs.walk.spelled_parts.Goals as goal
+use Rattle.xdr_parts.proofs.whole.spelled_parts.Goals as goal
 
 pub take_up_to-requires : goal.take_up_to-requires
 take_up_to-requires c =
