@@ -376,16 +376,16 @@ def refused_cases(heap):
 
 def room_cases(heap):
     """A stream of calls meets no growth more than its first: a record's room and a reply's are kept. What a long record
-    took is given back, and the record behind it takes memory again."""
-    counts = {}
+    took is given back, and the record behind it takes memory again. A record that comes in two reads takes two growths,
+    once."""
     for length in (0, 4000, 20000):
-        long = marked(NULL + bytes(length))
-        for more in (0, 1, 2, 31, 63):
-            case = Case("serve", (4096, 0), given=long + marked(NULL) * more, after=ASKED_AFTER)
-            counts[length, more] = case, run([case], LD_PRELOAD=heap)[0].met
-    for (length, more), (case, _) in counts.items():
-        growths = counts[length, 0][1] + (length == 20000 and more > 0)
-        yield case, lambda told, growths=growths: told.met == growths > 0
+        streams = [marked(NULL + bytes(length)) + marked(NULL) * more for more in (0, 1, 2, 31, 63)]
+        cases = [Case("serve", (4096, 0), given=given, after=ASKED_AFTER) for given in streams]
+        first, *_ = run(cases[:1], LD_PRELOAD=heap)
+        for case in cases:
+            least = first.met + (length > 8192 and case is not cases[0])
+            most = least + (2 if length else 0)
+            yield case, lambda told, least=least, most=most: 0 < least <= told.met <= most
     yield from few_bytes_cases()
 
 
