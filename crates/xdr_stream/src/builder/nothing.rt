@@ -3,6 +3,7 @@ ghost use Rattle.std.specs.Prelude.{⊤};
 
 use crate::builder::{Build, Leaf, Node};
 use crate::runs::ahead::part_ahead;
+use crate::runs::leaf::leaf_ahead;
 use std::alloc::AllocError;
 use xdr_types::{KindId, Schema};
 
@@ -61,6 +62,12 @@ impl Build for Nothing {
         levels: u32,
         bytes: &[u8],
     ) -> Result<usize, AllocError> {
+        if levels == 0 {
+            return Ok(0);
+        }
+        if let Some((_, size)) = leaf_ahead(schema, kind, bytes) {
+            return Ok(size);
+        }
         match part_ahead(schema, kind, bytes, levels) {
             Some(n) => Ok(n),
             None => Ok(0),
