@@ -23,7 +23,7 @@ use Rattle.xdr_types.specs.declared.extent.Extent.{Extent}
 abbrev extent : (bytes depth : ℕ) → Bool → Extent
 extent n d f = record { bytes = n; depth = d; free = f }
 
-bytes_are : (bs : List ℕ) → are_bytes bs ≡ true → AreBytes bs
+pub bytes_are : (bs : List ℕ) → are_bytes bs ≡ true → AreBytes bs
 bytes_are [] h = tt
 bytes_are (b ∷ bs) h = let t = both (nat_lt b 256) (are_bytes bs) h in (ltb-true b 256 t.0, bytes_are bs t.1)
 

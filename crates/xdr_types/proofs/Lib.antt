@@ -22,5 +22,6 @@ pub mod Entries
 pub mod InSets
 pub mod Earlier
 pub mod Extents
+pub mod Deciding
 pub mod Leveled
 pub mod Judging

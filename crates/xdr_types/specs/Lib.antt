@@ -18,5 +18,6 @@ pub mod Within
 pub mod Front
 pub mod Outcome
 pub mod Extent
+pub mod Decided
 pub mod Levels
 pub mod Private

@@ -2,6 +2,7 @@
 -- `Alike` are proofs that the laws of `==` take, and code takes proofs of its own crate from here alone.
 pub mod Lookups
 pub mod Notes
+pub mod Deciding
 pub mod Judged
 pub mod Rising
 pub mod Rounds

@@ -56,8 +56,8 @@ fn alone(bytes: u32, free: bool) -> Extent
     }
 }
 
-// What is noted of the kind at a place.
-fn noted_extent(notes: &Vec<Noted>, id: KindId) -> Option<Extent>
+/// What is noted of the kind at a place.
+pub(crate) fn noted_extent(notes: &Vec<Noted>, id: KindId) -> Option<Extent>
     ensures { (kinds : List KindView) → AreNotes kinds notes.now.items → IfSome result (IsExtent kinds id.place) }
 {
     let place = id.place as usize;

@@ -3,6 +3,7 @@ ghost use Rattle.std.specs.Prelude.{◌<◌, length, map, IfOk};
 ghost use Rattle.xdr_types.specs.KindViews.{kind_view};
 ghost use Rattle.xdr_types.specs.Private.Notes.{AreNotes};
 
+use crate::decided::{Decided, decided_of};
 use crate::extent::{Extent, extent_of};
 use crate::kind::Kind;
 use crate::levels::levels_of;
@@ -16,6 +17,8 @@ pub struct Noted {
     pub numbers: Option<Vec<(i64, usize)>>,
     /// What its values share, where their size does not vary.
     pub extent: Option<Extent>,
+    /// Which unit decides of so many bytes, where one does alone.
+    pub decided: Option<Decided>,
     /// How many levels its values have at most, where these are few.
     pub levels: Option<u32>,
 }
@@ -35,7 +38,7 @@ pub fn notes_of(alloc: Global, kinds: &Vec<Kind>) -> Result<Vec<Noted>, AllocErr
     Ok(notes)
 }
 
-// The notes of the kinds, without extents and levels. An error is want of memory.
+// The notes of the kinds, the numbers of each alone. An error is want of memory.
 fn numbers_of(alloc: Global, kinds: &Vec<Kind>) -> Result<Vec<Noted>, AllocError>
     ensures { IfOk result (λ v. AreNotes (map kind_view kinds.now.items) v.items) }
 {
@@ -44,13 +47,14 @@ fn numbers_of(alloc: Global, kinds: &Vec<Kind>) -> Result<Vec<Noted>, AllocError
         notes.push(Noted {
             numbers: lookup_of(alloc, kind)?,
             extent: None,
+            decided: None,
             levels: None,
         })?;
     }
     Ok(notes)
 }
 
-// Notes the extents and the levels of kinds whose parts have theirs, from the first place to the last or the other way.
+// Notes the extents, deciding units and levels of kinds whose parts have theirs, from the first place to the last or the other way.
 // Whether one more round may find more: some kind got its levels, and some kind has none.
 fn note_kinds(kinds: &Vec<Kind>, notes: &mut Vec<Noted>, is_backward: bool) -> bool
     requires { AreNotes (map kind_view kinds.now.items) notes.old.items }
@@ -76,8 +80,8 @@ fn note_kinds(kinds: &Vec<Kind>, notes: &mut Vec<Noted>, is_backward: bool) -> b
     found && waits
 }
 
-// Notes the levels of the kind at a place, and its extent, if its parts have their levels. Whether it did. The extent
-// is looked for once: parts whose levels are noted have their extents, or never will.
+// Notes the levels of the kind at a place, its extent and the unit that decides of it, if its parts have their levels.
+// Whether it did. The latter two are looked for once: parts whose levels are noted have theirs, or never will.
 fn note_kind(kinds: &Vec<Kind>, notes: &mut Vec<Noted>, place: usize) -> bool
     requires within { place < length kinds.now.items }
     requires notes { AreNotes (map kind_view kinds.now.items) notes.old.items }
@@ -86,7 +90,9 @@ fn note_kind(kinds: &Vec<Kind>, notes: &mut Vec<Noted>, place: usize) -> bool
     match levels_of(notes, &kinds[place]) {
         Some(levels) => {
             let extent = extent_of(notes, &kinds[place]);
+            let decided = decided_of(notes, place, &kinds[place]);
             notes[place].extent = extent;
+            notes[place].decided = decided;
             notes[place].levels = Some(levels);
             true
         }

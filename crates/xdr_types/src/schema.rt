@@ -13,9 +13,12 @@ ghost use Rattle.xdr_types.specs.Alike.{same_lists};
 ghost use Rattle.xdr_types.specs.Private.Alike.{lists_equivalence};
 ghost use Rattle.xdr_types.specs.Named.{basic, named, place_named};
 ghost use Rattle.xdr_types.specs.Extent.{IsExtent};
+ghost use Rattle.xdr_types.specs.Decided.{IsDecided};
 ghost use Rattle.xdr_types.specs.Levels.{IsMostLevels};
 ghost use Rattle.xdr_types.specs.Private.Lookups.{Finds};
 
+use crate::basic::{basic_kinds, basic_names};
+use crate::decided::Decided;
 use crate::extent::Extent;
 use crate::fault::{Flaw, SchemaFault};
 use crate::faults::first_in_kinds;
@@ -225,6 +228,19 @@ impl Schema {
         self.notes[place].extent
     }
 
+    /// Which unit decides whether so many bytes as its values have are those of one, where one does alone (RFC 4506
+    /// sections 4.3, 4.4, 4.14): of a kind with an extent that is not free for this unit only. None of other kinds, and
+    /// of one that the schema does not have.
+    pub fn decided(&self, id: KindId) -> Option<Decided>
+        ensures { IfSome result (IsDecided self.now.kinds id.place) }
+    {
+        let place = id.place as usize;
+        if place >= self.notes.len() {
+            return None;
+        }
+        self.notes[place].decided
+    }
+
     /// How many levels a value of the kind has at most (RFC 4506 sections 4.1 to 4.19), where that is 1 to 16 and no
     /// array of varying length is among its parts. None of a kind whose values go deeper, as those of a linked list do,
     /// of one with such an array, and of one that the schema does not have.
@@ -245,49 +261,4 @@ impl Schema {
     {
         &self.kinds[id.place as usize]
     }
-}
-
-/// The kinds of the basic schema at places 0 to 7, as `Schema::basic` lists them: what a list for `Schema::build` may
-/// begin with. `NoMemory` comes where a growth was refused.
-pub fn basic_kinds(alloc: Global) -> Result<Vec<Kind>, NoMemory>
-    ensures { IfOk result (λ v. map kind_view v.items ≡ basic.kinds) }
-{
-    Ok(vec![in alloc;
-        Kind::Int,
-        Kind::Unsigned,
-        Kind::Hyper,
-        Kind::UnsignedHyper,
-        Kind::Bool,
-        Kind::Nothing,
-        Kind::OpaqueUpTo { max: 4294967295 },
-        Kind::Text { max: 4294967295 },
-    ]?)
-}
-
-/// The names of the basic schema, of all its kinds but the void one at place 5: what a list for `Schema::build` may
-/// begin with, beside `basic_kinds`. `NoMemory` comes where a growth was refused.
-pub fn basic_names(alloc: Global) -> Result<Vec<(String, KindId)>, NoMemory>
-    ensures { IfOk result (λ v. map name_of v.items ≡ basic.names) }
-{
-    let rows = [
-        ("int", 0),
-        ("unsigned", 1),
-        ("hyper", 2),
-        ("unsigned-hyper", 3),
-        ("bool", 4),
-        ("opaque", 6),
-        ("string", 7),
-    ];
-    names_of(alloc, &rows)
-}
-
-// Names and the places that they name, of these rows.
-fn names_of(alloc: Global, rows: &[(&str, u32)]) -> Result<Vec<(String, KindId)>, NoMemory>
-    ensures { IfOk result (λ v. map name_of v.items ≡ map (λ r. named r.0.now r.1) rows.now) }
-{
-    let mut names = Vec::new(alloc);
-    for row in rows {
-        names.push((String::from_str(alloc, row.0)?, KindId { place: row.1 }))?;
-    }
-    Ok(names)
 }

@@ -7,6 +7,7 @@ use Rattle.xdr_types.specs.Tree.{Head, Values, depth_of}
 use Rattle.xdr_types.specs.Fits.{fit, parts, are_bytes}
 use Rattle.xdr_types.specs.Spelling.{spelling}
 use Rattle.xdr_types.specs.Extent.{IsExtent}
+use Rattle.xdr_types.specs.Decided.{IsDecided}
 use Rattle.xdr_types.specs.Levels.{IsMostLevels}
 use Rattle.xdr_types.specs.Private.Lookups.{MayFind}
 use Rattle.xdr_types.specs.declared.extent.Extent.{Extent}
@@ -16,6 +17,7 @@ use Rattle.xdr_types.specs.declared.notes.Noted.{Noted}
 pub record IsNoted (kinds : List KindView) (place : ℕ) (n : Noted) : Type 0 where
   pub numbers : MayFind (kind_at kinds place) n.numbers
   pub extent : IfSome n.extent (IsExtent kinds place)
+  pub decided : IfSome n.decided (IsDecided kinds place)
   pub levels : IfSome n.levels (IsMostLevels kinds place)
 
 -- the same at each place
