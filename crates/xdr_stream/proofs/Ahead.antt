@@ -13,7 +13,9 @@ use Rattle.xdr_types.specs.Tree.{Head, Values, Tree, depth, depth_of}
 use Rattle.xdr_types.specs.Fits.{Fits, fits, fit, is_legal, parts, are_bytes}
 use Rattle.xdr_types.specs.Spelling.{own, spelling, bytes_of}
 use Rattle.xdr_types.specs.Extent.{IsExtent}
+use Rattle.xdr_types.specs.Decided.{IsDecided}
 use Rattle.xdr_types.specs.declared.extent.Extent.{Extent}
+use Rattle.xdr_types.specs.declared.decided.Decided.{Decided}
 use Rattle.xdr_laws.specs.Owed.{lead_of, IsLengthFirst, Accepts, head_of}
 use Rattle.xdr_laws.proofs.Legal.{and, is_legal_of, bytes_are}
 use Rattle.xdr_laws.proofs.UnitOwed.{head_legal}
@@ -26,6 +28,7 @@ use Rattle.xdr_stream.proofs.Seeing.{makes_wide, makes_unsigned}
 use Rattle.xdr_stream.specs.Nodes.{head_of_leaf}
 use Rattle.xdr_stream.specs.Private.Ahead.{IsAhead, AreAhead}
 use Rattle.xdr_stream.specs.Private.Entire.{IsOneLeaf, IsPadded}
+use Rattle.xdr_stream.specs.Private.Leaf.{IsTaken}
 use Rattle.xdr_stream.specs.Private.Reported.{leaf_tree}
 use Rattle.xdr_stream.specs.declared.builder.Leaf.{Leaf}
 use Rattle.xdr_stream.specs.declared.builder.Node.{Node}
@@ -133,6 +136,17 @@ ahead_free s place levels e bytes r free low size are =
       spelled = v.2;
       shallow = omega (arith, low, r.levels v.0 v.1);
     }
+
+-- as many bytes as the extent of a kind has, where the unit that decides of them is a value
+pub ahead_decided : (s : List KindView) (place levels : ℕ) (e : Extent) (d : Decided) (t : Tree) (k : KindView) (x : ℕ)
+    (leaf : Leaf) (bytes : List ℕ) → IsExtent s place e → IsDecided s place d → Fits s place t → e.depth ≤ levels
+    → length bytes ≡ e.bytes → are_bytes bytes ≡ true → k ≡ kind_at s d.kind.place → IsTaken s k x leaf
+    → word x ≡ take 4 (drop d.at bytes) → IsAhead s place levels bytes
+ahead_decided s place levels e d t k x leaf bytes of by fitting low size are is taken unit =
+    let one = leaf_taken s d.kind.place k x leaf (take 4 (drop d.at bytes)) is taken unit in
+    let v = by.decides t fitting bytes (size ∙ sym (of.bytes t fitting)) are
+    (leaf_tree (head_of_leaf leaf), one.0, one.1) in
+    record { value = v.0; fits = v.1; spelled = v.2; shallow = omega (arith, low, of.levels v.0 v.1) }
 
 -- a hyper integer
 pub ahead_wide : (s : List KindView) (place levels : ℕ) (signed : Bool) (bytes : List ℕ) (k : KindView) → 0 < levels

@@ -13,6 +13,7 @@ use crate::machine::number::{Made, made_in};
 use crate::machine::step::{Step, step_of};
 use crate::machine::unit::{are_zeros, number_of, unit_at};
 use crate::runs::content::whole_ahead;
+use crate::runs::leaf::leaf_of;
 use xdr_types::{Kind, KindId, Schema};
 
 /// How many of the bytes are a value of the kind, where they begin with one that has at most so many levels. Where any
@@ -50,7 +51,10 @@ fn value_ahead(schema: &Schema, id: KindId, bytes: &[u8], levels: u32) -> Option
     let kind = schema.kind(id);
     match step_of(kind) {
         Step::Unit => unit_ahead(schema, id, kind, bytes, levels),
-        Step::Fields(fields) => parts_ahead(schema, Frame::Fields { fields }, bytes, levels - 1),
+        Step::Fields(fields) => match decided_ahead(schema, id, bytes, levels) {
+            Some(n) => Some(n),
+            None => parts_ahead(schema, Frame::Fields { fields }, bytes, levels - 1),
+        },
         Step::Items { item, size } => {
             let frame = Frame::Items { item, left: size };
             parts_ahead(schema, frame, bytes, levels - 1)
@@ -81,6 +85,24 @@ fn free_ahead(schema: &Schema, id: KindId, bytes: &[u8], levels: u32) -> Option<
     if !extent.free || extent.depth > levels || size > bytes.len() {
         return None;
     }
+    Some(size)
+}
+
+// The same of a kind of which so many bytes are a value, if one unit among them is.
+fn decided_ahead(schema: &Schema, id: KindId, bytes: &[u8], levels: u32) -> Option<usize>
+    requires { id.place < length schema.now.kinds }
+    ensures { IfSome result (λ n. (n ≤ length bytes.now)
+        × IsAhead schema.now.kinds id.place levels (take n bytes.now)) }
+{
+    let decided = schema.decided(id)?;
+    let extent = schema.extent(id)?;
+    let size = extent.bytes as usize;
+    if extent.depth > levels || size > bytes.len() {
+        return None;
+    }
+    let _known = schema.len();
+    let number = number_of(&unit_at(bytes, decided.at as usize));
+    leaf_of(schema, decided.kind, schema.kind(decided.kind), number)?;
     Some(size)
 }
 

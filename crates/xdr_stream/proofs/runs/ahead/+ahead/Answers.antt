@@ -119,8 +119,8 @@ value_ahead-parts_ahead-requires-in-Items t c =
           (sym c.in-Items.ensures ∙ c.kind-kind.ensures)).0,
     )
 
-pub value_ahead-returns-in-Fields-clause-ahead : goal.value_ahead-returns-in-Fields-clause-ahead
-value_ahead-returns-in-Fields-clause-ahead t c =
+pub value_ahead-returns-in-None-clause-ahead : goal.value_ahead-returns-in-None-clause-ahead
+value_ahead-returns-in-None-clause-ahead t c =
     let s : List KindView = c.args.schema.now.kinds in
     let bs : List ℕ = c.args.bytes.now in
     let ps : List Part = map part_of_member c.in-Fields.fields.now in
