@@ -13,8 +13,8 @@
 //! - `heights`: which kinds have a finite value. `reach`: which defaults can be reached. `sets`: numbers and cases as
 //!   sets.
 //! - `extent`: what all values of a kind share, where their size does not vary. `decided`: the one unit that decides
-//!   whether so many bytes are a value's. `levels`: how deep they are at most. `lookups`: numbers in order. `notes`: all
-//!   four, noted of each kind when a schema is built.
+//!   whether so many bytes are a value's. `levels`: how deep they are at most. `lookups`: numbers in order. `notes`:
+//!   all four, noted of each kind when a schema is built.
 //! - `laws`: theorems about the definitions.
 #![tactic(auto)]
 

@@ -54,8 +54,8 @@ fn numbers_of(alloc: Global, kinds: &Vec<Kind>) -> Result<Vec<Noted>, AllocError
     Ok(notes)
 }
 
-// Notes the extents, the deciding units and the levels of kinds whose parts have theirs, from the first place to the last
-// or the other way. Whether one more round may find more: some kind got its levels, and some kind has none.
+// Notes the extents, the deciding units and the levels of kinds whose parts have theirs, from the first place to the
+// last or the other way. Whether one more round may find more: some kind got its levels, and some kind has none.
 fn note_kinds(kinds: &Vec<Kind>, notes: &mut Vec<Noted>, is_backward: bool) -> bool
     requires { AreNotes (map kind_view kinds.now.items) notes.old.items }
     ensures { AreNotes (map kind_view kinds.now.items) notes.new.items }
