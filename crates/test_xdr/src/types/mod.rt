@@ -1,4 +1,5 @@
 //! Tests of `xdr_types` by its public calls.
+mod deciding;
 mod made;
 mod many;
 mod memory;
