@@ -14,13 +14,14 @@ use crate::machine::Awaits;
 use crate::machine::frame::after;
 use crate::machine::nodes::enter;
 use crate::reader::{Reader, State};
-use crate::runs::entire::entire_due;
+use crate::runs::entire::{entire_due, is_gone_into};
 
 impl<'s, B: Build + Drop> Reader<'s, B> {
     // Takes the parts of the node at work that come first, as long as they are there whole; tells how many bytes. What
-    // comes next is not settled then.
+    // comes next is not settled then. Up to `tried`, a count of bytes of the value, a part was looked at in vain: none
+    // inside it is gone into again.
     #[inline(always)]
-    fn take_entire(&mut self, bytes: &[u8]) -> usize
+    fn take_entire(&mut self, bytes: &[u8], tried: &mut usize) -> usize
         requires { self.old.state ≡ Fresh }
         ensures went { (q : List ℕ) → length q ≡ self.old.read → self.old.pending ≡ 0
             → Sees self.old.schema.now.kinds self.old.kind.place self.old.limits (B.reports self.old.built) Next
@@ -47,10 +48,14 @@ impl<'s, B: Build + Drop> Reader<'s, B> {
             let Some(part) = due else {
                 return at;
             };
+            if self.read < *tried && is_gone_into(self.schema, part) {
+                return at;
+            }
             let given = &bytes[at..at + part.most];
             match self.built.part(self.schema, part.kind, part.levels, given) {
                 Ok(n) => {
                     if n == 0 {
+                        *tried = self.read.saturating_add(part.most);
                         return at;
                     }
                     self.work = after(self.work);
@@ -68,7 +73,7 @@ impl<'s, B: Build + Drop> Reader<'s, B> {
 
     // Ends the nodes that have all their parts and begins structures, as long as parts follow that are there whole, and
     // begins what comes next; tells how many bytes.
-    fn settle_entire(&mut self, bytes: &[u8]) -> usize
+    fn settle_entire(&mut self, bytes: &[u8], tried: &mut usize) -> usize
         requires { self.old.state ≡ Fresh }
         ensures represents { (q : List ℕ) → length q ≡ self.old.read → self.old.pending ≡ 0
             → Sees self.old.schema.now.kinds self.old.kind.place self.old.limits (B.reports self.old.built) Next
@@ -94,7 +99,7 @@ impl<'s, B: Build + Drop> Reader<'s, B> {
                     return at;
                 }
             }
-            let n = self.take_entire(&bytes[at..]);
+            let n = self.take_entire(&bytes[at..], tried);
             at += n;
             match self.state {
                 State::Fresh => {}
@@ -111,7 +116,7 @@ impl<'s, B: Build + Drop> Reader<'s, B> {
     /// Takes the parts that come first, as long as they are there whole, and begins what comes next after them; tells
     /// how many bytes.
     #[inline(always)]
-    pub(crate) fn take_ready(&mut self, bytes: &[u8]) -> usize
+    pub(crate) fn take_ready(&mut self, bytes: &[u8], tried: &mut usize) -> usize
         requires { IsAwaited self.old.schema.now.kinds (left_of self.old.work) Next }
         ensures represents { (b : List ℕ) → self.old.state ≡ Reading Next → self.old.pending ≡ 0
             → RepresentsBytes B.spares B.reports self.old b
@@ -123,20 +128,20 @@ impl<'s, B: Build + Drop> Reader<'s, B> {
     {
         // A state that asks nothing of the nodes at work, which change now: what they await is settled after.
         self.state = State::Fresh;
-        let n = self.take_entire(bytes);
+        let n = self.take_entire(bytes, tried);
         if n == 0 {
             self.state = State::Reading(Awaits::Next);
             return 0;
         }
         match self.state {
-            State::Fresh => n + self.settle_entire(&bytes[n..]),
+            State::Fresh => n + self.settle_entire(&bytes[n..], tried),
             _ => n,
         }
     }
 
     /// The same where what comes next is not settled yet.
     #[inline(always)]
-    pub(crate) fn take_settled(&mut self, bytes: &[u8]) -> usize
+    pub(crate) fn take_settled(&mut self, bytes: &[u8], tried: &mut usize) -> usize
         requires { self.old.state ≡ Fresh }
         ensures represents { (q : List ℕ) → length q ≡ self.old.read → self.old.pending ≡ 0
             → Sees self.old.schema.now.kinds self.old.kind.place self.old.limits (B.reports self.old.built) Next
@@ -146,9 +151,9 @@ impl<'s, B: Build + Drop> Reader<'s, B> {
         ensures awake { IsAwake self.new.state }
         ensures same { IsSame self.old self.new }
     {
-        let n = self.take_entire(bytes);
+        let n = self.take_entire(bytes, tried);
         match self.state {
-            State::Fresh => n + self.settle_entire(&bytes[n..]),
+            State::Fresh => n + self.settle_entire(&bytes[n..], tried),
             _ => n,
         }
     }

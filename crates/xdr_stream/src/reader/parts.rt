@@ -18,9 +18,9 @@ use crate::runs::{units_there, whole_there};
 
 impl<'s, B: Build + Drop> Reader<'s, B> {
     /// Takes what comes first at a part: a run of numbers, parts or content that are there whole, or a unit; tells how
-    /// many bytes.
+    /// many bytes. Up to `tried`, a count of bytes of the value, a part was looked at in vain.
     #[inline(always)]
-    pub(crate) fn take_next(&mut self, bytes: &[u8]) -> usize
+    pub(crate) fn take_next(&mut self, bytes: &[u8], tried: &mut usize) -> usize
         requires there { 4 ≤ length bytes.now }
         requires awaited { IsAwaited self.old.schema.now.kinds (left_of self.old.work) Next }
         ensures represents { (b : List ℕ) → self.old.state ≡ Reading Next → self.old.pending ≡ 0
@@ -39,17 +39,17 @@ impl<'s, B: Build + Drop> Reader<'s, B> {
                 return n;
             }
         }
-        let n = self.take_ready(bytes);
+        let n = self.take_ready(bytes, tried);
         if n > 0 {
             return n;
         }
-        self.take_part(bytes)
+        self.take_part(bytes, tried)
     }
 
     // Takes the unit that comes first at a part, and the content behind it where all of it is there, and tells how many
     // bytes.
     #[inline(always)]
-    fn take_part(&mut self, bytes: &[u8]) -> usize
+    fn take_part(&mut self, bytes: &[u8], tried: &mut usize) -> usize
         requires there { 4 ≤ length bytes.now }
         requires awaited { IsAwaited self.old.schema.now.kinds (left_of self.old.work) Next }
         ensures represents { (b : List ℕ) → self.old.state ≡ Reading Next → self.old.pending ≡ 0
@@ -74,7 +74,7 @@ impl<'s, B: Build + Drop> Reader<'s, B> {
         ) {
             Ok(awaits) => {
                 self.read = self.read.saturating_add(4);
-                4 + self.take_whole(awaits, &bytes[4..])
+                4 + self.take_whole(awaits, &bytes[4..], tried)
             }
             Err(why) => {
                 self.fail(why);
@@ -86,7 +86,7 @@ impl<'s, B: Build + Drop> Reader<'s, B> {
     // Takes content that comes next where all of it and its padding are there, and then the parts that are there whole,
     // and begins what comes next; tells how many bytes.
     #[inline(always)]
-    fn take_whole(&mut self, awaits: Awaits, bytes: &[u8]) -> usize
+    fn take_whole(&mut self, awaits: Awaits, bytes: &[u8], tried: &mut usize) -> usize
         requires { self.old.state ≡ Fresh }
         ensures represents { (q : List ℕ) → length q ≡ self.old.read → self.old.pending ≡ 0 → IsLive awaits
             → Sees self.old.schema.now.kinds self.old.kind.place self.old.limits (B.reports self.old.built) awaits
@@ -105,7 +105,7 @@ impl<'s, B: Build + Drop> Reader<'s, B> {
                 match self.built.whole(&bytes[..size as usize]) {
                     Ok(()) => {
                         self.read = self.read.saturating_add(n);
-                        return n + self.take_settled(&bytes[n..]);
+                        return n + self.take_settled(&bytes[n..], tried);
                     }
                     Err(_) => {
                         self.fail(Reason::NoMemory);
@@ -115,7 +115,7 @@ impl<'s, B: Build + Drop> Reader<'s, B> {
             }
         }
         if let Awaits::Next = awaits {
-            return self.take_settled(bytes);
+            return self.take_settled(bytes, tried);
         }
         self.settle(awaits);
         0

@@ -56,6 +56,9 @@ fn value_ahead(schema: &Schema, id: KindId, bytes: &[u8], levels: u32) -> Option
             None => parts_ahead(schema, Frame::Fields { fields }, bytes, levels - 1),
         },
         Step::Items { item, size } => {
+            if are_cut(schema, item, size, bytes) {
+                return None;
+            }
             let frame = Frame::Items { item, left: size };
             parts_ahead(schema, frame, bytes, levels - 1)
         }
@@ -72,6 +75,16 @@ fn is_cut(schema: &Schema, id: KindId, bytes: &[u8]) -> bool {
         Some(extent) => extent.bytes as usize > bytes.len(),
         None => false,
     }
+}
+
+// Whether the bytes are fewer than so many items have, of which each has a unit at least. Items of no bytes are left to
+// those who take them one by one.
+fn are_cut(schema: &Schema, item: KindId, size: u32, bytes: &[u8]) -> bool {
+    let least = match schema.extent(item) {
+        Some(extent) => extent.bytes,
+        None => 4,
+    };
+    u64::from(least).saturating_mul(u64::from(size)) > bytes.len() as u64
 }
 
 // The same of a kind of which any so many bytes are a value.

@@ -62,3 +62,8 @@ pub(crate) fn entire_due(
     let most = there.min(space).min(MOST_BYTES);
     Some(Entire { kind, levels, most })
 }
+
+/// Whether a look at a part goes into it: it has parts, and bytes that vary.
+pub(crate) fn is_gone_into(schema: &Schema, part: Entire) -> bool {
+    part.levels > 1 && schema.extent(part.kind).is_none()
+}

@@ -130,8 +130,8 @@ value_ahead-returns-in-None-clause-ahead t c =
     (omega (arith, c.if-levels-eq0.false)) (sym c.in-Fields.ensures ∙ c.kind-kind.ensures) refl refl r refl)
     c.parts_ahead.ensures.ahead
 
-pub value_ahead-returns-in-Items-clause-ahead : goal.value_ahead-returns-in-Items-clause-ahead
-value_ahead-returns-in-Items-clause-ahead t c =
+pub value_ahead-returns-else-are_cut-clause-ahead : goal.value_ahead-returns-else-are_cut-clause-ahead
+value_ahead-returns-else-are_cut-clause-ahead t c =
     let s : List KindView = c.args.schema.now.kinds in
     let bs : List ℕ = c.args.bytes.now in
     let item : ℕ = c.in-Items.item.place in
