@@ -38,7 +38,7 @@ use Rattle.xdr_stream.specs.declared.runs.content.Whole.{Whole}
 use Rattle.xdr_stream.specs.Private.Made.{Counts}
 use Rattle.xdr_stream.specs.declared.builder.Leaf.{Leaf}
 use Rattle.xdr_stream.specs.declared.builder.Node.{Node}
-use Rattle.xdr_stream.specs.declared.builder.made.Tally.{Tally}
+use Rattle.xdr_stream.specs.declared.builder.tally.Tally.{Tally}
 use Rattle.xdr_stream.specs.declared.machine.frame.Frame.{Frame}
 use Rattle.xdr_stream.specs.declared.machine.number.Made.TheVariants as made
 use Rattle.xdr_stream.proofs.Filled.{as_many}

@@ -38,6 +38,12 @@ pub record IsEntire (kinds : List KindView) (ps : List Part) (limits : Bounds) (
   pub nested : 0 < outside
   pub low : e.levels + outside ≤ limits.depth
 
+-- a part of this kind may have so many levels within the limit, where so many nodes stand around the one at work
+pub record IsNested (kinds : List KindView) (limits : Bounds) (outside : ℕ) (e : Entire) : Type 0 where
+  pub known : e.kind.place < length kinds
+  pub nested : 0 < outside
+  pub low : e.levels + outside ≤ limits.depth
+
 -- a reader that took parts has read the bytes b, and what comes next is not settled; or memory was refused
 abbrev pub WentAs : (spares : Type 0) → List KindView → (kind : ℕ) → Bounds → (H : Trace → Type 0) → List (List Part)
     → (read : ℕ) → (space : List ℕ) → (pending : ℕ) → State → (b : List ℕ) → Type 0

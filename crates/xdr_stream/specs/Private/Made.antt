@@ -11,7 +11,7 @@ use Rattle.xdr_laws.specs.Held.{node_count, byte_count, count_nodes, count_bytes
 use Rattle.xdr_stream.specs.Sees.{make_wide}
 use Rattle.xdr_stream.specs.Private.Entire.{IsPadded}
 use Rattle.xdr_stream.specs.Private.Reported.{leaf_tree}
-use Rattle.xdr_stream.specs.declared.builder.made.Tally.{Tally}
+use Rattle.xdr_stream.specs.declared.builder.tally.Tally.{Tally}
 use Rattle.xdr_stream.specs.declared.runs.content.Whole.{Whole}
 
 -- so many nodes are counted, and so many bytes of content, where they go into 64 bits (RFC 4506 section 4.9)

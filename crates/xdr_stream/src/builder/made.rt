@@ -1,5 +1,5 @@
 //! The value that bytes begin with, made at once.
-ghost use Rattle.std.specs.Prelude.{◌≡◌, ◌≤◌, ◌<◌, ◌+◌, length, map, IfOk, IfSome};
+ghost use Rattle.std.specs.Prelude.{◌≡◌, ◌≤◌, ◌<◌, length, map, IfOk, IfSome};
 ghost use Rattle.xdr_types.specs.Kinds.{kind_at};
 ghost use Rattle.xdr_types.specs.KindViews.{kind_view};
 ghost use Rattle.xdr_types.specs.Tree as value;
@@ -8,47 +8,34 @@ ghost use Rattle.xdr_laws.specs.Owed.{lead_of, HasUnit};
 ghost use Rattle.xdr_stream.specs.Frames.{left_of};
 ghost use Rattle.xdr_stream.specs.Nodes.{head_of_node};
 ghost use Rattle.xdr_stream.specs.Private.Sound.{AreKnown};
-ghost use Rattle.xdr_stream.specs.Private.Made.{Adds, IsMade, AreMade, IsNode, IsOnly, IsContent, IsWide, Counts};
-ghost use Rattle.xdr_stream.specs.Private.Made.{IsHanded};
+ghost use Rattle.xdr_stream.specs.Private.Made.{IsMade, AreMade, IsNode, IsOnly, Counts};
 
-use crate::builder::values::{content_value, value_of};
-use crate::builder::{Node, hyper_leaf};
+use crate::builder::Node;
+use crate::builder::taken::{content_in, whole_in, wide_in};
+use crate::builder::tally::{Tally, count_node};
+use crate::builder::values::value_of;
 use crate::machine::frame::{Frame, after, next};
 use crate::machine::number::{Made, made_in};
 use crate::machine::step::{Step, step_of};
-use crate::machine::unit::{hyper_at, number_of, unit_at};
-use crate::runs::ahead::content_ahead;
-use crate::runs::content::{Whole, whole_ahead};
+use crate::machine::unit::{number_of, unit_at};
+use crate::runs::ahead::part_ahead;
+use crate::runs::content::{is_counted, whole_ahead};
 use crate::runs::leaf::leaf_ahead;
 use std::alloc::{AllocError, Global};
 use xdr_types::{Kind, KindId, Schema, Value};
 
-/// How many nodes there are, how many bytes of content, and how many bytes of the input they took.
-#[derive(Clone, Copy)]
-pub struct Tally {
-    pub nodes: usize,
-    pub content: usize,
-    pub at: usize,
-}
-
-// One node more.
-fn count_node(tally: &mut Tally)
-    ensures adds { Adds tally.old tally.new 1 0 }
-    ensures at { tally.new.at ≡ tally.old.at }
-{
-    tally.nodes = tally.nodes.saturating_add(1);
-}
-
-/// The value that the bytes have next, where they have one of the kind, of at most so many levels. It is counted. For a
-/// number nothing is called, and for a string it does not go into the kind.
+// The value that the bytes have next, where they have one of the kind, of at most so many levels. It is counted. For a
+// number nothing is called, and for a string it does not go into the kind. `looked` tells that the value was found to
+// be there; else nothing is made of it before it is.
 #[cycle(made)]
 #[inline(always)]
-pub(crate) fn part_in(
+fn part_in(
     alloc: Global,
     schema: &Schema,
     id: KindId,
     bytes: &[u8],
     levels: u32,
+    looked: bool,
     tally: &mut Tally,
 ) -> Result<Option<Value>, AllocError>
     requires known { id.place < length schema.now.kinds }
@@ -60,32 +47,33 @@ pub(crate) fn part_in(
         count_node(tally);
         return Ok(Some(value_of(alloc, leaf)));
     }
+    other_in(alloc, schema, id, bytes, levels, looked, tally)
+}
+
+/// The same of a part that is no number.
+#[cycle(made)]
+#[inline(always)]
+pub(crate) fn other_in(
+    alloc: Global,
+    schema: &Schema,
+    id: KindId,
+    bytes: &[u8],
+    levels: u32,
+    looked: bool,
+    tally: &mut Tally,
+) -> Result<Option<Value>, AllocError>
+    requires known { id.place < length schema.now.kinds }
+    requires within { tally.old.at ≤ length bytes.now }
+    ensures { IfOk result (λ o. IfSome o (IsMade schema.now.kinds id.place bytes.now tally.old tally.new)) }
+{
     if let Some(whole) = whole_ahead(schema, id, &bytes[tally.at..]) {
         let content = whole_in(alloc, whole, bytes, tally)?;
         return Ok(Some(content));
     }
-    value_in(alloc, schema, id, bytes, levels, tally)
-}
-
-// The content that the bytes have next, behind its length.
-#[inline(never)]
-fn whole_in(
-    alloc: Global,
-    whole: Whole,
-    bytes: &[u8],
-    tally: &mut Tally,
-) -> Result<Value, AllocError>
-    requires within { tally.old.at ≤ length bytes.now }
-    requires there { (4 + whole.size ≤ whole.all) × (tally.old.at + whole.all ≤ length bytes.now) }
-    ensures { IfOk result (IsHanded whole bytes.now tally.old tally.new) }
-{
-    let start = tally.at + 4;
-    let mut content = Vec::with_capacity(alloc, whole.size)?;
-    content.extend_from_slice(&bytes[start..start + whole.size])?;
-    tally.at += whole.all;
-    count_node(tally);
-    tally.content = tally.content.saturating_add(whole.size);
-    Ok(content_value(content))
+    if is_counted(schema.kind(id)) {
+        return Ok(None);
+    }
+    value_in(alloc, schema, id, bytes, levels, looked, tally)
 }
 
 // The same, whatever the kind is.
@@ -96,6 +84,7 @@ fn value_in(
     id: KindId,
     bytes: &[u8],
     levels: u32,
+    looked: bool,
     tally: &mut Tally,
 ) -> Result<Option<Value>, AllocError>
     requires known { id.place < length schema.now.kinds }
@@ -106,9 +95,12 @@ fn value_in(
         return Ok(None);
     }
     let _known = schema.len();
+    if !looked && !is_there(schema, id, &bytes[tally.at..], levels) {
+        return Ok(None);
+    }
     let kind = schema.kind(id);
     match step_of(kind) {
-        Step::Unit => unit_in(alloc, schema, id, kind, bytes, levels, tally),
+        Step::Unit => unit_in(alloc, schema, id, kind, bytes, levels, looked, tally),
         Step::Fields(fields) => {
             let frame = Frame::Fields { fields };
             node_in(
@@ -118,6 +110,7 @@ fn value_in(
                 frame,
                 bytes,
                 levels - 1,
+                true,
                 tally,
             )
         }
@@ -130,6 +123,7 @@ fn value_in(
                 frame,
                 bytes,
                 levels - 1,
+                true,
                 tally,
             )
         }
@@ -142,6 +136,17 @@ fn value_in(
     }
 }
 
+// Whether the bytes begin with the value, where its kind does not begin with a unit. Of one that does, as a union, the
+// unit is read, and then its part is asked for.
+fn is_there(schema: &Schema, id: KindId, bytes: &[u8], levels: u32) -> bool
+    requires { id.place < length schema.now.kinds }
+{
+    match step_of(schema.kind(id)) {
+        Step::Unit => true,
+        _ => part_ahead(schema, id, bytes, levels).is_some(),
+    }
+}
+
 // The same of a kind that begins with a unit.
 #[cycle(made)]
 fn unit_in<'s>(
@@ -151,6 +156,7 @@ fn unit_in<'s>(
     kind: &'s Kind,
     bytes: &[u8],
     levels: u32,
+    looked: bool,
     tally: &mut Tally,
 ) -> Result<Option<Value>, AllocError>
     requires known { (id.place < length schema.now.kinds) × (tally.old.at ≤ length bytes.now) × (0 < levels) }
@@ -172,7 +178,7 @@ fn unit_in<'s>(
             Ok(Some(value_of(alloc, leaf)))
         }
         Made::Open(node, frame) => {
-            let value = node_in(alloc, schema, node, frame, bytes, levels - 1, tally)?;
+            let value = node_in(alloc, schema, node, frame, bytes, levels - 1, looked, tally)?;
             Ok(value)
         }
         Made::Length(size) => {
@@ -191,6 +197,7 @@ fn node_in(
     frame: Frame<'_>,
     bytes: &[u8],
     levels: u32,
+    looked: bool,
     tally: &mut Tally,
 ) -> Result<Option<Value>, AllocError>
     requires known { AreKnown schema.now.kinds (left_of frame) }
@@ -214,11 +221,11 @@ fn node_in(
             }
             None => Ok(None),
         },
-        Node::Tag(tag) => match only_in(alloc, schema, frame, bytes, levels, tally)? {
+        Node::Tag(tag) => match only_in(alloc, schema, frame, bytes, levels, looked, tally)? {
             Some(part) => Ok(Some(Value::Choice { tag, part })),
             None => Ok(None),
         },
-        Node::Present => match only_in(alloc, schema, frame, bytes, levels, tally)? {
+        Node::Present => match only_in(alloc, schema, frame, bytes, levels, looked, tally)? {
             Some(part) => Ok(Some(Value::Maybe(Some(part)))),
             None => Ok(None),
         },
@@ -233,6 +240,7 @@ fn only_in(
     frame: Frame<'_>,
     bytes: &[u8],
     levels: u32,
+    looked: bool,
     tally: &mut Tally,
 ) -> Result<Option<Box<Value>>, AllocError>
     requires known { AreKnown schema.now.kinds (left_of frame) }
@@ -244,7 +252,7 @@ fn only_in(
     let Some(id) = next(&frame) else {
         return Ok(None);
     };
-    let Some(value) = part_in(alloc, schema, id, bytes, levels, tally)? else {
+    let Some(value) = part_in(alloc, schema, id, bytes, levels, looked, tally)? else {
         return Ok(None);
     };
     count_node(tally);
@@ -271,7 +279,7 @@ fn values_in(
     let mut values = Vec::with_capacity(alloc, space)?;
     let mut frame = frame;
     while let Some(id) = next(&frame) {
-        let Some(value) = part_in(alloc, schema, id, bytes, levels, tally)? else {
+        let Some(value) = part_in(alloc, schema, id, bytes, levels, true, tally)? else {
             return Ok(None);
         };
         values.push(value)?;
@@ -294,41 +302,4 @@ fn parts_of(frame: &Frame) -> usize {
         Frame::Items { left, .. } => *left as usize,
         Frame::Arm { .. } => 1,
     }
-}
-
-// The hyper integer that the bytes have next.
-fn wide_in(alloc: Global, signed: bool, bytes: &[u8], tally: &mut Tally) -> Option<Value>
-    requires { tally.old.at ≤ length bytes.now }
-    ensures { IfSome result (IsWide signed bytes.now tally.old tally.new) }
-{
-    if bytes.len() - tally.at < 8 {
-        return None;
-    }
-    let leaf = hyper_leaf(signed, hyper_at(bytes, tally.at));
-    tally.at += 8;
-    count_node(tally);
-    Some(value_of(alloc, leaf))
-}
-
-// The content that the bytes have next, and zeros after it.
-fn content_in(
-    alloc: Global,
-    size: u32,
-    bytes: &[u8],
-    tally: &mut Tally,
-) -> Result<Option<Value>, AllocError>
-    requires { tally.old.at ≤ length bytes.now }
-    ensures { IfOk result (λ o. IfSome o (IsContent size bytes.now tally.old tally.new)) }
-{
-    let behind = &bytes[tally.at..];
-    let Some(padded) = content_ahead(size, behind) else {
-        return Ok(None);
-    };
-    let size = size as usize;
-    let mut content = Vec::with_capacity(alloc, size)?;
-    content.extend_from_slice(&behind[..size])?;
-    tally.at += padded;
-    count_node(tally);
-    tally.content = tally.content.saturating_add(size);
-    Ok(Some(content_value(content)))
 }

@@ -1,6 +1,7 @@
 //! What is made of the nodes that are read.
 //!
-//! - `values`: a value. `level`: a node of it at work. `made`: a part of it at once. `nothing`: nothing.
+//! - `values`: a value. `level`: a node of it at work. `made`: a part of it at once; `taken`: such a part without parts;
+//!   `tally`: what is counted of them. `nothing`: nothing.
 ghost use Rattle.std.specs.Prelude.{◌≡◌, ◌<◌, ◌≤◌, ◌%◌, List, ℕ, length, take, OnOk, IfOk, IsOk};
 ghost use Rattle.std.specs.Int.{w64, from_be_bytes};
 ghost use Rattle.xdr_stream.specs.Trace.{Trace, at_start};
@@ -15,6 +16,8 @@ ghost use Rattle.xdr_stream.specs.Private.Runs.{numbers_in, hypers_in};
 pub mod level;
 pub mod made;
 pub mod nothing;
+pub mod taken;
+pub mod tally;
 pub mod values;
 
 use std::alloc::AllocError;

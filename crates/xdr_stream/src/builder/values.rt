@@ -10,10 +10,10 @@ ghost use Rattle.xdr_stream.specs.Private.Reported.{HasSpace, leaf_in, leaf_tree
 ghost use Rattle.xdr_stream.specs.Values.{Reports};
 
 use crate::builder::level::{Level, add, add_item, begun, closed};
-use crate::builder::made::{Tally, part_in};
+use crate::builder::made::other_in;
+use crate::builder::tally::Tally;
 use crate::builder::{Build, Leaf, Node, hyper_leaf};
 use crate::machine::unit::hyper_at;
-use crate::runs::ahead::part_ahead;
 use crate::runs::leaf::leaf_ahead;
 use std::alloc::{AllocError, Global};
 use xdr_stack::Blocks;
@@ -217,11 +217,11 @@ impl Build for Values {
             self.leaf(leaf)?;
             return Ok(size);
         }
-        // Nothing is made of bytes that are refused, or that are not all there.
-        let Some(n) = part_ahead(schema, kind, bytes, levels) else {
-            return Ok(0);
+        let most = match schema.levels(kind) {
+            Some(most) => most,
+            None => return Ok(0),
         };
-        if n == 0 {
+        if most > levels {
             return Ok(0);
         }
         let mut tally = Tally {
@@ -229,13 +229,18 @@ impl Build for Values {
             content: self.retained,
             at: 0,
         };
-        let Some(value) = part_in(self.alloc, schema, kind, bytes, levels, &mut tally)? else {
+        // Nothing is made of bytes that are refused, or that are not all there.
+        let alloc = self.alloc;
+        let Some(value) = other_in(alloc, schema, kind, bytes, levels, false, &mut tally)? else {
             return Ok(0);
         };
+        if tally.at == 0 {
+            return Ok(0);
+        }
         add(self.alloc, &mut self.work, value)?;
         self.nodes = tally.nodes;
         self.retained = tally.content;
-        Ok(n)
+        Ok(tally.at)
     }
 
     fn trim(&mut self) {

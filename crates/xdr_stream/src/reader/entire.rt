@@ -14,14 +14,13 @@ use crate::machine::Awaits;
 use crate::machine::frame::after;
 use crate::machine::nodes::enter;
 use crate::reader::{Reader, State};
-use crate::runs::entire::{entire_due, is_gone_into};
+use crate::runs::entire::{Vain, entire_due, is_left};
 
 impl<'s, B: Build + Drop> Reader<'s, B> {
     // Takes the parts of the node at work that come first, as long as they are there whole; tells how many bytes. What
-    // comes next is not settled then. Up to `tried`, a count of bytes of the value, a part was looked at in vain: none
-    // inside it is gone into again.
+    // comes next is not settled then. It notes what was looked at in vain, and does not look at it again.
     #[inline(always)]
-    fn take_entire(&mut self, bytes: &[u8], tried: &mut usize) -> usize
+    fn take_entire(&mut self, bytes: &[u8], vain: &mut Vain) -> usize
         requires { self.old.state ≡ Fresh }
         ensures went { (q : List ℕ) → length q ≡ self.old.read → self.old.pending ≡ 0
             → Sees self.old.schema.now.kinds self.old.kind.place self.old.limits (B.reports self.old.built) Next
@@ -33,6 +32,7 @@ impl<'s, B: Build + Drop> Reader<'s, B> {
     {
         let _in_range = self.limits.depth();
         let _known = self.schema.len();
+        let mut before = None;
         let mut at = 0;
         while at < bytes.len() {
             let outside = self.parents.len();
@@ -44,23 +44,28 @@ impl<'s, B: Build + Drop> Reader<'s, B> {
                 outside,
                 self.read,
                 there,
+                before,
             );
             let Some(part) = due else {
+                vain.at = self.read;
                 return at;
             };
-            if self.read < *tried && is_gone_into(self.schema, part) {
+            if is_left(self.schema, part, self.read, *vain) {
+                vain.at = self.read;
                 return at;
             }
             let given = &bytes[at..at + part.most];
             match self.built.part(self.schema, part.kind, part.levels, given) {
                 Ok(n) => {
                     if n == 0 {
-                        *tried = self.read.saturating_add(part.most);
+                        vain.at = self.read;
+                        vain.until = self.read.saturating_add(part.most);
                         return at;
                     }
                     self.work = after(self.work);
                     self.read = self.read.saturating_add(n);
                     at += n;
+                    before = Some(part);
                 }
                 Err(_) => {
                     self.fail(Reason::NoMemory);
@@ -73,7 +78,7 @@ impl<'s, B: Build + Drop> Reader<'s, B> {
 
     // Ends the nodes that have all their parts and begins structures, as long as parts follow that are there whole, and
     // begins what comes next; tells how many bytes.
-    fn settle_entire(&mut self, bytes: &[u8], tried: &mut usize) -> usize
+    fn settle_entire(&mut self, bytes: &[u8], vain: &mut Vain) -> usize
         requires { self.old.state ≡ Fresh }
         ensures represents { (q : List ℕ) → length q ≡ self.old.read → self.old.pending ≡ 0
             → Sees self.old.schema.now.kinds self.old.kind.place self.old.limits (B.reports self.old.built) Next
@@ -99,7 +104,7 @@ impl<'s, B: Build + Drop> Reader<'s, B> {
                     return at;
                 }
             }
-            let n = self.take_entire(&bytes[at..], tried);
+            let n = self.take_entire(&bytes[at..], vain);
             at += n;
             match self.state {
                 State::Fresh => {}
@@ -116,7 +121,7 @@ impl<'s, B: Build + Drop> Reader<'s, B> {
     /// Takes the parts that come first, as long as they are there whole, and begins what comes next after them; tells
     /// how many bytes.
     #[inline(always)]
-    pub(crate) fn take_ready(&mut self, bytes: &[u8], tried: &mut usize) -> usize
+    pub(crate) fn take_ready(&mut self, bytes: &[u8], vain: &mut Vain) -> usize
         requires { IsAwaited self.old.schema.now.kinds (left_of self.old.work) Next }
         ensures represents { (b : List ℕ) → self.old.state ≡ Reading Next → self.old.pending ≡ 0
             → RepresentsBytes B.spares B.reports self.old b
@@ -126,22 +131,25 @@ impl<'s, B: Build + Drop> Reader<'s, B> {
         ensures taken { (result ≤ length bytes.now) × (self.old.state ≡ Reading Next → IsAwake self.new.state) }
         ensures same { IsSame self.old self.new }
     {
+        if self.read == vain.at {
+            return 0;
+        }
         // A state that asks nothing of the nodes at work, which change now: what they await is settled after.
         self.state = State::Fresh;
-        let n = self.take_entire(bytes, tried);
+        let n = self.take_entire(bytes, vain);
         if n == 0 {
             self.state = State::Reading(Awaits::Next);
             return 0;
         }
         match self.state {
-            State::Fresh => n + self.settle_entire(&bytes[n..], tried),
+            State::Fresh => n + self.settle_entire(&bytes[n..], vain),
             _ => n,
         }
     }
 
     /// The same where what comes next is not settled yet.
     #[inline(always)]
-    pub(crate) fn take_settled(&mut self, bytes: &[u8], tried: &mut usize) -> usize
+    pub(crate) fn take_settled(&mut self, bytes: &[u8], vain: &mut Vain) -> usize
         requires { self.old.state ≡ Fresh }
         ensures represents { (q : List ℕ) → length q ≡ self.old.read → self.old.pending ≡ 0
             → Sees self.old.schema.now.kinds self.old.kind.place self.old.limits (B.reports self.old.built) Next
@@ -151,9 +159,9 @@ impl<'s, B: Build + Drop> Reader<'s, B> {
         ensures awake { IsAwake self.new.state }
         ensures same { IsSame self.old self.new }
     {
-        let n = self.take_entire(bytes, tried);
+        let n = self.take_entire(bytes, vain);
         match self.state {
-            State::Fresh => n + self.settle_entire(&bytes[n..], tried),
+            State::Fresh => n + self.settle_entire(&bytes[n..], vain),
             _ => n,
         }
     }

@@ -13,6 +13,7 @@ use crate::fault::DecodeFault;
 use crate::machine::Awaits;
 use crate::machine::unit::unit_at;
 use crate::reader::{Progress, Reader, State};
+use crate::runs::entire::Vain;
 use crate::runs::numbers::hypers_due;
 use crate::runs::{hypers_there, units_there};
 
@@ -69,15 +70,14 @@ impl<'s, B: Build + Drop> Reader<'s, B> {
         ensures same { IsSame self.old self.new }
     {
         self.wake();
-        // No byte of a piece is looked at in vain twice for parts of many levels.
-        let mut tried = 0;
+        let mut vain = Vain::none();
         let mut at = 0;
         while at < piece.len() {
             let State::Reading(awaits) = self.state else {
                 return at;
             };
             if self.pending == 0 && piece.len() - at >= 4 {
-                at += self.take_units(awaits, &piece[at..], &mut tried);
+                at += self.take_units(awaits, &piece[at..], &mut vain);
             } else {
                 self.take_byte(awaits, piece[at]);
                 at += 1;
@@ -99,7 +99,7 @@ impl<'s, B: Build + Drop> Reader<'s, B> {
     }
 
     // Takes whole units of a piece that has some, where no unit is unfinished, and tells how many bytes.
-    fn take_units(&mut self, awaits: Awaits, bytes: &[u8], tried: &mut usize) -> usize
+    fn take_units(&mut self, awaits: Awaits, bytes: &[u8], vain: &mut Vain) -> usize
         requires there { 4 ≤ length bytes.now }
         requires awaited { IsAwaited self.old.schema.now.kinds (left_of self.old.work) awaits }
         ensures represents { (b : List ℕ) → self.old.state ≡ Reading awaits → self.old.pending ≡ 0
@@ -111,7 +111,7 @@ impl<'s, B: Build + Drop> Reader<'s, B> {
         ensures same { IsSame self.old self.new }
     {
         if let Awaits::Next = awaits {
-            return self.take_next(bytes, tried);
+            return self.take_next(bytes, vain);
         }
         if let Awaits::Content(left) = awaits {
             let space = (self.limits.bytes() as usize).saturating_sub(self.read);

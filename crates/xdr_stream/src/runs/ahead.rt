@@ -12,7 +12,7 @@ use crate::machine::frame::{Frame, after, next};
 use crate::machine::number::{Made, made_in};
 use crate::machine::step::{Step, step_of};
 use crate::machine::unit::{are_zeros, number_of, unit_at};
-use crate::runs::content::whole_ahead;
+use crate::runs::content::{is_counted, whole_ahead};
 use crate::runs::leaf::leaf_of;
 use xdr_types::{Kind, KindId, Schema};
 
@@ -33,6 +33,9 @@ pub(crate) fn part_ahead(schema: &Schema, id: KindId, bytes: &[u8], levels: u32)
     }
     if let Some(whole) = whole_ahead(schema, id, bytes) {
         return Some(whole.all);
+    }
+    if is_counted(schema.kind(id)) {
+        return None;
     }
     value_ahead(schema, id, bytes, levels)
 }

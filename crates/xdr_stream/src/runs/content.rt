@@ -28,6 +28,12 @@ fn most_of(kind: &Kind) -> Option<u32>
     }
 }
 
+/// Whether the kind is content behind its length.
+#[inline(always)]
+pub(crate) fn is_counted(kind: &Kind) -> bool {
+    most_of(kind).is_some()
+}
+
 /// The content that the bytes begin with, where its length comes first, as in a string.
 #[inline(always)]
 pub(crate) fn whole_ahead(schema: &Schema, id: KindId, bytes: &[u8]) -> Option<Whole>

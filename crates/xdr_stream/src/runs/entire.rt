@@ -1,13 +1,16 @@
 //! A part that may be there whole.
-ghost use Rattle.std.specs.Prelude.{◌<◌, IfSome, length};
+ghost use Rattle.std.specs.Prelude.{◌<◌, ◌≤◌, ◌+◌, IfSome, length};
 ghost use Rattle.xdr_stream.specs.Frames.{left_of};
-ghost use Rattle.xdr_stream.specs.Private.Entire.{IsEntire};
+ghost use Rattle.xdr_stream.specs.Private.Entire.{IsEntire, IsNested};
 
 use crate::machine::frame::{Frame, next};
 use xdr_types::{Kind, KindId, Limits, Schema};
 
 /// How many bytes are looked at for a part at most, so that what is looked at in vain is bounded.
 const MOST_BYTES: usize = 65536;
+
+/// Of fewer bytes a part is not gone into: of a short piece the most parts end behind it.
+const LEAST_BYTES: usize = 64;
 
 /// A part that may be there whole.
 #[derive(Clone, Copy)]
@@ -18,6 +21,26 @@ pub struct Entire {
     pub levels: u32,
     /// How many of the bytes it may have.
     pub most: usize,
+}
+
+/// What was looked at in vain in a piece, by counts of bytes of the value, so that no byte of it is looked at twice for
+/// parts of many levels.
+#[derive(Clone, Copy)]
+pub struct Vain {
+    /// Where no part was taken.
+    pub at: usize,
+    /// Up to where parts were looked at.
+    pub until: usize,
+}
+
+impl Vain {
+    /// Nothing yet: no part ends at the last place that a count has.
+    pub(crate) fn none() -> Vain {
+        Vain {
+            at: usize::MAX,
+            until: 0,
+        }
+    }
 }
 
 // Whether the part is a number that is an item: numbers of an array are taken many at once.
@@ -36,7 +59,8 @@ fn is_run(schema: &Schema, work: Frame<'_>, kind: KindId) -> bool
 
 /// The part that comes next, where the levels of its kind's values are bounded, and the limit on depth is not passed
 /// inside it; no number of an array. So many nodes stand around the one at work. It may have no bytes behind those that
-/// are there, nor behind the limit on bytes.
+/// are there, nor behind the limit on bytes. Where it has the kind of the part before it, as an item mostly has, it is
+/// known to be one.
 #[inline(always)]
 pub(crate) fn entire_due(
     schema: &Schema,
@@ -45,25 +69,53 @@ pub(crate) fn entire_due(
     outside: usize,
     read: usize,
     there: usize,
+    before: Option<Entire>,
 ) -> Option<Entire>
+    requires { IfSome before (IsNested schema.now.kinds limits outside) }
     ensures { IfSome result (IsEntire schema.now.kinds (left_of work.entry) limits outside read there) }
 {
     let _in_range = limits.depth();
     let kind = next(&work)?;
+    if let Some(part) = before {
+        if part.kind.place == kind.place {
+            return Some(Entire {
+                kind,
+                levels: part.levels,
+                most: most_of(limits, read, there),
+            });
+        }
+    }
     let levels = schema.levels(kind)?;
     if is_run(schema, work, kind) {
         return None;
     }
-    let space = (limits.bytes() as usize).saturating_sub(read);
     let left = (limits.depth() as usize).saturating_sub(outside);
     if outside == 0 || levels as usize > left {
         return None;
     }
-    let most = there.min(space).min(MOST_BYTES);
-    Some(Entire { kind, levels, most })
+    Some(Entire {
+        kind,
+        levels,
+        most: most_of(limits, read, there),
+    })
 }
 
-/// Whether a look at a part goes into it: it has parts, and bytes that vary.
-pub(crate) fn is_gone_into(schema: &Schema, part: Entire) -> bool {
+// How many bytes a part may have: those that are there, up to the limit on bytes, where so many are read.
+#[inline(always)]
+fn most_of(limits: Limits, read: usize, there: usize) -> usize
+    ensures there { result ≤ there }
+    ensures space { 0 < result → result + read ≤ limits.bytes }
+{
+    let space = (limits.bytes() as usize).saturating_sub(read);
+    there.min(space).min(MOST_BYTES)
+}
+
+/// Whether a part is left to the machine, since a look at it goes into it, where it has parts and bytes that vary: few
+/// bytes are there, or a part was looked at in vain up to a place behind it.
+#[inline(always)]
+pub(crate) fn is_left(schema: &Schema, part: Entire, read: usize, vain: Vain) -> bool {
+    if read >= vain.until && part.most >= LEAST_BYTES {
+        return false;
+    }
     part.levels > 1 && schema.extent(part.kind).is_none()
 }

@@ -22,7 +22,7 @@ use Rattle.xdr_stream.specs.Taking.{Takes}
 use Rattle.xdr_stream.specs.Private.Sound.{AreKnown}
 use Rattle.xdr_stream.specs.Private.Made.{IsMade, AreMade, IsNode, IsContent, IsWide, Counts}
 use Rattle.xdr_stream.specs.declared.builder.Node.{Node}
-use Rattle.xdr_stream.specs.declared.builder.made.Tally.{Tally}
+use Rattle.xdr_stream.specs.declared.builder.tally.Tally.{Tally}
 use Rattle.xdr_stream.specs.declared.machine.number.Made.{Made}
 use Rattle.xdr_stream.proofs.Sounding.{known_rest, solid_known, made_known, fields_solid, items_solid}
 use Rattle.xdr_stream.proofs.Made.{AreMadeOf, made_none, made_more, node_list, counts_parts, made_wide, made_opaque}
@@ -181,7 +181,7 @@ value_in-node_in-requires-in-Items t c =
       ),
     )
 
-pub part_in-returns-in-Some-whole_ahead : goal.part_in-returns-in-Some-whole_ahead
-part_in-returns-in-Some-whole_ahead t c =
-    made_handed c.args.schema.now.kinds c.args.id.place c.in-Some-whole_ahead.whole c.args.bytes.now c.args.tally.now
-    c.whole_in.new.tally c.in_ok-content.content c.requires.within c.in-Some-whole_ahead.ensures c.in_ok-content.ensures
+pub other_in-returns-in-Some : goal.other_in-returns-in-Some
+other_in-returns-in-Some t c =
+    made_handed c.args.schema.now.kinds c.args.id.place c.in-Some.whole c.args.bytes.now c.args.tally.now
+    c.whole_in.new.tally c.in_ok-content.content c.requires.within c.in-Some.ensures c.in_ok-content.ensures

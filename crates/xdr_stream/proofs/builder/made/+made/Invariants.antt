@@ -5,22 +5,25 @@ use Rattle.xdr_stream.proofs.Made.{AreMadeOf}
 use Rattle.xdr_stream.proofs.builder.made.+made.Given as goal
 
 abbrev pub decreases-node_in : goal.decreases-node_in
-decreases-node_in l = 6 * l.levels + 4
+decreases-node_in l = 7 * l.levels + 5
 
 abbrev pub decreases-only_in : goal.decreases-only_in
-decreases-only_in l = 6 * l.levels + 3
+decreases-only_in l = 7 * l.levels + 4
 
 abbrev pub decreases-unit_in : goal.decreases-unit_in
-decreases-unit_in l = 6 * l.levels
+decreases-unit_in l = 7 * l.levels
 
 abbrev pub decreases-value_in : goal.decreases-value_in
-decreases-value_in l = 6 * l.levels + 1
+decreases-value_in l = 7 * l.levels + 1
+
+abbrev pub decreases-other_in : goal.decreases-other_in
+decreases-other_in l = 7 * l.levels + 2
 
 abbrev pub decreases-part_in : goal.decreases-part_in
-decreases-part_in l = 6 * l.levels + 2
+decreases-part_in l = 7 * l.levels + 3
 
 abbrev pub decreases-values_in : goal.decreases-values_in
-decreases-values_in l = 6 * l.levels + 3
+decreases-values_in l = 7 * l.levels + 4
 
 abbrev pub invariant-values_in-loop-id : goal.invariant-values_in-loop-id
 invariant-values_in-loop-id l =

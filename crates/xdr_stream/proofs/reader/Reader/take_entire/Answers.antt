@@ -2,12 +2,15 @@ use Rattle.std.proofs.Common.{◌≡◌, ◌+◌, ◌-◌, ◌<◌, ◌≤◌, �
 use Rattle.std.proofs.Common.{append_assoc, arith}
 use Rattle.std.proofs.lemmas.List.{length-append, length-take, length-drop, take-take}
 use Rattle.std.proofs.Math.Seq.{take-add}
+use Rattle.std.specs.Prelude.{Option, Some, None, IfSome}
 use Rattle.xdr_types.specs.Kinds.{KindView, Part, Lists}
+use Rattle.xdr_types.specs.Within.{Bounds}
 use Rattle.xdr_types.specs.Laws.{EachKindHasAValue}
 use Rattle.xdr_stream.specs.Frames.{stack_of}
 use Rattle.xdr_stream.specs.Trace.{Trace}
 use Rattle.xdr_stream.specs.Sees.{Sees}
-use Rattle.xdr_stream.specs.Private.Entire.{WentAs}
+use Rattle.xdr_stream.specs.Private.Entire.{WentAs, IsNested}
+use Rattle.xdr_stream.specs.declared.runs.entire.Entire.{Entire}
 use Rattle.xdr_stream.specs.declared.machine.Awaits.TheVariants.{Next}
 use Rattle.xdr_stream.specs.declared.reader.State.{State}
 use Rattle.xdr_stream.proofs.Entire.{entire_seen, went_awake}
@@ -27,6 +30,26 @@ take_of : (n most at : ℕ) (p : List ℕ) → n ≤ most → take n (take (at +
 take_of n most at p fewer =
     ap (λ (k : ℕ). take n (take k p)) (omega arith) ∙ take-take n most p fewer ∙ ap (λ (k : ℕ). take k p) (omega arith)
 
+-- what is so where as many nodes stand around is so where as many do
+nested_at : (s : List KindView) (limits : Bounds) (n m : ℕ) (o : Option Entire)
+    → ((e : Entire) → IsNested s limits n e → m ≡ n) → IfSome o (IsNested s limits n) → IfSome o (IsNested s limits m)
+nested_at s limits n m None same h = tt
+nested_at s limits n m (Some e) same h = subst (λ (k : ℕ). IsNested s limits k e) (sym (same e h)) h
+
+pub entire_due-due-requires : goal.entire_due-due-requires
+entire_due-due-requires g c =
+    let i = c.loop-at.invariant in
+    let r = c.loop-at.self in
+    nested_at r.schema.now.kinds r.limits (length r.parents.items) c.len-outside.result c.loop-at.before
+    (λ e k. omega (
+      arith,
+      c.len-outside.ensures.exact,
+      c.len-outside.ensures.most,
+      k.low,
+      c.depth-in_range.ensures.range.most_depth,
+      ap (λ l. l.depth) i.1.limits_are,
+    )) i.4
+
 pub loop-at-preserved : goal.loop-at-preserved
 loop-at-preserved g c =
     let i = c.loop-at.invariant in
@@ -43,16 +66,24 @@ loop-at-preserved g c =
       length-take (c.loop-at.at + most - c.loop-at.at) (drop c.loop-at.at bs),
     ) in
     let within : c.loop-at.at + n ≤ length bs = omega (arith, d.enough, i.0, c.loop-at-test.true, fewer) in
-    let some : 0 < n = omega (arith, c.if-n-eq0.false) in (
+    let some : 0 < n = omega (arith, c.if-n-eq0.false) in
+    let around : length r.parents.items ≡ c.len-outside.result = omega (
+      arith,
+      c.len-outside.ensures.exact,
+      d.low,
+      c.depth-in_range.ensures.range.most_depth,
+      ap (λ l. l.depth) i.1.limits_are,
+    ) in (
       within,
       record { schema_is = i.1.schema_is; kind_is = i.1.kind_is; limits_are = i.1.limits_are },
       λ none. absurd (omega (arith, none, some)),
       i.3,
+      record { known = d.known; nested = omega (arith, d.nested, around); low = omega (arith, d.low, around) },
       λ q len none seen.
           let w = subst (λ (x : State). WentAs g.B.Build.spares s r.kind.place r.limits
           (g.B.Build.reports r.built) (stack_of r.work r.parents.items) r.read r.unit r.pending x
           (q ++ take c.loop-at.at bs)) i.3
-          (i.4 q len none seen) in
+          (i.5 q len none seen) in
           let t = c.in-Ok.ensures.taken some in
           let u : List ℕ = take n given in
           let here : u ≡ take (c.loop-at.at + n - c.loop-at.at) (drop c.loop-at.at bs) =
@@ -74,13 +105,6 @@ loop-at-preserved g c =
             c.depth-in_range.ensures.range.most_bytes,
             ap (λ l. l.bytes) i.1.limits_are,
             c.saturating_add-self.ensures,
-          ) in
-          let around : length r.parents.items ≡ c.len-outside.result = omega (
-            arith,
-            c.len-outside.ensures.exact,
-            d.low,
-            c.depth-in_range.ensures.range.most_depth,
-            ap (λ l. l.depth) i.1.limits_are,
           ) in
           let has : EachKindHasAValue s =
           subst (λ (x : Lists). EachKindHasAValue x.kinds) (sym i.1.schema_is) c.len-known.ensures.valued in
@@ -112,7 +136,7 @@ returns-in-Err-clause-went g c = λ q len none seen.
     let n : ℕ = length bs in
     let w = subst (λ (x : State). WentAs z r.schema.now.kinds r.kind.place r.limits H
     (stack_of r.work r.parents.items) r.read r.unit r.pending x (q ++ take c.loop-at.at bs)) i.3
-    (i.4 q len none seen) in
+    (i.5 q len none seen) in
     let f = c.fail.new.self in
     went_awake z f.schema.now.kinds f.kind.place f.limits (g.B.Build.reports f.built) (stack_of f.work f.parents.items)
     f.read f.unit f.pending (q ++ take n bs) f.state

@@ -1,7 +1,7 @@
-use Rattle.std.proofs.Common.{◌≡◌, ◌-◌, ◌≤◌, ℕ, List, ◌++◌, length, take}
+use Rattle.std.proofs.Common.{◌≡◌, ◌-◌, ◌≤◌, ℕ, List, ◌++◌, length, take, IfSome}
 use Rattle.xdr_stream.specs.Frames.{stack_of}
 use Rattle.xdr_stream.specs.Sees.{Sees}
-use Rattle.xdr_stream.specs.Private.Entire.{Went, IsStill}
+use Rattle.xdr_stream.specs.Private.Entire.{Went, IsStill, IsNested}
 use Rattle.xdr_stream.specs.Represents.{IsSame}
 use Rattle.xdr_stream.specs.declared.machine.Awaits.TheVariants.{Next}
 use Rattle.xdr_stream.specs.declared.reader.State.TheVariants.{Fresh}
@@ -11,6 +11,7 @@ abbrev pub invariant-loop-at : goal.invariant-loop-at
 invariant-loop-at g l =
     (l.at ≤ length l.bytes) × IsSame l.fn.self l.self × (l.at ≡ 0 → IsStill l.fn.self l.self)
     × (l.self.state ≡ Fresh)
+    × IfSome l.before (IsNested l.self.schema.now.kinds l.self.limits (length l.self.parents.items))
     × ((q : List ℕ) → length q ≡ l.fn.self.read → l.fn.self.pending ≡ 0
     → Sees l.fn.self.schema.now.kinds l.fn.self.kind.place l.fn.self.limits (g.B.Build.reports l.fn.self.built) Next
     (stack_of l.fn.self.work l.fn.self.parents.items) q

@@ -1,16 +1,11 @@
-use Rattle.std.proofs.Common.{◌≡◌, ◌-◌, ℕ, List, ◌++◌, take, drop, refl, subst, sym, ap, ◌∙◌, arith, Option}
+use Rattle.std.proofs.Common.{ℕ, List, take, refl, subst, sym, ap, ◌∙◌, arith, Option}
 use Rattle.std.specs.Prelude.{IfSome}
-use Rattle.std.proofs.lemmas.List.{take-append-drop}
 use Rattle.xdr_types.specs.Kinds.{KindView}
-use Rattle.xdr_types.specs.Tree.{Tree}
-use Rattle.xdr_types.specs.Spelling.{bytes_of}
 use Rattle.xdr_types.specs.View.{tree}
 use Rattle.xdr_types.specs.declared.value.Value.{Value}
-use Rattle.xdr_types.proofs.Unique.{one}
-use Rattle.xdr_stream.specs.Values.{Reports}
 use Rattle.xdr_stream.specs.Private.Made.{IsMade}
-use Rattle.xdr_stream.specs.Private.Reported.{part_in, leaf_tree}
-use Rattle.xdr_stream.specs.declared.builder.made.Tally.{Tally}
+use Rattle.xdr_stream.specs.Private.Reported.{leaf_tree}
+use Rattle.xdr_stream.specs.declared.builder.tally.Tally.{Tally}
 use Rattle.xdr_stream.specs.declared.builder.values.Values.{Values}
 use Rattle.xdr_stream.specs.Nodes.{head_of_leaf}
 use Rattle.xdr_stream.proofs.Reported.{reports_part}
@@ -22,10 +17,9 @@ returns-clause-taken c = λ some.
     let s : List KindView = c.args.schema.now.kinds in
     let place : ℕ = c.args.kind.place in
     let bs : List ℕ = c.args.bytes.now in
-    let n : ℕ = c.in-Some-part_ahead.n in
     let v : Value = c.in-Some-2.value in
     let before : Tally = record { nodes = b.nodes; content = b.retained; at = 0 } in
-    let after : Tally = c.part_in.new.tally in
+    let after : Tally = c.other_in.new.tally in
     let grown : Values = record {
       alloc = b.alloc;
       work = c.add.new.level;
@@ -34,19 +28,16 @@ returns-clause-taken c = λ some.
       nodes = after.nodes;
       retained = after.content;
     } in
-    let o = c.in-Some-part_ahead.ensures.ahead in
     let made : IsMade s place bs before after v =
-    subst (λ (x : Option Value). IfSome x (IsMade s place bs before after)) c.in-Some-2.is c.in_ok-value.ensures in
-    let front : take (after.at - 0) bs ≡ take after.at bs = ap (λ (k : ℕ). take k bs) (omega arith) in
-    let all : bytes_of s place o.value ++ drop n bs ≡ bytes_of s place (tree v) ++ drop after.at bs =
-    ap (λ (x : List ℕ). x ++ drop n bs) o.spelled ∙ take-append-drop n bs ∙ sym (take-append-drop after.at bs)
-    ∙ ap (λ (x : List ℕ). x ++ drop after.at bs) (sym front ∙ made.took.are) in
-    let same : o.value ≡ tree v =
-    (one s place o.value (tree v) (drop n bs) (drop after.at bs) o.fits made.fits all).0 in (
-      o,
-      λ t reported space. subst (λ (x : Tree). Reports grown (part_in x t)) (sym same)
-          (reports_part b grown v t c.in_ok-add.ensures.added refl refl made.adds.nodes_are made.adds.content_is
-          reported space),
+    subst (λ (x : Option Value). IfSome x (IsMade s place bs before after)) c.in-Some-2.is c.in_ok-value.ensures in (
+      record {
+        value = tree v;
+        fits = made.fits;
+        spelled = sym made.took.are ∙ ap (λ (k : ℕ). take k bs) (omega arith);
+        shallow = omega (arith, c.in-Some-levels.ensures.levels (tree v) made.fits, c.if-most-levels.false);
+      },
+      λ t reported space. reports_part b grown v t c.in_ok-add.ensures.added refl refl made.adds.nodes_are made.adds.content_is
+          reported space,
     )
 
 pub returns-in-Some-clause-taken : goal.returns-in-Some-clause-taken

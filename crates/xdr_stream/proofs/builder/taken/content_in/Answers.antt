@@ -4,7 +4,7 @@ use Rattle.xdr_types.specs.Tree as value
 use Rattle.xdr_stream.specs.Private.Reported.{leaf_tree}
 use Rattle.xdr_stream.specs.Private.Made.{between}
 use Rattle.xdr_stream.proofs.Judged.{behind, padded_front}
-use Rattle.xdr_stream.proofs.builder.made.content_in.Goals as goal
+use Rattle.xdr_stream.proofs.builder.taken.content_in.Goals as goal
 
 pub returns : goal.returns
 returns c =
