@@ -1,7 +1,7 @@
 -- Which bytes are a value's without parts.
 use Rattle.std.proofs.Common.{◌≡◌, ℕ, ◌+◌, ◌-◌, ◌%◌, ◌<◌, ◌≤◌, ◌==◌, ◌&&◌, Bool, true, false, List, [], ◌∷◌}
 use Rattle.std.proofs.Common.{◌++◌, length}
-use Rattle.std.proofs.Common.{take, drop, refl, sym, ap, subst, ◌∙◌, append-nil, arith, replicate}
+use Rattle.std.proofs.Common.{take, drop, refl, sym, ap, subst, ◌∙◌, append_assoc, append-nil, arith, replicate}
 use Rattle.std.proofs.lemmas.List.{take-append-drop, length-drop, length-take, take_all, take_at, length-append}
 use Rattle.std.proofs.Math.Seq.{take-add}
 use Rattle.xdr_units.specs.Numbers.{pad, gap, word, AreBytes}
@@ -28,6 +28,14 @@ use Rattle.xdr_stream.proofs.Seeing.{makes_wide, makes_unsigned}
 -- the bytes behind a place
 pub behind : (at : ℕ) (bytes : List ℕ) → take (length bytes - at) (drop at bytes) ≡ drop at bytes
 behind at bytes = take_all (length bytes - at) (drop at bytes) (omega (arith, length-drop at bytes))
+
+-- the bytes before a place, and some behind it
+pub taken_then : (b p : List ℕ) (at n : ℕ)
+    → (b ++ take at p) ++ take n (take (length p - at) (drop at p)) ≡ b ++ take (at + n) p
+taken_then b p at n =
+    ap (λ (x : List ℕ). (b ++ take at p) ++ take n x) (behind at p)
+    ∙ append_assoc b (take at p) (take n (drop at p))
+    ∙ ap (λ (x : List ℕ). b ++ x) (sym (take-add at n p))
 
 -- a head without parts
 pub alone : (s : List KindView) (place : ℕ) (k : KindView) (h : Head) (bytes : List ℕ)

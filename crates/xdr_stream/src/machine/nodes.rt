@@ -1,5 +1,5 @@
 //! How nodes begin and end, whatever is made of them.
-ghost use Rattle.std.specs.Prelude.{◌≡◌, ℕ, pos, List, [], ◌∷◌, ◌++◌, IfSome, IfOk, IfErr, OnOk, true, false};
+ghost use Rattle.std.specs.Prelude.{◌≡◌, ℕ, pos, List, [], ◌∷◌, ◌++◌, IfOk, IfErr, OnOk, false};
 ghost use Rattle.xdr_types.specs.Kinds.{KindView};
 ghost use Rattle.xdr_types.specs.Within.{Bounds};
 ghost use Rattle.xdr_units.specs.Numbers.{num4};
@@ -8,7 +8,7 @@ ghost use Rattle.xdr_stream.specs.Trace.{Trace};
 ghost use Rattle.xdr_stream.specs.Private.Reported.{open_in};
 ghost use Rattle.xdr_stream.specs.Nodes.{head_of_node};
 ghost use Rattle.xdr_stream.specs.Sees.{Sees, IsReady};
-ghost use Rattle.xdr_stream.specs.Private.Moves.{Follows, EndsAs, GoesDeep, TakesUnit, RefusesUnit, Settles, reason_of};
+ghost use Rattle.xdr_stream.specs.Private.Moves.{Follows, EndsAs, GoesDeep, TakesUnit, RefusesUnit, reason_of};
 ghost use Rattle.xdr_stream.specs.Private.Moves.{SparesSeen};
 ghost use Rattle.xdr_stream.specs.Private.Live.{IsLive};
 ghost use Rattle.xdr_stream.specs.Private.Sound.{IsSound, AreAllSolid, HasNext, Starts, IsAwaited};
@@ -269,63 +269,5 @@ pub(crate) fn take_number<'s, B: Build>(
             *work = after(*work);
             Ok(Awaits::Content(size))
         }
-    }
-}
-
-// Whether the next part begins with a unit, and is not too deep.
-#[inline(always)]
-fn is_due<'s>(
-    schema: &'s Schema,
-    limits: Limits,
-    work: &Frame<'s>,
-    parents: &Stack<Frame<'s>>,
-) -> bool
-    requires { IsSound schema.now.kinds (stack_of work.now parents.now.items) }
-    ensures ready { result ≡ true → IsReady schema.now.kinds limits Next (stack_of work.now parents.now.items) }
-    ensures starts { result ≡ true → Starts schema.now.kinds (left_of work.now) }
-{
-    let _known = schema.len();
-    let Some(id) = next(work) else {
-        return false;
-    };
-    if limits.depth() as usize <= parents.len() {
-        return false;
-    }
-    match step_of(schema.kind(id)) {
-        Step::Unit => true,
-        _ => false,
-    }
-}
-
-/// Ends and begins what takes no byte, and tells what comes next; nothing, where the value is whole.
-#[inline(always)]
-pub(crate) fn settle<'s, B: Build>(
-    schema: &'s Schema,
-    limits: Limits,
-    work: &mut Frame<'s>,
-    parents: &mut Stack<Frame<'s>>,
-    built: &mut B,
-) -> Result<Option<Awaits>, Trouble>
-    requires { IsSound schema.now.kinds (stack_of work.old parents.old.items) }
-    ensures follows { IfOk result (λ o. (kind : ℕ) (q : List ℕ)
-        → Sees schema.now.kinds kind limits (B.reports built.old) Next (stack_of work.old parents.old.items) q
-        → Settles schema.now.kinds kind limits (B.reports built.new) (stack_of work.new parents.new.items) q o) }
-    ensures deep { IfErr result (GoesDeep schema.now.kinds limits (B.reports built.old)
-        (stack_of work.old parents.old.items)) }
-    ensures spared { IfErr result (λ e. SparesSeen B.spares schema.now.kinds limits (B.reports built.old) Next
-        (stack_of work.old parents.old.items) (reason_of e)) }
-    ensures sound { IsSound schema.now.kinds (stack_of work.new parents.new.items) }
-    ensures awaited { IfOk result (λ o. IfSome o (IsAwaited schema.now.kinds (left_of work.new))) }
-{
-    if is_due(schema, limits, work, parents) {
-        return Ok(Some(Awaits::Next));
-    }
-    pass_void(schema, limits, work, parents, built)?;
-    if end_nodes(work, parents, built)? {
-        return Ok(None);
-    }
-    match begin(schema, limits, work, parents, built) {
-        Ok(awaits) => Ok(Some(awaits)),
-        Err(trouble) => Err(trouble),
     }
 }

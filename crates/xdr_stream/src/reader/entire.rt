@@ -12,7 +12,6 @@ use crate::builder::Build;
 use crate::fault::Reason;
 use crate::machine::Awaits;
 use crate::machine::frame::after;
-use crate::machine::nodes::enter;
 use crate::reader::{Reader, State};
 use crate::runs::entire::{Vain, entire_due, is_left};
 
@@ -76,8 +75,27 @@ impl<'s, B: Build + Drop> Reader<'s, B> {
         at
     }
 
-    // Ends the nodes that have all their parts and begins structures, as long as parts follow that are there whole, and
-    // begins what comes next; tells how many bytes.
+    // Ends the nodes that have all their parts, or begins one, and takes the parts that come first then, as long as they
+    // are there whole; tells how many bytes. What comes next is not settled then.
+    #[inline(always)]
+    fn take_node(&mut self, bytes: &[u8], vain: &mut Vain) -> usize
+        requires { self.old.state ≡ Fresh }
+        ensures went { (q : List ℕ) → length q ≡ self.old.read → self.old.pending ≡ 0
+            → Sees self.old.schema.now.kinds self.old.kind.place self.old.limits (B.reports self.old.built) Next
+            (stack_of self.old.work self.old.parents.items) q
+            → Went B.spares B.reports self.new (q ++ take result bytes.now) }
+        ensures within { result ≤ length bytes.now }
+        ensures same { IsSame self.old self.new }
+    {
+        let (used, goes_on) = self.begin_next(bytes);
+        match self.state {
+            State::Fresh if goes_on => used + self.take_entire(&bytes[used..], vain),
+            _ => used,
+        }
+    }
+
+    // Ends the nodes that have all their parts and begins structures, unions and optionals, as long as they and parts
+    // follow that are there whole, and begins what comes next; tells how many bytes.
     fn settle_entire(&mut self, bytes: &[u8], vain: &mut Vain) -> usize
         requires { self.old.state ≡ Fresh }
         ensures represents { (q : List ℕ) → length q ≡ self.old.read → self.old.pending ≡ 0
@@ -90,21 +108,7 @@ impl<'s, B: Build + Drop> Reader<'s, B> {
     {
         let mut at = 0;
         while at < bytes.len() {
-            match enter(
-                self.schema,
-                self.limits,
-                &mut self.work,
-                &mut self.parents,
-                &mut self.built,
-            ) {
-                Ok(true) => {}
-                Ok(false) => break,
-                Err(_) => {
-                    self.fail(Reason::NoMemory);
-                    return at;
-                }
-            }
-            let n = self.take_entire(&bytes[at..], vain);
+            let n = self.take_node(&bytes[at..], vain);
             at += n;
             match self.state {
                 State::Fresh => {}

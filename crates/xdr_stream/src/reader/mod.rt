@@ -2,12 +2,13 @@
 //!
 //! - `start`: a reader before any byte. `due`: what is due then.
 //! - `pieces`: pieces of bytes, unit by unit. `parts`: what comes first at a part. `many`: many units at once.
-//! - `entire`: parts that are there whole.
+//! - `entire`: parts that are there whole. `choice`: nodes that end and begin between them.
 //! - `settling`: how reading goes on after what was taken.
 ghost use Rattle.xdr_stream.specs.Frames.{left_of};
 ghost use Rattle.xdr_stream.specs.Private.OneProof.{one_sound, one_wait};
 ghost use Rattle.xdr_stream.specs.Private.Sound.{IsSoundAt, Waits};
 
+pub(crate) mod choice;
 pub(crate) mod due;
 pub(crate) mod entire;
 pub(crate) mod many;

@@ -12,7 +12,7 @@ ghost use Rattle.xdr_stream.specs.declared.reader.State.TheVariants.{Fresh};
 
 use crate::builder::Build;
 use crate::fault::{DecodeFault, Reason};
-use crate::machine::nodes::settle;
+use crate::machine::coming::settle;
 use crate::machine::unit::take_unit;
 use crate::machine::{Awaits, reason_of};
 use crate::reader::{Reader, State};

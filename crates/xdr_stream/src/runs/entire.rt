@@ -9,7 +9,7 @@ use xdr_types::{Kind, KindId, Limits, Schema};
 /// How many bytes are looked at for a part at most, so that what is looked at in vain is bounded.
 const MOST_BYTES: usize = 65536;
 
-/// Of fewer bytes a part is not gone into: of a short piece the most parts end behind it.
+/// Of fewer bytes no part is taken whose bytes vary: in a short piece the most of them end behind it.
 const LEAST_BYTES: usize = 64;
 
 /// A part that may be there whole.
@@ -110,12 +110,12 @@ fn most_of(limits: Limits, read: usize, there: usize) -> usize
     there.min(space).min(MOST_BYTES)
 }
 
-/// Whether a part is left to the machine, since a look at it goes into it, where it has parts and bytes that vary: few
-/// bytes are there, or a part was looked at in vain up to a place behind it.
+/// Whether a part is left to the machine, of which the bytes vary: few are there, or a look would go into it, and a part
+/// was looked at in vain up to a place behind it.
 #[inline(always)]
 pub(crate) fn is_left(schema: &Schema, part: Entire, read: usize, vain: Vain) -> bool {
-    if read >= vain.until && part.most >= LEAST_BYTES {
-        return false;
+    if part.most < LEAST_BYTES {
+        return schema.extent(part.kind).is_none();
     }
-    part.levels > 1 && schema.extent(part.kind).is_none()
+    read < vain.until && part.levels > 1 && schema.extent(part.kind).is_none()
 }

@@ -1,57 +1,38 @@
-use Rattle.std.proofs.Common.{◌≡◌, ◌+◌, ◌-◌, ℕ, List, ◌++◌, length, take, drop, subst, sym, ap, ◌∙◌, append_assoc}
+use Rattle.std.proofs.Common.{◌≡◌, ◌-◌, ℕ, List, ◌++◌, length, take, drop, subst, sym, ◌∙◌}
 use Rattle.std.proofs.Common.{arith}
 use Rattle.std.proofs.lemmas.List.{length-take, length-drop}
-use Rattle.std.proofs.Math.Seq.{take-add}
 use Rattle.xdr_stream.specs.Frames.{stack_of}
 use Rattle.xdr_stream.specs.Private.Entire.{Went, WentAs}
 use Rattle.xdr_stream.specs.Represents.{RepresentsBytes}
 use Rattle.xdr_stream.specs.declared.reader.State.{State}
 use Rattle.xdr_stream.proofs.Entire.{went_on, awake_of}
-use Rattle.xdr_stream.proofs.Judged.{behind}
+use Rattle.xdr_stream.proofs.Judged.{taken_then}
+use Rattle.xdr_stream.specs.declared.reader.State.TheVariants.{Fresh}
+use Rattle.xdr_stream.proofs.reader.Reader.settle_entire.Goals.{else-loop-at-test, then-loop-at-test+in-Fresh+then-n-eq0}
 use Rattle.xdr_stream.proofs.reader.Reader.settle_entire.Goals as goal
-
-pub returns-in-Err-clause-represents : goal.returns-in-Err-clause-represents
-returns-in-Err-clause-represents g c = λ q len none seen.
-    let i = c.loop-at.invariant in
-    let r = c.loop-at.self in
-    let bs : List ℕ = c.args.bytes.now in
-    let w = subst (λ (x : State). WentAs g.B.Build.spares r.schema.now.kinds r.kind.place r.limits
-    (g.B.Build.reports r.built) (stack_of r.work r.parents.items) r.read r.unit r.pending x
-    (q ++ take c.loop-at.at bs)) i.2 (i.3 q len none seen) in
-    c.fail.ensures.represents (q ++ take c.loop-at.at bs) (λ rest. tt) (omega (arith, w.0))
-    (c.in-Err.ensures.spared r.kind.place (q ++ take c.loop-at.at bs) w.2)
-
--- the bytes before a place, and some behind it
-joined : (b p : List ℕ) (at n : ℕ)
-    → (b ++ take at p) ++ take n (take (length p - at) (drop at p)) ≡ b ++ take (at + n) p
-joined b p at n =
-    ap (λ (x : List ℕ). (b ++ take at p) ++ take n x) (behind at p)
-    ∙ append_assoc b (take at p) (take n (drop at p))
-    ∙ ap (λ (x : List ℕ). b ++ x) (sym (take-add at n p))
 
 pub returns-in_default : goal.returns-in_default
 returns-in_default g c =
     let i = c.loop-at.invariant in
     let r = c.loop-at.self in
-    let e = c.take_entire-n.new.self in
+    let e = c.take_node-n.new.self in
     let bs : List ℕ = c.args.bytes.now in
     let at : ℕ = c.loop-at.at in
-    let n : ℕ = c.take_entire-n.result in
-    let same = c.take_entire-n.ensures.same in record {
+    let n : ℕ = c.take_node-n.result in
+    let same = c.take_node-n.ensures.same in record {
       represents = λ q len none seen.
           let w = subst (λ (x : State). WentAs g.B.Build.spares r.schema.now.kinds r.kind.place r.limits
           (g.B.Build.reports r.built) (stack_of r.work r.parents.items) r.read r.unit r.pending x
           (q ++ take at bs)) i.2 (i.3 q len none seen) in
-          let after = c.in-Ok-true.ensures.follows r.kind.place (q ++ take at bs) w.2 in
-          subst (λ (x : List ℕ). RepresentsBytes g.B.Build.spares g.B.Build.reports e x) (joined q bs at n)
+          subst (λ (x : List ℕ). RepresentsBytes g.B.Build.spares g.B.Build.reports e x) (taken_then q bs at n)
           (went_on g.B.Build.spares e.schema.now.kinds e.kind.place e.limits (g.B.Build.reports e.built)
           (stack_of e.work e.parents.items) e.read e.unit e.pending
           ((q ++ take at bs) ++ take n (take (length bs - at) (drop at bs))) e.state
-          c.in_default.not-Fresh (c.take_entire-n.ensures.went (q ++ take at bs) w.0 w.1 after));
+          c.in_default.not-Fresh (c.take_node-n.ensures.went (q ++ take at bs) w.0 w.1 w.2));
       within = omega (
         arith,
         i.0,
-        c.take_entire-n.ensures.within,
+        c.take_node-n.ensures.within,
         length-take (length bs - at) (drop at bs),
         length-drop at bs,
       );
@@ -67,15 +48,15 @@ pub loop-at-preserved : goal.loop-at-preserved
 loop-at-preserved g c =
     let i = c.loop-at.invariant in
     let r = c.loop-at.self in
-    let e = c.take_entire-n.new.self in
+    let e = c.take_node-n.new.self in
     let bs : List ℕ = c.args.bytes.now in
     let at : ℕ = c.loop-at.at in
-    let n : ℕ = c.take_entire-n.result in
-    let same = c.take_entire-n.ensures.same in (
+    let n : ℕ = c.take_node-n.result in
+    let same = c.take_node-n.ensures.same in (
       omega (
         arith,
         i.0,
-        c.take_entire-n.ensures.within,
+        c.take_node-n.ensures.within,
         length-take (length bs - at) (drop at bs),
         length-drop at bs,
       ),
@@ -89,7 +70,38 @@ loop-at-preserved g c =
           let w = subst (λ (x : State). WentAs g.B.Build.spares r.schema.now.kinds r.kind.place r.limits
           (g.B.Build.reports r.built) (stack_of r.work r.parents.items) r.read r.unit r.pending x
           (q ++ take at bs)) i.2 (i.3 q len none seen) in
-          let after = c.in-Ok-true.ensures.follows r.kind.place (q ++ take at bs) w.2 in
-          subst (λ (x : List ℕ). Went g.B.Build.spares g.B.Build.reports e x) (joined q bs at n)
-          (c.take_entire-n.ensures.went (q ++ take at bs) w.0 w.1 after),
+          subst (λ (x : List ℕ). Went g.B.Build.spares g.B.Build.reports e x) (taken_then q bs at n)
+          (c.take_node-n.ensures.went (q ++ take at bs) w.0 w.1 w.2),
     )
+
+pub returns-clause-represents : goal.returns-clause-represents
+returns-clause-represents g c = λ q len none seen.
+    let i = c.loop-at.invariant in
+    let bs : List ℕ = c.args.bytes.now in
+    let l = c.loop-at-test.self in
+    let at : ℕ = c.loop-at-test.at in
+    let b : List ℕ = q ++ take at bs in
+    let there : (l.state ≡ Fresh) × Went g.B.Build.spares g.B.Build.reports l b =
+    elim c.loop-at-test.branch [
+      | else-loop-at-test w ↦ subst (λ x. (x.state ≡ Fresh) × Went g.B.Build.spares g.B.Build.reports x b) (sym w.self-is) (
+        i.2,
+        subst (λ (k : ℕ). Went g.B.Build.spares g.B.Build.reports c.loop-at.self (q ++ take k bs)) (sym w.at-is)
+            (i.3 q len none seen),
+      )
+      | then-loop-at-test+in-Fresh+then-n-eq0 w ↦
+          let r = c.loop-at.self in
+          let e = w.take_node-n.new.self in
+          let n : ℕ = w.take_node-n.result in
+          let v = subst (λ (x : State). WentAs g.B.Build.spares r.schema.now.kinds r.kind.place r.limits
+          (g.B.Build.reports r.built) (stack_of r.work r.parents.items) r.read r.unit r.pending x
+          (q ++ take c.loop-at.at bs)) i.2 (i.3 q len none seen) in
+          subst (λ x. (x.state ≡ Fresh) × Went g.B.Build.spares g.B.Build.reports x b) (sym w.self-is) (
+            w.in-Fresh.is,
+            subst (λ (k : ℕ). Went g.B.Build.spares g.B.Build.reports e (q ++ take k bs)) (sym w.at-is)
+                (subst (λ (x : List ℕ). Went g.B.Build.spares g.B.Build.reports e x) (taken_then q bs c.loop-at.at n)
+                (w.take_node-n.ensures.went (q ++ take c.loop-at.at bs) v.0 v.1 v.2)),
+          )
+    ] in
+    let w = subst (λ (x : State). WentAs g.B.Build.spares l.schema.now.kinds l.kind.place l.limits
+    (g.B.Build.reports l.built) (stack_of l.work l.parents.items) l.read l.unit l.pending x b) there.0 there.1 in
+    c.settle.ensures.represents b w.0 w.1 tt w.2

@@ -4,7 +4,7 @@ use Rattle.xdr_stream.specs.Private.Moves.{EndsAs}
 use Rattle.xdr_stream.proofs.SeeingNodes.{goes_deep}
 use Rattle.xdr_stream.proofs.Sounding.{solid_sound}
 use Rattle.std.proofs.lemmas.Result.{err_from_is_err_and}
-use Rattle.xdr_stream.proofs.machine.nodes.settle.Goals as goal
+use Rattle.xdr_stream.proofs.machine.coming.settle.Goals as goal
 
 pub returns-in_err-end_nodes-clause-sound : goal.returns-in_err-end_nodes-clause-sound
 returns-in_err-end_nodes-clause-sound g c =

@@ -7,7 +7,7 @@ use Rattle.xdr_stream.specs.Steps.{IsStep}
 use Rattle.xdr_stream.specs.declared.machine.step.Step.{Step}
 use Rattle.xdr_stream.proofs.SeeingNodes.{is_next, ready_next}
 use Rattle.xdr_stream.proofs.Sounding.{first_known, starts_first}
-use Rattle.xdr_stream.proofs.machine.nodes.is_due.Goals as goal
+use Rattle.xdr_stream.proofs.machine.coming.is_due.Goals as goal
 
 pub kind-requires : goal.kind-requires
 kind-requires c = record {
