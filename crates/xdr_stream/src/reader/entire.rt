@@ -13,7 +13,7 @@ use crate::fault::Reason;
 use crate::machine::Awaits;
 use crate::machine::frame::after;
 use crate::reader::{Reader, State};
-use crate::runs::entire::{Vain, entire_due, is_left};
+use crate::runs::entire::{LEAST_BYTES, Vain, entire_due, is_left};
 
 impl<'s, B: Build + Drop> Reader<'s, B> {
     // Takes the parts of the node at work that come first, as long as they are there whole; tells how many bytes. What
@@ -135,7 +135,7 @@ impl<'s, B: Build + Drop> Reader<'s, B> {
         ensures taken { (result ≤ length bytes.now) × (self.old.state ≡ Reading Next → IsAwake self.new.state) }
         ensures same { IsSame self.old self.new }
     {
-        if self.read == vain.at {
+        if bytes.len() < LEAST_BYTES || self.read == vain.at {
             return 0;
         }
         // A state that asks nothing of the nodes at work, which change now: what they await is settled after.
@@ -163,6 +163,10 @@ impl<'s, B: Build + Drop> Reader<'s, B> {
         ensures awake { IsAwake self.new.state }
         ensures same { IsSame self.old self.new }
     {
+        if bytes.len() < LEAST_BYTES {
+            self.settle(Awaits::Next);
+            return 0;
+        }
         let n = self.take_entire(bytes, vain);
         match self.state {
             State::Fresh => n + self.settle_entire(&bytes[n..], vain),

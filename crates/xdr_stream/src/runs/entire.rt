@@ -9,8 +9,8 @@ use xdr_types::{Kind, KindId, Limits, Schema};
 /// How many bytes are looked at for a part at most, so that what is looked at in vain is bounded.
 const MOST_BYTES: usize = 65536;
 
-/// Of fewer bytes no part is taken whose bytes vary: in a short piece the most of them end behind it.
-const LEAST_BYTES: usize = 64;
+/// Of fewer bytes no part is looked for: in a short piece the most of them end behind it.
+pub(crate) const LEAST_BYTES: usize = 64;
 
 /// A part that may be there whole.
 #[derive(Clone, Copy)]
