@@ -149,6 +149,7 @@ fn is_there(schema: &Schema, id: KindId, bytes: &[u8], levels: u32) -> bool
 
 // The same of a kind that begins with a unit.
 #[cycle(made)]
+#[inline(always)]
 fn unit_in<'s>(
     alloc: Global,
     schema: &'s Schema,
@@ -190,6 +191,7 @@ fn unit_in<'s>(
 
 // The value of a node that has the parts of a frame, which the bytes have next.
 #[cycle(made)]
+#[inline(always)]
 fn node_in(
     alloc: Global,
     schema: &Schema,
@@ -234,6 +236,7 @@ fn node_in(
 
 // The value of the only part of a frame, and the node around it is counted.
 #[cycle(made)]
+#[inline(always)]
 fn only_in(
     alloc: Global,
     schema: &Schema,

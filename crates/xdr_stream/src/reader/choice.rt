@@ -12,13 +12,14 @@ use crate::builder::Build;
 use crate::fault::Reason;
 use crate::machine::Awaits;
 use crate::machine::coming::is_choice_due;
+use crate::machine::frame::Frame;
 use crate::machine::nodes::enter;
 use crate::machine::unit::{take_unit, unit_at};
 use crate::reader::Reader;
 
 impl<'s, B: Build + Drop> Reader<'s, B> {
     /// Ends the nodes that have all their parts, or begins the structure, the union or the optional that comes next;
-    /// tells how many bytes that took, and whether a part may come next. What comes next is not settled then.
+    /// tells how many bytes that took, and whether a part may come next that is there whole. What comes next is not settled then.
     #[inline(always)]
     pub(crate) fn begin_next(&mut self, bytes: &[u8]) -> (usize, bool)
         requires { self.old.state ≡ Fresh }
@@ -47,7 +48,17 @@ impl<'s, B: Build + Drop> Reader<'s, B> {
             return (0, false);
         }
         self.take_choice(&unit_at(bytes, 0));
-        (4, true)
+        (4, self.is_bounded())
+    }
+
+    // Whether the part that comes next may be one that is there whole: of an optional that names itself, as the rest of a
+    // list does, none is.
+    #[inline(always)]
+    fn is_bounded(&self) -> bool {
+        match self.work {
+            Frame::Items { item, .. } => self.schema.levels(item).is_some(),
+            _ => true,
+        }
     }
 
     // Whether a union or an optional comes next, of which the first unit is among so many bytes, and no limit is reached.
