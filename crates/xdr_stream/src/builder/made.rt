@@ -26,7 +26,7 @@ use xdr_types::{Kind, KindId, Schema, Value};
 
 // The value that the bytes have next, where they have one of the kind, of at most so many levels. It is counted. For a
 // number nothing is called, and for a string it does not go into the kind. `looked` tells that the value was found to
-// be there; else nothing is made of it before it is.
+// be there, or most likely is; else nothing is made of it before it is found.
 #[cycle(made)]
 #[inline(always)]
 fn part_in(

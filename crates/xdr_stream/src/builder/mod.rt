@@ -118,12 +118,13 @@ pub trait Build {
         ensures granted { spares → IsOk result };
 
     /// A part, where bytes begin with its value, of at most so many levels; how many of them it has, and 0 where they
-    /// do not. It has taken nothing then.
+    /// do not. It has taken nothing then. Where it is likely that they do, it may be made without a look at them first.
     fn part(
         &mut self,
         schema: &Schema,
         kind: KindId,
         levels: u32,
+        likely: bool,
         bytes: &[u8],
     ) -> Result<usize, AllocError>
         requires { kind.place < length schema.now.kinds }

@@ -60,6 +60,7 @@ impl Build for Nothing {
         schema: &Schema,
         kind: KindId,
         levels: u32,
+        _: bool,
         bytes: &[u8],
     ) -> Result<usize, AllocError> {
         if levels == 0 {

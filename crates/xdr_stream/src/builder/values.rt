@@ -208,6 +208,7 @@ impl Build for Values {
         schema: &Schema,
         kind: KindId,
         levels: u32,
+        likely: bool,
         bytes: &[u8],
     ) -> Result<usize, AllocError> {
         if levels == 0 {
@@ -229,9 +230,8 @@ impl Build for Values {
             content: self.retained,
             at: 0,
         };
-        // Nothing is made of bytes that are refused, or that are not all there.
         let alloc = self.alloc;
-        let Some(value) = other_in(alloc, schema, kind, bytes, levels, false, &mut tally)? else {
+        let Some(value) = other_in(alloc, schema, kind, bytes, levels, likely, &mut tally)? else {
             return Ok(0);
         };
         if tally.at == 0 {

@@ -13,7 +13,7 @@ use crate::fault::Reason;
 use crate::machine::Awaits;
 use crate::machine::frame::after;
 use crate::reader::{Reader, State};
-use crate::runs::entire::{LEAST_BYTES, Vain, entire_due, is_left};
+use crate::runs::entire::{Entire, LEAST_BYTES, Vain, entire_due, is_left};
 
 impl<'s, B: Build + Drop> Reader<'s, B> {
     // Takes the parts of the node at work that come first, as long as they are there whole; tells how many bytes. What
@@ -54,7 +54,11 @@ impl<'s, B: Build + Drop> Reader<'s, B> {
                 return at;
             }
             let given = &bytes[at..at + part.most];
-            match self.built.part(self.schema, part.kind, part.levels, given) {
+            let likely = part.is_likely();
+            match self
+                .built
+                .part(self.schema, part.kind, part.levels, likely, given)
+            {
                 Ok(n) => {
                     if n == 0 {
                         vain.at = self.read;
@@ -64,7 +68,7 @@ impl<'s, B: Build + Drop> Reader<'s, B> {
                     self.work = after(self.work);
                     self.read = self.read.saturating_add(n);
                     at += n;
-                    before = Some(part);
+                    before = Some(Entire { before: n, ..part });
                 }
                 Err(_) => {
                     self.fail(Reason::NoMemory);

@@ -21,6 +21,16 @@ pub struct Entire {
     pub levels: u32,
     /// How many of the bytes it may have.
     pub most: usize,
+    /// How many bytes the part before it took, where that has the same kind; else 0.
+    pub before: usize,
+}
+
+impl Entire {
+    /// Whether it most likely is there whole: four times as many bytes are there as the part before it took.
+    #[inline(always)]
+    pub(crate) fn is_likely(self) -> bool {
+        self.before > 0 && self.most / 4 >= self.before
+    }
 }
 
 /// What was looked at in vain in a piece, by counts of bytes of the value, so that no byte of it is looked at twice for
@@ -82,6 +92,7 @@ pub(crate) fn entire_due(
                 kind,
                 levels: part.levels,
                 most: most_of(limits, read, there),
+                before: part.before,
             });
         }
     }
@@ -97,6 +108,7 @@ pub(crate) fn entire_due(
         kind,
         levels,
         most: most_of(limits, read, there),
+        before: 0,
     })
 }
 
