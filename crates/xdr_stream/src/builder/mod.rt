@@ -1,7 +1,7 @@
 //! What is made of the nodes that are read.
 //!
-//! - `values`: a value. `level`: a node of it at work. `made`: a part of it at once; `taken`: such a part without parts;
-//!   `tally`: what is counted of them. `nothing`: nothing.
+//! - `values`: a value. `level`: a node of it at work. `nothing`: nothing.
+//! - `made`: a part of a value at once. `taken`: one without parts. `tally`: what is counted of them.
 ghost use Rattle.std.specs.Prelude.{◌≡◌, ◌<◌, ◌≤◌, ◌%◌, List, ℕ, length, take, OnOk, IfOk, IsOk};
 ghost use Rattle.std.specs.Int.{w64, from_be_bytes};
 ghost use Rattle.xdr_stream.specs.Trace.{Trace, at_start};

@@ -1,4 +1,4 @@
-//! Nodes that end and begin between parts that are there whole: structures, and unions and optionals by their first unit.
+//! Nodes that end and begin between parts that are there whole: structures, unions and optionals.
 ghost use Rattle.std.specs.Prelude.{◌≡◌, ◌≤◌, ℕ, List, ◌++◌, length, take, true};
 ghost use Rattle.xdr_stream.specs.Frames.{left_of, stack_of};
 ghost use Rattle.xdr_stream.specs.Sees.{Sees, IsReady};
@@ -15,11 +15,12 @@ use crate::machine::coming::is_choice_due;
 use crate::machine::frame::Frame;
 use crate::machine::nodes::enter;
 use crate::machine::unit::{take_unit, unit_at};
-use crate::reader::Reader;
+use crate::reader::{Reader, State};
 
 impl<'s, B: Build + Drop> Reader<'s, B> {
-    /// Ends the nodes that have all their parts, or begins the structure, the union or the optional that comes next;
-    /// tells how many bytes that took, and whether a part may come next that is there whole. What comes next is not settled then.
+    /// Begins the union or the optional that comes next by its first unit, else the structure, or ends the nodes that
+    /// have all their parts. Tells how many bytes that took, and whether a part may come next that is there whole. What
+    /// comes next is not settled then.
     #[inline(always)]
     pub(crate) fn begin_next(&mut self, bytes: &[u8]) -> (usize, bool)
         requires { self.old.state ≡ Fresh }
@@ -30,6 +31,26 @@ impl<'s, B: Build + Drop> Reader<'s, B> {
         ensures within { result.0 ≤ length bytes.now }
         ensures same { IsSame self.old self.new }
     {
+        if !self.is_choice_due(bytes.len()) {
+            return (0, self.enter_next());
+        }
+        self.take_choice(&unit_at(bytes, 0));
+        match self.state {
+            State::Fresh if !self.is_bounded() => (4, self.enter_next()),
+            _ => (4, true),
+        }
+    }
+
+    // Ends the nodes that have all their parts, or begins the structure that comes next; whether a part may come next.
+    #[inline(always)]
+    fn enter_next(&mut self) -> bool
+        requires { self.old.state ≡ Fresh }
+        ensures went { (q : List ℕ) → length q ≡ self.old.read → self.old.pending ≡ 0
+            → Sees self.old.schema.now.kinds self.old.kind.place self.old.limits (B.reports self.old.built) Next
+            (stack_of self.old.work self.old.parents.items) q
+            → Went B.spares B.reports self.new q }
+        ensures same { IsSame self.old self.new }
+    {
         match enter(
             self.schema,
             self.limits,
@@ -37,22 +58,16 @@ impl<'s, B: Build + Drop> Reader<'s, B> {
             &mut self.parents,
             &mut self.built,
         ) {
-            Ok(true) => return (0, true),
-            Ok(false) => {}
+            Ok(entered) => entered,
             Err(_) => {
                 self.fail(Reason::NoMemory);
-                return (0, false);
+                false
             }
         }
-        if !self.is_choice_due(bytes.len()) {
-            return (0, false);
-        }
-        self.take_choice(&unit_at(bytes, 0));
-        (4, self.is_bounded())
     }
 
-    // Whether the part that comes next may be one that is there whole: of an optional that names itself, as the rest of a
-    // list does, none is.
+    // Whether the part that comes next may be one that is there whole: none is that names itself, as the rest of a list
+    // does.
     #[inline(always)]
     fn is_bounded(&self) -> bool {
         match self.work {
@@ -61,7 +76,7 @@ impl<'s, B: Build + Drop> Reader<'s, B> {
         }
     }
 
-    // Whether a union or an optional comes next, of which the first unit is among so many bytes, and no limit is reached.
+    // Whether a union or an optional comes next, of which the first unit is among so many bytes, before any limit.
     #[inline(always)]
     fn is_choice_due(&self, there: usize) -> bool
         ensures ready { result ≡ true → IsReady self.now.schema.now.kinds self.now.limits Next

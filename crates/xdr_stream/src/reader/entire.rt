@@ -79,8 +79,8 @@ impl<'s, B: Build + Drop> Reader<'s, B> {
         at
     }
 
-    // Ends the nodes that have all their parts, or begins one, and takes the parts that come first then, as long as they
-    // are there whole; tells how many bytes. What comes next is not settled then.
+    // Ends the nodes that have all their parts, or begins one, and takes the parts that come first then, as long as
+    // they are there whole; tells how many bytes. What comes next is not settled then.
     #[inline(always)]
     fn take_node(&mut self, bytes: &[u8], vain: &mut Vain) -> usize
         requires { self.old.state ≡ Fresh }
