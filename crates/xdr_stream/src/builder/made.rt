@@ -11,6 +11,7 @@ ghost use Rattle.xdr_stream.specs.Private.Sound.{AreKnown};
 ghost use Rattle.xdr_stream.specs.Private.Made.{IsMade, AreMade, IsNode, IsOnly, Counts};
 
 use crate::builder::Node;
+use crate::builder::look::Look;
 use crate::builder::taken::{content_in, whole_in, wide_in};
 use crate::builder::tally::{Tally, count_node};
 use crate::builder::values::value_of;
@@ -25,8 +26,8 @@ use std::alloc::{AllocError, Global};
 use xdr_types::{Kind, KindId, Schema, Value};
 
 // The value that the bytes have next, where they have one of the kind, of at most so many levels. It is counted. For a
-// number nothing is called, and for a string it does not go into the kind. `looked` tells that the value was found to
-// be there, or most likely is; else nothing is made of it before it is found.
+// number nothing is called, and for a string it does not go into the kind. What is known of
+// its being there is a `Look`.
 #[cycle(made)]
 #[inline(always)]
 fn part_in(
@@ -35,7 +36,7 @@ fn part_in(
     id: KindId,
     bytes: &[u8],
     levels: u32,
-    looked: bool,
+    look: Look,
     tally: &mut Tally,
 ) -> Result<Option<Value>, AllocError>
     requires known { id.place < length schema.now.kinds }
@@ -47,7 +48,7 @@ fn part_in(
         count_node(tally);
         return Ok(Some(value_of(alloc, leaf)));
     }
-    other_in(alloc, schema, id, bytes, levels, looked, tally)
+    other_in(alloc, schema, id, bytes, levels, look, tally)
 }
 
 /// The same of a part that is no number.
@@ -59,7 +60,7 @@ pub(crate) fn other_in(
     id: KindId,
     bytes: &[u8],
     levels: u32,
-    looked: bool,
+    look: Look,
     tally: &mut Tally,
 ) -> Result<Option<Value>, AllocError>
     requires known { id.place < length schema.now.kinds }
@@ -73,7 +74,7 @@ pub(crate) fn other_in(
     if is_counted(schema.kind(id)) {
         return Ok(None);
     }
-    value_in(alloc, schema, id, bytes, levels, looked, tally)
+    value_in(alloc, schema, id, bytes, levels, look, tally)
 }
 
 // The same, whatever the kind is.
@@ -84,7 +85,7 @@ fn value_in(
     id: KindId,
     bytes: &[u8],
     levels: u32,
-    looked: bool,
+    look: Look,
     tally: &mut Tally,
 ) -> Result<Option<Value>, AllocError>
     requires known { id.place < length schema.now.kinds }
@@ -95,12 +96,12 @@ fn value_in(
         return Ok(None);
     }
     let _known = schema.len();
-    if !looked && !is_there(schema, id, &bytes[tally.at..], levels) {
+    if look.is_due() && !is_there(schema, id, &bytes[tally.at..], levels) {
         return Ok(None);
     }
     let kind = schema.kind(id);
     match step_of(kind) {
-        Step::Unit => unit_in(alloc, schema, id, kind, bytes, levels, looked, tally),
+        Step::Unit => unit_in(alloc, schema, id, kind, bytes, levels, look, tally),
         Step::Fields(fields) => {
             let frame = Frame::Fields { fields };
             node_in(
@@ -110,7 +111,7 @@ fn value_in(
                 frame,
                 bytes,
                 levels - 1,
-                true,
+                look.inside(),
                 tally,
             )
         }
@@ -123,7 +124,7 @@ fn value_in(
                 frame,
                 bytes,
                 levels - 1,
-                true,
+                look.inside(),
                 tally,
             )
         }
@@ -157,7 +158,7 @@ fn unit_in<'s>(
     kind: &'s Kind,
     bytes: &[u8],
     levels: u32,
-    looked: bool,
+    look: Look,
     tally: &mut Tally,
 ) -> Result<Option<Value>, AllocError>
     requires known { (id.place < length schema.now.kinds) × (tally.old.at ≤ length bytes.now) × (0 < levels) }
@@ -179,7 +180,7 @@ fn unit_in<'s>(
             Ok(Some(value_of(alloc, leaf)))
         }
         Made::Open(node, frame) => {
-            let value = node_in(alloc, schema, node, frame, bytes, levels - 1, looked, tally)?;
+            let value = node_in(alloc, schema, node, frame, bytes, levels - 1, look, tally)?;
             Ok(value)
         }
         Made::Length(size) => {
@@ -199,7 +200,7 @@ fn node_in(
     frame: Frame<'_>,
     bytes: &[u8],
     levels: u32,
-    looked: bool,
+    look: Look,
     tally: &mut Tally,
 ) -> Result<Option<Value>, AllocError>
     requires known { AreKnown schema.now.kinds (left_of frame) }
@@ -209,25 +210,25 @@ fn node_in(
         bytes.now tally.old tally.new)) }
 {
     match node {
-        Node::Items(_) => match values_in(alloc, schema, frame, bytes, levels, tally)? {
+        Node::Items(_) => match values_in(alloc, schema, frame, bytes, levels, look, tally)? {
             Some(items) => {
                 count_node(tally);
                 Ok(Some(list_value(items)))
             }
             None => Ok(None),
         },
-        Node::Fields(_) => match values_in(alloc, schema, frame, bytes, levels, tally)? {
+        Node::Fields(_) => match values_in(alloc, schema, frame, bytes, levels, look, tally)? {
             Some(fields) => {
                 count_node(tally);
                 Ok(Some(Value::Group(fields)))
             }
             None => Ok(None),
         },
-        Node::Tag(tag) => match only_in(alloc, schema, frame, bytes, levels, looked, tally)? {
+        Node::Tag(tag) => match only_in(alloc, schema, frame, bytes, levels, look, tally)? {
             Some(part) => Ok(Some(Value::Choice { tag, part })),
             None => Ok(None),
         },
-        Node::Present => match only_in(alloc, schema, frame, bytes, levels, looked, tally)? {
+        Node::Present => match only_in(alloc, schema, frame, bytes, levels, look, tally)? {
             Some(part) => Ok(Some(Value::Maybe(Some(part)))),
             None => Ok(None),
         },
@@ -243,7 +244,7 @@ fn only_in(
     frame: Frame<'_>,
     bytes: &[u8],
     levels: u32,
-    looked: bool,
+    look: Look,
     tally: &mut Tally,
 ) -> Result<Option<Box<Value>>, AllocError>
     requires known { AreKnown schema.now.kinds (left_of frame) }
@@ -255,7 +256,7 @@ fn only_in(
     let Some(id) = next(&frame) else {
         return Ok(None);
     };
-    let Some(value) = part_in(alloc, schema, id, bytes, levels, looked, tally)? else {
+    let Some(value) = part_in(alloc, schema, id, bytes, levels, look, tally)? else {
         return Ok(None);
     };
     count_node(tally);
@@ -270,6 +271,7 @@ fn values_in(
     frame: Frame<'_>,
     bytes: &[u8],
     levels: u32,
+    look: Look,
     tally: &mut Tally,
 ) -> Result<Option<Vec<Value>>, AllocError>
     requires known { AreKnown schema.now.kinds (left_of frame) }
@@ -279,10 +281,11 @@ fn values_in(
 {
     // Each part has a unit at least.
     let space = parts_of(&frame).min((bytes.len() - tally.at) / 4);
+    let space = look.space_of(space);
     let mut values = Vec::with_capacity(alloc, space)?;
     let mut frame = frame;
     while let Some(id) = next(&frame) {
-        let Some(value) = part_in(alloc, schema, id, bytes, levels, true, tally)? else {
+        let Some(value) = part_in(alloc, schema, id, bytes, levels, look, tally)? else {
             return Ok(None);
         };
         values.push(value)?;

@@ -1,7 +1,8 @@
 //! What is made of the nodes that are read.
 //!
 //! - `values`: a value. `level`: a node of it at work. `nothing`: nothing.
-//! - `made`: a part of a value at once. `taken`: one without parts. `tally`: what is counted of them.
+//! - `made`: a part of a value at once. `taken`: one without parts. `tally`: what is counted of them. `look`: what is
+//!   known of its being there.
 ghost use Rattle.std.specs.Prelude.{◌≡◌, ◌<◌, ◌≤◌, ◌%◌, List, ℕ, length, take, OnOk, IfOk, IsOk};
 ghost use Rattle.std.specs.Int.{w64, from_be_bytes};
 ghost use Rattle.xdr_stream.specs.Trace.{Trace, at_start};
@@ -14,6 +15,7 @@ ghost use Rattle.xdr_stream.specs.Nodes.{head_of_leaf, head_of_node};
 ghost use Rattle.xdr_stream.specs.Private.Runs.{numbers_in, hypers_in};
 
 pub mod level;
+pub mod look;
 pub mod made;
 pub mod nothing;
 pub mod taken;

@@ -10,6 +10,7 @@ ghost use Rattle.xdr_stream.specs.Private.Reported.{HasSpace, leaf_in, leaf_tree
 ghost use Rattle.xdr_stream.specs.Values.{Reports};
 
 use crate::builder::level::{Level, add, add_item, begun, closed};
+use crate::builder::look::Look;
 use crate::builder::made::other_in;
 use crate::builder::tally::Tally;
 use crate::builder::{Build, Leaf, Node, hyper_leaf};
@@ -231,7 +232,8 @@ impl Build for Values {
             at: 0,
         };
         let alloc = self.alloc;
-        let Some(value) = other_in(alloc, schema, kind, bytes, levels, likely, &mut tally)? else {
+        let look = if likely { Look::Spared } else { Look::Due };
+        let Some(value) = other_in(alloc, schema, kind, bytes, levels, look, &mut tally)? else {
             return Ok(0);
         };
         if tally.at == 0 {

@@ -61,8 +61,7 @@ impl<'s, B: Build + Drop> Reader<'s, B> {
             {
                 Ok(n) => {
                     if n == 0 {
-                        vain.at = self.read;
-                        vain.until = self.read.saturating_add(part.most);
+                        vain.note(self.schema, part, self.read);
                         return at;
                     }
                     self.work = after(self.work);

@@ -12,6 +12,9 @@ const MOST_BYTES: usize = 65536;
 /// Of fewer bytes no part is looked for: in a short piece the most of them end behind it.
 pub(crate) const LEAST_BYTES: usize = 64;
 
+/// A part of fewer bytes tells nothing of how long the next one is, as a void arm of a union does.
+const LEAST_BEFORE: usize = 32;
+
 /// A part that may be there whole.
 #[derive(Clone, Copy)]
 pub struct Entire {
@@ -29,7 +32,7 @@ impl Entire {
     /// Whether it most likely is there whole: four times as many bytes are there as the part before it took.
     #[inline(always)]
     pub(crate) fn is_likely(self) -> bool {
-        self.before > 0 && self.most / 4 >= self.before
+        self.before >= LEAST_BEFORE && self.most / 4 >= self.before
     }
 }
 
@@ -39,8 +42,10 @@ impl Entire {
 pub struct Vain {
     /// Where no part was taken.
     pub at: usize,
-    /// Up to where parts were looked at.
+    /// Up to where a part was looked at whose bytes vary, in vain.
     pub until: usize,
+    /// Up to where a part of one size has its bytes, which are there and are no value.
+    pub refused: usize,
 }
 
 impl Vain {
@@ -49,6 +54,24 @@ impl Vain {
         Vain {
             at: usize::MAX,
             until: 0,
+            refused: 0,
+        }
+    }
+
+    /// Notes that a part was not taken, where so many bytes are read. A part of one level is no more than tried.
+    pub(crate) fn note(&mut self, schema: &Schema, part: Entire, read: usize) {
+        self.at = read;
+        if part.levels == 1 {
+            return;
+        }
+        match schema.extent(part.kind) {
+            Some(extent) => {
+                let size = extent.bytes as usize;
+                if size <= part.most {
+                    self.refused = read.saturating_add(size);
+                }
+            }
+            None => self.until = read.saturating_add(part.most),
         }
     }
 }
@@ -129,5 +152,8 @@ pub(crate) fn is_left(schema: &Schema, part: Entire, read: usize, vain: Vain) ->
     if part.most < LEAST_BYTES {
         return schema.extent(part.kind).is_none();
     }
-    read < vain.until && part.levels > 1 && schema.extent(part.kind).is_none()
+    if part.levels == 1 || read >= vain.until.max(vain.refused) {
+        return false;
+    }
+    read < vain.refused || schema.extent(part.kind).is_none()
 }
