@@ -15,11 +15,11 @@ use crate::builder::look::Look;
 use crate::builder::taken::{content_in, whole_in, wide_in};
 use crate::builder::tally::{Tally, count_node};
 use crate::builder::values::value_of;
-use crate::machine::frame::{Frame, after, next};
+use crate::machine::frame::{Frame, after, next, parts_of};
 use crate::machine::number::{Made, made_in};
 use crate::machine::step::{Step, step_of};
 use crate::machine::unit::{number_of, unit_at};
-use crate::runs::ahead::part_ahead;
+use crate::runs::ahead::is_there;
 use crate::runs::content::{is_counted, whole_ahead};
 use crate::runs::leaf::leaf_ahead;
 use std::alloc::{AllocError, Global};
@@ -134,17 +134,6 @@ fn value_in(
             count_node(tally);
             Ok(Some(Value::Nothing))
         }
-    }
-}
-
-// Whether the bytes begin with the value, where its kind does not begin with a unit. Of one that does, as a union, the
-// unit is read, and then its part is asked for.
-fn is_there(schema: &Schema, id: KindId, bytes: &[u8], levels: u32) -> bool
-    requires { id.place < length schema.now.kinds }
-{
-    match step_of(schema.kind(id)) {
-        Step::Unit => true,
-        _ => part_ahead(schema, id, bytes, levels).is_some(),
     }
 }
 
@@ -299,13 +288,4 @@ fn list_value(items: Vec<Value>) -> Value
     ensures { tree result ≡ (value.items (length (map tree items.items)), values items.items) }
 {
     Value::List(items)
-}
-
-// How many parts a frame has.
-fn parts_of(frame: &Frame) -> usize {
-    match frame {
-        Frame::Fields { fields } => fields.len(),
-        Frame::Items { left, .. } => *left as usize,
-        Frame::Arm { .. } => 1,
-    }
 }

@@ -136,6 +136,15 @@ pub trait Build {
         ensures stays { IfOk result (λ n. n ≡ 0 → (t : Trace) → reports self.old t → reports self.new t) }
         ensures granted { spares → IsOk result };
 
+    /// The same of a number, or of content behind its length; of no other part.
+    fn field(&mut self, schema: &Schema, kind: KindId, bytes: &[u8]) -> Result<usize, AllocError>
+        requires { kind.place < length schema.now.kinds }
+        ensures within { IfOk result (λ n. n ≤ length bytes.now) }
+        ensures taken { IfOk result (λ n. 0 < n → (o : IsAhead schema.now.kinds kind.place 1 (take n bytes.now))
+            × ((t : Trace) → reports self.old t → HasSpace t → reports self.new (part_in o.value t))) }
+        ensures stays { IfOk result (λ n. n ≡ 0 → (t : Trace) → reports self.old t → reports self.new t) }
+        ensures granted { spares → IsOk result };
+
     /// Gives back the memory that holds nothing.
     fn trim(&mut self)
         ensures { (t : Trace) → reports self.old t → reports self.new t };

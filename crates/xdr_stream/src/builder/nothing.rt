@@ -3,6 +3,7 @@ ghost use Rattle.std.specs.Prelude.{⊤};
 
 use crate::builder::{Build, Leaf, Node};
 use crate::runs::ahead::part_ahead;
+use crate::runs::content::whole_ahead;
 use crate::runs::leaf::leaf_ahead;
 use std::alloc::AllocError;
 use xdr_types::{KindId, Schema};
@@ -71,6 +72,17 @@ impl Build for Nothing {
         }
         match part_ahead(schema, kind, bytes, levels) {
             Some(n) => Ok(n),
+            None => Ok(0),
+        }
+    }
+
+    #[inline(always)]
+    fn field(&mut self, schema: &Schema, kind: KindId, bytes: &[u8]) -> Result<usize, AllocError> {
+        if let Some((_, n)) = leaf_ahead(schema, kind, bytes) {
+            return Ok(n);
+        }
+        match whole_ahead(schema, kind, bytes) {
+            Some(whole) => Ok(whole.all),
             None => Ok(0),
         }
     }

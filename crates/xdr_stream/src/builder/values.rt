@@ -12,9 +12,11 @@ ghost use Rattle.xdr_stream.specs.Values.{Reports};
 use crate::builder::level::{Level, add, add_item, begun, closed};
 use crate::builder::look::Look;
 use crate::builder::made::other_in;
+use crate::builder::taken::whole_in;
 use crate::builder::tally::Tally;
 use crate::builder::{Build, Leaf, Node, hyper_leaf};
 use crate::machine::unit::hyper_at;
+use crate::runs::content::whole_ahead;
 use crate::runs::leaf::leaf_ahead;
 use std::alloc::{AllocError, Global};
 use xdr_stack::Blocks;
@@ -243,6 +245,27 @@ impl Build for Values {
         self.nodes = tally.nodes;
         self.retained = tally.content;
         Ok(tally.at)
+    }
+
+    #[inline(always)]
+    fn field(&mut self, schema: &Schema, kind: KindId, bytes: &[u8]) -> Result<usize, AllocError> {
+        if let Some((leaf, size)) = leaf_ahead(schema, kind, bytes) {
+            self.leaf(leaf)?;
+            return Ok(size);
+        }
+        let Some(whole) = whole_ahead(schema, kind, bytes) else {
+            return Ok(0);
+        };
+        let mut tally = Tally {
+            nodes: self.nodes,
+            content: self.retained,
+            at: 0,
+        };
+        let content = whole_in(self.alloc, whole, bytes, &mut tally)?;
+        add(self.alloc, &mut self.work, content)?;
+        self.nodes = tally.nodes;
+        self.retained = tally.content;
+        Ok(whole.all)
     }
 
     fn trim(&mut self) {

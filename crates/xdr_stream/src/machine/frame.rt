@@ -61,3 +61,12 @@ pub fn after<'s>(frame: Frame<'s>) -> Frame<'s>
         },
     }
 }
+
+/// How many parts a frame has.
+pub(crate) fn parts_of(frame: &Frame) -> usize {
+    match frame {
+        Frame::Fields { fields } => fields.len(),
+        Frame::Items { left, .. } => *left as usize,
+        Frame::Arm { .. } => 1,
+    }
+}

@@ -12,7 +12,7 @@ use crate::builder::Build;
 use crate::fault::Reason;
 use crate::machine::Awaits;
 use crate::machine::coming::is_choice_due;
-use crate::machine::frame::Frame;
+use crate::machine::frame::next;
 use crate::machine::nodes::enter;
 use crate::machine::unit::{take_unit, unit_at};
 use crate::reader::{Reader, State};
@@ -66,13 +66,13 @@ impl<'s, B: Build + Drop> Reader<'s, B> {
         }
     }
 
-    // Whether the part that comes next may be one that is there whole: none is that names itself, as the rest of a list
-    // does.
+    /// Whether the part that comes next may be one that is there whole: none is that names itself, as the rest of a
+    /// list does.
     #[inline(always)]
-    fn is_bounded(&self) -> bool {
-        match self.work {
-            Frame::Items { item, .. } => self.schema.levels(item).is_some(),
-            _ => true,
+    pub(crate) fn is_bounded(&self) -> bool {
+        match next(&self.work) {
+            Some(kind) => self.schema.levels(kind).is_some(),
+            None => false,
         }
     }
 
@@ -90,7 +90,8 @@ impl<'s, B: Build + Drop> Reader<'s, B> {
         is_choice_due(self.schema, self.limits, &self.work, &self.parents)
     }
 
-    // Takes the first unit of the part that comes next. What comes after it is not settled then, unless it is content.
+    // Takes the first unit of the part that comes next. What comes after it is not settled then; content would be, which
+    // neither a union nor an optional has.
     #[inline(always)]
     fn take_choice(&mut self, unit: &[u8; 4])
         requires fresh { self.old.state ≡ Fresh }

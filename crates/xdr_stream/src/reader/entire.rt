@@ -78,6 +78,27 @@ impl<'s, B: Build + Drop> Reader<'s, B> {
         at
     }
 
+    // The same, of which the fields of one level that come first go by a loop of their own.
+    #[inline(always)]
+    fn take_parts(&mut self, bytes: &[u8], vain: &mut Vain) -> usize
+        requires { self.old.state ≡ Fresh }
+        ensures went { (q : List ℕ) → length q ≡ self.old.read → self.old.pending ≡ 0
+            → Sees self.old.schema.now.kinds self.old.kind.place self.old.limits (B.reports self.old.built) Next
+            (stack_of self.old.work self.old.parents.items) q
+            → Went B.spares B.reports self.new (q ++ take result bytes.now) }
+        ensures still { result ≡ 0 → IsStill self.old self.new }
+        ensures within { result ≤ length bytes.now }
+        ensures same { IsSame self.old self.new }
+    {
+        let n = self.take_fields(bytes);
+        match self.state {
+            State::Fresh if n == 0 || self.is_bounded() => {
+                n + self.take_entire(&bytes[n..], vain)
+            }
+            _ => n,
+        }
+    }
+
     // Ends the nodes that have all their parts, or begins one, and takes the parts that come first then, as long as
     // they are there whole; tells how many bytes. What comes next is not settled then.
     #[inline(always)]
@@ -92,7 +113,7 @@ impl<'s, B: Build + Drop> Reader<'s, B> {
     {
         let (used, goes_on) = self.begin_next(bytes);
         match self.state {
-            State::Fresh if goes_on => used + self.take_entire(&bytes[used..], vain),
+            State::Fresh if goes_on => used + self.take_parts(&bytes[used..], vain),
             _ => used,
         }
     }
@@ -143,7 +164,7 @@ impl<'s, B: Build + Drop> Reader<'s, B> {
         }
         // A state that asks nothing of the nodes at work, which change now: what they await is settled after.
         self.state = State::Fresh;
-        let n = self.take_entire(bytes, vain);
+        let n = self.take_parts(bytes, vain);
         if n == 0 {
             self.state = State::Reading(Awaits::Next);
             return 0;
@@ -170,7 +191,7 @@ impl<'s, B: Build + Drop> Reader<'s, B> {
             self.settle(Awaits::Next);
             return 0;
         }
-        let n = self.take_entire(bytes, vain);
+        let n = self.take_parts(bytes, vain);
         match self.state {
             State::Fresh => n + self.settle_entire(&bytes[n..], vain),
             _ => n,

@@ -2,7 +2,7 @@
 //!
 //! - `start`: a reader before any byte. `due`: what is due then.
 //! - `pieces`: pieces of bytes, unit by unit. `parts`: what comes first at a part. `many`: many units at once.
-//! - `entire`: parts that are there whole. `choice`: nodes that end and begin between them.
+//! - `entire`: parts that are there whole. `fields`: those of one level. `choice`: nodes that end and begin between.
 //! - `settling`: how reading goes on after what was taken.
 ghost use Rattle.xdr_stream.specs.Frames.{left_of};
 ghost use Rattle.xdr_stream.specs.Private.OneProof.{one_sound, one_wait};
@@ -11,6 +11,7 @@ ghost use Rattle.xdr_stream.specs.Private.Sound.{IsSoundAt, Waits};
 pub(crate) mod choice;
 pub(crate) mod due;
 pub(crate) mod entire;
+pub(crate) mod fields;
 pub(crate) mod many;
 pub(crate) mod parts;
 pub(crate) mod pieces;

@@ -40,6 +40,17 @@ pub(crate) fn part_ahead(schema: &Schema, id: KindId, bytes: &[u8], levels: u32)
     value_ahead(schema, id, bytes, levels)
 }
 
+/// Whether the bytes begin with the value, where its kind does not begin with a unit. Of one that does, as a union, the
+/// unit is read, and then its part is asked for.
+pub(crate) fn is_there(schema: &Schema, id: KindId, bytes: &[u8], levels: u32) -> bool
+    requires { id.place < length schema.now.kinds }
+{
+    match step_of(schema.kind(id)) {
+        Step::Unit => true,
+        _ => part_ahead(schema, id, bytes, levels).is_some(),
+    }
+}
+
 // The same, whatever the kind is.
 #[cycle(ahead)]
 fn value_ahead(schema: &Schema, id: KindId, bytes: &[u8], levels: u32) -> Option<usize>

@@ -135,9 +135,9 @@ pub(crate) fn entire_due(
     })
 }
 
-// How many bytes a part may have: those that are there, up to the limit on bytes, where so many are read.
+/// How many bytes a part may have: those that are there, up to the limit on bytes, where so many are read.
 #[inline(always)]
-fn most_of(limits: Limits, read: usize, there: usize) -> usize
+pub(crate) fn most_of(limits: Limits, read: usize, there: usize) -> usize
     ensures there { result ≤ there }
     ensures space { 0 < result → result + read ≤ limits.bytes }
 {

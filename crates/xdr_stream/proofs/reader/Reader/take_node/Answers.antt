@@ -8,11 +8,11 @@ use Rattle.xdr_stream.proofs.reader.Reader.take_node.Goals as goal
 pub returns-in-Fresh-clause-went : goal.returns-in-Fresh-clause-went
 returns-in-Fresh-clause-went g c = λ q len none seen.
     let r = c.begin_next-used.new.self in
-    let e = c.take_entire.new.self in
+    let e = c.take_parts.new.self in
     let bs : List ℕ = c.args.bytes.now in
     let used : ℕ = c.begin_next-used.result.0 in
     let w = subst (λ (x : State). WentAs g.B.Build.spares r.schema.now.kinds r.kind.place r.limits
     (g.B.Build.reports r.built) (stack_of r.work r.parents.items) r.read r.unit r.pending x (q ++ take used bs))
     c.in-Fresh.is (c.begin_next-used.ensures.went q len none seen) in
-    subst (λ (x : List ℕ). Went g.B.Build.spares g.B.Build.reports e x) (taken_then q bs used c.take_entire.result)
-    (c.take_entire.ensures.went (q ++ take used bs) w.0 w.1 w.2)
+    subst (λ (x : List ℕ). Went g.B.Build.spares g.B.Build.reports e x) (taken_then q bs used c.take_parts.result)
+    (c.take_parts.ensures.went (q ++ take used bs) w.0 w.1 w.2)

@@ -15,15 +15,15 @@ returns-in-Fresh-clause-represents g c = λ b state none st.
     let z : Type 0 = g.B.Build.spares in
     let s : List KindView = a.schema.now.kinds in
     let bs : List ℕ = c.args.bytes.now in
-    let n : ℕ = c.take_entire-n.result in
+    let n : ℕ = c.take_parts-n.result in
     let m : ℕ = c.settle_entire.result in
     let r = subst (λ (x : State). RepresentsAs z s a.kind.place a.limits (g.B.Build.reports a.built)
     (stack_of a.work a.parents.items) a.read a.unit a.pending x b) state st in
     let q : List ℕ = r.0 in
-    let e = c.take_entire-n.new.self in
+    let e = c.take_parts-n.new.self in
     let w = subst (λ (x : State). WentAs z e.schema.now.kinds e.kind.place e.limits (g.B.Build.reports e.built)
     (stack_of e.work e.parents.items) e.read e.unit e.pending x (q ++ take n bs)) c.in-Fresh.is
-    (c.take_entire-n.ensures.went q r.2 none r.4) in
+    (c.take_parts-n.ensures.went q r.2 none r.4) in
     let before : q ≡ b = sym (r.1 ∙ ap (λ (k : ℕ). q ++ take k a.unit) none ∙ append-nil q) in
     let joined : (q ++ take n bs) ++ take m (take (length bs - n) (drop n bs)) ≡ b ++ take (n + m) bs =
     ap (λ (x : List ℕ). (q ++ take n bs) ++ take m x) (behind n bs)

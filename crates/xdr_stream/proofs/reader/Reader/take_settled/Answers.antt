@@ -11,12 +11,12 @@ pub returns-in-Fresh-clause-represents : goal.returns-in-Fresh-clause-represents
 returns-in-Fresh-clause-represents g c = λ q len none seen.
     let z : Type 0 = g.B.Build.spares in
     let bs : List ℕ = c.args.bytes.now in
-    let n : ℕ = c.take_entire-n.result in
+    let n : ℕ = c.take_parts-n.result in
     let m : ℕ = c.settle_entire.result in
-    let e = c.take_entire-n.new.self in
+    let e = c.take_parts-n.new.self in
     let w = subst (λ (x : State). WentAs z e.schema.now.kinds e.kind.place e.limits (g.B.Build.reports e.built)
     (stack_of e.work e.parents.items) e.read e.unit e.pending x (q ++ take n bs)) c.in-Fresh.is
-    (c.take_entire-n.ensures.went q len none seen) in
+    (c.take_parts-n.ensures.went q len none seen) in
     let joined : (q ++ take n bs) ++ take m (take (length bs - n) (drop n bs)) ≡ q ++ take (n + m) bs =
     ap (λ (x : List ℕ). (q ++ take n bs) ++ take m x) (behind n bs)
     ∙ append_assoc q (take n bs) (take m (drop n bs))
