@@ -90,8 +90,8 @@ impl<'s, B: Build + Drop> Reader<'s, B> {
         is_choice_due(self.schema, self.limits, &self.work, &self.parents)
     }
 
-    // Takes the first unit of the part that comes next. What comes after it is not settled then; content would be, which
-    // neither a union nor an optional has.
+    // Takes the first unit of the part that comes next. What comes after it is not settled then; content would be,
+    // which neither a union nor an optional has.
     #[inline(always)]
     fn take_choice(&mut self, unit: &[u8; 4])
         requires fresh { self.old.state ≡ Fresh }

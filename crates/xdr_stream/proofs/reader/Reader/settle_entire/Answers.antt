@@ -8,7 +8,8 @@ use Rattle.xdr_stream.specs.declared.reader.State.{State}
 use Rattle.xdr_stream.proofs.Entire.{went_on, awake_of}
 use Rattle.xdr_stream.proofs.Judged.{taken_then}
 use Rattle.xdr_stream.specs.declared.reader.State.TheVariants.{Fresh}
-use Rattle.xdr_stream.proofs.reader.Reader.settle_entire.Goals.{else-loop-at-test, then-loop-at-test+in-Fresh+then-n-eq0}
+use Rattle.xdr_stream.proofs.reader.Reader.settle_entire.Goals.{else-loop-at-test}
+use Rattle.xdr_stream.proofs.reader.Reader.settle_entire.Goals.{then-loop-at-test+in-Fresh+then-n-eq0}
 use Rattle.xdr_stream.proofs.reader.Reader.settle_entire.Goals as goal
 
 pub returns-in_default : goal.returns-in_default
@@ -83,11 +84,13 @@ returns-clause-represents g c = λ q len none seen.
     let b : List ℕ = q ++ take at bs in
     let there : (l.state ≡ Fresh) × Went g.B.Build.spares g.B.Build.reports l b =
     elim c.loop-at-test.branch [
-      | else-loop-at-test w ↦ subst (λ x. (x.state ≡ Fresh) × Went g.B.Build.spares g.B.Build.reports x b) (sym w.self-is) (
-        i.2,
-        subst (λ (k : ℕ). Went g.B.Build.spares g.B.Build.reports c.loop-at.self (q ++ take k bs)) (sym w.at-is)
-            (i.3 q len none seen),
-      )
+      | else-loop-at-test w ↦
+          let r = c.loop-at.self in
+          subst (λ x. (x.state ≡ Fresh) × Went g.B.Build.spares g.B.Build.reports x b) (sym w.self-is) (
+            i.2,
+            subst (λ (k : ℕ). Went g.B.Build.spares g.B.Build.reports r (q ++ take k bs)) (sym w.at-is)
+                (i.3 q len none seen),
+          )
       | then-loop-at-test+in-Fresh+then-n-eq0 w ↦
           let r = c.loop-at.self in
           let e = w.take_node-n.new.self in

@@ -47,7 +47,8 @@ returns-clause-taken c = λ some.
     let handed = c.in_ok-content.ensures in
     let there : IsWhole s place (take (length bs - 0) (drop 0 bs)) whole =
     subst (λ (x : List ℕ). IsWhole s place x whole) (sym (behind 0 bs)) c.in-Some-whole_ahead.ensures in
-    let made : IsMade s place bs before after v = made_handed s place whole bs before after v (omega arith) there handed in (
+    let made : IsMade s place bs before after v =
+    made_handed s place whole bs before after v (omega arith) there handed in (
       record {
         value = tree v;
         fits = made.fits;

@@ -36,8 +36,8 @@ returns-clause-taken c = λ some.
         spelled = sym made.took.are ∙ ap (λ (k : ℕ). take k bs) (omega arith);
         shallow = omega (arith, c.in-Some-levels.ensures.levels (tree v) made.fits, c.if-most-levels.false);
       },
-      λ t reported space. reports_part b grown v t c.in_ok-add.ensures.added refl refl made.adds.nodes_are made.adds.content_is
-          reported space,
+      λ t reported space. reports_part b grown v t c.in_ok-add.ensures.added refl refl made.adds.nodes_are
+          made.adds.content_is reported space,
     )
 
 pub returns-in-Some-clause-taken : goal.returns-in-Some-clause-taken
