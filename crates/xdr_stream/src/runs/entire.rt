@@ -145,8 +145,8 @@ pub(crate) fn most_of(limits: Limits, read: usize, there: usize) -> usize
     there.min(space).min(MOST_BYTES)
 }
 
-/// Whether a part is left to the machine, of which the bytes vary: few are there, or a look would go into it, and a
-/// part was looked at in vain up to a place behind it.
+/// Whether a part is left to the machine. One whose bytes vary is where few are there, or where a look would go into it
+/// and one was in vain up to a place behind it. Any of more than one level is inside bytes that were refused.
 #[inline(always)]
 pub(crate) fn is_left(schema: &Schema, part: Entire, read: usize, vain: Vain) -> bool {
     if part.most < LEAST_BYTES {
