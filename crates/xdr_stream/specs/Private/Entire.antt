@@ -1,11 +1,12 @@
 -- Parts that are there whole.
-use Rattle.std.specs.Prelude.{◌≡◌, ℕ, ◌+◌, ◌<◌, ◌≤◌, List, length}
+use Rattle.std.specs.Prelude.{◌≡◌, ℕ, ◌+◌, ◌<◌, ◌≤◌, List, ◌++◌, length}
 use Rattle.xdr_types.specs.Kinds.{KindView, Part}
 use Rattle.xdr_types.specs.Fits.{Fits}
 use Rattle.xdr_types.specs.Spelling.{bytes_of}
 use Rattle.xdr_types.specs.Within.{Bounds}
 use Rattle.xdr_units.specs.Numbers.{padded}
 use Rattle.xdr_stream.specs.Frames.{Begins, stack_of}
+use Rattle.xdr_stream.specs.declared.machine.frame.Frame.{Frame}
 use Rattle.xdr_stream.specs.Nodes.{head_of_leaf}
 use Rattle.xdr_stream.specs.Private.Reported.{leaf_tree}
 use Rattle.xdr_stream.specs.declared.builder.Leaf.{Leaf}
@@ -57,9 +58,17 @@ Went spares reports r b =
     WentAs spares r.schema.now.kinds r.kind.place r.limits (reports r.built) (stack_of r.work r.parents.items)
     r.read r.unit r.pending r.state b
 
--- nothing was taken
-pub record IsStill {B : Type 0} (a b : Reader B) : Type 0 where
-  pub work_is : b.work ≡ a.work
-  pub parents_are : b.parents.items ≡ a.parents.items
-  pub state_is : b.state ≡ a.state
-  pub pending_is : b.pending ≡ a.pending
+-- a reader that saw what it had read goes on so, after some bytes more
+abbrev pub Advances : {B : Type 0} → (spares : Type 0) → (reports : B → Trace → Type 0) → (a b : Reader B)
+    → (bytes : List ℕ) → Type 0
+Advances spares reports a b bytes = (q : List ℕ) → length q ≡ a.read → a.pending ≡ 0
+    → Sees a.schema.now.kinds a.kind.place a.limits (reports a.built) Next (stack_of a.work a.parents.items) q
+    → Went spares reports b (q ++ bytes)
+
+-- parts of a node were taken: what was seen before them is seen behind them, where limits are kept
+abbrev pub Passes : List KindView → (H I : Trace → Type 0) → (levels : ℕ) → (before behind : Frame) → (bytes : List ℕ)
+    → Type 0
+Passes kinds H I levels before behind bytes = (kind : ℕ) (limits : Bounds) (parents : List Frame) (q : List ℕ)
+    → 0 < length parents → levels + length parents ≤ limits.depth → length q + length bytes ≤ limits.bytes
+    → Sees kinds kind limits H Next (stack_of before parents) q
+    → Sees kinds kind limits I Next (stack_of behind parents) (q ++ bytes)

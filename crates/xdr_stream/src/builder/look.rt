@@ -6,7 +6,7 @@ use crate::builder::level::MOST_SPACE;
 pub enum Look {
     /// They have not, and nothing is made before.
     Due,
-    /// They have not, but most likely the value is there. It asks for no more space than nodes at work do.
+    /// They have not, and the value is short. It asks for no more space than nodes at work do.
     Spared,
     /// The value is there.
     Done,

@@ -2,7 +2,7 @@
 //!
 //! - `values`: a value. `level`: a node of it at work. `nothing`: nothing.
 //! - `made`: a part of a value at once. `taken`: one without parts. `tally`: what is counted of them. `look`: what is
-//!   known of its being there.
+//!   known of its being there. `whole`: a part that is there whole, added to the value.
 ghost use Rattle.std.specs.Prelude.{◌≡◌, ◌<◌, ◌≤◌, ◌%◌, List, ℕ, length, take, OnOk, IfOk, IsOk};
 ghost use Rattle.std.specs.Int.{w64, from_be_bytes};
 ghost use Rattle.xdr_stream.specs.Trace.{Trace, at_start};
@@ -21,6 +21,7 @@ pub mod nothing;
 pub mod taken;
 pub mod tally;
 pub mod values;
+pub mod whole;
 
 use std::alloc::AllocError;
 use xdr_types::{KindId, Schema};
@@ -120,13 +121,12 @@ pub trait Build {
         ensures granted { spares → IsOk result };
 
     /// A part, where bytes begin with its value, of at most so many levels; how many of them it has, and 0 where they
-    /// do not. It has taken nothing then. Where it is likely that they do, it may be made without a look at them first.
+    /// do not. It has taken nothing then.
     fn part(
         &mut self,
         schema: &Schema,
         kind: KindId,
         levels: u32,
-        likely: bool,
         bytes: &[u8],
     ) -> Result<usize, AllocError>
         requires { kind.place < length schema.now.kinds }
@@ -136,11 +136,18 @@ pub trait Build {
         ensures stays { IfOk result (λ n. n ≡ 0 → (t : Trace) → reports self.old t → reports self.new t) }
         ensures granted { spares → IsOk result };
 
-    /// The same of a number, or of content behind its length; of no other part.
-    fn field(&mut self, schema: &Schema, kind: KindId, bytes: &[u8]) -> Result<usize, AllocError>
-        requires { kind.place < length schema.now.kinds }
+    /// The same of a number, of content behind its length, or of a short union or optional; of no other part.
+    fn field(
+        &mut self,
+        schema: &Schema,
+        kind: KindId,
+        levels: u32,
+        bytes: &[u8],
+    ) -> Result<usize, AllocError>
+        requires known { kind.place < length schema.now.kinds }
+        requires some { 0 < levels }
         ensures within { IfOk result (λ n. n ≤ length bytes.now) }
-        ensures taken { IfOk result (λ n. 0 < n → (o : IsAhead schema.now.kinds kind.place 1 (take n bytes.now))
+        ensures taken { IfOk result (λ n. 0 < n → (o : IsAhead schema.now.kinds kind.place levels (take n bytes.now))
             × ((t : Trace) → reports self.old t → HasSpace t → reports self.new (part_in o.value t))) }
         ensures stays { IfOk result (λ n. n ≡ 0 → (t : Trace) → reports self.old t → reports self.new t) }
         ensures granted { spares → IsOk result };

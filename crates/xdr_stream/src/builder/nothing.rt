@@ -2,11 +2,12 @@
 ghost use Rattle.std.specs.Prelude.{⊤};
 
 use crate::builder::{Build, Leaf, Node};
-use crate::runs::ahead::part_ahead;
+use crate::runs::ahead::{part_ahead, value_ahead};
 use crate::runs::content::whole_ahead;
 use crate::runs::leaf::leaf_ahead;
+use crate::runs::sort::is_short;
 use std::alloc::AllocError;
-use xdr_types::{KindId, Schema};
+use xdr_types::{Kind, KindId, Schema};
 
 /// Makes nothing of the nodes.
 #[derive(Clone, Copy)]
@@ -61,7 +62,6 @@ impl Build for Nothing {
         schema: &Schema,
         kind: KindId,
         levels: u32,
-        _: bool,
         bytes: &[u8],
     ) -> Result<usize, AllocError> {
         if levels == 0 {
@@ -77,13 +77,28 @@ impl Build for Nothing {
     }
 
     #[inline(always)]
-    fn field(&mut self, schema: &Schema, kind: KindId, bytes: &[u8]) -> Result<usize, AllocError> {
-        if let Some((_, n)) = leaf_ahead(schema, kind, bytes) {
-            return Ok(n);
-        }
-        match whole_ahead(schema, kind, bytes) {
-            Some(whole) => Ok(whole.all),
-            None => Ok(0),
+    fn field(
+        &mut self,
+        schema: &Schema,
+        kind: KindId,
+        levels: u32,
+        bytes: &[u8],
+    ) -> Result<usize, AllocError> {
+        match schema.kind(kind) {
+            Kind::OpaqueUpTo { .. } | Kind::Text { .. } => match whole_ahead(schema, kind, bytes) {
+                Some(whole) => Ok(whole.all),
+                None => Ok(0),
+            },
+            Kind::Choice { .. } | Kind::Maybe { .. } if is_short(schema, kind, levels) => {
+                match value_ahead(schema, kind, bytes, levels) {
+                    Some(n) => Ok(n),
+                    None => Ok(0),
+                }
+            }
+            _ => match leaf_ahead(schema, kind, bytes) {
+                Some((_, n)) => Ok(n),
+                None => Ok(0),
+            },
         }
     }
 

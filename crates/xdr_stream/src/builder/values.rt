@@ -1,5 +1,5 @@
 //! The value that the nodes make.
-ghost use Rattle.std.specs.Prelude.{◌≡◌, ◌+◌, ◌≤◌, ℕ, List, length, take, drop, OnOk};
+ghost use Rattle.std.specs.Prelude.{◌≡◌, ◌+◌, ◌≤◌, length, take, drop, OnOk};
 ghost use Rattle.std.specs.Int.{w32, from_be_bytes};
 ghost use Rattle.xdr_types.specs.Tree.{bytes};
 ghost use Rattle.xdr_types.specs.View.{tree};
@@ -11,16 +11,13 @@ ghost use Rattle.xdr_stream.specs.Values.{Reports};
 
 use crate::builder::level::{Level, add, add_item, begun, closed};
 use crate::builder::look::Look;
-use crate::builder::made::other_in;
-use crate::builder::taken::whole_in;
-use crate::builder::tally::Tally;
 use crate::builder::{Build, Leaf, Node, hyper_leaf};
 use crate::machine::unit::hyper_at;
-use crate::runs::content::whole_ahead;
 use crate::runs::leaf::leaf_ahead;
+use crate::runs::sort::is_short;
 use std::alloc::{AllocError, Global};
 use xdr_stack::Blocks;
-use xdr_types::{KindId, Schema, Value};
+use xdr_types::{Kind, KindId, Schema, Value};
 
 /// How many nodes at work lie in a block, so that a block of them is below a kibibyte.
 const BLOCK: usize = 16;
@@ -211,7 +208,6 @@ impl Build for Values {
         schema: &Schema,
         kind: KindId,
         levels: u32,
-        likely: bool,
         bytes: &[u8],
     ) -> Result<usize, AllocError> {
         if levels == 0 {
@@ -228,44 +224,32 @@ impl Build for Values {
         if most > levels {
             return Ok(0);
         }
-        let mut tally = Tally {
-            nodes: self.nodes,
-            content: self.retained,
-            at: 0,
-        };
-        let alloc = self.alloc;
-        let look = if likely { Look::Spared } else { Look::Due };
-        let Some(value) = other_in(alloc, schema, kind, bytes, levels, look, &mut tally)? else {
-            return Ok(0);
-        };
-        if tally.at == 0 {
-            return Ok(0);
-        }
-        add(self.alloc, &mut self.work, value)?;
-        self.nodes = tally.nodes;
-        self.retained = tally.content;
-        Ok(tally.at)
+        self.made(schema, kind, levels, Look::Due, bytes)
     }
 
     #[inline(always)]
-    fn field(&mut self, schema: &Schema, kind: KindId, bytes: &[u8]) -> Result<usize, AllocError> {
-        if let Some((leaf, size)) = leaf_ahead(schema, kind, bytes) {
-            self.leaf(leaf)?;
-            return Ok(size);
+    fn field(
+        &mut self,
+        schema: &Schema,
+        kind: KindId,
+        levels: u32,
+        bytes: &[u8],
+    ) -> Result<usize, AllocError> {
+        match schema.kind(kind) {
+            Kind::OpaqueUpTo { .. } | Kind::Text { .. } => self.content_of(
+                schema, kind, levels, bytes,
+            ),
+            Kind::Choice { .. } | Kind::Maybe { .. } if is_short(schema, kind, levels) => {
+                self.made(schema, kind, levels, Look::Spared, bytes)
+            }
+            _ => match leaf_ahead(schema, kind, bytes) {
+                Some((leaf, size)) => {
+                    self.leaf(leaf)?;
+                    Ok(size)
+                }
+                None => Ok(0),
+            },
         }
-        let Some(whole) = whole_ahead(schema, kind, bytes) else {
-            return Ok(0);
-        };
-        let mut tally = Tally {
-            nodes: self.nodes,
-            content: self.retained,
-            at: 0,
-        };
-        let content = whole_in(self.alloc, whole, bytes, &mut tally)?;
-        add(self.alloc, &mut self.work, content)?;
-        self.nodes = tally.nodes;
-        self.retained = tally.content;
-        Ok(whole.all)
     }
 
     fn trim(&mut self) {

@@ -1,6 +1,9 @@
 //! What comes next at a node, once nodes have ended and begun.
 ghost use Rattle.std.specs.Prelude.{◌≡◌, ℕ, List, IfSome, IfOk, IfErr, true};
-ghost use Rattle.xdr_stream.specs.Frames.{left_of, stack_of};
+ghost use Rattle.xdr_types.specs.Kinds.{kind_at};
+ghost use Rattle.xdr_types.specs.KindViews.{kind_view};
+ghost use Rattle.xdr_laws.specs.Owed.{lead_of, HasUnit};
+ghost use Rattle.xdr_stream.specs.Frames.{left_of, stack_of, Begins};
 ghost use Rattle.xdr_stream.specs.Sees.{Sees, IsReady};
 ghost use Rattle.xdr_stream.specs.Private.Moves.{GoesDeep, Settles, SparesSeen, reason_of};
 ghost use Rattle.xdr_stream.specs.Private.Sound.{IsSound, Starts, IsAwaited};
@@ -12,7 +15,7 @@ use crate::machine::nodes::{begin, end_nodes, pass_void};
 use crate::machine::step::{Step, step_of};
 use crate::machine::{Awaits, Trouble};
 use xdr_stack::Stack;
-use xdr_types::{Kind, Limits, Schema};
+use xdr_types::{Kind, KindId, Limits, Schema};
 
 // Whether the next part begins with a unit, and is not too deep.
 #[inline(always)]
@@ -30,34 +33,31 @@ fn is_due<'s>(
     let Some(id) = next(work) else {
         return false;
     };
-    if limits.depth() as usize <= parents.len() {
-        return false;
-    }
-    match step_of(schema.kind(id)) {
-        Step::Unit => true,
-        _ => false,
-    }
+    let kind = schema.kind(id);
+    is_unit_due(schema, limits, id, kind, work, parents)
 }
 
-/// Whether the next part is a union or an optional, and is not too deep.
+/// The same of a part whose kind is known.
 #[inline(always)]
-pub(crate) fn is_choice_due<'s>(
+pub(crate) fn is_unit_due<'s>(
     schema: &'s Schema,
     limits: Limits,
+    id: KindId,
+    kind: &'s Kind,
     work: &Frame<'s>,
     parents: &Stack<Frame<'s>>,
 ) -> bool
-    requires { IsSound schema.now.kinds (stack_of work.now parents.now.items) }
+    requires first { Begins (left_of work.now) id.place }
+    requires kind { kind_view kind.now ≡ kind_at schema.now.kinds id.place }
     ensures ready { result ≡ true → IsReady schema.now.kinds limits Next (stack_of work.now parents.now.items) }
-    ensures starts { result ≡ true → Starts schema.now.kinds (left_of work.now) }
+    ensures unit { result ≡ true → HasUnit (lead_of (kind_view kind.now)) }
 {
     let _known = schema.len();
-    let Some(id) = next(work) else {
+    if limits.depth() as usize <= parents.len() {
         return false;
-    };
-    match schema.kind(id) {
-        Kind::Choice { .. } => is_due(schema, limits, work, parents),
-        Kind::Maybe { .. } => is_due(schema, limits, work, parents),
+    }
+    match step_of(kind) {
+        Step::Unit => true,
         _ => false,
     }
 }

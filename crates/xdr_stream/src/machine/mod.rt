@@ -1,12 +1,14 @@
 //! How reading goes on, whatever is made of the nodes: what comes next, and why nothing more begins.
 //!
-//! - `nodes`: how nodes begin and end. `coming`: what comes next then. `frame`: a node at work.
+//! - `nodes`: how nodes begin and end. `entering`: those that do so without a byte. `coming`: what comes next then.
+//!   `frame`: a node at work.
 //! - `step`: how a value of a kind begins.
 //! - `unit`: what comes next after a whole unit. `number`: what the first unit of a value makes.
 ghost use Rattle.std.specs.Prelude.{◌≡◌};
 ghost use Rattle.xdr_stream.specs.Private.Moves.{reason_of};
 
 pub(crate) mod coming;
+pub(crate) mod entering;
 pub mod frame;
 pub(crate) mod nodes;
 pub mod number;

@@ -1,9 +1,11 @@
 //! How nodes begin and end, whatever is made of them.
 ghost use Rattle.std.specs.Prelude.{◌≡◌, ℕ, pos, List, [], ◌∷◌, ◌++◌, IfOk, IfErr, OnOk, false};
-ghost use Rattle.xdr_types.specs.Kinds.{KindView};
+ghost use Rattle.xdr_types.specs.Kinds.{KindView, kind_at};
+ghost use Rattle.xdr_types.specs.KindViews.{kind_view};
+ghost use Rattle.xdr_laws.specs.Owed.{lead_of, HasUnit};
 ghost use Rattle.xdr_types.specs.Within.{Bounds};
 ghost use Rattle.xdr_units.specs.Numbers.{num4};
-ghost use Rattle.xdr_stream.specs.Frames.{left_of, rest_of, stack_of, onto};
+ghost use Rattle.xdr_stream.specs.Frames.{left_of, rest_of, stack_of, onto, Begins};
 ghost use Rattle.xdr_stream.specs.Trace.{Trace};
 ghost use Rattle.xdr_stream.specs.Private.Reported.{open_in};
 ghost use Rattle.xdr_stream.specs.Nodes.{head_of_node};
@@ -23,7 +25,7 @@ use crate::machine::step::{Step, step_of};
 use crate::machine::{Awaits, Trouble};
 use std::alloc::AllocError;
 use xdr_stack::Stack;
-use xdr_types::{Kind, Limits, Schema};
+use xdr_types::{Kind, KindId, Limits, Schema};
 
 /// Ends the nodes that have all their parts, and tells whether the root is one of them.
 #[inline(always)]
@@ -160,66 +162,6 @@ pub(crate) fn begin<'s, B: Build>(
     }
 }
 
-/// Ends the nodes that have all their parts, or begins the structure that comes next, unless it is too deep. Whether it
-/// did, and a part comes next.
-#[inline(always)]
-pub(crate) fn enter<'s, B: Build>(
-    schema: &'s Schema,
-    limits: Limits,
-    work: &mut Frame<'s>,
-    parents: &mut Stack<Frame<'s>>,
-    built: &mut B,
-) -> Result<bool, AllocError>
-    requires { IsSound schema.now.kinds (stack_of work.old parents.old.items) }
-    ensures follows { OnOk result ((kind : ℕ) (q : List ℕ)
-        → Sees schema.now.kinds kind limits (B.reports built.old) Next (stack_of work.old parents.old.items) q
-        → Sees schema.now.kinds kind limits (B.reports built.new) Next (stack_of work.new parents.new.items) q) }
-    ensures spared { IfErr result (λ _. SparesSeen B.spares schema.now.kinds limits (B.reports built.old) Next
-        (stack_of work.old parents.old.items) NoMemory) }
-    ensures sound { IsSound schema.now.kinds (stack_of work.new parents.new.items) }
-{
-    if next(work).is_some() {
-        return enter_fields(schema, limits, work, parents, built);
-    }
-    let whole = end_nodes(work, parents, built)?;
-    Ok(!whole)
-}
-
-// Begins the structure that comes next, unless it is too deep; whether it did.
-#[inline(always)]
-fn enter_fields<'s, B: Build>(
-    schema: &'s Schema,
-    limits: Limits,
-    work: &mut Frame<'s>,
-    parents: &mut Stack<Frame<'s>>,
-    built: &mut B,
-) -> Result<bool, AllocError>
-    requires { IsSound schema.now.kinds (stack_of work.old parents.old.items) }
-    ensures follows { OnOk result ((kind : ℕ) (q : List ℕ)
-        → Sees schema.now.kinds kind limits (B.reports built.old) Next (stack_of work.old parents.old.items) q
-        → Sees schema.now.kinds kind limits (B.reports built.new) Next (stack_of work.new parents.new.items) q) }
-    ensures spared { IfErr result (λ _. SparesSeen B.spares schema.now.kinds limits (B.reports built.old) Next
-        (stack_of work.old parents.old.items) NoMemory) }
-    ensures sound { IsSound schema.now.kinds (stack_of work.new parents.new.items) }
-{
-    let _known = schema.len();
-    let Some(id) = next(work) else {
-        return Ok(false);
-    };
-    let deepest = limits.depth() as usize;
-    if parents.len() >= deepest {
-        return Ok(false);
-    }
-    match step_of(schema.kind(id)) {
-        Step::Fields(fields) => {
-            let node = Node::Fields(fields.len());
-            open(work, parents, built, node, Frame::Fields { fields })?;
-            Ok(true)
-        }
-        _ => Ok(false),
-    }
-}
-
 /// Takes the first unit of the part that comes next.
 #[inline(always)]
 pub(crate) fn take_number<'s, B: Build>(
@@ -246,6 +188,35 @@ pub(crate) fn take_number<'s, B: Build>(
         unreachable!();
     };
     let kind = schema.kind(id);
+    take_made(schema, id, kind, work, parents, built, number)
+}
+
+/// The same of a part whose kind is known.
+#[inline(always)]
+pub(crate) fn take_made<'s, B: Build>(
+    schema: &'s Schema,
+    id: KindId,
+    kind: &'s Kind,
+    work: &mut Frame<'s>,
+    parents: &mut Stack<Frame<'s>>,
+    built: &mut B,
+    number: u32,
+) -> Result<Awaits, Reason>
+    requires sound { IsSound schema.now.kinds (stack_of work.old parents.old.items) }
+    requires first { Begins (left_of work.old) id.place }
+    requires kind { kind_view kind.now ≡ kind_at schema.now.kinds id.place }
+    requires unit { HasUnit (lead_of (kind_view kind.now)) }
+    ensures live { IfOk result IsLive }
+    ensures taken { IfOk result (λ a. TakesUnit schema.now.kinds (B.reports built.old) Next
+        (stack_of work.old parents.old.items) (B.reports built.new) a (stack_of work.new parents.new.items)
+        (num4 (pos number))) }
+    ensures refused { IfErr result (RefusesUnit schema.now.kinds (B.reports built.old) Next
+        (stack_of work.old parents.old.items) (num4 (pos number))) }
+    ensures spared { IfErr result (λ e. (limits : Bounds) → SparesSeen B.spares schema.now.kinds limits
+        (B.reports built.old) Next (stack_of work.old parents.old.items) e) }
+    ensures sound { IsSound schema.now.kinds (stack_of work.new parents.new.items) }
+{
+    let _known = schema.len();
     let made = match made_in(schema, id, kind, number) {
         Ok(made) => made,
         Err(why) => return Err(why),

@@ -1,65 +1,94 @@
-//! Fields of one level that are there whole: numbers, and content behind its length.
-ghost use Rattle.std.specs.Prelude.{◌≡◌, ◌≤◌, ℕ, List, ◌++◌, length, take};
-ghost use Rattle.xdr_stream.specs.Frames.{stack_of};
-ghost use Rattle.xdr_stream.specs.Sees.{Sees};
-ghost use Rattle.xdr_stream.specs.Private.Entire.{Went, IsStill};
+//! Numbers, and content behind its length, that are there whole.
+ghost use Rattle.std.specs.Prelude.{◌≡◌, ◌≤◌, ◌<◌, length, take, IfOk};
+ghost use Rattle.xdr_stream.specs.Frames.{left_of};
+ghost use Rattle.xdr_stream.specs.Private.Entire.{Advances, Passes};
+ghost use Rattle.xdr_stream.specs.Private.Sound.{AreKnown};
 ghost use Rattle.xdr_stream.specs.Represents.{IsSame};
-ghost use Rattle.xdr_stream.specs.declared.machine.Awaits.TheVariants.{Next};
 ghost use Rattle.xdr_stream.specs.declared.reader.State.TheVariants.{Fresh};
 
 use crate::builder::Build;
 use crate::fault::Reason;
-use crate::machine::frame::{Frame, after};
+use crate::machine::frame::{Frame, after, next};
 use crate::reader::Reader;
-use crate::runs::entire::most_of;
+use std::alloc::AllocError;
+use xdr_types::Schema;
+
+// Takes the parts of a node that come first, as long as they are numbers, content behind its length, or short unions or
+// optionals, and there whole, and have at most so many levels; how many bytes they have, and the node behind them.
+#[inline(always)]
+fn take_first<'s, B: Build>(
+    schema: &'s Schema,
+    frame: Frame<'s>,
+    levels: u32,
+    built: &mut B,
+    bytes: &[u8],
+) -> Result<(usize, Frame<'s>), AllocError>
+    requires known { AreKnown schema.now.kinds (left_of frame) }
+    requires some { 0 < levels }
+    ensures passes { IfOk result (λ r. Passes schema.now.kinds (B.reports built.old) (B.reports built.new) levels
+        frame.entry r.1 (take r.0 bytes.now)) }
+    ensures known { IfOk result (λ r. AreKnown schema.now.kinds (left_of r.1)) }
+    ensures within { IfOk result (λ r. r.0 ≤ length bytes.now) }
+{
+    let _known = schema.len();
+    let mut frame = frame;
+    let mut at = 0;
+    while let Some(id) = next(&frame) {
+        let n = built.field(schema, id, levels, &bytes[at..])?;
+        if n == 0 {
+            return Ok((at, frame));
+        }
+        at += n;
+        frame = after(frame);
+    }
+    Ok((at, frame))
+}
 
 impl<'s, B: Build + Drop> Reader<'s, B> {
-    /// Takes the fields of one level that come first, as long as they are there whole; tells how many bytes. What comes
-    /// next is not settled then.
+    /// Takes the parts that come first, as long as they are numbers, content behind its length, or short unions or
+    /// optionals, and there whole; tells how many bytes. What comes next is not settled then.
     #[inline(always)]
     pub(crate) fn take_fields(&mut self, bytes: &[u8]) -> usize
         requires { self.old.state ≡ Fresh }
-        ensures went { (q : List ℕ) → length q ≡ self.old.read → self.old.pending ≡ 0
-            → Sees self.old.schema.now.kinds self.old.kind.place self.old.limits (B.reports self.old.built) Next
-            (stack_of self.old.work self.old.parents.items) q
-            → Went B.spares B.reports self.new (q ++ take result bytes.now) }
-        ensures still { result ≡ 0 → IsStill self.old self.new }
+        ensures went { Advances B.spares B.reports self.old self.new (take result bytes.now) }
+        ensures within { result ≤ length bytes.now }
+        ensures same { IsSame self.old self.new }
+    {
+        match self.work {
+            // (for fields the loop knows what a node is)
+            Frame::Fields { fields } => self.take_from(Frame::Fields { fields }, bytes),
+            work => self.take_from(work, bytes),
+        }
+    }
+
+    // The same, where this is the node at work.
+    #[inline(always)]
+    fn take_from(&mut self, work: Frame<'s>, bytes: &[u8]) -> usize
+        requires fresh { self.old.state ≡ Fresh }
+        requires work { self.old.work ≡ work }
+        ensures went { Advances B.spares B.reports self.old self.new (take result bytes.now) }
         ensures within { result ≤ length bytes.now }
         ensures same { IsSame self.old self.new }
     {
         let _in_range = self.limits.depth();
-        let _known = self.schema.len();
-        let mut at = 0;
-        while at < bytes.len() {
-            let work = self.work;
-            let Frame::Fields { fields } = work else {
-                return at;
-            };
-            let [first, ..] = fields else {
-                return at;
-            };
-            let kind = first.kind;
-            let outside = self.parents.len();
-            let is_deep = outside >= self.limits.depth() as usize;
-            if outside == 0 || is_deep || !self.schema.has(kind) {
-                return at;
+        let outside = self.parents.len();
+        let left = (self.limits.depth() as usize).saturating_sub(outside);
+        if outside == 0 || left == 0 {
+            return 0;
+        }
+        let space = (self.limits.bytes() as usize).saturating_sub(self.read);
+        let most = space.min(bytes.len());
+        let levels = left as u32;
+        match take_first(self.schema, work, levels, &mut self.built, &bytes[..most]) {
+            Ok((n, rest)) => {
+                self.work = rest;
+                self.read = self.read.saturating_add(n);
+                n
             }
-            let most = most_of(self.limits, self.read, bytes.len() - at);
-            match self.built.field(self.schema, kind, &bytes[at..at + most]) {
-                Ok(n) => {
-                    if n == 0 {
-                        return at;
-                    }
-                    self.work = after(work);
-                    self.read = self.read.saturating_add(n);
-                    at += n;
-                }
-                Err(_) => {
-                    self.fail(Reason::NoMemory);
-                    return bytes.len();
-                }
+            Err(_) => {
+                self.fail(Reason::NoMemory);
+                bytes.len()
             }
         }
-        at
     }
 }

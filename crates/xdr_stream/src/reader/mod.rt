@@ -2,21 +2,23 @@
 //!
 //! - `start`: a reader before any byte. `due`: what is due then.
 //! - `pieces`: pieces of bytes, unit by unit. `parts`: what comes first at a part. `many`: many units at once.
-//! - `entire`: parts that are there whole. `fields`: those of one level. `choice`: nodes that end and begin between.
+//! - `steps`: parts that are there whole, and nodes that end and begin between them. In it go `fields`: a number or
+//!   content, `entire`: parts that are taken at once, and `nodes`: those that end and begin.
 //! - `settling`: how reading goes on after what was taken.
 ghost use Rattle.xdr_stream.specs.Frames.{left_of};
 ghost use Rattle.xdr_stream.specs.Private.OneProof.{one_sound, one_wait};
 ghost use Rattle.xdr_stream.specs.Private.Sound.{IsSoundAt, Waits};
 
-pub(crate) mod choice;
 pub(crate) mod due;
 pub(crate) mod entire;
 pub(crate) mod fields;
 pub(crate) mod many;
+pub(crate) mod nodes;
 pub(crate) mod parts;
 pub(crate) mod pieces;
 pub(crate) mod settling;
 pub(crate) mod start;
+pub(crate) mod steps;
 
 use crate::fault::DecodeFault;
 use crate::machine::Awaits;

@@ -40,10 +40,6 @@ impl<'s, B: Build + Drop> Reader<'s, B> {
                 return n;
             }
         }
-        let n = self.take_ready(bytes, vain);
-        if n > 0 {
-            return n;
-        }
         self.take_part(bytes, vain)
     }
 

@@ -51,9 +51,9 @@ pub(crate) fn is_there(schema: &Schema, id: KindId, bytes: &[u8], levels: u32) -
     }
 }
 
-// The same, whatever the kind is.
+/// The same, whatever the kind is.
 #[cycle(ahead)]
-fn value_ahead(schema: &Schema, id: KindId, bytes: &[u8], levels: u32) -> Option<usize>
+pub(crate) fn value_ahead(schema: &Schema, id: KindId, bytes: &[u8], levels: u32) -> Option<usize>
     requires { id.place < length schema.now.kinds }
     ensures within { IfSome result (λ n. n ≤ length bytes.now) }
     ensures ahead { IfSome result (λ n. IsAhead schema.now.kinds id.place levels (take n bytes.now)) }

@@ -1,7 +1,7 @@
 //! What comes next as a run: bytes of a piece that are taken at once, without a state between their units.
 //!
 //! - `numbers`: numbers one after another. `entire`: a part that may be there whole. `ahead`: whether bytes begin with
-//!   a value. `leaf`: a number. `content`: content behind its length.
+//!   a value. `leaf`: a number. `content`: content behind its length. `sort`: which of them a part is.
 ghost use Rattle.std.specs.Prelude.{◌≡◌, ◌+◌, ◌≤◌, ◌<◌, ◌%◌, length};
 
 pub(crate) mod ahead;
@@ -9,6 +9,7 @@ pub mod content;
 pub mod entire;
 pub mod leaf;
 pub mod numbers;
+pub mod sort;
 
 /// How many bytes of whole units are there: within what is left to read, the piece and the limit.
 pub(crate) fn units_there(left: usize, there: usize, space: usize) -> usize

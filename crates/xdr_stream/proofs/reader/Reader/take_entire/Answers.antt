@@ -48,7 +48,7 @@ entire_due-due-requires g c =
       k.low,
       c.depth-in_range.ensures.range.most_depth,
       ap (λ l. l.depth) i.1.limits_are,
-    )) i.4
+    )) i.3
 
 pub loop-at-preserved : goal.loop-at-preserved
 loop-at-preserved g c =
@@ -76,14 +76,13 @@ loop-at-preserved g c =
     ) in (
       within,
       record { schema_is = i.1.schema_is; kind_is = i.1.kind_is; limits_are = i.1.limits_are },
-      λ none. absurd (omega (arith, none, some)),
-      i.3,
+      i.2,
       record { known = d.known; nested = omega (arith, d.nested, around); low = omega (arith, d.low, around) },
       λ q len none seen.
           let w = subst (λ (x : State). WentAs g.B.Build.spares s r.kind.place r.limits
           (g.B.Build.reports r.built) (stack_of r.work r.parents.items) r.read r.unit r.pending x
-          (q ++ take c.loop-at.at bs)) i.3
-          (i.5 q len none seen) in
+          (q ++ take c.loop-at.at bs)) i.2
+          (i.4 q len none seen) in
           let t = c.in-Ok.ensures.taken some in
           let u : List ℕ = take n given in
           let here : u ≡ take (c.loop-at.at + n - c.loop-at.at) (drop c.loop-at.at bs) =
@@ -118,7 +117,7 @@ loop-at-preserved g c =
           let I : Trace → Type 0 = g.B.Build.reports c.part.new.self in
           let fs : List (List Part) = stack_of c.after-self.result r.parents.items in
           subst (λ (x : State). WentAs g.B.Build.spares s r.kind.place r.limits I fs c.saturating_add-self.result r.unit
-          r.pending x (q ++ take (c.loop-at.at + n) bs)) (sym i.3) (
+          r.pending x (q ++ take (c.loop-at.at + n) bs)) (sym i.2) (
             sym (ap (λ (x : List ℕ). length x) all) ∙ far,
             w.1,
             subst (λ (x : List ℕ). Sees s r.kind.place r.limits I Next fs x) all next,
@@ -135,8 +134,8 @@ returns-in-Err-clause-went g c = λ q len none seen.
     let bs : List ℕ = c.args.bytes.now in
     let n : ℕ = length bs in
     let w = subst (λ (x : State). WentAs z r.schema.now.kinds r.kind.place r.limits H
-    (stack_of r.work r.parents.items) r.read r.unit r.pending x (q ++ take c.loop-at.at bs)) i.3
-    (i.5 q len none seen) in
+    (stack_of r.work r.parents.items) r.read r.unit r.pending x (q ++ take c.loop-at.at bs)) i.2
+    (i.4 q len none seen) in
     let f = c.fail.new.self in
     went_awake z f.schema.now.kinds f.kind.place f.limits (g.B.Build.reports f.built) (stack_of f.work f.parents.items)
     f.read f.unit f.pending (q ++ take n bs) f.state

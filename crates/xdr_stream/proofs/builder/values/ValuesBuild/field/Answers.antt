@@ -1,60 +1,20 @@
-use Rattle.std.proofs.Common.{◌≤◌, ◌-◌, ℕ, List, length, take, drop, refl, subst, sym, ap, ◌∙◌, arith}
-use Rattle.xdr_types.specs.Kinds.{KindView}
-use Rattle.xdr_types.specs.Tree.{Tree, depth}
-use Rattle.xdr_types.specs.View.{tree}
-use Rattle.xdr_types.specs.declared.value.Value.{Value}
+use Rattle.std.proofs.Common.{refl, arith}
 use Rattle.xdr_stream.specs.Nodes.{head_of_leaf}
-use Rattle.xdr_stream.specs.Private.Made.{IsMade}
 use Rattle.xdr_stream.specs.Private.Reported.{leaf_tree}
-use Rattle.xdr_stream.specs.Private.Whole.{IsWhole}
-use Rattle.xdr_stream.specs.declared.builder.tally.Tally.{Tally}
-use Rattle.xdr_stream.specs.declared.builder.values.Values.{Values}
-use Rattle.xdr_stream.specs.declared.runs.content.Whole.{Whole}
-use Rattle.xdr_stream.proofs.Judged.{behind}
-use Rattle.xdr_stream.proofs.Made.{made_handed}
-use Rattle.xdr_stream.proofs.Reported.{reports_part}
 use Rattle.xdr_stream.proofs.builder.values.ValuesBuild.field.Goals as goal
 
-pub returns-in-Some-clause-taken : goal.returns-in-Some-clause-taken
-returns-in-Some-clause-taken c = λ some. (
-  record {
-    value = leaf_tree (head_of_leaf c.in-Some.leaf);
-    fits = c.in-Some.ensures.2.0;
-    spelled = c.in-Some.ensures.2.1;
-    shallow = omega arith;
-  },
-  c.in_ok-leaf.ensures.reported,
-)
-
-pub returns-clause-taken : goal.returns-clause-taken
-returns-clause-taken c = λ some.
-    let b = c.args.self.now in
-    let s : List KindView = c.args.schema.now.kinds in
-    let place : ℕ = c.args.kind.place in
-    let bs : List ℕ = c.args.bytes.now in
-    let whole : Whole = c.in-Some-whole_ahead.whole in
-    let v : Value = c.in_ok-content.content in
-    let before : Tally = record { nodes = b.nodes; content = b.retained; at = 0 } in
-    let after : Tally = c.whole_in.new.tally in
-    let grown : Values = record {
-      alloc = b.alloc;
-      work = c.add.new.level;
-      parents = b.parents;
-      content = b.content;
-      nodes = after.nodes;
-      retained = after.content;
-    } in
-    let handed = c.in_ok-content.ensures in
-    let there : IsWhole s place (take (length bs - 0) (drop 0 bs)) whole =
-    subst (λ (x : List ℕ). IsWhole s place x whole) (sym (behind 0 bs)) c.in-Some-whole_ahead.ensures in
-    let made : IsMade s place bs before after v =
-    made_handed s place whole bs before after v (omega arith) there handed in (
-      record {
-        value = tree v;
-        fits = made.fits;
-        spelled = sym made.took.are ∙ ap (λ (k : ℕ). take k bs) (omega (arith, handed.moved));
-        shallow = subst (λ (x : Tree). depth x ≤ 1) (sym handed.is) (omega arith);
-      },
-      λ t reported space. reports_part b grown v t c.in_ok-add.ensures.added refl refl made.adds.nodes_are
-          made.adds.content_is reported space,
-    )
+pub returns-in_ok-leaf-in-Some : goal.returns-in_ok-leaf-in-Some
+returns-in_ok-leaf-in-Some c = record {
+  within = c.in-Some.ensures.1;
+  taken = λ some. (
+    record {
+      value = leaf_tree (head_of_leaf c.in-Some.leaf);
+      fits = c.in-Some.ensures.2.0;
+      spelled = c.in-Some.ensures.2.1;
+      shallow = omega (arith, c.requires.some);
+    },
+    c.in_ok-leaf-in-Some.ensures.reported,
+  );
+  stays = λ none. absurd (omega (arith, none, c.in-Some.ensures.0));
+  granted = λ free. refl;
+}

@@ -1,0 +1,86 @@
+//! Nodes that end and begin without a byte, where parts may follow that are there whole.
+ghost use Rattle.std.specs.Prelude.{◌≡◌, ℕ, List, [], IfErr, OnOk};
+ghost use Rattle.xdr_types.specs.Kinds.{kind_at};
+ghost use Rattle.xdr_types.specs.KindViews.{kind_view};
+ghost use Rattle.xdr_stream.specs.Frames.{left_of, stack_of, Begins};
+ghost use Rattle.xdr_stream.specs.Sees.{Sees};
+ghost use Rattle.xdr_stream.specs.Private.Moves.{SparesSeen};
+ghost use Rattle.xdr_stream.specs.Private.Sound.{IsSound};
+ghost use Rattle.xdr_stream.specs.declared.fault.Reason.TheVariants.{NoMemory};
+ghost use Rattle.xdr_stream.specs.declared.machine.Awaits.TheVariants.{Next};
+
+use crate::builder::{Build, Leaf, Node};
+use crate::machine::frame::{Frame, after};
+use crate::machine::nodes::{end_nodes, open};
+use crate::machine::step::{Step, step_of};
+use std::alloc::AllocError;
+use xdr_stack::Stack;
+use xdr_types::{Kind, KindId, Limits, Schema};
+
+/// Ends the nodes that have all their parts, the one at work among them. Whether the value is not whole then.
+#[inline(always)]
+pub(crate) fn leave<'s, B: Build>(
+    schema: &'s Schema,
+    limits: Limits,
+    work: &mut Frame<'s>,
+    parents: &mut Stack<Frame<'s>>,
+    built: &mut B,
+) -> Result<bool, AllocError>
+    requires sound { IsSound schema.now.kinds (stack_of work.old parents.old.items) }
+    requires none { left_of work.old ≡ [] }
+    ensures follows { OnOk result ((kind : ℕ) (q : List ℕ)
+        → Sees schema.now.kinds kind limits (B.reports built.old) Next (stack_of work.old parents.old.items) q
+        → Sees schema.now.kinds kind limits (B.reports built.new) Next (stack_of work.new parents.new.items) q) }
+    ensures spared { IfErr result (λ _. SparesSeen B.spares schema.now.kinds limits (B.reports built.old) Next
+        (stack_of work.old parents.old.items) NoMemory) }
+    ensures sound { IsSound schema.now.kinds (stack_of work.new parents.new.items) }
+{
+    let whole = end_nodes(work, parents, built)?;
+    Ok(!whole)
+}
+
+/// Begins the structure or the fixed array that comes next, or passes a void, unless it is too deep. Whether it did.
+#[inline(always)]
+pub(crate) fn enter<'s, B: Build>(
+    schema: &'s Schema,
+    limits: Limits,
+    id: KindId,
+    kind: &'s Kind,
+    work: &mut Frame<'s>,
+    parents: &mut Stack<Frame<'s>>,
+    built: &mut B,
+) -> Result<bool, AllocError>
+    requires sound { IsSound schema.now.kinds (stack_of work.old parents.old.items) }
+    requires first { Begins (left_of work.old) id.place }
+    requires kind { kind_view kind.now ≡ kind_at schema.now.kinds id.place }
+    ensures follows { OnOk result ((kind : ℕ) (q : List ℕ)
+        → Sees schema.now.kinds kind limits (B.reports built.old) Next (stack_of work.old parents.old.items) q
+        → Sees schema.now.kinds kind limits (B.reports built.new) Next (stack_of work.new parents.new.items) q) }
+    ensures spared { IfErr result (λ _. SparesSeen B.spares schema.now.kinds limits (B.reports built.old) Next
+        (stack_of work.old parents.old.items) NoMemory) }
+    ensures sound { IsSound schema.now.kinds (stack_of work.new parents.new.items) }
+{
+    let _known = schema.len();
+    let deepest = limits.depth() as usize;
+    if parents.len() >= deepest {
+        return Ok(false);
+    }
+    match step_of(kind) {
+        Step::Fields(fields) => {
+            let node = Node::Fields(fields.len());
+            open(work, parents, built, node, Frame::Fields { fields })?;
+            Ok(true)
+        }
+        Step::Items { item, size } => {
+            let frame = Frame::Items { item, left: size };
+            open(work, parents, built, Node::Items(size), frame)?;
+            Ok(true)
+        }
+        Step::Void => {
+            built.leaf(Leaf::Nothing)?;
+            *work = after(*work);
+            Ok(true)
+        }
+        _ => Ok(false),
+    }
+}

@@ -1,0 +1,66 @@
+//! How the part that comes next is taken where it is there whole.
+ghost use Rattle.std.specs.Prelude.{◌≡◌, ◌<◌, ◌≤◌, length, true};
+ghost use Rattle.xdr_types.specs.Tree.{Tree, depth};
+ghost use Rattle.xdr_types.specs.Fits.{Fits};
+
+use crate::machine::frame::Frame;
+use xdr_types::{Kind, KindId, Schema};
+
+/// How many levels a union or an optional has at most that is taken as a number is: its own, that of a structure, and
+/// that of a number in it.
+const MOST_LEVELS: u32 = 3;
+
+/// How the part that comes next is taken where it is there whole.
+#[derive(Clone, Copy)]
+pub enum Sort {
+    /// With those of its sort that follow: a number, content behind its length, or a short union or optional.
+    Field,
+    /// With the numbers that follow it in an array.
+    Run,
+    /// At once, with those of its sort that follow: one of a kind whose values have one size.
+    Sized,
+    /// By its parts.
+    Other,
+}
+
+/// Whether a kind is a short union or optional: its values have at most three levels, and at most so many.
+#[inline(always)]
+pub(crate) fn is_short(schema: &Schema, id: KindId, levels: u32) -> bool
+    requires { id.place < length schema.now.kinds }
+    ensures { result ≡ true → (v : Tree) → Fits schema.now.kinds id.place v → depth v ≤ levels }
+{
+    match schema.kind(id) {
+        Kind::Choice { .. } | Kind::Maybe { .. } => match schema.levels(id) {
+            Some(most) => most <= MOST_LEVELS && most <= levels,
+            None => false,
+        },
+        _ => false,
+    }
+}
+
+/// How a part of the kind is taken at a node.
+#[inline(always)]
+pub(crate) fn sort_of(schema: &Schema, work: &Frame<'_>, id: KindId) -> Sort
+    requires { id.place < length schema.now.kinds }
+{
+    match schema.kind(id) {
+        Kind::Int | Kind::Unsigned | Kind::Hyper | Kind::UnsignedHyper => match work {
+            Frame::Items { left, .. } if *left > 1 => Sort::Run,
+            _ => Sort::Field,
+        },
+        Kind::Bool | Kind::Numbered { .. } | Kind::OpaqueUpTo { .. } | Kind::Text { .. } => {
+            Sort::Field
+        }
+        Kind::Structure { .. } | Kind::Fixed { .. } | Kind::Opaque { .. } => {
+            match schema.extent(id) {
+                Some(_) => Sort::Sized,
+                None => Sort::Other,
+            }
+        }
+        _ => if is_short(schema, id, MOST_LEVELS) {
+            Sort::Field
+        } else {
+            Sort::Other
+        },
+    }
+}
