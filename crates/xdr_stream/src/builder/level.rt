@@ -13,7 +13,7 @@ use std::alloc::{AllocError, Global};
 use xdr_types::Value;
 
 /// The most fields that a structure has space for when it begins, so that a node takes little memory before its bytes.
-pub(crate) const MOST_SPACE: usize = 16;
+const MOST_SPACE: usize = 16;
 
 /// A node at work with its finished parts.
 #[derive(Drop)]

@@ -111,7 +111,7 @@ fn value_in(
                 frame,
                 bytes,
                 levels - 1,
-                look.inside(),
+                Look::Done,
                 tally,
             )
         }
@@ -124,7 +124,7 @@ fn value_in(
                 frame,
                 bytes,
                 levels - 1,
-                look.inside(),
+                Look::Done,
                 tally,
             )
         }
@@ -270,7 +270,6 @@ fn values_in(
 {
     // Each part has a unit at least.
     let space = parts_of(&frame).min((bytes.len() - tally.at) / 4);
-    let space = look.space_of(space);
     let mut values = Vec::with_capacity(alloc, space)?;
     let mut frame = frame;
     while let Some(id) = next(&frame) {

@@ -240,7 +240,7 @@ impl Build for Values {
                 schema, kind, levels, bytes,
             ),
             Kind::Choice { .. } | Kind::Maybe { .. } if is_short(schema, kind, levels) => {
-                self.made(schema, kind, levels, Look::Spared, bytes)
+                self.made(schema, kind, levels, Look::Done, bytes)
             }
             _ => match leaf_ahead(schema, kind, bytes) {
                 Some((leaf, size)) => {

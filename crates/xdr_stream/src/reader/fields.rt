@@ -10,11 +10,13 @@ use crate::builder::Build;
 use crate::fault::Reason;
 use crate::machine::frame::{Frame, after, next};
 use crate::reader::Reader;
+use crate::runs::sort::is_field;
 use std::alloc::AllocError;
 use xdr_types::Schema;
 
 // Takes the parts of a node that come first, as long as they are numbers, content behind its length, or short unions or
-// optionals, and there whole, and have at most so many levels; how many bytes they have, and the node behind them.
+// optionals, and there whole, and have at most so many levels; how many bytes they have, the node behind them, and
+// whether its next part is none of these: else it is cut, or refused.
 #[inline(always)]
 fn take_first<'s, B: Build>(
     schema: &'s Schema,
@@ -22,7 +24,7 @@ fn take_first<'s, B: Build>(
     levels: u32,
     built: &mut B,
     bytes: &[u8],
-) -> Result<(usize, Frame<'s>), AllocError>
+) -> Result<(usize, Frame<'s>, bool), AllocError>
     requires known { AreKnown schema.now.kinds (left_of frame) }
     requires some { 0 < levels }
     ensures passes { IfOk result (λ r. Passes schema.now.kinds (B.reports built.old) (B.reports built.new) levels
@@ -36,22 +38,23 @@ fn take_first<'s, B: Build>(
     while let Some(id) = next(&frame) {
         let n = built.field(schema, id, levels, &bytes[at..])?;
         if n == 0 {
-            return Ok((at, frame));
+            return Ok((at, frame, !is_field(schema, id)));
         }
         at += n;
         frame = after(frame);
     }
-    Ok((at, frame))
+    Ok((at, frame, true))
 }
 
 impl<'s, B: Build + Drop> Reader<'s, B> {
     /// Takes the parts that come first, as long as they are numbers, content behind its length, or short unions or
-    /// optionals, and there whole; tells how many bytes. What comes next is not settled then.
+    /// optionals, and there whole; tells how many bytes, and whether the next part is none of these. What comes next is
+    /// not settled then.
     #[inline(always)]
-    pub(crate) fn take_fields(&mut self, bytes: &[u8]) -> usize
+    pub(crate) fn take_fields(&mut self, bytes: &[u8]) -> (usize, bool)
         requires { self.old.state ≡ Fresh }
-        ensures went { Advances B.spares B.reports self.old self.new (take result bytes.now) }
-        ensures within { result ≤ length bytes.now }
+        ensures went { Advances B.spares B.reports self.old self.new (take result.0 bytes.now) }
+        ensures within { result.0 ≤ length bytes.now }
         ensures same { IsSame self.old self.new }
     {
         match self.work {
@@ -63,31 +66,31 @@ impl<'s, B: Build + Drop> Reader<'s, B> {
 
     // The same, where this is the node at work.
     #[inline(always)]
-    fn take_from(&mut self, work: Frame<'s>, bytes: &[u8]) -> usize
+    fn take_from(&mut self, work: Frame<'s>, bytes: &[u8]) -> (usize, bool)
         requires fresh { self.old.state ≡ Fresh }
         requires work { self.old.work ≡ work }
-        ensures went { Advances B.spares B.reports self.old self.new (take result bytes.now) }
-        ensures within { result ≤ length bytes.now }
+        ensures went { Advances B.spares B.reports self.old self.new (take result.0 bytes.now) }
+        ensures within { result.0 ≤ length bytes.now }
         ensures same { IsSame self.old self.new }
     {
         let _in_range = self.limits.depth();
         let outside = self.parents.len();
         let left = (self.limits.depth() as usize).saturating_sub(outside);
         if outside == 0 || left == 0 {
-            return 0;
+            return (0, false);
         }
         let space = (self.limits.bytes() as usize).saturating_sub(self.read);
         let most = space.min(bytes.len());
         let levels = left as u32;
         match take_first(self.schema, work, levels, &mut self.built, &bytes[..most]) {
-            Ok((n, rest)) => {
+            Ok((n, rest, goes_on)) => {
                 self.work = rest;
                 self.read = self.read.saturating_add(n);
-                n
+                (n, goes_on)
             }
             Err(_) => {
                 self.fail(Reason::NoMemory);
-                bytes.len()
+                (bytes.len(), false)
             }
         }
     }

@@ -83,7 +83,7 @@ impl<'s, B: Build + Drop> Reader<'s, B> {
     }
 
     // Takes the parts that come next, or begins one, or ends the nodes that have all their parts. Tells how many bytes
-    // that took, and whether it did so.
+    // that took, and whether more may follow in the same way.
     #[inline(always)]
     fn take_step(&mut self, bytes: &[u8], vain: &mut Vain) -> (usize, bool)
         requires { self.old.state ≡ Fresh }
@@ -95,10 +95,7 @@ impl<'s, B: Build + Drop> Reader<'s, B> {
             return (0, self.leave_nodes());
         };
         match sort_of(self.schema, &self.work, id) {
-            Sort::Field => {
-                let n = self.take_fields(bytes);
-                (n, n > 0)
-            }
+            Sort::Field => self.take_fields(bytes),
             Sort::Run => (0, false),
             Sort::Sized => {
                 let n = self.take_entire(bytes, vain);

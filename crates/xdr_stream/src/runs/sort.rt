@@ -6,9 +6,9 @@ ghost use Rattle.xdr_types.specs.Fits.{Fits};
 use crate::machine::frame::Frame;
 use xdr_types::{Kind, KindId, Schema};
 
-/// How many levels a union or an optional has at most that is taken as a number is: its own, that of a structure, and
-/// that of a number in it.
-const MOST_LEVELS: u32 = 3;
+/// How many levels a union or an optional has at most that is taken as a number is: its own, and that of a number or of
+/// content. So nothing is made of it in vain.
+const MOST_LEVELS: u32 = 2;
 
 /// How the part that comes next is taken where it is there whole.
 #[derive(Clone, Copy)]
@@ -23,7 +23,8 @@ pub enum Sort {
     Other,
 }
 
-/// Whether a kind is a short union or optional: its values have at most three levels, and at most so many.
+/// Whether a kind is a short union or optional: its values have a number or content at most behind their first unit,
+/// and no more than so many levels.
 #[inline(always)]
 pub(crate) fn is_short(schema: &Schema, id: KindId, levels: u32) -> bool
     requires { id.place < length schema.now.kinds }
@@ -38,6 +39,18 @@ pub(crate) fn is_short(schema: &Schema, id: KindId, levels: u32) -> bool
     }
 }
 
+/// Whether a part of the kind is taken with the fields and items around it, where it is there whole.
+#[inline(always)]
+pub(crate) fn is_field(schema: &Schema, id: KindId) -> bool
+    requires { id.place < length schema.now.kinds }
+{
+    match schema.kind(id) {
+        Kind::Int | Kind::Unsigned | Kind::Hyper | Kind::UnsignedHyper => true,
+        Kind::Bool | Kind::Numbered { .. } | Kind::OpaqueUpTo { .. } | Kind::Text { .. } => true,
+        _ => is_short(schema, id, MOST_LEVELS),
+    }
+}
+
 /// How a part of the kind is taken at a node.
 #[inline(always)]
 pub(crate) fn sort_of(schema: &Schema, work: &Frame<'_>, id: KindId) -> Sort
@@ -48,19 +61,13 @@ pub(crate) fn sort_of(schema: &Schema, work: &Frame<'_>, id: KindId) -> Sort
             Frame::Items { left, .. } if *left > 1 => Sort::Run,
             _ => Sort::Field,
         },
-        Kind::Bool | Kind::Numbered { .. } | Kind::OpaqueUpTo { .. } | Kind::Text { .. } => {
-            Sort::Field
-        }
         Kind::Structure { .. } | Kind::Fixed { .. } | Kind::Opaque { .. } => {
             match schema.extent(id) {
                 Some(_) => Sort::Sized,
                 None => Sort::Other,
             }
         }
-        _ => if is_short(schema, id, MOST_LEVELS) {
-            Sort::Field
-        } else {
-            Sort::Other
-        },
+        _ if is_field(schema, id) => Sort::Field,
+        _ => Sort::Other,
     }
 }
