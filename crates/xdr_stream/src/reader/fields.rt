@@ -36,9 +36,12 @@ fn take_first<'s, B: Build>(
     let mut frame = frame;
     let mut at = 0;
     while let Some(id) = next(&frame) {
+        if !is_field(schema, id) {
+            return Ok((at, frame, true));
+        }
         let n = built.field(schema, id, levels, &bytes[at..])?;
         if n == 0 {
-            return Ok((at, frame, !is_field(schema, id)));
+            return Ok((at, frame, false));
         }
         at += n;
         frame = after(frame);
