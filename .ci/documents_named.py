@@ -4,7 +4,7 @@ import glob
 import os
 import re
 
-from documents_tree import ROOT, Crate, cited_by, closure, fields_cited, files_below, text_of
+from documents_tree import ROOT, Crate, all_files, cited_by, closure, fields_cited, files_below, text_of
 
 ENDINGS = (".md", ".py", ".rt", ".antt", ".h", ".c", ".cc", ".rs", ".edit", ".svg")
 PATH = re.compile(r"\.?/?[\w.-][\w.*-]*(?:/[\w.*'-]+)*/?(?:#\w+)?$")
@@ -62,11 +62,7 @@ def bound_for_rust():
 
 @functools.cache
 def base_names():
-    found = set()
-    for _, folders, names in os.walk(ROOT):
-        folders[:] = [it for it in folders if it not in (".git", "out")]
-        found.update(names)
-    return found
+    return {os.path.basename(it) for it in all_files()}
 
 
 def home_of(name, words):

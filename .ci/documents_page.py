@@ -3,7 +3,7 @@ import glob
 import os
 import re
 
-from documents_named import HEADLINES, believed, crates, declared_for_c, base_names, looks_like_path
+from documents_named import HEADLINES, believed, crates, declared_for_c, base_names, looks_like_path, used
 from documents_named import fault_of_clause, fault_of_item, fault_of_lone_function, fault_of_path
 from documents_tree import ROOT, defined_in, text_of
 
@@ -38,6 +38,7 @@ class Page:
             else:
                 for at, said in self.spans(block[0], block.start()):
                     self.check_word(at, said)
+        self.check_uses()
         self.check_links()
         for found in LETTER.finditer(text_of(self.path)):
             self.note(found.start(), found[0], "the letter of a kit")
@@ -106,6 +107,19 @@ class Page:
         elif re.match(PREFIXES + "$", said):
             known = any(said in it.items | it.modules for it in crates().values()) or f"{said}.py" in base_names()
             self.note(at, said, None if said in crates() or known else "no such crate or module")
+
+    def check_uses(self):
+        """A line of crates.txt in a block stands there so, and each crate of the tree that it uses has a line beside."""
+        for block in re.finditer(r"(?:^ {4}\w+(?: staticlib)?:(?: \w+)* *\n)+", self.text, re.M):
+            lines = {it.split()[0].rstrip(":"): it.strip() for it in block[0].splitlines()}
+            if not lines.keys() & used().keys():
+                continue
+            for name, line in lines.items():
+                lacks = sorted((set(line.split()[1:]) & used().keys()) - lines.keys())
+                fault = f"no line for {' '.join(lacks)}" if lacks else None
+                if name in used() and line not in text_of("crates.txt").splitlines():
+                    fault = "crates.txt has another line"
+                self.note(block.start(), line, fault)
 
     def check_links(self):
         plain = re.sub(r"`[^`\n]*`", lambda it: " " * len(it[0]), self.text)

@@ -29,6 +29,16 @@ def files_below(folder, ending):
 
 
 @functools.cache
+def all_files():
+    """All files but what is built, sorted, as paths from the top of the tree."""
+    found = []
+    for at, folders, names in os.walk(ROOT):
+        folders[:] = [it for it in folders if it not in (".git", "out", "target")]
+        found += [os.path.relpath(os.path.join(at, it), ROOT) for it in names]
+    return sorted(found)
+
+
+@functools.cache
 def text_of(path):
     with open(os.path.join(ROOT, path), encoding="utf-8", errors="replace") as it:
         return it.read()

@@ -1,10 +1,10 @@
-"""Rows of what the scripts say of themselves and of words that they do not know, and of the unproved program: what it
-says of its version, of a long compilation, and of a standard input that it cannot read."""
+"""Rows of what the scripts say of themselves and of words that they do not know, and of the unproved program: what is
+said of its version, of a long compilation, and of a standard input that cannot be read."""
 import itertools
 import re
 import shutil
 
-from refuse_use.launcher import DO, FIRST, UNPROVED, is_answer, output, row
+from refuse_use.launcher import DO, UNPROVED, is_answer, output, row
 from refuse_use.standins import PROGRAM, ROOT, Tree
 
 NOT_PROVED = b"oncrpc: not proved yet; " + DO
@@ -45,7 +45,7 @@ def helps(folder):
 
 def version(folder):
     """Nothing unproved names a proof: the version comes from the sources, and nothing is compiled for it."""
-    tree = Tree(folder, "version", STAND_TRY="kept")
+    tree = Tree(folder, "version")
     tree.write("crates/oncrpc_words/src/none", "")
     shutil.copy(f"{ROOT}/{VERSION}", f"{tree.at}/{VERSION}")
     for number in (b"0.1.0", b"9.8.7"):
@@ -64,47 +64,42 @@ def version(folder):
 
 def signs_of_life(folder):
     """While the toolchain is at work, a line says so each half minute, which is here a part of a second."""
-    for try_, doing in (("kept", b"compiling"), ("silent", b"compiling and running")):
-        tree = Tree(folder, f"signs_{try_}", STAND_TRY=try_, STAND_SLEEP="1.5")
-        text = tree.read("scripts/unproved")
-        yield row("a sign of life each 30 seconds", text.count("\nEACH = 30\n") == 1, text)
-        tree.write("scripts/unproved", text.replace("\nEACH = 30\n", "\nEACH = 0.4\n"))
-        got = tree.run("./oncrpc show")
-        sign = rb"oncrpc: %s the unproved program, \d+ seconds so far\n"
-        signs = rb"(%s){2,}" % (sign % b"compiling")
-        signs += rb"(%s){2,}" % (sign % doing) if try_ == "silent" else b""
-        faults, calls = UNPROVED % FIRST + signs + b"unproved fault\n", 2 if try_ == "silent" else 1
-        yield row(f"./oncrpc show, {try_}, slow", is_answer(got, 5, output(b"unproved", b"show"), faults, calls), got)
+    tree = Tree(folder, "signs", STAND_SLEEP="1.5")
+    text = tree.read("scripts/unproved")
+    yield row("a sign of life each 30 seconds", text.count("\nEACH = 30\n") == 1, text)
+    tree.write("scripts/unproved", text.replace("\nEACH = 30\n", "\nEACH = 0.4\n"))
+    got = tree.run("./oncrpc show")
+    sign = rb"(oncrpc: compiling and running the unproved program, \d+ seconds so far\n){2,}"
+    faults = UNPROVED + sign + b"unproved fault\n"
+    yield row("./oncrpc show, slow", is_answer(got, 5, output(b"unproved", b"show"), faults, 1), got)
 
 
-# How the toolchain's run goes and with what status the program ends, for each input that cannot be read.
-INPUTS = [(*it, given) for it in itertools.product(("kept", "silent"), (0, 1, 2)) for given in ("<.", "<&-", "<bin")]
+# With what status the program ends, for each input that cannot be read.
+INPUTS = itertools.product((0, 1, 2), ("<.", "<&-", "<bin"))
 
 
-def tree_of(folder, name, how, status):
-    """A checkout whose unproved program, which ends with this status, was made before."""
-    tree = Tree(folder, name, STAND_TRY=how)
+def tree_of(folder, name, status):
+    """A checkout whose unproved program ends with this status."""
+    tree = Tree(folder, name)
     tree.write("bin/unproved", PROGRAM.format(kind="unproved", status=status), 0o755)
-    tree.run("./oncrpc show")
     return tree
 
 
 def unreadable(folder):
-    """A standard input that is a folder or closed: what the program says of it, whether it can be kept or not."""
-    for at, (how, status, given) in enumerate(INPUTS):
-        tree = tree_of(folder, f"unreadable{at}", how, status)
+    """A standard input that is a folder or closed is a read fault, but for words that the program refuses first."""
+    for at, (status, given) in enumerate(INPUTS):
+        tree = tree_of(folder, f"unreadable{at}", status)
         tree.write("given", f"exec ./oncrpc show {given}\n")
-        got, first = tree.run("sh given"), FIRST if how == "silent" else b""
-        well = is_answer(got, 3, b"", UNPROVED % first + b"read fault\n", how == "silent")
-        # (a run of the toolchain says whether the words are refused, which they are before anything is read)
-        if how == "silent" and status == 2:
-            well = is_answer(got, 2, output(b"unproved", b"show"), UNPROVED % first + b"unproved fault\n", 1)
-        yield row(f"./oncrpc show {given}, {how}, {status}", well, got)
+        got = tree.run("sh given")
+        well = is_answer(got, 3, b"", UNPROVED + b"read fault\n", 1)
+        if status == 2:
+            well = is_answer(got, 2, output(b"unproved", b"show"), UNPROVED + b"unproved fault\n", 1)
+        yield row(f"./oncrpc show {given}, {status}", well, got)
 
 
 def unread(folder):
     """A standard input that cannot be read is nothing to words that read none."""
-    tree = tree_of(folder, "unread", "silent", 0)
+    tree = tree_of(folder, "unread", 0)
     tree.write(VERSION, 'pub const VERSION: &str = "1";\n')
     for words in ("show --help", "help", "serve -h", "--version", "prove"):
         tree.write("given", f"exec ./oncrpc {words} <.\n")

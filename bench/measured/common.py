@@ -12,6 +12,28 @@ ARCHIVE = f"{ROOT}/library/liboncrpc.a"
 CALLS_OF_OURS = f"{ROOT}/crates/tool_bench/out/tool_bench"
 
 
+def refuse(why):
+    """Ends with one line that says why, and status 2."""
+    print(why, file=sys.stderr)
+    sys.exit(2)
+
+
+def program_of(root, crate):
+    """The proved program of a crate in a checkout."""
+    return f"{root}/crates/{crate}/out/{crate}"
+
+
+def built(root, *crates):
+    """The folder of a checkout in which the programs of these crates are built."""
+    root = os.path.realpath(root)
+    if not os.path.isdir(f"{root}/crates"):
+        refuse(f"{root}: no checkout of this repository")
+    for crate in crates:
+        if not os.path.isfile(program_of(root, crate)):
+            refuse(f"{root}: crates/{crate} is not built: 'rt run' there leaves its program in out/")
+    return root
+
+
 def wall(words, given, runs=5):
     """The least wall time in seconds, and what the run wrote."""
     best = None
@@ -30,17 +52,23 @@ def wall(words, given, runs=5):
 
 def instructions(words, given):
     """The count of instructions by callgrind."""
-    with tempfile.TemporaryDirectory() as folder, open(given, "rb") as source:
+    with open(given, "rb") as source:
+        return counted(words, source, subprocess.DEVNULL)[0]
+
+
+def counted(words, source, sink):
+    """The count of instructions by callgrind, and how the process ended."""
+    with tempfile.TemporaryDirectory() as folder:
         out = f"--callgrind-out-file={folder}/out"
         ended = subprocess.run(
             ["valgrind", "--tool=callgrind", out, *words],
             stdin=source,
-            stdout=subprocess.DEVNULL,
+            stdout=sink,
             stderr=subprocess.PIPE,
         )
         for line in ended.stderr.decode(errors="replace").splitlines():
             if "Collected" in line:
-                return int(line.split(":")[-1])
+                return int(line.split(":")[-1]), ended
     sys.exit(f"{words}: callgrind counted nothing: {ended.stderr[-300:]}")
 
 

@@ -21,7 +21,7 @@ HELD = FULL - 16
 def needs():
     """What is missing to measure beside rpcbind, if anything is."""
     os.environ["PATH"] += ":/usr/sbin:/sbin"
-    for tool in ("unshare", "ip", "mount", "rpcbind"):
+    for tool in ("unshare", "ip", "mount", "ps", "rpcbind"):
         if not shutil.which(tool):
             return f"{tool} is not there"
     if os.geteuid() != 0 or subprocess.run(["unshare", "-n", "-m", "true"], capture_output=True).returncode:
@@ -159,8 +159,7 @@ def connect_once(port, given):
 
 def resident(process):
     """The resident size of a process in KiB."""
-    with open(f"/proc/{process.pid}/status") as status:
-        return next(int(line.split()[1]) for line in status if line.startswith("VmRSS"))
+    return int(subprocess.run(["ps", "-o", "rss=", "-p", str(process.pid)], check=True, stdout=subprocess.PIPE).stdout)
 
 
 def hostile_connections(count=10000):

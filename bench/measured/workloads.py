@@ -9,6 +9,8 @@ import subprocess
 import sys
 import time
 
+from measured.common import program_of, refuse
+
 TURNS = 9
 
 
@@ -19,7 +21,26 @@ def jobs(root, seed):
             name, crate, *words = line.split()
             given = words.pop()[1:] if words and words[-1].startswith("<") else None
             words = [seed if word == "SEED" else word for word in words]
-            yield name, [f"{root}/crates/{crate}/out/{crate}", *words], given
+            yield name, [program_of(root, crate), *words], given
+
+
+def checkout(folder):
+    """The folder of a checkout that has jobs, the program of each, and its input."""
+    root = os.path.realpath(folder)
+    if not os.path.isfile(f"{root}/bench/workloads.txt"):
+        refuse(f"{folder}: no checkout with bench/workloads.txt")
+    for name, words, given in jobs(root, "1"):
+        for path in [words[0], *([f"{root}/bench/{given}"] if given else [])]:
+            if not os.path.isfile(path):
+                refuse(f"{folder}: no built checkout: the job {name} wants {os.path.relpath(path, root)}")
+    return root
+
+
+def a_seed(word):
+    """The word, which has to be a number that tool_workloads takes."""
+    if not (word.isascii() and word.isdecimal() and int(word) < 1 << 32):
+        refuse(f"{word}: no number from 0 to 4294967295")
+    return word
 
 
 def run(root, words, given):
@@ -53,7 +74,9 @@ def compare(old, new, seed):
 
 def main(words):
     """OLD NEW [SEED]"""
-    old, new = (os.path.realpath(word) for word in words[:2])
-    seed = words[2] if words[2:] else "1"
+    old, new = (checkout(word) for word in words[:2])
+    seed = a_seed(words[2]) if words[2:] else "1"
+    if [name for name, *_ in jobs(old, seed)] != [name for name, *_ in jobs(new, seed)]:
+        refuse(f"{words[0]} and {words[1]} have not the same jobs in bench/workloads.txt")
     print(f"{'workload':<14}{'old s':>8} {'new s':>8} {'old/new':>8}", flush=True)
     compare(old, new, seed)

@@ -21,6 +21,7 @@ from rows.shared import (
     REPLY,
     Refused,
     SERVED,
+    SERVED_LONG,
     SET,
     SILLYPROG,
     STREAMS,
@@ -324,7 +325,7 @@ def message_rows():
 def registry_rows():
     # An empty record is no call, and is served without memory.
     served_so = [octets("80000000"), octets("80000001 00")]
-    for given in (*SERVED[:3], *served_so):
+    for given in (*SERVED[:3], SERVED_LONG, *served_so):
         for reads in ((48, 0), (4096, 0)):
             yield Case("serve", reads, given=given, after=ASKED_AFTER), served(given, reads, (4096, 0))
         yield Case("serve_on", **clients(given)), connected([given], (4096, 0))
@@ -418,6 +419,27 @@ def alone_cases():
     ):
         yield Case("Decoder", given=given, **kind), lambda told: "; ok; " in told.answer and told.counts == [0]
         yield Case("Decoder", given=given[:-4], **kind), lambda told: "Truncated" in told.answer and told.counts[0] > 0
+
+
+def given_back_cases():
+    """A decoder that has refused a piece has given back what it held of the value; one that waits for more has not."""
+    items = octets("00000001 00000001 61000000") * 300
+    asked = {"kind": "list", "text": LIST}
+    yield Case("Decoder", given=items, **asked), lambda told: "Truncated" in told.answer and told.counts[0] > 0
+    fault = f"; {fault_of('BadBool', len(items))}; "
+    yield Case("Decoder", given=items + word(2), **asked), lambda told: fault in told.answer and told.counts == [0]
+    for row, piece in itertools.product(REFUSED, PIECES):
+        if row.why != "Truncated":
+            case = Case("Decoder", (piece, 0), given=octets(row.digits), **typed(row))
+            yield case, lambda told, row=row: fault_of(row.why, row.at) in told.answer and told.counts == [0]
+
+
+def declared_alone_cases(heap):
+    """A decoder takes as much memory with a count or a length of 4000 as with one of 1, while nothing stands behind."""
+    for kind, text in (("big", MORE), ("t", CHAINED), ("opaque", b""), ("string", b"")):
+        one, many = (Case("Decoder", kind=kind, text=text, given=word(count)) for count in (1, 4000))
+        first = run([one], LD_PRELOAD=heap)[0]
+        yield many, lambda told, first=first: "Truncated at 4" in told.answer and told == first
 
 
 def without_nodes_cases():

@@ -419,6 +419,75 @@ OTHER_PLACES = [
     (b"/* \xc3\xa9 */ const a = 08;", 2, 0, 1, 20),
     (b"\x0b\x0c const a = 08;", 2, 0, 1, 14),
 ]
+# One name declared three times, in each order: the second in the text is told, whatever each declares.
+THREE_TIMES = [
+    (b"program A { version V { void N(void) = 1; } = 1; } = 1; typedef int A; const A = 1;", 5, 0, 1, 69),
+    (b"program A { version V { void N(void) = 1; } = 1; } = 1; const A = 1; typedef int A;", 5, 0, 1, 63),
+    (b"typedef int A; program A { version V { void N(void) = 1; } = 1; } = 1; const A = 1;", 5, 0, 1, 24),
+    (b"typedef int A; const A = 1; program A { version V { void N(void) = 1; } = 1; } = 1;", 5, 0, 1, 22),
+    (b"const A = 1; program A { version V { void N(void) = 1; } = 1; } = 1; typedef int A;", 5, 0, 1, 22),
+    (b"const A = 1; typedef int A; program A { version V { void N(void) = 1; } = 1; } = 1;", 5, 0, 1, 26),
+    (b"typedef int A; typedef int A; const A = 1; const A = 1;", 5, 0, 1, 28),
+    (b"const B = 1; typedef int A; typedef int B; const A = 1;", 5, 0, 1, 41),
+]
+# The same behind a typedef of that name: it names a type where a typedef is the first of the three.
+THREE_TIMES_NAMED = [
+    (b"typedef A t; program A { version V { void N(void) = 1; } = 1; } = 1; typedef int A; const A = 1;", 6, 0, 1, 9),
+    (b"typedef A t; program A { version V { void N(void) = 1; } = 1; } = 1; const A = 1; typedef int A;", 6, 0, 1, 9),
+    (b"typedef A t; typedef int A; program A { version V { void N(void) = 1; } = 1; } = 1; const A = 1;", 5, 0, 1, 37),
+    (b"typedef A t; typedef int A; const A = 1; program A { version V { void N(void) = 1; } = 1; } = 1;", 5, 0, 1, 35),
+    (b"typedef A t; const A = 1; program A { version V { void N(void) = 1; } = 1; } = 1; typedef int A;", 6, 0, 1, 9),
+    (b"typedef A t; const A = 1; typedef int A; program A { version V { void N(void) = 1; } = 1; } = 1;", 6, 0, 1, 9),
+    (b"typedef struct A t; struct A { int x; }; const A = 1; typedef int A;", 5, 0, 1, 48),
+    (b"typedef struct A t; typedef int A; const A = 1; struct A { int x; };", 6, 0, 1, 16),
+]
+# Fields, arms and procedures of one name, three of them or two pairs in one another.
+THREE_IN_SCOPE = [
+    (b"struct s { int a; int a; int a; };", 5, 0, 1, 23),
+    (b"struct s { int x; int a; int x; int a; int x; };", 5, 0, 1, 30),
+    (b"struct s { int x; int a; int a; int x; };", 5, 0, 1, 30),
+    (b"union u switch (int d) { case 1: int a; case 2: int a; default: int a; };", 5, 0, 1, 53),
+    (b"program P { version V { void N(void) = 0; void N(void) = 1; void N(void) = 2; } = 1; } = 1;", 5, 0, 1, 48),
+]
+# Sixteen fields, of seven bytes each with the space behind it, after the eleven of their beginning.
+FIELDS = (
+    b"struct s { int a; int b; int c; int d; int e; int f; int g; "
+    b"int h; int i; int j; int k; int l; int m; int n; "
+)
+SIXTEEN = FIELDS + b"int o; int p; "
+# Fourteen constants, of thirteen bytes each, which with TRUE and FALSE are sixteen names; and as many types, of fifteen
+# bytes.
+CONSTANTS = (
+    b"const a = 1; const b = 1; const c = 1; const d = 1; const e = 1; const f = 1; const g = 1; const h = 1; "
+    b"const i = 1; const j = 1; const k = 1; const l = 1; const m = 1; const n = 1; "
+)
+TYPES = (
+    b"typedef int a; typedef int b; typedef int c; typedef int d; typedef int e; typedef int f; typedef int g; "
+    b"typedef int h; typedef int i; typedef int j; typedef int k; typedef int l; typedef int m; typedef int n; "
+)
+# Scopes of fifteen to eighteen names: apart, where a later fault is told, and with a name that is there twice.
+MANY_NAMES = [
+    (SIXTEEN + b"}; typedef t x;", 6, 0, 1, 135),
+    (SIXTEEN + b"int q; }; typedef t x;", 6, 0, 1, 142),
+    (FIELDS + b"int o; int a; };", 5, 0, 1, 121),
+    (FIELDS + b"int o; int o; };", 5, 0, 1, 121),
+    (SIXTEEN + b"int a; };", 5, 0, 1, 128),
+    (SIXTEEN + b"int p; };", 5, 0, 1, 128),
+    (SIXTEEN + b"int q; int a; };", 5, 0, 1, 135),
+    (FIELDS + b"int a; int b; int b; int a; };", 5, 0, 1, 114),
+    (CONSTANTS + b"typedef t x;", 6, 0, 1, 191),
+    (CONSTANTS + b"const o = 1; typedef t x;", 6, 0, 1, 204),
+    (CONSTANTS[:-13] + b"const a = 1; ", 5, 0, 1, 176),
+    (CONSTANTS + b"const a = 1;", 5, 0, 1, 189),
+    (CONSTANTS + b"const n = 1; const a = 1;", 5, 0, 1, 189),
+    (CONSTANTS + b"typedef int a;", 5, 0, 1, 195),
+    (TYPES + b"typedef t x;", 6, 0, 1, 219),
+    (TYPES[:-15] + b"typedef int a;", 5, 0, 1, 208),
+    (TYPES + b"typedef int a;", 5, 0, 1, 223),
+    (TYPES + b"const TRUE = 1; typedef int n;", 5, 0, 1, 217),
+    (TYPES + b"typedef int o; const o = 1; typedef int o; const b = 1;", 5, 0, 1, 232),
+    (TYPES + b"program a { version V { void N(void) = 1; } = 1; } = 1;", 5, 0, 1, 219),
+]
 TABLES = [
     STRAY,
     WRONG,
@@ -450,4 +519,8 @@ TABLES = [
     LATER_FAULTS,
     LEFT_OUT,
     OTHER_PLACES,
+    THREE_TIMES,
+    THREE_TIMES_NAMED,
+    THREE_IN_SCOPE,
+    MANY_NAMES,
 ]

@@ -36,6 +36,52 @@ MORE = b"""typedef opaque five<5>; typedef int big<>; typedef opaque six[6]; typ
 typedef int few<2>;
 union u switch (int n) { case 1: int x; }; union b switch (bool d) { case TRUE: string s<3>; default: void; };
 """
+# Parts of one size inside nodes whose size varies, and a union and an optional over such parts.
+PARTS = b"""enum color { RED = 2, BLUE = 5 };
+struct point { int x; hyper y; };
+struct held { string name<4>; point at; color hue; opaque tag[6]; int three[3]; hyper two[2]; bool flags[2]; };
+typedef held helds<>;
+union arm switch (color hue) { case RED: point p; default: int seven[7]; };
+struct around { point *at; arm one; };
+"""
+HELD = """00000001 00000001 61000000 00000007 00000000 00000009 00000005 01020304 05060000
+    00000001 00000002 00000003 00000000 00000001 ffffffff fffffffe 00000001 00000000"""
+HELD_LINES = b"""list of 1
+  struct
+    name: "a"
+    at: struct
+      x: 7
+      y: 9
+    hue: BLUE = 5
+    tag: 0x010203040506
+    three: array of 3
+      1
+      2
+      3
+    two: array of 2
+      1
+      -2
+    flags: array of 2
+      TRUE
+      FALSE
+"""
+AROUND = """00000001 fffffffd 00000001 00000000 00000005
+    00000001 00000002 00000003 00000004 00000005 00000006 00000007"""
+AROUND_LINES = b"""struct
+  at: present
+    struct
+      x: -3
+      y: 4294967296
+  one: case BLUE = 5
+    seven: array of 7
+      1
+      2
+      3
+      4
+      5
+      6
+      7
+"""
 SILLYPROG = (
     "00000009 73696c6c 7970726f 67000000 " "00000002 00000004 6c697370 00000004 6a6f686e 00000006 28717569 74290000"
 )
@@ -73,6 +119,8 @@ WHOLE = [
     Whole(b"", "bool", "00000001", 4, b"TRUE\n"),
     Whole(MORE, "u", "00000001 00000007", 8, b"case 1\n  x: 7\n"),
     Whole(MORE, "few", "00000002 00000007 00000008 00000009", 12, b"list of 2\n  7\n  8\n"),
+    Whole(PARTS, "helds", HELD, 72, HELD_LINES),
+    Whole(PARTS, "around", AROUND, 48, AROUND_LINES),
 ]
 # Refusals: the bytes within a limit, the reason, its place, the count of bytes after which it stands, and the limit on
 # depth.
@@ -85,6 +133,14 @@ REFUSED = [
     Refused(MORE, "u", "00000002 00000000 00", WIDEST, "BadCase", 0, 4),
     Refused(b"", "opaque", "00000008 61616161", 8, "TooLarge", 8, 8),
     Refused(LIST, "list", "00000001 00000001 61000000 00000002", WIDEST, "BadBool", 12, 16),
+    # In the midst of parts of one size: no member and behind it bad padding, bad padding, a bad boolean that comes last.
+    Refused(PARTS, "held", HELD[9:].replace("00000005", "00000003").replace("05060000", "05060001"), WIDEST,
+            "BadNumbered", 20, 24),
+    Refused(PARTS, "held", HELD[9:].replace("05060000", "05060100"), WIDEST, "BadPadding", 28, 32),
+    Refused(PARTS, "held", HELD[9:-8] + "00000002", WIDEST, "BadBool", 64, 68),
+    # The limit on bytes inside such a part, and the limit on depth at it.
+    Refused(PARTS, "helds", HELD, 16, "TooLarge", 16, 16),
+    Refused(PARTS, "around", AROUND, WIDEST, "TooDeep", 4, 4, 3),
 ]
 # Bytes that only begin a value.
 PENDING = [
@@ -258,6 +314,10 @@ SERVED = [
     b"".join(marked(row[0]) for row in CALLS),
     marked(SET) + word(0) * 2 + marked(SET, 4) + word(0x80010001),
 ]
+# A call of 9000 bytes, more than a connection keeps between records, and a short one behind it.
+LONG = call(2, PMAPPROC_NULL, "00" * 8960)
+BY_RECORD[LONG] = (LONG, reply(SUCCESS), reply(SUCCESS), None)
+SERVED_LONG = marked(LONG) + marked(NULL)
 # Streams of records, with the limit.
 STREAMS = [
     (WIDEST, "00000002 6162 80000001 63"),

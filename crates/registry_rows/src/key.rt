@@ -1,7 +1,5 @@
 //! The key under which a row stands.
-ghost use Rattle.std.specs.Prelude.{◌≡◌, ◌≤◌, ◌<◌, ◌+◌, ◌-◌, ◌*◌, ◌%◌, ◌^◌, ◌++◌, ◌∷◌, [], if◌then◌else◌, nat_lt};
-ghost use Rattle.std.specs.Prelude.{replicate, length, take, min, slice_range};
-ghost use Rattle.std.specs.Int.{w64, from_le_bytes};
+ghost use Rattle.std.specs.Prelude.{◌≡◌, ◌≤◌, ◌-◌, ◌++◌, ◌∷◌, replicate, length, take, min};
 ghost use Rattle.std.specs.Hash as fed;
 ghost use Rattle.std.specs.Cmp.Rules.{hashing};
 ghost use Rattle.std.proofs.Common.{rules};
@@ -20,22 +18,16 @@ pub struct Key {
 }
 
 impl Hash for Key {
-    ghost hash_input = { λ k. fed.u64 (k.vers * 2 ^ 32 + k.prog) ++ (fed.u64
-        (k.len * 2 ^ 56 + from_le_bytes w64 (take 8 k.name) % 2 ^ 56) ++
-        (if nat_lt 7 k.len then (slice_range k.name 7 (min k.len 64) ∷ []) else [])) };
+    ghost hash_input = { λ k. fed.u32 k.prog ++ (fed.u32 k.vers ++ (take (min k.len 64) k.name ∷ fed.u8 k.len)) };
 
     ghost respects_eq = { Prim.search (hashing, rules) };
 
-    // Two writes of whole words, since a hasher takes these at once and other writes byte by byte: program and version,
-    // and the first seven bytes of the netid with its length. What a longer netid has behind them is a third.
+    // The netid in one write, without the zeros that follow it.
     fn hash<H: Hasher>(&self, state: &mut H) {
-        let [a, b, c, d, e, f, g, h, ..] = self.name;
-        let front = u64::from_le_bytes([a, b, c, d, e, f, g, h]) % (1 << 56);
-        state.write_u64(u64::from(self.vers) * (1 << 32) + u64::from(self.prog));
-        state.write_u64(u64::from(self.len) * (1 << 56) + front);
-        if 7 < self.len {
-            state.write(&self.name[7..usize::from(self.len).min(64)]);
-        }
+        state.write_u32(self.prog);
+        state.write_u32(self.vers);
+        state.write(&self.name[..usize::from(self.len).min(64)]);
+        state.write_u8(self.len);
     }
 }
 

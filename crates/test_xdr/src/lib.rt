@@ -7,8 +7,6 @@ mod codec;
 #[cfg(test)]
 mod device;
 #[cfg(test)]
-mod schema;
-#[cfg(test)]
 mod shown;
 #[cfg(test)]
 mod types;

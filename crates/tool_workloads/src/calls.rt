@@ -14,6 +14,9 @@ pub struct Asked {
     pub uid: Option<u32>,
 }
 
+/// An address of four numbers and a port (RFC 5665 section 5.2.3.3).
+pub const ADDRESS: &[u8] = b"192.168.17.201.8.1";
+
 const HOSTS: &[&[u8]] = &[b"client", b"fileserver-17", b"build.example.org", b"nas"];
 
 fn push_words(out: &mut Vec<u8>, words: &[u32]) -> Result<(), NoMemory> {
@@ -54,4 +57,14 @@ pub fn push_call(out: &mut Vec<u8>, random: &mut Random, asked: Asked) -> Result
         &[asked.xid, 0, 2, 100000, asked.version, asked.procedure],
     )?;
     push_credential(out, random, asked.uid)
+}
+
+/// Makes four bytes at a place the header of a last fragment with what follows them (RFC 5531 section 11).
+pub fn mark(out: &mut [u8], at: usize) {
+    let size = count_of(out.len().saturating_sub(at).saturating_sub(4));
+    let at = at.min(out.len());
+    let front = &mut out[at..];
+    if let [a, b, c, d, ..] = front {
+        [*a, *b, *c, *d] = (size | 0x8000_0000).to_be_bytes();
+    }
 }

@@ -16,14 +16,14 @@ const DIGITS: &[u8; 16] = b"0123456789abcdef";
 
 /// How a value is judged.
 #[derive(Clone, Copy)]
-struct Question {
-    name: &'static str,
-    pieces: Pieces,
-    hex: bool,
+pub struct Question {
+    pub name: &'static str,
+    pub pieces: Pieces,
+    pub hex: bool,
 }
 
-// Judges bytes, and adds the status and what was printed.
-fn add_checked(
+/// Judges bytes, and adds the status and what was printed.
+pub fn add_checked(
     alloc: Global,
     declared: &Declared,
     asked: Question,
@@ -55,8 +55,8 @@ fn add_checked(
     digest.number(faults.value());
 }
 
-// A digit of hexadecimal.
-fn digit(value: u8) -> u8 {
+/// A digit of hexadecimal.
+pub fn digit(value: u8) -> u8 {
     match DIGITS.get(value as usize) {
         Some(digit) => *digit,
         None => b'0',

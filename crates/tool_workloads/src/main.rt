@@ -1,18 +1,22 @@
 //! Jobs that users wait for, each over inputs of its own, which a seed makes: `tool_workloads WORK SEED`, and for a
-//! smaller job a count of rounds behind it. WORK is `values`, `show`, `check`, `declarations` or
-//! `registry`; the first three read the types of their values from standard input. A line is printed: the digest of all
-//! results, the same for the same words. `small` does a little of each. `bench/run` times the jobs of
-//! `bench/workloads.txt`.
+//! smaller job a count of rounds behind it. WORK is `values`, `show`, `check`, `declarations`,
+//! `registry` or `assorted`; all but `declarations` and `registry` read the types of values from standard input. A line
+//! is printed: the digest of all results, the same for the same words. `small` does a little of each. `bench/run` times
+//! the jobs of `bench/workloads.txt`.
 //!
 //! - `values`: values decoded and encoded. `show` and `check`: the tasks of the program. `declarations`: texts that are
 //!   read. `registry`: calls that are served.
+//! - `assorted`: inputs that these lack.
+//! - `declared`: what a text declares.
 //! - `results`: the bytes of values. `calls`: the bytes of messages. `texts`: texts of declarations.
 //! - `random`: numbers of a seed. `digest`: what stands for results. `streams`: where bytes come from and go to.
 #![tactic(auto)]
 
+mod assorted;
 mod calls;
 mod check;
 mod declarations;
+mod declared;
 mod digest;
 mod random;
 mod registry;
@@ -31,12 +35,13 @@ use std::process::ExitCode;
 use xdr_units::NoMemory;
 
 // The works, and how many rounds of each are a job.
-const WORKS: [(&str, u32); 5] = [
+const WORKS: [(&str, u32); 6] = [
     ("values", 5000),
     ("show", 2500),
     ("check", 2400),
     ("declarations", 2000),
     ("registry", 3600),
+    ("assorted", 1000),
 ];
 
 // Does so many rounds of a work.
@@ -54,6 +59,7 @@ fn rounds_of(
         "check" => check::work(alloc, types, random, rounds, digest),
         "declarations" => declarations::work(alloc, random, rounds, digest),
         "registry" => registry::work(alloc, random, rounds, digest),
+        "assorted" => assorted::work(alloc, types, random, rounds, digest),
         _ => Ok(false),
     }
 }

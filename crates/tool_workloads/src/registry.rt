@@ -1,26 +1,28 @@
 //! Calls of a registry that are served: clients one after another, each of whom asks for many things.
 
-use crate::calls::{Asked, push_call};
+use crate::calls::{ADDRESS, Asked, mark, push_call};
 use crate::digest::Digest;
-use crate::random::{Random, count_of};
+use crate::random::Random;
 use crate::results::push_content;
 use crate::streams::{Digesting, Pieced, Pieces};
 use rpc_directory::Directory;
-use rpc_engine::{Transport, serve};
+use rpc_engine::{ServeFault, Transport, serve};
 use std::alloc::Global;
 use std::hash::{BuildHasherDefault, DefaultHasher};
 use xdr_units::{NoMemory, push_word};
 
 /// A registry whose order is the same in each run.
-type Registry = Directory<BuildHasherDefault<DefaultHasher>>;
+pub type Registry = Directory<BuildHasherDefault<DefaultHasher>>;
+
+/// A registry without rows but its own.
+pub fn new_registry(alloc: Global) -> Registry {
+    Directory::new(alloc, BuildHasherDefault::new())
+}
 
 /// Programs have numbers from the first on, and so many of them are asked for.
 const FIRST: u32 = 200000;
 
 const PROGRAMS: u32 = 150;
-
-// An address of four numbers and a port (RFC 5665 section 5.2.3.3).
-const ADDRESS: &[u8] = b"192.168.17.201.8.1";
 
 /// A call of the registry.
 #[derive(Clone, Copy)]
@@ -102,16 +104,6 @@ fn push_arguments(out: &mut Vec<u8>, random: &mut Random, ask: Ask) -> Result<()
     }
 }
 
-// Makes four bytes at a place the header of a last fragment with what follows them (RFC 5531 section 11).
-fn mark(out: &mut [u8], at: usize) {
-    let size = count_of(out.len().saturating_sub(at).saturating_sub(4));
-    let at = at.min(out.len());
-    let front = &mut out[at..];
-    if let [a, b, c, d, ..] = front {
-        [*a, *b, *c, *d] = (size | 0x8000_0000).to_be_bytes();
-    }
-}
-
 // A call as a record.
 fn push_record(out: &mut Vec<u8>, random: &mut Random, ask: Ask) -> Result<(), NoMemory> {
     let at = out.len();
@@ -147,14 +139,23 @@ fn push_client(out: &mut Vec<u8>, random: &mut Random, is_first: bool) -> Result
     Ok(())
 }
 
-// Serves a client, and adds what was counted and written.
-fn add_served(
+// Adds which fault it is, with its place or count.
+fn add_fault(alloc: Global, digest: &mut Digest, fault: ServeFault) -> Result<(), NoMemory> {
+    let Ok(text) = format!(in alloc; "{fault:?}") else {
+        return Err(NoMemory);
+    };
+    digest.bytes(text.as_bytes());
+    Ok(())
+}
+
+/// Serves a client, and adds what was counted and written.
+pub fn add_served(
     alloc: Global,
     directory: &mut Registry,
     bytes: &[u8],
     random: &mut Random,
     digest: &mut Digest,
-) {
+) -> Result<(), NoMemory> {
     let pieces = if random.one_in(4) {
         Pieces::Segments
     } else {
@@ -167,9 +168,10 @@ fn add_served(
             digest.number(served.records);
             digest.number(served.replies);
         }
-        Err(_) => digest.number(1),
+        Err(fault) => add_fault(alloc, digest, fault)?,
     }
     digest.number(writer.value());
+    Ok(())
 }
 
 /// Serves so many clients. The first fills the registry.
@@ -179,12 +181,12 @@ pub fn work(
     rounds: u32,
     digest: &mut Digest,
 ) -> Result<bool, NoMemory> {
-    let mut directory = Directory::new(alloc, BuildHasherDefault::new());
+    let mut directory = new_registry(alloc);
     let mut bytes = Vec::new(alloc);
     for round in 0..rounds {
         bytes.clear();
         push_client(&mut bytes, random, round == 0)?;
-        add_served(alloc, &mut directory, &bytes, random, digest);
+        add_served(alloc, &mut directory, &bytes, random, digest)?;
         digest.number(u64::from(directory.rows()));
     }
     Ok(true)

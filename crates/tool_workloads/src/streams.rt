@@ -5,12 +5,15 @@ use crate::digest::Digest;
 use crate::random::Random;
 use xdr_io::{ReadFault, Sink, SinkFault, Source};
 
+/// How many bytes a segment over Ethernet brings.
+pub const SEGMENT: usize = 1448;
+
 /// How many bytes a read brings.
 #[derive(Clone, Copy)]
 pub enum Pieces {
     /// As many as a read takes.
     Pages,
-    /// What comes in a segment over Ethernet: 1448.
+    /// What comes in a segment.
     Segments,
     /// From one byte to so many.
     UpTo(u32),
@@ -38,7 +41,7 @@ impl<'a> Source for Pieced<'a> {
     fn read(&mut self, array: &mut [u8; 4096]) -> Result<usize, ReadFault> {
         let most = match self.pieces {
             Pieces::Pages => 4096,
-            Pieces::Segments => 1448,
+            Pieces::Segments => SEGMENT,
             Pieces::UpTo(most) => self.random.within(1, most) as usize,
         };
         let n = self.rest.len().min(most).min(4096);

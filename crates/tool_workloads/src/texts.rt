@@ -22,7 +22,8 @@ const BASICS: &[&[u8]] = &[
     b"unsigned hyper",
 ];
 
-fn push(out: &mut Vec<u8>, text: &[u8]) -> Result<(), NoMemory> {
+/// Writes a text.
+pub fn push(out: &mut Vec<u8>, text: &[u8]) -> Result<(), NoMemory> {
     out.extend_from_slice(text)?;
     Ok(())
 }
@@ -35,8 +36,8 @@ fn one_of<'a>(random: &mut Random, texts: &[&'a [u8]]) -> &'a [u8] {
     }
 }
 
-// A name with a number.
-fn push_name(out: &mut Vec<u8>, stem: &[u8], number: u32) -> Result<(), NoMemory> {
+/// Writes a name with a number.
+pub fn push_name(out: &mut Vec<u8>, stem: &[u8], number: u32) -> Result<(), NoMemory> {
     push(out, stem)?;
     push(out, b"_")?;
     push_decimal(out, number)

@@ -3,14 +3,12 @@
 use crate::digest::Digest;
 use crate::random::Random;
 use crate::results::{Sort, pool, push_value, spoil, type_of};
+use crate::streams::SEGMENT;
 use std::alloc::Global;
 use xdr_codec::{DecodeFault, Decoder, Progress, decode, encode};
 use xdr_lang::{Declared, read};
 use xdr_types::{KindId, Limits, Schema, Value, fits, size};
 use xdr_units::NoMemory;
-
-/// How many bytes a segment over Ethernet brings.
-const SEGMENT: usize = 1448;
 
 /// The sort of value that comes next: mostly what a directory has or a read brings, as a client of NFS asks for them.
 fn next_sort(random: &mut Random) -> Sort {
@@ -26,8 +24,8 @@ fn next_sort(random: &mut Random) -> Sort {
     }
 }
 
-// Adds a fault.
-fn add_fault(digest: &mut Digest, fault: DecodeFault) {
+/// Adds a fault.
+pub fn add_fault(digest: &mut Digest, fault: DecodeFault) {
     digest.number(u64::from(fault.why.number()));
     digest.number(fault.at as u64);
 }
@@ -51,13 +49,14 @@ fn add_value(
     Ok(())
 }
 
-// The value of bytes that come by segments.
-fn decode_segments(
+/// The value of bytes that come by segments. Adds how many bytes of the last segment it has.
+pub fn decode_segments(
     alloc: Global,
     schema: &Schema,
     kind: KindId,
     limits: Limits,
     bytes: &[u8],
+    digest: &mut Digest,
 ) -> Option<Result<Value, DecodeFault>> {
     if !schema.has(kind) {
         return None;
@@ -69,26 +68,50 @@ fn decode_segments(
         rest = behind;
         match decoder.feed(piece) {
             Ok(Progress::More) => {}
-            _ => break,
+            Ok(Progress::Done { used }) => {
+                digest.number(used as u64);
+                break;
+            }
+            Err(_) => break,
         }
     }
     Some(decoder.finish())
 }
 
-// The value of bytes that are all there.
-fn decode_whole(
+/// The value of bytes that are all there. Adds how many of them it has.
+pub fn decode_whole(
     alloc: Global,
     schema: &Schema,
     kind: KindId,
     limits: Limits,
     bytes: &[u8],
+    digest: &mut Digest,
 ) -> Option<Result<Value, DecodeFault>> {
     if !schema.has(kind) {
         return None;
     }
     match decode(alloc, schema, kind, limits, bytes) {
-        Ok((value, _)) => Some(Ok(value)),
+        Ok((value, count)) => {
+            digest.number(count as u64);
+            Some(Ok(value))
+        }
         Err(fault) => Some(Err(fault)),
+    }
+}
+
+/// Adds the value that was decoded, or the fault.
+pub fn add_outcome(
+    alloc: Global,
+    schema: &Schema,
+    kind: KindId,
+    limits: Limits,
+    decoded: Option<Result<Value, DecodeFault>>,
+    digest: &mut Digest,
+) -> Result<(), NoMemory> {
+    match decoded {
+        Some(Ok(value)) => add_value(alloc, schema, kind, limits, &value, digest),
+        Some(Err(fault)) => Ok(add_fault(digest, fault)),
+        None => Ok(()),
     }
 }
 
@@ -107,15 +130,11 @@ fn add_decoded(
     };
     let schema = &declared.schema;
     let decoded = if in_segments {
-        decode_segments(alloc, schema, kind, limits, bytes)
+        decode_segments(alloc, schema, kind, limits, bytes, digest)
     } else {
-        decode_whole(alloc, schema, kind, limits, bytes)
+        decode_whole(alloc, schema, kind, limits, bytes, digest)
     };
-    match decoded {
-        Some(Ok(value)) => add_value(alloc, schema, kind, limits, &value, digest),
-        Some(Err(fault)) => Ok(add_fault(digest, fault)),
-        None => Ok(()),
-    }
+    add_outcome(alloc, schema, kind, limits, decoded, digest)
 }
 
 /// Decodes and encodes so many values. One of sixteen has a byte that was changed.

@@ -2,8 +2,8 @@
 use Rattle.std.proofs.Common.{◌≡◌, ℕ, ◌+◌, ◌-◌, ◌<◌, ◌≤◌, ◌&&◌, true, pos, List, [], ◌++◌}
 use Rattle.std.proofs.Common.{length, take, drop, refl, sym, ap, subst, ◌∙◌, append-nil, arith, max}
 use Rattle.std.specs.Prelude.{Option, Some, None, IfSome, Bool, false, IsTrue}
-use Rattle.std.proofs.lemmas.List.{drop-drop}
 use Rattle.std.proofs.Math.Seq.{take-add}
+use Rattle.std.proofs.lemmas.Bool.{false≢true}
 use Rattle.xdr_units.specs.Numbers.{word, num4, pad, padded, AreBytes}
 use Rattle.xdr_units.proofs.Bytes.{AreBytes-before, AreBytes-take, AreBytes-drop}
 use Rattle.xdr_types.specs.Kinds as xdr
@@ -17,14 +17,10 @@ use Rattle.xdr_types.specs.Decided.{IsDecided}
 use Rattle.xdr_types.specs.declared.extent.Extent.{Extent}
 use Rattle.xdr_types.specs.declared.decided.Decided.{Decided}
 use Rattle.xdr_laws.specs.Owed.{lead_of, IsLengthFirst, Accepts, head_of}
-use Rattle.xdr_laws.proofs.Legal.{and, is_legal_of, bytes_are}
+use Rattle.xdr_laws.proofs.Legal.{and, both, is_legal_of, bytes_are}
 use Rattle.xdr_laws.proofs.UnitOwed.{head_legal}
 use Rattle.xdr_stream.specs.Frames.{left_of, rest_of, Begins}
 use Rattle.xdr_stream.specs.Taking.{Takes}
-use Rattle.xdr_stream.specs.Steps.{IsStep}
-use Rattle.xdr_stream.specs.Sees.{make_wide}
-use Rattle.xdr_stream.specs.declared.machine.step.Step.TheVariants.{Wide}
-use Rattle.xdr_stream.proofs.Seeing.{makes_wide, makes_unsigned}
 use Rattle.xdr_stream.specs.Nodes.{head_of_leaf}
 use Rattle.xdr_stream.specs.Private.Ahead.{IsAhead, AreAhead}
 use Rattle.xdr_stream.specs.Private.Entire.{IsOneLeaf, IsPadded}
@@ -148,23 +144,6 @@ ahead_decided s place levels e d t k x leaf bytes of by fitting low size are is 
     (leaf_tree (head_of_leaf leaf), one.0, one.1) in
     record { value = v.0; fits = v.1; spelled = v.2; shallow = omega (arith, low, of.levels v.0 v.1) }
 
--- a hyper integer
-pub ahead_wide : (s : List KindView) (place levels : ℕ) (signed : Bool) (bytes : List ℕ) (k : KindView) → 0 < levels
-    → IsStep k (Wide signed) → k ≡ kind_at s place → length bytes ≡ 8 → are_bytes bytes ≡ true
-    → IsAhead s place levels bytes
-ahead_wide s place levels true bytes k some step is len are =
-    let m = makes_wide s bytes len are in
-    ahead_node s place levels xdr.hyper (make_wide true bytes) bytes [] bytes some (sym step ∙ is) m.0
-    (m.1 ∙ append-nil bytes)
-    (subst (λ (ps : List Part). AreAhead s ps (levels - 1) []) (sym m.2) (ahead_none s (levels - 1)))
-    (append-nil bytes)
-ahead_wide s place levels false bytes k some step is len are =
-    let m = makes_unsigned s bytes len are in
-    ahead_node s place levels xdr.unsigned_hyper (make_wide false bytes) bytes [] bytes some (sym step ∙ is) m.0
-    (m.1 ∙ append-nil bytes)
-    (subst (λ (ps : List Part). AreAhead s ps (levels - 1) []) (sym m.2) (ahead_none s (levels - 1)))
-    (append-nil bytes)
-
 -- what stands for a count stands for what it is turned into
 pub if_some : (o : Option ℕ) (P Q : ℕ → Type 0) → ((n : ℕ) → P n → Q n) → IfSome o P → IfSome o Q
 if_some None P Q f h = tt
@@ -191,20 +170,21 @@ ahead_more s ps place levels x y b o r =
     most : (a c : ℕ) → c ≤ levels → a ≤ levels → max a c ≤ levels
     most a c first second = grind arith
 
--- one more, of bytes from a place on
-pub ahead_then : (s : List KindView) (ps before qs : List Part) (place levels at n m : ℕ) (bytes : List ℕ)
-    → Begins ps place → qs ≡ rest_of ps
-    → IsAhead s place levels (take n (take (length bytes - at) (drop at bytes)))
-    → ((k : ℕ) → AreAhead s ps levels (take k (drop at bytes)) → AreAhead s before levels (take (at + k) bytes))
-    → AreAhead s qs levels (take m (drop (at + n) bytes)) → AreAhead s before levels (take (at + n + m) bytes)
-ahead_then s ps before qs place levels at n m bytes b rest o before_is r =
-    let one : IsAhead s place levels (take n (drop at bytes)) =
-    subst (λ (y : List ℕ). IsAhead s place levels (take n y)) (behind at bytes) o in
-    let more : AreAhead s (rest_of ps) levels (take m (drop n (drop at bytes))) =
-    subst (λ (y : List ℕ). AreAhead s (rest_of ps) levels (take m y)) (sym (drop-drop n at bytes))
-    (subst (λ (z : List Part). AreAhead s z levels (take m (drop (at + n) bytes))) rest r) in
-    let all : AreAhead s ps levels (take (n + m) (drop at bytes)) =
-    subst (λ (y : List ℕ). AreAhead s ps levels y) (sym (take-add n m (drop at bytes)))
-    (ahead_more s ps place levels (take n (drop at bytes)) (take m (drop n (drop at bytes))) b one more) in
-    let joined : at + (n + m) ≡ at + n + m = omega arith in
-    subst (λ (k : ℕ). AreAhead s before levels (take k bytes)) joined (before_is (n + m) all)
+-- one alone
+pub ahead_only : (s : List KindView) (ps : List Part) (place levels : ℕ) (bytes : List ℕ) → Begins ps place
+    → rest_of ps ≡ [] → IsAhead s place levels bytes → AreAhead s ps levels bytes
+ahead_only s ps place levels bytes b none o =
+    subst (λ (x : List ℕ). AreAhead s ps levels x) (append-nil bytes)
+    (ahead_more s ps place levels bytes [] b o
+    (subst (λ (qs : List Part). AreAhead s qs levels []) (sym none) (ahead_none s levels)))
+
+-- content has one level
+pub content_shallow : (s : List KindView) (place size levels : ℕ) (v : Tree) → xdr.opaque size ≡ kind_at s place
+    → 0 < levels → Fits s place v → depth v ≤ levels
+content_shallow s place size levels (h, inner) is some fitting =
+    of inner (both (is_legal s (xdr.opaque size) h) (fit s (parts (xdr.opaque size) h) inner)
+    (subst (λ (k : KindView). is_legal s k h && fit s (parts k h) inner ≡ true) (sym is) fitting)).1
+  where
+    of : (vs : Values) → fit s (parts (xdr.opaque size) h) vs ≡ true → depth_of vs + 1 ≤ levels
+    of value.none f = omega (arith, some)
+    of (value.node a b c) f = absurd (false≢true f)

@@ -1,7 +1,7 @@
 -- Values that are made of bytes one after another, and what is counted of them.
-use Rattle.std.proofs.Common.{◌≡◌, ℕ, ◌+◌, ◌-◌, ◌≤◌, ◌&&◌, Bool, true, false, List, [], ◌∷◌, ◌++◌}
+use Rattle.std.proofs.Common.{◌≡◌, ℕ, ◌+◌, ◌-◌, ◌<◌, ◌≤◌, ◌&&◌, Bool, true, false, List, [], ◌∷◌, ◌++◌}
 use Rattle.std.proofs.Common.{length}
-use Rattle.std.proofs.Common.{map, take, drop, refl, sym, ap, subst, ◌∙◌, arith, append_assoc, append-nil}
+use Rattle.std.proofs.Common.{map, replicate, take, drop, refl, sym, ap, subst, ◌∙◌, arith, append_assoc, append-nil}
 use Rattle.std.specs.Prelude.{Option, Some, None, is_some, IfSome, IfOk, Result, Ok, Err}
 use Rattle.std.proofs.lemmas.Bool.{false≢true}
 use Rattle.std.proofs.lemmas.List.{drop-drop, length-replicate, length-take, length-drop}
@@ -14,34 +14,36 @@ use Rattle.xdr_types.specs.Tree as value
 use Rattle.xdr_types.specs.Tree.{Head, Values, Tree}
 use Rattle.xdr_types.specs.Fits.{Fits, fits, fit, is_legal, parts, are_bytes, item_part, optional_part, part_of}
 use Rattle.xdr_types.specs.Spelling.{own, spelling, bytes_of}
+use Rattle.xdr_types.specs.Laws.{EachPartIsKnown}
 use Rattle.xdr_types.specs.View.{tree, values}
+use Rattle.xdr_types.specs.KindViews.{part_of_member}
 use Rattle.xdr_types.specs.declared.value.Value.{Value}
 use Rattle.xdr_types.proofs.Grown.{fit-snoc, spelling-snoc}
 use Rattle.xdr_laws.specs.Held.{node_count, byte_count, count_nodes, count_bytes, bytes_in}
 use Rattle.xdr_laws.specs.Owed.{lead_of, IsLengthFirst, Accepts, head_of}
 use Rattle.xdr_laws.proofs.Legal.{and, is_legal_of, bytes_are, are_bytes_of, IsLegal}
 use Rattle.xdr_laws.proofs.UnitOwed.{head_legal}
+use Rattle.xdr_laws.proofs.Nodes.{IsFormedKind}
 use Rattle.xdr_stream.specs.Frames.{left_of, rest_of, Begins}
 use Rattle.xdr_stream.specs.Nodes.{head_of_leaf, head_of_node}
 use Rattle.xdr_stream.specs.Taking.{Takes}
-use Rattle.xdr_stream.specs.Steps.{IsStep}
-use Rattle.xdr_stream.specs.declared.machine.step.Step.TheVariants.{Wide}
-use Rattle.xdr_stream.proofs.Seeing.{makes_wide, makes_unsigned}
 use Rattle.xdr_stream.specs.Trace.{IsOpen}
-use Rattle.xdr_stream.specs.Sees.{make_wide}
 use Rattle.xdr_stream.specs.Private.Reported.{leaf_tree}
 use Rattle.xdr_stream.specs.Private.Entire.{IsOneLeaf}
-use Rattle.xdr_stream.specs.Private.Made.{Adds, between, Took, IsMade, AreMade, IsNode, IsOnly, IsContent, IsWide}
+use Rattle.xdr_stream.specs.Private.Made.{Adds, between, Took, IsMade, AreMade, IsNode, IsOnly, IsContent, IsBare}
 use Rattle.xdr_stream.specs.Private.Made.{IsHanded}
 use Rattle.xdr_stream.specs.Private.Whole.{IsWhole}
 use Rattle.xdr_stream.specs.declared.runs.content.Whole.{Whole}
-use Rattle.xdr_stream.specs.Private.Made.{Counts}
+use Rattle.xdr_stream.specs.Private.Made.{Counts, bare_tree}
 use Rattle.xdr_stream.specs.declared.builder.Leaf.{Leaf}
 use Rattle.xdr_stream.specs.declared.builder.Node.{Node}
 use Rattle.xdr_stream.specs.declared.builder.tally.Tally.{Tally}
 use Rattle.xdr_stream.specs.declared.machine.frame.Frame.{Frame}
+use Rattle.xdr_stream.specs.declared.machine.frame.Frame.TheVariants.{Fields, Items, Arm}
 use Rattle.xdr_stream.specs.declared.machine.number.Made.TheVariants as made
+use Rattle.xdr_stream.specs.Private.Sound.{AreKnown}
 use Rattle.xdr_stream.proofs.Filled.{as_many}
+use Rattle.xdr_stream.proofs.Sounding.{solid_known, fields_solid, items_solid}
 use Rattle.xdr_stream.proofs.Judged.{leaf_taken, behind}
 use Rattle.xdr_stream.proofs.Reported.{leaf_bytes}
 
@@ -289,6 +291,33 @@ made_node s place k h bytes a m c v is legal took nodes content none r =
       });
     })
 
+-- a node that no unit comes before
+pub made_bare : (s : List KindView) (place : ℕ) (f : Frame) (bytes : List ℕ) (a b c : Tally) (v : Value)
+    (vs : List Value) → IsBare (kind_at s place) f → tree v ≡ bare_tree f vs
+    → AreMade s (left_of f) bytes a b (values vs) → Adds b c 1 0 → c.at ≡ b.at → IsMade s place bytes a c v
+made_bare s place (Fields fields) bytes a b c v vs is form m one same =
+    let ps : List Part = map part_of_member fields.now in
+    made_node s place (xdr.structure ps) value.fields bytes a a c v (sym is) refl
+    (took_none bytes a a (omega (arith, m.took.ordered, m.took.within)) refl) refl refl refl
+    (node_group s ps bytes a b c v vs form m one same)
+made_bare s place (Items item n) bytes a b c v vs is form m one same =
+    let ps : List Part = replicate n (item_part item.place) in
+    made_node s place (xdr.fixed item.place n) (value.items n) bytes a a c v (sym is)
+    (is_legal_of s (xdr.fixed item.place n) (value.items n) refl)
+    (took_none bytes a a (omega (arith, m.took.ordered, m.took.within)) refl) refl refl refl
+    (node_list s n ps bytes a b c v vs form (length-replicate n (item_part item.place)) m one same)
+made_bare s place (Arm member) bytes a b c v vs is form m one same = absurd is
+
+pub bare_known : (s : List KindView) (place : ℕ) (f : Frame) → EachPartIsKnown s → place < length s
+    → IsFormedKind s (kind_at s place) → IsBare (kind_at s place) f → AreKnown s (left_of f)
+bare_known s place (Fields fields) known within formed is =
+    let ps : List Part = map part_of_member fields.now in
+    solid_known s ps (fields_solid s place ps known within formed (sym is)).0
+bare_known s place (Items item n) known within formed is =
+    solid_known s (replicate n (item_part item.place))
+    (items_solid s place item.place n known within formed (sym is)).0
+bare_known s place (Arm member) known within formed is = absurd is
+
 -- a value by its tree
 whole : (s : List KindView) (place : ℕ) (bytes : List ℕ) (a c : Tally) (v : Value) (t : Tree) → tree v ≡ t
     → Fits s place t → Took bytes a c (bytes_of s place t) → Adds a c (node_count t) (byte_count t)
@@ -403,45 +432,6 @@ made_open s place k x node frame bytes a m c v is taken took nodes content r =
     (subst (λ (y : List ℕ). Took bytes a m y) (sym l.1) took) nodes content (open_bytes h taken.1.2)
     (subst (λ (ps : List Part). IsNode s h ps bytes m c v) (sym taken.1.3)
     (subst (λ (g : Head). IsNode s g (left_of frame) bytes m c v) taken.1.1 r))
-
-pub made_wide : (s : List KindView) (place : ℕ) (k : KindView) (signed : Bool) (bytes : List ℕ) (a c : Tally)
-    (v : Value) → IsStep k (Wide signed) → k ≡ kind_at s place → are_bytes bytes ≡ true → IsWide signed bytes a c v
-    → IsMade s place bytes a c v
-made_wide s place k signed bytes a c v step is are r = of signed step r.is
-  where
-    bs : List ℕ
-    bs = between a.at c.at bytes
-
-    long : length bs ≡ 8
-    long = omega (arith, r.eight, r.within, length-take (c.at - a.at) (drop a.at bytes), length-drop a.at bytes)
-
-    are_bs : are_bytes bs ≡ true
-    are_bs = are_bytes_of bs (are_between bytes a.at c.at are)
-
-    from : (f : KindView) (h : Head) → f ≡ kind_at s place → is_legal s f h ≡ true → own f h ≡ bs → parts f h ≡ []
-        → bytes_in h ≡ 0 → tree v ≡ leaf_tree h → IsMade s place bytes a c v
-    from f h same legal spelled none content form = whole s place bytes a c v (leaf_tree h) form
-        (subst (λ (g : KindView). is_legal s g h && fit s (parts g h) value.none ≡ true) same
-        (and (is_legal s f h) (fit s (parts f h) value.none) legal
-        (subst (λ (x : List Part). fit s x value.none ≡ true) (sym none) refl)))
-        (subst (λ (g : KindView). Took bytes a c (own g h ++ spelling s (parts g h) value.none)) same
-        (subst (λ (x : List Part). Took bytes a c (own f h ++ spelling s x value.none)) (sym none)
-        (subst (λ (x : List ℕ). Took bytes a c x) (sym (append-nil (own f h) ∙ spelled)) (record {
-          ordered = omega (arith, r.eight);
-          within = r.within;
-          are = refl;
-        })))) (record {
-          nodes_are = λ few. r.adds.nodes_are (omega (arith, few));
-          content_is = λ few. r.adds.content_is (omega (arith, few)) ∙ omega (arith, content);
-        })
-
-    of : (sg : Bool) → IsStep k (Wide sg) → tree v ≡ leaf_tree (make_wide sg bs) → IsMade s place bytes a c v
-    of true step form =
-        let m = makes_wide s bs long are_bs in
-        from xdr.hyper (make_wide true bs) (sym step ∙ is) m.0 (m.1 ∙ append-nil bs) m.2 refl form
-    of false step form =
-        let m = makes_unsigned s bs long are_bs in
-        from xdr.unsigned_hyper (make_wide false bs) (sym step ∙ is) m.0 (m.1 ∙ append-nil bs) m.2 refl form
 
 pub made_one : (s : List KindView) (place : ℕ) (k : KindView) (x : ℕ) (l : Leaf) (bytes : List ℕ) (a m c : Tally)
     (v : Value) → k ≡ kind_at s place → Takes s k x (made.Leaf l) → Took bytes a m (word x) → m.nodes ≡ a.nodes

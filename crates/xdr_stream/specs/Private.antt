@@ -6,6 +6,7 @@ pub mod Leaf
 pub mod Live
 pub mod Made
 pub mod Moves
+pub mod Numbers
 pub mod OneProof
 pub mod Reported
 pub mod Run

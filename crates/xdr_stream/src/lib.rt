@@ -2,12 +2,12 @@
 //!
 //! - `machine`: how reading goes on, whatever is made of the nodes. In it are `nodes`, `entering`, `coming`,
 //!   `frame`, `step`, `unit` and `number`.
-//! - `builder`: what is made of the nodes. In it are `values`, `level`, `whole`, `made`, `look`, `taken`, `tally` and
+//! - `builder`: what is made of the nodes. In it are `values`, `level`, `whole`, `made`, `flat`, `taken`, `tally` and
 //!   `nothing`.
 //! - `runs`: what comes next as bytes that are taken at once. In it are `numbers`, `content`, `leaf`,
 //!   `entire`, `ahead` and `sort`.
-//! - `reader`: where reading stands. In it are `start`, `due`, `pieces`, `parts`, `steps`, `entire`, `fields`, `nodes`,
-//!   `many` and `settling`.
+//! - `reader`: where reading stands. In it are `start`, `due`, `pieces`, `parts`, `steps`, `onward`, `entire`,
+//!   `fields`, `nodes`, `many` and `settling`.
 //! - `decoder`: bytes in pieces as a value. `checker`: bytes in pieces, judged without a value.
 //! - `holding`: what a reader holds. `fault`: why bytes are refused.
 #![tactic(auto)]

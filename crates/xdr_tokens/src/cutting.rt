@@ -1,11 +1,11 @@
 //! The tokens of a text, cut from its front one by one.
 ghost use Rattle.std.specs.Prelude.{◌≡◌, MatchOption, None, Some, ◌<◌, ◌≤◌, length, IfOk, OnOk, IfErr, List, [], ◌++◌};
-ghost use Rattle.std.specs.Prelude.{option_map, IfSome};
+ghost use Rattle.std.specs.Prelude.{option_map, false};
 ghost use Rattle.xdr_tokens.specs.Tokens.{Lexeme, lexeme, lexemes};
 ghost use Rattle.xdr_tokens.specs.Due.{Gives};
 ghost use Rattle.xdr_tokens.specs.Refusals.{IsTokenFault, wrong_number};
 ghost use Rattle.xdr_tokens.specs.Text.{Tokens, with_token};
-ghost use Rattle.xdr_tokens.specs.Private.Front.{comment_at, mark_of, numeral_at, piece_at};
+ghost use Rattle.xdr_tokens.specs.Private.Front.{comment_at, mark_of, numeral_at, is_blank, piece_at};
 
 use crate::bytes::{digit, letter, run_length, skip_comment, space};
 use crate::fault::{Fault, Wrong};
@@ -83,10 +83,10 @@ fn numeral(text: &[u8], len: usize) -> Result<(Option<Token<'_>>, &[u8]), Fault>
     }
 }
 
-/// What follows white space in front.
+/// What follows white space in front, where there is some.
 #[tactic(auto, unfolding(crate::specs::Private::Front::piece_at))]
 fn after_blank(text: &[u8]) -> Option<&[u8]>
-    ensures { IfSome result (λ rest. piece_at text.now ≡ Some (None, rest.now)) }
+    ensures { MatchOption result (is_blank text.now ≡ false) (λ rest. piece_at text.now ≡ Some (None, rest.now)) }
 {
     match text {
         [first, others @ ..] if space(*first) => Some(others),
@@ -94,19 +94,17 @@ fn after_blank(text: &[u8]) -> Option<&[u8]>
     }
 }
 
-/// The token in front, or none at white space and comments, and what follows.
+/// The token in front, where no white space is, or none at a comment, and what follows.
 #[tactic(auto, unfolding(crate::specs::Private::Front::piece_at))]
 fn piece(text: &[u8]) -> Result<(Option<Token<'_>>, &[u8]), Fault>
-    requires { 1 ≤ length text.now }
+    requires filled { 1 ≤ length text.now }
+    requires printed { is_blank text.now ≡ false }
     ensures read { Gives (λ x. (option_map lexeme x.0, x.1.now)) result (piece_at text.now) }
     ensures refused { IfErr result (λ e. IsTokenFault text.now e) }
 {
     let [first, others @ ..] = text else {
         unreachable!();
     };
-    if space(*first) {
-        return Ok((None, others));
-    }
     if *first == b'/' {
         return match comment(others) {
             Some(rest) => Ok((None, rest)),
@@ -154,7 +152,7 @@ pub fn tokens(alloc: Global, text: &[u8]) -> Result<Vec<Token<'_>>, Fault>
     // A refusal is want of memory, or number 1 or 2 at a byte of the text.
     ensures refused { IfErr result (λ e. IsTokenFault text.now e) }
 {
-    let mut found = Vec::with_capacity(alloc, text.len() / 8)?;
+    let mut found = Vec::new(alloc);
     let mut rest = text;
     while !rest.is_empty() {
         if let Some(after) = after_blank(rest) {

@@ -30,8 +30,8 @@ pub enum Deciding {
     Unit(Decided),
 }
 
-/// The unit that decides of the kind at a place, where there is one alone, and the parts of the kind, if it has some,
-/// have theirs.
+/// The unit that decides of a boolean, of an enumeration, or of a structure whose fields have extents, where all but
+/// one are free, and that one has its unit.
 pub fn decided_of(notes: &Vec<Noted>, place: usize, kind: &Kind) -> Option<Decided>
     ensures { (kinds : List KindView) → AreNotes kinds notes.now.items → place < length kinds
         → kind_at kinds place ≡ kind_view kind.now → IfSome result (IsDecided kinds place) }

@@ -14,8 +14,7 @@ const MOST_BYTES: u32 = 65536;
 // or more levels.
 const MOST_DEPTH: u32 = 16;
 
-/// What all values of a kind share, where they have one count of bytes (RFC 4506 sections 4.1 to 4.5, 4.9, 4.12 and
-/// 4.14).
+/// What all values of a kind share that has an extent (RFC 4506 sections 4.1 to 4.5, 4.9, 4.12 and 4.14).
 #[derive(Clone, Copy, Debug)]
 pub struct Extent {
     /// How many bytes each value has: 4 to 65536, a multiple of four.
@@ -26,7 +25,8 @@ pub struct Extent {
     pub free: bool,
 }
 
-/// The extent of a kind, where its values have one size and its parts, if it has some, have their extents.
+/// The extent of a number, a boolean, an enumeration, a fixed opaque, and a fixed array or a structure of parts whose
+/// extents are noted, where it has 65536 bytes and 16 levels at most.
 pub fn extent_of(notes: &Vec<Noted>, kind: &Kind) -> Option<Extent>
     ensures { (kinds : List KindView) (place : ℕ) → AreNotes kinds notes.now.items → place < length kinds
         → kind_at kinds place ≡ kind_view kind.now → IfSome result (IsExtent kinds place) }

@@ -12,7 +12,7 @@ use crate::notes::Noted;
 // No kind whose levels are noted has more.
 const MOST_LEVELS: u32 = 16;
 
-/// How many levels the values of a kind have at most, where this is known of its parts and they have 15 at most.
+/// A count of levels that no value of a kind passes, where one is noted of each of its parts, 15 at most.
 pub fn levels_of(notes: &Vec<Noted>, kind: &Kind) -> Option<u32>
     ensures { (kinds : List KindView) (place : ℕ) → AreNotes kinds notes.now.items → place < length kinds
         → kind_at kinds place ≡ kind_view kind.now → IfSome result (IsMostLevels kinds place) }

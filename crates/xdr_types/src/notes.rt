@@ -9,9 +9,11 @@ use crate::kind::Kind;
 use crate::levels::levels_of;
 use crate::lookups::lookup_of;
 use std::alloc::{AllocError, Global};
+use std::fmt;
+use std::fmt::{Debug, Formatter, Write};
 
-/// What is noted of a kind.
-#[derive(Debug, Drop)]
+/// What is noted of a kind. `{:?}` prints the numbers alone.
+#[derive(Drop)]
 pub struct Noted {
     /// The numbers of a long enumeration or union in order, with the indices of its members or arms.
     pub numbers: Option<Vec<(i64, usize)>>,
@@ -21,6 +23,31 @@ pub struct Noted {
     pub decided: Option<Decided>,
     /// How many levels its values have at most, where these are few.
     pub levels: Option<u32>,
+}
+
+// Numbers that are printed as a map from each to its index.
+#[derive(Drop)]
+struct AsMap<'n> {
+    numbers: &'n Vec<(i64, usize)>,
+}
+
+impl<'n> Debug for AsMap<'n> {
+    fn fmt<W: Write>(&self, f: &mut Formatter<W>) -> fmt::Result {
+        let mut map = f.debug_map();
+        for (number, index) in self.numbers {
+            map.entry(number, index);
+        }
+        map.finish()
+    }
+}
+
+impl Debug for Noted {
+    fn fmt<W: Write>(&self, f: &mut Formatter<W>) -> fmt::Result {
+        self.numbers
+            .as_ref()
+            .map(|numbers| AsMap { numbers })
+            .fmt(f)
+    }
 }
 
 /// The notes of the kinds, each at the place of its kind. An error is want of memory.

@@ -27,12 +27,14 @@ use crate::kind::{Kind, KindId};
 use crate::names::first_in_names;
 use crate::notes::{Noted, notes_of};
 use std::alloc::Global;
+use std::fmt;
+use std::fmt::{Debug, Formatter, Write};
 use std::marker::Model;
 use std::string::String;
 use xdr_units::NoMemory;
 
 /// Kinds that name one another by place, and names for some of them: well formed and sound.
-#[derive(Debug, Drop)]
+#[derive(Drop)]
 pub struct Schema {
     kinds: Vec<Kind>,
     // What is known of each kind beside it.
@@ -61,6 +63,17 @@ impl Model for Schema {
       higher : AreHigher (map kind_view s.kinds.items);
       notes : AreNotes (map kind_view s.kinds.items) s.notes.items;
     } };
+}
+
+// Of what is known of each kind the numbers of long enumerations and unions are printed, under the name `lookups`.
+impl Debug for Schema {
+    fn fmt<W: Write>(&self, f: &mut Formatter<W>) -> fmt::Result {
+        f.debug_struct("Schema")
+            .field("kinds", &self.kinds)
+            .field("lookups", &self.notes)
+            .field("names", &self.names)
+            .finish()
+    }
 }
 
 impl PartialEq for Schema {
@@ -216,8 +229,11 @@ impl Schema {
         self.notes[place].numbers.as_ref()
     }
 
-    /// What all values of the kind share, where they have one count of bytes; none of a kind that the schema does not
-    /// have.
+    /// What all values of the kind share (RFC 4506 sections 4.1 to 4.5, 4.9, 4.12, 4.14). There is an extent of a
+    /// number, a boolean, an enumeration, an opaque of fixed size, and a fixed array or a structure of these, where a
+    /// value has 65536 bytes and 16 levels at most. There is none of any other kind, also where all its values have
+    /// one size, as of a void, and none of a kind that the schema does not have. The contract speaks of an extent that
+    /// is there, and not of which kinds have one.
     pub fn extent(&self, id: KindId) -> Option<Extent>
         ensures { IfSome result (IsExtent self.now.kinds id.place) }
     {
@@ -228,9 +244,11 @@ impl Schema {
         self.notes[place].extent
     }
 
-    /// Which unit decides whether so many bytes as its values have are those of one, where one does alone (RFC 4506
-    /// sections 4.3, 4.4, 4.14): of a kind with an extent that is not free for this unit only. None of other kinds, and
-    /// of one that the schema does not have.
+    /// Which unit decides whether as many bytes as a value of the kind has are those of one (RFC 4506 sections 4.3,
+    /// 4.4, 4.14). There is one of a boolean, of an enumeration, and of a structure of 16 levels at most whose fields
+    /// have extents, all of them free but one, which has such a unit. There is none of any other kind, as of a fixed
+    /// array of one boolean, and none of a kind that the schema does not have. The contract speaks of a unit that is
+    /// there, and not of which kinds have one.
     pub fn decided(&self, id: KindId) -> Option<Decided>
         ensures { IfSome result (IsDecided self.now.kinds id.place) }
     {
@@ -241,9 +259,11 @@ impl Schema {
         self.notes[place].decided
     }
 
-    /// How many levels a value of the kind has at most (RFC 4506 sections 4.1 to 4.19), where that is 1 to 16 and no
-    /// array of varying length is among its parts. None of a kind whose values go deeper, as those of a linked list do,
-    /// of one with such an array, and of one that the schema does not have.
+    /// A count of levels, 1 to 16, that no value of the kind passes (RFC 4506 sections 4.1 to 4.19). It is 1 where a
+    /// kind has no parts, and else one more than the most of its parts; a default that no number reaches is counted
+    /// too. There is none where that is above 16 or has no end, as of a linked list, none of an array of varying
+    /// length and of what has one inside it, and none of a kind that the schema does not have. The contract speaks of
+    /// a count that is there, and not of which kinds have one.
     pub fn levels(&self, id: KindId) -> Option<u32>
         ensures { IfSome result (IsMostLevels self.now.kinds id.place) }
     {

@@ -1,10 +1,12 @@
 //! The memory that the parts of values take.
 use crate::codec::calls::{lent, widest};
-use crate::schema::OPAQUE;
 use std::alloc::Global;
 use std::process::Abort;
 use test_growths::take_all;
 use xdr_types::Schema;
+
+// The place of `opaque` among the basic kinds.
+const OPAQUE: u32 = 6;
 
 // A length or a count, and so many units behind it.
 fn units(alloc: Global, first: u32, count: u32) -> Option<Vec<u8>> {

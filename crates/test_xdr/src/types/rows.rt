@@ -1,29 +1,9 @@
 //! Lists that make a schema or none, as rows: the kinds, the names, and the first fault with its place.
-use crate::types::made::{arm, id, member, structure};
+use crate::types::made::id;
+use crate::types::small::{Small, kind};
 use std::alloc::{AllocError, Global};
 use std::string::String;
-use xdr_types::{Flaw, Kind, KindId, Schema};
-
-// A kind of at most one part.
-enum Small {
-    Int,
-    Hyper,
-    Bool,
-    Void,
-    // A fixed opaque of this size.
-    Opaque(u32),
-    // An array of the kind at the first place, of the second number of items.
-    Array(u32, u32),
-    Optional(u32),
-    // A structure of one field.
-    Structure(u32),
-    // A structure without a field.
-    Empty,
-    // A union over the first place, with two cases for the part at the last.
-    Union(u32, [i64; 2], u32),
-    // The same with a default of the kind at the last place.
-    WithDefault(u32, [i64; 2], u32, u32),
-}
+use xdr_types::{Flaw, KindId, Schema};
 
 // The kinds, the names with their places, and the fault, if there is one.
 type Row = (
@@ -167,36 +147,6 @@ const ROWS: [Row; 30] = [
         Some((Flaw::NoFiniteValue, 0)),
     ),
 ];
-
-// A kind of a row.
-fn kind(alloc: Global, small: &Small) -> Result<Kind, AllocError> {
-    match small {
-        Small::Int => Ok(Kind::Int),
-        Small::Hyper => Ok(Kind::Hyper),
-        Small::Bool => Ok(Kind::Bool),
-        Small::Void => Ok(Kind::Nothing),
-        Small::Opaque(size) => Ok(Kind::Opaque { size: *size }),
-        Small::Array(item, size) => Ok(Kind::Fixed {
-            item: id(*item),
-            size: *size,
-        }),
-        Small::Optional(item) => Ok(Kind::Maybe { item: id(*item) }),
-        Small::Structure(field) => structure(alloc, "x", *field),
-        Small::Empty => Ok(Kind::Structure {
-            fields: Vec::new(alloc),
-        }),
-        Small::Union(tag, cases, part) => Ok(Kind::Choice {
-            tag: id(*tag),
-            arms: vec![in alloc; arm(alloc, *cases, "x", *part)?]?,
-            other: None,
-        }),
-        Small::WithDefault(tag, cases, part, default) => Ok(Kind::Choice {
-            tag: id(*tag),
-            arms: vec![in alloc; arm(alloc, *cases, "x", *part)?]?,
-            other: Some(member(alloc, "", *default)?),
-        }),
-    }
-}
 
 // What is wrong with a row's lists.
 fn fault(

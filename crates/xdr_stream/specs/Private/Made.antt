@@ -1,17 +1,20 @@
 -- Values that are made of bytes one after another, and what is counted of them.
-use Rattle.std.specs.Prelude.{◌≡◌, ℕ, ◌+◌, ◌-◌, ◌<◌, ◌≤◌, ◌^◌, true, Bool, List, length, take, drop, ⊤}
+use Rattle.std.specs.Prelude.{◌≡◌, ℕ, ◌+◌, ◌-◌, ◌<◌, ◌≤◌, ◌^◌, true, Bool, List, length, map, take, drop, ⊤}
+use Rattle.xdr_types.specs.Kinds as xdr
 use Rattle.xdr_types.specs.Kinds.{KindView, Part}
+use Rattle.xdr_types.specs.KindViews.{part_of_member}
 use Rattle.xdr_types.specs.Tree as value
-use Rattle.xdr_types.specs.Tree.{Head, Values}
+use Rattle.xdr_types.specs.Tree.{Head, Tree, Values}
 use Rattle.xdr_types.specs.Fits.{Fits, fit}
 use Rattle.xdr_types.specs.Spelling.{spelling, bytes_of}
-use Rattle.xdr_types.specs.View.{tree}
+use Rattle.xdr_types.specs.View.{tree, values}
 use Rattle.xdr_types.specs.declared.value.Value.{Value}
 use Rattle.xdr_laws.specs.Held.{node_count, byte_count, count_nodes, count_bytes}
-use Rattle.xdr_stream.specs.Sees.{make_wide}
 use Rattle.xdr_stream.specs.Private.Entire.{IsPadded}
 use Rattle.xdr_stream.specs.Private.Reported.{leaf_tree}
 use Rattle.xdr_stream.specs.declared.builder.tally.Tally.{Tally}
+use Rattle.xdr_stream.specs.declared.machine.frame.Frame.{Frame}
+use Rattle.xdr_stream.specs.declared.machine.frame.Frame.TheVariants.{Fields, Items, Arm}
 use Rattle.xdr_stream.specs.declared.runs.content.Whole.{Whole}
 
 -- so many nodes are counted, and so many bytes of content, where they go into 64 bits (RFC 4506 section 4.9)
@@ -71,16 +74,20 @@ pub record IsHanded (w : Whole) (bytes : List ℕ) (a b : Tally) (v : Value) : T
   pub moved : b.at ≡ a.at + w.all
   pub adds : Adds a b 1 w.size
 
--- the value is the hyper integer of the eight bytes that were taken, and it is counted (RFC 4506 section 4.5)
-pub record IsWide (signed : Bool) (bytes : List ℕ) (a b : Tally) (v : Value) : Type 0 where
-  pub eight : b.at ≡ a.at + 8
-  pub within : b.at ≤ length bytes
-  pub is : tree v ≡ leaf_tree (make_wide signed (between a.at b.at bytes))
-  pub adds : Adds a b 1 0
-
 -- a head counts its parts: so many items, one under a discriminant or a flag (RFC 4506 sections 4.12 to 4.15, 4.19)
 abbrev pub Counts : Head → List Part → Type 0
 Counts (value.items n) ps = length ps ≡ n
 Counts (value.tag z) ps = length ps ≡ 1
 Counts value.present ps = length ps ≡ 1
 Counts _ ps = ⊤
+
+-- the parts of a structure or of a fixed array, which no unit comes before (RFC 4506 sections 4.12, 4.14)
+abbrev pub IsBare : KindView → Frame → Type 0
+IsBare k (Fields fields) = k ≡ xdr.structure (map part_of_member fields.now)
+IsBare k (Items item size) = k ≡ xdr.fixed item.place size
+IsBare k (Arm member) = ⊥
+
+-- the value over them (RFC 4506 sections 4.12, 4.14)
+abbrev pub bare_tree : Frame → List Value → Tree
+bare_tree (Items item size) vs = (value.items (length (map tree vs)), values vs)
+bare_tree _ vs = (value.fields, values vs)

@@ -1,8 +1,8 @@
 //! What is made of the nodes that are read.
 //!
 //! - `values`: a value. `level`: a node of it at work. `nothing`: nothing.
-//! - `made`: a part of a value at once. `taken`: one without parts. `tally`: what is counted of them. `look`: what is
-//!   known of its being there. `whole`: a part that is there whole, added to the value.
+//! - `made`: a part of a value at once. `flat`: one without parts. `taken`: its content, and many numbers. `tally`:
+//!   what is counted of them. `whole`: a part that is there whole, added to the value.
 ghost use Rattle.std.specs.Prelude.{◌≡◌, ◌<◌, ◌≤◌, ◌%◌, List, ℕ, length, take, OnOk, IfOk, IsOk};
 ghost use Rattle.std.specs.Int.{w64, from_be_bytes};
 ghost use Rattle.xdr_stream.specs.Trace.{Trace, at_start};
@@ -14,8 +14,8 @@ ghost use Rattle.xdr_stream.specs.Private.Alone.{IsAlone};
 ghost use Rattle.xdr_stream.specs.Nodes.{head_of_leaf, head_of_node};
 ghost use Rattle.xdr_stream.specs.Private.Runs.{numbers_in, hypers_in};
 
+pub mod flat;
 pub mod level;
-pub mod look;
 pub mod made;
 pub mod nothing;
 pub mod taken;
@@ -120,6 +120,9 @@ pub trait Build {
             → reports self.new (content_in (extend_in bytes.now t))) }
         ensures granted { spares → IsOk result };
 
+    /// Whether a part of the kind is one that `part` takes, unless it is refused, where so many bytes are there.
+    fn tries(&self, schema: &Schema, kind: KindId, there: usize) -> bool;
+
     /// A part, where bytes begin with its value, of at most so many levels; how many of them it has, and 0 where they
     /// do not. It has taken nothing then.
     fn part(
@@ -136,7 +139,7 @@ pub trait Build {
         ensures stays { IfOk result (λ n. n ≡ 0 → (t : Trace) → reports self.old t → reports self.new t) }
         ensures granted { spares → IsOk result };
 
-    /// The same of a number, of content behind its length, or of a short union or optional; of no other part.
+    /// The same of a number, of content, or of a short union or optional; of no other part.
     fn field(
         &mut self,
         schema: &Schema,

@@ -2,7 +2,7 @@
 ghost use Rattle.std.specs.Prelude.{⊤};
 
 use crate::builder::{Build, Leaf, Node};
-use crate::runs::ahead::{part_ahead, value_ahead};
+use crate::runs::ahead::{content_ahead, part_ahead, short_ahead};
 use crate::runs::content::whole_ahead;
 use crate::runs::leaf::leaf_ahead;
 use crate::runs::sort::is_short;
@@ -57,6 +57,16 @@ impl Build for Nothing {
     }
 
     #[inline(always)]
+    fn tries(&self, schema: &Schema, kind: KindId, there: usize) -> bool {
+        match schema.extent(kind) {
+            Some(extent) => {
+                extent.bytes as usize <= there && (extent.free || schema.decided(kind).is_some())
+            }
+            None => false,
+        }
+    }
+
+    #[inline(always)]
     fn part(
         &mut self,
         schema: &Schema,
@@ -90,11 +100,15 @@ impl Build for Nothing {
                 None => Ok(0),
             },
             Kind::Choice { .. } | Kind::Maybe { .. } if is_short(schema, kind, levels) => {
-                match value_ahead(schema, kind, bytes, levels) {
+                match short_ahead(schema, kind, bytes, levels) {
                     Some(n) => Ok(n),
                     None => Ok(0),
                 }
             }
+            Kind::Opaque { size } => match content_ahead(*size, bytes) {
+                Some(n) => Ok(n),
+                None => Ok(0),
+            },
             _ => match leaf_ahead(schema, kind, bytes) {
                 Some((_, n)) => Ok(n),
                 None => Ok(0),

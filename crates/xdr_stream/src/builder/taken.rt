@@ -1,15 +1,41 @@
-//! Values without parts that bytes begin with, made at once: content and hyper integers.
-ghost use Rattle.std.specs.Prelude.{◌≤◌, ◌+◌, length, IfOk, IfSome};
-ghost use Rattle.xdr_stream.specs.Private.Made.{IsContent, IsWide, IsHanded};
+//! Values without parts that bytes begin with, made at once: content, and numbers one after another.
+ghost use Rattle.std.specs.Prelude.{◌≡◌, ◌≤◌, ◌+◌, length, take, drop, IfOk, IfSome};
+ghost use Rattle.xdr_types.specs.KindViews.{kind_view};
+ghost use Rattle.xdr_types.specs.View.{values};
+ghost use Rattle.xdr_stream.specs.Private.Made.{IsContent, IsHanded};
+ghost use Rattle.xdr_stream.specs.Private.Numbers.{AreNumbers, IsNumber, kind_of, width_of};
 
-use crate::builder::hyper_leaf;
 use crate::builder::tally::{Tally, count_node};
 use crate::builder::values::{content_value, value_of};
-use crate::machine::unit::hyper_at;
+use crate::builder::{Leaf, hyper_leaf};
+use crate::machine::unit::{hyper_at, number_of, unit_at};
 use crate::runs::ahead::content_ahead;
 use crate::runs::content::Whole;
 use std::alloc::{AllocError, Global};
-use xdr_types::Value;
+use xdr_types::{Kind, Value};
+
+/// A kind of numbers of which any bytes are one.
+#[derive(Clone, Copy)]
+pub enum Number {
+    Int,
+    Unsigned,
+    Hyper,
+    UnsignedHyper,
+}
+
+/// The numbers that a kind has, where any bytes are one.
+#[inline(always)]
+pub(crate) fn numbers_of(kind: &Kind) -> Option<Number>
+    ensures { IfSome result (λ n. kind_of n ≡ kind_view kind.now) }
+{
+    match kind {
+        Kind::Int => Some(Number::Int),
+        Kind::Unsigned => Some(Number::Unsigned),
+        Kind::Hyper => Some(Number::Hyper),
+        Kind::UnsignedHyper => Some(Number::UnsignedHyper),
+        _ => None,
+    }
+}
 
 /// The content that the bytes have next, behind its length.
 #[inline(never)]
@@ -30,20 +56,6 @@ pub(crate) fn whole_in(
     count_node(tally);
     tally.content = tally.content.saturating_add(whole.size);
     Ok(content_value(content))
-}
-
-/// The hyper integer that the bytes have next.
-pub(crate) fn wide_in(alloc: Global, signed: bool, bytes: &[u8], tally: &mut Tally) -> Option<Value>
-    requires { tally.old.at ≤ length bytes.now }
-    ensures { IfSome result (IsWide signed bytes.now tally.old tally.new) }
-{
-    if bytes.len() - tally.at < 8 {
-        return None;
-    }
-    let leaf = hyper_leaf(signed, hyper_at(bytes, tally.at));
-    tally.at += 8;
-    count_node(tally);
-    Some(value_of(alloc, leaf))
 }
 
 /// The content that the bytes have next, and zeros after it.
@@ -67,4 +79,62 @@ pub(crate) fn content_in(
     count_node(tally);
     tally.content = tally.content.saturating_add(size);
     Ok(Some(content_value(content)))
+}
+
+/// So many numbers that the bytes have next, where they are there.
+#[inline(never)]
+pub(crate) fn numbers_in(
+    alloc: Global,
+    number: Number,
+    count: u32,
+    bytes: &[u8],
+    tally: &mut Tally,
+) -> Result<Option<Vec<Value>>, AllocError>
+    requires { tally.old.at ≤ length bytes.now }
+    ensures { IfOk result (λ o. IfSome o (λ vs. AreNumbers number count bytes.now tally.old tally.new
+        (values vs.items))) }
+{
+    let width = width_of(number);
+    let count = count as usize;
+    if count * width > bytes.len() - tally.at {
+        return Ok(None);
+    }
+    let mut values = Vec::with_capacity(alloc, count)?;
+    let mut at = tally.at;
+    let mut left = count;
+    while left > 0 {
+        values.push(value_of(alloc, leaf_at(number, bytes, at)))?;
+        at += width;
+        left -= 1;
+    }
+    tally.at = at;
+    tally.nodes = tally.nodes.saturating_add(count);
+    Ok(Some(values))
+}
+
+// How many bytes such a number has.
+#[inline(always)]
+fn width_of(number: Number) -> usize
+    ensures { result ≡ width_of number }
+{
+    match number {
+        Number::Int => 4,
+        Number::Unsigned => 4,
+        Number::Hyper => 8,
+        Number::UnsignedHyper => 8,
+    }
+}
+
+// The number at a place.
+#[inline(always)]
+fn leaf_at(number: Number, bytes: &[u8], at: usize) -> Leaf
+    requires { at + width_of number ≤ length bytes.now }
+    ensures { IsNumber number (take (width_of number) (drop at bytes.now)) result }
+{
+    match number {
+        Number::Int => Leaf::Int(number_of(&unit_at(bytes, at)).cast_signed()),
+        Number::Unsigned => Leaf::Unsigned(number_of(&unit_at(bytes, at))),
+        Number::Hyper => hyper_leaf(true, hyper_at(bytes, at)),
+        Number::UnsignedHyper => hyper_leaf(false, hyper_at(bytes, at)),
+    }
 }

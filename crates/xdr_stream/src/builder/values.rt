@@ -10,14 +10,20 @@ ghost use Rattle.xdr_stream.specs.Private.Reported.{HasSpace, leaf_in, leaf_tree
 ghost use Rattle.xdr_stream.specs.Values.{Reports};
 
 use crate::builder::level::{Level, add, add_item, begun, closed};
-use crate::builder::look::Look;
 use crate::builder::{Build, Leaf, Node, hyper_leaf};
 use crate::machine::unit::hyper_at;
 use crate::runs::leaf::leaf_ahead;
 use crate::runs::sort::is_short;
 use std::alloc::{AllocError, Global};
 use xdr_stack::Blocks;
-use xdr_types::{Kind, KindId, Schema, Value};
+use xdr_types::{Extent, Kind, KindId, Schema, Value};
+
+/// How many levels a part has at most that is made at once: a structure of structures of numbers has three.
+const MOST_LEVELS: u32 = 3;
+
+/// How many bytes a part has at most that is made before it is known to be a value, so that what is made in vain is
+/// bounded.
+const MOST_IN_VAIN: u32 = 512;
 
 /// How many nodes at work lie in a block, so that a block of them is below a kibibyte.
 const BLOCK: usize = 16;
@@ -78,6 +84,12 @@ fn number_at(bytes: &[u8], at: usize) -> u32
     ensures { result ≡ from_be_bytes w32 (take 4 (drop at bytes.now)) }
 {
     u32::from_be_bytes([bytes[at], bytes[at + 1], bytes[at + 2], bytes[at + 3]])
+}
+
+// Whether a part is made at once: its bytes are there, and any are a value, or they are few.
+#[inline(always)]
+fn is_worth(extent: Extent, there: usize) -> bool {
+    extent.bytes as usize <= there && (extent.free || extent.bytes <= MOST_IN_VAIN)
 }
 
 impl Values {
@@ -203,6 +215,14 @@ impl Build for Values {
         Ok(())
     }
 
+    #[inline(always)]
+    fn tries(&self, schema: &Schema, kind: KindId, there: usize) -> bool {
+        match schema.extent(kind) {
+            Some(extent) => extent.depth <= MOST_LEVELS && is_worth(extent, there),
+            None => false,
+        }
+    }
+
     fn part(
         &mut self,
         schema: &Schema,
@@ -217,14 +237,13 @@ impl Build for Values {
             self.leaf(leaf)?;
             return Ok(size);
         }
-        let most = match schema.levels(kind) {
-            Some(most) => most,
-            None => return Ok(0),
+        let Some(most) = schema.levels(kind) else {
+            return Ok(0);
         };
-        if most > levels {
+        if most > levels || !self.tries(schema, kind, bytes.len()) {
             return Ok(0);
         }
-        self.made(schema, kind, levels, Look::Due, bytes)
+        self.made(schema, kind, levels, bytes)
     }
 
     #[inline(always)]
@@ -240,8 +259,9 @@ impl Build for Values {
                 schema, kind, levels, bytes,
             ),
             Kind::Choice { .. } | Kind::Maybe { .. } if is_short(schema, kind, levels) => {
-                self.made(schema, kind, levels, Look::Done, bytes)
+                self.made(schema, kind, levels, bytes)
             }
+            Kind::Opaque { size: _ } => self.made(schema, kind, levels, bytes),
             _ => match leaf_ahead(schema, kind, bytes) {
                 Some((leaf, size)) => {
                     self.leaf(leaf)?;

@@ -8,8 +8,7 @@ ghost use Rattle.xdr_stream.specs.Private.Reported.{HasSpace, part_in};
 ghost use Rattle.xdr_stream.specs.Values.{Reports};
 
 use crate::builder::level::add;
-use crate::builder::look::Look;
-use crate::builder::made::other_in;
+use crate::builder::made::value_in;
 use crate::builder::taken::whole_in;
 use crate::builder::tally::Tally;
 use crate::builder::values::Values;
@@ -55,7 +54,6 @@ impl Values {
         schema: &Schema,
         kind: KindId,
         levels: u32,
-        look: Look,
         bytes: &[u8],
     ) -> Result<usize, AllocError>
         requires known { kind.place < length schema.now.kinds }
@@ -71,7 +69,7 @@ impl Values {
             at: 0,
         };
         let alloc = self.alloc;
-        let Some(value) = other_in(alloc, schema, kind, bytes, levels, look, &mut tally)? else {
+        let Some(value) = value_in(alloc, schema, kind, bytes, &mut tally)? else {
             return Ok(0);
         };
         if tally.at == 0 {

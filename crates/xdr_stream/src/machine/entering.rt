@@ -10,12 +10,15 @@ ghost use Rattle.xdr_stream.specs.declared.fault.Reason.TheVariants.{NoMemory};
 ghost use Rattle.xdr_stream.specs.declared.machine.Awaits.TheVariants.{Next};
 
 use crate::builder::{Build, Leaf, Node};
-use crate::machine::frame::{Frame, after};
+use crate::machine::frame::{Frame, after, next};
 use crate::machine::nodes::{end_nodes, open};
 use crate::machine::step::{Step, step_of};
 use std::alloc::AllocError;
 use xdr_stack::Stack;
 use xdr_types::{Kind, KindId, Limits, Schema};
+
+/// How many nodes are begun in one step at most.
+const MOST_NODES: u32 = 64;
 
 /// Ends the nodes that have all their parts, the one at work among them. Whether the value is not whole then.
 #[inline(always)]
@@ -83,4 +86,54 @@ pub(crate) fn enter<'s, B: Build>(
         }
         _ => Ok(false),
     }
+}
+
+// Whether a value of the kind begins with its parts: a structure or a fixed array.
+#[inline(always)]
+fn is_bare(kind: &Kind) -> bool {
+    match kind {
+        Kind::Structure { .. } | Kind::Fixed { .. } => true,
+        _ => false,
+    }
+}
+
+/// The same, and then the structures and fixed arrays that come first in it, up to one that is tried at once where so
+/// many bytes are there. Whether it began any.
+#[inline(always)]
+pub(crate) fn enter_nodes<'s, B: Build>(
+    schema: &'s Schema,
+    limits: Limits,
+    id: KindId,
+    kind: &'s Kind,
+    there: usize,
+    work: &mut Frame<'s>,
+    parents: &mut Stack<Frame<'s>>,
+    built: &mut B,
+) -> Result<bool, AllocError>
+    requires sound { IsSound schema.now.kinds (stack_of work.old parents.old.items) }
+    requires first { Begins (left_of work.old) id.place }
+    requires kind { kind_view kind.now ≡ kind_at schema.now.kinds id.place }
+    ensures follows { OnOk result ((kind : ℕ) (q : List ℕ)
+        → Sees schema.now.kinds kind limits (B.reports built.old) Next (stack_of work.old parents.old.items) q
+        → Sees schema.now.kinds kind limits (B.reports built.new) Next (stack_of work.new parents.new.items) q) }
+    ensures spared { IfErr result (λ _. SparesSeen B.spares schema.now.kinds limits (B.reports built.old) Next
+        (stack_of work.old parents.old.items) NoMemory) }
+    ensures sound { IsSound schema.now.kinds (stack_of work.new parents.new.items) }
+{
+    let _known = schema.len();
+    let mut id = id;
+    let mut kind = kind;
+    let mut left = MOST_NODES;
+    while enter(schema, limits, id, kind, work, parents, built)? {
+        left -= 1;
+        let Some(inner) = next(work) else {
+            return Ok(true);
+        };
+        id = inner;
+        kind = schema.kind(inner);
+        if left == 0 || !is_bare(kind) || built.tries(schema, inner, there) {
+            return Ok(true);
+        }
+    }
+    Ok(left < MOST_NODES)
 }

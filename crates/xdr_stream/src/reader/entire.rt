@@ -8,14 +8,13 @@ use crate::builder::Build;
 use crate::fault::Reason;
 use crate::machine::frame::after;
 use crate::reader::Reader;
-use crate::runs::entire::{Vain, entire_due, is_left};
+use crate::runs::entire::entire_due;
 
 impl<'s, B: Build + Drop> Reader<'s, B> {
     /// Takes the parts of the node at work that come first, as long as their values have one size and are there whole;
-    /// tells how many bytes. What comes next is not settled then. It notes what was looked at in vain, and does not
-    /// look at it again.
+    /// tells how many bytes. What comes next is not settled then.
     #[inline(never)]
-    pub(crate) fn take_entire(&mut self, bytes: &[u8], vain: &mut Vain) -> usize
+    pub(crate) fn take_entire(&mut self, bytes: &[u8]) -> usize
         requires { self.old.state ≡ Fresh }
         ensures went { Advances B.spares B.reports self.old self.new (take result bytes.now) }
         ensures within { result ≤ length bytes.now }
@@ -40,14 +39,10 @@ impl<'s, B: Build + Drop> Reader<'s, B> {
             let Some(part) = due else {
                 return at;
             };
-            if is_left(part, self.read, *vain) {
-                return at;
-            }
             let given = &bytes[at..at + part.most];
             match self.built.part(self.schema, part.kind, part.levels, given) {
                 Ok(n) => {
                     if n == 0 {
-                        vain.note(self.schema, part, self.read);
                         return at;
                     }
                     self.work = after(self.work);

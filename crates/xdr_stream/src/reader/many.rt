@@ -1,9 +1,10 @@
 //! Many units at once: content, and numbers one after another.
 ghost use Rattle.std.specs.Prelude.{◌≡◌, ◌+◌, ◌≤◌, ◌<◌, ◌%◌, ℕ, List, ◌++◌, length, take};
 ghost use Rattle.xdr_stream.specs.Represents.{RepresentsBytes, IsAwake, IsSame};
+ghost use Rattle.xdr_stream.specs.Private.Entire.{Advances};
 ghost use Rattle.xdr_stream.specs.Private.Run.{TakesRun, TakesHypers};
 ghost use Rattle.xdr_stream.specs.declared.machine.Awaits.TheVariants.{Next, Content, Wide};
-ghost use Rattle.xdr_stream.specs.declared.reader.State.TheVariants.{Reading};
+ghost use Rattle.xdr_stream.specs.declared.reader.State.TheVariants.{Fresh, Reading};
 
 use crate::builder::{Build, hyper_leaf};
 use crate::fault::Reason;
@@ -11,7 +12,8 @@ use crate::machine::Awaits;
 use crate::machine::frame::Frame;
 use crate::machine::unit::{hyper_at, unit_at};
 use crate::reader::{Reader, State};
-use crate::runs::numbers::Run;
+use crate::runs::numbers::{Run, run_due};
+use crate::runs::units_there;
 
 impl<'s, B: Build + Drop> Reader<'s, B> {
     /// Takes so many bytes of content and its padding, units of a piece that has them; at the last of them so many
@@ -92,6 +94,44 @@ impl<'s, B: Build + Drop> Reader<'s, B> {
                 self.read = self.read.saturating_add(n);
             }
             Err(_) => self.fail(Reason::NoMemory),
+        }
+    }
+
+    /// Takes the numbers of one unit that come next at an array, as many as are there; tells how many bytes. What comes
+    /// next is not settled then.
+    #[inline(always)]
+    pub(crate) fn take_numbers(&mut self, bytes: &[u8]) -> usize
+        requires { self.old.state ≡ Fresh }
+        ensures went { Advances B.spares B.reports self.old self.new (take result bytes.now) }
+        ensures within { result ≤ length bytes.now }
+        ensures same { IsSame self.old self.new }
+    {
+        let _known = self.schema.len();
+        let _in_range = self.limits.depth();
+        let Some(due) = run_due(self.schema, self.work) else {
+            return 0;
+        };
+        if due.left < 2 || self.parents.len() >= self.limits.depth() as usize {
+            return 0;
+        }
+        let space = (self.limits.bytes() as usize).saturating_sub(self.read);
+        let n = units_there(due.left as usize * 4, bytes.len(), space);
+        if n == 0 {
+            return 0;
+        }
+        match self.built.numbers(due.signed, &bytes[..n]) {
+            Ok(()) => {
+                self.work = Frame::Items {
+                    item: due.item,
+                    left: due.left - (n / 4) as u32,
+                };
+                self.read = self.read.saturating_add(n);
+                n
+            }
+            Err(_) => {
+                self.fail(Reason::NoMemory);
+                n
+            }
         }
     }
 

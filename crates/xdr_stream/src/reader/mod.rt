@@ -3,7 +3,7 @@
 //! - `start`: a reader before any byte. `due`: what is due then.
 //! - `pieces`: pieces of bytes, unit by unit. `parts`: what comes first at a part. `many`: many units at once.
 //! - `steps`: parts that are there whole, and nodes that end and begin between them. In it go `fields`: a number or
-//!   content, `entire`: parts that are taken at once, and `nodes`: those that end and begin.
+//!   content, `entire`: parts that are taken at once, and `nodes`: those that end and begin; `onward`: how it goes on.
 //! - `settling`: how reading goes on after what was taken.
 ghost use Rattle.xdr_stream.specs.Frames.{left_of};
 ghost use Rattle.xdr_stream.specs.Private.OneProof.{one_sound, one_wait};
@@ -14,6 +14,7 @@ pub(crate) mod entire;
 pub(crate) mod fields;
 pub(crate) mod many;
 pub(crate) mod nodes;
+pub(crate) mod onward;
 pub(crate) mod parts;
 pub(crate) mod pieces;
 pub(crate) mod settling;

@@ -14,7 +14,7 @@ use crate::builder::Build;
 use crate::fault::Reason;
 use crate::machine::Awaits;
 use crate::machine::coming::is_unit_due;
-use crate::machine::entering::{enter, leave};
+use crate::machine::entering::{enter_nodes, leave};
 use crate::machine::nodes::take_made;
 use crate::machine::unit::{number_of, unit_at};
 use crate::reader::{Reader, State};
@@ -33,15 +33,16 @@ impl<'s, B: Build + Drop> Reader<'s, B> {
         ensures same { IsSame self.old self.new }
     {
         if !self.is_unit_due(id, kind, bytes.len()) {
-            return (0, self.enter_part(id, kind));
+            return (0, self.enter_part(id, kind, bytes.len()));
         }
         self.take_opening(id, kind, &unit_at(bytes, 0));
         (4, true)
     }
 
-    // Begins the part that comes next, of this kind, where it takes no byte by itself; whether it did so.
+    /// Begins the part that comes next, of this kind, where it takes no byte by itself, before so many bytes; whether
+    /// it did so.
     #[inline(always)]
-    fn enter_part(&mut self, id: KindId, kind: &'s Kind) -> bool
+    pub(crate) fn enter_part(&mut self, id: KindId, kind: &'s Kind, there: usize) -> bool
         requires fresh { self.old.state ≡ Fresh }
         requires first { Begins (left_of self.old.work) id.place }
         requires kind { kind_view kind.now ≡ kind_at self.old.schema.now.kinds id.place }
@@ -51,11 +52,12 @@ impl<'s, B: Build + Drop> Reader<'s, B> {
             → Went B.spares B.reports self.new q }
         ensures same { IsSame self.old self.new }
     {
-        match enter(
+        match enter_nodes(
             self.schema,
             self.limits,
             id,
             kind,
+            there,
             &mut self.work,
             &mut self.parents,
             &mut self.built,

@@ -13,7 +13,6 @@ use crate::fault::Reason;
 use crate::machine::Awaits;
 use crate::machine::unit::{are_zeros, take_unit, unit_at};
 use crate::reader::{Reader, State};
-use crate::runs::entire::Vain;
 use crate::runs::numbers::run_due;
 use crate::runs::{units_there, whole_there};
 
@@ -21,7 +20,7 @@ impl<'s, B: Build + Drop> Reader<'s, B> {
     /// Takes what comes first at a part: a run of numbers, parts or content that are there whole, or a unit; tells how
     /// many bytes.
     #[inline(always)]
-    pub(crate) fn take_next(&mut self, bytes: &[u8], vain: &mut Vain) -> usize
+    pub(crate) fn take_next(&mut self, bytes: &[u8]) -> usize
         requires there { 4 ≤ length bytes.now }
         requires awaited { IsAwaited self.old.schema.now.kinds (left_of self.old.work) Next }
         ensures represents { (b : List ℕ) → self.old.state ≡ Reading Next → self.old.pending ≡ 0
@@ -40,13 +39,13 @@ impl<'s, B: Build + Drop> Reader<'s, B> {
                 return n;
             }
         }
-        self.take_part(bytes, vain)
+        self.take_part(bytes)
     }
 
     // Takes the unit that comes first at a part, and the content behind it where all of it is there, and tells how many
     // bytes.
     #[inline(always)]
-    fn take_part(&mut self, bytes: &[u8], vain: &mut Vain) -> usize
+    fn take_part(&mut self, bytes: &[u8]) -> usize
         requires there { 4 ≤ length bytes.now }
         requires awaited { IsAwaited self.old.schema.now.kinds (left_of self.old.work) Next }
         ensures represents { (b : List ℕ) → self.old.state ≡ Reading Next → self.old.pending ≡ 0
@@ -71,7 +70,7 @@ impl<'s, B: Build + Drop> Reader<'s, B> {
         ) {
             Ok(awaits) => {
                 self.read = self.read.saturating_add(4);
-                4 + self.take_whole(awaits, &bytes[4..], vain)
+                4 + self.take_whole(awaits, &bytes[4..])
             }
             Err(why) => {
                 self.fail(why);
@@ -83,7 +82,7 @@ impl<'s, B: Build + Drop> Reader<'s, B> {
     // Takes content that comes next where all of it and its padding are there, and then the parts that are there whole,
     // and begins what comes next; tells how many bytes.
     #[inline(always)]
-    fn take_whole(&mut self, awaits: Awaits, bytes: &[u8], vain: &mut Vain) -> usize
+    fn take_whole(&mut self, awaits: Awaits, bytes: &[u8]) -> usize
         requires { self.old.state ≡ Fresh }
         ensures represents { (q : List ℕ) → length q ≡ self.old.read → self.old.pending ≡ 0 → IsLive awaits
             → Sees self.old.schema.now.kinds self.old.kind.place self.old.limits (B.reports self.old.built) awaits
@@ -102,7 +101,7 @@ impl<'s, B: Build + Drop> Reader<'s, B> {
                 match self.built.whole(&bytes[..size as usize]) {
                     Ok(()) => {
                         self.read = self.read.saturating_add(n);
-                        return n + self.take_settled(&bytes[n..], vain);
+                        return n + self.take_settled(&bytes[n..]);
                     }
                     Err(_) => {
                         self.fail(Reason::NoMemory);
@@ -112,7 +111,7 @@ impl<'s, B: Build + Drop> Reader<'s, B> {
             }
         }
         if let Awaits::Next = awaits {
-            return self.take_settled(bytes, vain);
+            return self.take_settled(bytes);
         }
         self.settle(awaits);
         0

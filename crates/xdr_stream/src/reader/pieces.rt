@@ -13,7 +13,6 @@ use crate::fault::DecodeFault;
 use crate::machine::Awaits;
 use crate::machine::unit::unit_at;
 use crate::reader::{Progress, Reader, State};
-use crate::runs::entire::Vain;
 use crate::runs::numbers::hypers_due;
 use crate::runs::{hypers_there, units_there};
 
@@ -70,14 +69,13 @@ impl<'s, B: Build + Drop> Reader<'s, B> {
         ensures same { IsSame self.old self.new }
     {
         self.wake();
-        let mut vain = Vain::none();
         let mut at = 0;
         while at < piece.len() {
             let State::Reading(awaits) = self.state else {
                 return at;
             };
             if self.pending == 0 && piece.len() - at >= 4 {
-                at += self.take_units(awaits, &piece[at..], &mut vain);
+                at += self.take_units(awaits, &piece[at..]);
             } else {
                 self.take_byte(awaits, piece[at]);
                 at += 1;
@@ -99,7 +97,7 @@ impl<'s, B: Build + Drop> Reader<'s, B> {
     }
 
     // Takes whole units of a piece that has some, where no unit is unfinished, and tells how many bytes.
-    fn take_units(&mut self, awaits: Awaits, bytes: &[u8], vain: &mut Vain) -> usize
+    fn take_units(&mut self, awaits: Awaits, bytes: &[u8]) -> usize
         requires there { 4 ≤ length bytes.now }
         requires awaited { IsAwaited self.old.schema.now.kinds (left_of self.old.work) awaits }
         ensures represents { (b : List ℕ) → self.old.state ≡ Reading awaits → self.old.pending ≡ 0
@@ -111,7 +109,7 @@ impl<'s, B: Build + Drop> Reader<'s, B> {
         ensures same { IsSame self.old self.new }
     {
         if let Awaits::Next = awaits {
-            return self.take_next(bytes, vain);
+            return self.take_next(bytes);
         }
         if let Awaits::Content(left) = awaits {
             let space = (self.limits.bytes() as usize).saturating_sub(self.read);

@@ -1,18 +1,21 @@
 //! Parts that are there whole, one after another, and the nodes that end and begin between them.
 ghost use Rattle.std.specs.Prelude.{◌≡◌, ◌≤◌, ◌<◌, ℕ, List, ◌++◌, length, take};
-ghost use Rattle.xdr_stream.specs.Frames.{stack_of};
+ghost use Rattle.xdr_types.specs.Kinds.{kind_at};
+ghost use Rattle.xdr_types.specs.KindViews.{kind_view};
+ghost use Rattle.xdr_stream.specs.Frames.{left_of, stack_of, Begins};
 ghost use Rattle.xdr_stream.specs.Sees.{Sees};
-ghost use Rattle.xdr_stream.specs.Private.Entire.{Advances};
+ghost use Rattle.xdr_stream.specs.Private.Entire.{Went, Advances};
 ghost use Rattle.xdr_stream.specs.Represents.{RepresentsBytes, IsAwake, IsSame};
 ghost use Rattle.xdr_stream.specs.declared.machine.Awaits.TheVariants.{Next};
 ghost use Rattle.xdr_stream.specs.declared.reader.State.TheVariants.{Fresh};
 
 use crate::builder::Build;
 use crate::machine::Awaits;
-use crate::machine::frame::next;
+use crate::machine::frame::{Frame, next};
+use crate::reader::onward::Onward;
 use crate::reader::{Reader, State};
-use crate::runs::entire::Vain;
 use crate::runs::sort::{Sort, sort_of};
+use xdr_types::{Kind, KindId};
 
 // With fewer bytes no step is tried: one unit is taken as well without.
 const LEAST_BYTES: usize = 8;
@@ -20,7 +23,7 @@ const LEAST_BYTES: usize = 8;
 impl<'s, B: Build + Drop> Reader<'s, B> {
     /// Takes what is there whole, and begins what comes next after it; tells how many bytes.
     #[inline(always)]
-    pub(crate) fn take_settled(&mut self, bytes: &[u8], vain: &mut Vain) -> usize
+    pub(crate) fn take_settled(&mut self, bytes: &[u8]) -> usize
         requires { self.old.state ≡ Fresh }
         ensures represents { (q : List ℕ) → length q ≡ self.old.read → self.old.pending ≡ 0
             → Sees self.old.schema.now.kinds self.old.kind.place self.old.limits (B.reports self.old.built) Next
@@ -34,11 +37,11 @@ impl<'s, B: Build + Drop> Reader<'s, B> {
             self.settle_next();
             return 0;
         }
-        self.take_steps(bytes, vain)
+        self.take_steps(bytes)
     }
 
     // The same, whatever the bytes are.
-    fn take_steps(&mut self, bytes: &[u8], vain: &mut Vain) -> usize
+    fn take_steps(&mut self, bytes: &[u8]) -> usize
         requires { self.old.state ≡ Fresh }
         ensures represents { (q : List ℕ) → length q ≡ self.old.read → self.old.pending ≡ 0
             → Sees self.old.schema.now.kinds self.old.kind.place self.old.limits (B.reports self.old.built) Next
@@ -51,11 +54,13 @@ impl<'s, B: Build + Drop> Reader<'s, B> {
         // As many steps as there are bytes, of which most take a unit at least.
         let mut steps = bytes.len();
         let mut at = 0;
+        let mut onward = Onward::Next;
         while at < bytes.len() {
-            let (n, goes_on) = self.take_step(&bytes[at..], vain);
+            let (n, then) = self.take_step(&bytes[at..], onward);
+            onward = then;
             at += n;
             match self.state {
-                State::Fresh if goes_on && steps > 0 => {}
+                State::Fresh if onward.goes_on() && steps > 0 => {}
                 State::Fresh => {
                     self.settle_next();
                     return at;
@@ -82,26 +87,88 @@ impl<'s, B: Build + Drop> Reader<'s, B> {
         self.settle(Awaits::Next);
     }
 
-    // Takes the parts that come next, or begins one, or ends the nodes that have all their parts. Tells how many bytes
-    // that took, and whether more may follow in the same way.
+    // Takes the parts that come next, or begins one, and ends the nodes that have all their parts. Tells how many bytes
+    // that took, and how it goes on.
     #[inline(always)]
-    fn take_step(&mut self, bytes: &[u8], vain: &mut Vain) -> (usize, bool)
+    fn take_step(&mut self, bytes: &[u8], onward: Onward) -> (usize, Onward)
         requires { self.old.state ≡ Fresh }
         ensures went { Advances B.spares B.reports self.old self.new (take result.0 bytes.now) }
         ensures within { result.0 ≤ length bytes.now }
         ensures same { IsSame self.old self.new }
     {
         let Some(id) = next(&self.work) else {
-            return (0, self.leave_nodes());
+            return (0, Onward::of(self.leave_nodes()));
         };
-        match sort_of(self.schema, &self.work, id) {
-            Sort::Field => self.take_fields(bytes),
-            Sort::Run => (0, false),
-            Sort::Sized => {
-                let n = self.take_entire(bytes, vain);
-                (n, n > 0)
+        let (n, then) = self.take_sort(id, bytes, onward);
+        (n, self.leave_done(then))
+    }
+
+    // Takes the parts that come next, of which the first is of this kind, or begins it.
+    #[inline(always)]
+    fn take_sort(&mut self, id: KindId, bytes: &[u8], onward: Onward) -> (usize, Onward)
+        requires fresh { self.old.state ≡ Fresh }
+        requires first { Begins (left_of self.old.work) id.place }
+        ensures went { Advances B.spares B.reports self.old self.new (take result.0 bytes.now) }
+        ensures within { result.0 ≤ length bytes.now }
+        ensures same { IsSame self.old self.new }
+    {
+        match sort_of(self.schema, &self.work, id, &self.built, bytes.len()) {
+            Sort::Field => {
+                let (n, goes_on) = self.take_fields(bytes);
+                (n, Onward::of(goes_on))
             }
-            Sort::Other => self.begin_part(id, self.schema.kind(id), bytes),
+            Sort::Run => {
+                let n = self.take_numbers(bytes);
+                (n, Onward::of(n > 0))
+            }
+            Sort::Sized if onward.tries() => {
+                let n = self.take_entire(bytes);
+                (n, if n > 0 { Onward::Next } else { Onward::Begin })
+            }
+            Sort::Sized | Sort::Bare => {
+                let kind = self.schema.kind(id);
+                self.enter_first(id, kind, bytes)
+            }
+            Sort::Other => {
+                let (n, goes_on) = self.begin_part(id, self.schema.kind(id), bytes);
+                (n, Onward::of(goes_on))
+            }
+        }
+    }
+
+    // Ends the nodes that have all their parts, where the one at work has.
+    #[inline(always)]
+    fn leave_done(&mut self, onward: Onward) -> Onward
+        ensures went { (q : List ℕ) → Went B.spares B.reports self.old q → Went B.spares B.reports self.new q }
+        ensures same { IsSame self.old self.new }
+    {
+        match self.state {
+            State::Fresh if next(&self.work).is_none() => Onward::of(self.leave_nodes()),
+            _ => onward,
+        }
+    }
+
+    // Begins the part that comes next, of this kind, which begins with its parts, and takes fields that come first.
+    #[inline(always)]
+    fn enter_first(&mut self, id: KindId, kind: &'s Kind, bytes: &[u8]) -> (usize, Onward)
+        requires fresh { self.old.state ≡ Fresh }
+        requires first { Begins (left_of self.old.work) id.place }
+        requires kind { kind_view kind.now ≡ kind_at self.old.schema.now.kinds id.place }
+        ensures went { Advances B.spares B.reports self.old self.new (take result.0 bytes.now) }
+        ensures within { result.0 ≤ length bytes.now }
+        ensures same { IsSame self.old self.new }
+    {
+        let entered = self.enter_part(id, kind, bytes.len());
+        match self.state {
+            State::Fresh if entered => match self.work {
+                Frame::Fields { .. } => {
+                    let (n, goes_on) = self.take_fields(bytes);
+                    (n, Onward::of(goes_on))
+                }
+                // (numbers of an array are taken many at once)
+                _ => (0, Onward::Next),
+            },
+            _ => (0, Onward::Stop),
         }
     }
 }

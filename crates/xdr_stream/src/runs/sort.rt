@@ -3,12 +3,16 @@ ghost use Rattle.std.specs.Prelude.{◌≡◌, ◌<◌, ◌≤◌, length, true}
 ghost use Rattle.xdr_types.specs.Tree.{Tree, depth};
 ghost use Rattle.xdr_types.specs.Fits.{Fits};
 
+use crate::builder::Build;
 use crate::machine::frame::Frame;
 use xdr_types::{Kind, KindId, Schema};
 
 /// How many levels a union or an optional has at most that is taken as a number is: its own, and that of a number or of
 /// content. So nothing is made of it in vain.
 const MOST_LEVELS: u32 = 2;
+
+/// How many hyper integers of an array are taken one by one: more of them are a run of the machine.
+const MOST_HYPERS: u32 = 8;
 
 /// How the part that comes next is taken where it is there whole.
 #[derive(Clone, Copy)]
@@ -17,9 +21,11 @@ pub enum Sort {
     Field,
     /// With the numbers that follow it in an array.
     Run,
-    /// At once, with those of its sort that follow: one of a kind whose values have one size.
+    /// At once, with those of its sort that follow: one of a kind that the builder takes so.
     Sized,
-    /// By its parts.
+    /// By its parts, which come first: a structure or a fixed array.
+    Bare,
+    /// By its first unit, and then by its parts.
     Other,
 }
 
@@ -46,25 +52,37 @@ pub(crate) fn is_field(schema: &Schema, id: KindId) -> bool
 {
     match schema.kind(id) {
         Kind::Int | Kind::Unsigned | Kind::Hyper | Kind::UnsignedHyper => true,
-        Kind::Bool | Kind::Numbered { .. } | Kind::OpaqueUpTo { .. } | Kind::Text { .. } => true,
+        Kind::Bool | Kind::Numbered { .. } => true,
+        Kind::Opaque { .. } | Kind::OpaqueUpTo { .. } | Kind::Text { .. } => true,
         _ => is_short(schema, id, MOST_LEVELS),
     }
 }
 
-/// How a part of the kind is taken at a node.
+/// How a part of the kind is taken at a node, where so many bytes are there.
 #[inline(always)]
-pub(crate) fn sort_of(schema: &Schema, work: &Frame<'_>, id: KindId) -> Sort
+pub(crate) fn sort_of<B: Build>(
+    schema: &Schema,
+    work: &Frame<'_>,
+    id: KindId,
+    built: &B,
+    there: usize,
+) -> Sort
     requires { id.place < length schema.now.kinds }
 {
     match schema.kind(id) {
-        Kind::Int | Kind::Unsigned | Kind::Hyper | Kind::UnsignedHyper => match work {
+        Kind::Int | Kind::Unsigned => match work {
             Frame::Items { left, .. } if *left > 1 => Sort::Run,
             _ => Sort::Field,
         },
-        Kind::Structure { .. } | Kind::Fixed { .. } | Kind::Opaque { .. } => {
-            match schema.extent(id) {
-                Some(_) => Sort::Sized,
-                None => Sort::Other,
+        Kind::Hyper | Kind::UnsignedHyper => match work {
+            Frame::Items { left, .. } if *left > MOST_HYPERS => Sort::Run,
+            _ => Sort::Field,
+        },
+        Kind::Structure { .. } | Kind::Fixed { .. } => {
+            if built.tries(schema, id, there) {
+                Sort::Sized
+            } else {
+                Sort::Bare
             }
         }
         _ if is_field(schema, id) => Sort::Field,

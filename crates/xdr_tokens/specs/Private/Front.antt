@@ -1,6 +1,6 @@
 -- Reading one piece from the front of a text.
-use Rattle.std.specs.Prelude.{◌+◌, ℕ, ◌==◌, if◌then◌else◌, List, [], ◌∷◌, take, drop, get_or, Option, Some, None}
-use Rattle.std.specs.Prelude.{option_and_then}
+use Rattle.std.specs.Prelude.{◌+◌, ℕ, Bool, false, ◌==◌, if◌then◌else◌, List, [], ◌∷◌, take, drop, get_or}
+use Rattle.std.specs.Prelude.{Option, Some, None, option_and_then}
 use Rattle.xdr_tokens.specs.Tokens.{Lexeme, Number, Sign}
 use Rattle.xdr_tokens.specs.Keywords.{word_or_name}
 use Rattle.xdr_tokens.specs.Bytes.{is_space, is_letter, is_digit, run_length, after_comment, number_of}
@@ -28,6 +28,11 @@ comment_at (b ∷ bs) = if b == 42 then after_comment bs else None
 -- the first n bytes as a number
 abbrev pub numeral_at : ℕ → List ℕ → Option (Option Lexeme × List ℕ)
 numeral_at n bs = option_and_then (λ v. Some (Some (Number v), drop n bs)) (number_of (take n bs))
+
+-- white space is in front
+abbrev pub is_blank : List ℕ → Bool
+is_blank [] = false
+is_blank (b ∷ bs) = is_space b
 
 -- the token in front, or none at white space and comments, and what follows
 unfoldable pub piece_at : List ℕ → Option (Option Lexeme × List ℕ)

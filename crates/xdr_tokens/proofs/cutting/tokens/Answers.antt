@@ -10,7 +10,7 @@ use Rattle.xdr_tokens.proofs.cutting.tokens.Goals as goal
 
 pub returns-in_err-token-clause-only : goal.returns-in_err-token-clause-only
 returns-in_err-token-clause-only c = λ ts t.
-    let p = err_from_is_err_and c.from_residual-in_err-token.result c.from_residual-in_err-token.ensures.1 in
+    let p = err_from_is_err_and c.from_residual.result c.from_residual.ensures.1 in
     let rest = c.loop-rest.rest.now in
     let lt : 0 < length rest = grind (arith, common_steps) in
     let left = c.loop-rest.invariant.complete ts t in
@@ -64,7 +64,7 @@ returns-clause-only c = λ ts t.
 
 pub returns-in_err-token-clause-refused : goal.returns-in_err-token-clause-refused
 returns-in_err-token-clause-refused c =
-    let p = err_from_is_err_and c.from_residual-in_err-token.result c.from_residual-in_err-token.ensures.1 in
+    let p = err_from_is_err_and c.from_residual.result c.from_residual.ensures.1 in
     rw (p.1, p.2) (fault_within c.in_err-token.field-0.0 c.loop-rest.rest.now c.args.text.now
     c.loop-rest.invariant.within c.in_err-token.ensures.refused)
 

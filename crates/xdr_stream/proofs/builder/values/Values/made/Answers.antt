@@ -17,7 +17,7 @@ returns-clause-taken c = λ some.
     let bs : List ℕ = c.args.bytes.now in
     let v : Value = c.in-Some.value in
     let before : Tally = record { nodes = b.nodes; content = b.retained; at = 0 } in
-    let after : Tally = c.other_in.new.tally in
+    let after : Tally = c.value_in.new.tally in
     let grown : Values = record {
       alloc = b.alloc;
       work = c.add.new.level;

@@ -1,7 +1,17 @@
-use Rattle.std.proofs.Common.{refl, arith}
+use Rattle.std.proofs.Common.{◌∙◌, refl, ap, sym, arith}
+use Rattle.xdr_types.specs.KindViews.{kind_view}
+use Rattle.xdr_types.specs.declared.kind.Kind.{Kind}
 use Rattle.xdr_stream.specs.Nodes.{head_of_leaf}
 use Rattle.xdr_stream.specs.Private.Reported.{leaf_tree}
+use Rattle.xdr_stream.proofs.Ahead.{content_shallow}
 use Rattle.xdr_stream.proofs.builder.values.ValuesBuild.field.Goals as goal
+
+pub made-requires : goal.made-requires
+made-requires c = record {
+  known = c.requires.known;
+  shallow = λ v fits. content_shallow c.args.schema.now.kinds c.args.kind.place c.in-Opaque.size c.args.levels v
+      (ap (λ (k : Kind). kind_view k) (sym c.in-Opaque.is) ∙ c.kind.ensures) c.requires.some fits;
+}
 
 pub returns-in_ok-leaf-in-Some : goal.returns-in_ok-leaf-in-Some
 returns-in_ok-leaf-in-Some c = record {
