@@ -18,6 +18,8 @@ mod question;
 mod records;
 mod target;
 mod task;
+#[cfg(test)]
+mod tests;
 mod unusable;
 
 pub use check::{answer_over, check_over, show_over};

@@ -59,6 +59,25 @@ module _ (prog : ℕ) where
       split xs i ∙ ap (λ b. cond b (length c + before (drop (i + 16) xs)) (before c)) (ne_eqb _ _ less)
       ∙ sym (trailing_mask_l (λ p. nat_eq p prog) 64 c (omega (arith, length-chunk i 16 xs room)) some)
 
+  -- Where rows of the program alone go, those before the first of it stand where they stood.
+  pub front_stays : (stays : Row → Bool) → ((r : Row) → nat_eq r.prog prog ≡ false → stays r ≡ true)
+      → (rows : List Row) → let front = take (before (programs_of rows)) (programs_of rows) in
+      IsColumn front (take (length front) (filter stays rows))
+  front_stays stays h [] = refl
+  front_stays stays h (r ∷ rs) = by (nat_eq r.prog prog) refl (front_stays stays h rs)
+    where
+      n : ℕ
+      n = before (programs_of rs)
+
+      by : (b : Bool) → nat_eq r.prog prog ≡ b
+          → (let front = take n (programs_of rs) in IsColumn front (take (length front) (filter stays rs)))
+          → let front = take (cond (not b) (1 + n) 0) (programs_of (r ∷ rs)) in
+          IsColumn front (take (length front) (filter stays (r ∷ rs)))
+      by true e rest = refl
+      by false e rest =
+          let one : 1 + n ≡ suc n = omega arith in
+          rw (one, h r e) (ap (λ ps. r.prog ∷ ps) rest)
+
   module _ (netid : List ℕ) where
     abbrev over : Row → Bool
     over = is_over prog netid

@@ -1,5 +1,5 @@
 //! The rows and the column of their programs, which change together.
-ghost use Rattle.std.specs.Prelude.{◌≡◌, ◌<◌, ◌++◌, ◌∷◌, [], length, remove, OnOk, OnErr, false, is_some, IfSome};
+ghost use Rattle.std.specs.Prelude.{◌≡◌, ◌<◌, ◌++◌, ◌∷◌, [], length, take, remove, OnOk, OnErr, false, is_some, IfSome};
 ghost use Rattle.std.specs.List.{list_any};
 ghost use Rattle.std.specs.Option.{option_map_or};
 ghost use Rattle.registry_rows.specs.Columns.{IsColumn};
@@ -10,6 +10,7 @@ ghost use Rattle.registry_rows.specs.Views.{plain_row, plain_rows, AreEntries};
 use crate::entries::{append, remove_all};
 use crate::key::Key;
 use crate::row::Row;
+use crate::scan::next_place;
 use arrayvec::ArrayVec;
 use indexmap::IndexMap;
 use registry_uaddr::NoMemory;
@@ -141,16 +142,18 @@ pub fn remove_all_beside<S: BuildHasher>(
 {
     let is_gone = remove_all(rows, prog, vers, netid, owner);
     if is_gone {
-        column.clear();
+        // (the rows before the first of the program stand where they stood)
+        let first = next_place(column, prog, 0);
+        column.truncate(first);
         fill(rows, column);
     }
     is_gone
 }
 
-// Puts the program of each row into an empty column.
+// Puts the programs of the rows behind those that a column has.
 fn fill<S: BuildHasher>(rows: &IndexMap<Key, Row, S>, column: &mut Programs)
     requires entries { AreEntries rows.now.entries }
-    requires empty { column.old.items ≡ [] }
+    requires begun { IsColumn column.old.items (take (length column.old.items) (plain_rows rows.now.entries)) }
     ensures { IsColumn column.new.items (plain_rows rows.now.entries) }
 {
     while let Some((_key, row)) = rows.get_index(column.len()) {

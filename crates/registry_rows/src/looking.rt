@@ -10,7 +10,7 @@ ghost use Rattle.registry_rows.specs.Views.{plain_row, plain_rows, AreEntries};
 use crate::entries::find;
 use crate::key::Key;
 use crate::row::Row;
-use crate::scan::next_place;
+use crate::scan::{has_many, next_place};
 use indexmap::IndexMap;
 use std::hash::BuildHasher;
 
@@ -38,7 +38,7 @@ pub fn look_up<'a, S: BuildHasher>(
 }
 
 /// `look_up` with the programs of the rows in a column: where there is no row of the version, the column is gone over
-/// in place of the rows. It takes no memory.
+/// in place of the rows, unless more than an eighth of these have the program. It takes no memory.
 pub fn look_up_beside<'a, S: BuildHasher>(
     rows: &'a IndexMap<Key, Row, S>,
     column: &[u32],
@@ -75,6 +75,9 @@ fn find_greatest_beside<'a, S: BuildHasher>(
         option_map (λ r. plain_row r.now) result ≡ greatest over }
     ensures row { IfSome result (λ r. IsRow (plain_row r.now)) }
 {
+    if has_many(column, prog) {
+        return find_greatest(rows, prog, netid);
+    }
     let mut greatest = None;
     let mut at = next_place(column, prog, 0);
     while let Some((_key, row)) = rows.get_index(at) {

@@ -55,3 +55,13 @@ pub fn next_place(column: &[u32], prog: u32, from: usize) -> usize
     }
     next_marked(column, prog, from)
 }
+
+/// More than an eighth of the rows have the program. Then all rows are sooner gone over one after another than from
+/// place to place.
+pub fn has_many(column: &[u32], prog: u32) -> bool {
+    let mut places: usize = 0;
+    for other in column {
+        places += usize::from(*other == prog);
+    }
+    places > column.len() / 8
+}

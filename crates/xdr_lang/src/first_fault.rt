@@ -247,7 +247,8 @@ fn earliest(alloc: Global, outline: &Outline<'_>, fault: Fault) -> Result<Fault,
     if let Some((wrong, left)) = first_of(alloc, outline)? {
         return Ok(Fault::Refused { wrong, left });
     }
-    let types = type_table(alloc, &outline.types)?;
+    let mut types = type_table(alloc, &outline.types)?;
+    types.learn_all(alloc, &outline.types)?;
     match endless_typedef(&types) {
         Some(left) => Ok(Fault::Refused {
             wrong: Wrong::TypedefLoop,

@@ -60,13 +60,13 @@ fn resolved(
     })
 }
 
-/// The same, where no name is there twice.
+/// The same, where no name is there twice. Where other names lead to is learnt once that is known.
 #[tactic(auto, unfolding(crate::specs::Private::Meaning::distinct_meaning))]
 fn resolved_once(alloc: Global, outline: &Outline<'_>) -> Result<Listed, Fault>
     ensures { Gives listed_of result (distinct_meaning (outline_of outline.now)) }
 {
     let known = numbers(alloc, &outline.constants)?;
-    let types = type_table(alloc, &outline.types)?;
+    let mut types = type_table(alloc, &outline.types)?;
     let apart = are_apart(alloc, &known, &types, &outline.programs)?;
     if has_twice(alloc, outline, apart)? {
         return Err(Fault::Refused {
@@ -74,6 +74,7 @@ fn resolved_once(alloc: Global, outline: &Outline<'_>) -> Result<Listed, Fault>
             left: 0,
         });
     }
+    types.learn_all(alloc, &outline.types)?;
     resolved(alloc, &known, &types, outline)
 }
 

@@ -185,7 +185,7 @@ impl<'a> TypeTable<'a> {
 
     /// Keeps the place of each type that is another name and has one, and the names that have none. A type that is no
     /// other name has its place where it is looked up, so that it is kept only where another name leads to it.
-    fn learn_all(&mut self, alloc: Global, types: &[Field<'a>]) -> Result<(), AllocError>
+    pub fn learn_all(&mut self, alloc: Global, types: &[Field<'a>]) -> Result<(), AllocError>
         ensures { types_of self.new.list.items ≡ types_of self.old.list.items }
     {
         let mut met = BTreeSet::new(alloc);
@@ -280,20 +280,19 @@ fn all_stay(types: &[Field<'_>], names: &BTreeSet<&str>) -> bool
     true
 }
 
-/// The types with what is known of them.
+/// The types, of which no place is known yet.
 pub fn type_table<'a>(alloc: Global, types: &[Field<'a>]) -> Result<TypeTable<'a>, AllocError>
     ensures { IfOk result (λ t. types_of t.list.items ≡ types_of types.now) }
 {
     let endless = BTreeSet::new(alloc);
     let list = copied(alloc, types)?;
     let (parts, apart) = parts_of(alloc, types)?;
-    let mut table = TypeTable {
+    let table = TypeTable {
         list,
         parts,
         places: BTreeMap::new(alloc),
         endless,
         apart,
     };
-    table.learn_all(alloc, types)?;
     Ok(table)
 }

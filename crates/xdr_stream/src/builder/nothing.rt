@@ -109,6 +109,10 @@ impl Build for Nothing {
                 Some(n) => Ok(n),
                 None => Ok(0),
             },
+            Kind::UpTo { .. } => match short_ahead(schema, kind, bytes, levels) {
+                Some(n) => Ok(n),
+                None => Ok(0),
+            },
             _ => match leaf_ahead(schema, kind, bytes) {
                 Some((_, n)) => Ok(n),
                 None => Ok(0),

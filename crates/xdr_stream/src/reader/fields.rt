@@ -10,13 +10,13 @@ use crate::builder::Build;
 use crate::fault::Reason;
 use crate::machine::frame::{Frame, after, next};
 use crate::reader::Reader;
-use crate::runs::sort::is_field;
+use crate::runs::sort::{is_empty_array, is_field};
 use std::alloc::AllocError;
 use xdr_types::Schema;
 
 // Takes the parts of a node that come first, as long as they are numbers, content behind its length, or short unions or
-// optionals, and there whole, and have at most so many levels; how many bytes they have, the node behind them, and
-// whether its next part is none of these: else it is cut, or refused.
+// optionals, and there whole, and have at most so many levels, or arrays without items that the builder takes so; how
+// many bytes they have, the node behind them, and whether its next part is none of these: else it is cut, or refused.
 #[inline(always)]
 fn take_first<'s, B: Build>(
     schema: &'s Schema,
@@ -36,12 +36,13 @@ fn take_first<'s, B: Build>(
     let mut frame = frame;
     let mut at = 0;
     while let Some(id) = next(&frame) {
-        if !is_field(schema, id) {
+        let is_field = is_field(schema, id);
+        if !is_field && !is_empty_array(schema.kind(id), &bytes[at..]) {
             return Ok((at, frame, true));
         }
         let n = built.field(schema, id, levels, &bytes[at..])?;
         if n == 0 {
-            return Ok((at, frame, false));
+            return Ok((at, frame, !is_field));
         }
         at += n;
         frame = after(frame);

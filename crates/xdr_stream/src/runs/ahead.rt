@@ -33,7 +33,7 @@ pub(crate) fn part_ahead(schema: &Schema, id: KindId, bytes: &[u8], levels: u32)
     other_ahead(schema, id, bytes, levels)
 }
 
-/// The same of a union or an optional whose part has no parts.
+/// The same of a union or an optional whose part has no parts, and of an array without items.
 pub(crate) fn short_ahead(schema: &Schema, id: KindId, bytes: &[u8], levels: u32) -> Option<usize>
     requires { id.place < length schema.now.kinds }
     ensures within { IfSome result (λ n. n ≤ length bytes.now) }
@@ -104,7 +104,7 @@ fn decided_ahead(schema: &Schema, id: KindId, bytes: &[u8], levels: u32) -> Opti
     Some(size)
 }
 
-// How many of the bytes are the only part that a frame has, where it has no parts.
+// How many of the bytes are the only part that a frame has, where that has no parts, or none where it has no part.
 #[inline(always)]
 fn only_ahead(schema: &Schema, frame: Frame<'_>, bytes: &[u8], levels: u32) -> Option<usize>
     requires known { AreKnown schema.now.kinds (left_of frame) }
@@ -112,7 +112,9 @@ fn only_ahead(schema: &Schema, frame: Frame<'_>, bytes: &[u8], levels: u32) -> O
     ensures within { IfSome result (λ n. n ≤ length bytes.now) }
     ensures ahead { IfSome result (λ n. AreAhead schema.now.kinds (left_of frame.entry) levels (take n bytes.now)) }
 {
-    let id = next(&frame)?;
+    let Some(id) = next(&frame) else {
+        return Some(0);
+    };
     match next(&after(frame)) {
         Some(_) => None,
         None => flat_ahead(schema, id, bytes, levels),

@@ -58,6 +58,15 @@ pub(crate) fn is_field(schema: &Schema, id: KindId) -> bool
     }
 }
 
+/// Whether the bytes begin with the count of an array of this kind that has no items.
+#[inline(always)]
+pub(crate) fn is_empty_array(kind: &Kind, bytes: &[u8]) -> bool {
+    match (kind, bytes) {
+        (Kind::UpTo { .. }, [0, 0, 0, 0, ..]) => true,
+        _ => false,
+    }
+}
+
 /// How a part of the kind is taken at a node, where so many bytes are there.
 #[inline(always)]
 pub(crate) fn sort_of<B: Build>(

@@ -10,7 +10,7 @@ returns-in-None-clause-ahead c =
     let s : List KindView = c.args.schema.now.kinds in
     let bs : List ℕ = c.args.bytes.now in
     let ps : List Part = left_of c.args.frame in
-    if_some c.flat_ahead.result (λ n. IsAhead s c.in_ok-id.id.place c.args.levels (take n bs))
+    if_some c.flat_ahead.result (λ n. IsAhead s c.in-Some.id.place c.args.levels (take n bs))
     (λ n. AreAhead s ps c.args.levels (take n bs))
-    (λ n r. ahead_only s ps c.in_ok-id.id.place c.args.levels (take n bs) c.in_ok-id.ensures
+    (λ n r. ahead_only s ps c.in-Some.id.place c.args.levels (take n bs) c.in-Some.ensures
     (sym c.after.ensures ∙ c.in-None.ensures) r) c.flat_ahead.ensures.ahead
