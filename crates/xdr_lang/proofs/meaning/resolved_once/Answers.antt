@@ -28,5 +28,6 @@ returns c =
     let found = rw c.deref.ensures.value at c.in_ok-known.ensures in
     let types = rw c.deref-2.ensures.value at c.in_ok-types.ensures in
     rw (once (outline_of c.args.outline.now) (knowns c.in_ok-known.known.list.items)
-    (types_of c.learn_all.new.self.list.items) found (c.learn_all.ensures ∙ types) (sym c.in_ok-has_twice.ensures ∙ c.if-branch.false))
+    (types_of c.learn_all.new.self.list.items) found (c.learn_all.ensures ∙ types)
+    (sym c.in_ok-has_twice.ensures ∙ c.if-branch.false))
     c.resolved.ensures
