@@ -18,7 +18,7 @@ fn outcome_of(fault: DecodeFault) -> u64 {
 }
 
 // How many parts a list of them has.
-fn listed(alloc: Global, given: Given<'_>) -> Option<u64> {
+fn listed(alloc: Global, given: &Given<'_>) -> Option<u64> {
     if !given.schema.has(given.kind) {
         return None;
     }
@@ -29,7 +29,7 @@ fn listed(alloc: Global, given: Given<'_>) -> Option<u64> {
 }
 
 // How many parts are counted.
-fn counted(alloc: Global, given: Given<'_>) -> Option<u64> {
+fn counted(alloc: Global, given: &Given<'_>) -> Option<u64> {
     if !given.schema.has(given.kind) {
         return None;
     }
@@ -40,7 +40,7 @@ fn counted(alloc: Global, given: Given<'_>) -> Option<u64> {
 }
 
 // The outcome of a work on bytes.
-fn on_bytes(alloc: Global, work: &str, given: Given<'_>) -> Option<u64> {
+fn on_bytes(alloc: Global, work: &str, given: &Given<'_>) -> Option<u64> {
     match work {
         "decode" => match decode(alloc, given)? {
             Ok(_) => Some(0),
@@ -57,13 +57,13 @@ fn on_bytes(alloc: Global, work: &str, given: Given<'_>) -> Option<u64> {
 }
 
 // The outcome of a work on the value.
-fn on_value(alloc: Global, work: &str, given: Given<'_>, value: &Value) -> Option<u64> {
+fn on_value(alloc: Global, work: &str, given: &Given<'_>, value: &Value) -> Option<u64> {
     let Given {
         schema,
         kind,
         limits,
         ..
-    } = given;
+    } = *given;
     if !schema.has(kind) {
         return None;
     }
@@ -77,13 +77,13 @@ fn on_value(alloc: Global, work: &str, given: Given<'_>, value: &Value) -> Optio
 }
 
 // The value that is given, decoded at once, or its fault.
-fn whole(alloc: Global, given: Given<'_>) -> Option<Result<Value, DecodeFault>> {
+fn whole(alloc: Global, given: &Given<'_>) -> Option<Result<Value, DecodeFault>> {
     let piece = given.bytes.len().max(1);
-    decode(alloc, Given { piece, ..given })
+    decode(alloc, &Given { piece, ..*given })
 }
 
 // The outcomes of so many calls on the value; that of the bytes alone, where they are refused.
-fn on_value_again(alloc: Global, work: &str, given: Given<'_>, times: u32) -> Option<u64> {
+fn on_value_again(alloc: Global, work: &str, given: &Given<'_>, times: u32) -> Option<u64> {
     let value = match whole(alloc, given)? {
         Ok(value) => value,
         Err(fault) => return Some(outcome_of(fault)),
@@ -97,7 +97,7 @@ fn on_value_again(alloc: Global, work: &str, given: Given<'_>, times: u32) -> Op
 }
 
 // The outcomes of so many calls on the bytes.
-fn on_bytes_again(alloc: Global, work: &str, given: Given<'_>, times: u32) -> Option<u64> {
+fn on_bytes_again(alloc: Global, work: &str, given: &Given<'_>, times: u32) -> Option<u64> {
     let mut sum = 0u64;
     for _ in 0..times {
         let outcome = on_bytes(alloc, work, given)?;
@@ -108,7 +108,7 @@ fn on_bytes_again(alloc: Global, work: &str, given: Given<'_>, times: u32) -> Op
 
 /// The outcomes of so many calls, each added to three times the sum before it; none, where there is no such work or
 /// kind, or a piece has no bytes.
-pub fn outcomes(alloc: Global, work: &str, given: Given<'_>, times: u32) -> Option<u64> {
+pub fn outcomes(alloc: Global, work: &str, given: &Given<'_>, times: u32) -> Option<u64> {
     match work {
         "fits" | "size" | "encode" => on_value_again(alloc, work, given, times),
         _ => on_bytes_again(alloc, work, given, times),

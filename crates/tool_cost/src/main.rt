@@ -78,7 +78,7 @@ fn answer(alloc: Global, asked: &Question<'_>, input: &[u8]) -> Option<u64> {
         bytes,
         piece: asked.piece as usize,
     };
-    outcomes(alloc, asked.work, given, asked.times)
+    outcomes(alloc, asked.work, &given, asked.times)
 }
 
 // Does what the words ask for, and tells whether it was done.

@@ -15,7 +15,7 @@ pub struct Given<'a> {
 }
 
 /// The value, or the fault; none, where the schema has no such kind or a piece no bytes.
-pub fn decode(alloc: Global, given: Given<'_>) -> Option<Result<Value, DecodeFault>> {
+pub fn decode(alloc: Global, given: &Given<'_>) -> Option<Result<Value, DecodeFault>> {
     if !given.schema.has(given.kind) || given.piece == 0 {
         return None;
     }
@@ -33,7 +33,7 @@ pub fn decode(alloc: Global, given: Given<'_>) -> Option<Result<Value, DecodeFau
 }
 
 /// How many bytes the value has, or the fault; none, where the schema has no such kind or a piece no bytes.
-pub fn check(alloc: Global, given: Given<'_>) -> Option<Result<u32, DecodeFault>> {
+pub fn check(alloc: Global, given: &Given<'_>) -> Option<Result<u32, DecodeFault>> {
     if !given.schema.has(given.kind) || given.piece == 0 {
         return None;
     }
