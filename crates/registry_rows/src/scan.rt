@@ -56,12 +56,23 @@ pub fn next_place(column: &[u32], prog: u32, from: usize) -> usize
     next_marked(column, prog, from)
 }
 
-/// More than an eighth of the rows have the program. Then all rows are sooner gone over one after another than from
-/// place to place.
+/// All rows are sooner gone over one after another than from place to place: they are fewer than thirty-two, or more
+/// than an eighth of them have the program, those at the end aside that fill no thirty-two.
 pub fn has_many(column: &[u32], prog: u32) -> bool {
-    let mut places: usize = 0;
-    for other in column {
-        places += usize::from(*other == prog);
+    if column.len() < 32 {
+        return true;
     }
-    places > column.len() / 8
+    let most = column.len() / 8;
+    let mut places: usize = 0;
+    let mut at = 0;
+    while column.len() - at >= 32 {
+        let first = marks(u32x16::from_slice(&column[at..]), prog);
+        let second = marks(u32x16::from_slice(&column[at + 16..]), prog);
+        places += (first.count_ones() + second.count_ones()) as usize;
+        if places > most {
+            return true;
+        }
+        at += 32;
+    }
+    false
 }

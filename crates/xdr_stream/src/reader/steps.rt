@@ -148,18 +148,6 @@ impl<'s, B: Build + Drop> Reader<'s, B> {
         }
     }
 
-    // Whether the part that comes next is taken with those of its sort, where so many bytes are there.
-    #[inline(always)]
-    fn begins_with_field(&self, there: usize) -> bool {
-        let Some(id) = next(&self.work) else {
-            return false;
-        };
-        match sort_of(self.schema, &self.work, id, &self.built, there) {
-            Sort::Field => true,
-            _ => false,
-        }
-    }
-
     // Begins the part that comes next, of this kind, which begins with its parts, and takes fields that come first.
     #[inline(always)]
     fn enter_first(&mut self, id: KindId, kind: &'s Kind, bytes: &[u8]) -> (usize, Onward)
@@ -173,12 +161,12 @@ impl<'s, B: Build + Drop> Reader<'s, B> {
         let entered = self.enter_part(id, kind, bytes.len());
         match self.state {
             State::Fresh if entered => match self.work {
-                // (numbers of an array are taken many at once)
-                Frame::Items { .. } if !self.begins_with_field(bytes.len()) => (0, Onward::Next),
-                _ => {
+                Frame::Fields { .. } => {
                     let (n, goes_on) = self.take_fields(bytes);
                     (n, Onward::of(goes_on))
                 }
+                // (numbers of an array are taken many at once)
+                _ => (0, Onward::Next),
             },
             _ => (0, Onward::Stop),
         }
