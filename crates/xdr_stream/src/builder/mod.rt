@@ -139,7 +139,8 @@ pub trait Build {
         ensures stays { IfOk result (λ n. n ≡ 0 → (t : Trace) → reports self.old t → reports self.new t) }
         ensures granted { spares → IsOk result };
 
-    /// The same of a number, of content, or of a short union or optional; of no other part.
+    /// The same of a number, of content, of a short union or optional, or of an array without items, where the builder
+    /// takes that; of no other part.
     fn field(
         &mut self,
         schema: &Schema,

@@ -88,15 +88,6 @@ pub(crate) fn enter<'s, B: Build>(
     }
 }
 
-// Whether a value of the kind begins with its parts: a structure or a fixed array.
-#[inline(always)]
-fn is_bare(kind: &Kind) -> bool {
-    match kind {
-        Kind::Structure { .. } | Kind::Fixed { .. } => true,
-        _ => false,
-    }
-}
-
 /// The same, and then the structures and fixed arrays that come first in it, up to one that is tried at once where so
 /// many bytes are there. Whether it began any.
 #[inline(always)]
@@ -131,7 +122,7 @@ pub(crate) fn enter_nodes<'s, B: Build>(
         };
         id = inner;
         kind = schema.kind(inner);
-        if left == 0 || !is_bare(kind) || built.tries(schema, inner, there) {
+        if left == 0 || built.tries(schema, inner, there) {
             return Ok(true);
         }
     }

@@ -11,7 +11,7 @@ use crate::reader::Reader;
 use crate::runs::entire::entire_due;
 
 impl<'s, B: Build + Drop> Reader<'s, B> {
-    /// Takes the parts of the node at work that come first, as long as their values have one size and are there whole;
+    /// Takes the parts of the node at work that come first, as long as the builder takes them and they are there whole;
     /// tells how many bytes. What comes next is not settled then.
     #[inline(never)]
     pub(crate) fn take_entire(&mut self, bytes: &[u8]) -> usize

@@ -1,4 +1,4 @@
-//! Numbers, and content behind its length, that are there whole.
+//! Numbers, content, and short unions and optionals that are there whole.
 ghost use Rattle.std.specs.Prelude.{◌≡◌, ◌≤◌, ◌<◌, length, take, IfOk};
 ghost use Rattle.xdr_stream.specs.Frames.{left_of};
 ghost use Rattle.xdr_stream.specs.Private.Entire.{Advances, Passes};
@@ -14,9 +14,9 @@ use crate::runs::sort::{is_empty_array, is_field};
 use std::alloc::AllocError;
 use xdr_types::Schema;
 
-// Takes the parts of a node that come first, as long as they are numbers, content behind its length, or short unions or
-// optionals, and there whole, and have at most so many levels, or arrays without items that the builder takes so; how
-// many bytes they have, the node behind them, and whether its next part is none of these: else it is cut, or refused.
+// Takes the parts of a node that come first, as long as they are numbers, content, or short unions or optionals, and
+// there whole, and have at most so many levels, or arrays without items that the builder takes so; how many bytes they
+// have, the node behind them, and whether its next part is none of these: else it is cut, or refused.
 #[inline(always)]
 fn take_first<'s, B: Build>(
     schema: &'s Schema,
@@ -51,8 +51,8 @@ fn take_first<'s, B: Build>(
 }
 
 impl<'s, B: Build + Drop> Reader<'s, B> {
-    /// Takes the parts that come first, as long as they are numbers, content behind its length, or short unions or
-    /// optionals, and there whole; tells how many bytes, and whether the next part is none of these. What comes next is
+    /// Takes the parts that come first, as long as they are numbers, content, short unions or optionals, or arrays without
+    /// items, and there whole; tells how many bytes, and whether the next part is none of these. What comes next is
     /// not settled then.
     #[inline(always)]
     pub(crate) fn take_fields(&mut self, bytes: &[u8]) -> (usize, bool)

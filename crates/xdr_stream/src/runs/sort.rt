@@ -17,7 +17,7 @@ const MOST_HYPERS: u32 = 8;
 /// How the part that comes next is taken where it is there whole.
 #[derive(Clone, Copy)]
 pub enum Sort {
-    /// With those of its sort that follow: a number, content behind its length, or a short union or optional.
+    /// With those of its sort that follow: a number, content, or a short union or optional.
     Field,
     /// With the numbers that follow it in an array.
     Run,
