@@ -1,6 +1,7 @@
 """Rows of ./oncrpc and ./build-library in a checkout where nothing is built, over a stand-in for the command rt."""
 import os
 import re
+import shutil
 import signal
 import sys
 import time
@@ -307,10 +308,16 @@ with open(os.path.dirname(__file__) + "/python", "w") as it:
 time.sleep(1)
 os.execv("{python}", ["{python}", *sys.argv[1:]])
 """
+# Sums that take their time.
+SUMMING = """#!/bin/sh
+echo begun >"${0%/*}/sums"
+sleep 0.3
+exec """
 
 
 def interrupted_early(folder):
-    """A signal that comes before Python heeds any is one line and status 3, and nothing is asked of the toolchain."""
+    """A signal that comes as the sources are summed, or before Python heeds any, is one line and status 3, and nothing
+    is asked of the toolchain."""
     told = {"prove": BEGUN + PROOF_STOPPED, "check": STOPPED % b""}
     for at, (number, to_all) in enumerate(SIGNALS):
         for word, faults in told.items() if to_all else [("prove", told["prove"])]:
@@ -319,6 +326,11 @@ def interrupted_early(folder):
             got = tree.stop(f"./oncrpc {word}", ("bin/python", "begun"), number, to_all)
             well = got[:2] == (3, b"") and re.fullmatch(faults, got[2]) and not tree.read("bin/calls")
             yield row(f"./oncrpc {word}, {number.name} to {who} as Python starts", bool(well), got)
+        tree = Tree(folder, f"sums{at}")
+        tree.write("bin/sha256sum", f'{SUMMING}{shutil.which("sha256sum")} "$@"\n', 0o755)
+        got = tree.stop("./oncrpc check", ("bin/sums", "begun"), number, to_all)
+        well = is_answer((*got, []), 3, b"", STOPPED % b"", 0)
+        yield row(f"./oncrpc check, {number.name} to {who} in the sums", well, got)
 
 
 def two_at_once(folder):
