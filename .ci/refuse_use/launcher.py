@@ -1,7 +1,9 @@
 """Rows of ./oncrpc and ./build-library in a checkout where nothing is built, over a stand-in for the command rt."""
 import os
 import re
+import shutil
 import signal
+import sys
 import time
 
 from refuse_use.standins import CRATES, Tree
@@ -124,7 +126,7 @@ def full(folder):
     for words, begun in (("check --types deep/it.x --name it", UNPROVED), ("prove", BEGUN)):
         tree.write("limited", f"ulimit -f 0; exec ./oncrpc {words}\n")
         got = tree.run("sh limited")
-        faults = begun + rb"oncrpc: (No usable temporary directory|the sources cannot be copied)[^\n]*\n"
+        faults = begun + rb"oncrpc: (No usable temporary directory[^\n]*|\S+/out/lanes/0/crates/\S+: File too large)\n"
         yield row(f"./oncrpc {words}, no space", is_answer(got, 3, b"", faults, 0), got)
     got = tree.run("./oncrpc show")
     yield row("./oncrpc show after that", is_answer(got, 5, SHOWN, UNPROVED + b"unproved fault\n", 1), got)
@@ -298,15 +300,49 @@ def interrupted(folder):
         yield row(f"./oncrpc show, {number.name}", bool(well) and not os.listdir(f"{tree.at}/room"), got)
 
 
+# A Python that takes a second to start.
+STARTING = """#!{python}
+import os, sys, time
+with open(os.path.dirname(__file__) + "/python", "w") as it:
+    it.write("begun")
+time.sleep(1)
+os.execv("{python}", ["{python}", *sys.argv[1:]])
+"""
+# Sums that take their time.
+SUMMING = """#!/bin/sh
+echo begun >"${0%/*}/sums"
+sleep 0.3
+exec """
+
+
+def interrupted_early(folder):
+    """A signal that comes as the sources are summed, or before Python heeds any, is one line and status 3, and nothing
+    is asked of the toolchain."""
+    told = {"prove": BEGUN + PROOF_STOPPED, "check": STOPPED % b""}
+    for at, (number, to_all) in enumerate(SIGNALS):
+        for word, faults in told.items() if to_all else [("prove", told["prove"])]:
+            tree, who = Tree(folder, f"early{at}{word}"), "all" if to_all else "the script"
+            tree.write("bin/python3", STARTING.format(python=os.path.realpath(sys.executable)), 0o755)
+            got = tree.stop(f"./oncrpc {word}", ("bin/python", "begun"), number, to_all)
+            well = got[:2] == (3, b"") and re.fullmatch(faults, got[2]) and not tree.read("bin/calls")
+            yield row(f"./oncrpc {word}, {number.name} to {who} as Python starts", bool(well), got)
+        tree = Tree(folder, f"sums{at}")
+        tree.write("bin/sha256sum", f'{SUMMING}{shutil.which("sha256sum")} "$@"\n', 0o755)
+        got = tree.stop("./oncrpc check", ("bin/sums", "begun"), number, to_all)
+        well = is_answer((*got, []), 3, b"", STOPPED % b"", 0)
+        yield row(f"./oncrpc check, {number.name} to {who} in the sums", well, got)
+
+
 def two_at_once(folder):
-    """A second proof waits for the first, and both are whole."""
+    """A second proof waits for the first, whose log it leaves alone, and both are whole."""
     tree = Tree(folder, "two", RT_JOBS="2")
     tree.write("bin/waits", "low later\n")
     first = tree.begin("./oncrpc prove")
-    while "begin low" not in tree.read("bin/order"):
+    while "of short" not in tree.read("crates/oncrpc/out/build.log"):
         time.sleep(0.05)
     second = tree.begin("./oncrpc prove")
     told = second.stderr.readline() + second.stderr.readline()
+    yield row("./oncrpc prove, the log of the other", "of short" in tree.read("crates/oncrpc/out/build.log"), told)
     with open(f"{tree.at}/bin/order", "a", encoding="utf-8") as order:
         order.write("begin later x\n")
     got = [(it.communicate(timeout=60)[1], it.returncode) for it in (first, second)]
@@ -331,5 +367,5 @@ def missing(folder):
 
 def launcher_rows(folder):
     first = (unproved, streams, no_answer, full, proved, edited)
-    for rows in (*first, side_by_side, alone, kept, interrupted, two_at_once, missing):
+    for rows in (*first, side_by_side, alone, kept, interrupted, interrupted_early, two_at_once, missing):
         yield from rows(folder)

@@ -1,6 +1,7 @@
 """Rows of what the scripts say of themselves and of words that they do not know, and of the unproved program: what is
 said of its version, of a long compilation, and of a standard input that cannot be read."""
 import itertools
+import os
 import re
 import shutil
 
@@ -24,6 +25,8 @@ OTHERS = {
     "./build-library --what": b"usage: ./build-library [FOLDER]",
     "./build-library -l": b"usage: ./build-library [FOLDER]",
     "./build-library made other": b"usage: ./build-library [FOLDER]",
+    "./install one other": b"usage: [DESTDIR=FOLDER] ./install [--library[=FOLDER]] [PREFIX]",
+    "./uninstall one other": b"usage: [DESTDIR=FOLDER] ./uninstall [PREFIX]",
 }
 
 
@@ -38,9 +41,52 @@ def helps(folder):
     for words, told in OTHERS.items():
         got = tree.run(words)
         yield row(words, is_answer(got, 2, b"", re.escape(b"oncrpc: %s\n" % told), 0), got)
-    tree.write("full", "exec ./build-library --help >/dev/full\n")
-    got = tree.run("sh full")
-    yield row("./build-library --help >/dev/full", got[0] == 3, got)
+    for words in ("./build-library --help", "./oncrpc prove --help"):
+        tree.write("full", f"exec {words} >/dev/full\n")
+        got = tree.run("sh full")
+        yield row(f"{words} >/dev/full", is_answer(got, 3, b"", b"oncrpc: write fault\n", 0), got)
+
+
+# Words of the scripts that measure, where nothing is built, and how the one line begins that they end with.
+MEASURING = {
+    "bench/run": b"nothing to measure is built: ",
+    "bench/run records": b"nothing to measure is built: ",
+    "bench/run nonsense": b"bench/run takes ",
+    "bench/fuzz a b": b"usage: bench/fuzz ",
+    "bench/fuzz 1 2": b"%s/crates/tool_probe/out/tool_probe is not built: ",
+    "bench/plot none": b"none: No such file or directory",
+    "bench/plot crates.txt": b"crates.txt: ",
+    "bench/plot bench/ratios.txt none/made": b"%s/none/made: No such file or directory",
+}
+
+
+def measuring(folder):
+    """A script that measures refuses words in one line with status 2, gives help, and leaves pictures alone."""
+    tree = Tree(folder, "measuring")
+    for name in ("bench", "tests"):
+        shutil.copytree(f"{ROOT}/{name}", f"{tree.at}/{name}")
+    before, at = tree.read("bench/ratios.svg"), os.path.realpath(tree.at).encode()
+    for words, told in MEASURING.items():
+        got = tree.run(words)
+        told = re.escape(told.replace(b"%s", at)) + rb"[^\n]*\n"
+        well = is_answer(got, 2, b"", told, 0) and tree.read("bench/ratios.svg") == before
+        yield row(words, well, got)
+    for name in ("run", "fuzz", "plot", "shapes"):
+        got = tree.run(f"bench/{name} --help")
+        well = (got[0], got[2]) == (0, b"") and b"usage: bench/%s " % name.encode() in got[1]
+        yield row(f"bench/{name} --help", well, got)
+    tree.write("piped", "{ sleep 1; bench/shapes --list; } | true\n")
+    got = tree.run("sh piped")
+    yield row("bench/shapes --list | true", is_answer(got, 0, b"", b"", 0), got)
+
+
+def linked(folder):
+    """A link to ./oncrpc is as good as its own place."""
+    tree = Tree(folder, "linked")
+    os.symlink("../oncrpc", f"{tree.bin}/by_link")
+    got = tree.run("by_link show")
+    well = is_answer(got, 5, output(b"unproved", b"show"), UNPROVED + b"unproved fault\n", 1)
+    yield row("a link to ./oncrpc", well, got)
 
 
 def version(folder):
@@ -110,5 +156,5 @@ def unread(folder):
 
 
 def script_rows(folder):
-    for rows in (helps, version, signs_of_life, unreadable, unread):
+    for rows in (helps, measuring, linked, version, signs_of_life, unreadable, unread):
         yield from rows(folder)

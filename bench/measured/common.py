@@ -1,5 +1,6 @@
 """Times and instructions of programs, ours beside others."""
 import os
+import signal
 import subprocess
 import sys
 import tempfile
@@ -16,6 +17,19 @@ def refuse(why):
     """Ends with one line that says why, and status 2."""
     print(why, file=sys.stderr)
     sys.exit(2)
+
+
+def end_quietly():
+    """Has this script end, and say nothing, where nobody reads any more what it prints."""
+    signal.signal(signal.SIGPIPE, signal.SIG_DFL)
+
+
+def help_if_asked(words, text):
+    """Prints what a script says of itself where that is asked for, and ends."""
+    if {"--help", "-h"} & {*words}:
+        end_quietly()
+        print(text)
+        sys.exit(0)
 
 
 def program_of(root, crate):
