@@ -240,7 +240,8 @@ def alone(folder):
     at = max(order.index(f"end {it}") for it in ("left", "right"))
     pairs = [(begun.split()[:2], ended.split()) for begun, ended in zip(order[at + 1 :: 2], order[at + 2 :: 2])]
     well = all((begun, ended) == (["begin", ended[1]], ["end", begun[1]]) for begun, ended in pairs)
-    well = well and got[0] == 0 and got[2].count(told) == 1 and len(pairs) == 2
+    # (where 'short' is seen to end before 'low', 'last' is proved before the two)
+    well = well and got[0] == 0 and got[2].count(told) == 1 and len(pairs) in (1, 2)
     yield row("./oncrpc prove, nothing is taken over", well, got, order)
     got = tree.run("./oncrpc show")
     yield row("./oncrpc show after that", got[0] == 7, got)
