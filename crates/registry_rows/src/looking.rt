@@ -1,5 +1,5 @@
 //! The look-up of a row, which falls back to the greatest version.
-ghost use Rattle.std.specs.Prelude.{◌≡◌, true, nat_lt, option_map, filter, is_some, IfSome};
+ghost use Rattle.std.specs.Prelude.{◌≡◌, ◌+◌, true, nat_lt, option_map, filter, is_some, IfSome, MatchOption};
 ghost use Rattle.registry_rows.specs.Columns.{IsColumn};
 ghost use Rattle.std.specs.List.{list_any};
 ghost use Rattle.std.specs.Option.{option_map_or};
@@ -38,7 +38,7 @@ pub fn look_up<'a, S: BuildHasher>(
 }
 
 /// `look_up` with the programs of the rows in a column: where there is no row of the version, the column is gone over
-/// in place of the rows, unless more than an eighth of these have the program. It takes no memory.
+/// in place of the rows, unless more than a tenth of these have the program. It takes no memory.
 pub fn look_up_beside<'a, S: BuildHasher>(
     rows: &'a IndexMap<Key, Row, S>,
     column: &[u32],
@@ -103,9 +103,11 @@ fn find_greatest<'a, S: BuildHasher>(
     ensures row { IfSome result (λ r. IsRow (plain_row r.now)) }
 {
     let mut greatest = None;
+    let mut above = 0;
     for row in rows.values() {
-        if row.is_over(prog, netid) && is_greater(row, greatest) {
+        if row.is_over(prog, netid) && is_above(row, greatest, above) {
             greatest = Some(row);
+            above = u64::from(row.vers) + 1;
         }
     }
     greatest
@@ -119,4 +121,15 @@ fn is_greater(row: &Row, other: Option<&Row>) -> bool
         Some(other) => other.vers < row.vers,
         None => true,
     }
+}
+
+// The same, where the least version that is greater than that of the other is known: so a loop does not ask what the
+// other is.
+#[inline(always)]
+fn is_above(row: &Row, other: Option<&Row>, above: u64) -> bool
+    requires { MatchOption other (above ≡ 0) (λ r. above ≡ r.now.vers + 1) }
+    ensures { result ≡ option_map_or (λ r. nat_lt r.now.vers row.now.vers) other.entry true }
+{
+    let _other = other;
+    above <= u64::from(row.vers)
 }

@@ -56,23 +56,47 @@ pub fn next_place(column: &[u32], prog: u32, from: usize) -> usize
     next_marked(column, prog, from)
 }
 
-/// All rows are sooner gone over one after another than from place to place: they are fewer than thirty-two, or more
-/// than an eighth of them have the program, those at the end aside that fill no thirty-two.
-pub fn has_many(column: &[u32], prog: u32) -> bool {
-    if column.len() < 32 {
+/// How many of the sixteen programs from a place on are this one.
+#[inline(always)]
+fn in_sixteen(column: &[u32], at: usize, prog: u32) -> usize
+    requires { at + 16 ≤ length column.now }
+    ensures { result ≤ 64 }
+{
+    marks(u32x16::from_slice(&column[at..]), prog).count_ones() as usize
+}
+
+/// The same of sixty-four programs.
+#[inline(always)]
+fn in_sixty_four(column: &[u32], at: usize, prog: u32) -> usize
+    requires { at + 64 ≤ length column.now }
+    ensures { result ≤ 256 }
+{
+    let front = in_sixteen(column, at, prog) + in_sixteen(column, at + 16, prog);
+    front + in_sixteen(column, at + 32, prog) + in_sixteen(column, at + 48, prog)
+}
+
+/// All rows are sooner gone over one after another than from place to place: they are fewer than sixty-four, or more
+/// than a tenth of them have the program, those at the end aside that fill no sixteen.
+pub(crate) fn has_many(column: &[u32], prog: u32) -> bool {
+    if column.len() < 64 {
         return true;
     }
-    let most = column.len() / 8;
-    let mut places: usize = 0;
+    let most = column.len() / 10;
+    let mut places = 0;
     let mut at = 0;
-    while column.len() - at >= 32 {
-        let first = marks(u32x16::from_slice(&column[at..]), prog);
-        let second = marks(u32x16::from_slice(&column[at + 16..]), prog);
-        places += (first.count_ones() + second.count_ones()) as usize;
+    while column.len() - at >= 64 {
+        places += in_sixty_four(column, at, prog);
         if places > most {
             return true;
         }
-        at += 32;
+        at += 64;
+    }
+    while column.len() - at >= 16 {
+        places += in_sixteen(column, at, prog);
+        if places > most {
+            return true;
+        }
+        at += 16;
     }
     false
 }

@@ -1,4 +1,5 @@
-use Rattle.std.proofs.Common.{◌≡◌, ℕ, Bool, true, List, [], ◌∷◌, ◌++◌, nat_lt, refl, ap, sym, ◌∙◌, subst, filter, map}
+use Rattle.std.proofs.Common.{◌≡◌, ◌+◌, ℕ, Bool, true, List, [], ◌∷◌, ◌++◌, nat_lt, refl, ap, sym, ◌∙◌, subst}
+use Rattle.std.proofs.Common.{filter, map}
 use Rattle.std.proofs.Common.{Option, Some, None, option_map, Bor}
 use Rattle.std.specs.Option.{option_map_or}
 use Rattle.std.specs.Map.Iter.{deref}
@@ -14,7 +15,7 @@ use Rattle.registry_rows.proofs.Bounds.{found_is_row, seen}
 use Rattle.registry_rows.proofs.Greatest.{IsGreatest, takes, leaves, skips, all_looked_at, retained_rows}
 use Rattle.registry_rows.proofs.Twice.{registry}
 use Rattle.registry_rows.proofs.looking.find_greatest.Goals as goal
-use Rattle.registry_rows.proofs.looking.find_greatest.Goals.{else-is_over-via-then-is_over+else-is_greater}
+use Rattle.registry_rows.proofs.looking.find_greatest.Goals.{else-is_over-via-then-is_over+else-is_above}
 use Rattle.registry_rows.proofs.looking.find_greatest.Goals.{else-is_over-via-else-is_over}
 
 abbrev view : Bor Row → plain.Row
@@ -32,30 +33,35 @@ module _ (over : plain.Row → Bool) (lent : List (Bor Row)) (r : Bor Row) (o : 
       → IsGreatest (filter over (map view (lent ++ r ∷ []))) o
   one_more = subst (λ xs. IsGreatest (filter over xs) o) (sym (map-append view lent (r ∷ [])))
 
-pub loop-row-preserved-then-is_greater : goal.loop-row-preserved-then-is_greater
-loop-row-preserved-then-is_greater g c =
+pub loop-row-preserved-then-is_above : goal.loop-row-preserved-then-is_above
+loop-row-preserved-then-is_above g c =
     let over = is_over c.args.prog c.args.netid.now in
     let r = c.in-Some.row in
-    let above = same_test c.loop-row.greatest r.now.vers ∙ sym c.is_greater.ensures ∙ c.if-is_greater.true in
-    one_more over c.loop-row.yielded r (Some (view r))
-    (takes over (map view c.loop-row.yielded) (view r) (option_map view c.loop-row.greatest) c.loop-row.invariant
-    (sym c.is_over.ensures ∙ c.if-is_over.true) above)
+    let above = same_test c.loop-row.greatest r.now.vers ∙ sym c.is_above.ensures ∙ c.if-is_above.true in (
+      one_more over c.loop-row.yielded r (Some (view r))
+          (takes over (map view c.loop-row.yielded) (view r) (option_map view c.loop-row.greatest)
+          c.loop-row.invariant.0
+          (sym c.is_over.ensures ∙ c.if-is_over.true) above),
+      ap (λ (n : ℕ). n + 1) c.from-above.ensures,
+    )
 
 pub loop-row-preserved : goal.loop-row-preserved
 loop-row-preserved g c =
     let over = is_over c.args.prog c.args.netid.now in
     let r = c.in-Some.row in
-    let o = option_map view c.loop-row.greatest in
-    one_more over c.loop-row.yielded r o
-    (elim c.else-is_over.branch [
-      | else-is_over-via-then-is_over+else-is_greater w ↦
-          leaves over (map view c.loop-row.yielded) (view r) o c.loop-row.invariant
-          (sym c.is_over.ensures ∙ w.if-is_over.true)
-          (same_test c.loop-row.greatest r.now.vers ∙ sym w.is_greater.ensures ∙ w.if-is_greater.false)
-      | else-is_over-via-else-is_over w ↦
-          skips over (map view c.loop-row.yielded) (view r) o c.loop-row.invariant
-          (sym c.is_over.ensures ∙ w.if-is_over.false)
-    ])
+    let o = option_map view c.loop-row.greatest in (
+      one_more over c.loop-row.yielded r o
+          (elim c.else-is_over.branch [
+            | else-is_over-via-then-is_over+else-is_above w ↦
+                leaves over (map view c.loop-row.yielded) (view r) o c.loop-row.invariant.0
+                (sym c.is_over.ensures ∙ w.if-is_over.true)
+                (same_test c.loop-row.greatest r.now.vers ∙ sym w.is_above.ensures ∙ w.if-is_above.false)
+            | else-is_over-via-else-is_over w ↦
+                skips over (map view c.loop-row.yielded) (view r) o c.loop-row.invariant.0
+                (sym c.is_over.ensures ∙ w.if-is_over.false)
+          ]),
+      c.loop-row.invariant.1,
+    )
 
 pub returns-clause-value : goal.returns-clause-value
 returns-clause-value g c =
@@ -65,7 +71,8 @@ returns-clause-value g c =
     (YieldsList-from_rest (values rows)
     (c.into_iter-row-iterator.ensures.into_iter_gives ∙ c.values-row-items.ensures.rest))
     c.loop-row.yielded _ c.loop-row.yielded_by _ _ c.in-None.is c.next.ensures.steps in
-    all_looked_at (filter over (map view c.loop-row.yielded)) (option_map view c.loop-row.greatest) c.loop-row.invariant
+    all_looked_at (filter over (map view c.loop-row.yielded)) (option_map view c.loop-row.greatest)
+    c.loop-row.invariant.0
     ∙ ap (λ xs. greatest (filter over xs)) (sym (map-map plain_row deref c.loop-row.yielded) ∙ ap (map plain_row) lent.0
     ∙ map-map plain_row (λ e. e.1) rows.entries)
 
