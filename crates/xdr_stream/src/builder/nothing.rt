@@ -4,7 +4,7 @@ ghost use Rattle.std.specs.Prelude.{⊤};
 use crate::builder::{Build, Leaf, Node};
 use crate::runs::ahead::{content_ahead, part_ahead, short_ahead};
 use crate::runs::content::whole_ahead;
-use crate::runs::leaf::leaf_ahead;
+use crate::runs::leaf::{is_leaf, leaf_ahead};
 use crate::runs::sort::is_short;
 use std::alloc::AllocError;
 use xdr_types::{Kind, KindId, Schema};
@@ -79,6 +79,9 @@ impl Build for Nothing {
         }
         if let Some((_, size)) = leaf_ahead(schema, kind, bytes) {
             return Ok(size);
+        }
+        if is_leaf(schema.kind(kind)) {
+            return Ok(0);
         }
         match part_ahead(schema, kind, bytes, levels) {
             Some(n) => Ok(n),

@@ -20,6 +20,18 @@ use xdr_types::{Kind, KindId, Limits, Schema};
 /// How many nodes are begun in one step at most.
 const MOST_NODES: u32 = 64;
 
+/// While as many may still be begun, a part that comes first is tried at once: in deeper ones it is begun.
+const LEAST_TRIED: u32 = MOST_NODES - 2;
+
+// Whether values of the kind begin without a byte of their own: structures, fixed arrays and voids.
+#[inline(always)]
+fn is_bare(kind: &Kind) -> bool {
+    match kind {
+        Kind::Structure { .. } | Kind::Fixed { .. } | Kind::Nothing => true,
+        _ => false,
+    }
+}
+
 /// Ends the nodes that have all their parts, the one at work among them. Whether the value is not whole then.
 #[inline(always)]
 pub(crate) fn leave<'s, B: Build>(
@@ -122,7 +134,8 @@ pub(crate) fn enter_nodes<'s, B: Build>(
         };
         id = inner;
         kind = schema.kind(inner);
-        if left == 0 || built.tries(schema, inner, there) {
+        let is_tried = left >= LEAST_TRIED && (!is_bare(kind) || built.tries(schema, inner, there));
+        if left == 0 || is_tried {
             return Ok(true);
         }
     }

@@ -49,7 +49,7 @@ pub fn after<'s>(frame: Frame<'s>) -> Frame<'s>
     match frame {
         Frame::Fields { fields } => match fields {
             [_, others @ ..] => Frame::Fields { fields: others },
-            [] => frame,
+            [] => Frame::Fields { fields },
         },
         Frame::Items { item, left } => {
             let left = if left == 0 { 0 } else { left - 1 };

@@ -1,5 +1,5 @@
 //! How nodes begin and end, whatever is made of them.
-ghost use Rattle.std.specs.Prelude.{◌≡◌, ℕ, pos, List, [], ◌∷◌, ◌++◌, IfOk, IfErr, OnOk, false};
+ghost use Rattle.std.specs.Prelude.{◌≡◌, ℕ, pos, List, [], ◌∷◌, ◌++◌, IfOk, IfErr, OnOk, OnErr, false};
 ghost use Rattle.xdr_types.specs.Kinds.{KindView, kind_at};
 ghost use Rattle.xdr_types.specs.KindViews.{kind_view};
 ghost use Rattle.xdr_laws.specs.Owed.{lead_of, HasUnit};
@@ -88,6 +88,19 @@ pub(crate) fn pass_void<'s, B: Build>(
     Ok(())
 }
 
+// Puts a node without its next part onto the others. Where it has fields, it is known that fields are left.
+#[inline(always)]
+fn put_rest<'s>(parents: &mut Stack<Frame<'s>>, work: Frame<'s>) -> Result<(), AllocError>
+    ensures stack { OnOk result (onto [] parents.new.items
+        ≡ rest_of (left_of work.entry) ∷ onto [] parents.old.items) }
+    ensures stays { OnErr result (parents.new.items ≡ parents.old.items) }
+{
+    match work {
+        Frame::Fields { fields } => parents.push(after(Frame::Fields { fields })),
+        _ => parents.push(after(work)),
+    }
+}
+
 /// Opens a node whose parts come next.
 #[inline(always)]
 pub(crate) fn open<'s, B: Build>(
@@ -105,7 +118,7 @@ pub(crate) fn open<'s, B: Build>(
     ensures stays { IfErr result (λ _. stack_of work.new parents.new.items ≡ stack_of work.old parents.old.items) }
 {
     built.open(node)?;
-    parents.push(after(*work))?;
+    put_rest(parents, *work)?;
     *work = frame;
     Ok(())
 }

@@ -8,16 +8,17 @@ use crate::builder::Build;
 use crate::fault::Reason;
 use crate::machine::frame::after;
 use crate::reader::Reader;
+use crate::reader::onward::Onward;
 use crate::runs::entire::entire_due;
 
 impl<'s, B: Build + Drop> Reader<'s, B> {
     /// Takes the parts of the node at work that come first, as long as the builder takes them and they are there whole;
-    /// tells how many bytes. What comes next is not settled then.
+    /// tells how many bytes, and how it goes on. What comes next is not settled then.
     #[inline(never)]
-    pub(crate) fn take_entire(&mut self, bytes: &[u8]) -> usize
+    pub(crate) fn take_entire(&mut self, bytes: &[u8]) -> (usize, Onward)
         requires { self.old.state ≡ Fresh }
-        ensures went { Advances B.spares B.reports self.old self.new (take result bytes.now) }
-        ensures within { result ≤ length bytes.now }
+        ensures went { Advances B.spares B.reports self.old self.new (take result.0 bytes.now) }
+        ensures within { result.0 ≤ length bytes.now }
         ensures same { IsSame self.old self.new }
     {
         let _in_range = self.limits.depth();
@@ -37,13 +38,13 @@ impl<'s, B: Build + Drop> Reader<'s, B> {
                 before,
             );
             let Some(part) = due else {
-                return at;
+                return (at, if at > 0 { Onward::Next } else { Onward::Begin });
             };
             let given = &bytes[at..at + part.most];
             match self.built.part(self.schema, part.kind, part.levels, given) {
                 Ok(n) => {
                     if n == 0 {
-                        return at;
+                        return (at, Onward::Begin);
                     }
                     self.work = after(self.work);
                     self.read = self.read.saturating_add(n);
@@ -52,10 +53,10 @@ impl<'s, B: Build + Drop> Reader<'s, B> {
                 }
                 Err(_) => {
                     self.fail(Reason::NoMemory);
-                    return bytes.len();
+                    return (bytes.len(), Onward::Stop);
                 }
             }
         }
-        at
+        (at, Onward::Next)
     }
 }

@@ -97,10 +97,10 @@ impl<'s, B: Build + Drop> Reader<'s, B> {
         }
     }
 
-    // Whether the part that comes next, of this kind, begins with a unit, and this is among so many bytes, before any
-    // limit.
+    /// Whether the part that comes next, of this kind, begins with a unit, and this is among so many bytes, before any
+    /// limit.
     #[inline(always)]
-    fn is_unit_due(&self, id: KindId, kind: &'s Kind, there: usize) -> bool
+    pub(crate) fn is_unit_due(&self, id: KindId, kind: &'s Kind, there: usize) -> bool
         requires first { Begins (left_of self.now.work) id.place }
         requires kind { kind_view kind.now ≡ kind_at self.now.schema.now.kinds id.place }
         ensures ready { result ≡ true → IsReady self.now.schema.now.kinds self.now.limits Next

@@ -2,8 +2,9 @@
 ghost use Rattle.std.specs.Prelude.{◌≡◌, ◌≤◌, ◌<◌, ℕ, List, ◌++◌, length, take};
 ghost use Rattle.xdr_types.specs.Kinds.{kind_at};
 ghost use Rattle.xdr_types.specs.KindViews.{kind_view};
+ghost use Rattle.xdr_laws.specs.Owed.{lead_of, HasUnit};
 ghost use Rattle.xdr_stream.specs.Frames.{left_of, stack_of, Begins};
-ghost use Rattle.xdr_stream.specs.Sees.{Sees};
+ghost use Rattle.xdr_stream.specs.Sees.{Sees, IsReady};
 ghost use Rattle.xdr_stream.specs.Private.Entire.{Went, Advances};
 ghost use Rattle.xdr_stream.specs.Represents.{RepresentsBytes, IsAwake, IsSame};
 ghost use Rattle.xdr_stream.specs.declared.machine.Awaits.TheVariants.{Next};
@@ -12,6 +13,8 @@ ghost use Rattle.xdr_stream.specs.declared.reader.State.TheVariants.{Fresh};
 use crate::builder::Build;
 use crate::machine::Awaits;
 use crate::machine::frame::{Frame, next};
+use crate::machine::nodes::take_made;
+use crate::machine::unit::{number_of, unit_at};
 use crate::reader::onward::Onward;
 use crate::reader::{Reader, State};
 use crate::runs::sort::{Sort, sort_of};
@@ -61,10 +64,7 @@ impl<'s, B: Build + Drop> Reader<'s, B> {
             at += n;
             match self.state {
                 State::Fresh if onward.goes_on() && steps > 0 => {}
-                State::Fresh => {
-                    self.settle_next();
-                    return at;
-                }
+                State::Fresh => return at + self.begin_next(&bytes[at..]),
                 _ => return at,
             }
             steps -= 1;
@@ -85,6 +85,74 @@ impl<'s, B: Build + Drop> Reader<'s, B> {
         ensures same { IsSame self.old self.new }
     {
         self.settle(Awaits::Next);
+    }
+
+    // Begins what comes next, by its first unit where that is there; tells how many bytes.
+    #[inline(never)]
+    fn begin_next(&mut self, bytes: &[u8]) -> usize
+        requires { self.old.state ≡ Fresh }
+        ensures represents { (q : List ℕ) → length q ≡ self.old.read → self.old.pending ≡ 0
+            → Sees self.old.schema.now.kinds self.old.kind.place self.old.limits (B.reports self.old.built) Next
+            (stack_of self.old.work self.old.parents.items) q
+            → RepresentsBytes B.spares B.reports self.new (q ++ take result bytes.now) }
+        ensures within { result ≤ length bytes.now }
+        ensures awake { IsAwake self.new.state }
+        ensures same { IsSame self.old self.new }
+    {
+        let _known = self.schema.len();
+        let Some(id) = next(&self.work) else {
+            self.settle_next();
+            return 0;
+        };
+        let kind = self.schema.kind(id);
+        if !self.is_unit_due(id, kind, bytes.len()) {
+            self.settle_next();
+            return 0;
+        }
+        let unit = unit_at(bytes, 0);
+        match kind {
+            Kind::OpaqueUpTo { .. } | Kind::Text { .. } => self.take_length(id, kind, &unit),
+            _ => self.take(Awaits::Next, &unit),
+        }
+        4
+    }
+
+    // Takes the first unit of the part that comes next, of this kind, and begins what comes after it. It is for content
+    // that is cut, so that nothing else is looked for.
+    #[inline(always)]
+    fn take_length(&mut self, id: KindId, kind: &'s Kind, unit: &[u8; 4])
+        requires fresh { self.old.state ≡ Fresh }
+        requires first { Begins (left_of self.old.work) id.place }
+        requires kind { kind_view kind.now ≡ kind_at self.old.schema.now.kinds id.place }
+        requires unit { HasUnit (lead_of (kind_view kind.now)) }
+        ensures represents { (q : List ℕ) → length q ≡ self.old.read → self.old.pending ≡ 0
+            → Sees self.old.schema.now.kinds self.old.kind.place self.old.limits (B.reports self.old.built) Next
+            (stack_of self.old.work self.old.parents.items) q
+            → IsReady self.old.schema.now.kinds self.old.limits Next (stack_of self.old.work self.old.parents.items)
+            → (self.old.read ≡ self.old.limits.bytes → ⊥)
+            → RepresentsBytes B.spares B.reports self.new (q ++ unit.now) }
+        ensures awake { IsAwake self.new.state }
+        ensures same { IsSame self.old self.new }
+    {
+        let _in_range = self.limits.depth();
+        match take_made(
+            self.schema,
+            id,
+            kind,
+            &mut self.work,
+            &mut self.parents,
+            &mut self.built,
+            number_of(unit),
+        ) {
+            Ok(awaits) => {
+                self.read = self.read.saturating_add(4);
+                match awaits {
+                    Awaits::Next => self.settle_next(),
+                    _ => self.settle(awaits),
+                }
+            }
+            Err(why) => self.fail(why),
+        }
     }
 
     // Takes the parts that come next, or begins one, and ends the nodes that have all their parts. Tells how many bytes
@@ -121,10 +189,7 @@ impl<'s, B: Build + Drop> Reader<'s, B> {
                 let n = self.take_numbers(bytes);
                 (n, Onward::of(n > 0))
             }
-            Sort::Sized if onward.tries() => {
-                let n = self.take_entire(bytes);
-                (n, if n > 0 { Onward::Next } else { Onward::Begin })
-            }
+            Sort::Sized if onward.tries() => self.take_entire(bytes),
             Sort::Sized | Sort::Bare => {
                 let kind = self.schema.kind(id);
                 self.enter_first(id, kind, bytes)

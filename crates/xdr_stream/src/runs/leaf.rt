@@ -35,6 +35,15 @@ pub(crate) fn leaf_of(schema: &Schema, id: KindId, kind: &Kind, number: u32) -> 
     }
 }
 
+/// Whether values of the kind are numbers of one unit of which not each is one.
+#[inline(always)]
+pub(crate) fn is_leaf(kind: &Kind) -> bool {
+    match kind {
+        Kind::Bool | Kind::Numbered { .. } => true,
+        _ => false,
+    }
+}
+
 /// The number, the boolean or the hyper integer that the bytes begin with, where the kind has such values, and how many
 /// bytes it has.
 #[inline(always)]

@@ -89,7 +89,9 @@ returns-in-Fresh-2-clause-represents g c = λ q len none seen.
     (c.take_step-n.ensures.went (q ++ take at bs) w.0 w.1 w.2) in
     let v = subst (λ (x : State). WentAs g.B.Build.spares e.schema.now.kinds e.kind.place e.limits
     (g.B.Build.reports e.built) (stack_of e.work e.parents.items) e.read e.unit e.pending x b) c.in-Fresh-2.is went in
-    c.settle_next.ensures.represents b v.0 v.1 v.2
+    subst (λ (x : List ℕ). RepresentsBytes g.B.Build.spares g.B.Build.reports c.begin_next.new.self x)
+    (taken_then q bs (at + n) c.begin_next.result)
+    (c.begin_next.ensures.represents b v.0 v.1 v.2)
 
 pub returns-clause-represents : goal.returns-clause-represents
 returns-clause-represents g c = λ q len none seen.
@@ -99,4 +101,4 @@ returns-clause-represents g c = λ q len none seen.
     let w = subst (λ (x : State). WentAs g.B.Build.spares r.schema.now.kinds r.kind.place r.limits
     (g.B.Build.reports r.built) (stack_of r.work r.parents.items) r.read r.unit r.pending x b) i.2
     (i.3 q len none seen) in
-    c.settle_next-2.ensures.represents b w.0 w.1 w.2
+    c.settle_next.ensures.represents b w.0 w.1 w.2
