@@ -50,7 +50,7 @@ impl<'s> Decoder<'s> {
     /// `xdr_laws::one_outcome`.
     ///
     /// What it holds is the value so far, a frame for each of its open nodes, and at most three bytes of input. It
-    /// takes no memory where the kind is a number, a boolean, an enumeration or void. Reading goes down by no calls;
+    /// takes no memory where the kind is a number, a boolean, an enumeration or void. Reading does not recurse;
     /// the drop of a value does, one level a call.
     pub fn feed(&mut self, piece: &[u8]) -> Result<Progress, DecodeFault>
         // With the bytes that were taken of the piece, the fields represent all bytes so far.

@@ -26,7 +26,7 @@ use xdr_types::{KindId, Limits, Schema, Value};
 /// at most that count and says no more.
 ///
 /// Memory is what the value needs, and a frame for each of its open nodes; none where the kind is a number, a boolean,
-/// an enumeration or void. Reading goes down by no calls; the drop of the value does, one level a call.
+/// an enumeration or void. Reading does not recurse; the drop of the value does, one level a call.
 pub fn decode(
     alloc: Global,
     schema: &Schema,
