@@ -148,6 +148,23 @@ def picked_cases():
         yield case, lambda told: (told.answer, told.streams[1]) == ("3", b"write fault\n")
 
 
+def wide_part_cases():
+    """Parts that are looked at in vain, before many bytes: forty of 65,604 bytes, more than are looked at for one, the
+    last of them whole or refused, and the first of 5000 parts of 404 bytes, which is refused. They are begun then. To
+    look anew for each byte behind them takes some ten seconds and more."""
+    text = b"struct part { int rest[16400]; bool last; }; typedef part parts[40];"
+    given = bytes(40 * 65604)
+    whole = Whole(text, "parts", "", len(given), b"")
+    last = Refused(text, "parts", "", WIDEST, "BadBool", len(given) - 4, len(given))
+    text = b"struct part { int rest[100]; bool last; }; typedef part parts<>;"
+    first = Refused(text, "parts", "", WIDEST, "BadBool", 404, 408)
+    behind = word(5000) + bytes(400) + word(2) + bytes(4999 * 404)
+    for row, bytes_of in ((whole, given), (last, given[:-1] + b"\2"), (first, behind)):
+        kind = {"given": bytes_of, **typed(row)}
+        yield Case("Checker", (len(bytes_of), 0), **kind), fed(row, bytes_of, len(bytes_of), True)
+    yield Case("decode", **kind), decoded_well(first)
+
+
 def deep_cases():
     """The list of 2047 empty strings, of depth 4096 and 16380 bytes, whole and byte by byte, and one string more."""
     given = (word(1) + word(0)) * 2047 + word(0)
