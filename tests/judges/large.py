@@ -150,8 +150,8 @@ def picked_cases():
 
 def wide_part_cases():
     """Parts that are looked at in vain, before many bytes: forty of 65,604 bytes, more than are looked at for one, the
-    last of them whole or refused, and the first of 5000 parts of 404 bytes, which is refused. They are begun then. To
-    look anew for each byte behind them takes some ten seconds and more."""
+    last of them whole or refused, and the first of 5000 parts of 404 bytes, which is refused. They are begun then, and
+    not looked at anew for each byte behind them."""
     text = b"struct part { int rest[16400]; bool last; }; typedef part parts[40];"
     given = bytes(40 * 65604)
     whole = Whole(text, "parts", "", len(given), b"")
