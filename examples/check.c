@@ -33,7 +33,7 @@ static const uint8_t input[49] =
 
 static uint32_t check(oncrpc_declarations *declarations, const char *name, size_t count, oncrpc_outcome *outcome) {
     return oncrpc_declarations_check(
-        declarations, (const uint8_t *)name, strlen(name), ONCRPC_MOST_DEPTH, ONCRPC_MOST_BYTES, input, count, outcome);
+        declarations, name, strlen(name), ONCRPC_MOST_DEPTH, ONCRPC_MOST_BYTES, input, count, outcome);
 }
 
 static void show(oncrpc_declarations *declarations, const char *name, size_t count) {
@@ -59,7 +59,7 @@ static void show(oncrpc_declarations *declarations, const char *name, size_t cou
 int main(void) {
     oncrpc_declarations declarations = ONCRPC_NONE;
     oncrpc_outcome outcome;
-    if (oncrpc_declarations_read((const uint8_t *)text, sizeof text - 1, &declarations, &outcome) != ONCRPC_OK) {
+    if (oncrpc_declarations_read(text, sizeof text - 1, &declarations, &outcome) != ONCRPC_OK) {
         printf("fault %u (%u) at %zu:%zu\n", outcome.why, outcome.inner, outcome.line, outcome.column);
         return 1;
     }
@@ -68,7 +68,7 @@ int main(void) {
     show(&declarations, "file", 47);
     show(&declarations, "bool", 4);
     show(&declarations, "folder", 48);
-    if (oncrpc_declarations_read((const uint8_t *)"struct a { int b; int b; };", 27, &declarations, &outcome)) {
+    if (oncrpc_declarations_read("struct a { int b; int b; };", 27, &declarations, &outcome)) {
         printf("fault %u (%u) at %zu:%zu\n", outcome.why, outcome.inner, outcome.line, outcome.column);
     }
     oncrpc_declarations_free(&declarations);

@@ -34,7 +34,7 @@ static uint8_t names[256];
 
 static uint32_t list(oncrpc_declarations *declarations, size_t count, size_t parts_count, size_t names_count,
                      oncrpc_parts_outcome *outcome) {
-    return oncrpc_declarations_parts(declarations, (const uint8_t *)"file", 4, ONCRPC_MOST_DEPTH, ONCRPC_MOST_BYTES,
+    return oncrpc_declarations_parts(declarations, "file", 4, ONCRPC_MOST_DEPTH, ONCRPC_MOST_BYTES,
                                      input, count, parts, parts_count, names, names_count, outcome);
 }
 
@@ -52,7 +52,7 @@ int main(void) {
     oncrpc_declarations declarations = ONCRPC_NONE;
     oncrpc_outcome fault;
     oncrpc_parts_outcome outcome;
-    if (oncrpc_declarations_read((const uint8_t *)text, sizeof text - 1, &declarations, &fault) != ONCRPC_OK)
+    if (oncrpc_declarations_read(text, sizeof text - 1, &declarations, &fault) != ONCRPC_OK)
         return 1;
     uint32_t status = list(&declarations, sizeof input, 0, 0, &outcome);
     printf("without buffers: status %u, %zu parts and %zu bytes of names are needed\n", status, outcome.parts,

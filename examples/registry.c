@@ -64,8 +64,8 @@ static size_t answer(const char *netid, const struct sockaddr_in *from, size_t c
     if (is_forbidden(from, count)) {
         return refuse(count, ONCRPC_AUTH_ERROR);
     }
-    uint32_t status = oncrpc_registry_answer(&registry, (const uint8_t *)netid, strlen(netid), record, count,
-        buffer + 4, buffer_count - 4, &outcome);
+    uint32_t status = oncrpc_registry_answer(&registry, netid, strlen(netid), record, count, buffer + 4,
+        buffer_count - 4, &outcome);
     if (status == ONCRPC_NO_ROOM) {
         uint8_t *larger = realloc(buffer, outcome.at + 4);
         if (!larger) {
@@ -96,9 +96,9 @@ static int answer_record(int socket, struct peer *peer) {
         return 0;
     }
     size_t reply = answer("tcp", &peer->address, outcome.at);
-    uint32_t header = htonl(0x80000000 | (uint32_t)reply);
-    memcpy(buffer, &header, 4);
-    return !reply || send(socket, buffer, reply + 4, MSG_NOSIGNAL | MSG_DONTWAIT) == (ssize_t)reply + 4;
+    return !reply
+        || (oncrpc_record_header(reply, true, buffer) == ONCRPC_OK
+            && send(socket, buffer, reply + 4, MSG_NOSIGNAL | MSG_DONTWAIT) == (ssize_t)reply + 4);
 }
 
 /* Answers each record that is whole with what was received. Says whether the connection goes on. */

@@ -31,7 +31,7 @@ static const uint8_t input[48] = "\0\0\0\11sillyprog\0\0\0"
 
 static uint32_t show(oncrpc_declarations *declarations, size_t count, uint8_t *buffer, size_t buffer_count,
                      size_t *written, oncrpc_outcome *outcome) {
-    return oncrpc_declarations_show(declarations, (const uint8_t *)"file", 4, ONCRPC_MOST_DEPTH, ONCRPC_MOST_BYTES,
+    return oncrpc_declarations_show(declarations, "file", 4, ONCRPC_MOST_DEPTH, ONCRPC_MOST_BYTES,
                                     input, count, buffer, buffer_count, written, outcome);
 }
 
@@ -40,7 +40,7 @@ int main(void) {
     oncrpc_outcome outcome;
     uint8_t buffer[256];
     size_t written;
-    if (oncrpc_declarations_read((const uint8_t *)text, sizeof text - 1, &declarations, &outcome) != ONCRPC_OK)
+    if (oncrpc_declarations_read(text, sizeof text - 1, &declarations, &outcome) != ONCRPC_OK)
         return 1;
     uint32_t status = show(&declarations, sizeof input, buffer, sizeof buffer, &written, &outcome);
     fwrite(buffer, 1, written, stdout);

@@ -18,12 +18,12 @@ static void *run(void *count) {
     oncrpc_declarations declarations = ONCRPC_NONE;
     oncrpc_outcome outcome;
     for (int i = 0; i < 100; i++) {
-        if (oncrpc_declarations_read((const uint8_t *)text, sizeof text - 1, &declarations, &outcome) != ONCRPC_OK) {
+        if (oncrpc_declarations_read(text, sizeof text - 1, &declarations, &outcome) != ONCRPC_OK) {
             ++*wrong;
         }
         for (int j = 0; j < 10; j++) {
             uint32_t status = oncrpc_declarations_check(
-                &declarations, (const uint8_t *)"file", 4, 2, 1024, input, sizeof input, &outcome);
+                &declarations, "file", 4, 2, 1024, input, sizeof input, &outcome);
             if (status != ONCRPC_MORE_FOLLOWS || outcome.at != 12) {
                 ++*wrong;
             }

@@ -1,20 +1,23 @@
 /* oncrpc: proved XDR (RFC 4506), messages and record marking of ONC RPC (RFC 5531), and the registry of rpcbind (RFC
  * 1833), for C and C++.
  *
- * Each function answers a status, one of the ONCRPC_ numbers below, and fills what the caller passes. What it promises
- * is the contract of the function of that name in crates/c_library/src, which a prover has accepted. These comments
- * retell it.
+ * Each function answers a status, one of the ONCRPC_ numbers below, and fills what the caller passes; a free answers
+ * nothing. What it promises is the contract of the function of that name in crates/c_library/src, which a prover has
+ * accepted. These comments retell it. The inline functions, which answer texts, stand here and are tested.
  *
  * SHOWN BY TESTS, and by no contract: that ONCRPC_NO_MEMORY comes only where malloc or realloc refused, or as
  * oncrpc_normalise says of its input. That no memory is lost. Which error of a text is told, and at which line and
- * column. The stack that is needed, and that no call ends the process. The numbers of this file, and the sizes and the
- * places of fields. That the hashes of a registry depend on its seed is shown by neither: it is the code.
+ * column. Of ONCRPC_BAD_ITEM that the item is the first with which no value goes on, and its reason. The stack that is
+ * needed, and that no call ends the process. The numbers and the texts of this file, and the
+ * sizes and the places of fields. That the hashes of a registry depend on its seed is shown by neither: it is the code.
  *
- * POINTERS. A pointer to bytes or parts has a count beside it, and leads to so many. Where the count is 0 it may be
- * NULL, and is not looked at. No other pointer may be NULL: neither a handle, nor an outcome, nor a call, nor a place
- * for a count. Each is aligned as its type wants it. Nothing else may write what is read while the call runs. What a
- * call fills, an outcome, a buffer or a handle, overlaps nothing else that the call is given. A call keeps no pointer:
- * when it has returned, the bytes are the caller's again.
+ * POINTERS. A pointer to bytes, parts or rows has a count beside it, and leads to so many. Where the count is 0 it may
+ * be NULL, and is not looked at. No other pointer may be NULL: neither a handle, nor an outcome, nor a call, nor a
+ * place for a number or for the four bytes of a host or a header. Each is aligned as its type wants it; one to bytes
+ * that are read is a `const void *`, so that a text goes in without a cast. Nothing else may write what is read while
+ * the call runs. What a call fills, an outcome, a buffer or a handle, overlaps nothing else that the call is given.
+ * Another NULL, or an overlap, is undefined behaviour, as it is of the C library. A call keeps no pointer: when it has
+ * returned, the bytes are the caller's again.
  *
  * MEMORY. What is kept between calls is in a handle, oncrpc_declarations, oncrpc_registry or oncrpc_records, and is
  * given back by its free. All memory comes from malloc and realloc and goes to free. Where one of them refuses, the
@@ -50,6 +53,16 @@
 extern "C" {
 #endif
 
+/* The version of this file. oncrpc_version tells that of the library which is linked. */
+#define ONCRPC_VERSION "0.1.0"
+#define ONCRPC_VERSION_MAJOR 0u
+#define ONCRPC_VERSION_MINOR 1u
+#define ONCRPC_VERSION_PATCH 0u
+#define ONCRPC_VERSION_NUMBER (ONCRPC_VERSION_MAJOR << 16 | ONCRPC_VERSION_MINOR << 8 | ONCRPC_VERSION_PATCH)
+
+/* The ONCRPC_VERSION_NUMBER of the library: 256 of 0.1.0. It takes no memory. */
+uint32_t oncrpc_version(void);
+
 /* What a call answers. Each field of an outcome that a status does not speak of is 0. */
 enum {
     ONCRPC_OK = 0,              /* a value and no more; or done. `at`: how many bytes */
@@ -57,11 +70,12 @@ enum {
     ONCRPC_REFUSED = 2,         /* the bytes are refused. `why`: a reason; `at`: the count of bytes before the place */
     ONCRPC_UNDECLARED = 3,      /* the text has an error. `why`: a fault; `inner`; `line`; `column` */
     ONCRPC_NO_KIND = 4,         /* the name is that of no kind */
-    ONCRPC_BAD_LIMITS = 5,      /* a limit is out of its range */
+    ONCRPC_BAD_LIMITS = 5,      /* a limit, or the count of a fragment's bytes, is out of its range */
     ONCRPC_NO_MEMORY = 6,       /* out of memory: malloc or realloc refused */
     ONCRPC_NO_DECLARATIONS = 7, /* the handle holds no declarations */
     ONCRPC_NO_ROOM = 8,         /* a buffer is too small. `at`, or `count` of a writer: how many bytes are needed; of
-                                   oncrpc_declarations_parts `parts` and `names` */
+                                   oncrpc_declarations_parts `parts` and `names`, of oncrpc_registry_rows `rows` and
+                                   `bytes` */
 
     /* Of messages alone. */
     ONCRPC_NOT_A_CALL = 9,      /* no call, or less than the front of one */
@@ -83,7 +97,13 @@ enum {
     /* Of a stream of records alone. */
     ONCRPC_NO_READER = 22,   /* the handle holds no reader */
     ONCRPC_MORE_WANTED = 23, /* all was taken, and no record is whole */
-    ONCRPC_NO_RECORD = 24    /* no record waits */
+    ONCRPC_NO_RECORD = 24,   /* no record waits */
+
+    /* Of universal addresses alone. */
+    ONCRPC_NOT_AN_ADDRESS = 25, /* the text is that of no host and port over IPv4 */
+
+    /* Of values that are written alone. */
+    ONCRPC_BAD_ITEM = 26 /* the items are no value's. `why`: a reason; `at`: how many items are before the bad one */
 };
 
 /* Why bytes are refused: `why` of an outcome with ONCRPC_REFUSED. The place is that of the unit (four bytes) or of the
@@ -97,6 +117,18 @@ enum {
     ONCRPC_TOO_DEEP = 6,     /* a node below the limit on depth */
     ONCRPC_TOO_LARGE = 7,    /* no value within the limit on bytes, which is the place */
     ONCRPC_TRUNCATED = 8     /* the bytes end inside the value or the record, at their count, which is the place */
+};
+
+/* Why items are refused: `why` of an outcome with ONCRPC_BAD_ITEM. That is one of these, or the reason above for which
+ * the bytes of the item would be refused: ONCRPC_BAD_BOOL to ONCRPC_TOO_LARGE. */
+enum {
+    ONCRPC_WRONG_ITEM = 9,    /* another item is due: a number, a flag, a count or content, or content of another
+                                 fixed size; or its form is none */
+    ONCRPC_NOT_IN_RANGE = 10, /* a number that does not go into the bytes of its type; a flag above 1; a count above
+                                 4294967295 */
+    ONCRPC_PAST_END = 11,     /* too many items: the value is whole before this one */
+    ONCRPC_UNFINISHED = 12,   /* too few items: the value is not whole behind the last, and `at` counts them */
+    ONCRPC_OUTSIDE = 13       /* content that does not lie in the data */
 };
 
 /* Which error a text has: `why` of an outcome with ONCRPC_UNDECLARED. docs/LANGUAGE.md explains each. A text without
@@ -182,7 +214,27 @@ typedef struct {
     uint32_t why; /* a reason */
 } oncrpc_parts_outcome;
 
-/* So many bytes of a message, behind so many others: input + at leads to the first of them. */
+/* `form` of an item. */
+enum {
+    ONCRPC_ITEM_SIGNED = 1,   /* a number, in `signed_number`: an integer, a bool (0 or 1), an enum, a discriminant */
+    ONCRPC_ITEM_UNSIGNED = 2, /* a number, in `number`: each of these may stand in either */
+    ONCRPC_ITEM_FLAG = 3,     /* `number`: 1 where the optional item is there and its items follow, else 0 */
+    ONCRPC_ITEM_COUNT = 4,    /* `count`: so many items of an array of variable size follow */
+    ONCRPC_ITEM_CONTENT = 5   /* the bytes of an opaque or a string, `count` of them from data + at on */
+};
+
+/* An item of a value that is written (RFC 4506 section 4). They stand in the order of the value's bytes. A struct, an
+ * array of fixed size and a void have none of their own; nor has the length of content, and no zeros behind it. */
+typedef struct {
+    uint32_t form;         /* ONCRPC_ITEM_..: which of the others is looked at */
+    int64_t signed_number;
+    uint64_t number;
+    size_t at;
+    size_t count;
+} oncrpc_item;
+
+/* So many bytes behind so many others: of a message, where input + at leads to the first of them, or of the texts of
+ * rows, where bytes + at does. */
 typedef struct {
     size_t at;
     size_t count;
@@ -257,16 +309,16 @@ typedef struct {
  * `text`, `name` and `input` may be NULL where their count is 0; an empty text has no error and declares nothing.
  * ONCRPC_OK, _MORE_FOLLOWS, _REFUSED, _UNDECLARED, _NO_KIND, _BAD_LIMITS, _NO_MEMORY. */
 uint32_t oncrpc_check(
-    const uint8_t *text, size_t text_count,
-    const uint8_t *name, size_t name_count,
+    const void *text, size_t text_count,
+    const void *name, size_t name_count,
     uint32_t depth, uint32_t bytes,
-    const uint8_t *input, size_t input_count,
+    const void *input, size_t input_count,
     oncrpc_outcome *outcome);
 
 /* Reads `text` into `declarations`. What that held before is given back. At any other status than ONCRPC_OK it holds
  * none. `text` may be NULL where its count is 0. ONCRPC_OK, _UNDECLARED, _NO_MEMORY. */
 uint32_t oncrpc_declarations_read(
-    const uint8_t *text, size_t text_count,
+    const void *text, size_t text_count,
     oncrpc_declarations *declarations,
     oncrpc_outcome *outcome);
 
@@ -275,9 +327,9 @@ uint32_t oncrpc_declarations_read(
  * ONCRPC_OK, _MORE_FOLLOWS, _REFUSED, _NO_KIND, _BAD_LIMITS, _NO_MEMORY, _NO_DECLARATIONS. */
 uint32_t oncrpc_declarations_check(
     oncrpc_declarations *declarations,
-    const uint8_t *name, size_t name_count,
+    const void *name, size_t name_count,
     uint32_t depth, uint32_t bytes,
-    const uint8_t *input, size_t input_count,
+    const void *input, size_t input_count,
     oncrpc_outcome *outcome);
 
 /* Puts the lines of the value that begins the input into `buffer`, by declarations that were read. There is one for
@@ -291,9 +343,9 @@ uint32_t oncrpc_declarations_check(
  * ONCRPC_OK, _MORE_FOLLOWS, _REFUSED, _NO_KIND, _BAD_LIMITS, _NO_MEMORY, _NO_DECLARATIONS, _NO_ROOM. */
 uint32_t oncrpc_declarations_show(
     oncrpc_declarations *declarations,
-    const uint8_t *name, size_t name_count,
+    const void *name, size_t name_count,
     uint32_t depth, uint32_t bytes,
-    const uint8_t *input, size_t input_count,
+    const void *input, size_t input_count,
     uint8_t *buffer, size_t buffer_count,
     size_t *written,
     oncrpc_outcome *outcome);
@@ -314,12 +366,34 @@ uint32_t oncrpc_declarations_show(
  * ONCRPC_OK, _MORE_FOLLOWS, _REFUSED, _NO_KIND, _BAD_LIMITS, _NO_MEMORY, _NO_DECLARATIONS, _NO_ROOM. */
 uint32_t oncrpc_declarations_parts(
     oncrpc_declarations *declarations,
-    const uint8_t *name, size_t name_count,
+    const void *name, size_t name_count,
     uint32_t depth, uint32_t bytes,
-    const uint8_t *input, size_t input_count,
+    const void *input, size_t input_count,
     oncrpc_value_part *parts, size_t parts_count,
     uint8_t *names, size_t names_count,
     oncrpc_parts_outcome *outcome);
+
+/* Writes the encoding of the value of the kind `name` that has these items, by declarations that were read: the other
+ * way of oncrpc_declarations_parts. `data` is where content lies, for items of ONCRPC_ITEM_CONTENT. The value has at
+ * most `depth` and `bytes`, the limits of a check. The declarations stay, whatever the status is. `name`, `items`,
+ * `data` and `buffer` may be NULL where their count is 0.
+ *
+ * ONCRPC_OK: there is such a value, and `written` and `at` of the outcome say how many bytes its encoding has. They
+ * are the first of the buffer; the others are as they were. ONCRPC_NO_ROOM: `at` says how many bytes are needed.
+ * ONCRPC_BAD_ITEM: no value within the limits has the items up to the one that `at` others are before, for the
+ * reason `why`; or, with ONCRPC_UNFINISHED, none has these items alone. At any status but the first the buffer is
+ * as it was, and `written` is 0, so a count of 0 asks how many are needed. The name is looked at first, then the
+ * limits, then the items in their order. It takes memory for the encoding, and for a frame for each open node.
+ * ONCRPC_OK, _NO_KIND, _BAD_LIMITS, _NO_MEMORY, _NO_DECLARATIONS, _NO_ROOM, _BAD_ITEM. */
+uint32_t oncrpc_declarations_write(
+    oncrpc_declarations *declarations,
+    const void *name, size_t name_count,
+    uint32_t depth, uint32_t bytes,
+    const oncrpc_item *items, size_t items_count,
+    const void *data, size_t data_count,
+    uint8_t *buffer, size_t buffer_count,
+    size_t *written,
+    oncrpc_outcome *outcome);
 
 /* Gives back what `declarations` holds, if anything. It then holds none, so that a second call does nothing. */
 void oncrpc_declarations_free(oncrpc_declarations *declarations);
@@ -334,7 +408,7 @@ void oncrpc_declarations_free(oncrpc_declarations *declarations);
  * ONCRPC_NO_ROOM: `at` of the outcome says how many bytes are needed. ONCRPC_BAD_LIMITS. ONCRPC_NO_MEMORY: out of
  * memory, or the input has more than 4294963200 bytes. At these three the buffer is as it was, and `written` is 0. */
 uint32_t oncrpc_normalise(
-    const uint8_t *input, size_t input_count,
+    const void *input, size_t input_count,
     uint32_t limit,
     uint8_t *buffer, size_t buffer_count,
     size_t *written,
@@ -358,22 +432,22 @@ uint32_t oncrpc_normalise(
  * told. ONCRPC_BAD_CREDENTIAL, _BAD_VERIFIER: `xid` is told, and `rpc_version` is 2. ONCRPC_NOT_A_CALL: fewer than 12
  * bytes, a second number that is not 0, or version 2 with fewer than 24 bytes. `input` may be NULL where its count is
  * 0: then it is no call. */
-uint32_t oncrpc_call_read(const uint8_t *input, size_t input_count, oncrpc_call *call);
+uint32_t oncrpc_call_read(const void *input, size_t input_count, oncrpc_call *call);
 
 /* Writes a call of version 2 of RPC with the xid, the program, its version, the procedure and the two flavors of
  * `call`, and with these bodies and arguments. Each of the four buffers may be NULL where its count is 0. ONCRPC_OK,
  * _NO_ROOM. _BAD_CREDENTIAL, and else _BAD_VERIFIER: more than ONCRPC_MOST_BODY bytes. _NO_MEMORY. */
 uint32_t oncrpc_call_write(
     const oncrpc_call *call,
-    const uint8_t *credential, size_t credential_count,
-    const uint8_t *verifier, size_t verifier_count,
-    const uint8_t *arguments, size_t arguments_count,
+    const void *credential, size_t credential_count,
+    const void *verifier, size_t verifier_count,
+    const void *arguments, size_t arguments_count,
     uint8_t *buffer, size_t buffer_count,
     size_t *count);
 
 /* Reads a reply. ONCRPC_OK: the bytes are one, all of them. ONCRPC_CUT, _NOT_A_REPLY, _BAD_STATE, _BAD_VERIFIER,
  * _BYTES_FOLLOW, _NO_MEMORY: each field is 0. `input` may be NULL where its count is 0: then it is cut. */
-uint32_t oncrpc_reply_read(const uint8_t *input, size_t input_count, oncrpc_reply *reply);
+uint32_t oncrpc_reply_read(const void *input, size_t input_count, oncrpc_reply *reply);
 
 /* Writes a reply with the xid and the state of `reply`, and with what that state speaks of. An accepted reply has the
  * verifier's flavor and these bytes as its body, ONCRPC_SUCCESS these results. Where a state has no verifier or no
@@ -381,22 +455,22 @@ uint32_t oncrpc_reply_read(const uint8_t *input, size_t input_count, oncrpc_repl
  * _NO_ROOM. _BAD_STATE: the state is above 7. _BAD_VERIFIER: more than ONCRPC_MOST_BODY bytes. _NO_MEMORY. */
 uint32_t oncrpc_reply_write(
     const oncrpc_reply *reply,
-    const uint8_t *verifier, size_t verifier_count,
-    const uint8_t *results, size_t results_count,
+    const void *verifier, size_t verifier_count,
+    const void *results, size_t results_count,
     uint8_t *buffer, size_t buffer_count,
     size_t *count);
 
 /* Reads the body of a credential of the flavor AUTH_SYS: input + call.credential.at of a call. ONCRPC_OK: the bytes are
  * such a body, all of them. ONCRPC_NOT_AUTH_SYS, _NO_MEMORY: each field is 0. `input` may be NULL where its count is 0:
  * then it is no such body. */
-uint32_t oncrpc_auth_sys_read(const uint8_t *input, size_t input_count, oncrpc_auth_sys *auth);
+uint32_t oncrpc_auth_sys_read(const void *input, size_t input_count, oncrpc_auth_sys *auth);
 
 /* Writes such a body, with the numbers and the first `gid_count` gids of `auth` and this name of a machine. `machine`
  * and `buffer` may be NULL where their count is 0.
  * ONCRPC_OK, _NO_ROOM. _NOT_AUTH_SYS: more than 16 gids or 255 bytes of name. _NO_MEMORY. */
 uint32_t oncrpc_auth_sys_write(
     const oncrpc_auth_sys *auth,
-    const uint8_t *machine, size_t machine_count,
+    const void *machine, size_t machine_count,
     uint8_t *buffer, size_t buffer_count,
     size_t *count);
 
@@ -404,9 +478,9 @@ uint32_t oncrpc_auth_sys_write(
  *
  * The registry of RFC 1833, versions 2, 3 and 4 of program 100000: rows in memory, at most 1024, each a program, a
  * version, a netid, an address and an owner. The caller has the sockets: what came in a datagram or a record goes into
- * oncrpc_registry_answer, and what that puts into the buffer is sent back. Each call below but the last fills
- * `outcome`: `at` where it is spoken of, and 0 in each other field and at each other status. At ONCRPC_NO_REGISTRY
- * nothing is changed. */
+ * oncrpc_registry_answer, and what that puts into the buffer is sent back. Each call below that is given an
+ * oncrpc_outcome fills it: `at` where it is spoken of, and 0 in each other field and at each other status. At
+ * ONCRPC_NO_REGISTRY nothing is changed. */
 
 /* A registry, or none. It begins as ONCRPC_NONE, and is given back by oncrpc_registry_free. */
 typedef struct {
@@ -425,7 +499,7 @@ typedef struct {
 uint32_t oncrpc_registry_start(
     oncrpc_registry *registry,
     uint16_t port,
-    const uint8_t *seed, size_t seed_count,
+    const void *seed, size_t seed_count,
     oncrpc_outcome *outcome);
 
 /* Answers a record that came over the transport `netid`, which is tcp or udp, and puts the reply into the front of
@@ -447,8 +521,8 @@ uint32_t oncrpc_registry_start(
  * most 65507 bytes: a longer one is SYSTEM_ERR, and the rows are as they were. */
 uint32_t oncrpc_registry_answer(
     oncrpc_registry *registry,
-    const uint8_t *netid, size_t netid_count,
-    const uint8_t *record, size_t record_count,
+    const void *netid, size_t netid_count,
+    const void *record, size_t record_count,
     uint8_t *buffer, size_t buffer_count,
     oncrpc_outcome *outcome);
 
@@ -468,9 +542,9 @@ uint32_t oncrpc_registry_reply(
 uint32_t oncrpc_registry_set(
     oncrpc_registry *registry,
     uint32_t program, uint32_t version,
-    const uint8_t *netid, size_t netid_count,
-    const uint8_t *address, size_t address_count,
-    const uint8_t *owner, size_t owner_count,
+    const void *netid, size_t netid_count,
+    const void *address, size_t address_count,
+    const void *owner, size_t owner_count,
     oncrpc_outcome *outcome);
 
 /* Removes the row of this program, version and netid, or with an empty netid each row of the program and version, where
@@ -480,12 +554,101 @@ uint32_t oncrpc_registry_set(
 uint32_t oncrpc_registry_unset(
     oncrpc_registry *registry,
     uint32_t program, uint32_t version,
-    const uint8_t *netid, size_t netid_count,
-    const uint8_t *owner, size_t owner_count,
+    const void *netid, size_t netid_count,
+    const void *owner, size_t owner_count,
     oncrpc_outcome *outcome);
+
+/* A row: its numbers, and where its texts lie in the caller's `bytes`. No zero ends them. */
+typedef struct {
+    uint32_t program;
+    uint32_t version;
+    oncrpc_part netid;
+    oncrpc_part address;
+    oncrpc_part owner;
+} oncrpc_registry_row;
+
+/* How many rows there are, and how many bytes their texts have. */
+typedef struct {
+    size_t rows;
+    size_t bytes;
+} oncrpc_rows_outcome;
+
+/* Lists the rows of the registry in their order, which is that in which they were added. Puts them into `rows`, an
+ * array of `rows_count`, and their texts into `bytes`, one directly behind the other. The rows hold places in the
+ * caller's `bytes`, and no pointer. The registry stays as it is, and a reply that waits stays. `rows` and `bytes` may
+ * be NULL where their count is 0.
+ *
+ * ONCRPC_OK: `rows` and `bytes` of the outcome say how many were written, each from the first on; the others are as
+ * they were. ONCRPC_NO_ROOM: an array of `rows` rows and a buffer for `bytes` bytes are needed, both. At each status
+ * but ONCRPC_OK both buffers are as they were, so that a count of 0 for both asks first. ONCRPC_NO_MEMORY,
+ * ONCRPC_NO_REGISTRY: both fields are 0. It takes memory for a second list until it returns. */
+uint32_t oncrpc_registry_rows(
+    oncrpc_registry *registry,
+    oncrpc_registry_row *rows, size_t rows_count,
+    uint8_t *bytes, size_t bytes_count,
+    oncrpc_rows_outcome *outcome);
 
 /* Gives back what `registry` holds, if anything. It then holds none, so that a second call does nothing. */
 void oncrpc_registry_free(oncrpc_registry *registry);
+
+/* Reads a universal address over IPv4, as the registry has them: six numbers from 0 to 255 with dots between them,
+ * without leading zeros, the host's four and then the port's high and low octet (RFC 5665 section 5.2.3.3). So
+ * `127.0.0.1.8.1` is port 2049 of 127.0.0.1. `text` needs no zero at its end, and may be NULL where its count is 0:
+ * then it is no address. It takes no memory.
+ *
+ * ONCRPC_OK: `host` and `port` are told. ONCRPC_NOT_AN_ADDRESS: they are 0.0.0.0 and 0. */
+uint32_t oncrpc_uaddr_read(const void *text, size_t text_count, uint8_t host[4], uint16_t *port);
+
+/* Writes the universal address of a host and a port, of at most 23 bytes, into the front of `buffer`, without a zero
+ * behind it. `buffer` may be NULL where its count is 0.
+ *
+ * ONCRPC_OK: `count` bytes were written, and the rest of the buffer is as it was. ONCRPC_NO_ROOM: `count` bytes are
+ * needed. ONCRPC_NO_MEMORY: `count` is 0. At these two the buffer is as it was. */
+uint32_t oncrpc_uaddr_write(
+    const uint8_t host[4], uint16_t port,
+    uint8_t *buffer, size_t buffer_count,
+    size_t *count);
+
+/* The declarations of what the registry's procedures take and give (RFC 1833), for oncrpc_declarations_read:
+ *
+ *     oncrpc_declarations_read(ONCRPC_REGISTRY_DECLARATIONS, sizeof ONCRPC_REGISTRY_DECLARATIONS - 1, &held, &outcome)
+ *
+ * So the arguments of GETPORT are a `mapping`, or `100000.2.3.1`, its result is `100000.2.3.result`, and all rows that
+ * DUMP of version 4 gives are a `rpcblist`, or `100000.4.4.result`. */
+#define ONCRPC_REGISTRY_DECLARATIONS                                                                     \
+    "struct rpcb { unsigned int r_prog; unsigned int r_vers;\n"                                          \
+    "    string r_netid<>; string r_addr<>; string r_owner<>; };\n"                                      \
+    "struct rp__list { rpcb rpcb_map; rp__list *rpcb_next; };\n"                                         \
+    "typedef rp__list *rpcblist;\n"                                                                      \
+    "struct mapping { unsigned int prog; unsigned int vers; unsigned int prot; unsigned int port; };\n"  \
+    "struct pm__list { mapping map; pm__list *next; };\n"                                                \
+    "typedef pm__list *pmaplist;\n"                                                                      \
+    "program PMAP_PROG {\n"                                                                              \
+    "    version PMAP_VERS {\n"                                                                          \
+    "        void PMAPPROC_NULL(void) = 0;\n"                                                            \
+    "        bool PMAPPROC_SET(mapping) = 1;\n"                                                          \
+    "        bool PMAPPROC_UNSET(mapping) = 2;\n"                                                        \
+    "        unsigned int PMAPPROC_GETPORT(mapping) = 3;\n"                                              \
+    "        pmaplist PMAPPROC_DUMP(void) = 4;\n"                                                        \
+    "    } = 2;\n"                                                                                       \
+    "} = 100000;\n"                                                                                      \
+    "program RPCBPROG {\n"                                                                               \
+    "    version RPCBVERS {\n"                                                                           \
+    "        void RPCBPROC_NULL(void) = 0;\n"                                                            \
+    "        bool RPCBPROC_SET(rpcb) = 1;\n"                                                             \
+    "        bool RPCBPROC_UNSET(rpcb) = 2;\n"                                                           \
+    "        string RPCBPROC_GETADDR(rpcb) = 3;\n"                                                       \
+    "        rpcblist RPCBPROC_DUMP(void) = 4;\n"                                                        \
+    "    } = 3;\n"                                                                                       \
+    "    version RPCBVERS4 {\n"                                                                          \
+    "        void RPCBPROC_NULL(void) = 0;\n"                                                            \
+    "        bool RPCBPROC_SET(rpcb) = 1;\n"                                                             \
+    "        bool RPCBPROC_UNSET(rpcb) = 2;\n"                                                           \
+    "        string RPCBPROC_GETADDR(rpcb) = 3;\n"                                                       \
+    "        rpcblist RPCBPROC_DUMP(void) = 4;\n"                                                        \
+    "        string RPCBPROC_GETVERSADDR(rpcb) = 9;\n"                                                   \
+    "    } = 4;\n"                                                                                       \
+    "} = 100000;\n"
 
 /* ---- records in fragments
  *
@@ -500,9 +663,9 @@ void oncrpc_registry_free(oncrpc_registry *registry);
  *     }
  *
  * and where that ends with ONCRPC_MORE_WANTED, the next piece is received. Counts are in bytes. A place is the count of
- * the stream's bytes before it, from the first that was fed; SIZE_MAX stands for every greater one. Each call below but
- * the last fills `outcome`: `at` and `why` where they are spoken of, and 0 in each other field and at each other
- * status. At ONCRPC_NO_READER nothing is changed. */
+ * the stream's bytes before it, from the first that was fed; SIZE_MAX stands for every greater one. Each call below
+ * that is given an outcome fills it: `at` and `why` where they are spoken of, and 0 in each other field and at each
+ * other status. At ONCRPC_NO_READER nothing is changed. */
 
 /* A reader of one stream of records, or none. It begins as ONCRPC_NONE, and is given back by oncrpc_records_free. */
 typedef struct {
@@ -528,7 +691,7 @@ uint32_t oncrpc_records_start(oncrpc_records *records, uint32_t limit, oncrpc_ou
  * too, with the same `why` and `at`, whatever is fed. ONCRPC_NO_READER. */
 uint32_t oncrpc_records_feed(
     oncrpc_records *records,
-    const uint8_t *piece, size_t piece_count,
+    const void *piece, size_t piece_count,
     oncrpc_outcome *outcome);
 
 /* Puts the record that waits into the front of `buffer`; then it waits no longer, and the next may be fed. `buffer` may
@@ -551,6 +714,89 @@ uint32_t oncrpc_records_end(oncrpc_records *records, oncrpc_outcome *outcome);
 /* Gives back what `records` holds, if anything, with a record that waits. It then holds none, so that a second call
  * does nothing. */
 void oncrpc_records_free(oncrpc_records *records);
+
+/* Puts the header of a fragment of `count` bytes, which is its record's last or not, into `header`. A record that is
+ * sent whole is one last fragment: this header, and then its bytes. It takes no memory.
+ *
+ * ONCRPC_OK. ONCRPC_BAD_LIMITS: the count is above ONCRPC_MOST_RECORD, and `header` is as it was. */
+uint32_t oncrpc_record_header(size_t count, bool is_last, uint8_t header[4]);
+
+/* ---- numbers as texts, to be printed
+ *
+ * Each is a text of this file that stays for ever, and never NULL. */
+
+/* What a status says. */
+static inline const char *oncrpc_status_text(uint32_t status) {
+    switch (status) {
+    case ONCRPC_OK: return "done";
+    case ONCRPC_MORE_FOLLOWS: return "done, and more bytes follow the value";
+    case ONCRPC_REFUSED: return "the bytes are refused";
+    case ONCRPC_UNDECLARED: return "the declarations have an error";
+    case ONCRPC_NO_KIND: return "the name is that of no kind";
+    case ONCRPC_BAD_LIMITS: return "a limit or a count is out of its range";
+    case ONCRPC_NO_MEMORY: return "out of memory";
+    case ONCRPC_NO_DECLARATIONS: return "the handle holds no declarations";
+    case ONCRPC_NO_ROOM: return "a buffer is too small";
+    case ONCRPC_NOT_A_CALL: return "the bytes are no call";
+    case ONCRPC_OTHER_VERSION: return "a call of another version of RPC than 2";
+    case ONCRPC_BAD_CREDENTIAL: return "the credential is cut, too long or badly padded";
+    case ONCRPC_BAD_VERIFIER: return "the verifier is cut, too long or badly padded";
+    case ONCRPC_CUT: return "the bytes end inside the reply";
+    case ONCRPC_NOT_A_REPLY: return "the bytes are no reply";
+    case ONCRPC_BAD_STATE: return "a reply of an unknown state";
+    case ONCRPC_BYTES_FOLLOW: return "bytes follow a reply without results";
+    case ONCRPC_NOT_AUTH_SYS: return "no body of AUTH_SYS";
+    case ONCRPC_NO_REGISTRY: return "the handle holds no registry";
+    case ONCRPC_SILENCE: return "there is no reply";
+    case ONCRPC_NO_TRANSPORT: return "the netid is neither tcp nor udp";
+    case ONCRPC_UNCHANGED: return "no row was added or removed";
+    case ONCRPC_NO_READER: return "the handle holds no reader of records";
+    case ONCRPC_MORE_WANTED: return "more bytes are wanted";
+    case ONCRPC_NO_RECORD: return "no record waits";
+    case ONCRPC_NOT_AN_ADDRESS: return "the text is no universal address";
+    case ONCRPC_BAD_ITEM: return "the items are no value's";
+    default: return "an unknown status";
+    }
+}
+
+/* What a reason says: `why` with ONCRPC_REFUSED and ONCRPC_BAD_ITEM. */
+static inline const char *oncrpc_reason_text(uint32_t why) {
+    switch (why) {
+    case ONCRPC_BAD_BOOL: return "a boolean that is neither 0 nor 1";
+    case ONCRPC_BAD_NUMBERED: return "a number that no member of the enumeration has";
+    case ONCRPC_BAD_CASE: return "a discriminant without an arm";
+    case ONCRPC_TOO_LONG: return "a length, a count or a record above its maximum";
+    case ONCRPC_BAD_PADDING: return "padding that is not zero";
+    case ONCRPC_TOO_DEEP: return "deeper than the limit";
+    case ONCRPC_TOO_LARGE: return "more bytes than the limit";
+    case ONCRPC_TRUNCATED: return "the bytes end too early";
+    case ONCRPC_WRONG_ITEM: return "another item is due";
+    case ONCRPC_NOT_IN_RANGE: return "a number that is out of its type's range";
+    case ONCRPC_PAST_END: return "an item behind the value";
+    case ONCRPC_UNFINISHED: return "the value is not whole";
+    case ONCRPC_OUTSIDE: return "content that does not lie in the data";
+    default: return "an unknown reason";
+    }
+}
+
+/* What an error of a text says: `why` with ONCRPC_UNDECLARED. */
+static inline const char *oncrpc_fault_text(uint32_t why) {
+    switch (why) {
+    case ONCRPC_BAD_CHARACTER: return "a byte that begins no token, or a comment without an end";
+    case ONCRPC_BAD_NUMBER: return "digits that are no number";
+    case ONCRPC_UNEXPECTED: return "a token that cannot stand there, or the end of the text";
+    case ONCRPC_FLOATING_KIND: return "float, double or quadruple";
+    case ONCRPC_NAME_TWICE: return "a name that is declared twice";
+    case ONCRPC_NAME_UNKNOWN: return "a name that is not declared";
+    case ONCRPC_NOT_A_SIZE: return "a size or a maximum that is none";
+    case ONCRPC_OUT_OF_RANGE: return "a number out of its range";
+    case ONCRPC_TYPEDEF_LOOP: return "a typedef that leads to itself";
+    case ONCRPC_BAD_SCHEMA: return "a type that no value can have";
+    case ONCRPC_TEXT_TOO_LONG: return "more than 262144 bytes";
+    case ONCRPC_NESTED_TOO_DEEP: return "types inside one another too deep";
+    default: return "an unknown error";
+    }
+}
 
 #ifdef __cplusplus
 }

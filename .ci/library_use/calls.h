@@ -4,12 +4,14 @@
 
 #include "growths.h"
 
-void check_values(void);    /* values.c, with each growth refused in turn, and so the next three */
+void check_values(void);    /* values.c, with each growth refused in turn, and so the next four */
+void check_written(void);   /* writing.c: values by their items, each reason against them by its name */
 void check_messages(void);  /* messages.c */
 void check_streams(void);   /* streams.c */
 void check_registry(void);  /* registry.c */
+void check_addresses(void); /* addresses.c */
 void check_hostile(void);   /* hostile.c: each row cut and changed, the deepest value and text */
-void check_names(void);     /* names.c: each reason, fault, type, role and state by its name */
+void check_names(void);     /* names.c: each reason, fault, type, role and state by its name, and as a text */
 void check_nothing(void);   /* nothing.c: NULL with a count of 0 */
 void check_sizes(void);     /* sizes.c: a row of 1 MiB for each call */
 

@@ -14,6 +14,10 @@
 #define FIELD(type, field, place, size) \
     _Static_assert(offsetof(oncrpc_##type, field) == place && sizeof(((oncrpc_##type *)0)->field) == size, #type #field)
 
+NUMBER(VERSION_MAJOR, 0);
+NUMBER(VERSION_MINOR, 1);
+NUMBER(VERSION_PATCH, 0);
+
 NUMBER(OK, 0);
 NUMBER(MORE_FOLLOWS, 1);
 NUMBER(REFUSED, 2);
@@ -39,6 +43,8 @@ NUMBER(UNCHANGED, 21);
 NUMBER(NO_READER, 22);
 NUMBER(MORE_WANTED, 23);
 NUMBER(NO_RECORD, 24);
+NUMBER(NOT_AN_ADDRESS, 25);
+NUMBER(BAD_ITEM, 26);
 
 NUMBER(BAD_BOOL, 1);
 NUMBER(BAD_NUMBERED, 2);
@@ -48,6 +54,12 @@ NUMBER(BAD_PADDING, 5);
 NUMBER(TOO_DEEP, 6);
 NUMBER(TOO_LARGE, 7);
 NUMBER(TRUNCATED, 8);
+
+NUMBER(WRONG_ITEM, 9);
+NUMBER(NOT_IN_RANGE, 10);
+NUMBER(PAST_END, 11);
+NUMBER(UNFINISHED, 12);
+NUMBER(OUTSIDE, 13);
 
 NUMBER(BAD_CHARACTER, 1);
 NUMBER(BAD_NUMBER, 2);
@@ -83,6 +95,12 @@ NUMBER(TYPE_STRUCT, 12);
 NUMBER(TYPE_UNION, 13);
 NUMBER(TYPE_OPTIONAL, 14);
 NUMBER(TYPE_VOID, 15);
+
+NUMBER(ITEM_SIGNED, 1);
+NUMBER(ITEM_UNSIGNED, 2);
+NUMBER(ITEM_FLAG, 3);
+NUMBER(ITEM_COUNT, 4);
+NUMBER(ITEM_CONTENT, 5);
 
 NUMBER(SUCCESS, 0);
 NUMBER(PROG_UNAVAIL, 1);
@@ -125,6 +143,13 @@ FIELD(parts_outcome, parts, 8, 8);
 FIELD(parts_outcome, names, 16, 8);
 FIELD(parts_outcome, why, 24, 4);
 
+SIZE(item, 40);
+FIELD(item, form, 0, 4);
+FIELD(item, signed_number, 8, 8);
+FIELD(item, number, 16, 8);
+FIELD(item, at, 24, 8);
+FIELD(item, count, 32, 8);
+
 SIZE(part, 16);
 FIELD(part, at, 0, 8);
 FIELD(part, count, 8, 8);
@@ -162,6 +187,17 @@ FIELD(auth_sys, machine, 80, 16);
 SIZE(registry, 16);
 FIELD(registry, at, 0, 8);
 FIELD(registry, live, 8, 1);
+
+SIZE(registry_row, 56);
+FIELD(registry_row, program, 0, 4);
+FIELD(registry_row, version, 4, 4);
+FIELD(registry_row, netid, 8, 16);
+FIELD(registry_row, address, 24, 16);
+FIELD(registry_row, owner, 40, 16);
+
+SIZE(rows_outcome, 16);
+FIELD(rows_outcome, rows, 0, 8);
+FIELD(rows_outcome, bytes, 8, 8);
 
 SIZE(records, 16);
 FIELD(records, at, 0, 8);

@@ -33,13 +33,27 @@ PARTED = """without buffers: status 8, 10 parts and 60 bytes of names are needed
 status 0, 48 bytes of input
 47 bytes: status 2 for reason 8 at 47
 """
+WRITTEN = """without a buffer: status 8, 48 bytes are needed
+status 0, 48 bytes, as in the RFC
+4 items: status 26 for reason 12 at 4, 0 written
+"""
 MARKED = """8000000361626380000000 status 0
 80000003616263 refused for reason 8 at 14
 refused for reason 8 at 10
 refused for reason 4 at 5
 status 5
 """
-PORT = "56 bytes are needed\ncall of 56 bytes, as captured\nport 2049\n"
+PORT = """header 80000038, call of 56 bytes, as captured
+reply of 28 bytes, as captured
+port 2049
+100000 2 tcp 111 superuser
+100000 2 udp 111 superuser
+100000 3 tcp 111 superuser
+100000 3 udp 111 superuser
+100000 4 tcp 111 superuser
+100000 4 udp 111 superuser
+536870912 1 tcp 2049 port.c
+"""
 TOLD = """call c117f9be of 100000.4.0, 0 bytes of arguments at 68
   uid 1000, gid 100 of box, gids 100
 call: status 11, xid c117f9be, RPC 2
@@ -50,7 +64,12 @@ reply 93327cab: state 3
 reply: status 13
 reply: status 14
 """
-HELD = "7\n0\n0\n2 8 0\n"
+HELD = """a value of 8 bytes, and more
+a value of 8 bytes
+the bytes end too early, at 7
+a boolean that is neither 0 nor 1, at 4
+the bytes end too early, at 0
+"""
 
 
 def fragment(count, is_last):
@@ -82,6 +101,8 @@ filename at 4: sillyprog
 interpretor at 24: lisp
 owner at 32: john
 data at 40: (quit)
+written as in the RFC: true
+Err(BadItem {{ why: Unfinished, at: 4 }})
 Err(Undeclared(TextFault {{ kind: NameTwice, line: 1, column: 23 }}))
 Ok([128, 0, 0, 3, 97, 98, 99])
 Err(Refused {{ refusal: Refusal {{ why: TooLong, at: 6 }}, before: [] }})
@@ -101,6 +122,7 @@ EXAMPLES = [
     ("check.c", CHECKED),
     ("show.c", SHOWN),
     ("parts.c", PARTED),
+    ("write.c", WRITTEN),
     ("records.c", MARKED),
     ("port.c", PORT),
     ("messages.c", TOLD),

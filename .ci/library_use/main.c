@@ -10,9 +10,11 @@
 static int round_of(long at, int all_later) {
     refuse_growth(at, all_later);
     check_values();
+    check_written();
     check_messages();
     check_streams();
     check_registry();
+    check_addresses();
     long asked = growths();
     refuse_growth(0, 0);
     judge(!live_blocks(), 0);

@@ -1,4 +1,7 @@
-/* Each reason, error of a text, type, role and state of a reply by its name: what the bytes have to be for it. */
+/* Each reason, error of a text, type, role and state of a reply by its name: what the bytes have to be for it. Each
+ * status, reason and error as a text, and the version. */
+#include <stdio.h>
+
 #include "calls.h"
 
 static const char shapes[] =
@@ -174,6 +177,27 @@ static void check_messages_refused(void) {
     }
 }
 
+/* Each of these numbers has a text of its own, and the others one for all. */
+static void check_texts(const char *(*text_of)(uint32_t), uint32_t first, uint32_t last) {
+    const char *none = text_of(last + 1);
+    judge(*none && !strcmp(none, text_of(UINT32_MAX)) && (!first || !strcmp(none, text_of(0))), last);
+    for (uint32_t i = first; i <= last; i++) {
+        int is_own = *text_of(i) && strcmp(text_of(i), none);
+        for (uint32_t k = first; k < i; k++) {
+            is_own = is_own && strcmp(text_of(i), text_of(k));
+        }
+        judge(is_own, i);
+    }
+}
+
+/* The version of the library is that of the header, as a number and as a text. */
+static void check_version(void) {
+    char told[32];
+    uint32_t version = oncrpc_version();
+    snprintf(told, sizeof told, "%u.%u.%u", version >> 16, version >> 8 & 255, version & 255);
+    judge(version == ONCRPC_VERSION_NUMBER && !strcmp(told, ONCRPC_VERSION), version);
+}
+
 void check_names(void) {
     oncrpc_declarations held = ONCRPC_NONE;
     oncrpc_outcome outcome;
@@ -185,4 +209,8 @@ void check_names(void) {
     check_faults();
     check_states();
     check_messages_refused();
+    check_texts(oncrpc_status_text, ONCRPC_OK, ONCRPC_BAD_ITEM);
+    check_texts(oncrpc_reason_text, ONCRPC_BAD_BOOL, ONCRPC_OUTSIDE);
+    check_texts(oncrpc_fault_text, ONCRPC_BAD_CHARACTER, ONCRPC_NESTED_TOO_DEEP);
+    check_version();
 }

@@ -5,6 +5,7 @@ static void no_values(void) {
     oncrpc_declarations held = ONCRPC_NONE;
     oncrpc_outcome outcome = {9, 9, 9, 9, 9};
     oncrpc_parts_outcome found = {9, 9, 9, 9};
+    static const oncrpc_item empty = {ONCRPC_ITEM_CONTENT, 0, 0, 0, 0};
     size_t written = 9;
     uint32_t status = oncrpc_check(NULL, 0, NULL, 0, 1, 4, NULL, 0, &outcome);
     judge(status == ONCRPC_NO_KIND && tells(&outcome, 0, 0), status);
@@ -24,6 +25,14 @@ static void no_values(void) {
     judge(status == ONCRPC_NO_KIND && !found.parts, status);
     status = oncrpc_declarations_parts(&held, bytes("int"), 3, 1, 4, bytes("\0\0\0\7"), 4, NULL, 0, NULL, 0, &found);
     judge(status == ONCRPC_NO_ROOM && found.at == 4 && found.parts == 1 && !found.names, status);
+    written = 9;
+    status = oncrpc_declarations_write(&held, NULL, 0, 1, 4, NULL, 0, NULL, 0, NULL, 0, &written, &outcome);
+    judge(status == ONCRPC_NO_KIND && tells(&outcome, 0, 0) && !written, status);
+    status = oncrpc_declarations_write(&held, bytes("int"), 3, 1, 4, NULL, 0, NULL, 0, NULL, 0, &written, &outcome);
+    judge(status == ONCRPC_BAD_ITEM && tells(&outcome, 0, ONCRPC_UNFINISHED) && !written, status);
+    status = oncrpc_declarations_write(&held, bytes("opaque"), 6, 1, 4, &empty, 1, NULL, 0, NULL, 0, &written,
+        &outcome);
+    judge(status == ONCRPC_NO_ROOM && tells(&outcome, 4, 0) && !written, status);
     oncrpc_declarations_free(&held);
     status = oncrpc_normalise(NULL, 0, 0, NULL, 0, &written, &outcome);
     judge(status == ONCRPC_OK && tells(&outcome, 0, 0) && !written, status);
@@ -94,7 +103,20 @@ static void no_rows(void) {
     judge(status == ONCRPC_OK, status);
     status = oncrpc_registry_unset(&held, 300, 1, NULL, 0, NULL, 0, &outcome);
     judge(status == ONCRPC_OK, status);
+    oncrpc_rows_outcome found = {9, 9};
+    status = oncrpc_registry_rows(&held, NULL, 0, NULL, 0, &found);
+    judge(status == ONCRPC_NO_ROOM && found.rows == 6 && found.bytes == 150, status);
     oncrpc_registry_free(&held);
+}
+
+static void no_address(void) {
+    uint8_t host[4] = {9, 9, 9, 9};
+    uint16_t port = 9;
+    size_t count = 9;
+    uint32_t status = oncrpc_uaddr_read(NULL, 0, host, &port);
+    judge(status == ONCRPC_NOT_AN_ADDRESS && !port && !memcmp(host, "\0\0\0\0", 4), status);
+    status = oncrpc_uaddr_write(host, port, NULL, 0, &count);
+    judge(status == ONCRPC_NO_ROOM && count == 11, status);
 }
 
 void check_nothing(void) {
@@ -102,4 +124,5 @@ void check_nothing(void) {
     no_messages();
     no_records();
     no_rows();
+    no_address();
 }

@@ -37,6 +37,53 @@ static int check_ask(oncrpc_registry *held, size_t i) {
     return !is_refused;
 }
 
+/* The rows of a registry that was started at port 111 (RFC 1833 sections 2 and 3), and the one that was set. */
+static const struct { uint32_t program, version; const char *netid, *address, *owner; } listed[] = {
+    {100000, 2, "tcp", "0.0.0.0.0.111", "superuser"},
+    {100000, 2, "udp", "0.0.0.0.0.111", "superuser"},
+    {100000, 3, "tcp", "0.0.0.0.0.111", "superuser"},
+    {100000, 3, "udp", "0.0.0.0.0.111", "superuser"},
+    {100000, 4, "tcp", "0.0.0.0.0.111", "superuser"},
+    {100000, 4, "udp", "0.0.0.0.0.111", "superuser"},
+    {300, 7, "tcp", "0.0.0.0.8.1", "unknown"},
+};
+enum { LISTED = sizeof listed / sizeof *listed, TEXTS = 6 * 25 + 21 };
+
+static int has_text(const uint8_t *texts, oncrpc_part part, const char *text) {
+    return part.count == strlen(text) && part.at + part.count <= TEXTS && !memcmp(texts + part.at, text, part.count);
+}
+
+/* All rows in their order; one row or one byte too few, and nothing is written. A reply that waits, waits on. */
+static void list_rows(oncrpc_registry *held) {
+    oncrpc_registry_row rows[LISTED + 1], untouched[LISTED + 1];
+    uint8_t texts[TEXTS + 1], before[TEXTS + 1];
+    oncrpc_rows_outcome found = {9, 9};
+    oncrpc_outcome outcome = {9, 9, 9, 9, 9};
+    memset(rows, '.', sizeof rows);
+    memset(untouched, '.', sizeof untouched);
+    memset(texts, '.', sizeof texts);
+    memset(before, '.', sizeof before);
+    uint32_t waits = oncrpc_registry_answer(held, "tcp", 3, asks[0].call, asks[0].count, NULL, 0, &outcome);
+    judge(waits == ONCRPC_NO_ROOM, waits);
+    for (int i = 0; i < 3; i++) {
+        uint32_t status = oncrpc_registry_rows(held, rows, LISTED - (i == 0), texts, TEXTS - (i == 1), &found);
+        int is_refused = status == ONCRPC_NO_MEMORY && !found.rows && !found.bytes;
+        int is_told = found.rows == LISTED && found.bytes == TEXTS;
+        judge(is_refused || (status == (i < 2 ? ONCRPC_NO_ROOM : ONCRPC_OK) && is_told), status);
+        int are_kept = !memcmp(rows, untouched, sizeof rows) && !memcmp(texts, before, sizeof texts);
+        judge(status == ONCRPC_OK || are_kept, 0);
+        for (size_t k = 0; status == ONCRPC_OK && k < LISTED; k++) {
+            judge(rows[k].program == listed[k].program && rows[k].version == listed[k].version
+                && has_text(texts, rows[k].netid, listed[k].netid)
+                && has_text(texts, rows[k].address, listed[k].address)
+                && has_text(texts, rows[k].owner, listed[k].owner), (uint32_t)k);
+        }
+    }
+    judge(!memcmp(rows + LISTED, untouched, sizeof *rows) && texts[TEXTS] == '.', 0);
+    waits = oncrpc_registry_reply(held, texts, sizeof texts, &outcome);
+    judge(waits == ONCRPC_OK && outcome.at == 24, waits);
+}
+
 static void check_rows(oncrpc_registry *held) {
     oncrpc_outcome outcome = {9, 9, 9, 9, 9};
     const uint8_t *at = bytes("0.0.0.0.8.1"), *me = bytes("1000 and more");
@@ -62,6 +109,9 @@ void check_registry(void) {
     for (size_t i = 0; !none && is_set && i < sizeof asks / sizeof *asks; i++) {
         is_set = check_ask(&held, i);
     }
+    if (!none && is_set) {
+        list_rows(&held);
+    }
     if (!none) {
         check_rows(&held);
     }
@@ -73,5 +123,8 @@ void check_registry(void) {
     oncrpc_registry_free(&held);
     status = oncrpc_registry_unset(&held, 301, 7, bytes("udp"), 3, bytes("me"), 2, &outcome);
     judge(status == ONCRPC_NO_REGISTRY && tells(&outcome, 0, 0), status);
+    oncrpc_rows_outcome found = {9, 9};
+    status = oncrpc_registry_rows(&held, NULL, 0, room, sizeof room, &found);
+    judge(status == ONCRPC_NO_REGISTRY && !found.rows && !found.bytes, status);
 }
 

@@ -95,6 +95,32 @@ static void list_value(oncrpc_declarations *held) {
     judge(status == ONCRPC_OK && found.at == MIB + 4 && are_right, status);
 }
 
+/* The opaque of 1 MiB as one item, and the list of as many bytes, an item for each number. */
+static void write_value(oncrpc_declarations *held) {
+    static oncrpc_item items[ITEMS + 1];
+    oncrpc_outcome outcome = {9, 9, 9, 9, 9};
+    size_t written = 9;
+    fill_input(MIB);
+    items[0] = (oncrpc_item){ONCRPC_ITEM_CONTENT, 0, 0, 0, MIB};
+    uint32_t status = oncrpc_declarations_write(held, bytes("opaque"), 6, 1, ONCRPC_MOST_BYTES, items, 1, input, MIB,
+        buffer, sizeof buffer, &written, &outcome);
+    judge(status == ONCRPC_OK && tells(&outcome, MIB + 4, 0) && written == MIB + 4 && !memcmp(buffer, "\0\20\0\0", 4)
+        && !memcmp(buffer + 4, input, MIB), status);
+    items[0] = (oncrpc_item){ONCRPC_ITEM_COUNT, 0, 0, 0, ITEMS};
+    put_number(input, ITEMS);
+    for (uint32_t i = 1; i <= ITEMS; i++) {
+        items[i] = (oncrpc_item){ONCRPC_ITEM_SIGNED, (int32_t)(i * 40503u), 0, 0, 0};
+        put_number(input + 4 * i, i * 40503u);
+    }
+    status = oncrpc_declarations_write(held, bytes("list"), 4, 2, ONCRPC_MOST_BYTES, items, ITEMS + 1, NULL, 0,
+        buffer, sizeof buffer, &written, &outcome);
+    judge(status == ONCRPC_OK && tells(&outcome, MIB + 4, 0) && written == MIB + 4 && !memcmp(buffer, input, MIB + 4),
+        status);
+    status = oncrpc_declarations_write(held, bytes("list"), 4, 2, ONCRPC_MOST_BYTES, items, ITEMS, NULL, 0, buffer,
+        sizeof buffer, &written, &outcome);
+    judge(status == ONCRPC_BAD_ITEM && tells(&outcome, ITEMS, ONCRPC_UNFINISHED) && !written, status);
+}
+
 /* Records of 1000 bytes in two fragments each, some 2 MiB of them, whose fragments are joined. */
 static void normalise_records(void) {
     enum { RECORDS = 2 * MIB / 1008 };
@@ -213,6 +239,35 @@ static void list_rows(oncrpc_registry *held) {
         && !memcmp(buffer, "\0\0\0\0\0\0\0\1\0\0\0\1\0\0\0\0\0\0\0\2\0\0\0\2", 24), status);
 }
 
+/* The same rows in process: each by its place. */
+static void list_in_process(oncrpc_registry *held) {
+    static oncrpc_registry_row rows[ROWS];
+    enum { TEXTS = OWN_ROWS * (3 + 13 + 9) + (ROWS - OWN_ROWS) * (64 + ADDRESS + 10) };
+    oncrpc_rows_outcome found = {9, 9};
+    uint32_t status = oncrpc_registry_rows(held, NULL, 0, NULL, 0, &found);
+    judge(status == ONCRPC_NO_ROOM && found.rows == ROWS && found.bytes == TEXTS, status);
+    status = oncrpc_registry_rows(held, rows, ROWS, buffer, TEXTS, &found);
+    int are_right = found.rows == ROWS && found.bytes == TEXTS;
+    for (size_t i = OWN_ROWS; are_right && i < ROWS; i++) {
+        are_right = rows[i].program == i && rows[i].version == 1 && rows[i].netid.count == 64
+            && rows[i].address.count == ADDRESS && rows[i].owner.count == 10 && buffer[rows[i].owner.at] == 'a'
+            && rows[i].owner.at + 10 <= TEXTS;
+    }
+    judge(status == ONCRPC_OK && are_right, status);
+}
+
+/* A text of 1 MiB is no address. */
+static void read_long_address(void) {
+    uint8_t host[4];
+    uint16_t port = 9;
+    memset(input, '1', MIB);
+    uint32_t status = oncrpc_uaddr_read(input, MIB, host, &port);
+    judge(status == ONCRPC_NOT_AN_ADDRESS && !port, status);
+    memset(input, '.', MIB);
+    status = oncrpc_uaddr_read(input, MIB, host, &port);
+    judge(status == ONCRPC_NOT_AN_ADDRESS && !port, status);
+}
+
 static void drop_rows(oncrpc_registry *held) {
     oncrpc_outcome outcome = {9, 9, 9, 9, 9};
     memset(input, 'a', ADDRESS);
@@ -230,6 +285,7 @@ void check_sizes(void) {
     check_value(&declarations);
     show_value(&declarations);
     list_value(&declarations);
+    write_value(&declarations);
     oncrpc_declarations_free(&declarations);
     normalise_records();
     write_messages();
@@ -238,5 +294,7 @@ void check_sizes(void) {
     read_record(2 * MIB);
     fill_rows(&registry);
     list_rows(&registry);
+    list_in_process(&registry);
     drop_rows(&registry);
+    read_long_address();
 }

@@ -133,7 +133,31 @@ static void check_all_streams(void) {
     oncrpc_records_free(&held);
 }
 
+/* The headers of fragments (RFC 5531 section 11); a reader takes what was sent behind one. */
+static void check_headers(void) {
+    static const struct { size_t count; bool is_last; const char *header; } headers[] = {
+        {0, true, "\x80\0\0\0"},
+        {0, false, "\0\0\0\0"},
+        {3, true, "\x80\0\0\3"},
+        {65536, false, "\0\1\0\0"},
+        {0x01020304, true, "\x81\2\3\4"},
+        {ONCRPC_MOST_RECORD, true, "\xff\xff\xff\xff"},
+        {ONCRPC_MOST_RECORD, false, "\x7f\xff\xff\xff"},
+    };
+    uint8_t header[5] = "....";
+    for (size_t i = 0; i < sizeof headers / sizeof *headers; i++) {
+        uint32_t status = oncrpc_record_header(headers[i].count, headers[i].is_last, header);
+        judge(status == ONCRPC_OK && !memcmp(header, headers[i].header, 4) && !header[4], status);
+    }
+    memset(header, '.', 4);
+    uint32_t status = oncrpc_record_header((size_t)ONCRPC_MOST_RECORD + 1, true, header);
+    judge(status == ONCRPC_BAD_LIMITS && !memcmp(header, "....", 4), status);
+    status = oncrpc_record_header(((size_t)1 << 32) + 1, false, header);
+    judge(status == ONCRPC_BAD_LIMITS && !memcmp(header, "....", 4), status);
+}
+
 void check_streams(void) {
     check_records();
     check_all_streams();
+    check_headers();
 }

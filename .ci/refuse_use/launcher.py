@@ -1,4 +1,5 @@
 """Rows of ./oncrpc and ./build-library in a checkout where nothing is built, over a stand-in for the command rt."""
+import glob
 import os
 import re
 import shutil
@@ -33,11 +34,12 @@ NEEDED = {
     "sha256sum": b"coreutils' command, which tells whether sources have changed",
     "cc": b"a C compiler, as gcc or clang, links the library",
     "ar": b"binutils' command, which makes the library's archive",
+    "objcopy": b"binutils' command, which hides the names that are not the library's",
 }
 NEEDS = {
     "./oncrpc records": ["rt", "python3", "sha256sum"],
     "./oncrpc prove": ["rt", "python3"],
-    "./build-library made": ["rt", "python3", "cc", "ar"],
+    "./build-library made": ["rt", "python3", "sha256sum", "cc", "ar", "objcopy"],
 }
 
 
@@ -50,6 +52,11 @@ def is_answer(got, status, output, faults, calls):
     """Whether a run ended so, with standard error as the pattern says, after so many calls of rt."""
     told = re.fullmatch(faults, got[2]) is not None
     return told and (got[0], got[1], len(got[3])) == (status, output, calls)
+
+
+def lists_of(tree):
+    """The lists of crates below the checkout's own, which 'rt ci' may refuse."""
+    return glob.glob(f"{tree.at}/*/**/crates.txt", recursive=True)
 
 
 def output(kind, word, text=b"", given=b""):
@@ -227,7 +234,7 @@ def side_by_side(folder):
         log = tree.read("crates/oncrpc/out/build.log")
         well = well and re.search(ends + rb"\Z", got[2]) and (alone or fails[:5] != "right")
         well = well and "prover says of left" in log and os.path.exists(tree.made) == (status == 0)
-        well = well and re.match(BEGUN + FROM % (6, jobs), got[2])
+        well = well and re.match(BEGUN + FROM % (6, jobs), got[2]) and not lists_of(tree)
         yield row(f"./oncrpc prove, {jobs} at once, {fails or 'none'} fails", bool(well), got, order, log)
 
 
@@ -270,6 +277,16 @@ def kept(folder):
     well = begun[0] == "low" and {*begun[1:3]} == {*LIBRARY} and begun[3:] == ["c_library"]
     well = well and told == {*LIBRARY, "c_library"} and re.search(rb"oncrpc: 1 of 4, low" + KEPT, got[2])
     yield row("./build-library, side by side", bool(well), got, order)
+    yield from archived(tree)
+
+
+def archived(tree):
+    """An archive that is of these sources is proved no more; one that is not, is."""
+    for what, source, calls in (("again", None, 0), ("of other sources", "fn two() {}\n", 4)):
+        if source:
+            tree.write("crates/c_records/src/lib.rt", source)
+        got = tree.run("./build-library made")
+        yield row(f"./build-library, {what}", len(got[3]) == calls and (b"crates, at most" in got[2]) == bool(calls), got)
 
 
 # The signal, and whether a whole group gets it, as from a terminal, or the script alone.
@@ -283,7 +300,7 @@ def interrupted(folder):
         tree.write("bin/hangs", "oncrpc\n")
         got = tree.stop("./oncrpc prove", ("out/lanes/0/crates/oncrpc/out/oncrpc", "half"), number, to_all)
         told = BEGUN + FROM % (6, 2) + rb"(oncrpc: \d of[^\n]*\n){5}" + PROOF_STOPPED
-        well = got[0] == 3 and re.fullmatch(told, got[2]) and not os.path.exists(tree.made)
+        well = got[0] == 3 and re.fullmatch(told, got[2]) and not os.path.exists(tree.made) and not lists_of(tree)
         yield row(f"./oncrpc prove, {number.name} to {who}", bool(well), got)
         got = tree.run("./oncrpc show")
         yield row("./oncrpc show after that", is_answer(got, 5, SHOWN, UNPROVED + b"unproved fault\n", 1), got)

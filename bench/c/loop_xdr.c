@@ -1,8 +1,9 @@
 /* The nearest to our codec_bench with rpcgen and libtirpc: one value, encoded or decoded (and freed) COUNT times.
  * usage: loop_xdr uint1M|list2000|file1M|opaque1M|opaque16M encode|decode COUNT
  * With -DLIBRARY, on liboncrpc too: check in place of decode, by the declarations on standard input, which are read
- * once; parts, which puts the value's parts into an array that is large enough; asked, which asks first how large; or
- * read, which reads and frees them COUNT times. */
+ * once; parts, which puts the value's parts into an array that is large enough; asked, which asks first how large;
+ * write, which writes the value by its items, as its parts tell them, and compares its bytes; or read, which reads and
+ * frees the declarations COUNT times. */
 #include <stdio.h>
 #include <stdlib.h>
 #include <string.h>
@@ -49,6 +50,59 @@ static void put_parts(const char *name, const char *wire, size_t length, long co
     }
     oncrpc_declarations_free(&held);
 }
+/* The number of a part, most significant byte first. */
+static uint64_t number_of(const uint8_t *bytes, size_t count) {
+    uint64_t number = 0;
+    for (size_t i = 0; i < count; i++) number = number << 8 | bytes[i];
+    return number;
+}
+/* The items of the value with these parts (RFC 4506 section 4). */
+static size_t items_of(const oncrpc_value_part *parts, size_t part_count, const char *wire, oncrpc_item *items) {
+    size_t made = 0;
+    for (size_t i = 0; i < part_count; i++) {
+        const oncrpc_value_part *part = &parts[i];
+        oncrpc_item item = {0};
+        uint64_t number = part->count <= 8 ? number_of((const uint8_t *)wire + part->at, part->count) : 0;
+        if (part->role == ONCRPC_ROLE_NUMBER && part->count == 4 && part->xdr_type != ONCRPC_TYPE_UNSIGNED) {
+            item.form = ONCRPC_ITEM_SIGNED;
+            item.signed_number = (int32_t)number;
+        } else if (part->role == ONCRPC_ROLE_NUMBER) {
+            item.form = ONCRPC_ITEM_UNSIGNED;
+            item.number = number;
+        } else if (part->role == ONCRPC_ROLE_FLAG) {
+            item.form = ONCRPC_ITEM_FLAG;
+            item.number = number;
+        } else if (part->role == ONCRPC_ROLE_LENGTH && part->xdr_type == ONCRPC_TYPE_ARRAY) {
+            item.form = ONCRPC_ITEM_COUNT;
+            item.count = number;
+        } else if (part->role == ONCRPC_ROLE_CONTENT) {
+            item.form = ONCRPC_ITEM_CONTENT;
+            item.at = part->at;
+            item.count = part->count;
+        } else {
+            continue;
+        }
+        items[made++] = item;
+    }
+    return made;
+}
+static void write_items(const char *name, const char *wire, size_t length, long count) {
+    oncrpc_declarations held = declared(1);
+    oncrpc_parts_outcome need, found;
+    if (put_into(&held, name, wire, length, NULL, 0, NULL, 0, &need) != ONCRPC_NO_ROOM) exit(1);
+    oncrpc_value_part *parts = malloc(need.parts * sizeof *parts);
+    uint8_t *names = malloc(need.names + 1), *bytes = malloc(length);
+    if (put_into(&held, name, wire, length, parts, need.parts, names, need.names, &found)) exit(2);
+    oncrpc_item *items = malloc(need.parts * sizeof *items);
+    size_t item_count = items_of(parts, need.parts, wire, items), written;
+    oncrpc_outcome outcome;
+    for (long i = 0; i < count; i++)
+        if (oncrpc_declarations_write(&held, name, strlen(name), ONCRPC_MOST_DEPTH, ONCRPC_MOST_BYTES, items,
+                                      item_count, wire, length, bytes, length, &written, &outcome))
+            exit(3);
+    if (written != length || memcmp(bytes, wire, length)) exit(4);
+    oncrpc_declarations_free(&held);
+}
 #endif
 static char *wire;
 static void loop(const char *name, xdrproc_t f, void *value, size_t size, const char *work, long count) {
@@ -66,6 +120,10 @@ static void loop(const char *name, xdrproc_t f, void *value, size_t size, const 
     }
     if (!strcmp(work, "parts") || !strcmp(work, "asked")) {
         put_parts(name, wire, length, count, *work == 'a');
+        return;
+    }
+    if (!strcmp(work, "write")) {
+        write_items(name, wire, length, count);
         return;
     }
 #endif

@@ -9,6 +9,7 @@ from rows.language import (
     NAMED,
     NUMBERS,
     PROCEDURES,
+    REGISTRY,
     RPCB,
     SAME,
     SHOWN,
@@ -80,7 +81,8 @@ def numbered(versions):
 
 
 def directory_cases():
-    """The schema of the registry is what the types of RFC 1833 declare, in its own words too, in 19 places."""
+    """The schema of the registry is what the types of RFC 1833 declare, in its own words too, in 19 places. The text of
+    the header for C has the same types beside its programs."""
     schema = []
 
     def is_schema(told):
@@ -91,9 +93,13 @@ def directory_cases():
         rest = ["; ".join(values_of(BASIC_CONSTANTS)), ""]
         return is_read(told) and told.streams[:2] == schema[0] and told_texts(told)[2:] == rest
 
+    def has_same_types(told):
+        return is_read(told) and told.streams[:2] == schema[0]
+
     yield Case("directory_schema"), is_schema
     for text in (DIRECTORY, RPCB):
         yield Case("read", text=text), is_same
+    yield Case("read", text=REGISTRY), has_same_types
 
 
 def read_text_cases():

@@ -25,6 +25,7 @@ from rows.shared import (
 from .growths import decoded_well, joined_well
 from .streams import handed_out, normalised
 from .values import checked, fault_of, fed, typed, value_task
+from .writer import is_refused, is_told, put
 
 
 def literal_cases():
@@ -190,11 +191,18 @@ def deep_cases():
         yield Case(engine, **kind), lambda told, wanted=wanted: (told.answer, told.streams) == wanted
     yield Case("Value::copy", **kind), lambda told: told.answer == "equal"
     yield Case("encode_to", writes=(1, 0), **kind), lambda told: (told.answer, told.streams) == ("ok 16380", [given])
+    yield Case("Writer::put", **kind), is_told(4094, ["done", "ok 16380"], [given], b"")
+    entries = ["flag:1", "content:"] * 2047
+    yield put(LIST, "list", [*entries, "flag:0"]), is_told(4094, ["done", "ok 16380"], [given])
+    is_well = is_refused(4094, [*entries, "flag:1"], "refused TooDeep at 16380", [given[:-4]])
+    yield put(LIST, "list", [*entries, "flag:1"]), is_well
 
 
 def declared_cases():
-    """Lengths and counts of gibibytes, and a byte behind them, 2000 wide structures that have begun, and 1000 arrays of
-    gibibytes with an item each, where there are 64 MiB."""
+    """Lengths and counts of gibibytes, and a byte behind them, or a number that is put behind a count, 2000 wide
+    structures that have begun, and 1000 arrays of gibibytes with an item each, where there are 64 MiB."""
+    items, pieces = ["count:4294967295", "number:97"], [octets("ffffffff 00000061")]
+    yield put(MORE, "big", items), is_told(2, ["refused Unfinished, item 2"], pieces)
     for text, name, piece in ((b"", "opaque", 1), (b"", "string", 4), (MORE, "big", 4), (MORE, "big", 1)):
         for engine in ("Decoder", "Checker"):
             case = Case(engine, (piece, 0), kind=name, text=text, given=octets("ffffffff 61"))

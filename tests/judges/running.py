@@ -56,7 +56,7 @@ def line_of(case):
 # What is told: growths, the answer or the exit status, the bytes of the other words in their order, the datagrams that
 # were sent, and what else is counted.
 Told = collections.namedtuple("Told", "met answer streams sent counts", defaults=((), ()))
-COUNTS = ("left", "asked", "freed")
+COUNTS = ("left", "asked", "freed", "held")
 
 
 def told_of(line):

@@ -1,5 +1,6 @@
 """Texts of declarations that are read, and what they declare (RFC 4506 section 6, RFC 5531 section 12)."""
 import os
+import re
 
 from .shared import LIST, PING
 
@@ -10,6 +11,13 @@ def text_of(name):
     """The bytes of a file of declarations."""
     with open(os.path.join(ROOT, ".ci/declarations", name), "rb") as file:
         return file.read()
+
+
+def text_of_header():
+    """The registry's declarations in the header for C: one line of a text for each line of the macro."""
+    with open(os.path.join(ROOT, "include/oncrpc.h"), encoding="ascii") as file:
+        macro = re.search(r'#define ONCRPC_REGISTRY_DECLARATIONS *\\\n((?:    ".*\n)*)', file.read())[1]
+    return "".join(f"{line}\n" for line in re.findall(r'^    "(.*)\\n"', macro, re.MULTILINE)).encode()
 
 
 # The declarations as the RFCs print them. RFC 1094 (NFS version 2 and mount version 1) as rpcgen's files have it, with
@@ -51,6 +59,8 @@ struct mapping { unsigned long prog; unsigned long vers;
 struct pm__list { mapping map; struct pm__list *next; };
 typedef pm__list *pmaplist;
 """
+# The same types and the procedures that the registry serves, as the header for C has them.
+REGISTRY = text_of_header()
 # Constants in each spelling, at the ends of their ranges, and from enums in bodies.
 VALUES = b"""const A = 0x1F; const B = 010; const C = 0;\x0b\x0c
 const D = -9223372036854775808; const E = 18446744073709551615;
@@ -167,6 +177,12 @@ SAME = [
 # for each procedure from there on how many arguments it has, and the places of the last one's kind and of the result's.
 NONE = (0, None, None)
 PROCEDURES = [
+    (REGISTRY, [
+        (100000, 2, 0, [NONE, (1, 15, 4), (1, 15, 4), (1, 15, 1), (0, None, 18)]),
+        (100000, 3, 0, [NONE, (1, 11, 4), (1, 11, 4), (1, 11, 7), (0, None, 14)]),
+        (100000, 4, 0, [NONE, (1, 11, 4), (1, 11, 4), (1, 11, 7), (0, None, 14)]),
+        (100000, 4, 9, [(1, 11, 7)]),
+    ]),
     (PINGBACK, [
         (1, 2, 0, [NONE, (3, 2, 0)]),
         (1, 1, 0, [NONE]),

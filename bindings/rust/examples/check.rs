@@ -1,9 +1,9 @@
-//! Reads declarations once, checks inputs that nobody promised, shows one and looks into it, reads a call and its
-//! reply, asks a registry, and reads a stream of records.
+//! Reads declarations once, checks inputs that nobody promised, shows one, looks into it and writes it, reads a call
+//! and its reply, asks a registry, and reads a stream of records.
 //!
 //!     ./build-library && cd bindings/rust && cargo run --example check
 use oncrpc::{
-    normalise, Auth, AuthSys, Call, Declarations, Limits, Outcome, Records, Registry, Reply, Role, Transport,
+    normalise, Auth, AuthSys, Call, Declarations, Item, Limits, Outcome, Records, Registry, Reply, Role, Transport,
 };
 use std::error::Error;
 
@@ -105,6 +105,21 @@ fn contents(declarations: &mut Declarations) -> Result<(), Box<dyn Error>> {
     Ok(())
 }
 
+/// The value that the RFC gives, by its items.
+fn written(declarations: &mut Declarations) -> Result<(), Box<dyn Error>> {
+    let items = [
+        Item::Content(b"sillyprog"),
+        Item::Signed(2),
+        Item::Content(b"lisp"),
+        Item::Content(b"john"),
+        Item::Content(b"(quit)"),
+    ];
+    let bytes = declarations.write("file", Limits::MOST, &items)?;
+    println!("written as in the RFC: {}", bytes == INPUT[..48]);
+    println!("{:?}", declarations.write("file", Limits::MOST, &items[..4]));
+    Ok(())
+}
+
 /// A row is added, and a call of version 2 asks for its port (RFC 1833 section 3).
 fn registry() -> Result<(), Box<dyn Error>> {
     let mut registry = Registry::start(111, b"no peer knows it")?;
@@ -152,6 +167,7 @@ fn main() -> Result<(), Box<dyn Error>> {
     print!("{lines}");
     println!("{} bytes", found.used);
     contents(&mut declarations)?;
+    written(&mut declarations)?;
     println!("{:?}", Declarations::read(b"struct a { int b; int b; };"));
     println!("{:?}", normalise(b"\0\0\0\x02ab\x80\0\0\x01c", 4));
     println!("{:?}", normalise(b"\0\0\0\x02ab\x80\0\0\x03c", 4));

@@ -24,6 +24,7 @@ impl Limits {
 
 /// A value at the front of the bytes.
 #[derive(Clone, Copy, Debug, PartialEq, Eq, Hash)]
+#[must_use = "bytes may follow the value"]
 pub struct Checked {
     /// How many bytes it has.
     pub used: usize,
@@ -44,7 +45,18 @@ impl Checked {
 }
 
 /// Declarations that were read. They stay on their thread, and a check borrows them alone.
+///
+/// ```
+/// # use oncrpc::{Declarations, Limits, Reason};
+/// let mut declarations = Declarations::read(b"struct pair { int left; bool right; };")?;
+/// let input = [0, 0, 0, 5, 0, 0, 0, 1, 9];
+/// let (checked, lines) = declarations.show("pair", Limits::MOST, &input)?;
+/// assert_eq!((checked.used, checked.more_follows), (8, true));
+/// assert_eq!(lines, "struct\n  left: 5\n  right: TRUE\n");
+/// # Ok::<(), Box<dyn std::error::Error>>(())
+/// ```
 #[derive(Debug)]
+#[must_use]
 pub struct Declarations {
     handle: sys::Declarations,
 }
@@ -71,6 +83,14 @@ impl Declarations {
     /// Tells whether a value of the kind begins the input. The name is one that the text declares, or that of a basic
     /// kind: `int`, `unsigned`, `hyper`, `unsigned-hyper`, `bool`, `opaque`, `string`; or `P.V.N.K`, the K-th argument,
     /// from 1, of procedure N in version V of program P, or `P.V.N.result`. Builds no value.
+    ///
+    /// ```
+    /// # use oncrpc::{CheckFault, Declarations, Limits, Reason, Refusal};
+    /// let mut declarations = Declarations::read(b"")?;
+    /// let refusal = Refusal { why: Reason::BadBool, at: 0 };
+    /// assert_eq!(declarations.check("bool", Limits::MOST, &[0, 0, 0, 2]), Err(CheckFault::Refused(refusal)));
+    /// # Ok::<(), Box<dyn std::error::Error>>(())
+    /// ```
     pub fn check(&mut self, name: &str, limits: Limits, input: &[u8]) -> Result<Checked, CheckFault> {
         let mut outcome = sys::Outcome::default();
         // SAFETY: name and input are slices, and handle and outcome are ours alone.
@@ -98,8 +118,7 @@ impl Declarations {
             (status, outcome) = self.show_into(name, limits, input, &mut lines);
         }
         let found = Checked::of(status, &outcome)?;
-        let text = String::from_utf8(lines).unwrap_or_else(|it| String::from_utf8_lossy(it.as_bytes()).into_owned());
-        Ok((found, text))
+        Ok((found, as_text(lines)))
     }
 
     pub(crate) fn handle(&mut self) -> &mut sys::Declarations {
@@ -132,6 +151,16 @@ impl Declarations {
         };
         (status, outcome)
     }
+}
+
+/// The lines, which have no other characters than those of ASCII: one that is none would be a question mark. Asks for no
+/// memory.
+fn as_text(mut lines: Vec<u8>) -> String {
+    lines
+        .iter_mut()
+        .filter(|byte| !byte.is_ascii())
+        .for_each(|byte| *byte = b'?');
+    String::from_utf8(lines).unwrap_or_default()
 }
 
 impl Drop for Declarations {

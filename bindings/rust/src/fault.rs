@@ -29,7 +29,7 @@ pub enum Reason {
 }
 
 impl Reason {
-    fn of(number: u32) -> Self {
+    pub(crate) fn of(number: u32) -> Self {
         match number {
             sys::BAD_BOOL => Self::BadBool,
             sys::BAD_NUMBERED => Self::BadNumbered,

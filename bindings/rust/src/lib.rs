@@ -6,7 +6,7 @@
 //! its statuses names. A status that it does not know is `Unknown`. No call panics on any input, and no length that the
 //! input declares reserves memory.
 //!
-//! ```no_run
+//! ```
 //! use oncrpc::{Declarations, Limits};
 //!
 //! let mut declarations = Declarations::read(b"struct point { int x; int y; };")?;
@@ -30,24 +30,38 @@
 //! built wants a processor with x86-64-v2.
 #![deny(missing_docs)]
 
+mod address;
 mod buffer;
 mod declarations;
 mod fault;
+mod items;
 #[cfg(test)]
 mod layout;
 mod messages;
 mod parts;
+mod path;
 mod records;
 mod registry;
+mod rows;
 mod stream;
 mod sys;
 
+pub use address::{read_uaddr, write_uaddr};
 pub use declarations::{Checked, Declarations, Limits};
 pub use fault::{CheckFault, ReadFault, Reason, Refusal, TextFault, TextFaultKind};
+pub use items::{Item, ItemReason, ItemsFault};
 pub use messages::{
     Auth, AuthSys, AuthSysFault, Call, CallFault, Denial, Outcome, Reply, ReplyFault, Versions, WriteFault,
 };
-pub use parts::{Part, Parts, Role, XdrType};
-pub use records::{normalise, NormaliseFault, MOST_RECORD};
-pub use registry::{Registry, RegistryFault, Transport};
+pub use parts::{Iter, Part, Parts, Role, XdrType};
+pub use records::{fragment_header, normalise, NormaliseFault, MOST_RECORD};
+pub use registry::{Registry, RegistryFault, Transport, REGISTRY_DECLARATIONS};
+pub use rows::{Row, Rows};
 pub use stream::{Records, StreamFault};
+
+/// The three numbers of the version of the library that is linked.
+pub fn version() -> (u32, u32, u32) {
+    // SAFETY: it is given nothing.
+    let version = unsafe { sys::oncrpc_version() };
+    (version >> 16, version >> 8 & 255, version & 255)
+}

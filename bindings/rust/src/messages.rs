@@ -17,6 +17,15 @@ pub struct Auth<'a> {
 }
 
 /// A call of version 2 of RPC.
+///
+/// ```
+/// # use oncrpc::Call;
+/// let call = Call { xid: 7, program: 100_000, version: 2, procedure: 4, ..Call::default() };
+/// let message = call.write()?;
+/// assert_eq!(message[..12], [0, 0, 0, 7, 0, 0, 0, 0, 0, 0, 0, 2]);
+/// assert_eq!(Call::read(&message)?, call);
+/// # Ok::<(), Box<dyn std::error::Error>>(())
+/// ```
 #[derive(Clone, Copy, Debug, Default, PartialEq, Eq, Hash)]
 pub struct Call<'a> {
     /// The number by which the reply names the call.
@@ -126,6 +135,15 @@ pub enum Denial {
 }
 
 /// A reply.
+///
+/// ```
+/// # use oncrpc::{Auth, Outcome, Reply};
+/// let reply = Reply::Accepted { xid: 7, verifier: Auth::default(), outcome: Outcome::ProcUnavail };
+/// let message = reply.write()?;
+/// assert_eq!((message.len(), message[23]), (24, 3));
+/// assert_eq!(Reply::read(&message)?, reply);
+/// # Ok::<(), Box<dyn std::error::Error>>(())
+/// ```
 #[derive(Clone, Copy, Debug, PartialEq, Eq, Hash)]
 pub enum Reply<'a> {
     /// The call was accepted.
@@ -168,6 +186,14 @@ pub enum ReplyFault {
 
 /// The body of a credential of the flavor AUTH_SYS (RFC 5531 appendix A). It is what the caller says, and proves
 /// nothing.
+///
+/// ```
+/// # use oncrpc::AuthSys;
+/// let user = AuthSys { machine: b"box", uid: 1000, gid: 100, gids: vec![100, 4], ..AuthSys::default() };
+/// let body = user.write()?;
+/// assert_eq!((body.len(), AuthSys::read(&body)?), (32, user));
+/// # Ok::<(), Box<dyn std::error::Error>>(())
+/// ```
 #[derive(Clone, Debug, Default, PartialEq, Eq, Hash)]
 pub struct AuthSys<'a> {
     /// A number of the caller's.

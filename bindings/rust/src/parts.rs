@@ -3,7 +3,11 @@
 use crate::buffer::with_capacity;
 use crate::declarations::{Checked, Declarations, Limits};
 use crate::fault::CheckFault;
+use crate::path::steps;
 use crate::sys;
+use std::fmt;
+use std::iter::FusedIterator;
+use std::slice;
 
 /// What the bytes of a part are (RFC 4506 section 4). A number has its most significant byte first.
 #[derive(Clone, Copy, Debug, PartialEq, Eq, Hash)]
@@ -106,7 +110,60 @@ pub struct Part<'a> {
     pub role: Role,
 }
 
+impl Part<'_> {
+    /// The bytes, where there are as many as this.
+    fn exactly<const COUNT: usize>(&self) -> Option<[u8; COUNT]> {
+        self.bytes.try_into().ok()
+    }
+
+    fn has_number_of(&self, types: &[XdrType]) -> bool {
+        self.role == Role::Number && types.contains(&self.xdr_type)
+    }
+
+    /// The number of an unsigned integer or of a length. A discriminant is read so too, since its part does not say
+    /// whether it has a sign.
+    #[must_use]
+    pub fn u32(&self) -> Option<u32> {
+        let is_one = self.role == Role::Length || self.has_number_of(&[XdrType::Unsigned, XdrType::Union]);
+        self.exactly().filter(|_| is_one).map(u32::from_be_bytes)
+    }
+
+    /// The number of an integer or of an enumeration. A discriminant is read so too, since its part does not say whether
+    /// it has a sign.
+    #[must_use]
+    pub fn i32(&self) -> Option<i32> {
+        let is_one = self.has_number_of(&[XdrType::Int, XdrType::Enum, XdrType::Union]);
+        self.exactly().filter(|_| is_one).map(i32::from_be_bytes)
+    }
+
+    /// The number of an unsigned hyper integer.
+    #[must_use]
+    pub fn u64(&self) -> Option<u64> {
+        let is_one = self.has_number_of(&[XdrType::UnsignedHyper]);
+        self.exactly().filter(|_| is_one).map(u64::from_be_bytes)
+    }
+
+    /// The number of a hyper integer.
+    #[must_use]
+    pub fn i64(&self) -> Option<i64> {
+        let is_one = self.has_number_of(&[XdrType::Hyper]);
+        self.exactly().filter(|_| is_one).map(i64::from_be_bytes)
+    }
+
+    /// What a boolean is, a discriminant of 0 or 1, or whether an optional item is there.
+    #[must_use]
+    pub fn bool(&self) -> Option<bool> {
+        let is_one = self.role == Role::Flag || self.has_number_of(&[XdrType::Bool, XdrType::Union]);
+        match self.exactly().filter(|_| is_one).map(u32::from_be_bytes)? {
+            0 => Some(false),
+            1 => Some(true),
+            _ => None,
+        }
+    }
+}
+
 /// The parts of a value in the order of its bytes, a node before those inside it.
+#[must_use]
 pub struct Parts<'a> {
     input: &'a [u8],
     names: Vec<u8>,
@@ -115,18 +172,87 @@ pub struct Parts<'a> {
 
 impl Parts<'_> {
     /// How many there are.
+    #[must_use]
     pub fn len(&self) -> usize {
         self.parts.len()
     }
 
     /// No value is without parts.
+    #[must_use]
     pub fn is_empty(&self) -> bool {
         self.parts.is_empty()
     }
 
     /// Each of them.
-    pub fn iter(&self) -> impl Iterator<Item = Part<'_>> {
-        self.parts.iter().map(|part| Part {
+    pub fn iter(&self) -> Iter<'_> {
+        Iter {
+            input: self.input,
+            names: &self.names,
+            parts: self.parts.iter(),
+        }
+    }
+
+    /// The part to which a path leads: of an opaque or a string its content, of any other node its only one. None where
+    /// it leads to nothing. All parts before it are gone over.
+    ///
+    /// A path is the names of fields and arms, with dots between them, and `[i]` for the item i, from 0, of an array.
+    /// The item of an optional is its item 0 (RFC 4506 section 4.19). The empty path leads to the value itself.
+    ///
+    /// ```
+    /// # use oncrpc::{Declarations, Limits};
+    /// let mut declarations = Declarations::read(b"struct dir { string name<>; unsigned int sizes<>; dir *next; };")?;
+    /// let input = b"\0\0\0\x03usr\0\0\0\0\x02\0\0\0\x07\0\0\0\x08\0\0\0\x01\0\0\0\x01a\0\0\0\0\0\0\0\0\0\0\0";
+    /// let (_, parts) = declarations.parts("dir", Limits::MOST, input)?;
+    /// assert_eq!(parts.get("name").map(|part| part.bytes), Some(b"usr".as_slice()));
+    /// assert_eq!(parts.get("sizes[1]").and_then(|part| part.u32()), Some(8));
+    /// assert_eq!(parts.get("next").and_then(|part| part.bool()), Some(true));
+    /// assert_eq!(parts.get("next[0].name").map(|part| part.bytes), Some(b"a".as_slice()));
+    /// assert_eq!(parts.get("next[0].next[0]").map(|part| part.bytes), None);
+    /// # Ok::<(), Box<dyn std::error::Error>>(())
+    /// ```
+    #[must_use]
+    pub fn get(&self, path: &str) -> Option<Part<'_>> {
+        let mut left = self.iter().peekable();
+        let mut found = left.next()?;
+        for step in steps(path) {
+            found = step?.taken(found, &mut left)?;
+        }
+        let is_length = found.role == Role::Length && found.xdr_type != XdrType::Array;
+        if is_length {
+            left.next()
+        } else {
+            Some(found)
+        }
+    }
+}
+
+impl fmt::Debug for Parts<'_> {
+    fn fmt(&self, f: &mut fmt::Formatter<'_>) -> fmt::Result {
+        f.debug_list().entries(self).finish()
+    }
+}
+
+impl<'a> IntoIterator for &'a Parts<'_> {
+    type Item = Part<'a>;
+    type IntoIter = Iter<'a>;
+
+    fn into_iter(self) -> Iter<'a> {
+        self.iter()
+    }
+}
+
+/// The parts of a value, from [`Parts::iter`].
+#[derive(Clone)]
+#[must_use]
+pub struct Iter<'a> {
+    input: &'a [u8],
+    names: &'a [u8],
+    parts: slice::Iter<'a, sys::ValuePart>,
+}
+
+impl<'a> Iter<'a> {
+    fn told(&self, part: &sys::ValuePart) -> Part<'a> {
+        Part {
             at: part.at,
             bytes: &self.input[part.at..][..part.count],
             name: &self.names[part.name_at..][..part.name_count],
@@ -134,7 +260,39 @@ impl Parts<'_> {
             kind: part.kind,
             xdr_type: XdrType::of(part.xdr_type),
             role: Role::of(part.role),
-        })
+        }
+    }
+}
+
+impl<'a> Iterator for Iter<'a> {
+    type Item = Part<'a>;
+
+    fn next(&mut self) -> Option<Part<'a>> {
+        self.parts.next().map(|part| self.told(part))
+    }
+
+    fn size_hint(&self) -> (usize, Option<usize>) {
+        self.parts.size_hint()
+    }
+
+    fn nth(&mut self, count: usize) -> Option<Part<'a>> {
+        self.parts.nth(count).map(|part| self.told(part))
+    }
+}
+
+impl DoubleEndedIterator for Iter<'_> {
+    fn next_back(&mut self) -> Option<Self::Item> {
+        self.parts.next_back().map(|part| self.told(part))
+    }
+}
+
+impl ExactSizeIterator for Iter<'_> {}
+
+impl FusedIterator for Iter<'_> {}
+
+impl fmt::Debug for Iter<'_> {
+    fn fmt(&self, f: &mut fmt::Formatter<'_>) -> fmt::Result {
+        f.debug_list().entries(self.clone()).finish()
     }
 }
 

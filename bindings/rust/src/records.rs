@@ -41,7 +41,22 @@ impl fmt::Display for NormaliseFault {
 
 impl Error for NormaliseFault {}
 
+/// The header of a fragment of so many bytes, for a sender: a record that is sent whole is this of its count and `true`,
+/// and then its bytes. `None` where the count is above [`MOST_RECORD`].
+pub fn fragment_header(count: usize, is_last: bool) -> Option<[u8; 4]> {
+    let mut header = [0; 4];
+    // SAFETY: the header is ours alone.
+    let status = unsafe { sys::oncrpc_record_header(count, is_last, &mut header) };
+    (status == sys::OK).then_some(header)
+}
+
 /// Each record of the input as one fragment, its last, where a record may have `limit` bytes.
+///
+/// ```
+/// let two_fragments = b"\0\0\0\x02ab\x80\0\0\x01c";
+/// assert_eq!(oncrpc::normalise(two_fragments, 3)?, b"\x80\0\0\x03abc");
+/// # Ok::<(), Box<dyn std::error::Error>>(())
+/// ```
 pub fn normalise(input: &[u8], limit: u32) -> Result<Vec<u8>, NormaliseFault> {
     // A record has at least the header that is written for it, so no larger buffer is needed.
     let mut marked = with_capacity(input.len()).ok_or(NormaliseFault::NoMemory)?;

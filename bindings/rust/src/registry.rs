@@ -6,6 +6,45 @@ use std::error::Error;
 use std::fmt;
 use std::ptr;
 
+/// The declarations of what the registry's procedures take and give (RFC 1833), for
+/// [`Declarations::read`](crate::Declarations::read): the arguments of GETPORT are a `mapping`, or `100000.2.3.1`, and
+/// its result is `100000.2.3.result`.
+pub const REGISTRY_DECLARATIONS: &str = "\
+struct rpcb { unsigned int r_prog; unsigned int r_vers;
+    string r_netid<>; string r_addr<>; string r_owner<>; };
+struct rp__list { rpcb rpcb_map; rp__list *rpcb_next; };
+typedef rp__list *rpcblist;
+struct mapping { unsigned int prog; unsigned int vers; unsigned int prot; unsigned int port; };
+struct pm__list { mapping map; pm__list *next; };
+typedef pm__list *pmaplist;
+program PMAP_PROG {
+    version PMAP_VERS {
+        void PMAPPROC_NULL(void) = 0;
+        bool PMAPPROC_SET(mapping) = 1;
+        bool PMAPPROC_UNSET(mapping) = 2;
+        unsigned int PMAPPROC_GETPORT(mapping) = 3;
+        pmaplist PMAPPROC_DUMP(void) = 4;
+    } = 2;
+} = 100000;
+program RPCBPROG {
+    version RPCBVERS {
+        void RPCBPROC_NULL(void) = 0;
+        bool RPCBPROC_SET(rpcb) = 1;
+        bool RPCBPROC_UNSET(rpcb) = 2;
+        string RPCBPROC_GETADDR(rpcb) = 3;
+        rpcblist RPCBPROC_DUMP(void) = 4;
+    } = 3;
+    version RPCBVERS4 {
+        void RPCBPROC_NULL(void) = 0;
+        bool RPCBPROC_SET(rpcb) = 1;
+        bool RPCBPROC_UNSET(rpcb) = 2;
+        string RPCBPROC_GETADDR(rpcb) = 3;
+        rpcblist RPCBPROC_DUMP(void) = 4;
+        string RPCBPROC_GETVERSADDR(rpcb) = 9;
+    } = 4;
+} = 100000;
+";
+
 /// What a record came over (RFC 5665 section 5.1).
 #[derive(Clone, Copy, Debug, PartialEq, Eq, Hash)]
 pub enum Transport {
@@ -35,7 +74,7 @@ pub enum RegistryFault {
 }
 
 impl RegistryFault {
-    fn of(status: u32) -> Self {
+    pub(crate) fn of(status: u32) -> Self {
         match status {
             sys::NO_MEMORY => Self::NoMemory,
             _ => Self::Unknown(status),
@@ -55,7 +94,21 @@ impl fmt::Display for RegistryFault {
 impl Error for RegistryFault {}
 
 /// Rows in memory, at most 1024, each a program, a version, a netid, an address and an owner. It stays on its thread.
+///
+/// ```
+/// # use oncrpc::{Auth, Call, Outcome, Registry, Reply, Transport};
+/// let mut registry = Registry::start(111, b"no peer knows it")?;
+/// assert!(registry.set(300, 7, b"tcp", b"1.2.3.4.8.1", b"1000")?);
+/// let arguments = [300_u32, 7, 6, 0].map(u32::to_be_bytes).concat();
+/// let call = Call { program: 100_000, version: 2, procedure: 3, arguments: &arguments, ..Call::default() };
+/// let mut reply = Vec::new();
+/// assert!(registry.answer(Transport::Udp, &call.write()?, &mut reply)?);
+/// let outcome = Outcome::Success(&[0, 0, 8, 1]);
+/// assert_eq!(Reply::read(&reply)?, Reply::Accepted { xid: 0, verifier: Auth::default(), outcome });
+/// # Ok::<(), Box<dyn std::error::Error>>(())
+/// ```
 #[derive(Debug)]
+#[must_use]
 pub struct Registry {
     handle: sys::Registry,
 }
@@ -133,6 +186,10 @@ impl Registry {
             sys::SILENCE => Ok(false),
             _ => Err(RegistryFault::of(status)),
         }
+    }
+
+    pub(crate) fn handle(&mut self) -> &mut sys::Registry {
+        &mut self.handle
     }
 
     fn reply_into(&mut self, reply: &mut Vec<u8>) -> (u32, usize) {

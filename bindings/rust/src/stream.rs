@@ -48,7 +48,24 @@ impl Error for StreamFault {}
 
 /// A reader of one stream: takes what was received, in any pieces, and hands out the records without the headers of
 /// their fragments, in their order. It stays on its thread.
+///
+/// ```
+/// # use oncrpc::Records;
+/// let mut records = Records::start(65_536)?;
+/// let (mut record, mut found) = (Vec::new(), Vec::new());
+/// for mut piece in [b"\0\0\0\x02ab\x80".as_slice(), b"\0\0\x01c\x80\0\0\x01d"] {
+///     while let Some(used) = records.feed(piece)? {
+///         assert!(records.take(&mut record)?);
+///         found.push(record.clone());
+///         piece = &piece[used..];
+///     }
+/// }
+/// records.end()?;
+/// assert_eq!(found, [b"abc".to_vec(), b"d".to_vec()]);
+/// # Ok::<(), Box<dyn std::error::Error>>(())
+/// ```
 #[derive(Debug)]
+#[must_use]
 pub struct Records {
     handle: sys::Records,
 }

@@ -42,6 +42,10 @@ macro_rules! structs {
 }
 
 numbers! {
+    VERSION_MAJOR = 0;
+    VERSION_MINOR = 1;
+    VERSION_PATCH = 0;
+
     OK = 0;
     MORE_FOLLOWS = 1;
     REFUSED = 2;
@@ -67,6 +71,8 @@ numbers! {
     NO_READER = 22;
     MORE_WANTED = 23;
     NO_RECORD = 24;
+    NOT_AN_ADDRESS = 25;
+    BAD_ITEM = 26;
 
     BAD_BOOL = 1;
     BAD_NUMBERED = 2;
@@ -76,6 +82,12 @@ numbers! {
     TOO_DEEP = 6;
     TOO_LARGE = 7;
     TRUNCATED = 8;
+
+    WRONG_ITEM = 9;
+    NOT_IN_RANGE = 10;
+    PAST_END = 11;
+    UNFINISHED = 12;
+    OUTSIDE = 13;
 
     BAD_CHARACTER = 1;
     BAD_NUMBER = 2;
@@ -111,6 +123,12 @@ numbers! {
     TYPE_UNION = 13;
     TYPE_OPTIONAL = 14;
     TYPE_VOID = 15;
+
+    ITEM_SIGNED = 1;
+    ITEM_UNSIGNED = 2;
+    ITEM_FLAG = 3;
+    ITEM_COUNT = 4;
+    ITEM_CONTENT = 5;
 
     SUCCESS = 0;
     PROG_UNAVAIL = 1;
@@ -164,6 +182,15 @@ structs! {
         why: u32,
     }
 
+    #[derive(Default)]
+    oncrpc_item as Item {
+        form: u32,
+        signed_number: i64,
+        number: u64,
+        at: usize,
+        count: usize,
+    }
+
     /// A registry, or none. The pointer keeps it on its thread.
     #[derive(Debug)]
     oncrpc_registry as Registry {
@@ -178,7 +205,21 @@ structs! {
         live: bool,
     }
 
+    oncrpc_registry_row as RegistryRow {
+        program: u32,
+        version: u32,
+        netid: Part,
+        address: Part,
+        owner: Part,
+    }
+
     #[derive(Default)]
+    oncrpc_rows_outcome as RowsOutcome {
+        rows: usize,
+        bytes: usize,
+    }
+
+    #[derive(Clone, Copy, Default)]
     oncrpc_part as Part {
         at: usize,
         count: usize,
@@ -267,6 +308,22 @@ extern "C" {
         names: *mut u8,
         names_count: usize,
         outcome: *mut PartsOutcome,
+    ) -> u32;
+
+    pub fn oncrpc_declarations_write(
+        declarations: *mut Declarations,
+        name: *const u8,
+        name_count: usize,
+        depth: u32,
+        bytes: u32,
+        items: *const Item,
+        items_count: usize,
+        data: *const u8,
+        data_count: usize,
+        buffer: *mut u8,
+        buffer_count: usize,
+        written: *mut usize,
+        outcome: *mut Outcome,
     ) -> u32;
 
     pub fn oncrpc_declarations_free(declarations: *mut Declarations);
@@ -370,7 +427,26 @@ extern "C" {
         outcome: *mut Outcome,
     ) -> u32;
 
+    pub fn oncrpc_registry_rows(
+        registry: *mut Registry,
+        rows: *mut RegistryRow,
+        rows_count: usize,
+        bytes: *mut u8,
+        bytes_count: usize,
+        outcome: *mut RowsOutcome,
+    ) -> u32;
+
     pub fn oncrpc_registry_free(registry: *mut Registry);
+
+    pub fn oncrpc_uaddr_read(text: *const u8, text_count: usize, host: *mut [u8; 4], port: *mut u16) -> u32;
+
+    pub fn oncrpc_uaddr_write(
+        host: *const [u8; 4],
+        port: u16,
+        buffer: *mut u8,
+        buffer_count: usize,
+        count: *mut usize,
+    ) -> u32;
 
     pub fn oncrpc_records_start(records: *mut Records, limit: u32, outcome: *mut Outcome) -> u32;
 
@@ -391,4 +467,8 @@ extern "C" {
     pub fn oncrpc_records_end(records: *mut Records, outcome: *mut Outcome) -> u32;
 
     pub fn oncrpc_records_free(records: *mut Records);
+
+    pub fn oncrpc_record_header(count: usize, is_last: bool, header: *mut [u8; 4]) -> u32;
+
+    pub fn oncrpc_version() -> u32;
 }

@@ -3,9 +3,9 @@
 use std::collections::BTreeSet;
 
 use oncrpc::{
-    normalise, Auth, AuthSys, AuthSysFault, Call, CallFault, CheckFault, Checked, Declarations, Limits, NormaliseFault,
-    ReadFault, Reason, Records, Refusal, Reply, ReplyFault, Role, StreamFault, TextFault, TextFaultKind, WriteFault,
-    XdrType, MOST_RECORD,
+    normalise, Auth, AuthSys, AuthSysFault, Call, CallFault, CheckFault, Checked, Declarations, Item, ItemReason,
+    ItemsFault, Limits, NormaliseFault, ReadFault, Reason, Records, Refusal, Reply, ReplyFault, Role, StreamFault,
+    TextFault, TextFaultKind, WriteFault, XdrType, MOST_RECORD,
 };
 
 const TEXT: &[u8] = b"
@@ -64,6 +64,82 @@ fn each_reason() {
         at: 0,
     }));
     assert_eq!(cases.check("u", most, &words(&[2])), refused);
+}
+
+/// RFC 4506 section 4: a value that has all types but a void within a struct, by its items.
+#[test]
+fn each_item() {
+    let mut declarations = Declarations::read(TEXT).unwrap();
+    let items = [
+        Item::Unsigned(u64::from(u32::MAX)),
+        Item::Signed(-2),
+        Item::Unsigned(u64::MAX),
+        Item::Unsigned(1),
+        Item::Signed(2),
+        Item::Signed(-7),
+        Item::Content(b"abc"),
+        Item::Content(b"de"),
+        Item::Content(b""),
+        Item::Signed(1),
+        Item::Signed(i64::from(i32::MAX)),
+        Item::Count(1),
+        Item::Signed(5),
+        Item::Flag(true),
+        Item::Signed(6),
+    ];
+    let wanted = words(&[
+        u32::MAX,
+        u32::MAX,
+        0xffff_fffe,
+        u32::MAX,
+        u32::MAX,
+        1,
+        2,
+        0xffff_fff9,
+        0x6162_6300,
+        2,
+        0x6465_0000,
+        0,
+        1,
+        0x7fff_ffff,
+        1,
+        5,
+        1,
+        6,
+    ]);
+    assert_eq!(declarations.write("all", Limits::MOST, &items), Ok(wanted));
+}
+
+/// Each reason against an item, at its place.
+#[test]
+fn each_item_reason() {
+    use ItemReason::{NotInRange, PastEnd, Refused, Unfinished, WrongItem};
+    let most = Limits::MOST;
+    let (low, small) = (Limits { depth: 3, ..most }, Limits { bytes: 4, ..most });
+    let one = Item::Signed(1);
+    let rows: [(&str, Limits, &[Item<'_>], ItemReason, usize); 13] = [
+        ("pair", most, &[one], Unfinished, 1),
+        ("pair", most, &[], Unfinished, 0),
+        ("int", most, &[one, one], PastEnd, 1),
+        ("bool", most, &[Item::Flag(true)], WrongItem, 0),
+        ("three", most, &[Item::Content(b"ab")], WrongItem, 0),
+        ("int", most, &[Item::Signed(1 << 31)], NotInRange, 0),
+        ("unsigned", most, &[Item::Signed(-1)], NotInRange, 0),
+        ("bool", most, &[Item::Unsigned(2)], Refused(Reason::BadBool), 0),
+        ("colour", most, &[one], Refused(Reason::BadNumbered), 0),
+        ("list", most, &[Item::Count(3)], Refused(Reason::TooLong), 0),
+        ("name", most, &[Item::Content(b"abcd")], Refused(Reason::TooLong), 0),
+        ("node", low, &[Item::Flag(true)], Refused(Reason::TooDeep), 0),
+        ("pair", small, &[one], Refused(Reason::TooLarge), 0),
+    ];
+    let mut declarations = Declarations::read(TEXT).unwrap();
+    for (name, limits, items, why, at) in rows {
+        let refused = Err(ItemsFault::BadItem { why, at });
+        assert_eq!(declarations.write(name, limits, items), refused, "{name} {items:?}");
+    }
+    assert_eq!(declarations.write("folder", most, &[one]), Err(ItemsFault::NoKind));
+    let shallow = Limits { depth: 0, ..most };
+    assert_eq!(declarations.write("int", shallow, &[one]), Err(ItemsFault::BadLimits));
 }
 
 #[test]

@@ -4,28 +4,34 @@
 //! that lead where their counts say. What it does is the function that it calls, proved in the crate of that function.
 //!
 //! - `values`: values by their declarations, and records marked anew. `records`: a stream of records.
-//! - `calls`, `replies`, `credentials`: messages. `registry`: a registry that a program of C keeps.
+//! - `calls`, `replies`, `credentials`: messages. `registry`: a registry that a program of C keeps. `addresses`:
+//!   universal addresses. `version`: that of the library.
 #![tactic(auto)]
 
+mod addresses;
 mod calls;
 mod credentials;
 mod records;
 mod registry;
 mod replies;
 mod values;
+mod version;
 
+pub use addresses::{oncrpc_uaddr_read, oncrpc_uaddr_write};
 pub use calls::{oncrpc_call_read, oncrpc_call_write};
 pub use credentials::{oncrpc_auth_sys_read, oncrpc_auth_sys_write};
 pub use records::{
-    oncrpc_records_end, oncrpc_records_feed, oncrpc_records_free, oncrpc_records_start,
-    oncrpc_records_take,
+    oncrpc_record_header, oncrpc_records_end, oncrpc_records_feed, oncrpc_records_free,
+    oncrpc_records_start, oncrpc_records_take,
 };
 pub use registry::{
-    oncrpc_registry_answer, oncrpc_registry_free, oncrpc_registry_reply, oncrpc_registry_set,
-    oncrpc_registry_start, oncrpc_registry_unset,
+    oncrpc_registry_answer, oncrpc_registry_free, oncrpc_registry_reply, oncrpc_registry_rows,
+    oncrpc_registry_set, oncrpc_registry_start, oncrpc_registry_unset,
 };
 pub use replies::{oncrpc_reply_read, oncrpc_reply_write};
 pub use values::{
     oncrpc_check, oncrpc_declarations_check, oncrpc_declarations_free, oncrpc_declarations_parts,
-    oncrpc_declarations_read, oncrpc_declarations_show, oncrpc_normalise,
+    oncrpc_declarations_read, oncrpc_declarations_show, oncrpc_declarations_write,
+    oncrpc_normalise,
 };
+pub use version::oncrpc_version;

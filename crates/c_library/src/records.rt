@@ -6,6 +6,7 @@ ghost use Rattle.c_records.specs.Statuses.{Reports};
 ghost use Rattle.c_records.specs.Fed.{IsFedBy};
 ghost use Rattle.c_records.specs.Taken.{IsTakenBy};
 ghost use Rattle.c_records.specs.Ended.{IsEndedBy};
+ghost use Rattle.c_records.specs.Headed.{IsHeaded};
 
 use c_answers::Outcome;
 use c_records::Records;
@@ -91,4 +92,15 @@ pub extern "C" fn oncrpc_records_free(alloc: Global, handle: &mut Records)
     ensures { handle.new.held ≡ None }
 {
     c_records::free_records(alloc, handle);
+}
+
+/// Puts the header of a fragment of so many bytes into `header`: the count in four bytes, most significant first, with
+/// the highest bit for a record's last fragment (RFC 5531 section 11). It takes no memory.
+///
+/// Status 0: it is written. 5: no fragment has so many bytes, that is more than 2147483647, and `header` is untouched.
+#[unsafe(no_mangle)]
+pub extern "C" fn oncrpc_record_header(count: usize, is_last: bool, header: &mut [u8; 4]) -> u32
+    ensures { IsHeaded count is_last header.old header.new result }
+{
+    c_records::put_header(count, is_last, header)
 }

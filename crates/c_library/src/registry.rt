@@ -1,13 +1,14 @@
 //! A registry that a program of C keeps (RFC 1833).
 ghost use Rattle.std.specs.Prelude.{◌≡◌, None, option_map};
 ghost use Rattle.c_registry.specs.Held.{held_of};
+ghost use Rattle.c_registry.specs.Listed.{buffers, IsListedBy, ReportsRows};
 ghost use Rattle.c_registry.specs.Rows.{IsStarted, IsSetBy, IsUnsetBy};
 ghost use Rattle.c_registry.specs.Statuses.{Reports};
 ghost use Rattle.c_registry.specs.Answered.{IsAnsweredBy, IsTakenBy};
 ghost use Rattle.registry_rows.specs.Rows.{row_of};
 
 use c_answers::Outcome;
-use c_registry::Registry;
+use c_registry::{Registry, RowCounts, RowParts};
 use std::alloc::Global;
 
 /// Starts a registry in the handle, whose rows are its own: program 100000 in versions 2, 3 and 4, each over `tcp` and
@@ -114,6 +115,29 @@ pub extern "C" fn oncrpc_registry_unset(
         (option_map held_of handle.new.held)) result outcome.new }
 {
     c_registry::unset_rows(alloc, handle, program, version, netid, owner, outcome)
+}
+
+/// Puts the rows of the registry, in their order, into the buffers (RFC 1833 section 2.1): each with the places of its
+/// texts, which stand in `bytes`, one directly behind the other.
+///
+/// Status 0: `rows` rows and `bytes` bytes are written, and the rest of the buffers is untouched. 8: a buffer is too
+/// small; buffer for `rows` rows and `bytes` bytes is needed. 6: memory was refused. 18: the handle holds no registry.
+/// At 6 and 18 both counts are 0, and at all but 0 both buffers are untouched.
+#[unsafe(no_mangle)]
+pub extern "C" fn oncrpc_registry_rows(
+    alloc: Global,
+    handle: &mut Registry,
+    rows: &mut [RowParts],
+    bytes: &mut [u8],
+    outcome: &mut RowCounts,
+) -> u32
+    // What the handle holds stays.
+    ensures stay { handle.new.held ≡ handle.old.held }
+    // The status and the counts are those of an answer that is right by it.
+    ensures answer { ReportsRows (IsListedBy (option_map held_of handle.old.held) (buffers rows.old bytes.old)
+        (buffers rows.new bytes.new)) result outcome.new }
+{
+    c_registry::list_rows(alloc, handle, rows, bytes, outcome)
 }
 
 /// Frees the registry that the handle holds, if any. It then holds none, so that a second call does nothing.

@@ -6,10 +6,12 @@ ghost use Rattle.xdr_lang.specs.Views.{declared_of};
 ghost use Rattle.c_values.specs.Held.{IsReading, IsRightByHeld};
 ghost use Rattle.c_values.specs.Shown.{IsShownByHeld};
 ghost use Rattle.c_values.specs.Parted.{IsPartedByHeld, ReportsParts};
+ghost use Rattle.c_values.specs.Items.{given};
+ghost use Rattle.c_values.specs.Written.{IsWrittenByHeld};
 ghost use Rattle.c_values.specs.Normal.{IsMarked};
 
 use c_answers::Outcome;
-use c_values::{Handle, PartsOutcome, ValuePart};
+use c_values::{Handle, PartsOutcome, ValueItem, ValuePart};
 use std::alloc::Global;
 
 /// Reads the declarations, and answers whether the input is a value of the kind with that name, no deeper than `depth`
@@ -133,6 +135,40 @@ pub extern "C" fn oncrpc_declarations_parts(
 {
     c_values::parts_by_declarations(
         alloc, handle, name, depth, bytes, input, parts, names, outcome,
+    )
+}
+
+/// Puts the encoding of the value of the kind with that name that has these items into the buffer (RFC 4506 section
+/// 4). The bytes of content lie in `content`. The declarations that the handle holds stay.
+///
+/// Status 0: there is such a value within the limits; `written` and `at` count the bytes that were written, and the
+/// rest of the buffer is untouched. 26: no value within the limits has the items up to the one that `at` others are
+/// before; `why` is the reason's number, 1 to 7, or 9 (another item is due), 10 (out of range), 11 (the value is whole
+/// before), 13 (content that does not lie in `content`). With 12 no value has these items alone, and `at` counts them.
+/// 4: no kind has the name. 5: the limits are out of range. 6: memory was refused. 7: the handle holds no
+/// declarations. 8: the buffer is too small, `at` bytes are needed. Above 0 the buffer is untouched, and `written` is
+/// 0.
+#[unsafe(no_mangle)]
+pub extern "C" fn oncrpc_declarations_write(
+    alloc: Global,
+    handle: &mut Handle,
+    name: &[u8],
+    depth: u32,
+    bytes: u32,
+    items: &[ValueItem],
+    content: &[u8],
+    buffer: &mut [u8],
+    written: &mut usize,
+    outcome: &mut Outcome,
+) -> u32
+    // What the handle holds stays.
+    ensures stay { handle.new.declared ≡ handle.old.declared }
+    // The status and the outcome are those of an answer that is right by it.
+    ensures answer { Reports (IsWrittenByHeld (option_map declared_of handle.old.declared) name.now depth bytes
+        (given items.now content.now) buffer.old buffer.new written.new) result outcome.new }
+{
+    c_values::write_by_declarations(
+        alloc, handle, name, depth, bytes, items, content, buffer, written, outcome,
     )
 }
 

@@ -2,6 +2,7 @@ mod Closed
 mod Ends
 mod Feeds
 mod Followed
+mod Headed
 mod Long
 mod Next
 mod Past

@@ -1,5 +1,6 @@
 pub mod Ended
 pub mod Fed
+pub mod Headed
 pub mod Held
 pub mod Buffers
 pub mod Started

@@ -8,6 +8,7 @@ ghost use Rattle.c_answers.specs.Outcomes.{only_at};
 use super::ending::end_records;
 use super::feeding::feed_records;
 use super::handle::Records;
+use super::header::put_header;
 use super::start::{free_records, start_records};
 use super::taking::take_record;
 use c_answers::Outcome;
@@ -255,4 +256,24 @@ pub fn reports_where_a_stream_is_cut(
     let fed = feed_records(alloc, handle, &[0x80, 0, 0], outcome);
     let ended = end_records(alloc, handle, outcome);
     (started, fed, ended)
+}
+
+/// The header of a last fragment of three bytes is `80000003` (RFC 5531 section 11), and of another `00000003`.
+pub fn marks_the_last_fragment(last: &mut [u8; 4], other: &mut [u8; 4]) -> (u32, u32)
+    ensures status { (result.0 ≡ 0) × (result.1 ≡ 0) }
+    ensures last { last.new ≡ 128 ∷ 0 ∷ 0 ∷ 3 ∷ [] }
+    ensures other { other.new ≡ 0 ∷ 0 ∷ 0 ∷ 3 ∷ [] }
+{
+    let first = put_header(3, true, last);
+    let second = put_header(3, false, other);
+    (first, second)
+}
+
+/// A fragment has at most 2147483647 bytes: the header of one more is not written.
+pub fn marks_no_longer_fragment(header: &mut [u8; 4], other: &mut [u8; 4]) -> (u32, u32)
+    ensures { (result.0 ≡ 5) × (header.new ≡ header.old) × (result.1 ≡ 5) × (other.new ≡ other.old) }
+{
+    let above = put_header(2147483648, true, header);
+    let all = put_header(usize::MAX, false, other);
+    (above, all)
 }

@@ -4,6 +4,7 @@
 //! name that `include/oncrpc.h` gives it.
 //!
 //! - `start`, `feeding`, `taking`, `ending`: a reader begins and is freed, gets pieces, hands records out, and ends.
+//! - `header`: the header of a fragment, for who sends it.
 //! - `handle`, `state`: the reader that C keeps, and what it holds. `answer`: answers, and how C sees them. `buffer`:
 //!   bytes put into what C lends.
 //! - `examples`: what the contracts force on telling inputs.
@@ -15,6 +16,7 @@ mod ending;
 mod examples;
 mod feeding;
 mod handle;
+mod header;
 mod start;
 mod state;
 mod taking;
@@ -22,5 +24,6 @@ mod taking;
 pub use ending::end_records;
 pub use feeding::feed_records;
 pub use handle::Records;
+pub use header::put_header;
 pub use start::{free_records, start_records};
 pub use taking::take_record;

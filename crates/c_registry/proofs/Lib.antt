@@ -1,3 +1,5 @@
 mod Denied
+mod Laid
 mod Slot
 mod Reported
+mod Told

@@ -14,16 +14,24 @@ status_of answer.Silence = 19
 status_of answer.NoTransport = 20
 status_of answer.Unchanged = 21
 
--- each field is 0 where nothing is counted
+-- how many bytes were written or are needed, 0 where nothing is counted
+abbrev pub count_of : Answer → ℕ
+count_of (answer.Whole count) = count
+count_of answer.NoMemory = 0
+count_of (answer.NoRoom needed) = needed
+count_of answer.NoRegistry = 0
+count_of answer.Silence = 0
+count_of answer.NoTransport = 0
+count_of answer.Unchanged = 0
+
+-- that count, and no other field
 abbrev pub outcome_of : Answer → Outcome
-outcome_of (answer.Whole count) = only_at count
-outcome_of answer.NoMemory = only_at 0
-outcome_of (answer.NoRoom needed) = only_at needed
-outcome_of answer.NoRegistry = only_at 0
-outcome_of answer.Silence = only_at 0
-outcome_of answer.NoTransport = only_at 0
-outcome_of answer.Unchanged = only_at 0
+outcome_of a = only_at (count_of a)
 
 -- a status and an outcome that are those of an answer of which this holds
 abbrev pub Reports : (Answer → Type 0) → (status : ℕ) → Outcome → Type 0
 Reports Is status outcome = (a : Answer) × Is a × (status ≡ status_of a) × (outcome ≡ outcome_of a)
+
+-- the same of a call that tells the count alone
+abbrev pub ReportsCount : (Answer → Type 0) → (status count : ℕ) → Type 0
+ReportsCount Is status count = (a : Answer) × Is a × (status ≡ status_of a) × (count ≡ count_of a)

@@ -1,6 +1,6 @@
 //! Answers, and how C sees them.
 ghost use Rattle.std.specs.Prelude.{◌≡◌};
-ghost use Rattle.c_registry.specs.Statuses.{status_of, outcome_of};
+ghost use Rattle.c_registry.specs.Statuses.{status_of, outcome_of, count_of};
 
 use c_answers::Outcome;
 
@@ -39,14 +39,21 @@ impl Answer {
         }
     }
 
-    /// What C sees beside it.
+    /// The count that C sees beside it.
+    pub fn count(&self) -> usize
+        ensures { result ≡ count_of self.now }
+    {
+        match self {
+            Answer::Whole { count } => *count,
+            Answer::NoRoom { needed } => *needed,
+            _ => 0,
+        }
+    }
+
+    /// The same as an outcome.
     pub fn outcome(&self) -> Outcome
         ensures { result ≡ outcome_of self.now }
     {
-        match self {
-            Answer::Whole { count } => Outcome::only_at(*count),
-            Answer::NoRoom { needed } => Outcome::only_at(*needed),
-            _ => Outcome::only_at(0),
-        }
+        Outcome::only_at(self.count())
     }
 }

@@ -1,5 +1,5 @@
 //! What the exports' contracts force on telling inputs, each proved from the contracts alone.
-ghost use Rattle.std.specs.Prelude.{◌≡◌, ◌<◌, ◌≤◌, ◌⊎◌, [], ◌∷◌, length, take, Some, None, option_map};
+ghost use Rattle.std.specs.Prelude.{◌≡◌, ◌<◌, ◌≤◌, ◌⊎◌, [], ◌∷◌, length, take, codes, Some, None, option_map};
 ghost use Rattle.rpc_message.specs.Heads.{accepted};
 ghost use Rattle.rpc_message.specs.Message.{Denied, RpcMismatch, SystemErr};
 ghost use Rattle.rpc_message.specs.Spelling.{reply};
@@ -7,9 +7,13 @@ ghost use Rattle.registry_rows.specs.Ports.{own_rows};
 ghost use Rattle.c_registry.specs.Held.{held_of};
 ghost use Rattle.c_answers.specs.Outcomes.{only_at};
 
+use super::address::{read_address, write_address};
 use super::answering::answer_record;
 use super::handle::Registry;
+use super::listed::RowCounts;
+use super::listing::list_rows;
 use super::reply::take_reply;
+use super::row::RowParts;
 use super::rows::{set_row, unset_rows};
 use super::start::{free_registry, start_registry};
 use c_answers::Outcome;
@@ -201,4 +205,74 @@ pub fn sets_no_long_owner(
     ensures stays { option_map held_of handle.new.held ≡ option_map held_of handle.old.held }
 {
     set_row(alloc, handle, 300, 7, b"tcp", address, owner, outcome)
+}
+
+/// The rows of a registry that was started are listed: six, whose texts have 150 bytes.
+pub fn lists_its_own_rows(
+    alloc: Global,
+    handle: &mut Registry,
+    rows: &mut [RowParts],
+    bytes: &mut [u8],
+    outcome: &mut Outcome,
+    counts: &mut RowCounts,
+) -> (u32, u32)
+    ensures { result.0 ≡ 0 → result.1 ≡ 0 → counts.new ≡ record { rows = 6; bytes = 150 } }
+{
+    let started = start_registry(alloc, handle, 111, b"", outcome);
+    let listed = list_rows(alloc, handle, rows, bytes, counts);
+    (started, listed)
+}
+
+/// After `free` there are no rows to list, and nothing is written.
+pub fn lists_nothing_after_free(
+    alloc: Global,
+    handle: &mut Registry,
+    rows: &mut [RowParts],
+    bytes: &mut [u8],
+    counts: &mut RowCounts,
+) -> u32
+    ensures status { result ≡ 18 }
+    ensures counts { counts.new ≡ record { rows = 0; bytes = 0 } }
+    ensures buffers { (rows.new ≡ rows.old) × (bytes.new ≡ bytes.old) }
+{
+    free_registry(alloc, handle);
+    list_rows(alloc, handle, rows, bytes, counts)
+}
+
+/// Buffers that are too small stay as they were, and what is reported is how much is needed.
+pub fn reports_the_buffers_that_are_needed(
+    alloc: Global,
+    handle: &mut Registry,
+    rows: &mut [RowParts],
+    bytes: &mut [u8],
+    counts: &mut RowCounts,
+) -> u32
+    ensures { result ≡ 8 → (rows.new ≡ rows.old) × (bytes.new ≡ bytes.old)
+        × ((length rows.old < counts.new.rows) ⊎ (length bytes.old < counts.new.bytes)) }
+{
+    list_rows(alloc, handle, rows, bytes, counts)
+}
+
+/// `192.0.2.17.8.1` is port 2049 of 192.0.2.17 (RFC 5665 section 5.2.3.3).
+pub fn reads_an_address(text: &[u8], host: &mut [u8; 4], port: &mut u16) -> u32
+    requires { text.now ≡ codes "192.0.2.17.8.1" }
+    ensures { (result ≡ 0) × (host.new ≡ 192 ∷ 0 ∷ 2 ∷ 17 ∷ []) × (port.new ≡ 2049) }
+{
+    read_address(text, host, port)
+}
+
+/// A number with a leading zero is none, and what is reported is 0.
+pub fn reads_no_leading_zero(text: &[u8], host: &mut [u8; 4], port: &mut u16) -> u32
+    requires { text.now ≡ codes "192.0.2.17.08.1" }
+    ensures { (result ≡ 25) × (host.new ≡ 0 ∷ 0 ∷ 0 ∷ 0 ∷ []) × (port.new ≡ 0) }
+{
+    read_address(text, host, port)
+}
+
+/// Port 2049 of 192.0.2.17 is written as that text.
+pub fn writes_an_address(alloc: Global, host: &[u8; 4], buffer: &mut [u8], count: &mut usize) -> u32
+    requires { host.now ≡ 192 ∷ 0 ∷ 2 ∷ 17 ∷ [] }
+    ensures { result ≡ 0 → (count.new ≡ 14) × (take 14 buffer.new ≡ codes "192.0.2.17.8.1") }
+{
+    write_address(alloc, host, 2049, buffer, count)
 }

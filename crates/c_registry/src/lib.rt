@@ -5,26 +5,36 @@
 //!
 //! - `start`, `rows`, `answering`, `reply`: a registry begins and is freed, has rows set and removed, answers a record,
 //!   and hands out a reply that waits.
+//! - `listing`, `row`, `listed`: its rows are listed, each as C sees it, and what such a call answers.
+//! - `address`: universal addresses between texts and numbers.
 //! - `handle`, `state`, `hasher`: the registry that C keeps, what it holds, and how its rows are hashed. `transport`:
 //!   transports by their netids.
 //! - `answer`: answers, and how C sees them. `buffer`: bytes put into what C lends. `examples`: what the contracts
 //!   force on telling inputs.
 #![tactic(auto)]
 
+mod address;
 mod answer;
 mod answering;
 mod buffer;
 mod examples;
 mod handle;
 mod hasher;
+mod listed;
+mod listing;
 mod reply;
+mod row;
 mod rows;
 mod start;
 mod state;
 mod transport;
 
+pub use address::{read_address, write_address};
 pub use answering::answer_record;
 pub use handle::Registry;
+pub use listed::RowCounts;
+pub use listing::list_rows;
 pub use reply::take_reply;
+pub use row::RowParts;
 pub use rows::{set_row, unset_rows};
 pub use start::{free_registry, start_registry};

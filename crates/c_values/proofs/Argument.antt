@@ -78,3 +78,4 @@ argument_reported (Some d) has depth bytes input answer.BadLimits r e = absurd (
 argument_reported (Some d) has depth bytes input answer.NoMemory r e = absurd (omega (arith, e))
 argument_reported (Some d) has depth bytes input answer.NoDeclarations r e = absurd (omega (arith, e))
 argument_reported (Some d) has depth bytes input (answer.NoRoom n) r e = absurd (omega (arith, e))
+argument_reported (Some d) has depth bytes input (answer.BadItem f) r e = absurd (omega (arith, e))

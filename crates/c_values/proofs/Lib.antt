@@ -1,9 +1,13 @@
 mod Argument
+mod Encoded
 mod Judging
 mod Lacking
+mod Nothing
 mod Pair
 mod Parting
 mod Records
 mod Showing
 mod Slot
 mod Reported
+mod Telling
+mod Putting

@@ -24,6 +24,7 @@ whole_reported text name depth bytes input answer.BadLimits r e = absurd (omega 
 whole_reported text name depth bytes input answer.NoMemory r e = absurd (omega (arith, e))
 whole_reported text name depth bytes input answer.NoDeclarations r e = absurd (omega (arith, e))
 whole_reported text name depth bytes input (answer.NoRoom n) r e = absurd (omega (arith, e))
+whole_reported text name depth bytes input (answer.BadItem f) r e = absurd (omega (arith, e))
 
 pub memory_reported : (a : Answer) → 6 ≡ status_of a → outcome_of a ≡ only_at 0
 memory_reported (answer.Whole used) e = absurd (omega (arith, e))
@@ -35,6 +36,7 @@ memory_reported answer.BadLimits e = refl
 memory_reported answer.NoMemory e = refl
 memory_reported answer.NoDeclarations e = refl
 memory_reported (answer.NoRoom n) e = absurd (omega (arith, e))
+memory_reported (answer.BadItem f) e = absurd (omega (arith, e))
 
 -- a text that was read is held
 read_holds : (text : List ℕ) (held : Option Declared) (a : Answer) → IsReading text held a → 0 ≡ status_of a
@@ -48,6 +50,7 @@ read_holds text held answer.BadLimits r e = absurd r
 read_holds text held answer.NoMemory r e = absurd (omega (arith, e))
 read_holds text held answer.NoDeclarations r e = absurd r
 read_holds text held (answer.NoRoom n) r e = absurd r
+read_holds text held (answer.BadItem f) r e = absurd r
 
 held_answers : (d : Declared) (name : List ℕ) (depth bytes : ℕ) (input : List ℕ) (a : Answer)
     → IsRightByHeld (Some d) name depth bytes input a → 7 ≡ status_of a → ⊥
@@ -60,6 +63,7 @@ held_answers d name depth bytes input answer.BadLimits r e = omega (arith, e)
 held_answers d name depth bytes input answer.NoMemory r e = omega (arith, e)
 held_answers d name depth bytes input answer.NoDeclarations r e = r.judged
 held_answers d name depth bytes input (answer.NoRoom n) r e = omega (arith, e)
+held_answers d name depth bytes input (answer.BadItem f) r e = omega (arith, e)
 
 pub held_reported : (text : List ℕ) (held : Option Declared) (a : Answer) → IsReading text held a → 0 ≡ status_of a
     → (name : List ℕ) (depth bytes : ℕ) (input : List ℕ) (b : Answer) → IsRightByHeld held name depth bytes input b
@@ -80,6 +84,7 @@ buffer_reported limit input old new written answer.BadLimits r e = r.1
 buffer_reported limit input old new written answer.NoMemory r e = r
 buffer_reported limit input old new written answer.NoDeclarations r e = absurd r
 buffer_reported limit input old new written (answer.NoRoom n) r e = r.1
+buffer_reported limit input old new written (answer.BadItem f) r e = absurd r
 
 pub shown_reported : (held : Option Declared) (name : List ℕ) (depth bytes : ℕ) (input old new : List ℕ) (written : ℕ)
     (a : Answer) → IsShownByHeld held name depth bytes input old new written a → 8 ≡ status_of a
@@ -94,6 +99,7 @@ shown_reported (Some d) name depth bytes input old new written answer.BadLimits 
 shown_reported (Some d) name depth bytes input old new written answer.NoMemory r e = absurd (omega (arith, e))
 shown_reported (Some d) name depth bytes input old new written answer.NoDeclarations r e = absurd (omega (arith, e))
 shown_reported (Some d) name depth bytes input old new written (answer.NoRoom n) r e = r.shown.1
+shown_reported (Some d) name depth bytes input old new written (answer.BadItem f) r e = absurd (omega (arith, e))
 
 -- what status 8 says of a call for parts
 pub small_reported : (held : Option Declared) (name : List ℕ) (depth bytes : ℕ) (input : List ℕ) (old new : Buffers)

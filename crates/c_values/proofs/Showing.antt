@@ -37,7 +37,7 @@ same_lines q b used begins v n text o is =
     is ∙ ap (λ (x : Tree). show_text q.kinds q.place x) (same_value q b used begins v n o)
 
 -- any refusal but want of memory is of these bytes and no more
-nothing_follows : (why : Reason) → (why ≡ reason.NoMemory → ⊥) → MayFollow why []
+pub nothing_follows : (why : Reason) → (why ≡ reason.NoMemory → ⊥) → MayFollow why []
 nothing_follows reason.BadBool known = tt
 nothing_follows reason.BadNumbered known = tt
 nothing_follows reason.BadCase known = tt
@@ -68,6 +68,7 @@ module _ (q : Question) (b : List ℕ) where
   value_reported answer.NoMemory j e = absurd (false≢true e)
   value_reported answer.NoDeclarations j e = absurd j
   value_reported (answer.NoRoom n) j e = absurd j
+  value_reported (answer.BadItem f) j e = absurd j
 
   -- nothing is shown of bytes that begin with no value
   pub nothing_shown : (old new : List ℕ) (written : ℕ) (a : Answer) → IsJudged q b a → reports_value a ≡ false
@@ -81,6 +82,7 @@ module _ (q : Question) (b : List ℕ) where
   nothing_shown old new written answer.NoMemory j e k = k
   nothing_shown old new written answer.NoDeclarations j e k = absurd j
   nothing_shown old new written (answer.NoRoom n) j e k = absurd j
+  nothing_shown old new written (answer.BadItem f) j e k = absurd j
 
   module _ (lines : List ℕ)
       (reported : (used : ℕ) (begins : BeginsWithValue q b used) → lines ≡ show_text q.kinds q.place begins.value) where
@@ -98,6 +100,7 @@ module _ (q : Question) (b : List ℕ) where
     lines_shown old new written answer.NoMemory j e p = absurd (false≢true e)
     lines_shown old new written answer.NoDeclarations j e p = absurd j
     lines_shown old new written (answer.NoRoom n) j e p = absurd j
+    lines_shown old new written (answer.BadItem f) j e p = absurd j
 
     -- they do not go into it
     pub no_space : (old : List ℕ) (a : Answer) → IsJudged q b a → reports_value a ≡ true → length old < length lines
@@ -129,3 +132,4 @@ module _ (d : Declared) (name : List ℕ) (depth bytes : ℕ) (input old new : L
   shown_by answer.NoMemory h = by_name answer.NoMemory h
   shown_by answer.NoDeclarations h = absurd h
   shown_by (answer.NoRoom n) h = by_name (answer.NoRoom n) h
+  shown_by (answer.BadItem f) h = absurd h

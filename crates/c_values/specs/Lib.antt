@@ -1,6 +1,7 @@
 pub mod Answers
 pub mod Argument
 pub mod Held
+pub mod Items
 pub mod Normal
 pub mod Pair
 pub mod Parted
@@ -10,3 +11,4 @@ pub mod Buffer
 pub mod Shown
 pub mod Statuses
 pub mod Unread
+pub mod Written

@@ -3,6 +3,7 @@ use Rattle.std.specs.Prelude.{◌≡◌, ℕ, Bool, true, false}
 use Rattle.xdr_stream.specs.Reasons.{reason_number}
 use Rattle.c_values.specs.declared.answer.Answer.{Answer}
 use Rattle.c_values.specs.declared.answer.Answer.TheVariants as answer
+use Rattle.c_values.specs.Items.{why_number}
 use Rattle.c_answers.specs.Outcomes.{only_at}
 use Rattle.c_answers.specs.declared.outcome.Outcome.{Outcome}
 
@@ -16,6 +17,7 @@ status_of answer.BadLimits = 5
 status_of answer.NoMemory = 6
 status_of answer.NoDeclarations = 7
 status_of (answer.NoRoom needed) = 8
+status_of (answer.BadItem f) = 26
 
 -- each field is 0 where nothing is named
 abbrev pub outcome_of : Answer → Outcome
@@ -29,6 +31,7 @@ outcome_of answer.BadLimits = only_at 0
 outcome_of answer.NoMemory = only_at 0
 outcome_of answer.NoDeclarations = only_at 0
 outcome_of (answer.NoRoom needed) = only_at needed
+outcome_of (answer.BadItem f) = record { at = f.at; line = 0; column = 0; why = why_number f.why; inner = 0 }
 
 -- whether a value begins the bytes
 abbrev pub reports_value : Answer → Bool

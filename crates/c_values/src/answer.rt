@@ -2,6 +2,7 @@
 ghost use Rattle.std.specs.Prelude.{◌≡◌};
 ghost use Rattle.c_values.specs.Statuses.{status_of, outcome_of, reports_value};
 
+use super::item::ItemFault;
 use c_answers::Outcome;
 use xdr_codec::DecodeFault;
 use xdr_lang::LangFault;
@@ -27,6 +28,8 @@ pub enum Answer {
     NoDeclarations,
     /// The buffer has fewer bytes than this.
     NoRoom { needed: usize },
+    /// Items that are no value's.
+    BadItem(ItemFault),
 }
 
 impl Answer {
@@ -54,6 +57,7 @@ impl Answer {
             Answer::NoMemory => 6,
             Answer::NoDeclarations => 7,
             Answer::NoRoom { .. } => 8,
+            Answer::BadItem(_) => 26,
         }
     }
 
@@ -75,6 +79,10 @@ impl Answer {
                 ..Outcome::only_at(0)
             },
             Answer::NoRoom { needed } => Outcome::only_at(*needed),
+            Answer::BadItem(fault) => Outcome {
+                why: fault.why.number(),
+                ..Outcome::only_at(fault.at)
+            },
             _ => Outcome::only_at(0),
         }
     }

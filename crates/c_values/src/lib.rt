@@ -6,6 +6,7 @@
 //! - `check`, `declarations`: bytes checked by a text, or by declarations that were read. `unread`: a text is read.
 //! - `show`: the lines of a value. `parts`, `listing`, `part`, `listed`: its parts, how they are listed, how C sees a
 //!   part, and the answers. `normal`: records marked anew.
+//! - `write`: a value written by its items. `item`, `writing`: an item as C tells it, and the encoding of all.
 //! - `handle`, `state`: the declarations that C keeps, and what they hold. `asking`, `judge`: what is asked of bytes,
 //!   and what they come to. `answer`: answers, and how C sees them. `buffer`: bytes put into what C lends.
 //! - `examples`: what the contracts force on telling inputs.
@@ -18,6 +19,7 @@ mod check;
 mod declarations;
 mod examples;
 mod handle;
+mod item;
 mod judge;
 mod listed;
 mod listing;
@@ -28,12 +30,16 @@ mod room;
 mod show;
 mod state;
 mod unread;
+mod write;
+mod writing;
 
 pub use check::check_by_text;
 pub use declarations::{check_by_declarations, free_declarations, read_declarations};
 pub use handle::Handle;
+pub use item::ValueItem;
 pub use listed::PartsOutcome;
 pub use normal::normalise_records;
 pub use part::ValuePart;
 pub use parts::parts_by_declarations;
 pub use show::show_by_declarations;
+pub use write::write_by_declarations;

@@ -4,3 +4,4 @@ pub mod LentBytes
 pub mod LookUps
 pub mod Refusing
 pub mod Sound
+pub mod Putting

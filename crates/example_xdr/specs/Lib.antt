@@ -1,5 +1,6 @@
 pub mod Lent
 pub mod LookUps
+pub mod Pair
 pub mod Refusal
 pub mod Rfc
 pub mod Reported

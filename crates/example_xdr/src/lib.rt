@@ -4,7 +4,8 @@
 //! - `schemas`, `answers`, `limits`, `values`: what makes a schema, what it answers, limits, and values. `made`: what
 //!   these examples share.
 //! - `encoding`, `decoding`, `checking`, `pieces`: bytes of values, values of bytes, whole, unkept, and piece by piece.
-//!   `reasons`: the reason and the place of each refusal. `holding`: what a decoder and a checker hold.
+//!   `reasons`: the reason and the place of each refusal. `holding`: what a decoder and a checker hold. `writing`: the
+//!   items of a value.
 //! - `lending`, `lines`: parts, and what is shown. `units`, `stacks`, `devices`: numbers and padding, the stack of
 //!   nodes, sources and sinks.
 #![tactic(auto)]
@@ -26,3 +27,4 @@ pub mod schemas;
 pub mod stacks;
 pub mod units;
 pub mod values;
+pub mod writing;

@@ -18,11 +18,10 @@ mod question;
 mod records;
 mod target;
 mod task;
-#[cfg(test)]
-mod tests;
 mod unusable;
 
 pub use check::{answer_over, check_over, show_over};
+pub use hexadecimal::bytes_of_text;
 pub use open::{MemoryOpener, Opener};
 pub use question::Question;
 pub use records::{MOST_LIMIT, Marking, records_over};

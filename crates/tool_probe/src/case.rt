@@ -206,8 +206,8 @@ impl<'a> Case<'a> {
     }
 }
 
-// The bytes of hexadecimal digits.
-fn digits(alloc: Global, text: &str) -> Vec<u8> {
+/// The bytes of hexadecimal digits; none where they are no digits, or for want of memory.
+pub fn digits(alloc: Global, text: &str) -> Vec<u8> {
     match hex::decode(alloc, text) {
         Ok(bytes) => bytes,
         Err(_) => Vec::new(alloc),
@@ -242,8 +242,8 @@ fn behind_zeros(alloc: Global, zeros: usize, bytes: &[u8]) -> Vec<u8> {
     }
 }
 
-// Bytes with others behind them.
-fn joined(before: Vec<u8>, bytes: &[u8]) -> Vec<u8> {
+/// Bytes with others behind them.
+pub fn joined(before: Vec<u8>, bytes: &[u8]) -> Vec<u8> {
     let mut all = before;
     let _added = all.extend_from_slice(bytes);
     all

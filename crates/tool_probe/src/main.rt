@@ -7,18 +7,22 @@
 #![tactic(auto)]
 
 mod case;
+mod changed;
 mod datagrams;
 mod declared;
 mod directory;
+mod items;
 mod language;
 mod messages;
 mod printed;
 mod program;
+mod random;
 mod records;
 mod registry;
 mod reported;
 mod task;
 mod values;
+mod writer;
 
 use case::Case;
 use reported::Report;
@@ -39,6 +43,7 @@ fn call(out: &mut Report, rt: &HostRuntime, case: &Case<'_>) {
         "serve" | "answer" | "append_answer" | "exchange" | "dump" => registry::call(out, rt, case),
         "read_call" | "read_reply" | "read_auth_sys" => messages::call(out, rt, case),
         "tokens" | "read_outline" | "read" | "directory_schema" => language::call(out, rt, case),
+        "random_values" => random::call(out, case),
         _ => values::call(out, rt, case),
     }
 }

@@ -1,11 +1,12 @@
 //! Values of a kind of the text, within the limits: `decode`, `parts`, and `Decoder` and `Checker`, in pieces as read,
 //! over the input; `Decoder::feed`, both of them fed three pieces, cut at `first` and `second`, and `Decoder::held`,
 //! what they hold between these; `Decoder::finish`, both of them ended before they are fed anything; `encode`,
-//! `encode_to`, `show` and `Value::copy` of the value that begins the input. `void` is the kind without a value's
-//! bytes, which no text names.
+//! `encode_to`, `show` and `Value::copy` of the value that begins the input. `writer` has the calls of values that
+//! are written, and what comes next. `void` is the kind without a value's bytes, which no text names.
 use crate::case::{Case, allow, since};
 use crate::printed::{counted, progress, refusal};
 use crate::reported::Report;
+use crate::writer::{awaited, put_named, put_value};
 use std::env::Env;
 use test_growths::held;
 use xdr_codec::{
@@ -17,12 +18,12 @@ use xdr_lang::{Declared, read};
 use xdr_show::show;
 use xdr_types::{KindId, Limits, NoMemory, Schema, Value, fits};
 
-// What is asked for: a kind of a schema, within limits.
+/// What is asked for: a kind of a schema, within limits.
 #[derive(Clone, Copy)]
-struct Asked<'a> {
-    schema: &'a Schema,
-    kind: KindId,
-    limits: Limits,
+pub struct Asked<'a> {
+    pub schema: &'a Schema,
+    pub kind: KindId,
+    pub limits: Limits,
 }
 
 /// Reports the case.
@@ -66,6 +67,8 @@ fn over(out: &mut Report, rt: &impl Env, case: &Case<'_>, asked: &Asked<'_>, inp
         "Decoder::finish" => unfed(out, rt, case, asked),
         "Decoder::feed" => cut(out, case, asked, input),
         "Decoder::held" => retained(out, case, asked, input),
+        "Checker::due" => awaited(out, case, asked, input),
+        "Writer" => put_named(out, rt, case, asked),
         _ => of_bytes(out, rt, case, asked, input),
     }
 }
@@ -349,6 +352,7 @@ fn of_value(out: &mut Report, rt: &impl Env, case: &Case<'_>, asked: &Asked<'_>,
         "encode" => encoded(out, rt, case, asked, value),
         "show" => shown(out, rt, case, asked, value),
         "encode_to" => sent(out, rt, case, asked, value),
+        "Writer::put" => put_value(out, rt, case, asked, value),
         _ => copied(out, rt, case, value),
     }
 }

@@ -1,13 +1,14 @@
 -- The bytes of items, joined, are whole units.
 use Rattle.std.proofs.Common.{◌≡◌, ℕ, ◌+◌, ◌-◌, ◌%◌, ◌≤◌, List, [], ◌∷◌, ◌++◌, length, refl, ap, sym, ◌∙◌}
-use Rattle.std.proofs.Common.{pos, true, false, take, drop, arith, append-nil, append_assoc, length-append, length-drop}
+use Rattle.std.proofs.Common.{pos, true, false, drop, arith, append-nil, append_assoc, length-append}
 use Rattle.std.specs.Prelude.{⊤}
-use Rattle.std.proofs.lemmas.List.{length-replicate, take_all}
+use Rattle.std.proofs.lemmas.List.{length-replicate}
 use Rattle.xdr_types.specs.Kinds as xdr
 use Rattle.xdr_types.specs.Kinds.{KindView}
 use Rattle.xdr_units.specs.Numbers.{pad, padded, num4}
 use Rattle.xdr_writer.specs.Items.{ItemView, number, flag, count, content, NodeItem, spelled_as, spelled, all_spelled}
 use Rattle.xdr_writer.specs.Items.{items}
+use Rattle.xdr_writer.specs.Answers.{most_bytes}
 
 pub padded_length : (bs : List ℕ) → length (padded bs) ≡ length bs + (4 - length bs % 4) % 4
 padded_length bs =
@@ -27,6 +28,17 @@ as_units _ (number z) = refl
 as_units (xdr.opaque size) (content bs) = omega (arith, padded_length bs)
 as_units _ (content bs) = omega (arith, padded_length bs, length-append (num4 (pos (length bs))) (padded bs))
 
+-- the bytes of an item in a node of any kind
+pub most_spelled : (k : KindView) (i : ItemView) → length (spelled_as k i) ≤ most_bytes i
+most_spelled k (flag true) = omega arith
+most_spelled k (flag false) = omega arith
+most_spelled k (count n) = omega arith
+most_spelled xdr.hyper (number z) = omega arith
+most_spelled xdr.unsigned_hyper (number z) = omega arith
+most_spelled _ (number z) = omega arith
+most_spelled (xdr.opaque size) (content bs) = omega arith
+most_spelled _ (content bs) = omega (arith, length-append (num4 (pos (length bs))) (padded bs))
+
 pub spelled_units : (i : NodeItem) → length (spelled i) % 4 ≡ 0
 spelled_units i = as_units i.kind i.item
 
@@ -41,11 +53,6 @@ joined (x ∷ xs) ys = ap (λ (z : List ℕ). spelled x ++ z) (joined xs ys)
 
 pub spelled_more : (is : List NodeItem) (i : NodeItem) → all_spelled (is ++ i ∷ []) ≡ all_spelled is ++ spelled i
 spelled_more is i = joined is (i ∷ []) ∙ ap (λ (z : List ℕ). all_spelled is ++ z) (append-nil (spelled i))
-
--- a slice up to the end
-pub to_end : (d xs : List ℕ) (start : ℕ) → d ≡ xs → take (length d - start) (drop start d) ≡ drop start xs
-to_end d xs start same = take_all (length d - start) (drop start d) (omega (arith, length-drop start d))
-    ∙ ap (λ (z : List ℕ). drop start z) same
 
 -- each item has bytes
 abbrev pub AreSome : List NodeItem → Type 0

@@ -6,6 +6,10 @@ pub mod SameItem
 pub mod Begin
 pub mod Putting
 pub mod Settings
+pub mod Pieces
+pub mod Finding
 pub mod Becoming
-pub mod Taking
 pub mod Coding
+pub mod OneMore
+pub mod Refusing
+pub mod Taken

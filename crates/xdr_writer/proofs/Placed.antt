@@ -3,7 +3,9 @@ use Rattle.std.proofs.Common.{◌≡◌, ℕ, ℤ, pos, negsuc, ◌+◌, ◌≤�
 use Rattle.std.proofs.Common.{length, refl, ap, sym, ◌∙◌, subst, arith, length-append, append-nil}
 use Rattle.std.proofs.Common.{ltb-true, lt-ltb}
 use Rattle.std.specs.Prelude.{Contains, ⊤}
-use Rattle.std.proofs.lemmas.List.Elements.{Contains-append_left, Contains-append_right}
+use Rattle.std.specs.List.{AllByRecursion}
+use Rattle.std.proofs.lemmas.List.Elements.{All-contains, All-from_recursion, Contains-append_left}
+use Rattle.std.proofs.lemmas.List.Elements.{Contains-append_right}
 use Rattle.xdr_types.specs.Kinds as xdr
 use Rattle.xdr_types.specs.Kinds.{KindView, Part, kind_at}
 use Rattle.xdr_types.specs.Tree as value
@@ -13,7 +15,9 @@ use Rattle.xdr_types.specs.Spelling.{own, spelling, bytes_of}
 use Rattle.xdr_types.specs.Layout.{Entry, Role, entry, entries, layout, shown, shown_bytes, of_number, of_flag}
 use Rattle.xdr_types.specs.Layout.{of_length, of_content, content as content_at}
 use Rattle.xdr_types.proofs.Unique.{both as parted}
-use Rattle.xdr_laws.proofs.WholeUnits.{root_fits}
+use Rattle.xdr_laws.specs.Parts.{Join}
+use Rattle.xdr_laws.proofs.Parts.{join_low}
+use Rattle.xdr_laws.proofs.WholeUnits.{root_fits, value_join}
 use Rattle.xdr_laws.proofs.Legal.{legal_is}
 use Rattle.xdr_laws.proofs.GoesOn.{legal_known}
 use Rattle.xdr_units.specs.Numbers.{pad, number_of}
@@ -70,6 +74,20 @@ placed_behind s es place [] js h = subst (λ (n : ℕ). ArePlaced s es n js) (om
 placed_behind s es place (i ∷ is) js h =
     subst (λ (n : ℕ). ArePlaced s es n js) (omega (arith, length-append (spelled i) (all_spelled is)))
     (placed_behind s es (place + length (spelled i)) is js h.1)
+
+-- ---- no entry ends behind the value
+
+end_by : (a b : ℕ) (es : List Entry) → Join a es b → AllByRecursion (λ (e : Entry). e.at + e.size ≤ b) es
+end_by a b [] j = tt
+end_by a b (e ∷ es) j = (omega (arith, j.0, join_low (a + e.size) b es j.1), end_by (a + e.size) b es j.1)
+
+pub stands_within : (s : List KindView) (t : ℕ) (v : Tree) (e : Entry) → Fits s t v → Contains (entries s t v) e
+    → e.at + e.size ≤ length (bytes_of s t v)
+stands_within s t v e f has =
+    let end : ℕ = length (bytes_of s t v) in
+    All-contains (λ (x : Entry). x.at + x.size ≤ end) (entries s t v) e
+    (All-from_recursion (λ (x : Entry). x.at + x.size ≤ end) (entries s t v)
+    (end_by 0 end (entries s t v) (value_join s t v f))) has
 
 -- ---- ranges
 

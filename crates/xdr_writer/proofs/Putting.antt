@@ -1,8 +1,7 @@
 -- What is said of bytes, as what is said of items.
-use Rattle.std.proofs.Common.{◌≡◌, ℕ, pos, ◌%◌, ◌<◌, ◌≤◌, ◌^◌, List, [], ◌∷◌, ◌++◌, length, refl, ap, sym, ◌∙◌}
-use Rattle.std.proofs.Common.{subst, arith, inl, inr, length-append, append-nil, append_assoc}
-use Rattle.std.specs.Prelude.{Err}
-use Rattle.std.proofs.lemmas.List.{take_all}
+use Rattle.std.proofs.Common.{◌≡◌, ℕ, pos, ◌+◌, ◌-◌, ◌%◌, ◌<◌, ◌≤◌, ◌^◌, List, [], ◌∷◌, ◌++◌, length, refl, ap, sym}
+use Rattle.std.proofs.Common.{◌∙◌, subst, arith, inl, inr, length-append, append-nil, append_assoc}
+use Rattle.std.specs.Prelude.{Err, Contains}
 use Rattle.xdr_units.specs.Numbers.{num4, padded}
 use Rattle.xdr_types.specs.Kinds as xdr
 use Rattle.xdr_types.specs.Kinds.{KindView, kind_at}
@@ -10,28 +9,33 @@ use Rattle.xdr_types.specs.Tree.{Tree}
 use Rattle.xdr_types.specs.Fits.{Fits}
 use Rattle.xdr_types.specs.Spelling.{bytes_of}
 use Rattle.xdr_types.specs.Within.{Bounds}
-use Rattle.xdr_types.specs.Layout.{Entry}
+use Rattle.xdr_types.specs.Layout.{Entry, entries}
 use Rattle.xdr_types.specs.Outcome.{Outcome, Pending, HasNextUnit}
+use Rattle.xdr_codec.proofs.Outcomes.{pending_none}
+use Rattle.xdr_stream.specs.Represents as reported
 use Rattle.xdr_due.specs.Due.{IsDue, IsNothing}
 use Rattle.xdr_due.specs.declared.due.Due.{Due}
 use Rattle.xdr_due.specs.declared.due.Due.TheVariants as due
 use Rattle.xdr_writer.specs.Items.{ItemView, number, flag, count, content, NodeItem, of_node, spelled_as, spelled}
 use Rattle.xdr_writer.specs.Items.{all_spelled, items}
 use Rattle.xdr_writer.specs.ItemsOf.{node_items_of, items_of}
-use Rattle.xdr_writer.specs.Forms.{HasForm, IsInRange}
+use Rattle.xdr_writer.specs.Forms.{HasForm, IsInRange, IsNext}
 use Rattle.xdr_writer.specs.Represents.{Begin}
-use Rattle.xdr_writer.specs.Answers.{Takes, IsBegun, IsEncoding, IsWritten, Refuses, IsKnown, HasNoValue}
-use Rattle.xdr_writer.specs.Private.Bytes.{BegunBytes, TakesBytes, RefusesBytes, HasNone, HasNothingDue}
+use Rattle.xdr_writer.specs.Answers.{Takes, IsBegun, IsEncoding, IsWritten, Refuses, IsKnown, HasNoValue, HasNoWhole}
+use Rattle.xdr_writer.specs.Answers.{RefusesEnd}
+use Rattle.xdr_writer.specs.Private.Bytes.{RefusesBytes, SaysWithin}
+use Rattle.xdr_writer.specs.Private.After.{HasNothingDue}
 use Rattle.xdr_writer.specs.Private.Becomes.{Becomes, HasRange, IsPlace}
 use Rattle.xdr_writer.specs.declared.refusal.Why.{Why}
 use Rattle.xdr_writer.specs.declared.refusal.Why.TheVariants as why
-use Rattle.xdr_writer.specs.declared.writer.Step.{Step}
-use Rattle.xdr_writer.specs.declared.writer.Step.TheVariants as step
+use Rattle.xdr_writer.specs.declared.item.Step.{Step}
+use Rattle.xdr_writer.specs.declared.item.Step.TheVariants as step
 use Rattle.xdr_writer.proofs.Joined.{all_units, AreSome, some_behind, items_behind, padded_length}
 use Rattle.xdr_writer.proofs.ItemsOf.{some_of}
-use Rattle.xdr_writer.proofs.Placed.{IsAt, next_stands, bytes_behind}
+use Rattle.xdr_writer.proofs.Placed.{IsAt, next_stands, bytes_behind, stands_within}
 use Rattle.xdr_writer.proofs.Begin.{whole_items, here, none_left, not_none, first_or}
-use Rattle.xdr_writer.proofs.Outcomes.{none_due}
+use Rattle.xdr_writer.proofs.Outcomes.{BegunBytes, TakesBytes, HasNone, ended, past, fault_none, past_none}
+use Rattle.xdr_writer.proofs.Outcomes.{limit_none, whole_none}
 
 -- the content of an item that is written is no longer than its bytes
 content_low : (k : KindView) (bs : List ℕ) → length (spelled_as k (content bs)) ≤ 16777216 → length bs < 2 ^ 32
@@ -75,22 +79,15 @@ module _ (s : List KindView) (t : ℕ) (l : Bounds) (is : List NodeItem) (begin 
 
   -- ---- where nothing is due
 
-  pub undue_refuses : (i : ItemView) (w : Why) → HasNothingDue s t l (all_spelled is) w → Refuses s t l is i w
-  undue_refuses i (why.Refused f) h = inl h
-  undue_refuses i why.PastEnd h = inl h
-  undue_refuses i why.WrongItem h = absurd h
-  undue_refuses i why.NotInRange h = absurd h
-  undue_refuses i why.PastLimit h = absurd h
-  undue_refuses i why.Unfinished h = absurd h
-  undue_refuses i why.NoMemory h = absurd h
-
-  pub undue_none : (units : l.bytes % 4 ≡ 0) (i : ItemView) (w : Why) → HasNothingDue s t l (all_spelled is) w
-      → IsKnown w → HasNoValue s t l is i
-  undue_none units i w h known v more within e =
-      let n = value_next i v more within.0 e in
-      let bytes = next_bytes v n.0 n.1 within.0 n.2 in
-      none_due s t l units (all_spelled is) w h known v (spelled n.0 ++ all_spelled n.1) within
-      (omega (arith, bytes.1, length-append (spelled n.0) (all_spelled n.1))) bytes.0
+  module _ (units : l.bytes % 4 ≡ 0) where
+    pub undue_refuses : (i : ItemView) (w : Why) → HasNothingDue s t l (all_spelled is) w → Refuses s t l is i w
+    undue_refuses i (why.Refused f) h = (h.0, inl h.1)
+    undue_refuses i why.PastEnd h = inl (ended s t l units (all_spelled is) h)
+    undue_refuses i why.NoMemory h = tt
+    undue_refuses i why.WrongItem h = absurd h
+    undue_refuses i why.NotInRange h = absurd h
+    undue_refuses i why.PastLimit h = absurd h
+    undue_refuses i why.Unfinished h = absurd h
 
   -- ---- the part that is due
 
@@ -102,67 +99,109 @@ module _ (s : List KindView) (t : ℕ) (l : Bounds) (is : List NodeItem) (begin 
   due_entry (due.Low signed) h some = (h.0, h.1)
   due_entry due.Nothing h some = absurd (some tt)
 
-  place_of : Outcome s t l (all_spelled is) Pending → (v : Tree) → Fits s t v → (rest : List NodeItem)
-      → node_items_of s t v ≡ is ++ rest → (e : Entry) × IsPlace s t (all_spelled is) e
-  place_of o v f [] known =
-      let b : List ℕ = all_spelled is in
-      let whole : bytes_of s t v ≡ b = bytes_behind s t v is [] f known ∙ append-nil b in
-      absurd ((o (length b) (all_units is) (omega arith)).unfinished v
-      (record { fits = f; spelled = whole ∙ sym (take_all (length b) b (omega arith)) }))
-  place_of o v f (r ∷ rs) known =
+  place_of : (u : Entry) → HasNextUnit s t (all_spelled is) u → (v : Tree) → Fits s t v
+      → Contains (entries s t v) u → (rest : List NodeItem) → node_items_of s t v ≡ is ++ rest
+      → (e : Entry) × IsPlace s t (all_spelled is) e
+  place_of u next v f has [] known =
+      let whole : bytes_of s t v ≡ all_spelled is =
+      bytes_behind s t v is [] f known ∙ append-nil (all_spelled is) in
+      let count : length (bytes_of s t v) ≡ length (all_spelled is) = ap (λ (z : List ℕ). length z) whole in
+      absurd (omega (arith, count, stands_within s t v u f has, next.4))
+  place_of u next v f has (r ∷ rs) known =
       let g = next_stands s t v is r rs f known in
       (g.0, record { next = g.1; known = g.2.known; item = r.item; form = g.2.form })
 
   -- some item stands there
-  pub place : Outcome s t l (all_spelled is) Pending → (d : Due) → IsDue s t l (all_spelled is) d
-      → (IsNothing d → ⊥) → (e : Entry) × IsPlace s t (all_spelled is) e
-  place o d h some =
+  pub place : (d : Due) → IsDue s t l (all_spelled is) d → (IsNothing d → ⊥)
+      → (e : Entry) × IsPlace s t (all_spelled is) e
+  place d h some =
       let u = due_entry d h some in
       let k = begin.by_bytes u.1.0 u.1.1.1 u.1.1.0 u.1.1.2 in
-      place_of o u.1.0 u.1.1.0 k.0 k.1
+      place_of u.0 u.1 u.1.0 u.1.1.0 u.1.2 k.0 k.1
+
+  -- ---- no value goes on with an item that is refused
+
+  module _ (units : l.bytes % 4 ≡ 0) (i : ItemView) where
+    module _ (e : Entry) (next : IsNext s t (all_spelled is) e) where
+      wrong_none : (HasForm (kind_at s e.kind) e.role i → ⊥) → HasNoValue s t l is i
+      wrong_none other v more within same =
+          let n = value_next i v more within.0 same in
+          let at = here s t is e next v n.0 n.1 within.0 n.2 in
+          other (subst (λ (x : ItemView). HasForm (kind_at s e.kind) e.role x) n.3 at.form)
+
+      far_none : (IsInRange s (kind_at s e.kind) i → ⊥) → HasNoValue s t l is i
+      far_none other v more within same =
+          let n = value_next i v more within.0 same in
+          let at = here s t is e next v n.0 n.1 within.0 n.2 in
+          other (subst (λ (x : ItemView). IsInRange s (kind_at s e.kind) x) n.3 at.range)
+
+      bytes_none : HasNone s t l (all_spelled is ++ spelled_as (kind_at s e.kind) i) → HasNoValue s t l is i
+      bytes_none none v more within same =
+          let n = value_next i v more within.0 same in
+          let at = here s t is e next v n.0 n.1 within.0 n.2 in
+          let u : List ℕ = spelled_as (kind_at s e.kind) i in
+          let item : spelled n.0 ≡ u =
+          ap (λ (x : KindView). spelled_as x n.0.item) at.kind
+          ∙ ap (λ (x : ItemView). spelled_as (kind_at s e.kind) x) n.3 in
+          none v (all_spelled n.1) within
+          ((next_bytes v n.0 n.1 within.0 n.2).0
+          ∙ ap (λ (z : List ℕ). all_spelled is ++ (z ++ all_spelled n.1)) item
+          ∙ sym (append_assoc (all_spelled is) u (all_spelled n.1)))
+
+    -- where the bytes before it are refused, or are a value's
+    before_none : HasNone s t l (all_spelled is) → HasNoValue s t l is i
+    before_none none v more within same =
+        let n = value_next i v more within.0 same in
+        none v (spelled n.0 ++ all_spelled n.1) within (next_bytes v n.0 n.1 within.0 n.2).0
+
+    behind_none : IsEncoding s t l (all_spelled is) → HasNoValue s t l is i
+    behind_none w v more within same =
+        let n = value_next i v more within.0 same in
+        let bytes = next_bytes v n.0 n.1 within.0 n.2 in
+        whole_none s t l units (all_spelled is) w v (spelled n.0 ++ all_spelled n.1) within
+        (omega (arith, bytes.1, length-append (spelled n.0) (all_spelled n.1))) bytes.0
+
+    pub refused_none : (w : Why) → Refuses s t l is i w → IsKnown w → HasNoValue s t l is i
+    refused_none why.WrongItem h known = wrong_none h.0 h.1 h.2
+    refused_none why.NotInRange h known = far_none h.0 h.1 h.3
+    refused_none (why.Refused f) h known = elim h.1 [
+      | inl before ↦ before_none (fault_none s t l units f (all_spelled is) h.0 before)
+      | inr there ↦ bytes_none there.0 there.1
+          (fault_none s t l units f (all_spelled is ++ spelled_as (kind_at s there.0.kind) i) h.0 there.2)
+    ]
+    refused_none why.PastEnd h known = elim h [
+      | inl before ↦ behind_none before
+      | inr there ↦ bytes_none there.0 there.1
+          (past_none s t l units (all_spelled is) (spelled_as (kind_at s there.0.kind) i) there.2.0 there.2.1
+          there.2.2)
+    ]
+    refused_none why.PastLimit h known = bytes_none h.0 h.1
+        (limit_none s t l units (all_spelled is ++ spelled_as (kind_at s h.0.kind) i) h.2)
+    refused_none why.Unfinished h known = absurd h
+    refused_none why.NoMemory h known = absurd known
 
   -- ---- at that part
 
   module _ (e : Entry) (p : IsPlace s t (all_spelled is) e) (i : ItemView) where
-    wrong_none : (HasForm (kind_at s e.kind) e.role i → ⊥) → HasNoValue s t l is i
-    wrong_none other v more within same =
-        let n = value_next i v more within.0 same in
-        let at = here s t is e p.next v n.0 n.1 within.0 n.2 in
-        other (subst (λ (x : ItemView). HasForm (kind_at s e.kind) e.role x) n.3 at.form)
-
-    far_none : (IsInRange s (kind_at s e.kind) i → ⊥) → HasNoValue s t l is i
-    far_none other v more within same =
-        let n = value_next i v more within.0 same in
-        let at = here s t is e p.next v n.0 n.1 within.0 n.2 in
-        other (subst (λ (x : ItemView). IsInRange s (kind_at s e.kind) x) n.3 at.range)
-
-    pub bytes_none : (u : List ℕ) → u ≡ spelled_as (kind_at s e.kind) i → HasNone s t l (all_spelled is ++ u)
-        → HasNoValue s t l is i
-    bytes_none u known none v more within same =
-        let n = value_next i v more within.0 same in
-        let at = here s t is e p.next v n.0 n.1 within.0 n.2 in
-        let item : spelled n.0 ≡ u =
-        ap (λ (x : KindView). spelled_as x n.0.item) at.kind
-        ∙ ap (λ (x : ItemView). spelled_as (kind_at s e.kind) x) n.3 ∙ sym known in
-        none v (all_spelled n.1) within
-        ((next_bytes v n.0 n.1 within.0 n.2).0
-        ∙ ap (λ (z : List ℕ). all_spelled is ++ (z ++ all_spelled n.1)) item
-        ∙ sym (append_assoc (all_spelled is) u (all_spelled n.1)))
-
-    refuse : (w : Why) → RefusesBytes s t l (all_spelled is) (spelled_as (kind_at s e.kind) i) w
-        → Refuses s t l is i w
-    refuse (why.Refused f) h = inr (e, p.next, h)
-    refuse why.PastEnd h = inr (e, p.next, h)
-    refuse why.PastLimit h = (e, p.next, h)
-    refuse why.NoMemory h = tt
-    refuse why.WrongItem h = absurd h
-    refuse why.NotInRange h = absurd h
-    refuse why.Unfinished h = absurd h
-
-    pub bytes_refuse : (u : List ℕ) (w : Why) → u ≡ spelled_as (kind_at s e.kind) i
-        → RefusesBytes s t l (all_spelled is) u w → Refuses s t l is i w
-    bytes_refuse u w known h =
-        refuse w (subst (λ (z : List ℕ). RefusesBytes s t l (all_spelled is) z w) known h)
+    module _ (units : l.bytes % 4 ≡ 0) (space : ℕ) (room : space ≡ l.bytes - length (all_spelled is)) where
+      pub within_refuse : (w : Why) → 4 ≤ length (spelled_as (kind_at s e.kind) i)
+          → SaysWithin s t l space (all_spelled is) (spelled_as (kind_at s e.kind) i) (Err w) → Refuses s t l is i w
+      within_refuse (why.Refused f) some h = (h.0, inr (e, p.next, h.1))
+      within_refuse why.PastEnd some h =
+          inr (
+            e,
+            p.next,
+            (h.0, h.1, past s t l units (all_spelled is) (spelled_as (kind_at s e.kind) i) h.0 h.2 h.3),
+          )
+      within_refuse why.PastLimit some h = (
+        e,
+        p.next,
+        omega (arith, h, room, length-append (all_spelled is) (spelled_as (kind_at s e.kind) i)),
+      )
+      within_refuse why.WrongItem some h = absurd (omega (arith, some, h))
+      within_refuse why.NoMemory some h = tt
+      within_refuse why.NotInRange some h = absurd h
+      within_refuse why.Unfinished some h = absurd h
 
     pub coded_refuse : (w : Why) → Becomes s (kind_at s e.kind) e.role i (Err w) → Refuses s t l is i w
     coded_refuse why.WrongItem h = (e, p.next, h)
@@ -172,15 +211,6 @@ module _ (s : List KindView) (t : ℕ) (l : Bounds) (is : List NodeItem) (begin 
     coded_refuse why.PastLimit h = absurd h
     coded_refuse why.Unfinished h = absurd h
     coded_refuse why.NoMemory h = absurd h
-
-    pub coded_none : (w : Why) → Becomes s (kind_at s e.kind) e.role i (Err w) → HasNoValue s t l is i
-    coded_none why.WrongItem h = wrong_none h
-    coded_none why.NotInRange h = far_none h.1
-    coded_none (why.Refused f) h = absurd h
-    coded_none why.PastEnd h = absurd h
-    coded_none why.PastLimit h = absurd h
-    coded_none why.Unfinished h = absurd h
-    coded_none why.NoMemory h = absurd h
 
     pub stands_at : HasForm (kind_at s e.kind) e.role i → IsInRange s (kind_at s e.kind) i
         → IsAt s e (of_node (kind_at s e.kind) i)
@@ -222,3 +252,18 @@ module _ (s : List KindView) (t : ℕ) (l : Bounds) (is : List NodeItem) (begin 
   pub takes_items : (x : Step) → TakesBytes s t l (all_spelled is) x → Takes s t l is x
   takes_items step.More g = begun_items g
   takes_items step.Done w = written_items w
+
+  -- ---- the end
+
+  pub end_none : (units : l.bytes % 4 ≡ 0) (w : Why) → RefusesEnd s t l is w → HasNoWhole s t l is
+  end_none units why.Unfinished h v within e =
+      pending_none s t l units (all_spelled is) h v [] within
+      (append-nil (bytes_of s t v) ∙ whole_by_items v within.0 e)
+  end_none units (why.Refused f) h v within e =
+      fault_none s t l units f (all_spelled is) h.0 h.1 v [] within
+      (whole_by_items v within.0 e ∙ sym (append-nil (all_spelled is)))
+  end_none units why.WrongItem h v within e = absurd h
+  end_none units why.NotInRange h v within e = absurd h
+  end_none units why.PastEnd h v within e = absurd h
+  end_none units why.PastLimit h v within e = absurd h
+  end_none units why.NoMemory h v within e = absurd h

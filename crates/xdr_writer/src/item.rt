@@ -1,4 +1,4 @@
-//! The items of a value, which are put one after another.
+//! The items of a value, which are put one after another, and what each brings.
 
 /// An item of a value (RFC 4506 section 4): what stands in the bytes of a part, in the order of the layout. Structures,
 /// arrays of fixed size and voids have no bytes of their own, and so no item; nor has the length of content.
@@ -13,4 +13,13 @@ pub enum Item<'a> {
     /// The bytes of an opaque or a string, without a length and without the zeros after them (sections 4.9 to 4.11).
     /// An opaque of fixed size has all of them in one item.
     Content(&'a [u8]),
+}
+
+/// What an item has brought.
+#[derive(Clone, Copy, Debug, PartialEq, Eq)]
+pub enum Step {
+    /// The value is not whole yet.
+    More,
+    /// The value is whole.
+    Done,
 }

@@ -1,7 +1,7 @@
 //! Laws of items, each the contract of a function that does nothing.
 ghost use Rattle.std.specs.Prelude.{List};
 ghost use Rattle.xdr_types.specs.Kinds.{KindView};
-ghost use Rattle.xdr_writer.specs.Laws.{ItemsJoin, ItemsTellValue};
+ghost use Rattle.xdr_writer.specs.Laws.{ItemsJoin, ItemsTellValue, ItemsAreTaken};
 
 /// The bytes of a value's items, joined, are its encoding (RFC 4506 section 4).
 pub fn items_join()
@@ -11,4 +11,11 @@ pub fn items_join()
 /// Values and their items are one to one: two values of a kind with the same items are one.
 pub fn items_tell_value()
     ensures { (kinds : List KindView) → ItemsTellValue kinds }
+{}
+
+/// Each value within the limits is written by its items, put one after another: none is refused but for want of memory,
+/// each but the last brings `More` and the last `Done`. Where none is left `finish` gives the count; a value without
+/// items, a void, has it at once.
+pub fn items_are_taken()
+    ensures { (kinds : List KindView) → ItemsAreTaken kinds }
 {}

@@ -1,6 +1,8 @@
 //! Why an item is refused.
+ghost use Rattle.xdr_writer.specs.Private.Judged.{IsWhy, IsEnd};
+
 use thiserror::Error;
-use xdr_codec::DecodeFault;
+use xdr_codec::{DecodeFault, Reason};
 
 /// Why no value goes on with an item.
 #[derive(Clone, Copy, Debug, PartialEq, Eq, Error)]
@@ -13,7 +15,7 @@ pub enum Why {
     #[error("out of range")]
     NotInRange,
     /// Decoding refuses the item's bytes for this reason, at the count of bytes before the unit or the node that it is
-    /// about (sections 3 and 4).
+    /// about (sections 3 and 4). It is never that memory was refused.
     #[error("{0}")]
     Refused(DecodeFault),
     /// The value is whole already.
@@ -25,7 +27,7 @@ pub enum Why {
     /// The value is not whole, and no item is left. `finish` alone answers it.
     #[error("not whole")]
     Unfinished,
-    /// Memory was refused.
+    /// Memory was refused, for a frame or for the bytes written.
     #[error("out of memory")]
     NoMemory,
 }
@@ -36,4 +38,24 @@ pub enum Why {
 pub struct WriteRefusal {
     pub why: Why,
     pub item: usize,
+}
+
+/// Why an item is refused whose bytes the checker refuses.
+pub(crate) fn why_of(fault: DecodeFault) -> Why
+    ensures { IsWhy fault result }
+{
+    match fault.why {
+        Reason::NoMemory => Why::NoMemory,
+        _ => Why::Refused(fault),
+    }
+}
+
+/// Why the end is refused where the checker refuses it.
+pub(crate) fn end_of(fault: DecodeFault) -> Why
+    ensures { IsEnd fault result }
+{
+    match fault.why {
+        Reason::Truncated => Why::Unfinished,
+        _ => why_of(fault),
+    }
 }

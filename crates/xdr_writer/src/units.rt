@@ -1,11 +1,11 @@
 //! Items whose form is known, and their bytes.
-ghost use Rattle.std.specs.Prelude.{◌≡◌, ◌≤◌, ◌<◌, ◌+◌, ◌-◌, ◌%◌, ◌++◌, ◌^◌, length, MatchOption, OnOk, pos};
-ghost use Rattle.std.specs.Io.{StartsWith};
-ghost use Rattle.xdr_units.specs.Numbers.{num4, num8, padded};
-ghost use Rattle.xdr_writer.specs.Private.Bytes.{coded_bytes};
+ghost use Rattle.std.specs.Prelude.{◌≡◌, ◌≤◌, ◌<◌, ◌+◌, ◌-◌, ◌%◌, ◌++◌, length, MatchOption, OnOk, OnErr, IsOk, pos};
+ghost use Rattle.std.specs.Prelude.{vec_len, vec_capacity};
+ghost use Rattle.xdr_units.specs.Numbers.{num4, num8, pad};
+ghost use Rattle.xdr_writer.specs.Private.Bytes.{coded_bytes, head_bytes, pieces_bytes};
 
 use byteorder::{BigEndian, ByteOrder};
-use xdr_units::{NoMemory, push_padded, push_word};
+use xdr_units::NoMemory;
 
 /// An item by the bytes that it has (RFC 4506 sections 3 and 4).
 #[derive(Clone, Copy, Drop)]
@@ -61,61 +61,121 @@ pub(crate) fn size_within(coded: Coded, space: usize) -> Option<usize>
     }
 }
 
-// Writes the number's four bytes.
-fn push_signed(out: &mut Vec<u8>, number: i32) -> Result<(), NoMemory>
-    ensures ok { OnOk result (out.new.items ≡ out.old.items ++ num4 number) }
-    ensures begins { StartsWith out.new.items out.old.items }
+/// What stands before the content in an item's bytes: nothing, a unit, or the two units of a hyper integer.
+#[derive(Drop)]
+pub(crate) enum Head {
+    Nothing,
+    Unit([u8; 4]),
+    Wide([u8; 8]),
+}
+
+impl Head {
+    /// Its bytes.
+    pub(crate) fn bytes(&self) -> &[u8]
+        ensures { result.now ≡ head_bytes self.now }
+    {
+        match self {
+            Head::Nothing => &[],
+            Head::Unit(bytes) => &bytes[..],
+            Head::Wide(bytes) => &bytes[..],
+        }
+    }
+}
+
+/// An item's bytes in pieces: its head and its content. Behind the content stand the zeros that fill its last unit.
+#[derive(Drop)]
+pub(crate) struct Pieces<'a> {
+    pub(crate) head: Head,
+    pub(crate) content: &'a [u8],
+}
+
+// The zeros behind content, at most (RFC 4506 section 3).
+const ZEROS: &[u8] = &[0; 3];
+
+/// The zeros behind so many bytes of content (RFC 4506 section 3).
+pub(crate) fn zeros_behind(count: usize) -> &'static [u8]
+    ensures { result.now ≡ pad count }
+{
+    &ZEROS[..(4 - count % 4) % 4]
+}
+
+// The number's four bytes.
+fn signed(number: i32) -> Head
+    ensures { head_bytes result ≡ num4 number }
 {
     let mut bytes = [0; 4];
     BigEndian::write_i32(&mut bytes, number);
-    out.extend_from_slice(&bytes)?;
-    Ok(())
+    Head::Unit(bytes)
 }
 
-// Writes the number's eight bytes.
-fn push_hyper(out: &mut Vec<u8>, number: i64) -> Result<(), NoMemory>
-    ensures ok { OnOk result (out.new.items ≡ out.old.items ++ num8 number) }
-    ensures begins { StartsWith out.new.items out.old.items }
+// The number's four bytes.
+fn unsigned(number: u32) -> Head
+    ensures { head_bytes result ≡ num4 (pos number) }
+{
+    let mut bytes = [0; 4];
+    BigEndian::write_u32(&mut bytes, number);
+    Head::Unit(bytes)
+}
+
+// The number's eight bytes.
+fn hyper(number: i64) -> Head
+    ensures { head_bytes result ≡ num8 number }
 {
     let mut bytes = [0; 8];
     BigEndian::write_i64(&mut bytes, number);
-    out.extend_from_slice(&bytes)?;
-    Ok(())
+    Head::Wide(bytes)
 }
 
-// Writes the number's eight bytes.
-fn push_unsigned_hyper(out: &mut Vec<u8>, number: u64) -> Result<(), NoMemory>
-    ensures ok { OnOk result (out.new.items ≡ out.old.items ++ num8 (pos number)) }
-    ensures begins { StartsWith out.new.items out.old.items }
+// The number's eight bytes.
+fn unsigned_hyper(number: u64) -> Head
+    ensures { head_bytes result ≡ num8 (pos number) }
 {
     let mut bytes = [0; 8];
     BigEndian::write_u64(&mut bytes, number);
-    out.extend_from_slice(&bytes)?;
-    Ok(())
+    Head::Wide(bytes)
 }
 
-// Writes the bytes with their length before them and their padding.
-fn push_counted(out: &mut Vec<u8>, bytes: &[u8]) -> Result<(), NoMemory>
-    requires { length bytes.now < 2 ^ 32 }
-    ensures ok { OnOk result (out.new.items ≡ out.old.items ++ (num4 (pos (length bytes.now)) ++ padded bytes.now)) }
-    ensures begins { StartsWith out.new.items out.old.items }
+// A head without content.
+fn alone<'a>(head: Head) -> Pieces<'a>
+    ensures { pieces_bytes result ≡ head_bytes head }
 {
-    push_word(out, bytes.len() as u32)?;
-    push_padded(out, bytes)
+    Pieces { head, content: &[] }
 }
 
-/// Writes an item's bytes. Where memory is refused some of them may stand behind what stood there.
-pub(crate) fn push_coded(out: &mut Vec<u8>, coded: Coded) -> Result<(), NoMemory>
+/// An item's bytes in pieces.
+pub(crate) fn pieces_of<'a>(coded: Coded<'a>) -> Pieces<'a>
     requires { length (coded_bytes coded) ≤ 16777216 }
-    ensures ok { OnOk result (out.new.items ≡ out.old.items ++ coded_bytes coded.entry) }
-    ensures begins { StartsWith out.new.items out.old.items }
+    ensures { pieces_bytes result ≡ coded_bytes coded.entry }
 {
     match coded {
-        Coded::Signed(n) => push_signed(out, n),
-        Coded::Unsigned(n) => push_word(out, n),
-        Coded::Hyper(n) => push_hyper(out, n),
-        Coded::UnsignedHyper(n) => push_unsigned_hyper(out, n),
-        Coded::Fixed(bytes) => push_padded(out, bytes),
-        Coded::Counted(bytes) => push_counted(out, bytes),
+        Coded::Signed(number) => alone(signed(number)),
+        Coded::Unsigned(number) => alone(unsigned(number)),
+        Coded::Hyper(number) => alone(hyper(number)),
+        Coded::UnsignedHyper(number) => alone(unsigned_hyper(number)),
+        Coded::Fixed(content) => Pieces {
+            head: Head::Nothing,
+            content,
+        },
+        Coded::Counted(content) => Pieces {
+            head: unsigned(content.len() as u32),
+            content,
+        },
     }
+}
+
+/// Writes an item's bytes, all of them or none.
+pub(crate) fn push_pieces(out: &mut Vec<u8>, pieces: &Pieces<'_>) -> Result<(), NoMemory>
+    requires { length (pieces_bytes pieces.now) ≤ 16777216 }
+    ensures ok { OnOk result (out.new.items ≡ out.old.items ++ pieces_bytes pieces.now) }
+    ensures retained { OnErr result (out.new.items ≡ out.old.items) }
+    // Memory is wanted only where they do not go into the capacity.
+    ensures granted { length out.old.items + length (pieces_bytes pieces.now) ≤ vec_capacity out.old → IsOk result }
+{
+    let head = pieces.head.bytes();
+    let zeros = zeros_behind(pieces.content.len());
+    out.reserve(head.len() + pieces.content.len() + zeros.len())?;
+    out.extend_from_slice(head)?;
+    out.extend_from_slice(pieces.content)?;
+    out.extend_from_slice(zeros)?;
+    Ok(())
 }

@@ -1,11 +1,12 @@
-use Rattle.std.proofs.Common.{ℕ, List, length, subst}
+use Rattle.std.proofs.Common.{ℕ, List, length, subst, refl}
 use Rattle.xdr_types.specs.Tree.{Tree}
 use Rattle.xdr_types.specs.Within.{Bounds}
-use Rattle.xdr_types.specs.Outcome.{Outcome, Whole, Pending}
+use Rattle.xdr_types.specs.Outcome.{Outcome, Whole}
 use Rattle.xdr_writer.specs.Items.{all_spelled}
 use Rattle.xdr_writer.specs.Represents.{kinds_of, kind_of}
-use Rattle.xdr_writer.proofs.Outcomes.{ended, unfinished}
+use Rattle.xdr_writer.proofs.Outcomes.{ended}
 use Rattle.xdr_writer.proofs.Putting.{written_items}
+use Rattle.xdr_writer.proofs.Refusing.{rejects_end}
 use Rattle.xdr_writer.proofs.writer.Writer.finish.Goals as goal
 
 pub returns-in-Ok-clause-whole : goal.returns-in-Ok-clause-whole
@@ -20,11 +21,7 @@ returns-in-Ok-clause-whole c = λ is st.
       o.1,
     )
 
-pub returns-in-Truncated-clause-unfinished : goal.returns-in-Truncated-clause-unfinished
-returns-in-Truncated-clause-unfinished c = λ is st why all.
-    let w = c.args.self in
-    let b : List ℕ = all_spelled is in
-    let o = c.in-Err.ensures.outcome b st.bytes in
-    unfinished (kinds_of w) (kind_of w) w.limits c.depth-in_range.ensures.range.units b
-    (subst (λ (l : Bounds). Outcome (kinds_of w) (kind_of w) l b Pending) w.limits_are (o.0 c.in-Truncated.is).0)
-    (all.0, all.1, all.3)
+pub returns-in-Err-clause-refuses : goal.returns-in-Err-clause-refuses
+returns-in-Err-clause-refuses c =
+    rejects_end c.args.self c.depth-in_range.ensures.range.units c.in-Err.fault c.in-Err.ensures.outcome
+    c.in-Err.ensures.granted _ c.end_of.ensures refl

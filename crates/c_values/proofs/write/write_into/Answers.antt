@@ -1,0 +1,13 @@
+-- The encoding goes into the buffer, or does not.
+use Rattle.std.proofs.Common.{refl}
+use Rattle.c_values.specs.Answers.{Question}
+use Rattle.c_values.specs.Items.{given}
+use Rattle.c_values.proofs.Encoded.{unwritten}
+use Rattle.c_values.proofs.write.write_into.Goals as goal
+
+pub returns-in-Err : goal.returns-in-Err
+returns-in-Err c =
+    let q : Question =
+    record { kinds = c.args.schema.now.kinds; place = c.args.kind.place; limits = c.args.limits } in
+    unwritten q (given c.args.items.now c.args.content.now) c.args.buffer.now c.args.buffer.now 0 c.in-Err.answer
+    c.in-Err.ensures.unwritten (refl, refl)

@@ -1,0 +1,137 @@
+-- What is due, and what writing an item leaves.
+use Rattle.std.proofs.Common.{◌≡◌, ℕ, ◌+◌, ◌%◌, ◌<◌, ◌≤◌, List, [], ◌++◌, length, refl, ap, ◌∙◌, subst, arith}
+use Rattle.std.proofs.Common.{append-nil, length-append}
+use Rattle.std.specs.Prelude.{Result, Ok, Err, MatchResult}
+use Rattle.xdr_types.specs.Kinds.{KindView}
+use Rattle.xdr_types.specs.Tree.{Tree}
+use Rattle.xdr_types.specs.Within.{Bounds}
+use Rattle.xdr_types.specs.Outcome.{Outcome, Whole}
+use Rattle.xdr_stream.specs.Represents as reported
+use Rattle.xdr_due.specs.Due.{IsDue, IsNothing}
+use Rattle.xdr_due.specs.declared.due.Due.{Due}
+use Rattle.xdr_due.specs.declared.due.Due.TheVariants as due
+use Rattle.xdr_codec.specs.Checks as checks
+use Rattle.xdr_codec.specs.declared.checker.Checker.{Checker}
+use Rattle.xdr_writer.specs.Private.Bytes.{RefusesBytes}
+use Rattle.xdr_writer.specs.Private.Judged.{IsJudged, IsJudgedWithin, Judges, Kept, IsSound}
+use Rattle.xdr_writer.specs.Private.After.{HasNothingDue, FindsDue}
+use Rattle.xdr_writer.specs.declared.refusal.Why.{Why}
+use Rattle.xdr_writer.specs.declared.refusal.Why.TheVariants as why
+use Rattle.xdr_writer.specs.declared.item.Step.{Step}
+use Rattle.xdr_writer.specs.declared.item.Step.TheVariants as step
+use Rattle.xdr_writer.proofs.Settings.{back, same_then}
+
+pub same_self : (c : Checker) → checks.IsSame c c
+same_self c = record { schema_is = refl; kind_is = refl; limits_are = refl }
+
+-- ---- what is due
+
+pub some_due : (d : Due) → (d ≡ due.Nothing → ⊥) → IsNothing d → ⊥
+some_due (due.Unit k) other h = h
+some_due (due.Content n) other h = h
+some_due (due.Hyper signed) other h = h
+some_due (due.Low signed) other h = h
+some_due due.Nothing other h = other refl
+
+pub found : (c : Checker) (d : Due) → ((b : List ℕ) → checks.RepresentsBytes c b → checks.HasDue c b d)
+    → (IsNothing d → ⊥) → FindsDue c c (Ok d)
+found c d here some = record {
+  says = λ b st units. (here b st, some);
+  represents = λ b st. st;
+  same = same_self c;
+  sound = λ g. g;
+}
+
+undue : (s : List KindView) (t : ℕ) (l : Bounds) (b : List ℕ) (w : Why) → RefusesBytes s t l b [] w
+    → HasNothingDue s t l b w
+undue s t l b (why.Refused f) h =
+    (h.0, subst (λ (z : List ℕ). reported.Fails s t l f z) (append-nil b) h.1)
+undue s t l b why.PastEnd h = absurd (omega (arith, h.1))
+undue s t l b why.NoMemory h = tt
+undue s t l b why.WrongItem h = absurd h
+undue s t l b why.NotInRange h = absurd h
+undue s t l b why.PastLimit h = absurd h
+undue s t l b why.Unfinished h = absurd h
+
+module _ (c d : Checker) where
+  given : (b : List ℕ) → checks.RepresentsBytes d (b ++ []) → checks.RepresentsBytes d b
+  given b st = subst (λ (z : List ℕ). checks.RepresentsBytes d z) (append-nil b) st
+
+  pub first_more : (x : Due) → Judges c d [] (Ok step.More)
+      → ((b : List ℕ) → checks.RepresentsBytes d b → checks.HasDue d b x)
+      → ((b : List ℕ) → checks.RepresentsBytes d b → checks.IsWaiting d → length b % 4 ≡ 0 → IsNothing x → ⊥)
+      → FindsDue c d (Ok x)
+  first_more x h here some = record {
+    says = λ b st units. (
+      back (λ (s : List KindView) (t : ℕ) (l : Bounds). IsDue s t l b x) c d h.same
+          (here b (given b (h.judged b st).represents)),
+      some b (given b (h.judged b st).represents) (h.waits refl) units,
+    );
+    represents = λ b st. given b (h.judged b st).represents;
+    same = h.same;
+    sound = h.sound;
+  }
+
+  pub first_done : Judges c d [] (Ok step.Done) → FindsDue c d (Err why.PastEnd)
+  first_done h = record {
+    says = λ b st units.
+        subst (λ (z : List ℕ). (v : Tree) × Outcome (checks.kinds_of c) (checks.kind_of c).place (checks.limits_of c) z
+        (Whole v (length z))) (append-nil b) (h.judged b st).says;
+    represents = λ b st. tt;
+    same = h.same;
+    sound = λ g. tt;
+  }
+
+  pub first_refused : (w : Why) → Judges c d [] (Err w) → FindsDue c d (Err w)
+  first_refused w h = record {
+    says = λ b st units.
+        undue (checks.kinds_of c) (checks.kind_of c).place (checks.limits_of c) b w (h.judged b st).says;
+    represents = λ b st. tt;
+    same = h.same;
+    sound = λ g. tt;
+  }
+
+-- ---- what writing leaves
+
+module _ (c d : Checker) (u : List ℕ) where
+  -- where the bytes were judged and not written
+  pub unwritten : (s : Step) → Judges c d u (Ok s) → Judges c d u (Err why.NoMemory)
+  unwritten s h = record {
+    judged = λ b st. record { represents = tt; says = tt };
+    same = h.same;
+    sound = λ g. tt;
+    waits = λ e. absurd (cc e);
+  }
+
+  pub within : (space : ℕ) (b : List ℕ) (r : Result Step Why) → IsJudged c d b u r → IsJudgedWithin c d space b u r
+  within space b (Ok s) h = record { represents = h.represents; says = h.says }
+  within space b (Err (why.Refused f)) h = record { represents = tt; says = h.says }
+  within space b (Err why.PastEnd) h = record { represents = tt; says = h.says }
+  within space b (Err why.NoMemory) h = record { represents = tt; says = tt }
+  within space b (Err why.WrongItem) h = absurd h.says
+  within space b (Err why.NotInRange) h = absurd h.says
+  within space b (Err why.PastLimit) h = absurd h.says
+  within space b (Err why.Unfinished) h = absurd h.says
+
+  pub kept_by : (space : ℕ) (before after : List ℕ) (r : Result Step Why) → Judges c d u r
+      → MatchResult r (λ (s : Step). after ≡ before ++ u) (λ (w : Why). after ≡ before) → 0 < length u
+      → length u ≤ space → Kept c d space before after r
+  kept_by space before after (Ok s) h written some low = record {
+    same = h.same;
+    sound = h.sound;
+    grows = (
+      omega (arith, ap (λ (z : List ℕ). length z) written, length-append before u, some),
+      omega (arith, ap (λ (z : List ℕ). length z) written, length-append before u, low),
+    );
+  }
+  kept_by space before after (Err w) h written some low =
+      record { same = h.same; sound = h.sound; grows = tt }
+
+-- a refusal before anything was judged
+pub kept_all : (c : Checker) (space : ℕ) (before : List ℕ) (w : Why) → Kept c c space before before (Err w)
+kept_all c space before w = record { same = same_self c; sound = λ g. tt; grows = tt }
+
+pub keeps_since : (c m d : Checker) (space : ℕ) (before after : List ℕ) (r : Result Step Why) → checks.IsSame c m
+    → (IsSound c → IsSound m) → Kept m d space before after r → Kept c d space before after r
+keeps_since c m d space before after r same sound k =
+    record { same = same_then c m d same k.same; sound = λ g. k.sound (sound g); grows = k.grows }

@@ -1,0 +1,6 @@
+use Rattle.std.proofs.Common.{ℕ, ◌-◌, ◌%◌, arith}
+use Rattle.std.proofs.lemmas.List.{take-replicate}
+use Rattle.xdr_writer.proofs.units.zeros_behind.Goals as goal
+
+pub returns : goal.returns
+returns c = take-replicate ((4 - c.args.count % 4) % 4) 3 0 (omega arith)
