@@ -79,8 +79,9 @@ def run_to_end(main, goes_on=""):
     """Calls 'main'. A signal, or a file that cannot be written, is one line and status 3."""
 
     def stop(*_):
+        # (one that is noted already is passed over: Python prints a fault where it is to ignore that)
         for number in ENDING:
-            signal.signal(number, signal.SIG_IGN)
+            signal.signal(number, lambda *_: None)
         raise Stopped
 
     for number in ENDING:
@@ -95,6 +96,8 @@ def run_to_end(main, goes_on=""):
         finally:
             end_all()
     except Stopped:
+        # (as it ends, Python gives signals back their power to kill, and the caller sends more until it is gone)
+        heed_signals(signal.SIG_BLOCK)
         give_up(f"stopped by a signal{goes_on}")
     except OSError as fault:
         give_up(cause_of(fault))
