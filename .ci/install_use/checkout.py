@@ -1,5 +1,5 @@
-"""A made-up checkout where all is built, so that ./install and ./uninstall run on it without a toolchain; and what is to
-be where they put it."""
+"""A made-up checkout where all is built, so that ./install and ./uninstall run on it without a toolchain; and what
+they are to put, and where."""
 import os
 import re
 import stat

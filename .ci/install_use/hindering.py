@@ -8,6 +8,7 @@ import time
 
 from install_use.checkout import MANIFEST, PROGRAM, Checkout
 from install_use.checkout import found_below, is_installed, is_refused, notes_of, put_in_way, row
+from refuse_use.standins import heed_signals
 
 NOT_OURS = " is there, and no ./install put it there"
 # What is in the way at first, and what is said of it.
@@ -145,7 +146,7 @@ def stand_in(tree, command, pattern, does):
 
 
 def fails(folder):
-    """Where a command fails, one line says what is not installed, no part stays, and what is there is noted or whole."""
+    """Where a command fails, one line says what is not installed, no part stays, and what is there is noted."""
     tree = Checkout(folder, "fails")
     tree.call("install", "--library", f"{tree.to}/whole")
     whole = found_below(f"{tree.to}/whole")
@@ -191,8 +192,9 @@ def not_written(folder):
             os.makedirs(f"{root}/{it}")
         got = tree.call("install", root, preexec_fn=no_file, restore_signals=False)
         last, found = got[2].splitlines()[-1:], found_below(root)
-        well = got[0] == 3 and last == [f"oncrpc: not written: {root}/{MANIFEST}"] and "bin/oncrpc" not in found
-        yield row(f"a manifest that is not written, {there}", well and found.get(MANIFEST, ("", ""))[1] == "", got, found)
+        well = got[0] == 3 and last == [f"oncrpc: not written: {root}/{MANIFEST}"]
+        well = well and "bin/oncrpc" not in found and found.get(MANIFEST, ("", ""))[1] == ""
+        yield row(f"a manifest that is not written, {there}", well, got, found)
 
 
 def stopped(folder):
@@ -204,8 +206,8 @@ def stopped(folder):
         does = f"for it; do :; done; echo half >\"$it\"; echo >'{begun}'; exec sleep 60"
         commands = stand_in(tree, "cp", "*'/man/oncrpc.3 '*", does)
         env = {**os.environ, "PATH": f"{commands}:{os.environ['PATH']}", "DESTDIR": ""}
-        how = {"stderr": subprocess.PIPE, "start_new_session": True, "env": env, "text": True}
-        with subprocess.Popen([f"{tree.at}/install", root], **how) as ran:
+        how = {"stderr": subprocess.PIPE, "start_new_session": True, "preexec_fn": heed_signals, "text": True}
+        with subprocess.Popen([f"{tree.at}/install", root], env=env, **how) as ran:
             for _ in range(1000):
                 if os.path.exists(begun):
                     break

@@ -122,7 +122,8 @@ def parts(folder):
     tree = Checkout(folder, "parts")
     tree.call("install", tree.to)
     names = ["bin/.oncrpc-part.aB3dE6gH", "share/man/man3/.oncrpc-part.00000000", "share/oncrpc/.oncrpc-part.12345678"]
-    others = ["bin/.oncrpc-part.short", "bin/.oncrpc-part.123456789", "bin/oncrpc-part.12345678", ".oncrpc-part.12345678"]
+    others = [f"bin/.oncrpc-part.{it}" for it in ("short", "123456789")]
+    others += ["bin/oncrpc-part.12345678", ".oncrpc-part.12345678"]
     for it in [*names, *others]:
         put_in_way(f"{tree.to}/{it}", "a file", f"{folder}/other")
     got, found = tree.call("uninstall", tree.to), found_below(tree.to)
