@@ -7,50 +7,64 @@ from install_use.checkout import LIBRARY, MANIFEST, Checkout
 from install_use.checkout import found_below, is_installed, is_refused, notes_of, row
 
 # Where to: a name, the words of ./install, DESTDIR, the folder below `to` that these mean, the folder that the script
-# is called in, the PREFIX that pkg-config is told, and how many folders up from there are made.
+# is called in, and the PREFIX that pkg-config is told.
 PLACES = [
-    ("blanks", ["{to}/a b/[c]*"], None, "a b/[c]*", "", "{to}/a b/[c]*", 2),
-    ("a slash behind it", ["{to}/x/y/"], None, "x/y", "", "{to}/x/y", 2),
-    ("a relative PREFIX", ["x y/z"], None, "here/x y/z", "here", "{to}/here/x y/z", 2),
-    ("no PREFIX", [], "{to}/stage", "stage/usr/local", "", "/usr/local", 3),
-    ("DESTDIR with blanks", ["/opt/x"], "{to}/a stage", "a stage/opt/x", "", "/opt/x", 3),
-    ("a relative DESTDIR", ["/opt/x"], "a stage", "here/a stage/opt/x", "here", "/opt/x", 3),
-    ("the top", ["/"], "{to}/stage", "stage", "", "", 1),
+    ("DESTDIR", ["{to}/own"], "{to}/stage", "stage{to}/own", "", "{to}/own"),
+    ("blanks", ["{to}/a b/[c]*"], None, "a b/[c]*", "", "{to}/a b/[c]*"),
+    ("a relative PREFIX", ["x y/z"], None, "here/x y/z", "here", "{to}/here/x y/z"),
+    ("a slash behind it", ["{to}/x/y/"], None, "x/y", "", "{to}/x/y"),
+    ("no PREFIX", [], "{to}/stage", "stage/usr/local", "", "/usr/local"),
+    ("a relative DESTDIR with blanks", ["/opt/x"], "a stage", "here/a stage/opt/x", "here", "/opt/x"),
+    ("the top", ["/"], "{to}/stage", "stage", "", ""),
 ]
+TAKES_BACK = "; ./uninstall takes it back"
 
 
 def placed(folder):
-    """Each is put to its place with its mode under any umask, again too, is noted once, and is taken back whole."""
+    """Each is put to its place with its mode under any umask, again too, is noted once, and is taken back whole. What
+    is not well ends it: where DESTDIR goes unheard, the rows behind it would write to folders of this machine."""
     tree = Checkout(folder, "placed")
     os.mkdir(f"{tree.to}/here")
-    for at, (name, words, destdir, below, cwd, prefix, above) in enumerate(PLACES):
-        library = [["--library"], ["--library=library"], [f"--library={tree.at}/library"]][at % 3]
-        to = {"cwd": f"{tree.to}/{cwd}", "umask": (0o077, 0o000)[at % 2]}
-        if library == ["--library=library"]:
-            os.symlink(f"{tree.at}/library", f"{to['cwd']}/library")
-        to.update({"destdir": destdir.format(to=tree.to)} if destdir else {})
-        words, prefix, root = [it.format(to=tree.to) for it in words], prefix.format(to=tree.to), f"{tree.to}/{below}"
-        before = found_below(tree.to)
-        for turn in ("first", "again"):
-            got = tree.call("install", *(words + library if turn == "first" else library + words), **to)
-            wanted = tree.installed(prefix, with_library=True)
-            well = is_installed(root, wanted, notes_of(wanted, above))
-            told = f"oncrpc: installed in {named(to, words)}; ./uninstall takes it back\n"
-            yield row(f"{name}, {turn}", well and got == (0, "", told), got, found_below(root))
-        got = tree.call("uninstall", *words, **to)
-        well = got == (0, "", f"oncrpc: taken back from {named(to, words)}\n") and found_below(tree.to) == before
-        yield row(f"{name}, taken back", well, got, found_below(tree.to))
-        got = tree.call("uninstall", *words, **to)
-        told = f"nothing to take back: {named(to, words)}/{MANIFEST} is not there"
-        yield row(f"{name}, taken back again", is_refused(got, 3, told) and found_below(tree.to) == before, got)
-        if library == ["--library=library"]:
-            os.remove(f"{to['cwd']}/library")
+    os.symlink(f"{tree.at}/library", f"{tree.to}/here/library")
+    libraries = ["--library", f"--library={tree.at}/library", "--library=library"]
+    for number, (name, words, destdir, below, cwd, prefix) in enumerate(PLACES):
+        how = {"cwd": f"{tree.to}/{cwd}", "umask": (0o077, 0o000)[number % 2]}
+        how.update({"destdir": destdir.format(to=tree.to)} if destdir else {})
+        words, library = [it.format(to=tree.to) for it in words], libraries[2 if cwd else number % 2]
+        place = f"{tree.to}/{below.format(to=tree.to)}", prefix.format(to=tree.to)
+        for told, is_well in there_and_back(tree, place, words, library, how):
+            yield f"{name}: {told}", is_well
+            if not is_well:
+                return
 
 
-def named(to, words):
+def there_and_back(tree, place, words, library, how):
+    """Installs twice into one folder, takes it back, and once more."""
+    root, prefix = place
+    said, before = named(how, words), found_below(tree.to)
+    wanted = tree.installed(prefix, with_library=True)
+    notes = notes_of(wanted, missing(root))
+    for given in ([*words, library], [library, *words]):
+        got = tree.call("install", *given, **how)
+        well = is_installed(root, wanted, notes) and got == (0, "", f"oncrpc: installed in {said}{TAKES_BACK}\n")
+        yield row(f"install {given}", well, got, found_below(root))
+    got = tree.call("uninstall", *words, **how)
+    well = got == (0, "", f"oncrpc: taken back from {said}\n") and found_below(tree.to) == before
+    yield row(f"uninstall {words}", well, got, found_below(tree.to))
+    got = tree.call("uninstall", *words, **how)
+    well = is_refused(got, 3, f"nothing to take back: {said}/{MANIFEST} is not there")
+    yield row(f"uninstall {words} again", well and found_below(tree.to) == before, got)
+
+
+def missing(path):
+    """How many folders of a path are to be made."""
+    return 0 if os.path.isdir(path) else 1 + missing(os.path.dirname(path))
+
+
+def named(how, words):
     """How the scripts name the folder that these words and DESTDIR mean."""
     prefix = (words or ["/usr/local"])[0].rstrip("/")
-    return to.get("destdir", "") + (prefix if prefix[:1] in ("/", "") else f"{os.path.realpath(to['cwd'])}/{prefix}")
+    return how.get("destdir", "") + (prefix if prefix[:1] in ("/", "") else f"{os.path.realpath(how['cwd'])}/{prefix}")
 
 
 def without_library(folder):
@@ -132,9 +146,10 @@ USAGES = {
 def refused(folder):
     """Words that are refused, and nothing is put or taken back."""
     tree = Checkout(folder, "words")
-    tree.call("install", "/x", destdir=tree.to)
+    to = f"{tree.to}/x"
+    tree.call("install", to, destdir=tree.to)
     before = found_below(tree.to)
-    for words in (["--what"], ["-l"], [""], ["/x", "/x"], ["--library="], ["/x", ""], ["--", "/x"], ["-"]):
+    for words in (["--what"], ["-l"], [""], [to, to], ["--library=", to], [to, ""], ["--", to], ["-"]):
         for script, usage in USAGES.items():
             got = tree.call(script, *words, destdir=tree.to)
             yield row(f"{script} {words}", is_refused(got, 2, usage) and found_below(tree.to) == before, got)
