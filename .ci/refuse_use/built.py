@@ -23,7 +23,7 @@ def is_unproved(got):
 # A file of each kind that the program is made of, beside those of a Tree.
 SOURCES = ("crates/low/specs/it.antt", "crates/left/proofs/deep/it.antt", "crates/right/src/out/it.rt")
 # What it is made of by the times of files, and what it is not made of.
-COUNTED = (*SOURCES, "crates/low/src/lib.rt", "crates/oncrpc/src/main.rt", "crates.txt")
+COUNTED = (*SOURCES, "crates/low/src/lib.rt", "crates/oncrpc/src/main.rt", "crates.txt", "HANDLES")
 LEFT_ALONE = ("crates/other/src/lib.rt", "crates/low/out/src/it.rt", "crates/low/proofs.txt", "crates/low/args/src")
 # The seconds since sources and the program were written, and since a file that is newer was.
 OLD, BUILT, NEW = 1000, 500, 100
@@ -44,6 +44,7 @@ CHANGES = {
     "a specification of other text": ("echo other >crates/low/specs/it.antt", False),
     "a proof of other text": ("echo other >crates/left/proofs/deep/it.antt", False),
     "a source in a folder named out": ("echo other >crates/right/src/out/it.rt", False),
+    "other handles": ("echo other >HANDLES", False),
     "a source of another name": ("mv crates/low/specs/it.antt crates/low/specs/at.antt", False),
     "a source in another crate": ("mkdir crates/left/specs && mv crates/low/specs/it.antt crates/left/specs", False),
     "two sources in each other's place": ("cd crates/right/src && mv lib.rt a; mv out/* lib.rt; mv a out/it.rt", False),
@@ -52,6 +53,7 @@ CHANGES = {
     "what is built beside sources": ("echo other >crates/low/out/src/it.rt", True),
     "a file beside sources": ("echo other >crates/low/proofs.txt", True),
     "a source of another crate": ("echo other >crates/other/src/lib.rt", True),
+    "a word more of a crate": ("sed -i 's/^left:/left word:/' crates.txt", False),
     "crates in another order": ("sort -r crates.txt >a && mv a crates.txt", True),
     "a program that is not executable": ("chmod 644 crates/oncrpc/out/oncrpc", False),
     "no program": ("rm crates/oncrpc/out/oncrpc", False),
