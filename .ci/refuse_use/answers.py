@@ -40,6 +40,7 @@ ENDS = [
     ("it: " + MIDDLE, 0, 3, ABOVE),
     ("run=ended status=9 x\nmine\nrun=ended status=2 y\n", 2, 2, b"mine\n"),
     ("interpreter: a\nchecked: b\nraces: c\nrun: d\nrt: e\nmy rt: f\nrts: g\n" + MIDDLE, 0, 0, b"my rt: f\nrts: g\n"),
+    ("mine\nrun=ended status=1 x\n", 0, 1, b"mine\n"),
     ("run=no-answer\n", 3, 3, LIMITS),
     ("run=no-answer\n", 6, 3, LIMITS),
     ("run=none\n", 2, 3, ABOVE),
@@ -73,6 +74,10 @@ class Noted(Tree):
         if program:
             self.write("bin/unproved", program, 0o755)
 
+    def noted(self):
+        with open(f"{self.bin}/words", encoding="utf-8", errors="replace") as it:
+            return it.read()
+
     def ask(self, words, given=b""):
         """What a command of a shell gives."""
         self.write("asked", words + "\n")
@@ -87,7 +92,7 @@ def words_passed(folder):
             it.write(text)
     for words, wanted, text in WORDS:
         got, told = tree.ask(f"exec ./oncrpc {words}", b"in"), UNPROVED + b"unproved fault\n"
-        noted, room = tree.read("bin/words"), re.escape(f"{tree.at}/room/")
+        noted, room = tree.noted(), re.escape(f"{tree.at}/room/")
         data = rf"<--data>\n<declared\.x={room}[^/\n]+/text>\n" if text else ""
         passed = "".join(f"<{it}>\n" for it in wanted)
         well = is_answer(got, 5, output(b"unproved", b"check", text or b"none", b"in"), told, 1)
@@ -109,14 +114,17 @@ def input_read(folder):
     tree.write("bin/unproved", "#!/bin/sh\nexit 2\n", 0o755)
     got = tree.run("./oncrpc show", b"x" * MANY)
     yield row("./oncrpc show, an input that is not read", is_answer(got, 2, b"", UNPROVED, 1), got)
+    tree.write("bin/unproved", "#!/bin/sh\nwc -c\n", 0o755)
+    got = tree.run("./oncrpc show", b"x" * MANY)
+    well = is_answer((got[0], got[1].strip(), *got[2:]), 0, b"%d" % MANY, UNPROVED, 1)
+    yield row("./oncrpc show, an input that is more than a pipe holds", well, got)
     text = tree.read("scripts/unproved")
     yield row("an input of at most 64 MiB", text.count(INPUT) == 1, text)
     tree.write("scripts/unproved", text.replace(INPUT, LESS))
-    tree.write("bin/unproved", "#!/bin/sh\nwc -c\n", 0o755)
     for size, status, told in ((4096, 0, b""), (4097, 3, TOO_LONG)):
         got = tree.run("./oncrpc show", b"\n" * size)
-        printed = b"%d\n" % size if status == 0 else b""
-        well = is_answer((*got[:1], got[1].lstrip(), *got[2:]), status, printed, UNPROVED + told, status == 0)
+        printed = b"%d" % size if status == 0 else b""
+        well = is_answer((got[0], got[1].strip(), *got[2:]), status, printed, UNPROVED + told, status == 0)
         yield row(f"./oncrpc show, {size} bytes where 4096 may be", well, got)
 
 

@@ -49,18 +49,21 @@ CHANGES = {
     "a source in another crate": ("mkdir crates/left/specs && mv crates/low/specs/it.antt crates/left/specs", False),
     "two sources in each other's place": ("cd crates/right/src && mv lib.rt a; mv out/* lib.rt; mv a out/it.rt", False),
     "one source more, which is empty": (": >crates/low/src/more.rt", False),
+    "a source twice": ("cp crates/low/specs/it.antt crates/low/specs/at.antt", False),
     "one source less": ("rm crates/low/specs/it.antt", False),
     "what is built beside sources": ("echo other >crates/low/out/src/it.rt", True),
     "a file beside sources": ("echo other >crates/low/proofs.txt", True),
     "a source of another crate": ("echo other >crates/other/src/lib.rt", True),
     "a word more of a crate": ("sed -i 's/^left:/left word:/' crates.txt", False),
     "crates in another order": ("sort -r crates.txt >a && mv a crates.txt", True),
+    "other words of another crate": ("sed -i 's/^other: low/other: short/' crates.txt", True),
     "a program that is not executable": ("chmod 644 crates/oncrpc/out/oncrpc", False),
     "no program": ("rm crates/oncrpc/out/oncrpc", False),
     "a folder in place of the program": ("rm crates/oncrpc/out/oncrpc && mkdir crates/oncrpc/out/oncrpc", False),
 }
-# A sort that goes by the locale.
-SORT = '#!/bin/sh\n[ "$LC_ALL" = C ] || exec %s -r\nexec %s\n'
+# A sort that goes by the locale, and a find that gives files in another order where that is told.
+SORT = '#!/bin/sh\n[ "$LC_ALL" = C ] || exec {sort} -r\nexec {sort}\n'
+FIND = '#!/bin/sh\n[ -n "$STAND_ORDER" ] || exec {find} "$@"\n{find} "$@" | {sort} -r\n'
 
 
 class Built(Tree):
@@ -133,12 +136,13 @@ def by_sum(folder):
 
 
 def elsewhere(folder):
-    """The sum is the same in another folder and in another locale, and what cannot be kept is not told."""
+    """The sum is the same in another folder, locale and order of files, and what cannot be kept is not told."""
     tree = Built(folder, "here")
-    tool = shutil.which("sort")
-    tree.write("bin/sort", SORT % (tool, tool), 0o755)
+    for name, text in (("sort", SORT), ("find", FIND)):
+        tree.write(f"bin/{name}", text.format(sort=shutil.which("sort"), find=shutil.which("find")), 0o755)
     tree.run("./oncrpc show", LC_ALL="C")
-    for what, variables in (("locale", {"LC_ALL": "POSIX"}), ("folder", {"CDPATH": folder})):
+    others = {"locale": {"LC_ALL": "POSIX"}, "order of files": {"STAND_ORDER": "1"}, "folder": {"CDPATH": folder}}
+    for what, variables in others.items():
         if what == "folder":
             os.rename(tree.at, f"{folder}/there")
             tree.at, tree.bin = f"{folder}/there", f"{folder}/there/bin"

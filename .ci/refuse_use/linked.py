@@ -70,12 +70,14 @@ class Linking(Tree):
     def __init__(self, folder, name, **variables):
         super().__init__(folder, name, **variables)
         assert RT.count(EDIT) == 1
-        self.write("bin/rt", RT.replace(EDIT, EDIT_LIBRARY), 0o755)
+        self.write("kit/bin/rt", RT.replace(EDIT, EDIT_LIBRARY), 0o755)
+        self.write("kit/c/liblibc_c.a", HEAP)
+        os.remove(f"{self.bin}/rt")
+        os.symlink("../kit/bin/rt", f"{self.bin}/rt")
         for it in ("cc", "ar", "objcopy"):
             self.write(f"bin/{it}", TOOL, 0o755)
         for it in ("oncrpc.h", "oncrpc.hpp"):
             self.write(f"include/{it}", f"the text of {it}\n")
-        self.write("c/liblibc_c.a", HEAP)
         self.write("bin/proved", "the library\n")
         self.write("bin/broken", "")
         self.archive = "crates/c_library/out/libc_library.a"
@@ -112,10 +114,11 @@ def folders(folder):
     ):
         got = tree.build(words, CDPATH=f"{tree.at}/other")
         to = f"{at}/{named}"
-        linked = LINKED.format(made=f"{at}/{tree.archive}", heap=f"{at}/c/liblibc_c.a", to=to)
+        linked = LINKED.format(made=f"{at}/{tree.archive}", heap=f"{at}/kit/c/liblibc_c.a", to=to)
         well = (got[0], got[1], len(got[3])) == (0, b"", calls) and got[2].endswith(f"oncrpc: {to}\n".encode())
         well = well and (calls or got[2].count(b"\n") == 1)
         well = well and tree.is_whole(named) and tree.read("bin/tools") == linked
+        well = well and os.path.exists(f"{tree.at}/{tree.archive}.sources")
         yield row(f"./build-library, into {named}, {calls} calls", well, got, tree.read("bin/tools"))
     left = sorted(os.listdir(os.path.dirname(f"{tree.at}/{tree.archive}")))
     yield row("what ./build-library leaves", left == ["build.log", "libc_library.a", "libc_library.a.sources"], left)
@@ -137,9 +140,12 @@ def broken(folder):
         tree.write("bin/broken", "")
         got = tree.build()
         yield row("./build-library after that", got[0] == 0 and tree.is_whole("made"), got)
+    tree.write("asked", "mkdir -p less/oncrpc.pc && exec ./build-library less\n")
+    got = tree.build("sh asked")
+    yield row("./build-library, a folder in place of oncrpc.pc", got[0] == 3 and b"oncrpc: /" not in got[2], got)
     os.remove(f"{tree.at}/include/oncrpc.hpp")
-    got = tree.build("./build-library less")
-    well = got[0] == 3 and not os.path.exists(f"{tree.at}/less/liboncrpc.a") and b"oncrpc.hpp" in got[2]
+    got = tree.build("./build-library fewer")
+    well = got[0] == 3 and not os.path.exists(f"{tree.at}/fewer/liboncrpc.a") and b"oncrpc.hpp" in got[2]
     yield row("./build-library, a header is not there", well, got)
 
 
