@@ -4,14 +4,14 @@ import os
 import re
 
 from refuse_use.launcher import ABOVE, DO, LIMITS, NO_ANSWER, UNPROVED, is_answer, output, row
-from refuse_use.standins import RT, Tree
+from refuse_use.standins import ROOT, RT, Tree
 
 # An rt that notes where it is begun, and each of its words.
 NOTING = """#!/bin/sh
 stand=${0%/*}
 echo "$PWD" >"$stand/place"
 printf '<%s>\\n' "$@" >"$stand/words"
-exec "$stand/rt-noted" "$@"
+exec "$stand/noted_rt" "$@"
 """
 # The words after './oncrpc', those that the program is given, and the text that it sees, where it has one.
 SEEN = ["check", "--types", "declared.x"]
@@ -31,7 +31,8 @@ WORDS = [
     ("check --types a.x 'two  words' '' '*' -- -x", [*SEEN, "two  words", "", "*", "--", "-x"], b"a"),
 ]
 # The words, and whether they read standard input, which can be a terminal.
-READERS = {"": 1, "check": 1, "show": 1, "records": 1, "check --help": 0, "show -h": 0, "help": 0, "what": 0}
+READERS = {"": 1, "check": 1, "show": 1, "records": 1, "show --version": 1, "check --help": 0, "show -h": 0}
+READERS.update({"help": 0, "help serve": 0, "info -h": 0, "serve --help": 0, "what": 0})
 # What an rt says on standard error and its status, and then the status of the answer and what is said of it.
 MIDDLE = "run=ended status=0 runners=1 proved=no\n"
 ENDS = [
@@ -57,8 +58,9 @@ PRINTING = "#!/bin/sh\nprintf '\\377\\000\\r\\n\\n\\376'\nprintf 'one\\n\\n \\35
 PRINTED, SAID = b"\377\0\r\n\n\376", b"one\n\n \351two\n"
 # More than a pipe holds.
 MANY = 300000
-# The greatest text of declarations, and the greatest input as it stands in scripts/unproved and as it is here.
-TEXT, CUT = 262144, 1 << 20
+# The greatest text of declarations that the program takes, so much of one as goes on, and what says the first; and the
+# greatest input as it stands in scripts/unproved and as it is here.
+TEXT, CUT, HELP = 262144, 1 << 20, "crates/oncrpc_words/src/help.rt"
 INPUT, LESS = "MOST_INPUT, MOST_TEXT = 64 << 20, 1 << 20\n", "MOST_INPUT, MOST_TEXT = 4096, 1 << 20\n"
 TOO_LONG = rb"oncrpc: the unproved program takes an input of at most 4096 bytes; " + DO
 
@@ -70,12 +72,12 @@ class Noted(Tree):
         super().__init__(folder, name, TMPDIR=f"{folder}/{name}/room")
         os.mkdir(f"{self.at}/room")
         self.write("bin/rt", NOTING, 0o755)
-        self.write("bin/rt-noted", RT, 0o755)
+        self.write("bin/noted_rt", RT, 0o755)
         if program:
             self.write("bin/unproved", program, 0o755)
 
-    def noted(self):
-        with open(f"{self.bin}/words", encoding="utf-8", errors="replace") as it:
+    def read(self, name):
+        with open(f"{self.at}/{name}", encoding="utf-8", errors="replace") as it:
             return it.read()
 
     def ask(self, words, given=b""):
@@ -92,7 +94,7 @@ def words_passed(folder):
             it.write(text)
     for words, wanted, text in WORDS:
         got, told = tree.ask(f"exec ./oncrpc {words}", b"in"), UNPROVED + b"unproved fault\n"
-        noted, room = tree.noted(), re.escape(f"{tree.at}/room/")
+        noted, room = tree.read("bin/words"), re.escape(f"{tree.at}/room/")
         data = rf"<--data>\n<declared\.x={room}[^/\n]+/text>\n" if text else ""
         passed = "".join(f"<{it}>\n" for it in wanted)
         well = is_answer(got, 5, output(b"unproved", b"check", text or b"none", b"in"), told, 1)
@@ -135,7 +137,9 @@ def text_seen(folder):
         tree.write("long.x", " " * (size - 1) + "." * (size > 0) if size <= CUT else " " * size)
         got = tree.run("./oncrpc check --types long.x")
         well = got[0] == 0 and got[1].split() == [b"%d" % seen, b"."][: 1 + (0 < size <= CUT)]
-        yield row(f"./oncrpc check --types, a text of {size} bytes", well and seen > TEXT or size == seen, got)
+        yield row(f"./oncrpc check --types, a text of {size} bytes", well and (seen > TEXT or seen == size), got)
+    with open(f"{ROOT}/{HELP}", encoding="utf-8") as it:
+        yield row("the greatest text that the program reads", f"at most {TEXT} bytes" in it.read(), TEXT)
 
 
 def streams_whole(folder):
@@ -161,7 +165,7 @@ def last_line(folder):
     tree = Noted(folder, "last_line")
     for said, status, wanted, told in ENDS:
         tree.write("said", said)
-        tree.write("bin/rt-noted", SAYING % status, 0o755)
+        tree.write("bin/noted_rt", SAYING % status, 0o755)
         got = tree.run("./oncrpc show")
         faults = re.escape(said.encode()) + NO_ANSWER % told if wanted == 3 else told
         well = is_answer(got, wanted, b"", UNPROVED + faults, 1)

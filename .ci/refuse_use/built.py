@@ -2,6 +2,7 @@
 sources."""
 import os
 import shutil
+import subprocess
 import time
 
 from refuse_use.answers import answer_rows
@@ -89,9 +90,7 @@ class Built(Tree):
             self.make("crates/oncrpc/out/oncrpc", BUILT)
 
     def shell(self, commands):
-        ended = self.begin("sh -e", LC_ALL="C")
-        told = ended.communicate(commands.encode(), timeout=60)
-        assert ended.returncode == 0, (commands, told)
+        subprocess.run(["sh", "-ec", commands], cwd=self.at, check=True)
 
     def kept(self):
         return os.path.isfile(f"{self.at}/{SUM}")

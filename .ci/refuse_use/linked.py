@@ -61,6 +61,7 @@ BROKEN = {
 UNFIT = {
     "a file in place of the folder": ": >made",
     "a file in place of the folder include": "mkdir made && : >made/include",
+    "a file in place of the folder out": ": >crates/c_library/out",
 }
 
 
@@ -69,9 +70,10 @@ class Linking(Tree):
 
     def __init__(self, folder, name, **variables):
         super().__init__(folder, name, **variables)
-        assert RT.count(EDIT) == 1
         self.write("kit/bin/rt", RT.replace(EDIT, EDIT_LIBRARY), 0o755)
-        self.write("kit/c/liblibc_c.a", HEAP)
+        # (of the toolchain's files the script alone names one)
+        self.heap = "kit/" + re.search(r"heap=\$\{rt%/\*/\*\}/(\S+)", self.read("build-library"))[1]
+        self.write(self.heap, HEAP)
         os.remove(f"{self.bin}/rt")
         os.symlink("../kit/bin/rt", f"{self.bin}/rt")
         for it in ("cc", "ar", "objcopy"):
@@ -114,7 +116,7 @@ def folders(folder):
     ):
         got = tree.build(words, CDPATH=f"{tree.at}/other")
         to = f"{at}/{named}"
-        linked = LINKED.format(made=f"{at}/{tree.archive}", heap=f"{at}/kit/c/liblibc_c.a", to=to)
+        linked = LINKED.format(made=f"{at}/{tree.archive}", heap=f"{at}/{tree.heap}", to=to)
         well = (got[0], got[1], len(got[3])) == (0, b"", calls) and got[2].endswith(f"oncrpc: {to}\n".encode())
         well = well and (calls or got[2].count(b"\n") == 1)
         well = well and tree.is_whole(named) and tree.read("bin/tools") == linked
@@ -155,7 +157,7 @@ def unfit(folder):
         tree = Linking(folder, f"unfit{at}")
         tree.write("asked", f"{commands}\nexec ./build-library made\n")
         got = tree.build("sh asked")
-        well = (got[0], got[3], got[2].count(b"\n")) == (3, [], 1) and b"made" in got[2]
+        well = (got[0], got[3], got[2].count(b"\n")) == (3, [], 1) and b"mkdir: " in got[2]
         yield row(f"./build-library, {what}", well, got)
 
 
