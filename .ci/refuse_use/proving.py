@@ -1,4 +1,4 @@
-"""Rows of ./oncrpc prove: checks that are killed, stopped or left alone, what the lanes hold, and what is handed out."""
+"""Rows of ./oncrpc prove: checks that are killed or left alone, what the lanes hold, and what is handed out."""
 import contextlib
 import fcntl
 import glob
@@ -100,7 +100,8 @@ def beginner_killed(folder):
     well = begun and re.fullmatch(BEGUN + WAITS, told) and asked == "asked\n"
     well = well and order[:3] == [["begin", "low"], ["end", "low"], ["begin", "low"]]
     well = well and second.returncode == 0 and faults.endswith(b"built %s\n" % os.path.realpath(tree.made).encode())
-    yield row("./oncrpc prove beside a check that was left alone", bool(well) and not lists_of(tree), told, faults, order)
+    well = well and not lists_of(tree)
+    yield row("./oncrpc prove beside a check that was left alone", bool(well), told, faults, order)
 
 
 def sources_of(top):
@@ -118,11 +119,13 @@ def lanes_hold(folder):
     tree = Tree(folder, "lanes_hold", RT_JOBS="2")
     for name in ("other", "c_values", "c_records", "c_library"):
         os.remove(f"{tree.at}/crates/{name}/src/lib.rt")
-    first, second = "crates/low/specs/one.rt", "crates/low/proofs/deep/one.rt"
-    sources = (first, second, "crates/low/src/lib.rt", "crates/low/specs/two.rt", "crates/low/src/deep/two.rt", "HANDLES")
-    for what, wanted in (("as they are", sources), ("changed", sources), ("taken away", sources[:3])):
+    parts = ("src/lib.rt", "specs/one.rt", "specs/two.rt", "src/deep/two.rt", "proofs/deep/one.rt")
+    sources = [*[f"crates/low/{part}" for part in parts], "HANDLES"]
+    for what, wanted in (("as they are", sources), ("changed", sources), ("taken away", sources[:2])):
         for name in sources:
             tree.write(name, f"// {what}, {name}\n") if name in wanted else os.remove(f"{tree.at}/{name}")
+        if what == "taken away":
+            os.removedirs(f"{tree.at}/crates/low/proofs/deep")
         got, here = tree.run("./oncrpc prove"), sources_of(tree.at)
         held = [sources_of(f"{tree.at}/out/lanes/{number}") for number in (0, 1)]
         well = got[0] == 0 and held == [here] * 2 and here.keys() >= {*[f"/{it}" for it in wanted]}
@@ -153,12 +156,30 @@ def handed_out(folder):
         kept = old.read()
     left, as_old = sorted(os.listdir(os.path.dirname(tree.made))), os.stat(tree.made).st_mtime
     well = got[0] == 0 and tree.read(tree.made) == tree.read("bin/proved") and os.access(tree.made, os.X_OK)
-    yield row("./oncrpc prove, what is in the program's place", well and left[1:] == ["oncrpc", "oncrpc.sources"], got, left)
+    well = well and left == ["build.log", "oncrpc", "oncrpc.sources"]
+    yield row("./oncrpc prove, what is in the program's place", well, got, left)
     yield row("./oncrpc prove, a program that was open", kept == "#!/bin/sh\nexit 9\n", kept)
     well = before <= as_old <= os.stat(f"{tree.bin}/first").st_mtime
     yield row("./oncrpc prove, the program's time", well, before, as_old)
 
 
+def unwritten(folder):
+    """A log that cannot be written and a source that cannot be copied are one line each, which names the file."""
+    tree = Tree(folder, "unwritten", RT_JOBS="1")
+    os.makedirs(f"{tree.at}/crates/oncrpc/out")
+    os.symlink("/dev/full", f"{tree.at}/{LOG}")
+    got = tree.run("./oncrpc prove")
+    told = BEGUN + FROM % (6, 1) + rb"oncrpc: \S+/build\.log: No space left on device\n"
+    well = got[0] == 3 and re.fullmatch(told, got[2]) and not os.path.exists(tree.made) and not lists_of(tree)
+    yield row("./oncrpc prove, no space for the log", bool(well), got)
+    os.remove(f"{tree.at}/{LOG}")
+    for name in ("low", "short"):
+        os.mkfifo(f"{tree.at}/crates/{name}/src/pipe")
+    got = tree.run("./oncrpc prove")
+    told = BEGUN + rb"oncrpc: \S+/crates/low/src/pipe: [^\n]* is a named pipe\n"
+    yield row("./oncrpc prove, a source that is a pipe", got[0] == 3 and bool(re.fullmatch(told, got[2])), got)
+
+
 def proving_rows(folder):
-    for rows in (judged_nothing, proof_killed, beginner_killed, lanes_hold, lanes_keep, handed_out):
+    for rows in (judged_nothing, proof_killed, beginner_killed, lanes_hold, lanes_keep, handed_out, unwritten):
         yield from rows(folder)

@@ -46,8 +46,8 @@ def checks(folder):
         hooked(tree, "lib low", commands)
         got = tree.stop("./oncrpc prove", AT_WORK)
         ended = tree.read("bin/ended") == ("well\n" if commands == SLOW else "")
-        free = is_free(tree)
-        yield row(f"./oncrpc prove, SIGTERM, a check that is {what}", is_stopped(got) and ended and free, got, ended, free)
+        well = is_free(tree) and is_stopped(got) and ended
+        yield row(f"./oncrpc prove, SIGTERM, a check that is {what}", well, got, ended)
 
 
 def ignored(folder):
