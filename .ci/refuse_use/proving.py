@@ -1,0 +1,185 @@
+"""Rows of ./oncrpc prove: checks that are killed or left alone, what the lanes hold, and what is handed out."""
+import contextlib
+import fcntl
+import glob
+import os
+import re
+import signal
+import time
+
+from refuse_use.launcher import BEGUN, BUILT, FROM, KEPT, NOT_BUILT, PROOF_STOPPED, TOOK, WAITS, lists_of, row
+from refuse_use.standins import RT, Tree
+
+NOT_PROVED = rb"oncrpc: %s is not proved\n"
+KILLED = rb"oncrpc: not built: the proof was killed\n"
+TOLD = rb"oncrpc: \d of 6, \w+, [^\n]*\n"
+LOG = "crates/oncrpc/out/build.log"
+PROVE = f"python3 scripts/prove {LOG} oncrpc"
+# What a check does that waits until it is let go.
+WAITING = 'echo asked >>"$here/asked"\nuntil [ -e "$here/go" ]; do sleep 0.05; done\nsleep 0.3'
+
+
+def hooked(tree, call, commands):
+    """Has the stand-in rt do something first where it is called with this word in this crate."""
+    test = f'here=${{0%/*}}\nif [ "$1 ${{PWD##*/}}" = "{call}" ]; then\n{commands}\nfi\n'
+    tree.write("bin/rt", f"#!/bin/sh\n{test}{RT.partition(chr(10))[2]}", 0o755)
+
+
+def wait_until(is_so):
+    """Whether something comes to be within a minute."""
+    for _ in range(1200):
+        if is_so():
+            return True
+        time.sleep(0.05)
+    return False
+
+
+def is_free(tree):
+    """Whether no check is at work, nor what one has begun: each holds the lock of the lanes."""
+    with open(f"{tree.at}/out/lanes/lock", encoding="utf-8") as lock:
+        for _ in range(100):
+            with contextlib.suppress(BlockingIOError):
+                fcntl.flock(lock, fcntl.LOCK_EX | fcntl.LOCK_NB)
+                return True
+            time.sleep(0.05)
+    # (the check's own group)
+    os.killpg(int(tree.read("bin/pid")), signal.SIGKILL)
+    return False
+
+
+def shows_unproved(tree, what):
+    got = tree.run("./oncrpc show")
+    return row(f"./oncrpc show after {what}", got[0] == 5 and got[1].startswith(b"unproved"), got)
+
+
+# What a check comes to each time, and how many at once: one that ends so beside others runs again alone.
+ENDS = [("kill -9 $$", 1), ("exit 2", 1), ("exit 137", 1), ("kill -9 $$", 2), ("exit 2", 2)]
+
+
+def judged_nothing(folder):
+    """A check that was killed, or judged nothing, proves nothing, also where no other is at work."""
+    for at, (ends, jobs) in enumerate(ENDS):
+        tree, what = Tree(folder, f"judged{at}", RT_JOBS=str(jobs)), f"./oncrpc prove, {jobs} at once, `{ends}`"
+        hooked(tree, "lib left", f'echo judged >>"$here/judged"\n{ends}')
+        got = tree.run("./oncrpc prove")
+        told = BEGUN + FROM % (6, jobs) + b"(%s)*" % TOLD + NOT_PROVED % b"left" + TOOK + NOT_BUILT
+        well = got[0] == 3 and re.fullmatch(told, got[2]) and b", left," not in got[2]
+        well = well and tree.read("bin/judged").count("judged") == jobs and not os.path.exists(tree.made)
+        yield row(what, bool(well) and "== left" in tree.read(LOG), got)
+        yield shows_unproved(tree, "that")
+
+
+def proof_killed(folder):
+    """A proof that is killed builds nothing, and says so."""
+    for call, count in (("lib left", 1), ("run oncrpc", 5)):
+        tree = Tree(folder, f"proof_killed_{count}", RT_JOBS="1")
+        hooked(tree, call, "kill -9 $PPID\nexit 0")
+        got = tree.run("./oncrpc prove")
+        told = BEGUN + FROM % (6, 1) + TOLD * count + KILLED
+        well = got[0] == 3 and re.fullmatch(told, got[2]) and not os.path.exists(tree.made)
+        yield row(f"./oncrpc prove, killed in '{call}'", bool(well), got)
+        yield shows_unproved(tree, "that")
+
+
+def beginner_killed(folder):
+    """A check whose beginner was killed goes on, and another proof waits for its end."""
+    tree = Tree(folder, "beginner", RT_JOBS="1")
+    hooked(tree, "lib low", WAITING)
+    os.makedirs(f"{tree.at}/crates/oncrpc/out")
+    first = tree.begin(PROVE)
+    begun = wait_until(lambda: tree.read("bin/asked"))
+    first.kill()
+    first.communicate(timeout=60)
+    second = tree.begin("./oncrpc prove")
+    told = second.stderr.readline() + second.stderr.readline()
+    time.sleep(0.3)
+    asked = tree.read("bin/asked")
+    tree.write("bin/go", "")
+    faults = second.communicate(timeout=60)[1]
+    order = [it.split()[:2] for it in tree.read("bin/order").splitlines()]
+    well = begun and re.fullmatch(BEGUN + WAITS, told) and asked == "asked\n"
+    well = well and order[:3] == [["begin", "low"], ["end", "low"], ["begin", "low"]]
+    well = well and second.returncode == 0 and faults.endswith(b"built %s\n" % os.path.realpath(tree.made).encode())
+    well = well and not lists_of(tree)
+    yield row("./oncrpc prove beside a check that was left alone", bool(well), told, faults, order)
+
+
+def sources_of(top):
+    """What the crates below hold, but for what was built there, and which handles are allowed."""
+    found = {}
+    for file in glob.glob(f"{top}/crates/*/*/**", recursive=True) + glob.glob(f"{top}/HANDLES"):
+        if os.path.isfile(file) and "/out/" not in file.removeprefix(top):
+            with open(file, encoding="utf-8") as it:
+                found[file.removeprefix(top)] = it.read()
+    return found
+
+
+def lanes_hold(folder):
+    """Each lane holds the sources as they are now, and what was proved there before."""
+    tree = Tree(folder, "lanes_hold", RT_JOBS="2")
+    for name in ("other", "c_values", "c_records", "c_library"):
+        os.remove(f"{tree.at}/crates/{name}/src/lib.rt")
+    parts = ("src/lib.rt", "specs/one.rt", "specs/two.rt", "src/deep/two.rt", "proofs/deep/one.rt")
+    sources = [*[f"crates/low/{part}" for part in parts], "HANDLES"]
+    for what, wanted in (("as they are", sources), ("changed", sources), ("taken away", sources[:2])):
+        for name in sources:
+            tree.write(name, f"// {what}, {name}\n") if name in wanted else os.remove(f"{tree.at}/{name}")
+        if what == "taken away":
+            os.removedirs(f"{tree.at}/crates/low/proofs/deep")
+        got, here = tree.run("./oncrpc prove"), sources_of(tree.at)
+        held = [sources_of(f"{tree.at}/out/lanes/{number}") for number in (0, 1)]
+        well = got[0] == 0 and held == [here] * 2 and here.keys() >= {*[f"/{it}" for it in wanted]}
+        yield row(f"the lanes of ./oncrpc prove, sources {what}", well, got, held, here)
+
+
+def lanes_keep(folder):
+    """What is proved in a lane stays there."""
+    tree = Tree(folder, "lanes_keep", RT_JOBS="1", STAND_ALONE="1")
+    tree.run("./oncrpc prove")
+    tree.write("crates/right/src/lib.rt", "fn two() {}\n")
+    got = tree.run("./oncrpc prove")
+    told = {it.decode() for it in re.findall(rb"oncrpc: \d of 6, (\w+)" + KEPT, got[2])}
+    well = got[0] == 0 and told == {"low", "short", "last", "left", "oncrpc"}
+    yield row("./oncrpc prove, what a lane keeps", well, got)
+
+
+def handed_out(folder):
+    """The program is put in its place in one step, whole, and is as old as the beginning of its proof."""
+    tree = Tree(folder, "handed_out", RT_JOBS="1")
+    tree.write("crates/oncrpc/out/oncrpc", "#!/bin/sh\nexit 9\n", 0o755)
+    tree.write("crates/oncrpc/src/main.rt", "fn two() {}\n")
+    hooked(tree, "lib low", 'sleep 0.1\necho >"$here/first"')
+    os.utime(tree.made, (1, 1))
+    before = time.time()
+    with open(tree.made, encoding="utf-8") as old:
+        got = tree.run("./oncrpc prove")
+        kept = old.read()
+    left, as_old = sorted(os.listdir(os.path.dirname(tree.made))), os.stat(tree.made).st_mtime
+    well = got[0] == 0 and tree.read(tree.made) == tree.read("bin/proved") and os.access(tree.made, os.X_OK)
+    well = well and left == ["build.log", "oncrpc", "oncrpc.sources"]
+    yield row("./oncrpc prove, what is in the program's place", well, got, left)
+    yield row("./oncrpc prove, a program that was open", kept == "#!/bin/sh\nexit 9\n", kept)
+    well = before <= as_old <= os.stat(f"{tree.bin}/first").st_mtime
+    yield row("./oncrpc prove, the program's time", well, before, as_old)
+
+
+def unwritten(folder):
+    """A log that cannot be written and a source that cannot be copied are one line each, which names the file."""
+    tree = Tree(folder, "unwritten", RT_JOBS="1")
+    os.makedirs(f"{tree.at}/crates/oncrpc/out")
+    os.symlink("/dev/full", f"{tree.at}/{LOG}")
+    got = tree.run("./oncrpc prove")
+    told = BEGUN + FROM % (6, 1) + rb"oncrpc: \S+/build\.log: No space left on device\n"
+    well = got[0] == 3 and re.fullmatch(told, got[2]) and not os.path.exists(tree.made) and not lists_of(tree)
+    yield row("./oncrpc prove, no space for the log", bool(well), got)
+    os.remove(f"{tree.at}/{LOG}")
+    for name in ("low", "short"):
+        os.mkfifo(f"{tree.at}/crates/{name}/src/pipe")
+    got = tree.run("./oncrpc prove")
+    told = BEGUN + rb"oncrpc: \S+/crates/low/src/pipe: [^\n]* is a named pipe\n"
+    yield row("./oncrpc prove, a source that is a pipe", got[0] == 3 and bool(re.fullmatch(told, got[2])), got)
+
+
+def proving_rows(folder):
+    for rows in (judged_nothing, proof_killed, beginner_killed, lanes_hold, lanes_keep, handed_out, unwritten):
+        yield from rows(folder)
