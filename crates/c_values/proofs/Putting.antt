@@ -83,8 +83,8 @@ module _ (w : Writer) (bytes : List ℕ) (before : List ValueItem) (out : List �
         (told x same i tells more step.More took));
   }
 
-  pub writes : (x : Writer) (same : asked x ≡ asked w) (i : ItemView) (tells : Tells bytes c i) (more : List ℕ) (s : Step)
-      (took : Took w x writing.is i out more s) → IsWriting x bytes (before ++ c ∷ []) more
+  pub writes : (x : Writer) (same : asked x ≡ asked w) (i : ItemView) (tells : Tells bytes c i) (more : List ℕ)
+      (s : Step) (took : Took w x writing.is i out more s) → IsWriting x bytes (before ++ c ∷ []) more
       × IsTaken (asked w) (given (before ++ c ∷ []) bytes) more s
   writes x same i tells more s took =
       (goes_on x same i tells more s took, taken_by x same i tells more s took)
