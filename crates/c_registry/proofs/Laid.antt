@@ -1,13 +1,14 @@
 -- Rows that were laid one behind another are the rows that C sees.
-use Rattle.std.proofs.Common.{◌≡◌, ℕ, zero, suc, ◌≤◌, List, [], ◌∷◌, ◌++◌, length, drop, refl, sym, ap, ◌∙◌}
+use Rattle.std.proofs.Common.{◌≡◌, ℕ, zero, suc, ◌+◌, ◌≤◌, List, [], ◌∷◌, ◌++◌, length, drop, refl, sym, ap, ◌∙◌}
 use Rattle.std.proofs.Common.{append_assoc, append-nil, slice_get, Option, Some, None, is_some, true≢false, arith}
-use Rattle.std.proofs.Common.{subst}
+use Rattle.std.proofs.Common.{subst, length-append}
+use Rattle.c_messages.specs.Parts.{part}
 use Rattle.registry_rows.specs.Rows.{Row}
 use Rattle.c_messages.proofs.Lying.{lies}
 use Rattle.c_registry.specs.declared.listed.Listed.TheVariants as listed
 use Rattle.c_registry.specs.declared.row.RowParts.{RowParts}
-use Rattle.c_registry.specs.Listed.{AreRows, texts_of, Buffers, ArePut, HaveTooFew, counts_of, IsListed}
-use Rattle.c_registry.specs.Private.Laid.{row_behind, bytes_behind, rows_behind}
+use Rattle.c_registry.specs.Listed.{AreRows, texts_of, row_at, rows_at, Buffers, ArePut, counts_of, IsListed}
+use Rattle.c_registry.specs.Private.Laid.{row_behind, bytes_behind, rows_behind, HaveTooFew}
 
 abbrev row_from : Row → Option Row → Row
 row_from x None = x
@@ -61,9 +62,41 @@ module _ (texts : List ℕ) where
         rows_lie (bytes_behind before r) rs (e ∙ sym (texts_more before r rs)),
       )
 
+-- they are laid at places that can be counted
+row_placed : (before : List ℕ) (r : Row) → row_behind before r ≡ row_at (length before) r
+row_placed before r =
+    let second : length (before ++ r.netid) ≡ length before + length r.netid = length-append before r.netid in
+    let third : length (before ++ r.netid ++ r.address) ≡ length before + length r.netid + length r.address =
+    omega (arith, length-append before (r.netid ++ r.address), length-append r.netid r.address) in
+    ap (λ (n : ℕ). record {
+      program = r.prog;
+      version = r.vers;
+      netid = part (length before) r.netid;
+      address = part n r.address;
+      owner = part (length (before ++ r.netid ++ r.address)) r.owner;
+    }) second
+    ∙ ap (λ (n : ℕ). record {
+      program = r.prog;
+      version = r.vers;
+      netid = part (length before) r.netid;
+      address = part (length before + length r.netid) r.address;
+      owner = part n r.owner;
+    }) third
+
+rows_placed : (before : List ℕ) (rs : List Row) → rows_behind before rs ≡ rows_at (length before) rs
+rows_placed before [] = refl
+rows_placed before (r ∷ rs) =
+    let more : length (bytes_behind before r) ≡ length before + length (r.netid ++ r.address ++ r.owner) =
+    length-append before (r.netid ++ r.address ++ r.owner) in
+    ap (λ (p : RowParts). p ∷ rows_behind (bytes_behind before r) rs) (row_placed before r)
+    ∙ ap (λ (ps : List RowParts). row_at (length before) r ∷ ps)
+    (rows_placed (bytes_behind before r) rs ∙ ap (λ (n : ℕ). rows_at n rs) more)
+
 -- all rows of a list
-pub rows_laid : (rows : List Row) → AreRows (texts_of rows) rows (rows_behind [] rows)
-rows_laid rows = rows_lie (texts_of rows) [] rows refl
+pub rows_laid : (rows : List Row) → AreRows (texts_of rows) rows (rows_at 0 rows)
+rows_laid rows =
+    subst (λ (ps : List RowParts). AreRows (texts_of rows) rows ps) (rows_placed [] rows)
+    (rows_lie (texts_of rows) [] rows refl)
 
 -- one more row: what was laid and what is left are the whole, before and after
 pub laid_more : (rows : List Row) (i j : ℕ) (r : Row) (parts more all : List RowParts) (bytes longer : List ℕ)
@@ -111,9 +144,9 @@ module _ (rows : List Row) (parts : List RowParts) (texts : List ℕ) (p : parts
 
   pub put_whole : ArePut parts texts old new → IsListed rows old new (listed.Whole (record { rows = n; bytes = m }))
   put_whole h = (
-    parts,
-    subst (λ (x : List RowParts). AreRows (texts_of rows) rows x) (sym p) (rows_laid rows),
-    subst (λ (x : List ℕ). ArePut parts x old new) t h,
+    rows_laid rows,
+    subst (λ (x : List RowParts). ArePut x (texts_of rows) old new) (p ∙ rows_placed [] rows)
+        (subst (λ (x : List ℕ). ArePut parts x old new) t h),
     counted,
   )
 

@@ -1,5 +1,5 @@
 -- What a status says of rows that were listed and of an address that was written.
-use Rattle.std.proofs.Common.{◌≡◌, ℕ, ◌<◌, ◌⊎◌, List, length, take, drop, ap, ◌∙◌, arith, Option, Some, None}
+use Rattle.std.proofs.Common.{◌≡◌, ℕ, ◌<◌, ◌⊎◌, List, ◌++◌, length, take, drop, ap, ◌∙◌, arith, Option, Some, None}
 use Rattle.std.proofs.Math.Seq.{take-append_seam}
 use Rattle.registry_uaddr.specs.declared.address.Uaddr.{Uaddr}
 use Rattle.registry_uaddr.specs.Uaddrs.{uaddr_text}
@@ -9,16 +9,24 @@ use Rattle.c_registry.specs.declared.listed.Listed.{Listed}
 use Rattle.c_registry.specs.declared.listed.Listed.TheVariants as listed
 use Rattle.c_registry.specs.Addresses.{IsAddressWritten}
 use Rattle.c_registry.specs.Held.{Held}
-use Rattle.c_registry.specs.Listed.{Buffers, IsListedBy, counts_of, listed_status, listed_counts}
+use Rattle.c_registry.specs.Listed.{Buffers, rows_at, IsListedBy, counts_of, listed_status, listed_counts}
 use Rattle.c_registry.specs.Statuses.{status_of, count_of}
 
 -- the rows of a registry are counted
 pub counted : (h : Held) (old new : Buffers) (a : Listed) → IsListedBy (Some h) old new a → 0 ≡ listed_status a
     → listed_counts a ≡ counts_of h.rows
-counted h old new (listed.Whole c) l e = l.3
+counted h old new (listed.Whole c) l e = l.2
 counted h old new listed.NoMemory l e = absurd (omega (arith, e))
 counted h old new (listed.NoRoom c) l e = absurd (omega (arith, e))
 counted h old new listed.NoRegistry l e = absurd (omega (arith, e))
+
+-- and stand at the front
+pub in_front : (h : Held) (old new : Buffers) (a : Listed) → IsListedBy (Some h) old new a → 0 ≡ listed_status a
+    → new.rows ≡ rows_at 0 h.rows ++ drop (length (rows_at 0 h.rows)) old.rows
+in_front h old new (listed.Whole c) l e = l.1.0
+in_front h old new listed.NoMemory l e = absurd (omega (arith, e))
+in_front h old new (listed.NoRoom c) l e = absurd (omega (arith, e))
+in_front h old new listed.NoRegistry l e = absurd (omega (arith, e))
 
 -- buffers that are too small
 pub short : (held : Option Held) (old new : Buffers) (a : Listed) → IsListedBy held old new a → 8 ≡ listed_status a

@@ -6,3 +6,4 @@ pub mod Listed
 pub mod Private
 pub mod Rows
 pub mod Statuses
+pub mod Own

@@ -1,7 +1,7 @@
 -- What listing the rows of a registry leaves in two buffers (RFC 1833 section 2.1).
-use Rattle.std.specs.Prelude.{⊤, ◌≡◌, ◌<◌, ◌⊎◌, ℕ, List, [], ◌∷◌, ◌++◌, length, drop, flat_map, Option, Some, None}
+use Rattle.std.specs.Prelude.{⊤, ◌≡◌, ◌+◌, ◌<◌, ◌⊎◌, ℕ, List, [], ◌∷◌, ◌++◌, length, drop, flat_map, Option, Some, None}
 use Rattle.registry_rows.specs.Rows.{Row}
-use Rattle.c_messages.specs.Parts.{LiesAt}
+use Rattle.c_messages.specs.Parts.{LiesAt, part}
 use Rattle.c_registry.specs.declared.listed.Listed.{Listed}
 use Rattle.c_registry.specs.declared.listed.Listed.TheVariants as listed
 use Rattle.c_registry.specs.declared.listed.RowCounts.{RowCounts}
@@ -26,6 +26,21 @@ AreRows bytes _ _ = ⊥
 abbrev pub texts_of : List Row → List ℕ
 texts_of rows = flat_map (λ r. r.netid ++ r.address ++ r.owner) rows
 
+-- C's row whose texts stand so many bytes from the front: the netid, the address and the owner
+abbrev pub row_at : ℕ → Row → RowParts
+row_at at r = record {
+  program = r.prog;
+  version = r.vers;
+  netid = part at r.netid;
+  address = part (at + length r.netid) r.address;
+  owner = part (at + length r.netid + length r.address) r.owner;
+}
+
+-- C's rows, the texts of each directly behind those of the row before it
+abbrev pub rows_at : ℕ → List Row → List RowParts
+rows_at at [] = []
+rows_at at (r ∷ rs) = row_at at r ∷ rows_at (at + length (r.netid ++ r.address ++ r.owner)) rs
+
 -- what C lends: a buffer for rows, and one for the bytes of their texts
 pub record Buffers : Type 0 where
   pub rows : List RowParts
@@ -39,11 +54,6 @@ abbrev pub ArePut : List RowParts → (bytes : List ℕ) → (old new : Buffers)
 ArePut rows bytes old new =
     (new.rows ≡ rows ++ drop (length rows) old.rows) × (new.bytes ≡ bytes ++ drop (length bytes) old.bytes)
 
--- a buffer has too few places for them, and both stay
-abbrev pub HaveTooFew : List RowParts → (bytes : List ℕ) → (old new : Buffers) → Type 0
-HaveTooFew rows bytes old new =
-    ((length old.rows < length rows) ⊎ (length old.bytes < length bytes)) × (new ≡ old)
-
 -- how many rows there are, and how many bytes their texts have
 abbrev pub counts_of : List Row → RowCounts
 counts_of rows = record { rows = length rows; bytes = length (texts_of rows) }
@@ -52,7 +62,7 @@ counts_of rows = record { rows = length rows; bytes = length (texts_of rows) }
 -- told; or memory was refused. Then nothing is written.
 abbrev pub IsListed : List Row → (old new : Buffers) → Listed → Type 0
 IsListed rows old new (listed.Whole c) =
-    (parts : List RowParts) × AreRows (texts_of rows) rows parts × ArePut parts (texts_of rows) old new
+    AreRows (texts_of rows) rows (rows_at 0 rows) × ArePut (rows_at 0 rows) (texts_of rows) old new
     × (c ≡ counts_of rows)
 IsListed rows old new (listed.NoRoom c) =
     ((length old.rows < c.rows) ⊎ (length old.bytes < c.bytes)) × (new ≡ old) × (c ≡ counts_of rows)

@@ -5,6 +5,7 @@ ghost use Rattle.rpc_message.specs.Message.{Denied, RpcMismatch, SystemErr};
 ghost use Rattle.rpc_message.specs.Spelling.{reply};
 ghost use Rattle.registry_rows.specs.Ports.{own_rows};
 ghost use Rattle.c_registry.specs.Held.{held_of};
+ghost use Rattle.c_registry.specs.Own.{first_own_row};
 ghost use Rattle.c_answers.specs.Outcomes.{only_at};
 
 use super::address::{read_address, write_address};
@@ -207,7 +208,8 @@ pub fn sets_no_long_owner(
     set_row(alloc, handle, 300, 7, b"tcp", address, owner, outcome)
 }
 
-/// The rows of a registry that was started are listed: six, whose texts have 150 bytes.
+/// The rows of a registry that was started are listed: six, whose texts have 150 bytes. Those of the first, `tcp`,
+/// `0.0.0.0.0.111` and `superuser`, stand in front.
 pub fn lists_its_own_rows(
     alloc: Global,
     handle: &mut Registry,
@@ -216,7 +218,8 @@ pub fn lists_its_own_rows(
     outcome: &mut Outcome,
     counts: &mut RowCounts,
 ) -> (u32, u32)
-    ensures { result.0 ≡ 0 → result.1 ≡ 0 → counts.new ≡ record { rows = 6; bytes = 150 } }
+    ensures counts { result.0 ≡ 0 → result.1 ≡ 0 → counts.new ≡ record { rows = 6; bytes = 150 } }
+    ensures first { result.0 ≡ 0 → result.1 ≡ 0 → take 1 rows.new ≡ first_own_row ∷ [] }
 {
     let started = start_registry(alloc, handle, 111, b"", outcome);
     let listed = list_rows(alloc, handle, rows, bytes, counts);

@@ -1,7 +1,7 @@
 //! The rows of a registry, listed for C.
 ghost use Rattle.std.specs.Prelude.{◌≡◌, [], IfOk, option_map};
 ghost use Rattle.c_registry.specs.Held.{held_of};
-ghost use Rattle.c_registry.specs.Listed.{buffers, texts_of, AreRows, IsListed, IsListedBy, ReportsRows};
+ghost use Rattle.c_registry.specs.Listed.{buffers, texts_of, IsListed, IsListedBy, ReportsRows};
 ghost use Rattle.c_registry.specs.Private.Laid.{rows_behind};
 
 use super::handle::Registry;

@@ -2,8 +2,8 @@
 ghost use Rattle.std.specs.Prelude.{◌≡◌, [], ◌∷◌, ◌++◌, length, IfOk, OnOk, MatchBool};
 ghost use Rattle.registry_rows.specs.Views.{plain_row};
 ghost use Rattle.c_messages.specs.Parts.{part};
-ghost use Rattle.c_registry.specs.Listed.{buffers, ArePut, HaveTooFew};
-ghost use Rattle.c_registry.specs.Private.Laid.{row_behind, bytes_behind};
+ghost use Rattle.c_registry.specs.Listed.{buffers, ArePut};
+ghost use Rattle.c_registry.specs.Private.Laid.{row_behind, bytes_behind, HaveTooFew};
 
 use c_messages::Part;
 use registry_rows::Row;

@@ -11,3 +11,4 @@ mod Slot
 mod Reported
 mod Telling
 mod Putting
+mod Refused

@@ -9,7 +9,7 @@ use Rattle.xdr_types.specs.Within.{Bounds}
 use Rattle.xdr_types.specs.declared.kind.KindId.{KindId}
 use Rattle.xdr_writer.specs.Items.{ItemView, NodeItem, of_node, spelled_as, spelled, all_spelled, items}
 use Rattle.xdr_writer.specs.ItemsOf.{items_of}
-use Rattle.xdr_writer.specs.Answers.{Took, Refuses, IsKnown, HasNoValue}
+use Rattle.xdr_writer.specs.Answers.{Took, Takes, Refuses, IsKnown, HasNoValue}
 use Rattle.xdr_writer.specs.Represents.{IsSame, IsStarted, kinds_of, kind_of}
 use Rattle.xdr_writer.specs.declared.refusal.Why.{Why}
 use Rattle.xdr_writer.specs.declared.item.Step.{Step}
@@ -40,7 +40,7 @@ spelled_more (j ∷ is) k i =
 module _ (w : Writer) (bytes : List ℕ) (before : List ValueItem) (out : List ℕ) (writing : IsWriting w bytes before out)
     (c : ValueItem) where
   -- with an item that the writer took
-  module _ (x : Writer) (i : ItemView) (tells : Tells bytes c i) (more : List ℕ) (s : Step)
+  module _ (x : Writer) (same : asked x ≡ asked w) (i : ItemView) (tells : Tells bytes c i) (more : List ℕ) (s : Step)
       (took : Took w x writing.is i out more s) where
     told : AreTold bytes (before ++ c ∷ []) (items (writing.is ++ of_node took.kind i ∷ []))
     told =
@@ -58,27 +58,36 @@ module _ (w : Writer) (bytes : List ℕ) (before : List ValueItem) (out : List �
       represents = took.represents;
       told = told;
       spelled = spelled_all;
+      takes = λ some.
+          subst (λ (q : Question). (t : Step) × Takes q.kinds q.place q.limits (writing.is ++ of_node took.kind i ∷ [])
+          t) (sym same) (s, took.takes);
     }
 
-  taken_by : (x : Writer) (i : ItemView) (tells : Tells bytes c i) (more : List ℕ) (s : Step)
+  taken_by : (x : Writer) (same : asked x ≡ asked w) (i : ItemView) (tells : Tells bytes c i) (more : List ℕ) (s : Step)
       (took : Took w x writing.is i out more s) → IsTaken (asked w) (given (before ++ c ∷ []) bytes) more s
-  taken_by x i tells more step.Done took =
+  taken_by x same i tells more step.Done took =
       let v = took.takes in record {
         value = v.0;
         fits = v.1;
         told = subst (λ (is : List NodeItem). AreTold bytes (before ++ c ∷ []) (items is)) (sym v.2)
-            (told x i tells more step.Done took);
-        spelled = v.3 ∙ sym (spelled_all x i tells more step.Done took);
+            (told x same i tells more step.Done took);
+        spelled = v.3 ∙ sym (spelled_all x same i tells more step.Done took);
       }
-  taken_by x i tells more step.More took = λ v within are.
-      took.takes.unfinished v within.0
-      (told_one bytes (before ++ c ∷ []) (items_of (kinds_of w) (kind_of w) v) _ are
-      (told x i tells more step.More took))
+  taken_by x same i tells more step.More took = record {
+    is = writing.is ++ of_node took.kind i ∷ [];
+    told = told x same i tells more step.More took;
+    begun = took.takes;
+    none = λ v within are.
+        took.takes.unfinished v within.0
+        (told_one bytes (before ++ c ∷ []) (items_of (kinds_of w) (kind_of w) v) _ are
+        (told x same i tells more step.More took));
+  }
 
-  pub writes : (x : Writer) (i : ItemView) (tells : Tells bytes c i) (more : List ℕ) (s : Step)
-      (took : Took w x writing.is i out more s) → IsWriting x bytes (before ++ c ∷ []) more
+  pub writes : (x : Writer) (same : asked x ≡ asked w) (i : ItemView) (tells : Tells bytes c i) (more : List ℕ)
+      (s : Step) (took : Took w x writing.is i out more s) → IsWriting x bytes (before ++ c ∷ []) more
       × IsTaken (asked w) (given (before ++ c ∷ []) bytes) more s
-  writes x i tells more s took = (goes_on x i tells more s took, taken_by x i tells more s took)
+  writes x same i tells more s took =
+      (goes_on x same i tells more s took, taken_by x same i tells more s took)
 
   -- with an item that is refused
   module _ (at : ℕ) (after : List ValueItem) (place : at ≡ length before) where
@@ -91,7 +100,7 @@ module _ (w : Writer) (bytes : List ℕ) (before : List ValueItem) (out : List �
       split = refl;
       place = place;
       is = writing.is;
-      told = writing.told;
+      taken = record { told = writing.told; begin = writing.represents.begin; takes = writing.takes };
       why = is;
       none = none;
     }
@@ -126,7 +135,7 @@ module _ (w : Writer) (bytes : List ℕ) (before : List ValueItem) (out : List �
     refused i tells y is none (answer.BadItem f) r =
         subst (λ (n : ℕ). AreBad (asked w) (given (before ++ c ∷ after) bytes) n f.why) (sym r.1)
         (subst (λ (x : ItemWhy). AreBad (asked w) (given (before ++ c ∷ after) bytes) at x) (sym r.0)
-        (bad (fault.Refused y) (i, tells, is) (refused_none i tells (none r.2))))
+        (bad (fault.Refused y) (i, tells, r.2, is) (refused_none i tells (none r.2))))
     refused i tells y is none answer.NoMemory r = tt
     refused i tells y is none (answer.Whole n) r = absurd r
     refused i tells y is none (answer.Followed n) r = absurd r

@@ -5,7 +5,9 @@ use Rattle.xdr_types.specs.Spelling.{bytes_of}
 use Rattle.xdr_types.specs.Within.{AreBounds, FitsWithin}
 use Rattle.xdr_writer.specs.Items.{ItemView, NodeItem, items}
 use Rattle.xdr_writer.specs.ItemsOf.{items_of}
-use Rattle.xdr_writer.specs.Answers.{Refuses}
+use Rattle.xdr_writer.specs.Represents.{Begin}
+use Rattle.xdr_writer.specs.Answers.{Refuses, Takes, IsBegun, IsKnown}
+use Rattle.xdr_writer.specs.declared.item.Step.{Step}
 use Rattle.xdr_lang.specs.Declarations.{Declared}
 use Rattle.c_answers.specs.Buffers.{IsRetained}
 use Rattle.c_values.specs.declared.item.ValueItem.{ValueItem}
@@ -34,12 +36,20 @@ abbrev pub HasNoneOf : Question → Given → Type 0
 HasNoneOf q g = (v : Tree) → FitsWithin q.kinds q.place q.limits v
     → AreTold g.content g.items (items_of q.kinds q.place v) → ⊥
 
--- why an item is refused behind others: it tells none, or the writer refuses what it tells
+-- These items were all taken one by one: they tell items of nodes, which begin each value whose bytes begin with
+-- theirs, and with the last of them a value is begun or whole.
+pub record AreTaken (q : Question) (bytes : List ℕ) (cs : List ValueItem) (is : List NodeItem) : Type 0 where
+  pub told : AreTold bytes cs (items is)
+  pub begin : Begin q.kinds q.place is
+  pub takes : 0 < length cs → (s : Step) × Takes q.kinds q.place q.limits is s
+
+-- why an item is refused behind others: it tells none, or the writer refuses what it tells, not for want of memory
 abbrev pub IsFault : Question → (bytes : List ℕ) → (is : List NodeItem) → ValueItem → ItemWhy → Type 0
-IsFault q bytes is c (fault.Refused w) = (i : ItemView) × Tells bytes c i × Refuses q.kinds q.place q.limits is i w
+IsFault q bytes is c (fault.Refused w) =
+    (i : ItemView) × Tells bytes c i × IsKnown w × Refuses q.kinds q.place q.limits is i w
 IsFault q bytes is c w = IsUntold bytes c w
 
--- The item behind so many others is refused for this reason, and no value has them and then this one.
+-- The item behind so many others, which were taken, is refused for this reason, and no value has them and then it.
 pub record IsBadItem (q : Question) (g : Given) (at : ℕ) (w : ItemWhy) : Type 0 where
   pub before : List ValueItem
   pub item : ValueItem
@@ -47,13 +57,20 @@ pub record IsBadItem (q : Question) (g : Given) (at : ℕ) (w : ItemWhy) : Type 
   pub split : g.items ≡ before ++ item ∷ after
   pub place : at ≡ length before
   pub is : List NodeItem
-  pub told : AreTold g.content before (items is)
+  pub taken : AreTaken q g.content before is
   pub why : IsFault q g.content is item w
   pub none : HasNoneWith q g.content (before ++ item ∷ [])
 
+-- All items are taken, with the last of them a value is only begun, and none has these alone.
+pub record AreTooFew (q : Question) (g : Given) (at : ℕ) : Type 0 where
+  pub place : at ≡ length g.items
+  pub begun : 0 < length g.items
+      → (is : List NodeItem) × AreTold g.content g.items (items is) × IsBegun q.kinds q.place q.limits is
+  pub none : HasNoneOf q g
+
 -- the items are refused for this reason at this place: too few of them behind the last, else at an item
 abbrev pub AreBad : Question → Given → (at : ℕ) → ItemWhy → Type 0
-AreBad q g at fault.Unfinished = (at ≡ length g.items) × HasNoneOf q g
+AreBad q g at fault.Unfinished = AreTooFew q g at
 AreBad q g at w = IsBadItem q g at w
 
 -- The encoding does not go into the buffer.

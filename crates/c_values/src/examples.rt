@@ -8,11 +8,13 @@ ghost use Rattle.c_answers.specs.Outcomes.{only_at};
 use super::check::check_by_text;
 use super::declarations::{check_by_declarations, free_declarations, read_declarations};
 use super::handle::Handle;
+use super::item::ValueItem;
 use super::listed::PartsOutcome;
 use super::normal::normalise_records;
 use super::part::ValuePart;
 use super::parts::parts_by_declarations;
 use super::show::show_by_declarations;
+use super::write::write_by_declarations;
 use c_answers::Outcome;
 use std::alloc::Global;
 
@@ -184,4 +186,23 @@ pub fn lists_a_structure(
     ensures outcome { result ≡ 0 → outcome.new ≡ pair_outcome }
 {
     parts_by_declarations(alloc, handle, b"pair", 2, 12, input, parts, names, outcome)
+}
+
+/// Items that are refused are so for a reason, too few of them behind the last alone, and nothing is written of them.
+pub fn tells_why_items_are_refused(
+    alloc: Global,
+    handle: &mut Handle,
+    items: &[ValueItem],
+    content: &[u8],
+    buffer: &mut [u8],
+    written: &mut usize,
+    outcome: &mut Outcome,
+) -> u32
+    ensures reason { result ≡ 26 → 1 ≤ outcome.new.why }
+    ensures place { result ≡ 26 → outcome.new.why ≡ 12 → outcome.new.at ≡ length items.now }
+    ensures retained { result ≡ 26 → (buffer.new ≡ buffer.old) × (written.new ≡ 0) }
+{
+    write_by_declarations(
+        alloc, handle, b"pair", 2, 12, items, content, buffer, written, outcome,
+    )
 }

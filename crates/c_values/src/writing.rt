@@ -2,7 +2,7 @@
 ghost use Rattle.std.specs.Prelude.{◌≡◌, ◌<◌, ℕ, List, [], ◌∷◌, ◌++◌, length, IfOk, IfErr};
 ghost use Rattle.c_values.specs.Answers.{Question};
 ghost use Rattle.c_values.specs.Items.{Given, given};
-ghost use Rattle.c_values.specs.Written.{IsEncoded, HasNoneOf};
+ghost use Rattle.c_values.specs.Written.{IsEncoded, AreTooFew};
 ghost use Rattle.c_values.specs.Private.Writing.{asked, IsWriting, IsTaken, IsUnwritten, Reports};
 
 use super::answer::Answer;
@@ -54,7 +54,7 @@ fn put_item(
 
 /// The answer where so many items are too few.
 fn too_few(at: usize) -> Answer
-    ensures { (q : Question) (g : Given) → at ≡ length g.items → HasNoneOf q g → IsUnwritten q g result }
+    ensures { (q : Question) (g : Given) → AreTooFew q g at → IsUnwritten q g result }
 {
     Answer::BadItem(ItemFault {
         why: ItemWhy::Unfinished,

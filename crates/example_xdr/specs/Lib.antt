@@ -4,3 +4,4 @@ pub mod Pair
 pub mod Refusal
 pub mod Rfc
 pub mod Reported
+pub mod Optional

@@ -4,11 +4,12 @@
 //! kind is named by its place in a schema; `requires` says what stands there.
 ghost use Rattle.std.specs.Prelude.{◌≡◌, ◌≢◌, ◌<◌, ◌≤◌, length, codes, true, false, IfOk};
 ghost use Rattle.xdr_types.specs.Kinds as xdr;
-ghost use Rattle.xdr_types.specs.Kinds.{kind_at};
+ghost use Rattle.xdr_types.specs.Kinds.{KindView, kind_at};
 ghost use Rattle.xdr_types.specs.Fits.{Fits};
 ghost use Rattle.xdr_types.specs.Spelling.{bytes_of};
-ghost use Rattle.xdr_types.specs.Tree.{depth};
+ghost use Rattle.xdr_types.specs.Tree.{Tree, depth};
 ghost use Rattle.xdr_types.specs.View.{tree};
+ghost use Rattle.example_xdr.specs.Optional.{AreAlike};
 ghost use Rattle.example_xdr.specs.Rfc.{file_kinds};
 
 use std::alloc::Global;
@@ -183,3 +184,9 @@ pub fn string_longer_than_the_maximum(
 {
     fits(schema, id, &Value::Bytes(text), limits)
 }
+
+/// Optional data has the bytes of a union of bool with a void FALSE arm, and of an array of at most one element (RFC
+/// 4506 section 4.19). The definitions alone say so, and nothing is called.
+pub fn optional_data_is_a_union_and_an_array()
+    ensures { (element : KindView) (v : Tree) → AreAlike element v }
+{}

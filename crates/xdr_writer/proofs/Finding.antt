@@ -103,15 +103,16 @@ module _ (c d : Checker) (u : List ℕ) where
     waits = λ e. absurd (cc e);
   }
 
-  pub within : (space : ℕ) (b : List ℕ) (r : Result Step Why) → IsJudged c d b u r → IsJudgedWithin c d space b u r
-  within space b (Ok s) h = record { represents = h.represents; says = h.says }
-  within space b (Err (why.Refused f)) h = record { represents = tt; says = h.says }
-  within space b (Err why.PastEnd) h = record { represents = tt; says = h.says }
-  within space b (Err why.NoMemory) h = record { represents = tt; says = tt }
-  within space b (Err why.WrongItem) h = absurd h.says
-  within space b (Err why.NotInRange) h = absurd h.says
-  within space b (Err why.PastLimit) h = absurd h.says
-  within space b (Err why.Unfinished) h = absurd h.says
+  pub within : (space : ℕ) (b : List ℕ) (r : Result Step Why) → length u ≤ space → IsJudged c d b u r
+      → IsJudgedWithin c d space b u r
+  within space b (Ok s) low h = record { represents = h.represents; says = h.says }
+  within space b (Err (why.Refused f)) low h = record { represents = tt; says = (low, h.says) }
+  within space b (Err why.PastEnd) low h = record { represents = tt; says = (low, h.says) }
+  within space b (Err why.NoMemory) low h = record { represents = tt; says = (low, tt) }
+  within space b (Err why.WrongItem) low h = absurd h.says
+  within space b (Err why.NotInRange) low h = absurd h.says
+  within space b (Err why.PastLimit) low h = absurd h.says
+  within space b (Err why.Unfinished) low h = absurd h.says
 
   pub kept_by : (space : ℕ) (before after : List ℕ) (r : Result Step Why) → Judges c d u r
       → MatchResult r (λ (s : Step). after ≡ before ++ u) (λ (w : Why). after ≡ before) → 0 < length u

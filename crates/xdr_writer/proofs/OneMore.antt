@@ -9,11 +9,11 @@ use Rattle.xdr_due.specs.declared.due.Due.{Due}
 use Rattle.xdr_codec.specs.Checks as checks
 use Rattle.xdr_codec.specs.declared.checker.Checker.{Checker}
 use Rattle.xdr_writer.specs.Items.{ItemView, NodeItem, of_node, spelled_as, all_spelled}
-use Rattle.xdr_writer.specs.Forms.{HasForm}
+use Rattle.xdr_writer.specs.Forms.{HasForm, HasRange}
 use Rattle.xdr_writer.specs.Represents.{RepresentsItems, Begin, kinds_of, kind_of}
 use Rattle.xdr_writer.specs.Answers.{Took, Takes, Refuses, most_bytes}
 use Rattle.xdr_writer.specs.Private.Bytes.{coded_bytes, SaysOf, SaysWithin}
-use Rattle.xdr_writer.specs.Private.Becomes.{Becomes, IsPlace, HasRange}
+use Rattle.xdr_writer.specs.Private.Becomes.{Becomes, IsPlace}
 use Rattle.xdr_writer.specs.Private.Judged.{IsJudgedWithin, Kept, Grants}
 use Rattle.xdr_writer.specs.Private.After.{IsAfter, TookItem, SaysDue, FindsDue, RefusesItem}
 use Rattle.xdr_writer.specs.declared.refusal.Why.{Why}
@@ -84,7 +84,7 @@ module _ (c m d : Checker) (is : List NodeItem) (i : ItemView) (u : List ℕ) (e
       back (λ (s : List KindView) (t : ℕ) (l : Bounds). SaysWithin s t l space (all_spelled is) u (Err w)) c m first
       judged.says in
       within_refuse (checks.kinds_of c) (checks.kind_of c).place (checks.limits_of c) is r.begin e p i units space room
-      w (subst (λ (z : List ℕ). 4 ≤ length z) known some)
+      form range (subst (λ (z : List ℕ). 4 ≤ length z) known some) w
       (subst (λ (z : List ℕ). SaysWithin (checks.kinds_of c) (checks.kind_of c).place (checks.limits_of c) space
       (all_spelled is) z (Err w)) known says)
 

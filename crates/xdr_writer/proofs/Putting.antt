@@ -19,13 +19,13 @@ use Rattle.xdr_due.specs.declared.due.Due.TheVariants as due
 use Rattle.xdr_writer.specs.Items.{ItemView, number, flag, count, content, NodeItem, of_node, spelled_as, spelled}
 use Rattle.xdr_writer.specs.Items.{all_spelled, items}
 use Rattle.xdr_writer.specs.ItemsOf.{node_items_of, items_of}
-use Rattle.xdr_writer.specs.Forms.{HasForm, IsInRange, IsNext}
+use Rattle.xdr_writer.specs.Forms.{HasForm, IsInRange, HasRange, IsNext}
 use Rattle.xdr_writer.specs.Represents.{Begin}
 use Rattle.xdr_writer.specs.Answers.{Takes, IsBegun, IsEncoding, IsWritten, Refuses, IsKnown, HasNoValue, HasNoWhole}
 use Rattle.xdr_writer.specs.Answers.{RefusesEnd}
 use Rattle.xdr_writer.specs.Private.Bytes.{RefusesBytes, SaysWithin}
 use Rattle.xdr_writer.specs.Private.After.{HasNothingDue}
-use Rattle.xdr_writer.specs.Private.Becomes.{Becomes, HasRange, IsPlace}
+use Rattle.xdr_writer.specs.Private.Becomes.{Becomes, IsPlace}
 use Rattle.xdr_writer.specs.declared.refusal.Why.{Why}
 use Rattle.xdr_writer.specs.declared.refusal.Why.TheVariants as why
 use Rattle.xdr_writer.specs.declared.item.Step.{Step}
@@ -167,41 +167,51 @@ module _ (s : List KindView) (t : ℕ) (l : Bounds) (is : List NodeItem) (begin 
     refused_none (why.Refused f) h known = elim h.1 [
       | inl before ↦ before_none (fault_none s t l units f (all_spelled is) h.0 before)
       | inr there ↦ bytes_none there.0 there.1
-          (fault_none s t l units f (all_spelled is ++ spelled_as (kind_at s there.0.kind) i) h.0 there.2)
+          (fault_none s t l units f (all_spelled is ++ spelled_as (kind_at s there.0.kind) i) h.0 there.5)
     ]
     refused_none why.PastEnd h known = elim h [
       | inl before ↦ behind_none before
       | inr there ↦ bytes_none there.0 there.1
-          (past_none s t l units (all_spelled is) (spelled_as (kind_at s there.0.kind) i) there.2.0 there.2.1
-          there.2.2)
+          (past_none s t l units (all_spelled is) (spelled_as (kind_at s there.0.kind) i) there.5 there.6 there.7)
     ]
     refused_none why.PastLimit h known = bytes_none h.0 h.1
-        (limit_none s t l units (all_spelled is ++ spelled_as (kind_at s h.0.kind) i) h.2)
+        (limit_none s t l units (all_spelled is ++ spelled_as (kind_at s h.0.kind) i) h.4)
     refused_none why.Unfinished h known = absurd h
     refused_none why.NoMemory h known = absurd known
 
   -- ---- at that part
 
   module _ (e : Entry) (p : IsPlace s t (all_spelled is) e) (i : ItemView) where
-    module _ (units : l.bytes % 4 ≡ 0) (space : ℕ) (room : space ≡ l.bytes - length (all_spelled is)) where
-      pub within_refuse : (w : Why) → 4 ≤ length (spelled_as (kind_at s e.kind) i)
+    module _ (units : l.bytes % 4 ≡ 0) (space : ℕ) (room : space ≡ l.bytes - length (all_spelled is))
+        (form : HasForm (kind_at s e.kind) e.role i) (range : HasRange s (kind_at s e.kind) i)
+        (some : 4 ≤ length (spelled_as (kind_at s e.kind) i)) where
+      low : length (spelled_as (kind_at s e.kind) i) ≤ space
+          → length (all_spelled is ++ spelled_as (kind_at s e.kind) i) ≤ l.bytes
+      low fits = omega (arith, fits, room, some, length-append (all_spelled is) (spelled_as (kind_at s e.kind) i))
+
+      pub within_refuse : (w : Why)
           → SaysWithin s t l space (all_spelled is) (spelled_as (kind_at s e.kind) i) (Err w) → Refuses s t l is i w
-      within_refuse (why.Refused f) some h = (h.0, inr (e, p.next, h.1))
-      within_refuse why.PastEnd some h =
+      within_refuse (why.Refused f) h = (h.1, inr (e, p.next, form, range, low h.0, h.2))
+      within_refuse why.PastEnd h =
           inr (
             e,
             p.next,
-            (h.0, h.1, past s t l units (all_spelled is) (spelled_as (kind_at s e.kind) i) h.0 h.2 h.3),
+            form,
+            range,
+            low h.0,
+            (h.1, h.2, past s t l units (all_spelled is) (spelled_as (kind_at s e.kind) i) h.1 h.3 h.4),
           )
-      within_refuse why.PastLimit some h = (
+      within_refuse why.PastLimit h = (
         e,
         p.next,
+        form,
+        range,
         omega (arith, h, room, length-append (all_spelled is) (spelled_as (kind_at s e.kind) i)),
       )
-      within_refuse why.WrongItem some h = absurd (omega (arith, some, h))
-      within_refuse why.NoMemory some h = tt
-      within_refuse why.NotInRange some h = absurd h
-      within_refuse why.Unfinished some h = absurd h
+      within_refuse why.WrongItem h = absurd (omega (arith, some, h))
+      within_refuse why.NoMemory h = tt
+      within_refuse why.NotInRange h = absurd h.1
+      within_refuse why.Unfinished h = absurd h.1
 
     pub coded_refuse : (w : Why) → Becomes s (kind_at s e.kind) e.role i (Err w) → Refuses s t l is i w
     coded_refuse why.WrongItem h = (e, p.next, h)

@@ -1,5 +1,5 @@
 -- What a writer's answers say of the items that it has taken and of the next.
-use Rattle.std.specs.Prelude.{◌≡◌, ℕ, ◌+◌, ◌<◌, ◌⊎◌, List, [], ◌∷◌, ◌++◌, length, take, ⊤}
+use Rattle.std.specs.Prelude.{◌≡◌, ℕ, ◌+◌, ◌<◌, ◌≤◌, ◌⊎◌, List, [], ◌∷◌, ◌++◌, length, take, ⊤}
 use Rattle.std.specs.Prelude.{Result, Err, IfErr, OnErr}
 use Rattle.xdr_units.specs.Numbers.{padded}
 use Rattle.xdr_types.specs.Kinds.{KindView, kind_at}
@@ -16,7 +16,7 @@ use Rattle.xdr_stream.specs.declared.fault.Reason.TheVariants as reason
 use Rattle.xdr_writer.specs.Items.{ItemView, number, flag, count, content, NodeItem, of_node, spelled_as}
 use Rattle.xdr_writer.specs.Items.{all_spelled, items}
 use Rattle.xdr_writer.specs.ItemsOf.{node_items_of, items_of}
-use Rattle.xdr_writer.specs.Forms.{HasForm, IsInRange, IsNext}
+use Rattle.xdr_writer.specs.Forms.{HasForm, IsInRange, HasRange, IsNext}
 use Rattle.xdr_writer.specs.Represents.{RepresentsItems, HasRefused, IsSame, kinds_of, kind_of}
 use Rattle.xdr_writer.specs.declared.refusal.Why.{Why}
 use Rattle.xdr_writer.specs.declared.refusal.Why.TheVariants as why
@@ -54,15 +54,18 @@ pub record Took (a b : Writer) (is : List NodeItem) (i : ItemView) (before after
   pub bytes : after ≡ before ++ spelled_as kind i
   pub takes : Takes (kinds_of a) (kind_of a) a.limits (is ++ of_node kind i ∷ []) s
 
--- the bytes of an item where it comes next, at an entry
+-- the item comes next, at an entry whose form it has, its number in range, and this is said of its bytes
 abbrev pub NextBytes : List KindView → (kind : ℕ) → (b : List ℕ) → ItemView → (Said : List ℕ → Type 0) → Type 0
-NextBytes kinds kind b i Said = (e : Entry) × IsNext kinds kind b e × Said (spelled_as (kind_at kinds e.kind) i)
+NextBytes kinds kind b i Said =
+    (e : Entry) × IsNext kinds kind b e × HasForm (kind_at kinds e.kind) e.role i
+    × HasRange kinds (kind_at kinds e.kind) i × Said (spelled_as (kind_at kinds e.kind) i)
 
 -- the fault is not that memory was refused
 abbrev pub IsOfBytes : DecodeFault → Type 0
 IsOfBytes f = f.why ≡ reason.NoMemory → ⊥
 
--- what a refusal says of the items so far and the next
+-- What a refusal says of the items so far and the next: of more than one reason the first counts, its form, its range,
+-- the limit on bytes, and what decoding its bytes says.
 abbrev pub Refuses : List KindView → (kind : ℕ) → Bounds → (is : List NodeItem) → ItemView → Why → Type 0
 Refuses kinds kind limits is i why.WrongItem =
     (e : Entry) × IsNext kinds kind (all_spelled is) e × (HasForm (kind_at kinds e.kind) e.role i → ⊥)
@@ -71,11 +74,14 @@ Refuses kinds kind limits is i why.NotInRange =
     × (IsInRange kinds (kind_at kinds e.kind) i → ⊥)
 Refuses kinds kind limits is i (why.Refused f) =
     IsOfBytes f × (reported.Fails kinds kind limits f (all_spelled is)
-    ⊎ NextBytes kinds kind (all_spelled is) i (λ u. reported.Fails kinds kind limits f (all_spelled is ++ u)))
+    ⊎ NextBytes kinds kind (all_spelled is) i
+    (λ u. (length (all_spelled is ++ u) ≤ limits.bytes)
+    × reported.Fails kinds kind limits f (all_spelled is ++ u)))
 Refuses kinds kind limits is i why.PastEnd =
     IsEncoding kinds kind limits (all_spelled is)
     ⊎ NextBytes kinds kind (all_spelled is) i
-    (λ u. (n : ℕ) × (n < length u) × IsEncoding kinds kind limits (all_spelled is ++ take n u))
+    (λ u. (length (all_spelled is ++ u) ≤ limits.bytes)
+    × (n : ℕ) × (n < length u) × IsEncoding kinds kind limits (all_spelled is ++ take n u))
 Refuses kinds kind limits is i why.PastLimit =
     NextBytes kinds kind (all_spelled is) i (λ u. limits.bytes < length (all_spelled is ++ u))
 Refuses kinds kind limits is i why.Unfinished = ⊥

@@ -49,6 +49,14 @@ IsInRange kinds kind (count n) = n < 2 ^ 32
 IsInRange kinds (xdr.opaque size) (content bs) = ⊤
 IsInRange kinds kind (content bs) = length bs < 2 ^ 32
 
+-- the item's number or its count goes into its units; of content, whose length the limit on bytes bounds, nothing is
+-- said (RFC 4506 sections 4.1 to 4.5, 4.13, 4.15)
+abbrev pub HasRange : List KindView → KindView → ItemView → Type 0
+HasRange kinds kind (number z) = IsTrue (is_in_range kinds kind z)
+HasRange kinds kind (flag b) = ⊤
+HasRange kinds kind (count n) = n < 2 ^ 32
+HasRange kinds kind (content bs) = ⊤
+
 -- the next unit begins this part in each value that begins with the bytes
 abbrev pub IsNext : List KindView → (kind : ℕ) → (b : List ℕ) → Entry → Type 0
 IsNext kinds kind b e = HasNextUnit kinds kind b e × (e.at ≡ length b)

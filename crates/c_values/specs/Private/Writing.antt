@@ -1,7 +1,7 @@
 -- A value that is written an item at a time, as the code does it.
-use Rattle.std.specs.Prelude.{◌≡◌, ℕ, List, ⊤}
+use Rattle.std.specs.Prelude.{◌≡◌, ◌<◌, ℕ, List, length, ⊤}
 use Rattle.xdr_writer.specs.Items.{NodeItem, items, all_spelled}
-use Rattle.xdr_writer.specs.Answers.{IsKnown}
+use Rattle.xdr_writer.specs.Answers.{Takes, IsBegun, IsKnown}
 use Rattle.xdr_writer.specs.Represents.{RepresentsItems, kinds_of, kind_of}
 use Rattle.xdr_writer.specs.declared.refusal.Why.{Why}
 use Rattle.xdr_writer.specs.declared.item.Step.{Step}
@@ -25,11 +25,19 @@ pub record IsWriting (w : Writer) (bytes : List ℕ) (before : List ValueItem) (
   pub represents : RepresentsItems w is
   pub told : AreTold bytes before (items is)
   pub spelled : out ≡ all_spelled is
+  pub takes : 0 < length before → (s : Step) × Takes (kinds_of w) (kind_of w) w.limits is s
+
+-- the items are taken, and a value is only begun
+pub record AreBegun (q : Question) (g : Given) : Type 0 where
+  pub is : List NodeItem
+  pub told : AreTold g.content g.items (items is)
+  pub begun : IsBegun q.kinds q.place q.limits is
+  pub none : HasNoneOf q g
 
 -- what the step with the last of the items says of them all
 abbrev pub IsTaken : Question → Given → (out : List ℕ) → Step → Type 0
 IsTaken q g out step.Done = IsEncoded q g out
-IsTaken q g out step.More = HasNoneOf q g
+IsTaken q g out step.More = AreBegun q g
 
 -- the answer where the items are not written: why, or want of memory
 abbrev pub IsUnwritten : Question → Given → Answer → Type 0

@@ -6,7 +6,7 @@ use Rattle.xdr_types.specs.Kinds.{KindView, kind_at}
 use Rattle.xdr_types.specs.Fits.{is_signed, is_unsigned}
 use Rattle.xdr_types.specs.Layout.{Entry, Role}
 use Rattle.xdr_writer.specs.Items.{ItemView, number, flag, count, content, spelled_as}
-use Rattle.xdr_writer.specs.Forms.{HasForm, is_in_unit, is_in_range, IsInRange, IsNext}
+use Rattle.xdr_writer.specs.Forms.{HasForm, is_in_unit, is_in_range, IsInRange, HasRange, IsNext}
 use Rattle.xdr_writer.specs.Private.Bytes.{coded_bytes}
 use Rattle.xdr_writer.specs.declared.refusal.Why.{Why}
 use Rattle.xdr_writer.specs.declared.refusal.Why.TheVariants as why
@@ -36,13 +36,6 @@ abbrev pub IsCountedContent : KindView → Type 0
 IsCountedContent (xdr.opaque_up_to max) = ⊤
 IsCountedContent (xdr.text max) = ⊤
 IsCountedContent _ = ⊥
-
--- the item's number or count goes into its units; of content nothing is said
-abbrev pub HasRange : List KindView → KindView → ItemView → Type 0
-HasRange kinds kind (number z) = is_in_range kinds kind z ≡ true
-HasRange kinds kind (flag b) = ⊤
-HasRange kinds kind (count n) = n < 2 ^ 32
-HasRange kinds kind (content bs) = ⊤
 
 -- an item at a part of this kind and role: its bytes, or why it is none there
 abbrev pub Becomes : List KindView → KindView → Role → ItemView → Result Coded Why → Type 0

@@ -61,4 +61,4 @@ abbrev pub SaysWithin : List KindView → (kind : ℕ) → Bounds → (space : �
 SaysWithin kinds kind limits space b u (Ok s) = SaysOf kinds kind limits b u (Ok s)
 SaysWithin kinds kind limits space b u (Err why.PastLimit) = space < length u
 SaysWithin kinds kind limits space b u (Err why.WrongItem) = length u ≡ 0
-SaysWithin kinds kind limits space b u (Err w) = RefusesBytes kinds kind limits b u w
+SaysWithin kinds kind limits space b u (Err w) = (length u ≤ space) × RefusesBytes kinds kind limits b u w

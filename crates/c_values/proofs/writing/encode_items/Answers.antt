@@ -3,6 +3,7 @@ use Rattle.std.proofs.Common.{◌<◌, [], length, refl, arith, rules}
 use Rattle.std.proofs.Math.Seq.{drop-cons}
 use Rattle.c_values.specs.Items.{given}
 use Rattle.c_values.specs.Answers.{Question}
+use Rattle.c_values.specs.Private.Writing.{AreBegun}
 use Rattle.c_values.proofs.Putting.{started_question, one_more, stopped, ended, some_there}
 use Rattle.c_values.proofs.writing.encode_items.Goals as goal
 
@@ -18,6 +19,7 @@ loop-at-init c = record {
     represents = c.start-writer.ensures.represents;
     told = tt;
     spelled = c.new-out.ensures.items;
+    takes = λ some. absurd (omega (arith, some));
   };
   taken = λ some. absurd (omega (arith, some));
 }
@@ -51,6 +53,8 @@ returns-clause-unwritten c =
     let q : Question =
     record { kinds = c.args.schema.now.kinds; place = c.args.kind.place; limits = c.args.limits } in
     let some : 0 < length c.args.items.now = some_there _ _ c.is_empty.ensures c.if-is_empty.false in
-    c.too_few.ensures q (given c.args.items.now c.args.content.now) (search rules)
-    (ended q c.loop-at.writer c.args.content.now c.args.items.now c.loop-at.at c.loop-at.out.items c.loop-at.last
-    c.loop-at.invariant (omega arith) (omega arith) _ c.in-More.is)
+    let begun : AreBegun q (given c.args.items.now c.args.content.now) =
+    ended q c.loop-at.writer c.args.content.now c.args.items.now c.loop-at.at c.loop-at.out.items c.loop-at.last
+    c.loop-at.invariant (omega arith) (omega arith) _ c.in-More.is in
+    c.too_few.ensures q (given c.args.items.now c.args.content.now)
+    (record { place = search rules; begun = λ some. (begun.is, begun.told, begun.begun); none = begun.none })

@@ -11,6 +11,7 @@ pub returns-clause-judged : goal.returns-clause-judged
 returns-clause-judged c = λ b st.
     let w = c.args.checker.now in
     within w c.write.new.checker (coded_bytes c.args.coded) c.args.space b c.write.result
+    (omega (arith, c.in-Some.ensures.0, c.in-Some.ensures.1))
     (subst (λ (z : List ℕ). IsJudged w c.write.new.checker b z c.write.result) c.pieces_of-pieces.ensures
     (c.write.ensures.judges.judged b st))
 
