@@ -190,6 +190,7 @@ static void put_optional(struct list *to, const struct file *file) {
     }
 }
 
+/* Of LOOKUP the file whose folder and name these are, and both of their attributes. */
 static void look_up(const struct value *arguments, const struct file *folder, struct list *results) {
     const struct file *file = tree;
     while (folder && file < tree_end
@@ -205,6 +206,7 @@ static void look_up(const struct value *arguments, const struct file *folder, st
     put_optional(results, folder);
 }
 
+/* Of READ so much of the text as was asked for, and is there. */
 static void read_file(const struct value *arguments, const struct file *file, struct list *results) {
     put_number(results, !file ? STALE : file->text ? OK : INVAL);
     put_optional(results, file);
@@ -289,28 +291,37 @@ static int ask(struct end *end, uint32_t procedure, const struct list *arguments
     oncrpc_reply reply;
     if (fails("arguments", write_value(kind_of(procedure, "1"), arguments, bytes, &bytes_count))
         || fails("a call",
-            oncrpc_call_write(&call, NULL, 0, NULL, 0, bytes, bytes_count, buffer + 4, sizeof buffer - 4, &count))
-        || !send_record(end, buffer, count) || receive(end) != 1
-        || fails("a reply", oncrpc_reply_read(end->record, end->count, &reply))) {
+            oncrpc_call_write(&call, NULL, 0, NULL, 0, bytes, bytes_count, buffer + 4, sizeof buffer - 4, &count))) {
         return 0;
     }
-    if (reply.xid != xid || reply.state != ONCRPC_SUCCESS) {
-        fprintf(stderr, "a reply to %u of state %u\n", reply.xid, reply.state);
+    if (!send_record(end, buffer, count) || receive(end) != 1
+        || fails("a reply", oncrpc_reply_read(end->record, end->count, &reply)) || reply.xid != xid
+        || reply.state != ONCRPC_SUCCESS) {
+        fprintf(stderr, "there are no results of %u\n", procedure);
         return 0;
     }
     return !fails("results", read_value(kind_of(procedure, "result"), end->record + reply.results.at,
         reply.results.count, results));
 }
 
+/* Whether the status of results is NFS3_OK. Another is told. */
+static int is_done(const char *name, const struct value *results) {
+    uint64_t status = number_in(results, "");
+    if (status != OK) {
+        printf("%s: status %u\n", name, (unsigned)status);
+    }
+    return status == OK;
+}
+
 /* Prints the text of a file, which is read in small pieces. */
-static int print_text(struct end *end, const struct list *file) {
+static int print_text(struct end *end, const char *name, const struct list *file) {
     struct value results;
     uint64_t offset = 0;
     do {
         struct list asked = *file;
         put_number(&asked, offset);
         put_number(&asked, 20);
-        if (!ask(end, READ, &asked, &results) || number_in(&results, "") != OK) {
+        if (!ask(end, READ, &asked, &results) || !is_done(name, &results)) {
             return 0;
         }
         const oncrpc_value_part *data = find(&results, "data", ONCRPC_ROLE_CONTENT);
@@ -323,13 +334,13 @@ static int print_text(struct end *end, const struct list *file) {
 /* Prints what has this handle, and the text of a file. */
 static int print_file(struct end *end, const char *name, const struct list *file) {
     struct value results;
-    if (!ask(end, GETATTR, file, &results) || number_in(&results, "") != OK) {
+    if (!ask(end, GETATTR, file, &results) || !is_done(name, &results)) {
         return 0;
     }
     int is_file = number_in(&results, "type") == REGULAR;
     printf("%s: %s %u, mode %o, %u bytes\n", name, is_file ? "file" : "folder", (unsigned)number_in(&results, "fileid"),
         (unsigned)number_in(&results, "mode"), (unsigned)number_in(&results, "size"));
-    return !is_file || print_text(end, file);
+    return !is_file || print_text(end, name, file);
 }
 
 /* Looks a name up: `found` has then the handle alone. Prints what it leads to, or the status. */
@@ -340,8 +351,7 @@ static int follow(struct end *end, const struct list *folder, const char *name, 
     if (!ask(end, LOOKUP, &asked, &results)) {
         return 0;
     }
-    if (number_in(&results, "") != OK) {
-        printf("%s: status %u\n", name, (unsigned)number_in(&results, ""));
+    if (!is_done(name, &results)) {
         return 1;
     }
     const oncrpc_value_part *handle = find(&results, "data", ONCRPC_ROLE_CONTENT);
