@@ -7,9 +7,9 @@
  *
  * SHOWN BY TESTS, and by no contract: that ONCRPC_NO_MEMORY comes only where malloc or realloc refused, or as
  * oncrpc_normalise says of its input. That no memory is lost. Which error of a text is told, and at which line and
- * column. Of ONCRPC_BAD_ITEM that the item is the first with which no value goes on, and its reason. The stack that is
- * needed, and that no call ends the process. The numbers and the texts of this file, and the
- * sizes and the places of fields. That the hashes of a registry depend on its seed is shown by neither: it is the code.
+ * column. Of ONCRPC_BAD_ITEM that each item before the bad one was taken, and the reason. The stack that is needed, and
+ * that no call ends the process. The numbers and the texts of this file, and the sizes and the places of fields. That
+ * the hashes of a registry depend on its seed is shown by neither: it is the code.
  *
  * POINTERS. A pointer to bytes, parts or rows has a count beside it, and leads to so many. Where the count is 0 it may
  * be NULL, and is not looked at. No other pointer may be NULL: neither a handle, nor an outcome, nor a call, nor a
@@ -120,7 +120,12 @@ enum {
 };
 
 /* Why items are refused: `why` of an outcome with ONCRPC_BAD_ITEM. That is one of these, or the reason above for which
- * the bytes of the item would be refused: ONCRPC_BAD_BOOL to ONCRPC_TOO_LARGE. */
+ * the bytes of the item would be refused: ONCRPC_BAD_BOOL to ONCRPC_TOO_LARGE.
+ *
+ * Of several reasons the first is told. An item that no value has comes first: its form is none, it is a flag or a
+ * count out of range, or content outside of the data. Then come ONCRPC_PAST_END, and ONCRPC_TOO_DEEP of a value that is
+ * too deep before its first item. Then another item that is due, and then a number out of range. Then ONCRPC_TOO_LARGE
+ * of an item whose bytes pass the limit on bytes: of content above its maximum too. Last are the other reasons. */
 enum {
     ONCRPC_WRONG_ITEM = 9,    /* another item is due: a number, a flag, a count or content, or content of another
                                  fixed size; or its form is none */
@@ -381,9 +386,13 @@ uint32_t oncrpc_declarations_parts(
  * ONCRPC_OK: there is such a value, and `written` and `at` of the outcome say how many bytes its encoding has. They
  * are the first of the buffer; the others are as they were. ONCRPC_NO_ROOM: `at` says how many bytes are needed.
  * ONCRPC_BAD_ITEM: no value within the limits has the items up to the one that `at` others are before, for the
- * reason `why`; or, with ONCRPC_UNFINISHED, none has these items alone. At any status but the first the buffer is
- * as it was, and `written` is 0, so a count of 0 asks how many are needed. The name is looked at first, then the
- * limits, then the items in their order. It takes memory for the encoding, and for a frame for each open node.
+ * reason `why`; or, with ONCRPC_UNFINISHED, none has these items alone. The items before it were taken: some value of
+ * the kind begins with them, perhaps none within the limits. A count is taken where there are no bytes for all that it
+ * counts, and a later item is refused then.
+ *
+ * At any status but ONCRPC_OK the buffer is as it was, and `written` is 0, so a count of 0 asks how many are needed.
+ * The name is looked at first, then the limits, then the items in their order. It takes memory for the encoding, and
+ * for a frame for each open node.
  * ONCRPC_OK, _NO_KIND, _BAD_LIMITS, _NO_MEMORY, _NO_DECLARATIONS, _NO_ROOM, _BAD_ITEM. */
 uint32_t oncrpc_declarations_write(
     oncrpc_declarations *declarations,

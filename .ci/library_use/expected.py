@@ -54,6 +54,17 @@ port 2049
 100000 4 udp 111 superuser
 536870912 1 tcp 2049 port.c
 """
+SERVED = """/: folder 1, mode 755, 0 bytes
+README: file 2, mode 644, 23 bytes
+A tree of three files.
+more: status 20
+rhymes: folder 3, mode 755, 0 bytes
+jack.txt: file 4, mode 644, 57 bytes
+Jack and Jill went up the hill
+to fetch a pail of water.
+empty.txt: file 5, mode 644, 0 bytes
+jill.txt: status 2
+"""
 TOLD = """call c117f9be of 100000.4.0, 0 bytes of arguments at 68
   uid 1000, gid 100 of box, gids 100
 call: status 11, xid c117f9be, RPC 2
@@ -125,6 +136,7 @@ EXAMPLES = [
     ("write.c", WRITTEN),
     ("records.c", MARKED),
     ("port.c", PORT),
+    ("nfsd.c", SERVED),
     ("messages.c", TOLD),
     ("threads.c", AT_ONCE),
     ("check.cc", HELD),

@@ -49,8 +49,28 @@ static const struct { uint32_t program, version; const char *netid, *address, *o
 };
 enum { LISTED = sizeof listed / sizeof *listed, TEXTS = 6 * 25 + 21 };
 
-static int has_text(const uint8_t *texts, oncrpc_part part, const char *text) {
-    return part.count == strlen(text) && part.at + part.count <= TEXTS && !memcmp(texts + part.at, text, part.count);
+/* The row that was set, whose three texts are "tcp0.0.0.0.8.1unknown", behind the six rows of 3, 13 and 9 bytes. */
+static const oncrpc_registry_row set_row = {300, 7, {150, 3}, {153, 11}, {164, 7}};
+
+/* The text is that of the part, which begins at this place. */
+static int has_text(const uint8_t *texts, oncrpc_part part, size_t at, const char *text) {
+    return part.at == at && part.count == strlen(text) && at + part.count <= TEXTS
+        && !memcmp(texts + at, text, part.count);
+}
+
+/* The rows are those that are listed, each text directly behind the one before it. */
+static void judge_rows(const oncrpc_registry_row *rows, const uint8_t *texts) {
+    size_t at = 0;
+    for (size_t k = 0; k < LISTED; k++) {
+        size_t address = at + strlen(listed[k].netid), owner = address + strlen(listed[k].address);
+        judge(rows[k].program == listed[k].program && rows[k].version == listed[k].version
+            && has_text(texts, rows[k].netid, at, listed[k].netid)
+            && has_text(texts, rows[k].address, address, listed[k].address)
+            && has_text(texts, rows[k].owner, owner, listed[k].owner), (uint32_t)k);
+        at = owner + strlen(listed[k].owner);
+    }
+    judge(!memcmp(rows + LISTED - 1, &set_row, sizeof set_row), LISTED);
+    judge(!memcmp(texts + 150, "tcp0.0.0.0.8.1unknown", 21), LISTED);
 }
 
 /* All rows in their order; one row or one byte too few, and nothing is written. A reply that waits, waits on. */
@@ -72,11 +92,8 @@ static void list_rows(oncrpc_registry *held) {
         judge(is_refused || (status == (i < 2 ? ONCRPC_NO_ROOM : ONCRPC_OK) && is_told), status);
         int are_kept = !memcmp(rows, untouched, sizeof rows) && !memcmp(texts, before, sizeof texts);
         judge(status == ONCRPC_OK || are_kept, 0);
-        for (size_t k = 0; status == ONCRPC_OK && k < LISTED; k++) {
-            judge(rows[k].program == listed[k].program && rows[k].version == listed[k].version
-                && has_text(texts, rows[k].netid, listed[k].netid)
-                && has_text(texts, rows[k].address, listed[k].address)
-                && has_text(texts, rows[k].owner, listed[k].owner), (uint32_t)k);
+        if (status == ONCRPC_OK) {
+            judge_rows(rows, texts);
         }
     }
     judge(!memcmp(rows + LISTED, untouched, sizeof *rows) && texts[TEXTS] == '.', 0);

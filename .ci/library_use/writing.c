@@ -81,6 +81,30 @@ static const struct written_row written_rows[] = {
     {"list", {COUNT(3)}, 1, NULL, 0, ONCRPC_TOO_LONG, 0},
     {"list", {COUNT(4294967295)}, 1, NULL, 0, ONCRPC_TOO_LONG, 0},
     {"name", {CONTENT(0, 4)}, 1, NULL, 0, ONCRPC_TOO_LONG, 0},
+    /* Two faults. Of an item that no value has that is told, behind a value and where another is due too. */
+    {"int", {FLAG(2)}, 1, NULL, 0, ONCRPC_NOT_IN_RANGE, 0},
+    {"int", {COUNT(4294967296)}, 1, NULL, 0, ONCRPC_NOT_IN_RANGE, 0},
+    {"int", {CONTENT(9, 0)}, 1, NULL, 0, ONCRPC_OUTSIDE, 0},
+    {"three", {CONTENT(6, 4)}, 1, NULL, 0, ONCRPC_OUTSIDE, 0},
+    {"name", {CONTENT(5, 4)}, 1, NULL, 0, ONCRPC_OUTSIDE, 0},
+    {"int", {SIGNED(1), {6, 1, 1, 0, 1}}, 2, NULL, 0, ONCRPC_WRONG_ITEM, 1},
+    {"int", {SIGNED(1), FLAG(2)}, 2, NULL, 0, ONCRPC_NOT_IN_RANGE, 1},
+    {"int", {SIGNED(1), COUNT(4294967296)}, 2, NULL, 0, ONCRPC_NOT_IN_RANGE, 1},
+    {"int", {SIGNED(1), CONTENT(9, 0)}, 2, NULL, 0, ONCRPC_OUTSIDE, 1},
+    /* Behind a value nothing else is told of an item, also where it is another than stands there or out of range. */
+    {"int", {SIGNED(1), SIGNED(2147483648)}, 2, NULL, 0, ONCRPC_PAST_END, 1},
+    {"name", {CONTENT(0, 3), CONTENT(0, 4)}, 2, NULL, 0, ONCRPC_PAST_END, 1},
+    /* Another item than is due, and too few, or above the maximum. */
+    {"pair", {FLAG(1)}, 1, NULL, 0, ONCRPC_WRONG_ITEM, 0},
+    {"list", {CONTENT(0, 8)}, 1, NULL, 0, ONCRPC_WRONG_ITEM, 0},
+    {"name", {COUNT(4)}, 1, NULL, 0, ONCRPC_WRONG_ITEM, 0},
+    /* Out of range, and no boolean, no member and without an arm. */
+    {"bool", {UNSIGNED(4294967296)}, 1, NULL, 0, ONCRPC_NOT_IN_RANGE, 0},
+    {"bool", {SIGNED(-1)}, 1, NULL, 0, ONCRPC_NOT_IN_RANGE, 0},
+    {"colour", {SIGNED(2147483648)}, 1, NULL, 0, ONCRPC_NOT_IN_RANGE, 0},
+    {"counted", {SIGNED(-1)}, 1, NULL, 0, ONCRPC_NOT_IN_RANGE, 0},
+    /* Above the maximum, and too many. */
+    {"name", {CONTENT(0, 4), SIGNED(1)}, 2, NULL, 0, ONCRPC_TOO_LONG, 0},
 };
 
 /* The value stands at the front of room that is just enough, and nothing in less; nothing of items that are refused. */
@@ -105,34 +129,55 @@ static void write_row(oncrpc_declarations *held, const struct written_row *row) 
         status);
 }
 
-/* The limits are those of a check: of the deepest item, of all bytes, and in their ranges. */
+/* The limits are those of a check: of the deepest item, of all bytes, and in their ranges. A row: the items, the limits
+ * on depth and bytes, and the answer. */
+static const struct {
+    const char *name;
+    oncrpc_item items[3];
+    size_t count;
+    uint32_t depth, bytes, status, why;
+    size_t at;
+} limited[] = {
+    {"node", {FLAG(1), FLAG(1), FLAG(0)}, 3, 6, 12, ONCRPC_OK, 0, 12},
+    {"node", {FLAG(1), FLAG(1), FLAG(0)}, 3, 5, 12, ONCRPC_BAD_ITEM, ONCRPC_TOO_DEEP, 1},
+    {"node", {FLAG(1), FLAG(1), FLAG(0)}, 3, 4, 12, ONCRPC_BAD_ITEM, ONCRPC_TOO_DEEP, 1},
+    {"node", {FLAG(0)}, 0, 1, 12, ONCRPC_BAD_ITEM, ONCRPC_UNFINISHED, 0},
+    {"pair", {SIGNED(1), SIGNED(2)}, 2, 2, 8, ONCRPC_OK, 0, 8},
+    {"pair", {SIGNED(1), SIGNED(2)}, 2, 1, 8, ONCRPC_BAD_ITEM, ONCRPC_TOO_DEEP, 0},
+    {"pair", {SIGNED(1), SIGNED(2)}, 2, 2, 4, ONCRPC_BAD_ITEM, ONCRPC_TOO_LARGE, 0},
+    {"pair", {SIGNED(1), SIGNED(2)}, 2, 0, 8, ONCRPC_BAD_LIMITS, 0, 0},
+    {"pair", {SIGNED(1), SIGNED(2)}, 2, 2, 6, ONCRPC_BAD_LIMITS, 0, 0},
+    {"folder", {SIGNED(1), SIGNED(2)}, 2, 0, 8, ONCRPC_NO_KIND, 0, 0},
+    /* Too deep before the first item, which is another than is due, or out of range; one that no value has is told. */
+    {"pair", {FLAG(1)}, 1, 1, 8, ONCRPC_BAD_ITEM, ONCRPC_TOO_DEEP, 0},
+    {"pair", {SIGNED(2147483648)}, 1, 1, 8, ONCRPC_BAD_ITEM, ONCRPC_TOO_DEEP, 0},
+    {"pair", {FLAG(2)}, 1, 1, 8, ONCRPC_BAD_ITEM, ONCRPC_NOT_IN_RANGE, 0},
+    {"pair", {CONTENT(9, 0)}, 1, 1, 8, ONCRPC_BAD_ITEM, ONCRPC_OUTSIDE, 0},
+    /* Past the limit on bytes, and above the maximum; but another item than is due, or out of range, comes first. */
+    {"hyper", {SIGNED(1)}, 1, 1, 4, ONCRPC_BAD_ITEM, ONCRPC_TOO_LARGE, 0},
+    {"name", {CONTENT(0, 4)}, 1, 1, 4, ONCRPC_BAD_ITEM, ONCRPC_TOO_LARGE, 0},
+    {"name", {CONTENT(0, 4)}, 1, 1, 8, ONCRPC_BAD_ITEM, ONCRPC_TOO_LONG, 0},
+    {"three", {CONTENT(0, 8)}, 1, 1, 4, ONCRPC_BAD_ITEM, ONCRPC_WRONG_ITEM, 0},
+    {"hyper", {FLAG(1)}, 1, 1, 4, ONCRPC_BAD_ITEM, ONCRPC_WRONG_ITEM, 0},
+    {"unsigned-hyper", {SIGNED(-1)}, 1, 1, 4, ONCRPC_BAD_ITEM, ONCRPC_NOT_IN_RANGE, 0},
+    {"opaque", {CONTENT(7, 2)}, 1, 1, 4, ONCRPC_BAD_ITEM, ONCRPC_OUTSIDE, 0},
+    /* The limit is reached where more is due: that is too deep, or there is no more. */
+    {"node", {FLAG(1), FLAG(1)}, 2, 4, 8, ONCRPC_BAD_ITEM, ONCRPC_TOO_DEEP, 1},
+    {"node", {FLAG(1), FLAG(1)}, 2, 6, 8, ONCRPC_BAD_ITEM, ONCRPC_TOO_LARGE, 1},
+    /* A count is taken where there are no bytes for all that it counts. */
+    {"list", {COUNT(2)}, 1, 2, 8, ONCRPC_BAD_ITEM, ONCRPC_UNFINISHED, 1},
+    {"list", {COUNT(2), SIGNED(1), SIGNED(2)}, 3, 2, 8, ONCRPC_BAD_ITEM, ONCRPC_TOO_LARGE, 1},
+    {"list", {COUNT(2), SIGNED(1), SIGNED(2)}, 3, 2, 4, ONCRPC_BAD_ITEM, ONCRPC_TOO_LARGE, 0},
+};
+
 static void write_limited(oncrpc_declarations *held) {
-    static const oncrpc_item chain[] = {FLAG(1), FLAG(1), FLAG(0)}, two[] = {SIGNED(1), SIGNED(2)};
-    static const struct {
-        const char *name;
-        const oncrpc_item *items;
-        size_t count;
-        uint32_t depth, bytes, status, why;
-        size_t at;
-    } limited[] = {
-        {"node", chain, 3, 6, 12, ONCRPC_OK, 0, 12},
-        {"node", chain, 3, 5, 12, ONCRPC_BAD_ITEM, ONCRPC_TOO_DEEP, 1},
-        {"node", chain, 3, 4, 12, ONCRPC_BAD_ITEM, ONCRPC_TOO_DEEP, 1},
-        {"node", NULL, 0, 1, 12, ONCRPC_BAD_ITEM, ONCRPC_UNFINISHED, 0},
-        {"pair", two, 2, 2, 8, ONCRPC_OK, 0, 8},
-        {"pair", two, 2, 1, 8, ONCRPC_BAD_ITEM, ONCRPC_TOO_DEEP, 0},
-        {"pair", two, 2, 2, 4, ONCRPC_BAD_ITEM, ONCRPC_TOO_LARGE, 0},
-        {"pair", two, 2, 0, 8, ONCRPC_BAD_LIMITS, 0, 0},
-        {"pair", two, 2, 2, 6, ONCRPC_BAD_LIMITS, 0, 0},
-        {"folder", two, 2, 0, 8, ONCRPC_NO_KIND, 0, 0},
-    };
     for (size_t i = 0; i < sizeof limited / sizeof *limited; i++) {
         uint8_t room[16];
         size_t written = 9;
         oncrpc_outcome outcome = {9, 9, 9, 9, 9};
         uint32_t status = oncrpc_declarations_write(held, bytes(limited[i].name), strlen(limited[i].name),
-            limited[i].depth, limited[i].bytes, limited[i].items, limited[i].count, NULL, 0, room, sizeof room,
-            &written, &outcome);
+            limited[i].depth, limited[i].bytes, limited[i].items, limited[i].count, bytes(letters), 8, room,
+            sizeof room, &written, &outcome);
         judge(status == limited[i].status && tells(&outcome, limited[i].at, limited[i].why)
             && written == (status == ONCRPC_OK ? limited[i].at : 0), status);
     }

@@ -23,7 +23,8 @@ pub enum Item<'a> {
     Content(&'a [u8]),
 }
 
-/// Why items are refused.
+/// Why items are refused. Of several reasons the first is told: the value is whole already, or it is too deep before
+/// its first item; another item is due; a number is out of range; the item's bytes pass the limit; then the others.
 #[derive(Clone, Copy, Debug, PartialEq, Eq, Hash)]
 #[non_exhaustive]
 pub enum ItemReason {
@@ -55,7 +56,8 @@ impl ItemReason {
 #[derive(Clone, Copy, Debug, PartialEq, Eq, Hash)]
 #[non_exhaustive]
 pub enum ItemsFault {
-    /// No value has these items.
+    /// No value within the limits has the items up to the bad one. Those before it were taken: some value of the kind
+    /// begins with them, perhaps none within the limits.
     BadItem {
         /// Why.
         why: ItemReason,
