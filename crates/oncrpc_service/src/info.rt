@@ -55,10 +55,10 @@ pub fn info_over<R: Source, W: Sink, O: Sink, F: Sink>(
     end_with(alloc, output, faults, vers, answer)
 }
 
-/// Asks the registry behind a port for all its rows by one datagram, and prints what `info_over` prints of the answer:
-/// a header and a line for each row, status 0, or one line `refused ..`, status 1. A port or an output that fails is
-/// status 3, want of memory is status 4; then `faults` gets the line, and of the rows nothing or a beginning is
-/// printed.
+/// Asks the registry behind a port for all its rows by one datagram, and prints what `info_over` prints of the answer.
+/// That is a header and a line for each row, status 0, or one line `refused ..`, status 1. A port or an output that
+/// fails is status 3, and an allocation failure is status 4. Then `faults` gets the line, and of the rows nothing or a
+/// beginning is printed.
 pub fn info_datagram<P: DatagramPort, O: Sink, F: Sink>(
     alloc: Global,
     port: &mut P,

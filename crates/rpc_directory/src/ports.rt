@@ -54,8 +54,8 @@ impl<S: BuildHasher> Directory<S> {
     }
 
     /// The port of a version of a program over the transport of this number (RFC 1833 section 3.2, PMAPPROC_GETPORT),
-    /// that of the row which `getaddr` looks up: 0 for a `prot` other than 6 and 17, where there is no such row, and
-    /// where its address is no universal address over IPv4. It costs what `getaddr` costs, and takes no memory.
+    /// that of the row which `getaddr` looks up. It is 0 for a `prot` other than 6 and 17, where there is no such row,
+    /// and where its address is no universal address over IPv4. It costs what `getaddr` costs, and takes no memory.
     pub fn get_port(&self, prog: u32, vers: u32, prot: u32) -> u32
         ensures value { result ≡ ports.get_port self.now prog vers prot }
         ensures port { result < 2 ^ 16 }

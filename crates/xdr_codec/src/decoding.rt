@@ -21,9 +21,9 @@ use xdr_types::{KindId, Limits, Schema, Value};
 /// one outcome alone is `xdr_laws::one_outcome`.
 ///
 /// A fault other than `NoMemory` says that there is no such pair; unless it is `Truncated`, there is none in any longer
-/// input either. `at` is the count of bytes before the unit that is refused; for `TooDeep` of those before the node
-/// that lies too deep, for `TooLarge` the limit on bytes, for `Truncated` the count of all bytes. For `NoMemory` it is
-/// at most that count and says no more.
+/// input either. `at` is the count of bytes before the unit that is refused. For `TooDeep` it counts those before the
+/// node that lies too deep; for `TooLarge` it is the limit on bytes, for `Truncated` the count of all bytes. For
+/// `NoMemory` it is at most that count and says no more.
 ///
 /// Memory is what the value needs, and a frame for each of its open nodes; none where the kind is a number, a boolean,
 /// an enumeration or void. Reading does not recurse; the drop of the value does, one level a call.

@@ -34,10 +34,10 @@ fn declared(alloc: Global, text: &[u8]) -> Result<Declared, Fault>
 
 /// Reads a text of at most 262144 bytes: what it declares (RFC 4506 section 6, RFC 5531 section 12).
 ///
-/// The faults come in this order: 11 at the beginning; the first bad token, 1 or 2; the first token that
-/// cannot continue the grammar, 3 or 4, or the brace of a 33rd body, 12; then 5 to 8 at the first token
-/// at fault, at one token the lowest number; 9; 10, where the definition or declaration of the kind
-/// begins. 13 may come in place of any other answer, where a growth was refused.
+/// The faults come in this order: 11 at the beginning, then the first bad token, 1 or 2. Next is the first token that
+/// cannot continue the grammar, 3 or 4, or the brace of a 33rd body, 12. Then come 5 to 8 at the first token at fault,
+/// at one token the lowest number; then 9; then 10, where the definition or declaration of the kind begins. 13 may come
+/// in place of any other answer, where a growth was refused.
 pub fn read(alloc: Global, text: &[u8]) -> Result<Declared, LangFault>
     // What is read is what the text means.
     ensures found { IfOk result (λ v. Means text.now (declared_of v)) }

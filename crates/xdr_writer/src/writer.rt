@@ -61,9 +61,9 @@ impl<'s> Writer<'s> {
     /// the kind within the limits, and all bytes written its encoding.
     ///
     /// A refusal comes only where no value within the limits has the items so far and then this one, or memory was
-    /// refused: where another item is due, where its number is out of range, and where decoding its bytes ends without
-    /// a value. The item's bytes are judged before any is written, so nothing of it is written then; the refusal comes
-    /// again at each later call.
+    /// refused. The first is so where another item is due, where its number is out of range, and where decoding its
+    /// bytes ends without a value. The item's bytes are judged before any is written, so nothing of it is written then;
+    /// the refusal comes again at each later call.
     ///
     /// Memory is taken for frames, where a node opens, and for `out`, as much as the item's bytes ask for. No clause
     /// says which items open a node, so want of memory is ruled out for kinds without parts alone.

@@ -52,7 +52,7 @@ fn take_first<'s, B: Build>(
 
 impl<'s, B: Build + Drop> Reader<'s, B> {
     /// Takes the parts that come first, as long as they are numbers, content, short unions or optionals, or arrays
-    /// without items, and there whole; tells how many bytes, and whether the next part is none of these. What comes
+    /// without items, and there whole. Tells how many bytes, and whether the next part is none of these. What comes
     /// next is not settled then.
     #[inline(always)]
     pub(crate) fn take_fields(&mut self, bytes: &[u8]) -> (usize, bool)
