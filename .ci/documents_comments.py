@@ -1,19 +1,19 @@
-"""The sentences of documents and of comments, and the map of modules at the head of a crate."""
+"""The sentences of documents and of comments, and the map of modules at the head of each crate with many."""
 import ast
+import inspect
+import os
 import re
 
-from documents_tree import all_files, files_below, text_of
+from documents_tree import ROOT, files_below, text_of
 
 LONGEST = 35
-MAPPED_MODULES = 4
+MAPPED = 4
 OWN_KINDS = ("example_", "test_", "tool_")
-# What begins a comment whose sentences are looked at, by the ending of its file.
-MARKS = {".rt": r"//[/!]", ".rs": r"//[/!]?"}
-BLOCKS = (".h", ".hpp")
+TOLD = {".rt": r"//[/!]", ".rs": r"//[/!]?"}
 
 
 def long_sentences(text):
-    """Where a sentence of a text begins, its first words, and how many words it has, if these are too many.
+    """Where a sentence is too long: its place, its first words, and how many it has.
 
     A sentence ends at a stop, at an empty line, and where a line begins an item of a list."""
     at = 0
@@ -25,68 +25,79 @@ def long_sentences(text):
 
 
 def blank(found):
-    """White space in place of what was found, with its line feeds."""
+    """White space in the place of what was found, with its line feeds."""
     return re.sub(r"[^\n]", " ", found[0])
 
 
-def without_code(text):
-    """A text without its fenced blocks and the lines that are set apart by four columns."""
-    return re.sub(r"```.*?(?:```|\Z)|^ {4}[^\n]*$", blank, text, flags=re.S | re.M)
+def cells_of(text):
+    """Each cell of a document's tables: its place, and its text."""
+    for line in re.finditer(r"^\|[^\n]*$", text, re.M):
+        at = line.start()
+        for cell in re.split(r"(?<!\\)\|", line[0]):
+            yield at, cell
+            at += len(cell) + 1
 
 
-def comments_by_line(text, mark):
-    """Each run of lines that are comments: its first line, and its text."""
+def marked_lines(text, mark):
+    """Each run of lines that are comments by their mark: the number of its first line, and its text."""
     lines = [re.match(rf"\s*{mark}(?: |$)(.*)", it) for it in text.split("\n")]
-    first = 0
+    first = None
     for number, line in enumerate([*lines, None]):
-        if line is None:
-            if first < number:
-                yield first + 1, "\n".join(it[1] for it in lines[first:number])
-            first = number + 1
+        if line and first is None:
+            first = number
+        elif not line and first is not None:
+            yield first + 1, "\n".join(it[1] for it in lines[first:number])
+            first = None
 
 
-def comments_in_blocks(text):
-    """Each comment of C, and each run of lines after '//': its first line, and its text."""
+def comments_in_c(text):
+    """Each comment of C and each run of C++'s: the number of its first line, and its text."""
     for found in re.finditer(r"/\*(.*?)\*/", text, re.S):
-        yield text.count("\n", 0, found.start()) + 1, re.sub(r"^ *\*? ?", "", found[1], flags=re.M)
-    yield from comments_by_line(text, "//")
+        yield text.count("\n", 0, found.start()) + 1, re.sub(r"^ *(?:\* ?)?", "", found[1], flags=re.M)
+    yield from marked_lines(text, "//")
 
 
 def docstrings(text):
-    """Each string of Python that is a statement: its first line, and its text."""
+    """Each string of Python that is a statement: the number of its first line, and its text."""
     for it in ast.walk(ast.parse(text)):
         if isinstance(it, ast.Expr) and isinstance(it.value, ast.Constant) and isinstance(it.value.value, str):
-            yield it.lineno, re.sub(r"^ +", "", it.value.value, flags=re.M)
+            yield it.lineno, inspect.cleandoc(it.value.value)
+
+
+def comments_of(path):
+    ending = os.path.splitext(path)[1]
+    if ending == ".py":
+        return docstrings(text_of(path))
+    return marked_lines(text_of(path), TOLD[ending]) if ending in TOLD else comments_in_c(text_of(path))
 
 
 def commented():
-    """The files whose comments a user reads: sources of the product's crates, headers and bindings."""
-    crates = [it for it in files_below("crates", ".rt") if re.match(r"crates/\w+/src/", it)]
-    yield from (it for it in crates if not it.split("/")[1].startswith(OWN_KINDS))
+    """The files whose comments are looked at: the product's crates, the headers and the bindings."""
+    sources = [it for it in files_below("crates", ".rt") if it.split("/")[2] == "src"]
+    yield from (it for it in sources if not it.split("/")[1].startswith(OWN_KINDS))
     yield from files_below("include", ".h") + files_below("include", ".hpp")
     yield from files_below("bindings/rust/src", ".rs")
     yield "bindings/python/oncrpc.py"
 
 
-def comments_of(path):
-    if path.endswith(".py"):
-        return docstrings(text_of(path))
-    if path.endswith(BLOCKS):
-        return comments_in_blocks(text_of(path))
-    return comments_by_line(text_of(path), MARKS[path[path.rindex(".") :]])
-
-
 def faults_of_comments(path):
-    """Where a comment of a file has a sentence that is too long."""
+    """Where a comment has a sentence that is too long; code in it is not looked at."""
     for line, text in comments_of(path):
-        text = without_code(text)
-        for at, said, count in long_sentences(text):
-            yield f"{path}:{line + text.count(chr(10), 0, at)}: `{said}`: a sentence of {count} words"
+        text = re.sub(r"^```.*?(?:^```|\Z)|^ {4}[^\n]*$", blank, text, flags=re.S | re.M)
+        for at, said, words in long_sentences(text):
+            yield f"{path}:{line + text.count(chr(10), 0, at)}: `{said}`: a sentence of {words} words"
 
 
-def maps():
-    """The root of each crate with many modules."""
-    for path in files_below("crates", "/lib.rt") + files_below("crates", "/main.rt"):
-        pass
+def roots():
+    """The root of each crate."""
+    there = [f"crates/{it}/src/{name}.rt" for it in sorted(os.listdir(f"{ROOT}/crates")) for name in ("lib", "main")]
+    return [it for it in there if os.path.exists(f"{ROOT}/{it}")]
 
 
+def faults_of_map(path):
+    """Which modules of a crate with many its head does not name."""
+    modules = re.findall(r"^(?:pub(?:\(\w+\))? )?mod (\w+);", text_of(path), re.M)
+    head = "\n".join(re.findall(r"^//!.*$", text_of(path), re.M))
+    for name in modules if len(modules) >= MAPPED else ():
+        if f"`{name}`" not in head:
+            yield f"{path}:1: `{name}`: a module that the head does not name"

@@ -9,7 +9,7 @@
 //! - `write`: a value written by its items. `item`, `writing`: an item as C tells it, and the encoding of all.
 //! - `handle`, `state`: the declarations that C keeps, and what they hold. `asking`, `judge`: what is asked of bytes,
 //!   and what they come to. `answer`: answers, and how C sees them. `buffer`: bytes put into what C lends.
-//! - `examples`: what the contracts say of inputs of each sort.
+//! - `examples`: what the contracts make certain for chosen inputs.
 #![tactic(auto)]
 
 mod answer;

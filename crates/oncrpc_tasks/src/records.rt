@@ -133,7 +133,7 @@ fn mark_bytes<I: Source, O: Sink>(
 }
 
 /// The normal form of bytes in memory. A source in memory never fails and its reads are few, so that each failure
-/// is want of memory.
+/// is an allocation failure.
 fn mark_gathered(alloc: Global, bytes: &[u8], limit: u32) -> Result<(Marking, Vec<u8>), Failure>
     requires { limit ≤ 2147483647 }
     ensures marks { IfOk result (λ r. (rest : Option (List ℕ))

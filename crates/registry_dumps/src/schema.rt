@@ -58,7 +58,7 @@ pub fn directory_schema(alloc: Global) -> Result<Schema, NoMemory>
     }
 }
 
-// The schema of the registry's lists, in which no fault is found: a refusal is want of memory.
+// The schema of the registry's lists, in which no fault is found: a refusal is an allocation failure.
 fn build_lists(
     alloc: Global,
     kinds: Vec<Kind>,

@@ -190,7 +190,7 @@ impl<S: BuildHasher> Directory<S> {
             IfOk result (λ done. (self.new, done) ≡ step.set self.old row) }
         // false changes nothing,
         ensures refused { IfOk result (λ done. done ≡ false → self.new ≡ self.old) }
-        // nor does want of memory.
+        // nor does an allocation failure.
         ensures err { OnErr result (self.new ≡ self.old) }
     {
         if !self.may_add(prog, vers, netid, address) {

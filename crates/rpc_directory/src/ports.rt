@@ -26,7 +26,7 @@ impl<S: BuildHasher> Directory<S> {
         ensures ok { IfOk result (λ done. (self.new, done) ≡ ports.set_port self.old prog vers prot port owner.now) }
         // false changes nothing,
         ensures refused { IfOk result (λ done. done ≡ false → self.new ≡ self.old) }
-        // nor does want of memory.
+        // nor does an allocation failure.
         ensures err { OnErr result (self.new ≡ self.old) }
     {
         let netid = match netid_of_prot(prot) {

@@ -46,8 +46,8 @@ impl<'s> Decoder<'s> {
     /// `More` where it is pending, `Done` where a value is whole. Then `used` counts that value's bytes of this piece,
     /// and later pieces are not looked at. A fault comes at the first unit after which no value goes on, at the node
     /// that lies too deep, and at the limit on bytes, each with its reason and place. It comes too where memory was
-    /// refused. Any fault has taken the whole piece, and comes again at each later call. That bytes have one outcome
-    /// alone is `xdr_laws::one_outcome`.
+    /// refused. Whichever it is, the whole piece is taken, and it comes again at each later call. That bytes have one
+    /// outcome alone is `xdr_laws::one_outcome`.
     ///
     /// What it holds is the value so far, a frame for each of its open nodes, and at most three bytes of input. It
     /// takes no memory where the kind is a number, a boolean, an enumeration or void. Reading does not recurse;
@@ -65,7 +65,7 @@ impl<'s> Decoder<'s> {
         ensures leaves { Leaves self.new piece.now result }
         // After `Done` nothing of a piece is used, and a fault comes again.
         ensures stays { Stays self.old result }
-        // Want of memory is not answered where the kind is a number, a boolean, an enumeration or void.
+        // An allocation failure is not answered where the kind is a number, a boolean, an enumeration or void.
         ensures granted { IsFlat (kind_at (kinds_of self.old) (kind_of self.old).place)
             → IfErr result (λ f. f.why ≡ NoMemory → ⊥) }
         // The schema, the kind and the limits stay.
@@ -110,7 +110,7 @@ impl<'s> Decoder<'s> {
         ensures for_ever { (f : DecodeFault) → HasFailed self.entry f → result ≡ Err f }
         // After `Done` the value comes.
         ensures whole { IsDone self.entry → IsOk result }
-        // Want of memory is answered only where an earlier call answered it.
+        // An allocation failure is answered only where an earlier call answered it.
         ensures granted { IfErr result (λ f. f.why ≡ NoMemory → HasFailed self.entry f) }
     {
         let reader = self.reader;

@@ -48,7 +48,7 @@ pub fn decode(
         → bytes_of schema.now.kinds kind.place t ≡ take n input.now → (t ≡ tree r.0) × (n ≡ r.1)) }
     // A fault says that there is no such value, and its place lies within the input.
     ensures refusal { Refuses schema.now.kinds kind.place limits input.now result }
-    // Want of memory is not answered where the kind is a number, a boolean, an enumeration or void.
+    // An allocation failure is not answered where the kind is a number, a boolean, an enumeration or void.
     ensures granted { IsFlat (kind_at schema.now.kinds kind.place) → IfErr result (λ f. f.why ≡ NoMemory → ⊥) }
 {
     let _in_range = limits.depth();

@@ -112,7 +112,7 @@ pub fn read_outline<'a>(alloc: Global, tokens: &[Token<'a>]) -> Result<Outline<'
     ensures found { IfOk result (λ v. IsOutline (lexemes tokens.now) (outline_of v)) }
     // The tokens of all definitions are read, unless memory runs out.
     ensures only { (v : OutlineSpec) → IsOutline (lexemes tokens.now) v → Gives outline_of result (Some v) }
-    // A refusal is want of memory, or number 3, 4 or 12.
+    // A refusal is an allocation failure, or number 3, 4 or 12.
     ensures refused { IfErr result (λ e. IsGrammarFault e) }
 {
     let mut parser = Parser {

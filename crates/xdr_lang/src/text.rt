@@ -47,7 +47,7 @@ pub fn read(alloc: Global, text: &[u8]) -> Result<Declared, LangFault>
     ensures refused { IfErr result (λ e. e.number ≢ 13 → (d : DeclaredSpec) → Means text.now d → ⊥) }
     // The number of a refusal is 1 to 13.
     ensures number { IfErr result (λ e. (1 ≤ e.number) × (e.number ≤ 13)) }
-    // With number 10 the schema's is 1 to 10, else 0: its 11, want of memory, is number 13.
+    // With number 10 the schema's is 1 to 10, else 0: its 11, an allocation failure, is number 13.
     ensures inner { IfErr result (λ e. IsInner e.number e.inner) }
     // Lines and columns count from 1.
     ensures place { IfErr result (λ e. (1 ≤ e.line) × (1 ≤ e.column)) }

@@ -97,7 +97,7 @@ pub fn is_same_schema(a: &Schema, b: &Schema) -> bool
     a == b
 }
 
-// The first fault of the two lists, or want of memory; none of lists that are well formed and sound.
+// The first fault of the two lists, or an allocation failure; none of lists that are well formed and sound.
 fn first_fault(
     alloc: Global,
     kinds: &Vec<Kind>,

@@ -39,7 +39,7 @@ impl<'s, B: Build + Drop> Reader<'s, B> {
         ensures leaves { Leaves self.new piece.now result }
         // An answer that was the last one comes again.
         ensures stays { Stays self.old result }
-        // Want of memory is no reason where the kind takes none.
+        // An allocation failure is no reason where the kind takes none.
         ensures spared { (b : List ℕ) → RepresentsBytes B.spares B.reports self.old b
             → IfErr result (λ f. Spares B.spares (kind_at self.old.schema.now.kinds self.old.kind.place) f.why) }
         // The settings stay.
