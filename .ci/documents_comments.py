@@ -8,8 +8,7 @@ from documents_tree import ROOT, files_below, text_of
 
 LONGEST = 35
 MAPPED = 4
-OWN_KINDS = ("example_", "test_", "tool_")
-TOLD = {".rt": r"//[/!]", ".rs": r"//[/!]?"}
+UNREAD = ("test_", "tool_")
 
 
 def long_sentences(text):
@@ -38,9 +37,9 @@ def cells_of(text):
             at += len(cell) + 1
 
 
-def marked_lines(text, mark):
-    """Each run of lines that are comments by their mark: the number of its first line, and its text."""
-    lines = [re.match(rf"\s*{mark}(?: |$)(.*)", it) for it in text.split("\n")]
+def marked_lines(text):
+    """Each run of lines after '//', '///' or '//!': the number of its first line, and its text."""
+    lines = [re.match(r"\s*//[/!]?(?: |$)(.*)", it) for it in text.split("\n")]
     first = None
     for number, line in enumerate([*lines, None]):
         if line and first is None:
@@ -50,11 +49,10 @@ def marked_lines(text, mark):
             first = None
 
 
-def comments_in_c(text):
-    """Each comment of C and each run of C++'s: the number of its first line, and its text."""
+def blocks_of_c(text):
+    """Each comment between '/*' and '*/': the number of its first line, and its text."""
     for found in re.finditer(r"/\*(.*?)\*/", text, re.S):
         yield text.count("\n", 0, found.start()) + 1, re.sub(r"^ *(?:\* ?)?", "", found[1], flags=re.M)
-    yield from marked_lines(text, "//")
 
 
 def docstrings(text):
@@ -65,16 +63,16 @@ def docstrings(text):
 
 
 def comments_of(path):
-    ending = os.path.splitext(path)[1]
-    if ending == ".py":
-        return docstrings(text_of(path))
-    return marked_lines(text_of(path), TOLD[ending]) if ending in TOLD else comments_in_c(text_of(path))
+    text = text_of(path)
+    if path.endswith(".py"):
+        return [*docstrings(text)]
+    return [*(blocks_of_c(text) if path.endswith((".h", ".hpp")) else ()), *marked_lines(text)]
 
 
 def commented():
-    """The files whose comments are looked at: the product's crates, the headers and the bindings."""
+    """The files whose comments are looked at: crates but for tests and tools, the headers and the bindings."""
     sources = [it for it in files_below("crates", ".rt") if it.split("/")[2] == "src"]
-    yield from (it for it in sources if not it.split("/")[1].startswith(OWN_KINDS))
+    yield from (it for it in sources if not it.split("/")[1].startswith(UNREAD))
     yield from files_below("include", ".h") + files_below("include", ".hpp")
     yield from files_below("bindings/rust/src", ".rs")
     yield "bindings/python/oncrpc.py"
