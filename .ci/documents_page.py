@@ -3,11 +3,11 @@ import glob
 import os
 import re
 
+from documents_comments import blank, cells_of, long_sentences
 from documents_named import HEADLINES, believed, crates, declared_for_c, base_names, looks_like_path, used
 from documents_named import fault_of_clause, fault_of_item, fault_of_lone_function, fault_of_path
 from documents_tree import ROOT, defined_in, text_of
 
-LONGEST = 45
 PREFIXES = r"(?:xdr|rpc|registry|c|example|test|tool|oncrpc)_\w+"
 LETTER = re.compile(r"\b(?:rattle-)?kit[- ]?\d+[a-z]\b|\b13[a-z]\b")
 
@@ -17,7 +17,7 @@ class Page:
 
     def __init__(self, path):
         self.path, self.folder = path, os.path.dirname(path)
-        self.text = re.sub(r"^```.*?^```", lambda it: re.sub(r"[^\n]", " ", it[0]), text_of(path), flags=re.S | re.M)
+        self.text = re.sub(r"^```.*?^```", blank, text_of(path), flags=re.S | re.M)
         self.passed, self.failures = 0, []
 
     def note(self, at, said, fault):
@@ -135,15 +135,12 @@ class Page:
                 self.note(found.start(), found[1] or found[2], "no such heading" if wrong else None)
 
     def check_sentences(self):
-        """Counts words as they are read: without code blocks, tables and headings."""
-        parts = r"```.*?```|^ {4}[^\n]*$|^\|[^\n]*$|^#[^\n]*$"
-        text = re.sub(parts, lambda it: re.sub(r"[^\n]", " ", it[0]), text_of(self.path), flags=re.S | re.M)
-        at, failed = 0, len(self.failures)
-        for sentence in re.split(r"(?<=[.?!])\s+|\n\s*\n|\n- ", text):
-            at = text.find(sentence, at)
-            words = sentence.split()
-            if len(words) > LONGEST:
-                self.note(at, " ".join(words[:6]) + " ..", f"a sentence of {len(words)} words")
+        """Counts words as they are read: without code blocks and headings, and each cell of a table by itself."""
+        whole = re.sub(r"```.*?```|^ {4}[^\n]*$|^#[^\n]*$", blank, text_of(self.path), flags=re.S | re.M)
+        failed = len(self.failures)
+        for start, text in [(0, re.sub(r"^\|[^\n]*$", blank, whole, flags=re.M)), *cells_of(whole)]:
+            for at, said, words in long_sentences(text):
+                self.note(start + at, said, f"a sentence of {words} words")
         self.passed += failed == len(self.failures)
 
 

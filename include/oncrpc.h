@@ -84,7 +84,7 @@ enum {
     ONCRPC_BAD_VERIFIER = 12,   /* the same of the verifier; a reply's that is cut is ONCRPC_CUT */
     ONCRPC_CUT = 13,            /* the bytes end inside of a reply's numbers or its verifier */
     ONCRPC_NOT_A_REPLY = 14,    /* the second number is not that of a reply */
-    ONCRPC_BAD_STATE = 15,      /* a reply of a state that there is not */
+    ONCRPC_BAD_STATE = 15,      /* a reply of an unknown state */
     ONCRPC_BYTES_FOLLOW = 16,   /* at least one byte follows a reply without results */
     ONCRPC_NOT_AUTH_SYS = 17,   /* no body of AUTH_SYS, or more than one may have */
 
@@ -170,7 +170,7 @@ typedef struct {
     bool live;
 } oncrpc_declarations;
 
-/* A part of a value. Each node of a value has one, with the bytes that are the node's own, and not those inside it; an
+/* A part of a value. Each node of a value has one, with the bytes that are the node's own, and not those inside it. An
  * opaque or a string of variable size has two, its length and then its content. Places and counts are in bytes. */
 typedef struct {
     size_t at;         /* input + at leads to the part's own bytes, */
@@ -600,9 +600,9 @@ uint32_t oncrpc_registry_rows(
 /* Gives back what `registry` holds, if anything. It then holds none, so that a second call does nothing. */
 void oncrpc_registry_free(oncrpc_registry *registry);
 
-/* Reads a universal address over IPv4, as the registry has them: six numbers from 0 to 255 with dots between them,
- * without leading zeros, the host's four and then the port's high and low octet (RFC 5665 section 5.2.3.3). So
- * `127.0.0.1.8.1` is port 2049 of 127.0.0.1. `text` needs no zero at its end, and may be NULL where its count is 0:
+/* Reads a universal address over IPv4, as the registry has them (RFC 5665 section 5.2.3.3): six numbers from 0 to 255
+ * with dots between them and without leading zeros. They are the host's four, and then the port's high and low octet.
+ * So `127.0.0.1.8.1` is port 2049 of 127.0.0.1. `text` needs no zero at its end, and may be NULL where its count is 0:
  * then it is no address. It takes no memory.
  *
  * ONCRPC_OK: `host` and `port` are told. ONCRPC_NOT_AN_ADDRESS: they are 0.0.0.0 and 0. */

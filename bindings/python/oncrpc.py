@@ -1072,7 +1072,7 @@ def _members(
 ) -> Iterator[Tuple[Tuple[int, bytes], Union[Member, int]]]:
     """What the numbers of enumerations and the discriminants of a value are, by its kind and its bytes.
 
-    The parts tell neither the name of a member nor the type of a discriminant, and the lines do: there is one for each
+    The parts tell neither the name of a member nor the type of a discriminant, and the lines do. There is one for each
     part but for the lengths of content (docs/FORMATS.md, "The lines of show").
     """
     nodes = (part for part in parts if part[7] != _LENGTH or part[6] == _ARRAY)

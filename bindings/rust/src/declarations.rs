@@ -81,8 +81,8 @@ impl Declarations {
     }
 
     /// Tells whether a value of the kind begins the input. The name is one that the text declares, or that of a basic
-    /// kind: `int`, `unsigned`, `hyper`, `unsigned-hyper`, `bool`, `opaque`, `string`; or `P.V.N.K`, the K-th argument,
-    /// from 1, of procedure N in version V of program P, or `P.V.N.result`. Builds no value.
+    /// kind: `int`, `unsigned`, `hyper`, `unsigned-hyper`, `bool`, `opaque`, `string`. Or it is `P.V.N.K`, the K-th
+    /// argument, from 1, of procedure N in version V of program P, or `P.V.N.result`. Builds no value.
     ///
     /// ```
     /// # use oncrpc::{CheckFault, Declarations, Limits, Reason, Refusal};

@@ -2,7 +2,7 @@
 //! code.
 //!
 //! Safe calls of `liboncrpc`, over std alone. What each call promises is the contract of the function of C that it
-//! makes, which a prover has accepted (`include/oncrpc.h` retells it); the code here only lends it the bytes and gives
+//! makes, which a prover has accepted (`include/oncrpc.h` retells it). The code here only lends it the bytes and gives
 //! its statuses names. A status that it does not know is `Unknown`. No call panics on any input, and no length that the
 //! input declares reserves memory.
 //!

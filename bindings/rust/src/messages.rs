@@ -172,7 +172,7 @@ pub enum ReplyFault {
     Cut,
     /// The second number is not that of a reply.
     NotAReply,
-    /// A state that there is not.
+    /// An unknown state.
     BadState,
     /// The verifier has more than 400 bytes, or padding that is not zero.
     BadVerifier,

@@ -204,8 +204,8 @@ impl Registry {
     }
 
     /// Adds a row at the end. False where the netid or the address is empty, the netid has more than 64 bytes, the
-    /// address more than 256 or the owner more than 10, where there is a row of this program, version and netid, or
-    /// 1024 rows.
+    /// address more than 256 or the owner more than 10. False too where there is a row of this program, version and
+    /// netid, or 1024 rows.
     pub fn set(
         &mut self,
         program: u32,

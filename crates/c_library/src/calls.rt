@@ -30,8 +30,8 @@ pub extern "C" fn oncrpc_call_read(input: &[u8], call: &mut CallParts) -> u32
     c_messages::read_call_parts(input, call)
 }
 
-/// Writes a call of version 2 of RPC into the buffer: of `call` the xid, program, version, procedure and the two
-/// flavors, with these bytes as bodies of credential and verifier and as arguments (RFC 5531 section 9).
+/// Writes a call of version 2 of RPC into the buffer (RFC 5531 section 9). Of `call` it has the xid, program, version,
+/// procedure and the two flavors. These bytes are the bodies of credential and verifier, and the arguments.
 ///
 /// Status 0: `count` bytes are written, and the rest of the buffer is untouched. 8: the buffer is too small, `count`
 /// bytes are needed. 11 and 12: the credential, and else the verifier, has more than 400 bytes. 6: memory was refused.

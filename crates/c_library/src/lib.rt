@@ -1,4 +1,4 @@
-//! The library for C: `include/oncrpc.h` says it for who writes C.
+//! The library for C: `include/oncrpc.h` says it in words, for those who write C.
 //!
 //! Each export answers a status, and reports the rest through what the caller lends. None wants anything but pointers
 //! that lead where their counts say. What it does is the function that it calls, proved in the crate of that function.

@@ -11,9 +11,9 @@ use c_answers::Outcome;
 use c_registry::{Registry, RowCounts, RowParts};
 use std::alloc::Global;
 
-/// Starts a registry in the handle, whose rows are its own: program 100000 in versions 2, 3 and 4, each over `tcp` and
-/// then over `udp`, at every host and this port, owned by `superuser` (RFC 1833 sections 2 and 3). What the handle held
-/// before is freed. Rows are hashed behind the seed, which the peers should not know.
+/// Starts a registry in the handle, whose rows are its own (RFC 1833 sections 2 and 3): program 100000 in versions 2, 3
+/// and 4, each over `tcp` and then over `udp`. They are at every host and this port, and owned by `superuser`. What the
+/// handle held before is freed. Rows are hashed behind the seed, which the peers should not know.
 ///
 /// Status 0: the handle holds the registry. 6: memory was refused, and the handle holds none.
 #[unsafe(no_mangle)]
@@ -72,10 +72,10 @@ pub extern "C" fn oncrpc_registry_reply(
 
 /// Adds a row at the end, as RPCBPROC_SET does (RFC 1833 section 2.2.1).
 ///
-/// Status 0: it is added. 21: it is not, since the netid or the address is empty, the netid has more than 64 bytes, the
-/// address more than 256 or the owner more than 10, there is a row of this program, version and netid, or there are
-/// 1024 rows. 6: memory was refused. 18: the handle holds no registry. At all but 0 the rows stay, and at each a reply
-/// that waits stays.
+/// Status 0: it is added. 21: it is not, for one of these reasons. The netid or the address is empty, the netid has
+/// more than 64 bytes, the address more than 256, or the owner more than 10. There is a row of this program, version
+/// and netid, or there are 1024 rows. 6: memory was refused. 18: the handle holds no registry. At all but 0 the rows
+/// stay, and at each a reply that waits stays.
 #[unsafe(no_mangle)]
 pub extern "C" fn oncrpc_registry_set(
     alloc: Global,
@@ -97,7 +97,7 @@ pub extern "C" fn oncrpc_registry_set(
 }
 
 /// Removes the row of a program, a version and a netid, or with an empty netid every row of the program and version, as
-/// RPCBPROC_UNSET does: where the row's owner is `owner`, or `owner` is `superuser` (RFC 1833 section 2.2.1).
+/// RPCBPROC_UNSET does (RFC 1833 section 2.2.1). A row goes only where its owner is `owner`, or `owner` is `superuser`.
 ///
 /// Status 0: at least one was removed; the rest keep their order. 21: there is none to remove, and the rows stay. 18:
 /// the handle holds no registry. A reply that waits stays. It takes no memory.

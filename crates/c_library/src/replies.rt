@@ -35,8 +35,8 @@ pub extern "C" fn oncrpc_reply_read(alloc: Global, input: &[u8], reply: &mut Rep
     c_messages::read_reply_parts(alloc, input, reply)
 }
 
-/// Writes a reply into the buffer: the xid and the state of `reply` and what that state speaks of, with these bytes as
-/// the body of an accepted reply's verifier and as the results of state 0 (RFC 5531 section 9).
+/// Writes a reply into the buffer (RFC 5531 section 9): the xid and the state of `reply`, and what that state speaks
+/// of. These bytes are the body of an accepted reply's verifier, and the results of state 0.
 ///
 /// Status 0: `count` bytes are written, and the rest of the buffer is untouched. 8: the buffer is too small, `count`
 /// bytes are needed. 15: the state is above 7. 12: the verifier of an accepted reply has more than 400 bytes. 6:

@@ -14,9 +14,9 @@ use c_answers::Outcome;
 use c_values::{Handle, PartsOutcome, ValueItem, ValuePart};
 use std::alloc::Global;
 
-/// Reads the declarations, and answers whether the input is a value of the kind with that name, no deeper than `depth`
-/// (1 to 4096) and of no more than `bytes` bytes (4 to 16777216, a multiple of four). The text is looked at first, then
-/// the name, then the limits, then the input.
+/// Reads the declarations, and answers whether the input is a value of the kind with that name within the limits. Such
+/// a value is no deeper than `depth` (1 to 4096), and has no more than `bytes` bytes (4 to 16777216, a multiple of
+/// four). The text is looked at first, then the name, then the limits, then the input.
 ///
 /// Status 0: the input is a value, and 1: a value and then more bytes; `at` counts the value's bytes. 2: no value
 /// within the limits begins the input; `why` is the reason's number, 1 to 8, at the place `at`. 3: the text declares
@@ -143,9 +143,9 @@ pub extern "C" fn oncrpc_declarations_parts(
 ///
 /// Status 0: there is such a value within the limits; `written` and `at` count the bytes that were written, and the
 /// rest of the buffer is untouched. 26: no value within the limits has the items up to the one that `at` others are
-/// before; `why` is the reason's number, 1 to 7, or 9 (another item is due), 10 (out of range), 11 (the value is whole
-/// before), 13 (content that does not lie in `content`). With 12 no value has these items alone, and `at` counts them.
-/// 4: no kind has the name. 5: the limits are out of range. 6: memory was refused. 7: the handle holds no
+/// before. Then `why` is the reason's number: 1 to 7, or 9 (another item is due), 10 (out of range), 11 (the value is
+/// whole before), 13 (content that does not lie in `content`). With 12 no value has these items alone, and `at` counts
+/// them. 4: no kind has the name. 5: the limits are out of range. 6: memory was refused. 7: the handle holds no
 /// declarations. 8: the buffer is too small, `at` bytes are needed. Above 0 the buffer is untouched, and `written` is
 /// 0.
 #[unsafe(no_mangle)]

@@ -1,4 +1,4 @@
-//! What the exports' contracts force on telling inputs, each proved from the contracts alone.
+//! What the exports' contracts make certain for chosen inputs, each proved from the contracts alone.
 ghost use Rattle.std.specs.Prelude.{◌≡◌, ◌<◌, ◌≤◌, ◌⊎◌, [], ◌∷◌, length};
 ghost use Rattle.c_messages.specs.Parts.{part, none};
 ghost use Rattle.c_messages.specs.Calls.{front, whole, call_of};

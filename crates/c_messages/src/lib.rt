@@ -6,7 +6,7 @@
 //! - `calls`, `replies`, `credentials`: messages read and written. `asked`: the reply that C asks for.
 //! - `answer`: answers, and how C sees them. `part`: where a part of a message lies. `buffer`: bytes put into what C
 //!   lends.
-//! - `examples`: what the contracts force on telling inputs.
+//! - `examples`: what the contracts make certain for chosen inputs.
 #![tactic(auto)]
 
 mod answer;

@@ -1,4 +1,4 @@
-//! What the exports' contracts force on telling inputs, each proved from the contracts alone.
+//! What the exports' contracts make certain for chosen inputs, each proved from the contracts alone.
 ghost use Rattle.std.specs.Prelude.{◌≡◌, ◌≢◌, ◌<◌, ◌≤◌, ◌⊎◌, ℕ, List, [], ◌∷◌, length, take, Some, None, option_map};
 ghost use Rattle.rpc_record.specs.Reading.{IsWhole};
 ghost use Rattle.c_records.specs.Held.{Held, held_of};

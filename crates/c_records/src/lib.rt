@@ -7,7 +7,7 @@
 //! - `header`: the header of a fragment, for who sends it.
 //! - `handle`, `state`: the reader that C keeps, and what it holds. `answer`: answers, and how C sees them. `buffer`:
 //!   bytes put into what C lends.
-//! - `examples`: what the contracts force on telling inputs.
+//! - `examples`: what the contracts make certain for chosen inputs.
 #![tactic(auto)]
 
 mod answer;

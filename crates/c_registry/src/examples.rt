@@ -1,4 +1,4 @@
-//! What the exports' contracts force on telling inputs, each proved from the contracts alone.
+//! What the exports' contracts make certain for chosen inputs, each proved from the contracts alone.
 ghost use Rattle.std.specs.Prelude.{◌≡◌, ◌<◌, ◌≤◌, ◌⊎◌, [], ◌∷◌, length, take, codes, Some, None, option_map};
 ghost use Rattle.rpc_message.specs.Heads.{accepted};
 ghost use Rattle.rpc_message.specs.Message.{Denied, RpcMismatch, SystemErr};

@@ -9,8 +9,8 @@
 //! - `address`: universal addresses between texts and numbers.
 //! - `handle`, `state`, `hasher`: the registry that C keeps, what it holds, and how its rows are hashed. `transport`:
 //!   transports by their netids.
-//! - `answer`: answers, and how C sees them. `buffer`: bytes put into what C lends. `examples`: what the contracts
-//!   force on telling inputs.
+//! - `answer`: answers, and how C sees them. `buffer`: bytes put into what C lends. `examples`: what the contracts make
+//!   certain for chosen inputs.
 #![tactic(auto)]
 
 mod address;

@@ -45,7 +45,7 @@ IsUntold bytes c fault.NoNumber = ((c.form ≡ 3) × (1 < c.number)) ⊎ ((c.for
 IsUntold bytes c fault.Outside = (c.form ≡ 5) × (length bytes < c.at + c.count)
 IsUntold bytes c _ = ⊥
 
--- the number of a writer's reason: that of decoding, or one of items alone; want of memory is none
+-- the number of a writer's reason: that of decoding, or one of items alone; an allocation failure is none
 abbrev pub refused_number : Why → ℕ
 refused_number (why.Refused f) = reason_number f.why
 refused_number why.PastLimit = 7

@@ -1,4 +1,4 @@
-//! What the exports' contracts force on telling inputs, each proved from the contracts alone.
+//! What the exports' contracts make certain for chosen inputs, each proved from the contracts alone.
 ghost use Rattle.std.specs.Prelude.{◌≡◌, ◌≢◌, ◌<◌, ◌≤◌, ◌⊎◌, ◌^◌, codes, length, option_map, take};
 ghost use Rattle.xdr_lang.specs.Views.{declared_of};
 ghost use Rattle.c_values.specs.Argument.{HasArgument};

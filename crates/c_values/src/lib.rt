@@ -5,11 +5,11 @@
 //!
 //! - `check`, `declarations`: bytes checked by a text, or by declarations that were read. `unread`: a text is read.
 //! - `show`: the lines of a value. `parts`, `listing`, `part`, `listed`: its parts, how they are listed, how C sees a
-//!   part, and the answers. `normal`: records marked anew.
+//!   part, and the answers. `room`: whether they go into the buffers. `normal`: records marked anew.
 //! - `write`: a value written by its items. `item`, `writing`: an item as C tells it, and the encoding of all.
 //! - `handle`, `state`: the declarations that C keeps, and what they hold. `asking`, `judge`: what is asked of bytes,
 //!   and what they come to. `answer`: answers, and how C sees them. `buffer`: bytes put into what C lends.
-//! - `examples`: what the contracts force on telling inputs.
+//! - `examples`: what the contracts make certain for chosen inputs.
 #![tactic(auto)]
 
 mod answer;

@@ -14,8 +14,8 @@ use xdr_types::{Kind, Schema};
 pub struct ValuePart {
     /// How many bytes of the input are before it.
     pub at: usize,
-    /// How many bytes of the input are its own: 4 or 8 of a number, 4 of a flag or a length, those of content without
-    /// the zeros after them, none of a structure, an array of fixed size or a void.
+    /// How many bytes of the input are its own: 4 or 8 of a number, 4 of a flag or a length, and those of content
+    /// without the zeros after them. A structure, an array of fixed size and a void have none.
     pub count: usize,
     /// How many bytes of the names are before its own.
     pub name_at: usize,

@@ -1,4 +1,8 @@
 //! Worked examples of the XDR language for users of the libraries, each proved from the contracts alone.
+//!
+//! - `token_lists`: what `tokens` makes of a text. `outlines`: what `read_outline` makes of tokens.
+//! - `texts`: what `read` gives for texts that mean something. `refused`: texts that it gives nothing for. `lookups`:
+//!   look-ups in what a text declares.
 #![tactic(auto)]
 
 mod lookups;

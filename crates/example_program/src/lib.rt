@@ -1,4 +1,8 @@
 //! Worked examples of the program over readers and writers, each proved from the contracts alone.
+//!
+//! - `words`: what the words ask for, and how the program ends where they ask for no task.
+//! - `tasks`: tasks as the words ask for them. `values`: one value checked or shown. `records`: streams of records.
+//! - `service`: the registry asked and served.
 #![tactic(auto)]
 
 pub mod records;

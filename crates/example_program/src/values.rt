@@ -13,7 +13,7 @@ use std::alloc::Global;
 use xdr_io::{MemorySource, Sink, Source};
 use xdr_types::{KindId, Limits, Schema};
 
-/// Want of memory ends with 4, so that a caller can tell it from a device that failed.
+/// An allocation failure ends with 4, so that a caller can tell it from a device that failed.
 pub fn want_of_memory_is_4<F: Sink>(faults: &mut F) -> u8
     ensures { result ≡ 4 }
 {

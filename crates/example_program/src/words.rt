@@ -14,7 +14,7 @@ pub fn the_first_run(alloc: Global) -> Result<Request, WordsFault>
     read_words(alloc, Vec::new(alloc))
 }
 
-/// Words that ask for no task end with 0 for help, 2 where they are refused, or 4 for want of memory.
+/// Words that ask for no task end with 0 for help, 2 where they are refused, or 4 for an allocation failure.
 pub fn statuses_of_words(alloc: Global, words: Vec<String>) -> u8
     ensures { (result ≡ 0) ⊎ (result ≡ 2) ⊎ (result ≡ 4) }
 {
@@ -24,7 +24,7 @@ pub fn statuses_of_words(alloc: Global, words: Vec<String>) -> u8
     }
 }
 
-/// Want of memory ends with 4, and prints nothing to the output.
+/// An allocation failure ends with 4, and prints nothing to the output.
 pub fn want_of_memory_ends_with_4<O: Sink, F: Sink>(
     alloc: Global,
     output: &mut O,

@@ -202,7 +202,7 @@ pub fn refused_changes_nothing<S: BuildHasher>(directory: &mut Directory<S>, own
     directory.unset_port(8, 1, owner)
 }
 
-/// Where a row is refused, for want of memory or else, nothing changes.
+/// Where a row is refused, for an allocation failure or else, nothing changes.
 pub fn refused_adds_nothing<S: BuildHasher>(
     alloc: Global,
     directory: &mut Directory<S>,

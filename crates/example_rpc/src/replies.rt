@@ -11,7 +11,7 @@ use rpc_message::{
 };
 use std::alloc::Global;
 
-/// The reply that a call failed for want of memory has these 24 bytes: its status is 5, SYSTEM_ERR.
+/// The reply that a call failed because an allocation failed has these 24 bytes: its status is 5, SYSTEM_ERR.
 pub fn writes_a_system_error(alloc: Global) -> Result<Vec<u8>, NoMemory>
     ensures { IfOk result (λ v. v.items ≡
         0 ∷ 0 ∷ 0 ∷ 3 ∷ 0 ∷ 0 ∷ 0 ∷ 1 ∷ 0 ∷ 0 ∷ 0 ∷ 0 ∷ 0 ∷ 0 ∷ 0 ∷ 0 ∷ 0 ∷ 0 ∷ 0 ∷ 0 ∷ 0 ∷ 0 ∷ 0 ∷ 5 ∷ []) }
@@ -102,7 +102,7 @@ pub fn writes_a_denial(alloc: Global) -> Result<Vec<u8>, NoMemory>
     write_reply(alloc, &reply)
 }
 
-/// A reply that was written is read as it, and only want of memory can keep it from being read.
+/// A reply that was written is read as it, and only an allocation failure can keep it from being read.
 pub fn reads_the_reply_again(alloc: Global, reply: &Reply) -> Result<Reply, ReplyFault>
     requires { HasShortVerf reply.now }
     ensures found { IfOk result (λ read. reply_view read ≡ reply_view reply.now) }

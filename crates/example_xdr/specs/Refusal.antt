@@ -23,7 +23,7 @@ first_flaw s =
     option_or (first_from (kind_flaw_at s.kinds) (length s.kinds) 0)
     (first_from (name_flaw_at s.kinds s.names) (length s.names) 0)
 
--- no schema was made: for this fault, or for want of memory
+-- no schema was made: for this fault, or since memory was refused
 abbrev pub IsRefusedFor : Option SchemaFault → Flaw → ℕ → Type 0
 IsRefusedFor r why place = (r ≡ Some (fault why place)) ⊎ (r ≡ Some (fault flaw.NoMemory 0))
 

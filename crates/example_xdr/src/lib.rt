@@ -1,8 +1,8 @@
 //! Worked examples of XDR for users of the libraries, each proved from the contracts alone: schemas, values and limits,
 //! encoding and decoding, the lines of a value.
 //!
-//! - `schemas`, `answers`, `limits`, `values`: what makes a schema, what it answers, limits, and values. `made`: what
-//!   these examples share.
+//! - `schemas`, `answers`, `limits`, `values`: what makes a schema, what it answers, limits, and values. `look_ups`:
+//!   numbers looked for in long enumerations and unions. `made`: what these examples share.
 //! - `encoding`, `decoding`, `checking`, `pieces`: bytes of values, values of bytes, whole, unkept, and piece by piece.
 //!   `reasons`: the reason and the place of each refusal. `holding`: what a decoder and a checker hold. `writing`: the
 //!   items of a value.

@@ -15,7 +15,7 @@ use xdr_types::{
     Flaw, Kind, KindId, Member, Schema, SchemaFault, is_legal_tag, member_in, part_in,
 };
 
-/// Lists with these kinds are a schema: want of memory alone refuses them.
+/// Lists with these kinds are a schema: an allocation failure alone refuses them.
 pub fn many_numbers_are_a_schema(alloc: Global, kinds: Vec<Kind>) -> Option<SchemaFault>
     requires { map kind_view kinds.items ≡ many_numbers }
     ensures { IfSome result (λ e. e.why ≡ Flaw.NoMemory) }

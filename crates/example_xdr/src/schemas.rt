@@ -12,7 +12,7 @@ use std::alloc::Global;
 use std::string::String;
 use xdr_types::{Flaw, Kind, KindId, NoMemory, Schema, SchemaFault, no_schema_has_a_fault};
 
-/// Why lists make no schema; none where they do. It is the first flaw that they have, or want of memory.
+/// Why lists make no schema; none where they do. It is the first flaw that they have, or an allocation failure.
 pub fn refusal(alloc: Global, kinds: Vec<Kind>, names: Vec<(String, KindId)>) -> Option<SchemaFault>
     requires { length kinds.items ≤ 1024 }
     ensures first { (why : Flaw) (place : ℕ) → first_flaw (lists_of kinds.items names.items) ≡ Some (fault why place)
@@ -25,7 +25,7 @@ pub fn refusal(alloc: Global, kinds: Vec<Kind>, names: Vec<(String, KindId)>) ->
     }
 }
 
-/// Why lists that make a schema are refused: want of memory alone.
+/// Why lists that make a schema are refused: an allocation failure alone.
 pub fn only_memory(
     alloc: Global,
     kinds: Vec<Kind>,
@@ -39,7 +39,7 @@ pub fn only_memory(
     Schema::build(alloc, kinds, names).err()
 }
 
-/// An int and a structure of one are a schema: want of memory alone refuses them (RFC 4506 section 4.14).
+/// An int and a structure of one are a schema: an allocation failure alone refuses them (RFC 4506 section 4.14).
 pub fn structure_of_an_int(alloc: Global) -> Result<Option<SchemaFault>, NoMemory>
     ensures { IfOk result (λ r. IfSome r (λ e. e.why ≡ Flaw.NoMemory)) }
 {

@@ -28,7 +28,7 @@ pub fn writes_a_pair(
     Ok((first, second, out))
 }
 
-/// No reason but want of memory stands against an item that a value within the limits begins with.
+/// No reason but an allocation failure stands against an item that a value within the limits begins with.
 pub fn takes_the_first_of_a_pair(
     alloc: Global,
     schema: &Schema,

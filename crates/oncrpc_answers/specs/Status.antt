@@ -5,7 +5,7 @@ use Rattle.oncrpc_answers.specs.declared.failure.Failure.TheVariants as failure
 use Rattle.xdr_io.specs.declared.input.InputFault.{InputFault}
 use Rattle.xdr_io.specs.declared.input.InputFault.TheVariants as input
 
--- 3 where a device failed or too many reads would be needed, and 4 for want of memory
+-- 3 where a device failed or too many reads would be needed, and 4 for an allocation failure
 abbrev pub failure_status : Failure → ℕ
 failure_status failure.Read = 3
 failure_status failure.Write = 3

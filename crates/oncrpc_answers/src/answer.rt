@@ -46,7 +46,7 @@ fn name_of(why: Reason) -> &'static str
     }
 }
 
-/// The line of an answer, with its line feed. The error is want of memory.
+/// The line of an answer, with its line feed. The error is an allocation failure.
 pub fn line_of(alloc: Global, answer: Answer) -> Result<String, AllocError>
     ensures { IfOk result (λ text. string_bytes text ≡ line answer) }
 {

@@ -61,7 +61,7 @@ impl From<AllocError> for Failure {
 }
 
 /// Writes the failure's line to `faults`, where that can be done, and gives the exit status: 3 for a device, 4 for
-/// want of memory.
+/// an allocation failure.
 pub fn report<F: Sink>(failure: Failure, faults: &mut F) -> u8
     ensures { result ≡ failure_status failure }
 {

@@ -103,7 +103,7 @@ record_line (flaw.TooLong at) = Some (codes "refused TooLong at " ++ decimal at 
 record_line (flaw.Truncated at) = Some (codes "refused Truncated at " ++ decimal at ++ codes "\n")
 record_line _ = None
 
--- the line of bytes that are no reply to the call; a device that failed and want of memory have a line elsewhere
+-- the line of bytes that are no reply to the call; a device that failed and an allocation failure have a line elsewhere
 abbrev pub fault_line : ClientFault → Option (List ℕ)
 fault_line (fault.Record f) = record_line f
 fault_line (fault.Reply f) = Some (codes "refused " ++ reply_fault_name f ++ codes "\n")

@@ -30,7 +30,7 @@ const DUMP: u32 = 4;
 
 /// Asks the registry behind a connection for all its rows in a version of its program, 2, 3 or 4, and prints a header
 /// and a line for each row, status 0. A reply without rows, and bytes that are no reply or no rows, are one line
-/// `refused ..`, status 1. A device that fails or too many reads are status 3, want of memory is status 4; then
+/// `refused ..`, status 1. A device that fails or too many reads are status 3, an allocation failure is status 4; then
 /// `faults` gets the line, and of the rows nothing or a beginning is printed.
 pub fn info_over<R: Source, W: Sink, O: Sink, F: Sink>(
     alloc: Global,
@@ -55,10 +55,10 @@ pub fn info_over<R: Source, W: Sink, O: Sink, F: Sink>(
     end_with(alloc, output, faults, vers, answer)
 }
 
-/// Asks the registry behind a port for all its rows by one datagram, and prints what `info_over` prints of the answer:
-/// a header and a line for each row, status 0, or one line `refused ..`, status 1. A port or an output that fails is
-/// status 3, want of memory is status 4; then `faults` gets the line, and of the rows nothing or a beginning is
-/// printed.
+/// Asks the registry behind a port for all its rows by one datagram, and prints what `info_over` prints of the answer.
+/// That is a header and a line for each row, status 0, or one line `refused ..`, status 1. A port or an output that
+/// fails is status 3, and an allocation failure is status 4. Then `faults` gets the line, and of the rows nothing or a
+/// beginning is printed.
 pub fn info_datagram<P: DatagramPort, O: Sink, F: Sink>(
     alloc: Global,
     port: &mut P,

@@ -10,7 +10,7 @@ use rpc_message::{ReplyFault, Status, Why};
 use rpc_record::RecordFault;
 use std::alloc::{AllocError, Global};
 
-/// The line of a status without results (RFC 5531 section 9). The error is want of memory.
+/// The line of a status without results (RFC 5531 section 9). The error is an allocation failure.
 pub fn status_line(alloc: Global, status: &Status) -> Result<String, AllocError>
     ensures { IfOk result (λ text. string_bytes text ≡ status_line (status_view status.now)) }
 {
@@ -26,7 +26,7 @@ pub fn status_line(alloc: Global, status: &Status) -> Result<String, AllocError>
     }
 }
 
-/// The line of a call that was denied (RFC 5531 section 9). The error is want of memory.
+/// The line of a call that was denied (RFC 5531 section 9). The error is an allocation failure.
 pub fn denied_line(alloc: Global, why: Why) -> Result<String, AllocError>
     ensures { IfOk result (λ text. string_bytes text ≡ denied_line (why_view why)) }
 {
@@ -36,7 +36,8 @@ pub fn denied_line(alloc: Global, why: Why) -> Result<String, AllocError>
     }
 }
 
-/// The line of bytes that are no reply to the call. A device that failed, too many reads and want of memory have none.
+/// The line of bytes that are no reply to the call. A device that failed, too many reads and an allocation failure have
+/// none.
 pub fn fault_line(alloc: Global, fault: ClientFault) -> Result<String, Failure>
     ensures line { IfOk result (λ text. IsLine (fault_line fault) (string_bytes text)) }
     ensures failed { IfErr result (λ f. (f ≡ Failure.NoMemory) ⊎ (failure_of_fault fault ≡ Some f)) }

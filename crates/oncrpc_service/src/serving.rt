@@ -18,8 +18,8 @@ use xdr_io::{Sink, write_whole};
 
 /// Prints `listening on 127.0.0.1 PORT`, and then serves `count` connections, one after another, from the registry, a
 /// line for each once it has ended. What is wrong with a connection ends that connection alone. Status 0 after the
-/// last; 3 where a line can not be printed, or where no connection comes, `socket fault`; 4 for want of memory for a
-/// line. All but 0 write a line to `faults`.
+/// last; 3 where a line can not be printed, or where no connection comes, `socket fault`; 4 where memory for a line is
+/// refused. All but 0 write a line to `faults`.
 pub fn serve_on<L: Listener, S: BuildHasher, O: Sink, F: Sink>(
     alloc: Global,
     listener: &mut L,

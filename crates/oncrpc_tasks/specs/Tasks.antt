@@ -38,7 +38,7 @@ pub record AsksFor (reported : List ℕ → Option (List ℕ)) (what : ValueTask
   pub asked : (shows : Bool) → Asks text what shows
       (record { kinds = target.schema.kinds; place = target.kind.place; limits = target.limits; shows = shows })
 
--- why there is no question: what the words say, a file that could not be read, or want of memory
+-- why there is no question: what the words say, a file that could not be read, or an allocation failure
 abbrev pub HasNoQuestion : (List ℕ → Option (List ℕ)) → ValueTask → Unusable → Type 0
 HasNoQuestion reported what (unusable.Failed f) = (f ≡ failure.Read) ⊎ (f ≡ failure.NoMemory)
 HasNoQuestion reported what _ = AsksNothing reported what

@@ -20,11 +20,11 @@ use xdr_io::{Sink, Source, write_whole};
 use xdr_show::show_whole;
 use xdr_types::{KindId, Limits, Schema};
 
-/// Checks that the input begins with a value of the kind, and prints one line: `ok N`, or `ok N, more follows` where
-/// at least one more byte can be read, status 0; `refused WHY at N`, status 1, of the reason and at the place that the
-/// outcome of decoding has (RFC 4506). With `hex` the input is a text of hexadecimal, and `refused bad hex` or
-/// `refused hex too long` may come, status 1. A device that fails or too many reads are status 3, want of memory is
-/// status 4, and then `faults` gets the line. The schema must have the kind.
+/// Checks that the input begins with a value of the kind (RFC 4506), and prints one line. With status 0 it is `ok N`,
+/// or `ok N, more follows` where at least one more byte can be read. With status 1 it is `refused WHY at N`, of the
+/// reason and at the place that the outcome of decoding has. With `hex` the input is a text of hexadecimal, and
+/// `refused bad hex` or `refused hex too long` may come, status 1. A device that fails or too many reads are status 3,
+/// an allocation failure is status 4, and then `faults` gets the line. The schema must have the kind.
 ///
 /// The input is judged as it is read, by pages of 4096 bytes, and no value is made of it. Reading stops at a refusal,
 /// so that a read that would fail after it is not met; after a value it goes on until one more byte or the end is

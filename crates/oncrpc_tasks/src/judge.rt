@@ -50,7 +50,7 @@ pub fn judge_bytes(alloc: Global, question: &Question, bytes: &[u8]) -> Result<A
     requires { IsKnown question.now }
     // The answer is right for these bytes,
     ensures right { IfOk result (λ a. IsRight (unshown (asked_of question.now)) bytes.now a []) }
-    // and nothing but want of memory ends it early.
+    // and nothing but an allocation failure ends it early.
     ensures memory { IfErr result (λ f. f ≡ Failure.NoMemory) }
 {
     let Question {

@@ -34,8 +34,8 @@ pub enum Marking {
 
 /// Writes each record of the input as one fragment, and gives the exit status. With `hex` the input is a text of
 /// hexadecimal, and the output one line of it. 0 at the input's end; 1 where it is refused, after the whole records
-/// before; 2 for a limit above 2147483647; 3 where a device failed or too many reads are needed; 4 for want of memory.
-/// All but 0 write a line to `faults`.
+/// before; 2 for a limit above 2147483647. It is 3 where a device failed or too many reads are needed, and 4 for an
+/// allocation failure. All but 0 write a line to `faults`.
 pub fn records_over<I: Source, O: Sink, F: Sink>(
     alloc: Global,
     input: &mut I,
@@ -133,7 +133,7 @@ fn mark_bytes<I: Source, O: Sink>(
 }
 
 /// The normal form of bytes in memory. A source in memory never fails and its reads are few, so that each failure
-/// is want of memory.
+/// is an allocation failure.
 fn mark_gathered(alloc: Global, bytes: &[u8], limit: u32) -> Result<(Marking, Vec<u8>), Failure>
     requires { limit ≤ 2147483647 }
     ensures marks { IfOk result (λ r. (rest : Option (List ℕ))

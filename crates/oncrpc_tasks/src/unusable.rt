@@ -55,8 +55,8 @@ impl From<AllocError> for Unusable {
     }
 }
 
-/// Writes the line to `faults`, where that can be done, and gives the exit status: 2, or that of the failure. Want of
-/// memory for the line is status 4.
+/// Writes the line to `faults`, where that can be done, and gives the exit status: 2, or that of the failure. An
+/// allocation failure for the line is status 4.
 pub fn refuse<F: Sink>(alloc: Global, why: Unusable, name: &str, faults: &mut F) -> u8
     ensures { Ends why result }
 {

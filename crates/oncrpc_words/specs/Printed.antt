@@ -3,8 +3,8 @@ use Rattle.std.specs.Prelude.{◌≡◌, ℕ, ◌<◌, ◌≤◌, ◌⊎◌, Lis
 use Rattle.std.specs.Io.KnownBytes.{Appends}
 use Rattle.xdr_io.specs.Reported.{Counts}
 
--- The status is 0 to 4. Help ends with 0, or 3 where it cannot be written; refused words end with 2, and want of
--- memory with 4.
+-- The status is 0 to 4. Help ends with 0, or 3 where it cannot be written; refused words end with 2, and an allocation
+-- failure with 4.
 pub record EndsWords (asked status : ℕ) : Type 0 where
   pub some_status : status ≤ 4
   pub helped : asked ≡ 0 → (status ≡ 0) ⊎ (status ≡ 3)

@@ -45,7 +45,7 @@ pub fn fault_of(alloc: Global, error: &Error) -> WordsFault
 }
 
 /// Prints why there is no task, and gives the exit status. Help goes to the output, and where that cannot be written
-/// the status is 3, after the first bytes of the text; what is wrong with the words, and want of memory, go to
+/// the status is 3, after the first bytes of the text. What is wrong with the words, and an allocation failure, go to
 /// `faults`, where that can be done.
 pub fn print_words_fault<O: Sink, F: Sink>(fault: &WordsFault, output: &mut O, faults: &mut F) -> u8
     ensures ends { EndsWords fault.now.status result }

@@ -17,7 +17,7 @@ pub fn read_words(alloc: Global, words: Vec<String>) -> Result<Request, WordsFau
     ensures status { IfErr result (λ fault. (fault.status ≡ 0) ⊎ (fault.status ≡ 2) ⊎ (fault.status ≡ 4)) }
     // at 4 there is no text,
     ensures memory { IfErr result (λ fault. fault.status ≡ 4 → string_bytes fault.text ≡ []) }
-    // and no words are refused for want of memory alone.
+    // and no words are refused for an allocation failure alone.
     ensures only_memory { words.items ≡ [] → IfErr result (λ fault. fault.status ≡ 4) }
 {
     if words.is_empty() {

@@ -45,10 +45,10 @@ pub enum Appended {
     OutOfMemory { xid: u32 },
 }
 
-/// What the registry answers to a record that came over a transport. The first of these checks that fails decides: the
-/// record is a call, of version 2 of RPC, with a credential and a verifier; the credential is AUTH_NONE, or AUTH_SYS
-/// that reads; the program is 100000, in version 2, 3 or 4, with this procedure, and the arguments begin with a value
-/// of its kind within depth 4096 and 65536 bytes (RFC 5531 section 9, RFC 1833 sections 2.2.1 and 3.2). Over UDP a
+/// What the registry answers to a record that came over a transport (RFC 5531 section 9, RFC 1833 sections 2.2.1 and
+/// 3.2). The first of these checks that fails decides: the record is a call, of version 2 of RPC, with a credential and
+/// a verifier; the credential is AUTH_NONE, or AUTH_SYS that reads. Then the program is 100000, in version 2, 3 or 4,
+/// with this procedure, and the arguments begin with a value of its kind within depth 4096 and 65536 bytes. Over UDP a
 /// reply of more than 65507 bytes is SYSTEM_ERR, with the rows as they were. No memory is asked for once rows have
 /// changed. A record that is no call takes none.
 pub fn answer<S: BuildHasher>(

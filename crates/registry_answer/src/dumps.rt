@@ -95,8 +95,8 @@ fn push_between(out: &mut Vec<u8>, size: usize, number: u32) -> Result<(), NoMem
     }
 }
 
-/// Writes the padding of the text before it, of `before` bytes, that a row follows, and it up to its address's length:
-/// in one piece, where the netid has three bytes, as `tcp` and `udp` have.
+/// Writes the padding of the text before a row, which has `before` bytes, and then the row up to its address's length.
+/// They are written in one piece where the netid has three bytes, as `tcp` and `udp` have.
 #[tactic(auto, using(crate::proofs::Chains::begins_then))]
 fn push_front(row: &Row, before: usize, out: &mut Vec<u8>) -> Result<(), NoMemory>
     requires { IsRow (plain_row row.now) }

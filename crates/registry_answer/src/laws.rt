@@ -14,7 +14,8 @@ pub fn one_answer()
     one_outcome();
 }
 
-/// Each record has an answer with no memory refused: so SYSTEM_ERR for want of memory is never the only lawful one.
+/// Each record has an answer with no memory refused: so SYSTEM_ERR for an allocation failure is never the only lawful
+/// one.
 pub fn each_record_has_an_answer()
     ensures { SomeAnswer }
 {

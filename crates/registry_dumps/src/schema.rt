@@ -37,9 +37,10 @@ const MAPPING_NODE: u32 = 17;
 
 const MAPPING_LIST: u32 = 18;
 
-/// The schema of the registry's types (RFC 1833 sections 2.1 and 3.1), after the basic kinds: places 8 to 10 the
-/// strings of `rpcb`, 11 `rpcb`, 12 an optional node, 13 `rp__list`, 14 `rpcblist`, 15 `mapping`, 16 an optional node,
-/// 17 `pm__list`, 18 `pmaplist`. The lists are well formed and sound, so that the only error is want of memory.
+/// The schema of the registry's types (RFC 1833 sections 2.1 and 3.1), after the basic kinds. Places 8 to 10 are the
+/// strings of `rpcb`, 11 is `rpcb`, 12 an optional node, 13 `rp__list`, 14 `rpcblist`. Place 15 is `mapping`, 16 an
+/// optional node, 17 `pm__list`, 18 `pmaplist`. The lists are well formed and sound, so that the only error is an
+/// allocation failure.
 #[tactic(auto, using(crate::proofs::Legal::well_formed, crate::proofs::Legal::sound))]
 pub fn directory_schema(alloc: Global) -> Result<Schema, NoMemory>
     // The schema has just these kinds and names,
@@ -57,7 +58,7 @@ pub fn directory_schema(alloc: Global) -> Result<Schema, NoMemory>
     }
 }
 
-// The schema of the registry's lists, in which no fault is found: a refusal is want of memory.
+// The schema of the registry's lists, in which no fault is found: a refusal is an allocation failure.
 fn build_lists(
     alloc: Global,
     kinds: Vec<Kind>,

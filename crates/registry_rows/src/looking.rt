@@ -37,7 +37,7 @@ pub fn look_up<'a, S: BuildHasher>(
     }
 }
 
-/// `look_up` with the programs of the rows in a column: where there is no row of the version, the column is gone over
+/// `look_up` with the programs of the rows in a column. Where there is no row of the version, the column is gone over
 /// in place of the rows, unless more than a tenth of these have the program. It takes no memory.
 pub fn look_up_beside<'a, S: BuildHasher>(
     rows: &'a IndexMap<Key, Row, S>,

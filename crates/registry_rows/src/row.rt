@@ -21,8 +21,9 @@ pub struct Row {
 }
 
 impl Row {
-    /// Whether an `unset` of these by this owner removes the row (RFC 1833 section 2.2.1, RPCBPROC_UNSET): its program
-    /// and version are these, so is its netid, or the one given is empty, and the owner may remove it.
+    /// Whether an `unset` of these by this owner removes the row (RFC 1833 section 2.2.1, RPCBPROC_UNSET). It does
+    /// where its program and version are these, its netid is this one or the one given is empty, and the owner may
+    /// remove it.
     pub fn is_unset(&self, prog: u32, vers: u32, netid: &[u8], owner: &[u8]) -> bool
         ensures { result ≡ is_unset prog vers netid.now owner.now (plain_row self.now) }
     {

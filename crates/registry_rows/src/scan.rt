@@ -75,8 +75,8 @@ fn in_sixty_four(column: &[u32], at: usize, prog: u32) -> usize
     front + in_sixteen(column, at + 32, prog) + in_sixteen(column, at + 48, prog)
 }
 
-/// All rows are sooner gone over one after another than from place to place: they are fewer than sixty-four, or more
-/// than a tenth of them have the program, those at the end aside that fill no sixteen.
+/// Whether all rows are sooner gone over one after another than from place to place. That is where they are fewer than
+/// sixty-four, or more than a tenth of them have the program, those at the end aside that fill no sixteen.
 pub(crate) fn has_many(column: &[u32], prog: u32) -> bool {
     if column.len() < 64 {
         return true;

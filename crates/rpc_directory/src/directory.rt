@@ -82,7 +82,7 @@ impl<S: BuildHasher> Directory<S> {
     }
 
     /// How many rows there are: at most 1024. It takes no memory. Its clauses are what always holds of the rows: each
-    /// keeps to its bounds, no program, version and netid is there twice, and as a dump they fit the kinds at places 14
+    /// keeps to its bounds, and no program, version and netid is there twice. As a dump they fit the kinds at places 14
     /// and 18 of `directory_schema` within depth 4096 and 16777216 bytes.
     pub fn rows(&self) -> u32
         // How many rows the list has,
@@ -142,10 +142,11 @@ impl<S: BuildHasher> Directory<S> {
     }
 
     /// The universal address of a version of a program over a transport, at most 256 bytes (RFC 1833 section 2.2.1,
-    /// RPCBPROC_GETADDR): the registered one; where that version is not registered, the address of the greatest version
-    /// of the program that is registered over the transport; and empty exactly where none is. For a version that is
-    /// registered it is one look-up by the key's hash, so what it costs does not grow with the rows, unless the hasher
-    /// puts many keys together; for another it is a pass over the programs of all rows besides. It takes no memory.
+    /// RPCBPROC_GETADDR): the registered one. Where that version is not registered, it is the address of the greatest
+    /// version of the program that is registered over the transport; it is empty exactly where none is. For a version
+    /// that is registered it is one look-up by the key's hash. So what it costs does not grow with the rows, unless the
+    /// hasher puts many keys together. For another it is a pass over the programs of all rows besides. It takes no
+    /// memory.
     pub fn getaddr(&self, prog: u32, vers: u32, netid: &[u8]) -> &[u8]
         // It is the address that the definition finds,
         ensures value { result.now ≡ looking.getaddr self.now prog vers netid.now }
@@ -189,7 +190,7 @@ impl<S: BuildHasher> Directory<S> {
             IfOk result (λ done. (self.new, done) ≡ step.set self.old row) }
         // false changes nothing,
         ensures refused { IfOk result (λ done. done ≡ false → self.new ≡ self.old) }
-        // nor does want of memory.
+        // nor does an allocation failure.
         ensures err { OnErr result (self.new ≡ self.old) }
     {
         if !self.may_add(prog, vers, netid, address) {
@@ -218,8 +219,8 @@ impl<S: BuildHasher> Directory<S> {
             && !self.has(prog, vers, netid)
     }
 
-    /// Removes the row of a program, a version and a netid, or with an empty netid every row of the program and
-    /// version, where the row's owner is `owner` or `owner` is `superuser` (RFC 1833 section 2.2.1, RPCBPROC_UNSET).
+    /// Removes the row of a program, a version and a netid, or with an empty netid every row of the program and version
+    /// (RFC 1833 section 2.2.1, RPCBPROC_UNSET). A row goes only where its owner is `owner`, or `owner` is `superuser`.
     /// True exactly where at least one was removed; the rest keep their order, and false changes nothing. With a netid
     /// it is one look-up and one removal, which moves the rows behind it up by one; without one it is a pass over all
     /// rows. It takes no memory.

@@ -47,8 +47,8 @@ impl<S: BuildHasher> Directory<S> {
     }
 
     /// The rows over `tcp` and `udp` whose address is a universal address over IPv4, in order, as a `pmaplist` (RFC
-    /// 1833 section 3.2, PMAPPROC_DUMP): a value of the kind at place 18 of `directory_schema`, within depth 4096 and
-    /// 16777216 bytes. Its only error is `NoMemory`.
+    /// 1833 section 3.2, PMAPPROC_DUMP). It is a value of the kind at place 18 of `directory_schema`, within depth 4096
+    /// and 16777216 bytes. Its only error is `NoMemory`.
     pub fn dump_ports(&self, alloc: Global) -> Result<Value, NoMemory>
         // It has all mappings in their order,
         ensures all { IfOk result (λ v. tree v ≡ mapping_list self.now) }

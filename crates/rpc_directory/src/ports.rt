@@ -26,7 +26,7 @@ impl<S: BuildHasher> Directory<S> {
         ensures ok { IfOk result (λ done. (self.new, done) ≡ ports.set_port self.old prog vers prot port owner.now) }
         // false changes nothing,
         ensures refused { IfOk result (λ done. done ≡ false → self.new ≡ self.old) }
-        // nor does want of memory.
+        // nor does an allocation failure.
         ensures err { OnErr result (self.new ≡ self.old) }
     {
         let netid = match netid_of_prot(prot) {
@@ -54,8 +54,8 @@ impl<S: BuildHasher> Directory<S> {
     }
 
     /// The port of a version of a program over the transport of this number (RFC 1833 section 3.2, PMAPPROC_GETPORT),
-    /// that of the row which `getaddr` looks up: 0 for a `prot` other than 6 and 17, where there is no such row, and
-    /// where its address is no universal address over IPv4. It costs what `getaddr` costs, and takes no memory.
+    /// that of the row which `getaddr` looks up. It is 0 for a `prot` other than 6 and 17, where there is no such row,
+    /// and where its address is no universal address over IPv4. It costs what `getaddr` costs, and takes no memory.
     pub fn get_port(&self, prog: u32, vers: u32, prot: u32) -> u32
         ensures value { result ≡ ports.get_port self.now prog vers prot }
         ensures port { result < 2 ^ 16 }

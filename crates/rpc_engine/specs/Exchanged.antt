@@ -73,7 +73,7 @@ pub record Exchanged (xid : ℕ) (left left' : Option (List ℕ)) (result : Resu
   pub read : Consumes left left' input
   pub reads : Reads xid input left' result
 
--- the case that the answer says an input has; want of memory and faults of reader and writer say none
+-- the case that the answer says an input has; an allocation failure and faults of reader and writer say none
 abbrev pub IsAnswer : (xid : ℕ) → (input : List ℕ) → Result Reply ClientFault → Type 0
 IsAnswer xid input (Ok reply) = IsOutcome xid input (Replied (reply_view reply))
 IsAnswer xid input (Err (fault.WrongXid got)) = IsOutcome xid input (OtherXid got)

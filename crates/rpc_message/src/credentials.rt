@@ -71,9 +71,9 @@ fn is_memory(fault: ReplyFault) -> bool
     matches!(fault, ReplyFault::NoMemory)
 }
 
-/// The body of AUTH_SYS that the bytes are, all of them, or `None` where they are none: cut, more than 255 bytes of
-/// machine name, more than 16 gids, padding that is not zero, or bytes after the gids. `NoMemory` comes where memory
-/// is refused (RFC 5531 appendix A).
+/// The body of AUTH_SYS that the bytes are, all of them, or `None` where they are none (RFC 5531 appendix A). They are
+/// none where they are cut, or have more than 255 bytes of machine name, more than 16 gids, padding that is not zero,
+/// or bytes after the gids. `NoMemory` comes where memory is refused.
 pub fn read_auth_sys(alloc: Global, bytes: &[u8]) -> Result<Option<AuthSys>, NoMemory>
     // What is read is spelled so.
     ensures found { IfOk result (λ o. IfSome o (λ a. AuthSysBytes (auth_sys_view a) bytes.now)) }

@@ -127,7 +127,7 @@ pub enum Status {
     ProcUnavail,
     /// The arguments can not be read.
     GarbageArgs,
-    /// The call failed here, as for want of memory.
+    /// The call failed here, as where memory is refused.
     SystemErr,
 }
 

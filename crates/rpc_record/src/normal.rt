@@ -14,7 +14,7 @@ use xdr_io::{Sink, Source};
 
 /// Writes each record of the reader as one last fragment, and counts them, once the reader has ended between two
 /// records. `TooLong`, `Truncated`, `Read` and `NoMemory` come after the records before were written, and so does
-/// `TooManyReads`, where 1048576 reads did not reach the end: of `NoMemory` these are the whole records before the one
+/// `TooManyReads`, where 1048576 reads did not reach the end. Of `NoMemory` these are the whole records before the one
 /// that memory was refused for. After `Write` the first `written` bytes of that output went out, though more records
 /// may have been whole. After any answer but `Read` no read failed. The records that come whole in one read go out
 /// together.

@@ -1,5 +1,9 @@
 //! Tests of XDR by public calls: readers and writers, schemas and values, and of the codec and the lines of values what
 //! no engine of `tool_probe` tells.
+//!
+//! - `device`: readers and writers. `types`: kinds, schemas and values.
+//! - `codec`: random schemas and inputs, and the memory of lent parts. `shown`: lines of values of kinds that no text
+//!   declares.
 #![tactic(auto)]
 
 #[cfg(test)]

@@ -90,7 +90,7 @@ impl<'a> Case<'a> {
         }
     }
 
-    /// The text of a key, which may stand between quotation marks; empty for want of memory.
+    /// The text of a key, which may stand between quotation marks; empty where memory is refused.
     pub fn text(&self, key: &str) -> String {
         match String::from_utf8(self.spelled(key)) {
             Ok(text) => text,
@@ -141,7 +141,7 @@ impl<'a> Case<'a> {
         self.word("call")
     }
 
-    /// The bytes of a key; none where they are no bytes, or for want of memory.
+    /// The bytes of a key; none where they are no bytes, or where memory is refused.
     pub fn bytes(&self, key: &str) -> Vec<u8> {
         match self.find(key) {
             Some(word) if word.is_text => unescaped(self.alloc, word.value),
@@ -206,7 +206,7 @@ impl<'a> Case<'a> {
     }
 }
 
-/// The bytes of hexadecimal digits; none where they are no digits, or for want of memory.
+/// The bytes of hexadecimal digits; none where they are no digits, or where memory is refused.
 pub fn digits(alloc: Global, text: &str) -> Vec<u8> {
     match hex::decode(alloc, text) {
         Ok(bytes) => bytes,

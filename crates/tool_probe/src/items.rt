@@ -24,7 +24,7 @@ fn item_named(alloc: Global, sort: &str, text: &str) -> Option<Named> {
     }
 }
 
-/// The items of a case, a comma between two; none where they are no items, or for want of memory.
+/// The items of a case, a comma between two; none where they are no items, or where memory is refused.
 pub fn case_items(case: &Case<'_>) -> Option<Vec<Named>> {
     let mut all = Vec::new(case.alloc);
     if case.has("items") {

@@ -130,7 +130,7 @@ fn own_schema(out: &mut Report, rt: &impl Env, case: &Case<'_>) {
     }
 }
 
-// A fault as the program prints it. Want of memory has the number 13.
+// A fault as the program prints it. An allocation failure has the number 13.
 fn refused(out: &mut Report, fault: LangFault) {
     out.number("declaration refused: ", u64::from(fault.number));
     if fault.inner > 0 {

@@ -94,7 +94,7 @@ fn feed_all(
     Ok(())
 }
 
-// A buffer for the records of an input behind their lengths; none for want of memory.
+// A buffer for the records of an input behind their lengths; none where memory is refused.
 fn buffer_for(alloc: Global, input: &[u8]) -> Vec<u8> {
     match Vec::with_capacity(alloc, input.len().saturating_mul(2).saturating_add(64)) {
         Ok(buffer) => buffer,

@@ -22,7 +22,7 @@ use xdr_types::{Limits, Schema, Value, fits};
 /// A registry whose order is the same in each run.
 pub type Registry = Directory<BuildHasherDefault<DefaultHasher>>;
 
-/// A registry at port 111 with its own rows alone; without rows for want of memory.
+/// A registry at port 111 with its own rows alone; without rows where memory is refused.
 pub fn started(alloc: Global) -> Registry {
     match Directory::start(alloc, BuildHasherDefault::new(), 111) {
         Ok(directory) => directory,

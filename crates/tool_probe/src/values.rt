@@ -371,7 +371,7 @@ fn encoded(out: &mut Report, rt: &impl Env, case: &Case<'_>, asked: &Asked<'_>, 
     bytes_words(out, allow(rt, before), &answer);
 }
 
-/// The words of bytes, or of want of memory.
+/// The words of bytes, or of an allocation failure.
 pub fn bytes_words(out: &mut Report, met: u64, answer: &Result<Vec<u8>, NoMemory>) {
     match answer {
         Ok(bytes) => {

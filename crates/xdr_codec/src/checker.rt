@@ -57,7 +57,7 @@ impl<'s> Checker<'s> {
         ensures leaves { Leaves self.new piece.now result }
         // After `Done` nothing of a piece is used, and a fault comes again.
         ensures stays { Stays self.old result }
-        // Want of memory is not answered where the kind has no parts.
+        // An allocation failure is not answered where the kind has no parts.
         ensures granted { HasNoParts (kind_at (kinds_of self.old) (kind_of self.old).place)
             → IfErr result (λ f. f.why ≡ NoMemory → ⊥) }
         // The schema, the kind and the limits stay.
@@ -102,7 +102,7 @@ impl<'s> Checker<'s> {
         ensures for_ever { (f : DecodeFault) → HasFailed self.entry f → result ≡ Err f }
         // After `Done` the count comes.
         ensures whole { IsDone self.entry → IsOk result }
-        // Want of memory is answered only where an earlier call answered it.
+        // An allocation failure is answered only where an earlier call answered it.
         ensures granted { IfErr result (λ f. f.why ≡ NoMemory → HasFailed self.entry f) }
     {
         finish_check(self.reader)

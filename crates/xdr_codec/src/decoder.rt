@@ -43,11 +43,11 @@ impl<'s> Decoder<'s> {
     }
 
     /// Takes the next piece, which may be empty. What it answers is the outcome of all bytes that came (RFC 4506):
-    /// `More` where it is pending, `Done` where a value is whole; `used` counts that value's bytes of this piece, and
-    /// later pieces are not looked at. A fault comes at the first unit after which no value goes on, at the node that
-    /// lies too deep, at the limit on bytes, each with its reason and place, or where memory was refused; it has taken
-    /// the whole piece, and comes again at each later call. That bytes have one outcome alone is
-    /// `xdr_laws::one_outcome`.
+    /// `More` where it is pending, `Done` where a value is whole. Then `used` counts that value's bytes of this piece,
+    /// and later pieces are not looked at. A fault comes at the first unit after which no value goes on, at the node
+    /// that lies too deep, and at the limit on bytes, each with its reason and place. It comes too where memory was
+    /// refused. Whichever it is, the whole piece is taken, and it comes again at each later call. That bytes have one
+    /// outcome alone is `xdr_laws::one_outcome`.
     ///
     /// What it holds is the value so far, a frame for each of its open nodes, and at most three bytes of input. It
     /// takes no memory where the kind is a number, a boolean, an enumeration or void. Reading does not recurse;
@@ -65,7 +65,7 @@ impl<'s> Decoder<'s> {
         ensures leaves { Leaves self.new piece.now result }
         // After `Done` nothing of a piece is used, and a fault comes again.
         ensures stays { Stays self.old result }
-        // Want of memory is not answered where the kind is a number, a boolean, an enumeration or void.
+        // An allocation failure is not answered where the kind is a number, a boolean, an enumeration or void.
         ensures granted { IsFlat (kind_at (kinds_of self.old) (kind_of self.old).place)
             → IfErr result (λ f. f.why ≡ NoMemory → ⊥) }
         // The schema, the kind and the limits stay.
@@ -77,12 +77,12 @@ impl<'s> Decoder<'s> {
 
     /// How much is held, before any `feed` too. It takes no memory.
     ///
-    /// `frames` counts the nodes that stand open, the one at work and its parents; `nodes` those of the value so far,
-    /// each as soon as it is due, so that a decoder that was given no byte has one; `bytes` those of content; `pending`
-    /// those of an unfinished unit. Whatever lengths the bytes declare, `frames` is at most one more than the limit on
-    /// depth, `nodes` at most (kinds + 1) times (u + 1) after u whole units, `bytes` at most the bytes given, `pending`
-    /// at most 3 (RFC 4506 section 3). After `Done` `nodes` and `bytes` are the value's, `frames` and `pending` 0.
-    /// After a fault nothing is held.
+    /// `frames` counts the nodes that stand open, the one at work and its parents. `nodes` counts those of the value so
+    /// far, each as soon as it is due, so that a decoder that was given no byte has one. `bytes` counts those of
+    /// content, and `pending` those of an unfinished unit. Whatever lengths the bytes declare, `frames` is at most one
+    /// more than the limit on depth, and `nodes` at most (kinds + 1) times (u + 1) after u whole units. `bytes` is at
+    /// most the bytes given, and `pending` at most 3 (RFC 4506 section 3). After `Done` `nodes` and `bytes` are the
+    /// value's, `frames` and `pending` 0. After a fault nothing is held.
     pub fn held(&self) -> Held
         // The counts are those of the decoder's own fields.
         ensures counts { CountsFields self.now result }
@@ -110,7 +110,7 @@ impl<'s> Decoder<'s> {
         ensures for_ever { (f : DecodeFault) → HasFailed self.entry f → result ≡ Err f }
         // After `Done` the value comes.
         ensures whole { IsDone self.entry → IsOk result }
-        // Want of memory is answered only where an earlier call answered it.
+        // An allocation failure is answered only where an earlier call answered it.
         ensures granted { IfErr result (λ f. f.why ≡ NoMemory → HasFailed self.entry f) }
     {
         let reader = self.reader;

@@ -21,9 +21,9 @@ use xdr_types::{KindId, Limits, Schema, Value};
 /// one outcome alone is `xdr_laws::one_outcome`.
 ///
 /// A fault other than `NoMemory` says that there is no such pair; unless it is `Truncated`, there is none in any longer
-/// input either. `at` is the count of bytes before the unit that is refused; for `TooDeep` of those before the node
-/// that lies too deep, for `TooLarge` the limit on bytes, for `Truncated` the count of all bytes. For `NoMemory` it is
-/// at most that count and says no more.
+/// input either. `at` is the count of bytes before the unit that is refused. For `TooDeep` it counts those before the
+/// node that lies too deep; for `TooLarge` it is the limit on bytes, for `Truncated` the count of all bytes. For
+/// `NoMemory` it is at most that count and says no more.
 ///
 /// Memory is what the value needs, and a frame for each of its open nodes; none where the kind is a number, a boolean,
 /// an enumeration or void. Reading does not recurse; the drop of the value does, one level a call.
@@ -48,7 +48,7 @@ pub fn decode(
         → bytes_of schema.now.kinds kind.place t ≡ take n input.now → (t ≡ tree r.0) × (n ≡ r.1)) }
     // A fault says that there is no such value, and its place lies within the input.
     ensures refusal { Refuses schema.now.kinds kind.place limits input.now result }
-    // Want of memory is not answered where the kind is a number, a boolean, an enumeration or void.
+    // An allocation failure is not answered where the kind is a number, a boolean, an enumeration or void.
     ensures granted { IsFlat (kind_at schema.now.kinds kind.place) → IfErr result (λ f. f.why ≡ NoMemory → ⊥) }
 {
     let _in_range = limits.depth();

@@ -104,15 +104,15 @@ impl<'t, 'a> Parser<'t, 'a> {
 /// What the definitions that the tokens spell declare, with names in place of what they stand for
 /// (RFC 4506 section 6.3, RFC 5531 section 12.2).
 ///
-/// The first token that cannot continue the grammar is `Unexpected`, or `FloatingKind` at the word of a
-/// floating-point type where a type may begin; the `{` of a 33rd body inside others is `NestedTooDeep`;
-/// `NoMemory` comes where a growth was refused.
+/// The first token that cannot continue the grammar is `Unexpected`, or `FloatingKind` at the word of a floating-point
+/// type where a type may begin. The `{` of a 33rd body inside others is `NestedTooDeep`. `NoMemory` comes where a
+/// growth was refused.
 pub fn read_outline<'a>(alloc: Global, tokens: &[Token<'a>]) -> Result<Outline<'a>, Fault>
     // What is read are the tokens of definitions.
     ensures found { IfOk result (λ v. IsOutline (lexemes tokens.now) (outline_of v)) }
     // The tokens of all definitions are read, unless memory runs out.
     ensures only { (v : OutlineSpec) → IsOutline (lexemes tokens.now) v → Gives outline_of result (Some v) }
-    // A refusal is want of memory, or number 3, 4 or 12.
+    // A refusal is an allocation failure, or number 3, 4 or 12.
     ensures refused { IfErr result (λ e. IsGrammarFault e) }
 {
     let mut parser = Parser {

@@ -17,7 +17,7 @@ pub(crate) enum Misplaced {
     NestedTooDeep,
 }
 
-/// What is wrong with a token, and how many bytes there are from it to the end; or want of memory.
+/// What is wrong with a token, and how many bytes there are from it to the end; or an allocation failure.
 #[derive(Clone, Copy)]
 pub(crate) enum Misread {
     Token { why: Misplaced, left: usize },

@@ -54,7 +54,7 @@ fn inner_of(wrong: Wrong) -> u8
     }
 }
 
-/// The fault of a text, as its caller sees it. Want of memory stands at the beginning.
+/// The fault of a text, as its caller sees it. An allocation failure stands at the beginning.
 pub fn lang_fault(text: &[u8], fault: Fault) -> LangFault
     ensures memory { fault ≡ Fault.NoMemory → result.number ≡ 13 }
     ensures from_1 { 1 ≤ result.number }

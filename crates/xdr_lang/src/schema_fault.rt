@@ -6,7 +6,7 @@ use xdr_grammar::Outline;
 use xdr_tokens::{Fault, FlawNumber, Wrong};
 use xdr_types::{Flaw, SchemaFault};
 
-/// The number of what is wrong with a schema. Want of memory, the last, is wrong with none.
+/// The number of what is wrong with a schema. An allocation failure, the last, is wrong with none.
 fn flaw_number(why: Flaw) -> Option<FlawNumber>
     ensures { why ≡ flaw.NoMemory → result ≡ None }
 {

@@ -34,10 +34,10 @@ fn declared(alloc: Global, text: &[u8]) -> Result<Declared, Fault>
 
 /// Reads a text of at most 262144 bytes: what it declares (RFC 4506 section 6, RFC 5531 section 12).
 ///
-/// The faults come in this order: 11 at the beginning; the first bad token, 1 or 2; the first token that
-/// cannot continue the grammar, 3 or 4, or the brace of a 33rd body, 12; then 5 to 8 at the first token
-/// at fault, at one token the lowest number; 9; 10, where the definition or declaration of the kind
-/// begins. 13 may come in place of any other answer, where a growth was refused.
+/// The faults come in this order: 11 at the beginning, then the first bad token, 1 or 2. Next is the first token that
+/// cannot continue the grammar, 3 or 4, or the brace of a 33rd body, 12. Then come 5 to 8 at the first token at fault,
+/// at one token the lowest number; then 9; then 10, where the definition or declaration of the kind begins. 13 may come
+/// in place of any other answer, where a growth was refused.
 pub fn read(alloc: Global, text: &[u8]) -> Result<Declared, LangFault>
     // What is read is what the text means.
     ensures found { IfOk result (λ v. Means text.now (declared_of v)) }
@@ -47,7 +47,7 @@ pub fn read(alloc: Global, text: &[u8]) -> Result<Declared, LangFault>
     ensures refused { IfErr result (λ e. e.number ≢ 13 → (d : DeclaredSpec) → Means text.now d → ⊥) }
     // The number of a refusal is 1 to 13.
     ensures number { IfErr result (λ e. (1 ≤ e.number) × (e.number ≤ 13)) }
-    // With number 10 the schema's is 1 to 10, else 0: its 11, want of memory, is number 13.
+    // With number 10 the schema's is 1 to 10, else 0: its 11, an allocation failure, is number 13.
     ensures inner { IfErr result (λ e. IsInner e.number e.inner) }
     // Lines and columns count from 1.
     ensures place { IfErr result (λ e. (1 ≤ e.line) × (1 ≤ e.column)) }

@@ -47,7 +47,7 @@ impl<'a> PartWalk<'a> {
     }
 
     /// Goes on to the next few parts, which `list` has then, and tells whether there are any. After an error, which is
-    /// want of memory, the walk stands nowhere and is only let go.
+    /// an allocation failure, the walk stands nowhere and is only let go.
     pub fn advance(&mut self) -> Result<bool, NoMemory>
         requires { (bytes : List ℕ) × (es : List Entry) × Awaits self.old bytes es }
         // The list has the first of the parts that were still to come, and the others come after it.

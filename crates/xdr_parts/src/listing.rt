@@ -24,8 +24,8 @@ pub struct SizedParts<'a> {
 }
 
 /// The parts of the value whose encoding begins the input (RFC 4506 section 4), in the order of their bytes, a parent
-/// before its parts. Their bytes are the input's own: a number, a flag or a length is its unit, or two of a hyper
-/// integer; content is without the zeros after it; a structure, an array of fixed size and a void have none.
+/// before its parts. Their bytes are the input's own. A number, a flag or a length is its unit, or two of a hyper
+/// integer. Content is without the zeros after it. A structure, an array of fixed size and a void have none.
 ///
 /// A fault is that of `decode`: where no value within the limits begins the input, `why` and `at` say it, `Truncated`
 /// at the count of bytes where the input ends inside one. For `NoMemory` `at` is at most the count of bytes.

@@ -20,8 +20,8 @@ pub fn push_quoted(out: &mut Vec<u8>, bytes: &[u8]) -> Result<(), NoMemory>
 }
 
 /// The bytes of a text, each that is not plain as `\x` and two lower-case hexadecimal digits. Plain are 0x20 to 0x7e
-/// save the quotation mark and the backslash. An error is want of memory, and some of the text may then have been
-/// added.
+/// save the quotation mark and the backslash. An error is an allocation failure, and some of the text may then have
+/// been added.
 pub fn push_escaped_bytes(out: &mut Vec<u8>, bytes: &[u8]) -> Result<(), NoMemory>
     ensures { OnOk result (out.new.items ≡ out.old.items ++ flat_map escaped bytes.now) }
 {

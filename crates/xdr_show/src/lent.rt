@@ -19,7 +19,7 @@ use xdr_types::{KindId, Limits, NoMemory, Schema};
 /// The lines of the value whose encoding begins the input (RFC 4506 section 4): the same that `show` prints, and no
 /// value is made.
 ///
-/// A fault is that of `parts`, and so of `decode`: where no value within the limits begins the input, `why` and `at`
+/// A fault is that of `parts`, and so of `decode`. Where no value within the limits begins the input, `why` and `at`
 /// say it, `Truncated` at the count of bytes where the input ends inside one. For `NoMemory` `at` is at most the count
 /// of bytes.
 ///

@@ -2,7 +2,8 @@
 //!
 //! - `shown`: the lines of a value. `lent`: the same of parts that are lent from bytes.
 //! - `line`: what all lines have. `head`, `number`, `content`: what a line says of a node, of a number and of content.
-//!   `part_head`: what a node shows, read back from the bytes of a part.
+//!   `part_head`: what a node shows, read back from the bytes of a part. `short`: short lines, put together on the
+//!   stack. `backwards`: texts written from their end.
 //! - `laws`: the lines are those of the layout.
 #![tactic(auto)]
 

@@ -17,9 +17,11 @@ use xdr_types::{Kind, KindId, Limits, Member, NoMemory, Schema, Value, part_in};
 /// The lines of a value (RFC 4506 section 4): one for each part of its layout in order, a node before those inside it,
 /// two spaces further in. The value fits the kind within the limits, as `fits` tells.
 ///
-/// A line has the part's name, where it has one, and then: `struct`, `array of` and `list of` with a count, `void`,
-/// `present` or `absent`; a number in decimal, `TRUE` or `FALSE`, the name of an enumeration's member before its
-/// number, a union's discriminant after `case`; a string in quotation marks, an opaque in hexadecimal after `0x`.
+/// A line has the part's name, where it has one, and then one of these:
+/// - `struct`, `array of` and `list of` with a count, `void`, `present` or `absent`;
+/// - a number in decimal, `TRUE` or `FALSE`, the name of an enumeration's member before its number, a union's
+///   discriminant after `case`;
+/// - a string in quotation marks, an opaque in hexadecimal after `0x`.
 ///
 /// Each level of the value takes stack: up to 0.5 MiB at depth 4096 on x86-64.
 pub fn show(

@@ -4,7 +4,7 @@ use Rattle.xdr_stream.specs.declared.fault.Reason.{Reason}
 use Rattle.xdr_stream.specs.declared.fault.Reason.TheVariants as reason
 
 -- the number of a reason: a unit that no value has (RFC 4506 sections 3, 4.3, 4.4, 4.10 to 4.15, 4.19), a limit, the
--- end of the bytes, want of memory
+-- end of the bytes, an allocation failure
 abbrev pub reason_number : Reason → ℕ
 reason_number reason.BadBool = 1
 reason_number reason.BadNumbered = 2

@@ -23,8 +23,8 @@ abbrev pub Fails : List KindView → (kind : ℕ) → Bounds → DecodeFault →
 Fails kinds kind limits f b = ((rest : List ℕ) → Ends kinds kind limits f.why (b ++ rest) f.at) × (f.at ≤ length b)
 
 -- The bytes b brought a reader to this state: the units that are read, and those of an unfinished unit, of which there
--- are so many in its space. One that has failed holds no more than a new one, and did not fail for want of memory where
--- its kind takes none.
+-- are so many in its space. One that has failed holds no more than a new one, and its fault is no allocation failure
+-- where its kind takes no memory.
 abbrev pub RepresentsAs : (spares : Type 0) → List KindView → (kind : ℕ) → Bounds → (H : Trace → Type 0)
     → List (List Part) → (read : ℕ) → (space : List ℕ) → (pending : ℕ) → State → (b : List ℕ) → Type 0
 RepresentsAs spares kinds kind limits H fs read space pending Fresh b =

@@ -33,7 +33,7 @@ IsFlat k = TakesNone ⊥ k
 abbrev pub HasNoParts : KindView → Type 0
 HasNoParts k = TakesNone ⊤ k
 
--- want of memory is no reason where the kind takes none
+-- an allocation failure is no reason where the kind takes none
 abbrev pub Spares : (spares : Type 0) → KindView → Reason → Type 0
 Spares spares k reason.BadBool = ⊤
 Spares spares k reason.BadNumbered = ⊤

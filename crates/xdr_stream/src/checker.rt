@@ -45,7 +45,7 @@ pub fn finish_check<'s>(reader: Reader<'s, Nothing>) -> Result<u32, DecodeFault>
     ensures for_ever { (f : DecodeFault) → reader.entry.state ≡ Failed f → result ≡ Err f }
     // A value that is whole is accepted.
     ensures whole { reader.entry.state ≡ Finished → IsOk result }
-    // It takes no memory: only an earlier call's want of it comes again.
+    // It takes no memory: only an earlier call's allocation failure comes again.
     ensures granted { IfErr result (λ f. f.why ≡ NoMemory → reader.entry.state ≡ Failed f) }
 {
     let limits = reader.limits;

@@ -48,7 +48,7 @@ pub fn finish<'s>(reader: Reader<'s, Values>) -> Result<Value, DecodeFault>
     ensures for_ever { (f : DecodeFault) → reader.entry.state ≡ Failed f → result ≡ Err f }
     // A value that is whole is handed out.
     ensures whole { reader.entry.state ≡ Finished → IsOk result }
-    // It takes no memory: only an earlier call's want of it comes again.
+    // It takes no memory: only an earlier call's allocation failure comes again.
     ensures granted { IfErr result (λ f. f.why ≡ NoMemory → reader.entry.state ≡ Failed f) }
 {
     if let State::Finished = reader.state {
@@ -119,7 +119,7 @@ pub(crate) fn finish_empty(
     requires { kind.place < length schema.now.kinds }
     // It answers the outcome of all bytes given.
     ensures answer { Finishes schema.now.kinds kind.place limits [] result }
-    // It takes no memory: only an earlier call's want of it comes again.
+    // It takes no memory: only an earlier call's allocation failure comes again.
     ensures granted { IfErr result (λ f. f.why ≡ NoMemory → ⊥) }
 {
     let _known = schema.len();

@@ -1,4 +1,4 @@
--- What a function returned, against what is due. Want of memory may come at any time.
+-- What a function returned, against what is due. An allocation failure may come at any time.
 use Rattle.std.specs.Prelude.{◌≡◌, Option, Some, None, Result, Ok, Err}
 use Rattle.xdr_tokens.specs.declared.fault.Fault.{Fault}
 use Rattle.xdr_tokens.specs.declared.fault.Fault.TheVariants as fault

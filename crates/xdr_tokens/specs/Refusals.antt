@@ -20,7 +20,7 @@ wrong_number (wrong.BadSchema flaw) = 10
 wrong_number wrong.TextTooLong = 11
 wrong_number wrong.NestedTooDeep = 12
 
--- A bad character or a bad number at a byte of the text, so many bytes before its end; or want of memory.
+-- A bad character or a bad number at a byte of the text, so many bytes before its end; or an allocation failure.
 abbrev pub IsTokenFault : List ℕ → Fault → Type 0
 IsTokenFault text fault.NoMemory = Unit {0}
 IsTokenFault text (fault.Refused wrong left) =

@@ -149,7 +149,7 @@ pub fn tokens(alloc: Global, text: &[u8]) -> Result<Vec<Token<'_>>, Fault>
     ensures found { IfOk result (λ v. Tokens text.now (lexemes v.items)) }
     // No others are, and a text that has tokens is read, unless memory runs out.
     ensures only { (ts : List Lexeme) → Tokens text.now ts → Gives (λ v. lexemes v.items) result (Some ts) }
-    // A refusal is want of memory, or number 1 or 2 at a byte of the text.
+    // A refusal is an allocation failure, or number 1 or 2 at a byte of the text.
     ensures refused { IfErr result (λ e. IsTokenFault text.now e) }
 {
     let mut found = Vec::new(alloc);

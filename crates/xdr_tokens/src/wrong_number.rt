@@ -5,7 +5,7 @@ ghost use Rattle.xdr_tokens.specs.Refusals.{wrong_number};
 use crate::fault::Wrong;
 
 impl Wrong {
-    /// The number, from 1 to 12 in the order in which the faults are listed. Want of memory is 13.
+    /// The number, from 1 to 12 in the order in which the faults are listed. An allocation failure is 13.
     pub fn number(self) -> u8
         // Each wrong has a number of its own.
         ensures number { result ≡ wrong_number self }

@@ -35,7 +35,7 @@ HasNoFiniteValue s e = IsWellFormed s × (e.why ≡ flaw.NoFiniteValue) × IsLow
 abbrev pub IsFirstFault : Lists → SchemaFault → Type 0
 IsFirstFault s e = HasTooManyKinds s e ⊎ (HasKindFlaw s e ⊎ (HasNameFlaw s e ⊎ HasNoFiniteValue s e))
 
--- a refusal is want of memory, or the first fault
+-- a refusal is an allocation failure, or the first fault
 abbrev pub IsRefused : Lists → SchemaFault → Type 0
 IsRefused s e = (e ≡ fault flaw.NoMemory 0) ⊎ IsFirstFault s e
 

@@ -10,8 +10,9 @@ use crate::picked::has_number;
 use crate::schema::Schema;
 use std::string::String;
 
-/// Whether a discriminant of the kind may have the number: an int's from -2^31 to 2^31 - 1, an unsigned int's from 0 to
-/// 2^32 - 1, 0 and 1 of a bool, the members' of an enumeration, none of another kind (RFC 4506 section 4.15).
+/// Whether a discriminant of the kind may have the number (RFC 4506 section 4.15). That of an int goes from -2^31 to
+/// 2^31 - 1, and that of an unsigned int from 0 to 2^32 - 1. Of a bool it is 0 or 1, and of an enumeration that of a
+/// member. Another kind has none.
 #[inline(always)]
 pub fn is_legal_tag(schema: &Schema, id: KindId, number: i64) -> bool
     ensures { result ≡ is_tag_of (kind_at schema.now.kinds id.place) number }

@@ -1,5 +1,5 @@
-//! The kinds and the values of XDR (RFC 4506): which lists of kinds make a schema, which values are of a kind and
-//! within limits, how many bytes they have, and when they are the same.
+//! The kinds and the values of XDR (RFC 4506): which lists of kinds make a schema, and which values are of a kind and
+//! within limits. How many bytes values have, and when they are the same.
 //!
 //! The definitions that all crates stand on are in `specs/`: numbers and padding as bytes, schemas, values as trees,
 //! which of them fit, their encodings, and the outcome of decoding.
@@ -7,7 +7,8 @@
 //! - `kind`, `schema`: kinds, and lists of them that name one another. `basic`: those without declarations. `value`:
 //!   values, and their copies. `limits`: on depth and bytes.
 //! - `fit`: whether a value is one of a kind and within limits. `sizes`: how many bytes it has. `choice`: tags and
-//!   parts of a union. `equal`: `==` of values.
+//!   parts of a union. `picked`: the member or the part that a number picks, found in few steps. `equal`: `==` of
+//!   values.
 //! - `faults`, `names`: the first flaw of a kind and of a name. `places`, `tags`, `empty`, `twice`: one flaw each.
 //!   `rising`: cases of which none is there twice. `fault`: flaws, and their places.
 //! - `heights`: which kinds have a finite value. `reach`: which defaults can be reached. `sets`: numbers and cases as

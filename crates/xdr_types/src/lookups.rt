@@ -56,7 +56,7 @@ fn add_number(found: &mut Vec<(i64, usize)>, number: i64, index: usize) -> Resul
     Ok(())
 }
 
-// Puts entries in order. Those with one number stay in turn. An error is want of memory.
+// Puts entries in order. Those with one number stay in turn. An error is an allocation failure.
 fn put_in_order(found: &mut Vec<(i64, usize)>) -> Result<(), AllocError>
     ensures { OnOk result (AreInOrder found.new.items
         × ((z : ℤ) → first_at found.new.items z ≡ first_at found.old.items z)) }
@@ -132,7 +132,7 @@ fn are_few(arms: &[Arm]) -> bool {
     true
 }
 
-/// The entries of an enumeration or a union whose numbers are many. An error is want of memory.
+/// The entries of an enumeration or a union whose numbers are many. An error is an allocation failure.
 pub fn lookup_of(alloc: Global, kind: &Kind) -> Result<Option<Vec<(i64, usize)>>, AllocError>
     ensures { IfOk result (MayFind (kind_view kind.now)) }
 {

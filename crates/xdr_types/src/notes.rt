@@ -50,7 +50,7 @@ impl Debug for Noted {
     }
 }
 
-/// The notes of the kinds, each at the place of its kind. An error is want of memory.
+/// The notes of the kinds, each at the place of its kind. An error is an allocation failure.
 pub fn notes_of(alloc: Global, kinds: &Vec<Kind>) -> Result<Vec<Noted>, AllocError>
     ensures { IfOk result (λ v. AreNotes (map kind_view kinds.now.items) v.items) }
 {
@@ -65,7 +65,7 @@ pub fn notes_of(alloc: Global, kinds: &Vec<Kind>) -> Result<Vec<Noted>, AllocErr
     Ok(notes)
 }
 
-// The notes of the kinds, the numbers of each alone. An error is want of memory.
+// The notes of the kinds, the numbers of each alone. An error is an allocation failure.
 fn numbers_of(alloc: Global, kinds: &Vec<Kind>) -> Result<Vec<Noted>, AllocError>
     ensures { IfOk result (λ v. AreNotes (map kind_view kinds.now.items) v.items) }
 {

@@ -86,7 +86,7 @@ fn has_free_number(
 }
 
 // Whether some legal discriminant of a union has no arm. The numbers of an enumeration are put into its set where the
-// set is asked for. An error is want of memory.
+// set is asked for. An error is an allocation failure.
 fn has_free_tag(
     alloc: Global,
     kinds: &Vec<Kind>,
@@ -132,7 +132,7 @@ fn is_default_reached(
     }
 }
 
-/// For each kind, whether a default of it can be reached. An error is want of memory.
+/// For each kind, whether a default of it can be reached. An error is an allocation failure.
 pub fn reached_defaults(alloc: Global, kinds: &Vec<Kind>) -> Result<Vec<bool>, AllocError>
     ensures { IfOk result (λ v. AreReached (map kind_view kinds.now.items) v.items) }
 {

@@ -97,7 +97,7 @@ pub fn is_same_schema(a: &Schema, b: &Schema) -> bool
     a == b
 }
 
-// The first fault of the two lists, or want of memory; none of lists that are well formed and sound.
+// The first fault of the two lists, or an allocation failure; none of lists that are well formed and sound.
 fn first_fault(
     alloc: Global,
     kinds: &Vec<Kind>,
@@ -136,9 +136,9 @@ impl Schema {
     /// value (RFC 4506 sections 4.3 to 4.19).
     ///
     /// Else the first fault in this order: more than 1024 kinds; each kind by its place, the first of `UnknownKind`,
-    /// `ZeroSize`, `VoidMember`, `BadDiscriminant`, `CaseTwice`, `CaseNotLegal`, `EmptyList`, `NameTwice`; each name in
-    /// turn, the first of `UnknownKind`, `VoidMember`, `NameTwice`; `NoFiniteValue` at the lowest place that has none.
-    /// `NoMemory` comes where a growth was refused.
+    /// `ZeroSize`, `VoidMember`, `BadDiscriminant`, `CaseTwice`, `CaseNotLegal`, `EmptyList`, `NameTwice`. Then each
+    /// name in turn, the first of `UnknownKind`, `VoidMember`, `NameTwice`; then `NoFiniteValue` at the lowest place
+    /// that has none. `NoMemory` comes where a growth was refused.
     pub fn build(
         alloc: Global,
         kinds: Vec<Kind>,
@@ -181,9 +181,9 @@ impl Schema {
         self.kinds.len()
     }
 
-    /// The basic schema, of the kinds without declarations (RFC 4506 sections 4.1, 4.2, 4.4, 4.5, 4.10, 4.11, 4.16):
-    /// `int`, `unsigned`, `hyper`, `unsigned-hyper`, `bool`, a void kind without a name, `opaque` and `string`, at
-    /// places 0 to 7.
+    /// The basic schema, of the kinds without declarations (RFC 4506 sections 4.1, 4.2, 4.4, 4.5, 4.10, 4.11, 4.16). At
+    /// places 0 to 7 it has `int`, `unsigned`, `hyper`, `unsigned-hyper`, `bool`, a void kind without a name, `opaque`
+    /// and `string`.
     pub fn basic(alloc: Global) -> Result<Schema, NoMemory>
         ensures { IfOk result (λ s. s ≡ basic) }
     {
@@ -230,10 +230,10 @@ impl Schema {
     }
 
     /// What all values of the kind share (RFC 4506 sections 4.1 to 4.5, 4.9, 4.12, 4.14). There is an extent of a
-    /// number, a boolean, an enumeration, an opaque of fixed size, and a fixed array or a structure of these, where a
-    /// value has 65536 bytes and 16 levels at most. There is none of any other kind, also where all its values have
-    /// one size, as of a void, and none of a kind that the schema does not have. The contract speaks of an extent that
-    /// is there, and not of which kinds have one.
+    /// number, a boolean, an enumeration, an opaque of fixed size, and a fixed array or a structure of these. But there
+    /// is one only where a value has 65536 bytes and 16 levels at most. There is none of any other kind, also where all
+    /// its values have one size, as of a void, and none of a kind that the schema does not have. The contract speaks of
+    /// an extent that is there, and not of which kinds have one.
     pub fn extent(&self, id: KindId) -> Option<Extent>
         ensures { IfSome result (IsExtent self.now.kinds id.place) }
     {
@@ -261,9 +261,9 @@ impl Schema {
 
     /// A count of levels, 1 to 16, that no value of the kind passes (RFC 4506 sections 4.1 to 4.19). It is 1 where a
     /// kind has no parts, and else one more than the most of its parts; a default that no number reaches is counted
-    /// too. There is none where that is above 16 or has no end, as of a linked list, none of an array of varying
-    /// length and of what has one inside it, and none of a kind that the schema does not have. The contract speaks of
-    /// a count that is there, and not of which kinds have one.
+    /// too. There is none where that is above 16 or has no end, as of a linked list. There is none of an array of
+    /// varying length and of what has one inside it, and none of a kind that the schema does not have. The contract
+    /// speaks of a count that is there, and not of which kinds have one.
     pub fn levels(&self, id: KindId) -> Option<u32>
         ensures { IfSome result (IsMostLevels self.now.kinds id.place) }
     {

@@ -73,7 +73,7 @@ fn numbers_of(alloc: Global, kind: &Kind) -> Result<BTreeSet<i64>, AllocError>
     }
 }
 
-/// So many sets without numbers. An error is want of memory.
+/// So many sets without numbers. An error is an allocation failure.
 pub fn no_numbers(alloc: Global, count: usize) -> Result<Vec<BTreeSet<i64>>, AllocError>
     ensures all { IfOk result (λ v. length v.items ≡ count) }
     ensures none { IfOk result (λ v. All (λ s. btree_set_len s ≡ 0) v.items) }
@@ -85,7 +85,8 @@ pub fn no_numbers(alloc: Global, count: usize) -> Result<Vec<BTreeSet<i64>>, All
     Ok(numbers)
 }
 
-/// Puts the numbers of the enumeration at a place into its set, where that has none yet. An error is want of memory.
+/// Puts the numbers of the enumeration at a place into its set, where that has none yet. An error is an allocation
+/// failure.
 pub fn fill_numbers(
     alloc: Global,
     kinds: &Vec<Kind>,
@@ -118,7 +119,7 @@ fn is_long(kinds: &Vec<Kind>, id: KindId) -> bool {
 }
 
 // The numbers of each enumeration of many members that is the discriminant of a union, at its place, and no numbers at
-// the others. An error is want of memory.
+// the others. An error is an allocation failure.
 fn numbers_of_tags(alloc: Global, kinds: &Vec<Kind>) -> Result<Vec<BTreeSet<i64>>, AllocError>
     ensures { IfOk result (λ v. AreNumbers (map kind_view kinds.now.items) v.items) }
 {
@@ -171,7 +172,7 @@ fn add_cases(cases: &mut BTreeSet<i64>, more: &[i64]) -> Result<(), AllocError>
     Ok(())
 }
 
-/// The cases of all the arms, which are taken from the last one on as well. An error is want of memory.
+/// The cases of all the arms, which are taken from the last one on as well. An error is an allocation failure.
 pub fn cases_of(alloc: Global, arms: &[Arm]) -> Result<BTreeSet<i64>, AllocError>
     ensures { IfOk result (λ s. (z : ℤ) → contains int_cmp s z ≡ has_arm (map branch_of arms.now) z) }
 {

@@ -19,7 +19,7 @@ use std::alloc::{AllocError, Global};
 use std::collections::BTreeSet;
 use std::string::String;
 
-// Whether two members have one name. An error is want of memory.
+// Whether two members have one name. An error is an allocation failure.
 fn constant_repeats(alloc: Global, members: &[(String, i32)]) -> Result<bool, AllocError>
     ensures { IfOk result (λ b. b ≡ constant_twice (map constant_of members.now)) }
 {
@@ -33,7 +33,7 @@ fn constant_repeats(alloc: Global, members: &[(String, i32)]) -> Result<bool, Al
     Ok(false)
 }
 
-// Whether two fields have one name. An error is want of memory.
+// Whether two fields have one name. An error is an allocation failure.
 fn field_repeats(alloc: Global, fields: &[Member]) -> Result<bool, AllocError>
     ensures { IfOk result (λ b. b ≡ part_twice (map part_of_member fields.now)) }
 {
@@ -54,7 +54,7 @@ fn is_again(name: &String, is_new: bool) -> bool
     !is_no_name(name) && !is_new
 }
 
-// Whether two arms, or an arm and the other part, have one name that is not empty. An error is want of memory.
+// Whether two arms, or an arm and the other part, have one name that is not empty. An error is an allocation failure.
 fn arm_repeats(alloc: Global, arms: &[Arm], other: &Option<Member>) -> Result<bool, AllocError>
     ensures { IfOk result (λ b. b ≡ arm_twice (map branch_of arms.now) (option_map part_of_member other.now)) }
 {
@@ -88,7 +88,7 @@ fn is_refilled(later: &mut BTreeSet<i64>, cases: &[i64]) -> Result<bool, AllocEr
     Ok(false)
 }
 
-// Whether a case is there twice among the arms. An error is want of memory.
+// Whether a case is there twice among the arms. An error is an allocation failure.
 fn case_repeats(alloc: Global, arms: &[Arm]) -> Result<bool, AllocError>
     ensures { IfOk result (λ b. b ≡ arms_case_twice (map branch_of arms.now)) }
 {

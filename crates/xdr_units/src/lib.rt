@@ -1,5 +1,6 @@
-//! What XDR, messages and addresses share: numbers, padding and padded content as bytes, read from the front of bytes
-//! and written behind them (RFC 4506 sections 3 and 4), numbers as decimal texts, and want of memory.
+//! What XDR, messages and addresses share: numbers, padding and padded content as bytes (RFC 4506 sections 3 and 4),
+//! numbers as decimal texts, and the allocation failure. Numbers and content are read from the front of bytes, and
+//! written behind them.
 #![tactic(auto)]
 
 mod decimals;

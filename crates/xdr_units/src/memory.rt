@@ -1,4 +1,4 @@
-//! Want of memory.
+//! Allocation failures.
 use std::alloc::{AllocError, AllocFailed};
 use thiserror::Error;
 

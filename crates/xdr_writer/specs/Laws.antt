@@ -23,9 +23,9 @@ abbrev pub ItemsTellValue : List KindView → Type 0
 ItemsTellValue kinds = (kind : ℕ) (v w : Tree) → Fits kinds kind v → Fits kinds kind w
     → items_of kinds kind v ≡ items_of kinds kind w → v ≡ w
 
--- What is answered to the item i of a value, behind those before it and with those after it. A refusal of it is for
--- want of memory, since another reason says that no value has it there. It makes the value whole exactly where it is
--- the last.
+-- What is answered to the item i of a value, behind those before it and with those after it. A refusal of it is for an
+-- allocation failure, since another reason says that no value has it there. It makes the value whole exactly where it
+-- is the last.
 pub record IsTaken (kinds : List KindView) (kind : ℕ) (limits : Bounds) (is : List NodeItem) (i : ItemView)
     (after : List ItemView) : Type 0 where
   pub memory_alone : (why : Why) → (IsKnown why → HasNoValue kinds kind limits is i) → why ≡ NoMemory

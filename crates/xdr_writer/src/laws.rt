@@ -13,9 +13,9 @@ pub fn items_tell_value()
     ensures { (kinds : List KindView) → ItemsTellValue kinds }
 {}
 
-/// Each value within the limits is written by its items, put one after another: none is refused but for want of memory,
-/// each but the last brings `More` and the last `Done`. Where none is left `finish` gives the count; a value without
-/// items, a void, has it at once.
+/// Each value within the limits is written by its items, put one after another: none is refused but for an allocation
+/// failure, each but the last brings `More` and the last `Done`. Where none is left `finish` gives the count; a value
+/// without items, a void, has it at once.
 pub fn items_are_taken()
     ensures { (kinds : List KindView) → ItemsAreTaken kinds }
 {}

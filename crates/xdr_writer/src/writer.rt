@@ -61,19 +61,19 @@ impl<'s> Writer<'s> {
     /// the kind within the limits, and all bytes written its encoding.
     ///
     /// A refusal comes only where no value within the limits has the items so far and then this one, or memory was
-    /// refused: where another item is due, where its number is out of range, and where decoding its bytes ends without
-    /// a value. The item's bytes are judged before any is written, so nothing of it is written then; the refusal comes
-    /// again at each later call.
+    /// refused. The first is so where another item is due, where its number is out of range, and where decoding its
+    /// bytes ends without a value. The item's bytes are judged before any is written, so nothing of it is written then;
+    /// the refusal comes again at each later call.
     ///
     /// Memory is taken for frames, where a node opens, and for `out`, as much as the item's bytes ask for. No clause
-    /// says which items open a node, so want of memory is ruled out for kinds without parts alone.
+    /// says which items open a node, so an allocation failure is ruled out for kinds without parts alone.
     pub fn put(&mut self, item: Item, out: &mut Vec<u8>) -> Result<Step, WriteRefusal>
         // The item stands behind those so far, and its bytes behind what stood there.
         ensures took { IfOk result (λ s. (is : List NodeItem) → RepresentsItems self.old is
             → Took self.old self.new is (item_view item.entry) out.old.items out.new.items s) }
         // A refusal says why it does not, and counts the items before it. Nothing of the item is written then.
         ensures refuses { Rejects self.old self.new (item_view item.entry) out.old.items out.new.items result }
-        // Want of memory is answered only where the kind has parts or `out` is to grow.
+        // An allocation failure is answered only where the kind has parts or `out` is to grow.
         ensures granted { IfErr result (λ f. (is : List NodeItem) → RepresentsItems self.old is
             → HasNoParts (kind_at (kinds_of self.old) (kind_of self.old))
             → length out.old.items + most_bytes (item_view item.entry) ≤ vec_capacity out.old
@@ -117,7 +117,7 @@ impl<'s> Writer<'s> {
         ensures refuses { RejectsEnd self.entry result }
         // One of an earlier call comes again.
         ensures for_ever { (f : WriteRefusal) → HasRefused self.entry f → result ≡ Err f }
-        // Want of memory is answered only where an earlier call answered it.
+        // An allocation failure is answered only where an earlier call answered it.
         ensures granted { IfErr result (λ f. f.why ≡ NoMemory → HasRefused self.entry f) }
     {
         if let Some(refusal) = self.refused {

@@ -33,7 +33,7 @@ parts_from kinds name_at (e ∷ es) = part_of kinds name_at e ∷ parts_from kin
 abbrev pub AreKnown : List KindView → List Lent → Type 0
 AreKnown kinds ls = AllByRecursion (λ (l : Lent). l.kind.place < length kinds) ls
 
--- the answer to an input of which nothing is listed: why it is refused, or want of memory
+-- the answer to an input of which nothing is listed: why it is refused, or an allocation failure
 abbrev pub IsUnlisted : DecodeFault → Listed → Type 0
 IsUnlisted f (listed.Refused g) = (g ≡ f) × (f.why ≢ reason.NoMemory)
 IsUnlisted f listed.NoMemory = ⊤

@@ -39,7 +39,7 @@ abbrev pub IsTaken : Question → Given → (out : List ℕ) → Step → Type 0
 IsTaken q g out step.Done = IsEncoded q g out
 IsTaken q g out step.More = AreBegun q g
 
--- the answer where the items are not written: why, or want of memory
+-- the answer where the items are not written: why, or an allocation failure
 abbrev pub IsUnwritten : Question → Given → Answer → Type 0
 IsUnwritten q g (answer.BadItem f) = AreBad q g f.at f.why
 IsUnwritten q g answer.NoMemory = ⊤

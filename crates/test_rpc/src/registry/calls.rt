@@ -60,7 +60,7 @@ pub fn empty(alloc: Global) -> Registry {
     Directory::new(alloc, BuildHasherDefault::new())
 }
 
-/// Makes a call, and says whether its answer is the wanted one, or `None` for want of memory.
+/// Makes a call, and says whether its answer is the wanted one, or `None` for an allocation failure.
 pub fn answer(alloc: Global, directory: &mut Registry, call: &Call) -> Option<bool> {
     match call {
         Call::Set((prog, vers, netid), address, owner, done) => {

@@ -26,7 +26,7 @@ abbrev pub reported : Misread → Fault
 reported (misread.Token why left) = fault.Refused (wrong_of why) left
 reported misread.NoMemory = fault.NoMemory
 
--- Nothing is due, where a token was refused. Want of memory may come at any time.
+-- Nothing is due, where a token was refused. An allocation failure may come at any time.
 abbrev pub MisreadsRightly : {Y : Type 0} → Misread → Option Y → Type 0
 MisreadsRightly (misread.Token why left) due = due ≡ None
 MisreadsRightly misread.NoMemory due = Unit {0}

@@ -21,8 +21,8 @@ use crate::machine::unit::{number_of, unit_at};
 use std::alloc::{AllocError, Global};
 use xdr_types::{Kind, KindId, Schema, Value};
 
-/// The value that the bytes have next, where they have one of the kind: of a structure or a fixed array whose parts are
-/// rows, of a union or an optional whose part is flat, or a flat one that is no number. It is counted.
+/// The value that the bytes have next, where they have one of the kind. The kind is a structure or a fixed array whose
+/// parts are rows, a union or an optional whose part is flat, or a flat one that is no number. The value is counted.
 pub(crate) fn value_in(
     alloc: Global,
     schema: &Schema,

@@ -14,9 +14,10 @@ use crate::runs::sort::{is_empty_array, is_field};
 use std::alloc::AllocError;
 use xdr_types::Schema;
 
-// Takes the parts of a node that come first, as long as they are numbers, content, or short unions or optionals, and
-// there whole, and have at most so many levels, or arrays without items that the builder takes so; how many bytes they
-// have, the node behind them, and whether its next part is none of these: else it is cut, or refused.
+// Takes the parts of a node that come first, as long as each is one of these. It is a number, content, or a short union
+// or optional, there whole and of at most so many levels; or it is an array without items that the builder takes so.
+// Answers how many bytes they have, the node behind them, and whether its next part is none of these: else that part is
+// cut, or refused.
 #[inline(always)]
 fn take_first<'s, B: Build>(
     schema: &'s Schema,
@@ -52,7 +53,7 @@ fn take_first<'s, B: Build>(
 
 impl<'s, B: Build + Drop> Reader<'s, B> {
     /// Takes the parts that come first, as long as they are numbers, content, short unions or optionals, or arrays
-    /// without items, and there whole; tells how many bytes, and whether the next part is none of these. What comes
+    /// without items, and there whole. Tells how many bytes, and whether the next part is none of these. What comes
     /// next is not settled then.
     #[inline(always)]
     pub(crate) fn take_fields(&mut self, bytes: &[u8]) -> (usize, bool)

@@ -26,7 +26,7 @@ fn with_last(unit: [u8; 4], byte: u8) -> [u8; 4]
 impl<'s, B: Build + Drop> Reader<'s, B> {
     /// Takes the next piece, which may be empty. `Done` comes exactly where the value is whole; `used` counts the bytes
     /// of this piece up to its end, and later pieces are not looked at. A fault comes at the first unit after which no
-    /// value goes on, at the node that is too deep, at the limit on bytes, or where memory was refused; it has taken
+    /// value goes on, at the node that is too deep, at the limit on bytes, or where memory was refused. It has taken
     /// the whole piece, and comes again at each later call.
     pub fn feed(&mut self, piece: &[u8]) -> Result<Progress, DecodeFault>
         // With the bytes that were taken of the piece, the fields represent all bytes so far.
@@ -39,7 +39,7 @@ impl<'s, B: Build + Drop> Reader<'s, B> {
         ensures leaves { Leaves self.new piece.now result }
         // An answer that was the last one comes again.
         ensures stays { Stays self.old result }
-        // Want of memory is no reason where the kind takes none.
+        // An allocation failure is no reason where the kind takes none.
         ensures spared { (b : List ℕ) → RepresentsBytes B.spares B.reports self.old b
             → IfErr result (λ f. Spares B.spares (kind_at self.old.schema.now.kinds self.old.kind.place) f.why) }
         // The settings stay.

@@ -13,8 +13,8 @@ use crate::runs::content::whole_ahead;
 use crate::runs::leaf::{leaf_ahead, leaf_of};
 use xdr_types::{Kind, KindId, Schema};
 
-/// How many of the bytes are a value of the kind, where they begin with one that has at most so many levels: of a kind
-/// of which any so many bytes are one, or one unit among them decides, or without parts. It goes into no kind.
+/// How many of the bytes are a value of the kind, where they begin with one that has at most so many levels. Of the
+/// kind any so many bytes are a value, or one unit among them decides, or it has no parts. The call goes into no kind.
 #[inline(always)]
 pub(crate) fn part_ahead(schema: &Schema, id: KindId, bytes: &[u8], levels: u32) -> Option<usize>
     requires { id.place < length schema.now.kinds }

@@ -53,7 +53,7 @@ pub record Judges (c d : Checker) (u : List ℕ) (r : Result Step Why) : Type 0 
   pub sound : IsSound c → OnOk r (IsSound d)
   pub waits : r ≡ Ok step.More → checks.IsWaiting d
 
--- want of memory is no reason where the kind has no parts
+-- an allocation failure is no reason where the kind has no parts
 abbrev pub Grants : {A : Type 0} → Checker → Result A Why → Type 0
 Grants c r = HasNoParts (kind_at (checks.kinds_of c) (checks.kind_of c).place) → r ≡ Err why.NoMemory → ⊥
 
