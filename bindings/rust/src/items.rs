@@ -23,8 +23,9 @@ pub enum Item<'a> {
     Content(&'a [u8]),
 }
 
-/// Why items are refused. Of several reasons the first is told: the value is whole already, or it is too deep before
-/// its first item; another item is due; a number is out of range; the item's bytes pass the limit; then the others.
+/// Why items are refused. Of several reasons the first is told. They come in this order: the value is whole already, or
+/// too deep before its first item; another item is due; a number is out of range; the item's bytes pass the limit. Then
+/// come the others.
 #[derive(Clone, Copy, Debug, PartialEq, Eq, Hash)]
 #[non_exhaustive]
 pub enum ItemReason {
