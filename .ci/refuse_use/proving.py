@@ -7,7 +7,7 @@ import re
 import signal
 import time
 
-from refuse_use.launcher import BEGUN, BUILT, FROM, KEPT, NOT_BUILT, PROOF_STOPPED, TOOK, WAITS, lists_of, row
+from refuse_use.launcher import BEGUN, FROM, KEPT, NOT_BUILT, PAIRS, TOOK, WAITS, lists_of, row
 from refuse_use.standins import RT, Tree
 
 NOT_PROVED = rb"oncrpc: %s is not proved\n"
@@ -143,6 +143,16 @@ def lanes_keep(folder):
     yield row("./oncrpc prove, what a lane keeps", well, got)
 
 
+def fullest_lane(folder):
+    """Where copies take nothing over from one another, the proof goes on in the lane where the most is proved."""
+    tree = Tree(folder, "fullest", RT_JOBS="2", STAND_ALONE="1")
+    tree.write("bin/waits", PAIRS)
+    hooked(tree, "run oncrpc", 'echo "$PWD" >"$here/place"')
+    got, place = tree.run("./oncrpc prove"), os.path.realpath(f"{tree.at}/out/lanes/0/crates/oncrpc")
+    well = got[0] == 0 and tree.read("bin/place") == f"{place}\n"
+    yield row("./oncrpc prove, the lane where the most is proved", well, got, tree.read("bin/place"))
+
+
 def handed_out(folder):
     """The program is put in its place in one step, whole, and is as old as the beginning of its proof."""
     tree = Tree(folder, "handed_out", RT_JOBS="1")
@@ -181,5 +191,5 @@ def unwritten(folder):
 
 
 def proving_rows(folder):
-    for rows in (judged_nothing, proof_killed, beginner_killed, lanes_hold, lanes_keep, handed_out, unwritten):
+    for rows in (judged_nothing, proof_killed, beginner_killed, lanes_hold, lanes_keep, fullest_lane, handed_out, unwritten):
         yield from rows(folder)
