@@ -115,14 +115,13 @@ def planned(folder):
 
 
 def shared(folder):
-    """Checks that begin together have equal shares of the processes, and one alone has at most four."""
+    """Checks that begin together have equal shares of the processes, and one alone has at most four; the program is
+    asked for its version."""
     tree = Tree(folder, "shared", RT_JOBS="8")
-    got, begun = tree.run("./oncrpc prove"), {}
-    for line in tree.read("bin/order").splitlines():
-        words = line.split()
-        begun.update({words[1]: words[4]} if words[0] == "begin" else {})
-    well = got[0] == 0 and [begun[it] for it in ("low", "short", "last", "oncrpc")] == ["2", "3", "3", "4"]
-    yield row("./oncrpc prove, how many processes each check has", well, got, begun)
+    got, order = tree.run("./oncrpc prove"), tree.read("bin/order").splitlines()
+    begun = {"begin low lib --jobs 2", "begin short lib --jobs 3", "begin last lib --jobs 3"}
+    well = got[0] == 0 and begun <= {*order} and "begin oncrpc run --jobs 4 -- --version" in order
+    yield row("./oncrpc prove, how many processes each check has", well, got, order)
 
 
 def machine_rows(folder):
