@@ -36,10 +36,11 @@ MACHINES = [
 JOBS = {"3": (3, 3), "12": (12, 12), **dict.fromkeys(("", "0", "x", "-1", "3x", "03", "1.5"), (4, 8))}
 # At what second a crate is told of, in how many seconds it was proved, what is at work then, and the line.
 TOLD = [
-    (60, "a", 7.4, ["b"], "1 of 4, a, 7 seconds, about 2 minutes left"),
-    (60, "b", None, ["c"], "2 of 4, b, kept from an earlier run"),
-    (30, "c", 1, [], "3 of 4, c, 1 seconds, about 1 minute left"),
-    (90, "d", 1, [], "4 of 4, d, 1 seconds"),
+    (600, "a", 7.4, ["b"], "1 of 5, a, 7 seconds, about 23 minutes left"),
+    (600, "b", None, ["c"], "2 of 5, b, kept from an earlier run"),
+    (1200, "c", 1, [], "3 of 5, c, 1 seconds, about 20 minutes left"),
+    (20, "d", 1, [], "4 of 5, d, 1 seconds, about 1 minute left"),
+    (90, "e", 1, [], "5 of 5, e, 1 seconds"),
 ]
 
 
@@ -63,6 +64,7 @@ def given(prove, folder, free, files, jobs):
         mock.patch.object(prove, "number_in", lambda file, pattern: number_in(f"{folder}{file}", pattern)),
         mock.patch("glob.glob", lambda _: [it for it in files if "/node/" in it]),
         mock.patch("os.sysconf", pages.get),
+        mock.patch("os.cpu_count", lambda: 64),
         mock.patch("os.sched_getaffinity", lambda _: {1, 3, 5, 7}),
         mock.patch.dict(os.environ, {"RT_JOBS": jobs}),
     ]
@@ -85,7 +87,7 @@ def machines(folder):
 
 def told(_):
     """The lines of how far a proof is."""
-    prove, lines, name = loaded(), [], "abcd"
+    prove, lines, name = loaded(), [], "abcde"
     plan = types.SimpleNamespace(uses=dict.fromkeys(name), lines=dict.fromkeys(name, 100))
     with mock.patch("time.time") as now, mock.patch.object(prove, "say", lines.append):
         now.return_value = 1000
@@ -113,14 +115,13 @@ def planned(folder):
 
 
 def shared(folder):
-    """Checks that begin together have equal shares of the processes, and one alone has at most four."""
+    """Checks that begin together have equal shares of the processes, and one alone has at most four; the program is
+    asked for its version."""
     tree = Tree(folder, "shared", RT_JOBS="8")
-    got, begun = tree.run("./oncrpc prove"), {}
-    for line in tree.read("bin/order").splitlines():
-        words = line.split()
-        begun.update({words[1]: words[4]} if words[0] == "begin" else {})
-    well = got[0] == 0 and [begun[it] for it in ("low", "short", "last", "oncrpc")] == ["2", "3", "3", "4"]
-    yield row("./oncrpc prove, how many processes each check has", well, got, begun)
+    got, order = tree.run("./oncrpc prove"), tree.read("bin/order").splitlines()
+    begun = {"begin low lib --jobs 2", "begin short lib --jobs 3", "begin last lib --jobs 3"}
+    well = got[0] == 0 and begun <= {*order} and "begin oncrpc run --jobs 4 -- --version" in order
+    yield row("./oncrpc prove, how many processes each check has", well, got, order)
 
 
 def machine_rows(folder):

@@ -7,13 +7,15 @@ import re
 import signal
 import time
 
-from refuse_use.launcher import BEGUN, BUILT, FROM, KEPT, NOT_BUILT, PROOF_STOPPED, TOOK, WAITS, lists_of, row
+from refuse_use.launcher import BEGUN, FROM, KEPT, NOT_BUILT, PAIRS, TOOK, WAITS, lists_of, row
 from refuse_use.standins import RT, Tree
 
 NOT_PROVED = rb"oncrpc: %s is not proved\n"
 KILLED = rb"oncrpc: not built: the proof was killed\n"
 TOLD = rb"oncrpc: \d of 6, \w+, [^\n]*\n"
 LOG = "crates/oncrpc/out/build.log"
+# The crates in the order in which one at a time is proved.
+IN_TURN = "low left short right last oncrpc".split()
 PROVE = f"python3 scripts/prove {LOG} oncrpc"
 # What a check does that waits until it is let go.
 WAITING = 'echo asked >>"$here/asked"\nuntil [ -e "$here/go" ]; do sleep 0.05; done\nsleep 0.3'
@@ -133,14 +135,27 @@ def lanes_hold(folder):
 
 
 def lanes_keep(folder):
-    """What is proved in a lane stays there."""
+    """What is proved in a lane stays there, and the log is of the last proof alone."""
     tree = Tree(folder, "lanes_keep", RT_JOBS="1", STAND_ALONE="1")
     tree.run("./oncrpc prove")
     tree.write("crates/right/src/lib.rt", "fn two() {}\n")
+    hooked(tree, "lib left", "echo 'of crate left: nothing new'")
     got = tree.run("./oncrpc prove")
     told = {it.decode() for it in re.findall(rb"oncrpc: \d of 6, (\w+)" + KEPT, got[2])}
     well = got[0] == 0 and told == {"low", "short", "last", "left", "oncrpc"}
     yield row("./oncrpc prove, what a lane keeps", well, got)
+    log = tree.read(LOG)
+    yield row("./oncrpc prove, the log of the last proof", re.findall("^== (.*)$", log, re.M) == IN_TURN, log)
+
+
+def fullest_lane(folder):
+    """Where copies take nothing over from one another, the proof goes on in the lane where the most is proved."""
+    tree = Tree(folder, "fullest", RT_JOBS="2", STAND_ALONE="1")
+    tree.write("bin/waits", PAIRS)
+    hooked(tree, "run oncrpc", 'echo "$PWD" >"$here/place"')
+    got, place = tree.run("./oncrpc prove"), os.path.realpath(f"{tree.at}/out/lanes/0/crates/oncrpc")
+    well = got[0] == 0 and tree.read("bin/place") == f"{place}\n"
+    yield row("./oncrpc prove, the lane where the most is proved", well, got, tree.read("bin/place"))
 
 
 def handed_out(folder):
@@ -181,5 +196,6 @@ def unwritten(folder):
 
 
 def proving_rows(folder):
-    for rows in (judged_nothing, proof_killed, beginner_killed, lanes_hold, lanes_keep, handed_out, unwritten):
+    killed, lanes = (judged_nothing, proof_killed, beginner_killed), (lanes_hold, lanes_keep, fullest_lane)
+    for rows in (*killed, *lanes, handed_out, unwritten):
         yield from rows(folder)
