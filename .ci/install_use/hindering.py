@@ -2,6 +2,7 @@
 never changed, and what is put is whole and noted."""
 import os
 import resource
+import shutil
 import signal
 import subprocess
 import time
@@ -177,20 +178,24 @@ def no_folder(folder):
         tree.call("uninstall", f"{tree.to}/x")
 
 
-def no_file():
-    """From here on no file grows; a write fails, since Python has the signal of it ignored."""
-    resource.setrlimit(resource.RLIMIT_FSIZE, (0, 0))
+def none_above(size):
+    """What has no file grow above a size: a write then fails, since Python has the signal of it ignored."""
+    return {"preexec_fn": lambda: resource.setrlimit(resource.RLIMIT_FSIZE, (size, size)), "restore_signals": False}
 
 
 def not_written(folder):
     """Where the manifest cannot be written, nothing is put that it does not note."""
     tree = Checkout(folder, "full")
     tree.call("install", f"{tree.to}/first")
+    shutil.rmtree(f"{tree.to}/first/share/zsh")
+    got = tree.call("install", f"{tree.to}/first", **none_above(os.path.getsize(f"{tree.to}/first/{MANIFEST}")))
+    well = got[0] == 3 and got[2].endswith(f"oncrpc: not written: {tree.to}/first/{MANIFEST}\n")
+    yield row("a folder that is not noted", well and not os.listdir(f"{tree.to}/first/share/zsh/site-functions"), got)
     for number, there in enumerate(([], [""], ["share/oncrpc", "bin"])):
         root = f"{tree.to}/{number}"
         for it in there:
             os.makedirs(f"{root}/{it}")
-        got = tree.call("install", root, preexec_fn=no_file, restore_signals=False)
+        got = tree.call("install", root, **none_above(0))
         last, found = got[2].splitlines()[-1:], found_below(root)
         well = got[0] == 3 and last == [f"oncrpc: not written: {root}/{MANIFEST}"]
         well = well and "bin/oncrpc" not in found and found.get(MANIFEST, ("", ""))[1] == ""

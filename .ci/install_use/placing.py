@@ -25,8 +25,8 @@ def placed(folder):
     is not well ends it: where DESTDIR goes unheard, the rows behind it would write to folders of this machine."""
     tree = Checkout(folder, "placed")
     os.mkdir(f"{tree.to}/here")
-    os.symlink(f"{tree.at}/library", f"{tree.to}/here/library")
-    libraries = ["--library", f"--library={tree.at}/library", "--library=library"]
+    os.symlink(f"{tree.at}/library", f"{tree.to}/here/a=library")
+    libraries = ["--library", f"--library={tree.at}/library", "--library=a=library"]
     for number, (name, words, destdir, below, cwd, prefix) in enumerate(PLACES):
         how = {"cwd": f"{tree.to}/{cwd}", "umask": (0o077, 0o000)[number % 2]}
         how.update({"destdir": destdir.format(to=tree.to)} if destdir else {})
