@@ -72,7 +72,7 @@ def ill_timed(folder):
         tree.write("python/sitecustomize.py", code)
         hooked(tree, "lib low", HANGING)
         os.makedirs(f"{tree.at}/crates/oncrpc/out")
-        got = tree.run(words) if what == "begun" else tree.stop(words, AT_WORK)
+        got = tree.run(words) if what == "begun" else tree.stop(words, AT_WORK, signal.SIGHUP)
         well = is_stopped(got, BEGUN if what == "begun" else b"")
         yield row(f"./oncrpc prove, a signal in {what}", well and is_free(tree) and not lists_of(tree), got)
 
