@@ -39,7 +39,7 @@ def wait_until(is_so):
 def is_free(tree):
     """Whether no check is at work, nor what one has begun: each holds the lock of the lanes."""
     with open(f"{tree.at}/out/lanes/lock", encoding="utf-8") as lock:
-        for _ in range(100):
+        for _ in range(600):
             with contextlib.suppress(BlockingIOError):
                 fcntl.flock(lock, fcntl.LOCK_EX | fcntl.LOCK_NB)
                 return True

@@ -12,7 +12,7 @@ BEGINS = FROM % (6, 1)
 HANGING = 'echo $$ >"$here/pid"\nwhile :; do sleep 0.1; done'
 DEAF = f"trap '' TERM\n{HANGING}"
 SLOW = f"trap 'sleep 0.5; echo well >\"$here/ended\"; exit 1' TERM\n{HANGING}"
-PARENT = f"sleep 60 &\n{HANGING}"
+PARENT = f"sleep 99 &\n{HANGING}"
 AT_WORK = ("bin/pid", "\n")
 # What Python does as it starts: it has a signal come as a command is just begun, or as it ends itself.
 AS_BEGUN = """import os, signal, subprocess
