@@ -116,12 +116,14 @@ def planned(folder):
 
 def shared(folder):
     """Checks that begin together have equal shares of the processes, and one alone has at most four; the program is
-    asked for its version."""
+    asked for its version; and there are no more lanes than crates."""
     tree = Tree(folder, "shared", RT_JOBS="8")
     got, order = tree.run("./oncrpc prove"), tree.read("bin/order").splitlines()
     begun = {"begin low lib --jobs 2", "begin short lib --jobs 3", "begin last lib --jobs 3"}
     well = got[0] == 0 and begun <= {*order} and "begin oncrpc run --jobs 4 -- --version" in order
     yield row("./oncrpc prove, how many processes each check has", well, got, order)
+    lanes = sorted(os.listdir(f"{tree.at}/out/lanes"))
+    yield row("./oncrpc prove, no more lanes than crates", lanes == [*"012345", "lock"], lanes)
 
 
 def machine_rows(folder):

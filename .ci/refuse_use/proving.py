@@ -39,7 +39,7 @@ def wait_until(is_so):
 def is_free(tree):
     """Whether no check is at work, nor what one has begun: each holds the lock of the lanes."""
     with open(f"{tree.at}/out/lanes/lock", encoding="utf-8") as lock:
-        for _ in range(100):
+        for _ in range(600):
             with contextlib.suppress(BlockingIOError):
                 fcntl.flock(lock, fcntl.LOCK_EX | fcntl.LOCK_NB)
                 return True
@@ -195,7 +195,18 @@ def unwritten(folder):
     yield row("./oncrpc prove, a source that is a pipe", got[0] == 3 and bool(re.fullmatch(told, got[2])), got)
 
 
+def unheard(folder):
+    """A standard error that is closed or full changes nothing but what is told."""
+    for at, closed in enumerate(("2>&-", "2>/dev/full")):
+        tree = Tree(folder, f"unheard{at}", RT_JOBS="1")
+        tree.write("unheard", f"exec ./oncrpc prove {closed}\n")
+        for what, calls in (("", 6), (", again", 0)):
+            got = tree.run("sh unheard")
+            well = (*got[:3], len(got[3]), tree.read("out/lanes/lock")) == (0, b"", b"", calls, "")
+            yield row(f"./oncrpc prove {closed}{what}", well and tree.read(tree.made) == tree.read("bin/proved"), got)
+
+
 def proving_rows(folder):
     killed, lanes = (judged_nothing, proof_killed, beginner_killed), (lanes_hold, lanes_keep, fullest_lane)
-    for rows in (*killed, *lanes, handed_out, unwritten):
+    for rows in (*killed, *lanes, handed_out, unwritten, unheard):
         yield from rows(folder)

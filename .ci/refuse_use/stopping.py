@@ -12,7 +12,7 @@ BEGINS = FROM % (6, 1)
 HANGING = 'echo $$ >"$here/pid"\nwhile :; do sleep 0.1; done'
 DEAF = f"trap '' TERM\n{HANGING}"
 SLOW = f"trap 'sleep 0.5; echo well >\"$here/ended\"; exit 1' TERM\n{HANGING}"
-PARENT = f"sleep 60 &\n{HANGING}"
+PARENT = f"sleep 99 &\n{HANGING}"
 AT_WORK = ("bin/pid", "\n")
 # What Python does as it starts: it has a signal come as a command is just begun, or as it ends itself.
 AS_BEGUN = """import os, signal, subprocess
@@ -72,7 +72,7 @@ def ill_timed(folder):
         tree.write("python/sitecustomize.py", code)
         hooked(tree, "lib low", HANGING)
         os.makedirs(f"{tree.at}/crates/oncrpc/out")
-        got = tree.run(words) if what == "begun" else tree.stop(words, AT_WORK)
+        got = tree.run(words) if what == "begun" else tree.stop(words, AT_WORK, signal.SIGHUP)
         well = is_stopped(got, BEGUN if what == "begun" else b"")
         yield row(f"./oncrpc prove, a signal in {what}", well and is_free(tree) and not lists_of(tree), got)
 
