@@ -206,7 +206,28 @@ def unheard(folder):
             yield row(f"./oncrpc prove {closed}{what}", well and tree.read(tree.made) == tree.read("bin/proved"), got)
 
 
+def in_turn_again(folder):
+    """Where copies share nothing, a later run of the same toolchain proves in turn from its start, in the same lane."""
+    tree = Tree(folder, "in_turn_again", RT_JOBS="2", STAND_ALONE="1")
+    tree.write("bin/version", "a toolchain\n")
+    tree.write("bin/rt", tree.read("bin/rt").replace("\ntry) ", '\nversion) cat "$stand/version" ;;\ntry) '), 0o755)
+    tree.write("bin/waits", PAIRS)
+    tree.write("bin/fails", "last 1\n")
+    begun = [tree.run("./oncrpc prove")]
+    tree.write("bin/waits", "")
+    for version in ("a toolchain\n", "another\n"):
+        tree.write("bin/version", version)
+        tree.write("bin/order", "")
+        tree.write("crates/low/src/lib.rt", f"// {version}")
+        begun.append((*tree.run("./oncrpc prove"), tree.read("bin/order").split("\n")))
+    told = [it[2].count(b"take nothing over") for it in begun]
+    order = [it.split()[0] for it in begun[1][4] if it]
+    well = [it[0] for it in begun] == [3, 0, 0] and told[:2] == [1, 1] and order == ["begin", "end"] * (len(order) // 2)
+    well = well and b"at most 1 at once" in begun[1][2] and b"at most 2 at once" in begun[2][2]
+    yield row("./oncrpc prove, nothing is taken over, again", well, begun)
+
+
 def proving_rows(folder):
     killed, lanes = (judged_nothing, proof_killed, beginner_killed), (lanes_hold, lanes_keep, fullest_lane)
-    for rows in (*killed, *lanes, handed_out, unwritten, unheard):
+    for rows in (*killed, *lanes, in_turn_again, handed_out, unwritten, unheard):
         yield from rows(folder)
