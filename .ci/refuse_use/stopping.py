@@ -73,8 +73,8 @@ def ill_timed(folder):
         hooked(tree, "lib low", HANGING)
         os.makedirs(f"{tree.at}/crates/oncrpc/out")
         got = tree.run(words) if what == "begun" else tree.stop(words, AT_WORK, signal.SIGHUP)
-        well = is_stopped(got, BEGUN if what == "begun" else b"")
-        yield row(f"./oncrpc prove, a signal in {what}", well and is_free(tree) and not lists_of(tree), got)
+        well = is_free(tree) and is_stopped(got, BEGUN if what == "begun" else b"") and not lists_of(tree)
+        yield row(f"./oncrpc prove, a signal in {what}", well, got)
 
 
 def stopping_rows(folder):
