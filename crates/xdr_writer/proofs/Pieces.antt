@@ -24,7 +24,7 @@ use Rattle.xdr_stream.proofs.Answering.{fails_on}
 use Rattle.xdr_codec.specs.Checks as checks
 use Rattle.xdr_codec.specs.declared.checker.Checker.{Checker}
 use Rattle.xdr_writer.specs.Private.Bytes.{SaysOf, RefusesBytes}
-use Rattle.xdr_writer.specs.Private.Judged.{IsWhy, IsStep, IsSound, IsJudged, Judges, Grants}
+use Rattle.xdr_writer.specs.Private.Judged.{IsWhy, IsStep, Judges, Grants}
 use Rattle.xdr_writer.specs.declared.refusal.Why.{Why}
 use Rattle.xdr_writer.specs.declared.refusal.Why.TheVariants as why
 use Rattle.xdr_writer.specs.declared.item.Step.{Step}

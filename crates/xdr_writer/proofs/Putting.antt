@@ -1,5 +1,5 @@
 -- What is said of bytes, as what is said of items.
-use Rattle.std.proofs.Common.{◌≡◌, ℕ, pos, ◌+◌, ◌-◌, ◌%◌, ◌<◌, ◌≤◌, ◌^◌, List, [], ◌∷◌, ◌++◌, length, refl, ap, sym}
+use Rattle.std.proofs.Common.{◌≡◌, ℕ, pos, ◌-◌, ◌%◌, ◌<◌, ◌≤◌, ◌^◌, List, [], ◌∷◌, ◌++◌, length, refl, ap, sym}
 use Rattle.std.proofs.Common.{◌∙◌, subst, arith, inl, inr, length-append, append-nil, append_assoc}
 use Rattle.std.specs.Prelude.{Err, Contains}
 use Rattle.xdr_units.specs.Numbers.{num4, padded}
@@ -10,9 +10,8 @@ use Rattle.xdr_types.specs.Fits.{Fits}
 use Rattle.xdr_types.specs.Spelling.{bytes_of}
 use Rattle.xdr_types.specs.Within.{Bounds}
 use Rattle.xdr_types.specs.Layout.{Entry, entries}
-use Rattle.xdr_types.specs.Outcome.{Outcome, Pending, HasNextUnit}
+use Rattle.xdr_types.specs.Outcome.{HasNextUnit}
 use Rattle.xdr_codec.proofs.Outcomes.{pending_none}
-use Rattle.xdr_stream.specs.Represents as reported
 use Rattle.xdr_due.specs.Due.{IsDue, IsNothing}
 use Rattle.xdr_due.specs.declared.due.Due.{Due}
 use Rattle.xdr_due.specs.declared.due.Due.TheVariants as due
@@ -23,14 +22,14 @@ use Rattle.xdr_writer.specs.Forms.{HasForm, IsInRange, HasRange, IsNext}
 use Rattle.xdr_writer.specs.Represents.{Begin}
 use Rattle.xdr_writer.specs.Answers.{Takes, IsBegun, IsEncoding, IsWritten, Refuses, IsKnown, HasNoValue, HasNoWhole}
 use Rattle.xdr_writer.specs.Answers.{RefusesEnd}
-use Rattle.xdr_writer.specs.Private.Bytes.{RefusesBytes, SaysWithin}
+use Rattle.xdr_writer.specs.Private.Bytes.{SaysWithin}
 use Rattle.xdr_writer.specs.Private.After.{HasNothingDue}
 use Rattle.xdr_writer.specs.Private.Becomes.{Becomes, IsPlace}
 use Rattle.xdr_writer.specs.declared.refusal.Why.{Why}
 use Rattle.xdr_writer.specs.declared.refusal.Why.TheVariants as why
 use Rattle.xdr_writer.specs.declared.item.Step.{Step}
 use Rattle.xdr_writer.specs.declared.item.Step.TheVariants as step
-use Rattle.xdr_writer.proofs.Joined.{all_units, AreSome, some_behind, items_behind, padded_length}
+use Rattle.xdr_writer.proofs.Joined.{AreSome, some_behind, items_behind, padded_length}
 use Rattle.xdr_writer.proofs.ItemsOf.{some_of}
 use Rattle.xdr_writer.proofs.Placed.{IsAt, next_stands, bytes_behind, stands_within}
 use Rattle.xdr_writer.proofs.Begin.{whole_items, here, none_left, not_none, first_or}
@@ -167,12 +166,13 @@ module _ (s : List KindView) (t : ℕ) (l : Bounds) (is : List NodeItem) (begin 
     refused_none (why.Refused f) h known = elim h.1 [
       | inl before ↦ before_none (fault_none s t l units f (all_spelled is) h.0 before)
       | inr there ↦ bytes_none there.0 there.1
-          (fault_none s t l units f (all_spelled is ++ spelled_as (kind_at s there.0.kind) i) h.0 there.5)
+          (fault_none s t l units f (all_spelled is ++ spelled_as (kind_at s there.0.kind) i) h.0 there.4.1)
     ]
     refused_none why.PastEnd h known = elim h [
       | inl before ↦ behind_none before
       | inr there ↦ bytes_none there.0 there.1
-          (past_none s t l units (all_spelled is) (spelled_as (kind_at s there.0.kind) i) there.5 there.6 there.7)
+          (past_none s t l units (all_spelled is) (spelled_as (kind_at s there.0.kind) i) there.4.1
+          there.4.2 there.4.3)
     ]
     refused_none why.PastLimit h known = bytes_none h.0 h.1
         (limit_none s t l units (all_spelled is ++ spelled_as (kind_at s h.0.kind) i) h.4)
@@ -191,15 +191,19 @@ module _ (s : List KindView) (t : ℕ) (l : Bounds) (is : List NodeItem) (begin 
 
       pub within_refuse : (w : Why)
           → SaysWithin s t l space (all_spelled is) (spelled_as (kind_at s e.kind) i) (Err w) → Refuses s t l is i w
-      within_refuse (why.Refused f) h = (h.1, inr (e, p.next, form, range, low h.0, h.2))
+      within_refuse (why.Refused f) h = (h.1.0, inr (e, p.next, form, range, (low h.0, h.1.1)))
       within_refuse why.PastEnd h =
           inr (
             e,
             p.next,
             form,
             range,
-            low h.0,
-            (h.1, h.2, past s t l units (all_spelled is) (spelled_as (kind_at s e.kind) i) h.1 h.3 h.4),
+            (
+              low h.0,
+              h.1.0,
+              h.1.1,
+              past s t l units (all_spelled is) (spelled_as (kind_at s e.kind) i) h.1.0 h.1.2 h.1.3,
+            ),
           )
       within_refuse why.PastLimit h = (
         e,

@@ -5,7 +5,7 @@ use Rattle.xdr_types.specs.Kinds as xdr
 use Rattle.xdr_types.specs.Kinds.{KindView, kind_at}
 use Rattle.xdr_types.specs.Fits.{is_signed, is_unsigned}
 use Rattle.xdr_types.specs.Layout.{Entry, Role}
-use Rattle.xdr_writer.specs.Items.{ItemView, number, flag, count, content, spelled_as}
+use Rattle.xdr_writer.specs.Items.{ItemView, number, spelled_as}
 use Rattle.xdr_writer.specs.Forms.{HasForm, is_in_unit, is_in_range, IsInRange, HasRange, IsNext}
 use Rattle.xdr_writer.specs.Private.Bytes.{coded_bytes}
 use Rattle.xdr_writer.specs.declared.refusal.Why.{Why}

@@ -1,4 +1,4 @@
-use Rattle.std.proofs.Common.{◌≡◌, ◌++◌, ℕ, List, length, append_assoc, subst, sym, Ok, Err}
+use Rattle.std.proofs.Common.{◌++◌, ℕ, List, length, append_assoc, subst, Ok, Err}
 use Rattle.xdr_units.specs.Numbers.{pad}
 use Rattle.xdr_writer.specs.Private.Bytes.{head_bytes}
 use Rattle.xdr_writer.specs.Private.Judged.{Judges}

@@ -1,4 +1,4 @@
-use Rattle.std.proofs.Common.{ℕ, ◌-◌, ◌%◌, arith}
+use Rattle.std.proofs.Common.{◌-◌, ◌%◌, arith}
 use Rattle.std.proofs.lemmas.List.{take-replicate}
 use Rattle.xdr_writer.proofs.units.zeros_behind.Goals as goal
 
