@@ -62,32 +62,38 @@ module _ (texts : List ℕ) where
         rows_lie (bytes_behind before r) rs (e ∙ sym (texts_more before r rs)),
       )
 
+-- C's row with its address and its owner at these places
+abbrev placed_at : List ℕ → Row → (second third : ℕ) → RowParts
+placed_at before r second third = record {
+  program = r.prog;
+  version = r.vers;
+  netid = part (length before) r.netid;
+  address = part second r.address;
+  owner = part third r.owner;
+}
+
 -- they are laid at places that can be counted
 row_placed : (before : List ℕ) (r : Row) → row_behind before r ≡ row_at (length before) r
 row_placed before r =
     let second : length (before ++ r.netid) ≡ length before + length r.netid = length-append before r.netid in
     let third : length (before ++ r.netid ++ r.address) ≡ length before + length r.netid + length r.address =
-    omega (arith, length-append before (r.netid ++ r.address), length-append r.netid r.address) in
-    ap (λ (n : ℕ). record {
-      program = r.prog;
-      version = r.vers;
-      netid = part (length before) r.netid;
-      address = part n r.address;
-      owner = part (length (before ++ r.netid ++ r.address)) r.owner;
-    }) second
-    ∙ ap (λ (n : ℕ). record {
-      program = r.prog;
-      version = r.vers;
-      netid = part (length before) r.netid;
-      address = part (length before + length r.netid) r.address;
-      owner = part n r.owner;
-    }) third
+    omega (arith, length-append (before ++ r.netid) r.address, second) in
+    ap (λ (n : ℕ). placed_at before r n (length (before ++ r.netid ++ r.address))) second
+    ∙ ap (λ (n : ℕ). placed_at before r (length before + length r.netid) n) third
 
 rows_placed : (before : List ℕ) (rs : List Row) → rows_behind before rs ≡ rows_at (length before) rs
 rows_placed before [] = refl
 rows_placed before (r ∷ rs) =
-    let more : length (bytes_behind before r) ≡ length before + length (r.netid ++ r.address ++ r.owner) =
-    length-append before (r.netid ++ r.address ++ r.owner) in
+    let more : length (before ++ r.netid ++ r.address ++ r.owner) ≡ length before
+    + length (r.netid ++ r.address ++ r.owner) =
+    omega (
+      arith,
+      length-append (before ++ r.netid ++ r.address) r.owner,
+      length-append (before ++ r.netid) r.address,
+      length-append before r.netid,
+      length-append (r.netid ++ r.address) r.owner,
+      length-append r.netid r.address,
+    ) in
     ap (λ (p : RowParts). p ∷ rows_behind (bytes_behind before r) rs) (row_placed before r)
     ∙ ap (λ (ps : List RowParts). row_at (length before) r ∷ ps)
     (rows_placed (bytes_behind before r) rs ∙ ap (λ (n : ℕ). rows_at n rs) more)
