@@ -1,5 +1,5 @@
-/* A server of NFS version 3 (RFC 1813), and a client that looks names up and reads files, over a socket. Arguments and
- * results are written by their items, and read by their parts.
+/* Three procedures of NFS version 3 (RFC 1813), GETATTR, LOOKUP and READ, and a client that calls them, over a pair of
+ * sockets: no port is opened. Arguments and results are written by their items, and read by their parts.
  *
  *   ./build-library library && cc -Ilibrary/include examples/nfsd.c library/liboncrpc.a -o nfsd && ./nfsd */
 #define _DEFAULT_SOURCE
@@ -317,6 +317,7 @@ static int is_done(const char *name, const struct value *results) {
 static int print_text(struct end *end, const char *name, const struct list *file) {
     struct value results;
     uint64_t offset = 0;
+    size_t count;
     do {
         struct list asked = *file;
         put_number(&asked, offset);
@@ -325,9 +326,10 @@ static int print_text(struct end *end, const char *name, const struct list *file
             return 0;
         }
         const oncrpc_value_part *data = find(&results, "data", ONCRPC_ROLE_CONTENT);
-        printf("%.*s", (int)data->count, (const char *)results.bytes + data->at);
-        offset += data->count;
-    } while (!number_in(&results, "eof"));
+        count = data->count;
+        printf("%.*s", (int)count, (const char *)results.bytes + data->at);
+        offset += count;
+    } while (!number_in(&results, "eof") && count > 0);
     return 1;
 }
 

@@ -154,7 +154,7 @@ enum {
 };
 
 typedef struct {
-    size_t at;      /* a count of bytes, or the place of a refusal */
+    size_t at;      /* a count of bytes, of ONCRPC_BAD_ITEM of items; or the place of a refusal */
     size_t line;    /* of a fault of a text, from 1 */
     size_t column;  /* of a fault of a text, in bytes from 1 */
     uint32_t why;   /* a reason, or a fault of a text */

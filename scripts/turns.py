@@ -14,7 +14,7 @@ def toolchain():
 def lane_alone(lanes):
     """The lane in which an earlier run of this toolchain proved the crates in turn, or None where none did."""
     try:
-        with open(f"{lanes}/alone", encoding="utf-8") as kept:
+        with open(f"{lanes}/alone", encoding="utf-8", errors="replace") as kept:
             found = re.fullmatch(r"(\d+)\n(.*)", kept.read(), re.S)
     except OSError:
         return None

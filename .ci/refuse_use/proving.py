@@ -227,7 +227,22 @@ def in_turn_again(folder):
     yield row("./oncrpc prove, nothing is taken over, again", well, begun)
 
 
+def kept_lane(folder):
+    """That lane is the one that was kept, also where one check runs at a time anyhow; what is no note of one is none."""
+    notes = {"1\n": ["1"], "x\n": ["0", "1"], "\udcff\n": ["0", "1"]}
+    for at, (jobs, note) in enumerate([("2", "1\n"), ("1", "1\n"), ("2", "x\n"), ("2", "\udcff\n")]):
+        tree = Tree(folder, f"kept_lane{at}", RT_JOBS=jobs)
+        os.makedirs(f"{tree.at}/out/lanes")
+        with open(f"{tree.at}/out/lanes/alone", "wb") as kept:
+            kept.write(os.fsencode(note))
+        got = tree.run("./oncrpc prove")
+        there = sorted(it for it in os.listdir(f"{tree.at}/out/lanes") if it.isdigit())
+        well = got[0] == 0 and there == notes[note] and tree.read(tree.made) == tree.read("bin/proved")
+        well = well and (note != "1\n" or tree.read("out/lanes/alone") == note)
+        yield row(f"./oncrpc prove, lane {note!r} is kept, {jobs} at once", well, got, there)
+
+
 def proving_rows(folder):
     killed, lanes = (judged_nothing, proof_killed, beginner_killed), (lanes_hold, lanes_keep, fullest_lane)
-    for rows in (*killed, *lanes, in_turn_again, handed_out, unwritten, unheard):
+    for rows in (*killed, *lanes, in_turn_again, kept_lane, handed_out, unwritten, unheard):
         yield from rows(folder)

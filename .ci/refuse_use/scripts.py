@@ -95,9 +95,10 @@ def version(folder):
     tree.write("crates/oncrpc_words/src/none", "")
     shutil.copy(f"{ROOT}/{VERSION}", f"{tree.at}/{VERSION}")
     for number in (b"0.1.0", b"9.8.7"):
-        got = tree.run("./oncrpc --version")
-        told = b"oncrpc %s\nnot proved\n" % number
-        yield row(f"./oncrpc --version, {number.decode()}", is_answer(got, 0, told, NOT_PROVED, 0), got)
+        for word in ("--version", "-V"):
+            got = tree.run(f"./oncrpc {word}")
+            told = b"oncrpc %s\nnot proved\n" % number
+            yield row(f"./oncrpc {word}, {number.decode()}", is_answer(got, 0, told, NOT_PROVED, 0), got)
         tree.write(VERSION, tree.read(VERSION).replace('VERSION: &str = "0.1.0', 'VERSION: &str = "9.8.7'))
     tree.write("full", "exec ./oncrpc --version >/dev/full\n")
     got = tree.run("sh full")
