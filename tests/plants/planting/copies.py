@@ -16,7 +16,7 @@ class Copy:
         self.at, self.room = f"{folder}/copy", f"{folder}/room"
         os.mkdir(self.room)
         listed = subprocess.run(["git", "ls-files", "-z"], cwd=ROOT, check=True, capture_output=True, text=True).stdout
-        for file in filter(None, listed.split("\0")):
+        for file in filter(lambda it: os.path.lexists(f"{ROOT}/{it}"), listed.split("\0")[:-1]):
             os.makedirs(os.path.dirname(f"{self.at}/{file}"), exist_ok=True)
             shutil.copy(f"{ROOT}/{file}", f"{self.at}/{file}", follow_symlinks=False)
 

@@ -10,10 +10,10 @@ from planting.ran import PROOF, Told, first_of, judged, must, python
 CPP = ["c++", "-std=c++17", "-O0", "-Wall", "-Wextra", "-Wpedantic", "-Werror"]
 LAYOUT = 'import sys; sys.path.insert(0, ".ci"); from library_use.layouts import layout; print(layout(sys.argv[1]))'
 ROWS = f"{os.path.dirname(os.path.realpath(__file__))}/rows.py"
-# The crate whose program a refuser runs, and where the tree's own is found.
-PROGRAMS = {"tests/run": ["tool_probe"], ".ci/refuse": ["oncrpc"]}
+# The crate whose program a refuser runs, and the words with which a build runs it.
+PROGRAMS = {"tests/run": ("tool_probe", []), ".ci/refuse": ("oncrpc", ["--", "--version"])}
 # The refusers that run the library, which ONCRPC_LIBRARY names, or library/ of the tree.
-OF_LIBRARY = ("cargo test", "check.rs", "unittest", "wrappers")
+OF_LIBRARY = ("cargo test", "check.rs", "unittest", "wrappers", "sanitizers")
 
 
 def library_of_tree():
@@ -63,20 +63,23 @@ def constants(copy, _):
     )
 
 
-def wrappers(copy, library):
+def wrappers(copy, library, *flags):
     """The program of oncrpc.hpp, with exceptions and without them, as .ci/library puts it together."""
     own, room = f"{copy.at}/.ci/library_use", copy.room
-    words = [*CPP, f"-I{copy.at}/include"]
+    words = [*CPP, *flags, f"-I{copy.at}/include"]
+    objects = [f"{room}/0.o", f"{room}/1.o", f"{library}/liboncrpc.a"]
     return first_of(
         lambda: must([*words, "-fsyntax-only", "-x", "c++", f"{copy.at}/include/oncrpc.hpp"], copy.at),
-        lambda: judged([*words, "-c", f"{own}/wrapper.cc", "-o", f"{room}/0.o"], copy.at),
-        lambda: judged([*words, "-fno-exceptions", "-c", f"{own}/wrapper.cc", "-o", f"{room}/1.o"], copy.at),
-        lambda: judged(
-            [*words, f"{own}/wrappers.cc", f"{room}/0.o", f"{room}/1.o", f"{library}/liboncrpc.a", "-o", f"{room}/w"],
-            copy.at,
-        ),
-        lambda: judged([f"{room}/w"], copy.at),
+        lambda: judged([*words, "-c", f"{own}/wrapper.cc", "-o", objects[0]], copy.at),
+        lambda: judged([*words, "-fno-exceptions", "-c", f"{own}/wrapper.cc", "-o", objects[1]], copy.at),
+        lambda: judged([*words, f"{own}/wrappers.cc", *objects, "-o", f"{room}/wrappers"], copy.at),
+        lambda: judged([f"{room}/wrappers"], copy.at),
     )
+
+
+def sanitizers(copy, library):
+    """The same under the sanitizers, which tell of what is not given back."""
+    return wrappers(copy, library, "-g", "-fsanitize=address,undefined", "-fno-sanitize-recover=all")
 
 
 def rows(copy, group):
@@ -84,9 +87,13 @@ def rows(copy, group):
     return judged(python(ROWS, group), copy.at)
 
 
-def whole(refuser):
-    """A part of the gate, as it is."""
-    return lambda copy, _: judged([f"{copy.at}/{refuser}"], copy.at, PROOF if refuser == ".ci/library" else 3600)
+def whole(refuser, seconds):
+    """A part of the gate, as it is, on the copy's own programs."""
+
+    def run(copy, _):
+        return judged([f"{copy.at}/{refuser}"], copy.at, seconds, PROBE=f"{copy.at}/crates/tool_probe/out/tool_probe")
+
+    return run
 
 
 TESTS = {
@@ -95,9 +102,10 @@ TESTS = {
     "unittest": unittest,
     "constants": constants,
     "wrappers": wrappers,
-    "tests/run": whole("tests/run"),
-    ".ci/refuse": whole(".ci/refuse"),
-    ".ci/library": whole(".ci/library"),
+    "sanitizers": sanitizers,
+    "tests/run": whole("tests/run", 3600),
+    ".ci/refuse": whole(".ci/refuse", 3600),
+    ".ci/library": whole(".ci/library", PROOF),
 }
 
 
@@ -105,21 +113,22 @@ def build(copy, refuser):
     """Proves and builds in the copy what a refuser runs."""
     if refuser in OF_LIBRARY:
         return must([f"{copy.at}/build-library", f"{copy.room}/library"], copy.at, PROOF)
-    told = Told("passed", "")
-    for crate in PROGRAMS.get(refuser, []):
-        told = must(["rt", "run"], f"{copy.at}/crates/{crate}", PROOF) if told.how == "passed" else told
-    return told
+    if refuser in PROGRAMS:
+        crate, words = PROGRAMS[refuser]
+        return must(["rt", "run", *words], f"{copy.at}/crates/{crate}", PROOF)
+    return Told("passed", "")
 
 
 def borrow(copy, refuser):
     """Gives the copy what a build of the tree has left for a refuser, and says what is not there."""
     if refuser in OF_LIBRARY and not os.path.isfile(f"{library_of_tree()}/liboncrpc.a"):
         return "no library is built: ONCRPC_LIBRARY names its folder"
-    for crate in PROGRAMS.get(refuser, []):
-        own, made = f"crates/{crate}/out/{crate}", None
-        for at in (os.environ.get("PROBE") if crate == "tool_probe" else None, f"{ROOT}/{own}"):
-            made = made or (at if at and os.path.isfile(at) else None)
-        if not made:
+    if refuser in PROGRAMS:
+        crate, _ = PROGRAMS[refuser]
+        own = f"crates/{crate}/out/{crate}"
+        made = os.environ.get("PROBE") if crate == "tool_probe" else None
+        made = made or f"{ROOT}/{own}"
+        if not os.path.isfile(made):
             return f"{own} is not built: 'rt run' in crates/{crate}"
         os.makedirs(f"{copy.at}/crates/{crate}/out", exist_ok=True)
         shutil.copy(made, f"{copy.at}/{own}")
