@@ -1,4 +1,4 @@
-"""Lists of plants: blocks of lines `word: text`, as README.md has them, and the texts that they put in others' place."""
+"""Lists of plants: blocks of lines `word: text`, as README.md has them, and what the texts make of a file."""
 import collections
 import glob
 import os

@@ -6,8 +6,9 @@ import shutil
 
 from planting.ran import PROOF, Told, ran
 
-# What a line says of an edit that the prover lets through, by any of these words.
-LET_THROUGH = re.compile(r"\b(not refused|proved|passed|accepted|FAIL\w*)\b")
+# What a line says of an edit that the prover refuses, and of one that it lets through, by any of these words.
+REFUSED = re.compile(r"(?<!not )\brefused\b")
+LET_THROUGH = re.compile(r"\b(not refused|proved|passed|accept\w*|FAIL\w*)\b")
 
 
 def crate_of(refuser):
@@ -48,10 +49,9 @@ def told_of(name, status, printed):
     lines = [line for line in printed.splitlines() if name in line]
     if status == 0:
         return Told("refused", "\n".join(lines))
-    if any(LET_THROUGH.search(line) for line in lines):
-        return Told("passed", "\n".join(lines))
-    if any("refused" in line for line in lines):
-        return Told("refused", "\n".join(lines))
+    for how, pattern in (("refused", REFUSED), ("passed", LET_THROUGH)):
+        if any(pattern.search(line) for line in lines):
+            return Told(how, "\n".join(lines))
     return Told("not run", f"'rt must-fail' does not say, and ends with {status}: {printed.strip()[-300:]}")
 
 
