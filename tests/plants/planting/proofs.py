@@ -4,7 +4,7 @@ import os
 import re
 import shutil
 
-from planting.ran import PROOF, Told, ran
+from planting.ran import PROOF, Told, judged, ran
 
 # What a line says of an edit that the prover refuses, and of one that it lets through, by any of these words.
 REFUSED = re.compile(r"(?<!not )\brefused\b")
@@ -57,5 +57,4 @@ def told_of(name, status, printed):
 
 def check_told(copy, crate):
     """What a check of the crate says of the copy as it is."""
-    status, printed = ran(["rt", "check"], f"{copy.at}/crates/{crate}", PROOF)
-    return Told("passed" if status == 0 else "refused", printed)
+    return judged(["rt", "check"], f"{copy.at}/crates/{crate}", PROOF)

@@ -1,18 +1,23 @@
 """Commands of a refuser: each in a group of its own, which is ended where it takes too long."""
 import collections
 import os
+import shutil
 import signal
 import subprocess
 import sys
 
 # What a refuser told of a copy: `passed`, `refused` or `not run`, and the end of what it printed, or why not.
 Told = collections.namedtuple("Told", "how why")
+# The status of a command that is not there, which refuses nothing.
+NOT_THERE = "not there"
 # The seconds that a test may take, and a proof.
 LONG, PROOF = 900, 6 * 3600
 
 
 def ran(words, folder, seconds=LONG, **variables):
     """The status and the output of a command: None where it was ended since it took too long."""
+    if not shutil.which(words[0]):
+        return NOT_THERE, f"{words[0]} is not there"
     env = {**os.environ, "PYTHONDONTWRITEBYTECODE": "1", **variables}
     streams = {"stdin": subprocess.DEVNULL, "stdout": subprocess.PIPE, "stderr": subprocess.STDOUT}
     how = {"cwd": folder, "env": env, "start_new_session": True, "text": True, "errors": "replace"}
@@ -31,7 +36,7 @@ def ran(words, folder, seconds=LONG, **variables):
 def judged(words, folder, seconds=LONG, **variables):
     """What a command tells by its status: that nothing is wrong, or that something is."""
     status, printed = ran(words, folder, seconds, **variables)
-    return Told("passed" if status == 0 else "refused", printed)
+    return Told({0: "passed", NOT_THERE: "not run"}.get(status, "refused"), printed)
 
 
 def first_of(*commands):
