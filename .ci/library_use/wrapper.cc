@@ -241,6 +241,10 @@ void check_registry() {
     JUDGE(*GOT(registry.answer(Transport::udp, asked, reply)) && reply.size() == 28);
     JUDGE(!*GOT(registry.reply(reply)) && reply.empty());
     JUDGE(!*GOT(registry.answer(Transport::udp, {}, reply)) && reply.empty());
+    // GETADDR, whose answer is the address over the transport of the call: none over UDP.
+    const auto address = words({9, 0, 2, 100000, 4, 3, 0, 0, 0, 0, 300, 7, 0, 0, 0});
+    JUDGE(*GOT(registry.answer(Transport::tcp, address, reply)) && reply.size() == 40);
+    JUDGE(*GOT(registry.answer(Transport::udp, address, reply)) && reply == words({9, 1, 0, 0, 0, 0, 0}));
     std::string rows;
     auto found = GOT(registry.rows());
     JUDGE(found && found->size() == 7 && !found->empty() && (*found)[6].program == 300);

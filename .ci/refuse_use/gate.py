@@ -28,6 +28,8 @@ SAID = [
     ("2 passed, 0 failed\n", 1, "1 failed"),
     ("2 passed, 3 failed\n", 0, "3 failed"),
     ("nothing\n", 0, "1 failed"),
+    ("2 passed, 0 failed\nmore\n", 0, "1 failed"),
+    ("more\n2 passed, 3 failed\n", 0, "3 failed"),
     ("", 0, "1 failed"),
     ("2 passed, 0 failed\nkilled\n", 137, "1 failed"),
 ]

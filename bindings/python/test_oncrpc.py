@@ -167,7 +167,8 @@ class TheFileOfTheRfc(Case):
     def test_limits(self):
         self.refuses(Reason.TOO_DEEP, 20, self.file.check, "file", self.data, Limits(depth=2))
         self.refuses(Reason.TOO_LARGE, 44, self.file.decode, "file", self.data, Limits(bytes=44))
-        for limits in (Limits(0, 4), Limits(4097, 4), Limits(1, 6), Limits(1, 16777220), Limits(-1, 4), (1, 1 << 32)):
+        above = Limits((1 << 32) + 4096, 4096), Limits(4096, (1 << 32) + 4096)
+        for limits in (Limits(0, 4), Limits(4097, 4), Limits(1, 6), Limits(1, 16777220), Limits(-1, 4), *above):
             self.assertRaises(oncrpc.LimitError, self.file.decode, "file", self.data, limits)
         self.assertEqual(Limits(), (4096, 16777216))
 
@@ -335,6 +336,7 @@ class Items(Case):
             call(*given)
         it = refused.exception
         self.assertEqual((it.status, it.reason, it.at), (Status.BAD_ITEM, reason, at))
+        self.assertIs(type(it.reason), type(reason))
 
     def test_the_file(self):
         file = self.declared(read("examples/file.x"))
@@ -547,6 +549,8 @@ class Rows(Case):
             self.assertIs(registry.unset(300, 7, "", "1000"), True)
             self.assertEqual(registry.answer("udp", asked), words(9, 1, 0, 0, 0, 0, 0))
             self.assertIsNone(registry.reply())
+        with self.library.registry(2049) as registry:
+            self.assertEqual({row.address for row in registry.rows()}, {b"0.0.0.0.8.1"})
 
     def test_all_rows(self):
         """DUMP of version 3, decoded by what RFC 1833 declares, in a reply that is longer than the first buffer."""

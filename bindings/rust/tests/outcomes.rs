@@ -108,6 +108,8 @@ fn each_item() {
         6,
     ]);
     assert_eq!(declarations.write("all", Limits::MOST, &items), Ok(wanted));
+    let none = declarations.write("node", Limits::MOST, &[Item::Flag(false)]);
+    assert_eq!(none, Ok(words(&[0])));
 }
 
 /// Each reason against an item, at its place.
