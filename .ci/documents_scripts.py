@@ -18,6 +18,7 @@ BEHIND = [
     (re.compile(r"\$\{?[Kk][i]t\b|\bK[I]T\b"), "the toolchain's folder"),
     (re.compile(r"\bwhich\W+rt\b|\b(?:command|hash|type|whereis)\s+(?:-\w+\s+)*[\"']?rt\b"), "where rt lies"),
     (re.compile(r"\brt\W+doc\b"), "where the toolchain's pages lie"),
+    (re.compile(r"\b(?:s[t]race|l[t]race|l[s]of|f[u]ser|p[g]rep|p[k]ill)\b"), "a look at processes"),
 ]
 # The one line of a file that may: it names the C library that the toolchain's pages have a caller in C link.
 ALLOWED = {"build-library": r"/c/lib[l]ibc_c\.a\b"}
