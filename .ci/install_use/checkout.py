@@ -66,6 +66,10 @@ def folders_of(names):
     return found
 
 
+# What ./build-library makes the library of.
+ARCHIVE = "crates/c_library/out/libc_library.a"
+
+
 class Checkout(Tree):
     """A checkout whose name has blanks, with a program and a library that are newer than its sources, and beside it the
     empty folder `to`, which is installed into. Its files have other modes than what is installed has."""
@@ -80,6 +84,7 @@ class Checkout(Tree):
         self.write("library/oncrpc.pc", PKG_CONFIG, 0o600)
         self.write("crates/low/specs/Low.antt", "low\n")
         self.write("crates/oncrpc/out/oncrpc", "the program\n", 0o700)
+        self.write(ARCHIVE, "the archive\n")
         for at, _, files in os.walk(self.at):
             age = 1000 if "/out" in at or "/library" in at else 2000
             for it in files:

@@ -3,7 +3,7 @@ import os
 import stat
 import subprocess
 
-from install_use.checkout import LIBRARY, MANIFEST, Checkout
+from install_use.checkout import ARCHIVE, LIBRARY, MANIFEST, Checkout
 from install_use.checkout import found_below, is_installed, is_refused, notes_of, row
 
 # Where to: a name, the words of ./install, DESTDIR, the folder below `to` that these mean, the folder that the script
@@ -123,11 +123,19 @@ def built_before(folder):
         got = tree.call("install", "--library", f"{tree.to}/x")
         yield row(f"{newer} is newer", is_refused(got, 3, OLDER) and not os.listdir(tree.to), got)
         age(tree, newer, -1)
+    age(tree, ARCHIVE, 3)
+    got = tree.call("install", "--library", f"{tree.to}/x")
+    yield row("a library of another archive", is_refused(got, 3, OLDER) and not os.listdir(tree.to), got)
+    age(tree, "library/liboncrpc.a", 4)
     for it in ("crates/low/src", "crates/low/specs", "crates/oncrpc/out", "crates.txt"):
         age(tree, it, 1)
     got = tree.call("install", "--library", f"{tree.to}/x")
     yield row("folders are newer, and other files", got[0] == 0 and got[1] == "", got)
     tree.call("uninstall", f"{tree.to}/x")
+    tree.write("crates/c_values/src/lib.rt", "fn other() {}\n")
+    age(tree, "crates/c_values/src/lib.rt", -9)
+    got = tree.call("install", "--library", f"{tree.to}/x")
+    yield row("another source of an older time", is_refused(got, 3, OLDER) and not os.listdir(tree.to), got)
     tree.write("crates/low/src/lib.rt", "fn other() {}\n")
     got = tree.call("install", f"{tree.to}/x")
     yield row("a source has changed", is_refused(got, 3, NOT_PROVED) and not os.listdir(tree.to), got)
