@@ -242,7 +242,29 @@ def kept_lane(folder):
         yield row(f"./oncrpc prove, lane {note!r} is kept, {jobs} at once", well, got, there)
 
 
+def changed_and_back(folder):
+    """Of sources that change while a proof waits for another, and change back before its end, nothing is told."""
+    tree = Tree(folder, "changed_and_back", RT_JOBS="1")
+    low, text = "crates/low/src/lib.rt", "fn other() {}\n"
+    own = tree.read(low)
+    back = f'[ "$1" != run ] || [ ! -e "$here/own" ] || cp "$here/own" "$here/../{low}"'
+    hooked(tree, "lib low", 'until [ -e "$here/go" ]; do sleep 0.05; done\n')
+    tree.write("bin/rt", tree.read("bin/rt").replace("\n", f"\nhere=${{0%/*}}\n{back}\n", 1), 0o755)
+    first = tree.begin("./oncrpc prove")
+    is_begun = wait_until(lambda: lists_of(tree))
+    second = tree.begin("./oncrpc prove")
+    waits = second.stderr.readline() + second.stderr.readline()
+    tree.write(low, text)
+    tree.write("bin/go", "")
+    ended = [first.communicate(timeout=60)[1]]
+    tree.write("bin/own", own)
+    ended.append(second.communicate(timeout=60)[1])
+    told = [it.endswith(b"oncrpc: not built: the sources changed meanwhile\n") for it in ended]
+    well = is_begun and re.fullmatch(BEGUN + WAITS, waits) and all(told) and second.returncode == 3
+    yield row("./oncrpc prove, sources change as it waits, and back", bool(well) and tree.read(low) == own, waits, ended)
+
+
 def proving_rows(folder):
     killed, lanes = (judged_nothing, proof_killed, beginner_killed), (lanes_hold, lanes_keep, fullest_lane)
-    for rows in (*killed, *lanes, in_turn_again, kept_lane, handed_out, unwritten, unheard):
+    for rows in (*killed, *lanes, in_turn_again, kept_lane, changed_and_back, handed_out, unwritten, unheard):
         yield from rows(folder)
