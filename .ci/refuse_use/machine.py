@@ -1,7 +1,5 @@
 """Rows of how many checks scripts/prove runs at once, of how it shares processes among them, and of what it tells."""
 import contextlib
-import importlib.machinery
-import importlib.util
 import os
 import sys
 import types
@@ -46,10 +44,11 @@ TOLD = [
 
 def loaded():
     """The script as a module."""
-    loader = importlib.machinery.SourceFileLoader("prove", f"{ROOT}/scripts/prove")
-    module = importlib.util.module_from_spec(importlib.util.spec_from_loader("prove", loader))
+    module = types.ModuleType("prove")
+    with open(f"{ROOT}/scripts/prove", encoding="utf-8") as it:
+        code = compile(it.read(), it.name, "exec")
     with mock.patch.object(sys, "path", [f"{ROOT}/scripts", *sys.path]):
-        loader.exec_module(module)
+        exec(code, vars(module))
     return module
 
 

@@ -5,6 +5,7 @@ import glob
 import os
 import re
 import signal
+import socket
 import time
 
 from refuse_use.launcher import BEGUN, FROM, KEPT, NOT_BUILT, PAIRS, TOOK, WAITS, lists_of, row
@@ -189,10 +190,11 @@ def unwritten(folder):
     yield row("./oncrpc prove, no space for the log", bool(well), got)
     os.remove(f"{tree.at}/{LOG}")
     for name in ("low", "short"):
-        os.mkfifo(f"{tree.at}/crates/{name}/src/pipe")
+        with socket.socket(socket.AF_UNIX) as it:
+            it.bind(f"{tree.at}/crates/{name}/src/socket")
     got = tree.run("./oncrpc prove")
-    told = BEGUN + rb"oncrpc: \S+/crates/low/src/pipe: [^\n]* is a named pipe\n"
-    yield row("./oncrpc prove, a source that is a pipe", got[0] == 3 and bool(re.fullmatch(told, got[2])), got)
+    told = BEGUN + rb"oncrpc: \S+/crates/low/src/socket: No such device or address\n"
+    yield row("./oncrpc prove, a source that is a socket", got[0] == 3 and bool(re.fullmatch(told, got[2])), got)
 
 
 def unheard(folder):

@@ -5,8 +5,8 @@ usage: rows.py GROUP[.FUNCTION]    GROUP is a module of .ci/refuse_use whose row
 .ci/install_use, or `install` for all of these.
 """
 import contextlib
-import importlib
 import os
+import pkgutil
 import signal
 import subprocess
 import sys
@@ -54,9 +54,9 @@ def end_begun():
 def rows_of(group, only):
     """The functions of rows that are meant: each takes a folder."""
     if group in GROUPS:
-        return [getattr(importlib.import_module(f"refuse_use.{group}"), only or GROUPS[group])]
+        return [pkgutil.resolve_name(f"refuse_use.{group}:{only or GROUPS[group]}")]
     modules = INSTALLED if group == "install" else [group]
-    found = [importlib.import_module(f"install_use.{it}") for it in modules]
+    found = [pkgutil.resolve_name(f"install_use.{it}") for it in modules]
     return [getattr(found[0], only)] if only else [rows for module in found for rows in module.ROWS]
 
 
