@@ -7,7 +7,7 @@ use Rattle.std.specs.Prelude.{Contains, IsTrue}
 use Rattle.std.specs.Int.{w32, from_be_bytes}
 use Rattle.std.specs.List.{AllByRecursion}
 use Rattle.std.proofs.lemmas.List.{length-append, length-take, take-append-le, take-append-drop, take-take}
-use Rattle.std.proofs.lemmas.Bool.{false≢true, le-leb}
+use Rattle.std.proofs.lemmas.Bool.{false≢true, le-leb, leb-true}
 use Rattle.std.proofs.lemmas.List.Elements.{All-contains, All-from_recursion}
 use Rattle.xdr_types.specs.Kinds.{KindView, kind_at}
 use Rattle.xdr_types.specs.Tree.{Tree}
@@ -63,6 +63,17 @@ all_low : (P : Entry → Type 0) (r : ℕ) (es : List Entry) → AllByRecursion 
 all_low P r [] a = tt
 all_low P r (e ∷ es) a = all_one P r e es (nat_le e.at r) a.0 (all_low P r es a.1)
 
+-- where nothing up to a place fails, nothing of what stands up to it does
+up_one : (P : Entry → Type 0) (r : ℕ) (e : Entry) (es : List Entry) (b : Bool) → nat_le e.at r ≡ b
+    → (e.at ≤ r → P e) → AllByRecursion P (up_to r es) → AllByRecursion P (cond b (e ∷ up_to r es) (up_to r es))
+up_one P r e es true is one rest = (one (leb-true e.at r is), rest)
+up_one P r e es false is one rest = rest
+
+pub up_all : (P : Entry → Type 0) (r : ℕ) (es : List Entry) → AllByRecursion (λ (e : Entry). e.at ≤ r → P e) es
+    → AllByRecursion P (up_to r es)
+up_all P r [] a = tt
+up_all P r (e ∷ es) a = up_one P r e es (nat_le e.at r) refl a.0 (up_all P r es a.1)
+
 pub take_self : (x : List ℕ) → take (length x) x ≡ x
 take_self [] = refl
 take_self (y ∷ ys) = ap (λ (z : List ℕ). y ∷ z) (take_self ys)
@@ -70,15 +81,18 @@ take_self (y ∷ ys) = ap (λ (z : List ℕ). y ∷ z) (take_self ys)
 more_four : (n : ℕ) → suc n + 4 ≡ suc (n + 4)
 more_four n = omega arith
 
--- q begins the bytes of v, and is not all of them; no node of v is too deep
+-- no node of a value up to a place is too deep
+abbrev pub IsShallow : List KindView → (t : ℕ) → Bounds → Tree → (r : ℕ) → Type 0
+IsShallow s t l v r = AllByRecursion (λ (e : Entry). e.depth ≤ l.depth) (up_to r (entries s t v))
+
+-- q begins the bytes of v, and is not all of them
 module _ (s : List KindView) (t : ℕ) (l : Bounds) (unique : EachSpellingIsOneValue s) (same : SameParts s) (v : Tree)
-    (fit : Fits s t v) (q c : List ℕ) (is : bytes_of s t v ≡ q ++ c) (some : 0 < length c)
-    (shallow : AllByRecursion (λ (e : Entry). e.depth ≤ l.depth) (entries s t v)) where
+    (fit : Fits s t v) (q c : List ℕ) (is : bytes_of s t v ≡ q ++ c) (some : 0 < length c) where
   begins : (r : ℕ) → bytes_of s t v ≡ take r q ++ (drop r q ++ c)
   begins r = is ∙ ap (λ (x : List ℕ). x ++ c) (sym (take-append-drop r q)) ∙ append_assoc (take r q) (drop r q) c
 
-  not_deep : (r : ℕ) → r ≤ length q → IsDeep s t l (take r q) → ⊥
-  not_deep r low d =
+  not_deep : (r : ℕ) → r ≤ length q → IsShallow s t l v r → IsDeep s t l (take r q) → ⊥
+  not_deep r low shallow d =
       let len : length (take r q) ≡ r = omega (arith, length-take r q, low) in
       let first : (x : List ℕ) → take r (take r q ++ x) ≡ take r q = λ x.
       take-append-le r (take r q) x (omega (arith, len)) ∙ take-take r r q (omega arith) in
@@ -87,8 +101,7 @@ module _ (s : List KindView) (t : ℕ) (l : Bounds) (unique : EachSpellingIsOneV
       ∙ first (drop r q ++ c)) in
       let P : Entry → Type 0 = λ (e : Entry). e.depth ≤ l.depth in
       let all : AllByRecursion P (up_to r (entries s t d.0)) =
-      subst (λ (x : List Entry). AllByRecursion P x) (sym (same t d.0 v r d.1.0 fit eq))
-      (all_low P r (entries s t v) shallow) in
+      subst (λ (x : List Entry). AllByRecursion P x) (sym (same t d.0 v r d.1.0 fit eq)) shallow in
       let each = low_all P r (entries s t d.0) all in
       let here = All-contains (λ (e : Entry). e.at ≤ r → P e) (entries s t d.0) d.2
       (All-from_recursion (λ (e : Entry). e.at ≤ r → P e) (entries s t d.0) each) d.3 in
@@ -106,34 +119,59 @@ module _ (s : List KindView) (t : ℕ) (l : Bounds) (unique : EachSpellingIsOneV
   first_of : (r : ℕ) (rest : List ℕ) → r ≤ length q → take r (q ++ rest) ≡ take r q
   first_of r rest low = take-append-le r q rest low
 
-  quiet : (rest : List ℕ) (r : ℕ) → r ≤ length q → r < l.bytes → (r + 4 ≤ length (q ++ rest) → r + 4 ≤ length q)
-      → IsQuiet s t l (q ++ rest) r
-  quiet rest r low small inside =
+  quiet : (rest : List ℕ) (r : ℕ) → r ≤ length q → IsShallow s t l v r → r < l.bytes
+      → (r + 4 ≤ length (q ++ rest) → r + 4 ≤ length q) → IsQuiet s t l (q ++ rest) r
+  quiet rest r low shallow small inside =
       let one : take r (q ++ rest) ≡ take r q = first_of r rest low in record {
-        shallow = λ d. not_deep r low (subst (λ (x : List ℕ). IsDeep s t l x) one d);
+        shallow = λ d. not_deep r low shallow (subst (λ (x : List ℕ). IsDeep s t l x) one d);
         unfinished = λ w f. not_full r w f.fits (f.spelled ∙ one);
         small = λ e. omega (arith, small, e);
         front = λ more. subst (λ (x : List ℕ). Front s t x) (sym (first_of (r + 4) rest (inside more)))
             (front (r + 4));
       }
 
-  reached : (rest : List ℕ) → length q % 4 ≡ 0 → length q ≤ l.bytes → IsReached s t l (q ++ rest) (length q)
-  reached rest units most = record {
+  reached_by : (rest : List ℕ) → length q % 4 ≡ 0 → length q ≤ l.bytes → ((r : ℕ) → r < length q → IsShallow s t l v r)
+      → IsReached s t l (q ++ rest) (length q)
+  reached_by rest units most shallow = record {
     units = units;
     within = omega (arith, length-append q rest);
-    before = λ r less each. quiet rest r (omega arith) (omega arith) (λ more. omega (arith, units, each, less));
+    before = λ r less each. quiet rest r (omega arith) (shallow r less) (omega arith)
+        (λ more. omega (arith, units, each, less));
   }
 
   whole_q : (rest : List ℕ) → take (length q) (q ++ rest) ≡ q
   whole_q rest = first_of (length q) rest (omega arith) ∙ take_self q
 
+  -- a node below the limit on depth is due
+  pub too_deep : (rest : List ℕ) → length q % 4 ≡ 0 → length q ≤ l.bytes → ((r : ℕ) → r < length q → IsShallow s t l v r)
+      → (e : Entry) → Contains (entries s t v) e → e.at ≤ length q → l.depth < e.depth
+      → Outcome s t l (q ++ rest) (TooDeep (length q))
+  too_deep rest units most shallow e has low deep = (
+    reached_by rest units most shallow,
+    subst (λ (x : List ℕ). IsDeep s t l x) (sym (whole_q rest)) (v, (fit, c, is), e, has, low, deep),
+  )
+
+-- the same, and no node of v is too deep
+module _ (s : List KindView) (t : ℕ) (l : Bounds) (unique : EachSpellingIsOneValue s) (same : SameParts s) (v : Tree)
+    (fit : Fits s t v) (q c : List ℕ) (is : bytes_of s t v ≡ q ++ c) (some : 0 < length c)
+    (shallow : AllByRecursion (λ (e : Entry). e.depth ≤ l.depth) (entries s t v)) where
+  shallow_to : (r : ℕ) → AllByRecursion (λ (e : Entry). e.depth ≤ l.depth) (up_to r (entries s t v))
+  shallow_to r = all_low (λ (e : Entry). e.depth ≤ l.depth) r (entries s t v) shallow
+
+  reached : (rest : List ℕ) → length q % 4 ≡ 0 → length q ≤ l.bytes → IsReached s t l (q ++ rest) (length q)
+  reached rest units most =
+      reached_by s t l unique same v fit q c is some rest units most (λ r less. shallow_to r)
+
   deep_not_here : (rest : List ℕ) → IsDeep s t l (take (length q) (q ++ rest)) → ⊥
   deep_not_here rest d =
-      not_deep (length q) (omega arith)
-      (subst (λ (x : List ℕ). IsDeep s t l x) (first_of (length q) rest (omega arith)) d)
+      not_deep s t l unique same v fit q c is some (length q) (omega arith) (shallow_to (length q))
+      (subst (λ (x : List ℕ). IsDeep s t l x)
+      (first_of s t l unique same v fit q c is some (length q) rest (omega arith)) d)
 
   full_not_here : (rest : List ℕ) (w : Tree) → IsFull s t (q ++ rest) (length q) w → ⊥
-  full_not_here rest w f = not_full (length q) w f.fits (f.spelled ∙ first_of (length q) rest (omega arith))
+  full_not_here rest w f =
+      not_full s t l unique same v fit q c is some (length q) w f.fits
+      (f.spelled ∙ first_of s t l unique same v fit q c is some (length q) rest (omega arith))
 
   -- the limit on bytes is reached
   pub too_large : (rest : List ℕ) → length q % 4 ≡ 0 → l.bytes ≡ length q
@@ -149,7 +187,8 @@ module _ (s : List KindView) (t : ℕ) (l : Bounds) (unique : EachSpellingIsOneV
   pub pending : length q < l.bytes → Outcome s t l q Pending
   pending small p units low =
       subst (λ (x : List ℕ). IsQuiet s t l x p) (append-nil q)
-      (quiet [] p low (omega arith) (λ more. omega (arith, more, length-append q [])))
+      (quiet s t l unique same v fit q c is some [] p low (shallow_to p) (omega arith)
+      (λ more. omega (arith, more, length-append q [])))
 
   -- the unit after q is none that this part admits
   pub broken : (u rest : List ℕ) → GoesOn s → length q % 4 ≡ 0 → length q < l.bytes → length u ≡ 4
@@ -159,7 +198,8 @@ module _ (s : List KindView) (t : ℕ) (l : Bounds) (unique : EachSpellingIsOneV
       (Broken (reason s (kind_at s e.kind) e.role (from_be_bytes w32 u)) (length q))
   broken u rest goes units small four are e has from to none =
       let g = goes t q u units (v, (fit, c, is))
-      (λ w fits spelled. not_full (length q) w fits (spelled ∙ sym (take_self q))) four are in
+      (λ w fits spelled. not_full s t l unique same v fit q c is some (length q) w fits
+      (spelled ∙ sym (take_self q))) four are in
       let this : g.0 ≡ e = g.2 e (v, (fit, c, is), has, from, to) in
       let front_not : Front s t (q ++ u) → ⊥ = λ f.
       none (subst (λ (x : Entry). Admits s (kind_at s x.kind) x.role (length q - x.at) u) this (g.3.0 f)) in
@@ -174,7 +214,8 @@ module _ (s : List KindView) (t : ℕ) (l : Bounds) (unique : EachSpellingIsOneV
           no_front = λ f. front_not (subst (λ (x : List ℕ). Front s t x) five f);
           reason = (
             e,
-            subst (λ (x : List ℕ). outcome.HasNextUnit s t x e) (sym (whole_q (u ++ rest)))
+            subst (λ (x : List ℕ). outcome.HasNextUnit s t x e)
+                (sym (whole_q s t l unique same v fit q c is some (u ++ rest)))
                 (v, (fit, c, is), has, from, to),
             ap (λ (x : List ℕ). reason s (kind_at s e.kind) e.role (from_be_bytes w32 x)) (sym here),
           );

@@ -234,6 +234,26 @@ pub fn reports_a_field_below_the_limit(
     reported(alloc, schema, KindId { place: 6 }, limits, input)
 }
 
+/// An optional's number below the limit on depth: `TooDeep` at the place where it is due, here behind its flag.
+pub fn reports_an_item_below_the_limit(
+    alloc: Global,
+    schema: &Schema,
+    kind: KindId,
+    item: KindId,
+    limits: Limits,
+    input: &[u8],
+) -> Faults
+    requires has { kind.place < length schema.now.kinds }
+    requires kind { kind_at schema.now.kinds kind.place ≡ maybe item.place }
+    requires item { kind_at schema.now.kinds item.place ≡ int }
+    requires depth { limits.depth ≡ 1 }
+    requires input { take 4 input.now ≡ 0 ∷ 0 ∷ 0 ∷ 1 ∷ [] }
+    ensures { EachSays (record { why = reason.TooDeep; at = 4 }) result }
+{
+    laws(schema, limits);
+    reported(alloc, schema, kind, limits, input)
+}
+
 /// A value that is not whole at the limit on bytes: `TooLarge` at the limit, here with four of eight bytes missing.
 pub fn reports_more_than_the_limit(
     alloc: Global,
