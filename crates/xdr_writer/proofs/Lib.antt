@@ -14,3 +14,9 @@ pub mod OneMore
 pub mod Refusing
 pub mod Taken
 pub mod Told
+pub mod Run
+pub mod Counted
+pub mod Cut
+pub mod Following
+pub mod Numbers
+pub mod Several
