@@ -18,5 +18,5 @@ pub mod Run
 pub mod Counted
 pub mod Cut
 pub mod Following
-pub mod Numbers
+pub mod AtOnce
 pub mod Several

@@ -25,7 +25,7 @@ use Rattle.xdr_writer.proofs.Putting.{refused_none}
 use Rattle.xdr_writer.proofs.Begin.{none_left}
 use Rattle.xdr_writer.proofs.Finding.{pending_of}
 use Rattle.xdr_writer.proofs.Run.{run_items, run_count, run_spelled}
-use Rattle.xdr_writer.proofs.Numbers.{words_length, words_joined, split_at, front_bytes, run_takes, run_refused}
+use Rattle.xdr_writer.proofs.AtOnce.{words_length, words_joined, split_at, front_bytes, run_takes, run_refused}
 use Rattle.xdr_writer.proofs.Settings.{carried}
 
 -- ---- numbers that were given at once
