@@ -13,3 +13,10 @@ pub mod Coding
 pub mod OneMore
 pub mod Refusing
 pub mod Taken
+pub mod Told
+pub mod Run
+pub mod Counted
+pub mod Cut
+pub mod Following
+pub mod AtOnce
+pub mod Several

@@ -1,10 +1,11 @@
 //! A writer, and what it is asked: the next item, the count of the value's bytes.
-ghost use Rattle.std.specs.Prelude.{◌≡◌, ◌≤◌, None};
+ghost use Rattle.std.specs.Prelude.{◌≡◌, ◌≤◌, None, true};
 ghost use Rattle.xdr_codec.specs.Checks as checks;
 ghost use Rattle.xdr_stream.specs.declared.fault.DecodeFault.{DecodeFault};
 
 use crate::item::{Item, Step};
 use crate::refusal::{WriteRefusal, end_of};
+use crate::runs::{Known, no_run};
 use crate::taking::take;
 use std::alloc::Global;
 use xdr_codec::Checker;
@@ -22,10 +23,12 @@ pub struct Writer<'s> {
     /// How many items are taken.
     pub(crate) count: usize,
     pub(crate) refused: Option<WriteRefusal>,
+    pub(crate) known: Known,
     ghost few: { count ≤ written },
     ghost low: { written ≤ 16777216 },
     ghost limits_are: { checker.reader.limits ≡ limits },
     ghost schema_is: { checker.reader.schema.now ≡ schema.now },
+    ghost waiting: { known.waits ≡ true → checks.IsWaiting checker },
     ghost sound: { refused ≡ None → (f : DecodeFault) → checks.HasFailed checker f → ⊥ },
 }
 
@@ -53,6 +56,10 @@ impl<'s> Writer<'s> {
             written: 0,
             count: 0,
             refused: None,
+            known: Known {
+                waits: false,
+                run: no_run(),
+            },
         }
     }
 
@@ -88,10 +95,14 @@ impl<'s> Writer<'s> {
         let schema = self.schema;
         let before = out.len();
         let space = (self.limits.bytes() as usize).saturating_sub(self.written);
-        match take(&mut self.checker, schema, space, item, out) {
+        match take(&mut self.checker, schema, &mut self.known, space, item, out) {
             Ok(step) => {
                 self.written += out.len() - before;
                 self.count += 1;
+                self.known.waits = match step {
+                    Step::More => true,
+                    Step::Done => false,
+                };
                 Ok(step)
             }
             Err(why) => {

@@ -3,7 +3,7 @@ use Rattle.std.specs.Prelude.{◌≡◌, ℕ, ◌-◌, ◌%◌, List, [], ◌∷
 use Rattle.xdr_types.specs.Kinds.{KindView}
 use Rattle.xdr_types.specs.Tree.{Tree}
 use Rattle.xdr_types.specs.Within.{Bounds}
-use Rattle.xdr_types.specs.Outcome.{Outcome, Whole}
+use Rattle.xdr_types.specs.Outcome.{Outcome, Pending, Whole}
 use Rattle.xdr_stream.specs.Represents as reported
 use Rattle.xdr_due.specs.Due.{IsDue, IsNothing}
 use Rattle.xdr_due.specs.declared.due.Due.{Due}
@@ -13,6 +13,8 @@ use Rattle.xdr_writer.specs.Items.{ItemView, NodeItem, of_node, spelled_as, all_
 use Rattle.xdr_writer.specs.Represents.{Begin}
 use Rattle.xdr_writer.specs.Answers.{Takes, Refuses, IsOfBytes}
 use Rattle.xdr_writer.specs.Private.Judged.{IsSound}
+use Rattle.xdr_writer.specs.Private.Runs.{IsRun}
+use Rattle.xdr_writer.specs.declared.runs.Run.{Run}
 use Rattle.xdr_writer.specs.declared.refusal.Why.{Why}
 use Rattle.xdr_writer.specs.declared.refusal.Why.TheVariants as why
 use Rattle.xdr_writer.specs.declared.item.Step.{Step}
@@ -26,7 +28,8 @@ HasNothingDue kinds kind limits b _ = ⊥
 
 -- what is due after the bytes b, or why nothing is
 abbrev pub SaysDue : List KindView → (kind : ℕ) → Bounds → (b : List ℕ) → Result Due Why → Type 0
-SaysDue kinds kind limits b (Ok d) = IsDue kinds kind limits b d × (IsNothing d → ⊥)
+SaysDue kinds kind limits b (Ok d) =
+    IsDue kinds kind limits b d × (IsNothing d → ⊥) × Outcome kinds kind limits b Pending
 SaysDue kinds kind limits b (Err w) = HasNothingDue kinds kind limits b w
 
 -- what a call that looks for what is due says and leaves
@@ -56,3 +59,9 @@ pub record RefusesItem (c : Checker) (space : ℕ) (i : ItemView) (before after 
       → space ≡ (checks.limits_of c).bytes - length (all_spelled is)
       → Refuses (checks.kinds_of c) (checks.kind_of c).place (checks.limits_of c) is i w
   pub retained : after ≡ before
+
+-- behind the item so many numbers are due, by what is due before it
+abbrev pub FollowsItem : (c : Checker) → ItemView → Run → Type 0
+FollowsItem c i run = (is : List NodeItem) → IsAfter c is
+    → (d : Due) × IsDue (checks.kinds_of c) (checks.kind_of c).place (checks.limits_of c) (all_spelled is) d
+    × IsRun (checks.kinds_of c) d i run.left run.signed
