@@ -1,8 +1,10 @@
 -- What a writer leaves that was given several numbers at once.
-use Rattle.std.proofs.Common.{◌≡◌, ℕ, zero, suc, ℤ, ◌+◌, ◌-◌, ◌*◌, ◌%◌, ◌<◌, ◌≤◌, Bool, true, List, [], ◌∷◌, ◌++◌, length}
+use Rattle.std.proofs.Common.{◌≡◌, ℕ, zero, suc, ℤ, ◌+◌, ◌-◌, ◌*◌, ◌%◌, ◌<◌, ◌≤◌, Bool, true, List, [], ◌∷◌, ◌++◌}
+use Rattle.std.proofs.Common.{length}
 use Rattle.std.proofs.Common.{take, drop, refl, ap, sym, ◌∙◌, subst, arith, inl, inr, append-nil, append_assoc}
 use Rattle.std.proofs.Common.{length-append}
 use Rattle.std.specs.Prelude.{None, Some, Result, Ok, Err}
+use Rattle.std.proofs.lemmas.List.{length-take-le}
 use Rattle.std.proofs.Math.Seq.{take-append_seam, take-append-add}
 use Rattle.xdr_types.specs.Kinds.{KindView, kind_at}
 use Rattle.xdr_types.specs.Within.{Bounds}
@@ -33,7 +35,7 @@ use Rattle.xdr_writer.proofs.Joined.{all_units, joined}
 use Rattle.xdr_writer.proofs.Placed.{IsAt, bytes_behind}
 use Rattle.xdr_writer.proofs.Outcomes.{BegunBytes, TakesBytes, begun, takes, past}
 use Rattle.xdr_writer.proofs.Putting.{takes_items, begun_items, refused_none}
-use Rattle.xdr_writer.proofs.Run.{Fronts, run_next, run_begin, run_items, run_count, run_spelled, word_spelled, word_range}
+use Rattle.xdr_writer.proofs.Run.{Fronts, run_next, run_begin, run_spelled, word_spelled}
 use Rattle.xdr_writer.proofs.Cut.{IsCut, cut, front_pending, front_reached}
 use Rattle.xdr_writer.proofs.Settings.{carried}
 
@@ -67,7 +69,8 @@ split_at (suc n) (z ∷ zs) less =
     (z ∷ r.0, r.1, r.2, ap (λ (l : List ℤ). z ∷ l) r.3, omega (arith, r.4))
 
 -- bytes and the words of the first numbers, as a front
-pub front_bytes : (b : List ℕ) (xs ys : List ℤ) → take (length b + 4 * length xs) (b ++ words (xs ++ ys)) ≡ b ++ words xs
+pub front_bytes : (b : List ℕ) (xs ys : List ℤ)
+    → take (length b + 4 * length xs) (b ++ words (xs ++ ys)) ≡ b ++ words xs
 front_bytes b xs ys =
     ap (λ (n : ℕ). take (length b + n) (b ++ words (xs ++ ys))) (sym (words_length xs))
     ∙ take-append-add b (words (xs ++ ys)) (length (words xs))
@@ -170,8 +173,8 @@ module _ (s : List KindView) (t : ℕ) (l : Bounds) (units : l.bytes % 4 ≡ 0) 
         ap (λ (q : List ℕ). q ++ num4 y) (bytes_of xs) ∙ append_assoc b (words xs) (num4 y)
         ∙ ap (λ (q : List ℕ). b ++ (words xs ++ q)) (sym (append-nil (num4 y)))
         ∙ ap (λ (q : List ℕ). b ++ q) (sym (words_joined xs (y ∷ []))) ∙ front in
-        let size : length (take n all) ≤ length all = grind arith in (
-          subst (λ (q : List ℕ). length q ≤ l.bytes) (sym same) (omega (arith, size, room)),
+        let size : length (take n all) ≡ n = length-take-le n all high in (
+          subst (λ (q : List ℕ). length q ≤ l.bytes) (sym same) (omega (arith, size, high, room)),
           subst (λ (q : List ℕ). reported.Fails s t l f q) (sym same) fails,
         )
 
@@ -220,7 +223,12 @@ module _ (s : List KindView) (t : ℕ) (l : Bounds) (units : l.bytes % 4 ≡ 0) 
               (subst (λ (q : List ℕ). BegunBytes s t l q) (sym (bytes_of xs))
               (begun s t l units b (words xs) (all_units is)
               (omega (arith, words_length xs), omega (arith, words_length xs, few)) pending))),
-          (known, inr (next_says xs y _ next.0 word next.1 next.2 (said_at xs y f n (sym front) c.high c.fails))),
+          (
+            known,
+            inr (next_says xs y (λ (q : List ℕ). (length (all_spelled (is ++ run xs) ++ q) ≤ l.bytes)
+                × reported.Fails s t l f (all_spelled (is ++ run xs) ++ q)) next.0 word next.1 next.2
+                (said_at xs y f n (sym front) c.high c.fails)),
+          ),
         )
 
     none_refused : (y : ℤ) → Refused [] y why.NoMemory
@@ -241,7 +249,7 @@ module _ (s : List KindView) (t : ℕ) (l : Bounds) (units : l.bytes % 4 ≡ 0) 
         let more : all_spelled k.0 ≡ words r.0 ++ all_spelled r.1 =
         ap (λ (x : List NodeItem). all_spelled x) r.2 ∙ joined (run r.0) r.1
         ∙ ap (λ (q : List ℕ). q ++ all_spelled r.1) (run_spelled signed r.0) in
-        let cut_low : length (take h.0 (words zs)) ≤ h.0 = grind arith in
+        let cut_low : length (take h.0 (words zs)) ≡ h.0 = length-take-le h.0 (words zs) (omega (arith, h.1)) in
         absurd (omega (
           arith,
           size,

@@ -1,7 +1,7 @@
 -- Behind the count of an array of integers of one unit come so many numbers.
 use Rattle.std.proofs.Common.{◌≡◌, ℕ, zero, suc, pos, ℤ, ◌+◌, ◌&&◌, Bool, true, false, List, [], ◌∷◌, ◌++◌, length}
-use Rattle.std.proofs.Common.{replicate, drop, refl, ap, sym, ◌∙◌, subst, arith, inl, inr, ◌⊎◌, append-nil, append_assoc}
-use Rattle.std.proofs.Common.{length-append}
+use Rattle.std.proofs.Common.{replicate, drop, refl, ap, sym, ◌∙◌, subst, arith, inl, inr, ◌⊎◌, append-nil}
+use Rattle.std.proofs.Common.{append_assoc, length-append}
 use Rattle.xdr_types.specs.Kinds as xdr
 use Rattle.xdr_types.specs.Kinds.{KindView, Part, kind_at}
 use Rattle.xdr_types.specs.Tree as value
@@ -151,7 +151,8 @@ module _ (s : List KindView) (part max : ℕ) (signed : Bool) (word : kind_at s 
   own_count (xdr.opaque size) (value.bytes bs) l is n r e = fixed_own size bs is n r e
   own_count (xdr.opaque_up_to most) (value.bytes bs) l is n r e =
       other_item (of_node (xdr.opaque_up_to most) (content bs)) is n r refl e
-  own_count (xdr.text most) (value.bytes bs) l is n r e = other_item (of_node (xdr.text most) (content bs)) is n r refl e
+  own_count (xdr.text most) (value.bytes bs) l is n r e =
+      other_item (of_node (xdr.text most) (content bs)) is n r refl e
   own_count (xdr.fixed item size) (value.items m) l is n r e = no_item is n r e
   own_count (xdr.up_to item most) (value.items m) l is n r e =
       let a = alone (of_node (xdr.up_to item most) (count m)) is (counts n) r e in

@@ -9,8 +9,8 @@ use Rattle.xdr_types.specs.Tree.{Tree}
 use Rattle.xdr_types.specs.Front.{Front}
 use Rattle.xdr_types.specs.Within.{Bounds}
 use Rattle.xdr_types.specs.Outcome as outcome
-use Rattle.xdr_types.specs.Outcome.{Outcome, Pending, TooDeep, TooLarge, Broken, IsDeep, IsFull, IsLarge, IsBad, IsQuiet}
-use Rattle.xdr_types.specs.Outcome.{IsReached, IsReason}
+use Rattle.xdr_types.specs.Outcome.{Outcome, Pending, TooDeep, TooLarge, Broken, IsDeep, IsFull, IsLarge, IsBad}
+use Rattle.xdr_types.specs.Outcome.{IsQuiet, IsReached, IsReason}
 use Rattle.xdr_stream.specs.Sees.{Ends}
 use Rattle.xdr_stream.specs.Represents as reported
 use Rattle.xdr_stream.specs.declared.fault.DecodeFault.{DecodeFault}

@@ -20,3 +20,4 @@ pub mod Cut
 pub mod Following
 pub mod AtOnce
 pub mod Several
+pub mod InTurn

@@ -183,7 +183,8 @@ module _ (s : List KindView) (t : ℕ) (l : Bounds) (is : List NodeItem) (begin 
   -- ---- at that part
 
   module _ (e : Entry) (p : IsPlace s t (all_spelled is) e) (i : ItemView) where
-    module _ (pending : Outcome s t l (all_spelled is) Pending) (units : l.bytes % 4 ≡ 0) (space : ℕ) (room : space ≡ l.bytes - length (all_spelled is))
+    module _ (pending : Outcome s t l (all_spelled is) Pending) (units : l.bytes % 4 ≡ 0) (space : ℕ)
+        (room : space ≡ l.bytes - length (all_spelled is))
         (form : HasForm (kind_at s e.kind) e.role i) (range : HasRange s (kind_at s e.kind) i)
         (some : 4 ≤ length (spelled_as (kind_at s e.kind) i)) where
       low : length (spelled_as (kind_at s e.kind) i) ≤ space
@@ -257,7 +258,7 @@ module _ (s : List KindView) (t : ℕ) (l : Bounds) (is : List NodeItem) (begin 
       absurd (no_whole v f (bytes_behind s t v is [] f known ∙ append-nil (all_spelled is)))
   front_items no_whole v f (r ∷ rs) known = (v, f, r, rs, known)
 
-  begun_items : BegunBytes s t l (all_spelled is) → IsBegun s t l is
+  pub begun_items : BegunBytes s t l (all_spelled is) → IsBegun s t l is
   begun_items g =
       let k = begin.by_bytes g.front.0 g.front.1.1 g.front.1.0 g.front.1.2 in
       record {

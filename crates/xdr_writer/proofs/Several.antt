@@ -70,7 +70,8 @@ module _ (a w : Writer) (is : List NodeItem) (r : RepresentsItems a is) (zs : Li
       let rest : a.known.run.left - length zs ≡ w.known.run.left = omega (arith, left) in
       let due : AreDue s t (is ++ more) w.known.run.left (word_kind w.known.run.signed) =
       subst (λ (n : ℕ). AreDue s t (is ++ more) n (word_kind w.known.run.signed)) rest
-      (subst (λ (y : Bool). AreDue s t (is ++ more) (a.known.run.left - length zs) (word_kind y)) (sym is_signed) g.1) in
+      (subst (λ (y : Bool). AreDue s t (is ++ more) (a.known.run.left - length zs) (word_kind y)) (sym is_signed)
+      g.1) in
       record {
         more = more;
         numbers = run_items (word_kind signed) zs;
@@ -168,8 +169,8 @@ one_rejects a w is z zs before after f r h =
       refuses = subst (λ (x : List NodeItem). Refuses (kinds_of a) (kind_of a) a.limits x (number z) f.why) (sym none)
           (h.refuses is r).0;
       item = (h.refuses is r).1 ∙ ap (λ (x : List NodeItem). length x) (sym none);
-      no_value = subst (λ (x : List NodeItem). IsKnown f.why → HasNoValue (kinds_of a) (kind_of a) a.limits x (number z))
-          (sym none) (h.no_value is r);
+      no_value = subst (λ (x : List NodeItem). IsKnown f.why
+          → HasNoValue (kinds_of a) (kind_of a) a.limits x (number z)) (sym none) (h.no_value is r);
     }
 
 -- ---- several behind others
@@ -219,7 +220,8 @@ module _ (a w x : Writer) (same : IsSame a w) (is : List NodeItem) (xs : List �
   abbrev TakesSo : List NodeItem → Type 0
   TakesSo is = (s : Step) × Takes (kinds_of a) (kind_of a) a.limits is s
 
-  takes_first : (o : Option Step) → IfSome o (λ (s : Step). Takes (kinds_of a) (kind_of a) a.limits (is ++ first.more) s)
+  takes_first : (o : Option Step)
+      → IfSome o (λ (s : Step). Takes (kinds_of a) (kind_of a) a.limits (is ++ first.more) s)
       → (o ≡ None → xs ≡ []) → 0 < length xs → TakesSo (is ++ first.more)
   takes_first (Some s) h none few = (s, h)
   takes_first None h none few = absurd (omega (arith, few, ap (λ (z : List ℤ). length z) (none refl)))

@@ -71,8 +71,10 @@ module _ (s : List KindView) (b : List ℕ) where
   counted p k place d bs before rest at silent told e pl es is given =
       let w : List ℕ = num4 (pos (length bs)) in
       none (entry place 4 d p of_length) k
-      (entry (place + 4) (length bs + length (pad (length bs))) d p (of_content (length bs)) ∷ es) (content bs ∷ is) at silent
-      (one (entry (place + 4) (length bs + length (pad (length bs))) d p (of_content (length bs))) k (content bs) es is at
+      (entry (place + 4) (length bs + length (pad (length bs))) d p (of_content (length bs)) ∷ es) (content bs ∷ is) at
+      silent
+      (one (entry (place + 4) (length bs + length (pad (length bs))) d p (of_content (length bs))) k (content bs) es is
+      at
       told (
         refl,
         filled (before ++ w) bs rest (place + 4) (behind_length before w (padded bs) rest e)
@@ -105,7 +107,8 @@ module _ (s : List KindView) (b : List ℕ) where
       none (entry place 0 d p (of_content 0)) (xdr.opaque size) es is at refl given
   own_told p (xdr.opaque size) (value.bytes (x ∷ xs)) place d before rest at l e pl es is given =
       let bs : List ℕ = x ∷ xs in
-      one (entry place (length bs + length (pad (length bs))) d p (of_content (length bs))) (xdr.opaque size) (content bs)
+      one (entry place (length bs + length (pad (length bs))) d p (of_content (length bs))) (xdr.opaque size)
+      (content bs)
       es is at (lt-ltb 0 (length bs) (omega arith)) (refl, filled before bs rest place e pl) given
   own_told p (xdr.opaque_up_to max) (value.bytes bs) place d before rest at l e pl es is given =
       counted p (xdr.opaque_up_to max) place d bs before rest at refl refl e pl es is given

@@ -23,8 +23,8 @@ pub record TookAll (a b : Writer) (is : List NodeItem) (zs : List ℤ) (before a
   pub takes : IfSome last (λ s. Takes (kinds_of a) (kind_of a) a.limits (is ++ more) s)
   pub none : last ≡ None → zs ≡ []
 
--- What a call that refuses one of these numbers says and leaves: those before it are taken, each as an item of a node of
--- some kind, and their bytes written. No value has all of these and then this one.
+-- What a call that refuses one of these numbers says and leaves: those before it are taken, each as an item of a node
+-- of some kind, and their bytes written. No value has all of these and then this one.
 pub record RejectsOne (a b : Writer) (is : List NodeItem) (zs : List ℤ) (before after : List ℕ) (f : WriteRefusal)
     : Type 0 where
   pub taken : List ℤ

@@ -12,8 +12,8 @@ use Rattle.xdr_writer.specs.Items.{ItemView, number, flag, count, content, spell
 use Rattle.xdr_writer.specs.ItemsOf.{items_of}
 use Rattle.xdr_writer.specs.Forms.{IsInRange}
 
--- whether a part of this role, of a node of this kind, has an item: a structure has none, nor has the length of content,
--- nor content of fixed size without bytes
+-- whether a part of this role, of a node of this kind, has an item: a structure has none, nor has the length of
+-- content, nor content of fixed size without bytes
 abbrev pub has_item : KindView → Role → Bool
 has_item kind of_number = true
 has_item kind of_flag = true
@@ -47,7 +47,8 @@ abbrev pub AreToldBy : List KindView → (bytes : List ℕ) → List Entry → L
 AreToldBy kinds bytes [] is = is ≡ []
 AreToldBy kinds bytes (e ∷ es) is =
     IsFirst (has_item (kind_at kinds e.kind) e.role)
-    (λ i. IsToldBy kinds (kind_at kinds e.kind) (part_bytes bytes e) e.role i) (λ more. AreToldBy kinds bytes es more) is
+    (λ i. IsToldBy kinds (kind_at kinds e.kind) (part_bytes bytes e) e.role i)
+    (λ more. AreToldBy kinds bytes es more) is
 
 -- The parts of a value tell its items, and no others.
 pub record PartsTellItems (kinds : List KindView) : Type 0 where

@@ -134,7 +134,7 @@ impl<'s> Writer<'s> {
     {
         let count = numbers.len();
         let start = out.len();
-        if push_words(self.known.run.signed, numbers, out).is_err() {
+        if let Err(_) = push_words(self.known.run.signed, numbers, out) {
             out.truncate(start);
             return Err(self.refuse(Why::NoMemory, 0));
         }

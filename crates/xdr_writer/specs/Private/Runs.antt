@@ -45,17 +45,17 @@ end_of reason.TooLarge at = at
 end_of _ at = at + 4
 
 -- so many of the numbers behind the bytes that are written come before the one that is refused
-abbrev pub IsCount : Why → (written count before : ℕ) → Type 0
-IsCount (why.Refused f) written count before =
+abbrev pub IsCount : Why → (written given before : ℕ) → Type 0
+IsCount (why.Refused f) written given before =
     f.at ≤ 16777216 → written % 4 ≡ 0 → end_of f.why f.at % 4 ≡ 0 → written + 4 ≤ end_of f.why f.at
-    → end_of f.why f.at ≤ written + 4 * count → written + 4 * (before + 1) ≡ end_of f.why f.at
-IsCount _ written count before = before ≡ 0
+    → end_of f.why f.at ≤ written + 4 * given → written + 4 * (before + 1) ≡ end_of f.why f.at
+IsCount _ written given before = before ≡ 0
 
 -- the writer may be given so many numbers at once: they are due, there is space for them, and an item came before
-pub record MayTake (w : Writer) (count : ℕ) : Type 0 where
+pub record MayTake (w : Writer) (given : ℕ) : Type 0 where
   pub waits : w.known.waits ≡ true
-  pub due : count ≤ w.known.run.left
-  pub low : w.written + 4 * count ≤ w.limits.bytes
+  pub due : given ≤ w.known.run.left
+  pub low : w.written + 4 * given ≤ w.limits.bytes
   pub begun : 0 < w.written
 
 -- what a call that takes some of the numbers, at least the first, says and leaves: how many, and the last one's step
@@ -67,3 +67,9 @@ pub record TakesSome (a b : Writer) (zs : List ℤ) (before after : List ℕ) (r
   pub rejects : IfErr r (λ f. (is : List NodeItem) → RepresentsItems a is → RejectsOne a b is zs before after f)
   pub refused : IfErr r (λ f. HasRefused b f)
   pub same : IsSame a b
+
+-- so many of the numbers are taken, and the last of them brought this step
+pub record SoFar (a w : Writer) (zs : List ℤ) (at : ℕ) (before now : List ℕ) (last : Option Step) : Type 0 where
+  pub same : IsSame a w
+  pub low : at ≤ length zs
+  pub took : (is : List NodeItem) → RepresentsItems a is → TookAll a w is (take at zs) before now last
