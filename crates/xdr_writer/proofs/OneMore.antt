@@ -85,8 +85,8 @@ module _ (c m d : Checker) (is : List NodeItem) (i : ItemView) (u : List ℕ) (e
       (Err w) =
       back (λ (s : List KindView) (t : ℕ) (l : Bounds). SaysWithin s t l space (all_spelled is) u (Err w)) c m first
       judged.says in
-      within_refuse (checks.kinds_of c) (checks.kind_of c).place (checks.limits_of c) is r.begin e p i pending units space
-      room
+      within_refuse (checks.kinds_of c) (checks.kind_of c).place (checks.limits_of c) is r.begin e p i pending units
+      space room
       form range (subst (λ (z : List ℕ). 4 ≤ length z) known some) w
       (subst (λ (z : List ℕ). SaysWithin (checks.kinds_of c) (checks.kind_of c).place (checks.limits_of c) space
       (all_spelled is) z (Err w)) known says)
