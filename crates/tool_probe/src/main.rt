@@ -5,13 +5,12 @@
 //! `case` reads what is asked for, `reported` writes the line of what is answered, and `printed` and `declared` have
 //! the words of answers. Each other module makes the calls of one subject:
 //! - `values`: values of a kind. `writer`: values written item by item. `items`: the items of a value. `changed`: one
-//!   that was changed. `at_once`: numbers put by one call. `random`: random values of random schemas.
+//!   that was changed. `random`: random values of random schemas.
 //! - `language`: texts of declarations. `task`: tasks of the program. `program`: its network engines.
 //! - `records`: streams of records. `messages`: messages. `registry`: the registry served. `directory`: its calls, one
 //!   after another. `datagrams`: datagrams over a port in memory.
 #![tactic(auto)]
 
-mod at_once;
 mod case;
 mod changed;
 mod datagrams;

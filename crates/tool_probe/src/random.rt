@@ -1,7 +1,5 @@
 //! Random values of random schemas, which a seed makes (`random_values`): a writer writes of their items what `encode`
-//! writes of them, and within other limits it says of an item that was changed what a checker says of its bytes. Where
-//! numbers are put at once it says the same.
-use crate::at_once::is_same_at_once;
+//! writes of them, and within other limits it says of an item that was changed what a checker says of its bytes.
 use crate::case::Case;
 use crate::changed::{Written, is_changed_alike};
 use crate::items::push_items;
@@ -65,9 +63,6 @@ fn is_agreed(random: &mut Pcg32, alloc: Global, asked: &Asked<'_>, value: &Value
         return false;
     };
     let other = Asked { limits, ..*asked };
-    if !is_same_at_once(random, alloc, &other, &items) {
-        return false;
-    }
     match (encoded(alloc, asked, value), written(alloc, asked, items)) {
         (Some(bytes), Some(whole)) => {
             whole.bytes == bytes && is_changed_alike(random, alloc, &other, &whole)

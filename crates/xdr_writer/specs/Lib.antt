@@ -7,4 +7,3 @@ pub mod Laws
 pub mod Private
 pub mod Told
 pub mod Sinking
-pub mod Runs

@@ -3,4 +3,3 @@ pub mod Bytes
 pub mod Becomes
 pub mod Judged
 pub mod After
-pub mod Runs

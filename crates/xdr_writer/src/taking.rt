@@ -1,18 +1,17 @@
 //! An item taken: what is due, its form, and its bytes judged and then written.
 ghost use Rattle.std.specs.Prelude.{◌≡◌, ◌≤◌, ◌+◌, ◌%◌, List, ℕ, length, IfOk, IfErr, MatchResult, vec_capacity, ◌++◌};
-ghost use Rattle.std.specs.Prelude.{true, false};
+ghost use Rattle.std.specs.Prelude.{true};
 ghost use Rattle.xdr_codec.specs.Checks.{RepresentsBytes, schema_of, limits_of, IsWaiting};
 ghost use Rattle.xdr_writer.specs.Items.{NodeItem, item_view};
 ghost use Rattle.xdr_writer.specs.Answers.{most_bytes};
 ghost use Rattle.xdr_writer.specs.Private.Bytes.{coded_bytes, pieces_bytes};
 ghost use Rattle.xdr_writer.specs.Private.Judged.{Judges, Grants, IsJudgedWithin, Kept};
-ghost use Rattle.xdr_writer.specs.Private.After.{FindsDue, IsAfter, TookItem, RefusesItem, FollowsItem};
+ghost use Rattle.xdr_writer.specs.Private.After.{FindsDue, IsAfter, TookItem, RefusesItem};
 
 use crate::forms::coded_of;
 use crate::item::{Item, Step};
 use crate::judging::{judge, judge_pieces};
 use crate::refusal::Why;
-use crate::runs::{Known, run_of};
 use crate::units::{Coded, Pieces, pieces_of, push_pieces, size_within};
 use xdr_codec::{Checker, Due};
 use xdr_types::Schema;
@@ -87,12 +86,12 @@ fn write_within(
     write(checker, &pieces, out)
 }
 
-/// Takes the next item where there is so much space: its bytes are judged, and then written. Of what is due behind it
-/// the numbers are known.
+/// Takes the next item where there is so much space: its bytes are judged, and then written. Whether a unit is needed
+/// need not be known.
 pub(crate) fn take(
     checker: &mut Checker<'_>,
     schema: &Schema,
-    known: &mut Known,
+    waits: bool,
     space: usize,
     item: Item<'_>,
     out: &mut Vec<u8>,
@@ -100,7 +99,7 @@ pub(crate) fn take(
     requires schema { schema_of checker.old ≡ schema.now }
     requires units { (limits_of checker.old).bytes % 4 ≡ 0 }
     requires low { space ≤ 16777216 }
-    requires waiting { known.old.waits ≡ true → IsWaiting checker.old }
+    requires waiting { waits ≡ true → IsWaiting checker.old }
     ensures took { IfOk result (λ s. (is : List NodeItem) → IsAfter checker.old is
         → TookItem checker.old checker.new is (item_view item.entry) out.old.items out.new.items s) }
     ensures refuses { IfErr result
@@ -108,16 +107,11 @@ pub(crate) fn take(
     ensures kept { Kept checker.old checker.new space out.old.items out.new.items result }
     ensures granted { (is : List NodeItem) → IsAfter checker.old is
         → length out.old.items + most_bytes (item_view item.entry) ≤ vec_capacity out.old → Grants checker.old result }
-    ensures known { known.new.waits ≡ false }
-    ensures run { IfOk result (λ _. FollowsItem checker.old (item_view item.entry) known.new.run) }
 {
-    let waits = known.waits;
-    known.waits = false;
     let due = match next_due(checker, waits) {
         Ok(due) => due,
         Err(why) => return Err(why),
     };
-    known.run = run_of(schema, due, item);
     match coded_of(schema, due, item) {
         Ok(coded) => write_within(checker, space, coded, out),
         Err(why) => Err(why),

@@ -1,9 +1,8 @@
 //! Items whose form is known, and their bytes.
 ghost use Rattle.std.specs.Prelude.{◌≡◌, ◌≤◌, ◌<◌, ◌+◌, ◌-◌, ◌%◌, ◌++◌, length, MatchOption, OnOk, OnErr, IsOk, pos};
-ghost use Rattle.std.specs.Prelude.{vec_len, vec_capacity, true};
+ghost use Rattle.std.specs.Prelude.{vec_len, vec_capacity};
 ghost use Rattle.xdr_units.specs.Numbers.{num4, num8, pad};
 ghost use Rattle.xdr_writer.specs.Private.Bytes.{coded_bytes, head_bytes, pieces_bytes};
-ghost use Rattle.xdr_writer.specs.Private.Becomes.{in_word};
 
 use byteorder::{BigEndian, ByteOrder};
 use xdr_units::NoMemory;
@@ -134,20 +133,6 @@ fn unsigned_hyper(number: u64) -> Head
     let mut bytes = [0; 8];
     BigEndian::write_u64(&mut bytes, number);
     Head::Wide(bytes)
-}
-
-/// The four bytes of a number that has one unit, signed or not.
-pub(crate) fn word(signed: bool, number: i128) -> [u8; 4]
-    requires { in_word signed number ≡ true }
-    ensures { result ≡ num4 number }
-{
-    let mut bytes = [0; 4];
-    if signed {
-        BigEndian::write_i32(&mut bytes, number as i32);
-    } else {
-        BigEndian::write_u32(&mut bytes, number as u32);
-    }
-    bytes
 }
 
 // A head without content.

@@ -5,7 +5,6 @@ ghost use Rattle.xdr_stream.specs.declared.fault.DecodeFault.{DecodeFault};
 
 use crate::item::{Item, Step};
 use crate::refusal::{WriteRefusal, end_of};
-use crate::runs::{Known, no_run};
 use crate::taking::take;
 use std::alloc::Global;
 use xdr_codec::Checker;
@@ -23,12 +22,13 @@ pub struct Writer<'s> {
     /// How many items are taken.
     pub(crate) count: usize,
     pub(crate) refused: Option<WriteRefusal>,
-    pub(crate) known: Known,
+    /// Whether a unit is known to be needed.
+    pub(crate) waits: bool,
     ghost few: { count ≤ written },
     ghost low: { written ≤ 16777216 },
     ghost limits_are: { checker.reader.limits ≡ limits },
     ghost schema_is: { checker.reader.schema.now ≡ schema.now },
-    ghost waiting: { known.waits ≡ true → checks.IsWaiting checker },
+    ghost waiting: { waits ≡ true → checks.IsWaiting checker },
     ghost sound: { refused ≡ None → (f : DecodeFault) → checks.HasFailed checker f → ⊥ },
 }
 
@@ -56,10 +56,7 @@ impl<'s> Writer<'s> {
             written: 0,
             count: 0,
             refused: None,
-            known: Known {
-                waits: false,
-                run: no_run(),
-            },
+            waits: false,
         }
     }
 
@@ -95,11 +92,13 @@ impl<'s> Writer<'s> {
         let schema = self.schema;
         let before = out.len();
         let space = (self.limits.bytes() as usize).saturating_sub(self.written);
-        match take(&mut self.checker, schema, &mut self.known, space, item, out) {
+        let waits = self.waits;
+        self.waits = false;
+        match take(&mut self.checker, schema, waits, space, item, out) {
             Ok(step) => {
                 self.written += out.len() - before;
                 self.count += 1;
-                self.known.waits = match step {
+                self.waits = match step {
                     Step::More => true,
                     Step::Done => false,
                 };
