@@ -16,9 +16,10 @@ use Rattle.registry_sessions.specs.declared.table.SessionTable.{SessionTable}
 use Rattle.registry_sessions.specs.Represents as session
 use Rattle.registry_sessions.specs.Represents.{HasRead, Holds, TakesIn, Concludes, output_of}
 use Rattle.registry_sessions.specs.Events.{Event, Opens, Took, Ends, Came, Arrival, HaveArrived}
-use Rattle.registry_sessions.specs.Progress.{Sessions, Progress, HasDone, Proceeds, Starts, Steps, Stops, put}
-use Rattle.registry_sessions.specs.Progress.{session_at, next_of, happened, said_of}
-use Rattle.registry_sessions.proofs.Events.{nothing, progress_ends, progress_opens, progress_receives, progress_writes}
+use Rattle.registry_sessions.specs.Progress.{Sessions, Progress, HasDone, Proceeds, Starts, Steps, put}
+use Rattle.registry_sessions.specs.Progress.{SameLimits, session_at, next_of, happened, said_of}
+use Rattle.registry_sessions.proofs.Events.{nothing, progress_ends, progress_opens}
+use Rattle.registry_sessions.proofs.Events.{progress_receives, progress_writes}
 use Rattle.registry_sessions.proofs.Places.{end_proceeds, put_here, put_is, put_others, take_proceeds}
 use Rattle.registry_sessions.proofs.Tables.{same_sessions}
 
@@ -122,30 +123,25 @@ receives table mid after datagram out (appended.OutOfMemory xid) h rows events s
 -- ---- what became of the sessions
 
 pub steps_at : (old new : SessionTable) (i : ℕ) (s t : Session) → session_at old i ≡ Some s
-    → Updated old (session_at new) i (Some t) → (step : Session → Session → Type 0) → step s t → Steps old new i step
-steps_at old new i s t at updated step h = record {
+    → Updated old (session_at new) i (Some t) → SameLimits old new → (step : Session → Session → Type 0) → step s t
+    → Steps old new i step
+steps_at old new i s t at updated limits step h = record {
   before = s;
   after = t;
   was = at;
   is = put_here (session_at old) (session_at new) i (Some t) updated;
   others = put_others (session_at old) (session_at new) i (Some t) updated;
   steps = h;
+  limits = limits;
 }
 
 pub starts : (old new : SessionTable) (i : ℕ) (s : Session) → Updated old (session_at new) i (Some s)
-    → HasRead s [] [] → Holds s [] 0 → Starts old new i
-starts old new i s updated read held = record {
+    → SameLimits old new → HasRead s [] [] → Holds s [] 0 → Starts old new i
+starts old new i s updated limits read held = record {
   session = s;
   is = put_here (session_at old) (session_at new) i (Some s) updated;
   others = put_others (session_at old) (session_at new) i (Some s) updated;
   reads = read;
   holds = held;
+  limits = limits;
 }
-
-pub stops : (old new : SessionTable) (i : ℕ) (o : Option Session) → Updated old (session_at new) i None
-    → IfSome o (λ s. Stops old new i)
-stops old new i (Some s) updated = record {
-  none = put_here (session_at old) (session_at new) i None updated;
-  others = put_others (session_at old) (session_at new) i None updated;
-}
-stops old new i None updated = tt

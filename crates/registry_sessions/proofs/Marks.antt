@@ -1,6 +1,6 @@
 -- A header before a reply that stands behind other bytes, and what answering a record does.
 use Rattle.std.proofs.Common.{◌≡◌, ℕ, ◌+◌, ◌-◌, ◌≤◌, true, false, Bool, List, ◌++◌, length, Some}
-use Rattle.std.proofs.Common.{None, sym, ap, ◌∙◌, arith, slice_set, slice_index_or}
+use Rattle.std.proofs.Common.{sym, ap, ◌∙◌, arith, slice_set, slice_index_or}
 use Rattle.std.proofs.Common.{Result, Ok, Err, true≢false, is_ok, is_err, cond}
 use Rattle.std.proofs.lemmas.List.{append-nil, set-append_right}
 use Rattle.registry_rows.specs.Rows.{Row}
@@ -71,14 +71,3 @@ pub extended : {E : Type 0} → (r : Result (Unit {0}) E) (out more old : List �
     → out ≡ cond (is_ok r) (old ++ more) old → out ≡ old ++ more
 extended (Ok u) out more old e h = h
 extended (Err f) out more old e h = absurd (true≢false e)
-
--- no reply
-pub pushes_none : (rows new : List Row) (netid message old out : List ℕ) → Answer rows netid message false new None
-    → out ≡ old → PushesReply rows netid message new old out
-pushes_none rows new netid message old out a e = record {
-  refused = false;
-  sent = None;
-  answer = a;
-  added = e ∙ sym (append-nil old);
-  short = omega arith;
-}

@@ -61,26 +61,6 @@ takes_record old new fed netid rows after piece used limit feeds fault sent with
   },
 )
 
--- no record is whole
-pub takes_all : (old new : Session) (netid : List ℕ) (rows : List Row) (piece : List ℕ)
-    → reader.limit_of new.records ≡ reader.limit_of old.records
-    → reader.Feeds old.records new.records piece (Ok step.More) → new.fault ≡ old.fault
-    → output_of new ≡ output_of old → Takes old new netid rows rows piece taken.More
-takes_all old new netid rows piece limit feeds fault out = (
-  refl,
-  (λ bytes rs h. record {
-    sound = fault ∙ h.sound;
-    taking = feeds.0;
-    limit = limit ∙ h.limit;
-    represents = subst (λ x. reader.Represents new.records (bytes ++ piece) x) (sym (append-nil rs))
-        (feeds.1 bytes rs h.represents);
-  }),
-  (λ replies count h. record {
-    few = omega (arith, h.few, ap (λ x. length (normal x)) (append-nil replies));
-    waits = out ∙ h.waits ∙ ap (λ x. drop count (normal x)) (sym (append-nil replies));
-  }),
-)
-
 -- the bytes are flawed
 pub breaks_flawed : TooLongEnds → (old new : Session) (fed : RecordReader) (rows : List Row)
     (piece : List ℕ) (f : RecordFault) → new.fault ≡ Some (fault_of f) → output_of new ≡ output_of old

@@ -69,6 +69,14 @@ count_of table = hash_map.hash_map_len table.sessions
 abbrev pub most_of : SessionTable → ℕ
 most_of table = table.most
 
+-- with more bytes of output than these a connection takes nothing
+abbrev pub bound_in : SessionTable → ℕ
+bound_in table = table.bound
+
+-- what a table may hold is as it was
+abbrev pub SameLimits : SessionTable → SessionTable → Type 0
+SameLimits old new = (most_of new ≡ most_of old) × (bound_in new ≡ bound_in old)
+
 -- A table has done these events over a registry that had these rows, and sent these datagrams.
 abbrev pub HasDone : List Row → List Event → List Row → SessionTable → List (List ℕ) → Type 0
 HasDone rows events new table sent = Progress rows events new (session_at table) (next_of table) sent
@@ -78,9 +86,9 @@ abbrev pub Proceeds : SessionTable → SessionTable → List Row → List Row �
 Proceeds old new mid after more said = (rows : List Row) (events : List Event) (sent : List (List ℕ))
     → HasDone rows events mid old sent → HasDone rows (events ++ more) after new (sent ++ said)
 
--- the sessions are as they were
+-- the sessions are as they were, and so is what the table may hold
 abbrev pub SameSessions : SessionTable → SessionTable → Type 0
-SameSessions old new = (j : ℕ) → session_at new j ≡ session_at old j
+SameSessions old new = ((j : ℕ) → session_at new j ≡ session_at old j) × SameLimits old new
 
 -- The session at this number became another, and all others are as they were.
 pub record Steps (old new : SessionTable) (i : ℕ) (step : Session → Session → Type 0) : Type 0 where
@@ -90,6 +98,7 @@ pub record Steps (old new : SessionTable) (i : ℕ) (step : Session → Session 
   pub is : session_at new i ≡ Some after
   pub others : (j : ℕ) → j ≢ i → session_at new j ≡ session_at old j
   pub steps : step before after
+  pub limits : SameLimits old new
 
 -- There is a session at this number now, which has read nothing and has no replies. All others are as they were.
 pub record Starts (old new : SessionTable) (i : ℕ) : Type 0 where
@@ -98,11 +107,13 @@ pub record Starts (old new : SessionTable) (i : ℕ) : Type 0 where
   pub others : (j : ℕ) → j ≢ i → session_at new j ≡ session_at old j
   pub reads : HasRead session [] []
   pub holds : Holds session [] 0
+  pub limits : SameLimits old new
 
 -- There is no session at this number any more, and all others are as they were.
 pub record Stops (old new : SessionTable) (i : ℕ) : Type 0 where
   pub none : session_at new i ≡ None
   pub others : (j : ℕ) → j ≢ i → session_at new j ≡ session_at old j
+  pub limits : SameLimits old new
 
 -- what is sent for a datagram: nothing, what stands in the buffer, or the SYSTEM_ERR reply to this xid
 abbrev pub said_of : Appended → (buffer : List ℕ) → Option (List ℕ)

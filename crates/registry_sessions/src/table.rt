@@ -1,6 +1,8 @@
 //! The sessions of many connections over one registry, by the numbers of their connections.
-ghost use Rattle.std.specs.Prelude.{◌≤◌};
-ghost use Rattle.std.specs.HashMap.{hash_map_len};
+ghost use Rattle.std.specs.Prelude.{◌≡◌, ◌≤◌, ℕ, nat_eq, Some};
+ghost use Rattle.std.specs.HashMap.{get, hash_map_len};
+ghost use Rattle.registry_sessions.specs.declared.session.Session.{Session};
+ghost use Rattle.registry_sessions.specs.Represents.{bound_of};
 
 use crate::fault::{OpenFault, SessionFault, Taken};
 use crate::session::Session;
@@ -23,10 +25,11 @@ pub struct SessionTable {
     bound: u32,
     alloc: Global,
     ghost few: { hash_map_len sessions ≤ most },
+    ghost alike: { (k : ℕ) (s : Session) → get nat_eq sessions k ≡ Some s → bound_of s ≡ bound },
 }
 
 impl SessionTable {
-    ghost use Rattle.std.specs.Prelude.{◌≡◌, ◌⊎◌, ◌-◌, ◌^◌, [], ◌∷◌, List, length, drop, None, IfOk, IfSome, IfNone};
+    ghost use Rattle.std.specs.Prelude.{◌⊎◌, ◌-◌, ◌^◌, [], ◌∷◌, List, length, drop, None, IfOk, IfSome, IfNone};
     ghost use Rattle.std.specs.Prelude.{IsErrOf, OnErr, option_copied};
     ghost use Rattle.std.specs.Option.{ForSome};
     ghost use Rattle.registry_rows.specs.Rows.{Row};
@@ -34,13 +37,16 @@ impl SessionTable {
     ghost use Rattle.registry_sessions.specs.Represents.{output_of, Took as TakesOut, TakesIn, Concludes};
     ghost use Rattle.registry_sessions.specs.Events.{Opens, Took, Ends, Came};
     ghost use Rattle.registry_sessions.specs.Progress.{HasDone, Proceeds, SameSessions, Starts, Steps, Stops};
-    ghost use Rattle.registry_sessions.specs.Progress.{session_at, next_of, count_of, most_of, happened, said_of};
+    ghost use Rattle.registry_sessions.specs.Progress.{session_at, next_of, count_of, most_of, bound_in};
+    ghost use Rattle.registry_sessions.specs.Progress.{happened, said_of};
 
     /// A table with no connection, for at most `most` at a time. While more than `bound` bytes of a connection's output
     /// wait, it takes nothing.
     pub fn start(alloc: Global, most: usize, bound: u32) -> Self
         // Over whatever registry, it has done nothing.
-        ensures { (rows : List Row) → HasDone rows [] rows result [] }
+        ensures begun { (rows : List Row) → HasDone rows [] rows result [] }
+        ensures most { most_of result ≡ most }
+        ensures bound { bound_in result ≡ bound }
     {
         SessionTable {
             sessions: HashMap::new(alloc),
@@ -76,9 +82,19 @@ impl SessionTable {
         }
     }
 
-    /// The session of a connection. None: it is not open.
+    /// How many connections are open: at most as many as may be. So all together keep at most as many times what one
+    /// keeps (`Session::retained`).
+    pub fn open_count(&self) -> usize
+        ensures count { result ≡ count_of self.now }
+        ensures few { result ≤ most_of self.now }
+    {
+        self.sessions.len()
+    }
+
+    /// The session of a connection, whose bound is the table's. None: it is not open.
     pub fn session(&self, number: u64) -> Option<&Session>
-        ensures { option_copied result ≡ session_at self.now number }
+        ensures session { option_copied result ≡ session_at self.now number }
+        ensures bound { IfSome result (λ s. bound_of s.now ≡ bound_in self.now) }
     {
         self.sessions.get(&number)
     }

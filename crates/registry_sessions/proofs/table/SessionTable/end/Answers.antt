@@ -1,4 +1,4 @@
-use Rattle.std.proofs.Common.{ap, is_some, sym}
+use Rattle.std.proofs.Common.{ap, is_some, refl, sym}
 use Rattle.registry_sessions.proofs.Calls.{concludes, steps_at}
 use Rattle.registry_sessions.proofs.table.SessionTable.end.Goals as goal
 
@@ -13,4 +13,5 @@ pub returns-clause-steps : goal.returns-clause-steps
 returns-clause-steps c =
     let at = sym c.in_ok-get_mut.ensures.value in
     steps_at c.args.self.now _ c.args.number c.in_ok-get_mut.field-0.now c.end.new.self at
-    ((c.get_mut.follows.holds c.end.new.self).3 (ap is_some at)).0 _ (c.end.ensures.concludes, c.end.ensures.output)
+    ((c.get_mut.follows.holds c.end.new.self).3 (ap is_some at)).0 (refl, refl) _
+    (c.end.ensures.concludes, c.end.ensures.output)

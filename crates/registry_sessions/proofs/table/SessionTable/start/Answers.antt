@@ -3,5 +3,5 @@ use Rattle.std.specs.Map.{lookup}
 use Rattle.registry_sessions.proofs.Calls.{begins}
 use Rattle.registry_sessions.proofs.table.SessionTable.start.Goals as goal
 
-pub returns : goal.returns
-returns c = begins _ (λ j. ap (λ entries. lookup (nat_eq j) entries) c.new.ensures.empty)
+pub returns-clause-begun : goal.returns-clause-begun
+returns-clause-begun c = begins _ (λ j. ap (λ entries. lookup (nat_eq j) entries) c.new.ensures.empty)

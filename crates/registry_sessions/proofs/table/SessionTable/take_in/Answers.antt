@@ -1,4 +1,4 @@
-use Rattle.std.proofs.Common.{ap, is_some, sym}
+use Rattle.std.proofs.Common.{ap, is_some, refl, sym}
 use Rattle.registry_sessions.proofs.Calls.{takes_in, steps_at}
 use Rattle.registry_sessions.proofs.table.SessionTable.take_in.Goals as goal
 
@@ -17,7 +17,7 @@ pub returns-in-Some-clause-steps : goal.returns-in-Some-clause-steps
 returns-in-Some-clause-steps g c =
     let at = sym c.in-Some.ensures.value in
     steps_at c.args.self.now _ c.args.number c.in-Some.session.now c.take_in.new.self at
-    ((c.get_mut.follows.holds c.take_in.new.self).3 (ap is_some at)).0 _ record {
+    ((c.get_mut.follows.holds c.take_in.new.self).3 (ap is_some at)).0 (refl, refl) _ record {
       taken = c.take_in.ensures.taken;
       fault = c.take_in.ensures.fault;
       stays = c.take_in.ensures.stays;

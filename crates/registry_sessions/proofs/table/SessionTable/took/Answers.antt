@@ -1,4 +1,4 @@
-use Rattle.std.proofs.Common.{ap, is_some, sym}
+use Rattle.std.proofs.Common.{ap, is_some, refl, sym}
 use Rattle.registry_sessions.proofs.Calls.{takes_out, steps_at}
 use Rattle.registry_sessions.proofs.table.SessionTable.took.Goals as goal
 
@@ -12,4 +12,5 @@ pub returns-in-Some-clause-steps : goal.returns-in-Some-clause-steps
 returns-in-Some-clause-steps c =
     let at = sym c.in-Some.ensures.value in
     rw at (steps_at c.args.self.now _ c.args.number c.in-Some.session.now c.took.new.self at
-    ((c.get_mut.follows.holds c.took.new.self).3 (ap is_some at)).0 _ (c.took.ensures.took, c.took.ensures.output))
+    ((c.get_mut.follows.holds c.took.new.self).3 (ap is_some at)).0 (refl, refl) _
+    (c.took.ensures.took, c.took.ensures.output))
