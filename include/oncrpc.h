@@ -31,9 +31,9 @@
  * to ONCRPC_NONE holds whatever was there, and a start or a read would free that.
  *
  * THREADS. There is no state outside of the handles and no initialisation, so calls may run on several threads at once
- * where they share nothing that one of them fills. A handle stays on the thread that made it, under a lock too, since
- * a check writes to it: no proof covers another thread. Nothing here may be called from a signal handler, nor in the
- * forked child of a process with threads.
+ * where they share nothing that one of them fills. A handle may go from one thread to another, and serves one call at a
+ * time. A check writes to it too, so threads that share one take a lock. Nothing here may be called from a signal
+ * handler, nor in the forked child of a process with threads.
  *
  * STACK. No call goes down by the depth of its input: 64 KiB are enough for every call, at the greatest limits too, as
  * was measured on x86-64 Linux.

@@ -44,7 +44,7 @@ impl Checked {
     }
 }
 
-/// Declarations that were read. They stay on their thread, and a check borrows them alone.
+/// Declarations that were read. A check borrows them alone.
 ///
 /// ```
 /// # use oncrpc::{Declarations, Limits, Reason};
@@ -162,6 +162,9 @@ fn as_text(mut lines: Vec<u8>) -> String {
         .for_each(|byte| *byte = b'?');
     String::from_utf8(lines).unwrap_or_default()
 }
+
+// SAFETY: what the handle owns, a block of the heap and plain data, names no thread, as is proved of it.
+unsafe impl Send for Declarations {}
 
 impl Drop for Declarations {
     fn drop(&mut self) {

@@ -93,7 +93,7 @@ impl fmt::Display for RegistryFault {
 
 impl Error for RegistryFault {}
 
-/// Rows in memory, at most 1024, each a program, a version, a netid, an address and an owner. It stays on its thread.
+/// Rows in memory, at most 1024, each a program, a version, a netid, an address and an owner.
 ///
 /// ```
 /// # use oncrpc::{Auth, Call, Outcome, Registry, Reply, Transport};
@@ -253,6 +253,9 @@ impl Registry {
         changed(status)
     }
 }
+
+// SAFETY: what the handle owns, a block of the heap and plain data, names no thread, as is proved of it.
+unsafe impl Send for Registry {}
 
 impl Drop for Registry {
     fn drop(&mut self) {

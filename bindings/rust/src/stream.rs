@@ -47,7 +47,7 @@ impl fmt::Display for StreamFault {
 impl Error for StreamFault {}
 
 /// A reader of one stream: takes what was received, in any pieces, and hands out the records without the headers of
-/// their fragments, in their order. It stays on its thread.
+/// their fragments, in their order.
 ///
 /// ```
 /// # use oncrpc::Records;
@@ -142,6 +142,9 @@ impl Records {
         }
     }
 }
+
+// SAFETY: what the handle owns, a block of the heap and plain data, names no thread, as is proved of it.
+unsafe impl Send for Records {}
 
 impl Drop for Records {
     fn drop(&mut self) {

@@ -155,7 +155,7 @@ structs! {
         inner: u32,
     }
 
-    /// Declarations that were read, or none. The pointer keeps it on its thread.
+    /// Declarations that were read, or none.
     #[derive(Debug)]
     oncrpc_declarations as Declarations {
         at: *mut c_void,
@@ -191,14 +191,14 @@ structs! {
         count: usize,
     }
 
-    /// A registry, or none. The pointer keeps it on its thread.
+    /// A registry, or none.
     #[derive(Debug)]
     oncrpc_registry as Registry {
         at: *mut c_void,
         live: bool,
     }
 
-    /// A reader of a stream of records, or none. The pointer keeps it on its thread.
+    /// A reader of a stream of records, or none.
     #[derive(Debug)]
     oncrpc_records as Records {
         at: *mut c_void,

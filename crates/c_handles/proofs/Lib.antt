@@ -1,3 +1,4 @@
+pub mod Sent
 pub mod Handles
 pub mod Slots
 pub mod Values

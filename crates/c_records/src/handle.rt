@@ -22,6 +22,9 @@ impl Model for Records {
     ghost also_owns = { λ h. retained the_row h.live h.at h.held };
 }
 
+// What it owns names no thread: a block of the heap, and plain data.
+unsafe impl Send for Records {}
+
 impl Keeper<State> for Records {
     ghost held = { λ h. h.held };
 

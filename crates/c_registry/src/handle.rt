@@ -22,6 +22,9 @@ impl Model for Registry {
     ghost also_owns = { λ h. retained the_row h.live h.at h.held };
 }
 
+// What it owns names no thread: a block of the heap, and plain data.
+unsafe impl Send for Registry {}
+
 impl Keeper<State> for Registry {
     ghost held = { λ h. h.held };
 

@@ -22,6 +22,9 @@ impl Model for Handle {
     ghost also_owns = { λ h. retained the_row h.live h.at h.declared };
 }
 
+// What it owns names no thread: a block of the heap, and declarations, which are plain data.
+unsafe impl Send for Handle {}
+
 impl Keeper<State> for Handle {
     ghost held = { λ h. h.declared };
 

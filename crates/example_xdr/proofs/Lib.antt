@@ -5,3 +5,4 @@ pub mod LookUps
 pub mod Refusing
 pub mod Sound
 pub mod Putting
+pub mod Depth

@@ -4,7 +4,8 @@ ghost use Rattle.xdr_types.specs.Kinds.{kind_at, int};
 ghost use Rattle.xdr_writer.specs.Answers.{IsKnown};
 ghost use Rattle.xdr_writer.specs.Represents.{HasRefused};
 ghost use Rattle.xdr_writer.specs.declared.item.Step.TheVariants.{More, Done};
-ghost use Rattle.example_xdr.specs.Pair.{pair_kinds, pair_bytes};
+ghost use Rattle.xdr_writer.specs.declared.refusal.Why.TheVariants.{Refused};
+ghost use Rattle.example_xdr.specs.Pair.{pair_kinds, pair_bytes, too_deep};
 
 use std::alloc::Global;
 use xdr_types::{KindId, Limits, Schema};
@@ -42,6 +43,25 @@ pub fn takes_the_first_of_a_pair(
 {
     let mut writer = Writer::start(alloc, schema, KindId { place: 2 }, limits);
     writer.put(Item::Number(3), out)
+}
+
+/// A value that is too deep before its first item is refused for that, whatever item is put.
+pub fn names_the_depth_before_an_item(
+    alloc: Global,
+    schema: &Schema,
+    limits: Limits,
+    item: Item<'_>,
+    out: &mut Vec<u8>,
+) -> Result<Step, WriteRefusal>
+    requires kinds { schema.now.kinds ≡ pair_kinds }
+    requires shallow { limits.depth ≡ 1 }
+    ensures refused { IsErr result }
+    ensures depth { IfErr result (λ f. IsKnown f.why → f.why ≡ Refused too_deep) }
+    ensures retained { out.new.items ≡ out.old.items }
+{
+    let _in_range = limits.depth();
+    let mut writer = Writer::start(alloc, schema, KindId { place: 2 }, limits);
+    writer.put(item, out)
 }
 
 /// A flag is never taken for a number, and nothing is written of it.

@@ -19,6 +19,7 @@ pub mod Programs
 pub mod Distinct
 pub mod Meaning
 pub mod Means
+pub mod OfTokens
 pub mod Before
 pub mod Views
 pub mod Private

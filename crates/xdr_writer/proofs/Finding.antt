@@ -1,12 +1,17 @@
 -- What is due, and what writing an item leaves.
 use Rattle.std.proofs.Common.{◌≡◌, ℕ, ◌%◌, ◌<◌, ◌≤◌, List, [], ◌++◌, length, refl, ap, subst, arith}
 use Rattle.std.proofs.Common.{append-nil, length-append}
-use Rattle.std.specs.Prelude.{Result, Ok, Err, MatchResult}
-use Rattle.xdr_types.specs.Kinds.{KindView}
+use Rattle.std.specs.Prelude.{Result, Ok, Err, MatchResult, ⊤}
+use Rattle.xdr_types.specs.Kinds.{KindView, Part}
 use Rattle.xdr_types.specs.Tree.{Tree}
 use Rattle.xdr_types.specs.Within.{Bounds}
-use Rattle.xdr_types.specs.Outcome.{Outcome, Whole}
+use Rattle.xdr_types.specs.Outcome.{Outcome, Pending, Whole}
+use Rattle.xdr_stream.specs.Trace.{Trace}
+use Rattle.xdr_stream.specs.Frames.{stack_of}
 use Rattle.xdr_stream.specs.Represents as reported
+use Rattle.xdr_stream.specs.declared.reader.State.{State}
+use Rattle.xdr_stream.specs.declared.reader.State.TheVariants.{Fresh, Reading, Finished, Failed}
+use Rattle.xdr_stream.proofs.Answering.{pending_on}
 use Rattle.xdr_due.specs.Due.{IsDue, IsNothing}
 use Rattle.xdr_due.specs.declared.due.Due.{Due}
 use Rattle.xdr_due.specs.declared.due.Due.TheVariants as due
@@ -26,17 +31,28 @@ same_self c = record { schema_is = refl; kind_is = refl; limits_are = refl }
 
 -- ---- what is due
 
-pub some_due : (d : Due) → (d ≡ due.Nothing → ⊥) → IsNothing d → ⊥
-some_due (due.Unit k) other h = h
-some_due (due.Content n) other h = h
-some_due (due.Hyper signed) other h = h
-some_due (due.Low signed) other h = h
-some_due due.Nothing other h = other refl
+waiting_as : (s : List KindView) (t : ℕ) (l : Bounds) (H : Trace → Type 0) (fs : List (List Part)) (read : ℕ)
+    (space : List ℕ) (pending : ℕ) (st : State) (b : List ℕ) → reported.IsWaiting st
+    → reported.RepresentsAs ⊤ s t l H fs read space pending st b → Outcome s t l b Pending
+waiting_as s t l H fs read space pending (Reading a) b w r = pending_on s t l H fs read space pending a b r
+waiting_as s t l H fs read space pending Fresh b w r = absurd w
+waiting_as s t l H fs read space pending Finished b w r = absurd w
+waiting_as s t l H fs read space pending (Failed f) b w r = absurd w
 
-pub found : (c : Checker) (d : Due) → ((b : List ℕ) → checks.RepresentsBytes c b → checks.HasDue c b d)
-    → (IsNothing d → ⊥) → FindsDue c c (Ok d)
-found c d here some = record {
-  says = λ b st units. (here b st, some);
+-- where a unit is needed, decoding the bytes so far has not ended
+pub pending_of : (c : Checker) (b : List ℕ) → checks.IsWaiting c → checks.RepresentsBytes c b
+    → Outcome (checks.kinds_of c) (checks.kind_of c).place (checks.limits_of c) b Pending
+pending_of c b w r =
+    let x = c.reader in
+    waiting_as x.schema.now.kinds x.kind.place x.limits (λ (t : Trace). ⊤) (stack_of x.work x.parents.items) x.read
+    x.unit x.pending x.state b w r
+
+pub found : (c : Checker) (d : Due) → checks.IsWaiting c
+    → ((b : List ℕ) → checks.RepresentsBytes c b → checks.HasDue c b d)
+    → ((b : List ℕ) → checks.RepresentsBytes c b → checks.IsWaiting c → length b % 4 ≡ 0 → IsNothing d → ⊥)
+    → FindsDue c c (Ok d)
+found c d waits here some = record {
+  says = λ b st units. (here b st, some b st waits units, pending_of c b waits st);
   represents = λ b st. st;
   same = same_self c;
   sound = λ g. g;
@@ -66,6 +82,8 @@ module _ (c d : Checker) where
       back (λ (s : List KindView) (t : ℕ) (l : Bounds). IsDue s t l b x) c d h.same
           (here b (given b (h.judged b st).represents)),
       some b (given b (h.judged b st).represents) (h.waits refl) units,
+      subst (λ (z : List ℕ). Outcome (checks.kinds_of c) (checks.kind_of c).place (checks.limits_of c) z Pending)
+          (append-nil b) (h.judged b st).says,
     );
     represents = λ b st. given b (h.judged b st).represents;
     same = h.same;
@@ -124,15 +142,21 @@ module _ (c d : Checker) (u : List ℕ) where
       omega (arith, ap (λ (z : List ℕ). length z) written, length-append before u, some),
       omega (arith, ap (λ (z : List ℕ). length z) written, length-append before u, low),
     );
+    waits = h.waits;
   }
   kept_by space before after (Err w) h written some low =
-      record { same = h.same; sound = h.sound; grows = tt }
+      record { same = h.same; sound = h.sound; grows = tt; waits = h.waits }
 
 -- a refusal before anything was judged
 pub kept_all : (c : Checker) (space : ℕ) (before : List ℕ) (w : Why) → Kept c c space before before (Err w)
-kept_all c space before w = record { same = same_self c; sound = λ g. tt; grows = tt }
+kept_all c space before w = record { same = same_self c; sound = λ g. tt; grows = tt; waits = λ e. absurd (cc e) }
 
 pub keeps_since : (c m d : Checker) (space : ℕ) (before after : List ℕ) (r : Result Step Why) → checks.IsSame c m
     → (IsSound c → IsSound m) → Kept m d space before after r → Kept c d space before after r
 keeps_since c m d space before after r same sound k =
-    record { same = same_then c m d same k.same; sound = λ g. k.sound (sound g); grows = k.grows }
+    record {
+      same = same_then c m d same k.same;
+      sound = λ g. k.sound (sound g);
+      grows = k.grows;
+      waits = k.waits;
+    }

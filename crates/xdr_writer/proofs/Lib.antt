@@ -13,3 +13,4 @@ pub mod Coding
 pub mod OneMore
 pub mod Refusing
 pub mod Taken
+pub mod Told

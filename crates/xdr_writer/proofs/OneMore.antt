@@ -5,6 +5,7 @@ use Rattle.std.specs.Prelude.{None, Result, Ok, Err, IfOk, IfErr, MatchResult}
 use Rattle.xdr_types.specs.Kinds.{KindView, Lists, kind_at}
 use Rattle.xdr_types.specs.Within.{Bounds}
 use Rattle.xdr_types.specs.Layout.{Entry}
+use Rattle.xdr_types.specs.Outcome.{Outcome, Pending}
 use Rattle.xdr_due.specs.declared.due.Due.{Due}
 use Rattle.xdr_codec.specs.Checks as checks
 use Rattle.xdr_codec.specs.declared.checker.Checker.{Checker}
@@ -75,15 +76,17 @@ module _ (c m d : Checker) (is : List NodeItem) (i : ItemView) (u : List ℕ) (e
             (all_units is) (units_of (kind_at (checks.kinds_of c) e.kind) i u known some) x says));
       }
 
-  pub refused_item : (space : ℕ) (w : Why) → IsJudgedWithin m d space (all_spelled is) u (Err w)
+  pub refused_item : Outcome (checks.kinds_of c) (checks.kind_of c).place (checks.limits_of c) (all_spelled is) Pending
+      → (space : ℕ) (w : Why) → IsJudgedWithin m d space (all_spelled is) u (Err w)
       → space ≡ (checks.limits_of c).bytes - length (all_spelled is)
       → Refuses (checks.kinds_of c) (checks.kind_of c).place (checks.limits_of c) is i w
-  refused_item space w judged room =
+  refused_item pending space w judged room =
       let says : SaysWithin (checks.kinds_of c) (checks.kind_of c).place (checks.limits_of c) space (all_spelled is) u
       (Err w) =
       back (λ (s : List KindView) (t : ℕ) (l : Bounds). SaysWithin s t l space (all_spelled is) u (Err w)) c m first
       judged.says in
-      within_refuse (checks.kinds_of c) (checks.kind_of c).place (checks.limits_of c) is r.begin e p i units space room
+      within_refuse (checks.kinds_of c) (checks.kind_of c).place (checks.limits_of c) is r.begin e p i pending units
+      space room
       form range (subst (λ (z : List ℕ). 4 ≤ length z) known some) w
       (subst (λ (z : List ℕ). SaysWithin (checks.kinds_of c) (checks.kind_of c).place (checks.limits_of c) space
       (all_spelled is) z (Err w)) known says)
@@ -103,7 +106,8 @@ module _ (c : Checker) (schema : Lists) (of : checks.schema_of c ≡ schema)
   pub form_refused : (w : Why) → Coded_by schema.kinds d i (Err w)
       → Refuses (checks.kinds_of c) (checks.kind_of c).place (checks.limits_of c) is i w
   form_refused w h =
-      coded_refuse (checks.kinds_of c) (checks.kind_of c).place (checks.limits_of c) is r.begin stands.0 stands.1 i w
+      coded_refuse (checks.kinds_of c) (checks.kind_of c).place (checks.limits_of c) is r.begin stands.0 stands.1 i
+      says.2 w
       (becomes (Err w) h)
 
   pub form_known : (w : Why) → Coded_by schema.kinds d i (Err w) → w ≡ NoMemory → ⊥
@@ -132,7 +136,8 @@ module _ (c : Checker) (schema : Lists) (of : checks.schema_of c ≡ schema)
         → Refuses (checks.kinds_of c) (checks.kind_of c).place (checks.limits_of c) is i w
     form_refuses w judged room =
         let k = becomes (Ok u) h in
-        refused_item c m x is i (coded_bytes u) stands.0 stands.1 r k.0 k.1 k.2 k.3 units first same space w judged room
+        refused_item c m x is i (coded_bytes u) stands.0 stands.1 r k.0 k.1 k.2 k.3 units first same says.2 space w
+        judged room
 
 -- an item that is written where this is due
 module _ (c m x : Checker) (schema : Lists) (of : checks.schema_of c ≡ schema)

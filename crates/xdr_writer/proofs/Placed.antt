@@ -91,11 +91,11 @@ stands_within s t v e f has =
 
 -- ---- ranges
 
-truth_range : (b : Bool) → is_in_unit xdr.boolean (number_of b) ≡ true
+pub truth_range : (b : Bool) → is_in_unit xdr.boolean (number_of b) ≡ true
 truth_range true = refl
 truth_range false = refl
 
-tag_range : (k : KindView) (z : ℤ) → is_tag_of k z ≡ true → is_in_unit k z ≡ true
+pub tag_range : (k : KindView) (z : ℤ) → is_tag_of k z ≡ true → is_in_unit k z ≡ true
 tag_range xdr.int z h = h
 tag_range xdr.unsigned z h = h
 tag_range xdr.boolean (pos n) h = let below = ltb-true n 2 h in lt-ltb n (2 ^ 32) (omega arith)
@@ -103,7 +103,7 @@ tag_range xdr.boolean (negsuc n) h = never h
 tag_range (xdr.numbered constants) z h = (parted _ _ h).0
 tag_range _ z h = never h
 
-length_range : (most n : ℕ) → is_length most n ≡ true → n < 2 ^ 32
+pub length_range : (most n : ℕ) → is_length most n ≡ true → n < 2 ^ 32
 length_range most n h = ltb-true n (2 ^ 32) (parted _ _ h).1
 
 module _ (s : List KindView) where

@@ -10,7 +10,7 @@ use Rattle.xdr_types.specs.Fits.{Fits}
 use Rattle.xdr_types.specs.Spelling.{bytes_of}
 use Rattle.xdr_types.specs.Within.{Bounds}
 use Rattle.xdr_types.specs.Layout.{Entry, entries}
-use Rattle.xdr_types.specs.Outcome.{HasNextUnit}
+use Rattle.xdr_types.specs.Outcome.{HasNextUnit, Outcome, Pending}
 use Rattle.xdr_codec.proofs.Outcomes.{pending_none}
 use Rattle.xdr_due.specs.Due.{IsDue, IsNothing}
 use Rattle.xdr_due.specs.declared.due.Due.{Due}
@@ -161,8 +161,8 @@ module _ (s : List KindView) (t : ℕ) (l : Bounds) (is : List NodeItem) (begin 
         (omega (arith, bytes.1, length-append (spelled n.0) (all_spelled n.1))) bytes.0
 
     pub refused_none : (w : Why) → Refuses s t l is i w → IsKnown w → HasNoValue s t l is i
-    refused_none why.WrongItem h known = wrong_none h.0 h.1 h.2
-    refused_none why.NotInRange h known = far_none h.0 h.1 h.3
+    refused_none why.WrongItem h known = let r = h.1 in wrong_none r.0 r.1 r.2
+    refused_none why.NotInRange h known = let r = h.1 in far_none r.0 r.1 r.3
     refused_none (why.Refused f) h known = elim h.1 [
       | inl before ↦ before_none (fault_none s t l units f (all_spelled is) h.0 before)
       | inr there ↦ bytes_none there.0 there.1
@@ -174,15 +174,17 @@ module _ (s : List KindView) (t : ℕ) (l : Bounds) (is : List NodeItem) (begin 
           (past_none s t l units (all_spelled is) (spelled_as (kind_at s there.0.kind) i) there.4.1
           there.4.2 there.4.3)
     ]
-    refused_none why.PastLimit h known = bytes_none h.0 h.1
-        (limit_none s t l units (all_spelled is ++ spelled_as (kind_at s h.0.kind) i) h.4)
+    refused_none why.PastLimit h known =
+        let r = h.1 in
+        bytes_none r.0 r.1 (limit_none s t l units (all_spelled is ++ spelled_as (kind_at s r.0.kind) i) r.4)
     refused_none why.Unfinished h known = absurd h
     refused_none why.NoMemory h known = absurd known
 
   -- ---- at that part
 
   module _ (e : Entry) (p : IsPlace s t (all_spelled is) e) (i : ItemView) where
-    module _ (units : l.bytes % 4 ≡ 0) (space : ℕ) (room : space ≡ l.bytes - length (all_spelled is))
+    module _ (pending : Outcome s t l (all_spelled is) Pending) (units : l.bytes % 4 ≡ 0) (space : ℕ)
+        (room : space ≡ l.bytes - length (all_spelled is))
         (form : HasForm (kind_at s e.kind) e.role i) (range : HasRange s (kind_at s e.kind) i)
         (some : 4 ≤ length (spelled_as (kind_at s e.kind) i)) where
       low : length (spelled_as (kind_at s e.kind) i) ≤ space
@@ -206,6 +208,7 @@ module _ (s : List KindView) (t : ℕ) (l : Bounds) (is : List NodeItem) (begin 
             ),
           )
       within_refuse why.PastLimit h = (
+        pending,
         e,
         p.next,
         form,
@@ -217,14 +220,15 @@ module _ (s : List KindView) (t : ℕ) (l : Bounds) (is : List NodeItem) (begin 
       within_refuse why.NotInRange h = absurd h.1
       within_refuse why.Unfinished h = absurd h.1
 
-    pub coded_refuse : (w : Why) → Becomes s (kind_at s e.kind) e.role i (Err w) → Refuses s t l is i w
-    coded_refuse why.WrongItem h = (e, p.next, h)
-    coded_refuse why.NotInRange h = (e, p.next, h.0, h.1)
-    coded_refuse (why.Refused f) h = absurd h
-    coded_refuse why.PastEnd h = absurd h
-    coded_refuse why.PastLimit h = absurd h
-    coded_refuse why.Unfinished h = absurd h
-    coded_refuse why.NoMemory h = absurd h
+    pub coded_refuse : Outcome s t l (all_spelled is) Pending → (w : Why)
+        → Becomes s (kind_at s e.kind) e.role i (Err w) → Refuses s t l is i w
+    coded_refuse pending why.WrongItem h = (pending, e, p.next, h)
+    coded_refuse pending why.NotInRange h = (pending, e, p.next, h.0, h.1)
+    coded_refuse pending (why.Refused f) h = absurd h
+    coded_refuse pending why.PastEnd h = absurd h
+    coded_refuse pending why.PastLimit h = absurd h
+    coded_refuse pending why.Unfinished h = absurd h
+    coded_refuse pending why.NoMemory h = absurd h
 
     pub stands_at : HasForm (kind_at s e.kind) e.role i → IsInRange s (kind_at s e.kind) i
         → IsAt s e (of_node (kind_at s e.kind) i)
@@ -254,7 +258,7 @@ module _ (s : List KindView) (t : ℕ) (l : Bounds) (is : List NodeItem) (begin 
       absurd (no_whole v f (bytes_behind s t v is [] f known ∙ append-nil (all_spelled is)))
   front_items no_whole v f (r ∷ rs) known = (v, f, r, rs, known)
 
-  begun_items : BegunBytes s t l (all_spelled is) → IsBegun s t l is
+  pub begun_items : BegunBytes s t l (all_spelled is) → IsBegun s t l is
   begun_items g =
       let k = begin.by_bytes g.front.0 g.front.1.1 g.front.1.0 g.front.1.2 in
       record {

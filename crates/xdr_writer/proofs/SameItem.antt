@@ -30,7 +30,7 @@ wide_same (pos m) (pos n) h k e = ap pos (unsigned8 m n h k e)
 wide_same (negsuc m) b h k e = never h
 wide_same a (negsuc n) h k e = never k
 
-flags : (a b : Bool) (x y : List ℕ) → num4 (number_of a) ++ x ≡ num4 (number_of b) ++ y → a ≡ b
+pub flags : (a b : Bool) (x y : List ℕ) → num4 (number_of a) ++ x ≡ num4 (number_of b) ++ y → a ≡ b
 flags true true x y e = refl
 flags false false x y e = refl
 flags true false x y e =
@@ -71,7 +71,7 @@ by_role : (k : KindView) (n : ℕ) (a b : Role) → a ≡ b → IsContentOf k n 
 by_role k n a b e h = subst (λ (r : Role). IsContentOf k n r) e h
 
 module _ (s : List KindView) where
-  numbers : (k : KindView) (a b : ℤ) (x y : List ℕ) → is_in_range s k a ≡ true → is_in_range s k b ≡ true
+  pub numbers : (k : KindView) (a b : ℤ) (x y : List ℕ) → is_in_range s k a ≡ true → is_in_range s k b ≡ true
       → spelled_as k (number a) ++ x ≡ spelled_as k (number b) ++ y → a ≡ b
   numbers xdr.hyper a b x y h k e = signed8 a b h k (num8-front a b x y e).0
   numbers xdr.unsigned_hyper a b x y h k e = wide_same a b h k (num8-front a b x y e).0

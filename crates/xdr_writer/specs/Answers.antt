@@ -64,13 +64,19 @@ NextBytes kinds kind b i Said =
 abbrev pub IsOfBytes : DecodeFault → Type 0
 IsOfBytes f = f.why ≡ reason.NoMemory → ⊥
 
--- What a refusal says of the items so far and the next: of more than one reason the first counts, its form, its range,
--- the limit on bytes, and what decoding its bytes says.
+-- decoding the bytes b has not ended
+abbrev pub IsPending : List KindView → (kind : ℕ) → Bounds → (b : List ℕ) → Type 0
+IsPending kinds kind limits b = Outcome kinds kind limits b outcome.Pending
+
+-- What a refusal says of the items so far and the next: of more than one reason the first counts, what decoding the
+-- bytes so far says, the item's form, its range, the limit on bytes, and what decoding its bytes says.
 abbrev pub Refuses : List KindView → (kind : ℕ) → Bounds → (is : List NodeItem) → ItemView → Why → Type 0
 Refuses kinds kind limits is i why.WrongItem =
-    (e : Entry) × IsNext kinds kind (all_spelled is) e × (HasForm (kind_at kinds e.kind) e.role i → ⊥)
+    IsPending kinds kind limits (all_spelled is)
+    × (e : Entry) × IsNext kinds kind (all_spelled is) e × (HasForm (kind_at kinds e.kind) e.role i → ⊥)
 Refuses kinds kind limits is i why.NotInRange =
-    (e : Entry) × IsNext kinds kind (all_spelled is) e × HasForm (kind_at kinds e.kind) e.role i
+    IsPending kinds kind limits (all_spelled is)
+    × (e : Entry) × IsNext kinds kind (all_spelled is) e × HasForm (kind_at kinds e.kind) e.role i
     × (IsInRange kinds (kind_at kinds e.kind) i → ⊥)
 Refuses kinds kind limits is i (why.Refused f) =
     IsOfBytes f × (reported.Fails kinds kind limits f (all_spelled is)
@@ -83,7 +89,8 @@ Refuses kinds kind limits is i why.PastEnd =
     (λ u. (length (all_spelled is ++ u) ≤ limits.bytes)
     × (n : ℕ) × (n < length u) × IsEncoding kinds kind limits (all_spelled is ++ take n u))
 Refuses kinds kind limits is i why.PastLimit =
-    NextBytes kinds kind (all_spelled is) i (λ u. limits.bytes < length (all_spelled is ++ u))
+    IsPending kinds kind limits (all_spelled is)
+    × NextBytes kinds kind (all_spelled is) i (λ u. limits.bytes < length (all_spelled is ++ u))
 Refuses kinds kind limits is i why.Unfinished = ⊥
 Refuses kinds kind limits is i why.NoMemory = ⊤
 

@@ -5,3 +5,5 @@ pub mod Represents
 pub mod Answers
 pub mod Laws
 pub mod Private
+pub mod Told
+pub mod Sinking

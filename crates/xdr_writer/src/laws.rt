@@ -2,6 +2,7 @@
 ghost use Rattle.std.specs.Prelude.{List};
 ghost use Rattle.xdr_types.specs.Kinds.{KindView};
 ghost use Rattle.xdr_writer.specs.Laws.{ItemsJoin, ItemsTellValue, ItemsAreTaken};
+ghost use Rattle.xdr_writer.specs.Told.{PartsTellItems};
 
 /// The bytes of a value's items, joined, are its encoding (RFC 4506 section 4).
 pub fn items_join()
@@ -18,4 +19,10 @@ pub fn items_tell_value()
 /// without items, a void, has it at once.
 pub fn items_are_taken()
     ensures { (kinds : List KindView) → ItemsAreTaken kinds }
+{}
+
+/// The parts of a value tell its items by their bytes, and no others. Put into a writer they give the value's bytes
+/// again.
+pub fn parts_tell_items()
+    ensures { (kinds : List KindView) → PartsTellItems kinds }
 {}

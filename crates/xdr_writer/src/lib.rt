@@ -4,6 +4,7 @@
 //! - `item`: the items of a value, and what each brings. `refusal`: why an item is refused.
 //! - `forms`: what becomes of an item, by what is due. `units`: its bytes.
 //! - `judging`: what decoding says of its bytes. `taking`: what is due, and an item judged and then written.
+//! - `sinking`: an item whose bytes go to a sink.
 //! - `laws`: theorems about items and values.
 #![tactic(auto)]
 
@@ -12,10 +13,12 @@ mod item;
 mod judging;
 pub mod laws;
 mod refusal;
+mod sinking;
 mod taking;
 mod units;
 mod writer;
 
 pub use item::{Item, Step};
 pub use refusal::{Why, WriteRefusal};
+pub use sinking::PutFault;
 pub use writer::Writer;

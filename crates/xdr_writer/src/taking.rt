@@ -1,6 +1,7 @@
 //! An item taken: what is due, its form, and its bytes judged and then written.
 ghost use Rattle.std.specs.Prelude.{◌≡◌, ◌≤◌, ◌+◌, ◌%◌, List, ℕ, length, IfOk, IfErr, MatchResult, vec_capacity, ◌++◌};
-ghost use Rattle.xdr_codec.specs.Checks.{RepresentsBytes, schema_of, limits_of};
+ghost use Rattle.std.specs.Prelude.{true};
+ghost use Rattle.xdr_codec.specs.Checks.{RepresentsBytes, schema_of, limits_of, IsWaiting};
 ghost use Rattle.xdr_writer.specs.Items.{NodeItem, item_view};
 ghost use Rattle.xdr_writer.specs.Answers.{most_bytes};
 ghost use Rattle.xdr_writer.specs.Private.Bytes.{coded_bytes, pieces_bytes};
@@ -27,14 +28,16 @@ fn first_due(checker: &mut Checker<'_>) -> Result<Due, Why>
     }
 }
 
-// What is due after the bytes so far.
-fn next_due(checker: &mut Checker<'_>) -> Result<Due, Why>
+// What is due after the bytes so far, where a unit is known to be needed or nothing is known.
+fn next_due(checker: &mut Checker<'_>, waits: bool) -> Result<Due, Why>
+    requires { waits ≡ true → IsWaiting checker.old }
     ensures finds { FindsDue checker.old checker.new result }
     ensures granted { Grants checker.old result }
 {
-    match checker.due() {
-        Due::Nothing => first_due(checker),
-        due => Ok(due),
+    if waits {
+        Ok(checker.due())
+    } else {
+        first_due(checker)
     }
 }
 
@@ -83,10 +86,12 @@ fn write_within(
     write(checker, &pieces, out)
 }
 
-/// Takes the next item where there is so much space: its bytes are judged, and then written.
+/// Takes the next item where there is so much space: its bytes are judged, and then written. Whether a unit is needed
+/// need not be known.
 pub(crate) fn take(
     checker: &mut Checker<'_>,
     schema: &Schema,
+    waits: bool,
     space: usize,
     item: Item<'_>,
     out: &mut Vec<u8>,
@@ -94,6 +99,7 @@ pub(crate) fn take(
     requires schema { schema_of checker.old ≡ schema.now }
     requires units { (limits_of checker.old).bytes % 4 ≡ 0 }
     requires low { space ≤ 16777216 }
+    requires waiting { waits ≡ true → IsWaiting checker.old }
     ensures took { IfOk result (λ s. (is : List NodeItem) → IsAfter checker.old is
         → TookItem checker.old checker.new is (item_view item.entry) out.old.items out.new.items s) }
     ensures refuses { IfErr result
@@ -102,7 +108,7 @@ pub(crate) fn take(
     ensures granted { (is : List NodeItem) → IsAfter checker.old is
         → length out.old.items + most_bytes (item_view item.entry) ≤ vec_capacity out.old → Grants checker.old result }
 {
-    let due = match next_due(checker) {
+    let due = match next_due(checker, waits) {
         Ok(due) => due,
         Err(why) => return Err(why),
     };

@@ -1,5 +1,5 @@
 //! A writer, and what it is asked: the next item, the count of the value's bytes.
-ghost use Rattle.std.specs.Prelude.{◌≡◌, ◌≤◌, None};
+ghost use Rattle.std.specs.Prelude.{◌≡◌, ◌≤◌, None, true};
 ghost use Rattle.xdr_codec.specs.Checks as checks;
 ghost use Rattle.xdr_stream.specs.declared.fault.DecodeFault.{DecodeFault};
 
@@ -22,10 +22,13 @@ pub struct Writer<'s> {
     /// How many items are taken.
     pub(crate) count: usize,
     pub(crate) refused: Option<WriteRefusal>,
+    /// Whether a unit is known to be needed.
+    pub(crate) waits: bool,
     ghost few: { count ≤ written },
     ghost low: { written ≤ 16777216 },
     ghost limits_are: { checker.reader.limits ≡ limits },
     ghost schema_is: { checker.reader.schema.now ≡ schema.now },
+    ghost waiting: { waits ≡ true → checks.IsWaiting checker },
     ghost sound: { refused ≡ None → (f : DecodeFault) → checks.HasFailed checker f → ⊥ },
 }
 
@@ -53,6 +56,7 @@ impl<'s> Writer<'s> {
             written: 0,
             count: 0,
             refused: None,
+            waits: false,
         }
     }
 
@@ -88,10 +92,16 @@ impl<'s> Writer<'s> {
         let schema = self.schema;
         let before = out.len();
         let space = (self.limits.bytes() as usize).saturating_sub(self.written);
-        match take(&mut self.checker, schema, space, item, out) {
+        let waits = self.waits;
+        self.waits = false;
+        match take(&mut self.checker, schema, waits, space, item, out) {
             Ok(step) => {
                 self.written += out.len() - before;
                 self.count += 1;
+                self.waits = match step {
+                    Step::More => true,
+                    Step::Done => false,
+                };
                 Ok(step)
             }
             Err(why) => {

@@ -3,7 +3,7 @@ use Rattle.std.specs.Prelude.{◌≡◌, ℕ, ◌-◌, ◌%◌, List, [], ◌∷
 use Rattle.xdr_types.specs.Kinds.{KindView}
 use Rattle.xdr_types.specs.Tree.{Tree}
 use Rattle.xdr_types.specs.Within.{Bounds}
-use Rattle.xdr_types.specs.Outcome.{Outcome, Whole}
+use Rattle.xdr_types.specs.Outcome.{Outcome, Pending, Whole}
 use Rattle.xdr_stream.specs.Represents as reported
 use Rattle.xdr_due.specs.Due.{IsDue, IsNothing}
 use Rattle.xdr_due.specs.declared.due.Due.{Due}
@@ -26,7 +26,8 @@ HasNothingDue kinds kind limits b _ = ⊥
 
 -- what is due after the bytes b, or why nothing is
 abbrev pub SaysDue : List KindView → (kind : ℕ) → Bounds → (b : List ℕ) → Result Due Why → Type 0
-SaysDue kinds kind limits b (Ok d) = IsDue kinds kind limits b d × (IsNothing d → ⊥)
+SaysDue kinds kind limits b (Ok d) =
+    IsDue kinds kind limits b d × (IsNothing d → ⊥) × Outcome kinds kind limits b Pending
 SaysDue kinds kind limits b (Err w) = HasNothingDue kinds kind limits b w
 
 -- what a call that looks for what is due says and leaves

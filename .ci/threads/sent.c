@@ -1,0 +1,94 @@
+/* Handles that go from thread to thread: each is made on one, used on three under one lock, and given back on another.
+ * It prints how many answers were wrong. */
+#include <pthread.h>
+#include <stdint.h>
+#include <stdio.h>
+#include <string.h>
+
+#include "oncrpc.h"
+
+enum { ROUNDS = 200, THREADS = 3 };
+
+static const char text[] = "struct file { string name<255>; bool open; };";
+static const uint8_t file[12] = "\0\0\0\3abc\0\0\0\0\1";
+static const uint8_t record[7] = "\200\0\0\3xyz";
+
+/* What the threads share, under the lock. */
+static struct {
+    pthread_mutex_t lock;
+    oncrpc_declarations declarations;
+    oncrpc_registry registry;
+    oncrpc_records records;
+    uint32_t rows;
+    size_t wrong;
+} shared = {PTHREAD_MUTEX_INITIALIZER, ONCRPC_NONE, ONCRPC_NONE, ONCRPC_NONE, 0, 0};
+
+static void want(int is_right) {
+    shared.wrong += !is_right;
+}
+
+static void *make(void *nothing) {
+    oncrpc_outcome outcome;
+    pthread_mutex_lock(&shared.lock);
+    want(oncrpc_declarations_read(text, sizeof text - 1, &shared.declarations, &outcome) == ONCRPC_OK);
+    want(oncrpc_registry_start(&shared.registry, 111, "no peer knows it", 16, &outcome) == ONCRPC_OK);
+    want(oncrpc_records_start(&shared.records, 65536, &outcome) == ONCRPC_OK);
+    pthread_mutex_unlock(&shared.lock);
+    return nothing;
+}
+
+/* One use of each handle. */
+static void use(void) {
+    oncrpc_outcome outcome;
+    uint8_t taken[3];
+    uint32_t program = 400000 + shared.rows;
+    want(oncrpc_declarations_check(&shared.declarations, "file", 4, 2, 1024, file, sizeof file, &outcome) == ONCRPC_OK);
+    want(oncrpc_registry_set(&shared.registry, program, 1, "tcp", 3, "1.2.3.4.8.1", 11, "1", 1, &outcome) == ONCRPC_OK);
+    shared.rows++;
+    want(oncrpc_records_feed(&shared.records, record, sizeof record, &outcome) == ONCRPC_OK);
+    want(oncrpc_records_take(&shared.records, taken, sizeof taken, &outcome) == ONCRPC_OK);
+    want(!memcmp(taken, "xyz", 3));
+}
+
+static void *use_again(void *nothing) {
+    for (int i = 0; i < ROUNDS; i++) {
+        pthread_mutex_lock(&shared.lock);
+        use();
+        pthread_mutex_unlock(&shared.lock);
+    }
+    return nothing;
+}
+
+static void *give_back(void *nothing) {
+    oncrpc_outcome outcome;
+    pthread_mutex_lock(&shared.lock);
+    want(oncrpc_records_end(&shared.records, &outcome) == ONCRPC_OK);
+    want(shared.rows == ROUNDS * THREADS);
+    oncrpc_declarations_free(&shared.declarations);
+    oncrpc_registry_free(&shared.registry);
+    oncrpc_records_free(&shared.records);
+    pthread_mutex_unlock(&shared.lock);
+    return nothing;
+}
+
+/* Runs a function on so many threads, and waits for them. */
+static void on(int count, void *(*run)(void *)) {
+    pthread_t threads[THREADS];
+    for (int i = 0; i < count; i++) {
+        if (pthread_create(&threads[i], NULL, run, NULL)) {
+            count = i;
+            want(0);
+        }
+    }
+    for (int i = 0; i < count; i++) {
+        pthread_join(threads[i], NULL);
+    }
+}
+
+int main(void) {
+    on(1, make);
+    on(THREADS, use_again);
+    on(1, give_back);
+    printf("wrong %zu\n", shared.wrong);
+    return shared.wrong != 0;
+}

@@ -1,0 +1,8 @@
+//! Worked facts that the contracts of rpcgen's dialect force, proved from the contracts alone.
+//!
+//! - `lines`: texts without their lines of `%` and `#`
+//! - `rewritings`: tokens in place of tokens
+#![tactic(auto)]
+
+pub mod lines;
+pub mod rewritings;

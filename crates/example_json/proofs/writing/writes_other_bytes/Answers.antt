@@ -1,0 +1,10 @@
+use Rattle.std.proofs.Common.{rules}
+use Rattle.std.specs.Char.{encode_utf8}
+use Rattle.std.specs.Str.{chars, is_utf8}
+use Rattle.hex.specs.Hex.{encode_with}
+use Rattle.json.specs.Print.{print_from, escape_byte}
+use Rattle.example_json.proofs.writing.writes_other_bytes.Goals as goal
+
+pub returns : goal.returns
+unfolding chars encode_utf8 is_utf8 encode_with print_from escape_byte
+returns c = search rules

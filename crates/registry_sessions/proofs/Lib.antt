@@ -1,0 +1,11 @@
+pub mod Marks
+pub mod Outputs
+pub mod Refused
+pub mod Steps
+pub mod Orders
+pub mod One
+pub mod Tables
+pub mod Events
+pub mod Places
+pub mod Calls
+pub mod Alone

@@ -1,0 +1,105 @@
+-- Many connections over one registry: what came in an order, and the records and datagrams in the order in which their
+-- last byte came (RFC 5531 sections 9 and 11).
+use Rattle.std.specs.Prelude.{◌≡◌, ℕ, ◌+◌, nat_eq, if◌then◌else◌, Bool, true, false, List, [], ◌∷◌, ◌++◌}
+use Rattle.std.specs.List.{flat_map}
+use Rattle.rpc_record.specs.Marked.{Longest}
+use Rattle.registry_rows.specs.Ports.{tcp, udp}
+use Rattle.rpc_engine.specs.Served.{most_record}
+
+-- ---- what came
+
+-- An event at the registry's table of connections. Each connection has a number of its own, which no later one gets.
+pub data Event : Type 0 where
+  -- a connection began
+  Opens : (connection : ℕ) → Event
+  -- these bytes of a connection were taken
+  Brings : (connection : ℕ) → (bytes : List ℕ) → Event
+  -- these bytes of a connection were dropped: memory was refused for them, or a fault had come before
+  Drops : (connection : ℕ) → (bytes : List ℕ) → Event
+  -- a write of a connection took so many bytes of its output
+  Took : (connection : ℕ) → (count : ℕ) → Event
+  -- a connection ended, and what of its output no write had taken is dropped
+  Ends : (connection : ℕ) → Event
+  -- a datagram came
+  Came : (bytes : List ℕ) → Event
+
+-- the bytes that an event brings of a connection
+abbrev pub bytes_in : ℕ → Event → List ℕ
+bytes_in i (Brings j bytes) = if nat_eq i j then bytes else []
+bytes_in i _ = []
+
+-- how many bytes of a connection's output a write took
+abbrev pub count_in : ℕ → Event → ℕ
+count_in i (Took j count) = if nat_eq i j then count else 0
+count_in i _ = 0
+
+-- whether a connection is open after an event, where this says whether it was before
+abbrev pub opened_by : ℕ → Bool → Event → Bool
+opened_by i was (Opens j) = if nat_eq i j then true else was
+opened_by i was (Ends j) = if nat_eq i j then false else was
+opened_by i was _ = was
+
+-- the datagram of an event
+abbrev pub datagram_in : Event → List (List ℕ)
+datagram_in (Came bytes) = bytes ∷ []
+datagram_in _ = []
+
+-- the bytes of a connection: those of its events, joined
+abbrev pub brought : ℕ → List Event → List ℕ
+brought i events = flat_map (bytes_in i) events
+
+-- how many bytes of its output writes took
+abbrev pub written : ℕ → List Event → ℕ
+written i [] = 0
+written i (e ∷ events) = count_in i e + written i events
+
+-- whether it is open after them, where this says whether it was before
+abbrev pub open_after : ℕ → Bool → List Event → Bool
+open_after i was [] = was
+open_after i was (e ∷ events) = open_after i (opened_by i was e) events
+
+-- ---- the records, in the order in which their last byte came
+
+-- a record of a connection, or a datagram
+pub data Arrival : Type 0 where
+  Record : (connection : ℕ) → (message : List ℕ) → Arrival
+  Datagram : (message : List ℕ) → Arrival
+
+abbrev pub message_of : Arrival → List ℕ
+message_of (Record i message) = message
+message_of (Datagram message) = message
+
+-- connections are over TCP, and datagrams over UDP (RFC 5665 section 5.1)
+abbrev pub transport_of : Arrival → List ℕ
+transport_of (Record i message) = tcp
+transport_of (Datagram message) = udp
+
+-- the record, where it is this connection's
+abbrev pub record_in : ℕ → Arrival → List (List ℕ)
+record_in i (Record j message) = if nat_eq i j then message ∷ [] else []
+record_in i (Datagram message) = []
+
+abbrev pub arrived_in : Arrival → List (List ℕ)
+arrived_in (Datagram message) = message ∷ []
+arrived_in (Record i message) = []
+
+-- a connection's own records
+abbrev pub records_of : ℕ → List Arrival → List (List ℕ)
+records_of i arrivals = flat_map (record_in i) arrivals
+
+-- With these events just these have arrived: of each connection the whole records of its bytes, those of the longest
+-- front that is a stream of records within the limit, and the datagrams.
+pub record HaveArrived (events : List Event) (arrivals : List Arrival) : Type 0 where
+  pub records : (i : ℕ) → Longest most_record (records_of i arrivals) (brought i events)
+  pub datagrams : flat_map arrived_in arrivals ≡ flat_map datagram_in events
+
+-- All of them have arrived, in this order: at every moment, after some first events, just the first so many had.
+pub record InOrder (events : List Event) (arrivals : List Arrival) : Type 0 where
+  pub all : HaveArrived events arrivals
+  pub each : (front rest : List Event) → events ≡ front ++ rest
+      → (first : List Arrival) × ((others : List Arrival) × ((arrivals ≡ first ++ others) × HaveArrived front first))
+
+-- Events have one order of arrivals.
+abbrev pub OneOrder : Type 0
+OneOrder = (events : List Event) (arrivals others : List Arrival) → InOrder events arrivals → InOrder events others
+    → arrivals ≡ others

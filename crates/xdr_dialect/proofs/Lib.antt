@@ -1,0 +1,5 @@
+pub mod Joined
+pub mod Places
+pub mod Sections
+pub mod Same
+pub mod Staying

@@ -1,0 +1,14 @@
+pub use Rattle.xdr_tokens.specs.Bytes
+pub use Rattle.xdr_tokens.specs.Keywords
+pub use Rattle.xdr_tokens.specs.Tokens
+pub mod Answers
+pub mod Spots
+pub mod Directives
+pub mod Plain
+pub mod Tests
+pub mod Scopes
+pub mod Rewriting
+pub mod Library
+pub mod Dialect
+pub mod Laws
+pub mod Private

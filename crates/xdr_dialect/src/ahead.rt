@@ -1,0 +1,122 @@
+//! What the tokens in front are.
+ghost use Rattle.std.specs.Prelude.{◌≡◌, ◌||◌};
+ghost use Rattle.xdr_tokens.specs.Tokens.{lexemes};
+ghost use Rattle.xdr_dialect.specs.Tests.{is_word, is_sign, is_name, is_named, is_number, first_is, rest};
+ghost use Rattle.xdr_dialect.specs.Rewriting.{is_whole, is_quoted, begins_body, ends_member, is_define};
+ghost use Rattle.xdr_dialect.specs.Rewriting.{an_int, three_equal};
+
+use xdr_tokens::{Keyword, Mark, Token};
+
+/// What follows the token in front.
+pub(crate) fn rest<'t, 'a>(tokens: &'t [Token<'a>]) -> &'t [Token<'a>]
+    ensures { lexemes result.now ≡ rest (lexemes tokens.now) }
+{
+    match tokens {
+        [_, others @ ..] => others,
+        [] => tokens,
+    }
+}
+
+/// The keyword is in front.
+pub(crate) fn word(tokens: &[Token<'_>], wanted: Keyword) -> bool
+    ensures { result ≡ first_is (is_word wanted) (lexemes tokens.now) }
+{
+    match tokens {
+        [Token::Word(found, _), ..] => *found == wanted,
+        _ => false,
+    }
+}
+
+/// The mark is in front.
+pub(crate) fn sign(tokens: &[Token<'_>], wanted: Mark) -> bool
+    ensures { result ≡ first_is (is_sign wanted) (lexemes tokens.now) }
+{
+    match tokens {
+        [Token::Sign(found, _), ..] => *found == wanted,
+        _ => false,
+    }
+}
+
+/// A name is in front.
+pub(crate) fn name(tokens: &[Token<'_>]) -> bool
+    ensures { result ≡ first_is is_name (lexemes tokens.now) }
+{
+    matches!(tokens, [Token::Name(..), ..])
+}
+
+/// This name is in front.
+pub(crate) fn named(tokens: &[Token<'_>], wanted: &str) -> bool
+    ensures { result ≡ first_is (is_named wanted.now) (lexemes tokens.now) }
+{
+    match tokens {
+        [Token::Name(found, _), ..] => *found == wanted,
+        _ => false,
+    }
+}
+
+/// A number is in front.
+pub(crate) fn number(tokens: &[Token<'_>]) -> bool
+    ensures { result ≡ first_is is_number (lexemes tokens.now) }
+{
+    matches!(tokens, [Token::Number(..), ..])
+}
+
+/// `int`, `long` or `hyper` is in front.
+pub(crate) fn whole(tokens: &[Token<'_>]) -> bool
+    ensures { result ≡ first_is is_whole (lexemes tokens.now) }
+{
+    matches!(
+        tokens,
+        [
+            Token::Word(Keyword::Int | Keyword::Long | Keyword::Hyper, _),
+            ..
+        ]
+    )
+}
+
+/// One, where `int` is in front, else none.
+pub(crate) fn an_int(tokens: &[Token<'_>]) -> usize
+    ensures { result ≡ an_int (lexemes tokens.now) }
+{
+    if word(tokens, Keyword::Int) { 1 } else { 0 }
+}
+
+/// Three `=` and the end of a definition are in front, which a quoted text leaves.
+fn three_equal(tokens: &[Token<'_>]) -> bool
+    ensures { result ≡ three_equal (lexemes tokens.now) }
+{
+    let second = rest(tokens);
+    let third = rest(second);
+    sign(tokens, Mark::Equal)
+        && sign(second, Mark::Equal)
+        && sign(third, Mark::Equal)
+        && sign(rest(third), Mark::Semicolon)
+}
+
+/// A name and what a quoted text leaves are in front.
+pub(crate) fn quoted(tokens: &[Token<'_>]) -> bool
+    ensures { result ≡ is_quoted (lexemes tokens.now) }
+{
+    name(tokens) && three_equal(rest(tokens))
+}
+
+/// The body of an enumeration or a union is in front.
+pub(crate) fn begins_body(tokens: &[Token<'_>]) -> bool
+    ensures { result ≡ begins_body (lexemes tokens.now) }
+{
+    sign(tokens, Mark::OpenBrace) || word(tokens, Keyword::Switch)
+}
+
+/// What ends a member is in front.
+pub(crate) fn ends_member(tokens: &[Token<'_>]) -> bool
+    ensures { result ≡ ends_member (lexemes tokens.now) }
+{
+    sign(tokens, Mark::Comma) || sign(tokens, Mark::CloseBrace)
+}
+
+/// `define` and a name are in front.
+pub(crate) fn defines(tokens: &[Token<'_>]) -> bool
+    ensures { result ≡ is_define (lexemes tokens.now) }
+{
+    named(tokens, "define") && name(rest(tokens))
+}

@@ -1,0 +1,25 @@
+//! The dialect of rpcgen (own, after rpcgen and the preprocessor that it runs): its texts as texts of the RFCs'
+//! language, every place kept.
+//!
+//! - `plain`: a text without its lines of `%` and `#`, byte for byte
+//! - `standing`: where a byte stands: its `spot` on the line, the `gate` of its section; `directive` is a line of `#`
+//! - `rewriting`: its tokens as tokens of the RFCs' language
+//! - `turn`: what stands in place of a token, by those `ahead` of it and the `scope` in which it stands
+//! - `library`: the names that rpcgen's library declares for C; `laws`: what a text of the language is here
+#![tactic(auto)]
+
+mod ahead;
+mod directive;
+mod gate;
+mod laws;
+mod library;
+mod plain;
+mod rewriting;
+mod scope;
+mod spot;
+mod standing;
+mod turn;
+
+pub use laws::{texts_stay, tokens_stay};
+pub use plain::plain_text;
+pub use rewriting::meant_tokens;

@@ -1,0 +1,107 @@
+//! Where a byte stands: on its line, and in which sections.
+ghost use Rattle.std.specs.Prelude.{◌≡◌, ◌+◌, IfErr, OnOk, length, ◌∷◌, [], Some, None};
+ghost use Rattle.xdr_tokens.specs.declared.fault.Fault.{Fault};
+ghost use Rattle.xdr_dialect.specs.Directives.{directive, is_shown};
+ghost use Rattle.xdr_dialect.specs.Plain.{directed, turn, passed};
+ghost use Rattle.xdr_dialect.specs.Private.Steps.{standing_of, Turns, Closes};
+ghost use Rattle.xdr_dialect.specs.Answers.{texts};
+
+use crate::directive::{Directive, read_directive};
+use crate::gate::Gate;
+use crate::spot::{Spot, blank};
+use xdr_tokens::{Fault, Wrong};
+
+/// Where a byte stands, and the sections around it, the innermost last.
+#[derive(Drop)]
+pub(crate) struct Standing {
+    pub(crate) spot: Spot,
+    pub(crate) gate: Gate,
+    pub(crate) outer: Vec<Gate>,
+    /// The text has `#define`.
+    pub(crate) defines: bool,
+}
+
+/// A line has no meaning where it stands.
+fn misplaced(left: usize) -> Fault
+    ensures { result ≡ Fault.Refused Wrong.BadCharacter left }
+{
+    Fault::Refused {
+        wrong: Wrong::BadCharacter,
+        left,
+    }
+}
+
+impl Standing {
+    /// Goes into a section.
+    #[tactic(auto, using(crate::proofs::Sections::one_more))]
+    fn open(&mut self, gate: Gate) -> Result<(), Fault>
+        ensures ok { OnOk result (standing_of self.new
+            ≡ record (standing_of self.old) { gate = gate; outer = self.old.gate ∷ (standing_of self.old).outer }) }
+        ensures memory { IfErr result (λ e. e ≡ Fault.NoMemory) }
+    {
+        self.outer.push(self.gate)?;
+        self.gate = gate;
+        Ok(())
+    }
+
+    /// Leaves a section.
+    #[tactic(auto, using(crate::proofs::Sections::one_more))]
+    fn close(&mut self, left: usize) -> Result<(), Fault>
+        ensures { Closes result self.old self.new left }
+    {
+        match self.outer.pop() {
+            Some(gate) => {
+                self.gate = gate;
+                Ok(())
+            }
+            None => Err(misplaced(left)),
+        }
+    }
+
+    /// A line of `#`, so many bytes before the end.
+    fn directed(&mut self, found: Directive, left: usize) -> Result<u8, Fault>
+        ensures { Turns result (directed (standing_of self.old) found) self.new left }
+    {
+        let shown = self.gate.is_shown();
+        self.spot = Spot::Hidden;
+        match found {
+            Directive::Section(None) if shown => return Err(misplaced(left)),
+            Directive::Section(_) if shown && self.defines => return Err(misplaced(left)),
+            Directive::Section(holds) => {
+                let gate = self.gate.opened(holds.unwrap_or(false));
+                self.open(gate)?;
+            }
+            Directive::Otherwise => match self.gate.turned() {
+                Some(gate) => self.gate = gate,
+                None => return Err(misplaced(left)),
+            },
+            Directive::End => self.close(left)?,
+            Directive::Definition if shown => {
+                self.spot = Spot::Text;
+                self.defines = true;
+                return Ok(b'=');
+            }
+            Directive::Unread => return Err(misplaced(left)),
+            Directive::Other if shown => return Err(misplaced(left)),
+            Directive::Definition | Directive::Nothing | Directive::Other => {}
+        }
+        Ok(b' ')
+    }
+
+    /// The byte in place of `first`, before others.
+    pub(crate) fn turn(&mut self, names: &[&str], first: u8, others: &[u8]) -> Result<u8, Fault>
+        ensures { Turns result (turn (texts names.now) (standing_of self.old) first others.now) self.new
+            (length others.now + 1) }
+    {
+        if self.spot.is_fresh() && first == b'#' {
+            return self.directed(read_directive(names, others), others.len() + 1);
+        }
+        let byte = if self.gate.is_shown() {
+            self.spot.kept(first)
+        } else {
+            blank(first)
+        };
+        self.spot = self.spot.next(first);
+        Ok(byte)
+    }
+}
