@@ -1,0 +1,84 @@
+//! One session: a record cut across pieces, a reply taken in part, and output above the bound (RFC 5531 sections 9 and
+//! 11).
+ghost use Rattle.std.specs.Prelude.{◌≡◌, ◌⊎◌, ◌+◌, ◌≤◌, ℕ, List, [], ◌∷◌, length, drop, None, Ok};
+ghost use Rattle.rpc_record.specs.Marked.{normal};
+ghost use Rattle.registry_sessions.specs.Represents.{Holds, IsFull, fault_in, output_of};
+ghost use Rattle.registry_sessions.specs.declared.fault.Taken.TheVariants as taken;
+
+use registry_answer::{Transport, one_answer};
+use registry_sessions::{Session, SessionFault, Taken};
+use rpc_directory::Directory;
+use std::alloc::Global;
+use std::hash::BuildHasher;
+
+/// A record that comes in two pieces is answered with the second, which has its last byte. It is a call of version 3 of
+/// RPC, so the output is RPC_MISMATCH, whose versions are 2 and 2, or SYSTEM_ERR where memory was refused for that. The
+/// rows stay.
+pub fn answers_a_record_cut_in_two<S: BuildHasher>(
+    alloc: Global,
+    directory: &mut Directory<S>,
+) -> (
+    Session,
+    Result<Taken, SessionFault>,
+    Result<Taken, SessionFault>,
+)
+    ensures output { result.1 ≡ Ok taken.More → (used : ℕ) → result.2 ≡ Ok (taken.Answered used)
+        → (output_of result.0 ≡ 128 ∷ 0 ∷ 0 ∷ 24 ∷
+        0 ∷ 0 ∷ 0 ∷ 2 ∷ 0 ∷ 0 ∷ 0 ∷ 1 ∷ 0 ∷ 0 ∷ 0 ∷ 1 ∷ 0 ∷ 0 ∷ 0 ∷ 0 ∷ 0 ∷ 0 ∷ 0 ∷ 2 ∷ 0 ∷ 0 ∷ 0 ∷ 2 ∷ [])
+        ⊎ (output_of result.0 ≡ 128 ∷ 0 ∷ 0 ∷ 24 ∷
+        0 ∷ 0 ∷ 0 ∷ 2 ∷ 0 ∷ 0 ∷ 0 ∷ 1 ∷ 0 ∷ 0 ∷ 0 ∷ 0 ∷ 0 ∷ 0 ∷ 0 ∷ 0 ∷ 0 ∷ 0 ∷ 0 ∷ 0 ∷ 0 ∷ 0 ∷ 0 ∷ 5 ∷ []) }
+    ensures rows { result.1 ≡ Ok taken.More → (used : ℕ) → result.2 ≡ Ok (taken.Answered used)
+        → directory.new ≡ directory.old }
+{
+    one_answer();
+    let mut session = Session::start(alloc, 65536);
+    let first = session.take_in(
+        &[0x80, 0, 0, 12, 0, 0, 0, 2, 0, 0],
+        directory,
+        Transport::Tcp,
+    );
+    let second = session.take_in(&[0, 0, 0, 0, 0, 3], directory, Transport::Tcp);
+    session.records_are_longest();
+    (session, first, second)
+}
+
+/// Half a record changes no rows, whatever is answered.
+pub fn keeps_the_rows_at_half_a_record<S: BuildHasher>(
+    alloc: Global,
+    directory: &mut Directory<S>,
+) -> Result<Taken, SessionFault>
+    ensures { directory.new ≡ directory.old }
+{
+    let mut session = Session::start(alloc, 65536);
+    let taken = session.take_in(
+        &[0x80, 0, 0, 12, 0, 0, 0, 2, 0, 0],
+        directory,
+        Transport::Tcp,
+    );
+    session.records_are_longest();
+    taken
+}
+
+/// With more bytes of output than its bound a session takes nothing, and the rows stay.
+pub fn takes_nothing_above_the_bound<S: BuildHasher>(
+    session: &mut Session,
+    piece: &[u8],
+    directory: &mut Directory<S>,
+) -> Result<Taken, SessionFault>
+    requires sound { fault_in session.old ≡ None }
+    requires full { IsFull session.old }
+    ensures full { result ≡ Ok taken.Full }
+    ensures same { session.new ≡ session.old }
+    ensures rows { directory.new ≡ directory.old }
+{
+    session.take_in(piece, directory, Transport::Tcp)
+}
+
+/// Where a write takes some of the output, the rest of the replies waits, in order, and nothing of it is lost.
+pub fn keeps_the_rest_of_a_reply(session: &mut Session, n: usize)
+    requires { n ≤ length (output_of session.old) }
+    ensures { (replies : List (List ℕ)) (count : ℕ) → Holds session.old replies count
+        → output_of session.new ≡ drop (count + n) (normal replies) }
+{
+    session.took(n);
+}
