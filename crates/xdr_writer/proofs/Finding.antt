@@ -39,6 +39,13 @@ waiting_as s t l H fs read space pending Fresh b w r = absurd w
 waiting_as s t l H fs read space pending Finished b w r = absurd w
 waiting_as s t l H fs read space pending (Failed f) b w r = absurd w
 
+-- that a unit is needed is told by the state
+pub waits_indeed : (st : State) → ((reported.IsWaiting st → ⊥) → ⊥) → reported.IsWaiting st
+waits_indeed (Reading a) h = tt
+waits_indeed Fresh h = absurd (h (λ w. w))
+waits_indeed Finished h = absurd (h (λ w. w))
+waits_indeed (Failed f) h = absurd (h (λ w. w))
+
 -- where a unit is needed, decoding the bytes so far has not ended
 pub pending_of : (c : Checker) (b : List ℕ) → checks.IsWaiting c → checks.RepresentsBytes c b
     → Outcome (checks.kinds_of c) (checks.kind_of c).place (checks.limits_of c) b Pending
