@@ -14,7 +14,6 @@ use Rattle.xdr_stream.specs.declared.reader.State.TheVariants.{Fresh, Reading, F
 use Rattle.xdr_stream.proofs.Answering.{pending_on}
 use Rattle.xdr_due.specs.Due.{IsDue, IsNothing}
 use Rattle.xdr_due.specs.declared.due.Due.{Due}
-use Rattle.xdr_due.specs.declared.due.Due.TheVariants as due
 use Rattle.xdr_codec.specs.Checks as checks
 use Rattle.xdr_codec.specs.declared.checker.Checker.{Checker}
 use Rattle.xdr_writer.specs.Private.Bytes.{RefusesBytes}
