@@ -36,9 +36,11 @@ file_kinds =
 
 -- a file of this type, which john owns (RFC 4506 section 7)
 abbrev pub file_of : (kind : Tree) → Tree
-file_of kind =
-    (value.fields, from_list (content (codes "sillyprog") ∷ kind ∷ content (codes "john")
-    ∷ content (codes "(quit)") ∷ []))
+file_of kind = (
+  value.fields,
+  from_list (content (codes "sillyprog") ∷ kind ∷ content (codes "john")
+      ∷ content (codes "(quit)") ∷ []),
+)
 
 -- one that lisp runs (RFC 4506 section 7)
 abbrev pub sillyprog : Tree

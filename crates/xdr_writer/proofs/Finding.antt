@@ -14,7 +14,6 @@ use Rattle.xdr_stream.specs.declared.reader.State.TheVariants.{Fresh, Reading, F
 use Rattle.xdr_stream.proofs.Answering.{pending_on}
 use Rattle.xdr_due.specs.Due.{IsDue, IsNothing}
 use Rattle.xdr_due.specs.declared.due.Due.{Due}
-use Rattle.xdr_due.specs.declared.due.Due.TheVariants as due
 use Rattle.xdr_codec.specs.Checks as checks
 use Rattle.xdr_codec.specs.declared.checker.Checker.{Checker}
 use Rattle.xdr_writer.specs.Private.Bytes.{RefusesBytes}
@@ -38,6 +37,13 @@ waiting_as s t l H fs read space pending (Reading a) b w r = pending_on s t l H 
 waiting_as s t l H fs read space pending Fresh b w r = absurd w
 waiting_as s t l H fs read space pending Finished b w r = absurd w
 waiting_as s t l H fs read space pending (Failed f) b w r = absurd w
+
+-- that a unit is needed is told by the state
+pub waits_indeed : (st : State) → ((reported.IsWaiting st → ⊥) → ⊥) → reported.IsWaiting st
+waits_indeed (Reading a) h = tt
+waits_indeed Fresh h = absurd (h (λ w. w))
+waits_indeed Finished h = absurd (h (λ w. w))
+waits_indeed (Failed f) h = absurd (h (λ w. w))
 
 -- where a unit is needed, decoding the bytes so far has not ended
 pub pending_of : (c : Checker) (b : List ℕ) → checks.IsWaiting c → checks.RepresentsBytes c b

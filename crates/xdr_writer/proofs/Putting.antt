@@ -161,8 +161,8 @@ module _ (s : List KindView) (t : ℕ) (l : Bounds) (is : List NodeItem) (begin 
         (omega (arith, bytes.1, length-append (spelled n.0) (all_spelled n.1))) bytes.0
 
     pub refused_none : (w : Why) → Refuses s t l is i w → IsKnown w → HasNoValue s t l is i
-    refused_none why.WrongItem h known = let r = h.1 in wrong_none r.0 r.1 r.2
-    refused_none why.NotInRange h known = let r = h.1 in far_none r.0 r.1 r.3
+    refused_none why.WrongItem h known = wrong_none h.1 h.2 h.3
+    refused_none why.NotInRange h known = far_none h.1 h.2 h.4
     refused_none (why.Refused f) h known = elim h.1 [
       | inl before ↦ before_none (fault_none s t l units f (all_spelled is) h.0 before)
       | inr there ↦ bytes_none there.0 there.1
@@ -209,11 +209,13 @@ module _ (s : List KindView) (t : ℕ) (l : Bounds) (is : List NodeItem) (begin 
           )
       within_refuse why.PastLimit h = (
         pending,
-        e,
-        p.next,
-        form,
-        range,
-        omega (arith, h, room, length-append (all_spelled is) (spelled_as (kind_at s e.kind) i)),
+        (
+          e,
+          p.next,
+          form,
+          range,
+          omega (arith, h, room, length-append (all_spelled is) (spelled_as (kind_at s e.kind) i)),
+        ),
       )
       within_refuse why.WrongItem h = absurd (omega (arith, some, h))
       within_refuse why.NoMemory h = tt

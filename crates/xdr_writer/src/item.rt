@@ -1,4 +1,6 @@
 //! The items of a value, which are put one after another, and what each brings.
+ghost use Rattle.std.specs.Prelude.{◌≡◌, true};
+ghost use Rattle.xdr_writer.specs.declared.item.Step.TheVariants.{More};
 
 /// An item of a value (RFC 4506 section 4): what stands in the bytes of a part, in the order of the layout. Structures,
 /// arrays of fixed size and voids have no bytes of their own, and so no item; nor has the length of content.
@@ -22,4 +24,16 @@ pub enum Step {
     More,
     /// The value is whole.
     Done,
+}
+
+impl Step {
+    /// Whether more items are to come.
+    pub(crate) fn is_more(self) -> bool
+        ensures { result ≡ true → self ≡ More }
+    {
+        match self {
+            Step::More => true,
+            Step::Done => false,
+        }
+    }
 }

@@ -30,7 +30,7 @@ fn first_due(checker: &mut Checker<'_>) -> Result<Due, Why>
 
 // What is due after the bytes so far, where a unit is known to be needed or nothing is known.
 fn next_due(checker: &mut Checker<'_>, waits: bool) -> Result<Due, Why>
-    requires { waits ≡ true → IsWaiting checker.old }
+    requires { waits ≡ true → (IsWaiting checker.old → ⊥) → ⊥ }
     ensures finds { FindsDue checker.old checker.new result }
     ensures granted { Grants checker.old result }
 {
@@ -99,7 +99,7 @@ pub(crate) fn take(
     requires schema { schema_of checker.old ≡ schema.now }
     requires units { (limits_of checker.old).bytes % 4 ≡ 0 }
     requires low { space ≤ 16777216 }
-    requires waiting { waits ≡ true → IsWaiting checker.old }
+    requires waiting { waits ≡ true → (IsWaiting checker.old → ⊥) → ⊥ }
     ensures took { IfOk result (λ s. (is : List NodeItem) → IsAfter checker.old is
         → TookItem checker.old checker.new is (item_view item.entry) out.old.items out.new.items s) }
     ensures refuses { IfErr result

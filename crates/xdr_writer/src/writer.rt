@@ -28,7 +28,7 @@ pub struct Writer<'s> {
     ghost low: { written ≤ 16777216 },
     ghost limits_are: { checker.reader.limits ≡ limits },
     ghost schema_is: { checker.reader.schema.now ≡ schema.now },
-    ghost waiting: { waits ≡ true → checks.IsWaiting checker },
+    ghost waiting: { waits ≡ true → (checks.IsWaiting checker → ⊥) → ⊥ },
     ghost sound: { refused ≡ None → (f : DecodeFault) → checks.HasFailed checker f → ⊥ },
 }
 
@@ -98,10 +98,7 @@ impl<'s> Writer<'s> {
             Ok(step) => {
                 self.written += out.len() - before;
                 self.count += 1;
-                self.waits = match step {
-                    Step::More => true,
-                    Step::Done => false,
-                };
+                self.waits = step.is_more();
                 Ok(step)
             }
             Err(why) => {
