@@ -1,12 +1,11 @@
 -- What a writer of the pair says where its fields lie too deep.
-use Rattle.std.proofs.Common.{◌≡◌, ℕ, ◌<◌, ◌%◌, List, [], ◌∷◌, ◌++◌, length, codes, refl, ap, sym, ◌∙◌, subst, arith}
-use Rattle.std.proofs.Common.{append-nil}
-use Rattle.std.specs.Prelude.{◌⊎◌, Result, Ok, Err, IfOk, IsErr}
+use Rattle.std.proofs.Common.{◌≡◌, ℕ, ◌%◌, List, [], ◌∷◌, ◌++◌, codes, refl, ap, sym, ◌∙◌, arith}
+use Rattle.std.proofs.Common.{append-nil, inl, inr}
+use Rattle.std.specs.Prelude.{Result, Ok, Err, IfOk, IsErr, OnErr}
 use Rattle.xdr_types.specs.Kinds.{KindView}
-use Rattle.xdr_types.specs.Tree.{Tree}
 use Rattle.xdr_types.specs.Spelling.{bytes_of}
-use Rattle.xdr_types.specs.Within.{Bounds, FitsWithin}
-use Rattle.xdr_types.specs.Layout.{Entry, entry, of_number}
+use Rattle.xdr_types.specs.Within.{Bounds}
+use Rattle.xdr_types.specs.Layout.{entry, of_number}
 use Rattle.xdr_types.specs.Outcome as outcome
 use Rattle.xdr_types.specs.Outcome.{Ending, Outcome}
 use Rattle.xdr_laws.proofs.OneOutcome.{one_outcome}
@@ -16,13 +15,16 @@ use Rattle.xdr_stream.specs.Represents as reported
 use Rattle.xdr_stream.specs.declared.fault.DecodeFault.{DecodeFault}
 use Rattle.xdr_stream.specs.declared.fault.Reason.{Reason}
 use Rattle.xdr_stream.specs.declared.fault.Reason.TheVariants as reason
-use Rattle.xdr_writer.specs.Items.{ItemView, NodeItem, all_spelled}
-use Rattle.xdr_writer.specs.Answers.{Takes, IsBegun, IsEncoding, Refuses, IsKnown, IsOfBytes}
+use Rattle.xdr_writer.specs.Items.{ItemView, NodeItem, of_node, all_spelled}
+use Rattle.xdr_writer.specs.Answers.{Took, Takes, IsEncoding, Refuses, IsKnown, IsOfBytes}
+use Rattle.xdr_writer.specs.Represents.{RepresentsItems, kinds_of, kind_of}
 use Rattle.xdr_writer.specs.declared.refusal.Why.{Why}
 use Rattle.xdr_writer.specs.declared.refusal.Why.TheVariants as why
 use Rattle.xdr_writer.specs.declared.refusal.WriteRefusal.{WriteRefusal}
 use Rattle.xdr_writer.specs.declared.item.Step.{Step}
 use Rattle.xdr_writer.specs.declared.item.Step.TheVariants as step
+use Rattle.xdr_writer.specs.declared.writer.Writer.{Writer}
+use Rattle.example_xdr.proofs.Putting.{moved}
 use Rattle.example_xdr.specs.Rfc.{part}
 use Rattle.example_xdr.specs.Pair.{pair_kinds, pair, pair_bytes, too_deep}
 
@@ -92,7 +94,7 @@ module _ (l : Bounds) (one : l.depth ≡ 1) where
     ]
     names_depth i why.PastEnd h known = elim h [
       | inl before ↦ absurd (never_whole [] before)
-      | inr there ↦ absurd (never_whole _ there.4.2)
+      | inr there ↦ absurd (never_whole _ there.4.3)
     ]
     names_depth i why.Unfinished h known = absurd h
     names_depth i why.NoMemory h known = absurd known
@@ -104,9 +106,27 @@ module _ (l : Bounds) (one : l.depth ≡ 1) where
 
 pub is_error : (r : Result Step WriteRefusal) → IfOk r (λ (s : Step). ⊥) → IsErr r
 is_error (Ok s) h = absurd h
-is_error (Err f) h = tt
+is_error (Err f) h = refl
 
-pub of_taken : (r : Result Step WriteRefusal) (P : Step → Type 0) → ((s : Step) → P s → ⊥) → IfOk r P
+pub on_error : (r : Result Step WriteRefusal) (P : Type 0) → IfOk r (λ (s : Step). ⊥) → OnErr r P → P
+on_error (Ok s) P none h = absurd none
+on_error (Err f) P none h = h
+
+of_taken : (r : Result Step WriteRefusal) (P : Step → Type 0) → ((s : Step) → P s → ⊥) → IfOk r P
     → IfOk r (λ (s : Step). ⊥)
 of_taken (Ok s) P none h = none s h
 of_taken (Err f) P none h = tt
+
+-- a writer of the pair that has taken nothing takes nothing
+pub none_taken : (w b : Writer) → kinds_of w ≡ pair_kinds → kind_of w ≡ 2 → w.limits.depth ≡ 1
+    → w.limits.bytes % 4 ≡ 0 → RepresentsItems w [] → (i : ItemView) (before after : List ℕ)
+    → (r : Result Step WriteRefusal)
+    → IfOk r (λ (s : Step). (is : List NodeItem) → RepresentsItems w is → Took w b is i before after s)
+    → IfOk r (λ (s : Step). ⊥)
+none_taken w b is at one units begun i before after r took =
+    of_taken r (λ (s : Step). (is : List NodeItem) → RepresentsItems w is → Took w b is i before after s)
+    (λ s h.
+    let t = h [] begun in
+    never_takes w.limits one units (of_node t.kind i ∷ []) s
+    (moved (λ (k : List KindView) (n : ℕ). Takes k n w.limits (of_node t.kind i ∷ []) s) (kinds_of w) (kind_of w) is at
+    t.takes)) took

@@ -1,4 +1,4 @@
-use Rattle.std.proofs.Common.{◌≡◌, ◌++◌, [], ℕ, List, subst, sym, refl, ap, ◌∙◌, IfOk, length}
+use Rattle.std.proofs.Common.{◌≡◌, ◌++◌, [], List, subst, sym, refl, ap, ◌∙◌, IfOk, length}
 use Rattle.xdr_types.specs.Kinds.{KindView}
 use Rattle.xdr_types.specs.Layout.{entries}
 use Rattle.xdr_types.specs.Spelling.{bytes_of}

@@ -1,13 +1,12 @@
-use Rattle.std.proofs.Common.{◌≡◌, ◌≤◌, ◌<◌, ℕ, List, [], ◌∷◌, ◌++◌, length, refl, sym, ap, subst, drop, take, pos, ◌∙◌}
+use Rattle.std.proofs.Common.{◌≡◌, ◌≤◌, ◌<◌, ℕ, List, [], ◌∷◌, ◌++◌, refl, sym, ap, subst, drop, pos, ◌∙◌}
 use Rattle.std.proofs.Common.{arith}
 use Rattle.std.specs.Prelude.{Contains}
 use Rattle.std.specs.List.{AllByRecursion}
 use Rattle.std.proofs.lemmas.List.{take-append-drop}
-use Rattle.xdr_types.specs.Kinds.{KindView, Part}
 use Rattle.xdr_types.specs.Tree as value
 use Rattle.xdr_types.specs.Tree.{Tree}
 use Rattle.xdr_types.specs.Fits.{Fits, item_part}
-use Rattle.xdr_types.specs.Layout.{Entry, entry, entries, of_number}
+use Rattle.xdr_types.specs.Layout.{Entry, entry, entries, of_number, of_flag}
 use Rattle.xdr_types.specs.Outcome.{Outcome, TooDeep}
 use Rattle.xdr_types.specs.Spelling.{bytes_of}
 use Rattle.xdr_types.specs.Within.{Bounds}
@@ -31,9 +30,12 @@ returns c =
     let is : bytes_of s t v ≡ q ++ more = rw c.requires.kind rw c.requires.item refl in
     let P : Entry → Type 0 = λ (x : Entry). x.depth ≤ l.depth in
     let each : (r : ℕ) → r < 4 → AllByRecursion (λ (x : Entry). x.at ≤ r → P x) (entries s t v) = λ r less.
-    rw c.requires.kind rw c.requires.item (λ at. low.least_depth, λ at. absurd (omega (arith, at, less)), tt) in
+    rw c.requires.kind rw c.requires.item (λ at. low.least_depth, (λ at. absurd (omega (arith, at, less)), tt)) in
     let shallow : (r : ℕ) → r < 4 → IsShallow s t l v r = λ r less. up_all P r (entries s t v) (each r less) in
-    let has : Contains (entries s t v) e = rw c.requires.kind rw c.requires.item (1, omega arith, refl) in
+    let first : Entry = entry 0 4 1 (item_part t) of_flag in
+    let all : entries s t v ≡ first ∷ e ∷ [] = rw c.requires.kind rw c.requires.item refl in
+    let has : Contains (entries s t v) e =
+    subst (λ (es : List Entry). Contains es e) (sym all) (1, omega arith, refl) in
     let o = too_deep s t l c.laws.ensures.unique c.laws.ensures.same v fit q more is (omega arith) rest refl
     (omega (arith, low.least_bytes)) shallow e has (omega arith) (omega (arith, c.requires.depth)) in
     c.reported.ensures (TooDeep 4) tt (subst (λ (b : List ℕ). Outcome s t l b (TooDeep 4)) (sym begins) o)
