@@ -143,8 +143,8 @@ module _ (s : List KindView) (t : ℕ) (l : Bounds) (unique : EachSpellingIsOneV
   whole_q rest = first_of (length q) rest (omega arith) ∙ take_self q
 
   -- a node below the limit on depth is due
-  pub too_deep : (rest : List ℕ) → length q % 4 ≡ 0 → length q ≤ l.bytes → ((r : ℕ) → r < length q → IsShallow s t l v r)
-      → (e : Entry) → Contains (entries s t v) e → e.at ≤ length q → l.depth < e.depth
+  pub too_deep : (rest : List ℕ) → length q % 4 ≡ 0 → length q ≤ l.bytes
+      → ((r : ℕ) → r < length q → IsShallow s t l v r) → (e : Entry) → Contains (entries s t v) e → e.at ≤ length q → l.depth < e.depth
       → Outcome s t l (q ++ rest) (TooDeep (length q))
   too_deep rest units most shallow e has low deep = (
     reached_by rest units most shallow,
