@@ -144,8 +144,8 @@ module _ (s : List KindView) (t : ℕ) (l : Bounds) (unique : EachSpellingIsOneV
 
   -- a node below the limit on depth is due
   pub too_deep : (rest : List ℕ) → length q % 4 ≡ 0 → length q ≤ l.bytes
-      → ((r : ℕ) → r < length q → IsShallow s t l v r) → (e : Entry) → Contains (entries s t v) e → e.at ≤ length q → l.depth < e.depth
-      → Outcome s t l (q ++ rest) (TooDeep (length q))
+      → ((r : ℕ) → r < length q → IsShallow s t l v r) → (e : Entry) → Contains (entries s t v) e
+      → e.at ≤ length q → l.depth < e.depth → Outcome s t l (q ++ rest) (TooDeep (length q))
   too_deep rest units most shallow e has low deep = (
     reached_by rest units most shallow,
     subst (λ (x : List ℕ). IsDeep s t l x) (sym (whole_q rest)) (v, (fit, c, is), e, has, low, deep),
