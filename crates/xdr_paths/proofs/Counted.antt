@@ -1,6 +1,6 @@
 -- Items of an array, one after another.
 use Rattle.std.proofs.Common.{◌≡◌, ℕ, zero, suc, ◌+◌, ◌-◌, ◌*◌, ◌<◌, ◌≤◌, List, ◌∷◌, length, refl, sym, ap, subst}
-use Rattle.std.proofs.Common.{◌∙◌, arith, Option, Some, None, replicate}
+use Rattle.std.proofs.Common.{◌∙◌, arith, Some, None, replicate}
 use Rattle.std.specs.Prelude.{slice_get}
 use Rattle.std.proofs.lemmas.Bool.{false≢true}
 use Rattle.std.proofs.lemmas.List.{length-append}

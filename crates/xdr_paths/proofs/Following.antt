@@ -1,10 +1,9 @@
 -- Steps that lead on, one after another.
-use Rattle.std.proofs.Common.{◌≡◌, ℕ, ◌+◌, ◌%◌, ◌<◌, ◌≤◌, max, List, [], ◌∷◌, ◌++◌, length, take, drop, refl, sym, ap}
-use Rattle.std.proofs.Common.{subst, ◌∙◌, arith, Option, Some, None, MatchOption, append-nil, true≢false, is_some}
+use Rattle.std.proofs.Common.{◌≡◌, ℕ, ◌+◌, ◌≤◌, max, List, [], ◌∷◌, ◌++◌, length, take, drop, refl, sym, ap}
+use Rattle.std.proofs.Common.{subst, ◌∙◌, arith, Option, Some, None, append-nil, true≢false, is_some}
 use Rattle.std.specs.List.{AllByRecursion}
-use Rattle.std.proofs.lemmas.List.{length-append, length-take, take-append-drop, take-append-le, drop-append-le}
+use Rattle.std.proofs.lemmas.List.{length-take, take-append-drop, take-append-le, drop-append-le}
 use Rattle.std.proofs.lemmas.List.{length-drop, take_at}
-use Rattle.std.proofs.Math.Nat.{le-max_right}
 use Rattle.xdr_types.specs.Kinds.{KindView}
 use Rattle.xdr_types.specs.Layout.{Entry}
 use Rattle.xdr_types.specs.Tree.{Tree, depth_of, from_list}
@@ -18,9 +17,8 @@ use Rattle.xdr_parts.specs.Lent.{IsLentFrom}
 use Rattle.xdr_parts.specs.declared.part.Lent.{Lent}
 use Rattle.xdr_paths.specs.Nodes.{Node, Step, to_field, to_item, LeadTo, inside, step_to, settled, root}
 use Rattle.xdr_paths.specs.Paths.{IsStep, IsPath, step_text, steps_text, first_text}
-use Rattle.xdr_paths.specs.Private.Standing.{Stands, StandsAt, IsAt, TextLeadsTo, PathLeadsTo}
+use Rattle.xdr_paths.specs.Private.Standing.{Stands, TextLeadsTo, PathLeadsTo}
 use Rattle.xdr_paths.specs.Private.Steps.{IsEndOrMarked}
-use Rattle.xdr_paths.specs.declared.spot.Spot.{Spot}
 
 -- ---- texts
 

@@ -1,5 +1,5 @@
 -- Fields and arms by their names.
-use Rattle.std.proofs.Common.{◌≡◌, ℕ, zero, suc, ◌+◌, ◌^◌, ◌<◌, ◌≤◌, ℤ, List, [], ◌∷◌, ◌++◌, length, refl, sym, ap}
+use Rattle.std.proofs.Common.{◌≡◌, ℕ, ◌+◌, ◌^◌, ◌<◌, ◌≤◌, ℤ, List, [], ◌∷◌, ◌++◌, length, refl, sym, ap}
 use Rattle.std.proofs.Common.{subst}
 use Rattle.std.proofs.Common.{◌∙◌, arith, Option, Some, None, Bool, true, false, cond, take, drop, map, bytes_eq}
 use Rattle.std.specs.Prelude.{replicate, slice_get}
@@ -22,7 +22,7 @@ use Rattle.xdr_laws.proofs.Legal.{IsLegal}
 use Rattle.xdr_laws.proofs.UnitOwed.{head_is}
 use Rattle.xdr_laws.proofs.Known.{shows_first}
 use Rattle.xdr_paths.specs.Nodes.{Node, nodes, inside, node_named, step_to, to_field, to_item}
-use Rattle.xdr_paths.specs.Private.Standing.{Spells, Stands, StandsAs, StandsAt, IsAt, Finds, IsChoice}
+use Rattle.xdr_paths.specs.Private.Standing.{Spells, StandsAs, StandsAt, Finds, IsChoice}
 use Rattle.xdr_paths.specs.declared.spot.Spot.{Spot}
 use Rattle.xdr_paths.proofs.Standing.{first_of, rest_of, inner_of, legal_of, known_of, shallow_of, own_front, there}
 

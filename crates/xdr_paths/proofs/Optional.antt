@@ -1,5 +1,5 @@
 -- Optional data that is there is its item.
-use Rattle.std.proofs.Common.{◌≡◌, ℕ, ◌+◌, ◌^◌, ◌<◌, ◌≤◌, List, [], ◌∷◌, ◌++◌, length, refl, sym, ap, subst, ◌∙◌}
+use Rattle.std.proofs.Common.{◌≡◌, ℕ, ◌+◌, ◌^◌, ◌<◌, List, [], ◌∷◌, refl, sym, ap, subst, ◌∙◌}
 use Rattle.std.proofs.Common.{arith, take, drop}
 use Rattle.std.proofs.lemmas.Bool.{false≢true}
 use Rattle.xdr_units.specs.Numbers.{word}

@@ -10,7 +10,6 @@ use Rattle.xdr_types.specs.Tree as value
 use Rattle.xdr_types.specs.Tree.{Head}
 use Rattle.xdr_types.specs.Spelling.{own}
 use Rattle.xdr_types.specs.Within.{Bounds}
-use Rattle.xdr_types.specs.Layout as layout
 use Rattle.xdr_types.specs.Layout.{Entry, entry, shown, of_length, of_group}
 use Rattle.xdr_laws.proofs.Legal.{IsLegal}
 use Rattle.xdr_laws.proofs.Numbers.{from4, from4-unit4}
@@ -20,7 +19,6 @@ use Rattle.xdr_parts.specs.declared.part.Role.TheVariants.{Number, Flag, Length,
 use Rattle.xdr_paths.specs.Nodes.{Node, IsOwn}
 use Rattle.xdr_paths.specs.Private.Own.{IsForm, part_at}
 use Rattle.xdr_paths.specs.Private.Standing.{StandsAt}
-use Rattle.xdr_paths.specs.declared.own.Form.{Form}
 use Rattle.xdr_paths.specs.declared.own.Form.TheVariants.{Unit as OneUnit, Wide, Content, Counted, Group}
 use Rattle.xdr_paths.specs.declared.spot.Spot.{Spot}
 use Rattle.xdr_paths.proofs.Standing.{there}

@@ -1,5 +1,5 @@
 -- The values inside a value, and where their bytes stand.
-use Rattle.std.proofs.Common.{◌≡◌, ℕ, ◌+◌, ◌%◌, ◌<◌, ◌≤◌, max, List, [], ◌∷◌, ◌++◌, length, take, drop, refl, sym, ap}
+use Rattle.std.proofs.Common.{◌≡◌, ℕ, ◌+◌, ◌<◌, ◌≤◌, max, List, [], ◌∷◌, ◌++◌, length, drop, refl, sym, ap}
 use Rattle.std.proofs.Common.{true}
 use Rattle.std.proofs.Common.{subst, ◌∙◌, append_assoc, append-nil, arith}
 use Rattle.std.proofs.Math.Nat.{le-max_left, le-max_right}
@@ -11,11 +11,11 @@ use Rattle.xdr_types.specs.Fits.{Fits, fits, parts}
 use Rattle.xdr_types.specs.Spelling.{own, spelling, bytes_of}
 use Rattle.xdr_types.specs.Within.{Bounds, AreBounds}
 use Rattle.xdr_types.specs.Outcome.{Outcome, Whole}
-use Rattle.xdr_laws.proofs.Legal.{IsLegal, FitAll, fit_node, node_fits, both}
+use Rattle.xdr_laws.proofs.Legal.{IsLegal, fit_node, node_fits, both}
 use Rattle.xdr_laws.proofs.GoesOn.{legal_known}
 use Rattle.xdr_laws.proofs.Whole.{whole_exactly}
 use Rattle.xdr_laws.proofs.OneOutcome.{one_whole}
-use Rattle.xdr_paths.specs.Nodes.{Node, nodes, inside}
+use Rattle.xdr_paths.specs.Nodes.{Node}
 use Rattle.xdr_paths.specs.Private.Standing.{Spells, Stands, StandsAs}
 
 -- the bytes behind a stretch are the rest

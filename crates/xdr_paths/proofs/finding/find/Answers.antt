@@ -1,4 +1,4 @@
-use Rattle.std.proofs.Common.{◌≡◌, refl, subst, take, Option, Some, None}
+use Rattle.std.proofs.Common.{refl, subst, take, Option, Some, None}
 use Rattle.xdr_parts.specs.declared.part.Lent.{Lent}
 use Rattle.xdr_paths.specs.Nodes.{Node, settled, root}
 use Rattle.xdr_paths.specs.Private.Standing.{HasPart, PathLeadsTo}

@@ -1,4 +1,4 @@
-use Rattle.std.proofs.Common.{◌≡◌, ℕ, List, ◌∷◌, ap, sym, ◌∙◌, true≢false, is_some, decimal, Some, None, refl}
+use Rattle.std.proofs.Common.{◌≡◌, ◌∷◌, ap, sym, ◌∙◌, true≢false, is_some, decimal, Some, refl}
 use Rattle.xdr_paths.specs.Nodes.{to_item}
 use Rattle.xdr_paths.proofs.Marks.{same_cut, plain_decimal}
 use Rattle.xdr_paths.proofs.steps.first_index.Goals as goal

@@ -1,4 +1,4 @@
-use Rattle.std.proofs.Common.{◌≡◌, ℕ, List, [], ap, sym, ◌∙◌, subst, length, arith}
+use Rattle.std.proofs.Common.{ap, sym, ◌∙◌, arith}
 use Rattle.xdr_paths.specs.Nodes.{to_field}
 use Rattle.xdr_paths.proofs.Marks.{same_cut, no_name}
 use Rattle.xdr_paths.proofs.steps.first_name.Goals as goal

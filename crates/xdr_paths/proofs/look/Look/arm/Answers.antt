@@ -1,4 +1,4 @@
-use Rattle.std.proofs.Common.{◌≡◌, ℕ, ℤ, ◌∙◌, ap, sym, refl, Option, Some, None, arith, to_z, of_z, w64}
+use Rattle.std.proofs.Common.{◌≡◌, ℤ, ◌∙◌, ap, sym, refl, Some, None, arith, to_z, of_z, w64}
 use Rattle.std.proofs.lemmas.Int.{to_z-of_z}
 use Rattle.xdr_types.specs.Fits.{part_in}
 use Rattle.xdr_types.specs.Kinds.{kind_at}

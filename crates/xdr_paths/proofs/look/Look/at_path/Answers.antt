@@ -1,5 +1,4 @@
 use Rattle.std.proofs.Common.{◌≡◌, ℕ, List, [], sym, subst}
-use Rattle.xdr_types.specs.Layout.{Entry}
 use Rattle.xdr_parts.specs.Lent.{entry_of}
 use Rattle.xdr_paths.specs.Nodes.{Node, settled}
 use Rattle.xdr_paths.specs.Private.Standing.{PathLeadsTo, TextLeadsTo, StandsAt, HasPart}

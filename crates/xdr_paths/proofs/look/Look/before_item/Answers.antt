@@ -1,4 +1,4 @@
-use Rattle.std.proofs.Common.{◌≡◌, ℕ, arith}
+use Rattle.std.proofs.Common.{arith}
 use Rattle.xdr_paths.proofs.Counted.{sized_item, item_left, item_passed, item_reached}
 use Rattle.xdr_paths.proofs.look.Look.before_item.Goals as goal
 

@@ -1,4 +1,3 @@
-use Rattle.std.proofs.Common.{ℕ}
 use Rattle.xdr_paths.proofs.Counted.{ItemsLeft}
 use Rattle.xdr_paths.proofs.look.Look.before_item.Given as goal
 

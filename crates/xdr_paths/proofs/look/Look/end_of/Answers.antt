@@ -1,4 +1,4 @@
-use Rattle.std.proofs.Common.{ℕ, List, drop, subst}
+use Rattle.std.proofs.Common.{ℕ, List, subst}
 use Rattle.std.proofs.lemmas.List.{take_rest}
 use Rattle.xdr_types.specs.Outcome.{Outcome, Whole}
 use Rattle.xdr_paths.proofs.Standing.{sized_end, judged_end}

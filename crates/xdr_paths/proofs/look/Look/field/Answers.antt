@@ -1,4 +1,4 @@
-use Rattle.std.proofs.Common.{◌≡◌, sym, ◌∙◌, [], length, refl}
+use Rattle.std.proofs.Common.{sym, ◌∙◌, refl}
 use Rattle.xdr_paths.proofs.Marks.{no_elements}
 use Rattle.xdr_paths.proofs.Named.{field_left, field_passed, field_found, no_field}
 use Rattle.xdr_paths.proofs.look.Look.field.Goals as goal

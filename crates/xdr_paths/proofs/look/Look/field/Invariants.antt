@@ -1,4 +1,4 @@
-use Rattle.std.proofs.Common.{ℕ, length}
+use Rattle.std.proofs.Common.{length}
 use Rattle.xdr_paths.proofs.Named.{FieldsLeft}
 use Rattle.xdr_paths.proofs.look.Look.field.Given as goal
 

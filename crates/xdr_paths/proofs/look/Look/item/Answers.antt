@@ -1,4 +1,4 @@
-use Rattle.std.proofs.Common.{◌≡◌, ℕ, ◌+◌, ◌∙◌, ap, sym, subst, Option}
+use Rattle.std.proofs.Common.{◌+◌, ◌∙◌, ap, sym, subst, Option}
 use Rattle.std.specs.Prelude.{slice_get, replicate}
 use Rattle.xdr_types.specs.Fits.{item_part}
 use Rattle.xdr_types.specs.KindViews.{kind_view}

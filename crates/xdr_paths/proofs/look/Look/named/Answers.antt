@@ -1,4 +1,4 @@
-use Rattle.std.proofs.Common.{◌≡◌, ℕ, ◌+◌, ◌∙◌, ap, sym, subst, refl, List, Option, map}
+use Rattle.std.proofs.Common.{◌≡◌, ◌+◌, ◌∙◌, ap, sym, subst, refl, List, Option, map}
 use Rattle.xdr_types.specs.Kinds.{KindView, Part, structure}
 use Rattle.xdr_types.specs.KindViews.{kind_view, part_of_member}
 use Rattle.xdr_types.specs.Tree.{Values}

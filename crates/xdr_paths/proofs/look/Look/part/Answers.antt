@@ -1,9 +1,8 @@
-use Rattle.std.proofs.Common.{◌≡◌, ℕ, ◌+◌, ◌∙◌, ap, sym, subst, arith}
+use Rattle.std.proofs.Common.{ℕ, ◌∙◌, ap, sym, subst, arith}
 use Rattle.std.proofs.Math.Nat.{add-zero}
 use Rattle.xdr_types.specs.KindViews.{kind_view}
 use Rattle.xdr_types.specs.Layout.{Entry, entry}
 use Rattle.xdr_parts.specs.Lent.{size_in, role_in}
-use Rattle.xdr_parts.specs.declared.part.Role.TheVariants.{Content}
 use Rattle.xdr_paths.specs.Nodes.{IsOwn}
 use Rattle.xdr_paths.specs.Private.Own.{part_at}
 use Rattle.xdr_paths.proofs.OwnParts.{unit_own, wide_own, content_own, counted_there, counted_own}

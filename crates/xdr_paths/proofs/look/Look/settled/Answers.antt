@@ -1,4 +1,4 @@
-use Rattle.std.proofs.Common.{◌≡◌, ℕ, ◌+◌, ◌∙◌, sym, subst, refl, arith, []}
+use Rattle.std.proofs.Common.{◌+◌, ◌∙◌, sym, subst, refl, arith, []}
 use Rattle.xdr_types.specs.KindViews.{kind_view}
 use Rattle.xdr_paths.specs.Nodes.{Node}
 use Rattle.xdr_paths.specs.Private.Standing.{StandsAt}

@@ -1,4 +1,4 @@
-use Rattle.std.proofs.Common.{◌≡◌, ◌-◌, ◌≤◌, length}
+use Rattle.std.proofs.Common.{◌≡◌, ◌-◌, length}
 use Rattle.xdr_paths.specs.Nodes.{Node, settled}
 use Rattle.xdr_paths.specs.Private.Standing.{StandsAt}
 use Rattle.xdr_paths.proofs.look.Look.settled.Given as goal
