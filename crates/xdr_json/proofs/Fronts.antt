@@ -26,10 +26,10 @@ use Rattle.xdr_json.proofs.Apart.{outside}
 
 -- a node of a kind: its head is legal, its parts fit, and their bytes begin these
 pub record Node (S : List KindView) (f : KindView) (bs : List ℕ) (h : Head) (inner : Values) (rest : List ℕ) : Type 0
-    where
-  pub legal : IsLegal S f h
-  pub inside : fit S (parts f h) inner ≡ true
-  pub spelled : bs ≡ own f h ++ (spelling S (parts f h) inner ++ rest)
+  where
+    pub legal : IsLegal S f h
+    pub inside : fit S (parts f h) inner ≡ true
+    pub spelled : bs ≡ own f h ++ (spelling S (parts f h) inner ++ rest)
 
 -- its JSON
 abbrev pub said : List KindView → KindView → Head → Values → Json
@@ -203,13 +203,13 @@ fixed_at S item size bs (value.items m) inner rest n =
 fixed_at S item size bs _ inner rest n = absurd n.legal
 
 pub record Many (S : List KindView) (item max : ℕ) (bs : List ℕ) (h : Head) (inner : Values) (rest : List ℕ) : Type 0
-    where
-  pub count : ℕ
-  pub small : count < 2 ^ 32
-  pub after : List ℕ
-  pub spelled : bs ≡ word count ++ after
-  pub each : StandEach S (replicate count (item_part item)) after inner rest
-  pub is : said S (xdr.up_to item max) h inner ≡ array_json S item count inner
+  where
+    pub count : ℕ
+    pub small : count < 2 ^ 32
+    pub after : List ℕ
+    pub spelled : bs ≡ word count ++ after
+    pub each : StandEach S (replicate count (item_part item)) after inner rest
+    pub is : said S (xdr.up_to item max) h inner ≡ array_json S item count inner
 
 pub many_at : (S : List KindView) (item max : ℕ) (bs : List ℕ) (h : Head) (inner : Values) (rest : List ℕ)
     → Node S (xdr.up_to item max) bs h inner rest → Many S item max bs h inner rest
@@ -279,8 +279,11 @@ optional_at S item bs value.absent value.none rest n = inl (n.spelled, refl)
 optional_at S item bs value.absent (value.node g i r) rest n = absurd (false≢true n.inside)
 optional_at S item bs value.present inner rest n =
     let i = one_inside S (item_part item) inner rest n.inside in
-    inr (i, n.spelled,
-    ap (λ (z : Values). present_json (kind_at S item) (jsons S (item_part item ∷ []) z)) i.is)
+    inr (
+      i,
+      n.spelled,
+      ap (λ (z : Values). present_json (kind_at S item) (jsons S (item_part item ∷ []) z)) i.is,
+    )
 optional_at S item bs _ inner rest n = absurd n.legal
 
 -- a union: its discriminant, and the part under it

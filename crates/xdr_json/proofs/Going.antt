@@ -54,11 +54,11 @@ Told S place most bs left old new = (t : Tree) (rest : List ℕ) → value.depth
 
 -- so many items are still to be told
 pub record ItemsLeft (S : List KindView) (p : Part) (count most : ℕ) (bs rest : List ℕ) (now all : List Token) : Type 0
-    where
-  pub values : Values
-  pub deep : value.depth_of values ≤ most
-  pub each : StandEach S (replicate count p) bs values rest
-  pub told : now ++ items_tokens (items_of (jsons S (replicate count p) values)) ≡ all
+  where
+    pub values : Values
+    pub deep : value.depth_of values ≤ most
+    pub each : StandEach S (replicate count p) bs values rest
+    pub told : now ++ items_tokens (items_of (jsons S (replicate count p) values)) ≡ all
 
 -- before the first item
 pub items_begin : (S : List KindView) (p : Part) (count most : ℕ) (bs : List ℕ) (vs : Values) (rest : List ℕ)

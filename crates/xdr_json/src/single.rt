@@ -30,13 +30,7 @@ pub fn push_unit(
         Kind::Int => out.signed(i64::from(unit.cast_signed())),
         Kind::Unsigned => out.unsigned(u64::from(unit)),
         Kind::Bool => out.token(Token::Bool(unit != 0)),
-        Kind::Numbered { .. } => push_name(
-            out,
-            schema,
-            id,
-            kind,
-            i64::from(unit.cast_signed()),
-        ),
+        Kind::Numbered { .. } => push_name(out, schema, id, kind, i64::from(unit.cast_signed())),
         _ => out.token(Token::Null),
     }
 }
@@ -71,7 +65,11 @@ pub fn push_sized<'a>(
 }
 
 /// Content of as many bytes as the unit before it says, with its padding. It returns what follows.
-pub fn push_counted<'a>(out: &mut Output, kind: &Kind, bytes: &'a [u8]) -> Result<&'a [u8], NoMemory>
+pub fn push_counted<'a>(
+    out: &mut Output,
+    kind: &Kind,
+    bytes: &'a [u8],
+) -> Result<&'a [u8], NoMemory>
     ensures layout { out.new.layout ≡ out.old.layout }
     ensures told { IfOk result (λ left. (content rest : List ℕ) → length content < 2 ^ 32
         → bytes.now ≡ word (length content) ++ (padded content ++ rest)

@@ -19,9 +19,9 @@ pub record Stands (kinds : List KindView) (place : ℕ) (bytes : List ℕ) (t : 
 
 -- One value for each part begins the bytes, and the rest follows.
 pub record StandEach (kinds : List KindView) (ps : List Part) (bytes : List ℕ) (vs : Values) (rest : List ℕ) : Type 0
-    where
-  pub fit : fit kinds ps vs ≡ true
-  pub spelled : bytes ≡ spelling kinds ps vs ++ rest
+  where
+    pub fit : fit kinds ps vs ≡ true
+    pub spelled : bytes ≡ spelling kinds ps vs ++ rest
 
 -- The rest is left, and these tokens were added.
 pub record Says (behind rest : List ℕ) (old new more : List Token) : Type 0 where
