@@ -7,10 +7,10 @@ ghost use Rattle.xdr_dialect.specs.Rewriting.{member_turn, other_name, define_tu
 ghost use Rattle.xdr_dialect.specs.Dialect.{left_of};
 ghost use Rattle.xdr_dialect.specs.Private.Steps.{Stands};
 
-use crate::scope::{Scope, next_number, scope_after};
 use crate::ahead::{
     an_int, begins_body, defines, ends_member, name, named, number, quoted, rest, sign, whole,
 };
+use crate::scope::{Scope, next_number, scope_after};
 use xdr_tokens::{Keyword, Mark, Token};
 
 /// The tokens in place of one.
