@@ -1,0 +1,3 @@
+pub mod DialectMeans
+pub mod Laws
+pub mod Files

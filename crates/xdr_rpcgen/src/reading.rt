@@ -1,0 +1,82 @@
+//! Reading a text in rpcgen's dialect.
+ghost use Rattle.std.specs.Prelude.{◌≡◌, ◌≢◌, ◌≤◌, IfOk, IfErr};
+ghost use Rattle.xdr_tokens.specs.Tokens.{lexemes};
+ghost use Rattle.xdr_lang.specs.Declarations.{Declared as DeclaredSpec};
+ghost use Rattle.xdr_lang.specs.OfTokens.{TokensMean};
+ghost use Rattle.xdr_lang.specs.Refusals.{IsInner};
+ghost use Rattle.xdr_lang.specs.Views.{declared_of};
+ghost use Rattle.xdr_dialect.specs.Answers.{texts};
+ghost use Rattle.xdr_dialect.specs.Dialect.{meant};
+ghost use Rattle.xdr_rpcgen.specs.DialectMeans.{PlainMeans, DialectMeans};
+
+use std::alloc::Global;
+use xdr_dialect::{meant_tokens, plain_text};
+use xdr_lang::{Declared, LangFault, MAX_TEXT, located, read_tokens};
+use xdr_tokens::{Fault, Token, Wrong, tokens};
+
+/// What the tokens of a text mean.
+fn read_cut(alloc: Global, text: &[u8], cut: &[Token<'_>]) -> Result<Declared, LangFault>
+    ensures found { IfOk result (λ v. TokensMean (meant (lexemes cut.now)) (declared_of v)) }
+    ensures only { (d : DeclaredSpec) → TokensMean (meant (lexemes cut.now)) d → IfOk result (λ v. declared_of v ≡ d) }
+    ensures refused { IfErr result
+        (λ e. e.number ≢ 13 → (d : DeclaredSpec) → TokensMean (meant (lexemes cut.now)) d → ⊥) }
+    ensures number { IfErr result (λ e. (1 ≤ e.number) × (e.number ≤ 13)) }
+    ensures inner { IfErr result (λ e. IsInner e.number e.inner) }
+    ensures place { IfErr result (λ e. (1 ≤ e.line) × (1 ≤ e.column)) }
+{
+    match meant_tokens(alloc, cut, text.len()) {
+        Ok(meant) => read_tokens(alloc, text, &meant),
+        Err(_) => Err(located(text, Fault::NoMemory)),
+    }
+}
+
+/// What a text means whose lines of `%` and `#` are left out.
+fn read_plain(alloc: Global, text: &[u8], plain: &[u8]) -> Result<Declared, LangFault>
+    ensures found { IfOk result (λ v. PlainMeans plain.now (declared_of v)) }
+    ensures only { (d : DeclaredSpec) → PlainMeans plain.now d → IfOk result (λ v. declared_of v ≡ d) }
+    ensures refused { IfErr result (λ e. e.number ≢ 13 → (d : DeclaredSpec) → PlainMeans plain.now d → ⊥) }
+    ensures number { IfErr result (λ e. (1 ≤ e.number) × (e.number ≤ 13)) }
+    ensures inner { IfErr result (λ e. IsInner e.number e.inner) }
+    ensures place { IfErr result (λ e. (1 ≤ e.line) × (1 ≤ e.column)) }
+{
+    match tokens(alloc, plain) {
+        Ok(cut) => read_cut(alloc, text, &cut),
+        Err(fault) => Err(located(text, fault)),
+    }
+}
+
+/// Reads a text of at most 262144 bytes in rpcgen's dialect: what it declares. For its lines `#ifdef` these names are
+/// defined.
+///
+/// The faults are those of `xdr_lang::read`, in its order, each at its place in the text. A line of `#` that has no
+/// meaning where it stands is 1 at its `#`, and a section that is open at the end 3 there; they come before all others
+/// but 11.
+pub fn read_dialect(alloc: Global, text: &[u8], names: &[&str]) -> Result<Declared, LangFault>
+    // What is read is what the text means.
+    ensures found { IfOk result (λ v. DialectMeans (texts names.now) text.now (declared_of v)) }
+    // A text that means something is read, and nothing else, unless memory runs out.
+    ensures only { (d : DeclaredSpec) → DialectMeans (texts names.now) text.now d
+        → IfOk result (λ v. declared_of v ≡ d) }
+    // A text that is refused for another reason means nothing.
+    ensures refused { IfErr result
+        (λ e. e.number ≢ 13 → (d : DeclaredSpec) → DialectMeans (texts names.now) text.now d → ⊥) }
+    // The numbers, the line and the column are as in `xdr_lang::read`.
+    ensures number { IfErr result (λ e. (1 ≤ e.number) × (e.number ≤ 13)) }
+    ensures inner { IfErr result (λ e. IsInner e.number e.inner) }
+    ensures place { IfErr result (λ e. (1 ≤ e.line) × (1 ≤ e.column)) }
+{
+    if text.len() > MAX_TEXT {
+        let wrong = Wrong::TextTooLong;
+        return Err(located(
+            text,
+            Fault::Refused {
+                wrong,
+                left: text.len(),
+            },
+        ));
+    }
+    match plain_text(alloc, text, names) {
+        Ok(plain) => read_plain(alloc, text, &plain),
+        Err(fault) => Err(located(text, fault)),
+    }
+}
