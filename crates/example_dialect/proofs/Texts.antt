@@ -1,5 +1,5 @@
 -- What the texts of the examples are without their lines of % and #, computed once each.
-use Rattle.std.proofs.Common.{◌≡◌, ℕ, List, [], ◌∷◌, Ok, Err, codes, refl}
+use Rattle.std.proofs.Common.{◌≡◌, [], ◌∷◌, Ok, Err, codes, refl}
 use Rattle.xdr_tokens.specs.Bytes.{run_length}
 use Rattle.xdr_tokens.specs.declared.fault.Fault.TheVariants as fault
 use Rattle.xdr_tokens.specs.declared.fault.Wrong.TheVariants as wrong

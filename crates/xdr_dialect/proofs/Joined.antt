@@ -5,11 +5,11 @@ use Rattle.std.proofs.lemmas.List.{append-nil}
 use Rattle.std.proofs.Math.Seq.{take-length}
 use Rattle.xdr_dialect.specs.Answers.{Refuses}
 use Rattle.xdr_dialect.specs.Private.Steps.{RefusesStep}
-use Rattle.std.proofs.Common.{Option, Some, None, Result, Ok, Err}
+use Rattle.std.proofs.Common.{Some, None, Result, Ok, Err}
 use Rattle.xdr_tokens.specs.declared.fault.Fault.{Fault}
 use Rattle.xdr_tokens.specs.declared.fault.Fault.TheVariants as fault
 use Rattle.xdr_tokens.specs.declared.fault.Wrong.TheVariants as wrong
-use Rattle.xdr_dialect.specs.Plain.{Standing, Turn, turn, joined, ended, plain_from}
+use Rattle.xdr_dialect.specs.Plain.{Standing, turn, joined, ended, plain_from}
 
 -- no bytes before
 pub joined_none : (r : Result (List ℕ) Fault) → joined [] r ≡ r

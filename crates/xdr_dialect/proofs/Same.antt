@@ -1,5 +1,5 @@
 -- Tokens without a construct of the dialect stay what they are.
-use Rattle.std.proofs.Common.{◌≡◌, ℕ, ℤ, Bool, true, false, List, [], ◌∷◌, ◌++◌, refl, ap, ◌∙◌, Some, None, inl, inr}
+use Rattle.std.proofs.Common.{◌≡◌, ℕ, ℤ, Bool, true, false, List, [], ◌∷◌, refl, ap, Some, None, inl, inr}
 use Rattle.std.specs.Prelude.{◌&&◌, not, codes}
 use Rattle.std.specs.Str.{bytes_eq}
 use Rattle.std.proofs.lemmas.Bool.{cases_Bool as test}
@@ -10,10 +10,10 @@ use Rattle.xdr_tokens.specs.declared.token.Mark.TheVariants as mark
 use Rattle.xdr_tokens.specs.Tokens.{Lexeme, Word, Name, Number, Sign}
 use Rattle.xdr_dialect.specs.declared.scope.Scope.{Scope}
 use Rattle.xdr_dialect.specs.declared.scope.Scope.TheVariants as scope
-use Rattle.xdr_dialect.specs.Tests.{is_word, is_sign, is_name, first_is, rest}
+use Rattle.xdr_dialect.specs.Tests.{is_word, first_is}
 use Rattle.xdr_dialect.specs.Scopes.{scope_after}
-use Rattle.xdr_dialect.specs.Rewriting.{is_quoted, is_whole, begins_body, ends_member, is_define, Turned, turn, same}
-use Rattle.xdr_dialect.specs.Rewriting.{name_turn, other_name, sized_turn, word_turn, sign_turn, number_turn}
+use Rattle.xdr_dialect.specs.Rewriting.{is_whole, ends_member, turn, same}
+use Rattle.xdr_dialect.specs.Rewriting.{name_turn, other_name, word_turn, sign_turn, number_turn}
 use Rattle.xdr_dialect.specs.Rewriting.{rewritten_from}
 use Rattle.xdr_dialect.specs.Laws.{begins, word_begins, name_begins, sign_begins, number_begins, HasNone, TokensStay}
 
@@ -40,7 +40,7 @@ word_same s word.Quadruple ts h = refl
 word_same s word.String ts h = refl
 word_same s word.Struct ts h = refl
 word_same s word.Switch ts h = refl
-word_same s word.Typedef ts h = refl
+word_same s word.Typedef ts h = rw h refl
 word_same s word.Version ts h = refl
 word_same s word.Void ts h = refl
 

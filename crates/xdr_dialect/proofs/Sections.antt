@@ -1,7 +1,6 @@
 -- Sections around a byte, the innermost first, where the code has it last.
-use Rattle.std.proofs.Common.{◌≡◌, ℕ, ◌<◌, List, [], ◌∷◌, ◌++◌, length, reverse, refl, arith, Result, Ok, Err}
+use Rattle.std.proofs.Common.{◌≡◌, ◌<◌, List, [], ◌∷◌, ◌++◌, length, reverse, refl, arith, Ok, Err}
 use Rattle.std.proofs.lemmas.List.{reverse-append, length-reverse}
-use Rattle.xdr_tokens.specs.declared.fault.Fault.{Fault}
 use Rattle.xdr_tokens.specs.declared.fault.Fault.TheVariants as fault
 use Rattle.xdr_tokens.specs.declared.fault.Wrong.TheVariants as wrong
 use Rattle.xdr_dialect.specs.declared.gate.Gate.{Gate}

@@ -1,6 +1,6 @@
 -- A text of the RFCs' language stays what it is without lines of % and #: it has none, but in comments.
-use Rattle.std.proofs.Common.{◌≡◌, ℕ, Bool, true, false, eqb, List, [], ◌∷◌, ◌++◌, refl, ap, ◌∙◌, arith, inl, inr, ◌⊎◌}
-use Rattle.std.proofs.Common.{Result, Ok, Err}
+use Rattle.std.proofs.Common.{◌≡◌, ℕ, Bool, true, false, eqb, List, [], ◌∷◌, ◌++◌, refl, arith, inl, inr}
+use Rattle.std.proofs.Common.{Ok}
 use Rattle.std.specs.Prelude.{◌&&◌, not}
 use Rattle.std.proofs.lemmas.Bool.{cases_Bool as test}
 use Rattle.xdr_tokens.specs.declared.token.Mark.{Mark}
@@ -8,12 +8,12 @@ use Rattle.xdr_tokens.specs.declared.token.Mark.TheVariants as mark
 use Rattle.xdr_tokens.specs.Bytes.{is_space, is_word}
 use Rattle.xdr_tokens.specs.Tokens.{Lexeme}
 use Rattle.xdr_tokens.specs.Text.{Piece, Blank, Comment, Run, Constant, Single, spelling, IsRun, HasNoEnd, BeginsWord}
-use Rattle.xdr_tokens.specs.Text.{BeginsDigit, IsNumeral, MayPrecede, Cuts, Tokens, mark_text}
+use Rattle.xdr_tokens.specs.Text.{IsNumeral, MayPrecede, Cuts, mark_text}
 use Rattle.xdr_dialect.specs.declared.gate.Gate.TheVariants as gate
 use Rattle.xdr_dialect.specs.declared.spot.Spot.{Spot}
 use Rattle.xdr_dialect.specs.declared.spot.Spot.TheVariants as spot
 use Rattle.xdr_dialect.specs.Spots.{kept, next_spot}
-use Rattle.xdr_dialect.specs.Plain.{Standing, is_fresh, joined, plain_from}
+use Rattle.xdr_dialect.specs.Plain.{Standing, is_fresh, plain_from}
 use Rattle.xdr_dialect.specs.Laws.{TextsStay}
 
 -- where no section is open

@@ -1,5 +1,5 @@
 -- What a text of the RFCs' language is in rpcgen's dialect (own).
-use Rattle.std.specs.Prelude.{◌≡◌, ℕ, Bool, true, false, not, ◌&&◌, List, [], ◌∷◌, Option, Some, None, Ok, codes}
+use Rattle.std.specs.Prelude.{◌≡◌, ℕ, Bool, true, false, not, ◌&&◌, List, [], ◌∷◌, Some, Ok, codes}
 use Rattle.std.specs.Prelude.{if◌then◌else◌}
 use Rattle.std.specs.Str.{bytes_eq}
 use Rattle.xdr_tokens.specs.declared.token.Keyword.{Keyword}
@@ -13,7 +13,8 @@ use Rattle.xdr_dialect.specs.declared.scope.Scope.TheVariants as scope
 use Rattle.xdr_dialect.specs.Plain.{plain}
 use Rattle.xdr_dialect.specs.Tests.{is_word, is_sign, is_name, first_is, rest}
 use Rattle.xdr_dialect.specs.Scopes.{scope_after}
-use Rattle.xdr_dialect.specs.Rewriting.{is_quoted, is_whole, begins_body, ends_member, is_define, rewritten}
+use Rattle.xdr_dialect.specs.Rewriting.{is_quoted, is_renaming, is_whole, begins_body, ends_member, is_define}
+use Rattle.xdr_dialect.specs.Rewriting.{rewritten}
 
 -- A text that is cut into tokens of the language stays what it is, whatever names are defined: in comments alone it may
 -- have lines of % and #.
@@ -23,6 +24,7 @@ TextsStay = (names : List (List ℕ)) (text : List ℕ) (ts : List Lexeme) → T
 -- a keyword with which a construct of the dialect begins
 abbrev pub word_begins : Keyword → List Lexeme → Bool
 word_begins word.Const ts = is_quoted ts
+word_begins word.Typedef ts = is_renaming ts
 word_begins word.Unsigned ts = not (first_is is_whole ts)
 word_begins word.Long ts = first_is (is_word word.Int) ts
 word_begins word.Hyper ts = first_is (is_word word.Int) ts

@@ -8,7 +8,7 @@ use Rattle.xdr_tokens.specs.declared.token.Mark.TheVariants as mark
 use Rattle.xdr_tokens.specs.Tokens.{Lexeme, Word, Name, Number, Sign}
 use Rattle.xdr_dialect.specs.declared.library.Meaning.{Meaning}
 use Rattle.xdr_dialect.specs.declared.library.Meaning.TheVariants as meaning
-use Rattle.xdr_dialect.specs.Tests.{is_word, is_sign, is_name, is_named, first_is, rest}
+use Rattle.xdr_dialect.specs.Tests.{is_word, is_sign, is_named, first_is, rest}
 
 -- the definition of a name with this meaning
 abbrev pub definition : Meaning → List ℕ → List Lexeme

@@ -1,7 +1,7 @@
 -- The tokens of rpcgen's dialect as tokens of the RFCs' language: what stands in place of a token, by the tokens behind
 -- it, one line for each construct (own, after rpcgen's parser).
-use Rattle.std.specs.Prelude.{ℕ, suc, zero, ℤ, pos, Bool, true, false, ◌&&◌, ◌||◌, not, List, [], ◌∷◌, ◌++◌, codes}
-use Rattle.std.specs.Prelude.{Option, Some, None, if◌then◌else◌}
+use Rattle.std.specs.Prelude.{ℕ, suc, zero, ℤ, Bool, true, false, ◌&&◌, ◌||◌, not, List, [], ◌∷◌, ◌++◌, codes}
+use Rattle.std.specs.Prelude.{Some, None, if◌then◌else◌}
 use Rattle.std.specs.Str.{bytes_eq}
 use Rattle.xdr_tokens.specs.declared.token.Keyword.{Keyword}
 use Rattle.xdr_tokens.specs.declared.token.Keyword.TheVariants as word
@@ -10,7 +10,7 @@ use Rattle.xdr_tokens.specs.declared.token.Mark.TheVariants as mark
 use Rattle.xdr_tokens.specs.Tokens.{Lexeme, Word, Name, Number, Sign}
 use Rattle.xdr_dialect.specs.declared.scope.Scope.{Scope}
 use Rattle.xdr_dialect.specs.declared.scope.Scope.TheVariants as scope
-use Rattle.xdr_dialect.specs.Tests.{is_word, is_sign, is_name, is_named, is_number, first_is, rest}
+use Rattle.xdr_dialect.specs.Tests.{is_word, is_sign, is_name, is_named, is_number, name_in, first_is, rest}
 use Rattle.xdr_dialect.specs.Scopes.{scope_after, next_number}
 
 -- what stands in place of a token, where the next one stands, and how many behind it go with it
@@ -45,6 +45,16 @@ three_equal ts =
 abbrev pub is_quoted : List Lexeme → Bool
 is_quoted ts = first_is is_name ts && three_equal (rest ts)
 
+-- struct, union or enum
+abbrev pub is_tag : Lexeme → Bool
+is_tag t = is_word word.Struct t || is_word word.Union t || is_word word.Enum t
+
+-- struct NAME NAME; which makes NAME a type in C, and union and enum
+abbrev pub is_renaming : List Lexeme → Bool
+is_renaming ts =
+    first_is is_tag ts && first_is is_name (rest ts) && first_is (is_named (name_in (rest ts))) (rest (rest ts))
+    && first_is (is_sign mark.Semicolon) (rest (rest (rest ts)))
+
 -- int, long or hyper
 abbrev pub is_whole : Lexeme → Bool
 is_whole t = is_word word.Int t || is_word word.Long t || is_word word.Hyper t
@@ -72,9 +82,10 @@ begins_body ts = first_is (is_sign mark.OpenBrace) ts || first_is (is_word word.
 abbrev pub tagged_turn : Scope → Lexeme → List Lexeme → Turned
 tagged_turn s t ts = if first_is is_name ts && not (begins_body (rest ts)) then nothing s 0 else same s t
 
--- a keyword: const with quotes is nothing, float and double are names of the library
+-- a keyword: const with quotes is nothing, nor is typedef struct NAME NAME; float and double are names of the library
 abbrev pub word_turn : Scope → Keyword → List Lexeme → Turned
 word_turn s word.Const ts = if is_quoted ts then nothing s 5 else same s (Word word.Const)
+word_turn s word.Typedef ts = if is_renaming ts then nothing s 4 else same s (Word word.Typedef)
 word_turn s word.Unsigned ts = unsigned_turn s ts
 word_turn s word.Long ts = sized_turn s (Word word.Long) ts
 word_turn s word.Hyper ts = sized_turn s (Word word.Hyper) ts

@@ -1,9 +1,7 @@
 -- Where in the grammar a token of rpcgen's dialect stands, as far as its meaning hangs on that.
-use Rattle.std.specs.Prelude.{ℕ, ℤ, pos, negsuc, ◌+ℤ◌, int_le, int_lt, Bool, true, false, ◌&&◌, Option, Some, None}
+use Rattle.std.specs.Prelude.{ℤ, pos, negsuc, ◌+ℤ◌, int_le, int_lt, true, false, ◌&&◌, Option, Some, None}
 use Rattle.std.specs.Prelude.{if◌then◌else◌}
-use Rattle.xdr_tokens.specs.declared.token.Keyword.{Keyword}
 use Rattle.xdr_tokens.specs.declared.token.Keyword.TheVariants as word
-use Rattle.xdr_tokens.specs.declared.token.Mark.{Mark}
 use Rattle.xdr_tokens.specs.declared.token.Mark.TheVariants as mark
 use Rattle.xdr_tokens.specs.Tokens.{Lexeme, Word, Name, Number, Sign}
 use Rattle.xdr_dialect.specs.declared.scope.Scope.{Scope}

@@ -75,6 +75,14 @@ is_named name (Name n) = bytes_eq n name
 is_named name (Number n) = false
 is_named name (Sign m) = false
 
+-- the name in front, where there is one
+abbrev pub name_in : List Lexeme → List ℕ
+name_in [] = []
+name_in (Word v ∷ ts) = []
+name_in (Name n ∷ ts) = n
+name_in (Number n ∷ ts) = []
+name_in (Sign m ∷ ts) = []
+
 -- a number
 abbrev pub is_number : Lexeme → Bool
 is_number (Word v) = false

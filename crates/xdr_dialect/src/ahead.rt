@@ -1,9 +1,9 @@
 //! What the tokens in front are.
 ghost use Rattle.std.specs.Prelude.{◌≡◌, ◌||◌};
 ghost use Rattle.xdr_tokens.specs.Tokens.{lexemes};
-ghost use Rattle.xdr_dialect.specs.Tests.{is_word, is_sign, is_name, is_named, is_number, first_is, rest};
+ghost use Rattle.xdr_dialect.specs.Tests.{is_word, is_sign, is_name, is_named, is_number, name_in, first_is, rest};
 ghost use Rattle.xdr_dialect.specs.Rewriting.{is_whole, is_quoted, begins_body, ends_member, is_define};
-ghost use Rattle.xdr_dialect.specs.Rewriting.{an_int, three_equal};
+ghost use Rattle.xdr_dialect.specs.Rewriting.{an_int, three_equal, is_tag, is_renaming};
 
 use xdr_tokens::{Keyword, Mark, Token};
 
@@ -98,6 +98,41 @@ pub(crate) fn quoted(tokens: &[Token<'_>]) -> bool
     ensures { result ≡ is_quoted (lexemes tokens.now) }
 {
     name(tokens) && three_equal(rest(tokens))
+}
+
+/// The name in front, where there is one.
+fn name_in<'a>(tokens: &[Token<'a>]) -> &'a str
+    ensures { result.now ≡ name_in (lexemes tokens.now) }
+{
+    match tokens {
+        [Token::Name(found, _), ..] => found,
+        _ => "",
+    }
+}
+
+/// `struct`, `union` or `enum` is in front.
+fn tag(tokens: &[Token<'_>]) -> bool
+    ensures { result ≡ first_is is_tag (lexemes tokens.now) }
+{
+    matches!(
+        tokens,
+        [
+            Token::Word(Keyword::Struct | Keyword::Union | Keyword::Enum, _),
+            ..
+        ]
+    )
+}
+
+/// `struct NAME NAME;` is in front, or the same with `union` or `enum`.
+pub(crate) fn renames(tokens: &[Token<'_>]) -> bool
+    ensures { result ≡ is_renaming (lexemes tokens.now) }
+{
+    let first = rest(tokens);
+    let second = rest(first);
+    tag(tokens)
+        && name(first)
+        && named(second, name_in(first))
+        && sign(rest(second), Mark::Semicolon)
 }
 
 /// The body of an enumeration or a union is in front.

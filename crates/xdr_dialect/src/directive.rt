@@ -1,9 +1,9 @@
 //! What a line of `#` says.
-ghost use Rattle.std.specs.Prelude.{◌≡◌, ◌≤◌, List, length, map};
+ghost use Rattle.std.specs.Prelude.{◌≡◌, ◌≤◌, length, map};
 ghost use Rattle.std.specs.List.{list_any};
 ghost use Rattle.std.specs.Str.{bytes_eq};
-ghost use Rattle.xdr_tokens.specs.Bytes.{is_word, run_length, is_digit};
-ghost use Rattle.xdr_dialect.specs.Directives.{after_blanks, word_in, after_word, ends, is_name, defined, condition};
+ghost use Rattle.xdr_tokens.specs.Bytes.{is_word, run_length};
+ghost use Rattle.xdr_dialect.specs.Directives.{after_blanks, word_in, after_word, ends, defined, condition};
 ghost use Rattle.xdr_dialect.specs.Directives.{directive_of, directive};
 ghost use Rattle.xdr_dialect.specs.Answers.{texts};
 

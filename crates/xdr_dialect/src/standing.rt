@@ -1,8 +1,8 @@
 //! Where a byte stands: on its line, and in which sections.
-ghost use Rattle.std.specs.Prelude.{◌≡◌, ◌+◌, IfErr, OnOk, length, ◌∷◌, [], Some, None};
+ghost use Rattle.std.specs.Prelude.{◌≡◌, ◌+◌, IfErr, OnOk, length, ◌∷◌, Some, None};
 ghost use Rattle.xdr_tokens.specs.declared.fault.Fault.{Fault};
-ghost use Rattle.xdr_dialect.specs.Directives.{directive, is_shown};
-ghost use Rattle.xdr_dialect.specs.Plain.{directed, turn, passed};
+ghost use Rattle.xdr_dialect.specs.Directives.{is_shown};
+ghost use Rattle.xdr_dialect.specs.Plain.{directed, turn};
 ghost use Rattle.xdr_dialect.specs.Private.Steps.{standing_of, Turns, Closes};
 ghost use Rattle.xdr_dialect.specs.Answers.{texts};
 

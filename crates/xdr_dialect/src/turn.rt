@@ -8,7 +8,8 @@ ghost use Rattle.xdr_dialect.specs.Dialect.{left_of};
 ghost use Rattle.xdr_dialect.specs.Private.Steps.{Stands};
 
 use crate::ahead::{
-    an_int, begins_body, defines, ends_member, name, named, number, quoted, rest, sign, whole,
+    an_int, begins_body, defines, ends_member, name, named, number, quoted, renames, rest, sign,
+    whole,
 };
 use crate::scope::{Scope, next_number, scope_after};
 use xdr_tokens::{Keyword, Mark, Token};
@@ -100,6 +101,7 @@ fn word_turn<'a>(scope: Scope, word: Keyword, left: usize, others: &[Token<'a>])
     let token = Token::Word(word, left);
     match word {
         Keyword::Const if quoted(others) => nothing(scope, 5),
+        Keyword::Typedef if renames(others) => nothing(scope, 4),
         Keyword::Unsigned => unsigned_turn(scope, left, others),
         Keyword::Long | Keyword::Hyper => same_but(scope, token, an_int(others)),
         Keyword::Enum | Keyword::Union => tagged_turn(scope, token, others),

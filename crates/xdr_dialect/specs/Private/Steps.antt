@@ -3,7 +3,6 @@ use Rattle.std.specs.Prelude.{◌≡◌, ℕ, List, [], ◌∷◌, reverse, Opti
 use Rattle.xdr_tokens.specs.declared.fault.Fault.{Fault}
 use Rattle.xdr_tokens.specs.declared.fault.Fault.TheVariants as fault
 use Rattle.xdr_tokens.specs.declared.fault.Wrong.TheVariants as wrong
-use Rattle.xdr_dialect.specs.declared.gate.Gate.{Gate}
 use Rattle.xdr_dialect.specs.declared.standing.Standing.{Standing}
 use Rattle.xdr_dialect.specs.Plain as plain
 use Rattle.xdr_tokens.specs.declared.token.Token.{Token}
