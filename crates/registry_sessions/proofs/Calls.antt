@@ -1,6 +1,6 @@
 -- What each call of a table does.
 use Rattle.std.proofs.Common.{◌≡◌, ℕ, ◌+◌, nat_eq, List, [], ◌∷◌, ◌++◌, cond, Option, Some, None, Result}
-use Rattle.std.proofs.Common.{IfSome, is_some, length, arith, true≢false, true, false, refl, sym, ap, ◌∙◌, subst}
+use Rattle.std.proofs.Common.{IfSome, IfNone, is_some, length, arith, true≢false, true, false, refl, sym, ap, ◌∙◌, subst}
 use Rattle.std.proofs.lemmas.List.{append-nil}
 use Rattle.registry_rows.specs.Rows.{Row}
 use Rattle.registry_rows.specs.Ports.{udp}
@@ -145,3 +145,17 @@ starts old new i s updated limits read held = record {
   holds = held;
   limits = limits;
 }
+
+-- nothing comes
+pub stays : (old : SessionTable) (g : Sessions) → ((j : ℕ) → g j ≡ session_at old j) → (mid : List Row)
+    → Goes old g (next_of old) mid mid [] []
+stays old g same mid rows events sent p =
+    subst (λ x. Progress rows x mid g (next_of old) (sent ++ [])) (sym (append-nil events))
+    (subst (λ x. Progress rows events mid g (next_of old) x) (sym (append-nil sent))
+    (same_sessions rows mid events (session_at old) g (next_of old) sent same p))
+
+-- no connection was there to end
+pub closes_none : (old : SessionTable) (g : Sessions) (o : Option Session)
+    → IfNone o ((j : ℕ) → g j ≡ session_at old j) → IfNone o ((mid : List Row) → Goes old g (next_of old) mid mid [] [])
+closes_none old g (Some s) same = tt
+closes_none old g None same = stays old g same

@@ -65,8 +65,9 @@ impl SessionTable {
             (rows : List Row) → Proceeds self.old self.new rows rows (Opens i ∷ []) []) }
         ensures full { IsErrOf result OpenFault.Full
             → (most_of self.old ≤ count_of self.old) ⊎ (next_of self.old ≡ 2 ^ 64 - 1) }
-        // Where none was begun, nothing changed.
+        // Where none was begun, nothing changed, and the table has done nothing.
         ensures same { OnErr result (SameSessions self.old self.new) }
+        ensures stays { OnErr result ((rows : List Row) → Proceeds self.old self.new rows rows [] []) }
     {
         if self.sessions.len() >= self.most || self.next == u64::MAX {
             return Err(OpenFault::Full);
@@ -157,6 +158,7 @@ impl SessionTable {
             (rows : List Row) → Proceeds self.old self.new rows rows (Ends number ∷ []) []) }
         ensures stops { IfSome result (λ s. Stops self.old self.new number) }
         ensures same { IfNone result (SameSessions self.old self.new) }
+        ensures stays { IfNone result ((rows : List Row) → Proceeds self.old self.new rows rows [] []) }
     {
         self.sessions.remove(&number)
     }

@@ -1,5 +1,6 @@
-use Rattle.std.proofs.Common.{refl}
-use Rattle.registry_sessions.proofs.Calls.{opens, starts}
+use Rattle.std.proofs.Common.{rules, refl, ℕ, ◌≡◌, nat_eq}
+use Rattle.std.specs.HashMap.{get}
+use Rattle.registry_sessions.proofs.Calls.{opens, starts, stays}
 use Rattle.registry_sessions.proofs.table.SessionTable.open.Goals as goal
 
 pub returns-in-Ok-clause-opened : goal.returns-in-Ok-clause-opened
@@ -11,3 +12,8 @@ pub returns-in-Ok-clause-proceeds : goal.returns-in-Ok-clause-proceeds
 returns-in-Ok-clause-proceeds c =
     opens c.args.self.now _ c.start-session.result c.in-Ok.ensures.updates.0 c.start-session.ensures.reads
     c.start-session.ensures.replies
+
+pub returns-clause-stays : goal.returns-clause-stays
+returns-clause-stays c =
+    let same : (j : ℕ) → get nat_eq c.insert.new.self j ≡ get nat_eq c.args.self.now.sessions j = search rules in
+    stays c.args.self.now _ same

@@ -1,0 +1,18 @@
+use Rattle.oncrpc_sessions.proofs.Going.{goes_none, goes_then}
+use Rattle.oncrpc_sessions.proofs.rounds.Sockets.receive.Goals as goal
+
+pub returns-then-not-receives : goal.returns-then-not-receives
+returns-then-not-receives g c = goes_none c.args.table.now c.args.directory.now
+
+pub loop-init : goal.loop-init
+loop-init g c = goes_none c.args.table.now c.args.directory.now
+
+pub returns-then-not-receive_one : goal.returns-then-not-receive_one
+returns-then-not-receive_one g c =
+    goes_then c.args.table.now c.args.table.now c.args.table.now c.args.directory.now _ c.receive_one.new.directory
+    c.loop.invariant c.receive_one.ensures
+
+pub loop-preserved : goal.loop-preserved
+loop-preserved g c =
+    goes_then c.args.table.now c.args.table.now c.args.table.now c.args.directory.now _ c.receive_one.new.directory
+    c.loop.invariant c.receive_one.ensures
