@@ -1,5 +1,6 @@
 -- Steps of a loop, one after the other.
-use Rattle.std.proofs.Common.{◌≡◌, List, ℕ, [], ◌∷◌, ◌++◌, Option, Some, None, Result, Ok, Err, IfSome, IfNone, IfOk, OnErr, sym, subst}
+use Rattle.std.proofs.Common.{◌≡◌, List, ℕ, [], ◌∷◌, ◌++◌, Option, Some, None, Result, Ok, Err}
+use Rattle.std.proofs.Common.{IfSome, IfNone, IfOk, OnErr, sym, subst}
 use Rattle.std.proofs.lemmas.List.{append-nil}
 use Rattle.registry_rows.specs.Rows.{Row}
 use Rattle.registry_sessions.specs.declared.table.SessionTable.{SessionTable}

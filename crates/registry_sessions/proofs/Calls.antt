@@ -1,6 +1,7 @@
 -- What each call of a table does.
 use Rattle.std.proofs.Common.{◌≡◌, ℕ, ◌+◌, nat_eq, List, [], ◌∷◌, ◌++◌, cond, Option, Some, None, Result}
-use Rattle.std.proofs.Common.{IfSome, IfNone, is_some, length, arith, true≢false, true, false, refl, sym, ap, ◌∙◌, subst}
+use Rattle.std.proofs.Common.{IfNone}
+use Rattle.std.proofs.Common.{IfSome, is_some, length, arith, true≢false, true, false, refl, sym, ap, ◌∙◌, subst}
 use Rattle.std.proofs.lemmas.List.{append-nil}
 use Rattle.registry_rows.specs.Rows.{Row}
 use Rattle.registry_rows.specs.Ports.{udp}

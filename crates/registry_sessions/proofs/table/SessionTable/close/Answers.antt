@@ -9,6 +9,6 @@ returns-clause-proceeds c =
 
 pub returns-clause-stays : goal.returns-clause-stays
 returns-clause-stays c =
-    let same : IfNone c.remove.result ((j : ℕ) → get nat_eq c.remove.new.self j ≡ get nat_eq c.args.self.now.sessions j) =
-    search rules in
+    let same : IfNone c.remove.result
+    ((j : ℕ) → get nat_eq c.remove.new.self j ≡ get nat_eq c.args.self.now.sessions j) = search rules in
     closes_none c.args.self.now _ c.remove.result same
