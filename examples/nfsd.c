@@ -1,7 +1,9 @@
 /* Three procedures of NFS version 3 (RFC 1813), GETATTR, LOOKUP and READ, and a client that calls them, over a pair of
  * sockets: no port is opened. Arguments and results are written by their items, and read by their parts.
  *
- *   ./build-library library && cc -Ilibrary/include examples/nfsd.c library/liboncrpc.a -o nfsd && ./nfsd */
+ *   ./build-library library && cc -Ilibrary/include examples/nfsd.c library/liboncrpc.a -o nfsd && ./nfsd
+ *
+ * With the word serve or ask it is the server or the client alone, on a socket that is its standard input. */
 #define _DEFAULT_SOURCE
 #include <stdio.h>
 #include <string.h>
@@ -370,22 +372,31 @@ static int look_around(struct end *end) {
         && follow(end, &rhymes, "empty.txt", &file) && follow(end, &rhymes, "jill.txt", &file);
 }
 
-int main(void) {
+/* Serves the other end, or looks around in it, until the one or the other has ended. */
+static int talk(int socket, int is_server) {
     static struct end end = {.records = ONCRPC_NONE};
+    oncrpc_outcome outcome;
+    end.socket = socket;
+    int is_well = !fails("declarations", oncrpc_declarations_read(text, sizeof text - 1, &held, &outcome))
+        && !fails("records", oncrpc_records_start(&end.records, MOST_RECORD, &outcome))
+        && (is_server ? serve(&end) : look_around(&end));
+    close(end.socket);
+    oncrpc_records_free(&end.records);
+    oncrpc_declarations_free(&held);
+    return is_well;
+}
+
+int main(int argc, char **argv) {
     int sockets[2], status = 0;
     pid_t server;
-    oncrpc_outcome outcome;
+    if (argc == 2) {
+        return !talk(STDIN_FILENO, !strcmp(argv[1], "serve"));
+    }
     if (socketpair(AF_UNIX, SOCK_STREAM, 0, sockets) || (server = fork()) < 0) {
         perror("nfsd");
         return 1;
     }
-    end.socket = sockets[!server];
     close(sockets[!!server]);
-    int is_well = !fails("declarations", oncrpc_declarations_read(text, sizeof text - 1, &held, &outcome))
-        && !fails("records", oncrpc_records_start(&end.records, MOST_RECORD, &outcome))
-        && (server ? look_around(&end) : serve(&end));
-    close(end.socket);
-    oncrpc_records_free(&end.records);
-    oncrpc_declarations_free(&held);
+    int is_well = talk(sockets[!server], !server);
     return !is_well || (server && (waitpid(server, &status, 0) < 0 || status));
 }
