@@ -61,9 +61,9 @@ impl Sockets {
         })
     }
 
-    /// One round: waits for events, no longer than `limits.0` and not at all while a client has more to do. It takes what
-    /// came and gives each client one turn. Those go that are done, or were idle for longer than `limits.1`. An error is
-    /// that of the wait or of the clock.
+    /// One round: waits for events, no longer than `limits.0` and not at all while a client has more to do. It takes
+    /// what came and gives each client one turn. Those go that are done, or were idle for longer than `limits.1`. An
+    /// error is that of the wait or of the clock.
     pub fn round<R: Clock, S: BuildHasher>(
         &mut self,
         rt: &R,
