@@ -16,6 +16,13 @@ if [ -e "$here/../library/liboncrpc.a" ]; then
         "$here/../library/liboncrpc.a" -o loop_library -ltirpc
     gcc -O2 -w -I/usr/include/tirpc -I"$here/../library/include" c/loop_stream.c \
         "$here/../library/liboncrpc.a" -o loop_stream -ltirpc
+    # bindings/rust over it, where Rust is there.
+    if command -v cargo >/dev/null && command -v rustc >/dev/null; then
+        ONCRPC_LIBRARY="$here/../library" CARGO_TARGET_DIR="$to/cargo" \
+            cargo build --release --offline -q --manifest-path "$here/../bindings/rust/Cargo.toml"
+        rustc -O --edition 2021 -L "native=$here/../library" --extern "oncrpc=$to/cargo/release/liboncrpc.rlib" \
+            "$here/rust/loop_buffers.rs" -o loop_buffers
+    fi
 fi
 for p in records loop_registry; do gcc -O2 -w -I/usr/include/tirpc c/$p.c -o $p -ltirpc; done
 gcc -O2 -w c/registry_load.c -o registry_load

@@ -1,5 +1,6 @@
 """Times and instructions of programs, ours beside others."""
 import os
+import resource
 import signal
 import subprocess
 import sys
@@ -84,6 +85,25 @@ def counted(words, source, sink):
             if "Collected" in line:
                 return int(line.split(":")[-1]), ended
     sys.exit(f"{words}: callgrind counted nothing: {ended.stderr[-300:]}")
+
+
+def per_value(program, words, few, many, given):
+    """Wall time and instructions of one repetition, what the start costs left out."""
+    least = {count: wall([program, *words, str(count)], given, 5)[0] for count in (few, many)}
+    counts = {count: instructions([program, *words, str(count)], given) for count in (few, many)}
+    return (least[many] - least[few]) / (many - few), (counts[many] - counts[few]) / (many - few)
+
+
+def processor(words, runs=3):
+    """The least processor time in seconds, whatever the status: a hostile text is mostly refused."""
+    best = None
+    for _ in range(runs):
+        before = resource.getrusage(resource.RUSAGE_CHILDREN)
+        subprocess.run(words, stdin=subprocess.DEVNULL, stdout=subprocess.DEVNULL, stderr=subprocess.DEVNULL)
+        after = resource.getrusage(resource.RUSAGE_CHILDREN)
+        taken = after.ru_utime - before.ru_utime + after.ru_stime - before.ru_stime
+        best = taken if best is None else min(best, taken)
+    return best
 
 
 def beside(name, ours, theirs, given, units, counted=True):

@@ -49,6 +49,14 @@ mod tests {
         }
     }
 
+    /// What no memory has room for is refused, and ends nothing.
+    #[test]
+    fn too_many_items_are_none() {
+        assert!(with_capacity::<u8>(usize::MAX).is_none());
+        assert!(with_capacity::<u64>(usize::MAX / 8).is_none());
+        assert!(with_capacity::<u64>(3).is_some_and(|made| made.is_empty() && made.capacity() >= 3));
+    }
+
     /// What a call does not write stays as an earlier one left it.
     #[test]
     fn nothing_is_cleared() {
