@@ -14,3 +14,12 @@ pub mod OneMore
 pub mod Refusing
 pub mod Taken
 pub mod Told
+pub mod Run
+pub mod Counted
+pub mod Cut
+pub mod Following
+pub mod AtOnce
+pub mod Several
+pub mod InTurn
+pub mod Words
+pub mod Joining

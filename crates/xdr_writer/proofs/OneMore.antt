@@ -11,12 +11,12 @@ use Rattle.xdr_codec.specs.Checks as checks
 use Rattle.xdr_codec.specs.declared.checker.Checker.{Checker}
 use Rattle.xdr_writer.specs.Items.{ItemView, NodeItem, of_node, spelled_as, all_spelled}
 use Rattle.xdr_writer.specs.Forms.{HasForm, HasRange}
-use Rattle.xdr_writer.specs.Represents.{RepresentsItems, Begin, kinds_of, kind_of}
+use Rattle.xdr_writer.specs.Represents.{RepresentsItems, Begin, AreDue, word_kind, kinds_of, kind_of}
 use Rattle.xdr_writer.specs.Answers.{Took, Takes, Refuses, most_bytes}
 use Rattle.xdr_writer.specs.Private.Bytes.{coded_bytes, SaysOf, SaysWithin}
 use Rattle.xdr_writer.specs.Private.Becomes.{Becomes, IsPlace}
 use Rattle.xdr_writer.specs.Private.Judged.{IsJudgedWithin, Kept, Grants}
-use Rattle.xdr_writer.specs.Private.After.{IsAfter, TookItem, SaysDue, FindsDue, RefusesItem}
+use Rattle.xdr_writer.specs.Private.After.{IsAfter, TookItem, SaysDue, FindsDue, RefusesItem, FollowsItem}
 use Rattle.xdr_writer.specs.declared.refusal.Why.{Why}
 use Rattle.xdr_writer.specs.declared.refusal.Why.TheVariants.{NoMemory}
 use Rattle.xdr_writer.specs.declared.units.Coded.{Coded}
@@ -24,6 +24,7 @@ use Rattle.xdr_writer.specs.declared.writer.Writer.{Writer}
 use Rattle.xdr_writer.specs.declared.item.Step.{Step}
 use Rattle.xdr_writer.proofs.Joined.{all_units, spelled_more, most_spelled}
 use Rattle.xdr_writer.proofs.Begin.{begin_more}
+use Rattle.xdr_writer.proofs.Following.{due_behind}
 use Rattle.xdr_writer.proofs.Coding.{Coded_by, at_place, units_of}
 use Rattle.xdr_writer.proofs.Outcomes.{TakesBytes, takes}
 use Rattle.xdr_writer.proofs.Putting.{in_range, stands_at, takes_items, within_refuse, place}
@@ -178,8 +179,8 @@ module _ (c m x : Checker) (schema : Lists) (of : checks.schema_of c ≡ schema)
 pub took_by : (a b : Writer) (is : List NodeItem) (i : ItemView) (before after : List ℕ) (x : Step)
     → RepresentsItems a is → TookItem a.checker b.checker is i before after x → b.refused ≡ None
     → b.written ≡ a.written + (length after - length before) → b.count ≡ a.count + 1
-    → Took a b is i before after x
-took_by a b is i before after x r t refused written count =
+    → FollowsItem a.checker i b.known.run → checks.IsSame a.checker b.checker → Took a b is i before after x
+took_by a b is i before after x r t refused written count follows same =
     let item : NodeItem = of_node t.kind i in
     let more : length (all_spelled (is ++ item ∷ [])) ≡ length (all_spelled is ++ spelled_as t.kind i) =
     ap (λ (z : List ℕ). length z) (spelled_more is item) in
@@ -200,6 +201,13 @@ took_by a b is i before after x r t refused written count =
         );
         count = omega (arith, count, r.count, length-append is (item ∷ []));
         begin = t.given.begin;
+        due =
+            let run = b.known.run in
+            let f = follows is (record { bytes = r.bytes; begin = r.begin }) in
+            carried (λ (k : List KindView) (n : ℕ) (l : Bounds). AreDue k n (is ++ item ∷ []) run.left
+            (word_kind run.signed)) a.checker b.checker same
+            (due_behind (kinds_of a) (kind_of a) (checks.limits_of a.checker) is i t.kind run.left run.signed f.0 f.1
+            f.2);
       };
       bytes = t.bytes;
       takes = subst (λ (l : Bounds). Takes (kinds_of a) (kind_of a) l (is ++ item ∷ []) x) a.limits_are t.takes;

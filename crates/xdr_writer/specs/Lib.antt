@@ -7,3 +7,4 @@ pub mod Laws
 pub mod Private
 pub mod Told
 pub mod Sinking
+pub mod Runs

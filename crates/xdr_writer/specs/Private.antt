@@ -3,3 +3,4 @@ pub mod Bytes
 pub mod Becomes
 pub mod Judged
 pub mod After
+pub mod Runs

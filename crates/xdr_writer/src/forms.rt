@@ -16,8 +16,8 @@ use crate::units::Coded;
 use xdr_codec::Due;
 use xdr_types::{Kind, KindId, Schema};
 
-// Whether the number has one unit.
-fn is_word(signed: bool, number: i128) -> bool
+/// Whether the number has one unit.
+pub(crate) fn is_word(signed: bool, number: i128) -> bool
     ensures { result ≡ in_word signed number }
 {
     if signed {

@@ -1,18 +1,19 @@
 //! An item taken: what is due, its form, and its bytes judged and then written.
 ghost use Rattle.std.specs.Prelude.{◌≡◌, ◌≤◌, ◌+◌, ◌%◌, List, ℕ, length, IfOk, IfErr, MatchResult, vec_capacity, ◌++◌};
-ghost use Rattle.std.specs.Prelude.{true};
+ghost use Rattle.std.specs.Prelude.{true, false};
 ghost use Rattle.xdr_codec.specs.Checks.{RepresentsBytes, schema_of, limits_of, IsWaiting};
 ghost use Rattle.xdr_writer.specs.Items.{NodeItem, item_view};
 ghost use Rattle.xdr_writer.specs.Answers.{most_bytes};
 ghost use Rattle.xdr_writer.specs.Private.Bytes.{coded_bytes, pieces_bytes};
 ghost use Rattle.xdr_writer.specs.Private.Judged.{Judges, Grants, IsJudgedWithin, Kept};
-ghost use Rattle.xdr_writer.specs.Private.After.{FindsDue, IsAfter, TookItem, RefusesItem};
+ghost use Rattle.xdr_writer.specs.Private.After.{FindsDue, IsAfter, TookItem, RefusesItem, FollowsItem};
 
 use crate::forms::coded_of;
 use crate::item::{Item, Step};
 use crate::judging::{judge, judge_pieces};
 use crate::refusal::Why;
-use crate::units::{Coded, Pieces, pieces_of, push_pieces, size_within};
+use crate::runs::{Known, run_of};
+use crate::units::{Coded, Pieces, joined, pieces_of, push_pieces, size_within};
 use xdr_codec::{Checker, Due};
 use xdr_types::Schema;
 
@@ -41,8 +42,29 @@ fn next_due(checker: &mut Checker<'_>, waits: bool) -> Result<Due, Why>
     }
 }
 
-// Judges an item's bytes, and then writes them.
-fn write(checker: &mut Checker<'_>, pieces: &Pieces<'_>, out: &mut Vec<u8>) -> Result<Step, Why>
+// Judges bytes, and then writes them.
+fn write_bytes(checker: &mut Checker<'_>, bytes: &[u8], out: &mut Vec<u8>) -> Result<Step, Why>
+    ensures judges { Judges checker.old checker.new bytes.now result }
+    ensures written { MatchResult result (λ _. out.new.items ≡ out.old.items ++ bytes.now)
+        (λ _. out.new.items ≡ out.old.items) }
+    ensures granted { length out.old.items + length bytes.now ≤ vec_capacity out.old → Grants checker.old result }
+{
+    let step = match judge(checker, bytes) {
+        Ok(step) => step,
+        Err(why) => return Err(why),
+    };
+    match out.extend_from_slice(bytes) {
+        Ok(()) => Ok(step),
+        Err(_) => Err(Why::NoMemory),
+    }
+}
+
+// Judges an item's bytes where they lie, and then writes them.
+fn write_apart(
+    checker: &mut Checker<'_>,
+    pieces: &Pieces<'_>,
+    out: &mut Vec<u8>,
+) -> Result<Step, Why>
     requires { length (pieces_bytes pieces.now) ≤ 16777216 }
     ensures judges { Judges checker.old checker.new (pieces_bytes pieces.now) result }
     ensures written { MatchResult result (λ _. out.new.items ≡ out.old.items ++ pieces_bytes pieces.now)
@@ -57,6 +79,24 @@ fn write(checker: &mut Checker<'_>, pieces: &Pieces<'_>, out: &mut Vec<u8>) -> R
     match push_pieces(out, pieces) {
         Ok(()) => Ok(step),
         Err(_) => Err(Why::NoMemory),
+    }
+}
+
+// Judges an item's bytes, and then writes them. A few of them are put together first, and judged at once.
+fn write(checker: &mut Checker<'_>, pieces: &Pieces<'_>, out: &mut Vec<u8>) -> Result<Step, Why>
+    requires { length (pieces_bytes pieces.now) ≤ 16777216 }
+    ensures judges { Judges checker.old checker.new (pieces_bytes pieces.now) result }
+    ensures written { MatchResult result (λ _. out.new.items ≡ out.old.items ++ pieces_bytes pieces.now)
+        (λ _. out.new.items ≡ out.old.items) }
+    ensures granted { length out.old.items + length (pieces_bytes pieces.now) ≤ vec_capacity out.old
+        → Grants checker.old result }
+{
+    if pieces.content.is_empty() {
+        return write_bytes(checker, pieces.head.bytes(), out);
+    }
+    match joined(pieces) {
+        Some(bytes) => write_bytes(checker, bytes.as_slice(), out),
+        None => write_apart(checker, pieces, out),
     }
 }
 
@@ -86,12 +126,12 @@ fn write_within(
     write(checker, &pieces, out)
 }
 
-/// Takes the next item where there is so much space: its bytes are judged, and then written. Whether a unit is needed
-/// need not be known.
+/// Takes the next item where there is so much space: its bytes are judged, and then written. Of what is due behind it
+/// the numbers are known.
 pub(crate) fn take(
     checker: &mut Checker<'_>,
     schema: &Schema,
-    waits: bool,
+    known: &mut Known,
     space: usize,
     item: Item<'_>,
     out: &mut Vec<u8>,
@@ -99,7 +139,7 @@ pub(crate) fn take(
     requires schema { schema_of checker.old ≡ schema.now }
     requires units { (limits_of checker.old).bytes % 4 ≡ 0 }
     requires low { space ≤ 16777216 }
-    requires waiting { waits ≡ true → (IsWaiting checker.old → ⊥) → ⊥ }
+    requires waiting { known.old.waits ≡ true → (IsWaiting checker.old → ⊥) → ⊥ }
     ensures took { IfOk result (λ s. (is : List NodeItem) → IsAfter checker.old is
         → TookItem checker.old checker.new is (item_view item.entry) out.old.items out.new.items s) }
     ensures refuses { IfErr result
@@ -107,11 +147,16 @@ pub(crate) fn take(
     ensures kept { Kept checker.old checker.new space out.old.items out.new.items result }
     ensures granted { (is : List NodeItem) → IsAfter checker.old is
         → length out.old.items + most_bytes (item_view item.entry) ≤ vec_capacity out.old → Grants checker.old result }
+    ensures known { known.new.waits ≡ false }
+    ensures run { IfOk result (λ _. FollowsItem checker.old (item_view item.entry) known.new.run) }
 {
+    let waits = known.waits;
+    known.waits = false;
     let due = match next_due(checker, waits) {
         Ok(due) => due,
         Err(why) => return Err(why),
     };
+    known.run = run_of(schema, due, item);
     match coded_of(schema, due, item) {
         Ok(coded) => write_within(checker, space, coded, out),
         Err(why) => Err(why),

@@ -1,9 +1,11 @@
 //! Items whose form is known, and their bytes.
 ghost use Rattle.std.specs.Prelude.{◌≡◌, ◌≤◌, ◌<◌, ◌+◌, ◌-◌, ◌%◌, ◌++◌, length, MatchOption, OnOk, OnErr, IsOk, pos};
-ghost use Rattle.std.specs.Prelude.{vec_len, vec_capacity};
+ghost use Rattle.std.specs.Prelude.{vec_len, vec_capacity, true, IfSome};
 ghost use Rattle.xdr_units.specs.Numbers.{num4, num8, pad};
 ghost use Rattle.xdr_writer.specs.Private.Bytes.{coded_bytes, head_bytes, pieces_bytes};
+ghost use Rattle.xdr_writer.specs.Private.Becomes.{in_word};
 
+use arrayvec::ArrayVec;
 use byteorder::{BigEndian, ByteOrder};
 use xdr_units::NoMemory;
 
@@ -135,6 +137,20 @@ fn unsigned_hyper(number: u64) -> Head
     Head::Wide(bytes)
 }
 
+/// The four bytes of a number that has one unit, signed or not.
+pub(crate) fn word(signed: bool, number: i128) -> [u8; 4]
+    requires { in_word signed number ≡ true }
+    ensures { result ≡ num4 number }
+{
+    let mut bytes = [0; 4];
+    if signed {
+        BigEndian::write_i32(&mut bytes, number as i32);
+    } else {
+        BigEndian::write_u32(&mut bytes, number as u32);
+    }
+    bytes
+}
+
 // A head without content.
 fn alone<'a>(head: Head) -> Pieces<'a>
     ensures { pieces_bytes result ≡ head_bytes head }
@@ -161,6 +177,25 @@ pub(crate) fn pieces_of<'a>(coded: Coded<'a>) -> Pieces<'a>
             content,
         },
     }
+}
+
+/// How many bytes of content are few.
+const FEW: usize = 112;
+
+/// An item's bytes in one array; nothing, where its content has more than a few.
+pub(crate) fn joined(pieces: &Pieces<'_>) -> Option<ArrayVec<u8, 128>>
+    ensures { IfSome result (λ v. v.items ≡ pieces_bytes pieces.now) }
+{
+    if pieces.content.len() > FEW {
+        return None;
+    }
+    let mut bytes = ArrayVec::new();
+    bytes.try_extend_from_slice(pieces.head.bytes()).ok()?;
+    bytes.try_extend_from_slice(pieces.content).ok()?;
+    bytes
+        .try_extend_from_slice(zeros_behind(pieces.content.len()))
+        .ok()?;
+    Some(bytes)
 }
 
 /// Writes an item's bytes, all of them or none.

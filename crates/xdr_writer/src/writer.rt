@@ -5,6 +5,7 @@ ghost use Rattle.xdr_stream.specs.declared.fault.DecodeFault.{DecodeFault};
 
 use crate::item::{Item, Step};
 use crate::refusal::{WriteRefusal, end_of};
+use crate::runs::{Known, no_run};
 use crate::taking::take;
 use std::alloc::Global;
 use xdr_codec::Checker;
@@ -22,13 +23,12 @@ pub struct Writer<'s> {
     /// How many items are taken.
     pub(crate) count: usize,
     pub(crate) refused: Option<WriteRefusal>,
-    /// Whether a unit is known to be needed.
-    pub(crate) waits: bool,
+    pub(crate) known: Known,
     ghost few: { count ≤ written },
     ghost low: { written ≤ 16777216 },
     ghost limits_are: { checker.reader.limits ≡ limits },
     ghost schema_is: { checker.reader.schema.now ≡ schema.now },
-    ghost waiting: { waits ≡ true → (checks.IsWaiting checker → ⊥) → ⊥ },
+    ghost waiting: { known.waits ≡ true → (checks.IsWaiting checker → ⊥) → ⊥ },
     ghost sound: { refused ≡ None → (f : DecodeFault) → checks.HasFailed checker f → ⊥ },
 }
 
@@ -56,7 +56,10 @@ impl<'s> Writer<'s> {
             written: 0,
             count: 0,
             refused: None,
-            waits: false,
+            known: Known {
+                waits: false,
+                run: no_run(),
+            },
         }
     }
 
@@ -92,13 +95,11 @@ impl<'s> Writer<'s> {
         let schema = self.schema;
         let before = out.len();
         let space = (self.limits.bytes() as usize).saturating_sub(self.written);
-        let waits = self.waits;
-        self.waits = false;
-        match take(&mut self.checker, schema, waits, space, item, out) {
+        match take(&mut self.checker, schema, &mut self.known, space, item, out) {
             Ok(step) => {
                 self.written += out.len() - before;
                 self.count += 1;
-                self.waits = step.is_more();
+                self.known.waits = step.is_more();
                 Ok(step)
             }
             Err(why) => {

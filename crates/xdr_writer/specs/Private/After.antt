@@ -13,6 +13,8 @@ use Rattle.xdr_writer.specs.Items.{ItemView, NodeItem, of_node, spelled_as, all_
 use Rattle.xdr_writer.specs.Represents.{Begin}
 use Rattle.xdr_writer.specs.Answers.{Takes, Refuses, IsOfBytes}
 use Rattle.xdr_writer.specs.Private.Judged.{IsSound}
+use Rattle.xdr_writer.specs.Private.Runs.{IsRun}
+use Rattle.xdr_writer.specs.declared.runs.Run.{Run}
 use Rattle.xdr_writer.specs.declared.refusal.Why.{Why}
 use Rattle.xdr_writer.specs.declared.refusal.Why.TheVariants as why
 use Rattle.xdr_writer.specs.declared.item.Step.{Step}
@@ -57,3 +59,9 @@ pub record RefusesItem (c : Checker) (space : ℕ) (i : ItemView) (before after 
       → space ≡ (checks.limits_of c).bytes - length (all_spelled is)
       → Refuses (checks.kinds_of c) (checks.kind_of c).place (checks.limits_of c) is i w
   pub retained : after ≡ before
+
+-- behind the item so many numbers are due, by what is due before it
+abbrev pub FollowsItem : (c : Checker) → ItemView → Run → Type 0
+FollowsItem c i run = (is : List NodeItem) → IsAfter c is
+    → (d : Due) × IsDue (checks.kinds_of c) (checks.kind_of c).place (checks.limits_of c) (all_spelled is) d
+    × IsRun (checks.kinds_of c) d i run.left run.signed

@@ -5,6 +5,7 @@ use Rattle.xdr_writer.specs.declared.refusal.Why.TheVariants.{NoMemory}
 use Rattle.xdr_writer.proofs.Joined.{all_units}
 use Rattle.xdr_writer.proofs.Putting.{undue_refuses}
 use Rattle.xdr_writer.proofs.Finding.{keeps_since}
+use Rattle.xdr_writer.proofs.Following.{follows}
 use Rattle.xdr_writer.proofs.OneMore.{form_refused, form_known, took_all, refuses_all, grants_all}
 use Rattle.xdr_writer.proofs.taking.take.Goals as goal
 
@@ -63,3 +64,9 @@ returns-in-Ok-coded_of-clause-kept c =
     keeps_since c.args.checker.now c.next_due.new.checker c.write_within.new.checker c.args.space
     c.args.out.now.items c.write_within.new.out.items c.write_within.result c.in-Ok.ensures.finds.same
     c.in-Ok.ensures.finds.sound c.write_within.ensures.kept
+
+pub returns-in-Ok-coded_of-clause-run : goal.returns-in-Ok-coded_of-clause-run
+returns-in-Ok-coded_of-clause-run c =
+    follows c.args.checker.now c.args.schema.now c.requires.schema (item_view c.args.item) c.run_of-known.result
+    c.in-Ok.due (λ is after. (c.in-Ok.ensures.finds.says (all_spelled is) after.bytes (all_units is)).0)
+    c.run_of-known.ensures c.write_within.result

@@ -12,7 +12,8 @@ returns-in-Ok-clause-took c = λ is st.
     took_by w _ is (item_view c.args.item) c.args.out.now.items c.take.new.out.items c.in-Ok.step st
     (c.in-Ok.ensures.took is (record { bytes = st.bytes; begin = st.begin })) st.goes_on
     (ap (λ (n : ℕ). w.written + (n - c.len-before.result)) after
-    ∙ ap (λ (n : ℕ). w.written + (length c.take.new.out.items - n)) before) refl
+    ∙ ap (λ (n : ℕ). w.written + (length c.take.new.out.items - n)) before) refl c.in-Ok.ensures.run
+    c.take.ensures.kept.same
 
 pub returns-in-Err-clause-refuses : goal.returns-in-Err-clause-refuses
 returns-in-Err-clause-refuses c =
