@@ -2,7 +2,7 @@
 bytes (RFC 4506): rows as they stand, in pieces."""
 import itertools
 
-from rows.codec import CODED, CONTENT, CONTENT_LINES, HELD, ITEMS, ITEMS_LINES, LENT, LIMITED, NEST, SHOWN, WIDE
+from rows.codec import CODED, CONTENT, CONTENT_LINES, HELD, ITEMS, ITEMS_LINES, LENT, LIMITED, LONG, NEST, SHOWN, WIDE
 from rows.shared import Case, MORE, PIECES, Refused, WHOLE, WIDEST, Whole, octets, word
 
 from .growths import decoded_well, joined_well
@@ -124,6 +124,19 @@ def long_value_cases():
         yield Case("decode", **kind), lambda told, decoded=decoded: (told.answer, told.streams) == decoded
         encoded = "ok", [given]
         yield Case("encode", **kind), lambda told, encoded=encoded: (told.answer, told.streams) == encoded
+        yield Case("Value::copy", **kind), lambda told: told.answer == "equal"
+
+
+def long_kind_cases():
+    """Values above a mebibyte of each kind that can have as many bytes, decoded whole and in pieces, lent, encoded and
+    copied."""
+    for text, name, given, lines in LONG:
+        row = Whole(text, name, "", len(given), lines)
+        kind = {"kind": name, "text": text, "given": given}
+        yield Case("decode", **kind), decoded_well(row)
+        yield Case("Decoder", (65536, 0), **kind), fed(row, given, 65536, False)
+        yield Case("parts", **kind), joined_well(row, given)
+        yield Case("encode", **kind), lambda told, given=given: (told.answer, told.streams) == ("ok", [given])
         yield Case("Value::copy", **kind), lambda told: told.answer == "equal"
 
 

@@ -103,6 +103,18 @@ def nested(inside, depth):
     return b"typedef " + b"struct { " * depth + inside + b" } x;" * depth
 
 
+def procedures(count):
+    """A program of one version with so many procedures (RFC 5531 section 12)."""
+    made = b"".join(b"void N%d(void) = %d; " % (number, number) for number in range(count))
+    return b"program P { version V { " + made + b"} = 1; } = 1;"
+
+
+def versions(count):
+    """A program of so many versions, each with a procedure."""
+    made = b"".join(b"version V%d { void N(void) = 0; } = %d; " % (number, number) for number in range(count))
+    return b"program P { " + made + b"} = 1;"
+
+
 def constants_of(told):
     """The constants that a text declares. The streams of `read` are its kinds, names, constants and programs."""
     return told.streams[2].decode().split("; ")
@@ -138,6 +150,8 @@ def declaration_cases():
     is_same = same_answers()
     for field in (b"struct s y;", b"s y;"):
         yield Case("read", text=nested(field, 32) + b" struct s { int x; };"), is_same
+    for text in (procedures(1000), versions(1000)):
+        yield Case("read", text=text), is_read
     for name, before, after in (
         (b", n%d = %d", b"enum e { n = 0", b" };"),
         (b"; const n%d = %d", b"const n = 0", b";"),

@@ -15,6 +15,7 @@ HOLDER = b"struct holder { int x; };"
 OPTIONAL = b"typedef string text<>; typedef text *optional;"
 NEST = b"typedef nest *nest;"
 VOID_CHOICE = b"union choice switch (int d) { case 1: void; };"
+COUNT_CHOICE = b"union choice switch (unsigned int d) { case 1: void; };"
 BOOL_CHOICE = b"union choice switch (bool d) { case FALSE: int x; };"
 FLAG_CHOICE = b"union choice switch (bool d) { case TRUE: int x; default: void; };"
 KIND_CHOICE = FILE + b"union choice switch (filekind kind) { case TEXT: int x; };"
@@ -43,6 +44,8 @@ WIDE = [
     (BOOL_CHOICE, "choice", "00000001", "BadCase", 0),
     (KIND_CHOICE, "choice", "00000001", "BadCase", 0),
     (CHOICES, "choices", "00000001 00000007 00000002", "BadCase", 8),
+    (COUNT_CHOICE, "choice", "00000002", "BadCase", 0),
+    (COUNT_CHOICE, "choice", "ffffffff", "BadCase", 0),
     # Content. The owner's name in a file has 33 characters.
     (MORE, "five", "00000006", "TooLong", 0),
     (OWNER, "owner", "00000021", "TooLong", 0),
@@ -206,3 +209,16 @@ UNITS = b"".join(map(word, range(524288)))
 CONTENT, CONTENT_LINES = word(2097152) + UNITS, b"0x%s\n" % UNITS.hex().encode()
 ITEMS = word(100000) + UNITS[:400000]
 ITEMS_LINES = b"list of 100000\n" + b"".join(b"  %d\n" % number for number in range(100000))
+# Values above a mebibyte of the other kinds that can have as many bytes: a text, a kind, the bytes and the lines.
+LARGE = 1048580
+LETTERS, NUMBERS = b"a" * LARGE, b"".join(b"  %d\n" % number for number in range(LARGE // 4))
+OF_LETTERS, LETTERS_LINE = word(LARGE) + LETTERS, b"0x%s\n" % LETTERS.hex().encode()
+LONG = [
+    (b"", "string", OF_LETTERS, b'"%s"\n' % LETTERS),
+    (b"typedef opaque blob[%d];" % LARGE, "blob", LETTERS, LETTERS_LINE),
+    (b"struct s { int x; opaque y<>; };", "s", word(7) + OF_LETTERS, b"struct\n  x: 7\n  y: " + LETTERS_LINE),
+    (b"union u switch (int d) { case 1: opaque y<>; };", "u", word(1) + OF_LETTERS, b"case 1\n  y: " + LETTERS_LINE),
+    (b"typedef opaque y<>; typedef y *maybe;", "maybe", word(1) + OF_LETTERS, b"present\n  " + LETTERS_LINE),
+    (b"typedef int many[%d];" % (LARGE // 4), "many", UNITS[:LARGE], b"array of %d\n" % (LARGE // 4) + NUMBERS),
+    (MORE, "big", word(LARGE // 4) + UNITS[:LARGE], b"list of %d\n" % (LARGE // 4) + NUMBERS),
+]

@@ -488,6 +488,12 @@ MANY_NAMES = [
     (TYPES + b"typedef int o; const o = 1; typedef int o; const b = 1;", 5, 0, 1, 232),
     (TYPES + b"program a { version V { void N(void) = 1; } = 1; } = 1;", 5, 0, 1, 219),
 ]
+# Void has no name: eighteen arms of void, and two void fields behind sixteen others, where a later fault is told.
+ARMS = b"".join(b"case %d: void; " % number for number in range(1, 19))
+MANY_VOIDS = [
+    (b"union u switch (int d) { " + ARMS + b"}; typedef t x;", 6, 0, 1, 298),
+    (SIXTEEN + b"void; void; }; typedef t x;", 6, 0, 1, 147),
+]
 TABLES = [
     STRAY,
     WRONG,
@@ -523,4 +529,5 @@ TABLES = [
     THREE_TIMES_NAMED,
     THREE_IN_SCOPE,
     MANY_NAMES,
+    MANY_VOIDS,
 ]

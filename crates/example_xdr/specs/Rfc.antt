@@ -17,6 +17,10 @@ part name kind = record { name = name; kind = kind }
 abbrev pub arm : (case : ℕ) → Part → Branch
 arm case p = record { cases = pos case ∷ []; part = p }
 
+-- the first two members of filekind
+abbrev pub two_members : List Constant
+two_members = constant (codes "TEXT") 0 ∷ constant (codes "DATA") 1 ∷ []
+
 -- the arms of filetype: void under TEXT, the creator under DATA, the interpretor under EXEC
 abbrev pub file_arms : List Branch
 file_arms = arm 0 (part [] 1) ∷ arm 1 (part (codes "creator") 2) ∷ arm 2 (part (codes "interpretor") 2) ∷ []

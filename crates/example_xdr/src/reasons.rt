@@ -48,7 +48,13 @@ fn fed(
 }
 
 // The faults of all three calls. Where decoding ends without a value, each says how.
-fn reported(alloc: Global, schema: &Schema, kind: KindId, limits: Limits, input: &[u8]) -> Faults
+pub(crate) fn reported(
+    alloc: Global,
+    schema: &Schema,
+    kind: KindId,
+    limits: Limits,
+    input: &[u8],
+) -> Faults
     requires { kind.place < length schema.now.kinds }
     ensures { (e : Ending) → IsNone e → Outcome schema.now.kinds kind.place limits input.now e
         → EachSays (fault_of (length input.now) e) result }
@@ -63,7 +69,7 @@ fn reported(alloc: Global, schema: &Schema, kind: KindId, limits: Limits, input:
 }
 
 // The laws by which some bytes have the outcome that they have, and what limits and a schema are.
-fn laws(schema: &Schema, limits: Limits)
+pub(crate) fn laws(schema: &Schema, limits: Limits)
     ensures same { SameParts schema.now.kinds }
     ensures unique { EachSpellingIsOneValue schema.now.kinds }
     ensures goes { GoesOn schema.now.kinds }

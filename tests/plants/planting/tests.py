@@ -11,7 +11,8 @@ CPP = ["c++", "-std=c++17", "-O0", "-Wall", "-Wextra", "-Wpedantic", "-Werror"]
 LAYOUT = 'import sys; sys.path.insert(0, ".ci"); from library_use.layouts import layout; print(layout(sys.argv[1]))'
 ROWS = f"{os.path.dirname(os.path.realpath(__file__))}/rows.py"
 # The crate whose program a refuser runs, and the words with which a build runs it.
-PROGRAMS = {"tests/run": ("tool_probe", []), ".ci/refuse": ("oncrpc", ["--", "--version"])}
+OF_PROGRAM = "oncrpc", ["--", "--version"]
+PROGRAMS = {"tests/run": ("tool_probe", []), ".ci/refuse": OF_PROGRAM, ".ci/clients": OF_PROGRAM}
 # The refusers that run the library, which ONCRPC_LIBRARY names, or library/ of the tree.
 OF_LIBRARY = ("cargo test", "check.rs", "unittest", "wrappers", "sanitizers")
 
@@ -105,6 +106,7 @@ TESTS = {
     "sanitizers": sanitizers,
     "tests/run": whole("tests/run", 3600),
     ".ci/refuse": whole(".ci/refuse", 3600),
+    ".ci/clients": whole(".ci/clients", 3600),
     ".ci/library": whole(".ci/library", PROOF),
 }
 

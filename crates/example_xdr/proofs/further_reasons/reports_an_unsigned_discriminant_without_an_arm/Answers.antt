@@ -1,0 +1,49 @@
+use Rattle.std.proofs.Common.{◌≡◌, ◌≤◌, ℕ, List, [], ◌∷◌, ◌++◌, refl, sym, subst, pos, ap, drop, ◌∙◌, arith}
+use Rattle.std.specs.Prelude.{Contains}
+use Rattle.std.proofs.lemmas.Bool.{false≢true}
+use Rattle.std.specs.Int.{w32, from_be_bytes}
+use Rattle.std.specs.List.{AllByRecursion}
+use Rattle.std.proofs.lemmas.List.{take-append-drop}
+use Rattle.xdr_types.specs.Kinds.{kind_at}
+use Rattle.xdr_types.specs.Tree as value
+use Rattle.xdr_types.specs.Tree.{Tree, from_list}
+use Rattle.xdr_types.specs.Fits.{Fits, item_part}
+use Rattle.xdr_types.specs.Layout.{Entry, entry, entries, of_number}
+use Rattle.xdr_types.specs.Outcome as outcome
+use Rattle.xdr_types.specs.Outcome.{Outcome, Broken, Admits, reason}
+use Rattle.xdr_types.specs.Spelling.{bytes_of}
+use Rattle.xdr_types.specs.Within.{Bounds}
+use Rattle.example_xdr.proofs.Refusing.{broken}
+use Rattle.example_xdr.proofs.further_reasons.reports_an_unsigned_discriminant_without_an_arm.Goals as goal
+
+pub returns : goal.returns
+returns c =
+    let s = c.args.schema.now.kinds in
+    let rest : List ℕ = drop 4 c.args.input.now in
+    let begins = sym (take-append-drop 4 c.args.input.now) ∙ ap (λ (b : List ℕ). b ++ rest) c.requires.input in
+    let t : ℕ = c.args.kind.place in
+    let l : Bounds = c.args.limits in
+    let low = c.laws.ensures.range in
+    let v : Tree = (value.tag (pos 1), from_list ((value.unsigned 0, value.none) ∷ [])) in
+    let q : List ℕ = [] in
+    let more : List ℕ = 0 ∷ 0 ∷ 0 ∷ 1 ∷ 0 ∷ 0 ∷ 0 ∷ 0 ∷ [] in
+    let u : List ℕ = 0 ∷ 0 ∷ 0 ∷ 2 ∷ [] in
+    let e : Entry = entry 0 4 1 (item_part t) of_number in
+    let fit : Fits s t v = rw (c.requires.kind, c.requires.tag) refl in
+    let is : bytes_of s t v ≡ q ++ more = rw (c.requires.kind, c.requires.tag) refl in
+    let shallow : AllByRecursion (λ (x : Entry). x.depth ≤ l.depth) (entries s t v) = rw (
+      c.requires.kind,
+      c.requires.tag,
+    ) (low.least_depth, (c.requires.depth, tt)) in
+    let has : Contains (entries s t v) e = rw (c.requires.kind, c.requires.tag) (0, omega arith, refl) in
+    let number : from_be_bytes w32 u ≡ 2 = refl in
+    let none : Admits s (kind_at s t) of_number 0 u → ⊥ = rw (c.requires.kind, c.requires.tag) (λ a. false≢true a.1) in
+    let why : reason s (kind_at s t) of_number (from_be_bytes w32 u) ≡ outcome.bad_case = rw (
+      c.requires.kind,
+      c.requires.tag,
+    ) refl in
+    let o = broken s t l c.laws.ensures.unique c.laws.ensures.same v fit q more is (omega arith) shallow u rest
+    c.laws.ensures.goes refl (omega (arith, low.least_bytes)) refl refl e has (omega arith) (omega arith) none in
+    c.reported.ensures (Broken outcome.bad_case 0) tt
+    (subst (λ (b : List ℕ). Outcome s t l b (Broken outcome.bad_case 0)) (sym begins)
+    (subst (λ (w : outcome.Why). Outcome s t l (q ++ (u ++ rest)) (Broken w 0)) why o))
