@@ -1,0 +1,14 @@
+pub mod Parsing
+pub mod Stepping
+pub mod Meant
+pub mod Sizes
+pub mod Looks
+pub mod Leaves
+pub mod Groups
+pub mod Fields
+pub mod Answered
+pub mod Nodes
+pub mod Trees
+pub mod Lines
+pub mod Named
+pub mod Tables

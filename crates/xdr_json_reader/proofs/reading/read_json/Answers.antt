@@ -1,0 +1,65 @@
+use Rattle.std.proofs.Common.{ℕ, List, inl, inr, take, sym, ap, ◌∙◌, subst}
+use Rattle.xdr_types.specs.Tree.{Tree}
+use Rattle.xdr_types.specs.View.{tree}
+use Rattle.xdr_codec.specs.Refused.{HasNoneWithin, IsRefused}
+use Rattle.xdr_json.specs.Text.{json_text, IsSpelling}
+use Rattle.xdr_json_reader.specs.Tape.{json_in}
+use Rattle.xdr_json_reader.proofs.Answered.{none_spelled, not_utf8, no_bytes, is_spelled, refused_bytes}
+use Rattle.xdr_json_reader.proofs.reading.read_json.Goals as goal
+use Rattle.xdr_json_reader.proofs.reading.read_json.Goals.{After-drop-scratch-in-Ok-decode-2}
+
+pub returns-in-Err-clause-refused : goal.returns-in-Err-clause-refused
+returns-in-Err-clause-refused c =
+    inr (not_utf8 c.args.schema.now.kinds c.args.kind.place c.args.limits c.args.text.now c.in-Err.ensures.cases.0)
+
+pub returns-in-Err-read_tree-clause-refused : goal.returns-in-Err-read_tree-clause-refused
+returns-in-Err-read_tree-clause-refused c =
+    elim c.in-Err-read_tree.ensures.refused [
+      | inl m ↦ inl m
+      | inr n ↦
+          inr (none_spelled c.args.schema.now.kinds c.args.kind.place c.args.limits c.args.text.now
+          (ap json_text (sym c.in-Ok.ensures.cases.0) ∙ n))
+    ]
+
+pub returns-in-Err-bytes_in-clause-refused : goal.returns-in-Err-bytes_in-clause-refused
+returns-in-Err-bytes_in-clause-refused c =
+    let e = ap json_text (sym c.in-Ok.ensures.cases.0) ∙ c.in-Ok-read_tree.ensures.ok in
+    elim c.in-Err-bytes_in.ensures [
+      | inl m ↦ inl m
+      | inr n ↦
+          inr (no_bytes c.args.schema.now.kinds c.args.kind.place c.args.limits c.args.text.now
+          (json_in c.in-Ok-read_tree.tree) e n)
+    ]
+
+pub returns-clause-refused : goal.returns-clause-refused
+returns-clause-refused c =
+    let kinds = c.args.schema.now.kinds in
+    let place = c.args.kind.place in
+    let limits = c.args.limits in
+    let w = c.in-Err-decode.fault.why in
+    let e = ap json_text (sym c.in-Ok.ensures.cases.0) ∙ c.in-Ok-read_tree.ensures.ok in
+    refused_bytes kinds place limits c.args.text.now (json_in c.in-Ok-read_tree.tree) c.in-Ok-bytes_in.bytes.items w
+    c.reason_of.result c.reason_of.ensures e c.in-Ok-bytes_in.ensures.1
+    (subst (λ (bs : List ℕ). IsRefused (HasNoneWithin kinds place limits) w bs) c.as_slice.ensures.value
+    c.in-Err-decode.ensures.refusal.refused)
+
+spelled : (c : After-drop-scratch-in-Ok-decode-2)
+    → IsSpelling c.args.schema.now.kinds c.args.kind.place c.args.limits c.args.text.now (tree c.in-Ok-decode.value)
+spelled c =
+    let kinds = c.args.schema.now.kinds in
+    let place = c.args.kind.place in
+    let e = ap json_text (sym c.in-Ok.ensures.cases.0) ∙ c.in-Ok-read_tree.ensures.ok in
+    let v = c.in-Ok-decode.ensures.value in
+    is_spelled kinds (c.each_spelling_is_one_value.ensures.one kinds) place c.args.limits c.args.text.now
+    (json_in c.in-Ok-read_tree.tree) (tree c.in-Ok-decode.value) c.in-Ok-decode.field-0-1 c.in-Ok-bytes_in.bytes.items
+    c.in-Ok.ensures.cases.1 e
+    (c.each_spells_one_value.ensures.fits c.args.schema.now place (json_in c.in-Ok-read_tree.tree))
+    c.in-Ok-bytes_in.ensures.0 v.0 (v.2 ∙ ap (take c.in-Ok-decode.field-0-1) c.as_slice.ensures.value)
+
+pub returns-in-Ok-decode-clause-value : goal.returns-in-Ok-decode-clause-value
+returns-in-Ok-decode-clause-value c = spelled c
+
+pub returns-in-Ok-decode-clause-only : goal.returns-in-Ok-decode-clause-only
+returns-in-Ok-decode-clause-only c = λ (t : Tree) h.
+    c.each_spells_one_value.ensures.text c.args.schema.now c.len-known.ensures.well_formed c.args.kind.place
+    c.args.limits c.args.text.now t (tree c.in-Ok-decode.value) h (spelled c)

@@ -1,0 +1,91 @@
+//! JSON as a value.
+ghost use Rattle.std.specs.Prelude.{◌≡◌, ◌<◌, ◌≤◌, ◌⊎◌, length, IfOk, IfErr};
+ghost use Rattle.xdr_types.specs.Tree.{Tree};
+ghost use Rattle.xdr_types.specs.View.{tree};
+ghost use Rattle.xdr_json.specs.Text.{IsSpelling, SpellsNone};
+ghost use Rattle.xdr_json_reader.specs.declared.fault.JsonReason.TheVariants.{NoMemory};
+ghost use Rattle.xdr_stream.specs.declared.fault.Reason.TheVariants as reason;
+
+use crate::fault::{JsonFault, JsonReason};
+use crate::reading_tree::bytes_in;
+use crate::tape_text::read_tree;
+use json::Scratch;
+use std::alloc::Global;
+use std::str::from_utf8;
+use xdr_codec::laws::each_spelling_is_one_value;
+use xdr_codec::{DecodeFault, Reason, decode};
+use xdr_json::each_spells_one_value;
+use xdr_types::{KindId, Limits, Schema, Value};
+
+/// The value of the kind that a JSON text spells (RFC 8259), within the limits. There is at most one.
+///
+/// Members come in any order, spaces and escapes as RFC 8259 has them. An enumeration's number is a name or the number,
+/// a number is a JSON number or a string, and hexadecimal is in either case. A fault other than `NoMemory` says that
+/// the text spells no value of the kind within the limits. `at` is at most the count of the text's bytes; that it is
+/// where the refused value or key begins is tested and no clause says it. For `TooDeep` and `TooLarge` it may be the
+/// text's end.
+///
+/// No call recurses, whatever the text; the drop of what was read does, one level a call, at most 4096. Memory is of
+/// the size of the text, and nothing is reserved by a declared count.
+pub fn read_json(
+    alloc: Global,
+    schema: &Schema,
+    kind: KindId,
+    limits: Limits,
+    text: &[u8],
+) -> Result<Value, JsonFault>
+    requires { kind.place < length schema.now.kinds }
+    // The text spells the value, and no other;
+    ensures value { IfOk result (λ v. IsSpelling schema.now.kinds kind.place limits text.now (tree v)) }
+    ensures only { IfOk result (λ v. (t : Tree) → IsSpelling schema.now.kinds kind.place limits text.now t
+        → t ≡ tree v) }
+    // a text that is refused spells none, want of memory aside,
+    ensures refused { IfErr result (λ f. (f.why ≡ NoMemory)
+        ⊎ SpellsNone schema.now.kinds kind.place limits text.now) }
+    // and the place lies in the text.
+    ensures place { IfErr result (λ f. f.at ≤ length text.now) }
+{
+    let _known = schema.len();
+    each_spells_one_value();
+    each_spelling_is_one_value();
+    let checked = match from_utf8(text) {
+        Ok(checked) => checked,
+        Err(fault) => {
+            let at = fault.valid_up_to().min(text.len());
+            return Err(JsonFault {
+                why: JsonReason::NotJson,
+                at,
+            });
+        }
+    };
+    let mut scratch = Scratch::new(alloc);
+    let tree = match read_tree(alloc, checked, &mut scratch) {
+        Ok(tree) => tree,
+        Err(fault) => return Err(fault),
+    };
+    let bytes = match bytes_in(alloc, schema, kind, &tree) {
+        Ok(bytes) => bytes,
+        Err(fault) => {
+            let at = fault.at.min(text.len());
+            return Err(JsonFault { why: fault.why, at });
+        }
+    };
+    match decode(alloc, schema, kind, limits, bytes.as_slice()) {
+        Ok((value, _)) => Ok(value),
+        Err(fault) => Err(JsonFault {
+            why: reason_of(fault),
+            at: text.len(),
+        }),
+    }
+}
+
+// Why the value's bytes are refused: they are those of a value, so only by a limit or for want of memory.
+fn reason_of(fault: DecodeFault) -> JsonReason
+    ensures { fault.why ≡ reason.NoMemory → result ≡ NoMemory }
+{
+    match fault.why {
+        Reason::TooDeep => JsonReason::TooDeep,
+        Reason::NoMemory => JsonReason::NoMemory,
+        _ => JsonReason::TooLarge,
+    }
+}
