@@ -18,6 +18,8 @@ SHOWN = """struct
 status 0, 48 bytes of input
 a buffer of 10 bytes: status 8, 116 are needed
 47 bytes: status 2, 0 written
+status 0, {"filename":"sillyprog","type":{"case":"EXEC","interpretor":"lisp"},"owner":"john","data":"287175697429"}
+rpcgen's dialect: status 0
 """
 PARTED = """without buffers: status 8, 10 parts and 60 bytes of names are needed
  0 0 : type 12, role 5
