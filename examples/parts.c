@@ -48,6 +48,27 @@ static void print(const oncrpc_value_part *part) {
     printf("\n");
 }
 
+/* One part by its path, and its number or its bytes. Of a discriminant the name of the enum's member, too. */
+static void find(oncrpc_declarations *declarations, const char *path) {
+    oncrpc_value_part part;
+    oncrpc_outcome outcome;
+    oncrpc_number number;
+    uint32_t status = oncrpc_declarations_find(declarations, "file", 4, ONCRPC_MOST_DEPTH, ONCRPC_MOST_BYTES, input,
+                                               sizeof input, path, strlen(path), &part, &outcome);
+    if (status != ONCRPC_OK) {
+        printf("%s: %s\n", path, oncrpc_status_text(status));
+    } else if (oncrpc_part_number(declarations, input, sizeof input, &part, &number) == ONCRPC_OK) {
+        oncrpc_kind kind = {0};
+        oncrpc_member member = {0};
+        uint8_t name[16];
+        oncrpc_declarations_kind(declarations, part.kind, &kind);
+        oncrpc_declarations_picked(declarations, kind.item, number.signed_number, name, sizeof name, &member);
+        printf("%s: number %lld, %.*s\n", path, (long long)number.signed_number, (int)member.name_count, (char *)name);
+    } else {
+        printf("%s: %.*s\n", path, (int)part.count, (const char *)input + part.at);
+    }
+}
+
 int main(void) {
     oncrpc_declarations declarations = ONCRPC_NONE;
     oncrpc_outcome fault;
@@ -64,6 +85,9 @@ int main(void) {
     printf("status %u, %zu bytes of input\n", status, outcome.at);
     status = list(&declarations, sizeof input - 1, 16, sizeof names, &outcome);
     printf("47 bytes: status %u for reason %u at %zu\n", status, outcome.why, outcome.at);
+    find(&declarations, "type");
+    find(&declarations, "type.interpretor");
+    find(&declarations, "type.creator");
     oncrpc_declarations_free(&declarations);
     return 0;
 }

@@ -29,6 +29,13 @@ static const uint8_t input[48] = "\0\0\0\11sillyprog\0\0\0"
                                  "\0\0\0\4john"
                                  "\0\0\0\6(quit)\0\0";
 
+/* In rpcgen's dialect, for the name RPC_HDR. */
+static const char dialect[] = "%#include <rpc/rpc.h>\n"
+                              "#ifdef RPC_HDR\n"
+                              "const MOST = 255;\n"
+                              "#endif\n"
+                              "typedef string name<MOST>;\n";
+
 static uint32_t show(oncrpc_declarations *declarations, size_t count, uint8_t *buffer, size_t buffer_count,
                      size_t *written, oncrpc_outcome *outcome) {
     return oncrpc_declarations_show(declarations, "file", 4, ONCRPC_MOST_DEPTH, ONCRPC_MOST_BYTES,
@@ -49,6 +56,11 @@ int main(void) {
     printf("a buffer of 10 bytes: status %u, %zu are needed\n", status, outcome.at);
     status = show(&declarations, sizeof input - 1, buffer, sizeof buffer, &written, &outcome);
     printf("47 bytes: status %u, %zu written\n", status, written);
+    status = oncrpc_declarations_to_json(&declarations, "file", 4, ONCRPC_MOST_DEPTH, ONCRPC_MOST_BYTES, input,
+                                         sizeof input, false, buffer, sizeof buffer, &written, &outcome);
+    printf("status %u, %.*s\n", status, (int)written, (const char *)buffer);
+    status = oncrpc_declarations_read_dialect(dialect, sizeof dialect - 1, "RPC_HDR", 7, &declarations, &outcome);
+    printf("rpcgen's dialect: status %u\n", status);
     oncrpc_declarations_free(&declarations);
     return 0;
 }

@@ -34,8 +34,8 @@
  * time. A check writes to it too, so threads that share one take a lock. Nothing here may be called from a signal
  * handler, nor in the forked child of a process with threads.
  *
- * STACK. No call goes down by the depth of its input: 64 KiB are enough for every call, at the greatest limits too, as
- * was measured on x86-64 Linux.
+ * STACK. No call but oncrpc_declarations_to_json goes down by the depth of its input: 64 KiB are enough for every other
+ * call, at the greatest limits too, as was measured on x86-64 Linux.
  *
  * PROCESSOR. x86-64-v2 on Linux: the library has instructions of SSSE3 and SSE4.1, and an older processor ends the
  * program at the first of them.
@@ -102,7 +102,12 @@ enum {
     ONCRPC_NOT_AN_ADDRESS = 25, /* the text is that of no host and port over IPv4 */
 
     /* Of values that are written alone. */
-    ONCRPC_BAD_ITEM = 26 /* the items are no value's. `why`: a reason; `at`: how many items are before the bad one */
+    ONCRPC_BAD_ITEM = 26, /* the items are no value's. `why`: a reason; `at`: how many items are before the bad one */
+
+    /* Of one part of a value, and of kinds, alone. */
+    ONCRPC_NO_SUCH_PART = 27, /* the value has no part with the path */
+    ONCRPC_NO_NUMBER = 28,    /* the part has no number */
+    ONCRPC_NO_MEMBER = 29     /* the kind has no such member, or there is no such kind */
 };
 
 /* Why bytes are refused: `why` of an outcome with ONCRPC_REFUSED. The place is that of the unit (four bytes) or of the
@@ -218,6 +223,29 @@ typedef struct {
     uint32_t why; /* a reason */
 } oncrpc_parts_outcome;
 
+/* The number of a part. A number of one type may be looked for in either field: it is in both, where it goes into
+ * both. */
+typedef struct {
+    int64_t signed_number; /* the number, where it is at most INT64_MAX; else 0 */
+    uint64_t number;       /* the number, where it is not negative; else 0 */
+} oncrpc_number;
+
+/* A kind of the declarations (RFC 4506 section 4). What its type does not speak of is 0. */
+typedef struct {
+    size_t members;    /* how many members an enum has, or fields a struct */
+    uint32_t xdr_type; /* ONCRPC_TYPE_.. */
+    uint32_t size;     /* how many bytes an opaque or a string has, or items an array: so many of fixed size, else at
+                          most so many */
+    uint32_t item;     /* the kind of an array's items, of an optional's item, or of a union's discriminant */
+} oncrpc_kind;
+
+/* A member of an enum, a field of a struct, or an arm of a union. Its name is put into the caller's buffer. */
+typedef struct {
+    size_t name_count; /* of how many bytes its name is; no zero ends it */
+    int64_t number;    /* of an enum's member its number; of an arm the number that was asked for; of a field 0 */
+    uint32_t kind;     /* of a field or an arm its kind; of an enum's member that of the enum */
+} oncrpc_member;
+
 /* `form` of an item. */
 enum {
     ONCRPC_ITEM_SIGNED = 1,   /* a number, in `signed_number`: an integer, a bool (0 or 1), an enum, a discriminant */
@@ -326,6 +354,15 @@ uint32_t oncrpc_declarations_read(
     oncrpc_declarations *declarations,
     oncrpc_outcome *outcome);
 
+/* The same of a text in rpcgen's dialect (docs/LANGUAGE.md, "rpcgen's dialect"). For its lines `#ifdef` the names in
+ * `names` are defined, as RPC_HDR, with one space between two. `text` and `names` may be NULL where their count is 0.
+ * ONCRPC_OK, _UNDECLARED, _NO_MEMORY. ONCRPC_NO_KIND: the names are no UTF-8. */
+uint32_t oncrpc_declarations_read_dialect(
+    const void *text, size_t text_count,
+    const void *names, size_t names_count,
+    oncrpc_declarations *declarations,
+    oncrpc_outcome *outcome);
+
 /* As oncrpc_check, by declarations that were read. They stay, whatever the status is. `name` and `input` may be NULL
  * where their count is 0.
  * ONCRPC_OK, _MORE_FOLLOWS, _REFUSED, _NO_KIND, _BAD_LIMITS, _NO_MEMORY, _NO_DECLARATIONS. */
@@ -354,6 +391,22 @@ uint32_t oncrpc_declarations_show(
     size_t *written,
     oncrpc_outcome *outcome);
 
+/* Puts the value that begins `input`, as JSON (RFC 8259; docs/FORMATS.md), into `buffer`, by declarations that were read:
+ * with `is_indented` a line for each item and each member, else without spaces. No zero ends it. The declarations stay,
+ * whatever the status is. `name`, `input` and `buffer` may be NULL where their count is 0.
+ *
+ * The statuses, `written`, `at` and the buffer are those of oncrpc_declarations_show. It takes memory for the text, and
+ * stack for each level of the value: a limit on depth bounds it. */
+uint32_t oncrpc_declarations_to_json(
+    oncrpc_declarations *declarations,
+    const void *name, size_t name_count,
+    uint32_t depth, uint32_t bytes,
+    const void *input, size_t input_count,
+    bool is_indented,
+    uint8_t *buffer, size_t buffer_count,
+    size_t *written,
+    oncrpc_outcome *outcome);
+
 /* Tells where the parts of the value that begins `input` lie, by declarations that were read: in the order of the
  * bytes, a node before those inside it. Puts the parts into `parts`, an array of `parts_count`. Puts their names into
  * `names`, one directly behind the other, in the order of the parts. The parts hold places in the caller's `input` and
@@ -376,6 +429,45 @@ uint32_t oncrpc_declarations_parts(
     oncrpc_value_part *parts, size_t parts_count,
     uint8_t *names, size_t names_count,
     oncrpc_parts_outcome *outcome);
+
+/* Finds one part of the value that begins `input`, by declarations that were read: the one that `path` names. A path is
+ * the names of fields and arms with dots between them, and `[i]` behind an array for an item: `what.dir.data`,
+ * `list[3].name`. The index i is decimal, from 0 and without leading zeros. The empty path is the value itself. A path
+ * names the last part that its node has by itself: content, and not its length; the length of an array; the
+ * discriminant of a union. Optional data is its item, however often; where it is not there, a path to it names its
+ * flag, and no path leads on. The declarations stay, whatever the status is. `name`, `input` and `path` may be NULL
+ * where their count is 0.
+ *
+ * ONCRPC_OK: `part` is filled. input + part.at leads to its bytes, and its `name_at` and `name_count` are 0, since the
+ * path has its name. More bytes may follow the value. ONCRPC_NO_SUCH_PART: a value begins the input, and the path
+ * leads nowhere in it, or is no path. ONCRPC_REFUSED: `why` and `at`, as oncrpc_declarations_check tells them. At any
+ * status but ONCRPC_OK `part` is as it was.
+ *
+ * The name is looked at first, then the limits, then the input, and then the path. The input is judged whole. Then
+ * values before the part are passed over, those of one size at once, and what is behind it is not looked at again. It
+ * takes memory for a frame for each open node.
+ * ONCRPC_OK, _REFUSED, _NO_KIND, _BAD_LIMITS, _NO_MEMORY, _NO_DECLARATIONS, _NO_SUCH_PART. */
+uint32_t oncrpc_declarations_find(
+    oncrpc_declarations *declarations,
+    const void *name, size_t name_count,
+    uint32_t depth, uint32_t bytes,
+    const void *input, size_t input_count,
+    const void *path, size_t path_count,
+    oncrpc_value_part *part,
+    oncrpc_outcome *outcome);
+
+/* Tells the number of a part that was found by the same declarations in this `input`: of an integer, a bool, an enum, a
+ * discriminant, a flag or a length. Of the part `at`, `count`, `kind` and `role` are looked at. It takes no memory.
+ * The declarations stay, whatever the status is. `input` may be NULL where its count is 0.
+ *
+ * ONCRPC_OK: `number` is filled. ONCRPC_NO_NUMBER: the part is content or has no bytes, it does not lie in the input,
+ * or its bytes are those of no number of its kind. At any status but ONCRPC_OK `number` is as it was.
+ * ONCRPC_OK, _NO_DECLARATIONS, _NO_NUMBER. */
+uint32_t oncrpc_part_number(
+    oncrpc_declarations *declarations,
+    const void *input, size_t input_count,
+    const oncrpc_value_part *part,
+    oncrpc_number *number);
 
 /* Writes the encoding of the value of the kind `name` that has these items, by declarations that were read: the other
  * way of oncrpc_declarations_parts. `data` is where content lies, for items of ONCRPC_ITEM_CONTENT. The value has at
@@ -402,6 +494,46 @@ uint32_t oncrpc_declarations_write(
     uint8_t *buffer, size_t buffer_count,
     size_t *written,
     oncrpc_outcome *outcome);
+
+/* Tells which kind has this name, as oncrpc_check takes names, by declarations that were read: its number, as `kind` of
+ * a part. The declarations stay, whatever the status is. It takes no memory. `name` may be NULL where its count is 0.
+ *
+ * At any status but ONCRPC_OK `kind` is as it was. ONCRPC_OK, _NO_KIND, _NO_DECLARATIONS. */
+uint32_t oncrpc_declarations_named(
+    oncrpc_declarations *declarations,
+    const void *name, size_t name_count,
+    uint32_t *kind);
+
+/* Tells what a kind is, by declarations that were read. Its number is that of a part, of another kind's `item`, of a
+ * member or of oncrpc_declarations_named. The declarations stay, whatever the status is. It takes no memory.
+ *
+ * At any status but ONCRPC_OK `told` is as it was. ONCRPC_NO_KIND: there is no such kind.
+ * ONCRPC_OK, _NO_KIND, _NO_DECLARATIONS. */
+uint32_t oncrpc_declarations_kind(
+    oncrpc_declarations *declarations,
+    uint32_t kind,
+    oncrpc_kind *told);
+
+/* Tells the member of an enum, or the field of a struct, that `index` others are before, and puts its name into the
+ * front of `buffer`, by declarations that were read. Other kinds have none. The declarations stay, whatever the status
+ * is. It takes no memory. `buffer` may be NULL where its count is 0.
+ *
+ * ONCRPC_OK: `member` is filled, and `name_count` bytes of the buffer were written; the others are as they were.
+ * ONCRPC_NO_ROOM: `member` is filled, and the buffer is as it was: its name has `name_count` bytes. ONCRPC_NO_MEMBER,
+ * _NO_DECLARATIONS: `member` and the buffer are as they were. */
+uint32_t oncrpc_declarations_member(
+    oncrpc_declarations *declarations,
+    uint32_t kind, size_t index,
+    uint8_t *buffer, size_t buffer_count,
+    oncrpc_member *member);
+
+/* The same of the first member of an enum that has the number, and of the arm of a union that stands under it. That is
+ * the default, where no other arm does, whether or not the discriminant may have the number. Of a bool there is none. */
+uint32_t oncrpc_declarations_picked(
+    oncrpc_declarations *declarations,
+    uint32_t kind, int64_t number,
+    uint8_t *buffer, size_t buffer_count,
+    oncrpc_member *member);
 
 /* Gives back what `declarations` holds, if anything. It then holds none, so that a second call does nothing. */
 void oncrpc_declarations_free(oncrpc_declarations *declarations);
@@ -763,6 +895,9 @@ static inline const char *oncrpc_status_text(uint32_t status) {
     case ONCRPC_NO_RECORD: return "no record waits";
     case ONCRPC_NOT_AN_ADDRESS: return "the text is no universal address";
     case ONCRPC_BAD_ITEM: return "the items are no value's";
+    case ONCRPC_NO_SUCH_PART: return "the value has no part with the path";
+    case ONCRPC_NO_NUMBER: return "the part has no number";
+    case ONCRPC_NO_MEMBER: return "the kind has no such member";
     default: return "an unknown status";
     }
 }

@@ -81,6 +81,9 @@ enum class Status : std::uint32_t {
     no_record = ONCRPC_NO_RECORD,
     bad_item = ONCRPC_BAD_ITEM,
     not_an_address = ONCRPC_NOT_AN_ADDRESS,
+    no_such_part = ONCRPC_NO_SUCH_PART,
+    no_number = ONCRPC_NO_NUMBER,
+    no_member = ONCRPC_NO_MEMBER,
 };
 
 /// Why bytes are refused, and from wrong_item on why items are.
@@ -358,7 +361,7 @@ struct [[nodiscard]] Checked {
     bool more_follows = false;
 };
 
-/// The same, and its lines as `oncrpc show` prints them.
+/// The same, and its lines as `oncrpc show` prints them, or its JSON.
 struct [[nodiscard]] Shown {
     Checked checked;
     std::string lines;
@@ -434,6 +437,27 @@ class [[nodiscard]] Parts {
     std::vector<oncrpc_value_part> parts_;
     std::vector<char> names_;
     Checked checked_;
+};
+
+/// The number of a part. One of any type may be looked for in either field: it is in both, where it goes into both.
+struct Number {
+    std::int64_t signed_number = 0; ///< where it is at most INT64_MAX; else 0
+    std::uint64_t number = 0;       ///< where it is not negative; else 0
+};
+
+/// A kind of the declarations (oncrpc_kind says what each field is).
+struct Kind {
+    XdrType xdr_type = XdrType::void_;
+    std::size_t members = 0;
+    std::uint32_t size = 0;
+    std::uint32_t item = 0;
+};
+
+/// A member of an enum, a field of a struct, or an arm of a union (oncrpc_member says what each field is).
+struct Member {
+    std::string name;
+    std::int64_t number = 0;
+    std::uint32_t kind = 0;
 };
 
 /// The items of a value that is written, in the order of its bytes. A struct, an array of fixed size and a void have
@@ -520,6 +544,17 @@ class Declarations {
         return made;
     }
 
+    /// Reads declarations in rpcgen's dialect, where these names are defined, with one space between two.
+    [[nodiscard]] static Answer<Declarations> read_dialect(std::string_view text, std::string_view names = {}) {
+        Declarations made;
+        oncrpc_outcome outcome{};
+        const auto status = static_cast<Status>(oncrpc_declarations_read_dialect(
+            detail::lent(text), text.size(), detail::lent(names), names.size(), made.handle_.get(), &outcome));
+        if (status != Status::ok)
+            return detail::fails<Declarations>(Error(status, outcome));
+        return made;
+    }
+
     /// Tells whether a value of the kind begins the input.
     Answer<Checked> check(std::string_view name, Bytes input, Limits limits = {}) {
         oncrpc_outcome outcome{};
@@ -538,6 +573,24 @@ class Declarations {
         while (status == Status::no_room) {
             shown.lines.resize(outcome.at);
             status = show_into(name, input, limits, shown.lines, written, outcome);
+        }
+        if (status != Status::ok && status != Status::more_follows)
+            return detail::fails<Shown>(Error(status, outcome));
+        shown.lines.resize(written);
+        shown.checked = {outcome.at, status == Status::more_follows};
+        return shown;
+    }
+
+    /// The value that begins the input as JSON, with a line for each item and each member or without spaces. It takes
+    /// stack for each level of the value.
+    Answer<Shown> to_json(std::string_view name, Bytes input, bool is_indented = false, Limits limits = {}) {
+        Shown shown;
+        oncrpc_outcome outcome{};
+        std::size_t written = 0;
+        Status status = json_into(name, input, is_indented, limits, shown.lines, written, outcome);
+        while (status == Status::no_room) {
+            shown.lines.resize(outcome.at);
+            status = json_into(name, input, is_indented, limits, shown.lines, written, outcome);
         }
         if (status != Status::ok && status != Status::more_follows)
             return detail::fails<Shown>(Error(status, outcome));
@@ -565,6 +618,67 @@ class Declarations {
         return found;
     }
 
+    /// The part that the path names, of the value that begins the input: `what.dir.data`, `list[3].name`. Its name is
+    /// not told.
+    [[nodiscard]] Answer<Part> find(std::string_view name, Bytes input, std::string_view path, Limits limits = {}) {
+        oncrpc_value_part part{};
+        oncrpc_outcome outcome{};
+        const auto status = static_cast<Status>(oncrpc_declarations_find(
+            handle_.get(), detail::lent(name), name.size(), limits.depth, limits.bytes, input.data(), input.size(),
+            detail::lent(path), path.size(), &part, &outcome));
+        if (status != Status::ok)
+            return detail::fails<Part>(Error(status, outcome));
+        return Part{part.at,    input.part(part.at, part.count),      {}, part.depth,
+                    part.kind, static_cast<XdrType>(part.xdr_type), static_cast<Role>(part.role)};
+    }
+
+    /// The number of a part that was found by these declarations.
+    [[nodiscard]] Answer<Number> number(const Part &part) {
+        oncrpc_value_part lent{};
+        lent.count = part.bytes.size();
+        lent.kind = part.kind;
+        lent.role = static_cast<std::uint32_t>(part.role);
+        oncrpc_number told{};
+        const auto status = static_cast<Status>(
+            oncrpc_part_number(handle_.get(), part.bytes.data(), part.bytes.size(), &lent, &told));
+        if (status != Status::ok)
+            return detail::fails<Number>(Error(status));
+        return Number{told.signed_number, told.number};
+    }
+
+    /// Which kind has the name: its number, as of a part.
+    [[nodiscard]] Answer<std::uint32_t> named(std::string_view name) {
+        std::uint32_t kind = 0;
+        const auto status = static_cast<Status>(
+            oncrpc_declarations_named(handle_.get(), detail::lent(name), name.size(), &kind));
+        if (status != Status::ok)
+            return detail::fails<std::uint32_t>(Error(status));
+        return kind;
+    }
+
+    /// What the kind of this number is.
+    [[nodiscard]] Answer<Kind> kind(std::uint32_t kind) {
+        oncrpc_kind told{};
+        const auto status = static_cast<Status>(oncrpc_declarations_kind(handle_.get(), kind, &told));
+        if (status != Status::ok)
+            return detail::fails<Kind>(Error(status));
+        return Kind{static_cast<XdrType>(told.xdr_type), told.members, told.size, told.item};
+    }
+
+    /// The member of an enum, or the field of a struct, that `index` others are before.
+    [[nodiscard]] Answer<Member> member(std::uint32_t kind, std::size_t index) {
+        return member_by([&](std::uint8_t *buffer, std::size_t count, oncrpc_member *member) {
+            return oncrpc_declarations_member(handle_.get(), kind, index, buffer, count, member);
+        });
+    }
+
+    /// The first member of an enum with this number, or the arm of a union under it.
+    [[nodiscard]] Answer<Member> picked(std::uint32_t kind, std::int64_t number) {
+        return member_by([&](std::uint8_t *buffer, std::size_t count, oncrpc_member *member) {
+            return oncrpc_declarations_picked(handle_.get(), kind, number, buffer, count, member);
+        });
+    }
+
     /// The encoding of the value that has these items.
     [[nodiscard]] Answer<Buffer> write(std::string_view name, const Items &items, Limits limits = {}) {
         Buffer made;
@@ -584,11 +698,34 @@ class Declarations {
     oncrpc_declarations *handle() noexcept { return handle_.get(); }
 
   private:
+    template <class Tell> Answer<Member> member_by(Tell tell) {
+        Member made;
+        oncrpc_member member{};
+        auto status = static_cast<Status>(tell(nullptr, 0, &member));
+        if (status == Status::no_room) {
+            made.name.resize(member.name_count);
+            status = static_cast<Status>(
+                tell(reinterpret_cast<std::uint8_t *>(made.name.data()), made.name.size(), &member));
+        }
+        if (status != Status::ok)
+            return detail::fails<Member>(Error(status));
+        made.number = member.number;
+        made.kind = member.kind;
+        return made;
+    }
+
     Status show_into(std::string_view name, Bytes input, Limits limits, std::string &lines, std::size_t &written,
                      oncrpc_outcome &outcome) {
         return static_cast<Status>(oncrpc_declarations_show(
             handle_.get(), detail::lent(name), name.size(), limits.depth, limits.bytes, input.data(), input.size(),
             reinterpret_cast<std::uint8_t *>(lines.data()), lines.size(), &written, &outcome));
+    }
+
+    Status json_into(std::string_view name, Bytes input, bool is_indented, Limits limits, std::string &lines,
+                     std::size_t &written, oncrpc_outcome &outcome) {
+        return static_cast<Status>(oncrpc_declarations_to_json(
+            handle_.get(), detail::lent(name), name.size(), limits.depth, limits.bytes, input.data(), input.size(),
+            is_indented, reinterpret_cast<std::uint8_t *>(lines.data()), lines.size(), &written, &outcome));
     }
 
     Status write_into(std::string_view name, const Items &items, Limits limits, Buffer &made, std::size_t &written,

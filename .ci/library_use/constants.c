@@ -45,6 +45,9 @@ NUMBER(MORE_WANTED, 23);
 NUMBER(NO_RECORD, 24);
 NUMBER(NOT_AN_ADDRESS, 25);
 NUMBER(BAD_ITEM, 26);
+NUMBER(NO_SUCH_PART, 27);
+NUMBER(NO_NUMBER, 28);
+NUMBER(NO_MEMBER, 29);
 
 NUMBER(BAD_BOOL, 1);
 NUMBER(BAD_NUMBERED, 2);
@@ -142,6 +145,21 @@ FIELD(parts_outcome, at, 0, 8);
 FIELD(parts_outcome, parts, 8, 8);
 FIELD(parts_outcome, names, 16, 8);
 FIELD(parts_outcome, why, 24, 4);
+
+SIZE(number, 16);
+FIELD(number, signed_number, 0, 8);
+FIELD(number, number, 8, 8);
+
+SIZE(kind, 24);
+FIELD(kind, members, 0, 8);
+FIELD(kind, xdr_type, 8, 4);
+FIELD(kind, size, 12, 4);
+FIELD(kind, item, 16, 4);
+
+SIZE(member, 24);
+FIELD(member, name_count, 0, 8);
+FIELD(member, number, 8, 8);
+FIELD(member, kind, 16, 4);
 
 SIZE(item, 40);
 FIELD(item, form, 0, 4);

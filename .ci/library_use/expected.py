@@ -18,6 +18,8 @@ SHOWN = """struct
 status 0, 48 bytes of input
 a buffer of 10 bytes: status 8, 116 are needed
 47 bytes: status 2, 0 written
+status 0, {"filename":"sillyprog","type":{"case":"EXEC","interpretor":"lisp"},"owner":"john","data":"287175697429"}
+rpcgen's dialect: status 0
 """
 PARTED = """without buffers: status 8, 10 parts and 60 bytes of names are needed
  0 0 : type 12, role 5
@@ -32,6 +34,9 @@ PARTED = """without buffers: status 8, 10 parts and 60 bytes of names are needed
 40 6   data: type 8, role 4, (quit)
 status 0, 48 bytes of input
 47 bytes: status 2 for reason 8 at 47
+type: number 2, EXEC
+type.interpretor: lisp
+type.creator: the value has no part with the path
 """
 WRITTEN = """without a buffer: status 8, 48 bytes are needed
 status 0, 48 bytes, as in the RFC

@@ -11,6 +11,10 @@ static int round_of(long at, int all_later) {
     refuse_growth(at, all_later);
     check_values();
     check_written();
+    check_paths();
+    check_kinds();
+    check_json();
+    check_dialect();
     check_messages();
     check_streams();
     check_registry();

@@ -209,7 +209,7 @@ void check_names(void) {
     check_faults();
     check_states();
     check_messages_refused();
-    check_texts(oncrpc_status_text, ONCRPC_OK, ONCRPC_BAD_ITEM);
+    check_texts(oncrpc_status_text, ONCRPC_OK, ONCRPC_NO_MEMBER);
     check_texts(oncrpc_reason_text, ONCRPC_BAD_BOOL, ONCRPC_OUTSIDE);
     check_texts(oncrpc_fault_text, ONCRPC_BAD_CHARACTER, ONCRPC_NESTED_TOO_DEEP);
     check_version();

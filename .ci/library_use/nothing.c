@@ -1,6 +1,28 @@
 /* NULL with a count of 0, at each pointer that has a count. */
 #include "calls.h"
 
+static void no_paths(oncrpc_declarations *held) {
+    oncrpc_outcome outcome = {9, 9, 9, 9, 9};
+    oncrpc_value_part part = {9, 9, 9, 9, 9, 9, 9, 9};
+    oncrpc_number number = {9, 9};
+    oncrpc_member member = {9, 9, 9};
+    uint32_t kind = 9;
+    uint32_t status = oncrpc_declarations_find(held, NULL, 0, 1, 4, NULL, 0, NULL, 0, &part, &outcome);
+    judge(status == ONCRPC_NO_KIND && tells(&outcome, 0, 0) && part.at == 9, status);
+    status = oncrpc_declarations_find(held, bytes("int"), 3, 1, 4, NULL, 0, NULL, 0, &part, &outcome);
+    judge(status == ONCRPC_REFUSED && tells(&outcome, 0, ONCRPC_TRUNCATED) && part.at == 9, status);
+    status = oncrpc_declarations_find(held, bytes("int"), 3, 1, 4, bytes("\0\0\0\7"), 4, NULL, 0, &part, &outcome);
+    judge(status == ONCRPC_OK && tells(&outcome, 0, 0) && !part.at && part.count == 4, status);
+    status = oncrpc_part_number(held, NULL, 0, &part, &number);
+    judge(status == ONCRPC_NO_NUMBER && number.number == 9, status);
+    status = oncrpc_declarations_named(held, NULL, 0, &kind);
+    judge(status == ONCRPC_NO_KIND && kind == 9, status);
+    status = oncrpc_declarations_member(held, 0, 0, NULL, 0, &member);
+    judge(status == ONCRPC_NO_MEMBER && member.name_count == 9, status);
+    status = oncrpc_declarations_picked(held, 0, 0, NULL, 0, &member);
+    judge(status == ONCRPC_NO_MEMBER && member.name_count == 9, status);
+}
+
 static void no_values(void) {
     oncrpc_declarations held = ONCRPC_NONE;
     oncrpc_outcome outcome = {9, 9, 9, 9, 9};
@@ -21,6 +43,12 @@ static void no_values(void) {
     judge(status == ONCRPC_NO_KIND && !written, status);
     status = oncrpc_declarations_show(&held, bytes("int"), 3, 1, 4, bytes("\0\0\0\7"), 4, NULL, 0, &written, &outcome);
     judge(status == ONCRPC_NO_ROOM && tells(&outcome, 2, 0) && !written, status);
+    written = 9;
+    status = oncrpc_declarations_to_json(&held, NULL, 0, 1, 4, NULL, 0, true, NULL, 0, &written, &outcome);
+    judge(status == ONCRPC_NO_KIND && !written, status);
+    status = oncrpc_declarations_to_json(&held, bytes("int"), 3, 1, 4, bytes("\0\0\0\7"), 4, true, NULL, 0, &written,
+        &outcome);
+    judge(status == ONCRPC_NO_ROOM && tells(&outcome, 1, 0) && !written, status);
     status = oncrpc_declarations_parts(&held, NULL, 0, 1, 4, NULL, 0, NULL, 0, NULL, 0, &found);
     judge(status == ONCRPC_NO_KIND && !found.parts, status);
     status = oncrpc_declarations_parts(&held, bytes("int"), 3, 1, 4, bytes("\0\0\0\7"), 4, NULL, 0, NULL, 0, &found);
@@ -33,6 +61,7 @@ static void no_values(void) {
     status = oncrpc_declarations_write(&held, bytes("opaque"), 6, 1, 4, &empty, 1, NULL, 0, NULL, 0, &written,
         &outcome);
     judge(status == ONCRPC_NO_ROOM && tells(&outcome, 4, 0) && !written, status);
+    no_paths(&held);
     oncrpc_declarations_free(&held);
     status = oncrpc_normalise(NULL, 0, 0, NULL, 0, &written, &outcome);
     judge(status == ONCRPC_OK && tells(&outcome, 0, 0) && !written, status);

@@ -95,6 +95,26 @@ static void list_value(oncrpc_declarations *held) {
     judge(status == ONCRPC_OK && found.at == MIB + 4 && are_right, status);
 }
 
+/* The last item of the list by its path, and the one behind it, which is none. What is asked for is a few frames. */
+static void find_item(oncrpc_declarations *held) {
+    char path[16];
+    oncrpc_value_part part;
+    oncrpc_outcome outcome = {9, 9, 9, 9, 9};
+    oncrpc_number number = {9, 9};
+    put_number(input, ITEMS);
+    put_number(input + MIB, 0x80000000u);
+    for (int behind = 0; behind < 2; behind++) {
+        int count = snprintf(path, sizeof path, "[%d]", ITEMS - 1 + behind);
+        size_t before = growth_bytes();
+        uint32_t status = oncrpc_declarations_find(held, bytes("list"), 4, 2, ONCRPC_MOST_BYTES, input, MIB + 4, path,
+            (size_t)count, &part, &outcome);
+        judge(status == (uint32_t)(behind ? ONCRPC_NO_SUCH_PART : ONCRPC_OK) && tells(&outcome, 0, 0) && part.at == MIB
+            && part.count == 4 && growth_bytes() - before < FRAMES, status);
+    }
+    uint32_t status = oncrpc_part_number(held, input, MIB + 4, &part, &number);
+    judge(status == ONCRPC_OK && number.signed_number == -2147483648 && !number.number, status);
+}
+
 /* The opaque of 1 MiB as one item, and the list of as many bytes, an item for each number. */
 static void write_value(oncrpc_declarations *held) {
     static oncrpc_item items[ITEMS + 1];
@@ -285,6 +305,7 @@ void check_sizes(void) {
     check_value(&declarations);
     show_value(&declarations);
     list_value(&declarations);
+    find_item(&declarations);
     write_value(&declarations);
     oncrpc_declarations_free(&declarations);
     normalise_records();

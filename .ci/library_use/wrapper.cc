@@ -110,6 +110,51 @@ void check_parts() {
     JUDGE(parts[2].kind != parts[9].kind && parts[9].xdr_type == XdrType::opaque && parts[9].bytes[0] == '(');
 }
 
+// One part of the file of the RFC by its path, numbers of parts, kinds and their members.
+void check_paths() {
+    auto declarations = std::move(*GOT(Declarations::read(file_text)));
+    auto found = GOT(declarations.find("file", file_bytes, "type.interpretor"));
+    JUDGE(found && found->at == 24 && found->bytes.text() == "lisp" && found->depth == 3 && found->name.empty());
+    JUDGE(found && found->role == Role::content && found->xdr_type == XdrType::string);
+    JUDGE(found && fails(GOT(declarations.number(*found)), Status::no_number));
+    JUDGE(fails(GOT(declarations.find("file", file_bytes, "type.creator")), Status::no_such_part));
+    JUDGE(fails(GOT(declarations.find("folder", file_bytes, "")), Status::no_kind));
+    JUDGE(fails(GOT(declarations.find("bool", file_bytes, "")), Status::refused, Reason::bad_bool));
+    found = GOT(declarations.find("file", file_bytes, "type"));
+    JUDGE(found && GOT(declarations.number(*found))->signed_number == 2);
+    const auto kind = GOT(declarations.kind(found->kind));
+    JUDGE(kind && kind->xdr_type == XdrType::union_ && kind->item == *GOT(declarations.named("filekind")));
+    const auto member = GOT(declarations.picked(kind->item, 2));
+    JUDGE(member && member->name == "EXEC" && member->number == 2 && member->kind == kind->item);
+    const auto place = *GOT(declarations.named("file"));
+    const auto file = GOT(declarations.kind(place));
+    JUDGE(file && file->xdr_type == XdrType::struct_ && file->members == 4 && !file->size && !file->item);
+    const auto data = GOT(declarations.member(place, 3));
+    JUDGE(data && data->name == "data" && GOT(declarations.kind(data->kind))->size == 65535);
+    JUDGE(fails(GOT(declarations.member(kind->item, 3)), Status::no_member));
+    JUDGE(fails(GOT(declarations.kind(1024)), Status::no_kind));
+    JUDGE(fails(GOT(declarations.named("folder")), Status::no_kind));
+    const auto least = words({0x80000000, 0});
+    found = GOT(declarations.find("hyper", least, ""));
+    JUDGE(found && GOT(declarations.number(*found))->signed_number == INT64_MIN);
+    found = GOT(declarations.find("unsigned-hyper", least, ""));
+    JUDGE(found && GOT(declarations.number(*found))->number == std::uint64_t{1} << 63);
+}
+
+// The file of the RFC as JSON (docs/FORMATS.md), and a text in rpcgen's dialect.
+void check_json_and_dialect() {
+    auto declarations = std::move(*GOT(Declarations::read(file_text)));
+    const auto told = GOT(declarations.to_json("filetype", file_bytes.substr(16, 12)));
+    JUDGE(told && told->lines == R"({"case":"EXEC","interpretor":"lisp"})" && told->checked.used == 12);
+    JUDGE(fails(GOT(declarations.to_json("file", file_bytes.substr(0, 47))), Status::refused, Reason::truncated, 47));
+    constexpr auto text = "%#include <x.h>\n#ifdef RPC_HDR\ntypedef int here;\n#endif\ntypedef string name<>;";
+    auto read = GOT(Declarations::read_dialect(text, "RPC_XDR RPC_HDR"));
+    JUDGE(read && GOT(read->check("here", words({1}))).has_value());
+    read = GOT(Declarations::read_dialect(text));
+    JUDGE(read && fails(GOT(read->check("here", words({1}))), Status::no_kind));
+    JUDGE(fails(GOT(Declarations::read_dialect("#endif")), Status::undeclared));
+}
+
 // The file of the RFC from its items, and items that are no value's.
 void check_items() {
     auto declarations = std::move(*GOT(Declarations::read(file_text)));
@@ -309,6 +354,8 @@ void check_bytes() {
 unsigned WRONG_OF_THIS() {
     check_values();
     check_parts();
+    check_paths();
+    check_json_and_dialect();
     check_items();
     check_texts();
     check_handles();

@@ -1,7 +1,8 @@
 /* The nearest to our codec_bench with rpcgen and libtirpc: one value, encoded or decoded (and freed) COUNT times.
  * usage: loop_xdr uint1M|list2000|file1M|opaque1M|opaque16M encode|decode COUNT
  * With -DLIBRARY, on liboncrpc too: check in place of decode, by the declarations on standard input, which are read
- * once; parts, which puts the value's parts into an array that is large enough; asked, which asks first how large;
+ * once; find, which finds the three fields of file1M that are strings, each by its path; parts, which puts the value's
+ * parts into an array that is large enough; asked, which asks first how large;
  * write, which writes the value by its items, as its parts tell them, and compares its bytes; or read, which reads and
  * frees the declarations COUNT times. */
 #include <stdio.h>
@@ -30,6 +31,18 @@ static void check(const char *name, const char *wire, size_t length, long count)
         if (oncrpc_declarations_check(&held, (const uint8_t *)name, strlen(name), ONCRPC_MOST_DEPTH, ONCRPC_MOST_BYTES,
                                       (const uint8_t *)wire, length, &outcome))
             exit(1);
+    oncrpc_declarations_free(&held);
+}
+static void find(const char *wire, size_t length, long count) {
+    static const char *const paths[] = {"filename", "type.interpretor", "owner"};
+    oncrpc_declarations held = declared(1);
+    oncrpc_value_part part;
+    oncrpc_outcome outcome;
+    for (long i = 0; i < count; i++)
+        for (size_t k = 0; k < 3; k++)
+            if (oncrpc_declarations_find(&held, "file", 4, ONCRPC_MOST_DEPTH, ONCRPC_MOST_BYTES, wire, length,
+                                         paths[k], strlen(paths[k]), &part, &outcome))
+                exit(1);
     oncrpc_declarations_free(&held);
 }
 static uint32_t put_into(oncrpc_declarations *held, const char *name, const char *wire, size_t length,
@@ -120,6 +133,10 @@ static void loop(const char *name, xdrproc_t f, void *value, size_t size, const 
     }
     if (!strcmp(work, "parts") || !strcmp(work, "asked")) {
         put_parts(name, wire, length, count, *work == 'a');
+        return;
+    }
+    if (!strcmp(work, "find")) {
+        find(wire, length, count);
         return;
     }
     if (!strcmp(work, "write")) {

@@ -54,10 +54,12 @@ __all__ = [
     "DeclarationError",
     "Declarations",
     "Decoded",
+    "Field",
     "Flag",
     "Item",
     "ItemError",
     "ItemReason",
+    "Kind",
     "LimitError",
     "Library",
     "Limits",
@@ -70,6 +72,7 @@ __all__ = [
     "MoreFollowsError",
     "NoKindError",
     "NoMemoryError",
+    "NoPartError",
     "OncrpcError",
     "Part",
     "Parts",
@@ -135,6 +138,9 @@ class Status(enum.IntEnum):
     NO_RECORD = 24
     NOT_AN_ADDRESS = 25
     BAD_ITEM = 26
+    NO_SUCH_PART = 27
+    NO_NUMBER = 28
+    NO_MEMBER = 29
 
 
 class Reason(enum.IntEnum):
@@ -272,7 +278,11 @@ class DeclarationError(OncrpcError, ValueError):
 
 
 class NoKindError(OncrpcError, LookupError):
-    """The name is that of no kind."""
+    """The name is that of no kind, or the number is."""
+
+
+class NoPartError(OncrpcError, LookupError):
+    """The value has no part with the path."""
 
 
 class LimitError(OncrpcError, ValueError):
@@ -336,7 +346,9 @@ def _fail(status: int, outcome: Optional[_Outcome] = None, **told: Any) -> NoRet
     if known is Status.NOT_AN_ADDRESS:
         raise AddressError("no universal address", **told)
     if known is Status.NO_KIND:
-        raise NoKindError("the name is that of no kind", **told)
+        raise NoKindError("there is no such kind", **told)
+    if known is Status.NO_SUCH_PART:
+        raise NoPartError("the value has no part with the path", **told)
     if known is Status.BAD_LIMITS:
         raise LimitError("a limit is out of its range", **told)
     if known is Status.NO_MEMORY:
@@ -371,7 +383,10 @@ class Decoded(NamedTuple):
 
 
 class Shown(NamedTuple):
-    """The lines of a value, each ended by a newline, as `oncrpc show` prints them, and how many bytes it has."""
+    """The lines of a value, each ended by a newline, as `oncrpc show` prints them, and how many bytes it has.
+
+    Of Declarations.to_json the lines are its JSON, without a newline at the end.
+    """
 
     lines: str
     used: int
@@ -399,6 +414,31 @@ class Parts(NamedTuple):
     parts: List[Part]
     used: int
     more_follows: bool
+
+
+class Kind(NamedTuple):
+    """A kind of the declarations. What its type does not speak of is 0.
+
+    `members` counts those of an enum, or the fields of a struct. `size` is how many bytes an opaque or a string has, or
+    items an array, at most if that varies. `item` is the kind of an array's items, of an optional's item or of a
+    union's discriminant.
+    """
+
+    xdr_type: Union[XdrType, int]
+    members: int
+    size: int
+    item: int
+
+
+class Field(NamedTuple):
+    """A member of an enum, a field of a struct or an arm of a union: its name, and its number or its kind.
+
+    An enum's member has the kind of the enum; an arm has the number that it was asked for by, and a field 0.
+    """
+
+    name: str
+    number: int
+    kind: int
 
 
 class Flag(NamedTuple):
@@ -538,6 +578,18 @@ class _Item(ctypes.Structure):
     ]
 
 
+class _Number(ctypes.Structure):
+    _fields_ = [("signed_number", ctypes.c_int64), ("number", ctypes.c_uint64)]
+
+
+class _Kind(ctypes.Structure):
+    _fields_ = [("members", ctypes.c_size_t)] + [(name, ctypes.c_uint32) for name in ("xdr_type", "size", "item")]
+
+
+class _Field(ctypes.Structure):
+    _fields_ = [("name_count", ctypes.c_size_t), ("number", ctypes.c_int64), ("kind", ctypes.c_uint32)]
+
+
 class _Lying(ctypes.Structure):
     """A part of a message, or a text of a row."""
 
@@ -580,6 +632,9 @@ _STRUCTS = {
     "oncrpc_outcome": _Outcome,
     "oncrpc_declarations": _Handle,
     "oncrpc_value_part": _ValuePart,
+    "oncrpc_number": _Number,
+    "oncrpc_kind": _Kind,
+    "oncrpc_member": _Field,
     "oncrpc_item": _Item,
     "oncrpc_parts_outcome": _PartsOutcome,
     "oncrpc_part": _Lying,
@@ -610,9 +665,17 @@ _VALUE = [*_LENT, _U32, _U32, *_LENT]
 _FUNCTIONS: Dict[str, List[Any]] = {
     "oncrpc_check": [*_LENT, *_VALUE, _OUTCOME],
     "oncrpc_declarations_read": [*_LENT, _HELD, _OUTCOME],
+    "oncrpc_declarations_read_dialect": [*_LENT, *_LENT, _HELD, _OUTCOME],
+    "oncrpc_declarations_to_json": [_HELD, *_VALUE, ctypes.c_bool, *_LENT, _COUNT, _OUTCOME],
     "oncrpc_declarations_check": [_HELD, *_VALUE, _OUTCOME],
     "oncrpc_declarations_show": [_HELD, *_VALUE, *_LENT, _COUNT, _OUTCOME],
     "oncrpc_declarations_parts": [_HELD, *_VALUE, *_LENT, *_LENT, ctypes.POINTER(_PartsOutcome)],
+    "oncrpc_declarations_find": [_HELD, *_VALUE, *_LENT, ctypes.POINTER(_ValuePart), _OUTCOME],
+    "oncrpc_part_number": [_HELD, *_LENT, ctypes.POINTER(_ValuePart), ctypes.POINTER(_Number)],
+    "oncrpc_declarations_named": [_HELD, *_LENT, ctypes.POINTER(_U32)],
+    "oncrpc_declarations_kind": [_HELD, _U32, ctypes.POINTER(_Kind)],
+    "oncrpc_declarations_member": [_HELD, _U32, ctypes.c_size_t, *_LENT, ctypes.POINTER(_Field)],
+    "oncrpc_declarations_picked": [_HELD, _U32, ctypes.c_int64, *_LENT, ctypes.POINTER(_Field)],
     "oncrpc_declarations_write": [_HELD, *_LENT, _U32, _U32, *_LENT, *_LENT, *_LENT, _COUNT, _OUTCOME],
     "oncrpc_declarations_free": [_HELD],
     "oncrpc_normalise": [*_LENT, _U32, *_LENT, _COUNT, _OUTCOME],
@@ -713,6 +776,13 @@ class Library:
     def declarations(self, text: Text) -> Declarations:
         """Reads declarations in the XDR language, at most 262144 bytes. Raises DeclarationError, NoMemoryError."""
         return Declarations(self, text)
+
+    def dialect(self, text: Text, names: Iterable[str] = ()) -> Declarations:
+        """Reads declarations in rpcgen's dialect, where these names are defined for its lines of `#`.
+
+        Raises DeclarationError, NoMemoryError.
+        """
+        return Declarations(self, text, " ".join(names))
 
     def registry(self, port: int = 111, seed: Optional[Data] = None) -> Registry:
         """Starts a registry with its own rows, at this port. Raises NoMemoryError.
@@ -912,7 +982,7 @@ class _Owner:
 
 
 class Declarations(_Owner):
-    """Declarations that were read. Made by Library.declarations.
+    """Declarations that were read. Made by Library.declarations, or Library.dialect.
 
     A `name` is that of a type that the text declares, or of a basic one: int, unsigned, hyper, unsigned-hyper, bool,
     opaque, string. Or `P.V.N.K`, the K-th argument, from 1, of procedure N in version V of program P, or
@@ -923,11 +993,19 @@ class Declarations(_Owner):
 
     _free = "oncrpc_declarations_free"
 
-    def __init__(self, library: Library, text: Text) -> None:
+    def __init__(self, library: Library, text: Text, names: Optional[str] = None) -> None:
         text = _text(text)
-        read = library._functions["oncrpc_declarations_read"]
-        super().__init__(library, lambda held, outcome: read(text, len(text), held, outcome))
+        given: Tuple[Any, ...] = (text, len(text))
+        if names is None:
+            read = library._functions["oncrpc_declarations_read"]
+        else:
+            defined = names.encode("utf-8")
+            given = (*given, defined, len(defined))
+            read = library._functions["oncrpc_declarations_read_dialect"]
+        super().__init__(library, lambda held, outcome: read(*given, held, outcome))
         self._members: Dict[Tuple[int, bytes], Union[Member, int]] = {}
+        self._kinds: Dict[int, Kind] = {}
+        self._lists: Dict[int, List[Field]] = {}
 
     def check(self, name: str, data: Data, limits: Limits = Limits()) -> Checked:
         """Tells whether a value begins the bytes. No value is made, in memory for a frame for each open node."""
@@ -945,6 +1023,20 @@ class Declarations(_Owner):
         used, more_follows = _checked(status, outcome)
         return Shown(_front(buffer, written.value).decode("ascii", "replace"), used, more_follows)
 
+    def to_json(self, name: str, data: Data, limits: Limits = Limits(), *, is_indented: bool = False) -> Shown:
+        """The value that begins the bytes as JSON, on one line or with a line for each item and each member.
+
+        It takes stack for each level of the value: on a thread with little of it, bound the depth.
+        """
+        outcome, written, buffer = _Outcome(), ctypes.c_size_t(), bytearray()
+        given = (*_value(name, data, limits), is_indented)
+        status = self._call("oncrpc_declarations_to_json", *given, None, 0, written, outcome)
+        if status == Status.NO_ROOM:
+            buffer = bytearray(outcome.at)
+            status = self._call("oncrpc_declarations_to_json", *given, *_lend(buffer), written, outcome)
+        used, more_follows = _checked(status, outcome)
+        return Shown(_front(buffer, written.value).decode("utf-8"), used, more_follows)
+
     def parts(self, name: str, data: Data, limits: Limits = Limits()) -> Parts:
         """Where the parts of the value that begins the bytes lie. A part is several objects: bound the limits."""
         given = _value(name, data, limits)
@@ -956,6 +1048,78 @@ class Declarations(_Owner):
             types = _named(XdrType, xdr_type), _named(Role, role)
             found.append(Part(at, data[at : at + count], own, depth, kind, *types))
         return Parts(found, *checked)
+
+    def find(self, name: str, data: Data, path: str, limits: Limits = Limits()) -> Part:
+        """The part that the path names, of the value that begins the bytes, without its name. Raises NoPartError.
+
+        A path is the names of fields and arms with dots between them, and `[i]` behind an array for the item i, from 0.
+        The empty path is the value itself. Of an opaque or a string the content is meant. Optional data is its item;
+        where it is not there, a path to it names its flag, and no path leads on.
+        """
+        part, outcome, given, text = _ValuePart(), _Outcome(), _value(name, data, limits), path.encode("utf-8")
+        status = self._call("oncrpc_declarations_find", *given, text, len(text), part, outcome)
+        if status != Status.OK:
+            _fail(status, outcome)
+        content = given[4][part.at : part.at + part.count]
+        types = _named(XdrType, part.xdr_type), _named(Role, part.role)
+        return Part(part.at, content, "", part.depth, part.kind, *types)
+
+    def number(self, part: Part) -> Optional[int]:
+        """The number of a part of these declarations, or of an optional's flag or a length; None where it has none."""
+        content, number = _lent(part.content), _Number()
+        lent = _ValuePart(count=len(content), kind=part.kind, role=part.role)
+        status = self._call("oncrpc_part_number", content, len(content), lent, number)
+        if status == Status.NO_NUMBER:
+            return None
+        if status != Status.OK:
+            _fail(status)
+        return number.signed_number if number.signed_number < 0 else number.number
+
+    def named(self, name: str) -> int:
+        """The kind that has this name, by its number: that which its parts tell. Raises NoKindError."""
+        text, kind = name.encode("utf-8"), _U32()
+        status = self._call("oncrpc_declarations_named", text, len(text), kind)
+        if status != Status.OK:
+            _fail(status)
+        return kind.value
+
+    def kind(self, kind: int) -> Kind:
+        """What the kind of this number is: of a part, of a field, of another kind's item. Raises NoKindError."""
+        if kind not in self._kinds:
+            told = _Kind()
+            status = self._call("oncrpc_declarations_kind", _u(32, kind, "kind"), told)
+            if status != Status.OK:
+                _fail(status)
+            self._kinds[kind] = Kind(_named(XdrType, told.xdr_type), told.members, told.size, told.item)
+        return self._kinds[kind]
+
+    def fields(self, kind: int) -> List[Field]:
+        """The members of an enum, or the fields of a struct, in their order; none of another kind."""
+        if kind not in self._lists:
+            count = self.kind(kind).members
+            found = [self._field("oncrpc_declarations_member", kind, index) for index in range(count)]
+            self._lists[kind] = [field for field in found if field is not None]
+        return self._lists[kind]
+
+    def picked(self, kind: int, number: int) -> Optional[Field]:
+        """The first member of an enum with the number, or the arm of a union under it; None where there is none.
+
+        A union's default is the arm under each number that no other arm has.
+        """
+        number = operator.index(number)
+        return self._field("oncrpc_declarations_picked", kind, number) if -(1 << 63) <= number < 1 << 63 else None
+
+    def _field(self, name: str, kind: int, key: int) -> Optional[Field]:
+        told, buffer = _Field(), bytearray()
+        status = self._call(name, _u(32, kind, "kind"), key, None, 0, told)
+        if status == Status.NO_ROOM:
+            buffer = bytearray(told.name_count)
+            status = self._call(name, kind, key, *_lend(buffer), told)
+        if status == Status.NO_MEMBER:
+            return None
+        if status != Status.OK:
+            _fail(status)
+        return Field(buffer.decode("utf-8", "replace"), told.number, told.kind)
 
     def decode(
         self,
@@ -989,6 +1153,67 @@ class Declarations(_Owner):
         value, checked = self._decoded(name, data, limits, encoding, errors)
         return Decoded(value, checked.used)
 
+    def encode(
+        self, name: str, value: Value, limits: Limits = Limits(), *, encoding: str = "utf-8", errors: str = "strict"
+    ) -> bytes:
+        """The encoding of a value, as `decode` gives them, or `decode_front`.
+
+        A str stands for a string's bytes by `encoding`, or for the number of the enum's member that has this name, of a
+        discriminant too. Raises ItemError where the value is not within its type or the limits. TypeError, ValueError
+        and KeyError say that it has not the shape that its kind wants: another type, too many or too few items.
+        """
+        items = self._items(self.named(name), value, lambda text: text.encode(encoding, errors))
+        return self.write(name, items, limits)
+
+    def _items(self, kind: int, value: Value, string: Callable[[str], bytes]) -> Iterator[Item]:
+        """The items of a value. Without recursion, since it may be deeper than Python's stack."""
+        left: List[Tuple[int, Any]] = [(kind, value)]
+        while left:
+            kind, value = left.pop()
+            told = self.kind(kind)
+            if told.xdr_type in (_ARRAY, _FIXED_ARRAY):
+                if not isinstance(value, (list, tuple)):
+                    raise TypeError(f"a list is due, and no {type(value).__name__}")
+                if told.xdr_type == _ARRAY:
+                    yield Count(len(value))
+                elif len(value) != told.size:
+                    raise ValueError(f"{told.size} items are due, and not {len(value)}")
+                left.extend((told.item, item) for item in reversed(value))
+            elif told.xdr_type == _STRUCT:
+                fields = self.fields(kind)
+                own = _dict_of(value, {field.name for field in fields})
+                left.extend((field.kind, own[field.name]) for field in reversed(fields))
+            elif told.xdr_type == _OPTIONAL:
+                yield Flag(value is not None)
+                if value is not None:
+                    is_twice = self.kind(told.item).xdr_type == _OPTIONAL
+                    left.append((told.item, _only(value) if is_twice else value))
+            elif told.xdr_type == _UNION:
+                number = self._number(told.item, _dict_of(value, value)["case"])
+                yield number
+                arm = self.picked(kind, number)
+                if arm is None:
+                    return  # The discriminant is refused, as the last item.
+                own = _dict_of(value, {"case", arm.name} if arm.name else {"case"})
+                left.extend([(arm.kind, own[arm.name])] if arm.name else [])
+            elif told.xdr_type in (_ENUM, _BOOL):
+                yield self._number(kind, value)
+            elif told.xdr_type in (_FIXED_OPAQUE, _OPAQUE, _STRING):
+                yield string(value) if told.xdr_type == _STRING and isinstance(value, str) else _lent(value)
+            elif told.xdr_type != _VOID:
+                yield operator.index(value)
+            elif value is not None:
+                raise TypeError("None is due")
+
+    def _number(self, kind: int, value: Any) -> int:
+        """A number, or that of the enumeration's member with a name."""
+        if not isinstance(value, str):
+            return operator.index(value)
+        found = [field.number for field in self.fields(kind) if field.name == value]
+        if not found or self.kind(kind).xdr_type != _ENUM:
+            raise ValueError(f"no member is named {value}")
+        return found[0]
+
     def write(self, name: str, items: Iterable[Item], limits: Limits = Limits()) -> bytes:
         """The encoding of the value that has these items, in the order of its bytes. Raises ItemError."""
         kind, packed, data = name.encode("utf-8"), bytearray(), bytearray()
@@ -1013,16 +1238,22 @@ class Declarations(_Owner):
         if len(self._members) > _MOST_MEMBERS:
             self._members.clear()
 
-        def member(kind: int, number: bytes) -> Union[Member, int]:
-            if (kind, number) not in self._members:
-                lines = self.show(name, data, limits).lines
-                self._members.update(_members(_PART.iter_unpack(listed), data, names, lines.split("\n")))
-            return self._members[kind, number]
-
         def string(content: bytes) -> Union[bytes, str]:
             return content if encoding is None else content.decode(encoding, errors)
 
-        return _nested(_PART.iter_unpack(listed), data, names, member, string), checked
+        return _nested(_PART.iter_unpack(listed), data, names, self._member, string), checked
+
+    def _member(self, kind: int, content: bytes) -> Union[Member, int]:
+        """What the number of an enumeration or of a discriminant is."""
+        key = kind, content
+        if key not in self._members:
+            told = self.kind(kind)
+            tag = told.item if told.xdr_type == _UNION else kind
+            sort = self.kind(tag).xdr_type
+            number = int.from_bytes(content, "big", signed=sort in (_INT, _ENUM))
+            found = self.picked(tag, number) if sort == _ENUM else None
+            self._members[key] = Member(number, found.name) if found else number == 1 if sort == _BOOL else number
+        return self._members[key]
 
     def _parts(self, given: Tuple[Any, ...]) -> Tuple[bytearray, bytes, Checked]:
         """The parts as they lie in an array, their names, and what was found."""
@@ -1063,30 +1294,25 @@ def _value(name: str, data: Data, limits: Limits) -> Tuple[bytes, int, int, int,
 
 # As plain numbers, since there is one of each for every part of a value.
 _NUMBER, _, _LENGTH, _CONTENT, _ = map(int, Role)
-_INT, _, _HYPER, _, _BOOL, _ENUM, _, _, _STRING, *_ = map(int, XdrType)
+_INT, _, _HYPER, _, _BOOL, _ENUM, _FIXED_OPAQUE, _OPAQUE, _STRING, *_ = map(int, XdrType)
 _FIXED_ARRAY, _ARRAY, _STRUCT, _UNION, _OPTIONAL, _VOID = list(map(int, XdrType))[-6:]
 
 
-def _members(
-    parts: Iterable[Tuple[int, ...]], data: bytes, names: bytes, lines: Iterable[str]
-) -> Iterator[Tuple[Tuple[int, bytes], Union[Member, int]]]:
-    """What the numbers of enumerations and the discriminants of a value are, by its kind and its bytes.
-
-    The parts tell neither the name of a member nor the type of a discriminant, and the lines do. There is one for each
-    part but for the lengths of content (docs/FORMATS.md, "The lines of show").
-    """
-    nodes = (part for part in parts if part[7] != _LENGTH or part[6] == _ARRAY)
-    for (at, count, _, name_count, depth, kind, xdr_type, _), line in zip(nodes, lines):
-        if xdr_type in (_ENUM, _UNION):
-            said = line[2 * (depth - 1) + (name_count and name_count + 2) :]
-            yield (kind, data[at : at + count]), _member(said[len("case ") :] if xdr_type == _UNION else said)
+def _dict_of(value: Any, names: Iterable[str]) -> Dict[str, Any]:
+    """The value, which is a dict with no other names."""
+    if not isinstance(value, dict):
+        raise TypeError(f"a dict is due, and no {type(value).__name__}")
+    for name in value:
+        if name not in names:
+            raise ValueError(f"no field or arm is named {name!r}")
+    return value
 
 
-def _member(said: str) -> Union[Member, int]:
-    name, equals, number = said.partition(" = ")
-    if equals:
-        return Member(int(number), name)
-    return name == "TRUE" if name in ("TRUE", "FALSE") else int(name)
+def _only(value: Any) -> Any:
+    """The item of a list with it alone."""
+    if not isinstance(value, (list, tuple)) or len(value) != 1:
+        raise TypeError("a list of one item is due")
+    return value[0]
 
 
 def _nested(

@@ -9,6 +9,7 @@ import array
 import copy
 import ctypes
 import gc
+import json
 import os
 import pickle
 import re
@@ -149,6 +150,95 @@ class TheFileOfTheRfc(Case):
             self.file.decode("file", longer)
         self.assertEqual((follows.exception.status, follows.exception.at), (Status.MORE_FOLLOWS, 48))
 
+    def test_find(self):
+        for path, at, content, depth, number in [
+            ("filename", 4, b"sillyprog", 2, None),
+            ("type", 16, words(2), 2, 2),
+            ("type.interpretor", 24, b"lisp", 3, None),
+            ("owner", 32, b"john", 2, None),
+            ("data", 40, b"(quit)", 2, None),
+            ("", 0, b"", 1, None),
+        ]:
+            for data in (self.data, self.data + b"?"):
+                part = self.file.find("file", data, path)
+                self.assertEqual((part.at, part.content, part.depth, part.name), (at, content, depth, ""))
+                self.assertEqual(self.file.number(part), number)
+        for path in ("type.creator", "owner[0]", "x", ".", "type."):
+            with self.assertRaises(oncrpc.NoPartError):
+                self.file.find("file", self.data, path)
+        self.refuses(Reason.TRUNCATED, 47, self.file.find, "file", self.data[:47], "type")
+        with self.assertRaises(oncrpc.NoKindError):
+            self.file.find("folder", self.data, "type")
+
+    def test_kinds(self):
+        kind = self.file.named("file")
+        self.assertEqual(self.file.kind(kind), (XdrType.STRUCT, 4, 0, 0))
+        self.assertEqual([it.name for it in self.file.fields(kind)], ["filename", "type", "owner", "data"])
+        self.assertEqual([self.file.kind(it.kind).size for it in self.file.fields(kind)], [255, 0, 32, 65535])
+        union, level = self.file.named("filetype"), self.file.named("filekind")
+        self.assertEqual(self.file.kind(union), (XdrType.UNION, 0, 0, level))
+        self.assertEqual([it[:2] for it in self.file.fields(level)], [("TEXT", 0), ("DATA", 1), ("EXEC", 2)])
+        self.assertEqual([self.file.picked(union, it).name for it in range(3)], ["", "creator", "interpretor"])
+        self.assertEqual(self.file.picked(level, 2), ("EXEC", 2, level))
+        self.assertIsNone(self.file.picked(level, 3))
+        self.assertIsNone(self.file.picked(level, 2**64))
+        self.assertEqual(self.file.fields(union), [])
+        with self.assertRaises(oncrpc.NoKindError):
+            self.file.kind(1024)
+
+    def test_encode(self):
+        self.assertEqual(self.file.encode("file", FILE), self.data)
+        texts = {"filename": "sillyprog", "type": {"case": "EXEC", "interpretor": "lisp"}, "owner": "john"}
+        self.assertEqual(self.file.encode("file", {"data": bytearray(b"(quit)"), **texts}), self.data)
+        self.assertEqual(self.file.encode("filetype", {"case": 0}), words(0))
+
+    def test_encode_in_vain(self):
+        for wrong, value in [
+            (KeyError, {}),
+            (KeyError, {**FILE, "type": {"case": 2}}),
+            (KeyError, {**FILE, "type": {}}),
+            (ValueError, {**FILE, "more": 1}),
+            (ValueError, {**FILE, "type": {"case": 0, "interpretor": b"lisp"}}),
+            (ValueError, {**FILE, "type": {"case": "FOLDER"}}),
+            (TypeError, {**FILE, "type": 2}),
+            (TypeError, {**FILE, "data": "(quit)"}),
+            (TypeError, {**FILE, "owner": 7}),
+            (TypeError, None),
+        ]:
+            with self.assertRaises(wrong):
+                self.file.encode("file", value)
+        for reason, at, value in [
+            (Reason.BAD_NUMBERED, 1, {**FILE, "type": {"case": 3}}),
+            (Reason.TOO_LONG, 3, {**FILE, "owner": b"j" * 33}),
+        ]:
+            with self.assertRaises(oncrpc.ItemError) as refused:
+                self.file.encode("file", value)
+            self.assertEqual((refused.exception.reason, refused.exception.at), (reason, at))
+
+    def test_to_json(self):
+        """docs/FORMATS.md, section 5."""
+        told = self.file.to_json("file", self.data + b"?")
+        self.assertEqual((told.used, told.more_follows), (48, True))
+        wanted = {"filename": "sillyprog", "type": {"case": "EXEC", "interpretor": "lisp"}, "owner": "john"}
+        self.assertEqual(json.loads(told.lines), {**wanted, "data": "287175697429"})
+        indented = self.file.to_json("file", self.data, is_indented=True).lines
+        self.assertEqual(json.loads(indented), json.loads(told.lines))
+        self.assertEqual((told.lines.count("\n"), indented.count("\n")), (0, 8))
+        self.refuses(Reason.TRUNCATED, 47, self.file.to_json, "file", self.data[:47])
+
+    def test_dialect(self):
+        text = "%#include <x.h>\n#ifdef RPC_HDR\ntypedef int here;\n#endif\ntypedef string name<>;"
+        for names, is_there in [((), False), (["RPC_XDR"], False), (["RPC_XDR", "RPC_HDR"], True)]:
+            with self.library.dialect(text, names) as read:
+                self.assertEqual(read.decode("name", words(1, 0x61000000)), b"a")
+                if is_there:
+                    self.assertEqual(read.decode("here", words(7)), 7)
+                else:
+                    self.assertRaises(oncrpc.NoKindError, read.named, "here")
+        with self.assertRaises(oncrpc.DeclarationError) as caught:
+            self.library.dialect("\n#endif")
+        self.assertEqual((caught.exception.fault, caught.exception.line), (TextFault.BAD_CHARACTER, 2))
+
     def test_show(self):
         self.assertEqual(self.file.show("file", self.data + b"?"), (FILE_LINES, 48, True))
 
@@ -231,12 +321,15 @@ class Values(Case):
         self.assertEqual([type(it) for it in (value["u"], value["b"], value["c"])], [int, bool, Member])
         names = [it["case"].name for it in (value["s"], *value["q"])]
         self.assertEqual(names, ["RED", "BLUE", "RED"])
+        self.assertEqual(self.types.encode("all", value), data)
+        self.assertEqual(self.types.encode("all", wanted), data)
 
     def test_nothing_in_it(self):
         data = words(0, 0, 0, 0, 0, 0, 2, 2, 0, 0, 0, 0, 1, 2, 0, 0, 0)
         value = self.types.decode("all", data)
         self.assertEqual((value["o"], value["n"], value["l"], value["m"], value["q"]), (b"", b"", [], None, []))
         self.assertIs(value["b"], False)
+        self.assertEqual(self.types.encode("all", value), data)
 
     def test_discriminants(self):
         for kind, bits, wanted in [
@@ -247,6 +340,7 @@ class Values(Case):
         ]:
             after = 5 if "a" in wanted else 1
             self.assertEqual(self.types.decode(kind, words(bits, after)), wanted)
+            self.assertEqual(self.types.encode(kind, wanted), words(bits, after))
         self.assertEqual(self.types.decode("highs", words(7)), {"case": 7})
         found = self.types.decode("truth", words(1, 2, 3))
         self.assertEqual(found, {"case": True, "inner": {"case": 2, "side": 3}})
@@ -258,6 +352,9 @@ class Values(Case):
         self.assertIsNone(self.types.decode("maybe", words(0)))
         twice = [self.types.decode("twice", words(*it)) for it in [(0,), (1, 0), (1, 1, 5)]]
         self.assertEqual(twice, [None, [None], [5]])
+        self.assertEqual([self.types.encode("twice", it) for it in twice], [words(0), words(1, 0), words(1, 1, 5)])
+        with self.assertRaises(TypeError):
+            self.types.encode("twice", 5)
 
     def test_basic(self):
         self.assertEqual(self.types.decode("int", words(0xFFFFFFFF)), -1)
@@ -269,6 +366,7 @@ class Values(Case):
         links = 2047
         data = b"".join(words(it, 1) for it in range(links)) + words(links, 0)
         value = self.types.decode("node", data)
+        self.assertEqual(self.types.encode("node", value), data)
         for number in range(links + 1):
             self.assertEqual(value["value"], number)
             value = value["next"]

@@ -62,14 +62,19 @@ pub struct Declarations {
 }
 
 impl Declarations {
-    /// Reads declarations in the XDR language (RFC 4506 section 6), at most 262144 bytes of them.
-    pub fn read(text: &[u8]) -> Result<Self, ReadFault> {
-        let mut read = Self {
+    /// A handle of none.
+    pub(crate) fn none() -> Self {
+        Self {
             handle: sys::Declarations {
                 at: ptr::null_mut(),
                 live: false,
             },
-        };
+        }
+    }
+
+    /// Reads declarations in the XDR language (RFC 4506 section 6), at most 262144 bytes of them.
+    pub fn read(text: &[u8]) -> Result<Self, ReadFault> {
+        let mut read = Self::none();
         let mut outcome = sys::Outcome::default();
         // SAFETY: the text is a slice, and handle and outcome are ours alone.
         let status =

@@ -34,7 +34,10 @@ mod address;
 mod buffer;
 mod declarations;
 mod fault;
+mod find;
 mod items;
+mod json;
+mod kinds;
 #[cfg(test)]
 mod layout;
 mod messages;
@@ -49,7 +52,9 @@ mod sys;
 pub use address::{read_uaddr, write_uaddr};
 pub use declarations::{Checked, Declarations, Limits};
 pub use fault::{CheckFault, ReadFault, Reason, Refusal, TextFault, TextFaultKind};
+pub use find::FindFault;
 pub use items::{Item, ItemReason, ItemsFault};
+pub use kinds::{Kind, KindFault, Member};
 pub use messages::{
     Auth, AuthSys, AuthSysFault, Call, CallFault, Denial, Outcome, Reply, ReplyFault, Versions, WriteFault,
 };

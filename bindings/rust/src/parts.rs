@@ -38,6 +38,17 @@ impl Role {
             _ => Self::Unknown(number),
         }
     }
+
+    pub(crate) fn number(self) -> u32 {
+        match self {
+            Self::Number => sys::ROLE_NUMBER,
+            Self::Flag => sys::ROLE_FLAG,
+            Self::Length => sys::ROLE_LENGTH,
+            Self::Content => sys::ROLE_CONTENT,
+            Self::Group => sys::ROLE_GROUP,
+            Self::Unknown(number) => number,
+        }
+    }
 }
 
 /// The type of a part's kind (RFC 4506 sections 4.1 to 4.19).
@@ -69,7 +80,7 @@ pub enum XdrType {
 }
 
 impl XdrType {
-    fn of(number: u32) -> Self {
+    pub(crate) fn of(number: u32) -> Self {
         match number {
             sys::TYPE_INT => Self::Int,
             sys::TYPE_UNSIGNED => Self::Unsigned,
@@ -108,6 +119,21 @@ pub struct Part<'a> {
     pub xdr_type: XdrType,
     /// What its bytes are.
     pub role: Role,
+}
+
+impl<'a> Part<'a> {
+    /// What a part of C tells, by the input and the names that it lies in.
+    pub(crate) fn of(part: &sys::ValuePart, input: &'a [u8], names: &'a [u8]) -> Self {
+        Self {
+            at: part.at,
+            bytes: &input[part.at..][..part.count],
+            name: &names[part.name_at..][..part.name_count],
+            depth: part.depth,
+            kind: part.kind,
+            xdr_type: XdrType::of(part.xdr_type),
+            role: Role::of(part.role),
+        }
+    }
 }
 
 impl Part<'_> {
@@ -252,15 +278,7 @@ pub struct Iter<'a> {
 
 impl<'a> Iter<'a> {
     fn told(&self, part: &sys::ValuePart) -> Part<'a> {
-        Part {
-            at: part.at,
-            bytes: &self.input[part.at..][..part.count],
-            name: &self.names[part.name_at..][..part.name_count],
-            depth: part.depth,
-            kind: part.kind,
-            xdr_type: XdrType::of(part.xdr_type),
-            role: Role::of(part.role),
-        }
+        Part::of(part, self.input, self.names)
     }
 }
 

@@ -73,6 +73,9 @@ numbers! {
     NO_RECORD = 24;
     NOT_AN_ADDRESS = 25;
     BAD_ITEM = 26;
+    NO_SUCH_PART = 27;
+    NO_NUMBER = 28;
+    NO_MEMBER = 29;
 
     BAD_BOOL = 1;
     BAD_NUMBERED = 2;
@@ -183,6 +186,27 @@ structs! {
     }
 
     #[derive(Default)]
+    oncrpc_number as Number {
+        signed_number: i64,
+        number: u64,
+    }
+
+    #[derive(Default)]
+    oncrpc_kind as Kind {
+        members: usize,
+        xdr_type: u32,
+        size: u32,
+        item: u32,
+    }
+
+    #[derive(Default)]
+    oncrpc_member as Member {
+        name_count: usize,
+        number: i64,
+        kind: u32,
+    }
+
+    #[derive(Default)]
     oncrpc_item as Item {
         form: u32,
         signed_number: i64,
@@ -270,6 +294,30 @@ extern "C" {
         outcome: *mut Outcome,
     ) -> u32;
 
+    pub fn oncrpc_declarations_read_dialect(
+        text: *const u8,
+        text_count: usize,
+        names: *const u8,
+        names_count: usize,
+        declarations: *mut Declarations,
+        outcome: *mut Outcome,
+    ) -> u32;
+
+    pub fn oncrpc_declarations_to_json(
+        declarations: *mut Declarations,
+        name: *const u8,
+        name_count: usize,
+        depth: u32,
+        bytes: u32,
+        input: *const u8,
+        input_count: usize,
+        is_indented: bool,
+        buffer: *mut u8,
+        buffer_count: usize,
+        written: *mut usize,
+        outcome: *mut Outcome,
+    ) -> u32;
+
     pub fn oncrpc_declarations_check(
         declarations: *mut Declarations,
         name: *const u8,
@@ -308,6 +356,55 @@ extern "C" {
         names: *mut u8,
         names_count: usize,
         outcome: *mut PartsOutcome,
+    ) -> u32;
+
+    pub fn oncrpc_declarations_find(
+        declarations: *mut Declarations,
+        name: *const u8,
+        name_count: usize,
+        depth: u32,
+        bytes: u32,
+        input: *const u8,
+        input_count: usize,
+        path: *const u8,
+        path_count: usize,
+        part: *mut ValuePart,
+        outcome: *mut Outcome,
+    ) -> u32;
+
+    pub fn oncrpc_part_number(
+        declarations: *mut Declarations,
+        input: *const u8,
+        input_count: usize,
+        part: *const ValuePart,
+        number: *mut Number,
+    ) -> u32;
+
+    pub fn oncrpc_declarations_named(
+        declarations: *mut Declarations,
+        name: *const u8,
+        name_count: usize,
+        kind: *mut u32,
+    ) -> u32;
+
+    pub fn oncrpc_declarations_kind(declarations: *mut Declarations, kind: u32, told: *mut Kind) -> u32;
+
+    pub fn oncrpc_declarations_member(
+        declarations: *mut Declarations,
+        kind: u32,
+        index: usize,
+        buffer: *mut u8,
+        buffer_count: usize,
+        member: *mut Member,
+    ) -> u32;
+
+    pub fn oncrpc_declarations_picked(
+        declarations: *mut Declarations,
+        kind: u32,
+        number: i64,
+        buffer: *mut u8,
+        buffer_count: usize,
+        member: *mut Member,
     ) -> u32;
 
     pub fn oncrpc_declarations_write(

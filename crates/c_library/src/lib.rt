@@ -3,7 +3,8 @@
 //! Each export answers a status, and reports the rest through what the caller lends. None wants anything but pointers
 //! that lead where their counts say. What it does is the function that it calls, proved in the crate of that function.
 //!
-//! - `values`: values by their declarations, and records marked anew. `records`: a stream of records.
+//! - `values`: values by their declarations, and records marked anew. `paths`: one part of a value. `kinds`: what was
+//!   declared. `json`: values as JSON. `dialect`: declarations in rpcgen's dialect. `records`: a stream of records.
 //! - `calls`, `replies`, `credentials`: messages. `registry`: a registry that a program of C keeps. `addresses`:
 //!   universal addresses. `version`: that of the library.
 #![tactic(auto)]
@@ -11,6 +12,10 @@
 mod addresses;
 mod calls;
 mod credentials;
+mod dialect;
+mod json;
+mod kinds;
+mod paths;
 mod records;
 mod registry;
 mod replies;
@@ -20,6 +25,13 @@ mod version;
 pub use addresses::{oncrpc_uaddr_read, oncrpc_uaddr_write};
 pub use calls::{oncrpc_call_read, oncrpc_call_write};
 pub use credentials::{oncrpc_auth_sys_read, oncrpc_auth_sys_write};
+pub use dialect::oncrpc_declarations_read_dialect;
+pub use json::oncrpc_declarations_to_json;
+pub use kinds::{
+    oncrpc_declarations_kind, oncrpc_declarations_member, oncrpc_declarations_named,
+    oncrpc_declarations_picked,
+};
+pub use paths::{oncrpc_declarations_find, oncrpc_part_number};
 pub use records::{
     oncrpc_record_header, oncrpc_records_end, oncrpc_records_feed, oncrpc_records_free,
     oncrpc_records_start, oncrpc_records_take,

@@ -1,12 +1,12 @@
 mod Argument
 mod Encoded
-mod Judging
+pub mod Judging
 mod Lacking
 mod Nothing
 mod Pair
 mod Parting
 mod Records
-mod Showing
+pub mod Showing
 mod Slot
 mod Reported
 mod Telling

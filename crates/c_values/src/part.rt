@@ -33,7 +33,7 @@ pub struct ValuePart {
 }
 
 /// The number of a role.
-fn role_number(role: Role) -> u32
+pub fn role_number(role: Role) -> u32
     ensures { (count : ℕ) → result ≡ role_number (role_in role count) }
 {
     match role {
@@ -46,7 +46,7 @@ fn role_number(role: Role) -> u32
 }
 
 /// The number of a kind's type.
-fn type_number(kind: &Kind) -> u32
+pub fn type_number(kind: &Kind) -> u32
     ensures { result ≡ type_number (kind_view kind.now) }
 {
     match kind {

@@ -1,0 +1,119 @@
+/* Values as JSON, by the table of docs/FORMATS.md, and declarations in rpcgen's dialect. */
+#include "calls.h"
+
+static const char declared[] =
+    "enum level { LOW = -1, HIGH = 7 };\n"
+    "typedef string name<>;\n"
+    "typedef hyper wide;\n"
+    "typedef opaque some<>;\n"
+    "typedef int *perhaps;\n"
+    "typedef perhaps *twice;\n"
+    "typedef level levels<9>;\n"
+    "struct node { int number; node *next; };\n"
+    "union held switch (level z) { case LOW: node there; case HIGH: void; };\n";
+
+struct json_row { const char *name, *input; size_t count; const char *compact, *indented; };
+static const struct json_row json_rows[] = {
+    {"int", "\377\377\377\376", 4, "-2", "-2"},
+    {"bool", "\0\0\0\1", 4, "true", "true"},
+    {"wide", "\200\0\0\0\0\0\0\0", 8, "\"-9223372036854775808\"", "\"-9223372036854775808\""},
+    {"level", "\0\0\0\7", 4, "\"HIGH\"", "\"HIGH\""},
+    {"some", "\0\0\0\2\17\360\0\0", 8, "\"0ff0\"", "\"0ff0\""},
+    {"name", "\0\0\0\4a\"\\\n", 8, "\"a\\\"\\\\\\n\"", "\"a\\\"\\\\\\n\""},
+    {"name", "\0\0\0\1\377\0\0\0", 8, "{\"hex\":\"ff\"}", "{\n  \"hex\": \"ff\"\n}"},
+    {"perhaps", "\0\0\0\0", 4, "null", "null"},
+    {"twice", "\0\0\0\1\0\0\0\1\0\0\0\5", 12, "[5]", "[\n  5\n]"},
+    {"levels", "\0\0\0\0", 4, "[]", "[]"},
+    {"levels", "\0\0\0\2\377\377\377\377\0\0\0\7", 12, "[\"LOW\",\"HIGH\"]", "[\n  \"LOW\",\n  \"HIGH\"\n]"},
+    {"held", "\0\0\0\7", 4, "{\"case\":\"HIGH\"}", "{\n  \"case\": \"HIGH\"\n}"},
+    {"held", "\377\377\377\377\0\0\0\3\0\0\0\0", 12, "{\"case\":\"LOW\",\"there\":{\"number\":3,\"next\":null}}",
+        "{\n  \"case\": \"LOW\",\n  \"there\": {\n    \"number\": 3,\n    \"next\": null\n  }\n}"},
+};
+
+/* The text stands at the front of the buffer, where that is just enough, and not in less; more bytes may follow. */
+static void tell_row(oncrpc_declarations *held, const struct json_row *row, bool is_indented) {
+    const char *wanted = is_indented ? row->indented : row->compact;
+    size_t count = strlen(wanted);
+    for (size_t more = 0; more < 2; more++) {
+        uint8_t room[160], unwritten[160];
+        size_t written = 9;
+        oncrpc_outcome outcome = {9, 9, 9, 9, 9};
+        memset(room, '.', sizeof room), memset(unwritten, '.', sizeof unwritten);
+        uint32_t status = oncrpc_declarations_to_json(held, bytes(row->name), strlen(row->name), 9, 96,
+            bytes(row->input), row->count + more, is_indented, room, count - 1, &written, &outcome);
+        judge(status == ONCRPC_NO_ROOM && tells(&outcome, count, 0) && !written
+            && !memcmp(room, unwritten, sizeof room), status);
+        status = oncrpc_declarations_to_json(held, bytes(row->name), strlen(row->name), 9, 96, bytes(row->input),
+            row->count + more, is_indented, room, count, &written, &outcome);
+        judge(status == more && tells(&outcome, row->count, 0) && written == count && !memcmp(room, wanted, count)
+            && !memcmp(room + count, unwritten, sizeof room - count), status);
+    }
+}
+
+static void refuse_json(oncrpc_declarations *held) {
+    static const struct { const char *name; uint32_t depth, bytes; size_t count; uint32_t status, why; size_t at; }
+    refused[] = {
+        {"folder", 0, 48, 4, ONCRPC_NO_KIND, 0, 0},
+        {"level", 0, 48, 4, ONCRPC_BAD_LIMITS, 0, 0},
+        {"level", 1, 48, 3, ONCRPC_REFUSED, ONCRPC_TRUNCATED, 3},
+        {"level", 1, 48, 4, ONCRPC_REFUSED, ONCRPC_BAD_NUMBERED, 0},
+    };
+    for (size_t i = 0; i < sizeof refused / sizeof *refused; i++) {
+        uint8_t room[4] = "....";
+        size_t written = 9;
+        oncrpc_outcome outcome = {9, 9, 9, 9, 9};
+        uint32_t status = oncrpc_declarations_to_json(held, bytes(refused[i].name), strlen(refused[i].name),
+            refused[i].depth, refused[i].bytes, bytes("\0\0\0\3"), refused[i].count, false, room, 4, &written,
+            &outcome);
+        judge(status == refused[i].status && tells(&outcome, refused[i].at, refused[i].why) && !written
+            && !memcmp(room, "....", 4), status);
+    }
+}
+
+void check_json(void) {
+    oncrpc_declarations held = ONCRPC_NONE;
+    oncrpc_outcome outcome = {9, 9, 9, 9, 9};
+    size_t written = 9;
+    uint32_t status = oncrpc_declarations_to_json(&held, bytes("int"), 3, 1, 4, NULL, 0, true, NULL, 0, &written,
+        &outcome);
+    judge(status == ONCRPC_NO_DECLARATIONS && tells(&outcome, 0, 0) && !written, status);
+    status = oncrpc_declarations_read(bytes(declared), sizeof declared - 1, &held, &outcome);
+    judge(status == ONCRPC_OK, status);
+    if (status == ONCRPC_OK) {
+        for (size_t i = 0; i < sizeof json_rows / sizeof *json_rows; i++) {
+            tell_row(&held, json_rows + i, false);
+            tell_row(&held, json_rows + i, true);
+        }
+        refuse_json(&held);
+    }
+    oncrpc_declarations_free(&held);
+}
+
+/* What the text declares by the names that are defined (docs/LANGUAGE.md, "rpcgen's dialect"). */
+void check_dialect(void) {
+    static const char dialect[] = "%#include <x.h>\n#ifdef RPC_HDR\ntypedef int here;\n#endif\ntypedef string name<>;\n";
+    static const struct { const char *names; uint32_t status; } defined[] = {
+        {"", ONCRPC_NO_KIND}, {"RPC_HDR", ONCRPC_OK}, {"RPC_XDR RPC_HDR", ONCRPC_OK}, {"RPC_HDR RPC_XDR", ONCRPC_OK},
+        {"RPC_XDR", ONCRPC_NO_KIND}, {"RPC_HDRS", ONCRPC_NO_KIND}, {"  ", ONCRPC_NO_KIND},
+    };
+    oncrpc_declarations held = ONCRPC_NONE;
+    for (size_t i = 0; i < sizeof defined / sizeof *defined; i++) {
+        oncrpc_outcome outcome = {9, 9, 9, 9, 9};
+        uint32_t status = oncrpc_declarations_read_dialect(bytes(dialect), sizeof dialect - 1, bytes(defined[i].names),
+            strlen(defined[i].names), &held, &outcome);
+        judge(status == ONCRPC_OK && tells(&outcome, 0, 0), status);
+        if (status == ONCRPC_OK) {
+            status = oncrpc_declarations_check(&held, bytes("here"), 4, 1, 4, bytes("\0\0\0\7"), 4, &outcome);
+            judge(status == defined[i].status, status);
+        }
+    }
+    oncrpc_outcome outcome = {9, 9, 9, 9, 9};
+    uint32_t status = oncrpc_declarations_read_dialect(bytes("\n#endif\n"), 8, NULL, 0, &held, &outcome);
+    judge(status == ONCRPC_UNDECLARED && outcome.why == ONCRPC_BAD_CHARACTER && outcome.line == 2
+        && outcome.column == 1 && !held.live, status);
+    status = oncrpc_declarations_read_dialect(NULL, 0, NULL, 0, &held, &outcome);
+    judge(status == ONCRPC_OK && tells(&outcome, 0, 0) && held.live, status);
+    status = oncrpc_declarations_read_dialect(NULL, 0, bytes("\377"), 1, &held, &outcome);
+    judge(status == ONCRPC_NO_KIND && tells(&outcome, 0, 0) && !held.live, status);
+    oncrpc_declarations_free(&held);
+}

@@ -1,0 +1,4 @@
+pub mod Kinds
+pub mod Members
+pub mod Private
+pub mod Worked

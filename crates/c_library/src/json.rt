@@ -1,0 +1,40 @@
+//! Values as JSON (RFC 8259).
+ghost use Rattle.std.specs.Prelude.{◌≡◌, option_map};
+ghost use Rattle.xdr_lang.specs.Views.{declared_of};
+ghost use Rattle.c_json.specs.Told.{IsToldByHeld};
+ghost use Rattle.c_values.specs.Statuses.{Reports};
+
+use c_answers::Outcome;
+use c_values::Handle;
+use std::alloc::Global;
+
+/// Puts the JSON of the value that begins the input into the buffer, as `xdr_json::json_of_bytes` writes it: without
+/// spaces, or with a line for each item and each member. It takes stack for each level of the value. The declarations
+/// that the handle holds stay.
+///
+/// The statuses are those of `oncrpc_declarations_check`, and 8: the buffer is too small, `at` bytes are needed. At 0
+/// and 1 `written` counts the bytes that were written, and the rest of the buffer is untouched. At any other status
+/// the buffer is untouched, and `written` is 0.
+#[unsafe(no_mangle)]
+pub extern "C" fn oncrpc_declarations_to_json(
+    alloc: Global,
+    handle: &mut Handle,
+    name: &[u8],
+    depth: u32,
+    bytes: u32,
+    input: &[u8],
+    is_indented: bool,
+    buffer: &mut [u8],
+    written: &mut usize,
+    outcome: &mut Outcome,
+) -> u32
+    // What the handle holds stays.
+    ensures stay { handle.new.declared ≡ handle.old.declared }
+    // The status and the outcome are those of an answer that is right by it.
+    ensures answer { Reports (IsToldByHeld (option_map declared_of handle.old.declared) is_indented name.now depth bytes
+        input.now buffer.old buffer.new written.new) result outcome.new }
+{
+    c_json::json_by_declarations(
+        alloc, handle, name, depth, bytes, input, is_indented, buffer, written, outcome,
+    )
+}
