@@ -155,7 +155,7 @@ def wants_memory(told, whole, case):
             return is_unexchanged(told)
         case "exchange":
             return told.answer == NO_MEMORY and told.streams[0] in (b"", whole.streams[0])
-        case "decode" | "parts":
+        case "decode" | "parts" | "find":
             return bool(fault) and told.answer == fault[0] and int(fault[1]) <= len(case.given)
         case "Decoder" | "Checker":
             count = int(told.answer.partition(" ")[0])
@@ -165,18 +165,18 @@ def wants_memory(told, whole, case):
         case "read_call" | "read_reply" | "read_auth_sys":
             is_read = whole.answer.partition("; ")[0] + f"; {NO_MEMORY}"
             return told.answer in (NO_MEMORY, is_read)
-        case "read":
+        case "read" | "read_tokens" | "read_dialect":
             return told.answer == "declaration refused: 13 at 1:1"
     return told.answer == NO_MEMORY
 
 
 # Calls that end at the first growth that is refused, and tell the same whether later ones are granted again.
 ENDING = "normalise RecordReader exchange answer decode parts Decoder Checker encode show Value::copy mark".split()
-ENDING += ["append_answer", "exchange_datagram", "tokens", "read_outline"]
+ENDING += "append_answer exchange_datagram tokens read_outline write_json json_of_bytes find join_texts".split()
 # Those that take memory for each answer, so that the first growth is not done without.
 TAKING_ANY = "answer read mark exchange info_over datagrams_on info_datagram encode show read_call".split()
 TAKING_ANY += "read_auth_sys tokens read_outline directory_schema append_answer exchange_datagram".split()
-TAKING_ANY += ["serve_datagrams"]
+TAKING_ANY += "serve_datagrams write_json json_of_bytes read_tokens read_dialect join_texts".split()
 
 
 def is_granted_well(whole, case, number):
@@ -361,8 +361,8 @@ def growth_cases():
         yield from rows()
 
 
-def refused_cases(heap):
-    cases = [case for case, _ in growth_cases()]
+def each_refused(heap, cases):
+    """Each growth of these cases refused, alone and with all later ones."""
     wholes = run(cases, LD_PRELOAD=heap)
     if sum(whole.met for whole in wholes) < len(cases):
         print("growths are not counted")
@@ -373,6 +373,10 @@ def refused_cases(heap):
             for refused in (str(number), f"{number}.."):
                 changed = case._replace(refuse=refused)
                 yield changed, lambda told, changed=changed, is_well=is_well: is_well(told, changed)
+
+
+def refused_cases(heap):
+    yield from each_refused(heap, [case for case, _ in growth_cases()])
 
 
 def room_cases(heap):

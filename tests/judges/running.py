@@ -8,10 +8,13 @@ from rows.shared import octets
 
 ROOT = os.path.dirname(os.path.dirname(os.path.dirname(os.path.realpath(__file__))))
 PROGRAM = os.environ.get("PROBE", f"{ROOT}/crates/tool_probe/out/tool_probe")
+PROGRAM_MORE = os.environ.get("PROBE_MORE", f"{ROOT}/crates/tool_probe_more/out/tool_probe_more")
+# The calls that the second of these programs makes.
+MORE_CALLS = "write_json json_of_bytes find read_dialect join_texts place_in SessionTable".split()
 # The keys of a case's fields that are not theirs with `-` in place of `_`, in the order in which they are written.
 NAMED = {"reads": ("read", "read-fails"), "writes": ("write", "write-fails"), "given": ("input",)}
 # The fields that are texts to read: declarations, names, and digits.
-TEXTS = ("text", "kind", "types")
+TEXTS = ("text", "kind", "types", "path")
 WORD = re.compile(r'(\S+?)=("[^"]*"|[^ ]*)(?: |$)')
 
 
@@ -69,16 +72,28 @@ def told_of(line):
     return Told(int(met), answer, streams, sent, counts)
 
 
-def run(cases, stack=None, room=None, seconds=None, **variables):
-    """What is told of each case, in one run of the program, in so many KiB of stack and of addresses, and so many
-    processor seconds."""
+def run_by(program, cases, limits, variables):
+    """What one program tells of each case, in one run."""
     given = "".join(line_of(case) + "\n" for case in cases).encode()
-    limits = "".join(f"ulimit -{flag} {size}; " for flag, size in (("s", stack), ("v", room), ("t", seconds)) if size)
-    words = ["sh", "-c", f"{limits}exec '{PROGRAM}'"]
+    words = ["sh", "-c", f"{limits}exec '{program}'"]
     ended = subprocess.run(words, input=given, capture_output=True, env={**os.environ, **variables}, timeout=600)
     lines = ended.stdout.decode().split("\n")[:-1]
     lines += [f"ended with {ended.returncode}"] * (len(cases) - len(lines))
     return [told_of(line) for line in lines]
+
+
+def run(cases, stack=None, room=None, seconds=None, **variables):
+    """What is told of each case, in one run of each program that makes one of the calls, in so many KiB of stack and of
+    addresses, and so many processor seconds."""
+    limits = "".join(f"ulimit -{flag} {size}; " for flag, size in (("s", stack), ("v", room), ("t", seconds)) if size)
+    places = {PROGRAM: [], PROGRAM_MORE: []}
+    for place, case in enumerate(cases):
+        places[PROGRAM_MORE if case.call in MORE_CALLS else PROGRAM].append(place)
+    told = {}
+    for program, mine in places.items():
+        if mine:
+            told.update(zip(mine, run_by(program, [cases[place] for place in mine], limits, variables)))
+    return [told[place] for place in range(len(cases))]
 
 
 def is_told_well(is_well, told):

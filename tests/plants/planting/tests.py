@@ -10,9 +10,12 @@ from planting.ran import PROOF, Told, first_of, judged, must, python
 CPP = ["c++", "-std=c++17", "-O0", "-Wall", "-Wextra", "-Wpedantic", "-Werror"]
 LAYOUT = 'import sys; sys.path.insert(0, ".ci"); from library_use.layouts import layout; print(layout(sys.argv[1]))'
 ROWS = f"{os.path.dirname(os.path.realpath(__file__))}/rows.py"
-# The crate whose program a refuser runs, and the words with which a build runs it.
-OF_PROGRAM = "oncrpc", ["--", "--version"]
-PROGRAMS = {"tests/run": ("tool_probe", []), ".ci/refuse": OF_PROGRAM, ".ci/clients": OF_PROGRAM}
+# The crates whose programs a refuser runs, and the words with which a build runs them.
+OF_PROGRAM = ["oncrpc"], ["--", "--version"]
+OF_TESTS = ["tool_probe", "tool_probe_more"], []
+PROGRAMS = {"tests/run": OF_TESTS, ".ci/refuse": OF_PROGRAM, ".ci/clients": OF_PROGRAM}
+# Where another program of a crate is named.
+NAMED = {"tool_probe": "PROBE", "tool_probe_more": "PROBE_MORE"}
 # The refusers that run the library, which ONCRPC_LIBRARY names, or library/ of the tree.
 OF_LIBRARY = ("cargo test", "check.rs", "unittest", "wrappers", "sanitizers")
 
@@ -92,7 +95,8 @@ def whole(refuser, seconds):
     """A part of the gate, as it is, on the copy's own programs."""
 
     def run(copy, _):
-        return judged([f"{copy.at}/{refuser}"], copy.at, seconds, PROBE=f"{copy.at}/crates/tool_probe/out/tool_probe")
+        probes = {name: f"{copy.at}/crates/{crate}/out/{crate}" for crate, name in NAMED.items()}
+        return judged([f"{copy.at}/{refuser}"], copy.at, seconds, **probes)
 
     return run
 
@@ -116,8 +120,9 @@ def build(copy, refuser):
     if refuser in OF_LIBRARY:
         return must([f"{copy.at}/build-library", f"{copy.room}/library"], copy.at, PROOF)
     if refuser in PROGRAMS:
-        crate, words = PROGRAMS[refuser]
-        return must(["rt", "run", *words], f"{copy.at}/crates/{crate}", PROOF)
+        crates, words = PROGRAMS[refuser]
+        runs = (lambda crate=crate: must(["rt", "run", *words], f"{copy.at}/crates/{crate}", PROOF) for crate in crates)
+        return first_of(*runs)
     return Told("passed", "")
 
 
@@ -125,11 +130,9 @@ def borrow(copy, refuser):
     """Gives the copy what a build of the tree has left for a refuser, and says what is not there."""
     if refuser in OF_LIBRARY and not os.path.isfile(f"{library_of_tree()}/liboncrpc.a"):
         return "no library is built: ONCRPC_LIBRARY names its folder"
-    if refuser in PROGRAMS:
-        crate, _ = PROGRAMS[refuser]
+    for crate in PROGRAMS[refuser][0] if refuser in PROGRAMS else ():
         own = f"crates/{crate}/out/{crate}"
-        made = os.environ.get("PROBE") if crate == "tool_probe" else None
-        made = made or f"{ROOT}/{own}"
+        made = os.environ.get(NAMED.get(crate, "")) or f"{ROOT}/{own}"
         if not os.path.isfile(made):
             return f"{own} is not built: 'rt run' in crates/{crate}"
         os.makedirs(f"{copy.at}/crates/{crate}/out", exist_ok=True)

@@ -1,0 +1,14 @@
+//! Lines for tests: a call that is asked for in words `key=value`, and what is told of it in the same form.
+//! `tool_probe` and `tool_probe_more` make the calls.
+//!
+//! - `case`: what a line asks for. `asked`: the kind that it names. `served`: the registry that it serves first.
+//! - `reported`: the line of what is answered. `lent`: parts of values, and why there are none. `declared`: what texts
+//!   declare.
+#![tactic(auto)]
+
+pub mod asked;
+pub mod case;
+pub mod declared;
+pub mod lent;
+pub mod reported;
+pub mod served;

@@ -1,0 +1,141 @@
+"""Texts in rpcgen's dialect: what they mean, which are refused where, and several as one (docs/LANGUAGE.md)."""
+import os
+
+from rows.dialect import ALIKE, DEBIAN, FILES, LIBRARY, NLM, REFUSED, SAME
+from rows.shared import Case, TEXTS
+
+from .language import declared, told_texts
+from .large import refused_text
+from .written import is_read, same_answers
+
+INCLUDED = "/usr/include"
+
+
+def dialect(text, **more):
+    return Case("read_dialect", text=text, names=["DEFINED"], **more)
+
+
+def same_cases():
+    """Each text means what the text of the RFCs' language means that goes with it."""
+    for plain, *texts in SAME:
+        is_same = same_answers()
+        yield Case("read", text=plain), is_same
+        for text in texts:
+            yield dialect(text), is_same
+    # Texts without a construct of the dialect, for whatever names.
+    for text in TEXTS[:8]:
+        is_same = same_answers()
+        yield Case("read", text=text), is_same
+        yield dialect(text), is_same
+        yield Case("read_dialect", text=text), is_same
+
+
+def is_declared(kinds, names, constants):
+    """Whether just these are declared."""
+    wanted = declared(kinds, names, constants, "")
+    return lambda told: is_read(told) and told_texts(told) == wanted
+
+
+def library_cases():
+    """A field of each name of rpcgen's library."""
+    for place, kind, names in LIBRARY:
+        for name in names.split():
+            kinds = [*([kind] if kind else []), f"struct ({place} x)"]
+            names_of = [(name, place), ("s", 7 + len(kinds))]
+            yield dialect(b"struct s { %s x; };" % name.encode()), is_declared(kinds, names_of, [])
+    sized = is_declared(["opaque[255]"], [("t", 8)], [("MAXNETNAMELEN", 255)])
+    yield dialect(b"typedef opaque t[MAXNETNAMELEN];"), sized
+
+
+def refused_dialect_cases():
+    """Each text is refused with its fault. Without a construct of the dialect it is the one of `read`."""
+    for text, *fault in REFUSED:
+        yield dialect(text), refused_text(*fault)
+    for text in ALIKE:
+        first = []
+        yield Case("read", text=text), lambda told, first=first: first.append(told.answer) or "refused" in told.answer
+        yield dialect(text), lambda told, first=first: told.answer == first[0]
+    yield dialect(b" " * 262145), refused_text(11, 0, 1, 1)
+    # The place behind the last byte of the longest text.
+    yield dialect(b"#if 1\n" + b" " * 262138), refused_text(3, 0, 2, 262139)
+
+
+def file_cases():
+    """Several files as one text, and the place of a line of it."""
+    for texts, places in FILES:
+        whole = b"\n".join(texts)
+        case = Case("join_texts", texts=texts or None)
+        yield case, lambda told, whole=whole: (told.answer, told.streams) == ("ok", [whole])
+        for line, number, there in places:
+            case = Case("place_in", texts=texts or None, line=line)
+            yield case, lambda told, wanted=f"{number} {there}": told.answer == wanted
+    # What one declares another finds, and a fault is found in its file.
+    first, second = b"%one\ntypedef unsigned a;\n", b"struct s {\n  a x;\n  b y;\n};\n"
+    is_same = same_answers()
+    yield Case("read", text=b"typedef unsigned int a; struct s { a x; };"), is_same
+    yield dialect(b"\n".join((first, second[:17] + second[24:]))), is_same
+    yield dialect(b"\n".join((first, second))), refused_text(6, 0, 6, 3)
+    yield Case("place_in", texts=[first, second], line=6), lambda told: told.answer == "1 3"
+
+
+def installed(name):
+    with open(f"{INCLUDED}/{name}", "rb") as file:
+        return file.read()
+
+
+def debian_cases():
+    """The files of declarations that are installed, each behind what it takes from others."""
+    for name, others in DEBIAN:
+        if all(os.path.exists(f"{INCLUDED}/{each}") for each in (name, *others)):
+            yield Case("read_dialect", text=b"\n".join(map(installed, [*others, name]))), is_read
+    sizes, name = NLM
+    if os.path.exists(f"{INCLUDED}/{name}"):
+        yield Case("read_dialect", text=sizes + installed(name)), is_read
+
+
+def large_dialect_cases():
+    """The longest texts, full of constructs, with their meaning; and files of a mebibyte."""
+    line, plain = b"%%x\nconst C%05d = \"a\"; struct s%05d { unsigned x; };\n", b"struct s%05d { unsigned int x; };"
+    text = b"".join(line % (number, number) for number in range(1000))
+    is_same = same_answers()
+    yield Case("read", text=b"".join(plain % number for number in range(1000))), is_same
+    yield dialect(text + b"%" + b"x" * (262143 - len(text))), is_same
+    empty = same_answers()
+    yield Case("read", text=b""), empty
+    yield dialect(b"%x\n" * 87381), empty
+    yield dialect(b"#if DEFINED\n#else\n@\n#endif\n" * 9000), empty
+    texts = [bytes([10, 65 + number]) * 50000 for number in range(11)]
+    whole = b"\n".join(texts)
+    case = Case("join_texts", texts=texts)
+    yield case, lambda told: (told.answer, told.streams) == ("ok", [whole])
+    yield Case("place_in", texts=texts, line=50002 + 3), lambda told: told.answer == "1 4"
+    yield Case("place_in", texts=texts, line=10 * 50001 + 50001), lambda told: told.answer == "10 50001"
+
+
+def dialect_cases():
+    yield from same_cases()
+    yield from library_cases()
+    yield from refused_dialect_cases()
+    yield from file_cases()
+    yield from debian_cases()
+
+
+def dialect_rows():
+    """What is swept: each text of the dialect, and files that are joined."""
+    for _, *texts in SAME:
+        for text in texts:
+            yield dialect(text), is_read
+    for text, *fault in REFUSED:
+        yield dialect(text), refused_text(*fault)
+    for texts, _ in FILES[3:]:
+        whole = b"\n".join(texts)
+        case = Case("join_texts", texts=texts)
+        yield case, lambda told, whole=whole: (told.answer, told.streams) == ("ok", [whole])
+
+
+def no_memory_cases():
+    """`place_in` asks for no memory."""
+    for texts, places in FILES:
+        for line, number, there in places:
+            case = Case("place_in", texts=texts or None, line=line, refuse="1..")
+            yield case, lambda told, wanted=f"{number} {there}": (told.met, told.answer) == (0, wanted)

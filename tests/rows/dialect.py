@@ -1,0 +1,167 @@
+"""Texts in rpcgen's dialect, each with a text of the RFCs' language that means the same by the tables of
+docs/LANGUAGE.md, and texts that are refused. The name DEFINED is defined for them, and OTHER is not."""
+
+# A text of the RFCs' language, and texts of the dialect that mean the same.
+SAME = [
+    (
+        b"struct s { int x; };",
+        b"struct s { int x; };",
+        # Lines of `%`, which go on behind a reversed solidus, and lines of `#` that are nothing.
+        b"%line for C\nstruct s { int x; };",
+        b"struct s {\n  %line ] }\n int x; };\n%",
+        b"  %line\n#include <a>\n#pragma once\n#ident \"a\"\n#\nstruct s { int x; };",
+        b"# include <a>\n  #  pragma once\n\t#\tident \"a\"\nstruct s { int x; };",
+        b"%#define A \\\n  5 \\\n  6\nstruct s { int x; };",
+        # No line begins inside a comment.
+        b"/*\n%no line\n*/ struct s { int x; };",
+        b"/*\n#endif\n#other\n*/ struct s { int x; };",
+        b"/* %\n */struct s { int x; };",
+        # The branch that is chosen, also inside one that is and one that is not.
+        b"#if 0\nstruct s { bool x; };\n#else\nstruct s { int x; };\n#endif\n",
+        b"#if 1\nstruct s { int x; };\n#else\nstruct s { bool x; };\n#endif\n",
+        b"#ifdef DEFINED\nstruct s { int x; };\n#else\nstruct s { bool x; };\n#endif\n",
+        b"#ifndef DEFINED\nstruct s { bool x; };\n#else\nstruct s { int x; };\n#endif\n",
+        b"#if DEFINED\nstruct s { int x; };\n#endif\n",
+        b"#ifdef OTHER\nstruct s { bool x; };\n#endif\nstruct s { int x; };",
+        b"#if OTHER\n#ifdef DEFINED\nodd \" text\n#else\n#endif\n#else\nstruct s { int x; };\n#endif\n",
+        b"#ifdef DEFINED\n#ifndef OTHER\nstruct s { int x; };\n#endif\n#else\nodd @\n#endif",
+        b"struct s {\n#ifdef DEFINED\nint x;\n#else\nbool x;\n#endif\n};",
+        b"#ifndef OTHER\n%line\n#include <a>\nstruct s { int x; };\n#endif\n",
+        # Where no text is shown, a condition of another form, another line and a #define are nothing.
+        b"#if 0\n#undef A\n#if B > 1\n#other\n#endif\n#define A 5\n#endif\n#if 1\nstruct s { int x; };\n#endif",
+        # A constant in quotation marks, and a name that is defined as nothing.
+        b"const C = \"text\";\nstruct s { int x; };",
+        b"const C = \"a;b } %\";struct s { int x; };",
+        b"#define C\nstruct s { int x; };",
+        # What C's `struct` declares again.
+        b"struct s { int x; };\ntypedef struct s s;",
+        b"typedef struct s s;\nstruct s { int x; };",
+    ),
+    (
+        b"struct s { unsigned int a; unsigned int b; unsigned int c; unsigned long d; unsigned hyper e; hyper f; };",
+        b"struct s { unsigned a; unsigned char b; unsigned short c; unsigned long d; unsigned hyper e; hyper f; };",
+        b"struct s { unsigned a; unsigned int b; unsigned short int c; unsigned long int d; unsigned hyper int e;"
+        b" hyper int f; };",
+        b"struct s { unsigned a; unsigned b; unsigned c; unsigned d; unsigned hyper e; hyper f; };",
+    ),
+    (
+        b"typedef unsigned int t[2]; typedef unsigned int u<>; typedef unsigned int *v;",
+        b"typedef unsigned t[2]; typedef unsigned u<>; typedef unsigned *v;",
+    ),
+    (
+        b"union u switch (unsigned int d) { case 1: void; };",
+        b"union u switch (unsigned d) { case 1: void; };",
+    ),
+    (b"typedef int short; struct s { short a; int b; };", b"struct s { short int a; long int b; };",
+     b"struct s { short a; long b; };"),
+    (b"struct s { int a; int b; };", b"struct s { long a; long int b; };"),
+    (b"const A = 5; typedef int t[A];", b"#define A 5\ntypedef int t[A];", b"#define A 0x5 /* five */\ntypedef int t[A];"),
+    (b"enum e { A = 0, B = 1, C = 5, D = 6 };", b"enum e { A, B, C = 5, D };", b"enum e { A = 0, B, C = 5, D = 6 };"),
+    (b"enum e { A = -1, B = 0 };", b"enum e { A = -1, B };"),
+    (b"const C = 7; enum e { A = C };", b"#define C 7\nenum e { A = C };"),
+    (
+        b"enum e { A = 1 }; union u switch (e d) { case A: void; }; struct s { e a; u b; };",
+        b"enum e { A = 1 }; union u switch (enum e d) { case A: void; }; struct s { enum e a; union u b; };",
+        b"enum e { A = 1 }; typedef enum e e; union u switch (e d) { case A: void; }; typedef union u u;"
+        b" struct s { e a; u b; };",
+    ),
+    (
+        b"program P { version V { void F(void) = 1; void G(int, string) = 2; } = 1; } = 2;",
+        b"program P { version V { void F() = 1; void G(int count, string name) = 2; } = 1; } = 2;",
+        b"program P { version V { void F( ) = 1; void G(int, string name) = 2; } = 1; } = 2;",
+    ),
+    (
+        b"typedef int char; typedef unsigned int u_int; typedef hyper int64_t; typedef bool bool_t;"
+        b" typedef opaque netobj<1024>; struct s { char a; u_int b; int64_t c; bool_t d; netobj e; };",
+        b"struct s { char a; u_int b; int64_t c; bool_t d; netobj e; };",
+    ),
+    (b"typedef opaque netobj<9>; typedef netobj t;", b"typedef opaque netobj<9>; typedef netobj t;"),
+]
+
+# The names of rpcgen's library, and the kind that a field of each has: the place of a basic one, or one more kind.
+LIBRARY = [
+    (0, "", "char short int8_t int16_t int32_t"),
+    (1, "", "u_char u_short u_int u_long uint8_t uint16_t uint32_t u_int8_t u_int16_t u_int32_t"),
+    (1, "", "rpcprog_t rpcvers_t rpcproc_t"),
+    (2, "", "int64_t quad_t longlong_t"),
+    (3, "", "uint64_t u_int64_t u_quad_t u_longlong_t"),
+    (4, "", "bool_t"),
+    (8, "opaque<1024>", "netobj"),
+    (8, "opaque[8]", "des_block double"),
+    (8, "opaque[4]", "float"),
+]
+
+# A text of the dialect, and the number, the schema's number, the line and the column.
+REFUSED = [
+    # A line of `%` begins its line, and of `#` another line than those.
+    (b"struct s { int x; %line\n};", 1, 0, 1, 19),
+    (b"struct s {\n int x;\n};\n#else\n", 1, 0, 4, 1),
+    (b"\n #endif", 1, 0, 2, 2),
+    (b"#if A > 1\n#endif", 1, 0, 1, 1),
+    (b"#if 2\n#endif", 1, 0, 1, 1),
+    (b"#if defined(A)\n#endif", 1, 0, 1, 1),
+    (b"#if\n#endif", 1, 0, 1, 1),
+    (b"#ifdef\n#endif", 1, 0, 1, 1),
+    (b"#if 1\n#elif 1\n#endif", 1, 0, 2, 1),
+    (b"#ifdef A\n#else\n#else\n#endif", 1, 0, 3, 1),
+    (b"#define A\n#ifdef A\n#endif", 1, 0, 2, 1),
+    (b"#other", 1, 0, 1, 1),
+    (b"#includes <a>", 1, 0, 1, 1),
+    (b"#undef A", 1, 0, 1, 1),
+    (b"/* c */ #ifdef A\n", 1, 0, 1, 9),
+    # A section that is open at the end.
+    (b"const A = 1;\n#ifdef A\n", 3, 0, 3, 1),
+    (b"#if 1\n#if 0\n#endif\nconst A = 1;", 3, 0, 4, 13),
+    # Places are those of the text as it was given.
+    (b"%line\nstruct s { unsigned x y; };", 3, 0, 2, 23),
+    (b"%line\n\nstruct s { unsigned x; t y; };", 6, 0, 3, 24),
+    (b"%line \\\nmore\nstruct s { t y; };", 6, 0, 3, 12),
+    (b"#if 0\n@\n#else\nstruct s { t y; };\n#endif", 6, 0, 4, 12),
+    (b"const C = \"x\"; struct s { t y; };", 6, 0, 1, 27),
+    (b"enum e { A, B, A };", 5, 0, 1, 16),
+    (b"typedef int t; typedef struct t t; typedef int t;", 5, 0, 1, 48),
+    # A member behind one whose value is a name; a name that is no number.
+    (b"const C = 1;\nenum f { B = C, D };", 3, 0, 2, 19),
+    (b"const C = \"text\";\ntypedef int t[C];", 6, 0, 2, 15),
+    (b"enum e { A = 2147483647, B };", 8, 0, 1, 26),
+    # Names that are there twice, a definition in the midst of another, pointers as arguments.
+    (b"#define A 5\n#define A 6\n", 5, 0, 2, 9),
+    (b"struct s {\n#define A 5\n int x; };", 3, 0, 2, 1),
+    (b"program P { version V { void F(int *x) = 1; } = 1; } = 2;", 3, 0, 1, 36),
+    (b"typedef quadruple q;", 4, 0, 1, 9),
+    # Each other fault of a text: a number, a size, a chain of typedefs, a schema, and bodies inside one another.
+    (b"%line\nconst A = 08;", 2, 0, 2, 11),
+    (b"#define A -1\ntypedef int x[A];", 7, 0, 2, 15),
+    (b"%line\ntypedef enum b a; typedef enum a b;", 9, 0, 2, 16),
+    (b"%line\nstruct s { unsigned x[0]; };", 10, 2, 2, 12),
+    (b"%line\nstruct a { " + b"struct { " * 32 + b"int x; " + b"} x; " * 32 + b"};", 12, 0, 2, 298),
+    (b"/* x", 1, 0, 1, 1),
+    (b"\x80", 1, 0, 1, 1),
+]
+# Texts that are read by `read` with the same fault, since nothing of the dialect stands in them.
+ALIKE = [b"const a = b;", b"typedef int x[-1];", b"enum e { A = 2147483648 };", b"struct a { a x; };", b"const A = 08;"]
+
+# Files that are one text: each with the place of each of its lines, worked by hand. A text has a line more than line
+# feeds, and the last one has all lines that are left.
+FILES = [
+    ([], [(1, 0, 1), (7, 0, 7)]),
+    ([b""], [(1, 0, 1), (2, 0, 2)]),
+    ([b"a"], [(1, 0, 1), (9, 0, 9)]),
+    ([b"a", b"b"], [(1, 0, 1), (2, 1, 1), (3, 1, 2)]),
+    ([b"a\n", b"b"], [(1, 0, 1), (2, 0, 2), (3, 1, 1), (4, 1, 2)]),
+    ([b"a\nb\nc", b"", b"d\n"], [(1, 0, 1), (3, 0, 3), (4, 1, 1), (5, 2, 1), (6, 2, 2), (7, 2, 3)]),
+    ([b"", b"", b""], [(1, 0, 1), (2, 1, 1), (3, 2, 1), (4, 2, 2)]),
+    ([b"\n\n", b"\n"], [(3, 0, 3), (4, 1, 1), (5, 1, 2)]),
+]
+# Files of declarations that Debian's packages rpcsvc-proto, libnsl-dev and libtirpc-dev have below /usr/include, and
+# what is read before them.
+DEBIAN = [
+    *((f"rpcsvc/{name}.x", []) for name in (
+        "bootparam_prot key_prot klm_prot mount nfs_prot rex rquota rstat rusers sm_inter spray yppasswd nis_object"
+    ).split()),
+    ("rpcsvc/nis.x", ["rpcsvc/nis_object.x"]),
+    ("rpcsvc/nis_callback.x", ["rpcsvc/nis_object.x", "rpcsvc/nis.x"]),
+    ("tirpc/rpcsvc/crypt.x", []),
+]
+# Sizes that a file takes from elsewhere.
+NLM = b"const LM_MAXSTRLEN = 1024; const MAXNAMELEN = 1025;", "rpcsvc/nlm_prot.x"
