@@ -1,0 +1,53 @@
+"""What rpcgen and read_dialect may say otherwise of a text, each with the reason that docs/LANGUAGE.md gives."""
+import re
+
+# Of a text that rpcgen and the C compiler take: the fault's number, the text around its place, which @ marks, and why.
+REFUSED_HERE = [
+    ("2", r"@-0\w", "an octal or hexadecimal number behind -"),
+    ("2", r"@", "a number that C never sees, as that of a macro without a use"),
+    ("1", r"@# ?define", "a macro of C that is no number"),
+    ("1", r"@#", "a line of # that is not read"),
+    ("1", r"@_", "a name that begins with _"),
+    ("1", r"@'", "a character as a number"),
+    ("3", r"= ?@[A-Za-z]\w* ?;", "a name to which the text gives no number"),
+    ("3", r"@[,}]", "a member without a number behind one whose value is a name"),
+    ("3", r"@#", "#define inside a body"),
+    ("3", r"\([^)]*@[*<]", "an argument behind a pointer, or with a size"),
+    ("3", r"\([^)]*@-?\d", "a number as the name of an argument"),
+    ("5", r"@", "a name that comes twice, of which C never sees the first"),
+    ("6", r"@", "a name that C's library declares"),
+]
+# Of a text that read_dialect takes: what rpcgen, or the preprocessor that it runs, says, and why.
+REFUSED_THERE = [
+    (r"^\s+%.*\n\^+\n.*illegal character in file: %", "% behind white space"),
+    (r"^ +\d+ \| %:", "a line of %:, which is # for the preprocessor"),
+    (r"\bstruct (?:union|enum)\b", "struct before union and enum"),
+    (r"unterminated comment", "a comment that a line of % opens"),
+    (r"preprocessor error", "#pragma and #ident"),
+    (r"\b(?:char|short)\b.*\n\^+\n.*expected|illegal \(reserved\) name", "names that rpcgen keeps for itself"),
+]
+
+
+def around(text, place):
+    """The text around a place, a line and a column, with one blank for white space."""
+    line, column = map(int, place.split(":"))
+    at = sum(len(it) + 1 for it in text.split("\n")[: line - 1]) + column - 1
+    before, after = text[max(0, at - 60) : at], text[at : at + 30]
+    return re.sub(r"\s+", " ", f"{before}@{after}")
+
+
+def why_here(text, number, place):
+    """Why read_dialect may refuse the text with that fault, or nothing."""
+    where = around(text, place)
+    name = re.search(r"@(\w+)", where)
+    if number == "3" and name and re.search(rf"(?m)^\s*#\s*define\s+{name[1]}\s*$", text):
+        return "a macro that the text uses"
+    return next((why for fault, form, why in REFUSED_HERE if fault == number and re.search(form, where)), None)
+
+
+def why_there(text, said):
+    """Why rpcgen may refuse a text with these words, or nothing."""
+    macros = re.findall(r"(?m)^\s*#\s*define\s+(\w+)", text)
+    if any(len(re.findall(rf"\b{name}\b", text)) > 1 for name in macros if not name[-1].isdigit()):
+        return "a macro that the text uses"
+    return next((why for form, why in REFUSED_THERE if re.search(form, said, re.M)), None)
