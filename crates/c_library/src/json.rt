@@ -35,6 +35,15 @@ pub extern "C" fn oncrpc_declarations_to_json(
         input.now buffer.old buffer.new written.new) result outcome.new }
 {
     c_json::json_by_declarations(
-        alloc, handle, name, depth, bytes, input, is_indented, buffer, written, outcome,
+        alloc,
+        handle,
+        name,
+        depth,
+        bytes,
+        input,
+        is_indented,
+        buffer,
+        written,
+        outcome,
     )
 }
