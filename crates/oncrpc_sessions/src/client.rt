@@ -31,6 +31,8 @@ pub struct Client {
 }
 
 impl Client {
+    /// A client over a socket that does not block, whose session has this number in the table. Nothing of it was read
+    /// yet. It takes no memory.
     pub fn new(alloc: Global, stream: TcpStream, number: u64, last: Instant) -> Self {
         Client {
             stream,
