@@ -13,7 +13,7 @@ LINES = ("%/* C */", "%#define x y", "% int x;", "", "/* a\n%b\n*/", "#", "# def
 WORDS = (
     "struct union enum switch case default typedef program version const unsigned int long hyper short char float"
     " double bool void opaque string { } ( ) [ ] < > ; : , = * 0 1 5 -1 0x10 010 A x u_int netobj quad_t % # \n"
-).split(" ") + ['"a"', "'a'", "/* */", "//", "#define A 1\n", "#endif\n", "#else\n", "\n#ifdef DEFINED\n", "\n%C\n"]
+).split(" ") + ['"a"', "'a'", "/* */", "//", "#define A 1\n", "#endif\n", "#else\n", "#elif 1\n", "\n#ifdef DEFINED\n", "\n%C\n"]
 TOKEN = re.compile(r"[A-Za-z_]\w*|-?\d\w*|\s+|/\*.*?\*/|\"[^\"\n]*\"|.", re.S)
 
 
@@ -22,7 +22,7 @@ class Maker:
 
     def __init__(self, random):
         self.random, self.number = random, 0
-        self.constants, self.types, self.enums, self.tags = [], [], [], {}
+        self.constants, self.numbers, self.types, self.enums, self.tags = [], [], [], [], {}
 
     def name(self, stem="n"):
         self.number += 1
@@ -37,6 +37,10 @@ class Maker:
 
     def size(self):
         return self.one(self.whole(), self.random.choice(self.constants) if self.constants else "7")
+
+    def number_or_name(self):
+        """A number, or the name of a constant that is given one."""
+        return self.one(self.whole(), self.random.choice(self.numbers) if self.numbers else "7")
 
     def kind(self):
         if self.types and self.random.random() < 0.4:
@@ -60,12 +64,13 @@ class Maker:
 
     def constant(self):
         name = self.name("C")
-        value = self.one(self.whole(), f"-{self.random.randrange(1, 100)}")
+        value = self.one(self.whole(), f"-{self.random.randrange(1, 100)}", self.number_or_name())
         made = self.one(f"const {name} = {value};", f"const {name} = {self.whole()};", f"#define {name} {self.whole()}")
         if self.random.random() < 0.1:
             return f'const {name} = "some text";'
         if "-" not in made:
             self.constants.append(name)
+            self.numbers += [name] if re.search(r"\d+;?$", made) and not re.search(r"= [A-Z]", made) else []
         return made
 
     def enumeration(self):
@@ -124,10 +129,12 @@ class Maker:
         versions = []
         for version in range(1, self.random.randrange(2, 4)):
             procedures = []
-            for number in range(self.random.randrange(1, 4)):
+            count = self.random.randrange(1, 4)
+            for number in range(count):
                 many = [self.argument() for _ in range(self.random.randrange(3))]
                 arguments = ", ".join(many) or self.one("void", "")
                 result = self.one("void", "string", self.kind())
+                number = self.number_or_name() if count == 1 else number
                 procedures.append(f"  {result} {self.name('P')}({arguments}) = {number};")
             inside = "\n".join(procedures)
             versions.append(f" version {self.name('V')} {{\n{inside}\n }} = {version};")
@@ -138,13 +145,18 @@ class Maker:
             self.constant, self.enumeration, self.structure, self.structure, self.union, self.typedef, self.program
         )()
 
+    def unused(self):
+        return f"const {self.name('C')} = {self.whole()};"
+
     def section(self):
         """A section whose branches each declare what nothing else uses, and stand alone."""
         condition = self.one("ifdef DEFINED", "ifndef DEFINED", "if 0", "if 1", "ifdef OTHER", "ifndef OTHER", "if DEFINED")
-        branches = [f"const {self.name('C')} = {self.whole()};" for _ in range(2)]
-        if self.random.random() < 0.3:
-            return f"#{condition}\n{branches[0]}\n#endif"
-        return f"#{condition}\n{branches[0]}\n#else\n{branches[1]}\n#endif"
+        lines = [f"#{condition}"]
+        while self.random.random() < 0.3:
+            lines += [self.unused(), f"#elif {self.one('0', '1', 'DEFINED', 'OTHER')}"]
+        if self.random.random() < 0.7:
+            lines += [self.unused(), "#else"]
+        return "\n".join([*lines, self.unused(), "#endif"])
 
     def text(self):
         parts = []

@@ -7,6 +7,7 @@ REFUSED_HERE = [
     ("2", r"@", "a number that C never sees, as that of a macro without a use"),
     ("1", r"@# ?define", "a macro of C that is no number"),
     ("1", r"@#", "a line of # that is not read"),
+    ("1", r"\*@/", "a comment that a line of # opens"),
     ("1", r"@_", "a name that begins with _"),
     ("1", r"@'", "a character as a number"),
     ("3", r"= ?@[A-Za-z]\w* ?;", "a name to which the text gives no number"),
@@ -21,7 +22,9 @@ REFUSED_HERE = [
 REFUSED_THERE = [
     (r"^\s+%.*\n\^+\n.*illegal character in file: %", "% behind white space"),
     (r"^ +\d+ \| %:", "a line of %:, which is # for the preprocessor"),
-    (r"\bstruct (?:union|enum)\b", "struct before union and enum"),
+    (r"\bstruct\s+(?:union|enum|float|double)\b", "struct before union, enum, float and double"),
+    (r"^\s*const\b.*=.*\n\^+\n.*expected", "marks that a quotation leaves"),
+    (r"^\s*= *define\b", "a mark that #define leaves"),
     (r"unterminated comment", "a comment that a line of % opens"),
     (r"preprocessor error", "#pragma and #ident"),
     (r"\b(?:char|short)\b.*\n\^+\n.*expected|illegal \(reserved\) name", "names that rpcgen keeps for itself"),

@@ -1,11 +1,15 @@
 """Texts in rpcgen's dialect: what they mean, which are refused where, and several as one (docs/LANGUAGE.md)."""
 import os
+import random
+import re
 
+from measured.dialect import made
 from rows.dialect import ALIKE, DEBIAN, FILES, LIBRARY, NLM, REFUSED, SAME
 from rows.shared import Case, TEXTS
 
 from .language import declared, told_texts
 from .large import refused_text
+from .rpcgen import in_the_rfcs_language
 from .written import is_read, same_answers
 
 INCLUDED = "/usr/include"
@@ -28,6 +32,26 @@ def same_cases():
         yield Case("read", text=text), is_same
         yield dialect(text), is_same
         yield Case("read_dialect", text=text), is_same
+
+
+def read_twice(text):
+    """The text means what the text of its second reading means, where `float` and `double` have one more `_`."""
+    plain = in_the_rfcs_language(text.decode("latin-1"), ["DEFINED"]).encode("latin-1")
+    first = []
+
+    def is_same(told):
+        first.append([re.sub(rb"\b(float|double)_", rb"\1", each) for each in told.streams])
+        return is_read(told) and first[-1] == first[0]
+
+    yield Case("read", text=plain), is_same
+    yield dialect(text), is_same
+
+
+def random_dialect_cases(seed=1, count=1000):
+    """Texts by the grammar of the dialect, and what a second reading makes of them."""
+    chance = random.Random(seed)
+    for _ in range(count):
+        yield from read_twice(made(chance).encode())
 
 
 def is_declared(kinds, names, constants):
@@ -84,13 +108,13 @@ def installed(name):
 
 
 def debian_cases():
-    """The files of declarations that are installed, each behind what it takes from others."""
+    """The files of declarations that are installed, each behind what it takes from others, and what they mean."""
     for name, others in DEBIAN:
         if all(os.path.exists(f"{INCLUDED}/{each}") for each in (name, *others)):
-            yield Case("read_dialect", text=b"\n".join(map(installed, [*others, name]))), is_read
+            yield from read_twice(b"\n".join(map(installed, [*others, name])))
     sizes, name = NLM
     if os.path.exists(f"{INCLUDED}/{name}"):
-        yield Case("read_dialect", text=sizes + installed(name)), is_read
+        yield from read_twice(sizes + installed(name))
 
 
 def large_dialect_cases():

@@ -24,6 +24,12 @@ SAME = [
         b"#if DEFINED\nstruct s { int x; };\n#endif\n",
         b"#ifdef OTHER\nstruct s { bool x; };\n#endif\nstruct s { int x; };",
         b"#if OTHER\n#ifdef DEFINED\nodd \" text\n#else\n#endif\n#else\nstruct s { int x; };\n#endif\n",
+        b"#if 1/* one */\nstruct s { int x; };\n#endif // and no more",
+        # The first branch whose condition holds; behind it no condition is read.
+        b"#if 0\n@\n#elif DEFINED\nstruct s { int x; };\n#elif DEFINED\n@\n#else\n@\n#endif\n",
+        b"#ifdef DEFINED\nstruct s { int x; };\n#elif 1\n@\n#elif A > 1\n@\n#endif\n",
+        b"#ifdef OTHER\n@\n#elif OTHER\n@\n#elif 0\n@\n#else\nstruct s { int x; };\n#endif\n",
+        b"#if 0\n#if 0\n#elif A > 1\n@\n#else\n@\n#endif\n#endif\nstruct s { int x; };",
         b"#ifdef DEFINED\n#ifndef OTHER\nstruct s { int x; };\n#endif\n#else\nodd @\n#endif",
         b"struct s {\n#ifdef DEFINED\nint x;\n#else\nbool x;\n#endif\n};",
         b"#ifndef OTHER\n%line\n#include <a>\nstruct s { int x; };\n#endif\n",
@@ -33,6 +39,10 @@ SAME = [
         b"const C = \"text\";\nstruct s { int x; };",
         b"const C = \"a;b } %\";struct s { int x; };",
         b"#define C\nstruct s { int x; };",
+        # Behind its #define a name is defined, where that line is shown.
+        b"#define GUARD\n#ifdef GUARD\nstruct s { int x; };\n#else\nstruct s { bool x; };\n#endif\n",
+        b"#ifndef GUARD\n#define GUARD\nstruct s { int x; };\n#endif\n",
+        b"#if 0\n#define GUARD\n#endif\n#ifdef GUARD\nstruct s { bool x; };\n#else\nstruct s { int x; };\n#endif\n",
         # What C's `struct` declares again.
         b"struct s { int x; };\ntypedef struct s s;",
         b"typedef struct s s;\nstruct s { int x; };",
@@ -55,6 +65,7 @@ SAME = [
     (b"typedef int short; struct s { short a; int b; };", b"struct s { short int a; long int b; };",
      b"struct s { short a; long b; };"),
     (b"struct s { int a; int b; };", b"struct s { long a; long int b; };"),
+    (b"const A = 5;\nstruct s { int x; };", b"#define A 5\n#ifdef A\nstruct s { int x; };\n#endif\n"),
     (b"const A = 5; typedef int t[A];", b"#define A 5\ntypedef int t[A];", b"#define A 0x5 /* five */\ntypedef int t[A];"),
     (b"enum e { A = 0, B = 1, C = 5, D = 6 };", b"enum e { A, B, C = 5, D };", b"enum e { A = 0, B, C = 5, D = 6 };"),
     (b"enum e { A = -1, B = 0 };", b"enum e { A = -1, B };"),
@@ -74,6 +85,25 @@ SAME = [
         b"typedef int char; typedef unsigned int u_int; typedef hyper int64_t; typedef bool bool_t;"
         b" typedef opaque netobj<1024>; struct s { char a; u_int b; int64_t c; bool_t d; netobj e; };",
         b"struct s { char a; u_int b; int64_t c; bool_t d; netobj e; };",
+    ),
+    (
+        b"struct netbuf { unsigned int maxlen; opaque buf<>; }; struct s { struct netbuf a; };",
+        b"struct s { struct netbuf a; };",
+    ),
+    # The number that the text gives to a name, before it or behind it.
+    (
+        b"const N = 7; program P { version V { void F(void) = 7; } = 7; } = 7; const M = 7;",
+        b"const N = 7; program P { version V { void F(void) = N; } = N; } = N; const M = N;",
+    ),
+    (
+        b"const A = 6; const B = 5; program P { version V { void F(void) = 5; void G(int) = 6; } = 1; } = 2;",
+        b"const A = G; const B = 5; program P { version V { void F(void) = B; void G(int) = 6; } = 1; } = 2;",
+        b"const A = G; const B = 5; program P { version V { void F() = B; void G(int count) = 6; } = 1; } = 2;",
+    ),
+    (b"enum e { A = 0, B = 1 }; const C = 1;", b"enum e { A, B }; const C = B;"),
+    (
+        b"const A = 1; program P { version V { void F(void) = 1; } = 1; version W { void F(void) = 1; } = 2; } = 3;",
+        b"const A = F; program P { version V { void F(void) = 1; } = 1; version W { void F(void) = 1; } = 2; } = 3;",
     ),
     (b"typedef opaque netobj<9>; typedef netobj t;", b"typedef opaque netobj<9>; typedef netobj t;"),
 ]
@@ -102,9 +132,19 @@ REFUSED = [
     (b"#if defined(A)\n#endif", 1, 0, 1, 1),
     (b"#if\n#endif", 1, 0, 1, 1),
     (b"#ifdef\n#endif", 1, 0, 1, 1),
-    (b"#if 1\n#elif 1\n#endif", 1, 0, 2, 1),
+    (b"#if 1/2\n#endif", 1, 0, 1, 1),
+    (b"#elif 1\n", 1, 0, 1, 1),
+    (b"#if 0\n#elif A > 1\n#endif", 1, 0, 2, 1),
+    (b"#if 1\n#else\n#elif 1\n#endif", 1, 0, 3, 1),
+    (b"#if 0\n#else\n#elif 1\n#endif", 1, 0, 3, 1),
+    (b"#if 0\n#if 1\n#else\n#else\n#endif\n#endif", 1, 0, 4, 1),
     (b"#ifdef A\n#else\n#else\n#endif", 1, 0, 3, 1),
-    (b"#define A\n#ifdef A\n#endif", 1, 0, 2, 1),
+    (b"#define A 0\n#if A\n#endif", 1, 0, 2, 1),
+    (b"#define A B\n", 1, 0, 1, 1),
+    (b"#define A 5 6\n", 1, 0, 1, 1),
+    (b"#define A 5/2\n", 1, 0, 1, 1),
+    (b"#define A(b) 5\n", 1, 0, 1, 1),
+    (b"# #\n", 1, 0, 1, 1),
     (b"#other", 1, 0, 1, 1),
     (b"#includes <a>", 1, 0, 1, 1),
     (b"#undef A", 1, 0, 1, 1),
@@ -129,6 +169,15 @@ REFUSED = [
     (b"struct s {\n#define A 5\n int x; };", 3, 0, 2, 1),
     (b"program P { version V { void F(int *x) = 1; } = 1; } = 2;", 3, 0, 1, 36),
     (b"typedef quadruple q;", 4, 0, 1, 9),
+    # A kind behind another, a kind as a name, two names of one argument.
+    (b"struct s { int enum x; };", 3, 0, 1, 16),
+    (b"typedef int float;", 3, 0, 1, 13),
+    (b"program P { version V { void F(int a b) = 1; } = 1; } = 2;", 3, 0, 1, 36),
+    # A name to which the text gives no number, a name, or, to any name, two numbers.
+    (b"const A = B;", 3, 0, 1, 11),
+    (b"const A = B; const B = C; const C = 5;", 3, 0, 1, 11),
+    (b"const A = B; const B = 1; enum e { C = 1 }; program P { version V { void C(void) = 2; } = 1; } = 2;", 3, 0, 1, 11),
+    (b"program P { version V { void F(void) = 1; } = W; } = 2;", 3, 0, 1, 47),
     # Each other fault of a text: a number, a size, a chain of typedefs, a schema, and bodies inside one another.
     (b"%line\nconst A = 08;", 2, 0, 2, 11),
     (b"#define A -1\ntypedef int x[A];", 7, 0, 2, 15),
@@ -157,11 +206,12 @@ FILES = [
 # what is read before them.
 DEBIAN = [
     *((f"rpcsvc/{name}.x", []) for name in (
-        "bootparam_prot key_prot klm_prot mount nfs_prot rex rquota rstat rusers sm_inter spray yppasswd nis_object"
+        "bootparam_prot key_prot klm_prot mount nfs_prot rex rquota rstat rusers sm_inter spray yp yppasswd nis_object"
     ).split()),
     ("rpcsvc/nis.x", ["rpcsvc/nis_object.x"]),
     ("rpcsvc/nis_callback.x", ["rpcsvc/nis_object.x", "rpcsvc/nis.x"]),
     ("tirpc/rpcsvc/crypt.x", []),
+    ("tirpc/rpc/rpcb_prot.x", []),
 ]
 # Sizes that a file takes from elsewhere.
 NLM = b"const LM_MAXSTRLEN = 1024; const MAXNAMELEN = 1025;", "rpcsvc/nlm_prot.x"

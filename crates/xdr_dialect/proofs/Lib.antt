@@ -3,3 +3,4 @@ pub mod Places
 pub mod Sections
 pub mod Same
 pub mod Staying
+pub mod Constructed

@@ -12,7 +12,7 @@ use Rattle.xdr_dialect.specs.declared.scope.Scope.{Scope}
 use Rattle.xdr_dialect.specs.declared.scope.Scope.TheVariants as scope
 use Rattle.xdr_dialect.specs.Tests.{is_word, first_is}
 use Rattle.xdr_dialect.specs.Scopes.{scope_after}
-use Rattle.xdr_dialect.specs.Rewriting.{is_whole, ends_member, turn, same}
+use Rattle.xdr_dialect.specs.Rewriting.{is_whole, ends_member, ends_argument, turn, same}
 use Rattle.xdr_dialect.specs.Rewriting.{name_turn, other_name, word_turn, sign_turn, number_turn}
 use Rattle.xdr_dialect.specs.Rewriting.{rewritten_from}
 use Rattle.xdr_dialect.specs.Laws.{begins, word_begins, name_begins, sign_begins, number_begins, HasNone, TokensStay}
@@ -21,15 +21,16 @@ yes : (b : Bool) → not b ≡ false → b ≡ true
 yes true h = refl
 yes false h = absurd cc
 
-word_same : (s : Scope) (w : Keyword) (ts : List Lexeme) → word_begins w ts ≡ false → word_turn s w ts ≡ same s (Word w)
+word_same : (s : Scope) (w : Keyword) (ts : List Lexeme) → word_begins s w ts ≡ false
+    → word_turn s w ts ≡ same s (Word w)
 word_same s word.Const ts h = rw h refl
 word_same s word.Unsigned ts h = rw (yes (first_is is_whole ts) h) refl
 word_same s word.Long ts h = rw h refl
 word_same s word.Hyper ts h = rw h refl
 word_same s word.Enum ts h = rw h refl
 word_same s word.Union ts h = rw h refl
-word_same s word.Float ts h = absurd cc
-word_same s word.Double ts h = absurd cc
+word_same s word.Float ts h = rw h refl
+word_same s word.Double ts h = rw h refl
 word_same s word.Bool ts h = refl
 word_same s word.Case ts h = refl
 word_same s word.Default ts h = refl
@@ -62,7 +63,10 @@ name_same (scope.Members (Some number)) n ts h = elim (test (ends_member ts)) [
 ]
 name_same scope.Value n ts h = other_same scope.Value n ts h
 name_same scope.Switch n ts h = other_same scope.Switch n ts h
-name_same (scope.Argument true) n ts h = absurd cc
+name_same (scope.Argument true) n ts h = elim (test (ends_argument ts)) [
+  | inl on ↦ let no : true ≡ false = rw on at h in absurd cc
+  | inr off ↦ rw off (other_same (scope.Argument true) n ts (rw off at h))
+]
 name_same (scope.Argument false) n ts h = other_same (scope.Argument false) n ts h
 name_same scope.Constant n ts h = other_same scope.Constant n ts h
 

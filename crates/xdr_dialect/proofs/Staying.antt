@@ -18,7 +18,7 @@ use Rattle.xdr_dialect.specs.Laws.{TextsStay}
 
 -- where no section is open
 abbrev at_spot : Spot → Standing
-at_spot s = record { spot = s; gate = gate.Outside; outer = []; defines = false }
+at_spot s = record { spot = s; gate = gate.Outside; outer = []; defines = [] }
 
 -- the rest of a text stays
 abbrev Stay : (names : List (List ℕ)) → Spot → List ℕ → Type 0

@@ -1,5 +1,5 @@
 -- What a line of # says (own, after the C preprocessor that rpcgen runs).
-use Rattle.std.specs.Prelude.{ℕ, ◌==◌, ◌||◌, not, Bool, true, false, List, [], ◌∷◌, take, drop, codes}
+use Rattle.std.specs.Prelude.{ℕ, ◌==◌, ◌&&◌, ◌||◌, not, Bool, true, false, List, [], ◌∷◌, take, drop, codes}
 use Rattle.std.specs.Prelude.{Option, Some, None, option_map, if◌then◌else◌}
 use Rattle.std.specs.List.{list_any}
 use Rattle.std.specs.Str.{bytes_eq}
@@ -22,43 +22,78 @@ word_in bs = take (run_length bs) bs
 abbrev pub after_word : List ℕ → List ℕ
 after_word bs = after_blanks (drop (run_length bs) bs)
 
+-- behind / a comment begins
+abbrev pub opens_comment : List ℕ → Bool
+opens_comment [] = false
+opens_comment (b ∷ bs) = (b == 42) || (b == 47)
+
 -- the line ends here, or a comment begins
 abbrev pub ends : List ℕ → Bool
 ends [] = true
-ends (b ∷ bs) = (b == 10) || (b == 13) || (b == 47)
+ends (b ∷ bs) = (b == 10) || (b == 13) || (b == 47) && opens_comment bs
 
 -- letters, digits and _ that do not begin with a digit
 abbrev pub is_name : List ℕ → Bool
 is_name [] = false
 is_name (b ∷ bs) = not (is_digit b)
 
--- whether the name is defined, where there is one
-abbrev pub defined : (names : List (List ℕ)) → List ℕ → Option Bool
-defined names run = if is_name run then Some (list_any (bytes_eq run) names) else None
+-- one of these
+abbrev pub is_among : List (List ℕ) → List ℕ → Bool
+is_among names run = list_any (bytes_eq run) names
 
--- the condition of #if, where it is 0, 1, or a name, which holds where it is defined
-abbrev pub condition : (names : List (List ℕ)) → List ℕ → Option Bool
-condition names bs =
-    if not (ends (after_word bs)) then None else
+-- whether the name is defined, by the caller or by lines of the text before it, where there is one
+abbrev pub defined : (names own : List (List ℕ)) → List ℕ → Option Bool
+defined names own run = if is_name run then Some (is_among names run || is_among own run) else None
+
+-- The condition of #if, where it is 0, 1, or a name, which holds where the caller defines it. What a line of the text
+-- makes of a name may be 0, so of such a name nothing is known.
+abbrev pub condition : (names own : List (List ℕ)) → List ℕ → Option Bool
+condition names own bs =
+    if not (ends (after_word bs)) || is_among own (word_in bs) then None else
     (if bytes_eq (word_in bs) (codes "0") then Some false else
-    (if bytes_eq (word_in bs) (codes "1") then Some true else defined names (word_in bs)))
+    (if bytes_eq (word_in bs) (codes "1") then Some true else defined names own (word_in bs)))
+
+-- what follows a - in front
+abbrev pub after_minus : List ℕ → List ℕ
+after_minus [] = []
+after_minus (b ∷ bs) = if b == 45 then bs else b ∷ bs
+
+-- a digit is in front
+abbrev pub begins_digit : List ℕ → Bool
+begins_digit [] = false
+begins_digit (b ∷ bs) = is_digit b
+
+-- a number, and nothing else on the line
+abbrev pub is_numeral : List ℕ → Bool
+is_numeral bs = begins_digit (after_minus bs) && ends (after_word (after_minus bs))
+
+-- #define NAME, and #define NAME NUMBER
+abbrev pub definition : List ℕ → Directive
+definition bs =
+    if not (is_name (word_in bs)) then line.Other else
+    (if ends (after_word bs) then line.Definition false else
+    (if is_numeral (after_word bs) then line.Definition true else line.Other))
 
 -- what the word behind # says, and what follows it
-abbrev pub directive_of : (names : List (List ℕ)) → (word rest : List ℕ) → Directive
-directive_of names word rest =
-    if bytes_eq word (codes "ifdef") then line.Section (defined names (word_in rest)) else
-    (if bytes_eq word (codes "ifndef") then line.Section (option_map not (defined names (word_in rest))) else
-    (if bytes_eq word (codes "if") then line.Section (condition names rest) else
+abbrev pub directive_of : (names own : List (List ℕ)) → (word rest : List ℕ) → Directive
+directive_of names own word rest =
+    if bytes_eq word (codes "ifdef") then line.Section (defined names own (word_in rest)) else
+    (if bytes_eq word (codes "ifndef") then line.Section (option_map not (defined names own (word_in rest))) else
+    (if bytes_eq word (codes "if") then line.Section (condition names own rest) else
     (if bytes_eq word (codes "else") then line.Otherwise else
     (if bytes_eq word (codes "endif") then line.End else
-    (if bytes_eq word (codes "define") then line.Definition else
-    (if bytes_eq word (codes "elif") then line.Unread else
+    (if bytes_eq word (codes "define") then definition rest else
+    (if bytes_eq word (codes "elif") then line.OtherwiseIf (condition names own rest) else
     (if bytes_eq word (codes "include") || bytes_eq word (codes "pragma") || bytes_eq word (codes "ident")
-    || bytes_eq word [] then line.Nothing else line.Other)))))))
+    || bytes_eq word [] && ends rest then line.Nothing else line.Other)))))))
 
--- what a line of # says, from what follows the #
-abbrev pub directive : (names : List (List ℕ)) → List ℕ → Directive
-directive names bs = let rest = after_blanks bs in directive_of names (word_in rest) (after_word rest)
+-- what a line of # says, from what follows the #, where the text has defined these names of its own
+abbrev pub directive : (names own : List (List ℕ)) → List ℕ → Directive
+directive names own bs = let rest = after_blanks bs in directive_of names own (word_in rest) (after_word rest)
+
+-- the name of #define, from what follows the #
+abbrev pub name_of_definition : List ℕ → List ℕ
+name_of_definition bs = word_in (after_word (after_blanks bs))
 
 -- the text is shown: it is in no section, or in the branch that is chosen
 abbrev pub is_shown : Gate → Bool
@@ -77,7 +112,18 @@ opened g holds = if is_shown g then (if holds then gate.Taken else gate.Waiting)
 abbrev pub turned : Gate → Option Gate
 turned gate.Taken = Some gate.Over
 turned gate.Waiting = Some gate.Last
-turned gate.Dead = Some gate.Dead
+turned gate.Dead = Some gate.Over
 turned gate.Outside = None
 turned gate.Last = None
 turned gate.Over = None
+
+-- Behind #elif, whose condition holds or not. Behind a branch that was chosen no other is.
+abbrev pub turned_if : Gate → Option Bool → Option Gate
+turned_if gate.Waiting (Some true) = Some gate.Taken
+turned_if gate.Waiting (Some false) = Some gate.Waiting
+turned_if gate.Waiting None = None
+turned_if gate.Taken holds = Some gate.Dead
+turned_if gate.Dead holds = Some gate.Dead
+turned_if gate.Outside holds = None
+turned_if gate.Last holds = None
+turned_if gate.Over holds = None

@@ -13,8 +13,8 @@ use Rattle.xdr_dialect.specs.declared.scope.Scope.TheVariants as scope
 use Rattle.xdr_dialect.specs.Plain.{plain}
 use Rattle.xdr_dialect.specs.Tests.{is_word, is_sign, is_name, first_is, rest}
 use Rattle.xdr_dialect.specs.Scopes.{scope_after}
-use Rattle.xdr_dialect.specs.Rewriting.{is_quoted, is_renaming, is_whole, begins_body, ends_member, is_define}
-use Rattle.xdr_dialect.specs.Rewriting.{rewritten}
+use Rattle.xdr_dialect.specs.Rewriting.{is_quoted, is_renaming, is_whole, is_kind, ends_member, ends_argument}
+use Rattle.xdr_dialect.specs.Rewriting.{is_define, rewritten}
 
 -- A text that is cut into tokens of the language stays what it is, whatever names are defined: in comments alone it may
 -- have lines of % and #.
@@ -22,24 +22,24 @@ abbrev pub TextsStay : Type 0
 TextsStay = (names : List (List ℕ)) (text : List ℕ) (ts : List Lexeme) → Tokens text ts → plain names text ≡ Ok text
 
 -- a keyword with which a construct of the dialect begins
-abbrev pub word_begins : Keyword → List Lexeme → Bool
-word_begins word.Const ts = is_quoted ts
-word_begins word.Typedef ts = is_renaming ts
-word_begins word.Unsigned ts = not (first_is is_whole ts)
-word_begins word.Long ts = first_is (is_word word.Int) ts
-word_begins word.Hyper ts = first_is (is_word word.Int) ts
-word_begins word.Enum ts = first_is is_name ts && not (begins_body (rest ts))
-word_begins word.Union ts = first_is is_name ts && not (begins_body (rest ts))
-word_begins word.Float ts = true
-word_begins word.Double ts = true
-word_begins w ts = false
+abbrev pub word_begins : Scope → Keyword → List Lexeme → Bool
+word_begins s word.Const ts = is_quoted ts
+word_begins s word.Typedef ts = is_renaming ts
+word_begins s word.Unsigned ts = not (first_is is_whole ts)
+word_begins s word.Long ts = first_is (is_word word.Int) ts
+word_begins s word.Hyper ts = first_is (is_word word.Int) ts
+word_begins s word.Enum ts = first_is is_name ts && is_kind s (rest ts)
+word_begins s word.Union ts = first_is is_name ts && is_kind s (rest ts)
+word_begins s word.Float ts = is_kind s ts
+word_begins s word.Double ts = is_kind s ts
+word_begins s w ts = false
 
 -- a name with which one begins: a member without a number, what an argument is called, short before int
 abbrev pub name_begins : Scope → List ℕ → List Lexeme → Bool
 name_begins (scope.Members (Some number)) n ts =
     if ends_member ts then true else bytes_eq n (codes "short") && first_is (is_word word.Int) ts
 name_begins (scope.Argument named) n ts =
-    if named then true else bytes_eq n (codes "short") && first_is (is_word word.Int) ts
+    if named && ends_argument ts then true else bytes_eq n (codes "short") && first_is (is_word word.Int) ts
 name_begins s n ts = bytes_eq n (codes "short") && first_is (is_word word.Int) ts
 
 -- a mark with which one begins
@@ -55,7 +55,7 @@ number_begins s = false
 
 -- a token with which a construct of the dialect begins, before ts
 abbrev pub begins : Scope → Lexeme → List Lexeme → Bool
-begins s (Word w) ts = word_begins w ts
+begins s (Word w) ts = word_begins s w ts
 begins s (Name n) ts = name_begins s n ts
 begins s (Number n) ts = number_begins s
 begins s (Sign m) ts = sign_begins m ts

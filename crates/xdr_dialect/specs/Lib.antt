@@ -10,5 +10,6 @@ pub mod Scopes
 pub mod Rewriting
 pub mod Library
 pub mod Dialect
+pub mod Constructs
 pub mod Laws
 pub mod Private

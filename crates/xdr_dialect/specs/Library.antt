@@ -1,5 +1,5 @@
 -- The names that rpcgen's library declares for C, as the kinds by which it sends them (own): 32-bit units but for those
--- of 64 bits; netobj has at most 1024 bytes, des_block 8.
+-- of 64 bits; netobj has at most 1024 bytes, des_block 8. netbuf is the struct of RFC 1833 section 2.1.
 use Rattle.std.specs.Prelude.{ℕ, pos, Bool, false, ◌&&◌, ◌||◌, not, List, [], ◌∷◌, ◌++◌, codes}
 use Rattle.std.specs.Prelude.{if◌then◌else◌}
 use Rattle.std.specs.List.{list_any}
@@ -25,6 +25,10 @@ definition (meaning.Bytes size) n =
 definition (meaning.BytesUpTo size) n =
     Word word.Typedef ∷ Word word.Opaque ∷ Name n ∷ Sign mark.Less ∷ Number (pos size) ∷ Sign mark.Greater ∷
     Sign mark.Semicolon ∷ []
+definition meaning.Netbuf n =
+    Word word.Struct ∷ Name n ∷ Sign mark.OpenBrace ∷ Word word.Unsigned ∷ Word word.Int ∷ Name (codes "maxlen") ∷
+    Sign mark.Semicolon ∷ Word word.Opaque ∷ Name (codes "buf") ∷ Sign mark.Less ∷ Sign mark.Greater ∷
+    Sign mark.Semicolon ∷ Sign mark.CloseBrace ∷ Sign mark.Semicolon ∷ []
 definition (meaning.Size size) n =
     Word word.Const ∷ Name n ∷ Sign mark.Equal ∷ Number (pos size) ∷ Sign mark.Semicolon ∷ []
 
@@ -90,5 +94,5 @@ library ts =
     ++ lacking ts meaning.NaturalHyper natural_hypers ++ lacking ts meaning.Flag (codes "bool_t" ∷ [])
     ++ lacking ts (meaning.Bytes 4) (codes "float" ∷ [])
     ++ lacking ts (meaning.Bytes 8) (codes "double" ∷ codes "des_block" ∷ [])
-    ++ lacking ts (meaning.BytesUpTo 1024) (codes "netobj" ∷ [])
+    ++ lacking ts (meaning.BytesUpTo 1024) (codes "netobj" ∷ []) ++ lacking ts meaning.Netbuf (codes "netbuf" ∷ [])
     ++ lacking ts (meaning.Size 255) (codes "MAXNETNAMELEN" ∷ [])

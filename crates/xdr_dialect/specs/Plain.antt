@@ -11,14 +11,14 @@ use Rattle.xdr_dialect.specs.declared.gate.Gate.TheVariants as gate
 use Rattle.xdr_dialect.specs.declared.spot.Spot.{Spot}
 use Rattle.xdr_dialect.specs.declared.spot.Spot.TheVariants as spot
 use Rattle.xdr_dialect.specs.Spots.{blank, kept, next_spot}
-use Rattle.xdr_dialect.specs.Directives.{directive, is_shown, opened, turned}
+use Rattle.xdr_dialect.specs.Directives.{directive, name_of_definition, is_shown, opened, turned, turned_if}
 
--- where a byte stands: on its line, in which sections of #if, the innermost first, and whether behind a #define
+-- where a byte stands: on its line, in which sections of #if, the innermost first, and behind #define of which names
 pub record Standing : Type 0 where
   pub spot : Spot
   pub gate : Gate
   pub outer : List Gate
-  pub defines : Bool
+  pub defines : List (List ℕ)
 
 -- the byte in place of one, and where the next stands
 pub record Turn : Type 0 where
@@ -34,20 +34,25 @@ abbrev pub closed : Standing → List Gate → Option Turn
 closed s [] = None
 closed s (g ∷ gs) = Some (hidden s g gs)
 
--- What a line of # does: none may stand where it has no meaning. In a branch that is not chosen #if, #else and #endif
--- count alone. Of #define, = stays in place of the #; behind one no condition is read, as it may hang on that name.
-abbrev pub directed : Standing → Directive → Option Turn
-directed s (line.Section None) = if is_shown s.gate then None else Some (hidden s gate.Dead (s.gate ∷ s.outer))
-directed s (line.Section (Some holds)) =
-    if is_shown s.gate && s.defines then None else Some (hidden s (opened s.gate holds) (s.gate ∷ s.outer))
-directed s line.Otherwise = option_map (λ g. hidden s g s.outer) (turned s.gate)
-directed s line.End = closed s s.outer
-directed s line.Definition =
-    if is_shown s.gate then Some (record { byte = 61; next = record s { spot = spot.Text; defines = true } })
-    else Some (hidden s s.gate s.outer)
-directed s line.Nothing = Some (hidden s s.gate s.outer)
-directed s line.Other = if is_shown s.gate then None else Some (hidden s s.gate s.outer)
-directed s line.Unread = None
+-- #define of a name: with a number = stays in place of the #, and the rest of the line, else nothing
+abbrev pub defining : Standing → (number : Bool) → (name : List ℕ) → Turn
+defining s true name =
+    record { byte = 61; next = record s { spot = spot.Text; defines = s.defines ++ name ∷ [] } }
+defining s false name =
+    record { byte = 32; next = record s { spot = spot.Hidden; defines = s.defines ++ name ∷ [] } }
+
+-- What a line of # does: none may stand where it has no meaning. In a branch that is not chosen #if, #elif, #else and
+-- #endif count alone.
+abbrev pub directed : Standing → Directive → (name : List ℕ) → Option Turn
+directed s (line.Section None) name = if is_shown s.gate then None else Some (hidden s gate.Dead (s.gate ∷ s.outer))
+directed s (line.Section (Some holds)) name = Some (hidden s (opened s.gate holds) (s.gate ∷ s.outer))
+directed s line.Otherwise name = option_map (λ g. hidden s g s.outer) (turned s.gate)
+directed s (line.OtherwiseIf holds) name = option_map (λ g. hidden s g s.outer) (turned_if s.gate holds)
+directed s line.End name = closed s s.outer
+directed s (line.Definition number) name =
+    if is_shown s.gate then Some (defining s number name) else Some (hidden s s.gate s.outer)
+directed s line.Nothing name = Some (hidden s s.gate s.outer)
+directed s line.Other name = if is_shown s.gate then None else Some (hidden s s.gate s.outer)
 
 -- a line may begin here
 abbrev pub is_fresh : Spot → Bool
@@ -69,7 +74,9 @@ passed s b = record {
 
 -- the byte in place of b, before bs
 abbrev pub turn : (names : List (List ℕ)) → Standing → ℕ → List ℕ → Option Turn
-turn names s b bs = if is_fresh s.spot && (b == 35) then directed s (directive names bs) else Some (passed s b)
+turn names s b bs =
+    if is_fresh s.spot && (b == 35) then directed s (directive names s.defines bs) (name_of_definition bs)
+    else Some (passed s b)
 
 -- bytes before those that come of the rest
 abbrev pub joined : List ℕ → Result (List ℕ) Fault → Result (List ℕ) Fault
@@ -93,7 +100,7 @@ plain_from names s (b ∷ bs) = with_turn (turn names s b bs) (suc (length bs)) 
 
 -- where a text begins
 abbrev pub beginning : Standing
-beginning = record { spot = spot.Fresh; gate = gate.Outside; outer = []; defines = false }
+beginning = record { spot = spot.Fresh; gate = gate.Outside; outer = []; defines = [] }
 
 -- The text without its lines of % and #, where these names are defined, or the first fault of those lines: a line that
 -- has no meaning where it stands, at its #, or at the end a section that is open.

@@ -1,6 +1,6 @@
 -- The tokens of rpcgen's dialect as tokens of the RFCs' language: what stands in place of a token, by the tokens behind
 -- it, one line for each construct (own, after rpcgen's parser).
-use Rattle.std.specs.Prelude.{ℕ, suc, zero, ℤ, Bool, true, false, ◌&&◌, ◌||◌, not, List, [], ◌∷◌, ◌++◌, codes}
+use Rattle.std.specs.Prelude.{ℕ, suc, zero, ℤ, Bool, true, ◌&&◌, ◌||◌, not, List, [], ◌∷◌, ◌++◌, codes}
 use Rattle.std.specs.Prelude.{Some, None, if◌then◌else◌}
 use Rattle.std.specs.Str.{bytes_eq}
 use Rattle.xdr_tokens.specs.declared.token.Keyword.{Keyword}
@@ -74,15 +74,24 @@ unsigned_turn s ts =
 abbrev pub sized_turn : Scope → Lexeme → List Lexeme → Turned
 sized_turn s t ts = same_but s t (an_int ts)
 
--- the body of an enumeration or a union in front
-abbrev pub begins_body : List Lexeme → Bool
-begins_body ts = first_is (is_sign mark.OpenBrace) ts || first_is (is_word word.Switch) ts
+-- a name or * in front, as behind a kind
+abbrev pub is_declared : List Lexeme → Bool
+is_declared ts = first_is is_name ts || first_is (is_sign mark.Star) ts
 
--- enum NAME and union NAME, where no body follows, are NAME
+-- a kind is in front of ts: behind it a name or * follows, unless it is that of an argument
+abbrev pub is_kind : Scope → List Lexeme → Bool
+is_kind (scope.Argument named) ts = not named
+is_kind s ts = is_declared ts
+
+-- enum NAME and union NAME, where they are kinds, are NAME
 abbrev pub tagged_turn : Scope → Lexeme → List Lexeme → Turned
-tagged_turn s t ts = if first_is is_name ts && not (begins_body (rest ts)) then nothing s 0 else same s t
+tagged_turn s t ts = if first_is is_name ts && is_kind s (rest ts) then nothing s 0 else same s t
 
--- a keyword: const with quotes is nothing, nor is typedef struct NAME NAME; float and double are names of the library
+-- float and double, where they are kinds, are names of the library
+abbrev pub floating_turn : Scope → Keyword → (name : List ℕ) → List Lexeme → Turned
+floating_turn s w name ts = if is_kind s ts then same s (Name name) else same s (Word w)
+
+-- a keyword: const with quotes is nothing, nor is typedef struct NAME NAME;
 abbrev pub word_turn : Scope → Keyword → List Lexeme → Turned
 word_turn s word.Const ts = if is_quoted ts then nothing s 5 else same s (Word word.Const)
 word_turn s word.Typedef ts = if is_renaming ts then nothing s 4 else same s (Word word.Typedef)
@@ -91,8 +100,8 @@ word_turn s word.Long ts = sized_turn s (Word word.Long) ts
 word_turn s word.Hyper ts = sized_turn s (Word word.Hyper) ts
 word_turn s word.Enum ts = tagged_turn s (Word word.Enum) ts
 word_turn s word.Union ts = tagged_turn s (Word word.Union) ts
-word_turn s word.Float ts = same s (Name (codes "float"))
-word_turn s word.Double ts = same s (Name (codes "double"))
+word_turn s word.Float ts = floating_turn s word.Float (codes "float") ts
+word_turn s word.Double ts = floating_turn s word.Double (codes "double") ts
 word_turn s w ts = same s (Word w)
 
 -- , or } in front
@@ -111,31 +120,33 @@ member_turn n number = record {
 abbrev pub other_name : Scope → List ℕ → List Lexeme → Turned
 other_name s n ts = if bytes_eq n (codes "short") then sized_turn s (Name n) ts else same s (Name n)
 
+-- , or ) in front
+abbrev pub ends_argument : List Lexeme → Bool
+ends_argument ts = first_is (is_sign mark.Comma) ts || first_is (is_sign mark.CloseRound) ts
+
 -- a name: what an argument is called is nothing
 abbrev pub name_turn : Scope → List ℕ → List Lexeme → Turned
 name_turn (scope.Members (Some number)) n ts =
     if ends_member ts then member_turn n number else other_name (scope.Members (Some number)) n ts
 name_turn (scope.Members None) n ts = other_name (scope.Members None) n ts
 name_turn (scope.Argument named) n ts =
-    if named then nothing (scope.Argument true) 0 else other_name (scope.Argument false) n ts
+    if named && ends_argument ts then nothing (scope.Argument true) 0 else other_name (scope.Argument named) n ts
 name_turn scope.Elsewhere n ts = other_name scope.Elsewhere n ts
 name_turn scope.Head n ts = other_name scope.Head n ts
 name_turn scope.Value n ts = other_name scope.Value n ts
 name_turn scope.Switch n ts = other_name scope.Switch n ts
 name_turn scope.Constant n ts = other_name scope.Constant n ts
 
--- = stands for the # of #define: with a number behind the name it is a constant, else nothing
-abbrev pub define_turn : Scope → List Lexeme → Turned
-define_turn s ts =
-    if first_is is_number (rest (rest ts))
-    then record { out = Word word.Const ∷ []; scope = scope.Constant; skip = 1 }
-    else nothing s 2
+-- = stands for the # of #define NAME NUMBER, which is a constant
+abbrev pub define_turn : Turned
+define_turn = record { out = Word word.Const ∷ []; scope = scope.Constant; skip = 1 }
 
--- define and a name in front
+-- define, a name and a number in front
 abbrev pub is_define : List Lexeme → Bool
-is_define ts = first_is (is_named (codes "define")) ts && first_is is_name (rest ts)
+is_define ts =
+    first_is (is_named (codes "define")) ts && first_is is_name (rest ts) && first_is is_number (rest (rest ts))
 
--- ( before ), but behind switch, where no void is meant
+-- ( before ): no arguments are void
 abbrev pub round_turn : Scope → List Lexeme → Turned
 round_turn s ts =
     if first_is (is_sign mark.CloseRound) ts then record {
@@ -146,7 +157,7 @@ round_turn s ts =
 
 -- a mark: no arguments at all are void
 abbrev pub sign_turn : Scope → Mark → List Lexeme → Turned
-sign_turn s mark.Equal ts = if is_define ts then define_turn s ts else same s (Sign mark.Equal)
+sign_turn s mark.Equal ts = if is_define ts then define_turn else same s (Sign mark.Equal)
 sign_turn s mark.OpenRound ts = round_turn s ts
 sign_turn s m ts = same s (Sign m)
 

@@ -2,7 +2,7 @@
 ghost use Rattle.std.specs.Prelude.{◌≡◌, ◌||◌};
 ghost use Rattle.xdr_tokens.specs.Tokens.{lexemes};
 ghost use Rattle.xdr_dialect.specs.Tests.{is_word, is_sign, is_name, is_named, is_number, name_in, first_is, rest};
-ghost use Rattle.xdr_dialect.specs.Rewriting.{is_whole, is_quoted, begins_body, ends_member, is_define};
+ghost use Rattle.xdr_dialect.specs.Rewriting.{is_whole, is_quoted, is_declared, ends_member, ends_argument, is_define};
 ghost use Rattle.xdr_dialect.specs.Rewriting.{an_int, three_equal, is_tag, is_renaming};
 
 use xdr_tokens::{Keyword, Mark, Token};
@@ -55,7 +55,7 @@ pub(crate) fn named(tokens: &[Token<'_>], wanted: &str) -> bool
 }
 
 /// A number is in front.
-pub(crate) fn number(tokens: &[Token<'_>]) -> bool
+fn number(tokens: &[Token<'_>]) -> bool
     ensures { result ≡ first_is is_number (lexemes tokens.now) }
 {
     matches!(tokens, [Token::Number(..), ..])
@@ -135,11 +135,18 @@ pub(crate) fn renames(tokens: &[Token<'_>]) -> bool
         && sign(rest(second), Mark::Semicolon)
 }
 
-/// The body of an enumeration or a union is in front.
-pub(crate) fn begins_body(tokens: &[Token<'_>]) -> bool
-    ensures { result ≡ begins_body (lexemes tokens.now) }
+/// A name or `*` is in front.
+pub(crate) fn declared(tokens: &[Token<'_>]) -> bool
+    ensures { result ≡ is_declared (lexemes tokens.now) }
 {
-    sign(tokens, Mark::OpenBrace) || word(tokens, Keyword::Switch)
+    name(tokens) || sign(tokens, Mark::Star)
+}
+
+/// What ends an argument is in front.
+pub(crate) fn ends_argument(tokens: &[Token<'_>]) -> bool
+    ensures { result ≡ ends_argument (lexemes tokens.now) }
+{
+    sign(tokens, Mark::Comma) || sign(tokens, Mark::CloseRound)
 }
 
 /// What ends a member is in front.
@@ -149,9 +156,10 @@ pub(crate) fn ends_member(tokens: &[Token<'_>]) -> bool
     sign(tokens, Mark::Comma) || sign(tokens, Mark::CloseBrace)
 }
 
-/// `define` and a name are in front.
+/// `define`, a name and a number are in front.
 pub(crate) fn defines(tokens: &[Token<'_>]) -> bool
     ensures { result ≡ is_define (lexemes tokens.now) }
 {
-    named(tokens, "define") && name(rest(tokens))
+    let behind = rest(tokens);
+    named(tokens, "define") && name(behind) && number(rest(behind))
 }

@@ -1,10 +1,11 @@
 //! What a line of `#` says.
-ghost use Rattle.std.specs.Prelude.{◌≡◌, ◌≤◌, length, map};
-ghost use Rattle.std.specs.List.{list_any};
+ghost use Rattle.std.specs.Prelude.{◌≡◌, ◌≤◌, length};
 ghost use Rattle.std.specs.Str.{bytes_eq};
 ghost use Rattle.xdr_tokens.specs.Bytes.{is_word, run_length};
-ghost use Rattle.xdr_dialect.specs.Directives.{after_blanks, word_in, after_word, ends, defined, condition};
-ghost use Rattle.xdr_dialect.specs.Directives.{directive_of, directive};
+ghost use Rattle.xdr_dialect.specs.Directives.{after_blanks, word_in, after_word, ends, is_name, is_among, defined};
+ghost use Rattle.xdr_dialect.specs.Directives.{opens_comment};
+ghost use Rattle.xdr_dialect.specs.Directives.{condition, after_minus, begins_digit, is_numeral, definition};
+ghost use Rattle.xdr_dialect.specs.Directives.{directive_of, directive, name_of_definition};
 ghost use Rattle.xdr_dialect.specs.Answers.{texts};
 
 /// What a line of `#` says.
@@ -14,14 +15,14 @@ pub enum Directive {
     Section(Option<bool>),
     /// `#else`.
     Otherwise,
+    /// `#elif`, and whether its condition holds, where that is known.
+    OtherwiseIf(Option<bool>),
     /// `#endif`.
     End,
-    /// `#define`.
-    Definition,
+    /// `#define` of a name, and whether it is a number; else it is nothing.
+    Definition(bool),
     /// `#include`, `#pragma`, `#ident`, or `#` alone.
     Nothing,
-    /// `#elif`, which is not read.
-    Unread,
     /// Another.
     Other,
 }
@@ -72,11 +73,22 @@ fn word(text: &[u8]) -> (&[u8], &[u8])
     (run, after_blanks(rest))
 }
 
+/// Behind `/` a comment begins.
+fn opens_comment(text: &[u8]) -> bool
+    ensures { result ≡ opens_comment text.now }
+{
+    matches!(text, [b'*' | b'/', ..])
+}
+
 /// The line ends here, or a comment begins.
 fn ends(text: &[u8]) -> bool
     ensures { result ≡ ends text.now }
 {
-    matches!(text, [] | [b'\n' | b'\r' | b'/', ..])
+    match text {
+        [] | [b'\n' | b'\r', ..] => true,
+        [b'/', others @ ..] => opens_comment(others),
+        _ => false,
+    }
 }
 
 /// The bytes are these letters.
@@ -86,9 +98,9 @@ fn spells(run: &[u8], word: &str) -> bool
     run == word.as_bytes()
 }
 
-/// The name is one of these.
+/// The name is one of the caller's.
 fn is_among(names: &[&str], run: &[u8]) -> bool
-    ensures { result ≡ list_any (bytes_eq run.now) (texts names.now) }
+    ensures { result ≡ is_among (texts names.now) run.now }
 {
     let mut rest = names;
     while let [name, others @ ..] = rest {
@@ -100,22 +112,43 @@ fn is_among(names: &[&str], run: &[u8]) -> bool
     false
 }
 
-/// Whether the name is defined, where there is one.
-fn defined(names: &[&str], run: &[u8]) -> Option<bool>
-    ensures { result ≡ defined (texts names.now) run.now }
+/// The name is one of the text's own.
+fn is_own(own: &[&[u8]], run: &[u8]) -> bool
+    ensures { result ≡ is_among (texts own.now) run.now }
 {
-    match run {
-        [] | [b'0'..=b'9', ..] => None,
-        _ => Some(is_among(names, run)),
+    let mut rest = own;
+    while let [name, others @ ..] = rest {
+        if run == *name {
+            return true;
+        }
+        rest = others;
     }
+    false
+}
+
+/// The name does not begin with a digit.
+fn is_name(run: &[u8]) -> bool
+    ensures { result ≡ is_name run.now }
+{
+    !matches!(run, [] | [b'0'..=b'9', ..])
+}
+
+/// Whether the name is defined, where there is one.
+fn defined(names: &[&str], own: &[&[u8]], run: &[u8]) -> Option<bool>
+    ensures { result ≡ defined (texts names.now) (texts own.now) run.now }
+{
+    if !is_name(run) {
+        return None;
+    }
+    Some(is_among(names, run) || is_own(own, run))
 }
 
 /// The condition of `#if`.
-fn condition(names: &[&str], text: &[u8]) -> Option<bool>
-    ensures { result ≡ condition (texts names.now) text.now }
+fn condition(names: &[&str], own: &[&[u8]], text: &[u8]) -> Option<bool>
+    ensures { result ≡ condition (texts names.now) (texts own.now) text.now }
 {
     let (run, rest) = word(text);
-    if !ends(rest) {
+    if !ends(rest) || is_own(own, run) {
         return None;
     }
     if spells(run, "0") {
@@ -124,31 +157,72 @@ fn condition(names: &[&str], text: &[u8]) -> Option<bool>
     if spells(run, "1") {
         return Some(true);
     }
-    defined(names, run)
+    defined(names, own, run)
+}
+
+/// What follows a `-` in front.
+fn after_minus(text: &[u8]) -> &[u8]
+    ensures { result.now ≡ after_minus text.now }
+{
+    match text {
+        [b'-', others @ ..] => others,
+        _ => text,
+    }
+}
+
+/// A digit is in front.
+fn begins_digit(text: &[u8]) -> bool
+    ensures { result ≡ begins_digit text.now }
+{
+    matches!(text, [b'0'..=b'9', ..])
+}
+
+/// A number, and nothing else on the line.
+fn is_numeral(text: &[u8]) -> bool
+    ensures { result ≡ is_numeral text.now }
+{
+    let digits = after_minus(text);
+    begins_digit(digits) && ends(word(digits).1)
+}
+
+/// What a line of `#define` says.
+fn definition(text: &[u8]) -> Directive
+    ensures { result ≡ definition text.now }
+{
+    let (name, rest) = word(text);
+    if !is_name(name) {
+        Directive::Other
+    } else if ends(rest) {
+        Directive::Definition(false)
+    } else if is_numeral(rest) {
+        Directive::Definition(true)
+    } else {
+        Directive::Other
+    }
 }
 
 /// What the word behind `#` says, and what follows it.
-fn directive_of(names: &[&str], run: &[u8], rest: &[u8]) -> Directive
-    ensures { result ≡ directive_of (texts names.now) run.now rest.now }
+fn directive_of(names: &[&str], own: &[&[u8]], run: &[u8], rest: &[u8]) -> Directive
+    ensures { result ≡ directive_of (texts names.now) (texts own.now) run.now rest.now }
 {
     if spells(run, "ifdef") {
-        Directive::Section(defined(names, word(rest).0))
+        Directive::Section(defined(names, own, word(rest).0))
     } else if spells(run, "ifndef") {
-        Directive::Section(defined(names, word(rest).0).map(|holds| !holds))
+        Directive::Section(defined(names, own, word(rest).0).map(|holds| !holds))
     } else if spells(run, "if") {
-        Directive::Section(condition(names, rest))
+        Directive::Section(condition(names, own, rest))
     } else if spells(run, "else") {
         Directive::Otherwise
     } else if spells(run, "endif") {
         Directive::End
     } else if spells(run, "define") {
-        Directive::Definition
+        definition(rest)
     } else if spells(run, "elif") {
-        Directive::Unread
+        Directive::OtherwiseIf(condition(names, own, rest))
     } else if spells(run, "include")
         || spells(run, "pragma")
         || spells(run, "ident")
-        || spells(run, "")
+        || spells(run, "") && ends(rest)
     {
         Directive::Nothing
     } else {
@@ -156,10 +230,17 @@ fn directive_of(names: &[&str], run: &[u8], rest: &[u8]) -> Directive
     }
 }
 
-/// What a line of `#` says, from what follows the `#`.
-pub(crate) fn read_directive(names: &[&str], text: &[u8]) -> Directive
-    ensures { result ≡ directive (texts names.now) text.now }
+/// What a line of `#` says, from what follows the `#`, where the text has defined these names of its own.
+pub(crate) fn read_directive(names: &[&str], own: &[&[u8]], text: &[u8]) -> Directive
+    ensures { result ≡ directive (texts names.now) (texts own.now) text.now }
 {
     let (run, rest) = word(after_blanks(text));
-    directive_of(names, run, rest)
+    directive_of(names, own, run, rest)
+}
+
+/// The name of `#define`, from what follows the `#`.
+pub(crate) fn name_of_definition(text: &[u8]) -> &[u8]
+    ensures { result.now ≡ name_of_definition text.now }
+{
+    word(word(after_blanks(text)).1).0
 }

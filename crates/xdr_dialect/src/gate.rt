@@ -1,6 +1,6 @@
 //! Whether the text is shown where a section of `#if` is open.
 ghost use Rattle.std.specs.Prelude.{◌≡◌};
-ghost use Rattle.xdr_dialect.specs.Directives.{is_shown, opened, turned};
+ghost use Rattle.xdr_dialect.specs.Directives.{is_shown, opened, turned, turned_if};
 
 /// The branch of a section.
 #[derive(Clone, Copy)]
@@ -13,9 +13,9 @@ pub enum Gate {
     Waiting,
     /// Behind `#else`, which is shown.
     Last,
-    /// Behind `#else` of a condition that holds.
+    /// Behind `#else`, which is not shown.
     Over,
-    /// In a branch that is not shown.
+    /// No branch of the section is shown from here on.
     Dead,
 }
 
@@ -46,10 +46,21 @@ impl Gate {
         ensures { result ≡ turned self }
     {
         match self {
-            Gate::Taken => Some(Gate::Over),
+            Gate::Taken | Gate::Dead => Some(Gate::Over),
             Gate::Waiting => Some(Gate::Last),
-            Gate::Dead => Some(Gate::Dead),
             Gate::Outside | Gate::Last | Gate::Over => None,
+        }
+    }
+
+    /// Behind `#elif`, whose condition holds or not, where one may stand.
+    pub(crate) fn turned_if(self, holds: Option<bool>) -> Option<Gate>
+        ensures { result ≡ turned_if self holds }
+    {
+        match (self, holds) {
+            (Gate::Taken | Gate::Dead, _) => Some(Gate::Dead),
+            (Gate::Waiting, Some(true)) => Some(Gate::Taken),
+            (Gate::Waiting, Some(false)) => Some(Gate::Waiting),
+            (Gate::Waiting, None) | (Gate::Outside | Gate::Last | Gate::Over, _) => None,
         }
     }
 }

@@ -20,6 +20,6 @@ mod spot;
 mod standing;
 mod turn;
 
-pub use laws::{texts_stay, tokens_stay};
+pub use laws::{constructs_are, texts_stay, tokens_stay};
 pub use plain::plain_text;
 pub use rewriting::meant_tokens;

@@ -29,6 +29,8 @@ pub enum Meaning {
     Bytes(u32),
     /// At most so many bytes.
     BytesUpTo(u32),
+    /// A transport address, a struct.
+    Netbuf,
     /// A constant.
     Size(u32),
 }
@@ -122,6 +124,35 @@ fn lacks(tokens: &[Token<'_>], wanted: &str) -> bool
     mentions(tokens, wanted) && !declares(tokens, wanted)
 }
 
+/// Adds the struct of a transport address.
+fn define_netbuf<'a>(
+    found: &mut Vec<Token<'a>>,
+    run: &'a str,
+    left: usize,
+) -> Result<(), AllocError>
+    ensures { OnOk result (all_placed found.new.items
+        ≡ all_placed found.old.items ++ standing_at left (definition Meaning.Netbuf run.now)) }
+{
+    let end = Token::Sign(Mark::Semicolon, left);
+    found.extend_from_slice(&[
+        Token::Word(Keyword::Struct, left),
+        Token::Name(run, left),
+        Token::Sign(Mark::OpenBrace, left),
+        Token::Word(Keyword::Unsigned, left),
+        Token::Word(Keyword::Int, left),
+        Token::Name("maxlen", left),
+        end,
+        Token::Word(Keyword::Opaque, left),
+        Token::Name("buf", left),
+        Token::Sign(Mark::Less, left),
+        Token::Sign(Mark::Greater, left),
+        end,
+        Token::Sign(Mark::CloseBrace, left),
+        end,
+    ])?;
+    Ok(())
+}
+
 /// Adds tokens that all stand at one place.
 #[tactic(auto, using(crate::proofs::Places::placing))]
 fn define<'a>(
@@ -165,6 +196,7 @@ fn define<'a>(
             Token::Sign(Mark::Greater, left),
             end,
         ]),
+        Meaning::Netbuf => define_netbuf(found, run, left),
         Meaning::Size(size) => found.extend_from_slice(&[
             Token::Word(Keyword::Const, left),
             name,
@@ -254,5 +286,6 @@ pub(crate) fn add_library<'a>(
         left,
     )?;
     add_lacking(found, tokens, Meaning::BytesUpTo(1024), &["netobj"], left)?;
+    add_lacking(found, tokens, Meaning::Netbuf, &["netbuf"], left)?;
     add_lacking(found, tokens, Meaning::Size(255), &["MAXNETNAMELEN"], left)
 }

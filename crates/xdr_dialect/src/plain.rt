@@ -37,7 +37,7 @@ pub fn plain_text(alloc: Global, text: &[u8], names: &[&str]) -> Result<Vec<u8>,
         spot: Spot::Fresh,
         gate: Gate::Outside,
         outer: Vec::new(alloc),
-        defines: false,
+        defines: Vec::new(alloc),
     };
     let mut rest = text;
     while let [first, others @ ..] = rest {

@@ -1,24 +1,23 @@
 //! Where a byte stands: on its line, and in which sections.
-ghost use Rattle.std.specs.Prelude.{◌≡◌, ◌+◌, IfErr, OnOk, length, ◌∷◌, Some, None};
+ghost use Rattle.std.specs.Prelude.{◌≡◌, ◌+◌, IfOk, IfErr, OnOk, length, ◌∷◌, Some, None};
 ghost use Rattle.xdr_tokens.specs.declared.fault.Fault.{Fault};
-ghost use Rattle.xdr_dialect.specs.Directives.{is_shown};
-ghost use Rattle.xdr_dialect.specs.Plain.{directed, turn};
+ghost use Rattle.xdr_dialect.specs.Plain.{defining, directed, turn};
 ghost use Rattle.xdr_dialect.specs.Private.Steps.{standing_of, Turns, Closes};
 ghost use Rattle.xdr_dialect.specs.Answers.{texts};
 
-use crate::directive::{Directive, read_directive};
+use crate::directive::{Directive, name_of_definition, read_directive};
 use crate::gate::Gate;
 use crate::spot::{Spot, blank};
 use xdr_tokens::{Fault, Wrong};
 
 /// Where a byte stands, and the sections around it, the innermost last.
 #[derive(Drop)]
-pub(crate) struct Standing {
+pub(crate) struct Standing<'a> {
     pub(crate) spot: Spot,
     pub(crate) gate: Gate,
     pub(crate) outer: Vec<Gate>,
-    /// The text has `#define`.
-    pub(crate) defines: bool,
+    /// The names that the text has defined.
+    pub(crate) defines: Vec<&'a [u8]>,
 }
 
 /// A line has no meaning where it stands.
@@ -31,7 +30,7 @@ fn misplaced(left: usize) -> Fault
     }
 }
 
-impl Standing {
+impl<'a> Standing<'a> {
     /// Goes into a section.
     #[tactic(auto, using(crate::proofs::Sections::one_more))]
     fn open(&mut self, gate: Gate) -> Result<(), Fault>
@@ -58,15 +57,30 @@ impl Standing {
         }
     }
 
-    /// A line of `#`, so many bytes before the end.
-    fn directed(&mut self, found: Directive, left: usize) -> Result<u8, Fault>
-        ensures { Turns result (directed (standing_of self.old) found) self.new left }
+    /// `#define` of a name.
+    #[tactic(auto, using(crate::proofs::Places::placing))]
+    fn define(&mut self, number: bool, name: &'a [u8]) -> Result<u8, Fault>
+        ensures ok { IfOk result (λ b. record { byte = b; next = standing_of self.new }
+            ≡ defining (standing_of self.old) number name.now) }
+        ensures memory { IfErr result (λ e. e ≡ Fault.NoMemory) }
+    {
+        self.defines.push(name)?;
+        if number {
+            self.spot = Spot::Text;
+            return Ok(b'=');
+        }
+        self.spot = Spot::Hidden;
+        Ok(b' ')
+    }
+
+    /// A line of `#`, so many bytes before the end, and the name of one with `#define`.
+    fn directed(&mut self, found: Directive, name: &'a [u8], left: usize) -> Result<u8, Fault>
+        ensures { Turns result (directed (standing_of self.old) found name.now) self.new left }
     {
         let shown = self.gate.is_shown();
         self.spot = Spot::Hidden;
         match found {
             Directive::Section(None) if shown => return Err(misplaced(left)),
-            Directive::Section(_) if shown && self.defines => return Err(misplaced(left)),
             Directive::Section(holds) => {
                 let gate = self.gate.opened(holds.unwrap_or(false));
                 self.open(gate)?;
@@ -75,26 +89,26 @@ impl Standing {
                 Some(gate) => self.gate = gate,
                 None => return Err(misplaced(left)),
             },
+            Directive::OtherwiseIf(holds) => match self.gate.turned_if(holds) {
+                Some(gate) => self.gate = gate,
+                None => return Err(misplaced(left)),
+            },
             Directive::End => self.close(left)?,
-            Directive::Definition if shown => {
-                self.spot = Spot::Text;
-                self.defines = true;
-                return Ok(b'=');
-            }
-            Directive::Unread => return Err(misplaced(left)),
+            Directive::Definition(number) if shown => return self.define(number, name),
             Directive::Other if shown => return Err(misplaced(left)),
-            Directive::Definition | Directive::Nothing | Directive::Other => {}
+            Directive::Definition(_) | Directive::Nothing | Directive::Other => {}
         }
         Ok(b' ')
     }
 
     /// The byte in place of `first`, before others.
-    pub(crate) fn turn(&mut self, names: &[&str], first: u8, others: &[u8]) -> Result<u8, Fault>
+    pub(crate) fn turn(&mut self, names: &[&str], first: u8, others: &'a [u8]) -> Result<u8, Fault>
         ensures { Turns result (turn (texts names.now) (standing_of self.old) first others.now) self.new
             (length others.now + 1) }
     {
         if self.spot.is_fresh() && first == b'#' {
-            return self.directed(read_directive(names, others), others.len() + 1);
+            let found = read_directive(names, &self.defines, others);
+            return self.directed(found, name_of_definition(others), others.len() + 1);
         }
         let byte = if self.gate.is_shown() {
             self.spot.kept(first)

@@ -1,15 +1,15 @@
 //! What stands in place of a token of the dialect.
-ghost use Rattle.std.specs.Prelude.{◌≡◌};
+ghost use Rattle.std.specs.Prelude.{◌≡◌, codes};
 ghost use Rattle.xdr_tokens.specs.Tokens.{lexeme, lexemes};
 ghost use Rattle.xdr_dialect.specs.Rewriting.{turn, same, word_turn, name_turn, sign_turn, number_turn};
-ghost use Rattle.xdr_dialect.specs.Rewriting.{unsigned_turn, same_but, tagged_turn};
+ghost use Rattle.xdr_dialect.specs.Rewriting.{unsigned_turn, same_but, is_kind, tagged_turn, floating_turn};
 ghost use Rattle.xdr_dialect.specs.Rewriting.{member_turn, other_name, define_turn, round_turn};
 ghost use Rattle.xdr_dialect.specs.Dialect.{left_of};
 ghost use Rattle.xdr_dialect.specs.Private.Steps.{Stands};
 
 use crate::ahead::{
-    an_int, begins_body, defines, ends_member, name, named, number, quoted, renames, rest, sign,
-    whole,
+    an_int, declared, defines, ends_argument, ends_member, name, named, quoted, renames, rest,
+    sign, whole,
 };
 use crate::scope::{Scope, next_number, scope_after};
 use xdr_tokens::{Keyword, Mark, Token};
@@ -84,14 +84,44 @@ fn unsigned_turn<'a>(scope: Scope, left: usize, others: &[Token<'a>]) -> Replace
     }
 }
 
+/// A kind is in front of others.
+fn is_kind(scope: Scope, others: &[Token<'_>]) -> bool
+    ensures { result ≡ is_kind scope (lexemes others.now) }
+{
+    match scope {
+        Scope::Argument(named) => !named,
+        _ => declared(others),
+    }
+}
+
 /// `enum` or `union`.
 fn tagged_turn<'a>(scope: Scope, token: Token<'a>, others: &[Token<'a>]) -> Replaced<'a>
     ensures { Stands result (tagged_turn scope (lexeme token.entry) (lexemes others.now)) (left_of token.entry) }
 {
-    if name(others) && !begins_body(rest(others)) {
+    if name(others) && is_kind(scope, rest(others)) {
         return nothing(scope, 0);
     }
     same(scope, token)
+}
+
+/// `float`.
+fn float_turn<'a>(scope: Scope, left: usize, others: &[Token<'a>]) -> Replaced<'a>
+    ensures { Stands result (floating_turn scope Keyword.Float (codes "float") (lexemes others.now)) left }
+{
+    if is_kind(scope, others) {
+        return same(scope, Token::Name("float", left));
+    }
+    same(scope, Token::Word(Keyword::Float, left))
+}
+
+/// `double`.
+fn double_turn<'a>(scope: Scope, left: usize, others: &[Token<'a>]) -> Replaced<'a>
+    ensures { Stands result (floating_turn scope Keyword.Double (codes "double") (lexemes others.now)) left }
+{
+    if is_kind(scope, others) {
+        return same(scope, Token::Name("double", left));
+    }
+    same(scope, Token::Word(Keyword::Double, left))
 }
 
 /// A keyword.
@@ -105,8 +135,8 @@ fn word_turn<'a>(scope: Scope, word: Keyword, left: usize, others: &[Token<'a>])
         Keyword::Unsigned => unsigned_turn(scope, left, others),
         Keyword::Long | Keyword::Hyper => same_but(scope, token, an_int(others)),
         Keyword::Enum | Keyword::Union => tagged_turn(scope, token, others),
-        Keyword::Float => same(scope, Token::Name("float", left)),
-        Keyword::Double => same(scope, Token::Name("double", left)),
+        Keyword::Float => float_turn(scope, left, others),
+        Keyword::Double => double_turn(scope, left, others),
         _ => same(scope, token),
     }
 }
@@ -140,23 +170,19 @@ fn name_turn<'a>(scope: Scope, run: &'a str, left: usize, others: &[Token<'a>]) 
 {
     match scope {
         Scope::Members(Some(value)) if ends_member(others) => member_turn(run, left, value),
-        Scope::Argument(true) => nothing(scope, 0),
+        Scope::Argument(true) if ends_argument(others) => nothing(scope, 0),
         _ => other_name(scope, run, left, others),
     }
 }
 
 /// What `#define` left.
-fn define_turn<'a>(scope: Scope, left: usize, others: &[Token<'a>]) -> Replaced<'a>
-    ensures { Stands result (define_turn scope (lexemes others.now)) left }
+fn define_turn<'a>(left: usize) -> Replaced<'a>
+    ensures { Stands result define_turn left }
 {
-    if number(rest(rest(others))) {
-        Replaced {
-            out: Out::One(Token::Word(Keyword::Const, left)),
-            scope: Scope::Constant,
-            skip: 1,
-        }
-    } else {
-        nothing(scope, 2)
+    Replaced {
+        out: Out::One(Token::Word(Keyword::Const, left)),
+        scope: Scope::Constant,
+        skip: 1,
     }
 }
 
@@ -180,7 +206,7 @@ fn sign_turn<'a>(scope: Scope, mark: Mark, left: usize, others: &[Token<'a>]) ->
     ensures { Stands result (sign_turn scope mark (lexemes others.now)) left }
 {
     match mark {
-        Mark::Equal if defines(others) => define_turn(scope, left, others),
+        Mark::Equal if defines(others) => define_turn(left),
         Mark::OpenRound => round_turn(scope, left, others),
         _ => same(scope, Token::Sign(mark, left)),
     }

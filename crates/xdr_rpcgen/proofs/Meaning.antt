@@ -10,6 +10,7 @@ use Rattle.xdr_lang.specs.Declarations.{Declared}
 use Rattle.xdr_lang.specs.OfTokens.{TokensMean}
 use Rattle.xdr_dialect.specs.Answers.{Refuses}
 use Rattle.xdr_dialect.specs.Dialect.{meant}
+use Rattle.xdr_aliases.specs.Aliases.{resolved}
 use Rattle.xdr_dialect.specs.Plain as dialect
 use Rattle.xdr_rpcgen.specs.DialectMeans.{PlainMeans, DialectMeans}
 
@@ -27,9 +28,11 @@ no_plain (fault.Refused w l) number due x memory not is e = absurd cc
 
 -- the tokens of a text are those that were cut
 pub of_cut : (plain : List ℕ) (cut : List Lexeme) (d : Declared)
-    → ((ts : List Lexeme) → Tokens plain ts → Some ts ≡ Some cut) → PlainMeans plain d → TokensMean (meant cut) d
+    → ((ts : List Lexeme) → Tokens plain ts → Some ts ≡ Some cut) → PlainMeans plain d
+    → TokensMean (resolved (meant cut)) d
 of_cut plain cut d only m =
-    subst (λ (ts : List Lexeme). TokensMean (meant ts) d) (some_is m.tokens cut (only m.tokens m.cut)) m.means
+    let same = some_is m.tokens cut (only m.tokens m.cut) in
+    subst (λ (ts : List Lexeme). TokensMean (resolved (meant ts)) d) same m.means
 
 -- the text without its lines is the one that was made
 pub of_plain : (names : List (List ℕ)) (text plain : List ℕ) (d : Declared) → dialect.plain names text ≡ Ok plain

@@ -7,25 +7,40 @@ ghost use Rattle.xdr_lang.specs.Refusals.{IsInner};
 ghost use Rattle.xdr_lang.specs.Views.{declared_of};
 ghost use Rattle.xdr_dialect.specs.Answers.{texts};
 ghost use Rattle.xdr_dialect.specs.Dialect.{meant};
+ghost use Rattle.xdr_aliases.specs.Aliases.{resolved};
 ghost use Rattle.xdr_rpcgen.specs.DialectMeans.{PlainMeans, DialectMeans};
 
-use std::alloc::Global;
+use std::alloc::{AllocError, Global};
+use xdr_aliases::resolved_tokens;
 use xdr_dialect::{meant_tokens, plain_text};
 use xdr_lang::{Declared, LangFault, MAX_TEXT, located, read_tokens};
 use xdr_tokens::{Fault, Token, Wrong, tokens};
 
+/// The tokens of the RFCs' language that those of a text of so many bytes stand for.
+fn language_of<'a>(
+    alloc: Global,
+    cut: &[Token<'a>],
+    len: usize,
+) -> Result<Vec<Token<'a>>, AllocError>
+    ensures { IfOk result (λ v. lexemes v.items ≡ resolved (meant (lexemes cut.now))) }
+{
+    let meant = meant_tokens(alloc, cut, len)?;
+    resolved_tokens(alloc, &meant)
+}
+
 /// What the tokens of a text mean.
 fn read_cut(alloc: Global, text: &[u8], cut: &[Token<'_>]) -> Result<Declared, LangFault>
-    ensures found { IfOk result (λ v. TokensMean (meant (lexemes cut.now)) (declared_of v)) }
-    ensures only { (d : DeclaredSpec) → TokensMean (meant (lexemes cut.now)) d → IfOk result (λ v. declared_of v ≡ d) }
+    ensures found { IfOk result (λ v. TokensMean (resolved (meant (lexemes cut.now))) (declared_of v)) }
+    ensures only { (d : DeclaredSpec) → TokensMean (resolved (meant (lexemes cut.now))) d
+        → IfOk result (λ v. declared_of v ≡ d) }
     ensures refused { IfErr result
-        (λ e. e.number ≢ 13 → (d : DeclaredSpec) → TokensMean (meant (lexemes cut.now)) d → ⊥) }
+        (λ e. e.number ≢ 13 → (d : DeclaredSpec) → TokensMean (resolved (meant (lexemes cut.now))) d → ⊥) }
     ensures number { IfErr result (λ e. (1 ≤ e.number) × (e.number ≤ 13)) }
     ensures inner { IfErr result (λ e. IsInner e.number e.inner) }
     ensures place { IfErr result (λ e. (1 ≤ e.line) × (1 ≤ e.column)) }
 {
-    match meant_tokens(alloc, cut, text.len()) {
-        Ok(meant) => read_tokens(alloc, text, &meant),
+    match language_of(alloc, cut, text.len()) {
+        Ok(spoken) => read_tokens(alloc, text, &spoken),
         Err(_) => Err(located(text, Fault::NoMemory)),
     }
 }

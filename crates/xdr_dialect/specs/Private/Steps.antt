@@ -11,6 +11,7 @@ use Rattle.xdr_dialect.specs.declared.turn.Out.TheVariants as out
 use Rattle.xdr_dialect.specs.declared.turn.Replaced.{Replaced}
 use Rattle.xdr_dialect.specs.Rewriting.{Turned}
 use Rattle.xdr_dialect.specs.Dialect.{all_placed, standing_at}
+use Rattle.xdr_dialect.specs.Answers.{texts}
 
 -- the sections around a byte, the innermost first
 abbrev pub standing_of : Standing → plain.Standing
@@ -18,7 +19,7 @@ standing_of s = record {
   spot = s.spot;
   gate = s.gate;
   outer = reverse s.outer.items;
-  defines = s.defines;
+  defines = texts s.defines.items;
 }
 
 -- what a refusal of a step is

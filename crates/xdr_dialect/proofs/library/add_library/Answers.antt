@@ -12,4 +12,5 @@ returns c =
     let e6 = standing_more at _ _ _ _ _ e5 c.in_ok-add_lacking-6.ensures in
     let e7 = standing_more at _ _ _ _ _ e6 c.in_ok-add_lacking-7.ensures in
     let e8 = standing_more at _ _ _ _ _ e7 c.in_ok-add_lacking-8.ensures in
-    on_ok_weaker c.add_lacking-9.result (λ e. standing_more at _ _ _ _ _ e8 e) c.add_lacking-9.ensures
+    let e9 = standing_more at _ _ _ _ _ e8 c.in_ok-add_lacking-9.ensures in
+    on_ok_weaker c.add_lacking-10.result (λ e. standing_more at _ _ _ _ _ e9 e) c.add_lacking-10.ensures

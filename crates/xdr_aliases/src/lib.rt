@@ -1,0 +1,13 @@
+//! Names that stand for numbers in rpcgen's dialect (own, after rpcgen): values of constants, and numbers of programs,
+//! versions and procedures, that are names of constants and procedures.
+//!
+//! - `given`: the names to which tokens give numbers
+//! - `resolved`: the public call; `laws`: which tokens stay
+#![tactic(auto)]
+
+mod given;
+mod laws;
+mod resolved;
+
+pub use laws::aliases_stay;
+pub use resolved::resolved_tokens;
