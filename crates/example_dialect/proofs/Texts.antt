@@ -23,8 +23,16 @@ pub record Texts : Type 0 where
   pub else_without_if : plain [] (codes "int\n#else") ≡ Err (fault.Refused wrong.BadCharacter 5)
   pub condition_that_is_not_read :
       plain (codes "A" ∷ []) (codes "#if A > 1\n#endif") ≡ Err (fault.Refused wrong.BadCharacter 16)
+  pub condition_of_a_quotient : plain [] (codes "#if 1/2\n#endif") ≡ Err (fault.Refused wrong.BadCharacter 14)
+  pub otherwise_if :
+      plain [] (codes "#if 0\n#elif 1\ny\n#else\n#endif") ≡ Ok (codes "     \n       \ny\n     \n      ")
+  pub otherwise_if_behind_a_branch :
+      plain [] (codes "#if 1\nx\n#elif A > 1\ny\n#endif") ≡ Ok (codes "     \nx\n           \n \n      ")
   pub condition_behind_define :
-      plain [] (codes "#define A\n#ifdef A\n#endif") ≡ Err (fault.Refused wrong.BadCharacter 15)
+      plain [] (codes "#define A\n#ifdef A\nx\n#endif") ≡ Ok (codes "         \n        \nx\n      ")
+  pub value_behind_define :
+      plain [] (codes "#define A 0\n#if A\n#endif") ≡ Err (fault.Refused wrong.BadCharacter 12)
+  pub definition_of_a_name : plain [] (codes "#define A B") ≡ Err (fault.Refused wrong.BadCharacter 11)
   pub section_that_is_open : plain [] (codes "#ifdef A\n") ≡ Err (fault.Refused wrong.Unexpected 0)
 
 -- so it is: each text is read by computing
@@ -43,6 +51,11 @@ texts = record {
   number_by_define = refl;
   else_without_if = refl;
   condition_that_is_not_read = refl;
+  condition_of_a_quotient = refl;
+  otherwise_if = refl;
+  otherwise_if_behind_a_branch = refl;
   condition_behind_define = refl;
+  value_behind_define = refl;
+  definition_of_a_name = refl;
   section_that_is_open = refl;
 }

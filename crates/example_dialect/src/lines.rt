@@ -101,12 +101,52 @@ pub fn condition_that_is_not_read(alloc: Global) -> Result<Vec<u8>, Fault>
     plain_text(alloc, b"#if A > 1\n#endif", &["A"])
 }
 
-/// Behind a definition a condition may hang on it.
-pub fn condition_behind_define(alloc: Global) -> Result<Vec<u8>, Fault>
+/// Behind `/` more than a comment may follow.
+pub fn condition_of_a_quotient(alloc: Global) -> Result<Vec<u8>, Fault>
     ensures refused { OnOk result ⊥ }
-    ensures place { IfErr result (λ e. e ≢ Fault.NoMemory → e ≡ Fault.Refused Wrong.BadCharacter 15) }
+    ensures place { IfErr result (λ e. e ≢ Fault.NoMemory → e ≡ Fault.Refused Wrong.BadCharacter 14) }
 {
-    plain_text(alloc, b"#define A\n#ifdef A\n#endif", &[])
+    plain_text(alloc, b"#if 1/2\n#endif", &[])
+}
+
+/// The first branch whose condition holds.
+pub fn otherwise_if(alloc: Global) -> Result<Vec<u8>, Fault>
+    ensures found { IfOk result (λ v. v.items ≡ codes "     \n       \ny\n     \n      ") }
+    ensures taken { IfErr result (λ e. e ≡ Fault.NoMemory) }
+{
+    plain_text(alloc, b"#if 0\n#elif 1\ny\n#else\n#endif", &[])
+}
+
+/// Behind it no condition is read.
+pub fn otherwise_if_behind_a_branch(alloc: Global) -> Result<Vec<u8>, Fault>
+    ensures found { IfOk result (λ v. v.items ≡ codes "     \nx\n           \n \n      ") }
+    ensures taken { IfErr result (λ e. e ≡ Fault.NoMemory) }
+{
+    plain_text(alloc, b"#if 1\nx\n#elif A > 1\ny\n#endif", &[])
+}
+
+/// Behind a definition its name is defined.
+pub fn condition_behind_define(alloc: Global) -> Result<Vec<u8>, Fault>
+    ensures found { IfOk result (λ v. v.items ≡ codes "         \n        \nx\n      ") }
+    ensures taken { IfErr result (λ e. e ≡ Fault.NoMemory) }
+{
+    plain_text(alloc, b"#define A\n#ifdef A\nx\n#endif", &[])
+}
+
+/// What it is defined as is not known.
+pub fn value_behind_define(alloc: Global) -> Result<Vec<u8>, Fault>
+    ensures refused { OnOk result ⊥ }
+    ensures place { IfErr result (λ e. e ≢ Fault.NoMemory → e ≡ Fault.Refused Wrong.BadCharacter 12) }
+{
+    plain_text(alloc, b"#define A 0\n#if A\n#endif", &[])
+}
+
+/// A definition is of a number or of nothing.
+pub fn definition_of_a_name(alloc: Global) -> Result<Vec<u8>, Fault>
+    ensures refused { OnOk result ⊥ }
+    ensures place { IfErr result (λ e. e ≢ Fault.NoMemory → e ≡ Fault.Refused Wrong.BadCharacter 11) }
+{
+    plain_text(alloc, b"#define A B", &[])
 }
 
 /// A section is closed before the text ends.

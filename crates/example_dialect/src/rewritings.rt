@@ -69,3 +69,35 @@ pub fn member_without_a_number(alloc: Global) -> Result<Vec<Token<'static>>, All
     ];
     meant_tokens(alloc, &tokens, 9)
 }
+
+/// `float x;`: four bytes.
+pub fn four_bytes(alloc: Global) -> Result<Vec<Token<'static>>, AllocError>
+    ensures { IfOk result (λ v. all_placed v.items ≡
+        record { token = Word Keyword.Typedef; left = 8 } ∷ record { token = Word Keyword.Opaque; left = 8 } ∷
+        record { token = Name (codes "float"); left = 8 } ∷ record { token = Sign Mark.OpenBracket; left = 8 } ∷
+        record { token = Number (pos 4); left = 8 } ∷ record { token = Sign Mark.CloseBracket; left = 8 } ∷
+        record { token = Sign Mark.Semicolon; left = 8 } ∷ record { token = Name (codes "float"); left = 8 } ∷
+        record { token = Name (codes "x"); left = 2 } ∷ record { token = Sign Mark.Semicolon; left = 1 } ∷ []) }
+{
+    let tokens = [
+        Token::Word(Keyword::Float, 8),
+        Token::Name("x", 2),
+        Token::Sign(Mark::Semicolon, 1),
+    ];
+    meant_tokens(alloc, &tokens, 8)
+}
+
+/// `int enum x;`: no kind stands behind another, and the tokens stay.
+pub fn no_kind_behind_another(alloc: Global) -> Result<Vec<Token<'static>>, AllocError>
+    ensures { IfOk result (λ v. all_placed v.items ≡
+        record { token = Word Keyword.Int; left = 11 } ∷ record { token = Word Keyword.Enum; left = 7 } ∷
+        record { token = Name (codes "x"); left = 2 } ∷ record { token = Sign Mark.Semicolon; left = 1 } ∷ []) }
+{
+    let tokens = [
+        Token::Word(Keyword::Int, 11),
+        Token::Word(Keyword::Enum, 7),
+        Token::Name("x", 2),
+        Token::Sign(Mark::Semicolon, 1),
+    ];
+    meant_tokens(alloc, &tokens, 11)
+}

@@ -1,0 +1,47 @@
+//! Names that stand for numbers.
+ghost use Rattle.std.specs.Prelude.{◌≡◌, IfOk, pos, codes, [], ◌∷◌};
+ghost use Rattle.xdr_tokens.specs.Tokens.{lexemes, Word, Name, Number, Sign};
+
+use std::alloc::{AllocError, Global};
+use xdr_aliases::resolved_tokens;
+use xdr_tokens::{Keyword, Mark, Token};
+
+/// `const A = B; B = 5`: A is 5.
+pub fn constant_by_a_name(alloc: Global) -> Result<Vec<Token<'static>>, AllocError>
+    ensures { IfOk result (λ v. lexemes v.items ≡
+        Word Keyword.Const ∷ Name (codes "A") ∷ Sign Mark.Equal ∷ Number (pos 5) ∷ Sign Mark.Semicolon ∷
+        Name (codes "B") ∷ Sign Mark.Equal ∷ Number (pos 5) ∷ []) }
+{
+    let tokens = [
+        Token::Word(Keyword::Const, 18),
+        Token::Name("A", 12),
+        Token::Sign(Mark::Equal, 10),
+        Token::Name("B", 8),
+        Token::Sign(Mark::Semicolon, 7),
+        Token::Name("B", 5),
+        Token::Sign(Mark::Equal, 3),
+        Token::Number(5, 1),
+    ];
+    resolved_tokens(alloc, &tokens)
+}
+
+/// `B = 5, B = 6; A = B;`: where some name has two numbers, none stands for one.
+pub fn name_with_two_numbers(alloc: Global) -> Result<Vec<Token<'static>>, AllocError>
+    ensures { IfOk result (λ v. lexemes v.items ≡
+        Name (codes "B") ∷ Sign Mark.Equal ∷ Number (pos 5) ∷ Name (codes "B") ∷ Sign Mark.Equal ∷ Number (pos 6) ∷
+        Name (codes "A") ∷ Sign Mark.Equal ∷ Name (codes "B") ∷ Sign Mark.Semicolon ∷ []) }
+{
+    let tokens = [
+        Token::Name("B", 20),
+        Token::Sign(Mark::Equal, 18),
+        Token::Number(5, 16),
+        Token::Name("B", 13),
+        Token::Sign(Mark::Equal, 11),
+        Token::Number(6, 9),
+        Token::Name("A", 6),
+        Token::Sign(Mark::Equal, 4),
+        Token::Name("B", 2),
+        Token::Sign(Mark::Semicolon, 1),
+    ];
+    resolved_tokens(alloc, &tokens)
+}
