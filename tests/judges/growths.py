@@ -350,7 +350,8 @@ def registry_rows():
 def text_rows():
     for number, text in enumerate(TEXTS):
         begins = "ok" if number < 8 else "declaration refused: "
-        yield Case("read", text=text), lambda told, begins=begins: told.answer.startswith(begins)
+        for engine in ("read", "read_tokens"):
+            yield Case(engine, text=text), lambda told, begins=begins: told.answer.startswith(begins)
     for engine, text in (("tokens", FILE), ("read_outline", FILE), ("read_outline", PING), ("directory_schema", b"")):
         yield Case(engine, text=text), lambda told: not told.answer.startswith(("refused", "out of memory"))
 

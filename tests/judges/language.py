@@ -1,4 +1,5 @@
 """Texts of declarations that are read, and what they declare (RFC 4506 section 6, RFC 5531 section 12)."""
+import itertools
 import re
 
 from rows.language import (
@@ -20,6 +21,7 @@ from rows.shared import Case, DIRECTORY
 
 from .codec import shown_so
 from .directory import has_types
+from .refused_texts import refused_text_cases
 from .written import constants_of, is_read, same_answers
 
 
@@ -127,3 +129,12 @@ def read_text_cases():
     yield from directory_cases()
     for row in SHOWN:
         yield from shown_so(*row)
+
+
+def by_tokens_cases():
+    """The same texts, and those that are refused, by their tokens."""
+    for case, is_well in itertools.chain(refused_text_cases(), read_text_cases()):
+        if case.call == "read":
+            yield case._replace(call="read_tokens"), is_well
+        elif case.call == "directory_schema":
+            yield case, is_well

@@ -1,8 +1,8 @@
 //! An item that was changed: whether a writer says of it, and of the items before it, what a checker says of their
 //! bytes.
-use crate::values::Asked;
 use rand_pcg::Pcg32;
 use std::alloc::Global;
+use test_lines::asked::Asked;
 use test_random::{below, unit};
 use xdr_codec::{Checker, Progress};
 use xdr_types::NoMemory;

@@ -1,16 +1,17 @@
 //! Datagrams over a port in memory, of which the receive or send of number `port-fails` fails. `serve_datagrams` serves
 //! `count` of them and then `count-again`, `datagrams_on` serves `count`, `exchange_datagram` exchanges the null call
 //! of version 2 with xid 1, and `info_datagram` asks a registry in a version.
-use crate::case::{Case, allow};
 use crate::printed::{datagrams as datagrams_words, exchanged as exchanged_words};
-use crate::registry::{after_word, null_call, prepared, started};
-use crate::reported::Report;
+use crate::registry::null_call;
 use crate::task::streams;
 use oncrpc_service::{datagrams_on, info_datagram};
 use rpc_engine::{MemoryPort, exchange_datagram, serve_datagrams};
 use std::alloc::Global;
 use std::env::Env;
 use test_growths::bytes;
+use test_lines::case::{Case, allow};
+use test_lines::reported::Report;
+use test_lines::served::{after_word, prepared, started};
 use xdr_io::MemorySink;
 
 /// Reports the case.

@@ -2,13 +2,14 @@
 //! started. What refuses a growth stands in each call.
 ghost use Rattle.std.specs.Prelude.{◌≤◌, length};
 
-use crate::case::{Case, allow};
-use crate::registry::{Registry, rows};
-use crate::reported::Report;
+use crate::registry::rows;
 use rpc_directory::{Directory, NoMemory, Row, Uaddr, read_uaddr, write_uaddr};
 use std::alloc::Global;
 use std::env::Env;
 use std::hash::BuildHasherDefault;
+use test_lines::case::{Case, allow};
+use test_lines::reported::Report;
+use test_lines::served::Registry;
 use xdr_types::Value;
 
 // What a call answers.

@@ -1,6 +1,6 @@
 //! The items of a value: as a case names them, and as a value's tree and its schema have them (RFC 4506 section 4).
-use crate::case::{Case, digits};
 use std::alloc::Global;
+use test_lines::case::{Case, digits};
 use xdr_types::{Arm, Kind, KindId, Member, NoMemory, Schema, Value};
 use xdr_writer::Item;
 

@@ -1,16 +1,15 @@
 //! The language of declarations, over the text alone: `tokens`; `read_outline`, how many constants, kinds, types and
-//! programs its definitions declare; `read`, what it means; and `directory_schema`, the schema of the registry, of no
-//! text.
-use crate::case::{Case, allow};
-use crate::declared::{constants, kinds, names, programs};
-use crate::reported::Report;
+//! programs its definitions declare; `read`, what it means, and `read_tokens`, what its tokens mean; and
+//! `directory_schema`, the schema of the registry, of no text.
 use rpc_directory::directory_schema;
 use std::alloc::Global;
 use std::env::Env;
+use test_lines::case::{Case, allow};
+use test_lines::declared::{meaning_words, schema_words};
+use test_lines::reported::Report;
 use xdr_grammar::read_outline;
-use xdr_lang::{Declared, LangFault, read};
+use xdr_lang::{Declared, LangFault, located, read, read_tokens};
 use xdr_tokens::{Fault, Token, tokens};
-use xdr_types::Schema;
 
 /// Reports the case.
 pub fn call(out: &mut Report, rt: &impl Env, case: &Case<'_>) {
@@ -75,6 +74,14 @@ fn all_tokens(out: &mut Report, rt: &impl Env, case: &Case<'_>, text: &[u8]) {
     out.end();
 }
 
+// What the tokens of a text mean.
+fn by_tokens(alloc: Global, text: &[u8]) -> Result<Declared, LangFault> {
+    match tokens(alloc, text) {
+        Ok(found) => read_tokens(alloc, text, &found),
+        Err(fault) => Err(located(text, fault)),
+    }
+}
+
 // How many constants, kinds, types and programs the text declares.
 fn counted(alloc: Global, text: &[u8]) -> Result<[usize; 4], Fault> {
     let found = tokens(alloc, text)?;
@@ -107,16 +114,6 @@ fn outline(out: &mut Report, rt: &impl Env, case: &Case<'_>, text: &[u8]) {
     out.end();
 }
 
-// The kinds of a schema and their names.
-fn schema_words(out: &mut Report, schema: &Schema) {
-    out.begin(" kinds=");
-    kinds(out, schema);
-    out.end();
-    out.begin(" names=");
-    names(out, schema);
-    out.end();
-}
-
 fn own_schema(out: &mut Report, rt: &impl Env, case: &Case<'_>) {
     let before = case.refuse(rt);
     let answer = directory_schema(case.alloc);
@@ -130,39 +127,11 @@ fn own_schema(out: &mut Report, rt: &impl Env, case: &Case<'_>) {
     }
 }
 
-// A fault as the program prints it. An allocation failure has the number 13.
-fn refused(out: &mut Report, fault: LangFault) {
-    out.number("declaration refused: ", u64::from(fault.number));
-    if fault.inner > 0 {
-        out.number(" (", u64::from(fault.inner));
-        out.text(")");
-    }
-    out.number(" at ", fault.line as u64);
-    out.number(":", fault.column as u64);
-    out.end();
-}
-
-// All that a text declares.
-fn declared_words(out: &mut Report, declared: &Declared) {
-    schema_words(out, &declared.schema);
-    out.begin(" constants=");
-    constants(out, &declared.constants);
-    out.end();
-    out.begin(" programs=");
-    programs(out, &declared.programs);
-    out.end();
-}
-
 fn meaning(out: &mut Report, rt: &impl Env, case: &Case<'_>, text: &[u8]) {
     let before = case.refuse(rt);
-    let answer = read(case.alloc, text);
-    out.answer(allow(rt, before));
-    match &answer {
-        Ok(declared) => {
-            out.text("ok");
-            out.end();
-            declared_words(out, declared);
-        }
-        Err(fault) => refused(out, *fault),
-    }
+    let answer = match case.call() {
+        "read_tokens" => by_tokens(case.alloc, text),
+        _ => read(case.alloc, text),
+    };
+    meaning_words(out, allow(rt, before), &answer);
 }

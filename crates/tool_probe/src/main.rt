@@ -2,19 +2,17 @@
 //! fail, and a line tells what it answered. `tests/run` and `bench/fuzz` write such lines and judge what is reported,
 //! and `tests/README.md` says how they are written. Without a line nothing is called.
 //!
-//! `case` reads what is asked for, `reported` writes the line of what is answered, and `printed` and `declared` have
-//! the words of answers. Each other module makes the calls of one subject:
-//! - `values`: values of a kind. `writer`: values written item by item. `items`: the items of a value. `changed`: one
-//!   that was changed. `random`: random values of random schemas.
+//! `test_lines` reads what is asked for and writes the line of what is answered, and `printed` has the words of
+//! answers. Each other module makes the calls of one subject:
+//! - `values`: values of a kind. `writer`: values written item by item; `sinking`: into a sink. `items`: the items of a
+//!   value. `changed`: one that was changed. `random`: random values of random schemas.
 //! - `language`: texts of declarations. `task`: tasks of the program. `program`: its network engines.
 //! - `records`: streams of records. `messages`: messages. `registry`: the registry served. `directory`: its calls, one
 //!   after another. `datagrams`: datagrams over a port in memory.
 #![tactic(auto)]
 
-mod case;
 mod changed;
 mod datagrams;
-mod declared;
 mod directory;
 mod items;
 mod language;
@@ -24,15 +22,15 @@ mod program;
 mod random;
 mod records;
 mod registry;
-mod reported;
+mod sinking;
 mod task;
 mod values;
 mod writer;
 
-use case::Case;
-use reported::Report;
 use std::io::{self, BufRead, BufReader, BufWriter, Write};
 use std::process::ExitCode;
+use test_lines::case::Case;
+use test_lines::reported::Report;
 
 // Makes the call of a case, and reports how many growths of memory it met and what it answered.
 fn call(out: &mut Report, rt: &HostRuntime, case: &Case<'_>) {
@@ -47,7 +45,9 @@ fn call(out: &mut Report, rt: &HostRuntime, case: &Case<'_>) {
         }
         "serve" | "answer" | "append_answer" | "exchange" | "dump" => registry::call(out, rt, case),
         "read_call" | "read_reply" | "read_auth_sys" => messages::call(out, rt, case),
-        "tokens" | "read_outline" | "read" | "directory_schema" => language::call(out, rt, case),
+        "tokens" | "read_outline" | "read" | "read_tokens" | "directory_schema" => language::call(
+            out, rt, case,
+        ),
         "random_values" => random::call(out, case),
         _ => values::call(out, rt, case),
     }

@@ -1,14 +1,14 @@
 //! Messages of RPC: the input as `read_call`, `read_reply` or `read_auth_sys` reads it, and what was read written
 //! again, a reply behind `front`.
-use crate::case::{Case, allow};
 use crate::printed::{auth, reply as reply_words, reply_fault};
-use crate::reported::Report;
 use rpc_message::{
     AuthSys, Call, CallRead, NoMemory, Reply, append_reply, read_auth_sys, read_call, read_reply,
     write_auth_sys, write_call, write_reply,
 };
 use std::alloc::Global;
 use std::env::Env;
+use test_lines::case::{Case, allow};
+use test_lines::reported::Report;
 
 /// Reports the case.
 pub fn call(out: &mut Report, rt: &impl Env, case: &Case<'_>) {

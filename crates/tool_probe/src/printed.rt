@@ -1,18 +1,10 @@
 //! What the calls answer, in the words that the program prints where it prints them.
-use crate::reported::Report;
 use rpc_engine::{ClientFault, DatagramFault, ServeFault, Served};
 use rpc_message::{OpaqueAuth, Reply, ReplyFault, Status, Why};
 use rpc_record::{RecordFault, RecordStep};
-use xdr_codec::{DecodeFault, Progress, Reason};
-
-/// Why bytes are refused, and where.
-pub fn refusal(out: &mut Report, fault: DecodeFault) {
-    match fault.why {
-        Reason::NoMemory => out.text("out of memory"),
-        why => out.name("refused ", &why),
-    }
-    out.number(" at ", fault.at as u64);
-}
+use test_lines::lent::refusal;
+use test_lines::reported::Report;
+use xdr_codec::{DecodeFault, Progress};
 
 /// How far a decoder or a checker has come.
 pub fn progress(out: &mut Report, answer: Result<Progress, DecodeFault>) {

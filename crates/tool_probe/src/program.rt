@@ -3,12 +3,12 @@
 //! stands for none.
 ghost use Rattle.std.specs.Prelude.{◌<◌};
 
-use crate::case::{Case, allow};
-use crate::registry::started;
-use crate::reported::Report;
 use crate::task::{buffer_for, streams};
 use oncrpc_service::{AcceptFault, Listener, info_over, serve_on};
 use std::env::Env;
+use test_lines::case::{Case, allow};
+use test_lines::reported::Report;
+use test_lines::served::started;
 use xdr_io::{MemorySink, MemorySource, Sink, SinkFault};
 
 /// Reports the case.

@@ -1,12 +1,12 @@
 //! Random values of random schemas, which a seed makes (`random_values`): a writer writes of their items what `encode`
 //! writes of them, and within other limits it says of an item that was changed what a checker says of its bytes.
-use crate::case::Case;
 use crate::changed::{Written, is_changed_alike};
 use crate::items::push_items;
-use crate::reported::Report;
-use crate::values::Asked;
 use rand_pcg::Pcg32;
 use std::alloc::Global;
+use test_lines::asked::Asked;
+use test_lines::case::Case;
+use test_lines::reported::Report;
 use test_random::{input, limits, made, schema};
 use xdr_codec::{decode, encode};
 use xdr_types::{KindId, Schema, Value, fits};

@@ -2,13 +2,13 @@
 //! of a case on one reader, `mark` and `write_marked`.
 ghost use Rattle.std.specs.Prelude.{◌≤◌};
 
-use crate::case::{Case, allow};
 use crate::printed::{ended, record_fault, step};
-use crate::reported::Report;
 use crate::values::bytes_words;
 use rpc_record::{RecordFault, RecordReader, RecordStep, mark, normalise, write_marked};
 use std::alloc::Global;
 use std::env::Env;
+use test_lines::case::{Case, allow};
+use test_lines::reported::Report;
 use xdr_io::{MemorySink, MemorySource};
 
 /// Reports the case.

@@ -5,30 +5,20 @@
 ghost use Rattle.std.specs.Prelude.{◌≡◌, []};
 ghost use Rattle.rpc_message.specs.View.{auth_view, call_view};
 
-use crate::case::{Case, allow};
 use crate::printed::{exchanged as exchanged_words, served as served_words};
-use crate::reported::Report;
 use registry_answer::{Answered, Appended, Transport, answer, append_answer};
 use rpc_directory::{Directory, NoMemory, directory_schema};
 use rpc_engine::{exchange, serve};
 use rpc_message::{Call, OpaqueAuth};
 use std::alloc::Global;
 use std::env::Env;
-use std::hash::{BuildHasherDefault, DefaultHasher};
+use std::hash::BuildHasherDefault;
+use test_lines::case::{Case, allow};
+use test_lines::reported::Report;
+use test_lines::served::{Registry, after_word, prepared};
 use xdr_codec::encode;
-use xdr_io::{IntoWrite, MemorySink, MemorySource};
+use xdr_io::{MemorySink, MemorySource};
 use xdr_types::{Limits, Schema, Value, fits};
-
-/// A registry whose order is the same in each run.
-pub type Registry = Directory<BuildHasherDefault<DefaultHasher>>;
-
-/// A registry at port 111 with its own rows alone; without rows where memory is refused.
-pub fn started(alloc: Global) -> Registry {
-    match Directory::start(alloc, BuildHasherDefault::new(), 111) {
-        Ok(directory) => directory,
-        Err(_) => Directory::new(alloc, BuildHasherDefault::new()),
-    }
-}
 
 /// Reports the case.
 pub fn call(out: &mut Report, rt: &impl Env, case: &Case<'_>) {
@@ -40,28 +30,6 @@ pub fn call(out: &mut Report, rt: &impl Env, case: &Case<'_>) {
         "exchange" => exchanged(out, rt, case, &input),
         _ => dumped(out, rt, case),
     }
-}
-
-// What is written where a stream is served and nothing fails.
-fn serve_whole(alloc: Global, directory: &mut Registry, input: &[u8]) -> Vec<u8> {
-    let mut written = Vec::new(alloc);
-    let mut source = MemorySource::new(input, 4096, None);
-    let mut sink = IntoWrite::new(&mut written);
-    let _served = serve(alloc, &mut source, &mut sink, directory, Transport::Tcp);
-    written
-}
-
-/// A registry that was served what comes before the call.
-pub fn prepared(case: &Case<'_>) -> Registry {
-    let mut directory = started(case.alloc);
-    let _written = serve_whole(case.alloc, &mut directory, &case.bytes("before"));
-    directory
-}
-
-/// What the registry, with all its memory, writes afterwards for the stream of the case.
-pub fn after_word(out: &mut Report, directory: &mut Registry, case: &Case<'_>) {
-    let written = serve_whole(case.alloc, directory, &case.bytes("after"));
-    out.digits(" after=", &written);
 }
 
 fn served(out: &mut Report, rt: &impl Env, case: &Case<'_>, input: &[u8]) {

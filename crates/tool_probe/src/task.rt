@@ -1,11 +1,11 @@
 //! Tasks of the program over memory: `Task::Check`, `Task::Show` and `Task::Records`. Where `types` names a file, that
 //! of the name `a.x` has the text of the case.
-use crate::case::{Case, allow};
-use crate::reported::Report;
 use oncrpc_answers::{RecordsTask, Task, ValueTask};
 use oncrpc_tasks::{MemoryOpener, task_over};
 use std::alloc::Global;
 use std::env::Env;
+use test_lines::case::{Case, allow};
+use test_lines::reported::Report;
 use xdr_io::{MemorySink, MemorySource};
 
 // The file of declarations that is named, if one is.

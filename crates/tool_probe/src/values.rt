@@ -2,13 +2,16 @@
 //! over the input; `Decoder::feed`, both of them fed three pieces, cut at `first` and `second`, and `Decoder::held`,
 //! what they hold between these; `Decoder::finish`, both of them ended before they are fed anything; `encode`,
 //! `encode_to`, `show` and `Value::copy` of the value that begins the input. `writer` has the calls of values that
-//! are written, and what comes next. `void` is the kind without a value's bytes, which no text names.
-use crate::case::{Case, allow, since};
-use crate::printed::{counted, progress, refusal};
-use crate::reported::Report;
+//! are written, and what comes next.
+use crate::printed::{counted, progress};
+use crate::sinking;
 use crate::writer::{awaited, put_named, put_value};
 use std::env::Env;
 use test_growths::held;
+use test_lines::asked::{Asked, asked_of};
+use test_lines::case::{Case, allow, since};
+use test_lines::lent::{part_words, refusal};
+use test_lines::reported::Report;
 use xdr_codec::{
     Checker, DecodeFault, Decoder, Held, Lent, Progress, WriteFault, decode, encode, encode_to,
     parts,
@@ -16,15 +19,7 @@ use xdr_codec::{
 use xdr_io::MemorySink;
 use xdr_lang::{Declared, read};
 use xdr_show::show;
-use xdr_types::{KindId, Limits, NoMemory, Schema, Value, fits};
-
-/// What is asked for: a kind of a schema, within limits.
-#[derive(Clone, Copy)]
-pub struct Asked<'a> {
-    pub schema: &'a Schema,
-    pub kind: KindId,
-    pub limits: Limits,
-}
+use xdr_types::{NoMemory, Value, fits};
 
 /// Reports the case.
 pub fn call(out: &mut Report, rt: &impl Env, case: &Case<'_>) {
@@ -34,27 +29,11 @@ pub fn call(out: &mut Report, rt: &impl Env, case: &Case<'_>) {
     }
 }
 
-// The kind of a case.
-fn kind_of(case: &Case<'_>, declared: &Declared) -> Option<KindId> {
-    match case.word("kind") {
-        "void" => Some(KindId { place: 5 }),
-        name => declared.kind(name),
-    }
-}
-
 // Reports the case with its declarations.
 fn of_text(out: &mut Report, rt: &impl Env, case: &Case<'_>, declared: &Declared) {
-    match (kind_of(case, declared), case.limits()) {
-        (Some(kind), Some(limits)) => {
-            let schema = &declared.schema;
-            let asked = Asked {
-                schema,
-                kind,
-                limits,
-            };
-            over(out, rt, case, &asked, &case.input());
-        }
-        _ => out.text("no kind or no limits"),
+    match asked_of(case, declared) {
+        Some(asked) => over(out, rt, case, &asked, &case.input()),
+        None => out.text("no kind or no limits"),
     }
 }
 
@@ -69,6 +48,7 @@ fn over(out: &mut Report, rt: &impl Env, case: &Case<'_>, asked: &Asked<'_>, inp
         "Decoder::held" => retained(out, case, asked, input),
         "Checker::due" => awaited(out, case, asked, input),
         "Writer" => put_named(out, rt, case, asked),
+        "Writer::put_to" => sinking::put_named(out, rt, case, asked),
         _ => of_bytes(out, rt, case, asked, input),
     }
 }
@@ -125,17 +105,6 @@ fn decoded(out: &mut Report, rt: &impl Env, case: &Case<'_>, asked: &Asked<'_>, 
             out.word(" value=", &[]);
         }
     }
-}
-
-// A part: its place, its depth, its kind, its name, what stands in it, and its bytes.
-fn part_words(out: &mut Report, part: &Lent<'_>) {
-    out.number("", part.at as u64);
-    out.number(" ", u64::from(part.depth));
-    out.number(" ", u64::from(part.kind.place));
-    out.text(" ");
-    out.text(if part.name.is_empty() { "-" } else { part.name });
-    out.name(" ", &part.role);
-    out.digits(" ", part.bytes);
 }
 
 fn parts_words(out: &mut Report, parts: &[Lent<'_>]) {

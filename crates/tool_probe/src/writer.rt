@@ -1,13 +1,14 @@
 //! A value's encoding, written item by item: of the items that a case has (`Writer`), or of those of the value that
 //! begins the input (`Writer::put`), behind `front`. And what comes next (`Checker::due`), before the input and behind
 //! each piece of it.
-use crate::case::{Case, allow, joined, since};
 use crate::items::{case_items, items_of, push_items};
-use crate::printed::{progress, refusal};
-use crate::reported::Report;
-use crate::values::Asked;
+use crate::printed::progress;
 use std::env::Env;
 use test_growths::held;
+use test_lines::asked::Asked;
+use test_lines::case::{Case, allow, joined, since};
+use test_lines::lent::refusal;
+use test_lines::reported::Report;
 use xdr_codec::{Checker, DecodeFault, Due, Reason};
 use xdr_types::Value;
 use xdr_writer::{Item, Step, Why, WriteRefusal, Writer};
@@ -20,8 +21,8 @@ fn fault_words(out: &mut Report, fault: DecodeFault) {
     }
 }
 
-// Why an item is refused, and how many were taken before it.
-fn refusal_words(out: &mut Report, refused: WriteRefusal) {
+/// Why an item is refused, and how many were taken before it.
+pub fn refusal_words(out: &mut Report, refused: WriteRefusal) {
     match refused.why {
         Why::Refused(fault) => fault_words(out, fault),
         Why::NoMemory => out.text("out of memory"),
@@ -39,7 +40,8 @@ fn step_words(out: &mut Report, answer: Result<Step, WriteRefusal>) {
     out.text("; ");
 }
 
-fn end_words(out: &mut Report, answer: Result<u32, WriteRefusal>) {
+/// What is answered to the end.
+pub fn end_words(out: &mut Report, answer: Result<u32, WriteRefusal>) {
     match answer {
         Ok(count) => out.number("ok ", u64::from(count)),
         Err(refused) => refusal_words(out, refused),
