@@ -15,18 +15,22 @@ _oncrpc() {
         case $before in
         --name) mapfile -t COMPREPLY < <(compgen -W "int unsigned hyper unsigned-hyper bool opaque string" -- "$word") ;;
         --types) compopt -o filenames && mapfile -t COMPREPLY < <(compgen -f -- "$word") ;;
+        --dialect) mapfile -t COMPREPLY < <(compgen -W "rpcgen" -- "$word") ;;
+        --define) : ;;
         --depth) : ;;
         --bytes) : ;;
-        *) mapfile -t COMPREPLY < <(compgen -W "--name --types --hex --depth --bytes --help" -- "$word") ;;
+        *) mapfile -t COMPREPLY < <(compgen -W "--name --types --dialect --define --hex --depth --bytes --help" -- "$word") ;;
         esac
         ;;
     show)
         case $before in
         --name) mapfile -t COMPREPLY < <(compgen -W "int unsigned hyper unsigned-hyper bool opaque string" -- "$word") ;;
         --types) compopt -o filenames && mapfile -t COMPREPLY < <(compgen -f -- "$word") ;;
+        --dialect) mapfile -t COMPREPLY < <(compgen -W "rpcgen" -- "$word") ;;
+        --define) : ;;
         --depth) : ;;
         --bytes) : ;;
-        *) mapfile -t COMPREPLY < <(compgen -W "--name --types --hex --depth --bytes --help" -- "$word") ;;
+        *) mapfile -t COMPREPLY < <(compgen -W "--name --types --dialect --define --hex --depth --bytes --help" -- "$word") ;;
         esac
         ;;
     records)

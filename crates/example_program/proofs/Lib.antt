@@ -9,4 +9,5 @@ pub mod Asks
 pub mod Answered
 pub mod Normalised
 pub mod Arguments
+pub mod Sourced
 pub mod Endings

@@ -1,16 +1,18 @@
 //! Tasks as the words ask for them, with the texts of declarations that they name.
-ghost use Rattle.std.specs.Prelude.{◌≡◌, ◌≢◌, ◌<◌, ◌≤◌, ◌∷◌, [], ℕ, List, None, Some, IfSome, string_bytes, true};
-ghost use Rattle.std.specs.Prelude.{length};
+ghost use Rattle.std.specs.Prelude.{◌≡◌, ◌≢◌, ◌<◌, ◌≤◌, ◌++◌, ◌∷◌, [], ℕ, List, None, Some, IfSome, map, true};
+ghost use Rattle.std.specs.Prelude.{length, string_bytes};
 ghost use Rattle.xdr_io.specs.Reported.{CountsAtMost};
 ghost use Rattle.xdr_types.specs.Named.{place_named};
 ghost use Rattle.xdr_types.specs.Within.{AreBounds};
 ghost use Rattle.oncrpc_names.specs.Names.{IsPartName, name_text};
 ghost use Rattle.oncrpc_names.specs.declared.reading.Part.TheVariants.{Argument};
 ghost use Rattle.oncrpc_names.specs.declared.reading.PartName.{PartName};
+ghost use Rattle.oncrpc_answers.specs.declared.task.Dialect.TheVariants.{Rfc, Rpcgen};
 ghost use Rattle.oncrpc_kinds.specs.Naming.{Names};
 ghost use Rattle.oncrpc_tasks.specs.Sources.{bare};
 ghost use Rattle.xdr_lang.specs.Declarations.{Declared, Procedure, procedure_of_program};
 ghost use Rattle.xdr_lang.specs.Means.{Means};
+ghost use Rattle.xdr_rpcgen.specs.DialectMeans.{DialectMeans};
 
 use oncrpc_answers::{Task, ValueTask};
 use oncrpc_tasks::{MemoryOpener, Opener, task_over};
@@ -40,13 +42,14 @@ pub fn the_name_is_looked_up<P: Opener, I: Source, O: Sink, F: Sink>(
     output: &mut O,
     faults: &mut F,
 ) -> u8
-    requires { what.types ≡ None }
+    requires { what.types.files.items ≡ [] }
     ensures { result ≤ 1 → (place : ℕ) × Names (string_bytes what.name) bare place }
 {
     task_over(alloc, &Task::Check(what), opener, input, output, faults)
 }
 
-/// Where a file is named, a task that is done has a text that means something; the basic kinds alone do not serve.
+/// Where a file is named, a task that is done has a text that means something in the RFCs' language; the basic kinds
+/// alone do not serve.
 pub fn a_named_file_declares<P: Opener, I: Source, O: Sink, F: Sink>(
     alloc: Global,
     what: ValueTask,
@@ -56,11 +59,52 @@ pub fn a_named_file_declares<P: Opener, I: Source, O: Sink, F: Sink>(
     output: &mut O,
     faults: &mut F,
 ) -> u8
-    requires { what.types ≡ Some file.now }
+    requires files { what.types.files.items ≡ file.now ∷ [] }
+    requires dialect { what.types.dialect ≡ Rfc }
     ensures { result ≤ 1
         → IfSome (P.reported opener.old (string_bytes file.now)) (λ text. (d : Declared) × Means text d) }
 {
     task_over(alloc, &Task::Show(what), opener, input, output, faults)
+}
+
+/// Two files are one text in their order, with a line feed between them: that means something where a task is done.
+pub fn two_files_are_one_text<P: Opener, I: Source, O: Sink, F: Sink>(
+    alloc: Global,
+    what: ValueTask,
+    names: (&String, &String),
+    opener: &mut P,
+    input: &mut I,
+    output: &mut O,
+    faults: &mut F,
+) -> u8
+    requires files { what.types.files.items ≡ names.0.now ∷ names.1.now ∷ [] }
+    requires dialect { what.types.dialect ≡ Rfc }
+    ensures { result ≤ 1 → (first second : List ℕ)
+        → P.reported opener.old (string_bytes names.0.now) ≡ Some first
+        → P.reported opener.old (string_bytes names.1.now) ≡ Some second
+        → (d : Declared) × Means (first ++ 10 ∷ second) d }
+{
+    task_over(alloc, &Task::Show(what), opener, input, output, faults)
+}
+
+/// Where rpcgen's dialect is asked for, a task that is done has a text that means something in it, with the names that
+/// are defined; the RFCs' language does not serve.
+pub fn the_dialect_is_read<P: Opener, I: Source, O: Sink, F: Sink>(
+    alloc: Global,
+    what: ValueTask,
+    file: &String,
+    defined: &Vec<String>,
+    opener: &mut P,
+    input: &mut I,
+    output: &mut O,
+    faults: &mut F,
+) -> u8
+    requires files { what.types.files.items ≡ file.now ∷ [] }
+    requires dialect { what.types.dialect ≡ Rpcgen defined.now }
+    ensures { result ≤ 1 → IfSome (P.reported opener.old (string_bytes file.now))
+        (λ text. (d : Declared) × DialectMeans (map string_bytes defined.now.items) text d) }
+{
+    task_over(alloc, &Task::Check(what), opener, input, output, faults)
 }
 
 /// Arguments are counted from 1: the only argument of a procedure has the number 1, and a task that names it is done.
@@ -73,7 +117,7 @@ pub fn arguments_count_from_1<P: Opener, I: Source, O: Sink, F: Sink>(
     output: &mut O,
     faults: &mut F,
 ) -> u8
-    requires types { what.types ≡ Some file.now }
+    requires types { (what.types.files.items ≡ file.now ∷ []) × (what.types.dialect ≡ Rfc) }
     requires limits { AreBounds what.depth what.bytes }
     requires only { (text : List ℕ) × (d : Declared) × (name : PartName) × (p : Procedure) × (place : ℕ)
         × (P.reported opener.old (string_bytes file.now) ≡ Some text) × Means text d

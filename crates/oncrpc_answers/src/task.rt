@@ -16,14 +16,32 @@ pub enum Task {
 pub struct ValueTask {
     /// The name of its kind.
     pub name: String,
-    /// The name of the text that declares it; none for the basic kinds alone.
-    pub types: Option<String>,
+    /// The texts that declare it.
+    pub types: Texts,
     /// Whether the input is a text of hexadecimal.
     pub hex: bool,
     /// The limit on depth.
     pub depth: u32,
     /// The limit on bytes.
     pub bytes: u32,
+}
+
+/// Texts of declarations.
+#[derive(PartialEq, Eq, Drop)]
+pub struct Texts {
+    /// Their names, in the order in which they are one text. Without any there are the basic kinds alone.
+    pub files: Vec<String>,
+    /// The language that they are in.
+    pub dialect: Dialect,
+}
+
+/// The language of texts of declarations.
+#[derive(PartialEq, Eq, Drop)]
+pub enum Dialect {
+    /// That of the RFCs.
+    Rfc,
+    /// That of rpcgen, for whose lines `#ifdef` these names are defined.
+    Rpcgen(Vec<String>),
 }
 
 /// Records to be read from the input.

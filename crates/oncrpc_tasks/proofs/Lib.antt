@@ -1,9 +1,11 @@
 pub mod Begins
 pub mod Questions
-pub mod Texts
+pub mod Reported
 pub mod Counts
 pub mod Failed
+pub mod Gathering
 pub mod Judging
+pub mod Meaning
 pub mod Progress
 pub mod Rightly
 pub mod Showing

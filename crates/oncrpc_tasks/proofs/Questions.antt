@@ -8,7 +8,7 @@ use Rattle.xdr_types.specs.declared.kind.KindId.{KindId}
 use Rattle.xdr_lang.specs.Declarations.{Declared}
 use Rattle.oncrpc_answers.specs.declared.task.ValueTask.{ValueTask}
 use Rattle.oncrpc_kinds.specs.Naming.{Names}
-use Rattle.oncrpc_tasks.specs.Sources.{Declares, reported_text}
+use Rattle.oncrpc_tasks.specs.Sources.{Declares}
 use Rattle.oncrpc_tasks.specs.Tasks.{AsksNothing}
 
 not_there : (o : Option KindId) (p n : ℕ) → MatchOption o ⊥ (λ (k : KindId). k.place ≡ p) → MatchOption o ⊤
@@ -17,13 +17,13 @@ not_there None p n h missing known = h
 not_there (Some k) p n h missing known = missing (subst (λ (m : ℕ). m < n) (sym h) known)
 
 pub nothing_asked : (reported : List ℕ → Option (List ℕ)) (what : ValueTask) (d : Declared) (o : Option KindId)
-    → Declares (reported_text reported what.types) what.types d
+    → Declares reported what.types d
     → ((p : ℕ) → Names (string_bytes what.name) d p → MatchOption o ⊥ (λ (k : KindId). k.place ≡ p))
     → MatchOption o ⊤ (λ (k : KindId). k.place < length d.schema.kinds → ⊥) → AsksNothing reported what
 nothing_asked reported what d o declares only missing =
     record {
-      text = declares.text;
-      is_reported = declares.is_reported;
+      texts = declares.texts;
+      are_reported = declares.are_reported;
       none = λ shows q asks.
           let same : asks.declared ≡ d = declares.only asks.declared asks.source in
           let named : Names (string_bytes what.name) d q.place = subst

@@ -10,7 +10,7 @@ use Rattle.oncrpc_tasks.specs.Devices.{Reports}
 use Rattle.oncrpc_tasks.specs.Input.{most_read}
 use Rattle.oncrpc_tasks.specs.RecordsEnd.{RecordsEnd}
 use Rattle.oncrpc_tasks.specs.Right.{Question}
-use Rattle.oncrpc_tasks.specs.Sources.{IsReported, reported_text}
+use Rattle.oncrpc_tasks.specs.Sources.{AreReported}
 use Rattle.oncrpc_tasks.specs.Stopping.{ReadsUnsettled, LastRead, IsUnread, IsPlain}
 use Rattle.oncrpc_tasks.specs.Tasks.{Asks, AsksNothing}
 
@@ -54,13 +54,13 @@ pub record ValueEnds {I O F : Type 0} (q : Question) (hex : Bool) (reports : Rep
   pub bounded : MovesAtMost (most_read hex q.limits.bytes) (reports.left input) (reports.left input')
   pub stops : StopsReading q hex (reports.left input) (reports.left input') (reports.reads input) (reports.reads input')
 
--- The value that words ask for, by a text of declarations that is reported, was looked for.
+-- The value that words ask for, by texts of declarations that are reported, was looked for.
 pub record IsLookedFor {I O F : Type 0} (reported : List ℕ → Option (List ℕ)) (what : ValueTask) (shows : Bool)
     (reports : Reports I O) (input input' : I) (output output' : O) (faults faults' : F) (status : ℕ) : Type 0 where
-  pub text : List ℕ
-  pub is_reported : IsReported (reported_text reported what.types) text
+  pub texts : List (List ℕ)
+  pub are_reported : AreReported reported what.types.files.items texts
   pub question : Question
-  pub asked : Asks text what shows question
+  pub asked : Asks texts what shows question
   pub ends : ValueEnds question what.hex reports input input' output output' faults faults' status
 
 -- why nothing was looked for: 2 where nothing is asked, 3 where the declarations were not read, 4 where memory was

@@ -1,5 +1,5 @@
 -- What the words of a task ask for, and what doing it has done.
-use Rattle.std.specs.Prelude.{◌≡◌, ◌⊎◌, ℕ, ◌<◌, Bool, List, length, Option, None, String, string_bytes}
+use Rattle.std.specs.Prelude.{◌≡◌, ◌⊎◌, ℕ, ◌<◌, Bool, List, [], length, Option, String, string_bytes}
 use Rattle.std.specs.declared.alloc.Global.{Global}
 use Rattle.xdr_types.specs.Within.{AreBounds}
 use Rattle.xdr_lang.specs.Declarations.{Declared}
@@ -12,12 +12,13 @@ use Rattle.oncrpc_tasks.specs.declared.unusable.Unusable.{Unusable}
 use Rattle.oncrpc_tasks.specs.declared.unusable.Unusable.TheVariants as unusable
 use Rattle.oncrpc_kinds.specs.Naming.{Names}
 use Rattle.oncrpc_tasks.specs.Right.{Question}
-use Rattle.oncrpc_tasks.specs.Sources.{IsDeclared, IsReported, reported_text}
+use Rattle.oncrpc_tasks.specs.Sources.{AreReported, IsDeclared}
 
--- With this text of declarations the name has a kind, the question is of that kind, and the limits are in their ranges.
-pub record Asks (text : List ℕ) (what : ValueTask) (shows : Bool) (q : Question) : Type 0 where
+-- With these texts of declarations the name has a kind, the question is of that kind, and the limits are in their
+-- ranges.
+pub record Asks (texts : List (List ℕ)) (what : ValueTask) (shows : Bool) (q : Question) : Type 0 where
   pub declared : Declared
-  pub source : IsDeclared what.types text declared
+  pub source : IsDeclared what.types.dialect texts declared
   pub kinds : q.kinds ≡ declared.schema.kinds
   pub named : Names (string_bytes what.name) declared q.place
   pub known : q.place < length q.kinds
@@ -25,17 +26,17 @@ pub record Asks (text : List ℕ) (what : ValueTask) (shows : Bool) (q : Questio
   pub limits : q.limits ≡ record { depth = what.depth; bytes = what.bytes }
   pub lines : q.shows ≡ shows
 
--- No question is asked, by a text that is reported.
+-- No question is asked, by texts that are reported.
 pub record AsksNothing (reported : List ℕ → Option (List ℕ)) (what : ValueTask) : Type 0 where
-  pub text : List ℕ
-  pub is_reported : IsReported (reported_text reported what.types) text
-  pub none : (shows : Bool) (q : Question) → Asks text what shows q → ⊥
+  pub texts : List (List ℕ)
+  pub are_reported : AreReported reported what.types.files.items texts
+  pub none : (shows : Bool) (q : Question) → Asks texts what shows q → ⊥
 
--- The question is asked, by a text that is reported.
+-- The question is asked, by texts that are reported.
 pub record AsksFor (reported : List ℕ → Option (List ℕ)) (what : ValueTask) (target : Target) : Type 0 where
-  pub text : List ℕ
-  pub is_reported : IsReported (reported_text reported what.types) text
-  pub asked : (shows : Bool) → Asks text what shows
+  pub texts : List (List ℕ)
+  pub are_reported : AreReported reported what.types.files.items texts
+  pub asked : (shows : Bool) → Asks texts what shows
       (record { kinds = target.schema.kinds; place = target.kind.place; limits = target.limits; shows = shows })
 
 -- why there is no question: what the words say, a file that could not be read, or an allocation failure
@@ -43,8 +44,8 @@ abbrev pub HasNoQuestion : (List ℕ → Option (List ℕ)) → ValueTask → Un
 HasNoQuestion reported what (unusable.Failed f) = (f ≡ failure.Read) ⊎ (f ≡ failure.NoMemory)
 HasNoQuestion reported what _ = AsksNothing reported what
 
--- the file that the words name
-abbrev pub file_of : Task → Option (String Global)
-file_of (task.Check what) = what.types
-file_of (task.Show what) = what.types
-file_of (task.Records what) = None
+-- the files that the words name
+abbrev pub files_of : Task → List (String Global)
+files_of (task.Check what) = what.types.files.items
+files_of (task.Show what) = what.types.files.items
+files_of (task.Records what) = []

@@ -1,58 +1,72 @@
 //! The declarations in which a task's name is looked up.
-ghost use Rattle.std.specs.Prelude.{◌≡◌, IfOk, IfErr, IsErrOf, Some, string_bytes};
+ghost use Rattle.std.specs.Prelude.{◌≡◌, ℕ, List, IfOk, IfErr, IsErrOf};
+ghost use Rattle.xdr_lang.specs.Declarations.{Declared as DeclaredSpec};
 ghost use Rattle.xdr_lang.specs.Views.{declared_of};
-ghost use Rattle.oncrpc_tasks.specs.Sources.{bare, Declares, FileFails, HasNone, reported_text};
+ghost use Rattle.oncrpc_tasks.specs.Private.Gathered.{texts_bytes};
+ghost use Rattle.oncrpc_tasks.specs.Private.Meant.{DeclareNone, IsSame};
+ghost use Rattle.oncrpc_tasks.specs.Sources.{bare, Declares, FileFails, HasNone, IsDeclared};
 
+use super::meant::read_in;
 use super::open::Opener;
+use super::texts::{lent, texts_of};
 use super::unusable::Unusable;
-use oncrpc_answers::Failure;
+use oncrpc_answers::{Dialect, Failure, Texts};
 use std::alloc::Global;
-use xdr_io::read_past;
-use xdr_lang::{Declared, MAX_TEXT, read};
+use xdr_lang::{Declared, LangFault};
+use xdr_rpcgen::{join_texts, place_in};
 use xdr_types::{NoMemory, Schema};
 
-/// What the file's text declares, or the basic schema alone where no file is named. A text is read until more than
+/// What the files' texts declare as one, or the basic schema alone where no file is named. Each is read until more than
 /// 262144 bytes of it are there.
 pub fn declared<P: Opener>(
     alloc: Global,
-    types: &Option<String>,
+    types: &Texts,
     opener: &mut P,
 ) -> Result<Declared, Unusable>
-    // What is answered is what the text that is reported declares,
-    ensures declares { IfOk result (λ d.
-        Declares (reported_text (P.reported opener.old) types.now) types.now (declared_of d)) }
-    // a refusal says that it declares nothing,
-    ensures refused { IfErr result (λ why. HasNone (reported_text (P.reported opener.old) types.now) types.now why) }
-    // and the failure Read that it could not be read.
+    // What is answered is what the texts that are reported declare,
+    ensures declares { IfOk result (λ d. Declares (P.reported opener.old) types.now (declared_of d)) }
+    // a refusal says that they declare nothing,
+    ensures refused { IfErr result (λ why. HasNone (P.reported opener.old) types.now why) }
+    // and the failure Read that one could not be read.
     ensures failed { IsErrOf result (Unusable.Failed Failure.Read)
-        → FileFails P.Text.left P.Text.failures (P.reported opener.old) types.now
+        → FileFails P.Text.left P.Text.failures (P.reported opener.old) types.now.files.items
         (P.failures opener.old) (P.failures opener.new) }
 {
-    match types {
-        Some(file) => declared_in(alloc, file, opener),
-        None => Ok(bare(alloc)?),
+    let texts = texts_of(alloc, &types.files, opener)?;
+    declared_by(alloc, &types.dialect, &texts)
+}
+
+// What texts declare.
+fn declared_by(alloc: Global, dialect: &Dialect, texts: &[Vec<u8>]) -> Result<Declared, Unusable>
+    ensures found { IfOk result (λ d. IsDeclared dialect.now (texts_bytes texts.now) (declared_of d)) }
+    ensures only { (d : DeclaredSpec) → IsDeclared dialect.now (texts_bytes texts.now) d
+        → IfOk result (λ v. declared_of v ≡ d) }
+    ensures refused { IfErr result (λ why. DeclareNone dialect.now (texts_bytes texts.now) why) }
+{
+    if texts.is_empty() {
+        return Ok(bare(alloc)?);
+    }
+    let parts = lent(alloc, texts)?;
+    let whole = join_texts(alloc, &parts)?;
+    match read_in(alloc, dialect, &whole) {
+        Ok(declared) => Ok(declared),
+        Err(why) => Err(placed(&parts, why)),
     }
 }
 
-fn declared_in<P: Opener>(
-    alloc: Global,
-    file: &String,
-    opener: &mut P,
-) -> Result<Declared, Unusable>
-    ensures declares { IfOk result (λ d.
-        Declares (P.reported opener.old (string_bytes file.now)) (Some file.now) (declared_of d)) }
-    ensures refused { IfErr result (λ why.
-        HasNone (P.reported opener.old (string_bytes file.now)) (Some file.now) why) }
-    ensures failed { IsErrOf result (Unusable.Failed Failure.Read)
-        → FileFails P.Text.left P.Text.failures (P.reported opener.old) (Some file.now)
-        (P.failures opener.old) (P.failures opener.new) }
+// A fault of texts as one at its place in the text where it stands.
+fn placed(texts: &[&[u8]], why: Unusable) -> Unusable
+    ensures { IsSame why result }
 {
-    let mut source = opener.open(file)?;
-    let text = read_past(alloc, &mut source, MAX_TEXT)?;
-    match read(alloc, &text) {
-        Ok(declared) => Ok(declared),
-        Err(fault) if fault.number == 13 => Err(Unusable::Failed(Failure::NoMemory)),
-        Err(fault) => Err(Unusable::Declaration(fault)),
+    match why {
+        Unusable::Declaration { fault, .. } => {
+            let (file, line) = place_in(texts, fault.line);
+            Unusable::Declaration {
+                file,
+                fault: LangFault { line, ..fault },
+            }
+        }
+        Unusable::Name | Unusable::Limits | Unusable::Failed(_) => why,
     }
 }
 

@@ -1,7 +1,7 @@
 //! The engines of the program `oncrpc`, over readers and writers: what is printed, and the exit status.
 //!
-//! - `task`: how what the words ask for is done. `target`: the kind that they name. `declared`: the text that
-//!   declares it. `open`: how that text is opened. `unusable`: why words name nothing.
+//! - `task`: how what the words ask for is done. `target`: the kind that they name. `declared`: what declares it, the
+//!   `texts` of files as they are `meant`. `open`: how a text is opened. `unusable`: why words name nothing.
 //! - `check`: reads one value, and prints what the input holds. `question`: what is asked of the input. `judge`: judges
 //!   the bytes as they come.
 //! - `records`: writes a stream of records in its normal form.
@@ -13,11 +13,13 @@ mod declared;
 mod given;
 mod hexadecimal;
 mod judge;
+mod meant;
 mod open;
 mod question;
 mod records;
 mod target;
 mod task;
+mod texts;
 mod unusable;
 
 pub use check::{answer_over, check_over, show_over};

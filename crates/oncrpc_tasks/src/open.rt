@@ -18,11 +18,12 @@ pub trait Opener {
     /// How many texts could not be opened, where that is reported.
     ghost failures: { Self → Option ℕ } = { λ _. None };
 
-    /// Opens the text with this name, at its beginning. A fault opens none.
+    /// Opens the text with this name, at its beginning. A fault opens none. What is reported of names stays the same.
     fn open(&mut self, name: &str) -> Result<Self::Text, ReadFault>
         ensures text { IfOk result (λ text. Keeps (reported self.old name.now) (Self.Text.left text)) }
         ensures none_failed { OnOk result (Counts 0 (failures self.old) (failures self.new)) }
-        ensures failed { OnErr result (Counts 1 (failures self.old) (failures self.new)) };
+        ensures failed { OnErr result (Counts 1 (failures self.old) (failures self.new)) }
+        ensures same { reported self.new ≡ reported self.old };
 }
 
 /// Opens one text, which is lent, by its name; no text has another name. It gives at most `piece` bytes a read, and
@@ -79,8 +80,10 @@ impl<'a> Opener for MemoryOpener<'a> {
         ensures failed { OnErr result (Counts 1 (reported_count self.old.failures) (reported_count self.new.failures)) }
         ensures gives { IfOk result (λ text. (text.piece ≡ self.old.piece) × (text.failing ≡ self.old.failing)
             × (text.reads ≡ 0)) }
-        ensures same { (self.new.name ≡ self.old.name) × (self.new.text ≡ self.old.text)
+        ensures stays { (self.new.name ≡ self.old.name) × (self.new.text ≡ self.old.text)
             × (self.new.piece ≡ self.old.piece) × (self.new.failing ≡ self.old.failing) }
+        ensures same { ⟦<MemoryOpener<'a> as Opener>⟧.reported self.new
+            ≡ ⟦<MemoryOpener<'a> as Opener>⟧.reported self.old }
     {
         if name == self.name {
             Ok(MemorySource::new(self.text, self.piece, self.failing))

@@ -25,15 +25,15 @@ pub fn target_of<P: Opener>(
     what: &ValueTask,
     opener: &mut P,
 ) -> Result<Target, Unusable>
-    // What is found is what the words name in a text that is reported,
+    // What is found is what the words name in texts that are reported,
     ensures asks { IfOk result (λ t. AsksFor (P.reported opener.old) what.now t) }
     // and the schema has its kind.
     ensures known { IfOk result (λ t. t.kind.place < length t.schema.kinds) }
     // A refusal says why the words name nothing,
     ensures none { IfErr result (λ why. HasNoQuestion (P.reported opener.old) what.now why) }
-    // and the failure Read that the text could not be read.
+    // and the failure Read that a text could not be read.
     ensures failed { IsErrOf result (Unusable.Failed Failure.Read)
-        → FileFails P.Text.left P.Text.failures (P.reported opener.old) what.now.types
+        → FileFails P.Text.left P.Text.failures (P.reported opener.old) what.now.types.files.items
         (P.failures opener.old) (P.failures opener.new) }
 {
     let declared = declared(alloc, &what.types, opener)?;

@@ -2,7 +2,7 @@
 ghost use Rattle.std.specs.Prelude.{◌≤◌};
 ghost use Rattle.oncrpc_tasks.specs.Ends.{TaskEnds, WordsEnd};
 ghost use Rattle.oncrpc_tasks.specs.Sources.{FileFails};
-ghost use Rattle.oncrpc_tasks.specs.Tasks.{file_of};
+ghost use Rattle.oncrpc_tasks.specs.Tasks.{files_of};
 
 use super::check::answer_over;
 use super::open::Opener;
@@ -14,7 +14,7 @@ use oncrpc_answers::{Task, ValueTask};
 use std::alloc::Global;
 use xdr_io::{Sink, Source};
 
-/// Does the task, and gives the exit status. 2 is a text of declarations, a name or limits that are refused, in this
+/// Does the task, and gives the exit status. 2 is texts of declarations, a name or limits that are refused, in this
 /// order, before any input is read. A text that cannot be opened or read is 3. The others are those of `check_over`,
 /// `show_over` and `records_over`.
 pub fn task_over<P: Opener, I: Source, O: Sink, F: Sink>(
@@ -29,7 +29,7 @@ pub fn task_over<P: Opener, I: Source, O: Sink, F: Sink>(
     ensures known { result ≤ 4 }
     // and says what was read and printed.
     ensures ends { TaskEnds (P.reported opener.old) task.now
-        (FileFails P.Text.left P.Text.failures (P.reported opener.old) (file_of task.now)
+        (FileFails P.Text.left P.Text.failures (P.reported opener.old) (files_of task.now)
         (P.failures opener.old) (P.failures opener.new))
         (record { left = I.left; reads = I.reads; failures = I.failures; taken = O.taken; lost = O.failures })
         input.old input.new output.old output.new faults.old faults.new result }
@@ -52,14 +52,14 @@ fn value_over<P: Opener, I: Source, O: Sink, F: Sink>(
 ) -> u8
     ensures known { result ≤ 4 }
     ensures ends { WordsEnd (P.reported opener.old) what.now shows
-        (FileFails P.Text.left P.Text.failures (P.reported opener.old) what.now.types
+        (FileFails P.Text.left P.Text.failures (P.reported opener.old) what.now.types.files.items
         (P.failures opener.old) (P.failures opener.new))
         (record { left = I.left; reads = I.reads; failures = I.failures; taken = O.taken; lost = O.failures })
         input.old input.new output.old output.new faults.old faults.new result }
 {
     let target = match target_of(alloc, what, opener) {
         Ok(target) => target,
-        Err(why) => return refuse(alloc, why, &what.name, faults),
+        Err(why) => return refuse(alloc, why, what, faults),
     };
     let question = Question {
         schema: &target.schema,

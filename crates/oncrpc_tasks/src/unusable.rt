@@ -1,11 +1,12 @@
 //! Why a task asks nothing of its input.
 ghost use Rattle.std.specs.Prelude.{◌≡◌};
 ghost use Rattle.oncrpc_answers.specs.Status.{failure_of_input};
+ghost use Rattle.oncrpc_tasks.specs.Private.Meant.{RefusedFor};
 ghost use Rattle.oncrpc_tasks.specs.Status.{Ends};
 ghost use Rattle.oncrpc_answers.specs.declared.failure.Failure.TheVariants.{Read, NoMemory};
 ghost use Rattle.oncrpc_tasks.specs.declared.unusable.Unusable.TheVariants.{Failed};
 
-use oncrpc_answers::{Failure, report};
+use oncrpc_answers::{Failure, ValueTask, report};
 use std::alloc::{AllocError, Global};
 use xdr_io::{InputFault, ReadFault, Sink, write_whole};
 use xdr_lang::LangFault;
@@ -13,8 +14,8 @@ use xdr_lang::LangFault;
 /// Why there is no question.
 #[derive(Clone, Copy, PartialEq, Eq)]
 pub enum Unusable {
-    /// The text of declarations is refused.
-    Declaration(LangFault),
+    /// The texts of declarations are refused, at a place in the file of this number, from 0.
+    Declaration { file: usize, fault: LangFault },
     /// The name names no kind.
     Name,
     /// A limit is out of its range.
@@ -39,6 +40,19 @@ impl From<InputFault> for Unusable {
     }
 }
 
+impl From<LangFault> for Unusable {
+    ghost from_gives = { λ e u. RefusedFor e u };
+
+    // Number 13 is an allocation failure. Another fault stands in the first file, as far as is known.
+    fn from(fault: LangFault) -> Unusable {
+        if fault.number == 13 {
+            Unusable::Failed(Failure::NoMemory)
+        } else {
+            Unusable::Declaration { file: 0, fault }
+        }
+    }
+}
+
 impl From<xdr_types::NoMemory> for Unusable {
     ghost from_gives = { λ _ u. u ≡ Failed NoMemory };
 
@@ -57,12 +71,14 @@ impl From<AllocError> for Unusable {
 
 /// Writes the line to `faults`, where that can be done, and gives the exit status: 2, or that of the failure. An
 /// allocation failure for the line is status 4.
-pub fn refuse<F: Sink>(alloc: Global, why: Unusable, name: &str, faults: &mut F) -> u8
+pub fn refuse<F: Sink>(alloc: Global, why: Unusable, what: &ValueTask, faults: &mut F) -> u8
     ensures { Ends why result }
 {
     let line = match why {
-        Unusable::Declaration(fault) => declaration_line(alloc, fault),
-        Unusable::Name => format!(in alloc; "no such name: {name}\n"),
+        Unusable::Declaration { file, fault } => {
+            declaration_line(alloc, &what.types.files, file, fault)
+        }
+        Unusable::Name => format!(in alloc; "no such name: {}\n", what.name),
         Unusable::Limits => String::from_str(alloc, "limits refused\n"),
         Unusable::Failed(failure) => return report(failure, faults),
     };
@@ -75,17 +91,28 @@ pub fn refuse<F: Sink>(alloc: Global, why: Unusable, name: &str, faults: &mut F)
     }
 }
 
-// A fault of the schema has its own number after the fault's.
-fn declaration_line(alloc: Global, fault: LangFault) -> Result<String, AllocError> {
+// A fault of the schema has its own number after the fault's. Of several files the one at fault is named.
+fn declaration_line(
+    alloc: Global,
+    files: &[String],
+    file: usize,
+    fault: LangFault,
+) -> Result<String, AllocError> {
     let LangFault {
         number,
         inner,
         line,
         column,
     } = fault;
+    let (name, mark) = match files.get(file) {
+        Some(name) if files.len() > 1 => (name.as_str(), ":"),
+        _ => ("", ""),
+    };
     if inner == 0 {
-        format!(in alloc; "declaration refused: {number} at {line}:{column}\n")
+        format!(in alloc; "declaration refused: {number} at {name}{mark}{line}:{column}\n")
     } else {
-        format!(in alloc; "declaration refused: {number} ({inner}) at {line}:{column}\n")
+        format!(in alloc;
+            "declaration refused: {number} ({inner}) at {name}{mark}{line}:{column}\n"
+        )
     }
 }

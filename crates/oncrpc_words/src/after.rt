@@ -43,7 +43,8 @@ WHY, by what stands at the place:
   Truncated    the end of the input, inside the value
 
 A FILE that is refused is the line 'declaration refused: F at L:C' on standard
-error. L is the line and C the column in bytes, both from 1. F:
+error, and where more than one is named 'declaration refused: F at FILE:L:C'. L
+is the line and C the column in bytes, both from 1. F:
    1  a byte that begins no token, or a comment that does not end
    2  a number that is badly written, or outside -2^63 to 2^64 - 1
    3  a token that cannot stand there
@@ -69,7 +70,8 @@ I:
    9  an enum, struct, union or arm without entries
   10  a name twice
   11  memory was refused
-A line that begins with % or # is of rpcgen's dialect: see docs/LANGUAGE.md.
+A line that begins with % or # is of rpcgen's dialect, which --dialect rpcgen reads:
+docs/LANGUAGE.md has it.
 
 A FILE that cannot be opened, or an input that cannot be read, is the line
 'read fault' on standard error.
@@ -87,7 +89,11 @@ Examples:
     $ printf '00000003 61626301' | oncrpc check --name opaque --hex
     refused BadPadding at 4
     $ printf '00000002 68690000' | oncrpc check --types ping.x --name 536870912.1.1.1 --hex
-    ok 8";
+    ok 8
+    $ printf '%%#include <c.h>\\ntypedef unsigned size;' > size.x
+    $ printf 'struct file { size bytes; };' > more.x
+    $ printf '0000002a' | oncrpc check --dialect rpcgen --types size.x --types more.x --name file --hex
+    ok 4";
 
 /// What `show` prints, its statuses and examples of it.
 pub const AFTER_SHOW: &str =

@@ -12,9 +12,13 @@ pub const BYTES: u32 = 16777216;
 /// The version of the registry's program where none is given.
 pub const VERS: u32 = 4;
 
+/// The names of dialects.
+const DIALECTS: [&str; 1] = ["rpcgen"];
+
 // What the value of a word has to be.
 enum Taken {
     Text,
+    Dialect,
     Port,
     Number,
     Version,
@@ -28,6 +32,10 @@ enum Word {
     Required(&'static str, &'static str, &'static str, Taken),
     // An option, and its value where it is not there, if it has one then.
     Optional(&'static str, &'static str, &'static str, Taken, &'static [&'static str]),
+    // An option beside which another has to be there.
+    Beside(&'static str, &'static str, &'static str, Taken, &'static str),
+    // An option that may come more than once, beside which others have to be there.
+    Repeated(&'static str, &'static str, &'static str, Taken, &'static [&'static str]),
     // An option without a value.
     Flag(&'static str, &'static str),
 }
@@ -40,9 +48,11 @@ struct Part {
     words: &'static [Word],
 }
 
-const OF_A_VALUE: [Word; 5] = [
+const OF_A_VALUE: [Word; 7] = [
     Word::Required("name", "NAME", help::NAME, Taken::Text),
-    Word::Optional("types", "FILE", help::TYPES, Taken::Text, &[]),
+    Word::Repeated("types", "FILE", help::TYPES, Taken::Text, &[]),
+    Word::Beside("dialect", "DIALECT", help::DIALECT, Taken::Dialect, "types"),
+    Word::Repeated("define", "NAME", help::DEFINE, Taken::Text, &["dialect"]),
     Word::Flag("hex", help::HEX),
     Word::Optional("depth", "N", help::DEPTH, Taken::Number, &["4096"]),
     Word::Optional("bytes", "N", help::BYTES, Taken::Number, &["16777216"]),
@@ -136,31 +146,43 @@ fn part_command<'a>(alloc: Global, part: &Part) -> Result<Command<'a>, AllocErro
 fn args<'a>(alloc: Global, words: &[Word]) -> Result<Vec<Arg<'a>>, AllocError> {
     let mut args = Vec::new(alloc);
     for word in words {
-        args.push(arg(alloc, word))?;
+        args.push(arg(alloc, word)?)?;
     }
     Ok(args)
 }
 
-fn arg<'a>(alloc: Global, word: &Word) -> Arg<'a> {
+fn arg<'a>(alloc: Global, word: &Word) -> Result<Arg<'a>, AllocError> {
     match word {
-        Word::Placed(id, value, help, taken) => {
-            parsed(setting(alloc, *id, *value, *help).required(true), taken)
+        Word::Placed(id, value, help, taken) => Ok(parsed(
+            setting(alloc, *id, *value, *help).required(true),
+            taken,
+        )),
+        Word::Required(id, value, help, taken) => {
+            Ok(option(alloc, *id, *value, *help, taken).required(true))
         }
-        Word::Required(id, value, help, taken) => parsed(
-            setting(alloc, *id, *value, *help).long(*id).required(true),
-            taken,
-        ),
-        Word::Optional(id, value, help, taken, defaults) => parsed(
-            setting(alloc, *id, *value, *help)
+        Word::Optional(id, value, help, taken, defaults) => {
+            Ok(option(alloc, *id, *value, *help, taken).default_values(*defaults))
+        }
+        Word::Beside(id, value, help, taken, other) => {
+            option(alloc, *id, *value, *help, taken).requires_arg(*other)
+        }
+        Word::Repeated(id, value, help, taken, others) => {
+            option(alloc, *id, *value, *help, taken)
+                .action(ArgAction::Append)
+                .requires_all(*others)
+        }
+        Word::Flag(id, help) => Ok(
+            Arg::new(alloc, *id)
                 .long(*id)
-                .default_values(*defaults),
-            taken,
+                .help(*help)
+                .action(ArgAction::SetTrue),
         ),
-        Word::Flag(id, help) => Arg::new(alloc, *id)
-            .long(*id)
-            .help(*help)
-            .action(ArgAction::SetTrue),
     }
+}
+
+// An option with a value.
+fn option<'a>(alloc: Global, id: &'a str, value: &'a str, help: &'a str, taken: &Taken) -> Arg<'a> {
+    parsed(setting(alloc, id, value, help).long(id), taken)
 }
 
 // A word with a value.
@@ -175,6 +197,7 @@ fn setting<'a>(alloc: Global, id: &'a str, value: &'a str, help: &'a str) -> Arg
 fn parsed<'a>(arg: Arg<'a>, taken: &Taken) -> Arg<'a> {
     match taken {
         Taken::Text => arg,
+        Taken::Dialect => arg.value_parser(DIALECTS.as_slice()),
         Taken::Port => arg.value_parser(value_parser!(u16)),
         Taken::Number => arg.value_parser(value_parser!(u32)),
         Taken::Version => arg.value_parser(value_parser!(u32).range(2..=4)),

@@ -63,7 +63,15 @@ P.V.N.K, the K-th argument, from 1, of procedure N in version V of program P of 
 or P.V.N.result, its result";
 
 /// The option for a file of declarations.
-pub const TYPES: &str = "A file of declarations in the XDR language, of at most 262144 bytes";
+pub const TYPES: &str = "A file of declarations in the XDR language, of at most 262144 bytes.
+More than one are one text in their order, and what is refused then has its file";
+
+/// The option for a dialect.
+pub const DIALECT: &str = "The dialect that the files are in, where it is not the RFCs' language";
+
+/// The option for a name that is defined.
+pub const DEFINE: &str =
+    "A name that is defined for lines #ifdef; the option may come more than once";
 
 /// The option for the limit on depth.
 pub const DEPTH: &str = "The greatest depth of a value, 1 to 4096";

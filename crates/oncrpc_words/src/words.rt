@@ -6,7 +6,7 @@ use super::command::{BYTES, DEPTH, VERS, command};
 use super::fault::{WordsFault, fault_of, no_memory};
 use super::request::{InfoTask, Request, ServeTask};
 use clap::{ArgMatches, Error};
-use oncrpc_answers::{RecordsTask, Task, ValueTask};
+use oncrpc_answers::{Dialect, RecordsTask, Task, Texts, ValueTask};
 use std::alloc::{AllocError, Global};
 
 /// Reads the words that stand after the program's own name. No words at all check an opaque in hexadecimal.
@@ -38,7 +38,10 @@ fn first_request(alloc: Global) -> Result<Request, AllocError>
 {
     Ok(Request::Offline(Task::Check(ValueTask {
         name: String::from_str(alloc, "opaque")?,
-        types: None,
+        types: Texts {
+            files: Vec::new(alloc),
+            dialect: Dialect::Rfc,
+        },
         hex: true,
         depth: DEPTH,
         bytes: BYTES,
@@ -72,15 +75,32 @@ fn port(options: &ArgMatches<'_>) -> u16 {
     options.get_one::<u16>("port").unwrap_or(0)
 }
 
-fn file(alloc: Global, options: &ArgMatches<'_>) -> Result<Option<String>, AllocError> {
-    match options.get_str("types") {
-        Some(file) => Ok(Some(String::from_str(alloc, file)?)),
-        None => Ok(None),
+// All values that an option has, in their order.
+fn all(alloc: Global, options: &ArgMatches<'_>, id: &str) -> Result<Vec<String>, AllocError> {
+    let mut values = Vec::new(alloc);
+    for value in options.get_strs(id).unwrap_or(&[]) {
+        values.push(String::from_str(alloc, *value)?)?;
+    }
+    Ok(values)
+}
+
+// Rpcgen's dialect is the only one that has a name.
+fn dialect(alloc: Global, options: &ArgMatches<'_>) -> Result<Dialect, AllocError> {
+    match options.get_str("dialect") {
+        Some(_) => Ok(Dialect::Rpcgen(all(alloc, options, "define")?)),
+        None => Ok(Dialect::Rfc),
     }
 }
 
+fn texts(alloc: Global, options: &ArgMatches<'_>) -> Result<Texts, AllocError> {
+    Ok(Texts {
+        files: all(alloc, options, "types")?,
+        dialect: dialect(alloc, options)?,
+    })
+}
+
 fn value_task(alloc: Global, options: &ArgMatches<'_>) -> Result<ValueTask, AllocError> {
-    let types = file(alloc, options)?;
+    let types = texts(alloc, options)?;
     Ok(ValueTask {
         name: String::from_str(alloc, options.get_str("name").unwrap_or("opaque"))?,
         types,

@@ -1,6 +1,6 @@
 //! Tasks of the program over memory: `Task::Check`, `Task::Show` and `Task::Records`. Where `types` names a file, that
 //! of the name `a.x` has the text of the case.
-use oncrpc_answers::{RecordsTask, Task, ValueTask};
+use oncrpc_answers::{Dialect, RecordsTask, Task, Texts, ValueTask};
 use oncrpc_tasks::{MemoryOpener, task_over};
 use std::alloc::Global;
 use std::env::Env;
@@ -9,11 +9,15 @@ use test_lines::reported::Report;
 use xdr_io::{MemorySink, MemorySource};
 
 // The file of declarations that is named, if one is.
-fn types(case: &Case<'_>) -> Option<String> {
+fn types(case: &Case<'_>) -> Texts {
+    let mut files = Vec::new(case.alloc);
     if case.has("types") {
-        return Some(case.text("types"));
+        let _ = files.push(case.text("types"));
     }
-    None
+    Texts {
+        files,
+        dialect: Dialect::Rfc,
+    }
 }
 
 fn value_task(case: &Case<'_>) -> ValueTask {

@@ -1,19 +1,20 @@
 //! The tasks that words ask for, and words that ask for none.
 use crate::words::reading::{Words, read};
-use oncrpc_answers::{RecordsTask, Task, ValueTask};
+use oncrpc_answers::{Dialect, RecordsTask, Task, Texts, ValueTask};
 use oncrpc_words::{InfoTask, Request, ServeTask, WordsFault};
 use std::alloc::{AllocError, Global};
 
-// What is asked of a value: its kind's name, the file of declarations, whether bytes are hexadecimal, depth and bytes.
-type Asked = (&'static str, Option<&'static str>, bool, u32, u32);
+// What is asked of a value: its kind's name, the files of declarations, the names that are defined in rpcgen's dialect
+// if they are in that, whether bytes are hexadecimal, depth and bytes.
+type Asked = (&'static str, Words, Option<Words>, bool, u32, u32);
 
 // Words, whether they ask for the value's lines, and what they ask.
-const VALUES: [(Words, bool, Asked); 7] = [
-    (&[], false, ("opaque", None, true, 4096, 16777216)),
+const VALUES: [(Words, bool, Asked); 12] = [
+    (&[], false, ("opaque", &[], None, true, 4096, 16777216)),
     (
         &["check", "--name", "int"],
         false,
-        ("int", None, false, 4096, 16777216),
+        ("int", &[], None, false, 4096, 16777216),
     ),
     (
         &[
@@ -26,42 +27,127 @@ const VALUES: [(Words, bool, Asked); 7] = [
             "",
         ],
         false,
-        ("", None, true, 5, 7),
+        ("", &[], None, true, 5, 7),
     ),
     (
         &["check", "--types", "a.x", "--name", "int"],
         false,
-        ("int", Some("a.x"), false, 4096, 16777216),
+        ("int", &["a.x"], None, false, 4096, 16777216),
     ),
     (
         &["show", "--types=b/c.x", "--name", "1.2.3.result", "--hex"],
         true,
-        ("1.2.3.result", Some("b/c.x"), true, 4096, 16777216),
+        ("1.2.3.result", &["b/c.x"], None, true, 4096, 16777216),
     ),
     (
         &["show", "--name", "list", "--types", ""],
         true,
-        ("list", Some(""), false, 4096, 16777216),
+        ("list", &[""], None, false, 4096, 16777216),
     ),
     (
         &["show", "--name", "int", "--depth", "1", "--bytes", "4"],
         true,
-        ("int", None, false, 1, 4),
+        ("int", &[], None, false, 1, 4),
+    ),
+    (
+        &[
+            "show",
+            "--types",
+            "b",
+            "--name",
+            "int",
+            "--types=a",
+            "--types",
+            "b",
+        ],
+        true,
+        ("int", &["b", "a", "b"], None, false, 4096, 16777216),
+    ),
+    (
+        &[
+            "check",
+            "--name",
+            "int",
+            "--types",
+            "a",
+            "--dialect",
+            "rpcgen",
+        ],
+        false,
+        ("int", &["a"], Some(&[]), false, 4096, 16777216),
+    ),
+    (
+        &[
+            "show",
+            "--dialect=rpcgen",
+            "--types",
+            "a",
+            "--types",
+            "b",
+            "--name",
+            "int",
+        ],
+        true,
+        ("int", &["a", "b"], Some(&[]), false, 4096, 16777216),
+    ),
+    (
+        &[
+            "check",
+            "--define",
+            "RPC_XDR",
+            "--types",
+            "a",
+            "--name",
+            "int",
+            "--dialect",
+            "rpcgen",
+        ],
+        false,
+        ("int", &["a"], Some(&["RPC_XDR"]), false, 4096, 16777216),
+    ),
+    (
+        &[
+            "show",
+            "--name",
+            "int",
+            "--types",
+            "a",
+            "--dialect",
+            "rpcgen",
+            "--define=B",
+            "--define",
+            "A",
+        ],
+        true,
+        ("int", &["a"], Some(&["B", "A"]), false, 4096, 16777216),
     ),
 ];
 
-fn is_file(file: &Option<String>, wanted: Option<&str>) -> bool {
-    match (file, wanted) {
-        (None, None) => true,
-        (Some(file), Some(wanted)) => file.as_str() == wanted,
-        _ => false,
+fn are(texts: &Vec<String>, wanted: Words) -> bool {
+    if texts.len() != wanted.len() {
+        return false;
     }
+    for (text, word) in texts.iter().zip(wanted) {
+        if text.as_str() != *word {
+            return false;
+        }
+    }
+    true
+}
+
+fn are_texts(texts: &Texts, files: Words, defined: Option<Words>) -> bool {
+    let same = match (&texts.dialect, defined) {
+        (Dialect::Rfc, None) => true,
+        (Dialect::Rpcgen(names), Some(defined)) => are(names, defined),
+        _ => false,
+    };
+    same && are(&texts.files, files)
 }
 
 fn is_value(task: &ValueTask, asked: &Asked) -> bool {
-    let (name, types, hex, depth, bytes) = *asked;
+    let (name, files, defined, hex, depth, bytes) = *asked;
     task.name.as_str() == name
-        && is_file(&task.types, types)
+        && are_texts(&task.types, files, defined)
         && task.hex == hex
         && task.depth == depth
         && task.bytes == bytes
@@ -223,7 +309,7 @@ fn serves_are_asked(rt: HostRuntime) -> Result<(), AllocError> {
 }
 
 // Words that give no task, and the status.
-const REFUSED: [(Words, u8); 38] = [
+const REFUSED: [(Words, u8); 43] = [
     (&["check"], 2),
     (&["nope"], 2),
     (&["show"], 2),
@@ -261,10 +347,31 @@ const REFUSED: [(Words, u8); 38] = [
         2,
     ),
     (&["check", "--name", "int", "--types"], 2),
+    (&["show", "--name", "int", "--dialect", "rpcgen"], 2),
     (
-        &["show", "--name", "int", "--types", "a", "--types", "b"],
+        &["show", "--name", "int", "--types", "a", "--dialect", "rfc"],
         2,
     ),
+    (&["show", "--name", "int", "--types", "a", "--dialect"], 2),
+    (
+        &[
+            "check",
+            "--name",
+            "int",
+            "--types",
+            "a",
+            "--dialect",
+            "rpcgen",
+            "--dialect",
+            "rpcgen",
+        ],
+        2,
+    ),
+    (
+        &["check", "--name", "int", "--types", "a", "--define", "A"],
+        2,
+    ),
+    (&["records", "--dialect", "rpcgen"], 2),
     (&["check", "--name", "int", "--depth", "4294967296"], 2),
     (&["check", "--name", "int", "--depth", "-1"], 2),
     (&["check", "--name", "int", "--bytes", "0x8"], 2),

@@ -4,11 +4,15 @@ use std::alloc::{AllocError, Global};
 
 // The built-in kinds, the forms of a name, the ranges and defaults of the options, the statuses with their words, and
 // an example.
-const OF_A_VALUE: [&str; 16] = [
+const OF_A_VALUE: [&str; 20] = [
     "int, unsigned, hyper, unsigned-hyper, bool, opaque or string",
     "P.V.N.K",
     "P.V.N.result",
     "262144",
+    "More than one are one text in their order",
+    "--dialect <DIALECT>",
+    "[possible values: rpcgen]",
+    "--define <NAME>",
     "1 to 4096 [default: 4096]",
     "4 to 16777216",
     "multiple of 4",
@@ -42,7 +46,7 @@ const OF_OUTCOMES: [&str; 18] = [
     "\n  10  a fault of a type, printed as '10 (I)'",
     "\n  13  memory was refused",
     "\n   7  a type without a finite value\n",
-    "begins with % or # is of rpcgen's dialect: see docs/LANGUAGE.md",
+    "begins with % or # is of rpcgen's dialect, which --dialect rpcgen reads",
     "'read fault'",
 ];
 

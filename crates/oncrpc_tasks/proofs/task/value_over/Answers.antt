@@ -6,8 +6,8 @@ pub returns-clause-ends : goal.returns-clause-ends
 returns-clause-ends g c =
     let asks = c.in-Ok.ensures.asks in
     inl (record {
-      text = asks.text;
-      is_reported = asks.is_reported;
+      texts = asks.texts;
+      are_reported = asks.are_reported;
       question = _;
       asked = asks.asked c.args.shows;
       ends = c.answer_over.ensures;
