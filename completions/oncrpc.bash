@@ -30,7 +30,7 @@ _oncrpc() {
         --define) : ;;
         --depth) : ;;
         --bytes) : ;;
-        *) mapfile -t COMPREPLY < <(compgen -W "--name --types --dialect --define --hex --depth --bytes --help" -- "$word") ;;
+        *) mapfile -t COMPREPLY < <(compgen -W "--name --types --dialect --define --hex --depth --bytes --json --indent --help" -- "$word") ;;
         esac
         ;;
     records)

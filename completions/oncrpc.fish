@@ -24,6 +24,8 @@ complete -c oncrpc -n '__fish_seen_subcommand_from show; and not __fish_seen_sub
 complete -c oncrpc -n '__fish_seen_subcommand_from show; and not __fish_seen_subcommand_from help' -l hex -d 'Read hexadecimal text, at most 1048576 bytes with its white space'
 complete -c oncrpc -n '__fish_seen_subcommand_from show; and not __fish_seen_subcommand_from help' -l depth -x -d 'The greatest depth of a value, 1 to 4096'
 complete -c oncrpc -n '__fish_seen_subcommand_from show; and not __fish_seen_subcommand_from help' -l bytes -x -d 'The most bytes of a value, 4 to 16777216, a multiple of 4'
+complete -c oncrpc -n '__fish_seen_subcommand_from show; and not __fish_seen_subcommand_from help' -l json -d 'Print the value as JSON, and nothing else on standard output'
+complete -c oncrpc -n '__fish_seen_subcommand_from show; and not __fish_seen_subcommand_from help' -l indent -d 'Print each item and each member of JSON on a line'
 complete -c oncrpc -n '__fish_seen_subcommand_from show; and not __fish_seen_subcommand_from help' -s h -l help -d 'Print help'
 complete -c oncrpc -n '__fish_seen_subcommand_from records; and not __fish_seen_subcommand_from help' -l limit -x -d 'The most bytes of a record, 0 to 2147483647'
 complete -c oncrpc -n '__fish_seen_subcommand_from records; and not __fish_seen_subcommand_from help' -l hex -d 'Read hexadecimal text, at most 1048576 bytes with its white space'

@@ -1,6 +1,5 @@
 -- An argument that is there is asked for by its number.
-use Rattle.std.proofs.Common.{◌≡◌, ◌<◌, ℕ, List, [], ◌∷◌, length, Option, Some, None, inr, refl, sym, subst, ap, ◌∙◌}
-use Rattle.std.proofs.Common.{false}
+use Rattle.std.proofs.Common.{◌≡◌, ◌<◌, ℕ, List, [], ◌∷◌, length, Option, Some, None, inr, refl, sym, subst, ap}
 use Rattle.std.specs.Prelude.{String, string_bytes}
 use Rattle.std.specs.declared.alloc.Global.{Global}
 use Rattle.xdr_types.specs.Named.{place_named}
@@ -12,6 +11,7 @@ use Rattle.oncrpc_names.specs.declared.reading.Part.{Part}
 use Rattle.oncrpc_names.specs.declared.reading.Part.TheVariants.{Argument}
 use Rattle.oncrpc_names.specs.declared.reading.PartName.{PartName}
 use Rattle.oncrpc_kinds.specs.Naming.{part_named, place_of_part}
+use Rattle.oncrpc_tasks.specs.declared.question.Form.TheVariants.{Outcome}
 use Rattle.oncrpc_tasks.specs.Right.{Question}
 use Rattle.oncrpc_tasks.specs.Sources.{AreReported, IsDeclared, IsReported, MeansIn}
 use Rattle.oncrpc_tasks.specs.Tasks.{Asks, AsksNothing}
@@ -57,14 +57,14 @@ one_is_asked reported what file types limits
       kinds = d.schema.kinds;
       place = place;
       limits = record { depth = what.depth; bytes = what.bytes };
-      shows = false;
+      form = Outcome;
     } in
     let meant : MeansIn what.types.dialect (joined (text ∷ [])) d =
     subst (λ (k : Dialect). MeansIn k (joined (text ∷ [])) d) (sym types.1)
     (subst (λ (t : List ℕ). Means t d) (sym (joined_one text)) means) in
     let declared : IsDeclared what.types.dialect nothing.texts d =
     subst (λ (ts : List (List ℕ)). IsDeclared what.types.dialect ts d) (sym same) meant in
-    let asks : Asks nothing.texts what false question = record {
+    let asks : Asks nothing.texts what Outcome question = record {
       declared = d;
       source = declared;
       kinds = refl;
@@ -82,4 +82,4 @@ one_is_asked reported what file types limits
       limits = refl;
       lines = refl;
     } in
-    nothing.none false question asks
+    nothing.none Outcome question asks

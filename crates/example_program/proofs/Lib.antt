@@ -8,6 +8,7 @@ pub mod Silent
 pub mod Asks
 pub mod Answered
 pub mod Normalised
+pub mod Alone
 pub mod Arguments
 pub mod Sourced
 pub mod Endings

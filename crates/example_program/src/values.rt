@@ -1,5 +1,5 @@
 //! One value: when something is printed, what stands before the line of its outcome, and how much is read.
-ghost use Rattle.std.specs.Prelude.{◌≡◌, ◌≢◌, ◌⊎◌, ◌<◌, ◌≤◌, ◌+◌, ◌++◌, ℕ, List, length, take, true, false};
+ghost use Rattle.std.specs.Prelude.{◌≡◌, ◌≢◌, ◌⊎◌, ◌<◌, ◌≤◌, ◌+◌, ◌++◌, [], ℕ, List, length, take};
 ghost use Rattle.std.specs.Io.KnownBytes.{Appends};
 ghost use Rattle.xdr_io.specs.Reported.{Counts, MovesAtMost};
 ghost use Rattle.oncrpc_answers.specs.declared.answer.Answer.{Answer};
@@ -8,9 +8,10 @@ ghost use Rattle.oncrpc_answers.specs.Lines.{line, line_status};
 ghost use Rattle.oncrpc_tasks.specs.Stopping.{ReadsUnsettled};
 
 use oncrpc_answers::{Failure, report};
-use oncrpc_tasks::{check_over, show_over};
+use oncrpc_tasks::{Form, Question, answer_over, check_over, show_over};
 use std::alloc::Global;
 use xdr_io::{MemorySource, Sink, Source};
+use xdr_json::Layout;
 use xdr_types::{KindId, Limits, Schema};
 
 /// An allocation failure ends with 4, so that a caller can tell it from a device that failed.
@@ -88,7 +89,7 @@ pub fn no_read_fails_after_the_answer<I: Source, O: Sink, F: Sink>(
 ) -> u8
     requires { kind.place < length schema.now.kinds }
     ensures { result ≡ 3
-        → ReadsUnsettled (record { kinds = schema.now.kinds; place = kind.place; limits = limits; shows = false })
+        → ReadsUnsettled (record { kinds = schema.now.kinds; place = kind.place; limits = limits; form = Form.Outcome })
         (I.left input.old) (I.left input.new)
         ⊎ Counts 1 (O.failures output.old) (O.failures output.new) }
 {
@@ -108,7 +109,7 @@ pub fn no_read_of_a_show_fails_after_the_answer<I: Source, O: Sink, F: Sink>(
 ) -> u8
     requires { kind.place < length schema.now.kinds }
     ensures { result ≡ 3
-        → ReadsUnsettled (record { kinds = schema.now.kinds; place = kind.place; limits = limits; shows = true })
+        → ReadsUnsettled (record { kinds = schema.now.kinds; place = kind.place; limits = limits; form = Form.Lines })
         (I.left input.old) (I.left input.new)
         ⊎ Counts 1 (O.failures output.old) (O.failures output.new) }
 {
@@ -241,4 +242,56 @@ pub fn nothing_follows_an_empty_input<O: Sink, F: Sink>(
     show_over(
         alloc, &mut input, output, faults, schema, kind, limits, false,
     )
+}
+
+/// As JSON the value alone is printed: nothing of the line of its outcome goes to the output, and where the input holds
+/// no more than the value nothing is said of faults.
+pub fn json_stands_alone<I: Source, O: Sink, F: Sink>(
+    alloc: Global,
+    input: &mut I,
+    output: &mut O,
+    faults: &mut F,
+    schema: &Schema,
+    kind: KindId,
+    limits: Limits,
+    layout: Layout,
+) -> u8
+    requires { kind.place < length schema.now.kinds }
+    ensures { result ≤ 1 → (answer : Answer) × (shown : List ℕ)
+        × Appends (O.taken output.old) (O.taken output.new) shown
+        × (line_status answer ≡ result) × ((used : ℕ) → answer ≡ Whole used → faults.new ≡ faults.old) }
+{
+    let question = Question {
+        schema,
+        kind,
+        limits,
+        hex: false,
+        form: Form::Json(layout),
+    };
+    answer_over(alloc, &question, input, output, faults)
+}
+
+/// A value that is refused prints no JSON at all.
+pub fn no_json_of_a_refused_value<O: Sink, F: Sink>(
+    alloc: Global,
+    bytes: &[u8],
+    output: &mut O,
+    faults: &mut F,
+    schema: &Schema,
+    kind: KindId,
+    limits: Limits,
+    layout: Layout,
+) -> u8
+    requires { kind.place < length schema.now.kinds }
+    ensures { result ≡ 1 → Appends (O.taken output.old) (O.taken output.new) [] }
+{
+    let question = Question {
+        schema,
+        kind,
+        limits,
+        hex: false,
+        form: Form::Json(layout),
+    };
+    let mut input = MemorySource::new(bytes, 4096, None);
+    answer_over(alloc, &question, &mut input, output, faults)
 }

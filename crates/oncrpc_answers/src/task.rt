@@ -7,6 +7,8 @@ pub enum Task {
     Check(ValueTask),
     /// Read one value, and print its lines and what the input holds.
     Show(ValueTask),
+    /// Read one value, and print it as JSON.
+    Json(JsonTask),
     /// Write a stream of records in its normal form.
     Records(RecordsTask),
 }
@@ -24,6 +26,15 @@ pub struct ValueTask {
     pub depth: u32,
     /// The limit on bytes.
     pub bytes: u32,
+}
+
+/// One value to be printed as JSON.
+#[derive(PartialEq, Eq, Drop)]
+pub struct JsonTask {
+    /// The value.
+    pub what: ValueTask,
+    /// Whether each item and each member has a line.
+    pub indented: bool,
 }
 
 /// Texts of declarations.

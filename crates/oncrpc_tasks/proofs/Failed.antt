@@ -1,13 +1,12 @@
 -- How the failure of a device is reported.
-use Rattle.std.proofs.Common.{◌≡◌, ℕ, Bool, List, ◌++◌, Option, Result, Err, arith}
+use Rattle.std.proofs.Common.{◌≡◌, ℕ, Bool, List, Option, Result, Err, arith}
 use Rattle.oncrpc_answers.specs.declared.answer.Answer.{Answer}
 use Rattle.oncrpc_answers.specs.declared.failure.Failure.{Failure}
 use Rattle.oncrpc_answers.specs.declared.failure.Failure.TheVariants as failure
 use Rattle.oncrpc_tasks.specs.declared.records.Marking.{Marking}
 use Rattle.oncrpc_tasks.specs.Devices.{Reports, Fails}
 use Rattle.oncrpc_tasks.specs.Private.Reading.{EndsByDevice}
-use Rattle.oncrpc_tasks.specs.Checked.{AnswersInPart}
-use Rattle.oncrpc_answers.specs.Lines.{line}
+use Rattle.oncrpc_tasks.specs.Checked.{AnswersInPart, printed_in}
 use Rattle.oncrpc_tasks.specs.Private.Printed.{IsCut}
 use Rattle.oncrpc_tasks.specs.Right.{Question, IsRightFor}
 use Rattle.oncrpc_answers.specs.Status.{failure_status}
@@ -21,7 +20,8 @@ failed_by reports i i' o o' r failure.NoMemory is ends three = omega (arith, thr
 
 -- the beginning of what is printed of a right answer
 pub cut_by : (q : Question) (hex : Bool) (left taken taken' : Option (List ℕ)) (a : Answer) (shown : List ℕ)
-    → IsRightFor q hex left a shown → IsCut (shown ++ line a) taken taken' → AnswersInPart q hex left taken taken'
+    → IsRightFor q hex left a shown → IsCut (printed_in q.form shown a) taken taken'
+    → AnswersInPart q hex left taken taken'
 cut_by q hex left taken taken' a shown right part = record {
   answer = a;
   count = part.count;

@@ -1,6 +1,6 @@
 -- What a checker's answer to a piece says of all bytes.
 use Rattle.std.proofs.Common.{◌≡◌, ◌+◌, ◌%◌, ◌<◌, ◌≤◌, ℕ, inl, inr, List, [], ◌++◌, length, refl, sym, ap, subst, ◌∙◌}
-use Rattle.std.proofs.Common.{arith, length-append, false, Ok, Err, IfOk, Result}
+use Rattle.std.proofs.Common.{arith, length-append, Ok, Err, IfOk, Result}
 use Rattle.std.proofs.lemmas.List.{take_all}
 use Rattle.xdr_types.specs.Kinds.{KindView, Lists}
 use Rattle.xdr_types.specs.Tree.{Tree}
@@ -17,12 +17,13 @@ use Rattle.xdr_codec.specs.declared.checker.Checker.{Checker}
 use Rattle.oncrpc_answers.specs.declared.answer.Answer.TheVariants as answer
 use Rattle.oncrpc_tasks.specs.declared.judge.Verdict.TheVariants.{Open, Settled}
 use Rattle.oncrpc_tasks.specs.Private.Judged.{Follows, Says}
+use Rattle.oncrpc_tasks.specs.declared.question.Form.TheVariants as form
 use Rattle.oncrpc_tasks.specs.Right as right
 use Rattle.oncrpc_tasks.specs.Right.{Question}
 use Rattle.oncrpc_tasks.proofs.Rightly.{whole_at_end, more_follows, cut_at_end, refused_for_all}
 
--- the lines of a value of which nothing is to be shown
-no_lines : (q : Question) (v : Tree) → q.shows ≡ false → [] ≡ right.lines_of q v
+-- what is shown of a value of which nothing is to be shown
+no_lines : (q : Question) (v : Tree) → q.form ≡ form.Outcome → [] ≡ right.shown_of q v
 no_lines q v is = rw is refl
 
 module _ (q : Question) (c d : Checker) (b piece : List ℕ) (f : Follows q c b) (same : IsSame c d)

@@ -8,5 +8,6 @@ pub mod Judging
 pub mod Meaning
 pub mod Progress
 pub mod Rightly
+pub mod Saying
 pub mod Showing
 pub mod Hexed

@@ -16,6 +16,7 @@ use Rattle.xdr_codec.specs.declared.checker.Checker.{Checker}
 use Rattle.oncrpc_answers.specs.declared.answer.Answer.{Answer}
 use Rattle.oncrpc_tasks.specs.declared.judge.Verdict.{Verdict}
 use Rattle.oncrpc_tasks.specs.declared.judge.Verdict.TheVariants.{Open, Settled}
+use Rattle.oncrpc_tasks.specs.declared.question.Form.TheVariants as form
 use Rattle.oncrpc_tasks.specs.Private.Judged.{Follows, IsRetained, Says}
 use Rattle.oncrpc_tasks.specs.Private.Reading.{ReadsInput}
 use Rattle.oncrpc_tasks.specs.Right.{Question, IsRight, IsRightFor}
@@ -52,7 +53,7 @@ at_its_end q a b (Some input) (Some rest) read end right =
 
 -- a checker that was started follows no bytes yet
 pub started : (c : Checker) (s : Lists) (k : KindId) (l : Bounds) → RepresentsBytes c [] → IsStarted c s k l
-    → Follows (record { kinds = s.kinds; place = k.place; limits = l; shows = false }) c []
+    → Follows (record { kinds = s.kinds; place = k.place; limits = l; form = form.Outcome }) c []
 started c s k l represents set = record {
   represents = represents;
   kinds_are = ap (λ (x : Lists). x.kinds) set.schema_is;

@@ -24,7 +24,7 @@ nothing_asked reported what d o declares only missing =
     record {
       texts = declares.texts;
       are_reported = declares.are_reported;
-      none = λ shows q asks.
+      none = λ form q asks.
           let same : asks.declared ≡ d = declares.only asks.declared asks.source in
           let named : Names (string_bytes what.name) d q.place = subst
           (λ (e : Declared). Names (string_bytes what.name) e q.place) same asks.named in

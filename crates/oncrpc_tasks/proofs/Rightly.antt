@@ -18,7 +18,7 @@ use Rattle.xdr_stream.specs.declared.fault.Reason.TheVariants as reason
 use Rattle.xdr_codec.specs.Refused.{HasNoneWithin}
 use Rattle.xdr_codec.proofs.Outcomes.{pending_none, fails}
 use Rattle.oncrpc_answers.specs.declared.answer.Answer.TheVariants as answer
-use Rattle.oncrpc_tasks.specs.Right.{Question, HasOutcome, HasNoValue, IsWhole, IsRefusal, IsRight, lines_of}
+use Rattle.oncrpc_tasks.specs.Right.{Question, HasOutcome, HasNoValue, IsWhole, IsRefusal, IsRight, shown_of}
 use Rattle.oncrpc_tasks.specs.Stopping.{IsUnsettled}
 
 -- a refusal by its reason, where that is neither want of memory nor that the bytes end
@@ -52,7 +52,7 @@ no_value q b none used more shown h = none h.value more h.fits (sym h.joined)
 
 module _ (q : Question) (units : q.limits.bytes % 4 ≡ 0) where
   -- a whole value, and the bytes after it
-  whole_and_more : (b shown : List ℕ) (v : Tree) (used : ℕ) → HasOutcome q b (Whole v used) → shown ≡ lines_of q v
+  whole_and_more : (b shown : List ℕ) (v : Tree) (used : ℕ) → HasOutcome q b (Whole v used) → shown ≡ shown_of q v
       → (more : List ℕ) × (length b ≡ used + length more) × IsWhole q b used more shown
   whole_and_more b shown v used o lines =
       let exact = (whole_exactly q.kinds q.place q.limits b v used units).0 o in (
@@ -70,7 +70,7 @@ module _ (q : Question) (units : q.limits.bytes % 4 ≡ 0) where
       )
 
   -- a value that takes all bytes
-  pub whole_at_end : (b shown : List ℕ) (v : Tree) (used : ℕ) → HasOutcome q b (Whole v used) → shown ≡ lines_of q v
+  pub whole_at_end : (b shown : List ℕ) (v : Tree) (used : ℕ) → HasOutcome q b (Whole v used) → shown ≡ shown_of q v
       → length b ≤ used → IsRight q b (answer.Whole used) shown
   whole_at_end b shown v used o lines all =
       let w = whole_and_more b shown v used o lines in
@@ -78,14 +78,14 @@ module _ (q : Question) (units : q.limits.bytes % 4 ≡ 0) where
       subst (λ (more : List ℕ). IsWhole q b used more shown) none w.2
 
   -- a value after which there are bytes
-  pub more_there : (b shown : List ℕ) (v : Tree) (used : ℕ) → HasOutcome q b (Whole v used) → shown ≡ lines_of q v
+  pub more_there : (b shown : List ℕ) (v : Tree) (used : ℕ) → HasOutcome q b (Whole v used) → shown ≡ shown_of q v
       → used < length b → IsRight q b (answer.MoreFollows used) shown
   more_there b shown v used o lines some =
       let w = whole_and_more b shown v used o lines in (w.0, omega (arith, w.1, some), w.2)
 
   -- and then more of them
   pub more_follows : (b rest shown : List ℕ) (v : Tree) (used : ℕ) → HasOutcome q b (Whole v used)
-      → shown ≡ lines_of q v → used < length b → IsRight q (b ++ rest) (answer.MoreFollows used) shown
+      → shown ≡ shown_of q v → used < length b → IsRight q (b ++ rest) (answer.MoreFollows used) shown
   more_follows b rest shown v used o lines some =
       more_there (b ++ rest) shown v used (stays q.kinds q.place q.limits b rest (Whole v used) tt o) lines
       (omega (arith, some, length-append b rest))

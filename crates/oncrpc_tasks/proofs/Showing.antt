@@ -7,7 +7,6 @@ use Rattle.xdr_types.specs.Kinds.{KindView}
 use Rattle.xdr_types.specs.Tree.{Tree}
 use Rattle.xdr_types.specs.Within.{Bounds}
 use Rattle.xdr_types.specs.Outcome.{Outcome, Whole}
-use Rattle.xdr_show.specs.Shown.{show_text}
 use Rattle.xdr_laws.proofs.Longer.{stays}
 use Rattle.xdr_laws.proofs.OneOutcome.{one_whole}
 use Rattle.xdr_parts.specs.Coming.{IsOneValue}
@@ -18,10 +17,12 @@ use Rattle.xdr_stream.specs.declared.fault.Reason.TheVariants as reason
 use Rattle.oncrpc_answers.specs.declared.answer.Answer.{Answer}
 use Rattle.oncrpc_answers.specs.declared.answer.Answer.TheVariants as answer
 use Rattle.oncrpc_answers.specs.declared.failure.Failure.{Failure}
+use Rattle.oncrpc_tasks.specs.declared.question.Form.{Form}
+use Rattle.oncrpc_tasks.specs.declared.question.Form.TheVariants as form
 use Rattle.oncrpc_tasks.specs.Right.{Question, BeginsWithValue, HasOutcome, HasNoValue, IsWhole, IsRefusal, IsRight}
-use Rattle.oncrpc_tasks.specs.Right.{IsRightFor, lines_of}
+use Rattle.oncrpc_tasks.specs.Right.{IsRightFor, shown_in, shown_of}
 use Rattle.oncrpc_tasks.specs.Stopping.{LastRead, IsUnread}
-use Rattle.oncrpc_tasks.specs.Private.Judged.{IsRetained, Shows, unshown}
+use Rattle.oncrpc_tasks.specs.Private.Judged.{IsRetained, Shows, keeps_of, unshown}
 use Rattle.oncrpc_tasks.specs.Private.Reading.{ReadsInput}
 
 same_value : (s : List KindView) (t : ℕ) (l : Bounds) (b more : List ℕ) (v w : Tree) (m n : ℕ)
@@ -53,7 +54,7 @@ used_within q b used h =
 module _ (q : Question) where
   -- a value with its lines, in place of one without
   lined : (shown : List ℕ) (b : List ℕ) (used : ℕ) (more : List ℕ) (h : IsWhole (unshown q) b used more [])
-      → shown ≡ lines_of q h.0.value → IsWhole q b used more shown
+      → shown ≡ shown_of q h.0.value → IsWhole q b used more shown
   lined shown b used more h is = (
     record {
       value = h.0.value;
@@ -93,26 +94,25 @@ module _ (q : Question) where
   shows_none b a text none (inr (inr is)) = rw is (λ more h. absurd h)
 
   -- nothing is shown where nothing is asked for
-  without : q.shows ≡ false → (v : Tree) → [] ≡ lines_of q v
-  without none v = rw none refl
+  without : (f : Form) → keeps_of f ≡ false → (v : Tree) → [] ≡ shown_in f q.kinds q.place v
+  without form.Outcome none v = refl
+  without form.Lines none v = cc
+  without (form.Json layout) none v = cc
 
-  pub shows_nothing : q.shows ≡ false → (b : List ℕ) (a : Answer) → Shows q b a []
-  shows_nothing none b (answer.Whole used) = λ more h. lined [] (b ++ more) used [] h (without none h.0.value)
+  pub shows_nothing : keeps_of q.form ≡ false → (b : List ℕ) (a : Answer) → Shows q b a []
+  shows_nothing none b (answer.Whole used) = λ more h. lined [] (b ++ more) used [] h (without q.form none h.0.value)
   shows_nothing none b (answer.MoreFollows used) = λ more h.
-      (h.0, h.1, lined [] (b ++ more) used h.0 h.2 (without none h.2.0.value))
+      (h.0, h.1, lined [] (b ++ more) used h.0 h.2 (without q.form none h.2.0.value))
   shows_nothing none b (answer.Refused f) = shows_refusal b f
   shows_nothing none b answer.BadHex = λ more h. absurd h
   shows_nothing none b answer.HexTooLong = λ more h. absurd h
 
   -- the lines of a value that begins the bytes
-  module _ (asked : q.shows ≡ true) (b text : List ℕ) (v : Tree) (n : ℕ) (whole : HasOutcome q b (Whole v n))
-      (lines : text ≡ show_text q.kinds q.place v) where
-    of_value : (more : List ℕ) (w : Tree) (m : ℕ) → HasOutcome q (b ++ more) (Whole w m) → text ≡ lines_of q w
+  module _ (b text : List ℕ) (v : Tree) (n : ℕ) (whole : HasOutcome q b (Whole v n)) (lines : text ≡ shown_of q v) where
+    of_value : (more : List ℕ) (w : Tree) (m : ℕ) → HasOutcome q (b ++ more) (Whole w m) → text ≡ shown_of q w
     of_value more w m o =
         let same : v ≡ w = same_value q.kinds q.place q.limits b more v w n m whole o in
-        let said : text ≡ show_text q.kinds q.place w =
-        lines ∙ ap (λ (x : Tree). show_text q.kinds q.place x) same in
-        rw asked said
+        lines ∙ ap (λ (x : Tree). shown_of q x) same
 
     pub shows_whole : (used : ℕ) → Shows q b (answer.Whole used) text
     shows_whole used = λ more h. lined text (b ++ more) used [] h (of_value more h.0.value used h.1)
@@ -122,28 +122,28 @@ module _ (q : Question) where
         (h.0, h.1, lined text (b ++ more) used h.0 h.2 (of_value more h.2.0.value used h.2.1))
 
   -- the same of the answer to making them
-  pub lines_whole : q.shows ≡ true → (b : List ℕ) (a : Answer) (used : ℕ) → a ≡ answer.Whole used
+  pub lines_whole : (b : List ℕ) (a : Answer) (used : ℕ) → a ≡ answer.Whole used
       → IsRight (unshown q) b a [] → (r : Result (Vec ℕ Global) Failure)
       → IfOk r (λ text. (v : Tree) → IsOneValue q.kinds q.place q.limits b v
-      → text.items ≡ show_text q.kinds q.place v)
+      → text.items ≡ shown_of q v)
       → IfOk r (λ text. Shows q b a text.items)
-  lines_whole asked b a used is right (Ok text) lines =
+  lines_whole b a used is right (Ok text) lines =
       let h = subst (λ (x : Answer). IsRight (unshown q) b x []) is right in
       subst (λ (x : Answer). Shows q b x text.items) (sym is)
-      (shows_whole asked b text.items h.0.value used h.1 (lines h.0.value (whole_value (unshown q) b used h)) used)
-  lines_whole asked b a used is right (Err f) lines = tt
+      (shows_whole b text.items h.0.value used h.1 (lines h.0.value (whole_value (unshown q) b used h)) used)
+  lines_whole b a used is right (Err f) lines = tt
 
-  pub lines_before : q.shows ≡ true → (b : List ℕ) (a : Answer) (used : ℕ) → a ≡ answer.MoreFollows used
+  pub lines_before : (b : List ℕ) (a : Answer) (used : ℕ) → a ≡ answer.MoreFollows used
       → IsRight (unshown q) b a [] → (r : Result (Vec ℕ Global) Failure)
       → IfOk r (λ text. (v : Tree) → IsOneValue q.kinds q.place q.limits (take used b) v
-      → text.items ≡ show_text q.kinds q.place v)
+      → text.items ≡ shown_of q v)
       → IfOk r (λ text. Shows q b a text.items)
-  lines_before asked b a used is right (Ok text) lines =
+  lines_before b a used is right (Ok text) lines =
       let h = subst (λ (x : Answer). IsRight (unshown q) b x []) is right in
       let v : Tree = h.2.0.value in
       subst (λ (x : Answer). Shows q b x text.items) (sym is)
-      (shows_value asked b text.items v used h.2.1 (lines v (value_before (unshown q) b used h)) used)
-  lines_before asked b a used is right (Err f) lines = tt
+      (shows_value b text.items v used h.2.1 (lines v (value_before (unshown q) b used h)) used)
+  lines_before b a used is right (Err f) lines = tt
 
   -- what is shown of all bytes
   pub shows_all : (b : List ℕ) (a : Answer) (text : List ℕ) → IsRight (unshown q) b a [] → Shows q b a text

@@ -14,6 +14,11 @@ pub record Reports (I O : Type 0) : Type 0 where
   pub taken : O → Option (List ℕ)
   pub lost : O → Option ℕ
 
+-- What a stream of faults tells: the bytes that were taken, and the writes that failed.
+pub record Stream (F : Type 0) : Type 0 where
+  pub taken : F → Option (List ℕ)
+  pub lost : F → Option ℕ
+
 -- how a device's failure is reported: a read that failed, a write that failed, or as many reads as there may be
 abbrev pub Fails : {I O : Type 0} → Reports I O → (input input' : I) → (output output' : O) → Failure → Type 0
 Fails reports input input' output output' failure.Read = Counts 1 (reports.failures input) (reports.failures input')

@@ -1,6 +1,7 @@
 -- Which answer is right for an input (RFC 4506: the bytes of a value, and what follows them).
 use Rattle.std.specs.Prelude.{◌≡◌, ℕ, ◌<◌, ◌≤◌, Bool, true, false, List, [], ◌++◌, length, Option, None, Some, Ok, ⊤}
-use Rattle.std.specs.Prelude.{if◌then◌else◌}
+use Rattle.std.specs.Prelude.{◌∷◌}
+use Rattle.json.specs.Tree.{json_tokens}
 use Rattle.hex.specs.Hex.{decode_of}
 use Rattle.xdr_types.specs.Kinds.{KindView}
 use Rattle.xdr_types.specs.Tree.{Tree}
@@ -11,30 +12,40 @@ use Rattle.xdr_show.specs.Shown.{show_text}
 use Rattle.xdr_stream.specs.declared.fault.Reason.{Reason}
 use Rattle.xdr_stream.specs.declared.fault.Reason.TheVariants as reason
 use Rattle.xdr_stream.specs.Sees.{Ends}
+use Rattle.xdr_json.specs.Mapping.{json_of}
+use Rattle.xdr_json.specs.Written.{text_of}
+use Rattle.oncrpc_tasks.specs.declared.question.Form.{Form}
+use Rattle.oncrpc_tasks.specs.declared.question.Form.TheVariants as form
 use Rattle.oncrpc_tasks.specs.declared.question.Question as declared
 use Rattle.oncrpc_answers.specs.declared.answer.Answer.{Answer}
 use Rattle.oncrpc_answers.specs.declared.answer.Answer.TheVariants as answer
 use Rattle.oncrpc_tasks.specs.Hexadecimal.{digits, IsBadHex}
 use Rattle.oncrpc_tasks.specs.declared.hexadecimal.TheConstants.{MOST_TEXT}
 
--- what is asked: the kinds, the place of the value's kind, the limits, and whether the value's lines are to be shown
+-- what is asked: the kinds, the place of the value's kind, the limits, and what is printed of the value
 pub record Question : Type 0 where
   pub kinds : List KindView
   pub place : ℕ
   pub limits : Bounds
-  pub shows : Bool
+  pub form : Form
 
 -- what a question of the code asks
 abbrev pub asked_of : declared.Question → Question
-asked_of q = record { kinds = q.schema.now.kinds; place = q.kind.place; limits = q.limits; shows = q.shows }
+asked_of q = record { kinds = q.schema.now.kinds; place = q.kind.place; limits = q.limits; form = q.form }
 
 -- the kind that it asks for is one of its schema's
 abbrev pub IsKnown : declared.Question → Type 0
 IsKnown q = q.kind.place < length q.schema.now.kinds
 
--- what is printed of a value before the line of its outcome
-abbrev pub lines_of : Question → Tree → List ℕ
-lines_of q v = if q.shows then show_text q.kinds q.place v else []
+-- what is shown of a value: nothing, its lines, or its JSON and a line feed
+abbrev pub shown_in : Form → List KindView → (place : ℕ) → Tree → List ℕ
+shown_in form.Outcome kinds place v = []
+shown_in form.Lines kinds place v = show_text kinds place v
+shown_in (form.Json layout) kinds place v = text_of layout (json_tokens (json_of kinds place v)) ++ 10 ∷ []
+
+-- what is shown of the value that is asked for
+abbrev pub shown_of : Question → Tree → List ℕ
+shown_of q v = shown_in q.form q.kinds q.place v
 
 -- The bytes begin with a value within the limits, of which this is shown, and then these follow.
 pub record BeginsWithValue (q : Question) (bytes : List ℕ) (used : ℕ) (more shown : List ℕ) : Type 0 where
@@ -42,7 +53,7 @@ pub record BeginsWithValue (q : Question) (bytes : List ℕ) (used : ℕ) (more 
   pub fits : FitsWithin q.kinds q.place q.limits value
   pub joined : bytes ≡ bytes_of q.kinds q.place value ++ more
   pub counted : used ≡ length (bytes_of q.kinds q.place value)
-  pub lines : shown ≡ lines_of q value
+  pub lines : shown ≡ shown_of q value
 
 -- The bytes begin with no value within the limits.
 abbrev pub HasNoValue : Question → List ℕ → Type 0

@@ -1,22 +1,23 @@
 //! Reads one value, and prints what the input holds, and the value's lines where they are asked for.
-ghost use Rattle.std.specs.Prelude.{◌≡◌, ℕ, ◌++◌, ◌<◌, [], true, false, Option, List, length, IfOk, IfErr};
+ghost use Rattle.std.specs.Prelude.{◌≡◌, ℕ, ◌<◌, [], true, Option, List, length, IfOk, IfErr, OnOk};
+ghost use Rattle.oncrpc_tasks.specs.Checked.{Says, is_said, printed_in};
 ghost use Rattle.oncrpc_tasks.specs.Ends.{ValueEnds};
 ghost use Rattle.xdr_types.specs.Tree.{Tree};
 ghost use Rattle.xdr_parts.specs.Coming.{IsOneValue};
-ghost use Rattle.xdr_show.specs.Shown.{show_text};
 ghost use Rattle.oncrpc_tasks.specs.Input.{InputGives};
-ghost use Rattle.oncrpc_tasks.specs.Private.Judged.{Shows, unshown};
+ghost use Rattle.oncrpc_tasks.specs.Private.Judged.{Shows, keeps_of, unshown};
 ghost use Rattle.oncrpc_tasks.specs.Private.Printed.{Prints};
 ghost use Rattle.oncrpc_tasks.specs.Private.Reading.{EndsReading, ReadsInput};
 ghost use Rattle.oncrpc_answers.specs.Lines.{line};
-ghost use Rattle.oncrpc_tasks.specs.Right.{IsKnown, IsRight, IsRightFor, asked_of};
+ghost use Rattle.oncrpc_tasks.specs.Right.{IsKnown, IsRight, IsRightFor, asked_of, shown_in};
 
 use super::given::{Given, given_over};
-use super::judge::{judge_bytes, judge_over};
-use super::question::Question;
+use super::judge::{judge_bytes, judge_over, keeps};
+use super::question::{Form, Question};
 use oncrpc_answers::{Answer, Failure, line_of, report, status_of};
-use std::alloc::Global;
+use std::alloc::{AllocError, Global};
 use xdr_io::{Sink, Source, write_whole};
+use xdr_json::json_of_bytes;
 use xdr_show::show_whole;
 use xdr_types::{KindId, Limits, Schema};
 
@@ -41,8 +42,9 @@ pub fn check_over<I: Source, O: Sink, F: Sink>(
 ) -> u8
     requires { kind.place < length schema.now.kinds }
     ensures { ValueEnds
-        (record { kinds = schema.now.kinds; place = kind.place; limits = limits; shows = false }) hex
+        (record { kinds = schema.now.kinds; place = kind.place; limits = limits; form = Form.Outcome }) hex
         (record { left = I.left; reads = I.reads; failures = I.failures; taken = O.taken; lost = O.failures })
+        (record { taken = F.taken; lost = F.failures })
         input.old input.new output.old output.new faults.old faults.new result }
 {
     let question = Question {
@@ -50,7 +52,7 @@ pub fn check_over<I: Source, O: Sink, F: Sink>(
         kind,
         limits,
         hex,
-        shows: false,
+        form: Form::Outcome,
     };
     answer_over(alloc, &question, input, output, faults)
 }
@@ -71,8 +73,9 @@ pub fn show_over<I: Source, O: Sink, F: Sink>(
 ) -> u8
     requires { kind.place < length schema.now.kinds }
     ensures { ValueEnds
-        (record { kinds = schema.now.kinds; place = kind.place; limits = limits; shows = true }) hex
+        (record { kinds = schema.now.kinds; place = kind.place; limits = limits; form = Form.Lines }) hex
         (record { left = I.left; reads = I.reads; failures = I.failures; taken = O.taken; lost = O.failures })
+        (record { taken = F.taken; lost = F.failures })
         input.old input.new output.old output.new faults.old faults.new result }
 {
     let question = Question {
@@ -80,13 +83,16 @@ pub fn show_over<I: Source, O: Sink, F: Sink>(
         kind,
         limits,
         hex,
-        shows: true,
+        form: Form::Lines,
     };
     answer_over(alloc, &question, input, output, faults)
 }
 
-/// Answers the question as `check_over` and, with its lines, `show_over` do, and gives the exit status. The question's
-/// kind must be one of its schema.
+/// Answers the question, and gives the exit status: as `check_over` does and, with the value's lines, `show_over`. As
+/// JSON the value alone is printed, and a line feed. The line of an outcome other than `ok N` then goes to `faults`,
+/// where that can be done. The question's kind must be one of its schema.
+///
+/// JSON takes stack for each level of the value (`xdr_json::json_of_bytes`).
 #[tactic(auto, using(crate::proofs::Failed::cut_by))]
 pub fn answer_over<I: Source, O: Sink, F: Sink>(
     alloc: Global,
@@ -98,32 +104,77 @@ pub fn answer_over<I: Source, O: Sink, F: Sink>(
     requires { IsKnown question.now }
     ensures { ValueEnds (asked_of question.now) question.now.hex
         (record { left = I.left; reads = I.reads; failures = I.failures; taken = O.taken; lost = O.failures })
+        (record { taken = F.taken; lost = F.failures })
         input.old input.new output.old output.new faults.old faults.new result }
 {
     let (answer, shown) = match answer_to(alloc, question, input) {
         Ok(answered) => answered,
         Err(failure) => return report(failure, faults),
     };
-    match print_answer(alloc, answer, shown, output) {
+    match print_answer(alloc, question.form, answer, shown, output, faults) {
         Ok(()) => status_of(answer),
         Err(failure) => report(failure, faults),
     }
 }
 
-// What is shown and the line of the answer go out as one piece.
-fn print_answer<O: Sink>(
+// What is shown and the line of the answer go out as one piece; of JSON that line goes to `faults`, if it goes at all.
+fn print_answer<O: Sink, F: Sink>(
     alloc: Global,
+    form: Form,
     answer: Answer,
     shown: Vec<u8>,
     output: &mut O,
+    faults: &mut F,
 ) -> Result<(), Failure>
-    ensures { Prints O.taken O.failures output.old output.new (shown.items ++ line answer) result }
+    ensures prints { Prints O.taken O.failures output.old output.new (printed_in form shown.items answer) result }
+    ensures says { OnOk result
+        (Says form (record { taken = F.taken; lost = F.failures }) faults.old faults.new answer) }
 {
-    let mut text = shown;
-    let line = line_of(alloc, answer)?;
-    text.extend_from_slice(line.as_bytes())?;
+    let said = line_of(alloc, answer)?;
+    let text = printed_of(form, answer, shown, &said)?;
     write_whole(output, &text)?;
+    say(form, answer, &said, faults);
     Ok(())
+}
+
+// What is printed of what is shown and of the line of its answer.
+fn printed_of(form: Form, answer: Answer, shown: Vec<u8>, said: &str) -> Result<Vec<u8>, AllocError>
+    requires { said.now ≡ line answer }
+    ensures { IfOk result (λ text. text.items ≡ printed_in form shown.items answer) }
+{
+    match form {
+        Form::Outcome | Form::Lines => {
+            let mut text = shown;
+            text.extend_from_slice(said.as_bytes())?;
+            Ok(text)
+        }
+        Form::Json(_) => Ok(shown),
+    }
+}
+
+// Whether the line of an answer stands on the stream of faults.
+fn is_said(form: Form, answer: Answer) -> bool
+    ensures { result ≡ is_said form answer }
+{
+    match form {
+        Form::Outcome | Form::Lines => false,
+        Form::Json(_) => match answer {
+            Answer::Whole { .. } => false,
+            Answer::MoreFollows { .. } | Answer::Refused(_) => true,
+            Answer::BadHex | Answer::HexTooLong => true,
+        },
+    }
+}
+
+// Says the line of an answer on the stream of faults, where it stands there and where that can be done.
+fn say<F: Sink>(form: Form, answer: Answer, said: &str, faults: &mut F)
+    requires { said.now ≡ line answer }
+    ensures { Says form (record { taken = F.taken; lost = F.failures }) faults.old faults.new answer }
+{
+    if !is_said(form, answer) {
+        return;
+    }
+    let _ = write_whole(faults, said.as_bytes());
 }
 
 // The answer, and what is shown before its line. Hexadecimal is read to its end first; what is read as it is is judged
@@ -172,7 +223,7 @@ fn answer_given(
     }
 }
 
-// What is shown of the bytes, whose answer this is: the lines of the value, where there is one and they are asked for.
+// What is shown of the bytes, whose answer this is: the value, where there is one and it is asked for.
 fn shown_of(
     alloc: Global,
     question: &Question,
@@ -180,34 +231,43 @@ fn shown_of(
     bytes: &[u8],
 ) -> Result<Vec<u8>, Failure>
     requires known { IsKnown question.now }
-    requires right { question.now.shows ≡ true → IsRight (unshown (asked_of question.now)) bytes.now answer [] }
+    requires right { keeps_of question.now.form ≡ true → IsRight (unshown (asked_of question.now)) bytes.now answer [] }
     ensures right { IfOk result (λ text. Shows (asked_of question.now) bytes.now answer text.items) }
     ensures memory { IfErr result (λ f. f ≡ Failure.NoMemory) }
 {
-    if !question.shows {
+    if !keeps(question.form) {
         return Ok(Vec::new(alloc));
     }
     match answer {
-        Answer::Whole { .. } => lines_of(alloc, question, bytes),
-        Answer::MoreFollows { used } => lines_of(alloc, question, &bytes[..used]),
+        Answer::Whole { .. } => value_shown(alloc, question, bytes),
+        Answer::MoreFollows { used } => value_shown(alloc, question, &bytes[..used]),
         Answer::Refused(_) | Answer::BadHex | Answer::HexTooLong => Ok(Vec::new(alloc)),
     }
 }
 
-// The lines of the value whose encoding these bytes are, all of them.
-fn lines_of(alloc: Global, question: &Question, bytes: &[u8]) -> Result<Vec<u8>, Failure>
+// What is shown of the value whose encoding these bytes are, all of them.
+fn value_shown(alloc: Global, question: &Question, bytes: &[u8]) -> Result<Vec<u8>, Failure>
     requires whole { (v : Tree) × IsOneValue question.now.schema.now.kinds question.now.kind.place question.now.limits
         bytes.now v }
-    ensures lines { IfOk result (λ text. (v : Tree) → IsOneValue question.now.schema.now.kinds question.now.kind.place
+    ensures shown { IfOk result (λ text. (v : Tree) → IsOneValue question.now.schema.now.kinds question.now.kind.place
         question.now.limits bytes.now v
-        → text.items ≡ show_text question.now.schema.now.kinds question.now.kind.place v) }
+        → text.items ≡ shown_in question.now.form question.now.schema.now.kinds question.now.kind.place v) }
     ensures memory { IfErr result (λ f. f ≡ Failure.NoMemory) }
 {
     let Question {
         schema,
         kind,
         limits,
+        form,
         ..
     } = *question;
-    Ok(show_whole(alloc, schema, kind, limits, bytes)?)
+    match form {
+        Form::Outcome => Ok(Vec::new(alloc)),
+        Form::Lines => Ok(show_whole(alloc, schema, kind, limits, bytes)?),
+        Form::Json(layout) => {
+            let mut text = json_of_bytes(alloc, schema, kind, limits, bytes, layout)?;
+            text.extend_from_slice(b"\n")?;
+            Ok(text)
+        }
+    }
 }

@@ -4,10 +4,10 @@ ghost use Rattle.std.specs.Prelude.{IfErr, OnOk};
 ghost use Rattle.xdr_types.specs.Within.{AreBounds};
 ghost use Rattle.oncrpc_tasks.specs.Right as right;
 ghost use Rattle.oncrpc_tasks.specs.Right.{IsKnown, IsRight, IsRightFor, asked_of};
-ghost use Rattle.oncrpc_tasks.specs.Private.Judged.{Follows, IsRetained, Says, unshown};
+ghost use Rattle.oncrpc_tasks.specs.Private.Judged.{Follows, IsRetained, Says, keeps_of, unshown};
 ghost use Rattle.oncrpc_tasks.specs.Private.Reading.{EndsReading, ReadsInput};
 
-use super::question::Question;
+use super::question::{Form, Question};
 use oncrpc_answers::{Answer, Failure};
 use std::alloc::{AllocError, Global};
 use xdr_codec::{Checker, DecodeFault, Progress, Reason};
@@ -69,7 +69,7 @@ pub fn judge_bytes(alloc: Global, question: &Question, bytes: &[u8]) -> Result<A
     }
 }
 
-/// What an input says that is judged as it is read, and all bytes that were read where the lines are to be shown.
+/// What an input says that is judged as it is read, and all bytes that were read where the value is to be shown.
 /// Reading stops where the answer is settled: at a refusal, at the first byte after the value, or at the end. A refusal
 /// of no bytes is answered before any read.
 pub fn judge_over<I: Source>(
@@ -83,8 +83,8 @@ pub fn judge_over<I: Source>(
         IsRightFor (unshown (asked_of question.now)) false (I.left input.old) r.0 []) }
     // what was read is handed on where it is to be shown.
     ensures retained { IfOk result (λ r.
-        IsRetained question.now.shows (unshown (asked_of question.now)) (I.left input.old) (I.left input.new) r.0
-        r.1.items) }
+        IsRetained (keeps_of question.now.form) (unshown (asked_of question.now)) (I.left input.old) (I.left input.new)
+        r.0 r.1.items) }
     // Where it answers, no read failed; Read and TooManyReads come only where what was read settles no answer.
     ensures ends { EndsReading (unshown (asked_of question.now)) false (I.left input.old) (I.left input.new)
         (I.reads input.old) (I.reads input.new) (I.failures input.old) (I.failures input.new) result }
@@ -117,7 +117,7 @@ pub fn judge_over<I: Source>(
             return Ok((at_end, retained));
         }
         let verdict = judge_piece(&mut checker, count, &array[..n])?;
-        keep(&mut retained, question.shows, &array[..n])?;
+        keep(&mut retained, question.form, &array[..n])?;
         at_end = match verdict {
             Verdict::Open(answer) => answer,
             Verdict::Settled(answer) => return Ok((answer, retained)),
@@ -127,12 +127,22 @@ pub fn judge_over<I: Source>(
     Err(Failure::TooManyReads)
 }
 
-// Keeps a piece, where it is to be kept.
-fn keep(retained: &mut Vec<u8>, keeps: bool, piece: &[u8]) -> Result<(), AllocError>
-    ensures { OnOk result
-        (retained.new.items ≡ (if keeps then retained.old.items ++ piece.now else retained.old.items)) }
+/// Whether bytes are kept for what is to be shown.
+pub fn keeps(form: Form) -> bool
+    ensures { result ≡ keeps_of form }
 {
-    if keeps {
+    match form {
+        Form::Outcome => false,
+        Form::Lines | Form::Json(_) => true,
+    }
+}
+
+// Keeps a piece, where it is to be shown.
+fn keep(retained: &mut Vec<u8>, form: Form, piece: &[u8]) -> Result<(), AllocError>
+    ensures { OnOk result (retained.new.items
+        ≡ (if keeps_of form then retained.old.items ++ piece.now else retained.old.items)) }
+{
+    if keeps(form) {
         retained.extend_from_slice(piece)?;
     }
     Ok(())

@@ -25,6 +25,6 @@ mod unusable;
 pub use check::{answer_over, check_over, show_over};
 pub use hexadecimal::bytes_of_text;
 pub use open::{MemoryOpener, Opener};
-pub use question::Question;
+pub use question::{Form, Question};
 pub use records::{MOST_LIMIT, Marking, records_over};
 pub use task::task_over;

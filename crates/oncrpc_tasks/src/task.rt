@@ -1,22 +1,23 @@
 //! How a task that needs no network is done.
-ghost use Rattle.std.specs.Prelude.{◌≤◌};
-ghost use Rattle.oncrpc_tasks.specs.Ends.{TaskEnds, WordsEnd};
+ghost use Rattle.std.specs.Prelude.{◌≡◌, ◌≤◌};
+ghost use Rattle.oncrpc_tasks.specs.Ends.{TaskEnds, WordsEnd, layout_in};
 ghost use Rattle.oncrpc_tasks.specs.Sources.{FileFails};
 ghost use Rattle.oncrpc_tasks.specs.Tasks.{files_of};
 
 use super::check::answer_over;
 use super::open::Opener;
-use super::question::Question;
+use super::question::{Form, Question};
 use super::records::records_over;
 use super::target::target_of;
 use super::unusable::refuse;
 use oncrpc_answers::{Task, ValueTask};
 use std::alloc::Global;
 use xdr_io::{Sink, Source};
+use xdr_json::Layout;
 
 /// Does the task, and gives the exit status. 2 is texts of declarations, a name or limits that are refused, in this
-/// order, before any input is read. A text that cannot be opened or read is 3. The others are those of `check_over`,
-/// `show_over` and `records_over`.
+/// order, before any input is read. A text that cannot be opened or read is 3. The others are those of `answer_over`
+/// and `records_over`.
 pub fn task_over<P: Opener, I: Source, O: Sink, F: Sink>(
     alloc: Global,
     task: &Task,
@@ -32,29 +33,48 @@ pub fn task_over<P: Opener, I: Source, O: Sink, F: Sink>(
         (FileFails P.Text.left P.Text.failures (P.reported opener.old) (files_of task.now)
         (P.failures opener.old) (P.failures opener.new))
         (record { left = I.left; reads = I.reads; failures = I.failures; taken = O.taken; lost = O.failures })
+        (record { taken = F.taken; lost = F.failures })
         input.old input.new output.old output.new faults.old faults.new result }
 {
     match task {
-        Task::Check(what) => value_over(alloc, what, false, opener, input, output, faults),
-        Task::Show(what) => value_over(alloc, what, true, opener, input, output, faults),
+        Task::Check(what) => {
+            value_over(alloc, what, Form::Outcome, opener, input, output, faults)
+        }
+        Task::Show(what) => value_over(alloc, what, Form::Lines, opener, input, output, faults),
+        Task::Json(json) => {
+            let form = Form::Json(layout_of(json.indented));
+            value_over(alloc, &json.what, form, opener, input, output, faults)
+        }
         Task::Records(what) => records_over(alloc, input, output, faults, what.limit, what.hex),
+    }
+}
+
+// How JSON is laid out.
+fn layout_of(indented: bool) -> Layout
+    ensures { result ≡ layout_in indented }
+{
+    if indented {
+        Layout::Indented
+    } else {
+        Layout::Compact
     }
 }
 
 fn value_over<P: Opener, I: Source, O: Sink, F: Sink>(
     alloc: Global,
     what: &ValueTask,
-    shows: bool,
+    form: Form,
     opener: &mut P,
     input: &mut I,
     output: &mut O,
     faults: &mut F,
 ) -> u8
     ensures known { result ≤ 4 }
-    ensures ends { WordsEnd (P.reported opener.old) what.now shows
+    ensures ends { WordsEnd (P.reported opener.old) what.now form
         (FileFails P.Text.left P.Text.failures (P.reported opener.old) what.now.types.files.items
         (P.failures opener.old) (P.failures opener.new))
         (record { left = I.left; reads = I.reads; failures = I.failures; taken = O.taken; lost = O.failures })
+        (record { taken = F.taken; lost = F.failures })
         input.old input.new output.old output.new faults.old faults.new result }
 {
     let target = match target_of(alloc, what, opener) {
@@ -66,7 +86,7 @@ fn value_over<P: Opener, I: Source, O: Sink, F: Sink>(
         kind: target.kind,
         limits: target.limits,
         hex: what.hex,
-        shows,
+        form,
     };
     answer_over(alloc, &question, input, output, faults)
 }

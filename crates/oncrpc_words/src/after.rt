@@ -114,6 +114,10 @@ of the field or the arm, a colon, and then:
   case VALUE       a union by its discriminant, above the arm
   present, absent  optional data
 
+With --json the value alone is printed on one line, by docs/FORMATS.md, and with
+--indent each item and each member has a line. A value that is refused prints
+nothing there. The line of 'check' goes to standard error, unless it is 'ok N'.
+
 Exit status:
   0  the input begins with a value
   1  the bytes are refused
@@ -132,7 +136,10 @@ Examples:
         interpretor: \"lisp\"
       owner: \"john\"
       data: 0x287175697429
-    ok 48";
+    ok 48
+    $ printf '00000000 0000002a 00' | oncrpc show --json --name hyper --hex
+    \"42\"
+    ok 8, more follows";
 
 /// What `records` prints, its statuses and examples of it.
 pub const AFTER_RECORDS: &str =

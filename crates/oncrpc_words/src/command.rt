@@ -38,17 +38,11 @@ enum Word {
     Repeated(&'static str, &'static str, &'static str, Taken, &'static [&'static str]),
     // An option without a value.
     Flag(&'static str, &'static str),
+    // The same, beside which another option has to be there.
+    FlagBeside(&'static str, &'static str, &'static str),
 }
 
-// A command: its name, what help says before and behind its options, and its words.
-struct Part {
-    name: &'static str,
-    about: &'static str,
-    after: &'static str,
-    words: &'static [Word],
-}
-
-const OF_A_VALUE: [Word; 7] = [
+const OF_CHECK: [Word; 7] = [
     Word::Required("name", "NAME", help::NAME, Taken::Text),
     Word::Repeated("types", "FILE", help::TYPES, Taken::Text, &[]),
     Word::Beside("dialect", "DIALECT", help::DIALECT, Taken::Dialect, "types"),
@@ -56,6 +50,18 @@ const OF_A_VALUE: [Word; 7] = [
     Word::Flag("hex", help::HEX),
     Word::Optional("depth", "N", help::DEPTH, Taken::Number, &["4096"]),
     Word::Optional("bytes", "N", help::BYTES, Taken::Number, &["16777216"]),
+];
+
+const OF_SHOW: [Word; 9] = [
+    Word::Required("name", "NAME", help::NAME, Taken::Text),
+    Word::Repeated("types", "FILE", help::TYPES, Taken::Text, &[]),
+    Word::Beside("dialect", "DIALECT", help::DIALECT, Taken::Dialect, "types"),
+    Word::Repeated("define", "NAME", help::DEFINE, Taken::Text, &["dialect"]),
+    Word::Flag("hex", help::HEX),
+    Word::Optional("depth", "N", help::DEPTH, Taken::Number, &["4096"]),
+    Word::Optional("bytes", "N", help::BYTES, Taken::Number, &["16777216"]),
+    Word::Flag("json", help::JSON),
+    Word::FlagBeside("indent", help::INDENT, "json"),
 ];
 
 const OF_RECORDS: [Word; 2] = [
@@ -76,43 +82,10 @@ const OF_SERVE: [Word; 3] = [
     Word::Optional("datagrams", "D", help::DATAGRAMS, Taken::Number, &["0"]),
 ];
 
-const PARTS: [Part; 5] = [
-    Part {
-        name: "check",
-        about: help::CHECK,
-        after: after::AFTER_CHECK,
-        words: &OF_A_VALUE,
-    },
-    Part {
-        name: "show",
-        about: help::SHOW,
-        after: after::AFTER_SHOW,
-        words: &OF_A_VALUE,
-    },
-    Part {
-        name: "records",
-        about: help::RECORDS,
-        after: after::AFTER_RECORDS,
-        words: &OF_RECORDS,
-    },
-    Part {
-        name: "info",
-        about: help::INFO,
-        after: after::AFTER_INFO,
-        words: &OF_INFO,
-    },
-    Part {
-        name: "serve",
-        about: help::SERVE,
-        after: after::AFTER_SERVE,
-        words: &OF_SERVE,
-    },
-];
-
 /// The program with its subcommands.
 pub fn command<'a>(alloc: Global) -> Result<Command<'a>, AllocError> {
-    let parts = parts(alloc)?;
-    whole(alloc).bin_name("oncrpc")?.subcommands(parts)
+    let commands = commands(alloc)?;
+    whole(alloc).bin_name("oncrpc")?.subcommands(commands)
 }
 
 // The program without a subcommand.
@@ -127,19 +100,55 @@ fn whole<'a>(alloc: Global) -> Command<'a> {
         .subcommand_required(true)
 }
 
-fn parts<'a>(alloc: Global) -> Result<Vec<Command<'a>>, AllocError> {
-    let mut parts = Vec::new(alloc);
-    for part in &PARTS {
-        parts.push(part_command(alloc, part)?)?;
-    }
-    Ok(parts)
+// The subcommands, each of which has its own table, in the order in which help lists them.
+fn commands<'a>(alloc: Global) -> Result<Vec<Command<'a>>, AllocError> {
+    let mut commands = Vec::new(alloc);
+    commands.push(check(alloc)?)?;
+    commands.push(show(alloc)?)?;
+    commands.push(records(alloc)?)?;
+    commands.push(info(alloc)?)?;
+    commands.push(serve(alloc)?)?;
+    Ok(commands)
 }
 
-fn part_command<'a>(alloc: Global, part: &Part) -> Result<Command<'a>, AllocError> {
-    let args = args(alloc, part.words)?;
-    Command::new(alloc, part.name)
-        .about(part.about)
-        .after_help(part.after)
+fn check<'a>(alloc: Global) -> Result<Command<'a>, AllocError> {
+    part(alloc, "check", help::CHECK, after::AFTER_CHECK, &OF_CHECK)
+}
+
+fn show<'a>(alloc: Global) -> Result<Command<'a>, AllocError> {
+    part(alloc, "show", help::SHOW, after::AFTER_SHOW, &OF_SHOW)
+}
+
+fn records<'a>(alloc: Global) -> Result<Command<'a>, AllocError> {
+    part(
+        alloc,
+        "records",
+        help::RECORDS,
+        after::AFTER_RECORDS,
+        &OF_RECORDS,
+    )
+}
+
+fn info<'a>(alloc: Global) -> Result<Command<'a>, AllocError> {
+    part(alloc, "info", help::INFO, after::AFTER_INFO, &OF_INFO)
+}
+
+fn serve<'a>(alloc: Global) -> Result<Command<'a>, AllocError> {
+    part(alloc, "serve", help::SERVE, after::AFTER_SERVE, &OF_SERVE)
+}
+
+// A subcommand by its name, what help says before and behind its options, and its words.
+fn part<'a>(
+    alloc: Global,
+    name: &'static str,
+    about: &'static str,
+    after: &'static str,
+    words: &[Word],
+) -> Result<Command<'a>, AllocError> {
+    let args = args(alloc, words)?;
+    Command::new(alloc, name)
+        .about(about)
+        .after_help(after)
         .args(args)
 }
 
@@ -171,13 +180,17 @@ fn arg<'a>(alloc: Global, word: &Word) -> Result<Arg<'a>, AllocError> {
                 .action(ArgAction::Append)
                 .requires_all(*others)
         }
-        Word::Flag(id, help) => Ok(
-            Arg::new(alloc, *id)
-                .long(*id)
-                .help(*help)
-                .action(ArgAction::SetTrue),
-        ),
+        Word::Flag(id, help) => Ok(flag(alloc, *id, *help)),
+        Word::FlagBeside(id, help, other) => flag(alloc, *id, *help).requires_arg(*other),
     }
+}
+
+// An option without a value.
+fn flag<'a>(alloc: Global, id: &'a str, help: &'a str) -> Arg<'a> {
+    Arg::new(alloc, id)
+        .long(id)
+        .help(help)
+        .action(ArgAction::SetTrue)
 }
 
 // An option with a value.

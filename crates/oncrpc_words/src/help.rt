@@ -73,6 +73,12 @@ pub const DIALECT: &str = "The dialect that the files are in, where it is not th
 pub const DEFINE: &str =
     "A name that is defined for lines #ifdef; the option may come more than once";
 
+/// The option for JSON.
+pub const JSON: &str = "Print the value as JSON, and nothing else on standard output";
+
+/// The option for JSON by lines.
+pub const INDENT: &str = "Print each item and each member of JSON on a line";
+
 /// The option for the limit on depth.
 pub const DEPTH: &str = "The greatest depth of a value, 1 to 4096";
 

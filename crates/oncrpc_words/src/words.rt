@@ -6,7 +6,7 @@ use super::command::{BYTES, DEPTH, VERS, command};
 use super::fault::{WordsFault, fault_of, no_memory};
 use super::request::{InfoTask, Request, ServeTask};
 use clap::{ArgMatches, Error};
-use oncrpc_answers::{Dialect, RecordsTask, Task, Texts, ValueTask};
+use oncrpc_answers::{Dialect, JsonTask, RecordsTask, Task, Texts, ValueTask};
 use std::alloc::{AllocError, Global};
 
 /// Reads the words that stand after the program's own name. No words at all check an opaque in hexadecimal.
@@ -59,7 +59,7 @@ fn request_of(alloc: Global, words: &[String]) -> Result<Request, Error> {
 fn asked(alloc: Global, name: &str, options: &ArgMatches<'_>) -> Result<Request, AllocError> {
     match name {
         "check" => Ok(Request::Offline(Task::Check(value_task(alloc, options)?))),
-        "show" => Ok(Request::Offline(Task::Show(value_task(alloc, options)?))),
+        "show" => Ok(Request::Offline(show_task(alloc, options)?)),
         "info" => Ok(Request::Info(info_task(alloc, options)?)),
         "serve" => Ok(Request::Serve(serve_task(options))),
         _ => Ok(Request::Offline(Task::Records(records_task(options)))),
@@ -108,6 +108,16 @@ fn value_task(alloc: Global, options: &ArgMatches<'_>) -> Result<ValueTask, Allo
         depth: number(options, "depth", DEPTH),
         bytes: number(options, "bytes", BYTES),
     })
+}
+
+fn show_task(alloc: Global, options: &ArgMatches<'_>) -> Result<Task, AllocError> {
+    let what = value_task(alloc, options)?;
+    if options.get_flag("json") {
+        let indented = options.get_flag("indent");
+        Ok(Task::Json(JsonTask { what, indented }))
+    } else {
+        Ok(Task::Show(what))
+    }
 }
 
 fn records_task(options: &ArgMatches<'_>) -> RecordsTask {

@@ -4,6 +4,8 @@ use Rattle.std.specs.Io.KnownBytes.{Consumes}
 use Rattle.xdr_codec.specs.Checks.{RepresentsBytes}
 use Rattle.xdr_codec.specs.declared.checker.Checker.{Checker}
 use Rattle.oncrpc_answers.specs.declared.answer.Answer.{Answer}
+use Rattle.oncrpc_tasks.specs.declared.question.Form.{Form}
+use Rattle.oncrpc_tasks.specs.declared.question.Form.TheVariants as form
 use Rattle.oncrpc_tasks.specs.declared.judge.Verdict.{Verdict}
 use Rattle.oncrpc_tasks.specs.declared.judge.Verdict.TheVariants.{Open, Settled}
 use Rattle.oncrpc_tasks.specs.Right.{Question, IsRight}
@@ -15,7 +17,7 @@ pub record Follows (q : Question) (checker : Checker) (bytes : List ℕ) : Type 
   pub kinds_are : checker.reader.schema.now.kinds ≡ q.kinds
   pub place_is : checker.reader.kind.place ≡ q.place
   pub limits_are : checker.reader.limits ≡ q.limits
-  pub lines : q.shows ≡ false
+  pub lines : q.form ≡ form.Outcome
 
 -- What a checker's bytes say: an answer that is right if they are all, or one that is right whatever follows.
 abbrev pub Says : Question → Checker → (bytes : List ℕ) → Verdict → Type 0
@@ -24,7 +26,13 @@ Says q checker bytes (Settled a) = (more : List ℕ) → IsRight q (bytes ++ mor
 
 -- the same question, of which nothing is to be shown
 abbrev pub unshown : Question → Question
-unshown q = record { kinds = q.kinds; place = q.place; limits = q.limits; shows = false }
+unshown q = record { kinds = q.kinds; place = q.place; limits = q.limits; form = form.Outcome }
+
+-- whether bytes are kept for what is to be shown
+abbrev pub keeps_of : Form → Bool
+keeps_of form.Outcome = false
+keeps_of form.Lines = true
+keeps_of (form.Json layout) = true
 
 -- What is kept of an input: all that was read, and the answer is right if the input ends with it; else nothing.
 abbrev pub IsRetained : (keeps : Bool) → Question → (left left' : Option (List ℕ)) → Answer → (bytes : List ℕ) → Type 0

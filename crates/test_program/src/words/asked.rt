@@ -1,6 +1,6 @@
 //! The tasks that words ask for, and words that ask for none.
 use crate::words::reading::{Words, read};
-use oncrpc_answers::{Dialect, RecordsTask, Task, Texts, ValueTask};
+use oncrpc_answers::{Dialect, JsonTask, RecordsTask, Task, Texts, ValueTask};
 use oncrpc_words::{InfoTask, Request, ServeTask, WordsFault};
 use std::alloc::{AllocError, Global};
 
@@ -8,12 +8,24 @@ use std::alloc::{AllocError, Global};
 // if they are in that, whether bytes are hexadecimal, depth and bytes.
 type Asked = (&'static str, Words, Option<Words>, bool, u32, u32);
 
-// Words, whether they ask for the value's lines, and what they ask.
-const VALUES: [(Words, bool, Asked); 12] = [
-    (&[], false, ("opaque", &[], None, true, 4096, 16777216)),
+// What is to be printed of a value.
+#[derive(Clone, Copy, PartialEq, Eq)]
+enum Printed {
+    Outcome,
+    Lines,
+    Json { indented: bool },
+}
+
+// Words, what they ask to be printed, and of what.
+const VALUES: [(Words, Printed, Asked); 15] = [
+    (
+        &[],
+        Printed::Outcome,
+        ("opaque", &[], None, true, 4096, 16777216),
+    ),
     (
         &["check", "--name", "int"],
-        false,
+        Printed::Outcome,
         ("int", &[], None, false, 4096, 16777216),
     ),
     (
@@ -26,27 +38,27 @@ const VALUES: [(Words, bool, Asked); 12] = [
             "--name",
             "",
         ],
-        false,
+        Printed::Outcome,
         ("", &[], None, true, 5, 7),
     ),
     (
         &["check", "--types", "a.x", "--name", "int"],
-        false,
+        Printed::Outcome,
         ("int", &["a.x"], None, false, 4096, 16777216),
     ),
     (
         &["show", "--types=b/c.x", "--name", "1.2.3.result", "--hex"],
-        true,
+        Printed::Lines,
         ("1.2.3.result", &["b/c.x"], None, true, 4096, 16777216),
     ),
     (
         &["show", "--name", "list", "--types", ""],
-        true,
+        Printed::Lines,
         ("list", &[""], None, false, 4096, 16777216),
     ),
     (
         &["show", "--name", "int", "--depth", "1", "--bytes", "4"],
-        true,
+        Printed::Lines,
         ("int", &[], None, false, 1, 4),
     ),
     (
@@ -60,7 +72,7 @@ const VALUES: [(Words, bool, Asked); 12] = [
             "--types",
             "b",
         ],
-        true,
+        Printed::Lines,
         ("int", &["b", "a", "b"], None, false, 4096, 16777216),
     ),
     (
@@ -73,7 +85,7 @@ const VALUES: [(Words, bool, Asked); 12] = [
             "--dialect",
             "rpcgen",
         ],
-        false,
+        Printed::Outcome,
         ("int", &["a"], Some(&[]), false, 4096, 16777216),
     ),
     (
@@ -87,7 +99,7 @@ const VALUES: [(Words, bool, Asked); 12] = [
             "--name",
             "int",
         ],
-        true,
+        Printed::Lines,
         ("int", &["a", "b"], Some(&[]), false, 4096, 16777216),
     ),
     (
@@ -102,7 +114,7 @@ const VALUES: [(Words, bool, Asked); 12] = [
             "--dialect",
             "rpcgen",
         ],
-        false,
+        Printed::Outcome,
         ("int", &["a"], Some(&["RPC_XDR"]), false, 4096, 16777216),
     ),
     (
@@ -118,8 +130,36 @@ const VALUES: [(Words, bool, Asked); 12] = [
             "--define",
             "A",
         ],
-        true,
+        Printed::Lines,
         ("int", &["a"], Some(&["B", "A"]), false, 4096, 16777216),
+    ),
+    (
+        &["show", "--json", "--name", "int"],
+        Printed::Json { indented: false },
+        ("int", &[], None, false, 4096, 16777216),
+    ),
+    (
+        &[
+            "show", "--indent", "--name", "a", "--types", "a.x", "--json", "--hex",
+        ],
+        Printed::Json { indented: true },
+        ("a", &["a.x"], None, true, 4096, 16777216),
+    ),
+    (
+        &[
+            "show",
+            "--json",
+            "--name",
+            "a",
+            "--types",
+            "a.x",
+            "--dialect",
+            "rpcgen",
+            "--depth",
+            "9",
+        ],
+        Printed::Json { indented: false },
+        ("a", &["a.x"], Some(&[]), false, 9, 16777216),
     ),
 ];
 
@@ -153,18 +193,33 @@ fn is_value(task: &ValueTask, asked: &Asked) -> bool {
         && task.bytes == bytes
 }
 
-fn asks_value(alloc: Global, words: Words, shows: bool, asked: &Asked) -> Result<bool, AllocError> {
+fn asks_value(
+    alloc: Global,
+    words: Words,
+    printed: Printed,
+    asked: &Asked,
+) -> Result<bool, AllocError> {
     match read(alloc, words)? {
-        Ok(Request::Offline(Task::Check(task))) => Ok(!shows && is_value(&task, asked)),
-        Ok(Request::Offline(Task::Show(task))) => Ok(shows && is_value(&task, asked)),
+        Ok(Request::Offline(Task::Check(task))) => {
+            Ok(printed == Printed::Outcome && is_value(&task, asked))
+        }
+        Ok(Request::Offline(Task::Show(task))) => {
+            Ok(printed == Printed::Lines && is_value(&task, asked))
+        }
+        Ok(Request::Offline(Task::Json(JsonTask { what, indented }))) => {
+            Ok(printed == Printed::Json { indented } && is_value(&what, asked))
+        }
         _ => Ok(false),
     }
 }
 
 #[test]
 fn values_are_asked(rt: HostRuntime) -> Result<(), AllocError> {
-    for (words, shows, asked) in &VALUES {
-        assert!(rt; asks_value(rt.alloc(), words, *shows, asked)?, "{words:?}");
+    for (words, printed, asked) in &VALUES {
+        assert!(rt;
+            asks_value(rt.alloc(), words, *printed, asked)?,
+            "{words:?}"
+        );
     }
     Ok(())
 }
@@ -309,7 +364,7 @@ fn serves_are_asked(rt: HostRuntime) -> Result<(), AllocError> {
 }
 
 // Words that give no task, and the status.
-const REFUSED: [(Words, u8); 43] = [
+const REFUSED: [(Words, u8); 46] = [
     (&["check"], 2),
     (&["nope"], 2),
     (&["show"], 2),
@@ -372,6 +427,9 @@ const REFUSED: [(Words, u8); 43] = [
         2,
     ),
     (&["records", "--dialect", "rpcgen"], 2),
+    (&["show", "--name", "int", "--indent"], 2),
+    (&["show", "--name", "int", "--json", "--json"], 2),
+    (&["check", "--name", "int", "--json"], 2),
     (&["check", "--name", "int", "--depth", "4294967296"], 2),
     (&["check", "--name", "int", "--depth", "-1"], 2),
     (&["check", "--name", "int", "--bytes", "0x8"], 2),

@@ -50,6 +50,15 @@ const OF_OUTCOMES: [&str; 18] = [
     "'read fault'",
 ];
 
+// The options for JSON, and where the line of the outcome goes.
+const OF_JSON: [&str; 5] = [
+    "--json ",
+    "--indent ",
+    "the value alone is printed on one line",
+    "to standard error, unless it is 'ok N'",
+    " | oncrpc show --json --name ",
+];
+
 const OF_RECORDS: [&str; 11] = [
     "0 to 2147483647",
     "[default: 16777216]",
@@ -112,11 +121,12 @@ const OF_ALL: [&str; 13] = [
 const OF_VERSION: [&str; 1] = ["oncrpc 0.1.0\nproved with logic dac8208d650f15bf\n"];
 
 // Words, and what their answer says.
-const SAID: [(Words, &[&str]); 10] = [
+const SAID: [(Words, &[&str]); 11] = [
     (&["check", "--help"], &OF_A_VALUE),
     (&["help", "check"], &OF_OUTCOMES),
     (&["show", "--help"], &OF_A_VALUE),
     (&["help", "show"], &OF_A_VALUE),
+    (&["help", "show"], &OF_JSON),
     (&["records", "--help"], &OF_RECORDS),
     (&["info", "--help"], &OF_INFO),
     (&["help", "serve"], &OF_SERVE),

@@ -9,7 +9,7 @@ use Rattle.example_program.proofs.tasks.the_name_is_looked_up.Goals as goal
 
 pub returns : goal.returns
 returns g c = λ done.
-    let h = looked_for _ _ _ _ _ _ _ _ _ _ _ _ c.task_over.ensures.ends done in (
+    let h = looked_for _ _ _ _ _ _ _ _ _ _ _ _ _ c.task_over.ensures.ends done in (
       h.question.place,
       subst (λ (d : Declared). Names (string_bytes c.args.what.name) d h.question.place)
           (no_file _ _ _ _ _ c.requires h.are_reported h.asked.source) h.asked.named,

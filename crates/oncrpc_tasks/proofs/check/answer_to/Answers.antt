@@ -1,5 +1,6 @@
 -- What is read as it is, shown and not.
 use Rattle.oncrpc_tasks.specs.Right.{asked_of}
+use Rattle.oncrpc_tasks.specs.Private.Judged.{keeps_of}
 use Rattle.oncrpc_tasks.proofs.Showing.{input_shown, shows_retained}
 use Rattle.oncrpc_tasks.proofs.check.answer_to.Goals as goal
 
@@ -16,7 +17,8 @@ returns-in_err-shown-clause-reads g c =
 pub returns-in_ok-shown-clause-right : goal.returns-in_ok-shown-clause-right
 returns-in_ok-shown-clause-right g c =
     let q = asked_of c.args.question.now in
-    rw c.if-question.false (shows_retained q q.shows _ _ c.in_ok-answer.bytes.items _ _ c.in_ok-answer.ensures.retained
+    rw c.if-question.false (shows_retained q (keeps_of q.form) _ _ c.in_ok-answer.bytes.items _ _
+    c.in_ok-answer.ensures.retained
     c.in_ok-answer.ensures.right
     (rw c.deref.ensures.value at c.in_ok-shown.ensures.right))
 

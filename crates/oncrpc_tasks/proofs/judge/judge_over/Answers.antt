@@ -5,6 +5,7 @@ use Rattle.std.proofs.KnownBytes.{Keeps-refl}
 use Rattle.xdr_io.specs.Reported.{Counts}
 use Rattle.xdr_io.specs.declared.input.TheConstants.{MOST_READS}
 use Rattle.xdr_io.proofs.Chained.{Counts-trans, Counts-none}
+use Rattle.oncrpc_tasks.specs.Private.Judged.{keeps_of}
 use Rattle.oncrpc_tasks.proofs.Progress.{started, begun, settled_first, unsettled_by}
 use Rattle.oncrpc_tasks.proofs.Progress.{stops_failed, stops_last, stops_read}
 use Rattle.oncrpc_tasks.proofs.Progress.{count_within, at_end_by, goes_on, settled_by}
@@ -21,7 +22,8 @@ returns-in-Settled-clause-right g c =
 
 pub returns-in-Settled-clause-retained : goal.returns-in-Settled-clause-retained
 returns-in-Settled-clause-retained g c =
-    retained_first _ _ _ c.in-Settled.answer _ c.args.question.now.shows _ c.new-retained.ensures.items c.in-Settled.is
+    retained_first _ _ _ c.in-Settled.answer _ (keeps_of c.args.question.now.form) _ c.new-retained.ensures.items
+    c.in-Settled.is
     (c.in_ok-answer.ensures.says _ [] (started c.start-checker.result c.args.question.now.schema.now
     c.args.question.now.kind c.args.question.now.limits
     c.start-checker.ensures.represents
@@ -29,7 +31,8 @@ returns-in-Settled-clause-retained g c =
 
 pub loop-turn-init : goal.loop-turn-init
 loop-turn-init g c = record {
-  progress = begun _ _ _ c.in-Open.answer _ c.args.question.now.shows _ c.new-retained.ensures.items c.in-Open.is
+  progress = begun _ _ _ c.in-Open.answer _ (keeps_of c.args.question.now.form) _ c.new-retained.ensures.items
+      c.in-Open.is
       (c.in_ok-answer.ensures.says _ [] (started c.start-checker.result c.args.question.now.schema.now
       c.args.question.now.kind c.args.question.now.limits
       c.start-checker.ensures.represents

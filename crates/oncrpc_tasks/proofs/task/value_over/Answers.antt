@@ -9,6 +9,6 @@ returns-clause-ends g c =
       texts = asks.texts;
       are_reported = asks.are_reported;
       question = _;
-      asked = asks.asked c.args.shows;
+      asked = asks.asked c.args.form;
       ends = c.answer_over.ensures;
     })
