@@ -71,17 +71,18 @@ pub fn a_named_file_declares<P: Opener, I: Source, O: Sink, F: Sink>(
 pub fn two_files_are_one_text<P: Opener, I: Source, O: Sink, F: Sink>(
     alloc: Global,
     what: ValueTask,
-    names: (&String, &String),
+    file: &String,
+    other: &String,
     opener: &mut P,
     input: &mut I,
     output: &mut O,
     faults: &mut F,
 ) -> u8
-    requires files { what.types.files.items ≡ names.0.now ∷ names.1.now ∷ [] }
+    requires files { what.types.files.items ≡ file.now ∷ other.now ∷ [] }
     requires dialect { what.types.dialect ≡ Rfc }
     ensures { result ≤ 1 → (first second : List ℕ)
-        → P.reported opener.old (string_bytes names.0.now) ≡ Some first
-        → P.reported opener.old (string_bytes names.1.now) ≡ Some second
+        → P.reported opener.old (string_bytes file.now) ≡ Some first
+        → P.reported opener.old (string_bytes other.now) ≡ Some second
         → (d : Declared) × Means (first ++ 10 ∷ second) d }
 {
     task_over(alloc, &Task::Show(what), opener, input, output, faults)
