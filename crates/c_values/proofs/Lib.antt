@@ -12,3 +12,4 @@ mod Reported
 mod Telling
 mod Putting
 mod Refused
+mod Several

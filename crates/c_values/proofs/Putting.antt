@@ -1,8 +1,9 @@
 -- What writing one more item says of them all.
-use Rattle.std.proofs.Common.{◌≡◌, ℕ, ◌+◌, ◌<◌, List, [], ◌∷◌, ◌++◌, length, drop, refl, sym, ap, subst, ◌∙◌, arith}
-use Rattle.std.proofs.Common.{append-nil, append_assoc, length-append, zero, suc, Bool, false, nat_eq}
+use Rattle.std.proofs.Common.{◌≡◌, ℕ, ◌+◌, ◌<◌, ◌≤◌, List, [], ◌∷◌, ◌++◌, length, take, drop, refl, sym, ap, subst, ◌∙◌}
+use Rattle.std.proofs.Common.{arith, append-nil, append_assoc, length-append, length-drop, zero, suc, ◌-◌, Bool, false}
+use Rattle.std.proofs.Common.{nat_eq}
 use Rattle.std.proofs.lemmas.Bool.{false≢true}
-use Rattle.std.proofs.lemmas.List.{drop_all}
+use Rattle.std.proofs.lemmas.List.{drop_all, drop-drop, take_all, take-append-drop, length-take-le}
 use Rattle.xdr_types.specs.Kinds.{KindView, Lists}
 use Rattle.xdr_types.specs.Tree.{Tree}
 use Rattle.xdr_types.specs.Within.{Bounds}
@@ -172,47 +173,55 @@ pub record AreWriting (q : Question) (w : Writer) (bytes : List ℕ) (cs : List 
 
 module _ (q : Question) (w : Writer) (bytes : List ℕ) (cs : List ValueItem) (at : ℕ) (out : List ℕ) (last : Step)
     (are : AreWriting q w bytes cs at out last) where
-  -- where one more is taken
-  pub one_more : (c : ValueItem) → drop at cs ≡ c ∷ drop (suc at) cs → (x : Writer) (more : List ℕ) (s : Step)
-      → asked x ≡ asked w
-      → ((before : List ValueItem) → IsWriting w bytes before out → IsWriting x bytes (before ++ c ∷ []) more
-      × IsTaken (asked w) (given (before ++ c ∷ []) bytes) more s)
-      → AreWriting q x bytes cs (at + 1) more s
-  one_more c next x more s same takes =
+  -- where some more are taken
+  pub some_more : (rest : List ValueItem) → rest ≡ drop at cs → (n : ℕ) → (1 ≤ n) × (n ≤ length rest) → (x : Writer)
+      (more : List ℕ) (s : Step) → asked x ≡ asked w
+      → ((before : List ValueItem) → IsWriting w bytes before out → IsWriting x bytes (before ++ take n rest) more
+      × IsTaken (asked w) (given (before ++ take n rest) bytes) more s)
+      → AreWriting q x bytes cs (at + n) more s
+  some_more rest is n some x more s same takes =
       let k = takes are.before are.writing in
-      let one : suc at ≡ at + 1 = omega arith in
-      let rest : drop at cs ≡ c ∷ drop (at + 1) cs =
-      subst (λ (n : ℕ). drop at cs ≡ c ∷ drop n cs) one next in record {
+      let split : take n rest ++ drop (at + n) cs ≡ drop at cs =
+      ap (λ (xs : List ValueItem). take n rest ++ xs) (sym (drop-drop n at cs) ∙ ap (λ (xs : List ValueItem). drop n xs)
+      (sym is)) ∙ take-append-drop n rest ∙ is in record {
         settings = same ∙ are.settings;
-        before = are.before ++ c ∷ [];
-        joined = append_assoc are.before (c ∷ []) (drop (at + 1) cs)
-            ∙ ap (λ (xs : List ValueItem). are.before ++ xs) (sym rest) ∙ are.joined;
-        count = omega (arith, length-append are.before (c ∷ []), are.count);
+        before = are.before ++ take n rest;
+        joined = append_assoc are.before (take n rest) (drop (at + n) cs)
+            ∙ ap (λ (xs : List ValueItem). are.before ++ xs) split ∙ are.joined;
+        count = omega (
+          arith,
+          length-append are.before (take n rest),
+          are.count,
+          length-take-le n rest some.1,
+        );
         writing = k.0;
-        taken = λ some.
-            subst (λ (p : Question). IsTaken p (given (are.before ++ c ∷ []) bytes) more s) are.settings k.1;
+        taken = λ any.
+            subst (λ (p : Question). IsTaken p (given (are.before ++ take n rest) bytes) more s) are.settings k.1;
       }
 
-  -- where one is refused
-  pub stopped : (c : ValueItem) → drop at cs ≡ c ∷ drop (suc at) cs → (a : Answer)
-      → ((before after : List ValueItem) → IsWriting w bytes before out → at ≡ length before
-      → IsUnwritten (asked w) (given (before ++ c ∷ after) bytes) a)
+  -- where one of those behind is refused
+  pub stopped : (rest : List ValueItem) → rest ≡ drop at cs → (a : Answer)
+      → ((before : List ValueItem) → IsWriting w bytes before out → at ≡ length before
+      → IsUnwritten (asked w) (given (before ++ rest) bytes) a)
       → IsUnwritten q (given cs bytes) a
-  stopped c next a refuses =
-      let split : are.before ++ c ∷ drop (suc at) cs ≡ cs =
-      ap (λ (xs : List ValueItem). are.before ++ xs) (sym next) ∙ are.joined in
-      subst (λ (xs : List ValueItem). IsUnwritten q (given xs bytes) a) split
-      (subst (λ (p : Question). IsUnwritten p (given (are.before ++ c ∷ drop (suc at) cs) bytes) a) are.settings
-      (refuses are.before (drop (suc at) cs) are.writing (sym are.count)))
+  stopped rest is a refuses =
+      subst (λ (xs : List ValueItem). IsUnwritten q (given xs bytes) a) are.joined
+      (subst (λ (p : Question). IsUnwritten p (given (are.before ++ drop at cs) bytes) a) are.settings
+      (subst (λ (xs : List ValueItem). IsUnwritten (asked w) (given (are.before ++ xs) bytes) a) is
+      (refuses are.before are.writing (sym are.count))))
 
   -- where all are taken
-  pub ended : at ≡ length cs → 0 < at → (s : Step) → last ≡ s → IsTaken q (given cs bytes) out s
+  pub ended : length cs ≤ at → 0 < at → (s : Step) → last ≡ s → IsTaken q (given cs bytes) out s
   ended whole some s is =
       let none : drop at cs ≡ [] = drop_all at cs (omega (arith, whole)) in
       let mine : are.before ≡ cs =
       sym (append-nil are.before) ∙ ap (λ (xs : List ValueItem). are.before ++ xs) (sym none) ∙ are.joined in
       subst (λ (x : Step). IsTaken q (given cs bytes) out x) is
       (subst (λ (xs : List ValueItem). IsTaken q (given xs bytes) out last) mine (are.taken some))
+
+-- what is left of a list behind so many
+pub rest_of : (at : ℕ) (cs : List ValueItem) → take (length cs - at) (drop at cs) ≡ drop at cs
+rest_of at cs = take_all (length cs - at) (drop at cs) (omega (arith, length-drop at cs))
 
 -- a list that is not empty has some
 pub some_there : (n : ℕ) (b : Bool) → b ≡ nat_eq n 0 → b ≡ false → 0 < n

@@ -1,7 +1,9 @@
 //! The encoding of a value, from its items.
-ghost use Rattle.std.specs.Prelude.{◌≡◌, ◌<◌, ℕ, List, [], ◌∷◌, ◌++◌, length, IfOk, IfErr};
+ghost use Rattle.std.specs.Prelude.{◌≡◌, ◌<◌, ◌≤◌, ℕ, List, [], ◌∷◌, ◌++◌, length, take, IfOk, IfErr, IfSome};
+ghost use Rattle.xdr_writer.specs.Items as told;
+ghost use Rattle.xdr_writer.specs.Runs.{as_items};
 ghost use Rattle.c_values.specs.Answers.{Question};
-ghost use Rattle.c_values.specs.Items.{Given, given};
+ghost use Rattle.c_values.specs.Items.{Given, given, Tells, AreTold};
 ghost use Rattle.c_values.specs.Written.{IsEncoded, AreTooFew};
 ghost use Rattle.c_values.specs.Private.Writing.{asked, IsWriting, IsTaken, IsUnwritten, Reports};
 
@@ -49,6 +51,74 @@ fn put_item(
     match writer.put(told, out) {
         Ok(step) => Ok(step),
         Err(refused) => Err(refusal(refused.why, at)),
+    }
+}
+
+/// How many numbers are put at once, at most.
+const MOST: usize = 64;
+
+/// For how many bytes there is space at first, so that a short value asks for memory once.
+const FIRST: usize = 256;
+
+/// The number that the item tells; none, where it tells no number.
+fn number_of(item: &ValueItem) -> Option<i128>
+    ensures { IfSome result (λ z. (bytes : List ℕ) → Tells bytes item.now (told.number z)) }
+{
+    match item.form {
+        1 => Some(item.signed_number as i128),
+        2 => Some(item.number as i128),
+        _ => None,
+    }
+}
+
+/// Copies the numbers with which the items begin, as many as there is room for.
+fn copy_numbers(items: &[ValueItem], numbers: &mut [i128]) -> usize
+    ensures few { result ≤ length items.now }
+    ensures room { result ≤ length numbers.new }
+    ensures told { (bytes : List ℕ) → AreTold bytes (take result items.now) (as_items (take result numbers.new)) }
+{
+    let mut count = 0;
+    while count < items.len() && count < numbers.len() {
+        match number_of(&items[count]) {
+            Some(number) => numbers[count] = number,
+            None => return count,
+        }
+        count += 1;
+    }
+    count
+}
+
+/// Puts the numbers with which the items begin, or else the first item, behind so many others. It answers how many,
+/// and what the last of them brings.
+fn put_next(
+    writer: &mut Writer,
+    items: &[ValueItem],
+    at: usize,
+    content: &[u8],
+    numbers: &mut [i128],
+    out: &mut Vec<u8>,
+) -> Result<(usize, Step), Answer>
+    requires { 1 ≤ length items.now }
+    ensures some { IfOk result (λ t. (1 ≤ t.0) × (t.0 ≤ length items.now)) }
+    ensures writes { IfOk result (λ t. (before : List ValueItem)
+        → IsWriting writer.old content.now before out.old.items
+        → IsWriting writer.new content.now (before ++ take t.0 items.now) out.new.items
+        × IsTaken (asked writer.old) (given (before ++ take t.0 items.now) content.now) out.new.items t.1) }
+    ensures refuses { IfErr result (λ a. (before : List ValueItem)
+        → IsWriting writer.old content.now before out.old.items → at ≡ length before
+        → IsUnwritten (asked writer.old) (given (before ++ items.now) content.now) a) }
+    ensures same { asked writer.new ≡ asked writer.old }
+{
+    let count = copy_numbers(items, numbers);
+    if count < 2 {
+        return match put_item(writer, &items[0], at, content, out) {
+            Ok(step) => Ok((1, step)),
+            Err(answer) => Err(answer),
+        };
+    }
+    match writer.put_numbers(&numbers[..count], out) {
+        Ok(step) => Ok((count, step.unwrap_or(Step::More))),
+        Err(refused) => Err(refusal(refused.why, refused.item)),
     }
 }
 
@@ -104,10 +174,25 @@ pub fn encode_items(
     }
     let mut writer = Writer::start(alloc, schema, kind, limits);
     let mut out = Vec::new(alloc);
+    if out.reserve(FIRST).is_err() {
+        return Err(Answer::NoMemory);
+    }
+    let mut numbers = [0; MOST];
     let mut last = Step::More;
-    for (at, item) in items.iter().enumerate() {
-        match put_item(&mut writer, item, at, content, &mut out) {
-            Ok(step) => last = step,
+    let mut at = 0;
+    while at < items.len() {
+        match put_next(
+            &mut writer,
+            &items[at..],
+            at,
+            content,
+            &mut numbers,
+            &mut out,
+        ) {
+            Ok((count, step)) => {
+                at += count;
+                last = step;
+            }
             Err(answer) => return Err(answer),
         }
     }

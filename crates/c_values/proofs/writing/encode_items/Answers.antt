@@ -1,10 +1,9 @@
 -- The items before the next are written, and the last step tells of them.
-use Rattle.std.proofs.Common.{◌<◌, [], length, refl, arith, rules}
-use Rattle.std.proofs.Math.Seq.{drop-cons}
+use Rattle.std.proofs.Common.{◌<◌, [], length, refl, ◌∙◌, arith, rules}
 use Rattle.c_values.specs.Items.{given}
 use Rattle.c_values.specs.Answers.{Question}
 use Rattle.c_values.specs.Private.Writing.{AreBegun}
-use Rattle.c_values.proofs.Putting.{started_question, one_more, stopped, ended, some_there}
+use Rattle.c_values.proofs.Putting.{started_question, rest_of, some_more, stopped, ended, some_there}
 use Rattle.c_values.proofs.writing.encode_items.Goals as goal
 
 pub loop-at-init : goal.loop-at-init
@@ -18,7 +17,7 @@ loop-at-init c = record {
     is = [];
     represents = c.start-writer.ensures.represents;
     told = tt;
-    spelled = c.new-out.ensures.items;
+    spelled = c.reserve.ensures.items ∙ c.new-out.ensures.items;
     takes = λ some. absurd (omega (arith, some));
   };
   taken = λ some. absurd (omega (arith, some));
@@ -28,17 +27,16 @@ pub loop-at-preserved : goal.loop-at-preserved
 loop-at-preserved c =
     let q : Question =
     record { kinds = c.args.schema.now.kinds; place = c.args.kind.place; limits = c.args.limits } in
-    one_more q c.loop-at.writer c.args.content.now c.args.items.now c.loop-at.at c.loop-at.out.items c.loop-at.last
-    c.loop-at.invariant _ (drop-cons c.args.items.now c.loop-at.at _ c.loop-at-test.true) c.put_item.new.writer
-    c.put_item.new.out.items c.in-Ok.step c.in-Ok.ensures.same c.in-Ok.ensures.writes
+    some_more q c.loop-at.writer c.args.content.now c.args.items.now c.loop-at.at c.loop-at.out.items c.loop-at.last
+    c.loop-at.invariant _ (rest_of c.loop-at.at c.args.items.now) c.in-Ok.count c.in-Ok.ensures.some
+    c.put_next.new.writer c.put_next.new.out.items c.in-Ok.step c.in-Ok.ensures.same c.in-Ok.ensures.writes
 
 pub returns-in-Err-clause-unwritten : goal.returns-in-Err-clause-unwritten
 returns-in-Err-clause-unwritten c =
     let q : Question =
     record { kinds = c.args.schema.now.kinds; place = c.args.kind.place; limits = c.args.limits } in
     stopped q c.loop-at.writer c.args.content.now c.args.items.now c.loop-at.at c.loop-at.out.items c.loop-at.last
-    c.loop-at.invariant _ (drop-cons c.args.items.now c.loop-at.at _ c.loop-at-test.true) c.in-Err.answer
-    c.in-Err.ensures.refuses
+    c.loop-at.invariant _ (rest_of c.loop-at.at c.args.items.now) c.in-Err.answer c.in-Err.ensures.refuses
 
 pub returns-in-Done-clause-encoded : goal.returns-in-Done-clause-encoded
 returns-in-Done-clause-encoded c =
