@@ -1,10 +1,11 @@
 #!/bin/bash
 # Builds the programs over libtirpc that ours are measured beside, into the folder given.
-# Needs Debian's libtirpc-dev, rpcsvc-proto, gcc and valgrind: installs what is missing.
+# Needs Debian's libtirpc-dev, libjson-c-dev, rpcsvc-proto, gcc and valgrind: installs what is missing.
 set -eu
 here=$(cd "$(dirname "$0")" && pwd); to=$1; mkdir -p "$to/gen" "$to/c"
-if ! [ -e /usr/include/tirpc/rpc/rpc.h ] || ! command -v rpcgen valgrind >/dev/null; then
-    apt-get update -qq && apt-get install -y -qq libtirpc-dev rpcsvc-proto gcc valgrind >/dev/null
+if ! [ -e /usr/include/tirpc/rpc/rpc.h ] || ! [ -e /usr/include/json-c/json.h ] ||
+    ! command -v rpcgen valgrind >/dev/null; then
+    apt-get update -qq && apt-get install -y -qq libtirpc-dev libjson-c-dev rpcsvc-proto gcc valgrind >/dev/null
 fi
 cp "$here"/c/*.c "$to/c/"; cp "$here/x/bench.x" "$to/gen/"
 (cd "$to/gen" && rm -f bench.h bench_xdr.c && rpcgen -h bench.x >bench.h && rpcgen -c bench.x >bench_xdr.c)
@@ -24,5 +25,6 @@ if [ -e "$here/../library/liboncrpc.a" ]; then
             "$here/rust/loop_buffers.rs" -o loop_buffers
     fi
 fi
+gcc -O2 -w -I/usr/include/tirpc c/loop_json.c gen/bench_xdr.c -o loop_json -ltirpc -ljson-c
 for p in records loop_registry; do gcc -O2 -w -I/usr/include/tirpc c/$p.c -o $p -ltirpc; done
 gcc -O2 -w c/registry_load.c -o registry_load

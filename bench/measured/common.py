@@ -12,6 +12,7 @@ OURS = f"{ROOT}/crates/oncrpc/out/oncrpc"
 # (./build-library leaves it there)
 ARCHIVE = f"{ROOT}/library/liboncrpc.a"
 CALLS_OF_OURS = f"{ROOT}/crates/tool_bench/out/tool_bench"
+CALLS_OF_JSON = f"{ROOT}/crates/tool_json/out/tool_json"
 
 
 def refuse(why):
@@ -94,12 +95,13 @@ def per_value(program, words, few, many, given):
     return (least[many] - least[few]) / (many - few), (counts[many] - counts[few]) / (many - few)
 
 
-def processor(words, runs=3):
+def processor(words, runs=3, given=os.devnull):
     """The least processor time in seconds, whatever the status: a hostile text is mostly refused."""
     best = None
     for _ in range(runs):
         before = resource.getrusage(resource.RUSAGE_CHILDREN)
-        subprocess.run(words, stdin=subprocess.DEVNULL, stdout=subprocess.DEVNULL, stderr=subprocess.DEVNULL)
+        with open(given, "rb") as source:
+            subprocess.run(words, stdin=source, stdout=subprocess.DEVNULL, stderr=subprocess.DEVNULL)
         after = resource.getrusage(resource.RUSAGE_CHILDREN)
         taken = after.ru_utime - before.ru_utime + after.ru_stime - before.ru_stime
         best = taken if best is None else min(best, taken)
