@@ -43,6 +43,7 @@ from .messages import message_cases
 from .registry import few_bytes_cases, is_missed, is_not_appended, is_unexchanged, swept_cases
 from .running import run
 from .service import port_rows, port_wants_memory
+from .spelled import place_of
 from .streams import (
     asked_of,
     exchanged,
@@ -167,16 +168,20 @@ def wants_memory(told, whole, case):
             return told.answer in (NO_MEMORY, is_read)
         case "read" | "read_tokens" | "read_dialect":
             return told.answer == "declaration refused: 13 at 1:1"
+        case "read_json":
+            ends = "1:1", place_of(case.given, len(case.given))
+            return told.answer in [f"{NO_MEMORY} at {end}" for end in ends]
     return told.answer == NO_MEMORY
 
 
 # Calls that end at the first growth that is refused, and tell the same whether later ones are granted again.
 ENDING = "normalise RecordReader exchange answer decode parts Decoder Checker encode show Value::copy mark".split()
-ENDING += "append_answer exchange_datagram tokens read_outline write_json json_of_bytes find join_texts".split()
+ENDING += "append_answer exchange_datagram tokens read_outline write_json json_of_bytes read_json find".split()
+ENDING += ["join_texts"]
 # Those that take memory for each answer, so that the first growth is not done without.
 TAKING_ANY = "answer read mark exchange info_over datagrams_on info_datagram encode show read_call".split()
 TAKING_ANY += "read_auth_sys tokens read_outline directory_schema append_answer exchange_datagram".split()
-TAKING_ANY += "serve_datagrams write_json json_of_bytes read_tokens read_dialect join_texts".split()
+TAKING_ANY += "serve_datagrams write_json json_of_bytes read_json read_tokens read_dialect join_texts".split()
 
 
 def is_granted_well(whole, case, number):

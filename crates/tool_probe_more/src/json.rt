@@ -1,6 +1,7 @@
 //! JSON of the value that begins the input: `write_json` by its tree, `json_of_bytes` by its bytes, in the layout of
-//! the case, compact or `indented`. The kind `own` is a union that no text declares: of its arms, one is called `case`
-//! and one has no name.
+//! the case, compact or `indented`. And back: `read_json`, of the module `reading`. The kind `own` is a union that no
+//! text declares: of its arms, one is called `case` and one has no name.
+use crate::reading;
 use std::alloc::{AllocError, Global};
 use std::env::Env;
 use std::string::String;
@@ -78,6 +79,7 @@ fn of_own_kind(out: &mut Report, rt: &impl Env, case: &Case<'_>, schema: &Schema
 fn of_kind(out: &mut Report, rt: &impl Env, case: &Case<'_>, asked: &Asked<'_>) {
     match case.call() {
         "write_json" => by_value(out, rt, case, asked, &case.input()),
+        "read_json" => reading::by_text(out, rt, case, asked, &case.input()),
         _ => by_bytes(out, rt, case, asked, &case.input()),
     }
 }

@@ -1,13 +1,14 @@
 //! One call a line, as `tool_probe` has them: a program of its own, so that its calls are proved apart. `test_lines`
 //! reads what is asked for and writes the line of what is answered, and `tests/README.md` says how both are written.
 //! Without a line nothing is called. Each module makes the calls of one subject:
-//! - `json`: values as JSON. `paths`: the part that a path names.
+//! - `json`: values as JSON. `reading`: JSON as values. `paths`: the part that a path names.
 //! - `dialect`: texts in rpcgen's dialect. `sessions`: connections of a registry, served at once.
 #![tactic(auto)]
 
 mod dialect;
 mod json;
 mod paths;
+mod reading;
 mod sessions;
 
 use std::io::{self, BufRead, BufReader, BufWriter, Write};
@@ -18,7 +19,7 @@ use test_lines::reported::Report;
 // Makes the call of a case, and reports how many growths of memory it met and what it answered.
 fn call(out: &mut Report, rt: &HostRuntime, case: &Case<'_>) {
     match case.call() {
-        "write_json" | "json_of_bytes" => json::call(out, rt, case),
+        "write_json" | "json_of_bytes" | "read_json" => json::call(out, rt, case),
         "read_dialect" | "join_texts" | "place_in" => dialect::call(out, rt, case),
         "find" => paths::call(out, rt, case),
         _ => sessions::call(out, rt, case),

@@ -1,0 +1,75 @@
+"""Random values from JSON. What is written for each is read as its bytes, and so is a text that says the same; of a
+text that was changed `spelled` says what is to be told."""
+import json
+import random
+
+from rows.shared import WIDEST
+
+from .json_read import is_told, reading
+from .mapping import texts_of, value_in
+from .random_values import random_values
+from .spelled import told_of_text
+
+# What is put into a text: structural characters, beginnings of numbers, names and strings, bytes that are no UTF-8.
+OTHERS = [b"", b'"', b"}", b"]", b",", b":", b"[", b"{", b"\\", b"0", b"1", b".", b"e", b"-", b" ", b"\n", b"\xff"]
+OTHERS += [b"\xc3", b"null", b"true", b"hex", b"case", b'"a":']
+
+
+class Changing:
+    """JSON texts of a value, said otherwise or changed."""
+
+    def __init__(self, source):
+        self.source = source
+
+    def moved(self, value):
+        """The value with the members of each object in another order."""
+        if isinstance(value, list):
+            return [self.moved(each) for each in value]
+        if not isinstance(value, dict):
+            return value
+        names = [*value]
+        self.source.shuffle(names)
+        return {name: self.moved(value[name]) for name in names}
+
+    def spaced(self, text):
+        """The same with other white space, escapes, and members in another order."""
+        separators = self.source.choice(((" ,", ":"), (",\r\n", " : "), (",", ":")))
+        how = {"indent": self.source.choice((None, 0, 1, "\t")), "ensure_ascii": self.source.randrange(2) == 0}
+        return json.dumps(self.moved(json.loads(text)), separators=separators, **how).encode()
+
+    def cut(self, text):
+        return text[: self.source.randrange(len(text) + 1)]
+
+    def struck(self, text):
+        """The text with a few bytes changed, taken out, or put in."""
+        changed = bytearray(text)
+        for _ in range(self.source.randrange(1, 4)):
+            at = self.source.randrange(len(changed) + 1)
+            changed[at : at + self.source.randrange(3)] = self.source.choice(OTHERS)
+        return bytes(changed)
+
+    def replaced(self, text):
+        """The text with a word of it in the place of another."""
+        words = text.replace(b",", b" , ").replace(b":", b" : ").split(b" ")
+        words[self.source.randrange(len(words))] = self.source.choice(words)
+        return b" ".join(words)
+
+    def limits(self):
+        """Limits on depth and on bytes, which one in ten has low."""
+        if self.source.randrange(10):
+            return 4096, WIDEST
+        return self.source.randrange(1, 6), 4 * self.source.randrange(1, 12)
+
+
+def random_read_cases(seed=1, count=2000):
+    """Random values: three texts that say each, and three that were changed."""
+    change = Changing(random.Random(seed))
+    for text, kinds, name, place, given in random_values(seed, count):
+        value, _ = value_in(kinds, place, given)
+        texts = texts_of(value)
+        for written in (*texts.values(), change.spaced(texts[""])):
+            yield reading(text, name, written), is_told("ok", given)
+        for changed in (change.cut(texts[""]), change.struck(texts[""]), change.replaced(texts[""])):
+            limits = change.limits()
+            answer, streams = told_of_text(kinds, place, changed, *limits)
+            yield reading(text, name, changed, *limits), is_told(answer, *streams)
