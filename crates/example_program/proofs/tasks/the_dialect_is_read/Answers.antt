@@ -6,4 +6,5 @@ use Rattle.example_program.proofs.tasks.the_dialect_is_read.Goals as goal
 pub returns : goal.returns
 returns g c = λ done.
     let h = looked_for _ _ _ _ _ _ _ _ _ _ _ _ _ c.task_over.ensures.ends done in
-    in_dialect _ _ _ c.requires.dialect (one_file _ _ _ _ _ _ c.requires.files h.are_reported h.asked.source)
+    in_dialect _ _ _ c.requires.dialect (one_file (g.P.Opener.reported c.args.opener.now) _ _ _ _ _
+    c.requires.files h.are_reported h.asked.source)

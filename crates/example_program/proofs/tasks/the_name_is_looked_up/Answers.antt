@@ -12,5 +12,6 @@ returns g c = λ done.
     let h = looked_for _ _ _ _ _ _ _ _ _ _ _ _ _ c.task_over.ensures.ends done in (
       h.question.place,
       subst (λ (d : Declared). Names (string_bytes c.args.what.name) d h.question.place)
-          (no_file _ _ _ _ _ c.requires h.are_reported h.asked.source) h.asked.named,
+          (no_file (g.P.Opener.reported c.args.opener.now) _ _ _ _ c.requires h.are_reported h.asked.source)
+          h.asked.named,
     )
