@@ -169,8 +169,8 @@ def wants_memory(told, whole, case):
         case "read" | "read_tokens" | "read_dialect":
             return told.answer == "declaration refused: 13 at 1:1"
         case "read_json":
-            ends = "1:1", place_of(case.given, len(case.given))
-            return told.answer in [f"{NO_MEMORY} at {end}" for end in ends]
+            places = {place_of(case.given, at) for at in range(len(case.given) + 1)}
+            return told.answer in {f"{NO_MEMORY} at {place}" for place in places}
     return told.answer == NO_MEMORY
 
 

@@ -158,12 +158,12 @@ def large_read_cases():
     answer = f"refused OutOfRange at 1:{len(given) - 2}"
     yield reading(FORMS, "counts", given), is_told(answer)
     lines = b"[" + b",\n".join([b'"x"'] * 100000) + b',\n\n  null]'
-    yield reading(FORMS, "texts", lines), is_told("refused WrongType at 100002:3")
+    yield reading(FORMS, "lines", lines), is_told("refused WrongType at 100002:3")
 
 
 # A structure of many fields, an enumeration of many members, and a union.
 WIDE = b"struct wide { " + b"".join(b"int a%d; " % number for number in range(10000)) + b"};"
-LONG = b"enum long { " + b", ".join(b"N%d = %d" % (each, each) for each in range(9000)) + b" }; typedef long longs<>;"
+LONG = b"enum many { " + b", ".join(b"N%d = %d" % (each, each) for each in range(9000)) + b" }; typedef many manys<>;"
 PICKED = b"union picked switch (int d) { case 1: int a; default: void; }; typedef picked all<>;"
 
 
@@ -188,7 +188,7 @@ def hostile_read_cases():
         (b"", "string", escapes, "ok"),
         (b"", "int", escapes, "OutOfRange"),
         (b"", "opaque", escapes + b"x", "NotJson"),
-        (LONG, "long", escapes, "UnknownName"),
+        (LONG, "many", escapes, "UnknownName"),
         (b"", "int", b"1" * most, "OutOfRange"),
         (b"", "int", b"0." + b"1" * most, "NotWhole"),
         (b"", "string", b'"' + b"\\" * most + b'"', "ok"),
@@ -200,8 +200,8 @@ def hostile_read_cases():
         (PICKED, "picked", twice, "MissingMember"),
         (PICKED, "all", listed(b'{"a":1,"case":1}', most // 17), "ok"),
         (FORMS, "member", twice, "MemberTwice"),
-        (LONG, "longs", listed(b'"N8999"', most // 8), "ok"),
-        (LONG, "longs", listed(b"8999", most // 5), "ok"),
+        (LONG, "manys", listed(b'"N8999"', most // 8), "ok"),
+        (LONG, "manys", listed(b"8999", most // 5), "ok"),
         (TWICE, "twice", b"[" + b" " * most + b"null]", "ok"),
         (FORMS, "maybes", listed(b"null", most // 5), "ok"),
     ]
