@@ -23,7 +23,7 @@ SAID = [
 ]
 # The stack of a run in KiB, and the deepest values: declarations, the name, how many words of 1 stand before a word of
 # 0, and the JSON in three parts: so many times the first, the second, and so many times the third. Depth is 4096.
-STACK = 8192
+STACK = 2560
 DEEPEST = [
     ("arrays.x", "a", 4095, (4096, "[", "", "]")),
     ("lists.x", "s", 2047, (2047, '{"x":[', '{"x":[]}', "]}")),
