@@ -1,0 +1,4 @@
+pub mod Counts
+pub mod Only
+pub mod File
+pub mod Entries

@@ -1,0 +1,6 @@
+//! Worked facts of how many bytes the values of kinds have, each proved from the contracts alone.
+//!
+//! - `answers`: what is told of kinds that are known.
+#![tactic(auto)]
+
+pub mod answers;

@@ -1,0 +1,9 @@
+pub mod Forms
+pub mod Sums
+pub mod Least
+pub mod Uppermost
+pub mod Formed
+pub mod Lowering
+pub mod Settling
+pub mod Picking
+pub mod Joined

@@ -1,0 +1,5 @@
+-- What only private functions cite: the steps of the code. No contract of a public call names any of it.
+pub mod Amounts
+pub mod Rounds
+pub mod Shapes
+pub mod Unions
