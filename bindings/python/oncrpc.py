@@ -780,8 +780,10 @@ class Library:
     def dialect(self, text: Text, names: Iterable[str] = ()) -> Declarations:
         """Reads declarations in rpcgen's dialect, where these names are defined for its lines of `#`.
 
-        Raises DeclarationError, NoMemoryError.
+        Raises TypeError where `names` is one string and no list of them, DeclarationError, NoMemoryError.
         """
+        if isinstance(names, str):
+            raise TypeError("names: a list of strings")
         return Declarations(self, text, " ".join(names))
 
     def registry(self, port: int = 111, seed: Optional[Data] = None) -> Registry:

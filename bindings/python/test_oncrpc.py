@@ -235,6 +235,7 @@ class TheFileOfTheRfc(Case):
                     self.assertEqual(read.decode("here", words(7)), 7)
                 else:
                     self.assertRaises(oncrpc.NoKindError, read.named, "here")
+        self.assertRaises(TypeError, self.library.dialect, text, "RPC_HDR")
         with self.assertRaises(oncrpc.DeclarationError) as caught:
             self.library.dialect("\n#endif")
         self.assertEqual((caught.exception.fault, caught.exception.line), (TextFault.BAD_CHARACTER, 2))
