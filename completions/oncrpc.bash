@@ -6,11 +6,11 @@ _oncrpc() {
     [[ $before != = ]] || before=${COMP_WORDS[COMP_CWORD - 2]}
     COMPREPLY=()
     if ((COMP_CWORD == 1)); then
-        mapfile -t COMPREPLY < <(compgen -W "check show records info serve help --help --version" -- "$word")
+        mapfile -t COMPREPLY < <(compgen -W "check show encode types records info serve help --help --version" -- "$word")
         return
     fi
     case ${COMP_WORDS[1]} in
-    help) mapfile -t COMPREPLY < <(compgen -W "check show records info serve" -- "$word") ;;
+    help) mapfile -t COMPREPLY < <(compgen -W "check show encode types records info serve" -- "$word") ;;
     check)
         case $before in
         --name) mapfile -t COMPREPLY < <(compgen -W "int unsigned hyper unsigned-hyper bool opaque string" -- "$word") ;;
@@ -33,6 +33,25 @@ _oncrpc() {
         *) mapfile -t COMPREPLY < <(compgen -W "--name --types --dialect --define --hex --depth --bytes --json --indent --help" -- "$word") ;;
         esac
         ;;
+    encode)
+        case $before in
+        --name) mapfile -t COMPREPLY < <(compgen -W "int unsigned hyper unsigned-hyper bool opaque string" -- "$word") ;;
+        --types) compopt -o filenames && mapfile -t COMPREPLY < <(compgen -f -- "$word") ;;
+        --dialect) mapfile -t COMPREPLY < <(compgen -W "rpcgen" -- "$word") ;;
+        --define) : ;;
+        --depth) : ;;
+        --bytes) : ;;
+        *) mapfile -t COMPREPLY < <(compgen -W "--name --types --dialect --define --hex --depth --bytes --help" -- "$word") ;;
+        esac
+        ;;
+    types)
+        case $before in
+        --types) compopt -o filenames && mapfile -t COMPREPLY < <(compgen -f -- "$word") ;;
+        --dialect) mapfile -t COMPREPLY < <(compgen -W "rpcgen" -- "$word") ;;
+        --define) : ;;
+        *) mapfile -t COMPREPLY < <(compgen -W "--types --dialect --define --json --help" -- "$word") ;;
+        esac
+        ;;
     records)
         case $before in
         --limit) : ;;
@@ -49,9 +68,12 @@ _oncrpc() {
     serve)
         case $before in
         --port) : ;;
+        --bind) : ;;
+        --connections) : ;;
+        --idle) : ;;
         --count) : ;;
         --datagrams) : ;;
-        *) mapfile -t COMPREPLY < <(compgen -W "--port --count --datagrams --help" -- "$word") ;;
+        *) mapfile -t COMPREPLY < <(compgen -W "--port --bind --connections --idle --verbose --count --datagrams --help" -- "$word") ;;
         esac
         ;;
     esac

@@ -13,22 +13,26 @@ echo "$PWD" >"$stand/place"
 printf '<%s>\\n' "$@" >"$stand/words"
 exec "$stand/noted_rt" "$@"
 """
-# The words after './oncrpc', those that the program is given, and the text that it sees, where it has one.
+# The words after './oncrpc', those that the program is given, and the texts that it sees.
 SEEN = ["check", "--types", "declared.x"]
+A, B, C = ({"declared.x": it} for it in (b"a", b"b", b"c"))
 WORDS = [
-    ("check --types a.x --name it", [*SEEN, "--name", "it"], b"a"),
-    ("check --types=a.x --name it", [*SEEN, "--name", "it"], b"a"),
-    ("check --types 'b =.x'", SEEN, b"b"),
-    ("check --types='b =.x'", SEEN, b"b"),
-    ("check --types \"$(printf '\\377.x')\"", SEEN, b"c"),
-    ("check --types", SEEN[:2], None),
-    ("check --types=", SEEN, None),
-    ("check --types a.x --types 'b =.x'", [*SEEN, "--types", "b =.x"], b"a"),
-    ("check --types=a.x --types='b =.x'", [*SEEN, "--types", "b =.x"], b"a"),
-    ("check --types bin", SEEN, None),
-    ("check --types none.x", SEEN, None),
-    ("check --types=a.x --name=--types=b", [*SEEN, "--name=--types=b"], b"a"),
-    ("check --types a.x 'two  words' '' '*' -- -x", [*SEEN, "two  words", "", "*", "--", "-x"], b"a"),
+    ("check --types a.x --name it", [*SEEN, "--name", "it"], A),
+    ("check --types=a.x --name it", [*SEEN, "--name", "it"], A),
+    ("check --types 'b =.x'", SEEN, B),
+    ("check --types='b =.x'", SEEN, B),
+    ("check --types \"$(printf '\\377.x')\"", SEEN, C),
+    ("check --types", SEEN[:2], {}),
+    ("check --types=", SEEN, {}),
+    ("check --types --types", SEEN, {}),
+    ("check --types a.x --types 'b =.x'", [*SEEN, "--types", "declared1.x"], {**A, "declared1.x": b"b"}),
+    ("check --types=a.x --types='b =.x'", [*SEEN, "--types", "declared1.x"], {**A, "declared1.x": b"b"}),
+    ("check --types a.x --types none.x", [*SEEN, "--types", "declared1.x"], A),
+    ("check --types none.x --types a.x", [*SEEN, "--types", "declared1.x"], {"declared1.x": b"a"}),
+    ("check --types bin", SEEN, {}),
+    ("check --types none.x", SEEN, {}),
+    ("check --types=a.x --name=--types=b", [*SEEN, "--name=--types=b"], A),
+    ("check --types a.x 'two  words' '' '*' -- -x", [*SEEN, "two  words", "", "*", "--", "-x"], A),
 ]
 # The words, and whether they read standard input, which can be a terminal.
 READERS = {"": 1, "check": 1, "show": 1, "records": 1, "show --version": 1, "check --help": 0, "show -h": 0}
@@ -92,12 +96,12 @@ def words_passed(folder):
     for name, text in ((b"a.x", "a"), (b"b =.x", "b"), (b"\377.x", "c")):
         with open(os.path.join(os.fsencode(tree.at), name), "w", encoding="ascii") as it:
             it.write(text)
-    for words, wanted, text in WORDS:
+    for words, wanted, texts in WORDS:
         got, told = tree.ask(f"exec ./oncrpc {words}", b"in"), UNPROVED + b"unproved fault\n"
         noted, room = tree.read("bin/words"), re.escape(f"{tree.at}/room/")
-        data = rf"<--data>\n<declared\.x={room}[^/\n]+/text>\n" if text else ""
+        data = "".join(rf"<--data>\n<{it}={room}[^/\n]+/{it}>\n" for it in map(re.escape, texts))
         passed = "".join(f"<{it}>\n" for it in wanted)
-        well = is_answer(got, 5, output(b"unproved", b"check", text or b"none", b"in"), told, 1)
+        well = is_answer(got, 5, output(b"unproved", b"check", texts.get("declared.x", b"none"), b"in"), told, 1)
         well = well and re.fullmatch(f"<try>\n{data}<-->\n{re.escape(passed)}", noted)
         yield row(f"./oncrpc {words}, its words", bool(well), got, noted)
     place = os.path.realpath(f"{tree.at}/crates/oncrpc")
@@ -128,6 +132,22 @@ def input_read(folder):
         printed = b"%d" % size if status == 0 else b""
         well = is_answer((got[0], got[1].strip(), *got[2:]), status, printed, UNPROVED + told, status == 0)
         yield row(f"./oncrpc show, {size} bytes where 4096 may be", well, got)
+
+
+def texts_named(folder):
+    """Each of several texts is seen, and one that is refused has the name that it was given."""
+    program = "#!/bin/sh\ncat \"$3\" \"$5\"\necho \"declaration refused: 10 (7) at $5:12:3\" >&2\nexit 2\n"
+    tree = Noted(folder, "texts_named", program)
+    tree.write("deep/a.x", "one")
+    tree.write("b =.x", "two")
+    for words, printed, name in (
+        ("--types deep/a.x --types 'b =.x'", b"onetwo", b"b =.x"),
+        ("--types='b =.x' --types deep/a.x", b"twoone", b"deep/a.x"),
+        ("--types deep/a.x --types deep/a.x", b"oneone", b"deep/a.x"),
+    ):
+        got = tree.ask(f"exec ./oncrpc check {words}")
+        told = UNPROVED + re.escape(b"declaration refused: 10 (7) at %s:12:3\n" % name)
+        yield row(f"./oncrpc check {words}", is_answer(got, 2, printed, told, 1), got)
 
 
 def text_seen(folder):
@@ -173,5 +193,5 @@ def last_line(folder):
 
 
 def answer_rows(folder):
-    for rows in (words_passed, input_read, text_seen, streams_whole, last_line):
+    for rows in (words_passed, input_read, texts_named, text_seen, streams_whole, last_line):
         yield from rows(folder)

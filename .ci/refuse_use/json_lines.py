@@ -1,4 +1,4 @@
-"""Rows of 'oncrpc show --json': which stream has what, values worked by hand, and the deepest values."""
+"""Rows of 'oncrpc show --json': which stream has what, values worked by hand, the deepest values, and long ones."""
 import json
 import os
 import subprocess
@@ -82,7 +82,26 @@ def deepest_rows(program, folder):
         yield well
 
 
+def long_rows(program, folder):
+    """A mebibyte of content and a hundred thousand numbers, where an allocation failure is wrong."""
+    content, numbers = bytes(range(256)) * 4096, range(100000)
+    with open(f"{folder}/json.x", "wb") as it:
+        it.write(b"typedef unsigned int numbers<>;")
+    items = b"".join(number.to_bytes(4, "big") for number in (len(numbers), *numbers))
+    for words, given, wanted in (
+        ("--name opaque", len(content).to_bytes(4, "big") + content, f'"{content.hex()}"\n'),
+        ("--types json.x --name numbers", items, f"[{','.join(map(str, numbers))}]\n"),
+        ("--indent --types json.x --name numbers", items, "[\n  " + ",\n  ".join(map(str, numbers)) + "\n]\n"),
+    ):
+        got = ended(program, folder, words, given)
+        well = got == (0, wanted.encode(), b"")
+        shown = "as it should" if well else (got[0], got[1][:99], got[2])
+        print(f"oncrpc show --json {words}, {len(given)} bytes: {shown}")
+        yield well
+
+
 def json_rows(program, folder):
     yield from said_rows(program, folder)
     yield from value_rows(program, folder)
     yield from deepest_rows(program, folder)
+    yield from long_rows(program, folder)

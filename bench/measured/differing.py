@@ -13,7 +13,7 @@ REFUSED_HERE = [
     ("3", r"= ?@[A-Za-z]\w* ?;", "a name to which the text gives no number"),
     ("3", r"@[,}]", "a member without a number behind one whose value is a name"),
     ("3", r"@#", "#define inside a body"),
-    ("3", r"\([^)]*@[*<]", "an argument behind a pointer, or with a size"),
+    ("3", r"\([^)]*@(?:[A-Za-z]\w* ?)?[*<]", "an argument behind a pointer, or with a size"),
     ("3", r"\([^)]*@-?\d", "a number as the name of an argument"),
     ("5", r"@", "a name that comes twice, of which C never sees the first"),
     ("6", r"@", "a name that C's library declares"),
@@ -26,6 +26,7 @@ REFUSED_THERE = [
     (r"^\s*const\b.*=.*\n\^+\n.*expected", "marks that a quotation leaves"),
     (r"^\s*= *define\b", "a mark that #define leaves"),
     (r"unterminated comment", "a comment that a line of % opens"),
+    (r"^ +\d+ \| *# */\*.*\*/ *\w", "a word behind a comment in a line of # alone"),
     (r"preprocessor error", "#pragma and #ident"),
     (r"\b(?:char|short)\b.*\n\^+\n.*expected|illegal \(reserved\) name", "names that rpcgen keeps for itself"),
 ]
@@ -42,9 +43,11 @@ def around(text, place):
 def why_here(text, number, place):
     """Why read_dialect may refuse the text with that fault, or nothing."""
     where = around(text, place)
-    name = re.search(r"@(\w+)", where)
-    if number == "3" and name and re.search(rf"(?m)^\s*#\s*define\s+{name[1]}\s*$", text):
+    names = re.findall(r"(\w+) ?(?=@)|(?<=@)(\w+)", where)
+    if number == "3" and any(re.search(rf"(?m)^\s*#\s*define\s+{a or b}\s*$", text) for a, b in names):
         return "a macro that the text uses"
+    if number in "13" and re.search(r"(?m)^\s*#\s*/\*.*\*/\s*\w", text):
+        return "a word behind a comment in a line of # alone"
     return next((why for fault, form, why in REFUSED_HERE if fault == number and re.search(form, where)), None)
 
 

@@ -1,21 +1,13 @@
 """The registry of 'oncrpc serve' beside Debian's rpcbind, over connections and by datagrams."""
 import os
 import shutil
-import socket
-import struct
 import subprocess
 import sys
-import time
 
 from .common import CALLS_OF_OURS, OURS, ROOT, instructions
-
-HOST = "127.0.0.1"
-# The ports of the two registries that are measured side by side.
-PORTS = {"ours": 1111, "rpcbind": 111}
-# The most rows that either is filled to, and how many calls a connection has unanswered.
-FULL, WINDOW = 1024, 256
-# How many rows of the load's both hold then: the others are their own.
-HELD = FULL - 16
+from .many import many
+from .registries import CUT, FULL, HELD, NULL, NULL_REPLY, PORTS
+from .registries import connect_once, ended, fill, load, resident, rows_of, started
 
 
 def needs():
@@ -48,42 +40,9 @@ def serve(base, folder):
     subprocess.run([*own, sys.executable, f"{ROOT}/bench/run", "inside", base], check=True)
 
 
-def started(words, port):
-    """A registry at a port, once it can be connected to. Its lines, one for each datagram, go nowhere."""
-    process = subprocess.Popen(words, stdout=subprocess.DEVNULL)
-    for _ in range(200):
-        with socket.socket() as tried:
-            if tried.connect_ex((HOST, port)) == 0:
-                return process
-        time.sleep(0.05)
-    sys.exit(f"{words}: nothing listens at {port}")
-
-
-def ended(processes):
-    """Ends registries that are no longer asked."""
-    for process in processes:
-        process.kill()
-        process.wait()
-
-
-def load(base, name, work, count, rows=1, window=WINDOW):
-    """The calls a second of so many calls of one of the two over one connection, or by datagrams."""
-    words = [f"{base}/registry_load", str(PORTS[name]), work, str(count), str(window), str(rows)]
-    return float(subprocess.run(words, check=True, stdout=subprocess.PIPE).stdout)
-
-
-def fill(base, name, own, to, old):
-    """Sets rows of programs of the load's, until the registry has so many in all."""
-    if to > max(old, own):
-        load(base, name, "fill", to - max(old, own), max(old - own, 0))
-
-
 def side_by_side(base):
     """Calls a second of both registries, run in turn, the best of three each."""
-    rows = {}
-    for name, port in PORTS.items():
-        listed = subprocess.run([OURS, "info", HOST, str(port)], check=True, stdout=subprocess.PIPE).stdout
-        rows[name] = len(listed.splitlines()) - 1
+    rows = {name: rows_of(name) for name in PORTS}
     old = 0
     for work, to, counts in [
         ("null", 16, {"ours": 400000, "rpcbind": 50000}),
@@ -128,40 +87,6 @@ def by_datagrams(base):
     ended(both)
 
 
-NULL = struct.pack(">11I", 0x80000028, 1, 0, 2, 100000, 2, 0, 0, 0, 0, 0)
-NULL_REPLY = struct.pack(">7I", 0x80000018, 1, 1, 0, 0, 0, 0)
-# What hostile clients send, and the line that their connection has: the input of each but the last is no whole record.
-CUT = [
-    (b"\x7f\xff\xff\xff" + bytes(100), "TooLong at 0"),
-    (b"\xff\xff\xff\xff" + bytes(100), "TooLong at 0"),
-    (b"\x80\x01\x00\x01" + bytes(65537), "TooLong at 0"),
-    (b"GET / HTTP/1.1\r\nHost: localhost\r\n\r\n", "TooLong at 0"),
-    (NULL[:23], "Truncated at 23"),
-    (NULL[:2], "Truncated at 2"),
-    (b"\x00\x01\x00\x00" + bytes(65536) + b"\x00\x00\x00\x01", "TooLong at 65540"),
-    (struct.pack(">I", 0x80000400) + bytes(range(256)) * 4, "1 records, 0 replies"),
-]
-
-
-def connect_once(port, given):
-    """What a client gets that sends this and shuts down; a hostile one may be cut off."""
-    got = b""
-    with socket.create_connection((HOST, port)) as client:
-        try:
-            client.sendall(given)
-            client.shutdown(socket.SHUT_WR)
-            while piece := client.recv(4096):
-                got += piece
-        except OSError:
-            pass
-    return got
-
-
-def resident(process):
-    """The resident size of a process in KiB."""
-    return int(subprocess.run(["ps", "-o", "rss=", "-p", str(process.pid)], check=True, stdout=subprocess.PIPE).stdout)
-
-
 def hostile_connections(count=10000):
     """Connections one after another, each third of them cut or hostile: lines, replies, and the resident size."""
     sizes, wanted, wrong = {}, [], 0
@@ -195,3 +120,4 @@ def inside(base):
     ended([ours, theirs])
     by_datagrams(base)
     hostile_connections()
+    many(base)

@@ -95,3 +95,11 @@ HOSTILE = {
     "one long name": lambda size: "typedef int " + "n" * (size - 13) + ";",
     "one long constant": lambda size: "const a=" + "0" * (size - 9) + ";",
 }
+# The same in rpcgen's dialect: names that lines define, and as many lines that ask for another.
+ASKED = "#ifdef b\n#endif\n"
+HOSTILE_DIALECT = {
+    "a name that is defined again and again": lambda size: many(size // 2, lambda n: "#define a\n")
+    + many(size // 2, lambda n: ASKED),
+    "names that are defined": lambda size: many(size // 2, lambda n: f"#define a{spelled(n)}\n")
+    + many(size // 2, lambda n: ASKED),
+}

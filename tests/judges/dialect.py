@@ -128,6 +128,12 @@ def large_dialect_cases():
     yield Case("read", text=b""), empty
     yield dialect(b"%x\n" * 87381), empty
     yield dialect(b"#if DEFINED\n#else\n@\n#endif\n" * 9000), empty
+    # The most names that are asked for behind the most that a text defines, alike and each another.
+    asked = b"#ifdef b\n#endif\n" * 8192
+    yield dialect(b"#define a\n" * 13107 + asked), empty
+    each = b"".join(b"#define a%04x\n" % number for number in range(9362))
+    yield dialect(each + asked), empty
+    yield dialect(each + b"#ifndef a2491\n@\n#endif\n" * 5698), empty
     texts = [bytes([10, 65 + number]) * 50000 for number in range(11)]
     whole = b"\n".join(texts)
     case = Case("join_texts", texts=texts)

@@ -37,6 +37,7 @@ from rows.shared import (
     told_after,
     word,
 )
+from rows.tasks import ENCODED
 
 from .directory import is_registry
 from .messages import message_cases
@@ -140,6 +141,8 @@ def wants_memory(told, whole, case):
             is_kept = not told.streams[0] or (is_records and (case.hex or is_kept_before(told, case)))
             is_cut = whole.streams[0].startswith(told.streams[0])
             return (told.answer, told.streams[1]) == ("4", b"out of memory\n") and is_cut and is_kept
+        case "encode_over":
+            return (told.answer, told.streams) == ("4", [b"", b"out of memory\n"])
         case "info_over":
             sent, printed, faults = told.streams
             return (told.answer, printed, faults) == ("4", b"", b"out of memory\n") and sent in (b"", whole.streams[0])
@@ -179,7 +182,7 @@ ENDING = "normalise RecordReader exchange answer decode parts Decoder Checker en
 ENDING += "append_answer exchange_datagram tokens read_outline write_json json_of_bytes read_json find".split()
 ENDING += ["join_texts"]
 # Those that take memory for each answer, so that the first growth is not done without.
-TAKING_ANY = "answer read mark exchange info_over datagrams_on info_datagram encode show read_call".split()
+TAKING_ANY = "encode_over answer read mark exchange info_over datagrams_on info_datagram encode show read_call".split()
 TAKING_ANY += "read_auth_sys tokens read_outline directory_schema append_answer exchange_datagram".split()
 TAKING_ANY += "serve_datagrams write_json json_of_bytes read_json read_tokens read_dialect join_texts".split()
 
@@ -313,6 +316,13 @@ def task_rows():
         wanted = status, [output, faults]
         case = value_task(shows, in_hex, given, {"kind": name, "text": text})
         yield case, lambda told, wanted=wanted: (told.answer, told.streams) == wanted
+    for text, kind, given, digits, said in ENCODED:
+        for in_hex in (False, True):
+            written = b"" if digits is None else octets(digits)
+            written = written.hex().encode() + b"\n" if in_hex and written else written
+            wanted = ("1" if said else "0"), [written, said]
+            case = Case("encode_over", kind=kind, text=text, types="a.x" if text else None, hex=in_hex, given=given)
+            yield case, lambda told, wanted=wanted: (told.answer, told.streams) == wanted
 
 
 def message_rows():

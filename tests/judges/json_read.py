@@ -134,6 +134,9 @@ def deep_read_cases():
         wanted = is_told(f"refused TooDeep at 1:{len(opening) * count - before + 1}")
         for given in (opening * count + b"[" * 9, opening * count + b"[]" + closing * count):
             yield reading(TWICE, "twice", given), wanted
+    # A bracket behind a comma and a line feed, and a key so, before the 4097th bracket.
+    for given, place in ((b"[" * 4096 + b"1,\n  [", "2:3"), (b'{"a":' * 4095 + b'{"b":1,\n "c" : [', "2:2")):
+        yield reading(TWICE, "twice", given), is_told(f"refused TooDeep at {place}")
 
 
 def large_read_cases():

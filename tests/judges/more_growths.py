@@ -1,4 +1,5 @@
 """Growths of memory that are refused to the calls of `tool_probe_more`, each in turn, alone and with all later ones."""
+from .bounds import bounds_rows
 from .dialect import dialect_rows
 from .growths import each_refused
 from .json_read import json_read_rows
@@ -7,5 +8,5 @@ from .paths import path_rows
 
 
 def more_refused_cases(heap):
-    rows = (*json_rows(), *json_read_rows(), *path_rows(), *dialect_rows())
+    rows = (*json_rows(), *json_read_rows(), *path_rows(), *dialect_rows(), *bounds_rows())
     yield from each_refused(heap, [case for case, _ in rows])

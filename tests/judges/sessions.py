@@ -144,14 +144,16 @@ class Serving:
         return told == f"reply {reply.hex()}"
 
     def kept(self, connection, told):
-        """A connection keeps its record so far and its output, and of what was written no more than of that."""
+        """A connection keeps its record so far and its output, and of what was written no more than of that. Behind
+        a fault of its bytes, and of memory, it keeps none of a record; at an end inside one it stays."""
         if connection is None:
             return told == f"not open of {len(self.open)}"
         count, _, others = told.removeprefix("kept ").partition(" of ")
-        least = len(connection.reading.content) + len(connection.output)
+        is_dropped = connection.fault and not connection.fault.startswith("refused Truncated")
+        least = (0 if is_dropped else len(connection.reading.content)) + len(connection.output)
         most = least + len(connection.output)
         is_within = most <= LIMIT + 2 * self.bound + MOST_MARKED
-        is_counted = least <= int(count) <= most or connection.fault == NO_MEMORY
+        is_counted = least <= int(count) <= most
         return is_counted and is_within and others == str(len(self.open))
 
     def ended(self, connection, told):

@@ -1,7 +1,7 @@
 """Tasks of the program, by all that is told of each: names that are refused, files of declarations, streams that are
 closed, and inputs and outputs of many bytes."""
-from rows.shared import Case, LIST, PING, octets
-from rows.tasks import FIVE, LONG_TEXTS, ORDER, UNKNOWN, UNOPENED, UNREAD
+from rows.shared import Case, LIST, PIECES, PING, octets
+from rows.tasks import ENCODED, FIVE, LONG_TEXTS, ORDER, UNENCODED, UNKNOWN, UNOPENED, UNREAD
 from rows.written import CHECK, RECORDS, SHOW
 
 
@@ -58,9 +58,47 @@ def long_rows():
     yield Case(RECORDS, limit=65536, given=halves), (0, octets("80010000") + half + half, b"")
 
 
+def ended_by(given, written, said, reads, writes):
+    """How a value that is read as JSON ends where this read or this write fails. All is read, with one read more at the
+    end; then all is written, or nothing."""
+    (piece, failing), (most, failing_write) = reads, writes
+    if 0 < failing <= -(-len(given) // piece) + 1:
+        return 3, b"", b"read fault\n"
+    if written is None:
+        return 1, b"", said
+    if 0 < failing_write <= -(-len(written) // most):
+        return 3, written[: (failing_write - 1) * most], b"write fault\n"
+    return 0, written, b""
+
+
+def encoded_rows():
+    """Values as JSON, their bytes or their hexadecimal, with each read and each write failing."""
+    for text, kind, given, digits, said in ENCODED:
+        for in_hex in (False, True):
+            asked = {"kind": kind, "text": text, "types": "a.x" if text else None, "hex": in_hex}
+            # (the input of a case with `hex` is written as text)
+            written = None if digits is None else octets(digits)
+            written = written and (written.hex().encode() + b"\n" if in_hex else written)
+            for piece in PIECES:
+                for failing in range(len(given) // piece + 3):
+                    reads = piece, failing
+                    ending = ended_by(given, written, said, reads, (piece, 0))
+                    yield Case("encode_over", reads, (piece, 0), given=given, **asked), ending
+                for failing in range(1, len(written or b"") // piece + 3):
+                    writes = piece, failing
+                    ending = ended_by(given, written, said, (piece, 0), writes)
+                    yield Case("encode_over", (piece, 0), writes, given=given, **asked), ending
+            case = Case("encode_over", faults_write_fails=1, given=given, **asked)
+            yield case, (1, b"", b"") if written is None else (0, written, b"")
+    for name, most, said in UNENCODED:
+        case = Case("encode_over", (4096, 1), kind=name, types="a.x", text=LIST, given=b"null", bytes=most)
+        yield case, (2, b"", said)
+    yield Case("encode_over", kind="list", types="b.x", text=LIST, given=b"null"), UNREAD
+
+
 def program_cases():
     """Tasks, each with its status, what it prints and what it says of faults."""
-    for rows in (name_rows, declaration_rows, basic_rows, long_rows):
+    for rows in (name_rows, declaration_rows, basic_rows, long_rows, encoded_rows):
         for case, (status, *streams) in rows():
             wanted = str(status), streams
             yield case, lambda told, wanted=wanted: (told.answer, told.streams) == wanted

@@ -43,6 +43,21 @@ SAME = [
         b"#define GUARD\n#ifdef GUARD\nstruct s { int x; };\n#else\nstruct s { bool x; };\n#endif\n",
         b"#ifndef GUARD\n#define GUARD\nstruct s { int x; };\n#endif\n",
         b"#if 0\n#define GUARD\n#endif\n#ifdef GUARD\nstruct s { bool x; };\n#else\nstruct s { int x; };\n#endif\n",
+        # Comments and quotes: what ends one, what opens none, and that no line begins inside one that is not shown.
+        b"/*/\n%no line\n*/struct s { int x; };",
+        b"/***/\n%line\nstruct s { int x; };\n/* * / **/\n%",
+        b"/* \" */\n%\"\n%/*\nstruct s { int x; };\n%\"/*",
+        b"const C = \"/*\";\nstruct s { int x; };",
+        b"#if 0\n/*\n#endif\n*/\n@\n#endif\nstruct s { int x; };",
+        b"#if 0\n%/*\n#endif\nstruct s { int x; };",
+        # Lines of `#` that go on, or end with a carriage return, and what stands behind their words.
+        b"#include <a> \\\n #endif\nstruct s { int x; };\n%line \\",
+        b"%line \\\r\n#endif\r\n#ifdef DEFINED\r\nstruct s { int x; };\r\n#endif\r\n",
+        b"%line \\ \nstruct s { int x; };\n%\\\\\n#endif",
+        b"#ifdef DEFINED one\nstruct s { int x; };\n#else two\n@\n#endif three",
+        # A name is the whole word.
+        b"#ifdef DEFINE\n@\n#endif\n#ifdef DEFINED_\n@\n#endif\n#ifndef Defined\nstruct s { int x; };\n#endif",
+        b"#define GUARD_\n#ifdef GUARD\n@\n#endif\n#ifdef GUARD_\nstruct s { int x; };\n#endif",
         # What C's `struct` declares again.
         b"struct s { int x; };\ntypedef struct s s;",
         b"typedef struct s s;\nstruct s { int x; };",
@@ -70,6 +85,7 @@ SAME = [
     (b"enum e { A = 0, B = 1, C = 5, D = 6 };", b"enum e { A, B, C = 5, D };", b"enum e { A = 0, B, C = 5, D = 6 };"),
     (b"enum e { A = -1, B = 0 };", b"enum e { A = -1, B };"),
     (b"const C = 7; enum e { A = C };", b"#define C 7\nenum e { A = C };"),
+    (b"const A = 5; enum e { B = 8, C = 9 };", b"#\tdefine\tA\t5\r\nenum e { B = 010, C };"),
     (
         b"enum e { A = 1 }; union u switch (e d) { case A: void; }; struct s { e a; u b; };",
         b"enum e { A = 1 }; union u switch (enum e d) { case A: void; }; struct s { enum e a; union u b; };",
@@ -80,6 +96,18 @@ SAME = [
         b"program P { version V { void F(void) = 1; void G(int, string) = 2; } = 1; } = 2;",
         b"program P { version V { void F() = 1; void G(int count, string name) = 2; } = 1; } = 2;",
         b"program P { version V { void F( ) = 1; void G(int, string name) = 2; } = 1; } = 2;",
+    ),
+    # What stands as an argument and as a result, with a name and without.
+    (
+        b"enum e { A = 1 }; struct s { int x; }; union u switch (e d) { case A: void; };"
+        b" program P { version V { e F(e, struct s, u) = 1; u G(unsigned int, unsigned hyper, hyper) = 2;"
+        b" unsigned int H(unsigned int, unsigned int, s) = 3; struct s K(string, bool, s) = 4; } = 1; } = 2;",
+        b"enum e { A = 1 }; struct s { int x; }; union u switch (enum e d) { case A: void; };"
+        b" program P { version V { enum e F(enum e, struct s, union u) = 1; union u G(unsigned, unsigned hyper, hyper) = 2;"
+        b" unsigned H(unsigned char, unsigned short int, s) = 3; struct s K(string, bool, s) = 4; } = 1; } = 2;",
+        b"enum e { A = 1 }; struct s { int x; }; union u switch (e d) { case A: void; };"
+        b" program P { version V { e F(enum e a, struct s b, union u c) = 1; u G(unsigned a, unsigned hyper int b, hyper int c)"
+        b" = 2; unsigned int H(unsigned char a, unsigned short b, s c) = 3; struct s K(string a, bool b, s c) = 4; } = 1; } = 2;",
     ),
     (
         b"typedef int char; typedef unsigned int u_int; typedef hyper int64_t; typedef bool bool_t;"
@@ -132,6 +160,10 @@ REFUSED = [
     (b"#if defined(A)\n#endif", 1, 0, 1, 1),
     (b"#if\n#endif", 1, 0, 1, 1),
     (b"#ifdef\n#endif", 1, 0, 1, 1),
+    (b"#ifdef 9\n#endif", 1, 0, 1, 1),
+    (b"#if 00\n#endif", 1, 0, 1, 1),
+    (b"#if DEFINED DEFINED\n#endif", 1, 0, 1, 1),
+    (b"#if 1 \\\n&& 1\n#endif", 1, 0, 1, 1),
     (b"#if 1/2\n#endif", 1, 0, 1, 1),
     (b"#elif 1\n", 1, 0, 1, 1),
     (b"#if 0\n#elif A > 1\n#endif", 1, 0, 2, 1),
@@ -144,6 +176,14 @@ REFUSED = [
     (b"#define A 5 6\n", 1, 0, 1, 1),
     (b"#define A 5/2\n", 1, 0, 1, 1),
     (b"#define A(b) 5\n", 1, 0, 1, 1),
+    (b"#define 9 5\n", 1, 0, 1, 1),
+    (b"#define A -\n", 1, 0, 1, 1),
+    (b"#define A 5\\\n6\n", 1, 0, 1, 1),
+    (b"#define A \\\n5\n", 1, 0, 1, 1),
+    (b"#define A 5x\n", 2, 0, 1, 11),
+    (b"#define A 5 /* a */ 6\n", 3, 0, 1, 21),
+    (b"#define A 5 // five\n", 1, 0, 1, 13),
+    (b"typedef int \\\nt;", 1, 0, 1, 13),
     (b"# #\n", 1, 0, 1, 1),
     (b"#other", 1, 0, 1, 1),
     (b"#includes <a>", 1, 0, 1, 1),
@@ -178,6 +218,8 @@ REFUSED = [
     (b"const A = B; const B = C; const C = 5;", 3, 0, 1, 11),
     (b"const A = B; const B = 1; enum e { C = 1 }; program P { version V { void C(void) = 2; } = 1; } = 2;", 3, 0, 1, 11),
     (b"program P { version V { void F(void) = 1; } = W; } = 2;", 3, 0, 1, 47),
+    # The number that stands in place of a name stands where the name does.
+    (b"const N = -1; program P { version V { void F(void) = 1; } = 1; } = N;", 8, 0, 1, 68),
     # Each other fault of a text: a number, a size, a chain of typedefs, a schema, and bodies inside one another.
     (b"%line\nconst A = 08;", 2, 0, 2, 11),
     (b"#define A -1\ntypedef int x[A];", 7, 0, 2, 15),

@@ -84,7 +84,7 @@ SESSIONS = [
     ]),
     (1, 1000, [
         ("open", "open 0"), ("take:0:0000ffff" + "00" * 65535 + "80000002", "refused TooLong at 65539"),
-        ("kept:0", "kept 65535 of 1"),
+        ("kept:0", "kept 0 of 1"),
     ]),
     (1, 1000, [("open", "open 0"), ("take:0:80", "more"), ("end:0", "refused Truncated at 1")]),
     # Datagrams beside connections: their rows are the same, and GETADDR asks for their own transport.

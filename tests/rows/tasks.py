@@ -1,6 +1,6 @@
 """Tasks of the program, by all that is told of each: names that are refused, files of declarations, streams that are
 closed, and inputs and outputs of many bytes."""
-from .shared import WIDEST
+from .shared import LIST, MORE, WIDEST
 from .written import CHECK, SHOW
 
 # Names of no kind of PING, of its arguments and of its results (RFC 5531 section 12.3).
@@ -71,4 +71,21 @@ FIVE = [
     ("00000003 61626301", 1, b"refused BadPadding at 4\n"),
     ("00000006", 1, b"refused TooLong at 0\n"),
     ("00000001 61000000 62", 0, b"ok 8, more follows\n"),
+]
+# Values as JSON whose bytes are written: a text of declarations, a kind, the JSON, and the bytes; no bytes and what is said
+# where it is refused.
+ENCODED = [
+    (b"", "int", b"-1", "ffffffff", b""),
+    (b"", "string", b' "a\\u0062c"\n', "00000003 61626300", b""),
+    (LIST, "list", b'{"next":null,"item":"a"}', "00000001 00000001 61000000 00000000", b""),
+    (MORE, "few", b"[7, -1]", "00000002 00000007 ffffffff", b""),
+    (LIST, "list", b'{"item":"a",\n"next":{}}', None, b"refused MissingMember at 2:8\n"),
+    (MORE, "few", b"[\n\n7, 1.5]", None, b"refused NotWhole at 3:4\n"),
+    (b"", "int", b"", None, b"refused NotJson at 1:1\n"),
+    (b"", "bool", b"\n\xff", None, b"refused NotJson at 2:1\n"),
+]
+# The same that is refused before it is read, or not read: the kind, the limit on bytes, what is said, and the status.
+UNENCODED = [
+    ("lists", 4, b"no such name: lists\n"),
+    ("list", 6, b"limits refused\n"),
 ]

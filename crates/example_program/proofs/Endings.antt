@@ -9,6 +9,7 @@ use Rattle.oncrpc_tasks.specs.declared.question.Form.{Form}
 use Rattle.oncrpc_tasks.specs.Devices.{Reports, Stream}
 use Rattle.oncrpc_tasks.specs.Ends.{TaskEnds, WordsEnd, IsLookedFor, IsUnasked}
 use Rattle.oncrpc_tasks.specs.Tasks.{AsksNothing}
+use Rattle.oncrpc_encode.specs.EncodeEnds.{EncodeEnds}
 
 not_done : (reported : List ℕ → Option (List ℕ)) (what : ValueTask) (file : Type 0) (status : ℕ)
     → IsUnasked reported what file status → status ≤ 1 → ⊥
@@ -65,3 +66,9 @@ module _ {I O F : Type 0} (reported : List ℕ → Option (List ℕ)) (file : Ty
   few_reads (task.Show what) ends = words_few_reads what _ ends
   few_reads (task.Json json) ends = words_few_reads json.what _ ends
   few_reads (task.Records what) ends = ends.few_reads
+
+  -- where a value was to be read as JSON, too
+  pub unencoded : (what : ValueTask)
+      → EncodeEnds reported what file reports stream i i' o o' fs fs' status → status ≡ 2 → (i' ≡ i) × (o' ≡ o)
+  unencoded what (inl h) two = absurd (h.ends.asked two)
+  unencoded what (inr h) two = (h.1, h.2)

@@ -12,3 +12,5 @@ pub mod Alone
 pub mod Arguments
 pub mod Sourced
 pub mod Endings
+pub mod Spelling
+pub mod Unlisted

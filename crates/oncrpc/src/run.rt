@@ -2,9 +2,12 @@
 ghost use Rattle.std.specs.Prelude.{◌≤◌};
 
 use crate::files::FileOpener;
+use crate::keeping::keep;
 use crate::network::{info, serve};
-use oncrpc_answers::Task;
+use oncrpc_answers::{Task, TypesTask, ValueTask};
+use oncrpc_encode::encode_over;
 use oncrpc_tasks::task_over;
+use oncrpc_types::types_over;
 use oncrpc_words::{Request, WordsFault, no_memory, print_words_fault, read_words};
 use std::alloc::Global;
 use std::{env, io};
@@ -18,8 +21,11 @@ pub fn run(rt: &HostRuntime) -> u8
     let mut faults = IntoWrite::new(rt.stderr());
     match read_request(rt) {
         Ok(Request::Offline(task)) => offline(rt, &task, &mut output, &mut faults),
+        Ok(Request::Encode(what)) => encode(rt, &what, &mut output, &mut faults),
+        Ok(Request::Types(what)) => types(rt, &what, &mut output, &mut faults),
         Ok(Request::Info(what)) => info(rt, &what, &mut output, &mut faults),
         Ok(Request::Serve(what)) => serve(rt, &what, &mut output, &mut faults),
+        Ok(Request::Keep(what)) => keep(rt, &what, &mut output, &mut faults),
         Err(fault) => print_words_fault(&fault, &mut output, &mut faults),
     }
 }
@@ -31,6 +37,28 @@ fn offline<O: Sink, F: Sink>(rt: &HostRuntime, task: &Task, output: &mut O, faul
     let mut opener = FileOpener::new(rt);
     let mut input = FromRead::new(rt.stdin());
     task_over(rt.alloc(), task, &mut opener, &mut input, output, faults)
+}
+
+// A value of standard input as JSON, to its bytes on standard output.
+fn encode<O: Sink, F: Sink>(
+    rt: &HostRuntime,
+    what: &ValueTask,
+    output: &mut O,
+    faults: &mut F,
+) -> u8
+    ensures { result ≤ 4 }
+{
+    let mut opener = FileOpener::new(rt);
+    let mut input = FromRead::new(rt.stdin());
+    encode_over(rt.alloc(), what, &mut opener, &mut input, output, faults)
+}
+
+// What texts of the system's files declare, to standard output.
+fn types<O: Sink, F: Sink>(rt: &HostRuntime, what: &TypesTask, output: &mut O, faults: &mut F) -> u8
+    ensures { result ≤ 4 }
+{
+    let mut opener = FileOpener::new(rt);
+    types_over(rt.alloc(), what, &mut opener, output, faults)
 }
 
 fn read_request(rt: &HostRuntime) -> Result<Request, WordsFault> {

@@ -10,4 +10,4 @@ mod task;
 
 pub use answer::{Answer, line_of, status_of};
 pub use failure::{Failure, report};
-pub use task::{Dialect, JsonTask, RecordsTask, Task, Texts, ValueTask};
+pub use task::{Dialect, JsonTask, RecordsTask, Task, Texts, TypesTask, ValueTask};

@@ -55,6 +55,15 @@ pub enum Dialect {
     Rpcgen(Vec<String>),
 }
 
+/// Texts whose declarations are to be printed.
+#[derive(PartialEq, Eq, Drop)]
+pub struct TypesTask {
+    /// The texts.
+    pub types: Texts,
+    /// Whether they are printed as JSON, and not as lines.
+    pub json: bool,
+}
+
 /// Records to be read from the input.
 #[derive(PartialEq, Eq, Drop)]
 pub struct RecordsTask {

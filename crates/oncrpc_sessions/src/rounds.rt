@@ -4,12 +4,13 @@ ghost use Rattle.registry_rows.specs.Rows.{Row};
 ghost use Rattle.oncrpc_sessions.specs.Loops.{Goes};
 
 use crate::client::Client;
-use mio::net::{TcpListener, TcpStream, UdpSocket};
+use crate::clients::Clients;
+use crate::datagrams::Datagrams;
+use crate::ending::Ending;
+use mio::net::{TcpListener, TcpStream};
 use mio::{Events, Interest, Poll, Token};
-use registry_answer::Appended;
 use registry_sessions::SessionTable;
 use rpc_directory::Directory;
-use rpc_message::system_error;
 use std::alloc::Global;
 use std::hash::BuildHasher;
 use std::io;
@@ -22,141 +23,205 @@ const LISTENER: Token = Token(usize::MAX);
 
 const DATAGRAMS: Token = Token(usize::MAX - 1);
 
-/// How many connections, and how many datagrams, are taken at most in one round.
+/// How many connections are taken at most in one round.
 const MOST_AT_ONCE: u32 = 64;
 
-/// A registry's sockets: one that listens, one for datagrams, and those of the clients, each at a place.
+/// For how many seconds a round waits at most where a client is there, and how often idle ones are looked for.
+const LONGEST_WAIT: u64 = 1;
+
+/// What a registry's sockets hold at most.
+#[derive(Clone, Copy, Debug, PartialEq, Eq)]
+pub struct Bounds {
+    /// How many connections may be open at a time. Others wait, and none of them is refused.
+    pub connections: usize,
+    /// How long a connection may stay that makes no call and takes nothing of its replies.
+    pub idle: Duration,
+}
+
+/// A registry's sockets: one that listens, one for datagrams, and those of the clients. Readiness is told once: what a
+/// socket was ready for stays noted until a call would block.
 #[derive(Drop)]
 pub struct Sockets {
     alloc: Global,
     poll: Poll,
     events: Events,
     listener: TcpListener,
-    datagrams: UdpSocket,
-    clients: Vec<Option<Client>>,
-    buffer: Vec<u8>,
+    datagrams: Datagrams,
+    bounds: Bounds,
+    port: u16,
+    clients: Clients,
+    may_accept: bool,
+    /// The last connection could not be accepted, as for want of descriptors: the next is, once a client has gone or
+    /// some time has passed.
+    is_short: bool,
+    /// When idle clients were looked for last.
+    looked: Instant,
 }
 
 impl Sockets {
-    /// Binds both sockets at this address, whose port is 0 for any free one.
-    pub fn bind<R: Net>(rt: &R, alloc: Global, address: SocketAddr) -> io::Result<Sockets> {
+    /// Binds both sockets at this address, whose port is 0 for any free one. What becomes of connections is kept for
+    /// `endings` where it `is_told`.
+    pub fn bind<R: Net + Clock>(
+        rt: &R,
+        alloc: Global,
+        address: SocketAddr,
+        bounds: Bounds,
+        is_told: bool,
+    ) -> io::Result<Sockets> {
+        let looked = Instant::now(rt)?;
         let poll = Poll::new(rt)?;
         let events = Events::with_capacity(alloc, 1024)?;
         let mut listener = TcpListener::bind(rt, address)?;
         let mut bound = address;
         bound.set_port(listener.local_addr()?.port());
-        let mut datagrams = UdpSocket::bind(rt, bound)?;
-        poll.registry()
-            .register(&mut listener, LISTENER, Interest::READABLE)?;
-        poll.registry()
-            .register(&mut datagrams, DATAGRAMS, Interest::READABLE)?;
+        let mut datagrams = Datagrams::bind(rt, alloc, bound)?;
+        let registry = poll.registry();
+        registry.register(&mut listener, LISTENER, Interest::READABLE)?;
+        datagrams.register(registry, DATAGRAMS)?;
         Ok(Sockets {
             alloc,
             poll,
             events,
             listener,
             datagrams,
-            clients: Vec::new(alloc),
-            buffer: Vec::new(alloc),
+            bounds,
+            port: bound.port(),
+            clients: Clients::new(alloc, is_told),
+            may_accept: true,
+            is_short: false,
+            looked,
         })
     }
 
-    /// One round: waits for events, no longer than `limits.0` and not at all while a client has more to do. It takes
-    /// what came and gives each client one turn. Those go that are done, or were idle for longer than `limits.1`. An
-    /// error is that of the wait or of the clock.
+    /// The port at which both listen.
+    pub fn port(&self) -> u16 {
+        self.port
+    }
+
+    /// What became of the connections that have ended since the caller emptied this. One for which there was no memory
+    /// is left out.
+    pub fn endings(&mut self) -> &mut Vec<Ending> {
+        self.clients.endings()
+    }
+
+    /// One round: waits until a socket is ready, at most a second where a client is there, and not at all while
+    /// something is left to do. It accepts what waits, answers the datagrams that came, and gives each client turns.
+    /// Those go that are done, or were idle for too long. An error is that of the wait or of the clock.
     pub fn round<R: Clock, S: BuildHasher>(
         &mut self,
         rt: &R,
-        limits: (Duration, Duration),
         table: &mut SessionTable,
         directory: &mut Directory<S>,
     ) -> io::Result<()>
         ensures { Goes table.old table.new directory.old directory.new }
     {
-        let now = self.wait(rt, limits.0, table)?;
-        let (accepts, receives) = self.note(now);
-        self.accept(accepts, now, table);
-        self.receive(receives, table, directory);
-        self.turns(now, limits.1, table, directory);
+        let now = self.wait(rt, table)?;
+        self.note();
+        self.accept(now, table);
+        self.datagrams.receive(table, directory);
+        self.turns(now, table, directory);
         Ok(())
     }
 
     /// Waits for events, and tells the time then.
-    fn wait<R: Clock>(
-        &mut self,
-        rt: &R,
-        longest: Duration,
-        table: &SessionTable,
-    ) -> io::Result<Instant> {
-        let timeout = if self.is_busy(table) {
-            Duration::ZERO
-        } else {
-            longest
-        };
-        self.poll.poll(&mut self.events, Some(timeout))?;
+    fn wait<R: Clock>(&mut self, rt: &R, table: &SessionTable) -> io::Result<Instant> {
+        let longest = self.longest_wait(table);
+        self.poll.poll(&mut self.events, longest)?;
         Instant::now(rt)
     }
 
-    fn is_busy(&self, table: &SessionTable) -> bool {
-        for place in self.clients.iter() {
-            if let Some(client) = place {
-                if client.is_busy(table) {
-                    return true;
-                }
-            }
+    /// How long may be waited. None: as long as nothing comes.
+    fn longest_wait(&self, table: &SessionTable) -> Option<Duration> {
+        if self.datagrams.is_busy() || self.clients.is_busy() || self.is_to_accept(table) {
+            Some(Duration::ZERO)
+        } else if table.open_count() == 0 && !self.is_short {
+            None
+        } else {
+            Some(Duration::from_secs(LONGEST_WAIT))
         }
-        false
     }
 
-    /// Notes which sockets are ready, and says so of the one that listens and the one for datagrams.
-    fn note(&mut self, now: Instant) -> (bool, bool) {
-        let (mut accepts, mut receives) = (false, false);
+    /// Notes which sockets are ready.
+    fn note(&mut self) {
         for event in &self.events {
             if event.token() == LISTENER {
-                accepts = true;
+                self.may_accept = true;
             } else if event.token() == DATAGRAMS {
-                receives = true;
-            } else if let Some(Some(client)) = self.clients.get_mut(event.token().0) {
-                client.note(now);
+                self.datagrams.note();
+            } else {
+                self.clients.note(event.token().0, event);
             }
         }
-        (accepts, receives)
     }
 
-    /// Accepts what waits.
-    fn accept(&mut self, accepts: bool, now: Instant, table: &mut SessionTable)
+    /// A connection may wait, and there is room for it.
+    fn is_to_accept(&self, table: &SessionTable) -> bool {
+        self.may_accept && !self.is_short && table.open_count() < self.bounds.connections
+    }
+
+    /// Accepts what waits, where there is room.
+    fn accept(&mut self, now: Instant, table: &mut SessionTable)
         ensures { (rows : List Row) → Goes table.old table.new rows rows }
     {
-        if !accepts {
+        for _ in 0..MOST_AT_ONCE {
+            self.accept_one(now, table);
+        }
+    }
+
+    /// Accepts one connection, where there is room. Where no session can be begun its socket is closed at once.
+    fn accept_one(&mut self, now: Instant, table: &mut SessionTable)
+        ensures { (rows : List Row) → Goes table.old table.new rows rows }
+    {
+        if !self.is_to_accept(table) {
             return;
         }
-        for _ in 0..MOST_AT_ONCE {
-            if !self.accept_one(now, table) {
-                return;
-            }
+        match self.listener.accept() {
+            Ok((stream, peer)) => self.begin(stream, peer, now, table),
+            Err(fault) => self.not_accepted(fault.kind()),
         }
     }
 
-    /// Accepts one connection. Whether more may wait. Where no session can be begun its socket is closed at once.
-    fn accept_one(&mut self, now: Instant, table: &mut SessionTable) -> bool
-        ensures { (rows : List Row) → Goes table.old table.new rows rows }
-    {
-        let stream = match self.listener.accept() {
-            Ok((stream, _)) => stream,
-            Err(fault) => return fault.kind() == ErrorKind::Interrupted,
-        };
-        let Some((place, stream)) = self.registered(stream) else {
-            return true;
-        };
-        let opened = table.open();
-        self.keep(place, stream, opened.ok(), now);
-        true
+    /// A connection that was not accepted ends nothing.
+    fn not_accepted(&mut self, kind: ErrorKind) {
+        match kind {
+            ErrorKind::WouldBlock => self.may_accept = false,
+            ErrorKind::Interrupted | ErrorKind::ConnectionAborted => {}
+            _ => self.is_short = true,
+        }
     }
 
-    /// Has the poll watch a socket, and gives it with the place for its client. None: that could not be done.
+    /// Begins a session for a client.
+    fn begin(&mut self, stream: TcpStream, peer: SocketAddr, now: Instant, table: &mut SessionTable)
+        ensures { (rows : List Row) → Goes table.old table.new rows rows }
+    {
+        let Some((place, stream)) = self.registered(stream) else {
+            return;
+        };
+        let opened = table.open();
+        self.keep(place, stream, peer, opened.ok(), now);
+    }
+
+    /// Keeps a client at a place, where its session was begun.
+    fn keep(
+        &mut self,
+        place: usize,
+        stream: TcpStream,
+        peer: SocketAddr,
+        number: Option<u64>,
+        now: Instant,
+    ) {
+        if let Some(number) = number {
+            let client = Client::new(self.alloc, stream, peer, number, now);
+            self.clients.put(place, client);
+        }
+    }
+
+    /// Has the poll watch a socket, and gives it with the place for its client. None: that could not be done. Replies
+    /// are sent as they are written, without waiting for more.
     fn registered(&mut self, stream: TcpStream) -> Option<(usize, TcpStream)> {
         let mut stream = stream;
-        let place = self.free_place()?;
+        let place = self.clients.free_place()?;
+        let _at_once = stream.set_nodelay(true);
         let both = Interest::READABLE | Interest::WRITABLE;
         self.poll
             .registry()
@@ -165,112 +230,35 @@ impl Sockets {
         Some((place, stream))
     }
 
-    /// Keeps a client at a place, where its session was begun.
-    fn keep(&mut self, place: usize, stream: TcpStream, number: Option<u64>, now: Instant) {
-        if let Some(number) = number {
-            if let Some(slot) = self.clients.get_mut(place) {
-                *slot = Some(Client::new(self.alloc, stream, number, now));
-            }
-        }
-    }
-
-    /// A place that no client has. None: memory was refused for one more.
-    fn free_place(&mut self) -> Option<usize> {
-        match self.clients.iter().position(|slot| slot.is_none()) {
-            Some(place) => Some(place),
-            None => {
-                let place = self.clients.len();
-                self.clients.push(None).ok()?;
-                Some(place)
-            }
-        }
-    }
-
-    /// Answers the datagrams that wait.
-    fn receive<S: BuildHasher>(
-        &mut self,
-        receives: bool,
-        table: &SessionTable,
-        directory: &mut Directory<S>,
-    )
-        ensures { Goes table.now table.now directory.old directory.new }
-    {
-        if !receives {
-            return;
-        }
-        for _ in 0..MOST_AT_ONCE {
-            if !self.receive_one(table, directory) {
-                return;
-            }
-        }
-    }
-
-    /// Answers one datagram. Whether more may wait.
-    fn receive_one<S: BuildHasher>(
-        &mut self,
-        table: &SessionTable,
-        directory: &mut Directory<S>,
-    ) -> bool
-        ensures { Goes table.now table.now directory.old directory.new }
-    {
-        let mut array = [0u8; 65536];
-        let (n, sender) = match self.datagrams.recv_from(&mut array) {
-            Ok(received) => received,
-            Err(fault) => return fault.kind() != ErrorKind::WouldBlock,
-        };
-        let appended = table.receive(&array[..n], directory, &mut self.buffer);
-        self.send(appended, sender);
-        true
-    }
-
-    /// Sends what is said for a datagram, once.
-    fn send(&self, appended: Appended, to: SocketAddr) {
-        match appended {
-            Appended::Nothing => {}
-            Appended::Reply => {
-                let _sent = self.datagrams.send_to(&self.buffer, to);
-            }
-            Appended::OutOfMemory { xid } => {
-                let _sent = self.datagrams.send_to(&system_error(xid), to);
-            }
-        }
-    }
-
-    /// Gives each client one turn.
+    /// Gives the clients their turns, and lets those go that were idle for too long.
     fn turns<S: BuildHasher>(
         &mut self,
         now: Instant,
-        idle: Duration,
         table: &mut SessionTable,
         directory: &mut Directory<S>,
     )
         ensures { Goes table.old table.new directory.old directory.new }
     {
-        for place in 0..self.clients.len() {
-            self.turn_at(place, (now, idle), table, directory);
-        }
+        let before = table.open_count();
+        self.clients.turns(now, table, directory);
+        self.look(now, table);
+        self.is_short &= before <= table.open_count();
     }
 
-    /// Gives the client at a place its turn, at a time. It goes where it is done, or was idle for longer than `at.1`.
-    fn turn_at<S: BuildHasher>(
-        &mut self,
-        place: usize,
-        at: (Instant, Duration),
-        table: &mut SessionTable,
-        directory: &mut Directory<S>,
-    )
-        ensures { Goes table.old table.new directory.old directory.new }
+    /// Some time has passed since idle clients were looked for.
+    fn is_to_look(&self, now: Instant) -> bool {
+        now.duration_since(self.looked) >= Duration::from_secs(LONGEST_WAIT)
+    }
+
+    /// Looks for idle clients, once in a while.
+    fn look(&mut self, now: Instant, table: &mut SessionTable)
+        ensures { (rows : List Row) → Goes table.old table.new rows rows }
     {
-        let Some(slot) = self.clients.get_mut(place) else {
+        if !self.is_to_look(now) {
             return;
-        };
-        let Some(client) = slot else {
-            return;
-        };
-        client.turn(table, directory);
-        if client.is_done(table) || at.0.duration_since(client.last) > at.1 {
-            client.close(table);
-            *slot = None;
         }
+        self.looked = now;
+        self.is_short = false;
+        self.clients.close_idle(now, self.bounds.idle, table);
     }
 }

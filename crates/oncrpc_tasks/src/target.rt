@@ -3,7 +3,7 @@ ghost use Rattle.std.specs.Prelude.{◌≡◌, ◌<◌, length, IfOk, IfErr, IsE
 ghost use Rattle.oncrpc_tasks.specs.Sources.{FileFails};
 ghost use Rattle.oncrpc_tasks.specs.Tasks.{AsksFor, HasNoQuestion};
 
-use super::declared::declared;
+use super::declaring::declared;
 use super::open::Opener;
 use super::unusable::Unusable;
 use oncrpc_answers::{Failure, ValueTask};

@@ -74,11 +74,28 @@ impl From<AllocError> for Unusable {
 pub fn refuse<F: Sink>(alloc: Global, why: Unusable, what: &ValueTask, faults: &mut F) -> u8
     ensures { Ends why result }
 {
+    refuse_named(alloc, why, &what.name, &what.types.files, faults)
+}
+
+/// The same where texts of these files are asked for, and no name.
+pub fn refuse_texts<F: Sink>(alloc: Global, why: Unusable, files: &[String], faults: &mut F) -> u8
+    ensures { Ends why result }
+{
+    refuse_named(alloc, why, "", files, faults)
+}
+
+fn refuse_named<F: Sink>(
+    alloc: Global,
+    why: Unusable,
+    name: &str,
+    files: &[String],
+    faults: &mut F,
+) -> u8
+    ensures { Ends why result }
+{
     let line = match why {
-        Unusable::Declaration { file, fault } => {
-            declaration_line(alloc, &what.types.files, file, fault)
-        }
-        Unusable::Name => format!(in alloc; "no such name: {}\n", what.name),
+        Unusable::Declaration { file, fault } => declaration_line(alloc, files, file, fault),
+        Unusable::Name => format!(in alloc; "no such name: {name}\n"),
         Unusable::Limits => String::from_str(alloc, "limits refused\n"),
         Unusable::Failed(failure) => return report(failure, faults),
     };

@@ -1,4 +1,5 @@
 //! What help says behind the options: the output of each command, its statuses, and examples with what they print.
+pub use crate::after_network::{AFTER_INFO, AFTER_SERVE};
 
 /// The statuses of each command, and the lines on standard error that go with them.
 pub const AFTER_ALL: &str = "Exit status:
@@ -71,7 +72,8 @@ I:
   10  a name twice
   11  memory was refused
 A line that begins with % or # is of rpcgen's dialect, which --dialect rpcgen reads:
-docs/LANGUAGE.md has it.
+docs/LANGUAGE.md has it. So are 'unsigned' alone, names as bool_t and u_int, and
+members of an enum without a number: try it where F is 1, 3, 4 or 6.
 
 A FILE that cannot be opened, or an input that cannot be read, is the line
 'read fault' on standard error.
@@ -141,6 +143,104 @@ Examples:
     \"42\"
     ok 8, more follows";
 
+/// What `encode` prints, its statuses and examples of it.
+pub const AFTER_ENCODE: &str =
+    "Output: the bytes of the value (RFC 4506), or with --hex one line of lower-case
+hexadecimal. What 'oncrpc show --json' prints of a value may be read, and any JSON
+that says the same, by docs/FORMATS.md: members in any order, white space, a
+number in place of an enum's name. The whole input is read first, at most 16 bytes
+for each of --bytes and 1048576 more.
+
+A text that is refused is a line on standard error, and no byte is written:
+  refused WHY at L:C     the text is no JSON of a value of the type; L is the
+                         line and C the column in bytes, both from 1
+  refused text too long  it has more bytes than are read
+'oncrpc help check' has the numbers of 'declaration refused: F at L:C'.
+
+WHY, by what stands at the place:
+  NotJson        what is no JSON, or not in UTF-8
+  UnknownMember  a member that the struct or the union does not have
+  MemberTwice    a member that stood before
+  MissingMember  an object in which a member is missing
+  WrongType      JSON of another form than the type's
+  OutOfRange     a number that is out of the type's range, or that no member of the
+                 enum has
+  NotWhole       a number with a fraction or an exponent
+  UnknownName    a name that no member of the enum has
+  BadHex         digits that are no pairs of hexadecimal digits
+  WrongLength    more or fewer bytes or items than the type has
+  NoArm          a discriminant for which the union has no arm
+  TooDeep        a part that is deeper than --depth allows, or a bracket below 4096
+                 others
+  TooLarge       the end of the text of a value with more bytes than --bytes
+
+Exit status:
+  0  the bytes of the value are written
+  1  the text is refused
+  2  words, declarations, name or limits are refused
+  3  a read or a write failed, or more than 1048576 reads would be needed
+  4  memory was refused
+
+Examples:
+    $ echo '\"abc\"' | oncrpc encode --name string --hex
+    0000000361626300
+    $ echo '\"abc\"' | oncrpc encode --name string | oncrpc show --json --name string
+    \"abc\"
+    $ printf 'typedef int numbers<>;' > numbers.x
+    $ printf '[1,\\n 2.5]' | oncrpc encode --types numbers.x --name numbers
+    refused NotWhole at 2:2";
+
+/// What `types` prints, its statuses and examples of it.
+pub const AFTER_TYPES: &str =
+    "Output: a line for each name that the files declare, and for each argument and
+result of a procedure, of words with one space between:
+  const NAME NUMBER       a constant, or a member of an enum
+  type NAME KIND LEAST..GREATEST
+  program NAME P          a program and its number
+  version NAME P.V        a version of the program
+  procedure NAME P.V.N    a procedure of the version
+  argument P.V.N.K TYPE KIND LEAST..GREATEST
+  result P.V.N.result TYPE KIND LEAST..GREATEST
+Constants come first, then types, then programs, each in the order of the files. A
+void has no line. --name of 'check' and 'show' takes the NAME of a type, P.V.N.K and
+P.V.N.result. TYPE is the first name of the type, or - where it has none. KIND is
+int, unsigned, hyper, unsigned-hyper, bool, enum, opaque, string, array where the
+count of items is fixed, list where it is not, struct, union, optional or void.
+
+No value has fewer bytes than LEAST or more than GREATEST, and some value has just
+as many. --depth and --bytes of 'check' play no part here. In place of a number
+stands
+  large      the count is 2^64 or more
+  unbounded  no count is the greatest: values go on, as those of a linked list
+
+With --json it is one JSON value on a line, by docs/FORMATS.md. A file that is
+refused is a line on standard error, which 'oncrpc help check' explains.
+
+Exit status:
+  0  what is declared is printed
+  2  words or declarations are refused
+  3  a file could not be read, or the output not be written
+  4  memory was refused
+
+Examples:
+    $ oncrpc types --types file.x
+    const MAXUSERNAME 32
+    const MAXFILELEN 65535
+    const MAXNAMELEN 255
+    const TEXT 0
+    const DATA 1
+    const EXEC 2
+    type filekind enum 4..4
+    type filetype union 4..264
+    type file struct 16..66100
+    $ oncrpc types --types ping.x
+    program PING 536870912
+    version ONE 536870912.1
+    procedure NIL 536870912.1.0
+    procedure ECHO 536870912.1.1
+    argument 536870912.1.1.1 string string 4..4294967300
+    result 536870912.1.1.result string string 4..4294967300";
+
 /// What `records` prints, its statuses and examples of it.
 pub const AFTER_RECORDS: &str =
     "Output: the records, each as one final fragment (RFC 5531 section 11). With --hex
@@ -166,87 +266,3 @@ Examples:
     $ printf '80000001 61 80000003 626364' | oncrpc records --limit 2 --hex
     8000000161
     refused TooLong at 5";
-
-/// What `info` prints, its statuses and examples of it.
-pub const AFTER_INFO: &str =
-    "Output: 'program vers netid address owner', or of version 2 'program vers prot
-port', and then a line for each row. An answer without rows is the line
-'refused ' and
-  PROG_UNAVAIL           there is no registry's program at the port
-  PROG_MISMATCH LOW HIGH it has the versions LOW to HIGH
-  PROC_UNAVAIL           it does not list its rows
-  GARBAGE_ARGS, SYSTEM_ERR
-                         it could not read the call, or not answer it
-  RPC_MISMATCH LOW HIGH  it speaks the versions LOW to HIGH of RPC
-  AUTH_ERROR NUMBER      it refuses a call without a credential
-  TooLong at N, Truncated at N
-                         over TCP: no whole record came
-  Truncated, NotAReply, BadStatus, BadAuth, Rest
-                         what came is no reply
-  WrongXid NUMBER        what came is a reply to another call
-  WHY at N               the results begin with no list of rows; 'oncrpc help
-                         check' has WHY, and N is the place in them
-
-Lines on standard error: 'socket fault' where the host is not found or no
-connection is accepted, 'read fault' where no answer could be read, also where
-nobody listens at a port of UDP.
-
-Exit status:
-  0  the rows are printed
-  1  the reply is refused, or brings no rows
-  2  words are refused
-  3  a socket, a read or a write failed, or more than 1048576 reads would be needed
-  4  memory was refused
-
-Examples, of a registry that has its own rows alone:
-    $ oncrpc info 127.0.0.1 111
-    program vers netid address owner
-    100000 2 tcp 0.0.0.0.0.111 superuser
-    100000 2 udp 0.0.0.0.0.111 superuser
-    100000 3 tcp 0.0.0.0.0.111 superuser
-    100000 3 udp 0.0.0.0.0.111 superuser
-    100000 4 tcp 0.0.0.0.0.111 superuser
-    100000 4 udp 0.0.0.0.0.111 superuser
-    $ oncrpc info 127.0.0.1 111 --vers 2 --udp
-    program vers prot port
-    100000 2 6 111
-    100000 2 17 111
-    100000 3 6 111
-    100000 3 17 111
-    100000 4 6 111
-    100000 4 17 111";
-
-/// What `serve` prints, its statuses and examples of it.
-pub const AFTER_SERVE: &str =
-    "Output: 'listening on 127.0.0.1 PORT', a line for each connection K, from 1, once
-it has ended, and after them a line for each datagram K, from 1:
-  connection K: N records, M replies
-                               N records were read, and M replies were sent
-  connection K: TooLong at N   a record has more than 65536 bytes
-  connection K: Truncated at N the connection ended inside a record
-  connection K: Read           it could not be read; or Write, not be written
-  connection K: TooManyReads   more than 1048576 reads would be needed
-  connection K: NoMemory       memory was refused
-  datagram K: reply            a reply was sent
-  datagram K: no reply         the datagram is no call
-  datagram K: Read             none could be received; or Write, no reply sent
-What was wrong with a connection ends that connection alone. N in 'at N' is the
-count of the connection's bytes before the place.
-
-The registry begins with its own rows, versions 2, 3 and 4 of program 100000 over
-tcp and udp, and is gone when the program ends. A port that is taken over TCP or
-UDP is the line 'socket fault' on standard error.
-
-Exit status:
-  0  all connections were served, and all datagrams after them
-  2  words are refused
-  3  a socket or a write to standard output failed
-  4  memory was refused
-
-Examples, with two clients and two datagrams:
-    $ oncrpc serve --port 111 --count 2 --datagrams 2
-    listening on 127.0.0.1 111
-    connection 1: 1 records, 1 replies
-    connection 2: TooLong at 0
-    datagram 1: reply
-    datagram 2: no reply";

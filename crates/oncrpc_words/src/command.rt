@@ -12,6 +12,12 @@ pub const BYTES: u32 = 16777216;
 /// The version of the registry's program where none is given.
 pub const VERS: u32 = 4;
 
+/// How many connections may be open at a time where nothing is said of it.
+pub const CONNECTIONS: u32 = 1024;
+
+/// For how many seconds a connection may be idle where nothing is said of it.
+pub const IDLE: u32 = 60;
+
 /// The names of dialects.
 const DIALECTS: [&str; 1] = ["rpcgen"];
 
@@ -22,6 +28,8 @@ enum Taken {
     Port,
     Number,
     Version,
+    Connections,
+    Seconds,
 }
 
 // A word by its id, what help calls its value, what help says of it, and what the value has to be.
@@ -34,12 +42,16 @@ enum Word {
     Optional(&'static str, &'static str, &'static str, Taken, &'static [&'static str]),
     // An option beside which another has to be there.
     Beside(&'static str, &'static str, &'static str, Taken, &'static str),
+    // An option beside which another may not be there, and its value where it is not there.
+    Without(&'static str, &'static str, &'static str, Taken, &'static [&'static str], &'static str),
     // An option that may come more than once, beside which others have to be there.
     Repeated(&'static str, &'static str, &'static str, Taken, &'static [&'static str]),
     // An option without a value.
     Flag(&'static str, &'static str),
     // The same, beside which another option has to be there.
     FlagBeside(&'static str, &'static str, &'static str),
+    // The same, beside which another may not be there.
+    FlagWithout(&'static str, &'static str, &'static str),
 }
 
 const OF_CHECK: [Word; 7] = [
@@ -64,6 +76,23 @@ const OF_SHOW: [Word; 9] = [
     Word::FlagBeside("indent", help::INDENT, "json"),
 ];
 
+const OF_ENCODE: [Word; 7] = [
+    Word::Required("name", "NAME", help::NAME, Taken::Text),
+    Word::Repeated("types", "FILE", help::TYPES, Taken::Text, &[]),
+    Word::Beside("dialect", "DIALECT", help::DIALECT, Taken::Dialect, "types"),
+    Word::Repeated("define", "NAME", help::DEFINE, Taken::Text, &["dialect"]),
+    Word::Flag("hex", help::HEX_WRITTEN),
+    Word::Optional("depth", "N", help::DEPTH, Taken::Number, &["4096"]),
+    Word::Optional("bytes", "N", help::BYTES, Taken::Number, &["16777216"]),
+];
+
+const OF_TYPES: [Word; 4] = [
+    Word::Repeated("types", "FILE", help::TYPES, Taken::Text, &[]),
+    Word::Beside("dialect", "DIALECT", help::DIALECT, Taken::Dialect, "types"),
+    Word::Repeated("define", "NAME", help::DEFINE, Taken::Text, &["dialect"]),
+    Word::Flag("json", help::JSON_LIST),
+];
+
 const OF_RECORDS: [Word; 2] = [
     Word::Optional("limit", "N", help::LIMIT, Taken::Number, &["16777216"]),
     Word::Flag("hex", help::HEX),
@@ -76,10 +105,35 @@ const OF_INFO: [Word; 4] = [
     Word::Flag("udp", help::UDP),
 ];
 
-const OF_SERVE: [Word; 3] = [
+const OF_SERVE: [Word; 7] = [
     Word::Required("port", "N", help::PORT, Taken::Port),
-    Word::Required("count", "C", help::COUNT, Taken::Number),
-    Word::Optional("datagrams", "D", help::DATAGRAMS, Taken::Number, &["0"]),
+    Word::Without(
+        "bind",
+        "ADDR",
+        help::BIND,
+        Taken::Text,
+        &["127.0.0.1"],
+        "count",
+    ),
+    Word::Without(
+        "connections",
+        "N",
+        help::CONNECTIONS,
+        Taken::Connections,
+        &["1024"],
+        "count",
+    ),
+    Word::Without(
+        "idle",
+        "SECONDS",
+        help::IDLE,
+        Taken::Seconds,
+        &["60"],
+        "count",
+    ),
+    Word::FlagWithout("verbose", help::VERBOSE, "count"),
+    Word::Optional("count", "C", help::COUNT, Taken::Number, &[]),
+    Word::Beside("datagrams", "D", help::DATAGRAMS, Taken::Number, "count"),
 ];
 
 /// The program with its subcommands.
@@ -105,6 +159,8 @@ fn commands<'a>(alloc: Global) -> Result<Vec<Command<'a>>, AllocError> {
     let mut commands = Vec::new(alloc);
     commands.push(check(alloc)?)?;
     commands.push(show(alloc)?)?;
+    commands.push(encode(alloc)?)?;
+    commands.push(types(alloc)?)?;
     commands.push(records(alloc)?)?;
     commands.push(info(alloc)?)?;
     commands.push(serve(alloc)?)?;
@@ -117,6 +173,20 @@ fn check<'a>(alloc: Global) -> Result<Command<'a>, AllocError> {
 
 fn show<'a>(alloc: Global) -> Result<Command<'a>, AllocError> {
     part(alloc, "show", help::SHOW, after::AFTER_SHOW, &OF_SHOW)
+}
+
+fn encode<'a>(alloc: Global) -> Result<Command<'a>, AllocError> {
+    part(
+        alloc,
+        "encode",
+        help::ENCODE,
+        after::AFTER_ENCODE,
+        &OF_ENCODE,
+    )
+}
+
+fn types<'a>(alloc: Global) -> Result<Command<'a>, AllocError> {
+    part(alloc, "types", help::LIST, after::AFTER_TYPES, &OF_TYPES)
 }
 
 fn records<'a>(alloc: Global) -> Result<Command<'a>, AllocError> {
@@ -180,8 +250,14 @@ fn arg<'a>(alloc: Global, word: &Word) -> Result<Arg<'a>, AllocError> {
                 .action(ArgAction::Append)
                 .requires_all(*others)
         }
-        Word::Flag(id, help) => Ok(flag(alloc, *id, *help)),
         Word::FlagBeside(id, help, other) => flag(alloc, *id, *help).requires_arg(*other),
+        Word::Without(id, value, help, taken, defaults, other) => {
+            option(alloc, *id, *value, *help, taken)
+                .default_values(*defaults)
+                .conflicts_with(*other)
+        }
+        Word::Flag(id, help) => Ok(flag(alloc, *id, *help)),
+        Word::FlagWithout(id, help, other) => flag(alloc, *id, *help).conflicts_with(*other),
     }
 }
 
@@ -214,5 +290,7 @@ fn parsed<'a>(arg: Arg<'a>, taken: &Taken) -> Arg<'a> {
         Taken::Port => arg.value_parser(value_parser!(u16)),
         Taken::Number => arg.value_parser(value_parser!(u32)),
         Taken::Version => arg.value_parser(value_parser!(u32).range(2..=4)),
+        Taken::Connections => arg.value_parser(value_parser!(u32).range(1..=1048576)),
+        Taken::Seconds => arg.value_parser(value_parser!(u32).range(1..)),
     }
 }

@@ -27,6 +27,40 @@ pub fn no_memory(alloc: Global) -> WordsFault
     }
 }
 
+/// What a word that has its form may not be.
+#[derive(Clone, Copy)]
+pub enum Misfit {
+    /// An address to listen at that is none.
+    Address,
+    /// A name to be defined that no line `#ifdef` can ask for.
+    Name,
+}
+
+/// What is said of such a word.
+fn line_of(misfit: Misfit) -> &'static str {
+    match misfit {
+        Misfit::Address => {
+            "error: --bind wants an address of IPv4\n\nFor more information, try '--help'.\n"
+        }
+        Misfit::Name => {
+            "error: --define wants a name: letters, digits and _, no digit first, and no value\n
+For more information, try '--help'.\n"
+        }
+    }
+}
+
+/// A word may not be what it is.
+pub fn misfit_fault(alloc: Global, misfit: Misfit) -> WordsFault
+    // The status is 2, or 4 without a text.
+    ensures status { (result.status ≡ 2) ⊎ (result.status ≡ 4) }
+    ensures memory { result.status ≡ 4 → string_bytes result.text ≡ [] }
+{
+    match String::from_str(alloc, line_of(misfit)) {
+        Ok(text) => WordsFault { text, status: 2 },
+        Err(_) => no_memory(alloc),
+    }
+}
+
 /// What clap's error says, and the status that it ends with.
 pub fn fault_of(alloc: Global, error: &Error) -> WordsFault
     // The status is 0, of help, 2 or 4,

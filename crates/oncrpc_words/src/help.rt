@@ -2,12 +2,12 @@
 
 /// The program in a line.
 pub const ABOUT: &str =
-    "Checks and shows XDR values, marks ONC RPC records, asks and serves rpcbind";
+    "Checks, shows and makes XDR values, marks ONC RPC records, asks and serves rpcbind";
 
 /// The program in a paragraph.
 pub const LONG_ABOUT: &str =
-    "Checks and shows XDR values (RFC 4506), marks ONC RPC records (RFC 5531), and asks and serves rpcbind, the registry
-of programs (RFC 1833).
+    "Checks, shows and makes XDR values (RFC 4506), marks ONC RPC records (RFC 5531), and asks and serves rpcbind, the
+registry of programs (RFC 1833).
 
 Called without any word it does 'check --name opaque --hex'. 'oncrpc help COMMAND' has the words of a command, what it
 prints, and examples.";
@@ -24,6 +24,12 @@ pub const CHECK: &str = "Reads one value from standard input and prints the outc
 /// What `show` does.
 pub const SHOW: &str = "Reads one value from standard input and prints its lines and the outcome";
 
+/// What `encode` does.
+pub const ENCODE: &str = "Reads one value as JSON from standard input and writes its bytes";
+
+/// What `types` does.
+pub const LIST: &str = "Prints what files declare, and how many bytes the values of types have";
+
 /// What `records` does.
 pub const RECORDS: &str = "Writes each record of standard input as one fragment";
 
@@ -31,8 +37,7 @@ pub const RECORDS: &str = "Writes each record of standard input as one fragment"
 pub const INFO: &str = "Asks the registry of a host for its rows and prints them";
 
 /// What `serve` does.
-pub const SERVE: &str =
-    "Serves a registry on 127.0.0.1, connections over TCP and then datagrams over UDP";
+pub const SERVE: &str = "Serves a registry to many clients at once, over TCP and UDP";
 
 /// The word for a host.
 pub const HOST: &str = "The name or the address of the host";
@@ -46,11 +51,26 @@ pub const VERS: &str = "The version of the registry's program, 2 to 4";
 /// The option for the port to listen at.
 pub const PORT: &str = "The port to listen at, over TCP and UDP, 0 to 65535; 0 takes a free one";
 
+/// The option for the address to listen at.
+pub const BIND: &str = "The address to listen at, of IPv4; 0.0.0.0 is all of this host";
+
+/// The option for how many connections may be open.
+pub const CONNECTIONS: &str = "How many connections may be open at a time, 1 to 1048576";
+
+/// The option for how long a connection may be idle.
+pub const IDLE: &str =
+    "How long a connection may make no call and take no reply, 1 to 4294967295 seconds";
+
+/// The option for a line of each connection.
+pub const VERBOSE: &str = "Print a line on standard error for each connection that has ended";
+
 /// The option for how many connections are served.
-pub const COUNT: &str = "How many connections are served, 0 to 4294967295";
+pub const COUNT: &str =
+    "Serve C connections on 127.0.0.1, one after another, and end; 0 to 4294967295";
 
 /// The option for how many datagrams are answered.
-pub const DATAGRAMS: &str = "How many datagrams are answered after them, 0 to 4294967295";
+pub const DATAGRAMS: &str =
+    "How many datagrams are answered after C connections, 0 to 4294967295, else none";
 
 /// The option for asking by a datagram.
 pub const UDP: &str = "Use UDP (one datagram) instead of TCP";
@@ -71,10 +91,14 @@ pub const DIALECT: &str = "The dialect that the files are in, where it is not th
 
 /// The option for a name that is defined.
 pub const DEFINE: &str =
-    "A name that is defined for lines #ifdef; the option may come more than once";
+    "A name that is defined for lines #ifdef: letters, digits and _, no digit first, and no value.
+The option may come more than once";
 
 /// The option for JSON.
 pub const JSON: &str = "Print the value as JSON, and nothing else on standard output";
+
+/// The option for declarations as JSON.
+pub const JSON_LIST: &str = "Print one JSON value in place of lines";
 
 /// The option for JSON by lines.
 pub const INDENT: &str = "Print each item and each member of JSON on a line";
@@ -90,3 +114,6 @@ pub const LIMIT: &str = "The most bytes of a record, 0 to 2147483647";
 
 /// The option for hexadecimal.
 pub const HEX: &str = "Read hexadecimal text, at most 1048576 bytes with its white space";
+
+/// The option for hexadecimal that is written.
+pub const HEX_WRITTEN: &str = "Write a line of hexadecimal in place of the bytes";

@@ -1,11 +1,12 @@
 //! The program's words: what they ask for, what its help says, and what is printed where they ask for no task.
 //!
 //! - `words`, `command`, `request`: the words are read, by which commands and options, into what they ask for.
-//! - `help`, `after`: what help says of the program, before the options and behind them. `fault`: words that ask for no
-//!   task.
+//! - `help`: what help says of the program, before the options; `after` and `after_network` what it says behind them.
+//!   `fault`: words that ask for no task.
 #![tactic(auto)]
 
 mod after;
+mod after_network;
 mod command;
 mod fault;
 mod help;
@@ -13,5 +14,5 @@ mod request;
 mod words;
 
 pub use fault::{WordsFault, no_memory, print_words_fault};
-pub use request::{InfoTask, Request, ServeTask};
+pub use request::{InfoTask, KeepTask, Request, ServeTask};
 pub use words::read_words;

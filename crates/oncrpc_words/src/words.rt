@@ -2,12 +2,14 @@
 ghost use Rattle.std.specs.Prelude.{◌≡◌, ◌⊎◌, IfOk, IfErr, [], string_bytes};
 ghost use Rattle.oncrpc_words.specs.Words.{IsFirst};
 
-use super::command::{BYTES, DEPTH, VERS, command};
-use super::fault::{WordsFault, fault_of, no_memory};
-use super::request::{InfoTask, Request, ServeTask};
+use super::command::{BYTES, CONNECTIONS, DEPTH, IDLE, VERS, command};
+use super::fault::{Misfit, WordsFault, fault_of, misfit_fault, no_memory};
+use super::request::{InfoTask, KeepTask, Request, ServeTask};
 use clap::{ArgMatches, Error};
-use oncrpc_answers::{Dialect, JsonTask, RecordsTask, Task, Texts, ValueTask};
+use oncrpc_answers::{Dialect, JsonTask, RecordsTask, Task, Texts, TypesTask, ValueTask};
 use std::alloc::{AllocError, Global};
+use std::net::Ipv4Addr;
+use xdr_dialect::is_identifier;
 
 /// Reads the words that stand after the program's own name. No words at all check an opaque in hexadecimal.
 pub fn read_words(alloc: Global, words: Vec<String>) -> Result<Request, WordsFault>
@@ -27,7 +29,8 @@ pub fn read_words(alloc: Global, words: Vec<String>) -> Result<Request, WordsFau
         };
     }
     match request_of(alloc, words.as_slice()) {
-        Ok(request) => Ok(request),
+        Ok(Ok(request)) => Ok(request),
+        Ok(Err(misfit)) => Err(misfit_fault(alloc, misfit)),
         Err(error) => Err(fault_of(alloc, &error)),
     }
 }
@@ -48,21 +51,43 @@ fn first_request(alloc: Global) -> Result<Request, AllocError>
     })))
 }
 
-fn request_of(alloc: Global, words: &[String]) -> Result<Request, Error> {
+// The inner error is of a word that clap takes.
+fn request_of(alloc: Global, words: &[String]) -> Result<Result<Request, Misfit>, Error> {
     let matches = command(alloc)?.try_get_matches_from(words)?;
     match matches.subcommand() {
-        Some((name, options)) => Ok(asked(alloc, name, options)?),
-        None => Ok(first_request(alloc)?),
+        Some(("serve", options)) => Ok(served(options).ok_or(Misfit::Address)),
+        Some((_, options)) if !defines_names(options) => Ok(Err(Misfit::Name)),
+        Some((name, options)) => Ok(Ok(asked(alloc, name, options)?)),
+        None => Ok(Ok(first_request(alloc)?)),
     }
+}
+
+// What is to be defined are names that a line `#ifdef` can ask for.
+fn defines_names(options: &ArgMatches<'_>) -> bool {
+    for name in options.get_strs("define").unwrap_or(&[]) {
+        if !is_identifier(name.as_bytes()) {
+            return false;
+        }
+    }
+    true
 }
 
 fn asked(alloc: Global, name: &str, options: &ArgMatches<'_>) -> Result<Request, AllocError> {
     match name {
         "check" => Ok(Request::Offline(Task::Check(value_task(alloc, options)?))),
         "show" => Ok(Request::Offline(show_task(alloc, options)?)),
+        "encode" => Ok(Request::Encode(value_task(alloc, options)?)),
+        "types" => Ok(Request::Types(types_task(alloc, options)?)),
         "info" => Ok(Request::Info(info_task(alloc, options)?)),
-        "serve" => Ok(Request::Serve(serve_task(options))),
         _ => Ok(Request::Offline(Task::Records(records_task(options)))),
+    }
+}
+
+// With a count connections are served one after another, and without one all at once.
+fn served(options: &ArgMatches<'_>) -> Option<Request> {
+    match options.get_one::<u32>("count") {
+        Some(count) => Some(Request::Serve(serve_task(options, count))),
+        None => Some(Request::Keep(keep_task(options)?)),
     }
 }
 
@@ -120,6 +145,13 @@ fn show_task(alloc: Global, options: &ArgMatches<'_>) -> Result<Task, AllocError
     }
 }
 
+fn types_task(alloc: Global, options: &ArgMatches<'_>) -> Result<TypesTask, AllocError> {
+    Ok(TypesTask {
+        types: texts(alloc, options)?,
+        json: options.get_flag("json"),
+    })
+}
+
 fn records_task(options: &ArgMatches<'_>) -> RecordsTask {
     RecordsTask {
         limit: number(options, "limit", BYTES),
@@ -136,10 +168,20 @@ fn info_task(alloc: Global, options: &ArgMatches<'_>) -> Result<InfoTask, AllocE
     })
 }
 
-fn serve_task(options: &ArgMatches<'_>) -> ServeTask {
+fn serve_task(options: &ArgMatches<'_>, count: u32) -> ServeTask {
     ServeTask {
         port: port(options),
-        count: number(options, "count", 0),
+        count,
         datagrams: number(options, "datagrams", 0),
     }
+}
+
+fn keep_task(options: &ArgMatches<'_>) -> Option<KeepTask> {
+    Some(KeepTask {
+        address: options.get_one::<Ipv4Addr>("bind")?,
+        port: port(options),
+        connections: number(options, "connections", CONNECTIONS),
+        idle: number(options, "idle", IDLE),
+        verbose: options.get_flag("verbose"),
+    })
 }

@@ -168,6 +168,8 @@ impl Session {
             }
             Err(fault) => {
                 let fault = record_fault(fault);
+                // No byte of the record that was not whole is kept.
+                self.records = RecordReader::start(self.alloc, MOST_RECORD);
                 self.fault = Some(fault);
                 Err(fault)
             }

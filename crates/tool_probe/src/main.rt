@@ -38,7 +38,9 @@ fn call(out: &mut Report, rt: &HostRuntime, case: &Case<'_>) {
         "normalise" | "RecordReader" | "RecordReader::calls" | "mark" | "write_marked" => {
             records::call(out, rt, case)
         }
-        "Task::Check" | "Task::Show" | "Task::Records" => task::call(out, rt, case),
+        "Task::Check" | "Task::Show" | "Task::Records" | "encode_over" => {
+            task::call(out, rt, case)
+        }
         "info_over" | "serve_on" => program::call(out, rt, case),
         "serve_datagrams" | "exchange_datagram" | "datagrams_on" | "info_datagram" => {
             datagrams::call(out, rt, case)

@@ -1,6 +1,7 @@
-//! Tasks of the program over memory: `Task::Check`, `Task::Show` and `Task::Records`. Where `types` names a file, that
-//! of the name `a.x` has the text of the case.
+//! Tasks of the program over memory: `Task::Check`, `Task::Show` and `Task::Records`, and `encode_over`. Where `types`
+//! names a file, that of the name `a.x` has the text of the case.
 use oncrpc_answers::{Dialect, RecordsTask, Task, Texts, ValueTask};
+use oncrpc_encode::encode_over;
 use oncrpc_tasks::{MemoryOpener, task_over};
 use std::alloc::Global;
 use std::env::Env;
@@ -30,14 +31,22 @@ fn value_task(case: &Case<'_>) -> ValueTask {
     }
 }
 
-fn task(case: &Case<'_>) -> Task {
+// What the case asks for.
+#[derive(Drop)]
+enum Asked {
+    Task(Task),
+    Encode(ValueTask),
+}
+
+fn asked_for(case: &Case<'_>) -> Asked {
     match case.call() {
-        "Task::Check" => Task::Check(value_task(case)),
-        "Task::Show" => Task::Show(value_task(case)),
-        _ => Task::Records(RecordsTask {
+        "Task::Check" => Asked::Task(Task::Check(value_task(case))),
+        "Task::Show" => Asked::Task(Task::Show(value_task(case))),
+        "encode_over" => Asked::Encode(value_task(case)),
+        _ => Asked::Task(Task::Records(RecordsTask {
             limit: case.whole("limit"),
             hex: case.has("hex"),
-        }),
+        })),
     }
 }
 
@@ -58,16 +67,16 @@ pub fn streams(out: &mut Report, output: &MemorySink<'_>, faults: &MemorySink<'_
 /// Reports the case: the exit status, and what was written to each stream.
 pub fn call(out: &mut Report, rt: &impl Env, case: &Case<'_>) {
     let (text, input) = (case.bytes("text"), case.input());
-    let task = task(case);
+    let asked = asked_for(case);
     let mut buffer = buffer_for(case.alloc, input.len());
-    over(out, rt, case, &task, &text, &input, &mut buffer);
+    over(out, rt, case, &asked, &text, &input, &mut buffer);
 }
 
 fn over(
     out: &mut Report,
     rt: &impl Env,
     case: &Case<'_>,
-    task: &Task,
+    asked: &Asked,
     text: &[u8],
     input: &[u8],
     buffer: &mut [u8],
@@ -79,14 +88,24 @@ fn over(
     let mut source = MemorySource::new(input, read, case.failing("read-fails"));
     let mut output = MemorySink::new(buffer, write, case.failing("write-fails"));
     let mut faults = MemorySink::new(&mut said, write, case.failing("faults-write-fails"));
-    let status = task_over(
-        case.alloc,
-        task,
-        &mut opener,
-        &mut source,
-        &mut output,
-        &mut faults,
-    );
+    let status = match asked {
+        Asked::Task(task) => task_over(
+            case.alloc,
+            task,
+            &mut opener,
+            &mut source,
+            &mut output,
+            &mut faults,
+        ),
+        Asked::Encode(what) => encode_over(
+            case.alloc,
+            what,
+            &mut opener,
+            &mut source,
+            &mut output,
+            &mut faults,
+        ),
+    };
     out.ended(allow(rt, before), status);
     streams(out, &output, &faults);
 }

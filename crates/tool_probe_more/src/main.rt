@@ -2,9 +2,11 @@
 //! reads what is asked for and writes the line of what is answered, and `tests/README.md` says how both are written.
 //! Without a line nothing is called. Each module makes the calls of one subject:
 //! - `json`: values as JSON. `reading`: JSON as values. `paths`: the part that a path names.
-//! - `dialect`: texts in rpcgen's dialect. `sessions`: connections of a registry, served at once.
+//! - `dialect`: texts in rpcgen's dialect. `bounds`: how many bytes values have.
+//! - `sessions`: connections of a registry, served at once.
 #![tactic(auto)]
 
+mod bounds;
 mod dialect;
 mod json;
 mod paths;
@@ -21,6 +23,7 @@ fn call(out: &mut Report, rt: &HostRuntime, case: &Case<'_>) {
     match case.call() {
         "write_json" | "json_of_bytes" | "read_json" => json::call(out, rt, case),
         "read_dialect" | "join_texts" | "place_in" => dialect::call(out, rt, case),
+        "Bounds::of" => bounds::call(out, rt, case),
         "find" => paths::call(out, rt, case),
         _ => sessions::call(out, rt, case),
     }

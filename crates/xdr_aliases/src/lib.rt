@@ -2,12 +2,12 @@
 //! versions and procedures, that are names of constants and procedures.
 //!
 //! - `given`: the names to which tokens give numbers
-//! - `resolved`: the public call; `laws`: which tokens stay
+//! - `resolved`: the public call; `laws`: what a name stands for, said of the whole text, and which tokens stay
 #![tactic(auto)]
 
 mod given;
 mod laws;
 mod resolved;
 
-pub use laws::aliases_stay;
+pub use laws::{aliases_are, aliases_stay};
 pub use resolved::resolved_tokens;

@@ -1,4 +1,5 @@
 pub mod Joined
+pub mod Owned
 pub mod Places
 pub mod Sections
 pub mod Same

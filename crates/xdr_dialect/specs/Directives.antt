@@ -1,9 +1,9 @@
 -- What a line of # says (own, after the C preprocessor that rpcgen runs).
 use Rattle.std.specs.Prelude.{ℕ, ◌==◌, ◌&&◌, ◌||◌, not, Bool, true, false, List, [], ◌∷◌, take, drop, codes}
 use Rattle.std.specs.Prelude.{Option, Some, None, option_map, if◌then◌else◌}
-use Rattle.std.specs.List.{list_any}
+use Rattle.std.specs.List.{list_all, list_any}
 use Rattle.std.specs.Str.{bytes_eq}
-use Rattle.xdr_tokens.specs.Bytes.{run_length, is_digit}
+use Rattle.xdr_tokens.specs.Bytes.{run_length, is_digit, is_word}
 use Rattle.xdr_dialect.specs.declared.directive.Directive.{Directive}
 use Rattle.xdr_dialect.specs.declared.directive.Directive.TheVariants as line
 use Rattle.xdr_dialect.specs.declared.gate.Gate.{Gate}
@@ -36,6 +36,10 @@ ends (b ∷ bs) = (b == 10) || (b == 13) || (b == 47) && opens_comment bs
 abbrev pub is_name : List ℕ → Bool
 is_name [] = false
 is_name (b ∷ bs) = not (is_digit b)
+
+-- a name that a line of #ifdef can ask for
+abbrev pub is_identifier : List ℕ → Bool
+is_identifier bs = is_name bs && list_all is_word bs
 
 -- one of these
 abbrev pub is_among : List (List ℕ) → List ℕ → Bool

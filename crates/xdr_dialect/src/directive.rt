@@ -8,6 +8,8 @@ ghost use Rattle.xdr_dialect.specs.Directives.{condition, after_minus, begins_di
 ghost use Rattle.xdr_dialect.specs.Directives.{directive_of, directive, name_of_definition};
 ghost use Rattle.xdr_dialect.specs.Answers.{texts};
 
+use crate::own_names::OwnNames;
+
 /// What a line of `#` says.
 #[derive(Clone, Copy)]
 pub enum Directive {
@@ -40,7 +42,7 @@ fn after_blanks(text: &[u8]) -> &[u8]
 }
 
 /// A letter, a digit or `_`.
-fn in_word(byte: u8) -> bool
+pub(crate) fn in_word(byte: u8) -> bool
     ensures { result ≡ is_word byte }
 {
     byte.is_ascii_alphanumeric() || byte == b'_'
@@ -112,43 +114,29 @@ fn is_among(names: &[&str], run: &[u8]) -> bool
     false
 }
 
-/// The name is one of the text's own.
-fn is_own(own: &[&[u8]], run: &[u8]) -> bool
-    ensures { result ≡ is_among (texts own.now) run.now }
-{
-    let mut rest = own;
-    while let [name, others @ ..] = rest {
-        if run == *name {
-            return true;
-        }
-        rest = others;
-    }
-    false
-}
-
 /// The name does not begin with a digit.
-fn is_name(run: &[u8]) -> bool
+pub(crate) fn is_name(run: &[u8]) -> bool
     ensures { result ≡ is_name run.now }
 {
     !matches!(run, [] | [b'0'..=b'9', ..])
 }
 
 /// Whether the name is defined, where there is one.
-fn defined(names: &[&str], own: &[&[u8]], run: &[u8]) -> Option<bool>
-    ensures { result ≡ defined (texts names.now) (texts own.now) run.now }
+fn defined(names: &[&str], own: &OwnNames<'_>, run: &[u8]) -> Option<bool>
+    ensures { result ≡ defined (texts names.now) (texts own.now.list.items) run.now }
 {
     if !is_name(run) {
         return None;
     }
-    Some(is_among(names, run) || is_own(own, run))
+    Some(is_among(names, run) || own.has(run))
 }
 
 /// The condition of `#if`.
-fn condition(names: &[&str], own: &[&[u8]], text: &[u8]) -> Option<bool>
-    ensures { result ≡ condition (texts names.now) (texts own.now) text.now }
+fn condition(names: &[&str], own: &OwnNames<'_>, text: &[u8]) -> Option<bool>
+    ensures { result ≡ condition (texts names.now) (texts own.now.list.items) text.now }
 {
     let (run, rest) = word(text);
-    if !ends(rest) || is_own(own, run) {
+    if !ends(rest) || own.has(run) {
         return None;
     }
     if spells(run, "0") {
@@ -202,8 +190,8 @@ fn definition(text: &[u8]) -> Directive
 }
 
 /// What the word behind `#` says, and what follows it.
-fn directive_of(names: &[&str], own: &[&[u8]], run: &[u8], rest: &[u8]) -> Directive
-    ensures { result ≡ directive_of (texts names.now) (texts own.now) run.now rest.now }
+fn directive_of(names: &[&str], own: &OwnNames<'_>, run: &[u8], rest: &[u8]) -> Directive
+    ensures { result ≡ directive_of (texts names.now) (texts own.now.list.items) run.now rest.now }
 {
     if spells(run, "ifdef") {
         Directive::Section(defined(names, own, word(rest).0))
@@ -231,8 +219,8 @@ fn directive_of(names: &[&str], own: &[&[u8]], run: &[u8], rest: &[u8]) -> Direc
 }
 
 /// What a line of `#` says, from what follows the `#`, where the text has defined these names of its own.
-pub(crate) fn read_directive(names: &[&str], own: &[&[u8]], text: &[u8]) -> Directive
-    ensures { result ≡ directive (texts names.now) (texts own.now) text.now }
+pub(crate) fn read_directive(names: &[&str], own: &OwnNames<'_>, text: &[u8]) -> Directive
+    ensures { result ≡ directive (texts names.now) (texts own.now.list.items) text.now }
 {
     let (run, rest) = word(after_blanks(text));
     directive_of(names, own, run, rest)

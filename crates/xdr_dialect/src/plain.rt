@@ -5,6 +5,7 @@ ghost use Rattle.xdr_dialect.specs.Answers.{Answers};
 ghost use Rattle.xdr_dialect.specs.Answers.{texts};
 
 use crate::gate::Gate;
+use crate::own_names::OwnNames;
 use crate::spot::Spot;
 use crate::standing::Standing;
 use std::alloc::Global;
@@ -37,7 +38,7 @@ pub fn plain_text(alloc: Global, text: &[u8], names: &[&str]) -> Result<Vec<u8>,
         spot: Spot::Fresh,
         gate: Gate::Outside,
         outer: Vec::new(alloc),
-        defines: Vec::new(alloc),
+        defines: OwnNames::new(alloc),
     };
     let mut rest = text;
     while let [first, others @ ..] = rest {

@@ -7,6 +7,7 @@ ghost use Rattle.xdr_dialect.specs.Answers.{texts};
 
 use crate::directive::{Directive, name_of_definition, read_directive};
 use crate::gate::Gate;
+use crate::own_names::OwnNames;
 use crate::spot::{Spot, blank};
 use xdr_tokens::{Fault, Wrong};
 
@@ -17,7 +18,7 @@ pub(crate) struct Standing<'a> {
     pub(crate) gate: Gate,
     pub(crate) outer: Vec<Gate>,
     /// The names that the text has defined.
-    pub(crate) defines: Vec<&'a [u8]>,
+    pub(crate) defines: OwnNames<'a>,
 }
 
 /// A line has no meaning where it stands.

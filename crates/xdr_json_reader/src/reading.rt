@@ -17,13 +17,14 @@ use xdr_codec::{DecodeFault, Reason, decode};
 use xdr_json::each_spells_one_value;
 use xdr_types::{KindId, Limits, Schema, Value};
 
-/// The value of the kind that a JSON text spells (RFC 8259), within the limits. There is at most one.
+/// The value of the kind that a JSON text spells (RFC 8259), within the limits. There is at most one. The schema has
+/// the kind, as `has` tells.
 ///
 /// Members come in any order, spaces and escapes as RFC 8259 has them. An enumeration's number is a name or the number,
 /// a number is a JSON number or a string, and hexadecimal is in either case. A fault other than `NoMemory` says that
-/// the text spells no value of the kind within the limits. `at` is at most the count of the text's bytes; that it is
-/// where the refused value or key begins is tested and no clause says it. For `TooDeep` and `TooLarge` it may be the
-/// text's end.
+/// the text spells no value of the kind within the limits. `at` is at most the count of the text's bytes. Which reason
+/// is told, and that the place is where the refused value or key begins, is tested and no clause says it. For `TooDeep`
+/// and `TooLarge` it may be the text's end.
 ///
 /// No call recurses, whatever the text; the drop of what was read does, one level a call, at most 4096. Memory is of
 /// the size of the text, and nothing is reserved by a declared count.
@@ -39,7 +40,7 @@ pub fn read_json(
     ensures value { IfOk result (λ v. IsSpelling schema.now.kinds kind.place limits text.now (tree v)) }
     ensures only { IfOk result (λ v. (t : Tree) → IsSpelling schema.now.kinds kind.place limits text.now t
         → t ≡ tree v) }
-    // a text that is refused spells none, want of memory aside,
+    // a text that is refused spells none, an allocation failure aside,
     ensures refused { IfErr result (λ f. (f.why ≡ NoMemory)
         ⊎ SpellsNone schema.now.kinds kind.place limits text.now) }
     // and the place lies in the text.
@@ -79,7 +80,7 @@ pub fn read_json(
     }
 }
 
-// Why the value's bytes are refused: they are those of a value, so only by a limit or for want of memory.
+// Why the value's bytes are refused: they are those of a value, so only by a limit or an allocation failure.
 fn reason_of(fault: DecodeFault) -> JsonReason
     ensures { fault.why ≡ reason.NoMemory → result ≡ NoMemory }
 {

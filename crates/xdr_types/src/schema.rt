@@ -204,6 +204,14 @@ impl Schema {
         None
     }
 
+    /// The names with the kinds that they name (RFC 4506 section 6.3), each name once, in their order: those of the
+    /// basic schema (`basic_names`), then those that were declared.
+    pub fn names(&self) -> &[(String, KindId)]
+        ensures { map name_of result.now ≡ self.now.names }
+    {
+        &self.names
+    }
+
     /// Whether the schema has the kind: its place is below `len`.
     pub fn has(&self, id: KindId) -> bool
         ensures { IsTrue result ↔ id.place < length self.now.kinds }

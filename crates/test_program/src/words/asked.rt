@@ -1,8 +1,9 @@
 //! The tasks that words ask for, and words that ask for none.
 use crate::words::reading::{Words, read};
-use oncrpc_answers::{Dialect, JsonTask, RecordsTask, Task, Texts, ValueTask};
-use oncrpc_words::{InfoTask, Request, ServeTask, WordsFault};
+use oncrpc_answers::{Dialect, JsonTask, RecordsTask, Task, Texts, TypesTask, ValueTask};
+use oncrpc_words::{InfoTask, KeepTask, Request, ServeTask, WordsFault};
 use std::alloc::{AllocError, Global};
+use std::net::Ipv4Addr;
 
 // What is asked of a value: its kind's name, the files of declarations, the names that are defined in rpcgen's dialect
 // if they are in that, whether bytes are hexadecimal, depth and bytes.
@@ -14,10 +15,11 @@ enum Printed {
     Outcome,
     Lines,
     Json { indented: bool },
+    Bytes,
 }
 
 // Words, what they ask to be printed, and of what.
-const VALUES: [(Words, Printed, Asked); 15] = [
+const VALUES: [(Words, Printed, Asked); 17] = [
     (
         &[],
         Printed::Outcome,
@@ -161,6 +163,27 @@ const VALUES: [(Words, Printed, Asked); 15] = [
         Printed::Json { indented: false },
         ("a", &["a.x"], Some(&[]), false, 9, 16777216),
     ),
+    (
+        &["encode", "--name", "int"],
+        Printed::Bytes,
+        ("int", &[], None, false, 4096, 16777216),
+    ),
+    (
+        &[
+            "encode",
+            "--hex",
+            "--types=a",
+            "--bytes",
+            "8",
+            "--dialect=rpcgen",
+            "--define=A",
+            "--depth=2",
+            "--types=b",
+            "--name=c",
+        ],
+        Printed::Bytes,
+        ("c", &["a", "b"], Some(&["A"]), true, 2, 8),
+    ),
 ];
 
 fn are(texts: &Vec<String>, wanted: Words) -> bool {
@@ -209,6 +232,7 @@ fn asks_value(
         Ok(Request::Offline(Task::Json(JsonTask { what, indented }))) => {
             Ok(printed == Printed::Json { indented } && is_value(&what, asked))
         }
+        Ok(Request::Encode(task)) => Ok(printed == Printed::Bytes && is_value(&task, asked)),
         _ => Ok(false),
     }
 }
@@ -218,6 +242,57 @@ fn values_are_asked(rt: HostRuntime) -> Result<(), AllocError> {
     for (words, printed, asked) in &VALUES {
         assert!(rt;
             asks_value(rt.alloc(), words, *printed, asked)?,
+            "{words:?}"
+        );
+    }
+    Ok(())
+}
+
+// Words, and what they ask of texts: the files, the names that are defined in rpcgen's dialect if they are in that, and
+// whether JSON is printed.
+const TYPES: [(Words, Words, Option<Words>, bool); 3] = [
+    (&["types"], &[], None, false),
+    (&["types", "--json", "--types", "a"], &["a"], None, true),
+    (
+        &[
+            "types",
+            "--types=b",
+            "--define",
+            "A",
+            "--dialect",
+            "rpcgen",
+            "--types=a",
+        ],
+        &["b", "a"],
+        Some(&["A"]),
+        false,
+    ),
+];
+
+fn asks_types(
+    alloc: Global,
+    words: Words,
+    files: Words,
+    defined: Option<Words>,
+    json: bool,
+) -> Result<bool, AllocError> {
+    match read(alloc, words)? {
+        Ok(Request::Types(task)) => {
+            let TypesTask {
+                types,
+                json: printed,
+            } = &task;
+            Ok(are_texts(types, files, defined) && *printed == json)
+        }
+        _ => Ok(false),
+    }
+}
+
+#[test]
+fn types_are_asked(rt: HostRuntime) -> Result<(), AllocError> {
+    for (words, files, defined, json) in &TYPES {
+        assert!(rt;
+            asks_types(rt.alloc(), words, files, *defined, *json)?,
             "{words:?}"
         );
     }
@@ -363,8 +438,63 @@ fn serves_are_asked(rt: HostRuntime) -> Result<(), AllocError> {
     Ok(())
 }
 
+// Words, and what is asked of a registry that is kept: the address, the port, how many connections may be open, for how
+// many seconds one may be idle, and whether each has a line.
+type Kept = ([u8; 4], u16, u32, u32, bool);
+
+const KEEPS: [(Words, Kept); 4] = [
+    (
+        &["serve", "--port", "111"],
+        ([127, 0, 0, 1], 111, 1024, 60, false),
+    ),
+    (
+        &["serve", "--verbose", "--port=0", "--bind", "0.0.0.0"],
+        ([0, 0, 0, 0], 0, 1024, 60, true),
+    ),
+    (
+        &["serve", "--idle=1", "--connections=1", "--port=65535"],
+        ([127, 0, 0, 1], 65535, 1, 1, false),
+    ),
+    (
+        &[
+            "serve",
+            "--port",
+            "1",
+            "--bind=10.20.30.255",
+            "--idle",
+            "4294967295",
+            "--connections",
+            "1048576",
+        ],
+        ([10, 20, 30, 255], 1, 1048576, 4294967295, false),
+    ),
+];
+
+fn asks_keep(alloc: Global, words: Words, kept: Kept) -> Result<bool, AllocError> {
+    let ([a, b, c, d], port, connections, idle, verbose) = kept;
+    let asked = KeepTask {
+        address: Ipv4Addr::new(a, b, c, d),
+        port,
+        connections,
+        idle,
+        verbose,
+    };
+    match read(alloc, words)? {
+        Ok(Request::Keep(task)) => Ok(task == asked),
+        _ => Ok(false),
+    }
+}
+
+#[test]
+fn registries_are_kept(rt: HostRuntime) -> Result<(), AllocError> {
+    for (words, kept) in &KEEPS {
+        assert!(rt; asks_keep(rt.alloc(), words, *kept)?, "{words:?}");
+    }
+    Ok(())
+}
+
 // Words that give no task, and the status.
-const REFUSED: [(Words, u8); 46] = [
+const REFUSED: [(Words, u8); 59] = [
     (&["check"], 2),
     (&["nope"], 2),
     (&["show"], 2),
@@ -380,11 +510,24 @@ const REFUSED: [(Words, u8); 46] = [
     (&["info", "localhost", "111", "--udp=1"], 2),
     (&["info", "localhost", "111", "--udp", "--udp"], 2),
     (&["serve"], 2),
-    (&["serve", "--port", "1"], 2),
     (&["serve", "--count", "1"], 2),
     (&["serve", "--port", "65536", "--count", "1"], 2),
     (&["serve", "--port", "1", "--count", "4294967296"], 2),
     (&["serve", "--port", "1", "--datagrams", "1"], 2),
+    (&["serve", "--bind", "127.0.0.1"], 2),
+    (&["serve", "--port", "1", "--bind", "localhost"], 2),
+    (&["serve", "--port", "1", "--bind", "::1"], 2),
+    (&["serve", "--port", "1", "--bind", "127.0.0.256"], 2),
+    (&["serve", "--port", "1", "--bind", ""], 2),
+    (&["serve", "--port", "1", "--connections", "0"], 2),
+    (&["serve", "--port", "1", "--connections", "1048577"], 2),
+    (&["serve", "--port", "1", "--idle", "0"], 2),
+    (&["serve", "--port", "1", "--idle", "4294967296"], 2),
+    (&["serve", "--port", "1", "--verbose=1"], 2),
+    (&["serve", "--port=1", "--count=1", "--bind=127.0.0.1"], 2),
+    (&["serve", "--port=1", "--count=1", "--connections=9"], 2),
+    (&["serve", "--port=1", "--count=1", "--idle=9"], 2),
+    (&["serve", "--port=1", "--count=1", "--verbose"], 2),
     (
         &[
             "serve",

@@ -59,6 +59,32 @@ const OF_JSON: [&str; 5] = [
     " | oncrpc show --json --name ",
 ];
 
+// The option for hexadecimal, the most bytes of a text, and the lines of a text that is refused, first and last reason.
+const OF_ENCODE: [&str; 9] = [
+    "--name <NAME>",
+    "Write a line of hexadecimal",
+    "16 bytes\nfor each of --bytes and 1048576 more",
+    "\n  refused WHY at L:C ",
+    "\n  refused text too long ",
+    "\n  NotJson ",
+    "\n  TooLarge ",
+    "\n  1  the text is refused\n",
+    " | oncrpc encode --types ",
+];
+
+// The option for JSON, and the lines.
+const OF_TYPES: [&str; 9] = [
+    "--types <FILE>",
+    "--define <NAME>",
+    "Print one JSON value in place of lines",
+    "\n  const NAME NUMBER ",
+    "\n  type NAME KIND LEAST..GREATEST\n",
+    "\n  argument P.V.N.K TYPE KIND LEAST..GREATEST\n",
+    "\n  unbounded ",
+    "\n  0  what is declared is printed\n",
+    "\n    $ oncrpc types --types ",
+];
+
 const OF_RECORDS: [&str; 11] = [
     "0 to 2147483647",
     "[default: 16777216]",
@@ -86,12 +112,20 @@ const OF_INFO: [&str; 10] = [
     "\n    $ oncrpc info 127.0.0.1 111",
 ];
 
-const OF_SERVE: [&str; 12] = [
+const OF_SERVE: [&str; 20] = [
     "--port <N>",
     "0 takes a free one",
+    "--bind <ADDR>",
+    "[default: 127.0.0.1]",
+    "--connections <N>",
+    "[default: 1024]",
+    "--idle <SECONDS>",
+    "[default: 60]",
+    "--verbose ",
     "--count <C>",
     "--datagrams <D>",
-    "[default: 0]",
+    "listening on ADDR PORT",
+    "connection K from PEER: N records, M replies",
     "listening on 127.0.0.1 PORT",
     "connection K: N records, M replies",
     "datagram K: reply",
@@ -101,9 +135,11 @@ const OF_SERVE: [&str; 12] = [
     "\n    $ oncrpc serve --port 111",
 ];
 
-const OF_ALL: [&str; 13] = [
+const OF_ALL: [&str; 15] = [
     "check",
     "show",
+    "encode",
+    "types",
     "records",
     "info",
     "serve",
@@ -121,12 +157,14 @@ const OF_ALL: [&str; 13] = [
 const OF_VERSION: [&str; 1] = ["oncrpc 0.1.0\nproved with logic dac8208d650f15bf\n"];
 
 // Words, and what their answer says.
-const SAID: [(Words, &[&str]); 11] = [
+const SAID: [(Words, &[&str]); 13] = [
     (&["check", "--help"], &OF_A_VALUE),
     (&["help", "check"], &OF_OUTCOMES),
     (&["show", "--help"], &OF_A_VALUE),
     (&["help", "show"], &OF_A_VALUE),
     (&["help", "show"], &OF_JSON),
+    (&["help", "encode"], &OF_ENCODE),
+    (&["help", "types"], &OF_TYPES),
     (&["records", "--help"], &OF_RECORDS),
     (&["info", "--help"], &OF_INFO),
     (&["help", "serve"], &OF_SERVE),

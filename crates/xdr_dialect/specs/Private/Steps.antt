@@ -19,7 +19,7 @@ standing_of s = record {
   spot = s.spot;
   gate = s.gate;
   outer = reverse s.outer.items;
-  defines = texts s.defines.items;
+  defines = texts s.defines.list.items;
 }
 
 -- what a refusal of a step is

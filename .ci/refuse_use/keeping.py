@@ -1,0 +1,323 @@
+"""Rows of 'oncrpc serve' without a count: many clients at once, of whom none holds up another, whatever some of them do.
+
+Expected bytes are those of RFC 5531 sections 9 and 11 and of RFC 1833 section 3. A client is a connection over loopback.
+"""
+import contextlib
+import os
+import re
+import resource
+import signal
+import socket
+import struct
+import subprocess
+import sys
+import threading
+import time
+
+HOST = "127.0.0.1"
+WAIT = 20
+FIRST = re.compile(rb"listening on 127\.0\.0\.1 (\d+)\n")
+
+
+def call(xid, procedure=0, version=2, *words):
+    """A call of the registry without a credential, as a datagram has it."""
+    return struct.pack(f">{10 + len(words)}I", xid, 0, 2, 100000, version, procedure, 0, 0, 0, 0, *words)
+
+
+def marked(message):
+    """A record of one fragment."""
+    return struct.pack(">I", 0x80000000 | len(message)) + message
+
+
+def replied(xid, *words):
+    """The reply to it that is a success with these results."""
+    return struct.pack(f">{6 + len(words)}I", xid, 1, 0, 0, 0, 0, *words)
+
+
+def no_answer(xid):
+    """The reply that is SYSTEM_ERR."""
+    return struct.pack(">6I", xid, 1, 0, 0, 0, 5)
+
+
+def called(*words, room=0, **variables):
+    """The program's words, its environment, and what is done before it begins: a signal may be ignored here."""
+
+    def begin():
+        signal.signal(signal.SIGINT, signal.SIG_DFL)
+        if room:
+            resource.setrlimit(resource.RLIMIT_NOFILE, (room, room))
+
+    how = {"env": {**os.environ, **variables}, "stdout": subprocess.PIPE, "stderr": subprocess.PIPE}
+    return ["serve", "--port", "0", *words], {**how, "preexec_fn": begin}
+
+
+class Kept:
+    """A registry that is served until this ends it, and its port; 0 where it does not listen."""
+
+    def __init__(self, program, *words, **more):
+        words, how = called(*words, **more)
+        self.process = subprocess.Popen([program, *words], **how)
+        said = FIRST.fullmatch(self.process.stdout.readline())
+        self.port = int(said[1]) if said else 0
+
+    def __enter__(self):
+        return self
+
+    def __exit__(self, *_):
+        if self.process.poll() is None:
+            self.end(signal.SIGKILL)
+
+    def end(self, by=signal.SIGTERM):
+        """Ends it by a signal: the status, what is left of standard output, and standard error."""
+        self.process.send_signal(by)
+        printed, faults = self.process.communicate(timeout=WAIT)
+        return self.process.returncode, printed, faults
+
+    def lines(self, count):
+        """So many lines of standard error, or those before it has ended; it is ended where they do not come."""
+        late = threading.Timer(WAIT, self.process.kill)
+        late.start()
+        told = b"".join(self.process.stderr.readline() for _ in range(count))
+        late.cancel()
+        return told
+
+    def peak(self):
+        """Ends it, and tells the most bytes that it had in memory, or that this process had when it began."""
+        self.process.terminate()
+        _, status, used = os.wait4(self.process.pid, 0)
+        self.process.returncode = os.waitstatus_to_exitcode(status)
+        return used.ru_maxrss * 1024
+
+    def client(self):
+        return socket.create_connection((HOST, self.port), WAIT)
+
+    def asked(self, message, seconds=WAIT):
+        """What a datagram is answered."""
+        with socket.socket(type=socket.SOCK_DGRAM) as asking:
+            asking.settimeout(seconds)
+            asking.connect((HOST, self.port))
+            asking.send(message)
+            return asking.recv(65536)
+
+
+def read(made, count, seconds=WAIT):
+    """So many bytes that come over a connection, or those before it ends or the time is up."""
+    got, until = b"", time.monotonic() + seconds
+    with contextlib.suppress(OSError):
+        while len(got) < count and (left := until - time.monotonic()) > 0:
+            made.settimeout(left)
+            more = made.recv(count - len(got))
+            if not more:
+                break
+            got += more
+    return got
+
+
+def is_answered(made, xid, seconds=WAIT):
+    """Whether a call of NULL over a connection gets its reply."""
+    with contextlib.suppress(OSError):
+        made.sendall(marked(call(xid)))
+        return read(made, 28, seconds) == marked(replied(xid))
+    return False
+
+
+def is_closed(made, seconds=WAIT):
+    """Whether a connection ends within this time, and nothing comes over it before."""
+    made.settimeout(seconds)
+    try:
+        return made.recv(1) == b""
+    except ConnectionResetError:
+        return True
+    except OSError:
+        return False
+
+
+def trickle(made, stop):
+    """Sends a call a byte at a time, for as long as the peer takes it."""
+    with contextlib.suppress(OSError):
+        while not stop.is_set():
+            for byte in marked(call(1)) * 1000:
+                made.send(bytes([byte]))
+                if stop.wait(0.2):
+                    return
+
+
+@contextlib.contextmanager
+def hindering(kept):
+    """A client that says nothing, one that trickles, one that stops inside a record, and one that takes no replies."""
+    stop = threading.Event()
+    silent, slow, half, greedy = (kept.client() for _ in range(4))
+    trickler = threading.Thread(target=trickle, args=(slow, stop))
+    trickler.start()
+    half.sendall(b"\x80\x01\x00\x00" + bytes(60000))
+    greedy.setblocking(False)
+    with contextlib.suppress(BlockingIOError):
+        while True:
+            greedy.send(marked(call(2, 4)) * 100)
+    try:
+        yield silent, slow, half, greedy
+    finally:
+        stop.set()
+        trickler.join()
+        for made in (silent, slow, half, greedy):
+            made.close()
+
+
+def at_once(program):
+    """Each of 300 clients that come at once gets its 16 replies, in their order, beside those that hinder; and so does
+    who asks by a datagram."""
+    with Kept(program) as kept, hindering(kept), contextlib.ExitStack() as opened:
+        clients = [opened.enter_context(kept.client()) for _ in range(300)]
+        for number, made in enumerate(clients):
+            made.sendall(b"".join(marked(call(number * 16 + it)) for it in range(16)))
+        wanted = [b"".join(marked(replied(number * 16 + it)) for it in range(16)) for number in range(300)]
+        got = [read(made, 28 * 16) for made in clients]
+        wrong = sum(mine != other for mine, other in zip(got, wanted))
+        yield "300 clients at once, 16 calls of each", wrong == 0, f"{wrong} got other replies"
+        said = kept.asked(call(7))
+        yield "a datagram beside them", said == replied(7), said
+        row = (0x20000000, 1, 6, 2049)
+        said = kept.asked(call(8, 1, 2, *row)), kept.asked(call(9, 3, 2, *row))
+        yield "a row that a datagram sets", said == (replied(8, 1), replied(9, 2049)), said
+        clients[0].sendall(marked(call(10, 3, 2, *row)))
+        said = read(clients[0], 32)
+        yield "a connection finds it", said == marked(replied(10, 2049)), said
+        said = kept.end()
+    yield "SIGTERM ends it, and nothing more was printed", said == (-signal.SIGTERM, b"", b""), said
+
+
+def lines(program):
+    """The line of each connection, as its client's port and what it sent have it."""
+    sent = [
+        (marked(call(1)) * 2 + marked(b"no call"), "3 records, 2 replies"),
+        (b"\xff\xff\xff\xff", "TooLong at 0"),
+        (marked(call(1)) + b"\x80\x00\x00\x28abc", "Truncated at 51"),
+        (b"", "0 records, 0 replies"),
+    ]
+    with Kept(program, "--verbose", "--idle", "1") as kept:
+        wanted = []
+        for number, (bytes_sent, line) in enumerate(sent, 1):
+            with kept.client() as made:
+                wanted.append(f"connection {number} from {HOST}:{made.getsockname()[1]}: {line}\n")
+                made.sendall(bytes_sent)
+                made.shutdown(socket.SHUT_WR)
+                read(made, 1 << 20)
+        with kept.client() as made:
+            wanted.append(f"connection {len(sent) + 1} from {HOST}:{made.getsockname()[1]}: Idle\n")
+            idle = is_closed(made)
+        # A connection is closed before its line is written.
+        told = kept.lines(len(wanted))
+        said = kept.end(signal.SIGINT)
+    well = idle and told == "".join(wanted).encode() and said == (-signal.SIGINT, b"", b"")
+    yield "the line of each connection, and SIGINT", well, (idle, told, said, wanted)
+
+
+def held(kept, clients, name):
+    """Of clients that all call some are answered, and the others once as many have gone."""
+    for number, made in enumerate(clients):
+        made.sendall(marked(call(number)))
+    first = [made for number, made in enumerate(clients) if read(made, 28, 0.2) == marked(replied(number))]
+    said = kept.asked(call(7))
+    later = [made for made in clients if made not in first]
+    for made in first:
+        made.close()
+    got = [read(made, 28) == marked(replied(clients.index(made))) for made in later[: len(first)]]
+    is_well = first and later and all(got) and said == replied(7)
+    yield f"{name}: others wait", is_well, (len(first), len(later), got, said)
+
+
+def full(program):
+    """A table that is full, and a process that has no more descriptors."""
+    for name, words, room in (("4 connections at most", ["--connections", "4"], 0), ("16 descriptors", [], 16)):
+        with Kept(program, *words, room=room) as kept, contextlib.ExitStack() as opened:
+            clients = [opened.enter_context(kept.client()) for _ in range(8 if words else 24)]
+            yield from held(kept, clients, name)
+
+
+def idle(program):
+    """Those that hinder go after the time; who calls stays."""
+    with Kept(program, "--idle", "1") as kept, kept.client() as caller, hindering(kept) as hinderers:
+        began, well = time.monotonic(), []
+        while time.monotonic() < began + 4:
+            well.append(is_answered(caller, len(well)))
+            time.sleep(0.3)
+        silent, slow, half, _ = hinderers
+        gone = [is_closed(made, 1) for made in (silent, slow, half)]
+        yield "who calls stays, the others go", all(well) and all(gone), (well, gone)
+
+
+def bounded(program):
+    """The same by a process of its own, since a program begins with the memory of the one that starts it."""
+    words = [sys.executable, "-B", os.path.realpath(__file__), program]
+    said = subprocess.run(words, capture_output=True, text=True, timeout=120, check=False)
+    yield "32 clients that take no replies", said.stdout == "True\n", (said.stdout, said.stderr)
+
+
+def holds_little(program):
+    """Whether clients that take no replies of a list of 1024 rows make it hold little."""
+    with Kept(program) as kept, contextlib.ExitStack() as opened:
+        with kept.client() as setting:
+            setting.sendall(b"".join(marked(call(1, 1, 2, 1000 + it, 1, 6, 9)) for it in range(1018)))
+            sets = read(setting, 32 * 1018)
+        greedy = [opened.enter_context(kept.client()) for _ in range(32)]
+        for made in greedy:
+            made.setblocking(False)
+            with contextlib.suppress(BlockingIOError):
+                while True:
+                    made.send(marked(call(2, 4)) * 100)
+        with kept.client() as caller:
+            began = time.monotonic()
+            well = all(is_answered(caller, it) for it in range(100))
+            took = time.monotonic() - began
+        most = kept.peak()
+        # Beside the program and its rows each holds what it reads and writes, and a list of 1024 rows of 20 bytes.
+        return sets == marked(replied(1, 1)) * 1018 and well and took < 5 and most < 16 << 20
+
+
+def growths(program, heap):
+    """With each growth refused: it ends before it listens, or answers all but what that growth was for."""
+    wrong, listened = [], 0
+    for number in range(1, 200):
+        for refused in (str(number), f"{number}.."):
+            with Kept(program, "--verbose", LD_PRELOAD=heap, REFUSE_GROWTH=refused) as kept:
+                if not kept.port:
+                    ended = kept.process.wait(WAIT), kept.process.stderr.read()
+                    if ended not in ((3, b"socket fault\n"), (4, b"out of memory\n")):
+                        wrong.append((refused, ended))
+                    continue
+                listened += 1
+                got = [answered(kept) for _ in range(4)]
+                said = kept.asked(call(7))
+                # One growth is one client's. Where all are refused it goes on, and answers a datagram as it can.
+                hit = sum(it != whole(kept.port) for it in got) + (said != replied(7))
+                if hit > (5 if ".." in refused else 1) or said not in (replied(7), no_answer(7)):
+                    wrong.append((refused, got, said))
+    yield f"each growth refused, {listened} times behind the first line", not wrong, wrong[:3]
+
+
+def whole(port):
+    """What a client gets for a call of NULL and one of DUMP, of a registry that has its own rows alone."""
+    rows = [word for version in (2, 3, 4) for protocol in (6, 17) for word in (1, 100000, version, protocol, port)]
+    return marked(replied(5)) + marked(replied(6, *rows, 0))
+
+
+def answered(kept):
+    """What a client gets for these two calls; nothing where it is not even taken."""
+    with contextlib.suppress(OSError), kept.client() as made:
+        made.sendall(marked(call(5)) + marked(call(6, 4)))
+        made.shutdown(socket.SHUT_WR)
+        return read(made, 1 << 20)
+    return b""
+
+
+def kept_rows(program, heap):
+    """The rows, each whether it is as it should be."""
+    some = [at_once, lines, full, idle, bounded]
+    for rows in [*some, lambda it: growths(it, heap)] if heap else some:
+        for name, is_well, told in rows(program):
+            print(f"oncrpc serve, {name}: {'as it should' if is_well else told}", flush=True)
+            yield bool(is_well)
+
+
+if __name__ == "__main__":
+    print(holds_little(sys.argv[1]))

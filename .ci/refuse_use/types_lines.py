@@ -1,0 +1,175 @@
+"""Rows of 'oncrpc types': values worked by hand, a second reading of texts, and the files of Debian's packages."""
+import glob
+import json
+import os
+import re
+import subprocess
+import sys
+
+sys.dont_write_bytecode = True
+sys.path.insert(0, os.path.dirname(os.path.realpath(__file__)))
+
+from second_reading import Reading
+
+ROOT = os.path.dirname(os.path.dirname(os.path.dirname(os.path.realpath(__file__))))
+# Texts, their lines and their JSON, worked by hand: the numbers on both sides of 2^53 and of 2^64, each kind, a default
+# that no discriminant reaches, a list of none, and types by other names.
+WORKED = [
+    (
+        "const LEAST = -9223372036854775808; const MOST = 18446744073709551615; const NOT = -9007199254740991;\n"
+        "const QUOTED = -9007199254740992; const LIKE = 0x1fffffffffffff; const UNLIKE = 0x20000000000000;",
+        "const LEAST -9223372036854775808\nconst MOST 18446744073709551615\nconst NOT -9007199254740991\n"
+        "const QUOTED -9007199254740992\nconst LIKE 9007199254740991\nconst UNLIKE 9007199254740992\n",
+        '{"constants":[{"name":"LEAST","value":"-9223372036854775808"},{"name":"MOST","value":"18446744073709551615"},'
+        '{"name":"NOT","value":-9007199254740991},{"name":"QUOTED","value":"-9007199254740992"},'
+        '{"name":"LIKE","value":9007199254740991},{"name":"UNLIKE","value":"9007199254740992"}],'
+        '"types":[],"programs":[]}\n',
+    ),
+    (
+        "typedef opaque page[0x80000000]; typedef page fewer[0x3fffff]; typedef page book[0x400000];\n"
+        "typedef book shelves[2047]; typedef book hall[2048]; typedef hall city<1>; typedef hall none<0>;",
+        "type page opaque 2147483648..2147483648\ntype fewer array 9007197107257344..9007197107257344\n"
+        "type book array 9007199254740992..9007199254740992\n"
+        "type shelves array 18437736874454810624..18437736874454810624\ntype hall array large..large\n"
+        "type city list 4..large\ntype none list 4..4\n",
+        '{"constants":[],"types":[{"name":"page","kind":"opaque","least":2147483648,"greatest":2147483648},'
+        '{"name":"fewer","kind":"array","least":9007197107257344,"greatest":9007197107257344},'
+        '{"name":"book","kind":"array","least":"9007199254740992","greatest":"9007199254740992"},'
+        '{"name":"shelves","kind":"array","least":"18437736874454810624","greatest":"18437736874454810624"},'
+        '{"name":"hall","kind":"array","least":"large","greatest":"large"},'
+        '{"name":"city","kind":"list","least":4,"greatest":"large"},'
+        '{"name":"none","kind":"list","least":4,"greatest":4}],"programs":[]}\n',
+    ),
+    (
+        "typedef int number; typedef unsigned hyper stamp; struct entry { stamp at; bool seen; entry *next; };\n"
+        "union answer switch (bool found) { case FALSE: void; case TRUE: entry first; default: hyper more[9]; };\n"
+        "typedef entry *link; typedef entry other; typedef unsigned int count; typedef hyper when;\n"
+        "program P { version V { link FIRST(number, string, other) = 7; void NIL(void) = 0; } = 3;\n"
+        "version W { struct { count n; } COUNT(answer) = 1; } = 4; } = 0xffffffff;",
+        "type number int 4..4\ntype stamp unsigned-hyper 8..8\ntype entry struct 16..unbounded\n"
+        "type answer union 4..unbounded\ntype link optional 4..unbounded\ntype other struct 16..unbounded\n"
+        "type count unsigned 4..4\ntype when hyper 8..8\n"
+        "program P 4294967295\nversion V 4294967295.3\nprocedure FIRST 4294967295.3.7\n"
+        "argument 4294967295.3.7.1 int int 4..4\nargument 4294967295.3.7.2 string string 4..4294967300\n"
+        "argument 4294967295.3.7.3 entry struct 16..unbounded\nresult 4294967295.3.7.result link optional 4..unbounded\n"
+        "procedure NIL 4294967295.3.0\nversion W 4294967295.4\nprocedure COUNT 4294967295.4.1\n"
+        "argument 4294967295.4.1.1 answer union 4..unbounded\nresult 4294967295.4.1.result - struct 4..4\n",
+        '{"constants":[],"types":[{"name":"number","kind":"int","least":4,"greatest":4},'
+        '{"name":"stamp","kind":"unsigned-hyper","least":8,"greatest":8},'
+        '{"name":"entry","kind":"struct","least":16,"greatest":"unbounded"},'
+        '{"name":"answer","kind":"union","least":4,"greatest":"unbounded"},'
+        '{"name":"link","kind":"optional","least":4,"greatest":"unbounded"},'
+        '{"name":"other","kind":"struct","least":16,"greatest":"unbounded"},'
+        '{"name":"count","kind":"unsigned","least":4,"greatest":4},{"name":"when","kind":"hyper","least":8,"greatest":8}],'
+        '"programs":[{"name":"P","number":4294967295,"versions":[{"name":"V","number":3,"procedures":['
+        '{"name":"FIRST","number":7,"arguments":[{"type":"int","kind":"int","least":4,"greatest":4},'
+        '{"type":"string","kind":"string","least":4,"greatest":4294967300},'
+        '{"type":"entry","kind":"struct","least":16,"greatest":"unbounded"}],'
+        '"result":{"type":"link","kind":"optional","least":4,"greatest":"unbounded"}},'
+        '{"name":"NIL","number":0,"arguments":[],"result":null}]},'
+        '{"name":"W","number":4,"procedures":[{"name":"COUNT","number":1,'
+        '"arguments":[{"type":"answer","kind":"union","least":4,"greatest":"unbounded"}],'
+        '"result":{"type":null,"kind":"struct","least":4,"greatest":4}}]}]}]}\n',
+    ),
+    ("", "", '{"constants":[],"types":[],"programs":[]}\n'),
+]
+
+
+def printed(program, folder, words):
+    got = subprocess.run([program, "types", *words], cwd=folder, capture_output=True, timeout=60)
+    return got.returncode, got.stdout.decode(), got.stderr.decode()
+
+
+def worked_rows(program, folder):
+    for text, lines, told in WORKED:
+        with open(f"{folder}/worked.x", "w", encoding="ascii") as it:
+            it.write(text)
+        got = [printed(program, folder, ["--types", "worked.x", *more]) for more in ([], ["--json"])]
+        well = got == [(0, lines, ""), (0, told, "")]
+        print(f"oncrpc types of {text[:40]!r}..: {'as it should' if well else got}")
+        yield well
+
+
+def members_once(pairs):
+    """An object whose keys are different."""
+    made = dict(pairs)
+    if len(made) != len(pairs):
+        raise ValueError("a key stands twice")
+    return made
+
+
+def is_read_alike(program, folder, words, reading):
+    """Whether lines and JSON are those of the second reading."""
+    lines = "".join(f"{line}\n" for line in reading.lines())
+    status, told, faults = printed(program, folder, [*words, "--json"])
+    same = printed(program, folder, words) == (0, lines, "") and (status, faults) == (0, "")
+    return same and told.count("\n") == 1 and json.loads(told, object_pairs_hook=members_once) == reading.json()
+
+
+def second_rows(program, folder, recipe):
+    """Texts in the language of the RFCs; and in rpcgen's dialect, beside what the commands of LANGUAGE.md make of
+    them."""
+    for path in sorted(glob.glob(f"{ROOT}/.ci/declarations/*.x") + glob.glob(f"{ROOT}/examples/*.x")):
+        words, name = ["--types", path], os.path.basename(path)
+        if name in ("mount.x", "nfs_prot.x"):
+            words += ["--dialect", "rpcgen"]
+            text = subprocess.run(f"{recipe} '{path}'", shell=True, check=True, capture_output=True).stdout.decode()
+        else:
+            with open(path, encoding="utf-8") as it:
+                text = it.read()
+        well = is_read_alike(program, folder, words, Reading(text))
+        print(f"oncrpc types of {name}, read a second time: {'the same' if well else 'another listing'}")
+        yield well
+
+
+def bodies(files):
+    """The names that begin a body in files, at the beginning of a line."""
+    for file in files:
+        with open(file, encoding="latin-1") as it:
+            yield from re.findall(r"^(?:struct|union|enum)\s+(\w+)\s*(?:\{|switch)", it.read(), re.M)
+
+
+def installed_rows(program, folder, installed):
+    """The files of Debian's packages: each struct, union and enum has a line, and the JSON tells what the lines do."""
+    for names in installed:
+        files = [name if "/" not in name else f"/usr/include/{name}" for name in names.split()]
+        missing = [file for file in files if "/" in file and not os.path.isfile(file)]
+        if missing:
+            print(f"{missing[0]} is not there: its row is skipped")
+            continue
+        words = ["--dialect", "rpcgen", *(word for file in files for word in ("--types", file))]
+        (status, lines, faults), told = printed(program, folder, words), printed(program, folder, [*words, "--json"])
+        listed = [line.split()[1] for line in lines.splitlines() if line.startswith("type ")]
+        there = [file if "/" in file else f"{folder}/{file}" for file in files]
+        lost = [name for name in bodies(there) if name not in listed]
+        well = (status, faults, told[0], lost) == (0, "", 0, []) and lines == "".join(lines_of(json.loads(told[1])))
+        shown = f"{len(lines.splitlines())} lines" if well else (status, faults, lost, lines[-99:])
+        print(f"oncrpc types of {names}: {shown}")
+        yield well
+
+
+def lines_of(told):
+    """The lines that say what JSON tells."""
+    said = lambda it: f"{it['kind']} {it['least']}..{it['greatest']}\n"
+    yield from (f"const {it['name']} {it['value']}\n" for it in told["constants"])
+    yield from (f"type {it['name']} {said(it)}" for it in told["types"])
+    for program in told["programs"]:
+        yield f"program {program['name']} {program['number']}\n"
+        for version in program["versions"]:
+            path = f"{program['number']}.{version['number']}"
+            yield f"version {version['name']} {path}\n"
+            for procedure in version["procedures"]:
+                at = f"{path}.{procedure['number']}"
+                yield f"procedure {procedure['name']} {at}\n"
+                parts = [*enumerate(procedure["arguments"], 1), ("result", procedure["result"])]
+                yield from (f"{word_of(k)} {at}.{k} {it['type'] or '-'} {said(it)}" for k, it in parts if it)
+
+
+def word_of(part):
+    return "result" if part == "result" else "argument"
+
+
+def types_rows(program, folder, recipe, installed):
+    yield from worked_rows(program, folder)
+    yield from second_rows(program, folder, recipe)
+    yield from installed_rows(program, folder, installed)

@@ -1,0 +1,83 @@
+//! The registry for many clients at once, for as long as the program runs.
+ghost use Rattle.std.specs.Prelude.{◌≤◌};
+
+use oncrpc_answers::{Failure, report};
+use oncrpc_service::report_socket;
+use oncrpc_sessions::{Bounds, Sockets};
+use oncrpc_words::KeepTask;
+use registry_sessions::SessionTable;
+use rpc_directory::Directory;
+use std::alloc::Global;
+use std::collections::hash_map::RandomState;
+use std::io;
+use std::net::{IpAddr, SocketAddr};
+use std::time::Duration;
+use xdr_io::{Sink, write_whole};
+
+/// With more bytes of its replies waiting than these a connection is not read.
+const MOST_WAITING: u32 = 8192;
+
+/// Serves a registry to many clients at once, over TCP and UDP at one port, and gives the exit status: it ends where a
+/// socket fails that it cannot do without. Its own rows have the port that is really listened at.
+pub fn keep<O: Sink, F: Sink>(
+    rt: &HostRuntime,
+    what: &KeepTask,
+    output: &mut O,
+    faults: &mut F,
+) -> u8
+    ensures { result ≤ 4 }
+{
+    let alloc = rt.alloc();
+    let (mut sockets, hasher) = match (bind(rt, what), RandomState::new(rt)) {
+        (Ok(sockets), Ok(hasher)) => (sockets, hasher),
+        _ => return report_socket(faults),
+    };
+    let mut directory = match Directory::start(alloc, hasher, sockets.port()) {
+        Ok(directory) => directory,
+        Err(_) => return report(Failure::NoMemory, faults),
+    };
+    if let Err(failure) = print_begun(alloc, what, sockets.port(), output) {
+        return report(failure, faults);
+    }
+    let mut table = SessionTable::start(alloc, what.connections as usize, MOST_WAITING);
+    for _ in 0..u64::MAX {
+        if sockets.round(rt, &mut table, &mut directory).is_err() {
+            return report_socket(faults);
+        }
+        print_ended(alloc, &mut sockets, faults);
+    }
+    0
+}
+
+// Both sockets, at the address that is asked for.
+fn bind(rt: &HostRuntime, what: &KeepTask) -> io::Result<Sockets> {
+    let address = SocketAddr::new(IpAddr::V4(what.address), what.port);
+    let bounds = Bounds {
+        connections: what.connections as usize,
+        idle: Duration::from_secs(what.idle as u64),
+    };
+    Sockets::bind(rt, rt.alloc(), address, bounds, what.verbose)
+}
+
+// Prints at which address and port both listen.
+fn print_begun<O: Sink>(
+    alloc: Global,
+    what: &KeepTask,
+    port: u16,
+    output: &mut O,
+) -> Result<(), Failure> {
+    let line = format!(in alloc; "listening on {} {port}\n", what.address)?;
+    write_whole(output, line.as_bytes())?;
+    Ok(())
+}
+
+// A line for each connection that has ended, where it can be written.
+fn print_ended<F: Sink>(alloc: Global, sockets: &mut Sockets, faults: &mut F) {
+    let endings = sockets.endings();
+    for ending in endings.iter() {
+        if let Ok(line) = ending.line(alloc) {
+            let _ = write_whole(faults, line.as_bytes());
+        }
+    }
+    endings.clear();
+}

@@ -1,0 +1,4 @@
+pub mod EncodeEnds
+pub mod Encoding
+pub mod Lines
+pub mod Private

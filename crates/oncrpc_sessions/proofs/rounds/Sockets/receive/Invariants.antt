@@ -1,5 +1,0 @@
-use Rattle.oncrpc_sessions.specs.Loops.{Goes}
-use Rattle.oncrpc_sessions.proofs.rounds.Sockets.receive.Given as goal
-
-abbrev pub invariant-loop : goal.invariant-loop
-invariant-loop g l = Goes l.fn.table l.fn.table l.fn.directory l.directory

@@ -1,0 +1,4 @@
+pub mod JsonListing
+pub mod Listing
+pub mod Private
+pub mod Words
