@@ -149,6 +149,18 @@ def lanes_keep(folder):
     yield row("./oncrpc prove, the log of the last proof", re.findall("^== (.*)$", log, re.M) == IN_TURN, log)
 
 
+def lanes_elsewhere(folder):
+    """What is proved in the lanes of ONCRPC_LANES stays there, for another checkout too; none lie in the checkout."""
+    place = f"{folder}/elsewhere"
+    for at in ("the first", "another"):
+        tree = Tree(folder, f"lanes_{at[-5:]}", RT_JOBS="1", STAND_ALONE="1", ONCRPC_LANES=place)
+        got = tree.run("./oncrpc prove")
+        kept = len(re.findall(rb"oncrpc: \d of 6, \w+" + KEPT, got[2]))
+        well = got[0] == 0 and kept == (0 if at == "the first" else 6) and not os.path.exists(f"{tree.at}/out")
+        well = well and tree.read(tree.made) == tree.read("bin/proved") and "lock" in os.listdir(place)
+        yield row(f"./oncrpc prove with ONCRPC_LANES, {at} checkout", well, got)
+
+
 def fullest_lane(folder):
     """Where copies take nothing over from one another, the proof goes on in the lane where the most is proved."""
     tree = Tree(folder, "fullest", RT_JOBS="2", STAND_ALONE="1")
@@ -267,6 +279,6 @@ def changed_and_back(folder):
 
 
 def proving_rows(folder):
-    killed, lanes = (judged_nothing, proof_killed, beginner_killed), (lanes_hold, lanes_keep, fullest_lane)
+    killed, lanes = (judged_nothing, proof_killed, beginner_killed), (lanes_hold, lanes_keep, lanes_elsewhere, fullest_lane)
     for rows in (*killed, *lanes, in_turn_again, kept_lane, changed_and_back, handed_out, unwritten, unheard):
         yield from rows(folder)
