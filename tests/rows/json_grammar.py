@@ -1,6 +1,6 @@
 """JSON texts by the grammar of RFC 8259: texts that it has, that it has not, and that it leaves open. `^` stands before
-the token that is refused. A string and the colon behind it are one token, a key. Behind the whole value a comma is
-passed over."""
+the token that is refused. A string and the colon behind it are one token, a key. Of a comma behind the whole value it
+is what follows the comma."""
 from .shared import MORE
 
 # Kinds that take texts of each form.
