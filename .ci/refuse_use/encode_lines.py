@@ -31,6 +31,8 @@ SAID = [
     ("--name int --bytes 6", b"7", 2, b"", b"limits refused\n"),
     ("--name int --depth 0", b"7", 2, b"", b"limits refused\n"),
     ("--name void", b"{}", 2, b"", b"no such name: void\n"),
+    ("--name void --bytes 6", b"{}", 2, b"", b"no such name: void\n"),
+    ("--types loop.x --name void --bytes 6", b"{}", 2, b"", b"declaration refused: 10 (7) at 1:1\n"),
     ("--types loop.x --name a", b"{}", 2, b"", b"declaration refused: 10 (7) at 1:1\n"),
     ("--types ping.x --types loop.x --name a", b"{}", 2, b"", b"declaration refused: 10 (7) at loop.x:1:1\n"),
     ("--types none.x --name int", b"7", 3, b"", b"read fault\n"),
@@ -103,8 +105,24 @@ def deepest_rows(program, folder):
         yield row(name, got == (0, wanted, b""), (got[0], got[1][-99:], got[2]))
 
 
+def long_rows(program, folder):
+    """The longest content and a hundred thousand numbers, where want of memory is wrong."""
+    content, numbers = bytes(range(256)) * 65535, range(100000)
+    declared(folder, b"typedef unsigned int numbers<>;")
+    items = b"".join(number.to_bytes(4, "big") for number in (len(numbers), *numbers))
+    whole = len(content).to_bytes(4, "big") + content
+    for words, given, wanted in (
+        ("--name opaque", f'"{content.hex()}"', whole),
+        ("--name opaque --hex", f'"{content.hex()}"', whole.hex().encode() + b"\n"),
+        ("--types json.x --name numbers", f"[{', '.join(map(str, numbers))}]", items),
+    ):
+        got = ended(program, folder, f"encode {words}", given.encode())
+        yield row(f"encode {words}, {len(given)} bytes", got == (0, wanted, b""), (got[0], got[1][:99], got[2]))
+
+
 def encode_rows(program, folder):
     yield from said_rows(program, folder)
     yield from value_rows(program, folder)
     yield from refused_rows(program, folder)
     yield from deepest_rows(program, folder)
+    yield from long_rows(program, folder)

@@ -90,6 +90,43 @@ def worked_rows(program, folder):
         yield well
 
 
+def at_size():
+    """A text of 262144 bytes, its lines and its JSON: other names of int, a thousand kinds, and thousands of arguments,
+    most of them of the kinds that are named last. Section 4.10 of RFC 4506 has a length before the bytes, which are
+    filled up to a whole unit."""
+    others, kinds = [f"a{n:04}" for n in range(6000)], [f"k{n:03}" for n in range(1000)]
+    greatest = {kind: 4 + n + -n % 4 for n, kind in enumerate(kinds)}
+    text = "".join(f"typedef int {name};" for name in others)
+    text += "".join(f"typedef opaque {kind}<{n}>;" for n, kind in enumerate(kinds))
+    head, tail = "program P { version V { a5999 ALL(", ") = 3; } = 2; } = 1;"
+    parts = (kinds[::-1] * 27)[: (262144 - len(text) - len(head) - len(tail) + 1) // 5]
+    text = (text + head + ",".join(parts) + tail).ljust(262144)
+    lines = [f"type {name} int 4..4" for name in others]
+    lines += [f"type {kind} opaque 4..{greatest[kind]}" for kind in kinds]
+    lines += ["program P 1", "version V 1.2", "procedure ALL 1.2.3"]
+    lines += [f"argument 1.2.3.{k} {kind} opaque 4..{greatest[kind]}" for k, kind in enumerate(parts, 1)]
+    told = lambda kind: {"kind": "opaque", "least": 4, "greatest": greatest[kind]}
+    number = {"kind": "int", "least": 4, "greatest": 4}
+    procedure = {"name": "ALL", "number": 3, "arguments": [{"type": kind, **told(kind)} for kind in parts]}
+    procedure["result"] = {"type": "int", **number}
+    types = [{"name": name, **number} for name in others] + [{"name": kind, **told(kind)} for kind in kinds]
+    program = {"name": "P", "number": 1, "versions": [{"name": "V", "number": 2, "procedures": [procedure]}]}
+    return text, lines + ["result 1.2.3.result int int 4..4"], {"constants": [], "types": types, "programs": [program]}
+
+
+def size_rows(program, folder):
+    """The longest text, with thousands of types and arguments: want of memory is wrong."""
+    text, lines, told = at_size()
+    with open(f"{folder}/size_of.x", "w", encoding="ascii") as it:
+        it.write(text)
+    whole = "".join(f"{line}\n" for line in lines), json.dumps(told, separators=(",", ":")) + "\n"
+    for more, wanted in zip(([], ["--json"]), whole):
+        got = printed(program, folder, ["--types", "size_of.x", *more])
+        well = got == (0, wanted, "")
+        print(f"oncrpc types {' '.join(more)} of {len(text)} bytes: {'as it should' if well else (got[0], got[2])}")
+        yield well
+
+
 def members_once(pairs):
     """An object whose keys are different."""
     made = dict(pairs)
@@ -171,5 +208,6 @@ def word_of(part):
 
 def types_rows(program, folder, recipe, installed):
     yield from worked_rows(program, folder)
+    yield from size_rows(program, folder)
     yield from second_rows(program, folder, recipe)
     yield from installed_rows(program, folder, installed)
