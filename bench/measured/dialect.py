@@ -17,6 +17,21 @@ WORDS = (
 TOKEN = re.compile(r"[A-Za-z_]\w*|-?\d\w*|\s+|/\*.*?\*/|\"[^\"\n]*\"|.", re.S)
 
 
+def apart(members):
+    """Members of an enumeration whose numbers stand in the text and differ, or else the first: no two cases are one."""
+    found, last = {}, -1
+    for member, value in members:
+        digits = value.removeprefix(" = ")
+        if digits:
+            base = 8 if re.fullmatch("0[0-7]+", digits) else 0
+            last = int(digits, base) if digits[0].isdigit() else None
+        elif last is not None:
+            last += 1
+        if last is not None:
+            found.setdefault(last, member)
+    return list(found.values()) or [members[0][0]]
+
+
 class Maker:
     """Makes a text, every name of which is declared before it is used."""
 
@@ -81,7 +96,7 @@ class Maker:
             is_behind_name = members and re.search(r"= [A-Z]", members[-1][1])
             members.append((member, value or f" = {self.number}" if is_behind_name else value))
         self.types.append(name)
-        self.enums.append((name, [it for it, _ in members]))
+        self.enums.append((name, apart(members)))
         self.tags[name] = "enum"
         inside = ", ".join(member + value for member, value in members)
         return f"enum {name} {{ {inside} }};"
