@@ -163,15 +163,23 @@ class Maker:
     def unused(self):
         return f"const {self.name('C')} = {self.whole()};"
 
+    def line(self, words):
+        """A line of # with these words, and with comments where a blank may stand."""
+        if self.random.random() < 0.6:
+            return f"#{words}"
+        between = [self.one("", " ", "/* a */", " /*b\n%c\n#else\n**/"), *(self.one(" ", "\t/**/", "/* // */") for _ in "aa")]
+        words = "".join(gap + word for gap, word in zip(between, words.split()))
+        return f"#{words}{self.one('', ' ', ' /* d */', '/* e', ' // f /* g')}".replace("/* e", "/* e\n#endif */")
+
     def section(self):
         """A section whose branches each declare what nothing else uses, and stand alone."""
         condition = self.one("ifdef DEFINED", "ifndef DEFINED", "if 0", "if 1", "ifdef OTHER", "ifndef OTHER", "if DEFINED")
-        lines = [f"#{condition}"]
+        lines = [self.line(condition)]
         while self.random.random() < 0.3:
-            lines += [self.unused(), f"#elif {self.one('0', '1', 'DEFINED', 'OTHER')}"]
+            lines += [self.unused(), self.line(f"elif {self.one('0', '1', 'DEFINED', 'OTHER')}")]
         if self.random.random() < 0.7:
-            lines += [self.unused(), "#else"]
-        return "\n".join([*lines, self.unused(), "#endif"])
+            lines += [self.unused(), self.line("else")]
+        return "\n".join([*lines, self.unused(), self.line("endif")])
 
     def text(self):
         parts = []

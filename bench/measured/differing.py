@@ -7,7 +7,6 @@ REFUSED_HERE = [
     ("2", r"@", "a number that C never sees, as that of a macro without a use"),
     ("1", r"@# ?define", "a macro of C that is no number"),
     ("1", r"@#", "a line of # that is not read"),
-    ("1", r"\*@/", "a comment that a line of # opens"),
     ("1", r"@_", "a name that begins with _"),
     ("1", r"@'", "a character as a number"),
     ("3", r"= ?@[A-Za-z]\w* ?;", "a name to which the text gives no number"),
@@ -26,7 +25,6 @@ REFUSED_THERE = [
     (r"^\s*const\b.*=.*\n\^+\n.*expected", "marks that a quotation leaves"),
     (r"^\s*= *define\b", "a mark that #define leaves"),
     (r"unterminated comment", "a comment that a line of % opens"),
-    (r"^ +\d+ \| *# */\*.*\*/ *\w", "a word behind a comment in a line of # alone"),
     (r"preprocessor error", "#pragma and #ident"),
     (r"\b(?:char|short)\b.*\n\^+\n.*expected|illegal \(reserved\) name", "names that rpcgen keeps for itself"),
 ]
@@ -46,8 +44,6 @@ def why_here(text, number, place):
     names = re.findall(r"(\w+) ?(?=@)|(?<=@)(\w+)", where)
     if number == "3" and any(re.search(rf"(?m)^\s*#\s*define\s+{a or b}\s*$", text) for a, b in names):
         return "a macro that the text uses"
-    if number in "13" and re.search(r"(?m)^\s*#\s*/\*.*\*/\s*\w", text):
-        return "a word behind a comment in a line of # alone"
     return next((why for fault, form, why in REFUSED_HERE if fault == number and re.search(form, where)), None)
 
 

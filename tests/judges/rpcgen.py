@@ -4,6 +4,8 @@ import re
 
 DIRECTIVE = re.compile(r"[ \t\v\f\r]*#[ \t]*(\w*)[ \t]*(\w*)[ \t]*(.*)", re.A)
 GOES_ON = re.compile(r"\\[\\\r]*$")
+# What the preprocessor reads as a blank, and what it passes over to the end of the line.
+REMARK = re.compile(r"/\*.*?\*/|//(?:\\[\\\r]*\n|[^\n])*", re.S)
 PIECE = re.compile(r'"[^"]*"?|/\*|[^"/]+|/')
 TOKEN = re.compile(r'/\*.*?\*/|\s+|(-?\w+|"[^"\n]*"|.)', re.S | re.A)
 # The names of rpcgen's library in the order in which they are declared. The RFCs' language has `float` and `double` as
@@ -28,6 +30,7 @@ class Lines:
     def __init__(self, names):
         self.names, self.sections = set(names), []
         self.is_comment = self.goes_on = False
+        self.begun = ""
 
     def is_shown(self):
         return all(shown for shown, _ in self.sections)
@@ -54,20 +57,22 @@ class Lines:
             self.names.add(name)
             if number := re.match(r"-?\w+", rest):
                 return f"const {name} = {number[0]}; {rest[number.end():]}"
-        self.goes_on = bool(GOES_ON.search(line))
         return ""
 
     def read(self, line):
-        """What is read of a line."""
+        """What is read of a line. Of one of `#` that goes on in the next line it is nothing so far."""
         if self.goes_on:
             self.goes_on = bool(GOES_ON.search(line))
             return ""
+        line = self.begun + line
         first = line.lstrip(" \t\v\f\r")[:1]
         if first == "%" and not self.is_comment:
             self.goes_on = bool(GOES_ON.search(line))
             return ""
         if first == "#" and not self.is_comment:
-            line = self.directive(line)
+            spoken = REMARK.sub(" ", line)
+            self.begun = f"{line}\n" if "/*" in spoken or GOES_ON.search(line) else ""
+            line = "" if self.begun else self.directive(spoken)
         left = line
         while left:
             if self.is_comment:

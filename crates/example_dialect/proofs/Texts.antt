@@ -3,7 +3,7 @@ use Rattle.std.proofs.Common.{◌≡◌, [], ◌∷◌, Ok, Err, codes, refl}
 use Rattle.xdr_tokens.specs.Bytes.{run_length}
 use Rattle.xdr_tokens.specs.declared.fault.Fault.TheVariants as fault
 use Rattle.xdr_tokens.specs.declared.fault.Wrong.TheVariants as wrong
-use Rattle.xdr_dialect.specs.Directives.{after_blanks}
+use Rattle.xdr_dialect.specs.Blanks.{after_blanks_from, closes_from}
 use Rattle.xdr_dialect.specs.Plain.{plain, plain_from}
 
 pub record Texts : Type 0 where
@@ -34,10 +34,14 @@ pub record Texts : Type 0 where
       plain [] (codes "#define A 0\n#if A\n#endif") ≡ Err (fault.Refused wrong.BadCharacter 12)
   pub definition_of_a_name : plain [] (codes "#define A B") ≡ Err (fault.Refused wrong.BadCharacter 11)
   pub section_that_is_open : plain [] (codes "#ifdef A\n") ≡ Err (fault.Refused wrong.Unexpected 0)
+  pub comment_in_a_line :
+      plain [] (codes "#if/*a*/1/*b\n#else*/\nx\n#endif") ≡ Ok (codes "            \n       \nx\n      ")
+  pub words_behind_a_comment : plain [] (codes "#if 0 /* a */ || 1\n#endif") ≡ Err (fault.Refused wrong.BadCharacter 25)
+  pub comment_that_does_not_end : plain [] (codes "#if 1\n#endif /* a\n") ≡ Err (fault.Refused wrong.BadCharacter 12)
 
 -- so it is: each text is read by computing
 pub texts : Texts
-unfolding plain_from after_blanks run_length
+unfolding plain_from after_blanks_from closes_from run_length
 texts = record {
   percent_line = refl;
   percent_behind_blanks = refl;
@@ -58,4 +62,7 @@ texts = record {
   value_behind_define = refl;
   definition_of_a_name = refl;
   section_that_is_open = refl;
+  comment_in_a_line = refl;
+  words_behind_a_comment = refl;
+  comment_that_does_not_end = refl;
 }

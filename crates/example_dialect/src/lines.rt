@@ -101,7 +101,7 @@ pub fn condition_that_is_not_read(alloc: Global) -> Result<Vec<u8>, Fault>
     plain_text(alloc, b"#if A > 1\n#endif", &["A"])
 }
 
-/// Behind `/` more than a comment may follow.
+/// Behind the number more may follow.
 pub fn condition_of_a_quotient(alloc: Global) -> Result<Vec<u8>, Fault>
     ensures refused { OnOk result ⊥ }
     ensures place { IfErr result (λ e. e ≢ Fault.NoMemory → e ≡ Fault.Refused Wrong.BadCharacter 14) }
@@ -155,4 +155,28 @@ pub fn section_that_is_open(alloc: Global) -> Result<Vec<u8>, Fault>
     ensures place { IfErr result (λ e. e ≢ Fault.NoMemory → e ≡ Fault.Refused Wrong.Unexpected 0) }
 {
     plain_text(alloc, b"#ifdef A\n", &[])
+}
+
+/// A comment in a line of `#` is a blank, and the line goes on behind it.
+pub fn comment_in_a_line(alloc: Global) -> Result<Vec<u8>, Fault>
+    ensures found { IfOk result (λ v. v.items ≡ codes "            \n       \nx\n      ") }
+    ensures taken { IfErr result (λ e. e ≡ Fault.NoMemory) }
+{
+    plain_text(alloc, b"#if/*a*/1/*b\n#else*/\nx\n#endif", &[])
+}
+
+/// Behind it a condition goes on.
+pub fn words_behind_a_comment(alloc: Global) -> Result<Vec<u8>, Fault>
+    ensures refused { OnOk result ⊥ }
+    ensures place { IfErr result (λ e. e ≢ Fault.NoMemory → e ≡ Fault.Refused Wrong.BadCharacter 25) }
+{
+    plain_text(alloc, b"#if 0 /* a */ || 1\n#endif", &[])
+}
+
+/// A line whose comment does not end is no line.
+pub fn comment_that_does_not_end(alloc: Global) -> Result<Vec<u8>, Fault>
+    ensures refused { OnOk result ⊥ }
+    ensures place { IfErr result (λ e. e ≢ Fault.NoMemory → e ≡ Fault.Refused Wrong.BadCharacter 12) }
+{
+    plain_text(alloc, b"#if 1\n#endif /* a\n", &[])
 }

@@ -8,29 +8,15 @@ use Rattle.xdr_dialect.specs.declared.directive.Directive.{Directive}
 use Rattle.xdr_dialect.specs.declared.directive.Directive.TheVariants as line
 use Rattle.xdr_dialect.specs.declared.gate.Gate.{Gate}
 use Rattle.xdr_dialect.specs.declared.gate.Gate.TheVariants as gate
-
--- what follows spaces and tabs
-unfoldable pub after_blanks : List ℕ → List ℕ
-after_blanks [] = []
-after_blanks (b ∷ bs) = if (b == 32) || (b == 9) then after_blanks bs else b ∷ bs
+use Rattle.xdr_dialect.specs.Blanks.{after_blanks, ends, closes}
 
 -- the letters, digits and _ in front
 abbrev pub word_in : List ℕ → List ℕ
 word_in bs = take (run_length bs) bs
 
--- what follows them, and blanks
+-- what follows them, and blanks and comments
 abbrev pub after_word : List ℕ → List ℕ
 after_word bs = after_blanks (drop (run_length bs) bs)
-
--- behind / a comment begins
-abbrev pub opens_comment : List ℕ → Bool
-opens_comment [] = false
-opens_comment (b ∷ bs) = (b == 42) || (b == 47)
-
--- the line ends here, or a comment begins
-abbrev pub ends : List ℕ → Bool
-ends [] = true
-ends (b ∷ bs) = (b == 10) || (b == 13) || (b == 47) && opens_comment bs
 
 -- letters, digits and _ that do not begin with a digit
 abbrev pub is_name : List ℕ → Bool
@@ -91,9 +77,12 @@ directive_of names own word rest =
     (if bytes_eq word (codes "include") || bytes_eq word (codes "pragma") || bytes_eq word (codes "ident")
     || bytes_eq word [] && ends rest then line.Nothing else line.Other)))))))
 
--- what a line of # says, from what follows the #, where the text has defined these names of its own
+-- What a line of # says, from what follows the #, where the text has defined these names of its own. Of a line with a
+-- comment that does not end nothing is known.
 abbrev pub directive : (names own : List (List ℕ)) → List ℕ → Directive
-directive names own bs = let rest = after_blanks bs in directive_of names own (word_in rest) (after_word rest)
+directive names own bs =
+    let rest = after_blanks bs in
+    if closes bs then directive_of names own (word_in rest) (after_word rest) else line.Other
 
 -- the name of #define, from what follows the #
 abbrev pub name_of_definition : List ℕ → List ℕ

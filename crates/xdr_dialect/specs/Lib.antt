@@ -3,6 +3,7 @@ pub use Rattle.xdr_tokens.specs.Keywords
 pub use Rattle.xdr_tokens.specs.Tokens
 pub mod Answers
 pub mod Spots
+pub mod Blanks
 pub mod Directives
 pub mod Plain
 pub mod Tests

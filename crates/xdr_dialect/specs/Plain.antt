@@ -8,6 +8,7 @@ use Rattle.xdr_dialect.specs.declared.directive.Directive.{Directive}
 use Rattle.xdr_dialect.specs.declared.directive.Directive.TheVariants as line
 use Rattle.xdr_dialect.specs.declared.gate.Gate.{Gate}
 use Rattle.xdr_dialect.specs.declared.gate.Gate.TheVariants as gate
+use Rattle.xdr_dialect.specs.declared.part.Part.TheVariants as part
 use Rattle.xdr_dialect.specs.declared.spot.Spot.{Spot}
 use Rattle.xdr_dialect.specs.declared.spot.Spot.TheVariants as spot
 use Rattle.xdr_dialect.specs.Spots.{blank, kept, next_spot}
@@ -27,7 +28,7 @@ pub record Turn : Type 0 where
 
 -- nothing stays of the line
 abbrev pub hidden : Standing → Gate → List Gate → Turn
-hidden s g outer = record { byte = 32; next = record s { spot = spot.Hidden; gate = g; outer = outer } }
+hidden s g outer = record { byte = 32; next = record s { spot = spot.Line part.Words; gate = g; outer = outer } }
 
 -- behind #endif, where a section is open
 abbrev pub closed : Standing → List Gate → Option Turn
@@ -39,7 +40,7 @@ abbrev pub defining : Standing → (number : Bool) → (name : List ℕ) → Tur
 defining s true name =
     record { byte = 61; next = record s { spot = spot.Text; defines = s.defines ++ name ∷ [] } }
 defining s false name =
-    record { byte = 32; next = record s { spot = spot.Hidden; defines = s.defines ++ name ∷ [] } }
+    record { byte = 32; next = record s { spot = spot.Line part.Words; defines = s.defines ++ name ∷ [] } }
 
 -- What a line of # does: none may stand where it has no meaning. In a branch that is not chosen #if, #elif, #else and
 -- #endif count alone.
@@ -59,6 +60,7 @@ abbrev pub is_fresh : Spot → Bool
 is_fresh spot.Fresh = true
 is_fresh spot.Hidden = false
 is_fresh spot.Escaped = false
+is_fresh (spot.Line p) = false
 is_fresh spot.Text = false
 is_fresh spot.Slash = false
 is_fresh spot.Comment = false

@@ -2,12 +2,12 @@
 ghost use Rattle.std.specs.Prelude.{◌≡◌, ◌≤◌, length};
 ghost use Rattle.std.specs.Str.{bytes_eq};
 ghost use Rattle.xdr_tokens.specs.Bytes.{is_word, run_length};
-ghost use Rattle.xdr_dialect.specs.Directives.{after_blanks, word_in, after_word, ends, is_name, is_among, defined};
-ghost use Rattle.xdr_dialect.specs.Directives.{opens_comment};
+ghost use Rattle.xdr_dialect.specs.Directives.{word_in, after_word, is_name, is_among, defined};
 ghost use Rattle.xdr_dialect.specs.Directives.{condition, after_minus, begins_digit, is_numeral, definition};
 ghost use Rattle.xdr_dialect.specs.Directives.{directive_of, directive, name_of_definition};
 ghost use Rattle.xdr_dialect.specs.Answers.{texts};
 
+use crate::blanks::{after_blanks, closes, ends};
 use crate::own_names::OwnNames;
 
 /// What a line of `#` says.
@@ -27,18 +27,6 @@ pub enum Directive {
     Nothing,
     /// Another.
     Other,
-}
-
-/// What follows spaces and tabs.
-#[tactic(auto, unfolding(crate::specs::Directives::after_blanks))]
-fn after_blanks(text: &[u8]) -> &[u8]
-    ensures { result.now ≡ after_blanks text.now }
-{
-    let mut rest = text;
-    while let [b' ' | b'\t', others @ ..] = rest {
-        rest = others;
-    }
-    rest
 }
 
 /// A letter, a digit or `_`.
@@ -66,31 +54,13 @@ fn run_length(text: &[u8]) -> usize
     len
 }
 
-/// The letters, digits and `_` in front, and what follows them and blanks.
+/// The letters, digits and `_` in front, and what follows them, blanks and comments.
 fn word(text: &[u8]) -> (&[u8], &[u8])
     ensures word { result.0.now ≡ word_in text.now }
     ensures after { result.1.now ≡ after_word text.now }
 {
     let (run, rest) = text.split_at(run_length(text));
     (run, after_blanks(rest))
-}
-
-/// Behind `/` a comment begins.
-fn opens_comment(text: &[u8]) -> bool
-    ensures { result ≡ opens_comment text.now }
-{
-    matches!(text, [b'*' | b'/', ..])
-}
-
-/// The line ends here, or a comment begins.
-fn ends(text: &[u8]) -> bool
-    ensures { result ≡ ends text.now }
-{
-    match text {
-        [] | [b'\n' | b'\r', ..] => true,
-        [b'/', others @ ..] => opens_comment(others),
-        _ => false,
-    }
 }
 
 /// The bytes are these letters.
@@ -222,6 +192,9 @@ fn directive_of(names: &[&str], own: &OwnNames<'_>, run: &[u8], rest: &[u8]) -> 
 pub(crate) fn read_directive(names: &[&str], own: &OwnNames<'_>, text: &[u8]) -> Directive
     ensures { result ≡ directive (texts names.now) (texts own.now.list.items) text.now }
 {
+    if !closes(text) {
+        return Directive::Other;
+    }
     let (run, rest) = word(after_blanks(text));
     directive_of(names, own, run, rest)
 }

@@ -2,7 +2,8 @@
 //! language, every place kept.
 //!
 //! - `plain`: a text without its lines of `%` and `#`, byte for byte
-//! - `standing`: where a byte stands: its `spot` on the line, the `gate` of its section; `directive` is a line of `#`
+//! - `standing`: where a byte stands: its `spot` on the line, the `gate` of its section
+//! - `directive`: what a line of `#` says, `blanks`: what stands between its words; `part`: where in it a byte stands
 //! - `own_names`: the names that the text has defined so far; `identifier`: which names it can ask for
 //! - `rewriting`: its tokens as tokens of the RFCs' language
 //! - `turn`: what stands in place of a token, by those `ahead` of it and the `scope` in which it stands
@@ -10,12 +11,14 @@
 #![tactic(auto)]
 
 mod ahead;
+mod blanks;
 mod directive;
 mod gate;
 mod identifier;
 mod laws;
 mod library;
 mod own_names;
+mod part;
 mod plain;
 mod rewriting;
 mod scope;

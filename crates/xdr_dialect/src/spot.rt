@@ -1,18 +1,23 @@
 //! Where a byte stands on its line, and what is kept of it.
 ghost use Rattle.std.specs.Prelude.{◌≡◌};
 ghost use Rattle.xdr_tokens.specs.Bytes.{is_space};
-ghost use Rattle.xdr_dialect.specs.Spots.{after_text, blank, kept, next_spot, unquoted};
+ghost use Rattle.xdr_dialect.specs.Spots.{after_text, after_words, after_line, blank, kept, next_spot, unquoted};
+ghost use Rattle.xdr_dialect.specs.Spots.{is_line, is_line_remark};
 ghost use Rattle.xdr_dialect.specs.Plain.{is_fresh};
+
+use crate::part::Part;
 
 /// Where a byte stands.
 #[derive(Clone, Copy)]
 pub enum Spot {
     /// Where a line begins, outside of comments, or behind white space there.
     Fresh,
-    /// In a line of `%` or `#`.
+    /// In a line of `%`, or behind `//` in a line of `#`.
     Hidden,
-    /// In such a line behind `\`.
+    /// There behind `\`.
     Escaped,
+    /// In a line of `#`.
+    Line(Part),
     /// In the text.
     Text,
     /// In the text behind `/`.
@@ -58,12 +63,51 @@ fn after_text(byte: u8) -> Spot
     }
 }
 
+/// Behind a byte of a line of `#`, outside of its comments.
+fn after_words(byte: u8) -> Spot
+    ensures { result ≡ after_words byte }
+{
+    match byte {
+        b'\n' => Spot::Fresh,
+        b'\\' => Spot::Line(Part::Joint),
+        _ => Spot::Line(Part::Words.next(byte)),
+    }
+}
+
+/// Behind a byte of a line of `#`.
+fn after_line(part: Part, byte: u8) -> Spot
+    ensures { result ≡ after_line part byte }
+{
+    match (part, byte) {
+        (Part::Joint, b'\n') => Spot::Line(Part::Words),
+        (Part::Joint, b'\r') => Spot::Line(Part::Joint),
+        (Part::Slash, b'*') => Spot::Line(Part::Comment),
+        (Part::Slash, b'/') => Spot::Hidden,
+        (Part::Words | Part::Joint | Part::Slash, _) => after_words(byte),
+        (Part::Comment | Part::Star, _) => Spot::Line(part.next(byte)),
+    }
+}
+
 impl Spot {
     /// A line may begin here.
     pub(crate) fn is_fresh(self) -> bool
         ensures { result ≡ is_fresh self }
     {
         matches!(self, Spot::Fresh)
+    }
+
+    /// In a line of `#`.
+    pub(crate) fn is_line(self) -> bool
+        ensures { result ≡ is_line self }
+    {
+        matches!(self, Spot::Line(_))
+    }
+
+    /// In a comment of a line of `#`.
+    pub(crate) fn is_remark(self) -> bool
+        ensures { result ≡ is_line_remark self }
+    {
+        matches!(self, Spot::Line(Part::Comment | Part::Star))
     }
 
     /// What is kept of a byte that is shown.
@@ -73,7 +117,7 @@ impl Spot {
         match self {
             Spot::Fresh if byte == b'%' => b' ',
             Spot::Fresh | Spot::Text | Spot::Slash => unquoted(byte),
-            Spot::Hidden | Spot::Escaped => blank(byte),
+            Spot::Hidden | Spot::Escaped | Spot::Line(_) => blank(byte),
             Spot::Comment | Spot::Star => byte,
             Spot::Quoted if byte == b'"' => b'=',
             Spot::Quoted => blank(byte),
@@ -91,6 +135,7 @@ impl Spot {
             (Spot::Hidden, b'\\') => Spot::Escaped,
             (Spot::Escaped, b'\\' | b'\r') => Spot::Escaped,
             (Spot::Hidden | Spot::Escaped, _) => Spot::Hidden,
+            (Spot::Line(part), _) => after_line(part, byte),
             (Spot::Slash, b'*') => Spot::Comment,
             (Spot::Fresh | Spot::Text | Spot::Slash, _) => after_text(byte),
             (Spot::Comment | Spot::Star, b'*') => Spot::Star,

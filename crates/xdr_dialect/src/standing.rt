@@ -8,6 +8,7 @@ ghost use Rattle.xdr_dialect.specs.Answers.{texts};
 use crate::directive::{Directive, name_of_definition, read_directive};
 use crate::gate::Gate;
 use crate::own_names::OwnNames;
+use crate::part::Part;
 use crate::spot::{Spot, blank};
 use xdr_tokens::{Fault, Wrong};
 
@@ -70,7 +71,7 @@ impl<'a> Standing<'a> {
             self.spot = Spot::Text;
             return Ok(b'=');
         }
-        self.spot = Spot::Hidden;
+        self.spot = Spot::Line(Part::Words);
         Ok(b' ')
     }
 
@@ -79,7 +80,7 @@ impl<'a> Standing<'a> {
         ensures { Turns result (directed (standing_of self.old) found name.now) self.new left }
     {
         let shown = self.gate.is_shown();
-        self.spot = Spot::Hidden;
+        self.spot = Spot::Line(Part::Words);
         match found {
             Directive::Section(None) if shown => return Err(misplaced(left)),
             Directive::Section(holds) => {
