@@ -128,6 +128,9 @@ def large_dialect_cases():
     yield Case("read", text=b""), empty
     yield dialect(b"%x\n" * 87381), empty
     yield dialect(b"#if DEFINED\n#else\n@\n#endif\n" * 9000), empty
+    # The same with comments in the lines, and one line whose comment is all of the text.
+    yield dialect(b"#if/**/DEFINED/*\n*/\n#else// /*\n@\n#endif\n" * 6000), empty
+    yield dialect(b"#/*" + b"#\n" * 131000 + b"*/"), empty
     # The most names that are asked for behind the most that a text defines, alike and each another.
     asked = b"#ifdef b\n#endif\n" * 8192
     yield dialect(b"#define a\n" * 13107 + asked), empty
