@@ -5,3 +5,4 @@ pub mod Sections
 pub mod Same
 pub mod Staying
 pub mod Constructed
+pub mod Lined

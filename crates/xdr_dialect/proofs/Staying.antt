@@ -42,7 +42,7 @@ in_text false = spot.Text
 
 -- ---- white space
 
-space_apart : (b : ℕ) → is_space b ≡ true
+pub space_apart : (b : ℕ) → is_space b ≡ true
     → (eqb b 34 ≡ false) × (eqb b 35 ≡ false) × (eqb b 37 ≡ false) × (eqb b 47 ≡ false)
 space_apart b h = (grind arith, grind arith, grind arith, grind arith)
 
@@ -160,11 +160,11 @@ in_comment true = spot.Star
 in_comment false = spot.Comment
 
 -- behind a star no / comes
-abbrev NoSlash : Bool → List ℕ → Type 0
+abbrev pub NoSlash : Bool → List ℕ → Type 0
 NoSlash star [] = Unit {0}
 NoSlash star (b ∷ bs) = (star && eqb b 47) ≡ false
 
-no_end_behind : (b : ℕ) (bs : List ℕ) → HasNoEnd (b ∷ bs) → NoSlash (eqb b 42) bs × HasNoEnd bs
+pub no_end_behind : (b : ℕ) (bs : List ℕ) → HasNoEnd (b ∷ bs) → NoSlash (eqb b 42) bs × HasNoEnd bs
 no_end_behind b [] h = (tt, tt)
 no_end_behind b (c ∷ bs) h = (h.0, h.1)
 
@@ -191,7 +191,7 @@ inside_stays names star (b ∷ inside) rest h apart more =
     then_stays names (in_comment star) (in_comment (eqb b 42)) b (inside ++ 42 ∷ 47 ∷ rest) (inner_stays star b apart)
     (inside_stays names (eqb b 42) inside rest behind.1 behind.0 more)
 
-no_slash : (inside : List ℕ) → NoSlash false inside
+pub no_slash : (inside : List ℕ) → NoSlash false inside
 no_slash [] = tt
 no_slash (b ∷ bs) = refl
 

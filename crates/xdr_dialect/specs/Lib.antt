@@ -6,6 +6,7 @@ pub mod Spots
 pub mod Blanks
 pub mod Directives
 pub mod Plain
+pub mod Lines
 pub mod Tests
 pub mod Scopes
 pub mod Rewriting

@@ -27,6 +27,6 @@ mod standing;
 mod turn;
 
 pub use identifier::is_identifier;
-pub use laws::{constructs_are, texts_stay, tokens_stay};
+pub use laws::{constructs_are, lines_are, texts_stay, tokens_stay};
 pub use plain::plain_text;
 pub use rewriting::meant_tokens;
