@@ -80,7 +80,7 @@ no_value kinds place limits text j out e only none t s =
     none t [] s.within
     (ap (λ (z : List ℕ). z ++ []) (only (bytes_of kinds place t) (spelled_bytes kinds place limits text j t e s)))
 
--- why they are refused: for want of memory, or since there is no value
+-- why they are refused: memory was refused, or there is no value
 pub refused_bytes : (kinds : List KindView) (place : ℕ) (limits : Bounds) (text : List ℕ) (j : Json) (out : List ℕ)
     (w : Reason) (v : JsonReason) → (w ≡ reason.NoMemory → v ≡ NoMemory) → json_text text ≡ Some j
     → ((bs : List ℕ) → Means kinds ((place, j) ∷ []) bs → bs ≡ out)

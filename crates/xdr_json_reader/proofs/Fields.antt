@@ -15,7 +15,7 @@ use Rattle.xdr_types.specs.Faults.{part_twice}
 use Rattle.xdr_json.specs.Spelled.{count, has_key, at_key, has_each}
 use Rattle.xdr_json_reader.specs.Tape.{json_in, members_of}
 use Rattle.xdr_json_reader.specs.Private.Look.{pairs}
-use Rattle.xdr_json_reader.specs.Private.Pending.{Due, each}
+use Rattle.xdr_json_reader.specs.Nodes.{Due, each}
 use Rattle.xdr_json_reader.specs.Private.Entries.{dues, due_of}
 use Rattle.xdr_json_reader.specs.Private.Fields.{keys, nodes, names, at_each, Finds}
 use Rattle.xdr_json_reader.specs.declared.reading_entry.Entry.{Entry}

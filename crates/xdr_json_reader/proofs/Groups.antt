@@ -20,10 +20,15 @@ use Rattle.xdr_types.specs.Faults.{is_void}
 use Rattle.xdr_json.specs.Spelled.{is_list, list_of, is_group, is_choice, is_present, is_null, is_tag_json}
 use Rattle.xdr_json.specs.Spelled.{is_empty, count, has_key, has_each, at_key}
 use Rattle.xdr_json.specs.Spelled.{arm_keys, under_arm, under_present}
-use Rattle.xdr_json_reader.specs.Private.Pending.{Due, each, ShowsNone, Took}
-use Rattle.xdr_json_reader.specs.Private.Groups.{is_maybe, has_arm_alone, ReadAmong, PresentPut}
+use Rattle.xdr_json_reader.specs.Nodes.{Due, each, ShowsNone}
+use Rattle.xdr_json_reader.specs.Private.Pending.{Took}
+use Rattle.xdr_json_reader.specs.Reasons.{Wrong, IsOfMembers, has_arm_alone, ChoiceTells}
+use Rattle.xdr_json_reader.specs.Reasons.{list_reason, tag_reason}
+use Rattle.xdr_json_reader.specs.Reasons as reasons
+use Rattle.xdr_json_reader.specs.Private.Groups.{is_maybe, ReadAmong, PresentPut}
 use Rattle.xdr_json.proofs.Once.{AreApart, one_tag}
 use Rattle.xdr_json_reader.specs.declared.fault.JsonReason.{JsonReason}
+use Rattle.xdr_json_reader.specs.declared.fault.JsonReason.TheVariants as why
 
 pub list_is : (js : List Json) → list_of (items_of js) ≡ js
 list_is [] = refl
@@ -352,6 +357,99 @@ arm_missing kinds p ms key e is none =
     ∙ and_right (count ms == 2) (has_key ms (arm_key p.name) && true)
     (and_left (has_key ms (arm_key p.name)) true (ap (has_key ms) (sym is) ∙ none))
 
+pub no_choice_object : (kinds : List KindView) (tag : ℕ) (arms : List Branch) (other : Option Part) (j : Json)
+    → ((z : ℤ) (ps : List Part) → is_choice kinds (kind_at kinds tag) z ps j ≡ true → ⊥)
+    → ShowsNone kinds (xdr.choice tag arms other) j
+no_choice_object kinds tag arms other j none =
+    no_choice kinds tag arms other j (λ z legal some h. none z (optional_part (part_of arms other z)) h)
+
+-- ---- the reasons
+
+pub bad_fixed : (place size : ℕ) (js : List Json) → (length js ≡ size → ⊥) → (kinds : List KindView)
+    → Wrong kinds (xdr.fixed place size) (json.array (items_of js)) why.WrongLength
+bad_fixed place size js other kinds = record { none = no_fixed place size js other kinds; tells = refl }
+
+pub bad_form_fixed : (place size : ℕ) (j : Json) → NoArray j → why.WrongType ≡ list_reason j → (kinds : List KindView)
+    → Wrong kinds (xdr.fixed place size) j why.WrongType
+bad_form_fixed place size j none is kinds = record { none = no_array_fixed place size j none kinds; tells = is }
+
+pub bad_up_to : (place max : ℕ) (js : List Json) → (is_length max (length js) ≡ true → ⊥) → (kinds : List KindView)
+    → Wrong kinds (xdr.up_to place max) (json.array (items_of js)) why.WrongLength
+bad_up_to place max js other kinds = record { none = no_up_to place max js other kinds; tells = refl }
+
+pub bad_form_up_to : (place max : ℕ) (j : Json) → NoArray j → why.WrongType ≡ list_reason j → (kinds : List KindView)
+    → Wrong kinds (xdr.up_to place max) j why.WrongType
+bad_form_up_to place max j none is kinds = record { none = no_array_up_to place max j none kinds; tells = is }
+
+pub bad_brackets : (kinds : List KindView) (place : ℕ) (js : List Json) → is_maybe (kind_at kinds place) ≡ true
+    → (length js ≡ 1 → ⊥) → Wrong kinds (xdr.maybe place) (json.array (items_of js)) why.WrongLength
+bad_brackets kinds place js bracketed other =
+    record { none = not_one kinds place js bracketed other; tells = refl }
+
+pub bad_form_maybe : (kinds : List KindView) (place : ℕ) (j : Json) → is_maybe (kind_at kinds place) ≡ true
+    → NoArray j → is_null j ≡ false → why.WrongType ≡ list_reason j → Wrong kinds (xdr.maybe place) j why.WrongType
+bad_form_maybe kinds place j bracketed none some is =
+    record { none = no_brackets kinds place j bracketed none some; tells = is }
+
+pub bad_count : (ps : List Part) (ms : Members) (w : JsonReason) → (count ms ≡ length ps → ⊥) → IsOfMembers w
+    → (kinds : List KindView) → Wrong kinds (xdr.structure ps) (json.object ms) w
+bad_count ps ms w other tells kinds = record { none = other_count ps ms other kinds; tells = tells }
+
+pub bad_each : (ps : List Part) (ms : Members) (w : JsonReason) → has_each ps ms ≡ false → IsOfMembers w
+    → (kinds : List KindView) → Wrong kinds (xdr.structure ps) (json.object ms) w
+bad_each ps ms w none tells kinds = record { none = not_each ps ms none kinds; tells = tells }
+
+pub bad_form_group : (ps : List Part) (j : Json) → (is_group ps j ≡ true → ⊥) → (kinds : List KindView)
+    → reasons.NodeTells kinds (xdr.structure ps) j why.WrongType → Wrong kinds (xdr.structure ps) j why.WrongType
+bad_form_group ps j none kinds tells = record { none = no_group ps j none kinds; tells = tells }
+
+pub bad_form_choice : (kinds : List KindView) (tag : ℕ) (arms : List Branch) (other : Option Part) (j : Json)
+    → ((z : ℤ) (ps : List Part) → is_choice kinds (kind_at kinds tag) z ps j ≡ true → ⊥)
+    → reasons.NodeTells kinds (xdr.choice tag arms other) j why.WrongType
+    → Wrong kinds (xdr.choice tag arms other) j why.WrongType
+bad_form_choice kinds tag arms other j none tells =
+    record { none = no_choice_object kinds tag arms other j none; tells = tells }
+
+pub tells_no_case : (kinds : List KindView) (tag : ℕ) (arms : List Branch) (other : Option Part) (ms : Members)
+    → has_key ms case_key ≡ false → Wrong kinds (xdr.choice tag arms other) (json.object ms) why.MissingMember
+tells_no_case kinds tag arms other ms none =
+    record { none = no_case kinds tag arms other ms none; tells = reasons.no_case none }
+
+pub tells_bad_case : (kinds : List KindView) (tag : ℕ) (arms : List Branch) (other : Option Part) (ms : Members)
+    (w : JsonReason) → has_key ms case_key ≡ true
+    → ((z : ℤ) → is_tag_of (kind_at kinds tag) z ≡ true → is_tag_json (kind_at kinds tag) z (at_key ms case_key) ≡ true
+    → ⊥) → w ≡ tag_reason (kind_at kinds tag) (at_key ms case_key)
+    → Wrong kinds (xdr.choice tag arms other) (json.object ms) w
+tells_bad_case kinds tag arms other ms w named none is = record {
+  none = no_tag kinds tag arms other ms none;
+  tells = subst (λ (x : JsonReason). ChoiceTells kinds (kind_at kinds tag) arms other ms x) (sym is)
+      (reasons.bad_case named (λ z t. none z t.legal t.shown));
+}
+
+pub tells_no_arm : (kinds : List KindView) → AreApart kinds → (tag : ℕ) (arms : List Branch) (other : Option Part)
+    (ms : Members) (z : ℤ) → has_key ms case_key ≡ true → is_tag_of (kind_at kinds tag) z ≡ true
+    → is_tag_json (kind_at kinds tag) z (at_key ms case_key) ≡ true → part_of arms other z ≡ None
+    → Wrong kinds (xdr.choice tag arms other) (json.object ms) why.NoArm
+tells_no_arm kinds apart tag arms other ms z named legal shown none = record {
+  none = no_arm kinds apart tag arms other ms z legal shown none;
+  tells = reasons.no_arm named z (record { legal = legal; shown = shown }) none;
+}
+
+pub tells_bad_arm : (kinds : List KindView) → AreApart kinds → (tag : ℕ) (arms : List Branch) (other : Option Part)
+    (ms : Members) (z : ℤ) (p : Part) (w : JsonReason) → has_key ms case_key ≡ true
+    → is_tag_of (kind_at kinds tag) z ≡ true → is_tag_json (kind_at kinds tag) z (at_key ms case_key) ≡ true
+    → part_of arms other z ≡ Some p → has_arm_alone kinds p ms ≡ false → IsOfMembers w
+    → Wrong kinds (xdr.choice tag arms other) (json.object ms) w
+tells_bad_arm kinds apart tag arms other ms z p w named legal shown is alone tells = record {
+  none = other_arm kinds apart tag arms other ms z p legal shown is alone;
+  tells = reasons.bad_arm named z (record { legal = legal; shown = shown }) p is alone w tells;
+}
+
+pub wrong_as : (kinds : List KindView) (f g : KindView) (j k : Json) (w : JsonReason) → g ≡ f → j ≡ k
+    → Wrong kinds f j w → Wrong kinds g k w
+wrong_as kinds f g j k w e i h =
+    subst (λ (x : Json). Wrong kinds g x w) i (subst (λ (x : KindView). Wrong kinds x j w) (sym e) h)
+
 -- ---- the same of a kind that is known by its place
 
 pub shown_as : (kinds : List KindView) (f g : KindView) (j : Json) → g ≡ f → ShowsNone kinds f j → ShowsNone kinds g j
@@ -364,12 +462,6 @@ mapped_some f o m r e is = sym is ∙ ap (option_map f) e
 pub mapped_none : {M : Type 0} (f : M → Part) (o : Option M) (r : Option Part) → o ≡ None → option_map f o ≡ r
     → r ≡ None
 mapped_none f o r e is = sym is ∙ ap (option_map f) e
-
-pub no_choice_object : (kinds : List KindView) (tag : ℕ) (arms : List Branch) (other : Option Part) (j : Json)
-    → ((z : ℤ) (ps : List Part) → is_choice kinds (kind_at kinds tag) z ps j ≡ true → ⊥)
-    → ShowsNone kinds (xdr.choice tag arms other) j
-no_choice_object kinds tag arms other j none =
-    no_choice kinds tag arms other j (λ z legal some h. none z (optional_part (part_of arms other z)) h)
 
 pub not_some : {M : Type 0} (o : Option M) → ((m : M) → o ≡ Some m → ⊥) → o ≡ None
 not_some None none = refl

@@ -7,6 +7,8 @@ pub mod Leaves
 pub mod Groups
 pub mod Fields
 pub mod Answered
+pub mod Limits
+pub mod Telling
 pub mod Nodes
 pub mod Trees
 pub mod Lines

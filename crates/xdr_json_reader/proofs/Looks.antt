@@ -22,7 +22,8 @@ use Rattle.std.proofs.lemmas.Slice.Eq.{bytes_eq-Decides}
 use Rattle.json.specs.Json as json
 use Rattle.json.specs.Json.{Json, Members}
 use Rattle.xdr_types.specs.Fits.{is_signed, is_constant, is_numbered}
-use Rattle.xdr_types.specs.Kinds.{KindView, Part, Constant}
+use Rattle.xdr_types.specs.Kinds as xdr
+use Rattle.xdr_types.specs.Kinds.{KindView, Part, Branch, Constant}
 use Rattle.xdr_json_reader.specs.Tape.{json_in, members_of}
 use Rattle.xdr_json_reader.specs.Private.Look.{pairs}
 use Rattle.xdr_json_reader.specs.declared.tape.Key.{Key}
@@ -31,7 +32,10 @@ use Rattle.xdr_json.specs.Spelled.{is_flag, is_hex, is_text, is_numbered_json, i
 use Rattle.xdr_json.specs.Spelled.{is_choice, is_null, is_name}
 use Rattle.xdr_json.specs.Spelled.{is_decimal_of, is_number}
 use Rattle.xdr_json_reader.specs.Private.Look.{seen}
+use Rattle.xdr_json_reader.specs.Reasons.{number_reason, name_reason, hex_reason, text_reason, list_reason, void_reason}
+use Rattle.xdr_json_reader.specs.Reasons.{NodeTells}
 use Rattle.xdr_json_reader.specs.declared.fault.JsonReason.{JsonReason}
+use Rattle.xdr_json_reader.specs.declared.fault.JsonReason.TheVariants.{WrongType}
 use Rattle.xdr_json_reader.specs.declared.reading_look.Shape.{Shape}
 use Rattle.xdr_json_reader.specs.declared.reading_look.Shape.TheVariants as look
 use Rattle.xdr_json.proofs.Numerals.{IsSmall, one_decimal}
@@ -139,6 +143,51 @@ pub no_number : (l : Shape) (z : ℤ) → ((s : Bor (List ℕ)) → l ≡ look.N
 no_number (look.Number s) z p q h = p s refl
 no_number (look.Text s) z p q h = q s refl
 no_number _ z p q h = false≢true h
+
+-- ---- the reason where the JSON is of another form
+
+pub number_form : (l : Shape) → ((s : Bor (List ℕ)) → l ≡ look.Number s → ⊥)
+    → ((s : Bor (List ℕ)) → l ≡ look.Text s → ⊥) → WrongType ≡ number_reason (seen l)
+number_form (look.Number s) p q = absurd (p s refl)
+number_form (look.Text s) p q = absurd (q s refl)
+number_form _ p q = refl
+
+pub name_form : (l : Shape) → ((s : Bor (List ℕ)) → l ≡ look.Text s → ⊥)
+    → ((s : Bor (List ℕ)) → l ≡ look.Number s → ⊥) → WrongType ≡ name_reason (seen l)
+name_form (look.Text s) p q = absurd (p s refl)
+name_form (look.Number s) p q = absurd (q s refl)
+name_form _ p q = refl
+
+pub hex_form : (l : Shape) → ((s : Bor (List ℕ)) → l ≡ look.Text s → ⊥) → WrongType ≡ hex_reason (seen l)
+hex_form (look.Text s) p = absurd (p s refl)
+hex_form _ p = refl
+
+pub text_form : (l : Shape) → ((s : Bor (List ℕ)) → l ≡ look.Text s → ⊥)
+    → ((v : Bor (Vec (Key × Node) Global)) → l ≡ look.Object v → ⊥) → WrongType ≡ text_reason (seen l)
+text_form (look.Text s) p q = absurd (p s refl)
+text_form (look.Object v) p q = absurd (q v refl)
+text_form _ p q = refl
+
+pub list_form : (l : Shape) → ((v : Bor (Vec Node Global)) → l ≡ look.Array v → ⊥) → WrongType ≡ list_reason (seen l)
+list_form (look.Array v) p = absurd (p v refl)
+list_form _ p = refl
+
+pub void_form : (l : Shape) → ((v : Bor (Vec (Key × Node) Global)) → l ≡ look.Object v → ⊥)
+    → WrongType ≡ void_reason (seen l)
+void_form (look.Object v) p = absurd (p v refl)
+void_form _ p = refl
+
+pub group_form : (l : Shape) (kinds : List KindView) (ps : List Part)
+    → ((v : Bor (Vec (Key × Node) Global)) → l ≡ look.Object v → ⊥)
+    → NodeTells kinds (xdr.structure ps) (seen l) WrongType
+group_form (look.Object v) kinds ps p = absurd (p v refl)
+group_form _ kinds ps p = refl
+
+pub choice_form : (l : Shape) (kinds : List KindView) (tag : ℕ) (arms : List Branch) (other : Option Part)
+    → ((v : Bor (Vec (Key × Node) Global)) → l ≡ look.Object v → ⊥)
+    → NodeTells kinds (xdr.choice tag arms other) (seen l) WrongType
+choice_form (look.Object v) kinds tag arms other p = absurd (p v refl)
+choice_form _ kinds tag arms other p = refl
 
 -- ---- ranges
 

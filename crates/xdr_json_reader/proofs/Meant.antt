@@ -15,7 +15,8 @@ use Rattle.xdr_types.specs.Spelling.{own, spelling, bytes_of}
 use Rattle.xdr_json.specs.Spelled.{shows, under, spell, spells, is_list, list_of, under_list, under_fields}
 use Rattle.xdr_json.specs.Spelled.{under_arm, under_present, is_present, is_group}
 use Rattle.xdr_json.specs.Spelled.{is_choice, at_key}
-use Rattle.xdr_json_reader.specs.Private.Pending.{Due, each, Shows, ShowsNone, Means, all, one, Stands, Took}
+use Rattle.xdr_json_reader.specs.Nodes.{Due, each, Shows, ShowsNone}
+use Rattle.xdr_json_reader.specs.Private.Pending.{Means, all, one, Stands, Took}
 use Rattle.xdr_json.proofs.Once.{AreApart, one_head}
 
 -- ---- as many JSON values as parts

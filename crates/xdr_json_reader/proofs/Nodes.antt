@@ -1,18 +1,20 @@
 -- A node for a kind of a schema: from what becomes of its form to what becomes of it at its place.
 use Rattle.std.proofs.Common.{◌≡◌, ℕ, ℤ, ◌≤◌, inl, inr, List, ◌∷◌, ◌++◌, length, ap}
-use Rattle.std.proofs.Common.{sym, ◌∙◌, subst}
+use Rattle.std.proofs.Common.{sym, ◌∙◌, subst, refl}
 use Rattle.std.proofs.Common.{Result, Ok, Err, MatchResult}
 use Rattle.std.proofs.lemmas.Bool.{false≢true}
 use Rattle.json.specs.Json.{Json}
 use Rattle.xdr_types.specs.Kinds.{KindView, kind_at}
 use Rattle.xdr_units.specs.Numbers.{num4}
 use Rattle.xdr_json.specs.Spelled.{under}
-use Rattle.xdr_json_reader.specs.Private.Pending.{Due, each, ShowsNone, Took}
+use Rattle.xdr_json_reader.specs.Nodes.{Due, each}
+use Rattle.xdr_json_reader.specs.Reasons.{Wrong, tag_reason}
+use Rattle.xdr_json_reader.specs.Private.Pending.{Took}
 use Rattle.xdr_json_reader.specs.Private.Leaves.{LeafRead}
 use Rattle.xdr_json_reader.specs.Private.Groups.{NodeRead, ReadAmong, ReadAt, Placed}
 use Rattle.xdr_json_reader.specs.declared.fault.JsonFault.{JsonFault}
 use Rattle.xdr_json_reader.specs.declared.fault.JsonReason.{JsonReason}
-use Rattle.xdr_json_reader.specs.declared.fault.JsonReason.TheVariants.{NoMemory}
+use Rattle.xdr_json_reader.specs.declared.fault.JsonReason.TheVariants.{NoMemory, WrongType}
 use Rattle.xdr_json.proofs.Apart.{outside}
 
 move : {A : Type 0} (kinds : List KindView) (f g : KindView) (j k : Json) (out new : List ℕ) (due next : List Due)
@@ -30,7 +32,8 @@ among_at kinds f g j k out new due next (Ok x) (Err w) e i h p = absurd p
 among_at kinds f g j k out new due next (Err w) (Ok y) e i h p = absurd p
 among_at {A} {B} kinds f g j k out new due next (Err w) (Err v) e i (inl m) p = inl (p ∙ m)
 among_at {A} {B} kinds f g j k out new due next (Err w) (Err v) e i (inr n) p =
-    inr (subst (λ (x : Json). ShowsNone kinds g x) i (subst (λ (x : KindView). ShowsNone kinds x j) (sym e) n))
+    inr (subst (λ (x : JsonReason). Wrong kinds g k x) (sym p)
+    (subst (λ (x : Json). Wrong kinds g x w) i (subst (λ (x : KindView). Wrong kinds x j w) (sym e) n)))
 
 node_among : {A : Type 0} (kinds : List KindView) (f : KindView) (j : Json) (out new : List ℕ) (due next : List Due)
     (r : Result A JsonReason) → NodeRead f j out new due next r → ReadAmong kinds f j out new due next r
@@ -62,9 +65,16 @@ leaf_at kinds f g j k out new due r s e i h p =
     among_at kinds f g j k out new due due r s e i (leaf_among kinds f j out new due r h) p
 
 pub unknown_at : (kinds : List KindView) (place : ℕ) (j : Json) → length kinds ≤ place
-    → ShowsNone kinds (kind_at kinds place) j
+    → Wrong kinds (kind_at kinds place) j WrongType
 unknown_at kinds place j h =
-    subst (λ (f : KindView). ShowsNone kinds f j) (sym (outside kinds place h)) (λ head s. false≢true s.legal)
+    subst (λ (f : KindView). Wrong kinds f j WrongType) (sym (outside kinds place h))
+    (record { none = λ head s. false≢true s.legal; tells = refl })
+
+-- a discriminant of no kind
+pub unknown_tag : (kinds : List KindView) (place : ℕ) (j : Json) → length kinds ≤ place
+    → WrongType ≡ tag_reason (kind_at kinds place) j
+unknown_tag kinds place j h =
+    subst (λ (f : KindView). WrongType ≡ tag_reason f j) (sym (outside kinds place h)) refl
 
 pub took_as : (kinds : List KindView) (f g : KindView) (j k : Json) (out new : List ℕ) (due next : List Due) → g ≡ f
     → j ≡ k → Took kinds f j out new due next → Took kinds g k out new due next

@@ -18,7 +18,8 @@ use Rattle.xdr_json.specs.Mapping.{case_key, arm_key}
 use Rattle.xdr_json.specs.Spelled.{count, has_key, at_key, has_each, is_list, list_of, is_group, is_choice}
 use Rattle.xdr_json.specs.Spelled.{is_present, is_tag_json}
 use Rattle.xdr_json.specs.Spelled.{arm_keys, under, under_list, under_fields, under_arm, under_present}
-use Rattle.xdr_json_reader.specs.Private.Pending.{Due, each, Shows, Took, size, items_size, members_size}
+use Rattle.xdr_json_reader.specs.Nodes.{Due, each, Shows}
+use Rattle.xdr_json_reader.specs.Private.Pending.{Took, size, items_size, members_size}
 use Rattle.xdr_json_reader.specs.Private.Pending.{is_optional, work}
 use Rattle.xdr_json.proofs.Once.{AreApart}
 

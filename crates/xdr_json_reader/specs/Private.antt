@@ -10,3 +10,4 @@ pub mod Groups
 pub mod Chosen
 pub mod Fields
 pub mod Names
+pub mod Limited

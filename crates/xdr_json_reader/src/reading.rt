@@ -3,8 +3,9 @@ ghost use Rattle.std.specs.Prelude.{◌≡◌, ◌<◌, ◌≤◌, ◌⊎◌, le
 ghost use Rattle.xdr_types.specs.Tree.{Tree};
 ghost use Rattle.xdr_types.specs.View.{tree};
 ghost use Rattle.xdr_json.specs.Text.{IsSpelling, SpellsNone};
+ghost use Rattle.xdr_json_reader.specs.Reasons.{Tells};
+ghost use Rattle.xdr_json_reader.specs.Private.Limited.{limit_reason};
 ghost use Rattle.xdr_json_reader.specs.declared.fault.JsonReason.TheVariants.{NoMemory};
-ghost use Rattle.xdr_stream.specs.declared.fault.Reason.TheVariants as reason;
 
 use crate::fault::{JsonFault, JsonReason};
 use crate::reading_tree::bytes_in;
@@ -22,9 +23,9 @@ use xdr_types::{KindId, Limits, Schema, Value};
 ///
 /// Members come in any order, spaces and escapes as RFC 8259 has them. An enumeration's number is a name or the number,
 /// a number is a JSON number or a string, and hexadecimal is in either case. A fault other than `NoMemory` says that
-/// the text spells no value of the kind within the limits. `at` is at most the count of the text's bytes. Which reason
-/// is told, and that the place is where the refused value or key begins, is tested and no clause says it. For `TooDeep`
-/// and `TooLarge` it may be the text's end.
+/// the text spells no value of the kind within the limits. `at` is at most the count of the text's bytes. Which of
+/// several reasons is told, which member is missing, unknown or twice, and that the place is where the refused value or
+/// key begins, is tested and no clause says it. For `TooDeep` and `TooLarge` it may be the text's end.
 ///
 /// No call recurses, whatever the text; the drop of what was read does, one level a call, at most 4096. Memory is of
 /// the size of the text, and nothing is reserved by a declared count.
@@ -45,8 +46,11 @@ pub fn read_json(
         ⊎ SpellsNone schema.now.kinds kind.place limits text.now) }
     // and the place lies in the text.
     ensures place { IfErr result (λ f. f.at ≤ length text.now) }
+    // The reason is right of the text.
+    ensures why { IfErr result (λ f. Tells schema.now.kinds kind.place limits text.now f.why) }
 {
     let _known = schema.len();
+    let _in_range = limits.depth();
     each_spells_one_value();
     each_spelling_is_one_value();
     let checked = match from_utf8(text) {
@@ -82,7 +86,7 @@ pub fn read_json(
 
 // Why the value's bytes are refused: they are those of a value, so only by a limit or an allocation failure.
 fn reason_of(fault: DecodeFault) -> JsonReason
-    ensures { fault.why ≡ reason.NoMemory → result ≡ NoMemory }
+    ensures { result ≡ limit_reason fault.why }
 {
     match fault.why {
         Reason::TooDeep => JsonReason::TooDeep,

@@ -6,6 +6,7 @@ ghost use Rattle.xdr_types.specs.Fits.{are_bytes};
 ghost use Rattle.xdr_json.specs.Mapping.{hex_key};
 ghost use Rattle.xdr_json.specs.Spelled.{is_hex, count, has_key, at_key};
 ghost use Rattle.xdr_json_reader.specs.Tape.{json_in, members_of};
+ghost use Rattle.xdr_json_reader.specs.Reasons.{hex_reason};
 ghost use Rattle.xdr_json_reader.specs.Private.Look.{seen, pairs};
 ghost use Rattle.xdr_json_reader.specs.Private.Leaves.{LeafRead, TextRead};
 ghost use Rattle.xdr_json_reader.specs.declared.fault.JsonReason.TheVariants.{NoMemory};
@@ -30,6 +31,7 @@ fn hex_content(alloc: Global, json: Shape<'_, '_>) -> Result<Vec<u8>, JsonReason
     ensures found { IfOk result (λ v. is_hex v.items (seen json.entry) ≡ true) }
     ensures none { IfErr result
         (λ w. (w ≡ NoMemory) ⊎ ((bs : List ℕ) → is_hex bs (seen json.entry) ≡ true → ⊥)) }
+    ensures why { IfErr result (λ w. (w ≡ NoMemory) ⊎ (w ≡ hex_reason (seen json.entry))) }
 {
     match json {
         Shape::Text(text) => match hex::decode(alloc, text) {

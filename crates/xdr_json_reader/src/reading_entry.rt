@@ -2,7 +2,7 @@
 ghost use Rattle.std.specs.Prelude.{◌≡◌, ◌++◌, ◌∷◌, length, replicate, map, OnOk};
 ghost use Rattle.xdr_types.specs.Fits.{item_part};
 ghost use Rattle.xdr_json_reader.specs.Tape.{json_in};
-ghost use Rattle.xdr_json_reader.specs.Private.Pending.{each};
+ghost use Rattle.xdr_json_reader.specs.Nodes.{each};
 ghost use Rattle.xdr_json_reader.specs.Private.Entries.{dues};
 
 use crate::reading_names::Names;

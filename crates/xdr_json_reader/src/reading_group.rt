@@ -1,5 +1,5 @@
 //! Structures and void (RFC 4506 sections 4.14, 4.16).
-ghost use Rattle.std.specs.Prelude.{◌≡◌, ◌++◌, ℕ, List, length, map, true, false, OnOk, IfOk};
+ghost use Rattle.std.specs.Prelude.{◌≡◌, ◌⊎◌, ◌++◌, ℕ, List, length, map, true, false, OnOk, IfOk, IfSome};
 ghost use Rattle.std.specs.Bool.{MatchBool, OnTrue};
 ghost use Rattle.std.specs.BTreeMap.{get_by};
 ghost use Rattle.std.specs.Cmp.Lexicographic.{slice_cmp};
@@ -9,11 +9,13 @@ ghost use Rattle.xdr_types.specs.KindViews.{part_of_member};
 ghost use Rattle.xdr_types.specs.Faults.{part_twice};
 ghost use Rattle.xdr_json.specs.Spelled.{has_each};
 ghost use Rattle.xdr_json_reader.specs.Tape.{json_in, members_of};
+ghost use Rattle.xdr_json_reader.specs.Reasons.{IsOfMembers};
 ghost use Rattle.xdr_json_reader.specs.Private.Look.{pairs};
-ghost use Rattle.xdr_json_reader.specs.Private.Pending.{Due, each};
+ghost use Rattle.xdr_json_reader.specs.Nodes.{Due, each};
 ghost use Rattle.xdr_json_reader.specs.Private.Entries.{dues};
 ghost use Rattle.xdr_json_reader.specs.Private.Groups.{ReadAt};
 ghost use Rattle.xdr_json_reader.specs.Private.Fields.{keys, nodes, names, at_each, Finds};
+ghost use Rattle.xdr_json_reader.specs.declared.fault.JsonReason.TheVariants as reason;
 
 use crate::fault::{JsonFault, JsonReason};
 use crate::reading_entry::{Entry, push_node};
@@ -180,7 +182,9 @@ fn fault_in(
     fields: &Vec<Member>,
     members: &Vec<(Key<'_>, Node<'_>)>,
     at: usize,
-) -> JsonFault {
+) -> JsonFault
+    ensures { (result.why ≡ reason.NoMemory) ⊎ IsOfMembers result.why }
+{
     let missing = JsonFault {
         why: JsonReason::MissingMember,
         at,
@@ -199,7 +203,9 @@ fn first_fault(
     alloc: Global,
     fields: &Vec<Member>,
     members: &Vec<(Key<'_>, Node<'_>)>,
-) -> Result<Option<JsonFault>, NoMemory> {
+) -> Result<Option<JsonFault>, NoMemory>
+    ensures { IfOk result (λ o. IfSome o (λ f. IsOfMembers f.why)) }
+{
     let mut stood: BTreeMap<&str, bool> = BTreeMap::new(alloc);
     for field in fields {
         stood.insert(field.name.as_str(), false)?;

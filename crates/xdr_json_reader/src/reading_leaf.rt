@@ -5,6 +5,7 @@ ghost use Rattle.xdr_types.specs.Fits.{is_signed};
 ghost use Rattle.xdr_json.specs.Spelled.{is_flag};
 ghost use Rattle.xdr_json_reader.specs.Private.Look.{seen};
 ghost use Rattle.xdr_json_reader.specs.Private.Leaves.{LeafRead};
+ghost use Rattle.xdr_json_reader.specs.declared.fault.JsonReason.TheVariants.{WrongType};
 
 use crate::fault::JsonReason;
 use crate::reading_bytes::{put_flag, put_hyper, put_int, put_unsigned, put_unsigned_hyper};
@@ -77,6 +78,7 @@ pub fn read_unsigned_hyper(json: Shape<'_, '_>, out: &mut Vec<u8>) -> Result<(),
 pub fn flag(json: Shape<'_, '_>) -> Result<bool, JsonReason>
     ensures found { IfOk result (λ b. is_flag b (seen json.entry) ≡ true) }
     ensures none { IfErr result (λ _. (b : Bool) → is_flag b (seen json.entry) ≡ true → ⊥) }
+    ensures why { IfErr result (λ w. w ≡ WrongType) }
 {
     match json {
         Shape::Flag(flag) => Ok(flag),

@@ -1,8 +1,10 @@
 //! Numbers that JSON spells: as a number, or as a string (RFC 4506 sections 4.1, 4.2, 4.5).
 ghost use Rattle.std.specs.Prelude.{◌≡◌, ◌<◌, ℕ, ℤ, pos, ◌^◌, true, false, Some, Ok, IfSome, IfOk, IfErr};
 ghost use Rattle.std.specs.Prelude.{MatchOption};
+ghost use Rattle.std.specs.List.{list_any};
 ghost use Rattle.xdr_types.specs.Fits.{is_signed};
 ghost use Rattle.xdr_json.specs.Spelled.{is_decimal_of, is_number};
+ghost use Rattle.xdr_json_reader.specs.Reasons.{is_mark, numeral_reason, number_reason};
 ghost use Rattle.xdr_json_reader.specs.Private.Look.{seen};
 
 use crate::fault::JsonReason;
@@ -35,29 +37,61 @@ fn unsigned_text(text: &str) -> Option<u64>
     (buffer.format(number) == text).then_some(number)
 }
 
-// Why a text is no number of the kind.
-fn reason(text: &str) -> JsonReason {
-    for byte in text.as_bytes() {
-        if matches!(*byte, b'.' | b'e' | b'E') {
-            return JsonReason::NotWhole;
+// Whether a byte begins a fraction or an exponent.
+fn is_fraction_or_exponent(byte: u8) -> bool
+    ensures { result ≡ is_mark byte }
+{
+    byte == b'.' || byte == b'e' || byte == b'E'
+}
+
+// Whether one of them does.
+fn has_fraction_or_exponent(bytes: &[u8]) -> bool
+    ensures { result ≡ list_any is_mark bytes.now }
+{
+    for byte in bytes {
+        if is_fraction_or_exponent(*byte) {
+            return true;
         }
     }
-    JsonReason::OutOfRange
+    false
+}
+
+// Why a text is no number of the kind.
+fn text_fault(text: &str) -> JsonReason
+    ensures { result ≡ numeral_reason text.now }
+{
+    if has_fraction_or_exponent(text.as_bytes()) {
+        JsonReason::NotWhole
+    } else {
+        JsonReason::OutOfRange
+    }
+}
+
+/// Why JSON is no number of a kind of numbers.
+pub fn number_fault(json: Shape<'_, '_>) -> JsonReason
+    ensures { result ≡ number_reason (seen json.entry) }
+{
+    match json {
+        Shape::Number(text) => text_fault(text),
+        Shape::Text(text) => text_fault(text),
+        _ => JsonReason::WrongType,
+    }
 }
 
 /// The number from -2^63 to 2^63 - 1.
 pub fn hyper_number(json: Shape<'_, '_>) -> Result<i64, JsonReason>
     ensures found { IfOk result (λ z. is_number z (seen json.entry) ≡ true) }
     ensures only { (z : ℤ) → is_signed (2 ^ 63) z ≡ true → is_number z (seen json.entry) ≡ true → result ≡ Ok z }
+    ensures why { IfErr result (λ w. w ≡ number_reason (seen json.entry)) }
 {
     match json {
         Shape::Number(text) => match signed_text(text) {
             Some(number) => Ok(number),
-            None => Err(reason(text)),
+            None => Err(text_fault(text)),
         },
         Shape::Text(text) => match signed_text(text) {
             Some(number) => Ok(number),
-            None => Err(reason(text)),
+            None => Err(text_fault(text)),
         },
         _ => Err(JsonReason::WrongType),
     }
@@ -67,15 +101,16 @@ pub fn hyper_number(json: Shape<'_, '_>) -> Result<i64, JsonReason>
 pub fn unsigned_hyper_number(json: Shape<'_, '_>) -> Result<u64, JsonReason>
     ensures found { IfOk result (λ n. is_number (pos n) (seen json.entry) ≡ true) }
     ensures only { (n : ℕ) → n < 2 ^ 64 → is_number (pos n) (seen json.entry) ≡ true → result ≡ Ok n }
+    ensures why { IfErr result (λ w. w ≡ number_reason (seen json.entry)) }
 {
     match json {
         Shape::Number(text) => match unsigned_text(text) {
             Some(number) => Ok(number),
-            None => Err(reason(text)),
+            None => Err(text_fault(text)),
         },
         Shape::Text(text) => match unsigned_text(text) {
             Some(number) => Ok(number),
-            None => Err(reason(text)),
+            None => Err(text_fault(text)),
         },
         _ => Err(JsonReason::WrongType),
     }
@@ -98,11 +133,12 @@ pub fn int_number(json: Shape<'_, '_>) -> Result<i32, JsonReason>
     ensures legal { IfOk result (λ z. is_signed (2 ^ 31) z ≡ true) }
     ensures none { IfErr result (λ _. (z : ℤ) → is_signed (2 ^ 31) z ≡ true → is_number z (seen json.entry) ≡ true
         → ⊥) }
+    ensures why { IfErr result (λ w. w ≡ number_reason (seen json.entry)) }
 {
     match hyper_number(json) {
         Ok(number) => match narrow(number) {
             Some(number) => Ok(number),
-            None => Err(JsonReason::OutOfRange),
+            None => Err(number_fault(json)),
         },
         Err(why) => Err(why),
     }
@@ -113,11 +149,12 @@ pub fn unsigned_number(json: Shape<'_, '_>) -> Result<u32, JsonReason>
     ensures found { IfOk result (λ n. is_number (pos n) (seen json.entry) ≡ true) }
     ensures legal { IfOk result (λ n. n < 2 ^ 32) }
     ensures none { IfErr result (λ _. (n : ℕ) → n < 2 ^ 32 → is_number (pos n) (seen json.entry) ≡ true → ⊥) }
+    ensures why { IfErr result (λ w. w ≡ number_reason (seen json.entry)) }
 {
     match unsigned_hyper_number(json) {
         Ok(number) => {
             if number > 4294967295 {
-                return Err(JsonReason::OutOfRange);
+                return Err(number_fault(json));
             }
             Ok(number as u32)
         }

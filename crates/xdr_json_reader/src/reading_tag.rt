@@ -4,6 +4,7 @@ ghost use Rattle.xdr_types.specs.Kinds.{numbered, kind_at};
 ghost use Rattle.xdr_types.specs.KindViews.{constant_of, kind_view};
 ghost use Rattle.xdr_types.specs.Fits.{is_numbered, is_constant, is_tag_of};
 ghost use Rattle.xdr_json.specs.Spelled.{is_name, is_numbered_json, is_tag_json};
+ghost use Rattle.xdr_json_reader.specs.Reasons.{name_reason, tag_reason};
 ghost use Rattle.xdr_json_reader.specs.Private.Look.{seen};
 ghost use Rattle.xdr_json_reader.specs.Private.Leaves.{LeafRead};
 ghost use Rattle.xdr_json_reader.specs.Private.Names.{NumberFound, MayBeTable, constants_in};
@@ -13,7 +14,7 @@ use crate::reading_bytes::put_int;
 use crate::reading_leaf::flag;
 use crate::reading_look::Shape;
 use crate::reading_names::Names;
-use crate::reading_number::{int_number, unsigned_number};
+use crate::reading_number::{int_number, number_fault, unsigned_number};
 use std::string::String;
 use xdr_types::{Kind, KindId, Schema, is_number_of};
 
@@ -51,6 +52,7 @@ fn member_number(
     ensures legal { IfOk result (λ z. is_numbered (map constant_of members.now.items) z ≡ true) }
     ensures none { IfErr result (λ _. (z : ℤ) → is_numbered (map constant_of members.now.items) z ≡ true
         → is_numbered_json (map constant_of members.now.items) z (seen json.entry) ≡ true → ⊥) }
+    ensures why { IfErr result (λ w. w ≡ name_reason (seen json.entry)) }
 {
     match json {
         Shape::Text(name) => match number_named(names, members, name) {
@@ -62,7 +64,7 @@ fn member_number(
                 if is_number_of(members, i64::from(number)) {
                     Ok(number)
                 } else {
-                    Err(JsonReason::OutOfRange)
+                    Err(number_fault(json))
                 }
             }
             Err(why) => Err(why),
@@ -102,6 +104,7 @@ fn tag_number(
     ensures legal { IfOk result (λ z. is_tag_of (kind_view kind.now) z ≡ true) }
     ensures none { IfErr result (λ _. (z : ℤ) → is_tag_of (kind_view kind.now) z ≡ true
         → is_tag_json (kind_view kind.now) z (seen json.entry) ≡ true → ⊥) }
+    ensures why { IfErr result (λ w. w ≡ tag_reason (kind_view kind.now) (seen json.entry)) }
 {
     match kind {
         Kind::Int => match int_number(json) {
@@ -136,6 +139,7 @@ pub fn tag_at(
     ensures legal { IfOk result (λ z. is_tag_of (kind_at schema.now.kinds id.place) z ≡ true) }
     ensures none { IfErr result (λ _. (z : ℤ) → is_tag_of (kind_at schema.now.kinds id.place) z ≡ true
         → is_tag_json (kind_at schema.now.kinds id.place) z (seen json.entry) ≡ true → ⊥) }
+    ensures why { IfErr result (λ w. w ≡ tag_reason (kind_at schema.now.kinds id.place) (seen json.entry)) }
 {
     if !schema.has(id) {
         return Err(JsonReason::WrongType);

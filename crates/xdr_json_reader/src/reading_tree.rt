@@ -27,7 +27,7 @@ pub fn bytes_in(
     kind: KindId,
     tree: &Node<'_>,
 ) -> Result<Vec<u8>, JsonFault>
-    ensures { BytesRead schema.now.kinds ((kind.place, json_in tree.now) ∷ []) result }
+    ensures { BytesRead schema.now.kinds (kind.place, json_in tree.now) result }
 {
     let members = Vec::new(alloc);
     let empty = Node::Object { members, at: 0 };
@@ -43,7 +43,7 @@ fn bytes_with<'v, 'a, 's>(
     empty: &'v Node<'a>,
 ) -> Result<Vec<u8>, JsonFault>
     requires { json_in empty.now ≡ object no_members }
-    ensures { BytesRead schema.now.kinds ((kind.place, json_in tree.now) ∷ []) result }
+    ensures { BytesRead schema.now.kinds (kind.place, json_in tree.now) result }
 {
     let _known = schema.len();
     let mut out = Vec::new(alloc);

@@ -7,12 +7,12 @@ ghost use Rattle.xdr_units.specs.Numbers.{num4};
 ghost use Rattle.xdr_types.specs.Faults.{is_void};
 ghost use Rattle.xdr_json.specs.Mapping.{arm_key};
 ghost use Rattle.xdr_json_reader.specs.Tape.{json_in, members_of};
+ghost use Rattle.xdr_json_reader.specs.Reasons.{IsOfMembers, Wrong};
 ghost use Rattle.xdr_json_reader.specs.Private.Look.{pairs};
 ghost use Rattle.xdr_json_reader.specs.Private.Entries.{dues};
 ghost use Rattle.xdr_json_reader.specs.Private.Groups.{ArmRead, ReadAt};
 ghost use Rattle.xdr_json_reader.specs.Private.Chosen.{IsChosen};
 ghost use Rattle.xdr_json_reader.specs.Private.Names.{MayBeTable, constants_in};
-ghost use Rattle.xdr_json_reader.specs.Private.Pending.{ShowsNone};
 ghost use Rattle.xdr_json_reader.specs.declared.fault.JsonReason.TheVariants.{NoMemory};
 
 use crate::fault::{JsonFault, JsonReason};
@@ -39,7 +39,9 @@ fn is_nothing(schema: &Schema, id: KindId) -> bool
 
 // The first fault in the order of the text: a member with neither of two keys, or a key that stands twice; else one is
 // missing, of the object at a place.
-fn fault_among(members: &Vec<(Key<'_>, Node<'_>)>, key: &str, at: usize) -> JsonFault {
+fn fault_among(members: &Vec<(Key<'_>, Node<'_>)>, key: &str, at: usize) -> JsonFault
+    ensures { IsOfMembers result.why }
+{
     let mut has_case = false;
     let mut has_arm = false;
     for member in members {
@@ -131,8 +133,8 @@ fn chosen_arm<'v, 'a>(
     ensures { MatchResult result
         (λ c. IsChosen schema.now.kinds among.entry.tag.place (map branch_of among.entry.arms.now.items)
         (option_map part_of_member among.entry.other.now) (members_of (pairs members.now.items)) c)
-        (λ _. ShowsNone schema.now.kinds (kind_at schema.now.kinds among.entry.id.place)
-        (object (members_of (pairs members.now.items)))) }
+        (λ f. Wrong schema.now.kinds (kind_at schema.now.kinds among.entry.id.place)
+        (object (members_of (pairs members.now.items))) f.why) }
 {
     let _known = schema.len();
     let Some(case) = member_at(members, "case") else {

@@ -1,13 +1,15 @@
 //! A text as a tree: the values that are open lie in a list, so that no call recurses.
-ghost use Rattle.std.specs.Prelude.{◌≡◌, ◌⊎◌, ◌<◌, ◌≤◌, List, length, Some, None, IfOk, IfErr, OnOk, MatchResult};
+ghost use Rattle.std.specs.Prelude.{◌≡◌, ◌⊎◌, ◌<◌, ◌≤◌, suc, List, length, Some, None, IfOk, IfErr, OnOk};
+ghost use Rattle.std.specs.Prelude.{MatchResult};
 ghost use Rattle.json.specs.Json.{value, if_last};
 ghost use Rattle.json.specs.Token.{Token};
 ghost use Rattle.xdr_json_reader.specs.Private.Begun.{Goes};
 ghost use Rattle.xdr_json.specs.Text.{json_text};
+ghost use Rattle.xdr_json_reader.specs.Reasons.{nested_text};
 ghost use Rattle.xdr_json_reader.specs.Tape.{json_in};
-ghost use Rattle.xdr_json_reader.specs.Private.Steps.{AreFew, Steps, Closes, Opens, Puts};
+ghost use Rattle.xdr_json_reader.specs.Private.Steps.{AreFew, Deep, Steps, NoneRead, Closes, Opens, Puts};
 ghost use Rattle.xdr_json_reader.specs.Private.Frames.{made, frame_of};
-ghost use Rattle.xdr_json_reader.specs.declared.fault.JsonReason.TheVariants.{NoMemory};
+ghost use Rattle.xdr_json_reader.specs.declared.fault.JsonReason.TheVariants.{NoMemory, TooDeep};
 
 use crate::fault::{JsonFault, JsonReason};
 use crate::tape::{Key, Node};
@@ -23,7 +25,7 @@ pub fn read_tree<'a>(
     scratch: &'a mut Scratch,
 ) -> Result<Node<'a>, JsonFault>
     ensures ok { IfOk result (λ n. json_text text.now ≡ Some (json_in n)) }
-    ensures refused { IfErr result (λ f. (f.why ≡ NoMemory) ⊎ (json_text text.now ≡ None)) }
+    ensures refused { IfErr result (λ f. NoneRead f.why (λ d. nested_text (suc d) text.now ≡ None)) }
     ensures place { IfErr result (λ f. f.at ≤ length text.now) }
 {
     let Ok(mut reader) = Reader::new(text, scratch) else {
@@ -52,8 +54,8 @@ pub fn read_tree<'a>(
 
 /// The value that begins with the next token. Values nest at most 4096 deep.
 pub fn read_value<'a>(alloc: Global, reader: &mut Reader<'a>) -> Result<Node<'a>, JsonFault>
-    ensures ok { IfOk result (λ n. value 4096 reader.old ≡ Some (json_in n, reader.new)) }
-    ensures refused { IfErr result (λ f. (f.why ≡ NoMemory) ⊎ (value 4096 reader.old ≡ None)) }
+    ensures ok { IfOk result (λ n. Deep (λ d. value (suc d) reader.old ≡ Some (json_in n, reader.new))) }
+    ensures refused { IfErr result (λ f. NoneRead f.why (λ d. value (suc d) reader.old ≡ None)) }
 {
     let key = Key { name: "", at: 0 };
     let mut frames = match begin(alloc, reader, key) {
@@ -84,7 +86,7 @@ fn go_on<'a>(
 ) -> Result<Step<'a>, JsonFault>
     requires { AreFew frames }
     ensures value { MatchResult result (λ s. Steps frames.entry reader.old s reader.new)
-        (λ f. (f.why ≡ NoMemory) ⊎ (made frames.entry reader.old ≡ None)) }
+        (λ f. NoneRead f.why (λ d. made d frames.entry reader.old ≡ None)) }
     ensures shorter { OnOk result (length reader.new < length reader.old) }
 {
     match child(alloc, reader, &frames.top) {
@@ -102,7 +104,7 @@ fn take<'a>(frames: Frames<'a>, key: Key<'a>, begun: Begun<'a>) -> Result<Step<'
     requires { AreFew frames }
     ensures { (old new : List Token) → Goes (frame_of frames.entry.top) key.entry.name.now old begun.entry new
         → MatchResult result (λ s. Steps frames.entry old s new)
-        (λ f. (f.why ≡ NoMemory) ⊎ (made frames.entry old ≡ None)) }
+        (λ f. NoneRead f.why (λ d. made d frames.entry old ≡ None)) }
 {
     match begun {
         Begun::Whole(node) => step_over(frames, key, node),
@@ -148,7 +150,7 @@ fn step_out<'a>(frames: Frames<'a>) -> Result<Step<'a>, JsonFault>
 fn step_in<'a>(frames: Frames<'a>, at: usize, inside: Open<'a>) -> Result<Step<'a>, JsonFault>
     requires { AreFew frames }
     ensures { MatchResult result (λ s. Opens frames.entry inside.entry s)
-        (λ f. (f.why ≡ NoMemory) ⊎ (length frames.entry.outer.items ≡ 4095)) }
+        (λ f. (f.why ≡ NoMemory) ⊎ ((f.why ≡ TooDeep) × (length frames.entry.outer.items ≡ 4095))) }
 {
     let Frames { top, mut outer } = frames;
     if outer.len() == 4095 {

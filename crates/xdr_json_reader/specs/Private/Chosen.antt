@@ -7,7 +7,7 @@ use Rattle.xdr_types.specs.Fits.{is_tag_of, part_of}
 use Rattle.xdr_json.specs.Mapping.{case_key}
 use Rattle.xdr_json.specs.Spelled.{is_tag_json, has_key, at_key, under_arm}
 use Rattle.xdr_json_reader.specs.Tape.{json_in}
-use Rattle.xdr_json_reader.specs.Private.Groups.{has_arm_alone}
+use Rattle.xdr_json_reader.specs.Reasons.{has_arm_alone}
 use Rattle.xdr_json_reader.specs.declared.reading_union.Chosen.{Chosen}
 
 -- the discriminant is told, the arm under it is there, and nothing else

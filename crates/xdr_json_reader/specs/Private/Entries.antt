@@ -1,7 +1,7 @@
 -- What is due, of the nodes that are kept: the next one is the last of them.
 use Rattle.std.specs.Prelude.{List, map, reverse}
 use Rattle.xdr_json_reader.specs.Tape.{json_in}
-use Rattle.xdr_json_reader.specs.Private.Pending.{Due}
+use Rattle.xdr_json_reader.specs.Nodes.{Due}
 use Rattle.xdr_json_reader.specs.declared.reading_entry.Entry.{Entry}
 
 -- a node for a kind

@@ -69,7 +69,7 @@ abbrev pub frame_of : Open → Frame
 frame_of (held.Array key items at) = array_of key.name.now (map json_in items.items)
 frame_of (held.Object key members at) = object_of key.name.now (map pair_of members.items)
 
--- what the tokens make of all frames that are held: those around the innermost one are at most 4095
-abbrev pub made : Frames → Parse Json
-made frames =
-    rest (4095 - length frames.outer.items) (frame_of frames.top) (reverse (map frame_of frames.outer.items))
+-- what the tokens make of all frames that are held, with values nested no deeper than the number within the outermost
+abbrev pub made : (depth : ℕ) → Frames → Parse Json
+made depth frames =
+    rest (depth - length frames.outer.items) (frame_of frames.top) (reverse (map frame_of frames.outer.items))

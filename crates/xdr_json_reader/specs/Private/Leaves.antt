@@ -6,9 +6,10 @@ use Rattle.xdr_types.specs.Tree.{Head}
 use Rattle.xdr_types.specs.Fits.{parts, is_length, are_bytes}
 use Rattle.xdr_units.specs.Numbers.{num4, padded}
 use Rattle.xdr_types.specs.Spelling.{own}
-use Rattle.xdr_json_reader.specs.Private.Pending.{Shows, ShowsNone}
+use Rattle.xdr_json_reader.specs.Nodes.{Shows}
+use Rattle.xdr_json_reader.specs.Reasons.{Wrong}
 use Rattle.xdr_json_reader.specs.declared.fault.JsonReason.{JsonReason}
-use Rattle.xdr_json_reader.specs.declared.fault.JsonReason.TheVariants.{NoMemory}
+use Rattle.xdr_json_reader.specs.declared.fault.JsonReason.TheVariants.{NoMemory, WrongLength}
 
 -- it was read: its bytes are written
 pub record LeafTook (f : KindView) (j : Json) (out new : List ℕ) : Type 0 where
@@ -21,11 +22,11 @@ pub record LeafTook (f : KindView) (j : Json) (out new : List ℕ) : Type 0 wher
 abbrev pub LeafRead : {A : Type 0} → KindView → Json → List ℕ → List ℕ → Result A JsonReason → Type 0
 LeafRead f j out new r =
     MatchResult r (λ _. LeafTook f j out new)
-    (λ w. (w ≡ NoMemory) ⊎ ((kinds : List KindView) → ShowsNone kinds f j))
+    (λ w. (w ≡ NoMemory) ⊎ ((kinds : List KindView) → Wrong kinds f j w))
 
 -- bytes of a string: written, or memory was refused, or too many
 abbrev pub TextRead : {A : Type 0} → ℕ → List ℕ → List ℕ → List ℕ → Result A JsonReason → Type 0
 TextRead max bs out new r =
     MatchResult r
     (λ _. ((is_length max (length bs) && are_bytes bs) ≡ true) × (new ≡ out ++ (num4 (pos (length bs)) ++ padded bs)))
-    (λ w. (w ≡ NoMemory) ⊎ (is_length max (length bs) ≡ false))
+    (λ w. (w ≡ NoMemory) ⊎ ((is_length max (length bs) ≡ false) × (w ≡ WrongLength)))

@@ -1,34 +1,18 @@
 -- The nodes that are still to be read, each for a kind, and the bytes that values for them have.
-use Rattle.std.specs.Prelude.{◌≡◌, ◌⊎◌, ℕ, ◌+◌, ◌*◌, List, [], ◌∷◌, ◌++◌, true, Result, MatchResult, Vec}
+use Rattle.std.specs.Prelude.{◌≡◌, ◌⊎◌, ℕ, ◌+◌, ◌*◌, List, [], ◌∷◌, ◌++◌, Result, MatchResult, Vec, Contains}
 use Rattle.std.specs.declared.alloc.Global.{Global}
 use Rattle.xdr_json_reader.specs.declared.fault.JsonFault.{JsonFault}
 use Rattle.xdr_json_reader.specs.declared.fault.JsonReason.TheVariants.{NoMemory}
 use Rattle.json.specs.Json as json
 use Rattle.json.specs.Json.{Json, Items, no_items, item, Members, no_members, member}
 use Rattle.xdr_types.specs.Kinds as xdr
-use Rattle.xdr_types.specs.Kinds.{KindView, Part, kind_at}
+use Rattle.xdr_types.specs.Kinds.{KindView, kind_at}
 use Rattle.xdr_types.specs.Tree.{Head}
-use Rattle.xdr_types.specs.Fits.{is_legal, parts}
+use Rattle.xdr_types.specs.Fits.{parts}
 use Rattle.xdr_types.specs.Spelling.{own}
-use Rattle.xdr_json.specs.Spelled.{shows, under}
-
--- the place of a kind, and a JSON value for it
-abbrev pub Due : Type 0
-Due = ℕ × Json
-
--- one for each part
-abbrev pub each : List Part → List Json → List Due
-each (p ∷ ps) (j ∷ js) = (p.kind, j) ∷ each ps js
-each _ _ = []
-
--- the JSON value stands for a node of the kind with this head
-pub record Shows (kinds : List KindView) (f : KindView) (j : Json) (h : Head) : Type 0 where
-  pub legal : is_legal kinds f h ≡ true
-  pub shown : shows kinds f h j ≡ true
-
--- it stands for no node of the kind
-abbrev pub ShowsNone : List KindView → KindView → Json → Type 0
-ShowsNone kinds f j = (h : Head) → Shows kinds f j h → ⊥
+use Rattle.xdr_json.specs.Spelled.{under}
+use Rattle.xdr_json_reader.specs.Nodes.{Due, each, Shows, Within}
+use Rattle.xdr_json_reader.specs.Reasons.{IsWrongWithin}
 
 -- the bytes are those of values for all that is due, one after another
 pub data Means (kinds : List KindView) : List Due → List ℕ → Type 0 where
@@ -49,6 +33,10 @@ pub record Took (kinds : List KindView) (f : KindView) (j : Json) (out new : Lis
   pub shows : Shows kinds f j head
   pub bytes : new ≡ out ++ own f head
   pub parts : next ≡ each (parts f head) (under kinds f head j) ++ due
+
+-- each of what is due is within the root
+abbrev pub AreWithin : List KindView → Due → List Due → Type 0
+AreWithin kinds root due = (d : Due) → Contains due d → Within kinds root d
 
 -- ---- what is left of the work
 
@@ -80,8 +68,9 @@ abbrev pub work : List KindView → List Due → ℕ
 work kinds [] = 0
 work kinds (d ∷ ds) = (2 * size d.1 + is_optional (kind_at kinds d.0)) + work kinds ds
 
--- the bytes are those that the root stands for, and no others are; or memory was refused, or it stands for none
-abbrev pub BytesRead : List KindView → List Due → Result (Vec ℕ Global) JsonFault → Type 0
+-- the bytes are those that the root stands for, and no others are; or memory was refused, or it stands for none since
+-- a value within it is wrong
+abbrev pub BytesRead : List KindView → Due → Result (Vec ℕ Global) JsonFault → Type 0
 BytesRead kinds root r =
-    MatchResult r (λ v. Means kinds root v.items × ((bs : List ℕ) → Means kinds root bs → bs ≡ v.items))
-    (λ f. (f.why ≡ NoMemory) ⊎ ((bs : List ℕ) → Means kinds root bs → ⊥))
+    MatchResult r (λ v. Means kinds (root ∷ []) v.items × ((bs : List ℕ) → Means kinds (root ∷ []) bs → bs ≡ v.items))
+    (λ f. (f.why ≡ NoMemory) ⊎ (((bs : List ℕ) → Means kinds (root ∷ []) bs → ⊥) × IsWrongWithin kinds root f.why))

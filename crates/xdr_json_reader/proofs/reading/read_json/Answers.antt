@@ -1,9 +1,14 @@
-use Rattle.std.proofs.Common.{ℕ, List, inl, inr, take, sym, ap, ◌∙◌, subst}
+use Rattle.std.proofs.Common.{◌≡◌, ℕ, suc, arith, List, inl, inr, None, take, sym, ap, ◌∙◌, subst}
 use Rattle.xdr_types.specs.Tree.{Tree}
 use Rattle.xdr_types.specs.View.{tree}
 use Rattle.xdr_codec.specs.Refused.{HasNoneWithin, IsRefused}
 use Rattle.xdr_json.specs.Text.{json_text, IsSpelling}
+use Rattle.xdr_stream.specs.Finish.{EndsWith}
 use Rattle.xdr_json_reader.specs.Tape.{json_in}
+use Rattle.xdr_json_reader.specs.Private.Limited.{limit_reason}
+use Rattle.xdr_json_reader.specs.Private.Steps.{NoneRead}
+use Rattle.xdr_json_reader.specs.Reasons.{nested_text}
+use Rattle.xdr_json_reader.proofs.Telling.{tells_wrong, tells_none, tells_limit}
 use Rattle.xdr_json_reader.proofs.Answered.{none_spelled, not_utf8, no_bytes, is_spelled, refused_bytes}
 use Rattle.xdr_json_reader.proofs.reading.read_json.Goals as goal
 use Rattle.xdr_json_reader.proofs.reading.read_json.Goals.{After-drop-scratch-in-Ok-decode-2}
@@ -14,11 +19,14 @@ returns-in-Err-clause-refused c =
 
 pub returns-in-Err-read_tree-clause-refused : goal.returns-in-Err-read_tree-clause-refused
 returns-in-Err-read_tree-clause-refused c =
+    let spells_none = none_spelled c.args.schema.now.kinds c.args.kind.place c.args.limits c.args.text.now in
+    let same = ap json_text (sym c.in-Ok.ensures.cases.0) in
     elim c.in-Err-read_tree.ensures.refused [
       | inl m ↦ inl m
-      | inr n ↦
-          inr (none_spelled c.args.schema.now.kinds c.args.kind.place c.args.limits c.args.text.now
-          (ap json_text (sym c.in-Ok.ensures.cases.0) ∙ n))
+      | inr n ↦ elim n [
+        | inl d ↦ inr (spells_none (same ∙ d.1))
+        | inr e ↦ inr (spells_none (same ∙ e.1 4095 (omega arith)))
+      ]
     ]
 
 pub returns-in-Err-bytes_in-clause-refused : goal.returns-in-Err-bytes_in-clause-refused
@@ -28,7 +36,7 @@ returns-in-Err-bytes_in-clause-refused c =
       | inl m ↦ inl m
       | inr n ↦
           inr (no_bytes c.args.schema.now.kinds c.args.kind.place c.args.limits c.args.text.now
-          (json_in c.in-Ok-read_tree.tree) e n)
+          (json_in c.in-Ok-read_tree.tree) e n.0)
     ]
 
 pub returns-clause-refused : goal.returns-clause-refused
@@ -39,7 +47,7 @@ returns-clause-refused c =
     let w = c.in-Err-decode.fault.why in
     let e = ap json_text (sym c.in-Ok.ensures.cases.0) ∙ c.in-Ok-read_tree.ensures.ok in
     refused_bytes kinds place limits c.args.text.now (json_in c.in-Ok-read_tree.tree) c.in-Ok-bytes_in.bytes.items w
-    c.reason_of.result c.reason_of.ensures e c.in-Ok-bytes_in.ensures.1
+    c.reason_of.result (λ m. c.reason_of.ensures ∙ ap limit_reason m) e c.in-Ok-bytes_in.ensures.1
     (subst (λ (bs : List ℕ). IsRefused (HasNoneWithin kinds place limits) w bs) c.as_slice.ensures.value
     c.in-Err-decode.ensures.refusal.refused)
 
@@ -63,3 +71,38 @@ pub returns-in-Ok-decode-clause-only : goal.returns-in-Ok-decode-clause-only
 returns-in-Ok-decode-clause-only c = λ (t : Tree) h.
     c.each_spells_one_value.ensures.text c.args.schema.now c.len-known.ensures.well_formed c.args.kind.place
     c.args.limits c.args.text.now t (tree c.in-Ok-decode.value) h (spelled c)
+
+pub returns-in-Err-clause-why : goal.returns-in-Err-clause-why
+returns-in-Err-clause-why c = inl c.in-Err.ensures.cases.0
+
+pub returns-in-Err-read_tree-clause-why : goal.returns-in-Err-read_tree-clause-why
+returns-in-Err-read_tree-clause-why c =
+    let w = c.in-Err-read_tree.fault.why in
+    tells_none c.args.schema.now.kinds c.args.kind.place c.args.limits c.args.text.now c.in-Err-read_tree.fault.why
+    (subst (λ (t : List ℕ). NoneRead w (λ d. nested_text (suc d) t ≡ None)) c.in-Ok.ensures.cases.0
+    c.in-Err-read_tree.ensures.refused)
+
+pub returns-in-Err-bytes_in-clause-why : goal.returns-in-Err-bytes_in-clause-why
+returns-in-Err-bytes_in-clause-why c =
+    let e = ap json_text (sym c.in-Ok.ensures.cases.0) ∙ c.in-Ok-read_tree.ensures.ok in
+    let tells = tells_wrong c.args.schema.now.kinds c.args.kind.place c.args.limits c.args.text.now
+    (json_in c.in-Ok-read_tree.tree) c.in-Err-bytes_in.fault.why c.in-Ok.ensures.cases.1 e in
+    elim c.in-Err-bytes_in.ensures [
+      | inl m ↦
+          tells_none c.args.schema.now.kinds c.args.kind.place c.args.limits c.args.text.now
+          c.in-Err-bytes_in.fault.why (inl m)
+      | inr n ↦ tells n.1
+    ]
+
+pub returns-clause-why : goal.returns-clause-why
+returns-clause-why c =
+    let kinds = c.args.schema.now.kinds in
+    let place = c.args.kind.place in
+    let e = ap json_text (sym c.in-Ok.ensures.cases.0) ∙ c.in-Ok-read_tree.ensures.ok in
+    tells_limit kinds place c.args.limits c.args.text.now c.depth-in_range.ensures.range.units
+    (json_in c.in-Ok-read_tree.tree) c.in-Ok-bytes_in.bytes.items c.in-Err-decode.fault c.reason_of.result
+    c.reason_of.ensures c.in-Ok.ensures.cases.1 e
+    (c.each_spells_one_value.ensures.fits c.args.schema.now place (json_in c.in-Ok-read_tree.tree))
+    c.in-Ok-bytes_in.ensures.0
+    (subst (λ (bs : List ℕ). EndsWith kinds place c.args.limits bs c.in-Err-decode.fault) c.as_slice.ensures.value
+    c.in-Err-decode.ensures.fault)

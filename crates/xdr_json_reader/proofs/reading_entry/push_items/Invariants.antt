@@ -1,7 +1,7 @@
 use Rattle.std.proofs.Common.{◌≡◌, ◌≤◌, ◌++◌, length, map, drop, replicate}
 use Rattle.xdr_types.specs.Fits.{item_part}
 use Rattle.xdr_json_reader.specs.Tape.{json_in}
-use Rattle.xdr_json_reader.specs.Private.Pending.{each}
+use Rattle.xdr_json_reader.specs.Nodes.{each}
 use Rattle.xdr_json_reader.specs.Private.Entries.{dues}
 use Rattle.xdr_json_reader.proofs.reading_entry.push_items.Given as goal
 

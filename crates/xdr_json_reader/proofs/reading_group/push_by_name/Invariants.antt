@@ -3,7 +3,7 @@ use Rattle.xdr_types.specs.KindViews.{part_of_member}
 use Rattle.xdr_json.specs.Spelled.{has_each}
 use Rattle.xdr_json_reader.specs.Tape.{members_of}
 use Rattle.xdr_json_reader.specs.Private.Look.{pairs}
-use Rattle.xdr_json_reader.specs.Private.Pending.{each}
+use Rattle.xdr_json_reader.specs.Nodes.{each}
 use Rattle.xdr_json_reader.specs.Private.Entries.{dues}
 use Rattle.xdr_json_reader.specs.Private.Fields.{at_each}
 use Rattle.xdr_json_reader.proofs.reading_group.push_by_name.Given as goal

@@ -2,7 +2,7 @@ use Rattle.std.proofs.Common.{◌++◌, List, map, sym, ap, ◌∙◌}
 use Rattle.json.specs.Json.{Json}
 use Rattle.xdr_types.specs.KindViews.{part_of_member}
 use Rattle.xdr_json_reader.specs.Private.Entries.{dues}
-use Rattle.xdr_json_reader.specs.Private.Pending.{each}
+use Rattle.xdr_json_reader.specs.Nodes.{each}
 use Rattle.xdr_json_reader.proofs.Fields.{in_order}
 use Rattle.xdr_json_reader.proofs.reading_group.push_fields.Goals as goal
 

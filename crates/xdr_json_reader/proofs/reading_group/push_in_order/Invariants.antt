@@ -1,6 +1,6 @@
 use Rattle.std.proofs.Common.{◌≡◌, ◌≤◌, ◌++◌, length, map, drop}
 use Rattle.xdr_types.specs.KindViews.{part_of_member}
-use Rattle.xdr_json_reader.specs.Private.Pending.{each}
+use Rattle.xdr_json_reader.specs.Nodes.{each}
 use Rattle.xdr_json_reader.specs.Private.Entries.{dues}
 use Rattle.xdr_json_reader.specs.Private.Fields.{nodes}
 use Rattle.xdr_json_reader.proofs.reading_group.push_in_order.Given as goal

@@ -8,9 +8,12 @@ use Rattle.xdr_types.specs.Fits.{item_part}
 use Rattle.xdr_json_reader.specs.Tape.{json_in}
 use Rattle.xdr_json_reader.specs.Private.Entries.{dues}
 use Rattle.xdr_json_reader.specs.Private.Look.{seen}
-use Rattle.xdr_json_reader.specs.Private.Pending.{Took, ShowsNone, each}
-use Rattle.xdr_json_reader.proofs.Groups.{took_fixed, no_fixed, no_array_fixed}
-use Rattle.xdr_json_reader.proofs.Looks.{no_array}
+use Rattle.xdr_json_reader.specs.Nodes.{each}
+use Rattle.xdr_json_reader.specs.Reasons.{Wrong}
+use Rattle.xdr_json_reader.specs.declared.fault.JsonReason.TheVariants.{WrongLength}
+use Rattle.xdr_json_reader.specs.Private.Pending.{Took}
+use Rattle.xdr_json_reader.proofs.Groups.{took_fixed, bad_fixed, bad_form_fixed}
+use Rattle.xdr_json_reader.proofs.Looks.{no_array, list_form}
 use Rattle.xdr_json_reader.proofs.reading_list.read_fixed.Goals as goal
 
 pub returns-in-Ok : goal.returns-in-Ok
@@ -29,8 +32,8 @@ returns-in-Ok c = λ kinds.
 
 pub returns-in_default : goal.returns-in_default
 returns-in_default c =
-    inr (no_array_fixed c.args.item.place c.args.size (seen c.args.json)
-    (λ n. no_array c.args.json n c.in_default.not-Array))
+    inr (bad_form_fixed c.args.item.place c.args.size (seen c.args.json)
+    (λ n. no_array c.args.json n c.in_default.not-Array) (list_form c.args.json c.in_default.not-Array))
 
 pub returns-then-len-size : goal.returns-then-len-size
 returns-then-len-size c =
@@ -39,5 +42,5 @@ returns-then-len-size c =
     let is : json.array (items_of (map json_in c.in-Array.items.now.items)) ≡ seen c.args.json =
     sym (ap seen c.in-Array.is) in
     inr (λ kinds.
-    subst (λ (j : Json). ShowsNone kinds (fixed c.args.item.place c.args.size) j) is
-    (no_fixed c.args.item.place c.args.size js (λ e. c.if-len-size.true (omega (arith, many, e))) kinds))
+    subst (λ (j : Json). Wrong kinds (fixed c.args.item.place c.args.size) j WrongLength) is
+    (bad_fixed c.args.item.place c.args.size js (λ e. c.if-len-size.true (omega (arith, many, e))) kinds))

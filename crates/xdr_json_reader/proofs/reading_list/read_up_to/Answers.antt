@@ -12,9 +12,12 @@ use Rattle.xdr_units.specs.Numbers.{num4}
 use Rattle.xdr_json_reader.specs.Tape.{json_in}
 use Rattle.xdr_json_reader.specs.Private.Entries.{dues}
 use Rattle.xdr_json_reader.specs.Private.Look.{seen}
-use Rattle.xdr_json_reader.specs.Private.Pending.{Took, ShowsNone, each}
-use Rattle.xdr_json_reader.proofs.Groups.{took_up_to, no_up_to, no_array_up_to}
-use Rattle.xdr_json_reader.proofs.Looks.{no_array}
+use Rattle.xdr_json_reader.specs.Nodes.{each}
+use Rattle.xdr_json_reader.specs.Reasons.{Wrong}
+use Rattle.xdr_json_reader.specs.declared.fault.JsonReason.TheVariants.{WrongLength}
+use Rattle.xdr_json_reader.specs.Private.Pending.{Took}
+use Rattle.xdr_json_reader.proofs.Groups.{took_up_to, bad_up_to, bad_form_up_to}
+use Rattle.xdr_json_reader.proofs.Looks.{no_array, list_form}
 use Rattle.xdr_json_reader.proofs.reading_list.read_up_to.Goals as goal
 
 pub returns-in-Ok-push_items : goal.returns-in-Ok-push_items
@@ -44,8 +47,8 @@ returns-then-len-max c =
     let is : json.array (items_of (map json_in c.in-Array.items.now.items)) ≡ seen c.args.json =
     sym (ap seen c.in-Array.is) in
     inr (λ kinds.
-    subst (λ (j : Json). ShowsNone kinds (up_to c.args.item.place c.args.max) j) is
-    (no_up_to c.args.item.place c.args.max js
+    subst (λ (j : Json). Wrong kinds (up_to c.args.item.place c.args.max) j WrongLength) is
+    (bad_up_to c.args.item.place c.args.max js
     (λ h.
     let few = leb-true (length js) c.args.max (both (nat_le (length js) c.args.max) (nat_lt (length js) (2 ^ 32)) h).0
     in
@@ -53,5 +56,5 @@ returns-then-len-max c =
 
 pub returns-in_default : goal.returns-in_default
 returns-in_default c =
-    inr (no_array_up_to c.args.item.place c.args.max (seen c.args.json)
-    (λ n. no_array c.args.json n c.in_default.not-Array))
+    inr (bad_form_up_to c.args.item.place c.args.max (seen c.args.json)
+    (λ n. no_array c.args.json n c.in_default.not-Array) (list_form c.args.json c.in_default.not-Array))

@@ -4,7 +4,7 @@ use Rattle.xdr_types.specs.KindViews.{kind_view}
 use Rattle.xdr_json_reader.specs.Tape.{json_in}
 use Rattle.xdr_json_reader.specs.Private.Entries.{dues}
 use Rattle.xdr_json_reader.specs.Private.Look.{seen}
-use Rattle.xdr_json_reader.proofs.Nodes.{leaf_at}
+use Rattle.xdr_json_reader.proofs.Nodes.{leaf_at, node_at}
 use Rattle.xdr_json_reader.proofs.reading_node.read_node.Goals as goal
 
 pub returns-in-Int : goal.returns-in-Int
@@ -87,3 +87,21 @@ returns-in-Text c =
     (dues c.args.due.now.items) c.read_text.result c.placed-in-Text.result
     (sym c.kind.ensures ∙ ap kind_view c.in-Text.is) c.look-in-Text.ensures
     c.read_text.ensures c.placed-in-Text.ensures
+
+pub returns-in-Fixed : goal.returns-in-Fixed
+returns-in-Fixed c =
+    let kinds = c.args.schema.now.kinds in
+    node_at kinds _ (kind_at kinds c.args.turn.next.kind.place) (seen c.look-in-Fixed.result)
+    (json_in c.args.turn.next.node.now) c.args.out.now.items c.args.out.now.items
+    (dues c.args.due.now.items) (dues c.read_fixed.new.due.items) c.read_fixed.result c.placed-in-Fixed.result
+    (sym c.kind.ensures ∙ ap kind_view c.in-Fixed.is) c.look-in-Fixed.ensures
+    c.read_fixed.ensures c.placed-in-Fixed.ensures
+
+pub returns-in-UpTo : goal.returns-in-UpTo
+returns-in-UpTo c =
+    let kinds = c.args.schema.now.kinds in
+    node_at kinds _ (kind_at kinds c.args.turn.next.kind.place) (seen c.look-in-UpTo.result)
+    (json_in c.args.turn.next.node.now) c.args.out.now.items c.read_up_to.new.out.items
+    (dues c.args.due.now.items) (dues c.read_up_to.new.due.items) c.read_up_to.result c.placed-in-UpTo.result
+    (sym c.kind.ensures ∙ ap kind_view c.in-UpTo.is) c.look-in-UpTo.ensures
+    c.read_up_to.ensures c.placed-in-UpTo.ensures

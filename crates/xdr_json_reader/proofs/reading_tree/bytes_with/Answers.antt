@@ -1,10 +1,25 @@
 use Rattle.std.proofs.Common.{◌≡◌, [], ◌∷◌, List, length, arith, inl, inr}
 use Rattle.xdr_json_reader.specs.Tape.{json_in}
 use Rattle.xdr_json_reader.specs.Private.Entries.{dues}
-use Rattle.xdr_json_reader.specs.Private.Pending.{Due}
+use Rattle.xdr_json_reader.specs.Nodes.{Due}
 use Rattle.xdr_json_reader.proofs.Groups.{not_some}
 use Rattle.xdr_json_reader.proofs.Trees.{tree_goes_on, tree_shrinks, tree_refused, tree_ends, no_items}
+use Rattle.xdr_json_reader.proofs.Trees.{within_goes_on, wrong_within, tree_starts, within_starts, first_due}
+use Rattle.xdr_json_reader.proofs.Tables.{no_tables}
 use Rattle.xdr_json_reader.proofs.reading_tree.bytes_with.Goals as goal
+
+pub loop-next-init : goal.loop-next-init
+loop-next-init c =
+    let kinds = c.args.schema.now.kinds in
+    let due = c.push_node.new.due.items in
+    let is : dues c.push_node.new.due.items ≡ (c.args.kind.place, json_in c.args.tree.now) ∷ [] =
+    first_due c.push_node.result c.is_err.result (c.args.kind.place, json_in c.args.tree.now) c.new-due.result.items
+    c.push_node.new.due.items c.is_err.ensures.value c.if-is_err.false c.new-due.ensures.items c.push_node.ensures in (
+      tree_starts kinds ((c.args.kind.place, json_in c.args.tree.now) ∷ []) (dues due) c.new-out.result.items
+          c.new-out.ensures.items is,
+      no_tables kinds c.new-tables.result c.new-tables.ensures.empty,
+      within_starts kinds (c.args.kind.place, json_in c.args.tree.now) (dues due) is,
+    )
 
 pub loop-next-smaller : goal.loop-next-smaller
 loop-next-smaller c =
@@ -19,6 +34,9 @@ loop-next-preserved c =
           c.read_node.new.out.items c.loop-next.due.items c.pop.new.self.items c.in-Some.next
           (dues c.read_node.new.due.items) c.in-Some.ensures.items c.loop-next.invariant.0 c.in-Ok.ensures,
       c.note_names.ensures,
+      within_goes_on c.args.schema.now.kinds (c.args.kind.place, json_in c.args.tree.now) c.loop-next.out.items
+          c.read_node.new.out.items c.loop-next.due.items c.pop.new.self.items c.in-Some.next
+          (dues c.read_node.new.due.items) c.in-Some.ensures.items c.loop-next.invariant.2 c.in-Ok.ensures,
     )
 
 pub returns-in-Err : goal.returns-in-Err
@@ -27,8 +45,13 @@ returns-in-Err c =
     elim c.in-Err.ensures [
       | inl m ↦ inl m
       | inr n ↦
-          inr (tree_refused c.args.schema.now.kinds root c.loop-next.out.items c.loop-next.due.items
-          c.pop.new.self.items c.in-Some.next c.in-Some.ensures.items c.loop-next.invariant.0 n)
+          inr (
+            tree_refused c.args.schema.now.kinds root c.loop-next.out.items c.loop-next.due.items
+                c.pop.new.self.items c.in-Some.next c.in-Some.ensures.items c.loop-next.invariant.0 n.none,
+            wrong_within c.args.schema.now.kinds (c.args.kind.place, json_in c.args.tree.now) c.loop-next.due.items
+                c.pop.new.self.items c.in-Some.next c.in-Err.fault.why c.in-Some.ensures.items
+                c.loop-next.invariant.2 n,
+          )
     ]
 
 pub returns : goal.returns

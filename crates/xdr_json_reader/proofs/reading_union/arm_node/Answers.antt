@@ -9,9 +9,11 @@ use Rattle.xdr_json_reader.proofs.reading_union.arm_node.Goals as goal
 pub returns-then-len-ne1 : goal.returns-then-len-ne1
 returns-then-len-ne1 c =
     let ms = c.args.members.now.items in
-    let long = many ms in
-    void_other c.args.schema.now.kinds (part_of_member c.args.arm.now) (members_of (pairs ms))
-    (sym c.is_nothing.ensures ∙ c.if-is_nothing.true) (λ e. omega (arith, long, e))
+    let long = many ms in (
+      void_other c.args.schema.now.kinds (part_of_member c.args.arm.now) (members_of (pairs ms))
+          (sym c.is_nothing.ensures ∙ c.if-is_nothing.true) (λ e. omega (arith, long, e)),
+      c.fault_among.ensures,
+    )
 
 pub returns-then-is_nothing : goal.returns-then-is_nothing
 returns-then-is_nothing c =
@@ -23,9 +25,11 @@ returns-then-is_nothing c =
 pub returns-then-len-ne2 : goal.returns-then-len-ne2
 returns-then-len-ne2 c =
     let ms = c.args.members.now.items in
-    let long = many ms in
-    arm_extra c.args.schema.now.kinds (part_of_member c.args.arm.now) (members_of (pairs ms))
-    (sym c.is_nothing.ensures ∙ c.if-is_nothing.false) (λ e. omega (arith, long, e))
+    let long = many ms in (
+      arm_extra c.args.schema.now.kinds (part_of_member c.args.arm.now) (members_of (pairs ms))
+          (sym c.is_nothing.ensures ∙ c.if-is_nothing.false) (λ e. omega (arith, long, e)),
+      c.fault_among-then-len-ne2.ensures,
+    )
 
 pub returns-else-len-ne2 : goal.returns-else-len-ne2
 returns-else-len-ne2 c =
@@ -36,6 +40,8 @@ returns-else-len-ne2 c =
     c.key_of-key.ensures c.in-Some.ensures.0 c.in-Some.ensures.1 (omega (arith, long))
 
 pub returns-in-None : goal.returns-in-None
-returns-in-None c =
-    arm_missing c.args.schema.now.kinds (part_of_member c.args.arm.now) (members_of (pairs c.args.members.now.items))
-    c.key_of-key.result.now (sym c.is_nothing.ensures ∙ c.if-is_nothing.false) c.key_of-key.ensures c.in-None.ensures
+returns-in-None c = (
+  arm_missing c.args.schema.now.kinds (part_of_member c.args.arm.now) (members_of (pairs c.args.members.now.items))
+      c.key_of-key.result.now (sym c.is_nothing.ensures ∙ c.if-is_nothing.false) c.key_of-key.ensures c.in-None.ensures,
+  c.fault_among-in-None.ensures,
+)

@@ -1,0 +1,176 @@
+-- What each reason of a refusal says of the text (own: docs/FORMATS.md section 5; RFC 8259; RFC 4506 section 4).
+use Rattle.std.specs.Prelude.{◌≡◌, ◌⊎◌, ℕ, ◌+◌, ◌<◌, ◌≤◌, ℤ, List, [], ◌∷◌, length, Bool, true, false, ◌||◌, ◌&&◌}
+use Rattle.std.specs.Prelude.{◌==◌, ⊤, if◌then◌else◌, Option, Some, None, option_and_then, Result, Ok, Err}
+use Rattle.std.specs.List.{list_any}
+use Rattle.std.specs.Str.{IsUtf8}
+use Rattle.hex.specs.Hex.{decode_of}
+use Rattle.hex.specs.declared.error.FromHexError.{FromHexError}
+use Rattle.json.specs.Json as json
+use Rattle.json.specs.Json.{Json, Members, if_last}
+use Rattle.json.specs.Lex.{tokens}
+use Rattle.xdr_types.specs.Kinds as xdr
+use Rattle.xdr_types.specs.Kinds.{KindView, Part, Branch, kind_at}
+use Rattle.xdr_types.specs.Tree.{Tree, depth}
+use Rattle.xdr_types.specs.Fits.{is_tag_of, part_of}
+use Rattle.xdr_types.specs.Spelling.{bytes_of}
+use Rattle.xdr_types.specs.Within.{Bounds}
+use Rattle.xdr_json.specs.Mapping.{case_key, hex_key}
+use Rattle.xdr_json.specs.Spelled.{Spells, is_tag_json, count, has_key, at_key, has_each, arm_keys}
+use Rattle.xdr_json.specs.Text.{deepest, json_text}
+use Rattle.xdr_json_reader.specs.Nodes.{Due, ShowsNone, Within}
+use Rattle.xdr_json_reader.specs.declared.fault.JsonReason.{JsonReason}
+use Rattle.xdr_json_reader.specs.declared.fault.JsonReason.TheVariants as why
+
+-- ---- a JSON value that stands for no node of a kind: the reason, by the kind and by the form of the JSON
+
+-- a fraction or an exponent: a `.`, an `e` or an `E` (RFC 8259 section 6)
+abbrev pub is_mark : ℕ → Bool
+is_mark b = (b == 46 || b == 101) || b == 69
+
+-- the text of a number
+abbrev pub numeral_reason : List ℕ → JsonReason
+numeral_reason s = if list_any is_mark s then why.NotWhole else why.OutOfRange
+
+-- a number, which may be a string (RFC 4506 sections 4.1, 4.2, 4.5)
+abbrev pub number_reason : Json → JsonReason
+number_reason (json.number s) = numeral_reason s
+number_reason (json.string s) = numeral_reason s
+number_reason _ = why.WrongType
+
+-- a number of an enumeration, or a name (RFC 4506 section 4.3)
+abbrev pub name_reason : Json → JsonReason
+name_reason (json.string s) = why.UnknownName
+name_reason (json.number s) = numeral_reason s
+name_reason _ = why.WrongType
+
+-- what hexadecimal digits stand for: too few or too many bytes, or nothing
+abbrev pub digits_reason : Result (List ℕ) FromHexError → JsonReason
+digits_reason (Ok bs) = why.WrongLength
+digits_reason (Err e) = why.BadHex
+
+-- an opaque (RFC 4506 sections 4.9, 4.10)
+abbrev pub hex_reason : Json → JsonReason
+hex_reason (json.string s) = digits_reason (decode_of s)
+hex_reason _ = why.WrongType
+
+-- a string, or {"hex": ".."} (RFC 4506 section 4.11)
+abbrev pub text_reason : Json → JsonReason
+text_reason (json.string s) = why.WrongLength
+text_reason (json.object ms) =
+    if count ms == 1 && has_key ms hex_key then hex_reason (at_key ms hex_key) else why.WrongType
+text_reason _ = why.WrongType
+
+-- an array, and what is in brackets (RFC 4506 sections 4.12, 4.13, 4.19)
+abbrev pub list_reason : Json → JsonReason
+list_reason (json.array js) = why.WrongLength
+list_reason _ = why.WrongType
+
+-- an object without members (RFC 4506 section 4.16)
+abbrev pub void_reason : Json → JsonReason
+void_reason (json.object ms) = why.UnknownMember
+void_reason _ = why.WrongType
+
+-- a discriminant, as a value of its own kind (RFC 4506 section 4.15)
+abbrev pub tag_reason : KindView → Json → JsonReason
+tag_reason xdr.int j = number_reason j
+tag_reason xdr.unsigned j = number_reason j
+tag_reason (xdr.numbered members) j = name_reason j
+tag_reason _ j = why.WrongType
+
+-- a node without members: of every other kind the JSON is of another form
+abbrev pub form_reason : KindView → Json → JsonReason
+form_reason xdr.int j = number_reason j
+form_reason xdr.unsigned j = number_reason j
+form_reason xdr.hyper j = number_reason j
+form_reason xdr.unsigned_hyper j = number_reason j
+form_reason (xdr.numbered members) j = name_reason j
+form_reason (xdr.opaque size) j = hex_reason j
+form_reason (xdr.opaque_up_to max) j = hex_reason j
+form_reason (xdr.text max) j = text_reason j
+form_reason (xdr.fixed inner size) j = list_reason j
+form_reason (xdr.up_to inner max) j = list_reason j
+form_reason (xdr.maybe inner) j = list_reason j
+form_reason xdr.nothing j = void_reason j
+form_reason _ j = why.WrongType
+
+-- a member is missing, unknown or twice
+abbrev pub IsOfMembers : JsonReason → Type 0
+IsOfMembers why.MissingMember = ⊤
+IsOfMembers why.UnknownMember = ⊤
+IsOfMembers why.MemberTwice = ⊤
+IsOfMembers _ = ⊥
+
+-- beside the discriminant an object has what the arm wants, and no more (RFC 4506 section 4.15)
+abbrev pub has_arm_alone : List KindView → Part → Members → Bool
+has_arm_alone kinds p ms = count ms == 1 + length (arm_keys kinds (p ∷ [])) && has_each (arm_keys kinds (p ∷ [])) ms
+
+-- an object tells this discriminant (RFC 4506 section 4.15)
+pub record TellsTag (f : KindView) (ms : Members) (z : ℤ) : Type 0 where
+  pub legal : is_tag_of f z ≡ true
+  pub shown : is_tag_json f z (at_key ms case_key) ≡ true
+
+-- the members of a union (RFC 4506 section 4.15), the first that holds: no discriminant, one that is none of its kind,
+-- one without an arm, and then the members beside it
+pub data ChoiceTells (kinds : List KindView) (f : KindView) (arms : List Branch) (other : Option Part) (ms : Members)
+    : JsonReason → Type 0 where
+  no_case : has_key ms case_key ≡ false → ChoiceTells kinds f arms other ms why.MissingMember
+  bad_case : has_key ms case_key ≡ true → ((z : ℤ) → TellsTag f ms z → ⊥)
+      → ChoiceTells kinds f arms other ms (tag_reason f (at_key ms case_key))
+  no_arm : has_key ms case_key ≡ true → (z : ℤ) → TellsTag f ms z → part_of arms other z ≡ None
+      → ChoiceTells kinds f arms other ms why.NoArm
+  bad_arm : has_key ms case_key ≡ true → (z : ℤ) → TellsTag f ms z → (p : Part) → part_of arms other z ≡ Some p
+      → has_arm_alone kinds p ms ≡ false → (w : JsonReason) → IsOfMembers w → ChoiceTells kinds f arms other ms w
+
+-- the reason for a node, by its kind
+abbrev pub NodeTells : List KindView → KindView → Json → JsonReason → Type 0
+NodeTells kinds (xdr.structure fields) (json.object ms) w = IsOfMembers w
+NodeTells kinds (xdr.choice tag arms other) (json.object ms) w = ChoiceTells kinds (kind_at kinds tag) arms other ms w
+NodeTells kinds f j w = w ≡ form_reason f j
+
+-- the JSON value stands for no node of the kind, for this reason
+pub record Wrong (kinds : List KindView) (f : KindView) (j : Json) (w : JsonReason) : Type 0 where
+  pub none : ShowsNone kinds f j
+  pub tells : NodeTells kinds f j w
+
+-- somewhere within the root
+pub record IsWrongWithin (kinds : List KindView) (root : Due) (w : JsonReason) : Type 0 where
+  pub node : Due
+  pub within : Within kinds root node
+  pub wrong : Wrong kinds (kind_at kinds node.0) node.1 w
+
+-- ---- a text
+
+-- the JSON value that a text is, nested no deeper than the number (RFC 8259)
+abbrev pub nested_text : ℕ → List ℕ → Option Json
+nested_text most text = option_and_then (λ p. if_last p.0 p.1) (json.value most (tokens text))
+
+-- the text is no JSON in UTF-8, however deep a value may nest (RFC 8259 section 8.1)
+abbrev pub IsNoJson : (text : List ℕ) → Type 0
+IsNoJson text = (IsUtf8 text → ⊥) ⊎ ((most : ℕ) → deepest ≤ most → nested_text most text ≡ None)
+
+-- the text is JSON in UTF-8
+pub record IsJson (text : List ℕ) (tree : Json) : Type 0 where
+  pub utf8 : IsUtf8 text
+  pub is : json_text text ≡ Some tree
+
+-- it is JSON, of which some value is wrong
+abbrev pub IsWrongText : List KindView → (place : ℕ) → (text : List ℕ) → JsonReason → Type 0
+IsWrongText kinds place text w = (tree : Json) × IsJson text tree × IsWrongWithin kinds (place, tree) w
+
+-- it spells a value that passes a limit
+pub record IsBeyond (kinds : List KindView) (place : ℕ) (text : List ℕ) (Passes : Tree → Type 0) : Type 0 where
+  pub tree : Json
+  pub is : IsJson text tree
+  pub value : Tree
+  pub spells : Spells kinds place tree value
+  pub passes : Passes value
+
+-- what each reason says of the text
+abbrev pub Tells : List KindView → (place : ℕ) → Bounds → (text : List ℕ) → JsonReason → Type 0
+Tells kinds place limits text why.NoMemory = ⊤
+Tells kinds place limits text why.NotJson = IsNoJson text
+Tells kinds place limits text why.TooDeep =
+    (json_text text ≡ None) ⊎ IsBeyond kinds place text (λ t. limits.depth < depth t)
+Tells kinds place limits text why.TooLarge =
+    IsBeyond kinds place text (λ t. limits.bytes < length (bytes_of kinds place t))
+Tells kinds place limits text w = IsWrongText kinds place text w
