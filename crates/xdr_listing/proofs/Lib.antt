@@ -1,3 +1,4 @@
+pub mod Firsts
 pub mod Joined
 pub mod Numbers
 pub mod Places

@@ -12,13 +12,14 @@ use Rattle.xdr_lang.specs.Declarations.{Declared, Constant, Procedure, Version, 
 use Rattle.xdr_bounds.specs.declared.greatest.Greatest.{Greatest}
 use Rattle.xdr_bounds.specs.declared.greatest.Greatest.TheVariants as greatest
 use Rattle.xdr_bounds.specs.declared.range.Range.{Range}
-use Rattle.xdr_listing.specs.Words.{Types, kind_word, name_of_place}
+use Rattle.xdr_listing.specs.Words.{Types, kind_word, name_of_place, count_word}
 use Rattle.xdr_listing.specs.Listing.{own_constants, own_types}
 
 -- ---- numbers: those below 2^53 are read alike everywhere, others are strings (RFC 8259 section 6)
 
+-- a count of bytes; one of 2^64 or more has a word (own)
 abbrev pub count_json : ℕ → Json
-count_json n = if nat_lt n (2 ^ 53) then json.number (decimal n) else json.string (decimal n)
+count_json n = if nat_lt n (2 ^ 53) then json.number (decimal n) else json.string (count_word n)
 
 abbrev pub integer_json : ℤ → Json
 integer_json z =

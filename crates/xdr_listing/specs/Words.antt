@@ -1,6 +1,6 @@
 -- What is said of a type: a word for its kind, and the least and the greatest count of bytes of its values.
-use Rattle.std.specs.Prelude.{ℕ, List, [], ◌∷◌, ◌++◌, ◌==◌, if◌then◌else◌, Option, Some, None, codes, decimal}
-use Rattle.std.specs.Prelude.{slice_get}
+use Rattle.std.specs.Prelude.{ℕ, List, [], ◌∷◌, ◌++◌, ◌^◌, ◌==◌, nat_lt, if◌then◌else◌, Option, Some, None, codes}
+use Rattle.std.specs.Prelude.{decimal, slice_get}
 use Rattle.xdr_types.specs.Kinds as xdr
 use Rattle.xdr_types.specs.Kinds.{KindView, Lists, Part, kind_at}
 use Rattle.xdr_bounds.specs.declared.greatest.Greatest.{Greatest}
@@ -32,14 +32,18 @@ kind_word (xdr.maybe item) = codes "optional"
 kind_word xdr.nothing = codes "void"
 kind_word xdr.unknown = []
 
+-- a count of bytes; one of 2^64 or more has a word (own)
+abbrev pub count_word : ℕ → List ℕ
+count_word n = if nat_lt n (2 ^ 64) then decimal n else codes "large"
+
 -- the least count of bytes, or that it is 2^64 or more (own)
 abbrev pub least_word : Option ℕ → List ℕ
-least_word (Some n) = decimal n
+least_word (Some n) = count_word n
 least_word None = codes "large"
 
 -- the greatest count of bytes, or that it is 2^64 or more, or that no count is the greatest (own)
 abbrev pub greatest_word : Greatest → List ℕ
-greatest_word (greatest.Bytes n) = decimal n
+greatest_word (greatest.Bytes n) = count_word n
 greatest_word greatest.MoreThanU64 = codes "large"
 greatest_word greatest.Unbounded = codes "unbounded"
 

@@ -82,7 +82,7 @@ impl JsonText {
     }
 
     /// A count: a number below 2^53, else a string of its digits.
-    #[tactic(auto, using(crate::proofs::Numbers::decimal_is_number))]
+    #[tactic(auto, using(crate::proofs::Numbers::decimal_is_number, crate::proofs::Numbers::counted))]
     pub fn count(&mut self, count: u64) -> Result<(), NoMemory>
         ensures { OnOk result (self.new ≡ self.old ++ json_tokens (count_json count)) }
     {

@@ -4,7 +4,8 @@
 //!   versions. `procedures`: those of procedures, by their `paths`.
 //! - `json_listing`: the same as one JSON value. `json_types`: kinds in it. `json_programs`: programs in it.
 //!   `json_text`: JSON as it is written.
-//! - `types`: the kinds, their names and their counts. `words`: what is said of them in lines.
+//! - `types`: the kinds, their names and their counts. `names`: the first name of each. `words`: what is said of them
+//!   in lines.
 #![tactic(auto)]
 
 mod json_listing;
@@ -13,6 +14,7 @@ mod json_text;
 mod json_types;
 mod lines;
 mod listing;
+mod names;
 mod paths;
 mod procedures;
 mod programs;

@@ -9,6 +9,7 @@ ghost use Rattle.xdr_listing.specs.Private.Pieces.{pieces};
 
 use crate::json_listing::json_text;
 use crate::lines::{push_constants, push_types};
+use crate::names::first_names;
 use crate::programs::push_programs;
 use crate::types::Types;
 use std::alloc::Global;
@@ -31,9 +32,11 @@ pub fn list_declared(alloc: Global, declared: &Declared) -> Result<Vec<u8>, NoMe
     ensures { IfOk result (λ v. IsListing listing (declared_of declared.now) v.items) }
 {
     let bounds = Bounds::of(alloc, &declared.schema)?;
+    let firsts = first_names(alloc, declared.schema.names())?;
     let types = Types {
         schema: &declared.schema,
         bounds: &bounds,
+        firsts: &firsts,
     };
     let constants = own_constants(declared);
     let names = own_types(declared);
@@ -46,9 +49,11 @@ pub fn list_json(alloc: Global, declared: &Declared) -> Result<Vec<u8>, NoMemory
     ensures { IfOk result (λ v. IsListing json_listing (declared_of declared.now) v.items) }
 {
     let bounds = Bounds::of(alloc, &declared.schema)?;
+    let firsts = first_names(alloc, declared.schema.names())?;
     let types = Types {
         schema: &declared.schema,
         bounds: &bounds,
+        firsts: &firsts,
     };
     let constants = own_constants(declared);
     let names = own_types(declared);

@@ -1,16 +1,19 @@
 //! The kinds that a text declares, their names, and how many bytes their values have.
 ghost use Rattle.std.specs.Prelude.{◌≡◌, option_map, slice_get};
 ghost use Rattle.xdr_types.specs.Kinds.{kind_at};
+ghost use Rattle.xdr_listing.specs.Private.Firsts.{AreFirst};
 ghost use Rattle.xdr_listing.specs.Words.{kind_word, name_of_place};
 
 use xdr_bounds::{Bounds, Range};
 use xdr_types::{Kind, KindId, Schema};
 
-/// The kinds and names of a schema, and their bounds.
+/// The kinds and names of a schema, the first name of each kind by its place, and their bounds.
 #[derive(Clone, Copy)]
 pub struct Types<'a> {
     pub schema: &'a Schema,
     pub bounds: &'a Bounds,
+    pub firsts: &'a [Option<&'a str>],
+    ghost first: { AreFirst schema.now.names firsts.now },
 }
 
 /// The word of a kind (RFC 4506 sections 4.1 to 4.19); none of one that the schema does not have.
@@ -51,11 +54,9 @@ pub fn range_of(types: &Types<'_>, id: KindId) -> Option<Range>
 pub fn name_of<'a>(types: &Types<'a>, id: KindId) -> Option<&'a str>
     ensures { option_map (λ s. s.now) result ≡ name_of_place types.now.schema.now.names id.place }
 {
-    let names = types.schema.names();
-    for entry in names {
-        if entry.1.place == id.place {
-            return Some(entry.0.as_str());
-        }
+    let place = id.place as usize;
+    if place >= types.firsts.len() {
+        return None;
     }
-    None
+    types.firsts[place]
 }

@@ -2,7 +2,8 @@
 ghost use Rattle.std.specs.Prelude.{◌≡◌, ◌++◌, OnOk, decimal, option_map};
 ghost use Rattle.std.specs.Fmt.{signed_decimal};
 ghost use Rattle.xdr_listing.specs.Private.Held.{types_of};
-ghost use Rattle.xdr_listing.specs.Words.{least_word, greatest_word, range_word, kind_text, name_word, named_text};
+ghost use Rattle.xdr_listing.specs.Words.{count_word, least_word, greatest_word, range_word, kind_text, name_word};
+ghost use Rattle.xdr_listing.specs.Words.{named_text};
 
 use crate::types::{Types, name_of, range_of, word_of};
 use itoa::Buffer;
@@ -75,12 +76,20 @@ fn push_range(out: &mut Vec<u8>, range: Option<Range>) -> Result<(), NoMemory>
     }
 }
 
+// A count of bytes.
+#[tactic(auto, using(crate::proofs::Numbers::counted))]
+fn push_bytes(out: &mut Vec<u8>, count: u64) -> Result<(), NoMemory>
+    ensures { OnOk result (out.new.items ≡ out.old.items ++ count_word count) }
+{
+    push_count(out, count)
+}
+
 // The least count, or that it is 2^64 or more.
 fn push_least(out: &mut Vec<u8>, least: Option<u64>) -> Result<(), NoMemory>
     ensures { OnOk result (out.new.items ≡ out.old.items ++ least_word least) }
 {
     match least {
-        Some(count) => push_count(out, count),
+        Some(count) => push_bytes(out, count),
         None => push_text(out, "large"),
     }
 }
@@ -90,7 +99,7 @@ fn push_greatest(out: &mut Vec<u8>, greatest: Greatest) -> Result<(), NoMemory>
     ensures { OnOk result (out.new.items ≡ out.old.items ++ greatest_word greatest) }
 {
     match greatest {
-        Greatest::Bytes(count) => push_count(out, count),
+        Greatest::Bytes(count) => push_bytes(out, count),
         Greatest::MoreThanU64 => push_text(out, "large"),
         Greatest::Unbounded => push_text(out, "unbounded"),
     }

@@ -11,5 +11,5 @@ returns c = record {
   printed = told (declared_of c.args.declared.now)
       (record { schema = c.args.declared.now.schema; ranges = c.in_ok-bounds.bounds }) _ _ _ _ c.in_ok-text.ensures
       c.own_constants-constants.ensures c.own_types-names.ensures
-      (ap (λ (ps : List Program). map program_of ps) c.deref.ensures.value);
+      (ap (λ (ps : List Program). map program_of ps) c.deref-2.ensures.value);
 }
