@@ -1,4 +1,7 @@
 //! What became of a connection.
+ghost use Rattle.std.specs.Prelude.{◌≡◌, IfOk, string_bytes};
+ghost use Rattle.oncrpc_sessions.specs.Endings.{connection_text, outcome_text, ending_line};
+
 use registry_sessions::SessionFault;
 use rpc_record::RecordFault;
 use std::alloc::{AllocError, Global};
@@ -31,29 +34,38 @@ pub struct Ending {
 }
 
 impl Ending {
-    /// The line of it, with its line feed. Connections are counted from 1.
-    pub fn line(&self, alloc: Global) -> Result<String, AllocError> {
-        let (number, peer) = (self.number as u128 + 1, self.peer);
-        match self.why {
-            Why::Done => format!(in alloc;
-                "connection {number} from {peer}: {} records, {} replies\n",
-                self.records, self.replies
-            ),
-            Why::Idle => format!(in alloc; "connection {number} from {peer}: Idle\n"),
-            Why::Fault(RecordFault::TooLong { at }) => format!(in alloc;
-                "connection {number} from {peer}: TooLong at {at}\n"
-            ),
-            Why::Fault(RecordFault::Truncated { at }) => format!(in alloc;
-                "connection {number} from {peer}: Truncated at {at}\n"
-            ),
-            Why::Fault(RecordFault::Read) => format!(in alloc;
-                "connection {number} from {peer}: Read\n"
-            ),
-            Why::Fault(RecordFault::Write { .. }) => format!(in alloc;
-                "connection {number} from {peer}: Write\n"
-            ),
-            Why::Fault(_) => format!(in alloc; "connection {number} from {peer}: NoMemory\n"),
-        }
+    /// The line of it, with its line feed. Connections are counted from 1. The error is an allocation failure.
+    pub fn line(&self, alloc: Global) -> Result<String, AllocError>
+        ensures { IfOk result (λ text. string_bytes text ≡ ending_line self.now) }
+    {
+        let mut line = connection_text(alloc, self.number, self.peer)?;
+        let outcome = outcome_text(alloc, self.records, self.replies, self.why)?;
+        line.push_str(outcome.as_str())?;
+        Ok(line)
+    }
+}
+
+// Which connection it is, and where it came from.
+fn connection_text(alloc: Global, number: u64, peer: SocketAddr) -> Result<String, AllocError>
+    ensures { IfOk result (λ text. string_bytes text ≡ connection_text number peer) }
+{
+    let number = number as u128 + 1;
+    format!(in alloc; "connection {number} from {peer}: ")
+}
+
+// What became of it.
+fn outcome_text(alloc: Global, records: u64, replies: u64, why: Why) -> Result<String, AllocError>
+    ensures { IfOk result (λ text. string_bytes text ≡ outcome_text records replies why) }
+{
+    match why {
+        Why::Done => format!(in alloc; "{records} records, {replies} replies\n"),
+        Why::Idle => String::from_str(alloc, "Idle\n"),
+        Why::Fault(RecordFault::TooLong { at }) => format!(in alloc; "TooLong at {at}\n"),
+        Why::Fault(RecordFault::Truncated { at }) => format!(in alloc; "Truncated at {at}\n"),
+        Why::Fault(RecordFault::Read) => String::from_str(alloc, "Read\n"),
+        Why::Fault(RecordFault::Write { written: _ }) => String::from_str(alloc, "Write\n"),
+        Why::Fault(RecordFault::TooManyReads) => String::from_str(alloc, "TooManyReads\n"),
+        Why::Fault(RecordFault::NoMemory) => String::from_str(alloc, "NoMemory\n"),
     }
 }
 

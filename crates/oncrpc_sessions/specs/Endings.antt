@@ -1,0 +1,28 @@
+-- The line of a connection that has ended, of `serve --verbose` (this project's own).
+use Rattle.std.specs.Prelude.{ℕ, ◌+◌, List, ◌++◌, codes, decimal}
+use Rattle.std.specs.Net.Text.{socket_text}
+use Rattle.std.specs.declared.net.socket_addr.SocketAddr.{SocketAddr}
+use Rattle.rpc_record.specs.declared.fault.RecordFault.TheVariants as fault
+use Rattle.oncrpc_sessions.specs.declared.ending.Ending.{Ending}
+use Rattle.oncrpc_sessions.specs.declared.ending.Why.{Why}
+use Rattle.oncrpc_sessions.specs.declared.ending.Why.TheVariants as why
+
+-- which connection it is, counted from 1, and from which address and port it came (own)
+abbrev pub connection_text : (number : ℕ) → SocketAddr → List ℕ
+connection_text number peer =
+    codes "connection " ++ decimal (number + 1) ++ codes " from " ++ socket_text peer ++ codes ": "
+
+-- what became of it: how many records and replies there were, or why it ended (own)
+abbrev pub outcome_text : (records replies : ℕ) → Why → List ℕ
+outcome_text records replies why.Done = decimal records ++ codes " records, " ++ decimal replies ++ codes " replies\n"
+outcome_text records replies why.Idle = codes "Idle\n"
+outcome_text records replies (why.Fault (fault.TooLong at)) = codes "TooLong at " ++ decimal at ++ codes "\n"
+outcome_text records replies (why.Fault (fault.Truncated at)) = codes "Truncated at " ++ decimal at ++ codes "\n"
+outcome_text records replies (why.Fault fault.Read) = codes "Read\n"
+outcome_text records replies (why.Fault (fault.Write written)) = codes "Write\n"
+outcome_text records replies (why.Fault fault.TooManyReads) = codes "TooManyReads\n"
+outcome_text records replies (why.Fault fault.NoMemory) = codes "NoMemory\n"
+
+-- the whole line (own)
+abbrev pub ending_line : Ending → List ℕ
+ending_line e = connection_text e.number e.peer ++ outcome_text e.records e.replies e.why
