@@ -1,3 +1,3 @@
 pub mod Ending
 pub mod Reading
-pub mod Saying
+pub mod Telling

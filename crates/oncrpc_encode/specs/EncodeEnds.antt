@@ -1,5 +1,5 @@
 -- How writing the bytes of a value ends that is read as JSON: what the exit status says of what was read and written.
-use Rattle.std.specs.Prelude.{◌≡◌, ◌⊎◌, ℕ, ◌+◌, ◌≤◌, ◌<◌, Bool, List, length, take, Option, Vec}
+use Rattle.std.specs.Prelude.{◌≡◌, ◌⊎◌, ℕ, ◌+◌, ◌≤◌, ◌<◌, Bool, List, length, take, Option, Vec, string_bytes}
 use Rattle.std.specs.declared.alloc.Global.{Global}
 use Rattle.std.specs.Io.KnownBytes.{Appends}
 use Rattle.xdr_io.specs.Reported.{Counts, CountsAtMost, MovesAtMost}
@@ -8,9 +8,12 @@ use Rattle.oncrpc_answers.specs.declared.task.ValueTask.{ValueTask}
 use Rattle.oncrpc_tasks.specs.Checked.{IsSaid}
 use Rattle.oncrpc_tasks.specs.Devices.{Reports, Stream}
 use Rattle.oncrpc_tasks.specs.Ends.{IsUnasked}
+use Rattle.oncrpc_tasks.specs.Refusals.{IsReason, refusal_line as reason_line}
 use Rattle.oncrpc_tasks.specs.Sources.{AreReported}
+use Rattle.oncrpc_tasks.specs.Status.{Ends}
 use Rattle.oncrpc_tasks.specs.Tasks.{Asks}
 use Rattle.oncrpc_tasks.specs.declared.question.Form.{Form}
+use Rattle.oncrpc_tasks.specs.declared.unusable.Unusable.{Unusable}
 use Rattle.oncrpc_encode.specs.Encoding.{Sought, IsRightFor, most_text}
 use Rattle.oncrpc_encode.specs.Lines.{written_in, refusal_line}
 use Rattle.oncrpc_encode.specs.declared.encoded.Encoded.TheVariants as encoded
@@ -77,6 +80,15 @@ pub record IsLookedFor {I O F : Type 0} (reported : List ℕ → Option (List �
   pub sought : Sought
   pub seeks : Seeks texts what sought
   pub ends : ValueEncodes sought what.hex reports stream input input' output output' faults faults' status
+
+-- The line of the reason for which nothing was looked for was said, as far as the stream of faults took it. The reason
+-- is no failure. Which fault a text has, and where, is not told.
+pub record SaysReason {F : Type 0} (reported : List ℕ → Option (List ℕ)) (what : ValueTask) (stream : Stream F)
+    (faults faults' : F) : Type 0 where
+  pub why : Unusable
+  pub status : Ends why 2
+  pub reason : IsReason reported what why
+  pub said : IsSaid stream faults faults' (reason_line (string_bytes what.name) what.types.files.items why)
 
 -- Words ask for the bytes of a value: it was looked for; or not, and then nothing was read and nothing written. `file`
 -- says that the declarations were not read.

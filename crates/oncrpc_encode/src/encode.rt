@@ -3,14 +3,14 @@ ghost use Rattle.std.specs.Prelude.{◌≡◌, ◌⊎◌, ◌<◌, ◌≤◌, tr
 ghost use Rattle.oncrpc_tasks.specs.Checked.{IsSaid};
 ghost use Rattle.oncrpc_tasks.specs.Private.Printed.{Prints};
 ghost use Rattle.oncrpc_tasks.specs.Sources.{FileFails};
-ghost use Rattle.oncrpc_encode.specs.EncodeEnds.{EncodeEnds, ValueEncodes};
+ghost use Rattle.oncrpc_encode.specs.EncodeEnds.{EncodeEnds, ValueEncodes, SaysReason};
 ghost use Rattle.oncrpc_encode.specs.Encoding.{sought_of};
 ghost use Rattle.oncrpc_encode.specs.Lines.{refusal_line, written_in};
 
 use super::encoded::{Encoded, encoded_over};
 use super::refusal::{Refusal, line_of};
 use oncrpc_answers::{Failure, ValueTask, report};
-use oncrpc_tasks::{Opener, Target, refuse, target_of};
+use oncrpc_tasks::{Opener, Target, refuse, say_line, target_of};
 use std::alloc::{AllocError, Global};
 use xdr_io::{Sink, Source, write_whole};
 
@@ -24,6 +24,7 @@ use xdr_io::{Sink, Source, write_whole};
 /// the bytes of the value alone: nothing where the status is not 0, but what came before a write that failed.
 ///
 /// Memory is of the size of the text. Each level of the value takes stack (`xdr_codec::encode`).
+#[tactic(auto, using(crate::proofs::Telling::told_of))]
 pub fn encode_over<P: Opener, I: Source, O: Sink, F: Sink>(
     alloc: Global,
     what: &ValueTask,
@@ -41,6 +42,9 @@ pub fn encode_over<P: Opener, I: Source, O: Sink, F: Sink>(
         (record { left = I.left; reads = I.reads; failures = I.failures; taken = O.taken; lost = O.failures })
         (record { taken = F.taken; lost = F.failures })
         input.old input.new output.old output.new faults.old faults.new result }
+    // With status 2 the line says why nothing was looked for.
+    ensures told { result ≡ 2 → SaysReason (P.reported opener.old) what.now
+        (record { taken = F.taken; lost = F.failures }) faults.old faults.new }
 {
     let target = match target_of(alloc, what, opener) {
         Ok(target) => target,
@@ -112,7 +116,6 @@ fn hexadecimal_line(alloc: Global, bytes: &[u8]) -> Result<String, AllocError>
 }
 
 // Says why there are no bytes, where that can be done, and gives the exit status.
-#[tactic(auto, using(crate::proofs::Saying::line_said))]
 fn say_refusal<F: Sink>(alloc: Global, refusal: Refusal, faults: &mut F) -> u8
     ensures status { (result ≡ 1) ⊎ (result ≡ 4) }
     ensures said { result ≡ 1
@@ -120,7 +123,7 @@ fn say_refusal<F: Sink>(alloc: Global, refusal: Refusal, faults: &mut F) -> u8
 {
     match line_of(alloc, refusal) {
         Ok(line) => {
-            let _ = write_whole(faults, line.as_bytes());
+            say_line(&line, faults);
             1
         }
         Err(_) => report(Failure::NoMemory, faults),

@@ -8,8 +8,11 @@ use Rattle.xdr_types.specs.declared.kind.KindId.{KindId}
 use Rattle.xdr_lang.specs.Declarations.{Declared}
 use Rattle.oncrpc_answers.specs.declared.task.ValueTask.{ValueTask}
 use Rattle.oncrpc_kinds.specs.Naming.{Names}
-use Rattle.oncrpc_tasks.specs.Sources.{Declares}
+use Rattle.oncrpc_tasks.specs.Refusals.{IsReason, NamesNothing}
+use Rattle.oncrpc_tasks.specs.Sources.{Declares, HasNone}
 use Rattle.oncrpc_tasks.specs.Tasks.{AsksNothing}
+use Rattle.oncrpc_tasks.specs.declared.unusable.Unusable.{Unusable}
+use Rattle.oncrpc_tasks.specs.declared.unusable.Unusable.TheVariants as unusable
 
 not_there : (o : Option KindId) (p n : ℕ) → MatchOption o ⊥ (λ (k : KindId). k.place ≡ p) → MatchOption o ⊤
     (λ (k : KindId). k.place < n → ⊥) → p < n → ⊥
@@ -43,3 +46,22 @@ not_known o k n is unknown = subst (λ (p : Option KindId). MatchOption p ⊤ (�
 
 pub false_is : (b : Bool) → b ≡ false → IsTrue b → ⊥
 false_is b is holds = false≢true (sym is ∙ holds)
+
+-- the name names nothing in what is declared
+pub names_nothing : (reported : List ℕ → Option (List ℕ)) (what : ValueTask) (d : Declared) (o : Option KindId)
+    → Declares reported what.types d
+    → ((p : ℕ) → Names (string_bytes what.name) d p → MatchOption o ⊥ (λ (k : KindId). k.place ≡ p))
+    → MatchOption o ⊤ (λ (k : KindId). k.place < length d.schema.kinds → ⊥) → NamesNothing reported what
+names_nothing reported what d o declares only missing = record {
+  declared = d;
+  declares = declares;
+  none = λ p named. not_there o p (length d.schema.kinds) (only p named) missing;
+}
+
+-- where nothing is declared, that is the reason
+pub undeclared : (reported : List ℕ → Option (List ℕ)) (what : ValueTask) (why : Unusable)
+    → HasNone reported what.types why → IsReason reported what why
+undeclared reported what (unusable.Declaration file fault) none = none
+undeclared reported what unusable.Name none = absurd none
+undeclared reported what unusable.Limits none = absurd none
+undeclared reported what (unusable.Failed f) none = tt

@@ -6,6 +6,7 @@ pub mod Input
 pub mod Private
 pub mod Records
 pub mod RecordsEnd
+pub mod Refusals
 pub mod Right
 pub mod Sources
 pub mod Status

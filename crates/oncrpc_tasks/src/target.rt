@@ -1,5 +1,6 @@
 //! What the words of a task name: a kind, in the schema that declares it, and the limits on a value of it.
 ghost use Rattle.std.specs.Prelude.{◌≡◌, ◌<◌, length, IfOk, IfErr, IsErrOf};
+ghost use Rattle.oncrpc_tasks.specs.Refusals.{IsReason};
 ghost use Rattle.oncrpc_tasks.specs.Sources.{FileFails};
 ghost use Rattle.oncrpc_tasks.specs.Tasks.{AsksFor, HasNoQuestion};
 
@@ -20,6 +21,7 @@ pub struct Target {
 }
 
 /// What the task names. The declarations are looked at first, then the name, then the limits.
+#[tactic(auto, using(crate::proofs::Questions::undeclared))]
 pub fn target_of<P: Opener>(
     alloc: Global,
     what: &ValueTask,
@@ -31,6 +33,8 @@ pub fn target_of<P: Opener>(
     ensures known { IfOk result (λ t. t.kind.place < length t.schema.kinds) }
     // A refusal says why the words name nothing,
     ensures none { IfErr result (λ why. HasNoQuestion (P.reported opener.old) what.now why) }
+    // by the first reason that holds,
+    ensures reason { IfErr result (λ why. IsReason (P.reported opener.old) what.now why) }
     // and the failure Read that a text could not be read.
     ensures failed { IsErrOf result (Unusable.Failed Failure.Read)
         → FileFails P.Text.left P.Text.failures (P.reported opener.old) what.now.types.files.items

@@ -1,14 +1,18 @@
 //! Why a task asks nothing of its input.
-ghost use Rattle.std.specs.Prelude.{◌≡◌};
+ghost use Rattle.std.specs.Prelude.{◌≡◌, [], string_bytes};
 ghost use Rattle.oncrpc_answers.specs.Status.{failure_of_input};
+ghost use Rattle.oncrpc_tasks.specs.Checked.{IsSaid};
 ghost use Rattle.oncrpc_tasks.specs.Private.Meant.{RefusedFor};
+ghost use Rattle.oncrpc_tasks.specs.Refusals.{refusal_line};
 ghost use Rattle.oncrpc_tasks.specs.Status.{Ends};
 ghost use Rattle.oncrpc_answers.specs.declared.failure.Failure.TheVariants.{Read, NoMemory};
 ghost use Rattle.oncrpc_tasks.specs.declared.unusable.Unusable.TheVariants.{Failed};
 
+use super::refusal_line::refusal_line;
+use super::said::say_line;
 use oncrpc_answers::{Failure, ValueTask, report};
 use std::alloc::{AllocError, Global};
-use xdr_io::{InputFault, ReadFault, Sink, write_whole};
+use xdr_io::{InputFault, ReadFault, Sink};
 use xdr_lang::LangFault;
 
 /// Why there is no question.
@@ -72,14 +76,19 @@ impl From<AllocError> for Unusable {
 /// Writes the line to `faults`, where that can be done, and gives the exit status: 2, or that of the failure. An
 /// allocation failure for the line is status 4.
 pub fn refuse<F: Sink>(alloc: Global, why: Unusable, what: &ValueTask, faults: &mut F) -> u8
-    ensures { Ends why result }
+    ensures status { Ends why result }
+    // With status 2 it was the line of the refusal.
+    ensures said { result ≡ 2 → IsSaid (record { taken = F.taken; lost = F.failures }) faults.old faults.new
+        (refusal_line (string_bytes what.now.name) what.now.types.files.items why) }
 {
     refuse_named(alloc, why, &what.name, &what.types.files, faults)
 }
 
 /// The same where texts of these files are asked for, and no name.
 pub fn refuse_texts<F: Sink>(alloc: Global, why: Unusable, files: &[String], faults: &mut F) -> u8
-    ensures { Ends why result }
+    ensures status { Ends why result }
+    ensures said { result ≡ 2 → IsSaid (record { taken = F.taken; lost = F.failures }) faults.old faults.new
+        (refusal_line [] files.now why) }
 {
     refuse_named(alloc, why, "", files, faults)
 }
@@ -91,45 +100,18 @@ fn refuse_named<F: Sink>(
     files: &[String],
     faults: &mut F,
 ) -> u8
-    ensures { Ends why result }
+    ensures status { Ends why result }
+    ensures said { result ≡ 2 → IsSaid (record { taken = F.taken; lost = F.failures }) faults.old faults.new
+        (refusal_line name.now files.now why) }
 {
-    let line = match why {
-        Unusable::Declaration { file, fault } => declaration_line(alloc, files, file, fault),
-        Unusable::Name => format!(in alloc; "no such name: {name}\n"),
-        Unusable::Limits => String::from_str(alloc, "limits refused\n"),
-        Unusable::Failed(failure) => return report(failure, faults),
-    };
-    match line {
+    if let Unusable::Failed(failure) = why {
+        return report(failure, faults);
+    }
+    match refusal_line(alloc, why, name, files) {
         Ok(line) => {
-            let _ = write_whole(faults, line.as_bytes());
+            say_line(&line, faults);
             2
         }
         Err(_) => report(Failure::NoMemory, faults),
-    }
-}
-
-// A fault of the schema has its own number after the fault's. Of several files the one at fault is named.
-fn declaration_line(
-    alloc: Global,
-    files: &[String],
-    file: usize,
-    fault: LangFault,
-) -> Result<String, AllocError> {
-    let LangFault {
-        number,
-        inner,
-        line,
-        column,
-    } = fault;
-    let (name, mark) = match files.get(file) {
-        Some(name) if files.len() > 1 => (name.as_str(), ":"),
-        _ => ("", ""),
-    };
-    if inner == 0 {
-        format!(in alloc; "declaration refused: {number} at {name}{mark}{line}:{column}\n")
-    } else {
-        format!(in alloc;
-            "declaration refused: {number} ({inner}) at {name}{mark}{line}:{column}\n"
-        )
     }
 }

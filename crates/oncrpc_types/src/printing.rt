@@ -18,6 +18,7 @@ use xdr_types::NoMemory;
 /// All is made before the first write. 0 is all of it, and 2 texts that are refused. 3 is a text that could not be
 /// opened or read, or a write that failed. 4 is that memory was refused. All but 0 write a line to `faults`, where
 /// that can be done.
+#[tactic(auto, using(crate::proofs::Telling::told_of))]
 pub fn types_over<P: Opener, O: Sink, F: Sink>(
     alloc: Global,
     what: &TypesTask,
@@ -28,7 +29,8 @@ pub fn types_over<P: Opener, O: Sink, F: Sink>(
     ensures { TypesEnd (P.reported opener.old) what.now
         (FileFails P.Text.left P.Text.failures (P.reported opener.old) what.now.types.files.items
         (P.failures opener.old) (P.failures opener.new))
-        O.taken O.failures output.old output.new faults.old faults.new result }
+        O.taken O.failures (record { taken = F.taken; lost = F.failures })
+        output.old output.new faults.old faults.new result }
 {
     let text = match listing_of(alloc, what, opener) {
         Ok(text) => text,
