@@ -356,8 +356,10 @@ uint32_t oncrpc_declarations_read(
     oncrpc_outcome *outcome);
 
 /* The same of a text in rpcgen's dialect (docs/LANGUAGE.md, "rpcgen's dialect"). For its lines `#ifdef` the names in
- * `names` are defined, as RPC_HDR, with one space between two. `text` and `names` may be NULL where their count is 0.
- * ONCRPC_OK, _UNDECLARED, _NO_MEMORY. ONCRPC_NO_KIND: the names are no UTF-8. */
+ * `names` are defined, as by `--define` of the program: RPC_HDR, or several with a space between two. `text` and `names`
+ * may be NULL where their count is 0.
+ * ONCRPC_OK, _UNDECLARED, _NO_MEMORY. ONCRPC_NO_KIND: one of the names is none that such a line can ask for: letters,
+ * digits and _, no digit first, and no value. The text was not looked at. */
 uint32_t oncrpc_declarations_read_dialect(
     const void *text, size_t text_count,
     const void *names, size_t names_count,

@@ -544,7 +544,8 @@ class Declarations {
         return made;
     }
 
-    /// Reads declarations in rpcgen's dialect, where these names are defined, with one space between two.
+    /// Reads declarations in rpcgen's dialect, where these names are defined, with a space between two. Status::no_kind
+    /// is that of a name which is none: letters, digits and _, no digit first, and no value.
     [[nodiscard]] static Answer<Declarations> read_dialect(std::string_view text, std::string_view names = {}) {
         Declarations made;
         oncrpc_outcome outcome{};

@@ -94,8 +94,9 @@ void check_dialect(void) {
     static const char dialect[] = "%#include <x.h>\n#ifdef RPC_HDR\ntypedef int here;\n#endif\ntypedef string name<>;\n";
     static const struct { const char *names; uint32_t status; } defined[] = {
         {"", ONCRPC_NO_KIND}, {"RPC_HDR", ONCRPC_OK}, {"RPC_XDR RPC_HDR", ONCRPC_OK}, {"RPC_HDR RPC_XDR", ONCRPC_OK},
-        {"RPC_XDR", ONCRPC_NO_KIND}, {"RPC_HDRS", ONCRPC_NO_KIND}, {"  ", ONCRPC_NO_KIND},
+        {"RPC_XDR", ONCRPC_NO_KIND}, {"RPC_HDRS", ONCRPC_NO_KIND}, {"  ", ONCRPC_NO_KIND}, {" _  RPC_HDR ", ONCRPC_OK},
     };
+    static const char *no_names[] = {"BIG=1", "RPC_HDR 1BIG", "RPC-HDR", "RPC_HDR\tRPC_XDR", "RPC_HDR\n", "\303\251"};
     oncrpc_declarations held = ONCRPC_NONE;
     for (size_t i = 0; i < sizeof defined / sizeof *defined; i++) {
         oncrpc_outcome outcome = {9, 9, 9, 9, 9};
@@ -115,5 +116,12 @@ void check_dialect(void) {
     judge(status == ONCRPC_OK && tells(&outcome, 0, 0) && held.live, status);
     status = oncrpc_declarations_read_dialect(NULL, 0, bytes("\377"), 1, &held, &outcome);
     judge(status == ONCRPC_NO_KIND && tells(&outcome, 0, 0) && !held.live, status);
+    for (size_t i = 0; i < sizeof no_names / sizeof *no_names; i++) {
+        status = oncrpc_declarations_read_dialect(NULL, 0, NULL, 0, &held, &outcome);
+        judge(status == ONCRPC_OK && held.live, status);
+        status = oncrpc_declarations_read_dialect(bytes("\n#endif\n"), 8, bytes(no_names[i]), strlen(no_names[i]), &held,
+            &outcome);
+        judge(status == ONCRPC_NO_KIND && tells(&outcome, 0, 0) && !held.live, status);
+    }
     oncrpc_declarations_free(&held);
 }

@@ -153,6 +153,7 @@ void check_json_and_dialect() {
     read = GOT(Declarations::read_dialect(text));
     JUDGE(read && fails(GOT(read->check("here", words({1}))), Status::no_kind));
     JUDGE(fails(GOT(Declarations::read_dialect("#endif")), Status::undeclared));
+    JUDGE(fails(GOT(Declarations::read_dialect(text, "RPC_HDR=1")), Status::no_kind));
 }
 
 // The file of the RFC from its items, and items that are no value's.

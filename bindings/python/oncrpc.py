@@ -780,11 +780,16 @@ class Library:
     def dialect(self, text: Text, names: Iterable[str] = ()) -> Declarations:
         """Reads declarations in rpcgen's dialect, where these names are defined for its lines of `#`.
 
-        Raises TypeError where `names` is one string and no list of them, DeclarationError, NoMemoryError.
+        Raises TypeError where `names` is one string and no list of them, ValueError where one is no name: letters,
+        digits and _, no digit first, and no value. Raises DeclarationError, NoMemoryError.
         """
         if isinstance(names, str):
             raise TypeError("names: a list of strings")
-        return Declarations(self, text, " ".join(names))
+        defined = list(names)
+        try:
+            return Declarations(self, text, " ".join(defined))
+        except NoKindError:
+            raise ValueError(f"names: {defined!r}: letters, digits and _, no digit first, and no value") from None
 
     def registry(self, port: int = 111, seed: Optional[Data] = None) -> Registry:
         """Starts a registry with its own rows, at this port. Raises NoMemoryError.

@@ -236,6 +236,8 @@ class TheFileOfTheRfc(Case):
                 else:
                     self.assertRaises(oncrpc.NoKindError, read.named, "here")
         self.assertRaises(TypeError, self.library.dialect, text, "RPC_HDR")
+        for name in ("BIG=1", "1BIG", "RPC-HDR", "RPC_HDR\n"):
+            self.assertRaises(ValueError, self.library.dialect, text, [name])
         with self.assertRaises(oncrpc.DeclarationError) as caught:
             self.library.dialect("\n#endif")
         self.assertEqual((caught.exception.fault, caught.exception.line), (TextFault.BAD_CHARACTER, 2))

@@ -186,6 +186,8 @@ impl TextFault {
 pub enum ReadFault {
     /// The text has an error.
     Undeclared(TextFault),
+    /// One of the names to be defined is none: letters, digits and `_`, no digit first, and no value.
+    BadName,
     /// Out of memory.
     NoMemory,
     /// A status that this crate does not know for the call.
@@ -196,6 +198,7 @@ impl ReadFault {
     pub(crate) fn of(status: u32, outcome: &sys::Outcome) -> Self {
         match status {
             sys::UNDECLARED => Self::Undeclared(TextFault::of(outcome)),
+            sys::NO_KIND => Self::BadName,
             sys::NO_MEMORY => Self::NoMemory,
             _ => Self::Unknown(status),
         }
@@ -206,6 +209,7 @@ impl fmt::Display for ReadFault {
     fn fmt(&self, f: &mut fmt::Formatter<'_>) -> fmt::Result {
         match self {
             Self::Undeclared(it) => write!(f, "declaration refused: {:?} at {}:{}", it.kind, it.line, it.column),
+            Self::BadName => f.write_str("what is to be defined is no name"),
             Self::NoMemory => f.write_str("out of memory"),
             Self::Unknown(status) => write!(f, "the unknown status {status}"),
         }

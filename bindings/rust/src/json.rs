@@ -6,8 +6,8 @@ use crate::fault::{CheckFault, ReadFault};
 use crate::sys;
 
 impl Declarations {
-    /// Reads declarations in rpcgen's dialect, where these names are defined for its lines of `#`, with one space
-    /// between two (docs/LANGUAGE.md).
+    /// Reads declarations in rpcgen's dialect, where these names are defined for its lines of `#`, with a space between
+    /// two (docs/LANGUAGE.md). [`ReadFault::BadName`] says that one of them is no name.
     ///
     /// ```
     /// # use oncrpc::{Declarations, Limits};

@@ -9,11 +9,11 @@ use c_values::Handle;
 use std::alloc::Global;
 
 /// Reads a text in rpcgen's dialect into the handle, as `xdr_rpcgen::read_dialect` says. What that held before is
-/// freed. For lines of `#ifdef` these names are defined, which have a space between two.
+/// freed. For lines of `#ifdef` these names are defined, as by `--define`, which have a space between two.
 ///
 /// Status 0: the handle holds what the text declares. 3: the text has an error; `why` is the fault's number, 1 to
-/// 12, at `line` and `column`, with `inner` for 10. 4: the names are no UTF-8. 6: memory was refused. At 3, 4 and 6 the
-/// handle holds none.
+/// 12, at `line` and `column`, with `inner` for 10. 4: one of the names is none that such a line can ask for: letters,
+/// digits and `_`, no digit first. 6: memory was refused. At 3, 4 and 6 the handle holds none.
 #[unsafe(no_mangle)]
 pub extern "C" fn oncrpc_declarations_read_dialect(
     alloc: Global,

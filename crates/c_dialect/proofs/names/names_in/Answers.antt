@@ -2,7 +2,7 @@
 use Rattle.std.proofs.Common.{lit<}
 use Rattle.std.proofs.lemmas.Iterator.Consumers.{map_from_collect}
 use Rattle.std.proofs.lemmas.Iterator.Splits.{YieldsList-from_str_split}
-use Rattle.c_dialect.proofs.unread.names_in.Goals as goal
+use Rattle.c_dialect.proofs.names.names_in.Goals as goal
 
 pub returns : goal.returns
 returns c =
