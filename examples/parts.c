@@ -69,6 +69,16 @@ static void find(oncrpc_declarations *declarations, const char *path) {
     }
 }
 
+/* The types that the text declares, in its order. */
+static void list_types(oncrpc_declarations *declarations) {
+    oncrpc_member type;
+    uint8_t name[16];
+    for (size_t i = 0; oncrpc_declarations_type(declarations, i, name, sizeof name, &type) == ONCRPC_OK; i++) {
+        printf("%s%.*s", i ? ", " : "types: ", (int)type.name_count, (char *)name);
+    }
+    printf("\n");
+}
+
 int main(void) {
     oncrpc_declarations declarations = ONCRPC_NONE;
     oncrpc_outcome fault;
@@ -88,6 +98,7 @@ int main(void) {
     find(&declarations, "type");
     find(&declarations, "type.interpretor");
     find(&declarations, "type.creator");
+    list_types(&declarations);
     oncrpc_declarations_free(&declarations);
     return 0;
 }

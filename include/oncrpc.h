@@ -108,7 +108,7 @@ enum {
     /* Of one part of a value, and of kinds, alone. */
     ONCRPC_NO_SUCH_PART = 27, /* the value has no part with the path */
     ONCRPC_NO_NUMBER = 28,    /* the part has no number */
-    ONCRPC_NO_MEMBER = 29     /* the kind has no such member, or there is no such kind */
+    ONCRPC_NO_MEMBER = 29     /* the kind has no such member, there is no such kind, or no such type of the text */
 };
 
 /* Why bytes are refused: `why` of an outcome with ONCRPC_REFUSED. The place is that of the unit (four bytes) or of the
@@ -240,11 +240,11 @@ typedef struct {
     uint32_t item;     /* the kind of an array's items, of an optional's item, or of a union's discriminant */
 } oncrpc_kind;
 
-/* A member of an enum, a field of a struct, or an arm of a union. Its name is put into the caller's buffer. */
+/* A member of an enum, a field of a struct, an arm of a union, or a type. Its name is put into the caller's buffer. */
 typedef struct {
     size_t name_count; /* of how many bytes its name is; no zero ends it */
-    int64_t number;    /* of an enum's member its number; of an arm the number that was asked for; of a field 0 */
-    uint32_t kind;     /* of a field or an arm its kind; of an enum's member that of the enum */
+    int64_t number;    /* of an enum's member its number; of an arm the number that was asked for; else 0 */
+    uint32_t kind;     /* of a field, an arm or a type its kind; of an enum's member that of the enum */
 } oncrpc_member;
 
 /* `form` of an item. */
@@ -535,6 +535,16 @@ uint32_t oncrpc_declarations_member(
 uint32_t oncrpc_declarations_picked(
     oncrpc_declarations *declarations,
     uint32_t kind, int64_t number,
+    uint8_t *buffer, size_t buffer_count,
+    oncrpc_member *member);
+
+/* Tells the type of the text that `index` others are before, in the order of the text (RFC 4506 section 6.3): `kind` of
+ * `member` is the kind that its name names, and `number` is 0. Basic kinds are none of them. Puts its name into the front
+ * of `buffer`, as oncrpc_declarations_member does, whose statuses it has. ONCRPC_NO_MEMBER: the text declares at most
+ * `index` types. */
+uint32_t oncrpc_declarations_type(
+    oncrpc_declarations *declarations,
+    size_t index,
     uint8_t *buffer, size_t buffer_count,
     oncrpc_member *member);
 

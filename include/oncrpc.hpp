@@ -453,7 +453,7 @@ struct Kind {
     std::uint32_t item = 0;
 };
 
-/// A member of an enum, a field of a struct, or an arm of a union (oncrpc_member says what each field is).
+/// A member of an enum, a field of a struct, an arm of a union, or a type (oncrpc_member says what each field is).
 struct Member {
     std::string name;
     std::int64_t number = 0;
@@ -680,6 +680,23 @@ class Declarations {
         });
     }
 
+    /// The types that the text declares, in its order: the kind of each with its name.
+    [[nodiscard]] Answer<std::vector<Member>> types() {
+        std::vector<Member> all;
+        Status status = Status::ok;
+        while (status == Status::ok) {
+            Member made;
+            status = tell_member(made, [&](std::uint8_t *buffer, std::size_t count, oncrpc_member *member) {
+                return oncrpc_declarations_type(handle_.get(), all.size(), buffer, count, member);
+            });
+            if (status == Status::ok)
+                all.push_back(std::move(made));
+        }
+        if (status != Status::no_member)
+            return detail::fails<std::vector<Member>>(Error(status));
+        return all;
+    }
+
     /// The encoding of the value that has these items.
     [[nodiscard]] Answer<Buffer> write(std::string_view name, const Items &items, Limits limits = {}) {
         Buffer made;
@@ -701,6 +718,13 @@ class Declarations {
   private:
     template <class Tell> Answer<Member> member_by(Tell tell) {
         Member made;
+        const auto status = tell_member(made, tell);
+        if (status != Status::ok)
+            return detail::fails<Member>(Error(status));
+        return made;
+    }
+
+    template <class Tell> static Status tell_member(Member &made, Tell tell) {
         oncrpc_member member{};
         auto status = static_cast<Status>(tell(nullptr, 0, &member));
         if (status == Status::no_room) {
@@ -708,11 +732,9 @@ class Declarations {
             status = static_cast<Status>(
                 tell(reinterpret_cast<std::uint8_t *>(made.name.data()), made.name.size(), &member));
         }
-        if (status != Status::ok)
-            return detail::fails<Member>(Error(status));
         made.number = member.number;
         made.kind = member.kind;
-        return made;
+        return status;
     }
 
     Status show_into(std::string_view name, Bytes input, Limits limits, std::string &lines, std::size_t &written,

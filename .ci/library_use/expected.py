@@ -37,6 +37,7 @@ status 0, 48 bytes of input
 type: number 2, EXEC
 type.interpretor: lisp
 type.creator: the value has no part with the path
+types: filekind, filetype, file
 """
 WRITTEN = """without a buffer: status 8, 48 bytes are needed
 status 0, 48 bytes, as in the RFC

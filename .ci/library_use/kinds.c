@@ -118,6 +118,31 @@ static void follow_list(oncrpc_declarations *held) {
     judge(status == ONCRPC_OK && told.xdr_type == ONCRPC_TYPE_OPTIONAL && told.item == named(held, "node"), status);
 }
 
+/* The types of the text in its order, which are those behind the seven basic ones of the rows, and then none. */
+static void list_types(oncrpc_declarations *held) {
+    enum { BASIC = 7, OWN = sizeof kind_rows / sizeof *kind_rows - BASIC };
+    for (size_t i = 0; i < OWN; i++) {
+        const char *name = kind_rows[BASIC + i].name;
+        size_t count = strlen(name);
+        uint8_t buffer[12] = "............";
+        oncrpc_member member = {9, 9, 9};
+        uint32_t status = oncrpc_declarations_type(held, i, buffer, count - 1, &member);
+        judge(status == ONCRPC_NO_ROOM && member.name_count == count && !memcmp(buffer, "............", 12), status);
+        member = (oncrpc_member){9, 9, 9};
+        status = oncrpc_declarations_type(held, i, buffer, count, &member);
+        judge(status == ONCRPC_OK && member.name_count == count && !member.number && member.kind == named(held, name)
+            && !memcmp(buffer, name, count) && !memcmp(buffer + count, "............", 12 - count), status);
+    }
+    static const size_t behind[] = {OWN, OWN + BASIC, SIZE_MAX - BASIC, SIZE_MAX};
+    for (size_t i = 0; i < sizeof behind / sizeof *behind; i++) {
+        uint8_t buffer[12] = "............";
+        oncrpc_member member = {9, 9, 9};
+        uint32_t status = oncrpc_declarations_type(held, behind[i], buffer, 12, &member);
+        judge(status == ONCRPC_NO_MEMBER && member.name_count == 9 && member.number == 9 && member.kind == 9
+            && !memcmp(buffer, "............", 12), status);
+    }
+}
+
 /* No such name, and no such kind: nothing is filled. */
 static void ask_in_vain(oncrpc_declarations *held) {
     static const char *names[] = {"folder", "", "Int", "\377", "100003.3.16.1"};
@@ -151,6 +176,8 @@ static void ask_none(oncrpc_declarations *none) {
     judge(status == ONCRPC_NO_DECLARATIONS && member.name_count == 9, status);
     status = oncrpc_declarations_picked(none, 0, 0, NULL, 0, &member);
     judge(status == ONCRPC_NO_DECLARATIONS && member.name_count == 9, status);
+    status = oncrpc_declarations_type(none, 0, NULL, 0, &member);
+    judge(status == ONCRPC_NO_DECLARATIONS && member.name_count == 9, status);
 }
 
 void check_kinds(void) {
@@ -167,6 +194,7 @@ void check_kinds(void) {
             tell_member(&held, member_rows + i);
         }
         follow_list(&held);
+        list_types(&held);
         ask_in_vain(&held);
     }
     oncrpc_declarations_free(&held);

@@ -21,6 +21,8 @@ static void no_paths(oncrpc_declarations *held) {
     judge(status == ONCRPC_NO_MEMBER && member.name_count == 9, status);
     status = oncrpc_declarations_picked(held, 0, 0, NULL, 0, &member);
     judge(status == ONCRPC_NO_MEMBER && member.name_count == 9, status);
+    status = oncrpc_declarations_type(held, 0, NULL, 0, &member);
+    judge(status == ONCRPC_NO_MEMBER && member.name_count == 9, status);
 }
 
 static void no_values(void) {

@@ -22,6 +22,9 @@ static void fill_input(size_t count) {
     }
 }
 
+/* How many types the greatest text has: typedefs of one length behind the first. */
+static size_t type_count;
+
 /* The greatest text: as many typedefs of one length as go into it, and spaces. */
 static void read_text(oncrpc_declarations *held) {
     static char longest[TEXT + 32];
@@ -29,6 +32,7 @@ static void read_text(oncrpc_declarations *held) {
     size_t count = (size_t)snprintf(longest, sizeof longest, "typedef int list<>;\n");
     for (int i = 0; count <= TEXT - 20; i++) {
         count += (size_t)snprintf(longest + count, 21, "typedef int t%05d;\n", i);
+        type_count = (size_t)i + 2;
     }
     memset(longest + count, ' ', TEXT - count);
     uint32_t status = oncrpc_declarations_read(bytes(longest), TEXT, held, &outcome);
@@ -66,6 +70,21 @@ static void show_value(oncrpc_declarations *held) {
         is_line = buffer[2 + 2 * i] == digits[input[4 + i] >> 4] && buffer[3 + 2 * i] == digits[input[4 + i] & 15];
     }
     judge(status == ONCRPC_OK && tells(&outcome, MIB + 4, 0) && is_line, status);
+}
+
+/* Each type of the greatest text, and no memory for any. */
+static void list_types(oncrpc_declarations *held) {
+    char wanted[8];
+    size_t before = growth_bytes();
+    for (size_t i = 0; i <= type_count; i++) {
+        oncrpc_member member = {9, 9, 9};
+        uint32_t status = oncrpc_declarations_type(held, i, buffer, sizeof buffer, &member);
+        snprintf(wanted, sizeof wanted, "t%05u", (unsigned)(i - 1) % 100000);
+        judge(i == type_count ? status == ONCRPC_NO_MEMBER && member.name_count == 9
+            : status == ONCRPC_OK && !memcmp(buffer, i ? wanted : "list", member.name_count)
+            && member.name_count == (i ? 6 : 4) && !member.number, status);
+    }
+    judge(growth_bytes() == before, 0);
 }
 
 /* The parts of the list: itself, and each item at its place. Where there is no array they are counted, with or
@@ -304,6 +323,7 @@ void check_sizes(void) {
     read_text(&declarations);
     check_value(&declarations);
     show_value(&declarations);
+    list_types(&declarations);
     list_value(&declarations);
     find_item(&declarations);
     write_value(&declarations);

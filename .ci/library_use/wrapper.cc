@@ -134,6 +134,10 @@ void check_paths() {
     JUDGE(fails(GOT(declarations.member(kind->item, 3)), Status::no_member));
     JUDGE(fails(GOT(declarations.kind(1024)), Status::no_kind));
     JUDGE(fails(GOT(declarations.named("folder")), Status::no_kind));
+    const auto types = GOT(declarations.types());
+    JUDGE(types && types->size() == 3 && (*types)[0].name == "filekind" && (*types)[0].kind == kind->item);
+    JUDGE((*types)[1].name == "filetype" && (*types)[2].name == "file" && (*types)[2].kind == place);
+    JUDGE(fails(GOT(Declarations().types()), Status::no_declarations));
     const auto least = words({0x80000000, 0});
     found = GOT(declarations.find("hyper", least, ""));
     JUDGE(found && GOT(declarations.number(*found))->signed_number == INT64_MIN);

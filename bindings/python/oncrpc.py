@@ -431,9 +431,9 @@ class Kind(NamedTuple):
 
 
 class Field(NamedTuple):
-    """A member of an enum, a field of a struct or an arm of a union: its name, and its number or its kind.
+    """A member of an enum, a field of a struct, an arm of a union or a type: its name, and its number or its kind.
 
-    An enum's member has the kind of the enum; an arm has the number that it was asked for by, and a field 0.
+    An enum's member has the kind of the enum; an arm has the number that it was asked for by, and the others 0.
     """
 
     name: str
@@ -676,6 +676,7 @@ _FUNCTIONS: Dict[str, List[Any]] = {
     "oncrpc_declarations_kind": [_HELD, _U32, ctypes.POINTER(_Kind)],
     "oncrpc_declarations_member": [_HELD, _U32, ctypes.c_size_t, *_LENT, ctypes.POINTER(_Field)],
     "oncrpc_declarations_picked": [_HELD, _U32, ctypes.c_int64, *_LENT, ctypes.POINTER(_Field)],
+    "oncrpc_declarations_type": [_HELD, ctypes.c_size_t, *_LENT, ctypes.POINTER(_Field)],
     "oncrpc_declarations_write": [_HELD, *_LENT, _U32, _U32, *_LENT, *_LENT, *_LENT, _COUNT, _OUTCOME],
     "oncrpc_declarations_free": [_HELD],
     "oncrpc_normalise": [*_LENT, _U32, *_LENT, _COUNT, _OUTCOME],
@@ -1116,12 +1117,22 @@ class Declarations(_Owner):
         number = operator.index(number)
         return self._field("oncrpc_declarations_picked", kind, number) if -(1 << 63) <= number < 1 << 63 else None
 
+    def types(self) -> List[Field]:
+        """The types that the text declares, in its order: the kind of each with its name. `number` is 0."""
+        found: List[Field] = []
+        while (told := self._named_field("oncrpc_declarations_type", len(found))) is not None:
+            found.append(told)
+        return found
+
     def _field(self, name: str, kind: int, key: int) -> Optional[Field]:
+        return self._named_field(name, _u(32, kind, "kind"), key)
+
+    def _named_field(self, name: str, *asked: int) -> Optional[Field]:
         told, buffer = _Field(), bytearray()
-        status = self._call(name, _u(32, kind, "kind"), key, None, 0, told)
+        status = self._call(name, *asked, None, 0, told)
         if status == Status.NO_ROOM:
             buffer = bytearray(told.name_count)
-            status = self._call(name, kind, key, *_lend(buffer), told)
+            status = self._call(name, *asked, *_lend(buffer), told)
         if status == Status.NO_MEMBER:
             return None
         if status != Status.OK:

@@ -183,6 +183,8 @@ class TheFileOfTheRfc(Case):
         self.assertIsNone(self.file.picked(level, 3))
         self.assertIsNone(self.file.picked(level, 2**64))
         self.assertEqual(self.file.fields(union), [])
+        self.assertEqual(self.file.types(), [("filekind", 0, level), ("filetype", 0, union), ("file", 0, kind)])
+        self.assertEqual(self.declared("const SIZE = 4;").types(), [])
         with self.assertRaises(oncrpc.NoKindError):
             self.file.kind(1024)
 

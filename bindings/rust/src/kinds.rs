@@ -20,14 +20,14 @@ pub struct Kind {
     pub item: u32,
 }
 
-/// A member of an enum, a field of a struct, or an arm of a union.
+/// A member of an enum, a field of a struct, an arm of a union, or a type.
 #[derive(Clone, Debug, PartialEq, Eq, Hash)]
 pub struct Member {
     /// Its name; empty of an arm that is void.
     pub name: String,
-    /// Of an enum's member its number, of an arm the number that was asked for, of a field 0.
+    /// Of an enum's member its number, of an arm the number that was asked for, else 0.
     pub number: i64,
-    /// Of a field or an arm its kind, of an enum's member that of the enum.
+    /// Of a field, an arm or a type its kind, of an enum's member that of the enum.
     pub kind: u32,
 }
 
@@ -147,6 +147,37 @@ impl Declarations {
         told(|to, capacity, member| {
             // SAFETY: so many bytes are lent; handle, buffer and member are ours alone and lie apart.
             unsafe { sys::oncrpc_declarations_picked(self.handle(), kind, number, to, capacity, member) }
+        })
+    }
+
+    /// The types that the text declares, in its order: the kind of each with its name. A fault ends them.
+    ///
+    /// ```
+    /// # use oncrpc::Declarations;
+    /// let mut declarations = Declarations::read(b"typedef opaque handle<64>; struct point { int x; int y; };")?;
+    /// let names = declarations.types().map(|it| it.map(|it| it.name));
+    /// assert_eq!(names.collect::<Result<Vec<_>, _>>()?, ["handle", "point"]);
+    /// # Ok::<(), Box<dyn std::error::Error>>(())
+    /// ```
+    pub fn types(&mut self) -> impl Iterator<Item = Result<Member, KindFault>> + '_ {
+        let mut next = Some(0);
+        std::iter::from_fn(move || {
+            let index = next.take()?;
+            match self.type_at(index) {
+                Err(KindFault::NoMember) => None,
+                found => {
+                    next = found.is_ok().then(|| index + 1);
+                    Some(found)
+                }
+            }
+        })
+    }
+
+    /// The type that `index` others of the text are before.
+    fn type_at(&mut self, index: usize) -> Result<Member, KindFault> {
+        told(|to, capacity, member| {
+            // SAFETY: so many bytes are lent; handle, buffer and member are ours alone and lie apart.
+            unsafe { sys::oncrpc_declarations_type(self.handle(), index, to, capacity, member) }
         })
     }
 }

@@ -407,6 +407,14 @@ extern "C" {
         member: *mut Member,
     ) -> u32;
 
+    pub fn oncrpc_declarations_type(
+        declarations: *mut Declarations,
+        index: usize,
+        buffer: *mut u8,
+        buffer_count: usize,
+        member: *mut Member,
+    ) -> u32;
+
     pub fn oncrpc_declarations_write(
         declarations: *mut Declarations,
         name: *const u8,

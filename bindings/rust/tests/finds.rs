@@ -117,4 +117,8 @@ fn kinds_and_members() {
     assert_eq!(file.picked(level, 3), Err(KindFault::NoMember));
     assert_eq!(file.kind(1024), Err(KindFault::NoKind));
     assert_eq!(file.kind_named("folder"), Err(KindFault::NoKind));
+    let types: Vec<_> = file.types().map(|it| it.map(|it| (it.name, it.kind))).collect();
+    let wanted = [("filekind", level), ("filetype", union), ("file", kind)];
+    assert_eq!(types, wanted.map(|(name, kind)| Ok((name.to_string(), kind))));
+    assert_eq!(Declarations::read(b"const SIZE = 4;").unwrap().types().count(), 0);
 }

@@ -1,4 +1,5 @@
 pub mod Kinds
 pub mod Members
 pub mod Private
+pub mod Types
 pub mod Worked

@@ -24,6 +24,10 @@ of_constant place c = record { name = c.name; number = c.number; kind = place }
 abbrev pub of_part : (number : ℤ) → Part → Member
 of_part number p = record { name = p.name; number = number; kind = p.kind }
 
+-- a type: its name and the kind that it names (RFC 4506 section 6.3)
+abbrev pub of_type : Part → Member
+of_type p = of_part (pos 0) p
+
 -- the member, or the field, at an index of the kind at a place; a union has none by index
 abbrev pub member_at : (place : ℕ) → KindView → (index : ℕ) → Option Member
 member_at place (xdr.numbered members) index = option_map (of_constant place) (slice_get members index)

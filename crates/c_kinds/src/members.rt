@@ -14,7 +14,7 @@ use std::alloc::Global;
 use xdr_types::KindId;
 
 /// Puts the member, and its name into the buffer.
-fn put_member(found: Option<Shown<'_>>, names: &mut [u8], member: &mut MemberParts) -> Picked
+pub fn put_member(found: Option<Shown<'_>>, names: &mut [u8], member: &mut MemberParts) -> Picked
     ensures { IsPicked (option_map member_of found.entry) (record { names = names.old; member = member.old })
         (record { names = names.new; member = member.new }) result }
 {

@@ -1,8 +1,10 @@
-//! Kinds that were declared (RFC 4506): which one a name names, what it is made of, and its members.
+//! Kinds that were declared (RFC 4506): which types a text declares, which kind a name names, what it is made of, and
+//! its members.
 ghost use Rattle.std.specs.Prelude.{◌≡◌, option_map};
 ghost use Rattle.xdr_lang.specs.Views.{declared_of};
 ghost use Rattle.c_kinds.specs.Kinds.{IsNamedByHeld, IsToldByHeld, ReportsKind};
 ghost use Rattle.c_kinds.specs.Members.{ByPlace, ByNumber, IsPickedByHeld, ReportsMember};
+ghost use Rattle.c_kinds.specs.Types.{IsListedByHeld};
 
 use c_kinds::{KindParts, MemberParts};
 use c_values::Handle;
@@ -96,4 +98,26 @@ pub extern "C" fn oncrpc_declarations_picked(
         result }
 {
     c_kinds::member_by_number(alloc, handle, kind, number, names, member)
+}
+
+/// Tells the type that so many others of the text are before (RFC 4506 section 6.3): the kind that it names, with
+/// `number` 0. Puts its name into the buffer. The declarations that the handle holds stay.
+///
+/// The statuses are those of `oncrpc_declarations_member`; 29: the text declares no more types.
+#[unsafe(no_mangle)]
+pub extern "C" fn oncrpc_declarations_type(
+    alloc: Global,
+    handle: &mut Handle,
+    index: usize,
+    names: &mut [u8],
+    member: &mut MemberParts,
+) -> u32
+    // What the handle holds stays.
+    ensures stay { handle.new.declared ≡ handle.old.declared }
+    // The status is that of an answer that is right by it.
+    ensures answer { ReportsMember (IsListedByHeld (option_map declared_of handle.old.declared) index
+        (record { names = names.old; member = member.old }) (record { names = names.new; member = member.new }))
+        result }
+{
+    c_kinds::type_by_index(alloc, handle, index, names, member)
 }

@@ -29,7 +29,7 @@ pub use dialect::oncrpc_declarations_read_dialect;
 pub use json::oncrpc_declarations_to_json;
 pub use kinds::{
     oncrpc_declarations_kind, oncrpc_declarations_member, oncrpc_declarations_named,
-    oncrpc_declarations_picked,
+    oncrpc_declarations_picked, oncrpc_declarations_type,
 };
 pub use paths::{oncrpc_declarations_find, oncrpc_part_number};
 pub use records::{
