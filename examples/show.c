@@ -1,4 +1,4 @@
-/* Prints the value that the RFC gives, by declarations that are read once.
+/* Prints the value that the RFC gives, by declarations that are read once: as lines, and as JSON that is read back.
  *
  *   ./build-library library && cc -Ilibrary/include examples/show.c library/liboncrpc.a -o show && ./show */
 #include <stdio.h>
@@ -28,6 +28,10 @@ static const uint8_t input[48] = "\0\0\0\11sillyprog\0\0\0"
                                  "\0\0\0\2\0\0\0\4lisp"
                                  "\0\0\0\4john"
                                  "\0\0\0\6(quit)\0\0";
+
+/* A file in JSON whose owner is a number. */
+static const char wrong[] = "{\"filename\": \"a\", \"type\": {\"case\": \"TEXT\"},\n"
+                            " \"owner\": 7, \"data\": \"\"}\n";
 
 /* In rpcgen's dialect, for the name RPC_HDR. */
 static const char dialect[] = "%#include <rpc/rpc.h>\n"
@@ -59,6 +63,14 @@ int main(void) {
     status = oncrpc_declarations_to_json(&declarations, "file", 4, ONCRPC_MOST_DEPTH, ONCRPC_MOST_BYTES, input,
                                          sizeof input, false, buffer, sizeof buffer, &written, &outcome);
     printf("status %u, %.*s\n", status, (int)written, (const char *)buffer);
+    uint8_t again[sizeof input];
+    status = oncrpc_declarations_from_json(&declarations, "file", 4, ONCRPC_MOST_DEPTH, ONCRPC_MOST_BYTES, buffer,
+                                           written, again, sizeof again, &written, &outcome);
+    printf("read back: status %u, %s\n", status,
+           written == sizeof input && !memcmp(again, input, sizeof input) ? "the same bytes" : "others");
+    status = oncrpc_declarations_from_json(&declarations, "file", 4, ONCRPC_MOST_DEPTH, ONCRPC_MOST_BYTES, wrong,
+                                           sizeof wrong - 1, again, sizeof again, &written, &outcome);
+    printf("status %u, %s at %zu:%zu\n", status, oncrpc_json_text(outcome.why), outcome.line, outcome.column);
     status = oncrpc_declarations_read_dialect(dialect, sizeof dialect - 1, "RPC_HDR", 7, &declarations, &outcome);
     printf("rpcgen's dialect: status %u\n", status);
     oncrpc_declarations_free(&declarations);

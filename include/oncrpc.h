@@ -7,8 +7,9 @@
  *
  * SHOWN BY TESTS, and by no contract: that ONCRPC_NO_MEMORY comes only where malloc or realloc refused, or as
  * oncrpc_normalise says of its input. That no memory is lost. Which error of a text is told, and at which line and
- * column. The stack that is needed, and that no call ends the process. The numbers and the texts of this file, and the
- * sizes and the places of fields. That the hashes of a registry depend on its seed is shown by neither: it is the code.
+ * column; of JSON which reason is told, and that its place is where the refused value or key begins. The stack that is
+ * needed, and that no call ends the process. The numbers and the texts of this file, and the sizes and the places of
+ * fields. That the hashes of a registry depend on its seed is shown by neither: it is the code.
  *
  * POINTERS. A pointer to bytes, parts or rows has a count beside it, and leads to so many. Where the count is 0 it may
  * be NULL, and is not looked at. No other pointer may be NULL: neither a handle, nor an outcome, nor a call, nor a
@@ -34,9 +35,10 @@
  * time. A check writes to it too, so threads that share one take a lock. Nothing here may be called from a signal
  * handler, nor in the forked child of a process with threads.
  *
- * STACK. No call but oncrpc_declarations_to_json goes down by the depth of its input: 64 KiB are enough for every other
- * call, at the greatest limits too, as was measured on x86-64 Linux. That call took 64 KiB for a value of 160 levels, and
- * 1400 KiB for one of 4080: lower the limit on depth where a thread has less.
+ * STACK. No calls but oncrpc_declarations_to_json and oncrpc_declarations_from_json go down by the depth of a value: 64
+ * KiB are enough for every other call, at the greatest limits too, as was measured on x86-64 Linux. The first of the two
+ * took 64 KiB for a value of 160 levels, and 1400 KiB for one of 4080. The second took 246 KiB for one of 2048, and 470
+ * KiB for one of 4094. Lower the limit on depth where a thread has less.
  *
  * PROCESSOR. x86-64-v2 on Linux: the library has instructions of SSSE3 and SSE4.1, and an older processor ends the
  * program at the first of them.
@@ -108,7 +110,10 @@ enum {
     /* Of one part of a value, and of kinds, alone. */
     ONCRPC_NO_SUCH_PART = 27, /* the value has no part with the path */
     ONCRPC_NO_NUMBER = 28,    /* the part has no number */
-    ONCRPC_NO_MEMBER = 29     /* the kind has no such member, there is no such kind, or no such type of the text */
+    ONCRPC_NO_MEMBER = 29,    /* the kind has no such member, there is no such kind, or no such type of the text */
+
+    /* Of JSON that is read alone. */
+    ONCRPC_BAD_JSON = 30 /* the text spells no value. `why`: a reason; `at`, `line`, `column`: the place in the text */
 };
 
 /* Why bytes are refused: `why` of an outcome with ONCRPC_REFUSED. The place is that of the unit (four bytes) or of the
@@ -141,6 +146,28 @@ enum {
     ONCRPC_OUTSIDE = 13       /* content that does not lie in the data */
 };
 
+/* Why a JSON text spells no value of the kind within the limits: `why` of an outcome with ONCRPC_BAD_JSON. The place is
+ * that of the value or the key that the reason is about, or another that is said here. A text that is no JSON is
+ * ONCRPC_JSON_NOT_JSON or ONCRPC_JSON_TOO_DEEP, whatever else is wrong. Of several other reasons the first in the
+ * order of the value's bytes is told; the members of an object are looked at before the values in it. */
+enum {
+    ONCRPC_JSON_NOT_JSON = 1,       /* no JSON (RFC 8259), at the token that is refused; or no UTF-8, at the first byte
+                                       that is none */
+    ONCRPC_JSON_UNKNOWN_MEMBER = 2, /* a member that the struct or the union does not have, at its key */
+    ONCRPC_JSON_MISSING_MEMBER = 3, /* a member that is not there, at the object */
+    ONCRPC_JSON_MEMBER_TWICE = 4,   /* a member that stands twice, at its second key */
+    ONCRPC_JSON_WRONG_TYPE = 5,     /* JSON of another form than the kind's */
+    ONCRPC_JSON_OUT_OF_RANGE = 6,   /* a number out of the range of its type, or that no member of the enum has */
+    ONCRPC_JSON_NOT_WHOLE = 7,      /* a number with a fraction or an exponent */
+    ONCRPC_JSON_UNKNOWN_NAME = 8,   /* a name that no member of the enum has */
+    ONCRPC_JSON_BAD_HEX = 9,        /* a string that is no pairs of hexadecimal digits */
+    ONCRPC_JSON_WRONG_LENGTH = 10,  /* more or fewer bytes or items than the kind has */
+    ONCRPC_JSON_NO_ARM = 11,        /* a discriminant without an arm, at the value of `case` */
+    ONCRPC_JSON_TOO_DEEP = 12,      /* brackets that nest above 4096 deep, at the first of these; or a value below the
+                                       limit on depth, at the text's end */
+    ONCRPC_JSON_TOO_LARGE = 13      /* a value above the limit on bytes, at the text's end */
+};
+
 /* Which error a text has: `why` of an outcome with ONCRPC_UNDECLARED. docs/LANGUAGE.md explains each. A text without
  * a declaration, also an empty one, has none. */
 enum {
@@ -160,8 +187,8 @@ enum {
 
 typedef struct {
     size_t at;      /* a count of bytes, of ONCRPC_BAD_ITEM of items; or the place of a refusal */
-    size_t line;    /* of a fault of a text, from 1 */
-    size_t column;  /* of a fault of a text, in bytes from 1 */
+    size_t line;    /* of a fault of a text, from 1; of JSON too */
+    size_t column;  /* of a fault of a text, in bytes from 1; of JSON too */
     uint32_t why;   /* a reason, or a fault of a text */
     uint32_t inner; /* the number of a schema's fault */
 } oncrpc_outcome;
@@ -406,6 +433,32 @@ uint32_t oncrpc_declarations_to_json(
     uint32_t depth, uint32_t bytes,
     const void *input, size_t input_count,
     bool is_indented,
+    uint8_t *buffer, size_t buffer_count,
+    size_t *written,
+    oncrpc_outcome *outcome);
+
+/* Writes the encoding of the value of the kind `name` that the JSON `text` spells (RFC 8259; docs/FORMATS.md), by
+ * declarations that were read: the other way of oncrpc_declarations_to_json. Any text that says the same is read:
+ * members in any order, white space, escapes, an enum's number as a name or a number, a number as such or as a string.
+ * The value has at most `depth` and `bytes`, the limits of a check. The text is all of the JSON and one value, and needs
+ * no zero at its end. The declarations stay, whatever the status is. `name`, `text` and `buffer` may be NULL where their
+ * count is 0; an empty text is no JSON.
+ *
+ * ONCRPC_OK: the text spells that value, and no other. `written` and `at` of the outcome say how many bytes its
+ * encoding has. They are the first of the buffer; the others are as they were. ONCRPC_NO_ROOM: `at` says how many bytes
+ * are needed. ONCRPC_BAD_JSON: the text spells no value of the kind within the limits, for the reason `why`; `at` says
+ * how many bytes of the text are before the place, which is at `line` and `column`. Only a line feed begins a line.
+ *
+ * At any status but ONCRPC_OK the buffer is as it was, and `written` is 0, so a count of 0 asks how many are needed.
+ * The name is looked at first, then the limits, then the text. It takes memory for the text as a tree, then for the
+ * value and its encoding; none by a count or a length alone. It takes stack for each level of the value: a limit on
+ * depth bounds it.
+ * ONCRPC_OK, _NO_KIND, _BAD_LIMITS, _NO_MEMORY, _NO_DECLARATIONS, _NO_ROOM, _BAD_JSON. */
+uint32_t oncrpc_declarations_from_json(
+    oncrpc_declarations *declarations,
+    const void *name, size_t name_count,
+    uint32_t depth, uint32_t bytes,
+    const void *text, size_t text_count,
     uint8_t *buffer, size_t buffer_count,
     size_t *written,
     oncrpc_outcome *outcome);
@@ -911,6 +964,7 @@ static inline const char *oncrpc_status_text(uint32_t status) {
     case ONCRPC_NO_SUCH_PART: return "the value has no part with the path";
     case ONCRPC_NO_NUMBER: return "the part has no number";
     case ONCRPC_NO_MEMBER: return "the kind has no such member";
+    case ONCRPC_BAD_JSON: return "the JSON text spells no value";
     default: return "an unknown status";
     }
 }
@@ -931,6 +985,26 @@ static inline const char *oncrpc_reason_text(uint32_t why) {
     case ONCRPC_PAST_END: return "an item behind the value";
     case ONCRPC_UNFINISHED: return "the value is not whole";
     case ONCRPC_OUTSIDE: return "content that does not lie in the data";
+    default: return "an unknown reason";
+    }
+}
+
+/* What a reason against JSON says: `why` with ONCRPC_BAD_JSON. */
+static inline const char *oncrpc_json_text(uint32_t why) {
+    switch (why) {
+    case ONCRPC_JSON_NOT_JSON: return "no JSON, or no UTF-8";
+    case ONCRPC_JSON_UNKNOWN_MEMBER: return "a member that the type does not have";
+    case ONCRPC_JSON_MISSING_MEMBER: return "a member is missing";
+    case ONCRPC_JSON_MEMBER_TWICE: return "a member that stands twice";
+    case ONCRPC_JSON_WRONG_TYPE: return "JSON of another form than the type's";
+    case ONCRPC_JSON_OUT_OF_RANGE: return "a number that is out of its type's range";
+    case ONCRPC_JSON_NOT_WHOLE: return "a number with a fraction or an exponent";
+    case ONCRPC_JSON_UNKNOWN_NAME: return "a name that no member of the enumeration has";
+    case ONCRPC_JSON_BAD_HEX: return "no pairs of hexadecimal digits";
+    case ONCRPC_JSON_WRONG_LENGTH: return "more or fewer bytes or items than the type has";
+    case ONCRPC_JSON_NO_ARM: return "a discriminant without an arm";
+    case ONCRPC_JSON_TOO_DEEP: return "deeper than the limit";
+    case ONCRPC_JSON_TOO_LARGE: return "more bytes than the limit";
     default: return "an unknown reason";
     }
 }

@@ -84,6 +84,7 @@ enum class Status : std::uint32_t {
     no_such_part = ONCRPC_NO_SUCH_PART,
     no_number = ONCRPC_NO_NUMBER,
     no_member = ONCRPC_NO_MEMBER,
+    bad_json = ONCRPC_BAD_JSON,
 };
 
 /// Why bytes are refused, and from wrong_item on why items are.
@@ -104,6 +105,24 @@ enum class Reason : std::uint32_t {
     outside = ONCRPC_OUTSIDE,
 };
 
+/// Why a JSON text spells no value.
+enum class JsonReason : std::uint32_t {
+    none = 0,
+    not_json = ONCRPC_JSON_NOT_JSON,
+    unknown_member = ONCRPC_JSON_UNKNOWN_MEMBER,
+    missing_member = ONCRPC_JSON_MISSING_MEMBER,
+    member_twice = ONCRPC_JSON_MEMBER_TWICE,
+    wrong_type = ONCRPC_JSON_WRONG_TYPE,
+    out_of_range = ONCRPC_JSON_OUT_OF_RANGE,
+    not_whole = ONCRPC_JSON_NOT_WHOLE,
+    unknown_name = ONCRPC_JSON_UNKNOWN_NAME,
+    bad_hex = ONCRPC_JSON_BAD_HEX,
+    wrong_length = ONCRPC_JSON_WRONG_LENGTH,
+    no_arm = ONCRPC_JSON_NO_ARM,
+    too_deep = ONCRPC_JSON_TOO_DEEP,
+    too_large = ONCRPC_JSON_TOO_LARGE,
+};
+
 /// Which error a text of declarations has.
 enum class TextFault : std::uint32_t {
     none = 0,
@@ -121,9 +140,10 @@ enum class TextFault : std::uint32_t {
     nested_too_deep = ONCRPC_NESTED_TOO_DEEP,
 };
 
-/// A status, a reason and an error of a text in words, which stay for ever and end with a zero.
+/// A status, a reason, one against JSON and an error of a text in words, which stay for ever and end with a zero.
 inline const char *text(Status status) noexcept { return oncrpc_status_text(static_cast<std::uint32_t>(status)); }
 inline const char *text(Reason reason) noexcept { return oncrpc_reason_text(static_cast<std::uint32_t>(reason)); }
+inline const char *text(JsonReason reason) noexcept { return oncrpc_json_text(static_cast<std::uint32_t>(reason)); }
 inline const char *text(TextFault fault) noexcept { return oncrpc_fault_text(static_cast<std::uint32_t>(fault)); }
 
 /// What a call answers in place of its result. A field that its status does not speak of is 0.
@@ -140,10 +160,16 @@ class Error final : public std::exception {
         return static_cast<Reason>(status_ == Status::refused || status_ == Status::bad_item ? outcome_.why : 0);
     }
 
-    /// Of Status::refused: the count of bytes before the place. Of Status::bad_item: that of items.
+    /// Of Status::bad_json: why.
+    JsonReason json_reason() const noexcept {
+        return static_cast<JsonReason>(status_ == Status::bad_json ? outcome_.why : 0);
+    }
+
+    /// Of Status::refused and bad_json: the count of bytes before the place. Of Status::bad_item: that of items.
     std::size_t at() const noexcept { return outcome_.at; }
 
-    /// Of Status::undeclared: which error, at which line and column, from 1, and the number of a schema's fault.
+    /// Of Status::undeclared: which error, at which line and column, from 1, and the number of a schema's fault. Of
+    /// Status::bad_json the line and the column of the place.
     TextFault fault() const noexcept {
         return static_cast<TextFault>(status_ == Status::undeclared ? outcome_.why : 0);
     }
@@ -156,12 +182,13 @@ class Error final : public std::exception {
     std::uint32_t xid() const noexcept { return xid_; }
     std::uint32_t rpc_version() const noexcept { return rpc_version_; }
 
-    /// The reason or the error of a text in words, else the status.
+    /// The reason, or the error of a text, in words, else the status.
     const char *what() const noexcept override {
         switch (status_) {
         case Status::refused:
         case Status::bad_item: return text(reason());
         case Status::undeclared: return text(fault());
+        case Status::bad_json: return text(json_reason());
         default: return text(status_);
         }
     }
@@ -600,6 +627,22 @@ class Declarations {
         return shown;
     }
 
+    /// The encoding of the value that the JSON text spells. It takes stack for each level of the value.
+    [[nodiscard]] Answer<Buffer> from_json(std::string_view name, std::string_view text, Limits limits = {}) {
+        Buffer made;
+        oncrpc_outcome outcome{};
+        std::size_t written = 0;
+        Status status = spelled_into(name, text, limits, made, written, outcome);
+        while (status == Status::no_room) {
+            made.resize(outcome.at);
+            status = spelled_into(name, text, limits, made, written, outcome);
+        }
+        if (status != Status::ok)
+            return detail::fails<Buffer>(Error(status, outcome));
+        made.resize(written);
+        return made;
+    }
+
     /// Where the parts of the value that begins the input lie. A part takes 48 bytes: bound the input, or the limits.
     Answer<Parts> parts(std::string_view name, Bytes input, Limits limits = {}) {
         Parts found;
@@ -749,6 +792,13 @@ class Declarations {
         return static_cast<Status>(oncrpc_declarations_to_json(
             handle_.get(), detail::lent(name), name.size(), limits.depth, limits.bytes, input.data(), input.size(),
             is_indented, reinterpret_cast<std::uint8_t *>(lines.data()), lines.size(), &written, &outcome));
+    }
+
+    Status spelled_into(std::string_view name, std::string_view text, Limits limits, Buffer &made, std::size_t &written,
+                        oncrpc_outcome &outcome) {
+        return static_cast<Status>(oncrpc_declarations_from_json(
+            handle_.get(), detail::lent(name), name.size(), limits.depth, limits.bytes, detail::lent(text), text.size(),
+            made.data(), made.size(), &written, &outcome));
     }
 
     Status write_into(std::string_view name, const Items &items, Limits limits, Buffer &made, std::size_t &written,

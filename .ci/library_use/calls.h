@@ -8,7 +8,7 @@ void check_values(void);    /* values.c, with each growth refused in turn, and s
 void check_written(void);   /* writing.c: values by their items, each reason against them by its name */
 void check_paths(void);     /* paths.c: one part by its path, and its number */
 void check_kinds(void);     /* kinds.c: kinds and their members */
-void check_json(void);      /* json.c: values as JSON */
+void check_json(void);      /* json.c: values as JSON, both ways */
 void check_dialect(void);   /* json.c: texts in rpcgen's dialect */
 void check_messages(void);  /* messages.c */
 void check_streams(void);   /* streams.c */

@@ -19,6 +19,8 @@ status 0, 48 bytes of input
 a buffer of 10 bytes: status 8, 116 are needed
 47 bytes: status 2, 0 written
 status 0, {"filename":"sillyprog","type":{"case":"EXEC","interpretor":"lisp"},"owner":"john","data":"287175697429"}
+read back: status 0, the same bytes
+status 30, JSON of another form than the type's at 2:11
 rpcgen's dialect: status 0
 """
 PARTED = """without buffers: status 8, 10 parts and 60 bytes of names are needed

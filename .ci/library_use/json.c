@@ -1,4 +1,4 @@
-/* Values as JSON, by the table of docs/FORMATS.md, and declarations in rpcgen's dialect. */
+/* Values as JSON, both ways, by the tables of docs/FORMATS.md, and declarations in rpcgen's dialect. */
 #include "calls.h"
 
 static const char declared[] =
@@ -10,7 +10,8 @@ static const char declared[] =
     "typedef perhaps *twice;\n"
     "typedef level levels<9>;\n"
     "struct node { int number; node *next; };\n"
-    "union held switch (level z) { case LOW: node there; case HIGH: void; };\n";
+    "union held switch (level z) { case LOW: node there; case HIGH: void; };\n"
+    "union picked switch (int d) { case 1: int there; case 5: void; };\n";
 
 struct json_row { const char *name, *input; size_t count; const char *compact, *indented; };
 static const struct json_row json_rows[] = {
@@ -50,6 +51,101 @@ static void tell_row(oncrpc_declarations *held, const struct json_row *row, bool
     }
 }
 
+/* The text is read as the bytes, where the buffer is just enough for them, and not in less. */
+static void read_back(oncrpc_declarations *held, const char *name, const char *told, const char *input, size_t count) {
+    uint8_t room[64], unwritten[64];
+    size_t written = 9;
+    oncrpc_outcome outcome = {9, 9, 9, 9, 9};
+    memset(room, '.', sizeof room), memset(unwritten, '.', sizeof unwritten);
+    uint32_t status = oncrpc_declarations_from_json(held, bytes(name), strlen(name), 9, 96, bytes(told), strlen(told),
+        room, count - 1, &written, &outcome);
+    judge(status == ONCRPC_NO_ROOM && tells(&outcome, count, 0) && !written && !memcmp(room, unwritten, sizeof room),
+        status);
+    status = oncrpc_declarations_from_json(held, bytes(name), strlen(name), 9, 96, bytes(told), strlen(told), room,
+        count, &written, &outcome);
+    judge(status == ONCRPC_OK && tells(&outcome, count, 0) && written == count && !memcmp(room, input, count)
+        && !memcmp(room + count, unwritten, sizeof room - count), status);
+}
+
+/* Other texts that say the same. */
+static const struct { const char *name, *told, *input; size_t count; } other_texts[] = {
+    {"int", "\n -2\t", "\377\377\377\376", 4},
+    {"int", "\"-2\"", "\377\377\377\376", 4},
+    {"wide", "-1", "\377\377\377\377\377\377\377\377", 8},
+    {"level", "7", "\0\0\0\7", 4},
+    {"some", "\"0FF0\"", "\0\0\0\2\17\360\0\0", 8},
+    {"name", "\"\\u0061\\/\"", "\0\0\0\2a/\0\0", 8},
+    {"name", "{\"hex\":\"61\"}", "\0\0\0\1a\0\0\0", 8},
+    {"held", "{\"there\": {\"next\": null, \"number\": 3}, \"case\": -1}", "\377\377\377\377\0\0\0\3\0\0\0\0", 12},
+};
+
+static char brackets[5000];
+
+/* Each reason, with its place: no text of these spells a value. */
+static void refuse_texts(oncrpc_declarations *held) {
+    static const struct { const char *name, *told; uint32_t depth, bytes, why; size_t at, line, column; } refused[] = {
+        {"int", "", 9, 96, ONCRPC_JSON_NOT_JSON, 0, 1, 1},
+        {"levels", "[7,\n x]", 9, 96, ONCRPC_JSON_NOT_JSON, 5, 2, 2},
+        {"name", "\"a\377\"", 9, 96, ONCRPC_JSON_NOT_JSON, 2, 1, 3},
+        {"node", "{\"next\":null,\n \"numbe\":3}", 9, 96, ONCRPC_JSON_UNKNOWN_MEMBER, 15, 2, 2},
+        {"node", " {\"next\":null}", 9, 96, ONCRPC_JSON_MISSING_MEMBER, 1, 1, 2},
+        {"node", "{\"next\":null,\"next\":null}", 9, 96, ONCRPC_JSON_MEMBER_TWICE, 13, 1, 14},
+        {"node", "{\"next\":null,\n\n\"number\":[]}", 9, 96, ONCRPC_JSON_WRONG_TYPE, 24, 3, 10},
+        {"int", "\n\n 2147483648", 9, 96, ONCRPC_JSON_OUT_OF_RANGE, 3, 3, 2},
+        {"level", "5", 9, 96, ONCRPC_JSON_OUT_OF_RANGE, 0, 1, 1},
+        {"int", "1.5", 9, 96, ONCRPC_JSON_NOT_WHOLE, 0, 1, 1},
+        {"level", "\"MIDDLE\"", 9, 96, ONCRPC_JSON_UNKNOWN_NAME, 0, 1, 1},
+        {"some", "\"0fz0\"", 9, 96, ONCRPC_JSON_BAD_HEX, 0, 1, 1},
+        {"levels", "[7,7,7,7,7,7,7,7,7,7]", 9, 96, ONCRPC_JSON_WRONG_LENGTH, 0, 1, 1},
+        {"picked", "{\"case\":2}", 9, 96, ONCRPC_JSON_NO_ARM, 8, 1, 9},
+        {"node", "{\"number\":3,\n\"next\":{\"number\":3,\"next\":null}}", 3, 96, ONCRPC_JSON_TOO_DEEP, 45, 2, 33},
+        {"int", brackets, 9, 96, ONCRPC_JSON_TOO_DEEP, 4096, 1, 4097},
+        {"levels", "[7,7]\n", 9, 8, ONCRPC_JSON_TOO_LARGE, 6, 2, 1},
+    };
+    memset(brackets, '[', sizeof brackets - 1);
+    for (size_t i = 0; i < sizeof refused / sizeof *refused; i++) {
+        uint8_t room[64], unwritten[64];
+        size_t written = 9;
+        oncrpc_outcome outcome = {9, 9, 9, 9, 9};
+        memset(room, '.', sizeof room), memset(unwritten, '.', sizeof unwritten);
+        uint32_t status = oncrpc_declarations_from_json(held, bytes(refused[i].name), strlen(refused[i].name),
+            refused[i].depth, refused[i].bytes, bytes(refused[i].told), strlen(refused[i].told), room, sizeof room,
+            &written, &outcome);
+        judge(status == ONCRPC_BAD_JSON && outcome.why == refused[i].why && outcome.at == refused[i].at
+            && outcome.line == refused[i].line && outcome.column == refused[i].column && !outcome.inner && !written
+            && !memcmp(room, unwritten, sizeof room), status);
+    }
+}
+
+/* What is looked at before the text. */
+static void refuse_names(oncrpc_declarations *held) {
+    static const struct { const char *name; uint32_t depth, bytes, status; } refused[] = {
+        {"folder", 0, 48, ONCRPC_NO_KIND},
+        {"level", 0, 48, ONCRPC_BAD_LIMITS},
+        {"level", 1, 6, ONCRPC_BAD_LIMITS},
+    };
+    for (size_t i = 0; i < sizeof refused / sizeof *refused; i++) {
+        uint8_t room[4] = "....";
+        size_t written = 9;
+        oncrpc_outcome outcome = {9, 9, 9, 9, 9};
+        uint32_t status = oncrpc_declarations_from_json(held, bytes(refused[i].name), strlen(refused[i].name),
+            refused[i].depth, refused[i].bytes, bytes("{"), 1, room, 4, &written, &outcome);
+        judge(status == refused[i].status && tells(&outcome, 0, 0) && !written && !memcmp(room, "....", 4), status);
+    }
+}
+
+static void read_texts(oncrpc_declarations *held) {
+    for (const struct json_row *row = json_rows; row < json_rows + sizeof json_rows / sizeof *json_rows; row++) {
+        read_back(held, row->name, row->compact, row->input, row->count);
+        read_back(held, row->name, row->indented, row->input, row->count);
+    }
+    for (size_t i = 0; i < sizeof other_texts / sizeof *other_texts; i++) {
+        read_back(held, other_texts[i].name, other_texts[i].told, other_texts[i].input, other_texts[i].count);
+    }
+    refuse_texts(held);
+    refuse_names(held);
+}
+
 static void refuse_json(oncrpc_declarations *held) {
     static const struct { const char *name; uint32_t depth, bytes; size_t count; uint32_t status, why; size_t at; }
     refused[] = {
@@ -77,6 +173,9 @@ void check_json(void) {
     uint32_t status = oncrpc_declarations_to_json(&held, bytes("int"), 3, 1, 4, NULL, 0, true, NULL, 0, &written,
         &outcome);
     judge(status == ONCRPC_NO_DECLARATIONS && tells(&outcome, 0, 0) && !written, status);
+    written = 9;
+    status = oncrpc_declarations_from_json(&held, bytes("int"), 3, 1, 4, bytes("7"), 1, NULL, 0, &written, &outcome);
+    judge(status == ONCRPC_NO_DECLARATIONS && tells(&outcome, 0, 0) && !written, status);
     status = oncrpc_declarations_read(bytes(declared), sizeof declared - 1, &held, &outcome);
     judge(status == ONCRPC_OK, status);
     if (status == ONCRPC_OK) {
@@ -85,6 +184,7 @@ void check_json(void) {
             tell_row(&held, json_rows + i, true);
         }
         refuse_json(&held);
+        read_texts(&held);
     }
     oncrpc_declarations_free(&held);
 }

@@ -51,6 +51,14 @@ static void no_values(void) {
     status = oncrpc_declarations_to_json(&held, bytes("int"), 3, 1, 4, bytes("\0\0\0\7"), 4, true, NULL, 0, &written,
         &outcome);
     judge(status == ONCRPC_NO_ROOM && tells(&outcome, 1, 0) && !written, status);
+    written = 9;
+    status = oncrpc_declarations_from_json(&held, NULL, 0, 1, 4, NULL, 0, NULL, 0, &written, &outcome);
+    judge(status == ONCRPC_NO_KIND && tells(&outcome, 0, 0) && !written, status);
+    status = oncrpc_declarations_from_json(&held, bytes("int"), 3, 1, 4, NULL, 0, NULL, 0, &written, &outcome);
+    judge(status == ONCRPC_BAD_JSON && outcome.why == ONCRPC_JSON_NOT_JSON && !outcome.at && outcome.line == 1
+        && outcome.column == 1 && !written, status);
+    status = oncrpc_declarations_from_json(&held, bytes("int"), 3, 1, 4, bytes("7"), 1, NULL, 0, &written, &outcome);
+    judge(status == ONCRPC_NO_ROOM && tells(&outcome, 4, 0) && !written, status);
     status = oncrpc_declarations_parts(&held, NULL, 0, 1, 4, NULL, 0, NULL, 0, NULL, 0, &found);
     judge(status == ONCRPC_NO_KIND && !found.parts, status);
     status = oncrpc_declarations_parts(&held, bytes("int"), 3, 1, 4, bytes("\0\0\0\7"), 4, NULL, 0, NULL, 0, &found);

@@ -72,6 +72,29 @@ static void show_value(oncrpc_declarations *held) {
     judge(status == ONCRPC_OK && tells(&outcome, MIB + 4, 0) && is_line, status);
 }
 
+/* The opaque as a string of two digits for each byte, there and back. */
+static void tell_value(oncrpc_declarations *held) {
+    static const char digits[] = "0123456789abcdef";
+    static uint8_t back[MIB + 8];
+    oncrpc_outcome outcome = {9, 9, 9, 9, 9};
+    size_t written = 9, count = 9;
+    fill_input(MIB + 4);
+    put_number(input, MIB);
+    uint32_t status = oncrpc_declarations_to_json(held, bytes("opaque"), 6, 1, ONCRPC_MOST_BYTES, input, MIB + 4, false,
+        buffer, sizeof buffer, &written, &outcome);
+    int is_text = written == 2 * MIB + 2 && buffer[0] == '"' && buffer[2 * MIB + 1] == '"';
+    for (size_t i = 0; is_text && i < MIB; i++) {
+        is_text = buffer[1 + 2 * i] == digits[input[4 + i] >> 4] && buffer[2 + 2 * i] == digits[input[4 + i] & 15];
+    }
+    judge(status == ONCRPC_OK && tells(&outcome, MIB + 4, 0) && is_text, status);
+    status = oncrpc_declarations_from_json(held, bytes("opaque"), 6, 1, ONCRPC_MOST_BYTES, buffer, written, back,
+        MIB + 3, &count, &outcome);
+    judge(status == ONCRPC_NO_ROOM && tells(&outcome, MIB + 4, 0) && !count && !back[0], status);
+    status = oncrpc_declarations_from_json(held, bytes("opaque"), 6, 1, ONCRPC_MOST_BYTES, buffer, written, back,
+        sizeof back, &count, &outcome);
+    judge(status == ONCRPC_OK && tells(&outcome, MIB + 4, 0) && count == MIB + 4 && !memcmp(back, input, MIB + 4), status);
+}
+
 /* Each type of the greatest text, and no memory for any. */
 static void list_types(oncrpc_declarations *held) {
     char wanted[8];
@@ -323,6 +346,7 @@ void check_sizes(void) {
     read_text(&declarations);
     check_value(&declarations);
     show_value(&declarations);
+    tell_value(&declarations);
     list_types(&declarations);
     list_value(&declarations);
     find_item(&declarations);

@@ -151,6 +151,14 @@ void check_json_and_dialect() {
     const auto told = GOT(declarations.to_json("filetype", file_bytes.substr(16, 12)));
     JUDGE(told && told->lines == R"({"case":"EXEC","interpretor":"lisp"})" && told->checked.used == 12);
     JUDGE(fails(GOT(declarations.to_json("file", file_bytes.substr(0, 47))), Status::refused, Reason::truncated, 47));
+    const auto made = GOT(declarations.from_json("filetype", "{\"interpretor\": \"lisp\",\n\"case\": 2}"));
+    JUDGE(made && Bytes(*made) == Bytes(file_bytes.substr(16, 12)));
+    const auto refused = GOT(declarations.from_json("filetype", "{\"interpretor\": \"lisp\",\n\"case\": 3}"));
+    JUDGE(!refused && refused.error().status() == Status::bad_json && refused.error().at() == 32
+          && refused.error().json_reason() == JsonReason::out_of_range && refused.error().line() == 2
+          && refused.error().column() == 9 && refused.error().reason() == Reason::none
+          && refused.error().what() == text(JsonReason::out_of_range));
+    JUDGE(fails(GOT(declarations.from_json("folder", "{}")), Status::no_kind));
     constexpr auto text = "%#include <x.h>\n#ifdef RPC_HDR\ntypedef int here;\n#endif\ntypedef string name<>;";
     auto read = GOT(Declarations::read_dialect(text, "RPC_XDR RPC_HDR"));
     JUDGE(read && GOT(read->check("here", words({1}))).has_value());

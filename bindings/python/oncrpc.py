@@ -59,6 +59,8 @@ __all__ = [
     "Item",
     "ItemError",
     "ItemReason",
+    "JsonError",
+    "JsonReason",
     "Kind",
     "LimitError",
     "Library",
@@ -141,6 +143,7 @@ class Status(enum.IntEnum):
     NO_SUCH_PART = 27
     NO_NUMBER = 28
     NO_MEMBER = 29
+    BAD_JSON = 30
 
 
 class Reason(enum.IntEnum):
@@ -164,6 +167,24 @@ class ItemReason(enum.IntEnum):
     PAST_END = 11
     UNFINISHED = 12
     OUTSIDE = 13
+
+
+class JsonReason(enum.IntEnum):
+    """Why a JSON text spells no value."""
+
+    NOT_JSON = 1
+    UNKNOWN_MEMBER = 2
+    MISSING_MEMBER = 3
+    MEMBER_TWICE = 4
+    WRONG_TYPE = 5
+    OUT_OF_RANGE = 6
+    NOT_WHOLE = 7
+    UNKNOWN_NAME = 8
+    BAD_HEX = 9
+    WRONG_LENGTH = 10
+    NO_ARM = 11
+    TOO_DEEP = 12
+    TOO_LARGE = 13
 
 
 class TextFault(enum.IntEnum):
@@ -232,11 +253,12 @@ class State(enum.IntEnum):
 class OncrpcError(Exception):
     """What a call answers in place of its result.
 
-    `status` says which answer it is. `reason` and `at` are told of bytes and items that are refused, and are None else.
+    `status` says which answer it is. `reason` and `at` are told of bytes, items and JSON that are refused, and are None
+    else.
     """
 
     status: Union[Status, int, None] = None
-    reason: Union[Reason, ItemReason, int, None] = None
+    reason: Union[Reason, ItemReason, JsonReason, int, None] = None
     at: Optional[int] = None
 
     def __init__(self, said: str = "", **told: Any) -> None:
@@ -259,6 +281,16 @@ class MoreFollowsError(OncrpcError, ValueError):
 
 class ItemError(OncrpcError, ValueError):
     """The items are no value's: the one that `at` others are before is refused for `reason`."""
+
+
+class JsonError(OncrpcError, ValueError):
+    """The JSON text spells no value: it is refused for `reason`, at the place `at`, a count of bytes of its UTF-8.
+
+    The place is at `line` and `column`, which counts bytes. Both are from 1.
+    """
+
+    line: int = 0
+    column: int = 0
 
 
 class AddressError(OncrpcError, ValueError):
@@ -343,6 +375,10 @@ def _fail(status: int, outcome: Optional[_Outcome] = None, **told: Any) -> NoRet
         reason = _named(ItemReason if outcome.why >= ItemReason.WRONG_ITEM else Reason, outcome.why)
         said = f"{getattr(reason, 'name', reason)} at item {outcome.at}"
         raise ItemError(said, reason=reason, at=outcome.at, **told)
+    if known is Status.BAD_JSON and outcome is not None:
+        reason = _named(JsonReason, outcome.why)
+        said = f"refused {getattr(reason, 'name', reason)} at {outcome.line}:{outcome.column}"
+        raise JsonError(said, reason=reason, at=outcome.at, line=outcome.line, column=outcome.column, **told)
     if known is Status.NOT_AN_ADDRESS:
         raise AddressError("no universal address", **told)
     if known is Status.NO_KIND:
@@ -667,6 +703,7 @@ _FUNCTIONS: Dict[str, List[Any]] = {
     "oncrpc_declarations_read": [*_LENT, _HELD, _OUTCOME],
     "oncrpc_declarations_read_dialect": [*_LENT, *_LENT, _HELD, _OUTCOME],
     "oncrpc_declarations_to_json": [_HELD, *_VALUE, ctypes.c_bool, *_LENT, _COUNT, _OUTCOME],
+    "oncrpc_declarations_from_json": [_HELD, *_VALUE, *_LENT, _COUNT, _OUTCOME],
     "oncrpc_declarations_check": [_HELD, *_VALUE, _OUTCOME],
     "oncrpc_declarations_show": [_HELD, *_VALUE, *_LENT, _COUNT, _OUTCOME],
     "oncrpc_declarations_parts": [_HELD, *_VALUE, *_LENT, *_LENT, ctypes.POINTER(_PartsOutcome)],
@@ -1044,6 +1081,22 @@ class Declarations(_Owner):
             status = self._call("oncrpc_declarations_to_json", *given, *_lend(buffer), written, outcome)
         used, more_follows = _checked(status, outcome)
         return Shown(_front(buffer, written.value).decode("utf-8"), used, more_follows)
+
+    def from_json(self, name: str, text: Text, limits: Limits = Limits()) -> bytes:
+        """The encoding of the value that the JSON text spells. Raises JsonError where it spells none.
+
+        Any text that says the same as that of `to_json` is read: members in any order, white space, escapes. It takes
+        stack for each level of the value: on a thread with little of it, bound the depth.
+        """
+        outcome, written, buffer = _Outcome(), ctypes.c_size_t(), bytearray()
+        given = _value(name, _text(text), limits)
+        status = self._call("oncrpc_declarations_from_json", *given, None, 0, written, outcome)
+        if status == Status.NO_ROOM:
+            buffer = bytearray(outcome.at)
+            status = self._call("oncrpc_declarations_from_json", *given, *_lend(buffer), written, outcome)
+        if status != Status.OK:
+            _fail(status, outcome)
+        return _front(buffer, written.value)
 
     def parts(self, name: str, data: Data, limits: Limits = Limits()) -> Parts:
         """Where the parts of the value that begins the bytes lie. A part is several objects: bound the limits."""

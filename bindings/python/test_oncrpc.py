@@ -21,7 +21,8 @@ import unittest
 import warnings
 
 import oncrpc
-from oncrpc import Auth, AuthSys, Call, Limits, Member, Reason, Reply, Role, State, Status, TextFault, XdrType
+from oncrpc import Auth, AuthSys, Call, JsonReason, Limits, Member, Reason, Reply, Role, State, Status, TextFault
+from oncrpc import XdrType
 
 ROOT = os.path.dirname(os.path.dirname(os.path.dirname(os.path.realpath(__file__))))
 #: The value that RFC 4506 section 7 gives, and its lines by docs/FORMATS.md.
@@ -78,6 +79,7 @@ class Header(unittest.TestCase):
             wanted = set(it.read().splitlines())
         numbers = {f"ONCRPC_{it.name} {it.value}" for names in (Status, Reason, TextFault, State) for it in names}
         numbers |= {f"ONCRPC_{it.name} {it.value}" for it in oncrpc.ItemReason}
+        numbers |= {f"ONCRPC_JSON_{it.name} {it.value}" for it in JsonReason}
         forms = [name for name in vars(oncrpc) if name.startswith("_ITEM_")]
         numbers |= {f"ONCRPC{name} {getattr(oncrpc, name)}" for name in forms}
         numbers |= {f"ONCRPC_ROLE_{it.name} {it.value}" for it in Role}
@@ -227,6 +229,49 @@ class TheFileOfTheRfc(Case):
         self.assertEqual(json.loads(indented), json.loads(told.lines))
         self.assertEqual((told.lines.count("\n"), indented.count("\n")), (0, 8))
         self.refuses(Reason.TRUNCATED, 47, self.file.to_json, "file", self.data[:47])
+
+    def test_from_json(self):
+        """docs/FORMATS.md, section 5: there and back, and another text that says the same."""
+        for is_indented in (False, True):
+            told = self.file.to_json("file", self.data, is_indented=is_indented)
+            self.assertEqual(self.file.from_json("file", told.lines), self.data)
+        value = {"data": "287175697429", "owner": "john", "type": {"interpretor": "lisp", "case": 2}}
+        text = json.dumps({**value, "filename": "sillyprog"}, indent="\t")
+        for given in (text, text.encode(), bytearray(text.encode())):
+            self.assertEqual(self.file.from_json("file", given), self.data)
+        with self.library.declarations("typedef string name<>;") as read:
+            self.assertEqual(read.from_json("name", '"\u00e9"'), words(2, 0xC3A90000))
+
+    def test_no_value_in_json(self):
+        """Each reason, with its place in the text."""
+        union = {"case": 2, "interpretor": "lisp"}
+        declared = self.declared(read("examples/file.x") + "union picked switch (int d) { case 1: void; };")
+        for reason, place, name, text in [
+            (JsonReason.NOT_JSON, (0, 1, 1), "int", ""),
+            (JsonReason.NOT_JSON, (1, 1, 2), "string", b'"\xff"'),
+            (JsonReason.UNKNOWN_MEMBER, (1, 1, 2), "filetype", '{"more": 1, "case": 0}'),
+            (JsonReason.MISSING_MEMBER, (0, 1, 1), "filetype", '{"case": 2}'),
+            (JsonReason.MEMBER_TWICE, (12, 2, 1), "filetype", '{"case": 0,\n"case": 0}'),
+            (JsonReason.WRONG_TYPE, (0, 1, 1), "file", "[]"),
+            (JsonReason.OUT_OF_RANGE, (1, 1, 2), "int", " 2147483648"),
+            (JsonReason.NOT_WHOLE, (0, 1, 1), "int", "1.5"),
+            (JsonReason.UNKNOWN_NAME, (0, 1, 1), "filekind", '"FOLDER"'),
+            (JsonReason.BAD_HEX, (0, 1, 1), "opaque", '"0"'),
+            (JsonReason.WRONG_LENGTH, (27, 1, 28), "filetype", json.dumps({**union, "interpretor": "l" * 256})),
+            (JsonReason.NO_ARM, (9, 1, 10), "picked", '{"case": 2}'),
+            (JsonReason.TOO_DEEP, (4096, 1, 4097), "int", "[" * 5000),
+        ]:
+            with self.subTest(reason), self.assertRaises(oncrpc.JsonError) as caught:
+                declared.from_json(name, text)
+            error = caught.exception
+            self.assertEqual((error.reason, error.status), (reason, Status.BAD_JSON))
+            self.assertEqual((error.at, error.line, error.column), place)
+        for reason, limits in [(JsonReason.TOO_DEEP, Limits(depth=1)), (JsonReason.TOO_LARGE, Limits(bytes=8))]:
+            with self.assertRaises(oncrpc.JsonError) as caught:
+                self.file.from_json("filetype", json.dumps(union), limits)
+            self.assertEqual((caught.exception.reason, caught.exception.line), (reason, 1))
+        self.assertRaises(oncrpc.NoKindError, self.file.from_json, "folder", "{}")
+        self.assertRaises(oncrpc.LimitError, self.file.from_json, "file", "{}", Limits(depth=0))
 
     def test_dialect(self):
         text = "%#include <x.h>\n#ifdef RPC_HDR\ntypedef int here;\n#endif\ntypedef string name<>;"

@@ -54,6 +54,7 @@ pub use declarations::{Checked, Declarations, Limits};
 pub use fault::{CheckFault, ReadFault, Reason, Refusal, TextFault, TextFaultKind};
 pub use find::FindFault;
 pub use items::{Item, ItemReason, ItemsFault};
+pub use json::{JsonFault, JsonReason, JsonRefusal};
 pub use kinds::{Kind, KindFault, Member};
 pub use messages::{
     Auth, AuthSys, AuthSysFault, Call, CallFault, Denial, Outcome, Reply, ReplyFault, Versions, WriteFault,

@@ -76,6 +76,7 @@ numbers! {
     NO_SUCH_PART = 27;
     NO_NUMBER = 28;
     NO_MEMBER = 29;
+    BAD_JSON = 30;
 
     BAD_BOOL = 1;
     BAD_NUMBERED = 2;
@@ -91,6 +92,20 @@ numbers! {
     PAST_END = 11;
     UNFINISHED = 12;
     OUTSIDE = 13;
+
+    JSON_NOT_JSON = 1;
+    JSON_UNKNOWN_MEMBER = 2;
+    JSON_MISSING_MEMBER = 3;
+    JSON_MEMBER_TWICE = 4;
+    JSON_WRONG_TYPE = 5;
+    JSON_OUT_OF_RANGE = 6;
+    JSON_NOT_WHOLE = 7;
+    JSON_UNKNOWN_NAME = 8;
+    JSON_BAD_HEX = 9;
+    JSON_WRONG_LENGTH = 10;
+    JSON_NO_ARM = 11;
+    JSON_TOO_DEEP = 12;
+    JSON_TOO_LARGE = 13;
 
     BAD_CHARACTER = 1;
     BAD_NUMBER = 2;
@@ -312,6 +327,20 @@ extern "C" {
         input: *const u8,
         input_count: usize,
         is_indented: bool,
+        buffer: *mut u8,
+        buffer_count: usize,
+        written: *mut usize,
+        outcome: *mut Outcome,
+    ) -> u32;
+
+    pub fn oncrpc_declarations_from_json(
+        declarations: *mut Declarations,
+        name: *const u8,
+        name_count: usize,
+        depth: u32,
+        bytes: u32,
+        text: *const u8,
+        text_count: usize,
         buffer: *mut u8,
         buffer_count: usize,
         written: *mut usize,

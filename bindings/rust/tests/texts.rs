@@ -33,6 +33,13 @@ fn a_refusal_has_its_reason_and_its_place() {
 }
 
 #[test]
+fn a_refusal_of_json_has_its_line_and_its_column() {
+    let mut declarations = Declarations::read(b"struct pair { int left; bool right; };").unwrap();
+    let refused = declarations.from_json("pair", Limits::MOST, "{\"left\": 5,\n\"right\": 1}");
+    assert_eq!(text(refused), "refused WrongType at 2:10");
+}
+
+#[test]
 fn an_error_of_a_text_has_its_line_and_its_column() {
     let twice = Declarations::read(b"\nstruct a { int b; int b; };");
     assert_eq!(text(twice), "declaration refused: NameTwice at 2:23");

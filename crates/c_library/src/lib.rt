@@ -26,7 +26,7 @@ pub use addresses::{oncrpc_uaddr_read, oncrpc_uaddr_write};
 pub use calls::{oncrpc_call_read, oncrpc_call_write};
 pub use credentials::{oncrpc_auth_sys_read, oncrpc_auth_sys_write};
 pub use dialect::oncrpc_declarations_read_dialect;
-pub use json::oncrpc_declarations_to_json;
+pub use json::{oncrpc_declarations_from_json, oncrpc_declarations_to_json};
 pub use kinds::{
     oncrpc_declarations_kind, oncrpc_declarations_member, oncrpc_declarations_named,
     oncrpc_declarations_picked, oncrpc_declarations_type,

@@ -1,0 +1,75 @@
+//! Values as JSON, there and back, and each reason against a text: the file of RFC 4506 section 7.
+
+use oncrpc::{Declarations, JsonFault, JsonReason, JsonRefusal, Limits};
+
+const TEXT: &[u8] = b"enum filekind { TEXT = 0, DATA = 1, EXEC = 2 };
+    union filetype switch (filekind kind) {
+    case TEXT: void; case DATA: string creator<255>; case EXEC: string interpretor<255>; };
+    struct file { string filename<255>; filetype type; string owner<32>; opaque data<65535>; };
+    union picked switch (int d) { case 1: void; };";
+
+const INPUT: &[u8] = b"\0\0\0\x09sillyprog\0\0\0\0\0\0\x02\0\0\0\x04lisp\0\0\0\x04john\0\0\0\x06(quit)\0\0";
+
+#[test]
+fn there_and_back() {
+    let mut file = Declarations::read(TEXT).unwrap();
+    for is_indented in [false, true] {
+        let (_, json) = file.to_json("file", Limits::MOST, INPUT, is_indented).unwrap();
+        assert_eq!(file.from_json("file", Limits::MOST, &json).unwrap(), INPUT);
+    }
+    let other = r#" {"data": "287175697429", "owner": "\u006aohn",
+        "type": {"interpretor": "lisp", "case": 2}, "filename": "sillyprog"} "#;
+    assert_eq!(file.from_json("file", Limits::MOST, other).unwrap(), INPUT);
+}
+
+#[test]
+fn each_reason() {
+    let mut file = Declarations::read(TEXT).unwrap();
+    let deep = "[".repeat(5000);
+    for (why, (at, line, column), name, text) in [
+        (JsonReason::NotJson, (0, 1, 1), "int", ""),
+        (
+            JsonReason::UnknownMember,
+            (1, 1, 2),
+            "filetype",
+            r#"{"more": 1, "case": 0}"#,
+        ),
+        (JsonReason::MissingMember, (0, 1, 1), "filetype", r#"{"case": 2}"#),
+        (
+            JsonReason::MemberTwice,
+            (12, 2, 1),
+            "filetype",
+            "{\"case\": 0,\n\"case\": 0}",
+        ),
+        (JsonReason::WrongType, (0, 1, 1), "file", "[]"),
+        (JsonReason::OutOfRange, (1, 1, 2), "int", " 2147483648"),
+        (JsonReason::NotWhole, (0, 1, 1), "int", "1.5"),
+        (JsonReason::UnknownName, (0, 1, 1), "filekind", r#""FOLDER""#),
+        (JsonReason::BadHex, (0, 1, 1), "opaque", r#""0""#),
+        (JsonReason::NoArm, (9, 1, 10), "picked", r#"{"case": 2}"#),
+        (JsonReason::TooDeep, (4096, 1, 4097), "int", &deep),
+    ] {
+        let refusal = JsonRefusal { why, at, line, column };
+        let read = file.from_json(name, Limits::MOST, text);
+        assert_eq!(read, Err(JsonFault::Refused(refusal)), "{why:?}");
+    }
+}
+
+#[test]
+fn what_is_no_text_and_what_is_past_a_limit() {
+    let mut file = Declarations::read(TEXT).unwrap();
+    let cut = file.from_json_bytes("string", Limits::MOST, b"\"\xff\"");
+    assert!(matches!(cut, Err(JsonFault::Refused(it)) if it.why == JsonReason::NotJson && it.at == 1));
+    let text = r#"{"case": "EXEC", "interpretor": "lisp"}"#;
+    for (limits, why) in [
+        (Limits { depth: 1, bytes: 64 }, JsonReason::TooDeep),
+        (Limits { depth: 9, bytes: 8 }, JsonReason::TooLarge),
+    ] {
+        let read = file.from_json("filetype", limits, text);
+        assert!(matches!(read, Err(JsonFault::Refused(it)) if it.why == why && it.at == text.len()));
+    }
+    let none = file.from_json("folder", Limits::MOST, "{}");
+    assert_eq!(none, Err(JsonFault::NoKind));
+    let deep = Limits { depth: 0, bytes: 64 };
+    assert_eq!(file.from_json("file", deep, "{}"), Err(JsonFault::BadLimits));
+}
