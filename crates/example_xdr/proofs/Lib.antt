@@ -6,3 +6,4 @@ pub mod Refusing
 pub mod Sound
 pub mod Putting
 pub mod Depth
+pub mod AtOnce

@@ -1,6 +1,7 @@
 -- What a writer's answers say of the items of the pair.
 use Rattle.std.proofs.Common.{◌≡◌, ◌≤◌, ℕ, pos, List, [], ◌∷◌, ◌++◌, codes, refl, ap, sym, subst, ◌∙◌, drop}
-use Rattle.std.proofs.Common.{Result, Ok, Err, IfErr}
+use Rattle.std.proofs.Common.{Result, Ok, Err, IfErr, length, append-nil}
+use Rattle.std.specs.Prelude.{IfOk}
 use Rattle.xdr_types.specs.Kinds as xdr
 use Rattle.xdr_types.specs.Kinds.{KindView}
 use Rattle.xdr_types.specs.Spelling.{bytes_of}
@@ -70,6 +71,16 @@ pair_written before middle after k m none one_more two b =
     two
     ∙ ap (λ (z : List ℕ). z ++ spelled_as m abc) (one_more ∙ ap (λ (z : List ℕ). z ++ spelled_as k three) none)
     ∙ both_bytes k m b
+
+pub both_count : (k m : KindView) → Begin pair_kinds 2 (both k m) → length (all_spelled (both k m)) ≡ 12
+both_count k m b =
+    ap (λ (z : List ℕ). length (spelled_as k three ++ z)) (append-nil (spelled_as m abc))
+    ∙ ap (λ (z : List ℕ). length z) (both_bytes k m b)
+
+pub on_ok : {A : Type 0} → (r : Result A WriteRefusal) (P Q : A → Type 0) → ((a : A) → P a → Q a) → IfOk r P
+    → IfOk r Q
+on_ok (Ok a) P Q g h = g a h
+on_ok (Err f) P Q g h = tt
 
 -- ---- no reason stands against the first item
 

@@ -5,3 +5,4 @@ pub mod Refusal
 pub mod Rfc
 pub mod Reported
 pub mod Optional
+pub mod Counted

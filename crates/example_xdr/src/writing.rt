@@ -1,11 +1,12 @@
 //! Values that are written item by item.
-ghost use Rattle.std.specs.Prelude.{◌≡◌, ◌≤◌, ◌<◌, length, IfOk, IfErr, IfSome, IsErr, Err};
-ghost use Rattle.xdr_types.specs.Kinds.{kind_at, int};
+ghost use Rattle.std.specs.Prelude.{◌≡◌, ◌≤◌, ◌<◌, length, IfOk, IfErr, IfSome, IsErr, Err, Some};
+ghost use Rattle.xdr_types.specs.Kinds.{kind_at, int, maybe, opaque};
 ghost use Rattle.xdr_writer.specs.Answers.{IsKnown};
 ghost use Rattle.xdr_writer.specs.Represents.{HasRefused};
 ghost use Rattle.xdr_writer.specs.declared.item.Step.TheVariants.{More, Done};
 ghost use Rattle.xdr_writer.specs.declared.refusal.Why.TheVariants.{Refused};
 ghost use Rattle.example_xdr.specs.Pair.{pair_kinds, pair_bytes, too_deep};
+ghost use Rattle.example_xdr.specs.Counted.{array_kinds, array_bytes};
 
 use std::alloc::Global;
 use xdr_types::{KindId, Limits, Schema};
@@ -27,6 +28,39 @@ pub fn writes_a_pair(
     let first = writer.put(Item::Number(3), &mut out)?;
     let second = writer.put(Item::Content(b"abc"), &mut out)?;
     Ok((first, second, out))
+}
+
+/// All items of the structure are counted at the end: it has twelve bytes.
+pub fn counts_the_bytes_of_a_pair(
+    alloc: Global,
+    schema: &Schema,
+    limits: Limits,
+) -> Result<u32, WriteRefusal>
+    requires { schema.now.kinds ≡ pair_kinds }
+    ensures { IfOk result (λ n. n ≡ 12) }
+{
+    let mut out = Vec::new(alloc);
+    let mut writer = Writer::start(alloc, schema, KindId { place: 2 }, limits);
+    writer.put(Item::Number(3), &mut out)?;
+    writer.put(Item::Content(b"abc"), &mut out)?;
+    writer.finish()
+}
+
+/// The numbers 3 and -1, put by one call behind their count, make the array whole (RFC 4506 sections 4.1, 4.13).
+pub fn writes_numbers_at_once(
+    alloc: Global,
+    schema: &Schema,
+    limits: Limits,
+) -> Result<(Option<Step>, Vec<u8>), WriteRefusal>
+    requires { schema.now.kinds ≡ array_kinds }
+    ensures step { IfOk result (λ r. r.0 ≡ Some Done) }
+    ensures bytes { IfOk result (λ r. r.1.items ≡ array_bytes) }
+{
+    let mut out = Vec::new(alloc);
+    let mut writer = Writer::start(alloc, schema, KindId { place: 1 }, limits);
+    writer.put(Item::Count(2), &mut out)?;
+    let step = writer.put_numbers(&[3, -1], &mut out)?;
+    Ok((step, out))
 }
 
 /// No reason but an allocation failure stands against an item that a value within the limits begins with.
@@ -79,6 +113,38 @@ pub fn refuses_a_flag_for_a_number(
 {
     let mut writer = Writer::start(alloc, schema, kind, limits);
     writer.put(Item::Flag(true), out)
+}
+
+/// A count is never taken for the flag of an optional item.
+pub fn refuses_a_count_for_a_flag(
+    alloc: Global,
+    schema: &Schema,
+    kind: KindId,
+    limits: Limits,
+    out: &mut Vec<u8>,
+) -> Result<Step, WriteRefusal>
+    requires has { kind.place < length schema.now.kinds }
+    requires kind { kind_at schema.now.kinds kind.place ≡ maybe 0 }
+    ensures { IsErr result }
+{
+    let mut writer = Writer::start(alloc, schema, kind, limits);
+    writer.put(Item::Count(1), out)
+}
+
+/// Three bytes are never taken for an opaque of four.
+pub fn refuses_content_of_another_size(
+    alloc: Global,
+    schema: &Schema,
+    kind: KindId,
+    limits: Limits,
+    out: &mut Vec<u8>,
+) -> Result<Step, WriteRefusal>
+    requires has { kind.place < length schema.now.kinds }
+    requires kind { kind_at schema.now.kinds kind.place ≡ opaque 4 }
+    ensures { IsErr result }
+{
+    let mut writer = Writer::start(alloc, schema, kind, limits);
+    writer.put(Item::Content(b"abc"), out)
 }
 
 /// A refusal comes again, whatever is put after it, and at the end too.
