@@ -801,7 +801,10 @@ class Library:
         found = os.fspath(path) if path is not None else os.environ.get("ONCRPC_LIBRARY") or "liboncrpc.so.0"
         if os.path.isdir(found):
             found = os.path.join(found, "liboncrpc.so.0")
-        loaded = ctypes.CDLL(found)
+        try:
+            loaded = ctypes.CDLL(found)
+        except OSError as fault:
+            raise OSError(f"{fault}: ONCRPC_LIBRARY names the library, or the folder that it lies in") from None
         self._functions = {}
         for name, takes in _FUNCTIONS.items():
             function = getattr(loaded, name, None)
