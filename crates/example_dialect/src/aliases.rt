@@ -25,6 +25,48 @@ pub fn constant_by_a_name(alloc: Global) -> Result<Vec<Token<'static>>, AllocErr
     resolved_tokens(alloc, &tokens)
 }
 
+/// `N(void) = 5; const A = N;`: the number of a procedure stands behind its arguments.
+pub fn number_of_a_procedure(alloc: Global) -> Result<Vec<Token<'static>>, AllocError>
+    ensures { IfOk result (λ v. lexemes v.items ≡
+        Name (codes "N") ∷ Sign Mark.OpenRound ∷ Word Keyword.Void ∷ Sign Mark.CloseRound ∷ Sign Mark.Equal ∷
+        Number (pos 5) ∷ Sign Mark.Semicolon ∷ Word Keyword.Const ∷ Name (codes "A") ∷ Sign Mark.Equal ∷
+        Number (pos 5) ∷ Sign Mark.Semicolon ∷ []) }
+{
+    let tokens = [
+        Token::Name("N", 25),
+        Token::Sign(Mark::OpenRound, 24),
+        Token::Word(Keyword::Void, 23),
+        Token::Sign(Mark::CloseRound, 19),
+        Token::Sign(Mark::Equal, 17),
+        Token::Number(5, 15),
+        Token::Sign(Mark::Semicolon, 14),
+        Token::Word(Keyword::Const, 12),
+        Token::Name("A", 6),
+        Token::Sign(Mark::Equal, 4),
+        Token::Name("N", 2),
+        Token::Sign(Mark::Semicolon, 1),
+    ];
+    resolved_tokens(alloc, &tokens)
+}
+
+/// `B = 5; t B;`: a name that no `=` stands before stays.
+pub fn name_behind_a_type(alloc: Global) -> Result<Vec<Token<'static>>, AllocError>
+    ensures { IfOk result (λ v. lexemes v.items ≡
+        Name (codes "B") ∷ Sign Mark.Equal ∷ Number (pos 5) ∷ Sign Mark.Semicolon ∷ Name (codes "t") ∷
+        Name (codes "B") ∷ Sign Mark.Semicolon ∷ []) }
+{
+    let tokens = [
+        Token::Name("B", 11),
+        Token::Sign(Mark::Equal, 9),
+        Token::Number(5, 7),
+        Token::Sign(Mark::Semicolon, 6),
+        Token::Name("t", 4),
+        Token::Name("B", 2),
+        Token::Sign(Mark::Semicolon, 1),
+    ];
+    resolved_tokens(alloc, &tokens)
+}
+
 /// `B = 5, B = 6; A = B;`: where some name has two numbers, none stands for one.
 pub fn name_with_two_numbers(alloc: Global) -> Result<Vec<Token<'static>>, AllocError>
     ensures { IfOk result (λ v. lexemes v.items ≡

@@ -1,8 +1,8 @@
 //! What is left of texts without their lines of `%` and `#`.
-ghost use Rattle.std.specs.Prelude.{◌≡◌, ◌≢◌, IfOk, IfErr, OnOk, codes};
+ghost use Rattle.std.specs.Prelude.{◌≡◌, ◌≢◌, false, IfOk, IfErr, OnOk, codes};
 
 use std::alloc::Global;
-use xdr_dialect::plain_text;
+use xdr_dialect::{is_identifier, plain_text};
 use xdr_tokens::{Fault, Wrong};
 
 /// A line of `%` is nothing, and the next one stands where it stood.
@@ -147,6 +147,13 @@ pub fn definition_of_a_name(alloc: Global) -> Result<Vec<u8>, Fault>
     ensures place { IfErr result (λ e. e ≢ Fault.NoMemory → e ≡ Fault.Refused Wrong.BadCharacter 11) }
 {
     plain_text(alloc, b"#define A B", &[])
+}
+
+/// `#ifdef 1a` asks for no name, since none begins with a digit.
+pub fn digit_begins_no_name() -> bool
+    ensures { result ≡ false }
+{
+    is_identifier(b"1a")
 }
 
 /// A section is closed before the text ends.
