@@ -1,3 +1,4 @@
 pub mod DialectMeans
 pub mod Laws
 pub mod Files
+pub mod Private

@@ -1,14 +1,15 @@
 //! Reading a text in rpcgen's dialect.
-ghost use Rattle.std.specs.Prelude.{◌≡◌, ◌≢◌, ◌≤◌, IfOk, IfErr};
+ghost use Rattle.std.specs.Prelude.{◌≡◌, ◌≢◌, ◌≤◌, IfOk, IfErr, map};
 ghost use Rattle.xdr_tokens.specs.Tokens.{lexemes};
 ghost use Rattle.xdr_lang.specs.Declarations.{Declared as DeclaredSpec};
 ghost use Rattle.xdr_lang.specs.OfTokens.{TokensMean};
 ghost use Rattle.xdr_lang.specs.Refusals.{IsInner};
 ghost use Rattle.xdr_lang.specs.Views.{declared_of};
 ghost use Rattle.xdr_dialect.specs.Answers.{texts};
-ghost use Rattle.xdr_dialect.specs.Dialect.{meant};
+ghost use Rattle.xdr_dialect.specs.Dialect.{left_of, all_placed, meant, meant_places};
 ghost use Rattle.xdr_aliases.specs.Aliases.{resolved};
 ghost use Rattle.xdr_rpcgen.specs.DialectMeans.{PlainMeans, DialectMeans};
+ghost use Rattle.xdr_rpcgen.specs.Private.Places.{lefts};
 
 use std::alloc::{AllocError, Global};
 use xdr_aliases::resolved_tokens;
@@ -16,13 +17,15 @@ use xdr_dialect::{meant_tokens, plain_text};
 use xdr_lang::{Declared, LangFault, MAX_TEXT, located, read_tokens};
 use xdr_tokens::{Fault, Token, Wrong, tokens};
 
-/// The tokens of the RFCs' language that those of a text of so many bytes stand for.
+/// The tokens of the RFCs' language that those of a text of so many bytes stand for. Each stands where the token stood
+/// in whose place it comes, and what the library declares where the text begins.
 fn language_of<'a>(
     alloc: Global,
     cut: &[Token<'a>],
     len: usize,
 ) -> Result<Vec<Token<'a>>, AllocError>
-    ensures { IfOk result (λ v. lexemes v.items ≡ resolved (meant (lexemes cut.now))) }
+    ensures tokens { IfOk result (λ v. lexemes v.items ≡ resolved (meant (lexemes cut.now))) }
+    ensures places { IfOk result (λ v. map left_of v.items ≡ lefts (meant_places len (all_placed cut.now))) }
 {
     let meant = meant_tokens(alloc, cut, len)?;
     resolved_tokens(alloc, &meant)
