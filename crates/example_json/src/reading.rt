@@ -1,11 +1,11 @@
 //! What is read of a text.
-ghost use Rattle.std.specs.Prelude.{◌≡◌, ◌<◌, ◌≤◌, [], ◌∷◌, codes, length, negsuc, IfErr, IsErr, MatchResult};
+ghost use Rattle.std.specs.Prelude.{◌≡◌, ◌⊎◌, ◌<◌, ◌≤◌, [], ◌∷◌, codes, length, negsuc, IfErr, IsErr, MatchResult};
 ghost use Rattle.xdr_types.specs.Kinds as xdr;
 ghost use Rattle.xdr_types.specs.Kinds.{maybe};
 ghost use Rattle.xdr_types.specs.Tree.{absent, from_list, hyper, none, present};
 ghost use Rattle.xdr_types.specs.View.{tree};
 ghost use Rattle.xdr_types.specs.Within.{FitsWithin};
-ghost use Rattle.xdr_json_reader.specs.declared.fault.JsonReason.TheVariants.{NoMemory};
+ghost use Rattle.xdr_json_reader.specs.declared.fault.JsonReason.TheVariants.{NoMemory, NotWhole, WrongType};
 ghost use Rattle.example_json.specs.Files.{file_kinds, sillyprog, sillyprog_text};
 
 use std::alloc::Global;
@@ -111,6 +111,7 @@ pub fn refuses_a_flag(
     requires text { text.now ≡ codes " true" }
     ensures refused { IsErr result }
     ensures line { IfErr result (λ f. f.1 ≡ 1) }
+    ensures why { IfErr result (λ f. (f.0 ≡ WrongType) ⊎ (f.0 ≡ NoMemory)) }
 {
     match read_json(alloc, schema, KindId { place: 0 }, limits, text) {
         Ok(value) => Ok(value),
@@ -119,4 +120,19 @@ pub fn refuses_a_flag(
             Err((fault.why, line, column))
         }
     }
+}
+
+/// A number with a fraction is refused as such.
+pub fn refuses_a_fraction(
+    alloc: Global,
+    schema: &Schema,
+    limits: Limits,
+    text: &[u8],
+) -> Result<Value, JsonFault>
+    requires kinds { schema.now.kinds ≡ xdr.int ∷ [] }
+    requires text { text.now ≡ codes "1.5" }
+    ensures refused { IsErr result }
+    ensures why { IfErr result (λ f. (f.why ≡ NotWhole) ⊎ (f.why ≡ NoMemory)) }
+{
+    read_json(alloc, schema, KindId { place: 0 }, limits, text)
 }

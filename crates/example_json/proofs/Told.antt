@@ -1,0 +1,140 @@
+-- Why a text is refused whose one value is wrong.
+use Rattle.std.proofs.Common.{◌≡◌, ℕ, ◌<◌, ◌⊎◌, inl, inr, List, Some}
+use Rattle.std.proofs.Common.{None, Option, true, false, refl, sym, ap, ◌∙◌, subst}
+use Rattle.std.proofs.Common.{arith, is_some, ◌&&◌, ℤ, pos, negsuc, ◌^◌, get_or, length, decimal, codes, [], ◌∷◌}
+use Rattle.std.proofs.Common.{Result, Ok, Err, IfOk, IfErr, IsErr}
+use Rattle.std.proofs.lemmas.Bool.{true≢false, false≢true, and_parts as both, or_cases, ltb-true}
+use Rattle.std.proofs.lemmas.Fmt.{decimal_is_IsNumeral}
+use Rattle.std.proofs.lemmas.Slice.Eq.{bytes_eq-Decides}
+use Rattle.std.proofs.lemmas.Str.{IsUtf8-from_is_utf8}
+use Rattle.std.proofs.lemmas.Str.Parse.{digit_at}
+use Rattle.std.specs.Fmt.{signed_decimal}
+use Rattle.std.specs.Ordering.{int_eq}
+use Rattle.std.specs.Str.{IsUtf8, is_utf8, bytes_eq}
+use Rattle.json.specs.Json.{Json}
+use Rattle.xdr_types.specs.Kinds as xdr
+use Rattle.xdr_types.specs.Kinds.{KindView, kind_at}
+use Rattle.xdr_types.specs.Tree as value
+use Rattle.xdr_types.specs.Tree.{Tree}
+use Rattle.xdr_types.specs.View.{tree}
+use Rattle.xdr_types.specs.Fits.{is_legal, is_signed, parts}
+use Rattle.xdr_types.specs.Within.{Bounds}
+use Rattle.xdr_types.specs.declared.value.Value.{Value}
+use Rattle.xdr_json.specs.Spelled.{shows, under, spell, spells, is_number, is_decimal_of}
+use Rattle.xdr_json.specs.Text.{IsSpelling, json_text}
+use Rattle.xdr_json_reader.specs.Nodes.{Due, Shows, ShowsNone, Within, itself, part}
+use Rattle.xdr_json_reader.specs.Reasons.{NodeTells, IsWrongWithin, IsWrongText, IsBeyond, Tells, number_reason}
+use Rattle.xdr_json_reader.specs.declared.fault.JsonFault.{JsonFault}
+use Rattle.xdr_json_reader.specs.declared.fault.JsonReason.{JsonReason}
+use Rattle.xdr_json_reader.specs.declared.fault.JsonReason.TheVariants as why
+
+-- a value that stands for nothing has no parts
+alone : (kinds : List KindView) (root d : Due) → ShowsNone kinds (kind_at kinds root.0) root.1
+    → Within kinds root d → root ≡ d
+alone kinds root _ none itself = refl
+alone kinds root d none (part outer _ h w s c) =
+    absurd (none h (subst (λ (x : Due). Shows kinds (kind_at kinds x.0) x.1 h) (sym (alone kinds root outer none w)) s))
+
+some-is : {A : Type 0} (x y : A) → Some x ≡ Some y → x ≡ y
+some-is {A} x y e = ap from e
+  where
+    from : Option A → A
+    from (Some z) = z
+    from _ = x
+
+module _ (kinds : List KindView) (place : ℕ) (limits : Bounds) (text : List ℕ) (j : Json) (r : JsonReason)
+    (utf8 : IsUtf8 text) (is : json_text text ≡ Some j) (none : ShowsNone kinds (kind_at kinds place) j)
+    (only : (w : JsonReason) → NodeTells kinds (kind_at kinds place) j w → w ≡ r) where
+  not_none : json_text text ≡ None → ⊥
+  not_none e = true≢false (ap is_some (sym is ∙ e))
+
+  pub not_spelled : (t : Tree) → spells kinds place j t ≡ true → ⊥
+  not_spelled t h =
+      let f = kind_at kinds place in
+      let one = both (is_legal kinds f t.0 && shows kinds f t.0 j)
+      (spell kinds (parts f t.0) (under kinds f t.0 j) t.1) h in
+      let two = both (is_legal kinds f t.0) (shows kinds f t.0 j) one.0 in
+      none t.0 (record { legal = two.0; shown = two.1 })
+
+  not_beyond : (P : Tree → Type 0) → IsBeyond kinds place text P → ⊥
+  not_beyond P b =
+      not_spelled b.value
+      (subst (λ (x : Json). spells kinds place x b.value ≡ true) (some-is b.tree j (sym b.is.is ∙ is)) b.spells)
+
+  wrong : (w : JsonReason) → IsWrongText kinds place text w → w ≡ r
+  wrong w t =
+      let tree : t.0 ≡ j = some-is t.0 j (sym t.1.is ∙ is) in
+      let at = subst (λ (x : Json). IsWrongWithin kinds (place, x) w) tree t.2 in
+      let here : (place, j) ≡ at.node = alone kinds (place, j) at.node none at.within in
+      only w (subst (λ (x : Due). NodeTells kinds (kind_at kinds x.0) x.1 w) (sym here) at.wrong.tells)
+
+  -- it is refused for the value's reason, an allocation failure aside
+  pub told : (w : JsonReason) → Tells kinds place limits text w → (w ≡ r) ⊎ (w ≡ why.NoMemory)
+  told why.NoMemory t = inr refl
+  told why.NotJson (inl n) = absurd (n utf8)
+  told why.NotJson (inr n) = absurd (not_none (n 4096 (omega arith)))
+  told why.TooDeep (inl n) = absurd (not_none n)
+  told why.TooDeep (inr b) = absurd (not_beyond _ b)
+  told why.TooLarge b = absurd (not_beyond _ b)
+  told w t = inl (wrong w t)
+
+-- ---- an answer
+
+pub is_refused : (P : Tree → Type 0) (r : Result Value JsonFault) → ((t : Tree) → P t → ⊥)
+    → IfOk r (λ v. P (tree v)) → IsErr r
+is_refused P (Ok v) none p = absurd (none (tree v) p)
+is_refused P (Err f) none p = refl
+
+pub why_of : (P Q : JsonReason → Type 0) (r : Result Value JsonFault) → ((w : JsonReason) → P w → Q w)
+    → IfErr r (λ f. P f.why) → IfErr r (λ f. Q f.why)
+why_of P Q (Ok v) all p = tt
+why_of P Q (Err f) all p = all f.why p
+
+-- ---- a text of one int, whose JSON is none
+
+module _ (kinds : List KindView) (limits : Bounds) (text bs : List ℕ) (j : Json) (e : kinds ≡ xdr.int ∷ [])
+    (h : text ≡ bs) (u : is_utf8 bs ≡ true) (is : json_text bs ≡ Some j)
+    (none : (z : ℤ) → is_signed (2 ^ 31) z ≡ true → is_number z j ≡ true → ⊥) where
+  no_head : ShowsNone (xdr.int ∷ []) xdr.int j
+  no_head (value.int z) s = none z s.legal s.shown
+  no_head _ s = false≢true s.legal
+
+  pub int_told : (w : JsonReason) → Tells kinds 0 limits text w → (w ≡ number_reason j) ⊎ (w ≡ why.NoMemory)
+  int_told w t =
+      told (xdr.int ∷ []) 0 limits bs j (number_reason j) (IsUtf8-from_is_utf8 bs u) is no_head (λ v n. n) w
+      (subst (λ (ks : List KindView). Tells ks 0 limits bs w) e
+      (subst (λ (x : List ℕ). Tells kinds 0 limits x w) h t))
+
+  pub no_int : (t : Tree) → IsSpelling kinds 0 limits text t → ⊥
+  no_int t s =
+      not_spelled (xdr.int ∷ []) 0 limits bs j (number_reason j) (IsUtf8-from_is_utf8 bs u) is no_head (λ v n. n) t
+      (subst (λ (k : Json). spells (xdr.int ∷ []) 0 k t ≡ true)
+      (some-is s.tree j (sym s.is ∙ ap json_text h ∙ is))
+      (subst (λ (x : List KindView). spells x 0 s.tree t ≡ true) e s.spells))
+
+-- true is no number
+pub no_flag : (z : ℤ) → is_signed (2 ^ 31) z ≡ true → false ≡ true → ⊥
+no_flag z h k = false≢true k
+
+-- ---- a fraction is no decimal
+
+positive : (n : ℕ) → n < 2 ^ 64 → codes "1.5" ≡ decimal n → ⊥
+positive n h e =
+    let len : 1 < length (decimal n) = rw (sym e) (omega arith) in
+    let d = digit_at (decimal n) 1 (decimal_is_IsNumeral n h).0.1 len in
+    omega (arith, d.0, ap (λ (l : List ℕ). get_or l 1 0) e)
+
+plain : (z : ℤ) → is_signed (2 ^ 31) z ≡ true → codes "1.5" ≡ signed_decimal z → ⊥
+plain (pos n) h e = positive n (omega (arith, ltb-true n (2 ^ 31) h)) e
+plain (negsuc n) h e = omega (arith, ap (λ (l : List ℕ). get_or l 0 0) e)
+
+pub no_fraction : (z : ℤ) → is_signed (2 ^ 31) z ≡ true → is_decimal_of z (codes "1.5") ≡ true → ⊥
+no_fraction z h k =
+    elim (or_cases (bytes_eq (codes "1.5") (signed_decimal z)) (int_eq z (pos 0) && bytes_eq (codes "1.5") (codes "-0"))
+    k) [
+      | inl e ↦ plain z h ((bytes_eq-Decides (codes "1.5") (signed_decimal z)).0 e)
+      | inr e ↦
+          let zero = both (int_eq z (pos 0)) (bytes_eq (codes "1.5") (codes "-0")) e in
+          let same : codes "1.5" ≡ codes "-0" = (bytes_eq-Decides (codes "1.5") (codes "-0")).0 zero.1 in
+          omega (arith, ap (λ (l : List ℕ). get_or l 0 0) same)
+    ]
