@@ -23,9 +23,12 @@ use xdr_types::{KindId, Limits, Schema, Value};
 ///
 /// Members come in any order, spaces and escapes as RFC 8259 has them. An enumeration's number is a name or the number,
 /// a number is a JSON number or a string, and hexadecimal is in either case. A fault other than `NoMemory` says that
-/// the text spells no value of the kind within the limits. `at` is at most the count of the text's bytes. Which of
-/// several reasons is told, which member is missing, unknown or twice, and that the place is where the refused value or
-/// key begins, is tested and no clause says it. For `TooDeep` and `TooLarge` it may be the text's end.
+/// the text spells no value of the kind within the limits, and `why` is right of it. `at` is at most the count of the
+/// text's bytes.
+///
+/// Which of several reasons is told, and of which member, is tested and no clause says it. The same holds of a text
+/// that is no JSON: it is `TooDeep` only beyond 4096 open brackets. So it does of the place, which is where the refused
+/// value or key begins. For `TooDeep` and `TooLarge` it may be the text's end.
 ///
 /// No call recurses, whatever the text; the drop of what was read does, one level a call, at most 4096. Memory is of
 /// the size of the text, and nothing is reserved by a declared count.
