@@ -13,4 +13,5 @@ pub mod Arguments
 pub mod Sourced
 pub mod Endings
 pub mod Spelling
+pub mod Telling
 pub mod Unlisted
