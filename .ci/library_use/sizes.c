@@ -4,7 +4,8 @@
 
 #include "calls.h"
 
-enum { MIB = 1 << 20, ITEMS = MIB / 4, TEXT = 262144, ROWS = 1024, OWN_ROWS = 6, ADDRESS = 256, FRAMES = 1024 };
+enum { MIB = 1 << 20, ITEMS = MIB / 4, TEXT = 262144, ROWS = 1024, OWN_ROWS = 6, ADDRESS = 256, FRAMES = 1024,
+    NAMES = 100000 };
 
 /* What the calls read, and a buffer of more than what they write. */
 static uint8_t input[2 * MIB], buffer[4 * MIB];
@@ -25,21 +26,43 @@ static void fill_input(size_t count) {
 /* How many types the greatest text has: typedefs of one length behind the first. */
 static size_t type_count;
 
-/* The greatest text: as many typedefs of one length as go into it, and spaces. */
+/* The greatest text: behind its front as many typedefs of one length as go into it, and spaces. Answers how many. */
+static size_t fill_text(char *longest, const char *front) {
+    size_t types = 0, count = strlen(front);
+    memcpy(longest, front, count);
+    for (; count <= TEXT - 20; types++) {
+        count += (size_t)snprintf(longest + count, 21, "typedef int t%05d;\n", (int)types);
+    }
+    memset(longest + count, ' ', TEXT - count);
+    return types;
+}
+
 static void read_text(oncrpc_declarations *held) {
     static char longest[TEXT + 32];
     oncrpc_outcome outcome = {9, 9, 9, 9, 9};
-    size_t count = (size_t)snprintf(longest, sizeof longest, "typedef int list<>;\n");
-    for (int i = 0; count <= TEXT - 20; i++) {
-        count += (size_t)snprintf(longest + count, 21, "typedef int t%05d;\n", i);
-        type_count = (size_t)i + 2;
-    }
-    memset(longest + count, ' ', TEXT - count);
+    type_count = fill_text(longest, "typedef int list<>;\n") + 1;
     uint32_t status = oncrpc_declarations_read(bytes(longest), TEXT, held, &outcome);
     judge(status == ONCRPC_OK && tells(&outcome, 0, 0), status);
     put_number(input, 7);
     status = oncrpc_check(bytes(longest), TEXT, bytes("t00009"), 6, 1, 4, input, 4, &outcome);
     judge(status == ONCRPC_OK && tells(&outcome, 4, 0), status);
+}
+
+/* The same in rpcgen's dialect, which asks for the last of many names. */
+static void read_dialect_text(void) {
+    static char longest[TEXT + 32];
+    oncrpc_declarations held = ONCRPC_NONE;
+    oncrpc_outcome outcome = {9, 9, 9, 9, 9};
+    size_t count = 0;
+    fill_text(longest, "#ifdef n99999\ntypedef int here;\n#endif\n");
+    for (int i = 0; i < NAMES; i++) {
+        count += (size_t)snprintf((char *)input + count, 8, "n%05d ", i);
+    }
+    uint32_t status = oncrpc_declarations_read_dialect(bytes(longest), TEXT, input, count, &held, &outcome);
+    judge(status == ONCRPC_OK && tells(&outcome, 0, 0), status);
+    status = oncrpc_declarations_check(&held, bytes("here"), 4, 1, 4, bytes("\0\0\0\7"), 4, &outcome);
+    judge(status == ONCRPC_OK && tells(&outcome, 4, 0), status);
+    oncrpc_declarations_free(&held);
 }
 
 /* An opaque and a list of 1 MiB. */
@@ -92,7 +115,30 @@ static void tell_value(oncrpc_declarations *held) {
     judge(status == ONCRPC_NO_ROOM && tells(&outcome, MIB + 4, 0) && !count && !back[0], status);
     status = oncrpc_declarations_from_json(held, bytes("opaque"), 6, 1, ONCRPC_MOST_BYTES, buffer, written, back,
         sizeof back, &count, &outcome);
-    judge(status == ONCRPC_OK && tells(&outcome, MIB + 4, 0) && count == MIB + 4 && !memcmp(back, input, MIB + 4), status);
+    judge(status == ONCRPC_OK && tells(&outcome, MIB + 4, 0) && count == MIB + 4 && !memcmp(back, input, MIB + 4),
+        status);
+}
+
+/* The list of 1 MiB in both layouts, there and back. */
+static void tell_list(oncrpc_declarations *held) {
+    static uint8_t back[MIB + 4];
+    memset(input, 0, MIB + 4);
+    put_number(input, ITEMS);
+    for (int is_indented = 0; is_indented < 2; is_indented++) {
+        const char *front = is_indented ? "[\n  0,\n  0" : "[0,0", *end = is_indented ? "0\n]" : "0]";
+        size_t wanted = is_indented ? 5 * ITEMS + 2 : 2 * ITEMS + 1, written = 9, count = 9;
+        oncrpc_outcome outcome = {9, 9, 9, 9, 9};
+        uint32_t status = oncrpc_declarations_to_json(held, bytes("list"), 4, 2, ONCRPC_MOST_BYTES, input, MIB + 4,
+            is_indented, buffer, sizeof buffer, &written, &outcome);
+        int is_text = written == wanted && !memcmp(buffer, front, strlen(front))
+            && !memcmp(buffer + wanted - strlen(end), end, strlen(end));
+        judge(status == ONCRPC_OK && tells(&outcome, MIB + 4, 0) && is_text, status);
+        memset(back, '.', sizeof back);
+        status = oncrpc_declarations_from_json(held, bytes("list"), 4, 2, ONCRPC_MOST_BYTES, buffer, wanted, back,
+            sizeof back, &count, &outcome);
+        judge(status == ONCRPC_OK && tells(&outcome, MIB + 4, 0) && count == MIB + 4 && !memcmp(back, input, MIB + 4),
+            status);
+    }
 }
 
 /* Each type of the greatest text, and no memory for any. */
@@ -344,9 +390,11 @@ void check_sizes(void) {
     oncrpc_declarations declarations = ONCRPC_NONE;
     oncrpc_registry registry = ONCRPC_NONE;
     read_text(&declarations);
+    read_dialect_text();
     check_value(&declarations);
     show_value(&declarations);
     tell_value(&declarations);
+    tell_list(&declarations);
     list_types(&declarations);
     list_value(&declarations);
     find_item(&declarations);
