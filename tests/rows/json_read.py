@@ -214,6 +214,8 @@ REFUSED = [
     (CASES, "cases", b"^null", "WrongType"),
     (CASES, "cases", b"^{}", "MissingMember"),
     (CASES, "cases", b'^{"hex":"a"}', "MissingMember"),
+    (FILE, "file", b'{"filename":"","type":^{"creator":"a"},"owner":"","data":""}', "MissingMember"),
+    (FILE, "file", b'{"filename":"","type":^{"case":1},"owner":"","data":""}', "MissingMember"),
     (CASES, "cases", b'{"zzz":1,"case":^"one"}', "NotWhole"),
     (CASES, "cases", b'{"zzz":1,"case":^"two"}', "OutOfRange"),
     (CASES, "cases", b'{"zzz":1,"case":^true}', "WrongType"),
