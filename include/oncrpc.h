@@ -157,8 +157,9 @@ enum {
     ONCRPC_JSON_MISSING_MEMBER = 3, /* a member that is not there, at the object */
     ONCRPC_JSON_MEMBER_TWICE = 4,   /* a member that stands twice, at its second key */
     ONCRPC_JSON_WRONG_TYPE = 5,     /* JSON of another form than the kind's */
-    ONCRPC_JSON_OUT_OF_RANGE = 6,   /* a number out of the range of its type, or that no member of the enum has */
-    ONCRPC_JSON_NOT_WHOLE = 7,      /* a number with a fraction or an exponent */
+    ONCRPC_JSON_OUT_OF_RANGE = 6,   /* a number out of the range of its type, or that no member of the enum has; a string
+                                       in the place of a number that is none */
+    ONCRPC_JSON_NOT_WHOLE = 7,      /* the same where its text has a `.`, an `e` or an `E`: a fraction or an exponent */
     ONCRPC_JSON_UNKNOWN_NAME = 8,   /* a name that no member of the enum has */
     ONCRPC_JSON_BAD_HEX = 9,        /* a string that is no pairs of hexadecimal digits */
     ONCRPC_JSON_WRONG_LENGTH = 10,  /* more or fewer bytes or items than the kind has */

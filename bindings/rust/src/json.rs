@@ -22,9 +22,10 @@ pub enum JsonReason {
     MemberTwice,
     /// JSON of another form than the kind's.
     WrongType,
-    /// A number out of the range of its type, or that no member of the enum has.
+    /// A number out of the range of its type, or that no member of the enum has; a string in the place of a number
+    /// that is none.
     OutOfRange,
-    /// A number with a fraction or an exponent.
+    /// The same where its text has a `.`, an `e` or an `E`: a fraction or an exponent.
     NotWhole,
     /// A name that no member of the enum has.
     UnknownName,
@@ -34,8 +35,8 @@ pub enum JsonReason {
     WrongLength,
     /// A discriminant without an arm, at the value of `case`.
     NoArm,
-    /// Brackets that nest above 4096 deep, at the first of these; or a value below the limit on depth, at the text's
-    /// end.
+    /// Brackets that nest above 4096 deep, at the first of these or the key before it; or a value below the limit on
+    /// depth, at the text's end.
     TooDeep,
     /// A value above the limit on bytes, at the text's end.
     TooLarge,
