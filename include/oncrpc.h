@@ -157,8 +157,8 @@ enum {
     ONCRPC_JSON_MISSING_MEMBER = 3, /* a member that is not there, at the object */
     ONCRPC_JSON_MEMBER_TWICE = 4,   /* a member that stands twice, at its second key */
     ONCRPC_JSON_WRONG_TYPE = 5,     /* JSON of another form than the kind's */
-    ONCRPC_JSON_OUT_OF_RANGE = 6,   /* a number out of the range of its type, or that no member of the enum has; a string
-                                       in the place of a number that is none */
+    ONCRPC_JSON_OUT_OF_RANGE = 6,   /* a number out of the range of its type, or that no member of the enum has; a
+                                       string in the place of a number that is none */
     ONCRPC_JSON_NOT_WHOLE = 7,      /* the same where its text has a `.`, an `e` or an `E`: a fraction or an exponent */
     ONCRPC_JSON_UNKNOWN_NAME = 8,   /* a name that no member of the enum has */
     ONCRPC_JSON_BAD_HEX = 9,        /* a string that is no pairs of hexadecimal digits */
@@ -593,9 +593,9 @@ uint32_t oncrpc_declarations_picked(
     oncrpc_member *member);
 
 /* Tells the type of the text that `index` others are before, in the order of the text (RFC 4506 section 6.3): `kind` of
- * `member` is the kind that its name names, and `number` is 0. Basic kinds are none of them. Puts its name into the front
- * of `buffer`, as oncrpc_declarations_member does, whose statuses it has. ONCRPC_NO_MEMBER: the text declares at most
- * `index` types. */
+ * `member` is the kind that its name names, and `number` is 0. Basic kinds are none of them. Names that rpcgen's dialect
+ * puts in front of a text come first. Puts its name into the front of `buffer`, as oncrpc_declarations_member does, whose
+ * statuses it has. ONCRPC_NO_MEMBER: there are at most `index` types. */
 uint32_t oncrpc_declarations_type(
     oncrpc_declarations *declarations,
     size_t index,

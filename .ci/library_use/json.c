@@ -189,6 +189,23 @@ void check_json(void) {
     oncrpc_declarations_free(&held);
 }
 
+/* Names that the text has and does not declare are types before its own. */
+static void list_dialect(oncrpc_declarations *held) {
+    static const char dialect[] = "typedef u_int own;\nstruct pair { bool_t is; u_int number; };\n";
+    static const char *listed[] = {"u_int", "bool_t", "own", "pair"};
+    oncrpc_outcome outcome = {9, 9, 9, 9, 9};
+    uint32_t status = oncrpc_declarations_read_dialect(bytes(dialect), sizeof dialect - 1, NULL, 0, held, &outcome);
+    judge(status == ONCRPC_OK, status);
+    for (size_t i = 0; status == ONCRPC_OK && i < 5; i++) {
+        uint8_t room[8] = "........";
+        oncrpc_member member = {9, 9, 9};
+        uint32_t told = oncrpc_declarations_type(held, i, room, sizeof room, &member);
+        judge(i == 4 ? told == ONCRPC_NO_MEMBER && member.name_count == 9
+            : told == ONCRPC_OK && member.name_count == strlen(listed[i]) && !memcmp(room, listed[i], member.name_count),
+            told);
+    }
+}
+
 /* What the text declares by the names that are defined (docs/LANGUAGE.md, "rpcgen's dialect"). */
 void check_dialect(void) {
     static const char dialect[] = "%#include <x.h>\n#ifdef RPC_HDR\ntypedef int here;\n#endif\ntypedef string name<>;\n";
@@ -223,5 +240,6 @@ void check_dialect(void) {
             &outcome);
         judge(status == ONCRPC_NO_KIND && tells(&outcome, 0, 0) && !held.live, status);
     }
+    list_dialect(&held);
     oncrpc_declarations_free(&held);
 }
