@@ -1,6 +1,7 @@
-//! Values as JSON, there and back, and each reason against a text: the file of RFC 4506 section 7.
+//! Values as JSON, there and back, and each reason against a text: the file of RFC 4506 section 7. Names to define for a
+//! text in rpcgen's dialect.
 
-use oncrpc::{Declarations, JsonFault, JsonReason, JsonRefusal, Limits};
+use oncrpc::{CheckFault, Declarations, JsonFault, JsonReason, JsonRefusal, Limits, ReadFault};
 
 const TEXT: &[u8] = b"enum filekind { TEXT = 0, DATA = 1, EXEC = 2 };
     union filetype switch (filekind kind) {
@@ -72,4 +73,17 @@ fn what_is_no_text_and_what_is_past_a_limit() {
     assert_eq!(none, Err(JsonFault::NoKind));
     let deep = Limits { depth: 0, bytes: 64 };
     assert_eq!(file.from_json("file", deep, "{}"), Err(JsonFault::BadLimits));
+}
+
+#[test]
+fn names_to_define() {
+    let text = b"#ifdef RPC_HDR\ntypedef u_int here;\n#endif\n";
+    let mut read = Declarations::read_dialect(text, "RPC_XDR RPC_HDR").unwrap();
+    assert_eq!(read.check("here", Limits::MOST, &[0; 4]).unwrap().used, 4);
+    let mut read = Declarations::read_dialect(text, "RPC_HDRS").unwrap();
+    assert_eq!(read.check("here", Limits::MOST, &[0; 4]), Err(CheckFault::NoKind));
+    for names in ["BIG=1", "RPC_HDR 1BIG", "RPC-HDR", "RPC_HDR\n", "\u{e9}"] {
+        let refused = Declarations::read_dialect(text, names).err();
+        assert_eq!(refused, Some(ReadFault::BadName), "{names}");
+    }
 }
