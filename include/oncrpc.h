@@ -7,8 +7,8 @@
  *
  * SHOWN BY TESTS, and by no contract: that ONCRPC_NO_MEMORY comes only where malloc or realloc refused, or as
  * oncrpc_normalise says of its input. That no memory is lost. Which error of a text is told, and at which line and
- * column; of JSON which reason is told, and that its place is where the refused value or key begins. The stack that is
- * needed, and that no call ends the process. The numbers and the texts of this file, and the sizes and the places of
+ * column; of JSON which of several reasons is told, and that its place is where the refused value or key begins. The
+ * stack that is needed, and that no call ends the process. The numbers and the texts of this file, and the sizes and the places of
  * fields. That the hashes of a registry depend on its seed is shown by neither: it is the code.
  *
  * POINTERS. A pointer to bytes, parts or rows has a count beside it, and leads to so many. Where the count is 0 it may

@@ -1,7 +1,8 @@
 -- What reading a text says by a kind that a name names, and where the text is refused.
-use Rattle.std.proofs.Common.{◌≡◌, ◌⊎◌, inl, inr, ℕ, List, Some, sym, ◌∙◌}
+use Rattle.std.proofs.Common.{◌≡◌, ◌⊎◌, inl, inr, ℕ, List, Some, subst, sym, ◌∙◌}
 use Rattle.xdr_types.specs.Within.{AreBounds}
 use Rattle.xdr_json.specs.Text.{SpellsNone}
+use Rattle.xdr_json_reader.specs.Reasons.{Tells}
 use Rattle.xdr_json_reader.specs.declared.fault.JsonReason.{JsonReason}
 use Rattle.xdr_json_reader.specs.declared.fault.JsonReason.TheVariants.{NoMemory}
 use Rattle.xdr_lang.specs.Declarations.{Declared}
@@ -15,10 +16,12 @@ use Rattle.c_json.specs.Private.Unread.{IsUnread}
 
 -- a reason other than want of memory says that the text spells no value
 pub refused : (q : Question) (text : List ℕ) (w : JsonReason) (f : TextFault) → (w ≡ NoMemory → ⊥) → f.why ≡ w
-    → IsPlace text f → (w ≡ NoMemory) ⊎ SpellsNone q.kinds q.place q.limits text → IsUnspelled q text f
-refused q text w f known is place why = record {
+    → IsPlace text f → (w ≡ NoMemory) ⊎ SpellsNone q.kinds q.place q.limits text
+    → Tells q.kinds q.place q.limits text w → IsUnspelled q text f
+refused q text w f known is place none tells = record {
   known = λ m. known (sym is ∙ m);
-  none = elim why [ inl m ↦ absurd (known m) | inr n ↦ n ];
+  none = elim none [ inl m ↦ absurd (known m) | inr n ↦ n ];
+  why = subst (λ (v : JsonReason). Tells q.kinds q.place q.limits text v) (sym is) tells;
   place = place;
 }
 

@@ -5,6 +5,7 @@ use Rattle.xdr_types.specs.Spelling.{bytes_of}
 use Rattle.xdr_types.specs.Within.{AreBounds}
 use Rattle.xdr_json.specs.Text.{IsSpelling, SpellsNone}
 use Rattle.xdr_json_reader.specs.Places.{last_line}
+use Rattle.xdr_json_reader.specs.Reasons.{Tells}
 use Rattle.xdr_json_reader.specs.declared.fault.JsonReason.{JsonReason}
 use Rattle.xdr_json_reader.specs.declared.fault.JsonReason.TheVariants as reason
 use Rattle.xdr_lang.specs.Declarations.{Declared}
@@ -30,10 +31,11 @@ pub record IsPlace (text : List ℕ) (f : TextFault) : Type 0 where
   pub line : f.line ≡ 1 + count_by (λ (b : ℕ). b == 10) (take f.at text)
   pub column : f.column ≡ 1 + length (last_line (take f.at text))
 
--- The text spells no value of the kind within the limits.
+-- The text spells no value of the kind within the limits, and the reason is right of it.
 pub record IsUnspelled (q : Question) (text : List ℕ) (f : TextFault) : Type 0 where
   pub known : f.why ≢ reason.NoMemory
   pub none : SpellsNone q.kinds q.place q.limits text
+  pub why : Tells q.kinds q.place q.limits text f.why
   pub place : IsPlace text f
 
 -- The encoding does not go into the buffer.

@@ -1,6 +1,7 @@
 //! The encoding of the value that a JSON text spells, by declarations that were read.
 ghost use Rattle.std.specs.Prelude.{◌≡◌, ◌<◌, ◌≤◌, ◌⊎◌, length, option_map, IfOk, IfErr, Some};
 ghost use Rattle.xdr_json.specs.Text.{SpellsNone};
+ghost use Rattle.xdr_json_reader.specs.Reasons.{Tells};
 ghost use Rattle.xdr_json_reader.specs.declared.fault.JsonReason.TheVariants.{NoMemory};
 ghost use Rattle.xdr_lang.specs.Views.{declared_of};
 ghost use Rattle.c_values.specs.Answers.{Question};
@@ -20,7 +21,7 @@ use xdr_types::{KindId, Limits, Schema};
 fn refusal(text: &[u8], fault: JsonFault) -> Spelled
     requires { fault.at ≤ length text.now }
     ensures { (q : Question) → (fault.why ≡ NoMemory) ⊎ SpellsNone q.kinds q.place q.limits text.now
-        → IsUnread q text.now result }
+        → Tells q.kinds q.place q.limits text.now fault.why → IsUnread q text.now result }
 {
     match fault.why {
         JsonReason::NoMemory => Spelled::NoMemory,

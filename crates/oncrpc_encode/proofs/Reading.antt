@@ -7,6 +7,7 @@ use Rattle.xdr_io.specs.Reported.{MovesAtMost}
 use Rattle.xdr_types.specs.Spelling.{bytes_of}
 use Rattle.xdr_types.specs.Tree.{Tree}
 use Rattle.xdr_json.specs.Text.{IsSpelling, SpellsNone}
+use Rattle.xdr_json_reader.specs.Reasons.{Tells}
 use Rattle.xdr_json_reader.specs.declared.fault.JsonReason.{JsonReason}
 use Rattle.xdr_json_reader.specs.declared.fault.JsonReason.TheVariants.{NoMemory}
 use Rattle.oncrpc_answers.specs.declared.failure.Failure.{Failure}
@@ -43,15 +44,17 @@ too_long s (Some text) (Some rest) bytes read long =
     let counts : length text ≡ length bytes + length rest = ap length read ∙ length-append bytes rest in
     omega arith
 
--- a fault of a text that is not too long says that it spells nothing
+-- a fault of a text that is not too long says that it spells nothing, and why
 pub refused_right : (s : Sought) (text : List ℕ) (why : JsonReason) (at : ℕ) (r : Refusal)
     → length text ≤ most_text s → at ≤ length text → (why ≡ NoMemory) ⊎ SpellsNone s.kinds s.place s.limits text
-    → IsRefusedFor text why at r → IsRightRefusal s text r
-refused_right s text why at (refusal.At w line column) short within none h = elim none [
+    → Tells s.kinds s.place s.limits text why → IsRefusedFor text why at r → IsRightRefusal s text r
+refused_right s text why at (refusal.At w line column) short within none tells h = elim none [
   | inl is ↦ absurd (h.1 is)
-  | inr spells ↦ (short, spells, λ is. h.1 (sym h.0 ∙ is), (at, within, h.2))
+  | inr spells ↦
+      let told = subst (λ (v : JsonReason). Tells s.kinds s.place s.limits text v) (sym h.0) tells in
+      (short, spells, ((λ is. h.1 (sym h.0 ∙ is)), told), (at, within, h.2))
 ]
-refused_right s text why at refusal.TooLong short within none h = absurd h
+refused_right s text why at refusal.TooLong short within none tells h = absurd h
 
 -- the bytes of the value that a text spells alone
 pub encoded_right : (s : Sought) (text : List ℕ) (v : Tree) (bytes : List ℕ) → length text ≤ most_text s

@@ -7,6 +7,7 @@ use Rattle.xdr_types.specs.Spelling.{bytes_of}
 use Rattle.xdr_types.specs.Within.{Bounds}
 use Rattle.xdr_json.specs.Text.{IsSpelling, SpellsNone}
 use Rattle.xdr_json_reader.specs.Places.{last_line}
+use Rattle.xdr_json_reader.specs.Reasons.{Tells}
 use Rattle.xdr_json_reader.specs.declared.fault.JsonReason.TheVariants.{NoMemory}
 use Rattle.oncrpc_tasks.specs.declared.target.Target.{Target}
 use Rattle.oncrpc_encode.specs.declared.encoded.Encoded.{Encoded}
@@ -45,11 +46,11 @@ abbrev pub IsPlace : (text : List ℕ) → (line column : ℕ) → Type 0
 IsPlace text line column = (at : ℕ) × (at ≤ length text) × IsAt text at line column
 
 -- The refusal is right for the text: it is too long, which is decided first; or it spells no value within the limits,
--- and the line and the column are those of a place in it.
+-- the reason is right of it, and the line and the column are those of a place in it.
 abbrev pub IsRightRefusal : Sought → (text : List ℕ) → Refusal → Type 0
 IsRightRefusal s text (refusal.At why line column) =
-    (length text ≤ most_text s) × SpellsNone s.kinds s.place s.limits text × (why ≢ NoMemory)
-    × IsPlace text line column
+    (length text ≤ most_text s) × SpellsNone s.kinds s.place s.limits text
+    × ((why ≢ NoMemory) × Tells s.kinds s.place s.limits text why) × IsPlace text line column
 IsRightRefusal s text refusal.TooLong = most_text s < length text
 
 -- this is right for the text: the bytes of the value that it spells, or a refusal

@@ -10,7 +10,7 @@ pub returns-in-Err-clause-unread : goal.returns-in-Err-clause-unread
 returns-in-Err-clause-unread c =
     let q : Question =
     record { kinds = c.args.schema.now.kinds; place = c.args.kind.place; limits = c.args.limits } in
-    c.refusal.ensures q c.in-Err.ensures.refused
+    c.refusal.ensures q c.in-Err.ensures.refused c.in-Err.ensures.why
 
 pub returns-in-Ok-encode-clause-encoding : goal.returns-in-Ok-encode-clause-encoding
 returns-in-Ok-encode-clause-encoding c = record {

@@ -14,4 +14,4 @@ pub returns-in_ok-refusal-in-Err-clause-right : goal.returns-in_ok-refusal-in-Er
 returns-in_ok-refusal-in-Err-clause-right c =
     refused_right (sought_of c.args.target.now) c.args.text.now c.in-Err.fault.why c.in-Err.fault.at
     c.in_ok-refusal-in-Err.refusal c.requires.short c.in-Err.ensures.place c.in-Err.ensures.refused
-    c.in_ok-refusal-in-Err.ensures.refused
+    c.in-Err.ensures.why c.in_ok-refusal-in-Err.ensures.refused
