@@ -13,5 +13,4 @@ pub mod Arguments
 pub mod Sourced
 pub mod Endings
 pub mod Spelling
-pub mod Telling
 pub mod Unlisted

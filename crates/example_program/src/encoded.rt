@@ -1,5 +1,5 @@
 //! A value that is read as JSON, and its bytes: what a success says, and what a refusal does.
-ghost use Rattle.std.specs.Prelude.{◌≡◌, ◌≢◌, ◌<◌, ◌≤◌, ◌∷◌, ◌++◌, [], codes, length, string_bytes};
+ghost use Rattle.std.specs.Prelude.{◌≡◌, ◌≢◌, ◌<◌, ◌≤◌, ◌∷◌, ◌++◌, [], codes, length};
 ghost use Rattle.std.specs.Io.KnownBytes.{Appends};
 ghost use Rattle.xdr_types.specs.Kinds as xdr;
 ghost use Rattle.xdr_json_reader.specs.declared.fault.JsonReason.{JsonReason};
@@ -62,24 +62,6 @@ pub fn no_text_is_read_without_a_kind<P: Opener, I: Source, O: Sink, F: Sink>(
 ) -> u8
     ensures unread { result ≡ 2 → input.new ≡ input.old }
     ensures unwritten { result ≡ 2 → output.new ≡ output.old }
-{
-    encode_over(alloc, what, opener, input, output, faults)
-}
-
-/// Without declarations `file` names nothing, and that is said, whatever the limits are: the name is looked at before
-/// them.
-pub fn the_name_is_told_before_the_limits<P: Opener, I: Source, O: Sink, F: Sink>(
-    alloc: Global,
-    what: &ValueTask,
-    opener: &mut P,
-    input: &mut I,
-    output: &mut O,
-    faults: &mut F,
-) -> u8
-    requires files { what.now.types.files.items ≡ [] }
-    requires name { string_bytes what.now.name ≡ codes "file" }
-    ensures { result ≡ 2 → IsSaid (record { taken = F.taken; lost = F.failures }) faults.old faults.new
-        (codes "no such name: file\n") }
 {
     encode_over(alloc, what, opener, input, output, faults)
 }

@@ -1,14 +1,11 @@
 //! What texts declare, printed: by no file, by one, and where texts are refused. The names of arguments and results.
-ghost use Rattle.std.specs.Prelude.{◌≡◌, ◌⊎◌, ◌∷◌, ◌++◌, [], ℕ, List, IfSome, codes, decimal, false, string_bytes};
+ghost use Rattle.std.specs.Prelude.{◌≡◌, ◌⊎◌, ◌∷◌, [], ℕ, List, IfSome, codes, decimal, false, string_bytes};
 ghost use Rattle.std.specs.Io.KnownBytes.{Appends};
 ghost use Rattle.oncrpc_answers.specs.declared.task.Dialect.TheVariants.{Rfc};
 ghost use Rattle.xdr_lang.specs.Declarations.{Declared};
 ghost use Rattle.xdr_lang.specs.Means.{Means};
-ghost use Rattle.xdr_lang.specs.declared.lang_fault.LangFault.{LangFault};
 ghost use Rattle.xdr_listing.specs.Listing.{part_path};
 ghost use Rattle.oncrpc_names.specs.Names.{name_text};
-ghost use Rattle.oncrpc_tasks.specs.Checked.{IsSaid};
-ghost use Rattle.oncrpc_tasks.specs.Refusals.{fault_text};
 ghost use Rattle.oncrpc_names.specs.declared.reading.Part.TheVariants.{Argument, Result};
 
 use oncrpc_answers::TypesTask;
@@ -59,24 +56,6 @@ pub fn nothing_is_printed_of_a_refusal<P: Opener, O: Sink, F: Sink>(
 ) -> u8
     ensures refused { (result ≡ 2) ⊎ (result ≡ 4) → output.new ≡ output.old }
     ensures never { result ≡ 1 → ⊥ }
-{
-    types_over(alloc, what, opener, output, faults)
-}
-
-/// Where one file is refused, the line has the number of the fault, its line and its column, and not the file's name.
-pub fn one_file_is_not_named<P: Opener, O: Sink, F: Sink>(
-    alloc: Global,
-    what: &TypesTask,
-    file: &String,
-    opener: &mut P,
-    output: &mut O,
-    faults: &mut F,
-) -> u8
-    requires { what.now.types.files.items ≡ file.now ∷ [] }
-    ensures { result ≡ 2 → (fault : LangFault)
-        × IsSaid (record { taken = F.taken; lost = F.failures }) faults.old faults.new
-        (fault_text fault.number fault.inner
-        ++ decimal fault.line ++ codes ":" ++ decimal fault.column ++ codes "\n") }
 {
     types_over(alloc, what, opener, output, faults)
 }

@@ -1,15 +1,12 @@
 //! The registry asked and served: what goes out, what is printed, and when rows can not have changed.
-ghost use Rattle.std.specs.Prelude.{◌≡◌, ◌≢◌, ◌<◌, ◌≤◌, ◌⊎◌, ◌++◌, ℕ, List, [], ◌∷◌, Some, IfOk, codes, string_bytes};
-ghost use Rattle.std.specs.Net.Text.{socket_text};
+ghost use Rattle.std.specs.Prelude.{◌≡◌, ◌≢◌, ◌<◌, ◌≤◌, ◌⊎◌, ◌++◌, ℕ, List, [], ◌∷◌, Some, codes};
 
 use oncrpc_service::{Listener, datagrams_on, info_datagram, info_over, serve_on};
-use oncrpc_sessions::{Ending, Why};
 use rpc_directory::Directory;
 use rpc_engine::DatagramPort;
 use rpc_message::five_cases;
-use std::alloc::{AllocError, Global};
+use std::alloc::Global;
 use std::hash::BuildHasher;
-use std::net::SocketAddr;
 use xdr_io::{Sink, Source};
 
 /// Where no connection is to be served none is, and the rows stay.
@@ -198,20 +195,4 @@ pub fn prints_nothing_without_a_datagram<P: DatagramPort, O: Sink, F: Sink>(
     ensures no_refusal { result ≢ 1 }
 {
     info_datagram(alloc, port, output, faults, vers)
-}
-
-/// The line of the first connection, which came from port 1025 of this host and had two replies to three records.
-pub fn line_of_a_connection(alloc: Global, peer: SocketAddr) -> Result<String, AllocError>
-    requires { socket_text peer ≡ codes "127.0.0.1:1025" }
-    ensures { IfOk result (λ text.
-        string_bytes text ≡ codes "connection 1 from 127.0.0.1:1025: 3 records, 2 replies\n") }
-{
-    let ending = Ending {
-        number: 0,
-        peer,
-        records: 3,
-        replies: 2,
-        why: Why::Done,
-    };
-    ending.line(alloc)
 }
