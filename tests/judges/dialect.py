@@ -1,7 +1,9 @@
 """Texts in rpcgen's dialect: what they mean, which are refused where, and several as one (docs/LANGUAGE.md)."""
+import itertools
 import os
 import random
 import re
+import string
 
 from measured.dialect import made
 from rows.dialect import ALIKE, DEBIAN, FILES, LIBRARY, NLM, REFUSED, SAME
@@ -10,7 +12,7 @@ from rows.shared import Case, TEXTS
 from .language import declared, told_texts
 from .large import refused_text
 from .rpcgen import in_the_rfcs_language
-from .written import is_read, same_answers
+from .written import constants_of, is_read, same_answers
 
 INCLUDED = "/usr/include"
 
@@ -80,6 +82,7 @@ def refused_dialect_cases():
         yield Case("read", text=text), lambda told, first=first: first.append(told.answer) or "refused" in told.answer
         yield dialect(text), lambda told, first=first: told.answer == first[0]
     yield dialect(b" " * 262145), refused_text(11, 0, 1, 1)
+    yield dialect(b"#else\n" + b" " * 262139), refused_text(11, 0, 1, 1)
     # The place behind the last byte of the longest text.
     yield dialect(b"#if 1\n" + b" " * 262138), refused_text(3, 0, 2, 262139)
 
@@ -117,6 +120,24 @@ def debian_cases():
         yield from read_twice(sizes + installed(name))
 
 
+def most_constructs_cases():
+    """As many of one construct as a text may have: sections in one another, members without numbers, names in place of
+    numbers, and names of arguments."""
+    empty = same_answers()
+    yield Case("read", text=b""), empty
+    yield dialect(b"#if 1\n" * 20164 + b"#endif\n" * 20164), empty
+    names = ["".join(each) for each in itertools.islice(itertools.product(string.ascii_uppercase, repeat=4), 52426)]
+    numbered = ["TRUE = 1", "FALSE = 0", *(f"{name} = {number}" for number, name in enumerate(names))]
+    text = f"enum e {{{','.join(names)}}};".encode()
+    yield dialect(text), lambda told: is_read(told) and constants_of(told) == numbered
+    aliases = b"const b=7;" + b"".join(b"const A%04x=b;" % number for number in range(18723))
+    arguments = b"program P{version V{void F(" + b",".join([b"int a"] * 43600) + b")=1;}=1;}=2;"
+    for text, plain in ((aliases, aliases.replace(b"=b;", b"=7;")), (arguments, arguments.replace(b"int a", b"int"))):
+        is_same = same_answers()
+        yield Case("read", text=plain), is_same
+        yield dialect(text), is_same
+
+
 def large_dialect_cases():
     """The longest texts, full of constructs, with their meaning; and files of a mebibyte."""
     line, plain = b"%%x\nconst C%05d = \"a\"; struct s%05d { unsigned x; };\n", b"struct s%05d { unsigned int x; };"
@@ -137,6 +158,8 @@ def large_dialect_cases():
     each = b"".join(b"#define a%04x\n" % number for number in range(9362))
     yield dialect(each + asked), empty
     yield dialect(each + b"#ifndef a2491\n@\n#endif\n" * 5698), empty
+    yield from most_constructs_cases()
+    yield dialect(b"%\n" * 131071 + b"@"), refused_text(1, 0, 131072, 1)
     texts = [bytes([10, 65 + number]) * 50000 for number in range(11)]
     whole = b"\n".join(texts)
     case = Case("join_texts", texts=texts)

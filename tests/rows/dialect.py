@@ -72,6 +72,9 @@ SAME = [
         # A name is the whole word.
         b"#ifdef DEFINE\n@\n#endif\n#ifdef DEFINED_\n@\n#endif\n#ifndef Defined\nstruct s { int x; };\n#endif",
         b"#define GUARD_\n#ifdef GUARD\n@\n#endif\n#ifdef GUARD_\nstruct s { int x; };\n#endif",
+        # What leaves the marks of the RFCs' language is read as what leaves them; and `%:`, which C has for `#`.
+        b"const C = = =;\nstruct s { int x; };",
+        b"%:else\nstruct s { int x; };",
         # What C's `struct` declares again.
         b"struct s { int x; };\ntypedef struct s s;",
         b"typedef struct s s;\nstruct s { int x; };",
@@ -96,9 +99,14 @@ SAME = [
     (b"struct s { int a; int b; };", b"struct s { long a; long int b; };"),
     (b"const A = 5;\nstruct s { int x; };", b"#define A 5\n#ifdef A\nstruct s { int x; };\n#endif\n"),
     (b"const A = 5; typedef int t[A];", b"#define A 5\ntypedef int t[A];", b"#define A 0x5 /* five */\ntypedef int t[A];",
-     b"#define A /* five */ 5\ntypedef int t[A];", b"#/* a\n*/define/* b */A/**/5 /* c\n d */\ntypedef int t[A];"),
+     b"#define A /* five */ 5\ntypedef int t[A];", b"#/* a\n*/define/* b */A/**/5 /* c\n d */\ntypedef int t[A];",
+     b"= define A 5 typedef int t[A];"),
     (b"enum e { A = 0, B = 1, C = 5, D = 6 };", b"enum e { A, B, C = 5, D };", b"enum e { A = 0, B, C = 5, D = 6 };"),
     (b"enum e { A = -1, B = 0 };", b"enum e { A = -1, B };"),
+    (b"typedef enum { A = 0, B = 1 } t; struct s { enum { C = 0 } x; };",
+     b"typedef enum { A, B } t; struct s { enum { C } x; };"),
+    (b"struct e { int a; }; struct s { struct e x; };", b"struct e { int a; }; struct s { struct enum e x; };",
+     b"struct e { int a; }; struct s { struct union e x; };"),
     (b"const C = 7; enum e { A = C };", b"#define C 7\nenum e { A = C };"),
     (b"const A = 5; enum e { B = 8, C = 9 };", b"#\tdefine\tA\t5\r\nenum e { B = 010, C };"),
     (
@@ -263,6 +271,29 @@ REFUSED = [
     (b"program P { version V { void F(void) = 1; } = W; } = 2;", 3, 0, 1, 47),
     # The number that stands in place of a name stands where the name does.
     (b"const N = -1; program P { version V { void F(void) = 1; } = 1; } = N;", 8, 0, 1, 68),
+    # Which fault of two it is: one of the lines of `#`, then a token, then the grammar, then a name.
+    (b"@\n#else\n", 1, 0, 2, 1),
+    (b"const A = 08;\n#ifdef A\n", 3, 0, 3, 1),
+    (b"struct s { t x; };\n  #other\n", 1, 0, 2, 3),
+    (b"struct s { unsigned x y; };\nconst A = 08;", 2, 0, 2, 11),
+    (b"typedef t u;\nstruct s { unsigned x y; };", 3, 0, 2, 23),
+    (b"const A = B;\nconst A = 08;", 2, 0, 2, 11),
+    # A name of the library that the text has, declares in no way that is looked for, and so declares once more.
+    (b"typedef struct { int x; } netbuf;", 5, 0, 1, 27),
+    (b"enum e { short = 1 };", 5, 0, 1, 10),
+    (b"program netobj { version V { void F(void) = 1; } = 1; } = 2;", 5, 0, 1, 9),
+    # What rpcgen and C take, and the tables of docs/LANGUAGE.md do not.
+    (b"struct _s { int x; };", 1, 0, 1, 8),
+    (b"union u switch (int d) { case 'c': void; };", 1, 0, 1, 31),
+    (b"const A = -017;", 2, 0, 1, 11),
+    (b"program P { version V { void F(string<5>) = 1; } = 1; } = 2;", 3, 0, 1, 38),
+    (b"program P { version V { void F(int 5) = 1; } = 1; } = 2;", 3, 0, 1, 36),
+    (b"struct s { time_t t; };", 6, 0, 1, 12),
+    # What neither takes: rpcgen has no `*` behind `string` and `opaque`.
+    (b"struct s { string *x; };", 3, 0, 1, 19),
+    (b"struct s { opaque *x; };", 3, 0, 1, 19),
+    (b"enum e { A, B, };", 3, 0, 1, 16),
+    (b"struct s { int x; int y }", 3, 0, 1, 25),
     # Each other fault of a text: a number, a size, a chain of typedefs, a schema, and bodies inside one another.
     (b"%line\nconst A = 08;", 2, 0, 2, 11),
     (b"#define A -1\ntypedef int x[A];", 7, 0, 2, 15),
