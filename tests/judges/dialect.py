@@ -6,7 +6,7 @@ import re
 import string
 
 from measured.dialect import made
-from rows.dialect import ALIKE, DEBIAN, FILES, LIBRARY, NLM, REFUSED, SAME
+from rows.dialect import ALIKE, COPIES, DEBIAN, FILES, LIBRARY, NLM, REFUSED, SAME
 from rows.shared import Case, TEXTS
 
 from .language import declared, told_texts
@@ -110,6 +110,15 @@ def installed(name):
         return file.read()
 
 
+def copied_cases():
+    """What each of Debian's files has of the dialect, in other words, behind what it takes from others."""
+    texts = {name: text for name, _, text, _ in COPIES}
+    for name, others, text, plain in COPIES:
+        is_same = same_answers()
+        yield Case("read", text=plain), is_same
+        yield dialect(b"\n".join([*map(texts.get, others), text])), is_same
+
+
 def debian_cases():
     """The files of declarations that are installed, each behind what it takes from others, and what they mean."""
     for name, others in DEBIAN:
@@ -173,6 +182,7 @@ def dialect_cases():
     yield from library_cases()
     yield from refused_dialect_cases()
     yield from file_cases()
+    yield from copied_cases()
     yield from debian_cases()
 
 

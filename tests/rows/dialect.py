@@ -293,6 +293,7 @@ REFUSED = [
     (b"struct s { string *x; };", 3, 0, 1, 19),
     (b"struct s { opaque *x; };", 3, 0, 1, 19),
     (b"enum e { A, B, };", 3, 0, 1, 16),
+    (b"struct s { struct float x; };", 6, 0, 1, 19),
     (b"struct s { int x; int y }", 3, 0, 1, 25),
     # Each other fault of a text: a number, a size, a chain of typedefs, a schema, and bodies inside one another.
     (b"%line\nconst A = 08;", 2, 0, 2, 11),
@@ -317,6 +318,125 @@ FILES = [
     ([b"a\nb\nc", b"", b"d\n"], [(1, 0, 1), (3, 0, 3), (4, 1, 1), (5, 2, 1), (6, 2, 2), (7, 2, 3)]),
     ([b"", b"", b""], [(1, 0, 1), (2, 1, 1), (3, 2, 1), (4, 2, 2)]),
     ([b"\n\n", b"\n"], [(3, 0, 3), (4, 1, 1), (5, 1, 2)]),
+]
+# What each of Debian's files has of the dialect, in other words: the file, those whose texts stand before its own, its
+# text, and what it means together with theirs. Four of the files have nothing of it.
+COPIES = [
+    ("mount", [], b"typedef unsigned where;", b"typedef unsigned int where;"),
+    (
+        "nfs_prot",
+        [],
+        b"struct stamp { unsigned s; unsigned us; }; struct attributes { unsigned mode; struct stamp at; };",
+        b"struct stamp { unsigned int s; unsigned int us; };"
+        b" struct attributes { unsigned int mode; struct stamp at; };",
+    ),
+    (
+        "rex",
+        [],
+        b"struct start { string command<9>; unsigned lines; };"
+        b" program R { version V { start S(start) = 1; } = 1; } = 7;",
+        b"struct start { string command<9>; unsigned int lines; };"
+        b" program R { version V { start S(start) = 1; } = 1; } = 7;",
+    ),
+    (
+        "klm_prot",
+        [],
+        b"struct lock { netobj who; unsigned from; unsigned to; };",
+        b"typedef opaque netobj<1024>; struct lock { netobj who; unsigned int from; unsigned int to; };",
+    ),
+    (
+        "yp",
+        [],
+        b"struct key {\n#ifdef OLD_BUG\n int status;\n string name<9>;\n#else\n string name<9>;\n int status;\n"
+        b"#endif\n unsigned port;\n};",
+        b"struct key { string name<9>; int status; unsigned int port; };",
+    ),
+    (
+        "rstat",
+        [],
+        b"#ifdef RPC_HDR\n%#ifndef IDLE\n%#define IDLE 4\n%#endif\n#endif /* def RPC_HDR */\n"
+        b"struct load { int ticks[4]; };",
+        b"struct load { int ticks[4]; };",
+    ),
+    (
+        "rusers",
+        [],
+        b"%/*\n% * What C sees alone\n% */\n#ifdef RPC_HDR\n%struct c { char *name; };\n#endif\n"
+        b"const MOST = 8;\n#ifdef\tRPC_XDR\n%bool_t xdr_c();\n%{\n%}\n#endif\nstruct user { string line<MOST>; };",
+        b"const MOST = 8; struct user { string line<MOST>; };",
+    ),
+    (
+        "bootparam_prot",
+        [],
+        b"%#include <c.h>\n#ifdef RPC_HDR\n%#include <d.h>\n#endif\nstruct address { char net; char host; };",
+        b"typedef int char; struct address { char net; char host; };",
+    ),
+    (
+        "key_prot",
+        [],
+        b"%#if 0\n%#pragma ident \"a\"\n%#endif\nconst ROOT = 3;\nconst MODULUS = \"d4a0ba\";\n"
+        b"enum status { DONE, NO_SECRET, UNKNOWN, FAULT };\nstruct pair { u_int low; des_block key; netobj name; };\n"
+        b"typedef string person<MAXNETNAMELEN>;\n#ifdef RPC_HDR\n%extern int x();\n#endif\n",
+        b"typedef unsigned int u_int; typedef opaque des_block[8]; typedef opaque netobj<1024>;"
+        b" const MAXNETNAMELEN = 255; const ROOT = 3; enum status { DONE = 0, NO_SECRET = 1, UNKNOWN = 2, FAULT = 3 };"
+        b" struct pair { u_int low; des_block key; netobj name; }; typedef string person<MAXNETNAMELEN>;",
+    ),
+    (
+        "nis_object",
+        [],
+        b"#if RPC_HDR\n%\n%#ifndef C\n#endif\nstruct right { u_char bits; uint32_t until; netobj key; };\n"
+        b"#if RPC_HDR\n%#endif\n%\n#endif",
+        b"typedef unsigned int u_char; typedef unsigned int uint32_t; typedef opaque netobj<1024>;"
+        b" struct right { u_char bits; uint32_t until; netobj key; };",
+    ),
+    (
+        "nis",
+        ["nis_object"],
+        b"#ifdef RPC_HDR\n%#include <c.h>\n#endif\n#include \"nis_object.x\"\nstruct bound { right of; u_int port; };\n"
+        b"typedef struct bound bound;\n%#define ALL ((READ +\\\n MODIFY +\\\n CREATE +\\\n DESTROY) << 24)\n",
+        b"typedef unsigned int u_char; typedef unsigned int u_int; typedef unsigned int uint32_t;"
+        b" typedef opaque netobj<1024>; struct right { u_char bits; uint32_t until; netobj key; };"
+        b" struct bound { right of; u_int port; };",
+    ),
+    (
+        "nis_callback",
+        ["nis_object", "nis"],
+        b"%/*\n% */\n#ifdef RPC_HDR\n%#include <c.h>\n#endif\n#ifdef RPC_XDR\n%#include \"c.h\"\n#endif\n"
+        b"typedef struct bound *found;",
+        b"typedef unsigned int u_char; typedef unsigned int u_int; typedef unsigned int uint32_t;"
+        b" typedef opaque netobj<1024>; struct right { u_char bits; uint32_t until; netobj key; };"
+        b" struct bound { right of; u_int port; }; typedef struct bound *found;",
+    ),
+    (
+        "nlm_prot",
+        [],
+        b"const LM_MAXSTRLEN = 1024;\n#ifdef RPC_HDR\n%#define LM_MAXSTRLEN 1024\n#endif\n"
+        b"struct lock { string caller<LM_MAXSTRLEN>; netobj owner; unsigned from; };",
+        b"typedef opaque netobj<1024>; const LM_MAXSTRLEN = 1024;"
+        b" struct lock { string caller<LM_MAXSTRLEN>; netobj owner; unsigned int from; };",
+    ),
+    (
+        "crypt",
+        [],
+        b"#ifndef RPC_HDR\n%#include \"crypt.h\"\n#endif\nenum mode { CBC, ECB };\nenum way { ENCRYPT, DECRYPT };\n"
+        b"struct done { u_char key[8]; mode m; way w; };",
+        b"typedef unsigned int u_char; enum mode { CBC = 0, ECB = 1 }; enum way { ENCRYPT = 0, DECRYPT = 1 };"
+        b" struct done { u_char key[8]; mode m; way w; };",
+    ),
+    (
+        "rpcb_prot",
+        [],
+        b"%/* C */\n#ifdef RPC_HDR\n%typedef int i;\n#endif\t/* def RPC_HDR */\n"
+        b"struct row { rpcprog_t p; rpcvers_t v; };\n"
+        b"struct call { rpcproc_t n; };\nconst high_2 = CALLIT;\nconst high_3 = ADDRESS;\nprogram P {\n version TWO {\n"
+        b"  row CALLIT(call) = 5;\n  netbuf ADDRESS(string) = 7;\n } = 2;\n"
+        b" version THREE {\n  row BROADCAST(call) = CALLIT;\n } = 3;\n} = 100000;",
+        b"typedef unsigned int rpcprog_t; typedef unsigned int rpcvers_t; typedef unsigned int rpcproc_t;"
+        b" struct netbuf { unsigned int maxlen; opaque buf<>; }; struct row { rpcprog_t p; rpcvers_t v; };"
+        b" struct call { rpcproc_t n; }; const high_2 = 5; const high_3 = 7; program P { version TWO {"
+        b" row CALLIT(call) = 5; netbuf ADDRESS(string) = 7; } = 2; version THREE { row BROADCAST(call) = 5; } = 3; }"
+        b" = 100000;",
+    ),
 ]
 # Files of declarations that Debian's packages rpcsvc-proto, libnsl-dev and libtirpc-dev have below /usr/include, and
 # what is read before them.
