@@ -7,6 +7,7 @@ import sys
 ROOT = os.path.dirname(os.path.dirname(os.path.dirname(os.path.realpath(__file__))))
 sys.path.append(f"{ROOT}/tests")
 
+from judges.json_texts import is_deep_json
 from rows.json_texts import INDENTED, JSON
 
 # The kinds that no text of declarations names.
@@ -76,7 +77,7 @@ def deepest_rows(program, folder):
         given = b"\0\0\0\1" * count + b"\0\0\0\0"
         wanted = front * times + inmost + back * times + "\n"
         got = ended(program, folder, f"--types {text} --name {name}", given, STACK)
-        well = got == (0, wanted.encode(), b"")
+        well = got == (0, wanted.encode(), b"") and is_deep_json(got[1])
         shown = "as it should" if well else (got[0], got[1][-99:], got[2])
         print(f"oncrpc show --json --types {text}, {count} deep, {STACK} KiB of stack: {shown}")
         yield well
@@ -94,7 +95,7 @@ def long_rows(program, folder):
         ("--indent --types json.x --name numbers", items, "[\n  " + ",\n  ".join(map(str, numbers)) + "\n]\n"),
     ):
         got = ended(program, folder, words, given)
-        well = got == (0, wanted.encode(), b"")
+        well = got == (0, wanted.encode(), b"") and is_json(got[1])
         shown = "as it should" if well else (got[0], got[1][:99], got[2])
         print(f"oncrpc show --json {words}, {len(given)} bytes: {shown}")
         yield well

@@ -8,6 +8,7 @@ CASES = b"union cases switch (int d) { case -1: int case_; case 2: void; default
 UNSIGNED_CASES = b"union cases switch (unsigned int d) { case 4294967295: bool b; };"
 TWICE = b"""typedef int *maybe; typedef maybe *twice; typedef twice *thrice;
 typedef opaque data<>; typedef data *datas;
+typedef int few<>; typedef few *fews;
 """
 SHARED_ARM = b"enum e { A = 1, B = 2 }; union u switch (e d) { case A: case B: hyper h; };"
 NO_ITEMS = b"typedef void_less void_lesses<>; struct void_less { int none<>; };"
@@ -73,13 +74,16 @@ JSON = [
     # The union that no text declares: its arm `case` stands under `case_`, and the one without a name under no letter.
     (b"", "own", "00000001 00000000 00000007", '{"case":true,"case_":"7"}'),
     (b"", "own", "00000000 ffffffff ffffffff", '{"case":false,"":"-1"}'),
-    # Void (4.16) and optional data (4.19), of an optional in brackets.
+    # Void (4.16) and optional data (4.19), of an optional in brackets. Those of an array are its own.
     (b"", "void", "", "{}"),
     (LIST, "list", "00000000", "null"),
     (LIST, "list", TWO_ENTRIES, '{"item":"a","next":{"item":"bc","next":null}}'),
     (OPTIONAL, "optional", "00000001 00000001 61000000", '"a"'),
     (TWICE, "maybe", "00000001 00000000", "0"),
     (TWICE, "datas", "00000001 00000000", '""'),
+    (TWICE, "fews", "00000000", "null"),
+    (TWICE, "fews", "00000001 00000000", "[]"),
+    (TWICE, "fews", "00000001 00000001 00000005", "[5]"),
     (TWICE, "twice", "00000000", "null"),
     (TWICE, "twice", "00000001 00000000", "[null]"),
     (TWICE, "twice", "00000001 00000001 00000005", "[5]"),
