@@ -5,7 +5,7 @@ ghost use Rattle.xdr_types.specs.Kinds.{maybe};
 ghost use Rattle.xdr_types.specs.Tree.{absent, from_list, hyper, none, present};
 ghost use Rattle.xdr_types.specs.View.{tree};
 ghost use Rattle.xdr_types.specs.Within.{FitsWithin};
-ghost use Rattle.xdr_json_reader.specs.declared.fault.JsonReason.TheVariants.{NoMemory, NotWhole, WrongType};
+ghost use Rattle.xdr_json_reader.specs.declared.fault.JsonReason.TheVariants.{NoMemory, NotJson, NotWhole, WrongType};
 ghost use Rattle.example_json.specs.Files.{file_kinds, sillyprog, sillyprog_text};
 
 use std::alloc::Global;
@@ -133,6 +133,21 @@ pub fn refuses_a_fraction(
     requires text { text.now ≡ codes "1.5" }
     ensures refused { IsErr result }
     ensures why { IfErr result (λ f. (f.why ≡ NotWhole) ⊎ (f.why ≡ NoMemory)) }
+{
+    read_json(alloc, schema, KindId { place: 0 }, limits, text)
+}
+
+/// A text that is no UTF-8 is no JSON: here a string whose one byte begins no character.
+pub fn refuses_what_is_no_utf8(
+    alloc: Global,
+    schema: &Schema,
+    limits: Limits,
+    text: &[u8],
+) -> Result<Value, JsonFault>
+    requires kinds { schema.now.kinds ≡ xdr.text 9 ∷ [] }
+    requires text { text.now ≡ 34 ∷ 255 ∷ 34 ∷ [] }
+    ensures refused { IsErr result }
+    ensures why { IfErr result (λ f. (f.why ≡ NotJson) ⊎ (f.why ≡ NoMemory)) }
 {
     read_json(alloc, schema, KindId { place: 0 }, limits, text)
 }

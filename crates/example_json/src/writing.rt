@@ -2,6 +2,7 @@
 ghost use Rattle.std.specs.Prelude.{◌≡◌, ◌≤◌, [], ◌∷◌, codes, negsuc, None, pos, IfOk};
 ghost use Rattle.xdr_types.specs.Kinds as xdr;
 ghost use Rattle.xdr_types.specs.Kinds.{kind_at, maybe, up_to};
+ghost use Rattle.xdr_types.specs.Spelling.{bytes_of};
 ghost use Rattle.xdr_types.specs.Tree.{absent, from_list, hyper, int, items, none, numbered, present, tag};
 ghost use Rattle.xdr_types.specs.View.{tree};
 ghost use Rattle.xdr_types.specs.Within.{FitsWithin};
@@ -9,7 +10,7 @@ ghost use Rattle.example_json.specs.Files.{arm, constant, content, part};
 ghost use Rattle.example_json.specs.Files.{file_kinds, plain, plain_lines, sillyprog, sillyprog_text};
 
 use std::alloc::Global;
-use xdr_json::{Layout, write_json};
+use xdr_json::{Layout, json_of_bytes, write_json};
 use xdr_types::{KindId, Limits, NoMemory, Schema, Value};
 
 /// The file of RFC 4506 section 7: an object with its fields in order. An opaque is hexadecimal, and a union says its
@@ -200,4 +201,23 @@ pub fn writes_an_empty_array(
     ensures { IfOk result (λ b. b.items ≡ codes "[]") }
 {
     write_json(alloc, schema, kind, value, limits, Layout::Indented)
+}
+
+/// The JSON of a value's bytes is that of the value, in either layout.
+pub fn writes_the_same_of_bytes(
+    alloc: Global,
+    schema: &Schema,
+    kind: KindId,
+    value: &Value,
+    bytes: &[u8],
+    limits: Limits,
+    layout: Layout,
+) -> Result<(Vec<u8>, Vec<u8>), NoMemory>
+    requires fits { FitsWithin schema.now.kinds kind.place limits (tree value.now) }
+    requires bytes { bytes.now ≡ bytes_of schema.now.kinds kind.place (tree value.now) }
+    ensures { IfOk result (λ texts. texts.0.items ≡ texts.1.items) }
+{
+    let of_value = write_json(alloc, schema, kind, value, limits, layout)?;
+    let of_bytes = json_of_bytes(alloc, schema, kind, limits, bytes, layout)?;
+    Ok((of_value, of_bytes))
 }
