@@ -88,15 +88,6 @@ def compiled(folder, *names):
     return ran.stderr.decode("latin-1") if ran.returncode else ""
 
 
-def refusal(folder, text):
-    """What rpcgen, or the C compiler, says of a text that is not taken."""
-    for mode, name in ("-h", "t.h"), ("-c", "t.c"):
-        said = made(folder, mode, name, text)
-        if said:
-            return said
-    return compiled(folder, "-fsyntax-only", "t.c")
-
-
 def for_rpcgen(text):
     """The text with each line of % that goes on as one line, and without the files that stand before it already."""
     joined = re.sub(r"(?m)^%(?:.*\\\n)+.*", lambda line: line[0].replace("\\\n", " "), text)

@@ -1,4 +1,5 @@
 """Bytes of random values of the kinds that a text declares, as the probe tells them (RFC 4506 section 4)."""
+import functools
 import re
 import struct
 
@@ -21,7 +22,7 @@ class Sampler:
         return self.random.choice((0, 1, 127, self.random.randrange(128 if self.small else 1 << 32)))
 
     def run(self, low, length):
-        return padded(bytes(self.random.randrange(low, 256) for _ in range(length)))
+        return padded(bytes(it or low for it in self.random.randbytes(length)))
 
     def count(self, most, left):
         return self.random.randrange(min(most, 3 if left > 0 else 0) + 1)
@@ -42,38 +43,29 @@ class Sampler:
         return self.holder(kind, left - 1)
 
     def holder(self, kind, left):
-        bytes_of = re.fullmatch(r"(opaque|string)([\[<])(\d+)[\]>]", kind)
-        if bytes_of:
-            name, mark, size = bytes_of.groups()
+        name, mark, of, size = held(kind)
+        if name in ("opaque", "string"):
             if mark == "[":
-                return self.run(0, int(size))
-            length = self.random.randrange(min(int(size), 9) + 1)
+                return self.run(0, size)
+            length = self.random.randrange(min(size, 9) + 1)
             return word(length) + self.run(1 if name == "string" else 0, length)
-        array = re.fullmatch(r"array (\d+)([\[<])(\d+)[\]>]", kind)
-        if array:
-            item, size = int(array[1]), int(array[3])
-            count = size if array[2] == "[" else self.count(size, left)
-            return (b"" if array[2] == "[" else word(count)) + b"".join(self.value(item, left) for _ in range(count))
-        if kind.startswith("optional "):
+        if name == "array":
+            count = size if mark == "[" else self.count(size, left)
+            return (b"" if mark == "[" else word(count)) + b"".join(self.value(of, left) for _ in range(count))
+        if name == "optional":
             there = self.random.randrange(2) if left > 0 else 0
-            return word(there) + (self.value(int(kind.split()[1]), left) if there else b"")
-        if kind.startswith("struct ("):
-            return b"".join(self.value(int(it.split()[0]), left) for it in kind[8:-1].split("; "))
+            return word(there) + (self.value(of, left) if there else b"")
+        if name == "struct":
+            return b"".join(self.value(it, left) for it in of)
         return self.choice(kind, left)
 
     def choice(self, kind, left):
-        tag, arms = re.fullmatch(r"union (\d+) \((.*)\)", kind).groups()
-        cases, other = [], None
-        for arm in arms.split("; "):
-            under = [int(it) for it in re.findall(r"case (-?\d+): ", arm)]
-            part = int(re.search(r"(?:^|: )(\d+) \w*$", arm)[1])
-            cases += [(case, part) for case in under]
-            other = other if under else part
-        free = [it for it in self.legal(self.kinds[int(tag)]) if it not in dict(cases)]
-        if other is not None and free and self.random.random() < 0.3:
+        tag, cases, other = arms(kind)
+        free = [it for it in self.legal(self.kinds[tag]) if it not in cases] if other is not None else ()
+        if free and self.random.random() < 0.3:
             return word(self.random.choice(free)) + self.value(other, left)
-        case, part = self.random.choice(cases)
-        return word(case) + self.value(part, left)
+        case = self.random.choice(tuple(cases))
+        return word(case) + self.value(cases[case], left)
 
     def legal(self, kind):
         if kind.startswith("enum"):
@@ -81,6 +73,33 @@ class Sampler:
         return (0, 1) if kind == "bool" else [self.number() for _ in range(8)]
 
 
+@functools.lru_cache(maxsize=None)
 def numbers(kind):
     """The numbers of an enumeration's members."""
     return [int(it) for it in re.findall(r" = (-?\d+)", kind)]
+
+
+@functools.lru_cache(maxsize=None)
+def held(kind):
+    """What a kind is: its name, the mark before its size, the place or the places of what it holds, and the size."""
+    sized = re.fullmatch(r"(opaque|string|array) ?(\d*)([\[<])(\d+)[\]>]", kind)
+    if sized:
+        name, of, mark, size = sized.groups()
+        return name, mark, int(of or 0), int(size)
+    name, rest = kind.split(" ", 1)
+    if name == "optional":
+        return name, "", int(rest), 0
+    return name, "", [int(it.split()[0]) for it in rest[1:-1].split("; ")] if name == "struct" else None, 0
+
+
+@functools.lru_cache(maxsize=None)
+def arms(kind):
+    """The place of a union's discriminant, the places of its arms by their cases, and that of its default."""
+    tag, texts = re.fullmatch(r"union (\d+) \((.*)\)", kind).groups()
+    cases, other = {}, None
+    for arm in texts.split("; "):
+        under = [int(it) for it in re.findall(r"case (-?\d+): ", arm)]
+        part = int(re.search(r"(?:^|: )(\d+) \w*$", arm)[1])
+        cases.update(dict.fromkeys(under, part))
+        other = other if under else part
+    return int(tag), cases, other
