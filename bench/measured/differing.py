@@ -9,11 +9,15 @@ REFUSED_HERE = [
     ("1", r"@#", "a line of # that is not read"),
     ("1", r"@_", "a name that begins with _"),
     ("1", r"@'", "a character as a number"),
+    ("1", r"@//", "// behind #define NAME NUMBER"),
+    ("1", r"= ?@- ?;", "- alone as a number"),
     ("3", r"= ?@[A-Za-z]\w* ?;", "a name to which the text gives no number"),
     ("3", r"@[,}]", "a member without a number behind one whose value is a name"),
     ("3", r"@#", "#define inside a body"),
     ("3", r"\([^)]*@(?:[A-Za-z]\w* ?)?[*<]", "an argument behind a pointer, or with a size"),
     ("3", r"\([^)]*@-?\d", "a number as the name of an argument"),
+    ("8", r"\} ?= ?@-", "a negative number of a program"),
+    ("10", r"@(?:union\b|[^;{]*\[)", "a discriminant or a case of another kind, or an array of size 0"),
     ("5", r"@", "a name that comes twice, of which C never sees the first"),
     ("6", r"@", "a name that C's library declares"),
 ]
@@ -25,6 +29,7 @@ REFUSED_THERE = [
     (r"^\s*const\b.*=.*\n\^+\n.*expected", "marks that a quotation leaves"),
     (r"^\s*= *define\b", "a mark that #define leaves"),
     (r"unterminated comment", "a comment that a line of % opens"),
+    (r"unterminated #", "an open #if whose #endif stands behind // and /*"),
     (r"preprocessor error", "#pragma and #ident"),
     (r"\b(?:char|short)\b.*\n\^+\n.*expected|illegal \(reserved\) name", "names that rpcgen keeps for itself"),
 ]
@@ -44,12 +49,14 @@ def why_here(text, number, place):
     names = re.findall(r"(\w+) ?(?=@)|(?<=@)(\w+)", where)
     if number == "3" and any(re.search(rf"(?m)^\s*#\s*define\s+{a or b}\s*$", text) for a, b in names):
         return "a macro that the text uses"
+    if number == "3" and where.endswith("@") and re.search(r"(?m)^(?!\s*#).*//.*/\*", text):
+        return "// before /* in what #if hides"
     return next((why for fault, form, why in REFUSED_HERE if fault == number and re.search(form, where)), None)
 
 
 def why_there(text, said):
     """Why rpcgen may refuse a text with these words, or nothing."""
-    macros = re.findall(r"(?m)^\s*#\s*define\s+(\w+)", text)
-    if any(len(re.findall(rf"\b{name}\b", text)) > 1 for name in macros if not name[-1].isdigit()):
+    macros = re.findall(r"(?m)^\s*#\s*define\s+(\w+)(.*)", text)
+    if any(len(re.findall(rf"\b{name}\b", text)) > 1 for name, rest in macros if not (rest.strip() and name[-1].isdigit())):
         return "a macro that the text uses"
     return next((why for form, why in REFUSED_THERE if re.search(form, said, re.M)), None)
