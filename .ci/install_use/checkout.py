@@ -29,6 +29,7 @@ PROGRAM = {
     "share/zsh/site-functions/_oncrpc": ("completions/_oncrpc", 0o644),
     "share/fish/vendor_completions.d/oncrpc.fish": ("completions/oncrpc.fish", 0o644),
     **{f"share/oncrpc/examples/{it}": (f"examples/{it}", 0o644) for it in ("file.x", "file.hex", "ping.x")},
+    **{f"share/oncrpc/{it}.x": (f"share/oncrpc/{it}.x", 0o644) for it in ("mount", "nfs", "nlm", "nsm", "rpcbind")},
     "share/oncrpc/systemd/oncrpc-registry.service": ("share/oncrpc-registry.service", 0o644),
     **{f"share/doc/oncrpc/{it}.md": (f"docs/{it}.md", 0o644) for it in ("LANGUAGE", "FORMATS", "LIBRARY")},
 }

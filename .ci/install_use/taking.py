@@ -127,7 +127,7 @@ def parts(folder):
     for it in [*names, *others]:
         put_in_way(f"{tree.to}/{it}", "a file", f"{folder}/other")
     got, found = tree.call("uninstall", tree.to), found_below(tree.to)
-    well = got[0] == 0 and set(found) >= {*others, "share/oncrpc"} and not {*names[:2]} & set(found)
+    well = got[0] == 0 and set(found) >= {*others} and not {*names} & set(found)
     yield row("parts that were left", well, got, found)
 
 

@@ -1,0 +1,52 @@
+"""Rows of the declarations that are installed: they say of each procedure what the RFCs' texts say, and what real servers
+and clients exchanged is a value of what they declare."""
+import os
+import subprocess
+
+from refuse_use.recorded import RECORDED
+
+ROOT = os.path.dirname(os.path.dirname(os.path.dirname(os.path.realpath(__file__))))
+# A text, and those of .ci/declarations that declare the same procedures, as their RFCs have them.
+SAME = [
+    ("nfs", ["rfc1813_nfs"]),
+    ("mount", ["rfc1813_mount"]),
+    ("mount", ["rfc1094_mount"]),
+    ("rpcbind", ["rfc1833_rpcbind"]),
+    ("rpcbind", ["rfc1833_port_mapper"]),
+]
+NUMBERS = {"rpcbind": 100000, "nfs": 100003, "mount": 100005, "nlm": 100021, "nsm": 100024}
+
+
+def declared(program, path):
+    """The procedures that a text declares, and the kind and the counts of bytes of each argument and result."""
+    ended = subprocess.run([program, "types", "--types", path], capture_output=True, text=True, timeout=60, check=False)
+    lines = [line.split() for line in ended.stdout.splitlines()]
+    named = {line[2]: [] for line in lines if line[0] == "procedure"}
+    return {**named, **{line[1]: line[3:] for line in lines if line[0] in ("argument", "result")}}
+
+
+def share_rows(program):
+    """Each text beside the RFC's, and each recorded argument and result as a value to its last byte."""
+    for name, number in NUMBERS.items():
+        found = declared(program, f"{ROOT}/share/oncrpc/{name}.x")
+        well = f"{number}." in " ".join(found) and all(it.startswith(f"{number}.") for it in found)
+        print(f"share/oncrpc/{name}.x: {'as it should be' if well else found}")
+        yield well
+    for name, texts in SAME:
+        found = declared(program, f"{ROOT}/share/oncrpc/{name}.x")
+        wanted = {}
+        for it in texts:
+            wanted.update(declared(program, f"{ROOT}/.ci/declarations/{it}.x"))
+        other = {it: (found.get(it), wanted[it]) for it in wanted if found.get(it) != wanted[it]}
+        print(f"share/oncrpc/{name}.x beside {texts[0]}: {len(wanted)} lines, {other or 'all the same'}")
+        yield len(wanted) > 5 and not other
+    for (name, version, procedure), arguments, results in RECORDED:
+        for part, digits in (("1", arguments), ("result", results)):
+            if digits:
+                at = f"{NUMBERS[name]}.{version}.{procedure}.{part}"
+                words = ["check", "--hex", "--types", f"{ROOT}/share/oncrpc/{name}.x", "--name", at]
+                how = {"input": digits.encode(), "capture_output": True, "timeout": 60, "check": False}
+                said = subprocess.run([program, *words], **how).stdout
+                well = said == b"ok %d\n" % (len(digits) // 2)
+                print(f"{at} as recorded: {'as it should be' if well else said}")
+                yield well
