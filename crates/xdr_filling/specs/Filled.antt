@@ -1,0 +1,63 @@
+-- The parts that are not filled yet, and the items and bytes so far.
+use Rattle.std.specs.Prelude.{◌≡◌, ◌≤◌, ℕ, ℤ, Bool, List, [], ◌∷◌, ◌++◌, replicate}
+use Rattle.xdr_types.specs.Kinds.{KindView, kind_at}
+use Rattle.xdr_types.specs.Tree.{Tree, depth}
+use Rattle.xdr_types.specs.Fits.{Fits, item_part}
+use Rattle.xdr_types.specs.Spelling.{bytes_of}
+use Rattle.xdr_units.specs.Numbers.{num4, padded}
+use Rattle.xdr_stream.specs.Frames.{left_of}
+use Rattle.xdr_writer.specs.Items.{ItemView}
+use Rattle.xdr_writer.specs.ItemsOf.{items_of}
+use Rattle.xdr_writer.specs.Represents.{word_kind}
+use Rattle.xdr_filling.specs.Holes.{Hole, hole, Goes}
+use Rattle.xdr_filling.specs.declared.gap.Gap.{Gap}
+use Rattle.xdr_filling.specs.declared.filling.Filling.{Filling}
+use Rattle.xdr_filling.specs.declared.spelled.Spelled.{Spelled}
+use Rattle.xdr_filling.specs.declared.spelled.Spelled.TheVariants as spelled
+
+abbrev pub hole_of : Gap → Hole
+hole_of g = hole (left_of g.frame) g.room
+
+-- the gaps of nodes, the outermost first, over holes outside them
+abbrev pub onto : List Hole → List Gap → List Hole
+onto outer [] = outer
+onto outer (g ∷ gs) = onto (hole_of g ∷ outer) gs
+
+-- all that is not filled, in the order of the bytes
+abbrev pub holes_of : Filling → List Hole
+holes_of f = hole_of f.work ∷ onto [] f.around.items
+
+-- a value of the kind at a place, of which nothing is filled
+abbrev pub root : (place depth : ℕ) → List Hole
+root place depth = hole (item_part place ∷ []) depth ∷ []
+
+-- These items are those of a value of the kind so far, and these their bytes, whatever values of the parts that are not
+-- filled come after them. No such value has more levels than the depth.
+abbrev pub HasFilled : Filling → (place depth : ℕ) → (is : List ItemView) → (bytes : List ℕ) → Type 0
+HasFilled f place depth is bytes = Goes f.schema.now.kinds (root place depth) (holes_of f) is bytes
+
+-- Of the parts of the innermost node so many are not filled; they are ints, or they are unsigned ints (RFC 4506
+-- sections 4.1, 4.2, 4.13).
+pub record AreDue (f : Filling) (count : ℕ) : Type 0 where
+  pub place : ℕ
+  pub signed : Bool
+  pub parts : left_of f.work.frame ≡ replicate count (item_part place)
+  pub kind : kind_at f.schema.now.kinds place ≡ word_kind signed
+
+-- the items are those of a value of the kind with no more levels, whose encoding these bytes are
+abbrev pub IsValue : List KindView → (place most : ℕ) → (is : List ItemView) → (bytes : List ℕ) → Type 0
+IsValue kinds place most is bytes =
+    (v : Tree) × Fits kinds place v × (depth v ≤ most) × (items_of kinds place v ≡ is)
+    × (bytes_of kinds place v ≡ bytes)
+
+-- the bytes of numbers of one unit, joined (RFC 4506 sections 4.1, 4.2)
+abbrev pub units : List ℤ → List ℕ
+units [] = []
+units (z ∷ zs) = num4 z ++ units zs
+
+-- the bytes of an item in its form (RFC 4506 sections 3 and 4)
+abbrev pub spelled_bytes : Spelled → List ℕ
+spelled_bytes (spelled.Unit bytes) = bytes
+spelled_bytes (spelled.Wide bytes) = bytes
+spelled_bytes (spelled.Fixed content) = padded content.now
+spelled_bytes (spelled.Counted size content) = size ++ padded content.now

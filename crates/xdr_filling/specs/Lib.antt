@@ -1,0 +1,3 @@
+pub mod Holes
+pub mod Filled
+pub mod Private

@@ -1,0 +1,2 @@
+-- Definitions that only private functions cite. No contract of a public call names any of it.
+pub mod Makes

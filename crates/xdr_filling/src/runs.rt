@@ -1,0 +1,135 @@
+//! Items of an array that are numbers of one unit, many at once.
+ghost use Rattle.std.specs.Prelude.{◌≡◌, ◌<◌, ◌≤◌, ◌++◌, ℕ, List, length, take, OnOk, IfOk, IfSome, true};
+ghost use Rattle.xdr_units.specs.Numbers.{num4};
+ghost use Rattle.xdr_writer.specs.Items.{ItemView};
+ghost use Rattle.xdr_writer.specs.Runs.{as_items};
+ghost use Rattle.xdr_filling.specs.Filled.{AreDue, HasFilled, units};
+ghost use Rattle.xdr_filling.specs.Private.Makes.{AreUnits, IsRun, is_unit};
+
+use crate::filling::Filling;
+use crate::numbers::{is_int, is_unsigned_int, signed_unit, unsigned_unit};
+use std::alloc::AllocError;
+use xdr_stream::machine::frame::Frame;
+use xdr_types::{Kind, KindId};
+
+// Items of an array that come next: their kind, how many they are, and whether they are signed.
+#[derive(Clone, Copy)]
+struct Run {
+    item: KindId,
+    left: u32,
+    signed: bool,
+}
+
+// Whether the number has one unit.
+#[inline(always)]
+fn is_unit(signed: bool, number: i128) -> bool
+    ensures { result ≡ is_unit signed number }
+{
+    if signed {
+        is_int(number)
+    } else {
+        is_unsigned_int(number)
+    }
+}
+
+// Its four bytes.
+#[inline(always)]
+fn unit(signed: bool, number: i128) -> [u8; 4]
+    requires { is_unit signed number ≡ true }
+    ensures { result ≡ num4 number }
+{
+    if signed {
+        signed_unit(number)
+    } else {
+        unsigned_unit(number)
+    }
+}
+
+// How many of the first numbers have one unit.
+fn units_in_front(signed: bool, numbers: &[i128]) -> usize
+    ensures few { result ≤ length numbers.now }
+    ensures units { AreUnits signed (take result numbers.now) }
+{
+    for (at, number) in numbers.iter().enumerate() {
+        if !is_unit(signed, *number) {
+            return at;
+        }
+    }
+    numbers.len()
+}
+
+// Writes numbers of one unit behind what stands there.
+fn push_units(signed: bool, numbers: &[i128], out: &mut Vec<u8>) -> Result<(), AllocError>
+    requires { AreUnits signed numbers.now }
+    ensures { OnOk result (out.new.items ≡ out.old.items ++ units numbers.now) }
+{
+    for number in numbers {
+        out.extend_from_slice(&unit(signed, *number))?;
+    }
+    Ok(())
+}
+
+impl<'s> Filling<'s> {
+    // The numbers of one unit that come next, items of an array.
+    #[inline(always)]
+    fn run(&self) -> Option<Run>
+        ensures { IfSome result (λ r. IsRun self.now r) }
+    {
+        let Frame::Items { item, left } = self.work.frame else {
+            return None;
+        };
+        if self.work.room == 0 || !self.schema.has(item) {
+            return None;
+        }
+        match self.schema.kind(item) {
+            Kind::Int => Some(Run {
+                item,
+                left,
+                signed: true,
+            }),
+            Kind::Unsigned => Some(Run {
+                item,
+                left,
+                signed: false,
+            }),
+            _ => None,
+        }
+    }
+
+    /// How many ints, or unsigned ints, are known to come next as items of an array. 0 says nothing.
+    #[inline(always)]
+    pub fn numbers_due(&self) -> usize
+        ensures due { 0 < result → AreDue self.now result }
+    {
+        match self.run() {
+            Some(run) => run.left as usize,
+            None => 0,
+        }
+    }
+
+    /// Takes the first of some numbers, items of an array of ints or unsigned ints, and writes their bytes behind what
+    /// stands in `out` (RFC 4506 sections 4.1, 4.2, 4.13). It tells how many, of which 0 says nothing. Where memory is
+    /// refused, bytes of some of them may stand there, and no item is to be taken any more.
+    pub fn take_numbers(&mut self, numbers: &[i128], out: &mut Vec<u8>) -> Result<usize, AllocError>
+        // The numbers stand behind the items so far, and their bytes behind theirs.
+        ensures filled { IfOk result (λ n. (place depth : ℕ) (is : List ItemView) (bytes : List ℕ)
+            → HasFilled self.old place depth is bytes
+            → HasFilled self.new place depth (is ++ as_items (take n numbers.now))
+            (bytes ++ units (take n numbers.now))) }
+        ensures written { IfOk result (λ n. out.new.items ≡ out.old.items ++ units (take n numbers.now)) }
+        ensures few { IfOk result (λ n. n ≤ length numbers.now) }
+        ensures schema { self.new.schema.now ≡ self.old.schema.now }
+    {
+        let Some(run) = self.run() else {
+            return Ok(0);
+        };
+        let most = numbers.len().min(run.left as usize);
+        let count = units_in_front(run.signed, &numbers[..most]);
+        push_units(run.signed, &numbers[..count], out)?;
+        self.work.frame = Frame::Items {
+            item: run.item,
+            left: run.left - count as u32,
+        };
+        Ok(count)
+    }
+}
