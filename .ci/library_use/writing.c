@@ -10,6 +10,8 @@ static const char shapes[] =
     "typedef int list<2>;\n"
     "typedef int pair[2];\n"
     "struct node { node *next; };\n"
+    "struct held { opaque first<>; opaque second<>; };\n"
+    "typedef unsigned int counts<>;\n"
     "struct all { unsigned int u; hyper h; unsigned hyper v; bool b; shape s; three f; opaque o<3>; name n; pair p;\n"
     "    list l; int *m; colour e; };\n";
 
@@ -42,12 +44,23 @@ static const struct written_row written_rows[] = {
         "\0\0\0\1\0\0\0\6" "\0\0\0\2", 76, 0, 0},
     {"node", {FLAG(1), FLAG(0)}, 2, "\0\0\0\1\0\0\0\0", 8, 0, 0},
     {"list", {COUNT(0)}, 1, "\0\0\0\0", 4, 0, 0},
+    {"counts", {COUNT(3), UNSIGNED(1), SIGNED(2), UNSIGNED(4294967295)}, 4,
+        "\0\0\0\3" "\0\0\0\1" "\0\0\0\2" "\377\377\377\377", 16, 0, 0},
     {"int", {SIGNED(-2147483647 - 1)}, 1, "\200\0\0\0", 4, 0, 0},
     {"opaque", {CONTENT(1, 4)}, 1, "\0\0\0\4bcde", 8, 0, 0},
+    /* Content at the end, and before other content, with each count of zeros behind it. */
+    {"opaque", {CONTENT(0, 1)}, 1, "\0\0\0\1" "a\0\0\0", 8, 0, 0},
+    {"name", {CONTENT(0, 2)}, 1, "\0\0\0\2" "ab\0\0", 8, 0, 0},
+    {"name", {CONTENT(5, 3)}, 1, "\0\0\0\3" "fgh\0", 8, 0, 0},
+    {"three", {CONTENT(0, 3)}, 1, "abc\0", 4, 0, 0},
+    {"held", {CONTENT(0, 1), CONTENT(1, 4)}, 2, "\0\0\0\1" "a\0\0\0" "\0\0\0\4" "bcde", 16, 0, 0},
+    {"held", {CONTENT(3, 5), CONTENT(0, 0)}, 2, "\0\0\0\5" "defgh\0\0\0" "\0\0\0\0", 16, 0, 0},
     /* Too few, and too many. */
     {"list", {COUNT(2), SIGNED(1)}, 2, NULL, 0, ONCRPC_UNFINISHED, 2},
     {"list", {{0, 0, 0, 0, 0}}, 0, NULL, 0, ONCRPC_UNFINISHED, 0},
     {"list", {COUNT(1), SIGNED(1), SIGNED(2)}, 3, NULL, 0, ONCRPC_PAST_END, 2},
+    {"pair", {SIGNED(1), SIGNED(2), SIGNED(3)}, 3, NULL, 0, ONCRPC_PAST_END, 2},
+    {"held", {CONTENT(0, 5)}, 1, NULL, 0, ONCRPC_UNFINISHED, 1},
     {"int", {SIGNED(1), FLAG(1), SIGNED(2)}, 3, NULL, 0, ONCRPC_PAST_END, 1},
     /* Another item is due. */
     {"list", {SIGNED(1)}, 1, NULL, 0, ONCRPC_WRONG_ITEM, 0},
@@ -66,6 +79,8 @@ static const struct written_row written_rows[] = {
     {"unsigned", {UNSIGNED(4294967296)}, 1, NULL, 0, ONCRPC_NOT_IN_RANGE, 0},
     {"hyper", {UNSIGNED(9223372036854775808u)}, 1, NULL, 0, ONCRPC_NOT_IN_RANGE, 0},
     {"unsigned-hyper", {SIGNED(-1)}, 1, NULL, 0, ONCRPC_NOT_IN_RANGE, 0},
+    {"list", {COUNT(2), SIGNED(1), SIGNED(2147483648)}, 3, NULL, 0, ONCRPC_NOT_IN_RANGE, 2},
+    {"counts", {COUNT(2), SIGNED(-1), SIGNED(1)}, 3, NULL, 0, ONCRPC_NOT_IN_RANGE, 1},
     {"node", {FLAG(1), FLAG(2)}, 2, NULL, 0, ONCRPC_NOT_IN_RANGE, 1},
     {"list", {COUNT(4294967296)}, 1, NULL, 0, ONCRPC_NOT_IN_RANGE, 0},
     /* Content outside of the data. */
@@ -183,6 +198,22 @@ static void write_limited(oncrpc_declarations *held) {
     }
 }
 
+/* A count reserves nothing: the greatest asks for no more growths, and no more bytes, than 1. */
+static void write_counts(oncrpc_declarations *held) {
+    static const oncrpc_item counted[] = {COUNT(1), COUNT(4294967295)};
+    size_t asked[2];
+    for (size_t i = 0; i < 2; i++) {
+        uint8_t room[16];
+        size_t written = 9, before = growth_bytes();
+        oncrpc_outcome outcome = {9, 9, 9, 9, 9};
+        uint32_t status = oncrpc_declarations_write(held, bytes("counts"), 6, ONCRPC_MOST_DEPTH, ONCRPC_MOST_BYTES,
+            counted + i, 1, bytes(letters), 8, room, sizeof room, &written, &outcome);
+        asked[i] = growth_bytes() - before;
+        judge(status == ONCRPC_BAD_ITEM && tells(&outcome, 1, ONCRPC_UNFINISHED) && !written, status);
+    }
+    judge(refused_growth() || asked[1] <= asked[0], ONCRPC_OK);
+}
+
 void check_written(void) {
     oncrpc_declarations held = ONCRPC_NONE;
     oncrpc_outcome outcome = {9, 9, 9, 9, 9};
@@ -198,6 +229,7 @@ void check_written(void) {
             write_row(&held, written_rows + i);
         }
         write_limited(&held);
+        write_counts(&held);
     }
     oncrpc_declarations_free(&held);
 }

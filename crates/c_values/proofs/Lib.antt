@@ -13,3 +13,5 @@ mod Telling
 mod Putting
 mod Refused
 mod Several
+mod Filling
+mod Encodings

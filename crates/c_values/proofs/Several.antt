@@ -44,7 +44,7 @@ items_count [] = refl
 items_count (i ∷ is) = omega (arith, items_count is)
 
 module _ (bytes : List ℕ) where
-  told_joined : (cs ds : List ValueItem) (is js : List ItemView) → AreTold bytes cs is → AreTold bytes ds js
+  pub told_joined : (cs ds : List ValueItem) (is js : List ItemView) → AreTold bytes cs is → AreTold bytes ds js
       → AreTold bytes (cs ++ ds) (is ++ js)
   told_joined [] ds [] js a b = b
   told_joined [] ds (i ∷ is) js a b = absurd a

@@ -6,7 +6,8 @@
 //! - `check`, `declarations`: bytes checked by a text, or by declarations that were read. `unread`: a text is read.
 //! - `show`: the lines of a value. `parts`, `listing`, `part`, `listed`: its parts, how they are listed, how C sees a
 //!   part, and the answers. `room`: whether they go into the buffers. `normal`: records marked anew.
-//! - `write`: a value written by its items. `item`, `writing`: an item as C tells it, and the encoding of all.
+//! - `write`: a value written by its items. `item`, `numbers`: an item as C tells it, and numbers that come first.
+//!   `straight`, `writing`: the encoding of all, and why there is none. `encoding`: bytes whose last content is lent.
 //! - `handle`, `state`: the declarations that C keeps, and what they hold. `asking`, `judge`: what is asked of bytes,
 //!   and what they come to. `answer`: answers, and how C sees them. `buffer`: bytes put into what C lends.
 //! - `examples`: what the contracts make certain for chosen inputs.
@@ -17,6 +18,7 @@ mod asking;
 mod buffer;
 mod check;
 mod declarations;
+mod encoding;
 mod examples;
 mod handle;
 mod item;
@@ -24,11 +26,13 @@ pub mod judge;
 mod listed;
 mod listing;
 mod normal;
+mod numbers;
 mod part;
 mod parts;
 mod room;
 mod show;
 mod state;
+mod straight;
 mod unread;
 mod write;
 mod writing;

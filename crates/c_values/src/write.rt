@@ -6,11 +6,10 @@ ghost use Rattle.c_values.specs.Written.{IsWritten, IsWrittenByHeld};
 ghost use Rattle.c_values.specs.Statuses.{Reports};
 
 use super::answer::Answer;
-use super::buffer::put;
 use super::handle::Handle;
 use super::item::ValueItem;
 use super::state::State;
-use super::writing::encode_items;
+use super::straight::encode;
 use c_answers::Outcome;
 use c_handles::{keep, taken};
 use std::alloc::Global;
@@ -32,17 +31,17 @@ fn write_into(
         (given items.now content.now) buffer.old buffer.new written.new result }
 {
     *written = 0;
-    let encoding = match encode_items(alloc, schema, kind, limits, items, content) {
+    let _in_range = limits.depth();
+    let encoding = match encode(alloc, schema, kind, limits, items, content) {
         Ok(encoding) => encoding,
         Err(answer) => return answer,
     };
-    if put(buffer, &encoding, written) {
-        Answer::Whole { used: *written }
-    } else {
-        Answer::NoRoom {
-            needed: encoding.len(),
-        }
+    let needed = encoding.len();
+    if !encoding.put_into(buffer) {
+        return Answer::NoRoom { needed };
     }
+    *written = needed;
+    Answer::Whole { used: needed }
 }
 
 /// The same by declarations, which stay. The name is looked at before the limits.

@@ -1,15 +1,15 @@
 //! The encoding of a value, from its items.
-ghost use Rattle.std.specs.Prelude.{◌≡◌, ◌<◌, ◌≤◌, ℕ, List, [], ◌∷◌, ◌++◌, length, take, IfOk, IfErr, IfSome};
-ghost use Rattle.xdr_writer.specs.Items as told;
-ghost use Rattle.xdr_writer.specs.Runs.{as_items};
+ghost use Rattle.std.specs.Prelude.{◌≡◌, ◌<◌, ◌≤◌, ℕ, List, [], ◌∷◌, ◌++◌, length, take, IfOk, IfErr};
 ghost use Rattle.c_values.specs.Answers.{Question};
-ghost use Rattle.c_values.specs.Items.{Given, given, Tells, AreTold};
+ghost use Rattle.c_values.specs.Items.{Given, given};
 ghost use Rattle.c_values.specs.Written.{IsEncoded, AreTooFew};
 ghost use Rattle.c_values.specs.Private.Writing.{asked, IsWriting, IsTaken, IsUnwritten, Reports};
 
 use super::answer::Answer;
+use super::encoding::FIRST;
 use super::item::{ItemFault, ItemWhy, ValueItem};
 use super::judge::judge;
+use super::numbers::{MOST, copy_numbers};
 use std::alloc::Global;
 use xdr_types::{KindId, Limits, Schema};
 use xdr_writer::{Step, Why, Writer};
@@ -52,40 +52,6 @@ fn put_item(
         Ok(step) => Ok(step),
         Err(refused) => Err(refusal(refused.why, at)),
     }
-}
-
-/// How many numbers are put at once, at most.
-const MOST: usize = 64;
-
-/// For how many bytes there is space at first, so that a short value asks for memory once.
-const FIRST: usize = 256;
-
-/// The number that the item tells; none, where it tells no number.
-fn number_of(item: &ValueItem) -> Option<i128>
-    ensures { IfSome result (λ z. (bytes : List ℕ) → Tells bytes item.now (told.number z)) }
-{
-    match item.form {
-        1 => Some(item.signed_number as i128),
-        2 => Some(item.number as i128),
-        _ => None,
-    }
-}
-
-/// Copies the numbers with which the items begin, as many as there is room for.
-fn copy_numbers(items: &[ValueItem], numbers: &mut [i128]) -> usize
-    ensures few { result ≤ length items.now }
-    ensures room { result ≤ length numbers.new }
-    ensures told { (bytes : List ℕ) → AreTold bytes (take result items.now) (as_items (take result numbers.new)) }
-{
-    let mut count = 0;
-    while count < items.len() && count < numbers.len() {
-        match number_of(&items[count]) {
-            Some(number) => numbers[count] = number,
-            None => return count,
-        }
-        count += 1;
-    }
-    count
 }
 
 /// Puts the numbers with which the items begin, or else the first item, behind so many others. It answers how many,

@@ -1,6 +1,6 @@
 use Rattle.std.proofs.Common.{◌-◌, length}
 use Rattle.c_values.proofs.Several.{AreCopied}
-use Rattle.c_values.proofs.writing.copy_numbers.Given as goal
+use Rattle.c_values.proofs.numbers.copy_numbers.Given as goal
 
 abbrev pub invariant-loop-count : goal.invariant-loop-count
 invariant-loop-count l = AreCopied l.items l.numbers l.count

@@ -2,7 +2,7 @@ use Rattle.std.proofs.Common.{◌≡◌, ◌+◌, ℤ, sym, subst, arith, rules,
 use Rattle.std.proofs.Math.ListN.{set}
 use mir.Syntax.{w128}
 use Rattle.c_values.proofs.Several.{AreCopied, one_copied}
-use Rattle.c_values.proofs.writing.copy_numbers.Goals as goal
+use Rattle.c_values.proofs.numbers.copy_numbers.Goals as goal
 
 pub loop-count-preserved : goal.loop-count-preserved
 loop-count-preserved c =
