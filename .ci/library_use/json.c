@@ -81,26 +81,32 @@ static const struct { const char *name, *told, *input; size_t count; } other_tex
 
 static char brackets[5000];
 
-/* Each reason, with its place: no text of these spells a value. */
+/* Each reason, with its place, and words of its text: no text of these spells a value. */
 static void refuse_texts(oncrpc_declarations *held) {
-    static const struct { const char *name, *told; uint32_t depth, bytes, why; size_t at, line, column; } refused[] = {
-        {"int", "", 9, 96, ONCRPC_JSON_NOT_JSON, 0, 1, 1},
-        {"levels", "[7,\n x]", 9, 96, ONCRPC_JSON_NOT_JSON, 5, 2, 2},
-        {"name", "\"a\377\"", 9, 96, ONCRPC_JSON_NOT_JSON, 2, 1, 3},
-        {"node", "{\"next\":null,\n \"numbe\":3}", 9, 96, ONCRPC_JSON_UNKNOWN_MEMBER, 15, 2, 2},
-        {"node", " {\"next\":null}", 9, 96, ONCRPC_JSON_MISSING_MEMBER, 1, 1, 2},
-        {"node", "{\"next\":null,\"next\":null}", 9, 96, ONCRPC_JSON_MEMBER_TWICE, 13, 1, 14},
-        {"node", "{\"next\":null,\n\n\"number\":[]}", 9, 96, ONCRPC_JSON_WRONG_TYPE, 24, 3, 10},
-        {"int", "\n\n 2147483648", 9, 96, ONCRPC_JSON_OUT_OF_RANGE, 3, 3, 2},
-        {"level", "5", 9, 96, ONCRPC_JSON_OUT_OF_RANGE, 0, 1, 1},
-        {"int", "1.5", 9, 96, ONCRPC_JSON_NOT_WHOLE, 0, 1, 1},
-        {"level", "\"MIDDLE\"", 9, 96, ONCRPC_JSON_UNKNOWN_NAME, 0, 1, 1},
-        {"some", "\"0fz0\"", 9, 96, ONCRPC_JSON_BAD_HEX, 0, 1, 1},
-        {"levels", "[7,7,7,7,7,7,7,7,7,7]", 9, 96, ONCRPC_JSON_WRONG_LENGTH, 0, 1, 1},
-        {"picked", "{\"case\":2}", 9, 96, ONCRPC_JSON_NO_ARM, 8, 1, 9},
-        {"node", "{\"number\":3,\n\"next\":{\"number\":3,\"next\":null}}", 3, 96, ONCRPC_JSON_TOO_DEEP, 45, 2, 33},
-        {"int", brackets, 9, 96, ONCRPC_JSON_TOO_DEEP, 4096, 1, 4097},
-        {"levels", "[7,7]\n", 9, 8, ONCRPC_JSON_TOO_LARGE, 6, 2, 1},
+    static const struct {
+        const char *name, *told;
+        uint32_t depth, bytes, why;
+        size_t at, line, column;
+        const char *word;
+    } refused[] = {
+        {"int", "", 9, 96, ONCRPC_JSON_NOT_JSON, 0, 1, 1, "no JSON"},
+        {"levels", "[7,\n x]", 9, 96, ONCRPC_JSON_NOT_JSON, 5, 2, 2, "no JSON"},
+        {"name", "\"a\377\"", 9, 96, ONCRPC_JSON_NOT_JSON, 2, 1, 3, "no JSON"},
+        {"node", "{\"next\":null,\n \"numbe\":3}", 9, 96, ONCRPC_JSON_UNKNOWN_MEMBER, 15, 2, 2, "does not have"},
+        {"node", " {\"next\":null}", 9, 96, ONCRPC_JSON_MISSING_MEMBER, 1, 1, 2, "missing"},
+        {"node", "{\"next\":null,\"next\":null}", 9, 96, ONCRPC_JSON_MEMBER_TWICE, 13, 1, 14, "twice"},
+        {"node", "{\"next\":null,\n\n\"number\":[]}", 9, 96, ONCRPC_JSON_WRONG_TYPE, 24, 3, 10, "another form"},
+        {"int", "\n\n 2147483648", 9, 96, ONCRPC_JSON_OUT_OF_RANGE, 3, 3, 2, "range"},
+        {"level", "5", 9, 96, ONCRPC_JSON_OUT_OF_RANGE, 0, 1, 1, "range"},
+        {"int", "1.5", 9, 96, ONCRPC_JSON_NOT_WHOLE, 0, 1, 1, "fraction"},
+        {"level", "\"MIDDLE\"", 9, 96, ONCRPC_JSON_UNKNOWN_NAME, 0, 1, 1, "a name"},
+        {"some", "\"0fz0\"", 9, 96, ONCRPC_JSON_BAD_HEX, 0, 1, 1, "hexadecimal"},
+        {"levels", "[7,7,7,7,7,7,7,7,7,7]", 9, 96, ONCRPC_JSON_WRONG_LENGTH, 0, 1, 1, "more or fewer"},
+        {"picked", "{\"case\":2}", 9, 96, ONCRPC_JSON_NO_ARM, 8, 1, 9, "arm"},
+        {"node", "{\"number\":3,\n\"next\":{\"number\":3,\"next\":null}}", 3, 96, ONCRPC_JSON_TOO_DEEP, 45, 2, 33,
+            "deeper"},
+        {"int", brackets, 9, 96, ONCRPC_JSON_TOO_DEEP, 4096, 1, 4097, "deeper"},
+        {"levels", "[7,7]\n", 9, 8, ONCRPC_JSON_TOO_LARGE, 6, 2, 1, "more bytes than"},
     };
     memset(brackets, '[', sizeof brackets - 1);
     for (size_t i = 0; i < sizeof refused / sizeof *refused; i++) {
@@ -113,7 +119,7 @@ static void refuse_texts(oncrpc_declarations *held) {
             &written, &outcome);
         judge(status == ONCRPC_BAD_JSON && outcome.why == refused[i].why && outcome.at == refused[i].at
             && outcome.line == refused[i].line && outcome.column == refused[i].column && !outcome.inner && !written
-            && !memcmp(room, unwritten, sizeof room), status);
+            && !memcmp(room, unwritten, sizeof room) && strstr(oncrpc_json_text(outcome.why), refused[i].word), status);
     }
 }
 

@@ -150,7 +150,12 @@ void check_json_and_dialect() {
     auto declarations = std::move(*GOT(Declarations::read(file_text)));
     const auto told = GOT(declarations.to_json("filetype", file_bytes.substr(16, 12)));
     JUDGE(told && told->lines == R"({"case":"EXEC","interpretor":"lisp"})" && told->checked.used == 12);
+    const auto lines = GOT(declarations.to_json("filetype", file_bytes.substr(16), true));
+    JUDGE(lines && lines->lines == "{\n  \"case\": \"EXEC\",\n  \"interpretor\": \"lisp\"\n}"
+          && lines->checked.used == 12 && lines->checked.more_follows);
     JUDGE(fails(GOT(declarations.to_json("file", file_bytes.substr(0, 47))), Status::refused, Reason::truncated, 47));
+    JUDGE(fails(GOT(declarations.to_json("file", file_bytes, false, {2, 64})), Status::refused, Reason::too_deep, 20));
+    JUDGE(fails(GOT(declarations.to_json("file", file_bytes, false, {9, 44})), Status::refused, Reason::too_large, 44));
     const auto made = GOT(declarations.from_json("filetype", "{\"interpretor\": \"lisp\",\n\"case\": 2}"));
     JUDGE(made && Bytes(*made) == Bytes(file_bytes.substr(16, 12)));
     const auto refused = GOT(declarations.from_json("filetype", "{\"interpretor\": \"lisp\",\n\"case\": 3}"));
@@ -158,6 +163,10 @@ void check_json_and_dialect() {
           && refused.error().json_reason() == JsonReason::out_of_range && refused.error().line() == 2
           && refused.error().column() == 9 && refused.error().reason() == Reason::none
           && refused.error().what() == text(JsonReason::out_of_range));
+    const auto deep = GOT(declarations.from_json("filetype", "{\"interpretor\": \"lisp\",\n\"case\": 2}", {1, 64}));
+    JUDGE(!deep && deep.error().json_reason() == JsonReason::too_deep && deep.error().at() == 34);
+    const auto large = GOT(declarations.from_json("filetype", "{\"interpretor\": \"lisp\",\n\"case\": 2}", {9, 8}));
+    JUDGE(!large && large.error().json_reason() == JsonReason::too_large && large.error().at() == 34);
     JUDGE(fails(GOT(declarations.from_json("folder", "{}")), Status::no_kind));
     constexpr auto text = "%#include <x.h>\n#ifdef RPC_HDR\ntypedef int here;\n#endif\ntypedef string name<>;";
     auto read = GOT(Declarations::read_dialect(text, "RPC_XDR RPC_HDR"));

@@ -229,6 +229,8 @@ class TheFileOfTheRfc(Case):
         self.assertEqual(json.loads(indented), json.loads(told.lines))
         self.assertEqual((told.lines.count("\n"), indented.count("\n")), (0, 8))
         self.refuses(Reason.TRUNCATED, 47, self.file.to_json, "file", self.data[:47])
+        self.refuses(Reason.TOO_DEEP, 0, self.file.to_json, "file", self.data, Limits(depth=1))
+        self.refuses(Reason.TOO_LARGE, 44, self.file.to_json, "file", self.data, Limits(bytes=44))
 
     def test_from_json(self):
         """docs/FORMATS.md, section 5: there and back, and another text that says the same."""

@@ -1,7 +1,9 @@
 //! Values as JSON, there and back, and each reason against a text: the file of RFC 4506 section 7. Names to define for a
 //! text in rpcgen's dialect.
 
-use oncrpc::{CheckFault, Declarations, JsonFault, JsonReason, JsonRefusal, Limits, ReadFault};
+use oncrpc::{
+    CheckFault, Checked, Declarations, JsonFault, JsonReason, JsonRefusal, Limits, ReadFault, Reason, Refusal,
+};
 
 const TEXT: &[u8] = b"enum filekind { TEXT = 0, DATA = 1, EXEC = 2 };
     union filetype switch (filekind kind) {
@@ -23,10 +25,45 @@ fn there_and_back() {
     assert_eq!(file.from_json("file", Limits::MOST, other).unwrap(), INPUT);
 }
 
+/// Of the union of the file, which bytes follow or not.
+#[test]
+fn both_layouts() {
+    let mut file = Declarations::read(TEXT).unwrap();
+    for (is_indented, wanted) in [
+        (false, r#"{"case":"EXEC","interpretor":"lisp"}"#),
+        (true, "{\n  \"case\": \"EXEC\",\n  \"interpretor\": \"lisp\"\n}"),
+    ] {
+        for (input, more_follows) in [(&INPUT[16..28], false), (&INPUT[16..29], true)] {
+            let checked = Checked { used: 12, more_follows };
+            let told = file.to_json("filetype", Limits::MOST, input, is_indented);
+            assert_eq!(told, Ok((checked, wanted.to_string())));
+        }
+    }
+}
+
+/// RFC 4506 sections 3 and 4: bytes that are no value, and limits, as those of a check.
+#[test]
+fn no_json_of_what_is_no_value() {
+    let mut file = Declarations::read(TEXT).unwrap();
+    let filetype = &INPUT[16..28];
+    for (limits, count, why, at) in [
+        (Limits::MOST, 11, Reason::Truncated, 11),
+        (Limits { depth: 1, bytes: 64 }, 12, Reason::TooDeep, 4),
+        (Limits { depth: 9, bytes: 8 }, 12, Reason::TooLarge, 8),
+    ] {
+        let refused = Err(CheckFault::Refused(Refusal { why, at }));
+        let told = file.to_json("filetype", limits, &filetype[..count], false);
+        assert_eq!(told, refused, "{why:?}");
+    }
+    let none = file.to_json("folder", Limits::MOST, filetype, false);
+    assert_eq!(none, Err(CheckFault::NoKind));
+}
+
 #[test]
 fn each_reason() {
     let mut file = Declarations::read(TEXT).unwrap();
     let deep = "[".repeat(5000);
+    let long = format!(r#"{{"case": 2, "interpretor": "{}"}}"#, "l".repeat(256));
     for (why, (at, line, column), name, text) in [
         (JsonReason::NotJson, (0, 1, 1), "int", ""),
         (
@@ -47,6 +84,7 @@ fn each_reason() {
         (JsonReason::NotWhole, (0, 1, 1), "int", "1.5"),
         (JsonReason::UnknownName, (0, 1, 1), "filekind", r#""FOLDER""#),
         (JsonReason::BadHex, (0, 1, 1), "opaque", r#""0""#),
+        (JsonReason::WrongLength, (27, 1, 28), "filetype", &long),
         (JsonReason::NoArm, (9, 1, 10), "picked", r#"{"case": 2}"#),
         (JsonReason::TooDeep, (4096, 1, 4097), "int", &deep),
     ] {

@@ -1,8 +1,8 @@
 //! The text of each fault: a reason and a place as the program prints them (docs/FORMATS.md), and words that differ.
 
 use oncrpc::{
-    normalise, AuthSysFault, CallFault, CheckFault, Declarations, Item, ItemsFault, Limits, NormaliseFault, ReadFault,
-    Records, RegistryFault, ReplyFault, StreamFault, WriteFault,
+    normalise, AuthSysFault, CallFault, CheckFault, Declarations, Item, ItemsFault, JsonFault, Limits, NormaliseFault,
+    ReadFault, Records, RegistryFault, ReplyFault, StreamFault, WriteFault,
 };
 use std::collections::BTreeSet;
 use std::error::Error;
@@ -74,7 +74,7 @@ fn each_fault_has_words_of_its_own() {
         WriteFault::NoMemory,
         WriteFault::Unknown(99),
     ];
-    let texts: [Vec<String>; 9] = [
+    let texts: [Vec<String>; 10] = [
         of_a_call.map(|it| it.to_string()).into(),
         of_a_reply.map(|it| it.to_string()).into(),
         of_a_writer.map(|it| it.to_string()).into(),
@@ -98,6 +98,14 @@ fn each_fault_has_words_of_its_own() {
             ItemsFault::BadLimits,
             ItemsFault::NoMemory,
             ItemsFault::Unknown(99),
+        ]
+        .map(|it| it.to_string())
+        .into(),
+        [
+            JsonFault::NoKind,
+            JsonFault::BadLimits,
+            JsonFault::NoMemory,
+            JsonFault::Unknown(99),
         ]
         .map(|it| it.to_string())
         .into(),
