@@ -9,6 +9,7 @@ from documents_named import fault_of_clause, fault_of_item, fault_of_lone_functi
 from documents_tree import ROOT, defined_in, text_of
 
 PREFIXES = r"(?:xdr|rpc|registry|c|example|test|tool|oncrpc)_\w+"
+COLUMNS = 120
 LETTER = re.compile(r"\b(?:rattle-)?kit[- ]?\d+[a-z]\b|\b13[a-z]\b")
 
 
@@ -141,6 +142,15 @@ class Page:
         for start, text in [(0, re.sub(r"^\|[^\n]*$", blank, whole, flags=re.M)), *cells_of(whole)]:
             for at, said, words in long_sentences(text):
                 self.note(start + at, said, f"a sentence of {words} words")
+        self.passed += failed == len(self.failures)
+
+    def check_columns(self):
+        """No line is too long to be read beside another text; tables and code have lines of their own length."""
+        failed = len(self.failures)
+        plain = re.sub(r"^ {4}[^\n]*$|^\|[^\n]*$", blank, self.text, flags=re.M)
+        for found in re.finditer(rf"^[^\n]{{{COLUMNS + 1},}}$", plain, re.M):
+            if found[0].strip():
+                self.note(found.start(), found[0][:20], f"{len(found[0])} columns, at most {COLUMNS}")
         self.passed += failed == len(self.failures)
 
 
