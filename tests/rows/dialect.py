@@ -461,6 +461,7 @@ DEBIAN = [
     ("rpcsvc/nis_callback.x", ["rpcsvc/nis_object.x", "rpcsvc/nis.x"]),
     ("tirpc/rpcsvc/crypt.x", []),
     ("tirpc/rpc/rpcb_prot.x", []),
+    ("ntirpc/rpc/rpcb_prot.x", []),
 ]
 # Sizes that a file takes from elsewhere.
 NLM = b"const LM_MAXSTRLEN = 1024; const MAXNAMELEN = 1025;", "rpcsvc/nlm_prot.x"
