@@ -16,7 +16,9 @@ REFUSED_HERE = [
     ("3", r"@#", "#define inside a body"),
     ("3", r"\([^)]*@(?:[A-Za-z]\w* ?)?[*<]", "an argument behind a pointer, or with a size"),
     ("3", r"\([^)]*@-?\d", "a number as the name of an argument"),
-    ("8", r"\} ?= ?@-", "a negative number of a program"),
+    ("7", r"[<\[] ?@-", "a negative size"),
+    ("7", r"[<\[] ?@[A-Za-z]\w* ?[>\]]", "a size by the name of a member or of a negative constant"),
+    ("8", r"= ?@", "a number of a program, a version, a procedure or a member that is negative or too large"),
     ("10", r"@(?:union\b|[^;{]*\[)", "a discriminant or a case of another kind, or an array of size 0"),
     ("5", r"@", "a name that comes twice, of which C never sees the first"),
     ("6", r"@", "a name that C's library declares"),
@@ -36,27 +38,54 @@ REFUSED_THERE = [
 
 
 def around(text, place):
-    """The text around a place, a line and a column, with one blank for white space."""
+    """The text around a place, a line and a column, with one blank for white space and comments."""
     line, column = map(int, place.split(":"))
     at = sum(len(it) + 1 for it in text.split("\n")[: line - 1]) + column - 1
     before, after = text[max(0, at - 60) : at], text[at : at + 30]
-    return re.sub(r"\s+", " ", f"{before}@{after}")
+    return re.sub(r"(?:\s|/\*[^*]*\*/)+", " ", f"{before}@{after}")
 
 
-def why_here(text, number, place):
-    """Why read_dialect may refuse the text with that fault, or nothing."""
+def without_comments(text):
+    """The text without the comments of // that the C preprocessor sees."""
+    return re.sub(r"(?s)(/\*.*?\*/)|//[^\n]*", lambda found: found[1] or "", text)
+
+
+def without_quotations(text):
+    """The text without what stands in a line behind a quotation mark, where it opens a comment."""
+    return re.sub(r"(?m)^([^\n'\"]*)['\"][^\n]*/\*.*$", r"\1", text)
+
+
+def without_opened(text):
+    """The text without the comments that lines of % open."""
+    return re.sub(r"(?ms)^(%[^\n]*?)/\*.*?\*/", r"\1", text)
+
+
+def is_with_macro(text, where):
+    """Whether a word near the place is a macro without a value."""
+    before, after = where.split("@")
+    near = re.findall(r"\w+", before)[-2:] + re.findall(r"\w+", after)[:1]
+    return any(re.search(rf"(?m)^\s*#\s*define\s+{it}\s*$", text) for it in near)
+
+
+def why_here(text, number, place, is_taken):
+    """Why read_dialect may refuse the text with that fault, or nothing; it is asked whether it takes other texts."""
     where = around(text, place)
-    names = re.findall(r"(\w+) ?(?=@)|(?<=@)(\w+)", where)
-    if number == "3" and any(re.search(rf"(?m)^\s*#\s*define\s+{a or b}\s*$", text) for a, b in names):
+    if number == "3" and is_with_macro(text, where):
         return "a macro that the text uses"
-    if number == "3" and where.endswith("@") and re.search(r"(?m)^(?!\s*#).*//.*/\*", text):
+    if number == "3" and where.endswith("@") and re.search(r"//.*/\*", text) and is_taken(without_comments(text)):
         return "// before /* in what #if hides"
+    if number == "3" and where.endswith("@") and is_taken(without_quotations(text)):
+        return "/* behind a quotation mark"
+    if without_opened(text) != text and is_taken(without_opened(text)):
+        return "a comment that a line of % opens"
     return next((why for fault, form, why in REFUSED_HERE if fault == number and re.search(form, where)), None)
 
 
-def why_there(text, said):
-    """Why rpcgen may refuse a text with these words, or nothing."""
+def why_there(text, said, is_taken):
+    """Why rpcgen may refuse a text with these words, or nothing; read_dialect is asked whether it takes other texts."""
     macros = re.findall(r"(?m)^\s*#\s*define\s+(\w+)(.*)", text)
     if any(len(re.findall(rf"\b{name}\b", text)) > 1 for name, rest in macros if not (rest.strip() and name[-1].isdigit())):
         return "a macro that the text uses"
+    if re.search(r"//.*/\*", text) and not is_taken(without_comments(text)):
+        return "what stands behind // and /* in what #if hides"
     return next((why for form, why in REFUSED_THERE if re.search(form, said, re.M)), None)
