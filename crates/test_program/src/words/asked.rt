@@ -324,52 +324,42 @@ fn records_are_asked(rt: HostRuntime) -> Result<(), AllocError> {
     Ok(())
 }
 
-// What is asked of a registry: its host, the port, the version, whether over UDP, and for how many seconds.
-type Info = (&'static str, u16, u32, bool, Option<u32>);
-
-const INFOS: [(Words, Info); 8] = [
-    (
-        &["info", "localhost", "111"],
-        ("localhost", 111, 4, false, None),
-    ),
+// Words, and the host, the port, the version and whether over UDP that they ask for.
+const INFOS: [(Words, &str, u16, u32, bool); 6] = [
+    (&["info", "localhost", "111"], "localhost", 111, 4, false),
     (
         &["info", "127.0.0.1", "0", "--vers", "2"],
-        ("127.0.0.1", 0, 2, false, None),
+        "127.0.0.1",
+        0,
+        2,
+        false,
     ),
-    (
-        &["info", "--vers=3", "", "65535"],
-        ("", 65535, 3, false, None),
-    ),
-    (
-        &["info", "::1", "+007", "--vers", "04"],
-        ("::1", 7, 4, false, None),
-    ),
+    (&["info", "--vers=3", "", "65535"], "", 65535, 3, false),
+    (&["info", "::1", "+007", "--vers", "04"], "::1", 7, 4, false),
     (
         &["info", "localhost", "111", "--udp"],
-        ("localhost", 111, 4, true, None),
+        "localhost",
+        111,
+        4,
+        true,
     ),
-    (
-        &["info", "--udp", "--vers=2", "a", "1"],
-        ("a", 1, 2, true, None),
-    ),
-    (
-        &["info", "a", "1", "--timeout", "1"],
-        ("a", 1, 4, false, Some(1)),
-    ),
-    (
-        &["info", "--timeout=4294967295", "a", "1", "--udp"],
-        ("a", 1, 4, true, Some(4294967295)),
-    ),
+    (&["info", "--udp", "--vers=2", "a", "1"], "a", 1, 2, true),
 ];
 
-fn asks_info(alloc: Global, words: Words, info: Info) -> Result<bool, AllocError> {
-    let (host, port, vers, udp, timeout) = info;
+fn asks_info(
+    alloc: Global,
+    words: Words,
+    host: &str,
+    port: u16,
+    vers: u32,
+    udp: bool,
+) -> Result<bool, AllocError> {
+    let host = String::from_str(alloc, host)?;
     let asked = InfoTask {
-        host: String::from_str(alloc, host)?,
+        host,
         port,
         vers,
         udp,
-        timeout,
     };
     match read(alloc, words)? {
         Ok(Request::Info(task)) => Ok(task == asked),
@@ -379,8 +369,11 @@ fn asks_info(alloc: Global, words: Words, info: Info) -> Result<bool, AllocError
 
 #[test]
 fn infos_are_asked(rt: HostRuntime) -> Result<(), AllocError> {
-    for (words, info) in &INFOS {
-        assert!(rt; asks_info(rt.alloc(), words, *info)?, "{words:?}");
+    for (words, host, port, vers, udp) in &INFOS {
+        assert!(rt;
+            asks_info(rt.alloc(), words, host, *port, *vers, *udp)?,
+            "{words:?}"
+        );
     }
     Ok(())
 }
@@ -501,7 +494,7 @@ fn registries_are_kept(rt: HostRuntime) -> Result<(), AllocError> {
 }
 
 // Words that give no task, and the status.
-const REFUSED: [(Words, u8); 83] = [
+const REFUSED: [(Words, u8); 59] = [
     (&["check"], 2),
     (&["nope"], 2),
     (&["show"], 2),
@@ -516,41 +509,6 @@ const REFUSED: [(Words, u8); 83] = [
     (&["info", "localhost", "111", "--vers", "5"], 2),
     (&["info", "localhost", "111", "--udp=1"], 2),
     (&["info", "localhost", "111", "--udp", "--udp"], 2),
-    (&["info", "localhost", "111", "--timeout", "0"], 2),
-    (&["info", "localhost", "111", "--timeout", "4294967296"], 2),
-    (&["call"], 2),
-    (&["call", "localhost"], 2),
-    (&["call", "localhost", "1.1.1", "2"], 2),
-    (&["call", "localhost", "1.1.1", "--port", "65536"], 2),
-    (&["call", "localhost", "1.1.1", "--timeout", "0"], 2),
-    (&["call", "localhost", "1.1.1", "--xid", "-1"], 2),
-    (&["call", "localhost", "1.1.1", "--uid", "1"], 2),
-    (&["call", "localhost", "1.1.1", "--gid", "1"], 2),
-    (&["call", "localhost", "1.1.1", "--gids", "1"], 2),
-    (&["call", "localhost", "1.1.1", "--machine", "a"], 2),
-    (&["call", "a", "1.1.1", "--uid=1", "--gid=1", "--gids="], 2),
-    (
-        &["call", "a", "1.1.1", "--uid=1", "--gid=1", "--gids=1,"],
-        2,
-    ),
-    (
-        &[
-            "call",
-            "a",
-            "1.1.1",
-            "--uid=1",
-            "--gid=1",
-            "--gids=1,2,3,4,5,6,7,8,9,10,11,12,13,14,15,16,17",
-        ],
-        2,
-    ),
-    (&["call", "localhost", "1.1.1", "--text", "--hex"], 2),
-    (&["call", "localhost", "1.1.1", "--text", "--indent"], 2),
-    (&["call", "localhost", "1.1.1", "--hex", "--indent"], 2),
-    (&["call", "localhost", "1.1.1", "--dialect", "rpcgen"], 2),
-    (&["ping", "localhost"], 2),
-    (&["ping", "localhost", "1", "--timeout", "0"], 2),
-    (&["ping", "localhost", "1", "--count", "-1"], 2),
     (&["serve"], 2),
     (&["serve", "--count", "1"], 2),
     (&["serve", "--port", "65536", "--count", "1"], 2),
@@ -626,8 +584,6 @@ const REFUSED: [(Words, u8); 83] = [
     (&["show", "--help"], 0),
     (&["help", "records"], 0),
     (&["info", "--help"], 0),
-    (&["call", "--help"], 0),
-    (&["help", "ping"], 0),
     (&["help", "serve"], 0),
     (&["--version"], 0),
     (&["-V"], 0),

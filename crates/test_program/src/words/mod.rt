@@ -1,6 +1,5 @@
 //! Tests of `oncrpc_words` by its public calls.
 mod asked;
-mod called;
 mod defined;
 mod help;
 mod printed;

@@ -1,6 +1,0 @@
-mod Fronts
-mod Represented
-mod Taking
-mod Passed
-mod Ended
-mod Once

@@ -1,4 +1,0 @@
-mod Extensions
-mod Parts
-mod Lying
-mod Spelling

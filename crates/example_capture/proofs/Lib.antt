@@ -1,3 +1,0 @@
-pub mod Taken
-pub mod Hole
-pub mod Ahead

@@ -1,2 +1,0 @@
-mod Read
-mod Captures
