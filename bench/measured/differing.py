@@ -31,7 +31,6 @@ REFUSED_THERE = [
     (r"^\s*const\b.*=.*\n\^+\n.*expected", "marks that a quotation leaves"),
     (r"^\s*= *define\b", "a mark that #define leaves"),
     (r"unterminated comment", "a comment that a line of % opens"),
-    (r"unterminated #", "an open #if whose #endif stands behind // and /*"),
     (r"preprocessor error", "#pragma and #ident"),
     (r"\b(?:char|short)\b.*\n\^+\n.*expected|illegal \(reserved\) name", "names that rpcgen keeps for itself"),
 ]
@@ -88,4 +87,6 @@ def why_there(text, said, is_taken):
         return "a macro that the text uses"
     if re.search(r"//.*/\*", text) and not is_taken(without_comments(text)):
         return "what stands behind // and /* in what #if hides"
+    if "\\\n" in text and not is_taken(text.replace("\\\n", "")):
+        return "a line behind \\, which the preprocessor joins"
     return next((why for form, why in REFUSED_THERE if re.search(form, said, re.M)), None)
